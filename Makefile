@@ -1,0 +1,24 @@
+# Proves, builds, runs and installs the program. All that is needed is the toolchain's command `rt`.
+RT ?= rt
+PREFIX ?= $(HOME)/.local
+
+SOURCES := crates.txt HANDLES $(shell find crates -regex 'crates/[^/]*/out' -prune -o -type f -print)
+
+.PHONY: run test install
+
+# The main job, on a chapter that two authors wrote apart.
+run: bin/manuscript
+	bin/manuscript show < samples/two_authors.frames
+
+# The program proves as it is built; an empty stream prints nothing.
+bin/manuscript: $(SOURCES)
+	cd crates/manuscript && $(RT) run -- show < /dev/null
+	mkdir -p bin
+	install -m 755 crates/manuscript/out/manuscript $@
+
+# The gate: every proof, every edit that must fail, every test and every program.
+test:
+	$(RT) ci
+
+install: bin/manuscript
+	install -D -m 755 bin/manuscript $(PREFIX)/bin/manuscript

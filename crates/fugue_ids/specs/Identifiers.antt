@@ -1,0 +1,21 @@
+-- Identifiers, as contracts see them, and their order.
+use Rattle.std.specs.Prelude.{ℕ, Bool, ◌&&◌, ◌||◌, nat_eq, nat_lt, Option, Some, None, true, false}
+
+pub record Identifier : Type 0 where
+  pub replica : ℕ
+  pub counter : ℕ
+
+-- the same identifier
+abbrev pub id_eq : Identifier → Identifier → Bool
+id_eq a b = nat_eq a.replica b.replica && nat_eq a.counter b.counter
+
+-- the order of identifiers: by replica, and then by counter
+abbrev pub id_lt : Identifier → Identifier → Bool
+id_lt a b = nat_lt a.replica b.replica || (nat_eq a.replica b.replica && nat_lt a.counter b.counter)
+
+-- the same origin
+abbrev pub origin_eq : Option Identifier → Option Identifier → Bool
+origin_eq None None = true
+origin_eq None (Some b) = false
+origin_eq (Some a) None = false
+origin_eq (Some a) (Some b) = id_eq a b

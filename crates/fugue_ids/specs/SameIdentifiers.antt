@@ -1,0 +1,58 @@
+-- The tests of identifiers and of origins tell whether they are equal.
+use Rattle.std.specs.Prelude.{◌≡◌, ◌≢◌, ◌⊎◌, Bool, true, false, Option, Some, None, refl}
+use Rattle.std.proofs.Common.{ap, inl, inr, subst, sym, ◌∙◌}
+use Rattle.std.proofs.lemmas.Bool.{and_from, and_parts, cases_Bool, eq-eqb, eqb-true, false_from_ne_true, false≢true, true≢false}
+use Rattle.fugue_ids.specs.Identifiers.{Identifier, id_eq, origin_eq}
+
+-- identifiers that pass the test are equal
+pub id_eq-true : (a b : Identifier) → id_eq a b ≡ true → a ≡ b
+id_eq-true a b h =
+    let p = and_parts _ _ h in
+    let e : a.replica ≡ b.replica = eqb-true _ _ p.0 in
+    let f : a.counter ≡ b.counter = eqb-true _ _ p.1 in
+    λ i. record { replica = e i; counter = f i }
+
+-- an identifier passes the test with itself
+pub id_eq-refl : (a : Identifier) → id_eq a a ≡ true
+id_eq-refl a = and_from _ _ (eq-eqb a.replica a.replica refl) (eq-eqb a.counter a.counter refl)
+
+-- equal identifiers pass the test
+pub eq-id_eq : (a b : Identifier) → a ≡ b → id_eq a b ≡ true
+eq-id_eq a b e = subst (λ c. id_eq a c ≡ true) e (id_eq-refl a)
+
+-- distinct identifiers fail the test
+pub ne-id_eq : (a b : Identifier) → a ≢ b → id_eq a b ≡ false
+ne-id_eq a b n = false_from_ne_true _ (λ e. n (id_eq-true a b e))
+
+-- identifiers that fail the test are distinct
+pub id_eq-false : (a b : Identifier) → id_eq a b ≡ false → a ≢ b
+id_eq-false a b h e = true≢false (sym (eq-id_eq a b e) ∙ h)
+
+-- two identifiers are equal or distinct
+pub cases_id : (a b : Identifier) → (a ≡ b) ⊎ (a ≢ b)
+cases_id a b = elim (cases_Bool (id_eq a b)) [ inl e ↦ inl (id_eq-true a b e) | inr e ↦ inr (id_eq-false a b e) ]
+
+-- origins that pass the test are equal
+pub origin_eq-true : (a b : Option Identifier) → origin_eq a b ≡ true → a ≡ b
+origin_eq-true None None h = refl
+origin_eq-true None (Some b) h = absurd (false≢true h)
+origin_eq-true (Some a) None h = absurd (false≢true h)
+origin_eq-true (Some a) (Some b) h = ap Some (id_eq-true a b h)
+
+-- an origin passes the test with itself
+pub origin_eq-refl : (a : Option Identifier) → origin_eq a a ≡ true
+origin_eq-refl None = refl
+origin_eq-refl (Some a) = id_eq-refl a
+
+-- an origin is absent or an identifier
+pub cases_origin : (o : Option Identifier) → (o ≡ None) ⊎ ((x : Identifier) × (o ≡ Some x))
+cases_origin None = inl refl
+cases_origin (Some x) = inr (x, refl)
+
+-- what two present origins have in common
+pub same_some : (a b : Identifier) → Some a ≡ Some b → id_eq a b ≡ true
+same_some a b e = let d : a ≡ b = cc in eq-id_eq a b d
+
+-- a present origin is not absent
+pub not_some : (i : Identifier) → Some i ≡ None → ⊥
+not_some i e = cc

@@ -1,0 +1,17 @@
+-- What a text must be to be a title.
+use Rattle.std.specs.Prelude.{◌≡◌, ℕ, ◌<◌, ◌≤◌, Bool, false, ◌||◌, nat_eq, List, length}
+use Rattle.std.specs.List.{list_any}
+
+-- LF or CR
+abbrev pub ends_line : ℕ → Bool
+ends_line byte = nat_eq byte 10 || nat_eq byte 13
+
+-- an LF or a CR stands in the bytes
+abbrev pub has_line_end : List ℕ → Bool
+has_line_end bytes = list_any ends_line bytes
+
+-- 1 to 480 bytes without LF and CR
+pub record IsTitleText (bytes : List ℕ) : Type 0 where
+  pub some : 0 < length bytes
+  pub short : length bytes ≤ 480
+  pub one_line : has_line_end bytes ≡ false

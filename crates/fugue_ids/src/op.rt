@@ -1,0 +1,76 @@
+ghost use Rattle.std.specs.Prelude.{◌≡◌, IfOk};
+ghost use Rattle.fugue_ids.specs.Ops.{id_of};
+
+use crate::{ElementId, NoMemory, Title};
+use std::alloc::Global;
+
+/// One operation of an author.
+///
+/// A left origin of `None` is the start of the place, and a right origin of `None` is its end.
+#[derive(Debug, PartialEq, Eq, Drop)]
+pub enum Op {
+    /// A new section in the catalogue.
+    Section {
+        id: ElementId,
+        left: Option<ElementId>,
+        right: Option<ElementId>,
+        title: Title,
+    },
+    /// One scalar in a section.
+    Text {
+        id: ElementId,
+        section: ElementId,
+        left: Option<ElementId>,
+        right: Option<ElementId>,
+        ch: char,
+    },
+    /// Hides an element of any place.
+    Delete {
+        target: ElementId,
+    },
+}
+
+impl Op {
+    /// The identifier of the element that the operation makes: a `Delete` makes none.
+    pub fn id(&self) -> Option<ElementId>
+        ensures { result ≡ id_of self.now }
+    {
+        match self {
+            Op::Section { id, .. } | Op::Text { id, .. } => Some(*id),
+            Op::Delete { .. } => None,
+        }
+    }
+
+    /// An equal operation.
+    pub fn clone_in(&self, alloc: Global) -> Result<Op, NoMemory>
+        ensures { IfOk result (λ copy. copy ≡ self.now) }
+    {
+        match self {
+            Op::Section {
+                id,
+                left,
+                right,
+                title,
+            } => Ok(Op::Section {
+                id: *id,
+                left: *left,
+                right: *right,
+                title: title.clone_in(alloc)?,
+            }),
+            Op::Text {
+                id,
+                section,
+                left,
+                right,
+                ch,
+            } => Ok(Op::Text {
+                id: *id,
+                section: *section,
+                left: *left,
+                right: *right,
+                ch: *ch,
+            }),
+            Op::Delete { target } => Ok(Op::Delete { target: *target }),
+        }
+    }
+}
