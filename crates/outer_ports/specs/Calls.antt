@@ -1,0 +1,26 @@
+-- The calls on an object in memory, of which some are to fail.
+use Rattle.std.specs.Prelude.{ℕ, ◌+◌, ◌-◌, ◌^◌, min, List, Contains}
+
+pub record CallsView : Type 0 where
+  -- how many were made
+  pub made : ℕ
+  -- the numbers of those that are to fail, counted from 0
+  pub listed : List ℕ
+  -- how many failed
+  pub faults : ℕ
+
+-- the next call is one of those that are to fail
+abbrev pub FailsNext : CallsView → Type 0
+FailsNext calls = Contains calls.listed calls.made
+
+-- a count one higher, or at its last value
+abbrev pub risen : ℕ → ℕ
+risen count = min (count + 1) (2 ^ 64 - 1)
+
+-- a call more, which went well
+abbrev pub passed : CallsView → CallsView
+passed calls = record calls { made = risen calls.made }
+
+-- a call more, which failed
+abbrev pub failed : CallsView → CallsView
+failed calls = record calls { made = risen calls.made; faults = risen calls.faults }
