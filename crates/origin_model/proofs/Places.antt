@@ -1,0 +1,204 @@
+-- The elements of a place: their origins and chains are of the same place, and the order has exactly them.
+use Rattle.std.proofs.Common.{List, [], ap, false, inl, inr, refl, subst, sym, true, ◌++◌, ◌∙◌, ◌∷◌, ◌≡◌, ◌⊎◌}
+use Rattle.std.specs.Prelude.{None, Option, Some, count_by, is_some}
+use Rattle.std.proofs.lemmas.Bool.{cases_Bool, false≢true}
+use Rattle.fugue_ids.specs.Identifiers.{Identifier, id_eq}
+use Rattle.fugue_ids.specs.Ops.{id_of}
+use Rattle.fugue_ids.specs.declared.op.Op.{Op}
+use Rattle.fugue_ids.specs.declared.op.Op.TheVariants.{Delete, Section, Text}
+use Rattle.origin_model.specs.Laws.{Each, In, IsIn}
+use Rattle.origin_model.specs.Ops.{element_of, holder, is_own, left_of, right_of}
+use Rattle.origin_model.specs.Order.{before_in, has_left, lefts, older_of, order, right_at, rights}
+use Rattle.origin_model.specs.Verdict.{Lawful, first_stray, fits, given_as}
+use Rattle.origin_model.specs.declared.place.Place.{Place}
+use Rattle.origin_model.specs.declared.place.Place.TheVariants.{Catalogue as catalogue, Section as within}
+use Rattle.origin_model.specs.declared.role.Role.{Role}
+use Rattle.origin_model.specs.declared.role.Role.TheVariants.{Section as SectionRole, TextOf}
+use Rattle.origin_model.proofs.Identifiers.{cases_origin, id_eq-true, not_some}
+use Rattle.origin_model.proofs.Operations.{element_own, own_id}
+use Rattle.origin_model.proofs.Lists.{Each-append, Each-insert, Each-map, In-each, In-insert_new, In-insert_old}
+use Rattle.origin_model.proofs.Lookups.{IsHeld, found, holder-other, holder-own, holder_owns}
+use Rattle.origin_model.proofs.Ready.{IsReady, first_stray-append, held_not_own, left_named, or_none, right_by, right_named, when_ready}
+use Rattle.origin_model.proofs.Chains.{lefts-other, lefts-own, lefts_by, rights-other, rights-own, rights_by}
+use Rattle.origin_model.proofs.Order.{order-none, order-some}
+
+-- an element of a place is held
+pub IsIn-held : (p : Place) (h : List Op) (x : Identifier) → IsIn p h x → IsHeld h x
+IsIn-held p h x m = ap is_some m.held
+
+-- older elements stay in the place
+pub IsIn-older : (p : Place) (op : Op) (older : List Op) (x : Identifier) → IsReady older op → IsIn p older x → IsIn p (op ∷ older) x
+IsIn-older p op older x w m =
+    record { op = m.op; held = holder-other op older x (held_not_own op older x w (IsIn-held p older x m)) ∙ m.held; place = m.place }
+
+-- the newest element is in its place
+pub IsIn-own : (p : Place) (op : Op) (older : List Op) (x : Identifier) → element_of p op ≡ Some x → IsIn p (op ∷ older) x
+IsIn-own p op older x e = record { op = op; held = holder-own op older x (element_own p op x e); place = e }
+
+-- an element is the newest, or one of the older history
+pub IsIn-split : (p : Place) (op : Op) (older : List Op) (x : Identifier) → IsIn p (op ∷ older) x → (element_of p op ≡ Some x) ⊎ IsIn p older x
+IsIn-split p op older x m =
+    elim (cases_Bool (is_own x op)) [
+      | inl o ↦ let e : op ≡ m.op = cc (holder-own op older x o, m.held) in inl (ap (element_of p) e ∙ m.place)
+      | inr o ↦ inr (record { op = m.op; held = sym (holder-other op older x o) ∙ m.held; place = m.place })
+    ]
+
+-- whether what a look-up found is Stray
+abbrev stray_by : Role → Identifier → Option Op → Option Identifier
+stray_by role r o = elim o [ None ↦ None | Some op ↦ elim (fits role op) [ true ↦ None | false ↦ Some r ] ]
+
+-- a name that is not Stray fits
+one_fits : (h : List Op) (role : Role) (r : Identifier) (o : Op) → first_stray h (given_as role (Some r)) ≡ None → holder h r ≡ Some o → fits role o ≡ true
+one_fits h role r o m e =
+    elim (cases_Bool (fits role o)) [
+      | inl t ↦ t
+      | inr f ↦ absurd (not_some r (sym (ap (stray_by role r) e ∙ ap (λ b. elim b [ true ↦ None | false ↦ Some r ]) f) ∙ m))
+    ]
+
+-- where no name is Stray, none is in either part
+parts_fit : (h : List Op) (xs ys : List (Identifier × Role)) → first_stray h (xs ++ ys) ≡ None → (first_stray h xs ≡ None) × (first_stray h ys ≡ None)
+parts_fit h xs ys e = or_none _ _ (sym (first_stray-append h xs ys) ∙ e)
+
+-- what fits a Section is in the catalogue
+section_fits : (o : Op) → fits SectionRole o ≡ true → element_of catalogue o ≡ id_of o
+section_fits (Section i l r t) h = refl
+section_fits (Text i s l r c) h = absurd (false≢true h)
+section_fits (Delete i) h = absurd (false≢true h)
+
+-- what fits a Text of a section is in that section
+text_fits : (p s : Identifier) (o : Op) → id_eq s p ≡ true → fits (TextOf s) o ≡ true → element_of (within p) o ≡ id_of o
+text_fits p s (Section i l r t) e h = absurd (false≢true h)
+text_fits p s (Text i q l r c) e h =
+    ap (λ b. elim b [ true ↦ Some i | false ↦ None ]) (ap (id_eq q) (sym (id_eq-true s p e)) ∙ h)
+text_fits p s (Delete i) e h = absurd (false≢true h)
+
+-- a Text in a section names it
+in_section : (p i s x : Identifier) → (elim (id_eq s p) [ true ↦ Some i | false ↦ None ]) ≡ Some x → id_eq s p ≡ true
+in_section p i s x e =
+    elim (cases_Bool (id_eq s p)) [ inl t ↦ t | inr f ↦ absurd (not_some x (sym e ∙ ap (λ b. elim b [ true ↦ Some i | false ↦ None ]) f)) ]
+
+-- no element is none
+none_is : (P : Type 0) (x : Identifier) → None ≡ Some x → P
+none_is P x e = absurd (not_some x (sym e))
+
+-- the left origin of a Ready element is an element of its place
+pub left_place : (p : Place) (h : List Op) (op o : Op) (x l : Identifier) → IsReady h op → element_of p op ≡ Some x → left_of op ≡ Some l → holder h l ≡ Some o → element_of p o ≡ Some l
+left_place catalogue h (Section i left right t) o x l w e f k =
+    section_fits o (one_fits h SectionRole l o (subst (λ a. first_stray h (given_as SectionRole a) ≡ None) f (parts_fit h (given_as SectionRole left) (given_as SectionRole right) w.none_stray).0) k) ∙ own_id o l (holder_owns h l o k)
+left_place catalogue h (Text i s left right c) o x l w e f k = none_is _ x e
+left_place catalogue h (Delete i) o x l w e f k = none_is _ x e
+left_place (within p) h (Section i left right t) o x l w e f k = none_is _ x e
+left_place (within p) h (Text i s left right c) o x l w e f k =
+    text_fits p s o (in_section p i s x e) (one_fits h (TextOf s) l o
+    (subst (λ a. first_stray h (given_as (TextOf s) a) ≡ None) f
+    (parts_fit h ((s, SectionRole) ∷ []) (given_as (TextOf s) left) (parts_fit h ((s, SectionRole) ∷ given_as (TextOf s) left) (given_as (TextOf s) right) w.none_stray).0).1) k)
+    ∙ own_id o l (holder_owns h l o k)
+left_place (within p) h (Delete i) o x l w e f k = none_is _ x e
+
+-- the right origin of a Ready element is an element of its place
+pub right_place : (p : Place) (h : List Op) (op o : Op) (x r : Identifier) → IsReady h op → element_of p op ≡ Some x → right_of op ≡ Some r → holder h r ≡ Some o → element_of p o ≡ Some r
+right_place catalogue h (Section i left right t) o x r w e f k =
+    section_fits o (one_fits h SectionRole r o (subst (λ a. first_stray h (given_as SectionRole a) ≡ None) f (parts_fit h (given_as SectionRole left) (given_as SectionRole right) w.none_stray).1) k) ∙ own_id o r (holder_owns h r o k)
+right_place catalogue h (Text i s left right c) o x r w e f k = none_is _ x e
+right_place catalogue h (Delete i) o x r w e f k = none_is _ x e
+right_place (within p) h (Section i left right t) o x r w e f k = none_is _ x e
+right_place (within p) h (Text i s left right c) o x r w e f k =
+    text_fits p s o (in_section p i s x e) (one_fits h (TextOf s) r o
+    (subst (λ a. first_stray h (given_as (TextOf s) a) ≡ None) f
+    (parts_fit h ((s, SectionRole) ∷ given_as (TextOf s) left) (given_as (TextOf s) right) w.none_stray).1) k)
+    ∙ own_id o r (holder_owns h r o k)
+right_place (within p) h (Delete i) o x r w e f k = none_is _ x e
+
+-- the left origin of the newest element is in its place
+pub left_in : (p : Place) (op : Op) (older : List Op) (x l : Identifier) → IsReady older op → element_of p op ≡ Some x → left_of op ≡ Some l → IsIn p older l
+left_in p op older x l w e f =
+    let o = found (holder older l) (left_named older op l w.none_missing f) in
+    record { op = o.0; held = o.1; place = left_place p older op o.0 x l w e f o.1 }
+
+-- the right origin of the newest element is in its place
+pub right_in : (p : Place) (op : Op) (older : List Op) (x r : Identifier) → IsReady older op → element_of p op ≡ Some x → right_of op ≡ Some r → IsIn p older r
+right_in p op older x r w e f =
+    let o = found (holder older r) (right_named older op r w.none_missing f) in
+    record { op = o.0; held = o.1; place = right_place p older op o.0 x r w e f o.1 }
+
+-- what the operations before the newest have in a place stays there
+pub further : (p : Place) (h : List Op) (r : Identifier) → Lawful h → IsIn p (older_of h) r → IsIn p h r
+further p [] r w m = m
+further p (op ∷ older) r w m = IsIn-older p op older r (when_ready older op w.0) m
+
+-- a right origin was in the place before the newest operation
+pub right_at_in : (p : Place) (h : List Op) (x r : Identifier) → Lawful h → IsIn p h x → right_at h x ≡ Some r → IsIn p (older_of h) r
+right_at_in p [] x r w m e = cc (m.held)
+right_at_in p (op ∷ older) x r w m e =
+    let ready = when_ready older op w.0 in
+    elim (IsIn-split p op older x m) [
+      | inl k ↦ right_in p op older x r ready k (sym (ap right_by (holder-own op older x (element_own p op x k))) ∙ e)
+      | inr k ↦ further p older r w.1 (right_at_in p older x r w.1 k (sym (ap right_by (holder-other op older x (held_not_own op older x ready (IsIn-held p older x k)))) ∙ e))
+    ]
+
+-- a chain of left origins stays in its place
+pub lefts-in : (p : Place) (h : List Op) (x : Identifier) → Lawful h → IsIn p h x → Each (IsIn p h) (lefts h x)
+lefts-in p [] x w m = cc (m.held)
+lefts-in p (op ∷ older) x w m =
+    let ready = when_ready older op w.0 in
+    let h : List Op = op ∷ older in
+    elim (IsIn-split p op older x m) [
+      | inl k ↦ subst (Each (IsIn p h)) (sym (lefts-own op older x (element_own p op x k)))
+          (elim (cases_origin (left_of op)) [
+            | inl f ↦ subst (λ o. Each (IsIn p h) (lefts_by older x o)) (sym f) (m, tt)
+            | inr f ↦ subst (λ o. Each (IsIn p h) (lefts_by older x o)) (sym f.1)
+                (Each-append (IsIn p h) (lefts older f.0) (x ∷ []) (Each-map (IsIn p older) (IsIn p h) (λ y. IsIn-older p op older y ready) (lefts older f.0) (lefts-in p older f.0 w.1 (left_in p op older x f.0 ready k f.1))) (m, tt))
+          ])
+      | inr k ↦ subst (Each (IsIn p h)) (sym (lefts-other op older x (held_not_own op older x ready (IsIn-held p older x k))))
+          (Each-map (IsIn p older) (IsIn p h) (λ y. IsIn-older p op older y ready) (lefts older x) (lefts-in p older x w.1 k))
+    ]
+
+-- a chain of right origins stays in its place
+pub rights-in : (p : Place) (h : List Op) (x : Identifier) → Lawful h → IsIn p h x → Each (IsIn p h) (rights h x)
+rights-in p [] x w m = cc (m.held)
+rights-in p (op ∷ older) x w m =
+    let ready = when_ready older op w.0 in
+    let h : List Op = op ∷ older in
+    elim (IsIn-split p op older x m) [
+      | inl k ↦ subst (Each (IsIn p h)) (sym (rights-own op older x (element_own p op x k)))
+          (elim (cases_origin (right_of op)) [
+            | inl f ↦ subst (λ o. Each (IsIn p h) (rights_by older x (left_of op) o)) (sym f) (m, tt)
+            | inr f ↦ subst (λ o. Each (IsIn p h) (rights_by older x (left_of op) o)) (sym f.1)
+                (elim (has_left older f.0 (left_of op)) as (λ b. Each (IsIn p h) (elim b [ true ↦ rights older f.0 ++ x ∷ [] | false ↦ x ∷ [] ])) [
+                  | true ↦ Each-append (IsIn p h) (rights older f.0) (x ∷ []) (Each-map (IsIn p older) (IsIn p h) (λ y. IsIn-older p op older y ready) (rights older f.0) (rights-in p older f.0 w.1 (right_in p op older x f.0 ready k f.1))) (m, tt)
+                  | false ↦ (m, tt)
+                ])
+          ])
+      | inr k ↦ subst (Each (IsIn p h)) (sym (rights-other op older x (held_not_own op older x ready (IsIn-held p older x k))))
+          (Each-map (IsIn p older) (IsIn p h) (λ y. IsIn-older p op older y ready) (rights older x) (rights-in p older x w.1 k))
+    ]
+
+-- the order lists each element of its place
+pub order-has : (p : Place) (h : List Op) (x : Identifier) → IsIn p h x → In x (order p h)
+order-has p [] x m = cc (m.held)
+order-has p (op ∷ older) x m =
+    elim (IsIn-split p op older x m) [
+      | inl k ↦ subst (In x) (sym (order-some p op older x k)) (In-insert_new x (count_by (λ e. before_in (order p older) (op ∷ older) e x) (order p older)) (order p older))
+      | inr k ↦ elim (cases_origin (element_of p op)) [
+        | inl f ↦ subst (In x) (sym (order-none p op older f)) (order-has p older x k)
+        | inr f ↦ subst (In x) (sym (order-some p op older f.0 f.1)) (In-insert_old x f.0 (count_by (λ e. before_in (order p older) (op ∷ older) e f.0) (order p older)) (order p older) (order-has p older x k))
+      ]
+    ]
+
+-- the order lists only elements of its place
+pub order-in : (p : Place) (h : List Op) → Lawful h → Each (IsIn p h) (order p h)
+unfolding order
+order-in p [] w = tt
+order-in p (op ∷ older) w =
+    let o : List Identifier = order p older in
+    let h : List Op = op ∷ older in
+    let old : Each (IsIn p h) o = Each-map (IsIn p older) (IsIn p h) (λ y. IsIn-older p op older y (when_ready older op w.0)) o (order-in p older w.1) in
+    elim (cases_origin (element_of p op)) [
+      | inl e ↦ subst (Each (IsIn p h)) (sym (order-none p op older e)) old
+      | inr f ↦ subst (Each (IsIn p h)) (sym (order-some p op older f.0 f.1))
+          (Each-insert (IsIn p h) (count_by (λ e. before_in o h e f.0) o) o f.0 (IsIn-own p op older f.0 f.1) old)
+    ]
+
+-- a member of the order is an element of its place
+pub order-member : (p : Place) (h : List Op) (x : Identifier) → Lawful h → In x (order p h) → IsIn p h x
+order-member p h x w m = In-each (IsIn p h) x (order p h) (order-in p h w) m

@@ -1,0 +1,14 @@
+pub mod Ops
+pub mod Verdict
+pub mod Order
+pub mod Printed
+pub mod Laws
+pub mod Frames
+pub mod Taking
+pub mod Closed
+pub mod Counters
+pub mod Forks
+pub mod Listing
+pub mod Sided
+pub mod Nodes
+pub mod Detached

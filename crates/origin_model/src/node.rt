@@ -1,0 +1,9 @@
+use fugue_ids::ElementId;
+
+/// An element with its origins.
+#[derive(Clone, Copy, Debug, PartialEq, Eq)]
+pub struct Node {
+    pub id: ElementId,
+    pub left: Option<ElementId>,
+    pub right: Option<ElementId>,
+}

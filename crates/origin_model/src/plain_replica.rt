@@ -1,0 +1,115 @@
+ghost use Rattle.std.specs.Prelude.{◌≡◌, ◌∷◌, [], OnOk, OnErr, IfErr, IfOk};
+ghost use Rattle.fugue_ids.specs.Outs.{WritesText};
+ghost use Rattle.origin_model.specs.declared.verdict.Verdict.TheVariants.{Ready};
+ghost use Rattle.origin_model.specs.Ops.{accepted};
+ghost use Rattle.origin_model.specs.Verdict.{verdict as verdict_on, Lawful};
+ghost use Rattle.origin_model.specs.Order.{order};
+ghost use Rattle.origin_model.specs.Printed.{shown as shown_on, manuscript};
+
+use crate::listed::Listed;
+use crate::listing::{elements_in, list_newest};
+use crate::named::verdict_of;
+use crate::printing::write_manuscript;
+use crate::shown::shown_in;
+use crate::{NoMemoryFor, Place, Verdict};
+use fugue_ids::{ElementId, Failed, NoMemory, Op, Out};
+use std::alloc::Global;
+use std::marker::Model;
+
+/// A replica that follows the definitions plainly: it searches lists, and places an element by its chains of origins.
+///
+/// It is seen as its history, the newest operation first.
+#[derive(Drop)]
+pub struct PlainReplica {
+    alloc: Global,
+    ops: Vec<Op>,
+    listed: Vec<Listed>,
+}
+
+impl Model for PlainReplica {
+    ghost use Rattle.std.specs.Prelude.{List, reverse};
+    ghost use Rattle.fugue_ids.specs.declared.op.Op.{Op};
+    ghost use Rattle.origin_model.specs.Verdict.{Lawful};
+    ghost use Rattle.origin_model.specs.Listing.{ListsAll};
+
+    ghost Value = { List Op };
+
+    ghost view = { λ replica. reverse replica.ops.items };
+
+    ghost invariant = { λ replica. record {
+      lawful : Lawful (reverse replica.ops.items);
+      listed : ListsAll (reverse replica.ops.items) replica.listed.items;
+    } };
+}
+
+impl PlainReplica {
+    /// A replica that holds nothing. It takes no memory.
+    #[tactic(auto, unfolding(crate::specs::Order::order))]
+    pub fn new(alloc: Global) -> PlainReplica
+        ensures { result ≡ [] }
+    {
+        PlainReplica {
+            alloc,
+            ops: Vec::new(alloc),
+            listed: Vec::new(alloc),
+        }
+    }
+
+    /// The accepted operations, the oldest first.
+    pub fn ops(&self) -> &[Op]
+        ensures accepted { result.now ≡ accepted self.now }
+        ensures lawful { Lawful self.now }
+    {
+        self.ops.as_slice()
+    }
+
+    /// What an operation is against the accepted ones.
+    pub fn verdict(&self, op: &Op) -> Verdict
+        ensures { result ≡ verdict_on self.now op.now }
+    {
+        verdict_of(&self.ops, op)
+    }
+
+    /// The elements of a place in order, hidden ones too.
+    pub fn elements(&self, place: Place) -> Result<Vec<ElementId>, NoMemory>
+        ensures { IfOk result (λ elements. elements.items ≡ order place self.now) }
+    {
+        elements_in(self.alloc, &self.listed, &place).map_err(|_| NoMemory)
+    }
+
+    /// The elements of a place that no Delete names, in order.
+    pub fn shown(&self, place: Place) -> Result<Vec<ElementId>, NoMemory>
+        ensures { IfOk result (λ elements. elements.items ≡ shown_on place self.now) }
+    {
+        match shown_in(self.alloc, &self.ops, &self.listed, &place) {
+            Ok(elements) => Ok(elements),
+            Err(_) => Err(NoMemory),
+        }
+    }
+
+    /// Takes in an operation that is Ready.
+    pub fn accept(&mut self, op: Op) -> Result<(), NoMemoryFor>
+        requires { verdict_on self.old op ≡ Ready }
+        ensures ok { OnOk result (self.new ≡ op ∷ self.old) }
+        ensures err { OnErr result (self.new ≡ self.old) }
+        ensures op_back { IfErr result (λ e. e.op ≡ op) }
+    {
+        if let Err(refused) = self.ops.push(op) {
+            return Err(NoMemoryFor { op: refused.value });
+        }
+        match list_newest(self.alloc, &self.ops, &mut self.listed) {
+            Ok(()) => Ok(()),
+            Err(_) => {
+                let op = self.ops.pop().unwrap();
+                Err(NoMemoryFor { op })
+            }
+        }
+    }
+
+    /// Writes the manuscript: what is shown of each shown section, in the order of the catalogue. It takes no memory.
+    pub fn print_into<O: Out>(&self, output: &mut O) -> Result<(), Failed>
+        ensures { WritesText (O.seen output.old) (O.seen output.new) result (manuscript self.now) }
+    {
+        write_manuscript(output, &self.ops, &self.listed)
+    }
+}
