@@ -1,0 +1,88 @@
+-- Equal bytes begin with one value, for each field.
+use Rattle.std.proofs.Common.{◌≡◌, ℕ, ◌<◌, ◌≤◌, ◌^◌, ◌⊎◌, inl, inr, List, [], ◌∷◌, ◌++◌, length, refl, ap, sym, ◌∙◌, append_assoc, arith}
+use Rattle.std.specs.Prelude.{Option, Some, None}
+use Rattle.std.specs.Int.{to_be_bytes, from_be_bytes, w16, w32, byte_at}
+use Rattle.std.specs.Str.{encode_utf8_all}
+use Rattle.std.proofs.lemmas.Nat.{from_be_bytes-to_be_bytes_4, from_be_bytes-to_be_bytes_2}
+use Rattle.std.proofs.lemmas.Str.{encodes_same}
+use Rattle.std.specs.Char.{IsScalar}
+use lib.Utf8.{scalar_cases}
+use Rattle.fugue_ids.specs.Identifiers.{Identifier}
+use Rattle.origin_model.specs.Frames.{IsTitle, id_bytes, scalar_bytes}
+use Rattle.op_frame.specs.Formats.{number, replica, identifier, origin, scalar, title}
+use Rattle.op_frame.proofs.Formats.{IsCode, code_join}
+
+-- fronts of one length are the same
+pub same_fronts : {X : Type 0} (xs ys r s : List X) → length xs ≡ length ys → xs ++ r ≡ ys ++ s → (xs ≡ ys) × (r ≡ s)
+same_fronts [] [] r s long same = (refl, same)
+same_fronts [] (y ∷ ys) r s long same = absurd (omega (arith, long))
+same_fronts (x ∷ xs) [] r s long same = absurd (omega (arith, long))
+same_fronts (x ∷ xs) (y ∷ ys) r s long same =
+    let first : x ≡ y = cc same in
+    let behind : xs ++ r ≡ ys ++ s = cc same in
+    let both = same_fronts xs ys r s (omega (arith, long)) behind in
+    ((λ i. first i ∷ both.0 i), both.1)
+
+pub number_code : IsCode number
+number_code = record {
+  once = λ v w r s p q same.
+      let both = same_fronts (to_be_bytes w32 v) (to_be_bytes w32 w) r s refl same in
+      (sym (from_be_bytes-to_be_bytes_4 v p) ∙ ap (from_be_bytes w32) both.0 ∙ from_be_bytes-to_be_bytes_4 w q, both.1);
+}
+
+pub replica_code : IsCode replica
+replica_code = record { once = λ v w r s p q same. number_code.once v w r s p.1 q.1 same }
+
+pub identifier_code : IsCode identifier
+identifier_code = record {
+  once = λ v w r s p q same.
+      let halves = (code_join replica number replica_code number_code).once (v.replica, v.counter) (w.replica, w.counter) r s
+      ((p.some_replica, p.replica_fits), p.counter_fits) ((q.some_replica, q.replica_fits), q.counter_fits) same in
+      ((λ i. record { replica = (halves.0 i).0; counter = (halves.0 i).1 }), halves.1);
+}
+
+origin_once : (v w : Option Identifier) (r s : List ℕ) → origin.valid v → origin.valid w → origin.spelling v ++ r ≡ origin.spelling w ++ s → (v ≡ w) × (r ≡ s)
+origin_once None None r s p q same = (refl, cc same)
+origin_once None (Some w) r s p q same = absurd (cc same)
+origin_once (Some v) None r s p q same = absurd (cc same)
+origin_once (Some v) (Some w) r s p q same =
+    let behind : id_bytes v ++ r ≡ id_bytes w ++ s = cc same in
+    let both = identifier_code.once v w r s p q behind in
+    (ap Some both.0, both.1)
+
+pub origin_code : IsCode origin
+origin_code = record { once = origin_once }
+
+below_top : (c : ℕ) → (c < 55296) ⊎ ((57344 ≤ c) × (c < 1114112)) → c < 1114112
+below_top c (inl h) = omega arith
+below_top c (inr h) = h.1
+
+-- a scalar has three bytes
+pub scalar_below : (c : ℕ) → IsScalar c → c < 1114112
+scalar_below c h = below_top c (scalar_cases c h)
+
+pub scalar_top : (c : ℕ) → IsScalar c → byte_at 3 c ≡ 0
+scalar_top c h = omega (arith, scalar_below c h)
+
+pub scalar_code : IsCode scalar
+scalar_code = record {
+  once = λ v w r s p q same.
+      let low = same_fronts (scalar_bytes v) (scalar_bytes w) r s refl same in
+      let whole : to_be_bytes w32 v ≡ to_be_bytes w32 w = λ i. (scalar_top v p ∙ sym (scalar_top w q)) i ∷ low.0 i in
+      ((number_code.once v w [] [] (omega (arith, scalar_below v p)) (omega (arith, scalar_below w q)) (ap (λ (l : List ℕ). l ++ []) whole)).0, low.1);
+}
+
+title_length : (t : List ℕ) → IsTitle t → length (encode_utf8_all t) < 2 ^ 16
+title_length t p = omega (arith, p.text.short)
+
+pub title_code : IsCode title
+title_code = record {
+  once = λ v w r s p q same.
+      let flat : to_be_bytes w16 (length (encode_utf8_all v)) ++ (encode_utf8_all v ++ r) ≡ to_be_bytes w16 (length (encode_utf8_all w)) ++ (encode_utf8_all w ++ s)
+      = sym (append_assoc (to_be_bytes w16 (length (encode_utf8_all v))) (encode_utf8_all v) r) ∙ same ∙ append_assoc (to_be_bytes w16 (length (encode_utf8_all w))) (encode_utf8_all w) s in
+      let heads = same_fronts (to_be_bytes w16 (length (encode_utf8_all v))) (to_be_bytes w16 (length (encode_utf8_all w))) (encode_utf8_all v ++ r) (encode_utf8_all w ++ s) refl flat in
+      let long : length (encode_utf8_all v) ≡ length (encode_utf8_all w)
+      = sym (from_be_bytes-to_be_bytes_2 (length (encode_utf8_all v)) (title_length v p)) ∙ ap (from_be_bytes w16) heads.0 ∙ from_be_bytes-to_be_bytes_2 (length (encode_utf8_all w)) (title_length w q) in
+      let texts = same_fronts (encode_utf8_all v) (encode_utf8_all w) r s long heads.1 in
+      (encodes_same v w texts.0, texts.1);
+}

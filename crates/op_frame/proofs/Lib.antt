@@ -1,0 +1,12 @@
+pub mod Formats
+pub mod Codes
+pub mod Fields
+pub mod Operations
+pub mod Characters
+pub mod Titles
+pub mod Frames
+pub mod Windows
+pub mod Refills
+pub mod Steps
+pub mod Streams
+pub mod OneAnswer

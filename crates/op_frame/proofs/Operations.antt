@@ -1,0 +1,290 @@
+-- What stands at the front of bytes, for the three kinds of frames.
+use Rattle.std.proofs.Common.{◌≡◌, ℕ, ◌<◌, List, [], ◌∷◌, ◌++◌, length, drop, refl, ap, sym, subst, ◌∙◌, inl, inr, append_assoc, arith}
+use Rattle.std.specs.Prelude.{Option, None, Result, Ok, Err}
+use Rattle.std.proofs.lemmas.Str.{encode_ascii}
+use Rattle.fugue_ids.specs.Titles.{IsTitleText}
+use Rattle.fugue_ids.specs.Identifiers.{Identifier}
+use Rattle.fugue_ids.specs.declared.op.Op.{Op}
+use Rattle.fugue_ids.specs.declared.op.Op.TheVariants.{Section, Text, Delete}
+use Rattle.origin_model.specs.Frames.{frame, IsIdentifier, IsTitle, HasFrame, id_bytes, origin_bytes, scalar_bytes, title_bytes}
+use Rattle.op_frame.specs.declared.stop.Stop.{Stop}
+use Rattle.op_frame.specs.declared.stop.Stop.TheVariants.{Prefix, Bad, NoMemory}
+use Rattle.op_frame.specs.Formats.{Format, Starts, IsFront, FitsNone, Stops, FieldIs, join, identifier, origin, scalar, title, operation, of_kind, frame_kind}
+use Rattle.op_frame.proofs.Formats.{IsCode, code_join, stops_first, stops_second}
+use Rattle.op_frame.proofs.Codes.{identifier_code, origin_code, scalar_code, title_code}
+
+abbrev SectionFields : Type 0
+SectionFields = Identifier × (Option Identifier × (Option Identifier × List ℕ))
+
+abbrev TextFields : Type 0
+TextFields = Identifier × (Identifier × (Option Identifier × (Option Identifier × ℕ)))
+
+abbrev pub section_fields : Format SectionFields
+section_fields = join identifier (join origin (join origin title))
+
+abbrev pub text_fields : Format TextFields
+text_fields = join identifier (join identifier (join origin (join origin scalar)))
+
+regroup4 : (a b c d : List ℕ) → ((a ++ b) ++ c) ++ d ≡ a ++ (b ++ (c ++ d))
+regroup4 a b c d = simp append_assoc
+
+regroup5 : (a b c d e : List ℕ) → (((a ++ b) ++ c) ++ d) ++ e ≡ a ++ (b ++ (c ++ (d ++ e)))
+regroup5 a b c d e = simp append_assoc
+
+abbrev section_of : SectionFields → Op
+section_of v = Section v.0 v.1.0 v.1.1.0 v.1.1.1
+
+abbrev text_of : TextFields → Op
+text_of v = Text v.0 v.1.0 v.1.1.0 v.1.1.1.0 v.1.1.1.1
+
+section_code : IsCode section_fields
+section_code = code_join identifier (join origin (join origin title)) identifier_code (code_join origin (join origin title) origin_code (code_join origin title origin_code title_code))
+
+text_code : IsCode text_fields
+text_code = code_join identifier (join identifier (join origin (join origin scalar))) identifier_code
+    (code_join identifier (join origin (join origin scalar)) identifier_code (code_join origin (join origin scalar) origin_code (code_join origin scalar origin_code scalar_code)))
+
+section_is : (v : SectionFields) → drop 1 (frame (section_of v)) ≡ section_fields.spelling v
+section_is v = regroup4 (id_bytes v.0) (origin_bytes v.1.0) (origin_bytes v.1.1.0) (title_bytes v.1.1.1)
+
+text_is : (v : TextFields) → drop 1 (frame (text_of v)) ≡ text_fields.spelling v
+text_is v = regroup5 (id_bytes v.0) (id_bytes v.1.0) (origin_bytes v.1.1.0) (origin_bytes v.1.1.1.0) (scalar_bytes v.1.1.1.1)
+
+section_front : (b : List ℕ) → IsFront section_fields b → IsFront (of_kind 1) b
+section_front b p = record {
+  value = section_of p.value;
+  valid = (refl, (p.valid.0, p.valid.1.0, p.valid.1.1.0, p.valid.1.1.1));
+  more = p.more;
+  lacks = p.lacks;
+  front = section_is p.value ∙ p.front;
+}
+
+section_none : (b : List ℕ) → FitsNone section_fields b → (op : Op) (rest : List ℕ) → frame_kind op ≡ 1 → HasFrame op → b ≡ drop 1 (frame op) ++ rest → ⊥
+section_none b p (Section i l r t) rest is_kind has split =
+    let v : SectionFields = (i, (l, (r, t))) in
+    p.no_value v rest (record { valid = (has.0, (has.1, (has.2, has.3))); split = split ∙ ap (λ (x : List ℕ). x ++ rest) (section_is v) })
+section_none b p (Text i s l r ch) rest is_kind has split = absurd (omega (arith, is_kind))
+section_none b p (Delete i) rest is_kind has split = absurd (omega (arith, is_kind))
+
+section_no_front : (b : List ℕ) → FitsNone section_fields b → (op : Op) (more : List ℕ) → frame_kind op ≡ 1 → HasFrame op → 0 < length more
+    → drop 1 (frame op) ≡ b ++ more → ⊥
+section_no_front b p (Section i l r t) more is_kind has lacks front =
+    let v : SectionFields = (i, (l, (r, t))) in
+    p.no_front (record { value = v; valid = (has.0, (has.1, (has.2, has.3))); more = more; lacks = lacks; front = sym (section_is v) ∙ front })
+section_no_front b p (Text i s l r ch) more is_kind has lacks front = absurd (omega (arith, is_kind))
+section_no_front b p (Delete i) more is_kind has lacks front = absurd (omega (arith, is_kind))
+
+pub section_stops : (b : List ℕ) (stop : Stop) → Stops section_fields b stop → Stops (of_kind 1) b stop
+section_stops b Prefix p = section_front b p
+section_stops b Bad p = record {
+  no_value = λ op rest q. section_none b p op rest q.valid.0 q.valid.1 q.split;
+  no_front = λ q. section_no_front b p q.value q.more q.valid.0 q.valid.1 q.lacks q.front;
+}
+section_stops b NoMemory p = refl
+
+text_front : (b : List ℕ) → IsFront text_fields b → IsFront (of_kind 2) b
+text_front b p = record {
+  value = text_of p.value;
+  valid = (refl, (p.valid.0, p.valid.1.0, p.valid.1.1.0, p.valid.1.1.1.0, p.valid.1.1.1.1));
+  more = p.more;
+  lacks = p.lacks;
+  front = text_is p.value ∙ p.front;
+}
+
+text_none : (b : List ℕ) → FitsNone text_fields b → (op : Op) (rest : List ℕ) → frame_kind op ≡ 2 → HasFrame op → b ≡ drop 1 (frame op) ++ rest → ⊥
+text_none b p (Section i l r t) rest is_kind has split = absurd (omega (arith, is_kind))
+text_none b p (Text i s l r ch) rest is_kind has split =
+    let v : TextFields = (i, (s, (l, (r, ch)))) in
+    p.no_value v rest (record { valid = (has.0, (has.1, (has.2, (has.3, has.4)))); split = split ∙ ap (λ (x : List ℕ). x ++ rest) (text_is v) })
+text_none b p (Delete i) rest is_kind has split = absurd (omega (arith, is_kind))
+
+text_no_front : (b : List ℕ) → FitsNone text_fields b → (op : Op) (more : List ℕ) → frame_kind op ≡ 2 → HasFrame op → 0 < length more
+    → drop 1 (frame op) ≡ b ++ more → ⊥
+text_no_front b p (Section i l r t) more is_kind has lacks front = absurd (omega (arith, is_kind))
+text_no_front b p (Text i s l r ch) more is_kind has lacks front =
+    let v : TextFields = (i, (s, (l, (r, ch)))) in
+    p.no_front (record { value = v; valid = (has.0, (has.1, (has.2, (has.3, has.4)))); more = more; lacks = lacks; front = sym (text_is v) ∙ front })
+text_no_front b p (Delete i) more is_kind has lacks front = absurd (omega (arith, is_kind))
+
+no_memory_for_text : text_fields.takes_memory → ⊥
+no_memory_for_text (inl p) = p
+no_memory_for_text (inr (inl p)) = p
+no_memory_for_text (inr (inr (inl p))) = p
+no_memory_for_text (inr (inr (inr (inl p)))) = p
+no_memory_for_text (inr (inr (inr (inr p)))) = p
+
+pub text_stops : (b : List ℕ) (stop : Stop) → Stops text_fields b stop → Stops (of_kind 2) b stop
+text_stops b Prefix p = text_front b p
+text_stops b Bad p = record {
+  no_value = λ op rest q. text_none b p op rest q.valid.0 q.valid.1 q.split;
+  no_front = λ q. text_no_front b p q.value q.more q.valid.0 q.valid.1 q.lacks q.front;
+}
+text_stops b NoMemory p = absurd (no_memory_for_text p)
+
+-- the target of a Delete
+delete_none : (b : List ℕ) → FitsNone identifier b → (op : Op) (rest : List ℕ) → frame_kind op ≡ 3 → HasFrame op → b ≡ drop 1 (frame op) ++ rest → ⊥
+delete_none b p (Section i l r t) rest is_kind has split = absurd (omega (arith, is_kind))
+delete_none b p (Text i s l r ch) rest is_kind has split = absurd (omega (arith, is_kind))
+delete_none b p (Delete i) rest is_kind has split = p.no_value i rest (record { valid = has; split = split })
+
+delete_no_front : (b : List ℕ) → FitsNone identifier b → (op : Op) (more : List ℕ) → frame_kind op ≡ 3 → HasFrame op → 0 < length more
+    → drop 1 (frame op) ≡ b ++ more → ⊥
+delete_no_front b p (Section i l r t) more is_kind has lacks front = absurd (omega (arith, is_kind))
+delete_no_front b p (Text i s l r ch) more is_kind has lacks front = absurd (omega (arith, is_kind))
+delete_no_front b p (Delete i) more is_kind has lacks front = p.no_front (record { value = i; valid = has; more = more; lacks = lacks; front = front })
+
+pub delete_stops : (b : List ℕ) (stop : Stop) → Stops identifier b stop → Stops (of_kind 3) b stop
+delete_stops b Prefix p = record { value = Delete p.value; valid = (refl, p.valid); more = p.more; lacks = p.lacks; front = p.front }
+delete_stops b Bad p = record {
+  no_value = λ op rest q. delete_none b p op rest q.valid.0 q.valid.1 q.split;
+  no_front = λ q. delete_no_front b p q.value q.more q.valid.0 q.valid.1 q.lacks q.front;
+}
+delete_stops b NoMemory p = absurd p
+
+-- a frame begins with its kind
+pub frame_is : (op : Op) → frame op ≡ frame_kind op ∷ drop 1 (frame op)
+frame_is (Section i l r t) = refl
+frame_is (Text i s l r ch) = refl
+frame_is (Delete i) = refl
+
+-- a frame of a kind, behind its first byte
+pub kind_starts : (kind : ℕ) (b r rest : List ℕ) (op : Op) → b ≡ kind ∷ r → Starts (of_kind kind) r op rest → Starts operation b op rest
+kind_starts kind b r rest op is p = record {
+  valid = p.valid.1;
+  split = is ∙ (λ i. sym p.valid.0 i ∷ p.split i) ∙ ap (λ (l : List ℕ). l ++ rest) (sym (frame_is op));
+}
+
+pub kind_stops : (kind : ℕ) (b r : List ℕ) (stop : Stop) → b ≡ kind ∷ r → Stops (of_kind kind) r stop → Stops operation b stop
+kind_stops kind b r Prefix is p = record {
+  value = p.value;
+  valid = p.valid.1;
+  more = p.more;
+  lacks = p.lacks;
+  front = frame_is p.value ∙ (λ i. p.valid.0 i ∷ p.front i) ∙ ap (λ (l : List ℕ). l ++ p.more) (sym is);
+}
+kind_stops kind b r Bad is p = record {
+  no_value = λ op rest q.
+      let same : kind ∷ r ≡ frame_kind op ∷ (drop 1 (frame op) ++ rest) = sym is ∙ q.split ∙ ap (λ (l : List ℕ). l ++ rest) (frame_is op) in
+      let first : frame_kind op ≡ kind = cc same in
+      let behind : r ≡ drop 1 (frame op) ++ rest = cc same in
+      p.no_value op rest (record { valid = (first, q.valid); split = behind });
+  no_front = λ q.
+      let same : frame_kind q.value ∷ drop 1 (frame q.value) ≡ kind ∷ (r ++ q.more) = sym (frame_is q.value) ∙ q.front ∙ ap (λ (l : List ℕ). l ++ q.more) is in
+      let first : frame_kind q.value ≡ kind = cc same in
+      let behind : drop 1 (frame q.value) ≡ r ++ q.more = cc same in
+      p.no_front (record { value = q.value; valid = (first, q.valid); more = q.more; lacks = q.lacks; front = behind });
+}
+kind_stops kind b r NoMemory is p = tt
+
+-- no bytes begin each frame
+pub operation_empty : (b : List ℕ) → length b ≡ 0 → IsFront operation b
+operation_empty [] is = record {
+  value = Delete (record { replica = 1; counter = 0 });
+  valid = record { some_replica = omega arith; replica_fits = omega arith; counter_fits = omega arith };
+  more = frame (Delete (record { replica = 1; counter = 0 }));
+  lacks = omega arith;
+  front = refl;
+}
+operation_empty (x ∷ b) is = absurd (omega (arith, is))
+
+code_of_kind : (v w : Op) (r s : List ℕ) → HasFrame v → HasFrame w → frame v ++ r ≡ frame w ++ s → (v ≡ w) × (r ≡ s)
+code_of_kind (Section i l r t) (Section j m s u) x y p q same =
+    let v : SectionFields = (i, (l, (r, t))) in
+    let w : SectionFields = (j, (m, (s, u))) in
+    let behind : drop 1 (frame (section_of v)) ++ x ≡ drop 1 (frame (section_of w)) ++ y = cc same in
+    let both = section_code.once v w x y (p.0, (p.1, (p.2, p.3))) (q.0, (q.1, (q.2, q.3)))
+    (ap (λ (a : List ℕ). a ++ x) (sym (section_is v)) ∙ behind ∙ ap (λ (a : List ℕ). a ++ y) (section_is w)) in
+    (ap section_of both.0, both.1)
+code_of_kind (Section i l r t) (Text j k m s u) x y p q same = absurd (cc same)
+code_of_kind (Section i l r t) (Delete j) x y p q same = absurd (cc same)
+code_of_kind (Text i k l r t) (Section j m s u) x y p q same = absurd (cc same)
+code_of_kind (Text i k l r c) (Text j n m s d) x y p q same =
+    let v : TextFields = (i, (k, (l, (r, c)))) in
+    let w : TextFields = (j, (n, (m, (s, d)))) in
+    let behind : drop 1 (frame (text_of v)) ++ x ≡ drop 1 (frame (text_of w)) ++ y = cc same in
+    let both = text_code.once v w x y (p.0, (p.1, (p.2, (p.3, p.4)))) (q.0, (q.1, (q.2, (q.3, q.4))))
+    (ap (λ (a : List ℕ). a ++ x) (sym (text_is v)) ∙ behind ∙ ap (λ (a : List ℕ). a ++ y) (text_is w)) in
+    (ap text_of both.0, both.1)
+code_of_kind (Text i k l r t) (Delete j) x y p q same = absurd (cc same)
+code_of_kind (Delete i) (Section j m s u) x y p q same = absurd (cc same)
+code_of_kind (Delete i) (Text j k m s u) x y p q same = absurd (cc same)
+code_of_kind (Delete i) (Delete j) x y p q same =
+    let behind : id_bytes i ++ x ≡ id_bytes j ++ y = cc same in
+    let both = identifier_code.once i j x y p q behind in
+    (ap Delete both.0, both.1)
+
+-- equal bytes begin with one frame
+pub operation_code : IsCode operation
+operation_code = record { once = code_of_kind }
+
+-- a title
+sample_title : IsTitle (65 ∷ [])
+sample_title = record {
+  scalars = (refl, tt);
+  text = subst IsTitleText (ap (λ (l : List ℕ). l ++ []) (sym (encode_ascii 65 (omega arith)))) (record { some = omega arith; short = omega arith; one_line = refl });
+}
+
+abbrev origins_title : Format (Option Identifier × (Option Identifier × List ℕ))
+origins_title = join origin (join origin title)
+
+abbrev origins_scalar : Format (Option Identifier × (Option Identifier × ℕ))
+origins_scalar = join origin (join origin scalar)
+
+abbrev first_id : Identifier
+first_id = record { replica = 1; counter = 0 }
+
+first_is_one : IsIdentifier first_id
+first_is_one = record { some_replica = omega arith; replica_fits = omega arith; counter_fits = omega arith }
+
+-- where a Section stops: at its identifier, at an origin, at its title
+pub section_at_id : (b : List ℕ) (stop : Stop) → Stops identifier b stop → Stops (of_kind 1) b stop
+section_at_id b stop p = section_stops b stop (stops_first identifier origins_title (None, (None, 65 ∷ [])) (tt, (tt, sample_title)) b stop p)
+
+pub section_at_left : (b r : List ℕ) (i : Identifier) (stop : Stop) → Starts identifier b i r → Stops origin r stop → Stops (of_kind 1) b stop
+section_at_left b r i stop p q =
+    section_stops b stop (stops_second identifier origins_title identifier_code b r i stop p (stops_first origin (join origin title) (None, 65 ∷ []) (tt, sample_title) r stop q))
+
+pub section_at_right : (b r s : List ℕ) (i : Identifier) (l : Option Identifier) (stop : Stop) → Starts identifier b i r → Starts origin r l s → Stops origin s stop
+    → Stops (of_kind 1) b stop
+section_at_right b r s i l stop p q t =
+    section_stops b stop (stops_second identifier origins_title identifier_code b r i stop p
+    (stops_second origin (join origin title) origin_code r s l stop q (stops_first origin title (65 ∷ []) sample_title s stop t)))
+
+pub section_at_title : (b r s t : List ℕ) (i : Identifier) (l m : Option Identifier) (stop : Stop) → Starts identifier b i r → Starts origin r l s → Starts origin s m t
+    → Stops title t stop → Stops (of_kind 1) b stop
+section_at_title b r s t i l m stop p q u w =
+    section_stops b stop (stops_second identifier origins_title identifier_code b r i stop p
+    (stops_second origin (join origin title) origin_code r s l stop q (stops_second origin title origin_code s t m stop u w)))
+
+-- where a Text stops
+pub text_at_id : (b : List ℕ) (stop : Stop) → Stops identifier b stop → Stops (of_kind 2) b stop
+text_at_id b stop p =
+    text_stops b stop (stops_first identifier (join identifier origins_scalar) (first_id, (None, (None, 0))) (first_is_one, (tt, (tt, refl))) b stop p)
+
+pub text_at_section : (b r : List ℕ) (i : Identifier) (stop : Stop) → Starts identifier b i r → Stops identifier r stop → Stops (of_kind 2) b stop
+text_at_section b r i stop p q =
+    text_stops b stop (stops_second identifier (join identifier origins_scalar) identifier_code b r i stop p
+    (stops_first identifier origins_scalar (None, (None, 0)) (tt, (tt, refl)) r stop q))
+
+text_behind : (b r s : List ℕ) (i k : Identifier) (stop : Stop) → Starts identifier b i r → Starts identifier r k s → Stops origins_scalar s stop → Stops (of_kind 2) b stop
+text_behind b r s i k stop p q t =
+    text_stops b stop (stops_second identifier (join identifier origins_scalar) identifier_code b r i stop p
+    (stops_second identifier origins_scalar identifier_code r s k stop q t))
+
+pub text_at_left : (b r s : List ℕ) (i k : Identifier) (stop : Stop) → Starts identifier b i r → Starts identifier r k s → Stops origin s stop → Stops (of_kind 2) b stop
+text_at_left b r s i k stop p q t = text_behind b r s i k stop p q (stops_first origin (join origin scalar) (None, 0) (tt, refl) s stop t)
+
+pub text_at_right : (b r s t : List ℕ) (i k : Identifier) (l : Option Identifier) (stop : Stop) → Starts identifier b i r → Starts identifier r k s → Starts origin s l t
+    → Stops origin t stop → Stops (of_kind 2) b stop
+text_at_right b r s t i k l stop p q u w =
+    text_behind b r s i k stop p q (stops_second origin (join origin scalar) origin_code s t l stop u (stops_first origin scalar 0 refl t stop w))
+
+pub text_at_scalar : (b r s t z : List ℕ) (i k : Identifier) (l m : Option Identifier) (stop : Stop) → Starts identifier b i r → Starts identifier r k s
+    → Starts origin s l t → Starts origin t m z → Stops scalar z stop → Stops (of_kind 2) b stop
+text_at_scalar b r s t z i k l m stop p q u w y =
+    text_behind b r s i k stop p q (stops_second origin (join origin scalar) origin_code s t l stop u (stops_second origin scalar origin_code t z m stop w y))
+
+-- what reading the rest of a frame gave
+pub kind_is : (kind : ℕ) (b r after : List ℕ) (result : Result Op Stop) → b ≡ kind ∷ r → FieldIs (of_kind kind) result r after → FieldIs operation result b after
+kind_is kind b r after (Ok op) is p = kind_starts kind b r after op is p
+kind_is kind b r after (Err stop) is p = kind_stops kind b r stop is p

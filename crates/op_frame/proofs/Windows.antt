@@ -1,0 +1,96 @@
+-- A part of a buffer, before and behind which bytes come and go.
+use Rattle.std.proofs.Common.{◌≡◌, ℕ, ◌+◌, ◌-◌, ◌<◌, ◌≤◌, List, ◌++◌, length, take, drop, refl, ap, sym, subst, ◌∙◌, arith, append_assoc, length-append, length-drop}
+use Rattle.std.specs.Prelude.{Option, Some, None, Result, Ok, Err}
+use Rattle.std.specs.Io.KnownBytes.{prepend_known}
+use Rattle.std.proofs.lemmas.List.{drop-take, drop-append-le, take-append-le, length-take-le, append-nil, drop-drop, take_at}
+use Rattle.std.proofs.Math.Seq.{take-append-add}
+use Rattle.outer_ports.specs.Sources.{SourceView}
+use Rattle.op_frame.specs.Windows.{Filled, Placed}
+
+part_is : (s e : ℕ) (b : List ℕ) → s ≤ e → drop s (take e b) ≡ take (e - s) (drop s b)
+part_is s e b le = let is : e ≡ s + (e - s) = omega (arith, le) in ap (λ (k : ℕ). drop s (take k b)) is ∙ drop-take s (e - s) b
+
+-- bytes placed behind a part
+placed_behind : (old part rest : List ℕ) (s e n : ℕ) → s ≤ e → e ≤ length old → n ≤ length part
+    → take (e + n - s) (drop s (take e old ++ (part ++ rest))) ≡ take (e - s) (drop s old) ++ take n part
+placed_behind old part rest s e n le within enough =
+    let long : length (take e old) ≡ e = length-take-le e old within in
+    let behind : drop s (take e old ++ (part ++ rest)) ≡ drop s (take e old) ++ (part ++ rest) = drop-append-le s (take e old) (part ++ rest) (omega (arith, long, le)) in
+    let front : drop s (take e old) ≡ take (e - s) (drop s old) = part_is s e old le in
+    let sized : length (take (e - s) (drop s old)) ≡ e - s = sym (ap length front) ∙ length-drop s (take e old) ∙ ap (λ (k : ℕ). k - s) long in
+    let count : e + n - s ≡ length (take (e - s) (drop s old)) + n = omega (arith, sized, le) in
+    ap (take (e + n - s)) (behind ∙ ap (λ (l : List ℕ). l ++ (part ++ rest)) front)
+    ∙ ap (λ (k : ℕ). take k (take (e - s) (drop s old) ++ (part ++ rest))) count
+    ∙ take-append-add (take (e - s) (drop s old)) (part ++ rest) n
+    ∙ ap (λ (l : List ℕ). take (e - s) (drop s old) ++ l) (take-append-le n part rest enough)
+
+prepend_known-twice : (a b : List ℕ) (left : Option (List ℕ)) → prepend_known a (prepend_known b left) ≡ prepend_known (a ++ b) left
+prepend_known-twice a b None = refl
+prepend_known-twice a b (Some l) = ap Some (sym (append_assoc a b l))
+
+-- a window without its first bytes
+pub skipped : (s e n : ℕ) (b : List ℕ) → s + n ≤ e → take (e - (s + n)) (drop (s + n) b) ≡ drop n (take (e - s) (drop s b))
+skipped s e n b le =
+    let is : e - s ≡ n + (e - (s + n)) = omega (arith, le) in
+    sym (ap (λ (k : ℕ). drop n (take k (drop s b))) is ∙ drop-take n (e - (s + n)) (drop s b) ∙ ap (take (e - (s + n))) (drop-drop n s b ∙ ap (λ (k : ℕ). drop k b) (omega arith)))
+
+-- a window with what a read gave behind it
+pub filled : {E T : Type 0} (e : ℕ) (s : ℕ) (to most n : ℕ) (old new bytes : List ℕ) (before after : SourceView) → Placed {E = E} old new e to before after (Ok n)
+    → s ≤ e → e < to → to ≤ length old → to - e ≤ most → bytes ≡ take (e - s) (drop s old) → Filled {E = T} bytes (take (e + n - s) (drop s new)) before after most (Ok n)
+filled {E} {T} e s to most n old new bytes before after p le some within fits is =
+    let moved : take (e + n - s) (drop s new) ≡ bytes ++ take n p.part
+    = ap (λ (l : List ℕ). take (e + n - s) (drop s l)) p.items ∙ placed_behind old p.part (drop to old) s e n le (omega (arith, some, within)) p.read.bound ∙ ap (λ (l : List ℕ). l ++ take n p.part) (sym is) in
+    record {
+      told = ap (prepend_known bytes) p.read.gave ∙ prepend_known-twice bytes (take n p.part) after.left ∙ ap (λ (l : List ℕ). prepend_known l after.left) (sym moved);
+      grew = (ap length moved ∙ length-append bytes (take n p.part) ∙ ap (λ (k : ℕ). length bytes + k) (length-take-le n p.part p.read.bound), omega (arith, p.read.bound, p.long, fits));
+      ends = λ none. p.read.ends none (omega (arith, p.long, some));
+      stays = λ none. moved ∙ ap (λ (k : ℕ). bytes ++ take k p.part) none ∙ append-nil bytes;
+      kept = tt;
+      cause = record { later = p.read.cause.later; failed = tt };
+      sure = p.read.sure;
+      succeeds = λ is_sure. tt;
+      calm = p.read.calm;
+    }
+
+-- a window behind which nothing came
+pub not_filled : {E T : Type 0} (x : E) (y : T) (e : ℕ) (s : ℕ) (to most : ℕ) (old new bytes : List ℕ) (before after : SourceView) → Placed {E = E} old new e to before after (Err x)
+    → s ≤ e → e ≤ length old → bytes ≡ take (e - s) (drop s old) → Filled {E = T} bytes (take (e - s) (drop s new)) before after most (Err y)
+not_filled {E} {T} x y e s to most old new bytes before after p le within is =
+    let moved : take (e - s) (drop s new) ≡ bytes
+    = ap (λ (l : List ℕ). take (e - s) (drop s l)) p.items
+    ∙ ap (λ (k : ℕ). take k (drop s (take e old ++ (p.part ++ drop to old)))) (omega arith)
+    ∙ placed_behind old p.part (drop to old) s e 0 le within (omega arith) ∙ append-nil (take (e - s) (drop s old)) ∙ sym is in
+    record {
+      told = ap (prepend_known bytes) (sym p.read.kept) ∙ ap (λ (l : List ℕ). prepend_known l after.left) (sym moved);
+      grew = tt;
+      ends = tt;
+      stays = tt;
+      kept = (moved, p.read.kept);
+      cause = record { later = p.read.cause.later; failed = p.read.cause.failed };
+      sure = p.read.sure;
+      succeeds = p.read.succeeds;
+      calm = p.read.calm;
+    }
+
+-- a part written back
+written : {E : Type 0} (e to len : ℕ) (items old new : List ℕ) (before after : SourceView) (result : Result ℕ E) → Placed {E = E} old new e to before after result
+    → e ≤ to → to ≤ length old → length old ≡ len → take len (new ++ drop (length new) items) ≡ new
+written e to len items old new before after result p ordered within all =
+    take_at new (drop (length new) items) len
+    (ap length p.items ∙ length-append (take e old) (p.part ++ drop to old)
+    ∙ omega (arith, p.long, ordered, within, all, length-take-le e old (omega (arith, ordered, within)), length-append p.part (drop to old), length-drop to old))
+
+pub filled_in : {E T : Type 0} (e : ℕ) (s : ℕ) (to most len n : ℕ) (items old new bytes : List ℕ) (before after : SourceView) → Placed {E = E} old new e to before after (Ok n)
+    → s ≤ e → e < to → to ≤ length old → length old ≡ len → to - e ≤ most → old ≡ items → bytes ≡ take (e - s) (drop s items)
+    → Filled {E = T} bytes (take (e + n - s) (drop s (take len (new ++ drop (length new) items)))) before after most (Ok n)
+filled_in {E} {T} e s to most len n items old new bytes before after p le some within all fits same is =
+    subst (λ (l : List ℕ). Filled {E = T} bytes (take (e + n - s) (drop s l)) before after most (Ok n)) (sym (written e to len items old new before after (Ok n) p (omega (arith, some)) within all))
+    (filled {E = E} {T = T} e s to most n old new bytes before after p le some within fits (is ∙ ap (λ (l : List ℕ). take (e - s) (drop s l)) (sym same)))
+
+pub not_filled_in : {E T : Type 0} (x : E) (y : T) (e : ℕ) (s : ℕ) (to most len : ℕ) (items old new bytes : List ℕ) (before after : SourceView)
+    → Placed {E = E} old new e to before after (Err x)
+    → s ≤ e → e ≤ to → to ≤ length old → length old ≡ len → old ≡ items → bytes ≡ take (e - s) (drop s items)
+    → Filled {E = T} bytes (take (e - s) (drop s (take len (new ++ drop (length new) items)))) before after most (Err y)
+not_filled_in {E} {T} x y e s to most len items old new bytes before after p le ordered within all same is =
+    subst (λ (l : List ℕ). Filled {E = T} bytes (take (e - s) (drop s l)) before after most (Err y)) (sym (written e to len items old new before after (Err x) p ordered within all))
+    (not_filled {E = E} {T = T} x y e s to most old new bytes before after p le (omega (arith, ordered, within)) (is ∙ ap (λ (l : List ℕ). take (e - s) (drop s l)) (sym same)))

@@ -1,0 +1,9 @@
+-- What appending bytes to a vector with room for them does.
+use Rattle.std.specs.Prelude.{◌≡◌, ℕ, ◌≤◌, ◌+◌, List, ◌++◌, length, Vec, vec_len, vec_capacity}
+use Rattle.std.specs.declared.alloc.Global.{Global}
+
+-- the bytes went to the end, into room that was there
+pub record Puts (old new : Vec ℕ Global) (bytes : List ℕ) : Type 0 where
+  pub items : new.items ≡ old.items ++ bytes
+  pub len : vec_len new ≡ vec_len old + length bytes
+  pub capacity : vec_capacity old ≤ vec_capacity new

@@ -1,0 +1,9 @@
+pub mod Formats
+pub mod Firsts
+pub mod Encoded
+pub mod Laws
+pub mod Windows
+pub mod Refills
+pub mod Readers
+pub mod Steps
+pub mod Streams

@@ -1,0 +1,16 @@
+/// Why no operation was given. Places are counted from 0 in the stream.
+///
+/// After any of these but `NoMemory` the reader answers the same for good.
+#[derive(Clone, Copy, Debug, PartialEq, Eq)]
+pub enum FrameFault {
+    /// No frame stands at the place, and the bytes there begin none.
+    BadFrame(u64),
+    /// The stream ended within the frame at the place.
+    CutShort(u64),
+    /// The source failed.
+    ReadFault,
+    /// The stream goes on past the limit.
+    TooLong,
+    /// The reader stands before the same frame.
+    NoMemory,
+}

@@ -1,0 +1,80 @@
+ghost use Rattle.std.specs.Prelude.{◌≡◌, [], Some, None, IfOk, IfSome};
+ghost use Rattle.op_frame.specs.Readers.{Nexts, Faults};
+
+use crate::FrameFault;
+use crate::step::take_next;
+use crate::unread::Unread;
+use fugue_ids::{NoMemory, Op};
+use outer_ports::Source;
+use std::alloc::Global;
+use std::marker::Model;
+
+/// Reads the operations of a stream, of which it takes at most `limit` bytes.
+#[derive(Drop)]
+pub struct FrameReader {
+    alloc: Global,
+    limit: u64,
+    unread: Unread,
+    place: u64,
+    last: u64,
+    fault: Option<FrameFault>,
+}
+
+impl Model for FrameReader {
+    ghost use Rattle.std.specs.Prelude.{◌≡◌, ◌≤◌, ◌+◌, length, IfSome, Some};
+    ghost use Rattle.op_frame.specs.Readers.{Reading, kept_fault};
+
+    ghost Value = { Reading };
+
+    ghost view = { λ r. record { limit = r.limit; unread = r.unread.bytes; place = r.place; last = r.last; fault = r.fault } };
+
+    ghost invariant = { λ r. (r.place + length r.unread.bytes ≤ r.limit) × IfSome r.fault (λ f. kept_fault f ≡ Some f) };
+}
+
+impl FrameReader {
+    pub fn new(alloc: Global, limit: u64) -> Result<FrameReader, NoMemory>
+        ensures { IfOk result (λ reader. reader ≡ record { limit = limit; unread = []; place = 0; last = 0; fault = None }) }
+    {
+        Ok(FrameReader {
+            alloc,
+            limit,
+            unread: Unread::new(alloc)?,
+            place: 0,
+            last: 0,
+            fault: None,
+        })
+    }
+
+    /// The place of the first byte of the frame that was last given, 0 before the first.
+    pub fn last_at(&self) -> u64
+        ensures { result ≡ self.now.last }
+    {
+        self.last
+    }
+
+    /// The next operation. None comes at the end of the stream.
+    pub fn next<S: Source>(&mut self, source: &mut S) -> Result<Option<Op>, FrameFault>
+        ensures nexts { self.old.fault ≡ None → Nexts self.old self.new (S.seen source.old) (S.seen source.new) result }
+        ensures repeats { IfSome self.old.fault (λ fault. (result ≡ Err fault) × (self.new ≡ self.old) × (source.new ≡ source.old)) }
+        ensures faults { Faults (S.seen source.old) (S.seen source.new) self.old.fault result }
+    {
+        if let Some(fault) = self.fault {
+            return Err(fault);
+        }
+        let room = self.limit - self.place;
+        match take_next(self.alloc, &mut self.unread, self.place, room, source) {
+            Ok(None) => Ok(None),
+            Ok(Some((op, len))) => {
+                self.last = self.place;
+                self.place += len as u64;
+                Ok(Some(op))
+            }
+            Err(fault) => {
+                if fault != FrameFault::NoMemory {
+                    self.fault = Some(fault);
+                }
+                Err(fault)
+            }
+        }
+    }
+}

@@ -1,0 +1,9 @@
+/// Why nothing was read from the front of some bytes.
+#[derive(Clone, Copy, Debug, PartialEq, Eq)]
+pub(crate) enum Stop {
+    /// More bytes may still make it readable.
+    Prefix,
+    /// No more bytes can make it readable.
+    Bad,
+    NoMemory,
+}
