@@ -1,0 +1,5 @@
+pub mod Children
+pub mod NodeMaps
+pub mod Sides
+pub mod Siblings
+pub mod Trees

@@ -1,0 +1,19 @@
+ghost use Rattle.std.specs.Prelude.{◌≡◌, Some, slice_get};
+ghost use Rattle.origin_model.specs.Laws.{In};
+
+use fugue_ids::ElementId;
+
+/// The last position of an identifier that the list has.
+pub(crate) fn last_position(ids: &[ElementId], id: ElementId) -> usize
+    requires { In id ids.now }
+    ensures { slice_get ids.now result ≡ Some id }
+{
+    let mut at = ids.len();
+    'back: while at > 0 {
+        at -= 1;
+        if ids[at] == id {
+            return at;
+        }
+    }
+    at
+}
