@@ -1,0 +1,36 @@
+use Rattle.std.proofs.Common.{List, ap, refl, subst, sym, true, ◌∙◌, ◌≡◌}
+use Rattle.std.specs.Prelude.{map}
+use Rattle.fugue_ids.specs.Identifiers.{Identifier}
+use Rattle.fugue_ids.specs.Listed.{IsListed}
+use Rattle.origin_model.specs.Nodes.{as_ops, has_node, node_order}
+use Rattle.origin_model.specs.declared.place.Place.TheVariants.{Catalogue}
+use Rattle.section_list.specs.Cells.{AreDistinct, ids, is_hidden, without}
+use Rattle.section_list.proofs.Hiding.{hidden_again, ids-without}
+use Rattle.section_list.proofs.place.SectionList.hide.Goals as goal
+
+pub hide-requires : goal.hide-requires
+hide-requires c = record {
+  held = subst (λ xs. IsListed xs c.args.id) (sym c.self.invariant.in_order)
+      ((c.nodes_are_history.ensures.listed c.self.inside.tree c.self.invariant.are_nodes c.args.id).0 (ap (λ s. has_node s.nodes c.args.id) c.self.view_is ∙ c.requires));
+  distinct = subst AreDistinct (sym c.self.invariant.in_order)
+      ((c.order_total.ensures Catalogue (as_ops c.self.inside.tree) ((c.nodes_are_history.ensures.lawful c.self.inside.tree).0 c.self.invariant.are_nodes)).once);
+}
+
+pub invariant_of-self : goal.invariant_of-self
+invariant_of-self c = record {
+  are_nodes = c.self.invariant.are_nodes;
+  in_order = ap ids c.hide.ensures ∙ ids-without c.args.id c.self.inside.cells ∙ c.self.invariant.in_order;
+}
+
+pub returns-clause-again : goal.returns-clause-again
+returns-clause-again c again =
+    let distinct = subst AreDistinct (sym c.self.invariant.in_order)
+    ((c.order_total.ensures Catalogue (as_ops c.self.inside.tree) ((c.nodes_are_history.ensures.lawful c.self.inside.tree).0 c.self.invariant.are_nodes)).once) in
+    let e = hidden_again c.args.id c.self.inside.cells distinct (ap (λ s. is_hidden s.cells c.args.id) c.self.view_is ∙ again) in
+    (λ i. record { nodes = c.self.inside.tree; cells = (c.hide.ensures ∙ e) i }) ∙ c.self.view_is
+
+pub returns-clause-in_order : goal.returns-clause-in_order
+returns-clause-in_order c = record {
+  are_nodes = c.self.invariant.are_nodes;
+  in_order = ap ids c.hide.ensures ∙ ids-without c.args.id c.self.inside.cells ∙ c.self.invariant.in_order;
+}
