@@ -1,0 +1,3 @@
+pub mod Waiting
+pub mod Faults
+pub mod Greatest

@@ -1,0 +1,113 @@
+ghost use Rattle.std.specs.Prelude.{◌≡◌, ◌↔◌, ◌<◌, ◌≤◌, ◌++◌, ◌∷◌, [], true, false, length, position as first_place, remove as without, slice_get, OnOk, OnErr, IfErr};
+ghost use Rattle.fugue_ids.specs.Ops.{id_of};
+ghost use Rattle.origin_model.specs.Ops.{has_op};
+ghost use Rattle.origin_model.specs.Verdict.{id_held, verdict};
+ghost use Rattle.origin_model.specs.Taking.{is_decided as decides};
+ghost use Rattle.origin_model.specs.Counters.{counters, IsGreatest};
+ghost use Rattle.causal_inbox.specs.Faults.{refused};
+
+use crate::greatest::greatest_counter;
+use crate::lookup::{contains_id, contains_op};
+use crate::{Facts, Found, PushFault};
+use fugue_ids::Op;
+use origin_model::Verdict;
+use std::alloc::Global;
+use std::marker::Model;
+
+/// The waiting operations, in the order in which they came, and how many may wait.
+#[derive(Drop)]
+pub struct Inbox {
+    ops: Vec<Op>,
+    hold: u32,
+}
+
+impl Model for Inbox {
+    ghost use Rattle.std.specs.Prelude.{◌≤◌, length};
+    ghost use Rattle.causal_inbox.specs.Waiting.{Waiting};
+
+    ghost Value = { Waiting };
+
+    ghost view = { λ inbox. record { ops = inbox.ops.items; hold = inbox.hold } };
+
+    ghost invariant = { λ inbox. length inbox.ops.items ≤ inbox.hold };
+}
+
+impl Inbox {
+    pub fn new(alloc: Global, hold: u32) -> Inbox
+        ensures { result ≡ record { ops = []; hold = hold } }
+    {
+        Inbox {
+            ops: Vec::new(alloc),
+            hold,
+        }
+    }
+
+    pub fn find(&self, op: &Op) -> Found
+        ensures same { (result ≡ Found.Same) ↔ (has_op self.now.ops op.now ≡ true) }
+        ensures clash { (result ≡ Found.Clash)
+            ↔ ((has_op self.now.ops op.now ≡ false) × (id_held self.now.ops (id_of op.now) ≡ true)) }
+        ensures absent { (result ≡ Found.Absent)
+            ↔ ((has_op self.now.ops op.now ≡ false) × (id_held self.now.ops (id_of op.now) ≡ false)) }
+    {
+        if contains_op(self.ops.as_slice(), op) {
+            Found::Same
+        } else if contains_id(self.ops.as_slice(), op.id()) {
+            Found::Clash
+        } else {
+            Found::Absent
+        }
+    }
+
+    pub fn push(&mut self, op: Op) -> Result<(), PushFault>
+        ensures ok { OnOk result (self.new ≡ record self.old { ops = self.old.ops ++ op ∷ [] }) }
+        ensures full { (result ≡ Err (PushFault.Full op)) ↔ (length self.old.ops ≡ self.old.hold) }
+        ensures err { OnErr result (self.new ≡ self.old) }
+        ensures handed_back { IfErr result (λ fault. refused fault ≡ op) }
+        ensures within { length self.new.ops ≤ self.new.hold }
+    {
+        if self.ops.len() >= self.hold as usize {
+            return Err(PushFault::Full(op));
+        }
+        match self.ops.push(op) {
+            Ok(()) => Ok(()),
+            Err(refused) => Err(PushFault::NoMemory(refused.value)),
+        }
+    }
+
+    /// The first place of an operation that can be accepted or is stray.
+    pub fn next_decidable<F: Facts>(&self, facts: &F) -> Option<usize>
+        ensures { result ≡ first_place (λ op. decides (verdict (F.history facts.now) op)) self.now.ops }
+    {
+        self.ops.iter().position(|op| is_decided(facts.verdict(op)))
+    }
+
+    /// Those behind it close up.
+    pub fn remove(&mut self, position: usize) -> Op
+        requires { position < length self.old.ops }
+        ensures op { slice_get self.old.ops position ≡ Some result }
+        ensures rest { self.new ≡ record self.old { ops = without self.old.ops position } }
+        ensures within { length self.new.ops ≤ self.new.hold }
+    {
+        self.ops.remove(position)
+    }
+
+    /// The greatest counter of the replica among the identifiers that waiting operations have or name.
+    pub fn greatest(&self, replica: u32) -> Option<u32>
+        ensures { IsGreatest (counters replica self.now.ops) result }
+    {
+        greatest_counter(self.ops.as_slice(), replica)
+    }
+
+    pub fn ops(&self) -> &[Op]
+        ensures ops { result.now ≡ self.now.ops }
+        ensures within { length self.now.ops ≤ self.now.hold }
+    {
+        self.ops.as_slice()
+    }
+}
+
+fn is_decided(verdict: Verdict) -> bool
+    ensures { result ≡ decides verdict }
+{
+    matches!(verdict, Verdict::Ready | Verdict::Stray(_))
+}

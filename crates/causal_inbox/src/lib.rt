@@ -1,0 +1,17 @@
+//! The operations that wait until those that they rest on are accepted.
+#![tactic(auto)]
+
+mod facts;
+mod found;
+mod greatest;
+mod inbox;
+mod lookup;
+mod push_fault;
+
+pub use facts::Facts;
+pub use found::Found;
+pub use inbox::Inbox;
+pub use push_fault::PushFault;
+
+#[cfg(test)]
+mod tests;
