@@ -1,0 +1,54 @@
+-- A replica, as contracts see it, and what is so of every replica.
+use Rattle.std.specs.Prelude.{◌≡◌, ◌≢◌, ℕ, ◌<◌, ◌≤◌, ◌+◌, ◌⊎◌, Some, List, ◌++◌, length, AllPairs}
+use Rattle.fugue_ids.specs.Identifiers.{Identifier}
+use Rattle.fugue_ids.specs.Ops.{id_of}
+use Rattle.fugue_ids.specs.declared.op.Op.{Op}
+use Rattle.origin_model.specs.Verdict.{Lawful}
+use Rattle.origin_model.specs.Taking.{Held}
+use Rattle.origin_model.specs.declared.verdict.Verdict.{Verdict}
+use Rattle.origin_model.specs.declared.verdict.Verdict.TheVariants.{Again, Conflict}
+
+pub record State : Type 0 where
+  -- the replica's own number
+  pub number : ℕ
+  -- how many operations may wait
+  pub hold : ℕ
+  -- how many may be accepted or wait
+  pub most : ℕ
+  pub held : Held
+
+-- the number is from 1 to the greatest
+abbrev pub IsWithin : ℕ → ℕ → Type 0
+IsWithin greatest n = (0 < n) × (n ≤ greatest)
+
+-- the number is not from 1 to the greatest
+abbrev pub IsOutside : ℕ → ℕ → Type 0
+IsOutside greatest n = (n ≡ 0) ⊎ (greatest < n)
+
+-- the accepted and the waiting operations
+abbrev pub all_ops : Held → List Op
+all_ops held = held.history ++ held.waiting
+
+-- the operations have no identifier in common
+abbrev pub HaveOtherIds : Op → Op → Type 0
+HaveOtherIds a b = (i : Identifier) → id_of a ≡ Some i → id_of b ≢ Some i
+
+-- neither the operation nor another with its identifier is accepted
+abbrev pub IsOpen : Verdict → Type 0
+IsOpen Again = ⊥
+IsOpen Conflict = ⊥
+IsOpen _ = Unit {0}
+
+-- what is so of every replica
+pub record Stands (s : State) : Type 0 where
+  pub some_number : 0 < s.number
+  pub hold_within : IsWithin 1048576 s.hold
+  pub most_within : IsWithin 4194304 s.most
+  -- each accepted operation was Ready when it came
+  pub lawful : Lawful s.held.history
+  -- no operation is there twice
+  pub once : AllPairs (λ a b. a ≢ b) (all_ops s.held)
+  -- no two have one identifier
+  pub own_ids : AllPairs HaveOtherIds (all_ops s.held)
+  pub few_wait : length s.held.waiting ≤ s.hold
+  pub few : length s.held.history + length s.held.waiting ≤ s.most

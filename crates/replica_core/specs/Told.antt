@@ -1,0 +1,63 @@
+-- What the answers of a replica say.
+use Rattle.std.specs.Prelude.{◌≡◌, ℕ, ◌<◌, ◌+◌, ◌^◌, ◌∷◌, Bool, true, false, ◌⊎◌, Option, Some, None, Result, Ok, Err}
+use Rattle.fugue_ids.specs.declared.op.Op.{Op}
+use Rattle.origin_model.specs.declared.tally.Tally.{Tally}
+use Rattle.origin_model.specs.Taking.{Held, Answer, Again, Conflict, Stray, TooMany, Accepted, Full, Waits, answer, taken, is_kept, settle_step, earliest, settle, intake, answer_counted, settling_counted}
+use Rattle.replica_core.specs.declared.taken.Taken.{Taken}
+use Rattle.replica_core.specs.declared.taken.Taken.TheVariants.{Accepted as TakenAccepted, Waits as TakenWaits, Again as TakenAgain}
+use Rattle.replica_core.specs.declared.settled.Settled.{Settled}
+use Rattle.replica_core.specs.declared.settled.Settled.TheVariants.{Accepted as SettledAccepted, DroppedStray}
+use Rattle.replica_core.specs.declared.deliver_fault.DeliverFault.{DeliverFault}
+use Rattle.replica_core.specs.declared.deliver_fault.DeliverFault.TheVariants.{Conflict as RefusedConflict, Stray as RefusedStray, Full as RefusedFull, TooMany as RefusedTooMany, NoMemory}
+use Rattle.replica_core.specs.declared.feed_fault.FeedFault.{FeedFault}
+use Rattle.replica_core.specs.declared.feed_fault.FeedFault.TheVariants.{TooMany as FedTooMany, NoMemory as FedNoMemory}
+use Rattle.replica_core.specs.Settling.{IsSettled, Reaches}
+use Rattle.replica_core.specs.State.{State}
+
+-- a delivery tells its answer, and a refusal hands the operation back: want of memory comes only where it would be kept
+abbrev pub Answers : (hold most : ℕ) → Op → Answer → Result Taken DeliverFault → Type 0
+Answers hold most op a (Ok TakenAccepted) = a ≡ Accepted
+Answers hold most op a (Ok TakenWaits) = a ≡ Waits
+Answers hold most op a (Ok TakenAgain) = a ≡ Again
+Answers hold most op a (Err (RefusedConflict back)) = (a ≡ Conflict) × (back ≡ op)
+Answers hold most op a (Err (RefusedStray back i)) = (a ≡ Stray i) × (back ≡ op)
+Answers hold most op a (Err (RefusedFull back limit)) = (a ≡ Full) × (back ≡ op) × (limit ≡ hold)
+Answers hold most op a (Err (RefusedTooMany back limit)) = (a ≡ TooMany) × (back ≡ op) × (limit ≡ most)
+Answers hold most op a (Err (NoMemory back)) = (is_kept a ≡ true) × (back ≡ op)
+
+-- the earliest decided operation left the waiting ones, or there was none
+abbrev pub Settles : Held → Held → Option Settled → Type 0
+Settles old new None = IsSettled old × (new ≡ old)
+Settles old new (Some (SettledAccepted op)) =
+    (settle_step old ≡ Some new) × (earliest old.history old.waiting ≡ Some (op, new.waiting)) × (new.history ≡ op ∷ old.history)
+Settles old new (Some (DroppedStray op)) =
+    (settle_step old ≡ Some new) × (earliest old.history old.waiting ≡ Some (op, new.waiting)) × (new.history ≡ old.history)
+
+-- each number of the tally is below 2,147,483,648
+pub record StaysBelow (tally : Tally) : Type 0 where
+  pub accepted : tally.accepted < 2 ^ 31
+  pub repeated : tally.repeated < 2 ^ 31
+  pub conflict : tally.conflict < 2 ^ 31
+  pub stray : tally.stray < 2 ^ 31
+  pub full : tally.full < 2 ^ 31
+
+-- how many operations the tally counts
+abbrev pub total : Tally → ℕ
+total tally = tally.accepted + tally.repeated + tally.conflict + tally.stray + tally.full
+
+-- the operation stands and settling stopped on its way: the tally counts what stands, and what is left of settling ends where all of it would have ended
+pub record StandsPartly (hold most : ℕ) (old new : Held) (op : Op) (before after : Tally) : Type 0 where
+  pub steps : Reaches (taken (answer hold most old op) old op) new
+  pub counted : after ≡ settling_counted (taken (answer hold most old op) old op) new (answer_counted (answer hold most old op) before)
+  pub goes_on : settle new ≡ intake hold most old op
+
+-- what a fault of `feed` leaves: want of memory comes only where the operation would be kept
+abbrev pub Leaves : (old new : State) → Op → (before after : Tally) → FeedFault → Type 0
+Leaves old new op before after (FedTooMany limit) = (limit ≡ old.most) × (new ≡ old) × (after ≡ before)
+Leaves old new op before after FedNoMemory =
+    (is_kept (answer old.hold old.most old.held op) ≡ true) × (new ≡ record old { held = new.held }) × (((new ≡ old) × (after ≡ before)) ⊎ StandsPartly old.hold old.most old.held new.held op before after)
+
+-- a step that is counted, or there was none
+abbrev pub IsCounted : (old new : Held) → (before after : Tally) → Bool → Type 0
+IsCounted old new before after true = (settle_step old ≡ Some new) × (after ≡ settling_counted old new before)
+IsCounted old new before after false = IsSettled old × (new ≡ old) × (after ≡ before)

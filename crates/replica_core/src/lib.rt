@@ -1,0 +1,21 @@
+//! A replica: operations are delivered to it in any order, and wait until what they rest on is accepted.
+#![tactic(auto)]
+
+mod decision;
+mod deliver_fault;
+mod feed_fault;
+mod new_fault;
+mod replica;
+mod settled;
+mod taken;
+
+pub use deliver_fault::DeliverFault;
+pub use feed_fault::FeedFault;
+pub use new_fault::NewFault;
+pub use origin_model::Tally;
+pub use replica::Replica;
+pub use settled::Settled;
+pub use taken::Taken;
+
+#[cfg(test)]
+mod tests;

@@ -1,0 +1,287 @@
+ghost use Rattle.std.specs.Prelude.{◌≡◌, ◌≢◌, ◌↔◌, ◌<◌, ◌≤◌, ◌+◌, ◌-◌, ◌^◌, ◌==◌, length, IsTrue, IfOk, OnOk, OnErr, IfErr, All};
+ghost use Rattle.fugue_ids.specs.Outs.{WritesText};
+ghost use Rattle.origin_model.specs.Ops.{accepted as accepted_list};
+ghost use Rattle.origin_model.specs.Verdict.{verdict as verdict_on};
+ghost use Rattle.origin_model.specs.Printed.{manuscript};
+ghost use Rattle.origin_model.specs.Taking.{nothing, answer, taken, TooMany, intake, settling_counted, intake_counted, is_kept};
+ghost use Rattle.replica_core.specs.State.{IsOpen, IsOutside, IsWithin, Stands};
+ghost use Rattle.replica_core.specs.Decided.{answer_by_decision};
+ghost use Rattle.replica_core.specs.Settling.{IsSettled, Reaches};
+ghost use Rattle.replica_core.specs.Told.{Answers, Settles, StaysBelow, total, Leaves, IsCounted};
+
+use crate::decision::{Decision, decide};
+use crate::{DeliverFault, FeedFault, NewFault, Settled, Taken};
+use causal_inbox::{Inbox, PushFault};
+use fugue_ids::{Failed, NoMemory, Op};
+use origin_model::{PlainReplica, Tally, Verdict};
+use outer_ports::Sink;
+use std::alloc::Global;
+use std::marker::Model;
+
+/// The most that may wait in any replica.
+const GREATEST_HOLD: u32 = 1_048_576;
+
+/// The most that may be accepted or wait in any replica.
+const GREATEST_MOST: u32 = 4_194_304;
+
+/// One author's replica of the manuscript: the accepted operations, and those that wait for others.
+#[derive(Drop)]
+pub struct Replica {
+    alloc: Global,
+    number: u32,
+    hold: u32,
+    most: u32,
+    accepted: PlainReplica,
+    inbox: Inbox,
+}
+
+impl Model for Replica {
+    ghost use Rattle.std.specs.Prelude.{◌≡◌};
+    ghost use Rattle.replica_core.specs.State.{State, Stands};
+
+    ghost Value = { State };
+
+    ghost view = { λ replica. record {
+      number = replica.number;
+      hold = replica.hold;
+      most = replica.most;
+      held = record { history = replica.accepted; waiting = replica.inbox.ops };
+    } };
+
+    ghost invariant = { λ replica. record {
+      same_hold : replica.inbox.hold ≡ replica.hold;
+      stands : Stands (record {
+        number = replica.number;
+        hold = replica.hold;
+        most = replica.most;
+        held = record { history = replica.accepted; waiting = replica.inbox.ops };
+      });
+    } };
+}
+
+impl Replica {
+    /// A replica that holds nothing. It takes no memory.
+    pub fn new(alloc: Global, replica: u32, hold: u32, most: u32) -> Result<Replica, NewFault>
+        ensures ok { IfOk result (λ made. made ≡ record { number = replica; hold = hold; most = most; held = nothing }) }
+        ensures zero_replica { (result ≡ Err NewFault.ZeroReplica) ↔ (replica ≡ 0) }
+        ensures bad_hold { (result ≡ Err NewFault.BadHold) ↔ ((replica ≢ 0) × IsOutside 1048576 hold) }
+        ensures bad_most { (result ≡ Err NewFault.BadMost)
+            ↔ ((replica ≢ 0) × IsWithin 1048576 hold × IsOutside 4194304 most) }
+    {
+        if replica == 0 {
+            return Err(NewFault::ZeroReplica);
+        }
+        if hold == 0 || hold > GREATEST_HOLD {
+            return Err(NewFault::BadHold);
+        }
+        if most == 0 || most > GREATEST_MOST {
+            return Err(NewFault::BadMost);
+        }
+        Ok(Replica {
+            alloc,
+            number: replica,
+            hold,
+            most,
+            accepted: PlainReplica::new(alloc),
+            inbox: Inbox::new(alloc, hold),
+        })
+    }
+
+    /// What an operation is against the accepted ones.
+    pub fn verdict(&self, op: &Op) -> Verdict
+        ensures { result ≡ verdict_on self.now.held.history op.now }
+    {
+        self.accepted.verdict(op)
+    }
+
+    /// Whether nothing that waits can be accepted or is stray.
+    pub fn is_settled(&self) -> bool
+        ensures { IsTrue result ↔ IsSettled self.now.held }
+    {
+        self.inbox.next_decidable(&self.accepted).is_none()
+    }
+
+    pub fn number(&self) -> u32
+        ensures { result ≡ self.now.number }
+    {
+        self.number
+    }
+
+    /// How many may wait.
+    pub fn hold(&self) -> u32
+        ensures { result ≡ self.now.hold }
+    {
+        self.hold
+    }
+
+    /// The accepted operations, in the order in which they were accepted.
+    pub fn accepted(&self) -> &[Op]
+        ensures accepted { result.now ≡ accepted_list self.now.held.history }
+        ensures stands { Stands self.now }
+    {
+        self.accepted.ops()
+    }
+
+    /// The waiting operations, in the order in which they came.
+    pub fn waiting(&self) -> &[Op]
+        ensures waiting { result.now ≡ self.now.held.waiting }
+        ensures not_accepted { All (λ op. IsOpen (verdict_on self.now.held.history op)) self.now.held.waiting }
+        ensures stands { Stands self.now }
+    {
+        self.inbox.ops()
+    }
+
+    /// Writes the sections that are shown, each with its title and its text.
+    pub fn write_manuscript<O: Sink>(&self, output: &mut O) -> Result<(), Failed>
+        ensures { WritesText (O.seen output.old) (O.seen output.new) result (manuscript self.now.held.history) }
+    {
+        self.accepted.print_into(output)
+    }
+
+    fn decision_on(&self, op: &Op) -> Decision
+        ensures { answer self.now.hold self.now.most self.now.held op.now
+            ≡ answer_by_decision (length self.now.held.waiting == self.now.hold) result }
+    {
+        let held = self.accepted.ops().len() + self.inbox.ops().len();
+        let at_most = held == self.most as usize;
+        decide(self.inbox.find(op), self.accepted.verdict(op), at_most)
+    }
+
+    /// Takes one operation in, and leaves what waits as it is.
+    pub fn deliver(&mut self, op: Op) -> Result<Taken, DeliverFault>
+        requires { IsSettled self.old.held }
+        ensures answer { Answers self.old.hold self.old.most op (answer self.old.hold self.old.most self.old.held op) result }
+        ensures ok { OnOk result (self.new ≡ record self.old {
+          held = taken (answer self.old.hold self.old.most self.old.held op) self.old.held op;
+        }) }
+        ensures err { OnErr result (self.new ≡ self.old) }
+        ensures stands { Stands self.new }
+    {
+        match self.decision_on(&op) {
+            Decision::Again => Ok(Taken::Again),
+            Decision::Conflict => Err(DeliverFault::Conflict(op)),
+            Decision::Stray(id) => Err(DeliverFault::Stray(op, id)),
+            Decision::TooMany => Err(DeliverFault::TooMany(op, self.most)),
+            Decision::Ready => match self.accepted.accept(op) {
+                Ok(()) => Ok(Taken::Accepted),
+                Err(refused) => Err(DeliverFault::NoMemory(refused.op)),
+            },
+            Decision::Missing => match self.inbox.push(op) {
+                Ok(()) => Ok(Taken::Waits),
+                Err(PushFault::Full(op)) => Err(DeliverFault::Full(op, self.hold)),
+                Err(PushFault::NoMemory(op)) => Err(DeliverFault::NoMemory(op)),
+            },
+        }
+    }
+
+    /// Lets the earliest waiting operation that can be accepted or is stray leave: None is the answer where there is none.
+    pub fn settle_one(&mut self) -> Result<Option<Settled>, NoMemory>
+        ensures step { IfOk result (λ settled. Settles self.old.held self.new.held settled) }
+        ensures others { self.new ≡ record self.old { held = self.new.held } }
+        ensures err { OnErr result (self.new ≡ self.old) }
+        ensures stands { Stands self.new }
+    {
+        let Some(position) = self.inbox.next_decidable(&self.accepted) else {
+            return Ok(None);
+        };
+        let op = &self.inbox.ops()[position];
+        match self.accepted.verdict(op) {
+            Verdict::Ready => {
+                let copy = op.clone_in(self.alloc)?;
+                let Ok(()) = self.accepted.accept(copy) else {
+                    return Err(NoMemory);
+                };
+                Ok(Some(Settled::Accepted(self.inbox.remove(position))))
+            }
+            _ => Ok(Some(Settled::DroppedStray(self.inbox.remove(position)))),
+        }
+    }
+
+    /// Delivers the operation, settles to the end and counts: the answer is whether it was accepted or waits.
+    ///
+    /// Refusals are counted and are no faults, but for one where as many are there as may.
+    pub fn feed(&mut self, op: Op, tally: &mut Tally) -> Result<bool, FeedFault>
+        requires settled { IsSettled self.old.held }
+        requires counts_rise { StaysBelow tally.old }
+        ensures held { OnOk result (self.new ≡ record self.old {
+          held = intake self.old.hold self.old.most self.old.held op;
+        }) }
+        ensures tally { OnOk result (tally.new
+            ≡ intake_counted self.old.hold self.old.most self.old.held op tally.old) }
+        ensures kept { IfOk result (λ kept. kept
+            ≡ is_kept (answer self.old.hold self.old.most self.old.held op)) }
+        ensures settled { OnOk result (IsSettled self.new.held) }
+        ensures once { OnOk result (total tally.new + length self.new.held.waiting
+            ≡ total tally.old + length self.old.held.waiting + 1) }
+        ensures too_many { (result ≡ Err (FeedFault.TooMany self.old.most))
+            ↔ (answer self.old.hold self.old.most self.old.held op ≡ TooMany) }
+        ensures err { IfErr result (λ fault. Leaves self.old self.new op tally.old tally.new fault) }
+        ensures stands { Stands self.new }
+    {
+        match self.deliver(op) {
+            Ok(Taken::Accepted) => {
+                tally.accepted += 1;
+                match self.settle(tally) {
+                    Ok(()) => Ok(true),
+                    Err(NoMemory) => Err(FeedFault::NoMemory),
+                }
+            }
+            Ok(Taken::Waits) => Ok(true),
+            Ok(Taken::Again) => {
+                tally.repeated += 1;
+                Ok(false)
+            }
+            Err(DeliverFault::Conflict(_op)) => {
+                tally.conflict += 1;
+                Ok(false)
+            }
+            Err(DeliverFault::Stray(_op, _id)) => {
+                tally.stray += 1;
+                Ok(false)
+            }
+            Err(DeliverFault::Full(_op, _hold)) => {
+                tally.full += 1;
+                Ok(false)
+            }
+            Err(DeliverFault::TooMany(_op, most)) => Err(FeedFault::TooMany(most)),
+            Err(DeliverFault::NoMemory(_op)) => Err(FeedFault::NoMemory),
+        }
+    }
+
+    /// Settles to the end, or as far as memory lasts.
+    fn settle(&mut self, tally: &mut Tally) -> Result<(), NoMemory>
+        requires stands { Stands self.old }
+        requires accepted { tally.old.accepted ≤ 2 ^ 31 }
+        requires stray { tally.old.stray < 2 ^ 31 }
+        ensures ok { OnOk result (IsSettled self.new.held) }
+        ensures steps { Reaches self.old.held self.new.held }
+        ensures tally { tally.new ≡ settling_counted self.old.held self.new.held tally.old }
+        ensures others { self.new ≡ record self.old { held = self.new.held } }
+        ensures stands { Stands self.new }
+    {
+        while self.settle_counted(tally)? {}
+        Ok(())
+    }
+
+    /// One step of settling, counted: the answer is whether there was one.
+    fn settle_counted(&mut self, tally: &mut Tally) -> Result<bool, NoMemory>
+        requires accepted { tally.old.accepted < 2 ^ 32 - 1 }
+        requires stray { tally.old.stray < 2 ^ 32 - 1 }
+        ensures step { IfOk result (λ more. IsCounted self.old.held self.new.held tally.old tally.new more) }
+        ensures others { self.new ≡ record self.old { held = self.new.held } }
+        ensures err { OnErr result ((self.new ≡ self.old) × (tally.new ≡ tally.old)) }
+        ensures stands { Stands self.new }
+    {
+        match self.settle_one()? {
+            Some(Settled::Accepted(_op)) => {
+                tally.accepted += 1;
+                Ok(true)
+            }
+            Some(Settled::DroppedStray(_op)) => {
+                tally.stray += 1;
+                Ok(true)
+            }
+            None => Ok(false),
+        }
+    }
+}
