@@ -1,0 +1,10 @@
+pub mod Numbers
+pub mod Commands
+pub mod Statuses
+pub mod Refusals
+pub mod Counts
+pub mod Courses
+pub mod Shows
+pub mod Headline
+pub mod Prints
+pub mod Intakes

@@ -1,0 +1,31 @@
+ghost use Rattle.std.specs.Prelude.{◌≡◌};
+ghost use Rattle.manuscript_cli.specs.Statuses.{code_of};
+
+/// How a command ended.
+#[derive(Clone, Copy, Debug, PartialEq, Eq)]
+pub enum Status {
+    /// All was done.
+    Done,
+    /// The words are those of no command.
+    Usage,
+    /// The input is not what it has to be: its first fault is told.
+    BadInput,
+    /// All was done, and some operation waits or was refused.
+    Partial,
+    /// The outside failed: a stream, a file or a socket.
+    OutsideFault,
+    NoMemory,
+    /// A file is no replica, or not whole.
+    BadFile,
+    /// A limit of the program was met.
+    Limit,
+}
+
+impl Status {
+    /// The exit status of the process.
+    pub fn code(self) -> u8
+        ensures { result ≡ code_of self }
+    {
+        self as u8
+    }
+}
