@@ -1,3 +1,5 @@
-pub mod Lookups
 pub mod Maxima
-pub mod Earliest
+pub mod Keys
+pub mod Ages
+pub mod Indexes
+pub mod Findings

@@ -1,6 +1,6 @@
 -- The greatest of numbers that are gone through one after another.
-use Rattle.std.proofs.Common.{◌≡◌, refl, sym, subst, ap, ℕ, zero, suc, ◌≤◌, List, [], ◌∷◌, max, arith, inl, inr, ◌⊎◌}
-use Rattle.std.specs.Prelude.{Option, Some, None, All, Contains}
+use Rattle.std.proofs.Common.{◌≡◌, refl, sym, subst, ℕ, suc, ◌≤◌, List, [], ◌∷◌, max, arith, inl, inr, ◌⊎◌}
+use Rattle.std.specs.Prelude.{Some, None, All, Contains}
 use Rattle.std.proofs.lemmas.List.Elements.{All-cons}
 use Rattle.origin_model.specs.Counters.{IsGreatest}
 use Rattle.causal_inbox.specs.Greatest.{greatest_from}

@@ -1,3 +1,9 @@
 pub mod Waiting
 pub mod Faults
 pub mod Greatest
+pub mod Positions
+pub mod Naming
+pub mod Keys
+pub mod Places
+pub mod Ages
+pub mod Lists

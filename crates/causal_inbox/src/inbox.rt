@@ -5,11 +5,13 @@ ghost use Rattle.origin_model.specs.Verdict.{id_held, verdict};
 ghost use Rattle.origin_model.specs.Taking.{is_decided as decides};
 ghost use Rattle.origin_model.specs.Counters.{counters, IsGreatest};
 ghost use Rattle.causal_inbox.specs.Faults.{refused};
+ghost use Rattle.causal_inbox.specs.Naming.{naming};
 
 use crate::greatest::greatest_counter;
-use crate::lookup::{contains_id, contains_op};
+use crate::index::Index;
+use crate::key::Key;
 use crate::{Facts, Found, PushFault};
-use fugue_ids::Op;
+use fugue_ids::{ElementId, Op};
 use origin_model::Verdict;
 use std::alloc::Global;
 use std::marker::Model;
@@ -18,18 +20,24 @@ use std::marker::Model;
 #[derive(Drop)]
 pub struct Inbox {
     ops: Vec<Op>,
+    index: Index,
     hold: u32,
 }
 
 impl Model for Inbox {
     ghost use Rattle.std.specs.Prelude.{◌≤◌, length};
+    ghost use Rattle.causal_inbox.specs.Ages.{IsAgeIndex};
+    ghost use Rattle.causal_inbox.specs.Lists.{list_in};
     ghost use Rattle.causal_inbox.specs.Waiting.{Waiting};
 
     ghost Value = { Waiting };
 
     ghost view = { λ inbox. record { ops = inbox.ops.items; hold = inbox.hold } };
 
-    ghost invariant = { λ inbox. length inbox.ops.items ≤ inbox.hold };
+    ghost invariant = { λ inbox. record {
+      within : length inbox.ops.items ≤ inbox.hold;
+      index : IsAgeIndex inbox.ops.items inbox.index.ages.items (list_in inbox.index.lists);
+    } };
 }
 
 impl Inbox {
@@ -38,6 +46,7 @@ impl Inbox {
     {
         Inbox {
             ops: Vec::new(alloc),
+            index: Index::new(alloc),
             hold,
         }
     }
@@ -49,15 +58,16 @@ impl Inbox {
         ensures absent { (result ≡ Found.Absent)
             ↔ ((has_op self.now.ops op.now ≡ false) × (id_held self.now.ops (id_of op.now) ≡ false)) }
     {
-        if contains_op(self.ops.as_slice(), op) {
+        if self.index.has_equal(self.ops.as_slice(), op) {
             Found::Same
-        } else if contains_id(self.ops.as_slice(), op.id()) {
+        } else if self.index.has_id(self.ops.as_slice(), op.id()) {
             Found::Clash
         } else {
             Found::Absent
         }
     }
 
+    /// One operation more, behind those that wait. A `PushFault` hands the operation back, and the inbox is as before.
     pub fn push(&mut self, op: Op) -> Result<(), PushFault>
         ensures ok { OnOk result (self.new ≡ record self.old { ops = self.old.ops ++ op ∷ [] }) }
         ensures full { (result ≡ Err (PushFault.Full op)) ↔ (length self.old.ops ≡ self.old.hold) }
@@ -68,9 +78,15 @@ impl Inbox {
         if self.ops.len() >= self.hold as usize {
             return Err(PushFault::Full(op));
         }
+        let Ok(()) = self.index.add(&op) else {
+            return Err(PushFault::NoMemory(op));
+        };
         match self.ops.push(op) {
             Ok(()) => Ok(()),
-            Err(refused) => Err(PushFault::NoMemory(refused.value)),
+            Err(refused) => {
+                self.index.remove(&refused.value, self.ops.len());
+                Err(PushFault::NoMemory(refused.value))
+            }
         }
     }
 
@@ -81,6 +97,13 @@ impl Inbox {
         self.ops.iter().position(|op| is_decided(facts.verdict(op)))
     }
 
+    /// The position of the operation that rests on the identifier behind k others that do.
+    pub fn nth_naming(&self, id: ElementId, k: usize) -> Option<usize>
+        ensures { result ≡ slice_get (naming id self.now.ops) k }
+    {
+        self.index.nth(&Key::Named(id), k)
+    }
+
     /// Those behind it close up.
     pub fn remove(&mut self, position: usize) -> Op
         requires { position < length self.old.ops }
@@ -88,7 +111,9 @@ impl Inbox {
         ensures rest { self.new ≡ record self.old { ops = without self.old.ops position } }
         ensures within { length self.new.ops ≤ self.new.hold }
     {
-        self.ops.remove(position)
+        let op = self.ops.remove(position);
+        self.index.remove(&op, position);
+        op
     }
 
     /// The greatest counter of the replica among the identifiers that waiting operations have or name.

@@ -5,7 +5,13 @@ mod facts;
 mod found;
 mod greatest;
 mod inbox;
+mod index;
+mod key;
+mod lists;
+#[cfg(test)]
 mod lookup;
+#[cfg(test)]
+mod naming;
 mod push_fault;
 
 pub use facts::Facts;

@@ -4,9 +4,10 @@ ghost use Rattle.fugue_ids.specs.Ops.{op_eq};
 ghost use Rattle.origin_model.specs.Ops.{has_op, holds, is_own};
 ghost use Rattle.origin_model.specs.Verdict.{id_held};
 
+use crate::index::equals;
 use fugue_ids::{ElementId, Op};
 
-#[tactic(auto, using(crate::proofs::Lookups::has_op_any))]
+#[tactic(auto, using(origin_model::specs::Members::has_op_any))]
 pub fn contains_op(ops: &[Op], op: &Op) -> bool
     ensures { result ≡ has_op ops.now op.now }
 {
@@ -19,13 +20,7 @@ fn any_equals(ops: &[Op], op: &Op) -> bool
     ops.iter().any(|other| equals(other, op))
 }
 
-fn equals(a: &Op, b: &Op) -> bool
-    ensures { result ≡ op_eq a.now b.now }
-{
-    *a == *b
-}
-
-#[tactic(auto, using(crate::proofs::Lookups::holds_any))]
+#[tactic(auto, using(origin_model::specs::Members::holds_any))]
 pub fn contains_id(ops: &[Op], id: Option<ElementId>) -> bool
     ensures { result ≡ id_held ops.now id }
 {

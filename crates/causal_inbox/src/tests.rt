@@ -1,8 +1,11 @@
 ghost use Rattle.std.specs.Prelude.{◌<◌};
 
 use super::*;
-use fugue_ids::{ElementId, Op, Title};
+use crate::lookup::{contains_id, contains_op};
+use crate::naming::nth_naming;
+use fugue_ids::{ElementId, NoMemory, Op, Title};
 use origin_model::{PlainReplica, Verdict};
+use std::alloc::Global;
 use std::test::Fail;
 
 fn id(replica: u32, counter: u32) -> ElementId
@@ -80,5 +83,109 @@ fn the_first_that_is_ready_or_stray_is_decidable(rt: HostRuntime) -> Result<(), 
     assert!(rt; replica.verdict(&section) == Verdict::Ready);
     assert!(rt; replica.accept(section).is_ok());
     assert_eq!(rt; inbox.next_decidable(&replica), Some(1));
+    Ok(())
+}
+
+/// What is done to an inbox.
+#[derive(Clone, Copy, Debug)]
+enum Step {
+    /// One of the operations comes.
+    Comes(usize),
+    /// The one at a position goes.
+    Goes(usize),
+}
+
+/// Operations that share identifiers with one another, and within themselves.
+fn sharing(alloc: Global) -> Result<Vec<Op>, Fail> {
+    let mut ops = Vec::new(alloc);
+    ops.push(text(id(1, 0), None, 'a'))?;
+    ops.push(text(id(1, 0), Some(id(9, 0)), 'a'))?;
+    ops.push(text(id(1, 1), Some(id(1, 0)), 'b'))?;
+    ops.push(Op::Section {
+        id: id(9, 0),
+        left: Some(id(1, 0)),
+        right: Some(id(1, 0)),
+        title: Title::read(alloc, "T")?,
+    })?;
+    ops.push(Op::Delete { target: id(1, 0) })?;
+    ops.push(Op::Delete { target: id(9, 0) })?;
+    Ok(ops)
+}
+
+fn find_plainly(ops: &[Op], op: &Op) -> Found {
+    if contains_op(ops, op) {
+        Found::Same
+    } else if contains_id(ops, op.id()) {
+        Found::Clash
+    } else {
+        Found::Absent
+    }
+}
+
+/// Whether an identifier finds the same operations as a search of all.
+fn is_named_alike(inbox: &Inbox, id: ElementId) -> bool {
+    for k in 0..9 {
+        if inbox.nth_naming(id, k) != nth_naming(inbox.ops(), id, k) {
+            return false;
+        }
+    }
+    true
+}
+
+/// Whether each operation is found as by a search of all.
+fn are_found_alike(inbox: &Inbox, ops: &[Op]) -> bool {
+    for op in ops {
+        if inbox.find(op) != find_plainly(inbox.ops(), op) {
+            return false;
+        }
+    }
+    true
+}
+
+fn take_step(inbox: &mut Inbox, alloc: Global, ops: &[Op], step: Step) -> Result<(), NoMemory> {
+    match step {
+        Step::Comes(n) if n < ops.len() => match inbox.push(ops[n].clone_in(alloc)?) {
+            Ok(()) => Ok(()),
+            Err(_) => Err(NoMemory),
+        },
+        Step::Goes(at) if at < inbox.ops().len() => {
+            inbox.remove(at);
+            Ok(())
+        }
+        _ => Err(NoMemory),
+    }
+}
+
+#[test]
+fn what_waits_is_found_as_by_a_search_of_all(rt: HostRuntime) -> Result<(), Fail> {
+    let ops = sharing(rt.alloc())?;
+    let mut inbox = Inbox::new(rt.alloc(), 9);
+    for (step, waiting, named) in [
+        (Step::Comes(3), 1, Some(0)),
+        (Step::Comes(0), 2, Some(0)),
+        (Step::Comes(2), 3, Some(0)),
+        (Step::Comes(4), 4, Some(0)),
+        (Step::Comes(1), 5, Some(0)),
+        (Step::Comes(0), 6, Some(0)),
+        (Step::Goes(0), 5, Some(1)),
+        (Step::Comes(4), 6, Some(1)),
+        (Step::Goes(2), 5, Some(1)),
+        (Step::Goes(4), 4, Some(1)),
+        (Step::Comes(5), 5, Some(1)),
+        (Step::Goes(1), 4, None),
+        (Step::Goes(0), 3, None),
+        (Step::Goes(2), 2, None),
+        (Step::Goes(1), 1, None),
+        (Step::Goes(0), 0, None),
+        (Step::Comes(2), 1, Some(0)),
+    ] {
+        take_step(&mut inbox, rt.alloc(), ops.as_slice(), step)?;
+        assert_eq!(rt; inbox.ops().len(), waiting, "{step:?}");
+        assert_eq!(rt; inbox.nth_naming(id(1, 0), 0), named, "{step:?}");
+        for id in [id(1, 0), id(1, 1), id(9, 0)] {
+            assert!(rt; is_named_alike(&inbox, id), "{step:?}");
+        }
+        assert!(rt; are_found_alike(&inbox, ops.as_slice()), "{step:?}");
+    }
     Ok(())
 }

@@ -1,5 +1,7 @@
 -- Identifiers, as contracts see them, and their order.
 use Rattle.std.specs.Prelude.{ℕ, Bool, ◌&&◌, ◌||◌, nat_eq, nat_lt, Option, Some, None, true, false}
+use Rattle.std.specs.Ordering.{nat_cmp, ordering_then}
+use Rattle.std.specs.declared.cmp.Ordering.{Ordering}
 
 pub record Identifier : Type 0 where
   pub replica : ℕ
@@ -12,6 +14,10 @@ id_eq a b = nat_eq a.replica b.replica && nat_eq a.counter b.counter
 -- the order of identifiers: by replica, and then by counter
 abbrev pub id_lt : Identifier → Identifier → Bool
 id_lt a b = nat_lt a.replica b.replica || (nat_eq a.replica b.replica && nat_lt a.counter b.counter)
+
+-- the same order, as a comparison
+abbrev pub id_cmp : Identifier → Identifier → Ordering
+id_cmp a b = ordering_then (nat_cmp a.replica b.replica) (nat_cmp a.counter b.counter)
 
 -- the same origin
 abbrev pub origin_eq : Option Identifier → Option Identifier → Bool

@@ -4,7 +4,6 @@ use Rattle.std.proofs.Common.{ap, sym, subst, ◌∙◌, append_assoc, arith, le
 use Rattle.std.proofs.lemmas.List.{append-nil, take-append-le, take_all, take-append-drop, length-take-le}
 use Rattle.std.proofs.Math.Seq.{take-append-add, take-add}
 use Rattle.std.specs.Io.KnownBytes.{append_known}
-use Rattle.fugue_ids.specs.Causes.{HasCause, Rose}
 use Rattle.fugue_ids.specs.Outs.{OutView, spent, Took, TookFront, IsSure, WritesSome, WritesText}
 
 append_known-nil : (w : Option (List ℕ)) → append_known w [] ≡ w

@@ -3,6 +3,7 @@ pub mod SameIdentifiers
 pub mod Listed
 pub mod Titles
 pub mod Ops
+pub mod SameOps
 pub mod Causes
 pub mod Outs
 pub mod Joins

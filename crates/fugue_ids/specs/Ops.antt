@@ -1,5 +1,5 @@
 -- What an operation says of itself, and when two operations are the same.
-use Rattle.std.specs.Prelude.{Option, Some, None, Bool, true, false, ◌&&◌, nat_eq}
+use Rattle.std.specs.Prelude.{Option, Some, None, Bool, false, ◌&&◌, nat_eq}
 use Rattle.fugue_ids.specs.Identifiers.{Identifier, id_eq, origin_eq}
 use Rattle.fugue_ids.specs.declared.op.Op.{Op}
 use Rattle.fugue_ids.specs.declared.op.Op.TheVariants.{Section, Text, Delete}

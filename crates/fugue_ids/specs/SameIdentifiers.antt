@@ -1,8 +1,12 @@
 -- The tests of identifiers and of origins tell whether they are equal.
-use Rattle.std.specs.Prelude.{◌≡◌, ◌≢◌, ◌⊎◌, Bool, true, false, Option, Some, None, refl}
-use Rattle.std.proofs.Common.{ap, inl, inr, subst, sym, ◌∙◌}
+use Rattle.std.specs.Prelude.{◌≡◌, ◌≢◌, ◌⊎◌, true, false, Option, Some, None, refl}
+use Rattle.std.specs.Ordering.{is_eq, nat_cmp, ordering_then}
+use Rattle.std.specs.declared.cmp.Ordering.{Ordering}
+use Rattle.std.specs.declared.cmp.Ordering.TheVariants.{Equal, Greater, Less}
+use Rattle.std.proofs.Common.{ap, arith, inl, inr, nat_eq, subst, sym, ℕ, ◌&&◌, ◌∙◌}
 use Rattle.std.proofs.lemmas.Bool.{and_from, and_parts, cases_Bool, eq-eqb, eqb-true, false_from_ne_true, false≢true, true≢false}
-use Rattle.fugue_ids.specs.Identifiers.{Identifier, id_eq, origin_eq}
+use Rattle.std.proofs.lemmas.Bool.Decides.{nat_tests}
+use Rattle.fugue_ids.specs.Identifiers.{Identifier, id_cmp, id_eq, origin_eq}
 
 -- identifiers that pass the test are equal
 pub id_eq-true : (a b : Identifier) → id_eq a b ≡ true → a ≡ b
@@ -31,6 +35,30 @@ id_eq-false a b h e = true≢false (sym (eq-id_eq a b e) ∙ h)
 -- two identifiers are equal or distinct
 pub cases_id : (a b : Identifier) → (a ≡ b) ⊎ (a ≢ b)
 cases_id a b = elim (cases_Bool (id_eq a b)) [ inl e ↦ inl (id_eq-true a b e) | inr e ↦ inr (id_eq-false a b e) ]
+
+-- the comparison of two numbers, as a test
+nat_cmp-eq : (a b : ℕ) → is_eq (nat_cmp a b) ≡ nat_eq a b
+nat_cmp-eq a b = grind (arith, nat_tests)
+
+-- the second of two comparisons decides where the first tells nothing apart
+then-eq : (o q : Ordering) → is_eq (ordering_then o q) ≡ (is_eq o && is_eq q)
+then-eq Less q = refl
+then-eq Equal q = refl
+then-eq Greater q = refl
+
+-- identifiers compare as equal where they are
+pub id_cmp-eq : (a b : Identifier) → is_eq (id_cmp a b) ≡ id_eq a b
+id_cmp-eq a b =
+    then-eq (nat_cmp a.replica b.replica) (nat_cmp a.counter b.counter)
+    ∙ (λ i. nat_cmp-eq a.replica b.replica i && nat_cmp-eq a.counter b.counter i)
+
+-- an identifier compares as equal with itself
+pub id_at-same : (a : Identifier) → is_eq (id_cmp a a) ≡ true
+id_at-same a = id_cmp-eq a a ∙ id_eq-refl a
+
+-- and with no other
+pub id_at-other : (a b : Identifier) → b ≢ a → is_eq (id_cmp a b) ≡ false
+id_at-other a b n = id_cmp-eq a b ∙ ne-id_eq a b (λ e. n (sym e))
 
 -- origins that pass the test are equal
 pub origin_eq-true : (a b : Option Identifier) → origin_eq a b ≡ true → a ≡ b

@@ -3,13 +3,13 @@ use Rattle.std.proofs.Common.{◌≡◌, ◌≢◌, ℕ, ◌+◌, ◌-◌, ◌<�
 use Rattle.std.specs.Prelude.{◌⊎◌, Option, Some, None, IfSome, flat_map}
 use Rattle.std.specs.List.{AllByRecursion}
 use Rattle.std.specs.Io.KnownBytes.{prepend_known}
-use Rattle.std.proofs.lemmas.List.{append-nil, take_all}
+use Rattle.std.proofs.lemmas.List.{append-nil}
 use Rattle.std.proofs.Math.Seq.{take-append-add}
 use Rattle.fugue_ids.specs.declared.op.Op.{Op}
-use Rattle.origin_model.specs.Frames.{End, Whole as EndsWhole, CutShort as EndsCutShort, BadFrame as EndsInBadFrame, EndsSo, Framed, IsFrame, IsPartial, IsBad, Starts, Reads}
+use Rattle.origin_model.specs.Frames.{End, Whole as EndsWhole, CutShort as EndsCutShort, Framed, IsFrame, IsPartial, IsBad, Reads}
 use Rattle.origin_model.specs.Taking.{Held, nothing, answer, TooMany as AnswersTooMany, intake, held, held_from, intake_counted, tally, tally_from, no_counts}
 use Rattle.origin_model.specs.declared.tally.Tally.{Tally}
-use Rattle.manuscript_cli.specs.Courses.{most, stream_limit, HasPlace, Course, Whole, CutShort, BadFrame, TooLong, TooMany, Comes}
+use Rattle.manuscript_cli.specs.Courses.{most, stream_limit, HasPlace, Whole, CutShort, BadFrame, TooLong, TooMany, Comes}
 use Rattle.manuscript_cli.proofs.HasPlaces.{place_for}
 
 abbrev bytes_of : List Framed → List ℕ

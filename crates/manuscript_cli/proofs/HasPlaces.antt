@@ -1,8 +1,8 @@
 -- Lists of operations that can all be taken in.
-use Rattle.std.proofs.Common.{◌≡◌, ◌≢◌, ℕ, List, [], ◌∷◌, ◌++◌, refl, sym, subst}
+use Rattle.std.proofs.Common.{◌≡◌, ℕ, List, [], ◌∷◌, ◌++◌, refl}
 use Rattle.fugue_ids.specs.declared.op.Op.{Op}
-use Rattle.origin_model.specs.Taking.{Held, nothing, Answer, Again, Conflict, Stray, TooMany, Accepted, Full, Waits, answer, answers_from, held, held_from, intake}
-use Rattle.manuscript_cli.specs.Courses.{most, NeverTooMany, HasPlace}
+use Rattle.origin_model.specs.Taking.{Held, Answer, Again, Conflict, Stray, TooMany, Accepted, Full, Waits, answer, answers_from, held_from, intake}
+use Rattle.manuscript_cli.specs.Courses.{most, NeverTooMany}
 
 -- the first answer is another one
 pub never_first : (a : Answer) (answers : List Answer) → NeverTooMany (a ∷ answers) → a ≡ TooMany → ⊥

@@ -1,23 +1,15 @@
 -- A stream comes to one end, with one list of operations taken in before it.
-use Rattle.std.proofs.Common.{◌≡◌, ◌≢◌, ℕ, ◌+◌, ◌<◌, ◌≤◌, List, [], ◌∷◌, ◌++◌, length, take, refl, ap, sym, subst, ◌∙◌, arith, append_assoc, length-append, inl, inr}
+use Rattle.std.proofs.Common.{◌≡◌, ℕ, ◌<◌, ◌≤◌, List, [], ◌∷◌, ◌++◌, length, take, refl, ap, sym, subst, ◌∙◌, arith, append_assoc, length-append, inl, inr}
 use Rattle.std.specs.Prelude.{◌⊎◌, flat_map}
 use Rattle.std.specs.List.{AllByRecursion}
 use Rattle.std.proofs.lemmas.List.{take_all, append-nil}
 use Rattle.fugue_ids.specs.declared.op.Op.{Op}
-use Rattle.fugue_ids.specs.declared.op.Op.TheVariants.{Delete}
-use Rattle.origin_model.specs.Frames.{End, Whole as EndsWhole, CutShort as EndsCutShort, BadFrame as EndsInBadFrame, EndsSo, frame, Framed, Begins, IsFrame, IsPartial, Starts, Reads}
+use Rattle.origin_model.specs.Frames.{End, Whole as EndsWhole, CutShort as EndsCutShort, BadFrame as EndsInBadFrame, EndsSo, Framed, Begins, IsFrame, Starts, Reads}
 use Rattle.origin_model.specs.Taking.{nothing, held, answer, TooMany as AnswersTooMany}
-use Rattle.manuscript_cli.specs.Courses.{most, stream_limit, HasPlace, Course, Whole, CutShort, BadFrame, TooLong, TooMany, EndsWell, MeetsTooMany, Ends, Comes}
+use Rattle.manuscript_cli.specs.Courses.{most, stream_limit, HasPlace, Course, Whole, CutShort, BadFrame, TooLong, TooMany, MeetsTooMany, Comes}
 use Rattle.manuscript_cli.proofs.HasPlaces.{no_place_left}
-use Rattle.op_frame.specs.Laws.{OneFrame}
+use Rattle.op_frame.specs.Laws.{OneFrame, ReadsOnce}
 use Rattle.manuscript_cli.proofs.Streams.{starts_compare, partial_not_begun, frame_some}
-
-abbrev bytes_of : List Framed → List ℕ
-bytes_of found = flat_map (λ framed. framed.bytes) found
-
--- an operation that has a frame
-abbrev least : Op
-least = Delete (record { replica = 1; counter = 0 })
 
 -- how the front of the stream up to the limit ends, and how long the stream is, by the course
 abbrev IsCourse : Course → End → ℕ → Type 0
@@ -94,24 +86,6 @@ begun bytes op ops rest starts = by_frames starts.found starts.are_frames starts
       record { is_frame = all.0; split = split ∙ append_assoc framed.bytes (flat_map (λ f. f.bytes) found) rest },
     )
 
--- where no operation is brought, nothing stands between
-none_between : (bytes rest : List ℕ) → Starts bytes [] rest → bytes ≡ rest
-none_between bytes rest starts = by_frames starts.found starts.are_frames starts.ops_are starts.split
-  where
-    by_frames : (found : List Framed) → AllByRecursion IsFrame found → [] ≡ flat_map (λ framed. framed.ops) found → bytes ≡ flat_map (λ framed. framed.bytes) found ++ rest → bytes ≡ rest
-    by_frames [] all is split = split
-    by_frames (framed ∷ found) all is split = absurd (omega (arith, ap length is, length-append framed.ops (flat_map (λ f. f.ops) found), ap length all.0.ops_are))
-
--- no bytes are a proper front of a frame
-empty_partial : IsPartial []
-empty_partial = record {
-  framed = record { bytes = frame least; ops = least ∷ [] };
-  is_frame = record { op = least; has_frame = record { some_replica = omega arith; replica_fits = omega arith; counter_fits = omega arith }; bytes_are = refl; ops_are = refl };
-  more = frame least;
-  lacks = omega arith;
-  front = refl;
-}
-
 starts_of : (bytes : List ℕ) (ops : List Op) (end : End) (reads : Reads bytes ops end) → Starts bytes ops reads.rest
 starts_of bytes ops end reads = record { found = reads.found; are_frames = reads.are_frames; ops_are = reads.ops_are; split = reads.split }
 
@@ -119,43 +93,6 @@ starts_of bytes ops end reads = record { found = reads.found; are_frames = reads
 nothing_more : OneFrame → (bytes : List ℕ) (ops more : List Op) (op : Op) (end : End) (rest : List ℕ) (reads : Reads bytes ops end) → Starts reads.rest (op ∷ more) rest → ⊥
 nothing_more law bytes ops more op end rest reads starts =
     let b = begun reads.rest op more rest starts in not_begun law reads.rest _ end b.0 b.1 reads.ends b.2
-
--- the same rest at the same place ends in one way
-same_end : OneFrame → (rest rest' : List ℕ) (place : ℕ) (end other : End) → rest ≡ rest' → EndsSo rest place end → EndsSo rest' place other → end ≡ other
-same_end law rest rest' place EndsWhole EndsWhole is p q = refl
-same_end law rest rest' place EndsWhole (EndsCutShort k) is p q = absurd (q.1 (sym is ∙ p))
-same_end law rest rest' place EndsWhole (EndsInBadFrame k) is p q = absurd (q.1.no_front (subst IsPartial (sym p ∙ is) empty_partial))
-same_end law rest rest' place (EndsCutShort k) EndsWhole is p q = absurd (p.1 (is ∙ q))
-same_end law rest rest' place (EndsCutShort k) (EndsCutShort l) is p q = ap EndsCutShort (p.0 ∙ sym q.0)
-same_end law rest rest' place (EndsCutShort k) (EndsInBadFrame l) is p q = absurd (q.1.no_front (subst IsPartial is p.2))
-same_end law rest rest' place (EndsInBadFrame k) EndsWhole is p q = absurd (p.1.no_front (subst IsPartial (sym (is ∙ q)) empty_partial))
-same_end law rest rest' place (EndsInBadFrame k) (EndsCutShort l) is p q = absurd (p.1.no_front (subst IsPartial (sym is) q.2))
-same_end law rest rest' place (EndsInBadFrame k) (EndsInBadFrame l) is p q = ap EndsInBadFrame (p.0 ∙ sym q.0)
-
--- the frames before a rest have the bytes that are not of the rest
-place_of : (bytes : List ℕ) (ops : List Op) (end : End) (reads : Reads bytes ops end) → length (bytes_of reads.found) + length reads.rest ≡ length bytes
-place_of bytes ops end reads = sym (ap length reads.split ∙ length-append (bytes_of reads.found) reads.rest)
-
--- bytes are read in one way
-reads_once : OneFrame → (bytes : List ℕ) (ops ops' : List Op) (end other : End) → Reads bytes ops end → Reads bytes ops' other → (ops ≡ ops') × (end ≡ other)
-reads_once law bytes ops ops' end other p q =
-    elim (starts_compare law bytes ops p.rest ops' q.rest (starts_of bytes ops end p) (starts_of bytes ops' other q)) [
-      | inl behind ↦ by_more behind.0 behind.1 behind.2
-      | inr before ↦ by_less before.0 before.1 before.2
-    ]
-  where
-    same : ops ≡ ops' → p.rest ≡ q.rest → (ops ≡ ops') × (end ≡ other)
-    same ops_are rest_is =
-        let place : length (bytes_of p.found) ≡ length (bytes_of q.found) = omega (arith, place_of bytes ops end p, place_of bytes ops' other q, ap length rest_is) in
-        (ops_are, same_end law p.rest q.rest (length (bytes_of p.found)) end other rest_is p.ends (subst (λ n. EndsSo q.rest n other) (sym place) q.ends))
-
-    by_more : (more : List Op) → ops' ≡ ops ++ more → Starts p.rest more q.rest → (ops ≡ ops') × (end ≡ other)
-    by_more [] is starts = same (sym (is ∙ append-nil ops)) (none_between p.rest q.rest starts)
-    by_more (op ∷ more) is starts = absurd (nothing_more law bytes ops more op end q.rest p starts)
-
-    by_less : (more : List Op) → ops ≡ ops' ++ more → Starts q.rest more p.rest → (ops ≡ ops') × (end ≡ other)
-    by_less [] is starts = same (is ∙ append-nil ops') (sym (none_between q.rest p.rest starts))
-    by_less (op ∷ more) is starts = absurd (nothing_more law bytes ops' more op other p.rest q starts)
 
 snoc_more : (ops more : List Op) (op : Op) → (ops ++ op ∷ []) ++ more ≡ ops ++ op ∷ more
 snoc_more ops more op = append_assoc ops (op ∷ []) more
@@ -210,12 +147,12 @@ both_met law hold bytes ops ops' has has' m n =
     ]
 
 -- a stream comes to one end
-pub comes_once : OneFrame → (hold : ℕ) (bytes : List ℕ) (ops ops' : List Op) (c d : Course) → Comes hold bytes ops c → Comes hold bytes ops' d → (ops ≡ ops') × (c ≡ d)
-comes_once law hold bytes ops ops' c d p q =
+pub comes_once : OneFrame → ReadsOnce → (hold : ℕ) (bytes : List ℕ) (ops ops' : List Op) (c d : Course) → Comes hold bytes ops c → Comes hold bytes ops' d → (ops ≡ ops') × (c ≡ d)
+comes_once law once hold bytes ops ops' c d p q =
     elim (plain_or_not hold bytes ops c p) [
       | inl plain ↦ elim (plain_or_not hold bytes ops' d q) [
         | inl other ↦
-            let same = reads_once law (take stream_limit bytes) ops ops' plain.end other.end plain.reads other.reads in
+            let same = once (take stream_limit bytes) ops ops' plain.end other.end plain.reads other.reads in
             (same.0, same_course (length bytes) plain.end c d plain.is (subst (λ e. IsCourse d e (length bytes)) (sym same.1) other.is))
         | inr met ↦ absurd (not_both law hold (take stream_limit bytes) ops ops' plain.end p.has_place plain.reads met.1)
       ]

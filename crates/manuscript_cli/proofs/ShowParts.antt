@@ -1,21 +1,20 @@
 -- What is printed where a write fails, and what `show` does by what its parts do.
-use Rattle.std.proofs.Common.{◌≡◌, ℕ, ◌+◌, ◌≤◌, List, [], length, take, refl, ap, sym, subst, ◌∙◌, arith, inl, inr, Bool, true, false}
-use Rattle.std.specs.Prelude.{◌⊎◌, Option, Some, IfSome, Err, Ok, nat_eq, ◌&&◌}
+use Rattle.std.proofs.Common.{◌≡◌, ℕ, List, length, refl, ap, sym, subst, ◌∙◌, arith, inl, inr, Bool, true, false}
+use Rattle.std.specs.Prelude.{◌⊎◌, Err, Ok, nat_eq, ◌&&◌}
 use Rattle.std.proofs.Math.Seq.{take-length}
 use Rattle.fugue_ids.specs.Causes.{Rose}
 use Rattle.fugue_ids.specs.Outs.{OutView, Took, TookFront, WritesText}
 use Rattle.fugue_ids.specs.declared.failed.Failed.{Failed}
-use Rattle.outer_ports.specs.Sources.{SourceView}
 use Rattle.origin_model.specs.Printed.{manuscript}
 use Rattle.origin_model.specs.Taking.{Held, held, tally}
 use Rattle.origin_model.specs.declared.tally.Tally.{Tally}
 use Rattle.replica_core.specs.State.{State}
 use Rattle.manuscript_cli.specs.Counts.{counts_line}
-use Rattle.manuscript_cli.specs.Courses.{most, Whole}
+use Rattle.manuscript_cli.specs.Courses.{most}
 use Rattle.manuscript_cli.specs.Intakes.{TakesIn, StopsFor}
 use Rattle.manuscript_cli.specs.Prints.{Printed, PrintFailed, PrintMeets}
 use Rattle.manuscript_cli.specs.Refusals.{line_of, Told, status_of}
-use Rattle.manuscript_cli.specs.Shows.{Streams, Finished, ShowMeets, status_by, status_after}
+use Rattle.manuscript_cli.specs.Shows.{Streams, Finished, ShowMeets, status_by}
 use Rattle.manuscript_cli.specs.declared.refusal.Refusal.{Refusal}
 use Rattle.manuscript_cli.specs.declared.refusal.Refusal.TheVariants as refusal
 use Rattle.manuscript_cli.specs.declared.status.Status.{Status}

@@ -5,7 +5,7 @@ use Rattle.std.specs.Io.KnownBytes.{prepend_known}
 use Rattle.fugue_ids.specs.Causes.{Rose}
 use Rattle.fugue_ids.specs.declared.op.Op.{Op}
 use Rattle.outer_ports.specs.Sources.{SourceView}
-use Rattle.origin_model.specs.Frames.{frame, Framed, IsFrame, HasFrame}
+use Rattle.origin_model.specs.Frames.{frame, Framed, IsFrame}
 use Rattle.origin_model.specs.Taking.{Held, answer, TooMany as AnswersTooMany, intake, intake_counted}
 use Rattle.origin_model.specs.declared.tally.Tally.{Tally}
 use Rattle.op_frame.specs.Readers.{Reading, to_give, Nexts, AnswerIs}

@@ -1,11 +1,11 @@
 -- Streams of frames are read in one way, since one operation has one frame and no frame is a proper front of another.
-use Rattle.std.proofs.Common.{◌≡◌, ◌≢◌, ℕ, zero, suc, ◌+◌, ◌-◌, ◌<◌, ◌≤◌, List, [], ◌∷◌, ◌++◌, length, refl, ap, sym, subst, ◌∙◌, arith, append_assoc, length-append, inl, inr}
+use Rattle.std.proofs.Common.{◌≡◌, ℕ, ◌<◌, List, [], ◌∷◌, ◌++◌, length, refl, ap, sym, subst, ◌∙◌, arith, append_assoc, length-append, inl, inr}
 use Rattle.std.specs.Prelude.{◌⊎◌, flat_map}
 use Rattle.std.specs.List.{AllByRecursion}
 use Rattle.std.proofs.lemmas.List.{append-nil}
 use Rattle.fugue_ids.specs.declared.op.Op.{Op}
 use Rattle.fugue_ids.specs.declared.op.Op.TheVariants.{Section, Text, Delete}
-use Rattle.origin_model.specs.Frames.{frame, End, Whole, CutShort, BadFrame, EndsSo, Framed, IsFrame, IsPartial, IsBad, Begins, Starts, Reads}
+use Rattle.origin_model.specs.Frames.{frame, Framed, IsFrame, IsPartial, Begins, Starts}
 use Rattle.op_frame.specs.Laws.{OneFrame}
 
 -- each frame has at least one byte

@@ -1,5 +1,5 @@
 -- What printing does at each of its ends.
-use Rattle.std.specs.Prelude.{◌≡◌, ◌⊎◌, ℕ, List, length}
+use Rattle.std.specs.Prelude.{◌≡◌, ◌⊎◌, length}
 use Rattle.fugue_ids.specs.Causes.{Rose}
 use Rattle.fugue_ids.specs.Outs.{OutView, Took, TookFront}
 use Rattle.origin_model.specs.Printed.{manuscript}

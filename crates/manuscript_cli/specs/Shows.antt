@@ -1,5 +1,5 @@
 -- What `show` does at each of its ends.
-use Rattle.std.specs.Prelude.{◌≡◌, ◌⊎◌, ℕ, List, [], length, nat_eq, ◌&&◌, true, false, Option, Some, IfSome}
+use Rattle.std.specs.Prelude.{◌≡◌, ◌⊎◌, ℕ, List, [], length, nat_eq, ◌&&◌, true, false, IfSome}
 use Rattle.fugue_ids.specs.Causes.{Rose}
 use Rattle.fugue_ids.specs.Outs.{OutView, Took, TookFront}
 use Rattle.fugue_ids.specs.declared.op.Op.{Op}

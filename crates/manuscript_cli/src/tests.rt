@@ -1,7 +1,4 @@
 use crate::{Status, run};
-use fugue_ids::Op;
-use op_frame::FrameReader;
-use origin_model::{PlainReplica, Verdict};
 use outer_ports::{MemSink, MemSource};
 use std::alloc::{AllocError, Global};
 use std::test::Fail;
@@ -408,49 +405,56 @@ fn every_order_and_repeat_prints_the_same(rt: HostRuntime) -> Result<(), Fail> {
     Ok(())
 }
 
-fn ops_of(alloc: Global, lines: &[Line]) -> Result<Vec<Op>, Fail> {
-    let mut source = MemSource::new(frames_of(alloc, lines)?, 4096, Vec::new(alloc));
-    let mut reader = FrameReader::new(alloc, 4096)?;
-    let mut ops = Vec::new(alloc);
-    for _ in lines {
-        if let Some(op) = reader.next(&mut source)? {
-            ops.push(op)?;
-        }
-    }
-    Ok(ops)
-}
+/// Letters behind one another, from two authors who began at the start.
+const SMALL_X: Line = Line::Text((2, 0), None, None, b'x');
 
-/// What a plain replica prints of the operations, where each is Ready in its turn.
-fn printed_in_turn(alloc: Global, lines: &[Line]) -> Result<Option<MemSink>, Fail> {
-    let mut replica = PlainReplica::new(alloc);
-    for op in ops_of(alloc, lines)? {
-        if replica.verdict(&op) != Verdict::Ready {
-            return Ok(None);
-        }
-        replica.accept(op)?;
-    }
-    let mut output = MemSink::new(alloc, 4096, Vec::new(alloc));
-    replica.print_into(&mut output)?;
-    Ok(Some(output))
-}
+const Y_BEHIND_X: Line = Line::Text((2, 1), Some((2, 0)), None, b'y');
 
-const READY_ORDERS: u32 = 16;
+/// Letters before one another, from two authors who began at the end.
+const SMALL_B: Line = Line::Text((1, 0), None, None, b'b');
+
+const A_BEFORE_B: Line = Line::Text((1, 1), None, Some((1, 0)), b'a');
+
+const SMALL_Y: Line = Line::Text((2, 0), None, None, b'y');
+
+const X_BEFORE_Y: Line = Line::Text((2, 1), None, Some((2, 0)), b'x');
+
+/// The lines, how many of their orders are tried, how far these lie apart, and what each prints.
+const CASES: [(&[Line], usize, usize, &str); 4] = [
+    (
+        &[S, B, A, D, X, Y, Line::Delete((2, 0)), Line::Delete((1, 0))],
+        1_000,
+        40,
+        "# T\nAXY\n",
+    ),
+    (&[S, P, Q, Z, V], 120, 1, "# T\nPQVZ\n"),
+    (
+        &[S, LOWER_A, LOWER_B, SMALL_X, Y_BEHIND_X],
+        120,
+        1,
+        "# T\nabxy\n",
+    ),
+    (
+        &[S, SMALL_B, A_BEFORE_B, SMALL_Y, X_BEFORE_Y],
+        120,
+        1,
+        "# T\nabxy\n",
+    ),
+];
 
 #[test]
-fn every_ready_order_prints_the_same(rt: HostRuntime) -> Result<(), Fail> {
-    let lines = [S, B, A, D, X, Y, Line::Delete((2, 0))];
-    let mut ready = 0u32;
-    for number in 0..5040usize {
-        let order = permuted(rt.alloc(), &lines, number)?;
-        if let Some(output) = printed_in_turn(rt.alloc(), &order)? {
-            ready = ready.saturating_add(1);
+fn the_orders_of_a_case_print_its_text(rt: HostRuntime) -> Result<(), Fail> {
+    for (lines, orders, step, text) in CASES {
+        for turn in 0..orders {
+            let number = turn.saturating_mul(step);
+            let order = permuted(rt.alloc(), lines, number)?;
+            let seen = see(rt.alloc(), "show", &order, 4096, Fails::None)?;
             assert!(rt;
-                output.written() == b"# T\nAXYB\n".as_slice(),
-                "order {number}"
+                seen.output.written() == text.as_bytes(),
+                "order {number} of {text}"
             );
+            assert_eq!(rt; seen.status, Status::Done, "order {number} of {text}");
         }
     }
-    // Of the 5,040 orders, those in which each operation comes behind what it names.
-    assert_eq!(rt; ready, READY_ORDERS);
     Ok(())
 }

@@ -11,7 +11,7 @@ ghost use Rattle.manuscript_cli.specs.declared.status.Status.TheVariants.{Usage}
 use crate::refusal::{Refusal, tell};
 use crate::show::show;
 use crate::{Command, Status, read_words};
-use op_frame::one_frame;
+use op_frame::{one_frame, reads_once};
 use outer_ports::{Sink, Source};
 use std::alloc::Global;
 
@@ -48,6 +48,7 @@ pub fn run<S: Source, O: Sink, N: Sink>(
     };
     // A stream is read in one way: that is why it decides the status.
     one_frame();
+    reads_once();
     match command {
         Command::Show(hold) => show(alloc, hold, input, output, notes),
     }

@@ -1,7 +1,7 @@
 -- Laws of the grammar, and of what a reader answers.
 use Rattle.std.specs.Prelude.{◌≡◌, List, ℕ, ◌++◌, [], Option, Result, Ok, Err}
 use Rattle.fugue_ids.specs.declared.op.Op.{Op}
-use Rattle.origin_model.specs.Frames.{frame, HasFrame}
+use Rattle.origin_model.specs.Frames.{End, Reads, frame, HasFrame}
 use Rattle.op_frame.specs.Readers.{AnswerIs}
 use Rattle.op_frame.specs.declared.fault.FrameFault.{FrameFault}
 use Rattle.op_frame.specs.declared.fault.FrameFault.TheVariants.{BadFrame, CutShort, ReadFault, TooLong, NoMemory}
@@ -10,6 +10,10 @@ use Rattle.op_frame.specs.declared.fault.FrameFault.TheVariants.{BadFrame, CutSh
 pub record OneFrame : Type 0 where
   pub one_operation : (a b : Op) → HasFrame a → HasFrame b → frame a ≡ frame b → a ≡ b
   pub no_front : (a b : Op) (more : List ℕ) → HasFrame a → HasFrame b → frame b ≡ frame a ++ more → more ≡ []
+
+-- bytes are read in one way
+abbrev pub ReadsOnce : Type 0
+ReadsOnce = (bytes : List ℕ) (ops others : List Op) (end other : End) → Reads bytes ops end → Reads bytes others other → (ops ≡ others) × (end ≡ other)
 
 -- the answer rests on the bytes alone: no fault of the source, and no want of memory
 abbrev pub IsByBytes : Result (Option Op) FrameFault → Type 0

@@ -13,7 +13,8 @@ use Rattle.origin_model.specs.Taking.{closed_within, closure, first_ready}
 use Rattle.origin_model.specs.Verdict.{Lawful, id_held, names, verdict}
 use Rattle.origin_model.specs.declared.verdict.Verdict.{Verdict}
 use Rattle.origin_model.specs.declared.verdict.Verdict.TheVariants.{Again, Conflict, Missing, Ready, Stray}
-use Rattle.origin_model.proofs.Operations.{op_eq-refl, op_eq-true, own_id}
+use Rattle.fugue_ids.specs.SameOps.{op_eq-refl, op_eq-true}
+use Rattle.origin_model.proofs.Operations.{own_id}
 use Rattle.origin_model.proofs.Lookups.{found, holder-has, holder_owns}
 use Rattle.origin_model.proofs.Ready.{when_ready}
 use Rattle.origin_model.proofs.OrderLaws.{Within-part}

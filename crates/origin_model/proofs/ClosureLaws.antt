@@ -3,15 +3,16 @@ use Rattle.std.proofs.Common.{List, [], ap, false, inl, inr, subst, sym, true, �
 use Rattle.std.proofs.lemmas.Bool.{cases_Bool, false_from_ne_true, false≢true, or_cases, or_left, or_parts, or_right, true≢false}
 use Rattle.std.proofs.lemmas.List.{append-nil}
 use Rattle.fugue_ids.specs.declared.op.Op.{Op}
-use Rattle.origin_model.specs.Closed.{IsClosed, IsSettled, answers, ClosureBySet, ClosureOfMerge, ClosureOfSet, ClosureOfUnion, Consistent, WithinLimits, SameSetConverges, Taker, given_by, given_by_all, kept_by, kept_by_all, state_of}
+use Rattle.origin_model.specs.Closed.{IsClosed, answers, ClosureBySet, ClosureOfMerge, ClosureOfSet, ClosureOfUnion, Consistent, WithinLimits, SameSetConverges, Taker, given_by, given_by_all, kept_by, kept_by_all, state_of}
 use Rattle.origin_model.specs.Laws.{IsPartOf, SameOps}
 use Rattle.origin_model.specs.Ops.{accepted, has_op}
-use Rattle.origin_model.specs.Taking.{Held, answers_from, closure, held, held_from, is_decided, is_again, nothing}
+use Rattle.origin_model.specs.Taking.{Held, IsSettled, answers_from, closure, held, held_from, is_decided, is_again, nothing}
 use Rattle.origin_model.proofs.Ready.{when_ready}
 use Rattle.origin_model.proofs.OrderLaws.{Within-part, order_by_set, same-part}
 use Rattle.origin_model.proofs.Causes.{Dead, dead_within}
 use Rattle.origin_model.proofs.HasOp.{has-append, has-reverse}
 use Rattle.origin_model.proofs.Closure.{closed_by_set, closure_is, maximal, same_closed}
+use Rattle.origin_model.proofs.Settling.{undecided_found}
 use Rattle.origin_model.proofs.TakingIn.{Covers, fold_covers}
 use Rattle.origin_model.proofs.Kept.{answers-append, held-append, kept_suffice, within_limits-append, nothing_settled, stays_settled}
 
@@ -32,7 +33,7 @@ covered_closed ops s c z =
       lawful = c.lawful;
       part = c.history_part;
       saturated = λ x m n v. elim (cases_Bool (has_op s.waiting x)) [
-        | inl w ↦ true≢false (ap is_decided (sym v) ∙ z x w)
+        | inl w ↦ true≢false (ap is_decided (sym v) ∙ undecided_found s.history s.waiting z x w)
         | inr w ↦ c.decided x m n w (when_ready s.history x v).none_stray
       ];
     }

@@ -2,9 +2,10 @@
 use Rattle.std.proofs.Common.{List, [], ap, false, inl, inr, refl, subst, sym, true, ℕ, ◌++◌, ◌∙◌, ◌∷◌, ◌≡◌}
 use Rattle.std.specs.List.{AllByRecursion}
 use Rattle.std.proofs.lemmas.Bool.{cases_Bool, false≢true, true≢false}
+use Rattle.std.proofs.lemmas.List.Elements.{All-nil}
 use Rattle.fugue_ids.specs.declared.op.Op.{Op}
-use Rattle.origin_model.specs.Closed.{IsSettled, answers, KeptSuffice, WithinLimits, PartsAsOne, SavedSuffice, StaysSettled}
-use Rattle.origin_model.specs.Taking.{Held, Answer, Accepted, Again as AnsweredAgain, Conflict as AnsweredConflict, Full, Stray as AnsweredStray, TooMany, Waits, answer, answers_from, held, held_from, intake, is_kept, kept_from, nothing, settle, taken}
+use Rattle.origin_model.specs.Closed.{answers, KeptSuffice, WithinLimits, PartsAsOne, SavedSuffice, StaysSettled}
+use Rattle.origin_model.specs.Taking.{Held, IsSettled, Answer, Accepted, Again as AnsweredAgain, Conflict as AnsweredConflict, Full, Stray as AnsweredStray, TooMany, Waits, answer, answers_from, decided_on, held, held_from, intake, is_kept, kept_from, nothing, settle, taken}
 use Rattle.origin_model.proofs.Settling.{settle-settled, settles}
 
 -- an answer by which nothing is kept changes nothing
@@ -115,7 +116,7 @@ within_limits-append (Waits ∷ a) b n m = within_limits-append a b n m
 
 -- where nothing is held, nothing waits
 pub nothing_settled : IsSettled nothing
-nothing_settled x m = absurd (false≢true m)
+nothing_settled = All-nil (λ op. decided_on [] op ≡ false)
 
 -- a file that gains the kept operations of a list comes to what the list led to, and meets no limit that it did not meet before
 pub saved_suffice : SavedSuffice

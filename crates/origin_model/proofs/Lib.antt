@@ -39,3 +39,4 @@ pub mod NodeOrder
 pub mod NodeAges
 pub mod DetachedTables
 pub mod Detached
+pub mod Founded

@@ -6,7 +6,7 @@ use Rattle.fugue_ids.specs.Identifiers.{Identifier}
 use Rattle.fugue_ids.specs.Ops.{op_eq}
 use Rattle.fugue_ids.specs.declared.op.Op.{Op}
 use Rattle.origin_model.specs.Ops.{has_op, holder, holds, is_own}
-use Rattle.origin_model.proofs.Operations.{op_eq-refl}
+use Rattle.fugue_ids.specs.SameOps.{op_eq-refl}
 
 -- the newest operation is found by its own identifier
 pub holder-own : (op : Op) (older : List Op) (i : Identifier) → is_own i op ≡ true → holder (op ∷ older) i ≡ Some op

@@ -40,7 +40,7 @@ abbrev bare : Identifier → Op → Op
 bare x op = as_op (node_of x op)
 
 -- an operation that is no element adds no node
-nodes-none : (p : Place) (op : Op) (older : List Op) → element_of p op ≡ None → nodes p (op ∷ older) ≡ nodes p older
+pub nodes-none : (p : Place) (op : Op) (older : List Op) → element_of p op ≡ None → nodes p (op ∷ older) ≡ nodes p older
 nodes-none p op older e = ap (λ o. with_node o op (nodes p older)) e
 
 -- an element adds its node

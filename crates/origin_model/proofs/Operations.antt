@@ -1,47 +1,18 @@
--- The test of operations tells whether they are equal; an operation's own identifier, and the element that it makes.
-use Rattle.std.proofs.Common.{ap, false, nat_eq, refl, sym, true, ◌&&◌, ◌≡◌}
+-- An operation's own identifier, and the element that it makes.
+use Rattle.std.proofs.Common.{false, sym, true, ◌≡◌}
 use Rattle.std.specs.Prelude.{None, Some}
-use Rattle.std.proofs.lemmas.Bool.{and_from, and_parts, eq-eqb, eqb-true, false≢true}
-use lib.Pointwise.{bytes_decides, pointwise}
-use Rattle.fugue_ids.specs.Identifiers.{Identifier, id_eq, origin_eq}
-use Rattle.fugue_ids.specs.Ops.{id_of, op_eq}
+use Rattle.fugue_ids.specs.Identifiers.{Identifier, id_eq}
+use Rattle.fugue_ids.specs.Ops.{id_of}
 use Rattle.fugue_ids.specs.declared.op.Op.{Op}
 use Rattle.fugue_ids.specs.declared.op.Op.TheVariants.{Delete, Section, Text}
 use Rattle.origin_model.specs.Ops.{element_of, is_own}
 use Rattle.origin_model.specs.declared.place.Place.{Place}
 use Rattle.origin_model.specs.declared.place.Place.TheVariants.{Catalogue as catalogue, Section as within}
-use Rattle.origin_model.proofs.Identifiers.{id_eq-refl, id_eq-true, not_some, origin_eq-refl, origin_eq-true, same_some}
-
--- operations that pass the test are equal
-pub op_eq-true : (a b : Op) → op_eq a b ≡ true → a ≡ b
-op_eq-true (Section i l r t) (Section j m s u) h =
-    let x = and_parts (id_eq i j && origin_eq l m && origin_eq r s) (pointwise nat_eq t u) h in
-    let y = and_parts (id_eq i j && origin_eq l m) (origin_eq r s) x.0 in
-    let z = and_parts (id_eq i j) (origin_eq l m) y.0 in
-    λ k. Section (id_eq-true i j z.0 k) (origin_eq-true l m z.1 k) (origin_eq-true r s y.1 k) ((bytes_decides t u).0 x.1 k)
-op_eq-true (Section i l r t) (Text j q m s d) h = absurd (false≢true h)
-op_eq-true (Section i l r t) (Delete j) h = absurd (false≢true h)
-op_eq-true (Text i p l r c) (Section j m s u) h = absurd (false≢true h)
-op_eq-true (Text i p l r c) (Text j q m s d) h =
-    let x = and_parts (id_eq i j && id_eq p q && origin_eq l m && origin_eq r s) (nat_eq c d) h in
-    let y = and_parts (id_eq i j && id_eq p q && origin_eq l m) (origin_eq r s) x.0 in
-    let z = and_parts (id_eq i j && id_eq p q) (origin_eq l m) y.0 in
-    let w = and_parts (id_eq i j) (id_eq p q) z.0 in
-    λ k. Text (id_eq-true i j w.0 k) (id_eq-true p q w.1 k) (origin_eq-true l m z.1 k) (origin_eq-true r s y.1 k) (eqb-true c d x.1 k)
-op_eq-true (Text i p l r c) (Delete j) h = absurd (false≢true h)
-op_eq-true (Delete i) (Section j m s u) h = absurd (false≢true h)
-op_eq-true (Delete i) (Text j q m s d) h = absurd (false≢true h)
-op_eq-true (Delete i) (Delete j) h = ap Delete (id_eq-true i j h)
-
--- an operation passes the test with itself
-pub op_eq-refl : (a : Op) → op_eq a a ≡ true
-op_eq-refl (Section i l r t) = and_from _ _ (and_from _ _ (and_from _ _ (id_eq-refl i) (origin_eq-refl l)) (origin_eq-refl r)) ((bytes_decides t t).1 refl)
-op_eq-refl (Text i p l r c) = and_from _ _ (and_from _ _ (and_from _ _ (and_from _ _ (id_eq-refl i) (id_eq-refl p)) (origin_eq-refl l)) (origin_eq-refl r)) (eq-eqb c c refl)
-op_eq-refl (Delete i) = id_eq-refl i
+use Rattle.origin_model.proofs.Identifiers.{not_some, origin_eq-true, same_some}
 
 -- an identifier that is the operation's own, as an equation
 pub own_id : (op : Op) (x : Identifier) → is_own x op ≡ true → id_of op ≡ Some x
-own_id op x = elim (id_of op) as (λ o. origin_eq o (Some x) ≡ true → o ≡ Some x) [ None ↦ (λ e. absurd (false≢true e)) | Some y ↦ (λ e. ap Some (id_eq-true y x e)) ]
+own_id op x = origin_eq-true (id_of op) (Some x)
 
 -- the element of an operation has the operation's own identifier
 pub element_own : (p : Place) (op : Op) (x : Identifier) → element_of p op ≡ Some x → is_own x op ≡ true

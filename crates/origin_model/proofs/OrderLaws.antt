@@ -49,7 +49,7 @@ deletes-eq x (Text i s l r c) = refl
 deletes-eq x (Delete i) = refl
 
 -- an element is hidden where its Delete is in the history
-hidden-has : (h : List Op) (x : Identifier) → is_hidden h x ≡ has_op h (Delete x)
+pub hidden-has : (h : List Op) (x : Identifier) → is_hidden h x ≡ has_op h (Delete x)
 hidden-has [] x = refl
 hidden-has (op ∷ h) x = λ i. deletes-eq x op i || hidden-has h x i
 

@@ -48,7 +48,7 @@ abbrev stray_by : Role → Identifier → Option Op → Option Identifier
 stray_by role r o = elim o [ None ↦ None | Some op ↦ elim (fits role op) [ true ↦ None | false ↦ Some r ] ]
 
 -- a name that is not Stray fits
-one_fits : (h : List Op) (role : Role) (r : Identifier) (o : Op) → first_stray h (given_as role (Some r)) ≡ None → holder h r ≡ Some o → fits role o ≡ true
+pub one_fits : (h : List Op) (role : Role) (r : Identifier) (o : Op) → first_stray h (given_as role (Some r)) ≡ None → holder h r ≡ Some o → fits role o ≡ true
 one_fits h role r o m e =
     elim (cases_Bool (fits role o)) [
       | inl t ↦ t
@@ -56,11 +56,11 @@ one_fits h role r o m e =
     ]
 
 -- where no name is Stray, none is in either part
-parts_fit : (h : List Op) (xs ys : List (Identifier × Role)) → first_stray h (xs ++ ys) ≡ None → (first_stray h xs ≡ None) × (first_stray h ys ≡ None)
+pub parts_fit : (h : List Op) (xs ys : List (Identifier × Role)) → first_stray h (xs ++ ys) ≡ None → (first_stray h xs ≡ None) × (first_stray h ys ≡ None)
 parts_fit h xs ys e = or_none _ _ (sym (first_stray-append h xs ys) ∙ e)
 
 -- what fits a Section is in the catalogue
-section_fits : (o : Op) → fits SectionRole o ≡ true → element_of catalogue o ≡ id_of o
+pub section_fits : (o : Op) → fits SectionRole o ≡ true → element_of catalogue o ≡ id_of o
 section_fits (Section i l r t) h = refl
 section_fits (Text i s l r c) h = absurd (false≢true h)
 section_fits (Delete i) h = absurd (false≢true h)
@@ -73,12 +73,12 @@ text_fits p s (Text i q l r c) e h =
 text_fits p s (Delete i) e h = absurd (false≢true h)
 
 -- a Text in a section names it
-in_section : (p i s x : Identifier) → (elim (id_eq s p) [ true ↦ Some i | false ↦ None ]) ≡ Some x → id_eq s p ≡ true
+pub in_section : (p i s x : Identifier) → (elim (id_eq s p) [ true ↦ Some i | false ↦ None ]) ≡ Some x → id_eq s p ≡ true
 in_section p i s x e =
     elim (cases_Bool (id_eq s p)) [ inl t ↦ t | inr f ↦ absurd (not_some x (sym e ∙ ap (λ b. elim b [ true ↦ Some i | false ↦ None ]) f)) ]
 
 -- no element is none
-none_is : (P : Type 0) (x : Identifier) → None ≡ Some x → P
+pub none_is : (P : Type 0) (x : Identifier) → None ≡ Some x → P
 none_is P x e = absurd (not_some x (sym e))
 
 -- the left origin of a Ready element is an element of its place

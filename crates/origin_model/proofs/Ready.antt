@@ -14,7 +14,8 @@ use Rattle.origin_model.specs.declared.role.Role.{Role}
 use Rattle.origin_model.specs.declared.role.Role.TheVariants.{Section as SectionRole, TextOf}
 use Rattle.origin_model.specs.declared.verdict.Verdict.TheVariants.{Ready}
 use Rattle.origin_model.proofs.Identifiers.{not_some}
-use Rattle.origin_model.proofs.Operations.{op_eq-true, own_id}
+use Rattle.fugue_ids.specs.SameOps.{op_eq-true}
+use Rattle.origin_model.proofs.Operations.{own_id}
 use Rattle.origin_model.proofs.Lookups.{IsHeld, holder-other, holder-own, holds-older}
 
 -- the first present of three
@@ -76,12 +77,12 @@ or_none None b h = (refl, h)
 or_none (Some i) b h = cc
 
 -- a name that is not missing is held
-one_held : (h : List Op) (role : Role) (i : Identifier) → first_missing h (given_as role (Some i)) ≡ None → IsHeld h i
+pub one_held : (h : List Op) (role : Role) (i : Identifier) → first_missing h (given_as role (Some i)) ≡ None → IsHeld h i
 one_held h role i =
     elim (holder h i) as (λ o. (elim o [ None ↦ Some i | Some op ↦ None ]) ≡ None → is_some o ≡ true) [ None ↦ (λ e. absurd (not_some i e)) | Some op ↦ (λ e. refl) ]
 
 -- where no name is missing, none is in either part
-parts_held : (h : List Op) (xs ys : List (Identifier × Role)) → first_missing h (xs ++ ys) ≡ None → (first_missing h xs ≡ None) × (first_missing h ys ≡ None)
+pub parts_held : (h : List Op) (xs ys : List (Identifier × Role)) → first_missing h (xs ++ ys) ≡ None → (first_missing h xs ≡ None) × (first_missing h ys ≡ None)
 parts_held h xs ys e = or_none _ _ (sym (first_missing-append h xs ys) ∙ e)
 
 -- the right origin is held

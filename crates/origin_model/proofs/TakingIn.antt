@@ -11,7 +11,8 @@ use Rattle.origin_model.specs.Taking.{Held, Answer, Accepted, Again as AnsweredA
 use Rattle.origin_model.specs.Verdict.{Lawful, id_held, verdict}
 use Rattle.origin_model.specs.declared.verdict.Verdict.{Verdict}
 use Rattle.origin_model.specs.declared.verdict.Verdict.TheVariants.{Again, Conflict, Missing, Ready, Stray}
-use Rattle.origin_model.proofs.Operations.{op_eq-refl, op_eq-true, own_id}
+use Rattle.fugue_ids.specs.SameOps.{op_eq-refl, op_eq-true}
+use Rattle.origin_model.proofs.Operations.{own_id}
 use Rattle.origin_model.proofs.Lookups.{holder-has, holder_owns}
 use Rattle.origin_model.proofs.Parts.{Within-append}
 use Rattle.origin_model.proofs.Causes.{Dead, dead_within, stray_dead}

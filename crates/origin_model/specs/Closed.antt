@@ -6,17 +6,13 @@ use Rattle.fugue_ids.specs.Ops.{id_of}
 use Rattle.fugue_ids.specs.declared.op.Op.{Op}
 use Rattle.origin_model.specs.Ops.{has_op, accepted}
 use Rattle.origin_model.specs.Laws.{IsPartOf, SameOps, IsSameText}
-use Rattle.origin_model.specs.Taking.{Held, nothing, Answer, TooMany, Full, held, held_from, kept, kept_from, answers_from, is_kept, is_decided, settle, closure}
+use Rattle.origin_model.specs.Taking.{Held, nothing, Answer, TooMany, Full, held, held_from, kept, kept_from, answers_from, is_kept, IsSettled, settle, closure}
 use Rattle.origin_model.specs.Verdict.{verdict, Lawful}
 use Rattle.origin_model.specs.declared.verdict.Verdict.TheVariants.{Ready}
 
 -- no two different operations have one identifier
 abbrev pub Consistent : List Op → Type 0
 Consistent ops = (a b : Op) (i : Identifier) → has_op ops a ≡ true → has_op ops b ≡ true → id_of a ≡ Some i → id_of b ≡ Some i → a ≡ b
-
--- no waiting operation is Ready or Stray
-abbrev pub IsSettled : Held → Type 0
-IsSettled s = (op : Op) → has_op s.waiting op ≡ true → is_decided (verdict s.history op) ≡ false
 
 -- the answers to operations taken in one after another from nothing
 abbrev pub answers : (hold most : ℕ) → List Op → List Answer
@@ -108,14 +104,14 @@ PartsAsOne =
     × (kept_from hold most s a ++ kept_from hold most (held_from hold most s a) b ≡ kept_from hold most s (a ++ b))
 
 -- the kept ones of a list, taken in alone: the state is the same, and each of them is kept again, so that no limit is met
-pub record StandsFor (hold most : ℕ) (s : Held) (ops : List Op) : Type 0 where
+pub record KeptStand (hold most : ℕ) (s : Held) (ops : List Op) : Type 0 where
   pub same_state : held_from hold most s (kept_from hold most s ops) ≡ held_from hold most s ops
   pub kept_again : AllByRecursion (λ a. is_kept a ≡ true) (answers_from hold most s (kept_from hold most s ops))
   pub within_limits : WithinLimits (answers_from hold most s (kept_from hold most s ops))
 
 -- from any settled state the kept operations of a list stand for all of it
 abbrev pub KeptSuffice : Type 0
-KeptSuffice = (hold most : ℕ) (s : Held) (ops : List Op) → IsSettled s → StandsFor hold most s ops
+KeptSuffice = (hold most : ℕ) (s : Held) (ops : List Op) → IsSettled s → KeptStand hold most s ops
 
 -- settling goes on until nothing that waits is Ready or Stray
 abbrev pub SettlingEnds : Type 0

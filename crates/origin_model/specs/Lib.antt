@@ -1,4 +1,5 @@
 pub mod Ops
+pub mod Members
 pub mod Verdict
 pub mod Order
 pub mod Printed
@@ -12,3 +13,4 @@ pub mod Listing
 pub mod Sided
 pub mod Nodes
 pub mod Detached
+pub mod Founded

@@ -90,6 +90,10 @@ pub record IsByNodes (p : Place) (h : List Op) : Type 0 where
 abbrev pub OrderByNodes : Type 0
 OrderByNodes = (p : Place) (h : List Op) → Lawful h → IsByNodes p h
 
+-- nodes that no look-up can tell apart have one order, whichever came first
+abbrev pub SameNodesSameOrder : Type 0
+SameNodesSameOrder = (a b : List Node) → AreNodes a → AreNodes b → ((x : Identifier) → find_node a x ≡ find_node b x) → node_order a ≡ node_order b
+
 -- how many nodes are newer than x
 abbrev pub newer : List Node → Identifier → ℕ
 newer [] x = 0

@@ -1,5 +1,5 @@
 -- Taking operations in. A history is newest first; what waits stands in order of arrival.
-use Rattle.std.specs.Prelude.{Option, Some, None, Bool, true, false, ◌||◌, List, [], ◌∷◌, ◌++◌, ℕ, ◌+◌, ◌-◌, nat_eq, length}
+use Rattle.std.specs.Prelude.{◌≡◌, All, Option, Some, None, Bool, true, false, ◌||◌, List, [], ◌∷◌, ◌++◌, ℕ, ◌+◌, ◌-◌, nat_eq, length}
 use Rattle.fugue_ids.specs.Identifiers.{Identifier}
 use Rattle.fugue_ids.specs.Ops.{id_of}
 use Rattle.fugue_ids.specs.declared.op.Op.{Op}
@@ -66,11 +66,19 @@ is_decided Ready = true
 is_decided (StrayOnHistory i) = true
 is_decided _ = false
 
+-- the operation is Ready or Stray on the history
+abbrev pub decided_on : List Op → Op → Bool
+decided_on history op = is_decided (verdict history op)
+
+-- nothing that waits is Ready or Stray
+abbrev pub IsSettled : Held → Type 0
+IsSettled s = All (λ op. decided_on s.history op ≡ false) s.waiting
+
 -- the earliest decided operation, and the others
 abbrev pub earliest : List Op → List Op → Option (Op × List Op)
 earliest history [] = None
 earliest history (op ∷ ops) =
-    elim (is_decided (verdict history op)) [
+    elim (decided_on history op) [
       | true ↦ Some (op, ops)
       | false ↦ elim (earliest history ops) [ None ↦ None | Some r ↦ Some (r.0, op ∷ r.1) ]
     ]

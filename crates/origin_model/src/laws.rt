@@ -2,8 +2,9 @@
 
 ghost use Rattle.origin_model.specs.Closed.{ClosureOfSet, ClosureIsClosed, ClosureBySet, SameSetConverges, ClosureOfUnion, ClosureOfMerge, KeptSuffice, SettlingEnds, StaysSettled, PartsAsOne, SavedSuffice};
 ghost use Rattle.origin_model.specs.Detached.{AbsentStays, DetachAny, FoundWithout, NewestTakenBack};
+ghost use Rattle.origin_model.specs.Founded.{NoTextBefore, NotHiddenBefore, ReadyIsNew, SectionFirst, ShownCanGo, TargetIsShown};
 ghost use Rattle.origin_model.specs.Laws.{OrderTotal, LaterOpsKeepOrder, PartsKeepOrder, OrderBySet};
-ghost use Rattle.origin_model.specs.Nodes.{ChildrenNewer, NodesHeld, NodesLawful, NodesListed, OrderByNodes};
+ghost use Rattle.origin_model.specs.Nodes.{ChildrenNewer, NodesHeld, NodesLawful, NodesListed, OrderByNodes, SameNodesSameOrder};
 ghost use Rattle.origin_model.specs.Sided.{AttachKeeps, GapIsPlace};
 
 /// The elements of a place are in a total order, which `order` lists.
@@ -53,6 +54,23 @@ pub fn nodes_are_history()
     ensures lawful { NodesLawful }
     ensures held { NodesHeld }
     ensures listed { NodesListed }
+{}
+
+/// Nodes have one order in whatever order they came, as long as each came behind its origins.
+pub fn same_nodes_same_order()
+    ensures { SameNodesSameOrder }
+{}
+
+/// What an operation rests on is in the history before it, so nothing is there of an element that is not held yet: no text and no Delete.
+///
+/// The Delete of a shown element is Ready, and the target of a Ready Delete is held and shown.
+pub fn causes_first()
+    ensures fresh { ReadyIsNew }
+    ensures section { SectionFirst }
+    ensures text { NoTextBefore }
+    ensures hidden { NotHiddenBefore }
+    ensures delete { ShownCanGo }
+    ensures target { TargetIsShown }
 {}
 
 /// The gap that the sided tree gives is the new element's place.

@@ -26,9 +26,12 @@ mod tests;
 mod verdict;
 
 pub use laws::{
-    attach_keeps, children_newer, closure_of_set, detach_any, gap_is_place, kept_suffice,
-    later_ops_keep_order, nodes_are_history, order_by_nodes, order_by_set, order_total,
+    attach_keeps, causes_first, children_newer, closure_of_set, detach_any, gap_is_place,
+    kept_suffice, later_ops_keep_order, nodes_are_history, order_by_nodes, order_by_set,
+    order_total, same_nodes_same_order,
 };
+pub use lookup::Lookup;
+pub use named::verdict_in;
 pub use no_memory_for::NoMemoryFor;
 pub use node::Node;
 pub use place::Place;

@@ -1,10 +1,10 @@
 //! The identifiers that an operation rests on, and what it is against the accepted operations.
 
-ghost use Rattle.std.specs.Prelude.{◌≡◌, ◌++◌, reverse, option_to_list};
+ghost use Rattle.std.specs.Prelude.{◌≡◌, ◌++◌, option_to_list};
 ghost use Rattle.fugue_ids.specs.Ops.{id_of};
 ghost use Rattle.origin_model.specs.Verdict.{names, fits as fits_role, first_stray, given_as, first_missing, id_held, verdict as verdict_on};
 
-use crate::lookup::{contains_op, find_holder};
+use crate::lookup::Lookup;
 use crate::{Role, Verdict};
 use fugue_ids::{ElementId, Op};
 
@@ -66,65 +66,66 @@ fn names_of(op: &Op) -> (Named, Named, Named)
     }
 }
 
-fn stray_of(ops: &[Op], named: Named) -> Option<ElementId>
-    ensures { result ≡ first_stray (reverse ops.now) (option_to_list named) }
+fn stray_of<L: Lookup>(lookup: &L, named: Named) -> Option<ElementId>
+    ensures { result ≡ first_stray (L.history lookup.now) (option_to_list named) }
 {
     let (id, role) = named?;
-    let op = find_holder(ops, id)?;
+    let op = lookup.holder(id)?;
     if fits(role, op) { None } else { Some(id) }
 }
 
-fn missing_of(ops: &[Op], named: Named) -> Option<ElementId>
-    ensures { result ≡ first_missing (reverse ops.now) (option_to_list named) }
+fn missing_of<L: Lookup>(lookup: &L, named: Named) -> Option<ElementId>
+    ensures { result ≡ first_missing (L.history lookup.now) (option_to_list named) }
 {
     let (id, _) = named?;
-    match find_holder(ops, id) {
+    match lookup.holder(id) {
         Some(_) => None,
         None => Some(id),
     }
 }
 
-fn stray_name(ops: &[Op], op: &Op) -> Option<ElementId>
-    ensures { result ≡ first_stray (reverse ops.now) (names op.now) }
+fn stray_name<L: Lookup>(lookup: &L, op: &Op) -> Option<ElementId>
+    ensures { result ≡ first_stray (L.history lookup.now) (names op.now) }
 {
     let (first, second, third) = names_of(op);
-    stray_of(ops, first)
-        .or(stray_of(ops, second))
-        .or(stray_of(ops, third))
+    stray_of(lookup, first)
+        .or(stray_of(lookup, second))
+        .or(stray_of(lookup, third))
 }
 
-fn missing_name(ops: &[Op], op: &Op) -> Option<ElementId>
-    ensures { result ≡ first_missing (reverse ops.now) (names op.now) }
+fn missing_name<L: Lookup>(lookup: &L, op: &Op) -> Option<ElementId>
+    ensures { result ≡ first_missing (L.history lookup.now) (names op.now) }
 {
     let (first, second, third) = names_of(op);
-    missing_of(ops, first)
-        .or(missing_of(ops, second))
-        .or(missing_of(ops, third))
+    missing_of(lookup, first)
+        .or(missing_of(lookup, second))
+        .or(missing_of(lookup, third))
 }
 
-fn is_taken(ops: &[Op], op: &Op) -> bool
-    ensures { result ≡ id_held (reverse ops.now) (id_of op.now) }
+fn is_taken<L: Lookup>(lookup: &L, op: &Op) -> bool
+    ensures { result ≡ id_held (L.history lookup.now) (id_of op.now) }
 {
     match op.id() {
-        Some(id) => find_holder(ops, id).is_some(),
+        Some(id) => lookup.holder(id).is_some(),
         None => false,
     }
 }
 
+/// What an operation is against those in which it is looked up.
 #[tactic(auto, unfolding(crate::specs::Verdict::verdict))]
-pub fn verdict_of(ops: &[Op], op: &Op) -> Verdict
-    ensures { result ≡ verdict_on (reverse ops.now) op.now }
+pub fn verdict_in<L: Lookup>(lookup: &L, op: &Op) -> Verdict
+    ensures { result ≡ verdict_on (L.history lookup.now) op.now }
 {
-    if contains_op(ops, op) {
+    if lookup.contains(op) {
         return Verdict::Again;
     }
-    if is_taken(ops, op) {
+    if is_taken(lookup, op) {
         return Verdict::Conflict;
     }
-    if let Some(id) = stray_name(ops, op) {
+    if let Some(id) = stray_name(lookup, op) {
         return Verdict::Stray(id);
     }
-    if let Some(id) = missing_name(ops, op) {
+    if let Some(id) = missing_name(lookup, op) {
         return Verdict::Missing(id);
     }
     Verdict::Ready

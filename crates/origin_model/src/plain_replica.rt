@@ -8,7 +8,8 @@ ghost use Rattle.origin_model.specs.Printed.{shown as shown_on, manuscript};
 
 use crate::listed::Listed;
 use crate::listing::{elements_in, list_newest};
-use crate::named::verdict_of;
+use crate::lookup::{Lookup, contains_op, find_holder};
+use crate::named::verdict_in;
 use crate::printing::write_manuscript;
 use crate::shown::shown_in;
 use crate::{NoMemoryFor, Place, Verdict};
@@ -42,6 +43,18 @@ impl Model for PlainReplica {
     } };
 }
 
+impl Lookup for PlainReplica {
+    ghost history = { λ replica. replica };
+
+    fn holder(&self, id: ElementId) -> Option<&Op> {
+        find_holder(&self.ops, id)
+    }
+
+    fn contains(&self, op: &Op) -> bool {
+        contains_op(&self.ops, op)
+    }
+}
+
 impl PlainReplica {
     /// A replica that holds nothing. It takes no memory.
     #[tactic(auto, unfolding(crate::specs::Order::order))]
@@ -67,7 +80,7 @@ impl PlainReplica {
     pub fn verdict(&self, op: &Op) -> Verdict
         ensures { result ≡ verdict_on self.now op.now }
     {
-        verdict_of(&self.ops, op)
+        verdict_in(self, op)
     }
 
     /// The elements of a place in order, hidden ones too.

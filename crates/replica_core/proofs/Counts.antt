@@ -1,5 +1,5 @@
 -- What settling is counted as.
-use Rattle.std.proofs.Common.{◌≡◌, refl, sym, ◌∙◌, ap, subst, ℕ, suc, ◌+◌, ◌-◌, ◌<◌, ◌≤◌, ◌^◌, length, ◌∷◌, true, arith, inl, inr}
+use Rattle.std.proofs.Common.{◌≡◌, refl, sym, ◌∙◌, ap, subst, ℕ, suc, ◌+◌, ◌<◌, ◌≤◌, ◌^◌, length, ◌∷◌, true, arith, inl, inr}
 use Rattle.std.specs.Prelude.{Option, Some}
 use Rattle.fugue_ids.specs.declared.op.Op.{Op}
 use Rattle.origin_model.specs.declared.tally.Tally.{Tally}
@@ -97,14 +97,6 @@ settling_more start now next before after then so step others stands = record {
   accepted = so.accepted;
   stray = so.stray;
 }
-
--- the counts of settling stay small
-pub settling_fits : (start now : State) (before after : Tally) → IsSettling start now before after → (after.accepted < 2 ^ 32 - 1) × (after.stray < 2 ^ 32 - 1)
-settling_fits start now before after so =
-    let g = reaches_grew start.held now.held so.steps in
-    let accepted : after.accepted ≡ before.accepted + count_joined start.held now.held = ap (λ (t : Tally). t.accepted) so.counted in
-    let stray : after.stray ≡ before.stray + count_dropped start.held now.held = ap (λ (t : Tally). t.stray) so.counted in
-    (omega (arith, g.later, g.together, accepted, so.few, so.accepted), omega (arith, stray, so.few, so.stray))
 
 -- a step that is told as one by which an operation joins
 pub told_joined : (s u : Held) (told : Option Settled) (op : Op) (t : Tally) → told ≡ Some (SettledAccepted op) → Settles s u told

@@ -1,5 +1,6 @@
 -- What a decision has to do with the answer to an operation.
-use Rattle.std.proofs.Common.{◌≡◌, refl, sym, ◌∙◌, ap, Bool, true, false, ◌||◌, nat_eq, ◌+◌, ℕ, length, List, arith}
+use Rattle.std.proofs.Common.{◌≡◌, refl, sym, ◌∙◌, ap, Bool, true, false, ◌||◌, cond, nat_eq, ◌+◌, ℕ, length, List, arith}
+use Rattle.std.proofs.lemmas.Bool.{false≢true}
 use Rattle.std.proofs.lemmas.List.{length-reverse}
 use Rattle.std.specs.Prelude.{Option, Some, None, ◌↔◌}
 use Rattle.fugue_ids.specs.Identifiers.{Identifier}
@@ -11,7 +12,7 @@ use Rattle.origin_model.specs.Ops.{has_op, accepted}
 use Rattle.origin_model.specs.Verdict.{verdict, first_line, first_stray, first_missing, names, id_held}
 use Rattle.origin_model.specs.declared.verdict.Verdict.{Verdict}
 use Rattle.origin_model.specs.declared.verdict.Verdict.TheVariants.{Again as AgainOnHistory, Conflict as ConflictOnHistory, Stray as StrayOnHistory, Missing as MissingOnHistory, Ready as ReadyOnHistory}
-use Rattle.origin_model.specs.Taking.{Held, Answer, Again, Conflict, Accepted, Waits, answer, answer_by, is_again, is_taken}
+use Rattle.origin_model.specs.Taking.{Held, Answer, Again, Conflict, Accepted, Full, Waits, answer, answer_by, is_again, is_taken, is_decided}
 use Rattle.replica_core.specs.declared.decision.Decision.{Decision}
 use Rattle.replica_core.specs.Decided.{decided, answer_by_decision}
 
@@ -133,3 +134,31 @@ pub waits_new : (hold most : ℕ) (s : Held) (op : Op) → answer hold most s op
 waits_new hold most s op e =
     let f = waits_from (is_again s op) (is_taken s op) (nat_eq (length s.history + length s.waiting) most) (nat_eq (length s.waiting) hold) (verdict s.history op) e in
     record { absent = f.0; own_id = f.1; below = f.2 }
+
+-- the answer to an operation that is to wait
+abbrev waits_or_full : Answer → Bool
+waits_or_full Full = true
+waits_or_full Waits = true
+waits_or_full _ = false
+
+either_waits : (at_hold : Bool) → waits_or_full (cond at_hold Full Waits) ≡ true
+either_waits true = refl
+either_waits false = refl
+
+undecided_from : (again taken at_most at_hold : Bool) (v : Verdict) → waits_or_full (answer_from again taken at_most at_hold v) ≡ true → is_decided v ≡ false
+undecided_from again taken at_most at_hold AgainOnHistory e = refl
+undecided_from again taken at_most at_hold ConflictOnHistory e = refl
+undecided_from again taken at_most at_hold (MissingOnHistory i) e = refl
+undecided_from true taken at_most at_hold (StrayOnHistory i) e = absurd (false≢true e)
+undecided_from false true at_most at_hold (StrayOnHistory i) e = absurd (false≢true e)
+undecided_from false false at_most at_hold (StrayOnHistory i) e = absurd (false≢true e)
+undecided_from true taken at_most at_hold ReadyOnHistory e = absurd (false≢true e)
+undecided_from false true at_most at_hold ReadyOnHistory e = absurd (false≢true e)
+undecided_from false false true at_hold ReadyOnHistory e = absurd (false≢true e)
+undecided_from false false false at_hold ReadyOnHistory e = absurd (false≢true e)
+
+-- an operation that is to wait is not decided
+pub waits_undecided : (hold most : ℕ) (s : Held) (op : Op) (at_hold : Bool) → answer hold most s op ≡ cond at_hold Full Waits → is_decided (verdict s.history op) ≡ false
+waits_undecided hold most s op at_hold e =
+    undecided_from (is_again s op) (is_taken s op) (nat_eq (length s.history + length s.waiting) most) (nat_eq (length s.waiting) hold) (verdict s.history op)
+    (ap waits_or_full e ∙ either_waits at_hold)

@@ -6,8 +6,8 @@ use Rattle.origin_model.specs.Verdict.{verdict}
 use Rattle.origin_model.specs.declared.verdict.Verdict.{Verdict}
 use Rattle.origin_model.specs.declared.verdict.Verdict.TheVariants.{Again as AgainOnHistory, Conflict as ConflictOnHistory, Stray as StrayOnHistory, Missing as MissingOnHistory, Ready as ReadyOnHistory}
 use Rattle.origin_model.specs.declared.tally.Tally.{Tally}
-use Rattle.origin_model.specs.Taking.{Held, Answer, Accepted, Waits, answer, taken, is_decided, is_kept, is_again, is_taken, settle, intake, answer_counted, settling_counted, intake_counted}
-use Rattle.replica_core.specs.Settling.{IsSettled, Reaches}
+use Rattle.origin_model.specs.Taking.{Held, Answer, Accepted, Waits, answer, taken, is_decided, is_kept, is_again, is_taken, settle, intake, answer_counted, settling_counted, intake_counted, IsSettled}
+use Rattle.replica_core.specs.Settling.{Reaches}
 use Rattle.replica_core.specs.Told.{StandsPartly, Leaves, total}
 use Rattle.replica_core.specs.State.{State}
 use Rattle.replica_core.specs.declared.feed_fault.FeedFault.TheVariants.{NoMemory as FedNoMemory}

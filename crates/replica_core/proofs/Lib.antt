@@ -1,7 +1,12 @@
 pub mod Decisions
+pub mod Earliest
 pub mod Standing
 pub mod Places
+pub mod Marks
 pub mod Steps
 pub mod StepsStand
+pub mod Woken
 pub mod Counts
 pub mod Feeding
+pub mod Indexes
+pub mod Manuscripts

@@ -1,5 +1,5 @@
 -- What is so of every replica stays so.
-use Rattle.std.proofs.Common.{◌≡◌, ◌≢◌, refl, sym, ◌∙◌, ap, subst, ℕ, zero, suc, ◌+◌, ◌<◌, ◌≤◌, length, List, [], ◌∷◌, ◌++◌, Bool, true, false, ◌||◌, nat_eq, cond, arith, append_assoc, length-append, get_or}
+use Rattle.std.proofs.Common.{◌≡◌, ◌≢◌, refl, sym, ◌∙◌, ap, subst, ℕ, zero, suc, ◌+◌, ◌<◌, ◌≤◌, length, List, [], ◌∷◌, ◌++◌, Bool, true, false, nat_eq, cond, arith, append_assoc, length-append, get_or}
 use Rattle.std.specs.Prelude.{Option, Some, None, All, AllPairs, remove, slice_get}
 use Rattle.std.proofs.lemmas.Bool.{or_parts, or_from, true≢false, eqb-false, ne_eqb, false_from_ne_true}
 use Rattle.std.proofs.lemmas.List.Elements.{All-nil, All-cons, All-append}
@@ -9,14 +9,14 @@ use Rattle.std.proofs.lemmas.Option.{slice_get_within, slice_get-get_or, get_or_
 use Rattle.std.proofs.lemmas.List.{length_push}
 use Rattle.fugue_ids.specs.Identifiers.{Identifier, origin_eq}
 use Rattle.fugue_ids.specs.Ops.{id_of, op_eq}
+use Rattle.fugue_ids.specs.SameIdentifiers.{id_eq-refl, origin_eq-true}
+use Rattle.fugue_ids.specs.SameOps.{op_eq-refl, op_eq-true}
 use Rattle.fugue_ids.specs.declared.op.Op.{Op}
+use Rattle.origin_model.specs.Members.{holds-cons}
 use Rattle.origin_model.specs.Ops.{has_op, holds, is_own}
 use Rattle.origin_model.specs.Verdict.{verdict, first_line, first_stray, first_missing, names, id_held}
 use Rattle.origin_model.specs.declared.verdict.Verdict.TheVariants.{Ready}
 use Rattle.origin_model.specs.Taking.{Held, answer, Accepted, Full, Waits}
-use Rattle.origin_model.proofs.Identifiers.{id_eq-refl}
-use Rattle.origin_model.proofs.Operations.{op_eq-refl, op_eq-true, own_id}
-use Rattle.causal_inbox.proofs.Lookups.{holds_any}
 use Rattle.replica_core.specs.State.{State, Stands, HaveOtherIds, IsOpen}
 use Rattle.causal_inbox.specs.Waiting.{Waiting}
 use Rattle.replica_core.proofs.Decisions.{IsNew, accepted_new, waits_new}
@@ -27,9 +27,6 @@ differs [] op e = All-nil (λ x. op ≢ x)
 differs (o ∷ ops) op e =
     let p = or_parts (op_eq o op) (has_op ops op) e in
     All-cons (λ x. op ≢ x) o ops (λ same. true≢false (sym (op_eq-refl op) ∙ subst (λ x. op_eq x op ≡ false) (sym same) p.0)) (differs ops op p.1)
-
-holds-cons : (o : Op) (ops : List Op) (i : Identifier) → holds (o ∷ ops) i ≡ (is_own i o || holds ops i)
-holds-cons o ops i = holds_any (o ∷ ops) i ∙ ap (λ b. is_own i o || b) (sym (holds_any ops i))
 
 -- an identifier that is not held is no member's
 not_own : (i : Identifier) (ops : List Op) → holds ops i ≡ false → All (λ x. id_of x ≢ Some i) ops
@@ -193,7 +190,7 @@ stands_by_push s inbox new op waits holds answered is within t =
     (stands_waiting s op t (waits_new s.hold s.most s.held op answered_waits) fits)
 
 -- an operation behind a list that differs from its members is not in it
-absent_before : (h rest : List Op) (k : ℕ) (x : Op) → slice_get rest k ≡ Some x → AllPairs (λ (a b : Op). a ≢ b) (h ++ rest) → has_op h x ≡ false
+pub absent_before : (h rest : List Op) (k : ℕ) (x : Op) → slice_get rest k ≡ Some x → AllPairs (λ (a b : Op). a ≢ b) (h ++ rest) → has_op h x ≡ false
 absent_before [] rest k x at pairs = refl
 absent_before (o ∷ h) rest k x at pairs =
     let there = slice_get-behind h rest k x at in
@@ -212,10 +209,10 @@ unheld_before (o ∷ h) rest k x i at is pairs =
     pairs 0 (suc (length h + k)) x (omega arith) (omega (arith, slice_get_within (h ++ rest) (length h + k) x there)) in
     holds-cons o h i
     ∙ or_from (is_own i o) (holds h i)
-    (false_from_ne_true (is_own i o) (λ own. others i (own_id o i own) (ap id_of (get_or_from_slice_get (h ++ rest) (length h + k) x x there) ∙ is)))
+    (false_from_ne_true (is_own i o) (λ own. others i (origin_eq-true (id_of o) (Some i) own) (ap id_of (get_or_from_slice_get (h ++ rest) (length h + k) x x there) ∙ is)))
     (unheld_before h rest k x i at is (λ a b d less below. pairs (suc a) (suc b) d (omega (arith, less)) (omega (arith, below))))
 
-id_unheld : (h rest : List Op) (k : ℕ) (x : Op) (o : Option Identifier) → slice_get rest k ≡ Some x → id_of x ≡ o → AllPairs HaveOtherIds (h ++ rest) → id_held h o ≡ false
+pub id_unheld : (h rest : List Op) (k : ℕ) (x : Op) (o : Option Identifier) → slice_get rest k ≡ Some x → id_of x ≡ o → AllPairs HaveOtherIds (h ++ rest) → id_held h o ≡ false
 id_unheld h rest k x None at is pairs = refl
 id_unheld h rest k x (Some i) at is pairs = unheld_before h rest k x i at is pairs
 

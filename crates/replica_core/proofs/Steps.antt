@@ -7,9 +7,9 @@ use Rattle.fugue_ids.specs.declared.op.Op.{Op}
 use Rattle.origin_model.specs.Verdict.{verdict}
 use Rattle.origin_model.specs.declared.verdict.Verdict.{Verdict}
 use Rattle.origin_model.specs.declared.verdict.Verdict.TheVariants.{Again, Conflict, Stray, Missing, Ready}
-use Rattle.origin_model.specs.Taking.{Held, earliest, joined, settle_step, settled_within, settle}
-use Rattle.causal_inbox.proofs.Earliest.{decided_on, behind, earliest-decided, earliest-behind, earliest_none, earliest_at}
-use Rattle.replica_core.specs.Settling.{IsSettled, Reaches, Here, Step}
+use Rattle.origin_model.specs.Taking.{Held, earliest, joined, settle_step, settled_within, settle, decided_on, IsSettled}
+use Rattle.replica_core.proofs.Earliest.{behind, earliest-decided, earliest-behind, earliest_none, earliest_at}
+use Rattle.replica_core.specs.Settling.{Reaches, Here, Step}
 use Rattle.replica_core.proofs.Places.{none_passes, none_found}
 
 no_place : (k : ℕ) → Some k ≡ None → ⊥

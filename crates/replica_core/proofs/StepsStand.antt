@@ -5,9 +5,8 @@ use Rattle.std.proofs.lemmas.Option.{get_or_from_slice_get}
 use Rattle.fugue_ids.specs.declared.op.Op.{Op}
 use Rattle.origin_model.specs.Verdict.{verdict}
 use Rattle.origin_model.specs.declared.verdict.Verdict.TheVariants.{Ready}
-use Rattle.origin_model.specs.Taking.{Held}
+use Rattle.origin_model.specs.Taking.{Held, decided_on}
 use Rattle.causal_inbox.specs.Waiting.{Waiting}
-use Rattle.causal_inbox.proofs.Earliest.{decided_on}
 use Rattle.replica_core.specs.State.{State, Stands}
 use Rattle.replica_core.specs.Told.{Settles}
 use Rattle.replica_core.specs.declared.settled.Settled.{Settled}

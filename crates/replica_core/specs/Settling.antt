@@ -1,11 +1,6 @@
 -- Settling, step by step.
-use Rattle.std.specs.Prelude.{◌≡◌, Some, false, All}
-use Rattle.origin_model.specs.Verdict.{verdict}
-use Rattle.origin_model.specs.Taking.{Held, is_decided, settle_step}
-
--- nothing that waits is Ready or Stray
-abbrev pub IsSettled : Held → Type 0
-IsSettled s = All (λ op. is_decided (verdict s.history op) ≡ false) s.waiting
+use Rattle.std.specs.Prelude.{◌≡◌, Some}
+use Rattle.origin_model.specs.Taking.{Held, settle_step}
 
 -- some steps of settling lead from one state to another
 pub data Reaches : Held → Held → Type 0 where

@@ -2,7 +2,7 @@
 use Rattle.std.specs.Prelude.{◌≡◌, ℕ, ◌<◌, ◌+◌, ◌^◌, ◌∷◌, Bool, true, false, ◌⊎◌, Option, Some, None, Result, Ok, Err}
 use Rattle.fugue_ids.specs.declared.op.Op.{Op}
 use Rattle.origin_model.specs.declared.tally.Tally.{Tally}
-use Rattle.origin_model.specs.Taking.{Held, Answer, Again, Conflict, Stray, TooMany, Accepted, Full, Waits, answer, taken, is_kept, settle_step, earliest, settle, intake, answer_counted, settling_counted}
+use Rattle.origin_model.specs.Taking.{Held, Answer, Again, Conflict, Stray, TooMany, Accepted, Full, Waits, answer, taken, is_kept, settle_step, earliest, settle, intake, answer_counted, settling_counted, IsSettled}
 use Rattle.replica_core.specs.declared.taken.Taken.{Taken}
 use Rattle.replica_core.specs.declared.taken.Taken.TheVariants.{Accepted as TakenAccepted, Waits as TakenWaits, Again as TakenAgain}
 use Rattle.replica_core.specs.declared.settled.Settled.{Settled}
@@ -11,7 +11,7 @@ use Rattle.replica_core.specs.declared.deliver_fault.DeliverFault.{DeliverFault}
 use Rattle.replica_core.specs.declared.deliver_fault.DeliverFault.TheVariants.{Conflict as RefusedConflict, Stray as RefusedStray, Full as RefusedFull, TooMany as RefusedTooMany, NoMemory}
 use Rattle.replica_core.specs.declared.feed_fault.FeedFault.{FeedFault}
 use Rattle.replica_core.specs.declared.feed_fault.FeedFault.TheVariants.{TooMany as FedTooMany, NoMemory as FedNoMemory}
-use Rattle.replica_core.specs.Settling.{IsSettled, Reaches}
+use Rattle.replica_core.specs.Settling.{Reaches}
 use Rattle.replica_core.specs.State.{State}
 
 -- a delivery tells its answer, and a refusal hands the operation back: want of memory comes only where it would be kept

@@ -7,7 +7,7 @@ use origin_model::Verdict;
 
 /// What becomes of an operation, before it is looked whether one more may wait.
 #[derive(Clone, Copy, Debug, PartialEq, Eq)]
-pub enum Decision {
+pub(crate) enum Decision {
     Again,
     Conflict,
     Stray(ElementId),
@@ -16,7 +16,7 @@ pub enum Decision {
     Missing,
 }
 
-pub fn decide(found: Found, verdict: Verdict, at_most: bool) -> Decision
+pub(crate) fn decide(found: Found, verdict: Verdict, at_most: bool) -> Decision
     ensures { result ≡ decided found verdict at_most }
 {
     match (found, verdict) {

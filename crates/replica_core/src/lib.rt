@@ -1,13 +1,18 @@
 //! A replica: operations are delivered to it in any order, and wait until what they rest on is accepted.
 #![tactic(auto)]
 
+mod accepted;
 mod decision;
 mod deliver_fault;
+mod due;
 mod feed_fault;
+mod history;
+mod index;
 mod new_fault;
 mod replica;
 mod settled;
 mod taken;
+mod waking;
 
 pub use deliver_fault::DeliverFault;
 pub use feed_fault::FeedFault;
@@ -17,5 +22,7 @@ pub use replica::Replica;
 pub use settled::Settled;
 pub use taken::Taken;
 
+#[cfg(test)]
+mod beside_plain;
 #[cfg(test)]
 mod tests;

@@ -3,17 +3,20 @@ ghost use Rattle.fugue_ids.specs.Outs.{WritesText};
 ghost use Rattle.origin_model.specs.Ops.{accepted as accepted_list};
 ghost use Rattle.origin_model.specs.Verdict.{verdict as verdict_on};
 ghost use Rattle.origin_model.specs.Printed.{manuscript};
-ghost use Rattle.origin_model.specs.Taking.{nothing, answer, taken, TooMany, intake, settling_counted, intake_counted, is_kept};
+ghost use Rattle.origin_model.specs.Taking.{nothing, answer, taken, TooMany, intake, settling_counted, intake_counted, is_kept, IsSettled};
 ghost use Rattle.replica_core.specs.State.{IsOpen, IsOutside, IsWithin, Stands};
 ghost use Rattle.replica_core.specs.Decided.{answer_by_decision};
-ghost use Rattle.replica_core.specs.Settling.{IsSettled, Reaches};
+ghost use Rattle.replica_core.specs.Settling.{Reaches};
 ghost use Rattle.replica_core.specs.Told.{Answers, Settles, StaysBelow, total, Leaves, IsCounted};
 
+use crate::accepted::Accepted;
 use crate::decision::{Decision, decide};
+use crate::due::Due;
+use crate::waking::{leave, wait, wake};
 use crate::{DeliverFault, FeedFault, NewFault, Settled, Taken};
 use causal_inbox::{Inbox, PushFault};
 use fugue_ids::{Failed, NoMemory, Op};
-use origin_model::{PlainReplica, Tally, Verdict};
+use origin_model::{Tally, Verdict};
 use outer_ports::Sink;
 use std::alloc::Global;
 use std::marker::Model;
@@ -31,13 +34,15 @@ pub struct Replica {
     number: u32,
     hold: u32,
     most: u32,
-    accepted: PlainReplica,
+    accepted: Accepted,
     inbox: Inbox,
+    due: Due,
 }
 
 impl Model for Replica {
     ghost use Rattle.std.specs.Prelude.{◌≡◌};
     ghost use Rattle.replica_core.specs.State.{State, Stands};
+    ghost use Rattle.replica_core.specs.Due.{due_marks};
 
     ghost Value = { State };
 
@@ -56,6 +61,7 @@ impl Model for Replica {
         most = replica.most;
         held = record { history = replica.accepted; waiting = replica.inbox.ops };
       });
+      marks : replica.due ≡ due_marks replica.accepted replica.inbox.ops;
     } };
 }
 
@@ -82,8 +88,9 @@ impl Replica {
             number: replica,
             hold,
             most,
-            accepted: PlainReplica::new(alloc),
+            accepted: Accepted::new(alloc),
             inbox: Inbox::new(alloc, hold),
+            due: Due::new(alloc),
         })
     }
 
@@ -98,7 +105,7 @@ impl Replica {
     pub fn is_settled(&self) -> bool
         ensures { IsTrue result ↔ IsSettled self.now.held }
     {
-        self.inbox.next_decidable(&self.accepted).is_none()
+        self.due.is_clear()
     }
 
     pub fn number(&self) -> u32
@@ -135,7 +142,7 @@ impl Replica {
     pub fn write_manuscript<O: Sink>(&self, output: &mut O) -> Result<(), Failed>
         ensures { WritesText (O.seen output.old) (O.seen output.new) result (manuscript self.now.held.history) }
     {
-        self.accepted.print_into(output)
+        self.accepted.write_manuscript(output)
     }
 
     fn decision_on(&self, op: &Op) -> Decision
@@ -147,7 +154,7 @@ impl Replica {
         decide(self.inbox.find(op), self.accepted.verdict(op), at_most)
     }
 
-    /// Takes one operation in, and leaves what waits as it is.
+    /// Takes one operation in and settles nothing. A refusal changes nothing and hands it back.
     pub fn deliver(&mut self, op: Op) -> Result<Taken, DeliverFault>
         requires { IsSettled self.old.held }
         ensures answer { Answers self.old.hold self.old.most op (answer self.old.hold self.old.most self.old.held op) result }
@@ -163,10 +170,13 @@ impl Replica {
             Decision::Stray(id) => Err(DeliverFault::Stray(op, id)),
             Decision::TooMany => Err(DeliverFault::TooMany(op, self.most)),
             Decision::Ready => match self.accepted.accept(op) {
-                Ok(()) => Ok(Taken::Accepted),
+                Ok(()) => {
+                    wake(&self.inbox, &self.accepted, &mut self.due);
+                    Ok(Taken::Accepted)
+                }
                 Err(refused) => Err(DeliverFault::NoMemory(refused.op)),
             },
-            Decision::Missing => match self.inbox.push(op) {
+            Decision::Missing => match wait(&mut self.inbox, &mut self.due, op) {
                 Ok(()) => Ok(Taken::Waits),
                 Err(PushFault::Full(op)) => Err(DeliverFault::Full(op, self.hold)),
                 Err(PushFault::NoMemory(op)) => Err(DeliverFault::NoMemory(op)),
@@ -175,13 +185,14 @@ impl Replica {
     }
 
     /// Lets the earliest waiting operation that can be accepted or is stray leave: None is the answer where there is none.
+    /// After want of memory all is as before.
     pub fn settle_one(&mut self) -> Result<Option<Settled>, NoMemory>
         ensures step { IfOk result (λ settled. Settles self.old.held self.new.held settled) }
         ensures others { self.new ≡ record self.old { held = self.new.held } }
         ensures err { OnErr result (self.new ≡ self.old) }
         ensures stands { Stands self.new }
     {
-        let Some(position) = self.inbox.next_decidable(&self.accepted) else {
+        let Some(position) = self.due.first() else {
             return Ok(None);
         };
         let op = &self.inbox.ops()[position];
@@ -191,9 +202,14 @@ impl Replica {
                 let Ok(()) = self.accepted.accept(copy) else {
                     return Err(NoMemory);
                 };
-                Ok(Some(Settled::Accepted(self.inbox.remove(position))))
+                let op = leave(&mut self.inbox, &mut self.due, position);
+                wake(&self.inbox, &self.accepted, &mut self.due);
+                Ok(Some(Settled::Accepted(op)))
             }
-            _ => Ok(Some(Settled::DroppedStray(self.inbox.remove(position)))),
+            _ => {
+                let op = leave(&mut self.inbox, &mut self.due, position);
+                Ok(Some(Settled::DroppedStray(op)))
+            }
         }
     }
 

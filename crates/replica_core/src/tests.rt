@@ -3,6 +3,7 @@ ghost use Rattle.replica_core.specs.Told.{StaysBelow};
 
 use super::*;
 use fugue_ids::{ElementId, Op, Title};
+use origin_model::{PlainReplica, Verdict};
 use outer_ports::MemSink;
 use std::alloc::Global;
 use std::process::Abort;
@@ -50,7 +51,7 @@ fn misfit() -> Op {
     }
 }
 
-fn has_room(tally: &Tally) -> bool
+pub(crate) fn has_room(tally: &Tally) -> bool
     ensures { IsTrue result → StaysBelow tally.now }
 {
     tally.accepted < LIMIT
@@ -93,18 +94,49 @@ fn counts(accepted: u32, conflict: u32, stray: u32, full: u32) -> Tally {
     }
 }
 
+/// A section and the texts of a worked example. The second is the first with two Deletes.
+fn worked_row(alloc: Global, number: u32) -> Result<Vec<Op>, Fail> {
+    let (a, b, c) = (id(1, 0), id(1, 1), id(2, 0));
+    let mut row = vec![in alloc; section(alloc)?]?;
+    match number {
+        0 | 1 => {
+            row.push(text(a, None, None, 'B'))?;
+            row.push(text(b, None, Some(a), 'A'))?;
+            row.push(text(c, None, Some(a), 'D'))?;
+            row.push(text(id(3, 0), Some(b), Some(a), 'X'))?;
+            row.push(text(id(2, 1), Some(b), Some(c), 'Y'))?;
+        }
+        2 => {
+            row.push(text(a, None, None, 'P'))?;
+            row.push(text(b, Some(a), None, 'Q'))?;
+            row.push(text(c, Some(b), Some(a), 'Z'))?;
+            row.push(text(id(3, 0), Some(b), None, 'V'))?;
+        }
+        3 => {
+            row.push(text(a, None, None, 'a'))?;
+            row.push(text(b, Some(a), None, 'b'))?;
+            row.push(text(c, None, None, 'x'))?;
+            row.push(text(id(2, 1), Some(c), None, 'y'))?;
+        }
+        _ => {
+            row.push(text(a, None, None, 'b'))?;
+            row.push(text(b, None, Some(a), 'a'))?;
+            row.push(text(c, None, None, 'y'))?;
+            row.push(text(id(2, 1), None, Some(c), 'x'))?;
+        }
+    }
+    if number == 1 {
+        row.push(Op::Delete { target: c })?;
+        row.push(Op::Delete { target: a })?;
+    }
+    Ok(row)
+}
+
 #[test]
-fn operations_in_any_order_show_one_text(rt: HostRuntime) -> Result<(), Fail> {
+fn operations_backwards_show_the_text(rt: HostRuntime) -> Result<(), Fail> {
     let alloc = rt.alloc();
-    let (b, a, d) = (id(1, 0), id(1, 1), id(2, 0));
-    let backwards = vec![in alloc;
-        text(id(2, 1), Some(a), Some(d), 'Y'),
-        text(id(3, 0), Some(a), Some(b), 'X'),
-        text(d, None, Some(b), 'D'),
-        text(a, None, Some(b), 'A'),
-        text(b, None, None, 'B'),
-        section(alloc)?,
-    ]?;
+    let mut backwards = worked_row(alloc, 0)?;
+    backwards.reverse();
     shows(
         &rt,
         alloc,
@@ -112,6 +144,66 @@ fn operations_in_any_order_show_one_text(rt: HostRuntime) -> Result<(), Fail> {
         backwards,
         ("# T\nAXYDB\n", counts(6, 0, 0, 0), 0),
     )
+}
+
+/// The operations in the order of that number, where each is Ready on those before it.
+fn ready_order(
+    alloc: Global,
+    mut remaining: Vec<Op>,
+    number: usize,
+) -> Result<Option<Vec<Op>>, Fail> {
+    let mut plain = PlainReplica::new(alloc);
+    let mut ordered = Vec::new(alloc);
+    let mut digits = number;
+    for _ in 0..remaining.len() {
+        let choices = remaining.len();
+        if choices == 0 {
+            break;
+        }
+        let op = remaining.remove(digits % choices);
+        digits /= choices;
+        if plain.verdict(&op) != Verdict::Ready {
+            return Ok(None);
+        }
+        let copy = op.clone_in(alloc)?;
+        plain.accept(copy)?;
+        ordered.push(op)?;
+    }
+    Ok(Some(ordered))
+}
+
+/// How many of the orders are ready. After each of these so many operations are accepted, and the text is shown.
+fn ready_orders(
+    rt: &impl Abort,
+    alloc: Global,
+    row: u32,
+    orders: usize,
+    want: (u32, &str),
+) -> Result<u32, Fail> {
+    let mut ready: u32 = 0;
+    for number in 0..orders {
+        let ops = worked_row(alloc, row)?;
+        let tally = counts(want.0, 0, 0, 0);
+        if let Some(ordered) = ready_order(alloc, ops, number)? {
+            shows(rt, alloc, 1, ordered, (want.1, tally, 0))?;
+            ready = ready.saturating_add(1);
+        }
+    }
+    Ok(ready)
+}
+
+#[test]
+fn every_ready_order_shows_the_text(rt: HostRuntime) -> Result<(), Fail> {
+    for (row, orders, ready, want) in [
+        (0, 720, 5, (6, "# T\nAXYDB\n")),
+        (1, 40_320, 96, (8, "# T\nAXY\n")),
+        (2, 120, 2, (5, "# T\nPQVZ\n")),
+        (3, 120, 6, (5, "# T\nabxy\n")),
+        (4, 120, 6, (5, "# T\nabxy\n")),
+    ] {
+        assert_eq!(rt; ready_orders(&rt, rt.alloc(), row, orders, want)?, ready);
+    }
+    Ok(())
 }
 
 #[test]

@@ -1,5 +1,5 @@
 -- A gap of a list is a position, at which a new element goes in.
-use Rattle.std.proofs.Common.{List, [], ap, arith, drop, false, inl, inr, length, refl, suc, sym, take, true, zero, ℕ, ◌+◌, ◌++◌, ◌∙◌, ◌∷◌, ◌≡◌, ◌≤◌, ◌<◌, ◌≢◌}
+use Rattle.std.proofs.Common.{List, [], ap, arith, false, inl, inr, length, refl, suc, sym, true, zero, ℕ, ◌∙◌, ◌∷◌, ◌≡◌, ◌≤◌, ◌≢◌}
 use Rattle.std.specs.List.{insert}
 use Rattle.fugue_ids.specs.Identifiers.{Identifier, id_eq}
 use Rattle.fugue_ids.specs.Listed.{IsListed, index_of}

@@ -1,12 +1,11 @@
 -- One element more in a place, and that step undone.
-use Rattle.std.proofs.Common.{List, ap, arith, false, length, refl, subst, sym, true, ℕ, ◌∙◌, ◌∷◌, ◌≡◌, ◌≤◌}
+use Rattle.std.proofs.Common.{List, ap, arith, false, length, subst, sym, ℕ, ◌∙◌, ◌∷◌, ◌≡◌, ◌≤◌}
 use Rattle.std.specs.List.{insert}
 use Rattle.std.proofs.lemmas.Bool.{true≢false}
 use Rattle.std.proofs.lemmas.List.{length-map}
-use Rattle.fugue_ids.specs.Identifiers.{Identifier}
 use Rattle.fugue_ids.specs.Listed.{IsListed, index_of}
 use Rattle.origin_model.specs.Detached.{without}
-use Rattle.origin_model.specs.Nodes.{AreNodes, IsNew, NodesListed, has_node, node_order}
+use Rattle.origin_model.specs.Nodes.{IsNew, NodesListed, node_order}
 use Rattle.origin_model.specs.declared.node.Node.{Node}
 use Rattle.section_list.specs.Cells.{ids}
 use Rattle.section_list.specs.Listings.{IsInOrder, Listing, with_element}

@@ -1,7 +1,7 @@
 -- A node that was attached and is detached leaves the nodes as they were.
-use Rattle.std.proofs.Common.{Bool, List, [], ap, false, inl, inr, not, refl, subst, sym, true, ◌∙◌, ◌∷◌, ◌≡◌, ◌≢◌}
-use Rattle.std.specs.Prelude.{None, Option, Some, filter, is_some, cond}
-use Rattle.std.proofs.lemmas.Bool.{cases_Bool, false≢true, true≢false}
+use Rattle.std.proofs.Common.{List, [], ap, false, inl, inr, not, refl, sym, true, ◌∙◌, ◌∷◌, ◌≡◌, ◌≢◌}
+use Rattle.std.specs.Prelude.{Option, Some, is_some, cond}
+use Rattle.std.proofs.lemmas.Bool.{cases_Bool, true≢false}
 use Rattle.fugue_ids.specs.Identifiers.{Identifier, id_eq}
 use Rattle.fugue_ids.specs.SameIdentifiers.{id_eq-refl}
 use Rattle.origin_model.specs.Detached.{NoOrigin, without}

@@ -1,11 +1,9 @@
 -- The cells that are not hidden, and their text.
-use Rattle.std.proofs.Common.{Bool, List, [], ap, arith, drop, false, length, not, refl, subst, suc, sym, take, true, zero, ℕ, ◌+◌, ◌++◌, ◌<◌, ◌∙◌, ◌∷◌, ◌≡◌, ◌≤◌, add-one, append_assoc}
-use Rattle.std.specs.Prelude.{Some, Option, cond, filter, flat_map, map, slice_get, slice_set}
+use Rattle.std.proofs.Common.{Bool, List, [], ap, arith, false, length, not, refl, suc, sym, true, zero, ℕ, ◌++◌, ◌∙◌, ◌∷◌, ◌≡◌, ◌≤◌, append_assoc}
+use Rattle.std.specs.Prelude.{Some, cond, flat_map, map, slice_get, slice_set}
 use Rattle.std.specs.List.{insert}
 use Rattle.std.specs.Str.{encode_utf8_all}
-use Rattle.std.proofs.lemmas.List.{append-nil}
 use lib.Utf8.{encode}
-use Rattle.fugue_ids.specs.Identifiers.{Identifier}
 use Rattle.section_list.specs.Cells.{ids, text, text_of, visible_cells}
 use Rattle.section_list.specs.declared.cell.Cell.{Cell}
 
@@ -58,14 +56,6 @@ text-parts (c ∷ cs) =
       | true ↦ text-parts cs
       | false ↦ append_assoc (encode c.ch) [] (flat_map (λ d. encode_utf8_all (text_of d)) cs) ∙ ap (λ t. encode c.ch ++ t) (text-parts cs)
     ]
-
--- the visible cells of the rest, from a hidden cell on
-pub rest_hidden : (c : Cell) (cs : List Cell) → c.hidden ≡ true → visible_cells (c ∷ cs) ≡ visible_cells cs
-rest_hidden c cs h = ap (λ b. cond (not b) (c ∷ visible_cells cs) (visible_cells cs)) h
-
--- and from a visible one on
-pub rest_visible : (c : Cell) (cs : List Cell) → c.hidden ≡ false → visible_cells (c ∷ cs) ≡ c ∷ visible_cells cs
-rest_visible c cs h = ap (λ b. cond (not b) (c ∷ visible_cells cs) (visible_cells cs)) h
 
 -- no more cells are visible than there are
 pub count_within : (cs : List Cell) → length (visible_cells cs) ≤ length cs

@@ -36,5 +36,5 @@ following ids None = slice_get ids 0
 following ids (Some x) = slice_get ids (index_of ids x + 1)
 
 -- the cell as it is once x is hidden
-abbrev pub without : Identifier → Cell → Cell
-without x c = elim (id_eq c.id x) [ true ↦ record c { hidden = true } | false ↦ c ]
+abbrev pub hiding : Identifier → Cell → Cell
+hiding x c = elim (id_eq c.id x) [ true ↦ record c { hidden = true } | false ↦ c ]

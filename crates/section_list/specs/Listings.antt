@@ -5,7 +5,7 @@ use Rattle.fugue_ids.specs.Identifiers.{Identifier}
 use Rattle.fugue_ids.specs.Listed.{index_of}
 use Rattle.origin_model.specs.Nodes.{AreNodes, node_order}
 use Rattle.origin_model.specs.declared.node.Node.{Node}
-use Rattle.section_list.specs.Cells.{ids, without}
+use Rattle.section_list.specs.Cells.{ids, hiding}
 use Rattle.section_list.specs.declared.cell.Cell.{Cell}
 
 pub record Listing : Type 0 where
@@ -30,4 +30,4 @@ with_element n ch s =
 
 -- the element x hidden
 abbrev pub with_hidden : Identifier → Listing → Listing
-with_hidden x s = record { nodes = s.nodes; cells = map (without x) s.cells }
+with_hidden x s = record { nodes = s.nodes; cells = map (hiding x) s.cells }

@@ -4,7 +4,7 @@ ghost use Rattle.std.specs.Str.{encode_utf8_all};
 ghost use Rattle.std.specs.Char.{encode_utf8};
 ghost use Rattle.fugue_ids.specs.Listed.{IsListed, index_of};
 ghost use Rattle.fugue_ids.specs.Outs.{WritesText};
-ghost use Rattle.section_list.specs.Cells.{AreDistinct, following, ids, is_hidden as hidden_in, text, text_of, visible_cells, without};
+ghost use Rattle.section_list.specs.Cells.{AreDistinct, following, ids, is_hidden as hidden_in, text, text_of, visible_cells, hiding};
 
 use crate::cell::Cell;
 use fugue_ids::{ElementId, Failed, NoMemory, OrderOf, Out, write_whole};
@@ -54,6 +54,12 @@ impl Cells {
         ensures { result ≡ length self.now }
     {
         self.items.len()
+    }
+
+    pub fn as_slice(&self) -> &[Cell]
+        ensures { result.now ≡ self.now }
+    {
+        self.items.as_slice()
     }
 
     pub fn visible_count(&self) -> usize
@@ -131,7 +137,7 @@ impl Cells {
     pub fn hide(&mut self, id: ElementId)
         requires held { IsListed (ids self.old) id }
         requires distinct { AreDistinct (ids self.old) }
-        ensures { self.new ≡ map (without id) self.old }
+        ensures { self.new ≡ map (hiding id) self.old }
     {
         let at = self.position(id);
         let cell = &mut self.items[at];

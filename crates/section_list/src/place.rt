@@ -52,6 +52,13 @@ impl SectionList {
         self.cells.len()
     }
 
+    /// The elements in order, hidden ones too.
+    pub fn cells(&self) -> &[Cell]
+        ensures { result.now ≡ self.now.cells }
+    {
+        self.cells.as_slice()
+    }
+
     pub fn visible_count(&self) -> usize
         ensures { result ≡ length (visible_cells self.now.cells) }
     {
@@ -78,7 +85,7 @@ impl SectionList {
         self.cells.nth_visible(i)
     }
 
-    /// The element behind this one, hidden or not; the first one for None.
+    /// The element behind this one, hidden or not; the first one for None. None comes back for one that is not held or stands last.
     pub fn after(&self, id: Option<ElementId>) -> Option<ElementId>
         ensures { result ≡ following (ids self.now.cells) id }
     {

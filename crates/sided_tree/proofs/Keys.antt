@@ -1,43 +1,29 @@
 -- The comparisons of identifiers and of slots tell whether they are equal, so that one entry of a map changes alone.
-use Rattle.std.proofs.Common.{ap, arith, false, inl, inr, refl, sym, true, ℕ, ◌∙◌, ◌≡◌, ◌≢◌, ◌⊎◌}
+use Rattle.std.proofs.Common.{ap, false, inl, inr, refl, sym, true, ◌∙◌, ◌≡◌, ◌⊎◌}
 use Rattle.std.specs.Prelude.{None, Some}
-use Rattle.std.specs.Ordering.{is_eq, nat_cmp, ordering_then}
+use Rattle.std.specs.Ordering.{is_eq}
 use Rattle.std.specs.declared.cmp.Ordering.{Ordering}
 use Rattle.std.specs.declared.cmp.Ordering.TheVariants.{Equal, Greater, Less}
 use Rattle.std.proofs.lemmas.Bool.{cases_Bool, false_from_ne_true, true≢false}
-use Rattle.std.proofs.lemmas.Bool.Decides.{nat_tests}
-use Rattle.std.proofs.lemmas.Map.Lookups.{exact_unsigned}
-use Rattle.fugue_ids.specs.Identifiers.{Identifier}
+use Rattle.fugue_ids.specs.Identifiers.{Identifier, id_cmp}
+use Rattle.fugue_ids.specs.SameIdentifiers.{id_at-same, id_cmp-eq, id_eq-true}
 use Rattle.origin_model.specs.declared.slot.Slot.{Slot}
 use Rattle.origin_model.specs.declared.slot.Slot.TheVariants.{LeftOf, RightOf}
-use Rattle.sided_tree.specs.Children.{id_cmp, slot_cmp}
+use Rattle.sided_tree.specs.Children.{slot_cmp}
 
--- a number is equal to itself
-nat_cmp-same : (n : ℕ) → nat_cmp n n ≡ Equal
-nat_cmp-same n = grind (arith, nat_tests)
+-- the answer Equal, as a test
+equal_is : (o : Ordering) → is_eq o ≡ true → o ≡ Equal
+equal_is Less e = cc
+equal_is Equal e = refl
+equal_is Greater e = cc
 
 -- an identifier is equal to itself
 id_cmp-same : (a : Identifier) → id_cmp a a ≡ Equal
-id_cmp-same a = λ i. ordering_then (nat_cmp-same a.replica i) (nat_cmp-same a.counter i)
-
--- the first of two comparisons that agree
-then-first : (o q : Ordering) → ordering_then o q ≡ Equal → o ≡ Equal
-then-first Less q e = cc
-then-first Equal q e = refl
-then-first Greater q e = cc
-
--- and the second
-then-second : (o q : Ordering) → ordering_then o q ≡ Equal → q ≡ Equal
-then-second Less q e = cc
-then-second Equal q e = e
-then-second Greater q e = cc
+id_cmp-same a = equal_is (id_cmp a a) (id_at-same a)
 
 -- identifiers that compare as equal are equal
 id_cmp-equal : (a b : Identifier) → id_cmp a b ≡ Equal → a ≡ b
-id_cmp-equal a b e =
-    let r : a.replica ≡ b.replica = exact_unsigned a.replica b.replica (then-first (nat_cmp a.replica b.replica) (nat_cmp a.counter b.counter) e) in
-    let n : a.counter ≡ b.counter = exact_unsigned a.counter b.counter (then-second (nat_cmp a.replica b.replica) (nat_cmp a.counter b.counter) e) in
-    λ i. record { replica = r i; counter = n i }
+id_cmp-equal a b e = id_eq-true a b (sym (id_cmp-eq a b) ∙ ap is_eq e)
 
 -- a slot is equal to itself
 slot_cmp-same : (s : Slot) → slot_cmp s s ≡ Equal
@@ -54,20 +40,6 @@ slot_cmp-equal (RightOf (Some a)) (RightOf (Some b)) e = ap (λ z. RightOf (Some
 slot_cmp-equal (RightOf a) (LeftOf b) e = cc
 slot_cmp-equal (LeftOf a) (RightOf b) e = cc
 slot_cmp-equal (LeftOf a) (LeftOf b) e = ap LeftOf (id_cmp-equal a b e)
-
--- the answer Equal, as a test
-equal_is : (o : Ordering) → is_eq o ≡ true → o ≡ Equal
-equal_is Less e = cc
-equal_is Equal e = refl
-equal_is Greater e = cc
-
--- the test of an identifier with itself
-pub id_at-same : (a : Identifier) → is_eq (id_cmp a a) ≡ true
-id_at-same a = ap is_eq (id_cmp-same a)
-
--- the test of two distinct identifiers
-pub id_at-other : (a b : Identifier) → b ≢ a → is_eq (id_cmp a b) ≡ false
-id_at-other a b n = false_from_ne_true _ (λ e. n (sym (id_cmp-equal a b (equal_is (id_cmp a b) e))))
 
 -- the test of a slot with itself
 pub slot_at-same : (s : Slot) → is_eq (slot_cmp s s) ≡ true

@@ -1,10 +1,9 @@
 -- Where an identifier stands in a list, and the list with one more beside it.
-use Rattle.std.proofs.Common.{List, [], ap, arith, drop, false, get_or, inl, inr, length, refl, suc, sym, true, zero, ℕ, ◌+◌, ◌<◌, ◌≤◌, ◌∙◌, ◌∷◌, ◌≡◌, ◌≢◌}
+use Rattle.std.proofs.Common.{List, [], ap, arith, false, inl, inr, length, refl, suc, sym, true, ◌<◌, ◌∙◌, ◌∷◌, ◌≡◌}
 use Rattle.std.specs.List.{insert}
-use Rattle.std.proofs.lemmas.List.{drop_all, drop_more}
-use Rattle.fugue_ids.specs.Identifiers.{Identifier, id_eq}
-use Rattle.fugue_ids.specs.Listed.{IsListed, index_of}
-use Rattle.fugue_ids.specs.SameIdentifiers.{cases_id, eq-id_eq, id_eq-false, id_eq-true, ne-id_eq}
+use Rattle.fugue_ids.specs.Identifiers.{Identifier}
+use Rattle.fugue_ids.specs.Listed.{index_of}
+use Rattle.fugue_ids.specs.SameIdentifiers.{cases_id, eq-id_eq, ne-id_eq}
 use Rattle.origin_model.specs.Laws.{In}
 use Rattle.origin_model.specs.Sided.{behind, in_front}
 use Rattle.sided_tree.proofs.Ranks.{index-other, index-own}

@@ -5,13 +5,12 @@ use Rattle.std.specs.List.{remove}
 use Rattle.std.specs.Prelude.{None, Option, Some, filter, is_some, map, reverse, slice_get}
 use Rattle.std.proofs.lemmas.Bool.{true≢false}
 use Rattle.std.proofs.lemmas.List.{map-append, reverse-append, take_more}
-use Rattle.fugue_ids.specs.Identifiers.{Identifier, id_eq}
+use Rattle.fugue_ids.specs.Identifiers.{Identifier, id_cmp, id_eq}
 use Rattle.fugue_ids.specs.SameIdentifiers.{cases_id, eq-id_eq, id_eq-false, ne-id_eq}
 use Rattle.origin_model.specs.Detached.{AbsentStays, FoundWithout, without}
 use Rattle.origin_model.specs.Laws.{In}
 use Rattle.origin_model.specs.Nodes.{AreNodes, find_node, has_node}
 use Rattle.origin_model.specs.declared.node.Node.{Node}
-use Rattle.sided_tree.specs.Children.{id_cmp}
 use Rattle.sided_tree.specs.NodeMaps.{IsNodeMap, found_by, node_at, node_by, nodes_in}
 use Rattle.sided_tree.specs.declared.origins.Origins.{Origins}
 

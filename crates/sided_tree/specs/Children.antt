@@ -1,6 +1,5 @@
 -- The children of the slots, kept in a map.
 use Rattle.std.specs.Prelude.{Option, Some, None, List, []}
-use Rattle.std.specs.Ordering.{nat_cmp, ordering_then}
 use Rattle.std.specs.BTreeMap.{BTreeMap, get}
 use Rattle.std.specs.declared.cmp.Ordering.{Ordering}
 use Rattle.std.specs.declared.vec.Vec.{Vec}
@@ -8,10 +7,6 @@ use Rattle.std.specs.declared.alloc.Global.{Global}
 use Rattle.fugue_ids.specs.Identifiers.{Identifier}
 use Rattle.origin_model.specs.declared.slot.Slot.{Slot}
 use Rattle.origin_model.specs.contracts.slot.SlotOrd.TheImpl as slot_ord
-
--- identifiers are compared by replica, and then by counter
-abbrev pub id_cmp : Identifier → Identifier → Ordering
-id_cmp a b = ordering_then (nat_cmp a.replica b.replica) (nat_cmp a.counter b.counter)
 
 -- the order of slots
 abbrev pub slot_cmp : Slot → Slot → Ordering

@@ -1,10 +1,9 @@
 -- The nodes of a place, kept as a map from identifiers to origins and a list of the identifiers by age.
 use Rattle.std.specs.Prelude.{◌≡◌, Option, Some, None, List, map, reverse}
 use Rattle.std.specs.BTreeMap.{BTreeMap, get}
-use Rattle.fugue_ids.specs.Identifiers.{Identifier}
+use Rattle.fugue_ids.specs.Identifiers.{Identifier, id_cmp}
 use Rattle.origin_model.specs.Nodes.{find_node}
 use Rattle.origin_model.specs.declared.node.Node.{Node}
-use Rattle.sided_tree.specs.Children.{id_cmp}
 use Rattle.sided_tree.specs.declared.origins.Origins.{Origins}
 
 -- the node of an identifier, by what the map has there; one without origins where it has no entry

@@ -1,6 +1,5 @@
-use Rattle.std.proofs.Common.{arith, ◌≡◌, ◌∙◌}
+use Rattle.std.proofs.Common.{arith, ◌≡◌}
 use Rattle.std.proofs.lemmas.Fmt.{parse-decimal}
-use Rattle.std.specs.Prelude.{Ok}
 use Rattle.manuscript_cli.proofs.number.read_decimal.Goals as goal
 
 -- The text of a number is read as that number.

@@ -1,5 +1,5 @@
 use Rattle.std.proofs.Common.{inl, inr, length, ap}
-use Rattle.manuscript_cli.proofs.ShowParts.{output_failed, notes_failed, both_written}
+use Rattle.manuscript_cli.proofs.ShowParts.{notes_failed, both_written}
 use Rattle.manuscript_cli.proofs.printing.print.Goals as goal
 
 pub returns-in-Ok-write_counts : goal.returns-in-Ok-write_counts

@@ -1,6 +1,6 @@
+use Rattle.origin_model.specs.Taking.{IsSettled}
 use Rattle.std.proofs.Common.{◌≡◌, ◌≤◌, ◌+◌, ◌-◌, length}
 use Rattle.std.specs.Prelude.{None}
-use Rattle.replica_core.specs.Settling.{IsSettled}
 use Rattle.replica_core.specs.Told.{total}
 use Rattle.op_frame.specs.Readers.{to_give}
 use Rattle.manuscript_cli.specs.Courses.{most, stream_limit}

@@ -22,9 +22,9 @@ returns-clause-show g c hold named =
 pub returns-clause-decided : goal.returns-clause-decided
 returns-clause-decided g c hold named =
     let same : c.in-Some.command ≡ Show hold = cc (c.in-Some.ensures.every (Show hold) named) in
-    decided c.one_frame.ensures _ _ _ _ (rw same at c.show.ensures)
+    decided c.one_frame.ensures c.reads_once.ensures _ _ _ _ (rw same at c.show.ensures)
 
 pub returns-clause-headline : goal.returns-clause-headline
 returns-clause-headline g c hold named =
     let same : c.in-Some.command ≡ Show hold = cc (c.in-Some.ensures.every (Show hold) named) in
-    headline c.one_frame.ensures _ _ _ _ (rw same at c.show.ensures)
+    headline c.one_frame.ensures c.reads_once.ensures _ _ _ _ (rw same at c.show.ensures)

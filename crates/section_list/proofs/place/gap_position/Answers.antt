@@ -1,7 +1,6 @@
-use Rattle.std.proofs.Common.{arith, ap, length, sym, ◌∙◌, ◌<◌, ◌≤◌, ◌+◌, ◌≡◌, add-one}
+use Rattle.std.proofs.Common.{arith, ap, sym, ◌∙◌, ◌+◌, add-one}
 use Rattle.std.proofs.lemmas.List.{length-map}
 use Rattle.std.specs.List.{insert}
-use Rattle.fugue_ids.specs.Identifiers.{Identifier}
 use Rattle.fugue_ids.specs.Listed.{index_of}
 use Rattle.section_list.specs.Cells.{ids}
 use Rattle.section_list.specs.declared.cell.Cell.{Cell}

@@ -1,53 +1,80 @@
-use Rattle.std.proofs.Common.{◌≡◌, refl, sym, ◌∙◌, subst, ap, ℕ, List, length, nat_eq, cond}
+use Rattle.std.proofs.Common.{◌≡◌, refl, sym, ◌∙◌, subst, ap, ℕ, List, length, nat_eq, cond, ◌++◌, ◌∷◌, [], false, Bool}
 use Rattle.fugue_ids.specs.declared.op.Op.{Op}
 use Rattle.causal_inbox.specs.Waiting.{Waiting}
 use Rattle.origin_model.specs.Taking.{answer, Accepted, Full, Waits}
 use Rattle.replica_core.specs.State.{State, Stands}
+use Rattle.replica_core.specs.Due.{due_marks}
+use Rattle.replica_core.proofs.Decisions.{waits_undecided}
+use Rattle.replica_core.proofs.Marks.{marks_pushed}
 use Rattle.replica_core.proofs.Standing.{stands_same, stands_by_accept, stands_by_push}
 use Rattle.replica_core.proofs.replica.Replica.deliver.Goals as goal
-use Rattle.replica_core.proofs.replica.Replica.deliver.Goals.{in-Ok, in-Err, in-Ok-push, in-Err-Full, in-Err-NoMemory}
+use Rattle.replica_core.proofs.replica.Replica.deliver.Goals.{in-Ok-wait, in-Err-Full, in-Err-NoMemory}
 
 -- what is so after `accept`
-accepted_stands : (c : goal.Joined-accept) → Stands (record { number = c.self.inside.number; hold = c.self.inside.hold; most = c.self.inside.most; held = record { history = c.accept.new.self; waiting = c.self.inside.inbox.ops } })
-accepted_stands c =
-    let s : State = record { number = c.self.inside.number; hold = c.self.inside.hold; most = c.self.inside.most; held = record { history = c.self.inside.accepted; waiting = c.self.inside.inbox.ops } } in
-    let IsAccepted : State → Type 0 = λ x. answer x.hold x.most x.held c.args.op ≡ Accepted in
-    elim c.match-accept.branch [
-      | in-Ok w ↦ stands_by_accept s c.accept.new.self c.args.op (subst IsAccepted (sym c.self.view_is) c.in-Ready.ensures) w.in-Ok.ensures.ok c.self.invariant.stands
-      | in-Err w ↦ stands_same s (record { history = c.accept.new.self; waiting = c.self.inside.inbox.ops })
-          (ap (λ (h : List Op). record { history = h; waiting = c.self.inside.inbox.ops }) w.in-Err.ensures.err) c.self.invariant.stands
-    ]
+accepts : (s now : State) (new : List Op) (op : Op) → s ≡ now → answer now.hold now.most now.held op ≡ Accepted → new ≡ op ∷ s.held.history → Stands s
+    → Stands (record s { held = record { history = new; waiting = s.held.waiting } })
+accepts s now new op same answered is stands =
+    let IsAccepted : State → Type 0 = λ x. answer x.hold x.most x.held op ≡ Accepted in
+    stands_by_accept s new op (subst IsAccepted (sym same) answered) is stands
+
+pub wake-requires-clause-once : goal.wake-requires-clause-once
+wake-requires-clause-once c =
+    (accepts _ c.args.self.now c.accept.new.self c.args.op c.self.view_is c.in-Ready.ensures c.in-Ok.ensures.ok c.self.invariant.stands).once
+
+pub wake-requires-clause-own_ids : goal.wake-requires-clause-own_ids
+wake-requires-clause-own_ids c =
+    (accepts _ c.args.self.now c.accept.new.self c.args.op c.self.view_is c.in-Ready.ensures c.in-Ok.ensures.ok c.self.invariant.stands).own_ids
 
 pub invariant_of-self : goal.invariant_of-self
-invariant_of-self c = record { same_hold = c.self.invariant.same_hold; stands = accepted_stands c }
+invariant_of-self c = record {
+  same_hold = c.self.invariant.same_hold;
+  stands = accepts _ c.args.self.now c.accept.new.self c.args.op c.self.view_is c.in-Ready.ensures c.in-Ok.ensures.ok c.self.invariant.stands;
+  marks = c.wake.ensures;
+}
 
-pub returns-after-accept-clause-stands : goal.returns-after-accept-clause-stands
-returns-after-accept-clause-stands c = accepted_stands c
+pub returns-in-Ok-clause-stands : goal.returns-in-Ok-clause-stands
+returns-in-Ok-clause-stands c =
+    accepts _ c.args.self.now c.accept.new.self c.args.op c.self.view_is c.in-Ready.ensures c.in-Ok.ensures.ok c.self.invariant.stands
 
--- what is so after `push`
-pushed_stands : (c : goal.Joined-push) → (c.push.new.self.hold ≡ c.self.inside.hold) × Stands (record { number = c.self.inside.number; hold = c.self.inside.hold; most = c.self.inside.most; held = record { history = c.self.inside.accepted; waiting = c.push.new.self.ops } })
-pushed_stands c =
-    let s : State = record { number = c.self.inside.number; hold = c.self.inside.hold; most = c.self.inside.most; held = record { history = c.self.inside.accepted; waiting = c.self.inside.inbox.ops } } in
+-- what is so after `wait`
+record Waited (s : State) (inbox : Waiting) (marks : List Bool) : Type 0 where
+  same_hold : inbox.hold ≡ s.hold
+  stands : Stands (record s { held = record { history = s.held.history; waiting = inbox.ops } })
+  marks_right : marks ≡ due_marks s.held.history inbox.ops
+
+waited : (c : goal.Joined-wait) → Waited
+    (record { number = c.self.inside.number; hold = c.self.inside.hold; most = c.self.inside.most; held = record { history = c.self.inside.accepted; waiting = c.self.inside.inbox.ops } })
+    c.wait.new.inbox c.wait.new.due
+waited c =
+    let h : List Op = c.self.inside.accepted in
+    let w : List Op = c.self.inside.inbox.ops in
+    let s : State = record { number = c.self.inside.number; hold = c.self.inside.hold; most = c.self.inside.most; held = record { history = h; waiting = w } } in
     let Comes : State → Type 0 = λ x. answer x.hold x.most x.held c.args.op ≡ cond (nat_eq (length x.held.waiting) x.hold) Full Waits in
+    let comes : Comes s = subst Comes (sym c.self.view_is) c.in-Missing.ensures in
     let hold_of : Waiting → ℕ = λ i. i.hold in
-    let same : c.push.new.self ≡ c.self.inside.inbox → (c.push.new.self.hold ≡ c.self.inside.hold) × Stands (record s { held = record { history = c.self.inside.accepted; waiting = c.push.new.self.ops } }) =
-    λ e. (
-      ap hold_of e ∙ c.self.invariant.same_hold,
-      stands_same s (record { history = c.self.inside.accepted; waiting = c.push.new.self.ops })
-          (ap (λ (i : Waiting). record { history = c.self.inside.accepted; waiting = i.ops }) e) c.self.invariant.stands,
-    ) in
-    elim c.match-push.branch [
-      | in-Ok-push w ↦ (
-        ap hold_of w.in-Ok-push.ensures.ok ∙ c.self.invariant.same_hold,
-        stands_by_push s c.self.inside.inbox c.push.new.self c.args.op refl c.self.invariant.same_hold (subst Comes (sym c.self.view_is) c.in-Missing.ensures)
-            w.in-Ok-push.ensures.ok c.push.ensures.within c.self.invariant.stands,
-      )
-      | in-Err-Full w ↦ same w.in-Err-Full.ensures.err
-      | in-Err-NoMemory w ↦ same w.in-Err-NoMemory.ensures.err
+    let ops_of : Waiting → List Op = λ i. i.ops in
+    let same : c.wait.new.inbox ≡ c.self.inside.inbox → c.wait.new.due ≡ c.self.inside.due → Waited s c.wait.new.inbox c.wait.new.due =
+    λ e d. record {
+      same_hold = ap hold_of e ∙ c.self.invariant.same_hold;
+      stands = stands_same s (record { history = h; waiting = c.wait.new.inbox.ops }) (ap (λ (i : Waiting). record { history = h; waiting = i.ops }) e) c.self.invariant.stands;
+      marks_right = d ∙ c.self.invariant.marks ∙ ap (due_marks h) (sym (ap ops_of e));
+    } in
+    elim c.match-wait.branch [
+      | in-Ok-wait v ↦ record {
+        same_hold = ap hold_of v.in-Ok-wait.ensures.ok ∙ c.self.invariant.same_hold;
+        stands = stands_by_push s c.self.inside.inbox c.wait.new.inbox c.args.op refl c.self.invariant.same_hold comes
+            v.in-Ok-wait.ensures.ok c.wait.ensures.within c.self.invariant.stands;
+        marks_right = v.in-Ok-wait.ensures.mark
+            ∙ ap (λ (l : List Bool). l ++ false ∷ []) c.self.invariant.marks
+            ∙ marks_pushed h w c.args.op (waits_undecided s.hold s.most s.held c.args.op (nat_eq (length w) s.hold) comes)
+            ∙ ap (due_marks h) (sym (ap ops_of v.in-Ok-wait.ensures.ok));
+      }
+      | in-Err-Full v ↦ same v.in-Err-Full.ensures.err v.in-Err-Full.ensures.marks
+      | in-Err-NoMemory v ↦ same v.in-Err-NoMemory.ensures.err v.in-Err-NoMemory.ensures.marks
     ]
 
 pub invariant_of-self-in-Missing : goal.invariant_of-self-in-Missing
-invariant_of-self-in-Missing c = let p = pushed_stands c in record { same_hold = p.0; stands = p.1 }
+invariant_of-self-in-Missing c = let p = waited c in record { same_hold = p.same_hold; stands = p.stands; marks = p.marks_right }
 
-pub returns-after-push-clause-stands : goal.returns-after-push-clause-stands
-returns-after-push-clause-stands c = (pushed_stands c).1
+pub returns-after-wait-clause-stands : goal.returns-after-wait-clause-stands
+returns-after-wait-clause-stands c = (waited c).stands

@@ -1,12 +1,12 @@
-use Rattle.std.proofs.Common.{refl, sym, ◌∙◌, subst, ap, ◌∷◌}
+use Rattle.std.proofs.Common.{refl, sym, ◌∙◌, subst, ap, List, ◌∷◌, drop}
 use Rattle.std.specs.Prelude.{Some}
 use Rattle.fugue_ids.specs.declared.op.Op.{Op}
 use Rattle.causal_inbox.specs.Waiting.{Waiting}
-use Rattle.origin_model.specs.Taking.{Held}
+use Rattle.origin_model.specs.Taking.{Held, IsSettled}
 use Rattle.replica_core.specs.State.{State}
-use Rattle.replica_core.specs.Settling.{IsSettled}
 use Rattle.replica_core.specs.Told.{Settles}
 use Rattle.replica_core.specs.declared.settled.Settled.TheVariants.{Accepted, DroppedStray}
+use Rattle.replica_core.proofs.Marks.{first_due, due_place, marks_left}
 use Rattle.replica_core.proofs.Steps.{no_place_left}
 use Rattle.replica_core.proofs.StepsStand.{IsStep, accepted_step, dropped_step}
 use Rattle.replica_core.proofs.replica.Replica.settle_one.Goals as goal
@@ -15,53 +15,88 @@ pub returns-in_default-clause-step : goal.returns-in_default-clause-step
 returns-in_default-clause-step c =
     let Settled : State → Type 0 = λ s. IsSettled s.held in (
       subst Settled c.self.view_is
-          (no_place_left (record { history = c.self.inside.accepted; waiting = c.self.inside.inbox.ops }) c.next_decidable.result c.next_decidable.ensures c.in_default.not-Some),
+          (no_place_left (record { history = c.self.inside.accepted; waiting = c.self.inside.inbox.ops }) c.first.result
+          (c.first.ensures ∙ first_due c.self.inside.accepted c.self.inside.inbox.ops c.self.inside.due c.self.invariant.marks) c.in_default.not-Some),
       refl,
     )
 
--- the step of an operation that was Ready
-joined : (c : goal.After-remove) → IsStep
+-- the step of an operation that was Ready, before the others are woken
+joins : (c : goal.After-wake-arg-in-Ready-2-1) → IsStep
     (record { number = c.self.inside.number; hold = c.self.inside.hold; most = c.self.inside.most; held = record { history = c.self.inside.accepted; waiting = c.self.inside.inbox.ops } })
-    (record { history = c.accept.new.self; waiting = c.remove.new.self.ops }) (Accepted c.remove.result)
-joined c =
-    let s : State = record { number = c.self.inside.number; hold = c.self.inside.hold; most = c.self.inside.most; held = record { history = c.self.inside.accepted; waiting = c.self.inside.inbox.ops } } in
-    accepted_step s c.self.inside.inbox c.remove.new.self c.in-Some.position c.index-ops-position.result c.remove.result c.ops.result.now c.accept.new.self
-    refl (sym c.next_decidable.ensures ∙ c.in-Some.is) c.ops.ensures.ops c.index-ops-position.is
+    (record { history = c.accept.new.self; waiting = c.leave-op.new.inbox.ops }) (Accepted c.leave-op.result)
+joins c =
+    let h : List Op = c.self.inside.accepted in
+    let w : List Op = c.self.inside.inbox.ops in
+    let s : State = record { number = c.self.inside.number; hold = c.self.inside.hold; most = c.self.inside.most; held = record { history = h; waiting = w } } in
+    accepted_step s c.self.inside.inbox c.leave-op.new.inbox c.in-Some.position c.index-ops-position.result c.leave-op.result c.ops.result.now c.accept.new.self
+    refl (due_place h w c.self.inside.due c.first.result c.in-Some.position c.self.invariant.marks c.first.ensures c.in-Some.is) c.ops.ensures.ops c.index-ops-position.is
     (sym c.verdict.ensures ∙ c.in-Ready.is)
-    (c.in-Ok.ensures.ok ∙ ap (λ (o : Op). o ∷ c.self.inside.accepted) c.in_ok-copy-in-Ready.ensures) c.remove.ensures.op c.remove.ensures.rest c.self.invariant.stands
+    (c.in-Ok.ensures.ok ∙ ap (λ (o : Op). o ∷ h) c.in_ok-copy-in-Ready.ensures) c.leave-op.ensures.op c.leave-op.ensures.rest c.self.invariant.stands
+
+pub wake-requires-clause-marks : goal.wake-requires-clause-marks
+wake-requires-clause-marks c =
+    marks_left c.self.inside.accepted c.self.inside.inbox.ops (drop 1 c.accept.new.self) c.leave-op.new.inbox.ops c.in-Some.position c.self.inside.due c.leave-op.new.due
+    c.self.invariant.marks c.leave-op.ensures.mark (ap (λ (l : List Op). drop 1 l) c.in-Ok.ensures.ok) (ap (λ (i : Waiting). i.ops) c.leave-op.ensures.rest)
+
+pub wake-requires-clause-once : goal.wake-requires-clause-once
+wake-requires-clause-once c = (joins c).stands.once
+
+pub wake-requires-clause-own_ids : goal.wake-requires-clause-own_ids
+wake-requires-clause-own_ids c = (joins c).stands.own_ids
+
+-- the step of an operation that was Ready
+joined : (c : goal.After-wake) → IsStep
+    (record { number = c.self.inside.number; hold = c.self.inside.hold; most = c.self.inside.most; held = record { history = c.self.inside.accepted; waiting = c.self.inside.inbox.ops } })
+    (record { history = c.accept.new.self; waiting = c.leave-op.new.inbox.ops }) (Accepted c.leave-op.result)
+joined c =
+    let h : List Op = c.self.inside.accepted in
+    let w : List Op = c.self.inside.inbox.ops in
+    let s : State = record { number = c.self.inside.number; hold = c.self.inside.hold; most = c.self.inside.most; held = record { history = h; waiting = w } } in
+    accepted_step s c.self.inside.inbox c.leave-op.new.inbox c.in-Some.position c.index-ops-position.result c.leave-op.result c.ops.result.now c.accept.new.self
+    refl (due_place h w c.self.inside.due c.first.result c.in-Some.position c.self.invariant.marks c.first.ensures c.in-Some.is) c.ops.ensures.ops c.index-ops-position.is
+    (sym c.verdict.ensures ∙ c.in-Ready.is)
+    (c.in-Ok.ensures.ok ∙ ap (λ (o : Op). o ∷ h) c.in_ok-copy-in-Ready.ensures) c.leave-op.ensures.op c.leave-op.ensures.rest c.self.invariant.stands
 
 pub invariant_of-self-in-Ready : goal.invariant_of-self-in-Ready
-invariant_of-self-in-Ready c = record { same_hold = ap (λ (i : Waiting). i.hold) c.remove.ensures.rest ∙ c.self.invariant.same_hold; stands = (joined c).stands }
+invariant_of-self-in-Ready c = record {
+  same_hold = ap (λ (i : Waiting). i.hold) c.leave-op.ensures.rest ∙ c.self.invariant.same_hold;
+  stands = (joined c).stands;
+  marks = c.wake.ensures;
+}
 
 pub returns-in-Ok-clause-step : goal.returns-in-Ok-clause-step
 returns-in-Ok-clause-step c =
-    let Steps : State → Type 0 = λ s. Settles s.held (record { history = c.accept.new.self; waiting = c.remove.new.self.ops }) (Some (Accepted c.remove.result)) in
+    let Steps : State → Type 0 = λ s. Settles s.held (record { history = c.accept.new.self; waiting = c.leave-op.new.inbox.ops }) (Some (Accepted c.leave-op.result)) in
     subst Steps c.self.view_is (joined c).settles
 
 pub returns-in-Ok-clause-stands : goal.returns-in-Ok-clause-stands
 returns-in-Ok-clause-stands c = (joined c).stands
 
 -- the step of an operation that was stray
-dropped : (c : goal.After-remove-in_default-verdict) → IsStep
+dropped : (c : goal.After-leave-op-in_default-verdict) → IsStep
     (record { number = c.self.inside.number; hold = c.self.inside.hold; most = c.self.inside.most; held = record { history = c.self.inside.accepted; waiting = c.self.inside.inbox.ops } })
-    (record { history = c.self.inside.accepted; waiting = c.remove-in_default-verdict.new.self.ops }) (DroppedStray c.remove-in_default-verdict.result)
+    (record { history = c.self.inside.accepted; waiting = c.leave-op-in_default-verdict.new.inbox.ops }) (DroppedStray c.leave-op-in_default-verdict.result)
 dropped c =
-    let s : State = record { number = c.self.inside.number; hold = c.self.inside.hold; most = c.self.inside.most; held = record { history = c.self.inside.accepted; waiting = c.self.inside.inbox.ops } } in
-    dropped_step s c.self.inside.inbox c.remove-in_default-verdict.new.self c.in-Some.position c.index-ops-position.result c.remove-in_default-verdict.result c.ops.result.now
-    refl (sym c.next_decidable.ensures ∙ c.in-Some.is) c.ops.ensures.ops c.index-ops-position.is
+    let h : List Op = c.self.inside.accepted in
+    let w : List Op = c.self.inside.inbox.ops in
+    let s : State = record { number = c.self.inside.number; hold = c.self.inside.hold; most = c.self.inside.most; held = record { history = h; waiting = w } } in
+    dropped_step s c.self.inside.inbox c.leave-op-in_default-verdict.new.inbox c.in-Some.position c.index-ops-position.result c.leave-op-in_default-verdict.result c.ops.result.now
+    refl (due_place h w c.self.inside.due c.first.result c.in-Some.position c.self.invariant.marks c.first.ensures c.in-Some.is) c.ops.ensures.ops c.index-ops-position.is
     (λ ready. c.in_default-verdict.not-Ready (c.verdict.ensures ∙ ready))
-    c.remove-in_default-verdict.ensures.op c.remove-in_default-verdict.ensures.rest c.self.invariant.stands
+    c.leave-op-in_default-verdict.ensures.op c.leave-op-in_default-verdict.ensures.rest c.self.invariant.stands
 
 pub invariant_of-self-in_default-verdict : goal.invariant_of-self-in_default-verdict
 invariant_of-self-in_default-verdict c = record {
-  same_hold = ap (λ (i : Waiting). i.hold) c.remove-in_default-verdict.ensures.rest ∙ c.self.invariant.same_hold;
+  same_hold = ap (λ (i : Waiting). i.hold) c.leave-op-in_default-verdict.ensures.rest ∙ c.self.invariant.same_hold;
   stands = (dropped c).stands;
+  marks = marks_left c.self.inside.accepted c.self.inside.inbox.ops c.self.inside.accepted c.leave-op-in_default-verdict.new.inbox.ops c.in-Some.position c.self.inside.due
+      c.leave-op-in_default-verdict.new.due c.self.invariant.marks c.leave-op-in_default-verdict.ensures.mark refl (ap (λ (i : Waiting). i.ops) c.leave-op-in_default-verdict.ensures.rest);
 }
 
 pub returns-in_default-verdict : goal.returns-in_default-verdict
 returns-in_default-verdict c =
-    let held : Held = record { history = c.self.inside.accepted; waiting = c.remove-in_default-verdict.new.self.ops } in
-    let Steps : State → Type 0 = λ s. Settles s.held held (Some (DroppedStray c.remove-in_default-verdict.result)) in
+    let held : Held = record { history = c.self.inside.accepted; waiting = c.leave-op-in_default-verdict.new.inbox.ops } in
+    let Steps : State → Type 0 = λ s. Settles s.held held (Some (DroppedStray c.leave-op-in_default-verdict.result)) in
     record {
       step = subst Steps c.self.view_is (dropped c).settles;
       others = ap (λ (s : State). record s { held = held }) c.self.view_is;

@@ -1,10 +1,10 @@
-use Rattle.std.proofs.Common.{List, ap, arith, get_or, length, refl, subst, sym, true, ℕ, ◌∙◌, ◌<◌, ◌≡◌}
+use Rattle.std.proofs.Common.{List, ap, arith, get_or, length, refl, sym, true, ℕ, ◌∙◌, ◌<◌, ◌≡◌}
 use Rattle.std.specs.Prelude.{Some, map, slice_get, slice_set}
 use Rattle.std.proofs.lemmas.Option.{slice_get-get_or}
 use Rattle.std.proofs.lemmas.List.{length-map}
 use Rattle.fugue_ids.specs.Identifiers.{Identifier}
 use Rattle.fugue_ids.specs.Listed.{IsListed, index_of}
-use Rattle.section_list.specs.Cells.{AreDistinct, ids, visible_cells, without}
+use Rattle.section_list.specs.Cells.{AreDistinct, ids, hiding}
 use Rattle.section_list.specs.declared.cell.Cell.{Cell}
 use Rattle.section_list.proofs.Hiding.{hidden_at}
 use Rattle.section_list.proofs.Visible.{count-hide}
@@ -33,7 +33,7 @@ invariant_of-self c =
 
 -- the cell at the position, hidden
 hidden : (cs now : List Cell) (x : Identifier) (at : ℕ) (cell : Cell) → cs ≡ now → IsListed (ids now) x → AreDistinct (ids now) → at ≡ index_of (ids now) x → cell ≡ get_or cs at cell
-    → slice_set cs at (record cell { hidden = true }) ≡ map (without x) now
+    → slice_set cs at (record cell { hidden = true }) ≡ map (hiding x) now
 hidden cs now x at cell v l d e f =
     let t = there cs now x at cell v l e f in
     (λ i. slice_set (v i) (e i) (record cell { hidden = true }))

@@ -1,6 +1,4 @@
-use Rattle.std.proofs.Common.{arith, length, false, subst, sym, ap, ◌<◌, ◌∙◌, ◌≡◌, refl}
-use Rattle.std.specs.Prelude.{filter, not}
-use Rattle.std.proofs.lemmas.List.Sums.{length-filter}
+use Rattle.std.proofs.Common.{arith, length, false, subst, sym, ap, ◌<◌, ◌∙◌, refl}
 use Rattle.section_list.specs.Cells.{visible_cells}
 use Rattle.section_list.specs.declared.cell.Cell.{Cell}
 use Rattle.section_list.proofs.Visible.{count-insert, count_within}

@@ -1,4 +1,4 @@
-use Rattle.std.proofs.Common.{List, ap, subst, sym, ℕ, ◌∙◌}
+use Rattle.std.proofs.Common.{List, ap, subst, ℕ, ◌∙◌}
 use Rattle.std.specs.Prelude.{Err, Ok, flat_map}
 use Rattle.std.specs.Str.{encode_utf8_all}
 use Rattle.std.proofs.lemmas.List.{take_all}

@@ -1,11 +1,9 @@
-use Rattle.std.proofs.Common.{List, ap, refl, subst, sym, true, ◌∙◌, ◌≡◌}
-use Rattle.std.specs.Prelude.{map}
-use Rattle.fugue_ids.specs.Identifiers.{Identifier}
+use Rattle.std.proofs.Common.{ap, subst, sym, ◌∙◌}
 use Rattle.fugue_ids.specs.Listed.{IsListed}
-use Rattle.origin_model.specs.Nodes.{as_ops, has_node, node_order}
+use Rattle.origin_model.specs.Nodes.{as_ops, has_node}
 use Rattle.origin_model.specs.declared.place.Place.TheVariants.{Catalogue}
-use Rattle.section_list.specs.Cells.{AreDistinct, ids, is_hidden, without}
-use Rattle.section_list.proofs.Hiding.{hidden_again, ids-without}
+use Rattle.section_list.specs.Cells.{AreDistinct, ids, is_hidden}
+use Rattle.section_list.proofs.Hiding.{hidden_again, ids-hiding}
 use Rattle.section_list.proofs.place.SectionList.hide.Goals as goal
 
 pub hide-requires : goal.hide-requires
@@ -19,7 +17,7 @@ hide-requires c = record {
 pub invariant_of-self : goal.invariant_of-self
 invariant_of-self c = record {
   are_nodes = c.self.invariant.are_nodes;
-  in_order = ap ids c.hide.ensures ∙ ids-without c.args.id c.self.inside.cells ∙ c.self.invariant.in_order;
+  in_order = ap ids c.hide.ensures ∙ ids-hiding c.args.id c.self.inside.cells ∙ c.self.invariant.in_order;
 }
 
 pub returns-clause-again : goal.returns-clause-again
@@ -32,5 +30,5 @@ returns-clause-again c again =
 pub returns-clause-in_order : goal.returns-clause-in_order
 returns-clause-in_order c = record {
   are_nodes = c.self.invariant.are_nodes;
-  in_order = ap ids c.hide.ensures ∙ ids-without c.args.id c.self.inside.cells ∙ c.self.invariant.in_order;
+  in_order = ap ids c.hide.ensures ∙ ids-hiding c.args.id c.self.inside.cells ∙ c.self.invariant.in_order;
 }

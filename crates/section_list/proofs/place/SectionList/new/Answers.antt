@@ -1,5 +1,4 @@
-use Rattle.std.proofs.Common.{List, [], refl, subst, sym, ap, ◌∙◌, ◌≡◌}
-use Rattle.fugue_ids.specs.Identifiers.{Identifier}
+use Rattle.std.proofs.Common.{[], refl, subst, sym, ap, ◌∙◌, ◌≡◌}
 use Rattle.origin_model.specs.Nodes.{AreNodes, node_order}
 use Rattle.origin_model.specs.Order.{order}
 use Rattle.section_list.specs.Cells.{ids}

@@ -1,7 +1,7 @@
 use Rattle.std.proofs.Common.{ap, refl, subst, sym, ◌∙◌, ◌∷◌}
 use Rattle.origin_model.specs.Nodes.{has_node}
 use Rattle.sided_tree.specs.NodeMaps.{IsNodeMap, nodes_in}
-use Rattle.sided_tree.proofs.Keys.{id_at-other}
+use Rattle.fugue_ids.specs.SameIdentifiers.{id_at-other}
 use Rattle.sided_tree.proofs.NodeMaps.{pushed, pushed_map}
 use Rattle.sided_tree.proofs.nodes.Nodes.push.Goals as goal
 

@@ -5,7 +5,7 @@ use Rattle.origin_model.specs.Detached.{without}
 use Rattle.origin_model.specs.Laws.{In}
 use Rattle.origin_model.specs.Nodes.{AreNodes, has_node}
 use Rattle.sided_tree.specs.NodeMaps.{IsNodeMap, nodes_in}
-use Rattle.sided_tree.proofs.Keys.{id_at-other}
+use Rattle.fugue_ids.specs.SameIdentifiers.{id_at-other}
 use Rattle.sided_tree.proofs.NodeMaps.{node_aged, removed, removed_map}
 use Rattle.sided_tree.proofs.nodes.Nodes.remove.Goals as goal
 

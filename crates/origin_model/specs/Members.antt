@@ -1,6 +1,6 @@
--- Look-ups in a list, as tests of its members.
-use Rattle.std.proofs.Common.{◌≡◌, refl, sym, ◌∙◌, ap, List, [], ◌∷◌, Bool, true, false, inl, inr, ◌||◌}
-use Rattle.std.specs.Prelude.{Option, Some, None, is_some}
+-- Look-ups, as tests of the members of a list.
+use Rattle.std.proofs.Common.{◌≡◌, refl, ◌∙◌, ap, List, [], ◌∷◌, inl, inr, ◌||◌}
+use Rattle.std.specs.Prelude.{Some}
 use Rattle.std.specs.List.{list_any}
 use Rattle.std.proofs.lemmas.Bool.{cases_Bool}
 use Rattle.fugue_ids.specs.Identifiers.{Identifier, origin_eq}
@@ -13,7 +13,8 @@ pub has_op_any : (ops : List Op) (op : Op) → has_op ops op ≡ list_any (λ ot
 has_op_any [] op = refl
 has_op_any (o ∷ ops) op = ap (λ b. op_eq o op || b) (has_op_any ops op)
 
-holds-cons : (o : Op) (ops : List Op) (i : Identifier) → holds (o ∷ ops) i ≡ (is_own i o || holds ops i)
+-- an identifier is held where the newest operation has it, or an older one
+pub holds-cons : (o : Op) (ops : List Op) (i : Identifier) → holds (o ∷ ops) i ≡ (is_own i o || holds ops i)
 holds-cons o ops i = elim (cases_Bool (is_own i o)) [ inl e ↦ rw (e, holder) | inr e ↦ rw (e, holder) ]
 
 -- an identifier is held where a member has it

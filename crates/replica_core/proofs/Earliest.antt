@@ -1,15 +1,10 @@
 -- The earliest decided operation is the one at the first decided place, and the others are the list without it.
-use Rattle.std.proofs.Common.{◌≡◌, refl, sym, ◌∙◌, ap, subst, ℕ, suc, ◌+◌, ◌<◌, ◌≤◌, List, [], ◌∷◌, length, Bool, true, false, not, cond, arith, inl, inr, ltb}
+use Rattle.std.proofs.Common.{◌≡◌, refl, sym, ◌∙◌, ap, subst, ℕ, suc, ◌≤◌, List, [], ◌∷◌, length, Bool, true, false, cond, arith, inl, inr, ltb}
 use Rattle.std.specs.Prelude.{Option, Some, None, position, remove, slice_get}
 use Rattle.std.specs.List.{position_or_len}
-use Rattle.std.proofs.lemmas.Bool.{cases_Bool, ltb-true, ltb-false}
+use Rattle.std.proofs.lemmas.Bool.{cases_Bool, ltb-false}
 use Rattle.fugue_ids.specs.declared.op.Op.{Op}
-use Rattle.origin_model.specs.Verdict.{verdict}
-use Rattle.origin_model.specs.Taking.{is_decided, earliest}
-
--- the operation is decided on the history
-abbrev pub decided_on : List Op → Op → Bool
-decided_on history op = is_decided (verdict history op)
+use Rattle.origin_model.specs.Taking.{decided_on, earliest}
 
 -- what was found behind an operation that is not decided
 abbrev pub behind : Op → Option (Op × List Op) → Option (Op × List Op)

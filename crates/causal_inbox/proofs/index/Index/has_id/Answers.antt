@@ -1,0 +1,12 @@
+use Rattle.std.proofs.Common.{ap, sym, ◌∙◌, List, ℕ}
+use Rattle.std.specs.Prelude.{is_some, slice_get}
+use Rattle.origin_model.specs.Verdict.{id_held}
+use Rattle.causal_inbox.specs.declared.key.Key.TheVariants.{Own}
+use Rattle.causal_inbox.proofs.Findings.{own_found}
+use Rattle.causal_inbox.proofs.index.Index.has_id.Goals as goal
+
+pub returns-in-Some : goal.returns-in-Some
+returns-in-Some c =
+    c.is_some.ensures ∙ ap is_some c.nth_age.ensures ∙ ap (λ (l : List ℕ). is_some (slice_get l 0)) (c.requires.listed (Own c.in-Some.id))
+    ∙ own_found c.in-Some.id c.args.ops.now c.args.self.now.ages.items c.requires.one_each
+    ∙ sym (ap (id_held c.args.ops.now) c.in-Some.is)

@@ -1,0 +1,149 @@
+//! An index of the waiting operations.
+
+ghost use Rattle.std.specs.Prelude.{◌≡◌, ◌<◌, ◌++◌, ◌∷◌, [], List, Some, length, remove as without, slice_get, All, IfSome, OnOk, OnErr};
+ghost use Rattle.fugue_ids.specs.Ops.{op_eq};
+ghost use Rattle.fugue_ids.specs.declared.op.Op.{Op as AnyOp};
+ghost use Rattle.origin_model.specs.Ops.{has_op};
+ghost use Rattle.origin_model.specs.Verdict.{id_held};
+ghost use Rattle.causal_inbox.specs.Ages.{IsAgeIndex, IsAgeIndexOfSome, Rises, place};
+ghost use Rattle.causal_inbox.specs.Lists.{list_in};
+ghost use Rattle.causal_inbox.specs.Places.{is_equal_at, places};
+
+use crate::key::{Key, keys, main_key};
+use crate::lists::{Lists, add_age, drop_age, list_at, nth_age};
+use fugue_ids::{ElementId, NoMemory, Op};
+use std::alloc::Global;
+
+/// Where the operations of a list stand that have a key. Each of them has an age, greater than those before it, so that one that is
+/// removed changes no other.
+#[derive(Drop)]
+pub(crate) struct Index {
+    pub ages: Vec<u64>,
+    pub lists: Lists,
+    alloc: Global,
+}
+
+impl Index {
+    pub fn new(alloc: Global) -> Index
+        ensures { IsAgeIndex [] result.ages.items (list_in result.lists) }
+    {
+        Index {
+            ages: Vec::new(alloc),
+            lists: Lists::new(alloc),
+            alloc,
+        }
+    }
+
+    /// The position of the operation with the key that stands behind k others with it.
+    pub fn nth(&self, key: &Key, k: usize) -> Option<usize>
+        requires { Rises self.now.ages.items }
+        ensures { (ops : List AnyOp) → IsAgeIndex ops self.now.ages.items (list_in self.now.lists) → result ≡ slice_get (places key.now ops) k }
+    {
+        match nth_age(&self.lists, key, k) {
+            Some(age) => Some(position(self.ages.as_slice(), age)),
+            None => None,
+        }
+    }
+
+    /// Whether one of the operations is equal.
+    pub fn has_equal(&self, ops: &[Op], op: &Op) -> bool
+        requires { IsAgeIndex ops.now self.now.ages.items (list_in self.now.lists) }
+        ensures { result ≡ has_op ops.now op.now }
+    {
+        let key = main_key(op);
+        for age in list_at(&self.lists, &key) {
+            if equals_at(ops, position(self.ages.as_slice(), *age), op) {
+                return true;
+            }
+        }
+        false
+    }
+
+    /// Whether one of the operations has the identifier.
+    pub fn has_id(&self, ops: &[Op], id: Option<ElementId>) -> bool
+        requires { IsAgeIndex ops.now self.now.ages.items (list_in self.now.lists) }
+        ensures { result ≡ id_held ops.now id }
+    {
+        match id {
+            Some(id) => nth_age(&self.lists, &Key::Own(id), 0).is_some(),
+            None => false,
+        }
+    }
+
+    /// One operation more, at the end. After want of memory the index is as before.
+    pub fn add(&mut self, op: &Op) -> Result<(), NoMemory>
+        requires { IsAgeIndexOfSome self.old.ages.items (list_in self.old.lists) }
+        ensures ok { OnOk result ((ops : List AnyOp) → IsAgeIndex ops self.old.ages.items (list_in self.old.lists)
+            → IsAgeIndex (ops ++ op.now ∷ []) self.new.ages.items (list_in self.new.lists)) }
+        ensures err { OnErr result ((ops : List AnyOp) → IsAgeIndex ops self.old.ages.items (list_in self.old.lists)
+            → IsAgeIndex ops self.new.ages.items (list_in self.new.lists)) }
+    {
+        let Some(age) = next_age(self.ages.as_slice()) else {
+            return Err(NoMemory);
+        };
+        let Ok(()) = self.ages.push(age) else {
+            return Err(NoMemory);
+        };
+        let keys = keys(op);
+        match add_age(&mut self.lists, self.alloc, &keys, age) {
+            Ok(()) => Ok(()),
+            Err(_) => {
+                drop_age(&mut self.lists, &keys, age);
+                self.ages.pop();
+                Err(NoMemory)
+            }
+        }
+    }
+
+    /// The operation at the position less.
+    pub fn remove(&mut self, op: &Op, position: usize)
+        requires within { position < length self.old.ages.items }
+        requires some { IsAgeIndexOfSome self.old.ages.items (list_in self.old.lists) }
+        ensures { (ops : List AnyOp) → IsAgeIndex ops self.old.ages.items (list_in self.old.lists) → slice_get ops position ≡ Some op.now
+            → IsAgeIndex (without ops position) self.new.ages.items (list_in self.new.lists) }
+    {
+        let age = self.ages.remove(position);
+        drop_age(&mut self.lists, &keys(op), age);
+    }
+}
+
+/// Whether the operation at the position is equal.
+fn equals_at(ops: &[Op], position: usize, op: &Op) -> bool
+    ensures { result ≡ is_equal_at ops.now op.now position }
+{
+    if position >= ops.len() {
+        return false;
+    }
+    equals(&ops[position], op)
+}
+
+pub(crate) fn equals(a: &Op, b: &Op) -> bool
+    ensures { result ≡ op_eq a.now b.now }
+{
+    *a == *b
+}
+
+/// Where the age stands.
+fn position(ages: &[u64], age: u64) -> usize
+    requires { Rises ages.now }
+    ensures { result ≡ place ages.now age }
+{
+    match ages.binary_search(&age) {
+        Ok(position) => position,
+        Err(_) => ages.len(),
+    }
+}
+
+/// An age above all. There is none behind the last number, which no run reaches.
+fn next_age(ages: &[u64]) -> Option<u64>
+    requires { Rises ages.now }
+    ensures { IfSome result (λ age. All (λ other. other < age) ages.now) }
+{
+    let Some(last) = ages.last() else {
+        return Some(0);
+    };
+    if *last == u64::MAX {
+        return None;
+    }
+    Some(*last + 1)
+}

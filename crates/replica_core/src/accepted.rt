@@ -1,0 +1,101 @@
+ghost use Rattle.std.specs.Prelude.{◌≡◌, ◌<◌, ◌∷◌, [], length, IfErr, OnErr, OnOk};
+ghost use Rattle.fugue_ids.specs.Outs.{WritesText};
+ghost use Rattle.origin_model.specs.Ops.{accepted as accepted_list};
+ghost use Rattle.origin_model.specs.Printed.{manuscript as manuscript_on};
+ghost use Rattle.origin_model.specs.Verdict.{verdict as verdict_on, Lawful};
+ghost use Rattle.origin_model.specs.declared.verdict.Verdict.TheVariants.{Ready};
+ghost use Rattle.section_catalogue.specs.Contents.{place_count};
+ghost use Rattle.section_catalogue.specs.Standing.{Grows, IsReadyOn, StandsFor, Stays};
+
+use crate::history::History;
+use fugue_ids::{Failed, NoMemory, Op};
+use origin_model::{NoMemoryFor, Verdict, causes_first, verdict_in};
+use outer_ports::Sink;
+use section_catalogue::{Manuscript, held_has_place, places_bounded};
+use std::alloc::Global;
+use std::marker::Model;
+
+/// The accepted operations and the manuscript that they make. They are seen as the list of them, the newest first.
+#[derive(Drop)]
+pub(crate) struct Accepted {
+    history: History,
+    manuscript: Manuscript,
+}
+
+impl Model for Accepted {
+    ghost use Rattle.std.specs.Prelude.{List};
+    ghost use Rattle.fugue_ids.specs.declared.op.Op.{Op};
+    ghost use Rattle.section_catalogue.specs.Standing.{StandsFor};
+
+    ghost Value = { List Op };
+
+    ghost view = { λ accepted. accepted.history };
+
+    ghost invariant = { λ accepted. StandsFor accepted.manuscript accepted.history };
+}
+
+/// Takes an operation that is Ready into the manuscript. After want of memory that is as before.
+fn take_in(manuscript: &mut Manuscript, op: &Op) -> Result<(), NoMemory>
+    requires ready { IsReadyOn manuscript.old op.now }
+    requires room { place_count manuscript.old op.now < 4194304 }
+    ensures ok { OnOk result (Grows manuscript.old manuscript.new op.now) }
+    ensures err { OnErr result (Stays manuscript.old manuscript.new) }
+{
+    causes_first();
+    held_has_place();
+    match op {
+        Op::Section { .. } | Op::Text { .. } => manuscript.insert(op),
+        Op::Delete { target } => manuscript.hide(*target),
+    }
+}
+
+impl Accepted {
+    pub fn new(alloc: Global) -> Accepted
+        ensures { result ≡ [] }
+    {
+        Accepted {
+            history: History::new(alloc),
+            manuscript: Manuscript::new(alloc),
+        }
+    }
+
+    /// The accepted operations, the oldest first.
+    pub fn ops(&self) -> &[Op]
+        ensures accepted { result.now ≡ accepted_list self.now }
+        ensures lawful { Lawful self.now }
+    {
+        self.history.ops()
+    }
+
+    /// What an operation is against the accepted ones.
+    pub fn verdict(&self, op: &Op) -> Verdict
+        ensures { result ≡ verdict_on self.now op.now }
+    {
+        verdict_in(&self.history, op)
+    }
+
+    /// Takes in an operation that is Ready.
+    pub fn accept(&mut self, op: Op) -> Result<(), NoMemoryFor>
+        requires ready { verdict_on self.old op ≡ Ready }
+        requires room { length self.old < 4194304 }
+        ensures ok { OnOk result (self.new ≡ op ∷ self.old) }
+        ensures err { OnErr result (self.new ≡ self.old) }
+        ensures op_back { IfErr result (λ e. e.op ≡ op) }
+    {
+        places_bounded();
+        self.history.push(op)?;
+        match take_in(&mut self.manuscript, self.history.newest()) {
+            Ok(()) => Ok(()),
+            Err(NoMemory) => Err(NoMemoryFor {
+                op: self.history.pop(),
+            }),
+        }
+    }
+
+    /// Writes the sections that are shown, each with its title and its text.
+    pub fn write_manuscript<O: Sink>(&self, output: &mut O) -> Result<(), Failed>
+        ensures { WritesText (O.seen output.old) (O.seen output.new) result (manuscript_on self.now) }
+    {
+        self.manuscript.write_all(output)
+    }
+}

@@ -1,0 +1,125 @@
+ghost use Rattle.std.specs.Prelude.{◌≡◌, ◌≢◌, ◌∷◌, [], Some, OnErr, OnOk, IfErr, option_copied, slice_get};
+ghost use Rattle.fugue_ids.specs.Ops.{op_eq};
+ghost use Rattle.origin_model.specs.Ops.{accepted};
+ghost use Rattle.origin_model.specs.Verdict.{verdict, Lawful};
+ghost use Rattle.origin_model.specs.declared.verdict.Verdict.TheVariants.{Ready};
+
+use crate::index::Index;
+use fugue_ids::{ElementId, Op};
+use origin_model::{Lookup, NoMemoryFor};
+use std::alloc::Global;
+use std::marker::Model;
+
+/// The accepted operations, with an index by which they are found. They are seen as the list of them, the newest first.
+#[derive(Drop)]
+pub(crate) struct History {
+    ops: Vec<Op>,
+    index: Index,
+}
+
+impl Model for History {
+    ghost use Rattle.std.specs.Prelude.{List, reverse};
+    ghost use Rattle.fugue_ids.specs.declared.op.Op.{Op};
+    ghost use Rattle.origin_model.specs.Verdict.{Lawful};
+    ghost use Rattle.replica_core.specs.Indexes.{IsIndex};
+
+    ghost Value = { List Op };
+
+    ghost view = { λ history. reverse history.ops.items };
+
+    ghost invariant = { λ history. record {
+      lawful : Lawful (reverse history.ops.items);
+      indexed : IsIndex history.index.places history.index.targets (reverse history.ops.items);
+    } };
+}
+
+fn op_at(ops: &[Op], place: usize) -> Option<&Op>
+    ensures { option_copied result ≡ slice_get ops.now place }
+{
+    ops.get(place)
+}
+
+fn equals(a: &Op, b: &Op) -> bool
+    ensures { result ≡ op_eq a.now b.now }
+{
+    *a == *b
+}
+
+impl Lookup for History {
+    ghost history = { λ history. history };
+
+    #[tactic(auto, using(crate::proofs::Indexes::place_free))]
+    fn holder(&self, id: ElementId) -> Option<&Op> {
+        match self.index.place(id) {
+            Some(place) => op_at(&self.ops, place),
+            None => None,
+        }
+    }
+
+    #[tactic(auto, using(crate::proofs::Indexes::has_free))]
+    fn contains(&self, op: &Op) -> bool {
+        match op {
+            Op::Section { id, .. } | Op::Text { id, .. } => match self.holder(*id) {
+                Some(other) => equals(other, op),
+                None => false,
+            },
+            Op::Delete { target } => self.index.is_target(*target),
+        }
+    }
+}
+
+impl History {
+    pub fn new(alloc: Global) -> History
+        ensures { result ≡ [] }
+    {
+        History {
+            ops: Vec::new(alloc),
+            index: Index::new(alloc),
+        }
+    }
+
+    /// The operations, the oldest first.
+    pub fn ops(&self) -> &[Op]
+        ensures accepted { result.now ≡ accepted self.now }
+        ensures lawful { Lawful self.now }
+    {
+        self.ops.as_slice()
+    }
+
+    /// One operation more, which is Ready.
+    pub fn push(&mut self, op: Op) -> Result<(), NoMemoryFor>
+        requires { verdict self.old op ≡ Ready }
+        ensures ok { OnOk result (self.new ≡ op ∷ self.old) }
+        ensures err { OnErr result (self.new ≡ self.old) }
+        ensures op_back { IfErr result (λ e. e.op ≡ op) }
+    {
+        let Ok(()) = self.index.note(&op, self.ops.len()) else {
+            return Err(NoMemoryFor { op });
+        };
+        match self.ops.push(op) {
+            Ok(()) => Ok(()),
+            Err(refused) => {
+                let op = refused.value;
+                self.index.forget(&op);
+                Err(NoMemoryFor { op })
+            }
+        }
+    }
+
+    pub fn newest(&self) -> &Op
+        requires { self.now ≢ [] }
+        ensures { slice_get self.now 0 ≡ Some result.now }
+    {
+        self.ops.last().unwrap()
+    }
+
+    /// Takes the newest operation back.
+    pub fn pop(&mut self) -> Op
+        requires { self.old ≢ [] }
+        ensures { self.old ≡ result ∷ self.new }
+    {
+        let op = self.ops.pop().unwrap();
+        self.index.forget(&op);
+        op
+    }
+}

@@ -1,0 +1,81 @@
+//! What a change of the accepted or of the waiting operations does to the marks.
+
+ghost use Rattle.std.specs.Prelude.{◌≡◌, ◌≢◌, ◌<◌, ◌≤◌, ◌↔◌, ◌++◌, ◌∷◌, [], Some, false, drop, length, remove as without, slice_get, AllPairs, OnOk, OnErr, IfErr};
+ghost use Rattle.origin_model.specs.Taking.{is_decided};
+ghost use Rattle.causal_inbox.specs.Faults.{refused};
+ghost use Rattle.replica_core.specs.State.{HaveOtherIds};
+ghost use Rattle.replica_core.specs.Due.{due_marks, newest_id as newest_id_of};
+
+use crate::accepted::Accepted;
+use crate::due::Due;
+use causal_inbox::{Inbox, PushFault};
+use fugue_ids::{ElementId, NoMemory, Op};
+use origin_model::Verdict;
+
+fn can_leave(verdict: Verdict) -> bool
+    ensures { result ≡ is_decided verdict }
+{
+    matches!(verdict, Verdict::Ready | Verdict::Stray(_))
+}
+
+fn newest_id(accepted: &Accepted) -> Option<ElementId>
+    ensures { result ≡ newest_id_of accepted.now }
+{
+    match accepted.ops().last() {
+        Some(op) => op.id(),
+        None => None,
+    }
+}
+
+/// Tries anew those that rest on the newest accepted operation: all others are decided as before.
+pub(crate) fn wake(inbox: &Inbox, accepted: &Accepted, due: &mut Due)
+    requires marks { due.old ≡ due_marks (drop 1 accepted.now) inbox.now.ops }
+    requires once { AllPairs (λ a b. a ≢ b) (accepted.now ++ inbox.now.ops) }
+    requires own_ids { AllPairs HaveOtherIds (accepted.now ++ inbox.now.ops) }
+    ensures { due.new ≡ due_marks accepted.now inbox.now.ops }
+{
+    let Some(id) = newest_id(accepted) else {
+        return;
+    };
+    let waiting = inbox.ops();
+    for k in 0..waiting.len() {
+        let Some(position) = inbox.nth_naming(id, k) else {
+            return;
+        };
+        due.put(position, can_leave(accepted.verdict(&waiting[position])));
+    }
+}
+
+/// One more waits, which cannot leave yet. After want of memory all is as before.
+pub(crate) fn wait(inbox: &mut Inbox, due: &mut Due, op: Op) -> Result<(), PushFault>
+    ensures ok { OnOk result (inbox.new ≡ record inbox.old { ops = inbox.old.ops ++ op ∷ [] }) }
+    ensures mark { OnOk result (due.new ≡ due.old ++ false ∷ []) }
+    ensures full { (result ≡ Err (PushFault.Full op)) ↔ (length inbox.old.ops ≡ inbox.old.hold) }
+    ensures err { OnErr result (inbox.new ≡ inbox.old) }
+    ensures marks { OnErr result (due.new ≡ due.old) }
+    ensures handed_back { IfErr result (λ fault. refused fault ≡ op) }
+    ensures within { length inbox.new.ops ≤ inbox.new.hold }
+{
+    match inbox.push(op) {
+        Ok(()) => match due.push() {
+            Ok(()) => Ok(()),
+            Err(NoMemory) => {
+                let last = inbox.ops().len() - 1;
+                Err(PushFault::NoMemory(inbox.remove(last)))
+            }
+        },
+        Err(fault) => Err(fault),
+    }
+}
+
+/// The operation at the position waits no longer. Those behind it close up.
+pub(crate) fn leave(inbox: &mut Inbox, due: &mut Due, position: usize) -> Op
+    requires within { position < length inbox.old.ops }
+    requires marks { length due.old ≡ length inbox.old.ops }
+    ensures op { slice_get inbox.old.ops position ≡ Some result }
+    ensures rest { inbox.new ≡ record inbox.old { ops = without inbox.old.ops position } }
+    ensures mark { due.new ≡ without due.old position }
+{
+    due.remove(position);
+    inbox.remove(position)
+}

@@ -1,0 +1,9 @@
+pub mod Bounds
+pub mod Conditions
+pub mod Grown
+pub mod Held
+pub mod HiddenOnce
+pub mod Listed
+pub mod ShownParts
+pub mod Texts
+pub mod Unchanged

@@ -1,0 +1,7 @@
+use Rattle.fugue_ids.specs.SameIdentifiers.{id_at-other}
+use Rattle.section_catalogue.proofs.maps.put.Goals as goal
+
+pub returns-in-Ok-clause-ok : goal.returns-in-Ok-clause-ok
+returns-in-Ok-clause-ok g c =
+    let u = c.in-Ok.ensures.updates in
+    record { here = u.1; others = λ y d. u.2 y (id_at-other c.args.id y d) }

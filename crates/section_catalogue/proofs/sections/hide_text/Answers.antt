@@ -1,0 +1,24 @@
+use Rattle.std.proofs.Common.{ap}
+use Rattle.section_list.specs.Listings.{Listing, with_hidden}
+use Rattle.section_catalogue.specs.declared.section.Section.{Section as Titled}
+use Rattle.fugue_ids.specs.SameIdentifiers.{id_at-other}
+use Rattle.section_catalogue.proofs.Texts.{changed, if_err, if_ok, kept}
+use Rattle.section_catalogue.proofs.sections.hide_text.Goals as goal
+
+pub returns-in-Some-clause-ok : goal.returns-in-Some-clause-ok
+returns-in-Some-clause-ok c =
+    let e = c.in-Some.entry.now in
+    let w : Titled = record { title = e.title; text = c.hide.new.self } in
+    let u = (c.get_mut.follows.holds w).3 c.requires.there in
+    if_ok c.hide.result _ _
+    (λ d. changed c.args.sections.now.entries (c.get_mut.follows.lender w).entries c.args.section.now e w c.in-Some.ensures.value u.1 (λ y n. u.2 y (id_at-other c.args.section.now y n))
+    (λ (t : Titled). record t { text = with_hidden c.args.id t.text }) (ap (λ (t : Listing). record e { text = t }) d)) c.hide.ensures.ok
+
+pub returns-in-Some-clause-err : goal.returns-in-Some-clause-err
+returns-in-Some-clause-err c =
+    let e = c.in-Some.entry.now in
+    let w : Titled = record { title = e.title; text = c.hide.new.self } in
+    let u = (c.get_mut.follows.holds w).3 c.requires.there in
+    if_err c.hide.result _ _
+    (λ d. kept c.args.sections.now.entries (c.get_mut.follows.lender w).entries c.args.section.now e w c.in-Some.ensures.value u.1 (λ y n. u.2 y (id_at-other c.args.section.now y n))
+    (ap (λ (t : Listing). record e { text = t }) d)) c.hide.ensures.err

@@ -1,0 +1,159 @@
+ghost use Rattle.std.specs.Prelude.{◌≡◌, ◌<◌, [], length, slice_get, option_map, IsSome, OnErr, OnOk};
+ghost use Rattle.fugue_ids.specs.Ops.{id_of};
+ghost use Rattle.fugue_ids.specs.Outs.{WritesText};
+ghost use Rattle.origin_model.specs.Printed.{manuscript as manuscript_on, shown};
+ghost use Rattle.origin_model.specs.declared.place.Place.TheVariants.{Catalogue as catalogue};
+ghost use Rattle.section_catalogue.specs.Contents.{place_at, place_count, text_at};
+ghost use Rattle.section_catalogue.specs.Standing.{Grows, HasHistory, Hides, IsReadyOn, OnEach, StandsFor, Stays, nothing};
+
+use crate::growth::{add_section, add_text};
+use crate::hiding::hide_at;
+use crate::maps::find;
+use crate::printing::write_sections;
+use crate::tables::Tables;
+use fugue_ids::{ElementId, Failed, NoMemory, Op};
+use origin_model::{Node, Place, causes_first, order_by_nodes, order_total, same_nodes_same_order};
+use outer_ports::Sink;
+use section_list::SectionList;
+use std::alloc::Global;
+use std::collections::BTreeMap;
+use std::marker::Model;
+
+/// All places of a manuscript.
+///
+/// It is seen by its look-ups, and it stands for each history whose elements it has, listed in their order, with their titles, scalars and
+/// hidden marks: for more than one, since equal sets of operations come in many orders. Only `insert` and `hide` take memory.
+#[derive(Drop)]
+pub struct Manuscript {
+    alloc: Global,
+    tables: Tables,
+}
+
+impl Model for Manuscript {
+    ghost use Rattle.section_catalogue.specs.Contents.{Contents, contents_of};
+    ghost use Rattle.section_catalogue.specs.Standing.{HasHistory};
+
+    ghost Value = { Contents };
+
+    ghost view = { λ m. contents_of m.tables };
+
+    ghost invariant = { λ m. HasHistory (contents_of m.tables) };
+}
+
+impl Manuscript {
+    /// A manuscript without elements. It takes no memory.
+    pub fn new(alloc: Global) -> Manuscript
+        ensures nothing { result ≡ nothing }
+        ensures stands { StandsFor result [] }
+    {
+        Manuscript {
+            alloc,
+            tables: Tables {
+                catalogue: SectionList::new(alloc),
+                sections: BTreeMap::new(alloc),
+                places: BTreeMap::new(alloc),
+            },
+        }
+    }
+
+    /// The place that holds the element, hidden or not.
+    pub fn place_of(&self, id: ElementId) -> Option<Place>
+        ensures place { result ≡ place_at self.now id }
+        ensures stands { HasHistory self.now }
+    {
+        find(&self.tables.places, &id)
+    }
+
+    /// How many sections are shown.
+    pub fn section_count(&self) -> usize
+        ensures { OnEach self.now (λ h. result ≡ length (shown catalogue h)) }
+    {
+        self.tables.catalogue.visible_count()
+    }
+
+    /// The section with k shown ones before it that is shown itself.
+    pub fn section_at(&self, k: usize) -> Option<ElementId>
+        ensures { OnEach self.now (λ h. result ≡ slice_get (shown catalogue h) k) }
+    {
+        self.tables.catalogue.nth_visible(k)
+    }
+
+    /// The sections in order, hidden ones too, each with a space for its scalar.
+    pub fn catalogue(&self) -> &SectionList
+        ensures { result.now ≡ self.now.catalogue }
+    {
+        &self.tables.catalogue
+    }
+
+    /// The text of a section, hidden or not.
+    pub fn section(&self, id: ElementId) -> Option<&SectionList>
+        ensures { option_map (λ text. text.now) result ≡ text_at self.now id }
+    {
+        match self.tables.sections.get(&id) {
+            Some(section) => Some(&section.text),
+            None => None,
+        }
+    }
+
+    /// Takes in a Section or a Text that is Ready. After want of memory all is as before.
+    pub fn insert(&mut self, op: &Op) -> Result<(), NoMemory>
+        requires ready { IsReadyOn self.old op.now }
+        requires element { IsSome (id_of op.now) }
+        requires room { place_count self.old op.now < 4194304 }
+        ensures ok { OnOk result (Grows self.old self.new op.now) }
+        ensures err { OnErr result (Stays self.old self.new) }
+    {
+        order_total();
+        order_by_nodes();
+        same_nodes_same_order();
+        causes_first();
+        match op {
+            Op::Section {
+                id,
+                left,
+                right,
+                title,
+            } => {
+                let (id, left, right) = (*id, *left, *right);
+                let node = Node { id, left, right };
+                add_section(&mut self.tables, self.alloc, &node, title)
+            }
+            Op::Text {
+                id,
+                section,
+                left,
+                right,
+                ch,
+            } => {
+                let (id, left, right) = (*id, *left, *right);
+                let node = Node { id, left, right };
+                add_text(&mut self.tables, section, &node, *ch)
+            }
+            Op::Delete { .. } => Ok(()),
+        }
+    }
+
+    /// Hides an element that a place holds. A hidden one stays as it is. After want of memory all is as before.
+    pub fn hide(&mut self, id: ElementId) -> Result<(), NoMemory>
+        requires { IsSome (place_at self.old id) }
+        ensures ok { OnOk result (Hides self.old self.new id) }
+        ensures err { OnErr result (Stays self.old self.new) }
+    {
+        order_total();
+        order_by_nodes();
+        same_nodes_same_order();
+        causes_first();
+        match find(&self.tables.places, &id) {
+            Some(place) => hide_at(&mut self.tables, &place, id),
+            None => Ok(()),
+        }
+    }
+
+    /// Writes the manuscript: what is shown of each shown section, in the order of the catalogue. After a failure a front of it is written.
+    pub fn write_all<O: Sink>(&self, output: &mut O) -> Result<(), Failed>
+        ensures { OnEach self.now (λ h. WritesText (O.seen output.old) (O.seen output.new) result (manuscript_on h)) }
+    {
+        order_total();
+        write_sections(output, &self.tables.sections, self.tables.catalogue.cells())
+    }
+}

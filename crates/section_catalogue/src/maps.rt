@@ -1,0 +1,37 @@
+//! Maps from identifiers, which a step back leaves as they were.
+
+ghost use Rattle.std.specs.Prelude.{◌≡◌, None, Some, OnErr, OnOk};
+ghost use Rattle.section_catalogue.specs.Changes.{IsPut, IsSame};
+ghost use Rattle.section_catalogue.specs.Contents.{entry_at};
+
+use fugue_ids::{ElementId, NoMemory};
+use std::collections::BTreeMap;
+
+/// The value stands at the identifier now. After want of memory the map answers as before.
+pub(crate) fn put<V: Drop>(
+    map: &mut BTreeMap<ElementId, V>,
+    id: ElementId,
+    value: V,
+) -> Result<(), NoMemory>
+    ensures ok { OnOk result (IsPut (entry_at map.old.entries) (entry_at map.new.entries) id (Some value)) }
+    ensures err { OnErr result (IsSame (entry_at map.old.entries) (entry_at map.new.entries)) }
+{
+    match map.insert(id, value) {
+        Ok(_) => Ok(()),
+        Err(_) => Err(NoMemory),
+    }
+}
+
+/// Nothing stands at the identifier any more.
+pub(crate) fn clear<V: Drop>(map: &mut BTreeMap<ElementId, V>, id: &ElementId)
+    ensures { IsPut (entry_at map.old.entries) (entry_at map.new.entries) id.now None }
+{
+    map.remove(id);
+}
+
+/// The value at the identifier.
+pub(crate) fn find<V: Copy>(map: &BTreeMap<ElementId, V>, id: &ElementId) -> Option<V>
+    ensures { result ≡ entry_at map.now.entries id.now }
+{
+    map.get(id).copied()
+}
