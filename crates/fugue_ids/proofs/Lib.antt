@@ -1,1 +1,6 @@
-pub mod Texts
+pub mod ListLemmas
+pub mod TextLemmas
+pub mod JoinLemmas
+pub mod GatherLemmas
+pub mod IdentifierLemmas
+pub mod OpLemmas

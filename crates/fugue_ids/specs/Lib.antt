@@ -1,9 +1,8 @@
+pub mod Keyed
 pub mod Identifiers
-pub mod SameIdentifiers
 pub mod Listed
 pub mod Titles
 pub mod Ops
-pub mod SameOps
 pub mod Causes
 pub mod Outs
-pub mod Joins
+pub mod Gathers

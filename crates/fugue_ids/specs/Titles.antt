@@ -1,6 +1,7 @@
 -- What a text must be to be a title.
 use Rattle.std.specs.Prelude.{◌≡◌, ℕ, ◌<◌, ◌≤◌, Bool, false, ◌||◌, nat_eq, List, length}
 use Rattle.std.specs.List.{list_any}
+use Rattle.fugue_ids.specs.declared.limits.TheConstants.{LONGEST_TITLE}
 
 -- LF or CR
 abbrev pub ends_line : ℕ → Bool
@@ -13,5 +14,5 @@ has_line_end bytes = list_any ends_line bytes
 -- 1 to 480 bytes without LF and CR
 pub record IsTitleText (bytes : List ℕ) : Type 0 where
   pub some : 0 < length bytes
-  pub short : length bytes ≤ 480
+  pub short : length bytes ≤ LONGEST_TITLE
   pub one_line : has_line_end bytes ≡ false

@@ -1,4 +1,6 @@
-ghost use Rattle.std.specs.Prelude.{◌≡◌, ◌↔◌, ◌<◌, IsNone, IfSome};
+ghost use Rattle.std.specs.Prelude.{◌≡◌, ◌↔◌, ◌<◌, IsNone, IfSome, Some};
+ghost use Rattle.std.specs.Ordering.{is_lt};
+ghost use Rattle.fugue_ids.specs.Identifiers.{Identifier, id_cmp, id_eq, id_lt};
 
 use std::marker::Model;
 
@@ -36,3 +38,11 @@ impl ElementId {
         Some(ElementId { replica, counter })
     }
 }
+
+/// Identifiers are ordered by replica, and then by counter: this is what `cmp`, `<` and `==` compute.
+pub fn order_of_identifiers()
+    ensures compared { (a b : Identifier) → ⟦<ElementId as Ord>⟧.cmp a b ≡ id_cmp a b }
+    ensures partly { (a b : Identifier) → ⟦<ElementId as PartialOrd>⟧.partial_cmp a b ≡ Some (id_cmp a b) }
+    ensures before { (a b : Identifier) → is_lt (id_cmp a b) ≡ id_lt a b }
+    ensures same { (a b : Identifier) → ⟦<ElementId as PartialEq>⟧.eq a b ≡ id_eq a b }
+{}

@@ -58,11 +58,11 @@ impl Op {
                 title: title.clone_in(alloc)?,
             }),
             Op::Text {
-                id,
                 section,
+                id,
+                ch,
                 left,
                 right,
-                ch,
             } => Ok(Op::Text {
                 id: *id,
                 section: *section,

@@ -1,6 +1,6 @@
-ghost use Rattle.std.specs.Prelude.{◌≡◌, List, nat_lt};
+ghost use Rattle.std.specs.Prelude.{◌≡◌, Contains, List, nat_lt};
 ghost use Rattle.fugue_ids.specs.Identifiers.{Identifier};
-ghost use Rattle.fugue_ids.specs.Listed.{IsListed, index_of};
+ghost use Rattle.fugue_ids.specs.Listed.{index_of};
 
 use crate::ElementId;
 
@@ -11,7 +11,7 @@ pub trait OrderOf {
 
     /// Whether a stands before b.
     fn earlier(&self, a: ElementId, b: ElementId) -> bool
-        requires first { IsListed (listed self.now) a }
-        requires second { IsListed (listed self.now) b }
+        requires first { Contains (listed self.now) a }
+        requires second { Contains (listed self.now) b }
         ensures { result ≡ nat_lt (index_of (listed self.now) a) (index_of (listed self.now) b) };
 }

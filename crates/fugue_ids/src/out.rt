@@ -1,4 +1,5 @@
-ghost use Rattle.std.specs.Prelude.{flat_map};
+ghost use Rattle.std.specs.Prelude.{[], ◌∷◌, ◌++◌, codes, flat_map};
+ghost use Rattle.std.specs.Char.{encode_utf8};
 ghost use Rattle.fugue_ids.specs.Outs.{OutView, WritesSome, WritesText};
 
 use crate::Failed;
@@ -32,4 +33,20 @@ pub fn write_pieces<O: Out>(out: &mut O, pieces: &[&[u8]]) -> Result<(), Failed>
         write_whole(out, piece)?;
     }
     Ok(())
+}
+
+/// Writes a scalar in UTF-8.
+pub fn write_scalar<O: Out>(out: &mut O, ch: char) -> Result<(), Failed>
+    ensures { WritesText (O.seen out.old) (O.seen out.new) result (encode_utf8 ch) }
+{
+    let mut buffer = [0u8; 4];
+    let text = ch.encode_utf8(&mut buffer);
+    write_whole(out, text.as_bytes())
+}
+
+/// Writes the line that heads a section.
+pub fn write_heading<O: Out>(out: &mut O, title: &str) -> Result<(), Failed>
+    ensures { WritesText (O.seen out.old) (O.seen out.new) result (codes "# " ++ title.now ++ 10 ∷ []) }
+{
+    write_pieces(out, &[b"# ", title.as_bytes(), b"\n"])
 }

@@ -1,4 +1,4 @@
-use crate::{ElementId, NoMemory, Op, Title, TitleFault};
+use crate::{ByteList, ElementId, Failed, NoMemory, Op, Title, TitleFault, has_line_end};
 use std::alloc::Global;
 use std::test::Fail;
 
@@ -68,5 +68,54 @@ fn a_copy_is_equal(rt: HostRuntime) -> Result<(), Fail> {
     assert!(rt; copy == op);
     assert!(rt; other != op);
     assert_eq!(rt; op.id(), ElementId::new(9, 0));
+    Ok(())
+}
+
+#[test]
+fn identifiers_stand_by_replica_and_then_by_counter(rt: HostRuntime) {
+    for (a, b) in [((1, 9), (2, 0)), ((2, 0), (2, 1)), ((9, 1), (10, 0))] {
+        assert!(rt;
+            ElementId::new(a.0, a.1) < ElementId::new(b.0, b.1),
+            "{a:?} and {b:?}"
+        );
+    }
+}
+
+#[test]
+fn faults_say_what_is_wrong(rt: HostRuntime) -> Result<(), Fail> {
+    for (text, wanted) in [
+        (
+            format!(in rt.alloc(); "{}", TitleFault::Empty)?,
+            "a title is not empty",
+        ),
+        (
+            format!(in rt.alloc(); "{}", TitleFault::TooLong)?,
+            "a title has at most 480 bytes",
+        ),
+        (
+            format!(in rt.alloc(); "{}", TitleFault::LineEnd)?,
+            "a title is one line",
+        ),
+        (
+            format!(in rt.alloc(); "{}", TitleFault::NoMemory)?,
+            "out of memory",
+        ),
+        (format!(in rt.alloc(); "{NoMemory}")?, "out of memory"),
+        (
+            format!(in rt.alloc(); "{Failed}")?,
+            "a read or a write failed",
+        ),
+    ] {
+        assert_eq!(rt; text.as_str(), wanted);
+    }
+    Ok(())
+}
+
+#[test]
+fn lists_of_bytes_are_equal_where_their_bytes_are(rt: HostRuntime) -> Result<(), Fail> {
+    let list = ByteList::new(b"a\n".to_vec(rt.alloc())?);
+    assert!(rt; list == ByteList::new(b"a\n".to_vec(rt.alloc())?));
+    assert!(rt; list != ByteList::new(b"a".to_vec(rt.alloc())?));
+    assert!(rt; has_line_end(list.as_slice()));
     Ok(())
 }

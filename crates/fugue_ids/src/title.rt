@@ -2,12 +2,11 @@ ghost use Rattle.std.specs.Prelude.{◌≡◌, ◌≢◌, ◌↔◌, ◌<◌, �
 ghost use Rattle.std.specs.Str.{encode_utf8_all};
 ghost use Rattle.fugue_ids.specs.Titles.{has_line_end as has_line_end_in, IsTitleText};
 
-use crate::NoMemory;
-use std::alloc::Global;
+use crate::{LONGEST_TITLE, NoMemory};
+use std::alloc::{AllocError, Global};
+use std::error::Error;
+use std::fmt;
 use std::marker::Model;
-
-/// The longest title, in bytes of UTF-8.
-pub(crate) const LONGEST: usize = 480;
 
 /// A section's title: UTF-8 of 1 to 480 bytes without LF and CR. It is seen as the list of its scalars.
 #[derive(Debug, Drop)]
@@ -38,27 +37,50 @@ pub enum TitleFault {
     NoMemory,
 }
 
+impl fmt::Display for TitleFault {
+    fn fmt<W: fmt::Write>(&self, f: &mut fmt::Formatter<W>) -> fmt::Result {
+        match self {
+            TitleFault::Empty => write!(f, "a title is not empty"),
+            TitleFault::TooLong => write!(f, "a title has at most {LONGEST_TITLE} bytes"),
+            TitleFault::LineEnd => write!(f, "a title is one line"),
+            TitleFault::NoMemory => write!(f, "{}", crate::NoMemory),
+        }
+    }
+}
+
+impl Error for TitleFault {}
+
+impl From<AllocError> for TitleFault {
+    ghost use Rattle.std.specs.Prelude.{◌≡◌};
+    ghost use Rattle.fugue_ids.specs.declared.title.TitleFault.TheVariants.{NoMemory as no_memory};
+
+    ghost from_gives = { λ _ e. e ≡ no_memory };
+
+    fn from(_e: AllocError) -> TitleFault {
+        TitleFault::NoMemory
+    }
+}
+
 impl Title {
     pub fn read(alloc: Global, text: &str) -> Result<Title, TitleFault>
         ensures ok { IfOk result (λ title. encode_utf8_all title ≡ text.now) }
         ensures empty { (result ≡ Err TitleFault.Empty) ↔ (text.now ≡ []) }
-        ensures too_long { (result ≡ Err TitleFault.TooLong) ↔ (480 < length text.now) }
+        ensures too_long { (result ≡ Err TitleFault.TooLong) ↔ (LONGEST_TITLE < length text.now) }
         ensures line_end { (result ≡ Err TitleFault.LineEnd)
-            ↔ ((text.now ≢ []) × (length text.now ≤ 480) × (has_line_end_in text.now ≡ true)) }
+            ↔ ((text.now ≢ []) × (length text.now ≤ LONGEST_TITLE) × (has_line_end_in text.now ≡ true)) }
     {
         if text.is_empty() {
             return Err(TitleFault::Empty);
         }
-        if text.len() > LONGEST {
+        if text.len() > LONGEST_TITLE {
             return Err(TitleFault::TooLong);
         }
         if has_line_end(text.as_bytes()) {
             return Err(TitleFault::LineEnd);
         }
-        match String::from_str(alloc, text) {
-            Ok(text) => Ok(Title { text }),
-            Err(_) => Err(TitleFault::NoMemory),
-        }
+        Ok(Title {
+            text: String::from_str(alloc, text)?,
+        })
     }
 
     pub fn as_str(&self) -> &str
@@ -72,10 +94,9 @@ impl Title {
     pub fn clone_in(&self, alloc: Global) -> Result<Title, NoMemory>
         ensures { IfOk result (λ copy. copy ≡ self.now) }
     {
-        match String::from_str(alloc, self.text.as_str()) {
-            Ok(text) => Ok(Title { text }),
-            Err(_) => Err(NoMemory),
-        }
+        Ok(Title {
+            text: String::from_str(alloc, self.text.as_str())?,
+        })
     }
 }
 
@@ -100,7 +121,8 @@ impl Eq for Title {
     ghost laws = { nat_list_eq_equiv };
 }
 
-fn has_line_end(bytes: &[u8]) -> bool
+/// Whether an LF or a CR stands in the bytes.
+pub fn has_line_end(bytes: &[u8]) -> bool
     ensures { result ≡ has_line_end_in bytes.now }
 {
     bytes.iter().any(|byte| *byte == b'\n' || *byte == b'\r')

@@ -1,5 +1,5 @@
 use Rattle.std.proofs.lemmas.Result.{err_from_is_err_and}
-use Rattle.fugue_ids.specs.Joins.{parts_grow, parts_stop}
+use Rattle.fugue_ids.proofs.JoinLemmas.{parts_grow, parts_stop}
 use Rattle.fugue_ids.proofs.out.write_pieces.Goals as goal
 
 pub loop-piece-preserved : goal.loop-piece-preserved

@@ -1,6 +1,6 @@
 use Rattle.std.proofs.Common.{arith}
 use Rattle.std.proofs.lemmas.Result.{err_from_is_err_and}
-use Rattle.fugue_ids.specs.Joins.{call_grows, call_stops}
+use Rattle.fugue_ids.proofs.JoinLemmas.{call_grows, call_stops}
 use Rattle.fugue_ids.proofs.out.write_whole.Goals as goal
 
 pub loop-at-preserved : goal.loop-at-preserved

@@ -1,6 +1,6 @@
 use Rattle.std.proofs.Common.{sym, ap, ◌∙◌}
 use Rattle.std.specs.Str.{encode_utf8_all, chars}
-use Rattle.fugue_ids.proofs.Texts.{encode_utf8_all-chars}
+use Rattle.fugue_ids.proofs.TextLemmas.{encode_utf8_all-chars}
 use Rattle.fugue_ids.proofs.title.Title.as_str.Goals as goal
 
 pub returns-clause-text : goal.returns-clause-text

@@ -106,7 +106,7 @@ rest_is at piece = take_all (length piece - at) (drop at piece) (omega (arith, l
 take_front_rest : (at : ℕ) (piece : List ℕ) → take at piece ++ take (length piece - at) (drop at piece) ≡ piece
 take_front_rest at piece = ap (λ (t : List ℕ). take at piece ++ t) (rest_is at piece) ∙ take-append-drop at piece
 
-front_grows : (at n : ℕ) (piece : List ℕ) → take at piece ++ take n (take (length piece - at) (drop at piece)) ≡ take (at + n) piece
+pub front_grows : (at n : ℕ) (piece : List ℕ) → take at piece ++ take n (take (length piece - at) (drop at piece)) ≡ take (at + n) piece
 front_grows at n piece = ap (λ (t : List ℕ). take at piece ++ take n t) (rest_is at piece) ∙ sym (take-add at n piece)
 
 sure_call : (E T : Type 0) (x : T) (room : Option ℕ) (n m before now : ℕ) → m ≡ n → IfSome room (λ r. n ≤ r) → IfSome room (λ r. now ≡ before)
@@ -138,7 +138,7 @@ call_failed {E} {S} e v w piece t = record {
 }
 
 -- a text of parts, split at one of them
-parts_split : {X : Type 0} (f : X → List ℕ) (xs : List X) (i : ℕ) (d : X) → i < length xs
+pub parts_split : {X : Type 0} (f : X → List ℕ) (xs : List X) (i : ℕ) (d : X) → i < length xs
     → flat_map f xs ≡ flat_map f (take i xs) ++ (f (get_or xs i d) ++ flat_map f (drop (suc i) xs))
 parts_split f [] i d below = absurd (omega (arith, below))
 parts_split f (x ∷ xs) zero d below = refl
@@ -146,7 +146,7 @@ parts_split f (x ∷ xs) (suc i) d below =
     ap (λ (t : List ℕ). f x ++ t) (parts_split f xs i d (omega (arith, below)))
     ∙ sym (append_assoc (f x) (flat_map f (take i xs)) (f (get_or xs i d) ++ flat_map f (drop (suc i) xs)))
 
-parts_step : {X : Type 0} (f : X → List ℕ) (xs : List X) (i : ℕ) (d : X) → i < length xs
+pub parts_step : {X : Type 0} (f : X → List ℕ) (xs : List X) (i : ℕ) (d : X) → i < length xs
     → flat_map f (take (suc i) xs) ≡ flat_map f (take i xs) ++ f (get_or xs i d)
 parts_step f [] i d below = absurd (omega (arith, below))
 parts_step f (x ∷ xs) zero d below = append-nil (f x)

@@ -5,7 +5,7 @@ use Rattle.std.proofs.lemmas.Bool.{and_from, and_parts, eq-eqb, eqb-true, falseâ
 use lib.Pointwise.{bytes_decides, pointwise}
 use Rattle.fugue_ids.specs.Identifiers.{id_eq, origin_eq}
 use Rattle.fugue_ids.specs.Ops.{op_eq}
-use Rattle.fugue_ids.specs.SameIdentifiers.{id_eq-refl, id_eq-true, origin_eq-refl, origin_eq-true}
+use Rattle.fugue_ids.proofs.IdentifierLemmas.{id_eq-refl, id_eq-true, origin_eq-refl, origin_eq-true}
 use Rattle.fugue_ids.specs.declared.op.Op.{Op}
 use Rattle.fugue_ids.specs.declared.op.Op.TheVariants.{Delete, Section, Text}
 
