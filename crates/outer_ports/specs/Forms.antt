@@ -1,5 +1,5 @@
 -- The forms in memory, as contracts see them, and what a call does to each.
-use Rattle.std.specs.Prelude.{◌≡◌, ◌↔◌, ℕ, ◌-◌, ◌<◌, min, List, ◌++◌, length, take, drop, Result, Ok, IsErr, IfOk, OnErr}
+use Rattle.std.specs.Prelude.{◌≡◌, ◌↔◌, ◌⊎◌, ℕ, ◌-◌, ◌<◌, min, List, ◌++◌, length, take, drop, Result, Ok, IsErr, IfOk, OnErr}
 use Rattle.outer_ports.specs.Calls.{CallsView, FailsNext, passed, failed, risen}
 
 pub record MemSourceView : Type 0 where
@@ -17,6 +17,8 @@ pub record MemSinkView : Type 0 where
   pub written : List ℕ
   -- the most bytes that a call takes
   pub piece : ℕ
+  -- how many bytes it takes with no further memory
+  pub spare : ℕ
   pub calls : CallsView
 
 pub record SureSinkView : Type 0 where
@@ -39,12 +41,13 @@ pub record SureReads {E : Type 0} (old new : SureSourceView) (result : Result �
   pub gives : result ≡ Ok (min (min old.piece (length buf)) (length old.left))
   pub gave : IfOk result (λ n. new ≡ record old { left = drop n old.left })
 
--- a write fails where it is to fail, and else only for want of memory; otherwise it takes all that the piece allows
+-- a write fails where it is to fail, and else only where what it takes needs further memory; otherwise it takes all that the piece allows
 pub record MemWrites {E : Type 0} (old new : MemSinkView) (result : Result ℕ E) (bytes : List ℕ) : Type 0 where
   pub fails : FailsNext old.calls → IsErr result
-  pub failed : OnErr result (new ≡ record old { calls = failed old.calls })
+  pub wanting : OnErr result (FailsNext old.calls ⊎ (old.spare < min old.piece (length bytes)))
+  pub failed : OnErr result (new ≡ record old { spare = new.spare; calls = failed old.calls })
   pub takes : IfOk result (λ n. n ≡ min old.piece (length bytes))
-  pub took : IfOk result (λ n. new ≡ record old { written = old.written ++ take n bytes; calls = passed old.calls })
+  pub took : IfOk result (λ n. new ≡ record old { written = old.written ++ take n bytes; spare = new.spare; calls = passed old.calls })
 
 -- a write fails exactly where no room is left for it; otherwise it takes all that the piece and the room allow
 pub record SureWrites {E : Type 0} (old new : SureSinkView) (result : Result ℕ E) (bytes : List ℕ) : Type 0 where

@@ -1,17 +1,24 @@
-//! Where a program's bytes come from and go to: two traits, with forms over memory and over the system's streams.
+//! Where a program's bytes come from and go to: sources, sinks, disks, wires and docks, with forms over memory and
+//! over the system's streams, files and sockets.
 #![tactic(auto)]
 
 mod calls;
+mod disk;
+mod dock;
 mod mem_sink;
 mod mem_source;
 mod raise;
+mod reserved;
 mod sink;
 mod source;
 mod std_sink;
 mod std_source;
 mod sure_sink;
 mod sure_source;
+mod wire;
 
+pub use disk::{Disk, FileDisk, MemDisk, Opening, Pick, SureDisk, spans_join, sync_brings_none};
+pub use dock::{Dock, DockStep, MemDock, MemStep, SureDock, TcpDock};
 pub use mem_sink::MemSink;
 pub use mem_source::MemSource;
 pub use sink::Sink;
@@ -20,6 +27,7 @@ pub use std_sink::StdSink;
 pub use std_source::StdSource;
 pub use sure_sink::SureSink;
 pub use sure_source::SureSource;
+pub use wire::{MemWire, SureWire, TcpWire, Wire};
 
 #[cfg(test)]
 mod tests;

@@ -18,12 +18,12 @@ pub struct MemSink {
 }
 
 impl Model for MemSink {
-    ghost use Rattle.std.specs.Prelude.{◌≤◌};
+    ghost use Rattle.std.specs.Prelude.{◌≤◌, ◌-◌, vec_len, vec_capacity};
     ghost use Rattle.outer_ports.specs.Forms.{MemSinkView};
 
     ghost Value = { MemSinkView };
 
-    ghost view = { λ s. record { written = s.bytes.items; piece = s.piece; calls = s.calls } };
+    ghost view = { λ s. record { written = s.bytes.items; piece = s.piece; spare = vec_capacity s.bytes - vec_len s.bytes; calls = s.calls } };
 
     ghost invariant = { λ s. 1 ≤ s.piece };
 }

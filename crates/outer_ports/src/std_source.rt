@@ -1,4 +1,4 @@
-ghost use Rattle.std.specs.Prelude.{◌≡◌, None, false, OnOk, OnErr};
+ghost use Rattle.std.specs.Prelude.{◌≡◌, ◌↔◌, ◌≤◌, None, false, IfOk, IsErr, OnOk, OnErr};
 ghost use Rattle.std.specs.Io.KnownBytes.{ReadConsumes};
 ghost use Rattle.outer_ports.specs.Sources.{ReadsSome};
 ghost use Rattle.outer_ports.specs.Calls.{risen};
@@ -6,7 +6,7 @@ ghost use Rattle.outer_ports.specs.Calls.{risen};
 use crate::Source;
 use crate::raise::raise;
 use fugue_ids::Failed;
-use std::io::Read;
+use std::io::{self, Read};
 
 /// Reads from a stream of the system. It does not tell what is left there.
 #[derive(Drop)]
@@ -17,8 +17,9 @@ pub struct StdSource<R: Read + Drop> {
 
 impl<R: Read + Drop> StdSource<R> {
     pub fn new(reader: R) -> StdSource<R>
-        ensures { ⟦<StdSource<R> as Source>⟧.seen result
+        ensures seen { ⟦<StdSource<R> as Source>⟧.seen result
             ≡ record { left = None; faults = 0; sure = false } }
+        ensures stream { result.reader ≡ reader }
     {
         StdSource { reader, faults: 0 }
     }
@@ -34,12 +35,23 @@ impl<R: Read + Drop> Source for StdSource<R> {
         ensures passed { OnOk result (self.new.faults ≡ self.old.faults) }
         ensures failed { OnErr result (self.new.faults ≡ risen self.old.faults) }
     {
-        match self.reader.read(buf) {
-            Ok(count) => Ok(count),
-            Err(_) => {
-                raise(&mut self.faults);
-                Err(Failed)
-            }
+        answer(self.reader.read(buf), &mut self.faults)
+    }
+}
+
+/// What a read answers where the stream gave this answer.
+fn answer(given: io::Result<usize>, faults: &mut u64) -> Result<usize, Failed>
+    ensures fails { IsErr result ↔ IsErr given }
+    ensures gives { IfOk result (λ count. given ≡ Ok count) }
+    ensures passed { OnOk result (faults.new ≡ faults.old) }
+    ensures failed { OnErr result (faults.new ≡ risen faults.old) }
+    ensures later { faults.old ≤ faults.new }
+{
+    match given {
+        Ok(count) => Ok(count),
+        _ => {
+            raise(faults);
+            Err(Failed)
         }
     }
 }

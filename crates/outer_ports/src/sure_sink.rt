@@ -37,15 +37,12 @@ impl SureSink {
             ≡ record { written = Some []; faults = 0; room = Some room }) }
         ensures piece { IfOk result (λ s. s.piece ≡ piece) }
     {
-        match Vec::with_capacity(alloc, room) {
-            Ok(bytes) => Ok(SureSink {
-                bytes,
-                piece,
-                room,
-                faults: 0,
-            }),
-            Err(_) => Err(NoMemory),
-        }
+        Ok(SureSink {
+            bytes: Vec::with_capacity(alloc, room)?,
+            piece,
+            room,
+            faults: 0,
+        })
     }
 
     /// All that was written so far.

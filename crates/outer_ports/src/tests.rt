@@ -1,5 +1,5 @@
 use super::*;
-use fugue_ids::{Failed, Out, write_whole};
+use fugue_ids::{BUFFER, Failed, Gather, Out, write_heading, write_scalar, write_whole};
 use std::fs::File;
 use std::io::{self, Read, Write};
 use std::test::Fail;
@@ -85,6 +85,32 @@ fn a_sure_sink_takes_what_fits(rt: HostRuntime) -> Result<(), Fail> {
 }
 
 #[test]
+fn gathered_bytes_leave_in_whole_arrays(rt: HostRuntime) -> Result<(), Fail> {
+    let text = "ab".repeat(rt.alloc(), BUFFER / 2)?;
+    let mut sink = MemSink::new(rt.alloc(), 2 * BUFFER, [1].to_vec(rt.alloc())?);
+    let mut gather = Gather::new();
+    assert_eq!(rt; gather.put_heading(&mut sink, "T"), Ok(()));
+    assert_eq!(rt; gather.put_scalar(&mut sink, 'ü'), Ok(()));
+    assert_eq!(rt; sink.written().len(), 0);
+    assert_eq!(rt; gather.put(&mut sink, text.as_bytes()), Ok(()));
+    assert_eq!(rt; sink.written().len(), BUFFER);
+    assert!(rt; sink.written().starts_with("# T\nüab".as_bytes()));
+    assert_eq!(rt; gather.flush(&mut sink), Err(Failed));
+    assert_eq!(rt; gather.flush(&mut sink), Ok(()));
+    assert_eq!(rt; sink.written().len(), BUFFER);
+    Ok(())
+}
+
+#[test]
+fn a_heading_and_a_scalar_are_written(rt: HostRuntime) -> Result<(), Fail> {
+    let mut sink = SureSink::new(rt.alloc(), 1, 6)?;
+    assert_eq!(rt; write_heading(&mut sink, "T"), Ok(()));
+    assert_eq!(rt; write_scalar(&mut sink, 'ü'), Ok(()));
+    assert_eq!(rt; sink.written(), "# T\nü".as_bytes());
+    Ok(())
+}
+
+#[test]
 fn streams_pass_bytes_on(rt: HostRuntime) -> Result<(), Fail> {
     let mut sink = StdSink::new(File::create(&rt, "stream")?);
     assert_eq!(rt; write_whole(&mut sink, b"abc"), Ok(()));
@@ -96,6 +122,20 @@ fn streams_pass_bytes_on(rt: HostRuntime) -> Result<(), Fail> {
     assert_eq!(rt; StdSource::new(rt.stdin()).read(&mut []), Ok(0));
     assert_eq!(rt; StdSink::new(rt.stdout()).write(b""), Ok(0));
     assert_eq!(rt; StdSink::new(rt.stderr()).write(b""), Ok(0));
+    Ok(())
+}
+
+#[test]
+fn streams_pass_short_and_long_pieces_on(rt: HostRuntime) -> Result<(), Fail> {
+    let text = "a".repeat(rt.alloc(), 480)?;
+    let mut sink = StdSink::new(File::create(&rt, "long")?);
+    assert_eq!(rt; sink.write(text.as_bytes()), Ok(480));
+    let mut source = StdSource::new(File::open(&rt, "long")?);
+    let mut byte = [0; 1];
+    for _ in 0..480 {
+        assert_eq!(rt; next(&mut source, &mut byte), Ok(b"a".as_slice()));
+    }
+    assert_eq!(rt; next(&mut source, &mut byte), Ok(b"".as_slice()));
     Ok(())
 }
 

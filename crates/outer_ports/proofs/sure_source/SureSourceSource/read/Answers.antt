@@ -1,5 +1,5 @@
 use Rattle.std.proofs.Common.{◌≡◌, ◌+◌, ◌-◌, drop, ap, arith}
-use Rattle.outer_ports.proofs.Fronts.{reads_front}
+use Rattle.outer_ports.proofs.FrontLemmas.{reads_front}
 use Rattle.outer_ports.proofs.sure_source.SureSourceSource.read.Goals as goal
 
 pub returns-clause-reads : goal.returns-clause-reads

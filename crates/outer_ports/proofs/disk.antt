@@ -1,0 +1,4 @@
+-- What the proofs of several functions of src/disk/ use, and what a proof above cites.
+pub mod ImagesLemmas
+pub mod MomentsLemmas
+pub mod ReplaysLemmas

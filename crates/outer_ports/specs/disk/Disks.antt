@@ -1,0 +1,75 @@
+-- A disk, as contracts see it, and what each call does to it.
+use Rattle.std.specs.Prelude.{◌≡◌, ℕ, ◌-◌, ◌<◌, ◌≤◌, List, length, take, drop, Option, Some, None, Result, IfSome, IfOk, OnOk, OnErr}
+use Rattle.fugue_ids.specs.Causes.{HasCause}
+use Rattle.outer_ports.specs.disk.States.{IsHonest, wrote, settled}
+use Rattle.outer_ports.specs.disk.Moments.{History, after, MayHaveWritten}
+
+-- what all later calls together may use
+pub record RoomView : Type 0 where
+  -- how many bytes they write
+  pub bytes : ℕ
+  -- how many writes and syncs they are
+  pub calls : ℕ
+
+pub record DiskView : Type 0 where
+  -- its states so far, where the object tells them
+  pub past : Option History
+  -- how often a call failed
+  pub faults : ℕ
+  -- what still fits, where calls are sure
+  pub room : Option RoomView
+
+-- the room that a call leaves which writes n bytes
+abbrev pub spent : ℕ → Option RoomView → Option RoomView
+spent n None = None
+spent n (Some room) = Some (record { bytes = room.bytes - n; calls = room.calls - 1 })
+
+-- a call that only looks: it changes nothing but the count, and is sure where calls are
+pub record Looks {E T : Type 0} (old new : DiskView) (result : Result T E) : Type 0 where
+  pub past : new.past ≡ old.past
+  pub room : new.room ≡ old.room
+  pub cause : HasCause old.faults new.faults result
+  pub sure : IfSome old.room (λ room. OnErr result ⊥)
+  pub calm : IfSome old.room (λ room. new.faults ≡ old.faults)
+
+-- where calls are sure, a step that fits is taken, and one that does not fit fails and does nothing
+pub record IsSureStep {E T : Type 0} (room : RoomView) (n : ℕ) (old new : DiskView) (result : Result T E) : Type 0 where
+  pub fits : n ≤ room.bytes → 0 < room.calls → OnErr result ⊥
+  pub within : OnOk result ((n ≤ room.bytes) × (0 < room.calls))
+  pub calm : OnOk result (new.faults ≡ old.faults)
+  pub kept : OnErr result (new.past ≡ old.past)
+
+-- the length
+pub record Sizes {E : Type 0} (old new : DiskView) (result : Result ℕ E) : Type 0 where
+  pub told : IfOk result (λ n. IfSome old.past (λ h. n ≡ length h.last.seen))
+  pub looks : Looks old new result
+
+-- n bytes of those that stand from a place on, none only where there is none or no room
+pub record GivesAt (seen : List ℕ) (at n : ℕ) (buf : List ℕ) : Type 0 where
+  pub given : take n buf ≡ take n (drop at seen)
+  pub inside : n ≤ length seen - at
+  pub some : 0 < length buf → at < length seen → 0 < n
+
+pub record ReadsAt {E : Type 0} (old new : DiskView) (result : Result ℕ E) (at : ℕ) (buf : List ℕ) : Type 0 where
+  pub bound : IfOk result (λ n. n ≤ length buf)
+  pub told : IfOk result (λ n. IfSome old.past (λ h. GivesAt h.last.seen at n buf))
+  pub looks : Looks old new result
+
+-- all bytes are written; where the call failed, their range may hold anything after a crash
+pub record WritesAt {E T : Type 0} (old new : DiskView) (result : Result T E) (at : ℕ) (bytes : List ℕ) : Type 0 where
+  pub wrote : OnOk result (new.past ≡ after (wrote at bytes) old.past)
+  pub torn : OnErr result (MayHaveWritten at (length bytes) old.past new.past)
+  pub room : OnOk result (new.room ≡ spent (length bytes) old.room)
+  pub same_room : OnErr result (new.room ≡ old.room)
+  pub cause : HasCause old.faults new.faults result
+  pub sure : IfSome old.room (λ room. IsSureStep room (length bytes) old new result)
+
+-- what a read gives was one of the images, and is now the only one
+pub record Syncs {E T : Type 0} (old new : DiskView) (result : Result T E) : Type 0 where
+  pub honest : OnOk result (IfSome old.past (λ h. IsHonest h.last))
+  pub settled : OnOk result (new.past ≡ after settled old.past)
+  pub past : OnErr result (new.past ≡ old.past)
+  pub room : OnOk result (new.room ≡ spent 0 old.room)
+  pub same_room : OnErr result (new.room ≡ old.room)
+  pub cause : HasCause old.faults new.faults result
+  pub sure : IfSome old.room (λ room. IsSureStep room 0 old new result)

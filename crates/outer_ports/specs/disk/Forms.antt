@@ -1,0 +1,53 @@
+-- The disks in memory, as contracts see them, and what a call does to each.
+use Rattle.std.specs.Prelude.{◌≡◌, ◌⊎◌, ◌↔◌, ℕ, ◌-◌, ◌<◌, ◌≤◌, List, [], length, Result, IsErr, IsOk, OnOk, OnErr}
+use Rattle.outer_ports.specs.Calls.{CallsView, FailsNext, passed, failed, risen}
+use Rattle.outer_ports.specs.disk.States.{at_rest, wrote, tried, settled}
+use Rattle.outer_ports.specs.disk.Moments.{History, stepped}
+use Rattle.outer_ports.specs.disk.Disks.{RoomView}
+
+pub record MemDiskView : Type 0 where
+  pub past : History
+  pub calls : CallsView
+  -- for how many failing writes memory is there
+  pub ready : ℕ
+
+pub record SureDiskView : Type 0 where
+  pub past : History
+  pub room : RoomView
+  pub faults : ℕ
+
+-- these bytes stand, and nothing has been done since
+abbrev pub untouched : List ℕ → History
+untouched bytes = record { last = at_rest bytes; before = [] }
+
+-- a look fails exactly where it is to fail
+pub record MemLooks {E T : Type 0} (old new : MemDiskView) (result : Result T E) : Type 0 where
+  pub fails : IsErr result ↔ FailsNext old.calls
+  pub failed : OnErr result (new ≡ record old { calls = failed old.calls })
+  pub passed : OnOk result (new ≡ record old { calls = passed old.calls })
+
+-- A write or a sync that is to fail does. Another fails only for want of memory, and then nothing is done. One that is
+-- taken leaves memory for as many failing writes as calls are listed.
+pub record MemSteps {E T : Type 0} (next : History) (old new : MemDiskView) (result : Result T E) : Type 0 where
+  pub fails : FailsNext old.calls → IsErr result
+  pub taken : OnOk result (new ≡ record { past = next; calls = passed old.calls; ready = length old.calls.listed })
+  pub counts : OnErr result (new.calls ≡ failed old.calls)
+  pub wanting : OnErr result (FailsNext old.calls ⊎ (new ≡ record old { calls = failed old.calls }))
+
+-- A write that is to fail tears its range where memory is there for that; else it may do nothing.
+pub record MemWrites {E T : Type 0} (old new : MemDiskView) (result : Result T E) (at : ℕ) (bytes : List ℕ) : Type 0 where
+  pub steps : MemSteps (stepped (wrote at bytes) old.past) old new result
+  pub torn : FailsNext old.calls → 0 < old.ready
+      → new ≡ record { past = stepped (tried at (length bytes)) old.past; calls = failed old.calls; ready = old.ready - 1 }
+  pub may_tear : FailsNext old.calls → (new.past ≡ old.past) ⊎ (new.past ≡ stepped (tried at (length bytes)) old.past)
+
+-- a sync that fails does nothing
+pub record MemSyncs {E T : Type 0} (old new : MemDiskView) (result : Result T E) : Type 0 where
+  pub steps : MemSteps (stepped settled old.past) old new result
+  pub failed : OnErr result (new ≡ record old { calls = failed old.calls })
+
+-- a write or a sync of n bytes fails exactly where the bytes, or the call, have no room
+pub record SureSteps {E T : Type 0} (n : ℕ) (next : History) (old new : SureDiskView) (result : Result T E) : Type 0 where
+  pub fits : IsOk result ↔ ((n ≤ old.room.bytes) × (0 < old.room.calls))
+  pub taken : OnOk result (new ≡ record { past = next; room = record { bytes = old.room.bytes - n; calls = old.room.calls - 1 }; faults = old.faults })
+  pub failed : OnErr result (new ≡ record old { faults = risen old.faults })

@@ -1,0 +1,38 @@
+-- The past of a file in memory, from what it was at first and the steps since.
+use Rattle.std.specs.Prelude.{ℕ, ◌+◌, List, [], ◌∷◌, take, drop}
+use Rattle.outer_ports.specs.disk.States.{State, at_rest, wrote, tried, settled}
+use Rattle.outer_ports.specs.disk.Moments.{History, stepped}
+use Rattle.outer_ports.specs.declared.disk.step.Step.{Step}
+use Rattle.outer_ports.specs.declared.disk.step.Step.TheVariants.{Wrote, Tried, Synced}
+
+pub record KeptView : Type 0 where
+  pub past : History
+  -- how many bytes the next steps together write at most
+  pub room : ℕ
+  -- how many steps the next ones are at most
+  pub calls : ℕ
+
+-- how many bytes a step wrote
+abbrev pub written_by : Step → ℕ
+written_by (Wrote at n) = n
+written_by (Tried at n) = 0
+written_by Synced = 0
+
+abbrev pub written_by_all : List Step → ℕ
+written_by_all [] = 0
+written_by_all (step ∷ steps) = written_by step + written_by_all steps
+
+-- what a step did that wrote these bytes
+abbrev pub step_of : Step → List ℕ → State → State
+step_of (Wrote at n) bytes s = wrote at bytes s
+step_of (Tried at n) bytes s = tried at n s
+step_of Synced bytes s = settled s
+
+-- the steps, the oldest first, with all bytes that they wrote one behind the other
+abbrev pub replayed : List Step → List ℕ → History → History
+replayed [] written h = h
+replayed (step ∷ steps) written h =
+    replayed steps (drop (written_by step) written) (stepped (step_of step (take (written_by step) written)) h)
+
+abbrev pub past_of : List ℕ → List Step → List ℕ → History
+past_of first steps written = replayed steps written (record { last = at_rest first; before = [] })

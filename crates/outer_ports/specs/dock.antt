@@ -1,0 +1,6 @@
+-- What is said of docks.
+pub mod Steps
+pub mod Docks
+pub mod Arrivals
+pub mod Logs
+pub mod Forms

@@ -1,0 +1,90 @@
+-- A dock, as contracts see it, and what each call does to it.
+use Rattle.std.specs.Prelude.{◌≡◌, ◌≢◌, ℕ, ◌-◌, ◌<◌, List, [], ◌∷◌, ◌++◌, length, Option, Some, Result, IfSome, IfOk, OnOk, OnErr, option_map}
+use Rattle.std.specs.Io.KnownBytes.{append_known}
+use Rattle.fugue_ids.specs.Causes.{HasCause}
+use Rattle.fugue_ids.specs.Outs.{OutView, WritesSome}
+use Rattle.outer_ports.specs.dock.Steps.{Fits, with_bytes, GivesSome}
+use Rattle.outer_ports.specs.declared.dock.dock_step.DockStep.{DockStep}
+use Rattle.outer_ports.specs.declared.dock.mem_step.MemStep.{MemStep}
+
+-- each told only by an object that tells it
+pub record DockView : Type 0 where
+  -- the port last listened on
+  pub port : Option (Option ℕ)
+  -- the steps that were taken, in order
+  pub taken : Option (List MemStep)
+  -- the steps to come, in order
+  pub coming : Option (List MemStep)
+  -- the bytes sent to each session
+  pub sent : ℕ → Option (List ℕ)
+  -- the sessions that were ended, in order
+  pub ended : Option (List ℕ)
+  -- how often a call failed
+  pub faults : ℕ
+  -- how many bytes still fit for each session, where calls are sure
+  pub room : ℕ → Option ℕ
+  -- how many further sessions can be ended, where calls are sure
+  pub ends : Option ℕ
+
+-- a dock as what takes a session's bytes
+abbrev pub out_of : ℕ → DockView → OutView
+out_of session dock = record { written = dock.sent session; faults = dock.faults; room = dock.room session }
+
+-- nothing was sent
+pub record SendsNothing (old new : DockView) : Type 0 where
+  pub sent : (session : ℕ) → new.sent session ≡ old.sent session
+  pub room : (session : ℕ) → new.room session ≡ old.room session
+
+-- no step was taken
+pub record TakesNothing (old new : DockView) : Type 0 where
+  pub taken : new.taken ≡ old.taken
+  pub coming : new.coming ≡ old.coming
+
+-- the port is the one listened on; nothing at an error
+pub record Listens {E T : Type 0} (old new : DockView) (result : Result T E) (port : ℕ) : Type 0 where
+  pub listened : OnOk result (new.port ≡ option_map (λ before. Some port) old.port)
+  pub kept : OnErr result (new.port ≡ old.port)
+  pub nothing_sent : SendsNothing old new
+  pub nothing_taken : TakesNothing old new
+  pub ended : new.ended ≡ old.ended
+  pub ends : new.ends ≡ old.ends
+  pub cause : HasCause old.faults new.faults result
+  pub succeeds : IfSome old.ends (λ ends. OnErr result ⊥)
+  pub calm : IfSome old.ends (λ ends. new.faults ≡ old.faults)
+
+-- a step is taken; nothing at an error, which a sure dock gives only where no step is left
+pub record Takes {E : Type 0} (old new : DockView) (result : Result DockStep E) (buf : List ℕ) : Type 0 where
+  pub fits : IfOk result (λ step. Fits step (length buf))
+  pub taken : IfOk result (λ step. new.taken ≡ option_map (λ taken. taken ++ with_bytes step buf ∷ []) old.taken)
+  pub came : IfOk result (λ step. GivesSome old.coming new.coming (with_bytes step buf))
+  pub kept : OnErr result (TakesNothing old new)
+  pub nothing_sent : SendsNothing old new
+  pub port : new.port ≡ old.port
+  pub ended : new.ended ≡ old.ended
+  pub ends : new.ends ≡ old.ends
+  pub cause : HasCause old.faults new.faults result
+  pub succeeds : IfSome old.ends (λ ends. OnErr result (IfSome old.coming (λ coming. coming ≡ [])))
+  pub calm : IfSome old.ends (λ ends. OnOk result (new.faults ≡ old.faults))
+
+-- a session's bytes go out, as to a sink
+pub record Sends {E : Type 0} (old new : DockView) (result : Result ℕ E) (session : ℕ) (piece : List ℕ) : Type 0 where
+  pub writes : WritesSome (out_of session old) (out_of session new) result piece
+  pub others : (other : ℕ) → other ≢ session → (new.sent other ≡ old.sent other) × (new.room other ≡ old.room other)
+  pub nothing_taken : TakesNothing old new
+  pub port : new.port ≡ old.port
+  pub ended : new.ended ≡ old.ended
+  pub ends : new.ends ≡ old.ends
+
+-- the session joins those that were ended; nothing at an error
+pub record Ends {E T : Type 0} (old new : DockView) (result : Result T E) (session : ℕ) : Type 0 where
+  pub ended : OnOk result (new.ended ≡ append_known old.ended (session ∷ []))
+  pub kept : OnErr result (new.ended ≡ old.ended)
+  pub ends : OnOk result (new.ends ≡ option_map (λ ends. ends - 1) old.ends)
+  pub same_ends : OnErr result (new.ends ≡ old.ends)
+  pub nothing_sent : SendsNothing old new
+  pub nothing_taken : TakesNothing old new
+  pub port : new.port ≡ old.port
+  pub cause : HasCause old.faults new.faults result
+  pub succeeds : IfSome old.ends (λ ends. 0 < ends → OnErr result ⊥)
+  pub within : IfSome old.ends (λ ends. OnOk result (0 < ends))
+  pub calm : IfSome old.ends (λ ends. OnOk result (new.faults ≡ old.faults))

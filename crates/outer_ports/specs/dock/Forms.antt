@@ -1,0 +1,86 @@
+-- The docks in memory, as contracts see them, and what a call does to each.
+use Rattle.std.specs.Prelude.{◌≡◌, ◌⊎◌, ◌↔◌, ℕ, ◌-◌, ◌<◌, min, if◌then◌else◌, List, [], ◌∷◌, ◌++◌, length, take, Option, Some, Result, IsErr, IfOk, OnOk, OnErr}
+use Rattle.outer_ports.specs.Calls.{CallsView, FailsNext, passed, failed, risen}
+use Rattle.outer_ports.specs.dock.Steps.{Gives, with_bytes, opens}
+use Rattle.outer_ports.specs.dock.Logs.{LogView, sent_by, room_by}
+use Rattle.outer_ports.specs.declared.dock.dock_step.DockStep.{DockStep}
+use Rattle.outer_ports.specs.declared.dock.mem_step.MemStep.{MemStep}
+
+pub record MemDockView : Type 0 where
+  -- the port last listened on
+  pub port : Option ℕ
+  pub taken : List MemStep
+  pub coming : List MemStep
+  pub logs : List LogView
+  pub ended : List ℕ
+  -- the most bytes that a call gives or takes
+  pub piece : ℕ
+  pub calls : CallsView
+
+pub record SureDockView : Type 0 where
+  -- the port last listened on
+  pub port : Option ℕ
+  pub taken : List MemStep
+  pub coming : List MemStep
+  pub faults : ℕ
+  pub logs : List LogView
+  -- how many further sessions can be ended
+  pub ends : ℕ
+  pub ended : List ℕ
+  -- the most bytes that a call gives or takes
+  pub piece : ℕ
+
+-- nothing was sent, and each session that one of the steps opens has this room
+pub record HasRooms (steps : List MemStep) (room : ℕ) (logs : List LogView) : Type 0 where
+  pub sent : (session : ℕ) → sent_by logs session ≡ []
+  pub fits : (session : ℕ) → room_by logs session ≡ if opens steps session then room else 0
+
+-- listening fails exactly where it is to fail
+pub record MemListens {E T : Type 0} (old new : MemDockView) (result : Result T E) (port : ℕ) : Type 0 where
+  pub fails : IsErr result ↔ FailsNext old.calls
+  pub refused : OnErr result (new ≡ record old { calls = failed old.calls })
+  pub listened : OnOk result (new ≡ record old { port = Some port; calls = passed old.calls })
+
+-- A call fails where it is to fail and where no step is left, and else only for want of memory. Otherwise it gives all of
+-- the next step that the piece and the buffer allow.
+pub record MemTakes {E : Type 0} (old new : MemDockView) (result : Result DockStep E) (buf : List ℕ) : Type 0 where
+  pub fails : FailsNext old.calls ⊎ (old.coming ≡ []) → IsErr result
+  pub refused : OnErr result (new ≡ record old { calls = failed old.calls })
+  pub gives : IfOk result (λ step. Gives (min old.piece (length buf)) old.coming new.coming (with_bytes step buf))
+  pub taken : IfOk result (λ step. new ≡ record old { taken = old.taken ++ with_bytes step buf ∷ []; coming = new.coming; calls = passed old.calls })
+
+-- A call fails where it is to fail, and else only for want of memory. Otherwise it takes all that the piece allows.
+pub record MemSends {E : Type 0} (old new : MemDockView) (result : Result ℕ E) (session : ℕ) (bytes : List ℕ) : Type 0 where
+  pub fails : FailsNext old.calls → IsErr result
+  pub refused : OnErr result (new ≡ record old { calls = failed old.calls })
+  pub takes : IfOk result (λ n. n ≡ min old.piece (length bytes))
+  pub sent : IfOk result (λ n. sent_by new.logs session ≡ sent_by old.logs session ++ take n bytes)
+  pub others : OnOk result (new ≡ record old { logs = new.logs; calls = passed old.calls })
+
+-- a call fails where it is to fail, and else only for want of memory
+pub record MemEnds {E T : Type 0} (old new : MemDockView) (result : Result T E) (session : ℕ) : Type 0 where
+  pub fails : FailsNext old.calls → IsErr result
+  pub refused : OnErr result (new ≡ record old { calls = failed old.calls })
+  pub ended : OnOk result (new ≡ record old { ended = old.ended ++ session ∷ []; calls = passed old.calls })
+
+-- A call fails exactly where no step is left. Otherwise it gives all of the next step that the piece and the buffer allow.
+pub record SureTakes {E : Type 0} (old new : SureDockView) (result : Result DockStep E) (buf : List ℕ) : Type 0 where
+  pub fails : IsErr result ↔ (old.coming ≡ [])
+  pub refused : OnErr result (new ≡ record old { faults = risen old.faults })
+  pub gives : IfOk result (λ step. Gives (min old.piece (length buf)) old.coming new.coming (with_bytes step buf))
+  pub taken : IfOk result (λ step. new ≡ record old { taken = old.taken ++ with_bytes step buf ∷ []; coming = new.coming })
+
+-- A call fails exactly where the session has no room left for it. Otherwise it takes all that the piece and the room allow.
+pub record SureSends {E : Type 0} (old new : SureDockView) (result : Result ℕ E) (session : ℕ) (bytes : List ℕ) : Type 0 where
+  pub fails : IsErr result ↔ ((0 < length bytes) × (room_by old.logs session ≡ 0))
+  pub refused : OnErr result (new ≡ record old { faults = risen old.faults })
+  pub takes : IfOk result (λ n. n ≡ min (min old.piece (length bytes)) (room_by old.logs session))
+  pub sent : IfOk result (λ n. sent_by new.logs session ≡ sent_by old.logs session ++ take n bytes)
+  pub room : IfOk result (λ n. room_by new.logs session ≡ room_by old.logs session - n)
+  pub others : OnOk result (new ≡ record old { logs = new.logs })
+
+-- a call fails exactly where no further session can be ended
+pub record SureEnds {E T : Type 0} (old new : SureDockView) (result : Result T E) (session : ℕ) : Type 0 where
+  pub fails : IsErr result ↔ (old.ends ≡ 0)
+  pub refused : OnErr result (new ≡ record old { faults = risen old.faults })
+  pub ended : OnOk result (new ≡ record old { ended = old.ended ++ session ∷ []; ends = old.ends - 1 })

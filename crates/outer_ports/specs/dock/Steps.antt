@@ -1,0 +1,81 @@
+-- The steps of a dock: what a call gave, and what is left of the steps to come.
+use Rattle.std.specs.Prelude.{◌≡◌, ℕ, ◌+◌, ◌-◌, ◌^◌, ◌<◌, ◌≤◌, min, Bool, true, false, List, [], ◌∷◌, ◌++◌, length, take, drop, nat_eq, nat_lt, if◌then◌else◌, Option, Some, None, ⊤}
+use Rattle.std.specs.List.{list_any, sum_by}
+use Rattle.outer_ports.specs.declared.dock.dock_step.DockStep.{DockStep}
+use Rattle.outer_ports.specs.declared.dock.dock_step.DockStep.TheVariants as given
+use Rattle.outer_ports.specs.declared.dock.mem_step.MemStep.{MemStep}
+use Rattle.outer_ports.specs.declared.dock.mem_step.MemStep.TheVariants.{Opened, Bytes, Gone}
+
+-- bytes come, at most as many as the buffer has room for
+abbrev pub Fits : DockStep → ℕ → Type 0
+Fits (given.Opened session) room = ⊤
+Fits (given.Bytes session count) room = (1 ≤ count) × (count ≤ room)
+Fits (given.Gone session) room = ⊤
+
+-- whether a session is open, and its number, or that of the next one
+pub record Turn : Type 0 where
+  pub is_open : Bool
+  pub session : ℕ
+
+-- sessions come one after another, each with the next number
+abbrev pub InTurn : DockStep → Turn → Turn → Type 0
+InTurn (given.Opened session) old new = (old ≡ record { is_open = false; session = session }) × (new ≡ record { is_open = true; session = session })
+InTurn (given.Bytes session count) old new = (old ≡ record { is_open = true; session = session }) × (new ≡ old)
+InTurn (given.Gone session) old new = (old ≡ record { is_open = true; session = session }) × (new ≡ record { is_open = false; session = min (session + 1) (2 ^ 32 - 1) })
+
+-- a step that was given, with its bytes
+abbrev pub with_bytes : DockStep → List ℕ → MemStep
+with_bytes (given.Opened session) buf = Opened session
+with_bytes (given.Bytes session count) buf = Bytes session (take count buf)
+with_bytes (given.Gone session) buf = Gone session
+
+-- how many calls a step serves at most
+abbrev pub calls_for : MemStep → ℕ
+calls_for (Opened session) = 1
+calls_for (Bytes session bytes) = length bytes
+calls_for (Gone session) = 1
+
+-- how many calls steps serve at most
+abbrev pub calls_for_all : List MemStep → ℕ
+calls_for_all steps = sum_by calls_for steps
+
+-- whether a step opens the session
+abbrev pub is_opening : ℕ → MemStep → Bool
+is_opening session (Opened other) = nat_eq other session
+is_opening session (Bytes other bytes) = false
+is_opening session (Gone other) = false
+
+-- whether one of the steps does
+abbrev pub opens : List MemStep → ℕ → Bool
+opens steps session = list_any (is_opening session) steps
+
+-- a step that brings bytes has some
+abbrev pub HasBytes : MemStep → Type 0
+HasBytes step = 0 < calls_for step
+
+-- what is given of a step where at most so many bytes fit
+abbrev pub part_of : ℕ → MemStep → MemStep
+part_of most (Opened session) = Opened session
+part_of most (Bytes session bytes) = Bytes session (take most bytes)
+part_of most (Gone session) = Gone session
+
+-- what is left of it then
+abbrev pub rest_of : ℕ → MemStep → List MemStep
+rest_of most (Opened session) = []
+rest_of most (Bytes session bytes) = if nat_lt most (length bytes) then Bytes session (drop most bytes) ∷ [] else []
+rest_of most (Gone session) = []
+
+-- the first step to come was given, or so many of its bytes, and the rest stands as the first to come
+pub record Gives (most : ℕ) (old new : List MemStep) (step : MemStep) : Type 0 where
+  pub first : MemStep
+  pub others : List MemStep
+  pub came : old ≡ first ∷ others
+  pub given : step ≡ part_of most first
+  pub left : new ≡ rest_of most first ++ others
+
+-- the same with some number, where the steps are told
+abbrev pub GivesSome : Option (List MemStep) → Option (List MemStep) → MemStep → Type 0
+GivesSome None None step = ⊤
+GivesSome None (Some new) step = ⊥
+GivesSome (Some old) None step = ⊥
+GivesSome (Some old) (Some new) step = (most : ℕ) × (1 ≤ most) × Gives most old new step

@@ -1,0 +1,3 @@
+-- What is said of wires.
+pub mod Wires
+pub mod Forms

@@ -1,0 +1,64 @@
+-- The wires in memory, as contracts see them, and what a call does to each.
+use Rattle.std.specs.Prelude.{◌≡◌, ◌↔◌, ℕ, List, Option, Some, Result, IsErr, OnOk, OnErr}
+use Rattle.outer_ports.specs.Calls.{CallsView, FailsNext, passed, failed}
+use Rattle.outer_ports.specs.Forms.{MemSourceView, MemSinkView, SureSourceView, SureSinkView, MemReads, MemWrites, SureReads, SureWrites}
+
+pub record MemWireView : Type 0 where
+  -- the port last dialled
+  pub port : Option ℕ
+  pub left : List ℕ
+  pub said : List ℕ
+  -- the most bytes that a call gives or takes
+  pub piece : ℕ
+  -- how many bytes it takes with no further memory
+  pub spare : ℕ
+  pub calls : CallsView
+
+pub record SureWireView : Type 0 where
+  -- the port last dialled
+  pub port : Option ℕ
+  pub left : List ℕ
+  pub said : List ℕ
+  -- the most bytes that a call gives or takes
+  pub piece : ℕ
+  -- how many bytes all later calls together take
+  pub room : ℕ
+  pub faults : ℕ
+
+abbrev pub mem_source_of : MemWireView → MemSourceView
+mem_source_of wire = record { left = wire.left; piece = wire.piece; calls = wire.calls }
+
+abbrev pub mem_sink_of : MemWireView → MemSinkView
+mem_sink_of wire = record { written = wire.said; piece = wire.piece; spare = wire.spare; calls = wire.calls }
+
+abbrev pub sure_source_of : SureWireView → SureSourceView
+sure_source_of wire = record { left = wire.left; piece = wire.piece }
+
+abbrev pub sure_sink_of : SureWireView → SureSinkView
+sure_sink_of wire = record { written = wire.said; piece = wire.piece; room = wire.room; faults = wire.faults }
+
+-- dialling fails exactly where it is to fail
+pub record MemDials {E T : Type 0} (old new : MemWireView) (result : Result T E) (port : ℕ) : Type 0 where
+  pub fails : IsErr result ↔ FailsNext old.calls
+  pub refused : OnErr result (new ≡ record old { calls = failed old.calls })
+  pub dialled : OnOk result (new ≡ record old { port = Some port; calls = passed old.calls })
+
+-- a read, as of a source in memory
+pub record MemWireReads {E : Type 0} (old new : MemWireView) (result : Result ℕ E) (buf : List ℕ) : Type 0 where
+  pub reads : MemReads (mem_source_of old) (mem_source_of new) result buf
+  pub others : new ≡ record old { left = new.left; calls = new.calls }
+
+-- a write, as to a sink in memory
+pub record MemWireWrites {E : Type 0} (old new : MemWireView) (result : Result ℕ E) (piece : List ℕ) : Type 0 where
+  pub writes : MemWrites (mem_sink_of old) (mem_sink_of new) result piece
+  pub others : new ≡ record old { said = new.said; spare = new.spare; calls = new.calls }
+
+-- a read, as of a sure source
+pub record SureWireReads {E : Type 0} (old new : SureWireView) (result : Result ℕ E) (buf : List ℕ) : Type 0 where
+  pub reads : SureReads (sure_source_of old) (sure_source_of new) result buf
+  pub others : new ≡ record old { left = new.left }
+
+-- a write, as to a sure sink
+pub record SureWireWrites {E : Type 0} (old new : SureWireView) (result : Result ℕ E) (piece : List ℕ) : Type 0 where
+  pub writes : SureWrites (sure_sink_of old) (sure_sink_of new) result piece
+  pub others : new ≡ record old { said = new.said; room = new.room; faults = new.faults }

@@ -1,0 +1,123 @@
+ghost use Rattle.std.specs.Prelude.{◌≡◌, None, IsErr};
+ghost use Rattle.outer_ports.specs.Counts.{CountsFaults};
+ghost use Rattle.outer_ports.specs.disk.Disks.{Sizes, ReadsAt, WritesAt, Syncs};
+
+use crate::Disk;
+use crate::raise::raise;
+use fugue_ids::Failed;
+use std::fs::{File, Files, OpenFile, OpenOptions};
+use std::os::unix::fs::FileExt;
+
+/// What a file is opened for. The lock is taken at once or not at all.
+#[derive(Clone, Copy, Debug, PartialEq, Eq)]
+pub enum Opening {
+    /// To read: the file is there, and others may read it too.
+    Reading,
+    /// To read and to write: the file is there, and nobody else has it.
+    Writing,
+    /// As for writing, and where no file is there an empty one is made.
+    Creating,
+}
+
+/// A file of the system. It does not tell what stands there.
+#[derive(Drop)]
+pub struct FileDisk {
+    /// None where the file could not be opened.
+    file: Option<File>,
+    faults: u64,
+}
+
+impl FileDisk {
+    /// Opens the file and locks it. Where that fails, each call on the disk fails.
+    pub fn open<R: Files<File = File>>(files: &R, path: &str, opening: Opening) -> FileDisk
+        ensures { ⟦<FileDisk as Disk>⟧.seen result ≡ record { past = None; faults = 0; room = None } }
+    {
+        FileDisk {
+            file: open_locked(files, path, opening),
+            faults: 0,
+        }
+    }
+}
+
+fn open_locked<R: Files<File = File>>(files: &R, path: &str, opening: Opening) -> Option<File> {
+    let shared = opening == Opening::Reading;
+    let file = OpenOptions::new()
+        .read(true)
+        .write(!shared)
+        .create(opening == Opening::Creating)
+        .open(files, path)
+        .ok()?;
+    let locked = if shared {
+        file.try_lock_shared()
+    } else {
+        file.try_lock()
+    };
+    locked.ok()?;
+    Some(file)
+}
+
+impl Disk for FileDisk {
+    ghost seen = { λ d. record { past = None; faults = d.faults; room = None } };
+
+    fn size(&mut self) -> Result<u64, Failed>
+        ensures sizes { Sizes (⟦<FileDisk as Disk>⟧.seen self.old) (⟦<FileDisk as Disk>⟧.seen self.new) result }
+        ensures faults { CountsFaults self.old.faults self.new.faults result }
+        ensures file { self.new.file ≡ self.old.file }
+        ensures missing { self.old.file ≡ None → IsErr result }
+    {
+        if let Some(file) = &self.file
+            && let Ok(data) = file.metadata()
+        {
+            return Ok(data.len());
+        }
+        raise(&mut self.faults);
+        Err(Failed)
+    }
+
+    fn read_at(&mut self, at: u64, buf: &mut [u8]) -> Result<usize, Failed>
+        ensures reads { ReadsAt (⟦<FileDisk as Disk>⟧.seen self.old) (⟦<FileDisk as Disk>⟧.seen self.new)
+            result at buf.new }
+        ensures faults { CountsFaults self.old.faults self.new.faults result }
+        ensures file { self.new.file ≡ self.old.file }
+        ensures missing { self.old.file ≡ None → IsErr result }
+    {
+        if let Some(file) = &self.file
+            && let Ok(count) = file.read_at(buf, at)
+        {
+            return Ok(count);
+        }
+        raise(&mut self.faults);
+        Err(Failed)
+    }
+
+    fn write_at(&mut self, at: u64, bytes: &[u8]) -> Result<(), Failed>
+        ensures writes { WritesAt (⟦<FileDisk as Disk>⟧.seen self.old) (⟦<FileDisk as Disk>⟧.seen self.new)
+            result at bytes.now }
+        ensures faults { CountsFaults self.old.faults self.new.faults result }
+        ensures file { self.new.file ≡ self.old.file }
+        ensures missing { self.old.file ≡ None → IsErr result }
+    {
+        if let Some(file) = &self.file
+            && file.write_all_at(bytes, at).is_ok()
+        {
+            return Ok(());
+        }
+        raise(&mut self.faults);
+        Err(Failed)
+    }
+
+    fn sync(&mut self) -> Result<(), Failed>
+        ensures syncs { Syncs (⟦<FileDisk as Disk>⟧.seen self.old) (⟦<FileDisk as Disk>⟧.seen self.new) result }
+        ensures faults { CountsFaults self.old.faults self.new.faults result }
+        ensures file { self.new.file ≡ self.old.file }
+        ensures missing { self.old.file ≡ None → IsErr result }
+    {
+        if let Some(file) = &self.file
+            && file.sync_all().is_ok()
+        {
+            return Ok(());
+        }
+        raise(&mut self.faults);
+        Err(Failed)
+    }
+}

@@ -1,0 +1,223 @@
+ghost use Rattle.std.specs.Prelude.{◌≡◌, ◌≤◌, ◌<◌, ◌+◌, ◌-◌, ◌^◌, [], length, min, IfOk, OnOk, OnErr};
+ghost use Rattle.outer_ports.specs.disk.States.{at_rest, wrote, tried, settled, IsHonest, IsImage};
+ghost use Rattle.outer_ports.specs.disk.Moments.{stepped};
+ghost use Rattle.outer_ports.specs.disk.Disks.{GivesAt};
+ghost use Rattle.outer_ports.specs.disk.Kept.{KeptView};
+ghost use Rattle.outer_ports.specs.disk.Picks.{padded, picked};
+
+use super::fill::fill;
+use super::overwrite::overwrite;
+use super::step::Step;
+use crate::Pick;
+use crate::reserved::{add, append};
+use std::alloc::{AllocError, Global};
+use std::marker::Model;
+
+/// A file in memory, with what is needed to tell its past.
+#[derive(Drop)]
+pub(crate) struct Kept {
+    /// Room was never prepared: what stood at first and at the last sync is what stands.
+    fresh: bool,
+    first: Vec<u8>,
+    base: Vec<u8>,
+    bytes: Vec<u8>,
+    written: Vec<u8>,
+    steps: Vec<Step>,
+    ranges: Vec<(u64, u64)>,
+    longest: u64,
+    room: usize,
+    calls: usize,
+}
+
+impl Model for Kept {
+    ghost use Rattle.std.specs.Prelude.{◌≡◌, ◌≤◌, ◌<◌, ◌+◌, true, if◌then◌else◌, length, vec_len, vec_capacity};
+    ghost use Rattle.outer_ports.specs.disk.States.{IsHonest};
+    ghost use Rattle.outer_ports.specs.disk.Kept.{KeptView, past_of, written_by_all};
+
+    ghost Value = { KeptView };
+
+    ghost view = { λ k. record { past = past_of (if k.fresh then k.bytes.items else k.first.items) k.steps.items k.written.items; room = k.room; calls = k.calls } };
+
+    ghost invariant = { λ k.
+        ((past_of (if k.fresh then k.bytes.items else k.first.items) k.steps.items k.written.items).last
+        ≡ record { seen = k.bytes.items; base = if k.fresh then k.bytes.items else k.base.items; ranges = k.ranges.items; longest = k.longest })
+        × IsHonest (record { seen = k.bytes.items; base = if k.fresh then k.bytes.items else k.base.items; ranges = k.ranges.items; longest = k.longest })
+        × (written_by_all k.steps.items ≡ length k.written.items)
+        × (k.fresh ≡ true → k.calls ≡ 0)
+        × (vec_len k.bytes + k.room ≤ vec_capacity k.bytes)
+        × (vec_len k.written + k.room ≤ vec_capacity k.written)
+        × (0 < k.calls → vec_len k.bytes + k.room ≤ vec_capacity k.base)
+        × (vec_len k.steps + k.calls ≤ vec_capacity k.steps)
+        × (vec_len k.ranges + k.calls ≤ vec_capacity k.ranges)
+        × (length (if k.fresh then k.bytes.items else k.base.items) ≤ k.longest) };
+}
+
+impl Kept {
+    /// A file of these bytes, all of them settled.
+    pub(crate) fn new(alloc: Global, bytes: Vec<u8>) -> Kept
+        ensures { result ≡ record { past = record { last = at_rest bytes.items; before = [] }; room = 0; calls = 0 } }
+    {
+        let longest = bytes.len() as u64;
+        Kept {
+            fresh: true,
+            first: Vec::new(alloc),
+            base: Vec::new(alloc),
+            bytes,
+            written: Vec::new(alloc),
+            steps: Vec::new(alloc),
+            ranges: Vec::new(alloc),
+            longest,
+            room: 0,
+            calls: 0,
+        }
+    }
+
+    /// What a read gives.
+    pub(crate) fn bytes(&self) -> &[u8]
+        ensures { result.now ≡ self.now.past.last.seen }
+    {
+        &self.bytes
+    }
+
+    /// What stood at the last sync.
+    pub(crate) fn base(&self) -> &[u8]
+        ensures { result.now ≡ self.now.past.last.base }
+    {
+        if self.fresh { &self.bytes } else { &self.base }
+    }
+
+    /// The place and the length of each write since the last sync.
+    pub(crate) fn ranges(&self) -> &[(u64, u64)]
+        ensures { result.now ≡ self.now.past.last.ranges }
+    {
+        &self.ranges
+    }
+
+    /// The longest length since the last sync.
+    pub(crate) fn longest(&self) -> u64
+        ensures { result ≡ self.now.past.last.longest }
+    {
+        self.longest
+    }
+
+    /// Gives bytes that stand from `at` on, and answers how many.
+    pub(crate) fn read_at(&self, at: u64, buf: &mut [u8]) -> usize
+        ensures bound { result ≤ length buf.new }
+        ensures gives { GivesAt self.now.past.last.seen at result buf.new }
+        ensures count { result ≡ min (length buf.new) (length self.now.past.last.seen - at) }
+    {
+        let place = at.min(self.bytes.len() as u64) as usize;
+        let count = buf.len().min(self.bytes.len() - place);
+        buf[..count].copy_from_slice(&self.bytes[place..place + count]);
+        count
+    }
+
+    /// Takes memory for steps that together write at most `room` bytes and are at most `calls`.
+    pub(crate) fn prepare(
+        &mut self,
+        alloc: Global,
+        room: usize,
+        calls: usize,
+    ) -> Result<(), AllocError>
+        ensures ok { OnOk result (self.new ≡ record { past = self.old.past; room = room; calls = calls }) }
+        ensures err { OnErr result (self.new ≡ self.old) }
+    {
+        if self.fresh {
+            let first = self.bytes.to_vec(alloc)?;
+            self.base = self.bytes.to_vec(alloc)?;
+            self.first = first;
+            self.fresh = false;
+        }
+        self.bytes.reserve(room)?;
+        self.written.reserve(room)?;
+        self.steps.reserve(calls)?;
+        self.ranges.reserve(calls)?;
+        let whole = self.bytes.len() + room;
+        self.base.reserve(whole.saturating_sub(self.base.len()))?;
+        self.room = room;
+        self.calls = calls;
+        Ok(())
+    }
+
+    /// Writes, in room that is prepared.
+    pub(crate) fn write(&mut self, at: u64, bytes: &[u8])
+        requires inside { at ≤ length self.old.past.last.seen }
+        requires room { length bytes.now ≤ self.old.room }
+        requires calls { 0 < self.old.calls }
+        ensures { self.new ≡ record { past = stepped (wrote at bytes.now) self.old.past; room = self.old.room - length bytes.now; calls = self.old.calls - 1 } }
+    {
+        let length = bytes.len() as u64;
+        overwrite(&mut self.bytes, at as usize, bytes);
+        append(&mut self.written, bytes);
+        add(&mut self.steps, Step::Wrote(at, length));
+        add(&mut self.ranges, (at, length));
+        self.longest = self.longest.max(at + length);
+        self.room -= bytes.len();
+        self.calls -= 1;
+    }
+
+    /// A write of so many bytes fails, and leaves their range torn.
+    pub(crate) fn tear(&mut self, at: u64, count: u64)
+        requires inside { at ≤ length self.old.past.last.seen }
+        requires small { count < 2 ^ 63 }
+        requires calls { 0 < self.old.calls }
+        ensures { self.new ≡ record { past = stepped (tried at count) self.old.past; room = self.old.room; calls = self.old.calls - 1 } }
+    {
+        add(&mut self.steps, Step::Tried(at, count));
+        add(&mut self.ranges, (at, count));
+        self.longest = self.longest.max(at + count);
+        self.calls -= 1;
+    }
+
+    /// What stands is settled.
+    pub(crate) fn settle(&mut self)
+        requires calls { 0 < self.old.calls }
+        ensures stepped { self.new ≡ record { past = stepped settled self.old.past; room = self.old.room; calls = self.old.calls - 1 } }
+        ensures honest { IsHonest self.old.past.last }
+    {
+        self.base.clear();
+        append(&mut self.base, &self.bytes);
+        add(&mut self.steps, Step::Synced);
+        self.ranges.clear();
+        self.longest = self.bytes.len() as u64;
+        self.calls -= 1;
+    }
+
+    pub(crate) fn room(&self) -> usize
+        ensures { result ≡ self.now.room }
+    {
+        self.room
+    }
+
+    pub(crate) fn calls(&self) -> usize
+        ensures { result ≡ self.now.calls }
+    {
+        self.calls
+    }
+
+    /// What a crash may leave.
+    pub(crate) fn crash(&self, alloc: Global, pick: Pick) -> Result<Vec<u8>, AllocError>
+        ensures bytes { IfOk result (λ bytes. bytes.items ≡ picked pick self.now.past.last) }
+        ensures image { IsImage self.now.past.last (picked pick self.now.past.last) }
+    {
+        match pick {
+            Pick::Old => self.base().to_vec(alloc),
+            Pick::New => pad(alloc, self.bytes(), self.longest, 0),
+            Pick::Fill(byte) => {
+                let mut bytes = pad(alloc, self.base(), self.longest, byte)?;
+                fill(&mut bytes, &self.ranges, byte);
+                Ok(bytes)
+            }
+        }
+    }
+}
+
+/// A copy of these bytes, with further ones up to this length.
+fn pad(alloc: Global, bytes: &[u8], long: u64, byte: u8) -> Result<Vec<u8>, AllocError>
+    requires { length bytes.now ≤ long }
+    ensures { IfOk result (λ copy. copy.items ≡ padded long byte bytes.now) }
+{
+    let mut copy = bytes.to_vec(alloc)?;
+    copy.resize(long as usize, byte)?;
+    Ok(copy)
+}

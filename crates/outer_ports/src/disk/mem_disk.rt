@@ -1,0 +1,127 @@
+ghost use Rattle.std.specs.Prelude.{◌≡◌, ◌≤◌, ◌-◌, [], length, min, Some, None, IfOk};
+ghost use Rattle.outer_ports.specs.disk.States.{IsImage};
+ghost use Rattle.outer_ports.specs.disk.Disks.{Sizes, ReadsAt, WritesAt, Syncs};
+ghost use Rattle.outer_ports.specs.disk.Picks.{picked};
+ghost use Rattle.outer_ports.specs.disk.Forms.{untouched, MemLooks, MemWrites, MemSyncs};
+
+use super::kept::Kept;
+use crate::calls::Calls;
+use crate::{Disk, Pick};
+use fugue_ids::{Failed, NoMemory};
+use std::alloc::Global;
+use std::marker::Model;
+
+/// A file in memory. It fails at the calls that it is told to, and where memory is wanting.
+#[derive(Drop)]
+pub struct MemDisk {
+    alloc: Global,
+    kept: Kept,
+    calls: Calls,
+    /// How many steps are made room for at a time: one more than calls are listed.
+    ahead: usize,
+}
+
+impl Model for MemDisk {
+    ghost use Rattle.std.specs.Prelude.{◌≡◌, ◌+◌, length};
+    ghost use Rattle.outer_ports.specs.disk.Forms.{MemDiskView};
+
+    ghost Value = { MemDiskView };
+
+    ghost view = { λ d. record { past = d.kept.past; calls = d.calls; ready = d.kept.calls } };
+
+    ghost invariant = { λ d. d.ahead ≡ length d.calls.listed + 1 };
+}
+
+impl MemDisk {
+    /// A file of these bytes, all of them settled. The calls listed in `fail`, counted from 0, fail.
+    pub fn new(alloc: Global, bytes: Vec<u8>, fail: Vec<u32>) -> MemDisk
+        ensures seen { ⟦<MemDisk as Disk>⟧.seen result
+            ≡ record { past = Some (untouched bytes.items); faults = 0; room = None } }
+        ensures calls { result.calls ≡ record { made = 0; listed = fail.items; faults = 0 } }
+    {
+        let ahead = fail.len() + 1;
+        MemDisk {
+            alloc,
+            kept: Kept::new(alloc, bytes),
+            calls: Calls::new(fail),
+            ahead,
+        }
+    }
+
+    /// One of the files that a crash may leave. No call on it is to fail.
+    pub fn crash(&self, pick: Pick) -> Result<MemDisk, NoMemory>
+        ensures past { IfOk result (λ d. d.past ≡ untouched (picked pick self.now.past.last)) }
+        ensures image { IsImage self.now.past.last (picked pick self.now.past.last) }
+        ensures calls { IfOk result (λ d. d.calls ≡ record { made = 0; listed = []; faults = 0 }) }
+    {
+        crashed(self.alloc, &self.kept, pick)
+    }
+}
+
+impl Disk for MemDisk {
+    ghost seen = { λ d. record { past = Some d.past; faults = d.calls.faults; room = None } };
+
+    fn size(&mut self) -> Result<u64, Failed>
+        ensures sizes { Sizes (⟦<MemDisk as Disk>⟧.seen self.old) (⟦<MemDisk as Disk>⟧.seen self.new) result }
+        ensures form { MemLooks self.old self.new result }
+    {
+        self.calls.begin()?;
+        Ok(self.kept.bytes().len() as u64)
+    }
+
+    fn read_at(&mut self, at: u64, buf: &mut [u8]) -> Result<usize, Failed>
+        ensures reads { ReadsAt (⟦<MemDisk as Disk>⟧.seen self.old) (⟦<MemDisk as Disk>⟧.seen self.new)
+            result at buf.new }
+        ensures form { MemLooks self.old self.new result }
+        ensures count { IfOk result (λ n. n ≡ min (length buf.new) (length self.old.past.last.seen - at)) }
+    {
+        self.calls.begin()?;
+        Ok(self.kept.read_at(at, buf))
+    }
+
+    fn write_at(&mut self, at: u64, bytes: &[u8]) -> Result<(), Failed>
+        requires inside { at ≤ length self.old.past.last.seen }
+        ensures writes { WritesAt (⟦<MemDisk as Disk>⟧.seen self.old) (⟦<MemDisk as Disk>⟧.seen self.new)
+            result at bytes.now }
+        ensures form { MemWrites self.old self.new result at bytes.now }
+    {
+        if let Err(failed) = self.calls.begin() {
+            if self.kept.calls() == 0 && self.kept.prepare(self.alloc, 0, 1).is_err() {
+                return Err(failed);
+            }
+            self.kept.tear(at, bytes.len() as u64);
+            return Err(failed);
+        }
+        if self
+            .kept
+            .prepare(self.alloc, bytes.len(), self.ahead)
+            .is_err()
+        {
+            return Err(self.calls.fail());
+        }
+        self.kept.write(at, bytes);
+        Ok(())
+    }
+
+    fn sync(&mut self) -> Result<(), Failed>
+        ensures syncs { Syncs (⟦<MemDisk as Disk>⟧.seen self.old) (⟦<MemDisk as Disk>⟧.seen self.new) result }
+        ensures form { MemSyncs self.old self.new result }
+    {
+        self.calls.begin()?;
+        if self.kept.prepare(self.alloc, 0, self.ahead).is_err() {
+            return Err(self.calls.fail());
+        }
+        self.kept.settle();
+        Ok(())
+    }
+}
+
+/// A disk with one of the files that a crash may leave of these.
+pub(crate) fn crashed(alloc: Global, kept: &Kept, pick: Pick) -> Result<MemDisk, NoMemory>
+    ensures disk { IfOk result (λ d. (d.past ≡ untouched (picked pick kept.now.past.last))
+        × (d.calls ≡ record { made = 0; listed = []; faults = 0 })) }
+    ensures image { IsImage kept.now.past.last (picked pick kept.now.past.last) }
+{
+    let bytes = kept.crash(alloc, pick)?;
+    Ok(MemDisk::new(alloc, bytes, Vec::new(alloc)))
+}

@@ -1,0 +1,103 @@
+ghost use Rattle.std.specs.Prelude.{◌≡◌, ◌≤◌, ◌-◌, [], length, min, Ok, Some, IfOk};
+ghost use Rattle.outer_ports.specs.disk.States.{IsImage, wrote, settled};
+ghost use Rattle.outer_ports.specs.disk.Moments.{stepped};
+ghost use Rattle.outer_ports.specs.disk.Disks.{Sizes, ReadsAt, WritesAt, Syncs};
+ghost use Rattle.outer_ports.specs.disk.Picks.{picked};
+ghost use Rattle.outer_ports.specs.disk.Forms.{untouched, SureSteps};
+
+use super::kept::Kept;
+use super::mem_disk::crashed;
+use crate::raise::raise;
+use crate::{Disk, MemDisk, Pick};
+use fugue_ids::{Failed, NoMemory};
+use std::alloc::Global;
+use std::marker::Model;
+
+/// A file in memory, with room that was reserved. Its calls take no memory, and fail only where no room is left.
+#[derive(Drop)]
+pub struct SureDisk {
+    alloc: Global,
+    kept: Kept,
+    faults: u64,
+}
+
+impl Model for SureDisk {
+    ghost use Rattle.outer_ports.specs.disk.Forms.{SureDiskView};
+
+    ghost Value = { SureDiskView };
+
+    ghost view = { λ d. record { past = d.kept.past; room = record { bytes = d.kept.room; calls = d.kept.calls }; faults = d.faults } };
+}
+
+impl SureDisk {
+    /// A file of these bytes, all of them settled. All writes together write at most `room` bytes, and all writes and
+    /// syncs are at most `room` calls.
+    pub fn new(alloc: Global, bytes: Vec<u8>, room: usize) -> Result<SureDisk, NoMemory>
+        ensures { IfOk result (λ d. ⟦<SureDisk as Disk>⟧.seen d
+            ≡ record { past = Some (untouched bytes.items); faults = 0; room = Some (record { bytes = room; calls = room }) }) }
+    {
+        let mut kept = Kept::new(alloc, bytes);
+        kept.prepare(alloc, room, room)?;
+        Ok(SureDisk {
+            alloc,
+            kept,
+            faults: 0,
+        })
+    }
+
+    /// One of the files that a crash may leave. No call on it is to fail.
+    pub fn crash(&self, pick: Pick) -> Result<MemDisk, NoMemory>
+        ensures past { IfOk result (λ d. d.past ≡ untouched (picked pick self.now.past.last)) }
+        ensures image { IsImage self.now.past.last (picked pick self.now.past.last) }
+        ensures calls { IfOk result (λ d. d.calls ≡ record { made = 0; listed = []; faults = 0 }) }
+    {
+        crashed(self.alloc, &self.kept, pick)
+    }
+}
+
+impl Disk for SureDisk {
+    ghost seen = { λ d. record { past = Some d.past; faults = d.faults; room = Some d.room } };
+
+    fn size(&mut self) -> Result<u64, Failed>
+        ensures sizes { Sizes (⟦<SureDisk as Disk>⟧.seen self.old) (⟦<SureDisk as Disk>⟧.seen self.new) result }
+        ensures same { self.new ≡ self.old }
+        ensures form { result ≡ Ok (length self.old.past.last.seen) }
+    {
+        Ok(self.kept.bytes().len() as u64)
+    }
+
+    fn read_at(&mut self, at: u64, buf: &mut [u8]) -> Result<usize, Failed>
+        ensures reads { ReadsAt (⟦<SureDisk as Disk>⟧.seen self.old) (⟦<SureDisk as Disk>⟧.seen self.new)
+            result at buf.new }
+        ensures same { self.new ≡ self.old }
+        ensures form { result ≡ Ok (min (length buf.new) (length self.old.past.last.seen - at)) }
+    {
+        Ok(self.kept.read_at(at, buf))
+    }
+
+    fn write_at(&mut self, at: u64, bytes: &[u8]) -> Result<(), Failed>
+        requires inside { at ≤ length self.old.past.last.seen }
+        ensures writes { WritesAt (⟦<SureDisk as Disk>⟧.seen self.old) (⟦<SureDisk as Disk>⟧.seen self.new)
+            result at bytes.now }
+        ensures form { SureSteps (length bytes.now) (stepped (wrote at bytes.now) self.old.past) self.old self.new result }
+    {
+        if bytes.len() > self.kept.room() || self.kept.calls() == 0 {
+            raise(&mut self.faults);
+            return Err(Failed);
+        }
+        self.kept.write(at, bytes);
+        Ok(())
+    }
+
+    fn sync(&mut self) -> Result<(), Failed>
+        ensures syncs { Syncs (⟦<SureDisk as Disk>⟧.seen self.old) (⟦<SureDisk as Disk>⟧.seen self.new) result }
+        ensures form { SureSteps 0 (stepped settled self.old.past) self.old self.new result }
+    {
+        if self.kept.calls() == 0 {
+            raise(&mut self.faults);
+            return Err(Failed);
+        }
+        self.kept.settle();
+        Ok(())
+    }
+}

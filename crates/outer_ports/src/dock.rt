@@ -1,0 +1,45 @@
+ghost use Rattle.std.specs.Prelude.{◌<◌, length};
+ghost use Rattle.outer_ports.specs.dock.Docks.{DockView, Listens, Takes, Sends, Ends};
+
+mod arrivals;
+mod dock_step;
+mod log;
+mod logs;
+mod mem_dock;
+mod mem_step;
+mod part;
+mod sure_dock;
+mod tcp_dock;
+#[cfg(test)]
+mod tests;
+
+pub use dock_step::DockStep;
+use fugue_ids::Failed;
+pub use mem_dock::MemDock;
+pub use mem_step::MemStep;
+pub use sure_dock::SureDock;
+pub use tcp_dock::TcpDock;
+
+/// Where others ask, in sessions that bear numbers.
+pub trait Dock {
+    /// The port listened on, the steps taken and to come, what was sent to each session, the sessions ended, the count
+    /// of faults, and the room that is left: each form says what of these it tells.
+    ghost seen: { Self → DockView };
+
+    /// Listens on this port.
+    fn listen(&mut self, port: u16) -> Result<(), Failed>
+        ensures { Listens (seen self.old) (seen self.new) result port };
+
+    /// Takes the next step. What `buf` holds behind the bytes of the step is not said.
+    fn next(&mut self, buf: &mut [u8]) -> Result<DockStep, Failed>
+        requires room { 0 < length buf.old }
+        ensures takes { Takes (seen self.old) (seen self.new) result buf.new };
+
+    /// Sends a front of the piece to the session, at least one byte of a piece that is not empty, and answers how many.
+    fn send(&mut self, session: u32, piece: &[u8]) -> Result<usize, Failed>
+        ensures { Sends (seen self.old) (seen self.new) result session piece.now };
+
+    /// Ends the session: nothing more is to be sent to it.
+    fn end(&mut self, session: u32) -> Result<(), Failed>
+        ensures { Ends (seen self.old) (seen self.new) result session };
+}

@@ -1,0 +1,139 @@
+ghost use Rattle.std.specs.Prelude.{◌≡◌, ◌≤◌, ◌<◌, [], length, All, Some, None};
+ghost use Rattle.outer_ports.specs.dock.Steps.{HasBytes};
+ghost use Rattle.outer_ports.specs.dock.Logs.{sent_by};
+ghost use Rattle.outer_ports.specs.dock.Docks.{Listens, Takes, Sends, Ends};
+ghost use Rattle.outer_ports.specs.dock.Forms.{MemListens, MemTakes, MemSends, MemEnds};
+
+use super::arrivals::Arrivals;
+use super::logs::Logs;
+use crate::calls::Calls;
+use crate::{Dock, DockStep, MemStep};
+use fugue_ids::Failed;
+use std::alloc::Global;
+use std::marker::Model;
+
+/// Gives steps from memory and keeps what is sent, as much in each call as its piece allows. It fails at the calls that
+/// it is told to, where no step is left, and where memory is wanting.
+#[derive(Drop)]
+pub struct MemDock {
+    alloc: Global,
+    port: Option<u16>,
+    arrivals: Arrivals,
+    logs: Logs,
+    ended: Vec<u32>,
+    piece: usize,
+    calls: Calls,
+}
+
+impl Model for MemDock {
+    ghost use Rattle.std.specs.Prelude.{◌≤◌};
+    ghost use Rattle.outer_ports.specs.dock.Forms.{MemDockView};
+
+    ghost Value = { MemDockView };
+
+    ghost view = { λ d. record { port = d.port; taken = d.arrivals.taken; coming = d.arrivals.coming; logs = d.logs; ended = d.ended.items; piece = d.piece; calls = d.calls } };
+
+    ghost invariant = { λ d. 1 ≤ d.piece };
+}
+
+impl MemDock {
+    /// A call gives or takes at most `piece` bytes. The calls listed in `fail`, counted from 0, fail.
+    pub fn new(alloc: Global, steps: Vec<MemStep>, piece: usize, fail: Vec<u32>) -> MemDock
+        requires piece { 1 ≤ piece }
+        requires steps { All HasBytes steps.items }
+        ensures seen { ⟦<MemDock as Dock>⟧.seen result ≡ record {
+          port = Some None;
+          taken = Some [];
+          coming = Some steps.items;
+          sent = λ s. Some [];
+          ended = Some [];
+          faults = 0;
+          room = λ s. None;
+          ends = None;
+        } }
+        ensures piece { result.piece ≡ piece }
+        ensures calls { result.calls ≡ record { made = 0; listed = fail.items; faults = 0 } }
+    {
+        MemDock {
+            alloc,
+            port: None,
+            arrivals: Arrivals::new(alloc, steps),
+            logs: Logs::new(alloc),
+            ended: Vec::new(alloc),
+            piece,
+            calls: Calls::new(fail),
+        }
+    }
+
+    /// All that was sent to the session: nothing to one that was sent nothing.
+    pub fn sent(&self, session: u32) -> &[u8]
+        ensures { result.now ≡ sent_by self.now.logs session }
+    {
+        self.logs.sent(session)
+    }
+
+    /// The port last listened on.
+    pub fn port(&self) -> Option<u16>
+        ensures { result ≡ self.now.port }
+    {
+        self.port
+    }
+
+    /// The sessions that were ended, in order.
+    pub fn ended(&self) -> &[u32]
+        ensures { result.now ≡ self.now.ended }
+    {
+        &self.ended
+    }
+}
+
+impl Dock for MemDock {
+    ghost seen = { λ d. record { port = Some d.port; taken = Some d.taken; coming = Some d.coming; sent = λ s. Some (sent_by d.logs s); ended = Some d.ended; faults = d.calls.faults; room = λ s. None; ends = None } };
+
+    fn listen(&mut self, port: u16) -> Result<(), Failed>
+        ensures listens { Listens (⟦<MemDock as Dock>⟧.seen self.old) (⟦<MemDock as Dock>⟧.seen self.new) result port }
+        ensures form { MemListens self.old self.new result port }
+    {
+        self.calls.begin()?;
+        self.port = Some(port);
+        Ok(())
+    }
+
+    fn next(&mut self, buf: &mut [u8]) -> Result<DockStep, Failed>
+        requires room { 0 < length buf.old }
+        ensures takes { Takes (⟦<MemDock as Dock>⟧.seen self.old) (⟦<MemDock as Dock>⟧.seen self.new)
+            result buf.new }
+        ensures form { MemTakes self.old self.new result buf.new }
+    {
+        self.calls.begin()?;
+        if self.arrivals.is_over() || self.arrivals.prepare(1).is_err() {
+            return Err(self.calls.fail());
+        }
+        Ok(self.arrivals.take(self.piece.min(buf.len()), buf))
+    }
+
+    fn send(&mut self, session: u32, piece: &[u8]) -> Result<usize, Failed>
+        ensures sends { Sends (⟦<MemDock as Dock>⟧.seen self.old) (⟦<MemDock as Dock>⟧.seen self.new)
+            result session piece.now }
+        ensures form { MemSends self.old self.new result session piece.now }
+    {
+        self.calls.begin()?;
+        let count = self.piece.min(piece.len());
+        if self.logs.prepare(self.alloc, session, count).is_err() {
+            return Err(self.calls.fail());
+        }
+        self.logs.append(session, &piece[..count]);
+        Ok(count)
+    }
+
+    fn end(&mut self, session: u32) -> Result<(), Failed>
+        ensures ends { Ends (⟦<MemDock as Dock>⟧.seen self.old) (⟦<MemDock as Dock>⟧.seen self.new) result session }
+        ensures form { MemEnds self.old self.new result session }
+    {
+        self.calls.begin()?;
+        match self.ended.push(session) {
+            Ok(()) => Ok(()),
+            Err(_) => Err(self.calls.fail()),
+        }
+    }
+}

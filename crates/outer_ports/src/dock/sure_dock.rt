@@ -1,0 +1,173 @@
+ghost use Rattle.std.specs.Prelude.{ℕ, ◌≡◌, ◌≤◌, ◌<◌, [], length, if◌then◌else◌, All, Ok, Some, None, IfOk};
+ghost use Rattle.outer_ports.specs.dock.Steps.{HasBytes, opens};
+ghost use Rattle.outer_ports.specs.dock.Logs.{sent_by, room_by};
+ghost use Rattle.outer_ports.specs.dock.Docks.{Listens, Takes, Sends, Ends};
+ghost use Rattle.outer_ports.specs.dock.Forms.{HasRooms, SureTakes, SureSends, SureEnds};
+
+use super::arrivals::{Arrivals, most_calls_of};
+use super::logs::Logs;
+use crate::raise::raise;
+use crate::reserved::add;
+use crate::{Dock, DockStep, MemStep};
+use fugue_ids::{Failed, NoMemory};
+use std::alloc::{AllocError, Global};
+use std::marker::Model;
+
+/// Gives steps from memory and keeps what is sent, as much in each call as its piece allows, in room that was reserved.
+/// A call takes no memory, and fails only where no room and no step is left.
+#[derive(Drop)]
+pub struct SureDock {
+    port: Option<u16>,
+    arrivals: Arrivals,
+    logs: Logs,
+    ended: Vec<u32>,
+    ends: usize,
+    piece: usize,
+    faults: u64,
+}
+
+impl Model for SureDock {
+    ghost use Rattle.std.specs.Prelude.{◌≤◌, ◌+◌, vec_len, vec_capacity};
+    ghost use Rattle.outer_ports.specs.dock.Steps.{calls_for_all};
+    ghost use Rattle.outer_ports.specs.dock.Forms.{SureDockView};
+
+    ghost Value = { SureDockView };
+
+    ghost view = { λ d. record { port = d.port; taken = d.arrivals.taken; coming = d.arrivals.coming; logs = d.logs; ended = d.ended.items; piece = d.piece; ends = d.ends; faults = d.faults } };
+
+    ghost invariant = { λ d. (1 ≤ d.piece)
+        × (calls_for_all d.arrivals.coming ≤ d.arrivals.ready)
+        × (vec_len d.ended + d.ends ≤ vec_capacity d.ended) };
+}
+
+impl SureDock {
+    /// A call gives or takes at most `piece` bytes. Each session that a step opens has room for `room` bytes, and as many
+    /// sessions can be ended as there are steps.
+    pub fn new(
+        alloc: Global,
+        steps: Vec<MemStep>,
+        piece: usize,
+        room: usize,
+    ) -> Result<SureDock, NoMemory>
+        requires piece { 1 ≤ piece }
+        requires steps { All HasBytes steps.items }
+        ensures made { IfOk result (λ d. d ≡ record {
+          port = None;
+          taken = [];
+          coming = steps.items;
+          logs = d.logs;
+          ended = [];
+          piece = piece;
+          ends = length steps.items;
+          faults = 0;
+        }) }
+        ensures sent { IfOk result (λ d. (s : ℕ) → (⟦<SureDock as Dock>⟧.seen d).sent s ≡ Some []) }
+        ensures room { IfOk result (λ d. (s : ℕ) → (⟦<SureDock as Dock>⟧.seen d).room s
+            ≡ Some (if opens steps.items s then room else 0)) }
+    {
+        let logs = rooms(alloc, &steps, room)?;
+        let ends = steps.len();
+        let ended = Vec::with_capacity(alloc, ends)?;
+        let Some(calls) = most_calls_of(&steps) else {
+            return Err(NoMemory);
+        };
+        let mut arrivals = Arrivals::new(alloc, steps);
+        arrivals.prepare(calls)?;
+        Ok(SureDock {
+            port: None,
+            arrivals,
+            logs,
+            ended,
+            ends,
+            piece,
+            faults: 0,
+        })
+    }
+
+    /// The port last listened on.
+    pub fn port(&self) -> Option<u16>
+        ensures { result ≡ self.now.port }
+    {
+        self.port
+    }
+
+    /// All that was sent to the session: nothing to one that was sent nothing.
+    pub fn sent(&self, session: u32) -> &[u8]
+        ensures { result.now ≡ sent_by self.now.logs session }
+    {
+        self.logs.sent(session)
+    }
+
+    /// The sessions that were ended, in order.
+    pub fn ended(&self) -> &[u32]
+        ensures { result.now ≡ self.now.ended }
+    {
+        &self.ended
+    }
+}
+
+/// Room for so many bytes for each session that one of the steps opens.
+fn rooms(alloc: Global, steps: &[MemStep], room: usize) -> Result<Logs, AllocError>
+    ensures { IfOk result (λ logs. HasRooms steps.now room logs) }
+{
+    let mut logs = Logs::new(alloc);
+    for step in steps {
+        if let MemStep::Opened(session) = step {
+            logs.prepare(alloc, *session, room)?;
+        }
+    }
+    Ok(logs)
+}
+
+impl Dock for SureDock {
+    ghost seen = { λ d. record { port = Some d.port; taken = Some d.taken; coming = Some d.coming; sent = λ s. Some (sent_by d.logs s); ended = Some d.ended; faults = d.faults; room = λ s. Some (room_by d.logs s); ends = Some d.ends } };
+
+    fn listen(&mut self, port: u16) -> Result<(), Failed>
+        ensures listens { Listens (⟦<SureDock as Dock>⟧.seen self.old) (⟦<SureDock as Dock>⟧.seen self.new) result port }
+        ensures form { self.new ≡ record self.old { port = Some port } }
+    {
+        self.port = Some(port);
+        Ok(())
+    }
+
+    fn next(&mut self, buf: &mut [u8]) -> Result<DockStep, Failed>
+        requires room { 0 < length buf.old }
+        ensures takes { Takes (⟦<SureDock as Dock>⟧.seen self.old) (⟦<SureDock as Dock>⟧.seen self.new)
+            result buf.new }
+        ensures form { SureTakes self.old self.new result buf.new }
+    {
+        if self.arrivals.is_over() {
+            raise(&mut self.faults);
+            return Err(Failed);
+        }
+        Ok(self.arrivals.take(self.piece.min(buf.len()), buf))
+    }
+
+    fn send(&mut self, session: u32, piece: &[u8]) -> Result<usize, Failed>
+        ensures sends { Sends (⟦<SureDock as Dock>⟧.seen self.old) (⟦<SureDock as Dock>⟧.seen self.new)
+            result session piece.now }
+        ensures form { SureSends self.old self.new result session piece.now }
+    {
+        let room = self.logs.room(session);
+        if room == 0 && !piece.is_empty() {
+            raise(&mut self.faults);
+            return Err(Failed);
+        }
+        let count = self.piece.min(piece.len()).min(room);
+        self.logs.append(session, &piece[..count]);
+        Ok(count)
+    }
+
+    fn end(&mut self, session: u32) -> Result<(), Failed>
+        ensures ends { Ends (⟦<SureDock as Dock>⟧.seen self.old) (⟦<SureDock as Dock>⟧.seen self.new) result session }
+        ensures form { SureEnds self.old self.new result session }
+    {
+        if self.ends == 0 {
+            raise(&mut self.faults);
+            return Err(Failed);
+        }
+        add(&mut self.ended, session);
+        self.ends -= 1;
+        Ok(())
+    }
+}

@@ -1,0 +1,32 @@
+ghost use Rattle.outer_ports.specs.wire.Wires.{WireView, Dials, WireReads, WireWrites};
+
+mod mem_wire;
+mod sure_wire;
+mod tcp_wire;
+#[cfg(test)]
+mod tests;
+
+use fugue_ids::Failed;
+pub use mem_wire::MemWire;
+pub use sure_wire::SureWire;
+pub use tcp_wire::TcpWire;
+
+/// A way to ask somebody and to hear the answer.
+pub trait Wire {
+    /// The port dialled, what is left to read, what was written, the count of faults, and the room that is left: each
+    /// form says what of these it tells.
+    ghost seen: { Self → WireView };
+
+    /// Asks for whoever listens on this port.
+    fn dial(&mut self, port: u16) -> Result<(), Failed>
+        ensures { Dials (seen self.old) (seen self.new) result port };
+
+    /// Gives the next bytes of what is left, and answers how many. An answer of 0 for a buffer that is not empty
+    /// comes only at the end. What `buf` holds behind the given bytes is not said.
+    fn read(&mut self, buf: &mut [u8]) -> Result<usize, Failed>
+        ensures { WireReads (seen self.old) (seen self.new) result buf.new };
+
+    /// Writes a front of the piece, at least one byte of a piece that is not empty, and answers how many.
+    fn write(&mut self, piece: &[u8]) -> Result<usize, Failed>
+        ensures { WireWrites (seen self.old) (seen self.new) result piece.now };
+}

@@ -1,0 +1,92 @@
+ghost use Rattle.std.specs.Prelude.{◌≡◌, ◌≤◌, [], Ok, Some, None, IfOk};
+ghost use Rattle.outer_ports.specs.wire.Wires.{Dials, WireReads, WireWrites};
+ghost use Rattle.outer_ports.specs.wire.Forms.{SureWireReads, SureWireWrites};
+
+use crate::{Source, SureSink, SureSource, Wire};
+use fugue_ids::{Failed, NoMemory, Out};
+use std::alloc::Global;
+use std::marker::Model;
+
+/// Gives a reply from memory and keeps what is written, as much in each call as its piece allows, in room that was
+/// reserved. A call takes no memory, and only a write fails, where no room is left.
+#[derive(Drop)]
+pub struct SureWire {
+    port: Option<u16>,
+    reply: SureSource,
+    said: SureSink,
+}
+
+impl Model for SureWire {
+    ghost use Rattle.std.specs.Prelude.{◌≡◌};
+    ghost use Rattle.outer_ports.specs.wire.Forms.{SureWireView};
+
+    ghost Value = { SureWireView };
+
+    ghost view = { λ w. record { port = w.port; left = w.reply.left; said = w.said.written; piece = w.said.piece; room = w.said.room; faults = w.said.faults } };
+
+    ghost invariant = { λ w. w.reply.piece ≡ w.said.piece };
+}
+
+impl SureWire {
+    /// A call gives or takes at most `piece` bytes, and all writes together take at most `room`.
+    pub fn new(
+        alloc: Global,
+        reply: Vec<u8>,
+        piece: usize,
+        room: usize,
+    ) -> Result<SureWire, NoMemory>
+        requires { 1 ≤ piece }
+        ensures seen { IfOk result (λ w. ⟦<SureWire as Wire>⟧.seen w
+            ≡ record { port = Some None; left = Some reply.items; said = Some []; faults = 0; room = Some room }) }
+        ensures piece { IfOk result (λ w. w.piece ≡ piece) }
+    {
+        let said = SureSink::new(alloc, piece, room)?;
+        Ok(SureWire {
+            port: None,
+            reply: SureSource::new(reply, piece),
+            said,
+        })
+    }
+
+    /// All that was written so far.
+    pub fn said(&self) -> &[u8]
+        ensures { result.now ≡ self.now.said }
+    {
+        self.said.written()
+    }
+
+    /// The port last dialled.
+    pub fn port(&self) -> Option<u16>
+        ensures { result ≡ self.now.port }
+    {
+        self.port
+    }
+}
+
+impl Wire for SureWire {
+    ghost seen = { λ w. record { port = Some w.port; left = Some w.left; said = Some w.said; faults = w.faults; room = Some w.room } };
+
+    fn dial(&mut self, port: u16) -> Result<(), Failed>
+        ensures dials { Dials (⟦<SureWire as Wire>⟧.seen self.old) (⟦<SureWire as Wire>⟧.seen self.new) result port }
+        ensures form { self.new ≡ record self.old { port = Some port } }
+    {
+        self.port = Some(port);
+        Ok(())
+    }
+
+    fn read(&mut self, buf: &mut [u8]) -> Result<usize, Failed>
+        ensures reads { WireReads (⟦<SureWire as Wire>⟧.seen self.old) (⟦<SureWire as Wire>⟧.seen self.new)
+            result buf.new }
+        ensures form { SureWireReads self.old self.new result buf.new }
+    {
+        self.reply.read(buf)
+    }
+
+    fn write(&mut self, piece: &[u8]) -> Result<usize, Failed>
+        ensures writes { WireWrites (⟦<SureWire as Wire>⟧.seen self.old) (⟦<SureWire as Wire>⟧.seen self.new)
+            result piece.now }
+        ensures form { SureWireWrites self.old self.new result piece.now }
+    {
+        self.said.write(piece)
+    }
+}
