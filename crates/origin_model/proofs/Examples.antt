@@ -5,12 +5,12 @@ use lib.Utf8.{encode}
 use Rattle.fugue_ids.specs.Identifiers.{Identifier}
 use Rattle.fugue_ids.specs.declared.op.Op.{Op}
 use Rattle.fugue_ids.specs.declared.op.Op.TheVariants.{Section, Text, Delete}
-use Rattle.origin_model.specs.Order.{order, lefts, rights}
-use Rattle.origin_model.specs.Printed.{manuscript, text}
-use Rattle.origin_model.specs.Closed.{answers}
-use Rattle.origin_model.specs.Taking.{Again, Stray, TooMany, Accepted, Full, Waits, closure, held, settle, tally}
-use Rattle.origin_model.specs.Verdict.{verdict, Lawful}
-use Rattle.origin_model.specs.declared.tally.Tally.{Tally}
+use Rattle.origin_model.specs.order.Order.{order, chain}
+use Rattle.origin_model.specs.order.Printed.{manuscript, text}
+use Rattle.origin_model.specs.taking.Closure.{answers}
+use Rattle.origin_model.specs.taking.Taking.{Again, Stray, TooMany, Accepted, Full, Waits, closure, held, settle, tally}
+use Rattle.origin_model.specs.operations.Verdict.{verdict, Lawful}
+use Rattle.origin_model.specs.declared.taking.tally.Tally.{Tally}
 
 abbrev id : ℕ → ℕ → Identifier
 id replica counter = record { replica = replica; counter = counter }
@@ -40,28 +40,28 @@ unfolding verdict
 concurrent_is_lawful = (refl, (refl, (refl, (refl, (refl, (refl, tt))))))
 
 concurrent_text : text (reverse concurrent) (id 9 0) ≡ codes "AXYDB"
-unfolding order lefts rights
+unfolding order chain
 concurrent_text = refl
 
 concurrent_prints : manuscript (reverse concurrent) ≡ codes "# T" ++ 10 ∷ codes "AXYDB" ++ 10 ∷ []
-unfolding order lefts rights manuscript encode
+unfolding order chain manuscript encode
 concurrent_prints = refl
 
 deleted_ones_are_hidden : text (reverse (concurrent ++ Delete (id 2 0) ∷ Delete (id 1 0) ∷ [])) (id 9 0) ≡ codes "AXY"
-unfolding order lefts rights
+unfolding order chain
 deleted_ones_are_hidden = refl
 
 -- the right origin is a deleted element
 put_before_deleted_one :
     text (reverse (section ∷ letter (id 1 0) None None 65 ∷ letter (id 1 1) (at 1 0) None 66 ∷ Delete (id 1 1) ∷ letter (id 1 2) (at 1 0) (at 1 1) 67 ∷ [])) (id 9 0) ≡ codes "AC"
-unfolding order lefts rights
+unfolding order chain
 put_before_deleted_one = refl
 
 -- the right origin of Z stands before its left origin
 right_origin_before_left_one :
     text (reverse (section ∷ letter (id 1 0) None None 80 ∷ letter (id 1 1) (at 1 0) None 81 ∷ letter (id 2 0) (at 1 1) (at 1 0) 90 ∷ letter (id 3 0) (at 1 1) None 86 ∷ [])) (id 9 0)
     ≡ codes "PQVZ"
-unfolding order lefts rights
+unfolding order chain
 right_origin_before_left_one = refl
 
 -- the capacities of a replica with room for all
@@ -72,7 +72,7 @@ abbrev tallied : (accepted repeated conflict stray full : ℕ) → Tally
 tallied accepted repeated conflict stray full = record { accepted = accepted; repeated = repeated; conflict = conflict; stray = stray; full = full }
 
 any_order_prints_the_same : text (held 65536 4194304 (reverse concurrent)).history (id 9 0) ≡ codes "AXYDB"
-unfolding settle verdict order lefts rights
+unfolding settle verdict order chain
 any_order_prints_the_same = refl
 
 any_order_accepts_all : roomy (reverse concurrent) ≡ tallied 6 0 0 0 0
@@ -80,7 +80,7 @@ unfolding settle verdict
 any_order_accepts_all = refl
 
 the_closure_has_all : text (closure (reverse concurrent)) (id 9 0) ≡ codes "AXYDB"
-unfolding closure verdict order lefts rights
+unfolding closure verdict order chain
 the_closure_has_all = refl
 
 -- two letters of the section, the second behind the first
@@ -97,7 +97,7 @@ full_until_settled = refl
 
 -- so both are printed
 full_ones_print_later : manuscript (held 1 4194304 (first ∷ second ∷ section ∷ second ∷ [])).history ≡ codes "# T" ++ 10 ∷ codes "ab" ++ 10 ∷ []
-unfolding settle verdict order lefts rights manuscript encode
+unfolding settle verdict order chain manuscript encode
 full_ones_print_later = refl
 
 joined_while_settling : tally 1 4194304 (first ∷ second ∷ section ∷ second ∷ []) ≡ tallied 3 0 0 0 1

@@ -1,7 +1,9 @@
 //! Every stream of up to five operations of a small pool, taken in one after another, against the closure of its operations.
 
+use crate::lines::Line::{Delete, Section, Text, TextIn};
+use crate::lines::{NONE, SECTION, op};
 use crate::{PlainReplica, Verdict};
-use fugue_ids::{ElementId, Op, Title};
+use fugue_ids::Op;
 use std::alloc::Global;
 use std::prelude::HostRuntime;
 use std::process::Abort;
@@ -77,57 +79,24 @@ fn accept_earliest(alloc: Global, replica: &mut PlainReplica, stream: &[Op]) -> 
     Ok(())
 }
 
-fn id(rt: &impl Abort, replica: u32, counter: u32) -> ElementId {
-    ElementId::new(replica, counter).expect(rt, "a replica")
-}
-
-fn section(alloc: Global, id: ElementId, left: Option<ElementId>) -> Result<Op, Fail> {
-    Ok(Op::Section {
-        id,
-        left,
-        right: None,
-        title: Title::read(alloc, "T")?,
-    })
-}
-
-fn text(
-    id: ElementId,
-    section: ElementId,
-    left: Option<ElementId>,
-    right: Option<ElementId>,
-) -> Op {
-    Op::Text {
-        id,
-        section,
-        left,
-        right,
-        ch: 'a',
-    }
-}
-
 /// One of the pool, in which no two have one identifier.
 fn operation(rt: &impl Abort, alloc: Global, number: usize) -> Result<Op, Fail> {
-    let chapter = id(rt, 9, 0);
-    let first = id(rt, 1, 0);
-    let second = id(rt, 1, 1);
-    let late = id(rt, 2, 0);
-    let misfit = id(rt, 3, 0);
-    let own = id(rt, 3, 1);
-    match number {
-        0 => section(alloc, chapter, None),
-        1 => Ok(text(first, chapter, None, None)),
-        2 => Ok(text(second, chapter, Some(first), Some(late))),
-        3 => Ok(text(late, chapter, None, None)),
+    let line = match number {
+        0 => Section(SECTION, NONE, NONE, "T"),
+        1 => Text((1, 0), NONE, NONE, 'a'),
+        2 => Text((1, 1), (1, 0), (2, 0), 'a'),
+        3 => Text((2, 0), NONE, NONE, 'a'),
         // Its section is a text.
-        4 => Ok(text(misfit, first, None, None)),
+        4 => TextIn((3, 0), (1, 0), NONE, NONE, 'a'),
         // It names itself.
-        5 => Ok(text(own, chapter, Some(own), None)),
+        5 => Text((3, 1), (3, 1), NONE, 'a'),
         // Its target comes, and is accepted nowhere.
-        6 => Ok(Op::Delete { target: misfit }),
+        6 => Delete((3, 0)),
         // A section behind a text.
-        7 => section(alloc, id(rt, 8, 0), Some(first)),
-        _ => Ok(Op::Delete { target: late }),
-    }
+        7 => Section((8, 0), (1, 0), NONE, "T"),
+        _ => Delete((2, 0)),
+    };
+    op(rt, alloc, line)
 }
 
 /// The operations that the digits of a number stand for.

@@ -1,11 +1,7 @@
 //! The order of a place by sides and a walk of the tree, computed slowly: the tests compare the order with it.
 
+use crate::lines::{NONE, Name};
 use std::alloc::{AllocError, Global};
-
-/// Replica and counter. Replica 0 stands for the start and the end.
-pub type Name = (u32, u32);
-
-pub const NONE: Name = (0, 0);
 
 /// An element with its origins.
 #[derive(Clone, Copy, Debug, PartialEq, Eq)]

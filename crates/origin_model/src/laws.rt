@@ -1,11 +1,8 @@
 //! Laws of the definitions: each function takes and answers nothing, and its clauses are the law.
 
-ghost use Rattle.origin_model.specs.Closed.{ClosureOfSet, ClosureIsClosed, ClosureBySet, SameSetConverges, ClosureOfUnion, ClosureOfMerge, KeptSuffice, SettlingEnds, StaysSettled, PartsAsOne, SavedSuffice};
-ghost use Rattle.origin_model.specs.Detached.{AbsentStays, DetachAny, FoundWithout, NewestTakenBack};
-ghost use Rattle.origin_model.specs.Founded.{NoTextBefore, NotHiddenBefore, ReadyIsNew, SectionFirst, ShownCanGo, TargetIsShown};
-ghost use Rattle.origin_model.specs.Laws.{OrderTotal, LaterOpsKeepOrder, PartsKeepOrder, OrderBySet};
-ghost use Rattle.origin_model.specs.Nodes.{ChildrenNewer, NodesHeld, NodesLawful, NodesListed, OrderByNodes, SameNodesSameOrder};
-ghost use Rattle.origin_model.specs.Sided.{AttachKeeps, GapIsPlace};
+ghost use Rattle.origin_model.specs.taking.Closure.{ClosureOfSet, ClosureIsClosed, ClosureBySet, SameSetConverges, ClosureOfUnion, ClosureOfMerge, KeptSuffice, SettlingEnds, StaysSettled, PartsAsOne, SavedSuffice};
+ghost use Rattle.origin_model.specs.edits.Landing.{LandsBehind, LandsBehindOrigin};
+ghost use Rattle.origin_model.specs.order.Laws.{OrderTotal, LaterOpsKeepOrder, PartsKeepOrder, OrderBySet};
 
 /// The elements of a place are in a total order, which `order` lists.
 pub fn order_total()
@@ -16,6 +13,14 @@ pub fn order_total()
 pub fn later_ops_keep_order()
     ensures later { LaterOpsKeepOrder }
     ensures parts { PartsKeepOrder }
+{}
+
+/// An element whose right origin stands directly behind its left origin lands between them, whoever made it.
+///
+/// The start and the end count as the two ends of the order. The law speaks of every lawful history, and not only of those that edits make.
+pub fn lands_behind()
+    ensures between { LandsBehind }
+    ensures by_origin { LandsBehindOrigin }
 {}
 
 /// The order is fixed by the set of the operations.
@@ -42,56 +47,4 @@ pub fn kept_suffice()
     ensures settled { StaysSettled }
     ensures parts { PartsAsOne }
     ensures saved { SavedSuffice }
-{}
-
-/// The order of a place is fixed by its elements and their origins, whatever else the operations say.
-pub fn order_by_nodes()
-    ensures { OrderByNodes }
-{}
-
-/// Nodes, each of which was new when it came and found its origins there, are a lawful history, which lists exactly them.
-pub fn nodes_are_history()
-    ensures lawful { NodesLawful }
-    ensures held { NodesHeld }
-    ensures listed { NodesListed }
-{}
-
-/// Nodes have one order in whatever order they came, as long as each came behind its origins.
-pub fn same_nodes_same_order()
-    ensures { SameNodesSameOrder }
-{}
-
-/// What an operation rests on is in the history before it, so nothing is there of an element that is not held yet: no text and no Delete.
-///
-/// The Delete of a shown element is Ready, and the target of a Ready Delete is held and shown.
-pub fn causes_first()
-    ensures fresh { ReadyIsNew }
-    ensures section { SectionFirst }
-    ensures text { NoTextBefore }
-    ensures hidden { NotHiddenBefore }
-    ensures delete { ShownCanGo }
-    ensures target { TargetIsShown }
-{}
-
-/// The gap that the sided tree gives is the new element's place.
-pub fn gap_is_place()
-    ensures { GapIsPlace }
-{}
-
-/// The tables of the sided tree stay right as an element is attached.
-pub fn attach_keeps()
-    ensures { AttachKeeps }
-{}
-
-/// The tables of the sided tree stay right as an element that is no origin is detached.
-pub fn detach_any()
-    ensures tables { DetachAny }
-    ensures others { FoundWithout }
-    ensures absent { AbsentStays }
-    ensures newest { NewestTakenBack }
-{}
-
-/// A walk from a node of the sided tree to its children ends, since each child is newer than its parent.
-pub fn children_newer()
-    ensures { ChildrenNewer }
 {}

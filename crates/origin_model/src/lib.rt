@@ -5,38 +5,28 @@
 mod any_order;
 #[cfg(test)]
 mod by_sides;
-mod comparison;
-mod fork;
+mod files;
 mod laws;
-mod listed;
-mod listing;
-mod lookup;
-mod named;
-mod no_memory_for;
-mod node;
-mod place;
+#[cfg(test)]
+mod lines;
+mod operations;
+mod order;
 mod plain_replica;
-mod printing;
-mod role;
-mod shown;
-mod slot;
-mod tally;
+mod relay;
+mod sides;
+mod taking;
 #[cfg(test)]
 mod tests;
-mod verdict;
 
+pub use files::LONGEST_BATCH;
 pub use laws::{
-    attach_keeps, causes_first, children_newer, closure_of_set, detach_any, gap_is_place,
-    kept_suffice, later_ops_keep_order, nodes_are_history, order_by_nodes, order_by_set,
-    order_total, same_nodes_same_order,
+    closure_of_set, kept_suffice, lands_behind, later_ops_keep_order, order_by_set, order_total,
 };
-pub use lookup::Lookup;
-pub use named::verdict_in;
-pub use no_memory_for::NoMemoryFor;
-pub use node::Node;
-pub use place::Place;
+pub use operations::{
+    Lookup, Named, NoMemoryFor, Place, Role, Verdict, left_of, mentioned_by, names_of, right_of,
+    verdict_in,
+};
 pub use plain_replica::PlainReplica;
-pub use role::Role;
-pub use slot::Slot;
-pub use tally::Tally;
-pub use verdict::Verdict;
+pub use relay::{Event, Reply};
+pub use sides::{Node, Slot};
+pub use taking::Tally;

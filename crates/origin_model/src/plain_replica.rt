@@ -1,17 +1,17 @@
 ghost use Rattle.std.specs.Prelude.{◌≡◌, ◌∷◌, [], OnOk, OnErr, IfErr, IfOk};
 ghost use Rattle.fugue_ids.specs.Outs.{WritesText};
-ghost use Rattle.origin_model.specs.declared.verdict.Verdict.TheVariants.{Ready};
-ghost use Rattle.origin_model.specs.Ops.{accepted};
-ghost use Rattle.origin_model.specs.Verdict.{verdict as verdict_on, Lawful};
-ghost use Rattle.origin_model.specs.Order.{order};
-ghost use Rattle.origin_model.specs.Printed.{shown as shown_on, manuscript};
+ghost use Rattle.origin_model.specs.declared.operations.verdict.Verdict.TheVariants.{Ready};
+ghost use Rattle.origin_model.specs.operations.History.{accepted};
+ghost use Rattle.origin_model.specs.operations.Verdict.{verdict as verdict_on, Lawful};
+ghost use Rattle.origin_model.specs.order.Order.{order};
+ghost use Rattle.origin_model.specs.order.Printed.{shown as shown_on, manuscript};
 
-use crate::listed::Listed;
-use crate::listing::{elements_in, list_newest};
-use crate::lookup::{Lookup, contains_op, find_holder};
-use crate::named::verdict_in;
-use crate::printing::write_manuscript;
-use crate::shown::shown_in;
+use crate::operations::lookup::{Lookup, contains_op, find_holder};
+use crate::operations::named::verdict_in;
+use crate::order::listed::Listed;
+use crate::order::listing::{elements_in, list_newest};
+use crate::order::printing::write_manuscript;
+use crate::order::shown::shown_in;
 use crate::{NoMemoryFor, Place, Verdict};
 use fugue_ids::{ElementId, Failed, NoMemory, Op, Out};
 use std::alloc::Global;
@@ -30,8 +30,8 @@ pub struct PlainReplica {
 impl Model for PlainReplica {
     ghost use Rattle.std.specs.Prelude.{List, reverse};
     ghost use Rattle.fugue_ids.specs.declared.op.Op.{Op};
-    ghost use Rattle.origin_model.specs.Verdict.{Lawful};
-    ghost use Rattle.origin_model.specs.Listing.{ListsAll};
+    ghost use Rattle.origin_model.specs.operations.Verdict.{Lawful};
+    ghost use Rattle.origin_model.specs.order.Listed.{ListsAll};
 
     ghost Value = { List Op };
 
@@ -57,7 +57,7 @@ impl Lookup for PlainReplica {
 
 impl PlainReplica {
     /// A replica that holds nothing. It takes no memory.
-    #[tactic(auto, unfolding(crate::specs::Order::order))]
+    #[tactic(auto, unfolding(crate::specs::order::Order::order))]
     pub fn new(alloc: Global) -> PlainReplica
         ensures { result ≡ [] }
     {
@@ -87,17 +87,14 @@ impl PlainReplica {
     pub fn elements(&self, place: Place) -> Result<Vec<ElementId>, NoMemory>
         ensures { IfOk result (λ elements. elements.items ≡ order place self.now) }
     {
-        elements_in(self.alloc, &self.listed, &place).map_err(|_| NoMemory)
+        Ok(elements_in(self.alloc, &self.listed, &place)?)
     }
 
     /// The elements of a place that no Delete names, in order.
     pub fn shown(&self, place: Place) -> Result<Vec<ElementId>, NoMemory>
         ensures { IfOk result (λ elements. elements.items ≡ shown_on place self.now) }
     {
-        match shown_in(self.alloc, &self.ops, &self.listed, &place) {
-            Ok(elements) => Ok(elements),
-            Err(_) => Err(NoMemory),
-        }
+        Ok(shown_in(self.alloc, &self.ops, &self.listed, &place)?)
     }
 
     /// Takes in an operation that is Ready.

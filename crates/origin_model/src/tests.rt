@@ -1,15 +1,15 @@
 ghost use Rattle.fugue_ids.specs.Outs.{OutView};
 ghost use Rattle.std.specs.Prelude.{None as Untold};
 
-use crate::by_sides::{NONE, Name, Node, by_sides};
+use crate::by_sides::{Node, by_sides};
+use crate::lines::Line::{self, Delete, Section, Text};
+use crate::lines::{NONE, Name, SECTION, id, op};
 use crate::{Place, PlainReplica, Verdict};
-use fugue_ids::{ElementId, Failed, Op, Out, Title};
+use fugue_ids::{Failed, Out};
 use std::alloc::Global;
 use std::prelude::HostRuntime;
 use std::process::Abort;
 use std::test::Fail;
-
-const SECTION: Name = (9, 0);
 
 /// Keeps what is written.
 #[derive(Drop)]
@@ -28,51 +28,6 @@ impl Out for Kept {
                 self.faults = self.faults.saturating_add(1);
                 Err(Failed)
             }
-        }
-    }
-}
-
-/// A line of a table, with its identifier, its left and its right origin.
-#[derive(Clone, Copy, Debug, PartialEq, Eq)]
-enum Line {
-    Section(Name, Name, Name, &'static str),
-    Text(Name, Name, Name, char),
-    Delete(Name),
-}
-
-use Line::{Delete, Section, Text};
-
-fn id(rt: &impl Abort, name: Name) -> ElementId {
-    ElementId::new(name.0, name.1).expect(rt, "a replica")
-}
-
-fn origin(name: Name) -> Option<ElementId> {
-    ElementId::new(name.0, name.1)
-}
-
-fn op(rt: &impl Abort, alloc: Global, line: Line) -> Result<Op, Fail> {
-    match line {
-        Section(name, left, right, title) => {
-            Ok(Op::Section {
-                id: id(rt, name),
-                left: origin(left),
-                right: origin(right),
-                title: Title::read(alloc, title)?,
-            })
-        }
-        Text(name, left, right, ch) => {
-            Ok(Op::Text {
-                id: id(rt, name),
-                section: id(rt, SECTION),
-                left: origin(left),
-                right: origin(right),
-                ch,
-            })
-        }
-        Delete(name) => {
-            Ok(Op::Delete {
-                target: id(rt, name),
-            })
         }
     }
 }
@@ -218,10 +173,6 @@ fn the_first_line_that_applies_is_the_verdict(rt: HostRuntime) -> Result<(), Fai
     Ok(())
 }
 
-const fn node(id: Name, left: Name, right: Name) -> Node {
-    Node { id, left, right }
-}
-
 /// The order of the elements in a section, as a replica has it.
 fn order_of(rt: &impl Abort, alloc: Global, nodes: &[Node]) -> Result<Vec<Name>, Fail> {
     let mut replica = replica_of(rt, alloc, &[T])?;
@@ -240,6 +191,18 @@ fn order_of(rt: &impl Abort, alloc: Global, nodes: &[Node]) -> Result<Vec<Name>,
     Ok(names)
 }
 
+fn nodes_of(alloc: Global, triples: &[(Name, Name, Name)]) -> Result<Vec<Node>, Fail> {
+    let mut nodes = Vec::new(alloc);
+    for (id, left, right) in triples {
+        nodes.push(Node {
+            id: *id,
+            left: *left,
+            right: *right,
+        })?;
+    }
+    Ok(nodes)
+}
+
 #[test]
 fn the_order_is_that_of_the_sides(rt: HostRuntime) -> Result<(), Fail> {
     const P: Name = (1, 0);
@@ -248,150 +211,127 @@ fn the_order_is_that_of_the_sides(rt: HostRuntime) -> Result<(), Fail> {
     const S: Name = (4, 0);
     const U: Name = (5, 0);
     const V: Name = (6, 0);
-    let lists: [(&str, &[Node]); 14] = [
+    let lists: [(&str, &[(Name, Name, Name)]); 14] = [
         (
             "two passages typed forwards",
-            &[
-                node(P, NONE, NONE),
-                node(R, NONE, NONE),
-                node(Q, P, NONE),
-                node(S, R, NONE),
-            ],
+            &[(P, NONE, NONE), (R, NONE, NONE), (Q, P, NONE), (S, R, NONE)],
         ),
         (
             "two passages typed backwards",
-            &[
-                node(P, NONE, NONE),
-                node(R, NONE, NONE),
-                node(Q, NONE, P),
-                node(S, NONE, R),
-            ],
+            &[(P, NONE, NONE), (R, NONE, NONE), (Q, NONE, P), (S, NONE, R)],
         ),
         (
             "three beginnings, later identifiers first",
-            &[
-                node(R, NONE, NONE),
-                node(Q, NONE, NONE),
-                node(P, NONE, NONE),
-            ],
+            &[(R, NONE, NONE), (Q, NONE, NONE), (P, NONE, NONE)],
         ),
         (
             "later right origins first",
             &[
-                node(U, NONE, NONE),
-                node(V, U, NONE),
-                node(S, U, V),
-                node(P, S, NONE),
-                node(Q, S, V),
-                node(R, S, V),
+                (U, NONE, NONE),
+                (V, U, NONE),
+                (S, U, V),
+                (P, S, NONE),
+                (Q, S, V),
+                (R, S, V),
             ],
         ),
         (
             "left children by identifier",
-            &[
-                node(P, NONE, NONE),
-                node(R, NONE, P),
-                node(Q, NONE, P),
-                node(S, NONE, R),
-            ],
+            &[(P, NONE, NONE), (R, NONE, P), (Q, NONE, P), (S, NONE, R)],
         ),
         (
             "between two that come to stand apart",
             &[
-                node(P, NONE, NONE),
-                node(Q, P, NONE),
-                node(R, P, Q),
-                node(S, P, Q),
-                node(U, R, S),
-                node(V, R, Q),
+                (P, NONE, NONE),
+                (Q, P, NONE),
+                (R, P, Q),
+                (S, P, Q),
+                (U, R, S),
+                (V, R, Q),
             ],
         ),
         (
             "the right origin is the left one",
-            &[
-                node(P, NONE, NONE),
-                node(Q, P, P),
-                node(R, P, Q),
-                node(S, P, P),
-            ],
+            &[(P, NONE, NONE), (Q, P, P), (R, P, Q), (S, P, P)],
         ),
         (
             "the right origin stands before the left one",
             &[
-                node(P, NONE, NONE),
-                node(Q, P, NONE),
-                node(R, Q, P),
-                node(S, Q, NONE),
-                node(U, R, P),
+                (P, NONE, NONE),
+                (Q, P, NONE),
+                (R, Q, P),
+                (S, Q, NONE),
+                (U, R, P),
             ],
         ),
         (
             "the right origin is in another branch",
             &[
-                node(P, NONE, NONE),
-                node(Q, NONE, NONE),
-                node(R, P, NONE),
-                node(S, Q, R),
-                node(U, P, S),
-                node(V, Q, R),
+                (P, NONE, NONE),
+                (Q, NONE, NONE),
+                (R, P, NONE),
+                (S, Q, R),
+                (U, P, S),
+                (V, Q, R),
             ],
         ),
         (
             "the right origin is below the left one, and not the next",
             &[
-                node(P, NONE, NONE),
-                node(Q, P, NONE),
-                node(R, Q, NONE),
-                node(S, P, R),
-                node(U, P, Q),
+                (P, NONE, NONE),
+                (Q, P, NONE),
+                (R, Q, NONE),
+                (S, P, R),
+                (U, P, Q),
             ],
         ),
         (
             "right origins that point backwards tie by identifier",
             &[
-                node(V, NONE, NONE),
-                node(U, V, NONE),
-                node(S, U, V),
-                node(R, U, V),
-                node(Q, U, NONE),
+                (V, NONE, NONE),
+                (U, V, NONE),
+                (S, U, V),
+                (R, U, V),
+                (Q, U, NONE),
             ],
         ),
         (
             "a left child whose sibling has a left child",
             &[
-                node(U, NONE, NONE),
-                node(V, NONE, U),
-                node(P, NONE, U),
-                node(Q, NONE, V),
-                node(R, NONE, Q),
-                node(S, NONE, P),
+                (U, NONE, NONE),
+                (V, NONE, U),
+                (P, NONE, U),
+                (Q, NONE, V),
+                (R, NONE, Q),
+                (S, NONE, P),
             ],
         ),
         (
             "the start with every right origin",
             &[
-                node(R, NONE, NONE),
-                node(Q, R, NONE),
-                node(P, NONE, Q),
-                node(S, NONE, P),
-                node(U, NONE, R),
+                (R, NONE, NONE),
+                (Q, R, NONE),
+                (P, NONE, Q),
+                (S, NONE, P),
+                (U, NONE, R),
             ],
         ),
         (
             "a chain below a hostile element",
             &[
-                node(Q, NONE, NONE),
-                node(R, Q, NONE),
-                node(P, R, Q),
-                node(S, P, R),
-                node(U, S, Q),
-                node(V, R, P),
+                (Q, NONE, NONE),
+                (R, Q, NONE),
+                (P, R, Q),
+                (S, P, R),
+                (U, S, Q),
+                (V, R, P),
             ],
         ),
     ];
-    for (name, nodes) in lists {
-        let wanted = by_sides(rt.alloc(), nodes)?;
-        let found = order_of(&rt, rt.alloc(), nodes)?;
+    for (name, triples) in lists {
+        let nodes = nodes_of(rt.alloc(), triples)?;
+        let wanted = by_sides(rt.alloc(), nodes.as_slice())?;
+        let found = order_of(&rt, rt.alloc(), nodes.as_slice())?;
         assert_eq!(rt; found.as_slice(), wanted.as_slice(), "{name}");
         assert_eq!(rt; found.len(), nodes.len(), "{name}");
     }
@@ -407,7 +347,11 @@ fn list_of(alloc: Global, choice: usize, names: &[Name]) -> Result<Vec<Node>, Fa
         rest /= count;
         let right = names[rest % count];
         rest /= count;
-        nodes.push(node(names[count], left, right))?;
+        nodes.push(Node {
+            id: names[count],
+            left,
+            right,
+        })?;
     }
     Ok(nodes)
 }

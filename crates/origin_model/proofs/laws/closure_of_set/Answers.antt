@@ -1,5 +1,5 @@
-use Rattle.origin_model.proofs.ClosureLaws.{closure_by_set, closure_of_merge, closure_of_set, closure_of_union, same_set_converges}
-use Rattle.origin_model.proofs.Closure.{closure_is}
+use Rattle.origin_model.proofs.taking.ClosureLawLemmas.{closure_by_set, closure_of_merge, closure_of_set, closure_of_union, same_set_converges}
+use Rattle.origin_model.proofs.taking.ClosureLemmas.{closure_is}
 use Rattle.origin_model.proofs.laws.closure_of_set.Goals as goal
 
 pub returns-clause-closure : goal.returns-clause-closure

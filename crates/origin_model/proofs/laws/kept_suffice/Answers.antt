@@ -1,5 +1,5 @@
-use Rattle.origin_model.proofs.Kept.{kept_suffice, parts_as_one, saved_suffice, stays_settled}
-use Rattle.origin_model.proofs.Settling.{settles}
+use Rattle.origin_model.proofs.taking.KeptLemmas.{kept_suffice, parts_as_one, saved_suffice, stays_settled}
+use Rattle.origin_model.proofs.taking.SettlingLemmas.{settles}
 use Rattle.origin_model.proofs.laws.kept_suffice.Goals as goal
 
 pub returns-clause-kept : goal.returns-clause-kept

@@ -1,0 +1,13 @@
+-- Lemmas on edits, and on how concurrent insertions stand.
+pub mod SplitLemmas
+pub mod LandsBehindLemmas
+pub mod FreshIdLemmas
+pub mod PutLemmas
+pub mod CutLemmas
+pub mod UndecidedLemmas
+pub mod MadeLemmas
+pub mod EditedTextLemmas
+pub mod NextCounterLemmas
+pub mod EditIntakeLemmas
+pub mod EditExamples
+pub mod PassageLemmas

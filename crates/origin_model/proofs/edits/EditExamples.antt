@@ -1,0 +1,96 @@
+-- Small edits, computed from the definitions, at replica 1 that begins with nothing.
+use Rattle.std.proofs.Common.{◌≡◌, refl, ℕ, List, [], ◌∷◌}
+use Rattle.std.specs.Prelude.{Some, None, codes}
+use Rattle.fugue_ids.specs.Identifiers.{Identifier}
+use Rattle.fugue_ids.specs.declared.op.Op.{Op}
+use Rattle.fugue_ids.specs.declared.op.Op.TheVariants.{Section, Text, Delete}
+use Rattle.origin_model.specs.order.Order.{order, chain}
+use Rattle.origin_model.specs.order.Printed.{text}
+use Rattle.origin_model.specs.declared.operations.place.Place.TheVariants.{Section as within}
+use Rattle.origin_model.specs.edits.Edits.{Command, Put, Cut, Add, DropSection, extended, id_at, made, next_counter, spliced}
+
+-- the history after edits, one after another, where nothing waits
+abbrev edited : List Op → List Command → List Op
+edited h [] = h
+edited h (c ∷ cs) = edited (extended h (made 1 h [] c)) cs
+
+-- the section that the first edit makes
+abbrev section : Identifier
+section = id_at 1 0
+
+-- `add 1 T`, `put 1 0 AB`, `cut 1 1 1`, `put 1 1 C`
+abbrev four_edits : List Command
+four_edits = Add 0 (codes "T") ∷ Put 0 0 (codes "AB") ∷ Cut 0 1 1 ∷ []
+
+-- the history after these
+abbrev after_cut : List Op
+after_cut = edited [] four_edits
+
+-- five operations; C is (1,3), behind A and before the deleted B
+five_operations :
+    edited after_cut (Put 0 1 (codes "C") ∷ [])
+    ≡ Text (id_at 1 3) section (Some (id_at 1 1)) (Some (id_at 1 2)) 67
+    ∷ Delete (id_at 1 2)
+    ∷ Text (id_at 1 2) section (Some (id_at 1 1)) None 66
+    ∷ Text (id_at 1 1) section None None 65
+    ∷ Section section None None (codes "T") ∷ []
+unfolding order chain
+five_operations = refl
+
+-- what is then shown
+shows_AC : text (edited after_cut (Put 0 1 (codes "C") ∷ [])) section ≡ codes "AC"
+unfolding order chain
+shows_AC = refl
+
+-- the same in a section of another replica: A and B are typed, B is deleted
+abbrev foreign : Identifier
+foreign = id_at 9 0
+
+abbrev without_B : List Op
+without_B = edited (Section foreign None None (codes "T") ∷ []) (Put 0 0 (codes "AB") ∷ Cut 0 1 1 ∷ [])
+
+-- C is (1,2), behind A and before the deleted B
+C_behind_A : made 1 without_B [] (Put 0 1 (codes "C")) ≡ Text (id_at 1 2) foreign (Some (id_at 1 0)) (Some (id_at 1 1)) 67 ∷ []
+unfolding order chain
+C_behind_A = refl
+
+-- it stands between them
+C_in_order : order (within foreign) (edited without_B (Put 0 1 (codes "C") ∷ [])) ≡ id_at 1 0 ∷ id_at 1 2 ∷ id_at 1 1 ∷ []
+unfolding order chain
+C_in_order = refl
+
+-- what is then shown
+shows_C : text (edited without_B (Put 0 1 (codes "C") ∷ [])) foreign ≡ codes "AC"
+unfolding order chain
+shows_C = refl
+
+-- `e`, U+0301 and `f`: the first cluster has two scalars
+abbrev accented : List Op
+accented = edited [] (Add 0 (codes "T") ∷ Put 0 0 (101 ∷ 769 ∷ 102 ∷ []) ∷ [])
+
+-- X goes in behind the first cluster
+abbrev with_X : List Op
+with_X = edited accented (Put 0 2 (codes "X") ∷ [])
+
+-- it stands behind the accent
+behind_the_accent : text with_X section ≡ 101 ∷ 769 ∷ 88 ∷ 102 ∷ []
+unfolding order chain
+behind_the_accent = refl
+
+-- both scalars of the cluster go
+cluster_goes : text (edited with_X (Cut 0 0 2 ∷ [])) section ≡ codes "Xf"
+unfolding order chain
+cluster_goes = refl
+
+-- where there is no such section nothing is made
+no_section : made 1 [] [] (DropSection 0) ≡ []
+unfolding order
+no_section = refl
+
+-- a waiting operation's names count too
+named_by_waiting_ones : next_counter 1 [] (Delete (id_at 1 6) ∷ Delete (id_at 2 9) ∷ []) ≡ 7
+named_by_waiting_ones = refl
+
+-- two members give way to one
+splices : spliced {X = ℕ} (1 ∷ 2 ∷ 3 ∷ 4 ∷ []) 1 2 (9 ∷ []) ≡ 1 ∷ 9 ∷ 4 ∷ []
+splices = refl

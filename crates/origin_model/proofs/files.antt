@@ -1,0 +1,5 @@
+-- Lemmas on the bytes of files.
+pub mod BatchLemmas
+pub mod ImageLemmas
+pub mod AppendLemmas
+pub mod FileExamples

@@ -1,0 +1,91 @@
+-- What operations rest on is in the history before them.
+use Rattle.std.proofs.Common.{List, ℕ, [], ap, false, inl, inr, refl, subst, sym, true, ◌++◌, ◌∙◌, ◌∷◌, ◌≡◌}
+use Rattle.std.specs.Prelude.{Option, Some}
+use Rattle.std.proofs.lemmas.Bool.{false_from_ne_true, or_cases, true≢false}
+use Rattle.fugue_ids.specs.Identifiers.{Identifier}
+use Rattle.fugue_ids.specs.Ops.{id_of}
+use Rattle.fugue_ids.specs.declared.op.Op.{Op}
+use Rattle.fugue_ids.specs.declared.op.Op.TheVariants.{Delete, Section, Text}
+use Rattle.origin_model.specs.order.Laws.{IsIn}
+use Rattle.origin_model.specs.sides.Node.{AreNodes, as_ops, find_node, node_order, nodes}
+use Rattle.origin_model.specs.operations.History.{element_of, holder, holds}
+use Rattle.origin_model.specs.order.Printed.{deletes, is_hidden}
+use Rattle.origin_model.specs.operations.Verdict.{Lawful, given_as, id_held, verdict}
+use Rattle.origin_model.specs.declared.sides.node.Node.{Node}
+use Rattle.origin_model.specs.declared.operations.place.Place.TheVariants.{Catalogue as catalogue, Section as within}
+use Rattle.origin_model.specs.declared.operations.role.Role.TheVariants.{Any, Section as SectionRole, TextOf}
+use Rattle.origin_model.specs.declared.operations.verdict.Verdict.TheVariants.{Ready}
+use Rattle.origin_model.proofs.operations.CauseLemmas.{becomes_ready, missing-held, ready_absent, stray-fits}
+use Rattle.origin_model.proofs.operations.LookupLemmas.{IsHeld, found, holder_owns, holds-older}
+use Rattle.origin_model.proofs.sides.NodeHistoryLemmas.{holder-nodes, nodes-lawful, op_of}
+use Rattle.origin_model.proofs.sides.NodeOrderLemmas.{nodes-none}
+use Rattle.origin_model.proofs.operations.OperationLemmas.{own_id}
+use Rattle.origin_model.proofs.order.OrderLawLemmas.{hidden-has}
+use Rattle.origin_model.proofs.order.PartLemmas.{order-same}
+use Rattle.origin_model.proofs.order.PlaceLemmas.{IsIn-held, in_section, none_is, one_fits, parts_fit, section_fits}
+use Rattle.origin_model.proofs.operations.ReadyLemmas.{one_held, parts_held, when_ready}
+use Rattle.fugue_ids.proofs.IdentifierLemmas.{cases_origin, id_eq-true}
+
+-- nodes that no look-up can tell apart are histories within each other
+pub same_nodes_same_order : (a b : List Node) → AreNodes a → AreNodes b → ((x : Identifier) → find_node a x ≡ find_node b x) → node_order a ≡ node_order b
+same_nodes_same_order a b v w s =
+    let alike : (i : Identifier) → holder (as_ops a) i ≡ holder (as_ops b) i = λ i. holder-nodes a i ∙ ap op_of (s i) ∙ sym (holder-nodes b i) in
+    order-same catalogue (as_ops a) (as_ops b) (nodes-lawful a v) (nodes-lawful b w) (λ i op e. sym (alike i) ∙ e) (λ i op e. alike i ∙ e)
+
+-- the own identifier of a Ready operation is new
+pub ready_is_new : (h : List Op) (op : Op) (x : Identifier) → verdict h op ≡ Ready → id_of op ≡ Some x → holds h x ≡ false
+ready_is_new h op x e k = sym (ap (id_held h) k) ∙ (when_ready h op e).fresh
+
+-- the section of a Ready Text is in the catalogue
+pub section_first : (h : List Op) (id section : Identifier) (left right : Option Identifier) (ch : ℕ) → verdict h (Text id section left right ch) ≡ Ready → IsIn catalogue h section
+section_first h id s left right ch e =
+    let r = when_ready h (Text id s left right ch) e in
+    let origins : List _ = given_as (TextOf s) left ++ given_as (TextOf s) right in
+    let o = found (holder h s) (one_held h SectionRole s (parts_held h ((s, SectionRole) ∷ []) origins r.none_missing).0) in
+    let f = one_fits h SectionRole s o.0 (parts_fit h ((s, SectionRole) ∷ []) origins r.none_stray).0 o.1 in
+    record { op = o.0; held = o.1; place = section_fits o.0 f ∙ own_id o.0 s (holder_owns h s o.0 o.1) }
+
+-- the section of a Ready element is in the catalogue
+element_section : (h : List Op) (s : Identifier) (op : Op) (x : Identifier) → verdict h op ≡ Ready → element_of (within s) op ≡ Some x → IsIn catalogue h s
+element_section h s (Section i l r t) x e k = none_is _ x k
+element_section h s (Text i q l r c) x e k = subst (IsIn catalogue h) (id_eq-true q s (in_section s i q x k)) (section_first h i q l r c e)
+element_section h s (Delete i) x e k = none_is _ x k
+
+-- what a longer history does not hold, an older one does not hold
+not-older : (op : Op) (h : List Op) (x : Identifier) → holds (op ∷ h) x ≡ false → holds h x ≡ false
+not-older op h x k = false_from_ne_true _ (λ e. true≢false (sym (holds-older op h x e) ∙ k))
+
+-- what is not held has no text
+pub no_text_before : (h : List Op) (s : Identifier) → Lawful h → holds h s ≡ false → nodes (within s) h ≡ []
+no_text_before [] s w k = refl
+no_text_before (op ∷ h) s w k =
+    elim (cases_origin (element_of (within s) op)) [
+      | inl e ↦ nodes-none (within s) op h e ∙ no_text_before h s w.1 (not-older op h s k)
+      | inr e ↦ absurd (true≢false (sym (IsIn-held catalogue h s (element_section h s op e.0 w.0 e.1)) ∙ not-older op h s k))
+    ]
+
+-- the target of a Ready Delete is held
+target_held : (h : List Op) (op : Op) (x : Identifier) → verdict h op ≡ Ready → deletes x op ≡ true → IsHeld h x
+target_held h (Section i l r t) x e k = absurd (true≢false (sym k))
+target_held h (Text i q l r c) x e k = absurd (true≢false (sym k))
+target_held h (Delete i) x e k = subst (IsHeld h) (id_eq-true i x k) (one_held h Any i (when_ready h (Delete i) e).none_missing)
+
+-- what is not held is not hidden
+pub not_hidden_before : (h : List Op) (x : Identifier) → Lawful h → holds h x ≡ false → is_hidden h x ≡ false
+not_hidden_before [] x w k = refl
+not_hidden_before (op ∷ h) x w k =
+    let out = not-older op h x k in
+    false_from_ne_true _ (λ e. elim (or_cases (deletes x op) (is_hidden h x) e) [
+      | inl d ↦ true≢false (sym (target_held h op x w.0 d) ∙ out)
+      | inr d ↦ true≢false (sym d ∙ not_hidden_before h x w.1 out)
+    ])
+
+-- the Delete of a shown element is Ready
+pub shown_can_go : (h : List Op) (x : Identifier) → holds h x ≡ true → is_hidden h x ≡ false → verdict h (Delete x) ≡ Ready
+shown_can_go h x k n =
+    let o = found (holder h x) k in
+    becomes_ready h (Delete x) (sym (hidden-has h x) ∙ n) refl (stray-fits h (x, Any) [] o.0 o.1 refl) (missing-held h (x, Any) [] o.0 o.1)
+
+-- the target of a Ready Delete is held and not hidden
+pub target_is_shown : (h : List Op) (x : Identifier) → verdict h (Delete x) ≡ Ready → (holds h x ≡ true) × (is_hidden h x ≡ false)
+target_is_shown h x e = (one_held h Any x (when_ready h (Delete x) e).none_missing, hidden-has h x ∙ ready_absent h (Delete x) e)

@@ -1,0 +1,10 @@
+use Rattle.std.proofs.Common.{sym}
+use Rattle.std.specs.Prelude.{option_to_list}
+use Rattle.origin_model.proofs.operations.NameLemmas.{stray_of_three}
+use Rattle.origin_model.proofs.operations.named.stray_name.Goals as goal
+
+pub returns : goal.returns
+returns g c =
+    let n = c.names_of-first.result in
+    rw (← c.names_of-first.ensures, c.or-2.ensures, c.or.ensures, c.stray_of.ensures, c.stray_of-2.ensures, c.stray_of-3.ensures)
+    (sym (stray_of_three (g.L.Lookup.history c.args.lookup.now) (option_to_list n.0) (option_to_list n.1) (option_to_list n.2)))

@@ -1,0 +1,165 @@
+-- One list of the elements of all places, and one more element in it.
+use Rattle.std.proofs.Common.{◌≡◌, refl, sym, ◌∙◌, ap, List, [], ◌∷◌, ◌++◌, Bool, true, false, inl, inr, ℕ, ◌+◌, ◌-◌, ◌<◌, min, take, drop, length, reverse, arith, get_or}
+use Rattle.std.specs.Prelude.{Some, None, count_by, slice_get, if◌then◌else◌}
+use Rattle.std.specs.List.{insert}
+use Rattle.std.proofs.lemmas.Bool.{cases_Bool, true≢false, false≢true}
+use Rattle.std.proofs.lemmas.List.{take_more, drop_more, take-append-drop, take_at, drop_at, length-append, reverse-append}
+use Rattle.fugue_ids.specs.declared.op.Op.TheVariants.{Section, Text, Delete}
+use Rattle.fugue_ids.specs.Identifiers.{Identifier}
+use Rattle.fugue_ids.specs.declared.op.Op.{Op}
+use Rattle.origin_model.specs.order.Listed.{stands_in}
+use Rattle.origin_model.specs.operations.History.{place_eq, element_of}
+use Rattle.origin_model.specs.declared.operations.place.Place.{Place}
+use Rattle.origin_model.specs.declared.operations.place.Place.TheVariants.{Catalogue as catalogue, Section as within}
+use Rattle.origin_model.specs.order.Order.{order, before_in, older_of, placed}
+use Rattle.origin_model.specs.order.Listed.{elements_at, ListsAll}
+use Rattle.origin_model.specs.declared.order.listed.Listed.{Listed}
+use Rattle.origin_model.proofs.order.OrderLemmas.{order-none, order-some}
+use Rattle.std.proofs.lemmas.List.Sums.{count_by-le-length}
+use Rattle.fugue_ids.proofs.IdentifierLemmas.{id_eq-true}
+use Rattle.std.proofs.lemmas.List.Sums.{count_by-le-length}
+
+at-yes : (p : Place) (e : Listed) (es : List Listed) → place_eq e.place p ≡ true → elements_at p (e ∷ es) ≡ e.id ∷ elements_at p es
+at-yes p e es h = rw (h, elements_at)
+
+at-no : (p : Place) (e : Listed) (es : List Listed) → place_eq e.place p ≡ false → elements_at p (e ∷ es) ≡ elements_at p es
+at-no p e es h = rw (h, elements_at)
+
+pub elements_at-append : (p : Place) (xs ys : List Listed) → elements_at p (xs ++ ys) ≡ elements_at p xs ++ elements_at p ys
+elements_at-append p [] ys = refl
+elements_at-append p (x ∷ xs) ys =
+    elim (cases_Bool (place_eq x.place p)) [
+      | inl h ↦ at-yes p x (xs ++ ys) h ∙ ap (λ l. x.id ∷ l) (elements_at-append p xs ys) ∙ ap (λ l. l ++ elements_at p ys) (sym (at-yes p x xs h))
+      | inr h ↦ at-no p x (xs ++ ys) h ∙ elements_at-append p xs ys ∙ ap (λ l. l ++ elements_at p ys) (sym (at-no p x xs h))
+    ]
+
+-- the steps of a count
+pub taken_yes : (p : Place) (xs : List Listed) (i : ℕ) (d : Listed) → i < length xs → place_eq (get_or xs i d).place p ≡ true → length (elements_at p (take (i + 1) xs)) ≡ length (elements_at p (take i xs)) + 1
+taken_yes p xs i d l h =
+    let e : Listed = get_or xs i d in
+    ap (λ z. length (elements_at p z)) (take_more xs i d l) ∙ ap length (elements_at-append p (take i xs) (e ∷ []) ∙ ap (λ z. elements_at p (take i xs) ++ z) (at-yes p e [] h))
+    ∙ length-append (elements_at p (take i xs)) (e.id ∷ [])
+
+pub taken_no : (p : Place) (xs : List Listed) (i : ℕ) (d : Listed) → i < length xs → place_eq (get_or xs i d).place p ≡ false → length (elements_at p (take (i + 1) xs)) ≡ length (elements_at p (take i xs))
+taken_no p xs i d l h =
+    let e : Listed = get_or xs i d in
+    ap (λ z. length (elements_at p z)) (take_more xs i d l) ∙ ap length (elements_at-append p (take i xs) (e ∷ []) ∙ ap (λ z. elements_at p (take i xs) ++ z) (at-no p e [] h))
+    ∙ length-append (elements_at p (take i xs)) [] ∙ omega arith
+
+pub left_yes : (p : Place) (xs : List Listed) (i : ℕ) (d : Listed) → i < length xs → place_eq (get_or xs i d).place p ≡ true → length (elements_at p (drop i xs)) ≡ length (elements_at p (drop (i + 1) xs)) + 1
+left_yes p xs i d l h =
+    ap (λ z. length (elements_at p z)) (drop_more xs i d l) ∙ ap length (at-yes p (get_or xs i d) (drop (i + 1) xs) h) ∙ omega arith
+
+pub left_no : (p : Place) (xs : List Listed) (i : ℕ) (d : Listed) → i < length xs → place_eq (get_or xs i d).place p ≡ false → length (elements_at p (drop i xs)) ≡ length (elements_at p (drop (i + 1) xs))
+left_no p xs i d l h =
+    ap (λ z. length (elements_at p z)) (drop_more xs i d l) ∙ ap length (at-no p (get_or xs i d) (drop (i + 1) xs) h)
+
+last_of : (x : Op) (xs : List Op) (op : Op) → slice_get (x ∷ xs) (length xs) ≡ Some op → (front : List Op) × (x ∷ xs ≡ front ++ op ∷ [])
+last_of x [] op e = let d : x ≡ op = cc in ([], ap (λ z. z ∷ []) d)
+last_of x (y ∷ ys) op e = let r = last_of y ys op e in (x ∷ r.0, ap (λ z. x ∷ z) r.1)
+
+newest_of : (xs : List Op) (op : Op) → slice_get xs (length xs - 1) ≡ Some op → reverse xs ≡ op ∷ older_of (reverse xs)
+newest_of [] op e = cc
+newest_of (x ∷ xs) op e =
+    let k : length (x ∷ xs) - 1 ≡ length xs = omega arith in
+    let r = last_of x xs op (ap (slice_get (x ∷ xs)) (sym k) ∙ e) in
+    let a : reverse (x ∷ xs) ≡ op ∷ reverse r.0 = ap reverse r.1 ∙ reverse-append r.0 (op ∷ []) in
+    a ∙ ap (λ z. op ∷ older_of z) (sym a)
+
+-- the element of a newest operation
+pub newest_is : (xs : List Op) (op : Op) → slice_get xs (length xs - 1) ≡ Some op → reverse xs ≡ op ∷ older_of (reverse xs)
+newest_is xs op e = newest_of xs op e
+
+abbrev pair : Place → Identifier → Place × Identifier
+pair p i = (p, i)
+
+not_none : (p : Place) (i : Identifier) → Some (pair p i) ≡ None → ⊥
+not_none p i e = cc
+
+same_pair : (p q : Place) (i x : Identifier) → Some (pair p i) ≡ Some (pair q x) → (p ≡ q) × (i ≡ x)
+same_pair p q i x e = let d : pair p i ≡ pair q x = cc in (ap (λ z. z.0) d, ap (λ z. z.1) d)
+
+-- an operation's place says where it is an element
+element-yes : (p q : Place) (op : Op) (x : Identifier) → stands_in op ≡ Some (q, x) → place_eq q p ≡ true → element_of p op ≡ Some x
+element-yes catalogue q (Section i l r t) x e h = ap Some (same_pair catalogue q i x e).1
+element-yes (within p) q (Section i l r t) x e h = let d : q ≡ catalogue = sym (same_pair catalogue q i x e).0 in absurd (false≢true (ap (λ z. place_eq z (within p)) (sym d) ∙ h))
+element-yes catalogue q (Text i s l r c) x e h = let d : q ≡ within s = sym (same_pair (within s) q i x e).0 in absurd (false≢true (ap (λ z. place_eq z catalogue) (sym d) ∙ h))
+element-yes (within p) q (Text i s l r c) x e h =
+    let d : q ≡ within s = sym (same_pair (within s) q i x e).0 in
+    let f : i ≡ x = (same_pair (within s) q i x e).1 in
+    ap (λ b. if b then Some i else None) (ap (λ z. place_eq z (within p)) (sym d) ∙ h) ∙ ap Some f
+element-yes p q (Delete i) x e h = absurd (not_none q x (sym e))
+
+element-no : (p q : Place) (op : Op) (x : Identifier) → stands_in op ≡ Some (q, x) → place_eq q p ≡ false → element_of p op ≡ None
+element-no catalogue q (Section i l r t) x e h = let d : q ≡ catalogue = sym (same_pair catalogue q i x e).0 in absurd (true≢false (ap (λ z. place_eq z catalogue) (sym d) ∙ h))
+element-no (within p) q (Section i l r t) x e h = refl
+element-no catalogue q (Text i s l r c) x e h = refl
+element-no (within p) q (Text i s l r c) x e h =
+    let d : q ≡ within s = sym (same_pair (within s) q i x e).0 in
+    ap (λ b. if b then Some i else None) (ap (λ z. place_eq z (within p)) (sym d) ∙ h)
+element-no p q (Delete i) x e h = absurd (not_none q x (sym e))
+
+element-none : (p : Place) (op : Op) → stands_in op ≡ None → element_of p op ≡ None
+element-none p (Section i l r t) e = absurd (not_none catalogue i e)
+element-none p (Text i s l r c) e = absurd (not_none (within s) i e)
+element-none catalogue (Delete i) e = refl
+element-none (within p) (Delete i) e = refl
+
+pub listed-same : (op : Op) (older : List Op) (listed : List Listed) → stands_in op ≡ None → ListsAll older listed → ListsAll (op ∷ older) listed
+listed-same op older listed e f p = f p ∙ sym (order-none p op older (element-none p op e))
+
+place_eq-true : (q p : Place) → place_eq q p ≡ true → q ≡ p
+place_eq-true catalogue catalogue h = refl
+place_eq-true catalogue (within t) h = absurd (false≢true h)
+place_eq-true (within s) catalogue h = absurd (false≢true h)
+place_eq-true (within s) (within t) h = ap within (id_eq-true s t h)
+
+pub listed-newest : (op : Op) (older : List Op) (listed : List Listed) (q : Place) (x : Identifier) (count i : ℕ)
+    → stands_in op ≡ Some (q, x) → ListsAll older listed
+    → count ≡ count_by (λ e. before_in (elements_at q listed) (op ∷ older) e x) (elements_at q listed)
+    → length (elements_at q (take i listed)) ≡ min count (length (elements_at q listed))
+    → ListsAll (op ∷ older) (insert listed i (record { place = q; id = x }))
+listed-newest op older listed q x count i e f c l p =
+    let new : Listed = record { place = q; id = x } in
+    let a : List Identifier = elements_at p (take i listed) in
+    let b : List Identifier = elements_at p (drop i listed) in
+    let whole : elements_at p listed ≡ a ++ b = ap (elements_at p) (sym (take-append-drop i listed)) ∙ elements_at-append p (take i listed) (drop i listed) in
+    elim (cases_Bool (place_eq q p)) [
+      | inl h ↦
+          let o : List Identifier = elements_at p listed in
+          let R : Identifier → Bool = λ z. before_in o (op ∷ older) z x in
+          let s : q ≡ p = place_eq-true q p h in
+          let n : count ≡ count_by R o = c ∙ ap (λ z. count_by (λ w. before_in (elements_at z listed) (op ∷ older) w x) (elements_at z listed)) s in
+          let m : length a ≡ min count (length o) = ap (λ z. length (elements_at z (take i listed))) (sym s) ∙ l ∙ ap (λ z. min count (length (elements_at z listed))) s in
+          let k : length a ≡ count_by R o = omega (arith, count_by-le-length R o, n, m) in
+          let first : take (count_by R o) o ≡ a = ap (take (count_by R o)) whole ∙ take_at a b (count_by R o) k in
+          let second : drop (count_by R o) o ≡ b = ap (drop (count_by R o)) whole ∙ drop_at a b (count_by R o) k in
+          elements_at-append p (take i listed) (new ∷ drop i listed)
+          ∙ ap (λ z. a ++ z) (at-yes p new (drop i listed) h)
+          ∙ (λ j. sym first j ++ x ∷ sym second j)
+          ∙ ap (λ z. placed (λ w. before_in z (op ∷ older) w x) z x) (f p)
+          ∙ sym (order-some p op older x (element-yes p q op x e h))
+      | inr h ↦
+          elements_at-append p (take i listed) (new ∷ drop i listed)
+          ∙ ap (λ z. a ++ z) (at-no p new (drop i listed) h)
+          ∙ sym whole ∙ f p ∙ sym (order-none p op older (element-no p q op x e h))
+    ]
+
+pub ruleset end_steps = (taken_yes, taken_no, left_yes, left_no)
+
+pub listed-kept : (ops : List Op) (op : Op) (listed : List Listed) → slice_get ops (length ops - 1) ≡ Some op → stands_in op ≡ None → ListsAll (older_of (reverse ops)) listed → ListsAll (reverse ops) listed
+listed-kept ops op listed e n f p =
+    listed-same op (older_of (reverse ops)) listed n f p ∙ ap (order p) (sym (newest_is ops op e))
+
+pub listed-found : (ops : List Op) (op : Op) (old new : List Listed) (q : Place) (x : Identifier) (finished : List Identifier) (count i : ℕ)
+    → slice_get ops (length ops - 1) ≡ Some op → stands_in op ≡ Some (q, x) → ListsAll (older_of (reverse ops)) old
+    → finished ≡ elements_at q old
+    → count ≡ count_by (λ e. before_in finished (reverse ops) e x) finished
+    → length (elements_at q (take i old)) ≡ min count (length (elements_at q old))
+    → new ≡ insert old i (record { place = q; id = x })
+    → ListsAll (reverse ops) new
+listed-found ops op old new q x finished count i e s f g c l n p =
+    let h : reverse ops ≡ op ∷ older_of (reverse ops) = newest_is ops op e in
+    let d : count ≡ count_by (λ w. before_in (elements_at q old) (op ∷ older_of (reverse ops)) w x) (elements_at q old) =
+    c ∙ (λ j. count_by (λ w. before_in (g j) (h j) w x) (g j)) in
+    ap (elements_at p) n ∙ listed-newest op (older_of (reverse ops)) old q x count i s f d l p ∙ ap (order p) (sym h)

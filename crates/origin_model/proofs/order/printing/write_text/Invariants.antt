@@ -1,0 +1,11 @@
+use Rattle.std.proofs.Common.{take, reverse}
+use Rattle.std.specs.Prelude.{Ok, flat_map}
+use Rattle.fugue_ids.specs.Outs.{WritesText}
+use Rattle.fugue_ids.specs.declared.failed.Failed.{Failed}
+use Rattle.origin_model.specs.order.Listed.{part, scalar_bytes_of}
+use Rattle.origin_model.proofs.order.printing.write_text.Given as goal
+
+abbrev pub invariant-elements : goal.invariant-elements
+invariant-elements g l =
+    WritesText {E = Failed} {T = Unit {0}} (g.O.Out.seen l.initial.out) (g.O.Out.seen l.out) (Ok tt)
+    (flat_map (part (scalar_bytes_of (reverse l.ops)) (reverse l.ops) l.place) (take l.e-index l.listed))

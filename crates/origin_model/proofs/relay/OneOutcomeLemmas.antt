@@ -1,0 +1,107 @@
+-- The definitions leave nothing open: bytes are of one kind, and so events leave a relay in one state, with the same replies.
+use Rattle.std.proofs.Common.{[], List, ap, arith, get_or, length, lit<, refl, subst, sym, ℕ, ◌++◌, ◌<◌, ◌∙◌, ◌∷◌, ◌≡◌}
+use Rattle.std.specs.Prelude.{None, Option, Some}
+use Rattle.std.specs.FinMap as finite
+use Rattle.fugue_ids.specs.declared.op.Op.{Op}
+use Rattle.fugue_ids.specs.declared.op.Op.TheVariants.{Delete, Section, Text}
+use Rattle.origin_model.specs.declared.relay.event.Event.{Event}
+use Rattle.origin_model.specs.declared.relay.event.Event.TheVariants.{Gone, Opened, Piece}
+use Rattle.origin_model.specs.declared.relay.reply.Reply.{Reply}
+use Rattle.origin_model.specs.frames.Frames.{HasFrame, IsPartial, frame}
+use Rattle.origin_model.specs.relay.Relay.{Relay, Runs, Steps, StepsPiece, reply_of, sessions_after}
+use Rattle.origin_model.specs.relay.Session.{Closes, Closing, Frame, Front, Goes, IsKind, Kind, Neither, Next, Reading, Taken, TakesAll, TakesByte, TakesOne, closing, told}
+
+-- no frame is a proper front of another
+abbrev pub NoFront : Type 0
+NoFront = (a b : Op) (more : List ℕ) → HasFrame a → HasFrame b → frame b ≡ frame a ++ more → more ≡ []
+
+-- the first byte
+first : List ℕ → ℕ
+first bytes = get_or bytes 0 0
+
+-- small numbers are not the closing byte
+small_apart : (n : ℕ) → n < 0x44 → n ≡ 0x44 → ⊥
+small_apart n l e = absurd (omega arith)
+
+-- no frame begins with the closing byte
+no_closing : (op : Op) (more : List ℕ) → frame op ≡ closing ++ more → ⊥
+unfolding first
+no_closing (Section id left right title) more e = small_apart 1 (lit< tt) (ap first e)
+no_closing (Text id section left right ch) more e = small_apart 2 (lit< tt) (ap first e)
+no_closing (Delete target) more e = small_apart 3 (lit< tt) (ap first e)
+
+-- a frame is not the closing byte
+frame_not_closing : (bytes : List ℕ) → IsKind Frame bytes → bytes ≡ closing → ⊥
+frame_not_closing bytes f e = no_closing f.1.op [] (sym f.1.bytes_are ∙ e)
+
+-- nor does one begin with it
+front_not_closing : (bytes : List ℕ) → IsPartial bytes → bytes ≡ closing → ⊥
+front_not_closing bytes p e = no_closing p.is_frame.op p.more (sym p.is_frame.bytes_are ∙ p.front ∙ ap (λ t. t ++ p.more) e)
+
+-- a frame is no proper front of one
+frame_not_front : NoFront → (bytes : List ℕ) → IsKind Frame bytes → IsPartial bytes → ⊥
+frame_not_front one bytes f p =
+    let none = one f.1.op p.is_frame.op p.more f.1.has_frame p.is_frame.has_frame (sym p.is_frame.bytes_are ∙ p.front ∙ ap (λ t. t ++ p.more) f.1.bytes_are) in
+    let long : length p.more ≡ 0 = ap length none in
+    let lacks : 0 < length p.more = p.lacks in
+    absurd (omega arith)
+
+-- bytes are of one kind
+pub one_kind : NoFront → (bytes : List ℕ) (j k : Kind) → IsKind j bytes → IsKind k bytes → j ≡ k
+one_kind one bytes Frame Frame h i = refl
+one_kind one bytes Frame Closing h i = absurd (frame_not_closing bytes h i)
+one_kind one bytes Frame Front h i = absurd (frame_not_front one bytes h i)
+one_kind one bytes Frame Neither h i = absurd (i.0 h.0 h.1)
+one_kind one bytes Closing Frame h i = absurd (frame_not_closing bytes i h)
+one_kind one bytes Closing Closing h i = refl
+one_kind one bytes Closing Front h i = absurd (front_not_closing bytes i h)
+one_kind one bytes Closing Neither h i = absurd (i.2 h)
+one_kind one bytes Front Frame h i = absurd (frame_not_front one bytes i h)
+one_kind one bytes Front Closing h i = absurd (front_not_closing bytes h i)
+one_kind one bytes Front Front h i = refl
+one_kind one bytes Front Neither h i = absurd (i.1 h)
+one_kind one bytes Neither Frame h i = absurd (h.0 i.0 i.1)
+one_kind one bytes Neither Closing h i = absurd (h.2 i)
+one_kind one bytes Neither Front h i = absurd (h.1 i)
+one_kind one bytes Neither Neither h i = refl
+
+-- one byte has one outcome
+byte_once : NoFront → (limit : ℕ) (log : List (List ℕ)) (cursor : Option ℕ) (bytes : List ℕ) (a b : Taken) → TakesByte limit log cursor bytes a → TakesByte limit log cursor bytes b → a ≡ b
+byte_once one limit log None bytes a b h i = h ∙ sym i
+byte_once one limit log (Some cursor) bytes a b h i =
+    h.2 ∙ ap (λ (k : Kind). told k limit log cursor bytes) (one_kind one bytes h.0 i.0 h.1 i.1) ∙ sym i.2
+
+-- also where the session is closed
+one_once : NoFront → (limit byte : ℕ) (log : List (List ℕ)) (next : Next) (a b : Taken) → TakesOne limit byte log next a → TakesOne limit byte log next b → a ≡ b
+one_once one limit byte log (Goes reading) a b h i = byte_once one limit log reading.cursor (reading.rest ++ byte ∷ []) a b h i
+one_once one limit byte log (Closes reply) a b h i = h ∙ sym i
+
+-- bytes have one outcome
+pub all_once : NoFront → (limit : ℕ) (bytes : List ℕ) (start a b : Taken) → TakesAll limit bytes start a → TakesAll limit bytes start b → a ≡ b
+all_once one limit [] start a b h i = h ∙ sym i
+all_once one limit (byte ∷ bytes) start a b h i =
+    let middle : h.0 ≡ i.0 = one_once one limit byte start.log start.next h.0 i.0 h.1 i.1 in
+    all_once one limit bytes i.0 a b (subst (λ (t : Taken). TakesAll limit bytes t a) middle h.2) i.2
+
+-- a piece has one outcome
+piece_once : NoFront → (old : Relay) (n : ℕ) (found : Option Reading) (bytes : List ℕ) (a b : Relay) (x y : Option Reply) → StepsPiece old n found bytes a x → StepsPiece old n found bytes b y → (a ≡ b) × (x ≡ y)
+piece_once one old n None bytes a b x y h i = (h.0 ∙ sym i.0, h.1 ∙ sym i.1)
+piece_once one old n (Some reading) bytes a b x y h i =
+    let same : h.taken ≡ i.taken = all_once one old.limit bytes (record { log = old.log; next = Goes reading }) h.taken i.taken h.takes i.takes in (
+      h.new_is ∙ ap (λ (t : Taken). record { limit = old.limit; log = t.log; sessions = sessions_after n old.sessions t.next }) same ∙ sym i.new_is,
+      h.reply_is ∙ ap (λ (t : Taken). reply_of n t.next) same ∙ sym i.reply_is,
+    )
+
+-- an event has one outcome
+pub step_once : NoFront → (old : Relay) (event : Event) (a b : Relay) (x y : Option Reply) → Steps old event a x → Steps old event b y → (a ≡ b) × (x ≡ y)
+step_once one old (Opened n) a b x y h i = (h.0 ∙ sym i.0, h.1 ∙ sym i.1)
+step_once one old (Piece n bytes) a b x y h i = piece_once one old n (finite.get old.sessions n) bytes a b x y h i
+step_once one old (Gone n) a b x y h i = (h.0 ∙ sym i.0, h.1 ∙ sym i.1)
+
+-- a run of events ends in one state, with the same replies
+pub run_once : NoFront → (events : List Event) (start a b : Relay) (as' bs : List (Option Reply)) → Runs start events a as' → Runs start events b bs → (a ≡ b) × (as' ≡ bs)
+run_once one [] start a b as' bs h i = (h.0 ∙ sym i.0, h.1 ∙ sym i.1)
+run_once one (event ∷ events) start a b as' bs h i =
+    let both = step_once one start event h.0 i.0 h.1 i.1 h.3 i.3 in
+    let rest = run_once one events i.0 a b h.2 i.2 (subst (λ (s : Relay). Runs s events a h.2) both.0 h.4) i.4 in
+    (rest.0, h.5 ∙ (λ j. both.1 j ∷ rest.1 j) ∙ sym i.5)

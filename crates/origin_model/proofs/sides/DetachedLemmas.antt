@@ -1,0 +1,138 @@
+-- A node that is no origin taken out: the others are nodes still, and have the tables without it.
+use Rattle.std.proofs.Common.{List, [], ap, false, inl, inr, not, refl, subst, sym, true, ◌++◌, ◌∙◌, ◌∷◌, ◌≡◌, ◌≢◌}
+use Rattle.std.specs.Prelude.{None, Option, Some, filter, is_some, if◌then◌else◌}
+use Rattle.std.proofs.lemmas.Bool.{true≢false}
+use Rattle.fugue_ids.specs.Identifiers.{Identifier, id_eq}
+use Rattle.fugue_ids.specs.declared.op.Op.{Op}
+use Rattle.origin_model.specs.sides.Detached.{NoOrigin, without}
+use Rattle.origin_model.specs.sides.Node.{AreNodes, IsNew, as_op, as_ops, find_node, has_node, has_origin}
+use Rattle.origin_model.specs.sides.Slot.{IsTable, slot_by}
+use Rattle.fugue_ids.specs.Keyed.{IsReplaced}
+use Rattle.origin_model.specs.operations.History.{holder}
+use Rattle.origin_model.specs.declared.operations.place.Place.TheVariants.{Catalogue as catalogue}
+use Rattle.origin_model.specs.declared.sides.node.Node.{Node}
+use Rattle.origin_model.specs.declared.sides.slot.Slot.{Slot}
+use Rattle.origin_model.proofs.sides.DetachedTableLemmas.{IsWithout, narrowed}
+use Rattle.origin_model.proofs.operations.LookupLemmas.{IsHeld}
+use Rattle.origin_model.proofs.sides.NodeHistoryLemmas.{holder-nodes, holds-nodes, nodes-lawful, op_of}
+use Rattle.fugue_ids.proofs.IdentifierLemmas.{cases_id, eq-id_eq, ne-id_eq}
+
+-- the node itself is left out
+without-own : (x : Identifier) (n : Node) (ns : List Node) → n.id ≡ x → without x (n ∷ ns) ≡ without x ns
+without-own x n ns e = let k : not (id_eq n.id x) ≡ false = ap not (eq-id_eq n.id x e) in rw (k, filter)
+
+-- any other node stays
+without-other : (x : Identifier) (n : Node) (ns : List Node) → n.id ≢ x → without x (n ∷ ns) ≡ n ∷ without x ns
+without-other x n ns e = let k : not (id_eq n.id x) ≡ true = ap not (ne-id_eq n.id x e) in rw (k, filter)
+
+-- a look-up past the first node
+find-other : (n : Node) (ns : List Node) (v : Identifier) → n.id ≢ v → find_node (n ∷ ns) v ≡ find_node ns v
+find-other n ns v e = ap (λ b. if b then Some n else find_node ns v) (ne-id_eq n.id v e)
+
+-- a look-up of the first node
+find-own : (n : Node) (ns : List Node) (v : Identifier) → n.id ≡ v → find_node (n ∷ ns) v ≡ Some n
+find-own n ns v e = ap (λ b. if b then Some n else find_node ns v) (eq-id_eq n.id v e)
+
+-- the node is gone
+gone : (x : Identifier) (ns : List Node) → find_node (without x ns) x ≡ None
+gone x [] = refl
+gone x (n ∷ ns) =
+    elim (cases_id n.id x) [
+      | inl e ↦ ap (λ l. find_node l x) (without-own x n ns e) ∙ gone x ns
+      | inr e ↦ ap (λ l. find_node l x) (without-other x n ns e) ∙ find-other n (without x ns) x e ∙ gone x ns
+    ]
+
+-- the others are there
+others_there : (x : Identifier) (ns : List Node) (v : Identifier) → v ≢ x → find_node (without x ns) v ≡ find_node ns v
+others_there x [] v d = refl
+others_there x (n ∷ ns) v d =
+    elim (cases_id n.id x) [
+      | inl e ↦ ap (λ l. find_node l v) (without-own x n ns e) ∙ others_there x ns v d ∙ sym (find-other n ns v (λ k. d (sym k ∙ e)))
+      | inr e ↦ ap (λ l. find_node l v) (without-other x n ns e) ∙ elim (cases_id n.id v) [
+        | inl k ↦ find-own n (without x ns) v k ∙ sym (find-own n ns v k)
+        | inr k ↦ find-other n (without x ns) v k ∙ others_there x ns v d ∙ sym (find-other n ns v k)
+      ]
+    ]
+
+-- a look-up without the node finds the others
+pub found_without : (ns : List Node) (x v : Identifier) → find_node (without x ns) v ≡ (if id_eq x v then None else find_node ns v)
+found_without ns x v =
+    elim (cases_id x v) [
+      | inl e ↦ subst (λ z. find_node (without x ns) z ≡ None) e (gone x ns) ∙ ap (λ b. if b then None else find_node ns v) (sym (eq-id_eq x v e))
+      | inr e ↦ others_there x ns v (λ k. e (sym k)) ∙ ap (λ b. if b then None else find_node ns v) (sym (ne-id_eq x v e))
+    ]
+
+-- what is no node need not be left out
+pub absent_stays : (ns : List Node) (x : Identifier) → has_node ns x ≡ false → without x ns ≡ ns
+absent_stays [] x k = refl
+absent_stays (n ∷ ns) x k =
+    elim (cases_id n.id x) [
+      | inl e ↦ absurd (true≢false (sym (ap is_some (find-own n ns x e)) ∙ k))
+      | inr e ↦ without-other x n ns e ∙ ap (λ t. n ∷ t) (absent_stays ns x (sym (ap is_some (find-other n ns x e)) ∙ k))
+    ]
+
+-- an origin that is there is not what is no node
+origin_apart : (ns : List Node) (o : Option Identifier) (x : Identifier) → has_origin ns o ≡ true → has_node ns x ≡ false → o ≢ Some x
+origin_apart ns o x k f e = true≢false (sym (subst (λ z. has_origin ns z ≡ true) e k) ∙ f)
+
+-- what is no node is no origin
+absent_no_origin : (ns : List Node) (x : Identifier) → AreNodes ns → has_node ns x ≡ false → NoOrigin x ns
+absent_no_origin [] x a k = tt
+absent_no_origin (n ∷ ns) x a k =
+    elim (cases_id n.id x) [
+      | inl e ↦ absurd (true≢false (sym (ap is_some (find-own n ns x e)) ∙ k))
+      | inr e ↦
+          let rest : has_node ns x ≡ false = sym (ap is_some (find-other n ns x e)) ∙ k in
+          (origin_apart ns n.left x a.0.left rest, origin_apart ns n.right x a.0.right rest, absent_no_origin ns x a.1 rest)
+    ]
+
+-- the newest node can be taken back: it is no origin, and without it the nodes are those before
+pub newest_taken_back : (ns : List Node) (n : Node) → AreNodes (n ∷ ns) → NoOrigin n.id (n ∷ ns) × (without n.id (n ∷ ns) ≡ ns)
+newest_taken_back ns n a = (
+  (origin_apart ns n.left n.id a.0.left a.0.fresh, origin_apart ns n.right n.id a.0.right a.0.fresh, absent_no_origin ns n.id a.1 a.0.fresh),
+  without-own n.id n ns refl ∙ absent_stays ns n.id a.0.fresh,
+)
+
+-- an origin other than the node is there still
+origin_stays : (x : Identifier) (ns : List Node) (o : Option Identifier) → o ≢ Some x → has_origin ns o ≡ true → has_origin (without x ns) o ≡ true
+origin_stays x ns None d k = refl
+origin_stays x ns (Some v) d k = ap is_some (others_there x ns v (λ e. d (ap Some e))) ∙ k
+
+-- the others are nodes still
+nodes_stay : (x : Identifier) (ns : List Node) → AreNodes ns → NoOrigin x ns → AreNodes (without x ns)
+nodes_stay x [] a f = tt
+nodes_stay x (n ∷ ns) a f =
+    elim (cases_id n.id x) [
+      | inl e ↦ subst AreNodes (sym (without-own x n ns e)) (nodes_stay x ns a.1 f.2)
+      | inr e ↦
+          let new : IsNew (without x ns) n = record {
+            fresh = ap is_some (others_there x ns n.id e) ∙ a.0.fresh;
+            left = origin_stays x ns n.left f.0 a.0.left;
+            right = origin_stays x ns n.right f.1 a.0.right;
+          } in
+          subst AreNodes (sym (without-other x n ns e)) (new, nodes_stay x ns a.1 f.2)
+    ]
+
+-- the history without the node
+without_history : (x : Identifier) (ns : List Node) → IsWithout (as_ops (without x ns)) (as_ops ns) x
+without_history x ns =
+    let s : List Op = as_ops (without x ns) in
+    let out : IsHeld s x → ⊥ = λ k. true≢false (sym k ∙ holds-nodes (without x ns) x ∙ ap is_some (gone x ns)) in
+    let other : (v : Identifier) → v ≢ x → holder s v ≡ holder (as_ops ns) v = λ v d.
+    holder-nodes (without x ns) v ∙ ap op_of (others_there x ns v d) ∙ sym (holder-nodes ns v) in
+    record { within = λ i op e. sym (other i (λ d. out (subst (IsHeld s) d (ap is_some e)))) ∙ e; without = out; others = other }
+
+-- a node that no other has as an origin leaves its siblings, and the tables are those of the others
+pub detach_any :
+    (ns : List Node) (n : Node) (old new : Slot → List Identifier) (elders youngers : List Identifier)
+    → AreNodes ns → find_node ns n.id ≡ Some n → NoOrigin n.id ns → IsTable catalogue (as_ops ns) old
+    → old (slot_by (as_ops ns) n.left n.right) ≡ elders ++ n.id ∷ youngers
+    → IsReplaced old new (slot_by (as_ops ns) n.left n.right) (elders ++ youngers)
+    → AreNodes (without n.id ns) × IsTable catalogue (as_ops (without n.id ns)) new
+detach_any ns n old new elders youngers a e f t c r =
+    let b : AreNodes (without n.id ns) = nodes_stay n.id ns a f in
+    let s : List Op = as_ops (without n.id ns) in
+    let held : holder (as_ops ns) n.id ≡ Some (as_op n) = holder-nodes ns n.id ∙ ap op_of e in (
+      b,
+      narrowed catalogue s (as_ops ns) n.id (nodes-lawful (without n.id ns) b) (nodes-lawful ns a) (without_history n.id ns) (as_op n) held old new elders youngers t c r,
+    )

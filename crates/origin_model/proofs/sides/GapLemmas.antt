@@ -1,0 +1,78 @@
+-- An element placed in an ordered list stands in the gap that its neighbour tells.
+use Rattle.std.proofs.Common.{Bool, List, [], ap, false, inl, inr, sym, true, ◌∙◌, ◌∷◌, ◌≡◌, ◌≢◌, ◌⊎◌}
+use Rattle.std.specs.List.{Contains}
+use Rattle.std.specs.Prelude.{if◌then◌else◌}
+use Rattle.std.proofs.lemmas.Bool.{cases_Bool, false_from_ne_true, true≢false}
+use Rattle.fugue_ids.specs.Identifiers.{Identifier}
+use Rattle.fugue_ids.proofs.IdentifierLemmas.{cases_id, eq-id_eq, ne-id_eq}
+use Rattle.fugue_ids.proofs.ListLemmas.{all_from_contains, all_pairs_tail, contains_cases, contains_here, contains_none, contains_there}
+use Rattle.origin_model.specs.order.Order.{IsOrderedBy, placed}
+use Rattle.origin_model.specs.sides.Slot.{behind, in_front}
+use Rattle.origin_model.proofs.order.ListPartLemmas.{first_before, in_rest}
+use Rattle.origin_model.proofs.order.OrderedListLemmas.{no_loop, placed-behind, placed-first}
+
+-- behind a first member
+behind-own : (y x e : Identifier) (es : List Identifier) → e ≡ y → behind y x (e ∷ es) ≡ e ∷ x ∷ es
+behind-own y x e es d = ap (λ b. if b then e ∷ x ∷ es else e ∷ behind y x es) (eq-id_eq e y d)
+
+-- behind a later member
+behind-other : (y x e : Identifier) (es : List Identifier) → e ≢ y → behind y x (e ∷ es) ≡ e ∷ behind y x es
+behind-other y x e es d = ap (λ b. if b then e ∷ x ∷ es else e ∷ behind y x es) (ne-id_eq e y d)
+
+-- before a first member
+front-own : (y x e : Identifier) (es : List Identifier) → e ≡ y → in_front y x (e ∷ es) ≡ x ∷ e ∷ es
+front-own y x e es d = ap (λ b. if b then x ∷ e ∷ es else e ∷ in_front y x es) (eq-id_eq e y d)
+
+-- before a later member
+front-other : (y x e : Identifier) (es : List Identifier) → e ≢ y → in_front y x (e ∷ es) ≡ e ∷ in_front y x es
+front-other y x e es d = ap (λ b. if b then x ∷ e ∷ es else e ∷ in_front y x es) (ne-id_eq e y d)
+
+-- a list in a strict order
+module _ (R : Identifier → Identifier → Bool) (irrefl : (a : Identifier) → R a a ≡ false) (trans : (a b c : Identifier) → R a b ≡ true → R b c ≡ true → R a c ≡ true) where
+  -- what stands behind y, and before all that stands behind y, is placed directly behind y
+  pub placed-after : (x y : Identifier) (o : List Identifier) → IsOrderedBy R o → Contains o y → R y x ≡ true
+      → ((e : Identifier) → Contains o e → R e x ≡ true → (e ≡ y) ⊎ (R e y ≡ true)) → placed (λ e. R e x) o x ≡ behind y x o
+  placed-after x y [] v m k f = absurd (contains_none y m)
+  placed-after x y (e ∷ es) v m k f =
+      elim (cases_id e y) [
+        | inl d ↦
+            placed-behind (λ z. R z x) e es x (ap (λ z. R z x) d ∙ k)
+            ∙ ap (λ t. e ∷ t) (placed-first (λ z. R z x) es x (all_from_contains (λ z. R z x ≡ false) es (λ z n.
+            let ez : R e z ≡ true = first_before R e z es v n in
+            false_from_ne_true (R z x) (λ j. elim (f z (contains_there e es z n) j) [
+              | inl c ↦ true≢false (sym ez ∙ ap (R e) (c ∙ sym d) ∙ irrefl e)
+              | inr c ↦ no_loop R irrefl trans e z ez (ap (R z) d ∙ c)
+            ]))))
+            ∙ sym (behind-own y x e es d)
+        | inr d ↦
+            let n : Contains es y = in_rest e es y (λ c. d (sym c)) m in
+            placed-behind (λ z. R z x) e es x (trans e y x (first_before R e y es v n) k)
+            ∙ ap (λ t. e ∷ t) (placed-after x y es (all_pairs_tail (λ a b. R a b ≡ true) e es v) n k (λ z j. f z (contains_there e es z j)))
+            ∙ sym (behind-other y x e es d)
+      ]
+
+  -- what stands before y, and behind all that stands before y, is placed directly before y
+  pub placed-before : (x y : Identifier) (o : List Identifier) → IsOrderedBy R o → Contains o y → R x y ≡ true
+      → ((e : Identifier) → Contains o e → R e x ≡ false → R x e ≡ true)
+      → ((e : Identifier) → Contains o e → R x e ≡ true → (e ≡ y) ⊎ (R y e ≡ true)) → placed (λ e. R e x) o x ≡ in_front y x o
+  placed-before x y [] v m k t f = absurd (contains_none y m)
+  placed-before x y (e ∷ es) v m k t f =
+      elim (cases_id e y) [
+        | inl d ↦
+            placed-first (λ z. R z x) (e ∷ es) x (all_from_contains (λ z. R z x ≡ false) (e ∷ es) (λ z n.
+            false_from_ne_true (R z x) (λ j. no_loop R irrefl trans x z (elim (contains_cases e es z n) [
+              | inl c ↦ ap (R x) (sym c ∙ d) ∙ k
+              | inr c ↦ trans x y z k (ap (λ q. R q z) (sym d) ∙ first_before R e z es v c)
+            ]) j)))
+            ∙ sym (front-own y x e es d)
+        | inr d ↦
+            let n : Contains es y = in_rest e es y (λ c. d (sym c)) m in
+            let here : Contains (e ∷ es) e = contains_here e es in
+            let ex : R e x ≡ true = elim (cases_Bool (R e x)) [
+              | inl j ↦ j
+              | inr j ↦ elim (f e here (t e here j)) [ inl c ↦ absurd (d c) | inr c ↦ absurd (no_loop R irrefl trans e y (first_before R e y es v n) c) ]
+            ] in
+            placed-behind (λ z. R z x) e es x ex
+            ∙ ap (λ l. e ∷ l) (placed-before x y es (all_pairs_tail (λ a b. R a b ≡ true) e es v) n k (λ z j. t z (contains_there e es z j)) (λ z j. f z (contains_there e es z j)))
+            ∙ sym (front-other y x e es d)
+      ]

@@ -1,0 +1,57 @@
+-- The siblings of a new element compare with it as at a fork of two chains.
+use Rattle.std.proofs.Common.{Bool, List, ap, false, sym, true, ◌∙◌, ◌∷◌, ◌≡◌, ◌≢◌, subst}
+use Rattle.std.specs.Prelude.{Some}
+use Rattle.std.proofs.lemmas.Bool.{true≢false}
+use Rattle.fugue_ids.specs.Identifiers.{Identifier}
+use Rattle.fugue_ids.specs.declared.op.Op.{Op}
+use Rattle.origin_model.specs.operations.History.{element_of, is_own, right_of}
+use Rattle.origin_model.specs.order.Order.{fork_before, order, index_of_origin, right_at, ranked}
+use Rattle.origin_model.specs.sides.Slot.{IsParted, goes_before}
+use Rattle.origin_model.specs.operations.Verdict.{Lawful}
+use Rattle.origin_model.specs.declared.operations.place.Place.{Place}
+use Rattle.origin_model.proofs.operations.LookupLemmas.{IsHeld, holder-own}
+use Rattle.origin_model.proofs.operations.OperationLemmas.{element_own}
+use Rattle.origin_model.proofs.order.OrderLemmas.{right-older}
+use Rattle.origin_model.proofs.operations.ReadyLemmas.{held_not_own, right_by, when_ready}
+use Rattle.origin_model.proofs.order.StrictOrderLemmas.{fork-total}
+use Rattle.std.specs.List.{All, Contains}
+use Rattle.std.proofs.lemmas.List.Elements.{All-contains, Contains-append_left, Contains-append_right}
+use Rattle.fugue_ids.proofs.ListLemmas.{all_from_contains}
+
+-- a new element x of the place
+module _ (p : Place) (op : Op) (older : List Op) (x : Identifier) (w : Lawful (op ∷ older)) (at : element_of p op ≡ Some x) where
+  -- the comparison at a fork of the longer history
+  abbrev fork : Identifier → Identifier → Bool
+  fork = fork_before (order p older) (op ∷ older)
+
+  -- a held element compares with x as at a fork
+  goes-fork : (v : Identifier) → IsHeld older v → goes_before (order p older) older op x v ≡ fork v x
+  goes-fork v k =
+      let there : right_at (op ∷ older) x ≡ right_of op = ap right_by (holder-own op older x (element_own p op x at)) in
+      λ i. ranked (index_of_origin (order p older) (sym (right-older p op older w v k) i)) (index_of_origin (order p older) (sym there i)) v x
+
+  -- a held element is not x
+  held_apart : (v : Identifier) → IsHeld older v → v ≢ x
+  held_apart v k d = true≢false (sym (element_own p op x at) ∙ ap (λ z. is_own z op) (sym d) ∙ held_not_own op older v (when_ready older op w.0) k)
+
+  -- siblings that are held, parted where x goes in
+  module _ (children elders youngers : List Identifier) (held : (v : Identifier) → Contains children v → IsHeld older v) (c : IsParted (order p older) older op x children elders youngers) where
+    -- the elder ones are held
+    elder_held : (v : Identifier) → Contains elders v → IsHeld older v
+    elder_held v m = held v (subst (λ l. Contains l v) (sym c.whole) (Contains-append_left elders youngers v m))
+
+    -- the younger ones are held
+    younger_held : (v : Identifier) → Contains youngers v → IsHeld older v
+    younger_held v m = held v (subst (λ l. Contains l v) (sym c.whole) (Contains-append_right elders youngers v m))
+
+    -- the elder ones go before x
+    pub elders_first : All (λ v. fork v x ≡ true) elders
+    elders_first =
+        all_from_contains (λ v. fork v x ≡ true) elders (λ v m. sym (goes-fork v (elder_held v m)) ∙ All-contains (λ z. goes_before (order p older) older op x z ≡ true) elders v c.elder m)
+
+    -- x goes before the younger ones
+    pub youngers_last : All (λ v. fork x v ≡ true) youngers
+    youngers_last =
+        all_from_contains (λ v. fork x v ≡ true) youngers (λ v m.
+        let k = younger_held v m in
+        fork-total (order p older) (op ∷ older) v x (held_apart v k) (sym (goes-fork v k) ∙ All-contains (λ z. goes_before (order p older) older op x z ≡ false) youngers v c.younger m))

@@ -1,0 +1,6 @@
+-- Lemmas on taking in.
+pub mod ClosureLawLemmas
+pub mod ClosureLemmas
+pub mod KeptLemmas
+pub mod SettlingLemmas
+pub mod TakingLemmas

@@ -1,0 +1,236 @@
+-- What holds of the state that taking in leads to: each operation that was taken in is accepted, waits, or names one that is held and does not fit.
+use Rattle.std.proofs.Common.{Bool, if◌then◌else◌, List, [], ap, false, inl, inr, length, nat_eq, refl, subst, sym, true, ℕ, ◌++◌, ◌+◌, ◌||◌, ◌∙◌, ◌∷◌, ◌≡◌, ◌≢◌, ◌⊎◌}
+use Rattle.std.proofs.lemmas.List.Elements.{All-head, All-tail}
+use Rattle.std.proofs.lemmas.Bool.{cases_Bool, false_from_ne_true, false≢true, or_cases, or_from, or_left, or_parts, or_right, true≢false}
+use Rattle.fugue_ids.specs.Identifiers.{Identifier}
+use Rattle.fugue_ids.specs.Ops.{id_of, op_eq}
+use Rattle.fugue_ids.specs.declared.op.Op.{Op}
+use Rattle.origin_model.specs.taking.Closure.{Consistent, WithinLimits}
+use Rattle.origin_model.specs.order.Laws.{IsPartOf, SameOps}
+use Rattle.origin_model.specs.operations.History.{has_op}
+use Rattle.origin_model.specs.taking.Taking.{Held, Answer, Accepted, Again as AnsweredAgain, Conflict as AnsweredConflict, Full, Stray as AnsweredStray, TooMany, Waits, answer, answer_by, answers_from, held_from, intake, is_decided, joined, settle, settled_within, taken}
+use Rattle.origin_model.specs.operations.Verdict.{Lawful, id_held, verdict}
+use Rattle.origin_model.specs.declared.operations.verdict.Verdict.{Verdict}
+use Rattle.origin_model.specs.declared.operations.verdict.Verdict.TheVariants.{Again, Conflict, Missing, Ready, Stray}
+use Rattle.fugue_ids.proofs.OpLemmas.{op_eq-refl, op_eq-true}
+use Rattle.origin_model.proofs.operations.OperationLemmas.{own_id}
+use Rattle.origin_model.proofs.operations.LookupLemmas.{holder-has, holder_owns}
+use Rattle.origin_model.proofs.order.PartLemmas.{Within-append}
+use Rattle.origin_model.proofs.operations.CauseLemmas.{Dead, dead_within, stray_dead}
+use Rattle.origin_model.proofs.operations.HasOpLemmas.{has-append, swap_or}
+use Rattle.origin_model.proofs.taking.ClosureLemmas.{taken_by}
+use Rattle.origin_model.proofs.taking.SettlingLemmas.{IsEarliest, earliest_found, within-none, within-some, without}
+
+-- what is so of a state when the operations `done` were taken in
+pub record Covers (done : List Op) (s : Held) : Type 0 where
+  pub lawful : Lawful s.history
+  pub history_part : IsPartOf s.history done
+  pub waiting_part : IsPartOf s.waiting done
+  pub decided : (op : Op) → has_op done op ≡ true → has_op s.history op ≡ false → has_op s.waiting op ≡ false → Dead s.history op
+
+-- a list covers what any list with the same operations covers
+Covers-same : (a b : List Op) (s : Held) → SameOps a b → Covers a s → Covers b s
+Covers-same a b s e c =
+    record {
+      lawful = c.lawful;
+      history_part = λ x m. sym (e x) ∙ c.history_part x m;
+      waiting_part = λ x m. sym (e x) ∙ c.waiting_part x m;
+      decided = λ x m n o. c.decided x (e x ∙ m) n o;
+    }
+
+-- a decided verdict is Ready or Stray
+decided_is : (v : Verdict) → is_decided v ≡ true → (v ≡ Ready) ⊎ ((i : Identifier) × (v ≡ Stray i))
+decided_is Again h = absurd (false≢true h)
+decided_is Conflict h = absurd (false≢true h)
+decided_is (Stray i) h = inr (i, refl)
+decided_is (Missing i) h = absurd (false≢true h)
+decided_is Ready h = inl refl
+
+-- it stays so as one operation leaves those that wait
+covers_step : (done : List Op) (s : Held) (r : Op × List Op) → Covers done s → IsEarliest s.history s.waiting r → Covers done (without s r)
+covers_step done s r c e =
+    let h : List Op = s.history in
+    let came : (x : Op) → has_op r.1 x ≡ true → has_op done x ≡ true = λ x m. c.waiting_part x (e.same x ∙ or_right (op_eq r.0 x) (has_op r.1 x) m) in
+    let it : has_op done r.0 ≡ true = c.waiting_part r.0 (e.same r.0 ∙ or_left (op_eq r.0 r.0) (has_op r.1 r.0) (op_eq-refl r.0)) in
+    elim (decided_is (verdict h r.0) e.ready) [
+      | inl v ↦
+          let w : Lawful (r.0 ∷ h) = (v, c.lawful) in
+          let g : List Op → Held = λ k. record { history = k; waiting = r.1 } in
+          subst (λ k. Covers done (g k)) (sym (ap (λ x. joined x r.0 h) v))
+          (record {
+            lawful = w;
+            history_part = λ x m. elim (or_cases (op_eq r.0 x) (has_op h x) m) [ inl q ↦ subst (λ y. has_op done y ≡ true) (op_eq-true r.0 x q) it | inr j ↦ c.history_part x j ];
+            waiting_part = came;
+            decided = λ x m n o.
+                let p = or_parts (op_eq r.0 x) (has_op h x) n in
+                dead_within h (r.0 ∷ h) x (Within-append (r.0 ∷ []) h w) (c.decided x m p.1 (e.same x ∙ or_from (op_eq r.0 x) (has_op r.1 x) p.0 o));
+          })
+      | inr v ↦
+          let g : List Op → Held = λ k. record { history = k; waiting = r.1 } in
+          subst (λ k. Covers done (g k)) (sym (ap (λ x. joined x r.0 h) v.1))
+          (record {
+            lawful = c.lawful;
+            history_part = c.history_part;
+            waiting_part = came;
+            decided = λ x m n o. elim (cases_Bool (op_eq r.0 x)) [
+              | inl q ↦ subst (Dead h) (op_eq-true r.0 x q) (stray_dead h r.0 v.0 v.1)
+              | inr q ↦ c.decided x m n (e.same x ∙ or_from (op_eq r.0 x) (has_op r.1 x) q o)
+            ];
+          })
+    ]
+
+-- it stays so over any number of steps
+settled_covers : (done room : List Op) (s : Held) → Covers done s → Covers done (settled_within room s)
+settled_covers done [] s c = c
+settled_covers done (o ∷ room) s c =
+    elim (earliest_found s.history s.waiting) [
+      | inl k ↦ subst (Covers done) (sym (within-none o room s k.0)) c
+      | inr k ↦ subst (Covers done) (sym (within-some o room s k.0 k.1)) (settled_covers done room (without s k.0) (covers_step done s k.0 c k.2))
+    ]
+
+-- it stays so while settling
+settle_covers : (done : List Op) (s : Held) → Covers done s → Covers done (settle s)
+unfolding settle
+settle_covers done s c = settled_covers done s.waiting s c
+
+-- an operation that is there is answered Again
+answer-again : (hold most : ℕ) (s : Held) (op : Op) → (has_op s.history op || has_op s.waiting op) ≡ true → answer hold most s op ≡ AnsweredAgain
+answer-again hold most s op e = rw (e, answer)
+
+-- the answer where the operation is not there
+abbrev fresh_answer : (hold most : ℕ) → Held → Op → Answer
+fresh_answer hold most s op =
+    if id_held s.history (id_of op) || id_held s.waiting (id_of op) then AnsweredConflict
+    else answer_by (nat_eq (length s.history + length s.waiting) most) (nat_eq (length s.waiting) hold) (verdict s.history op)
+
+-- that is the answer
+answer-fresh : (hold most : ℕ) (s : Held) (op : Op) → (has_op s.history op || has_op s.waiting op) ≡ false → answer hold most s op ≡ fresh_answer hold most s op
+answer-fresh hold most s op e = rw (e, answer)
+
+-- where its identifier is new too, the verdict and the limits decide
+fresh-by : (hold most : ℕ) (s : Held) (op : Op) → (id_held s.history (id_of op) || id_held s.waiting (id_of op)) ≡ false
+    → fresh_answer hold most s op ≡ answer_by (nat_eq (length s.history + length s.waiting) most) (nat_eq (length s.waiting) hold) (verdict s.history op)
+fresh-by hold most s op e = rw (e, fresh_answer)
+
+-- what is answered where the identifier is new too
+abbrev Cases : Verdict → Answer → Type 0
+Cases v a = ((i : Identifier) × (v ≡ Stray i) × (a ≡ AnsweredStray i)) ⊎ ((a ≡ TooMany) ⊎ (((v ≡ Ready) × (a ≡ Accepted)) ⊎ ((a ≡ Full) ⊎ (a ≡ Waits))))
+
+-- these are all the cases
+answer_cases : (t f : Bool) (v : Verdict) → Cases v (answer_by t f v)
+answer_cases t f (Stray i) = inl (i, refl, refl)
+answer_cases true f Again = inr (inl refl)
+answer_cases true f Conflict = inr (inl refl)
+answer_cases true f (Missing i) = inr (inl refl)
+answer_cases true f Ready = inr (inl refl)
+answer_cases false f Ready = inr (inr (inl (refl, refl)))
+answer_cases false true Again = inr (inr (inr (inl refl)))
+answer_cases false true Conflict = inr (inr (inr (inl refl)))
+answer_cases false true (Missing i) = inr (inr (inr (inl refl)))
+answer_cases false false Again = inr (inr (inr (inr refl)))
+answer_cases false false Conflict = inr (inr (inr (inr refl)))
+answer_cases false false (Missing i) = inr (inr (inr (inr refl)))
+
+-- it stays so where the operation is there already, or names one that does not fit
+grow : (done : List Op) (s : Held) (op : Op) → Covers done s → (has_op s.history op ≡ false → has_op s.waiting op ≡ false → Dead s.history op) → Covers (op ∷ done) s
+grow done s op c d =
+    record {
+      lawful = c.lawful;
+      history_part = λ x m. or_right (op_eq op x) (has_op done x) (c.history_part x m);
+      waiting_part = λ x m. or_right (op_eq op x) (has_op done x) (c.waiting_part x m);
+      decided = λ x m n o. elim (or_cases (op_eq op x) (has_op done x) m) [
+        | inl q ↦ let e : op ≡ x = op_eq-true op x q in
+            subst (Dead s.history) e (d (ap (has_op s.history) e ∙ n) (ap (has_op s.waiting) e ∙ o))
+        | inr j ↦ c.decided x j n o
+      ];
+    }
+
+-- it stays so where a Ready operation is accepted
+accept_covers : (done : List Op) (s : Held) (op : Op) → Covers done s → verdict s.history op ≡ Ready → Covers (op ∷ done) (record { history = op ∷ s.history; waiting = s.waiting })
+accept_covers done s op c v =
+    let w : Lawful (op ∷ s.history) = (v, c.lawful) in
+    record {
+      lawful = w;
+      history_part = λ x m. elim (or_cases (op_eq op x) (has_op s.history x) m) [ inl q ↦ or_left (op_eq op x) (has_op done x) q | inr j ↦ or_right (op_eq op x) (has_op done x) (c.history_part x j) ];
+      waiting_part = λ x m. or_right (op_eq op x) (has_op done x) (c.waiting_part x m);
+      decided = λ x m n o.
+          let p = or_parts (op_eq op x) (has_op s.history x) n in
+          elim (or_cases (op_eq op x) (has_op done x) m) [
+            | inl q ↦ absurd (true≢false (sym q ∙ p.0))
+            | inr j ↦ dead_within s.history (op ∷ s.history) x (Within-append (op ∷ []) s.history w) (c.decided x j p.1 o)
+          ];
+    }
+
+-- it stays so where an operation waits
+wait_covers : (done : List Op) (s : Held) (op : Op) → Covers done s → Covers (op ∷ done) (record { history = s.history; waiting = s.waiting ++ op ∷ [] })
+wait_covers done s op c =
+    record {
+      lawful = c.lawful;
+      history_part = λ x m. or_right (op_eq op x) (has_op done x) (c.history_part x m);
+      waiting_part = λ x m. elim (or_cases (has_op s.waiting x) (has_op (op ∷ []) x) (sym (has-append s.waiting (op ∷ []) x) ∙ m)) [
+        | inl j ↦ or_right (op_eq op x) (has_op done x) (c.waiting_part x j)
+        | inr j ↦ elim (or_cases (op_eq op x) false j) [ inl q ↦ or_left (op_eq op x) (has_op done x) q | inr k ↦ absurd (false≢true k) ]
+      ];
+      decided = λ x m n o.
+          let p = or_parts (has_op s.waiting x) (has_op (op ∷ []) x) (sym (has-append s.waiting (op ∷ []) x) ∙ o) in
+          let q = or_parts (op_eq op x) false p.1 in
+          elim (or_cases (op_eq op x) (has_op done x) m) [ inl k ↦ absurd (true≢false (sym k ∙ q.0)) | inr j ↦ c.decided x j n p.0 ];
+    }
+
+-- in a consistent list an identifier is held only by the operation itself
+no_conflict : (all h : List Op) (op : Op) → Consistent all → IsPartOf h all → has_op all op ≡ true → has_op h op ≡ false → id_held h (id_of op) ≡ false
+no_conflict all h op k f m n =
+    false_from_ne_true (id_held h (id_of op)) (λ e.
+    let r = taken_by h (id_of op) e in
+    let hh = holder-has h r.0 r.1 r.3 in
+    true≢false (sym (subst (λ x. has_op h x ≡ true) (k r.1 op r.0 (f r.1 hh) m (own_id r.1 r.0 (holder_owns h r.0 r.1 r.3)) r.2) hh) ∙ n))
+
+-- it stays so by any answer but Full and TooMany
+taken_covers : (hold most : ℕ) (all done : List Op) (s : Held) (op : Op) → Consistent all → IsPartOf done all → has_op all op ≡ true → Covers done s
+    → (answer hold most s op ≢ Full) × (answer hold most s op ≢ TooMany) → Covers (op ∷ done) (taken (answer hold most s op) s op)
+taken_covers hold most all done s op k f m c n =
+    let G : Answer → Type 0 = λ a. Covers (op ∷ done) (taken a s op) in
+    elim (cases_Bool (has_op s.history op || has_op s.waiting op)) [
+      | inl t ↦ subst G (sym (answer-again hold most s op t)) (grow done s op c (λ x y. absurd (true≢false (sym t ∙ or_from (has_op s.history op) (has_op s.waiting op) x y))))
+      | inr t ↦
+          let p = or_parts (has_op s.history op) (has_op s.waiting op) t in
+          let free = or_from _ _
+          (no_conflict all s.history op k (λ x j. f x (c.history_part x j)) m p.0)
+          (no_conflict all s.waiting op k (λ x j. f x (c.waiting_part x j)) m p.1) in
+          let a : Answer = answer_by (nat_eq (length s.history + length s.waiting) most) (nat_eq (length s.waiting) hold) (verdict s.history op) in
+          let e : answer hold most s op ≡ a = answer-fresh hold most s op t ∙ fresh-by hold most s op free in
+          subst G (sym e)
+          (elim (answer_cases (nat_eq (length s.history + length s.waiting) most) (nat_eq (length s.waiting) hold) (verdict s.history op)) [
+            | inl q ↦ subst G (sym q.2) (grow done s op c (λ x y. stray_dead s.history op q.0 q.1))
+            | inr q ↦ elim q [
+              | inl r ↦ absurd (n.1 (e ∙ r))
+              | inr r ↦ elim r [
+                | inl v ↦ subst G (sym v.1) (accept_covers done s op c v.0)
+                | inr v ↦ elim v [
+                  | inl u ↦ absurd (n.0 (e ∙ u))
+                  | inr u ↦ subst G (sym u) (wait_covers done s op c)
+                ]
+              ]
+            ]
+          ])
+    ]
+
+-- an operation in front of two lists, or between them
+has-moved : (op : Op) (ops done : List Op) (x : Op) → has_op (ops ++ op ∷ done) x ≡ (op_eq op x || has_op (ops ++ done) x)
+has-moved op [] done x = refl
+has-moved op (o ∷ ops) done x = ap (λ t. op_eq o x || t) (has-moved op ops done x) ∙ swap_or (op_eq o x) (op_eq op x) (has_op (ops ++ done) x)
+
+-- it stays so over a list that is part of a consistent one and meets no limit
+pub fold_covers : (hold most : ℕ) (all ops done : List Op) (s : Held) → Consistent all → IsPartOf (ops ++ done) all → Covers done s
+    → WithinLimits (answers_from hold most s ops) → Covers (ops ++ done) (held_from hold most s ops)
+fold_covers hold most all [] done s k f c n = c
+fold_covers hold most all (op ∷ ops) done s k f c n =
+    let m : has_op all op ≡ true = f op (or_left (op_eq op op) (has_op (ops ++ done) op) (op_eq-refl op)) in
+    let Within : Answer → Type 0 = λ a. (a ≢ Full) × (a ≢ TooMany) in
+    let rest = answers_from hold most (intake hold most s op) ops in
+    let t = taken_covers hold most all done s op k (λ x j. f x (has-append (op ∷ ops) done x ∙ or_right (has_op (op ∷ ops) x) (has_op done x) j)) m c (All-head Within (answer hold most s op) rest n) in
+    Covers-same (ops ++ op ∷ done) (op ∷ (ops ++ done)) (held_from hold most (intake hold most s op) ops) (has-moved op ops done)
+    (fold_covers hold most all ops (op ∷ done) (intake hold most s op) k
+    (λ x j. f x (sym (has-moved op ops done x) ∙ j))
+    (settle_covers (op ∷ done) (taken (answer hold most s op) s op) t)
+    (All-tail Within (answer hold most s op) rest n))

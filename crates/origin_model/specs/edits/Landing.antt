@@ -1,0 +1,47 @@
+-- Where an element lands whose origins stand next to each other.
+use Rattle.std.specs.Prelude.{◌≡◌, Option, Some, None, List, [], ◌∷◌, ◌++◌, Contains, IfSome, if◌then◌else◌}
+use Rattle.fugue_ids.specs.Identifiers.{Identifier, id_eq}
+use Rattle.fugue_ids.specs.declared.op.Op.{Op}
+use Rattle.origin_model.specs.operations.History.{left_of, right_of, element_of}
+use Rattle.origin_model.specs.order.Order.{order}
+use Rattle.origin_model.specs.operations.Verdict.{Lawful}
+use Rattle.origin_model.specs.declared.operations.place.Place.{Place}
+
+-- the last of the elements so far: the start, where there is none
+abbrev pub end_of : List Identifier → Option Identifier
+end_of [] = None
+end_of (e ∷ []) = Some e
+end_of (e ∷ f ∷ es) = end_of (f ∷ es)
+
+-- the first of the elements that follow: the end, where there is none
+abbrev pub head_of : List Identifier → Option Identifier
+head_of [] = None
+head_of (e ∷ es) = Some e
+
+-- the element that follows an origin: the first for the start, the end where none follows
+abbrev pub following : List Identifier → Option Identifier → Option Identifier
+following es None = head_of es
+following [] (Some l) = None
+following (e ∷ es) (Some l) = if id_eq e l then head_of es else following es (Some l)
+
+-- an element whose right origin stands directly behind its left origin lands between them
+abbrev pub LandsBehind : Type 0
+LandsBehind =
+    (p : Place) (op : Op) (older : List Op) (x : Identifier) (front back : List Identifier) → Lawful (op ∷ older) → element_of p op ≡ Some x
+    → order p older ≡ front ++ back → left_of op ≡ end_of front → right_of op ≡ head_of back
+    → order p (op ∷ older) ≡ front ++ x ∷ back
+
+-- new elements stand directly behind a left origin, in their order, and the others as before
+pub record StandsBehind (left : Option Identifier) (new before after : List Identifier) : Type 0 where
+  pub front : List Identifier
+  pub back : List Identifier
+  pub was : before ≡ front ++ back
+  pub origin : end_of front ≡ left
+  pub is : after ≡ front ++ new ++ back
+
+-- the same law by the element that follows the left origin, which is the start or an element of the place
+abbrev pub LandsBehindOrigin : Type 0
+LandsBehindOrigin =
+    (p : Place) (op : Op) (older : List Op) (x : Identifier) → Lawful (op ∷ older) → element_of p op ≡ Some x
+    → IfSome (left_of op) (λ l. Contains (order p older) l) → right_of op ≡ following (order p older) (left_of op)
+    → StandsBehind (left_of op) (x ∷ []) (order p older) (order p (op ∷ older))

@@ -1,0 +1,2 @@
+-- The file of a replica.
+pub mod Image

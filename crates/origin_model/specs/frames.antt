@@ -1,0 +1,2 @@
+-- The bytes of operations.
+pub mod Frames

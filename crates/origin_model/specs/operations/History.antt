@@ -1,0 +1,59 @@
+-- Operations, looked up in a history. A history is the list of the accepted operations, the newest first.
+use Rattle.std.specs.Prelude.{Option, Some, None, is_some, Bool, true, false, if◌then◌else◌, ◌||◌, List, [], ◌∷◌, reverse}
+use Rattle.fugue_ids.specs.Identifiers.{Identifier, id_eq, origin_eq}
+use Rattle.fugue_ids.specs.Ops.{id_of, op_eq}
+use Rattle.fugue_ids.specs.declared.op.Op.{Op}
+use Rattle.fugue_ids.specs.declared.op.Op.TheVariants.{Section, Text, Delete}
+use Rattle.origin_model.specs.declared.operations.place.Place.{Place}
+use Rattle.origin_model.specs.declared.operations.place.Place.TheVariants.{Catalogue as catalogue, Section as within}
+
+-- the accepted operations in the order in which they were accepted
+abbrev pub accepted : List Op → List Op
+accepted history = reverse history
+
+-- the origins of an element; a Delete has none
+abbrev pub left_of : Op → Option Identifier
+left_of (Section id left right title) = left
+left_of (Text id section left right ch) = left
+left_of (Delete target) = None
+
+abbrev pub right_of : Op → Option Identifier
+right_of (Section id left right title) = right
+right_of (Text id section left right ch) = right
+right_of (Delete target) = None
+
+-- where an operation stands; a Delete stands nowhere
+abbrev pub place : Op → Option Place
+place (Section id left right title) = Some catalogue
+place (Text id section left right ch) = Some (within section)
+place (Delete target) = None
+
+abbrev pub place_eq : Place → Place → Bool
+place_eq catalogue catalogue = true
+place_eq catalogue (within t) = false
+place_eq (within s) catalogue = false
+place_eq (within s) (within t) = id_eq s t
+
+-- the element that an operation adds to a place
+abbrev pub element_of : Place → Op → Option Identifier
+element_of catalogue (Section id left right title) = Some id
+element_of (within s) (Text id section left right ch) = if id_eq section s then Some id else None
+element_of _ _ = None
+
+-- the operation has this identifier of its own
+abbrev pub is_own : Identifier → Op → Bool
+is_own i op = origin_eq (id_of op) (Some i)
+
+-- the operation of the history whose own identifier is i
+abbrev pub holder : List Op → Identifier → Option Op
+holder [] i = None
+holder (op ∷ older) i = if is_own i op then Some op else holder older i
+
+-- an operation of the history has the identifier i
+abbrev pub holds : List Op → Identifier → Bool
+holds history i = is_some (holder history i)
+
+-- the operation is in the list
+abbrev pub has_op : List Op → Op → Bool
+has_op [] op = false
+has_op (o ∷ ops) op = op_eq o op || has_op ops op

@@ -1,0 +1,4 @@
+-- The tree of sides, by which the order of a place is found.
+pub mod Slot
+pub mod Node
+pub mod Detached

@@ -1,0 +1,116 @@
+-- The order of a place by sides: a tree whose nodes have left and right children, after Weidner and Kleppmann, "The Art of the Fugue".
+use Rattle.std.specs.Prelude.{◌≡◌, Option, Some, None, Bool, true, false, if◌then◌else◌, List, [], ◌∷◌, ◌++◌}
+use Rattle.std.specs.List.{All, Contains}
+use Rattle.fugue_ids.specs.Identifiers.{Identifier, id_eq}
+use Rattle.fugue_ids.specs.declared.gap.Gap.{Gap}
+use Rattle.fugue_ids.specs.declared.gap.Gap.TheVariants.{Alone, Before, After}
+use Rattle.fugue_ids.specs.declared.op.Op.{Op}
+use Rattle.origin_model.specs.operations.History.{holder, left_of, right_of, element_of}
+use Rattle.origin_model.specs.order.Order.{IsOrderedBy, has_left, order, fork_before, index_of_origin, ranked, right_at}
+use Rattle.origin_model.specs.declared.operations.place.Place.{Place}
+use Rattle.origin_model.specs.declared.sides.slot.Slot.{Slot}
+use Rattle.origin_model.specs.declared.sides.slot.Slot.TheVariants.{LeftOf, RightOf}
+
+-- where an element with these origins hangs: a left child of the right origin exactly where that is an element with the same left origin,
+-- otherwise a right child of the left origin
+abbrev pub slot_by : List Op → Option Identifier → Option Identifier → Slot
+slot_by history left None = RightOf left
+slot_by history left (Some r) = if has_left history r left then LeftOf r else RightOf left
+
+-- where an element hangs
+abbrev pub slot_of : List Op → Op → Slot
+slot_of history op = slot_by history (left_of op) (right_of op)
+
+-- v is an element of p that hangs in the slot
+pub record IsChild (p : Place) (h : List Op) (s : Slot) (v : Identifier) : Type 0 where
+  pub op : Op
+  pub held : holder h v ≡ Some op
+  pub place : element_of p op ≡ Some v
+  pub slot : slot_of h op ≡ s
+
+-- the tables of a place: each slot has its children, in order
+pub record IsTable (p : Place) (h : List Op) (children : Slot → List Identifier) : Type 0 where
+  pub sound : (s : Slot) (v : Identifier) → Contains (children s) v → IsChild p h s v
+  pub full : (s : Slot) (v : Identifier) → IsChild p h s v → Contains (children s) v
+  pub sorted : (s : Slot) → IsOrderedBy (fork_before (order p h) h) (children s)
+
+-- y is the last node below s: the path goes from last right child to last right child
+abbrev pub LastBelow : (Slot → List Identifier) → List Identifier → Identifier → Identifier → Type 0
+LastBelow children [] s y = (children (RightOf (Some s)) ≡ []) × (s ≡ y)
+LastBelow children (v ∷ vs) s y = ((front : List Identifier) × (children (RightOf (Some s)) ≡ front ++ v ∷ [])) × LastBelow children vs v y
+
+-- y is the first node below q: the path goes from first left child to first left child
+abbrev pub FirstBelow : (Slot → List Identifier) → List Identifier → Identifier → Identifier → Type 0
+FirstBelow children [] q y = (children (LeftOf q) ≡ []) × (q ≡ y)
+FirstBelow children (v ∷ vs) q y = ((rest : List Identifier) × (children (LeftOf q) ≡ v ∷ rest)) × FirstBelow children vs v y
+
+-- a sibling v goes before the new element x of the operation, by their right origins
+abbrev pub goes_before : List Identifier → List Op → Op → Identifier → Identifier → Bool
+goes_before finished older op x v = ranked (index_of_origin finished (right_at older v)) (index_of_origin finished (right_of op)) v x
+
+-- the children of a slot, parted where the new element x of the operation goes in
+pub record IsParted (finished : List Identifier) (older : List Op) (op : Op) (x : Identifier) (children elders youngers : List Identifier) : Type 0 where
+  pub whole : children ≡ elders ++ youngers
+  pub elder : All (λ v. goes_before finished older op x v ≡ true) elders
+  pub younger : All (λ v. goes_before finished older op x v ≡ false) youngers
+
+-- y is the last node below the last of the elder siblings
+pub record BehindElder (children : Slot → List Identifier) (elders : List Identifier) (y : Identifier) : Type 0 where
+  pub front : List Identifier
+  pub elder : Identifier
+  pub is_last : elders ≡ front ++ elder ∷ []
+  pub path : List Identifier
+  pub below : LastBelow children path elder y
+
+-- y is the first node below q
+pub record BeforeBlock (children : Slot → List Identifier) (q y : Identifier) : Type 0 where
+  pub path : List Identifier
+  pub below : FirstBelow children path q y
+
+-- y is the first node below the first of the younger siblings
+pub record BeforeFirst (children : Slot → List Identifier) (youngers : List Identifier) (y : Identifier) : Type 0 where
+  pub younger : Identifier
+  pub rest : List Identifier
+  pub is_first : youngers ≡ younger ∷ rest
+  pub block : BeforeBlock children younger y
+
+-- the gap where x has no elder sibling: behind the parent of right children, before the first node below the parent of left children,
+-- before all for the first right child of the start, and alone for its only one
+abbrev pub NoElder : (Slot → List Identifier) → Slot → List Identifier → Gap → Type 0
+NoElder children (RightOf (Some l)) youngers (After y) = l ≡ y
+NoElder children (LeftOf q) youngers (Before y) = BeforeBlock children q y
+NoElder children (RightOf None) youngers (Before y) = BeforeFirst children youngers y
+NoElder children (RightOf None) youngers Alone = youngers ≡ []
+NoElder _ _ _ _ = ⊥
+
+-- the gap where x has elder siblings: behind the last node below the last of them
+abbrev pub HasElder : (Slot → List Identifier) → List Identifier → Gap → Type 0
+HasElder children elders (After y) = BehindElder children elders y
+HasElder _ _ _ = ⊥
+
+-- the gap, by the slot of x and its elder and younger siblings there
+abbrev pub IsGap : (Slot → List Identifier) → Slot → List Identifier → List Identifier → Gap → Type 0
+IsGap children s [] youngers g = NoElder children s youngers g
+IsGap children s (e ∷ es) youngers g = HasElder children (e ∷ es) g
+
+-- x directly behind y
+abbrev pub behind : Identifier → Identifier → List Identifier → List Identifier
+behind y x [] = x ∷ []
+behind y x (e ∷ es) = if id_eq e y then e ∷ x ∷ es else e ∷ behind y x es
+
+-- x directly before y
+abbrev pub in_front : Identifier → Identifier → List Identifier → List Identifier
+in_front y x [] = x ∷ []
+in_front y x (e ∷ es) = if id_eq e y then x ∷ e ∷ es else e ∷ in_front y x es
+
+-- the list with x in the gap
+abbrev pub at_gap : Gap → Identifier → List Identifier → List Identifier
+at_gap Alone x es = x ∷ es
+at_gap (Before y) x es = in_front y x es
+at_gap (After y) x es = behind y x es
+
+-- the gap's neighbour is a member
+abbrev pub IsBeside : Gap → List Identifier → Type 0
+IsBeside Alone es = Unit {0}
+IsBeside (Before y) es = Contains es y
+IsBeside (After y) es = Contains es y

@@ -1,0 +1,3 @@
+-- Taking operations in.
+pub mod Taking
+pub mod Closure

@@ -1,0 +1,17 @@
+//! Operations, looked up among the accepted ones, and what one is to them.
+
+pub(crate) mod lookup;
+pub(crate) mod named;
+pub(crate) mod names;
+mod no_memory_for;
+mod place;
+mod role;
+mod verdict;
+
+pub use lookup::Lookup;
+pub use named::verdict_in;
+pub use names::{Named, left_of, mentioned_by, names_of, right_of};
+pub use no_memory_for::NoMemoryFor;
+pub use place::Place;
+pub use role::Role;
+pub use verdict::Verdict;

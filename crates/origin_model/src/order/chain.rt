@@ -1,0 +1,6 @@
+/// Which origins a chain follows.
+#[derive(Clone, Copy, Debug, PartialEq, Eq)]
+pub enum Chain {
+    Lefts,
+    Rights,
+}

@@ -1,0 +1,5 @@
+mod event;
+mod reply;
+
+pub use event::Event;
+pub use reply::Reply;

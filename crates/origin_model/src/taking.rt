@@ -1,0 +1,5 @@
+//! What is counted while operations are taken in.
+
+mod tally;
+
+pub use tally::Tally;
