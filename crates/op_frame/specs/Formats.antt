@@ -6,7 +6,10 @@ use Rattle.std.specs.Str.{encode_utf8_all}
 use Rattle.fugue_ids.specs.Identifiers.{Identifier}
 use Rattle.fugue_ids.specs.declared.op.Op.{Op}
 use Rattle.fugue_ids.specs.declared.op.Op.TheVariants.{Section, Text, Delete}
-use Rattle.origin_model.specs.Frames.{id_bytes, origin_bytes, title_bytes, scalar_bytes, frame, IsIdentifier, IsOrigin, IsTitle, HasFrame}
+use Rattle.origin_model.specs.frames.Frames.{id_bytes, origin_bytes, title_bytes, scalar_bytes, frame, IsIdentifier, IsOrigin, IsTitle, HasFrame}
+use Rattle.fugue_ids.specs.declared.limits.TheConstants.{LONGEST_TITLE}
+use Rattle.fugue_ids.specs.declared.title.TitleFault.{TitleFault}
+use Rattle.fugue_ids.specs.declared.title.TitleFault.TheVariants.{NoMemory as WantsMemory}
 use Rattle.op_frame.specs.declared.stop.Stop.{Stop}
 use Rattle.op_frame.specs.declared.stop.Stop.TheVariants.{Prefix, Bad, NoMemory}
 
@@ -29,10 +32,9 @@ pub record IsFront {T : Type 0} (format : Format T) (bytes : List ℕ) : Type 0 
   pub lacks : 0 < length more
   pub front : format.spelling value ≡ bytes ++ more
 
--- neither
+-- neither: with no bytes behind them do the bytes begin with a value
 pub record FitsNone {T : Type 0} (format : Format T) (bytes : List ℕ) : Type 0 where
-  pub no_value : (value : T) (rest : List ℕ) → Starts format bytes value rest → ⊥
-  pub no_front : IsFront format bytes → ⊥
+  pub never : (value : T) (rest more : List ℕ) → format.valid value → format.spelling value ++ rest ≡ bytes ++ more → ⊥
 
 abbrev pub Stops : {T : Type 0} → Format T → List ℕ → Stop → Type 0
 Stops format bytes Prefix = IsFront format bytes
@@ -83,11 +85,16 @@ abbrev pub code_of : (high middle low : ℕ) → ℕ
 code_of high middle low = high * 65536 + middle * 256 + low
 
 abbrev pub title_length : Format ℕ
-title_length = record { valid = λ n. (0 < n) × (n ≤ 480); spelling = to_be_bytes w16; takes_memory = ⊥ }
+title_length = record { valid = λ n. (0 < n) × (n ≤ LONGEST_TITLE); spelling = to_be_bytes w16; takes_memory = ⊥ }
 
 -- a title of so many bytes, without the length before it
 abbrev pub title_text : ℕ → Format (List ℕ)
 title_text len = record { valid = λ t. IsTitle t × (length (encode_utf8_all t) ≡ len); spelling = encode_utf8_all; takes_memory = Unit {0} }
+
+-- where a text of the right length is no title, or finds no memory
+abbrev pub stop_for : TitleFault → Stop
+stop_for WantsMemory = NoMemory
+stop_for fault = Bad
 
 -- how many bytes a character has that begins with this byte and is not ASCII
 abbrev pub width_of : ℕ → ℕ

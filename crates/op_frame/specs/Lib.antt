@@ -6,4 +6,4 @@ pub mod Windows
 pub mod Refills
 pub mod Readers
 pub mod Steps
-pub mod Streams
+pub mod Courses

@@ -1,8 +1,7 @@
 -- What taking more bytes of a source does.
 use Rattle.std.specs.Prelude.{◌≡◌, ℕ, ◌+◌, ◌<◌, ◌≤◌, List, [], ◌∷◌, length, Option, Bool, true, false, Result, IfSome, IfOk, IfErr, OnOk, OnErr, IsErrOf, ◌⊎◌}
 use Rattle.std.specs.Io.KnownBytes.{prepend_known}
-use Rattle.fugue_ids.specs.Causes.{Rose}
-use Rattle.outer_ports.specs.Sources.{SourceView}
+use Rattle.outer_ports.specs.Sources.{SourceView, KeepsCount}
 use Rattle.op_frame.specs.declared.fault.FrameFault.{FrameFault}
 use Rattle.op_frame.specs.declared.fault.FrameFault.TheVariants.{ReadFault, TooLong}
 
@@ -15,11 +14,7 @@ pub record Drops (before after : Option (List ℕ)) : Type 0 where
 pub record PastLimit (before after : SourceView) (result : Result Bool FrameFault) : Type 0 where
   pub ends : IfOk result (λ more. (more ≡ false) × (after.left ≡ before.left) × IfSome before.left (λ left. left ≡ []))
   pub faults : IfErr result (λ e. (e ≡ ReadFault) × (after.left ≡ before.left) ⊎ (e ≡ TooLong) × Drops before.left after.left)
-  pub later : before.faults ≤ after.faults
-  pub rose : IsErrOf result ReadFault → Rose before.faults after.faults
-  pub sure : after.sure ≡ before.sure
-  pub succeeds : before.sure ≡ true → (IsErrOf result ReadFault → ⊥)
-  pub calm : before.sure ≡ true → after.faults ≡ before.faults
+  pub count : KeepsCount before after (IsErrOf result ReadFault)
 
 -- more bytes came, at most so many, or none
 abbrev pub Grew : Bool → List ℕ → List ℕ → ℕ → Type 0
@@ -33,8 +28,4 @@ pub record Refills (old new : List ℕ) (before after : SourceView) (room : ℕ)
   pub ends : IfOk result (λ more. more ≡ false → IfSome before.left (λ left. left ≡ []) × IfSome after.left (λ left. left ≡ []))
   pub faults : IfErr result (λ e. (e ≡ ReadFault) × (after.left ≡ before.left) ⊎ (e ≡ TooLong) × (room ≡ 0) × Drops before.left after.left)
   pub kept : OnErr result (new ≡ old)
-  pub later : before.faults ≤ after.faults
-  pub rose : IsErrOf result ReadFault → Rose before.faults after.faults
-  pub sure : after.sure ≡ before.sure
-  pub succeeds : before.sure ≡ true → (IsErrOf result ReadFault → ⊥)
-  pub calm : before.sure ≡ true → after.faults ≡ before.faults
+  pub count : KeepsCount before after (IsErrOf result ReadFault)

@@ -1,8 +1,7 @@
 -- A buffer of bytes that are still to be given, and what filling it does.
-use Rattle.std.specs.Prelude.{◌≡◌, ℕ, ◌+◌, ◌-◌, ◌≤◌, List, [], ◌++◌, length, take, drop, true, Result, IfSome, IfOk, OnErr}
+use Rattle.std.specs.Prelude.{◌≡◌, ℕ, ◌+◌, ◌-◌, ◌≤◌, List, [], ◌++◌, length, take, drop, Result, IsErr, IfSome, IfOk, OnErr}
 use Rattle.std.specs.Io.KnownBytes.{prepend_known}
-use Rattle.fugue_ids.specs.Causes.{HasCause}
-use Rattle.outer_ports.specs.Sources.{SourceView, ReadsSome}
+use Rattle.outer_ports.specs.Sources.{SourceView, ReadsSome, KeepsCount}
 
 pub record Window : Type 0 where
   -- the bytes still to be given
@@ -17,10 +16,7 @@ pub record Filled {E : Type 0} (old new : List ℕ) (before after : SourceView) 
   pub ends : IfOk result (λ n. n ≡ 0 → IfSome before.left (λ left. left ≡ []))
   pub stays : IfOk result (λ n. n ≡ 0 → new ≡ old)
   pub kept : OnErr result ((new ≡ old) × (after.left ≡ before.left))
-  pub cause : HasCause before.faults after.faults result
-  pub sure : after.sure ≡ before.sure
-  pub succeeds : before.sure ≡ true → OnErr result ⊥
-  pub calm : before.sure ≡ true → after.faults ≡ before.faults
+  pub count : KeepsCount before after (IsErr result)
 
 -- a read whose buffer is a part of this one
 pub record Placed {E : Type 0} (old new : List ℕ) (from to : ℕ) (before after : SourceView) (result : Result ℕ E) : Type 0 where

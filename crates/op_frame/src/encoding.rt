@@ -1,5 +1,6 @@
 ghost use Rattle.std.specs.Prelude.{◌≡◌, ◌≤◌, ◌+◌, ◌++◌, length, vec_len, vec_capacity, OnOk, OnErr};
-ghost use Rattle.origin_model.specs.Frames.{frame, id_bytes, origin_bytes, title_bytes, scalar_bytes};
+ghost use Rattle.std.specs.Char.{IsScalar};
+ghost use Rattle.origin_model.specs.frames.Frames.{HasFrame, IsIdentifier, IsOrigin, IsTitle, frame, id_bytes, origin_bytes, title_bytes, scalar_bytes};
 ghost use Rattle.op_frame.specs.Encoded.{Puts};
 
 use crate::operation::{DELETE, SECTION, TEXT};
@@ -10,12 +11,11 @@ const LONGEST_FRAME: usize = 509;
 
 /// Appends the operation's frame.
 pub fn encode(op: &Op, out: &mut Vec<u8>) -> Result<(), NoMemory>
+    ensures has_frame { OnOk result (HasFrame op.now) }
     ensures ok { OnOk result (out.new.items ≡ out.old.items ++ frame op.now) }
     ensures err { OnErr result (out.new.items ≡ out.old.items) }
 {
-    if out.reserve(LONGEST_FRAME).is_err() {
-        return Err(NoMemory);
-    }
+    out.reserve(LONGEST_FRAME)?;
     match op {
         Op::Section {
             id,
@@ -63,7 +63,8 @@ fn put(out: &mut Vec<u8>, bytes: &[u8])
 
 fn put_id(out: &mut Vec<u8>, id: ElementId)
     requires { vec_len out.old + 8 ≤ vec_capacity out.old }
-    ensures { Puts out.old out.new (id_bytes id) }
+    ensures puts { Puts out.old out.new (id_bytes id) }
+    ensures is_identifier { IsIdentifier id }
 {
     put(out, &id.replica.to_be_bytes());
     put(out, &id.counter.to_be_bytes());
@@ -71,7 +72,8 @@ fn put_id(out: &mut Vec<u8>, id: ElementId)
 
 fn put_origin(out: &mut Vec<u8>, origin: Option<ElementId>)
     requires { vec_len out.old + 9 ≤ vec_capacity out.old }
-    ensures { Puts out.old out.new (origin_bytes origin) }
+    ensures puts { Puts out.old out.new (origin_bytes origin) }
+    ensures is_origin { IsOrigin origin }
 {
     match origin {
         None => put(out, &[0]),
@@ -84,7 +86,8 @@ fn put_origin(out: &mut Vec<u8>, origin: Option<ElementId>)
 
 fn put_title(out: &mut Vec<u8>, title: &Title)
     requires { vec_len out.old + 482 ≤ vec_capacity out.old }
-    ensures { Puts out.old out.new (title_bytes title.now) }
+    ensures puts { Puts out.old out.new (title_bytes title.now) }
+    ensures is_title { IsTitle title.now }
 {
     let text = title.as_str();
     put(out, &(text.len() as u16).to_be_bytes());
@@ -93,7 +96,8 @@ fn put_title(out: &mut Vec<u8>, title: &Title)
 
 fn put_scalar(out: &mut Vec<u8>, ch: char)
     requires { vec_len out.old + 3 ≤ vec_capacity out.old }
-    ensures { Puts out.old out.new (scalar_bytes ch) }
+    ensures puts { Puts out.old out.new (scalar_bytes ch) }
+    ensures is_scalar { IsScalar ch }
 {
     put(out, &(ch as u32).to_be_bytes()[1..]);
 }

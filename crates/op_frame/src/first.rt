@@ -25,10 +25,8 @@ pub fn first_frame(alloc: Global, bytes: &[u8]) -> Result<First, NoMemory>
     match first_operation(alloc, bytes) {
         Ok((op, len)) => {
             let mut ops = Vec::new(alloc);
-            match ops.push(op) {
-                Ok(()) => Ok(First::Whole(ops, len)),
-                Err(_) => Err(NoMemory),
-            }
+            ops.push(op)?;
+            Ok(First::Whole(ops, len))
         }
         Err(Stop::Prefix) => Ok(First::Prefix),
         Err(Stop::Bad) => Ok(First::Bad),

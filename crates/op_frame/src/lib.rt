@@ -17,7 +17,7 @@ mod unread;
 pub use encoding::encode;
 pub use fault::FrameFault;
 pub use first::{First, first_frame};
-pub use law::{one_answer, one_frame, reads_once};
+pub use law::{comes_once, one_frame, reads_once};
 pub use reader::FrameReader;
 
 #[cfg(test)]

@@ -2,7 +2,8 @@ ghost use Rattle.std.specs.Prelude.{◌≡◌, ◌<◌, ◌≤◌, length};
 ghost use Rattle.op_frame.specs.Refills.{Refills, PastLimit};
 
 use crate::FrameFault;
-use crate::unread::{SIZE, Unread};
+use crate::unread::Unread;
+use fugue_ids::BUFFER;
 use outer_ports::Source;
 
 /// Takes more bytes of the source, which has at most `room` of them left before the limit. The answer is false at
@@ -12,13 +13,13 @@ pub(crate) fn refill<S: Source>(
     room: u64,
     source: &mut S,
 ) -> Result<bool, FrameFault>
-    requires { length unread.old.bytes < SIZE }
+    requires { length unread.old.bytes < BUFFER }
     ensures { Refills unread.old.bytes unread.new.bytes (S.seen source.old) (S.seen source.new) room result }
 {
     if room == 0 {
         return is_past_limit(source);
     }
-    match unread.fill(room.min(SIZE as u64) as usize, source) {
+    match unread.fill(room.min(BUFFER as u64) as usize, source) {
         Ok(count) => Ok(count > 0),
         Err(_) => Err(FrameFault::ReadFault),
     }

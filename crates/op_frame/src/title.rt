@@ -1,15 +1,11 @@
 ghost use Rattle.std.specs.Prelude.{◌<◌, ◌≤◌, ◌≡◌, length, drop};
-ghost use Rattle.fugue_ids.specs.Titles.{has_line_end as has_line_end_in};
-ghost use Rattle.op_frame.specs.Formats.{FieldIs, Stops, title as a_title, title_length, title_text as a_title_text, width_of};
+ghost use Rattle.op_frame.specs.Formats.{FieldIs, Stops, stop_for, title as a_title, title_length, title_text as a_title_text, width_of};
 
 use crate::cursor::Cursor;
 use crate::stop::Stop;
-use fugue_ids::{Title, TitleFault};
+use fugue_ids::{LONGEST_TITLE, Title, TitleFault, has_line_end};
 use std::alloc::Global;
 use std::str;
-
-/// The longest title, in bytes.
-const LONGEST: usize = 480;
 
 /// Takes a title off the front of the bytes.
 pub(crate) fn take_title(alloc: Global, bytes: &mut Cursor) -> Result<Title, Stop>
@@ -29,7 +25,7 @@ fn title_len(bytes: &[u8]) -> Result<usize, Stop>
     match bytes {
         [high, low, ..] => {
             let len = u16::from_be_bytes([*high, *low]) as usize;
-            if len == 0 || len > LONGEST {
+            if len == 0 || len > LONGEST_TITLE {
                 return Err(Stop::Bad);
             }
             Ok(len)
@@ -41,7 +37,7 @@ fn title_len(bytes: &[u8]) -> Result<usize, Stop>
 
 /// The title in the first `len` bytes.
 fn title_text(alloc: Global, bytes: &[u8], len: usize) -> Result<Title, Stop>
-    requires { len ≤ LONGEST }
+    requires { len ≤ LONGEST_TITLE }
     ensures { FieldIs (a_title_text len) result bytes.now (drop len bytes.now) }
 {
     if bytes.len() < len {
@@ -52,15 +48,23 @@ fn title_text(alloc: Global, bytes: &[u8], len: usize) -> Result<Title, Stop>
     };
     match Title::read(alloc, text) {
         Ok(title) => Ok(title),
-        Err(TitleFault::NoMemory) => Err(Stop::NoMemory),
-        Err(_) => Err(Stop::Bad),
+        Err(fault) => Err(stop_of(fault)),
+    }
+}
+
+fn stop_of(fault: TitleFault) -> Stop
+    ensures { result ≡ stop_for fault }
+{
+    match fault {
+        TitleFault::NoMemory => Stop::NoMemory,
+        TitleFault::Empty | TitleFault::TooLong | TitleFault::LineEnd => Stop::Bad,
     }
 }
 
 /// Whether some title of `len` bytes begins with these bytes.
 fn judge_front(bytes: &[u8], len: usize) -> Stop
     requires shorter { length bytes.now < len }
-    requires short { len ≤ LONGEST }
+    requires short { len ≤ LONGEST_TITLE }
     ensures { Stops (a_title_text len) bytes.now result }
 {
     if has_line_end(bytes) {
@@ -77,12 +81,6 @@ fn judge_front(bytes: &[u8], len: usize) -> Stop
         return Stop::Bad;
     }
     Stop::Prefix
-}
-
-fn has_line_end(bytes: &[u8]) -> bool
-    ensures { result ≡ has_line_end_in bytes.now }
-{
-    bytes.iter().any(|byte| *byte == b'\n' || *byte == b'\r')
 }
 
 /// How many bytes a character has that begins with this byte and is not ASCII.

@@ -1,13 +1,10 @@
 ghost use Rattle.std.specs.Prelude.{◌≡◌, ◌≤◌, ◌<◌, ◌-◌, length, drop, [], IfOk};
 ghost use Rattle.op_frame.specs.Windows.{Filled, Placed};
 
-use fugue_ids::{Failed, NoMemory};
+use fugue_ids::{BUFFER, Failed, NoMemory};
 use outer_ports::Source;
 use std::alloc::Global;
 use std::marker::Model;
-
-/// The bytes that the buffer holds.
-pub(crate) const SIZE: usize = 4096;
 
 /// Bytes that were taken from a source and are still to be given, in a buffer that never grows.
 #[derive(Drop)]
@@ -19,13 +16,14 @@ pub(crate) struct Unread {
 
 impl Model for Unread {
     ghost use Rattle.std.specs.Prelude.{◌≡◌, ◌≤◌, ◌-◌, ℕ, take, drop, vec_len};
+    ghost use Rattle.fugue_ids.specs.declared.limits.TheConstants.{BUFFER};
     ghost use Rattle.op_frame.specs.Windows.{Window};
 
     ghost Value = { Window };
 
-    ghost view = { λ u. record { bytes = take (u.end - u.start) (drop u.start u.buffer.items); free = 4096 - u.end } };
+    ghost view = { λ u. record { bytes = take (u.end - u.start) (drop u.start u.buffer.items); free = BUFFER - u.end } };
 
-    ghost invariant = { λ u. (vec_len u.buffer ≡ 4096) × (u.start ≤ u.end) × (u.end ≤ 4096) };
+    ghost invariant = { λ u. (vec_len u.buffer ≡ BUFFER) × (u.start ≤ u.end) × (u.end ≤ BUFFER) };
 }
 
 impl Unread {
@@ -33,9 +31,7 @@ impl Unread {
         ensures { IfOk result (λ unread. unread.bytes ≡ []) }
     {
         let mut buffer = Vec::new(alloc);
-        if buffer.resize(SIZE, 0).is_err() {
-            return Err(NoMemory);
-        }
+        buffer.resize(BUFFER, 0)?;
         Ok(Unread {
             buffer,
             start: 0,
@@ -65,12 +61,12 @@ impl Unread {
 
     /// Takes the source's next bytes behind these, at most so many, and answers how many came.
     pub(crate) fn fill<S: Source>(&mut self, most: usize, source: &mut S) -> Result<usize, Failed>
-        requires room { length self.old.bytes < SIZE }
+        requires room { length self.old.bytes < BUFFER }
         requires some { 0 < most }
         ensures { Filled self.old.bytes self.new.bytes (S.seen source.old) (S.seen source.new) most result }
     {
         self.make_room();
-        let end = self.end + most.min(SIZE - self.end);
+        let end = self.end + most.min(BUFFER - self.end);
         let count = read_into(&mut self.buffer, self.end, end, source)?;
         self.end += count;
         Ok(count)
@@ -78,11 +74,11 @@ impl Unread {
 
     /// Moves the bytes to the front where they end the buffer.
     fn make_room(&mut self)
-        requires { length self.old.bytes < SIZE }
+        requires { length self.old.bytes < BUFFER }
         ensures same { self.new.bytes ≡ self.old.bytes }
         ensures room { 0 < self.new.free }
     {
-        if self.end < SIZE {
+        if self.end < BUFFER {
             return;
         }
         self.buffer.copy_within(self.start..self.end, 0);

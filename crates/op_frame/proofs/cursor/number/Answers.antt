@@ -1,6 +1,6 @@
 use Rattle.std.proofs.Common.{refl}
 use Rattle.std.proofs.Math.Facts.{Fits-lt-pow}
-use Rattle.op_frame.proofs.Fields.{short_number}
+use Rattle.op_frame.proofs.FieldLemmas.{short_number}
 use Rattle.op_frame.proofs.cursor.number.Goals as goal
 
 pub returns-in_default : goal.returns-in_default

@@ -1,5 +1,5 @@
 use Rattle.std.proofs.Math.Facts.{Fits-lt-pow}
-use Rattle.op_frame.proofs.Fields.{scalar_none, scalar_one, scalar_two}
+use Rattle.op_frame.proofs.FieldLemmas.{scalar_none, scalar_one, scalar_two}
 use Rattle.op_frame.proofs.cursor.scalar.Goals as goal
 
 pub returns-in_default : goal.returns-in_default

@@ -1,7 +1,7 @@
 use Rattle.std.proofs.Common.{sym, ap, ◌∙◌, List, ℕ, ◌++◌, []}
 use Rattle.std.proofs.lemmas.List.{append-nil}
-use Rattle.origin_model.specs.Frames.{frame}
-use Rattle.op_frame.proofs.Operations.{operation_code}
+use Rattle.origin_model.specs.frames.Frames.{frame}
+use Rattle.op_frame.proofs.OperationLemmas.{operation_code}
 use Rattle.op_frame.proofs.law.one_frame.Goals as goal
 
 pub returns : goal.returns

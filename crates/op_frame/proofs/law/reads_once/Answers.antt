@@ -1,5 +1,5 @@
-use Rattle.op_frame.proofs.Streams.{reads_once}
+use Rattle.op_frame.proofs.StreamLemmas.{reads_once, reads_some, reads_frames}
 use Rattle.op_frame.proofs.law.reads_once.Goals as goal
 
 pub returns : goal.returns
-returns c = reads_once
+returns c = record { one = reads_once; some = reads_some; frames = reads_frames }

@@ -1,7 +1,7 @@
 use Rattle.std.proofs.Common.{arith, rules}
 use Rattle.std.proofs.lemmas.Result.{err_from_is_err_and}
-use Rattle.op_frame.proofs.Fields.{head_is}
-use Rattle.op_frame.proofs.Operations.{kind_stops, kind_is, delete_stops, operation_empty}
+use Rattle.op_frame.proofs.FieldLemmas.{head_is}
+use Rattle.op_frame.proofs.OperationLemmas.{kind_stops, kind_is, delete_stops, operation_empty}
 use Rattle.op_frame.proofs.operation.take_operation.Goals as goal
 
 pub returns-in_err-target-in-3-clause-frame : goal.returns-in_err-target-in-3-clause-frame

@@ -1,5 +1,5 @@
 use Rattle.std.proofs.lemmas.Result.{err_from_is_err_and}
-use Rattle.op_frame.proofs.Operations.{section_at_id, section_at_left, section_at_right, section_at_title}
+use Rattle.op_frame.proofs.OperationLemmas.{section_at_id, section_at_left, section_at_right, section_at_title}
 use Rattle.op_frame.proofs.operation.take_section.Goals as goal
 
 pub returns-in_err-id : goal.returns-in_err-id

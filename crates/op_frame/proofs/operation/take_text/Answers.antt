@@ -1,5 +1,5 @@
 use Rattle.std.proofs.lemmas.Result.{err_from_is_err_and}
-use Rattle.op_frame.proofs.Operations.{text_at_id, text_at_section, text_at_left, text_at_right, text_at_scalar}
+use Rattle.op_frame.proofs.OperationLemmas.{text_at_id, text_at_section, text_at_left, text_at_right, text_at_scalar}
 use Rattle.op_frame.proofs.operation.take_text.Goals as goal
 
 pub returns-in_err-id : goal.returns-in_err-id

@@ -1,5 +1,5 @@
 use Rattle.std.proofs.Common.{arith, refl}
-use Rattle.op_frame.proofs.Refills.{refill_ok, refill_err}
+use Rattle.op_frame.proofs.RefillLemmas.{refill_ok, refill_err}
 use Rattle.op_frame.proofs.refill.refill.Goals as goal
 
 pub returns-in-Ok : goal.returns-in-Ok

@@ -1,5 +1,5 @@
 use Rattle.std.proofs.Common.{length, ◌-◌}
-use Rattle.op_frame.proofs.Steps.{Stands}
+use Rattle.op_frame.proofs.StepLemmas.{Stands}
 use Rattle.op_frame.proofs.step.take_next.Given as goal
 
 abbrev pub invariant-reads : goal.invariant-reads

@@ -1,8 +1,8 @@
 use Rattle.std.proofs.Common.{subst, List, ℕ}
 use Rattle.std.proofs.lemmas.Result.{err_from_is_err_and}
 use Rattle.op_frame.specs.Formats.{Stops, title_text}
-use Rattle.op_frame.proofs.Fields.{rest_is}
-use Rattle.op_frame.proofs.Titles.{length_stops, title_stops}
+use Rattle.op_frame.proofs.FieldLemmas.{rest_is}
+use Rattle.op_frame.proofs.TitleLemmas.{length_stops, title_stops}
 use Rattle.op_frame.proofs.title.take_title.Goals as goal
 
 pub returns-in_err-len : goal.returns-in_err-len

@@ -1,4 +1,4 @@
-use Rattle.op_frame.proofs.Titles.{length_none, length_one}
+use Rattle.op_frame.proofs.TitleLemmas.{length_none, length_one}
 use Rattle.op_frame.proofs.title.title_len.Goals as goal
 
 pub returns-in_default : goal.returns-in_default

@@ -1,7 +1,7 @@
 use Rattle.std.proofs.Common.{arith}
 use Rattle.std.proofs.lemmas.Result.{err_from_is_err_and}
 use Rattle.op_frame.specs.declared.stop.Stop.TheVariants.{Prefix}
-use Rattle.op_frame.proofs.Fields.{replica_stops, counter_stops}
+use Rattle.op_frame.proofs.FieldLemmas.{replica_stops, counter_stops}
 use Rattle.op_frame.proofs.cursor.Cursor.identifier.Goals as goal
 
 pub returns-in_err-replica : goal.returns-in_err-replica

@@ -1,6 +1,6 @@
 use Rattle.std.proofs.Common.{arith, rules}
 use Rattle.std.proofs.lemmas.Result.{err_from_is_err_and}
-use Rattle.op_frame.proofs.Fields.{origin_stops, origin_empty, head_is}
+use Rattle.op_frame.proofs.FieldLemmas.{origin_stops, origin_empty, head_is}
 use Rattle.op_frame.proofs.cursor.Cursor.origin.Goals as goal
 
 pub returns-in_err-identifier-in-1 : goal.returns-in_err-identifier-in-1

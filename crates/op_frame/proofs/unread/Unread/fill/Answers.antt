@@ -1,7 +1,7 @@
 use Rattle.std.proofs.Common.{ap, sym, ◌∙◌, ◌-◌, ◌+◌, ◌≡◌, arith}
 use Rattle.std.proofs.lemmas.Result.{err_from_is_err_and}
 use Rattle.op_frame.specs.Windows.{Window}
-use Rattle.op_frame.proofs.Windows.{filled_in, not_filled_in}
+use Rattle.op_frame.proofs.WindowLemmas.{filled_in, not_filled_in}
 use Rattle.op_frame.proofs.unread.Unread.fill.Goals as goal
 
 pub returns-in_err-count : goal.returns-in_err-count

@@ -8,9 +8,9 @@ use Rattle.std.proofs.lemmas.Str.{encodes_same}
 use Rattle.std.specs.Char.{IsScalar}
 use lib.Utf8.{scalar_cases}
 use Rattle.fugue_ids.specs.Identifiers.{Identifier}
-use Rattle.origin_model.specs.Frames.{IsTitle, id_bytes, scalar_bytes}
+use Rattle.origin_model.specs.frames.Frames.{IsTitle, id_bytes, scalar_bytes}
 use Rattle.op_frame.specs.Formats.{number, replica, identifier, origin, scalar, title}
-use Rattle.op_frame.proofs.Formats.{IsCode, code_join}
+use Rattle.op_frame.proofs.FormatLemmas.{IsCode, code_join}
 
 -- fronts of one length are the same
 pub same_fronts : {X : Type 0} (xs ys r s : List X) → length xs ≡ length ys → xs ++ r ≡ ys ++ s → (xs ≡ ys) × (r ≡ s)

@@ -1,81 +1,60 @@
 -- What stands at the front of bytes, for each field.
-use Rattle.std.proofs.Common.{◌≡◌, ℕ, inl, inr, zero, suc, ◌-◌, ◌<◌, ◌≤◌, List, [], ◌∷◌, ◌++◌, length, take, drop, refl, ap, sym, ◌∙◌, arith, length-drop, get_or}
+use Rattle.std.proofs.Common.{◌≡◌, ℕ, inl, inr, suc, ◌+◌, ◌*◌, ◌-◌, ◌<◌, ◌≤◌, List, [], ◌∷◌, ◌++◌, length, take, drop, refl, sym, ◌∙◌, arith, length-drop, get_or}
 use Rattle.std.proofs.lemmas.List.{take_all}
 use Rattle.std.specs.Prelude.{Option, Some, None, SomeIff, is_some, true}
 use Rattle.std.specs.Char.{IsScalar}
-use Rattle.origin_model.specs.Frames.{scalar_bytes}
-use Rattle.std.specs.Int.{from_be_bytes, w32, byte_at}
-use Rattle.std.proofs.lemmas.Nat.{be_bytes_4}
+use Rattle.origin_model.specs.frames.Frames.{scalar_bytes}
+use Rattle.std.specs.Int.{to_be_bytes, w32, byte_at}
 use Rattle.fugue_ids.specs.Identifiers.{Identifier}
 use Rattle.op_frame.specs.declared.stop.Stop.{Stop}
-use Rattle.op_frame.specs.declared.stop.Stop.TheVariants.{Prefix, Bad, NoMemory}
+use Rattle.op_frame.specs.declared.stop.Stop.TheVariants.{Prefix}
 use Rattle.op_frame.specs.Formats.{Starts, IsFront, Stops, join, number, replica, identifier, origin, scalar, code_of}
-use Rattle.op_frame.proofs.Formats.{stops_first, stops_second}
-use Rattle.op_frame.proofs.Codes.{replica_code}
+use Rattle.op_frame.proofs.FormatLemmas.{stops_behind, stops_first, stops_second}
+use Rattle.op_frame.proofs.CodeLemmas.{replica_code}
 
 -- a front of a replica is one of a number
 pub front_of_number : (b : List ℕ) → IsFront replica b → IsFront number b
 front_of_number b p = record { value = p.value; valid = p.valid.1; more = p.more; lacks = p.lacks; front = p.front }
 
--- n bytes 1
-abbrev ones : ℕ → List ℕ
-ones zero = []
-ones (suc n) = 1 ∷ ones n
+-- the bytes of a number of four bytes
+bytes_of_number : (a b c d : ℕ) → a < 256 → b < 256 → c < 256 → d < 256 → to_be_bytes w32 (a * 16777216 + b * 65536 + c * 256 + d) ≡ a ∷ b ∷ c ∷ d ∷ []
+bytes_of_number a b c d p q r s =
+    let e3 : byte_at 3 (a * 16777216 + b * 65536 + c * 256 + d) ≡ a = omega arith in
+    let e2 : byte_at 2 (a * 16777216 + b * 65536 + c * 256 + d) ≡ b = omega arith in
+    let e1 : byte_at 1 (a * 16777216 + b * 65536 + c * 256 + d) ≡ c = omega arith in
+    let e0 : byte_at 0 (a * 16777216 + b * 65536 + c * 256 + d) ≡ d = omega arith in
+    λ i. e3 i ∷ e2 i ∷ e1 i ∷ e0 i ∷ []
 
-front_of : (b more : List ℕ) → length (b ++ more) ≡ 4 → ((i : ℕ) → get_or (b ++ more) i 0 < 256) → 0 < length more → get_or (b ++ more) 3 0 ≡ 1 → IsFront replica b
-front_of b more four fits lacks one = record {
-  value = from_be_bytes w32 (b ++ more);
-  valid = (omega (arith, one), omega (arith, fits 0, fits 1, fits 2, fits 3));
+-- bytes with more behind them, of which the last is 1
+front_of_one : (front more : List ℕ) (a b c : ℕ) → front ++ more ≡ a ∷ b ∷ c ∷ 1 ∷ [] → 0 < length more → a < 256 → b < 256 → c < 256 → IsFront replica front
+front_of_one front more a b c is lacks p q r = record {
+  value = a * 16777216 + b * 65536 + c * 256 + 1;
+  valid = (omega arith, omega arith);
   more = more;
   lacks = lacks;
-  front = be_bytes_4 (b ++ more) (from_be_bytes w32 (b ++ more)) four fits refl;
+  front = bytes_of_number a b c 1 p q r (omega arith) ∙ sym is;
 }
-
-fits_cons : (a : ℕ) (l : List ℕ) → a < 256 → ((i : ℕ) → get_or l i 0 < 256) → (i : ℕ) → get_or (a ∷ l) i 0 < 256
-fits_cons a l h fits zero = h
-fits_cons a l h fits (suc i) = fits i
-
-fits_nil : (i : ℕ) → get_or [] i 0 < 256
-fits_nil zero = omega arith
-fits_nil (suc i) = omega arith
-
-fits_ones : (n : ℕ) (i : ℕ) → get_or (ones n) i 0 < 256
-fits_ones zero = fits_nil
-fits_ones (suc n) = fits_cons 1 (ones n) (omega arith) (fits_ones n)
-
-fits_padded : (b : List ℕ) (n : ℕ) → ((i : ℕ) → get_or b i 0 < 256) → (i : ℕ) → get_or (b ++ ones n) i 0 < 256
-fits_padded [] n fits = fits_ones n
-fits_padded (a ∷ b) n fits = fits_cons a (b ++ ones n) (fits 0) (fits_padded b n (λ i. fits (suc i)))
 
 -- fewer than four bytes, and ones behind them
 pub short_number : (b : List ℕ) → length b < 4 → ((i : ℕ) → get_or b i 0 < 256) → IsFront replica b
-short_number [] short fits = front_of [] (ones 4) refl (fits_padded [] 4 fits) (omega arith) refl
-short_number (a ∷ []) short fits = front_of (a ∷ []) (ones 3) refl (fits_padded (a ∷ []) 3 fits) (omega arith) refl
-short_number (a ∷ b ∷ []) short fits = front_of (a ∷ b ∷ []) (ones 2) refl (fits_padded (a ∷ b ∷ []) 2 fits) (omega arith) refl
-short_number (a ∷ b ∷ c ∷ []) short fits = front_of (a ∷ b ∷ c ∷ []) (ones 1) refl (fits_padded (a ∷ b ∷ c ∷ []) 1 fits) (omega arith) refl
+short_number [] short fits = front_of_one [] (1 ∷ 1 ∷ 1 ∷ 1 ∷ []) 1 1 1 refl (omega arith) (omega arith) (omega arith) (omega arith)
+short_number (a ∷ []) short fits = front_of_one (a ∷ []) (1 ∷ 1 ∷ 1 ∷ []) a 1 1 refl (omega arith) (fits 0) (omega arith) (omega arith)
+short_number (a ∷ b ∷ []) short fits = front_of_one (a ∷ b ∷ []) (1 ∷ 1 ∷ []) a b 1 refl (omega arith) (fits 0) (fits 1) (omega arith)
+short_number (a ∷ b ∷ c ∷ []) short fits = front_of_one (a ∷ b ∷ c ∷ []) (1 ∷ []) a b c refl (omega arith) (fits 0) (fits 1) (fits 2)
 short_number (a ∷ b ∷ c ∷ d ∷ rest) short fits = absurd (omega (arith, short))
 
 -- a replica and then a counter are an identifier
+no_memory : (join replica number).takes_memory → ⊥
+no_memory (inl p) = p
+no_memory (inr p) = p
+
 identifier_stops : (b : List ℕ) (stop : Stop) → Stops (join replica number) b stop → Stops identifier b stop
-identifier_stops b Prefix p = record {
-  value = record { replica = p.value.0; counter = p.value.1 };
-  valid = record { some_replica = p.valid.0.0; replica_fits = p.valid.0.1; counter_fits = p.valid.1 };
-  more = p.more;
-  lacks = p.lacks;
-  front = p.front;
-}
-identifier_stops b Bad p = record {
-  no_value = λ v rest q. p.no_value (v.replica, v.counter) rest (record { valid = ((q.valid.some_replica, q.valid.replica_fits), q.valid.counter_fits); split = q.split });
-  no_front = λ q. p.no_front (record {
-    value = (q.value.replica, q.value.counter);
-    valid = ((q.valid.some_replica, q.valid.replica_fits), q.valid.counter_fits);
-    more = q.more;
-    lacks = q.lacks;
-    front = q.front;
-  });
-}
-identifier_stops b NoMemory (inl p) = p
-identifier_stops b NoMemory (inr p) = p
+identifier_stops b stop = stops_behind (join replica number) identifier {front = []} (record {
+  to = λ v. record { replica = v.0; counter = v.1 };
+  into = λ v is. (record { some_replica = is.0.0; replica_fits = is.0.1; counter_fits = is.1 }, refl);
+  back = λ v rest more is same. ((v.replica, v.counter), ((is.some_replica, is.replica_fits), is.counter_fits), same);
+  memory = no_memory;
+}) b b stop refl
 
 -- the replica is cut, or is 0
 pub replica_stops : (b : List ℕ) (stop : Stop) → Stops replica b stop → Stops identifier b stop
@@ -88,22 +67,11 @@ counter_stops b r v some p q =
 
 -- an origin other than the start and the end
 pub origin_stops : (b r : List ℕ) (stop : Stop) → b ≡ 1 ∷ r → Stops identifier r stop → Stops origin b stop
-origin_stops b r Prefix is p = record { value = Some p.value; valid = p.valid; more = p.more; lacks = p.lacks; front = ap (λ (l : List ℕ). 1 ∷ l) p.front ∙ ap (λ (l : List ℕ). l ++ p.more) (sym is) }
-origin_stops b r Bad is p = record {
-  no_value = λ v rest q. no_value v rest q.valid (sym is ∙ q.split);
-  no_front = λ q. no_front q.value q.more q.valid q.lacks (q.front ∙ ap (λ (l : List ℕ). l ++ q.more) is);
-}
+origin_stops = stops_behind identifier origin {front = 1 ∷ []} (record { to = Some; into = λ v is. (is, refl); back = back; memory = λ none. none })
   where
-    no_value : (v : Option Identifier) (rest : List ℕ) → origin.valid v → 1 ∷ r ≡ origin.spelling v ++ rest → ⊥
-    no_value None rest is_valid split = cc split
-    no_value (Some v) rest is_valid split = let behind : r ≡ identifier.spelling v ++ rest = cc split in p.no_value v rest (record { valid = is_valid; split = behind })
-
-    no_front : (v : Option Identifier) (more : List ℕ) → origin.valid v → 0 < length more → origin.spelling v ≡ 1 ∷ (r ++ more) → ⊥
-    no_front None more is_valid lacks front = cc front
-    no_front (Some v) more is_valid lacks front =
-        let behind : identifier.spelling v ≡ r ++ more = cc front in
-        p.no_front (record { value = v; valid = is_valid; more = more; lacks = lacks; front = behind })
-origin_stops b r NoMemory is p = p
+    back : (o : Option Identifier) (rest more : List ℕ) → origin.valid o → origin.spelling o ++ rest ≡ 1 ∷ more → (v : Identifier) × identifier.valid v × (identifier.spelling v ++ rest ≡ more)
+    back None rest more is same = absurd (cc same)
+    back (Some v) rest more is same = (v, is, cc same)
 
 pub origin_empty : (b : List ℕ) → length b ≡ 0 → IsFront origin b
 origin_empty [] is = record { value = None; valid = tt; more = 0 ∷ []; lacks = omega arith; front = refl }

@@ -7,6 +7,7 @@ use Rattle.outer_ports.specs.Sources.{SourceView}
 use Rattle.op_frame.specs.declared.fault.FrameFault.TheVariants.{ReadFault}
 use Rattle.op_frame.specs.Windows.{Filled}
 use Rattle.op_frame.specs.Refills.{Refills}
+use Rattle.outer_ports.proofs.CountLemmas.{count_so}
 
 -- at the end nothing is left behind it
 still_empty : (old : List ℕ) (before after : Option (List ℕ)) → prepend_known old before ≡ prepend_known old after → IfSome before (λ left. left ≡ []) → IfSome after (λ left. left ≡ [])
@@ -34,11 +35,7 @@ refill_ok {E} old new v w most room n false is p le =
       ends = λ e. (p.ends none, still_empty old v.left w.left (p.told ∙ ap (λ (l : List ℕ). prepend_known l w.left) (p.stays none)) (p.ends none));
       faults = tt;
       kept = tt;
-      later = p.cause.later;
-      rose = λ e. absurd (cc e);
-      sure = p.sure;
-      succeeds = λ is_sure e. cc e;
-      calm = p.calm;
+      count = count_so _ _ p.count (λ e. cc e);
     }
 refill_ok {E} old new v w most room n true is p le = record {
   grew = (omega (arith, some_came n is, p.grew.0), omega (arith, p.grew.0, p.grew.1, le));
@@ -46,11 +43,7 @@ refill_ok {E} old new v w most room n true is p le = record {
   ends = λ none. absurd (cc none);
   faults = tt;
   kept = tt;
-  later = p.cause.later;
-  rose = λ e. absurd (cc e);
-  sure = p.sure;
-  succeeds = λ is_sure e. cc e;
-  calm = p.calm;
+  count = count_so _ _ p.count (λ e. cc e);
 }
 
 pub refill_err : {E : Type 0} (e : E) (old new : List ℕ) (v w : SourceView) (most room : ℕ) → Filled {E = E} old new v w most (Err e) → Refills old new v w room (Err ReadFault)
@@ -60,9 +53,5 @@ refill_err {E} e old new v w most room p = record {
   ends = tt;
   faults = inl (refl, p.kept.1);
   kept = p.kept.0;
-  later = p.cause.later;
-  rose = λ is. p.cause.failed;
-  sure = p.sure;
-  succeeds = λ is_sure is. p.succeeds is_sure;
-  calm = p.calm;
+  count = count_so _ _ p.count (λ is. refl);
 }

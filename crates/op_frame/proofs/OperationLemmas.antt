@@ -1,22 +1,21 @@
 -- What stands at the front of bytes, for the three kinds of frames.
-use Rattle.std.proofs.Common.{◌≡◌, ℕ, ◌<◌, List, [], ◌∷◌, ◌++◌, length, drop, refl, ap, sym, subst, ◌∙◌, inl, inr, append_assoc, arith}
+use Rattle.std.proofs.Common.{◌≡◌, ℕ, List, [], ◌∷◌, ◌++◌, length, drop, refl, ap, sym, subst, ◌∙◌, inl, inr, append_assoc, arith}
 use Rattle.std.specs.Prelude.{Option, None, Result, Ok, Err}
 use Rattle.std.proofs.lemmas.Str.{encode_ascii}
 use Rattle.fugue_ids.specs.Titles.{IsTitleText}
 use Rattle.fugue_ids.specs.Identifiers.{Identifier}
 use Rattle.fugue_ids.specs.declared.op.Op.{Op}
 use Rattle.fugue_ids.specs.declared.op.Op.TheVariants.{Section, Text, Delete}
-use Rattle.origin_model.specs.Frames.{frame, IsIdentifier, IsTitle, HasFrame, id_bytes, origin_bytes, scalar_bytes, title_bytes}
+use Rattle.origin_model.specs.frames.Frames.{frame, IsIdentifier, IsTitle, HasFrame, id_bytes, origin_bytes, scalar_bytes, title_bytes}
 use Rattle.op_frame.specs.declared.stop.Stop.{Stop}
-use Rattle.op_frame.specs.declared.stop.Stop.TheVariants.{Prefix, Bad, NoMemory}
-use Rattle.op_frame.specs.Formats.{Format, Starts, IsFront, FitsNone, Stops, FieldIs, join, identifier, origin, scalar, title, operation, of_kind, frame_kind}
-use Rattle.op_frame.proofs.Formats.{IsCode, code_join, stops_first, stops_second}
-use Rattle.op_frame.proofs.Codes.{identifier_code, origin_code, scalar_code, title_code}
+use Rattle.op_frame.specs.Formats.{Format, Starts, IsFront, Stops, FieldIs, join, identifier, origin, scalar, title, operation, of_kind, frame_kind}
+use Rattle.op_frame.proofs.FormatLemmas.{IsBehind, IsCode, code_join, starts_behind, stops_behind, stops_first, stops_second}
+use Rattle.op_frame.proofs.CodeLemmas.{identifier_code, origin_code, scalar_code, title_code}
 
-abbrev SectionFields : Type 0
+abbrev pub SectionFields : Type 0
 SectionFields = Identifier × (Option Identifier × (Option Identifier × List ℕ))
 
-abbrev TextFields : Type 0
+abbrev pub TextFields : Type 0
 TextFields = Identifier × (Identifier × (Option Identifier × (Option Identifier × ℕ)))
 
 abbrev pub section_fields : Format SectionFields
@@ -31,10 +30,10 @@ regroup4 a b c d = simp append_assoc
 regroup5 : (a b c d e : List ℕ) → (((a ++ b) ++ c) ++ d) ++ e ≡ a ++ (b ++ (c ++ (d ++ e)))
 regroup5 a b c d e = simp append_assoc
 
-abbrev section_of : SectionFields → Op
+abbrev pub section_of : SectionFields → Op
 section_of v = Section v.0 v.1.0 v.1.1.0 v.1.1.1
 
-abbrev text_of : TextFields → Op
+abbrev pub text_of : TextFields → Op
 text_of v = Text v.0 v.1.0 v.1.1.0 v.1.1.1.0 v.1.1.1.1
 
 section_code : IsCode section_fields
@@ -50,61 +49,25 @@ section_is v = regroup4 (id_bytes v.0) (origin_bytes v.1.0) (origin_bytes v.1.1.
 text_is : (v : TextFields) → drop 1 (frame (text_of v)) ≡ text_fields.spelling v
 text_is v = regroup5 (id_bytes v.0) (id_bytes v.1.0) (origin_bytes v.1.1.0) (origin_bytes v.1.1.1.0) (scalar_bytes v.1.1.1.1)
 
-section_front : (b : List ℕ) → IsFront section_fields b → IsFront (of_kind 1) b
-section_front b p = record {
-  value = section_of p.value;
-  valid = (refl, (p.valid.0, p.valid.1.0, p.valid.1.1.0, p.valid.1.1.1));
-  more = p.more;
-  lacks = p.lacks;
-  front = section_is p.value ∙ p.front;
-}
-
-section_none : (b : List ℕ) → FitsNone section_fields b → (op : Op) (rest : List ℕ) → frame_kind op ≡ 1 → HasFrame op → b ≡ drop 1 (frame op) ++ rest → ⊥
-section_none b p (Section i l r t) rest is_kind has split =
-    let v : SectionFields = (i, (l, (r, t))) in
-    p.no_value v rest (record { valid = (has.0, (has.1, (has.2, has.3))); split = split ∙ ap (λ (x : List ℕ). x ++ rest) (section_is v) })
-section_none b p (Text i s l r ch) rest is_kind has split = absurd (omega (arith, is_kind))
-section_none b p (Delete i) rest is_kind has split = absurd (omega (arith, is_kind))
-
-section_no_front : (b : List ℕ) → FitsNone section_fields b → (op : Op) (more : List ℕ) → frame_kind op ≡ 1 → HasFrame op → 0 < length more
-    → drop 1 (frame op) ≡ b ++ more → ⊥
-section_no_front b p (Section i l r t) more is_kind has lacks front =
-    let v : SectionFields = (i, (l, (r, t))) in
-    p.no_front (record { value = v; valid = (has.0, (has.1, (has.2, has.3))); more = more; lacks = lacks; front = sym (section_is v) ∙ front })
-section_no_front b p (Text i s l r ch) more is_kind has lacks front = absurd (omega (arith, is_kind))
-section_no_front b p (Delete i) more is_kind has lacks front = absurd (omega (arith, is_kind))
+section_back : (op : Op) (rest more : List ℕ) → (of_kind 1).valid op → drop 1 (frame op) ++ rest ≡ more → (v : SectionFields) × section_fields.valid v × (section_fields.spelling v ++ rest ≡ more)
+section_back (Section i l r t) rest more is same =
+    let v : SectionFields = (i, (l, (r, t))) in (v, (is.1.0, (is.1.1, (is.1.2, is.1.3))), ap (λ (x : List ℕ). x ++ rest) (sym (section_is v)) ∙ same)
+section_back (Text i s l r ch) rest more is same = absurd (omega (arith, is.0))
+section_back (Delete i) rest more is same = absurd (omega (arith, is.0))
 
 pub section_stops : (b : List ℕ) (stop : Stop) → Stops section_fields b stop → Stops (of_kind 1) b stop
-section_stops b Prefix p = section_front b p
-section_stops b Bad p = record {
-  no_value = λ op rest q. section_none b p op rest q.valid.0 q.valid.1 q.split;
-  no_front = λ q. section_no_front b p q.value q.more q.valid.0 q.valid.1 q.lacks q.front;
-}
-section_stops b NoMemory p = refl
+section_stops b stop = stops_behind section_fields (of_kind 1) {front = []} (record {
+  to = section_of;
+  into = λ v is. ((refl, (is.0, is.1.0, is.1.1.0, is.1.1.1)), section_is v);
+  back = section_back;
+  memory = λ _. refl;
+}) b b stop refl
 
-text_front : (b : List ℕ) → IsFront text_fields b → IsFront (of_kind 2) b
-text_front b p = record {
-  value = text_of p.value;
-  valid = (refl, (p.valid.0, p.valid.1.0, p.valid.1.1.0, p.valid.1.1.1.0, p.valid.1.1.1.1));
-  more = p.more;
-  lacks = p.lacks;
-  front = text_is p.value ∙ p.front;
-}
-
-text_none : (b : List ℕ) → FitsNone text_fields b → (op : Op) (rest : List ℕ) → frame_kind op ≡ 2 → HasFrame op → b ≡ drop 1 (frame op) ++ rest → ⊥
-text_none b p (Section i l r t) rest is_kind has split = absurd (omega (arith, is_kind))
-text_none b p (Text i s l r ch) rest is_kind has split =
-    let v : TextFields = (i, (s, (l, (r, ch)))) in
-    p.no_value v rest (record { valid = (has.0, (has.1, (has.2, (has.3, has.4)))); split = split ∙ ap (λ (x : List ℕ). x ++ rest) (text_is v) })
-text_none b p (Delete i) rest is_kind has split = absurd (omega (arith, is_kind))
-
-text_no_front : (b : List ℕ) → FitsNone text_fields b → (op : Op) (more : List ℕ) → frame_kind op ≡ 2 → HasFrame op → 0 < length more
-    → drop 1 (frame op) ≡ b ++ more → ⊥
-text_no_front b p (Section i l r t) more is_kind has lacks front = absurd (omega (arith, is_kind))
-text_no_front b p (Text i s l r ch) more is_kind has lacks front =
-    let v : TextFields = (i, (s, (l, (r, ch)))) in
-    p.no_front (record { value = v; valid = (has.0, (has.1, (has.2, (has.3, has.4)))); more = more; lacks = lacks; front = sym (text_is v) ∙ front })
-text_no_front b p (Delete i) more is_kind has lacks front = absurd (omega (arith, is_kind))
+text_back : (op : Op) (rest more : List ℕ) → (of_kind 2).valid op → drop 1 (frame op) ++ rest ≡ more → (v : TextFields) × text_fields.valid v × (text_fields.spelling v ++ rest ≡ more)
+text_back (Section i l r t) rest more is same = absurd (omega (arith, is.0))
+text_back (Text i s l r ch) rest more is same =
+    let v : TextFields = (i, (s, (l, (r, ch)))) in (v, (is.1.0, (is.1.1, (is.1.2, (is.1.3, is.1.4)))), ap (λ (x : List ℕ). x ++ rest) (sym (text_is v)) ∙ same)
+text_back (Delete i) rest more is same = absurd (omega (arith, is.0))
 
 no_memory_for_text : text_fields.takes_memory → ⊥
 no_memory_for_text (inl p) = p
@@ -114,32 +77,22 @@ no_memory_for_text (inr (inr (inr (inl p)))) = p
 no_memory_for_text (inr (inr (inr (inr p)))) = p
 
 pub text_stops : (b : List ℕ) (stop : Stop) → Stops text_fields b stop → Stops (of_kind 2) b stop
-text_stops b Prefix p = text_front b p
-text_stops b Bad p = record {
-  no_value = λ op rest q. text_none b p op rest q.valid.0 q.valid.1 q.split;
-  no_front = λ q. text_no_front b p q.value q.more q.valid.0 q.valid.1 q.lacks q.front;
-}
-text_stops b NoMemory p = absurd (no_memory_for_text p)
+text_stops b stop = stops_behind text_fields (of_kind 2) {front = []} (record {
+  to = text_of;
+  into = λ v is. ((refl, (is.0, is.1.0, is.1.1.0, is.1.1.1.0, is.1.1.1.1)), text_is v);
+  back = text_back;
+  memory = λ p. absurd (no_memory_for_text p);
+}) b b stop refl
 
 -- the target of a Delete
-delete_none : (b : List ℕ) → FitsNone identifier b → (op : Op) (rest : List ℕ) → frame_kind op ≡ 3 → HasFrame op → b ≡ drop 1 (frame op) ++ rest → ⊥
-delete_none b p (Section i l r t) rest is_kind has split = absurd (omega (arith, is_kind))
-delete_none b p (Text i s l r ch) rest is_kind has split = absurd (omega (arith, is_kind))
-delete_none b p (Delete i) rest is_kind has split = p.no_value i rest (record { valid = has; split = split })
-
-delete_no_front : (b : List ℕ) → FitsNone identifier b → (op : Op) (more : List ℕ) → frame_kind op ≡ 3 → HasFrame op → 0 < length more
-    → drop 1 (frame op) ≡ b ++ more → ⊥
-delete_no_front b p (Section i l r t) more is_kind has lacks front = absurd (omega (arith, is_kind))
-delete_no_front b p (Text i s l r ch) more is_kind has lacks front = absurd (omega (arith, is_kind))
-delete_no_front b p (Delete i) more is_kind has lacks front = p.no_front (record { value = i; valid = has; more = more; lacks = lacks; front = front })
+delete_back : (op : Op) (rest more : List ℕ) → (of_kind 3).valid op → drop 1 (frame op) ++ rest ≡ more → (v : Identifier) × identifier.valid v × (identifier.spelling v ++ rest ≡ more)
+delete_back (Section i l r t) rest more is same = absurd (omega (arith, is.0))
+delete_back (Text i s l r ch) rest more is same = absurd (omega (arith, is.0))
+delete_back (Delete i) rest more is same = (i, is.1, same)
 
 pub delete_stops : (b : List ℕ) (stop : Stop) → Stops identifier b stop → Stops (of_kind 3) b stop
-delete_stops b Prefix p = record { value = Delete p.value; valid = (refl, p.valid); more = p.more; lacks = p.lacks; front = p.front }
-delete_stops b Bad p = record {
-  no_value = λ op rest q. delete_none b p op rest q.valid.0 q.valid.1 q.split;
-  no_front = λ q. delete_no_front b p q.value q.more q.valid.0 q.valid.1 q.lacks q.front;
-}
-delete_stops b NoMemory p = absurd p
+delete_stops b stop =
+    stops_behind identifier (of_kind 3) {front = []} (record { to = Delete; into = λ v is. ((refl, is), refl); back = delete_back; memory = λ p. absurd p }) b b stop refl
 
 -- a frame begins with its kind
 pub frame_is : (op : Op) → frame op ≡ frame_kind op ∷ drop 1 (frame op)
@@ -148,33 +101,18 @@ frame_is (Text i s l r ch) = refl
 frame_is (Delete i) = refl
 
 -- a frame of a kind, behind its first byte
-pub kind_starts : (kind : ℕ) (b r rest : List ℕ) (op : Op) → b ≡ kind ∷ r → Starts (of_kind kind) r op rest → Starts operation b op rest
-kind_starts kind b r rest op is p = record {
-  valid = p.valid.1;
-  split = is ∙ (λ i. sym p.valid.0 i ∷ p.split i) ∙ ap (λ (l : List ℕ). l ++ rest) (sym (frame_is op));
+kind_behind : (kind : ℕ) → IsBehind (kind ∷ []) (of_kind kind) operation
+kind_behind kind = record {
+  to = λ op. op;
+  into = λ op is. (is.1, frame_is op ∙ (λ i. is.0 i ∷ drop 1 (frame op)));
+  back = λ op rest more is same.
+      let both : frame_kind op ∷ (drop 1 (frame op) ++ rest) ≡ kind ∷ more = ap (λ (l : List ℕ). l ++ rest) (sym (frame_is op)) ∙ same in
+      (op, (cc both, is), cc both);
+  memory = λ _. tt;
 }
 
 pub kind_stops : (kind : ℕ) (b r : List ℕ) (stop : Stop) → b ≡ kind ∷ r → Stops (of_kind kind) r stop → Stops operation b stop
-kind_stops kind b r Prefix is p = record {
-  value = p.value;
-  valid = p.valid.1;
-  more = p.more;
-  lacks = p.lacks;
-  front = frame_is p.value ∙ (λ i. p.valid.0 i ∷ p.front i) ∙ ap (λ (l : List ℕ). l ++ p.more) (sym is);
-}
-kind_stops kind b r Bad is p = record {
-  no_value = λ op rest q.
-      let same : kind ∷ r ≡ frame_kind op ∷ (drop 1 (frame op) ++ rest) = sym is ∙ q.split ∙ ap (λ (l : List ℕ). l ++ rest) (frame_is op) in
-      let first : frame_kind op ≡ kind = cc same in
-      let behind : r ≡ drop 1 (frame op) ++ rest = cc same in
-      p.no_value op rest (record { valid = (first, q.valid); split = behind });
-  no_front = λ q.
-      let same : frame_kind q.value ∷ drop 1 (frame q.value) ≡ kind ∷ (r ++ q.more) = sym (frame_is q.value) ∙ q.front ∙ ap (λ (l : List ℕ). l ++ q.more) is in
-      let first : frame_kind q.value ≡ kind = cc same in
-      let behind : drop 1 (frame q.value) ≡ r ++ q.more = cc same in
-      p.no_front (record { value = q.value; valid = (first, q.valid); more = q.more; lacks = q.lacks; front = behind });
-}
-kind_stops kind b r NoMemory is p = tt
+kind_stops kind = stops_behind (of_kind kind) operation (kind_behind kind)
 
 -- no bytes begin each frame
 pub operation_empty : (b : List ℕ) → length b ≡ 0 → IsFront operation b
@@ -286,5 +224,6 @@ text_at_scalar b r s t z i k l m stop p q u w y =
 
 -- what reading the rest of a frame gave
 pub kind_is : (kind : ℕ) (b r after : List ℕ) (result : Result Op Stop) → b ≡ kind ∷ r → FieldIs (of_kind kind) result r after → FieldIs operation result b after
-kind_is kind b r after (Ok op) is p = kind_starts kind b r after op is p
+unfolding kind_behind
+kind_is kind b r after (Ok op) is p = starts_behind (of_kind kind) operation (kind_behind kind) b r after op is p
 kind_is kind b r after (Err stop) is p = kind_stops kind b r stop is p

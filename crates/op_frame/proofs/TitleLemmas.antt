@@ -7,20 +7,20 @@ use Rattle.std.specs.Int.{to_be_bytes, from_be_bytes, w16}
 use Rattle.std.specs.Str.{chars, IsUtf8, IsValidUpTo, encode_utf8_all, all_scalars, IsErrorLen}
 use Rattle.std.specs.Str.Lossy.{utf8_error_len}
 use Rattle.std.proofs.str.Laws.{order, both}
-use Rattle.std.proofs.lemmas.List.{append-nil, take-append-drop, take-append-le, drop-append-le, length-take-le, take_at}
+use Rattle.std.proofs.lemmas.List.{take-append-drop, take-append-le, drop-append-le, length-take-le, take_at}
 use Rattle.std.proofs.Math.Seq.{take-add}
 use Rattle.std.proofs.lemmas.Str.{encodes_same, IsUtf8-nil, encode_ascii, length-encode, len_utf8_bounds, encodes-chars, scalars-chars, IsUtf8-append, IsUtf8-drop, IsUtf8-encode, IsCharBoundary-from_take}
 use Rattle.fugue_ids.specs.Titles.{has_line_end, ends_line, IsTitleText}
 use Rattle.fugue_ids.specs.declared.title.TitleFault.{TitleFault}
-use Rattle.fugue_ids.specs.declared.title.TitleFault.TheVariants.{Empty, TooLong, LineEnd}
-use Rattle.origin_model.specs.Frames.{IsTitle}
+use Rattle.fugue_ids.specs.declared.title.TitleFault.TheVariants.{Empty, TooLong, LineEnd, NoMemory as WantsMemory}
+use Rattle.fugue_ids.specs.declared.limits.TheConstants.{LONGEST_TITLE}
+use Rattle.origin_model.specs.frames.Frames.{IsTitle}
 use Rattle.op_frame.specs.declared.stop.Stop.{Stop}
-use Rattle.op_frame.specs.declared.stop.Stop.TheVariants.{Prefix, Bad, NoMemory}
-use Rattle.op_frame.specs.Formats.{Starts, IsFront, FitsNone, Stops, title, title_length, title_text, width_of}
+use Rattle.op_frame.specs.Formats.{Starts, IsFront, FitsNone, Stops, stop_for, title, title_length, title_text, width_of}
 use Rattle.std.proofs.lemmas.Nat.{from_be_bytes-to_be_bytes_2}
-use Rattle.op_frame.proofs.Formats.{IsCode, two_fronts, Reaches, FallsShort}
-use Rattle.op_frame.proofs.Codes.{same_fronts}
-use Rattle.op_frame.proofs.Characters.{Spells, goes_on, cut_is}
+use Rattle.op_frame.proofs.FormatLemmas.{IsCode, stops_behind, stops_by, two_fronts}
+use Rattle.op_frame.proofs.CodeLemmas.{same_fronts}
+use Rattle.op_frame.proofs.CharacterLemmas.{Spells, goes_on, cut_is}
 
 -- neither part has a line end
 no_line_ends : (xs ys : List ℕ) → has_line_end xs ≡ false → has_line_end ys ≡ false → has_line_end (xs ++ ys) ≡ false
@@ -50,6 +50,13 @@ are_all_scalars (c ∷ t) p = λ i. p.0 i && are_all_scalars t p.1 i
 title_utf8 : (t : List ℕ) → IsTitle t → IsUtf8 (encode_utf8_all t)
 title_utf8 t p = (t, (are_all_scalars t p.scalars, refl))
 
+-- the scalars of a title's text
+pub title_of : (t bytes : List ℕ) → bytes ≡ encode_utf8_all t → IsUtf8 bytes → IsTitleText bytes → IsTitle t
+title_of t bytes is utf8 text = record {
+  scalars = subst (AllByRecursion IsScalar) (encodes_same utf8.0 t (utf8.1.1 ∙ is)) (all_are_scalars utf8.0 utf8.1.0);
+  text = subst IsTitleText is text;
+}
+
 -- bytes that are a title's text
 pub spelled : (len : ℕ) (bytes : List ℕ) → IsUtf8 bytes → IsTitleText bytes → length bytes ≡ len → (title_text len).valid (chars bytes)
 spelled len bytes utf8 text long =
@@ -57,7 +64,7 @@ spelled len bytes utf8 text long =
     (record { scalars = all_are_scalars (chars bytes) (scalars-chars bytes utf8); text = subst IsTitleText (sym same) text }, ap length same ∙ long)
 
 -- bytes with more behind them that make a title's text
-fronted : (len : ℕ) (front more : List ℕ) → IsUtf8 (front ++ more) → has_line_end (front ++ more) ≡ false → 0 < length more → length (front ++ more) ≡ len → len ≤ 480
+fronted : (len : ℕ) (front more : List ℕ) → IsUtf8 (front ++ more) → has_line_end (front ++ more) ≡ false → 0 < length more → length (front ++ more) ≡ len → len ≤ LONGEST_TITLE
     → IsFront (title_text len) front
 fronted len front more utf8 one_line lacks long short = record {
   value = chars (front ++ more);
@@ -85,7 +92,7 @@ letters_utf8 zero = ([], (refl, refl))
 letters_utf8 (suc n) = subst IsUtf8 (ap (λ (l : List ℕ). l ++ letters n) (encode_ascii 97 (omega arith))) (IsUtf8-append (encode_utf8 97) (letters n) (IsUtf8-encode 97 refl) (letters_utf8 n))
 
 -- text to which letters are added
-pub text_front : (len : ℕ) (front : List ℕ) → IsUtf8 front → has_line_end front ≡ false → length front < len → len ≤ 480 → IsFront (title_text len) front
+pub text_front : (len : ℕ) (front : List ℕ) → IsUtf8 front → has_line_end front ≡ false → length front < len → len ≤ LONGEST_TITLE → IsFront (title_text len) front
 text_front len front utf8 one_line short most =
     let more = letters (len - length front) in
     fronted len front more (IsUtf8-append front more utf8 (letters_utf8 (len - length front))) (no_line_ends front more one_line (letters_plain (len - length front)))
@@ -139,9 +146,16 @@ cut_here front more at valid t p is =
 -- where no title of so many bytes begins with the bytes, they are none
 text_none : (len : ℕ) (front : List ℕ) → length front < len → ((t more : List ℕ) → IsTitle t → length (encode_utf8_all t) ≡ len → encode_utf8_all t ≡ front ++ more → ⊥) → FitsNone (title_text len) front
 text_none len front short refuted = record {
-  no_value = λ t rest q. omega (arith, short, q.valid.1, ap length q.split, length-append (encode_utf8_all t) rest);
-  no_front = λ q. refuted q.value q.more q.valid.0 q.valid.1 q.front;
+  never = λ t rest more is split. elim (two_fronts front more (encode_utf8_all t) rest (sym split)) [
+    | inl p ↦ refuted t p.between is.0 is.1 p.is
+    | inr p ↦ omega (arith, short, is.1, ap length p.is, length-append (encode_utf8_all t) p.between)
+  ];
 }
+
+-- a line end in the text
+pub line_end_none : (len : ℕ) (front : List ℕ) → length front < len → has_line_end front ≡ true → FitsNone (title_text len) front
+line_end_none len front short ends = text_none len front short
+    (λ t more p long split. let clash : true ≡ false = sym ends ∙ front_line_end front more (subst (λ (l : List ℕ). has_line_end l ≡ false) split p.text.one_line) in cc clash)
 
 -- a fault in the text
 pub fault_none : (len : ℕ) (front : List ℕ) (at : ℕ) (fault : Option ℕ) → length front < len → IsValidUpTo front at → fault ≡ utf8_error_len (drop at front)
@@ -171,24 +185,30 @@ no_character front at valid more x spells is =
     valid.longest (at + length x) (omega (arith, (len_utf8_bounds spells.ch).0, length-encode spells.ch, ap length spells.is))
     (subst IsUtf8 (sym (front_and at front x more is)) (IsUtf8-append (take at front) x valid.front (subst IsUtf8 spells.is (IsUtf8-encode spells.ch spells.scalar))))
 
+-- text and the front of a character, with the rest of the character and letters behind it
+begun_front : (len n : ℕ) (text front more : List ℕ) → IsUtf8 text → IsUtf8 (front ++ more) → has_line_end (text ++ front) ≡ false → has_line_end more ≡ false → 0 < length more
+    → length (text ++ front) + (length more + n) ≡ len → len ≤ LONGEST_TITLE → IsFront (title_text len) (text ++ front)
+begun_front len n text front more utf8 whole one_line plain lacks long most =
+    fronted len (text ++ front) (more ++ letters n)
+    (subst IsUtf8 (regroup (letters n)) (IsUtf8-append text ((front ++ more) ++ letters n) utf8 (IsUtf8-append (front ++ more) (letters n) whole (letters_utf8 n))))
+    (no_line_ends (text ++ front) (more ++ letters n) one_line (no_line_ends more (letters n) plain (letters_plain n)))
+    (omega (arith, lacks, length-append more (letters n)))
+    (omega (arith, long, length-append (text ++ front) (more ++ letters n), length-append more (letters n), letters_long n)) most
+  where
+    regroup : (l : List ℕ) → text ++ ((front ++ more) ++ l) ≡ (text ++ front) ++ (more ++ l)
+    regroup l = simp append_assoc
+
 -- text cut within a character that fits
-pub cut_front : (len : ℕ) (front : List ℕ) (at place width : ℕ) (fault : Option ℕ) → length front < len → len ≤ 480 → has_line_end front ≡ false → IsValidUpTo front at
+pub cut_front : (len : ℕ) (front : List ℕ) (at place width : ℕ) (fault : Option ℕ) → length front < len → len ≤ LONGEST_TITLE → has_line_end front ≡ false → IsValidUpTo front at
     → IsErrorLen front at fault → fault ≡ utf8_error_len (drop at front) → is_some fault ≡ false
     → place ≡ at → width ≡ width_of (get_or front place 0) → width ≤ len - place → IsFront (title_text len) front
 cut_front len front at place width None short most one_line valid near is none here wide small =
     let fits : width_of (get_or (drop at front) 0 0) ≤ len - at = omega (arith, here, wide, small, width_here front at place here) in
     let g = goes_on (drop at front) (omega (arith, valid.short, length-drop at front)) (omega (arith, near, length-drop at front)) (sym is) (no_character front at valid) in
-    let most_of : length (front ++ g.more) ≤ len = omega (arith, g.long, fits, valid.short, length-append front g.more, length-append (drop at front) g.more, length-drop at front) in
-    let rest = letters (len - length (front ++ g.more)) in
-    let whole : (take at front ++ (drop at front ++ g.more)) ++ rest ≡ front ++ (g.more ++ rest)
-    = ap (λ (l : List ℕ). l ++ rest) (sym (append_assoc (take at front) (drop at front) g.more) ∙ ap (λ (l : List ℕ). l ++ g.more) (take-append-drop at front)) ∙ append_assoc front g.more rest in
-    let utf8 : IsUtf8 (drop at front ++ g.more) = subst IsUtf8 g.whole.is (IsUtf8-encode g.whole.ch g.whole.scalar) in
-    fronted len front (g.more ++ rest)
-    (subst IsUtf8 whole (IsUtf8-append (take at front ++ (drop at front ++ g.more)) rest (IsUtf8-append (take at front) (drop at front ++ g.more) valid.front utf8) (letters_utf8 (len - length (front ++ g.more)))))
-    (no_line_ends front (g.more ++ rest) one_line (no_line_ends g.more rest g.no_line_end (letters_plain (len - length (front ++ g.more)))))
-    (omega (arith, g.lacks, length-append g.more rest))
-    (omega (arith, most_of, length-append front (g.more ++ rest), length-append g.more rest, length-append front g.more, letters_long (len - length (front ++ g.more))))
-    most
+    let parts : take at front ++ drop at front ≡ front = take-append-drop at front in
+    subst (IsFront (title_text len)) parts (begun_front len (len - (length front + length g.more)) (take at front) (drop at front) g.more valid.front
+    (subst IsUtf8 g.whole.is (IsUtf8-encode g.whole.ch g.whole.scalar)) (subst (λ (l : List ℕ). has_line_end l ≡ false) (sym parts) one_line) g.no_line_end g.lacks
+    (omega (arith, ap length parts, g.long, fits, valid.short, length-append (drop at front) g.more, length-drop at front)) most)
 cut_front len front at place width (Some k) short most one_line valid near is none here wide small = absurd (cc none)
 
 -- fewer bytes than a length has
@@ -206,26 +226,44 @@ length_one (x ∷ y ∷ b) some short low = absurd (omega (arith, short))
 -- bytes that are no text are no title
 pub not_text : (len : ℕ) (b : List ℕ) → len ≤ length b → ¬ (IsUtf8 (take len b)) → FitsNone (title_text len) b
 not_text len b enough bad = record {
-  no_value = λ t rest q. bad (subst IsUtf8 (sym (ap (take len) q.split ∙ take_at (encode_utf8_all t) rest len q.valid.1)) (title_utf8 t q.valid.0));
-  no_front = λ q. omega (arith, enough, q.lacks, q.valid.1, ap length q.front, length-append b q.more);
+  never = λ t rest more is split.
+      bad (subst IsUtf8 (sym (take_at (encode_utf8_all t) rest len is.1) ∙ ap (take len) split ∙ take-append-le len b more enough) (title_utf8 t is.0));
 }
 
+-- text that `Title::read` refuses is no title's
+pub title_refused : (len : ℕ) (b text : List ℕ) (result : Result (List ℕ) TitleFault) (fault : TitleFault) → len ≤ length b → text ≡ take len b → result ≡ Err fault
+    → ((result ≡ Err Empty) ↔ (text ≡ [])) → ((result ≡ Err TooLong) ↔ (LONGEST_TITLE < length text))
+    → ((result ≡ Err LineEnd) ↔ ((text ≢ []) × (length text ≤ LONGEST_TITLE) × (has_line_end text ≡ true))) → Stops (title_text len) b (stop_for fault)
+title_refused len b text result fault enough is refused empty long line_end = by_fault fault refused
+  where
+    none : (IsTitleText text → ⊥) → FitsNone (title_text len) b
+    none refuted = record {
+      never = λ t rest more valid split.
+          refuted (subst IsTitleText (sym (take_at (encode_utf8_all t) rest len valid.1) ∙ ap (take len) split ∙ take-append-le len b more enough ∙ sym is) valid.0.text);
+    }
+
+    by_fault : (fault : TitleFault) → result ≡ Err fault → Stops (title_text len) b (stop_for fault)
+    by_fault Empty same = none (λ p. omega (arith, p.some, ap length (empty.0 same)))
+    by_fault TooLong same = none (λ p. omega (arith, p.short, long.0 same))
+    by_fault LineEnd same = none (λ p. let clash : true ≡ false = sym (line_end.0 same).2 ∙ p.one_line in cc clash)
+    by_fault WantsMemory same = tt
+
 -- text that `Title::read` takes is a title's
-pub title_reads : (text : List ℕ) (t : List ℕ) (result : Result (List ℕ) TitleFault) → result ≡ Ok t → ((result ≡ Err Empty) ↔ (text ≡ [])) → ((result ≡ Err TooLong) ↔ (480 < length text))
-    → ((result ≡ Err LineEnd) ↔ ((text ≢ []) × (length text ≤ 480) × (has_line_end text ≡ true))) → IsTitleText text
-title_reads text t result is empty long line_end = record { some = some text empty; short = short (order 480 (length text)); one_line = one_line (has_line_end text) refl }
+pub title_reads : (text : List ℕ) (t : List ℕ) (result : Result (List ℕ) TitleFault) → result ≡ Ok t → ((result ≡ Err Empty) ↔ (text ≡ [])) → ((result ≡ Err TooLong) ↔ (LONGEST_TITLE < length text))
+    → ((result ≡ Err LineEnd) ↔ ((text ≢ []) × (length text ≤ LONGEST_TITLE) × (has_line_end text ≡ true))) → IsTitleText text
+title_reads text t result is empty long line_end = record { some = some text empty; short = short (order LONGEST_TITLE (length text)); one_line = one_line (has_line_end text) refl }
   where
     some : (text : List ℕ) → ((result ≡ Err Empty) ↔ (text ≡ [])) → 0 < length text
     some [] iff = let clash : Ok t ≡ Err Empty = sym is ∙ iff.1 refl in absurd (cc clash)
     some (x ∷ xs) iff = omega arith
 
-    short : (480 < length text) ⊎ (length text ≤ 480) → length text ≤ 480
+    short : (LONGEST_TITLE < length text) ⊎ (length text ≤ LONGEST_TITLE) → length text ≤ LONGEST_TITLE
     short (inl p) = let clash : Ok t ≡ Err TooLong = sym is ∙ long.1 p in absurd (cc clash)
     short (inr p) = p
 
     one_line : (b : Bool) → has_line_end text ≡ b → b ≡ false
     one_line false e = refl
-    one_line true e = let clash : Ok t ≡ Err LineEnd = sym is ∙ line_end.1 ((λ none. omega (arith, some text empty, ap length none)), short (order 480 (length text)), e) in absurd (cc clash)
+    one_line true e = let clash : Ok t ≡ Err LineEnd = sym is ∙ line_end.1 ((λ none. omega (arith, some text empty, ap length none)), short (order LONGEST_TITLE (length text)), e) in absurd (cc clash)
 
 -- the first bytes are a title's text
 pub title_starts : (len : ℕ) (b t : List ℕ) → len ≤ length b → IsUtf8 (take len b) → IsTitleText (take len b) → encode_utf8_all t ≡ take len b → Starts (title_text len) b t (drop len b)
@@ -239,35 +277,13 @@ title_starts len b t enough utf8 text is =
 
 -- a length and then a text are a title
 pub length_stops : (b : List ℕ) (stop : Stop) → Stops title_length b stop → Stops title b stop
-length_stops b Prefix p =
-    let text = text_front p.value [] IsUtf8-nil refl p.valid.0 p.valid.1 in
-    record {
-      value = text.value;
-      valid = text.valid.0;
-      more = p.more ++ encode_utf8_all text.value;
-      lacks = omega (arith, p.lacks, length-append p.more (encode_utf8_all text.value));
-      front = ap (λ (n : ℕ). to_be_bytes w16 n ++ encode_utf8_all text.value) text.valid.1
-          ∙ ap (λ (l : List ℕ). l ++ encode_utf8_all text.value) p.front ∙ append_assoc b p.more (encode_utf8_all text.value);
-    }
-length_stops b Bad p = record {
-  no_value = λ t rest q. p.no_value (length (encode_utf8_all t)) (encode_utf8_all t ++ rest) (record {
-    valid = (q.valid.text.some, q.valid.text.short);
-    split = q.split ∙ append_assoc (to_be_bytes w16 (length (encode_utf8_all t))) (encode_utf8_all t) rest;
-  });
-  no_front = λ q. no_front q.value q.more q.valid q.lacks (two_fronts b q.more (to_be_bytes w16 (length (encode_utf8_all q.value))) (encode_utf8_all q.value) (sym q.front));
-}
-  where
-    by_length : (t more between : List ℕ) → IsTitle t → to_be_bytes w16 (length (encode_utf8_all t)) ≡ b ++ between → ⊥
-    by_length t more [] valid is =
-        p.no_value (length (encode_utf8_all t)) [] (record { valid = (valid.text.some, valid.text.short); split = sym (is ∙ append-nil b) ∙ sym (append-nil (to_be_bytes w16 (length (encode_utf8_all t)))) })
-    by_length t more (x ∷ between) valid is =
-        p.no_front (record { value = length (encode_utf8_all t); valid = (valid.text.some, valid.text.short); more = x ∷ between; lacks = omega arith; front = is })
-
-    no_front : (t more : List ℕ) → IsTitle t → 0 < length more → Reaches b (to_be_bytes w16 (length (encode_utf8_all t))) ⊎ FallsShort b (to_be_bytes w16 (length (encode_utf8_all t))) → ⊥
-    no_front t more valid lacks (inl r) = by_length t more r.between valid r.is
-    no_front t more valid lacks (inr r) =
-        p.no_value (length (encode_utf8_all t)) r.between (record { valid = (valid.text.some, valid.text.short); split = r.is })
-length_stops b NoMemory p = absurd p
+length_stops = stops_by title_length title (record {
+  extend = λ n is.
+      let text = text_front n [] IsUtf8-nil refl is.0 is.1 in
+      (text.value, encode_utf8_all text.value, text.valid.0, ap (λ (n : ℕ). to_be_bytes w16 n ++ encode_utf8_all text.value) text.valid.1);
+  first = λ t is. (length (encode_utf8_all t), encode_utf8_all t, (is.text.some, is.text.short), refl);
+  memory = λ p. absurd p;
+})
 
 length_code : IsCode title_length
 length_code = record {
@@ -277,22 +293,12 @@ length_code = record {
 }
 
 pub title_stops : (b r : List ℕ) (len : ℕ) (stop : Stop) → Starts title_length b len r → Stops (title_text len) r stop → Stops title b stop
-title_stops b r len Prefix first p = record {
-  value = p.value;
-  valid = p.valid.0;
-  more = p.more;
-  lacks = p.lacks;
-  front = ap (λ (n : ℕ). to_be_bytes w16 n ++ encode_utf8_all p.value) p.valid.1 ∙ ap (λ (l : List ℕ). to_be_bytes w16 len ++ l) p.front
-      ∙ sym (append_assoc (to_be_bytes w16 len) r p.more) ∙ ap (λ (l : List ℕ). l ++ p.more) (sym first.split);
-}
-title_stops b r len Bad first p = record {
-  no_value = λ t rest q.
-      let both = length_code.once len (length (encode_utf8_all t)) r (encode_utf8_all t ++ rest) first.valid (q.valid.text.some, q.valid.text.short)
-      (sym first.split ∙ q.split ∙ append_assoc (to_be_bytes w16 (length (encode_utf8_all t))) (encode_utf8_all t) rest) in
-      p.no_value t rest (record { valid = (q.valid, sym both.0); split = both.1 });
-  no_front = λ q.
-      let both = length_code.once len (length (encode_utf8_all q.value)) (r ++ q.more) (encode_utf8_all q.value) first.valid (q.valid.text.some, q.valid.text.short)
-      (sym (append_assoc (to_be_bytes w16 len) r q.more) ∙ ap (λ (l : List ℕ). l ++ q.more) (sym first.split) ∙ sym q.front) in
-      p.no_front (record { value = q.value; valid = (q.valid, sym both.0); more = q.more; lacks = q.lacks; front = sym both.1 });
-}
-title_stops b r len NoMemory first p = p
+title_stops b r len stop first = stops_behind (title_text len) title {front = to_be_bytes w16 len} (record {
+  to = λ t. t;
+  into = λ t is. (is.0, ap (λ (n : ℕ). to_be_bytes w16 n ++ encode_utf8_all t) is.1);
+  back = λ t rest more is same.
+      let both = length_code.once (length (encode_utf8_all t)) len (encode_utf8_all t ++ rest) more (is.text.some, is.text.short) first.valid
+      (sym (append_assoc (to_be_bytes w16 (length (encode_utf8_all t))) (encode_utf8_all t) rest) ∙ same) in
+      (t, (is, both.0), both.1);
+  memory = λ p. p;
+}) b r stop first.split

@@ -1,11 +1,13 @@
 -- A part of a buffer, before and behind which bytes come and go.
-use Rattle.std.proofs.Common.{◌≡◌, ℕ, ◌+◌, ◌-◌, ◌<◌, ◌≤◌, List, ◌++◌, length, take, drop, refl, ap, sym, subst, ◌∙◌, arith, append_assoc, length-append, length-drop}
-use Rattle.std.specs.Prelude.{Option, Some, None, Result, Ok, Err}
+use Rattle.std.proofs.Common.{◌≡◌, ℕ, ◌+◌, ◌-◌, ◌<◌, ◌≤◌, List, ◌++◌, length, take, drop, refl, ap, sym, subst, ◌∙◌, arith, length-append, length-drop}
+use Rattle.std.specs.Prelude.{Result, Ok, Err}
 use Rattle.std.specs.Io.KnownBytes.{prepend_known}
 use Rattle.std.proofs.lemmas.List.{drop-take, drop-append-le, take-append-le, length-take-le, append-nil, drop-drop, take_at}
 use Rattle.std.proofs.Math.Seq.{take-append-add}
 use Rattle.outer_ports.specs.Sources.{SourceView}
 use Rattle.op_frame.specs.Windows.{Filled, Placed}
+use Rattle.op_frame.proofs.ToldLemmas.{prepend_twice}
+use Rattle.outer_ports.proofs.CountLemmas.{count_so}
 
 part_is : (s e : ℕ) (b : List ℕ) → s ≤ e → drop s (take e b) ≡ take (e - s) (drop s b)
 part_is s e b le = let is : e ≡ s + (e - s) = omega (arith, le) in ap (λ (k : ℕ). drop s (take k b)) is ∙ drop-take s (e - s) b
@@ -24,10 +26,6 @@ placed_behind old part rest s e n le within enough =
     ∙ take-append-add (take (e - s) (drop s old)) (part ++ rest) n
     ∙ ap (λ (l : List ℕ). take (e - s) (drop s old) ++ l) (take-append-le n part rest enough)
 
-prepend_known-twice : (a b : List ℕ) (left : Option (List ℕ)) → prepend_known a (prepend_known b left) ≡ prepend_known (a ++ b) left
-prepend_known-twice a b None = refl
-prepend_known-twice a b (Some l) = ap Some (sym (append_assoc a b l))
-
 -- a window without its first bytes
 pub skipped : (s e n : ℕ) (b : List ℕ) → s + n ≤ e → take (e - (s + n)) (drop (s + n) b) ≡ drop n (take (e - s) (drop s b))
 skipped s e n b le =
@@ -41,15 +39,12 @@ filled {E} {T} e s to most n old new bytes before after p le some within fits is
     let moved : take (e + n - s) (drop s new) ≡ bytes ++ take n p.part
     = ap (λ (l : List ℕ). take (e + n - s) (drop s l)) p.items ∙ placed_behind old p.part (drop to old) s e n le (omega (arith, some, within)) p.read.bound ∙ ap (λ (l : List ℕ). l ++ take n p.part) (sym is) in
     record {
-      told = ap (prepend_known bytes) p.read.gave ∙ prepend_known-twice bytes (take n p.part) after.left ∙ ap (λ (l : List ℕ). prepend_known l after.left) (sym moved);
+      told = ap (prepend_known bytes) p.read.gave ∙ prepend_twice bytes (take n p.part) after.left ∙ ap (λ (l : List ℕ). prepend_known l after.left) (sym moved);
       grew = (ap length moved ∙ length-append bytes (take n p.part) ∙ ap (λ (k : ℕ). length bytes + k) (length-take-le n p.part p.read.bound), omega (arith, p.read.bound, p.long, fits));
       ends = λ none. p.read.ends none (omega (arith, p.long, some));
       stays = λ none. moved ∙ ap (λ (k : ℕ). bytes ++ take k p.part) none ∙ append-nil bytes;
       kept = tt;
-      cause = record { later = p.read.cause.later; failed = tt };
-      sure = p.read.sure;
-      succeeds = λ is_sure. tt;
-      calm = p.read.calm;
+      count = count_so _ _ p.read.count (λ is. is);
     }
 
 -- a window behind which nothing came
@@ -66,10 +61,7 @@ not_filled {E} {T} x y e s to most old new bytes before after p le within is =
       ends = tt;
       stays = tt;
       kept = (moved, p.read.kept);
-      cause = record { later = p.read.cause.later; failed = p.read.cause.failed };
-      sure = p.read.sure;
-      succeeds = p.read.succeeds;
-      calm = p.read.calm;
+      count = count_so _ _ p.read.count (λ is. refl);
     }
 
 -- a part written back

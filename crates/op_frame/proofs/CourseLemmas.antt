@@ -1,0 +1,358 @@
+-- What a stream comes to: exactly one end, and by which end a reader's answers and those of taking in show it.
+use Rattle.std.proofs.Common.{◌≡◌, ◌≢◌, ℕ, ◌-◌, ◌<◌, ◌≤◌, List, [], ◌∷◌, ◌++◌, length, take, refl, ap, sym, subst, ◌∙◌, arith, append_assoc, length-append, inl, inr}
+use Rattle.std.specs.Prelude.{◌⊎◌, Option, Some, None, IfSome, Result, Ok, Err}
+use Rattle.std.specs.List.{AllByRecursion}
+use Rattle.std.specs.Io.KnownBytes.{prepend_known}
+use Rattle.std.proofs.lemmas.List.{take_all, append-nil}
+use Rattle.std.proofs.lemmas.List.Elements.{All-nil, All-cons, All-head, All-tail, All-append, All-same, recursion_from_All}
+use Rattle.std.proofs.lemmas.Bool.{cases_order}
+use Rattle.fugue_ids.specs.declared.op.Op.{Op}
+use Rattle.outer_ports.specs.Sources.{SourceView}
+use Rattle.origin_model.specs.frames.Frames.{frame, End, Whole as EndsWhole, CutShort as EndsCutShort, BadFrame as EndsInBadFrame, Framed, IsFrame, Reads}
+use Rattle.origin_model.specs.taking.Taking.{Held, Answer, Again, Conflict, Stray, TooMany as AnswersTooMany, Accepted, Full, Waits, intake, answer, answers_from, held_from, intake_counted, tally_from, no_counts}
+use Rattle.origin_model.specs.declared.taking.tally.Tally.{Tally}
+use Rattle.origin_model.proofs.SharedLemmas.{held-append, answers-append}
+use Rattle.op_frame.specs.declared.fault.FrameFault.{FrameFault}
+use Rattle.op_frame.specs.declared.fault.FrameFault.TheVariants as frame_fault
+use Rattle.op_frame.specs.Readers.{Reading, to_give, Follows, Gave, Nexts}
+use Rattle.op_frame.specs.Courses.{HasPlace, Course, Whole, CutShort, BadFrame, TooLong, TooMany, MeetsTooMany, Ends, Comes}
+use Rattle.op_frame.proofs.FrameLemmas.{framed_of, framed_is}
+use Rattle.op_frame.proofs.StreamLemmas.{bytes_of, ops_of, frame_some, reads_once, reads_some, starts_first, starts_more, gave_none, follows}
+use Rattle.op_frame.proofs.ToldLemmas.{prepend_twice, shows, take_past}
+
+-- the operations up to the first that finds no place
+record Refused (hold most : ℕ) (start : Held) (all : List Op) : Type 0 where
+  front : List Op
+  op : Op
+  more : List Op
+  is : all ≡ front ++ op ∷ more
+  has_place : HasPlace hold most start front
+  refused : answer hold most (held_from hold most start front) op ≡ AnswersTooMany
+
+module _ (hold most : ℕ) where
+  -- all find their place, one list behind the other
+  pub places-append : (start : Held) (a b : List Op) → HasPlace hold most start a → HasPlace hold most (held_from hold most start a) b → HasPlace hold most start (a ++ b)
+  places-append start a b p q =
+      All-same (λ (x : Answer). x ≢ AnswersTooMany) _ _ (answers-append hold most start a b)
+      (All-append (λ (x : Answer). x ≢ AnswersTooMany) (answers_from hold most start a) (answers_from hold most (held_from hold most start a) b) p q)
+
+  pub places-one : (start : Held) (op : Op) → (answer hold most start op ≡ AnswersTooMany → ⊥) → HasPlace hold most start (op ∷ [])
+  places-one start op other = All-cons (λ (x : Answer). x ≢ AnswersTooMany) (answer hold most start op) [] other (All-nil (λ (x : Answer). x ≢ AnswersTooMany))
+
+  -- an operation that is taken in finds its place
+  pub no_place_left : (start : Held) (ops more : List Op) (op : Op) → HasPlace hold most start (ops ++ op ∷ more)
+      → answer hold most (held_from hold most start ops) op ≡ AnswersTooMany → ⊥
+  no_place_left start [] more op places is = All-head (λ (x : Answer). x ≢ AnswersTooMany) (answer hold most start op) (answers_from hold most (intake hold most start op) more) places is
+  no_place_left start (o ∷ ops) more op places is =
+      no_place_left (intake hold most start o) ops more op
+      (All-tail (λ (x : Answer). x ≢ AnswersTooMany) (answer hold most start o) (answers_from hold most (intake hold most start o) (ops ++ op ∷ more)) places) is
+
+  -- the first operation that finds no place is one
+  same_refused : (start : Held) (all : List Op) (a b : Refused hold most start all) → a.front ≡ b.front
+  same_refused start all a b = same start a.front b.front a.op b.op a.more b.more (sym a.is ∙ b.is) a.has_place b.has_place a.refused b.refused
+    where
+      same : (s : Held) (a b : List Op) (x y : Op) (more others : List Op) → a ++ x ∷ more ≡ b ++ y ∷ others → HasPlace hold most s a → HasPlace hold most s b
+          → answer hold most (held_from hold most s a) x ≡ AnswersTooMany → answer hold most (held_from hold most s b) y ≡ AnswersTooMany → a ≡ b
+      same s [] [] x y more others is p q r t = refl
+      same s [] (z ∷ b) x y more others is p q r t =
+          let first : x ≡ z = cc is in
+          absurd (no_place_left s [] b z q (subst (λ (o : Op). answer hold most s o ≡ AnswersTooMany) first r))
+      same s (w ∷ a) [] x y more others is p q r t =
+          let first : w ≡ y = cc is in
+          absurd (no_place_left s [] a w p (subst (λ (o : Op). answer hold most s o ≡ AnswersTooMany) (sym first) t))
+      same s (w ∷ a) (z ∷ b) x y more others is p q r t =
+          let first : w ≡ z = cc is in
+          let rest : a ++ x ∷ more ≡ b ++ y ∷ others = cc is in
+          let behind = same (intake hold most s w) a b x y more others rest
+          (All-tail (λ (v : Answer). v ≢ AnswersTooMany) (answer hold most s w) (answers_from hold most (intake hold most s w) a) p)
+          (subst (λ (o : Op). HasPlace hold most (intake hold most s o) b) (sym first)
+          (All-tail (λ (v : Answer). v ≢ AnswersTooMany) (answer hold most s z) (answers_from hold most (intake hold most s z) b) q))
+          r (subst (λ (o : Op). answer hold most (held_from hold most (intake hold most s o) b) y ≡ AnswersTooMany) (sym first) t) in
+          λ i. first i ∷ behind i
+
+  too_many_or_not : (a : Answer) → (a ≡ AnswersTooMany) ⊎ (a ≢ AnswersTooMany)
+  too_many_or_not AnswersTooMany = inl refl
+  too_many_or_not Again = inr (λ is. cc is)
+  too_many_or_not Conflict = inr (λ is. cc is)
+  too_many_or_not (Stray i) = inr (λ is. cc is)
+  too_many_or_not Accepted = inr (λ is. cc is)
+  too_many_or_not Full = inr (λ is. cc is)
+  too_many_or_not Waits = inr (λ is. cc is)
+
+  -- all find their place, or one is the first that finds none
+  taken_or_refused : (start : Held) (ops : List Op) → HasPlace hold most start ops ⊎ Refused hold most start ops
+  taken_or_refused start [] = inl (All-nil (λ (x : Answer). x ≢ AnswersTooMany))
+  taken_or_refused start (op ∷ ops) = elim (too_many_or_not (answer hold most start op)) [
+    | inl many ↦ inr (record { front = []; op = op; more = ops; is = refl; has_place = All-nil (λ (x : Answer). x ≢ AnswersTooMany); refused = many })
+    | inr other ↦ elim (taken_or_refused (intake hold most start op) ops) [
+      | inl places ↦ inl (places-append start (op ∷ []) ops (places-one start op other) places)
+      | inr r ↦ inr (record {
+        front = op ∷ r.front;
+        op = r.op;
+        more = r.more;
+        is = ap (λ (t : List Op). op ∷ t) r.is;
+        has_place = places-append start (op ∷ []) r.front (places-one start op other) r.has_place;
+        refused = r.refused;
+      })
+    ]
+  ]
+
+-- the course of a stream whose bytes up to the limit end so, by whether it is longer
+abbrev course_by : {limit n : ℕ} → End → (n ≤ limit) ⊎ (limit < n) → Course
+course_by (EndsInBadFrame k) long = BadFrame k
+course_by EndsWhole (inl short) = Whole
+course_by (EndsCutShort k) (inl short) = CutShort k
+course_by end (inr long) = TooLong
+
+module _ (hold most : ℕ) where
+  -- an operation of the first frame, or of a later one, finds no place
+  meets_here : (start : Held) (f : Framed) (b : List ℕ) → IsFrame f → (r : Refused hold most start f.ops) → MeetsTooMany hold most start (f.bytes ++ b) r.front
+  meets_here start f b is r = record {
+    earlier = [];
+    rest = f.bytes ++ b;
+    starts = record { found = []; are_frames = tt; ops_are = refl; split = refl };
+    framed = f;
+    behind = b;
+    begins = record { is_frame = is; split = refl };
+    front = r.front;
+    op = r.op;
+    more = r.more;
+    brings = r.is;
+    taken = refl;
+    refused = r.refused;
+  }
+
+  meets_later : (start : Held) (f : Framed) (b : List ℕ) (ops : List Op) → IsFrame f → MeetsTooMany hold most (held_from hold most start f.ops) b ops
+      → MeetsTooMany hold most start (f.bytes ++ b) (f.ops ++ ops)
+  meets_later start f b ops is m = record {
+    earlier = f.ops ++ m.earlier;
+    rest = m.rest;
+    starts = record {
+      found = f ∷ m.starts.found;
+      are_frames = (is, m.starts.are_frames);
+      ops_are = ap (λ (l : List Op). f.ops ++ l) m.starts.ops_are;
+      split = ap (λ (l : List ℕ). f.bytes ++ l) m.starts.split ∙ sym (append_assoc f.bytes (bytes_of m.starts.found) m.rest);
+    };
+    framed = m.framed;
+    behind = m.behind;
+    begins = m.begins;
+    front = m.front;
+    op = m.op;
+    more = m.more;
+    brings = m.brings;
+    taken = ap (λ (l : List Op). f.ops ++ l) m.taken ∙ sym (append_assoc f.ops m.earlier m.front);
+    refused = ap (λ (s : Held). answer hold most s m.op) (sym (held-append hold most start f.ops ops)) ∙ m.refused;
+  }
+
+  -- the operations of frames all find their place, or a frame brings the first that finds none
+  met_or_not : (start : Held) (found : List Framed) (rest : List ℕ) → AllByRecursion IsFrame found
+      → HasPlace hold most start (ops_of found) ⊎ ((ops : List Op) × HasPlace hold most start ops × MeetsTooMany hold most start (bytes_of found ++ rest) ops)
+  met_or_not start [] rest are = inl (All-nil (λ (x : Answer). x ≢ AnswersTooMany))
+  met_or_not start (f ∷ found) rest are = elim (taken_or_refused hold most start f.ops) [
+    | inr r ↦ inr (
+      r.front,
+      r.has_place,
+      subst (λ (b : List ℕ). MeetsTooMany hold most start b r.front) (sym (append_assoc f.bytes (bytes_of found) rest)) (meets_here start f (bytes_of found ++ rest) are.0 r),
+    )
+    | inl places ↦ elim (met_or_not (held_from hold most start f.ops) found rest are.1) [
+      | inl others ↦ inl (places-append hold most start f.ops (ops_of found) places others)
+      | inr m ↦ inr (
+        f.ops ++ m.0,
+        places-append hold most start f.ops m.0 places m.1,
+        subst (λ (b : List ℕ). MeetsTooMany hold most start b (f.ops ++ m.0)) (sym (append_assoc f.bytes (bytes_of found) rest))
+            (meets_later start f (bytes_of found ++ rest) m.0 are.0 m.2),
+      )
+    ]
+  ]
+
+module _ (hold most : ℕ) (start : Held) (limit : ℕ) (bytes : List ℕ) where
+  fits_or_not : (n : ℕ) → (n ≤ limit) ⊎ (limit < n)
+  fits_or_not n = elim (cases_order n limit) [ inl same ↦ inl (omega (arith, same)) | inr (inl less) ↦ inl (omega (arith, less)) | inr (inr more) ↦ inr more ]
+
+  -- a stream comes to some end
+  pub comes_some : (ops : List Op) × (course : Course) × Comes hold most start limit bytes ops course
+  comes_some =
+      let r = reads_some (take limit bytes) in
+      elim (met_or_not hold most start r.2.found r.2.rest r.2.are_frames) [
+        | inl places ↦ by_end r.1 (subst (HasPlace hold most start) (sym r.2.ops_are) places) r.2 (fits_or_not (length bytes))
+        | inr m ↦ (m.0, TooMany, record { has_place = m.1; ends = subst (λ (b : List ℕ). MeetsTooMany hold most start b m.0) (sym r.2.split) m.2 })
+      ]
+    where
+      by_end : {ops : List Op} (end : End) → HasPlace hold most start ops → Reads (take limit bytes) ops end → (length bytes ≤ limit) ⊎ (limit < length bytes)
+          → (ops : List Op) × (course : Course) × Comes hold most start limit bytes ops course
+      by_end {ops} EndsWhole places reads (inl fits) =
+          (ops, Whole, record { has_place = places; ends = (fits, subst (λ (b : List ℕ). Reads b ops EndsWhole) (take_all limit bytes fits) reads) })
+      by_end {ops} EndsWhole places reads (inr longer) = (ops, TooLong, record { has_place = places; ends = (longer, (EndsWhole, reads, inl refl)) })
+      by_end {ops} (EndsCutShort k) places reads (inl fits) =
+          (ops, CutShort k, record { has_place = places; ends = (fits, subst (λ (b : List ℕ). Reads b ops (EndsCutShort k)) (take_all limit bytes fits) reads) })
+      by_end {ops} (EndsCutShort k) places reads (inr longer) = (ops, TooLong, record { has_place = places; ends = (longer, (EndsCutShort k, reads, inr (k, refl))) })
+      by_end {ops} (EndsInBadFrame k) places reads fits = (ops, BadFrame k, record { has_place = places; ends = reads })
+
+  -- what an end says of the reading of the bytes up to the limit
+  abbrev IsPlain : (all : List Op) (end : End) → List Op → Course → Type 0
+  IsPlain all end ops course = HasPlace hold most start all × (ops ≡ all) × (course ≡ course_by end (fits_or_not (length bytes)))
+
+  abbrev IsRefused : (all : List Op) → List Op → Course → Type 0
+  IsRefused all ops course = (r : Refused hold most start all) × (r.front ≡ ops) × (course ≡ TooMany)
+
+  refused_of : (all : List Op) (end : End) (ops : List Op) → HasPlace hold most start ops → Reads (take limit bytes) all end → MeetsTooMany hold most start (take limit bytes) ops
+      → IsRefused all ops TooMany
+  refused_of all end ops places reads m =
+      let first = starts_first (take limit bytes) (m.earlier ++ m.framed.ops) m.behind all end (starts_more (take limit bytes) m.earlier m.rest m.framed m.behind m.starts m.begins) reads in (
+        record {
+          front = ops;
+          op = m.op;
+          more = m.more ++ first.0;
+          is = first.1 ∙ ap (λ (l : List Op). (m.earlier ++ l) ++ first.0) m.brings ∙ regroup m.earlier m.front m.op m.more first.0
+              ∙ ap (λ (l : List Op). l ++ m.op ∷ (m.more ++ first.0)) (sym m.taken);
+          has_place = places;
+          refused = m.refused;
+        },
+        refl,
+        refl,
+      )
+    where
+      regroup : (a b : List Op) (x : Op) (c d : List Op) → (a ++ (b ++ x ∷ c)) ++ d ≡ (a ++ b) ++ x ∷ (c ++ d)
+      regroup a b x c d = simp append_assoc
+
+  short_course : (end : End) (course : Course) (d : (length bytes ≤ limit) ⊎ (limit < length bytes)) → ((fits : length bytes ≤ limit) → course ≡ course_by end (inl fits)) → length bytes ≤ limit
+      → course ≡ course_by end d
+  short_course end course (inl fits) is short = is fits
+  short_course end course (inr longer) is short = absurd (omega (arith, longer, short))
+
+  long_course : (end : End) (d : (length bytes ≤ limit) ⊎ (limit < length bytes)) → ((end ≡ EndsWhole) ⊎ ((offset : ℕ) × (end ≡ EndsCutShort offset))) → limit < length bytes
+      → TooLong ≡ course_by end d
+  long_course end (inl fits) well long = absurd (omega (arith, fits, long))
+  long_course end (inr longer) (inl whole) long = ap (λ (e : End). course_by e (inr longer)) (sym whole)
+  long_course end (inr longer) (inr cut) long = ap (λ (e : End). course_by e (inr longer)) (sym cut.1)
+
+  plain : (all : List Op) (end : End) (ops : List Op) (course : Course) (own : End) → HasPlace hold most start ops → Reads (take limit bytes) all end
+      → Reads (take limit bytes) ops own → course ≡ course_by own (fits_or_not (length bytes)) → IsPlain all end ops course ⊎ IsRefused all ops course
+  plain all end ops course own places reads came is =
+      let same = reads_once (take limit bytes) ops all own end came reads in
+      inl (subst (HasPlace hold most start) same.0 places, same.0, subst (λ (e : End). course ≡ course_by e (fits_or_not (length bytes))) same.1 is)
+
+  plain_or_refused : (all : List Op) (end : End) (ops : List Op) (course : Course) → Reads (take limit bytes) all end → Comes hold most start limit bytes ops course
+      → IsPlain all end ops course ⊎ IsRefused all ops course
+  plain_or_refused all end ops Whole reads c =
+      plain all end ops Whole EndsWhole c.has_place reads (subst (λ (b : List ℕ). Reads b ops EndsWhole) (sym (take_all limit bytes c.ends.0)) c.ends.1) (short_course EndsWhole Whole (fits_or_not (length bytes)) (λ d. refl) c.ends.0)
+  plain_or_refused all end ops (CutShort k) reads c =
+      plain all end ops (CutShort k) (EndsCutShort k) c.has_place reads (subst (λ (b : List ℕ). Reads b ops (EndsCutShort k)) (sym (take_all limit bytes c.ends.0)) c.ends.1) (short_course (EndsCutShort k) (CutShort k) (fits_or_not (length bytes)) (λ d. refl) c.ends.0)
+  plain_or_refused all end ops (BadFrame k) reads c = plain all end ops (BadFrame k) (EndsInBadFrame k) c.has_place reads c.ends refl
+  plain_or_refused all end ops TooLong reads c = plain all end ops TooLong c.ends.1.0 c.has_place reads c.ends.1.1 (long_course c.ends.1.0 (fits_or_not (length bytes)) c.ends.1.2 c.ends.0)
+  plain_or_refused all end ops TooMany reads c = inr (refused_of all end ops c.has_place reads c.ends)
+
+  -- a stream comes to one end
+  pub comes_once : (ops others : List Op) (course other : Course) → Comes hold most start limit bytes ops course → Comes hold most start limit bytes others other
+      → (ops ≡ others) × (course ≡ other)
+  comes_once ops others course other p q =
+      let r = reads_some (take limit bytes) in
+      both r.0 r.1 (plain_or_refused r.0 r.1 ops course r.2 p) (plain_or_refused r.0 r.1 others other r.2 q)
+    where
+      not_both : (all : List Op) → HasPlace hold most start all → Refused hold most start all → ⊥
+      not_both all places r = no_place_left hold most start r.front r.more r.op (subst (HasPlace hold most start) r.is places) r.refused
+
+      both : (all : List Op) (end : End) → IsPlain all end ops course ⊎ IsRefused all ops course → IsPlain all end others other ⊎ IsRefused all others other
+          → (ops ≡ others) × (course ≡ other)
+      both all end (inl a) (inl b) = (a.1 ∙ sym b.1, a.2 ∙ sym b.2)
+      both all end (inl a) (inr b) = absurd (not_both all a.0 b.0)
+      both all end (inr a) (inl b) = absurd (not_both all b.0 a.0)
+      both all end (inr a) (inr b) = (sym a.1 ∙ same_refused hold most start all a.0 b.0 ∙ b.1, a.2 ∙ sym b.2)
+
+-- of the bytes that were told, the reader gave operations which all found their place: what they left, and their counts
+pub record Fed (hold most : ℕ) (start : Held) (told : Option (List ℕ)) (reader : Reading) (left : Option (List ℕ)) (state : Held) (counts : Tally) : Type 0 where
+  pub ops : List Op
+  pub gave : Gave told ops reader left
+  pub has_place : HasPlace hold most start ops
+  pub state_is : state ≡ held_from hold most start ops
+  pub counts_are : counts ≡ tally_from hold most start ops no_counts
+
+tally-append : (hold most : ℕ) (s : Held) (a b : List Op) (t : Tally) → tally_from hold most (held_from hold most s a) b (tally_from hold most s a t) ≡ tally_from hold most s (a ++ b) t
+tally-append hold most s [] b t = refl
+tally-append hold most s (op ∷ a) b t = tally-append hold most (intake hold most s op) a b (intake_counted hold most s op t)
+
+module _ (hold most : ℕ) (start : Held) where
+  -- a fresh reader
+  pub fed_none : (reader : Reading) (left : Option (List ℕ)) → reader.unread ≡ [] → reader.offset ≡ 0 → Fed hold most start left reader left start no_counts
+  fed_none reader left none at = record {
+    ops = [];
+    gave = gave_none reader left none at;
+    has_place = All-nil (λ (x : Answer). x ≢ AnswersTooMany);
+    state_is = refl;
+    counts_are = refl;
+  }
+
+  module _ (told : Option (List ℕ)) (old new : Reading) (before after : SourceView) (state : Held) (counts : Tally) (fed : Fed hold most start told old before.left state counts) where
+    after_it : (result : Result (Option Op) FrameFault) → Nexts old new before after result → Follows told fed.ops old new after result
+    after_it result nexts = follows told fed.ops old new before after fed.gave result nexts
+
+    -- one more operation was given and taken in
+    pub fed_more : (op : Op) → Nexts old new before after (Ok (Some op)) → answer hold most state op ≢ AnswersTooMany
+        → Fed hold most start told new after.left (intake hold most state op) (intake_counted hold most state op counts)
+    fed_more op nexts other = record {
+      ops = fed.ops ++ op ∷ [];
+      gave = (after_it (Ok (Some op)) nexts).gave (λ is. cc is);
+      has_place = places-append hold most start fed.ops (op ∷ []) fed.has_place
+          (places-one hold most (held_from hold most start fed.ops) op (λ many. other (ap (λ (s : Held). answer hold most s op) fed.state_is ∙ many)));
+      state_is = ap (λ (s : Held). intake hold most s op) fed.state_is ∙ held-append hold most start fed.ops (op ∷ []);
+      counts_are = (λ i. intake_counted hold most (fed.state_is i) op (fed.counts_are i)) ∙ tally-append hold most start fed.ops (op ∷ []) no_counts;
+    }
+
+    came : (course : Course) (P : List ℕ → Type 0) → ((bytes : List ℕ) → P bytes → Ends hold most start old.limit bytes fed.ops course) → IfSome told P
+        → IfSome told (λ bytes. Comes hold most start old.limit bytes fed.ops course)
+    came course P ends = by_told told
+      where
+        by_told : (o : Option (List ℕ)) → IfSome o P → IfSome o (λ bytes. Comes hold most start old.limit bytes fed.ops course)
+        by_told None p = tt
+        by_told (Some bytes) p = record { has_place = fed.has_place; ends = ends bytes p }
+
+    -- the stream is over
+    pub fed_whole : Nexts old new before after (Ok None) → IfSome told (λ bytes. Comes hold most start old.limit bytes fed.ops Whole)
+    fed_whole nexts = came Whole _ (λ bytes is. is) (after_it (Ok None) nexts).ends
+
+    -- the stream ends inside of a frame
+    pub fed_cut : (k : ℕ) → Nexts old new before after (Err (frame_fault.CutShort k)) → IfSome told (λ bytes. Comes hold most start old.limit bytes fed.ops (CutShort k))
+    fed_cut k nexts = came (CutShort k) _ (λ bytes is. is) (after_it (Err (frame_fault.CutShort k)) nexts).ends
+
+    -- no frame stands in the stream, up to its limit
+    pub fed_bad : (k : ℕ) → Nexts old new before after (Err (frame_fault.BadFrame k)) → IfSome told (λ bytes. Comes hold most start old.limit bytes fed.ops (BadFrame k))
+    fed_bad k nexts = came (BadFrame k) _ (λ bytes is. is.0) (after_it (Err (frame_fault.BadFrame k)) nexts).ends
+
+    -- the stream goes on behind its limit, up to which it has no fault
+    pub fed_long : Nexts old new before after (Err frame_fault.TooLong) → IfSome told (λ bytes. Comes hold most start old.limit bytes fed.ops TooLong)
+    fed_long nexts = came TooLong _ (λ bytes is. is) (after_it (Err frame_fault.TooLong) nexts).ends
+
+    -- the operation that was given finds no place
+    pub fed_many : (op : Op) → Nexts old new before after (Ok (Some op)) → answer hold most state op ≡ AnswersTooMany
+        → IfSome told (λ bytes. Comes hold most start old.limit bytes fed.ops TooMany)
+    fed_many op nexts many =
+        shows (λ bytes. Comes hold most start old.limit bytes fed.ops TooMany) (bytes_of fed.gave.found ++ frame op) (to_give new after.left) told
+        (fed.gave.split ∙ ap (prepend_known (bytes_of fed.gave.found)) nexts.moves ∙ prepend_twice (bytes_of fed.gave.found) (frame op) (to_give new after.left))
+        (λ rest _. record {
+          has_place = fed.has_place;
+          ends = record {
+            earlier = fed.ops;
+            rest = frame op ++ take (old.limit - new.offset) rest;
+            starts = record {
+              found = fed.gave.found;
+              are_frames = recursion_from_All IsFrame fed.gave.found fed.gave.are_frames;
+              ops_are = fed.gave.ops_are;
+              split = take_past (bytes_of fed.gave.found ++ frame op) rest old.limit new.offset
+                  (omega (arith, nexts.advances.offset, fed.gave.offset, length-append (bytes_of fed.gave.found) (frame op))) (omega (arith, nexts.advances.within, nexts.advances.limit))
+                  ∙ append_assoc (bytes_of fed.gave.found) (frame op) (take (old.limit - new.offset) rest);
+            };
+            framed = framed_of op;
+            behind = take (old.limit - new.offset) rest;
+            begins = record { is_frame = framed_is op nexts.has_frame; split = refl };
+            front = [];
+            op = op;
+            more = [];
+            brings = refl;
+            taken = sym (append-nil fed.ops);
+            refused = ap (λ (s : Held). answer hold most s op) (sym fed.state_is) ∙ many;
+          };
+        })
+
+-- a frame has at least one byte
+pub offset_grows : (op : Op) (old new : Reading) (before after : SourceView) → Nexts old new before after (Ok (Some op)) → old.offset < new.offset
+offset_grows op old new before after nexts = omega (arith, nexts.advances.offset, frame_some op)

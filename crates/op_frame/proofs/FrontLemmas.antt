@@ -1,0 +1,107 @@
+-- What stands at the front of any bytes: a frame, a proper front of one, or neither.
+use Rattle.std.proofs.Common.{◌≡◌, ℕ, ◌<◌, List, [], ◌∷◌, ◌++◌, length, refl, ap, sym, subst, ◌∙◌, arith, inl, inr}
+use Rattle.std.specs.Prelude.{◌^◌, Option, Some, None}
+use Rattle.std.specs.Char.{IsScalar}
+use Rattle.std.specs.Str.{encode_utf8_all}
+use Rattle.std.proofs.lemmas.Bool.Decides.{nat_tests}
+use Rattle.std.proofs.lemmas.Str.{length-le-encodes}
+use Rattle.fugue_ids.specs.Identifiers.{Identifier}
+use Rattle.fugue_ids.specs.Titles.{IsTitleText, has_line_end}
+use Rattle.fugue_ids.specs.declared.op.Op.{Op}
+use Rattle.fugue_ids.specs.declared.op.Op.TheVariants.{Section, Text, Delete}
+use Rattle.origin_model.specs.frames.Frames.{frame, HasFrame, IsIdentifier, IsOrigin, IsTitle, Framed, Begins, IsPartial, IsBad}
+use Rattle.op_frame.proofs.OperationLemmas.{section_fields, text_fields, section_of, text_of}
+use Rattle.op_frame.proofs.FrameLemmas.{framed_of, framed_is}
+use Rattle.op_frame.proofs.SearchLemmas.{Decided, decided_by, both_decided, is_true_decided, is_false_decided, equal_decided, less_decided, Found, IsSearched, below, narrowed, mapped, paired, listed}
+
+identifiers : IsSearched IsIdentifier
+identifiers =
+    mapped _ (paired _ (narrowed _ (below (2 ^ 32)) (λ n. 0 < n) (less_decided 0)) _ (below (2 ^ 32)))
+    (λ pair. record { replica = pair.0; counter = pair.1 }) (λ i. (i.replica, i.counter)) IsIdentifier
+    (λ pair is. record { some_replica = is.0.1; replica_fits = is.0.0; counter_fits = is.1 }) (λ i is. (((is.replica_fits, is.some_replica), is.counter_fits), refl))
+
+origins : IsSearched IsOrigin
+origins property test = by_none (test None) (identifiers (λ i. property (Some i)) (λ i. test (Some i)))
+  where
+    none_there : (property None → ⊥) → (Found IsIdentifier (λ i. property (Some i)) → ⊥) → (o : Option Identifier) → IsOrigin o → property o → ⊥
+    none_there none other None is p = none p
+    none_there none other (Some i) is p = other (record { value = i; member = is; holds = p })
+
+    by_none : Decided (property None) → Decided (Found IsIdentifier (λ i. property (Some i))) → Decided (Found IsOrigin property)
+    by_none (inl p) other = inl (record { value = None; member = tt; holds = p })
+    by_none (inr none) (inl f) = inl (record { value = Some f.value; member = f.member; holds = f.holds })
+    by_none (inr none) (inr other) = inr (λ f. none_there none other f.value f.member f.holds)
+
+scalar_small : (c : ℕ) → IsScalar c → c < 1114112
+scalar_small c is = grind (arith, nat_tests)
+
+scalars : IsSearched IsScalar
+scalars =
+    mapped _ (narrowed _ (below 1114112) IsScalar (λ c. is_true_decided _)) (λ c. c) (λ c. c) IsScalar (λ c is. is.1) (λ c is. ((scalar_small c is, is), refl))
+
+text_decided : (bytes : List ℕ) → Decided (IsTitleText bytes)
+text_decided bytes =
+    decided_by (both_decided (less_decided 0 (length bytes)) (both_decided (less_decided (length bytes) 481) (is_false_decided (has_line_end bytes))))
+    (λ p. record { some = p.0; short = omega (arith, p.1.0); one_line = p.1.1 }) (λ p. (p.some, (omega (arith, p.short), p.one_line)))
+
+titles : IsSearched IsTitle
+titles =
+    mapped _ (narrowed _ (listed _ scalars 480) (λ t. IsTitleText (encode_utf8_all t)) (λ t. text_decided (encode_utf8_all t))) (λ t. t) (λ t. t) IsTitle
+    (λ t is. record { scalars = is.0.1; text = is.1 }) (λ t is. (((omega (arith, length-le-encodes t, is.text.short), is.scalars), is.text), refl))
+
+sections : IsSearched section_fields.valid
+sections = paired _ identifiers _ (paired _ origins _ (paired _ origins _ titles))
+
+texts : IsSearched text_fields.valid
+texts = paired _ identifiers _ (paired _ identifiers _ (paired _ origins _ (paired _ origins _ scalars)))
+
+pub operations : IsSearched HasFrame
+operations property test =
+    by_kind (sections (λ f. property (section_of f)) (λ f. test (section_of f))) (texts (λ f. property (text_of f)) (λ f. test (text_of f)))
+    (identifiers (λ i. property (Delete i)) (λ i. test (Delete i)))
+  where
+    none_there : (Found section_fields.valid (λ f. property (section_of f)) → ⊥) → (Found text_fields.valid (λ f. property (text_of f)) → ⊥) → (Found IsIdentifier (λ i. property (Delete i)) → ⊥)
+        → (op : Op) → HasFrame op → property op → ⊥
+    none_there a b c (Section i l r t) has p = a (record { value = (i, (l, (r, t))); member = (has.0, (has.1, (has.2, has.3))); holds = p })
+    none_there a b c (Text i s l r ch) has p = b (record { value = (i, (s, (l, (r, ch)))); member = (has.0, (has.1, (has.2, (has.3, has.4)))); holds = p })
+    none_there a b c (Delete i) has p = c (record { value = i; member = has; holds = p })
+
+    by_kind : Decided (Found section_fields.valid (λ f. property (section_of f))) → Decided (Found text_fields.valid (λ f. property (text_of f)))
+        → Decided (Found IsIdentifier (λ i. property (Delete i))) → Decided (Found HasFrame property)
+    by_kind (inl f) b c = inl (record { value = section_of f.value; member = (f.member.0, f.member.1.0, f.member.1.1.0, f.member.1.1.1); holds = f.holds })
+    by_kind (inr no_section) (inl f) c =
+        inl (record { value = text_of f.value; member = (f.member.0, f.member.1.0, f.member.1.1.0, f.member.1.1.1.0, f.member.1.1.1.1); holds = f.holds })
+    by_kind (inr no_section) (inr no_text) (inl f) = inl (record { value = Delete f.value; member = f.member; holds = f.holds })
+    by_kind (inr no_section) (inr no_text) (inr no_delete) = inr (λ f. none_there no_section no_text no_delete f.value f.member f.holds)
+
+-- some bytes begin others, and what follows has a property
+abbrev Continues : (List ℕ → Type 0) → (front bytes : List ℕ) → Type 0
+Continues property front bytes = (rest : List ℕ) × property rest × (bytes ≡ front ++ rest)
+
+continues_decided : (property : List ℕ → Type 0) → ((rest : List ℕ) → Decided (property rest)) → (front bytes : List ℕ) → Decided (Continues property front bytes)
+continues_decided property test [] bytes = decided_by (test bytes) (λ p. (bytes, p, refl)) (λ c. subst property (sym c.2) c.1)
+continues_decided property test (x ∷ front) [] = inr (λ c. cc c.2)
+continues_decided property test (x ∷ front) (y ∷ bytes) =
+    decided_by (both_decided (equal_decided y x) (continues_decided property test front bytes))
+    (λ p. (p.1.0, p.1.1, λ i. p.0 i ∷ p.1.2 i)) (λ c. (cc c.2, (c.0, c.1, cc c.2)))
+
+-- what stands at the front
+pub data Front (b : List ℕ) : Type 0 where
+  frame_there : (framed : Framed) (rest : List ℕ) → Begins b framed rest → Front b
+  front_there : IsPartial b → Front b
+  bad_there : IsBad b → Front b
+
+pub front_of : (b : List ℕ) → Front b
+front_of b =
+    by_search (operations (λ op. Continues (λ rest. Unit {0}) (frame op) b) (λ op. continues_decided (λ rest. Unit {0}) (λ rest. inl tt) (frame op) b))
+    (operations (λ op. Continues (λ rest. 0 < length rest) b (frame op)) (λ op. continues_decided (λ rest. 0 < length rest) (λ rest. less_decided 0 (length rest)) b (frame op)))
+  where
+    by_search : Decided (Found HasFrame (λ op. Continues (λ rest. Unit {0}) (frame op) b)) → Decided (Found HasFrame (λ op. Continues (λ rest. 0 < length rest) b (frame op)))
+        → Front b
+    by_search (inl f) other = frame_there (framed_of f.value) f.holds.0 (record { is_frame = framed_is f.value f.member; split = f.holds.2 })
+    by_search (inr none) (inl f) =
+        front_there (record { framed = framed_of f.value; is_frame = framed_is f.value f.member; more = f.holds.0; lacks = f.holds.1; front = f.holds.2 })
+    by_search (inr none) (inr neither) = bad_there (record {
+      no_frame = λ framed rest p. none (record { value = p.is_frame.op; member = p.is_frame.has_frame; holds = (rest, tt, p.split ∙ ap (λ (l : List ℕ). l ++ rest) p.is_frame.bytes_are) });
+      no_front = λ p. neither (record { value = p.is_frame.op; member = p.is_frame.has_frame; holds = (p.more, p.lacks, sym p.is_frame.bytes_are ∙ p.front) });
+    })

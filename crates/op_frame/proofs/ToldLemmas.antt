@@ -1,0 +1,27 @@
+-- Bytes that are told, with bytes before them.
+use Rattle.std.proofs.Common.{◌≡◌, ℕ, ◌+◌, ◌-◌, ◌≤◌, List, [], ◌++◌, length, take, refl, ap, sym, subst, ◌∙◌, arith, append_assoc}
+use Rattle.std.specs.Prelude.{Option, Some, None, IfSome}
+use Rattle.std.specs.Io.KnownBytes.{prepend_known}
+use Rattle.std.proofs.Math.Seq.{take-append-add}
+
+pub prepend_none : (left : Option (List ℕ)) → prepend_known [] left ≡ left
+prepend_none None = refl
+prepend_none (Some l) = refl
+
+pub prepend_twice : (a b : List ℕ) (left : Option (List ℕ)) → prepend_known a (prepend_known b left) ≡ prepend_known (a ++ b) left
+prepend_twice a b None = refl
+prepend_twice a b (Some l) = ap Some (sym (append_assoc a b l))
+
+-- what holds of the first bytes with anything behind them holds of what is told
+pub shows : (P : List ℕ → Type 0) (front : List ℕ) (left told : Option (List ℕ)) → told ≡ prepend_known front left → ((rest : List ℕ) → left ≡ Some rest → P (front ++ rest)) → IfSome told P
+shows P front None told is holds = subst (λ t. IfSome t P) (sym is) tt
+shows P front (Some rest) told is holds = subst (λ t. IfSome t P) (sym is) (holds rest refl)
+
+pub some_is : {X : Type 0} (P : X → Type 0) (left : Option X) (rest : X) → IfSome left P → left ≡ Some rest → P rest
+some_is P left rest holds is = subst (λ o. IfSome o P) is holds
+
+-- a front with the rest up to a limit
+pub take_past : (front rest : List ℕ) (limit offset : ℕ) → offset ≡ length front → offset ≤ limit → take limit (front ++ rest) ≡ front ++ take (limit - offset) rest
+take_past front rest limit offset at inside =
+    let count : limit ≡ length front + (limit - offset) = omega (arith, at, inside) in
+    ap (λ (n : ℕ). take n (front ++ rest)) count ∙ take-append-add front rest (limit - offset)
