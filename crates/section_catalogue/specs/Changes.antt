@@ -1,18 +1,14 @@
 -- One step of a manuscript, by its look-ups.
-use Rattle.std.specs.Prelude.{◌≡◌, ◌≢◌, Option, Some, true, ℕ, List, option_map, IfSome, IsSome}
+use Rattle.std.specs.Prelude.{◌≡◌, Option, Some, true, ℕ, List, option_map, IfSome, IsSome}
 use Rattle.fugue_ids.specs.Identifiers.{Identifier}
-use Rattle.origin_model.specs.Nodes.{has_node}
-use Rattle.origin_model.specs.declared.node.Node.{Node}
-use Rattle.origin_model.specs.declared.place.Place.{Place}
-use Rattle.origin_model.specs.declared.place.Place.TheVariants.{Catalogue as catalogue, Section as within}
-use Rattle.section_list.specs.Listings.{nothing as no_elements, with_element, with_hidden}
+use Rattle.fugue_ids.specs.Keyed.{IsReplaced}
+use Rattle.origin_model.specs.sides.Node.{has_node}
+use Rattle.origin_model.specs.declared.sides.node.Node.{Node}
+use Rattle.origin_model.specs.declared.operations.place.Place.{Place}
+use Rattle.origin_model.specs.declared.operations.place.Place.TheVariants.{Catalogue as catalogue, Section as within}
+use Rattle.section_list.specs.SectionList.{nothing as no_elements, with_element, with_hidden}
 use Rattle.section_catalogue.specs.declared.section.Section.{Section as Titled}
 use Rattle.section_catalogue.specs.Contents.{Contents, section_at, place_at}
-
--- the answer at x is v now, and each other one is as before
-pub record IsPut {X : Type 0} (old new : Identifier → X) (x : Identifier) (v : X) : Type 0 where
-  pub here : new x ≡ v
-  pub others : (y : Identifier) → y ≢ x → new y ≡ old y
 
 -- each answer is as before
 abbrev pub IsSame : {X : Type 0} → (Identifier → X) → (Identifier → X) → Type 0
@@ -31,16 +27,16 @@ abbrev pub with_hidden_text : Identifier → Option Titled → Option Titled
 with_hidden_text x e = option_map (λ (t : Titled). record t { text = with_hidden x t.text }) e
 
 -- a section came
-pub record HasSection (old new : Contents) (n : Node) (title : List ℕ) : Type 0 where
+pub record AddsSection (old new : Contents) (n : Node) (title : List ℕ) : Type 0 where
   pub listed : new.catalogue ≡ with_element n 32 old.catalogue
-  pub sections : IsPut (section_at old) (section_at new) n.id (new_section title)
-  pub places : IsPut (place_at old) (place_at new) n.id (Some catalogue)
+  pub sections : IsReplaced (section_at old) (section_at new) n.id (new_section title)
+  pub places : IsReplaced (place_at old) (place_at new) n.id (Some catalogue)
 
 -- an element of the section s came
-pub record HasText (old new : Contents) (s : Identifier) (n : Node) (ch : ℕ) : Type 0 where
+pub record AddsText (old new : Contents) (s : Identifier) (n : Node) (ch : ℕ) : Type 0 where
   pub listed : new.catalogue ≡ old.catalogue
-  pub sections : IsPut (section_at old) (section_at new) s (with_text n ch (section_at old s))
-  pub places : IsPut (place_at old) (place_at new) n.id (Some (within s))
+  pub sections : IsReplaced (section_at old) (section_at new) s (with_text n ch (section_at old s))
+  pub places : IsReplaced (place_at old) (place_at new) n.id (Some (within s))
 
 -- the element x was hidden in the catalogue
 pub record HidesSection (old new : Contents) (x : Identifier) : Type 0 where
@@ -51,7 +47,7 @@ pub record HidesSection (old new : Contents) (x : Identifier) : Type 0 where
 -- the element x was hidden in the section s
 pub record HidesText (old new : Contents) (s x : Identifier) : Type 0 where
   pub listed : new.catalogue ≡ old.catalogue
-  pub sections : IsPut (section_at old) (section_at new) s (with_hidden_text x (section_at old s))
+  pub sections : IsReplaced (section_at old) (section_at new) s (with_hidden_text x (section_at old s))
   pub places : IsSame (place_at old) (place_at new)
 
 -- the section is there, and x is an element of its text

@@ -5,8 +5,8 @@ use Rattle.std.specs.Map.{lookup}
 use Rattle.fugue_ids.specs.Identifiers.{Identifier, id_cmp}
 use Rattle.fugue_ids.specs.declared.op.Op.{Op}
 use Rattle.fugue_ids.specs.declared.op.Op.TheVariants.{Section, Text, Delete}
-use Rattle.origin_model.specs.declared.place.Place.{Place}
-use Rattle.section_list.specs.Listings.{Listing}
+use Rattle.origin_model.specs.declared.operations.place.Place.{Place}
+use Rattle.section_list.specs.SectionList.{Listing}
 use Rattle.section_catalogue.specs.declared.section.Section.{Section as Titled}
 use Rattle.section_catalogue.specs.declared.tables.Tables.{Tables}
 

@@ -1,5 +1,5 @@
 pub mod Changes
 pub mod Contents
-pub mod Parts
-pub mod Places
-pub mod Standing
+pub mod Manuscript
+pub mod Place
+pub mod Section

@@ -1,15 +1,15 @@
 //! One element more.
 
 ghost use Rattle.std.specs.Prelude.{◌≡◌, ◌<◌, None, IfSome, IsSome, OnErr, OnOk, length};
-ghost use Rattle.origin_model.specs.Nodes.{IsNew};
-ghost use Rattle.section_catalogue.specs.Changes.{HasSection, HasText, IsUnchanged};
+ghost use Rattle.origin_model.specs.sides.Node.{IsNew};
+ghost use Rattle.section_catalogue.specs.Changes.{AddsSection, AddsText, IsUnchanged};
 ghost use Rattle.section_catalogue.specs.Contents.{contents_of, entry_at};
 
 use crate::maps::{clear, put};
 use crate::section::Section;
 use crate::sections::insert_text;
 use crate::tables::Tables;
-use fugue_ids::{ElementId, NoMemory, Title};
+use fugue_ids::{ElementId, MOST_OPERATIONS, NoMemory, Title};
 use origin_model::{Node, Place};
 use section_list::SectionList;
 use std::alloc::Global;
@@ -22,10 +22,10 @@ pub(crate) fn add_section(
     title: &Title,
 ) -> Result<(), NoMemory>
     requires new { IsNew tables.old.catalogue.nodes node.now }
-    requires room { length tables.old.catalogue.cells < 4194304 }
+    requires room { length tables.old.catalogue.cells < MOST_OPERATIONS }
     requires untitled { entry_at tables.old.sections.entries node.now.id ≡ None }
     requires unplaced { entry_at tables.old.places.entries node.now.id ≡ None }
-    ensures ok { OnOk result (HasSection (contents_of tables.old) (contents_of tables.new) node.now title.now) }
+    ensures ok { OnOk result (AddsSection (contents_of tables.old) (contents_of tables.new) node.now title.now) }
     ensures err { OnErr result (IsUnchanged (contents_of tables.old) (contents_of tables.new)) }
 {
     let entry = Section {
@@ -56,9 +56,9 @@ pub(crate) fn add_text(
 ) -> Result<(), NoMemory>
     requires there { IsSome (entry_at tables.old.sections.entries section.now) }
     requires new { IfSome (entry_at tables.old.sections.entries section.now) (λ e. IsNew e.text.nodes node.now) }
-    requires room { IfSome (entry_at tables.old.sections.entries section.now) (λ e. length e.text.cells < 4194304) }
+    requires room { IfSome (entry_at tables.old.sections.entries section.now) (λ e. length e.text.cells < MOST_OPERATIONS) }
     requires unplaced { entry_at tables.old.places.entries node.now.id ≡ None }
-    ensures ok { OnOk result (HasText (contents_of tables.old) (contents_of tables.new) section.now node.now ch) }
+    ensures ok { OnOk result (AddsText (contents_of tables.old) (contents_of tables.new) section.now node.now ch) }
     ensures err { OnErr result (IsUnchanged (contents_of tables.old) (contents_of tables.new)) }
 {
     put(&mut tables.places, node.id, Place::Section(*section))?;

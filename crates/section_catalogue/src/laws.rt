@@ -1,13 +1,9 @@
 //! Laws of the definitions.
 
-ghost use Rattle.section_catalogue.specs.Standing.{HeldHasPlace, PlacesBounded};
+ghost use Rattle.section_catalogue.specs.Manuscript.{LookUpsAreDefinitions};
 
-/// No place has more elements than the history has operations, so where the history has room, each place has.
-pub fn places_bounded()
-    ensures { PlacesBounded }
-{}
-
-/// A manuscript has a place for each element of the histories that it stands for, so it can hide each.
-pub fn held_has_place()
-    ensures { HeldHasPlace }
+/// The look-ups of a manuscript tell what the definitions say of each history that it stands for, at every place: what is visible there is what
+/// is shown, the text is the text that is shown, and what follows an element, hidden ones counted, is the next one of the order.
+pub fn look_ups_are_the_definitions()
+    ensures { LookUpsAreDefinitions }
 {}

@@ -1,8 +1,6 @@
 //! All places of a manuscript: its catalogue, and the title and text of each section.
 #![tactic(auto)]
 
-#[cfg(test)]
-mod beside;
 mod growth;
 mod hiding;
 mod laws;
@@ -15,6 +13,6 @@ mod tables;
 #[cfg(test)]
 mod tests;
 
-pub use laws::{held_has_place, places_bounded};
+pub use laws::look_ups_are_the_definitions;
 pub use manuscript::Manuscript;
 pub use origin_model::Place;

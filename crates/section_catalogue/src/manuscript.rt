@@ -1,18 +1,18 @@
 ghost use Rattle.std.specs.Prelude.{◌≡◌, ◌<◌, [], length, slice_get, option_map, IsSome, OnErr, OnOk};
-ghost use Rattle.fugue_ids.specs.Ops.{id_of};
 ghost use Rattle.fugue_ids.specs.Outs.{WritesText};
-ghost use Rattle.origin_model.specs.Printed.{manuscript as manuscript_on, shown};
-ghost use Rattle.origin_model.specs.declared.place.Place.TheVariants.{Catalogue as catalogue};
+ghost use Rattle.origin_model.specs.operations.History.{place};
+ghost use Rattle.origin_model.specs.order.Printed.{manuscript as manuscript_on, shown};
+ghost use Rattle.origin_model.specs.declared.operations.place.Place.TheVariants.{Catalogue as catalogue};
 ghost use Rattle.section_catalogue.specs.Contents.{place_at, place_count, text_at};
-ghost use Rattle.section_catalogue.specs.Standing.{Grows, HasHistory, Hides, IsReadyOn, OnEach, StandsFor, Stays, nothing};
+ghost use Rattle.section_catalogue.specs.Manuscript.{Grows, HasHistory, Hides, IsReadyOn, OnEach, StandsFor, Stays, nothing};
 
 use crate::growth::{add_section, add_text};
 use crate::hiding::hide_at;
 use crate::maps::find;
-use crate::printing::write_sections;
+use crate::printing::put_sections;
 use crate::tables::Tables;
-use fugue_ids::{ElementId, Failed, NoMemory, Op};
-use origin_model::{Node, Place, causes_first, order_by_nodes, order_total, same_nodes_same_order};
+use fugue_ids::{ElementId, Failed, Gather, MOST_OPERATIONS, NoMemory, Op};
+use origin_model::{Node, Place};
 use outer_ports::Sink;
 use section_list::SectionList;
 use std::alloc::Global;
@@ -31,7 +31,7 @@ pub struct Manuscript {
 
 impl Model for Manuscript {
     ghost use Rattle.section_catalogue.specs.Contents.{Contents, contents_of};
-    ghost use Rattle.section_catalogue.specs.Standing.{HasHistory};
+    ghost use Rattle.section_catalogue.specs.Manuscript.{HasHistory};
 
     ghost Value = { Contents };
 
@@ -45,6 +45,7 @@ impl Manuscript {
     pub fn new(alloc: Global) -> Manuscript
         ensures nothing { result ≡ nothing }
         ensures stands { StandsFor result [] }
+        ensures has_history { HasHistory result }
     {
         Manuscript {
             alloc,
@@ -59,35 +60,39 @@ impl Manuscript {
     /// The place that holds the element, hidden or not.
     pub fn place_of(&self, id: ElementId) -> Option<Place>
         ensures place { result ≡ place_at self.now id }
-        ensures stands { HasHistory self.now }
+        ensures has_history { HasHistory self.now }
     {
         find(&self.tables.places, &id)
     }
 
     /// How many sections are shown.
     pub fn section_count(&self) -> usize
-        ensures { OnEach self.now (λ h. result ≡ length (shown catalogue h)) }
+        ensures count { OnEach self.now (λ h. result ≡ length (shown catalogue h)) }
+        ensures has_history { HasHistory self.now }
     {
         self.tables.catalogue.visible_count()
     }
 
     /// The section with k shown ones before it that is shown itself.
     pub fn section_at(&self, k: usize) -> Option<ElementId>
-        ensures { OnEach self.now (λ h. result ≡ slice_get (shown catalogue h) k) }
+        ensures section { OnEach self.now (λ h. result ≡ slice_get (shown catalogue h) k) }
+        ensures has_history { HasHistory self.now }
     {
         self.tables.catalogue.nth_visible(k)
     }
 
     /// The sections in order, hidden ones too, each with a space for its scalar.
     pub fn catalogue(&self) -> &SectionList
-        ensures { result.now ≡ self.now.catalogue }
+        ensures catalogue { result.now ≡ self.now.catalogue }
+        ensures has_history { HasHistory self.now }
     {
         &self.tables.catalogue
     }
 
     /// The text of a section, hidden or not.
     pub fn section(&self, id: ElementId) -> Option<&SectionList>
-        ensures { option_map (λ text. text.now) result ≡ text_at self.now id }
+        ensures text { option_map (λ text. text.now) result ≡ text_at self.now id }
+        ensures has_history { HasHistory self.now }
     {
         match self.tables.sections.get(&id) {
             Some(section) => Some(&section.text),
@@ -98,32 +103,29 @@ impl Manuscript {
     /// Takes in a Section or a Text that is Ready. After want of memory all is as before.
     pub fn insert(&mut self, op: &Op) -> Result<(), NoMemory>
         requires ready { IsReadyOn self.old op.now }
-        requires element { IsSome (id_of op.now) }
-        requires room { place_count self.old op.now < 4194304 }
+        requires placed { IsSome (place op.now) }
+        requires room { place_count self.old op.now < MOST_OPERATIONS }
         ensures ok { OnOk result (Grows self.old self.new op.now) }
         ensures err { OnErr result (Stays self.old self.new) }
+        ensures has_history { HasHistory self.new }
     {
-        order_total();
-        order_by_nodes();
-        same_nodes_same_order();
-        causes_first();
         match op {
             Op::Section {
+                title,
                 id,
                 left,
                 right,
-                title,
             } => {
                 let (id, left, right) = (*id, *left, *right);
                 let node = Node { id, left, right };
                 add_section(&mut self.tables, self.alloc, &node, title)
             }
             Op::Text {
-                id,
+                ch,
+                right,
                 section,
                 left,
-                right,
-                ch,
+                id,
             } => {
                 let (id, left, right) = (*id, *left, *right);
                 let node = Node { id, left, right };
@@ -138,22 +140,23 @@ impl Manuscript {
         requires { IsSome (place_at self.old id) }
         ensures ok { OnOk result (Hides self.old self.new id) }
         ensures err { OnErr result (Stays self.old self.new) }
+        ensures has_history { HasHistory self.new }
     {
-        order_total();
-        order_by_nodes();
-        same_nodes_same_order();
-        causes_first();
         match find(&self.tables.places, &id) {
             Some(place) => hide_at(&mut self.tables, &place, id),
             None => Ok(()),
         }
     }
 
-    /// Writes the manuscript: what is shown of each shown section, in the order of the catalogue. After a failure a front of it is written.
+    /// Writes the manuscript: what is shown of each shown section, in the order of the catalogue. It goes out by whole arrays, and after a failure a
+    /// front of it is written. It takes no memory.
     pub fn write_all<O: Sink>(&self, output: &mut O) -> Result<(), Failed>
-        ensures { OnEach self.now (λ h. WritesText (O.seen output.old) (O.seen output.new) result (manuscript_on h)) }
+        ensures text { OnEach self.now (λ h. WritesText (O.seen output.old) (O.seen output.new) result (manuscript_on h)) }
+        ensures has_history { HasHistory self.now }
     {
-        order_total();
-        write_sections(output, &self.tables.sections, self.tables.catalogue.cells())
+        let mut gather = Gather::new();
+        let tables = &self.tables;
+        put_sections(&mut gather, output, &tables.sections, &tables.catalogue)?;
+        gather.flush(output)
     }
 }

@@ -1,7 +1,8 @@
 //! Maps from identifiers, which a step back leaves as they were.
 
 ghost use Rattle.std.specs.Prelude.{◌≡◌, None, Some, OnErr, OnOk};
-ghost use Rattle.section_catalogue.specs.Changes.{IsPut, IsSame};
+ghost use Rattle.fugue_ids.specs.Keyed.{IsReplaced};
+ghost use Rattle.section_catalogue.specs.Changes.{IsSame};
 ghost use Rattle.section_catalogue.specs.Contents.{entry_at};
 
 use fugue_ids::{ElementId, NoMemory};
@@ -13,18 +14,18 @@ pub(crate) fn put<V: Drop>(
     id: ElementId,
     value: V,
 ) -> Result<(), NoMemory>
-    ensures ok { OnOk result (IsPut (entry_at map.old.entries) (entry_at map.new.entries) id (Some value)) }
+    ensures ok { OnOk result (IsReplaced (entry_at map.old.entries) (entry_at map.new.entries) id (Some value)) }
     ensures err { OnErr result (IsSame (entry_at map.old.entries) (entry_at map.new.entries)) }
 {
     match map.insert(id, value) {
         Ok(_) => Ok(()),
-        Err(_) => Err(NoMemory),
+        Err(refused) => Err(NoMemory::from(refused)),
     }
 }
 
 /// Nothing stands at the identifier any more.
 pub(crate) fn clear<V: Drop>(map: &mut BTreeMap<ElementId, V>, id: &ElementId)
-    ensures { IsPut (entry_at map.old.entries) (entry_at map.new.entries) id.now None }
+    ensures { IsReplaced (entry_at map.old.entries) (entry_at map.new.entries) id.now None }
 {
     map.remove(id);
 }

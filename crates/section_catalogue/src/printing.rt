@@ -1,58 +1,50 @@
-//! The manuscript in bytes.
+//! The manuscript in bytes, which are gathered and go out by whole arrays.
 
-ghost use Rattle.std.specs.Prelude.{◌≡◌, ◌∷◌, [], ◌++◌, codes, flat_map};
-ghost use Rattle.std.specs.Str.{encode_utf8_all};
-ghost use Rattle.fugue_ids.specs.Outs.{WritesText};
-ghost use Rattle.section_catalogue.specs.Parts.{part, printed};
+ghost use Rattle.std.specs.Prelude.{◌≡◌, ◌∷◌, [], ◌++◌, flat_map};
+ghost use Rattle.fugue_ids.specs.Gathers.{GathersText};
+ghost use Rattle.section_list.specs.Cells.{ids, visible_cells};
+ghost use Rattle.section_catalogue.specs.Section.{printed, printed_at};
 
 use crate::section::Section;
-use fugue_ids::{ElementId, Failed, Title, write_pieces, write_whole};
-use outer_ports::Sink;
-use section_list::Cell;
+use fugue_ids::{ElementId, Failed, Gather, Out};
+use section_list::SectionList;
 use std::collections::BTreeMap;
 
-fn write_heading<O: Sink>(output: &mut O, title: &Title) -> Result<(), Failed>
-    ensures { WritesText (O.seen output.old) (O.seen output.new) result (codes "# " ++ encode_utf8_all title.now ++ 10 ∷ []) }
+fn put_section<O: Out>(gather: &mut Gather, output: &mut O, section: &Section) -> Result<(), Failed>
+    ensures { GathersText (O.seen output.old) (O.seen output.new) gather.old gather.new result (printed section.now) }
 {
-    let title = title.as_str();
-    write_pieces(output, &[b"# ", title.as_bytes(), b"\n"])
+    gather.put_heading(output, section.title.as_str())?;
+    section.text.put_text(gather, output)?;
+    gather.put(output, b"\n")
 }
 
-fn write_section<O: Sink>(output: &mut O, section: &Section) -> Result<(), Failed>
-    ensures { WritesText (O.seen output.old) (O.seen output.new) result (printed section.now) }
-{
-    write_heading(output, &section.title)?;
-    section.text.write_text(output)?;
-    write_whole(output, b"\n")
-}
-
-/// Writes the section of a cell that is not hidden.
-fn write_shown<O: Sink>(
+/// Puts the section with the identifier.
+fn put_at<O: Out>(
+    gather: &mut Gather,
     output: &mut O,
     sections: &BTreeMap<ElementId, Section>,
-    cell: &Cell,
+    id: &ElementId,
 ) -> Result<(), Failed>
-    ensures { WritesText (O.seen output.old) (O.seen output.new) result (part sections.now.entries cell.now) }
+    ensures { GathersText (O.seen output.old) (O.seen output.new) gather.old gather.new result (printed_at sections.now.entries id.now) }
 {
-    if cell.hidden {
-        return Ok(());
-    }
-    match sections.get(&cell.id) {
-        Some(section) => write_section(output, section),
+    match sections.get(id) {
+        Some(section) => put_section(gather, output, section),
         None => Ok(()),
     }
 }
 
-/// Writes the sections whose cells are not hidden, in order.
-pub(crate) fn write_sections<O: Sink>(
+/// Puts the visible sections of the catalogue, in order.
+pub(crate) fn put_sections<O: Out>(
+    gather: &mut Gather,
     output: &mut O,
     sections: &BTreeMap<ElementId, Section>,
-    cells: &[Cell],
+    catalogue: &SectionList,
 ) -> Result<(), Failed>
-    ensures { WritesText (O.seen output.old) (O.seen output.new) result (flat_map (part sections.now.entries) cells.now) }
+    ensures { GathersText (O.seen output.old) (O.seen output.new) gather.old gather.new result (flat_map (printed_at sections.now.entries) (ids (visible_cells catalogue.now.cells))) }
 {
-    'cells: for cell in cells {
-        write_shown(output, sections, cell)?;
+    let mut shown = catalogue.shown();
+    'sections: while let Some(id) = shown.step() {
+        put_at(gather, output, sections, &id)?;
     }
     Ok(())
 }

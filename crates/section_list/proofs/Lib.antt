@@ -1,5 +1,4 @@
-pub mod Gaps
-pub mod Growth
-pub mod Hiding
-pub mod Undone
-pub mod Visible
+pub mod GapLemmas
+pub mod GrowthLemmas
+pub mod HidingLemmas
+pub mod VisibleLemmas

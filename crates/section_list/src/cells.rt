@@ -1,13 +1,16 @@
-ghost use Rattle.std.specs.Prelude.{◌≡◌, ◌<◌, ◌≤◌, [], false, length, map, slice_get, OnErr, OnOk};
+ghost use Rattle.std.specs.Prelude.{◌≡◌, ◌≢◌, ◌+◌, ◌<◌, ◌≤◌, AllPairs, Contains, [], false, length, map, slice_get, OnErr, OnOk};
 ghost use Rattle.std.specs.List.{insert};
 ghost use Rattle.std.specs.Str.{encode_utf8_all};
-ghost use Rattle.std.specs.Char.{encode_utf8};
-ghost use Rattle.fugue_ids.specs.Listed.{IsListed, index_of};
-ghost use Rattle.fugue_ids.specs.Outs.{WritesText};
-ghost use Rattle.section_list.specs.Cells.{AreDistinct, following, ids, is_hidden as hidden_in, text, text_of, visible_cells, hiding};
+ghost use Rattle.fugue_ids.specs.Listed.{index_of};
+ghost use Rattle.fugue_ids.specs.Identifiers.{Identifier};
+ghost use Rattle.fugue_ids.specs.Gathers.{GathersText};
+ghost use Rattle.origin_model.specs.sides.Slot.{IsBeside, at_gap};
+ghost use Rattle.origin_model.specs.edits.Landing.{following};
+ghost use Rattle.section_list.specs.Cells.{ids, is_hidden as hidden_in, text, text_of, visible_cells, hiding};
 
 use crate::cell::Cell;
-use fugue_ids::{ElementId, Failed, NoMemory, OrderOf, Out, write_whole};
+use crate::shown::Shown;
+use fugue_ids::{ElementId, Failed, Gap, Gather, MOST_OPERATIONS, NoMemory, OrderOf, Out};
 use std::alloc::Global;
 use std::marker::Model;
 
@@ -56,12 +59,6 @@ impl Cells {
         self.items.len()
     }
 
-    pub fn as_slice(&self) -> &[Cell]
-        ensures { result.now ≡ self.now }
-    {
-        self.items.as_slice()
-    }
-
     pub fn visible_count(&self) -> usize
         ensures { result ≡ length (visible_cells self.now) }
     {
@@ -102,20 +99,57 @@ impl Cells {
     pub fn after(&self, id: Option<ElementId>) -> Option<ElementId>
         ensures { result ≡ following (ids self.now) id }
     {
-        let at = match id {
-            None => 0,
-            Some(id) => self.position(id).saturating_add(1),
-        };
-        match self.items.get(at) {
+        match id {
+            None => self.first(),
+            Some(id) => self.behind(self.position(id)),
+        }
+    }
+
+    /// The first cell.
+    fn first(&self) -> Option<ElementId>
+        ensures { result ≡ slice_get (ids self.now) 0 }
+    {
+        match self.items.first() {
             Some(cell) => Some(cell.id),
             None => None,
+        }
+    }
+
+    /// The cell behind this position.
+    fn behind(&self, position: usize) -> Option<ElementId>
+        ensures { result ≡ slice_get (ids self.now) (position + 1) }
+    {
+        match self.items.get(position.saturating_add(1)) {
+            Some(cell) => Some(cell.id),
+            None => None,
+        }
+    }
+
+    /// A walk along the cells that are not hidden.
+    pub fn shown(&self) -> Shown<'_>
+        ensures { result ≡ ids (visible_cells self.now) }
+    {
+        Shown::new(&self.items)
+    }
+
+    /// How many cells stand before the gap.
+    pub fn gap_position(&self, gap: &Gap) -> usize
+        requires beside { IsBeside gap.now (ids self.now) }
+        requires room { length self.now < MOST_OPERATIONS }
+        ensures within { result ≤ length self.now }
+        ensures place { (x : Identifier) → at_gap gap.now x (ids self.now) ≡ insert (ids self.now) result x }
+    {
+        match gap {
+            Gap::Alone => 0,
+            Gap::Before(next) => self.position(*next),
+            Gap::After(last) => self.position(*last) + 1,
         }
     }
 
     /// One visible cell more, behind `at` others.
     pub fn insert(&mut self, at: usize, id: ElementId, ch: char) -> Result<(), NoMemory>
         requires within { at ≤ length self.old }
-        requires room { length self.old < 4194304 }
+        requires room { length self.old < MOST_OPERATIONS }
         ensures ok { OnOk result (self.new ≡ insert self.old at (record { id = id; ch = ch; hidden = false })) }
         ensures err { OnErr result (self.new ≡ self.old) }
     {
@@ -124,19 +158,15 @@ impl Cells {
             ch,
             hidden: false,
         };
-        match self.items.insert(at, cell) {
-            Ok(()) => {
-                self.visible += 1;
-                Ok(())
-            }
-            Err(_) => Err(NoMemory),
-        }
+        self.items.insert(at, cell)?;
+        self.visible += 1;
+        Ok(())
     }
 
     /// Hides the cell with this identifier.
     pub fn hide(&mut self, id: ElementId)
-        requires held { IsListed (ids self.old) id }
-        requires distinct { AreDistinct (ids self.old) }
+        requires held { Contains (ids self.old) id }
+        requires distinct { AllPairs (λ x y. x ≢ y) (ids self.old) }
         ensures { self.new ≡ map (hiding id) self.old }
     {
         let at = self.position(id);
@@ -147,12 +177,12 @@ impl Cells {
         }
     }
 
-    /// Writes the scalars that are not hidden, in order.
-    pub fn write_text<O: Out>(&self, output: &mut O) -> Result<(), Failed>
-        ensures { WritesText (O.seen output.old) (O.seen output.new) result (encode_utf8_all (text self.now)) }
+    /// Puts the scalars that are not hidden, in order.
+    pub fn put_text<O: Out>(&self, gather: &mut Gather, output: &mut O) -> Result<(), Failed>
+        ensures { GathersText (O.seen output.old) (O.seen output.new) gather.old gather.new result (encode_utf8_all (text self.now)) }
     {
         'cells: for cell in &self.items {
-            write_visible(output, cell)?;
+            put_visible(gather, output, cell)?;
         }
         Ok(())
     }
@@ -172,20 +202,12 @@ fn position_in(cells: &[Cell], id: ElementId) -> usize
     i
 }
 
-fn write_scalar<O: Out>(output: &mut O, ch: char) -> Result<(), Failed>
-    ensures { WritesText (O.seen output.old) (O.seen output.new) result (encode_utf8 ch) }
-{
-    let mut buffer = [0u8; 4];
-    let text = ch.encode_utf8(&mut buffer);
-    write_whole(output, text.as_bytes())
-}
-
-/// Writes the scalar of a cell that is not hidden.
-fn write_visible<O: Out>(output: &mut O, cell: &Cell) -> Result<(), Failed>
-    ensures { WritesText (O.seen output.old) (O.seen output.new) result (encode_utf8_all (text_of cell.now)) }
+/// Puts the scalar of a cell that is not hidden.
+fn put_visible<O: Out>(gather: &mut Gather, output: &mut O, cell: &Cell) -> Result<(), Failed>
+    ensures { GathersText (O.seen output.old) (O.seen output.new) gather.old gather.new result (encode_utf8_all (text_of cell.now)) }
 {
     if cell.hidden {
         return Ok(());
     }
-    write_scalar(output, cell.ch)
+    gather.put_scalar(output, cell.ch)
 }

@@ -4,8 +4,10 @@
 mod cell;
 mod cells;
 mod place;
+mod shown;
 #[cfg(test)]
 mod tests;
 
 pub use cell::Cell;
 pub use place::SectionList;
+pub use shown::Shown;

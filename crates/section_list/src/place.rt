@@ -1,15 +1,16 @@
-ghost use Rattle.std.specs.Prelude.{◌≡◌, ◌<◌, ◌≤◌, ◌∷◌, [], false, true, length, slice_get, OnErr, OnOk};
-ghost use Rattle.std.specs.List.{insert};
+ghost use Rattle.std.specs.Prelude.{◌≡◌, ◌<◌, false, true, length, slice_get, OnErr, OnOk};
 ghost use Rattle.std.specs.Str.{encode_utf8_all};
+ghost use Rattle.fugue_ids.specs.Gathers.{GathersText};
 ghost use Rattle.fugue_ids.specs.Outs.{WritesText};
-ghost use Rattle.origin_model.specs.Nodes.{IsNew, has_node, has_origin, node_order};
-ghost use Rattle.section_list.specs.Cells.{following, ids, is_hidden as hidden_in, text, visible_cells};
-ghost use Rattle.section_list.specs.Listings.{IsInOrder, nothing, with_element, with_hidden};
+ghost use Rattle.origin_model.specs.sides.Node.{has_node, has_origin};
+ghost use Rattle.origin_model.specs.edits.Landing.{following};
+ghost use Rattle.section_list.specs.Cells.{ids, is_hidden as hidden_in, text, visible_cells};
+ghost use Rattle.section_list.specs.SectionList.{IsInOrder, nothing, with_element, with_hidden};
 
-use crate::cell::Cell;
 use crate::cells::Cells;
-use fugue_ids::{ElementId, Failed, Gap, NoMemory};
-use origin_model::{Node, nodes_are_history, order_total};
+use crate::shown::Shown;
+use fugue_ids::{ElementId, Failed, Gather, MOST_OPERATIONS, NoMemory, Out};
+use origin_model::Node;
 use outer_ports::Sink;
 use sided_tree::SidedTree;
 use std::alloc::Global;
@@ -23,7 +24,7 @@ pub struct SectionList {
 }
 
 impl Model for SectionList {
-    ghost use Rattle.section_list.specs.Listings.{IsInOrder, Listing};
+    ghost use Rattle.section_list.specs.SectionList.{IsInOrder, Listing};
 
     ghost Value = { Listing };
 
@@ -52,13 +53,6 @@ impl SectionList {
         self.cells.len()
     }
 
-    /// The elements in order, hidden ones too.
-    pub fn cells(&self) -> &[Cell]
-        ensures { result.now ≡ self.now.cells }
-    {
-        self.cells.as_slice()
-    }
-
     pub fn visible_count(&self) -> usize
         ensures { result ≡ length (visible_cells self.now.cells) }
     {
@@ -85,6 +79,13 @@ impl SectionList {
         self.cells.nth_visible(i)
     }
 
+    /// A walk along the visible elements, in order. All its steps together pass each element once.
+    pub fn shown(&self) -> Shown<'_>
+        ensures { result ≡ ids (visible_cells self.now.cells) }
+    {
+        self.cells.shown()
+    }
+
     /// The element behind this one, hidden or not; the first one for None. None comes back for one that is not held or stands last.
     pub fn after(&self, id: Option<ElementId>) -> Option<ElementId>
         ensures { result ≡ following (ids self.now.cells) id }
@@ -103,16 +104,14 @@ impl SectionList {
         requires fresh { has_node self.old.nodes id ≡ false }
         requires left { has_origin self.old.nodes left ≡ true }
         requires right { has_origin self.old.nodes right ≡ true }
-        requires room { length self.old.cells < 4194304 }
+        requires room { length self.old.cells < MOST_OPERATIONS }
         ensures ok { OnOk result (self.new ≡ with_element (record { id = id; left = left; right = right }) ch self.old) }
         ensures err { OnErr result (self.new ≡ self.old) }
         ensures in_order { IsInOrder self.new }
     {
-        nodes_are_history();
-        let node = Node { id, left, right };
-        let at = gap_position(&self.tree, &self.cells, &node);
-        self.tree
-            .attach(node.id, node.left, node.right, &self.cells)?;
+        let spot = self.tree.find_spot(&Node { id, left, right }, &self.cells);
+        let at = self.cells.gap_position(&self.tree.gap(&spot));
+        self.tree.attach_at(&spot)?;
         match self.cells.insert(at, id, ch) {
             Ok(()) => Ok(()),
             Err(refused) => {
@@ -130,31 +129,23 @@ impl SectionList {
         ensures again { hidden_in self.old.cells id ≡ true → self.new ≡ self.old }
         ensures in_order { IsInOrder self.new }
     {
-        nodes_are_history();
-        order_total();
         self.cells.hide(id);
         Ok(())
     }
 
-    /// Writes the text: the scalars of the visible elements, in order.
+    /// Writes the text: the scalars of the visible elements, in order. They go out by whole arrays, and it takes no memory.
     pub fn write_text<O: Sink>(&self, output: &mut O) -> Result<(), Failed>
         ensures { WritesText (O.seen output.old) (O.seen output.new) result (encode_utf8_all (text self.now.cells)) }
     {
-        self.cells.write_text(output)
+        let mut gather = Gather::new();
+        self.put_text(&mut gather, output)?;
+        gather.flush(output)
     }
-}
 
-/// How many cells stand before the place of a new element.
-fn gap_position(tree: &SidedTree, cells: &Cells, node: &Node) -> usize
-    requires new { IsNew tree.now node.now }
-    requires list { ids cells.now ≡ node_order tree.now }
-    requires room { length cells.now < 4194304 }
-    ensures within { result ≤ length cells.now }
-    ensures place { node_order (node.now ∷ tree.now) ≡ insert (ids cells.now) result node.now.id }
-{
-    match tree.find_gap(node.id, node.left, node.right, cells) {
-        Gap::Alone => 0,
-        Gap::Before(next) => cells.position(next),
-        Gap::After(last) => cells.position(last) + 1,
+    /// Puts the text behind what waits to go out.
+    pub fn put_text<O: Out>(&self, gather: &mut Gather, output: &mut O) -> Result<(), Failed>
+        ensures { GathersText (O.seen output.old) (O.seen output.new) gather.old gather.new result (encode_utf8_all (text self.now.cells)) }
+    {
+        self.cells.put_text(gather, output)
     }
 }

@@ -1,5 +1,5 @@
 ghost use Rattle.std.specs.Prelude.{◌≡◌, IsTrue, true};
-ghost use Rattle.origin_model.specs.Nodes.{has_origin};
+ghost use Rattle.origin_model.specs.sides.Node.{has_origin};
 
 use crate::SectionList;
 use fugue_ids::{ElementId, NoMemory};

@@ -1,8 +1,8 @@
-pub mod Keys
-pub mod NodeMaps
-pub mod Parting
-pub mod ListGaps
-pub mod Ranks
-pub mod RightOrigins
-pub mod Trees
-pub mod Walks
+pub mod NodesLemmas
+pub mod PartingLemmas
+pub mod RankLemmas
+pub mod RightOriginLemmas
+pub mod SlotLemmas
+pub mod SpotLemmas
+pub mod TreeLemmas
+pub mod WalkLemmas

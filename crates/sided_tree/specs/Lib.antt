@@ -1,5 +1,5 @@
 pub mod Children
-pub mod NodeMaps
-pub mod Sides
-pub mod Siblings
-pub mod Trees
+pub mod Nodes
+pub mod Side
+pub mod SidedTree
+pub mod Spot

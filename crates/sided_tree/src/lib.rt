@@ -2,8 +2,6 @@
 #![tactic(auto)]
 
 mod children;
-#[cfg(test)]
-mod listed;
 mod nodes;
 mod origins;
 mod positions;
@@ -15,4 +13,5 @@ mod tests;
 mod tree;
 
 pub use fugue_ids::{Gap, OrderOf, Side};
+pub use spot::Spot;
 pub use tree::SidedTree;

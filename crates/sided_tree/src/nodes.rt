@@ -1,11 +1,11 @@
 ghost use Rattle.std.specs.Prelude.{◌≡◌, ◌∷◌, [], true, false, OnErr, OnOk};
-ghost use Rattle.origin_model.specs.Detached.{without};
-ghost use Rattle.origin_model.specs.Nodes.{AreNodes, find_node, has_node};
+ghost use Rattle.origin_model.specs.sides.Detached.{without};
+ghost use Rattle.origin_model.specs.sides.Node.{AreNodes, find_node, has_node};
 
 use crate::origins::Origins;
 use crate::positions::last_position;
 use fugue_ids::{ElementId, NoMemory};
-use origin_model::{Node, detach_any};
+use origin_model::Node;
 use std::alloc::Global;
 use std::collections::BTreeMap;
 use std::marker::Model;
@@ -20,8 +20,8 @@ pub(crate) struct Nodes {
 
 impl Model for Nodes {
     ghost use Rattle.std.specs.Prelude.{List};
-    ghost use Rattle.origin_model.specs.declared.node.Node.{Node};
-    ghost use Rattle.sided_tree.specs.NodeMaps.{IsNodeMap, nodes_in};
+    ghost use Rattle.origin_model.specs.declared.sides.node.Node.{Node};
+    ghost use Rattle.sided_tree.specs.Nodes.{IsNodeMap, nodes_in};
 
     ghost Value = { List Node };
 
@@ -64,9 +64,7 @@ impl Nodes {
             left: node.left,
             right: node.right,
         };
-        let Ok(()) = self.ages.push(node.id) else {
-            return Err(NoMemory);
-        };
+        self.ages.push(node.id)?;
         let Ok(_) = self.origins.insert(node.id, origins) else {
             self.ages.pop();
             return Err(NoMemory);
@@ -80,7 +78,6 @@ impl Nodes {
         requires held { has_node self.old id ≡ true }
         ensures { self.new ≡ without id self.old }
     {
-        detach_any();
         let at = last_position(&self.ages, id);
         self.ages.remove(at);
         self.origins.remove(&id);

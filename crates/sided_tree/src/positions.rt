@@ -1,11 +1,10 @@
-ghost use Rattle.std.specs.Prelude.{◌≡◌, Some, slice_get};
-ghost use Rattle.origin_model.specs.Laws.{In};
+ghost use Rattle.std.specs.Prelude.{◌≡◌, Contains, Some, slice_get};
 
 use fugue_ids::ElementId;
 
 /// The last position of an identifier that the list has.
 pub(crate) fn last_position(ids: &[ElementId], id: ElementId) -> usize
-    requires { In id ids.now }
+    requires { Contains ids.now id }
     ensures { slice_get ids.now result ≡ Some id }
 {
     let mut at = ids.len();

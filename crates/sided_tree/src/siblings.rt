@@ -1,6 +1,6 @@
 ghost use Rattle.std.specs.Prelude.{◌≡◌};
-ghost use Rattle.origin_model.specs.Order.{place_in};
-ghost use Rattle.sided_tree.specs.Siblings.{StandsIn, ranked};
+ghost use Rattle.origin_model.specs.order.Order.{index_of_origin, ranked};
+ghost use Rattle.sided_tree.specs.Spot.{StandsIn};
 
 use fugue_ids::{ElementId, OrderOf};
 
@@ -15,7 +15,7 @@ pub(crate) fn goes_first<F: OrderOf>(
 ) -> bool
     requires here_stands { StandsIn here (F.listed order.now) }
     requires there_stands { StandsIn there (F.listed order.now) }
-    ensures { result ≡ ranked (place_in (F.listed order.now) here) (place_in (F.listed order.now) there) a b }
+    ensures { result ≡ ranked (index_of_origin (F.listed order.now) here) (index_of_origin (F.listed order.now) there) a b }
 {
     match (here, there) {
         (None, None) => a < b,

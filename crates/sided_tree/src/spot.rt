@@ -1,8 +1,9 @@
-use origin_model::Slot;
+use origin_model::{Node, Slot};
 
 /// Where a new node goes in: into the slot, behind `at` children that are there.
 #[derive(Clone, Copy, Debug)]
-pub(crate) struct Spot {
+pub struct Spot {
+    pub node: Node,
     pub slot: Slot,
     pub at: usize,
 }

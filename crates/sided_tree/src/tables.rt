@@ -1,19 +1,18 @@
-ghost use Rattle.std.specs.Prelude.{◌≡◌, ◌≤◌, List, [], false, true, length, take, drop, None};
-ghost use Rattle.origin_model.specs.Laws.{Each, Ordered};
-ghost use Rattle.origin_model.specs.Nodes.{IsNew, as_op, as_ops, find_node, node_order};
-ghost use Rattle.origin_model.specs.Order.{fork_before, has_left as has_left_on, right_at};
-ghost use Rattle.origin_model.specs.Sided.{BeforeBlock, IsGap, IsParted, NoElder, goes_before, slot_by};
-ghost use Rattle.origin_model.specs.declared.slot.Slot.TheVariants.{RightOf};
+ghost use Rattle.std.specs.Prelude.{◌≡◌, ◌≤◌, All, List, [], false, true, length, take, drop, None};
+ghost use Rattle.origin_model.specs.sides.Node.{IsNew, as_op, as_ops, find_node, node_order};
+ghost use Rattle.origin_model.specs.order.Order.{IsOrderedBy, fork_before, has_left as has_left_on, right_at};
+ghost use Rattle.origin_model.specs.sides.Slot.{BeforeBlock, IsGap, NoElder, goes_before, slot_by};
+ghost use Rattle.origin_model.specs.declared.sides.slot.Slot.TheVariants.{RightOf};
 ghost use Rattle.sided_tree.specs.Children.{children_in};
-ghost use Rattle.sided_tree.specs.Siblings.{StandsIn};
-ghost use Rattle.sided_tree.specs.Trees.{BehindBlock, IsTree};
+ghost use Rattle.sided_tree.specs.SidedTree.{BehindBlock, IsTree};
+ghost use Rattle.sided_tree.specs.Spot.{IsSpotAmong, StandsIn};
 
 use crate::children::{Children, children_at};
 use crate::nodes::Nodes;
 use crate::siblings::goes_first;
 use crate::spot::Spot;
 use fugue_ids::{ElementId, Gap, OrderOf};
-use origin_model::{Node, Slot, children_newer, nodes_are_history};
+use origin_model::{Node, Slot};
 use std::alloc::Global;
 
 /// The nodes, and the children of each slot.
@@ -35,10 +34,10 @@ impl Tables {
     }
 
     /// Whether r is a node with this left origin.
+    #[tactic(auto, using(crate::proofs::RightOriginLemmas::held_nodes))]
     fn has_left(&self, r: ElementId, left: &Option<ElementId>) -> bool
         ensures { result ≡ has_left_on (as_ops self.now.nodes) r left.now }
     {
-        nodes_are_history();
         match self.nodes.find(r) {
             Some(node) => node.left == *left,
             None => false,
@@ -46,10 +45,10 @@ impl Tables {
     }
 
     /// The right origin of a node.
+    #[tactic(auto, using(crate::proofs::RightOriginLemmas::held_nodes))]
     fn right_of(&self, id: ElementId) -> Option<ElementId>
         ensures { result ≡ right_at (as_ops self.now.nodes) id }
     {
-        nodes_are_history();
         match self.nodes.find(id) {
             Some(node) => node.right,
             None => None,
@@ -71,7 +70,6 @@ impl Tables {
         requires { IsTree self.now.nodes (children_in self.now.children) }
         ensures { BehindBlock (children_in self.now.children) s result }
     {
-        children_newer();
         let mut current = s;
         'walk: while let Some(last) = children_at(
             &self.children,
@@ -88,7 +86,6 @@ impl Tables {
         requires { IsTree self.now.nodes (children_in self.now.children) }
         ensures { BeforeBlock (children_in self.now.children) q result }
     {
-        children_newer();
         let mut current = q;
         'walk: while let Some(first) = children_at(&self.children, &Slot::LeftOf(current)).first() {
             current = *first;
@@ -98,12 +95,12 @@ impl Tables {
 
     /// How many of the siblings, which stand in order, go before the new node.
     fn elders<F: OrderOf>(&self, order: &F, siblings: &[ElementId], node: &Node) -> usize
-        requires sorted { Ordered (fork_before (F.listed order.now) (as_ops self.now.nodes)) siblings.now }
-        requires origins { Each (λ v. StandsIn (right_at (as_ops self.now.nodes) v) (F.listed order.now)) siblings.now }
+        requires sorted { IsOrderedBy (fork_before (F.listed order.now) (as_ops self.now.nodes)) siblings.now }
+        requires origins { All (λ v. StandsIn (right_at (as_ops self.now.nodes) v) (F.listed order.now)) siblings.now }
         requires own { StandsIn node.now.right (F.listed order.now) }
         ensures within { result ≤ length siblings.now }
-        ensures elder { Each (λ v. goes_before (F.listed order.now) (as_ops self.now.nodes) (as_op node.now) node.now.id v ≡ true) (take result siblings.now) }
-        ensures younger { Each (λ v. goes_before (F.listed order.now) (as_ops self.now.nodes) (as_op node.now) node.now.id v ≡ false) (drop result siblings.now) }
+        ensures elder { All (λ v. goes_before (F.listed order.now) (as_ops self.now.nodes) (as_op node.now) node.now.id v ≡ true) (take result siblings.now) }
+        ensures younger { All (λ v. goes_before (F.listed order.now) (as_ops self.now.nodes) (as_op node.now) node.now.id v ≡ false) (drop result siblings.now) }
     {
         let mut low = 0;
         let mut high = siblings.len();
@@ -124,15 +121,16 @@ impl Tables {
         requires tree { IsTree self.now.nodes (children_in self.now.children) }
         requires new { IsNew self.now.nodes node.now }
         requires list { F.listed order.now ≡ node_order self.now.nodes }
-        ensures slot { result.slot ≡ slot_by (as_ops self.now.nodes) node.now.left node.now.right }
-        ensures within { result.at ≤ length (children_in self.now.children result.slot) }
-        ensures parted { IsParted (F.listed order.now) (as_ops self.now.nodes) (as_op node.now) node.now.id (children_in self.now.children result.slot)
-            (take result.at (children_in self.now.children result.slot)) (drop result.at (children_in self.now.children result.slot)) }
+        ensures node { result.node ≡ node.now }
+        ensures spot { IsSpotAmong self.now.nodes (children_in self.now.children) result }
     {
-        nodes_are_history();
         let slot = self.slot(node.left, node.right);
         let at = self.elders(order, children_at(&self.children, &slot), node);
-        Spot { slot, at }
+        Spot {
+            node: *node,
+            slot,
+            at,
+        }
     }
 
     /// The gap before all siblings at the start.

@@ -1,15 +1,17 @@
 ghost use Rattle.std.specs.Prelude.{◌≡◌, ◌↔◌, ◌∷◌, [], false, true, OnErr, OnOk};
 ghost use Rattle.fugue_ids.specs.declared.gap.Gap.TheVariants.{Alone};
 ghost use Rattle.fugue_ids.specs.declared.side.Side.TheVariants.{Left};
-ghost use Rattle.origin_model.specs.Detached.{NoOrigin, without};
-ghost use Rattle.origin_model.specs.Nodes.{AreNodes, has_node, has_origin, node_order};
-ghost use Rattle.origin_model.specs.Sided.{IsBeside, at_gap};
-ghost use Rattle.sided_tree.specs.Sides.{HangsLeft};
+ghost use Rattle.origin_model.specs.sides.Detached.{NoOrigin, without};
+ghost use Rattle.origin_model.specs.sides.Node.{AreNodes, IsNew, has_node, has_origin, node_order};
+ghost use Rattle.origin_model.specs.sides.Slot.{IsBeside, at_gap};
+ghost use Rattle.sided_tree.specs.Side.{HangsLeft};
+ghost use Rattle.sided_tree.specs.Spot.{IsSpot};
 
 use crate::children::{child_position, insert_child, remove_child};
+use crate::spot::Spot;
 use crate::tables::Tables;
 use fugue_ids::{ElementId, Gap, NoMemory, OrderOf, Side};
-use origin_model::{Node, Slot, attach_keeps, detach_any, gap_is_place, nodes_are_history};
+use origin_model::{Node, Slot};
 use std::alloc::Global;
 use std::marker::Model;
 
@@ -27,9 +29,9 @@ pub struct SidedTree {
 
 impl Model for SidedTree {
     ghost use Rattle.std.specs.Prelude.{List};
-    ghost use Rattle.origin_model.specs.declared.node.Node.{Node};
+    ghost use Rattle.origin_model.specs.declared.sides.node.Node.{Node};
     ghost use Rattle.sided_tree.specs.Children.{children_in};
-    ghost use Rattle.sided_tree.specs.Trees.{IsTree};
+    ghost use Rattle.sided_tree.specs.SidedTree.{IsTree};
 
     ghost Value = { List Node };
 
@@ -70,6 +72,28 @@ impl SidedTree {
         }
     }
 
+    /// Where a new node goes in: `gap` and `attach_at` take the answer, as long as the nodes are the same.
+    pub fn find_spot<F: OrderOf>(&self, node: &Node, order: &F) -> Spot
+        requires new { IsNew self.now node.now }
+        requires list { F.listed order.now ≡ node_order self.now }
+        ensures node { result.node ≡ node.now }
+        ensures spot { IsSpot self.now result }
+        ensures are_nodes { AreNodes self.now }
+    {
+        self.tables.spot(order, node)
+    }
+
+    /// The gap of the order into which the node of the spot goes.
+    pub fn gap(&self, spot: &Spot) -> Gap
+        requires { IsSpot self.now spot.now }
+        ensures place { node_order (spot.now.node ∷ self.now) ≡ at_gap result spot.now.node.id (node_order self.now) }
+        ensures beside { IsBeside result (node_order self.now) }
+        ensures alone { (result ≡ Alone) ↔ (self.now ≡ []) }
+        ensures are_nodes { AreNodes self.now }
+    {
+        self.tables.gap(spot)
+    }
+
     /// The gap of the order into which a new node with these origins goes.
     pub fn find_gap<F: OrderOf>(
         &self,
@@ -87,16 +111,29 @@ impl SidedTree {
         ensures alone { (result ≡ Alone) ↔ (self.now ≡ []) }
         ensures are_nodes { AreNodes self.now }
     {
-        gap_is_place();
-        nodes_are_history();
-        let node = Node { id, left, right };
-        let spot = self.tables.spot(order, &node);
-        self.tables.gap(&spot)
+        let spot = self.find_spot(&Node { id, left, right }, order);
+        self.gap(&spot)
     }
 
-    /// One node more. After want of memory the tree is as before. Of all calls, this one alone takes memory.
+    /// The node of the spot more. After want of memory the tree is as before. Of all calls, this one and `attach` alone take memory.
     ///
     /// The siblings behind the new node are moved by one place.
+    pub fn attach_at(&mut self, spot: &Spot) -> Result<(), NoMemory>
+        requires { IsSpot self.old spot.now }
+        ensures ok { OnOk result (self.new ≡ spot.now.node ∷ self.old) }
+        ensures err { OnErr result (self.new ≡ self.old) }
+        ensures are_nodes { AreNodes self.new }
+    {
+        let children = &mut self.tables.children;
+        insert_child(children, self.alloc, spot.slot, spot.at, spot.node.id)?;
+        if let Err(fault) = self.tables.nodes.push(spot.node) {
+            remove_child(&mut self.tables.children, spot.slot, spot.at);
+            return Err(fault);
+        }
+        Ok(())
+    }
+
+    /// One node more, where its spot is not known yet.
     pub fn attach<F: OrderOf>(
         &mut self,
         id: ElementId,
@@ -112,22 +149,8 @@ impl SidedTree {
         ensures err { OnErr result (self.new ≡ self.old) }
         ensures are_nodes { AreNodes self.new }
     {
-        attach_keeps();
-        nodes_are_history();
-        let node = Node { id, left, right };
-        let spot = self.tables.spot(order, &node);
-        insert_child(
-            &mut self.tables.children,
-            self.alloc,
-            spot.slot,
-            spot.at,
-            id,
-        )?;
-        if let Err(fault) = self.tables.nodes.push(node) {
-            remove_child(&mut self.tables.children, spot.slot, spot.at);
-            return Err(fault);
-        }
-        Ok(())
+        let spot = self.find_spot(&Node { id, left, right }, order);
+        self.attach_at(&spot)
     }
 
     /// One node less. The cost grows with the number of newer nodes and of siblings: it is small for the newest node.
@@ -137,8 +160,6 @@ impl SidedTree {
         ensures others { self.new ≡ without id self.old }
         ensures are_nodes { AreNodes self.new }
     {
-        detach_any();
-        nodes_are_history();
         if let Some(node) = self.tables.nodes.find(id) {
             let slot = self.tables.slot(node.left, node.right);
             let at = child_position(&self.tables.children, &slot, id);

@@ -1,4 +1,4 @@
-use Rattle.fugue_ids.specs.SameIdentifiers.{id_at-other}
+use Rattle.fugue_ids.proofs.IdentifierLemmas.{id_at-other}
 use Rattle.section_catalogue.proofs.maps.clear.Goals as goal
 
 pub returns : goal.returns

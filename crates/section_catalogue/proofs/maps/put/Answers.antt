@@ -1,4 +1,4 @@
-use Rattle.fugue_ids.specs.SameIdentifiers.{id_at-other}
+use Rattle.fugue_ids.proofs.IdentifierLemmas.{id_at-other}
 use Rattle.section_catalogue.proofs.maps.put.Goals as goal
 
 pub returns-in-Ok-clause-ok : goal.returns-in-Ok-clause-ok

@@ -1,19 +1,15 @@
 use Rattle.std.proofs.Common.{subst, sym, ◌∙◌}
+use Rattle.std.proofs.lemmas.Result.{on_err_weaker, on_ok_weaker}
 use Rattle.section_catalogue.specs.Changes.{HidesAt, IsUnchanged}
 use Rattle.section_catalogue.specs.Contents.{contents_of}
-use Rattle.section_catalogue.specs.Standing.{HasHistory, Hides, Stays, once_hidden}
-use Rattle.section_catalogue.proofs.Conditions.{held_at}
-use Rattle.section_catalogue.proofs.Grown.{law_of}
-use Rattle.section_catalogue.proofs.HiddenOnce.{stands_hidden}
-use Rattle.section_catalogue.proofs.Texts.{if_err, if_ok}
-use Rattle.section_catalogue.proofs.Unchanged.{either, stays, still}
+use Rattle.section_catalogue.specs.Manuscript.{HasHistory, Hides, Stays, once_hidden}
+use Rattle.section_catalogue.proofs.ConditionLemmas.{held_at}
+use Rattle.section_catalogue.proofs.HidingLemmas.{stands_hidden}
+use Rattle.section_catalogue.proofs.UnchangedLemmas.{either, stays, still}
 use Rattle.section_catalogue.proofs.manuscript.Manuscript.hide.Goals as goal
 
 pub hide_at-requires : goal.hide_at-requires
-hide_at-requires c =
-    let first = c.causes_first.ensures in
-    let law = law_of c.order_total.ensures c.order_by_nodes.ensures c.same_nodes_same_order.ensures first.fresh first.section first.text first.hidden in
-    held_at law (contents_of c.self.inside.tables) c.self.invariant.history c.in-Some.place c.args.id c.self.invariant.stands (sym c.find.ensures ∙ c.in-Some.is)
+hide_at-requires c = held_at (contents_of c.self.inside.tables) c.self.invariant.history c.in-Some.place c.args.id c.self.invariant.stands (sym c.find.ensures ∙ c.in-Some.is)
 
 pub invariant_of-self : goal.invariant_of-self
 invariant_of-self c =
@@ -21,22 +17,20 @@ invariant_of-self c =
     let new = contents_of c.hide_at.new.tables in
     let h = c.self.invariant.history in
     either c.hide_at.result (HidesAt old new c.in-Some.place c.args.id) (IsUnchanged old new) (HasHistory new) c.hide_at.ensures.ok c.hide_at.ensures.err
-    (λ k. record {
-      history = once_hidden c.args.id h;
-      stands = stands_hidden c.order_total.ensures c.causes_first.ensures.delete old new c.in-Some.place c.args.id (sym c.find.ensures ∙ c.in-Some.is) k h c.self.invariant.stands;
-    })
+    (λ k. record { history = once_hidden c.args.id h; stands = stands_hidden old new c.in-Some.place c.args.id (sym c.find.ensures ∙ c.in-Some.is) k h c.self.invariant.stands })
     (λ u. record { history = h; stands = still old new u h c.self.invariant.stands })
+
+pub returns-in-Some-clause-has_history : goal.returns-in-Some-clause-has_history
+returns-in-Some-clause-has_history c = invariant_of-self c
 
 pub returns-in-Some-clause-ok : goal.returns-in-Some-clause-ok
 returns-in-Some-clause-ok c =
     let old = contents_of c.self.inside.tables in
     let new = contents_of c.hide_at.new.tables in
-    if_ok c.hide_at.result _ _
-    (λ k. subst (λ m. Hides m new c.args.id) c.self.view_is
-    (stands_hidden c.order_total.ensures c.causes_first.ensures.delete old new c.in-Some.place c.args.id (sym c.find.ensures ∙ c.in-Some.is) k)) c.hide_at.ensures.ok
+    on_ok_weaker c.hide_at.result
+    (λ k. subst (λ m. Hides m new c.args.id) c.self.view_is (stands_hidden old new c.in-Some.place c.args.id (sym c.find.ensures ∙ c.in-Some.is) k)) c.hide_at.ensures.ok
 
 pub returns-in-Some-clause-err : goal.returns-in-Some-clause-err
 returns-in-Some-clause-err c =
-    let old = contents_of c.self.inside.tables in
     let new = contents_of c.hide_at.new.tables in
-    if_err c.hide_at.result _ _ (λ u. subst (λ m. Stays m new) c.self.view_is (stays old new u)) c.hide_at.ensures.err
+    on_err_weaker c.hide_at.result (λ u. subst (λ m. Stays m new) c.self.view_is (stays (contents_of c.self.inside.tables) new u)) c.hide_at.ensures.err

@@ -1,6 +1,6 @@
 use Rattle.std.proofs.Common.{[], refl, subst, sym, ap, ◌∙◌, ◌≡◌}
-use Rattle.origin_model.specs.Nodes.{AreNodes, node_order}
-use Rattle.origin_model.specs.Order.{order}
+use Rattle.origin_model.specs.sides.Node.{AreNodes, node_order}
+use Rattle.origin_model.specs.order.Order.{order}
 use Rattle.section_list.specs.Cells.{ids}
 use Rattle.section_list.proofs.place.SectionList.new.Goals as goal
 

@@ -1,17 +1,17 @@
 use Rattle.std.proofs.Common.{ap, arith, length, subst, ◌<◌, sym, ◌∙◌}
 use Rattle.std.specs.Prelude.{slice_get}
 use Rattle.std.proofs.lemmas.Option.{slice_get_within}
-use Rattle.origin_model.specs.Detached.{without}
-use Rattle.origin_model.specs.Laws.{In}
-use Rattle.origin_model.specs.Nodes.{AreNodes, has_node}
-use Rattle.sided_tree.specs.NodeMaps.{IsNodeMap, nodes_in}
-use Rattle.fugue_ids.specs.SameIdentifiers.{id_at-other}
-use Rattle.sided_tree.proofs.NodeMaps.{node_aged, removed, removed_map}
+use Rattle.origin_model.specs.sides.Detached.{without}
+use Rattle.std.specs.List.{Contains}
+use Rattle.origin_model.specs.sides.Node.{AreNodes, has_node}
+use Rattle.sided_tree.specs.Nodes.{IsNodeMap, nodes_in}
+use Rattle.fugue_ids.proofs.IdentifierLemmas.{id_at-other}
+use Rattle.sided_tree.proofs.NodesLemmas.{node_aged, removed, removed_map}
 use Rattle.sided_tree.proofs.nodes.Nodes.remove.Goals as goal
 
 pub last_position-at-requires : goal.last_position-at-requires
 last_position-at-requires c =
-    subst (In c.args.id) (sym c.deref.ensures.value)
+    subst (λ xs. Contains xs c.args.id) (sym c.deref.ensures.value)
     (node_aged c.self.inside.origins c.self.inside.ages.items c.args.id (ap (λ ns. has_node ns c.args.id) c.self.view_is ∙ c.requires.held))
 
 pub remove-requires : goal.remove-requires
@@ -23,7 +23,7 @@ pub invariant_of-self : goal.invariant_of-self
 invariant_of-self c =
     let u = c.remove-2.ensures.updates in
     subst (IsNodeMap c.remove-2.new.self) (sym c.remove.ensures.items)
-    (removed_map c.detach_any.ensures.absent c.detach_any.ensures.others c.self.inside.origins c.remove-2.new.self c.self.inside.ages.items c.last_position-at.result c.args.id
+    (removed_map c.self.inside.origins c.remove-2.new.self c.self.inside.ages.items c.last_position-at.result c.args.id
     (subst AreNodes (sym c.self.view_is) c.requires.are_nodes)
     (ap (λ xs. slice_get xs c.last_position-at.result) (sym c.deref.ensures.value) ∙ c.last_position-at.ensures)
     u.1 (λ q d. u.2 q (id_at-other c.args.id q d)) c.self.invariant)
@@ -32,7 +32,7 @@ pub returns : goal.returns
 returns c =
     let u = c.remove-2.ensures.updates in
     ap (nodes_in c.remove-2.new.self) c.remove.ensures.items
-    ∙ removed c.detach_any.ensures.absent c.self.inside.origins c.remove-2.new.self c.self.inside.ages.items c.last_position-at.result c.args.id
+    ∙ removed c.self.inside.origins c.remove-2.new.self c.self.inside.ages.items c.last_position-at.result c.args.id
     (subst AreNodes (sym c.self.view_is) c.requires.are_nodes)
     (ap (λ xs. slice_get xs c.last_position-at.result) (sym c.deref.ensures.value) ∙ c.last_position-at.ensures)
     (λ q d. u.2 q (id_at-other c.args.id q d))

@@ -1,7 +1,7 @@
-use Rattle.std.proofs.Common.{drop, false, length, take, true, ◌-◌, ◌≡◌, ◌≤◌}
-use Rattle.origin_model.specs.Laws.{Each}
-use Rattle.origin_model.specs.Nodes.{as_op, as_ops}
-use Rattle.origin_model.specs.Sided.{goes_before}
+use Rattle.std.proofs.Common.{false, get_or, length, true, ℕ, ◌-◌, ◌<◌, ◌≡◌, ◌≤◌}
+use Rattle.fugue_ids.specs.Identifiers.{Identifier}
+use Rattle.origin_model.specs.sides.Node.{as_op, as_ops}
+use Rattle.origin_model.specs.sides.Slot.{goes_before}
 use Rattle.sided_tree.proofs.tables.Tables.elders.Given as goal
 
 -- what stands before `low` goes before the new node, and what stands from `high` on does not
@@ -9,8 +9,8 @@ abbrev pub invariant-halve : goal.invariant-halve
 invariant-halve g l = record {
   low_high : l.low ≤ l.high;
   within : l.high ≤ length l.siblings;
-  elder : Each (λ v. goes_before (g.F.OrderOf.listed l.order) (as_ops l.self.nodes) (as_op l.node) l.node.id v ≡ true) (take l.low l.siblings);
-  younger : Each (λ v. goes_before (g.F.OrderOf.listed l.order) (as_ops l.self.nodes) (as_op l.node) l.node.id v ≡ false) (drop l.high l.siblings);
+  elder : (k : ℕ) (d : Identifier) → k < l.low → goes_before (g.F.OrderOf.listed l.order) (as_ops l.self.nodes) (as_op l.node) l.node.id (get_or l.siblings k d) ≡ true;
+  younger : (k : ℕ) (d : Identifier) → l.high ≤ k → k < length l.siblings → goes_before (g.F.OrderOf.listed l.order) (as_ops l.self.nodes) (as_op l.node) l.node.id (get_or l.siblings k d) ≡ false;
 }
 
 abbrev pub decreases-halve : goal.decreases-halve

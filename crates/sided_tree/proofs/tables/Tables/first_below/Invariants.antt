@@ -1,6 +1,6 @@
 use Rattle.fugue_ids.specs.Identifiers.{Identifier}
-use Rattle.origin_model.specs.Nodes.{newer}
-use Rattle.origin_model.specs.Sided.{BeforeBlock}
+use Rattle.origin_model.proofs.SharedLemmas.{newer}
+use Rattle.origin_model.specs.sides.Slot.{BeforeBlock}
 use Rattle.sided_tree.specs.Children.{children_in}
 use Rattle.sided_tree.proofs.tables.Tables.first_below.Given as goal
 

@@ -1,7 +1,7 @@
 use Rattle.fugue_ids.specs.Identifiers.{Identifier}
-use Rattle.origin_model.specs.Nodes.{newer}
+use Rattle.origin_model.proofs.SharedLemmas.{newer}
 use Rattle.sided_tree.specs.Children.{children_in}
-use Rattle.sided_tree.specs.Trees.{BehindBlock}
+use Rattle.sided_tree.specs.SidedTree.{BehindBlock}
 use Rattle.sided_tree.proofs.tables.Tables.last_below.Given as goal
 
 -- what is the last below the node reached is the last below the node at which the walk began

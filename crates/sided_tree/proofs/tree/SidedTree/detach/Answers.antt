@@ -2,18 +2,18 @@ use Rattle.std.proofs.Common.{subst, sym, ◌∙◌, ◌≡◌}
 use Rattle.std.specs.List.{remove}
 use Rattle.std.specs.Prelude.{Some, slice_get}
 use Rattle.std.proofs.lemmas.Option.{slice_get_within}
-use Rattle.origin_model.specs.Detached.{NoOrigin}
-use Rattle.origin_model.specs.Laws.{In}
-use Rattle.origin_model.specs.Sided.{IsReplaced}
+use Rattle.origin_model.specs.sides.Detached.{NoOrigin}
+use Rattle.std.specs.List.{Contains}
+use Rattle.fugue_ids.specs.Keyed.{IsReplaced}
 use Rattle.sided_tree.specs.Children.{children_in}
-use Rattle.sided_tree.specs.Trees.{IsTree}
-use Rattle.sided_tree.proofs.Trees.{child_there, detached}
+use Rattle.sided_tree.specs.SidedTree.{IsTree}
+use Rattle.sided_tree.proofs.TreeLemmas.{child_there, detached}
 use Rattle.sided_tree.proofs.tree.SidedTree.detach.Goals as goal
 
 pub child_position-at-requires : goal.child_position-at-requires
 child_position-at-requires c =
-    subst (λ s. In c.args.id (children_in c.self.inside.tables.children s)) (sym c.slot-slot.ensures)
-    (child_there c.nodes_are_history.ensures.held c.self.inside.tables.nodes (children_in c.self.inside.tables.children) c.args.id c.in-Some.node (sym c.find.ensures ∙ c.in-Some.is) c.self.invariant)
+    subst (λ s. Contains (children_in c.self.inside.tables.children s) c.args.id) (sym c.slot-slot.ensures)
+    (child_there c.self.inside.tables.nodes (children_in c.self.inside.tables.children) c.args.id c.in-Some.node (sym c.find.ensures ∙ c.in-Some.is) c.self.invariant)
 
 pub remove_child-requires : goal.remove_child-requires
 remove_child-requires c = record {
@@ -28,7 +28,7 @@ others c =
     let new = children_in c.remove_child.new.children in
     let at = c.child_position-at.result in
     subst (λ ns. IsTree ns new) (sym c.remove.ensures)
-    (detached c.detach_any.ensures.tables nodes old new c.args.id c.in-Some.node at (sym c.find.ensures ∙ c.in-Some.is) (subst (NoOrigin c.args.id) (sym c.self.view_is) c.requires.no_origin) c.self.invariant
+    (detached nodes old new c.args.id c.in-Some.node at (sym c.find.ensures ∙ c.in-Some.is) (subst (NoOrigin c.args.id) (sym c.self.view_is) c.requires.no_origin) c.self.invariant
     (subst (λ s. slice_get (old s) at ≡ Some c.args.id) c.slot-slot.ensures c.child_position-at.ensures)
     (subst (λ s. IsReplaced old new s (remove (old s) at)) c.slot-slot.ensures c.remove_child.ensures))
 

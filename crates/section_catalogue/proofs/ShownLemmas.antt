@@ -1,0 +1,170 @@
+-- What is shown and printed of a manuscript, by its cells.
+use Rattle.std.proofs.Common.{Bool, List, [], ap, cond, false, inl, inr, length, not, refl, subst, sym, true, ℕ, ◌∙◌, ◌&&◌, ◌||◌, ◌∷◌, ◌++◌, ◌≡◌}
+use Rattle.std.specs.Prelude.{IfSome, IsSome, is_some, None, Option, Some, codes, filter, flat_map, map, option_map}
+use Rattle.std.specs.List.{Contains}
+use Rattle.std.specs.Str.{encode_utf8_all}
+use Rattle.std.proofs.lemmas.List.{length-map}
+use Rattle.fugue_ids.specs.Identifiers.{Identifier}
+use Rattle.fugue_ids.proofs.IdentifierLemmas.{cases_id, eq-id_eq, id_eq-refl, id_eq-true, ne-id_eq}
+use Rattle.fugue_ids.proofs.ListLemmas.{contains_cases, contains_filter_from, contains_here, contains_none, contains_there}
+use Rattle.fugue_ids.specs.declared.op.Op.{Op}
+use Rattle.fugue_ids.specs.declared.op.Op.TheVariants.{Section, Text, Delete}
+use Rattle.origin_model.specs.order.Laws.{IsIn}
+use Rattle.origin_model.specs.operations.History.{element_of, holder}
+use Rattle.origin_model.specs.order.Order.{order}
+use Rattle.origin_model.specs.order.Printed.{is_hidden, manuscript, printed_section, scalar_of, shown, text as text_on, title_of}
+use Rattle.origin_model.specs.operations.Verdict.{Lawful}
+use Rattle.origin_model.specs.declared.operations.place.Place.{Place}
+use Rattle.origin_model.specs.declared.operations.place.Place.TheVariants.{Catalogue as catalogue, Section as within}
+use Rattle.origin_model.proofs.SharedLemmas.{holder_owns, order_total}
+use Rattle.origin_model.specs.edits.Landing.{following}
+use Rattle.section_list.specs.Cells.{ids, is_hidden as hidden_in, text, visible_cells}
+use Rattle.section_list.specs.SectionList.{Listing}
+use Rattle.section_list.specs.declared.cell.Cell.{Cell}
+use Rattle.section_catalogue.specs.declared.section.Section.{Section as Titled}
+use Rattle.section_catalogue.specs.Contents.{Contents, entry_at, section_at}
+use Rattle.section_catalogue.specs.Section.{printed_at, printed_entry}
+use Rattle.section_catalogue.specs.Place.{Lists, cell_in, place_held, scalar_held, title_held}
+use Rattle.section_catalogue.specs.Manuscript.{IsPlaceOf, IsTextOf, LookUpsAreDefinitions, StandsFor}
+use Rattle.section_catalogue.proofs.HolderLemmas.{in_place}
+use Rattle.section_catalogue.proofs.ListingLemmas.{ids-cells}
+
+module _ (h : List Op) where
+  abbrev kept : List Identifier → List Identifier
+  kept xs = filter (λ x. not (is_hidden h x)) xs
+
+  -- the visible cells are those of the shown elements
+  shown_cells : (xs : List Identifier) → ids (visible_cells (map (cell_in h) xs)) ≡ kept xs
+  shown_cells [] = refl
+  shown_cells (x ∷ xs) =
+      elim (is_hidden h x) as (λ b. ids (cond (not b) (cell_in h x ∷ visible_cells (map (cell_in h) xs)) (visible_cells (map (cell_in h) xs))) ≡ cond (not b) (x ∷ kept xs) (kept xs)) [
+        | true ↦ shown_cells xs
+        | false ↦ ap (λ t. x ∷ t) (shown_cells xs)
+      ]
+
+  -- the text of cells that have scalars
+  shown_text : (xs : List Identifier) → ((x : Identifier) → Contains xs x → scalar_of (holder h x) ≡ scalar_held (holder h x) ∷ [])
+      → text (map (cell_in h) xs) ≡ flat_map (λ x. scalar_of (holder h x)) (kept xs)
+  shown_text [] k = refl
+  shown_text (x ∷ xs) k =
+      let rest = shown_text xs (λ y m. k y (contains_there x xs y m)) in
+      elim (is_hidden h x) as (λ b. map (λ (c : Cell). c.ch) (cond (not b) (cell_in h x ∷ visible_cells (map (cell_in h) xs)) (visible_cells (map (cell_in h) xs)))
+      ≡ flat_map (λ y. scalar_of (holder h y)) (cond (not b) (x ∷ kept xs) (kept xs))) [
+        | true ↦ rest
+        | false ↦ ap (λ t. scalar_held (holder h x) ∷ t) rest ∙ ap (λ t. t ++ flat_map (λ y. scalar_of (holder h y)) (kept xs)) (sym (k x (contains_here x xs)))
+      ]
+
+  -- a cell is hidden where a Delete names its element
+  hidden_cell : (xs : List Identifier) (x : Identifier) → Contains xs x → hidden_in (map (cell_in h) xs) x ≡ is_hidden h x
+  hidden_cell [] x m = absurd (contains_none x m)
+  hidden_cell (y ∷ ys) x m =
+      elim (cases_id y x) [
+        | inl d ↦ subst (λ z. hidden_in (map (cell_in h) (y ∷ ys)) z ≡ is_hidden h z) d
+            (ap (λ b. (b && is_hidden h y) || hidden_in (map (cell_in h) ys) y) (id_eq-refl y) ∙ again (is_hidden h y) ys y refl)
+        | inr n ↦ ap (λ b. (b && is_hidden h y) || hidden_in (map (cell_in h) ys) x) (ne-id_eq y x n)
+            ∙ hidden_cell ys x (elim (contains_cases y ys x m) [ inl d ↦ absurd (n d) | inr k ↦ k ])
+      ]
+    where
+      -- further cells of the element say the same
+      again : (b : Bool) (ys : List Identifier) (y : Identifier) → is_hidden h y ≡ b → (b || hidden_in (map (cell_in h) ys) y) ≡ b
+      again true ys y e = refl
+      again false [] y e = refl
+      again false (z ∷ zs) y e =
+          elim (cases_id z y) [
+            | inl d ↦ ap (λ b. (b && is_hidden h z) || hidden_in (map (cell_in h) zs) y) (eq-id_eq z y d)
+                ∙ ap (λ b. b || hidden_in (map (cell_in h) zs) y) (ap (is_hidden h) d ∙ e) ∙ again false zs y e
+            | inr n ↦ ap (λ b. (b && is_hidden h z) || hidden_in (map (cell_in h) zs) y) (ne-id_eq z y n) ∙ again false zs y e
+          ]
+
+  -- what a place lists is the order of the definitions
+  is_place_of : (p : Place) (s : Listing) → Lawful h → Lists p h s → IsPlaceOf p h s
+  is_place_of p s w l =
+      let all : ids s.cells ≡ order p h = ap ids l.cells ∙ ids-cells h (order p h) in
+      record {
+        all = all;
+        visible = ap (λ cs. ids (visible_cells cs)) l.cells ∙ shown_cells (order p h);
+        hidden = λ x i. ap (λ cs. hidden_in cs x) l.cells ∙ hidden_cell (order p h) x (((order_total p h w).lists x).0 i);
+        after = λ x. ap (λ xs. following xs x) all;
+      }
+
+-- two functions that agree on a list
+flat_map-alike : (f g : Identifier → List ℕ) (xs : List Identifier) → ((x : Identifier) → Contains xs x → f x ≡ g x) → flat_map f xs ≡ flat_map g xs
+flat_map-alike f g [] k = refl
+flat_map-alike f g (x ∷ xs) k = λ i. k x (contains_here x xs) i ++ flat_map-alike f g xs (λ y m. k y (contains_there x xs y m)) i
+
+-- the shown sections
+pub catalogue_shown : (m : Contents) (h : List Op) → StandsFor m h → ids (visible_cells m.catalogue.cells) ≡ shown catalogue h
+catalogue_shown m h s = (is_place_of h catalogue m.catalogue s.lawful s.sections).visible
+
+-- how many there are
+pub count_shown : (m : Contents) (h : List Op) → StandsFor m h → length (visible_cells m.catalogue.cells) ≡ length (shown catalogue h)
+count_shown m h s = sym (length-map (visible_cells m.catalogue.cells) (λ (c : Cell). c.id)) ∙ ap length (catalogue_shown m h s)
+
+-- an element of a section has a scalar
+one_scalar : (s : Identifier) (o : Option Op) → place_held o ≡ Some (within s) → scalar_of o ≡ scalar_held o ∷ []
+one_scalar s None e = cc
+one_scalar s (Some (Section id left right title)) e = cc
+one_scalar s (Some (Text id section left right ch)) e = refl
+one_scalar s (Some (Delete target)) e = cc
+
+-- the text of a section
+text_shown : (m : Contents) (h : List Op) (s : Identifier) (cs : List Cell) → StandsFor m h → cs ≡ map (cell_in h) (order (within s) h) → text cs ≡ text_on h s
+text_shown m h s cs k e =
+    ap text e ∙ shown_text h (order (within s) h) (λ x i. one_scalar s (holder h x) (in_place (within s) h x ((((order_total (within s) h k.lawful).lists x).1) i)))
+
+-- an element of the catalogue has a title
+pub titled : (op : Op) (s : Identifier) → element_of catalogue op ≡ Some s → (t : List ℕ) × (title_held (Some op) ≡ Some t) × (title_of (Some op) ≡ t)
+titled (Section id left right title) s e = (title, refl, refl)
+titled (Text id section left right ch) s e = cc
+titled (Delete target) s e = cc
+
+-- a section that has a title is there
+entry_there : (o : Option Titled) (t : List ℕ) (P : Titled → Type 0) → option_map (λ (e : Titled). e.title) o ≡ Some t → IfSome o P → (e : Titled) × (o ≡ Some e) × (e.title ≡ t) × P e
+entry_there None t P k p = cc
+entry_there (Some e) t P k p = let d : e.title ≡ t = cc in (e, refl, d, p)
+
+-- a section is printed
+section_printed : (m : Contents) (h : List Op) (s : Identifier) → StandsFor m h → IsIn catalogue h s → printed_entry (section_at m s) ≡ printed_section h s
+section_printed m h s k i =
+    let n = titled i.op s i.place in
+    let e = entry_there (section_at m s) n.0 (λ (t : Titled). Lists (within s) h t.text) (k.titles s ∙ ap title_held i.held ∙ n.1) (k.texts s) in
+    let title : e.0.title ≡ title_of (holder h s) = e.2 ∙ sym n.2 ∙ ap title_of (sym i.held) in
+    let body : text e.0.text.cells ≡ text_on h s = text_shown m h s e.0.text.cells k e.3.cells in
+    ap printed_entry e.1
+    ∙ (λ j. codes "# " ++ encode_utf8_all (title j) ++ 10 ∷ encode_utf8_all (body j) ++ 10 ∷ [])
+
+-- what the shown sections add is the manuscript
+pub manuscript_parts : (m : Contents) (h : List Op) → StandsFor m h → flat_map (printed_at m.sections) (ids (visible_cells m.catalogue.cells)) ≡ manuscript h
+unfolding manuscript
+manuscript_parts m h k =
+    ap (flat_map (printed_at m.sections)) (catalogue_shown m h k)
+    ∙ flat_map-alike (printed_at m.sections) (printed_section h) (shown catalogue h)
+    (λ x i. section_printed m h x k (((order_total catalogue h k.lawful).lists x).1 ((contains_filter_from (λ z. not (is_hidden h z)) (order catalogue h) x i).0)))
+
+-- a section that is there is an element of the catalogue
+there_in : (m : Contents) (h : List Op) (s : Identifier) (o : Option Op) (e : Option Titled) → holder h s ≡ o → option_map (λ (t : Titled). t.title) e ≡ title_held o
+    → IsSome (option_map (λ (t : Titled). t.text) e) → IsIn catalogue h s
+there_in m h s (Some (Section id left right title)) (Some e) held k there =
+    let own : id ≡ s = id_eq-true id s (holder_owns h s (Section id left right title) held) in
+    record { op = Section id left right title; held = held; place = ap Some own }
+there_in m h s (Some (Text id section left right ch)) (Some e) held k there = cc
+there_in m h s (Some (Delete target)) (Some e) held k there = cc
+there_in m h s None (Some e) held k there = cc
+there_in m h s o None held k there = cc
+
+-- the look-ups of a manuscript are the definitions
+pub look_ups_agree : LookUpsAreDefinitions
+look_ups_agree m h k = record {
+  catalogue_is = is_place_of h catalogue m.catalogue k.lawful k.sections;
+  section_is = λ s. texts s (section_at m s) (k.texts s);
+  there = λ s. (
+    there_in m h s (holder h s) (section_at m s) refl (k.titles s),
+    (λ i. let n = titled i.op s i.place in
+        let e = entry_there (section_at m s) n.0 (λ (t : Titled). Lists (within s) h t.text) (k.titles s ∙ ap title_held i.held ∙ n.1) (k.texts s) in
+        ap (λ o. is_some (option_map (λ (t : Titled). t.text) o)) e.1),
+  );
+}
+  where
+    texts : (s : Identifier) (o : Option Titled) → IfSome o (λ (t : Titled). Lists (within s) h t.text) → IfSome (option_map (λ (t : Titled). t.text) o) (IsTextOf s h)
+    texts s None l = tt
+    texts s (Some t) l = record { place = is_place_of h (within s) t.text k.lawful l; text = text_shown m h s t.text.cells k l.cells }

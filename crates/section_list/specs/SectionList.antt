@@ -1,0 +1,33 @@
+-- A place as contracts see it.
+use Rattle.std.specs.Prelude.{◌≡◌, false, List, [], ◌∷◌, ℕ, map}
+use Rattle.std.specs.List.{insert}
+use Rattle.fugue_ids.specs.Identifiers.{Identifier}
+use Rattle.fugue_ids.specs.Listed.{index_of}
+use Rattle.origin_model.specs.sides.Node.{AreNodes, node_order}
+use Rattle.origin_model.specs.declared.sides.node.Node.{Node}
+use Rattle.section_list.specs.Cells.{ids, hiding}
+use Rattle.section_list.specs.declared.cell.Cell.{Cell}
+
+pub record Listing : Type 0 where
+  -- the elements with their origins, the newest first
+  pub nodes : List Node
+  -- the elements with their scalars and hidden marks, in order
+  pub cells : List Cell
+
+-- the cells are the nodes in order
+pub record IsInOrder (s : Listing) : Type 0 where
+  pub are_nodes : AreNodes s.nodes
+  pub in_order : ids s.cells ≡ node_order s.nodes
+
+abbrev pub nothing : Listing
+nothing = record { nodes = []; cells = [] }
+
+-- one element more, not hidden, where the order of the nodes has it
+abbrev pub with_element : Node → ℕ → Listing → Listing
+with_element n ch s =
+    let cell : Cell = record { id = n.id; ch = ch; hidden = false } in
+    record { nodes = n ∷ s.nodes; cells = insert s.cells (index_of (node_order (n ∷ s.nodes)) n.id) cell }
+
+-- the element x hidden
+abbrev pub with_hidden : Identifier → Listing → Listing
+with_hidden x s = record { nodes = s.nodes; cells = map (hiding x) s.cells }
