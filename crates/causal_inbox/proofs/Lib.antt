@@ -1,5 +1,6 @@
-pub mod Maxima
-pub mod Keys
-pub mod Ages
-pub mod Indexes
-pub mod Findings
+pub mod KeyLemmas
+pub mod KeyOrderLemmas
+pub mod GreatestLemmas
+pub mod AgeLemmas
+pub mod IndexLemmas
+pub mod FindingLemmas

@@ -3,7 +3,7 @@ use Rattle.std.specs.Prelude.{Bool, List, ℕ}
 use Rattle.std.specs.List.{list_any}
 use Rattle.fugue_ids.specs.Identifiers.{Identifier, id_eq}
 use Rattle.fugue_ids.specs.declared.op.Op.{Op}
-use Rattle.origin_model.specs.Verdict.{names}
+use Rattle.origin_model.specs.operations.Verdict.{names}
 use Rattle.causal_inbox.specs.Positions.{positions_from}
 
 -- the operation rests on the identifier

@@ -1,6 +1,6 @@
 ghost use Rattle.std.specs.Prelude.{◌≡◌, List};
 ghost use Rattle.fugue_ids.specs.declared.op.Op.{Op as AnyOp};
-ghost use Rattle.origin_model.specs.Verdict.{verdict as verdict_on};
+ghost use Rattle.origin_model.specs.operations.Verdict.{verdict as verdict_on};
 
 use fugue_ids::Op;
 use origin_model::{PlainReplica, Verdict};

@@ -1,48 +1,49 @@
-//! The greatest counter of a replica.
+//! The greatest counter of a replica among the identifiers of keys.
 
-ghost use Rattle.std.specs.Prelude.{◌≡◌, option_to_list};
-ghost use Rattle.origin_model.specs.Counters.{mentioned, counters_among, counters, IsGreatest};
-ghost use Rattle.causal_inbox.specs.Greatest.{greatest_from};
+ghost use Rattle.std.specs.Prelude.{◌≡◌, ◌<◌, ◌^◌, IfSome, option_map};
+ghost use Rattle.causal_inbox.specs.Greatest.{IsGreatestUnder, IsLastKey};
 
-use fugue_ids::{ElementId, Op};
+use crate::key::{Key, own_key};
+use crate::lists::Lists;
+use fugue_ids::ElementId;
 
-pub fn greatest_counter(ops: &[Op], replica: u32) -> Option<u32>
-    ensures { IsGreatest (counters replica ops.now) result }
+/// The greatest counter of the replica among the identifiers of the keys that have a list.
+#[tactic(auto, using(crate::proofs::KeyOrderLemmas::greatest_last, crate::proofs::KeyOrderLemmas::greatest_none, crate::proofs::KeyOrderLemmas::greatest_other))]
+pub(crate) fn greatest_under(lists: &Lists, replica: u32) -> Option<u32>
+    ensures { IsGreatestUnder lists.now replica result }
 {
-    let mut greatest = None;
-    for op in ops {
-        greatest = raised_by_op(greatest, replica, op);
-    }
-    greatest
-}
-
-fn raised_by_op(greatest: Option<u32>, replica: u32, op: &Op) -> Option<u32>
-    ensures { result ≡ greatest_from greatest (counters_among replica (mentioned op.now)) }
-{
-    let greatest = raised(greatest, replica, op.id());
-    match op {
-        Op::Section { left, right, .. } => {
-            raised(raised(greatest, replica, *left), replica, *right)
-        }
-        Op::Text {
-            section,
-            left,
-            right,
-            ..
-        } => {
-            let greatest = raised(greatest, replica, Some(*section));
-            raised(raised(greatest, replica, *left), replica, *right)
-        }
-        Op::Delete { target } => raised(greatest, replica, Some(*target)),
+    match last_key(lists, replica) {
+        Some(key) if key.id.replica == replica => Some(key.id.counter),
+        _ => None,
     }
 }
 
-/// The counter of the identifier, where it is one of the replica and greater than the counter so far.
-fn raised(greatest: Option<u32>, replica: u32, id: Option<ElementId>) -> Option<u32>
-    ensures { result ≡ greatest_from greatest (counters_among replica (option_to_list id)) }
+/// The last key that has a list, among those of this replica and of lesser ones.
+fn last_key(lists: &Lists, replica: u32) -> Option<Key>
+    ensures { IsLastKey lists.now replica result }
 {
-    match id {
-        Some(id) if id.replica == replica => Some(greatest.unwrap_or(0).max(id.counter)),
-        _ => greatest,
+    match replica.checked_add(1) {
+        Some(replica) => {
+            let next = own_key(ElementId {
+                replica,
+                counter: 0,
+            });
+            key_of(lists.range(..next).next_back())
+        }
+        None => key_of(lists.last_key_value()),
+    }
+}
+
+/// The key of an entry that may be there.
+fn key_of(entry: Option<(&Key, &Vec<u64>)>) -> Option<Key>
+    ensures key { result ≡ option_map (λ e. e.0.now) entry.entry }
+    ensures fits { IfSome result (λ key. key.id.replica < 2 ^ 32) }
+{
+    match entry {
+        Some((key, _)) => {
+            let _replica = key.id.replica;
+            Some(*key)
+        }
+        None => None,
     }
 }

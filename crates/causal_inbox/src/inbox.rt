@@ -1,15 +1,14 @@
 ghost use Rattle.std.specs.Prelude.{◌≡◌, ◌↔◌, ◌<◌, ◌≤◌, ◌++◌, ◌∷◌, [], true, false, length, position as first_place, remove as without, slice_get, OnOk, OnErr, IfErr};
 ghost use Rattle.fugue_ids.specs.Ops.{id_of};
-ghost use Rattle.origin_model.specs.Ops.{has_op};
-ghost use Rattle.origin_model.specs.Verdict.{id_held, verdict};
-ghost use Rattle.origin_model.specs.Taking.{is_decided as decides};
-ghost use Rattle.origin_model.specs.Counters.{counters, IsGreatest};
+ghost use Rattle.origin_model.specs.operations.History.{has_op};
+ghost use Rattle.origin_model.specs.operations.Verdict.{id_held, verdict};
+ghost use Rattle.origin_model.specs.taking.Taking.{is_decided as decides};
+ghost use Rattle.origin_model.specs.operations.Counters.{counters, IsGreatest};
 ghost use Rattle.causal_inbox.specs.Faults.{refused};
 ghost use Rattle.causal_inbox.specs.Naming.{naming};
 
-use crate::greatest::greatest_counter;
 use crate::index::Index;
-use crate::key::Key;
+use crate::key::named_key;
 use crate::{Facts, Found, PushFault};
 use fugue_ids::{ElementId, Op};
 use origin_model::Verdict;
@@ -27,7 +26,8 @@ pub struct Inbox {
 impl Model for Inbox {
     ghost use Rattle.std.specs.Prelude.{◌≤◌, length};
     ghost use Rattle.causal_inbox.specs.Ages.{IsAgeIndex};
-    ghost use Rattle.causal_inbox.specs.Lists.{list_in};
+    ghost use Rattle.causal_inbox.specs.Lists.{ages_under, key_cmp};
+    ghost use Rattle.fugue_ids.specs.Keyed.{HasNoEmpty};
     ghost use Rattle.causal_inbox.specs.Waiting.{Waiting};
 
     ghost Value = { Waiting };
@@ -36,7 +36,8 @@ impl Model for Inbox {
 
     ghost invariant = { λ inbox. record {
       within : length inbox.ops.items ≤ inbox.hold;
-      index : IsAgeIndex inbox.ops.items inbox.index.ages.items (list_in inbox.index.lists);
+      index : IsAgeIndex inbox.ops.items inbox.index.ages.items (ages_under inbox.index.lists);
+      no_empty : HasNoEmpty key_cmp inbox.index.lists;
     } };
 }
 
@@ -101,7 +102,7 @@ impl Inbox {
     pub fn nth_naming(&self, id: ElementId, k: usize) -> Option<usize>
         ensures { result ≡ slice_get (naming id self.now.ops) k }
     {
-        self.index.nth(&Key::Named(id), k)
+        self.index.nth(&named_key(id), k)
     }
 
     /// Those behind it close up.
@@ -120,7 +121,7 @@ impl Inbox {
     pub fn greatest(&self, replica: u32) -> Option<u32>
         ensures { IsGreatest (counters replica self.now.ops) result }
     {
-        greatest_counter(self.ops.as_slice(), replica)
+        self.index.greatest(replica)
     }
 
     pub fn ops(&self) -> &[Op]

@@ -3,15 +3,18 @@
 ghost use Rattle.std.specs.Prelude.{◌≡◌, ◌<◌, ◌++◌, ◌∷◌, [], List, Some, length, remove as without, slice_get, All, IfSome, OnOk, OnErr};
 ghost use Rattle.fugue_ids.specs.Ops.{op_eq};
 ghost use Rattle.fugue_ids.specs.declared.op.Op.{Op as AnyOp};
-ghost use Rattle.origin_model.specs.Ops.{has_op};
-ghost use Rattle.origin_model.specs.Verdict.{id_held};
+ghost use Rattle.origin_model.specs.operations.History.{has_op};
+ghost use Rattle.origin_model.specs.operations.Verdict.{id_held};
+ghost use Rattle.origin_model.specs.operations.Counters.{counters, IsGreatest};
+ghost use Rattle.fugue_ids.specs.Keyed.{HasNoEmpty};
 ghost use Rattle.causal_inbox.specs.Ages.{IsAgeIndex, IsAgeIndexOfSome, Rises, place};
-ghost use Rattle.causal_inbox.specs.Lists.{list_in};
+ghost use Rattle.causal_inbox.specs.Lists.{ages_under, key_cmp};
 ghost use Rattle.causal_inbox.specs.Places.{is_equal_at, places};
 
-use crate::key::{Key, keys, main_key};
-use crate::lists::{Lists, add_age, drop_age, list_at, nth_age};
-use fugue_ids::{ElementId, NoMemory, Op};
+use crate::greatest::greatest_under;
+use crate::key::{Key, keys, main_key, own_key};
+use crate::lists::{Lists, add_age, drop_age, nth_age};
+use fugue_ids::{ElementId, NoMemory, Op, list_under};
 use std::alloc::Global;
 
 /// Where the operations of a list stand that have a key. Each of them has an age, greater than those before it, so that one that is
@@ -25,7 +28,8 @@ pub(crate) struct Index {
 
 impl Index {
     pub fn new(alloc: Global) -> Index
-        ensures { IsAgeIndex [] result.ages.items (list_in result.lists) }
+        ensures index { IsAgeIndex [] result.ages.items (ages_under result.lists) }
+        ensures no_empty { HasNoEmpty key_cmp result.lists }
     {
         Index {
             ages: Vec::new(alloc),
@@ -37,7 +41,7 @@ impl Index {
     /// The position of the operation with the key that stands behind k others with it.
     pub fn nth(&self, key: &Key, k: usize) -> Option<usize>
         requires { Rises self.now.ages.items }
-        ensures { (ops : List AnyOp) → IsAgeIndex ops self.now.ages.items (list_in self.now.lists) → result ≡ slice_get (places key.now ops) k }
+        ensures { (ops : List AnyOp) → IsAgeIndex ops self.now.ages.items (ages_under self.now.lists) → result ≡ slice_get (places key.now ops) k }
     {
         match nth_age(&self.lists, key, k) {
             Some(age) => Some(position(self.ages.as_slice(), age)),
@@ -47,11 +51,11 @@ impl Index {
 
     /// Whether one of the operations is equal.
     pub fn has_equal(&self, ops: &[Op], op: &Op) -> bool
-        requires { IsAgeIndex ops.now self.now.ages.items (list_in self.now.lists) }
+        requires { IsAgeIndex ops.now self.now.ages.items (ages_under self.now.lists) }
         ensures { result ≡ has_op ops.now op.now }
     {
         let key = main_key(op);
-        for age in list_at(&self.lists, &key) {
+        for age in list_under(&self.lists, &key) {
             if equals_at(ops, position(self.ages.as_slice(), *age), op) {
                 return true;
             }
@@ -61,22 +65,32 @@ impl Index {
 
     /// Whether one of the operations has the identifier.
     pub fn has_id(&self, ops: &[Op], id: Option<ElementId>) -> bool
-        requires { IsAgeIndex ops.now self.now.ages.items (list_in self.now.lists) }
+        requires { IsAgeIndex ops.now self.now.ages.items (ages_under self.now.lists) }
         ensures { result ≡ id_held ops.now id }
     {
         match id {
-            Some(id) => nth_age(&self.lists, &Key::Own(id), 0).is_some(),
+            Some(id) => nth_age(&self.lists, &own_key(id), 0).is_some(),
             None => false,
         }
     }
 
+    /// The greatest counter of the replica among the identifiers that the operations have or name.
+    #[tactic(auto, using(crate::proofs::GreatestLemmas::greatest_mentioned))]
+    pub fn greatest(&self, replica: u32) -> Option<u32>
+        requires { HasNoEmpty key_cmp self.now.lists }
+        ensures { (ops : List AnyOp) → IsAgeIndex ops self.now.ages.items (ages_under self.now.lists) → IsGreatest (counters replica ops) result }
+    {
+        greatest_under(&self.lists, replica)
+    }
+
     /// One operation more, at the end. After want of memory the index is as before.
     pub fn add(&mut self, op: &Op) -> Result<(), NoMemory>
-        requires { IsAgeIndexOfSome self.old.ages.items (list_in self.old.lists) }
-        ensures ok { OnOk result ((ops : List AnyOp) → IsAgeIndex ops self.old.ages.items (list_in self.old.lists)
-            → IsAgeIndex (ops ++ op.now ∷ []) self.new.ages.items (list_in self.new.lists)) }
-        ensures err { OnErr result ((ops : List AnyOp) → IsAgeIndex ops self.old.ages.items (list_in self.old.lists)
-            → IsAgeIndex ops self.new.ages.items (list_in self.new.lists)) }
+        requires { IsAgeIndexOfSome self.old.ages.items (ages_under self.old.lists) }
+        ensures ok { OnOk result ((ops : List AnyOp) → IsAgeIndex ops self.old.ages.items (ages_under self.old.lists)
+            → IsAgeIndex (ops ++ op.now ∷ []) self.new.ages.items (ages_under self.new.lists)) }
+        ensures err { OnErr result ((ops : List AnyOp) → IsAgeIndex ops self.old.ages.items (ages_under self.old.lists)
+            → IsAgeIndex ops self.new.ages.items (ages_under self.new.lists)) }
+        ensures no_empty { HasNoEmpty key_cmp self.old.lists → HasNoEmpty key_cmp self.new.lists }
     {
         let Some(age) = next_age(self.ages.as_slice()) else {
             return Err(NoMemory);
@@ -98,9 +112,10 @@ impl Index {
     /// The operation at the position less.
     pub fn remove(&mut self, op: &Op, position: usize)
         requires within { position < length self.old.ages.items }
-        requires some { IsAgeIndexOfSome self.old.ages.items (list_in self.old.lists) }
-        ensures { (ops : List AnyOp) → IsAgeIndex ops self.old.ages.items (list_in self.old.lists) → slice_get ops position ≡ Some op.now
-            → IsAgeIndex (without ops position) self.new.ages.items (list_in self.new.lists) }
+        requires some { IsAgeIndexOfSome self.old.ages.items (ages_under self.old.lists) }
+        ensures index { (ops : List AnyOp) → IsAgeIndex ops self.old.ages.items (ages_under self.old.lists) → slice_get ops position ≡ Some op.now
+            → IsAgeIndex (without ops position) self.new.ages.items (ages_under self.new.lists) }
+        ensures no_empty { HasNoEmpty key_cmp self.old.lists → HasNoEmpty key_cmp self.new.lists }
     {
         let age = self.ages.remove(position);
         drop_age(&mut self.lists, &keys(op), age);

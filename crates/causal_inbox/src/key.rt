@@ -1,19 +1,56 @@
 //! The keys of the index of waiting operations.
 
 ghost use Rattle.std.specs.Prelude.{◌≡◌};
-ghost use Rattle.causal_inbox.specs.Keys.{AreKeys, main_key as main_key_of, named as named_key};
+ghost use Rattle.causal_inbox.specs.Keys.{AreKeys, main_key as main_key_of, named, named_or, own, target};
 
 use fugue_ids::{ElementId, Op};
 
-/// What operations are looked up by.
+/// What operations are looked up by. In their order the keys of one replica stand together.
 #[derive(Clone, Copy, Debug, PartialEq, Eq, PartialOrd, Ord)]
-pub(crate) enum Key {
-    /// The identifier of the element that the operation makes.
-    Own(ElementId),
-    /// What a `Delete` hides.
-    Target(ElementId),
-    /// An identifier that the operation rests on.
-    Named(ElementId),
+pub(crate) struct Key {
+    pub id: ElementId,
+    pub kind: Kind,
+}
+
+/// What an operation has to do with the identifier.
+#[derive(Clone, Copy, Debug, PartialEq, Eq, PartialOrd, Ord)]
+pub(crate) enum Kind {
+    /// It makes the element.
+    Own,
+    /// It is the `Delete` of it.
+    Target,
+    /// It rests on it.
+    Named,
+}
+
+/// The key of what makes the element.
+pub(crate) fn own_key(id: ElementId) -> Key
+    ensures { result ≡ own id }
+{
+    Key {
+        id,
+        kind: Kind::Own,
+    }
+}
+
+/// The key of what hides the element.
+fn target_key(id: ElementId) -> Key
+    ensures { result ≡ target id }
+{
+    Key {
+        id,
+        kind: Kind::Target,
+    }
+}
+
+/// The key of what rests on the element.
+pub(crate) fn named_key(id: ElementId) -> Key
+    ensures { result ≡ named id }
+{
+    Key {
+        id,
+        kind: Kind::Named,
+    }
 }
 
 /// The key that all operations have that are equal to this one.
@@ -21,8 +58,8 @@ pub(crate) fn main_key(op: &Op) -> Key
     ensures { result ≡ main_key_of op.now }
 {
     match op {
-        Op::Section { id, .. } | Op::Text { id, .. } => Key::Own(*id),
-        Op::Delete { target } => Key::Target(*target),
+        Op::Section { id, .. } | Op::Text { id, .. } => own_key(*id),
+        Op::Delete { target } => target_key(*target),
     }
 }
 
@@ -34,8 +71,8 @@ pub(crate) fn keys(op: &Op) -> [Key; 4]
         Op::Section { left, right, .. } => [
             main_key(op),
             main_key(op),
-            named(*left, op),
-            named(*right, op),
+            named_or(*left, op),
+            named_or(*right, op),
         ],
         Op::Text {
             section,
@@ -44,25 +81,20 @@ pub(crate) fn keys(op: &Op) -> [Key; 4]
             ..
         } => [
             main_key(op),
-            Key::Named(*section),
-            named(*left, op),
-            named(*right, op),
+            named_key(*section),
+            named_or(*left, op),
+            named_or(*right, op),
         ],
-        Op::Delete { target } => [
-            main_key(op),
-            main_key(op),
-            main_key(op),
-            Key::Named(*target),
-        ],
+        Op::Delete { target } => [main_key(op), main_key(op), main_key(op), named_key(*target)],
     }
 }
 
 /// The key of an identifier that is named, and the main key where there is none.
-fn named(origin: Option<ElementId>, op: &Op) -> Key
-    ensures { result ≡ named_key origin (main_key_of op.now) }
+fn named_or(origin: Option<ElementId>, op: &Op) -> Key
+    ensures { result ≡ named_or origin (main_key_of op.now) }
 {
     match origin {
-        Some(id) => Key::Named(id),
+        Some(id) => named_key(id),
         None => main_key(op),
     }
 }

@@ -8,10 +8,6 @@ mod inbox;
 mod index;
 mod key;
 mod lists;
-#[cfg(test)]
-mod lookup;
-#[cfg(test)]
-mod naming;
 mod push_fault;
 
 pub use facts::Facts;

@@ -1,4 +1,6 @@
 use fugue_ids::Op;
+use std::error::Error;
+use std::fmt;
 
 /// Why an operation was not taken: it is handed back, and nothing was changed.
 #[derive(Debug, Drop)]
@@ -7,3 +9,14 @@ pub enum PushFault {
     Full(Op),
     NoMemory(Op),
 }
+
+impl fmt::Display for PushFault {
+    fn fmt<W: fmt::Write>(&self, f: &mut fmt::Formatter<W>) -> fmt::Result {
+        match self {
+            PushFault::Full(_) => write!(f, "as many operations wait as may"),
+            PushFault::NoMemory(_) => write!(f, "out of memory"),
+        }
+    }
+}
+
+impl Error for PushFault {}

@@ -3,8 +3,8 @@ use Rattle.std.specs.Prelude.{Bool, Option, None, List, [], ◌∷◌, map}
 use Rattle.fugue_ids.specs.Identifiers.{Identifier}
 use Rattle.fugue_ids.specs.Ops.{id_of}
 use Rattle.fugue_ids.specs.declared.op.Op.{Op}
-use Rattle.origin_model.specs.Verdict.{verdict}
-use Rattle.origin_model.specs.Taking.{is_decided}
+use Rattle.origin_model.specs.operations.Verdict.{verdict}
+use Rattle.origin_model.specs.taking.Taking.{is_decided}
 
 -- for each waiting operation, in order, whether it is Ready or Stray
 abbrev pub due_marks : List Op → List Op → List Bool

@@ -1,6 +1,6 @@
 pub mod State
 pub mod Due
 pub mod Settling
-pub mod Decided
+pub mod Decision
 pub mod Told
-pub mod Indexes
+pub mod Index

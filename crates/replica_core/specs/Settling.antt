@@ -1,6 +1,6 @@
 -- Settling, step by step.
 use Rattle.std.specs.Prelude.{◌≡◌, Some}
-use Rattle.origin_model.specs.Taking.{Held, settle_step}
+use Rattle.origin_model.specs.taking.Taking.{Held, settle_step}
 
 -- some steps of settling lead from one state to another
 pub data Reaches : Held → Held → Type 0 where

@@ -3,10 +3,11 @@ use Rattle.std.specs.Prelude.{◌≡◌, ◌≢◌, ℕ, ◌<◌, ◌≤◌, ◌
 use Rattle.fugue_ids.specs.Identifiers.{Identifier}
 use Rattle.fugue_ids.specs.Ops.{id_of}
 use Rattle.fugue_ids.specs.declared.op.Op.{Op}
-use Rattle.origin_model.specs.Verdict.{Lawful}
-use Rattle.origin_model.specs.Taking.{Held}
-use Rattle.origin_model.specs.declared.verdict.Verdict.{Verdict}
-use Rattle.origin_model.specs.declared.verdict.Verdict.TheVariants.{Again, Conflict}
+use Rattle.fugue_ids.specs.declared.limits.TheConstants.{GREATEST_HOLD, MOST_OPERATIONS}
+use Rattle.origin_model.specs.operations.Verdict.{Lawful}
+use Rattle.origin_model.specs.taking.Taking.{Held}
+use Rattle.origin_model.specs.declared.operations.verdict.Verdict.{Verdict}
+use Rattle.origin_model.specs.declared.operations.verdict.Verdict.TheVariants.{Again, Conflict}
 
 pub record State : Type 0 where
   -- the replica's own number
@@ -42,8 +43,8 @@ IsOpen _ = Unit {0}
 -- what is so of every replica
 pub record Stands (s : State) : Type 0 where
   pub some_number : 0 < s.number
-  pub hold_within : IsWithin 1048576 s.hold
-  pub most_within : IsWithin 4194304 s.most
+  pub hold_within : IsWithin GREATEST_HOLD s.hold
+  pub most_within : IsWithin MOST_OPERATIONS s.most
   -- each accepted operation was Ready when it came
   pub lawful : Lawful s.held.history
   -- no operation is there twice

@@ -1,8 +1,8 @@
 -- What the answers of a replica say.
 use Rattle.std.specs.Prelude.{◌≡◌, ℕ, ◌<◌, ◌+◌, ◌^◌, ◌∷◌, Bool, true, false, ◌⊎◌, Option, Some, None, Result, Ok, Err}
 use Rattle.fugue_ids.specs.declared.op.Op.{Op}
-use Rattle.origin_model.specs.declared.tally.Tally.{Tally}
-use Rattle.origin_model.specs.Taking.{Held, Answer, Again, Conflict, Stray, TooMany, Accepted, Full, Waits, answer, taken, is_kept, settle_step, earliest, settle, intake, answer_counted, settling_counted, IsSettled}
+use Rattle.origin_model.specs.declared.taking.tally.Tally.{Tally}
+use Rattle.origin_model.specs.taking.Taking.{Held, Answer, Again, Conflict, Stray, TooMany, Accepted, Full, Waits, answer, taken, is_kept, settle_step, earliest, settle, intake, answer_counted, settling_counted, IsSettled}
 use Rattle.replica_core.specs.declared.taken.Taken.{Taken}
 use Rattle.replica_core.specs.declared.taken.Taken.TheVariants.{Accepted as TakenAccepted, Waits as TakenWaits, Again as TakenAgain}
 use Rattle.replica_core.specs.declared.settled.Settled.{Settled}

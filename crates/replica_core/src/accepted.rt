@@ -1,17 +1,18 @@
 ghost use Rattle.std.specs.Prelude.{◌≡◌, ◌<◌, ◌∷◌, [], length, IfErr, OnErr, OnOk};
 ghost use Rattle.fugue_ids.specs.Outs.{WritesText};
-ghost use Rattle.origin_model.specs.Ops.{accepted as accepted_list};
-ghost use Rattle.origin_model.specs.Printed.{manuscript as manuscript_on};
-ghost use Rattle.origin_model.specs.Verdict.{verdict as verdict_on, Lawful};
-ghost use Rattle.origin_model.specs.declared.verdict.Verdict.TheVariants.{Ready};
+ghost use Rattle.origin_model.specs.operations.History.{accepted as accepted_list};
+ghost use Rattle.origin_model.specs.operations.Counters.{counters, IsGreatest};
+ghost use Rattle.origin_model.specs.order.Printed.{manuscript as manuscript_on};
+ghost use Rattle.origin_model.specs.operations.Verdict.{verdict as verdict_on, Lawful};
+ghost use Rattle.origin_model.specs.declared.operations.verdict.Verdict.TheVariants.{Ready};
 ghost use Rattle.section_catalogue.specs.Contents.{place_count};
-ghost use Rattle.section_catalogue.specs.Standing.{Grows, IsReadyOn, StandsFor, Stays};
+ghost use Rattle.section_catalogue.specs.Manuscript.{Grows, IsReadyOn, StandsFor, Stays};
 
 use crate::history::History;
-use fugue_ids::{Failed, NoMemory, Op};
-use origin_model::{NoMemoryFor, Verdict, causes_first, verdict_in};
+use fugue_ids::{Failed, MOST_OPERATIONS, NoMemory, Op};
+use origin_model::{NoMemoryFor, Verdict, verdict_in};
 use outer_ports::Sink;
-use section_catalogue::{Manuscript, held_has_place, places_bounded};
+use section_catalogue::Manuscript;
 use std::alloc::Global;
 use std::marker::Model;
 
@@ -25,7 +26,7 @@ pub(crate) struct Accepted {
 impl Model for Accepted {
     ghost use Rattle.std.specs.Prelude.{List};
     ghost use Rattle.fugue_ids.specs.declared.op.Op.{Op};
-    ghost use Rattle.section_catalogue.specs.Standing.{StandsFor};
+    ghost use Rattle.section_catalogue.specs.Manuscript.{StandsFor};
 
     ghost Value = { List Op };
 
@@ -37,12 +38,10 @@ impl Model for Accepted {
 /// Takes an operation that is Ready into the manuscript. After want of memory that is as before.
 fn take_in(manuscript: &mut Manuscript, op: &Op) -> Result<(), NoMemory>
     requires ready { IsReadyOn manuscript.old op.now }
-    requires room { place_count manuscript.old op.now < 4194304 }
+    requires room { place_count manuscript.old op.now < MOST_OPERATIONS }
     ensures ok { OnOk result (Grows manuscript.old manuscript.new op.now) }
     ensures err { OnErr result (Stays manuscript.old manuscript.new) }
 {
-    causes_first();
-    held_has_place();
     match op {
         Op::Section { .. } | Op::Text { .. } => manuscript.insert(op),
         Op::Delete { target } => manuscript.hide(*target),
@@ -75,14 +74,14 @@ impl Accepted {
     }
 
     /// Takes in an operation that is Ready.
+    #[tactic(auto, using(section_catalogue::proofs::BoundLemmas::places_bounded))]
     pub fn accept(&mut self, op: Op) -> Result<(), NoMemoryFor>
         requires ready { verdict_on self.old op ≡ Ready }
-        requires room { length self.old < 4194304 }
+        requires room { length self.old < MOST_OPERATIONS }
         ensures ok { OnOk result (self.new ≡ op ∷ self.old) }
         ensures err { OnErr result (self.new ≡ self.old) }
         ensures op_back { IfErr result (λ e. e.op ≡ op) }
     {
-        places_bounded();
         self.history.push(op)?;
         match take_in(&mut self.manuscript, self.history.newest()) {
             Ok(()) => Ok(()),
@@ -90,6 +89,14 @@ impl Accepted {
                 op: self.history.pop(),
             }),
         }
+    }
+
+    /// The greatest counter of the replica among the identifiers that the operations have or name.
+    pub fn greatest(&self, replica: u32) -> Option<u32>
+        requires { 0 < replica }
+        ensures { IsGreatest (counters replica self.now) result }
+    {
+        self.history.greatest(replica)
     }
 
     /// Writes the sections that are shown, each with its title and its text.

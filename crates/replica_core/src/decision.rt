@@ -1,5 +1,5 @@
 ghost use Rattle.std.specs.Prelude.{◌≡◌};
-ghost use Rattle.replica_core.specs.Decided.{decided};
+ghost use Rattle.replica_core.specs.Decision.{decided};
 
 use causal_inbox::Found;
 use fugue_ids::ElementId;

@@ -1,4 +1,6 @@
-use fugue_ids::{ElementId, Op};
+use fugue_ids::{ElementId, NoMemory, Op};
+use std::error::Error;
+use std::fmt;
 
 /// Why an operation was refused: it is handed back, and nothing was changed.
 #[derive(Debug, Drop)]
@@ -13,3 +15,17 @@ pub enum DeliverFault {
     TooMany(Op, u32),
     NoMemory(Op),
 }
+
+impl fmt::Display for DeliverFault {
+    fn fmt<W: fmt::Write>(&self, f: &mut fmt::Formatter<W>) -> fmt::Result {
+        match self {
+            DeliverFault::Conflict(_op) => write!(f, "another operation has the identifier"),
+            DeliverFault::Stray(_op, _id) => write!(f, "an element that is named does not fit"),
+            DeliverFault::Full(_op, hold) => write!(f, "{hold} operations wait"),
+            DeliverFault::TooMany(_op, most) => write!(f, "{most} operations are accepted or wait"),
+            DeliverFault::NoMemory(_op) => write!(f, "{}", NoMemory),
+        }
+    }
+}
+
+impl Error for DeliverFault {}

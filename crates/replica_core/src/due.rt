@@ -1,4 +1,4 @@
-ghost use Rattle.std.specs.Prelude.{◌≡◌, ◌<◌, ◌≤◌, ◌↔◌, ◌+◌, ◌-◌, ◌^◌, ◌++◌, ◌∷◌, [], false, cond, length, position as first_place, set as with_mark, remove as without, OnOk, OnErr, IsTrue, All};
+ghost use Rattle.std.specs.Prelude.{◌≡◌, ◌<◌, ◌≤◌, ◌↔◌, ◌+◌, ◌-◌, ◌^◌, ◌++◌, ◌∷◌, [], false, if◌then◌else◌, length, position as first_position, set as with_mark, remove as without, OnOk, OnErr, IsTrue, All};
 
 use fugue_ids::NoMemory;
 use std::alloc::Global;
@@ -39,9 +39,9 @@ impl Due {
         self.count == 0
     }
 
-    /// The first place whose mark is set.
+    /// The position of the first mark that is set.
     pub fn first(&self) -> Option<usize>
-        ensures { result ≡ first_place (λ mark. mark) self.now }
+        ensures { result ≡ first_position (λ mark. mark) self.now }
     {
         if self.is_clear() {
             return None;
@@ -54,10 +54,8 @@ impl Due {
         ensures ok { OnOk result (self.new ≡ self.old ++ false ∷ []) }
         ensures err { OnErr result (self.new ≡ self.old) }
     {
-        match self.marks.push(false) {
-            Ok(()) => Ok(()),
-            Err(_) => Err(NoMemory),
-        }
+        self.marks.push(false)?;
+        Ok(())
     }
 
     /// The mark at the position is set or not, as given.
@@ -82,9 +80,9 @@ impl Due {
 
 /// The number of marks that are set, after one that was `before` became `after`.
 fn changed(count: usize, before: bool, after: bool) -> usize
-    requires counted { cond before 1 0 ≤ count }
+    requires counted { (if before then 1 else 0) ≤ count }
     requires room { count < 2 ^ 64 - 1 }
-    ensures { result + cond before 1 0 ≡ count + cond after 1 0 }
+    ensures { result + (if before then 1 else 0) ≡ count + (if after then 1 else 0) }
 {
     let others = if before { count - 1 } else { count };
     if after { others + 1 } else { others }

@@ -1,3 +1,7 @@
+use fugue_ids::NoMemory;
+use std::error::Error;
+use std::fmt;
+
 /// Why an operation was not taken in to the end.
 #[derive(Clone, Copy, Debug, PartialEq, Eq)]
 pub enum FeedFault {
@@ -6,3 +10,14 @@ pub enum FeedFault {
     /// Either nothing was changed, or the operation stands and settling stopped on its way: `settle_one` goes on.
     NoMemory,
 }
+
+impl fmt::Display for FeedFault {
+    fn fmt<W: fmt::Write>(&self, f: &mut fmt::Formatter<W>) -> fmt::Result {
+        match self {
+            FeedFault::TooMany(most) => write!(f, "{most} operations are accepted or wait"),
+            FeedFault::NoMemory => write!(f, "{}", NoMemory),
+        }
+    }
+}
+
+impl Error for FeedFault {}

@@ -1,8 +1,9 @@
-ghost use Rattle.std.specs.Prelude.{◌≡◌, ◌≢◌, ◌∷◌, [], Some, OnErr, OnOk, IfErr, option_copied, slice_get};
+ghost use Rattle.std.specs.Prelude.{◌≡◌, ◌≢◌, ◌<◌, ◌∷◌, [], Some, OnErr, OnOk, IfErr, option_copied, slice_get};
 ghost use Rattle.fugue_ids.specs.Ops.{op_eq};
-ghost use Rattle.origin_model.specs.Ops.{accepted};
-ghost use Rattle.origin_model.specs.Verdict.{verdict, Lawful};
-ghost use Rattle.origin_model.specs.declared.verdict.Verdict.TheVariants.{Ready};
+ghost use Rattle.origin_model.specs.operations.History.{accepted};
+ghost use Rattle.origin_model.specs.operations.Counters.{counters, IsGreatest};
+ghost use Rattle.origin_model.specs.operations.Verdict.{verdict, Lawful};
+ghost use Rattle.origin_model.specs.declared.operations.verdict.Verdict.TheVariants.{Ready};
 
 use crate::index::Index;
 use fugue_ids::{ElementId, Op};
@@ -20,8 +21,8 @@ pub(crate) struct History {
 impl Model for History {
     ghost use Rattle.std.specs.Prelude.{List, reverse};
     ghost use Rattle.fugue_ids.specs.declared.op.Op.{Op};
-    ghost use Rattle.origin_model.specs.Verdict.{Lawful};
-    ghost use Rattle.replica_core.specs.Indexes.{IsIndex};
+    ghost use Rattle.origin_model.specs.operations.Verdict.{Lawful};
+    ghost use Rattle.replica_core.specs.Index.{IsIndex};
 
     ghost Value = { List Op };
 
@@ -29,14 +30,14 @@ impl Model for History {
 
     ghost invariant = { λ history. record {
       lawful : Lawful (reverse history.ops.items);
-      indexed : IsIndex history.index.places history.index.targets (reverse history.ops.items);
+      indexed : IsIndex history.index.positions history.index.targets (reverse history.ops.items);
     } };
 }
 
-fn op_at(ops: &[Op], place: usize) -> Option<&Op>
-    ensures { option_copied result ≡ slice_get ops.now place }
+fn op_at(ops: &[Op], position: usize) -> Option<&Op>
+    ensures { option_copied result ≡ slice_get ops.now position }
 {
-    ops.get(place)
+    ops.get(position)
 }
 
 fn equals(a: &Op, b: &Op) -> bool
@@ -48,15 +49,15 @@ fn equals(a: &Op, b: &Op) -> bool
 impl Lookup for History {
     ghost history = { λ history. history };
 
-    #[tactic(auto, using(crate::proofs::Indexes::place_free))]
+    #[tactic(auto, using(crate::proofs::IndexLemmas::position_free))]
     fn holder(&self, id: ElementId) -> Option<&Op> {
-        match self.index.place(id) {
-            Some(place) => op_at(&self.ops, place),
+        match self.index.position(id) {
+            Some(position) => op_at(&self.ops, position),
             None => None,
         }
     }
 
-    #[tactic(auto, using(crate::proofs::Indexes::has_free))]
+    #[tactic(auto, using(crate::proofs::IndexLemmas::has_free))]
     fn contains(&self, op: &Op) -> bool {
         match op {
             Op::Section { id, .. } | Op::Text { id, .. } => match self.holder(*id) {
@@ -104,6 +105,14 @@ impl History {
                 Err(NoMemoryFor { op })
             }
         }
+    }
+
+    /// The greatest counter of the replica among the identifiers that the operations have or name. What one names is another's own.
+    pub fn greatest(&self, replica: u32) -> Option<u32>
+        requires { 0 < replica }
+        ensures { IsGreatest (counters replica self.now) result }
+    {
+        self.index.greatest(replica)
     }
 
     pub fn newest(&self) -> &Op

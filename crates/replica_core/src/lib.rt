@@ -6,6 +6,7 @@ mod decision;
 mod deliver_fault;
 mod due;
 mod feed_fault;
+mod greatest;
 mod history;
 mod index;
 mod new_fault;
@@ -21,8 +22,3 @@ pub use origin_model::Tally;
 pub use replica::Replica;
 pub use settled::Settled;
 pub use taken::Taken;
-
-#[cfg(test)]
-mod beside_plain;
-#[cfg(test)]
-mod tests;

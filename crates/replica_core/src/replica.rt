@@ -1,31 +1,27 @@
 ghost use Rattle.std.specs.Prelude.{◌≡◌, ◌≢◌, ◌↔◌, ◌<◌, ◌≤◌, ◌+◌, ◌-◌, ◌^◌, ◌==◌, length, IsTrue, IfOk, OnOk, OnErr, IfErr, All};
 ghost use Rattle.fugue_ids.specs.Outs.{WritesText};
-ghost use Rattle.origin_model.specs.Ops.{accepted as accepted_list};
-ghost use Rattle.origin_model.specs.Verdict.{verdict as verdict_on};
-ghost use Rattle.origin_model.specs.Printed.{manuscript};
-ghost use Rattle.origin_model.specs.Taking.{nothing, answer, taken, TooMany, intake, settling_counted, intake_counted, is_kept, IsSettled};
-ghost use Rattle.replica_core.specs.State.{IsOpen, IsOutside, IsWithin, Stands};
-ghost use Rattle.replica_core.specs.Decided.{answer_by_decision};
+ghost use Rattle.origin_model.specs.operations.History.{accepted as accepted_list};
+ghost use Rattle.origin_model.specs.operations.Verdict.{verdict as verdict_on};
+ghost use Rattle.origin_model.specs.order.Printed.{manuscript};
+ghost use Rattle.origin_model.specs.taking.Taking.{nothing, answer, taken, TooMany, intake, settling_counted, intake_counted, is_kept, IsSettled};
+ghost use Rattle.origin_model.specs.operations.Counters.{counters, IsGreatest};
+ghost use Rattle.replica_core.specs.State.{all_ops, IsOpen, IsOutside, IsWithin, Stands};
+ghost use Rattle.replica_core.specs.Decision.{answer_by_decision};
 ghost use Rattle.replica_core.specs.Settling.{Reaches};
 ghost use Rattle.replica_core.specs.Told.{Answers, Settles, StaysBelow, total, Leaves, IsCounted};
 
 use crate::accepted::Accepted;
 use crate::decision::{Decision, decide};
 use crate::due::Due;
+use crate::greatest::greater;
 use crate::waking::{leave, wait, wake};
 use crate::{DeliverFault, FeedFault, NewFault, Settled, Taken};
 use causal_inbox::{Inbox, PushFault};
-use fugue_ids::{Failed, NoMemory, Op};
+use fugue_ids::{Failed, GREATEST_HOLD, MOST_OPERATIONS, NoMemory, Op};
 use origin_model::{Tally, Verdict};
 use outer_ports::Sink;
 use std::alloc::Global;
 use std::marker::Model;
-
-/// The most that may wait in any replica.
-const GREATEST_HOLD: u32 = 1_048_576;
-
-/// The most that may be accepted or wait in any replica.
-const GREATEST_MOST: u32 = 4_194_304;
 
 /// One author's replica of the manuscript: the accepted operations, and those that wait for others.
 #[derive(Drop)]
@@ -69,10 +65,11 @@ impl Replica {
     /// A replica that holds nothing. It takes no memory.
     pub fn new(alloc: Global, replica: u32, hold: u32, most: u32) -> Result<Replica, NewFault>
         ensures ok { IfOk result (λ made. made ≡ record { number = replica; hold = hold; most = most; held = nothing }) }
+        ensures stands { IfOk result Stands }
         ensures zero_replica { (result ≡ Err NewFault.ZeroReplica) ↔ (replica ≡ 0) }
-        ensures bad_hold { (result ≡ Err NewFault.BadHold) ↔ ((replica ≢ 0) × IsOutside 1048576 hold) }
+        ensures bad_hold { (result ≡ Err NewFault.BadHold) ↔ ((replica ≢ 0) × IsOutside GREATEST_HOLD hold) }
         ensures bad_most { (result ≡ Err NewFault.BadMost)
-            ↔ ((replica ≢ 0) × IsWithin 1048576 hold × IsOutside 4194304 most) }
+            ↔ ((replica ≢ 0) × IsWithin GREATEST_HOLD hold × IsOutside MOST_OPERATIONS most) }
     {
         if replica == 0 {
             return Err(NewFault::ZeroReplica);
@@ -80,7 +77,7 @@ impl Replica {
         if hold == 0 || hold > GREATEST_HOLD {
             return Err(NewFault::BadHold);
         }
-        if most == 0 || most > GREATEST_MOST {
+        if most == 0 || most > MOST_OPERATIONS {
             return Err(NewFault::BadMost);
         }
         Ok(Replica {
@@ -96,27 +93,31 @@ impl Replica {
 
     /// What an operation is against the accepted ones.
     pub fn verdict(&self, op: &Op) -> Verdict
-        ensures { result ≡ verdict_on self.now.held.history op.now }
+        ensures verdict { result ≡ verdict_on self.now.held.history op.now }
+        ensures stands { Stands self.now }
     {
         self.accepted.verdict(op)
     }
 
     /// Whether nothing that waits can be accepted or is stray.
     pub fn is_settled(&self) -> bool
-        ensures { IsTrue result ↔ IsSettled self.now.held }
+        ensures settled { IsTrue result ↔ IsSettled self.now.held }
+        ensures stands { Stands self.now }
     {
         self.due.is_clear()
     }
 
     pub fn number(&self) -> u32
-        ensures { result ≡ self.now.number }
+        ensures number { result ≡ self.now.number }
+        ensures stands { Stands self.now }
     {
         self.number
     }
 
     /// How many may wait.
     pub fn hold(&self) -> u32
-        ensures { result ≡ self.now.hold }
+        ensures hold { result ≡ self.now.hold }
+        ensures stands { Stands self.now }
     {
         self.hold
     }
@@ -140,9 +141,21 @@ impl Replica {
 
     /// Writes the sections that are shown, each with its title and its text.
     pub fn write_manuscript<O: Sink>(&self, output: &mut O) -> Result<(), Failed>
-        ensures { WritesText (O.seen output.old) (O.seen output.new) result (manuscript self.now.held.history) }
+        ensures text { WritesText (O.seen output.old) (O.seen output.new) result (manuscript self.now.held.history) }
+        ensures stands { Stands self.now }
     {
         self.accepted.write_manuscript(output)
+    }
+
+    /// The greatest counter of the replica's own number among the identifiers that accepted and waiting operations have or name.
+    pub fn greatest_counter(&self) -> Option<u32>
+        ensures greatest { IsGreatest (counters self.now.number (all_ops self.now.held)) result }
+        ensures stands { Stands self.now }
+    {
+        greater(
+            self.accepted.greatest(self.number),
+            self.inbox.greatest(self.number),
+        )
     }
 
     fn decision_on(&self, op: &Op) -> Decision

@@ -1,7 +1,7 @@
 //! What a change of the accepted or of the waiting operations does to the marks.
 
 ghost use Rattle.std.specs.Prelude.{◌≡◌, ◌≢◌, ◌<◌, ◌≤◌, ◌↔◌, ◌++◌, ◌∷◌, [], Some, false, drop, length, remove as without, slice_get, AllPairs, OnOk, OnErr, IfErr};
-ghost use Rattle.origin_model.specs.Taking.{is_decided};
+ghost use Rattle.origin_model.specs.taking.Taking.{is_decided};
 ghost use Rattle.causal_inbox.specs.Faults.{refused};
 ghost use Rattle.replica_core.specs.State.{HaveOtherIds};
 ghost use Rattle.replica_core.specs.Due.{due_marks, newest_id as newest_id_of};

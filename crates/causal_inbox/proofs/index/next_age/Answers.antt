@@ -1,6 +1,6 @@
 use Rattle.std.proofs.Common.{ap, sym, ◌∙◌}
 use Rattle.std.specs.Option.{option_copied}
-use Rattle.causal_inbox.proofs.Ages.{above_last}
+use Rattle.causal_inbox.proofs.AgeLemmas.{above_last}
 use Rattle.causal_inbox.proofs.index.next_age.Goals as goal
 
 pub returns : goal.returns

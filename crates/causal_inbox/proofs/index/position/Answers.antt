@@ -1,6 +1,6 @@
 use Rattle.std.proofs.Common.{sym, ◌∙◌, ap, ℕ, length}
 use Rattle.std.specs.Prelude.{Result, Ok, Err}
-use Rattle.causal_inbox.proofs.Ages.{place_searched}
+use Rattle.causal_inbox.proofs.AgeLemmas.{place_searched}
 use Rattle.causal_inbox.proofs.index.position.Goals as goal
 
 pub returns-in-Ok : goal.returns-in-Ok

@@ -1,9 +1,11 @@
 use Rattle.std.proofs.Common.{take}
 use Rattle.causal_inbox.specs.Ages.{dropped}
 use Rattle.causal_inbox.specs.Keys.{is_among}
-use Rattle.causal_inbox.specs.Lists.{Changed, list_in}
+use Rattle.causal_inbox.specs.Lists.{Changed, ages_under, key_cmp}
+use Rattle.fugue_ids.specs.Keyed.{HasNoEmpty}
 use Rattle.causal_inbox.proofs.lists.drop_age.Given as goal
 
--- the age stands under none of the keys so far
+-- the age stands under none of the keys so far, and no list is empty
 abbrev pub invariant-loop-key : goal.invariant-loop-key
-invariant-loop-key l = Changed (is_among (take l.key-index l.keys)) (λ ages. dropped ages l.age) (list_in l.fn.lists) (list_in l.lists)
+invariant-loop-key l = Changed (is_among (take l.key-index l.keys)) (λ ages. dropped ages l.age) (ages_under l.fn.lists) (ages_under l.lists)
+    × (HasNoEmpty key_cmp l.fn.lists → HasNoEmpty key_cmp l.lists)

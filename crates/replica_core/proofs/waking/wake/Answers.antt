@@ -3,10 +3,10 @@ use Rattle.std.specs.Prelude.{Option, None, Some, set}
 use Rattle.std.proofs.lemmas.List.{drop_all, length-map, length-set}
 use Rattle.fugue_ids.specs.Identifiers.{Identifier}
 use Rattle.fugue_ids.specs.declared.op.Op.{Op}
-use Rattle.origin_model.specs.Taking.{is_decided, decided_on}
+use Rattle.origin_model.specs.taking.Taking.{is_decided, decided_on}
 use Rattle.causal_inbox.specs.Naming.{naming}
 use Rattle.replica_core.specs.Due.{due_marks}
-use Rattle.replica_core.proofs.Woken.{all_tried, unwoken_right, woken_right, naming_within, few_naming, drop-none, next_tried}
+use Rattle.replica_core.proofs.WakeLemmas.{all_tried, unwoken_right, woken_right, naming_within, few_naming, drop-none, next_tried}
 use Rattle.replica_core.proofs.waking.wake.Goals as goal
 
 none_from : (o : Option Identifier) → ((i : Identifier) → o ≡ Some i → ⊥) → o ≡ None
@@ -25,16 +25,16 @@ loop-k-init c =
       same_length = ap length c.requires.marks ∙ length-map w (decided_on (drop 1 c.args.accepted.now));
     }
 
--- past the last place all marks are right
+-- past the last position all marks are right
 ended : (h w : List Op) (i : Identifier) (k : ℕ) (marks : List Bool) → drop k (naming i w) ≡ []
     → all_tried (decided_on h) w (drop k (naming i w)) marks ≡ due_marks h w → marks ≡ due_marks h w
 ended h w i k marks none right = sym (ap (λ (l : List ℕ). all_tried (decided_on h) w l marks) none) ∙ right
 
 pub returns-in_default-nth_naming : goal.returns-in_default-nth_naming
 returns-in_default-nth_naming c =
-    let places : List ℕ = naming c.in-Some.id c.args.inbox.now.ops in
+    let positions : List ℕ = naming c.in-Some.id c.args.inbox.now.ops in
     ended c.args.accepted.now c.args.inbox.now.ops c.in-Some.id c.loop-k.k c.loop-k.due
-    (drop-none places c.loop-k.k (sym c.nth_naming.ensures ∙ c.in_default-nth_naming.is)) c.loop-k.invariant.right
+    (drop-none positions c.loop-k.k (sym c.nth_naming.ensures ∙ c.in_default-nth_naming.is)) c.loop-k.invariant.right
 
 pub offset_bounds-waiting-position : goal.offset_bounds-waiting-position
 offset_bounds-waiting-position c =
@@ -57,20 +57,20 @@ loop-k-preserved c =
     let w : List Op = c.args.inbox.now.ops in
     let p : ℕ = c.in-Some-nth_naming.position in
     let op : Op = c.index-waiting-position.result in
-    let places : List ℕ = naming c.in-Some.id w in
+    let positions : List ℕ = naming c.in-Some.id w in
     let below = naming_within c.in-Some.id c.args.inbox.now.ops c.loop-k.k c.in-Some-nth_naming.position (sym c.nth_naming.ensures ∙ c.in-Some-nth_naming.is) in
     let is : op ≡ get_or w p op = c.index-waiting-position.is ∙ ap (λ (l : List Op). get_or l p op) c.ops-waiting.ensures.ops in
     let decided : c.can_leave.result ≡ decided_on h op = c.can_leave.ensures ∙ ap is_decided c.verdict.ensures in
     let put : c.put.new.self ≡ set c.loop-k.due p (decided_on h op) = c.put.ensures ∙ ap (set c.loop-k.due p) decided in
     record {
-      right = ap (all_tried (decided_on h) w (drop (c.loop-k.k + 1) places)) put
-          ∙ sym (next_tried (decided_on h) w places c.loop-k.k p c.loop-k.due op (sym c.nth_naming.ensures ∙ c.in-Some-nth_naming.is) below is)
+      right = ap (all_tried (decided_on h) w (drop (c.loop-k.k + 1) positions)) put
+          ∙ sym (next_tried (decided_on h) w positions c.loop-k.k p c.loop-k.due op (sym c.nth_naming.ensures ∙ c.in-Some-nth_naming.is) below is)
           ∙ c.loop-k.invariant.right;
       same_length = ap length put ∙ length-set c.loop-k.due p (decided_on h op) ∙ c.loop-k.invariant.same_length;
     }
 
 pub returns : goal.returns
 returns c =
-    let places : List ℕ = naming c.in-Some.id c.args.inbox.now.ops in
+    let positions : List ℕ = naming c.in-Some.id c.args.inbox.now.ops in
     ended c.args.accepted.now c.args.inbox.now.ops c.in-Some.id c.loop-k.k c.loop-k.due
-    (drop_all c.loop-k.k places (omega (arith, few_naming c.in-Some.id c.args.inbox.now.ops, ap length c.ops-waiting.ensures.ops))) c.loop-k.invariant.right
+    (drop_all c.loop-k.k positions (omega (arith, few_naming c.in-Some.id c.args.inbox.now.ops, ap length c.ops-waiting.ensures.ops))) c.loop-k.invariant.right

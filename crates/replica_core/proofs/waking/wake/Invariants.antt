@@ -1,8 +1,8 @@
 use Rattle.std.proofs.Common.{◌≡◌, length, drop}
 use Rattle.causal_inbox.specs.Naming.{naming}
-use Rattle.origin_model.specs.Taking.{decided_on}
+use Rattle.origin_model.specs.taking.Taking.{decided_on}
 use Rattle.replica_core.specs.Due.{due_marks}
-use Rattle.replica_core.proofs.Woken.{all_tried}
+use Rattle.replica_core.proofs.WakeLemmas.{all_tried}
 use Rattle.replica_core.proofs.waking.wake.Given as goal
 
 -- trying those from the k-th on makes all marks right

@@ -3,24 +3,25 @@ use Rattle.std.specs.List.{remove}
 use Rattle.std.specs.Prelude.{Some, slice_get}
 use Rattle.fugue_ids.specs.declared.op.Op.{Op}
 use Rattle.causal_inbox.specs.Ages.{IsAgeIndex}
-use Rattle.causal_inbox.specs.Lists.{list_in}
-use Rattle.causal_inbox.proofs.Indexes.{index_back, last_op}
+use Rattle.causal_inbox.specs.Lists.{ages_under}
+use Rattle.causal_inbox.proofs.IndexLemmas.{index_back, last_op}
 use Rattle.causal_inbox.proofs.inbox.Inbox.push.Goals as goal
 
 pub invariant_of-self-in-Err : goal.invariant_of-self-in-Err
 invariant_of-self-in-Err c =
     let ops : List Op = c.self.inside.ops.items in
     let op : Op = c.args.op in
-    let grown : IsAgeIndex (ops ++ op ∷ []) c.add.new.self.ages.items (list_in c.add.new.self.lists) = c.in-Ok.ensures.ok ops c.self.invariant.index in
+    let grown : IsAgeIndex (ops ++ op ∷ []) c.add.new.self.ages.items (ages_under c.add.new.self.lists) = c.in-Ok.ensures.ok ops c.self.invariant.index in
     let same : c.push.new.self.items ≡ ops = c.in-Err.ensures.items in
     let at : length ops ≡ c.len-in-Err.result = omega (arith, c.len-in-Err.ensures, c.push.new.self.ok.0, ap length same) in
     let there : slice_get (ops ++ op ∷ []) c.len-in-Err.result ≡ Some c.in-Err.refused.value =
     ap (slice_get (ops ++ op ∷ [])) (sym at) ∙ last_op ops op ∙ ap Some (sym c.in-Err.ensures.value_returned) in
-    let back : IsAgeIndex (remove (ops ++ op ∷ []) c.len-in-Err.result) c.remove.new.self.ages.items (list_in c.remove.new.self.lists) =
-    c.remove.ensures (ops ++ op ∷ []) grown there in
+    let back : IsAgeIndex (remove (ops ++ op ∷ []) c.len-in-Err.result) c.remove.new.self.ages.items (ages_under c.remove.new.self.lists) =
+    c.remove.ensures.index (ops ++ op ∷ []) grown there in
     record {
       within = subst (λ (l : List Op). length l ≤ c.self.inside.hold) (sym same) c.self.invariant.within;
-      index = subst (λ (l : List Op). IsAgeIndex l c.remove.new.self.ages.items (list_in c.remove.new.self.lists)) (sym same)
-          (index_back ops op c.remove.new.self.ages.items (list_in c.remove.new.self.lists)
-          (subst (λ (n : ℕ). IsAgeIndex (remove (ops ++ op ∷ []) n) c.remove.new.self.ages.items (list_in c.remove.new.self.lists)) (sym at) back));
+      index = subst (λ (l : List Op). IsAgeIndex l c.remove.new.self.ages.items (ages_under c.remove.new.self.lists)) (sym same)
+          (index_back ops op c.remove.new.self.ages.items (ages_under c.remove.new.self.lists)
+          (subst (λ (n : ℕ). IsAgeIndex (remove (ops ++ op ∷ []) n) c.remove.new.self.ages.items (ages_under c.remove.new.self.lists)) (sym at) back));
+      no_empty = c.remove.ensures.no_empty (c.add.ensures.no_empty c.self.invariant.no_empty);
     }

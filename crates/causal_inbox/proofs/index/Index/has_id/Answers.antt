@@ -1,12 +1,13 @@
 use Rattle.std.proofs.Common.{ap, sym, ◌∙◌, List, ℕ}
 use Rattle.std.specs.Prelude.{is_some, slice_get}
-use Rattle.origin_model.specs.Verdict.{id_held}
-use Rattle.causal_inbox.specs.declared.key.Key.TheVariants.{Own}
-use Rattle.causal_inbox.proofs.Findings.{own_found}
+use Rattle.origin_model.specs.operations.Verdict.{id_held}
+use Rattle.causal_inbox.specs.Keys.{own}
+use Rattle.causal_inbox.specs.Lists.{ages_under}
+use Rattle.causal_inbox.proofs.FindingLemmas.{own_found}
 use Rattle.causal_inbox.proofs.index.Index.has_id.Goals as goal
 
 pub returns-in-Some : goal.returns-in-Some
 returns-in-Some c =
-    c.is_some.ensures ∙ ap is_some c.nth_age.ensures ∙ ap (λ (l : List ℕ). is_some (slice_get l 0)) (c.requires.listed (Own c.in-Some.id))
+    c.is_some.ensures ∙ ap is_some c.nth_age.ensures ∙ ap (λ (l : List ℕ). is_some (slice_get l 0)) (ap (ages_under c.args.self.now.lists) c.own_key.ensures ∙ c.requires.listed (own c.in-Some.id))
     ∙ own_found c.in-Some.id c.args.ops.now c.args.self.now.ages.items c.requires.one_each
     ∙ sym (ap (id_held c.args.ops.now) c.in-Some.is)

@@ -4,17 +4,17 @@ use Rattle.std.specs.Prelude.{Some, slice_get}
 use Rattle.fugue_ids.specs.declared.op.Op.{Op}
 use Rattle.std.proofs.lemmas.Option.{slice_get-get_or}
 use Rattle.causal_inbox.specs.Ages.{IsAgeIndex}
-use Rattle.causal_inbox.specs.Lists.{list_in}
-use Rattle.causal_inbox.proofs.Indexes.{index_removed, index_rises}
+use Rattle.causal_inbox.specs.Lists.{ages_under}
+use Rattle.causal_inbox.proofs.IndexLemmas.{index_removed, index_rises}
 use Rattle.causal_inbox.proofs.index.Index.remove.Goals as goal
 
 pub drop_age-requires : goal.drop_age-requires
-drop_age-requires c = index_rises c.requires.some.ops c.args.self.now.ages.items (list_in c.args.self.now.lists) c.requires.some.index
+drop_age-requires c = index_rises c.requires.some.ops c.args.self.now.ages.items (ages_under c.args.self.now.lists) c.requires.some.index
 
-pub returns : goal.returns
-returns c = λ (ops : List Op) index is.
+pub returns-clause-index : goal.returns-clause-index
+returns-clause-index c = λ (ops : List Op) index is.
     let ages = c.args.self.now.ages.items in
     let at : slice_get ages c.args.position ≡ Some c.remove-age.result =
     slice_get-get_or ages c.args.position c.remove-age.result c.requires.within ∙ ap Some (sym c.remove-age.ensures.value) in
-    subst (λ (l : List ℕ). IsAgeIndex (remove ops c.args.position) l (list_in c.drop_age.new.lists)) (sym c.remove-age.ensures.items)
-    (index_removed ops c.args.op.now ages c.args.position c.remove-age.result c.keys.result (list_in c.args.self.now.lists) (list_in c.drop_age.new.lists) is at c.keys.ensures c.drop_age.ensures index)
+    subst (λ (l : List ℕ). IsAgeIndex (remove ops c.args.position) l (ages_under c.drop_age.new.lists)) (sym c.remove-age.ensures.items)
+    (index_removed ops c.args.op.now ages c.args.position c.remove-age.result c.keys.result (ages_under c.args.self.now.lists) (ages_under c.drop_age.new.lists) is at c.keys.ensures c.drop_age.ensures.dropped index)

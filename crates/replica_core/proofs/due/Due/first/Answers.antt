@@ -1,5 +1,5 @@
 use Rattle.std.proofs.Common.{sym}
-use Rattle.replica_core.proofs.Places.{none_found}
+use Rattle.replica_core.proofs.PositionLemmas.{none_found}
 use Rattle.replica_core.proofs.due.Due.first.Goals as goal
 
 pub returns-then-is_clear : goal.returns-then-is_clear

@@ -1,7 +1,7 @@
 use Rattle.std.proofs.Common.{◌≡◌, sym, ◌∙◌, ap, Bool, List}
 use Rattle.std.specs.Prelude.{count_by}
 use Rattle.std.proofs.lemmas.Bool.{eqb-true, eq-eqb}
-use Rattle.replica_core.proofs.Marks.{clear_if, none_counted}
+use Rattle.replica_core.proofs.MarkLemmas.{clear_if, none_counted}
 use Rattle.replica_core.proofs.due.Due.is_clear.Goals as goal
 
 pub returns : goal.returns

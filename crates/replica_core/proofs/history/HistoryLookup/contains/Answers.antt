@@ -2,8 +2,8 @@ use Rattle.std.proofs.Common.{ap, inl, inr, subst, sym, ◌∙◌, ◌≡◌}
 use Rattle.std.specs.Prelude.{Some}
 use Rattle.std.specs.Option.{option_copied}
 use Rattle.fugue_ids.specs.Ops.{id_of}
-use Rattle.origin_model.specs.Verdict.{Lawful}
-use Rattle.replica_core.proofs.Indexes.{has_held}
+use Rattle.origin_model.specs.operations.Verdict.{Lawful}
+use Rattle.replica_core.proofs.IndexLemmas.{has_held}
 use Rattle.replica_core.proofs.history.HistoryLookup.contains.Goals as goal
 
 pub returns-in-Some : goal.returns-in-Some

@@ -1,8 +1,8 @@
 use Rattle.std.proofs.Common.{◌≡◌, subst, length, nat_eq}
-use Rattle.origin_model.specs.Taking.{answer}
+use Rattle.origin_model.specs.taking.Taking.{answer}
 use Rattle.replica_core.specs.State.{State}
-use Rattle.replica_core.specs.Decided.{answer_by_decision}
-use Rattle.replica_core.proofs.Decisions.{decision_by}
+use Rattle.replica_core.specs.Decision.{answer_by_decision}
+use Rattle.replica_core.proofs.DecisionLemmas.{decision_by}
 use Rattle.replica_core.proofs.replica.Replica.decision_on.Goals as goal
 
 pub returns : goal.returns

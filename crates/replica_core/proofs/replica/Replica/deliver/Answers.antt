@@ -1,12 +1,12 @@
-use Rattle.std.proofs.Common.{◌≡◌, refl, sym, ◌∙◌, subst, ap, ℕ, List, length, nat_eq, cond, ◌++◌, ◌∷◌, [], false, Bool}
+use Rattle.std.proofs.Common.{◌≡◌, refl, sym, ◌∙◌, subst, ap, ℕ, List, length, nat_eq, if◌then◌else◌, ◌++◌, ◌∷◌, [], false, Bool}
 use Rattle.fugue_ids.specs.declared.op.Op.{Op}
 use Rattle.causal_inbox.specs.Waiting.{Waiting}
-use Rattle.origin_model.specs.Taking.{answer, Accepted, Full, Waits}
+use Rattle.origin_model.specs.taking.Taking.{answer, Accepted, Full, Waits}
 use Rattle.replica_core.specs.State.{State, Stands}
 use Rattle.replica_core.specs.Due.{due_marks}
-use Rattle.replica_core.proofs.Decisions.{waits_undecided}
-use Rattle.replica_core.proofs.Marks.{marks_pushed}
-use Rattle.replica_core.proofs.Standing.{stands_same, stands_by_accept, stands_by_push}
+use Rattle.replica_core.proofs.DecisionLemmas.{may_wait, may_wait-decided, waits_undecided}
+use Rattle.replica_core.proofs.MarkLemmas.{marks_pushed}
+use Rattle.replica_core.proofs.StandingLemmas.{stands_same, stands_by_accept, stands_by_push}
 use Rattle.replica_core.proofs.replica.Replica.deliver.Goals as goal
 use Rattle.replica_core.proofs.replica.Replica.deliver.Goals.{in-Ok-wait, in-Err-Full, in-Err-NoMemory}
 
@@ -49,7 +49,7 @@ waited c =
     let h : List Op = c.self.inside.accepted in
     let w : List Op = c.self.inside.inbox.ops in
     let s : State = record { number = c.self.inside.number; hold = c.self.inside.hold; most = c.self.inside.most; held = record { history = h; waiting = w } } in
-    let Comes : State → Type 0 = λ x. answer x.hold x.most x.held c.args.op ≡ cond (nat_eq (length x.held.waiting) x.hold) Full Waits in
+    let Comes : State → Type 0 = λ x. answer x.hold x.most x.held c.args.op ≡ (if nat_eq (length x.held.waiting) x.hold then Full else Waits) in
     let comes : Comes s = subst Comes (sym c.self.view_is) c.in-Missing.ensures in
     let hold_of : Waiting → ℕ = λ i. i.hold in
     let ops_of : Waiting → List Op = λ i. i.ops in
@@ -66,7 +66,7 @@ waited c =
             v.in-Ok-wait.ensures.ok c.wait.ensures.within c.self.invariant.stands;
         marks_right = v.in-Ok-wait.ensures.mark
             ∙ ap (λ (l : List Bool). l ++ false ∷ []) c.self.invariant.marks
-            ∙ marks_pushed h w c.args.op (waits_undecided s.hold s.most s.held c.args.op (nat_eq (length w) s.hold) comes)
+            ∙ marks_pushed h w c.args.op (waits_undecided s.hold s.most s.held c.args.op (ap may_wait comes ∙ may_wait-decided (nat_eq (length w) s.hold)))
             ∙ ap (due_marks h) (sym (ap ops_of v.in-Ok-wait.ensures.ok));
       }
       | in-Err-Full v ↦ same v.in-Err-Full.ensures.err v.in-Err-Full.ensures.marks

@@ -1,6 +1,6 @@
 use Rattle.std.proofs.Common.{refl, arith, ◌∷◌, [], length-append}
-use Rattle.origin_model.specs.Taking.{Again, Conflict, Stray, Accepted, Full, Waits, answer_counted}
-use Rattle.replica_core.proofs.Feeding.{IsFedState, IsSettledBehind, refused_fed, taken_fed, accepted_fed, accepted_partly, waits_settled}
+use Rattle.origin_model.specs.taking.Taking.{Again, Conflict, Stray, Accepted, Full, Waits, answer_counted}
+use Rattle.replica_core.proofs.FeedLemmas.{IsFedState, IsSettledBehind, refused_fed, taken_fed, accepted_fed, accepted_partly, waits_settled}
 use Rattle.replica_core.proofs.replica.Replica.feed.Goals as goal
 
 accepted : (c : goal.In-Ok) → IsFedState c.args.self.now c.args.op c.args.tally.now c.settle.new.self c.settle.new.tally

@@ -1,13 +1,13 @@
-use Rattle.origin_model.specs.Taking.{IsSettled}
+use Rattle.origin_model.specs.taking.Taking.{IsSettled}
 use Rattle.std.proofs.Common.{◌≡◌, sym, subst, true, false, List, Bool}
 use Rattle.std.specs.Prelude.{All}
 use Rattle.fugue_ids.specs.declared.op.Op.{Op}
 use Rattle.replica_core.specs.State.{State}
-use Rattle.replica_core.proofs.Marks.{clear_settled, settled_clear}
+use Rattle.replica_core.proofs.MarkLemmas.{clear_settled, settled_clear}
 use Rattle.replica_core.proofs.replica.Replica.is_settled.Goals as goal
 
-pub returns : goal.returns
-returns c =
+pub returns-clause-settled : goal.returns-clause-settled
+returns-clause-settled c =
     let h : List Op = c.self.inside.accepted in
     let w : List Op = c.self.inside.inbox.ops in
     let IsClear : List Bool → Type 0 = λ marks. All (λ m. m ≡ false) marks in

@@ -1,7 +1,7 @@
 use Rattle.std.proofs.Common.{subst, Bool, arith}
 use Rattle.replica_core.specs.Told.{IsCounted}
-use Rattle.replica_core.proofs.Counts.{settling_starts, settling_more}
-use Rattle.replica_core.proofs.Steps.{step_moves}
+use Rattle.replica_core.proofs.CountLemmas.{settling_starts, settling_more}
+use Rattle.replica_core.proofs.StepLemmas.{step_moves}
 use Rattle.replica_core.proofs.replica.Replica.settle.Goals as goal
 
 pub loop-init : goal.loop-init

@@ -1,5 +1,5 @@
 use Rattle.std.proofs.Common.{length}
-use Rattle.replica_core.proofs.Counts.{IsSettling}
+use Rattle.replica_core.proofs.CountLemmas.{IsSettling}
 use Rattle.replica_core.proofs.replica.Replica.settle.Given as goal
 
 abbrev pub invariant-loop : goal.invariant-loop

@@ -1,7 +1,7 @@
 use Rattle.std.proofs.Common.{◌∙◌, ap}
 use Rattle.std.specs.Prelude.{Some}
 use Rattle.replica_core.specs.declared.settled.Settled.{Settled}
-use Rattle.replica_core.proofs.Counts.{told_joined, told_dropped}
+use Rattle.replica_core.proofs.CountLemmas.{told_joined, told_dropped}
 use Rattle.replica_core.proofs.replica.Replica.settle_counted.Goals as goal
 
 pub returns-in-Some-Accepted-clause-step : goal.returns-in-Some-Accepted-clause-step

@@ -2,20 +2,20 @@ use Rattle.std.proofs.Common.{refl, sym, ◌∙◌, subst, ap, List, ◌∷◌, 
 use Rattle.std.specs.Prelude.{Some}
 use Rattle.fugue_ids.specs.declared.op.Op.{Op}
 use Rattle.causal_inbox.specs.Waiting.{Waiting}
-use Rattle.origin_model.specs.Taking.{Held, IsSettled}
+use Rattle.origin_model.specs.taking.Taking.{Held, IsSettled}
 use Rattle.replica_core.specs.State.{State}
 use Rattle.replica_core.specs.Told.{Settles}
 use Rattle.replica_core.specs.declared.settled.Settled.TheVariants.{Accepted, DroppedStray}
-use Rattle.replica_core.proofs.Marks.{first_due, due_place, marks_left}
-use Rattle.replica_core.proofs.Steps.{no_place_left}
-use Rattle.replica_core.proofs.StepsStand.{IsStep, accepted_step, dropped_step}
+use Rattle.replica_core.proofs.MarkLemmas.{first_due, due_position, marks_left}
+use Rattle.replica_core.proofs.StepLemmas.{none_left}
+use Rattle.replica_core.proofs.StepStandingLemmas.{IsStep, accepted_step, dropped_step}
 use Rattle.replica_core.proofs.replica.Replica.settle_one.Goals as goal
 
 pub returns-in_default-clause-step : goal.returns-in_default-clause-step
 returns-in_default-clause-step c =
     let Settled : State → Type 0 = λ s. IsSettled s.held in (
       subst Settled c.self.view_is
-          (no_place_left (record { history = c.self.inside.accepted; waiting = c.self.inside.inbox.ops }) c.first.result
+          (none_left (record { history = c.self.inside.accepted; waiting = c.self.inside.inbox.ops }) c.first.result
           (c.first.ensures ∙ first_due c.self.inside.accepted c.self.inside.inbox.ops c.self.inside.due c.self.invariant.marks) c.in_default.not-Some),
       refl,
     )
@@ -29,7 +29,7 @@ joins c =
     let w : List Op = c.self.inside.inbox.ops in
     let s : State = record { number = c.self.inside.number; hold = c.self.inside.hold; most = c.self.inside.most; held = record { history = h; waiting = w } } in
     accepted_step s c.self.inside.inbox c.leave-op.new.inbox c.in-Some.position c.index-ops-position.result c.leave-op.result c.ops.result.now c.accept.new.self
-    refl (due_place h w c.self.inside.due c.first.result c.in-Some.position c.self.invariant.marks c.first.ensures c.in-Some.is) c.ops.ensures.ops c.index-ops-position.is
+    refl (due_position h w c.self.inside.due c.first.result c.in-Some.position c.self.invariant.marks c.first.ensures c.in-Some.is) c.ops.ensures.ops c.index-ops-position.is
     (sym c.verdict.ensures ∙ c.in-Ready.is)
     (c.in-Ok.ensures.ok ∙ ap (λ (o : Op). o ∷ h) c.in_ok-copy-in-Ready.ensures) c.leave-op.ensures.op c.leave-op.ensures.rest c.self.invariant.stands
 
@@ -49,13 +49,17 @@ joined : (c : goal.After-wake) → IsStep
     (record { number = c.self.inside.number; hold = c.self.inside.hold; most = c.self.inside.most; held = record { history = c.self.inside.accepted; waiting = c.self.inside.inbox.ops } })
     (record { history = c.accept.new.self; waiting = c.leave-op.new.inbox.ops }) (Accepted c.leave-op.result)
 joined c =
-    let h : List Op = c.self.inside.accepted in
-    let w : List Op = c.self.inside.inbox.ops in
-    let s : State = record { number = c.self.inside.number; hold = c.self.inside.hold; most = c.self.inside.most; held = record { history = h; waiting = w } } in
+    let s : State = record {
+      number = c.self.inside.number;
+      hold = c.self.inside.hold;
+      most = c.self.inside.most;
+      held = record { history = c.self.inside.accepted; waiting = c.self.inside.inbox.ops };
+    } in
+    let position = due_position c.self.inside.accepted c.self.inside.inbox.ops c.self.inside.due c.first.result c.in-Some.position c.self.invariant.marks c.first.ensures c.in-Some.is in
     accepted_step s c.self.inside.inbox c.leave-op.new.inbox c.in-Some.position c.index-ops-position.result c.leave-op.result c.ops.result.now c.accept.new.self
-    refl (due_place h w c.self.inside.due c.first.result c.in-Some.position c.self.invariant.marks c.first.ensures c.in-Some.is) c.ops.ensures.ops c.index-ops-position.is
+    refl position c.ops.ensures.ops c.index-ops-position.is
     (sym c.verdict.ensures ∙ c.in-Ready.is)
-    (c.in-Ok.ensures.ok ∙ ap (λ (o : Op). o ∷ h) c.in_ok-copy-in-Ready.ensures) c.leave-op.ensures.op c.leave-op.ensures.rest c.self.invariant.stands
+    (c.in-Ok.ensures.ok ∙ ap (λ (o : Op). o ∷ c.self.inside.accepted) c.in_ok-copy-in-Ready.ensures) c.leave-op.ensures.op c.leave-op.ensures.rest c.self.invariant.stands
 
 pub invariant_of-self-in-Ready : goal.invariant_of-self-in-Ready
 invariant_of-self-in-Ready c = record {
@@ -81,7 +85,7 @@ dropped c =
     let w : List Op = c.self.inside.inbox.ops in
     let s : State = record { number = c.self.inside.number; hold = c.self.inside.hold; most = c.self.inside.most; held = record { history = h; waiting = w } } in
     dropped_step s c.self.inside.inbox c.leave-op-in_default-verdict.new.inbox c.in-Some.position c.index-ops-position.result c.leave-op-in_default-verdict.result c.ops.result.now
-    refl (due_place h w c.self.inside.due c.first.result c.in-Some.position c.self.invariant.marks c.first.ensures c.in-Some.is) c.ops.ensures.ops c.index-ops-position.is
+    refl (due_position h w c.self.inside.due c.first.result c.in-Some.position c.self.invariant.marks c.first.ensures c.in-Some.is) c.ops.ensures.ops c.index-ops-position.is
     (λ ready. c.in_default-verdict.not-Ready (c.verdict.ensures ∙ ready))
     c.leave-op-in_default-verdict.ensures.op c.leave-op-in_default-verdict.ensures.rest c.self.invariant.stands
 

@@ -1,8 +1,8 @@
 use Rattle.std.proofs.Common.{subst}
 use Rattle.std.specs.Prelude.{All}
-use Rattle.origin_model.specs.Verdict.{verdict}
+use Rattle.origin_model.specs.operations.Verdict.{verdict}
 use Rattle.replica_core.specs.State.{State, IsOpen}
-use Rattle.replica_core.proofs.Standing.{waiting_open}
+use Rattle.replica_core.proofs.StandingLemmas.{waiting_open}
 use Rattle.replica_core.proofs.replica.Replica.waiting.Goals as goal
 
 pub returns-clause-not_accepted : goal.returns-clause-not_accepted

@@ -1,0 +1,19 @@
+//! The manuscript and the replica beside the plain replica of the definitions. There are tests here alone.
+#![tactic(auto)]
+
+#[cfg(test)]
+mod any_order;
+#[cfg(test)]
+mod beside;
+#[cfg(test)]
+mod lines;
+#[cfg(test)]
+mod manuscripts;
+#[cfg(test)]
+mod plain;
+#[cfg(test)]
+mod pools;
+#[cfg(test)]
+mod replicas;
+#[cfg(test)]
+mod rows;

@@ -1,0 +1,59 @@
+//! Taking in as the definitions have it, with room for all: each step of settling looks at every waiting operation.
+
+use fugue_ids::Op;
+use origin_model::{PlainReplica, Verdict};
+use std::alloc::Global;
+use std::test::Fail;
+
+#[derive(Drop)]
+pub struct Plain {
+    pub accepted: PlainReplica,
+    pub waiting: Vec<Op>,
+}
+
+/// A waiting operation that is equal or has the identifier.
+fn excludes(waiting: &Op, op: &Op) -> bool {
+    *waiting == *op || waiting.id().is_some() && waiting.id() == op.id()
+}
+
+fn is_decided(accepted: &PlainReplica, op: &Op) -> bool {
+    matches!(accepted.verdict(op), Verdict::Ready | Verdict::Stray(_))
+}
+
+impl Plain {
+    pub fn new(alloc: Global) -> Plain {
+        Plain {
+            accepted: PlainReplica::new(alloc),
+            waiting: Vec::new(alloc),
+        }
+    }
+
+    pub fn take_in(&mut self, op: Op) -> Result<(), Fail> {
+        if self.waiting.iter().any(|other| excludes(other, &op)) {
+            return Ok(());
+        }
+        match self.accepted.verdict(&op) {
+            Verdict::Ready => self.accepted.accept(op)?,
+            Verdict::Missing(_) => self.waiting.push(op)?,
+            Verdict::Again | Verdict::Conflict | Verdict::Stray(_) => {}
+        }
+        for _ in 0..self.waiting.len() {
+            self.settle_one()?;
+        }
+        Ok(())
+    }
+
+    fn settle_one(&mut self) -> Result<(), Fail> {
+        let decided = self
+            .waiting
+            .iter()
+            .position(|op| is_decided(&self.accepted, op));
+        if let Some(at) = decided {
+            let op = self.waiting.remove(at);
+            if self.accepted.verdict(&op) == Verdict::Ready {
+                self.accepted.accept(op)?;
+            }
+        }
+        Ok(())
+    }
+}

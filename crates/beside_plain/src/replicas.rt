@@ -1,0 +1,223 @@
+//! What a replica takes in, refuses and shows.
+
+ghost use Rattle.std.specs.Prelude.{◌<◌, IsTrue};
+ghost use Rattle.replica_core.specs.Told.{StaysBelow};
+
+use crate::lines::Line::{Delete, Text};
+use crate::lines::{A, B, D, Line, NONE, SECTION, T, X, Y, id, op};
+use fugue_ids::Op;
+use outer_ports::MemSink;
+use replica_core::{DeliverFault, NewFault, Replica, Settled, Taken, Tally};
+use std::alloc::Global;
+use std::process::Abort;
+use std::test::Fail;
+
+const LIMIT: u32 = 2_147_483_648;
+
+fn has_room(tally: &Tally) -> bool
+    ensures { IsTrue result → StaysBelow tally.now }
+{
+    tally.accepted < LIMIT
+        && tally.repeated < LIMIT
+        && tally.conflict < LIMIT
+        && tally.stray < LIMIT
+        && tally.full < LIMIT
+}
+
+pub fn feed_one(
+    rt: &impl Abort,
+    replica: &mut Replica,
+    op: Op,
+    tally: &mut Tally,
+) -> Result<(), Fail> {
+    assert!(rt; replica.is_settled() && has_room(tally));
+    replica.feed(op, tally)?;
+    Ok(())
+}
+
+fn counts(accepted: u32, conflict: u32, stray: u32, full: u32) -> Tally {
+    Tally {
+        accepted,
+        repeated: 0,
+        conflict,
+        stray,
+        full,
+    }
+}
+
+/// The manuscript that is shown, the counts, and how many wait.
+#[derive(Clone, Copy, Debug, PartialEq, Eq)]
+pub struct Shown {
+    pub text: &'static str,
+    pub counts: Tally,
+    pub waiting: usize,
+}
+
+pub fn all_accepted(text: &'static str, accepted: u32) -> Shown {
+    Shown {
+        text,
+        counts: counts(accepted, 0, 0, 0),
+        waiting: 0,
+    }
+}
+
+fn compare_shown(
+    rt: &impl Abort,
+    alloc: Global,
+    replica: &Replica,
+    tally: &Tally,
+    want: &Shown,
+) -> Result<(), Fail> {
+    let mut sink = MemSink::new(alloc, 100, Vec::new(alloc));
+    replica.write_manuscript(&mut sink)?;
+    assert_eq!(rt; sink.written(), want.text.as_bytes());
+    assert_eq!(rt; *tally, want.counts);
+    assert_eq!(rt; replica.waiting().len(), want.waiting);
+    assert_eq!(rt; replica.accepted().len() as u32, tally.accepted);
+    Ok(())
+}
+
+fn feed_all(
+    rt: &impl Abort,
+    alloc: Global,
+    replica: &mut Replica,
+    lines: &[Line],
+    want: &Shown,
+) -> Result<(), Fail> {
+    let mut tally = Tally::default();
+    for line in lines {
+        feed_one(rt, replica, op(rt, alloc, *line)?, &mut tally)?;
+    }
+    compare_shown(rt, alloc, replica, &tally, want)
+}
+
+/// Feeds the operations to a new replica, and looks at what it shows.
+pub fn shows(
+    rt: &impl Abort,
+    alloc: Global,
+    hold: u32,
+    lines: &[Line],
+    want: Shown,
+) -> Result<(), Fail> {
+    let mut replica = Replica::new(alloc, 7, hold, 100)?;
+    feed_all(rt, alloc, &mut replica, lines, &want)
+}
+
+const FIRST: Line = Text((1, 0), SECTION, NONE, NONE, 'a');
+
+const SECOND: Line = Text((1, 1), SECTION, (1, 0), NONE, 'b');
+
+/// A text whose section is named where only a text is.
+const MISFIT: Line = Text((2, 0), (1, 0), NONE, NONE, 'x');
+
+#[test]
+fn operations_backwards_show_the_text(rt: HostRuntime) -> Result<(), Fail> {
+    let want = all_accepted("# T\nAXYDB\n", 6);
+    shows(&rt, rt.alloc(), 5, &[Y, X, D, A, B, T], want)
+}
+
+#[test]
+fn what_is_not_taken_is_counted(rt: HostRuntime) -> Result<(), Fail> {
+    let table: [(u32, &[Line], &'static str, Tally, usize); 5] = [
+        (
+            1,
+            &[FIRST, SECOND, T, SECOND],
+            "# T\nab\n",
+            counts(3, 0, 0, 1),
+            0,
+        ),
+        (
+            1,
+            &[T, FIRST, Text((1, 0), SECTION, NONE, NONE, 'z')],
+            "# T\na\n",
+            counts(2, 1, 0, 0),
+            0,
+        ),
+        (1, &[T, FIRST, MISFIT], "# T\na\n", counts(2, 0, 1, 0), 0),
+        (2, &[MISFIT, T, FIRST], "# T\na\n", counts(2, 0, 1, 0), 0),
+        (1, &[T, SECOND], "# T\n\n", counts(1, 0, 0, 0), 1),
+    ];
+    for (hold, lines, text, counts, waiting) in table {
+        let want = Shown {
+            text,
+            counts,
+            waiting,
+        };
+        shows(&rt, rt.alloc(), hold, lines, want)?;
+    }
+    Ok(())
+}
+
+#[test]
+fn numbers_out_of_range_make_no_replica(rt: HostRuntime) {
+    for (number, hold, most, want) in [
+        (0, 0, 0, NewFault::ZeroReplica),
+        (1, 0, 0, NewFault::BadHold),
+        (1, 1_048_577, 1, NewFault::BadHold),
+        (1, 1_048_576, 0, NewFault::BadMost),
+        (1, 1, 4_194_305, NewFault::BadMost),
+    ] {
+        assert_eq!(rt;
+            Replica::new(rt.alloc(), number, hold, most).err(),
+            Some(want)
+        );
+    }
+}
+
+/// What settling did, and of which element.
+fn settle_one(replica: &mut Replica) -> Result<&'static str, Fail> {
+    match replica.settle_one()? {
+        Some(Settled::Accepted(_op)) => Ok("accepted"),
+        Some(Settled::DroppedStray(_op)) => Ok("dropped"),
+        None => Ok("nothing"),
+    }
+}
+
+fn deliver(rt: &impl Abort, replica: &mut Replica, op: Op) -> Result<Taken, Fail> {
+    assert!(rt; replica.is_settled());
+    Ok(replica.deliver(op)?)
+}
+
+/// The number that a refusal names.
+fn refused_at(rt: &impl Abort, replica: &mut Replica, op: Op) -> u32 {
+    assert!(rt; replica.is_settled());
+    match replica.deliver(op) {
+        Err(DeliverFault::TooMany(_op, most)) => most,
+        Err(_fault) => 0,
+        Ok(_taken) => 0,
+    }
+}
+
+/// The operation of the line is delivered, and then one step of settling is taken.
+fn deliver_line(
+    rt: &impl Abort,
+    alloc: Global,
+    replica: &mut Replica,
+    line: Line,
+    want: (Taken, &'static str),
+) -> Result<(), Fail> {
+    let taken = deliver(rt, replica, op(rt, alloc, line)?)?;
+    let settled = settle_one(replica)?;
+    assert_eq!(rt; (taken, settled), want, "{line:?}");
+    Ok(())
+}
+
+fn deliver_in_turn(rt: &impl Abort, alloc: Global, replica: &mut Replica) -> Result<(), Fail> {
+    assert_eq!(rt; (replica.number(), replica.hold()), (7, 1));
+    for (line, want, settled) in [
+        (FIRST, Taken::Waits, "nothing"),
+        (T, Taken::Accepted, "accepted"),
+        (FIRST, Taken::Again, "nothing"),
+        (Delete((1, 0)), Taken::Accepted, "nothing"),
+    ] {
+        deliver_line(rt, alloc, replica, line, (want, settled))?;
+    }
+    assert_eq!(rt; refused_at(rt, replica, op(rt, alloc, SECOND)?), 3);
+    Ok(())
+}
+
+#[test]
+fn a_delivery_waits_to_be_settled(rt: HostRuntime) -> Result<(), Fail> {
+    let mut replica = Replica::new(rt.alloc(), 7, 1, 3)?;
+    deliver_in_turn(&rt, rt.alloc(), &mut replica)
+}

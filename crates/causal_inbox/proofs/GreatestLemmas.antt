@@ -1,0 +1,168 @@
+-- The identifiers that waiting operations have or name are those of the keys that have a list.
+use Rattle.std.proofs.Common.{Bool, ◌||◌, ◌≡◌, ℕ, ◌≤◌, ◌<◌, List, [], ◌∷◌, true, false, refl, sym, ap, subst, ◌∙◌, inl, inr, nat_eq, arith, length, cond}
+use Rattle.std.specs.Prelude.{◌⊎◌, Option, Some, None, IfSome, IsSome, is_some, slice_get, option_to_list, All, Contains, filter, flat_map, map}
+use Rattle.std.specs.List.{list_any}
+use Rattle.std.specs.BTreeMap.{BTreeMap, get}
+use Rattle.std.specs.declared.vec.Vec.{Vec}
+use Rattle.std.specs.declared.alloc.Global.{Global}
+use Rattle.std.proofs.lemmas.Bool.{cases_Bool, eq-eqb, eqb-true}
+use Rattle.std.proofs.lemmas.List.Elements.{Contains-append_left, Contains-append_right, Contains-append_cases}
+use Rattle.fugue_ids.specs.Identifiers.{Identifier, id_eq, origin_eq}
+use Rattle.fugue_ids.specs.Keyed.{HasNoEmpty, items_of}
+use Rattle.fugue_ids.specs.Ops.{id_of}
+use Rattle.fugue_ids.specs.declared.op.Op.{Op}
+use Rattle.fugue_ids.specs.declared.op.Op.TheVariants.{Section, Text, Delete}
+use Rattle.fugue_ids.proofs.IdentifierLemmas.{id_eq-refl, id_eq-true, origin_eq-true}
+use Rattle.fugue_ids.proofs.ListLemmas.{all_from_contains, contains_cases, contains_filter, contains_filter_from, contains_here, contains_map, contains_map_from, contains_none, contains_there}
+use Rattle.origin_model.specs.operations.Counters.{counters, mentioned, IsGreatest}
+use Rattle.origin_model.specs.operations.Verdict.{names}
+use Rattle.origin_model.specs.declared.operations.role.Role.{Role}
+use Rattle.causal_inbox.specs.Ages.{IsAgeIndex, ages_with}
+use Rattle.causal_inbox.specs.Greatest.{IsGreatestUnder}
+use Rattle.causal_inbox.specs.Keys.{has_key, has_kind, named, own}
+use Rattle.causal_inbox.specs.Lists.{ages_under, key_cmp}
+use Rattle.causal_inbox.specs.declared.key.Key.{Key}
+use Rattle.causal_inbox.specs.declared.key.Kind.{Kind}
+use Rattle.causal_inbox.specs.declared.key.Kind.TheVariants.{Own, Target, Named}
+
+or-false : (b c : Bool) → b ≡ false → (b || c) ≡ true → c ≡ true
+or-false b c not_b e = sym (ap (λ t. t || c) not_b) ∙ e
+
+or-true : (b : Bool) → (b || true) ≡ true
+or-true true = refl
+or-true false = refl
+
+-- a name that passes is one of the names
+any_named : (i : Identifier) (ns : List (Identifier × Role)) → list_any (λ n. id_eq n.0 i) ns ≡ true → Contains (map (λ n. n.0) ns) i
+any_named i [] e = cc
+any_named i (n ∷ ns) e =
+    elim (cases_Bool (id_eq n.0 i)) [
+      | inl same ↦ subst (Contains (n.0 ∷ map (λ n. n.0) ns)) (id_eq-true n.0 i same) (contains_here n.0 (map (λ n. n.0) ns))
+      | inr other ↦ contains_there n.0 (map (λ n. n.0) ns) i (any_named i ns (or-false (id_eq n.0 i) (list_any (λ n. id_eq n.0 i) ns) other e))
+    ]
+
+named_any : (i : Identifier) (ns : List (Identifier × Role)) → Contains (map (λ n. n.0) ns) i → list_any (λ n. id_eq n.0 i) ns ≡ true
+named_any i [] c = absurd (contains_none i c)
+named_any i (n ∷ ns) c =
+    elim (contains_cases n.0 (map (λ n. n.0) ns) i c) [
+      | inl same ↦ ap (λ b. b || list_any (λ n. id_eq n.0 i) ns) (ap (λ j. id_eq j i) same ∙ id_eq-refl i)
+      | inr rest ↦ ap (λ b. id_eq n.0 i || b) (named_any i ns rest) ∙ or-true (id_eq n.0 i)
+    ]
+
+-- an operation that is found by a key has or names its identifier
+kind_mentioned : (kind : Kind) (i : Identifier) (op : Op) → has_kind kind i op ≡ true → Contains (mentioned op) i
+kind_mentioned Own i op e =
+    Contains-append_left (option_to_list (id_of op)) (map (λ n. n.0) (names op)) i (subst (λ o. Contains (option_to_list o) i) (sym (origin_eq-true (id_of op) (Some i) e)) (contains_here i []))
+kind_mentioned Named i op e = Contains-append_right (option_to_list (id_of op)) (map (λ n. n.0) (names op)) i (any_named i (names op) e)
+kind_mentioned Target i (Section j l r t) e = cc
+kind_mentioned Target i (Text j s l r c) e = cc
+kind_mentioned Target i (Delete t) e = subst (Contains (t ∷ [])) (id_eq-true t i e) (contains_here t [])
+
+-- and what it has or names is the identifier of one of its keys
+mentioned_key : (i : Identifier) (op : Op) → Contains (mentioned op) i → (has_key (own i) op ≡ true) ⊎ (has_key (named i) op ≡ true)
+mentioned_key i op c =
+    elim (Contains-append_cases (option_to_list (id_of op)) (map (λ n. n.0) (names op)) i c) [
+      | inl has ↦ inl (ap (λ o. origin_eq o (Some i)) (the_own (id_of op) has) ∙ id_eq-refl i)
+      | inr rests ↦ inr (named_any i (names op) rests)
+    ]
+  where
+    the_own : (o : Option Identifier) → Contains (option_to_list o) i → o ≡ Some i
+    the_own None c = absurd (contains_none i c)
+    the_own (Some j) c = elim (contains_cases j [] i c) [ inl same ↦ ap (λ k. Some k) same | inr none ↦ absurd (contains_none i none) ]
+
+keys_mentioned : (key : Key) (ops : List Op) → list_any (has_key key) ops ≡ true → Contains (flat_map mentioned ops) key.id
+keys_mentioned key [] e = cc
+keys_mentioned key (op ∷ ops) e =
+    elim (cases_Bool (has_key key op)) [
+      | inl has ↦ Contains-append_left (mentioned op) (flat_map mentioned ops) key.id (kind_mentioned key.kind key.id op has)
+      | inr other ↦ Contains-append_right (mentioned op) (flat_map mentioned ops) key.id (keys_mentioned key ops (or-false (has_key key op) (list_any (has_key key) ops) other e))
+    ]
+
+mentioned_keys : (i : Identifier) (ops : List Op) → Contains (flat_map mentioned ops) i → (list_any (has_key (own i)) ops ≡ true) ⊎ (list_any (has_key (named i)) ops ≡ true)
+mentioned_keys i [] c = absurd (contains_none i c)
+mentioned_keys i (op ∷ ops) c =
+    elim (Contains-append_cases (mentioned op) (flat_map mentioned ops) i c) [
+      | inl here ↦ elim (mentioned_key i op here) [
+        | inl e ↦ inl (ap (λ b. b || list_any (has_key (own i)) ops) e)
+        | inr e ↦ inr (ap (λ b. b || list_any (has_key (named i)) ops) e)
+      ]
+      | inr behind ↦ elim (mentioned_keys i ops behind) [
+        | inl e ↦ inl (ap (λ b. has_key (own i) op || b) e ∙ or-true (has_key (own i) op))
+        | inr e ↦ inr (ap (λ b. has_key (named i) op || b) e ∙ or-true (has_key (named i) op))
+      ]
+    ]
+
+-- an age stands under a key where an operation has it
+some_age : (key : Key) (ops : List Op) (ages : List ℕ) → length ages ≡ length ops → is_some (slice_get (ages_with key ops ages) 0) ≡ list_any (has_key key) ops
+some_age key [] ages same = refl
+some_age key (o ∷ ops) [] same = absurd (omega (arith, same))
+some_age key (o ∷ ops) (b ∷ ages) same =
+    let rest : is_some (slice_get (ages_with key ops ages) 0) ≡ list_any (has_key key) ops = some_age key ops ages (omega (arith, same)) in
+    let Same : Bool → Type 0 = λ t. is_some (slice_get (cond t (b ∷ ages_with key ops ages) (ages_with key ops ages)) 0) ≡ (t || list_any (has_key key) ops) in
+    elim (cases_Bool (has_key key o)) [ inl e ↦ subst Same (sym e) refl | inr e ↦ subst Same (sym e) rest ]
+
+-- a key has an entry where an operation has it
+entry_where : (m : BTreeMap Key (Vec ℕ Global)) (ops : List Op) (ages : List ℕ) (key : Key) → HasNoEmpty key_cmp m → IsAgeIndex ops ages (ages_under m)
+    → is_some (get key_cmp m key) ≡ list_any (has_key key) ops
+entry_where m ops ages key none index =
+    by_entry (get key_cmp m key) (none key) ∙ ap (λ l. is_some (slice_get l 0)) (index.listed key) ∙ some_age key ops ages index.one_each
+  where
+    filled : (l : List ℕ) → 0 < length l → true ≡ is_some (slice_get l 0)
+    filled [] within = absurd (omega (arith, within))
+    filled (a ∷ l) within = refl
+
+    by_entry : (o : Option (Vec ℕ Global)) → IfSome o (λ v. 0 < length v.items) → is_some o ≡ is_some (slice_get (items_of o) 0)
+    by_entry None f = refl
+    by_entry (Some v) f = filled v.items f
+
+no_member : (ns : List ℕ) → ((n : ℕ) → Contains ns n → ⊥) → ns ≡ []
+no_member [] none = refl
+no_member (n ∷ ns) none = absurd (none n (contains_here n ns))
+
+greatest_of : (ns : List ℕ) (n : ℕ) → Contains ns n → All (λ m. m ≤ n) ns → IsGreatest ns (Some n)
+greatest_of [] n c b = absurd (contains_none n c)
+greatest_of (m ∷ ns) n c b = record { none = (λ e. cc, λ e. cc); member = c; bound = b }
+
+-- a key of the replica with the counter
+record KeyOf (m : BTreeMap Key (Vec ℕ Global)) (r n : ℕ) : Type 0 where
+  key : Key
+  of_replica : key.id.replica ≡ r
+  of_counter : key.id.counter ≡ n
+  there : IsSome (get key_cmp m key)
+
+-- the greatest counter under keys is the greatest that the operations have or name
+pub greatest_mentioned : (m : BTreeMap Key (Vec ℕ Global)) (r : ℕ) (ops : List Op) (ages : List ℕ) (greatest : Option ℕ) → HasNoEmpty key_cmp m → IsGreatestUnder m r greatest
+    → IsAgeIndex ops ages (ages_under m) → IsGreatest (counters r ops) greatest
+greatest_mentioned m r ops ages greatest none g index = by_greatest greatest g
+  where
+    entry : (key : Key) → is_some (get key_cmp m key) ≡ list_any (has_key key) ops
+    entry key = entry_where m ops ages key none index
+
+    member : (n : ℕ) (k : KeyOf m r n) → Contains (counters r ops) n
+    member n k =
+        subst (Contains (counters r ops)) k.of_counter
+        (contains_map (λ id. id.counter) (filter (λ id. nat_eq id.replica r) (flat_map mentioned ops)) k.key.id
+        (contains_filter (λ id. nat_eq id.replica r) (flat_map mentioned ops) k.key.id
+        (keys_mentioned k.key ops (sym (entry k.key) ∙ k.there)) (eq-eqb k.key.id.replica r k.of_replica)))
+
+    key_of : (n : ℕ) → Contains (counters r ops) n → KeyOf m r n
+    key_of n c =
+        let found = contains_map_from (λ id. id.counter) (filter (λ id. nat_eq id.replica r) (flat_map mentioned ops)) n c in
+        let kept = contains_filter_from (λ id. nat_eq id.replica r) (flat_map mentioned ops) found.0 found.1 in
+        elim (mentioned_keys found.0 ops kept.0) [
+          | inl e ↦ record { key = own found.0; of_replica = eqb-true found.0.replica r kept.1; of_counter = found.2; there = entry (own found.0) ∙ e }
+          | inr e ↦ record { key = named found.0; of_replica = eqb-true found.0.replica r kept.1; of_counter = found.2; there = entry (named found.0) ∙ e }
+        ]
+
+    none_there : (o : Option (Vec ℕ Global)) → o ≡ None → IsSome o → ⊥
+    none_there None e s = cc
+    none_there (Some v) e s = cc
+
+    by_greatest : (o : Option ℕ) → IsGreatestUnder m r o → IsGreatest (counters r ops) o
+    by_greatest None g =
+        let empty : counters r ops ≡ [] = no_member (counters r ops) (λ n c. let k = key_of n c in none_there (get key_cmp m k.key) (g.none refl k.key k.of_replica) k.there) in
+        record { none = (λ e. empty, λ e. refl); member = tt; bound = tt }
+    by_greatest (Some n) g =
+        let k = g.member in
+        greatest_of (counters r ops) n (member n (record { key = k.0; of_replica = k.1; of_counter = k.2; there = k.3 }))
+        (all_from_contains (λ i. i ≤ n) (counters r ops) (λ i c. let k = key_of i c in subst (λ j. j ≤ n) k.of_counter (g.bound k.key k.of_replica k.there)))

@@ -1,0 +1,72 @@
+-- What the steps of a replica's settling leave.
+use Rattle.std.proofs.Common.{◌≡◌, refl, sym, ◌∙◌, ap, subst, ℕ, ◌<◌, length, List, ◌∷◌, get_or}
+use Rattle.std.specs.Prelude.{Some, position, remove, slice_get}
+use Rattle.std.proofs.lemmas.Option.{get_or_from_slice_get, slice_get_within}
+use Rattle.fugue_ids.specs.declared.op.Op.{Op}
+use Rattle.origin_model.specs.operations.Verdict.{verdict}
+use Rattle.origin_model.specs.declared.operations.verdict.Verdict.TheVariants.{Ready}
+use Rattle.origin_model.specs.taking.Taking.{Held, decided_on}
+use Rattle.causal_inbox.specs.Waiting.{Waiting}
+use Rattle.replica_core.specs.State.{State, Stands}
+use Rattle.replica_core.specs.Told.{Settles}
+use Rattle.replica_core.specs.declared.settled.Settled.{Settled}
+use Rattle.replica_core.specs.declared.settled.Settled.TheVariants.{Accepted, DroppedStray}
+use Rattle.replica_core.proofs.StandingLemmas.{stands_dropped, stands_joined}
+use Rattle.replica_core.proofs.StepLemmas.{step_joined, step_dropped}
+
+-- the operation that was read at a first is the one that was removed there
+same_op : (waiting read : List Op) (k : ℕ) (op removed : Op) → read ≡ waiting → op ≡ get_or read k op → slice_get waiting k ≡ Some removed → op ≡ removed
+same_op waiting read k op removed is at out =
+    at ∙ ap (λ (w : List Op). get_or w k op) is ∙ get_or_from_slice_get waiting k removed op out
+
+-- a step of settling, and what is so after it
+pub record IsStep (s : State) (new : Held) (settled : Settled) : Type 0 where
+  pub settles : Settles s.held new (Some settled)
+  pub stands : Stands (record s { held = new })
+
+-- the Ready operation at the first first of a decided one was accepted and removed
+pub accepted_step : (s : State) (inbox new : Waiting) (k : ℕ) (op removed : Op) (read history : List Op)
+    → inbox.ops ≡ s.held.waiting → position (decided_on s.held.history) s.held.waiting ≡ Some k
+    → read ≡ s.held.waiting → op ≡ get_or read k op → verdict s.held.history op ≡ Ready
+    → history ≡ op ∷ s.held.history → slice_get s.held.waiting k ≡ Some removed → new ≡ record inbox { ops = remove inbox.ops k } → Stands s
+    → IsStep s (record { history = history; waiting = new.ops }) (Accepted removed)
+accepted_step s inbox new k op removed read history same first is_read at ready is_history out is_new stands =
+    let w : List Op = s.held.waiting in
+    let it : op ≡ removed = same_op w read k op removed is_read at out in
+    let ready_removed : verdict s.held.history removed ≡ Ready = ap (verdict s.held.history) (sym it) ∙ ready in
+    let longer : history ≡ removed ∷ s.held.history = is_history ∙ ap (λ (o : Op). o ∷ s.held.history) it in
+    let rest : new.ops ≡ remove w k = ap (λ (i : Waiting). i.ops) is_new ∙ ap (λ (ops : List Op). remove ops k) same in
+    let step = step_joined s.held k removed first out ready_removed in
+    let new_held : Held = record { history = history; waiting = new.ops } in
+    let is_held : record { history = removed ∷ s.held.history; waiting = remove w k } ≡ new_held = λ i. record { history = sym longer i; waiting = sym rest i } in
+    record {
+      settles = (
+        step.0 ∙ ap (λ (h : Held). Some h) is_held,
+        step.1 ∙ ap (λ (ops : List Op). Some (removed, ops)) (sym rest),
+        longer,
+      );
+      stands = subst (λ (h : Held). Stands (record s { held = h })) is_held (stands_joined s k removed stands out ready_removed);
+    }
+
+-- the operation at the first first of a decided one was not Ready and was removed
+pub dropped_step : (s : State) (inbox new : Waiting) (k : ℕ) (op removed : Op) (read : List Op)
+    → inbox.ops ≡ s.held.waiting → position (decided_on s.held.history) s.held.waiting ≡ Some k
+    → read ≡ s.held.waiting → op ≡ get_or read k op → (verdict s.held.history op ≡ Ready → ⊥)
+    → slice_get s.held.waiting k ≡ Some removed → new ≡ record inbox { ops = remove inbox.ops k } → Stands s
+    → IsStep s (record { history = s.held.history; waiting = new.ops }) (DroppedStray removed)
+dropped_step s inbox new k op removed read same first is_read at other out is_new stands =
+    let w : List Op = s.held.waiting in
+    let it : op ≡ removed = same_op w read k op removed is_read at out in
+    let rest : new.ops ≡ remove w k = ap (λ (i : Waiting). i.ops) is_new ∙ ap (λ (ops : List Op). remove ops k) same in
+    let step = step_dropped s.held k removed first out (λ ready. other (ap (verdict s.held.history) it ∙ ready)) in
+    let below : k < length w = slice_get_within w k removed out in
+    let is_held : record { history = s.held.history; waiting = remove w k } ≡ record { history = s.held.history; waiting = new.ops } =
+    ap (λ (ops : List Op). record { history = s.held.history; waiting = ops }) (sym rest) in
+    record {
+      settles = (
+        step.0 ∙ ap (λ (h : Held). Some h) is_held,
+        step.1 ∙ ap (λ (ops : List Op). Some (removed, ops)) (sym rest),
+        refl,
+      );
+      stands = subst (λ (h : Held). Stands (record s { held = h })) is_held (stands_dropped s k stands below);
+    }

@@ -1,0 +1,30 @@
+-- What is decided of an operation by what waits, its verdict, and whether as many are there as may.
+use Rattle.std.specs.Prelude.{Bool, true, false, if◌then◌else◌}
+use Rattle.causal_inbox.specs.declared.found.Found.{Found}
+use Rattle.causal_inbox.specs.declared.found.Found.TheVariants.{Same, Clash, Absent}
+use Rattle.origin_model.specs.declared.operations.verdict.Verdict.{Verdict}
+use Rattle.origin_model.specs.declared.operations.verdict.Verdict.TheVariants.{Again as AgainOnHistory, Conflict as ConflictOnHistory, Stray as StrayOnHistory, Missing as MissingOnHistory, Ready as ReadyOnHistory}
+use Rattle.origin_model.specs.taking.Taking.{Answer, Again, Conflict, Stray, TooMany, Accepted, Full, Waits}
+use Rattle.replica_core.specs.declared.decision.Decision.{Decision}
+use Rattle.replica_core.specs.declared.decision.Decision.TheVariants.{Again as DecidedAgain, Conflict as DecidedConflict, Stray as DecidedStray, TooMany as DecidedTooMany, Ready as DecidedReady, Missing as DecidedMissing}
+
+-- the first line that applies
+abbrev pub decided : Found → Verdict → (at_most : Bool) → Decision
+decided Same verdict at_most = DecidedAgain
+decided Clash AgainOnHistory at_most = DecidedAgain
+decided Clash verdict at_most = DecidedConflict
+decided Absent AgainOnHistory at_most = DecidedAgain
+decided Absent ConflictOnHistory at_most = DecidedConflict
+decided Absent (StrayOnHistory i) at_most = DecidedStray i
+decided Absent verdict true = DecidedTooMany
+decided Absent ReadyOnHistory false = DecidedReady
+decided Absent (MissingOnHistory i) false = DecidedMissing
+
+-- the answer that a decision comes to, as many waiting as may or not
+abbrev pub answer_by_decision : (at_hold : Bool) → Decision → Answer
+answer_by_decision at_hold DecidedAgain = Again
+answer_by_decision at_hold DecidedConflict = Conflict
+answer_by_decision at_hold (DecidedStray i) = Stray i
+answer_by_decision at_hold DecidedTooMany = TooMany
+answer_by_decision at_hold DecidedReady = Accepted
+answer_by_decision at_hold DecidedMissing = if at_hold then Full else Waits
