@@ -1,7 +1,7 @@
 //! An offline editor for a manuscript that several authors change on their own machines.
 #![tactic(auto)]
 
-use manuscript_cli::{Status, run};
+use manuscript_cli::{Refusal, Status, run, tell};
 use outer_ports::{StdSink, StdSource};
 use std::process::ExitCode;
 use std::rt::Env;
@@ -15,18 +15,22 @@ fn words(rt: &(impl Env + AllocGlobal)) -> io::Result<Vec<String>> {
         .map_err(io::Error::from)
 }
 
-fn main(rt: HostRuntime) -> ExitCode {
-    let words = match words(&rt) {
+/// Runs on the streams of the process.
+fn run_on_streams(rt: &HostRuntime) -> Status {
+    let mut input = StdSource::new(rt.stdin());
+    let mut output = StdSink::new(rt.stdout());
+    let mut notes = StdSink::new(rt.stderr());
+    let words = match words(rt) {
         Ok(words) => words,
         Err(error) if error.kind() == io::ErrorKind::OutOfMemory => {
-            return ExitCode::from(Status::NoMemory.code());
+            return tell(&mut notes, Refusal::NoMemory);
         }
         // A word that is not UTF-8: no command has such words.
         Err(_) => Vec::new(rt.alloc()),
     };
-    let mut input = StdSource::new(rt.stdin());
-    let mut output = StdSink::new(rt.stdout());
-    let mut notes = StdSink::new(rt.stderr());
-    let status = run(rt.alloc(), &words, &mut input, &mut output, &mut notes);
-    ExitCode::from(status.code())
+    run(rt.alloc(), &words, &mut input, &mut output, &mut notes)
+}
+
+fn main(rt: HostRuntime) -> ExitCode {
+    ExitCode::from(run_on_streams(&rt).code())
 }

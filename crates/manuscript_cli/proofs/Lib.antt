@@ -1,8 +1,5 @@
-pub mod WordLists
-pub mod Streams
-pub mod HasPlaces
-pub mod OneCourse
-pub mod Decided
-pub mod Feeding
-pub mod Stopping
-pub mod ShowParts
+pub mod WordLemmas
+pub mod TextLemmas
+pub mod IntakeLemmas
+pub mod HeadlineLemmas
+pub mod ShowLemmas

@@ -1,6 +1,8 @@
--- The line of notes that says what became of the operations.
-use Rattle.std.specs.Prelude.{ℕ, List, [], ◌∷◌, flat_map, codes, decimal}
-use Rattle.origin_model.specs.declared.tally.Tally.{Tally}
+-- The line of notes that says what became of the operations, and the status that they lead to.
+use Rattle.std.specs.Prelude.{ℕ, Bool, List, [], ◌∷◌, flat_map, codes, decimal, nat_eq, ◌&&◌, if◌then◌else◌}
+use Rattle.origin_model.specs.declared.taking.tally.Tally.{Tally}
+use Rattle.manuscript_cli.specs.declared.status.Status.{Status}
+use Rattle.manuscript_cli.specs.declared.status.Status.TheVariants.{Done, Partial}
 
 abbrev pub counts_line : Tally → ℕ → List ℕ
 counts_line tally waiting =
@@ -12,3 +14,11 @@ counts_line tally waiting =
     ∷ codes ", stray " ∷ decimal tally.stray
     ∷ codes ", full " ∷ decimal tally.full
     ∷ (10 ∷ []) ∷ [])
+
+-- nothing waits, and nothing was refused but repeats
+abbrev pub is_done : Tally → ℕ → Bool
+is_done counts waiting = nat_eq waiting 0 && nat_eq counts.conflict 0 && nat_eq counts.stray 0 && nat_eq counts.full 0
+
+-- Partial where some operation waits or was refused, and Done otherwise
+abbrev pub status_by : Tally → ℕ → Status
+status_by counts waiting = if is_done counts waiting then Done else Partial

@@ -15,6 +15,7 @@ mod top;
 mod words;
 
 pub use command::Command;
+pub use refusal::{Refusal, tell};
 pub use status::Status;
 pub use top::run;
-pub use words::{files_of, read_words};
+pub use words::read_words;

@@ -1,5 +1,5 @@
 ghost use Rattle.std.specs.Prelude.{◌≡◌, ◌<◌, ◌^◌, ◌↔◌, ℕ, Some, IfSome, IsTrue, decimal};
-ghost use Rattle.manuscript_cli.specs.Numbers.{IsNumber};
+ghost use Rattle.manuscript_cli.specs.Number.{IsNumber};
 
 use itoa::Buffer;
 

@@ -1,5 +1,5 @@
 ghost use Rattle.std.specs.Prelude.{◌≡◌};
-ghost use Rattle.manuscript_cli.specs.Statuses.{code_of};
+ghost use Rattle.manuscript_cli.specs.Status.{code_of};
 
 /// How a command ended.
 #[derive(Clone, Copy, Debug, PartialEq, Eq)]

@@ -1,94 +1,59 @@
-ghost use Rattle.std.specs.Prelude.{◌≡◌, ◌≤◌, ℕ, IfOk, IfErr};
-ghost use Rattle.origin_model.specs.Taking.{nothing};
-ghost use Rattle.manuscript_cli.specs.Courses.{most};
-ghost use Rattle.manuscript_cli.specs.Intakes.{TakesIn, StopsFor, frame_refusal, feed_refusal};
+ghost use Rattle.std.specs.Prelude.{◌≡◌, ◌≤◌, length, IfOk, IfErr, IsErrOf};
+ghost use Rattle.fugue_ids.specs.declared.limits.TheConstants.{GREATEST_HOLD};
+ghost use Rattle.outer_ports.specs.Sources.{KeepsCount};
+ghost use Rattle.origin_model.specs.taking.Taking.{IsSettled};
+ghost use Rattle.manuscript_cli.specs.Intake.{IsReady, Steps, TakesIn, StopsFor};
+ghost use Rattle.manuscript_cli.specs.declared.refusal.Refusal.TheVariants.{Outside};
 
 use crate::refusal::Refusal;
-use op_frame::{FrameFault, FrameReader};
+use fugue_ids::STREAM_LIMIT;
+use op_frame::FrameReader;
 use origin_model::Tally;
 use outer_ports::Source;
-use replica_core::{FeedFault, Replica};
+use replica_core::Replica;
 use std::alloc::Global;
 
-/// The greatest number of bytes of a stream.
-const STREAM_LIMIT: u64 = 2_147_483_648;
-
-/// The greatest number of operations that a replica of the program holds, accepted and waiting.
-const MOST: u32 = 4_194_304;
-
-/// The number of a replica that only reads: it makes no operations.
-const READER: u32 = 1;
-
-/// What the operations of a stream left.
+/// A stream on its way into a replica, and what became of its operations so far.
 #[derive(Drop)]
-pub(crate) struct TakenIn {
-    pub(crate) replica: Replica,
-    pub(crate) tally: Tally,
+struct Intake {
+    reader: FrameReader,
+    tally: Tally,
 }
 
-/// Takes in the operations of all that the source has left.
+impl Intake {
+    /// Takes in the next operation. The answer is whether there was one.
+    fn step<S: Source>(&mut self, replica: &mut Replica, source: &mut S) -> Result<bool, Refusal>
+        requires { IsReady (record { reader = self.old.reader; replica = replica.old; counts = self.old.tally }) }
+        ensures steps { Steps (record { reader = self.old.reader; replica = replica.old; counts = self.old.tally })
+            (record { reader = self.new.reader; replica = replica.new; counts = self.new.tally })
+            (S.seen source.old) (S.seen source.new) result }
+        ensures count { KeepsCount (S.seen source.old) (S.seen source.new) (IsErrOf result Outside) }
+    {
+        let Some(op) = self.reader.next(source)? else {
+            return Ok(false);
+        };
+        // Whether it is kept is known here, for those that save what was kept.
+        let _kept = replica.feed(op, &mut self.tally)?;
+        Ok(true)
+    }
+}
+
+/// Takes the operations of all that the source has left into the replica, and answers what became of them.
 pub(crate) fn take_in<S: Source>(
     alloc: Global,
-    hold: u32,
+    replica: &mut Replica,
     source: &mut S,
-) -> Result<TakenIn, Refusal>
-    requires from { 1 ≤ hold }
-    requires to { hold ≤ 1048576 }
-    ensures ok { IfOk result (λ taken. TakesIn hold (S.seen source.old) (S.seen source.new) taken.replica taken.tally) }
-    ensures err { IfErr result (λ why. StopsFor why hold (S.seen source.old) (S.seen source.new)) }
-    ensures later { (S.seen source.old).faults ≤ (S.seen source.new).faults }
+) -> Result<Tally, Refusal>
+    requires settled { IsSettled replica.old.held }
+    requires few { length replica.old.held.waiting ≤ GREATEST_HOLD }
+    ensures ok { IfOk result (λ tally. TakesIn replica.old (S.seen source.old) (S.seen source.new) replica.new tally) }
+    ensures err { IfErr result (λ why. StopsFor why replica.old (S.seen source.old)) }
+    ensures count { KeepsCount (S.seen source.old) (S.seen source.new) (IsErrOf result Outside) }
 {
-    let mut reader = match FrameReader::new(alloc, STREAM_LIMIT) {
-        Ok(reader) => reader,
-        Err(_) => return Err(Refusal::NoMemory),
-    };
-    let mut taken = TakenIn {
-        replica: new_replica(alloc, hold),
+    let mut intake = Intake {
+        reader: FrameReader::new(alloc, STREAM_LIMIT)?,
         tally: Tally::default(),
     };
-    'frames: loop {
-        let next = match reader.next(source) {
-            Ok(next) => next,
-            Err(fault) => return Err(refusal_of(fault)),
-        };
-        let Some(op) = next else {
-            return Ok(taken);
-        };
-        match taken.replica.feed(op, &mut taken.tally) {
-            Ok(_) => {}
-            Err(fault) => return Err(refusal_by(fault)),
-        }
-    }
-}
-
-fn new_replica(alloc: Global, hold: u32) -> Replica
-    requires from { 1 ≤ hold }
-    requires to { hold ≤ 1048576 }
-    ensures { result ≡ record { number = 1; hold = hold; most = most; held = nothing } }
-{
-    match Replica::new(alloc, READER, hold, MOST) {
-        Ok(replica) => replica,
-        Err(_) => unreachable!(),
-    }
-}
-
-fn refusal_of(fault: FrameFault) -> Refusal
-    ensures { result ≡ frame_refusal fault }
-{
-    match fault {
-        FrameFault::BadFrame(place) => Refusal::BadFrame(place),
-        FrameFault::CutShort(place) => Refusal::CutShort(place),
-        FrameFault::ReadFault => Refusal::Outside,
-        FrameFault::TooLong => Refusal::TooLong,
-        FrameFault::NoMemory => Refusal::NoMemory,
-    }
-}
-
-fn refusal_by(fault: FeedFault) -> Refusal
-    ensures { result ≡ feed_refusal fault }
-{
-    match fault {
-        FeedFault::TooMany(count) => Refusal::TooMany(count),
-        FeedFault::NoMemory => Refusal::NoMemory,
-    }
+    'frames: while intake.step(replica, source)? {}
+    Ok(intake.tally)
 }

@@ -1,76 +1,99 @@
-use crate::{Status, run};
-use outer_ports::{MemSink, MemSource};
+use crate::{Refusal, Status, run, tell};
+use outer_ports::{MemSink, MemSource, SureSink, SureSource};
 use std::alloc::{AllocError, Global};
 use std::test::Fail;
 
-const SECTION: &[u8] = b"\x01\0\0\0\x09\0\0\0\0\0\0\0\x01T";
+/// The section (9,0) with the title T.
+const S: &[u8] = b"\x01\0\0\0\x09\0\0\0\0\0\0\0\x01T";
 
-/// An identifier of the rows: a replica and a counter below 256.
-type Id = (u8, u8);
+/// The letter B, (1,0).
+const B: &[u8] = b"\x02\0\0\0\x01\0\0\0\0\0\0\0\x09\0\0\0\0\0\0\0\0B";
 
-fn put_id(frames: &mut Vec<u8>, id: Id) -> Result<(), AllocError> {
-    frames.extend_from_slice(&[0, 0, 0, id.0, 0, 0, 0, id.1])
-}
+/// The letter A, (1,1), before (1,0).
+const A: &[u8] = b"\x02\0\0\0\x01\0\0\0\x01\0\0\0\x09\0\0\0\0\0\x01\0\0\0\x01\0\0\0\0\0\0A";
 
-fn put_origin(frames: &mut Vec<u8>, origin: Option<Id>) -> Result<(), AllocError> {
-    match origin {
-        None => frames.extend_from_slice(&[0]),
-        Some(id) => {
-            frames.extend_from_slice(&[1])?;
-            put_id(frames, id)
-        }
+/// The letter D, (2,0), before (1,0).
+const D: &[u8] = b"\x02\0\0\0\x02\0\0\0\0\0\0\0\x09\0\0\0\0\0\x01\0\0\0\x01\0\0\0\0\0\0D";
+
+/// The letter X, (3,0), behind (1,1), before (1,0).
+const X: &[u8] =
+    b"\x02\0\0\0\x03\0\0\0\0\0\0\0\x09\0\0\0\0\x01\0\0\0\x01\0\0\0\x01\x01\0\0\0\x01\0\0\0\0\0\0X";
+
+/// The letter Y, (2,1), behind (1,1), before (2,0).
+const Y: &[u8] =
+    b"\x02\0\0\0\x02\0\0\0\x01\0\0\0\x09\0\0\0\0\x01\0\0\0\x01\0\0\0\x01\x01\0\0\0\x02\0\0\0\0\0\0Y";
+
+/// The letter P, (1,0).
+const P: &[u8] = b"\x02\0\0\0\x01\0\0\0\0\0\0\0\x09\0\0\0\0\0\0\0\0P";
+
+/// The letter Q, (1,1), behind (1,0).
+const Q: &[u8] = b"\x02\0\0\0\x01\0\0\0\x01\0\0\0\x09\0\0\0\0\x01\0\0\0\x01\0\0\0\0\0\0\0Q";
+
+/// The letter Z, (2,0), behind (1,1), before (1,0).
+const Z: &[u8] =
+    b"\x02\0\0\0\x02\0\0\0\0\0\0\0\x09\0\0\0\0\x01\0\0\0\x01\0\0\0\x01\x01\0\0\0\x01\0\0\0\0\0\0Z";
+
+/// The letter V, (3,0), behind (1,1).
+const V: &[u8] = b"\x02\0\0\0\x03\0\0\0\0\0\0\0\x09\0\0\0\0\x01\0\0\0\x01\0\0\0\x01\0\0\0V";
+
+/// The letter a, (1,0).
+const LOWER_A: &[u8] = b"\x02\0\0\0\x01\0\0\0\0\0\0\0\x09\0\0\0\0\0\0\0\0a";
+
+/// The letter z, (1,0).
+const OTHER_A: &[u8] = b"\x02\0\0\0\x01\0\0\0\0\0\0\0\x09\0\0\0\0\0\0\0\0z";
+
+/// The letter b, (1,1), behind (1,0).
+const LOWER_B: &[u8] = b"\x02\0\0\0\x01\0\0\0\x01\0\0\0\x09\0\0\0\0\x01\0\0\0\x01\0\0\0\0\0\0\0b";
+
+/// The letter c, (2,0), behind (1,0).
+const BEHIND_A: &[u8] = b"\x02\0\0\0\x02\0\0\0\0\0\0\0\x09\0\0\0\0\x01\0\0\0\x01\0\0\0\0\0\0\0c";
+
+/// The letter c, (2,0), in (1,0).
+const IN_A: &[u8] = b"\x02\0\0\0\x02\0\0\0\0\0\0\0\x01\0\0\0\0\0\0\0\0c";
+
+/// The letter x, (0,0).
+const NOWHERE: &[u8] = b"\x02\0\0\0\0\0\0\0\0\0\0\0\x09\0\0\0\0\0\0\0\0x";
+
+/// The letter x, (2,0).
+const SMALL_X: &[u8] = b"\x02\0\0\0\x02\0\0\0\0\0\0\0\x09\0\0\0\0\0\0\0\0x";
+
+/// The letter y, (2,1), behind (2,0).
+const Y_BEHIND_X: &[u8] =
+    b"\x02\0\0\0\x02\0\0\0\x01\0\0\0\x09\0\0\0\0\x01\0\0\0\x02\0\0\0\0\0\0\0y";
+
+/// The letter b, (1,0).
+const SMALL_B: &[u8] = b"\x02\0\0\0\x01\0\0\0\0\0\0\0\x09\0\0\0\0\0\0\0\0b";
+
+/// The letter a, (1,1), before (1,0).
+const A_BEFORE_B: &[u8] =
+    b"\x02\0\0\0\x01\0\0\0\x01\0\0\0\x09\0\0\0\0\0\x01\0\0\0\x01\0\0\0\0\0\0a";
+
+/// The letter y, (2,0).
+const SMALL_Y: &[u8] = b"\x02\0\0\0\x02\0\0\0\0\0\0\0\x09\0\0\0\0\0\0\0\0y";
+
+/// The letter x, (2,1), before (2,0).
+const X_BEFORE_Y: &[u8] =
+    b"\x02\0\0\0\x02\0\0\0\x01\0\0\0\x09\0\0\0\0\0\x01\0\0\0\x02\0\0\0\0\0\0x";
+
+/// The letter (2,0) is dropped.
+const DROP_D: &[u8] = b"\x03\0\0\0\x02\0\0\0\0";
+
+/// The letter (1,0) is dropped.
+const DROP_B: &[u8] = b"\x03\0\0\0\x01\0\0\0\0";
+
+/// The section is dropped.
+const DROP_S: &[u8] = b"\x03\0\0\0\x09\0\0\0\0";
+
+/// A frame that is cut short.
+const CUT: &[u8] = b"\x02\0\0\0\x01\0";
+
+/// The frames, one behind the other.
+fn stream(alloc: Global, frames: &[&[u8]]) -> Result<Vec<u8>, AllocError> {
+    let mut bytes = Vec::new(alloc);
+    for frame in frames {
+        bytes.extend_from_slice(frame)?;
     }
-}
-
-/// The frame of an ASCII letter in a section.
-fn put_text(
-    frames: &mut Vec<u8>,
-    id: Id,
-    section: Id,
-    left: Option<Id>,
-    right: Option<Id>,
-    letter: u8,
-) -> Result<(), AllocError> {
-    frames.extend_from_slice(&[2])?;
-    put_id(frames, id)?;
-    put_id(frames, section)?;
-    put_origin(frames, left)?;
-    put_origin(frames, right)?;
-    frames.extend_from_slice(&[0, 0, letter])
-}
-
-fn put_delete(frames: &mut Vec<u8>, target: Id) -> Result<(), AllocError> {
-    frames.extend_from_slice(&[3])?;
-    put_id(frames, target)
-}
-
-/// One operation of the rows.
-#[derive(Clone, Copy)]
-enum Line {
-    /// The section (9,0) with the title `T`.
-    Section,
-    /// A letter of that section.
-    Text(Id, Option<Id>, Option<Id>, u8),
-    /// A letter whose section is another one.
-    Elsewhere(Id, Id, u8),
-    Delete(Id),
-}
-
-fn put_line(frames: &mut Vec<u8>, line: Line) -> Result<(), AllocError> {
-    match line {
-        Line::Section => frames.extend_from_slice(SECTION),
-        Line::Text(id, left, right, letter) => put_text(frames, id, (9, 0), left, right, letter),
-        Line::Elsewhere(id, section, letter) => put_text(frames, id, section, None, None, letter),
-        Line::Delete(target) => put_delete(frames, target),
-    }
-}
-
-fn frames_of(alloc: Global, lines: &[Line]) -> Result<Vec<u8>, AllocError> {
-    let mut frames = Vec::new(alloc);
-    for line in lines {
-        put_line(&mut frames, *line)?;
-    }
-    Ok(frames)
+    Ok(bytes)
 }
 
 fn words_of(alloc: Global, line: &str) -> Result<Vec<String>, AllocError> {
@@ -81,103 +104,76 @@ fn words_of(alloc: Global, line: &str) -> Result<Vec<String>, AllocError> {
     Ok(words)
 }
 
-/// What came out of a run.
-#[derive(Drop)]
+/// What came out of a run, beside the text and the line of notes that are wanted of a whole one.
+#[derive(Clone, Copy, PartialEq, Eq)]
 struct Seen {
     status: Status,
-    output: MemSink,
-    notes: MemSink,
+    /// The output holds the text, and a front of it.
+    is_text: bool,
+    is_front: bool,
+    /// The notes hold the line, and a front of it with the fault's line behind.
+    is_line: bool,
+    is_cut_off: bool,
 }
 
-/// Which calls of each object fail, counted from 0.
-#[derive(Clone, Copy)]
-enum Fails {
-    None,
-    Input(u32),
-    Output(u32),
-    Notes(u32),
-}
-
-fn calls_of(alloc: Global, call: Option<u32>) -> Result<Vec<u32>, AllocError> {
-    let mut calls = Vec::new(alloc);
-    if let Some(call) = call {
-        calls.push(call)?;
+impl Seen {
+    fn is_shown(self, status: Status) -> bool {
+        self.status == status && self.is_text && self.is_line
     }
-    Ok(calls)
+
+    fn is_outside(self) -> bool {
+        self.status == Status::OutsideFault && self.is_front && self.is_cut_off
+    }
 }
 
+/// The calls of the input, the output and the notes that fail, counted from 0.
+type Fails = [&'static [u32]; 3];
+
+const NONE: Fails = [&[], &[], &[]];
+
+/// Runs on a stream that comes in pieces. The output takes three bytes at once, and the notes 64.
 fn see(
     alloc: Global,
     words: &str,
-    lines: &[Line],
+    bytes: Vec<u8>,
     piece: usize,
     fails: Fails,
+    text: &[u8],
+    line: &[u8],
 ) -> Result<Seen, AllocError> {
-    let [input, output, notes] = match fails {
-        Fails::None => [None, None, None],
-        Fails::Input(call) => [Some(call), None, None],
-        Fails::Output(call) => [None, Some(call), None],
-        Fails::Notes(call) => [None, None, Some(call)],
-    };
+    let [input, output, notes] = fails;
+    let mut input = MemSource::new(bytes, piece.max(1), Vec::from_slice(alloc, input)?);
+    let mut output = MemSink::new(alloc, 3, Vec::from_slice(alloc, output)?);
+    let mut notes = MemSink::new(alloc, 64, Vec::from_slice(alloc, notes)?);
     let words = words_of(alloc, words)?;
-    let mut input = MemSource::new(
-        frames_of(alloc, lines)?,
-        piece.max(1),
-        calls_of(alloc, input)?,
-    );
-    let mut output = MemSink::new(alloc, 3, calls_of(alloc, output)?);
-    let mut notes = MemSink::new(alloc, 64, calls_of(alloc, notes)?);
     let status = run(alloc, &words, &mut input, &mut output, &mut notes);
     Ok(Seen {
         status,
-        output,
-        notes,
+        is_text: output.written() == text,
+        is_front: text.starts_with(output.written()),
+        is_line: notes.written() == line,
+        is_cut_off: is_cut_off(notes.written(), line),
     })
 }
 
-const B: Line = Line::Text((1, 0), None, None, b'B');
+/// The notes hold a front of the line, and then the fault's line.
+fn is_cut_off(notes: &[u8], line: &[u8]) -> bool {
+    match notes.strip_suffix(b"outside fault\n".as_slice()) {
+        Some(front) => line.starts_with(front),
+        None => false,
+    }
+}
 
-const A: Line = Line::Text((1, 1), None, Some((1, 0)), b'A');
-
-const D: Line = Line::Text((2, 0), None, Some((1, 0)), b'D');
-
-const X: Line = Line::Text((3, 0), Some((1, 1)), Some((1, 0)), b'X');
-
-const Y: Line = Line::Text((2, 1), Some((1, 1)), Some((2, 0)), b'Y');
-
-const P: Line = Line::Text((1, 0), None, None, b'P');
-
-const Q: Line = Line::Text((1, 1), Some((1, 0)), None, b'Q');
-
-const Z: Line = Line::Text((2, 0), Some((1, 1)), Some((1, 0)), b'Z');
-
-const V: Line = Line::Text((3, 0), Some((1, 1)), None, b'V');
-
-/// The letter a, and another one under its identifier; b behind a; c behind it too.
-const LOWER_A: Line = Line::Text((1, 0), None, None, b'a');
-
-const OTHER_A: Line = Line::Text((1, 0), None, None, b'z');
-
-const LOWER_B: Line = Line::Text((1, 1), Some((1, 0)), None, b'b');
-
-const BEHIND_A: Line = Line::Text((2, 0), Some((1, 0)), None, b'c');
-
-const IN_A: Line = Line::Elsewhere((2, 0), (1, 0), b'c');
-
-const NOWHERE: Line = Line::Elsewhere((0, 0), (9, 0), b'x');
-
-const S: Line = Line::Section;
-
-/// The words, the lines, the output, the notes and the status.
+/// The words, the frames, the output, the notes and the status.
 type Row = (
     &'static str,
-    &'static [Line],
+    &'static [&'static [u8]],
     &'static str,
     &'static str,
     Status,
 );
 
-const ROWS: [Row; 21] = [
+const ROWS: &[Row] = &[
     (
         "show",
         &[],
@@ -229,21 +225,21 @@ const ROWS: [Row; 21] = [
     ),
     (
         "show",
-        &[S, B, A, D, X, Y, Line::Delete((2, 0)), Line::Delete((1, 0))],
+        &[S, B, A, D, X, Y, DROP_D, DROP_B],
         "# T\nAXY\n",
         "accepted 8, repeated 0, waiting 0, conflict 0, stray 0, full 0\n",
         Status::Done,
     ),
     (
         "show",
-        &[S, B, A, D, Line::Delete((2, 0)), Line::Delete((1, 0)), X, Y],
+        &[S, B, A, D, DROP_D, DROP_B, X, Y],
         "# T\nAXY\n",
         "accepted 8, repeated 0, waiting 0, conflict 0, stray 0, full 0\n",
         Status::Done,
     ),
     (
         "show",
-        &[S, LOWER_A, Line::Delete((9, 0))],
+        &[S, LOWER_A, DROP_S],
         "",
         "accepted 3, repeated 0, waiting 0, conflict 0, stray 0, full 0\n",
         Status::Done,
@@ -291,6 +287,13 @@ const ROWS: [Row; 21] = [
         Status::BadInput,
     ),
     (
+        "show",
+        &[S, CUT],
+        "",
+        "cut short at byte 14\n",
+        Status::BadInput,
+    ),
+    (
         "show x y",
         &[S],
         "",
@@ -311,18 +314,22 @@ const ROWS: [Row; 21] = [
 
 #[test]
 fn a_stream_is_shown_and_counted(rt: HostRuntime) -> Result<(), Fail> {
-    for (words, lines, output, notes, status) in ROWS {
+    for (words, frames, text, line, status) in ROWS {
         for piece in [1, 5, 4096] {
-            let seen = see(rt.alloc(), words, lines, piece, Fails::None)?;
+            let bytes = stream(rt.alloc(), frames)?;
+            let seen = see(
+                rt.alloc(),
+                words,
+                bytes,
+                piece,
+                NONE,
+                text.as_bytes(),
+                line.as_bytes(),
+            )?;
             assert!(rt;
-                seen.output.written() == output.as_bytes(),
-                "{words} in pieces of {piece}: {output}"
+                seen.is_shown(*status),
+                "{words} in pieces of {piece}: {text}"
             );
-            assert!(rt;
-                seen.notes.written() == notes.as_bytes(),
-                "{words} in pieces of {piece}: {notes}"
-            );
-            assert_eq!(rt; seen.status, status, "{words} in pieces of {piece}");
         }
     }
     Ok(())
@@ -330,103 +337,158 @@ fn a_stream_is_shown_and_counted(rt: HostRuntime) -> Result<(), Fail> {
 
 const TEXT: &[u8] = b"# T\nAXYDB\n";
 
-const LINES: &[Line] = &[S, B, A, D, X, Y];
+const COUNTS: &[u8] = b"accepted 6, repeated 0, waiting 0, conflict 0, stray 0, full 0\n";
 
-/// The last call that can be made to fail, and what is seen where the one behind it would.
-fn is_outside(seen: &Seen, text: &[u8]) -> bool {
-    seen.status == Status::OutsideFault && text.starts_with(seen.output.written())
-}
+const FRAMES: &[&[u8]] = &[S, B, A, D, X, Y];
 
 #[test]
-fn each_call_may_fail(rt: HostRuntime) -> Result<(), Fail> {
-    // The stream has 172 bytes: 8 pieces of 22 bytes, and an empty read at its end.
-    for call in 0..9 {
-        let seen = see(rt.alloc(), "show", LINES, 22, Fails::Input(call))?;
-        assert!(rt; is_outside(&seen, b""), "read {call}");
-        assert!(rt;
-            seen.notes.written() == b"outside fault\n".as_slice(),
-            "read {call}"
-        );
-    }
-    // The text has 10 bytes in four parts, of which each write takes three at most.
-    for call in 0..10 {
-        let seen = see(rt.alloc(), "show", LINES, 22, Fails::Output(call))?;
-        assert!(rt;
-            seen.status == Status::Done || is_outside(&seen, TEXT),
-            "write {call}"
-        );
-        assert!(rt;
-            seen.status != Status::Done || seen.output.written() == TEXT,
-            "write {call}"
-        );
-    }
-    for call in 0..13 {
-        let seen = see(rt.alloc(), "show", LINES, 22, Fails::Notes(call))?;
-        assert!(rt;
-            is_outside(&seen, TEXT) && seen.output.written() == TEXT,
-            "note {call}"
-        );
-    }
-    for fails in [Fails::Input(9), Fails::Output(10), Fails::Notes(13)] {
-        let seen = see(rt.alloc(), "show", LINES, 22, fails)?;
-        assert_eq!(rt; seen.status, Status::Done);
-        assert!(rt; seen.output.written() == TEXT);
+fn pieces_of_each_size_print_the_same(rt: HostRuntime) -> Result<(), Fail> {
+    for piece in 1..=172usize {
+        let bytes = stream(rt.alloc(), FRAMES)?;
+        let seen = see(rt.alloc(), "show", bytes, piece, NONE, TEXT, COUNTS)?;
+        assert!(rt; seen.is_shown(Status::Done), "pieces of {piece}");
     }
     Ok(())
 }
 
-/// One of the orders of the lines, by its number.
-fn permuted(alloc: Global, lines: &[Line], number: usize) -> Result<Vec<Line>, AllocError> {
+/// Calls that fail alone. The stream has 172 bytes: 8 pieces of 22 bytes, and an empty read at its end. A write of the
+/// text takes three bytes at most, and the counts go out in 13 parts.
+const FAILING: &[Fails] = &[
+    [&[0], &[], &[]],
+    [&[1], &[], &[]],
+    [&[4], &[], &[]],
+    [&[7], &[], &[]],
+    [&[8], &[], &[]],
+    [&[], &[0], &[]],
+    [&[], &[1], &[]],
+    [&[], &[2], &[]],
+    [&[], &[3], &[]],
+    [&[], &[], &[0]],
+    [&[], &[], &[1]],
+    [&[], &[], &[2]],
+    [&[], &[], &[6]],
+    [&[], &[], &[11]],
+    [&[], &[], &[12]],
+];
+
+#[test]
+fn each_call_may_fail(rt: HostRuntime) -> Result<(), Fail> {
+    for fails in FAILING {
+        let bytes = stream(rt.alloc(), FRAMES)?;
+        let seen = see(rt.alloc(), "show", bytes, 22, *fails, TEXT, COUNTS)?;
+        assert!(rt; seen.is_outside());
+    }
+    let bytes = stream(rt.alloc(), FRAMES)?;
+    let seen = see(
+        rt.alloc(),
+        "show",
+        bytes,
+        22,
+        [&[9], &[10], &[13]],
+        TEXT,
+        COUNTS,
+    )?;
+    assert!(rt; seen.is_shown(Status::Done));
+    Ok(())
+}
+
+/// Runs on sure objects: the output takes so many bytes, and the notes 256.
+fn see_surely(alloc: Global, room: usize) -> Result<(Status, bool), Fail> {
+    let words = words_of(alloc, "show")?;
+    let mut input = SureSource::new(stream(alloc, FRAMES)?, 4096);
+    let mut output = SureSink::new(alloc, 4096, room)?;
+    let mut notes = SureSink::new(alloc, 4096, 256)?;
+    let status = run(alloc, &words, &mut input, &mut output, &mut notes);
+    Ok((status, output.written() == TEXT))
+}
+
+#[test]
+fn sure_objects_with_room_do_not_fail(rt: HostRuntime) -> Result<(), Fail> {
+    let (status, is_text) = see_surely(rt.alloc(), 10)?;
+    assert!(rt; status == Status::Done && is_text);
+    let (status, is_text) = see_surely(rt.alloc(), 9)?;
+    assert!(rt; status == Status::OutsideFault && !is_text);
+    Ok(())
+}
+
+/// Each refusal, its text and its status.
+const REFUSALS: &[(Refusal, &str, Status)] = &[
+    (Refusal::Words, "words not understood", Status::Usage),
+    (
+        Refusal::BadFrame(18_446_744_073_709_551_615),
+        "bad frame at byte 18446744073709551615",
+        Status::BadInput,
+    ),
+    (
+        Refusal::CutShort(0),
+        "cut short at byte 0",
+        Status::BadInput,
+    ),
+    (Refusal::TooLong, "too long", Status::Limit),
+    (
+        Refusal::TooMany(4_194_304),
+        "too many: 4194304",
+        Status::Limit,
+    ),
+    (Refusal::Outside, "outside fault", Status::OutsideFault),
+    (Refusal::NoMemory, "no memory", Status::NoMemory),
+];
+
+/// The refusal as it is told, and as it is displayed.
+fn is_told(alloc: Global, refusal: Refusal, text: &str, status: Status) -> Result<bool, Fail> {
+    let line = format!(in alloc; "{refusal}\n")?;
+    let mut notes = MemSink::new(alloc, 5, Vec::new(alloc));
+    let end = tell(&mut notes, refusal);
+    Ok(end == status && notes.written() == line.as_bytes() && line.trim_end() == text)
+}
+
+#[test]
+fn refusals_are_told_in_a_line(rt: HostRuntime) -> Result<(), Fail> {
+    for (refusal, text, status) in REFUSALS {
+        assert!(rt; is_told(rt.alloc(), *refusal, text, *status)?, "{text}");
+    }
+    Ok(())
+}
+
+/// One of the orders of the frames, by its number.
+fn permuted(alloc: Global, frames: &[&'static [u8]], number: usize) -> Result<Vec<u8>, AllocError> {
     let mut number = number;
-    let mut left = Vec::from_slice(alloc, lines)?;
-    let mut order = Vec::new(alloc);
-    for _ in lines {
+    let mut left = Vec::from_slice(alloc, frames)?;
+    let mut bytes = Vec::new(alloc);
+    for _ in frames {
         let count = left.len();
         if count > 0 {
-            order.push(left.remove(number % count))?;
+            bytes.extend_from_slice(left.remove(number % count))?;
             number /= count;
         }
     }
-    Ok(order)
+    Ok(bytes)
+}
+
+/// One of the orders of the frames, and then another one of them all.
+fn permuted_twice(alloc: Global, number: usize) -> Result<Vec<u8>, AllocError> {
+    let mut bytes = permuted(alloc, FRAMES, number)?;
+    let again = permuted(alloc, FRAMES, number / 2)?;
+    bytes.extend_from_slice(&again)?;
+    Ok(bytes)
 }
 
 #[test]
 fn every_order_and_repeat_prints_the_same(rt: HostRuntime) -> Result<(), Fail> {
-    let notes = "accepted 6, repeated 6, waiting 0, conflict 0, stray 0, full 0\n";
+    let line = b"accepted 6, repeated 6, waiting 0, conflict 0, stray 0, full 0\n";
     for number in 0..720usize {
-        let mut lines = permuted(rt.alloc(), LINES, number)?;
-        let again = permuted(rt.alloc(), LINES, number / 2)?;
-        lines.extend_from_slice(&again)?;
-        let seen = see(rt.alloc(), "show", &lines, 4096, Fails::None)?;
-        assert!(rt; seen.output.written() == TEXT, "order {number}");
-        assert!(rt; seen.notes.written() == notes.as_bytes(), "order {number}");
-        assert_eq!(rt; seen.status, Status::Done, "order {number}");
+        let bytes = permuted_twice(rt.alloc(), number)?;
+        let seen = see(rt.alloc(), "show", bytes, 4096, NONE, TEXT, line)?;
+        assert!(rt; seen.is_shown(Status::Done), "order {number}");
     }
     Ok(())
 }
 
-/// Letters behind one another, from two authors who began at the start.
-const SMALL_X: Line = Line::Text((2, 0), None, None, b'x');
+/// The frames, how many of their orders are tried, how far these lie apart, and what each prints.
+type Case = (&'static [&'static [u8]], usize, usize, &'static str);
 
-const Y_BEHIND_X: Line = Line::Text((2, 1), Some((2, 0)), None, b'y');
-
-/// Letters before one another, from two authors who began at the end.
-const SMALL_B: Line = Line::Text((1, 0), None, None, b'b');
-
-const A_BEFORE_B: Line = Line::Text((1, 1), None, Some((1, 0)), b'a');
-
-const SMALL_Y: Line = Line::Text((2, 0), None, None, b'y');
-
-const X_BEFORE_Y: Line = Line::Text((2, 1), None, Some((2, 0)), b'x');
-
-/// The lines, how many of their orders are tried, how far these lie apart, and what each prints.
-const CASES: [(&[Line], usize, usize, &str); 4] = [
-    (
-        &[S, B, A, D, X, Y, Line::Delete((2, 0)), Line::Delete((1, 0))],
-        1_000,
-        40,
-        "# T\nAXY\n",
-    ),
+const CASES: &[Case] = &[
+    (&[S, B, A, D, X, Y, DROP_D, DROP_B], 1_000, 40, "# T\nAXY\n"),
     (&[S, P, Q, Z, V], 120, 1, "# T\nPQVZ\n"),
     (
         &[S, LOWER_A, LOWER_B, SMALL_X, Y_BEHIND_X],
@@ -444,17 +506,42 @@ const CASES: [(&[Line], usize, usize, &str); 4] = [
 
 #[test]
 fn the_orders_of_a_case_print_its_text(rt: HostRuntime) -> Result<(), Fail> {
-    for (lines, orders, step, text) in CASES {
-        for turn in 0..orders {
-            let number = turn.saturating_mul(step);
-            let order = permuted(rt.alloc(), lines, number)?;
-            let seen = see(rt.alloc(), "show", &order, 4096, Fails::None)?;
+    for (frames, orders, step, text) in CASES {
+        for turn in 0..*orders {
+            let number = turn.saturating_mul(*step);
+            let bytes = permuted(rt.alloc(), frames, number)?;
+            let seen = see(rt.alloc(), "show", bytes, 4096, NONE, text.as_bytes(), b"")?;
             assert!(rt;
-                seen.output.written() == text.as_bytes(),
+                seen.status == Status::Done && seen.is_text,
                 "order {number} of {text}"
             );
-            assert_eq!(rt; seen.status, Status::Done, "order {number} of {text}");
         }
     }
+    Ok(())
+}
+
+/// The section with so many letters, each typed behind the one before.
+fn typed(alloc: Global, count: u32) -> Result<Vec<u8>, AllocError> {
+    let mut bytes = stream(alloc, &[S, LOWER_A])?;
+    for counter in 1..count {
+        bytes.extend_from_slice(b"\x02\0\0\0\x01")?;
+        bytes.extend_from_slice(&counter.to_be_bytes())?;
+        bytes.extend_from_slice(b"\0\0\0\x09\0\0\0\0\x01\0\0\0\x01")?;
+        bytes.extend_from_slice(&(counter - 1).to_be_bytes())?;
+        bytes.extend_from_slice(b"\0\0\0a")?;
+    }
+    Ok(bytes)
+}
+
+#[test]
+fn many_letters_go_out_in_few_writes(rt: HostRuntime) -> Result<(), Fail> {
+    let words = words_of(rt.alloc(), "show")?;
+    let mut input = MemSource::new(typed(rt.alloc(), 10_000)?, 4096, Vec::new(rt.alloc()));
+    let mut output = MemSink::new(rt.alloc(), 65_536, Vec::from_slice(rt.alloc(), &[8])?);
+    let mut notes = MemSink::new(rt.alloc(), 64, Vec::new(rt.alloc()));
+    let status = run(rt.alloc(), &words, &mut input, &mut output, &mut notes);
+    assert_eq!(rt; status, Status::Done);
+    assert_eq!(rt; output.written().len(), 10_005);
+    assert!(rt; output.written().starts_with(b"# T\naaa") && output.written().ends_with(b"aaa\n"));
     Ok(())
 }

@@ -1,17 +1,14 @@
-ghost use Rattle.std.specs.Prelude.{◌≡◌, ◌↔◌, ℕ, map, string_bytes};
-ghost use Rattle.manuscript_cli.specs.Commands.{Names};
+ghost use Rattle.std.specs.Prelude.{◌≡◌, ◌↔◌, ℕ, Option, map, string_bytes};
+ghost use Rattle.manuscript_cli.specs.Command.{Names, IsCommand};
 ghost use Rattle.manuscript_cli.specs.Headline.{Headline, IsDecided};
-ghost use Rattle.manuscript_cli.specs.Refusals.{line_of, Told};
-ghost use Rattle.manuscript_cli.specs.Shows.{ShowMeets};
+ghost use Rattle.manuscript_cli.specs.Run.{Meets};
 ghost use Rattle.manuscript_cli.specs.declared.command.Command.{Command as AnyCommand};
 ghost use Rattle.manuscript_cli.specs.declared.command.Command.TheVariants.{Show};
-ghost use Rattle.manuscript_cli.specs.declared.refusal.Refusal.TheVariants.{Words};
 ghost use Rattle.manuscript_cli.specs.declared.status.Status.TheVariants.{Usage};
 
 use crate::refusal::{Refusal, tell};
 use crate::show::show;
 use crate::{Command, Status, read_words};
-use op_frame::{one_frame, reads_once};
 use outer_ports::{Sink, Source};
 use std::alloc::Global;
 
@@ -27,15 +24,14 @@ pub fn run<S: Source, O: Sink, N: Sink>(
 ) -> Status
     // The words decide whether anything is done.
     ensures usage { (result ≡ Usage) ↔ ((command : AnyCommand) → Names (map string_bytes words.now) command → ⊥) }
-    ensures untouched { result ≡ Usage
-        → (input.new ≡ input.old) × (output.new ≡ output.old) × Told (N.seen notes.old) (N.seen notes.new) (line_of Words) }
+    ensures untouched { result ≡ Usage → (input.new ≡ input.old) × (output.new ≡ output.old) }
 
-    // What `show` does, for each status.
-    ensures show { (hold : ℕ) → Names (map string_bytes words.now) (Show hold) → ShowMeets hold
+    // There is a command that the words ask for, or none, and this is what it did.
+    ensures meets { (command : Option AnyCommand) × IsCommand (map string_bytes words.now) command × Meets command
         (record { input = S.seen input.old; output = O.seen output.old; notes = N.seen notes.old })
         (record { input = S.seen input.new; output = O.seen output.new; notes = N.seen notes.new }) result }
 
-    // The stream decides the status, and a whole stream is shown.
+    // The stream decides the status of `show`, and a whole stream is shown.
     ensures decided { (hold : ℕ) → Names (map string_bytes words.now) (Show hold) → IsDecided hold
         (record { input = S.seen input.old; output = O.seen output.old; notes = N.seen notes.old })
         (record { input = S.seen input.new; output = O.seen output.new; notes = N.seen notes.new }) result }
@@ -43,13 +39,8 @@ pub fn run<S: Source, O: Sink, N: Sink>(
         (record { input = S.seen input.old; output = O.seen output.old; notes = N.seen notes.old })
         (record { input = S.seen input.new; output = O.seen output.new; notes = N.seen notes.new }) result }
 {
-    let Some(command) = read_words(words) else {
-        return tell(notes, Refusal::Words);
-    };
-    // A stream is read in one way: that is why it decides the status.
-    one_frame();
-    reads_once();
-    match command {
-        Command::Show(hold) => show(alloc, hold, input, output, notes),
+    match read_words(words) {
+        None => tell(notes, Refusal::Words),
+        Some(Command::Show(hold)) => show(alloc, hold, input, output, notes),
     }
 }

@@ -1,11 +1,21 @@
-use Rattle.std.proofs.Common.{inl, inr, length, ap}
-use Rattle.manuscript_cli.proofs.ShowParts.{notes_failed, both_written}
+use Rattle.std.proofs.Common.{length, inl, inr, arith, ap}
+use Rattle.manuscript_cli.proofs.TextLemmas.{text_stays_calm, text_has_no_room}
 use Rattle.manuscript_cli.proofs.printing.print.Goals as goal
 
-pub returns-in-Ok-write_counts : goal.returns-in-Ok-write_counts
-returns-in-Ok-write_counts g c =
-    inl (both_written _ _ _ _ _ _ _ _ _ _ (ap length c.waiting-waiting.ensures.waiting) c.in-Ok.ensures c.in-Ok-write_counts.ensures c.status_of.ensures)
+pub returns-in-Ok-clause-meets : goal.returns-in-Ok-clause-meets
+returns-in-Ok-clause-meets g c = inl (record { printed = c.in-Ok.ensures.text.ok; noted = rw (ap length c.waiting.ensures.waiting) at c.note.ensures.meets })
 
-pub returns-in-Err-write_counts : goal.returns-in-Err-write_counts
-returns-in-Err-write_counts g c =
-    inr (notes_failed _ _ _ _ _ _ _ _ _ _ c.in-Ok.ensures c.in-Err-write_counts.ensures c.tell-in-Err-write_counts.ensures.told c.tell-in-Err-write_counts.ensures.status)
+pub returns-in-Ok-clause-output : goal.returns-in-Ok-clause-output
+returns-in-Ok-clause-output g c = text_stays_calm _ _ _ _ _ c.in-Ok.ensures.text (omega arith)
+
+pub returns-in-Err-clause-meets : goal.returns-in-Err-clause-meets
+returns-in-Err-clause-meets g c = inr (record {
+  printed = c.in-Err.ensures.text.err;
+  rose = c.in-Err.ensures.text.cause.failed;
+  no_room = text_has_no_room _ _ _ _ _ c.in-Err.ensures.text (omega arith);
+  told = c.tell.ensures.told;
+  end_is = c.tell.ensures.status;
+})
+
+pub returns-in-Err-clause-output : goal.returns-in-Err-clause-output
+returns-in-Err-clause-output g c = text_stays_calm _ _ _ _ _ c.in-Err.ensures.text (omega arith)

@@ -1,9 +1,13 @@
-use Rattle.std.proofs.Common.{refl}
-use Rattle.manuscript_cli.proofs.ShowParts.{shown_so, refused_meets}
+use Rattle.std.proofs.Common.{ap, sym, ◌∙◌}
+use Rattle.replica_core.specs.State.{State}
+use Rattle.manuscript_cli.specs.Show.{reader}
 use Rattle.manuscript_cli.proofs.show.show.Goals as goal
 
-pub returns-in-Ok : goal.returns-in-Ok
-returns-in-Ok g c = shown_so _ _ _ _ _ _ c.in-Ok.ensures.ok c.print.ensures
+pub show_by-requires : goal.show_by-requires
+show_by-requires g c = c.new_reader-replica.ensures ∙ ap reader (sym (ap (λ (r : State). r.hold) c.new_reader-replica.ensures))
 
-pub returns-in-Err : goal.returns-in-Err
-returns-in-Err g c = rw c.tell.ensures.status (refused_meets c.in-Err.why _ _ _ c.in-Err.ensures.err refl c.tell.ensures.told)
+pub returns-clause-meets : goal.returns-clause-meets
+returns-clause-meets g c = rw (ap (λ (r : State). r.hold) c.new_reader-replica.ensures) at c.show_by.ensures.meets
+
+pub returns-clause-calm : goal.returns-clause-calm
+returns-clause-calm g c = rw (ap (λ (r : State). r.hold) c.new_reader-replica.ensures) at c.show_by.ensures.calm

@@ -1,52 +1,58 @@
-use Rattle.std.proofs.Common.{ap, sym, subst, refl, arith}
-use Rattle.replica_core.specs.State.{State}
-use Rattle.manuscript_cli.specs.Intakes.{StopsFor}
-use Rattle.manuscript_cli.specs.declared.refusal.Refusal.{Refusal}
-use Rattle.manuscript_cli.proofs.Stopping.{frame_stops, room_left, place_grows, stays_within, feeds_on, feed_stops}
+use Rattle.std.proofs.Common.{◌≡◌, ap, arith, refl, subst, sym, ◌∙◌}
+use Rattle.std.proofs.lemmas.Result.{err_from_is_err_and}
+use Rattle.origin_model.specs.taking.Taking.{no_counts}
+use Rattle.op_frame.specs.Readers.{Reading}
+use Rattle.op_frame.proofs.CourseLemmas.{Fed, fed_none}
+use Rattle.manuscript_cli.proofs.IntakeLemmas.{step_took, step_ended, fed_one, grew_one, fed_over, fed_stops}
 use Rattle.manuscript_cli.proofs.take_in.take_in.Goals as goal
 
-pub returns-in-Err-next-clause-err : goal.returns-in-Err-next-clause-err
-returns-in-Err-next-clause-err g c =
-    let kept = c.frames.invariant in
-    subst (λ (why : Refusal). StopsFor why c.args.hold (g.S.Source.seen c.args.source.now) (g.S.Source.seen c.next.new.source)) (sym c.refusal_of.ensures)
-    (frame_stops c.in-Err-next.fault _ _ (g.S.Source.seen c.frames.source) _ _ _ _ _ _ kept.fed kept.within kept.limit kept.later
-    (c.in-Err-next.ensures.nexts kept.no_fault).answer (c.in-Err-next.ensures.faults.rose kept.no_fault))
-
--- At most as many operations were taken in as bytes were read, and the one that came has bytes of its own.
-pub feed-requires-clause-counts_rise : goal.feed-requires-clause-counts_rise
-feed-requires-clause-counts_rise g c =
-    let counted = c.frames.invariant.counted in
-    let room = room_left _ _ _ _ _ _ c.in-Some.is (c.in-Ok-next.ensures.nexts c.frames.invariant.no_fault) c.frames.invariant.limit in
+pub frames-init : goal.frames-init
+frames-init g c =
+    let fresh = c.in_ok-new.ensures.fresh in
+    let none = c.default.ensures in
+    let no_counts_yet : no_counts ≡ c.default.result = λ i. record {
+      accepted = sym none.0 i;
+      repeated = sym none.1.0 i;
+      conflict = sym none.1.1.0 i;
+      stray = sym none.1.1.1.0 i;
+      full = sym none.1.1.1.1 i;
+    } in
     record {
-      accepted = omega (arith, counted, room);
-      repeated = omega (arith, counted, room);
-      conflict = omega (arith, counted, room);
-      stray = omega (arith, counted, room);
-      full = omega (arith, counted, room);
+      fed = subst (Fed _ _ _ _ _ _ _) no_counts_yet (fed_none _ _ _ _ _ (ap (λ (r : Reading). r.unread) fresh) (ap (λ (r : Reading). r.offset) fresh));
+      grew = refl;
+      ready = record {
+        no_fault = ap (λ (r : Reading). r.fault) fresh;
+        limit = ap (λ (r : Reading). r.limit) fresh;
+        settled = c.requires.settled;
+        few = omega (arith, c.requires.few);
+      };
+      count = record { later = omega arith; rose = λ failed. absurd failed; sure = refl; succeeds = λ sure failed. failed; calm = λ sure. refl };
     }
+
+pub returns-in_err-step-clause-err : goal.returns-in_err-step-clause-err
+returns-in_err-step-clause-err g c =
+    let kept = c.frames.invariant in
+    let p = err_from_is_err_and c.from_residual-in_err-step.result c.from_residual-in_err-step.ensures.1 in
+    rw (p.1, p.2) (fed_stops _ _ _ _ _ _ kept.grew kept.fed c.in_err-step.field-0.0 _ refl kept.ready.limit c.in_err-step.ensures.steps)
 
 pub frames-preserved : goal.frames-preserved
 frames-preserved g c =
     let kept = c.frames.invariant in
-    let nexts = c.in-Ok-next.ensures.nexts kept.no_fault in
-    let next = feeds_on _ _ _ _ _ _ _ _ _ _ _ _ _ _ kept.fed c.in-Some.is nexts kept.replica_hold kept.replica_most
-    (ap (λ (r : State). r.held) c.in-Ok-feed.ensures.held) c.in-Ok-feed.ensures.tally (λ many. cc (c.in-Ok-feed.ensures.too_many.1 many)) in
-    let within = stays_within _ _ _ _ _ nexts kept.limit in
+    let one = step_took _ _ _ _ _ c.if-branch.true c.in_ok-step.ensures.steps in
     record {
-      fed = next.0;
-      counted = omega (arith, kept.counted, c.in-Ok-feed.ensures.once, place_grows _ _ _ _ _ _ c.in-Some.is nexts);
-      settled = c.in-Ok-feed.ensures.settled;
-      replica_hold = rw c.in-Ok-feed.ensures.held kept.replica_hold;
-      replica_most = rw c.in-Ok-feed.ensures.held kept.replica_most;
-      no_fault = next.1;
-      limit = within.0;
-      within = within.1;
-      later = omega (arith, kept.later, c.in-Ok-next.ensures.faults.later);
+      fed = fed_one _ _ _ _ _ _ kept.grew kept.fed one;
+      grew = grew_one _ _ _ _ _ _ kept.grew kept.fed one;
+      ready = one.ready;
+      count = record {
+        later = omega (arith, kept.count.later, c.in_ok-step.ensures.count.later);
+        rose = λ failed. absurd failed;
+        sure = c.in_ok-step.ensures.count.sure ∙ kept.count.sure;
+        succeeds = λ sure failed. failed;
+        calm = λ sure. c.in_ok-step.ensures.count.calm (kept.count.sure ∙ sure) ∙ kept.count.calm sure;
+      };
     }
 
-pub returns-in-Err-feed-clause-err : goal.returns-in-Err-feed-clause-err
-returns-in-Err-feed-clause-err g c =
+pub returns-clause-ok : goal.returns-clause-ok
+returns-clause-ok g c =
     let kept = c.frames.invariant in
-    subst (λ (why : Refusal). StopsFor why c.args.hold (g.S.Source.seen c.args.source.now) (g.S.Source.seen c.next.new.source)) (sym c.refusal_by.ensures)
-    (feed_stops c.in-Err-feed.fault _ _ _ _ _ _ _ _ _ _ _ _ _ _ _ _ kept.fed c.in-Some.is (c.in-Ok-next.ensures.nexts kept.no_fault) kept.limit kept.replica_hold kept.replica_most
-    c.in-Err-feed.ensures.err refl c.in-Err-feed.ensures.too_many)
+    fed_over _ _ _ _ _ _ kept.grew kept.fed _ _ refl refl kept.ready.limit (step_ended _ _ _ _ _ c.if-branch.false c.in_ok-step.ensures.steps)

@@ -1,24 +1,19 @@
-use Rattle.origin_model.specs.Taking.{IsSettled}
-use Rattle.std.proofs.Common.{◌≡◌, ◌≤◌, ◌+◌, ◌-◌, length}
-use Rattle.std.specs.Prelude.{None}
-use Rattle.replica_core.specs.Told.{total}
-use Rattle.op_frame.specs.Readers.{to_give}
-use Rattle.manuscript_cli.specs.Courses.{most, stream_limit}
-use Rattle.manuscript_cli.proofs.Feeding.{Fed}
+use Rattle.std.proofs.Common.{◌-◌}
+use Rattle.outer_ports.specs.Sources.{KeepsCount}
+use Rattle.op_frame.proofs.CourseLemmas.{Fed}
+use Rattle.fugue_ids.specs.declared.limits.TheConstants.{STREAM_LIMIT}
+use Rattle.manuscript_cli.specs.Intake.{IsReady}
+use Rattle.manuscript_cli.proofs.IntakeLemmas.{GrewFrom}
 use Rattle.manuscript_cli.proofs.take_in.take_in.Given as goal
 
 abbrev pub invariant-frames : goal.invariant-frames
 invariant-frames g l = record {
-  fed : Fed l.hold (g.S.Source.seen l.initial.source).left (to_give l.reader (g.S.Source.seen l.source).left) l.reader.place l.taken.replica.held l.taken.tally;
-  counted : total l.taken.tally + length l.taken.replica.held.waiting ≤ l.reader.place;
-  settled : IsSettled l.taken.replica.held;
-  replica_hold : l.taken.replica.hold ≡ l.hold;
-  replica_most : l.taken.replica.most ≡ most;
-  no_fault : l.reader.fault ≡ None;
-  limit : l.reader.limit ≡ stream_limit;
-  within : l.reader.place ≤ stream_limit;
-  later : (g.S.Source.seen l.initial.source).faults ≤ (g.S.Source.seen l.source).faults;
+  fed : Fed l.fn.replica.hold l.fn.replica.most l.fn.replica.held (g.S.Source.seen l.fn.source).left l.intake.reader (g.S.Source.seen l.source).left
+      l.replica.held l.intake.tally;
+  grew : GrewFrom l.fn.replica l.replica;
+  ready : IsReady (record { reader = l.intake.reader; replica = l.replica; counts = l.intake.tally });
+  count : KeepsCount (g.S.Source.seen l.fn.source) (g.S.Source.seen l.source) ⊥;
 }
 
 abbrev pub decreases-frames : goal.decreases-frames
-decreases-frames g l = stream_limit - l.reader.place
+decreases-frames g l = STREAM_LIMIT - l.intake.reader.offset

@@ -1,30 +1,29 @@
 use Rattle.std.proofs.Common.{◌≡◌}
+use Rattle.std.specs.Prelude.{Some}
 use Rattle.manuscript_cli.specs.declared.command.Command.TheVariants.{Show}
-use Rattle.manuscript_cli.proofs.Decided.{decided, headline}
+use Rattle.manuscript_cli.proofs.HeadlineLemmas.{decided, headline}
+use Rattle.manuscript_cli.proofs.ShowLemmas.{is_show, show_meets}
 use Rattle.manuscript_cli.proofs.top.run.Goals as goal
 
 -- Where no command was read, none is named.
-pub returns-in_default-clause-show : goal.returns-in_default-clause-show
-returns-in_default-clause-show g c hold named = absurd (c.in_default.not-Some (Show hold) (c.read_words.ensures.every (Show hold) named))
+pub returns-in-None-clause-decided : goal.returns-in-None-clause-decided
+returns-in-None-clause-decided g c hold named = cc (c.in-None.ensures.only (Show hold) named)
 
-pub returns-in_default-clause-decided : goal.returns-in_default-clause-decided
-returns-in_default-clause-decided g c hold named = absurd (c.in_default.not-Some (Show hold) (c.read_words.ensures.every (Show hold) named))
+pub returns-in-None-clause-headline : goal.returns-in-None-clause-headline
+returns-in-None-clause-headline g c hold named = cc (c.in-None.ensures.only (Show hold) named)
 
-pub returns-in_default-clause-headline : goal.returns-in_default-clause-headline
-returns-in_default-clause-headline g c hold named = absurd (c.in_default.not-Some (Show hold) (c.read_words.ensures.every (Show hold) named))
+pub returns-in-Some-Show-clause-meets : goal.returns-in-Some-Show-clause-meets
+returns-in-Some-Show-clause-meets g c =
+    let same = (is_show c.in-Some-Show.field-0).1 in
+    (Some c.in-Some-Show.field-0, c.in-Some-Show.ensures, show_meets _ _ _ _ _ same (rw same at c.show.ensures.meets) (rw same at c.show.ensures.calm))
 
 -- The command that was read is the one that is named.
-pub returns-clause-show : goal.returns-clause-show
-returns-clause-show g c hold named =
-    let same : c.in-Some.command ≡ Show hold = cc (c.in-Some.ensures.every (Show hold) named) in
-    rw same at c.show.ensures
+pub returns-in-Some-Show-clause-decided : goal.returns-in-Some-Show-clause-decided
+returns-in-Some-Show-clause-decided g c hold named =
+    let same : c.in-Some-Show.field-0 ≡ Show hold = cc (c.in-Some-Show.ensures.only (Show hold) named) in
+    decided _ _ _ _ (rw same at c.show.ensures.meets)
 
-pub returns-clause-decided : goal.returns-clause-decided
-returns-clause-decided g c hold named =
-    let same : c.in-Some.command ≡ Show hold = cc (c.in-Some.ensures.every (Show hold) named) in
-    decided c.one_frame.ensures c.reads_once.ensures _ _ _ _ (rw same at c.show.ensures)
-
-pub returns-clause-headline : goal.returns-clause-headline
-returns-clause-headline g c hold named =
-    let same : c.in-Some.command ≡ Show hold = cc (c.in-Some.ensures.every (Show hold) named) in
-    headline c.one_frame.ensures c.reads_once.ensures _ _ _ _ (rw same at c.show.ensures)
+pub returns-in-Some-Show-clause-headline : goal.returns-in-Some-Show-clause-headline
+returns-in-Some-Show-clause-headline g c hold named =
+    let same : c.in-Some-Show.field-0 ≡ Show hold = cc (c.in-Some-Show.ensures.only (Show hold) named) in
+    headline _ _ _ _ (rw same at c.show.ensures.meets)

@@ -1,0 +1,76 @@
+-- From what `show` does at each of its ends: the headline, and that the stream decides the status.
+use Rattle.std.proofs.Common.{◌≡◌, ℕ, ◌≤◌, List, length, refl, ap, sym, subst, ◌∙◌, inl, inr}
+use Rattle.std.specs.Prelude.{Some}
+use Rattle.fugue_ids.specs.declared.op.Op.{Op}
+use Rattle.origin_model.specs.frames.Frames.{Reads, Whole as EndsWhole}
+use Rattle.origin_model.specs.taking.Taking.{nothing}
+use Rattle.op_frame.specs.Courses.{HasPlace, Course, Whole, CutShort, BadFrame, TooLong, TooMany}
+use Rattle.manuscript_cli.specs.Headline.{Headline, status_for, IsDecided}
+use Rattle.fugue_ids.specs.declared.limits.TheConstants.{MOST_OPERATIONS, STREAM_LIMIT}
+use Rattle.manuscript_cli.specs.Show.{ComesTo, Showed, Finished, StreamRefused, ShowMeets}
+use Rattle.manuscript_cli.specs.Touched.{Touched}
+use Rattle.manuscript_cli.specs.declared.refusal.Refusal.{Refusal}
+use Rattle.manuscript_cli.specs.declared.refusal.Refusal.TheVariants as refusal
+use Rattle.manuscript_cli.specs.declared.status.Status.{Status}
+use Rattle.manuscript_cli.specs.declared.status.Status.TheVariants as status
+use Rattle.manuscript_cli.proofs.ShowLemmas.{same_input}
+
+module _ (hold : ℕ) (old new : Touched) (bytes : List ℕ) (ops : List Op) (course : Course) (is : old.input.left ≡ Some bytes) (comes : ComesTo hold bytes ops course) where
+  finished_so : (end : Status) → Finished hold old new end → Showed hold ops old new end × (course ≡ Whole)
+  finished_so end done =
+      let same = same_input hold old.input.left bytes done.ops ops Whole course is done.came comes in
+      (subst (λ o. Showed hold o old new end) same.0 done.showed, sym same.1)
+
+  decided_so : (end : Status) → Finished hold old new end → end ≡ status_for hold ops course
+  decided_so end done = let so = finished_so end done in so.0.end_is ∙ ap (status_for hold ops) (sym so.1)
+
+  refused_so : (other : Course) (why : Refusal) → StreamRefused hold old new other why → other ≡ course
+  refused_so other why refused = (same_input hold old.input.left bytes refused.ops ops other course is refused.came comes).1
+
+pub decided : (hold : ℕ) (old new : Touched) (end : Status) → ShowMeets hold old new end → IsDecided hold old new end
+decided hold old new status.Done meets bytes ops course is comes = inl (decided_so hold old new bytes ops course is comes status.Done meets)
+decided hold old new status.Partial meets bytes ops course is comes = inl (decided_so hold old new bytes ops course is comes status.Partial meets)
+decided hold old new status.BadInput meets bytes ops course is comes =
+    inl (elim meets.1 [
+      | inl bad ↦ ap (status_for hold ops) (refused_so hold old new bytes ops course is comes (BadFrame meets.0) (refusal.BadFrame meets.0) bad)
+      | inr cut ↦ ap (status_for hold ops) (refused_so hold old new bytes ops course is comes (CutShort meets.0) (refusal.CutShort meets.0) cut)
+    ])
+decided hold old new status.Limit meets bytes ops course is comes =
+    inl (elim meets [
+      | inl long ↦ ap (status_for hold ops) (refused_so hold old new bytes ops course is comes TooLong refusal.TooLong long)
+      | inr many ↦ ap (status_for hold ops) (refused_so hold old new bytes ops course is comes TooMany (refusal.TooMany MOST_OPERATIONS) many)
+    ])
+decided hold old new status.OutsideFault (inl read) bytes ops course is comes = inr (inr (refl, inl read.rose))
+decided hold old new status.OutsideFault (inr (inl write)) bytes ops course is comes =
+    inr (inr (refl, inr (sym (same_input hold old.input.left bytes write.ops ops Whole course is write.came comes).1, inl write.rose)))
+decided hold old new status.OutsideFault (inr (inr note)) bytes ops course is comes =
+    inr (inr (refl, inr (sym (same_input hold old.input.left bytes note.ops ops Whole course is note.came comes).1, inr note.rose)))
+decided hold old new status.NoMemory meets bytes ops course is comes = inr (inl refl)
+decided hold old new status.Usage meets bytes ops course is comes = absurd meets
+decided hold old new status.BadFile meets bytes ops course is comes = absurd meets
+
+whole : (hold : ℕ) (bytes : List ℕ) (ops : List Op) → Reads bytes ops EndsWhole → length bytes ≤ STREAM_LIMIT → HasPlace hold MOST_OPERATIONS nothing ops → ComesTo hold bytes ops Whole
+whole hold bytes ops reads short place = record { has_place = place; ends = (short, reads) }
+
+-- where no object failed and no limit was met, the stream was shown
+pub headline : (hold : ℕ) (old new : Touched) (end : Status) → ShowMeets hold old new end → Headline hold old new end
+headline hold old new status.Done meets bytes ops is reads short place calm memory =
+    (finished_so hold old new bytes ops Whole is (whole hold bytes ops reads short place) status.Done meets).0
+headline hold old new status.Partial meets bytes ops is reads short place calm memory =
+    (finished_so hold old new bytes ops Whole is (whole hold bytes ops reads short place) status.Partial meets).0
+headline hold old new status.BadInput meets bytes ops is reads short place calm memory =
+    absurd (elim meets.1 [
+      | inl bad ↦ cc (refused_so hold old new bytes ops Whole is (whole hold bytes ops reads short place) (BadFrame meets.0) (refusal.BadFrame meets.0) bad)
+      | inr cut ↦ cc (refused_so hold old new bytes ops Whole is (whole hold bytes ops reads short place) (CutShort meets.0) (refusal.CutShort meets.0) cut)
+    ])
+headline hold old new status.Limit meets bytes ops is reads short place calm memory =
+    absurd (elim meets [
+      | inl long ↦ cc (refused_so hold old new bytes ops Whole is (whole hold bytes ops reads short place) TooLong refusal.TooLong long)
+      | inr many ↦ cc (refused_so hold old new bytes ops Whole is (whole hold bytes ops reads short place) TooMany (refusal.TooMany MOST_OPERATIONS) many)
+    ])
+headline hold old new status.OutsideFault (inl read) bytes ops is reads short place calm memory = absurd (calm.input read.rose)
+headline hold old new status.OutsideFault (inr (inl write)) bytes ops is reads short place calm memory = absurd (calm.output write.rose)
+headline hold old new status.OutsideFault (inr (inr note)) bytes ops is reads short place calm memory = absurd (calm.notes note.rose)
+headline hold old new status.NoMemory meets bytes ops is reads short place calm memory = absurd (memory refl)
+headline hold old new status.Usage meets bytes ops is reads short place calm memory = absurd meets
+headline hold old new status.BadFile meets bytes ops is reads short place calm memory = absurd meets

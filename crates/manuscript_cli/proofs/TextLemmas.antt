@@ -1,0 +1,55 @@
+-- Lines that are written to the notes, and sure objects with room for them.
+use Rattle.std.proofs.Common.{ℕ, ◌≤◌, List, length, take, sym, subst, arith}
+use Rattle.std.specs.Prelude.{Result, Ok, Err, IfSome}
+use Rattle.std.proofs.lemmas.List.{take_all}
+use Rattle.fugue_ids.proofs.JoinLemmas.{took_joins}
+use Rattle.fugue_ids.specs.Outs.{OutView, IsSure, Took, TookFront, WritesText}
+use Rattle.fugue_ids.specs.declared.failed.Failed.{Failed}
+use Rattle.manuscript_cli.specs.Refusal.{Told, TookFronts}
+use Rattle.manuscript_cli.specs.Touched.{HasRoom, StaysCalm, notes_room}
+
+-- a text for which there is room goes out, and no fault is counted
+sure_of : (result : Result (Unit {0}) Failed) (old new : OutView) (text : List ℕ) → WritesText old new result text → (has : HasRoom (length text) old)
+    → IsSure has.room (length text) old.faults new.faults result
+sure_of result old new text wrote has = subst (λ o. IfSome o (λ room. IsSure room (length text) old.faults new.faults result)) has.is wrote.sure
+
+less_room : (fewer bytes : ℕ) (out : OutView) → fewer ≤ bytes → HasRoom bytes out → HasRoom fewer out
+less_room fewer bytes out le has = record { room = has.room; is = has.is; fits = omega (arith, le, has.fits) }
+
+pub text_has_no_room : (e : Failed) (old new : OutView) (text : List ℕ) (bytes : ℕ) → WritesText {E = Failed} {T = Unit {0}} old new (Err e) text → length text ≤ bytes → HasRoom bytes old → ⊥
+text_has_no_room e old new text bytes wrote short has =
+    let fits = less_room (length text) bytes old short has in (sure_of (Err e) old new text wrote fits).fits fits.fits
+
+pub text_stays_calm : (result : Result (Unit {0}) Failed) (old new : OutView) (text : List ℕ) (bytes : ℕ) → WritesText old new result text → length text ≤ bytes → StaysCalm bytes old new
+text_stays_calm (Ok x) old new text bytes wrote short has = (sure_of (Ok x) old new text wrote (less_room (length text) bytes old short has)).calm
+text_stays_calm (Err e) old new text bytes wrote short has = absurd (text_has_no_room e old new text bytes wrote short has)
+
+whole_front : (old new : OutView) (text : List ℕ) → Took old new text → TookFront old new text
+whole_front old new text took = record { count = length text; within = omega arith; took = subst (Took old new) (sym (take_all (length text) text (omega arith))) took }
+
+-- a line was written, as far as the notes took it
+pub line_told : (result : Result (Unit {0}) Failed) (old new : OutView) (line : List ℕ) → WritesText old new result line → length line ≤ notes_room → Told old new line
+line_told (Ok x) old new line wrote short = record {
+  later = wrote.cause.later;
+  whole = λ calm. wrote.ok;
+  front = whole_front old new line wrote.ok;
+  sure = λ has. (text_stays_calm (Ok x) old new line (length line) wrote (omega arith) has, wrote.ok);
+  calm = text_stays_calm (Ok x) old new line notes_room wrote short;
+}
+line_told (Err e) old new line wrote short = record {
+  later = wrote.cause.later;
+  whole = λ calm. absurd (calm wrote.cause.failed);
+  front = wrote.err;
+  sure = λ has. absurd (text_has_no_room e old new line (length line) wrote (omega arith) has);
+  calm = text_stays_calm (Err e) old new line notes_room wrote short;
+}
+
+-- a line did not go out whole, and behind it another did or did not
+pub fronts_joined : (old mid new : OutView) (first second : List ℕ) → TookFront old mid first → TookFront mid new second → TookFronts old new first second
+fronts_joined old mid new first second a b = record {
+  count = a.count;
+  within = a.within;
+  more = b.count;
+  more_within = b.within;
+  took = took_joins old mid new (take a.count first) (take b.count second) a.took b.took;
+}

@@ -1,0 +1,44 @@
+-- What printing does at each of its ends.
+use Rattle.std.specs.Prelude.{◌≡◌, ◌⊎◌, ℕ, length}
+use Rattle.fugue_ids.specs.Causes.{Rose}
+use Rattle.fugue_ids.specs.Outs.{OutView, Took, TookFront}
+use Rattle.origin_model.specs.order.Printed.{manuscript}
+use Rattle.origin_model.specs.taking.Taking.{Held}
+use Rattle.origin_model.specs.declared.taking.tally.Tally.{Tally}
+use Rattle.manuscript_cli.specs.Counts.{counts_line, status_by}
+use Rattle.manuscript_cli.specs.Refusal.{line_of, Told, TookFronts}
+use Rattle.manuscript_cli.specs.Touched.{HasRoom, notes_room}
+use Rattle.manuscript_cli.specs.declared.refusal.Refusal.TheVariants as refusal
+use Rattle.manuscript_cli.specs.declared.status.Status.{Status}
+use Rattle.manuscript_cli.specs.declared.status.Status.TheVariants as status
+
+-- the counts were written
+pub record Noted (counts : Tally) (waiting : ℕ) (old new : OutView) (end : Status) : Type 0 where
+  pub took : Took old new (counts_line counts waiting)
+  pub end_is : end ≡ status_by counts waiting
+
+-- the notes failed: they hold a front of the counts, and then one of the fault's line
+pub record NotNoted (counts : Tally) (waiting : ℕ) (old new : OutView) (end : Status) : Type 0 where
+  pub took : TookFronts old new (counts_line counts waiting) (line_of refusal.Outside)
+  pub rose : Rose old.faults new.faults
+  pub no_room : HasRoom notes_room old → ⊥
+  pub end_is : end ≡ status.OutsideFault
+
+abbrev pub NoteMeets : Tally → ℕ → OutView → OutView → Status → Type 0
+NoteMeets counts waiting old new end = Noted counts waiting old new end ⊎ NotNoted counts waiting old new end
+
+-- the manuscript was written, and the counts noted or not
+pub record Printed (state : Held) (counts : Tally) (output output' notes notes' : OutView) (end : Status) : Type 0 where
+  pub printed : Took output output' (manuscript state.history)
+  pub noted : NoteMeets counts (length state.waiting) notes notes' end
+
+-- the output failed: a front of the manuscript was written
+pub record NotPrinted (state : Held) (output output' notes notes' : OutView) (end : Status) : Type 0 where
+  pub printed : TookFront output output' (manuscript state.history)
+  pub rose : Rose output.faults output'.faults
+  pub no_room : HasRoom (length (manuscript state.history)) output → ⊥
+  pub told : Told notes notes' (line_of refusal.Outside)
+  pub end_is : end ≡ status.OutsideFault
+
+abbrev pub PrintMeets : Held → Tally → OutView → OutView → OutView → OutView → Status → Type 0
+PrintMeets state counts output output' notes notes' end = Printed state counts output output' notes notes' end ⊎ NotPrinted state output output' notes notes' end
