@@ -1,6 +1,7 @@
 -- What is said of docks.
 pub mod Steps
 pub mod Docks
+pub mod Streams
 pub mod Arrivals
 pub mod Logs
 pub mod Forms

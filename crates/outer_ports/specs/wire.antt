@@ -1,3 +1,4 @@
 -- What is said of wires.
+pub mod Streams
 pub mod Wires
 pub mod Forms

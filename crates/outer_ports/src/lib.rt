@@ -5,6 +5,7 @@
 mod calls;
 mod disk;
 mod dock;
+mod faults;
 mod mem_sink;
 mod mem_source;
 mod raise;
@@ -15,6 +16,7 @@ mod std_sink;
 mod std_source;
 mod sure_sink;
 mod sure_source;
+mod taken;
 mod wire;
 
 pub use disk::{Disk, FileDisk, MemDisk, Opening, Pick, SureDisk, spans_join, sync_brings_none};

@@ -1,18 +1,18 @@
-ghost use Rattle.std.specs.Prelude.{◌≡◌, ◌↔◌, ◌≤◌, None, false, IfOk, IsErr, OnOk, OnErr};
+ghost use Rattle.std.specs.Prelude.{◌≡◌, None, false, OnOk, OnErr};
 ghost use Rattle.std.specs.Io.KnownBytes.{ReadConsumes};
 ghost use Rattle.outer_ports.specs.Sources.{ReadsSome};
 ghost use Rattle.outer_ports.specs.Calls.{risen};
 
 use crate::Source;
-use crate::raise::raise;
+use crate::faults::Faults;
 use fugue_ids::Failed;
-use std::io::{self, Read};
+use std::io::Read;
 
 /// Reads from a stream of the system. It does not tell what is left there.
 #[derive(Drop)]
 pub struct StdSource<R: Read + Drop> {
     reader: R,
-    faults: u64,
+    faults: Faults,
 }
 
 impl<R: Read + Drop> StdSource<R> {
@@ -21,7 +21,10 @@ impl<R: Read + Drop> StdSource<R> {
             ≡ record { left = None; faults = 0; sure = false } }
         ensures stream { result.reader ≡ reader }
     {
-        StdSource { reader, faults: 0 }
+        StdSource {
+            reader,
+            faults: Faults::none(),
+        }
     }
 }
 
@@ -35,23 +38,6 @@ impl<R: Read + Drop> Source for StdSource<R> {
         ensures passed { OnOk result (self.new.faults ≡ self.old.faults) }
         ensures failed { OnErr result (self.new.faults ≡ risen self.old.faults) }
     {
-        answer(self.reader.read(buf), &mut self.faults)
-    }
-}
-
-/// What a read answers where the stream gave this answer.
-fn answer(given: io::Result<usize>, faults: &mut u64) -> Result<usize, Failed>
-    ensures fails { IsErr result ↔ IsErr given }
-    ensures gives { IfOk result (λ count. given ≡ Ok count) }
-    ensures passed { OnOk result (faults.new ≡ faults.old) }
-    ensures failed { OnErr result (faults.new ≡ risen faults.old) }
-    ensures later { faults.old ≤ faults.new }
-{
-    match given {
-        Ok(count) => Ok(count),
-        _ => {
-            raise(faults);
-            Err(Failed)
-        }
+        self.faults.pass(self.reader.read(buf))
     }
 }

@@ -4,7 +4,7 @@ mod mem_wire;
 mod sure_wire;
 mod tcp_wire;
 #[cfg(test)]
-mod tests;
+pub(crate) mod tests;
 
 use fugue_ids::Failed;
 pub use mem_wire::MemWire;

@@ -10,6 +10,8 @@ pub record MemDiskView : Type 0 where
   pub calls : CallsView
   -- for how many failing writes memory is there
   pub ready : ℕ
+  -- for how many further bytes memory is there
+  pub room : ℕ
 
 pub record SureDiskView : Type 0 where
   pub past : History
@@ -26,24 +28,25 @@ pub record MemLooks {E T : Type 0} (old new : MemDiskView) (result : Result T E)
   pub failed : OnErr result (new ≡ record old { calls = failed old.calls })
   pub passed : OnOk result (new ≡ record old { calls = passed old.calls })
 
--- A write or a sync that is to fail does. Another fails only for want of memory, and then nothing is done. One that is
--- taken leaves memory for as many failing writes as calls are listed.
-pub record MemSteps {E T : Type 0} (next : History) (old new : MemDiskView) (result : Result T E) : Type 0 where
+-- A write or a sync of n bytes that is to fail does. Another fails only where it needs further memory, so that as many
+-- writes as calls are listed can fail behind it, and then nothing is done. One that is taken leaves memory for those.
+pub record MemSteps {E T : Type 0} (n : ℕ) (next : History) (old new : MemDiskView) (result : Result T E) : Type 0 where
   pub fails : FailsNext old.calls → IsErr result
-  pub taken : OnOk result (new ≡ record { past = next; calls = passed old.calls; ready = length old.calls.listed })
+  pub taken : OnOk result (new ≡ record { past = next; calls = passed old.calls; ready = length old.calls.listed; room = new.room })
   pub counts : OnErr result (new.calls ≡ failed old.calls)
   pub wanting : OnErr result (FailsNext old.calls ⊎ (new ≡ record old { calls = failed old.calls }))
+  pub short : OnErr result (FailsNext old.calls ⊎ (old.room < n) ⊎ (old.ready ≤ length old.calls.listed))
 
 -- A write that is to fail tears its range where memory is there for that; else it may do nothing.
-pub record MemWrites {E T : Type 0} (old new : MemDiskView) (result : Result T E) (at : ℕ) (bytes : List ℕ) : Type 0 where
-  pub steps : MemSteps (stepped (wrote at bytes) old.past) old new result
+pub record MemDiskWrites {E T : Type 0} (old new : MemDiskView) (result : Result T E) (at : ℕ) (bytes : List ℕ) : Type 0 where
+  pub steps : MemSteps (length bytes) (stepped (wrote at bytes) old.past) old new result
   pub torn : FailsNext old.calls → 0 < old.ready
-      → new ≡ record { past = stepped (tried at (length bytes)) old.past; calls = failed old.calls; ready = old.ready - 1 }
+      → new ≡ record { past = stepped (tried at (length bytes)) old.past; calls = failed old.calls; ready = old.ready - 1; room = old.room }
   pub may_tear : FailsNext old.calls → (new.past ≡ old.past) ⊎ (new.past ≡ stepped (tried at (length bytes)) old.past)
 
 -- a sync that fails does nothing
 pub record MemSyncs {E T : Type 0} (old new : MemDiskView) (result : Result T E) : Type 0 where
-  pub steps : MemSteps (stepped settled old.past) old new result
+  pub steps : MemSteps 0 (stepped settled old.past) old new result
   pub failed : OnErr result (new ≡ record old { calls = failed old.calls })
 
 -- a write or a sync of n bytes fails exactly where the bytes, or the call, have no room

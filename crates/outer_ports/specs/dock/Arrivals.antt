@@ -10,6 +10,8 @@ pub record ArrivalsView : Type 0 where
   pub coming : List MemStep
   -- for how many further calls memory is there
   pub ready : ℕ
+  -- how many further calls need no further memory
+  pub spare : ℕ
 
 -- a step without its first bytes
 abbrev pub from : ℕ → MemStep → MemStep

@@ -27,8 +27,8 @@ pub record DockView : Type 0 where
   pub ends : Option ℕ
 
 -- a dock as what takes a session's bytes
-abbrev pub out_of : ℕ → DockView → OutView
-out_of session dock = record { written = dock.sent session; faults = dock.faults; room = dock.room session }
+abbrev pub out_to : ℕ → DockView → OutView
+out_to session dock = record { written = dock.sent session; faults = dock.faults; room = dock.room session }
 
 -- nothing was sent
 pub record SendsNothing (old new : DockView) : Type 0 where
@@ -68,7 +68,7 @@ pub record Takes {E : Type 0} (old new : DockView) (result : Result DockStep E) 
 
 -- a session's bytes go out, as to a sink
 pub record Sends {E : Type 0} (old new : DockView) (result : Result ℕ E) (session : ℕ) (piece : List ℕ) : Type 0 where
-  pub writes : WritesSome (out_of session old) (out_of session new) result piece
+  pub writes : WritesSome (out_to session old) (out_to session new) result piece
   pub others : (other : ℕ) → other ≢ session → (new.sent other ≡ old.sent other) × (new.room other ≡ old.room other)
   pub nothing_taken : TakesNothing old new
   pub port : new.port ≡ old.port

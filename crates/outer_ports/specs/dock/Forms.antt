@@ -11,8 +11,12 @@ pub record MemDockView : Type 0 where
   pub port : Option ℕ
   pub taken : List MemStep
   pub coming : List MemStep
+  -- how many further steps it gives with no further memory
+  pub spare_steps : ℕ
   pub logs : List LogView
   pub ended : List ℕ
+  -- how many further sessions it ends with no further memory
+  pub spare_ends : ℕ
   -- the most bytes that a call gives or takes
   pub piece : ℕ
   pub calls : CallsView
@@ -41,27 +45,31 @@ pub record MemListens {E T : Type 0} (old new : MemDockView) (result : Result T 
   pub refused : OnErr result (new ≡ record old { calls = failed old.calls })
   pub listened : OnOk result (new ≡ record old { port = Some port; calls = passed old.calls })
 
--- A call fails where it is to fail and where no step is left, and else only for want of memory. Otherwise it gives all of
--- the next step that the piece and the buffer allow.
+-- A call fails where it is to fail and where no step is left, and else only where the step needs further memory. Otherwise
+-- it gives all of the next step that the piece and the buffer allow.
 pub record MemTakes {E : Type 0} (old new : MemDockView) (result : Result DockStep E) (buf : List ℕ) : Type 0 where
   pub fails : FailsNext old.calls ⊎ (old.coming ≡ []) → IsErr result
-  pub refused : OnErr result (new ≡ record old { calls = failed old.calls })
+  pub wanting : OnErr result (FailsNext old.calls ⊎ (old.coming ≡ []) ⊎ (old.spare_steps ≡ 0))
+  pub refused : OnErr result (new ≡ record old { spare_steps = new.spare_steps; calls = failed old.calls })
   pub gives : IfOk result (λ step. Gives (min old.piece (length buf)) old.coming new.coming (with_bytes step buf))
-  pub taken : IfOk result (λ step. new ≡ record old { taken = old.taken ++ with_bytes step buf ∷ []; coming = new.coming; calls = passed old.calls })
+  pub taken : IfOk result (λ step. new ≡ record old { taken = old.taken ++ with_bytes step buf ∷ []; coming = new.coming; spare_steps = new.spare_steps; calls = passed old.calls })
 
--- A call fails where it is to fail, and else only for want of memory. Otherwise it takes all that the piece allows.
+-- A call fails where it is to fail, and else only where what it takes has no room. Otherwise it takes all that the piece
+-- allows.
 pub record MemSends {E : Type 0} (old new : MemDockView) (result : Result ℕ E) (session : ℕ) (bytes : List ℕ) : Type 0 where
   pub fails : FailsNext old.calls → IsErr result
+  pub wanting : OnErr result (FailsNext old.calls ⊎ (room_by old.logs session < min old.piece (length bytes)))
   pub refused : OnErr result (new ≡ record old { calls = failed old.calls })
   pub takes : IfOk result (λ n. n ≡ min old.piece (length bytes))
   pub sent : IfOk result (λ n. sent_by new.logs session ≡ sent_by old.logs session ++ take n bytes)
   pub others : OnOk result (new ≡ record old { logs = new.logs; calls = passed old.calls })
 
--- a call fails where it is to fail, and else only for want of memory
+-- a call fails where it is to fail, and else only where it needs further memory
 pub record MemEnds {E T : Type 0} (old new : MemDockView) (result : Result T E) (session : ℕ) : Type 0 where
   pub fails : FailsNext old.calls → IsErr result
-  pub refused : OnErr result (new ≡ record old { calls = failed old.calls })
-  pub ended : OnOk result (new ≡ record old { ended = old.ended ++ session ∷ []; calls = passed old.calls })
+  pub wanting : OnErr result (FailsNext old.calls ⊎ (old.spare_ends ≡ 0))
+  pub refused : OnErr result (new ≡ record old { spare_ends = new.spare_ends; calls = failed old.calls })
+  pub ended : OnOk result (new ≡ record old { ended = old.ended ++ session ∷ []; spare_ends = new.spare_ends; calls = passed old.calls })
 
 -- A call fails exactly where no step is left. Otherwise it gives all of the next step that the piece and the buffer allow.
 pub record SureTakes {E : Type 0} (old new : SureDockView) (result : Result DockStep E) (buf : List ℕ) : Type 0 where

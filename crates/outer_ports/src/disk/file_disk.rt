@@ -3,9 +3,10 @@ ghost use Rattle.outer_ports.specs.Counts.{CountsFaults};
 ghost use Rattle.outer_ports.specs.disk.Disks.{Sizes, ReadsAt, WritesAt, Syncs};
 
 use crate::Disk;
-use crate::raise::raise;
+use crate::faults::Faults;
 use fugue_ids::Failed;
 use std::fs::{File, Files, OpenFile, OpenOptions};
+use std::io::{self, ErrorKind};
 use std::os::unix::fs::FileExt;
 
 /// What a file is opened for. The lock is taken at once or not at all.
@@ -24,7 +25,7 @@ pub enum Opening {
 pub struct FileDisk {
     /// None where the file could not be opened.
     file: Option<File>,
-    faults: u64,
+    faults: Faults,
 }
 
 impl FileDisk {
@@ -34,7 +35,17 @@ impl FileDisk {
     {
         FileDisk {
             file: open_locked(files, path, opening),
-            faults: 0,
+            faults: Faults::none(),
+        }
+    }
+
+    /// A disk of no file, for whoever has none to open: each call on it fails.
+    pub fn closed() -> FileDisk
+        ensures { ⟦<FileDisk as Disk>⟧.seen result ≡ record { past = None; faults = 0; room = None } }
+    {
+        FileDisk {
+            file: None,
+            faults: Faults::none(),
         }
     }
 }
@@ -65,13 +76,10 @@ impl Disk for FileDisk {
         ensures file { self.new.file ≡ self.old.file }
         ensures missing { self.old.file ≡ None → IsErr result }
     {
-        if let Some(file) = &self.file
-            && let Ok(data) = file.metadata()
-        {
-            return Ok(data.len());
-        }
-        raise(&mut self.faults);
-        Err(Failed)
+        self.faults.pass(match &self.file {
+            Some(file) => length_of(file),
+            None => Err(not_open()),
+        })
     }
 
     fn read_at(&mut self, at: u64, buf: &mut [u8]) -> Result<usize, Failed>
@@ -81,13 +89,10 @@ impl Disk for FileDisk {
         ensures file { self.new.file ≡ self.old.file }
         ensures missing { self.old.file ≡ None → IsErr result }
     {
-        if let Some(file) = &self.file
-            && let Ok(count) = file.read_at(buf, at)
-        {
-            return Ok(count);
-        }
-        raise(&mut self.faults);
-        Err(Failed)
+        self.faults.pass(match &self.file {
+            Some(file) => file.read_at(buf, at),
+            None => Err(not_open()),
+        })
     }
 
     fn write_at(&mut self, at: u64, bytes: &[u8]) -> Result<(), Failed>
@@ -97,13 +102,10 @@ impl Disk for FileDisk {
         ensures file { self.new.file ≡ self.old.file }
         ensures missing { self.old.file ≡ None → IsErr result }
     {
-        if let Some(file) = &self.file
-            && file.write_all_at(bytes, at).is_ok()
-        {
-            return Ok(());
-        }
-        raise(&mut self.faults);
-        Err(Failed)
+        self.faults.pass(match &self.file {
+            Some(file) => file.write_all_at(bytes, at),
+            None => Err(not_open()),
+        })
     }
 
     fn sync(&mut self) -> Result<(), Failed>
@@ -112,12 +114,18 @@ impl Disk for FileDisk {
         ensures file { self.new.file ≡ self.old.file }
         ensures missing { self.old.file ≡ None → IsErr result }
     {
-        if let Some(file) = &self.file
-            && file.sync_all().is_ok()
-        {
-            return Ok(());
-        }
-        raise(&mut self.faults);
-        Err(Failed)
+        self.faults.pass(match &self.file {
+            Some(file) => file.sync_all(),
+            None => Err(not_open()),
+        })
     }
+}
+
+fn length_of(file: &File) -> io::Result<u64> {
+    Ok(file.metadata()?.len())
+}
+
+/// Why a call on a file that could not be opened fails.
+fn not_open() -> io::Error {
+    io::Error::from(ErrorKind::NotFound)
 }

@@ -1,4 +1,4 @@
-ghost use Rattle.std.specs.Prelude.{◌≡◌, ◌≤◌, ◌<◌, ◌+◌, ◌-◌, ◌^◌, [], length, min, IfOk, OnOk, OnErr};
+ghost use Rattle.std.specs.Prelude.{◌⊎◌, ◌≡◌, ◌≤◌, ◌<◌, ◌+◌, ◌-◌, ◌^◌, [], length, min, IfOk, OnOk, OnErr};
 ghost use Rattle.outer_ports.specs.disk.States.{at_rest, wrote, tried, settled, IsHonest, IsImage};
 ghost use Rattle.outer_ports.specs.disk.Moments.{stepped};
 ghost use Rattle.outer_ports.specs.disk.Disks.{GivesAt};
@@ -86,20 +86,6 @@ impl Kept {
         if self.fresh { &self.bytes } else { &self.base }
     }
 
-    /// The place and the length of each write since the last sync.
-    pub(crate) fn ranges(&self) -> &[(u64, u64)]
-        ensures { result.now ≡ self.now.past.last.ranges }
-    {
-        &self.ranges
-    }
-
-    /// The longest length since the last sync.
-    pub(crate) fn longest(&self) -> u64
-        ensures { result ≡ self.now.past.last.longest }
-    {
-        self.longest
-    }
-
     /// Gives bytes that stand from `at` on, and answers how many.
     pub(crate) fn read_at(&self, at: u64, buf: &mut [u8]) -> usize
         ensures bound { result ≤ length buf.new }
@@ -121,6 +107,7 @@ impl Kept {
     ) -> Result<(), AllocError>
         ensures ok { OnOk result (self.new ≡ record { past = self.old.past; room = room; calls = calls }) }
         ensures err { OnErr result (self.new ≡ self.old) }
+        ensures wanting { OnErr result ((self.old.room < room) ⊎ (self.old.calls < calls) ⊎ (self.old.calls ≡ 0)) }
     {
         if self.fresh {
             let first = self.bytes.to_vec(alloc)?;

@@ -2,7 +2,7 @@ ghost use Rattle.std.specs.Prelude.{◌≡◌, ◌≤◌, ◌-◌, [], length, m
 ghost use Rattle.outer_ports.specs.disk.States.{IsImage};
 ghost use Rattle.outer_ports.specs.disk.Disks.{Sizes, ReadsAt, WritesAt, Syncs};
 ghost use Rattle.outer_ports.specs.disk.Picks.{picked};
-ghost use Rattle.outer_ports.specs.disk.Forms.{untouched, MemLooks, MemWrites, MemSyncs};
+ghost use Rattle.outer_ports.specs.disk.Forms.{untouched, MemLooks, MemDiskWrites, MemSyncs};
 
 use super::kept::Kept;
 use crate::calls::Calls;
@@ -27,7 +27,7 @@ impl Model for MemDisk {
 
     ghost Value = { MemDiskView };
 
-    ghost view = { λ d. record { past = d.kept.past; calls = d.calls; ready = d.kept.calls } };
+    ghost view = { λ d. record { past = d.kept.past; calls = d.calls; ready = d.kept.calls; room = d.kept.room } };
 
     ghost invariant = { λ d. d.ahead ≡ length d.calls.listed + 1 };
 }
@@ -83,7 +83,7 @@ impl Disk for MemDisk {
         requires inside { at ≤ length self.old.past.last.seen }
         ensures writes { WritesAt (⟦<MemDisk as Disk>⟧.seen self.old) (⟦<MemDisk as Disk>⟧.seen self.new)
             result at bytes.now }
-        ensures form { MemWrites self.old self.new result at bytes.now }
+        ensures form { MemDiskWrites self.old self.new result at bytes.now }
     {
         if let Err(failed) = self.calls.begin() {
             if self.kept.calls() == 0 && self.kept.prepare(self.alloc, 0, 1).is_err() {

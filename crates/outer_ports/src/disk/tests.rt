@@ -1,168 +1,287 @@
 mod slow;
 
+use crate::tests::same;
 use crate::{Disk, FileDisk, MemDisk, Opening, Pick, SureDisk};
-use fugue_ids::Failed;
-use slow::{SlowDisk, Step};
+use fugue_ids::{Failed, NoMemory};
+use slow::SlowDisk;
 use std::alloc::Global;
-use std::fs;
+use std::fs::{self, File, Files};
 use std::process::Abort;
 use std::test::Fail;
+
+#[derive(Clone, Copy)]
+enum Step {
+    /// Asks for the length, and then writes.
+    Write(u64, &'static str),
+    Sync,
+}
+
+/// What a disk of these bytes holds after some steps, and what a crash may leave of it.
+struct Row {
+    first: &'static str,
+    /// The calls that fail.
+    fail: &'static [u32],
+    steps: &'static [(Step, Result<(), Failed>)],
+    seen: &'static str,
+    old: &'static str,
+    new: &'static str,
+    filled: &'static str,
+}
 
 fn all<'a, D: Disk>(disk: &mut D, buf: &'a mut [u8]) -> Result<&'a [u8], Failed> {
     let count = disk.read_at(0, buf)?;
     Ok(&buf[..count])
 }
 
-/// Two calls: the size, and what the step says.
-fn take<D: Disk>(disk: &mut D, step: Step) -> Result<(), Failed> {
-    let size = disk.size()?;
+fn take<D: Disk>(disk: &mut D, step: &Step) -> Result<(), Failed> {
     match step {
-        Step::Write(at, bytes) | Step::Tear(at, bytes) if at <= size => {
-            disk.write_at(at, bytes.as_bytes())
-        }
-        Step::Write(..) | Step::Tear(..) => Err(Failed),
+        Step::Write(at, _) if disk.size()? < *at => Err(Failed),
+        Step::Write(at, bytes) => disk.write_at(*at, bytes.as_bytes()),
         Step::Sync => disk.sync(),
     }
 }
 
-/// The calls at which a disk is to fail, where each step is two.
-fn torn_calls(alloc: Global, steps: &[Step]) -> Result<Vec<u32>, Fail> {
-    let mut calls = Vec::new(alloc);
-    let mut call: u32 = 1;
-    for step in steps {
-        if let Step::Tear(..) = step {
-            calls.push(call)?;
-        }
-        call = call.saturating_add(2);
+/// Takes the steps, and compares what stands then.
+fn holds<D: Disk>(rt: &impl Abort, disk: &mut D, steps: &[(Step, Result<(), Failed>)], want: &str) {
+    let mut buf = [0; 16];
+    for (step, answer) in steps {
+        assert_eq!(rt; take(disk, step), *answer);
     }
-    Ok(calls)
+    assert_eq!(rt; all(disk, &mut buf), Ok(want.as_bytes()));
 }
 
-/// Takes the steps on a disk and on a slow one, and compares what a crash leaves of both.
-fn compare(rt: &impl Abort, alloc: Global, first: &str, steps: &[Step]) -> Result<(), Fail> {
-    let mut slow = SlowDisk::new(alloc, first)?;
-    let mut disk = MemDisk::new(
-        alloc,
-        first.as_bytes().to_vec(alloc)?,
-        torn_calls(alloc, steps)?,
-    );
-    for step in steps {
-        slow.take(alloc, *step)?;
-        let fails = matches!(step, Step::Tear(..));
-        assert_eq!(rt; take(&mut disk, *step).is_err(), fails, "{first}");
+fn leaves(rt: &impl Abort, crashed: Result<MemDisk, NoMemory>, want: &str) {
+    match crashed {
+        Ok(mut disk) => holds(rt, &mut disk, &[], want),
+        Err(_) => assert!(rt; false, "{want}"),
     }
-    let mut buf = [0; 16];
-    assert_eq!(rt; all(&mut disk, &mut buf), Ok(slow.seen()), "{first}");
-    for pick in [Pick::Old, Pick::New, Pick::Fill(b'.')] {
-        let image = slow.crash(alloc, pick)?;
-        let mut left = disk.crash(pick)?;
-        assert_eq!(rt;
-            all(&mut left, &mut buf),
-            Ok(image.as_slice()),
-            "{first} {pick:?}"
-        );
-    }
+}
+
+fn compare(rt: &impl Abort, alloc: Global, row: &Row) -> Result<(), Fail> {
+    let fail = row.fail.to_vec(alloc)?;
+    let first = row.first.as_bytes().to_vec(alloc)?;
+    let mut disk = MemDisk::new(alloc, first, fail);
+    holds(rt, &mut disk, row.steps, row.seen);
+    leaves(rt, disk.crash(Pick::Old), row.old);
+    leaves(rt, disk.crash(Pick::New), row.new);
+    leaves(rt, disk.crash(Pick::Fill(b'.')), row.filled);
     Ok(())
 }
 
+/// The same by the plain program of the model.
+fn compare_slow(rt: &impl Abort, row: &Row) {
+    let mut slow = SlowDisk::new(row.first);
+    for (step, answer) in row.steps {
+        slow.take(step, *answer);
+    }
+    for (pick, want) in [
+        (Pick::Old, row.old),
+        (Pick::New, row.new),
+        (Pick::Fill(b'.'), row.filled),
+    ] {
+        let same = SlowDisk::new(want).image(Pick::Old) == slow.image(pick);
+        assert!(rt; same, "{want}");
+    }
+}
+
+/// Each disk, its steps, and what stands and may be left then.
+const ROWS: [Row; 8] = [
+    Row {
+        first: "abcd",
+        fail: &[],
+        steps: &[],
+        seen: "abcd",
+        old: "abcd",
+        new: "abcd",
+        filled: "abcd",
+    },
+    Row {
+        first: "abcd",
+        fail: &[],
+        steps: &[(Step::Write(1, "XY"), Ok(()))],
+        seen: "aXYd",
+        old: "abcd",
+        new: "aXYd",
+        filled: "a..d",
+    },
+    Row {
+        first: "abcd",
+        fail: &[],
+        steps: &[
+            (Step::Write(4, "efg"), Ok(())),
+            (Step::Write(7, ""), Ok(())),
+            (Step::Write(2, "Z"), Ok(())),
+        ],
+        seen: "abZdefg",
+        old: "abcd",
+        new: "abZdefg",
+        filled: "ab.d...",
+    },
+    Row {
+        first: "abcd",
+        fail: &[],
+        steps: &[(Step::Write(3, "XYZ"), Ok(())), (Step::Sync, Ok(()))],
+        seen: "abcXYZ",
+        old: "abcXYZ",
+        new: "abcXYZ",
+        filled: "abcXYZ",
+    },
+    Row {
+        first: "",
+        fail: &[],
+        steps: &[
+            (Step::Write(0, "ab"), Ok(())),
+            (Step::Sync, Ok(())),
+            (Step::Write(2, "cd"), Ok(())),
+        ],
+        seen: "abcd",
+        old: "ab",
+        new: "abcd",
+        filled: "ab..",
+    },
+    Row {
+        first: "abcd",
+        fail: &[1],
+        steps: &[(Step::Write(1, "XY"), Err(Failed))],
+        seen: "abcd",
+        old: "abcd",
+        new: "abcd",
+        filled: "a..d",
+    },
+    Row {
+        first: "ab",
+        fail: &[2],
+        steps: &[
+            (Step::Sync, Ok(())),
+            (Step::Write(2, "cd"), Err(Failed)),
+            (Step::Write(0, "Q"), Ok(())),
+        ],
+        seen: "Qb",
+        old: "ab",
+        new: "Qb\0\0",
+        filled: ".b..",
+    },
+    Row {
+        first: "abcd",
+        fail: &[3, 6, 8],
+        steps: &[
+            (Step::Write(0, "XY"), Ok(())),
+            (Step::Write(3, "ZZZ"), Err(Failed)),
+            (Step::Sync, Ok(())),
+            (Step::Write(1, "R"), Err(Failed)),
+            (Step::Write(4, "ST"), Err(Failed)),
+        ],
+        seen: "XYcd",
+        old: "XYcd",
+        new: "XYcd\0\0",
+        filled: "X.cd..",
+    },
+];
+
 #[test]
 fn a_crash_leaves_what_the_model_says(rt: HostRuntime) -> Result<(), Fail> {
-    let rows: [(&str, &[Step]); 8] = [
-        ("abcd", &[]),
-        ("abcd", &[Step::Write(1, "XY")]),
-        ("abcd", &[Step::Write(4, "efg"), Step::Write(2, "Z")]),
-        ("abcd", &[Step::Write(3, "XYZ"), Step::Sync]),
-        (
-            "",
-            &[Step::Write(0, "ab"), Step::Sync, Step::Write(2, "cd")],
-        ),
-        ("abcd", &[Step::Tear(1, "XY")]),
-        (
-            "ab",
-            &[Step::Sync, Step::Tear(2, "cd"), Step::Write(0, "Q")],
-        ),
-        (
-            "abcd",
-            &[
-                Step::Write(0, "XY"),
-                Step::Tear(3, "ZZZ"),
-                Step::Sync,
-                Step::Tear(1, "R"),
-                Step::Tear(4, "ST"),
-            ],
-        ),
-    ];
-    for (first, steps) in rows {
-        compare(&rt, rt.alloc(), first, steps)?;
+    for row in &ROWS {
+        compare(&rt, rt.alloc(), row)?;
+        compare_slow(&rt, row);
     }
     Ok(())
 }
 
 #[test]
 fn a_sure_disk_takes_what_fits(rt: HostRuntime) -> Result<(), Fail> {
-    let mut buf = [0; 8];
-    let mut disk = SureDisk::new(rt.alloc(), b"a".to_vec(rt.alloc())?, 3)?;
-    assert_eq!(rt; disk.write_at(0, b"wxyz"), Err(Failed));
-    assert_eq!(rt; disk.write_at(0, b"xyz"), Ok(()));
-    let mut left = disk.crash(Pick::Fill(b'.'))?;
-    assert_eq!(rt; all(&mut left, &mut buf), Ok(b"...".as_slice()));
-    assert_eq!(rt; disk.sync(), Ok(()));
-    assert_eq!(rt; disk.write_at(0, b""), Ok(()));
-    assert_eq!(rt; disk.sync(), Err(Failed));
-    assert_eq!(rt; disk.size(), Ok(3));
-    assert_eq!(rt; all(&mut disk, &mut buf), Ok(b"xyz".as_slice()));
+    let bytes = b"a".to_vec(rt.alloc())?;
+    let mut disk = SureDisk::new(rt.alloc(), bytes, 3)?;
+    let steps = [
+        (Step::Write(0, "wxyz"), Err(Failed)),
+        (Step::Write(0, "xyz"), Ok(())),
+    ];
+    holds(&rt, &mut disk, &steps, "xyz");
+    leaves(&rt, disk.crash(Pick::Fill(b'.')), "...");
+    let steps = [
+        (Step::Sync, Ok(())),
+        (Step::Write(0, ""), Ok(())),
+        (Step::Sync, Err(Failed)),
+    ];
+    holds(&rt, &mut disk, &steps, "xyz");
     Ok(())
 }
 
-#[test]
-fn a_file_keeps_what_is_written(rt: HostRuntime) -> Result<(), Fail> {
-    let mut buf = [0; 8];
-    let mut disk = FileDisk::open(&rt, "kept", Opening::Creating);
-    assert_eq!(rt; disk.size(), Ok(0));
-    assert_eq!(rt; disk.write_at(0, b"abc"), Ok(()));
-    assert_eq!(rt; disk.sync(), Ok(()));
-    drop(disk);
-    let mut disk = FileDisk::open(&rt, "kept", Opening::Writing);
-    assert_eq!(rt; disk.write_at(1, b"XYZ"), Ok(()));
-    assert_eq!(rt; disk.read_at(4, &mut buf), Ok(0));
-    drop(disk);
-    let mut disk = FileDisk::open(&rt, "kept", Opening::Reading);
-    assert_eq!(rt; disk.sync(), Ok(()));
-    assert_eq!(rt; all(&mut disk, &mut buf), Ok(b"aXYZ".as_slice()));
-    assert_eq!(rt; disk.write_at(0, b"d"), Err(Failed));
-    drop(disk);
-    let mut disk = FileDisk::open(&rt, "kept", Opening::Creating);
-    assert_eq!(rt; disk.size(), Ok(4));
-    Ok(())
+/// Opens the file, takes the steps and compares what stands then.
+fn keeps<R: Files<File = File> + Abort>(
+    rt: &R,
+    opening: Opening,
+    steps: &[(Step, Result<(), Failed>)],
+    left: &str,
+) {
+    let mut disk = FileDisk::open(rt, "kept", opening);
+    holds(rt, &mut disk, steps, left);
+    assert_eq!(rt; disk.read_at(left.len() as u64, &mut [0]), Ok(0));
 }
 
 #[test]
-fn a_locked_file_is_not_opened(rt: HostRuntime) -> Result<(), Fail> {
+fn a_file_keeps_what_is_written(rt: HostRuntime) {
+    let steps = [(Step::Write(0, "abc"), Ok(())), (Step::Sync, Ok(()))];
+    keeps(&rt, Opening::Creating, &steps, "abc");
+    keeps(
+        &rt,
+        Opening::Writing,
+        &[(Step::Write(1, "XYZ"), Ok(()))],
+        "aXYZ",
+    );
+    let steps = [(Step::Sync, Ok(())), (Step::Write(0, "d"), Err(Failed))];
+    keeps(&rt, Opening::Reading, &steps, "aXYZ");
+    keeps(&rt, Opening::Creating, &[], "aXYZ");
+}
+
+/// Opens a file twice, and compares what both say of its length.
+fn opens<R: Files<File = File> + Abort>(
+    rt: &R,
+    path: &str,
+    openings: [Opening; 2],
+    want: [Result<u64, Failed>; 2],
+) {
+    let mut first = FileDisk::open(rt, path, openings[0]);
+    let mut second = FileDisk::open(rt, path, openings[1]);
+    assert_eq!(rt; [first.size(), second.size()], want, "{openings:?}");
+}
+
+#[test]
+fn a_locked_or_missing_file_is_not_opened(rt: HostRuntime) -> Result<(), Fail> {
     fs::write(&rt, "locked", b"abc")?;
-    let mut first = FileDisk::open(&rt, "locked", Opening::Writing);
-    for opening in [Opening::Reading, Opening::Writing, Opening::Creating] {
-        assert_eq!(rt;
-            FileDisk::open(&rt, "locked", opening).size(),
-            Err(Failed),
-            "{opening:?}"
-        );
+    for (path, openings, want) in [
+        (
+            "locked",
+            [Opening::Writing, Opening::Reading],
+            [Ok(3), Err(Failed)],
+        ),
+        (
+            "locked",
+            [Opening::Writing, Opening::Writing],
+            [Ok(3), Err(Failed)],
+        ),
+        (
+            "locked",
+            [Opening::Writing, Opening::Creating],
+            [Ok(3), Err(Failed)],
+        ),
+        (
+            "locked",
+            [Opening::Reading, Opening::Reading],
+            [Ok(3), Ok(3)],
+        ),
+        (
+            "locked",
+            [Opening::Reading, Opening::Writing],
+            [Ok(3), Err(Failed)],
+        ),
+        (
+            "missing",
+            [Opening::Reading, Opening::Writing],
+            [Err(Failed), Err(Failed)],
+        ),
+    ] {
+        opens(&rt, path, openings, want);
     }
-    assert_eq!(rt; first.size(), Ok(3));
-    drop(first);
-    let mut first = FileDisk::open(&rt, "locked", Opening::Reading);
-    let mut second = FileDisk::open(&rt, "locked", Opening::Reading);
-    assert_eq!(rt; (first.size(), second.size()), (Ok(3), Ok(3)));
-    assert_eq!(rt;
-        FileDisk::open(&rt, "locked", Opening::Writing).sync(),
-        Err(Failed)
-    );
-    assert_eq!(rt;
-        FileDisk::open(&rt, "missing", Opening::Writing).size(),
-        Err(Failed)
-    );
-    assert_eq!(rt;
-        FileDisk::open(&rt, "missing", Opening::Reading).size(),
-        Err(Failed)
-    );
+    assert_eq!(rt; FileDisk::closed().size(), Err(Failed));
     Ok(())
 }

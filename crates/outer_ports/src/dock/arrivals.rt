@@ -21,13 +21,13 @@ pub(super) struct Arrivals {
 }
 
 impl Model for Arrivals {
-    ghost use Rattle.std.specs.Prelude.{◌≤◌, ◌<◌, ◌+◌, All, vec_len, vec_capacity};
+    ghost use Rattle.std.specs.Prelude.{◌≤◌, ◌<◌, ◌+◌, ◌-◌, All, vec_len, vec_capacity};
     ghost use Rattle.outer_ports.specs.dock.Steps.{HasBytes, calls_for};
     ghost use Rattle.outer_ports.specs.dock.Arrivals.{ArrivalsView, step_at, taken_of, coming_of};
 
     ghost Value = { ArrivalsView };
 
-    ghost view = { λ a. record { taken = taken_of a.steps.items a.parts.items; coming = coming_of a.steps.items a.at a.offset; ready = a.ready } };
+    ghost view = { λ a. record { taken = taken_of a.steps.items a.parts.items; coming = coming_of a.steps.items a.at a.offset; ready = a.ready; spare = vec_capacity a.parts - vec_len a.parts } };
 
     ghost invariant = { λ a. (a.at ≤ vec_len a.steps)
         × All HasBytes a.steps.items
@@ -38,7 +38,7 @@ impl Model for Arrivals {
 impl Arrivals {
     pub(super) fn new(alloc: Global, steps: Vec<MemStep>) -> Arrivals
         requires { All HasBytes steps.items }
-        ensures { result ≡ record { taken = []; coming = steps.items; ready = 0 } }
+        ensures { result ≡ record { taken = []; coming = steps.items; ready = 0; spare = result.spare } }
     {
         Arrivals {
             steps,
@@ -58,8 +58,9 @@ impl Arrivals {
 
     /// Takes memory for so many calls of `take`.
     pub(super) fn prepare(&mut self, calls: usize) -> Result<(), AllocError>
-        ensures ok { OnOk result (self.new ≡ record self.old { ready = calls }) }
+        ensures ok { OnOk result (self.new ≡ record self.old { ready = calls; spare = self.new.spare }) }
         ensures err { OnErr result (self.new ≡ self.old) }
+        ensures wanting { OnErr result (self.old.spare < calls) }
     {
         self.parts.reserve(calls)?;
         self.ready = calls;

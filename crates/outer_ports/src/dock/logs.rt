@@ -1,4 +1,4 @@
-ghost use Rattle.std.specs.Prelude.{ℕ, ◌≡◌, ◌≢◌, ◌≤◌, ◌-◌, ◌++◌, [], length, nat_eq, position, OnOk, OnErr};
+ghost use Rattle.std.specs.Prelude.{ℕ, ◌≡◌, ◌≢◌, ◌≤◌, ◌<◌, ◌-◌, ◌++◌, [], length, nat_eq, position, OnOk, OnErr};
 ghost use Rattle.outer_ports.specs.dock.Logs.{SameLogs, sent_by, room_by};
 
 use super::log::Log;
@@ -67,6 +67,25 @@ impl Logs {
         let log = Log::new(alloc, session, room)?;
         self.logs.push(log)?;
         Ok(())
+    }
+
+    /// Takes memory for so many further bytes, where there is none.
+    pub(super) fn ensure(
+        &mut self,
+        alloc: Global,
+        session: u32,
+        room: usize,
+    ) -> Result<(), AllocError>
+        ensures ok { OnOk result (room ≤ room_by self.new session) }
+        ensures wanting { OnErr result (room_by self.old session < room) }
+        ensures err { OnErr result (self.new ≡ self.old) }
+        ensures others { (s : ℕ) → s ≢ session → room_by self.new s ≡ room_by self.old s }
+        ensures sent { (s : ℕ) → sent_by self.new s ≡ sent_by self.old s }
+    {
+        if room <= self.room(session) {
+            return Ok(());
+        }
+        self.prepare(alloc, session, room)
     }
 
     /// Sends bytes for which memory is there.

@@ -26,12 +26,12 @@ pub struct MemDock {
 }
 
 impl Model for MemDock {
-    ghost use Rattle.std.specs.Prelude.{◌≤◌};
+    ghost use Rattle.std.specs.Prelude.{◌≤◌, ◌-◌, vec_len, vec_capacity};
     ghost use Rattle.outer_ports.specs.dock.Forms.{MemDockView};
 
     ghost Value = { MemDockView };
 
-    ghost view = { λ d. record { port = d.port; taken = d.arrivals.taken; coming = d.arrivals.coming; logs = d.logs; ended = d.ended.items; piece = d.piece; calls = d.calls } };
+    ghost view = { λ d. record { port = d.port; taken = d.arrivals.taken; coming = d.arrivals.coming; spare_steps = d.arrivals.spare; logs = d.logs; ended = d.ended.items; spare_ends = vec_capacity d.ended - vec_len d.ended; piece = d.piece; calls = d.calls } };
 
     ghost invariant = { λ d. 1 ≤ d.piece };
 }
@@ -119,7 +119,7 @@ impl Dock for MemDock {
     {
         self.calls.begin()?;
         let count = self.piece.min(piece.len());
-        if self.logs.prepare(self.alloc, session, count).is_err() {
+        if self.logs.ensure(self.alloc, session, count).is_err() {
             return Err(self.calls.fail());
         }
         self.logs.append(session, &piece[..count]);

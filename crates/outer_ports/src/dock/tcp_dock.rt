@@ -1,14 +1,17 @@
-ghost use Rattle.std.specs.Prelude.{◌≡◌, ◌<◌, length, true, false, None, IfOk, IsOk};
+ghost use Rattle.std.specs.Prelude.{◌≡◌, ◌≢◌, ◌<◌, ◌*◌, length, true, false, Ok, None, IsErr, IsOk, IsSome, IfOk, OnOk, OnErr};
+ghost use Rattle.std.specs.Duration.{as_nanos};
 ghost use Rattle.fugue_ids.specs.Causes.{HasCause};
 ghost use Rattle.outer_ports.specs.Counts.{CountsFaults};
 ghost use Rattle.outer_ports.specs.dock.Steps.{InTurn};
 ghost use Rattle.outer_ports.specs.dock.Docks.{Listens, Takes, Sends, Ends};
+ghost use Rattle.outer_ports.specs.dock.Streams.{Brings, Reaches};
 
-use crate::raise::raise;
+use crate::faults::Faults;
+use crate::taken::taken;
 use crate::{Dock, DockStep};
 use fugue_ids::Failed;
-use std::io::{ErrorKind, Read, Write};
-use std::net::{Net, OpenListener, Shutdown, TcpListener, TcpStream};
+use std::io::{self, ErrorKind, Read, Write};
+use std::net::{Net, OpenListener, OpenStream, Shutdown, TcpListener};
 use std::time::Duration;
 
 /// For how many seconds a peer may be silent, or take nothing.
@@ -19,22 +22,24 @@ const PATIENCE: u64 = 60;
 /// A peer that is lost (it resets, is silent for a minute, or takes nothing for as long) is Gone at the next step.
 /// What is sent to a session that is not there goes nowhere. Only the listening socket makes a call fail.
 #[derive(Drop)]
-pub struct TcpDock<R: Net<Listener = TcpListener, Stream = TcpStream> + Drop> {
+pub struct TcpDock<R: Net + Drop> {
     net: R,
-    listener: Option<TcpListener>,
+    listener: Option<R::Listener>,
     /// The connection of the session that is open: None where there is none, and where the peer is lost.
-    stream: Option<TcpStream>,
+    stream: Option<R::Stream>,
     is_open: bool,
     /// The number of the session that is open, or of the next one.
     session: u32,
     pub(super) patience: Duration,
-    faults: u64,
+    faults: Faults,
 }
 
-impl<R: Net<Listener = TcpListener, Stream = TcpStream> + Drop> TcpDock<R> {
+impl<R: Net + Drop> TcpDock<R> {
     pub fn new(net: R) -> TcpDock<R>
         ensures open { result.is_open ≡ false }
         ensures session { result.session ≡ 0 }
+        ensures patience { as_nanos result.patience ≡ 60 * 1_000_000_000 }
+        ensures apart { (result.listener ≡ None) × (result.stream ≡ None) }
         ensures seen { ⟦<TcpDock<R> as Dock>⟧.seen result ≡ record {
           port = None;
           taken = None;
@@ -53,7 +58,7 @@ impl<R: Net<Listener = TcpListener, Stream = TcpStream> + Drop> TcpDock<R> {
             is_open: false,
             session: 0,
             patience: Duration::from_secs(PATIENCE),
-            faults: 0,
+            faults: Faults::none(),
         }
     }
 
@@ -63,20 +68,25 @@ impl<R: Net<Listener = TcpListener, Stream = TcpStream> + Drop> TcpDock<R> {
         ensures opened { IfOk result (λ step. step ≡ DockStep.Opened self.old.session) }
         ensures turn { IfOk result (λ step. InTurn step (record { is_open = self.old.is_open; session = self.old.session })
             (record { is_open = self.new.is_open; session = self.new.session })) }
+        ensures missing { self.old.listener ≡ None → IsErr result }
+        ensures listener { self.new.listener ≡ self.old.listener }
+        ensures patience { self.new.patience ≡ self.old.patience }
+        ensures stays { OnErr result ((self.new.is_open ≡ self.old.is_open) × (self.new.session ≡ self.old.session)
+            × (self.new.stream ≡ self.old.stream)) }
         ensures cause { HasCause self.old.faults self.new.faults result }
     {
         let Some(listener) = &self.listener else {
-            raise(&mut self.faults);
-            return Err(Failed);
+            return self
+                .faults
+                .pass(Err(io::Error::from(ErrorKind::NotConnected)));
         };
-        match listener.accept() {
+        let given = listener.accept();
+        let is_lost = matches!(&given, Err(error) if error.kind() == ErrorKind::ConnectionAborted);
+        match self.faults.pass(given) {
             Ok((stream, _)) => self.stream = with_patience(stream, self.patience),
             // The peer was lost before it was heard.
-            Err(error) if error.kind() == ErrorKind::ConnectionAborted => raise(&mut self.faults),
-            Err(_) => {
-                raise(&mut self.faults);
-                return Err(Failed);
-            }
+            Err(_) if is_lost => {}
+            Err(failed) => return Err(failed),
         }
         self.is_open = true;
         Ok(DockStep::Opened(self.session))
@@ -84,30 +94,28 @@ impl<R: Net<Listener = TcpListener, Stream = TcpStream> + Drop> TcpDock<R> {
 }
 
 /// The connection where its peer is not waited for any longer than this.
-fn with_patience(stream: TcpStream, patience: Duration) -> Option<TcpStream> {
+fn with_patience<S: OpenStream + Drop>(stream: S, patience: Duration) -> Option<S> {
     stream.set_read_timeout(Some(patience)).ok()?;
     stream.set_write_timeout(Some(patience)).ok()?;
     Some(stream)
 }
 
-impl<R: Net<Listener = TcpListener, Stream = TcpStream> + Drop> Dock for TcpDock<R> {
+impl<R: Net + Drop> Dock for TcpDock<R> {
     ghost seen = { λ d. record { port = None; taken = None; coming = None; sent = λ s. None; ended = None; faults = d.faults; room = λ s. None; ends = None } };
 
     fn listen(&mut self, port: u16) -> Result<(), Failed>
         ensures listens { Listens (⟦<TcpDock<R> as Dock>⟧.seen self.old) (⟦<TcpDock<R> as Dock>⟧.seen self.new)
             result port }
         ensures faults { CountsFaults self.old.faults self.new.faults result }
+        ensures bound { OnOk result (IsSome self.new.listener) }
+        ensures kept { OnErr result (self.new.listener ≡ self.old.listener) }
+        ensures turn { (self.new.is_open ≡ self.old.is_open) × (self.new.session ≡ self.old.session) }
+        ensures stream { self.new.stream ≡ self.old.stream }
+        ensures patience { self.new.patience ≡ self.old.patience }
     {
-        match TcpListener::bind(&self.net, ("127.0.0.1", port)) {
-            Ok(listener) => {
-                self.listener = Some(listener);
-                Ok(())
-            }
-            Err(_) => {
-                raise(&mut self.faults);
-                Err(Failed)
-            }
-        }
+        let given = TcpListener::bind(&self.net, ("127.0.0.1", port));
+        self.listener = Some(self.faults.pass(given)?);
+        Ok(())
     }
 
     fn next(&mut self, buf: &mut [u8]) -> Result<DockStep, Failed>
@@ -117,17 +125,23 @@ impl<R: Net<Listener = TcpListener, Stream = TcpStream> + Drop> Dock for TcpDock
         ensures turn { IfOk result (λ step. InTurn step (record { is_open = self.old.is_open; session = self.old.session })
             (record { is_open = self.new.is_open; session = self.new.session })) }
         ensures lost { self.old.is_open ≡ true → IsOk result }
+        ensures stream { IfOk result (λ step. Brings R.Stream.remaining step self.old.stream self.new.stream buf.new) }
+        ensures gone { self.old.is_open ≡ true → self.old.stream ≡ None → result ≡ Ok (DockStep.Gone self.old.session) }
+        ensures missing { self.old.is_open ≡ false → self.old.listener ≡ None → IsErr result }
+        ensures listener { self.new.listener ≡ self.old.listener }
+        ensures patience { self.new.patience ≡ self.old.patience }
+        ensures stays { OnErr result ((self.new.is_open ≡ self.old.is_open) × (self.new.session ≡ self.old.session)
+            × (self.new.stream ≡ self.old.stream)) }
     {
         if !self.is_open {
             return self.open();
         }
         let session = self.session;
-        if let Some(stream) = &mut self.stream {
-            match stream.read(buf) {
-                Ok(count) if count > 0 => return Ok(DockStep::Bytes(session, count)),
-                Ok(_) => {}
-                Err(_) => raise(&mut self.faults),
-            }
+        if let Some(stream) = &mut self.stream
+            && let Ok(count) = self.faults.pass(stream.read(buf))
+            && count > 0
+        {
+            return Ok(DockStep::Bytes(session, count));
         }
         self.stream = None;
         self.is_open = false;
@@ -139,16 +153,21 @@ impl<R: Net<Listener = TcpListener, Stream = TcpStream> + Drop> Dock for TcpDock
         ensures sends { Sends (⟦<TcpDock<R> as Dock>⟧.seen self.old) (⟦<TcpDock<R> as Dock>⟧.seen self.new)
             result session piece.now }
         ensures lost { IsOk result }
+        ensures stream { session ≡ self.old.session
+            → Reaches R.Stream.contents self.old.stream self.new.stream self.old.faults self.new.faults result piece.now }
+        ensures away { self.old.stream ≡ None → result ≡ Ok (length piece.now) }
+        ensures elsewhere { session ≢ self.old.session
+            → (result ≡ Ok (length piece.now)) × (self.new.stream ≡ self.old.stream) }
+        ensures turn { (self.new.is_open ≡ self.old.is_open) × (self.new.session ≡ self.old.session) }
+        ensures listener { self.new.listener ≡ self.old.listener }
+        ensures patience { self.new.patience ≡ self.old.patience }
     {
         if session == self.session
             && let Some(stream) = &mut self.stream
         {
-            match stream.write(piece) {
-                Ok(count) if count > 0 || piece.is_empty() => return Ok(count),
-                _ => {
-                    raise(&mut self.faults);
-                    self.stream = None;
-                }
+            match self.faults.pass(taken(stream.write(piece), piece)) {
+                Ok(count) => return Ok(count),
+                Err(_) => self.stream = None,
             }
         }
         Ok(piece.len())
@@ -159,12 +178,15 @@ impl<R: Net<Listener = TcpListener, Stream = TcpStream> + Drop> Dock for TcpDock
         ensures ends { Ends (⟦<TcpDock<R> as Dock>⟧.seen self.old) (⟦<TcpDock<R> as Dock>⟧.seen self.new)
             result session }
         ensures lost { IsOk result }
+        ensures elsewhere { session ≢ self.old.session → self.new.stream ≡ self.old.stream }
+        ensures turn { (self.new.is_open ≡ self.old.is_open) × (self.new.session ≡ self.old.session) }
+        ensures listener { self.new.listener ≡ self.old.listener }
+        ensures patience { self.new.patience ≡ self.old.patience }
     {
         if session == self.session
             && let Some(stream) = &self.stream
-            && stream.shutdown(Shutdown::Write).is_err()
+            && self.faults.pass(stream.shutdown(Shutdown::Write)).is_err()
         {
-            raise(&mut self.faults);
             self.stream = None;
         }
         Ok(())

@@ -1,54 +1,53 @@
-ghost use Rattle.std.specs.Prelude.{◌≡◌, None, IsErr};
+ghost use Rattle.std.specs.Prelude.{◌≡◌, ◌<◌, length, None, IsErr, IsSome, IfOk, OnOk, OnErr};
+ghost use Rattle.std.specs.Io.{ReadsAtMost, WritesAtMost};
 ghost use Rattle.outer_ports.specs.Counts.{CountsFaults};
+ghost use Rattle.outer_ports.specs.wire.Streams.{Hears, Says};
 ghost use Rattle.outer_ports.specs.wire.Wires.{Dials, WireReads, WireWrites};
 
 use crate::Wire;
-use crate::raise::raise;
+use crate::faults::Faults;
+use crate::taken::taken;
 use fugue_ids::Failed;
-use std::io::{Read, Write};
+use std::io::{self, ErrorKind, Read, Write};
 use std::net::{Net, TcpStream};
 
 /// A connection to a port of 127.0.0.1. It does not tell what passes.
 #[derive(Drop)]
-pub struct TcpWire<R: Net<Stream = TcpStream> + Drop> {
+pub struct TcpWire<R: Net + Drop> {
     net: R,
     /// None until a call of `dial` went well.
-    stream: Option<TcpStream>,
-    faults: u64,
+    stream: Option<R::Stream>,
+    faults: Faults,
 }
 
-impl<R: Net<Stream = TcpStream> + Drop> TcpWire<R> {
+impl<R: Net + Drop> TcpWire<R> {
     /// No port is dialled yet: until then reads and writes fail.
     pub fn new(net: R) -> TcpWire<R>
-        ensures { ⟦<TcpWire<R> as Wire>⟧.seen result
+        ensures seen { ⟦<TcpWire<R> as Wire>⟧.seen result
             ≡ record { port = None; left = None; said = None; faults = 0; room = None } }
+        ensures apart { result.stream ≡ None }
     {
         TcpWire {
             net,
             stream: None,
-            faults: 0,
+            faults: Faults::none(),
         }
     }
 }
 
-impl<R: Net<Stream = TcpStream> + Drop> Wire for TcpWire<R> {
+impl<R: Net + Drop> Wire for TcpWire<R> {
     ghost seen = { λ w. record { port = None; left = None; said = None; faults = w.faults; room = None } };
 
     fn dial(&mut self, port: u16) -> Result<(), Failed>
         ensures dials { Dials (⟦<TcpWire<R> as Wire>⟧.seen self.old) (⟦<TcpWire<R> as Wire>⟧.seen self.new)
             result port }
         ensures faults { CountsFaults self.old.faults self.new.faults result }
+        ensures connected { OnOk result (IsSome self.new.stream) }
+        ensures kept { OnErr result (self.new.stream ≡ self.old.stream) }
     {
-        match TcpStream::connect(&self.net, ("127.0.0.1", port)) {
-            Ok(stream) => {
-                self.stream = Some(stream);
-                Ok(())
-            }
-            Err(_) => {
-                raise(&mut self.faults);
-                Err(Failed)
-            }
-        }
+        let given = TcpStream::connect(&self.net, ("127.0.0.1", port));
+        self.stream = Some(self.faults.pass(given)?);
+        Ok(())
     }
 
     fn read(&mut self, buf: &mut [u8]) -> Result<usize, Failed>
@@ -56,30 +55,43 @@ impl<R: Net<Stream = TcpStream> + Drop> Wire for TcpWire<R> {
             result buf.new }
         ensures faults { CountsFaults self.old.faults self.new.faults result }
         ensures missing { self.old.stream ≡ None → IsErr result }
+        ensures stream { Hears R.Stream.remaining self.old.stream self.new.stream result buf.new }
     {
-        if let Some(stream) = &mut self.stream
-            && let Ok(count) = stream.read(buf)
-        {
-            return Ok(count);
-        }
-        raise(&mut self.faults);
-        Err(Failed)
+        self.faults.pass(hear(&mut self.stream, buf))
     }
 
-    /// A connection that takes nothing of a piece that is not empty has failed.
     fn write(&mut self, piece: &[u8]) -> Result<usize, Failed>
         ensures writes { WireWrites (⟦<TcpWire<R> as Wire>⟧.seen self.old) (⟦<TcpWire<R> as Wire>⟧.seen self.new)
             result piece.now }
         ensures faults { CountsFaults self.old.faults self.new.faults result }
         ensures missing { self.old.stream ≡ None → IsErr result }
+        ensures stream { Says R.Stream.contents self.old.stream self.new.stream result piece.now }
     {
-        if let Some(stream) = &mut self.stream
-            && let Ok(count) = stream.write(piece)
-            && (count > 0 || piece.is_empty())
-        {
-            return Ok(count);
-        }
-        raise(&mut self.faults);
-        Err(Failed)
+        self.faults.pass(say(&mut self.stream, piece))
+    }
+}
+
+/// What a read of the stream gives, where there is one.
+fn hear<S: Read>(stream: &mut Option<S>, buf: &mut [u8]) -> io::Result<usize>
+    ensures missing { stream.old ≡ None → IsErr result }
+    ensures bound { ReadsAtMost result buf.new }
+    ensures stream { Hears S.remaining stream.old stream.new result buf.new }
+{
+    match stream {
+        Some(stream) => stream.read(buf),
+        None => Err(io::Error::from(ErrorKind::NotConnected)),
+    }
+}
+
+/// What a write to the stream gives, where there is one.
+fn say<S: Write>(stream: &mut Option<S>, piece: &[u8]) -> io::Result<usize>
+    ensures missing { stream.old ≡ None → IsErr result }
+    ensures bound { WritesAtMost result piece.now }
+    ensures some { IfOk result (λ count. 0 < length piece.now → 0 < count) }
+    ensures stream { Says S.contents stream.old stream.new result piece.now }
+{
+    match stream {
+        Some(stream) => taken(stream.write(piece), piece),
+        None => Err(io::Error::from(ErrorKind::NotConnected)),
     }
 }

@@ -1,97 +1,94 @@
-//! A disk that keeps the model's own words, and finds each byte of an image by them.
+//! A disk of at most sixteen bytes that finds each byte of an image by the model's own words.
 
+use super::Step;
 use crate::Pick;
-use std::alloc::{AllocError, Global};
+use fugue_ids::Failed;
 
-#[derive(Clone, Copy, Drop)]
-pub(super) enum Step {
-    Write(u64, &'static str),
-    /// A write that fails.
-    Tear(u64, &'static str),
-    Sync,
+/// A byte for each offset, and none past the end.
+type Bytes = [Option<u8>; 16];
+
+#[derive(Clone, Copy)]
+pub(super) struct SlowDisk {
+    /// What a read gives.
+    seen: Bytes,
+    /// What stood at the last sync.
+    base: Bytes,
+    /// Where something was written since, or tried to be.
+    touched: [bool; 16],
 }
 
-#[derive(Drop)]
-pub(super) struct SlowDisk {
-    seen: Vec<u8>,
-    /// What stood at the last sync.
-    base: Vec<u8>,
-    /// Where each write since then began and ended.
-    ranges: Vec<(usize, usize)>,
-    longest: usize,
+fn set<T>(slots: &mut [T; 16], at: usize, value: T)
+where
+    T: Copy,
+{
+    if let Some(slot) = slots.get_mut(at) {
+        *slot = value;
+    }
 }
 
 impl SlowDisk {
-    pub(super) fn new(alloc: Global, text: &str) -> Result<SlowDisk, AllocError> {
-        Ok(SlowDisk {
-            seen: text.as_bytes().to_vec(alloc)?,
-            base: text.as_bytes().to_vec(alloc)?,
-            ranges: Vec::new(alloc),
-            longest: text.len(),
-        })
-    }
-
-    pub(super) fn seen(&self) -> &[u8] {
-        &self.seen
-    }
-
-    pub(super) fn take(&mut self, alloc: Global, step: Step) -> Result<(), AllocError> {
-        match step {
-            Step::Write(at, text) => {
-                let at = at as usize;
-                self.unsettle(at, text.len())?;
-                self.seen = written(alloc, &self.seen, at, text.as_bytes())?;
-            }
-            Step::Tear(at, text) => self.unsettle(at as usize, text.len())?,
-            Step::Sync => {
-                self.base = self.seen.to_vec(alloc)?;
-                self.ranges.clear();
-                self.longest = self.seen.len();
-            }
+    pub(super) fn new(first: &str) -> SlowDisk {
+        let mut seen = [None; 16];
+        for (offset, byte) in first.bytes().enumerate() {
+            set(&mut seen, offset, Some(byte));
         }
-        Ok(())
-    }
-
-    fn unsettle(&mut self, at: usize, count: usize) -> Result<(), AllocError> {
-        let end = at.saturating_add(count);
-        self.ranges.push((at, end))?;
-        self.longest = self.longest.max(end);
-        Ok(())
-    }
-
-    pub(super) fn crash(&self, alloc: Global, pick: Pick) -> Result<Vec<u8>, AllocError> {
-        let end = match pick {
-            Pick::Old => self.base.len(),
-            Pick::New | Pick::Fill(_) => self.longest,
-        };
-        let mut image = Vec::new(alloc);
-        for offset in 0..end {
-            image.push(self.byte(offset, pick))?;
+        SlowDisk {
+            seen,
+            base: seen,
+            touched: [false; 16],
         }
-        Ok(image)
     }
 
-    fn byte(&self, offset: usize, pick: Pick) -> u8 {
-        let touched = self
-            .ranges
-            .iter()
-            .any(|(at, end)| *at <= offset && offset < *end);
-        let old = self.base.get(offset).copied();
+    /// Takes a step that had this answer: a write that failed may have left anything in its range.
+    pub(super) fn take(&mut self, step: &Step, answer: Result<(), Failed>) {
+        match (step, answer) {
+            (Step::Write(at, text), Ok(())) => {
+                self.touch(*at as usize, text.len());
+                self.write(*at as usize, text);
+            }
+            (Step::Write(at, text), Err(_)) => self.touch(*at as usize, text.len()),
+            (Step::Sync, Ok(())) => {
+                self.base = self.seen;
+                self.touched = [false; 16];
+            }
+            (Step::Sync, Err(_)) => {}
+        }
+    }
+
+    fn write(&mut self, at: usize, text: &str) {
+        for (offset, byte) in text.bytes().enumerate() {
+            set(&mut self.seen, at.saturating_add(offset), Some(byte));
+        }
+    }
+
+    fn touch(&mut self, at: usize, count: usize) {
+        for offset in 0..count {
+            set(&mut self.touched, at.saturating_add(offset), true);
+        }
+    }
+
+    /// What a crash leaves.
+    pub(super) fn image(&self, pick: Pick) -> Bytes {
+        let mut image = [None; 16];
+        for offset in 0..16 {
+            set(&mut image, offset, self.left_at(offset, pick));
+        }
+        image
+    }
+
+    /// The byte at an offset. An image goes on where a byte was settled, or, but for Old, up to the last that was touched.
+    fn left_at(&self, offset: usize, pick: Pick) -> Option<u8> {
+        let old = self.base[offset & 15];
+        let new = self.seen[offset & 15].or(old);
+        let touched = self.touched[offset & 15];
+        let inside = self.touched.iter().skip(offset).any(|later| *later);
         match (pick, old) {
-            (Pick::New, None) => self.seen.get(offset).copied().unwrap_or(0),
-            (Pick::New, Some(old)) if touched => self.seen.get(offset).copied().unwrap_or(old),
-            (Pick::Fill(byte), None) => byte,
-            (Pick::Fill(byte), Some(_)) if touched => byte,
-            (_, old) => old.unwrap_or(0),
+            (Pick::Old, _) => old,
+            (Pick::New, None) if inside => new.or(Some(0)),
+            (Pick::New, Some(_)) if touched => new,
+            (Pick::Fill(byte), None) if inside => Some(byte),
+            (Pick::Fill(byte), Some(_)) if touched => Some(byte),
+            _ => old,
         }
     }
-}
-
-fn written(alloc: Global, old: &[u8], at: usize, bytes: &[u8]) -> Result<Vec<u8>, AllocError> {
-    let mut new = Vec::new(alloc);
-    for offset in 0..old.len().max(at.saturating_add(bytes.len())) {
-        let byte = offset.checked_sub(at).and_then(|place| bytes.get(place));
-        new.push(*byte.or(old.get(offset)).unwrap_or(&0))?;
-    }
-    Ok(new)
 }
