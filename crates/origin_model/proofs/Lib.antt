@@ -1,3 +1,4 @@
 mod Examples
+mod Words
 pub mod SharedLemmas
 pub mod edits

@@ -1,17 +1,13 @@
 -- The lemmas that proofs of other crates may cite.
-pub use Rattle.origin_model.proofs.operations.CauseLemmas.{cases_held, missing-held, ready_absent}
+pub use Rattle.origin_model.proofs.operations.CauseLemmas.{ready_absent}
+pub use Rattle.origin_model.proofs.operations.LookupLemmas.{cases_held, found, has-holder, holder-has, holder-other, holder-own, holder_owns, holds-cons, holds-other, holds-own, missing-held, own_id, when_ready}
 pub use Rattle.origin_model.proofs.operations.FoundedLemmas.{no_text_before, not_hidden_before, ready_is_new, same_nodes_same_order, section_first, shown_can_go, target_is_shown}
-pub use Rattle.origin_model.proofs.operations.LookupLemmas.{found, holder-has, holder-other, holder-own, holder_owns, holds-other, holds-own}
-pub use Rattle.origin_model.proofs.operations.MemberLemmas.{holds-cons}
-pub use Rattle.origin_model.proofs.operations.OperationLemmas.{own_id}
-pub use Rattle.origin_model.proofs.operations.ReadyLemmas.{has-holder, when_ready}
 pub use Rattle.origin_model.proofs.order.OrderLawLemmas.{order_total}
 pub use Rattle.origin_model.proofs.order.OrderLemmas.{order-none, order-some}
 pub use Rattle.origin_model.proofs.order.OrderedListLemmas.{same_ordered}
 pub use Rattle.origin_model.proofs.order.PositionLemmas.{index_end}
 pub use Rattle.origin_model.proofs.order.PrintedLemmas.{section_joins}
-pub use Rattle.origin_model.proofs.order.RankLemmas.{ranked-trans}
-pub use Rattle.origin_model.proofs.order.StrictOrderLemmas.{fork-irrefl, fork-trans}
+pub use Rattle.origin_model.proofs.order.StrictOrderLemmas.{fork-irrefl, fork-trans, ranked-trans}
 pub use Rattle.origin_model.proofs.sides.AttachLemmas.{attach_keeps, cases_slot}
 pub use Rattle.origin_model.proofs.sides.DetachedLemmas.{absent_stays, detach_any, found_without, newest_taken_back}
 pub use Rattle.origin_model.proofs.sides.NodeAgeLemmas.{IsNewer, children_newer, newer}
@@ -23,7 +19,8 @@ pub use Rattle.origin_model.proofs.taking.SettlingLemmas.{earliest-no, earliest-
 pub use Rattle.origin_model.proofs.edits.NextCounterLemmas.{counters-append}
 pub use Rattle.origin_model.proofs.files.AppendLemmas.{Parts, batch_appended, from_parts, new_file_holds, same_to_gate, to_parts, with_batch}
 pub use Rattle.origin_model.proofs.files.BatchLemmas.{batch_of, behind_number, frames_read, is_batch, number_is, same_batch}
-pub use Rattle.origin_model.proofs.files.ImageLemmas.{ReadOnce, image_once}
-pub use Rattle.origin_model.proofs.relay.OneOutcomeLemmas.{NoFront, all_once, one_kind, run_once, step_once}
+pub use Rattle.origin_model.proofs.files.ImageLemmas.{Bad, Closed, Ends, ReadOnce, image_once, no_open_slot, slots_not_empty}
+pub use Rattle.origin_model.proofs.files.WalkLemmas.{ReadSome, image_some}
+pub use Rattle.origin_model.proofs.relay.OneOutcomeLemmas.{NoFront, SomeKind, all_once, all_some, one_kind, run_once, run_some, step_once, step_some}
 pub use Rattle.origin_model.proofs.relay.RunLemmas.{Follows, Path, after_piece, ends_at, follows_runs, open_stays, opened_steps, piece_steps, runs-append, state_after, step_runs, unknown_steps}
 pub use Rattle.origin_model.proofs.relay.TextLemmas.{closed_takes, closing_takes, frame_takes, front_of, front_takes, hello, hello_takes, partly, rest_takes, takes-append}

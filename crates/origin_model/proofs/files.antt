@@ -1,5 +1,6 @@
 -- Lemmas on the bytes of files.
 pub mod BatchLemmas
 pub mod ImageLemmas
+pub mod WalkLemmas
 pub mod AppendLemmas
 pub mod FileExamples

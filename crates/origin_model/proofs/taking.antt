@@ -2,5 +2,6 @@
 pub mod ClosureLawLemmas
 pub mod ClosureLemmas
 pub mod KeptLemmas
+pub mod SelfNamedLemmas
 pub mod SettlingLemmas
 pub mod TakingLemmas

@@ -1,6 +1,6 @@
 //! Laws of the definitions: each function takes and answers nothing, and its clauses are the law.
 
-ghost use Rattle.origin_model.specs.taking.Closure.{ClosureOfSet, ClosureIsClosed, ClosureBySet, SameSetConverges, ClosureOfUnion, ClosureOfMerge, KeptSuffice, SettlingEnds, StaysSettled, PartsAsOne, SavedSuffice};
+ghost use Rattle.origin_model.specs.taking.Closure.{ClosureOfSet, ClosureIsClosed, ClosureBySet, SameSetConverges, ClosureOfUnion, ClosureOfMerge, KeptSuffice, SettlingEnds, StaysSettled, PartsAsOne, SavedSuffice, SelfNamedNeverAccepted};
 ghost use Rattle.origin_model.specs.edits.Landing.{LandsBehind, LandsBehindOrigin};
 ghost use Rattle.origin_model.specs.order.Laws.{OrderTotal, LaterOpsKeepOrder, PartsKeepOrder, OrderBySet};
 
@@ -47,4 +47,9 @@ pub fn kept_suffice()
     ensures settled { StaysSettled }
     ensures parts { PartsAsOne }
     ensures saved { SavedSuffice }
+{}
+
+/// An operation that names its own identifier is never accepted, whatever came before it.
+pub fn self_named_never_accepted()
+    ensures { SelfNamedNeverAccepted }
 {}

@@ -2,8 +2,6 @@
 #![tactic(auto)]
 
 #[cfg(test)]
-mod any_order;
-#[cfg(test)]
 mod by_sides;
 mod files;
 mod laws;
@@ -21,6 +19,7 @@ mod tests;
 pub use files::LONGEST_BATCH;
 pub use laws::{
     closure_of_set, kept_suffice, lands_behind, later_ops_keep_order, order_by_set, order_total,
+    self_named_never_accepted,
 };
 pub use operations::{
     Lookup, Named, NoMemoryFor, Place, Role, Verdict, left_of, mentioned_by, names_of, right_of,

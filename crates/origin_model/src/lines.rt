@@ -10,7 +10,7 @@ pub type Name = (u32, u32);
 
 pub const NONE: Name = (0, 0);
 
-/// The section of all texts that name none.
+/// The section of all texts.
 pub const SECTION: Name = (9, 0);
 
 /// A line of a table, with its identifier, its left and its right origin.
@@ -18,27 +18,15 @@ pub const SECTION: Name = (9, 0);
 pub enum Line {
     Section(Name, Name, Name, &'static str),
     Text(Name, Name, Name, char),
-    /// A text of another section, which stands behind the identifier.
-    TextIn(Name, Name, Name, Name, char),
     Delete(Name),
-}
-
-pub fn id(rt: &impl Abort, name: Name) -> ElementId {
-    ElementId::new(name.0, name.1).expect(rt, "a replica")
 }
 
 fn origin(name: Name) -> Option<ElementId> {
     ElementId::new(name.0, name.1)
 }
 
-fn text(rt: &impl Abort, name: Name, section: Name, left: Name, right: Name, ch: char) -> Op {
-    Op::Text {
-        id: id(rt, name),
-        section: id(rt, section),
-        left: origin(left),
-        right: origin(right),
-        ch,
-    }
+pub fn id(rt: &impl Abort, name: Name) -> ElementId {
+    origin(name).expect(rt, "a replica")
 }
 
 /// The operation that a line stands for.
@@ -52,9 +40,14 @@ pub fn op(rt: &impl Abort, alloc: Global, line: Line) -> Result<Op, Fail> {
                 title: Title::read(alloc, title)?,
             })
         }
-        Line::Text(name, left, right, ch) => { Ok(text(rt, name, SECTION, left, right, ch)) }
-        Line::TextIn(name, section, left, right, ch) => {
-            Ok(text(rt, name, section, left, right, ch))
+        Line::Text(name, left, right, ch) => {
+            Ok(Op::Text {
+                id: id(rt, name),
+                section: id(rt, SECTION),
+                left: origin(left),
+                right: origin(right),
+                ch,
+            })
         }
         Line::Delete(name) => {
             Ok(Op::Delete {

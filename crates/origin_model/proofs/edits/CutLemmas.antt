@@ -1,30 +1,10 @@
 -- Deletes of shown elements: each is Ready in its turn, no order changes, and what is shown loses exactly these elements.
-use Rattle.std.proofs.Common.{Bool, List, [], ap, arith, drop, inl, inr, not, refl, subst, suc, sym, take, true, ℕ, ◌+◌, ◌++◌, ◌||◌, ◌∙◌, ◌∷◌, ◌≡◌, ◌≢◌}
-use Rattle.std.specs.Prelude.{None, Option, Some, filter, slice_get}
-use Rattle.std.proofs.lemmas.Bool.{cases_Bool}
-use Rattle.std.proofs.lemmas.List.{append-nil, drop-drop, take-append-drop}
-use Rattle.fugue_ids.specs.Identifiers.{Identifier, id_eq}
-use Rattle.fugue_ids.specs.declared.op.Op.{Op}
-use Rattle.fugue_ids.specs.declared.op.Op.TheVariants.{Delete, Section, Text}
-use Rattle.origin_model.specs.order.Laws.{IsIn}
-use Rattle.origin_model.specs.operations.History.{element_of, holder}
-use Rattle.origin_model.specs.order.Order.{order}
-use Rattle.origin_model.specs.order.Printed.{is_hidden, shown}
-use Rattle.origin_model.specs.operations.Verdict.{Lawful, verdict}
-use Rattle.origin_model.specs.declared.operations.place.Place.{Place}
-use Rattle.origin_model.specs.declared.operations.place.Place.TheVariants.{Catalogue as catalogue, Section as within}
-use Rattle.origin_model.specs.declared.operations.verdict.Verdict.TheVariants.{Ready}
+use Rattle.origin_model.proofs.Words.{All-contains, All-weaker, Bool, Contains, Delete, Identifier, IsIn, Lawful, List, None, Op, Option, Place, Ready, Section, Some, Text, [], all_from_contains, all_pairs_head, all_pairs_tail, ap, append-nil, arith, catalogue, cond, contains_filter_from, contains_middle, drop, element_of, false, filter, holder, id_eq, id_eq-refl, id_eq-true, is_hidden, ne-id_eq, not, not_some, order, refl, shown, slice_get, subst, suc, sym, take, take-append-drop, true, verdict, within, ℕ, ◌++◌, ◌+◌, ◌||◌, ◌∙◌, ◌∷◌, ◌≡◌, ◌≢◌}
+use Rattle.std.proofs.lemmas.List.{drop-drop}
 use Rattle.origin_model.proofs.operations.FoundedLemmas.{shown_can_go}
-use Rattle.origin_model.proofs.order.OrderLemmas.{order-none}
-use Rattle.origin_model.proofs.order.OrderLawLemmas.{order_total}
-use Rattle.origin_model.proofs.order.PlaceLemmas.{IsIn-held, in_section, order-member}
+use Rattle.origin_model.proofs.order.{IsIn-held, filter_no, filter_yes, in_section, order-member, order-none, order_total}
 use Rattle.origin_model.specs.edits.Edits.{Cut, DropSection, IsEdit, ReadyInTurn, cut_in, deletes_of, extended, made}
 use Rattle.origin_model.proofs.edits.SplitLemmas.{Distinct, is_shown, filter_all, get_split, not_yes}
-use Rattle.std.specs.List.{Contains}
-use Rattle.std.proofs.lemmas.List.Elements.{All-contains, All-weaker}
-use Rattle.fugue_ids.proofs.ListLemmas.{all_from_contains, contains_filter_from, all_pairs_head, all_pairs_tail, contains_middle}
-use Rattle.fugue_ids.proofs.IdentifierLemmas.{id_eq-refl, id_eq-true, ne-id_eq, not_some}
-use Rattle.origin_model.proofs.order.ListPartLemmas.{filter_no, filter_yes}
 use Rattle.std.proofs.lemmas.List.Kept.{AllPairs-filter}
 
 -- all but x
@@ -35,21 +15,12 @@ but x = λ y. not (id_eq x y)
 filter_two : (f g : Identifier → Bool) (xs : List Identifier) → filter (λ y. not (f y || g y)) xs ≡ filter (λ y. not (f y)) (filter (λ y. not (g y)) xs)
 filter_two f g [] = refl
 filter_two f g (x ∷ xs) =
-    let both : Identifier → Bool = λ y. not (f y || g y) in
+    let both : List Identifier = filter (λ y. not (f y || g y)) xs in
+    let kept : List Identifier = filter (λ y. not (g y)) xs in
     let nf : Identifier → Bool = λ y. not (f y) in
-    let ng : Identifier → Bool = λ y. not (g y) in
-    let rest = filter_two f g xs in
-    elim (cases_Bool (f x)) [
-      | inl t ↦
-          let a : filter both (x ∷ xs) ≡ filter both xs = filter_no both x xs (ap (λ b. not (b || g x)) t) in
-          elim (cases_Bool (g x)) [
-            | inl s ↦ a ∙ rest ∙ ap (filter nf) (sym (filter_no ng x xs (ap not s)))
-            | inr s ↦ a ∙ rest ∙ sym (filter_no nf x (filter ng xs) (ap not t)) ∙ ap (filter nf) (sym (filter_yes ng x xs (ap not s)))
-          ]
-      | inr t ↦ elim (cases_Bool (g x)) [
-        | inl s ↦ filter_no both x xs (λ i. not (t i || s i)) ∙ rest ∙ ap (filter nf) (sym (filter_no ng x xs (ap not s)))
-        | inr s ↦ filter_yes both x xs (λ i. not (t i || s i)) ∙ ap (λ z. x ∷ z) rest ∙ sym (filter_yes nf x (filter ng xs) (ap not t)) ∙ ap (filter nf) (sym (filter_yes ng x xs (ap not s)))
-      ]
+    elim (g x) as (λ b. cond (not (f x || b)) (x ∷ both) both ≡ filter nf (cond (not b) (x ∷ kept) kept)) [
+      | true ↦ elim (f x) as (λ a. cond (not (a || true)) (x ∷ both) both ≡ filter nf kept) [ true ↦ filter_two f g xs | false ↦ filter_two f g xs ]
+      | false ↦ elim (f x) as (λ a. cond (not (a || false)) (x ∷ both) both ≡ cond (not a) (x ∷ filter nf kept) (filter nf kept)) [ true ↦ filter_two f g xs | false ↦ ap (λ z. x ∷ z) (filter_two f g xs) ]
     ]
 
 -- a list of distinct members without one of them

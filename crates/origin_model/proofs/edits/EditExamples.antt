@@ -1,12 +1,5 @@
 -- Small edits, computed from the definitions, at replica 1 that begins with nothing.
-use Rattle.std.proofs.Common.{◌≡◌, refl, ℕ, List, [], ◌∷◌}
-use Rattle.std.specs.Prelude.{Some, None, codes}
-use Rattle.fugue_ids.specs.Identifiers.{Identifier}
-use Rattle.fugue_ids.specs.declared.op.Op.{Op}
-use Rattle.fugue_ids.specs.declared.op.Op.TheVariants.{Section, Text, Delete}
-use Rattle.origin_model.specs.order.Order.{order, chain}
-use Rattle.origin_model.specs.order.Printed.{text}
-use Rattle.origin_model.specs.declared.operations.place.Place.TheVariants.{Section as within}
+use Rattle.origin_model.proofs.Words.{Delete, Identifier, List, None, Op, Section, Some, Text, [], chain, codes, order, refl, text, within, ℕ, ◌∷◌, ◌≡◌}
 use Rattle.origin_model.specs.edits.Edits.{Command, Put, Cut, Add, DropSection, extended, id_at, made, next_counter, spliced}
 
 -- the history after edits, one after another, where nothing waits
@@ -26,21 +19,17 @@ four_edits = Add 0 (codes "T") ∷ Put 0 0 (codes "AB") ∷ Cut 0 1 1 ∷ []
 abbrev after_cut : List Op
 after_cut = edited [] four_edits
 
--- five operations; C is (1,3), behind A and before the deleted B
+-- AC is shown, of five operations; C is (1,3), behind A and before the deleted B
 five_operations :
-    edited after_cut (Put 0 1 (codes "C") ∷ [])
+    (text (edited after_cut (Put 0 1 (codes "C") ∷ [])) section ≡ codes "AC")
+    × (edited after_cut (Put 0 1 (codes "C") ∷ [])
     ≡ Text (id_at 1 3) section (Some (id_at 1 1)) (Some (id_at 1 2)) 67
     ∷ Delete (id_at 1 2)
     ∷ Text (id_at 1 2) section (Some (id_at 1 1)) None 66
     ∷ Text (id_at 1 1) section None None 65
-    ∷ Section section None None (codes "T") ∷ []
+    ∷ Section section None None (codes "T") ∷ [])
 unfolding order chain
-five_operations = refl
-
--- what is then shown
-shows_AC : text (edited after_cut (Put 0 1 (codes "C") ∷ [])) section ≡ codes "AC"
-unfolding order chain
-shows_AC = refl
+five_operations = (refl, refl)
 
 -- the same in a section of another replica: A and B are typed, B is deleted
 abbrev foreign : Identifier
@@ -49,20 +38,13 @@ foreign = id_at 9 0
 abbrev without_B : List Op
 without_B = edited (Section foreign None None (codes "T") ∷ []) (Put 0 0 (codes "AB") ∷ Cut 0 1 1 ∷ [])
 
--- C is (1,2), behind A and before the deleted B
-C_behind_A : made 1 without_B [] (Put 0 1 (codes "C")) ≡ Text (id_at 1 2) foreign (Some (id_at 1 0)) (Some (id_at 1 1)) 67 ∷ []
+-- C is (1,2), behind A and before the deleted B, and it stands between them
+C_behind_A :
+    (made 1 without_B [] (Put 0 1 (codes "C")) ≡ Text (id_at 1 2) foreign (Some (id_at 1 0)) (Some (id_at 1 1)) 67 ∷ [])
+    × (order (within foreign) (edited without_B (Put 0 1 (codes "C") ∷ [])) ≡ id_at 1 0 ∷ id_at 1 2 ∷ id_at 1 1 ∷ [])
+    × (text (edited without_B (Put 0 1 (codes "C") ∷ [])) foreign ≡ codes "AC")
 unfolding order chain
-C_behind_A = refl
-
--- it stands between them
-C_in_order : order (within foreign) (edited without_B (Put 0 1 (codes "C") ∷ [])) ≡ id_at 1 0 ∷ id_at 1 2 ∷ id_at 1 1 ∷ []
-unfolding order chain
-C_in_order = refl
-
--- what is then shown
-shows_C : text (edited without_B (Put 0 1 (codes "C") ∷ [])) foreign ≡ codes "AC"
-unfolding order chain
-shows_C = refl
+C_behind_A = (refl, refl, refl)
 
 -- `e`, U+0301 and `f`: the first cluster has two scalars
 abbrev accented : List Op
@@ -72,15 +54,10 @@ accented = edited [] (Add 0 (codes "T") ∷ Put 0 0 (101 ∷ 769 ∷ 102 ∷ [])
 abbrev with_X : List Op
 with_X = edited accented (Put 0 2 (codes "X") ∷ [])
 
--- it stands behind the accent
-behind_the_accent : text with_X section ≡ 101 ∷ 769 ∷ 88 ∷ 102 ∷ []
+-- it stands behind the accent, and both scalars of the cluster go
+clusters : (text with_X section ≡ 101 ∷ 769 ∷ 88 ∷ 102 ∷ []) × (text (edited with_X (Cut 0 0 2 ∷ [])) section ≡ codes "Xf")
 unfolding order chain
-behind_the_accent = refl
-
--- both scalars of the cluster go
-cluster_goes : text (edited with_X (Cut 0 0 2 ∷ [])) section ≡ codes "Xf"
-unfolding order chain
-cluster_goes = refl
+clusters = (refl, refl)
 
 -- where there is no such section nothing is made
 no_section : made 1 [] [] (DropSection 0) ≡ []

@@ -1,28 +1,13 @@
 -- What edits do to the texts of sections, by scalars.
-use Rattle.std.proofs.Common.{List, [], ap, drop, length, not, refl, subst, suc, sym, take, zero, ℕ, ◌+◌, ◌++◌, ◌∙◌, ◌∷◌, ◌≡◌, ◌≢◌, ◌≤◌}
-use Rattle.std.specs.Prelude.{Option, Some, flat_map, is_some, slice_get}
+use Rattle.origin_model.proofs.Words.{All, All-head, All-tail, Contains, Identifier, IsIn, Lawful, List, Op, Option, Place, Some, Text, [], all_from_contains, ap, catalogue, contains_filter_from, drop, element_of, flat_map, holder, id_eq-refl, is_hidden, is_some, length, not, not_some, order, refl, scalar_of, shown, slice_get, subst, suc, sym, take, text, within, zero, ℕ, ◌++◌, ◌+◌, ◌∙◌, ◌∷◌, ◌≡◌, ◌≢◌, ◌≤◌}
 use Rattle.std.proofs.lemmas.Grind.{flat_map-append}
-use Rattle.fugue_ids.specs.Identifiers.{Identifier}
-use Rattle.fugue_ids.specs.declared.op.Op.{Op}
-use Rattle.fugue_ids.specs.declared.op.Op.TheVariants.{Delete, Section, Text}
-use Rattle.origin_model.specs.order.Laws.{IsIn}
-use Rattle.origin_model.specs.operations.History.{element_of, holder}
-use Rattle.origin_model.specs.order.Order.{order}
-use Rattle.origin_model.specs.order.Printed.{is_hidden, scalar_of, shown, text}
-use Rattle.origin_model.specs.operations.Verdict.{Lawful}
-use Rattle.origin_model.specs.declared.operations.place.Place.{Place}
-use Rattle.origin_model.specs.declared.operations.place.Place.TheVariants.{Catalogue as catalogue, Section as within}
-use Rattle.origin_model.proofs.operations.LookupLemmas.{holder-other, holder-own}
-use Rattle.origin_model.proofs.order.PlaceLemmas.{order-member}
-use Rattle.origin_model.proofs.operations.ReadyLemmas.{held_not_own, when_ready}
+use Rattle.origin_model.proofs.operations.LookupLemmas.{held_not_own, holder-other, holder-own, when_ready}
+use Rattle.origin_model.proofs.order.{order-member}
 use Rattle.origin_model.specs.edits.Edits.{Add, Cut, DropSection, IsEdit, Put, ReadyInTurn, extended, id_at, left_for, made, next_counter, put_in, right_for, spliced, typed, typed_ids}
 use Rattle.origin_model.proofs.edits.PutLemmas.{add_lands, put_lands}
 use Rattle.origin_model.proofs.edits.MadeLemmas.{put_made}
 use Rattle.origin_model.proofs.edits.CutLemmas.{cut_takes, drop_takes}
-use Rattle.std.specs.List.{All, Contains}
-use Rattle.std.proofs.lemmas.List.Elements.{All-take, All-drop, All-head, All-tail}
-use Rattle.fugue_ids.proofs.ListLemmas.{all_from_contains, contains_filter_from}
-use Rattle.fugue_ids.proofs.IdentifierLemmas.{id_eq-refl, not_some}
+use Rattle.std.proofs.lemmas.List.Elements.{All-take, All-drop}
 
 -- an edit of a section's text, by scalars: it replaces n of them from `at` on, and leaves the other texts
 pub record IsTextEdit (h ops : List Op) (s : Identifier) (at n : ℕ) (new : List ℕ) : Type 0 where
@@ -70,9 +55,8 @@ length_flat f (x ∷ xs) e =
 
 -- a text element has one scalar
 op_single : (s : Identifier) (op : Op) (x : Identifier) → element_of (within s) op ≡ Some x → IsSingle (scalar_of (Some op))
-op_single s (Section i l r t) x e = absurd (not_some x (sym e))
 op_single s (Text i q l r ch) x e = (ch, refl)
-op_single s (Delete i) x e = absurd (not_some x (sym e))
+op_single s _ x e = absurd (not_some x (sym e))
 
 -- what is shown is an element of the place
 member : (p : Place) (h : List Op) (x : Identifier) → Lawful h → Contains (shown p h) x → IsIn p h x

@@ -1,95 +1,51 @@
 -- The identifiers that an edit makes are new: no accepted or waiting operation has or names one of them.
-use Rattle.std.proofs.Common.{Bool, List, [], ap, arith, false, inl, inr, max, nat_eq, refl, subst, suc, sym, true, ℕ, ◌++◌, ◌<◌, ◌∙◌, ◌∷◌, ◌≡◌, ◌≤◌}
-use Rattle.std.specs.Prelude.{Some, flat_map, map, option_to_list}
-use Rattle.std.proofs.lemmas.Bool.{cases_Bool, eq-eqb, false_from_ne_true, true≢false}
-use Rattle.std.proofs.Math.Nat.{le_refl, le-max_left, le-max_right}
-use Rattle.fugue_ids.specs.Identifiers.{Identifier, id_eq}
-use Rattle.fugue_ids.specs.Ops.{id_of}
-use Rattle.fugue_ids.specs.declared.op.Op.{Op}
-use Rattle.origin_model.specs.operations.Counters.{counters_among, mentioned}
-use Rattle.origin_model.specs.operations.History.{holds, is_own}
-use Rattle.origin_model.specs.operations.Verdict.{names}
-use Rattle.origin_model.proofs.operations.LookupLemmas.{holds-other}
-use Rattle.origin_model.proofs.operations.OperationLemmas.{own_id}
+use Rattle.origin_model.proofs.Words.{All, All-cons, All-head, All-nil, All-weaker, Bool, Delete, Identifier, List, Op, Some, [], all_before, all_behind, all_from_contains, all_from_map, ap, arith, eq-eqb, false, false_from_ne_true, filter, flat_map, holds, id_eq, id_eq-true, id_held, id_of, is_own, map, names, nat_eq, option_to_list, origin_eq, refl, subst, sym, true, ℕ, ◌++◌, ◌<◌, ◌∙◌, ◌∷◌, ◌≡◌, ◌≤◌}
+use Rattle.std.proofs.lemmas.Grind.{flat_map-append}
+use Rattle.fugue_ids.proofs.ListLemmas.{all_from_filter}
 use Rattle.origin_model.specs.edits.Edits.{above_all, id_at, next_counter}
-use Rattle.fugue_ids.proofs.IdentifierLemmas.{id_eq-true}
-use Rattle.origin_model.proofs.order.ListPartLemmas.{filter_no, filter_yes}
+use Rattle.origin_model.specs.operations.Counters.{counters, mentioned}
+use Rattle.origin_model.proofs.operations.LookupLemmas.{holds-other, own_id}
 
 -- an identifier of the replica has a counter below c
 abbrev pub IsBelow : (r c : ℕ) → Identifier → Type 0
 IsBelow r c i = nat_eq i.replica r ≡ true → i.counter < c
 
--- each identifier of the replica has a counter below c
-abbrev pub Below : (r c : ℕ) → List Identifier → Type 0
-Below r c [] = Unit {0}
-Below r c (i ∷ ids) = IsBelow r c i × Below r c ids
-
--- the same of all that operations have or name
+-- each that operations have or name is so
 abbrev pub BelowAll : (r c : ℕ) → List Op → Type 0
-BelowAll r c [] = Unit {0}
-BelowAll r c (op ∷ ops) = Below r c (mentioned op) × BelowAll r c ops
+BelowAll r c ops = All (IsBelow r c) (flat_map mentioned ops)
 
--- of a front
-below_left : (r c : ℕ) (xs ys : List Identifier) → Below r c (xs ++ ys) → Below r c xs
-below_left r c [] ys b = tt
-below_left r c (x ∷ xs) ys b = (b.0, below_left r c xs ys b.1)
-
--- of a rest
-below_right : (r c : ℕ) (xs ys : List Identifier) → Below r c (xs ++ ys) → Below r c ys
-below_right r c [] ys b = b
-below_right r c (x ∷ xs) ys b = below_right r c xs ys b.1
-
--- what is above all counters of the replica is above each
-below_from : (r c : ℕ) (ids : List Identifier) → above_all (counters_among r ids) ≤ c → Below r c ids
-below_from r c [] k = tt
-below_from r c (i ∷ ids) k =
-    let test : Identifier → Bool = λ id. nat_eq id.replica r in
-    let numbers : List Identifier → List ℕ = λ xs. map (λ id. id.counter) xs in
-    elim (cases_Bool (nat_eq i.replica r)) [
-      | inl t ↦
-          let e : counters_among r (i ∷ ids) ≡ i.counter ∷ counters_among r ids = ap numbers (filter_yes test i ids t) in
-          let m : max (suc i.counter) (above_all (counters_among r ids)) ≤ c = subst (λ ns. above_all ns ≤ c) e k in
-          let a : suc i.counter ≤ max (suc i.counter) (above_all (counters_among r ids)) = le-max_left (suc i.counter) (above_all (counters_among r ids)) in
-          let b : above_all (counters_among r ids) ≤ max (suc i.counter) (above_all (counters_among r ids)) = le-max_right (suc i.counter) (above_all (counters_among r ids)) in
-          ((λ z. omega (arith, a, m)), below_from r c ids (omega (arith, b, m)))
-      | inr t ↦
-          let e : counters_among r (i ∷ ids) ≡ counters_among r ids = ap numbers (filter_no test i ids t) in
-          ((λ z. absurd (true≢false (sym z ∙ t))), below_from r c ids (subst (λ ns. above_all ns ≤ c) e k))
-    ]
-
--- what is above all that operations have or name is above each
-all_below : (r c : ℕ) (ops : List Op) → Below r c (flat_map mentioned ops) → BelowAll r c ops
-all_below r c [] b = tt
-all_below r c (op ∷ ops) b = (below_left r c (mentioned op) (flat_map mentioned ops) b, all_below r c ops (below_right r c (mentioned op) (flat_map mentioned ops) b))
-
--- of the first operations
-all_left : (r c : ℕ) (h w : List Op) → BelowAll r c (h ++ w) → BelowAll r c h
-all_left r c [] w b = tt
-all_left r c (op ∷ h) w b = (b.0, all_left r c h w b.1)
-
--- of the others
-all_right : (r c : ℕ) (h w : List Op) → BelowAll r c (h ++ w) → BelowAll r c w
-all_right r c [] w b = b
-all_right r c (op ∷ h) w b = all_right r c h w b.1
+-- what is above all numbers is above each
+members_below : (ns : List ℕ) → All (λ n. n < above_all ns) ns
+members_below [] = All-nil (λ n. n < above_all [])
+members_below (n ∷ ns) =
+    All-cons (λ m. m < above_all (n ∷ ns)) n ns (omega arith) (All-weaker (λ m. m < above_all ns) (λ m. m < above_all (n ∷ ns)) (λ m l. omega arith) ns (members_below ns))
 
 -- the next counter is above all that operations have or name
 next_below : (r : ℕ) (h w : List Op) → BelowAll r (next_counter r h w) (h ++ w)
-next_below r h w = all_below r (next_counter r h w) (h ++ w) (below_from r (next_counter r h w) (flat_map mentioned (h ++ w)) (le_refl (next_counter r h w)))
+next_below r h w =
+    let ids : List Identifier = flat_map mentioned (h ++ w) in
+    let own : Identifier → Bool = λ i. nat_eq i.replica r in
+    all_from_filter own (λ i. i.counter < next_counter r h w) ids
+    (all_from_map (λ i. i.counter) (λ n. n < next_counter r h w) (filter own ids) (members_below (counters r (h ++ w))))
 
--- the next counter is above all that accepted operations have or name
+-- all that accepted operations have or name
 pub history_below : (r : ℕ) (h w : List Op) → BelowAll r (next_counter r h w) h
-history_below r h w = all_left r (next_counter r h w) h w (next_below r h w)
+history_below r h w =
+    let P : Identifier → Type 0 = IsBelow r (next_counter r h w) in
+    all_before P (flat_map mentioned h) (flat_map mentioned w) (subst (All P) (flat_map-append mentioned h w) (next_below r h w))
 
--- and above all that waiting ones have or name
+-- and all that waiting ones have or name
 pub waiting_below : (r : ℕ) (h w : List Op) → BelowAll r (next_counter r h w) w
-waiting_below r h w = all_right r (next_counter r h w) h w (next_below r h w)
+waiting_below r h w =
+    let P : Identifier → Type 0 = IsBelow r (next_counter r h w) in
+    all_behind P (flat_map mentioned h) (flat_map mentioned w) (subst (All P) (flat_map-append mentioned h w) (next_below r h w))
 
 -- an identifier from c on is none of them
-pub not_mine : (r c n : ℕ) (i : Identifier) → IsBelow r c i → c ≤ n → id_eq (id_at r n) i ≡ false
+not_mine : (r c n : ℕ) (i : Identifier) → IsBelow r c i → c ≤ n → id_eq (id_at r n) i ≡ false
 not_mine r c n i b k =
     false_from_ne_true _ (λ t.
     let e : id_at r n ≡ i = id_eq-true (id_at r n) i t in
-    let l : i.counter < c = b (eq-eqb i.replica r (sym (ap (λ z. z.replica) e))) in
+    let l : i.counter < c = b (eq-eqb i.replica r (ap (λ z. z.replica) (sym e))) in
     let m : n ≡ i.counter = ap (λ z. z.counter) e in
     omega (arith, l, m, k))
 
@@ -98,19 +54,32 @@ abbrev pub NoneFrom : (r c : ℕ) → List Op → Type 0
 NoneFrom r c h = (n : ℕ) → c ≤ n → holds h (id_at r n) ≡ false
 
 -- an identifier from c on is not the operation's own
-own_below : (r c n : ℕ) (op : Op) → Below r c (mentioned op) → c ≤ n → is_own (id_at r n) op ≡ false
+own_below : (r c n : ℕ) (op : Op) → All (IsBelow r c) (mentioned op) → c ≤ n → is_own (id_at r n) op ≡ false
 own_below r c n op b k =
     false_from_ne_true _ (λ t.
-    let e : id_of op ≡ Some (id_at r n) = own_id op (id_at r n) t in
-    let d : IsBelow r c (id_at r n) = (subst (λ o. Below r c (option_to_list o ++ map (λ named. named.0) (names op))) e b).0 in
+    let named : List Identifier = map (λ named. named.0) (names op) in
+    let d = All-head (IsBelow r c) (id_at r n) named (subst (λ o. All (IsBelow r c) (option_to_list o ++ named)) (own_id op (id_at r n) t) b) in
     let l : n < c = d (eq-eqb r r refl) in
     omega (arith, l, k))
 
 -- a history whose counters are below c holds none from c on
 pub none_from : (r c : ℕ) (h : List Op) → BelowAll r c h → NoneFrom r c h
 none_from r c [] b n k = refl
-none_from r c (op ∷ h) b n k = holds-other op h (id_at r n) (own_below r c n op b.0 k) ∙ none_from r c h b.1 n k
+none_from r c (op ∷ h) b n k =
+    holds-other op h (id_at r n) (own_below r c n op (all_before (IsBelow r c) (mentioned op) (flat_map mentioned h) b) k)
+    ∙ none_from r c h (all_behind (IsBelow r c) (mentioned op) (flat_map mentioned h) b) n k
 
--- what an operation names
-pub names_below : (r c : ℕ) (op : Op) → Below r c (mentioned op) → Below r c (map (λ named. named.0) (names op))
-names_below r c op b = below_right r c (option_to_list (id_of op)) (map (λ named. named.0) (names op)) b
+-- no operation that waits has or names the operation's own identifier
+abbrev pub IsUnknown : List Op → Op → Type 0
+IsUnknown w op = (id_held w (id_of op) ≡ false) × All (λ i. is_own i op ≡ false) (flat_map mentioned w)
+
+-- a new operation is unknown
+pub new_unknown : (r c n : ℕ) (w : List Op) (op : Op) → id_of op ≡ Some (id_at r n) → BelowAll r c w → c ≤ n → IsUnknown w op
+new_unknown r c n w op e b k = (
+  ap (id_held w) e ∙ none_from r c w b n k,
+  All-weaker (IsBelow r c) (λ i. is_own i op ≡ false) (λ i l. ap (λ o. origin_eq o (Some i)) e ∙ not_mine r c n i l k) (flat_map mentioned w) b,
+)
+
+-- a Delete has no identifier
+pub delete_unknown : (w : List Op) (x : Identifier) → IsUnknown w (Delete x)
+delete_unknown w x = (refl, all_from_contains (λ i. is_own i (Delete x) ≡ false) (flat_map mentioned w) (λ i m. refl))

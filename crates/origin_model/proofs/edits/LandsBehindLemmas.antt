@@ -1,37 +1,13 @@
 -- Where an element lands whose origins stand next to each other.
-use Rattle.std.proofs.Common.{◌≡◌, ◌≢◌, refl, sym, ◌∙◌, ap, subst, List, [], ◌∷◌, ◌++◌, Bool, true, false, inl, inr, ◌⊎◌, append_assoc, arith}
-use Rattle.std.specs.Prelude.{Option, Some, None, is_some, IfSome, Contains, length, slice_index_or, ℕ, zero, suc, ◌<◌, if◌then◌else◌}
-use Rattle.std.proofs.lemmas.Bool.{cases_Bool, true≢false, false≢true, false_from_ne_true}
-use Rattle.std.proofs.lemmas.List.{append-nil, same_from_push}
-use Rattle.fugue_ids.specs.Identifiers.{Identifier, origin_eq}
-use Rattle.fugue_ids.specs.declared.op.Op.{Op}
-use Rattle.origin_model.specs.order.Laws.{IsIn}
-use Rattle.origin_model.specs.operations.History.{is_own, holder, left_of, right_of, element_of}
-use Rattle.origin_model.specs.order.Order.{IsOrderedBy, before_in, chain_before, fork_before, has_left, left_at, lefts, next_left, next_right, older_of, order, placed, right_beside, rights, sibling}
-use Rattle.origin_model.specs.operations.Verdict.{Lawful}
-use Rattle.origin_model.specs.declared.operations.place.Place.{Place}
+use Rattle.origin_model.proofs.Words.{All, All-contains, All-head, All-tail, Bool, Contains, Contains-append_cases, Contains-append_left, Contains-append_right, Identifier, IsIn, IsOrderedBy, Lawful, List, None, Op, Option, Place, Some, [], all_from_contains, all_pairs_before, all_pairs_behind, ap, append-nil, append_assoc, arith, before_in, cases_Bool, cases_origin, chain_before, contains_here, contains_middle, element_of, false, false_from_ne_true, false≢true, fork_before, has_left, holder, if◌then◌else◌, inl, inr, is_own, is_some, left_at, left_of, lefts, length, next_left, next_right, order, origin_eq, placed, refl, right_beside, right_of, rights, same_from_push, sibling, slice_index_or, subst, suc, sym, true, true≢false, zero, ℕ, ◌++◌, ◌<◌, ◌∙◌, ◌∷◌, ◌≡◌, ◌≢◌, ◌⊎◌}
+use Rattle.std.specs.Prelude.{IfSome}
 use Rattle.origin_model.specs.declared.sides.slot.Slot.TheVariants.{RightOf}
-use Rattle.origin_model.proofs.order.ChainFrontLemmas.{has_left-at, left_by, lefts-above, lefts-prefix}
-use Rattle.origin_model.proofs.order.ChainOrderLemmas.{chain_before-fork, chain_before-same}
-use Rattle.origin_model.proofs.order.ChainPartLemmas.{common, parts}
-use Rattle.origin_model.proofs.order.ListPartLemmas.{first_of, last_of, no_member, front_before}
-use Rattle.origin_model.proofs.operations.LookupLemmas.{IsHeld}
-use Rattle.origin_model.proofs.operations.OperationLemmas.{element_own}
-use Rattle.origin_model.proofs.order.OrderLemmas.{before_in-older, order-ordered, order-some}
-use Rattle.origin_model.proofs.order.OrderedListLemmas.{Ordered-agree, placed-behind, placed-first}
-use Rattle.origin_model.proofs.order.PartLemmas.{has_left_by}
-use Rattle.origin_model.proofs.order.PlaceLemmas.{IsIn-held, lefts-in, order-has, order-in}
-use Rattle.origin_model.proofs.operations.ReadyLemmas.{held_not_own, left_named, when_ready}
-use Rattle.origin_model.proofs.sides.SlotLemmas.{IsThere, left_from}
-use Rattle.origin_model.proofs.order.StrictOrderLemmas.{before_in-irrefl, before_in-trans}
+use Rattle.origin_model.proofs.order.{IsIn-held, before_in-irrefl, before_in-trans, chain-ends, chain-other, chain-own, chain_above, chain_before-fork, chain_before-same, common, first_of, front_before, has_left-at, has_left_by, last_of, left_by, lefts-above, lefts-in, lefts-prefix, never_none, no_member, order-has, order-in, order-ordered, order-some, order_total, parts, placed-behind, placed-first, same_chain, stay_ordered}
+use Rattle.origin_model.proofs.operations.LookupLemmas.{IsHeld, element_own, held_not_own, left_named, when_ready}
+use Rattle.origin_model.proofs.sides.SlotLemmas.{IsThere, left_from, there}
 use Rattle.origin_model.specs.edits.Landing.{LandsBehind, LandsBehindOrigin, end_of, following, head_of}
-use Rattle.origin_model.proofs.order.OrderLawLemmas.{order_total}
 use Rattle.origin_model.proofs.edits.SplitLemmas.{Distinct, end_none, end_push, end_split, following_end, head_none, head_split}
-use Rattle.std.specs.List.{All}
-use Rattle.std.proofs.lemmas.List.Elements.{All-contains, Contains-append_left, Contains-append_right, Contains-append_cases, All-head, All-tail}
-use Rattle.fugue_ids.proofs.ListLemmas.{all_from_contains, all_pairs_before, all_pairs_behind, contains_here, contains_middle}
-use Rattle.fugue_ids.proofs.IdentifierLemmas.{cases_origin, origin_eq-refl}
-use Rattle.origin_model.proofs.order.ChainLemmas.{chain-ends, chain-other, chain-own, chain_above, never_none, same_chain}
+use Rattle.fugue_ids.proofs.IdentifierLemmas.{origin_eq-refl}
 
 -- a look-up whose left origin is known says so
 pub has_left_from : (o : Option Op) (l : Option Identifier) → is_some o ≡ true → left_by o ≡ l → has_left_by l o ≡ true
@@ -47,11 +23,6 @@ placed_between q (e ∷ es) back x f g = placed-behind q e (es ++ back) x (All-h
 nonempty : (F : Identifier → Identifier → Bool) (xs : List Identifier) → (xs ≡ [] → ⊥) → chain_before true F [] xs ≡ true
 nonempty F [] n = absurd (n refl)
 nonempty F (x ∷ xs) n = refl
-
--- an origin that is held, as a slot
-there : (h : List Op) (l : Option Identifier) → ((q : Identifier) → l ≡ Some q → IsHeld h q) → IsThere h (RightOf l)
-there h None f = tt
-there h (Some q) f = f q refl
 
 module _ (p : Place) (op : Op) (older : List Op) (x : Identifier) (front back : List Identifier) (w : Lawful (op ∷ older)) (at : element_of p op ≡ Some x)
     (whole : order p older ≡ front ++ back) (at_end : left_of op ≡ end_of front) (at_head : right_of op ≡ head_of back) where
@@ -89,8 +60,7 @@ module _ (p : Place) (op : Op) (older : List Op) (x : Identifier) (front back : 
   re e m = chain-other next_right op older e (not_own e (IsIn-held p older e m))
 
   sorted : IsOrderedBy Bx (front ++ back)
-  sorted = subst (IsOrderedBy Bx) whole (Ordered-agree (before_in (order p (older_of older)) older) Bx (IsIn p older)
-      (λ a b k l. sym (before_in-older p op older w a b (IsIn-held p older a k) (IsIn-held p older b l))) (order p older) (order-in p older w.1) (order-ordered p older w.1))
+  sorted = subst (IsOrderedBy Bx) whole (stay_ordered p op older w (order-ordered p older w.1))
 
   loop : (a b : Identifier) → Bx a b ≡ true → Bx b a ≡ true → ⊥
   loop a b k j = true≢false (sym (before_in-trans (order p older) h a b a k j) ∙ before_in-irrefl (order p older) h a)
@@ -170,7 +140,7 @@ module _ (p : Place) (op : Op) (older : List Op) (x : Identifier) (front back : 
         true≢false (sym (front_before Bx front back l r sorted m r_back) ∙ ap (Bx l) d ∙ before_in-irrefl (order p older) h l)
 
     left_held' : IsThere older (RightOf (left_of op))
-    left_held' = there older (left_of op) (λ q e. left_named older op q (when_ready older op w.0).none_missing e)
+    left_held' = there older (left_of op) (λ q e. left_named older op q (when_ready older op w.0) e)
 
     right_goes : Bx x r ≡ true
     right_goes =

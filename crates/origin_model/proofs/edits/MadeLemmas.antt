@@ -1,15 +1,7 @@
 -- How many operations an edit makes, where they join, and which counter comes next.
-use Rattle.std.proofs.Common.{List, [], ap, append_assoc, arith, drop, length, refl, reverse, suc, sym, take, zero, ℕ, ◌+◌, ◌++◌, ◌∙◌, ◌∷◌, ◌≡◌, ◌≤◌}
-use Rattle.std.specs.Prelude.{None, Option, Some, slice_get}
+use Rattle.origin_model.proofs.Words.{Delete, Identifier, Lawful, List, None, Op, Option, Some, Text, [], accepted, ap, append-nil, append_assoc, arith, catalogue, drop, length, length-take-le, refl, reverse, reverse-append, shown, slice_get, suc, sym, take, within, zero, ℕ, ◌++◌, ◌+◌, ◌∙◌, ◌∷◌, ◌≡◌, ◌≤◌}
 use Rattle.std.proofs.Math.Seq.{take-nil}
-use Rattle.std.proofs.lemmas.List.{length-drop, length-map, length-take-le, append-nil, reverse-append}
-use Rattle.fugue_ids.specs.Identifiers.{Identifier}
-use Rattle.fugue_ids.specs.declared.op.Op.{Op}
-use Rattle.fugue_ids.specs.declared.op.Op.TheVariants.{Delete, Text}
-use Rattle.origin_model.specs.order.Printed.{shown}
-use Rattle.origin_model.specs.declared.operations.place.Place.TheVariants.{Catalogue as catalogue, Section as within}
-use Rattle.origin_model.specs.operations.History.{accepted}
-use Rattle.origin_model.specs.operations.Verdict.{Lawful}
+use Rattle.std.proofs.lemmas.List.{length-drop, length-map}
 use Rattle.origin_model.specs.edits.Edits.{ReadyInTurn, Cut, DropSection, extended, Put, cut_in, deletes_of, id_at, left_for, made, next_counter, put_in, right_for, typed}
 
 -- the operations stand at the end of the accepted ones

@@ -1,11 +1,9 @@
 -- The next counter is one more than the greatest.
-use Rattle.std.proofs.Common.{List, [], ap, arith, length, max, nat_eq, refl, suc, zero, ℕ, ◌++◌, ◌<◌, ◌∙◌, ◌∷◌, ◌≡◌, ◌≤◌}
-use Rattle.std.specs.Prelude.{All, None, Option, Some, filter, flat_map, map, slice_index_or}
+use Rattle.origin_model.proofs.Words.{All, All-head, All-tail, List, None, Op, Option, Some, [], ap, arith, filter, filter-append, flat_map, length, map, nat_eq, refl, slice_index_or, suc, zero, ℕ, ◌++◌, ◌<◌, ◌∙◌, ◌∷◌, ◌≡◌, ◌≤◌}
+use Rattle.std.proofs.Common.{max}
 use Rattle.std.proofs.Math.Nat.{le-max_left, le-max_right}
 use Rattle.std.proofs.lemmas.Grind.{flat_map-append}
 use Rattle.std.proofs.lemmas.List.{map-append}
-use Rattle.std.proofs.lemmas.List.Elements.{filter-append, All-head, All-tail}
-use Rattle.fugue_ids.specs.declared.op.Op.{Op}
 use Rattle.origin_model.specs.operations.Counters.{counters, counters_among, IsGreatest, mentioned}
 use Rattle.origin_model.specs.edits.Edits.{above_all, next_counter, next_of}
 

@@ -1,33 +1,13 @@
 -- Subtrees stand together, what hangs on an element's left stands directly before it, ties go by identifier, and passages are never mixed.
-use Rattle.std.proofs.Common.{Bool, List, [], ap, append_assoc, arith, false, inl, inr, refl, subst, sym, true, ℕ, ◌++◌, ◌∙◌, ◌∷◌, ◌≡◌, ◌≢◌}
-use Rattle.std.specs.List.{AllByRecursion, Contains}
-use Rattle.std.specs.Prelude.{All, Some}
-use Rattle.std.proofs.lemmas.Bool.{true≢false}
+use Rattle.origin_model.proofs.Words.{All, AllByRecursion, Bool, Contains, Identifier, IsIn, Lawful, List, Op, Passes, Place, Some, [], ap, append-nil, append_assoc, append_cancel_left, arith, before, before_in, cases_id, chain_before, false, fork_before, has_left, holder, id_lt, index_of_origin, inl, inr, left_at, left_of, lefts, next_left, next_right, older_of, order, ranked, refl, right_at, right_of, rights, sibling, subst, sym, true, true≢false, ℕ, ◌++◌, ◌∙◌, ◌∷◌, ◌≡◌, ◌≢◌}
 use Rattle.std.proofs.lemmas.Bool.Decides.{nat_tests}
-use Rattle.std.proofs.lemmas.List.{append-nil, append_cancel_left}
 use Rattle.std.proofs.lemmas.List.Elements.{All-from_recursion}
-use Rattle.fugue_ids.specs.Identifiers.{Identifier, id_lt}
-use Rattle.fugue_ids.specs.declared.op.Op.{Op}
-use Rattle.origin_model.specs.order.Laws.{IsIn}
-use Rattle.origin_model.specs.operations.History.{holder, left_of, right_of}
-use Rattle.origin_model.specs.order.Order.{Passes, before, before_in, chain_before, fork_before, has_left, index_of_origin, left_at, lefts, next_left, next_right, older_of, order, ranked, right_at, rights, sibling}
 use Rattle.origin_model.specs.sides.Slot.{slot_by}
-use Rattle.origin_model.specs.operations.Verdict.{Lawful}
-use Rattle.origin_model.specs.declared.operations.place.Place.{Place}
 use Rattle.origin_model.specs.edits.Passages.{BeforeRight, ByIdentifier, GoesBackward, GoesForward, IsOnLeft, IsPassage, NeverMixed, Together}
-use Rattle.origin_model.proofs.order.ChainFrontLemmas.{left_at-is, lefts-above, lefts-prefix}
-use Rattle.origin_model.proofs.order.ChainOrderLemmas.{chain_before-fork}
-use Rattle.origin_model.proofs.order.ChainPartLemmas.{common, parts, turns}
-use Rattle.origin_model.proofs.order.ListPartLemmas.{heads}
-use Rattle.origin_model.proofs.operations.LookupLemmas.{IsHeld, found}
-use Rattle.origin_model.proofs.order.PartLemmas.{rights-at}
-use Rattle.origin_model.proofs.order.PlaceLemmas.{IsIn-held}
-use Rattle.origin_model.proofs.operations.ReadyLemmas.{right_by}
+use Rattle.origin_model.proofs.order.{IsIn-held, before_in-irrefl, before_in-trans, chain_above, chain_before-fork, common, heads, left_at-is, lefts-above, lefts-prefix, parts, rights-at, same_chain, sibling-irrefl, sibling-trans, turns}
+use Rattle.origin_model.proofs.operations.LookupLemmas.{IsHeld, found, right_by}
 use Rattle.origin_model.proofs.sides.SlotLemmas.{left_there, over, slot-yes, slot_by-over, under_left}
-use Rattle.origin_model.proofs.order.StrictOrderLemmas.{before_in-irrefl, before_in-trans, sibling-irrefl, sibling-trans}
 use Rattle.origin_model.proofs.edits.LandsBehindLemmas.{has_left_from, cut_member}
-use Rattle.fugue_ids.proofs.IdentifierLemmas.{cases_id}
-use Rattle.origin_model.proofs.order.ChainLemmas.{chain_above, same_chain}
 
 -- the comparison of two elements, by the order before the newest operation
 before-is : (p : Place) (h : List Op) (x y : Identifier) → before p h x y ≡ before_in (order p (older_of h)) h x y

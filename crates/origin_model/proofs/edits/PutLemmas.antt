@@ -1,40 +1,14 @@
 -- Elements of a put, and a section that is added: each is Ready in its turn, and they land directly behind the left origin, in the order in which they are made.
-use Rattle.std.proofs.Common.{Bool, List, [], ap, append_assoc, arith, drop, false, inl, inr, length, not, refl, subst, suc, sym, take, true, ℕ, ◌+◌, ◌++◌, ◌∙◌, ◌∷◌, ◌≡◌, ◌≢◌, ◌≤◌}
-use Rattle.std.specs.Option.{option_or}
-use Rattle.std.specs.Prelude.{None, Option, Some, filter, is_some, slice_get, if◌then◌else◌}
-use Rattle.std.proofs.lemmas.List.Elements.{filter-append, All-nil, All-cons}
-use Rattle.std.proofs.lemmas.List.{append-nil}
-use Rattle.std.proofs.lemmas.Bool.{cases_Bool, false_from_ne_true, true≢false}
-use Rattle.fugue_ids.specs.Identifiers.{Identifier, id_eq, origin_eq}
-use Rattle.fugue_ids.specs.Ops.{id_of}
-use Rattle.fugue_ids.specs.declared.op.Op.{Op}
-use Rattle.fugue_ids.specs.declared.op.Op.TheVariants.{Delete, Section, Text}
-use Rattle.origin_model.specs.order.Laws.{IsIn}
-use Rattle.origin_model.specs.operations.History.{element_of, has_op, holds, is_own}
-use Rattle.origin_model.specs.order.Order.{order}
-use Rattle.origin_model.specs.order.Printed.{is_hidden, shown}
-use Rattle.origin_model.specs.operations.Verdict.{Lawful, first_missing, first_stray, fits, given_as, verdict}
-use Rattle.origin_model.specs.declared.operations.place.Place.{Place}
-use Rattle.origin_model.specs.declared.operations.place.Place.TheVariants.{Catalogue as catalogue, Section as within}
-use Rattle.origin_model.specs.declared.operations.role.Role.{Role}
-use Rattle.origin_model.specs.declared.operations.role.Role.TheVariants.{Section as SectionRole, TextOf}
-use Rattle.origin_model.specs.declared.operations.verdict.Verdict.TheVariants.{Ready}
-use Rattle.origin_model.proofs.operations.CauseLemmas.{becomes_ready, missing-held, stray-fits}
+use Rattle.origin_model.proofs.Words.{All-append, names, All, All-cons, All-nil, AllPairs, Bool, Delete, Identifier, IsIn, Lawful, List, None, Op, Option, Place, Ready, Role, Section, SectionRole, Some, Text, TextOf, [], ap, append-nil, append_assoc, arith, cases_Bool, catalogue, contains_filter_from, drop, element_of, false, false_from_ne_true, filter, filter-append, fits, given_as, has_op, holds, id_eq, id_eq-refl, id_eq-true, id_of, if◌then◌else◌, inl, inr, is_hidden, is_own, is_some, length, ne-id_eq, not, not_some, order, origin_eq, refl, shown, slice_get, subst, suc, sym, take, true, true≢false, verdict, within, ℕ, ◌++◌, ◌+◌, ◌∙◌, ◌∷◌, ◌≡◌, ◌≢◌, ◌≤◌}
+use Rattle.origin_model.proofs.operations.CauseLemmas.{becomes_ready}
+use Rattle.origin_model.proofs.operations.LookupLemmas.{Fits, all_fit, has-holder, holds-other, when_ready}
 use Rattle.origin_model.proofs.operations.FoundedLemmas.{not_hidden_before}
-use Rattle.origin_model.proofs.operations.LookupLemmas.{holds-other}
-use Rattle.origin_model.proofs.order.OrderLemmas.{order-none}
-use Rattle.origin_model.proofs.order.OrderLawLemmas.{order_total}
-use Rattle.origin_model.proofs.order.PlaceLemmas.{IsIn-older, order-member}
-use Rattle.origin_model.proofs.order.PositionLemmas.{Stands}
-use Rattle.origin_model.proofs.operations.ReadyLemmas.{first_missing-append, first_stray-append, has-holder, when_ready}
+use Rattle.origin_model.proofs.order.{IsIn-older, Stands, order-member, order-none, order_total}
 use Rattle.origin_model.specs.edits.Edits.{Add, IsEdit, Put, ReadyInTurn, extended, id_at, left_for, made, next_counter, put_in, right_for, typed, typed_ids}
 use Rattle.origin_model.specs.edits.Landing.{StandsBehind, end_of, following, head_of}
 use Rattle.origin_model.proofs.edits.FreshIdLemmas.{NoneFrom, history_below, none_from}
 use Rattle.origin_model.proofs.edits.LandsBehindLemmas.{lands_behind}
 use Rattle.origin_model.proofs.edits.SplitLemmas.{is_shown, Split, end_push, end_stands, filter_all, following_end, get_in, head_stands, split, split_origin}
-use Rattle.std.specs.List.{All, AllPairs}
-use Rattle.fugue_ids.proofs.ListLemmas.{contains_filter_from}
-use Rattle.fugue_ids.proofs.IdentifierLemmas.{id_eq-true, id_eq-refl, ne-id_eq, not_some}
 
 -- the role of the origins of a place's elements
 abbrev role_in : Place → Role
@@ -44,30 +18,20 @@ role_in (within s) = TextOf s
 -- an element of the place has it
 fits_place : (p : Place) (op : Op) (x : Identifier) → element_of p op ≡ Some x → fits (role_in p) op ≡ true
 fits_place catalogue (Section i l r t) x e = refl
-fits_place catalogue (Text i s l r c) x e = absurd (not_some x (sym e))
-fits_place catalogue (Delete i) x e = absurd (not_some x (sym e))
-fits_place (within s) (Section i l r t) x e = absurd (not_some x (sym e))
 fits_place (within s) (Text i q l r c) x e =
     elim (id_eq q s) as (λ (b : Bool). (if b then Some i else None) ≡ Some x → b ≡ true) [ true ↦ (λ k. refl) | false ↦ (λ k. absurd (not_some x (sym k))) ] e
+fits_place catalogue (Text i s l r c) x e = absurd (not_some x (sym e))
+fits_place (within s) (Section i l r t) x e = absurd (not_some x (sym e))
+fits_place catalogue (Delete i) x e = absurd (not_some x (sym e))
 fits_place (within s) (Delete i) x e = absurd (not_some x (sym e))
 
--- names that are held and fit
-abbrev AllFit : List Op → List (Identifier × Role) → Type 0
-AllFit h ns = (first_stray h ns ≡ None) × (first_missing h ns ≡ None)
-
--- of two lists
-fit-append : (h : List Op) (xs ys : List (Identifier × Role)) → AllFit h xs → AllFit h ys → AllFit h (xs ++ ys)
-fit-append h xs ys a b =
-    (first_stray-append h xs ys ∙ (λ i. option_or (a.0 i) (b.0 i)), first_missing-append h xs ys ∙ (λ i. option_or (a.1 i) (b.1 i)))
-
 -- an element of the place fits
-one_fit : (p : Place) (h : List Op) (x : Identifier) → IsIn p h x → AllFit h ((x, role_in p) ∷ [])
-one_fit p h x m =
-    (stray-fits h (x, role_in p) [] m.op m.held (fits_place p m.op x m.place), missing-held h (x, role_in p) [] m.op m.held)
+one_fit : (p : Place) (h : List Op) (x : Identifier) → IsIn p h x → All (Fits h) ((x, role_in p) ∷ [])
+one_fit p h x m = All-cons (Fits h) (x, role_in p) [] (m.op, m.held, fits_place p m.op x m.place) (All-nil (Fits h))
 
 -- an origin that stands in the order fits
-origin_fit : (p : Place) (h : List Op) (o : Option Identifier) → Lawful h → Stands o (order p h) → AllFit h (given_as (role_in p) o)
-origin_fit p h None w s = (refl, refl)
+origin_fit : (p : Place) (h : List Op) (o : Option Identifier) → Lawful h → Stands o (order p h) → All (Fits h) (given_as (role_in p) o)
+origin_fit p h None w s = All-nil (Fits h)
 origin_fit p h (Some x) w s = one_fit p h x (order-member p h x w s)
 
 -- a new identifier is no operation's
@@ -78,15 +42,15 @@ new_op h op x w e o k = false_from_ne_true _ (λ t. true≢false (sym (ap is_som
 text_ready : (h : List Op) (x s : Identifier) (l r : Option Identifier) (ch : ℕ) → Lawful h → holds h x ≡ false → IsIn catalogue h s → Stands l (order (within s) h) → Stands r (order (within s) h)
     → verdict h (Text x s l r ch) ≡ Ready
 text_ready h x s l r ch w k m a b =
-    let f = fit-append h ((s, SectionRole) ∷ given_as (TextOf s) l) (given_as (TextOf s) r)
-    (fit-append h ((s, SectionRole) ∷ []) (given_as (TextOf s) l) (one_fit catalogue h s m) (origin_fit (within s) h l w a)) (origin_fit (within s) h r w b) in
+    let first = All-append (Fits h) ((s, SectionRole) ∷ []) (given_as (TextOf s) l) (one_fit catalogue h s m) (origin_fit (within s) h l w a) in
+    let f = all_fit h (names (Text x s l r ch)) (All-append (Fits h) ((s, SectionRole) ∷ given_as (TextOf s) l) (given_as (TextOf s) r) first (origin_fit (within s) h r w b)) in
     becomes_ready h (Text x s l r ch) (new_op h (Text x s l r ch) x w refl (id_eq-refl x) k) k f.0 f.1
 
 -- a section between sections is Ready
 section_ready : (h : List Op) (x : Identifier) (l r : Option Identifier) (t : List ℕ) → Lawful h → holds h x ≡ false → Stands l (order catalogue h) → Stands r (order catalogue h)
     → verdict h (Section x l r t) ≡ Ready
 section_ready h x l r t w k a b =
-    let f = fit-append h (given_as SectionRole l) (given_as SectionRole r) (origin_fit catalogue h l w a) (origin_fit catalogue h r w b) in
+    let f = all_fit h (names (Section x l r t)) (All-append (Fits h) (given_as SectionRole l) (given_as SectionRole r) (origin_fit catalogue h l w a) (origin_fit catalogue h r w b)) in
     becomes_ready h (Section x l r t) (new_op h (Section x l r t) x w refl (id_eq-refl x) k) k f.0 f.1
 
 -- what operations that are elements of one place do

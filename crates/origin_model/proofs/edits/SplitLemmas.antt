@@ -1,18 +1,8 @@
 -- A list cut in two at a place of what is kept of it.
-use Rattle.std.proofs.Common.{Bool, List, [], ap, arith, drop, false, inl, inr, length, not, refl, subst, suc, sym, take, true, zero, ℕ, ◌++◌, ◌∙◌, ◌∷◌, ◌≡◌, ◌≢◌, ◌≤◌}
-use Rattle.std.specs.Prelude.{None, Option, Some, filter, slice_get, if◌then◌else◌}
-use Rattle.std.proofs.lemmas.Bool.{cases_Bool}
-use Rattle.fugue_ids.specs.Identifiers.{Identifier, id_eq}
-use Rattle.origin_model.proofs.order.ListPartLemmas.{no_member, not_nil, filter_no, filter_yes}
-use Rattle.origin_model.proofs.order.PositionLemmas.{Stands}
-use Rattle.fugue_ids.specs.declared.op.Op.{Op}
-use Rattle.origin_model.specs.order.Printed.{is_hidden}
+use Rattle.origin_model.proofs.Words.{All, All-contains, All-head, All-tail, AllPairs, Bool, Contains, Contains-append_left, Identifier, List, None, Op, Option, Some, [], all_pairs_head, all_pairs_tail, ap, arith, cases_Bool, cases_origin, contains_here, contains_middle, contains_there, drop, false, filter, id_eq, id_eq-refl, if◌then◌else◌, inl, inr, is_hidden, length, ne-id_eq, not, refl, slice_get, subst, suc, sym, take, true, zero, ℕ, ◌++◌, ◌∙◌, ◌∷◌, ◌≡◌, ◌≢◌, ◌≤◌}
+use Rattle.origin_model.proofs.order.{Stands, filter_no, filter_yes, no_member, not_nil}
 use Rattle.origin_model.specs.edits.Landing.{end_of, following, head_of}
 use Rattle.origin_model.specs.edits.Edits.{in_front}
-use Rattle.std.specs.List.{All, Contains, AllPairs}
-use Rattle.std.proofs.lemmas.List.Elements.{All-contains, Contains-append_left, All-head, All-tail}
-use Rattle.fugue_ids.proofs.IdentifierLemmas.{cases_origin, id_eq-refl, ne-id_eq}
-use Rattle.fugue_ids.proofs.ListLemmas.{all_pairs_head, all_pairs_tail, contains_here, contains_middle, contains_there}
 
 -- a list's end and its head
 pub end_split : (xs : List Identifier) (l : Identifier) → end_of xs ≡ Some l → (f : List Identifier) × (xs ≡ f ++ l ∷ [])

@@ -1,14 +1,10 @@
 -- A file by its parts: a new one, one with a further batch, and one with other bytes behind its gate.
-use Rattle.std.proofs.Common.{List, [], ap, append_assoc, arith, drop, length, nat_le, refl, suc, sym, take, true, ℕ, ◌+◌, ◌++◌, ◌&&◌, ◌<◌, ◌∙◌, ◌∷◌, ◌≡◌, ◌≢◌, ◌≤◌, ◌^◌}
+use Rattle.origin_model.proofs.Words.{All, All-append, All-cons, All-nil, AllByRecursion, List, Op, [], ap, append-nil, append_assoc, arith, drop, length, length-append, length-take-le, refl, suc, sym, take, take-append-drop, true, ℕ, ◌&&◌, ◌++◌, ◌+◌, ◌<◌, ◌^◌, ◌∙◌, ◌∷◌, ◌≡◌, ◌≢◌, ◌≤◌}
+use Rattle.std.proofs.Common.{nat_le}
 use Rattle.std.proofs.Math.Seq.{drop-append_seam, take-append-add, take-append_seam}
 use Rattle.std.proofs.lemmas.Bool.{and_from, and_parts, le-leb, leb-true}
-use Rattle.std.proofs.lemmas.List.{append-nil, length-append, length-take-le, take-append-drop}
-use Rattle.std.proofs.lemmas.List.Elements.{All-append, All-cons, All-nil}
 use Rattle.std.proofs.lemmas.Nat.{from_be_bytes-to_be_bytes_4}
-use Rattle.std.specs.List.{AllByRecursion}
-use Rattle.std.specs.Prelude.{All}
 use Rattle.fugue_ids.specs.declared.limits.TheConstants.{GREATEST_HOLD}
-use Rattle.fugue_ids.specs.declared.op.Op.{Op}
 use Rattle.origin_model.specs.declared.files.TheConstants.{LONGEST_BATCH}
 use Rattle.origin_model.specs.files.Image.{Batch, Content, HasImage, Holds, IsBatch, batch_ops, content_of, header, header_of, is_header, last_slot, new_file, open_slot, open_slots, slots_of}
 use Rattle.origin_model.specs.frames.Frames.{HasFrame, frames}

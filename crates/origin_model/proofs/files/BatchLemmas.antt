@@ -1,13 +1,9 @@
 -- Batches: the frames of operations are one, and bytes are told from other bytes by where they part.
-use Rattle.std.proofs.Common.{List, [], ap, arith, drop, length, refl, subst, sym, take, ℕ, ◌++◌, ◌<◌, ◌∙◌, ◌∷◌, ◌≡◌, ◌≤◌, ◌^◌}
+use Rattle.origin_model.proofs.Words.{AllByRecursion, List, Op, [], ap, append-nil, arith, drop, flat_map, length, map, refl, subst, sym, take, ℕ, ◌++◌, ◌<◌, ◌^◌, ◌∙◌, ◌∷◌, ◌≡◌, ◌≤◌}
 use Rattle.std.proofs.Math.Seq.{drop-append_seam, take-append_seam}
 use Rattle.std.proofs.lemmas.Grind.{flat_map-append}
-use Rattle.std.proofs.lemmas.List.{append-nil}
 use Rattle.std.proofs.lemmas.Nat.{from_be_bytes-to_be_bytes_4}
 use Rattle.std.specs.Int.{from_be_bytes, to_be_bytes, w32}
-use Rattle.std.specs.List.{AllByRecursion}
-use Rattle.std.specs.Prelude.{flat_map, map}
-use Rattle.fugue_ids.specs.declared.op.Op.{Op}
 use Rattle.origin_model.specs.declared.files.TheConstants.{LONGEST_BATCH}
 use Rattle.origin_model.specs.files.Image.{Batch, IsBatch, batch_ops, number_at, open_slot, open_slots}
 use Rattle.origin_model.specs.frames.Frames.{Framed, HasFrame, IsFrame, Reads, Whole, frame, frames}

@@ -1,8 +1,5 @@
 -- Small files of replica 1 with hold 16, and what they mean.
-use Rattle.std.proofs.Common.{◌≡◌, arith, refl, [], ◌∷◌, ◌++◌}
-use Rattle.std.proofs.lemmas.List.Elements.{All-nil}
-use Rattle.fugue_ids.specs.declared.op.Op.{Op}
-use Rattle.fugue_ids.specs.declared.op.Op.TheVariants.{Delete}
+use Rattle.origin_model.proofs.Words.{All-nil, Delete, Op, [], arith, refl, ◌++◌, ◌∷◌, ◌≡◌}
 use Rattle.origin_model.specs.files.Image.{BadBatch, HasImage, Holds, IsBatch, NoGate, NotReplica, header, new_file}
 use Rattle.origin_model.specs.frames.Frames.{frame}
 use Rattle.origin_model.proofs.files.AppendLemmas.{batch_appended, new_file_holds}
@@ -14,13 +11,9 @@ new_file_is = refl
 new_file_is_empty : HasImage (new_file 1 16) (Holds (record { replica = 1; hold = 16; ops = []; at = 13; slots = 0 }))
 new_file_is_empty = new_file_holds 1 16 (omega arith) (omega arith) (omega arith) (omega arith)
 
--- 13 bytes are no file
-no_gate : HasImage (header 1 16) NotReplica
-no_gate = refl
-
--- nor are bytes that begin with 0
-no_mark : HasImage (0x00 ∷ 0x47 ∷ 0x4D ∷ 0x58 ∷ 1 ∷ 0 ∷ 0 ∷ 0 ∷ 1 ∷ 0 ∷ 0 ∷ 0 ∷ 16 ∷ 0 ∷ []) NotReplica
-no_mark = refl
+-- 13 bytes are no file, nor are bytes that begin with 0
+no_files : HasImage (header 1 16) NotReplica × HasImage (0x00 ∷ 0x47 ∷ 0x4D ∷ 0x58 ∷ 1 ∷ 0 ∷ 0 ∷ 0 ∷ 1 ∷ 0 ∷ 0 ∷ 0 ∷ 16 ∷ 0 ∷ []) NotReplica
+no_files = (refl, refl)
 
 -- a first gate of 7 ends the meaning
 first_gate_of_7 : HasImage (header 1 16 ++ 7 ∷ 0 ∷ 0 ∷ []) (Holds (record { replica = 1; hold = 16; ops = []; at = 13; slots = 0 }))

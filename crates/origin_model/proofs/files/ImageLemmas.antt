@@ -1,11 +1,7 @@
 -- The image of a file: one at most, told by its parts, and what a further batch makes of it.
-use Rattle.std.proofs.Common.{List, [], ap, append_assoc, arith, drop, length, refl, subst, suc, sym, take, ℕ, ◌+◌, ◌++◌, ◌<◌, ◌∙◌, ◌∷◌, ◌≡◌, ◌≢◌, ◌≤◌}
+use Rattle.origin_model.proofs.Words.{AllByRecursion, List, Op, [], ap, append_assoc, arith, drop, false≢true, length, length-append, refl, subst, suc, sym, take, ℕ, ◌++◌, ◌+◌, ◌<◌, ◌∙◌, ◌∷◌, ◌≡◌, ◌≢◌, ◌≤◌}
 use Rattle.std.proofs.Math.Seq.{take-append_seam}
-use Rattle.std.proofs.lemmas.Bool.{false≢true}
-use Rattle.std.proofs.lemmas.List.{length-append}
 use Rattle.std.proofs.lemmas.List.Elements.{recursion_from_All}
-use Rattle.std.specs.List.{AllByRecursion}
-use Rattle.fugue_ids.specs.declared.op.Op.{Op}
 use Rattle.origin_model.specs.files.Image.{BadBatch, Batch, Content, CutShort, EndsBadly, EndsWell, HasImage, Holds, Image, IsBatch, IsNoBatch, LastSlot, NoFrames, NoGate, NoLength, NotReplica, OpenSlots, TooLong, content_of, header_of, last_slot, number_at, open_slot, open_slots, slots_of}
 use Rattle.origin_model.specs.frames.Frames.{Reads, Whole}
 use Rattle.origin_model.proofs.files.BatchLemmas.{behind_number, number_is, same_batch}
@@ -20,7 +16,7 @@ empty [] e = refl
 empty (x ∷ xs) e = absurd (omega (arith, e))
 
 -- how the open slots end: by another gate than 1, or by an open slot of this number that has no batch
-data Ends (slot : ℕ) (rest : List ℕ) : Type 0 where
+pub data Ends (slot : ℕ) (rest : List ℕ) : Type 0 where
   Closed : (gate : ℕ) (more : List ℕ) → rest ≡ gate ∷ more → gate ≢ 1 → Ends slot rest
   Bad : (more : List ℕ) → rest ≡ 1 ∷ more → IsNoBatch slot more → Ends slot rest
 
@@ -37,16 +33,16 @@ no_fault slot b more bytes h n l e (NoGate k) = n (empty more (omega (arith, k, 
 no_fault slot b more bytes h n l e (LastSlot k) = omega (arith, k, l)
 
 -- no open slot with a byte behind it stands where the open slots end
-never : (slot : ℕ) (b : Batch) (more rest : List ℕ) → IsBatch b → more ≢ [] → slot < last_slot → rest ≡ open_slot b ++ more → Ends slot rest → ⊥
-never slot b more rest h n l e (Closed gate others d closed) = let one : gate ≡ 1 = cc (sym d ∙ e) in closed one
-never slot b more rest h n l e (Bad others d bad) =
+pub no_open_slot : (slot : ℕ) (b : Batch) (more rest : List ℕ) → IsBatch b → more ≢ [] → slot < last_slot → rest ≡ open_slot b ++ more → Ends slot rest → ⊥
+no_open_slot slot b more rest h n l e (Closed gate others d closed) = let one : gate ≡ 1 = cc (sym d ∙ e) in closed one
+no_open_slot slot b more rest h n l e (Bad others d bad) =
     let behind : others ≡ (b.number ++ b.bytes) ++ more = cc (sym d ∙ e) in
     no_fault slot b more others h n l (behind ∙ append_assoc b.number b.bytes more) bad
 
 -- a byte stands behind open slots
-not_empty : (bs : List Batch) (rest : List ℕ) → rest ≢ [] → open_slots bs ++ rest ≢ []
-not_empty [] rest n e = n e
-not_empty (b ∷ bs) rest n e = cc e
+pub slots_not_empty : (bs : List Batch) (rest : List ℕ) → rest ≢ [] → open_slots bs ++ rest ≢ []
+slots_not_empty [] rest n e = n e
+slots_not_empty (b ∷ bs) rest n e = cc e
 
 -- the first open slot and what stands behind it
 first_slot : (b : Batch) (bs : List Batch) (rest : List ℕ) → open_slots (b ∷ bs) ++ rest ≡ open_slot b ++ (open_slots bs ++ rest)
@@ -57,9 +53,9 @@ same_slots : ReadOnce → (k m n : ℕ) (bs cs : List Batch) (r q : List ℕ) �
     → m ≡ k + length bs → n ≡ k + length cs → m ≤ last_slot → n ≤ last_slot → Ends m r → Ends n q → r ≢ [] → q ≢ [] → (bs ≡ cs) × (r ≡ q)
 same_slots once k m n [] [] r q a b e mk nk ml nl x y f g = (refl, e)
 same_slots once k m n [] (c ∷ cs) r q a b e mk nk ml nl x y f g =
-    absurd (never m c (open_slots cs ++ q) r b.0 (not_empty cs q g) (omega (arith, mk, nk, nl)) (e ∙ first_slot c cs q) x)
+    absurd (no_open_slot m c (open_slots cs ++ q) r b.0 (slots_not_empty cs q g) (omega (arith, mk, nk, nl)) (e ∙ first_slot c cs q) x)
 same_slots once k m n (c ∷ cs) [] r q a b e mk nk ml nl x y f g =
-    absurd (never n c (open_slots cs ++ r) q a.0 (not_empty cs r f) (omega (arith, mk, nk, ml)) (sym e ∙ first_slot c cs r) y)
+    absurd (no_open_slot n c (open_slots cs ++ r) q a.0 (slots_not_empty cs r f) (omega (arith, mk, nk, ml)) (sym e ∙ first_slot c cs r) y)
 same_slots once k m n (b ∷ bs) (c ∷ cs) r q x y e mk nk ml nl u v f g =
     let d : (b.number ++ b.bytes) ++ (open_slots bs ++ r) ≡ (c.number ++ c.bytes) ++ (open_slots cs ++ q) = cc (sym (first_slot b bs r) ∙ e ∙ first_slot c cs q) in
     let s = same_batch once b c (open_slots bs ++ r) (open_slots cs ++ q) x.0 y.0 (sym (append_assoc b.number b.bytes (open_slots bs ++ r)) ∙ d ∙ append_assoc c.number c.bytes (open_slots cs ++ q)) in

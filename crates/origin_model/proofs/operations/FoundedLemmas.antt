@@ -1,30 +1,13 @@
 -- What operations rest on is in the history before them.
-use Rattle.std.proofs.Common.{List, ℕ, [], ap, false, inl, inr, refl, subst, sym, true, ◌++◌, ◌∙◌, ◌∷◌, ◌≡◌}
-use Rattle.std.specs.Prelude.{Option, Some}
-use Rattle.std.proofs.lemmas.Bool.{false_from_ne_true, or_cases, true≢false}
-use Rattle.fugue_ids.specs.Identifiers.{Identifier}
-use Rattle.fugue_ids.specs.Ops.{id_of}
-use Rattle.fugue_ids.specs.declared.op.Op.{Op}
-use Rattle.fugue_ids.specs.declared.op.Op.TheVariants.{Delete, Section, Text}
-use Rattle.origin_model.specs.order.Laws.{IsIn}
+use Rattle.origin_model.proofs.Words.{All-head, is_some, Delete, Identifier, IsIn, Lawful, List, Op, Option, Ready, Section, SectionRole, Some, Text, TextOf, [], ap, cases_origin, catalogue, deletes, element_of, false, false_from_ne_true, given_as, holder, holds, id_eq-true, id_held, id_of, inl, inr, is_hidden, or_cases, refl, subst, sym, true, true≢false, verdict, within, ℕ, ◌++◌, ◌∙◌, ◌∷◌, ◌≡◌}
 use Rattle.origin_model.specs.sides.Node.{AreNodes, as_ops, find_node, node_order, nodes}
-use Rattle.origin_model.specs.operations.History.{element_of, holder, holds}
-use Rattle.origin_model.specs.order.Printed.{deletes, is_hidden}
-use Rattle.origin_model.specs.operations.Verdict.{Lawful, given_as, id_held, verdict}
 use Rattle.origin_model.specs.declared.sides.node.Node.{Node}
-use Rattle.origin_model.specs.declared.operations.place.Place.TheVariants.{Catalogue as catalogue, Section as within}
-use Rattle.origin_model.specs.declared.operations.role.Role.TheVariants.{Any, Section as SectionRole, TextOf}
-use Rattle.origin_model.specs.declared.operations.verdict.Verdict.TheVariants.{Ready}
-use Rattle.origin_model.proofs.operations.CauseLemmas.{becomes_ready, missing-held, ready_absent, stray-fits}
-use Rattle.origin_model.proofs.operations.LookupLemmas.{IsHeld, found, holder_owns, holds-older}
+use Rattle.origin_model.specs.declared.operations.role.Role.TheVariants.{Any}
+use Rattle.origin_model.proofs.operations.CauseLemmas.{becomes_ready, ready_absent}
+use Rattle.origin_model.proofs.operations.LookupLemmas.{Fits, IsHeld, found, holder_owns, holds-older, missing-held, own_id, ready_fits, stray-fits, when_ready}
 use Rattle.origin_model.proofs.sides.NodeHistoryLemmas.{holder-nodes, nodes-lawful, op_of}
 use Rattle.origin_model.proofs.sides.NodeOrderLemmas.{nodes-none}
-use Rattle.origin_model.proofs.operations.OperationLemmas.{own_id}
-use Rattle.origin_model.proofs.order.OrderLawLemmas.{hidden-has}
-use Rattle.origin_model.proofs.order.PartLemmas.{order-same}
-use Rattle.origin_model.proofs.order.PlaceLemmas.{IsIn-held, in_section, none_is, one_fits, parts_fit, section_fits}
-use Rattle.origin_model.proofs.operations.ReadyLemmas.{one_held, parts_held, when_ready}
-use Rattle.fugue_ids.proofs.IdentifierLemmas.{cases_origin, id_eq-true}
+use Rattle.origin_model.proofs.order.{IsIn-held, hidden-has, in_section, none_is, order-same, section_fits}
 
 -- nodes that no look-up can tell apart are histories within each other
 pub same_nodes_same_order : (a b : List Node) → AreNodes a → AreNodes b → ((x : Identifier) → find_node a x ≡ find_node b x) → node_order a ≡ node_order b
@@ -39,11 +22,9 @@ ready_is_new h op x e k = sym (ap (id_held h) k) ∙ (when_ready h op e).fresh
 -- the section of a Ready Text is in the catalogue
 pub section_first : (h : List Op) (id section : Identifier) (left right : Option Identifier) (ch : ℕ) → verdict h (Text id section left right ch) ≡ Ready → IsIn catalogue h section
 section_first h id s left right ch e =
-    let r = when_ready h (Text id s left right ch) e in
     let origins : List _ = given_as (TextOf s) left ++ given_as (TextOf s) right in
-    let o = found (holder h s) (one_held h SectionRole s (parts_held h ((s, SectionRole) ∷ []) origins r.none_missing).0) in
-    let f = one_fits h SectionRole s o.0 (parts_fit h ((s, SectionRole) ∷ []) origins r.none_stray).0 o.1 in
-    record { op = o.0; held = o.1; place = section_fits o.0 f ∙ own_id o.0 s (holder_owns h s o.0 o.1) }
+    let f = All-head (Fits h) (s, SectionRole) origins (ready_fits h (Text id s left right ch) (when_ready h (Text id s left right ch) e)) in
+    record { op = f.0; held = f.1; place = section_fits f.0 f.2 ∙ own_id f.0 s (holder_owns h s f.0 f.1) }
 
 -- the section of a Ready element is in the catalogue
 element_section : (h : List Op) (s : Identifier) (op : Op) (x : Identifier) → verdict h op ≡ Ready → element_of (within s) op ≡ Some x → IsIn catalogue h s
@@ -65,10 +46,13 @@ no_text_before (op ∷ h) s w k =
     ]
 
 -- the target of a Ready Delete is held
+target_named : (h : List Op) (x : Identifier) → verdict h (Delete x) ≡ Ready → IsHeld h x
+target_named h x e = ap is_some (All-head (Fits h) (x, Any) [] (ready_fits h (Delete x) (when_ready h (Delete x) e))).1
+
 target_held : (h : List Op) (op : Op) (x : Identifier) → verdict h op ≡ Ready → deletes x op ≡ true → IsHeld h x
+target_held h (Delete i) x e k = subst (IsHeld h) (id_eq-true i x k) (target_named h i e)
 target_held h (Section i l r t) x e k = absurd (true≢false (sym k))
 target_held h (Text i q l r c) x e k = absurd (true≢false (sym k))
-target_held h (Delete i) x e k = subst (IsHeld h) (id_eq-true i x k) (one_held h Any i (when_ready h (Delete i) e).none_missing)
 
 -- what is not held is not hidden
 pub not_hidden_before : (h : List Op) (x : Identifier) → Lawful h → holds h x ≡ false → is_hidden h x ≡ false
@@ -88,4 +72,4 @@ shown_can_go h x k n =
 
 -- the target of a Ready Delete is held and not hidden
 pub target_is_shown : (h : List Op) (x : Identifier) → verdict h (Delete x) ≡ Ready → (holds h x ≡ true) × (is_hidden h x ≡ false)
-target_is_shown h x e = (one_held h Any x (when_ready h (Delete x) e).none_missing, hidden-has h x ∙ ready_absent h (Delete x) e)
+target_is_shown h x e = (target_named h x e, hidden-has h x ∙ ready_absent h (Delete x) e)

@@ -1,12 +1,19 @@
--- What a look-up in a history finds, and what one more operation changes in it.
-use Rattle.std.proofs.Common.{List, [], ap, false, inl, inr, refl, subst, sym, true, ◌∙◌, ◌∷◌, ◌≡◌}
-use Rattle.std.specs.Prelude.{None, Option, Some, is_some}
-use Rattle.std.proofs.lemmas.Bool.{cases_Bool, false≢true, or_left, or_right}
-use Rattle.fugue_ids.specs.Identifiers.{Identifier}
-use Rattle.fugue_ids.specs.Ops.{op_eq}
-use Rattle.fugue_ids.specs.declared.op.Op.{Op}
-use Rattle.origin_model.specs.operations.History.{has_op, holder, holds, is_own}
-use Rattle.fugue_ids.proofs.OpLemmas.{op_eq-refl}
+-- What a look-up in a history finds, and what one more operation changes in it; what a Ready operation names is held and fits.
+use Rattle.origin_model.proofs.Words.{All, All-cons, All-head, All-nil, All-tail, Bool, Delete, Identifier, Lawful, List, None, Op, Option, Place, Ready, Role, Section, SectionRole, Some, Text, TextOf, [], all_before, all_behind, ap, cases_Bool, catalogue, element_of, false, false_from_ne_true, false≢true, first_line, first_missing, first_stray, fits, given_as, has_op, holder, holds, id_eq, id_held, id_of, if◌then◌else◌, inl, inr, is_own, is_some, left_of, names, not_some, older_of, op_eq, op_eq-refl, op_eq-true, or_cases, or_left, or_right, origin_eq-true, refl, reverse, reverse-append, right_at, right_of, subst, sym, true, true≢false, verdict, within, ◌++◌, ◌||◌, ◌∙◌, ◌∷◌, ◌≡◌, ◌⊎◌}
+use Rattle.fugue_ids.proofs.IdentifierLemmas.{same_some}
+use Rattle.origin_model.specs.declared.operations.role.Role.TheVariants.{Any}
+use Rattle.std.specs.Option.{option_or}
+
+-- an identifier that is the operation's own, as an equation
+pub own_id : (op : Op) (x : Identifier) → is_own x op ≡ true → id_of op ≡ Some x
+own_id op x = origin_eq-true (id_of op) (Some x)
+
+-- the element of an operation has the operation's own identifier
+pub element_own : (p : Place) (op : Op) (x : Identifier) → element_of p op ≡ Some x → is_own x op ≡ true
+element_own catalogue (Section i l r t) x e = same_some i x e
+element_own (within p) (Text i s l r c) x e =
+    (elim (id_eq s p) as (λ b. (if b then Some i else None) ≡ Some x → id_eq i x ≡ true) [ true ↦ same_some i x | false ↦ (λ k. absurd (not_some x (sym k))) ]) e
+element_own _ _ x e = absurd (not_some x (sym e))
 
 -- the newest operation is found by its own identifier
 pub holder-own : (op : Op) (older : List Op) (i : Identifier) → is_own i op ≡ true → holder (op ∷ older) i ≡ Some op
@@ -28,13 +35,13 @@ holds-other op older i e = ap is_some (holder-other op older i e)
 pub holds-older : (op : Op) (older : List Op) (i : Identifier) → holds older i ≡ true → holds (op ∷ older) i ≡ true
 holds-older op older i h = elim (cases_Bool (is_own i op)) [ inl e ↦ holds-own op older i e | inr e ↦ holds-other op older i e ∙ h ]
 
+-- an identifier is held where the newest operation has it, or an older one
+pub holds-cons : (op : Op) (older : List Op) (i : Identifier) → holds (op ∷ older) i ≡ (is_own i op || holds older i)
+holds-cons op older i = elim (cases_Bool (is_own i op)) [ inl e ↦ rw (e, holder) | inr e ↦ rw (e, holder) ]
+
 -- the identifier is held
 abbrev pub IsHeld : List Op → Identifier → Type 0
 IsHeld history x = holds history x ≡ true
-
--- an identifier whose holder is known is held
-pub holds-some : (h : List Op) (i : Identifier) (op : Op) → holder h i ≡ Some op → IsHeld h i
-holds-some h i op e = ap is_some e
 
 -- a held identifier has a holder
 pub found : (o : Option Op) → is_some o ≡ true → (op : Op) × (o ≡ Some op)
@@ -58,3 +65,210 @@ holder-has (o ∷ h) i op e =
       | inl k ↦ let d : o ≡ op = cc (holder-own o h i k, e) in or_left (op_eq o op) (has_op h op) (subst (λ a. op_eq a op ≡ true) (sym d) (op_eq-refl op))
       | inr k ↦ or_right (op_eq o op) (has_op h op) (holder-has h i op (sym (holder-other o h i k) ∙ e))
     ]
+
+-- a look-up finds nothing, or an operation
+pub cases_held : (o : Option Op) → (o ≡ None) ⊎ ((op : Op) × (o ≡ Some op))
+cases_held None = inl refl
+cases_held (Some op) = inr (op, refl)
+
+-- a name that is held is passed
+pub missing-held : (h : List Op) (n : Identifier × Role) (ns : List (Identifier × Role)) (o : Op) → holder h n.0 ≡ Some o → first_missing h (n ∷ ns) ≡ first_missing h ns
+missing-held h n ns o e = rw (e, first_missing)
+
+-- a name that is not held is the first missing one
+missing-gone : (h : List Op) (n : Identifier × Role) (ns : List (Identifier × Role)) → holder h n.0 ≡ None → first_missing h (n ∷ ns) ≡ Some n.0
+missing-gone h n ns e = rw (e, first_missing)
+
+-- the first Stray name, by what a look-up of the first name found
+abbrev stray_on : List Op → Identifier × Role → List (Identifier × Role) → Option Op → Option Identifier
+stray_on h n ns o = elim o [ None ↦ first_stray h ns | Some op ↦ if fits n.1 op then first_stray h ns else Some n.0 ]
+
+-- a name that fits is passed
+pub stray-fits : (h : List Op) (n : Identifier × Role) (ns : List (Identifier × Role)) (o : Op) → holder h n.0 ≡ Some o → fits n.1 o ≡ true → first_stray h (n ∷ ns) ≡ first_stray h ns
+stray-fits h n ns o e f = ap (stray_on h n ns) e ∙ ap (λ b. if b then first_stray h ns else Some n.0) f
+
+-- a name that is held and does not fit is the first Stray one
+pub stray-not : (h : List Op) (n : Identifier × Role) (ns : List (Identifier × Role)) (o : Op) → holder h n.0 ≡ Some o → fits n.1 o ≡ false → first_stray h (n ∷ ns) ≡ Some n.0
+stray-not h n ns o e f = ap (stray_on h n ns) e ∙ ap (λ b. if b then first_stray h ns else Some n.0) f
+
+-- a name that is not held is passed
+pub stray-gone : (h : List Op) (n : Identifier × Role) (ns : List (Identifier × Role)) → holder h n.0 ≡ None → first_stray h (n ∷ ns) ≡ first_stray h ns
+stray-gone h n ns e = ap (stray_on h n ns) e
+
+-- a name is held by an operation that fits
+abbrev pub Fits : List Op → Identifier × Role → Type 0
+Fits h n = (o : Op) × (holder h n.0 ≡ Some o) × (fits n.1 o ≡ true)
+
+-- where no name is Stray or missing, each is so
+pub fit_each : (h : List Op) (ns : List (Identifier × Role)) → first_stray h ns ≡ None → first_missing h ns ≡ None → All (Fits h) ns
+fit_each h [] a b = All-nil (Fits h)
+fit_each h (n ∷ ns) a b =
+    elim (cases_held (holder h n.0)) [
+      | inl e ↦ absurd (not_some n.0 (sym (missing-gone h n ns e) ∙ b))
+      | inr e ↦ elim (cases_Bool (fits n.1 e.0)) [
+        | inl t ↦ All-cons (Fits h) n ns (e.0, e.1, t) (fit_each h ns (sym (stray-fits h n ns e.0 e.1 t) ∙ a) (sym (missing-held h n ns e.0 e.1) ∙ b))
+        | inr t ↦ absurd (not_some n.0 (sym (stray-not h n ns e.0 e.1 t) ∙ a))
+      ]
+    ]
+
+-- where each is so, no name is Stray or missing
+pub all_fit : (h : List Op) (ns : List (Identifier × Role)) → All (Fits h) ns → (first_stray h ns ≡ None) × (first_missing h ns ≡ None)
+all_fit h [] f = (refl, refl)
+all_fit h (n ∷ ns) f =
+    let o = All-head (Fits h) n ns f in
+    let rest = all_fit h ns (All-tail (Fits h) n ns f) in
+    (stray-fits h n ns o.0 o.1 o.2 ∙ rest.0, missing-held h n ns o.0 o.1 ∙ rest.1)
+
+-- the first that does not fit, of names in two parts
+pub first_stray-append : (h : List Op) (xs ys : List (Identifier × Role)) → first_stray h (xs ++ ys) ≡ option_or (first_stray h xs) (first_stray h ys)
+first_stray-append h [] ys = refl
+first_stray-append h (n ∷ ns) ys =
+    elim (holder h n.0) as (λ o.
+    (elim o [ None ↦ first_stray h (ns ++ ys) | Some op ↦ if fits n.1 op then first_stray h (ns ++ ys) else Some n.0 ])
+    ≡ option_or (elim o [ None ↦ first_stray h ns | Some op ↦ if fits n.1 op then first_stray h ns else Some n.0 ]) (first_stray h ys)) [
+      | None ↦ first_stray-append h ns ys
+      | Some op ↦ elim (fits n.1 op) as (λ b.
+          (if b then first_stray h (ns ++ ys) else Some n.0)
+          ≡ option_or (if b then first_stray h ns else Some n.0) (first_stray h ys)) [
+            | true ↦ first_stray-append h ns ys
+            | false ↦ refl
+          ]
+    ]
+
+-- the first that is not held, of names in two parts
+pub first_missing-append : (h : List Op) (xs ys : List (Identifier × Role)) → first_missing h (xs ++ ys) ≡ option_or (first_missing h xs) (first_missing h ys)
+first_missing-append h [] ys = refl
+first_missing-append h (n ∷ ns) ys =
+    elim (holder h n.0) as (λ o.
+    (elim o [ None ↦ Some n.0 | Some op ↦ first_missing h (ns ++ ys) ])
+    ≡ option_or (elim o [ None ↦ Some n.0 | Some op ↦ first_missing h ns ]) (first_missing h ys)) [
+      | None ↦ refl
+      | Some op ↦ first_missing-append h ns ys
+    ]
+
+-- of names in three parts
+pub stray_of_three : (h : List Op) (a b c : List (Identifier × Role)) → first_stray h (a ++ b ++ c) ≡ option_or (option_or (first_stray h a) (first_stray h b)) (first_stray h c)
+stray_of_three h a b c = first_stray-append h (a ++ b) c ∙ ap (λ o. option_or o (first_stray h c)) (first_stray-append h a b)
+
+pub missing_of_three : (h : List Op) (a b c : List (Identifier × Role)) → first_missing h (a ++ b ++ c) ≡ option_or (option_or (first_missing h a) (first_missing h b)) (first_missing h c)
+missing_of_three h a b c = first_missing-append h (a ++ b) c ∙ ap (λ o. option_or o (first_missing h c)) (first_missing-append h a b)
+
+-- the operation and its identifier are new, and no named one is missing or does not fit
+pub record IsReady (older : List Op) (op : Op) : Type 0 where
+  pub absent : has_op older op ≡ false
+  pub fresh : id_held older (id_of op) ≡ false
+  pub none_stray : first_stray older (names op) ≡ None
+  pub none_missing : first_missing older (names op) ≡ None
+
+-- the last line decides only where no other applies
+ready_line : (b c : Bool) (s m : Option Identifier) → first_line b c s m ≡ Ready → (b ≡ false) × (c ≡ false) × (s ≡ None) × (m ≡ None)
+ready_line true c s m h = cc
+ready_line false true s m h = cc
+ready_line false false (Some i) m h = cc
+ready_line false false None (Some i) h = cc
+ready_line false false None None h = (refl, refl, refl, refl)
+
+-- what the verdict Ready says
+pub when_ready : (older : List Op) (op : Op) → verdict older op ≡ Ready → IsReady older op
+unfolding verdict
+when_ready older op h =
+    let r = ready_line (has_op older op) (id_held older (id_of op)) (first_stray older (names op)) (first_missing older (names op)) h in
+    record { absent = r.0; fresh = r.1; none_stray = r.2; none_missing = r.3 }
+
+-- the role in which an operation names its origins
+abbrev pub origin_role : Op → Role
+origin_role (Section i left right t) = SectionRole
+origin_role (Text i s left right c) = TextOf s
+origin_role (Delete i) = Any
+
+-- what a Ready operation names is held and fits
+pub ready_fits : (h : List Op) (op : Op) → IsReady h op → All (Fits h) (names op)
+ready_fits h op w = fit_each h (names op) w.none_stray w.none_missing
+
+-- an origin among them
+origin_fits : (h : List Op) (role : Role) (o : Option Identifier) (i : Identifier) → All (Fits h) (given_as role o) → o ≡ Some i → Fits h (i, role)
+origin_fits h role o i f e = All-head (Fits h) (i, role) [] (subst (λ o. All (Fits h) (given_as role o)) e f)
+
+-- so is its left origin
+pub left_fits : (h : List Op) (op : Op) (l : Identifier) → IsReady h op → left_of op ≡ Some l → Fits h (l, origin_role op)
+left_fits h (Section i left right t) l w e = origin_fits h SectionRole left l (all_before (Fits h) (given_as SectionRole left) (given_as SectionRole right) (ready_fits h (Section i left right t) w)) e
+left_fits h (Text i s left right c) l w e =
+    let all = all_before (Fits h) ((s, SectionRole) ∷ given_as (TextOf s) left) (given_as (TextOf s) right) (ready_fits h (Text i s left right c) w) in
+    origin_fits h (TextOf s) left l (All-tail (Fits h) (s, SectionRole) (given_as (TextOf s) left) all) e
+left_fits h (Delete i) l w e = cc
+
+-- and its right origin
+pub right_fits : (h : List Op) (op : Op) (r : Identifier) → IsReady h op → right_of op ≡ Some r → Fits h (r, origin_role op)
+right_fits h (Section i left right t) r w e = origin_fits h SectionRole right r (all_behind (Fits h) (given_as SectionRole left) (given_as SectionRole right) (ready_fits h (Section i left right t) w)) e
+right_fits h (Text i s left right c) r w e = origin_fits h (TextOf s) right r (all_behind (Fits h) ((s, SectionRole) ∷ given_as (TextOf s) left) (given_as (TextOf s) right) (ready_fits h (Text i s left right c) w)) e
+right_fits h (Delete i) r w e = cc
+
+-- its origins are held
+pub left_named : (h : List Op) (op : Op) (l : Identifier) → IsReady h op → left_of op ≡ Some l → IsHeld h l
+left_named h op l w e = ap is_some (left_fits h op l w e).1
+
+pub right_named : (h : List Op) (op : Op) (r : Identifier) → IsReady h op → right_of op ≡ Some r → IsHeld h r
+right_named h op r w e = ap is_some (right_fits h op r w e).1
+
+-- a new operation owns no held identifier
+pub held_not_own : (op : Op) (older : List Op) (x : Identifier) → IsReady older op → IsHeld older x → is_own x op ≡ false
+held_not_own op older x w p =
+    false_from_ne_true _ (λ e. true≢false (sym p ∙ (sym (ap (id_held older) (own_id op x e)) ∙ w.fresh)))
+
+-- the right origin of what a look-up found
+abbrev pub right_by : Option Op → Option Identifier
+right_by o = elim o [ None ↦ None | Some op ↦ right_of op ]
+
+-- what all operations but the newest hold is held
+held_further : (h : List Op) (r : Identifier) → IsHeld (older_of h) r → IsHeld h r
+held_further [] r p = p
+held_further (op ∷ older) r p = holds-older op older r p
+
+-- a right origin is held by the operations before the newest
+pub right_at_held : (h : List Op) (c r : Identifier) → Lawful h → right_at h c ≡ Some r → IsHeld (older_of h) r
+right_at_held [] c r w e = cc
+right_at_held (op ∷ older) c r w e =
+    elim (cases_Bool (is_own c op)) [
+      | inl o ↦ right_named older op r (when_ready older op w.0) (sym (ap right_by (holder-own op older c o)) ∙ e)
+      | inr o ↦ held_further older r (right_at_held older c r w.1 (sym (ap right_by (holder-other op older c o)) ∙ e))
+    ]
+
+-- in a lawful history each operation is found by its own identifier
+pub has-holder : (h : List Op) (i : Identifier) (op : Op) → Lawful h → has_op h op ≡ true → is_own i op ≡ true → holder h i ≡ Some op
+has-holder [] i op w e k = absurd (false≢true e)
+has-holder (o ∷ h) i op w e k =
+    elim (or_cases (op_eq o op) (has_op h op) e) [
+      | inl t ↦ let d : o ≡ op = op_eq-true o op t in holder-own o h i (ap (is_own i) d ∙ k) ∙ ap Some d
+      | inr t ↦ let j = has-holder h i op w.1 t k in holder-other o h i (held_not_own o h i (when_ready h o w.0) (ap is_some j)) ∙ j
+    ]
+
+-- the first two of three tests, exchanged
+pub swap_or : (a b c : Bool) → (a || (b || c)) ≡ (b || (a || c))
+swap_or true true c = refl
+swap_or true false c = refl
+swap_or false b c = refl
+
+-- a test, or none
+or_none_right : (a : Bool) → (a || false) ≡ a
+or_none_right true = refl
+or_none_right false = refl
+
+-- three tests
+or_assoc : (a b c : Bool) → (a || (b || c)) ≡ ((a || b) || c)
+or_assoc true b c = refl
+or_assoc false b c = refl
+
+-- an operation of two joined lists is one of the first or of the second
+pub has-append : (a b : List Op) (x : Op) → has_op (a ++ b) x ≡ (has_op a x || has_op b x)
+has-append [] b x = refl
+has-append (o ∷ a) b x = ap (λ t. op_eq o x || t) (has-append a b x) ∙ or_assoc (op_eq o x) (has_op a x) (has_op b x)
+
+-- a reversed list has the same operations
+pub has-reverse : (ops : List Op) (x : Op) → has_op (reverse ops) x ≡ has_op ops x
+has-reverse [] x = refl
+has-reverse (o ∷ ops) x =
+    ap (λ l. has_op l x) (reverse-append (o ∷ []) ops)
+    ∙ has-append (reverse ops) (o ∷ []) x
+    ∙ ap (λ t. t || (op_eq o x || false)) (has-reverse ops x)
+    ∙ swap_or (has_op ops x) (op_eq o x) false
+    ∙ ap (λ t. op_eq o x || t) (or_none_right (has_op ops x))

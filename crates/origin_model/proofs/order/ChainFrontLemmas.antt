@@ -1,21 +1,8 @@
 -- The fronts of chains of left and of right origins: each is the chain of its last member.
-use Rattle.std.proofs.Common.{List, [], ap, inl, inr, refl, subst, sym, true, ◌++◌, ◌∙◌, ◌∷◌, ◌≡◌}
-use Rattle.std.specs.Prelude.{None, Option, Some}
-use Rattle.std.proofs.lemmas.Bool.{cases_Bool, false≢true}
-use Rattle.std.proofs.lemmas.List.{same_from_push}
-use Rattle.fugue_ids.specs.Identifiers.{Identifier}
-use Rattle.fugue_ids.specs.declared.op.Op.{Op}
-use Rattle.origin_model.specs.operations.History.{holder, is_own, left_of, right_of}
-use Rattle.origin_model.specs.order.Order.{chain, has_left, left_at, lefts, next_left, next_right, rights}
-use Rattle.origin_model.specs.operations.Verdict.{Lawful}
+use Rattle.origin_model.proofs.Words.{All, All-contains, All-push, Contains, Identifier, Lawful, List, None, Op, Option, Some, [], all_from_contains, ap, cases_Bool, chain, contains_middle, false≢true, has_left, holder, inl, inr, is_own, left_at, left_of, lefts, next_left, next_right, origin_eq-true, refl, right_of, rights, same_from_push, subst, sym, true, ◌++◌, ◌∙◌, ◌∷◌, ◌≡◌}
 use Rattle.origin_model.proofs.order.ListPartLemmas.{split_end}
-use Rattle.origin_model.proofs.operations.LookupLemmas.{IsHeld, found, holder-other, holder-own, holds-other}
+use Rattle.origin_model.proofs.operations.LookupLemmas.{IsHeld, found, held_not_own, holder-other, holder-own, holds-other, right_named, when_ready}
 use Rattle.origin_model.proofs.order.PartLemmas.{has_left_by, lefts-at, RestsOn, left_held, ready_rests, right_held}
-use Rattle.origin_model.proofs.operations.ReadyLemmas.{held_not_own, right_named, when_ready}
-use Rattle.std.specs.List.{Contains, All}
-use Rattle.std.proofs.lemmas.List.Elements.{All-contains, All-push}
-use Rattle.fugue_ids.proofs.IdentifierLemmas.{origin_eq-true}
-use Rattle.fugue_ids.proofs.ListLemmas.{contains_middle, all_from_contains}
 use Rattle.origin_model.proofs.order.ChainLemmas.{above-all, above_some, beside_is, chain-ends, chain-held, chain-other, chain-own, chain_above}
 
 -- chains, where the next one is held
@@ -51,14 +38,10 @@ only_one h u r below k e b =
 abbrev pub left_by : Option Op → Option Identifier
 left_by o = elim o [ None ↦ None | Some op ↦ left_of op ]
 
--- a look-up that says so tells the left origin
-left_same : (l : Option Identifier) (o : Option Op) → has_left_by l o ≡ true → left_by o ≡ l
-left_same l None e = absurd (false≢true e)
-left_same l (Some op) e = origin_eq-true (left_of op) l e
-
 -- an element that has this left origin
 pub has_left-at : (h : List Op) (r : Identifier) (l : Option Identifier) → has_left h r l ≡ true → left_at h r ≡ l
-has_left-at h r l e = left_same l (holder h r) e
+has_left-at h r l =
+    elim (holder h r) as (λ o. has_left_by l o ≡ true → left_by o ≡ l) [ None ↦ (λ e. absurd (false≢true e)) | Some op ↦ origin_eq-true (left_of op) l ]
 
 -- the left origin, by the operation
 pub left_at-is : (h : List Op) (v : Identifier) (op : Op) → holder h v ≡ Some op → left_at h v ≡ left_of op
@@ -89,7 +72,7 @@ rights-left (op ∷ older) u w p =
           (All-push (λ z. left_at h z ≡ left_at h u) (chain_above next_right older (next_right older op)) u
           (above-all next_right (λ z. left_at h z ≡ left_at h u) older (next_right older op) (λ r f.
           let b = beside_is older (left_of op) (right_of op) r f in
-          down (left_at h u) r (right_named older op r rd.none_missing b.0) (has_left-at older r (left_of op) b.1 ∙ sym own))) refl)
+          down (left_at h u) r (right_named older op r rd b.0) (has_left-at older r (left_of op) b.1 ∙ sym own))) refl)
     ]
 
 -- each beginning of a chain of right origins is the chain of its last member, which has the same left origin

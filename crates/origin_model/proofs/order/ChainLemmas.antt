@@ -1,15 +1,5 @@
 -- Chains of origins: one more operation leaves those of older elements, each ends in its element, and its members are held.
-use Rattle.std.proofs.Common.{List, [], ap, false, inl, inr, refl, subst, sym, true, ◌++◌, ◌∙◌, ◌∷◌, ◌≡◌}
-use Rattle.std.specs.List.{All}
-use Rattle.std.specs.Prelude.{None, Option, Some, if◌then◌else◌}
-use Rattle.std.proofs.lemmas.Bool.{cases_Bool, false≢true}
-use Rattle.std.proofs.lemmas.List.{same_from_push}
-use Rattle.std.proofs.lemmas.List.Elements.{All-nil, All-push, All-weaker}
-use Rattle.fugue_ids.specs.Identifiers.{Identifier}
-use Rattle.fugue_ids.specs.declared.op.Op.{Op}
-use Rattle.fugue_ids.proofs.IdentifierLemmas.{not_some}
-use Rattle.origin_model.specs.operations.History.{is_own}
-use Rattle.origin_model.specs.order.Order.{chain, has_left, right_beside}
+use Rattle.origin_model.proofs.Words.{All, All-nil, All-push, All-weaker, Identifier, List, None, Op, Option, Some, [], ap, cases_Bool, chain, false, false≢true, has_left, if◌then◌else◌, inl, inr, is_own, not_some, refl, right_beside, same_from_push, subst, sym, true, ◌++◌, ◌∙◌, ◌∷◌, ◌≡◌}
 use Rattle.origin_model.proofs.operations.LookupLemmas.{IsHeld, holds-older, holds-other, holds-own}
 use Rattle.origin_model.proofs.order.ListPartLemmas.{no_end, not_nil}
 

@@ -1,11 +1,6 @@
 -- The comparison of two chains at the first place where they differ is a strict order where the order at the fork is one, and total where that is total on the members.
-use Rattle.std.proofs.Common.{Bool, List, [], ap, false, inl, inr, not, refl, subst, sym, true, ◌∙◌, ◌∷◌, ◌≡◌, ◌≢◌}
-use Rattle.std.proofs.lemmas.Bool.{false≢true, not-false, true≢false}
-use Rattle.fugue_ids.specs.Identifiers.{Identifier, id_eq}
-use Rattle.origin_model.specs.order.Order.{chain_before}
-use Rattle.std.specs.List.{All}
-use Rattle.std.proofs.lemmas.List.Elements.{All-head, All-tail}
-use Rattle.fugue_ids.proofs.IdentifierLemmas.{cases_id, id_eq-refl, ne-id_eq}
+use Rattle.origin_model.proofs.Words.{All, All-head, All-tail, Bool, Identifier, List, [], ap, cases_id, chain_before, false, false≢true, id_eq, id_eq-refl, inl, inr, ne-id_eq, not, refl, subst, sym, true, true≢false, ◌∙◌, ◌∷◌, ◌≡◌, ◌≢◌}
+use Rattle.std.proofs.lemmas.Bool.{not-false}
 
 -- a test does not hold and fail
 both_ways : (f : Bool) → f ≡ true → not f ≡ true → ⊥

@@ -1,12 +1,6 @@
 -- How the comparison of two chains goes on where one of them begins with the other, or parts from it.
-use Rattle.std.proofs.Common.{Bool, List, [], ap, false, inl, inr, refl, subst, sym, true, ◌++◌, ◌∙◌, ◌∷◌, ◌≡◌, ◌≢◌, ◌⊎◌}
-use Rattle.std.proofs.lemmas.Bool.{false≢true}
-use Rattle.fugue_ids.specs.Identifiers.{Identifier}
-use Rattle.origin_model.specs.order.Order.{Passes, chain_before}
+use Rattle.origin_model.proofs.Words.{Bool, Contains, Identifier, List, Passes, [], ap, cases_id, chain_before, contains_middle, false, inl, inr, refl, subst, sym, true, ◌++◌, ◌∙◌, ◌∷◌, ◌≡◌, ◌≢◌, ◌⊎◌}
 use Rattle.origin_model.proofs.order.ChainOrderLemmas.{chain_before-fork, chain_before-same}
-use Rattle.std.specs.List.{Contains}
-use Rattle.fugue_ids.proofs.IdentifierLemmas.{cases_id}
-use Rattle.fugue_ids.proofs.ListLemmas.{contains_here, contains_there}
 
 -- the comparison, by the order R at the fork
 module _ (f : Bool) (R : Identifier → Identifier → Bool) where
@@ -43,50 +37,44 @@ module _ (f : Bool) (R : Identifier → Identifier → Bool) where
         | inr n ↦ inr (λ zs. chain_before-fork f R y x ys (xs ++ zs) n ∙ sym (chain_before-fork f R y x ys xs n))
       ]
 
+  -- es stands before every extension of c, or turns off there to x, or to something that stands before x
+  abbrev pub Turns : (es c : List Identifier) → Identifier → Type 0
+  Turns es c x =
+      ((z : Identifier) (zs : List Identifier) → chain_before f R es (c ++ z ∷ zs) ≡ true)
+      ⊎ ((u : Identifier) × (more : List Identifier) × (es ≡ c ++ u ∷ more) × ((u ≡ x) ⊎ ((u ≢ x) × (R u x ≡ true))))
+
+  -- so does what stands before a chain that ends in x
+  pub turns_off : (es c : List Identifier) (x : Identifier) → chain_before f R es (c ++ x ∷ []) ≡ true → Turns es c x
+  turns_off es c x h =
+      let at : (m ys : List Identifier) → es ≡ c ++ m → chain_before f R es (c ++ ys) ≡ chain_before f R m ys = λ m ys e. ap (λ l. chain_before f R l (c ++ ys)) e ∙ common c m ys in
+      elim (parts_late c es) [
+        | inr q ↦ inl (λ z zs. q (z ∷ zs) ∙ sym (q (x ∷ [])) ∙ h)
+        | inl p ↦ (elim p.0 as (λ m. es ≡ c ++ m → Turns es c x) [
+          | [] ↦ (λ e. inl (λ z zs. at [] (z ∷ zs) e ∙ sym (at [] (x ∷ []) e) ∙ h))
+          | u ∷ more ↦ (λ e. inr (u, more, e, elim (cases_id u x) [ inl d ↦ inl d | inr m ↦ inr (m, sym (at (u ∷ more) (x ∷ []) e ∙ chain_before-fork f R u x more [] m) ∙ h) ]))
+        ]) p.1
+      ]
+
 -- where a prefix goes last, what is longer than it goes before it
 pub longer : (F : Identifier → Identifier → Bool) (xs : List Identifier) → (xs ≡ [] → ⊥) → chain_before false F xs [] ≡ true
 longer F [] n = absurd (n refl)
 longer F (x ∷ xs) n = refl
 
--- what stands before the end of a chain stands before every other extension of its front, or turns off there to something that stands before the end
+-- where x is no member, es turns off to something that stands before x
 pub turns : (R : Identifier → Identifier → Bool) (es c : List Identifier) (x : Identifier)
     → chain_before true R es (c ++ x ∷ []) ≡ true → (Contains es x → ⊥)
     → ((z : Identifier) (zs : List Identifier) → chain_before true R es (c ++ z ∷ zs) ≡ true)
     ⊎ ((u : Identifier) × (more : List Identifier) × (es ≡ c ++ u ∷ more) × (R u x ≡ true))
-turns R [] [] x h n = inl (λ z zs. refl)
-turns R (e ∷ es) [] x h n =
-    elim (cases_id e x) [
-      | inl d ↦ absurd (n (subst (Contains (e ∷ es)) d (contains_here e es)))
-      | inr m ↦ inr (e, es, refl, sym (chain_before-fork true R e x es [] m) ∙ h)
-    ]
-turns R [] (y ∷ c) x h n = inl (λ z zs. refl)
-turns R (e ∷ es) (y ∷ c) x h n =
-    elim (cases_id e y) [
-      | inl d ↦
-          let k : chain_before true R es (c ++ x ∷ []) ≡ true = sym (chain_before-same true R e es (c ++ x ∷ [])) ∙ ap (λ w. chain_before true R (e ∷ es) (w ∷ (c ++ x ∷ []))) d ∙ h in
-          elim (turns R es c x k (λ i. n (contains_there e es x i))) [
-            | inl g ↦ inl (λ z zs. ap (λ w. chain_before true R (e ∷ es) (w ∷ (c ++ z ∷ zs))) (sym d) ∙ chain_before-same true R e es (c ++ z ∷ zs) ∙ g z zs)
-            | inr t ↦ inr (t.0, t.1, (λ i. d i ∷ t.2 i), t.3)
-          ]
-      | inr m ↦ inl (λ z zs. chain_before-fork true R e y es (c ++ z ∷ zs) m ∙ sym (chain_before-fork true R e y es (c ++ x ∷ []) m) ∙ h)
-    ]
-
--- the same where a prefix goes last
-pub turns_late : (F : Identifier → Identifier → Bool) (us c : List Identifier) (x : Identifier)
-    → chain_before false F us (c ++ x ∷ []) ≡ true
-    → ((z : Identifier) (zs : List Identifier) → chain_before false F us (c ++ z ∷ zs) ≡ true)
-    ⊎ ((w : Identifier) × (ws : List Identifier) × (us ≡ c ++ w ∷ ws) × ((w ≡ x) ⊎ ((w ≢ x) × (F w x ≡ true))))
-turns_late F [] [] x h = absurd (false≢true h)
-turns_late F (e ∷ es) [] x h =
-    inr (e, es, refl, elim (cases_id e x) [ inl d ↦ inl d | inr m ↦ inr (m, sym (chain_before-fork false F e x es [] m) ∙ h) ])
-turns_late F [] (y ∷ c) x h = absurd (false≢true h)
-turns_late F (e ∷ es) (y ∷ c) x h =
-    elim (cases_id e y) [
-      | inl d ↦
-          let k : chain_before false F es (c ++ x ∷ []) ≡ true = sym (chain_before-same false F e es (c ++ x ∷ [])) ∙ ap (λ w. chain_before false F (e ∷ es) (w ∷ (c ++ x ∷ []))) d ∙ h in
-          elim (turns_late F es c x k) [
-            | inl g ↦ inl (λ z zs. ap (λ w. chain_before false F (e ∷ es) (w ∷ (c ++ z ∷ zs))) (sym d) ∙ chain_before-same false F e es (c ++ z ∷ zs) ∙ g z zs)
-            | inr t ↦ inr (t.0, t.1, (λ i. d i ∷ t.2 i), t.3)
-          ]
-      | inr m ↦ inl (λ z zs. chain_before-fork false F e y es (c ++ z ∷ zs) m ∙ sym (chain_before-fork false F e y es (c ++ x ∷ []) m) ∙ h)
+turns R es c x h n =
+    elim (turns_off true R es c x h) [
+      | inl g ↦ inl g
+      | inr t ↦ inr (
+        t.0,
+        t.1,
+        t.2,
+        elim t.3 [
+          | inl d ↦ absurd (n (subst (λ l. Contains l x) (sym (t.2 ∙ ap (λ u. c ++ u ∷ t.1) d)) (contains_middle c x t.1)))
+          | inr k ↦ k.1
+        ],
+      )
     ]

@@ -1,11 +1,8 @@
 -- The comparison of chains by where they part.
-use Rattle.std.proofs.Common.{◌≡◌, refl, List, [], ◌∷◌, Bool, true, false, ℕ, ◌<◌, ◌≤◌, length, drop}
-use Rattle.std.proofs.lemmas.List.{drop_more, drop_all}
-use Rattle.fugue_ids.specs.Identifiers.{Identifier, id_eq}
-use Rattle.origin_model.specs.order.Order.{chain_before}
+use Rattle.origin_model.proofs.Words.{Bool, Identifier, List, [], chain_before, drop, drop_more, false, id_eq, if◌then◌else◌, length, refl, true, ℕ, ◌<◌, ◌∷◌, ◌≡◌, ◌≤◌}
+use Rattle.std.proofs.lemmas.List.{drop_all}
 use Rattle.origin_model.specs.order.Fork.{fork_of, by_fork}
 use Rattle.origin_model.specs.declared.order.fork.Fork.TheVariants.{FirstEnds, SecondEnds, At}
-use Rattle.std.specs.Prelude.{if◌then◌else◌}
 
 abbrev none : Identifier
 none = record { replica = 0; counter = 0 }

@@ -1,13 +1,6 @@
 -- Lists and their parts: fronts and ends, and members of lists that are ordered.
-use Rattle.std.proofs.Common.{Bool, List, [], false, inl, inr, refl, subst, sym, true, ◌++◌, ◌∙◌, ◌∷◌, ◌≡◌, ◌≢◌, ◌⊎◌}
-use Rattle.std.specs.List.{All, Contains}
-use Rattle.std.proofs.lemmas.Bool.{true≢false}
-use Rattle.std.proofs.lemmas.List.{append-nil}
-use Rattle.std.proofs.lemmas.List.Elements.{All-contains, All-tail, All-weaker, Contains-append_cases}
-use Rattle.fugue_ids.specs.Identifiers.{Identifier}
-use Rattle.fugue_ids.proofs.ListLemmas.{all_pairs_across, all_pairs_append, all_pairs_before, all_pairs_behind, all_pairs_head, all_pairs_tail, contains_cases, contains_here, contains_middle_cases, contains_none}
-use Rattle.origin_model.specs.order.Order.{IsOrderedBy}
-use Rattle.std.specs.Prelude.{filter}
+use Rattle.origin_model.proofs.Words.{All, All-contains, All-tail, All-weaker, Bool, Contains, Contains-append_cases, Identifier, IsOrderedBy, List, [], all_pairs_before, all_pairs_behind, all_pairs_head, all_pairs_tail, append-nil, contains_cases, contains_here, contains_middle_cases, contains_none, false, filter, inl, inr, refl, subst, sym, true, true≢false, ◌++◌, ◌∙◌, ◌∷◌, ◌≡◌, ◌≢◌, ◌⊎◌}
+use Rattle.fugue_ids.proofs.ListLemmas.{all_pairs_across, all_pairs_append}
 
 -- a list with a member is not empty
 pub not_nil : (c : List Identifier) (u : Identifier) (more : List Identifier) → [] ≡ c ++ u ∷ more → ⊥

@@ -1,22 +1,11 @@
 -- One list of the elements of all places, and one more element in it.
-use Rattle.std.proofs.Common.{◌≡◌, refl, sym, ◌∙◌, ap, List, [], ◌∷◌, ◌++◌, Bool, true, false, inl, inr, ℕ, ◌+◌, ◌-◌, ◌<◌, min, take, drop, length, reverse, arith, get_or}
-use Rattle.std.specs.Prelude.{Some, None, count_by, slice_get, if◌then◌else◌}
-use Rattle.std.specs.List.{insert}
-use Rattle.std.proofs.lemmas.Bool.{cases_Bool, true≢false, false≢true}
-use Rattle.std.proofs.lemmas.List.{take_more, drop_more, take-append-drop, take_at, drop_at, length-append, reverse-append}
-use Rattle.fugue_ids.specs.declared.op.Op.TheVariants.{Section, Text, Delete}
-use Rattle.fugue_ids.specs.Identifiers.{Identifier}
-use Rattle.fugue_ids.specs.declared.op.Op.{Op}
+use Rattle.origin_model.proofs.Words.{Option, Bool, Delete, Identifier, List, None, Op, Place, Section, Some, Text, [], ap, arith, before_in, cases_Bool, catalogue, count_by, drop, drop_more, element_of, false, false≢true, get_or, id_eq-true, if◌then◌else◌, inl, inr, insert, length, length-append, min, older_of, order, place_eq, placed, refl, reverse, reverse-append, slice_get, sym, take, take-append-drop, true, within, ℕ, ◌++◌, ◌+◌, ◌-◌, ◌<◌, ◌∙◌, ◌∷◌, ◌≡◌}
+use Rattle.std.proofs.lemmas.List.{take_more, take_at, drop_at}
 use Rattle.origin_model.specs.order.Listed.{stands_in}
-use Rattle.origin_model.specs.operations.History.{place_eq, element_of}
-use Rattle.origin_model.specs.declared.operations.place.Place.{Place}
-use Rattle.origin_model.specs.declared.operations.place.Place.TheVariants.{Catalogue as catalogue, Section as within}
-use Rattle.origin_model.specs.order.Order.{order, before_in, older_of, placed}
 use Rattle.origin_model.specs.order.Listed.{elements_at, ListsAll}
 use Rattle.origin_model.specs.declared.order.listed.Listed.{Listed}
 use Rattle.origin_model.proofs.order.OrderLemmas.{order-none, order-some}
 use Rattle.std.proofs.lemmas.List.Sums.{count_by-le-length}
-use Rattle.fugue_ids.proofs.IdentifierLemmas.{id_eq-true}
 use Rattle.std.proofs.lemmas.List.Sums.{count_by-le-length}
 
 at-yes : (p : Place) (e : Listed) (es : List Listed) → place_eq e.place p ≡ true → elements_at p (e ∷ es) ≡ e.id ∷ elements_at p es
@@ -58,55 +47,29 @@ last_of : (x : Op) (xs : List Op) (op : Op) → slice_get (x ∷ xs) (length xs)
 last_of x [] op e = let d : x ≡ op = cc in ([], ap (λ z. z ∷ []) d)
 last_of x (y ∷ ys) op e = let r = last_of y ys op e in (x ∷ r.0, ap (λ z. x ∷ z) r.1)
 
-newest_of : (xs : List Op) (op : Op) → slice_get xs (length xs - 1) ≡ Some op → reverse xs ≡ op ∷ older_of (reverse xs)
-newest_of [] op e = cc
-newest_of (x ∷ xs) op e =
+-- the newest operation, and the older ones
+pub newest_is : (xs : List Op) (op : Op) → slice_get xs (length xs - 1) ≡ Some op → reverse xs ≡ op ∷ older_of (reverse xs)
+newest_is [] op e = cc
+newest_is (x ∷ xs) op e =
     let k : length (x ∷ xs) - 1 ≡ length xs = omega arith in
     let r = last_of x xs op (ap (slice_get (x ∷ xs)) (sym k) ∙ e) in
     let a : reverse (x ∷ xs) ≡ op ∷ reverse r.0 = ap reverse r.1 ∙ reverse-append r.0 (op ∷ []) in
     a ∙ ap (λ z. op ∷ older_of z) (sym a)
 
--- the element of a newest operation
-pub newest_is : (xs : List Op) (op : Op) → slice_get xs (length xs - 1) ≡ Some op → reverse xs ≡ op ∷ older_of (reverse xs)
-newest_is xs op e = newest_of xs op e
+-- an operation's element, by where it stands
+abbrev element_by : Place → Option (Place × Identifier) → Option Identifier
+element_by p o = elim o [ None ↦ None | Some e ↦ if place_eq e.0 p then Some e.1 else None ]
 
-abbrev pair : Place → Identifier → Place × Identifier
-pair p i = (p, i)
+element-by : (p : Place) (op : Op) → element_of p op ≡ element_by p (stands_in op)
+element-by catalogue (Section i l r t) = refl
+element-by catalogue (Text i s l r c) = refl
+element-by catalogue (Delete i) = refl
+element-by (within p) (Section i l r t) = refl
+element-by (within p) (Text i s l r c) = refl
+element-by (within p) (Delete i) = refl
 
-not_none : (p : Place) (i : Identifier) → Some (pair p i) ≡ None → ⊥
-not_none p i e = cc
-
-same_pair : (p q : Place) (i x : Identifier) → Some (pair p i) ≡ Some (pair q x) → (p ≡ q) × (i ≡ x)
-same_pair p q i x e = let d : pair p i ≡ pair q x = cc in (ap (λ z. z.0) d, ap (λ z. z.1) d)
-
--- an operation's place says where it is an element
-element-yes : (p q : Place) (op : Op) (x : Identifier) → stands_in op ≡ Some (q, x) → place_eq q p ≡ true → element_of p op ≡ Some x
-element-yes catalogue q (Section i l r t) x e h = ap Some (same_pair catalogue q i x e).1
-element-yes (within p) q (Section i l r t) x e h = let d : q ≡ catalogue = sym (same_pair catalogue q i x e).0 in absurd (false≢true (ap (λ z. place_eq z (within p)) (sym d) ∙ h))
-element-yes catalogue q (Text i s l r c) x e h = let d : q ≡ within s = sym (same_pair (within s) q i x e).0 in absurd (false≢true (ap (λ z. place_eq z catalogue) (sym d) ∙ h))
-element-yes (within p) q (Text i s l r c) x e h =
-    let d : q ≡ within s = sym (same_pair (within s) q i x e).0 in
-    let f : i ≡ x = (same_pair (within s) q i x e).1 in
-    ap (λ b. if b then Some i else None) (ap (λ z. place_eq z (within p)) (sym d) ∙ h) ∙ ap Some f
-element-yes p q (Delete i) x e h = absurd (not_none q x (sym e))
-
-element-no : (p q : Place) (op : Op) (x : Identifier) → stands_in op ≡ Some (q, x) → place_eq q p ≡ false → element_of p op ≡ None
-element-no catalogue q (Section i l r t) x e h = let d : q ≡ catalogue = sym (same_pair catalogue q i x e).0 in absurd (true≢false (ap (λ z. place_eq z catalogue) (sym d) ∙ h))
-element-no (within p) q (Section i l r t) x e h = refl
-element-no catalogue q (Text i s l r c) x e h = refl
-element-no (within p) q (Text i s l r c) x e h =
-    let d : q ≡ within s = sym (same_pair (within s) q i x e).0 in
-    ap (λ b. if b then Some i else None) (ap (λ z. place_eq z (within p)) (sym d) ∙ h)
-element-no p q (Delete i) x e h = absurd (not_none q x (sym e))
-
-element-none : (p : Place) (op : Op) → stands_in op ≡ None → element_of p op ≡ None
-element-none p (Section i l r t) e = absurd (not_none catalogue i e)
-element-none p (Text i s l r c) e = absurd (not_none (within s) i e)
-element-none catalogue (Delete i) e = refl
-element-none (within p) (Delete i) e = refl
-
-pub listed-same : (op : Op) (older : List Op) (listed : List Listed) → stands_in op ≡ None → ListsAll older listed → ListsAll (op ∷ older) listed
-listed-same op older listed e f p = f p ∙ sym (order-none p op older (element-none p op e))
+element-at : (p q : Place) (op : Op) (x : Identifier) (b : Bool) → stands_in op ≡ Some (q, x) → place_eq q p ≡ b → element_of p op ≡ (if b then Some x else None)
+element-at p q op x b e h = element-by p op ∙ ap (element_by p) e ∙ ap (λ b. if b then Some x else None) h
 
 place_eq-true : (q p : Place) → place_eq q p ≡ true → q ≡ p
 place_eq-true catalogue catalogue h = refl
@@ -138,18 +101,18 @@ listed-newest op older listed q x count i e f c l p =
           ∙ ap (λ z. a ++ z) (at-yes p new (drop i listed) h)
           ∙ (λ j. sym first j ++ x ∷ sym second j)
           ∙ ap (λ z. placed (λ w. before_in z (op ∷ older) w x) z x) (f p)
-          ∙ sym (order-some p op older x (element-yes p q op x e h))
+          ∙ sym (order-some p op older x (element-at p q op x true e h))
       | inr h ↦
           elements_at-append p (take i listed) (new ∷ drop i listed)
           ∙ ap (λ z. a ++ z) (at-no p new (drop i listed) h)
-          ∙ sym whole ∙ f p ∙ sym (order-none p op older (element-no p q op x e h))
+          ∙ sym whole ∙ f p ∙ sym (order-none p op older (element-at p q op x false e h))
     ]
 
 pub ruleset end_steps = (taken_yes, taken_no, left_yes, left_no)
 
 pub listed-kept : (ops : List Op) (op : Op) (listed : List Listed) → slice_get ops (length ops - 1) ≡ Some op → stands_in op ≡ None → ListsAll (older_of (reverse ops)) listed → ListsAll (reverse ops) listed
 listed-kept ops op listed e n f p =
-    listed-same op (older_of (reverse ops)) listed n f p ∙ ap (order p) (sym (newest_is ops op e))
+    f p ∙ sym (order-none p op (older_of (reverse ops)) (element-by p op ∙ ap (element_by p) n)) ∙ ap (order p) (sym (newest_is ops op e))
 
 pub listed-found : (ops : List Op) (op : Op) (old new : List Listed) (q : Place) (x : Identifier) (finished : List Identifier) (count i : ℕ)
     → slice_get ops (length ops - 1) ≡ Some op → stands_in op ≡ Some (q, x) → ListsAll (older_of (reverse ops)) old

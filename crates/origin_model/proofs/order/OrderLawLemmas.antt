@@ -1,27 +1,11 @@
 -- The laws of the order: it is total, later operations keep it, and it is fixed by the set of operations alone.
-use Rattle.std.proofs.Common.{Bool, List, [], ap, false, not, refl, sym, true, ℕ, ◌++◌, ◌||◌, ◌∙◌, ◌∷◌, ◌≡◌, ◌≢◌}
-use Rattle.std.specs.List.{flat_map}
-use Rattle.std.specs.Prelude.{None, Option, Some, codes, filter}
+use Rattle.origin_model.proofs.Words.{All-contains, Bool, Delete, Identifier, IsIn, IsPartOf, Lawful, List, None, Op, Option, Place, SameOps, Section, Some, Text, [], ap, before, before_in, catalogue, codes, deletes, false, filter, flat_map, has_op, holder, is_hidden, manuscript, not, older_of, op_eq, order, refl, scalar_of, sym, title_of, true, true≢false, within, ℕ, ◌++◌, ◌||◌, ◌∙◌, ◌∷◌, ◌≡◌, ◌≢◌}
 use Rattle.std.specs.Str.{encode_utf8_all}
-use Rattle.std.proofs.lemmas.Bool.{true≢false}
-use Rattle.fugue_ids.specs.Identifiers.{Identifier}
-use Rattle.fugue_ids.specs.Ops.{op_eq}
-use Rattle.fugue_ids.specs.declared.op.Op.{Op}
-use Rattle.fugue_ids.specs.declared.op.Op.TheVariants.{Delete, Section, Text}
-use Rattle.origin_model.specs.order.Laws.{IsIn, IsPartOf, KeepsOrder, LaterOpsKeepOrder, OrderBySet, OrderTotal, PartsKeepOrder, SameOps}
-use Rattle.origin_model.specs.operations.History.{has_op, holder}
-use Rattle.origin_model.specs.order.Order.{before, before_in, older_of, order}
-use Rattle.origin_model.specs.order.Printed.{deletes, is_hidden, manuscript, scalar_of, title_of}
-use Rattle.origin_model.specs.operations.Verdict.{Lawful}
-use Rattle.origin_model.specs.declared.operations.place.Place.{Place}
-use Rattle.origin_model.specs.declared.operations.place.Place.TheVariants.{Catalogue as catalogue, Section as within}
-use Rattle.origin_model.proofs.operations.LookupLemmas.{holder-has, holder_owns}
-use Rattle.origin_model.proofs.operations.ReadyLemmas.{has-holder}
+use Rattle.origin_model.specs.order.Laws.{KeepsOrder, LaterOpsKeepOrder, OrderBySet, OrderTotal, PartsKeepOrder}
+use Rattle.origin_model.proofs.operations.LookupLemmas.{has-holder, holder-has, holder_owns}
 use Rattle.origin_model.proofs.order.StrictOrderLemmas.{before_in-irrefl, before_in-total, before_in-trans}
-use Rattle.origin_model.proofs.order.OrderLemmas.{order-ordered}
-use Rattle.origin_model.proofs.order.PlaceLemmas.{IsIn-held, order-has, order-in}
+use Rattle.origin_model.proofs.order.OrderLemmas.{IsIn-held, order-has, order-in, order-ordered}
 use Rattle.origin_model.proofs.order.PartLemmas.{Lawful-append, Within, Within-append, before-within, order-same, order-within}
-use Rattle.std.proofs.lemmas.List.Elements.{All-contains}
 use Rattle.fugue_ids.proofs.ListLemmas.{all_pairs_weaker}
 
 -- a lawful history holds what a part of it holds

@@ -1,14 +1,7 @@
 -- Lists whose members stand in a transitive order: one more member goes in behind those that stand before it, and two such lists with the same members are equal.
-use Rattle.std.proofs.Common.{Bool, List, [], ap, arith, cond, drop, false, inl, inr, refl, subst, suc, sym, take, true, ◌++◌, ◌+◌, ◌∙◌, ◌∷◌, ◌≡◌, ◌≢◌}
-use Rattle.std.specs.List.{All, Contains}
-use Rattle.std.specs.Prelude.{count_by}
-use Rattle.std.proofs.lemmas.Bool.{cases_Bool, false_from_ne_true, true≢false}
-use Rattle.std.proofs.lemmas.List.Elements.{All-cons, All-head, All-nil, All-tail, All-weaker}
+use Rattle.origin_model.proofs.Words.{All, All-cons, All-head, All-nil, All-tail, All-weaker, Bool, Contains, Identifier, IsOrderedBy, List, [], all_insert, all_pairs_head, all_pairs_nil, all_pairs_tail, ap, arith, cases_Bool, cond, contains_cases, contains_here, contains_none, contains_there, count_by, drop, false, false_from_ne_true, inl, inr, placed, refl, subst, suc, sym, take, true, true≢false, ◌++◌, ◌+◌, ◌∙◌, ◌∷◌, ◌≡◌, ◌≢◌}
 use Rattle.std.proofs.lemmas.List.Kept.{AllPairs-cons}
 use Rattle.std.proofs.lemmas.List.Sums.{sum_by-cons}
-use Rattle.fugue_ids.specs.Identifiers.{Identifier}
-use Rattle.fugue_ids.proofs.ListLemmas.{all_insert, all_pairs_head, all_pairs_nil, all_pairs_tail, contains_cases, contains_here, contains_none, contains_there}
-use Rattle.origin_model.specs.order.Order.{IsOrderedBy, placed}
 use Rattle.origin_model.proofs.order.ListPartLemmas.{first_before, in_rest}
 
 -- a first member that passes counts one more

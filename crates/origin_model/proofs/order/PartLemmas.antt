@@ -1,24 +1,11 @@
 -- The order of a part of a history is that of the whole with the elements that the part lacks left out, where both are lawful.
-use Rattle.std.proofs.Common.{Bool, List, [], ap, false, inl, inr, refl, subst, sym, true, ◌&&◌, ◌++◌, ◌||◌, ◌∙◌, ◌∷◌, ◌≡◌}
-use Rattle.std.specs.Prelude.{None, Option, Some, filter, is_some}
-use Rattle.std.proofs.lemmas.Bool.{cases_Bool, false≢true}
-use Rattle.fugue_ids.specs.Identifiers.{Identifier, id_lt, origin_eq}
-use Rattle.fugue_ids.specs.declared.op.Op.{Op}
-use Rattle.origin_model.specs.order.Laws.{IsIn}
-use Rattle.origin_model.specs.operations.History.{element_of, holder, holds, is_own, left_of, right_of}
-use Rattle.origin_model.specs.order.Order.{before_in, chain_before, fork_before, lefts, older_of, order, right_at, rights, sibling, chain, next_left, next_right}
-use Rattle.origin_model.specs.operations.Verdict.{Lawful}
-use Rattle.origin_model.specs.declared.operations.place.Place.{Place}
+use Rattle.origin_model.proofs.Words.{Bool, Identifier, IsIn, Lawful, List, None, Op, Option, Place, Some, [], ap, before_in, cases_Bool, cases_origin, chain, contains_filter_from, element_of, false, false≢true, filter, fork_before, holder, holds, id_lt, inl, inr, is_own, is_some, left_of, lefts, next_left, next_right, older_of, order, origin_eq, refl, right_at, right_of, rights, subst, sym, true, ◌&&◌, ◌++◌, ◌||◌, ◌∙◌, ◌∷◌, ◌≡◌}
 use Rattle.origin_model.proofs.order.OrderedListLemmas.{Ordered-agree, same_ordered}
 use Rattle.origin_model.proofs.order.PositionLemmas.{Stands, origin_before, origin_lt, origin_same}
-use Rattle.origin_model.proofs.order.ChainOrderLemmas.{chain_before-agree}
-use Rattle.origin_model.proofs.operations.LookupLemmas.{IsHeld, found, holder-other, holder-own, holds-older, holds-some}
-use Rattle.origin_model.proofs.operations.ReadyLemmas.{IsReady, held_not_own, left_named, right_by, right_named, when_ready}
-use Rattle.origin_model.proofs.order.StrictOrderLemmas.{before_in-irrefl, before_in-trans}
-use Rattle.origin_model.proofs.order.OrderLemmas.{before_in-older, order-ordered}
-use Rattle.origin_model.proofs.order.PlaceLemmas.{IsIn-held, lefts-in, order-has, order-in, order-member, right_at_in, rights-in}
-use Rattle.fugue_ids.proofs.ListLemmas.{contains_filter, contains_filter_from}
-use Rattle.fugue_ids.proofs.IdentifierLemmas.{cases_origin}
+use Rattle.origin_model.proofs.operations.LookupLemmas.{IsHeld, IsReady, found, held_not_own, holder-other, holder-own, holds-older, left_named, right_by, right_named, when_ready}
+use Rattle.origin_model.proofs.order.StrictOrderLemmas.{before_agree, before_in-irrefl, before_in-trans}
+use Rattle.origin_model.proofs.order.OrderLemmas.{IsIn-held, before_in-older, lefts-in, order-has, order-in, order-member, order-ordered, right_at_in, rights-in}
+use Rattle.fugue_ids.proofs.ListLemmas.{contains_filter}
 use Rattle.std.proofs.lemmas.List.Kept.{AllPairs-filter}
 use Rattle.origin_model.proofs.order.ChainLemmas.{above-same, beside-same, beside_is, chain-other, chain-own, chain_above}
 
@@ -28,7 +15,7 @@ Within s h = (i : Identifier) (op : Op) → holder s i ≡ Some op → holder h 
 
 -- without its newest operation the part is still within the whole
 within-older : (op : Op) (s h : List Op) → IsReady s op → Within (op ∷ s) h → Within s h
-within-older op s h w f i o e = f i o (holder-other op s i (held_not_own op s i w (holds-some s i o e)) ∙ e)
+within-older op s h w f i o e = f i o (holder-other op s i (held_not_own op s i w (ap is_some e)) ∙ e)
 
 -- an origin of held elements that is held when they come
 module _ (origin : Op → Option Identifier) (named : (h : List Op) (op : Op) (l : Identifier) → IsReady h op → origin op ≡ Some l → IsHeld h l) where
@@ -43,11 +30,11 @@ module _ (origin : Op → Option Identifier) (named : (h : List Op) (op : Op) (l
 
 -- the left origin of a held element is held
 pub left_origin_held : (h : List Op) (c : Identifier) (op : Op) (l : Identifier) → Lawful h → holder h c ≡ Some op → left_of op ≡ Some l → IsHeld h l
-left_origin_held = origin_held left_of (λ h op l w. left_named h op l w.none_missing)
+left_origin_held = origin_held left_of (λ h op l w. left_named h op l w)
 
 -- the right origin of a held element is held
 pub right_origin_held : (h : List Op) (c : Identifier) (op : Op) (l : Identifier) → Lawful h → holder h c ≡ Some op → right_of op ≡ Some l → IsHeld h l
-right_origin_held = origin_held right_of (λ h op l w. right_named h op l w.none_missing)
+right_origin_held = origin_held right_of (λ h op l w. right_named h op l w)
 
 -- whether what a look-up found has this left origin
 abbrev pub has_left_by : Option Identifier → Option Op → Bool
@@ -60,7 +47,7 @@ pub record RestsOn (h : List Op) (op : Op) : Type 0 where
 
 -- a Ready operation rests on the history
 pub ready_rests : (h : List Op) (op : Op) → IsReady h op → RestsOn h op
-ready_rests h op w = record { left = λ l. left_named h op l w.none_missing; right = λ r. right_named h op r w.none_missing }
+ready_rests h op w = record { left = λ l. left_named h op l w; right = λ r. right_named h op r w }
 
 -- so does each that is held
 pub held_rests : (h : List Op) (c : Identifier) (op : Op) → Lawful h → holder h c ≡ Some op → RestsOn h op
@@ -78,7 +65,7 @@ module _ (next : List Op → Op → Option Identifier) (held : (h : List Op) (op
       let grown : (a : Op) → RestsOn older a → chain_above next older (next older a) ++ x ∷ [] ≡ chain_above next h (next h a) ++ x ∷ [] = λ a r.
       ap (λ c. c ++ x ∷ [])
       (above-same next older h (next older a) (λ y f. sym (chain-other next o older y (held_not_own o older y ready (held older a y r f))))
-      ∙ ap (chain_above next h) (kept older h a r (λ i b k. holder-other o older i (held_not_own o older i ready (holds-some older i b k)) ∙ k))) in
+      ∙ ap (chain_above next h) (kept older h a r (λ i b k. holder-other o older i (held_not_own o older i ready (ap is_some k)) ∙ k))) in
       elim (cases_Bool (is_own x o)) [
         | inl k ↦ let d : o ≡ op = cc (holder-own o older x k, e) in chain-own next o older x k ∙ grown o (ready_rests older o ready) ∙ ap (λ a. chain_above next h (next h a) ++ x ∷ []) d
         | inr k ↦ let g : holder older x ≡ Some op = sym (holder-other o older x k) ∙ e in chain-other next o older x k ∙ chain-at older x op w.1 g ∙ grown op (held_rests older x op w.1 g)
@@ -200,13 +187,8 @@ before-within p [] h v w f x y m n = cc (m.held)
 before-within p (op ∷ s) h v w f x y m n =
     let t : List Op = op ∷ s in
     let g : Within s h = within-older op s h (when_ready s op v.0) f in
-    let fork : (c d : Identifier) → IsIn p t c → IsIn p t d → fork_before (order p s) t c d ≡ fork_before (order p (older_of h)) h c d =
-    fork-agree p op s h v w f (before-within p s h v.1 w g) in
-    let sib : (a b : Identifier) → IsIn p t a → IsIn p t b → sibling (order p s) t a b ≡ sibling (order p (older_of h)) h a b = λ a b k l.
-    chain_before-agree false (fork_before (order p s) t) (fork_before (order p (older_of h)) h) (IsIn p t) fork (rights t a) (rights t b) (rights-in p t a v k) (rights-in p t b v l)
-    ∙ (λ i. chain_before false (fork_before (order p (older_of h)) h) (rights-within t h a v w f (IsIn-held p t a k) i) (rights-within t h b v w f (IsIn-held p t b l) i)) in
-    chain_before-agree true (sibling (order p s) t) (sibling (order p (older_of h)) h) (IsIn p t) sib (lefts t x) (lefts t y) (lefts-in p t x v m) (lefts-in p t y v n)
-    ∙ (λ i. chain_before true (sibling (order p (older_of h)) h) (lefts-within t h x v w f (IsIn-held p t x m) i) (lefts-within t h y v w f (IsIn-held p t y n) i))
+    before_agree (order p s) (order p (older_of h)) t h (IsIn p t) (fork-agree p op s h v w f (before-within p s h v.1 w g))
+    (λ a k. lefts-within t h a v w f (IsIn-held p t a k)) (λ a k. rights-within t h a v w f (IsIn-held p t a k)) (λ a. lefts-in p t a v) (λ a. rights-in p t a v) x y m n
 
 -- elements of the part compare at a fork as in the whole
 pub fork-within : (p : Place) (s h : List Op) → Lawful s → Lawful h → Within s h

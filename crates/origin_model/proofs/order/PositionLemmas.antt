@@ -1,13 +1,10 @@
 -- Indexes of origins in a list: as the list gains a member they keep their order, and in an ordered list they say which origin stands first.
-use Rattle.std.proofs.Common.{Bool, List, [], ap, arith, cond, false, inl, inr, length, nat_eq, nat_lt, suc, sym, true, zero, ℕ, ◌<◌, ◌∙◌, ◌∷◌, ◌≡◌, ◌≤◌}
-use Rattle.std.specs.List.{Contains, insert}
-use Rattle.std.specs.Prelude.{None, Option, Some, refl}
-use Rattle.std.proofs.lemmas.Bool.{cases_Bool, eq-eqb, false_from_ne_true, le-ltb, lt-ltb, ne_eqb, true≢false}
+use Rattle.origin_model.proofs.Words.{Bool, Contains, Identifier, IsOrderedBy, List, None, Option, Some, [], ap, arith, cases_Bool, cases_id, cond, eq-eqb, eq-id_eq, false, false_from_ne_true, index_of_origin, inl, inr, insert, length, nat_eq, ne-id_eq, ne_eqb, origin_eq, refl, suc, sym, true, true≢false, zero, ℕ, ◌<◌, ◌∙◌, ◌∷◌, ◌≡◌, ◌≤◌}
+use Rattle.std.proofs.Common.{nat_lt}
+use Rattle.std.proofs.lemmas.Bool.{le-ltb, lt-ltb, ltb-true}
 use Rattle.std.proofs.lemmas.Bool.Decides.{nat_tests}
-use Rattle.fugue_ids.specs.Identifiers.{Identifier, origin_eq}
 use Rattle.fugue_ids.specs.Listed.{index_of}
-use Rattle.fugue_ids.proofs.IdentifierLemmas.{at-index_of, cases_id, contains-below, eq-id_eq, ne-id_eq, same-index_of}
-use Rattle.origin_model.specs.order.Order.{IsOrderedBy, index_of_origin}
+use Rattle.fugue_ids.proofs.IdentifierLemmas.{at-index_of, contains-below, same-index_of}
 
 -- an index in a list that gains a member at n
 abbrev pub shifted : ℕ → ℕ → ℕ
@@ -68,9 +65,6 @@ index_end [] = refl
 index_end (e ∷ es) = omega (arith, index_end es)
 
 -- what a test of two numbers tells
-earlier : (a b : ℕ) → nat_lt a b ≡ true → a < b
-earlier a b h = grind (arith, nat_tests)
-
 later : (a b : ℕ) → nat_lt a b ≡ false → (a ≡ b → ⊥) → b < a
 later a b h n = grind (arith, nat_tests)
 
@@ -84,7 +78,7 @@ module _ (R : Identifier → Identifier → Bool) (irrefl : (a : Identifier) →
   member_lt : (o : List Identifier) (s r : Identifier) → IsOrderedBy R o → Contains o s → Contains o r → nat_lt (index_of o s) (index_of o r) ≡ R s r
   member_lt o s r w p q =
       elim (cases_Bool (nat_lt (index_of o s) (index_of o r))) [
-        | inl l ↦ l ∙ sym (in_order o s r w p q (earlier _ _ l))
+        | inl l ↦ l ∙ sym (in_order o s r w p q (ltb-true _ _ l))
         | inr n ↦ n ∙ sym (false_from_ne_true (R s r) (λ k. elim (cases_id s r) [
           | inl e ↦ true≢false (sym k ∙ ap (R s) (sym e) ∙ irrefl s)
           | inr d ↦ true≢false (sym (trans s r s k (in_order o r s w q p (later _ _ n (λ j. d (same-index_of o s r p j))))) ∙ irrefl s)

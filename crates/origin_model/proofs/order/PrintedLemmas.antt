@@ -1,15 +1,8 @@
 -- What is printed, by the parts that the elements of the list add.
-use Rattle.std.proofs.Common.{◌≡◌, refl, sym, ◌∙◌, ap, List, [], ◌∷◌, ◌++◌, Bool, true, false, not, ◌&&◌, cond, ℕ, append_assoc}
-use Rattle.std.specs.Prelude.{filter, flat_map, codes, if◌then◌else◌}
+use Rattle.origin_model.proofs.Words.{Bool, Identifier, List, Op, Place, [], ap, append_assoc, catalogue, codes, cond, false, filter, flat_map, holder, if◌then◌else◌, is_hidden, manuscript, not, place_eq, printed_section, refl, scalar_of, shown, sym, text, true, within, ℕ, ◌&&◌, ◌++◌, ◌∙◌, ◌∷◌, ◌≡◌}
 use Rattle.std.specs.Str.{encode_utf8_all}
 use lib.Utf8.{encode}
-use Rattle.fugue_ids.specs.Identifiers.{Identifier}
-use Rattle.fugue_ids.specs.declared.op.Op.{Op}
-use Rattle.origin_model.specs.declared.operations.place.Place.{Place}
-use Rattle.origin_model.specs.declared.operations.place.Place.TheVariants.{Catalogue as catalogue, Section as within}
 use Rattle.origin_model.specs.declared.order.listed.Listed.{Listed}
-use Rattle.origin_model.specs.operations.History.{place_eq, holder}
-use Rattle.origin_model.specs.order.Printed.{is_hidden, shown, scalar_of, text, printed_section, manuscript}
 use Rattle.origin_model.specs.order.Listed.{elements_at, ListsAll, part, scalar_bytes_of, shows}
 
 module _ (bytes_of : Identifier → List ℕ) (h : List Op) (p : Place) where

@@ -1,13 +1,21 @@
 -- For any history and any finished list, the comparison of elements is a strict order, and total on the elements that are held.
-use Rattle.std.proofs.Common.{List, false, true, ℕ, ◌≡◌, ◌≢◌}
-use Rattle.fugue_ids.specs.Identifiers.{Identifier}
-use Rattle.fugue_ids.specs.declared.op.Op.{Op}
-use Rattle.origin_model.specs.order.Order.{before_in, fork_before, lefts, index_of_origin, right_at, rights, sibling, next_left, next_right}
-use Rattle.origin_model.proofs.order.RankLemmas.{ranked-irrefl, ranked-total, ranked-trans}
-use Rattle.origin_model.proofs.order.ChainOrderLemmas.{chain_before-irrefl, chain_before-total, chain_before-trans}
+use Rattle.origin_model.proofs.Words.{arith, id_eq, ranked, All, chain_before, ◌∙◌, Identifier, List, Op, before_in, false, fork_before, index_of_origin, lefts, ne-id_eq, next_left, next_right, right_at, rights, sibling, true, ℕ, ◌≡◌, ◌≢◌}
+use Rattle.std.proofs.lemmas.Bool.Decides.{nat_tests}
+use Rattle.origin_model.proofs.order.ChainOrderLemmas.{chain_before-agree, chain_before-irrefl, chain_before-total, chain_before-trans}
 use Rattle.origin_model.proofs.operations.LookupLemmas.{IsHeld}
 use Rattle.origin_model.proofs.order.ChainLemmas.{chain-held, same_chain}
-use Rattle.fugue_ids.proofs.IdentifierLemmas.{ne-id_eq}
+
+-- nothing stands before itself by rank and identifier
+pub ranked-irrefl : (n : ℕ) (a : Identifier) → ranked n n a a ≡ false
+ranked-irrefl n a = grind (arith, nat_tests)
+
+-- rank and identifier are transitive
+pub ranked-trans : (l m n : ℕ) (a b c : Identifier) → ranked l m a b ≡ true → ranked m n b c ≡ true → ranked l n a c ≡ true
+ranked-trans l m n a b c h k = grind (arith, nat_tests)
+
+-- of two distinct ones, one stands first by rank and identifier
+pub ranked-total : (m n : ℕ) (a b : Identifier) → id_eq a b ≡ false → ranked m n a b ≡ false → ranked n m b a ≡ true
+ranked-total m n a b h k = grind (arith, nat_tests)
 
 -- the comparisons by a finished list o and a history h
 module _ (o : List Identifier) (h : List Op) where
@@ -52,3 +60,19 @@ module _ (o : List Identifier) (h : List Op) where
   pub before_in-total : (x y : Identifier) → IsHeld h x → IsHeld h y → x ≢ y → before_in o h x y ≡ false → before_in o h y x ≡ true
   before_in-total x y p q n =
       chain_before-total true (sibling o h) (IsHeld h) sibling-total (lefts h x) (lefts h y) (chain-held next_left h x) (chain-held next_left h y) (λ e. n (same_chain next_left h x y p q e))
+
+-- two histories with their finished lists, and elements that have the same chains in both and compare alike at a fork
+module _ (o q : List Identifier) (s h : List Op) (P : Identifier → Type 0) (fork : (a b : Identifier) → P a → P b → fork_before o s a b ≡ fork_before q h a b)
+    (lefts_same : (a : Identifier) → P a → lefts s a ≡ lefts h a) (rights_same : (a : Identifier) → P a → rights s a ≡ rights h a)
+    (lefts_in : (a : Identifier) → P a → All P (lefts s a)) (rights_in : (a : Identifier) → P a → All P (rights s a)) where
+  -- they compare alike as siblings
+  sibling_agree : (a b : Identifier) → P a → P b → sibling o s a b ≡ sibling q h a b
+  sibling_agree a b k l =
+      chain_before-agree false (fork_before o s) (fork_before q h) P fork (rights s a) (rights s b) (rights_in a k) (rights_in b l)
+      ∙ (λ i. chain_before false (fork_before q h) (rights_same a k i) (rights_same b l i))
+
+  -- and as elements
+  pub before_agree : (a b : Identifier) → P a → P b → before_in o s a b ≡ before_in q h a b
+  before_agree a b k l =
+      chain_before-agree true (sibling o s) (sibling q h) P sibling_agree (lefts s a) (lefts s b) (lefts_in a k) (lefts_in b l)
+      ∙ (λ i. chain_before true (sibling q h) (lefts_same a k i) (lefts_same b l i))

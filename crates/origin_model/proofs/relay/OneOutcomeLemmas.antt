@@ -1,34 +1,31 @@
--- The definitions leave nothing open: bytes are of one kind, and so events leave a relay in one state, with the same replies.
-use Rattle.std.proofs.Common.{[], List, ap, arith, get_or, length, lit<, refl, subst, sym, ℕ, ◌++◌, ◌<◌, ◌∙◌, ◌∷◌, ◌≡◌}
-use Rattle.std.specs.Prelude.{None, Option, Some}
+-- The definitions leave nothing open: bytes are of one kind, and so events leave a relay in one state, with the same replies; where bytes are of some kind, events leave it in some state.
+use Rattle.origin_model.proofs.Words.{Delete, List, None, Op, Option, Section, Some, Text, [], ap, arith, get_or, length, refl, subst, sym, ℕ, ◌++◌, ◌<◌, ◌∙◌, ◌∷◌, ◌≡◌}
 use Rattle.std.specs.FinMap as finite
-use Rattle.fugue_ids.specs.declared.op.Op.{Op}
-use Rattle.fugue_ids.specs.declared.op.Op.TheVariants.{Delete, Section, Text}
 use Rattle.origin_model.specs.declared.relay.event.Event.{Event}
 use Rattle.origin_model.specs.declared.relay.event.Event.TheVariants.{Gone, Opened, Piece}
 use Rattle.origin_model.specs.declared.relay.reply.Reply.{Reply}
 use Rattle.origin_model.specs.frames.Frames.{HasFrame, IsPartial, frame}
-use Rattle.origin_model.specs.relay.Relay.{Relay, Runs, Steps, StepsPiece, reply_of, sessions_after}
-use Rattle.origin_model.specs.relay.Session.{Closes, Closing, Frame, Front, Goes, IsKind, Kind, Neither, Next, Reading, Taken, TakesAll, TakesByte, TakesOne, closing, told}
+use Rattle.origin_model.specs.relay.Relay.{Relay, Runs, Steps, StepsPiece, opened, reply_of, sessions_after}
+use Rattle.origin_model.specs.relay.Session.{Closes, Closing, Frame, Front, Goes, IsKind, Kind, Neither, Next, Reading, Taken, TakesAll, TakesByte, TakesOne, closing, greeted, told}
 
 -- no frame is a proper front of another
 abbrev pub NoFront : Type 0
 NoFront = (a b : Op) (more : List ℕ) → HasFrame a → HasFrame b → frame b ≡ frame a ++ more → more ≡ []
 
 -- the first byte
-first : List ℕ → ℕ
+unfoldable pub first : List ℕ → ℕ
 first bytes = get_or bytes 0 0
 
--- small numbers are not the closing byte
-small_apart : (n : ℕ) → n < 0x44 → n ≡ 0x44 → ⊥
-small_apart n l e = absurd (omega arith)
-
--- no frame begins with the closing byte
-no_closing : (op : Op) (more : List ℕ) → frame op ≡ closing ++ more → ⊥
+-- a frame begins with 1, 2 or 3
+pub begins_low : (op : Op) (byte : ℕ) (more : List ℕ) → frame op ≡ byte ∷ more → byte < 4
 unfolding first
-no_closing (Section id left right title) more e = small_apart 1 (lit< tt) (ap first e)
-no_closing (Text id section left right ch) more e = small_apart 2 (lit< tt) (ap first e)
-no_closing (Delete target) more e = small_apart 3 (lit< tt) (ap first e)
+begins_low (Section id left right title) byte more e = let d : 1 ≡ byte = ap first e in omega (arith, d)
+begins_low (Text id section left right ch) byte more e = let d : 2 ≡ byte = ap first e in omega (arith, d)
+begins_low (Delete target) byte more e = let d : 3 ≡ byte = ap first e in omega (arith, d)
+
+-- so none begins with the closing byte
+no_closing : (op : Op) (more : List ℕ) → frame op ≡ closing ++ more → ⊥
+no_closing op more e = let l : 0x44 < 4 = begins_low op 0x44 more e in omega (arith, l)
 
 -- a frame is not the closing byte
 frame_not_closing : (bytes : List ℕ) → IsKind Frame bytes → bytes ≡ closing → ⊥
@@ -105,3 +102,46 @@ run_once one (event ∷ events) start a b as' bs h i =
     let both = step_once one start event h.0 i.0 h.1 i.1 h.3 i.3 in
     let rest = run_once one events i.0 a b h.2 i.2 (subst (λ (s : Relay). Runs s events a h.2) both.0 h.4) i.4 in
     (rest.0, h.5 ∙ (λ j. both.1 j ∷ rest.1 j) ∙ sym i.5)
+
+-- bytes are of some kind
+abbrev pub SomeKind : Type 0
+SomeKind = (bytes : List ℕ) → (kind : Kind) × IsKind kind bytes
+
+-- one byte has an outcome
+byte_some : SomeKind → (limit : ℕ) (log : List (List ℕ)) (cursor : Option ℕ) (bytes : List ℕ) → (after : Taken) × TakesByte limit log cursor bytes after
+byte_some some limit log None bytes = (greeted log bytes, refl)
+byte_some some limit log (Some cursor) bytes = let k = some bytes in (told k.0 limit log cursor bytes, (k.0, k.1, refl))
+
+-- also where the session is closed
+one_some : SomeKind → (limit byte : ℕ) (log : List (List ℕ)) (next : Next) → (after : Taken) × TakesOne limit byte log next after
+one_some some limit byte log (Goes reading) = byte_some some limit log reading.cursor (reading.rest ++ byte ∷ [])
+one_some some limit byte log (Closes reply) = (record { log = log; next = Closes reply }, refl)
+
+-- bytes have an outcome
+pub all_some : SomeKind → (limit : ℕ) (bytes : List ℕ) (start : Taken) → (after : Taken) × TakesAll limit bytes start after
+all_some some limit [] start = (start, refl)
+all_some some limit (byte ∷ bytes) start =
+    let middle = one_some some limit byte start.log start.next in
+    let rest = all_some some limit bytes middle.0 in
+    (rest.0, (middle.0, middle.1, rest.1))
+
+-- a piece has an outcome
+piece_some : SomeKind → (old : Relay) (n : ℕ) (found : Option Reading) (bytes : List ℕ) → (new : Relay) × (reply : Option Reply) × StepsPiece old n found bytes new reply
+piece_some some old n None bytes = (old, None, (refl, refl))
+piece_some some old n (Some reading) bytes =
+    let t = all_some some old.limit bytes (record { log = old.log; next = Goes reading }) in
+    (record { limit = old.limit; log = t.0.log; sessions = sessions_after n old.sessions t.0.next }, reply_of n t.0.next, record { taken = t.0; takes = t.1; new_is = refl; reply_is = refl })
+
+-- an event has an outcome
+pub step_some : SomeKind → (old : Relay) (event : Event) → (new : Relay) × (reply : Option Reply) × Steps old event new reply
+step_some some old (Opened n) = (record { limit = old.limit; log = old.log; sessions = opened n old.sessions }, None, (refl, refl))
+step_some some old (Piece n bytes) = piece_some some old n (finite.get old.sessions n) bytes
+step_some some old (Gone n) = (record { limit = old.limit; log = old.log; sessions = finite.remove old.sessions n }, None, (refl, refl))
+
+-- a run of events ends in some state
+pub run_some : SomeKind → (events : List Event) (start : Relay) → (end : Relay) × (replies : List (Option Reply)) × Runs start events end replies
+run_some some [] start = (start, [], (refl, refl))
+run_some some (event ∷ events) start =
+    let first = step_some some start event in
+    let rest = run_some some events first.0 in
+    (rest.0, first.1 ∷ rest.1, (first.0, first.1, rest.1, first.2, rest.2, refl))

@@ -1,22 +1,18 @@
 -- Small runs of a relay: the frames of a section S and of a text A come in two sessions, and others are refused, each at the byte that shows it.
-use Rattle.std.proofs.Common.{[], List, ap, arith, get_or, length, refl, sym, take, drop, ℕ, ◌++◌, ◌∙◌, ◌∷◌, ◌≡◌, ◌≢◌}
+use Rattle.origin_model.proofs.Words.{◌<◌, Delete, Identifier, List, None, Op, Option, Section, Some, Text, [], ap, append-nil, arith, codes, drop, length, refl, sym, take, true, ℕ, ◌++◌, ◌∙◌, ◌∷◌, ◌≡◌, ◌≢◌}
 use Rattle.std.specs.Int.{from_be_bytes, w32}
-use Rattle.std.specs.Prelude.{None, Option, Some, codes, true}
 use lib.Utf8.{encode}
 use Rattle.std.specs.FinMap as finite
 use Rattle.std.specs.FinMap.{gets}
-use Rattle.std.proofs.lemmas.List.{append-nil}
 use Rattle.std.proofs.lemmas.Nat.{from_be_bytes-to_be_bytes_4}
-use Rattle.fugue_ids.specs.Identifiers.{Identifier}
-use Rattle.fugue_ids.specs.declared.op.Op.{Op}
-use Rattle.fugue_ids.specs.declared.op.Op.TheVariants.{Delete, Section, Text}
 use Rattle.origin_model.specs.declared.relay.event.Event.{Event}
 use Rattle.origin_model.specs.declared.relay.event.Event.TheVariants.{Gone, Opened, Piece}
 use Rattle.origin_model.specs.declared.relay.reply.Reply.{Reply}
 use Rattle.origin_model.specs.frames.Frames.{HasFrame, frame}
-use Rattle.origin_model.specs.relay.Relay.{Relay, Runs, Sessions, new_relay}
-use Rattle.origin_model.specs.relay.Session.{answer, Closes, Goes, Reading, IsKind, Neither, TakesAll, closing, goes_on, greeted, refusal, refused, unread}
-use Rattle.origin_model.proofs.relay.RunLemmas.{open_stays, opened_steps, unknown_steps, piece_steps, follows_runs}
+use Rattle.origin_model.specs.relay.Relay.{Relay, Runs, Sessions, Steps, new_relay, reply_of}
+use Rattle.origin_model.specs.relay.Session.{answer, Closes, Goes, Reading, IsKind, Neither, Taken, TakesAll, closing, goes_on, greeted, refusal, refused, unread}
+use Rattle.origin_model.proofs.relay.OneOutcomeLemmas.{begins_low, first}
+use Rattle.origin_model.proofs.relay.RunLemmas.{after_piece, open_stays, opened_steps, unknown_steps, piece_steps, follows_runs}
 use Rattle.origin_model.proofs.relay.TextLemmas.{closing_takes, hello, hello_takes, closed_takes, frame_takes, front_takes, partly, takes-append}
 
 abbrev id : ℕ → ℕ → Identifier
@@ -70,60 +66,36 @@ behind cursor = record { cursor = Some cursor; rest = [] }
 abbrev relay : List (List ℕ) → Sessions → Relay
 relay log sessions = record { limit = many; log = log; sessions = sessions }
 
-abbrev opened_0 : Sessions
-opened_0 = finite.insert finite.empty 0 unread
-
-abbrev opened_1 : Sessions
-opened_1 = finite.insert opened_0 1 unread
-
-abbrev read_0 : Sessions
-read_0 = finite.insert opened_1 0 (behind 0)
-
-abbrev read_1 : Sessions
-read_1 = finite.insert read_0 1 (behind 0)
-
-abbrev read_more : Sessions
-read_more = finite.insert read_1 0 (behind 0)
-
-abbrev closed_1 : Sessions
-closed_1 = finite.remove read_more 1
-
-abbrev closed_0 : Sessions
-closed_0 = finite.remove closed_1 0
+-- both were opened, their greetings and a frame of each were read, and both are closed
+abbrev both_closed : Sessions
+both_closed =
+    let open_two = finite.insert (finite.insert finite.empty 0 unread) 1 unread in
+    finite.remove (finite.remove (finite.insert (finite.insert (finite.insert open_two 0 (behind 0)) 1 (behind 0)) 0 (behind 0)) 1) 0
 
 -- the log has both frames, in the order in which they came, and each session is answered both
-two_sessions_run : Runs (new_relay many) two_sessions (relay both closed_0) (None ∷ None ∷ None ∷ None ∷ None ∷ reply 1 all_frames ∷ reply 0 all_frames ∷ [])
+two_sessions_run : Runs (new_relay many) two_sessions (relay both both_closed) (None ∷ None ∷ None ∷ None ∷ None ∷ reply 1 all_frames ∷ reply 0 all_frames ∷ [])
 unfolding encode
 two_sessions_run =
+    let a : Sessions = finite.insert finite.empty 0 unread in
+    let b : Sessions = finite.insert a 1 unread in
+    let c : Sessions = finite.insert b 0 (behind 0) in
+    let d : Sessions = finite.insert c 1 (behind 0) in
+    let e : Sessions = finite.insert d 0 (behind 0) in
+    let f : Sessions = finite.remove e 1 in
+    let hello_0 = hello_takes many [] 0 (omega arith) in
+    let hello_1 = takes-append many (hello 0) (frame A) (record { log = []; next = Goes unread }) (goes_on [] 0) (goes_on (frame A ∷ []) 0) hello_0 (frame_takes many 0 [] A A_has) in
+    let closes : Taken = record { log = both; next = Closes (answer both 0) } in
+    let s = opened_steps (new_relay many) 0 (simp gets refl) in
+    let t = opened_steps (relay [] a) 1 (simp gets refl) in
+    let u = piece_steps (relay [] b) 0 unread (hello 0) (goes_on [] 0) (simp gets refl) hello_0 in
+    let v = piece_steps (relay [] c) 1 unread (hello 0 ++ frame A) (goes_on (frame A ∷ []) 0) (simp gets refl) hello_1 in
+    let w = piece_steps (relay (frame A ∷ []) d) 0 (behind 0) (frame S) (goes_on both 0) (simp gets refl) (frame_takes many 0 (frame A ∷ []) S S_has) in
+    let x = piece_steps (relay both e) 1 (behind 0) closing closes (simp gets refl) (closing_takes many 0 both) in
+    let y = piece_steps (relay both f) 0 (behind 0) closing closes (simp gets refl) (closing_takes many 0 both) in
     follows_runs (new_relay many)
-    ((Opened 0, relay [] opened_0, None) ∷ (Opened 1, relay [] opened_1, None) ∷ (Piece 0 (hello 0), relay [] read_0, None) ∷ (Piece 1 (hello 0 ++ frame A), relay (frame A ∷ []) read_1, None)
-    ∷ (Piece 0 (frame S), relay both read_more, None) ∷ (Piece 1 closing, relay both closed_1, reply 1 all_frames) ∷ (Piece 0 closing, relay both closed_0, reply 0 all_frames) ∷ []) (
-      opened_steps (new_relay many) 0 (simp gets refl),
-      (
-        opened_steps (relay [] opened_0) 1 (simp gets refl),
-        (
-          piece_steps (relay [] opened_1) 0 unread (hello 0) (goes_on [] 0) (simp gets refl) (hello_takes many [] 0 (omega arith)),
-          (
-            piece_steps (relay [] read_0) 1 unread (hello 0 ++ frame A) (goes_on (frame A ∷ []) 0) (simp gets refl) (takes-append many (hello 0) (frame A) (record { log = []; next = Goes unread }) (goes_on [] 0) (goes_on (frame A ∷ []) 0) (hello_takes many [] 0 (omega arith)) (frame_takes many 0 [] A A_has)),
-            (
-              piece_steps (relay (frame A ∷ []) read_1) 0 (behind 0) (frame S) (goes_on both 0) (simp gets refl) (frame_takes many 0 (frame A ∷ []) S S_has),
-              (
-                piece_steps (relay both read_more) 1 (behind 0) closing (record { log = both; next = Closes (answer both 0) }) (simp gets refl) (closing_takes many 0 both),
-                (
-                  piece_steps (relay both closed_1) 0 (behind 0) closing (record { log = both; next = Closes (answer both 0) }) (simp gets refl) (closing_takes many 0 both),
-                  tt,
-                ),
-              ),
-            ),
-          ),
-        ),
-      ),
-    )
-
--- each answer has 41 bytes
-answers_have_41_bytes : length all_frames ≡ 41
-unfolding encode
-answers_have_41_bytes = refl
+    ((Opened 0, relay [] a, None) ∷ (Opened 1, relay [] b, None) ∷ (Piece 0 (hello 0), relay [] c, None) ∷ (Piece 1 (hello 0 ++ frame A), relay (frame A ∷ []) d, None) ∷ (Piece 0 (frame S), relay both e, None)
+    ∷ (Piece 1 closing, relay both f, reply 1 all_frames) ∷ (Piece 0 closing, relay both both_closed, reply 0 all_frames) ∷ [])
+    (s, (t, (u, (v, (w, (x, (y, tt)))))))
 
 -- a session that one byte follows the other begins at the second frame, and is answered that one
 abbrev byte_by_byte : List Event
@@ -136,57 +108,42 @@ greets bytes = record { cursor = None; rest = bytes }
 abbrev second_frame : List ℕ
 second_frame = frame S ++ 0x55 ∷ 0 ∷ 0 ∷ 0 ∷ 2 ∷ []
 
-abbrev at_2 : Sessions → Reading → Sessions
-at_2 sessions reading = finite.insert sessions 2 reading
+-- session 2 as it greets, byte by byte
+abbrev greeting_2 : Sessions → List (List ℕ) → Sessions
+greeting_2 sessions [] = sessions
+greeting_2 sessions (bytes ∷ more) = greeting_2 (finite.insert sessions 2 (greets bytes)) more
 
 module _ (others : Sessions) where
-  abbrev g1 : Sessions
-  g1 = at_2 others (greets (0x48 ∷ []))
+  abbrev greeted_2 : Sessions
+  greeted_2 = greeting_2 others ((0x48 ∷ []) ∷ (0x48 ∷ 0 ∷ []) ∷ (0x48 ∷ 0 ∷ 0 ∷ []) ∷ (0x48 ∷ 0 ∷ 0 ∷ 0 ∷ []) ∷ [])
 
-  abbrev g2 : Sessions
-  g2 = at_2 g1 (greets (0x48 ∷ 0 ∷ []))
+  abbrev closed_2 : Sessions
+  closed_2 = finite.remove (finite.insert greeted_2 2 (behind 1)) 2
 
-  abbrev g3 : Sessions
-  g3 = at_2 g2 (greets (0x48 ∷ 0 ∷ 0 ∷ []))
-
-  abbrev g4 : Sessions
-  g4 = at_2 g3 (greets (0x48 ∷ 0 ∷ 0 ∷ 0 ∷ []))
-
-  abbrev g5 : Sessions
-  g5 = at_2 g4 (behind 1)
-
-  abbrev g6 : Sessions
-  g6 = finite.remove g5 2
-
-  byte_by_byte_run : finite.get others 2 ≡ Some unread → Runs (relay both others) byte_by_byte (relay both g6) (None ∷ None ∷ None ∷ None ∷ None ∷ reply 2 second_frame ∷ [])
+  byte_by_byte_run : finite.get others 2 ≡ Some unread → Runs (relay both others) byte_by_byte (relay both closed_2) (None ∷ None ∷ None ∷ None ∷ None ∷ reply 2 second_frame ∷ [])
   unfolding encode
   byte_by_byte_run found =
+      let a : Sessions = finite.insert others 2 (greets (0x48 ∷ [])) in
+      let b : Sessions = finite.insert a 2 (greets (0x48 ∷ 0 ∷ [])) in
+      let c : Sessions = finite.insert b 2 (greets (0x48 ∷ 0 ∷ 0 ∷ [])) in
+      let d : Sessions = finite.insert c 2 (greets (0x48 ∷ 0 ∷ 0 ∷ 0 ∷ [])) in
+      let e : Sessions = finite.insert d 2 (behind 1) in
+      let more : (old : Sessions) (bytes : List ℕ) (byte : ℕ) → finite.get old 2 ≡ Some (greets bytes) → Steps (relay both old) (Piece 2 (byte ∷ [])) (after_piece (relay both old) 2 (greeted both (bytes ++ byte ∷ []))) (reply_of 2 (greeted both (bytes ++ byte ∷ [])).next) = λ old bytes byte g.
+      piece_steps (relay both old) 2 (greets bytes) (byte ∷ []) (greeted both (bytes ++ byte ∷ [])) g (greeted both (bytes ++ byte ∷ []), refl, refl) in
+      let s = more others [] 0x48 found in
+      let t = more a (0x48 ∷ []) 0 (simp gets refl) in
+      let u = more b (0x48 ∷ 0 ∷ []) 0 (simp gets refl) in
+      let v = more c (0x48 ∷ 0 ∷ 0 ∷ []) 0 (simp gets refl) in
+      let w = more d (0x48 ∷ 0 ∷ 0 ∷ 0 ∷ []) 1 (simp gets refl) in
+      let x = piece_steps (relay both e) 2 (behind 1) closing (record { log = both; next = Closes (answer both 1) }) (simp gets refl) (closing_takes many 1 both) in
       follows_runs (relay both others)
-      ((Piece 2 (0x48 ∷ []), relay both g1, None) ∷ (Piece 2 (0 ∷ []), relay both g2, None) ∷ (Piece 2 (0 ∷ []), relay both g3, None) ∷ (Piece 2 (0 ∷ []), relay both g4, None)
-      ∷ (Piece 2 (1 ∷ []), relay both g5, None) ∷ (Piece 2 (0x44 ∷ []), relay both g6, reply 2 second_frame) ∷ []) (
-        piece_steps (relay both others) 2 unread (0x48 ∷ []) (greeted both (0x48 ∷ [])) found (greeted both (0x48 ∷ []), refl, refl),
-        (
-          piece_steps (relay both g1) 2 (greets (0x48 ∷ [])) (0 ∷ []) (greeted both (0x48 ∷ 0 ∷ [])) (simp gets refl) (greeted both (0x48 ∷ 0 ∷ []), refl, refl),
-          (
-            piece_steps (relay both g2) 2 (greets (0x48 ∷ 0 ∷ [])) (0 ∷ []) (greeted both (0x48 ∷ 0 ∷ 0 ∷ [])) (simp gets refl) (greeted both (0x48 ∷ 0 ∷ 0 ∷ []), refl, refl),
-            (
-              piece_steps (relay both g3) 2 (greets (0x48 ∷ 0 ∷ 0 ∷ [])) (0 ∷ []) (greeted both (0x48 ∷ 0 ∷ 0 ∷ 0 ∷ [])) (simp gets refl) (greeted both (0x48 ∷ 0 ∷ 0 ∷ 0 ∷ []), refl, refl),
-              (
-                piece_steps (relay both g4) 2 (greets (0x48 ∷ 0 ∷ 0 ∷ 0 ∷ [])) (1 ∷ []) (goes_on both 1) (simp gets refl) (goes_on both 1, refl, refl),
-                (
-                  piece_steps (relay both g5) 2 (behind 1) closing (record { log = both; next = Closes (answer both 1) }) (simp gets refl) (closing_takes many 1 both),
-                  tt,
-                ),
-              ),
-            ),
-          ),
-        ),
-      )
+      ((Piece 2 (0x48 ∷ []), relay both a, None) ∷ (Piece 2 (0 ∷ []), relay both b, None) ∷ (Piece 2 (0 ∷ []), relay both c, None) ∷ (Piece 2 (0 ∷ []), relay both d, None)
+      ∷ (Piece 2 (1 ∷ []), relay both e, None) ∷ (Piece 2 (0x44 ∷ []), relay both closed_2, reply 2 second_frame) ∷ []) (s, (t, (u, (v, (w, (x, tt))))))
 
--- it has 19 bytes
-second_frame_has_19_bytes : length second_frame ≡ 19
+-- an answer with both frames has 41 bytes, and one with the second alone 19
+answers_have_41_and_19_bytes : (length all_frames ≡ 41) × (length second_frame ≡ 19)
 unfolding encode
-second_frame_has_19_bytes = refl
+answers_have_41_and_19_bytes = (refl, refl)
 
 -- a cursor of 3 is beyond a log of two frames: the session is refused at the fourth byte of the cursor, and what the piece brings behind it counts for nothing
 cursor_beyond : TakesAll many (hello 3 ++ frame A) (record { log = both; next = Goes unread }) (refused both 3)
@@ -202,27 +159,17 @@ full_log =
     (takes-append 1 (frame A) closing (goes_on (frame S ∷ []) 0) (refused (frame S ∷ []) 2) (refused (frame S ∷ []) 2) (frame_takes 1 0 (frame S ∷ []) A A_has)
     (closed_takes 1 closing (frame S ∷ []) (refusal 2)))))
 
--- a text that does not begin with 48 is refused at its first byte
-no_greeting : TakesAll many (0x47 ∷ 0x48 ∷ []) (record { log = []; next = Goes unread }) (refused [] 1)
-no_greeting = (refused [] 1, refl, closed_takes many (0x48 ∷ []) [] (refusal 1))
+-- a text that does not begin with 48 is refused at its first byte, also one that begins with the closing byte
+no_greeting : TakesAll many (0x47 ∷ 0x48 ∷ []) (record { log = []; next = Goes unread }) (refused [] 1) × TakesAll many (0x44 ∷ 0x48 ∷ []) (record { log = []; next = Goes unread }) (refused [] 1)
+no_greeting = ((refused [] 1, refl, closed_takes many (0x48 ∷ []) [] (refusal 1)), (refused [] 1, refl, closed_takes many (0x48 ∷ []) [] (refusal 1)))
 
--- also one that begins with the closing byte
-closing_first : TakesAll many (0x44 ∷ 0x48 ∷ []) (record { log = []; next = Goes unread }) (refused [] 1)
-closing_first = (refused [] 1, refl, closed_takes many (0x48 ∷ []) [] (refusal 1))
-
--- the first byte, and the four behind it
-first : List ℕ → ℕ
-first bytes = get_or bytes 0 0
-
+-- the four bytes behind the first
 next_four : List ℕ → List ℕ
 next_four bytes = take 4 (drop 1 bytes)
 
 -- no frame begins with 5
 no_frame_with_5 : (op : Op) (more : List ℕ) → frame op ≡ 5 ∷ more → ⊥
-unfolding first
-no_frame_with_5 (Section id left right title) more e = let d : 1 ≡ 5 = ap first e in omega (arith, d)
-no_frame_with_5 (Text id section left right ch) more e = let d : 2 ≡ 5 = ap first e in omega (arith, d)
-no_frame_with_5 (Delete target) more e = let d : 3 ≡ 5 = ap first e in omega (arith, d)
+no_frame_with_5 op more e = let l : 5 < 4 = begins_low op 5 more e in omega (arith, l)
 
 -- nor has one the replica 0
 no_replica_0 : (op : Op) (more : List ℕ) → HasFrame op → frame op ≡ 2 ∷ 0 ∷ 0 ∷ 0 ∷ 0 ∷ more → ⊥
@@ -257,56 +204,27 @@ replica_0 =
 abbrev reopened : List Event
 reopened = Opened 1 ∷ Piece 1 (0x48 ∷ []) ∷ Opened 1 ∷ Piece 1 (0 ∷ []) ∷ Gone 1 ∷ Piece 1 (5 ∷ []) ∷ Gone 1 ∷ Opened 1 ∷ Piece 1 (0 ∷ 0x48 ∷ []) ∷ []
 
-abbrev begun : Sessions
-begun = finite.insert finite.empty 1 unread
+abbrev opened_anew : Sessions
+opened_anew =
+    let gone = finite.remove (finite.insert (finite.insert (finite.insert finite.empty 1 unread) 1 (greets (0x48 ∷ []))) 1 (greets (0x48 ∷ 0 ∷ []))) 1 in
+    finite.insert (finite.remove gone 1) 1 unread
 
-abbrev begun_1 : Sessions
-begun_1 = finite.insert begun 1 (greets (0x48 ∷ []))
-
-abbrev begun_2 : Sessions
-begun_2 = finite.insert begun_1 1 (greets (0x48 ∷ 0 ∷ []))
-
-abbrev gone : Sessions
-gone = finite.remove begun_2 1
-
-abbrev gone_again : Sessions
-gone_again = finite.remove gone 1
-
-abbrev anew : Sessions
-anew = finite.insert gone_again 1 unread
-
-abbrev refused_1 : Sessions
-refused_1 = finite.remove anew 1
-
-reopened_run : Runs (new_relay many) reopened (relay [] refused_1) (None ∷ None ∷ None ∷ None ∷ None ∷ None ∷ None ∷ None ∷ reply 1 (refusal 1) ∷ [])
+reopened_run : Runs (new_relay many) reopened (relay [] (finite.remove opened_anew 1)) (None ∷ None ∷ None ∷ None ∷ None ∷ None ∷ None ∷ None ∷ reply 1 (refusal 1) ∷ [])
 reopened_run =
+    let a : Sessions = finite.insert finite.empty 1 unread in
+    let b : Sessions = finite.insert a 1 (greets (0x48 ∷ [])) in
+    let c : Sessions = finite.insert b 1 (greets (0x48 ∷ 0 ∷ [])) in
+    let gone : Sessions = finite.remove c 1 in
+    let more : (old : Sessions) (bytes : List ℕ) (byte : ℕ) → finite.get old 1 ≡ Some (greets bytes) → Steps (relay [] old) (Piece 1 (byte ∷ [])) (after_piece (relay [] old) 1 (greeted [] (bytes ++ byte ∷ []))) (reply_of 1 (greeted [] (bytes ++ byte ∷ [])).next) = λ old bytes byte g.
+    piece_steps (relay [] old) 1 (greets bytes) (byte ∷ []) (greeted [] (bytes ++ byte ∷ [])) g (greeted [] (bytes ++ byte ∷ []), refl, refl) in
+    let n = opened_steps (new_relay many) 1 (simp gets refl) in
+    let o = more a [] 0x48 (simp gets refl) in
+    let p = open_stays (relay [] b) 1 (greets (0x48 ∷ [])) (simp gets refl) in
+    let q = more b (0x48 ∷ []) 0 (simp gets refl) in
+    let r = unknown_steps (relay [] gone) 1 (5 ∷ []) (simp gets refl) in
+    let s = opened_steps (relay [] (finite.remove gone 1)) 1 (simp gets refl) in
+    let t = piece_steps (relay [] opened_anew) 1 unread (0 ∷ 0x48 ∷ []) (refused [] 1) (simp gets refl) (refused [] 1, refl, closed_takes many (0x48 ∷ []) [] (refusal 1)) in
     follows_runs (new_relay many)
-    ((Opened 1, relay [] begun, None) ∷ (Piece 1 (0x48 ∷ []), relay [] begun_1, None) ∷ (Opened 1, relay [] begun_1, None) ∷ (Piece 1 (0 ∷ []), relay [] begun_2, None) ∷ (Gone 1, relay [] gone, None)
-    ∷ (Piece 1 (5 ∷ []), relay [] gone, None) ∷ (Gone 1, relay [] gone_again, None) ∷ (Opened 1, relay [] anew, None) ∷ (Piece 1 (0 ∷ 0x48 ∷ []), relay [] refused_1, reply 1 (refusal 1)) ∷ []) (
-      opened_steps (new_relay many) 1 (simp gets refl),
-      (
-        piece_steps (relay [] begun) 1 unread (0x48 ∷ []) (greeted [] (0x48 ∷ [])) (simp gets refl) (greeted [] (0x48 ∷ []), refl, refl),
-        (
-          open_stays (relay [] begun_1) 1 (greets (0x48 ∷ [])) (simp gets refl),
-          (
-            piece_steps (relay [] begun_1) 1 (greets (0x48 ∷ [])) (0 ∷ []) (greeted [] (0x48 ∷ 0 ∷ [])) (simp gets refl) (greeted [] (0x48 ∷ 0 ∷ []), refl, refl),
-            (
-              (refl, refl),
-              (
-                unknown_steps (relay [] gone) 1 (5 ∷ []) (simp gets refl),
-                (
-                  (refl, refl),
-                  (
-                    opened_steps (relay [] gone_again) 1 (simp gets refl),
-                    (
-                      piece_steps (relay [] anew) 1 unread (0 ∷ 0x48 ∷ []) (refused [] 1) (simp gets refl) (refused [] 1, refl, closed_takes many (0x48 ∷ []) [] (refusal 1)),
-                      tt,
-                    ),
-                  ),
-                ),
-              ),
-            ),
-          ),
-        ),
-      ),
-    )
+    ((Opened 1, relay [] a, None) ∷ (Piece 1 (0x48 ∷ []), relay [] b, None) ∷ (Opened 1, relay [] b, None) ∷ (Piece 1 (0 ∷ []), relay [] c, None) ∷ (Gone 1, relay [] gone, None) ∷ (Piece 1 (5 ∷ []), relay [] gone, None)
+    ∷ (Gone 1, relay [] (finite.remove gone 1), None) ∷ (Opened 1, relay [] opened_anew, None) ∷ (Piece 1 (0 ∷ 0x48 ∷ []), relay [] (finite.remove opened_anew 1), reply 1 (refusal 1)) ∷ [])
+    (n, (o, (p, (q, ((refl, refl), (r, ((refl, refl), (s, (t, tt)))))))))

@@ -1,7 +1,6 @@
 -- Runs of events: one event more, and one run behind another.
-use Rattle.std.proofs.Common.{[], List, ap, refl, subst, sym, ℕ, ◌++◌, ◌∷◌, ◌≡◌}
+use Rattle.origin_model.proofs.Words.{List, None, Option, Some, [], ap, if◌then◌else◌, is_some, map, refl, subst, sym, ℕ, ◌++◌, ◌∷◌, ◌≡◌}
 use Rattle.std.specs.FinMap as finite
-use Rattle.std.specs.Prelude.{None, Option, Some, if◌then◌else◌, is_some, map}
 use Rattle.origin_model.specs.declared.relay.event.Event.{Event}
 use Rattle.origin_model.specs.declared.relay.reply.Reply.{Reply}
 use Rattle.origin_model.specs.declared.relay.event.Event.TheVariants.{Opened, Piece}

@@ -1,11 +1,7 @@
 -- Texts: pieces are read as their bytes joined, a frame is taken at its last byte, and bytes behind the one that closes a session count for nothing.
-use Rattle.std.proofs.Common.{[], List, ap, append_assoc, arith, refl, subst, sym, ℕ, ◌++◌, ◌<◌, ◌^◌, ◌∙◌, ◌∷◌, ◌≡◌}
-use Rattle.std.proofs.lemmas.List.{append-nil}
+use Rattle.origin_model.proofs.Words.{Delete, List, Op, Section, Some, Text, [], ap, append-nil, append_assoc, arith, refl, subst, sym, ℕ, ◌++◌, ◌<◌, ◌^◌, ◌∙◌, ◌∷◌, ◌≡◌}
 use Rattle.std.proofs.lemmas.Nat.{from_be_bytes-to_be_bytes_4}
 use Rattle.std.specs.Int.{byte_at, to_be_bytes, w32}
-use Rattle.std.specs.Prelude.{Some}
-use Rattle.fugue_ids.specs.declared.op.Op.{Op}
-use Rattle.fugue_ids.specs.declared.op.Op.TheVariants.{Delete, Section, Text}
 use Rattle.origin_model.specs.frames.Frames.{HasFrame, IsFrame, IsPartial, frame}
 use Rattle.origin_model.specs.relay.Session.{Closes, Closing, Frame, Front, Goes, Taken, TakesAll, answer, at_cursor, closing, greeted, greeting, logged, unread}
 

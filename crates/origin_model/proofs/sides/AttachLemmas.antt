@@ -1,29 +1,14 @@
 -- The tables of the longer history: those of the older one, with the new element between its elder and its younger siblings.
-use Rattle.std.proofs.Common.{Bool, List, ap, inl, inr, refl, subst, sym, true, ◌++◌, ◌∙◌, ◌∷◌, ◌≡◌, ◌⊎◌}
-use Rattle.std.specs.Prelude.{None, Option, Some, if◌then◌else◌}
-use Rattle.std.proofs.lemmas.Bool.{cases_Bool}
-use Rattle.fugue_ids.specs.Identifiers.{Identifier}
-use Rattle.fugue_ids.specs.declared.op.Op.{Op}
-use Rattle.origin_model.specs.operations.History.{element_of, holder, is_own, left_of, right_of}
-use Rattle.origin_model.specs.order.Order.{fork_before, has_left, order, index_of_origin, IsOrderedBy, ranked}
+use Rattle.origin_model.proofs.Words.{All-weaker, Bool, Contains, Identifier, IsOrderedBy, Lawful, List, None, Op, Option, Place, Some, all_from_contains, ap, cases_Bool, cases_id, contains_around, contains_middle, contains_middle_cases, element_of, fork_before, has_left, holder, if◌then◌else◌, index_of_origin, inl, inr, is_own, left_of, order, ranked, refl, right_of, subst, sym, true, ◌++◌, ◌∙◌, ◌∷◌, ◌≡◌, ◌⊎◌}
 use Rattle.origin_model.specs.sides.Slot.{IsChild, IsParted, IsTable, slot_by, slot_of}
 use Rattle.fugue_ids.specs.Keyed.{IsReplaced}
-use Rattle.origin_model.specs.operations.Verdict.{Lawful}
-use Rattle.origin_model.specs.declared.operations.place.Place.{Place}
 use Rattle.origin_model.specs.declared.sides.slot.Slot.{Slot}
 use Rattle.origin_model.specs.declared.sides.slot.Slot.TheVariants.{LeftOf, RightOf}
-use Rattle.origin_model.proofs.operations.LookupLemmas.{IsHeld, holder-other, holder-own}
-use Rattle.origin_model.proofs.operations.OperationLemmas.{element_own}
-use Rattle.origin_model.proofs.order.OrderLemmas.{fork_moved, right-older}
-use Rattle.origin_model.proofs.order.OrderedListLemmas.{Ordered-agree}
-use Rattle.origin_model.proofs.order.PartLemmas.{has_left_by, right_origin_held}
-use Rattle.origin_model.proofs.operations.ReadyLemmas.{held_not_own, right_named, when_ready}
+use Rattle.origin_model.proofs.operations.LookupLemmas.{IsHeld, element_own, held_not_own, holder-other, holder-own, right_named, when_ready}
+use Rattle.origin_model.proofs.order.{Ordered-agree, fork_moved, has_left_by, right-older, right_origin_held}
 use Rattle.origin_model.proofs.sides.SiblingLemmas.{elders_first, youngers_last}
 use Rattle.origin_model.proofs.sides.SlotLemmas.{child-held}
-use Rattle.std.specs.List.{Contains}
-use Rattle.std.proofs.lemmas.List.Elements.{All-weaker}
-use Rattle.fugue_ids.proofs.ListLemmas.{all_from_contains, all_pairs_middle, contains_around, contains_middle, contains_middle_cases}
-use Rattle.fugue_ids.proofs.IdentifierLemmas.{cases_id}
+use Rattle.fugue_ids.proofs.ListLemmas.{all_pairs_middle}
 
 -- two slots are equal or distinct
 pub cases_slot : (a b : Slot) → (a ≡ b) ⊎ (a ≡ b → ⊥)
@@ -52,7 +37,7 @@ module _ (p : Place) (op : Op) (older : List Op) (w : Lawful (op ∷ older)) whe
 
   -- the newest element hangs where it was to hang
   slot-newest : slot_of h op ≡ slot_of older op
-  slot-newest = slot_by-same (left_of op) (right_of op) (λ q e. right_named older op q (when_ready older op w.0).none_missing e)
+  slot-newest = slot_by-same (left_of op) (right_of op) (λ q e. right_named older op q (when_ready older op w.0) e)
 
   -- older elements keep their slot
   slot-old : (v : Identifier) (o : Op) → holder older v ≡ Some o → slot_of h o ≡ slot_of older o

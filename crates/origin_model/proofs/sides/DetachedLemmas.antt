@@ -1,21 +1,14 @@
 -- A node that is no origin taken out: the others are nodes still, and have the tables without it.
-use Rattle.std.proofs.Common.{List, [], ap, false, inl, inr, not, refl, subst, sym, true, ◌++◌, ◌∙◌, ◌∷◌, ◌≡◌, ◌≢◌}
-use Rattle.std.specs.Prelude.{None, Option, Some, filter, is_some, if◌then◌else◌}
-use Rattle.std.proofs.lemmas.Bool.{true≢false}
-use Rattle.fugue_ids.specs.Identifiers.{Identifier, id_eq}
-use Rattle.fugue_ids.specs.declared.op.Op.{Op}
+use Rattle.origin_model.proofs.Words.{Identifier, List, None, Op, Option, Some, [], ap, cases_id, catalogue, eq-id_eq, false, filter, holder, id_eq, if◌then◌else◌, inl, inr, is_some, ne-id_eq, not, refl, subst, sym, true, true≢false, ◌++◌, ◌∙◌, ◌∷◌, ◌≡◌, ◌≢◌}
 use Rattle.origin_model.specs.sides.Detached.{NoOrigin, without}
 use Rattle.origin_model.specs.sides.Node.{AreNodes, IsNew, as_op, as_ops, find_node, has_node, has_origin}
 use Rattle.origin_model.specs.sides.Slot.{IsTable, slot_by}
 use Rattle.fugue_ids.specs.Keyed.{IsReplaced}
-use Rattle.origin_model.specs.operations.History.{holder}
-use Rattle.origin_model.specs.declared.operations.place.Place.TheVariants.{Catalogue as catalogue}
 use Rattle.origin_model.specs.declared.sides.node.Node.{Node}
 use Rattle.origin_model.specs.declared.sides.slot.Slot.{Slot}
 use Rattle.origin_model.proofs.sides.DetachedTableLemmas.{IsWithout, narrowed}
 use Rattle.origin_model.proofs.operations.LookupLemmas.{IsHeld}
 use Rattle.origin_model.proofs.sides.NodeHistoryLemmas.{holder-nodes, holds-nodes, nodes-lawful, op_of}
-use Rattle.fugue_ids.proofs.IdentifierLemmas.{cases_id, eq-id_eq, ne-id_eq}
 
 -- the node itself is left out
 without-own : (x : Identifier) (n : Node) (ns : List Node) → n.id ≡ x → without x (n ∷ ns) ≡ without x ns

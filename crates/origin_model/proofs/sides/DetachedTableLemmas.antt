@@ -1,27 +1,13 @@
 -- The tables without an element that is no origin: those of all elements, with this one taken out of the children of its slot.
-use Rattle.std.proofs.Common.{Bool, List, ap, inl, inr, refl, subst, sym, ◌++◌, ◌∙◌, ◌∷◌, ◌≡◌, ◌≢◌}
-use Rattle.std.specs.Prelude.{None, Option, Some, if◌then◌else◌}
-use Rattle.fugue_ids.specs.Identifiers.{Identifier}
-use Rattle.fugue_ids.specs.declared.op.Op.{Op}
-use Rattle.origin_model.specs.order.Laws.{IsIn}
-use Rattle.origin_model.specs.operations.History.{holder, left_of, right_of}
-use Rattle.origin_model.specs.order.Order.{fork_before, order, IsOrderedBy}
+use Rattle.origin_model.proofs.Words.{Bool, Contains, Identifier, IsIn, IsOrderedBy, Lawful, List, None, Op, Option, Place, Some, all_from_contains, ap, contains_around, contains_middle_cases, fork_before, holder, if◌then◌else◌, inl, inr, left_of, order, refl, right_of, subst, sym, ◌++◌, ◌∙◌, ◌∷◌, ◌≡◌, ◌≢◌}
 use Rattle.origin_model.specs.sides.Slot.{IsChild, IsTable, slot_by, slot_of}
 use Rattle.fugue_ids.specs.Keyed.{IsReplaced}
-use Rattle.origin_model.specs.operations.Verdict.{Lawful}
-use Rattle.origin_model.specs.declared.operations.place.Place.{Place}
 use Rattle.origin_model.specs.declared.sides.slot.Slot.{Slot}
 use Rattle.origin_model.specs.declared.sides.slot.Slot.TheVariants.{LeftOf, RightOf}
 use Rattle.origin_model.proofs.sides.AttachLemmas.{cases_slot}
-use Rattle.origin_model.proofs.order.ListPartLemmas.{once_mid, ordered_out}
+use Rattle.origin_model.proofs.order.{Ordered-agree, Within, fork-irrefl, fork-within, fork_moved, has_left_by, once_mid, ordered_out, right_origin_held}
 use Rattle.origin_model.proofs.operations.LookupLemmas.{IsHeld, found}
-use Rattle.origin_model.proofs.order.OrderLemmas.{fork_moved}
-use Rattle.origin_model.proofs.order.OrderedListLemmas.{Ordered-agree}
-use Rattle.origin_model.proofs.order.PartLemmas.{Within, fork-within, has_left_by, right_origin_held}
 use Rattle.origin_model.proofs.sides.SlotLemmas.{child-held, child-in}
-use Rattle.origin_model.proofs.order.StrictOrderLemmas.{fork-irrefl}
-use Rattle.std.specs.List.{Contains}
-use Rattle.fugue_ids.proofs.ListLemmas.{all_from_contains, contains_around, contains_middle_cases}
 
 -- s is the history h without x
 pub record IsWithout (s h : List Op) (x : Identifier) : Type 0 where
@@ -64,10 +50,6 @@ module _ (p : Place) (s h : List Op) (x : Identifier) (v : Lawful s) (w : Lawful
   x_slot : (z : Slot) → IsChild p h z x → z ≡ slot_of h ox
   x_slot z k = let e : k.op ≡ ox = cc (hx, k.held) in sym k.slot ∙ ap (slot_of h) e
 
-  -- what is held without x is not x
-  not_x : (c : Identifier) → IsHeld s c → c ≢ x
-  not_x c k e = g.without (subst (IsHeld s) e k)
-
   -- the tables without x
   pub narrowed : (old new : Slot → List Identifier) (elders youngers : List Identifier) → IsTable p h old → old (slot_of h ox) ≡ elders ++ x ∷ youngers
       → IsReplaced old new (slot_of h ox) (elders ++ youngers) → IsTable p s new
@@ -88,7 +70,7 @@ module _ (p : Place) (s h : List Op) (x : Identifier) (v : Lawful s) (w : Lawful
         full = λ z d k. elim (cases_slot z slot) [
           | inr n ↦ subst (λ l. Contains l d) (sym (r.others z n)) (t.full z d (child_up z d k))
           | inl e ↦ subst (λ l. Contains l d) (sym (ap new e ∙ r.here)) (elim (contains_middle_cases elders x youngers d (subst (λ l. Contains l d) (ap old e ∙ c) (t.full z d (child_up z d k)))) [
-            | inl q ↦ absurd (not_x d (child-held p s z d k) (sym q))
+            | inl q ↦ absurd (g.without (subst (IsHeld s) (sym q) (child-held p s z d k)))
             | inr j ↦ j
           ])
         ];

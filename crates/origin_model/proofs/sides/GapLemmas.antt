@@ -1,31 +1,7 @@
 -- An element placed in an ordered list stands in the gap that its neighbour tells.
-use Rattle.std.proofs.Common.{Bool, List, [], ap, false, inl, inr, sym, true, ◌∙◌, ◌∷◌, ◌≡◌, ◌≢◌, ◌⊎◌}
-use Rattle.std.specs.List.{Contains}
-use Rattle.std.specs.Prelude.{if◌then◌else◌}
-use Rattle.std.proofs.lemmas.Bool.{cases_Bool, false_from_ne_true, true≢false}
-use Rattle.fugue_ids.specs.Identifiers.{Identifier}
-use Rattle.fugue_ids.proofs.IdentifierLemmas.{cases_id, eq-id_eq, ne-id_eq}
-use Rattle.fugue_ids.proofs.ListLemmas.{all_from_contains, all_pairs_tail, contains_cases, contains_here, contains_none, contains_there}
-use Rattle.origin_model.specs.order.Order.{IsOrderedBy, placed}
+use Rattle.origin_model.proofs.Words.{Bool, Contains, Identifier, IsOrderedBy, List, [], all_from_contains, all_pairs_tail, ap, cases_Bool, cases_id, contains_cases, contains_here, contains_none, contains_there, eq-id_eq, false, false_from_ne_true, if◌then◌else◌, inl, inr, ne-id_eq, placed, sym, true, true≢false, ◌∙◌, ◌∷◌, ◌≡◌, ◌⊎◌}
 use Rattle.origin_model.specs.sides.Slot.{behind, in_front}
-use Rattle.origin_model.proofs.order.ListPartLemmas.{first_before, in_rest}
-use Rattle.origin_model.proofs.order.OrderedListLemmas.{no_loop, placed-behind, placed-first}
-
--- behind a first member
-behind-own : (y x e : Identifier) (es : List Identifier) → e ≡ y → behind y x (e ∷ es) ≡ e ∷ x ∷ es
-behind-own y x e es d = ap (λ b. if b then e ∷ x ∷ es else e ∷ behind y x es) (eq-id_eq e y d)
-
--- behind a later member
-behind-other : (y x e : Identifier) (es : List Identifier) → e ≢ y → behind y x (e ∷ es) ≡ e ∷ behind y x es
-behind-other y x e es d = ap (λ b. if b then e ∷ x ∷ es else e ∷ behind y x es) (ne-id_eq e y d)
-
--- before a first member
-front-own : (y x e : Identifier) (es : List Identifier) → e ≡ y → in_front y x (e ∷ es) ≡ x ∷ e ∷ es
-front-own y x e es d = ap (λ b. if b then x ∷ e ∷ es else e ∷ in_front y x es) (eq-id_eq e y d)
-
--- before a later member
-front-other : (y x e : Identifier) (es : List Identifier) → e ≢ y → in_front y x (e ∷ es) ≡ e ∷ in_front y x es
-front-other y x e es d = ap (λ b. if b then x ∷ e ∷ es else e ∷ in_front y x es) (ne-id_eq e y d)
+use Rattle.origin_model.proofs.order.{first_before, in_rest, no_loop, placed-behind, placed-first}
 
 -- a list in a strict order
 module _ (R : Identifier → Identifier → Bool) (irrefl : (a : Identifier) → R a a ≡ false) (trans : (a b c : Identifier) → R a b ≡ true → R b c ≡ true → R a c ≡ true) where
@@ -43,12 +19,12 @@ module _ (R : Identifier → Identifier → Bool) (irrefl : (a : Identifier) →
               | inl c ↦ true≢false (sym ez ∙ ap (R e) (c ∙ sym d) ∙ irrefl e)
               | inr c ↦ no_loop R irrefl trans e z ez (ap (R z) d ∙ c)
             ]))))
-            ∙ sym (behind-own y x e es d)
+            ∙ ap (λ b. if b then e ∷ x ∷ es else e ∷ behind y x es) (sym (eq-id_eq e y d))
         | inr d ↦
             let n : Contains es y = in_rest e es y (λ c. d (sym c)) m in
             placed-behind (λ z. R z x) e es x (trans e y x (first_before R e y es v n) k)
             ∙ ap (λ t. e ∷ t) (placed-after x y es (all_pairs_tail (λ a b. R a b ≡ true) e es v) n k (λ z j. f z (contains_there e es z j)))
-            ∙ sym (behind-other y x e es d)
+            ∙ ap (λ b. if b then e ∷ x ∷ es else e ∷ behind y x es) (sym (ne-id_eq e y d))
       ]
 
   -- what stands before y, and behind all that stands before y, is placed directly before y
@@ -64,7 +40,7 @@ module _ (R : Identifier → Identifier → Bool) (irrefl : (a : Identifier) →
               | inl c ↦ ap (R x) (sym c ∙ d) ∙ k
               | inr c ↦ trans x y z k (ap (λ q. R q z) (sym d) ∙ first_before R e z es v c)
             ]) j)))
-            ∙ sym (front-own y x e es d)
+            ∙ ap (λ b. if b then x ∷ e ∷ es else e ∷ in_front y x es) (sym (eq-id_eq e y d))
         | inr d ↦
             let n : Contains es y = in_rest e es y (λ c. d (sym c)) m in
             let here : Contains (e ∷ es) e = contains_here e es in
@@ -74,5 +50,5 @@ module _ (R : Identifier → Identifier → Bool) (irrefl : (a : Identifier) →
             ] in
             placed-behind (λ z. R z x) e es x ex
             ∙ ap (λ l. e ∷ l) (placed-before x y es (all_pairs_tail (λ a b. R a b ≡ true) e es v) n k (λ z j. t z (contains_there e es z j)) (λ z j. f z (contains_there e es z j)))
-            ∙ sym (front-other y x e es d)
+            ∙ ap (λ b. if b then x ∷ e ∷ es else e ∷ in_front y x es) (sym (ne-id_eq e y d))
       ]

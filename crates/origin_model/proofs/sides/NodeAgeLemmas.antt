@@ -1,26 +1,15 @@
 -- A child is newer than the node that it hangs under, since that node is one of its origins.
-use Rattle.std.proofs.Common.{List, [], ap, arith, inl, inr, suc, sym, ℕ, ◌<◌, ◌∙◌, ◌∷◌, ◌≡◌, ◌≢◌}
-use Rattle.std.specs.Prelude.{None, Option, Some, if◌then◌else◌}
-use Rattle.std.proofs.lemmas.Bool.{cases_Bool, true≢false}
-use Rattle.fugue_ids.specs.Identifiers.{Identifier, id_eq}
-use Rattle.fugue_ids.specs.declared.op.Op.{Op}
+use Rattle.origin_model.proofs.Words.{Contains, Identifier, Lawful, List, None, Op, Option, Some, [], ap, arith, cases_Bool, cases_id, catalogue, eq-id_eq, has_left, holder, id_eq, if◌then◌else◌, inl, inr, left_of, ne-id_eq, right_of, suc, sym, true≢false, ℕ, ◌<◌, ◌∙◌, ◌∷◌, ◌≡◌, ◌≢◌}
 use Rattle.origin_model.specs.sides.Node.{AreNodes, as_op, as_ops}
-use Rattle.origin_model.specs.operations.History.{holder, left_of, right_of}
-use Rattle.origin_model.specs.order.Order.{has_left}
 use Rattle.origin_model.specs.sides.Slot.{IsTable, slot_by}
-use Rattle.origin_model.specs.operations.Verdict.{Lawful}
 use Rattle.origin_model.specs.declared.sides.node.Node.{Node}
-use Rattle.origin_model.specs.declared.operations.place.Place.TheVariants.{Catalogue as catalogue}
 use Rattle.origin_model.specs.declared.sides.slot.Slot.{Slot}
 use Rattle.origin_model.specs.declared.sides.slot.Slot.TheVariants.{LeftOf, RightOf}
-use Rattle.origin_model.proofs.operations.LookupLemmas.{IsHeld, holder-other, holder-own}
+use Rattle.origin_model.proofs.operations.LookupLemmas.{IsHeld, IsReady, held_not_own, holder-other, holder-own, left_named, right_named, when_ready}
 use Rattle.origin_model.proofs.sides.NodeHistoryLemmas.{nodes-lawful}
-use Rattle.origin_model.proofs.order.PartLemmas.{origin_held}
-use Rattle.origin_model.proofs.operations.ReadyLemmas.{IsReady, held_not_own, left_named, right_named, when_ready}
+use Rattle.origin_model.proofs.order.{origin_held}
 use Rattle.origin_model.proofs.sides.SidedGapLemmas.{left_parent}
 use Rattle.origin_model.proofs.sides.SlotLemmas.{slot-no, slot-yes}
-use Rattle.std.specs.List.{Contains}
-use Rattle.fugue_ids.proofs.IdentifierLemmas.{cases_id, eq-id_eq, ne-id_eq}
 
 -- how many nodes are newer than x
 abbrev pub newer : List Node → Identifier → ℕ
@@ -82,8 +71,8 @@ children_newer ns children a t =
     record {
       right_child = λ s v m.
           let k = t.sound (RightOf (Some s)) v m in
-          newer_origin left_of (λ h op l r. left_named h op l r.none_missing) ns v s k.op w k.held (right_parent (as_ops ns) (left_of k.op) (right_of k.op) (Some s) k.slot);
+          newer_origin left_of (λ h op l r. left_named h op l r) ns v s k.op w k.held (right_parent (as_ops ns) (left_of k.op) (right_of k.op) (Some s) k.slot);
       left_child = λ q v m.
           let k = t.sound (LeftOf q) v m in
-          newer_origin right_of (λ h op l r. right_named h op l r.none_missing) ns v q k.op w k.held (left_parent (as_ops ns) (left_of k.op) (right_of k.op) q k.slot).0;
+          newer_origin right_of (λ h op l r. right_named h op l r) ns v q k.op w k.held (left_parent (as_ops ns) (left_of k.op) (right_of k.op) q k.slot).0;
     }

@@ -1,19 +1,9 @@
 -- Nodes are a lawful history exactly where each was new, and its origins were there, when it came.
-use Rattle.std.proofs.Common.{List, [], ap, false, refl, sym, true, ◌∙◌, ◌∷◌, ◌≡◌, ◌↔◌}
-use Rattle.std.specs.Prelude.{None, Option, Some, is_some, if◌then◌else◌}
-use Rattle.std.specs.Option.{option_or}
-use Rattle.std.proofs.lemmas.Bool.{false_from_ne_true, false≢true, true≢false}
-use Rattle.fugue_ids.specs.Identifiers.{Identifier, id_eq}
-use Rattle.fugue_ids.specs.declared.op.Op.{Op}
+use Rattle.origin_model.proofs.Words.{All, All-append, All-cons, All-nil, Identifier, Lawful, List, None, Op, Option, Ready, SectionRole, Some, [], ap, false, false_from_ne_true, false≢true, given_as, has_op, holder, holds, id_eq, id_eq-refl, if◌then◌else◌, is_some, names, refl, sym, true, true≢false, verdict, ◌↔◌, ◌∙◌, ◌∷◌, ◌≡◌}
 use Rattle.origin_model.specs.sides.Node.{AreNodes, IsNew, as_op, as_ops, find_node, has_node, has_origin}
-use Rattle.origin_model.specs.operations.History.{has_op, holder, holds}
-use Rattle.origin_model.specs.operations.Verdict.{Lawful, first_line, first_missing, first_stray, fits, given_as, names, verdict}
-use Rattle.origin_model.specs.declared.operations.role.Role.TheVariants.{Section as SectionRole}
-use Rattle.origin_model.specs.declared.operations.verdict.Verdict.TheVariants.{Ready}
 use Rattle.origin_model.specs.declared.sides.node.Node.{Node}
-use Rattle.origin_model.proofs.operations.LookupLemmas.{IsHeld}
-use Rattle.origin_model.proofs.operations.ReadyLemmas.{first_missing-append, first_stray-append, has-holder, left_named, right_named, when_ready}
-use Rattle.fugue_ids.proofs.IdentifierLemmas.{id_eq-refl}
+use Rattle.origin_model.proofs.operations.LookupLemmas.{Fits, IsHeld, all_fit, has-holder, left_named, right_named, when_ready}
+use Rattle.origin_model.proofs.operations.CauseLemmas.{becomes_ready}
 
 -- what a history holds where a look-up finds the node
 abbrev pub op_of : Option Node → Option Op
@@ -43,47 +33,24 @@ pub has_origin-by : (ns : List Node) (o : Option Identifier) → ((x : Identifie
 has_origin-by ns None f = refl
 has_origin-by ns (Some x) f = f x refl
 
--- whether x is Stray as an origin, by what a look-up found
-abbrev stray_by : Identifier → Option Op → Option Identifier
-stray_by x o = elim o [ None ↦ None | Some op ↦ if fits SectionRole op then None else Some x ]
-
--- each node fits as an origin
-node_fits : (x : Identifier) (o : Option Node) → stray_by x (op_of o) ≡ None
-node_fits x None = refl
-node_fits x (Some n) = refl
-
--- no origin among nodes is Stray
-origin_fits : (ns : List Node) (o : Option Identifier) → first_stray (as_ops ns) (given_as SectionRole o) ≡ None
-origin_fits ns None = refl
-origin_fits ns (Some x) =
-    ap (stray_by x) (holder-nodes ns x) ∙ node_fits x (find_node ns x)
-
--- whether x is Missing, by what a look-up found
-abbrev missing_by : Identifier → Option Op → Option Identifier
-missing_by x o = elim o [ None ↦ Some x | Some op ↦ None ]
-
--- a node that is there is not missing
-node_there : (x : Identifier) (o : Option Node) → is_some o ≡ true → missing_by x (op_of o) ≡ None
-node_there x None k = absurd (false≢true k)
-node_there x (Some n) k = refl
-
--- an origin that is there is not missing
-origin_there : (ns : List Node) (o : Option Identifier) → has_origin ns o ≡ true → first_missing (as_ops ns) (given_as SectionRole o) ≡ None
-origin_there ns None k = refl
-origin_there ns (Some x) k = ap (missing_by x) (holder-nodes ns x) ∙ node_there x (find_node ns x) k
+-- an origin that is there fits
+origin_there : (ns : List Node) (o : Option Identifier) → has_origin ns o ≡ true → All (Fits (as_ops ns)) (given_as SectionRole o)
+origin_there ns None k = All-nil (Fits (as_ops ns))
+origin_there ns (Some x) k =
+    let node : (o : Option Node) → find_node ns x ≡ o → is_some o ≡ true → Fits (as_ops ns) (x, SectionRole) = λ o. elim o as (λ o. find_node ns x ≡ o → is_some o ≡ true → Fits (as_ops ns) (x, SectionRole)) [
+      | None ↦ (λ e j. absurd (false≢true j))
+      | Some n ↦ (λ e j. (as_op n, holder-nodes ns x ∙ ap op_of e, refl))
+    ] in
+    All-cons (Fits (as_ops ns)) (x, SectionRole) [] (node (find_node ns x) refl k) (All-nil (Fits (as_ops ns)))
 
 -- a new node whose origins are there is Ready
 new_ready : (ns : List Node) (n : Node) → Lawful (as_ops ns) → IsNew ns n → verdict (as_ops ns) (as_op n) ≡ Ready
-unfolding verdict
 new_ready ns n w k =
     let h : List Op = as_ops ns in
     let taken : holds h n.id ≡ false = holds-nodes ns n.id ∙ k.fresh in
     let new : has_op h (as_op n) ≡ false = false_from_ne_true _ (λ e. true≢false (sym (ap is_some (has-holder h n.id (as_op n) w e (id_eq-refl n.id))) ∙ taken)) in
-    let stray : first_stray h (names (as_op n)) ≡ None =
-    first_stray-append h (given_as SectionRole n.left) (given_as SectionRole n.right) ∙ (λ i. option_or (origin_fits ns n.left i) (origin_fits ns n.right i)) in
-    let missing : first_missing h (names (as_op n)) ≡ None =
-    first_missing-append h (given_as SectionRole n.left) (given_as SectionRole n.right) ∙ (λ i. option_or (origin_there ns n.left k.left i) (origin_there ns n.right k.right i)) in
-    λ i. first_line (new i) (taken i) (stray i) (missing i)
+    let f = all_fit h (names (as_op n)) (All-append (Fits h) (given_as SectionRole n.left) (given_as SectionRole n.right) (origin_there ns n.left k.left) (origin_there ns n.right k.right)) in
+    becomes_ready h (as_op n) new taken f.0 f.1
 
 -- a Ready node is new, and its origins are there
 ready_new : (ns : List Node) (n : Node) → verdict (as_ops ns) (as_op n) ≡ Ready → IsNew ns n
@@ -92,8 +59,8 @@ ready_new ns n e =
     let there : (x : Identifier) → IsHeld (as_ops ns) x → has_node ns x ≡ true = λ x k. sym (holds-nodes ns x) ∙ k in
     record {
       fresh = sym (holds-nodes ns n.id) ∙ r.fresh;
-      left = has_origin-by ns n.left (λ x d. there x (left_named (as_ops ns) (as_op n) x r.none_missing d));
-      right = has_origin-by ns n.right (λ x d. there x (right_named (as_ops ns) (as_op n) x r.none_missing d));
+      left = has_origin-by ns n.left (λ x d. there x (left_named (as_ops ns) (as_op n) x r d));
+      right = has_origin-by ns n.right (λ x d. there x (right_named (as_ops ns) (as_op n) x r d));
     }
 
 -- nodes are a lawful history

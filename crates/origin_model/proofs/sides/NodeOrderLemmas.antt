@@ -1,31 +1,10 @@
 -- The order of a place depends on its nodes alone: they have the chains of its elements, and so compare alike.
-use Rattle.std.proofs.Common.{Bool, List, [], ap, drop, false, inl, inr, refl, subst, suc, sym, take, true, ◌++◌, ◌∙◌, ◌∷◌, ◌≡◌, ◌↔◌}
-use Rattle.std.specs.Prelude.{None, Option, Some, count_by, is_some, if◌then◌else◌}
-use Rattle.std.proofs.lemmas.Bool.{cases_Bool, false_from_ne_true, false≢true, true≢false}
-use Rattle.fugue_ids.specs.Identifiers.{Identifier}
-use Rattle.fugue_ids.specs.declared.op.Op.{Op}
-use Rattle.origin_model.specs.order.Laws.{IsIn}
+use Rattle.origin_model.proofs.Words.{All, All-contains, All-head, All-tail, Bool, Contains, Identifier, IsIn, Lawful, List, None, Op, Option, Place, Some, [], all_from_contains, ap, before_in, cases_Bool, cases_id, cases_origin, catalogue, count_by, drop, element_of, false, false_from_ne_true, false≢true, fork_before, holder, id_eq-refl, id_eq-true, if◌then◌else◌, index_of_origin, inl, inr, is_own, is_some, left_of, lefts, ne-id_eq, next_left, next_right, order, placed, ranked, refl, right_at, right_of, rights, subst, suc, sym, take, true, true≢false, ◌++◌, ◌↔◌, ◌∙◌, ◌∷◌, ◌≡◌}
 use Rattle.origin_model.specs.sides.Node.{AreNodes, IsNew, as_op, as_ops, find_node, has_node, node_order, nodes, with_node}
-use Rattle.origin_model.specs.operations.History.{element_of, holder, is_own, left_of, right_of}
-use Rattle.origin_model.specs.order.Order.{before_in, chain_before, fork_before, lefts, order, index_of_origin, placed, right_at, rights, sibling, ranked, next_left, next_right}
-use Rattle.origin_model.specs.operations.Verdict.{Lawful}
-use Rattle.origin_model.specs.declared.operations.place.Place.{Place}
-use Rattle.origin_model.specs.declared.operations.place.Place.TheVariants.{Catalogue as catalogue}
 use Rattle.origin_model.specs.declared.sides.node.Node.{Node}
-use Rattle.origin_model.proofs.order.ChainOrderLemmas.{chain_before-agree}
-use Rattle.origin_model.proofs.operations.LookupLemmas.{holder-other, holder-own, holder_owns}
+use Rattle.origin_model.proofs.order.{IsIn-held, IsIn-older, IsIn-own, IsIn-split, above-same, before_agree, beside-same, beside_is, chain-other, chain-own, chain_above, count-no, count-yes, has_left_by, left_in, lefts-in, order-has, order-in, order-member, order-none, order-some, right_in, rights-in}
+use Rattle.origin_model.proofs.operations.LookupLemmas.{element_own, held_not_own, holder-other, holder-own, holder_owns, right_by, when_ready}
 use Rattle.origin_model.proofs.sides.NodeHistoryLemmas.{has_origin-by, holder-nodes, holds-nodes, nodes-lawful, op_of}
-use Rattle.origin_model.proofs.operations.OperationLemmas.{element_own}
-use Rattle.origin_model.proofs.order.OrderLemmas.{order-none, order-some}
-use Rattle.origin_model.proofs.order.OrderedListLemmas.{count-no, count-yes}
-use Rattle.origin_model.proofs.order.PartLemmas.{has_left_by}
-use Rattle.origin_model.proofs.order.PlaceLemmas.{IsIn-held, IsIn-older, IsIn-own, IsIn-split, left_in, lefts-in, order-has, order-in, order-member, right_in, rights-in}
-use Rattle.origin_model.proofs.operations.ReadyLemmas.{held_not_own, right_by, when_ready}
-use Rattle.std.specs.List.{All, Contains}
-use Rattle.std.proofs.lemmas.List.Elements.{All-contains, All-head, All-tail}
-use Rattle.fugue_ids.proofs.ListLemmas.{all_from_contains}
-use Rattle.fugue_ids.proofs.IdentifierLemmas.{cases_id, cases_origin, id_eq-refl, id_eq-true, ne-id_eq}
-use Rattle.origin_model.proofs.order.ChainLemmas.{chain-other, chain-own, above-same, beside-same, beside_is, chain_above}
 
 -- the nodes of a place, as a history
 abbrev node_ops : Place → List Op → List Op
@@ -48,19 +27,8 @@ nodes-some : (p : Place) (op : Op) (older : List Op) (x : Identifier) → elemen
 nodes-some p op older x e = ap (λ o. with_node o op (nodes p older)) e
 
 -- the same, of the histories
-node_ops-none : (p : Place) (op : Op) (older : List Op) → element_of p op ≡ None → node_ops p (op ∷ older) ≡ node_ops p older
-node_ops-none p op older e = ap as_ops (nodes-none p op older e)
-
 node_ops-some : (p : Place) (op : Op) (older : List Op) (x : Identifier) → element_of p op ≡ Some x → node_ops p (op ∷ older) ≡ bare x op ∷ node_ops p older
 node_ops-some p op older x e = ap as_ops (nodes-some p op older x e)
-
--- the node has the element's identifier
-bare_own : (x : Identifier) (op : Op) → is_own x (bare x op) ≡ true
-bare_own x op = id_eq-refl x
-
--- and no other
-bare_other : (x y : Identifier) (op : Op) → (x ≡ y → ⊥) → is_own y (bare x op) ≡ false
-bare_other x y op n = ne-id_eq x y n
 
 -- what the nodes have of an element
 record Same (p : Place) (h : List Op) (x : Identifier) : Type 0 where
@@ -85,16 +53,16 @@ same p (op ∷ older) x w m =
           record {
             op = op;
             held = holder-own op older x own;
-            node_held = ap (λ g. holder g x) t ∙ holder-own (bare x op) n x (bare_own x op);
+            node_held = ap (λ g. holder g x) t ∙ holder-own (bare x op) n x (id_eq-refl x);
             lefts_same = chain-own next_left op older x own
                 ∙ ap (λ c. c ++ x ∷ []) (above-same next_left older n (left_of op) (λ l e. (same p older l w.1 (left_in p op older x l rd k e)).lefts_same))
-                ∙ sym (ap (λ g. lefts g x) t ∙ chain-own next_left (bare x op) n x (bare_own x op));
+                ∙ sym (ap (λ g. lefts g x) t ∙ chain-own next_left (bare x op) n x (id_eq-refl x));
             rights_same = chain-own next_right op older x own
                 ∙ ap (λ c. c ++ x ∷ [])
                 (above-same next_right older n (next_right older op) (λ r e. (right r (beside_is older (left_of op) (right_of op) r e).0).rights_same)
                 ∙ ap (chain_above next_right n) (beside-same older n (left_of op) (right_of op) (λ r e.
                 let s = right r e in ap (has_left_by (left_of op)) s.held ∙ sym (ap (has_left_by (left_of op)) s.node_held))))
-                ∙ sym (ap (λ g. rights g x) t ∙ chain-own next_right (bare x op) n x (bare_own x op));
+                ∙ sym (ap (λ g. rights g x) t ∙ chain-own next_right (bare x op) n x (id_eq-refl x));
           }
       | inr k ↦
           let s = same p older x w.1 k in
@@ -108,9 +76,9 @@ same p (op ∷ older) x w m =
             rights_same = chain-other next_right op older x no ∙ s.rights_same ∙ sym (ap (λ z. rights z x) t ∙ c);
           } in
           elim (cases_origin (element_of p op)) [
-            | inl e ↦ from (node_ops p older) (node_ops-none p op older e) refl refl refl
+            | inl e ↦ from (node_ops p older) (ap as_ops (nodes-none p op older e)) refl refl refl
             | inr f ↦
-                let n : is_own x (bare f.0 op) ≡ false = bare_other f.0 x op (λ d. true≢false (sym (element_own p op f.0 f.1) ∙ ap (λ z. is_own z op) d ∙ no)) in
+                let n : is_own x (bare f.0 op) ≡ false = ne-id_eq f.0 x (λ d. true≢false (sym (element_own p op f.0 f.1) ∙ ap (λ z. is_own z op) d ∙ no)) in
                 from (bare f.0 op ∷ node_ops p older) (node_ops-some p op older f.0 f.1)
                 (holder-other (bare f.0 op) (node_ops p older) x n) (chain-other next_left (bare f.0 op) (node_ops p older) x n) (chain-other next_right (bare f.0 op) (node_ops p older) x n)
           ]
@@ -130,17 +98,10 @@ module _ (p : Place) (h : List Op) (w : Lawful h) (o : List Identifier) where
   fork_alike : (c d : Identifier) → IsIn p h c → IsIn p h d → fork_before o h c d ≡ fork_before o t c d
   fork_alike c d m n = λ i. ranked (index_of_origin o (right_same c m i)) (index_of_origin o (right_same d n i)) c d
 
-  -- siblings compare as the nodes do
-  sibling_alike : (a b : Identifier) → IsIn p h a → IsIn p h b → sibling o h a b ≡ sibling o t a b
-  sibling_alike a b m n =
-      chain_before-agree false (fork_before o h) (fork_before o t) (IsIn p h) fork_alike (rights h a) (rights h b) (rights-in p h a w m) (rights-in p h b w n)
-      ∙ (λ i. chain_before false (fork_before o t) ((same p h a w m).rights_same i) ((same p h b w n).rights_same i))
-
   -- elements compare as the nodes do
   before_alike : (a b : Identifier) → IsIn p h a → IsIn p h b → before_in o h a b ≡ before_in o t a b
-  before_alike a b m n =
-      chain_before-agree true (sibling o h) (sibling o t) (IsIn p h) sibling_alike (lefts h a) (lefts h b) (lefts-in p h a w m) (lefts-in p h b w n)
-      ∙ (λ i. chain_before true (sibling o t) ((same p h a w m).lefts_same i) ((same p h b w n).lefts_same i))
+  before_alike =
+      before_agree o o h t (IsIn p h) fork_alike (λ a m. (same p h a w m).lefts_same) (λ a m. (same p h a w m).rights_same) (λ a m. lefts-in p h a w m) (λ a m. rights-in p h a w m)
 
 -- tests that agree on the members count alike
 count_alike : (q r : Identifier → Bool) (es : List Identifier) → All (λ e. q e ≡ r e) es → count_by q es ≡ count_by r es
@@ -165,7 +126,7 @@ order-nodes p (op ∷ older) w =
     let h : List Op = op ∷ older in
     let o : List Identifier = order p older in
     elim (cases_origin (element_of p op)) [
-      | inl e ↦ order-none p op older e ∙ order-nodes p older w.1 ∙ sym (ap (order catalogue) (node_ops-none p op older e))
+      | inl e ↦ order-none p op older e ∙ order-nodes p older w.1 ∙ sym (ap (order catalogue) (ap as_ops (nodes-none p op older e)))
       | inr f ↦
           let x : Identifier = f.0 in
           let t : node_ops p h ≡ bare x op ∷ node_ops p older = node_ops-some p op older x f.1 in

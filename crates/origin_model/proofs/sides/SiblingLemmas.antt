@@ -1,22 +1,8 @@
 -- The siblings of a new element compare with it as at a fork of two chains.
-use Rattle.std.proofs.Common.{Bool, List, ap, false, sym, true, ◌∙◌, ◌∷◌, ◌≡◌, ◌≢◌, subst}
-use Rattle.std.specs.Prelude.{Some}
-use Rattle.std.proofs.lemmas.Bool.{true≢false}
-use Rattle.fugue_ids.specs.Identifiers.{Identifier}
-use Rattle.fugue_ids.specs.declared.op.Op.{Op}
-use Rattle.origin_model.specs.operations.History.{element_of, is_own, right_of}
-use Rattle.origin_model.specs.order.Order.{fork_before, order, index_of_origin, right_at, ranked}
+use Rattle.origin_model.proofs.Words.{All, All-contains, Bool, Contains, Contains-append_left, Contains-append_right, Identifier, Lawful, List, Op, Place, Some, all_from_contains, ap, element_of, false, fork_before, index_of_origin, is_own, order, ranked, right_at, right_of, subst, sym, true, true≢false, ◌∙◌, ◌∷◌, ◌≡◌, ◌≢◌}
 use Rattle.origin_model.specs.sides.Slot.{IsParted, goes_before}
-use Rattle.origin_model.specs.operations.Verdict.{Lawful}
-use Rattle.origin_model.specs.declared.operations.place.Place.{Place}
-use Rattle.origin_model.proofs.operations.LookupLemmas.{IsHeld, holder-own}
-use Rattle.origin_model.proofs.operations.OperationLemmas.{element_own}
-use Rattle.origin_model.proofs.order.OrderLemmas.{right-older}
-use Rattle.origin_model.proofs.operations.ReadyLemmas.{held_not_own, right_by, when_ready}
-use Rattle.origin_model.proofs.order.StrictOrderLemmas.{fork-total}
-use Rattle.std.specs.List.{All, Contains}
-use Rattle.std.proofs.lemmas.List.Elements.{All-contains, Contains-append_left, Contains-append_right}
-use Rattle.fugue_ids.proofs.ListLemmas.{all_from_contains}
+use Rattle.origin_model.proofs.operations.LookupLemmas.{IsHeld, element_own, held_not_own, holder-own, right_by, when_ready}
+use Rattle.origin_model.proofs.order.{fork-total, right-older}
 
 -- a new element x of the place
 module _ (p : Place) (op : Op) (older : List Op) (x : Identifier) (w : Lawful (op ∷ older)) (at : element_of p op ≡ Some x) where

@@ -1,40 +1,16 @@
 -- The gap that the sided tree gives is the place of the new element: what stands before it there stands before it by the chains, and what stands behind it stands behind it.
-use Rattle.std.proofs.Common.{Bool, List, [], ap, append_assoc, false, inl, inr, refl, subst, sym, true, ◌++◌, ◌∙◌, ◌∷◌, ◌≡◌, ◌≢◌, ◌⊎◌, ◌↔◌}
-use Rattle.std.specs.Prelude.{None, Option, Some}
-use Rattle.std.proofs.lemmas.Bool.{cases_Bool, false≢true, true≢false}
-use Rattle.std.proofs.lemmas.List.{append-nil, same_from_push, append_cancel_left}
-use Rattle.fugue_ids.specs.Identifiers.{Identifier}
+use Rattle.origin_model.proofs.Words.{All-contains, Bool, Contains, Contains-append_cases, Contains-append_left, Identifier, IsIn, IsOrderedBy, Lawful, List, None, Op, Option, Place, Some, [], all_pairs_before, ap, append-nil, append_assoc, append_cancel_left, before_in, cases_Bool, cases_id, chain_before, contains_here, contains_middle, element_of, false, false≢true, fork_before, has_left, index_of_origin, inl, inr, is_own, left_at, left_of, lefts, next_left, next_right, order, placed, ranked, refl, right_of, rights, same_from_push, sibling, subst, sym, true, true≢false, ◌++◌, ◌↔◌, ◌∙◌, ◌∷◌, ◌≡◌, ◌≢◌, ◌⊎◌}
 use Rattle.fugue_ids.specs.declared.gap.Gap.{Gap}
 use Rattle.fugue_ids.specs.declared.gap.Gap.TheVariants.{After, Alone, Before}
-use Rattle.fugue_ids.specs.declared.op.Op.{Op}
-use Rattle.origin_model.specs.order.Laws.{IsIn}
-use Rattle.origin_model.specs.operations.History.{element_of, is_own, left_of, right_of}
-use Rattle.origin_model.specs.order.Order.{IsOrderedBy, before_in, chain_before, fork_before, has_left, index_of_origin, left_at, lefts, next_left, next_right, order, placed, ranked, rights, sibling}
-use Rattle.origin_model.specs.sides.Slot.{BeforeBlock, BeforeFirst, BehindElder, FirstBelow, HasElder, IsBeside, IsChild, IsGap, IsParted, IsTable, NoElder, at_gap, behind, in_front, slot_by, slot_of}
-use Rattle.origin_model.specs.operations.Verdict.{Lawful}
-use Rattle.origin_model.specs.declared.operations.place.Place.{Place}
+use Rattle.origin_model.specs.sides.Slot.{BeforeBlock, BeforeFirst, BehindElder, FirstBelow, HasElder, IsBeside, IsChild, IsGap, IsParted, IsTable, NoElder, at_gap, slot_by, slot_of}
 use Rattle.origin_model.specs.declared.sides.slot.Slot.{Slot}
 use Rattle.origin_model.specs.declared.sides.slot.Slot.TheVariants.{LeftOf, RightOf}
-use Rattle.origin_model.proofs.order.ChainFrontLemmas.{has_left-at}
-use Rattle.origin_model.proofs.order.ChainOrderLemmas.{chain_before-fork, chain_before-same}
-use Rattle.origin_model.proofs.order.ChainPartLemmas.{common, longer, parts, parts_late, turns, turns_late}
+use Rattle.origin_model.proofs.order.{IsIn-held, before_at, before_in-irrefl, before_in-older, before_in-total, before_in-trans, chain-ends, chain-held, chain-other, chain-own, chain_above, chain_before-fork, chain_before-same, common, empty_from, first_of, fork-irrefl, fork-trans, has_left-at, heads, last_of, left_in, longer, never_none, no_member, order-has, order-in, order-ordered, order-some, parts, parts_late, right-older, right_in, same_chain, stay_ordered, turns, turns_off}
 use Rattle.origin_model.proofs.sides.GapLemmas.{placed-after, placed-before}
-use Rattle.origin_model.proofs.order.ListPartLemmas.{empty_from, first_of, heads, last_of, no_member}
-use Rattle.origin_model.proofs.operations.LookupLemmas.{IsHeld, holds-older, holds-own}
-use Rattle.origin_model.proofs.operations.OperationLemmas.{element_own}
-use Rattle.origin_model.proofs.order.OrderLemmas.{before_in-older, order-ordered, order-some, right-older}
-use Rattle.origin_model.proofs.order.OrderedListLemmas.{Ordered-agree}
-use Rattle.origin_model.proofs.order.PlaceLemmas.{IsIn-held, left_in, order-has, order-in, right_in}
-use Rattle.origin_model.proofs.operations.ReadyLemmas.{held_not_own, left_named, right_named, when_ready}
+use Rattle.origin_model.proofs.operations.LookupLemmas.{IsHeld, element_own, held_not_own, holds-older, holds-own, left_named, right_named, when_ready}
 use Rattle.origin_model.proofs.sides.SiblingLemmas.{elders_first, youngers_last}
-use Rattle.origin_model.proofs.sides.SlotLemmas.{IsThere, Under, child-held, child-in, child-left, child-lefts, child-rights, child_under, over, rooted, slot-no, slot-yes, slot_by-left, slot_by-over, slot_left, under_left}
-use Rattle.origin_model.proofs.sides.SpineLemmas.{ahead, first_child, spine_first, spine_last}
-use Rattle.origin_model.proofs.order.StrictOrderLemmas.{before_in-irrefl, before_in-total, before_in-trans, fork-irrefl, fork-trans}
-use Rattle.std.specs.List.{Contains}
-use Rattle.std.proofs.lemmas.List.Elements.{All-contains, Contains-append_left, Contains-append_cases}
-use Rattle.fugue_ids.proofs.IdentifierLemmas.{cases_id}
-use Rattle.fugue_ids.proofs.ListLemmas.{contains_middle, contains_here, all_pairs_before}
-use Rattle.origin_model.proofs.order.ChainLemmas.{chain-ends, chain-held, chain-other, chain-own, chain_above, never_none, same_chain}
+use Rattle.origin_model.proofs.sides.SlotLemmas.{IsThere, Under, child-held, child-in, child-left, child-lefts, child-rights, child_under, over, rooted, slot-no, slot-yes, slot_by-left, slot_by-over, slot_left, there, under_left}
+use Rattle.origin_model.proofs.sides.SpineLemmas.{first_child, spine_first, spine_last}
 
 -- x stands in the gap: with it, the finished list is the longer one
 pub record IsPlace (g : Gap) (x : Identifier) (finished longer : List Identifier) : Type 0 where
@@ -42,21 +18,13 @@ pub record IsPlace (g : Gap) (x : Identifier) (finished longer : List Identifier
   pub beside : IsBeside g finished
   pub alone : (g ≡ Alone) ↔ (finished ≡ [])
 
--- a right child is no left child
-right_not_left : (l : Option Identifier) (q : Identifier) → RightOf l ≡ LeftOf q → ⊥
-right_not_left l q e = cc
-
--- equal slots of left children have one parent
-same_parent : (a b : Identifier) → LeftOf a ≡ LeftOf b → a ≡ b
-same_parent a b e = cc
-
 -- the parent of a left child is its right origin, and has the same left origin
 pub left_parent : (h : List Op) (l r : Option Identifier) (q : Identifier) → slot_by h l r ≡ LeftOf q → (r ≡ Some q) × (has_left h q l ≡ true)
-left_parent h l None q e = absurd (right_not_left l q e)
+left_parent h l None q e = cc
 left_parent h l (Some a) q e =
     elim (cases_Bool (has_left h a l)) [
-      | inl k ↦ let d : a ≡ q = same_parent a q (sym (slot-yes h l a k) ∙ e) in (ap Some d, ap (λ z. has_left h z l) (sym d) ∙ k)
-      | inr k ↦ absurd (right_not_left l q (sym (slot-no h l a k) ∙ e))
+      | inl k ↦ let d : a ≡ q = cc (sym (slot-yes h l a k) ∙ e) in (ap Some d, ap (λ z. has_left h z l) (sym d) ∙ k)
+      | inr k ↦ let d : RightOf l ≡ LeftOf q = sym (slot-no h l a k) ∙ e in cc
     ]
 
 -- the block of a node begins at the node, or below a left child of it
@@ -134,7 +102,7 @@ module _ (p : Place) (op : Op) (older : List Op) (x : Identifier) (w : Lawful (o
   re e m = chain-other next_right op older e (not_own e (IsIn-held p older e m))
 
   -- older elements compare as before
-  be : (e f : Identifier) → IsIn p older e → IsIn p older f → B e f ≡ ahead p older e f
+  be : (e f : Identifier) → IsIn p older e → IsIn p older f → B e f ≡ before_at p older e f
   be e f m n = before_in-older p op older w e f (IsIn-held p older e m) (IsIn-held p older f n)
 
   -- the slot of x tells its left origin
@@ -150,18 +118,13 @@ module _ (p : Place) (op : Op) (older : List Op) (x : Identifier) (w : Lawful (o
         | inr k ↦ subst (IsThere older) (sym (slot-no older (left_of op) q k)) z
       ]
 
-  -- the slot of right children of an origin is held where the origin is
-  left_there_by : (l : Option Identifier) → ((q : Identifier) → l ≡ Some q → IsHeld older q) → IsThere older (RightOf l)
-  left_there_by None f = tt
-  left_there_by (Some q) f = f q refl
-
   -- a left origin is held
   left_there : IsThere older (RightOf (left_of op))
-  left_there = left_there_by (left_of op) (λ q e. left_named older op q (when_ready older op w.0).none_missing e)
+  left_there = there older (left_of op) (λ q e. left_named older op q (when_ready older op w.0) e)
 
   -- the slot of x is held
   slot_there : IsThere older slot
-  slot_there = there_by (right_of op) (λ q e. right_named older op q (when_ready older op w.0).none_missing e) left_there
+  slot_there = there_by (right_of op) (λ q e. right_named older op q (when_ready older op w.0) e) left_there
 
   -- the chain of left origins of a sibling of x
   child_chain : (v : Identifier) → IsChild p older slot v → lefts older v ≡ A ++ v ∷ []
@@ -237,7 +200,7 @@ module _ (p : Place) (op : Op) (older : List Op) (x : Identifier) (w : Lawful (o
   sibs : (front : List Identifier) (s u : Identifier) → elders ≡ front ++ s ∷ [] → IsChild p older slot s → IsIn p older u → left_at older u ≡ left_of op → u ≢ s → S u x ≡ true → S u s ≡ true
   sibs front s u g ks m lu n k =
       let rs : rights h s ≡ O ++ s ∷ [] = child_rights s ks in
-      elim (turns_late F (rights h u) O x (ap (chain_before false F (rights h u)) (sym rx) ∙ k)) [
+      elim (turns_off false F (rights h u) O x (ap (chain_before false F (rights h u)) (sym rx) ∙ k)) [
         | inl z ↦ ap (chain_before false F (rights h u)) rs ∙ z s []
         | inr z ↦
             let kz = child_under p older slot u z.0 z.1 w.1 slot_there m (lu ∙ sym slot_left-is) (sym (re u m) ∙ z.2) in
@@ -429,33 +392,11 @@ module _ (p : Place) (op : Op) (older : List Op) (x : Identifier) (w : Lawful (o
 
   -- the finished order is in order with x too
   ordered : IsOrderedBy B (order p older)
-  ordered = Ordered-agree (ahead p older) B (IsIn p older) (λ a b k l. sym (be a b k l)) (order p older) (order-in p older w.1) (order-ordered p older w.1)
+  ordered = stay_ordered p op older w (order-ordered p older w.1)
 
   -- the members of the finished order are elements
   old_in : (e : Identifier) → Contains (order p older) e → IsIn p older e
   old_in e m = All-contains (IsIn p older) (order p older) e (order-in p older w.1) m
-
-  -- x is placed behind the last element before it
-  is_behind : (y : Identifier) → IsBehind y → order p h ≡ behind y x (order p older)
-  is_behind y g =
-      order-some p op older x at
-      ∙ placed-after B (before_in-irrefl (order p older) h) (before_in-trans (order p older) h) x y (order p older) ordered (order-has p older y g.member) g.goes
-      (λ e m k. g.last e (old_in e m) k)
-
-  -- x is placed before the first element behind it
-  is_in_front : (y : Identifier) → IsInFront y → order p h ≡ in_front y x (order p older)
-  is_in_front y g =
-      order-some p op older x at
-      ∙ placed-before B (before_in-irrefl (order p older) h) (before_in-trans (order p older) h) x y (order p older) ordered (order-has p older y g.member) g.goes
-      (λ e m k.
-      let j = IsIn-held p older e (old_in e m) in
-      before_in-total (order p older) h e x (holds-older op older e j) (holds-own op older x own) (is_old e j) k)
-      (λ e m k. g.first e (old_in e m) k)
-
-  -- x is placed alone in an empty order
-  is_alone : order p older ≡ [] → order p h ≡ x ∷ order p older
-  is_alone e =
-      order-some p op older x at ∙ ap (λ o. placed (λ e. before_in (order p older) h e x) o x) e ∙ ap (λ o. x ∷ o) (sym e)
 
   -- x stands in a gap beside an element y
   beside_element : (g : Gap) (y : Identifier) → (g ≡ Alone → ⊥) → IsIn p older y → IsBeside g (order p older) → order p h ≡ at_gap g x (order p older) → IsPlace g x (order p older) (order p h)
@@ -467,42 +408,42 @@ module _ (p : Place) (op : Op) (older : List Op) (x : Identifier) (w : Lawful (o
 
   -- x stands directly behind y
   place_behind : (y : Identifier) → IsBehind y → IsPlace (After y) x (order p older) (order p h)
-  place_behind y g = beside_element (After y) y (λ e. cc) g.member (order-has p older y g.member) (is_behind y g)
+  place_behind y g = beside_element (After y) y (λ e. cc) g.member (order-has p older y g.member) (
+      order-some p op older x at
+      ∙ placed-after B (before_in-irrefl (order p older) h) (before_in-trans (order p older) h) x y (order p older) ordered (order-has p older y g.member) g.goes
+      (λ e m k. g.last e (old_in e m) k))
 
   -- x stands directly before y
   place_in_front : (y : Identifier) → IsInFront y → IsPlace (Before y) x (order p older) (order p h)
-  place_in_front y g = beside_element (Before y) y (λ e. cc) g.member (order-has p older y g.member) (is_in_front y g)
+  place_in_front y g = beside_element (Before y) y (λ e. cc) g.member (order-has p older y g.member) (
+      order-some p op older x at
+      ∙ placed-before B (before_in-irrefl (order p older) h) (before_in-trans (order p older) h) x y (order p older) ordered (order-has p older y g.member) g.goes
+      (λ e m k.
+      let j = IsIn-held p older e (old_in e m) in
+      before_in-total (order p older) h e x (holds-older op older e j) (holds-own op older x own) (is_old e j) k)
+      (λ e m k. g.first e (old_in e m) k))
 
   -- x stands alone
   place_alone : order p older ≡ [] → IsPlace Alone x (order p older) (order p h)
-  place_alone e = record { place = is_alone e; beside = tt; alone = ((λ d. e), (λ d. refl)) }
+  place_alone e = record { place = order-some p op older x at ∙ ap (λ o. placed (λ e. before_in (order p older) h e x) o x) e ∙ ap (λ o. x ∷ o) (sym e); beside = tt; alone = ((λ d. e), (λ d. refl)) }
 
   -- the gap without an elder sibling
   no_elder_gap : (s : Slot) (g : Gap) → slot ≡ s → elders ≡ [] → NoElder children s youngers g → IsPlace g x (order p older) (order p h)
   no_elder_gap (RightOf None) Alone e n k = place_alone (alone_case e n k)
   no_elder_gap (RightOf None) (Before y) e n k = place_in_front y (first_case y e n k)
-  no_elder_gap (RightOf None) (After y) e n k = absurd k
-  no_elder_gap (RightOf (Some l)) Alone e n k = absurd k
-  no_elder_gap (RightOf (Some l)) (Before y) e n k = absurd k
   no_elder_gap (RightOf (Some l)) (After y) e n k = subst (λ z. IsPlace (After z) x (order p older) (order p h)) k (place_behind l (parent_case l e n))
-  no_elder_gap (LeftOf q) Alone e n k = absurd k
   no_elder_gap (LeftOf q) (Before y) e n k = place_in_front y (left_case q y e n k)
-  no_elder_gap (LeftOf q) (After y) e n k = absurd k
+  no_elder_gap _ _ e n k = absurd k
 
   -- the gap with an elder sibling
   elder_gap : (g : Gap) → HasElder children elders g → IsPlace g x (order p older) (order p h)
-  elder_gap Alone k = absurd k
-  elder_gap (Before y) k = absurd k
   elder_gap (After y) k = place_behind y (elder_case y k)
+  elder_gap _ k = absurd k
 
   -- the gap, by whether there is an elder sibling
   gap_by : (es : List Identifier) (g : Gap) → elders ≡ es → IsGap children slot es youngers g → IsPlace g x (order p older) (order p h)
   gap_by [] g e k = no_elder_gap slot g refl e k
   gap_by (z ∷ zs) g e k = elder_gap g (subst (λ l. HasElder children l g) (sym e) k)
-
-  -- the gap that the tree gives
-  gap_here : (g : Gap) → IsGap children slot elders youngers g → IsPlace g x (order p older) (order p h)
-  gap_here g k = gap_by elders g refl k
 
 -- the gap that the tree gives is the place of the order
 pub gap_is_place :
@@ -511,4 +452,4 @@ pub gap_is_place :
     → IsParted (order p older) older op x (children (slot_of older op)) elders youngers
     → IsGap children (slot_of older op) elders youngers g
     → IsPlace g x (order p older) (order p (op ∷ older))
-gap_is_place p op older x children elders youngers g w at t c k = gap_here p op older x w at children t elders youngers c g k
+gap_is_place p op older x children elders youngers g w at t c k = gap_by p op older x w at children t elders youngers c elders g refl k

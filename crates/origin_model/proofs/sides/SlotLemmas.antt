@@ -1,26 +1,10 @@
 -- Slots of the sided tree: the chains of the children of a slot, and which slot an element of a chain hangs in.
-use Rattle.std.proofs.Common.{List, [], ap, false, inl, inr, refl, subst, sym, true, ◌++◌, ◌∙◌, ◌∷◌, ◌≡◌}
-use Rattle.std.specs.Prelude.{None, Option, Some, is_some, if◌then◌else◌}
-use Rattle.std.proofs.lemmas.Bool.{cases_Bool}
-use Rattle.std.proofs.lemmas.List.{same_from_push}
-use Rattle.fugue_ids.specs.Identifiers.{Identifier}
-use Rattle.fugue_ids.specs.declared.op.Op.{Op}
-use Rattle.origin_model.specs.order.Laws.{IsIn}
-use Rattle.origin_model.specs.operations.History.{holder, left_of, right_of}
-use Rattle.origin_model.specs.order.Order.{has_left, left_at, lefts, next_left, next_right, right_beside, rights}
+use Rattle.origin_model.proofs.Words.{All-contains, Contains, Identifier, IsIn, Lawful, List, None, Op, Option, Place, Some, [], ap, cases_Bool, contains_middle, false, has_left, holder, if◌then◌else◌, inl, inr, is_some, left_at, left_of, lefts, next_left, next_right, refl, right_beside, right_of, rights, same_from_push, subst, sym, true, ◌++◌, ◌∙◌, ◌∷◌, ◌≡◌}
 use Rattle.origin_model.specs.sides.Slot.{IsChild, slot_by, slot_of}
-use Rattle.origin_model.specs.operations.Verdict.{Lawful}
-use Rattle.origin_model.specs.declared.operations.place.Place.{Place}
 use Rattle.origin_model.specs.declared.sides.slot.Slot.{Slot}
 use Rattle.origin_model.specs.declared.sides.slot.Slot.TheVariants.{LeftOf, RightOf}
-use Rattle.origin_model.proofs.order.ChainFrontLemmas.{has_left-at, left_at-is, lefts-above, lefts-prefix, only_one, rights-prefix}
+use Rattle.origin_model.proofs.order.{IsIn-held, chain-ends, chain_above, has_left-at, left_at-is, left_origin_held, lefts-above, lefts-at, lefts-in, lefts-prefix, never_none, only_one, right_origin_held, rights-at, rights-in, rights-prefix, same_chain}
 use Rattle.origin_model.proofs.operations.LookupLemmas.{IsHeld, found}
-use Rattle.origin_model.proofs.order.PartLemmas.{left_origin_held, lefts-at, right_origin_held, rights-at}
-use Rattle.origin_model.proofs.order.PlaceLemmas.{IsIn-held, lefts-in, rights-in}
-use Rattle.std.specs.List.{Contains}
-use Rattle.std.proofs.lemmas.List.Elements.{All-contains}
-use Rattle.fugue_ids.proofs.ListLemmas.{contains_middle}
-use Rattle.origin_model.proofs.order.ChainLemmas.{chain-ends, chain_above, never_none, same_chain}
 
 -- the left origin that the children of a slot have
 abbrev pub slot_left : List Op → Slot → Option Identifier
@@ -165,11 +149,11 @@ rooted p h l u w t m e =
       own = only_one h u f.0 f.1 (IsIn-held p h u m) path;
     }
 
+-- an origin that is held, as a slot
+pub there : (h : List Op) (l : Option Identifier) → ((q : Identifier) → l ≡ Some q → IsHeld h q) → IsThere h (RightOf l)
+there h None f = tt
+there h (Some q) f = f q refl
+
 -- a left origin is held
 pub left_there : (p : Place) (h : List Op) (q : Identifier) → Lawful h → IsIn p h q → IsThere h (RightOf (left_at h q))
-left_there p h q w m =
-    let from : (o : Option Identifier) → left_of m.op ≡ o → IsThere h (RightOf o) = λ o. elim o as (λ o. left_of m.op ≡ o → IsThere h (RightOf o)) [
-      | None ↦ (λ e. tt)
-      | Some l ↦ (λ e. left_origin_held h q m.op l w m.held e)
-    ] in
-    from (left_at h q) (sym (left_at-is h q m.op m.held))
+left_there p h q w m = there h (left_at h q) (λ l e. left_origin_held h q m.op l w m.held (sym (left_at-is h q m.op m.held) ∙ e))

@@ -1,32 +1,11 @@
 -- The first and the last node below a node, found by first left and by last right children, are the first and the last by the order.
-use Rattle.std.proofs.Common.{Bool, List, [], ap, append_assoc, false, inl, inr, subst, sym, true, ◌++◌, ◌∙◌, ◌∷◌, ◌≡◌, ◌≢◌, ◌⊎◌}
-use Rattle.std.specs.Prelude.{Some}
-use Rattle.std.proofs.lemmas.List.{append-nil, append_cancel_left}
-use Rattle.fugue_ids.specs.Identifiers.{Identifier}
-use Rattle.fugue_ids.specs.declared.op.Op.{Op}
-use Rattle.origin_model.specs.order.Laws.{IsIn}
-use Rattle.origin_model.specs.order.Order.{IsOrderedBy, Passes, before_in, chain_before, fork_before, left_at, lefts, next_left, next_right, older_of, order, rights, sibling}
+use Rattle.origin_model.proofs.Words.{Bool, Contains, Identifier, IsIn, IsOrderedBy, Lawful, List, Op, Passes, Place, Some, [], ap, append-nil, append_assoc, append_cancel_left, cases_id, chain_before, contains_here, contains_middle, false, fork_before, inl, inr, left_at, lefts, next_left, next_right, older_of, order, rights, sibling, subst, sym, true, ◌++◌, ◌∙◌, ◌∷◌, ◌≡◌, ◌≢◌, ◌⊎◌}
 use Rattle.origin_model.specs.sides.Slot.{FirstBelow, IsChild, IsTable, LastBelow}
-use Rattle.origin_model.specs.operations.Verdict.{Lawful}
-use Rattle.origin_model.specs.declared.operations.place.Place.{Place}
 use Rattle.origin_model.specs.declared.sides.slot.Slot.{Slot}
 use Rattle.origin_model.specs.declared.sides.slot.Slot.TheVariants.{LeftOf, RightOf}
-use Rattle.origin_model.proofs.order.ChainFrontLemmas.{lefts-above}
-use Rattle.origin_model.proofs.order.ChainOrderLemmas.{chain_before-fork, chain_before-same}
-use Rattle.origin_model.proofs.order.ChainPartLemmas.{common, longer}
-use Rattle.origin_model.proofs.order.ListPartLemmas.{first_of, heads, last_of, no_member, not_longer}
+use Rattle.origin_model.proofs.order.{IsIn-held, before_at, chain_above, chain_before-fork, chain_before-same, common, first_of, fork_moved, heads, last_of, lefts-above, longer, no_member, not_longer, same_chain}
 use Rattle.origin_model.proofs.operations.LookupLemmas.{IsHeld}
-use Rattle.origin_model.proofs.order.OrderLemmas.{fork_moved}
-use Rattle.origin_model.proofs.order.PlaceLemmas.{IsIn-held}
 use Rattle.origin_model.proofs.sides.SlotLemmas.{child-in, child-left, child-lefts, child-rights, child_under, left_there, rooted, under_left}
-use Rattle.std.specs.List.{Contains}
-use Rattle.fugue_ids.proofs.IdentifierLemmas.{cases_id}
-use Rattle.fugue_ids.proofs.ListLemmas.{contains_middle, contains_here}
-use Rattle.origin_model.proofs.order.ChainLemmas.{chain_above, same_chain}
-
--- x stands before y
-abbrev pub ahead : Place → List Op → Identifier → Identifier → Bool
-ahead p h = before_in (order p (older_of h)) h
 
 -- a goes before b at a fork
 abbrev pub goes_first : Place → List Op → Identifier → Identifier → Bool
@@ -36,14 +15,14 @@ goes_first p h = fork_before (order p (older_of h)) h
 pub record IsLastIn (p : Place) (h : List Op) (s y : Identifier) : Type 0 where
   pub member : IsIn p h y
   pub under : Passes (lefts h s) (lefts h y)
-  pub last : (e : Identifier) → IsIn p h e → Passes (lefts h s) (lefts h e) → (e ≡ y) ⊎ (ahead p h e y ≡ true)
+  pub last : (e : Identifier) → IsIn p h e → Passes (lefts h s) (lefts h e) → (e ≡ y) ⊎ (before_at p h e y ≡ true)
 
 -- y is the first of the elements that stand in the forest of right origins below q, or below those
 pub record IsFirstIn (p : Place) (h : List Op) (q y : Identifier) : Type 0 where
   pub member : IsIn p h y
   pub same_left : lefts h y ≡ chain_above next_left h (left_at h q) ++ y ∷ []
   pub under : Passes (rights h q) (rights h y)
-  pub first : (e u : Identifier) (more ms : List Identifier) → IsIn p h e → lefts h e ≡ chain_above next_left h (left_at h q) ++ u ∷ more → rights h u ≡ rights h q ++ ms → (e ≡ y) ⊎ (ahead p h y e ≡ true)
+  pub first : (e u : Identifier) (more ms : List Identifier) → IsIn p h e → lefts h e ≡ chain_above next_left h (left_at h q) ++ u ∷ more → rights h u ≡ rights h q ++ ms → (e ≡ y) ⊎ (before_at p h y e ≡ true)
 
 -- the tables of a lawful history
 module _ (p : Place) (h : List Op) (w : Lawful h) (children : Slot → List Identifier) (t : IsTable p h children) where
@@ -90,7 +69,7 @@ module _ (p : Place) (h : List Op) (w : Lawful h) (children : Slot → List Iden
       (record {
         member = m;
         under = ([], sym (append-nil (lefts h s)));
-        last = λ e n q. elim q.0 as (λ more. lefts h e ≡ lefts h s ++ more → (e ≡ s) ⊎ (ahead p h e s ≡ true)) [
+        last = λ e n q. elim q.0 as (λ more. lefts h e ≡ lefts h s ++ more → (e ≡ s) ⊎ (before_at p h e s ≡ true)) [
           | [] ↦ (λ j. inl (passes_end s e (IsIn-held p h s m) (IsIn-held p h e n) j))
           | u ∷ ms ↦ (λ j.
               let d = under_left p h (Some s) e u ms w (IsIn-held p h s m) n j in
@@ -107,7 +86,7 @@ module _ (p : Place) (h : List Op) (w : Lawful h) (children : Slot → List Iden
       record {
         member = l.member;
         under = (v ∷ l.under.0, ly);
-        last = λ e n q. elim q.0 as (λ more. lefts h e ≡ lefts h s ++ more → (e ≡ y) ⊎ (ahead p h e y ≡ true)) [
+        last = λ e n q. elim q.0 as (λ more. lefts h e ≡ lefts h s ++ more → (e ≡ y) ⊎ (before_at p h e y ≡ true)) [
           | [] ↦ (λ j. inr ((λ i. chain_before true S (j i) (ly i)) ∙ common true S (lefts h s) [] (v ∷ l.under.0)))
           | u ∷ ms ↦ (λ j. elim (cases_id u v) [
             | inl d ↦ l.last e n (ms, j ∙ ap (λ z. lefts h s ++ z ∷ ms) d ∙ sym (append_assoc (lefts h s) (v ∷ []) ms) ∙ ap (λ a. a ++ ms) (sym lv))
@@ -137,10 +116,10 @@ module _ (p : Place) (h : List Op) (w : Lawful h) (children : Slot → List Iden
         under = ([], sym (append-nil (rights h q)));
         first = λ e u more ms n j i.
             let b = under_left p h (left_at h q) e u more w (left_there p h q w m) n j in
-            (elim ms as (λ ms. rights h u ≡ rights h q ++ ms → (e ≡ q) ⊎ (ahead p h q e ≡ true)) [
+            (elim ms as (λ ms. rights h u ≡ rights h q ++ ms → (e ≡ q) ⊎ (before_at p h q e ≡ true)) [
               | [] ↦ (λ z.
                   let d : u ≡ q = same_chain next_right h u q (IsIn-held p h u b.member) hq (z ∙ append-nil (rights h q)) in
-                  (elim more as (λ more. lefts h e ≡ A ++ u ∷ more → (e ≡ q) ⊎ (ahead p h q e ≡ true)) [
+                  (elim more as (λ more. lefts h e ≡ A ++ u ∷ more → (e ≡ q) ⊎ (before_at p h q e ≡ true)) [
                     | [] ↦ (λ f. inl (same_chain next_left h e q (IsIn-held p h e n) hq (f ∙ ap (λ x. A ++ x ∷ []) d ∙ sym lq)))
                     | x ∷ xs ↦ (λ f. inr ((λ i. chain_before true S (lq i) ((f ∙ ap (λ y. A ++ y ∷ x ∷ xs) d) i)) ∙ common true S A (q ∷ []) (q ∷ x ∷ xs) ∙ chain_before-same true S q [] (x ∷ xs)))
                   ]) j)
@@ -162,8 +141,8 @@ module _ (p : Place) (h : List Op) (w : Lawful h) (children : Slot → List Iden
         under = (v ∷ f.under.0, ry);
         first = λ e u more ms n j i.
             let b = under_left p h (left_at h q) e u more w (left_there p h q w m) n j in
-            let turn : y ≢ u → S y u ≡ true → ahead p h y e ≡ true = λ d s. (λ i. chain_before true S (ly i) (j i)) ∙ common true S A (y ∷ []) (u ∷ more) ∙ chain_before-fork true S y u [] more d ∙ s in
-            (elim ms as (λ ms. rights h u ≡ rights h q ++ ms → (e ≡ y) ⊎ (ahead p h y e ≡ true)) [
+            let turn : y ≢ u → S y u ≡ true → before_at p h y e ≡ true = λ d s. (λ i. chain_before true S (ly i) (j i)) ∙ common true S A (y ∷ []) (u ∷ more) ∙ chain_before-fork true S y u [] more d ∙ s in
+            (elim ms as (λ ms. rights h u ≡ rights h q ++ ms → (e ≡ y) ⊎ (before_at p h y e ≡ true)) [
               | [] ↦ (λ z.
                   inr (turn (λ d. not_longer (rights h q) v f.under.0 (sym (append-nil (rights h q)) ∙ sym z ∙ ap (rights h) (sym d) ∙ ry))
                   ((λ i. chain_before false F (ry i) (z i)) ∙ common false F (rights h q) (v ∷ f.under.0) [])))

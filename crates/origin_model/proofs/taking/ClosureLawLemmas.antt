@@ -1,17 +1,10 @@
 -- The accepted set does not depend on the order of arrival: it is the closure of what was taken in, and replicas that exchange what they kept come to the same.
-use Rattle.std.proofs.Common.{List, [], ap, false, inl, inr, subst, sym, true, ℕ, ◌++◌, ◌||◌, ◌∙◌, ◌∷◌, ◌≡◌, ◌≢◌}
-use Rattle.std.proofs.lemmas.Bool.{cases_Bool, false_from_ne_true, false≢true, or_cases, or_left, or_parts, or_right, true≢false}
-use Rattle.std.proofs.lemmas.List.{append-nil}
-use Rattle.std.proofs.lemmas.List.Elements.{All-append}
-use Rattle.fugue_ids.specs.declared.op.Op.{Op}
+use Rattle.origin_model.proofs.Words.{All-append, IsPartOf, List, Op, SameOps, [], accepted, ap, append-nil, cases_Bool, false, false_from_ne_true, false≢true, has_op, inl, inr, or_cases, or_left, or_parts, or_right, subst, sym, true, true≢false, ℕ, ◌++◌, ◌||◌, ◌∙◌, ◌∷◌, ◌≡◌, ◌≢◌}
 use Rattle.origin_model.specs.taking.Closure.{IsClosed, answers, ClosureBySet, ClosureOfMerge, ClosureOfSet, ClosureOfUnion, Consistent, WithinLimits, SameSetConverges, Taker, given_by, given_by_all, kept_by, kept_by_all, state_of}
-use Rattle.origin_model.specs.order.Laws.{IsPartOf, SameOps}
-use Rattle.origin_model.specs.operations.History.{accepted, has_op}
 use Rattle.origin_model.specs.taking.Taking.{Full, Held, IsSettled, TooMany, answers_from, closure, held, held_from, is_decided, is_again, nothing}
-use Rattle.origin_model.proofs.operations.ReadyLemmas.{when_ready}
-use Rattle.origin_model.proofs.order.OrderLawLemmas.{Within-part, order_by_set, same-part}
+use Rattle.origin_model.proofs.operations.LookupLemmas.{has-append, has-reverse, when_ready}
+use Rattle.origin_model.proofs.order.{Within-part, order_by_set, same-part}
 use Rattle.origin_model.proofs.operations.CauseLemmas.{Dead, dead_within}
-use Rattle.origin_model.proofs.operations.HasOpLemmas.{has-append, has-reverse}
 use Rattle.origin_model.proofs.taking.ClosureLemmas.{closed_by_set, closure_is, maximal, same_closed}
 use Rattle.origin_model.proofs.taking.SettlingLemmas.{undecided_found}
 use Rattle.origin_model.proofs.taking.TakingLemmas.{Covers, fold_covers}

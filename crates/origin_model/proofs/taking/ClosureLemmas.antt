@@ -1,29 +1,24 @@
 -- The closure of a list is a lawful part of it to which no more of it can be added, and every such history has the same operations.
-use Rattle.std.proofs.Common.{Bool, List, [], ap, arith, cond, false, inl, inr, length, not, refl, subst, sym, true, ℕ, ◌+◌, ◌||◌, ◌∙◌, ◌∷◌, ◌≡◌, ◌≤◌}
-use Rattle.std.specs.Prelude.{None, Option, Some, count_by}
-use Rattle.std.proofs.lemmas.Bool.{cases_Bool, false_from_ne_true, false≢true, or_cases, or_left, or_right, true≢false}
+use Rattle.origin_model.proofs.Words.{Bool, Identifier, IsPartOf, Lawful, List, None, Op, Option, Ready, SameOps, Some, Verdict, [], ap, arith, cases_Bool, cond, count_by, false, false_from_ne_true, false≢true, has_op, holder, id_held, id_of, inl, inr, length, names, not, op_eq, op_eq-refl, op_eq-true, or_cases, or_left, or_right, refl, subst, sym, true, true≢false, verdict, ℕ, ◌+◌, ◌||◌, ◌∙◌, ◌∷◌, ◌≡◌, ◌≤◌}
 use Rattle.std.proofs.lemmas.List.Sums.{count_by-le-length, sum_by-cons}
-use Rattle.fugue_ids.specs.Identifiers.{Identifier}
-use Rattle.fugue_ids.specs.Ops.{id_of, op_eq}
-use Rattle.fugue_ids.specs.declared.op.Op.{Op}
 use Rattle.origin_model.specs.taking.Closure.{ClosureIsClosed, Consistent, IsClosed, Saturated}
-use Rattle.origin_model.specs.order.Laws.{IsPartOf, SameOps}
-use Rattle.origin_model.specs.operations.History.{has_op, holder}
 use Rattle.origin_model.specs.taking.Taking.{closed_within, closure, first_ready}
-use Rattle.origin_model.specs.operations.Verdict.{Lawful, id_held, names, verdict}
-use Rattle.origin_model.specs.declared.operations.verdict.Verdict.{Verdict}
-use Rattle.origin_model.specs.declared.operations.verdict.Verdict.TheVariants.{Again, Conflict, Missing, Ready, Stray}
-use Rattle.fugue_ids.proofs.OpLemmas.{op_eq-refl, op_eq-true}
-use Rattle.origin_model.proofs.operations.OperationLemmas.{own_id}
-use Rattle.origin_model.proofs.operations.LookupLemmas.{found, holder-has, holder_owns}
-use Rattle.origin_model.proofs.operations.ReadyLemmas.{when_ready}
-use Rattle.origin_model.proofs.order.OrderLawLemmas.{Within-part}
-use Rattle.origin_model.proofs.operations.CauseLemmas.{becomes_ready, cases_held, names_within, ready_absent}
+use Rattle.origin_model.proofs.operations.LookupLemmas.{cases_held, found, holder-has, holder_owns, own_id, when_ready}
+use Rattle.origin_model.proofs.order.{Within-part}
+use Rattle.origin_model.proofs.operations.CauseLemmas.{becomes_ready, names_within, ready_absent}
 
 -- an identifier that is held is that of an operation of the history
-pub taken_by : (h : List Op) (o : Option Identifier) → id_held h o ≡ true → (i : Identifier) × (op : Op) × (o ≡ Some i) × (holder h i ≡ Some op)
+taken_by : (h : List Op) (o : Option Identifier) → id_held h o ≡ true → (i : Identifier) × (op : Op) × (o ≡ Some i) × (holder h i ≡ Some op)
 taken_by h None e = absurd (false≢true e)
 taken_by h (Some i) e = let r = found (holder h i) e in (i, r.0, refl, r.1)
+
+-- in a consistent list an identifier is held only by the operation itself
+pub no_conflict : (all h : List Op) (op : Op) → Consistent all → IsPartOf h all → has_op all op ≡ true → has_op h op ≡ false → id_held h (id_of op) ≡ false
+no_conflict all h op k f m n =
+    false_from_ne_true (id_held h (id_of op)) (λ e.
+    let r = taken_by h (id_of op) e in
+    let hh = holder-has h r.0 r.1 r.3 in
+    true≢false (sym (subst (λ x. has_op h x ≡ true) (k r.1 op r.0 (f r.1 hh) m (own_id r.1 r.0 (holder_owns h r.0 r.1 r.3)) r.2) hh) ∙ n))
 
 -- a history to which no more can be added has all that any lawful part of the list has
 pub maximal : (d c ops : List Op) → Lawful d → Lawful c → IsPartOf d ops → IsPartOf c ops → Consistent ops → Saturated c ops → IsPartOf d c
@@ -39,10 +34,7 @@ maximal (o ∷ d) c ops v w f g k s op e =
             | inr n ↦
                 let ready = when_ready d o v.0 in
                 let m : has_op ops o ≡ true = f o (or_left (op_eq o o) (has_op d o) (op_eq-refl o)) in
-                let free : id_held c (id_of o) ≡ false = false_from_ne_true (id_held c (id_of o)) (λ x.
-                let r = taken_by c (id_of o) x in
-                let hc = holder-has c r.0 r.1 r.3 in
-                true≢false (sym (subst (λ z. has_op c z ≡ true) (k r.1 o r.0 (g r.1 hc) m (own_id r.1 r.0 (holder_owns c r.0 r.1 r.3)) r.2) hc) ∙ n)) in
+                let free = no_conflict ops c o k g m n in
                 let p = names_within d c (names o) (Within-part d c w rest) ready.none_stray ready.none_missing in
                 absurd (s o m n (becomes_ready c o n free p.0 p.1))
           ]
@@ -55,11 +47,8 @@ is_ready _ = false
 
 -- a verdict that passes is Ready
 ready-is : (v : Verdict) → is_ready v ≡ true → v ≡ Ready
-ready-is Again h = absurd (false≢true h)
-ready-is Conflict h = absurd (false≢true h)
-ready-is (Stray i) h = absurd (false≢true h)
-ready-is (Missing i) h = absurd (false≢true h)
 ready-is Ready h = refl
+ready-is _ h = absurd (false≢true h)
 
 -- the first Ready operation, by the verdict on the first of a list and what is found behind it
 abbrev ready_or : Verdict → Op → Option Op → Option Op
@@ -67,11 +56,8 @@ ready_or v o rest = elim v [ Ready ↦ Some o | _ ↦ rest ]
 
 -- any verdict but Ready leaves what is found behind
 ready_or-no : (v : Verdict) (o : Op) (rest : Option Op) → is_ready v ≡ false → ready_or v o rest ≡ rest
-ready_or-no Again o rest e = refl
-ready_or-no Conflict o rest e = refl
-ready_or-no (Stray i) o rest e = refl
-ready_or-no (Missing i) o rest e = refl
 ready_or-no Ready o rest e = absurd (true≢false e)
+ready_or-no _ o rest e = refl
 
 -- a Ready operation is the first one
 first-yes : (h : List Op) (o : Op) (ops : List Op) → is_ready (verdict h o) ≡ true → first_ready h (o ∷ ops) ≡ Some o
@@ -92,16 +78,12 @@ found_ready h (o ∷ ops) op e =
       | inr t ↦ let r = found_ready h ops op (sym (first-no h o ops t) ∙ e) in (or_right (op_eq o op) (has_op ops op) r.0, r.1)
     ]
 
--- a found operation is not nothing
-pub op_none : (o : Op) → Some o ≡ None → ⊥
-op_none o e = cc
-
 -- where no operation is Ready, none can be added
 none_ready : (h ops : List Op) → first_ready h ops ≡ None → Saturated h ops
 none_ready h [] e op m n r = false≢true m
 none_ready h (o ∷ ops) e op m n r =
     elim (cases_Bool (is_ready (verdict h o))) [
-      | inl t ↦ op_none o (sym (first-yes h o ops t) ∙ e)
+      | inl t ↦ let d : Some o ≡ None = sym (first-yes h o ops t) ∙ e in cc
       | inr t ↦ elim (or_cases (op_eq o op) (has_op ops op) m) [
         | inl q ↦ true≢false (sym (ap is_ready (ap (verdict h) (op_eq-true o op q) ∙ r)) ∙ t)
         | inr j ↦ none_ready h ops (sym (first-no h o ops t) ∙ e) op j n r

@@ -1,22 +1,14 @@
 -- The kept operations of a list stand for all of it: what is refused changes nothing, and what is kept is kept again.
-use Rattle.std.proofs.Common.{List, [], ap, false, inl, inr, refl, subst, sym, true, ℕ, ◌++◌, ◌∙◌, ◌∷◌, ◌≡◌, ◌≢◌}
-use Rattle.std.specs.List.{All}
-use Rattle.std.proofs.lemmas.Bool.{cases_Bool, true≢false}
-use Rattle.std.proofs.lemmas.List.Elements.{All-append, All-cons, All-nil, All-weaker}
-use Rattle.fugue_ids.specs.declared.op.Op.{Op}
-use Rattle.origin_model.specs.taking.Closure.{answers, KeptSuffice, WithinLimits, PartsAsOne, SavedSuffice, StaysSettled}
-use Rattle.origin_model.specs.taking.Taking.{Held, IsSettled, Answer, Accepted, Again as AnsweredAgain, Conflict as AnsweredConflict, Full, Stray as AnsweredStray, TooMany, Waits, answer, answers_from, decided_on, held, held_from, intake, is_kept, kept_from, nothing, settle, taken}
+use Rattle.origin_model.proofs.Words.{All, All-append, All-cons, All-nil, All-weaker, List, Op, [], ap, cases_Bool, false, inl, inr, refl, subst, sym, true, true≢false, ℕ, ◌++◌, ◌∙◌, ◌∷◌, ◌≡◌, ◌≢◌}
+use Rattle.origin_model.specs.taking.Closure.{answers, KeptSuffice, PartsAsOne, SavedSuffice, StaysSettled}
+use Rattle.origin_model.specs.taking.Taking.{Held, IsSettled, Answer, Accepted, Full, TooMany, Waits, answer, answers_from, decided_on, held, held_from, intake, is_kept, kept_from, nothing, settle, taken}
 use Rattle.origin_model.proofs.taking.SettlingLemmas.{settle-settled, settles}
 
 -- an answer by which nothing is kept changes nothing
 taken-refused : (a : Answer) (s : Held) (op : Op) → is_kept a ≡ false → taken a s op ≡ s
-taken-refused AnsweredAgain s op e = refl
-taken-refused AnsweredConflict s op e = refl
-taken-refused (AnsweredStray i) s op e = refl
-taken-refused TooMany s op e = refl
 taken-refused Accepted s op e = absurd (true≢false e)
-taken-refused Full s op e = refl
 taken-refused Waits s op e = absurd (true≢false e)
+taken-refused _ s op e = refl
 
 -- a refused operation leaves a settled state
 intake-refused : (hold most : ℕ) (s : Held) (op : Op) → IsSettled s → is_kept (answer hold most s op) ≡ false → intake hold most s op ≡ s
@@ -106,8 +98,12 @@ pub saved_suffice : SavedSuffice
 saved_suffice hold most file ops =
     let before : Held = held hold most file in
     let leads = kept_suffice hold most before ops (stays_settled hold most nothing file nothing_settled) in
+    let more : List Op = kept_from hold most before ops in
+    let still : (Q : Answer → Type 0) → ((a : Answer) → is_kept a ≡ true → Q a) → All Q (answers hold most file) → All Q (answers hold most (file ++ more)) = λ Q f n.
+    subst (All Q) (sym (answers-append hold most nothing file more))
+    (All-append Q (answers hold most file) (answers_from hold most before more) n (All-weaker (λ a. is_kept a ≡ true) Q f (answers_from hold most before more) leads.kept_again)) in
     record {
-      same_state = sym (held-append hold most nothing file (kept_from hold most before ops)) ∙ leads.same_state;
-      within_limits = λ n. subst WithinLimits (sym (answers-append hold most nothing file (kept_from hold most before ops)))
-          (All-append (λ a. (a ≢ Full) × (a ≢ TooMany)) (answers hold most file) (answers_from hold most before (kept_from hold most before ops)) n leads.within_limits);
+      same_state = sym (held-append hold most nothing file more) ∙ leads.same_state;
+      within_limits = still (λ a. (a ≢ Full) × (a ≢ TooMany)) kept_within;
+      has_place = still (λ a. a ≢ TooMany) (λ a k. (kept_within a k).1);
     }

@@ -1,17 +1,9 @@
 -- Settling takes the earliest decided operation out of those that wait, one at a time, and ends where none is decided. A settled state stays as it is.
-use Rattle.std.proofs.Common.{List, [], ap, arith, false, inl, inr, length, refl, subst, suc, sym, true, ◌||◌, ◌∙◌, ◌∷◌, ◌≡◌, ◌≤◌, ◌⊎◌}
-use Rattle.std.specs.Prelude.{All, None, Option, Some}
-use Rattle.std.proofs.lemmas.Bool.{cases_Bool, false≢true, or_cases, or_left, true≢false}
+use Rattle.origin_model.proofs.Words.{All, All-cons, All-head, All-nil, All-tail, List, None, Op, Option, Some, [], ap, arith, cases_Bool, false, false≢true, has_op, inl, inr, length, op_eq, op_eq-refl, op_eq-true, or_cases, or_left, refl, subst, suc, sym, true, true≢false, verdict, ◌||◌, ◌∙◌, ◌∷◌, ◌≡◌, ◌≤◌, ◌⊎◌}
 use Rattle.std.proofs.lemmas.List.{nil_from_length}
-use Rattle.std.proofs.lemmas.List.Elements.{All-cons, All-head, All-nil, All-tail}
-use Rattle.fugue_ids.specs.Ops.{op_eq}
-use Rattle.fugue_ids.specs.declared.op.Op.{Op}
-use Rattle.origin_model.specs.operations.History.{has_op}
 use Rattle.origin_model.specs.taking.Taking.{Held, IsSettled, decided_on, earliest, joined, settle, settle_step, settled_within}
 use Rattle.origin_model.specs.taking.Closure.{SettlingEnds}
-use Rattle.origin_model.specs.operations.Verdict.{verdict}
-use Rattle.fugue_ids.proofs.OpLemmas.{op_eq-refl, op_eq-true}
-use Rattle.origin_model.proofs.operations.HasOpLemmas.{swap_or}
+use Rattle.origin_model.proofs.operations.LookupLemmas.{swap_or}
 
 -- r is a decided operation of w, and the others
 pub record IsEarliest (h w : List Op) (r : Op × List Op) : Type 0 where

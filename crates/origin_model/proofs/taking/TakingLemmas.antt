@@ -1,24 +1,12 @@
 -- What holds of the state that taking in leads to: each operation that was taken in is accepted, waits, or names one that is held and does not fit.
-use Rattle.std.proofs.Common.{Bool, if◌then◌else◌, List, [], ap, false, inl, inr, length, nat_eq, refl, subst, sym, true, ℕ, ◌++◌, ◌+◌, ◌||◌, ◌∙◌, ◌∷◌, ◌≡◌, ◌≢◌, ◌⊎◌}
-use Rattle.std.proofs.lemmas.List.Elements.{All-head, All-tail}
-use Rattle.std.proofs.lemmas.Bool.{cases_Bool, false_from_ne_true, false≢true, or_cases, or_from, or_left, or_parts, or_right, true≢false}
-use Rattle.fugue_ids.specs.Identifiers.{Identifier}
-use Rattle.fugue_ids.specs.Ops.{id_of, op_eq}
-use Rattle.fugue_ids.specs.declared.op.Op.{Op}
+use Rattle.origin_model.proofs.Words.{All-head, All-tail, Bool, Identifier, IsPartOf, Lawful, List, Op, Ready, SameOps, Stray, Verdict, [], ap, cases_Bool, false, false≢true, has_op, if◌then◌else◌, inl, inr, length, nat_eq, op_eq, op_eq-refl, op_eq-true, or_cases, or_left, or_parts, or_right, refl, subst, sym, true, true≢false, verdict, ℕ, ◌++◌, ◌+◌, ◌||◌, ◌∙◌, ◌∷◌, ◌≡◌, ◌≢◌, ◌⊎◌}
+use Rattle.std.proofs.lemmas.Bool.{or_from}
 use Rattle.origin_model.specs.taking.Closure.{Consistent, WithinLimits}
-use Rattle.origin_model.specs.order.Laws.{IsPartOf, SameOps}
-use Rattle.origin_model.specs.operations.History.{has_op}
-use Rattle.origin_model.specs.taking.Taking.{Held, Answer, Accepted, Again as AnsweredAgain, Conflict as AnsweredConflict, Full, Stray as AnsweredStray, TooMany, Waits, answer, answer_by, answers_from, held_from, intake, is_decided, joined, settle, settled_within, taken}
-use Rattle.origin_model.specs.operations.Verdict.{Lawful, id_held, verdict}
-use Rattle.origin_model.specs.declared.operations.verdict.Verdict.{Verdict}
-use Rattle.origin_model.specs.declared.operations.verdict.Verdict.TheVariants.{Again, Conflict, Missing, Ready, Stray}
-use Rattle.fugue_ids.proofs.OpLemmas.{op_eq-refl, op_eq-true}
-use Rattle.origin_model.proofs.operations.OperationLemmas.{own_id}
-use Rattle.origin_model.proofs.operations.LookupLemmas.{holder-has, holder_owns}
-use Rattle.origin_model.proofs.order.PartLemmas.{Within-append}
+use Rattle.origin_model.specs.taking.Taking.{Held, Answer, Accepted, Again as AnsweredAgain, Conflict as AnsweredConflict, Full, Stray as AnsweredStray, TooMany, Waits, answer, answer_by, answers_from, held_from, intake, is_decided, is_taken, joined, settle, settled_within, taken}
+use Rattle.origin_model.proofs.order.{Within-append}
 use Rattle.origin_model.proofs.operations.CauseLemmas.{Dead, dead_within, stray_dead}
-use Rattle.origin_model.proofs.operations.HasOpLemmas.{has-append, swap_or}
-use Rattle.origin_model.proofs.taking.ClosureLemmas.{taken_by}
+use Rattle.origin_model.proofs.operations.LookupLemmas.{has-append, swap_or}
+use Rattle.origin_model.proofs.taking.ClosureLemmas.{no_conflict}
 use Rattle.origin_model.proofs.taking.SettlingLemmas.{IsEarliest, earliest_found, within-none, within-some, without}
 
 -- what is so of a state when the operations `done` were taken in
@@ -40,11 +28,9 @@ Covers-same a b s e c =
 
 -- a decided verdict is Ready or Stray
 decided_is : (v : Verdict) → is_decided v ≡ true → (v ≡ Ready) ⊎ ((i : Identifier) × (v ≡ Stray i))
-decided_is Again h = absurd (false≢true h)
-decided_is Conflict h = absurd (false≢true h)
-decided_is (Stray i) h = inr (i, refl)
-decided_is (Missing i) h = absurd (false≢true h)
 decided_is Ready h = inl refl
+decided_is (Stray i) h = inr (i, refl)
+decided_is _ h = absurd (false≢true h)
 
 -- it stays so as one operation leaves those that wait
 covers_step : (done : List Op) (s : Held) (r : Op × List Op) → Covers done s → IsEarliest s.history s.waiting r → Covers done (without s r)
@@ -93,25 +79,6 @@ settle_covers : (done : List Op) (s : Held) → Covers done s → Covers done (s
 unfolding settle
 settle_covers done s c = settled_covers done s.waiting s c
 
--- an operation that is there is answered Again
-answer-again : (hold most : ℕ) (s : Held) (op : Op) → (has_op s.history op || has_op s.waiting op) ≡ true → answer hold most s op ≡ AnsweredAgain
-answer-again hold most s op e = rw (e, answer)
-
--- the answer where the operation is not there
-abbrev fresh_answer : (hold most : ℕ) → Held → Op → Answer
-fresh_answer hold most s op =
-    if id_held s.history (id_of op) || id_held s.waiting (id_of op) then AnsweredConflict
-    else answer_by (nat_eq (length s.history + length s.waiting) most) (nat_eq (length s.waiting) hold) (verdict s.history op)
-
--- that is the answer
-answer-fresh : (hold most : ℕ) (s : Held) (op : Op) → (has_op s.history op || has_op s.waiting op) ≡ false → answer hold most s op ≡ fresh_answer hold most s op
-answer-fresh hold most s op e = rw (e, answer)
-
--- where its identifier is new too, the verdict and the limits decide
-fresh-by : (hold most : ℕ) (s : Held) (op : Op) → (id_held s.history (id_of op) || id_held s.waiting (id_of op)) ≡ false
-    → fresh_answer hold most s op ≡ answer_by (nat_eq (length s.history + length s.waiting) most) (nat_eq (length s.waiting) hold) (verdict s.history op)
-fresh-by hold most s op e = rw (e, fresh_answer)
-
 -- what is answered where the identifier is new too
 abbrev Cases : Verdict → Answer → Type 0
 Cases v a = ((i : Identifier) × (v ≡ Stray i) × (a ≡ AnsweredStray i)) ⊎ ((a ≡ TooMany) ⊎ (((v ≡ Ready) × (a ≡ Accepted)) ⊎ ((a ≡ Full) ⊎ (a ≡ Waits))))
@@ -119,17 +86,10 @@ Cases v a = ((i : Identifier) × (v ≡ Stray i) × (a ≡ AnsweredStray i)) ⊎
 -- these are all the cases
 answer_cases : (t f : Bool) (v : Verdict) → Cases v (answer_by t f v)
 answer_cases t f (Stray i) = inl (i, refl, refl)
-answer_cases true f Again = inr (inl refl)
-answer_cases true f Conflict = inr (inl refl)
-answer_cases true f (Missing i) = inr (inl refl)
-answer_cases true f Ready = inr (inl refl)
+answer_cases true f v = inr (inl refl)
 answer_cases false f Ready = inr (inr (inl (refl, refl)))
-answer_cases false true Again = inr (inr (inr (inl refl)))
-answer_cases false true Conflict = inr (inr (inr (inl refl)))
-answer_cases false true (Missing i) = inr (inr (inr (inl refl)))
-answer_cases false false Again = inr (inr (inr (inr refl)))
-answer_cases false false Conflict = inr (inr (inr (inr refl)))
-answer_cases false false (Missing i) = inr (inr (inr (inr refl)))
+answer_cases false true v = inr (inr (inr (inl refl)))
+answer_cases false false v = inr (inr (inr (inr refl)))
 
 -- it stays so where the operation is there already, or names one that does not fit
 grow : (done : List Op) (s : Held) (op : Op) → Covers done s → (has_op s.history op ≡ false → has_op s.waiting op ≡ false → Dead s.history op) → Covers (op ∷ done) s
@@ -177,28 +137,20 @@ wait_covers done s op c =
           elim (or_cases (op_eq op x) (has_op done x) m) [ inl k ↦ absurd (true≢false (sym k ∙ q.0)) | inr j ↦ c.decided x j n p.0 ];
     }
 
--- in a consistent list an identifier is held only by the operation itself
-no_conflict : (all h : List Op) (op : Op) → Consistent all → IsPartOf h all → has_op all op ≡ true → has_op h op ≡ false → id_held h (id_of op) ≡ false
-no_conflict all h op k f m n =
-    false_from_ne_true (id_held h (id_of op)) (λ e.
-    let r = taken_by h (id_of op) e in
-    let hh = holder-has h r.0 r.1 r.3 in
-    true≢false (sym (subst (λ x. has_op h x ≡ true) (k r.1 op r.0 (f r.1 hh) m (own_id r.1 r.0 (holder_owns h r.0 r.1 r.3)) r.2) hh) ∙ n))
-
 -- it stays so by any answer but Full and TooMany
 taken_covers : (hold most : ℕ) (all done : List Op) (s : Held) (op : Op) → Consistent all → IsPartOf done all → has_op all op ≡ true → Covers done s
     → (answer hold most s op ≢ Full) × (answer hold most s op ≢ TooMany) → Covers (op ∷ done) (taken (answer hold most s op) s op)
 taken_covers hold most all done s op k f m c n =
     let G : Answer → Type 0 = λ a. Covers (op ∷ done) (taken a s op) in
+    let a : Answer = answer_by (nat_eq (length s.history + length s.waiting) most) (nat_eq (length s.waiting) hold) (verdict s.history op) in
     elim (cases_Bool (has_op s.history op || has_op s.waiting op)) [
-      | inl t ↦ subst G (sym (answer-again hold most s op t)) (grow done s op c (λ x y. absurd (true≢false (sym t ∙ or_from (has_op s.history op) (has_op s.waiting op) x y))))
+      | inl t ↦ subst G (sym (λ i. if t i then AnsweredAgain else if is_taken s op then AnsweredConflict else a)) (grow done s op c (λ x y. absurd (true≢false (sym t ∙ or_from (has_op s.history op) (has_op s.waiting op) x y))))
       | inr t ↦
           let p = or_parts (has_op s.history op) (has_op s.waiting op) t in
           let free = or_from _ _
           (no_conflict all s.history op k (λ x j. f x (c.history_part x j)) m p.0)
           (no_conflict all s.waiting op k (λ x j. f x (c.waiting_part x j)) m p.1) in
-          let a : Answer = answer_by (nat_eq (length s.history + length s.waiting) most) (nat_eq (length s.waiting) hold) (verdict s.history op) in
-          let e : answer hold most s op ≡ a = answer-fresh hold most s op t ∙ fresh-by hold most s op free in
+          let e : answer hold most s op ≡ a = λ i. if t i then AnsweredAgain else if free i then AnsweredConflict else a in
           subst G (sym e)
           (elim (answer_cases (nat_eq (length s.history + length s.waiting) most) (nat_eq (length s.waiting) hold) (verdict s.history op)) [
             | inl q ↦ subst G (sym q.2) (grow done s op c (λ x y. stray_dead s.history op q.0 q.1))

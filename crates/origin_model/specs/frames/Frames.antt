@@ -87,7 +87,7 @@ pub record IsBad (bytes : List ℕ) : Type 0 where
   pub no_frame : (framed : Framed) (rest : List ℕ) → Begins bytes framed rest → ⊥
   pub no_front : IsPartial bytes → ⊥
 
--- how a stream ends, with the place of what is no frame
+-- how a stream ends, with the offset of what is no frame
 pub data End : Type 0 where
   Whole : End
   CutShort : ℕ → End
@@ -95,9 +95,9 @@ pub data End : Type 0 where
 
 -- how the rest behind the frames ends the stream
 abbrev pub EndsSo : List ℕ → ℕ → End → Type 0
-EndsSo rest place Whole = rest ≡ []
-EndsSo rest place (CutShort k) = (k ≡ place) × (rest ≢ []) × IsPartial rest
-EndsSo rest place (BadFrame k) = (k ≡ place) × IsBad rest
+EndsSo rest offset Whole = rest ≡ []
+EndsSo rest offset (CutShort k) = (k ≡ offset) × (rest ≢ []) × IsPartial rest
+EndsSo rest offset (BadFrame k) = (k ≡ offset) × IsBad rest
 
 -- the operations of the bytes, and how the bytes end
 pub record Reads (bytes : List ℕ) (ops : List Op) (end : End) : Type 0 where

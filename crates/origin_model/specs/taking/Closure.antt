@@ -1,12 +1,12 @@
 -- The accepted set does not depend on the order of arrival, and what was kept stands for all that was taken in.
-use Rattle.std.specs.Prelude.{◌≡◌, ◌≢◌, All, Some, true, false, List, ◌++◌, ℕ, flat_map}
+use Rattle.std.specs.Prelude.{◌≡◌, ◌≢◌, All, Contains, Some, true, false, List, ◌++◌, ℕ, flat_map, map}
 use Rattle.fugue_ids.specs.Identifiers.{Identifier}
 use Rattle.fugue_ids.specs.Ops.{id_of}
 use Rattle.fugue_ids.specs.declared.op.Op.{Op}
 use Rattle.origin_model.specs.operations.History.{has_op, accepted}
 use Rattle.origin_model.specs.order.Laws.{IsPartOf, SameOps, IsSameText}
 use Rattle.origin_model.specs.taking.Taking.{Held, nothing, Answer, TooMany, Full, held, held_from, kept, kept_from, answers_from, is_kept, IsSettled, settle, closure}
-use Rattle.origin_model.specs.operations.Verdict.{verdict, Lawful}
+use Rattle.origin_model.specs.operations.Verdict.{names, verdict, Lawful}
 use Rattle.origin_model.specs.declared.operations.verdict.Verdict.TheVariants.{Ready}
 
 -- no two different operations have one identifier
@@ -121,7 +121,24 @@ StaysSettled = (hold most : ℕ) (s : Held) (ops : List Op) → IsSettled s → 
 pub record IsSaved (hold most : ℕ) (file ops : List Op) : Type 0 where
   pub same_state : held hold most (file ++ kept_from hold most (held hold most file) ops) ≡ held_from hold most (held hold most file) ops
   pub within_limits : WithinLimits (answers hold most file) → WithinLimits (answers hold most (file ++ kept_from hold most (held hold most file) ops))
+  pub has_place : All (λ a. a ≢ TooMany) (answers hold most file) → All (λ a. a ≢ TooMany) (answers hold most (file ++ kept_from hold most (held hold most file) ops))
 
--- saving the kept operations behind those of the file saves the state, and the file meets no limit that it did not meet before
+-- saving the kept operations behind those of the file saves the state, and the file meets no limit that it did not meet before;
+-- where nothing was refused for want of a place, nothing is, even if something was Full
 abbrev pub SavedSuffice : Type 0
 SavedSuffice = (hold most : ℕ) (file ops : List Op) → IsSaved hold most file ops
+
+-- the operation names its own identifier
+pub record NamesItself (op : Op) : Type 0 where
+  pub id : Identifier
+  pub own : id_of op ≡ Some id
+  pub named : Contains (map (λ n. n.0) (names op)) id
+
+-- it is Ready on no history, and no lawful history has it
+pub record IsNeverAccepted (op : Op) : Type 0 where
+  pub never_ready : (history : List Op) → verdict history op ≢ Ready
+  pub in_none : (history : List Op) → Lawful history → has_op history op ≡ false
+
+-- an operation that names its own identifier is never accepted
+abbrev pub SelfNamedNeverAccepted : Type 0
+SelfNamedNeverAccepted = (op : Op) → NamesItself op → IsNeverAccepted op

@@ -74,10 +74,7 @@ IsSettled s = All (λ op. decided_on s.history op ≡ false) s.waiting
 abbrev pub earliest : List Op → List Op → Option (Op × List Op)
 earliest history [] = None
 earliest history (op ∷ ops) =
-    elim (decided_on history op) [
-      | true ↦ Some (op, ops)
-      | false ↦ elim (earliest history ops) [ None ↦ None | Some r ↦ Some (r.0, op ∷ r.1) ]
-    ]
+    if decided_on history op then Some (op, ops) else elim (earliest history ops) [ None ↦ None | Some r ↦ Some (r.0, op ∷ r.1) ]
 
 -- a Ready operation joins the history
 abbrev pub joined : Verdict → Op → List Op → List Op

@@ -1,4 +1,4 @@
-use Rattle.origin_model.proofs.order.OrderLawLemmas.{later_ops_keep_order, parts_keep_order}
+use Rattle.origin_model.proofs.order.{later_ops_keep_order, parts_keep_order}
 use Rattle.origin_model.proofs.laws.later_ops_keep_order.Goals as goal
 
 pub returns-clause-later : goal.returns-clause-later

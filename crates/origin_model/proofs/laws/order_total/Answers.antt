@@ -1,4 +1,4 @@
-use Rattle.origin_model.proofs.order.OrderLawLemmas.{order_total}
+use Rattle.origin_model.proofs.order.{order_total}
 use Rattle.origin_model.proofs.laws.order_total.Goals as goal
 
 pub returns : goal.returns

@@ -1,5 +1,4 @@
-use Rattle.std.proofs.Common.{◌≡◌, reverse, ◌≤◌, length, take}
-use Rattle.origin_model.specs.operations.History.{has_op}
+use Rattle.origin_model.proofs.Words.{has_op, length, reverse, take, ◌≡◌, ◌≤◌}
 use Rattle.origin_model.proofs.operations.lookup.contains_op.Given as goal
 
 abbrev pub invariant-scan : goal.invariant-scan

@@ -1,5 +1,4 @@
-use Rattle.std.proofs.Common.{◌≡◌, reverse, ◌≤◌, length, take}
-use Rattle.origin_model.specs.operations.History.{holder}
+use Rattle.origin_model.proofs.Words.{holder, length, reverse, take, ◌≡◌, ◌≤◌}
 use Rattle.origin_model.proofs.operations.lookup.find_holder.Given as goal
 
 abbrev pub invariant-scan : goal.invariant-scan

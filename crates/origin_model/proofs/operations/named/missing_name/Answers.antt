@@ -1,6 +1,5 @@
-use Rattle.std.proofs.Common.{sym}
-use Rattle.std.specs.Prelude.{option_to_list}
-use Rattle.origin_model.proofs.operations.NameLemmas.{missing_of_three}
+use Rattle.origin_model.proofs.Words.{option_to_list, sym}
+use Rattle.origin_model.proofs.operations.LookupLemmas.{missing_of_three}
 use Rattle.origin_model.proofs.operations.named.missing_name.Goals as goal
 
 pub returns : goal.returns

@@ -1,6 +1,5 @@
-use Rattle.std.proofs.Common.{◌≡◌, reverse, ◌≤◌, length, take, ◌++◌}
+use Rattle.origin_model.proofs.Words.{chain, length, reverse, take, ◌++◌, ◌≡◌, ◌≤◌}
 use Rattle.origin_model.specs.order.Chain.{next_of}
-use Rattle.origin_model.specs.order.Order.{chain}
 use Rattle.origin_model.proofs.order.comparison.climb.Given as goal
 
 abbrev pub invariant-scan : goal.invariant-scan

@@ -1,4 +1,4 @@
-use Rattle.std.proofs.Common.{◌≡◌, ◌≤◌, length, drop, ◌-◌}
+use Rattle.origin_model.proofs.Words.{drop, length, ◌-◌, ◌≡◌, ◌≤◌}
 use Rattle.origin_model.specs.order.Fork.{fork_of}
 use Rattle.origin_model.proofs.order.comparison.first_fork.Given as goal
 

@@ -1,4 +1,4 @@
-use Rattle.std.proofs.Common.{◌≡◌, ◌≤◌, length, drop, ◌-◌, ◌+◌}
+use Rattle.origin_model.proofs.Words.{drop, length, ◌+◌, ◌-◌, ◌≡◌, ◌≤◌}
 use Rattle.fugue_ids.specs.Listed.{index_of}
 use Rattle.origin_model.proofs.order.comparison.index_of.Given as goal
 

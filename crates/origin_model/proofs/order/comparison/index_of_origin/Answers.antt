@@ -1,5 +1,4 @@
-use Rattle.std.proofs.Common.{sym, ap, ◌∙◌}
-use Rattle.origin_model.specs.order.Order.{index_of_origin}
+use Rattle.origin_model.proofs.Words.{ap, index_of_origin, sym, ◌∙◌}
 use Rattle.origin_model.proofs.order.PositionLemmas.{index_end}
 use Rattle.origin_model.proofs.order.comparison.index_of_origin.Goals as goal
 

@@ -1,5 +1,5 @@
-use Rattle.std.proofs.Common.{◌≡◌, ◌∙◌, ap, reverse, true, subst, IfOk, Bool}
-use Rattle.origin_model.specs.order.Order.{lefts, sibling}
+use Rattle.origin_model.proofs.Words.{Bool, ap, lefts, reverse, sibling, subst, true, ◌∙◌, ◌≡◌}
+use Rattle.std.proofs.Common.{IfOk}
 use Rattle.origin_model.specs.order.Fork.{fork_of, by_fork}
 use Rattle.origin_model.proofs.order.ForkLemmas.{chain_before-fork_of}
 use Rattle.origin_model.proofs.order.comparison.is_before.Goals as goal

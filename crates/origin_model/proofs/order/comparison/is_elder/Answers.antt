@@ -1,5 +1,4 @@
-use Rattle.std.proofs.Common.{◌∙◌, ap, reverse, false}
-use Rattle.origin_model.specs.order.Order.{rights, fork_before}
+use Rattle.origin_model.proofs.Words.{ap, false, fork_before, reverse, rights, ◌∙◌}
 use Rattle.origin_model.specs.order.Fork.{fork_of, by_fork}
 use Rattle.origin_model.proofs.order.ForkLemmas.{chain_before-fork_of}
 use Rattle.origin_model.proofs.order.comparison.is_elder.Goals as goal

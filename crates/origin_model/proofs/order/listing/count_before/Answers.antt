@@ -1,8 +1,6 @@
-use Rattle.std.proofs.Common.{◌≡◌, arith, sym, ap, ◌∙◌, ℕ, List, Bool, true, get_or, reverse, ◌+◌, ◌-◌, ◌/◌, ◌<◌, ◌≤◌, length}
-use Rattle.fugue_ids.specs.Identifiers.{Identifier}
-use Rattle.fugue_ids.specs.declared.op.Op.{Op}
-use Rattle.origin_model.specs.order.Order.{before_in, chain_before, sibling, lefts}
-use Rattle.origin_model.proofs.order.FinishedLemmas.{stands_before, stands_behind}
+use Rattle.origin_model.proofs.Words.{Bool, Identifier, List, Op, ap, arith, before_in, chain_before, get_or, lefts, length, reverse, sibling, sym, true, ℕ, ◌+◌, ◌-◌, ◌<◌, ◌∙◌, ◌≡◌, ◌≤◌}
+use Rattle.std.proofs.Common.{◌/◌}
+use Rattle.origin_model.proofs.order.OrderLemmas.{stands_before, stands_behind}
 use Rattle.origin_model.proofs.order.listing.count_before.Goals as goal
 
 -- the middle lies in the list

@@ -1,6 +1,4 @@
-use Rattle.std.proofs.Common.{◌≤◌, ◌-◌, length, reverse}
-use Rattle.std.specs.Prelude.{count_by}
-use Rattle.origin_model.specs.order.Order.{before_in}
+use Rattle.origin_model.proofs.Words.{before_in, count_by, length, reverse, ◌-◌, ◌≤◌}
 use Rattle.origin_model.proofs.order.listing.count_before.Given as goal
 
 abbrev pub invariant-halving : goal.invariant-halving

@@ -1,4 +1,4 @@
-use Rattle.std.proofs.Common.{◌≡◌, drop, ◌++◌}
+use Rattle.origin_model.proofs.Words.{drop, ◌++◌, ◌≡◌}
 use Rattle.origin_model.specs.order.Listed.{elements_at}
 use Rattle.origin_model.proofs.order.listing.elements_in.Given as goal
 

@@ -1,4 +1,4 @@
-use Rattle.std.proofs.Common.{◌≡◌, ◌≤◌, take, drop, length, ◌+◌, ◌-◌}
+use Rattle.origin_model.proofs.Words.{drop, length, take, ◌+◌, ◌-◌, ◌≡◌, ◌≤◌}
 use Rattle.origin_model.specs.order.Listed.{elements_at}
 use Rattle.origin_model.proofs.order.listing.end_of.Given as goal
 

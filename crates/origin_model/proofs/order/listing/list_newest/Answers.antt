@@ -1,9 +1,7 @@
-use Rattle.std.proofs.Common.{◌≡◌, sym, ◌∙◌, ap, subst, List, length, take, min, reverse}
-use Rattle.fugue_ids.specs.Identifiers.{Identifier}
+use Rattle.origin_model.proofs.Words.{Identifier, IsOrderedBy, List, ap, before_in, length, min, reverse, subst, sym, take, ◌∙◌, ◌≡◌}
 use Rattle.origin_model.specs.declared.order.listed.Listed.{Listed}
-use Rattle.origin_model.specs.order.Order.{before_in, IsOrderedBy}
 use Rattle.origin_model.specs.order.Listed.{elements_at}
-use Rattle.origin_model.proofs.order.FinishedLemmas.{older-ordered}
+use Rattle.origin_model.proofs.order.OrderLemmas.{older-ordered}
 use Rattle.origin_model.proofs.order.ListingLemmas.{listed-kept, listed-found}
 use Rattle.origin_model.proofs.order.listing.list_newest.Goals as goal
 

@@ -1,13 +1,9 @@
-use Rattle.std.proofs.Common.{◌∙◌, ap, subst, List, ℕ, reverse}
-use Rattle.std.specs.Prelude.{Ok, Err, flat_map}
+use Rattle.origin_model.proofs.Words.{Catalogue, Err, List, Ok, ap, flat_map, printed_section, reverse, subst, take_all, ℕ, ◌∙◌}
 use Rattle.std.proofs.lemmas.Result.{err_from_is_err_and}
-use Rattle.std.proofs.lemmas.List.{take_all}
 use Rattle.fugue_ids.specs.declared.failed.Failed.{Failed}
 use Rattle.fugue_ids.proofs.JoinLemmas.{parts_stop}
 use Rattle.fugue_ids.specs.Outs.{WritesText}
 use Rattle.origin_model.specs.declared.order.listed.Listed.{Listed}
-use Rattle.origin_model.specs.declared.operations.place.Place.TheVariants.{Catalogue}
-use Rattle.origin_model.specs.order.Printed.{printed_section}
 use Rattle.origin_model.specs.order.Listed.{part}
 use Rattle.origin_model.proofs.order.PrintedLemmas.{manuscript_parts}
 use Rattle.origin_model.proofs.order.printing.write_manuscript.Goals as goal

@@ -1,9 +1,6 @@
-use Rattle.std.proofs.Common.{take, reverse}
-use Rattle.std.specs.Prelude.{Ok, flat_map}
+use Rattle.origin_model.proofs.Words.{Catalogue, Ok, flat_map, printed_section, reverse, take}
 use Rattle.fugue_ids.specs.Outs.{WritesText}
 use Rattle.fugue_ids.specs.declared.failed.Failed.{Failed}
-use Rattle.origin_model.specs.declared.operations.place.Place.TheVariants.{Catalogue}
-use Rattle.origin_model.specs.order.Printed.{printed_section}
 use Rattle.origin_model.specs.order.Listed.{part}
 use Rattle.origin_model.proofs.order.printing.write_manuscript.Given as goal
 

@@ -1,13 +1,9 @@
-use Rattle.std.proofs.Common.{subst, sym, List, ℕ, ◌∷◌, ◌∙◌, [], ◌++◌, reverse}
-use Rattle.std.specs.Prelude.{Ok, Err, codes}
+use Rattle.origin_model.proofs.Words.{Catalogue, Err, List, Ok, [], codes, holder, printed_section, reverse, subst, sym, text, title_of, ℕ, ◌++◌, ◌∙◌, ◌∷◌}
 use Rattle.std.specs.Str.{encode_utf8_all}
 use Rattle.std.proofs.lemmas.Result.{err_from_is_err_and}
 use Rattle.fugue_ids.specs.declared.failed.Failed.{Failed}
 use Rattle.fugue_ids.proofs.JoinLemmas.{text_stops, text_joins}
 use Rattle.fugue_ids.specs.Outs.{WritesText}
-use Rattle.origin_model.specs.operations.History.{holder}
-use Rattle.origin_model.specs.order.Printed.{printed_section, title_of, text}
-use Rattle.origin_model.specs.declared.operations.place.Place.TheVariants.{Catalogue}
 use Rattle.origin_model.proofs.order.PrintedLemmas.{part-shown, section_joins}
 use Rattle.origin_model.proofs.order.printing.write_section.Goals as goal
 

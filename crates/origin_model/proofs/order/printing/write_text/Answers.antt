@@ -1,7 +1,5 @@
-use Rattle.std.proofs.Common.{◌∙◌, ap, subst, List, ℕ, reverse}
-use Rattle.std.specs.Prelude.{Ok, Err, flat_map}
+use Rattle.origin_model.proofs.Words.{Err, List, Ok, ap, flat_map, reverse, subst, take_all, ℕ, ◌∙◌}
 use Rattle.std.proofs.lemmas.Result.{err_from_is_err_and}
-use Rattle.std.proofs.lemmas.List.{take_all}
 use Rattle.fugue_ids.specs.declared.failed.Failed.{Failed}
 use Rattle.fugue_ids.proofs.JoinLemmas.{parts_stop}
 use Rattle.fugue_ids.specs.Outs.{WritesText}

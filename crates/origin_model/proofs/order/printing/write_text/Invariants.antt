@@ -1,5 +1,4 @@
-use Rattle.std.proofs.Common.{take, reverse}
-use Rattle.std.specs.Prelude.{Ok, flat_map}
+use Rattle.origin_model.proofs.Words.{Ok, flat_map, reverse, take}
 use Rattle.fugue_ids.specs.Outs.{WritesText}
 use Rattle.fugue_ids.specs.declared.failed.Failed.{Failed}
 use Rattle.origin_model.specs.order.Listed.{part, scalar_bytes_of}

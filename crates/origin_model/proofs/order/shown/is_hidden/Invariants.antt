@@ -1,5 +1,4 @@
-use Rattle.std.proofs.Common.{◌≡◌, reverse, ◌≤◌, length, take}
-use Rattle.origin_model.specs.order.Printed.{is_hidden}
+use Rattle.origin_model.proofs.Words.{is_hidden, length, reverse, take, ◌≡◌, ◌≤◌}
 use Rattle.origin_model.proofs.order.shown.is_hidden.Given as goal
 
 abbrev pub invariant-scan : goal.invariant-scan

@@ -1,5 +1,4 @@
-use Rattle.std.proofs.Common.{◌≡◌, drop, ◌++◌, reverse, not, filter}
-use Rattle.origin_model.specs.order.Printed.{is_hidden}
+use Rattle.origin_model.proofs.Words.{drop, filter, is_hidden, not, reverse, ◌++◌, ◌≡◌}
 use Rattle.origin_model.specs.order.Listed.{elements_at}
 use Rattle.origin_model.proofs.order.shown.shown_in.Given as goal
 
