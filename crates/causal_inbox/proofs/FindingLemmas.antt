@@ -1,19 +1,19 @@
 -- What is found by keys is what a search of the whole list finds.
-use Rattle.std.proofs.Common.{ap, arith, cond, false, inl, inr, refl, subst, sym, length, ℕ, suc, List, [], ◌∷◌, Bool, ◌||◌, ◌<◌, ◌∙◌, ◌≡◌}
-use Rattle.std.specs.Prelude.{Some, is_some, slice_get, All}
-use Rattle.std.specs.List.{list_any}
-use Rattle.std.proofs.lemmas.Bool.{cases_Bool, eq-eqb}
-use Rattle.std.proofs.lemmas.List.Elements.{All-head, All-tail}
+use Rattle.std.proofs.Common.{ap, arith, false, inl, inr, refl, sym, length, ℕ, suc, List, [], ◌∷◌, Bool, nat_eq, ◌||◌, ◌<◌, ◌∙◌, ◌≡◌, get_or}
+use Rattle.std.specs.Prelude.{is_some, slice_get, AllPairs}
+use Rattle.std.specs.List.{list_any, position_or_len}
+use Rattle.std.proofs.lemmas.Bool.{cases_Bool}
+use Rattle.std.proofs.lemmas.Option.{slice_get-get_or}
 use Rattle.fugue_ids.specs.Identifiers.{Identifier}
 use Rattle.fugue_ids.specs.Ops.{op_eq}
 use Rattle.fugue_ids.specs.declared.op.Op.{Op}
 use Rattle.fugue_ids.specs.declared.op.Op.TheVariants.{Section, Text, Delete}
-use Rattle.origin_model.specs.operations.History.{has_op, holder, holds, is_own}
-use Rattle.causal_inbox.specs.Ages.{Rises, ages_with, place}
-use Rattle.causal_inbox.specs.Keys.{has_key, main_key, own}
-use Rattle.causal_inbox.specs.Places.{is_equal_at}
-use Rattle.causal_inbox.proofs.AgeLemmas.{below_apart}
-use Rattle.causal_inbox.proofs.IndexLemmas.{ages_all}
+use Rattle.origin_model.specs.operations.History.{has_op, holds}
+use Rattle.origin_model.proofs.SharedLemmas.{holds-cons}
+use Rattle.causal_inbox.specs.Index.{ages_with, is_equal, is_equal_at}
+use Rattle.causal_inbox.specs.Key.{has_key, main_key, own}
+use Rattle.causal_inbox.specs.declared.key.Key.{Key}
+use Rattle.causal_inbox.proofs.AgeLemmas.{position_found}
 
 -- an operation without the main key of another is not equal to it
 unequal : (o op : Op) → has_key (main_key op) o ≡ false → op_eq o op ≡ false
@@ -27,35 +27,31 @@ unequal (Delete i) (Section j m s u) e = refl
 unequal (Delete i) (Text j q m s d) e = refl
 unequal (Delete i) (Delete j) e = e
 
--- a search at the places of ages behind one more
-any_behind : (op o : Op) (ops : List Op) (b : ℕ) (ages some : List ℕ) → All (λ c. b < c) some
-    → list_any (λ a. is_equal_at (o ∷ ops) op (place (b ∷ ages) a)) some ≡ list_any (λ a. is_equal_at ops op (place ages a)) some
-any_behind op o ops b ages [] above = refl
-any_behind op o ops b ages (c ∷ some) above =
-    let further : place (b ∷ ages) c ≡ suc (place ages c) = ap (λ (t : Bool). cond t 0 (suc (place ages c))) (below_apart b c (All-head (λ c. b < c) c some above)) in
-    λ i. ap (is_equal_at (o ∷ ops) op) further i || any_behind op o ops b ages some (All-tail (λ c. b < c) c some above) i
+-- a test of the ages under the main key that tells of each whether its operation is equal
+found_by : (passes : ℕ → Bool) (op : Op) (ops : List Op) (ages : List ℕ) → length ages ≡ length ops
+    → ((i : ℕ) → i < length ops → passes (get_or ages i 0) ≡ op_eq (get_or ops i op) op) → list_any passes (ages_with (main_key op) ops ages) ≡ has_op ops op
+found_by passes op [] ages same each = refl
+found_by passes op (o ∷ ops) [] same each = absurd (omega (arith, same))
+found_by passes op (o ∷ ops) (b ∷ ages) same each =
+    let rest = found_by passes op ops ages (omega (arith, same)) (λ i within. each (suc i) (omega (arith, within))) in
+    elim (cases_Bool (has_key (main_key op) o)) [ inl e ↦ rw e (λ i. each 0 (omega arith) i || rest i) | inr e ↦ rw (e, unequal o op e) rest ]
 
 -- an equal operation stands at an age under the main key
-pub equal_found : (op : Op) (ops : List Op) (ages : List ℕ) → length ages ≡ length ops → Rises ages
-    → list_any (λ a. is_equal_at ops op (place ages a)) (ages_with (main_key op) ops ages) ≡ has_op ops op
-equal_found op [] ages same r = refl
-equal_found op (o ∷ ops) [] same r = absurd (omega (arith, same))
-equal_found op (o ∷ ops) (b ∷ ages) same r =
-    let some : List ℕ = ages_with (main_key op) ops ages in
-    let rest : list_any (λ a. is_equal_at (o ∷ ops) op (place (b ∷ ages) a)) some ≡ has_op ops op =
-    any_behind op o ops b ages some (ages_all (λ c. b < c) (main_key op) ops ages r.0) ∙ equal_found op ops ages (omega (arith, same)) r.1 in
-    let first : place (b ∷ ages) b ≡ 0 = ap (λ (t : Bool). cond t 0 (suc (place ages b))) (eq-eqb b b refl) in
-    let Same : Bool → Type 0 = λ t. list_any (λ a. is_equal_at (o ∷ ops) op (place (b ∷ ages) a)) (cond t (b ∷ some) some) ≡ (op_eq o op || has_op ops op) in
-    elim (cases_Bool (has_key (main_key op) o)) [
-      | inl e ↦ subst Same (sym e) (λ i. ap (is_equal_at (o ∷ ops) op) first i || rest i)
-      | inr e ↦ subst Same (sym e) (rest ∙ sym (ap (λ (t : Bool). t || has_op ops op) (unequal o op e)))
-    ]
+pub equal_found : (op : Op) (ops : List Op) (ages : List ℕ) → length ages ≡ length ops → AllPairs ◌<◌ ages
+    → list_any (λ a. is_equal_at ops op (position_or_len (λ b. nat_eq b a) ages)) (ages_with (main_key op) ops ages) ≡ has_op ops op
+equal_found op ops ages same r = found_by _ op ops ages same (λ i within.
+    ap (is_equal_at ops op) (position_found ages i (get_or ages i 0) r (omega (arith, same, within)) refl) ∙ ap (is_equal op) (slice_get-get_or ops i op within))
+
+-- an age stands under a key where an operation has it
+pub some_age : (key : Key) (ops : List Op) (ages : List ℕ) → length ages ≡ length ops → is_some (slice_get (ages_with key ops ages) 0) ≡ list_any (has_key key) ops
+some_age key [] ages same = refl
+some_age key (o ∷ ops) [] same = absurd (omega (arith, same))
+some_age key (o ∷ ops) (b ∷ ages) same = elim (cases_Bool (has_key key o)) [ inl e ↦ rw e | inr e ↦ rw e (some_age key ops ages (omega (arith, same))) ]
 
 -- an identifier is held where an age stands under it
 pub own_found : (i : Identifier) (ops : List Op) (ages : List ℕ) → length ages ≡ length ops → is_some (slice_get (ages_with (own i) ops ages) 0) ≡ holds ops i
-own_found i [] ages same = refl
-own_found i (o ∷ ops) [] same = absurd (omega (arith, same))
-own_found i (o ∷ ops) (b ∷ ages) same =
-    let rest : is_some (slice_get (ages_with (own i) ops ages) 0) ≡ holds ops i = own_found i ops ages (omega (arith, same)) in
-    let Same : Bool → Type 0 = λ t. is_some (slice_get (cond t (b ∷ ages_with (own i) ops ages) (ages_with (own i) ops ages)) 0) ≡ is_some (cond t (Some o) (holder ops i)) in
-    elim (cases_Bool (is_own i o)) [ inl e ↦ subst Same (sym e) refl | inr e ↦ subst Same (sym e) rest ]
+own_found i ops ages same = some_age (own i) ops ages same ∙ any_holds ops
+  where
+    any_holds : (ops : List Op) → list_any (has_key (own i)) ops ≡ holds ops i
+    any_holds [] = refl
+    any_holds (o ∷ ops) = ap (λ b. has_key (own i) o || b) (any_holds ops) ∙ sym (holds-cons o ops i)

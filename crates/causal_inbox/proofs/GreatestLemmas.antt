@@ -1,53 +1,42 @@
 -- The identifiers that waiting operations have or name are those of the keys that have a list.
-use Rattle.std.proofs.Common.{Bool, ◌||◌, ◌≡◌, ℕ, ◌≤◌, ◌<◌, List, [], ◌∷◌, true, false, refl, sym, ap, subst, ◌∙◌, inl, inr, nat_eq, arith, length, cond}
+use Rattle.std.proofs.Common.{◌≡◌, ℕ, ◌≤◌, ◌<◌, List, [], ◌∷◌, true, refl, sym, ap, subst, ◌∙◌, inl, inr, nat_eq, arith, length}
 use Rattle.std.specs.Prelude.{◌⊎◌, Option, Some, None, IfSome, IsSome, is_some, slice_get, option_to_list, All, Contains, filter, flat_map, map}
 use Rattle.std.specs.List.{list_any}
 use Rattle.std.specs.BTreeMap.{BTreeMap, get}
 use Rattle.std.specs.declared.vec.Vec.{Vec}
 use Rattle.std.specs.declared.alloc.Global.{Global}
-use Rattle.std.proofs.lemmas.Bool.{cases_Bool, eq-eqb, eqb-true}
+use Rattle.std.proofs.lemmas.Bool.{eq-eqb, eqb-true, or_cases, or_left, or_right}
+use Rattle.std.proofs.lemmas.List.Folds.{Any-from_list_any, list_any-from_Any}
 use Rattle.std.proofs.lemmas.List.Elements.{Contains-append_left, Contains-append_right, Contains-append_cases}
 use Rattle.fugue_ids.specs.Identifiers.{Identifier, id_eq, origin_eq}
 use Rattle.fugue_ids.specs.Keyed.{HasNoEmpty, items_of}
 use Rattle.fugue_ids.specs.Ops.{id_of}
 use Rattle.fugue_ids.specs.declared.op.Op.{Op}
 use Rattle.fugue_ids.specs.declared.op.Op.TheVariants.{Section, Text, Delete}
-use Rattle.fugue_ids.proofs.IdentifierLemmas.{id_eq-refl, id_eq-true, origin_eq-true}
-use Rattle.fugue_ids.proofs.ListLemmas.{all_from_contains, contains_cases, contains_filter, contains_filter_from, contains_here, contains_map, contains_map_from, contains_none, contains_there}
+use Rattle.fugue_ids.proofs.IdentifierLemmas.{eq-id_eq, id_eq-refl, id_eq-true, origin_eq-true}
+use Rattle.fugue_ids.proofs.ListLemmas.{all_from_contains, contains_cases, contains_filter, contains_filter_from, contains_here, contains_map, contains_map_from, contains_none}
 use Rattle.origin_model.specs.operations.Counters.{counters, mentioned, IsGreatest}
 use Rattle.origin_model.specs.operations.Verdict.{names}
 use Rattle.origin_model.specs.declared.operations.role.Role.{Role}
-use Rattle.causal_inbox.specs.Ages.{IsAgeIndex, ages_with}
+use Rattle.causal_inbox.specs.Index.{IsAgeIndex}
 use Rattle.causal_inbox.specs.Greatest.{IsGreatestUnder}
-use Rattle.causal_inbox.specs.Keys.{has_key, has_kind, named, own}
+use Rattle.causal_inbox.specs.Key.{has_key, has_kind, named, own}
 use Rattle.causal_inbox.specs.Lists.{ages_under, key_cmp}
 use Rattle.causal_inbox.specs.declared.key.Key.{Key}
+use Rattle.causal_inbox.proofs.FindingLemmas.{some_age}
 use Rattle.causal_inbox.specs.declared.key.Kind.{Kind}
 use Rattle.causal_inbox.specs.declared.key.Kind.TheVariants.{Own, Target, Named}
 
-or-false : (b c : Bool) → b ≡ false → (b || c) ≡ true → c ≡ true
-or-false b c not_b e = sym (ap (λ t. t || c) not_b) ∙ e
-
-or-true : (b : Bool) → (b || true) ≡ true
-or-true true = refl
-or-true false = refl
-
 -- a name that passes is one of the names
 any_named : (i : Identifier) (ns : List (Identifier × Role)) → list_any (λ n. id_eq n.0 i) ns ≡ true → Contains (map (λ n. n.0) ns) i
-any_named i [] e = cc
-any_named i (n ∷ ns) e =
-    elim (cases_Bool (id_eq n.0 i)) [
-      | inl same ↦ subst (Contains (n.0 ∷ map (λ n. n.0) ns)) (id_eq-true n.0 i same) (contains_here n.0 (map (λ n. n.0) ns))
-      | inr other ↦ contains_there n.0 (map (λ n. n.0) ns) i (any_named i ns (or-false (id_eq n.0 i) (list_any (λ n. id_eq n.0 i) ns) other e))
-    ]
+any_named i ns e =
+    let found = Any-from_list_any (λ n. id_eq n.0 i) ns e in
+    subst (Contains (map (λ n. n.0) ns)) (id_eq-true found.1.0 i found.4) (contains_map (λ n. n.0) ns found.1 (found.0, found.2, found.3))
 
 named_any : (i : Identifier) (ns : List (Identifier × Role)) → Contains (map (λ n. n.0) ns) i → list_any (λ n. id_eq n.0 i) ns ≡ true
-named_any i [] c = absurd (contains_none i c)
-named_any i (n ∷ ns) c =
-    elim (contains_cases n.0 (map (λ n. n.0) ns) i c) [
-      | inl same ↦ ap (λ b. b || list_any (λ n. id_eq n.0 i) ns) (ap (λ j. id_eq j i) same ∙ id_eq-refl i)
-      | inr rest ↦ ap (λ b. id_eq n.0 i || b) (named_any i ns rest) ∙ or-true (id_eq n.0 i)
-    ]
+named_any i ns c =
+    let found = contains_map_from (λ n. n.0) ns i c in
+    list_any-from_Any (λ n. id_eq n.0 i) ns (found.1.0, found.0, found.1.1, found.1.2, eq-id_eq found.0.0 i found.2)
 
 -- an operation that is found by a key has or names its identifier
 kind_mentioned : (kind : Kind) (i : Identifier) (op : Op) → has_kind kind i op ≡ true → Contains (mentioned op) i
@@ -72,34 +61,17 @@ mentioned_key i op c =
 
 keys_mentioned : (key : Key) (ops : List Op) → list_any (has_key key) ops ≡ true → Contains (flat_map mentioned ops) key.id
 keys_mentioned key [] e = cc
-keys_mentioned key (op ∷ ops) e =
-    elim (cases_Bool (has_key key op)) [
-      | inl has ↦ Contains-append_left (mentioned op) (flat_map mentioned ops) key.id (kind_mentioned key.kind key.id op has)
-      | inr other ↦ Contains-append_right (mentioned op) (flat_map mentioned ops) key.id (keys_mentioned key ops (or-false (has_key key op) (list_any (has_key key) ops) other e))
-    ]
+keys_mentioned key (op ∷ ops) e = elim (or_cases (has_key key op) (list_any (has_key key) ops) e) [
+  | inl has ↦ Contains-append_left (mentioned op) (flat_map mentioned ops) key.id (kind_mentioned key.kind key.id op has)
+  | inr other ↦ Contains-append_right (mentioned op) (flat_map mentioned ops) key.id (keys_mentioned key ops other)
+]
 
 mentioned_keys : (i : Identifier) (ops : List Op) → Contains (flat_map mentioned ops) i → (list_any (has_key (own i)) ops ≡ true) ⊎ (list_any (has_key (named i)) ops ≡ true)
 mentioned_keys i [] c = absurd (contains_none i c)
-mentioned_keys i (op ∷ ops) c =
-    elim (Contains-append_cases (mentioned op) (flat_map mentioned ops) i c) [
-      | inl here ↦ elim (mentioned_key i op here) [
-        | inl e ↦ inl (ap (λ b. b || list_any (has_key (own i)) ops) e)
-        | inr e ↦ inr (ap (λ b. b || list_any (has_key (named i)) ops) e)
-      ]
-      | inr behind ↦ elim (mentioned_keys i ops behind) [
-        | inl e ↦ inl (ap (λ b. has_key (own i) op || b) e ∙ or-true (has_key (own i) op))
-        | inr e ↦ inr (ap (λ b. has_key (named i) op || b) e ∙ or-true (has_key (named i) op))
-      ]
-    ]
-
--- an age stands under a key where an operation has it
-some_age : (key : Key) (ops : List Op) (ages : List ℕ) → length ages ≡ length ops → is_some (slice_get (ages_with key ops ages) 0) ≡ list_any (has_key key) ops
-some_age key [] ages same = refl
-some_age key (o ∷ ops) [] same = absurd (omega (arith, same))
-some_age key (o ∷ ops) (b ∷ ages) same =
-    let rest : is_some (slice_get (ages_with key ops ages) 0) ≡ list_any (has_key key) ops = some_age key ops ages (omega (arith, same)) in
-    let Same : Bool → Type 0 = λ t. is_some (slice_get (cond t (b ∷ ages_with key ops ages) (ages_with key ops ages)) 0) ≡ (t || list_any (has_key key) ops) in
-    elim (cases_Bool (has_key key o)) [ inl e ↦ subst Same (sym e) refl | inr e ↦ subst Same (sym e) rest ]
+mentioned_keys i (op ∷ ops) c = elim (Contains-append_cases (mentioned op) (flat_map mentioned ops) i c) [
+  | inl here ↦ elim (mentioned_key i op here) [ inl e ↦ inl (or_left _ _ e) | inr e ↦ inr (or_left _ _ e) ]
+  | inr behind ↦ elim (mentioned_keys i ops behind) [ inl e ↦ inl (or_right _ _ e) | inr e ↦ inr (or_right _ _ e) ]
+]
 
 -- a key has an entry where an operation has it
 entry_where : (m : BTreeMap Key (Vec ℕ Global)) (ops : List Op) (ages : List ℕ) (key : Key) → HasNoEmpty key_cmp m → IsAgeIndex ops ages (ages_under m)

@@ -1,13 +1,14 @@
 -- Equality of keys, and lists under keys as one key after another changes.
-use Rattle.std.proofs.Common.{ap, cond, false, inl, inr, refl, sym, true, take, ℕ, List, [], ◌∷◌, ◌++◌, Bool, ◌&&◌, ◌||◌, ◌+◌, ◌∙◌, ◌≡◌}
-use Rattle.std.proofs.lemmas.Bool.{cases_Bool, true≢false}
+use Rattle.std.proofs.Common.{ap, arith, cond, false, inl, inr, refl, sym, true, take, ℕ, List, [], ◌∷◌, ◌++◌, Bool, ◌&&◌, ◌||◌, ◌+◌, ◌∙◌, ◌≡◌}
+use Rattle.std.proofs.Math.Bool.{and-false, and-true, or-false}
+use Rattle.std.proofs.lemmas.Bool.{and_parts, cases_Bool, true≢false}
 use Rattle.std.proofs.lemmas.List.Folds.{list_any-append}
 use Rattle.fugue_ids.specs.Identifiers.{Identifier, id_eq}
 use Rattle.std.specs.Prelude.{Option, Some, None}
 use Rattle.fugue_ids.specs.declared.op.Op.TheVariants.{Text}
 use Rattle.fugue_ids.proofs.IdentifierLemmas.{id_eq-true, id_eq-refl}
-use Rattle.causal_inbox.specs.Keys.{has_key, has_kind, is_among, key_eq, kind_eq, named, named_or, own}
-use Rattle.causal_inbox.specs.Ages.{added}
+use Rattle.causal_inbox.specs.Key.{has_key, has_kind, is_among, key_eq, kind_eq, named, named_or, own}
+use Rattle.causal_inbox.specs.Index.{added}
 use Rattle.causal_inbox.specs.Lists.{Changed, FrontAdded}
 use Rattle.fugue_ids.specs.Keyed.{IsReplaced}
 use Rattle.causal_inbox.specs.declared.key.Key.{Key}
@@ -17,13 +18,9 @@ use Rattle.causal_inbox.specs.declared.key.Kind.TheVariants.{Own, Target, Named}
 -- keys that pass the test are equal
 pub key_eq-true : (a b : Key) → key_eq a b ≡ true → a ≡ b
 key_eq-true a b e =
-    let both = and-true (id_eq a.id b.id) (kind_eq a.kind b.kind) e in
+    let both = and_parts (id_eq a.id b.id) (kind_eq a.kind b.kind) e in
     λ i. record { id = id_eq-true a.id b.id both.0 i; kind = kind_eq-true a.kind b.kind both.1 i }
   where
-    and-true : (b c : Bool) → (b && c) ≡ true → (b ≡ true) × (c ≡ true)
-    and-true true c e = (refl, e)
-    and-true false c e = cc
-
     kind_eq-true : (k l : Kind) → kind_eq k l ≡ true → k ≡ l
     kind_eq-true Own Own e = refl
     kind_eq-true Own Target e = cc
@@ -48,17 +45,10 @@ key_eq-refl a = λ i. id_eq-refl a.id i && kind_eq-refl a.kind i
 pub key_eq-false : (a b : Key) → key_eq a b ≡ false → b ≡ a → ⊥
 key_eq-false a b e same = true≢false (sym (key_eq-refl a) ∙ ap (key_eq a) (sym same) ∙ e)
 
--- a test beside one that fails
-or_false : (b : Bool) → (b || false) ≡ b
-or_false true = refl
-or_false false = refl
-
 -- one key more
 among_more : (key : Key) (keys : List Key) (i : ℕ) (x : Key) → take (i + 1) keys ≡ take i keys ++ x ∷ [] → is_among (take (i + 1) keys) key ≡ (is_among (take i keys) key || key_eq x key)
 among_more key keys i x e =
-    ap (λ (l : List Key). is_among l key) e
-    ∙ list_any-append (λ (other : Key). key_eq other key) (take i keys) (x ∷ [])
-    ∙ ap (λ (b : Bool). is_among (take i keys) key || b) (or_false (key_eq x key))
+    ap (λ l. is_among l key) e ∙ list_any-append (λ other. key_eq other key) (take i keys) (x ∷ []) ∙ ap (λ b. is_among (take i keys) key || b) (or-false (key_eq x key))
 
 -- a change made where it may have been made before
 merged : (change : List ℕ → List ℕ) → ((l : List ℕ) → change (change l) ≡ change l) → (p : Bool) (l : List ℕ) → change (cond p (change l) l) ≡ cond (p || true) (change l) l
@@ -78,7 +68,7 @@ changed_more change twice keys i x old mid new e before step key =
           ∙ sym (ap (λ (b : Bool). cond b (change (old key)) (old key)) (more ∙ ap (λ (b : Bool). is_among (take i keys) key || b) y))
       | inr n ↦
           step.others key (key_eq-false x key n) ∙ before key
-          ∙ sym (ap (λ (b : Bool). cond b (change (old key)) (old key)) (more ∙ ap (λ (b : Bool). is_among (take i keys) key || b) n ∙ or_false (is_among (take i keys) key)))
+          ∙ sym (ap (λ (b : Bool). cond b (change (old key)) (old key)) (more ∙ ap (λ (b : Bool). is_among (take i keys) key || b) n ∙ or-false (is_among (take i keys) key)))
     ]
 
 -- want of memory at one key leaves the age under those before it
@@ -98,29 +88,21 @@ pub text_keys : (key : Key) (i s : Identifier) (l r : Option Identifier) (ch : �
     → is_among (own i ∷ named s ∷ named_or l (own i) ∷ named_or r (own i) ∷ []) key ≡ has_key key (Text i s l r ch)
 text_keys key i s l r ch = by_kind key.kind key.id l r
   where
-    and-true : (b : Bool) → (b && true) ≡ b
-    and-true true = refl
-    and-true false = refl
-
-    and-false : (b : Bool) → (b && false) ≡ false
-    and-false true = refl
-    and-false false = refl
-
-    own_alone : (b c p q : Bool) → (b ≡ false → p ≡ false) → (b ≡ false → q ≡ false) → ((b && true) || ((c && false) || (p || (q || false)))) ≡ b
-    own_alone true c p q f g = refl
-    own_alone false c p q f g = λ i. and-false c i || (f refl i || (g refl i || false))
+    own_alone : (b : Bool) → (b || (false || (b || (b || false)))) ≡ b
+    own_alone true = refl
+    own_alone false = refl
 
     by_kind : (kind : Kind) (x : Identifier) (l r : Option Identifier)
         → is_among (own i ∷ named s ∷ named_or l (own i) ∷ named_or r (own i) ∷ []) (record { id = x; kind = kind }) ≡ has_kind kind x (Text i s l r ch)
-    by_kind Own x None None = own_alone (id_eq i x) (id_eq s x) _ _ (λ e. ap (λ b. b && true) e) (λ e. ap (λ b. b && true) e)
-    by_kind Own x None (Some d) = own_alone (id_eq i x) (id_eq s x) _ _ (λ e. ap (λ b. b && true) e) (λ e. and-false (id_eq d x))
-    by_kind Own x (Some c) None = own_alone (id_eq i x) (id_eq s x) _ _ (λ e. and-false (id_eq c x)) (λ e. ap (λ b. b && true) e)
-    by_kind Own x (Some c) (Some d) = own_alone (id_eq i x) (id_eq s x) _ _ (λ e. and-false (id_eq c x)) (λ e. and-false (id_eq d x))
-    by_kind Target x None None = λ j. and-false (id_eq i x) j || (and-false (id_eq s x) j || (and-false (id_eq i x) j || (and-false (id_eq i x) j || false)))
-    by_kind Target x None (Some d) = λ j. and-false (id_eq i x) j || (and-false (id_eq s x) j || (and-false (id_eq i x) j || (and-false (id_eq d x) j || false)))
-    by_kind Target x (Some c) None = λ j. and-false (id_eq i x) j || (and-false (id_eq s x) j || (and-false (id_eq c x) j || (and-false (id_eq i x) j || false)))
-    by_kind Target x (Some c) (Some d) = λ j. and-false (id_eq i x) j || (and-false (id_eq s x) j || (and-false (id_eq c x) j || (and-false (id_eq d x) j || false)))
-    by_kind Named x None None = λ j. and-false (id_eq i x) j || (and-true (id_eq s x) j || (and-false (id_eq i x) j || (and-false (id_eq i x) j || false)))
-    by_kind Named x None (Some d) = λ j. and-false (id_eq i x) j || (and-true (id_eq s x) j || (and-false (id_eq i x) j || (and-true (id_eq d x) j || false)))
-    by_kind Named x (Some c) None = λ j. and-false (id_eq i x) j || (and-true (id_eq s x) j || (and-true (id_eq c x) j || (and-false (id_eq i x) j || false)))
-    by_kind Named x (Some c) (Some d) = λ j. and-false (id_eq i x) j || (and-true (id_eq s x) j || (and-true (id_eq c x) j || (and-true (id_eq d x) j || false)))
+    by_kind Own x None None = simp (and-true, and-false) (own_alone (id_eq i x))
+    by_kind Own x None (Some d) = simp (and-true, and-false) (grind arith)
+    by_kind Own x (Some c) None = simp (and-true, and-false) (grind arith)
+    by_kind Own x (Some c) (Some d) = simp (and-true, and-false, or-false)
+    by_kind Target x None None = simp and-false
+    by_kind Target x None (Some d) = simp and-false
+    by_kind Target x (Some c) None = simp and-false
+    by_kind Target x (Some c) (Some d) = simp and-false
+    by_kind Named x None None = simp (and-true, and-false)
+    by_kind Named x None (Some d) = simp (and-true, and-false)
+    by_kind Named x (Some c) None = simp (and-true, and-false)
+    by_kind Named x (Some c) (Some d) = simp (and-true, and-false)

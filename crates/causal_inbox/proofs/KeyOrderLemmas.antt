@@ -13,7 +13,7 @@ use Rattle.std.specs.declared.vec.Vec.{Vec}
 use Rattle.std.specs.declared.alloc.Global.{Global}
 use Rattle.fugue_ids.specs.Keyed.{IsReplaced, IsReplacedBy}
 use Rattle.causal_inbox.specs.Greatest.{IsGreatestUnder, IsLastKey}
-use Rattle.causal_inbox.specs.Keys.{own}
+use Rattle.causal_inbox.specs.Key.{own}
 use Rattle.causal_inbox.specs.Lists.{key_cmp}
 use Rattle.causal_inbox.specs.declared.key.Key.{Key}
 

@@ -3,7 +3,6 @@ pub mod Faults
 pub mod Greatest
 pub mod Positions
 pub mod Naming
-pub mod Keys
-pub mod Places
-pub mod Ages
+pub mod Key
+pub mod Index
 pub mod Lists

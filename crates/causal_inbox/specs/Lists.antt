@@ -1,12 +1,12 @@
 -- Lists of ages under keys, kept in a map.
-use Rattle.std.specs.Prelude.{◌≡◌, ℕ, Bool, List, cond, take}
+use Rattle.std.specs.Prelude.{◌≡◌, ℕ, Bool, List, AllPairs, ◌<◌, if◌then◌else◌, take}
 use Rattle.std.specs.BTreeMap.{BTreeMap}
 use Rattle.std.specs.declared.cmp.Ordering.{Ordering}
 use Rattle.std.specs.declared.vec.Vec.{Vec}
 use Rattle.std.specs.declared.alloc.Global.{Global}
 use Rattle.fugue_ids.specs.Keyed.{list_in}
-use Rattle.causal_inbox.specs.Ages.{Rises, added}
-use Rattle.causal_inbox.specs.Keys.{is_among}
+use Rattle.causal_inbox.specs.Index.{added}
+use Rattle.causal_inbox.specs.Key.{is_among}
 use Rattle.causal_inbox.specs.declared.key.Key.{Key}
 use Rattle.causal_inbox.specs.contracts.key.KeyOrd.TheImpl as key_ord
 
@@ -20,7 +20,7 @@ ages_under m key = list_in key_cmp m key
 
 -- the lists under the keys that the test names are changed, and the others stay
 abbrev pub Changed : (Key → Bool) → (List ℕ → List ℕ) → (old new : Key → List ℕ) → Type 0
-Changed test change old new = (key : Key) → new key ≡ cond (test key) (change (old key)) (old key)
+Changed test change old new = (key : Key) → new key ≡ (if test key then change (old key) else old key)
 
 -- the age was added under the first of the keys alone
 pub record FrontAdded (keys : List Key) (a : ℕ) (old new : Key → List ℕ) : Type 0 where
@@ -29,4 +29,4 @@ pub record FrontAdded (keys : List Key) (a : ℕ) (old new : Key → List ℕ) :
 
 -- the ages of each list rise
 abbrev pub AllRise : (Key → List ℕ) → Type 0
-AllRise at = (key : Key) → Rises (at key)
+AllRise at = (key : Key) → AllPairs ◌<◌ (at key)

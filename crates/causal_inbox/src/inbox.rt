@@ -1,4 +1,4 @@
-ghost use Rattle.std.specs.Prelude.{◌≡◌, ◌↔◌, ◌<◌, ◌≤◌, ◌++◌, ◌∷◌, [], true, false, length, position as first_place, remove as without, slice_get, OnOk, OnErr, IfErr};
+ghost use Rattle.std.specs.Prelude.{◌≡◌, ◌↔◌, ◌<◌, ◌≤◌, ◌++◌, ◌∷◌, [], true, false, length, position as first_position, remove as without, slice_get, OnOk, OnErr, IfErr};
 ghost use Rattle.fugue_ids.specs.Ops.{id_of};
 ghost use Rattle.origin_model.specs.operations.History.{has_op};
 ghost use Rattle.origin_model.specs.operations.Verdict.{id_held, verdict};
@@ -25,7 +25,7 @@ pub struct Inbox {
 
 impl Model for Inbox {
     ghost use Rattle.std.specs.Prelude.{◌≤◌, length};
-    ghost use Rattle.causal_inbox.specs.Ages.{IsAgeIndex};
+    ghost use Rattle.causal_inbox.specs.Index.{IsAgeIndex};
     ghost use Rattle.causal_inbox.specs.Lists.{ages_under, key_cmp};
     ghost use Rattle.fugue_ids.specs.Keyed.{HasNoEmpty};
     ghost use Rattle.causal_inbox.specs.Waiting.{Waiting};
@@ -93,7 +93,7 @@ impl Inbox {
 
     /// The first place of an operation that can be accepted or is stray.
     pub fn next_decidable<F: Facts>(&self, facts: &F) -> Option<usize>
-        ensures { result ≡ first_place (λ op. decides (verdict (F.history facts.now) op)) self.now.ops }
+        ensures { result ≡ first_position (λ op. decides (verdict (F.history facts.now) op)) self.now.ops }
     {
         self.ops.iter().position(|op| is_decided(facts.verdict(op)))
     }
@@ -132,7 +132,8 @@ impl Inbox {
     }
 }
 
-fn is_decided(verdict: Verdict) -> bool
+/// Whether an operation that waits can leave: it can be accepted, or it is stray.
+pub fn is_decided(verdict: Verdict) -> bool
     ensures { result ≡ decides verdict }
 {
     matches!(verdict, Verdict::Ready | Verdict::Stray(_))

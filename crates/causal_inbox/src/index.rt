@@ -1,15 +1,14 @@
 //! An index of the waiting operations.
 
-ghost use Rattle.std.specs.Prelude.{◌≡◌, ◌<◌, ◌++◌, ◌∷◌, [], List, Some, length, remove as without, slice_get, All, IfSome, OnOk, OnErr};
-ghost use Rattle.fugue_ids.specs.Ops.{op_eq};
+ghost use Rattle.std.specs.Prelude.{◌≡◌, ◌<◌, ◌++◌, ◌∷◌, [], List, Some, length, remove as without, slice_get, All, AllPairs, nat_eq, IfOk, OnOk, OnErr};
 ghost use Rattle.fugue_ids.specs.declared.op.Op.{Op as AnyOp};
 ghost use Rattle.origin_model.specs.operations.History.{has_op};
 ghost use Rattle.origin_model.specs.operations.Verdict.{id_held};
 ghost use Rattle.origin_model.specs.operations.Counters.{counters, IsGreatest};
 ghost use Rattle.fugue_ids.specs.Keyed.{HasNoEmpty};
-ghost use Rattle.causal_inbox.specs.Ages.{IsAgeIndex, IsAgeIndexOfSome, Rises, place};
+ghost use Rattle.std.specs.List.{position_or_len};
+ghost use Rattle.causal_inbox.specs.Index.{IsAgeIndex, IsAgeIndexOfSome, is_equal_at, positions_with};
 ghost use Rattle.causal_inbox.specs.Lists.{ages_under, key_cmp};
-ghost use Rattle.causal_inbox.specs.Places.{is_equal_at, places};
 
 use crate::greatest::greatest_under;
 use crate::key::{Key, keys, main_key, own_key};
@@ -40,8 +39,8 @@ impl Index {
 
     /// The position of the operation with the key that stands behind k others with it.
     pub fn nth(&self, key: &Key, k: usize) -> Option<usize>
-        requires { Rises self.now.ages.items }
-        ensures { (ops : List AnyOp) → IsAgeIndex ops self.now.ages.items (ages_under self.now.lists) → result ≡ slice_get (places key.now ops) k }
+        requires { AllPairs ◌<◌ self.now.ages.items }
+        ensures { (ops : List AnyOp) → IsAgeIndex ops self.now.ages.items (ages_under self.now.lists) → result ≡ slice_get (positions_with key.now ops) k }
     {
         match nth_age(&self.lists, key, k) {
             Some(age) => Some(position(self.ages.as_slice(), age)),
@@ -92,21 +91,15 @@ impl Index {
             → IsAgeIndex ops self.new.ages.items (ages_under self.new.lists)) }
         ensures no_empty { HasNoEmpty key_cmp self.old.lists → HasNoEmpty key_cmp self.new.lists }
     {
-        let Some(age) = next_age(self.ages.as_slice()) else {
-            return Err(NoMemory);
-        };
-        let Ok(()) = self.ages.push(age) else {
-            return Err(NoMemory);
-        };
+        let age = next_age(self.ages.as_slice())?;
+        self.ages.push(age)?;
         let keys = keys(op);
-        match add_age(&mut self.lists, self.alloc, &keys, age) {
-            Ok(()) => Ok(()),
-            Err(_) => {
-                drop_age(&mut self.lists, &keys, age);
-                self.ages.pop();
-                Err(NoMemory)
-            }
+        if let Err(fault) = add_age(&mut self.lists, self.alloc, &keys, age) {
+            drop_age(&mut self.lists, &keys, age);
+            self.ages.pop();
+            return Err(fault);
         }
+        Ok(())
     }
 
     /// The operation at the position less.
@@ -129,19 +122,13 @@ fn equals_at(ops: &[Op], position: usize, op: &Op) -> bool
     if position >= ops.len() {
         return false;
     }
-    equals(&ops[position], op)
-}
-
-pub(crate) fn equals(a: &Op, b: &Op) -> bool
-    ensures { result ≡ op_eq a.now b.now }
-{
-    *a == *b
+    ops[position] == *op
 }
 
 /// Where the age stands.
 fn position(ages: &[u64], age: u64) -> usize
-    requires { Rises ages.now }
-    ensures { result ≡ place ages.now age }
+    requires { AllPairs ◌<◌ ages.now }
+    ensures { result ≡ position_or_len (λ b. nat_eq b age) ages.now }
 {
     match ages.binary_search(&age) {
         Ok(position) => position,
@@ -150,15 +137,15 @@ fn position(ages: &[u64], age: u64) -> usize
 }
 
 /// An age above all. There is none behind the last number, which no run reaches.
-fn next_age(ages: &[u64]) -> Option<u64>
-    requires { Rises ages.now }
-    ensures { IfSome result (λ age. All (λ other. other < age) ages.now) }
+fn next_age(ages: &[u64]) -> Result<u64, NoMemory>
+    requires { AllPairs ◌<◌ ages.now }
+    ensures { IfOk result (λ age. All (λ other. other < age) ages.now) }
 {
     let Some(last) = ages.last() else {
-        return Some(0);
+        return Ok(0);
     };
     if *last == u64::MAX {
-        return None;
+        return Err(NoMemory);
     }
-    Some(*last + 1)
+    Ok(*last + 1)
 }

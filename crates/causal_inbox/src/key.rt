@@ -1,7 +1,7 @@
 //! The keys of the index of waiting operations.
 
 ghost use Rattle.std.specs.Prelude.{◌≡◌};
-ghost use Rattle.causal_inbox.specs.Keys.{AreKeys, main_key as main_key_of, named, named_or, own, target};
+ghost use Rattle.causal_inbox.specs.Key.{AreKeys, main_key as main_key_of, named, named_or, own, target};
 
 use fugue_ids::{ElementId, Op};
 

@@ -12,7 +12,7 @@ mod push_fault;
 
 pub use facts::Facts;
 pub use found::Found;
-pub use inbox::Inbox;
+pub use inbox::{Inbox, is_decided};
 pub use push_fault::PushFault;
 
 #[cfg(test)]

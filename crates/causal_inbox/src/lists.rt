@@ -1,8 +1,8 @@
 //! Lists of ages under keys.
 
-ghost use Rattle.std.specs.Prelude.{◌≡◌, slice_get, OnOk, OnErr};
-ghost use Rattle.causal_inbox.specs.Ages.{Rises, added, dropped};
-ghost use Rattle.causal_inbox.specs.Keys.{is_among};
+ghost use Rattle.std.specs.Prelude.{◌≡◌, slice_get, AllPairs, ◌<◌, OnOk, OnErr};
+ghost use Rattle.causal_inbox.specs.Index.{added, dropped};
+ghost use Rattle.causal_inbox.specs.Key.{is_among};
 ghost use Rattle.causal_inbox.specs.Lists.{AllRise, Changed, FrontAdded, ages_under, key_cmp};
 ghost use Rattle.fugue_ids.specs.Keyed.{HasNoEmpty, IsReplaced};
 
@@ -36,7 +36,7 @@ fn add_under(lists: &mut Lists, alloc: Global, key: Key, age: u64) -> Result<(),
 
 /// The age under one key less.
 fn drop_under(lists: &mut Lists, key: Key, age: u64)
-    requires { Rises (ages_under lists.old key) }
+    requires { AllPairs ◌<◌ (ages_under lists.old key) }
     ensures dropped { IsReplaced (ages_under lists.old) (ages_under lists.new) key (dropped (ages_under lists.old key) age) }
     ensures no_empty { HasNoEmpty key_cmp lists.old → HasNoEmpty key_cmp lists.new }
 {

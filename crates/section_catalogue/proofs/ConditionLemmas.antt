@@ -1,6 +1,6 @@
 -- What the steps of a manuscript ask, from a history that it stands for.
 use Rattle.std.proofs.Common.{List, [], ap, false, inl, inr, refl, subst, sym, true, ℕ, ◌∙◌, ◌∷◌, ◌≡◌}
-use Rattle.std.specs.Prelude.{IfSome, IsSome, None, Option, Some, is_some, option_map}
+use Rattle.std.specs.Prelude.{IsSome, None, Option, Some, is_some, option_map}
 use Rattle.std.proofs.lemmas.Bool.{cases_Bool, true≢false}
 use Rattle.fugue_ids.specs.Identifiers.{Identifier}
 use Rattle.fugue_ids.specs.Ops.{id_of}

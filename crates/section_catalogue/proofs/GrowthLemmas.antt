@@ -12,7 +12,6 @@ use Rattle.origin_model.specs.operations.History.{holder, holds, place}
 use Rattle.origin_model.specs.order.Order.{order}
 use Rattle.origin_model.specs.order.Printed.{is_hidden}
 use Rattle.origin_model.specs.operations.Verdict.{Lawful, verdict}
-use Rattle.origin_model.specs.declared.sides.node.Node.{Node}
 use Rattle.origin_model.specs.declared.operations.place.Place.{Place}
 use Rattle.origin_model.specs.declared.operations.place.Place.TheVariants.{Catalogue as catalogue, Section as within}
 use Rattle.origin_model.specs.declared.operations.verdict.Verdict.TheVariants.{Ready}

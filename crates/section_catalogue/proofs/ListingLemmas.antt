@@ -1,5 +1,5 @@
 -- A place that lists a history's elements, as one more comes or one is hidden.
-use Rattle.std.proofs.Common.{List, [], ap, arith, false, inl, inr, length, refl, subst, suc, sym, true, zero, ℕ, ◌∙◌, ◌∷◌, ◌≡◌, ◌≢◌, ◌≤◌}
+use Rattle.std.proofs.Common.{List, [], ap, false, refl, subst, suc, sym, true, zero, ℕ, ◌∙◌, ◌∷◌, ◌≡◌, ◌≢◌}
 use Rattle.std.specs.Prelude.{None, Option, Some, if◌then◌else◌, is_some, map}
 use Rattle.std.specs.List.{Contains, insert}
 use Rattle.std.proofs.lemmas.Bool.{true≢false}

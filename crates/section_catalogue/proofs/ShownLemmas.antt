@@ -22,7 +22,7 @@ use Rattle.section_list.specs.Cells.{ids, is_hidden as hidden_in, text, visible_
 use Rattle.section_list.specs.SectionList.{Listing}
 use Rattle.section_list.specs.declared.cell.Cell.{Cell}
 use Rattle.section_catalogue.specs.declared.section.Section.{Section as Titled}
-use Rattle.section_catalogue.specs.Contents.{Contents, entry_at, section_at}
+use Rattle.section_catalogue.specs.Contents.{Contents, section_at}
 use Rattle.section_catalogue.specs.Section.{printed_at, printed_entry}
 use Rattle.section_catalogue.specs.Place.{Lists, cell_in, place_held, scalar_held, title_held}
 use Rattle.section_catalogue.specs.Manuscript.{IsPlaceOf, IsTextOf, LookUpsAreDefinitions, StandsFor}

@@ -17,10 +17,8 @@ pub(crate) fn put<V: Drop>(
     ensures ok { OnOk result (IsReplaced (entry_at map.old.entries) (entry_at map.new.entries) id (Some value)) }
     ensures err { OnErr result (IsSame (entry_at map.old.entries) (entry_at map.new.entries)) }
 {
-    match map.insert(id, value) {
-        Ok(_) => Ok(()),
-        Err(refused) => Err(NoMemory::from(refused)),
-    }
+    map.insert(id, value)?;
+    Ok(())
 }
 
 /// Nothing stands at the identifier any more.

@@ -11,10 +11,6 @@ use Rattle.fugue_ids.proofs.ListLemmas.{all_pairs_head, all_pairs_tail}
 use Rattle.section_list.specs.Cells.{ids, is_hidden, hiding}
 use Rattle.section_list.specs.declared.cell.Cell.{Cell}
 
--- no identifier stands twice
-abbrev pub AreDistinct : List Cell → Type 0
-AreDistinct cs = AllPairs (λ x y. x ≢ y) (ids cs)
-
 -- the cell of x becomes hidden
 hiding-own : (x : Identifier) (c : Cell) → c.id ≡ x → hiding x c ≡ record c { hidden = true }
 hiding-own x c e = ap (λ b. if b then record c { hidden = true } else c) (eq-id_eq c.id x e)
@@ -42,15 +38,8 @@ others_shown x [] o = refl
 others_shown x (c ∷ cs) o =
     ap (λ b. (b && c.hidden) || is_hidden cs x) (ne-id_eq c.id x (first_other x c cs o)) ∙ others_shown x cs (All-tail (λ y. x ≢ y) c.id (ids cs) o)
 
--- those behind the first of distinct ones
-behind_first : (c : Cell) (cs : List Cell) → AreDistinct (c ∷ cs) → AllOther c.id cs
-behind_first c cs d = all_pairs_head (λ x y. x ≢ y) c.id (ids cs) d
-
-rest_distinct : (c : Cell) (cs : List Cell) → AreDistinct (c ∷ cs) → AreDistinct cs
-rest_distinct c cs d = all_pairs_tail (λ x y. x ≢ y) c.id (ids cs) d
-
 -- the cell at the index of x, hidden
-pub hidden_at : (x : Identifier) (cs : List Cell) (c : Cell) → AreDistinct cs → slice_get cs (index_of (ids cs) x) ≡ Some c
+pub hidden_at : (x : Identifier) (cs : List Cell) (c : Cell) → AllPairs (λ x y. x ≢ y) (ids cs) → slice_get cs (index_of (ids cs) x) ≡ Some c
     → slice_set cs (index_of (ids cs) x) (record c { hidden = true }) ≡ map (hiding x) cs
 hidden_at x [] c d e = cc
 hidden_at x (a ∷ cs) c d e =
@@ -60,25 +49,25 @@ hidden_at x (a ∷ cs) c d e =
           let f : Some a ≡ Some c = ap (slice_get (a ∷ cs)) (sym k) ∙ e in
           let same : a ≡ c = cc in
           ap (λ n. slice_set (a ∷ cs) n (record c { hidden = true })) k
-          ∙ (λ i. (ap (λ (z : Cell). record z { hidden = true }) (sym same) ∙ sym (hiding-own x a (sym s))) i ∷ sym (others_stay x cs (subst (λ z. AllOther z cs) (sym s) (behind_first a cs d))) i)
+          ∙ (λ i. (ap (λ (z : Cell). record z { hidden = true }) (sym same) ∙ sym (hiding-own x a (sym s))) i ∷ sym (others_stay x cs (subst (λ z. AllOther z cs) (sym s) (all_pairs_head (λ x y. x ≢ y) a.id (ids cs) d))) i)
       | inr n ↦
           let k : index_of (ids (a ∷ cs)) x ≡ suc (index_of (ids cs) x) = index_of-there a.id (ids cs) x n in
           ap (λ n. slice_set (a ∷ cs) n (record c { hidden = true })) k
-          ∙ (λ i. sym (hiding-other x a (λ s. n (sym s))) i ∷ hidden_at x cs c (rest_distinct a cs d) (ap (slice_get (a ∷ cs)) (sym k) ∙ e) i)
+          ∙ (λ i. sym (hiding-other x a (λ s. n (sym s))) i ∷ hidden_at x cs c (all_pairs_tail (λ x y. x ≢ y) a.id (ids cs) d) (ap (slice_get (a ∷ cs)) (sym k) ∙ e) i)
     ]
 
 -- a hidden cell that is hidden again stays
-pub hidden_again : (x : Identifier) (cs : List Cell) → AreDistinct cs → is_hidden cs x ≡ true → map (hiding x) cs ≡ cs
+pub hidden_again : (x : Identifier) (cs : List Cell) → AllPairs (λ x y. x ≢ y) (ids cs) → is_hidden cs x ≡ true → map (hiding x) cs ≡ cs
 hidden_again x [] d h = refl
 hidden_again x (c ∷ cs) d h =
     elim (cases_id c.id x) [
       | inl s ↦
-          let o : AllOther x cs = subst (λ z. AllOther z cs) s (behind_first c cs d) in
+          let o : AllOther x cs = subst (λ z. AllOther z cs) s (all_pairs_head (λ x y. x ≢ y) c.id (ids cs) d) in
           elim (cases_Bool c.hidden) [
             | inl t ↦ λ i. (hiding-own x c s ∙ (λ j. record c { hidden = sym t j })) i ∷ others_stay x cs o i
             | inr f ↦ absurd (true≢false (sym h ∙ ap (λ b. (id_eq c.id x && b) || is_hidden cs x) f ∙ shown (id_eq c.id x) ∙ others_shown x cs o))
           ]
-      | inr n ↦ λ i. hiding-other x c n i ∷ hidden_again x cs (rest_distinct c cs d) (sym (ap (λ b. (b && c.hidden) || is_hidden cs x) (ne-id_eq c.id x n)) ∙ h) i
+      | inr n ↦ λ i. hiding-other x c n i ∷ hidden_again x cs (all_pairs_tail (λ x y. x ≢ y) c.id (ids cs) d) (sym (ap (λ b. (b && c.hidden) || is_hidden cs x) (ne-id_eq c.id x n)) ∙ h) i
     ]
   where
     shown : (b : Bool) → (b && false) || is_hidden cs x ≡ is_hidden cs x

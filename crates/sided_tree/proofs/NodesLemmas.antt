@@ -44,16 +44,12 @@ same_nodes m n x (y ∷ ys) f k =
           λ i. here i ∷ same_nodes m n x ys f rest i
     ]
 
--- the newest identifier is the first of the reversed list
-newest_first : (ages : List Identifier) (x : Identifier) → reverse (ages ++ x ∷ []) ≡ x ∷ reverse ages
-newest_first ages x = reverse-append ages (x ∷ [])
-
 -- one more node
 pub pushed : (m n : BTreeMap Identifier Origins) (ages : List Identifier) (node : Node) (o : Origins) → node_by node.id (Some o) ≡ node
     → has_node (nodes_in m ages) node.id ≡ false → get id_cmp n node.id ≡ Some o → AgreeBut node.id m n
     → nodes_in n (ages ++ node.id ∷ []) ≡ node ∷ nodes_in m ages
 pushed m n ages node o is fresh here others =
-    ap (map (node_at n)) (newest_first ages node.id)
+    ap (map (node_at n)) (reverse-append ages (node.id ∷ []))
     ∙ (λ i. (ap (node_by node.id) here ∙ is) i ∷ same_nodes m n node.id (reverse ages) others fresh i)
 
 -- the map has one more node

@@ -1,7 +1,7 @@
 -- One sibling tells of those before it, or of those behind it, whether they go before a new node: so a search by halves parts them.
-use Rattle.std.proofs.Common.{Bool, List, arith, drop, false, get_or, inl, inr, length, subst, suc, sym, take, true, ℕ, ◌+◌, ◌<◌, ◌≤◌, ◌∙◌, ◌≡◌, ap}
+use Rattle.std.proofs.Common.{Bool, List, arith, drop, false, get_or, inl, inr, length, subst, sym, take, true, ℕ, ◌+◌, ◌<◌, ◌≤◌, ◌∙◌, ◌≡◌, ap}
 use Rattle.std.specs.List.{All}
-use Rattle.std.proofs.lemmas.Bool.{cases_eq, cases_lt, false_from_ne_true, true≢false}
+use Rattle.std.proofs.lemmas.Bool.{cases_lt, false_from_ne_true, true≢false}
 use Rattle.std.proofs.lemmas.List.{get_or-drop, get_or-take, get_or_default, length-drop, length-take-le}
 use Rattle.fugue_ids.specs.Identifiers.{Identifier}
 use Rattle.origin_model.specs.order.Order.{IsOrderedBy}

@@ -1,7 +1,6 @@
 -- The comparison of siblings by an order of identifiers: right origins by their positions, and the end behind them all.
-use Rattle.std.proofs.Common.{List, ap, arith, false, nat_eq, nat_lt, subst, sym, true, ℕ, ◌<◌, ◌∙◌, ◌≡◌, length, Bool}
+use Rattle.std.proofs.Common.{List, arith, false, nat_eq, nat_lt, subst, sym, true, ℕ, ◌<◌, ◌∙◌, ◌≡◌, length, Bool}
 use Rattle.std.specs.Prelude.{None, Option, Some}
-use Rattle.std.specs.List.{Contains}
 use Rattle.std.proofs.lemmas.Bool.{ne_eqb}
 use Rattle.std.proofs.lemmas.Bool.Decides.{nat_tests}
 use Rattle.fugue_ids.specs.Identifiers.{Identifier, id_eq}

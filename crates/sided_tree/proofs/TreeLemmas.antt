@@ -1,5 +1,5 @@
 -- The tree stays a tree as its nodes and children change, and its gap is the place of a new node.
-use Rattle.std.proofs.Common.{List, [], ap, arith, drop, false, inl, inr, length, refl, subst, suc, sym, take, true, zero, ℕ, ◌++◌, ◌≤◌, ◌∙◌, ◌∷◌, ◌≡◌}
+use Rattle.std.proofs.Common.{List, [], ap, arith, drop, inl, inr, length, refl, subst, suc, sym, take, true, zero, ℕ, ◌++◌, ◌≤◌, ◌∙◌, ◌∷◌, ◌≡◌}
 use Rattle.std.specs.List.{insert, remove}
 use Rattle.std.specs.Prelude.{None, Option, Some, if◌then◌else◌, is_some, slice_get}
 use Rattle.fugue_ids.specs.Identifiers.{Identifier}

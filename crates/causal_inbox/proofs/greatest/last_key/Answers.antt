@@ -3,7 +3,7 @@ use Rattle.std.proofs.lemmas.Grind.{common_steps}
 use Rattle.std.specs.BTreeMap.Range.{IsRangeOf}
 use Rattle.std.specs.declared.ops.Bound.TheVariants.{Excluded, Unbounded}
 use Rattle.causal_inbox.specs.Greatest.{IsLastKey}
-use Rattle.causal_inbox.specs.Keys.{own}
+use Rattle.causal_inbox.specs.Key.{own}
 use Rattle.causal_inbox.specs.Lists.{key_cmp}
 use Rattle.causal_inbox.proofs.KeyOrderLemmas.{last_in_range}
 use Rattle.causal_inbox.proofs.greatest.last_key.Goals as goal

@@ -1,7 +1,7 @@
 use Rattle.std.proofs.Common.{ap, sym, ◌∙◌, ◌∷◌, [], ◌≡◌}
 use Rattle.fugue_ids.specs.declared.op.Op.{Op}
 use Rattle.fugue_ids.specs.declared.op.Op.TheVariants.{Text}
-use Rattle.causal_inbox.specs.Keys.{has_key, is_among, main_key, named_or}
+use Rattle.causal_inbox.specs.Key.{has_key, is_among, main_key, named_or}
 use Rattle.causal_inbox.specs.declared.key.Key.{Key}
 use Rattle.causal_inbox.proofs.KeyLemmas.{text_keys}
 use Rattle.causal_inbox.proofs.key.keys.Goals as goal

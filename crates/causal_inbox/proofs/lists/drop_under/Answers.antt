@@ -1,7 +1,7 @@
 use Rattle.std.proofs.Common.{ap, sym, refl, List, ℕ, ◌∙◌, ◌≡◌}
 use Rattle.std.specs.Prelude.{Result, Ok, Err}
 use Rattle.std.specs.List.{remove}
-use Rattle.causal_inbox.specs.Ages.{dropped}
+use Rattle.causal_inbox.specs.Index.{dropped}
 use Rattle.causal_inbox.specs.Lists.{ages_under}
 use Rattle.causal_inbox.proofs.AgeLemmas.{dropped_searched}
 use Rattle.causal_inbox.proofs.KeyOrderLemmas.{replaced_by}

@@ -1,5 +1,5 @@
 use Rattle.std.proofs.Common.{ap, subst, ◌∙◌, ◌∷◌, [], ◌++◌}
-use Rattle.std.specs.Prelude.{Err, Ok, codes}
+use Rattle.std.specs.Prelude.{Err, codes}
 use Rattle.std.specs.Str.{encode_utf8_all}
 use Rattle.std.proofs.lemmas.Result.{err_from_is_err_and}
 use Rattle.fugue_ids.specs.Gathers.{GathersText}

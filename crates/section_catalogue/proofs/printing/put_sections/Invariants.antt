@@ -1,6 +1,5 @@
-use Rattle.std.proofs.Common.{List, length, ℕ, ◌++◌, ◌≡◌}
-use Rattle.std.specs.Prelude.{Ok, flat_map}
-use Rattle.fugue_ids.specs.Gathers.{GathersText}
+use Rattle.std.proofs.Common.{length}
+use Rattle.std.specs.Prelude.{flat_map}
 use Rattle.section_list.specs.Cells.{ids, visible_cells}
 use Rattle.section_catalogue.specs.Section.{printed_at}
 use Rattle.section_catalogue.proofs.PrintingLemmas.{IsUnderWay}

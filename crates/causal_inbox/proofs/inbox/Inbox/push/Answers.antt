@@ -2,9 +2,10 @@ use Rattle.std.proofs.Common.{ap, sym, subst, ◌≡◌, ◌≤◌, ◌∙◌, �
 use Rattle.std.specs.List.{remove}
 use Rattle.std.specs.Prelude.{Some, slice_get}
 use Rattle.fugue_ids.specs.declared.op.Op.{Op}
-use Rattle.causal_inbox.specs.Ages.{IsAgeIndex}
+use Rattle.causal_inbox.specs.Index.{IsAgeIndex}
 use Rattle.causal_inbox.specs.Lists.{ages_under}
-use Rattle.causal_inbox.proofs.IndexLemmas.{index_back, last_op}
+use Rattle.causal_inbox.proofs.AgeLemmas.{last_put}
+use Rattle.causal_inbox.proofs.IndexLemmas.{index_back}
 use Rattle.causal_inbox.proofs.inbox.Inbox.push.Goals as goal
 
 pub invariant_of-self-in-Err : goal.invariant_of-self-in-Err
@@ -15,7 +16,7 @@ invariant_of-self-in-Err c =
     let same : c.push.new.self.items ≡ ops = c.in-Err.ensures.items in
     let at : length ops ≡ c.len-in-Err.result = omega (arith, c.len-in-Err.ensures, c.push.new.self.ok.0, ap length same) in
     let there : slice_get (ops ++ op ∷ []) c.len-in-Err.result ≡ Some c.in-Err.refused.value =
-    ap (slice_get (ops ++ op ∷ [])) (sym at) ∙ last_op ops op ∙ ap Some (sym c.in-Err.ensures.value_returned) in
+    ap (slice_get (ops ++ op ∷ [])) (sym at) ∙ last_put ops op ∙ ap Some (sym c.in-Err.ensures.value_returned) in
     let back : IsAgeIndex (remove (ops ++ op ∷ []) c.len-in-Err.result) c.remove.new.self.ages.items (ages_under c.remove.new.self.lists) =
     c.remove.ensures.index (ops ++ op ∷ []) grown there in
     record {

@@ -1,7 +1,7 @@
 use Rattle.std.proofs.Common.{ap, sym, ◌∙◌, List, ℕ}
 use Rattle.std.specs.Prelude.{is_some, slice_get}
 use Rattle.origin_model.specs.operations.Verdict.{id_held}
-use Rattle.causal_inbox.specs.Keys.{own}
+use Rattle.causal_inbox.specs.Key.{own}
 use Rattle.causal_inbox.specs.Lists.{ages_under}
 use Rattle.causal_inbox.proofs.FindingLemmas.{own_found}
 use Rattle.causal_inbox.proofs.index.Index.has_id.Goals as goal

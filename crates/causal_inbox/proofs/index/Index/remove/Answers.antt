@@ -3,7 +3,7 @@ use Rattle.std.specs.List.{remove}
 use Rattle.std.specs.Prelude.{Some, slice_get}
 use Rattle.fugue_ids.specs.declared.op.Op.{Op}
 use Rattle.std.proofs.lemmas.Option.{slice_get-get_or}
-use Rattle.causal_inbox.specs.Ages.{IsAgeIndex}
+use Rattle.causal_inbox.specs.Index.{IsAgeIndex}
 use Rattle.causal_inbox.specs.Lists.{ages_under}
 use Rattle.causal_inbox.proofs.IndexLemmas.{index_removed, index_rises}
 use Rattle.causal_inbox.proofs.index.Index.remove.Goals as goal

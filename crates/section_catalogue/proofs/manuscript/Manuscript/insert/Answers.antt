@@ -1,8 +1,7 @@
-use Rattle.std.proofs.Common.{refl, subst, sym, ◌∷◌}
+use Rattle.std.proofs.Common.{refl, rules, subst, sym, ◌∷◌}
 use Rattle.std.proofs.lemmas.Result.{on_err_weaker, on_ok_weaker}
 use Rattle.fugue_ids.specs.declared.op.Op.TheVariants.{Section, Text}
 use Rattle.origin_model.specs.sides.Node.{IsNew}
-use Rattle.origin_model.specs.declared.sides.node.Node.{Node}
 use Rattle.origin_model.specs.declared.operations.place.Place.TheVariants.{Catalogue as catalogue, Section as within}
 use Rattle.section_catalogue.specs.declared.section.Section.{Section as Titled}
 use Rattle.section_catalogue.specs.Changes.{AddsSection, AddsText, IsUnchanged}
@@ -15,26 +14,17 @@ use Rattle.section_catalogue.proofs.TextLemmas.{if_some}
 use Rattle.section_catalogue.proofs.UnchangedLemmas.{either, stays, still}
 use Rattle.section_catalogue.proofs.manuscript.Manuscript.insert.Goals as goal
 
-pub add_section-requires-clause-new : goal.add_section-requires-clause-new
-add_section-requires-clause-new c =
+pub add_section-requires : goal.add_section-requires
+add_section-requires c =
     let m = contents_of c.self.inside.tables in
     let op = Section c.in-Section.id c.in-Section.left c.in-Section.right c.in-Section.title in
     let r = ready_here m c.args.self.now c.args.op.now op c.self.view_is c.in-Section.is c.requires.ready in
-    new_in m op c.in-Section.id refl r catalogue m.catalogue refl r.stands.sections
-
-pub add_section-requires-clause-untitled : goal.add_section-requires-clause-untitled
-add_section-requires-clause-untitled c =
-    let m = contents_of c.self.inside.tables in
-    let op = Section c.in-Section.id c.in-Section.left c.in-Section.right c.in-Section.title in
-    let r = ready_here m c.args.self.now c.args.op.now op c.self.view_is c.in-Section.is c.requires.ready in
-    no_entry m op c.in-Section.id refl r
-
-pub add_section-requires-clause-unplaced : goal.add_section-requires-clause-unplaced
-add_section-requires-clause-unplaced c =
-    let m = contents_of c.self.inside.tables in
-    let op = Section c.in-Section.id c.in-Section.left c.in-Section.right c.in-Section.title in
-    let r = ready_here m c.args.self.now c.args.op.now op c.self.view_is c.in-Section.is c.requires.ready in
-    no_place m op c.in-Section.id refl r
+    record {
+      room = search rules;
+      new = new_in m op c.in-Section.id refl r catalogue m.catalogue refl r.stands.sections;
+      untitled = no_entry m op c.in-Section.id refl r;
+      unplaced = no_place m op c.in-Section.id refl r;
+    }
 
 pub invariant_of-self : goal.invariant_of-self
 invariant_of-self c =
@@ -61,27 +51,18 @@ returns-in-Section-clause-err c =
     let new = contents_of c.add_section.new.tables in
     on_err_weaker c.add_section.result (λ u. subst (λ z. Stays z new) c.self.view_is (stays (contents_of c.self.inside.tables) new u)) c.add_section.ensures.err
 
-pub add_text-requires-clause-new : goal.add_text-requires-clause-new
-add_text-requires-clause-new c =
+pub add_text-requires : goal.add_text-requires
+add_text-requires c =
     let m = contents_of c.self.inside.tables in
     let op = Text c.in-Text.id c.in-Text.section c.in-Text.left c.in-Text.right c.in-Text.ch in
     let r = ready_here m c.args.self.now c.args.op.now op c.self.view_is c.in-Text.is c.requires.ready in
-    if_some (section_at m c.in-Text.section) (λ (t : Titled). Lists (within c.in-Text.section) r.history t.text) (λ (t : Titled). IsNew t.text.nodes (record { id = c.in-Text.id; left = c.in-Text.left; right = c.in-Text.right }))
-    (λ t l. new_in m op c.in-Text.id refl r (within c.in-Text.section) t.text refl l) (r.stands.texts c.in-Text.section)
-
-pub add_text-requires-clause-there : goal.add_text-requires-clause-there
-add_text-requires-clause-there c =
-    let m = contents_of c.self.inside.tables in
-    let op = Text c.in-Text.id c.in-Text.section c.in-Text.left c.in-Text.right c.in-Text.ch in
-    let r = ready_here m c.args.self.now c.args.op.now op c.self.view_is c.in-Text.is c.requires.ready in
-    section_of m c.in-Text.id c.in-Text.section c.in-Text.left c.in-Text.right c.in-Text.ch r
-
-pub add_text-requires-clause-unplaced : goal.add_text-requires-clause-unplaced
-add_text-requires-clause-unplaced c =
-    let m = contents_of c.self.inside.tables in
-    let op = Text c.in-Text.id c.in-Text.section c.in-Text.left c.in-Text.right c.in-Text.ch in
-    let r = ready_here m c.args.self.now c.args.op.now op c.self.view_is c.in-Text.is c.requires.ready in
-    no_place m op c.in-Text.id refl r
+    record {
+      room = search rules;
+      new = if_some (section_at m c.in-Text.section) (λ (t : Titled). Lists (within c.in-Text.section) r.history t.text) (λ (t : Titled). IsNew t.text.nodes (record { id = c.in-Text.id; left = c.in-Text.left; right = c.in-Text.right }))
+          (λ t l. new_in m op c.in-Text.id refl r (within c.in-Text.section) t.text refl l) (r.stands.texts c.in-Text.section);
+      there = section_of m c.in-Text.id c.in-Text.section c.in-Text.left c.in-Text.right c.in-Text.ch r;
+      unplaced = no_place m op c.in-Text.id refl r;
+    }
 
 pub invariant_of-self-in-Text : goal.invariant_of-self-in-Text
 invariant_of-self-in-Text c =

@@ -1,4 +1,4 @@
-use Rattle.std.proofs.Common.{add-one, ap, arith, subst, sym, ◌+◌, ◌∙◌, ◌≡◌}
+use Rattle.std.proofs.Common.{add-one, ap, arith, subst, sym, ◌+◌, ◌∙◌}
 use Rattle.std.proofs.lemmas.List.{length-map}
 use Rattle.std.specs.List.{insert}
 use Rattle.fugue_ids.specs.Listed.{index_of}

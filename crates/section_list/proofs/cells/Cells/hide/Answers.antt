@@ -1,14 +1,14 @@
-use Rattle.std.proofs.Common.{List, ap, arith, get_or, length, refl, sym, true, ℕ, ◌∙◌, ◌<◌, ◌≡◌}
+use Rattle.std.proofs.Common.{List, ap, arith, get_or, length, refl, sym, true, ℕ, ◌∙◌, ◌<◌, ◌≡◌, ◌≢◌}
 use Rattle.std.specs.Prelude.{Some, map, slice_get, slice_set}
 use Rattle.std.proofs.lemmas.Option.{slice_get-get_or}
 use Rattle.std.proofs.lemmas.List.{length-map}
 use Rattle.fugue_ids.specs.Identifiers.{Identifier}
 use Rattle.fugue_ids.specs.Listed.{index_of}
-use Rattle.std.specs.List.{Contains}
+use Rattle.std.specs.List.{AllPairs, Contains}
 use Rattle.fugue_ids.proofs.IdentifierLemmas.{contains-below}
 use Rattle.section_list.specs.Cells.{ids, hiding}
 use Rattle.section_list.specs.declared.cell.Cell.{Cell}
-use Rattle.section_list.proofs.HidingLemmas.{AreDistinct, hidden_at}
+use Rattle.section_list.proofs.HidingLemmas.{hidden_at}
 use Rattle.section_list.proofs.VisibleLemmas.{count-hide}
 use Rattle.section_list.proofs.cells.Cells.hide.Goals as goal
 
@@ -38,7 +38,7 @@ invariant_of-self c =
     omega (arith, c.self.invariant, count-hide cs c.position-at.result cell (record cell { hidden = true }) t c.if-not-cell.true refl)
 
 -- the cell at the position, hidden
-hidden : (cs now : List Cell) (x : Identifier) (at : ℕ) (cell : Cell) → cs ≡ now → Contains (ids now) x → AreDistinct now → at ≡ index_of (ids now) x → cell ≡ get_or cs at cell
+hidden : (cs now : List Cell) (x : Identifier) (at : ℕ) (cell : Cell) → cs ≡ now → Contains (ids now) x → AllPairs (λ x y. x ≢ y) (ids now) → at ≡ index_of (ids now) x → cell ≡ get_or cs at cell
     → slice_set cs at (record cell { hidden = true }) ≡ map (hiding x) now
 hidden cs now x at cell v l d e f =
     let t = there cs now x at cell v l e f in

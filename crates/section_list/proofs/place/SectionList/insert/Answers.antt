@@ -2,7 +2,6 @@ use Rattle.std.proofs.Common.{ap, subst, sym, ◌∙◌, ◌∷◌, ◌≡◌}
 use Rattle.std.specs.List.{insert}
 use Rattle.origin_model.specs.sides.Node.{node_order}
 use Rattle.origin_model.specs.sides.Slot.{IsBeside}
-use Rattle.origin_model.specs.declared.sides.node.Node.{Node}
 use Rattle.section_list.specs.Cells.{ids}
 use Rattle.section_list.specs.SectionList.{IsInOrder}
 use Rattle.section_list.proofs.GrowthLemmas.{grown_in_order, is_back, is_grown, new_here, no_origin, placed_at}
