@@ -4,11 +4,13 @@ use Rattle.std.specs.Prelude.{Option, Some, None, MatchBool}
 use Rattle.std.specs.Char.{IsScalar, encode_utf8}
 use Rattle.std.specs.Int.{IsInRange, IsOutOfRange, is_in_range}
 use Rattle.std.specs.Str.Lossy.{utf8_error_len, second_byte_min, second_byte_max}
+use Rattle.std.proofs.lemmas.Bool.{cases_eq, cond-true}
 use Rattle.std.proofs.lemmas.Bool.Decides.{nat_tests}
 use Rattle.std.proofs.str.Laws.{order, one, two, three, four}
 use Rattle.std.proofs.str.Classes.{range}
 use Rattle.fugue_ids.specs.Titles.{has_line_end}
 use Rattle.op_frame.specs.Formats.{width_of}
+use Rattle.op_frame.proofs.CodeLemmas.{scalar_below}
 use lib.Utf8.{scalar_cases, low_scalar, next}
 
 high_scalar : (c : ℕ) → 57344 ≤ c → c < 1114112 → IsScalar c
@@ -120,12 +122,6 @@ none_if : (b : Bool) (x : Option ℕ) (k : ℕ) → cond b x (Some k) ≡ None �
 none_if true x k is = (refl, is)
 none_if false x k is = absurd (cc is)
 
-equal_or_not : (a b : ℕ) → (a ≡ b) ⊎ (a ≢ b)
-equal_or_not a b = elim (order a b) [
-  | inl p ↦ inr (λ e. omega (arith, e))
-  | inr p ↦ elim (order b a) [ inl q ↦ inr (λ e. omega (arith, e)) | inr q ↦ inl (omega arith) ]
-]
-
 goes_on_one : (a : ℕ) → 194 ≤ a → a ≤ 244 → GoesOn (a ∷ [])
 goes_on_one a l h = by_length (order a 224) (order a 240)
   where
@@ -139,8 +135,8 @@ goes_on_one a l h = by_length (order a 224) (order a 240)
 
     by_length : (a < 224) ⊎ (224 ≤ a) → (a < 240) ⊎ (240 ≤ a) → GoesOn (a ∷ [])
     by_length (inl p) _ = record { more = 128 ∷ []; whole = spells2 a 128 l p (omega arith) (omega arith); lacks = omega arith; no_line_end = refl; long = sym (width_two a p) }
-    by_length (inr p) (inl q) = by_three (equal_or_not a 224) p q
-    by_length (inr p) (inr q) = by_four (equal_or_not a 240) q
+    by_length (inr p) (inl q) = by_three (cases_eq a 224) p q
+    by_length (inr p) (inr q) = by_four (cases_eq a 240) q
 
 -- the bounds of a second byte
 record IsSecond (a b : ℕ) : Type 0 where
@@ -204,26 +200,22 @@ pub record IsCut (bytes : List ℕ) (c : ℕ) : Type 0 where
   pub no_fault : utf8_error_len bytes ≡ None
   pub long : width_of (get_or bytes 0 0) ≡ length (encode_utf8 c)
 
-cond_true : {A : Type 0} (b : Bool) (x y : A) → b ≡ true → cond b x y ≡ x
-cond_true true x y is = refl
-cond_true false x y is = absurd (cc is)
-
 first_ok : (x : ℕ) → 194 ≤ x → x ≤ 244 → utf8_error_len (x ∷ []) ≡ None
 unfolding utf8_error_len
-first_ok x l h = cond_true _ _ _ (is_range 194 244 x l h)
+first_ok x l h = cond-true _ _ _ (is_range 194 244 x l h)
 
 second_ok : (x y : ℕ) → 194 ≤ x → x ≤ 244 → IsSecond x y → utf8_error_len (x ∷ y ∷ []) ≡ None
 unfolding utf8_error_len
 second_ok x y l h s =
-    cond_true _ _ _ (is_range 194 244 x l h)
-    ∙ cond_true _ _ _ (is_range (second_byte_min x) (second_byte_max x) y (second_low x y s.low s.after_224 s.after_240) (second_high x y s.high s.after_237 s.after_244))
+    cond-true _ _ _ (is_range 194 244 x l h)
+    ∙ cond-true _ _ _ (is_range (second_byte_min x) (second_byte_max x) y (second_low x y s.low s.after_224 s.after_240) (second_high x y s.high s.after_237 s.after_244))
 
 third_ok : (x y z : ℕ) → 194 ≤ x → x ≤ 244 → IsSecond x y → 128 ≤ z → z ≤ 191 → utf8_error_len (x ∷ y ∷ z ∷ []) ≡ None
 unfolding utf8_error_len
 third_ok x y z l h s p q =
-    cond_true _ _ _ (is_range 194 244 x l h)
-    ∙ cond_true _ _ _ (is_range (second_byte_min x) (second_byte_max x) y (second_low x y s.low s.after_224 s.after_240) (second_high x y s.high s.after_237 s.after_244))
-    ∙ cond_true _ _ _ (is_range 128 191 z p q)
+    cond-true _ _ _ (is_range 194 244 x l h)
+    ∙ cond-true _ _ _ (is_range (second_byte_min x) (second_byte_max x) y (second_low x y s.low s.after_224 s.after_240) (second_high x y s.high s.after_237 s.after_244))
+    ∙ cond-true _ _ _ (is_range 128 191 z p q)
 
 cut_two : (c : ℕ) (bytes more : List ℕ) → 128 ≤ c → c < 2048 → 0 < length bytes → 0 < length more → encode_utf8 c ≡ bytes ++ more → IsCut bytes c
 cut_two c [] more l h some lacks is = absurd (omega (arith, some))
@@ -272,10 +264,6 @@ cut_four c (x ∷ y ∷ z ∷ []) more h l some lacks is =
     record { no_fault = third_ok x y z (omega (arith, e)) (omega (arith, e)) (second_of_four c x y h l e f) (omega (arith, g)) (omega (arith, g)); long = width_four x (omega (arith, e)) ∙ sym (ap length (four c l)) }
 cut_four c (x ∷ y ∷ z ∷ w ∷ bytes) more h l some lacks is = absurd (omega (arith, lacks, ap length (sym (four c l) ∙ is), length-append bytes more))
 
-below_top : (c : ℕ) → (c < 55296) ⊎ ((57344 ≤ c) × (c < 1114112)) → c < 1114112
-below_top c (inl h) = omega arith
-below_top c (inr h) = h.1
-
 pub cut_is : (c : ℕ) (bytes more : List ℕ) → IsScalar c → 0 < length bytes → 0 < length more → encode_utf8 c ≡ bytes ++ more → IsCut bytes c
 cut_is c bytes more s some lacks is = by_length (scalar_cases c s) (order c 128) (order c 2048) (order c 65536)
   where
@@ -283,4 +271,4 @@ cut_is c bytes more s some lacks is = by_length (scalar_cases c s) (order c 128)
     by_length k (inl p) _ _ = absurd (omega (arith, some, lacks, ap length (sym (one c p) ∙ is), length-append bytes more))
     by_length k (inr p) (inl q) _ = cut_two c bytes more p q some lacks is
     by_length k (inr p) (inr q) (inl r) = cut_three c bytes more k q r some lacks is
-    by_length k (inr p) (inr q) (inr r) = cut_four c bytes more (below_top c k) r some lacks is
+    by_length k (inr p) (inr q) (inr r) = cut_four c bytes more (scalar_below c s) r some lacks is

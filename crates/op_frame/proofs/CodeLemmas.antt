@@ -1,15 +1,15 @@
 -- Equal bytes begin with one value, for each field.
-use Rattle.std.proofs.Common.{◌≡◌, ℕ, ◌<◌, ◌≤◌, ◌^◌, ◌⊎◌, inl, inr, List, [], ◌∷◌, ◌++◌, length, refl, ap, sym, ◌∙◌, append_assoc, arith}
+use Rattle.std.proofs.Common.{◌≡◌, ℕ, ◌<◌, List, [], ◌∷◌, ◌++◌, length, refl, ap, sym, ◌∙◌, append_assoc, arith}
 use Rattle.std.specs.Prelude.{Option, Some, None}
 use Rattle.std.specs.Int.{to_be_bytes, from_be_bytes, w16, w32, byte_at}
 use Rattle.std.specs.Str.{encode_utf8_all}
 use Rattle.std.proofs.lemmas.Nat.{from_be_bytes-to_be_bytes_4, from_be_bytes-to_be_bytes_2}
 use Rattle.std.proofs.lemmas.Str.{encodes_same}
 use Rattle.std.specs.Char.{IsScalar}
-use lib.Utf8.{scalar_cases}
+use Rattle.std.proofs.lemmas.Bool.Decides.{nat_tests}
 use Rattle.fugue_ids.specs.Identifiers.{Identifier}
-use Rattle.origin_model.specs.frames.Frames.{IsTitle, id_bytes, scalar_bytes}
-use Rattle.op_frame.specs.Formats.{number, replica, identifier, origin, scalar, title}
+use Rattle.origin_model.specs.frames.Frames.{id_bytes, scalar_bytes}
+use Rattle.op_frame.specs.Formats.{number, replica, identifier, origin, scalar, title, title_length}
 use Rattle.op_frame.proofs.FormatLemmas.{IsCode, code_join}
 
 -- fronts of one length are the same
@@ -53,13 +53,9 @@ origin_once (Some v) (Some w) r s p q same =
 pub origin_code : IsCode origin
 origin_code = record { once = origin_once }
 
-below_top : (c : ℕ) → (c < 55296) ⊎ ((57344 ≤ c) × (c < 1114112)) → c < 1114112
-below_top c (inl h) = omega arith
-below_top c (inr h) = h.1
-
 -- a scalar has three bytes
 pub scalar_below : (c : ℕ) → IsScalar c → c < 1114112
-scalar_below c h = below_top c (scalar_cases c h)
+scalar_below c h = grind (arith, nat_tests)
 
 pub scalar_top : (c : ℕ) → IsScalar c → byte_at 3 c ≡ 0
 scalar_top c h = omega (arith, scalar_below c h)
@@ -72,17 +68,18 @@ scalar_code = record {
       ((number_code.once v w [] [] (omega (arith, scalar_below v p)) (omega (arith, scalar_below w q)) (ap (λ (l : List ℕ). l ++ []) whole)).0, low.1);
 }
 
-title_length : (t : List ℕ) → IsTitle t → length (encode_utf8_all t) < 2 ^ 16
-title_length t p = omega (arith, p.text.short)
+pub length_code : IsCode title_length
+length_code = record {
+  once = λ v w r s p q same.
+      let both = same_fronts (to_be_bytes w16 v) (to_be_bytes w16 w) r s refl same in
+      (sym (from_be_bytes-to_be_bytes_2 v (omega (arith, p.1))) ∙ ap (from_be_bytes w16) both.0 ∙ from_be_bytes-to_be_bytes_2 w (omega (arith, q.1)), both.1);
+}
 
 pub title_code : IsCode title
 title_code = record {
   once = λ v w r s p q same.
-      let flat : to_be_bytes w16 (length (encode_utf8_all v)) ++ (encode_utf8_all v ++ r) ≡ to_be_bytes w16 (length (encode_utf8_all w)) ++ (encode_utf8_all w ++ s)
-      = sym (append_assoc (to_be_bytes w16 (length (encode_utf8_all v))) (encode_utf8_all v) r) ∙ same ∙ append_assoc (to_be_bytes w16 (length (encode_utf8_all w))) (encode_utf8_all w) s in
-      let heads = same_fronts (to_be_bytes w16 (length (encode_utf8_all v))) (to_be_bytes w16 (length (encode_utf8_all w))) (encode_utf8_all v ++ r) (encode_utf8_all w ++ s) refl flat in
-      let long : length (encode_utf8_all v) ≡ length (encode_utf8_all w)
-      = sym (from_be_bytes-to_be_bytes_2 (length (encode_utf8_all v)) (title_length v p)) ∙ ap (from_be_bytes w16) heads.0 ∙ from_be_bytes-to_be_bytes_2 (length (encode_utf8_all w)) (title_length w q) in
-      let texts = same_fronts (encode_utf8_all v) (encode_utf8_all w) r s long heads.1 in
+      let flat = sym (append_assoc (to_be_bytes w16 (length (encode_utf8_all v))) (encode_utf8_all v) r) ∙ same ∙ append_assoc (to_be_bytes w16 (length (encode_utf8_all w))) (encode_utf8_all w) s in
+      let heads = length_code.once (length (encode_utf8_all v)) (length (encode_utf8_all w)) (encode_utf8_all v ++ r) (encode_utf8_all w ++ s) (p.text.some, p.text.short) (q.text.some, q.text.short) flat in
+      let texts = same_fronts (encode_utf8_all v) (encode_utf8_all w) r s heads.0 heads.1 in
       (encodes_same v w texts.0, texts.1);
 }

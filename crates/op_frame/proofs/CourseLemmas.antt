@@ -6,6 +6,7 @@ use Rattle.std.specs.Io.KnownBytes.{prepend_known}
 use Rattle.std.proofs.lemmas.List.{take_all, append-nil}
 use Rattle.std.proofs.lemmas.List.Elements.{All-nil, All-cons, All-head, All-tail, All-append, All-same, recursion_from_All}
 use Rattle.std.proofs.lemmas.Bool.{cases_order}
+use Rattle.std.proofs.lemmas.Option.{IfSome_then}
 use Rattle.fugue_ids.specs.declared.op.Op.{Op}
 use Rattle.outer_ports.specs.Sources.{SourceView}
 use Rattle.origin_model.specs.frames.Frames.{frame, End, Whole as EndsWhole, CutShort as EndsCutShort, BadFrame as EndsInBadFrame, Framed, IsFrame, Reads}
@@ -300,11 +301,7 @@ module _ (hold most : ℕ) (start : Held) where
 
     came : (course : Course) (P : List ℕ → Type 0) → ((bytes : List ℕ) → P bytes → Ends hold most start old.limit bytes fed.ops course) → IfSome told P
         → IfSome told (λ bytes. Comes hold most start old.limit bytes fed.ops course)
-    came course P ends = by_told told
-      where
-        by_told : (o : Option (List ℕ)) → IfSome o P → IfSome o (λ bytes. Comes hold most start old.limit bytes fed.ops course)
-        by_told None p = tt
-        by_told (Some bytes) p = record { has_place = fed.has_place; ends = ends bytes p }
+    came course P ends is = IfSome_then told is (λ bytes p. record { has_place = fed.has_place; ends = ends bytes p })
 
     -- the stream is over
     pub fed_whole : Nexts old new before after (Ok None) → IfSome told (λ bytes. Comes hold most start old.limit bytes fed.ops Whole)

@@ -8,8 +8,8 @@ use Rattle.std.specs.Int.{to_be_bytes, w32, byte_at}
 use Rattle.fugue_ids.specs.Identifiers.{Identifier}
 use Rattle.op_frame.specs.declared.stop.Stop.{Stop}
 use Rattle.op_frame.specs.declared.stop.Stop.TheVariants.{Prefix}
-use Rattle.op_frame.specs.Formats.{Starts, IsFront, Stops, join, number, replica, identifier, origin, scalar, code_of}
-use Rattle.op_frame.proofs.FormatLemmas.{stops_behind, stops_first, stops_second}
+use Rattle.op_frame.specs.Formats.{Starts, IsFront, Stops, number, replica, identifier, origin, scalar, code_of}
+use Rattle.op_frame.proofs.FormatLemmas.{join, stops_behind, stops_first, stops_second}
 use Rattle.op_frame.proofs.CodeLemmas.{replica_code}
 
 -- a front of a replica is one of a number

@@ -2,7 +2,15 @@
 use Rattle.std.proofs.Common.{◌≡◌, ℕ, ◌<◌, List, [], ◌∷◌, ◌++◌, length, refl, ap, sym, ◌∙◌, ◌⊎◌, inl, inr, append_assoc, arith, length-append}
 use Rattle.op_frame.specs.declared.stop.Stop.{Stop}
 use Rattle.op_frame.specs.declared.stop.Stop.TheVariants.{Prefix, Bad, NoMemory}
-use Rattle.op_frame.specs.Formats.{Format, Starts, Stops, join}
+use Rattle.op_frame.specs.Formats.{Format, Starts, Stops}
+
+-- one format behind another
+abbrev pub join : {A B : Type 0} → Format A → Format B → Format (A × B)
+join first second = record {
+  valid = λ pair. first.valid pair.0 × second.valid pair.1;
+  spelling = λ pair. first.spelling pair.0 ++ second.spelling pair.1;
+  takes_memory = first.takes_memory ⊎ second.takes_memory;
+}
 
 -- equal bytes begin with one value, and one rest stands behind it
 pub record IsCode {T : Type 0} (format : Format T) : Type 0 where

@@ -3,13 +3,13 @@ use Rattle.std.proofs.Common.{◌≡◌, ℕ, ◌<◌, List, [], ◌∷◌, ◌+
 use Rattle.std.specs.Prelude.{◌^◌, Option, Some, None}
 use Rattle.std.specs.Char.{IsScalar}
 use Rattle.std.specs.Str.{encode_utf8_all}
-use Rattle.std.proofs.lemmas.Bool.Decides.{nat_tests}
 use Rattle.std.proofs.lemmas.Str.{length-le-encodes}
 use Rattle.fugue_ids.specs.Identifiers.{Identifier}
 use Rattle.fugue_ids.specs.Titles.{IsTitleText, has_line_end}
 use Rattle.fugue_ids.specs.declared.op.Op.{Op}
 use Rattle.fugue_ids.specs.declared.op.Op.TheVariants.{Section, Text, Delete}
 use Rattle.origin_model.specs.frames.Frames.{frame, HasFrame, IsIdentifier, IsOrigin, IsTitle, Framed, Begins, IsPartial, IsBad}
+use Rattle.op_frame.proofs.CodeLemmas.{scalar_below}
 use Rattle.op_frame.proofs.OperationLemmas.{section_fields, text_fields, section_of, text_of}
 use Rattle.op_frame.proofs.FrameLemmas.{framed_of, framed_is}
 use Rattle.op_frame.proofs.SearchLemmas.{Decided, decided_by, both_decided, is_true_decided, is_false_decided, equal_decided, less_decided, Found, IsSearched, below, narrowed, mapped, paired, listed}
@@ -32,12 +32,9 @@ origins property test = by_none (test None) (identifiers (λ i. property (Some i
     by_none (inr none) (inl f) = inl (record { value = Some f.value; member = f.member; holds = f.holds })
     by_none (inr none) (inr other) = inr (λ f. none_there none other f.value f.member f.holds)
 
-scalar_small : (c : ℕ) → IsScalar c → c < 1114112
-scalar_small c is = grind (arith, nat_tests)
-
 scalars : IsSearched IsScalar
 scalars =
-    mapped _ (narrowed _ (below 1114112) IsScalar (λ c. is_true_decided _)) (λ c. c) (λ c. c) IsScalar (λ c is. is.1) (λ c is. ((scalar_small c is, is), refl))
+    mapped _ (narrowed _ (below 1114112) IsScalar (λ c. is_true_decided _)) (λ c. c) (λ c. c) IsScalar (λ c is. is.1) (λ c is. ((scalar_below c is, is), refl))
 
 text_decided : (bytes : List ℕ) → Decided (IsTitleText bytes)
 text_decided bytes =

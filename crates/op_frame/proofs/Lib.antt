@@ -15,3 +15,4 @@ pub mod StreamLemmas
 pub mod FirstLemmas
 pub mod AnswerLemmas
 pub mod CourseLemmas
+pub mod FrameFrontLemmas

@@ -1,6 +1,6 @@
 -- What stands at the front of bytes, for the three kinds of frames.
 use Rattle.std.proofs.Common.{◌≡◌, ℕ, List, [], ◌∷◌, ◌++◌, length, drop, refl, ap, sym, subst, ◌∙◌, inl, inr, append_assoc, arith}
-use Rattle.std.specs.Prelude.{Option, None, Result, Ok, Err}
+use Rattle.std.specs.Prelude.{Option, Result, Ok, Err}
 use Rattle.std.proofs.lemmas.Str.{encode_ascii}
 use Rattle.fugue_ids.specs.Titles.{IsTitleText}
 use Rattle.fugue_ids.specs.Identifiers.{Identifier}
@@ -8,8 +8,8 @@ use Rattle.fugue_ids.specs.declared.op.Op.{Op}
 use Rattle.fugue_ids.specs.declared.op.Op.TheVariants.{Section, Text, Delete}
 use Rattle.origin_model.specs.frames.Frames.{frame, IsIdentifier, IsTitle, HasFrame, id_bytes, origin_bytes, scalar_bytes, title_bytes}
 use Rattle.op_frame.specs.declared.stop.Stop.{Stop}
-use Rattle.op_frame.specs.Formats.{Format, Starts, IsFront, Stops, FieldIs, join, identifier, origin, scalar, title, operation, of_kind, frame_kind}
-use Rattle.op_frame.proofs.FormatLemmas.{IsBehind, IsCode, code_join, starts_behind, stops_behind, stops_first, stops_second}
+use Rattle.op_frame.specs.Formats.{Format, IsFront, Stops, FieldIs, identifier, origin, scalar, title, operation, of_kind, frame_kind}
+use Rattle.op_frame.proofs.FormatLemmas.{join, IsBehind, IsCode, code_join, starts_behind, stops_behind}
 use Rattle.op_frame.proofs.CodeLemmas.{identifier_code, origin_code, scalar_code, title_code}
 
 abbrev pub SectionFields : Type 0
@@ -156,71 +156,23 @@ pub operation_code : IsCode operation
 operation_code = record { once = code_of_kind }
 
 -- a title
-sample_title : IsTitle (65 ∷ [])
+pub sample_title : IsTitle (65 ∷ [])
 sample_title = record {
   scalars = (refl, tt);
   text = subst IsTitleText (ap (λ (l : List ℕ). l ++ []) (sym (encode_ascii 65 (omega arith)))) (record { some = omega arith; short = omega arith; one_line = refl });
 }
 
-abbrev origins_title : Format (Option Identifier × (Option Identifier × List ℕ))
+abbrev pub origins_title : Format (Option Identifier × (Option Identifier × List ℕ))
 origins_title = join origin (join origin title)
 
-abbrev origins_scalar : Format (Option Identifier × (Option Identifier × ℕ))
+abbrev pub origins_scalar : Format (Option Identifier × (Option Identifier × ℕ))
 origins_scalar = join origin (join origin scalar)
 
-abbrev first_id : Identifier
+abbrev pub first_id : Identifier
 first_id = record { replica = 1; counter = 0 }
 
-first_is_one : IsIdentifier first_id
+pub first_is_one : IsIdentifier first_id
 first_is_one = record { some_replica = omega arith; replica_fits = omega arith; counter_fits = omega arith }
-
--- where a Section stops: at its identifier, at an origin, at its title
-pub section_at_id : (b : List ℕ) (stop : Stop) → Stops identifier b stop → Stops (of_kind 1) b stop
-section_at_id b stop p = section_stops b stop (stops_first identifier origins_title (None, (None, 65 ∷ [])) (tt, (tt, sample_title)) b stop p)
-
-pub section_at_left : (b r : List ℕ) (i : Identifier) (stop : Stop) → Starts identifier b i r → Stops origin r stop → Stops (of_kind 1) b stop
-section_at_left b r i stop p q =
-    section_stops b stop (stops_second identifier origins_title identifier_code b r i stop p (stops_first origin (join origin title) (None, 65 ∷ []) (tt, sample_title) r stop q))
-
-pub section_at_right : (b r s : List ℕ) (i : Identifier) (l : Option Identifier) (stop : Stop) → Starts identifier b i r → Starts origin r l s → Stops origin s stop
-    → Stops (of_kind 1) b stop
-section_at_right b r s i l stop p q t =
-    section_stops b stop (stops_second identifier origins_title identifier_code b r i stop p
-    (stops_second origin (join origin title) origin_code r s l stop q (stops_first origin title (65 ∷ []) sample_title s stop t)))
-
-pub section_at_title : (b r s t : List ℕ) (i : Identifier) (l m : Option Identifier) (stop : Stop) → Starts identifier b i r → Starts origin r l s → Starts origin s m t
-    → Stops title t stop → Stops (of_kind 1) b stop
-section_at_title b r s t i l m stop p q u w =
-    section_stops b stop (stops_second identifier origins_title identifier_code b r i stop p
-    (stops_second origin (join origin title) origin_code r s l stop q (stops_second origin title origin_code s t m stop u w)))
-
--- where a Text stops
-pub text_at_id : (b : List ℕ) (stop : Stop) → Stops identifier b stop → Stops (of_kind 2) b stop
-text_at_id b stop p =
-    text_stops b stop (stops_first identifier (join identifier origins_scalar) (first_id, (None, (None, 0))) (first_is_one, (tt, (tt, refl))) b stop p)
-
-pub text_at_section : (b r : List ℕ) (i : Identifier) (stop : Stop) → Starts identifier b i r → Stops identifier r stop → Stops (of_kind 2) b stop
-text_at_section b r i stop p q =
-    text_stops b stop (stops_second identifier (join identifier origins_scalar) identifier_code b r i stop p
-    (stops_first identifier origins_scalar (None, (None, 0)) (tt, (tt, refl)) r stop q))
-
-text_behind : (b r s : List ℕ) (i k : Identifier) (stop : Stop) → Starts identifier b i r → Starts identifier r k s → Stops origins_scalar s stop → Stops (of_kind 2) b stop
-text_behind b r s i k stop p q t =
-    text_stops b stop (stops_second identifier (join identifier origins_scalar) identifier_code b r i stop p
-    (stops_second identifier origins_scalar identifier_code r s k stop q t))
-
-pub text_at_left : (b r s : List ℕ) (i k : Identifier) (stop : Stop) → Starts identifier b i r → Starts identifier r k s → Stops origin s stop → Stops (of_kind 2) b stop
-text_at_left b r s i k stop p q t = text_behind b r s i k stop p q (stops_first origin (join origin scalar) (None, 0) (tt, refl) s stop t)
-
-pub text_at_right : (b r s t : List ℕ) (i k : Identifier) (l : Option Identifier) (stop : Stop) → Starts identifier b i r → Starts identifier r k s → Starts origin s l t
-    → Stops origin t stop → Stops (of_kind 2) b stop
-text_at_right b r s t i k l stop p q u w =
-    text_behind b r s i k stop p q (stops_second origin (join origin scalar) origin_code s t l stop u (stops_first origin scalar 0 refl t stop w))
-
-pub text_at_scalar : (b r s t z : List ℕ) (i k : Identifier) (l m : Option Identifier) (stop : Stop) → Starts identifier b i r → Starts identifier r k s
-    → Starts origin s l t → Starts origin t m z → Stops scalar z stop → Stops (of_kind 2) b stop
-text_at_scalar b r s t z i k l m stop p q u w y =
-    text_behind b r s i k stop p q (stops_second origin (join origin scalar) origin_code s t l stop u (stops_second origin scalar origin_code t z m stop w y))
 
 -- what reading the rest of a frame gave
 pub kind_is : (kind : ℕ) (b r after : List ℕ) (result : Result Op Stop) → b ≡ kind ∷ r → FieldIs (of_kind kind) result r after → FieldIs operation result b after

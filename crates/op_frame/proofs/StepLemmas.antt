@@ -7,7 +7,7 @@ use Rattle.fugue_ids.specs.declared.op.Op.{Op}
 use Rattle.outer_ports.specs.Sources.{SourceView, KeepsCount}
 use Rattle.fugue_ids.specs.Identifiers.{Identifier}
 use Rattle.fugue_ids.specs.declared.op.Op.TheVariants.{Section, Text, Delete}
-use Rattle.origin_model.specs.frames.Frames.{frame, HasFrame, IsPartial, IsBad, id_bytes, origin_bytes, title_bytes, scalar_bytes}
+use Rattle.origin_model.specs.frames.Frames.{frame, HasFrame, IsPartial, IsBad, origin_bytes}
 use Rattle.op_frame.specs.declared.fault.FrameFault.{FrameFault}
 use Rattle.op_frame.specs.declared.fault.FrameFault.TheVariants.{BadFrame, CutShort, ReadFault, TooLong, NoMemory}
 use Rattle.op_frame.specs.Formats.{Starts, IsFront, FitsNone, operation}
@@ -154,25 +154,8 @@ origin_short (Some i) = omega arith
 
 -- the longest frame is that of a Section with both origins and 480 bytes of title
 frame_short : (op : Op) → HasFrame op → length (frame op) ≤ 509
-frame_short (Section i l r t) has =
-    omega (
-      arith,
-      has.3.text.short,
-      origin_short l,
-      origin_short r,
-      length-append (((1 ∷ [] ++ id_bytes i) ++ origin_bytes l) ++ origin_bytes r) (title_bytes t),
-      length-append ((1 ∷ [] ++ id_bytes i) ++ origin_bytes l) (origin_bytes r),
-      length-append (1 ∷ [] ++ id_bytes i) (origin_bytes l),
-    )
-frame_short (Text i s l r c) has =
-    omega (
-      arith,
-      origin_short l,
-      origin_short r,
-      length-append ((((2 ∷ [] ++ id_bytes i) ++ id_bytes s) ++ origin_bytes l) ++ origin_bytes r) (scalar_bytes c),
-      length-append (((2 ∷ [] ++ id_bytes i) ++ id_bytes s) ++ origin_bytes l) (origin_bytes r),
-      length-append ((2 ∷ [] ++ id_bytes i) ++ id_bytes s) (origin_bytes l),
-    )
+frame_short (Section i l r t) has = simp length-append (omega (arith, has.3.text.short, origin_short l, origin_short r))
+frame_short (Text i s l r c) has = simp length-append (omega (arith, origin_short l, origin_short r))
 frame_short (Delete i) has = omega arith
 
 pub front_short : (b : List ℕ) → IsFront operation b → length b < 4096

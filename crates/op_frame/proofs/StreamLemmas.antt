@@ -4,7 +4,7 @@ use Rattle.std.proofs.Common.{ap, sym, subst, ◌∙◌, arith, append_assoc, le
 use Rattle.std.specs.List.{AllByRecursion}
 use Rattle.std.specs.Io.KnownBytes.{prepend_known}
 use Rattle.std.proofs.lemmas.List.{append-nil, flat_map_more, take-append-drop}
-use Rattle.std.proofs.lemmas.List.Elements.{All-nil, All-push, recursion_from_All}
+use Rattle.std.proofs.lemmas.List.Elements.{All-from_recursion, All-map, All-nil, All-push, All-weaker, recursion_from_All}
 use Rattle.fugue_ids.specs.declared.op.Op.{Op}
 use Rattle.outer_ports.specs.Sources.{SourceView}
 use Rattle.origin_model.specs.frames.Frames.{frame, frames, HasFrame, Framed, IsFrame, Begins, IsPartial, IsBad, End, Whole, CutShort as EndsCut, BadFrame as EndsBad, EndsSo, Reads, Starts}
@@ -120,15 +120,11 @@ starts_first b ops rest all end p q =
 pub starts_more : (b : List ℕ) (ops : List Op) (rest : List ℕ) (framed : Framed) (behind : List ℕ) → Starts b ops rest → Begins rest framed behind → Starts b (ops ++ framed.ops) behind
 starts_more b ops rest framed behind p q = record {
   found = p.found ++ framed ∷ [];
-  are_frames = all_and p.found p.are_frames;
+  are_frames = recursion_from_All IsFrame (p.found ++ framed ∷ []) (All-push IsFrame p.found framed (All-from_recursion IsFrame p.found p.are_frames) q.is_frame);
   ops_are = ap (λ (l : List Op). l ++ framed.ops) p.ops_are ∙ flat_map_more (λ f. f.ops) [] p.found framed;
   split = p.split ∙ ap (λ (l : List ℕ). bytes_of p.found ++ l) q.split ∙ sym (append_assoc (bytes_of p.found) framed.bytes behind)
       ∙ ap (λ (l : List ℕ). l ++ behind) (flat_map_more (λ f. f.bytes) [] p.found framed);
 }
-  where
-    all_and : (found : List Framed) → AllByRecursion IsFrame found → AllByRecursion IsFrame (found ++ framed ∷ [])
-    all_and [] all = (q.is_frame, tt)
-    all_and (f ∷ found) all = (all.0, all_and found all.1)
 
 -- frames up to where the bytes end, and how they end there, counted from a start
 record ReadsFrom (start : ℕ) (b : List ℕ) : Type 0 where
@@ -182,17 +178,13 @@ reads_some b =
 pub reads_frames : (ops : List Op) → All HasFrame ops → Reads (frames ops) ops Whole
 reads_frames ops all = record {
   found = map framed_of ops;
-  are_frames = framed_all ops (recursion_from_All HasFrame ops all);
+  are_frames = recursion_from_All IsFrame (map framed_of ops) (All-map IsFrame framed_of ops (All-weaker HasFrame (λ op. IsFrame (framed_of op)) framed_is ops all));
   ops_are = framed_ops ops;
   rest = [];
   split = sym (framed_bytes ops) ∙ sym (append-nil (bytes_of (map framed_of ops)));
   ends = refl;
 }
   where
-    framed_all : (ops : List Op) → AllByRecursion HasFrame ops → AllByRecursion IsFrame (map framed_of ops)
-    framed_all [] all = tt
-    framed_all (op ∷ ops) all = (framed_is op all.0, framed_all ops all.1)
-
     framed_bytes : (ops : List Op) → bytes_of (map framed_of ops) ≡ frames ops
     framed_bytes [] = refl
     framed_bytes (op ∷ ops) = ap (λ (l : List ℕ). frame op ++ l) (framed_bytes ops)

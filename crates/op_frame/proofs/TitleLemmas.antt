@@ -1,13 +1,15 @@
 -- What stands at the front of bytes, for a title and its parts.
 use Rattle.std.proofs.Common.{◌≡◌, ◌≢◌, ℕ, zero, suc, ◌+◌, ◌-◌, ◌<◌, ◌≤◌, Bool, true, false, List, [], ◌∷◌, ◌++◌, length, take, drop, get_or, refl, ap, sym, subst, ◌∙◌, ◌⊎◌, inl, inr, append_assoc, arith, length-append, length-drop}
-use Rattle.std.specs.Prelude.{◌↔◌, ◌||◌, ◌&&◌, is_some, Option, Some, None, Result, Ok, Err}
+use Rattle.std.specs.Prelude.{◌↔◌, ◌&&◌, is_some, Option, Some, None, Result, Ok, Err}
 use Rattle.std.specs.List.{AllByRecursion}
 use Rattle.std.specs.Char.{IsScalar, encode_utf8}
-use Rattle.std.specs.Int.{to_be_bytes, from_be_bytes, w16}
+use Rattle.std.specs.Int.{to_be_bytes, w16}
 use Rattle.std.specs.Str.{chars, IsUtf8, IsValidUpTo, encode_utf8_all, all_scalars, IsErrorLen}
 use Rattle.std.specs.Str.Lossy.{utf8_error_len}
 use Rattle.std.proofs.str.Laws.{order, both}
-use Rattle.std.proofs.lemmas.List.{take-append-drop, take-append-le, drop-append-le, length-take-le, take_at}
+use Rattle.std.proofs.lemmas.Bool.{or_from, or_parts}
+use Rattle.std.proofs.lemmas.List.{get_or-drop, take-append-drop, take-append-le, drop-append-le, length-take-le, take_at}
+use Rattle.std.proofs.lemmas.List.Folds.{list_any-append}
 use Rattle.std.proofs.Math.Seq.{take-add}
 use Rattle.std.proofs.lemmas.Str.{encodes_same, IsUtf8-nil, encode_ascii, length-encode, len_utf8_bounds, encodes-chars, scalars-chars, IsUtf8-append, IsUtf8-drop, IsUtf8-encode, IsCharBoundary-from_take}
 use Rattle.fugue_ids.specs.Titles.{has_line_end, ends_line, IsTitleText}
@@ -17,27 +19,16 @@ use Rattle.fugue_ids.specs.declared.limits.TheConstants.{LONGEST_TITLE}
 use Rattle.origin_model.specs.frames.Frames.{IsTitle}
 use Rattle.op_frame.specs.declared.stop.Stop.{Stop}
 use Rattle.op_frame.specs.Formats.{Starts, IsFront, FitsNone, Stops, stop_for, title, title_length, title_text, width_of}
-use Rattle.std.proofs.lemmas.Nat.{from_be_bytes-to_be_bytes_2}
-use Rattle.op_frame.proofs.FormatLemmas.{IsCode, stops_behind, stops_by, two_fronts}
-use Rattle.op_frame.proofs.CodeLemmas.{same_fronts}
+use Rattle.op_frame.proofs.FormatLemmas.{stops_behind, stops_by, two_fronts}
+use Rattle.op_frame.proofs.CodeLemmas.{length_code}
 use Rattle.op_frame.proofs.CharacterLemmas.{Spells, goes_on, cut_is}
 
 -- neither part has a line end
 no_line_ends : (xs ys : List ℕ) → has_line_end xs ≡ false → has_line_end ys ≡ false → has_line_end (xs ++ ys) ≡ false
-no_line_ends [] ys p q = q
-no_line_ends (x ∷ xs) ys p q = by (ends_line x) p (λ r. no_line_ends xs ys r q)
-  where
-    by : (b : Bool) → (b || has_line_end xs) ≡ false → (has_line_end xs ≡ false → has_line_end (xs ++ ys) ≡ false) → (b || has_line_end (xs ++ ys)) ≡ false
-    by true p rest = absurd (cc p)
-    by false p rest = rest p
+no_line_ends xs ys p q = list_any-append ends_line xs ys ∙ or_from _ _ p q
 
 front_line_end : (xs ys : List ℕ) → has_line_end (xs ++ ys) ≡ false → has_line_end xs ≡ false
-front_line_end [] ys p = refl
-front_line_end (x ∷ xs) ys p = by (ends_line x) p (front_line_end xs ys)
-  where
-    by : (b : Bool) → (b || has_line_end (xs ++ ys)) ≡ false → (has_line_end (xs ++ ys) ≡ false → has_line_end xs ≡ false) → (b || has_line_end xs) ≡ false
-    by true p rest = absurd (cc p)
-    by false p rest = rest p
+front_line_end xs ys p = (or_parts _ _ (sym (list_any-append ends_line xs ys) ∙ p)).0
 
 all_are_scalars : (t : List ℕ) → all_scalars t ≡ true → AllByRecursion IsScalar t
 all_are_scalars [] p = tt
@@ -163,14 +154,10 @@ pub fault_none : (len : ℕ) (front : List ℕ) (at : ℕ) (fault : Option ℕ) 
 fault_none len front at fault short valid is some = text_none len front short
     (λ t more p long split. let clash : true ≡ false = sym some ∙ ap is_some (is ∙ (cut_here front more at valid t p split).0) in cc clash)
 
-first_behind : (front : List ℕ) (at : ℕ) → get_or front at 0 ≡ get_or (drop at front) 0 0
-first_behind [] zero = refl
-first_behind [] (suc at) = refl
-first_behind (x ∷ front) zero = refl
-first_behind (x ∷ front) (suc at) = first_behind front at
-
 width_here : (front : List ℕ) (at place : ℕ) → place ≡ at → width_of (get_or front place 0) ≡ width_of (get_or (drop at front) 0 0)
-width_here front at place here = ap (λ (k : ℕ). width_of (get_or front k 0)) here ∙ ap width_of (first_behind front at)
+width_here front at place here =
+    let same : place ≡ at + 0 = omega (arith, here) in
+    ap (λ (k : ℕ). width_of (get_or front k 0)) same ∙ ap width_of (sym (get_or-drop at front 0 0))
 
 -- a character that doesn't fit the bytes that are left
 pub wide_none : (len : ℕ) (front : List ℕ) (at place width : ℕ) → length front < len → IsValidUpTo front at → place ≡ at → width ≡ width_of (get_or front place 0) → len - place < width
@@ -284,13 +271,6 @@ length_stops = stops_by title_length title (record {
   first = λ t is. (length (encode_utf8_all t), encode_utf8_all t, (is.text.some, is.text.short), refl);
   memory = λ p. absurd p;
 })
-
-length_code : IsCode title_length
-length_code = record {
-  once = λ v w r s p q same.
-      let both = same_fronts (to_be_bytes w16 v) (to_be_bytes w16 w) r s refl same in
-      (sym (from_be_bytes-to_be_bytes_2 v (omega (arith, p.1))) ∙ ap (from_be_bytes w16) both.0 ∙ from_be_bytes-to_be_bytes_2 w (omega (arith, q.1)), both.1);
-}
 
 pub title_stops : (b r : List ℕ) (len : ℕ) (stop : Stop) → Starts title_length b len r → Stops (title_text len) r stop → Stops title b stop
 title_stops b r len stop first = stops_behind (title_text len) title {front = to_be_bytes w16 len} (record {

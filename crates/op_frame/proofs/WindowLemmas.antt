@@ -1,5 +1,5 @@
 -- A part of a buffer, before and behind which bytes come and go.
-use Rattle.std.proofs.Common.{◌≡◌, ℕ, ◌+◌, ◌-◌, ◌<◌, ◌≤◌, List, ◌++◌, length, take, drop, refl, ap, sym, subst, ◌∙◌, arith, length-append, length-drop}
+use Rattle.std.proofs.Common.{◌≡◌, ℕ, ◌+◌, ◌-◌, ◌<◌, ◌≤◌, List, ◌++◌, length, take, drop, refl, ap, sym, ◌∙◌, arith, length-append, length-drop}
 use Rattle.std.specs.Prelude.{Result, Ok, Err}
 use Rattle.std.specs.Io.KnownBytes.{prepend_known}
 use Rattle.std.proofs.lemmas.List.{drop-take, drop-append-le, take-append-le, length-take-le, append-nil, drop-drop, take_at}
@@ -32,12 +32,23 @@ skipped s e n b le =
     let is : e - s ≡ n + (e - (s + n)) = omega (arith, le) in
     sym (ap (λ (k : ℕ). drop n (take k (drop s b))) is ∙ drop-take n (e - (s + n)) (drop s b) ∙ ap (take (e - (s + n))) (drop-drop n s b ∙ ap (λ (k : ℕ). drop k b) (omega arith)))
 
+-- a part written back
+written : {E : Type 0} (e to len : ℕ) (items old new : List ℕ) (before after : SourceView) (result : Result ℕ E) → Placed {E = E} old new e to before after result
+    → e ≤ to → to ≤ length old → length old ≡ len → take len (new ++ drop (length new) items) ≡ new
+written e to len items old new before after result p ordered within all =
+    take_at new (drop (length new) items) len
+    (ap length p.items ∙ length-append (take e old) (p.part ++ drop to old)
+    ∙ omega (arith, p.long, ordered, within, all, length-take-le e old (omega (arith, ordered, within)), length-append p.part (drop to old), length-drop to old))
+
 -- a window with what a read gave behind it
-pub filled : {E T : Type 0} (e : ℕ) (s : ℕ) (to most n : ℕ) (old new bytes : List ℕ) (before after : SourceView) → Placed {E = E} old new e to before after (Ok n)
-    → s ≤ e → e < to → to ≤ length old → to - e ≤ most → bytes ≡ take (e - s) (drop s old) → Filled {E = T} bytes (take (e + n - s) (drop s new)) before after most (Ok n)
-filled {E} {T} e s to most n old new bytes before after p le some within fits is =
-    let moved : take (e + n - s) (drop s new) ≡ bytes ++ take n p.part
-    = ap (λ (l : List ℕ). take (e + n - s) (drop s l)) p.items ∙ placed_behind old p.part (drop to old) s e n le (omega (arith, some, within)) p.read.bound ∙ ap (λ (l : List ℕ). l ++ take n p.part) (sym is) in
+pub filled_in : {E T : Type 0} (e : ℕ) (s : ℕ) (to most len n : ℕ) (items old new bytes : List ℕ) (before after : SourceView) → Placed {E = E} old new e to before after (Ok n)
+    → s ≤ e → e < to → to ≤ length old → length old ≡ len → to - e ≤ most → old ≡ items → bytes ≡ take (e - s) (drop s items)
+    → Filled {E = T} bytes (take (e + n - s) (drop s (take len (new ++ drop (length new) items)))) before after most (Ok n)
+filled_in {E} {T} e s to most len n items old new bytes before after p le some within all fits same is =
+    let moved : take (e + n - s) (drop s (take len (new ++ drop (length new) items))) ≡ bytes ++ take n p.part
+    = ap (λ (l : List ℕ). take (e + n - s) (drop s l)) (written e to len items old new before after (Ok n) p (omega (arith, some)) within all ∙ p.items)
+    ∙ placed_behind old p.part (drop to old) s e n le (omega (arith, some, within)) p.read.bound
+    ∙ ap (λ (l : List ℕ). l ++ take n p.part) (ap (λ (l : List ℕ). take (e - s) (drop s l)) same ∙ sym is) in
     record {
       told = ap (prepend_known bytes) p.read.gave ∙ prepend_twice bytes (take n p.part) after.left ∙ ap (λ (l : List ℕ). prepend_known l after.left) (sym moved);
       grew = (ap length moved ∙ length-append bytes (take n p.part) ∙ ap (λ (k : ℕ). length bytes + k) (length-take-le n p.part p.read.bound), omega (arith, p.read.bound, p.long, fits));
@@ -48,13 +59,16 @@ filled {E} {T} e s to most n old new bytes before after p le some within fits is
     }
 
 -- a window behind which nothing came
-pub not_filled : {E T : Type 0} (x : E) (y : T) (e : ℕ) (s : ℕ) (to most : ℕ) (old new bytes : List ℕ) (before after : SourceView) → Placed {E = E} old new e to before after (Err x)
-    → s ≤ e → e ≤ length old → bytes ≡ take (e - s) (drop s old) → Filled {E = T} bytes (take (e - s) (drop s new)) before after most (Err y)
-not_filled {E} {T} x y e s to most old new bytes before after p le within is =
-    let moved : take (e - s) (drop s new) ≡ bytes
-    = ap (λ (l : List ℕ). take (e - s) (drop s l)) p.items
+pub not_filled_in : {E T : Type 0} (x : E) (y : T) (e : ℕ) (s : ℕ) (to most len : ℕ) (items old new bytes : List ℕ) (before after : SourceView)
+    → Placed {E = E} old new e to before after (Err x)
+    → s ≤ e → e ≤ to → to ≤ length old → length old ≡ len → old ≡ items → bytes ≡ take (e - s) (drop s items)
+    → Filled {E = T} bytes (take (e - s) (drop s (take len (new ++ drop (length new) items)))) before after most (Err y)
+not_filled_in {E} {T} x y e s to most len items old new bytes before after p le ordered within all same is =
+    let moved : take (e - s) (drop s (take len (new ++ drop (length new) items))) ≡ bytes
+    = ap (λ (l : List ℕ). take (e - s) (drop s l)) (written e to len items old new before after (Err x) p ordered within all ∙ p.items)
     ∙ ap (λ (k : ℕ). take k (drop s (take e old ++ (p.part ++ drop to old)))) (omega arith)
-    ∙ placed_behind old p.part (drop to old) s e 0 le within (omega arith) ∙ append-nil (take (e - s) (drop s old)) ∙ sym is in
+    ∙ placed_behind old p.part (drop to old) s e 0 le (omega (arith, ordered, within)) (omega arith) ∙ append-nil (take (e - s) (drop s old))
+    ∙ ap (λ (l : List ℕ). take (e - s) (drop s l)) same ∙ sym is in
     record {
       told = ap (prepend_known bytes) (sym p.read.kept) ∙ ap (λ (l : List ℕ). prepend_known l after.left) (sym moved);
       grew = tt;
@@ -63,26 +77,3 @@ not_filled {E} {T} x y e s to most old new bytes before after p le within is =
       kept = (moved, p.read.kept);
       count = count_so _ _ p.read.count (λ is. refl);
     }
-
--- a part written back
-written : {E : Type 0} (e to len : ℕ) (items old new : List ℕ) (before after : SourceView) (result : Result ℕ E) → Placed {E = E} old new e to before after result
-    → e ≤ to → to ≤ length old → length old ≡ len → take len (new ++ drop (length new) items) ≡ new
-written e to len items old new before after result p ordered within all =
-    take_at new (drop (length new) items) len
-    (ap length p.items ∙ length-append (take e old) (p.part ++ drop to old)
-    ∙ omega (arith, p.long, ordered, within, all, length-take-le e old (omega (arith, ordered, within)), length-append p.part (drop to old), length-drop to old))
-
-pub filled_in : {E T : Type 0} (e : ℕ) (s : ℕ) (to most len n : ℕ) (items old new bytes : List ℕ) (before after : SourceView) → Placed {E = E} old new e to before after (Ok n)
-    → s ≤ e → e < to → to ≤ length old → length old ≡ len → to - e ≤ most → old ≡ items → bytes ≡ take (e - s) (drop s items)
-    → Filled {E = T} bytes (take (e + n - s) (drop s (take len (new ++ drop (length new) items)))) before after most (Ok n)
-filled_in {E} {T} e s to most len n items old new bytes before after p le some within all fits same is =
-    subst (λ (l : List ℕ). Filled {E = T} bytes (take (e + n - s) (drop s l)) before after most (Ok n)) (sym (written e to len items old new before after (Ok n) p (omega (arith, some)) within all))
-    (filled {E = E} {T = T} e s to most n old new bytes before after p le some within fits (is ∙ ap (λ (l : List ℕ). take (e - s) (drop s l)) (sym same)))
-
-pub not_filled_in : {E T : Type 0} (x : E) (y : T) (e : ℕ) (s : ℕ) (to most len : ℕ) (items old new bytes : List ℕ) (before after : SourceView)
-    → Placed {E = E} old new e to before after (Err x)
-    → s ≤ e → e ≤ to → to ≤ length old → length old ≡ len → old ≡ items → bytes ≡ take (e - s) (drop s items)
-    → Filled {E = T} bytes (take (e - s) (drop s (take len (new ++ drop (length new) items)))) before after most (Err y)
-not_filled_in {E} {T} x y e s to most len items old new bytes before after p le ordered within all same is =
-    subst (λ (l : List ℕ). Filled {E = T} bytes (take (e - s) (drop s l)) before after most (Err y)) (sym (written e to len items old new before after (Err x) p ordered within all))
-    (not_filled {E = E} {T = T} x y e s to most old new bytes before after p le (omega (arith, ordered, within)) (is ∙ ap (λ (l : List ℕ). take (e - s) (drop s l)) (sym same)))

@@ -1,5 +1,5 @@
 -- Formats of fields, and what stands at the front of some bytes.
-use Rattle.std.specs.Prelude.{◌≡◌, ℕ, ◌+◌, ◌*◌, ◌<◌, ◌≤◌, ◌^◌, List, ◌++◌, length, drop, nat_lt, if◌then◌else◌, ◌⊎◌, Option, Result, Ok, Err}
+use Rattle.std.specs.Prelude.{◌≡◌, ℕ, ◌+◌, ◌*◌, ◌<◌, ◌≤◌, ◌^◌, List, ◌++◌, length, drop, nat_lt, if◌then◌else◌, Option, Result, Ok, Err}
 use Rattle.std.specs.Int.{to_be_bytes, w16, w32}
 use Rattle.std.specs.Char.{IsScalar}
 use Rattle.std.specs.Str.{encode_utf8_all}
@@ -45,14 +45,6 @@ Stops format bytes NoMemory = format.takes_memory
 abbrev pub FieldIs : {T : Type 0} → Format T → Result T Stop → List ℕ → List ℕ → Type 0
 FieldIs format (Ok value) before after = Starts format before value after
 FieldIs format (Err stop) before after = Stops format before stop
-
--- one format behind another
-abbrev pub join : {A B : Type 0} → Format A → Format B → Format (A × B)
-join first second = record {
-  valid = λ pair. first.valid pair.0 × second.valid pair.1;
-  spelling = λ pair. first.spelling pair.0 ++ second.spelling pair.1;
-  takes_memory = first.takes_memory ⊎ second.takes_memory;
-}
 
 abbrev pub number : Format ℕ
 number = record { valid = λ n. n < 2 ^ 32; spelling = to_be_bytes w32; takes_memory = ⊥ }

@@ -7,3 +7,4 @@ pub mod Refills
 pub mod Readers
 pub mod Steps
 pub mod Courses
+pub mod FrameFronts

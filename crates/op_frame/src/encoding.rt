@@ -4,10 +4,10 @@ ghost use Rattle.origin_model.specs.frames.Frames.{HasFrame, IsIdentifier, IsOri
 ghost use Rattle.op_frame.specs.Encoded.{Puts};
 
 use crate::operation::{DELETE, SECTION, TEXT};
-use fugue_ids::{ElementId, NoMemory, Op, Title};
+use fugue_ids::{ElementId, LONGEST_TITLE, NoMemory, Op, Title};
 
-/// The longest frame, in bytes: that of a Section with both origins and the longest title.
-const LONGEST_FRAME: usize = 509;
+/// The longest frame, in bytes: that of a Section with its kind, its identifier, both origins, and the longest title behind its length.
+const LONGEST_FRAME: usize = 1 + 8 + 9 + 9 + 2 + LONGEST_TITLE;
 
 /// Appends the operation's frame.
 pub fn encode(op: &Op, out: &mut Vec<u8>) -> Result<(), NoMemory>
@@ -85,7 +85,7 @@ fn put_origin(out: &mut Vec<u8>, origin: Option<ElementId>)
 }
 
 fn put_title(out: &mut Vec<u8>, title: &Title)
-    requires { vec_len out.old + 482 ≤ vec_capacity out.old }
+    requires { vec_len out.old + 2 + LONGEST_TITLE ≤ vec_capacity out.old }
     ensures puts { Puts out.old out.new (title_bytes title.now) }
     ensures is_title { IsTitle title.now }
 {

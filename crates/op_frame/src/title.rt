@@ -19,7 +19,7 @@ pub(crate) fn take_title(alloc: Global, bytes: &mut Cursor) -> Result<Title, Sto
 }
 
 /// The length in the first two bytes.
-fn title_len(bytes: &[u8]) -> Result<usize, Stop>
+pub(crate) fn title_len(bytes: &[u8]) -> Result<usize, Stop>
     ensures { FieldIs title_length result bytes.now (drop 2 bytes.now) }
 {
     match bytes {
@@ -84,7 +84,7 @@ fn judge_front(bytes: &[u8], len: usize) -> Stop
 }
 
 /// How many bytes a character has that begins with this byte and is not ASCII.
-fn width(lead: u8) -> usize
+pub(crate) fn width(lead: u8) -> usize
     ensures { result ≡ width_of lead }
 {
     match lead {

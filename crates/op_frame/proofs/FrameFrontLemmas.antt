@@ -1,0 +1,494 @@
+-- What is due behind some bytes of a frame, byte by byte.
+use Rattle.std.proofs.Common.{◌≡◌, ℕ, zero, suc, ◌+◌, ◌-◌, ◌<◌, ◌≤◌, Bool, true, false, List, [], ◌∷◌, ◌++◌, length, take, drop, set, refl, ap, sym, subst, ◌∙◌, append_assoc, arith, length-append}
+use Rattle.std.specs.Prelude.{◌↔◌, ◌||◌, Option, Some, None, Result, Ok, Err}
+use Rattle.std.specs.Char.{IsScalar}
+use Rattle.std.specs.Int.{from_be_bytes, to_be_bytes, w16}
+use Rattle.std.specs.List.{AllByRecursion}
+use Rattle.std.specs.Str.{IsUtf8, all_scalars, chars, encode_utf8_all}
+use Rattle.std.proofs.Math.Seq.{drop-append_seam, take-add, take-append_seam}
+use Rattle.std.proofs.lemmas.Bool.{both_ways, or_from, or_parts}
+use Rattle.std.proofs.lemmas.List.{append-nil, take-set-le, take_all, take_more_set}
+use Rattle.std.proofs.lemmas.List.Folds.{list_any-append}
+use Rattle.std.proofs.lemmas.Nat.{from_be_bytes-to_be_bytes_2}
+use Rattle.std.proofs.lemmas.Str.{encodes-chars, IsCharBoundary-from_take, IsUtf8-append, IsUtf8-drop, IsUtf8-nil}
+use Rattle.fugue_ids.specs.Identifiers.{Identifier}
+use Rattle.fugue_ids.specs.Titles.{ends_line, has_line_end}
+use Rattle.fugue_ids.specs.declared.limits.TheConstants.{LONGEST_TITLE}
+use Rattle.fugue_ids.specs.declared.op.Op.{Op}
+use Rattle.fugue_ids.specs.declared.op.Op.TheVariants.{Delete, Section, Text as TextOp}
+use Rattle.origin_model.specs.frames.Frames.{HasFrame, IsFrame, IsOrigin, IsPartial, IsTitle, frame, id_bytes, origin_bytes, scalar_bytes, title_bytes}
+use Rattle.op_frame.specs.Formats.{FitsNone, Format, IsFront, Starts, Stops, identifier, scalar, title_length, title_text}
+use Rattle.op_frame.specs.FrameFronts.{Awaits, Completes, IsDueFront, IsFrameOf, IsGrown, IsIdentifierBytes, IsJudged, IsLast, IsOriginBytes, IsSound, IsTitleEnd, LeavesDue, Several, Then, field_size, grown_by, judged_by, text_due}
+use Rattle.op_frame.specs.declared.due.Due.{Due}
+use Rattle.op_frame.specs.declared.due.Due.TheVariants.{Fields, Kind}
+use Rattle.op_frame.specs.declared.due.Last.{Last}
+use Rattle.op_frame.specs.declared.due.Last.TheVariants.{Nothing, Scalar, Text, Title}
+use Rattle.op_frame.specs.declared.frame_front.TheConstants.{LONGEST_FRAME}
+use Rattle.op_frame.specs.declared.grown.Grown.{Grown}
+use Rattle.op_frame.specs.declared.grown.Grown.TheVariants.{Bad as IsNeither, Frame as IsWhole, Front as IsFrontGrown}
+use Rattle.op_frame.specs.declared.stop.Stop.{Stop}
+use Rattle.op_frame.specs.declared.stop.Stop.TheVariants.{Bad, NoMemory, Prefix}
+use Rattle.op_frame.proofs.CodeLemmas.{same_fronts}
+use Rattle.op_frame.proofs.TitleLemmas.{not_text, spelled, text_front}
+
+-- nothing has no bytes
+none_long : (bytes : List ℕ) → length bytes ≡ 0 → bytes ≡ []
+none_long [] e = refl
+none_long (x ∷ bytes) e = absurd (omega (arith, e))
+
+-- the bytes of a field's values
+abbrev Spelled : {T : Type 0} → Format T → List ℕ → Type 0
+Spelled {T} F bytes = (v : T) × F.valid v × (bytes ≡ F.spelling v)
+
+-- bytes no longer than a field that begin with one are one
+whole : {T : Type 0} (F : Format T) (size : ℕ) → ((v : T) → F.valid v → length (F.spelling v) ≡ size) → (bytes after : List ℕ) (v : T) → length bytes ≤ size → Starts F bytes v after → bytes ≡ F.spelling v
+whole F size long bytes after v short p =
+    let none : after ≡ [] = none_long after (omega (arith, short, long v p.valid, ap length p.split, length-append (F.spelling v) after)) in
+    p.split ∙ ap (λ r. F.spelling v ++ r) none ∙ append-nil (F.spelling v)
+
+-- a field of one length, and what is due behind it
+module _ {T : Type 0} (F : Format T) (size : ℕ) (long : (v : T) → F.valid v → length (F.spelling v) ≡ size) (Rest : List ℕ → Type 0) where
+  -- the field is whole
+  field_done : (bytes : List ℕ) → Spelled F bytes → (more : List ℕ) → Then (Spelled F) Rest (bytes ++ more) ↔ Rest more
+  field_done bytes is more = (
+    λ t.
+        let both = same_fronts bytes t.0 more t.1 (ap length is.2 ∙ long is.0 is.1 ∙ sym (ap length t.2.2 ∙ long t.2.0 t.2.1)) t.4 in
+        subst Rest (sym both.1) t.3,
+    λ r. (bytes, more, is, r, refl),
+  )
+
+  -- some bytes are the front of it
+  field_front : (bytes sample : List ℕ) → Rest sample → (p : IsFront F bytes) → Then (Spelled F) Rest (bytes ++ (p.more ++ sample))
+  field_front bytes sample rest p =
+      (F.spelling p.value, sample, (p.value, p.valid, refl), rest, sym (append_assoc bytes p.more sample) ∙ ap (λ b. b ++ sample) (sym p.front))
+
+  front_short : (bytes : List ℕ) → (p : IsFront F bytes) → length bytes < size
+  front_short bytes p = omega (arith, p.lacks, long p.value p.valid, ap length p.front, length-append bytes p.more)
+
+  -- it does not begin with them
+  field_none : (bytes : List ℕ) → FitsNone F bytes → (more : List ℕ) → Then (Spelled F) Rest (bytes ++ more) → ⊥
+  field_none bytes p more t = p.never t.2.0 t.1 more t.2.1 (ap (λ b. b ++ t.1) (sym t.2.2) ∙ sym t.4)
+
+-- UTF-8 of scalars
+all_are_scalars : (t : List ℕ) → AllByRecursion IsScalar t → all_scalars t ≡ true
+all_are_scalars [] p = refl
+all_are_scalars (c ∷ t) p = rw (p.0, all_are_scalars t p.1) refl
+
+title_end : (t : List ℕ) → IsTitle t → IsTitleEnd (length (encode_utf8_all t)) (encode_utf8_all t)
+title_end t p = ((t, (all_are_scalars t p.scalars, refl)), p.text.one_line, refl)
+
+-- there are bytes that are due, and some where a frame is not whole
+pub record Sample (due : Due) : Type 0 where
+  pub bytes : List ℕ
+  pub completes : Completes due bytes
+  pub some : grown_by due ≡ IsFrontGrown → 0 < length bytes
+
+title_sample : (len : ℕ) → 0 < len → len ≤ LONGEST_TITLE → (t : List ℕ) × IsTitle t × (length (encode_utf8_all t) ≡ len)
+title_sample len some short = let p = text_front len [] IsUtf8-nil refl some short in (p.value, p.valid.0, p.valid.1)
+
+last_sample : (last : Last) → IsSound (Fields 0 0 last) → Sample (Fields 0 0 last)
+last_sample Nothing s = record { bytes = []; completes = refl; some = λ e. absurd (cc e) }
+last_sample Scalar s = record { bytes = 0 ∷ 0 ∷ 0 ∷ []; completes = (0, refl, refl); some = λ e. omega arith }
+last_sample Title s =
+    let t = title_sample 1 (omega arith) (omega arith) in record { bytes = title_bytes t.0; completes = (t.0, t.1, refl); some = λ e. omega (arith, length-append (to_be_bytes w16 (length (encode_utf8_all t.0))) (encode_utf8_all t.0), t.2) }
+last_sample (Text len) s =
+    let t = title_sample len s.0 s.1 in
+    record { bytes = encode_utf8_all t.0; completes = subst (λ n. IsTitleEnd n (encode_utf8_all t.0)) t.2 (title_end t.0 t.1); some = λ e. omega (arith, t.2, s.0) }
+
+sound_without : (identifiers origins : ℕ) (last : Last) → IsSound (Fields identifiers origins last) → IsSound (Fields 0 0 last)
+sound_without identifiers origins Nothing s = tt
+sound_without identifiers origins Scalar s = tt
+sound_without identifiers origins Title s = tt
+sound_without identifiers origins (Text len) s = s
+
+sound_with : (identifiers origins : ℕ) (last : Last) → IsSound (Fields 0 0 last) → IsSound (Fields identifiers origins last)
+sound_with identifiers origins Nothing s = tt
+sound_with identifiers origins Scalar s = tt
+sound_with identifiers origins Title s = tt
+sound_with identifiers origins (Text len) s = s
+
+-- replica 1 and counter 0
+abbrev first_id : Identifier
+first_id = record { replica = 1; counter = 0 }
+
+pub sample : (due : Due) → IsSound due → Sample due
+sample Kind s =
+    record { bytes = frame (Delete first_id); completes = (Delete first_id, record { some_replica = omega arith; replica_fits = omega arith; counter_fits = omega arith }, refl); some = λ e. omega arith }
+sample (Fields (suc i) o last) s =
+    let p = sample (Fields i o last) (sound_with i o last (sound_without (suc i) o last s)) in
+    record {
+      bytes = id_bytes first_id ++ p.bytes;
+      completes = (id_bytes first_id, p.bytes, (first_id, record { some_replica = omega arith; replica_fits = omega arith; counter_fits = omega arith }, refl), p.completes, refl);
+      some = λ e. omega arith;
+    }
+sample (Fields zero (suc o) last) s =
+    let p = sample (Fields zero o last) (sound_with zero o last (sound_without zero (suc o) last s)) in
+    record { bytes = 0 ∷ p.bytes; completes = (0 ∷ [], p.bytes, (None, tt, refl), p.completes, refl); some = λ e. omega arith }
+sample (Fields zero zero last) s = last_sample last s
+
+-- what is due behind a frame, and that some is due else
+whole_completes : (due : Due) → grown_by due ≡ IsWhole → Completes due []
+whole_completes Kind e = absurd (cc e)
+whole_completes (Fields (suc i) o last) e = absurd (cc e)
+whole_completes (Fields zero (suc o) last) e = absurd (cc e)
+whole_completes (Fields zero zero Nothing) e = refl
+whole_completes (Fields zero zero Scalar) e = absurd (cc e)
+whole_completes (Fields zero zero Title) e = absurd (cc e)
+whole_completes (Fields zero zero (Text len)) e = absurd (cc e)
+
+never_bad : (due : Due) → grown_by due ≡ IsNeither → ⊥
+never_bad Kind e = cc e
+never_bad (Fields (suc i) o last) e = cc e
+never_bad (Fields zero (suc o) last) e = cc e
+never_bad (Fields zero zero Nothing) e = cc e
+never_bad (Fields zero zero Scalar) e = cc e
+never_bad (Fields zero zero Title) e = cc e
+never_bad (Fields zero zero (Text len)) e = cc e
+
+-- an identifier
+pub identifier_done : (i o : ℕ) (last : Last) (bytes after : List ℕ) (id : Identifier) → 0 < i → length bytes ≤ 8 → IsSound (Fields i o last) → Starts identifier bytes id after
+    → LeavesDue bytes (Fields i o last) (Fields (i - 1) o last)
+identifier_done zero o last bytes after id some short s p = absurd (omega (arith, some))
+identifier_done (suc i) o last bytes after id some short s p =
+    let one : suc i - 1 ≡ i = omega arith in
+    rw one (record {
+      rest = field_done identifier 8 (λ v is. refl) (Several i IsIdentifierBytes (Several o IsOriginBytes (IsLast last))) bytes (id, p.valid, whole identifier 8 (λ v is. refl) bytes after id short p);
+      sound = sound_with i o last (sound_without (suc i) o last s);
+    })
+
+pub identifier_stops : (i o : ℕ) (last : Last) (bytes : List ℕ) (stop : Stop) → 0 < i → IsSound (Fields i o last) → Stops identifier bytes stop → IsJudged (judged_by stop) (Fields i o last) bytes
+identifier_stops zero o last bytes stop some s p = absurd (omega (arith, some))
+identifier_stops (suc i) o last bytes Prefix some s p =
+    let behind = sample (Fields i o last) (sound_with i o last (sound_without (suc i) o last s)) in (
+      front_short identifier 8 (λ v is. refl) (λ b. Unit {0}) bytes p,
+      record {
+        more = p.more ++ behind.bytes;
+        lacks = omega (arith, p.lacks, length-append p.more behind.bytes);
+        completes = field_front identifier 8 (λ v is. refl) (Several i IsIdentifierBytes (Several o IsOriginBytes (IsLast last))) bytes behind.bytes behind.completes p;
+      },
+    )
+identifier_stops (suc i) o last bytes Bad some s p =
+    field_none identifier 8 (λ v is. refl) (Several i IsIdentifierBytes (Several o IsOriginBytes (IsLast last))) bytes p
+identifier_stops (suc i) o last bytes NoMemory some s p = absurd p
+
+-- the first byte of an origin
+pub start_done : (o : ℕ) (last : Last) → 0 < o → IsSound (Fields 0 o last) → LeavesDue (0 ∷ []) (Fields 0 o last) (Fields 0 (o - 1) last)
+start_done zero last some s = absurd (omega (arith, some))
+start_done (suc o) last some s =
+    let one : suc o - 1 ≡ o = omega arith in
+    rw one (record {
+      rest = λ more. (λ t. first t.0 t.1 more t.2 t.3 t.4, λ r. (0 ∷ [], more, (None, tt, refl), r, refl));
+      sound = sound_with 0 o last (sound_without 0 (suc o) last s);
+    })
+  where
+    first : (field rest more : List ℕ) → IsOriginBytes field → Several o IsOriginBytes (IsLast last) rest → 0 ∷ more ≡ field ++ rest → Several o IsOriginBytes (IsLast last) more
+    first field rest more (None, valid, is) r e = subst (Several o IsOriginBytes (IsLast last)) (sym (cc (e ∙ ap (λ f. f ++ rest) is))) r
+    first field rest more (Some id, valid, is) r e = absurd (cc (e ∙ ap (λ f. f ++ rest) is))
+
+pub tag_done : (o : ℕ) (last : Last) → 0 < o → IsSound (Fields 0 o last) → LeavesDue (1 ∷ []) (Fields 0 o last) (Fields 1 (o - 1) last)
+tag_done zero last some s = absurd (omega (arith, some))
+tag_done (suc o) last some s =
+    let one : suc o - 1 ≡ o = omega arith in
+    rw one (record {
+      rest = λ more. (
+        λ t. first t.0 t.1 more t.2 t.3 t.4,
+        λ t. (1 ∷ t.0, t.1, (Some t.2.0, t.2.1, ap (λ b. 1 ∷ b) t.2.2), t.3, ap (λ b. 1 ∷ b) t.4),
+      );
+      sound = sound_with 1 o last (sound_without 0 (suc o) last s);
+    })
+  where
+    first : (field rest more : List ℕ) → IsOriginBytes field → Several o IsOriginBytes (IsLast last) rest → 1 ∷ more ≡ field ++ rest
+        → Then IsIdentifierBytes (Several o IsOriginBytes (IsLast last)) more
+    first field rest more (None, valid, is) r e = absurd (cc (e ∙ ap (λ f. f ++ rest) is))
+    first field rest more (Some id, valid, is) r e = (id_bytes id, rest, (id, valid, refl), r, cc (e ∙ ap (λ f. f ++ rest) is))
+
+-- a scalar
+pub scalar_done : (bytes after : List ℕ) (ch : ℕ) → length bytes ≤ 3 → Starts scalar bytes ch after → LeavesDue bytes (Fields 0 0 Scalar) (Fields 0 0 Nothing)
+scalar_done bytes after ch short p =
+    let is : bytes ≡ scalar_bytes ch = whole scalar 3 (λ v is. refl) bytes after ch short p in
+    record {
+      rest = λ more. (
+        λ t. (same_fronts bytes (scalar_bytes t.0) more [] (ap length is) (t.2 ∙ sym (append-nil (scalar_bytes t.0)))).1,
+        λ none. (ch, p.valid, ap (λ m. bytes ++ m) none ∙ append-nil bytes ∙ is),
+      );
+      sound = tt;
+    }
+
+pub scalar_stops : (bytes : List ℕ) (stop : Stop) → Stops scalar bytes stop → IsJudged (judged_by stop) (Fields 0 0 Scalar) bytes
+scalar_stops bytes Prefix p =
+    (front_short scalar 3 (λ v is. refl) (λ b. Unit {0}) bytes p, record { more = p.more; lacks = p.lacks; completes = (p.value, p.valid, sym p.front) })
+scalar_stops bytes Bad p = λ more t. p.never t.0 [] more t.1 (append-nil (scalar_bytes t.0) ∙ sym t.2)
+scalar_stops bytes NoMemory p = absurd p
+
+-- a title's length
+length_once : (v w : ℕ) → v ≤ LONGEST_TITLE → w ≤ LONGEST_TITLE → to_be_bytes w16 v ≡ to_be_bytes w16 w → v ≡ w
+length_once v w p q e =
+    sym (from_be_bytes-to_be_bytes_2 v (omega (arith, p))) ∙ ap (from_be_bytes w16) e ∙ from_be_bytes-to_be_bytes_2 w (omega (arith, q))
+
+-- a title's text is a title
+title_of_text : (len : ℕ) (bytes : List ℕ) → 0 < len → len ≤ LONGEST_TITLE → (e : IsTitleEnd len bytes) → (title_text len).valid (chars bytes)
+title_of_text len bytes some short e =
+    spelled len bytes e.0 (record { some = omega (arith, some, e.2); short = omega (arith, short, e.2); one_line = e.1 }) e.2
+
+pub length_done : (bytes after : List ℕ) (len : ℕ) → length bytes ≤ 2 → Starts title_length bytes len after → LeavesDue bytes (Fields 0 0 Title) (Fields 0 0 (Text len))
+length_done bytes after len short p = record { rest = λ more. (λ t. text t.0 more t.1 t.2, λ e. title more e); sound = p.valid }
+  where
+    is : bytes ≡ to_be_bytes w16 len
+    is = whole title_length 2 (λ v is. refl) bytes after len short p
+
+    text : (t more : List ℕ) → IsTitle t → bytes ++ more ≡ title_bytes t → IsTitleEnd len more
+    text t more valid e =
+        let both = same_fronts bytes (to_be_bytes w16 (length (encode_utf8_all t))) more (encode_utf8_all t) (ap length is) e in
+        let same : length (encode_utf8_all t) ≡ len = length_once (length (encode_utf8_all t)) len valid.text.short p.valid.1 (sym both.0 ∙ is) in
+        subst (IsTitleEnd len) (sym both.1) (subst (λ n. IsTitleEnd n (encode_utf8_all t)) same (title_end t valid))
+
+    title : (more : List ℕ) → IsTitleEnd len more → IsLast Title (bytes ++ more)
+    title more e =
+        let t = title_of_text len more p.valid.0 p.valid.1 e in
+        (chars more, t.0, ap (λ b. b ++ more) is ∙ (λ i. to_be_bytes w16 (sym t.1 i) ++ sym (encodes-chars more e.0) i))
+
+pub length_stops : (bytes : List ℕ) (stop : Stop) → Stops title_length bytes stop → IsJudged (judged_by stop) (Fields 0 0 Title) bytes
+length_stops bytes Prefix p =
+    let t = title_sample p.value p.valid.0 p.valid.1 in (
+      front_short title_length 2 (λ v is. refl) (λ b. Unit {0}) bytes p,
+      record {
+        more = p.more ++ encode_utf8_all t.0;
+        lacks = omega (arith, p.lacks, length-append p.more (encode_utf8_all t.0));
+        completes = (
+          t.0,
+          t.1,
+          sym (append_assoc bytes p.more (encode_utf8_all t.0)) ∙ ap (λ b. b ++ encode_utf8_all t.0) (sym p.front) ∙ ap (λ n. to_be_bytes w16 n ++ encode_utf8_all t.0) (sym t.2),
+        );
+      },
+    )
+length_stops bytes Bad p = λ more t. p.never (length (encode_utf8_all t.0)) (encode_utf8_all t.0) more (t.1.text.some, t.1.text.short) (sym t.2)
+length_stops bytes NoMemory p = absurd p
+
+-- the text behind characters of it
+text_behind : (len : ℕ) (bytes more : List ℕ) → IsUtf8 bytes → IsTitleEnd len (bytes ++ more) → IsTitleEnd (len - length bytes) more
+text_behind len bytes more utf8 e =
+    let boundary = IsCharBoundary-from_take (bytes ++ more) (length bytes) e.0 (omega (arith, length-append bytes more)) (subst IsUtf8 (sym (take-append_seam bytes more)) utf8) in (
+      subst IsUtf8 (drop-append_seam bytes more) (IsUtf8-drop (bytes ++ more) (length bytes) e.0 boundary),
+      (or_parts (has_line_end bytes) (has_line_end more) (sym (list_any-append ends_line bytes more) ∙ e.1)).1,
+      omega (arith, e.2, length-append bytes more),
+    )
+
+text_before : (len : ℕ) (bytes more : List ℕ) → IsUtf8 bytes → has_line_end bytes ≡ false → length bytes ≤ len → IsTitleEnd (len - length bytes) more → IsTitleEnd len (bytes ++ more)
+text_before len bytes more utf8 one_line short e = (
+  IsUtf8-append bytes more utf8 e.0,
+  list_any-append ends_line bytes more ∙ or_from (has_line_end bytes) (has_line_end more) one_line e.1,
+  omega (arith, e.2, short, length-append bytes more),
+)
+
+-- where no text is due nothing is
+text_is : (len : ℕ) (more : List ℕ) → IsTitleEnd len more ↔ Completes (text_due len) more
+text_is zero more = (λ e. none_long more e.2, λ none. subst (IsTitleEnd 0) (sym none) (IsUtf8-nil, refl, refl))
+text_is (suc len) more = (λ e. e, λ e. e)
+
+sound_text : (len : ℕ) → len ≤ LONGEST_TITLE → IsSound (text_due len)
+sound_text zero short = tt
+sound_text (suc len) short = (omega arith, short)
+
+pub text_done : (bytes : List ℕ) (len : ℕ) → IsUtf8 bytes → has_line_end bytes ≡ false → length bytes ≤ len → len ≤ LONGEST_TITLE
+    → LeavesDue bytes (Fields 0 0 (Text len)) (text_due (len - length bytes))
+text_done bytes len utf8 one_line short most = record {
+  rest = λ more. (
+    λ e. (text_is (len - length bytes) more).0 (text_behind len bytes more utf8 e),
+    λ e. text_before len bytes more utf8 one_line short ((text_is (len - length bytes) more).1 e),
+  );
+  sound = sound_text (len - length bytes) (omega (arith, most));
+}
+
+-- characters of a text, and some of another
+pub text_goes_on : (bytes : List ℕ) (len : ℕ) → length bytes < len → IsFront (title_text len) bytes → (length bytes < len) × IsDueFront (Fields 0 0 (Text len)) bytes
+text_goes_on bytes len short p = (
+  short,
+  record { more = p.more; lacks = p.lacks; completes = subst (IsTitleEnd len) p.front (subst (λ n. IsTitleEnd n (encode_utf8_all p.value)) p.valid.1 (title_end p.value p.valid.0)) },
+)
+
+pub text_fits_none : (bytes : List ℕ) (len : ℕ) → 0 < len → len ≤ LONGEST_TITLE → FitsNone (title_text len) bytes → (more : List ℕ) → IsTitleEnd len (bytes ++ more) → ⊥
+text_fits_none bytes len some short p more e =
+    p.never (chars (bytes ++ more)) [] more (title_of_text len (bytes ++ more) some short e) (append-nil (encode_utf8_all (chars (bytes ++ more))) ∙ encodes-chars (bytes ++ more) e.0)
+
+-- fields one behind the other
+four : (a b c d : List ℕ) → a ++ (b ++ (c ++ d)) ≡ a ++ b ++ c ++ d
+four a b c d = sym (append_assoc (a ++ b) c d ∙ append_assoc a b (c ++ d))
+
+five : (a b c d e : List ℕ) → a ++ (b ++ (c ++ (d ++ e))) ≡ a ++ b ++ c ++ d ++ e
+five a b c d e = sym (append_assoc (a ++ b ++ c) d e ∙ append_assoc (a ++ b) c (d ++ e) ∙ append_assoc a b (c ++ (d ++ e)))
+
+-- the first byte of a frame
+pub section_due : LeavesDue (1 ∷ []) Kind (Fields 1 2 Title)
+section_due = record {
+  rest = λ more. (
+    λ t. fields t.0 more t.1 t.2,
+    λ t. (
+      Section t.2.0 t.3.2.0 t.3.3.2.0 t.3.3.3.0,
+      (t.2.1, t.3.2.1, t.3.3.2.1, t.3.3.3.1),
+      ap (λ b. 1 ∷ b)
+          (t.4 ∙ (λ i. t.2.2 i ++ (t.3.4 ∙ (λ j. t.3.2.2 j ++ (t.3.3.4 ∙ (λ k. t.3.3.2.2 k ++ t.3.3.3.2 k)) j)) i)
+          ∙ four (id_bytes t.2.0) (origin_bytes t.3.2.0) (origin_bytes t.3.3.2.0) (title_bytes t.3.3.3.0)),
+    ),
+  );
+  sound = tt;
+}
+  where
+    fields : (op : Op) (more : List ℕ) → HasFrame op → 1 ∷ more ≡ frame op → Completes (Fields 1 2 Title) more
+    fields (Section id l r t) more has e = (
+      id_bytes id,
+      origin_bytes l ++ (origin_bytes r ++ title_bytes t),
+      (id, has.0, refl),
+      (origin_bytes l, origin_bytes r ++ title_bytes t, (l, has.1, refl), (origin_bytes r, title_bytes t, (r, has.2, refl), (t, has.3, refl), refl), refl),
+      cc e ∙ sym (four (id_bytes id) (origin_bytes l) (origin_bytes r) (title_bytes t)),
+    )
+    fields (TextOp id s l r ch) more has e = absurd (cc e)
+    fields (Delete id) more has e = absurd (cc e)
+
+pub character_due : LeavesDue (2 ∷ []) Kind (Fields 2 2 Scalar)
+character_due = record {
+  rest = λ more. (
+    λ t. fields t.0 more t.1 t.2,
+    λ t. (
+      TextOp t.2.0 t.3.2.0 t.3.3.2.0 t.3.3.3.2.0 t.3.3.3.3.0,
+      (t.2.1, t.3.2.1, t.3.3.2.1, t.3.3.3.2.1, t.3.3.3.3.1),
+      ap (λ b. 2 ∷ b)
+          (t.4 ∙ (λ i. t.2.2 i ++ (t.3.4 ∙ (λ j. t.3.2.2 j ++ (t.3.3.4 ∙ (λ k. t.3.3.2.2 k ++ (t.3.3.3.4 ∙ (λ m. t.3.3.3.2.2 m ++ t.3.3.3.3.2 m)) k)) j)) i)
+          ∙ five (id_bytes t.2.0) (id_bytes t.3.2.0) (origin_bytes t.3.3.2.0) (origin_bytes t.3.3.3.2.0) (scalar_bytes t.3.3.3.3.0)),
+    ),
+  );
+  sound = tt;
+}
+  where
+    fields : (op : Op) (more : List ℕ) → HasFrame op → 2 ∷ more ≡ frame op → Completes (Fields 2 2 Scalar) more
+    fields (Section id l r t) more has e = absurd (cc e)
+    fields (TextOp id s l r ch) more has e = (
+      id_bytes id,
+      id_bytes s ++ (origin_bytes l ++ (origin_bytes r ++ scalar_bytes ch)),
+      (id, has.0, refl),
+      (
+        id_bytes s,
+        origin_bytes l ++ (origin_bytes r ++ scalar_bytes ch),
+        (s, has.1, refl),
+        (origin_bytes l, origin_bytes r ++ scalar_bytes ch, (l, has.2, refl), (origin_bytes r, scalar_bytes ch, (r, has.3, refl), (ch, has.4, refl), refl), refl),
+        refl,
+      ),
+      cc e ∙ sym (five (id_bytes id) (id_bytes s) (origin_bytes l) (origin_bytes r) (scalar_bytes ch)),
+    )
+    fields (Delete id) more has e = absurd (cc e)
+
+pub target_due : LeavesDue (3 ∷ []) Kind (Fields 1 0 Nothing)
+target_due = record {
+  rest = λ more. (
+    λ t. fields t.0 more t.1 t.2,
+    λ t. (Delete t.2.0, t.2.1, ap (λ b. 3 ∷ b) (t.4 ∙ (λ i. t.2.2 i ++ t.3 i) ∙ append-nil (id_bytes t.2.0))),
+  );
+  sound = tt;
+}
+  where
+    fields : (op : Op) (more : List ℕ) → HasFrame op → 3 ∷ more ≡ frame op → Completes (Fields 1 0 Nothing) more
+    fields (Section id l r t) more has e = absurd (cc e)
+    fields (TextOp id s l r ch) more has e = absurd (cc e)
+    fields (Delete id) more has e = (id_bytes id, [], (id, has, refl), refl, cc e ∙ sym (append-nil (id_bytes id)))
+
+-- nothing is due, and bytes came
+pub nothing_due : (last : Last) (bytes : List ℕ) → last ≡ Nothing → 0 < length bytes → (more : List ℕ) → IsLast last (bytes ++ more) → ⊥
+nothing_due Nothing bytes is some more e = omega (arith, some, ap length e, length-append bytes more)
+nothing_due Scalar bytes is some more e = cc is
+nothing_due Title bytes is some more e = cc is
+nothing_due (Text len) bytes is some more e = cc is
+
+-- bytes of a text that has no more
+pub last_none : (bytes : List ℕ) (len : ℕ) → length bytes ≡ len → ¬ (IsUtf8 bytes) → FitsNone (title_text len) bytes
+last_none bytes len long bad = not_text len bytes (omega (arith, long)) (λ u. bad (subst IsUtf8 (take_all len bytes (omega (arith, long))) u))
+
+pub some_text : (len : ℕ) → (len ≡ 0 → ⊥) → Fields 0 0 (Text len) ≡ text_due len
+some_text zero some = absurd (some refl)
+some_text (suc len) some = refl
+
+-- what the bytes are behind a field, and in it
+module _ (due : Due) (before : List ℕ) (rest : (more : List ℕ) → IsFrameOf (before ++ more) ↔ Completes due more) where
+  pub is_front : (bytes : List ℕ) → IsDueFront due bytes → IsPartial (before ++ bytes)
+  is_front bytes p =
+      let f = (rest (bytes ++ p.more)).1 p.completes in
+      record { framed = record { bytes = before ++ (bytes ++ p.more); ops = f.0 }; is_frame = f.1; more = p.more; lacks = p.lacks; front = sym (append_assoc before bytes p.more) }
+
+  pub is_neither : (bytes : List ℕ) → ((more : List ℕ) → Completes due (bytes ++ more) → ⊥) → IsGrown IsNeither (before ++ bytes)
+  is_neither bytes none = (
+    λ f. none [] ((rest (bytes ++ [])).0 (subst IsFrameOf (sym (ap (λ b. before ++ b) (append-nil bytes))) f)),
+    λ p. none p.more ((rest (bytes ++ p.more)).0 (p.framed.ops, subst (λ b. IsFrame (record { bytes = b; ops = p.framed.ops })) (p.front ∙ append_assoc before bytes p.more) p.is_frame)),
+  )
+
+  pub is_grown : (grown : Grown) → grown ≡ grown_by due → IsSound due → IsGrown grown before
+  is_grown IsWhole e s = subst IsFrameOf (append-nil before) ((rest []).1 (whole_completes due (sym e)))
+  is_grown IsFrontGrown e s = let p = sample due s in subst IsPartial (append-nil before) (is_front [] (record { more = p.bytes; lacks = p.some (sym e); completes = p.completes }))
+  is_grown IsNeither e s = absurd (never_bad due (sym e))
+
+-- no frame is longer than a Section with both origins and a title of 480 bytes
+origin_short : (origin : Option Identifier) → length (origin_bytes origin) ≤ 9
+origin_short None = omega arith
+origin_short (Some id) = omega arith
+
+frame_short : (op : Op) → HasFrame op → length (frame op) ≤ LONGEST_FRAME
+frame_short (Section id l r t) has =
+    omega (
+      arith,
+      origin_short l,
+      origin_short r,
+      has.3.text.short,
+      length-append (id_bytes id ++ origin_bytes l ++ origin_bytes r) (title_bytes t),
+      length-append (id_bytes id ++ origin_bytes l) (origin_bytes r),
+      length-append (id_bytes id) (origin_bytes l),
+    )
+frame_short (TextOp id s l r ch) has =
+    omega (
+      arith,
+      origin_short l,
+      origin_short r,
+      length-append (id_bytes id ++ id_bytes s ++ origin_bytes l ++ origin_bytes r) (scalar_bytes ch),
+      length-append (id_bytes id ++ id_bytes s ++ origin_bytes l) (origin_bytes r),
+      length-append (id_bytes id ++ id_bytes s) (origin_bytes l),
+    )
+frame_short (Delete id) has = omega arith
+
+pub too_long : (bytes : List ℕ) → LONGEST_FRAME < length bytes → IsGrown IsNeither bytes
+too_long bytes long = (
+  λ f. omega (arith, long, frame_short f.1.op f.1.has_frame, ap length f.1.bytes_are),
+  λ p. omega (arith, long, frame_short p.is_frame.op p.is_frame.has_frame, ap length p.is_frame.bytes_are, ap length p.front, length-append bytes p.more),
+)
+
+-- nothing came
+pub awaits_all : Awaits Kind [] 0
+awaits_all = record {
+  rest = λ more. (λ f. (f.1.op, f.1.has_frame, f.1.bytes_are), λ t. (t.0 ∷ [], record { op = t.0; has_frame = t.1; bytes_are = t.2; ops_are = refl }));
+  short = omega arith;
+  sound = tt;
+}
+
+size_some : (due : Due) → IsSound due → 0 < field_size due
+size_some Kind s = omega arith
+size_some (Fields (suc i) o last) s = omega arith
+size_some (Fields zero (suc o) last) s = omega arith
+size_some (Fields zero zero Nothing) s = omega arith
+size_some (Fields zero zero Scalar) s = omega arith
+size_some (Fields zero zero Title) s = omega arith
+size_some (Fields zero zero (Text len)) s = s.0
+
+-- behind a whole field the next is due
+pub awaits_next : (due next : Due) (before bytes all : List ℕ) (came none : ℕ) → Awaits due before came → LeavesDue bytes due next → before ++ bytes ≡ all → none ≡ 0 → Awaits next all none
+awaits_next due next before bytes all came none a p is at =
+    let regroup : (more : List ℕ) → before ++ (bytes ++ more) ≡ all ++ more = λ more. sym (append_assoc before bytes more) ∙ ap (λ b. b ++ more) is in
+    record {
+      rest = λ more. (
+        λ f. (p.rest more).0 ((a.rest (bytes ++ more)).0 (subst IsFrameOf (sym (regroup more)) f)),
+        λ t. subst IsFrameOf (regroup more) ((a.rest (bytes ++ more)).1 ((p.rest more).1 t)),
+      );
+      short = omega (arith, at, size_some next p.sound);
+      sound = p.sound;
+    }
+
+-- the bytes of the field, with the one that came, stand behind those before it
+pub with_field : (bytes : List ℕ) (len field byte : ℕ) → field ≤ len → len < length bytes → take field bytes ++ take (len + 1 - field) (drop field (set bytes len byte)) ≡ take len bytes ++ byte ∷ []
+with_field bytes len field byte p q =
+    let all : field + (len + 1 - field) ≡ len + 1 = omega (arith, p) in
+    ap (λ t. t ++ take (len + 1 - field) (drop field (set bytes len byte))) (sym (take-set-le field bytes len byte p)) ∙ sym (take-add field (len + 1 - field) (set bytes len byte))
+    ∙ ap (λ n. take n (set bytes len byte)) all ∙ take_more_set bytes len byte q

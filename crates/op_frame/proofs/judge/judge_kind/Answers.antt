@@ -1,0 +1,11 @@
+use Rattle.op_frame.proofs.FrameFrontLemmas.{character_due, section_due, target_due}
+use Rattle.op_frame.proofs.judge.judge_kind.Goals as goal
+
+pub returns-in-1 : goal.returns-in-1
+returns-in-1 c = rw c.in-1.is section_due
+
+pub returns-in-2 : goal.returns-in-2
+returns-in-2 c = rw c.in-2.is character_due
+
+pub returns-in-3 : goal.returns-in-3
+returns-in-3 c = rw c.in-3.is target_due

@@ -1,0 +1,121 @@
+-- What a frame still lacks behind some of its bytes.
+use Rattle.std.specs.Prelude.{◌≡◌, ◌↔◌, ℕ, zero, suc, ◌<◌, ◌≤◌, List, [], ◌∷◌, ◌++◌, length, false, Option}
+use Rattle.std.specs.Char.{IsScalar}
+use Rattle.std.specs.Str.{IsUtf8}
+use Rattle.fugue_ids.specs.Identifiers.{Identifier}
+use Rattle.fugue_ids.specs.Titles.{has_line_end}
+use Rattle.fugue_ids.specs.declared.limits.TheConstants.{LONGEST_TITLE}
+use Rattle.fugue_ids.specs.declared.op.Op.{Op}
+use Rattle.origin_model.specs.frames.Frames.{frame, id_bytes, origin_bytes, scalar_bytes, title_bytes, HasFrame, IsFrame, IsIdentifier, IsOrigin, IsPartial, IsTitle}
+use Rattle.op_frame.specs.declared.due.Due.{Due}
+use Rattle.op_frame.specs.declared.due.Due.TheVariants.{Kind, Fields}
+use Rattle.op_frame.specs.declared.due.Judged.{Judged}
+use Rattle.op_frame.specs.declared.due.Judged.TheVariants.{Done, Front, Bad}
+use Rattle.op_frame.specs.declared.due.Last.{Last}
+use Rattle.op_frame.specs.declared.due.Last.TheVariants.{Nothing, Scalar, Title, Text}
+use Rattle.op_frame.specs.declared.stop.Stop.{Stop}
+use Rattle.op_frame.specs.declared.stop.Stop.TheVariants.{Prefix}
+use Rattle.op_frame.specs.declared.grown.Grown.{Grown}
+use Rattle.op_frame.specs.declared.grown.Grown.TheVariants.{Frame as IsWhole, Front as IsFront, Bad as IsNeither}
+
+-- the bytes are a frame
+abbrev pub IsFrameOf : List ℕ → Type 0
+IsFrameOf bytes = (ops : List Op) × IsFrame (record { bytes = bytes; ops = ops })
+
+-- what the bytes are: a frame, a proper front of one, or neither
+abbrev pub IsGrown : Grown → List ℕ → Type 0
+IsGrown IsWhole bytes = IsFrameOf bytes
+IsGrown IsFront bytes = IsPartial bytes
+IsGrown IsNeither bytes = (IsFrameOf bytes → ⊥) × (IsPartial bytes → ⊥)
+
+-- the bytes are those of a field, and then of what follows it
+abbrev pub Then : (List ℕ → Type 0) → (List ℕ → Type 0) → List ℕ → Type 0
+Then Field Rest bytes = (field rest : List ℕ) × Field field × Rest rest × (bytes ≡ field ++ rest)
+
+abbrev pub IsIdentifierBytes : List ℕ → Type 0
+IsIdentifierBytes bytes = (id : Identifier) × IsIdentifier id × (bytes ≡ id_bytes id)
+
+abbrev pub IsOriginBytes : List ℕ → Type 0
+IsOriginBytes bytes = (origin : Option Identifier) × IsOrigin origin × (bytes ≡ origin_bytes origin)
+
+-- the text of a title, from one of its characters on
+abbrev pub IsTitleEnd : ℕ → List ℕ → Type 0
+IsTitleEnd len bytes = IsUtf8 bytes × (has_line_end bytes ≡ false) × (length bytes ≡ len)
+
+-- the bytes of the last field
+abbrev pub IsLast : Last → List ℕ → Type 0
+IsLast Nothing bytes = bytes ≡ []
+IsLast Scalar bytes = (ch : ℕ) × IsScalar ch × (bytes ≡ scalar_bytes ch)
+IsLast Title bytes = (title : List ℕ) × IsTitle title × (bytes ≡ title_bytes title)
+IsLast (Text len) bytes = IsTitleEnd len bytes
+
+-- so many fields of one kind, and then what follows them
+abbrev pub Several : ℕ → (List ℕ → Type 0) → (List ℕ → Type 0) → List ℕ → Type 0
+Several zero Field Rest = Rest
+Several (suc n) Field Rest = Then Field (Several n Field Rest)
+
+-- the bytes are what is due
+abbrev pub Completes : Due → List ℕ → Type 0
+Completes Kind bytes = (op : Op) × HasFrame op × (bytes ≡ frame op)
+Completes (Fields identifiers origins last) bytes = Several identifiers IsIdentifierBytes (Several origins IsOriginBytes (IsLast last)) bytes
+
+-- a title's text that is due is not empty, and not too long
+abbrev pub IsSound : Due → Type 0
+IsSound (Fields identifiers origins (Text len)) = (0 < len) × (len ≤ LONGEST_TITLE)
+IsSound due = Unit {0}
+
+-- how many bytes the field has that is due, or its first part
+abbrev pub last_size : Last → ℕ
+last_size Nothing = 1
+last_size Scalar = 3
+last_size Title = 2
+last_size (Text len) = len
+
+abbrev pub field_size : Due → ℕ
+field_size Kind = 1
+field_size (Fields (suc identifiers) origins last) = 8
+field_size (Fields zero (suc origins) last) = 1
+field_size (Fields zero zero last) = last_size last
+
+-- what is due behind some bytes of what was due
+pub record LeavesDue (bytes : List ℕ) (due next : Due) : Type 0 where
+  pub rest : (more : List ℕ) → Completes due (bytes ++ more) ↔ Completes next more
+  pub sound : IsSound next
+
+-- some more bytes are what is due
+pub record IsDueFront (due : Due) (bytes : List ℕ) : Type 0 where
+  pub more : List ℕ
+  pub lacks : 0 < length more
+  pub completes : Completes due (bytes ++ more)
+
+-- what the bytes of a field are: all of it, some of it, or none
+abbrev pub IsJudged : Judged → Due → List ℕ → Type 0
+IsJudged (Done next) due bytes = LeavesDue bytes due next
+IsJudged Front due bytes = (length bytes < field_size due) × IsDueFront due bytes
+IsJudged Bad due bytes = (more : List ℕ) → Completes due (bytes ++ more) → ⊥
+
+-- a text of so many bytes, or nothing
+abbrev pub text_due : ℕ → Due
+text_due zero = Fields 0 0 Nothing
+text_due (suc len) = Fields 0 0 (Text (suc len))
+
+-- bytes that are not all of a field, by what stops the reading of it
+abbrev pub judged_by : Stop → Judged
+judged_by Prefix = Front
+judged_by stop = Bad
+
+-- behind these bytes, and so many of the field that is due, this makes a frame
+pub record Awaits (due : Due) (before : List ℕ) (came : ℕ) : Type 0 where
+  pub rest : (more : List ℕ) → IsFrameOf (before ++ more) ↔ Completes due more
+  pub short : came < field_size due
+  pub sound : IsSound due
+
+-- nothing is due behind a frame
+abbrev pub grown_by : Due → Grown
+grown_by (Fields zero zero Nothing) = IsWhole
+grown_by due = IsFront
+
+-- the bytes, with one more unless it is none of a frame's
+abbrev pub grown_to : Grown → List ℕ → ℕ → List ℕ
+grown_to IsNeither bytes byte = bytes
+grown_to grown bytes byte = bytes ++ byte ∷ []

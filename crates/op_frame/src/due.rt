@@ -1,0 +1,27 @@
+/// What a frame still lacks: all of it, or so many identifiers, then so many origins, and then its last field.
+#[derive(Clone, Copy, Debug, PartialEq, Eq)]
+pub(crate) enum Due {
+    Kind,
+    Fields(u8, u8, Last),
+}
+
+/// What a frame ends with.
+#[derive(Clone, Copy, Debug, PartialEq, Eq)]
+pub(crate) enum Last {
+    Nothing,
+    Scalar,
+    Title,
+    /// The text of a title, of which so many bytes are due.
+    Text(usize),
+}
+
+/// What some bytes of the field are that is due.
+#[derive(Clone, Copy, Debug, PartialEq, Eq)]
+pub(crate) enum Judged {
+    /// All of it, and this is due behind it.
+    Done(Due),
+    /// Some of it.
+    Front,
+    /// No such field begins with them.
+    Bad,
+}

@@ -1,0 +1,110 @@
+ghost use Rattle.std.specs.Prelude.{◌≡◌, ◌∷◌, ◌++◌, []};
+ghost use Rattle.op_frame.specs.FrameFronts.{IsGrown, grown_by as by_due, grown_to};
+
+use crate::due::{Due, Judged, Last};
+use crate::grown::Grown;
+use crate::judge::judge;
+use std::marker::Model;
+
+/// The bytes of the longest frame: a Section with both origins and a title of 480 bytes.
+pub const LONGEST_FRAME: usize = 509;
+
+/// The first bytes of a frame, as they come one by one. It is seen as these bytes, and takes no memory.
+///
+/// Each byte costs a look at the field that it belongs to, and no look at what came before.
+#[derive(Drop)]
+pub struct FrameFront {
+    bytes: [u8; LONGEST_FRAME],
+    len: usize,
+    /// Where the field begins that is being read.
+    field: usize,
+    due: Due,
+}
+
+impl Model for FrameFront {
+    ghost use Rattle.std.specs.Prelude.{◌-◌, ◌≤◌, List, drop, take, ℕ};
+    ghost use Rattle.op_frame.specs.FrameFronts.{Awaits};
+    ghost use Rattle.op_frame.specs.declared.frame_front.TheConstants.{LONGEST_FRAME};
+
+    ghost Value = { List ℕ };
+
+    ghost view = { λ f. take f.len f.bytes };
+
+    ghost invariant = { λ f. (f.field ≤ f.len) × (f.len ≤ LONGEST_FRAME) × Awaits f.due (take f.field f.bytes) (f.len - f.field) };
+}
+
+impl FrameFront {
+    /// Nothing came yet.
+    pub fn new() -> FrameFront
+        ensures { result ≡ [] }
+    {
+        FrameFront {
+            bytes: [0; LONGEST_FRAME],
+            len: 0,
+            field: 0,
+            due: Due::Kind,
+        }
+    }
+
+    pub fn as_slice(&self) -> &[u8]
+        ensures { result.now ≡ self.now }
+    {
+        &self.bytes[..self.len]
+    }
+
+    /// The same bytes once more.
+    pub fn copied(&self) -> FrameFront
+        ensures { result ≡ self.now }
+    {
+        FrameFront {
+            bytes: self.bytes,
+            len: self.len,
+            field: self.field,
+            due: self.due,
+        }
+    }
+
+    /// Nothing came yet, as at first.
+    pub fn clear(&mut self)
+        ensures { self.new ≡ [] }
+    {
+        self.len = 0;
+        self.field = 0;
+        self.due = Due::Kind;
+    }
+
+    /// One byte more, unless no frame begins with the bytes then.
+    pub fn push(&mut self, byte: u8) -> Grown
+        ensures is { IsGrown result (self.old ++ byte ∷ []) }
+        ensures bytes { self.new ≡ grown_to result self.old byte }
+    {
+        if self.len == LONGEST_FRAME {
+            return Grown::Bad;
+        }
+        self.bytes[self.len] = byte;
+        let end = self.len + 1;
+        match judge(self.due, &self.bytes[self.field..end]) {
+            Judged::Done(due) => {
+                self.len = end;
+                self.field = end;
+                self.due = due;
+                grown_by(due)
+            }
+            Judged::Front => {
+                self.len = end;
+                Grown::Front
+            }
+            Judged::Bad => Grown::Bad,
+        }
+    }
+}
+
+/// What bytes are behind which this is due.
+fn grown_by(due: Due) -> Grown
+    ensures { result ≡ by_due due }
+{
+    match due {
+        Due::Fields(0, 0, Last::Nothing) => Grown::Frame,
+        _ => Grown::Front,
+    }
+}

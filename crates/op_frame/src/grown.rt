@@ -1,0 +1,10 @@
+/// What bytes are with one more behind them.
+#[derive(Clone, Copy, Debug, PartialEq, Eq)]
+pub enum Grown {
+    /// A frame.
+    Frame,
+    /// A proper front of some frame.
+    Front,
+    /// Neither, and no frame begins with them.
+    Bad,
+}
