@@ -6,7 +6,11 @@ mod any_order;
 #[cfg(test)]
 mod beside;
 #[cfg(test)]
+mod edits;
+#[cfg(test)]
 mod lines;
+#[cfg(test)]
+mod made;
 #[cfg(test)]
 mod manuscripts;
 #[cfg(test)]
@@ -17,3 +21,5 @@ mod pools;
 mod replicas;
 #[cfg(test)]
 mod rows;
+#[cfg(test)]
+mod turns;

@@ -11,7 +11,7 @@ use std::process::Abort;
 use std::test::Fail;
 
 /// Sections, texts with origins of editors and others, Deletes, and what is refused or waits for good.
-const POOL: &[Line] = &[
+pub const POOL: &[Line] = &[
     Section(SECTION, NONE, NONE, "T"),
     Section((9, 1), SECTION, NONE, "T"),
     Text((1, 0), SECTION, NONE, NONE, 'a'),
@@ -50,7 +50,7 @@ fn step_beside(
     Ok(())
 }
 
-fn is_beside(alloc: Global, replica: &Replica, plain: &Plain) -> Result<bool, Fail> {
+pub fn is_beside(alloc: Global, replica: &Replica, plain: &Plain) -> Result<bool, Fail> {
     let mut printed = MemSink::new(alloc, 100, Vec::new(alloc));
     let mut wanted = MemSink::new(alloc, 100, Vec::new(alloc));
     replica.write_manuscript(&mut printed)?;
@@ -63,7 +63,7 @@ fn is_beside(alloc: Global, replica: &Replica, plain: &Plain) -> Result<bool, Fa
 }
 
 /// Feeds the pool to both, each operation `step` behind the one before, and compares them after each.
-fn keep_beside(
+pub fn keep_beside(
     rt: &impl Abort,
     alloc: Global,
     replica: &mut Replica,

@@ -1,11 +1,15 @@
 pub mod CountLemmas
 pub mod DecisionLemmas
 pub mod EarliestLemmas
+pub mod EditLemmas
 pub mod FeedLemmas
 pub mod GreatestLemmas
 pub mod IndexLemmas
+pub mod JoinLemmas
+pub mod LookUpLemmas
 pub mod ManuscriptLemmas
 pub mod MarkLemmas
+pub mod PlanLemmas
 pub mod PositionLemmas
 pub mod StandingLemmas
 pub mod StepLemmas

@@ -4,3 +4,5 @@ pub mod Settling
 pub mod Decision
 pub mod Told
 pub mod Index
+pub mod Keeping
+pub mod Edits

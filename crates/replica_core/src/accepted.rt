@@ -1,18 +1,21 @@
-ghost use Rattle.std.specs.Prelude.{◌≡◌, ◌<◌, ◌∷◌, [], length, IfErr, OnErr, OnOk};
+ghost use Rattle.std.specs.Prelude.{◌≡◌, ◌<◌, ◌∷◌, [], length, option_map, slice_get, IfErr, IfSome, OnErr, OnOk};
 ghost use Rattle.fugue_ids.specs.Outs.{WritesText};
-ghost use Rattle.origin_model.specs.operations.History.{accepted as accepted_list};
+ghost use Rattle.origin_model.specs.operations.History.{accepted as accepted_list, holds as holds_on};
 ghost use Rattle.origin_model.specs.operations.Counters.{counters, IsGreatest};
-ghost use Rattle.origin_model.specs.order.Printed.{manuscript as manuscript_on};
+ghost use Rattle.origin_model.specs.order.Printed.{manuscript as manuscript_on, shown};
 ghost use Rattle.origin_model.specs.operations.Verdict.{verdict as verdict_on, Lawful};
+ghost use Rattle.origin_model.specs.declared.operations.place.Place.TheVariants.{Catalogue as catalogue};
 ghost use Rattle.origin_model.specs.declared.operations.verdict.Verdict.TheVariants.{Ready};
 ghost use Rattle.section_catalogue.specs.Contents.{place_count};
-ghost use Rattle.section_catalogue.specs.Manuscript.{Grows, IsReadyOn, StandsFor, Stays};
+ghost use Rattle.section_catalogue.specs.Manuscript.{Grows, IsPlaceOf, IsReadyOn, IsTextOf, StandsFor, Stays};
 
 use crate::history::History;
-use fugue_ids::{Failed, MOST_OPERATIONS, NoMemory, Op};
-use origin_model::{NoMemoryFor, Verdict, verdict_in};
+use crate::shown_section::ShownSection;
+use fugue_ids::{ElementId, Failed, MOST_OPERATIONS, NoMemory, Op};
+use origin_model::{Lookup, NoMemoryFor, Verdict, verdict_in};
 use outer_ports::Sink;
 use section_catalogue::Manuscript;
+use section_list::SectionList;
 use std::alloc::Global;
 use std::marker::Model;
 
@@ -71,6 +74,39 @@ impl Accepted {
         ensures { result ≡ verdict_on self.now op.now }
     {
         verdict_in(&self.history, op)
+    }
+
+    /// Whether an accepted operation has the identifier.
+    pub fn holds(&self, id: ElementId) -> bool
+        ensures { result ≡ holds_on self.now id }
+    {
+        self.history.holder(id).is_some()
+    }
+
+    /// How many sections are shown.
+    pub fn section_count(&self) -> usize
+        ensures { result ≡ length (shown catalogue self.now) }
+    {
+        self.manuscript.section_count()
+    }
+
+    /// The sections, hidden ones too.
+    pub fn catalogue(&self) -> &SectionList
+        ensures { IsPlaceOf catalogue self.now result.now }
+    {
+        self.manuscript.catalogue()
+    }
+
+    /// The section with k shown ones before it that is shown itself.
+    pub fn section(&self, k: usize) -> Option<ShownSection<'_>>
+        ensures id { option_map (λ s. s.id) result ≡ slice_get (shown catalogue self.now) k }
+        ensures text { IfSome result (λ s. IsTextOf s.id self.now s.text.now) }
+    {
+        let Some(id) = self.manuscript.section_at(k) else {
+            return None;
+        };
+        let text = self.manuscript.section(id).unwrap();
+        Some(ShownSection { id, text })
     }
 
     /// Takes in an operation that is Ready.

@@ -1,4 +1,4 @@
-ghost use Rattle.std.specs.Prelude.{◌≡◌, ◌<◌, ◌≤◌, ◌↔◌, ◌+◌, ◌-◌, ◌^◌, ◌++◌, ◌∷◌, [], false, if◌then◌else◌, length, position as first_position, set as with_mark, remove as without, OnOk, OnErr, IsTrue, All};
+ghost use Rattle.std.specs.Prelude.{◌≡◌, ◌<◌, ◌≤◌, ◌↔◌, ◌+◌, ◌-◌, ◌^◌, ◌++◌, ◌∷◌, [], false, if◌then◌else◌, length, position as first_position, set as with_mark, remove, OnOk, OnErr, IsTrue, All};
 
 use fugue_ids::NoMemory;
 use std::alloc::Global;
@@ -71,7 +71,7 @@ impl Due {
     /// One mark less. Those behind it close up.
     pub fn remove(&mut self, position: usize)
         requires { position < length self.old }
-        ensures { self.new ≡ without self.old position }
+        ensures { self.new ≡ remove self.old position }
     {
         let before = self.marks.remove(position);
         self.count = changed(self.count, before, false);

@@ -21,3 +21,14 @@ impl fmt::Display for FeedFault {
 }
 
 impl Error for FeedFault {}
+
+impl From<NoMemory> for FeedFault {
+    ghost use Rattle.std.specs.Prelude.{◌≡◌};
+    ghost use Rattle.replica_core.specs.declared.feed_fault.FeedFault.TheVariants.{NoMemory as NoMemoryFound};
+
+    ghost from_gives = { λ _ fault. fault ≡ NoMemoryFound };
+
+    fn from(_: NoMemory) -> FeedFault {
+        FeedFault::NoMemory
+    }
+}

@@ -1,4 +1,4 @@
-ghost use Rattle.std.specs.Prelude.{◌≡◌, ◌≢◌, ◌↔◌, ◌<◌, ◌≤◌, ◌+◌, ◌-◌, ◌^◌, ◌==◌, length, IsTrue, IfOk, OnOk, OnErr, IfErr, All};
+ghost use Rattle.std.specs.Prelude.{◌≡◌, ◌≢◌, ◌↔◌, ◌<◌, ◌≤◌, ◌+◌, ◌-◌, ◌^◌, ◌==◌, ◌∷◌, [], length, IsTrue, IfOk, OnOk, OnErr, IfErr, All};
 ghost use Rattle.fugue_ids.specs.Outs.{WritesText};
 ghost use Rattle.origin_model.specs.operations.History.{accepted as accepted_list};
 ghost use Rattle.origin_model.specs.operations.Verdict.{verdict as verdict_on};
@@ -6,6 +6,7 @@ ghost use Rattle.origin_model.specs.order.Printed.{manuscript};
 ghost use Rattle.origin_model.specs.taking.Taking.{nothing, answer, taken, TooMany, intake, settling_counted, intake_counted, is_kept, IsSettled};
 ghost use Rattle.origin_model.specs.operations.Counters.{counters, IsGreatest};
 ghost use Rattle.replica_core.specs.State.{all_ops, IsOpen, IsOutside, IsWithin, Stands};
+ghost use Rattle.replica_core.specs.Edits.{CanJoin, held_count, with_ops};
 ghost use Rattle.replica_core.specs.Decision.{answer_by_decision};
 ghost use Rattle.replica_core.specs.Settling.{Reaches};
 ghost use Rattle.replica_core.specs.Told.{Answers, Settles, StaysBelow, total, Leaves, IsCounted};
@@ -26,11 +27,11 @@ use std::marker::Model;
 /// One author's replica of the manuscript: the accepted operations, and those that wait for others.
 #[derive(Drop)]
 pub struct Replica {
-    alloc: Global,
+    pub(crate) alloc: Global,
     number: u32,
     hold: u32,
     most: u32,
-    accepted: Accepted,
+    pub(crate) accepted: Accepted,
     inbox: Inbox,
     due: Due,
 }
@@ -156,6 +157,28 @@ impl Replica {
             self.accepted.greatest(self.number),
             self.inbox.greatest(self.number),
         )
+    }
+
+    /// How many operations more may be accepted or wait.
+    pub(crate) fn room(&self) -> usize
+        ensures room { result + held_count self.now ≡ self.now.most }
+        ensures stands { Stands self.now }
+    {
+        self.most as usize - self.accepted.ops().len() - self.inbox.ops().len()
+    }
+
+    /// Accepts an operation that an edit makes. Nothing that waits is decided by it, so the marks stay.
+    pub(crate) fn join(&mut self, op: Op) -> Result<(), NoMemory>
+        requires { CanJoin self.old (op ∷ []) }
+        ensures ok { OnOk result (self.new ≡ with_ops self.old (op ∷ [])) }
+        ensures err { OnErr result (self.new ≡ self.old) }
+        ensures settled { IsSettled self.new.held }
+        ensures stands { Stands self.new }
+    {
+        let Ok(()) = self.accepted.accept(op) else {
+            return Err(NoMemory);
+        };
+        Ok(())
     }
 
     fn decision_on(&self, op: &Op) -> Decision

@@ -1,6 +1,6 @@
 //! What a change of the accepted or of the waiting operations does to the marks.
 
-ghost use Rattle.std.specs.Prelude.{◌≡◌, ◌≢◌, ◌<◌, ◌≤◌, ◌↔◌, ◌++◌, ◌∷◌, [], Some, false, drop, length, remove as without, slice_get, AllPairs, OnOk, OnErr, IfErr};
+ghost use Rattle.std.specs.Prelude.{◌≡◌, ◌≢◌, ◌<◌, ◌≤◌, ◌↔◌, ◌++◌, ◌∷◌, [], Some, false, drop, length, remove, slice_get, AllPairs, OnOk, OnErr, IfErr};
 ghost use Rattle.origin_model.specs.taking.Taking.{is_decided};
 ghost use Rattle.causal_inbox.specs.Faults.{refused};
 ghost use Rattle.replica_core.specs.State.{HaveOtherIds};
@@ -73,8 +73,8 @@ pub(crate) fn leave(inbox: &mut Inbox, due: &mut Due, position: usize) -> Op
     requires within { position < length inbox.old.ops }
     requires marks { length due.old ≡ length inbox.old.ops }
     ensures op { slice_get inbox.old.ops position ≡ Some result }
-    ensures rest { inbox.new ≡ record inbox.old { ops = without inbox.old.ops position } }
-    ensures mark { due.new ≡ without due.old position }
+    ensures rest { inbox.new ≡ record inbox.old { ops = remove inbox.old.ops position } }
+    ensures mark { due.new ≡ remove due.old position }
 {
     due.remove(position);
     inbox.remove(position)

@@ -1,0 +1,236 @@
+//! What an edit makes, beside a plain program of the definitions.
+
+use crate::edits::Edit::{self, Add, Cut, Drop, Put};
+use crate::edits::make;
+use crate::plain::Plain;
+use crate::pools::{POOL, is_beside, keep_beside};
+use fugue_ids::{ElementId, Op, Title};
+use origin_model::{Place, mentioned_by};
+use replica_core::Replica;
+use std::alloc::Global;
+use std::process::Abort;
+use std::test::Fail;
+
+/// The replica that edits. The pool has operations of it too.
+const NUMBER: u32 = 1;
+
+/// A new element: its identifier and its origins.
+#[derive(Clone, Copy)]
+struct Spot {
+    id: ElementId,
+    left: Option<ElementId>,
+    right: Option<ElementId>,
+}
+
+impl Spot {
+    /// The text at the spot. The next one comes behind it.
+    fn text(&mut self, section: &ElementId, ch: char) -> Op {
+        let op = Op::Text {
+            id: self.id,
+            section: *section,
+            left: self.left,
+            right: self.right,
+            ch,
+        };
+        self.left = Some(self.id);
+        self.id.counter = self.id.counter.saturating_add(1);
+        op
+    }
+}
+
+/// The counter, or one more than the greatest one of the replica's that the operation mentions.
+fn raised(counter: u32, op: &Op) -> u32 {
+    let mut next = counter;
+    for id in mentioned_by(op) {
+        if let Some(id) = id {
+            if id.replica == NUMBER {
+                next = next.max(id.counter.saturating_add(1));
+            }
+        }
+    }
+    next
+}
+
+fn next_counter(plain: &Plain) -> u32 {
+    let mut next = 0;
+    for op in plain.accepted.ops() {
+        next = raised(next, op);
+    }
+    for op in &plain.waiting {
+        next = raised(next, op);
+    }
+    next
+}
+
+/// The element in front of the position.
+fn in_front(elements: &[ElementId], at: usize) -> Option<ElementId> {
+    match at.checked_sub(1) {
+        Some(last) => elements.get(last).copied(),
+        None => None,
+    }
+}
+
+/// Behind which of all elements the left one stands: none for the start.
+fn count_up_to(elements: &[ElementId], left: &Option<ElementId>) -> usize {
+    match left {
+        Some(left) => match elements.iter().position(|id| *id == *left) {
+            Some(position) => position.saturating_add(1),
+            None => elements.len(),
+        },
+        None => 0,
+    }
+}
+
+/// Where an element comes in: behind the shown element in front of the position, before the next one of all.
+fn spot_at(rt: &impl Abort, plain: &Plain, place: &Place, at: usize) -> Result<Spot, Fail> {
+    let shown = plain.accepted.shown(*place)?;
+    let all = plain.accepted.elements(*place)?;
+    let left = in_front(&shown, at);
+    let right = all.get(count_up_to(&all, &left)).copied();
+    let id = ElementId::new(NUMBER, next_counter(plain)).expect(rt, "a replica");
+    Ok(Spot { id, left, right })
+}
+
+fn section_at(rt: &impl Abort, plain: &Plain, section: usize) -> Result<ElementId, Fail> {
+    let shown = plain.accepted.shown(Place::Catalogue)?;
+    Ok(shown.get(section).copied().expect(rt, "a section"))
+}
+
+fn texts(
+    rt: &impl Abort,
+    alloc: Global,
+    plain: &Plain,
+    section: usize,
+    at: usize,
+    text: &str,
+) -> Result<Vec<Op>, Fail> {
+    let section = section_at(rt, plain, section)?;
+    let mut spot = spot_at(rt, plain, &Place::Section(section), at)?;
+    let mut made = Vec::new(alloc);
+    for ch in text.chars() {
+        made.push(spot.text(&section, ch))?;
+    }
+    Ok(made)
+}
+
+fn deletes(
+    rt: &impl Abort,
+    alloc: Global,
+    plain: &Plain,
+    section: usize,
+    at: usize,
+    n: usize,
+) -> Result<Vec<Op>, Fail> {
+    let section = section_at(rt, plain, section)?;
+    let mut made = Vec::new(alloc);
+    for target in plain
+        .accepted
+        .shown(Place::Section(section))?
+        .iter()
+        .skip(at)
+        .take(n)
+    {
+        made.push(Op::Delete { target: *target })?;
+    }
+    Ok(made)
+}
+
+fn new_section(
+    rt: &impl Abort,
+    alloc: Global,
+    plain: &Plain,
+    at: usize,
+    title: &str,
+) -> Result<Op, Fail> {
+    let spot = spot_at(rt, plain, &Place::Catalogue, at)?;
+    Ok(Op::Section {
+        id: spot.id,
+        left: spot.left,
+        right: spot.right,
+        title: Title::read(alloc, title)?,
+    })
+}
+
+/// The operations of an edit that is not refused.
+fn made_of(rt: &impl Abort, alloc: Global, plain: &Plain, edit: Edit) -> Result<Vec<Op>, Fail> {
+    match edit {
+        Put(section, at, text) => texts(rt, alloc, plain, section, at, text),
+        Cut(section, at, n) => deletes(rt, alloc, plain, section, at, n),
+        Add(at, title) => Ok(vec![in alloc; new_section(rt, alloc, plain, at, title)?]?),
+        Drop(section) => Ok(vec![in alloc;
+            Op::Delete {
+                target: section_at(rt, plain, section)?
+            },
+        ]?),
+    }
+}
+
+fn take_all(plain: &mut Plain, ops: Vec<Op>) -> Result<(), Fail> {
+    for op in ops {
+        plain.take_in(op)?;
+    }
+    Ok(())
+}
+
+/// One edit at both, which then are the same.
+fn edit_beside(
+    rt: &impl Abort,
+    alloc: Global,
+    replica: &mut Replica,
+    plain: &mut Plain,
+    edit: Edit,
+) -> Result<(), Fail> {
+    if let Ok(count) = make(rt, alloc, replica, edit)? {
+        let ops = made_of(rt, alloc, plain, edit)?;
+        assert_eq!(rt; count as usize, ops.len(), "{edit:?}");
+        take_all(plain, ops)?;
+    }
+    assert!(rt; is_beside(alloc, replica, plain)?, "{edit:?}");
+    Ok(())
+}
+
+const EDITS: &[Edit] = &[
+    Put(0, 1, "mn"),
+    Cut(0, 1, 2),
+    Put(0, 0, "k"),
+    Add(1, "V"),
+    Put(1, 0, "o"),
+    Put(0, 3, "pq"),
+    Cut(0, 2, 9),
+    Put(1, 1, "r"),
+    Drop(1),
+    Add(2, "W"),
+    Cut(0, 0, 1),
+    Drop(0),
+    Put(0, 2, "s"),
+];
+
+fn edits_beside(
+    rt: &impl Abort,
+    alloc: Global,
+    replica: &mut Replica,
+    plain: &mut Plain,
+    order: (usize, usize),
+) -> Result<(), Fail> {
+    keep_beside(rt, alloc, replica, plain, order)?;
+    for edit in EDITS {
+        edit_beside(rt, alloc, replica, plain, *edit)?;
+    }
+    Ok(())
+}
+
+fn makes_beside(rt: &impl Abort, alloc: Global, order: (usize, usize)) -> Result<(), Fail> {
+    let mut plain = Plain::new(alloc);
+    let mut replica = Replica::new(alloc, NUMBER, 100, 100)?;
+    edits_beside(rt, alloc, &mut replica, &mut plain, order)
+}
+
+#[test]
+fn an_edit_makes_what_the_plain_program_does(rt: HostRuntime) -> Result<(), Fail> {
+    for first in 0..POOL.len() {
+        for step in [1, 4, 9] {
+            makes_beside(&rt, rt.alloc(), (first, step))?;
+        }
+    }
+    Ok(())
+}

@@ -1,0 +1,149 @@
+//! Two replicas that edit by turns and feed each other.
+
+use crate::edits::Edit::{self, Add, Cut, Drop, Put};
+use crate::edits::make;
+use crate::plain::Plain;
+use crate::replicas::feed_one;
+use origin_model::PlainReplica;
+use outer_ports::MemSink;
+use replica_core::{Replica, Tally};
+use std::alloc::Global;
+use std::process::Abort;
+use std::test::Fail;
+
+/// Numbers that a seed gives.
+#[derive(Clone, Copy)]
+struct Dice {
+    state: u64,
+}
+
+impl Dice {
+    /// The next number below so many.
+    fn roll(&mut self, sides: usize) -> usize {
+        self.state = self
+            .state
+            .wrapping_mul(6_364_136_223_846_793_005)
+            .wrapping_add(1_442_695_040_888_963_407);
+        let number = (self.state >> 33) as usize;
+        if sides == 0 { 0 } else { number % sides }
+    }
+
+    /// An edit of what the replica shows, or now and then of more than that.
+    fn edit(&mut self, replica: &Replica) -> Edit {
+        let section = self.roll(replica.section_count().saturating_add(1));
+        let shown = replica.text_len(section).unwrap_or(0);
+        let at = self.roll(shown.saturating_add(2));
+        match self.roll(16) {
+            0 => Add(section, "T"),
+            1 => Drop(section),
+            2..=5 => Cut(section, at, self.roll(4)),
+            6..=9 => Put(section, at, "word "),
+            10 => Put(section, at, "é"),
+            _ => Put(section, at, "xy"),
+        }
+    }
+}
+
+/// Feeds what one has accepted, from that operation on.
+fn feed_from(
+    rt: &impl Abort,
+    alloc: Global,
+    from: &Replica,
+    to: &mut Replica,
+    first: usize,
+) -> Result<usize, Fail> {
+    let mut tally = Tally::default();
+    let ops = from.accepted();
+    for at in first..ops.len() {
+        feed_one(rt, to, ops[at].clone_in(alloc)?, &mut tally)?;
+    }
+    Ok(ops.len())
+}
+
+/// One of them edits, and now and then the other hears of it.
+fn take_turn(
+    rt: &impl Abort,
+    alloc: Global,
+    editor: &mut Replica,
+    reader: &mut Replica,
+    dice: &mut Dice,
+    heard: &mut usize,
+) -> Result<(), Fail> {
+    let edit = dice.edit(editor);
+    let _answer = make(rt, alloc, editor, edit)?;
+    if dice.roll(3) == 0 {
+        *heard = feed_from(rt, alloc, editor, reader, *heard)?;
+    }
+    Ok(())
+}
+
+fn is_same(alloc: Global, replica: &Replica, plain: &PlainReplica) -> Result<bool, Fail> {
+    let mut printed = MemSink::new(alloc, 4096, Vec::new(alloc));
+    let mut wanted = MemSink::new(alloc, 4096, Vec::new(alloc));
+    replica.write_manuscript(&mut printed)?;
+    plain.print_into(&mut wanted)?;
+    Ok(replica.waiting().is_empty() && printed.written() == wanted.written())
+}
+
+/// Both show what the plain replica does with the operations of the first.
+fn compare_both(
+    rt: &impl Abort,
+    alloc: Global,
+    first: &Replica,
+    second: &Replica,
+    plain: &mut Plain,
+) -> Result<(), Fail> {
+    for op in first.accepted() {
+        plain.take_in(op.clone_in(alloc)?)?;
+    }
+    assert!(rt; first.accepted().len() > 40);
+    assert_eq!(rt; first.accepted().len(), second.accepted().len());
+    assert!(rt; is_same(alloc, first, &plain.accepted)?);
+    assert!(rt; is_same(alloc, second, &plain.accepted)?);
+    Ok(())
+}
+
+fn edit_by_turns(
+    rt: &impl Abort,
+    alloc: Global,
+    first: &mut Replica,
+    second: &mut Replica,
+    seed: u64,
+) -> Result<(), Fail> {
+    let mut dice = Dice { state: seed };
+    let mut heard = (0, 0);
+    for title in ["T", "U", "V"] {
+        make(rt, alloc, first, Add(0, title))??;
+    }
+    for _ in 0..40 {
+        take_turn(rt, alloc, first, second, &mut dice, &mut heard.0)?;
+        take_turn(rt, alloc, second, first, &mut dice, &mut heard.1)?;
+    }
+    feed_from(rt, alloc, first, second, heard.0)?;
+    feed_from(rt, alloc, second, first, heard.1)?;
+    let mut plain = Plain::new(alloc);
+    compare_both(rt, alloc, first, second, &mut plain)
+}
+
+fn edits_with_second(
+    rt: &impl Abort,
+    alloc: Global,
+    first: &mut Replica,
+    seed: u64,
+) -> Result<(), Fail> {
+    let mut second = Replica::new(alloc, 2, 100, 1000)?;
+    edit_by_turns(rt, alloc, first, &mut second, seed)
+}
+
+fn edits_by_seed(rt: &impl Abort, alloc: Global, seed: u64) -> Result<(), Fail> {
+    let mut first = Replica::new(alloc, 1, 100, 1000)?;
+    edits_with_second(rt, alloc, &mut first, seed)
+}
+
+#[test]
+fn replicas_that_edit_by_turns_show_the_same(rt: HostRuntime) -> Result<(), Fail> {
+    for seed in 0..20 {
+        edits_by_seed(&rt, rt.alloc(), seed)?;
+    }
+    Ok(())
+}

@@ -1,0 +1,140 @@
+-- What an operation of an edit leaves as it was, and operations that join one after another.
+use Rattle.std.proofs.Common.{◌≡◌, refl, sym, ◌∙◌, ap, subst, ℕ, suc, ◌+◌, ◌++◌, ◌∷◌, ◌<◌, ◌≤◌, List, [], length, false, arith, append_assoc, drop, get_or, length-append, take}
+use Rattle.std.specs.Prelude.{All, Option, Some}
+use Rattle.std.proofs.lemmas.Bool.{ne_eqb}
+use Rattle.std.proofs.lemmas.List.{append-nil, at_drop_all, at_drop_more}
+use Rattle.std.proofs.lemmas.List.Elements.{All-head, All-tail}
+use Rattle.fugue_ids.specs.Identifiers.{Identifier}
+use Rattle.fugue_ids.specs.declared.op.Op.{Op}
+use Rattle.fugue_ids.specs.declared.op.Op.TheVariants.{Delete, Text}
+use Rattle.origin_model.specs.operations.History.{accepted}
+use Rattle.origin_model.specs.taking.Taking.{Accepted, answer, decided_on}
+use Rattle.origin_model.specs.edits.Edits.{deletes_of, id_at, typed}
+use Rattle.origin_model.proofs.edits.MadeLemmas.{extended-append, join_at_end}
+use Rattle.replica_core.specs.Due.{due_marks}
+use Rattle.replica_core.specs.Edits.{CanJoin, Gains, StopsPartly, typed_at, with_ops}
+use Rattle.replica_core.specs.State.{State, Stands}
+use Rattle.replica_core.specs.declared.edits.text_spot.TextSpot.{TextSpot}
+use Rattle.origin_model.proofs.edits.EditIntakeLemmas.{accepts}
+use Rattle.replica_core.proofs.StandingLemmas.{stands_by_accept}
+
+-- what can join is answered Accepted
+can_be_accepted : (s : State) (op : Op) → CanJoin s (op ∷ []) → answer s.hold s.most s.held op ≡ Accepted
+can_be_accepted s op can =
+    accepts s.hold s.most s.held.history s.held.waiting op can.settled can.in_turn.0 can.in_turn.1
+    (ne_eqb (length s.held.history + length s.held.waiting) s.most (λ full. absurd (omega (arith, full, can.room))))
+
+-- so the replica stands with it
+pub joined_stands : (s : State) (op : Op) (new : List Op) → CanJoin s (op ∷ []) → Stands s → new ≡ op ∷ s.held.history
+    → Stands (record s { held = record { history = new; waiting = s.held.waiting } })
+joined_stands s op new can stands is = stands_by_accept s new op (can_be_accepted s op can) is stands
+
+-- nothing that waits is marked on either history
+same_marks : (h new w : List Op) → All (λ op. decided_on h op ≡ false) w → All (λ op. decided_on new op ≡ false) w → due_marks h w ≡ due_marks new w
+same_marks h new [] was is = refl
+same_marks h new (o ∷ w) was is =
+    let here : decided_on h o ≡ decided_on new o = All-head (λ op. decided_on h op ≡ false) o w was ∙ sym (All-head (λ op. decided_on new op ≡ false) o w is) in
+    λ i. here i ∷ same_marks h new w (All-tail (λ op. decided_on h op ≡ false) o w was) (All-tail (λ op. decided_on new op ≡ false) o w is) i
+
+-- and the marks stay
+pub joined_marks : (s : State) (op : Op) (new : List Op) → CanJoin s (op ∷ []) → new ≡ op ∷ s.held.history → due_marks s.held.history s.held.waiting ≡ due_marks new s.held.waiting
+joined_marks s op new can is =
+    same_marks s.held.history (op ∷ s.held.history) s.held.waiting can.settled can.in_turn.2 ∙ ap (λ h. due_marks h s.held.waiting) (sym is)
+
+-- on the way from one state to another: the first operations have joined, and the rest can
+pub record IsJoining (old now : State) (ops rest : List Op) : Type 0 where
+  pub done : List Op
+  pub split : ops ≡ done ++ rest
+  pub others : now ≡ with_ops old done
+  pub can : CanJoin now rest
+  pub stands : Stands now
+
+pub begins : (s : State) (ops : List Op) → CanJoin s ops → Stands s → IsJoining s s ops ops
+begins s ops can stands = record { done = []; split = refl; others = refl; can = can; stands = stands }
+
+-- the first one can join alone
+pub first_can : (s : State) (op : Op) (rest : List Op) → CanJoin s (op ∷ rest) → CanJoin s (op ∷ [])
+first_can s op rest can =
+    record { settled = can.settled; in_turn = (can.in_turn.0, can.in_turn.1, can.in_turn.2, tt); room = omega (arith, can.room) }
+
+-- one more joined
+pub goes_on : (old now new : State) (ops rest : List Op) (op : Op) → IsJoining old now ops (op ∷ rest) → new ≡ with_ops now (op ∷ []) → Stands new → IsJoining old new ops rest
+goes_on old now new ops rest op j is stands =
+    record {
+      done = j.done ++ op ∷ [];
+      split = j.split ∙ sym (append_assoc j.done (op ∷ []) rest);
+      others = is ∙ ap (λ s. with_ops s (op ∷ [])) j.others
+          ∙ ap (λ h. record old { held = record { history = h; waiting = old.held.waiting } }) (sym (extended-append old.held.history j.done (op ∷ [])));
+      can = subst (λ s. CanJoin s rest) (sym is) (record { settled = j.can.in_turn.2; in_turn = j.can.in_turn.3; room = omega (arith, j.can.room) });
+      stands = stands;
+    }
+
+-- the operations of a state stand behind the accepted ones
+pub gains : (old new : State) (ops : List Op) → new ≡ with_ops old ops → Gains old new ops
+gains old new ops is = record { accepted_are = ap (λ s. accepted s.held.history) is ∙ join_at_end old.held.history ops; others = is }
+
+-- all joined
+pub ends : (old now : State) (ops : List Op) → IsJoining old now ops [] → Gains old now ops
+ends old now ops j = gains old now ops (j.others ∙ ap (with_ops old) (sym (j.split ∙ append-nil j.done)))
+
+take_front : (xs ys : List Op) → take (length xs) (xs ++ ys) ≡ xs
+take_front [] ys = refl
+take_front (x ∷ xs) ys = ap (λ l. x ∷ l) (take_front xs ys)
+
+-- not all
+pub stops : (old now : State) (ops rest : List Op) (op : Op) → IsJoining old now ops (op ∷ rest) → StopsPartly old now ops
+stops old now ops rest op j =
+    let part : take (length j.done) ops ≡ j.done = ap (take (length j.done)) j.split ∙ take_front j.done (op ∷ rest) in
+    let longer : length ops ≡ length j.done + suc (length rest) = ap length j.split ∙ length-append j.done (op ∷ rest) in
+    record {
+      count = length j.done;
+      fewer = omega (arith, longer);
+      gained = gains old now (take (length j.done) ops) (j.others ∙ ap (with_ops old) (sym part));
+    }
+
+-- none
+pub stops_at_once : (s : State) (ops : List Op) → 0 < length ops → StopsPartly s s ops
+stops_at_once s ops some = record { count = 0; fewer = some; gained = gains s s [] refl }
+
+-- a text that is typed has come as far as the scalar k
+pub record IsTyping (old now : State) (spot : TextSpot) (cs : List ℕ) (counter k : ℕ) (left : Option Identifier) : Type 0 where
+  pub joining : IsJoining old now (typed_at old.number spot cs) (typed old.number counter spot.section left spot.right (drop k cs))
+  pub counted : counter ≡ spot.counter + k
+
+-- the next scalar makes a text
+pub types : (old now : State) (spot : TextSpot) (cs : List ℕ) (counter k ch : ℕ) (left : Option Identifier) (id : Identifier)
+    → IsTyping old now spot cs counter k left → (k < length cs) × (ch ≡ get_or cs k ch) → id ≡ id_at now.number counter
+    → IsJoining old now (typed_at old.number spot cs) (Text id spot.section left spot.right ch ∷ typed old.number (counter + 1) spot.section (Some id) spot.right (drop (k + 1) cs))
+types old now spot cs counter k ch left id t turn is =
+    let own : id_at old.number counter ≡ id = ap (λ (s : State). id_at s.number counter) (sym t.joining.others) ∙ sym is in
+    let next : suc counter ≡ counter + 1 = omega arith in
+    let step : typed old.number counter spot.section left spot.right (drop k cs) ≡ Text id spot.section left spot.right ch ∷ typed old.number (counter + 1) spot.section (Some id) spot.right (drop (k + 1) cs) =
+    at_drop_more (typed old.number counter spot.section left spot.right) cs k ch turn.0
+    ∙ ap (λ c. typed old.number counter spot.section left spot.right (c ∷ drop (k + 1) cs)) (sym turn.1)
+    ∙ (λ i. Text (own i) spot.section left spot.right ch ∷ typed old.number (next i) spot.section (Some (own i)) spot.right (drop (k + 1) cs)) in
+    subst (IsJoining old now (typed_at old.number spot cs)) step t.joining
+
+-- the next element makes a Delete
+pub deletes : (old now : State) (xs : List Identifier) (k : ℕ) (x : Identifier) → IsJoining old now (deletes_of xs) (deletes_of (drop k xs)) → k < length xs → x ≡ get_or xs k x
+    → IsJoining old now (deletes_of xs) (Delete x ∷ deletes_of (drop (k + 1) xs))
+deletes old now xs k x j within is =
+    subst (IsJoining old now (deletes_of xs)) (at_drop_more deletes_of xs k x within ∙ ap (λ y. Delete y ∷ deletes_of (drop (k + 1) xs)) (sym is)) j
+
+-- one scalar more is typed
+pub types_more : (old now new : State) (spot : TextSpot) (cs : List ℕ) (counter k ch next : ℕ) (left : Option Identifier) (id : Identifier)
+    → IsTyping old now spot cs counter k left → (k < length cs) × (ch ≡ get_or cs k ch) → id ≡ id_at now.number counter
+    → new ≡ with_ops now (Text id spot.section left spot.right ch ∷ []) → Stands new → next ≡ k + 1 → IsTyping old new spot cs (counter + 1) next (Some id)
+types_more old now new spot cs counter k ch next left id t turn is joined stands more =
+    let rest : ℕ → List Op = λ n. typed old.number (counter + 1) spot.section (Some id) spot.right (drop n cs) in
+    record {
+      joining = subst (λ n. IsJoining old new (typed_at old.number spot cs) (rest n)) (sym more)
+          (goes_on old now new (typed_at old.number spot cs) (rest (k + 1)) (Text id spot.section left spot.right ch) (types old now spot cs counter k ch left id t turn is) joined stands);
+      counted = omega (arith, t.counted, more);
+    }
+
+-- all scalars are typed
+pub types_all : (old now : State) (spot : TextSpot) (cs : List ℕ) (counter k : ℕ) (left : Option Identifier) → IsTyping old now spot cs counter k left → length cs ≤ k
+    → Gains old now (typed_at old.number spot cs)
+types_all old now spot cs counter k left t done =
+    ends old now (typed_at old.number spot cs)
+    (subst (IsJoining old now (typed_at old.number spot cs)) (at_drop_all (typed old.number counter spot.section left spot.right) cs k done) t.joining)

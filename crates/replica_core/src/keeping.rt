@@ -1,0 +1,48 @@
+//! Taking in, with a copy of each operation that is kept, for those who save what was kept.
+ghost use Rattle.std.specs.Prelude.{◌≡◌, ◌<◌, ◌++◌, ◌∷◌, [], OnOk, OnErr, IfErr, vec_len, vec_capacity};
+ghost use Rattle.origin_model.specs.taking.Taking.{answer, TooMany, IsSettled};
+ghost use Rattle.replica_core.specs.State.{Stands};
+ghost use Rattle.replica_core.specs.Told.{StaysBelow};
+ghost use Rattle.replica_core.specs.Keeping.{TakesInKeeping, LeavesUnkept};
+
+use crate::{FeedFault, Replica};
+use fugue_ids::{NoMemory, Op};
+use origin_model::Tally;
+
+impl Replica {
+    /// Feeds the operation, and appends a copy of it to `kept` where it was accepted or waits.
+    ///
+    /// The memory for the copy is taken first. After a fault `kept` is as before.
+    pub fn feed_keeping(
+        &mut self,
+        op: Op,
+        tally: &mut Tally,
+        kept: &mut Vec<Op>,
+    ) -> Result<(), FeedFault>
+        requires settled { IsSettled self.old.held }
+        requires counts_rise { StaysBelow tally.old }
+        ensures ok { OnOk result (TakesInKeeping self.old self.new op tally.old tally.new kept.old.items kept.new.items) }
+        ensures too_many { answer self.old.hold self.old.most self.old.held op ≡ TooMany → OnOk result ⊥ }
+        ensures err { IfErr result (λ fault. LeavesUnkept self.old self.new op tally.old tally.new fault) }
+        ensures unkept { OnErr result (kept.new.items ≡ kept.old.items) }
+        ensures stands { Stands self.new }
+    {
+        let copy = op.clone_in(self.alloc)?;
+        kept.reserve(1).map_err(NoMemory::from)?;
+        if self.feed(op, tally)? {
+            push_reserved(kept, copy);
+        }
+        Ok(())
+    }
+}
+
+/// Appends, and takes no memory.
+fn push_reserved(kept: &mut Vec<Op>, op: Op)
+    requires { vec_len kept.old < vec_capacity kept.old }
+    ensures { kept.new.items ≡ kept.old.items ++ op ∷ [] }
+{
+    match kept.push(op) {
+        Ok(()) => {}
+        Err(_) => unreachable!(),
+    }
+}

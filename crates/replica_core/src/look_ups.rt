@@ -1,0 +1,92 @@
+//! What a replica shows, and what it holds.
+
+ghost use Rattle.std.specs.Prelude.{◌≡◌, length, option_map, string_bytes, IfOk, IfSome};
+ghost use Rattle.std.specs.Str.{encode_utf8_all};
+ghost use Rattle.origin_model.specs.operations.History.{holds as holds_on};
+ghost use Rattle.origin_model.specs.order.Printed.{shown, text as text_on};
+ghost use Rattle.origin_model.specs.declared.operations.place.Place.TheVariants.{Catalogue as catalogue};
+ghost use Rattle.section_list.specs.Cells.{text as text_in};
+ghost use Rattle.section_catalogue.specs.Manuscript.{IsPlaceOf, IsTextOf};
+ghost use Rattle.replica_core.specs.Edits.{section_shown};
+ghost use Rattle.replica_core.specs.State.{Stands};
+
+use crate::Replica;
+use crate::shown_section::ShownSection;
+use fugue_ids::{ElementId, NoMemory};
+use outer_ports::MemSink;
+use section_list::SectionList;
+use std::alloc::Global;
+
+impl Replica {
+    /// The sections, hidden ones too.
+    pub(crate) fn catalogue(&self) -> &SectionList
+        ensures catalogue { IsPlaceOf catalogue self.now.held.history result.now }
+        ensures stands { Stands self.now }
+    {
+        self.accepted.catalogue()
+    }
+
+    /// The section with so many shown ones before it that is shown itself.
+    pub(crate) fn shown_section(&self, section: usize) -> Option<ShownSection<'_>>
+        ensures id { option_map (λ s. s.id) result ≡ section_shown self.now section }
+        ensures text { IfSome result (λ s. IsTextOf s.id self.now.held.history s.text.now) }
+        ensures stands { Stands self.now }
+    {
+        self.accepted.section(section)
+    }
+
+    /// Whether an accepted operation has the identifier.
+    pub fn holds(&self, id: ElementId) -> bool
+        ensures holds { result ≡ holds_on self.now.held.history id }
+        ensures stands { Stands self.now }
+    {
+        self.accepted.holds(id)
+    }
+
+    /// How many sections are shown.
+    pub fn section_count(&self) -> usize
+        ensures count { result ≡ length (shown catalogue self.now.held.history) }
+        ensures stands { Stands self.now }
+    {
+        self.accepted.section_count()
+    }
+
+    /// How many scalars are shown of the section with so many shown ones before it.
+    pub fn text_len(&self, section: usize) -> Option<usize>
+        ensures len { result ≡ option_map (λ s. length (text_on self.now.held.history s)) (section_shown self.now section) }
+        ensures stands { Stands self.now }
+    {
+        match self.shown_section(section) {
+            Some(section) => Some(section.text.visible_count()),
+            None => None,
+        }
+    }
+
+    /// What is shown of the section with so many shown ones before it.
+    pub fn text_of(&self, section: usize) -> Result<Option<String>, NoMemory>
+        ensures text { IfOk result (λ text. option_map (λ t. string_bytes t) text
+            ≡ option_map (λ s. encode_utf8_all (text_on self.now.held.history s)) (section_shown self.now section)) }
+        ensures none { section_shown self.now section ≡ None → result ≡ Ok None }
+        ensures stands { Stands self.now }
+    {
+        match self.shown_section(section) {
+            Some(section) => Ok(Some(shown_text(self.alloc, section.text)?)),
+            None => Ok(None),
+        }
+    }
+}
+
+/// The scalars that are not hidden, in order.
+fn shown_text(alloc: Global, place: &SectionList) -> Result<String, NoMemory>
+    ensures { IfOk result (λ text. string_bytes text ≡ encode_utf8_all (text_in place.now.cells)) }
+{
+    let mut sink = MemSink::new(alloc, usize::MAX, Vec::new(alloc));
+    let Ok(()) = place.write_text(&mut sink) else {
+        return Err(NoMemory);
+    };
+    // Scalars are written in UTF-8, so nothing but memory is wanting.
+    match std::str::from_utf8(sink.written()) {
+        Ok(text) => Ok(String::from_str(alloc, text)?),
+        Err(_) => Err(NoMemory),
+    }
+}
