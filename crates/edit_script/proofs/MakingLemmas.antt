@@ -1,0 +1,143 @@
+-- Edits by clusters are edits by scalars.
+use Rattle.std.proofs.Common.{◌≡◌, ◌↔◌, ◌<◌, ◌≤◌, ◌+◌, inl, inr, ℕ, Bool, true, false, cond, nat_lt, List, length, Option, Some, None, refl, sym, ap, subst, ◌∙◌, arith}
+use Rattle.std.specs.Prelude.{Result, Ok, Err, IfOk, IfErr, IfSome, IsNone, ok_or, option_map, encode_utf8_all}
+use Rattle.std.specs.Str.{chars, IsUtf8}
+use Rattle.std.proofs.lemmas.Bool.{cases_Bool, cases_lt, ltb-true}
+use Rattle.std.proofs.lemmas.Option.{same_Some}
+use Rattle.std.proofs.lemmas.Str.{encodes-chars, encodes_same}
+use Rattle.fugue_ids.specs.Identifiers.{Identifier}
+use Rattle.origin_model.specs.operations.Verdict.{Lawful}
+use Rattle.origin_model.specs.order.Printed.{text}
+use Rattle.origin_model.specs.edits.Edits.{Command, Put, Cut, Add, DropSection}
+use Rattle.origin_model.specs.declared.operations.place.Place.TheVariants.{Section as within}
+use Rattle.origin_model.proofs.edits.EditedTextLemmas.{text_length}
+use Rattle.cluster_text.specs.Clusters.{clusters, span}
+use Rattle.replica_core.specs.State.{State}
+use Rattle.replica_core.specs.Edits.{section_shown, shown_count, in_section, in_range, refused_elements, refused_ops, refusal, made_by, RefusesExactly, IsMade, LeavesUnmade, StopsPartly}
+use Rattle.replica_core.specs.declared.edits.edit_fault.EditFault.{EditFault}
+use Rattle.replica_core.specs.declared.edits.edit_fault.EditFault.TheVariants.{NoSection, OutOfRange, IdsSpent, TooMany, NoMemory}
+use Rattle.edit_script.specs.Scripts.{by_scalars, clusters_in, in_scalars, line_refusal, scalars_from}
+use Rattle.edit_script.specs.Lines.{IsSpan, Made, Unmade}
+
+-- nothing is refused for want of memory
+never_ops : (b : Bool) (held : ℕ) → cond b (Some (TooMany held)) None ≡ Some NoMemory → ⊥
+never_ops true held e = cc
+never_ops false held e = cc
+
+never_elements : (b : Bool) (n : ℕ) (other : Option EditFault) → (other ≡ Some NoMemory → ⊥) → cond b (Some (IdsSpent n)) other ≡ Some NoMemory → ⊥
+never_elements true n other never e = cc
+never_elements false n other never e = never e
+
+never_range : (b : Bool) (other : Option EditFault) → (other ≡ Some NoMemory → ⊥) → cond b (Some OutOfRange) other ≡ Some NoMemory → ⊥
+never_range true other never e = cc
+never_range false other never e = never e
+
+never_section : (found : Option Identifier) (cause : Identifier → Option EditFault) → ((x : Identifier) → cause x ≡ Some NoMemory → ⊥) → in_section found cause ≡ Some NoMemory → ⊥
+never_section None cause never e = cc
+never_section (Some x) cause never e = never x e
+
+never_more : (s : State) (n : ℕ) → refused_elements s n ≡ Some NoMemory → ⊥
+never_more s n = never_elements _ _ (refused_ops s n) (never_ops _ _)
+
+never_memory : (s : State) (command : Command) → refusal s command ≡ Some NoMemory → ⊥
+never_memory s (Put k at new) = never_section (section_shown s k) _ (λ x. never_range _ (refused_elements s (length new)) (never_more s (length new)))
+never_memory s (Cut k at n) = never_section (section_shown s k) _ (λ x. never_range _ (refused_ops s n) (never_ops _ _))
+never_memory s (Add at title) = never_range _ (refused_elements s 1) (never_more s 1)
+never_memory s (DropSection k) = never_section (section_shown s k) _ (λ x. never_ops _ _)
+
+ok_is_no_err : (n : ℕ) (fault : EditFault) → ◌≡◌ {A = Result ℕ EditFault} (Ok n) (Err fault) → ⊥
+ok_is_no_err n fault e = cc
+
+-- what was made was not refused
+allowed : (s : State) (command : Command) (n : ℕ) → RefusesExactly s command (Ok n) → refusal s command ≡ None
+allowed s command n exact = of (refusal s command) refl
+  where
+    of : (cause : Option EditFault) → refusal s command ≡ cause → cause ≡ None
+    of None e = refl
+    of (Some NoSection) e = absurd (ok_is_no_err n NoSection ((exact NoSection (λ same. cc)).1 e))
+    of (Some OutOfRange) e = absurd (ok_is_no_err n OutOfRange ((exact OutOfRange (λ same. cc)).1 e))
+    of (Some (IdsSpent c)) e = absurd (ok_is_no_err n (IdsSpent c) ((exact (IdsSpent c) (λ same. cc)).1 e))
+    of (Some (TooMany c)) e = absurd (ok_is_no_err n (TooMany c) ((exact (TooMany c) (λ same. cc)).1 e))
+    of (Some NoMemory) e = absurd (never_memory s command e)
+
+-- an edit by scalars that was made is the edit by clusters
+pub made_in : (old new : State) (command by other : Command) (result : Result ℕ EditFault) → other ≡ command → by ≡ by_scalars old command → line_refusal old command ≡ refusal old by
+    → RefusesExactly old by result → IfOk result (IsMade old new by) → IfOk result (Made old new other)
+made_in old new command by other (Err fault) same is refusal_is exact made = tt
+made_in old new command by other (Ok n) same is refusal_is exact made =
+    subst (λ (c : Command). Made old new c n) (sym same) (record {
+      ops = made_by old by;
+      edits = record { allowed = refusal_is ∙ allowed old by n exact; made = ap (made_by old) is; gained = made.gained };
+      count = made.count;
+    })
+
+-- and one that was not made is not
+pub unmade_in : (old new : State) (command by other : Command) (result : Result ℕ EditFault) → other ≡ command → by ≡ by_scalars old command → line_refusal old command ≡ refusal old by
+    → RefusesExactly old by result → IfErr result (LeavesUnmade old new by) → IfErr result (Unmade old new other)
+unmade_in old new command by other (Ok n) same is refusal_is exact left = tt
+unmade_in old new command by other (Err NoSection) same is refusal_is exact left =
+    subst (λ (c : Command). Unmade old new c NoSection) (sym same) (left, refusal_is ∙ (exact NoSection (λ e. cc)).0 refl)
+unmade_in old new command by other (Err OutOfRange) same is refusal_is exact left =
+    subst (λ (c : Command). Unmade old new c OutOfRange) (sym same) (left, refusal_is ∙ (exact OutOfRange (λ e. cc)).0 refl)
+unmade_in old new command by other (Err (IdsSpent n)) same is refusal_is exact left =
+    subst (λ (c : Command). Unmade old new c (IdsSpent n)) (sym same) (left, refusal_is ∙ (exact (IdsSpent n) (λ e. cc)).0 refl)
+unmade_in old new command by other (Err (TooMany n)) same is refusal_is exact left =
+    subst (λ (c : Command). Unmade old new c (TooMany n)) (sym same) (left, refusal_is ∙ (exact (TooMany n) (λ e. cc)).0 refl)
+unmade_in old new command by other (Err NoMemory) same is refusal_is exact left =
+    subst (λ (c : Command). Unmade old new c NoMemory) (sym same) (inr (subst (λ (b : Command). StopsPartly old new (made_by old b)) is left))
+
+in_range_fits : (position count : ℕ) (cause : Option EditFault) → position ≤ count → in_range position count cause ≡ cause
+in_range_fits position count cause fits =
+    elim (cases_Bool (nat_lt count position)) [ inl past ↦ absurd (omega (arith, fits, ltb-true count position past)) | inr inside ↦ rw inside refl ]
+
+-- a put in front of a cluster is a put in front of a scalar
+pub put_is : (s : State) (k at : ℕ) (new : List ℕ) (found : ℕ × ℕ) → IsSpan s k at 0 found → Put k found.0 new ≡ by_scalars s (Put k at new)
+put_is s k at new found spans =
+    ap (λ (p : ℕ × ℕ). Put k p.0 new) spans.found_is
+    ∙ sym (ap (λ (o : Option Identifier). elim o as (λ _. Command) [ None ↦ Put k at new | Some x ↦ in_scalars s x (Put k at new) ]) spans.shown)
+
+pub put_refusal : (s : State) (k at : ℕ) (new : List ℕ) (found : ℕ × ℕ) → IsSpan s k at 0 found → line_refusal s (Put k at new) ≡ refusal s (Put k found.0 new)
+put_refusal s k at new found spans =
+    let shown = spans.shown in
+    rw shown (in_range_fits at (length (clusters_in s spans.section)) (refused_elements s (length new)) (omega (arith, spans.enough))
+    ∙ sym (in_range_fits found.0 (shown_count s (within spans.section)) (refused_elements s (length new)) (omega (arith, spans.within))))
+
+-- a cut of clusters is a cut of scalars
+pub cut_is : (s : State) (k at n : ℕ) (found : ℕ × ℕ) → IsSpan s k at n found → Cut k found.0 found.1 ≡ by_scalars s (Cut k at n)
+cut_is s k at n found spans =
+    ap (λ (p : ℕ × ℕ). Cut k p.0 p.1) spans.found_is
+    ∙ sym (ap (λ (o : Option Identifier). elim o as (λ _. Command) [ None ↦ Cut k at n | Some x ↦ in_scalars s x (Cut k at n) ]) spans.shown)
+
+pub cut_refusal : (s : State) (k at n : ℕ) (found : ℕ × ℕ) → IsSpan s k at n found → line_refusal s (Cut k at n) ≡ refusal s (Cut k found.0 found.1)
+cut_refusal s k at n found spans =
+    let shown = spans.shown in
+    rw shown (in_range_fits (at + n) (length (clusters_in s spans.section)) (refused_ops s (scalars_from s spans.section at n)) spans.enough
+    ∙ ap (λ (p : ℕ × ℕ). refused_ops s p.1) (sym spans.found_is)
+    ∙ sym (in_range_fits (found.0 + found.1) (shown_count s (within spans.section)) (refused_ops s found.1) spans.within))
+
+-- where a text was found, there is the section
+pub shown_text : (found : Option Identifier) (written : Identifier → List ℕ) (bytes : List ℕ) → Some bytes ≡ option_map written found
+    → (x : Identifier) × (found ≡ Some x) × (bytes ≡ written x)
+shown_text None written bytes e = cc
+shown_text (Some x) written bytes e = (x, refl, same_Some bytes (written x) e)
+
+some_is_none : {X : Type 0} (x : X) → IsNone (Some x) → ⊥
+some_is_none x e = cc
+
+pub span_found : (s : State) (k at n : ℕ) (bytes : List ℕ) (x : Identifier) (r : Option (ℕ × ℕ)) (result : Result (ℕ × ℕ) EditFault) (fault : EditFault) → result ≡ ok_or r fault
+    → section_shown s k ≡ Some x → bytes ≡ encode_utf8_all (text s.held.history x) → IsUtf8 bytes → Lawful s.held.history
+    → IfSome r (λ found. found ≡ span (clusters bytes) at n) → (IsNone r ↔ (length (clusters bytes) < at + n)) → IfSome r (λ found. found.0 + found.1 ≤ length (chars bytes))
+    → IfOk result (IsSpan s k at n)
+span_found s k at n bytes x None result fault is shown bytes_are utf8 lawful spans none within_text = subst (λ (q : Result (ℕ × ℕ) EditFault). IfOk q (IsSpan s k at n)) (sym is) tt
+span_found s k at n bytes x (Some found) result fault is shown bytes_are utf8 lawful spans none within_text =
+    let same = ap (λ (b : List ℕ). length (clusters b)) bytes_are in
+    let enough : at + n ≤ length (clusters bytes) = elim (cases_lt (length (clusters bytes)) (at + n)) [ inl few ↦ absurd (some_is_none found (none.1 few)) | inr fits ↦ fits ] in
+    let scalars_are = ap length (encodes_same (chars bytes) (text s.held.history x) (encodes-chars bytes utf8 ∙ bytes_are)) in
+    let long = text_length s.held.history x lawful in
+    subst (λ (q : Result (ℕ × ℕ) EditFault). IfOk q (IsSpan s k at n)) (sym is) (record {
+      section = x;
+      shown = shown;
+      enough = omega (arith, enough, same);
+      found_is = spans ∙ ap (λ (b : List ℕ). span (clusters b) at n) bytes_are;
+      within = omega (arith, within_text, scalars_are, long);
+    })

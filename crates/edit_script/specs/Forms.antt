@@ -1,0 +1,10 @@
+-- The first words of lines.
+use Rattle.std.specs.Prelude.{ℕ, List, codes}
+use Rattle.edit_script.specs.declared.form.Form.{Form}
+use Rattle.edit_script.specs.declared.form.Form.TheVariants.{Add, Put, Cut, Drop}
+
+abbrev pub form_word : Form → List ℕ
+form_word Add = codes "add"
+form_word Put = codes "put"
+form_word Cut = codes "cut"
+form_word Drop = codes "drop"

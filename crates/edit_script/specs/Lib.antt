@@ -1,0 +1,7 @@
+pub mod Grammar
+pub mod Forms
+pub mod Commands
+pub mod Sources
+pub mod Scripts
+pub mod Lines
+pub mod Laws

@@ -1,0 +1,112 @@
+-- What a script does to a replica: the effect of its lines one after another, or of those in front of its first faulty line.
+use Rattle.std.specs.Prelude.{◌≡◌, ◌⊎◌, ℕ, ◌+◌, Option, Some, None, List, [], ◌∷◌, ◌++◌, length, take, encode_utf8_all}
+use Rattle.fugue_ids.specs.Identifiers.{Identifier}
+use Rattle.fugue_ids.specs.declared.op.Op.{Op}
+use Rattle.origin_model.specs.operations.History.{accepted}
+use Rattle.origin_model.specs.order.Printed.{text}
+use Rattle.origin_model.specs.edits.Edits.{Command, Put, Cut, Add, DropSection}
+use Rattle.outer_ports.specs.Sources.{SourceView}
+use Rattle.cluster_text.specs.Clusters.{clusters, scalars, span}
+use Rattle.replica_core.specs.State.{State}
+use Rattle.replica_core.specs.Edits.{section_shown, in_section, in_range, refused_elements, refused_ops, refusal, made_by, Gains, StopsPartly}
+use Rattle.replica_core.specs.declared.edits.edit_fault.EditFault.{EditFault}
+use Rattle.replica_core.specs.declared.edits.edit_fault.EditFault.TheVariants as edit
+use Rattle.edit_script.specs.declared.fault.ScriptFault.{ScriptFault}
+use Rattle.edit_script.specs.declared.fault.ScriptFault.TheVariants.{BadLine, NoSection, OutOfRange, IdsSpent, TooMany, ReadFault, TooLong, NoMemory}
+use Rattle.edit_script.specs.Grammar.{Asks, IsBad, IsNote, lines}
+use Rattle.edit_script.specs.Sources.{IsLonger, IsScript}
+
+-- the clusters of what is shown of a section
+abbrev pub clusters_in : State → Identifier → List (List ℕ)
+clusters_in s section = clusters (encode_utf8_all (text s.held.history section))
+
+-- how many scalars n clusters of a section have from the cluster `at` on
+abbrev pub scalars_from : State → Identifier → (at n : ℕ) → ℕ
+scalars_from s section at n = (span (clusters_in s section) at n).1
+
+-- an edit of a section by scalars: a place in clusters is the number of scalars in front of it, and clusters have the scalars that they have
+abbrev pub in_scalars : State → Identifier → Command → Command
+in_scalars s section (Put k at new) = Put k (scalars (take at (clusters_in s section))) new
+in_scalars s section (Cut k at n) = Cut k (scalars (take at (clusters_in s section))) (scalars_from s section at n)
+in_scalars s section (Add at title) = Add at title
+in_scalars s section (DropSection k) = DropSection k
+
+-- the section in which an edit stands, where it stands in one that is shown
+abbrev pub section_of : State → Command → Option Identifier
+section_of s (Put k at new) = section_shown s k
+section_of s (Cut k at n) = section_shown s k
+section_of s (Add at title) = None
+section_of s (DropSection k) = None
+
+-- an edit by clusters, by scalars
+abbrev pub by_scalars : State → Command → Command
+by_scalars s command = elim (section_of s command) [ None ↦ command | Some section ↦ in_scalars s section command ]
+
+-- why an edit by clusters is refused, by the first cause that there is
+abbrev pub line_refusal : State → Command → Option EditFault
+line_refusal s (Put k at new) = in_section (section_shown s k) (λ x. in_range at (length (clusters_in s x)) (refused_elements s (length new)))
+line_refusal s (Cut k at n) = in_section (section_shown s k) (λ x. in_range (at + n) (length (clusters_in s x)) (refused_ops s (scalars_from s x at n)))
+line_refusal s (Add at title) = refusal s (Add at title)
+line_refusal s (DropSection k) = refusal s (DropSection k)
+
+-- an edit by clusters is made, of these operations
+pub record Edits (old new : State) (command : Command) (ops : List Op) : Type 0 where
+  pub allowed : line_refusal old command ≡ None
+  pub made : ops ≡ made_by old (by_scalars old command)
+  pub gained : Gains old new ops
+
+-- a line is run: a note line does nothing, and any other line makes its edit
+abbrev pub Does : (old new : State) (line : List ℕ) (ops : List Op) → Type 0
+Does old new line ops = (IsNote line × (new ≡ old) × (ops ≡ [])) ⊎ ((command : Command) × Asks line command × Edits old new command ops)
+
+-- lines are run, one after another, and make these operations
+abbrev pub Leads : (old new : State) (lines : List (List ℕ)) (ops : List Op) → Type 0
+Leads old new [] ops = (new ≡ old) × (ops ≡ [])
+Leads old new (line ∷ lines) ops =
+    (mid : State) × (first : List Op) × (others : List Op) × Does old mid line first × Leads mid new lines others × (ops ≡ first ++ others)
+
+-- the script was run to its end, with n operations made
+pub record RunsWhole (old new : State) (script : List ℕ) (n : ℕ) : Type 0 where
+  pub ops : List Op
+  pub leads : Leads old new (lines script) ops
+  pub accepted_are : accepted new.held.history ≡ accepted old.held.history ++ ops
+  pub count : n ≡ length ops
+
+-- the lines in front of this one, whose number is told from 1, were run
+pub record RunsUpTo (old new : State) (script line : List ℕ) (number : ℕ) : Type 0 where
+  pub front : List (List ℕ)
+  pub back : List (List ℕ)
+  pub split : lines script ≡ front ++ line ∷ back
+  pub number_is : number ≡ length front + 1
+  pub ops : List Op
+  pub leads : Leads old new front ops
+
+-- the line asks for an edit that is refused
+abbrev pub IsRefused : State → List ℕ → EditFault → Type 0
+IsRefused s line fault = (command : Command) × Asks line command × (line_refusal s command ≡ Some fault)
+
+-- memory was wanting for a line: nothing of it was made, or the first ones of its operations
+abbrev pub IsPartly : (old new : State) → List ℕ → Type 0
+IsPartly old new line = (new ≡ old) ⊎ ((command : Command) × Asks line command × StopsPartly old new (made_by old (by_scalars old command)))
+
+-- the first faulty line, and its fault
+abbrev pub StopsAt : (old new : State) (script : List ℕ) → ScriptFault → Type 0
+StopsAt old new script (BadLine n) = (line : List ℕ) × RunsUpTo old new script line n × IsBad line
+StopsAt old new script (NoSection n) = (line : List ℕ) × RunsUpTo old new script line n × IsRefused new line edit.NoSection
+StopsAt old new script (OutOfRange n) = (line : List ℕ) × RunsUpTo old new script line n × IsRefused new line edit.OutOfRange
+StopsAt old new script (IdsSpent count) = (line : List ℕ) × (n : ℕ) × RunsUpTo old new script line n × IsRefused new line (edit.IdsSpent count)
+StopsAt old new script (TooMany count) = (line : List ℕ) × (n : ℕ) × RunsUpTo old new script line n × IsRefused new line (edit.TooMany count)
+StopsAt old new script NoMemory = (line : List ℕ) × (n : ℕ) × (mid : State) × RunsUpTo old mid script line n × IsPartly mid new line
+StopsAt old new script ReadFault = ⊥
+StopsAt old new script TooLong = ⊥
+
+-- how a script that is read from a source stops: it is read whole before its first line is run
+abbrev pub Stops : (old new : State) (before after : SourceView) → ScriptFault → Type 0
+Stops old new before after ReadFault = new ≡ old
+Stops old new before after TooLong = (new ≡ old) × IsLonger before after
+Stops old new before after NoMemory = ((new ≡ old) × (after ≡ before)) ⊎ ((script : List ℕ) × IsScript before after script × StopsAt old new script NoMemory)
+Stops old new before after fault = (script : List ℕ) × IsScript before after script × StopsAt old new script fault
+
+-- the script that the source had left was run to its end
+abbrev pub Runs : (old new : State) (before after : SourceView) (n : ℕ) → Type 0
+Runs old new before after n = (script : List ℕ) × IsScript before after script × RunsWhole old new script n
