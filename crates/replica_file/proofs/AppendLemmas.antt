@@ -1,0 +1,156 @@
+-- What a file holds while a batch is appended, and then.
+use Rattle.std.proofs.Common.{◌≡◌, ◌≢◌, inl, inr, ℕ, ◌+◌, ◌<◌, ◌≤◌, List, [], ◌∷◌, ◌++◌, length, take, drop, get_or, refl, ap, sym, subst, ◌∙◌, arith, append_assoc, length-append, length-drop, drop-cons, add-one}
+use Rattle.std.proofs.lemmas.List.{length-take, take-append-drop}
+use Rattle.std.proofs.Math.Seq.{take-append-add, take-append_seam}
+use Rattle.std.proofs.lemmas.List.Elements.{recursion_from_All}
+use Rattle.std.proofs.lemmas.Bool.{cases_eq}
+use Rattle.std.proofs.lemmas.Option.{get_or_from_slice_get}
+use Rattle.std.specs.Prelude.{All, Some, None, Option, IfSome}
+use Rattle.fugue_ids.specs.declared.op.Op.{Op}
+use Rattle.outer_ports.specs.disk.States.{State, IsImage}
+use Rattle.outer_ports.specs.disk.Moments.{History, LeavesOnly, LeavesOnlyTo}
+use Rattle.outer_ports.proofs.SharedLemmas.{image_at_rest, leaves_none}
+use Rattle.origin_model.specs.declared.files.TheConstants.{LONGEST_BATCH}
+use Rattle.origin_model.specs.files.Image.{Content, HasImage, Holds, last_slot, open_slot, open_slots}
+use Rattle.origin_model.specs.frames.Frames.{HasFrame, Whole, frames}
+use Rattle.origin_model.proofs.SharedLemmas.{Parts, ReadOnce, batch_appended, batch_of, from_parts, image_once, same_to_gate, to_parts, with_batch}
+use Rattle.op_frame.proofs.StreamLemmas.{reads_once}
+use Rattle.replica_file.specs.declared.end.End.{End}
+use Rattle.replica_file.specs.Append.{HasBatch, HoldsEither, behind_gate, next_end, with_ops}
+use Rattle.replica_file.specs.Ends.{EndsAt, Means}
+use Rattle.replica_file.specs.Gates.{BeforeOrWritten, IsOpened, IsWritten, OpenedTo}
+
+pub read_once : ReadOnce
+read_once bytes ops others p q = (reads_once bytes ops others Whole Whole p q).0
+
+-- a file has one content at most
+pub same_content : (bytes : List ℕ) (a b : Content) → HasImage bytes (Holds a) → HasImage bytes (Holds b) → a ≡ b
+same_content bytes a b p q = let same : Holds a ≡ Holds b = image_once read_once bytes (Holds a) (Holds b) p q in cc same
+
+-- bytes in three parts: those before an offset, the one there, and those behind
+at_offset : (bytes : List ℕ) (n byte : ℕ) → n < length bytes → get_or bytes n 0 ≡ byte → bytes ≡ take n bytes ++ byte ∷ drop (n + 1) bytes
+at_offset bytes n byte inside is =
+    sym (take-append-drop n bytes) ∙ ap (λ (l : List ℕ). take n bytes ++ l)
+    (drop-cons bytes n 0 inside ∙ (λ i. is i ∷ drop (sym (add-one n) i) bytes))
+
+-- what stands before the gate that ends the meaning
+before_gate : (bytes : List ℕ) (content : Content) (p : Parts bytes content) → take content.at bytes ≡ p.head ++ open_slots p.batches
+before_gate bytes content p =
+    let slots : List ℕ = open_slots p.batches in
+    let at : content.at ≡ length p.head + length slots = ap (λ (z : Content). z.at) p.content_is ∙ ap (λ (n : ℕ). n + length slots) (sym p.long) in
+    (λ i. take (at i) (p.split i)) ∙ take-append-add p.head (slots ++ p.gate ∷ p.rest) (length slots) ∙ ap (λ (z : List ℕ). p.head ++ z) (take-append_seam slots (p.gate ∷ p.rest))
+
+-- another gate that is not open ends the meaning at the same place
+other_gate : (before image : List ℕ) (content : Content) → HasImage before (Holds content) → content.at < length image → take content.at image ≡ take content.at before
+    → get_or image content.at 0 ≢ 1 → HasImage image (Holds content)
+other_gate before image content h inside front shut =
+    let p = to_parts before content h in
+    let gate : ℕ = get_or image content.at 0 in
+    let rest : List ℕ = drop (content.at + 1) image in
+    from_parts image content (record {
+      head = p.head;
+      batches = p.batches;
+      gate = gate;
+      rest = rest;
+      long = p.long;
+      is_head = p.is_head;
+      batches_are = p.batches_are;
+      few = p.few;
+      closed = shut;
+      split = at_offset image content.at gate inside refl ∙ ap (λ (z : List ℕ). z ++ gate ∷ rest) (front ∙ before_gate before content p)
+          ∙ append_assoc p.head (open_slots p.batches) (gate ∷ rest);
+      content_is = p.content_is;
+    })
+
+module _ (before : List ℕ) (content : Content) (ops : List Op) (h : HasImage before (Holds content)) (have : All HasFrame ops) (short : length (frames ops) ≤ LONGEST_BATCH)
+    (few : content.slots < last_slot) where
+  -- the bytes of one more batch, opened
+  pub with_open_gate : (image : List ℕ) → IsWritten before content.at (behind_gate ops) image → get_or image content.at 0 ≡ 1 → HasImage image (Holds (with_ops content ops))
+  with_open_gate image written open_now =
+      let more : List ℕ = drop (length (behind_gate ops)) (drop (content.at + 1) image) in
+      let behind : drop (content.at + 1) image ≡ behind_gate ops ++ more = sym (take-append-drop (length (behind_gate ops)) (drop (content.at + 1) image)) ∙ ap (λ (z : List ℕ). z ++ more) written.behind in
+      let bytes : image ≡ take content.at before ++ (open_slot (batch_of ops) ++ 0 ∷ more) =
+      at_offset image content.at 1 written.inside open_now ∙ (λ i. written.front i ++ 1 ∷ behind i)
+      ∙ ap (λ (z : List ℕ). take content.at before ++ 1 ∷ z) (append_assoc ((batch_of ops).number ++ frames ops) (0 ∷ []) more) in
+      let long : length (open_slot (batch_of ops)) ≡ length (behind_gate ops) = omega (arith, length-append ((batch_of ops).number ++ frames ops) (0 ∷ [])) in
+      let same : with_batch content ops ≡ with_ops content ops =
+      ap (λ (n : ℕ). record { replica = content.replica; hold = content.hold; ops = content.ops ++ ops; at = content.at + n; slots = content.slots + 1 }) long in
+      subst (λ (z : List ℕ). HasImage z (Holds (with_ops content ops))) (sym bytes)
+      (subst (λ (c : Content). HasImage (take content.at before ++ (open_slot (batch_of ops) ++ 0 ∷ more)) (Holds c)) same
+      (batch_appended before content ops 0 more h (recursion_from_All HasFrame ops have) short few (λ e. omega (arith, e))))
+
+  -- what a crash leaves holds what the file held, or that with the batch
+  pub holds_either : (image : List ℕ) → content.at + 1 ≤ length before → BeforeOrWritten before content.at (behind_gate ops) image → HoldsEither content ops image
+  holds_either image inside (inl same) =
+      inl (same_to_gate before image content h (subst (λ (n : ℕ). take n image ≡ take n before) (add-one content.at) same))
+  holds_either image inside (inr written) = elim (cases_eq (get_or image content.at 0) 1) [
+    | inl open_now ↦ inr (with_open_gate image written open_now)
+    | inr shut_now ↦ inl (other_gate before image content h written.inside written.front shut_now)
+  ]
+
+-- the same of all states that came
+pub leaves_either : (h k : History) (content : Content) (ops : List Op) → Means h.last content → All HasFrame ops → length (frames ops) ≤ LONGEST_BATCH → content.slots < last_slot
+    → content.at + 1 ≤ length h.last.seen → LeavesOnly h k (BeforeOrWritten h.last.seen content.at (behind_gate ops)) → LeavesOnly h k (HoldsEither content ops)
+leaves_either h k content ops means have short few inside leaves = record {
+  recent = leaves.recent;
+  grows = leaves.grows;
+  each = λ n d below image is. holds_either h.last.seen content ops means have short few image inside (leaves.each n d below image is);
+}
+
+-- the next batch can be appended behind the one that was opened
+has_batch : (before : List ℕ) (s : State) (content : Content) (end : End) (ops : List Op) → HasImage before (Holds content) → content.at ≡ end.at → content.slots ≡ end.slots → All HasFrame ops
+    → length (frames ops) ≤ LONGEST_BATCH → content.slots < last_slot → IsOpened before content.at (behind_gate ops) s → HasBatch content end ops s
+has_batch before s content end ops h at slots have short few is =
+    let means : Means s (with_ops content ops) =
+    with_open_gate before content ops h have short few s.seen is.written (get_or_from_slice_get s.seen content.at 1 0 is.opened) in
+    let reach : content.at + 1 + length (behind_gate ops) ≤ length s.seen =
+    omega (arith, ap length is.written.behind, length-take (length (behind_gate ops)) (drop (content.at + 1) s.seen), length-drop (content.at + 1) s.seen, is.written.inside) in
+    record {
+      means = means;
+      settled = is.settled;
+      ends = record {
+        content = with_ops content ops;
+        means = means;
+        at = ap (λ (n : ℕ). n + length (behind_gate ops)) at;
+        slots = ap (λ (n : ℕ). n + 1) slots;
+        agrees = record {
+          inside = omega (arith, reach, at);
+          each = λ image left. ap (take ((next_end end ops).at + 1)) (image_at_rest s.seen image (subst (λ (t : State). IsImage t image) is.settled left));
+        };
+      };
+    }
+
+-- at every moment since, what a crash leaves holds what the file held, or that with the batch
+abbrev Leaves : List Op → History → Option History → Type 0
+Leaves ops h p = (content : Content) → Means h.last content → LeavesOnlyTo h p (HoldsEither content ops)
+
+-- nothing was done
+pub at_rest_still : (ops : List Op) (old p : Option History) → p ≡ old → IfSome old (λ h. Leaves ops h p)
+at_rest_still ops None p same = tt
+at_rest_still ops (Some h) p same = λ content means. subst (λ o. LeavesOnlyTo h o (HoldsEither content ops)) (sym same) (leaves_none (HoldsEither content ops) h)
+
+module _ (end : End) (ops : List Op) (have : All HasFrame ops) (short : length (frames ops) ≤ LONGEST_BATCH) (few : end.slots < last_slot) (bytes : List ℕ) (is : bytes ≡ behind_gate ops) where
+  -- the batch was written
+  pub at_moments : (old p : Option History) → IfSome old (λ h. EndsAt h.last end) → IfSome old (λ h. LeavesOnlyTo h p (BeforeOrWritten h.last.seen end.at bytes)) → IfSome old (λ h. Leaves ops h p)
+  at_moments None p ends leaves = tt
+  at_moments (Some h) None ends leaves = λ content means. leaves
+  at_moments (Some h) (Some k) ends leaves = λ content means.
+      let same : content ≡ ends.content = same_content h.last.seen content ends.content means ends.means in
+      let at : content.at ≡ end.at = ap (λ (c : Content). c.at) same ∙ ends.at in
+      let slots : content.slots ≡ end.slots = ap (λ (c : Content). c.slots) same ∙ ends.slots in
+      leaves_either h k content ops means have short (omega (arith, slots, few)) (omega (arith, at, ends.agrees.inside))
+      (subst (λ (n : ℕ). LeavesOnly h k (BeforeOrWritten h.last.seen n (behind_gate ops))) (sym at)
+      (subst (λ (b : List ℕ). LeavesOnly h k (BeforeOrWritten h.last.seen end.at b)) is leaves))
+
+  -- and once it is settled that with the batch
+  pub at_last : (old p : Option History) → IfSome old (λ h. EndsAt h.last end) → IfSome old (λ h. OpenedTo h.last.seen end.at bytes p)
+      → IfSome old (λ h. (content : Content) → Means h.last content → IfSome p (λ k. HasBatch content end ops k.last))
+  at_last None p ends opened = tt
+  at_last (Some h) None ends opened = λ content means. tt
+  at_last (Some h) (Some k) ends opened = λ content means.
+      let same : content ≡ ends.content = same_content h.last.seen content ends.content means ends.means in
+      let at : content.at ≡ end.at = ap (λ (c : Content). c.at) same ∙ ends.at in
+      let slots : content.slots ≡ end.slots = ap (λ (c : Content). c.slots) same ∙ ends.slots in
+      has_batch h.last.seen k.last content end ops means at slots have short (omega (arith, slots, few))
+      (subst (λ (n : ℕ). IsOpened h.last.seen n (behind_gate ops) k.last) (sym at)
+      (subst (λ (b : List ℕ). IsOpened h.last.seen end.at b k.last) is opened))

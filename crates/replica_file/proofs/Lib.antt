@@ -1,0 +1,11 @@
+pub mod GateLemmas
+pub mod ExitLemmas
+pub mod AppendLemmas
+pub mod LoadingLemmas
+pub mod ReadingLemmas
+pub mod PieceLemmas
+pub mod PartLemmas
+pub mod SlotLemmas
+pub mod WalkLemmas
+pub mod OnceLemmas
+pub mod LoadLemmas

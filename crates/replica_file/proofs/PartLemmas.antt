@@ -1,0 +1,185 @@
+-- The frames of a part of a file, a piece at a time.
+use Rattle.std.proofs.Common.{◌≡◌, ◌≢◌, ◌⊎◌, inl, inr, ℕ, ◌+◌, ◌-◌, ◌<◌, ◌≤◌, min, List, [], ◌∷◌, ◌++◌, length, take, drop, refl, ap, sym, subst, ◌∙◌, arith, append_assoc, length-append, length-drop}
+use Rattle.std.specs.Prelude.{Option, Some, None, IfSome, Bool, flat_map}
+use Rattle.std.specs.List.{AllByRecursion}
+use Rattle.std.proofs.Math.Seq.{take-add}
+use Rattle.std.proofs.lemmas.Grind.{flat_map-append}
+use Rattle.std.proofs.lemmas.List.{length-take, drop-append-le, drop-take}
+use Rattle.fugue_ids.specs.declared.op.Op.{Op}
+use Rattle.outer_ports.specs.disk.Moments.{History}
+use Rattle.origin_model.specs.frames.Frames.{CutShort, BadFrame, Framed, IsBad, IsFrame, IsPartial, Reads, Starts, Whole}
+use Rattle.op_frame.proofs.FrameLemmas.{bad_goes_on}
+use Rattle.op_frame.proofs.StreamLemmas.{reads_once}
+use Rattle.replica_core.specs.State.{State}
+use Rattle.replica_file.specs.Pieces.{AreBad, AreWhole, TakesPiece}
+use Rattle.replica_file.specs.Slots.{EndsOff, HasNoFrames, TakesFrames, TakesSome, part_of}
+use Rattle.replica_file.proofs.LoadingLemmas.{feeds_none, feeds_then}
+use Rattle.replica_file.proofs.PieceLemmas.{partial_short}
+use Rattle.replica_file.proofs.ReadingLemmas.{drop_twice}
+
+all_join : (xs ys : List Framed) → AllByRecursion IsFrame xs → AllByRecursion IsFrame ys → AllByRecursion IsFrame (xs ++ ys)
+all_join [] ys a b = b
+all_join (x ∷ xs) ys a b = (a.0, all_join xs ys a.1 b)
+
+abbrev bytes_of : List Framed → List ℕ
+bytes_of found = flat_map (λ framed. framed.bytes) found
+
+abbrev ops_of : List Framed → List Op
+ops_of found = flat_map (λ framed. framed.ops) found
+
+starts_none : (bytes : List ℕ) → Starts bytes [] bytes
+starts_none bytes = record { found = []; are_frames = tt; ops_are = refl; split = refl }
+
+-- frames, and frames behind them
+starts_then : (bytes rest last : List ℕ) (ops more : List Op) → Starts bytes ops rest → Starts rest more last → Starts bytes (ops ++ more) last
+starts_then bytes rest last ops more one two = record {
+  found = one.found ++ two.found;
+  are_frames = all_join one.found two.found one.are_frames two.are_frames;
+  ops_are = (λ i. one.ops_are i ++ two.ops_are i) ∙ sym (flat_map-append (λ (framed : Framed). framed.ops) one.found two.found);
+  split = one.split ∙ ap (λ (r : List ℕ). bytes_of one.found ++ r) two.split ∙ sym (append_assoc (bytes_of one.found) (bytes_of two.found) last)
+      ∙ ap (λ (l : List ℕ). l ++ last) (sym (flat_map-append (λ (framed : Framed). framed.bytes) one.found two.found));
+}
+
+-- the same frames where more bytes follow
+starts_further : (bytes rest more : List ℕ) (ops : List Op) → Starts bytes ops rest → Starts (bytes ++ more) ops (rest ++ more)
+starts_further bytes rest more ops one = record {
+  found = one.found;
+  are_frames = one.are_frames;
+  ops_are = one.ops_are;
+  split = ap (λ (l : List ℕ). l ++ more) one.split ∙ append_assoc (bytes_of one.found) rest more;
+}
+
+-- bytes that end off are no whole frames
+pub never_whole : (bytes : List ℕ) → EndsOff bytes → (all : List Op) → Reads bytes all Whole → ⊥
+never_whole bytes off all whole = by_end off.ends
+  where
+    by_end : ((off.rest ≢ []) × IsPartial off.rest) ⊎ IsBad off.rest → ⊥
+    by_end (inl partial) =
+        let same = (reads_once bytes off.ops all (CutShort (length (bytes_of off.starts.found))) Whole (record {
+          found = off.starts.found;
+          are_frames = off.starts.are_frames;
+          ops_are = off.starts.ops_are;
+          rest = off.rest;
+          split = off.starts.split;
+          ends = (refl, partial.0, partial.1);
+        }) whole).1 in
+        cc same
+    by_end (inr bad) =
+        let same = (reads_once bytes off.ops all (BadFrame (length (bytes_of off.starts.found))) Whole (record {
+          found = off.starts.found;
+          are_frames = off.starts.are_frames;
+          ops_are = off.starts.ops_are;
+          rest = off.rest;
+          split = off.starts.split;
+          ends = (refl, bad);
+        }) whole).1 in
+        cc same
+
+module _ (bytes : List ℕ) (at left size : ℕ) (piece : List ℕ) (is : piece ≡ take size (drop at bytes)) (within : size ≤ left) where
+  more : List ℕ
+  more = take (left - size) (drop size (drop at bytes))
+
+  part_is : part_of bytes at left ≡ piece ++ more
+  unfolding more
+  part_is =
+      ap (λ (n : ℕ). take n (drop at bytes)) {x = left} {y = size + (left - size)} (omega (arith, within)) ∙ take-add size (left - size) (drop at bytes)
+      ∙ ap (λ (l : List ℕ). l ++ take (left - size) (drop size (drop at bytes))) (sym is)
+
+  -- the file ends too early
+  pub piece_short : length piece < size → length (drop at bytes) < left
+  piece_short short = omega (arith, ap length is, length-take size (drop at bytes), within, short)
+
+  -- no frame stands in the piece
+  pub piece_bad : AreBad piece → EndsOff (part_of bytes at left)
+  piece_bad bad = subst EndsOff (sym part_is) (record {
+    ops = bad.ops;
+    rest = bad.rest ++ more;
+    starts = starts_further piece bad.rest more bad.ops bad.starts;
+    ends = inr (bad_goes_on bad.rest more bad.bad);
+  })
+
+  -- not even one frame is whole in a piece that is long enough for each, or in what is left
+  pub piece_none : (ops : List Op) → AreWhole piece 0 ops → size ≤ length piece → 0 < size → size ≡ min left 65536 → EndsOff (part_of bytes at left)
+  piece_none ops whole long some smaller = by_ends whole.ends
+    where
+      by_ends : (drop 0 piece ≡ []) ⊎ IsPartial (drop 0 piece) → EndsOff (part_of bytes at left)
+      by_ends (inl none) = absurd (omega (arith, ap length none, long, some))
+      by_ends (inr partial) =
+          let short : length piece < 4096 = partial_short piece partial in
+          let all : size ≡ left = omega (arith, long, short, smaller) in
+          subst EndsOff (is ∙ ap (λ (n : ℕ). take n (drop at bytes)) all) (record {
+            ops = [];
+            rest = piece;
+            starts = starts_none piece;
+            ends = inl ((λ none. omega (arith, ap length none, long, some)), partial);
+          })
+
+  -- whole frames of the piece are some of the part
+  pub piece_took : (len : ℕ) (was now : Bool) (old new : State) → TakesPiece piece len was old now new → TakesSome bytes at left len was old now new
+  piece_took len was now old new took = record {
+    ops = took.ops;
+    inside = omega (arith, took.whole.inside, ap length part_is, length-append piece more);
+    starts = subst (λ (l : List ℕ). Starts l took.ops (drop len l)) (sym part_is)
+        (subst (Starts (piece ++ more) took.ops) (sym (drop-append-le len piece more took.whole.inside)) (starts_further piece (drop len piece) more took.ops took.whole.starts));
+    feeds = took.feeds;
+  }
+
+module _ (bytes : List ℕ) (at len taken : ℕ) (within : taken ≤ len) where
+  -- what is left of a part
+  left_is : part_of bytes (at + taken) (len - taken) ≡ drop taken (part_of bytes at len)
+  left_is =
+      ap (take (len - taken)) (sym (drop_twice taken at bytes)) ∙ sym (drop-take taken (len - taken) (drop at bytes))
+      ∙ ap (λ (n : ℕ). drop taken (take n (drop at bytes))) {x = taken + (len - taken)} {y = len} (omega (arith, within))
+
+  pub frames_more : (l : ℕ) (a b c : Bool) (r s t : State) → TakesSome bytes at len taken a r b s → TakesSome bytes (at + taken) (len - taken) l b s c t → TakesSome bytes at len (taken + l) a r c t
+  frames_more l a b c r s t one two =
+      let behind : Starts (drop taken (part_of bytes at len)) two.ops (drop l (drop taken (part_of bytes at len))) = subst (λ (x : List ℕ). Starts x two.ops (drop l x)) left_is two.starts in
+      record {
+        ops = one.ops ++ two.ops;
+        inside = omega (arith, one.inside, two.inside, ap length left_is, length-drop taken (part_of bytes at len));
+        starts = starts_then (part_of bytes at len) (drop taken (part_of bytes at len)) (drop (taken + l) (part_of bytes at len)) one.ops two.ops one.starts
+            (subst (Starts (drop taken (part_of bytes at len)) two.ops) (drop_twice l taken (part_of bytes at len)) behind);
+        feeds = feeds_then a b c r s t one.ops two.ops one.feeds two.feeds;
+      }
+
+  pub frames_bad : (a b : Bool) (r s : State) → TakesSome bytes at len taken a r b s → HasNoFrames bytes (at + taken) (len - taken) → HasNoFrames bytes at len
+  frames_bad a b r s one (inl short) = inl (omega (arith, short, length-drop (at + taken) bytes, length-drop at bytes))
+  frames_bad a b r s one (inr off) =
+      let behind : EndsOff (drop taken (part_of bytes at len)) = subst EndsOff left_is off in
+      inr (record {
+        ops = one.ops ++ behind.ops;
+        rest = behind.rest;
+        starts = starts_then (part_of bytes at len) (drop taken (part_of bytes at len)) behind.rest one.ops behind.ops one.starts behind.starts;
+        ends = behind.ends;
+      })
+
+none_left : (l : List ℕ) → length l ≡ 0 → l ≡ []
+none_left [] e = refl
+none_left (x ∷ l) e = absurd (omega (arith, e))
+
+pub frames_begin : (bytes : List ℕ) (at len : ℕ) (a : Bool) (r : State) → TakesSome bytes at len 0 a r a r
+frames_begin bytes at len a r = record { ops = []; inside = omega arith; starts = starts_none (part_of bytes at len); feeds = feeds_none a r }
+
+pub frames_over : (bytes : List ℕ) (at len taken : ℕ) (a b : Bool) (r s : State) → taken ≤ len → len ≤ taken → TakesSome bytes at len taken a r b s → TakesFrames bytes at len a r b s
+frames_over bytes at len taken a b r s within all one =
+    let long : length (part_of bytes at len) ≡ len = omega (arith, one.inside, within, all, length-take len (drop at bytes)) in
+    let none : drop taken (part_of bytes at len) ≡ [] = none_left (drop taken (part_of bytes at len)) (omega (arith, length-drop taken (part_of bytes at len), long, all)) in
+    record {
+      ops = one.ops;
+      long = long;
+      reads = record { found = one.starts.found; are_frames = one.starts.are_frames; ops_are = one.starts.ops_are; rest = drop taken (part_of bytes at len); split = one.starts.split; ends = none };
+      feeds = one.feeds;
+    }
+
+-- a fact on the bytes of a disk that was only looked at, from one and two others
+pub told_one : {P Q : History → Type 0} (o : Option History) → ((h : History) → P h → Q h) → IfSome o P → IfSome o Q
+told_one None join p = tt
+told_one (Some h) join p = join h p
+
+pub told_two : {P Q R : History → Type 0} (o q : Option History) → q ≡ o → ((h : History) → P h → Q h → R h) → IfSome o P → IfSome q Q → IfSome o R
+told_two None q same join p r = tt
+told_two {Q = Q} (Some h) q same join p r = join h p (subst (λ s. IfSome s Q) same r)
+
+pub told_all : {P : History → Type 0} (o : Option History) → ((h : History) → P h) → IfSome o P
+told_all None all = tt
+told_all (Some h) all = all h

@@ -1,0 +1,18 @@
+use Rattle.std.proofs.Common.{◌-◌, ◌≤◌}
+use Rattle.std.specs.Prelude.{IfSome}
+use Rattle.replica_file.specs.Loading.{IsReady, IsSame}
+use Rattle.replica_file.specs.Looks.{LooksOnly}
+use Rattle.replica_file.specs.Slots.{TakesSome}
+use Rattle.replica_file.proofs.frames.take_frames.Given as goal
+
+abbrev pub invariant-pieces : goal.invariant-pieces
+invariant-pieces g l = record {
+  within : l.taken ≤ l.len;
+  took : IfSome (g.H.Disk.seen l.fn.disk).past (λ h. TakesSome h.last.seen l.at l.len l.taken l.fn.loading.finds_place l.fn.loading.replica l.loading.finds_place l.loading.replica);
+  ready : IsReady l.loading.replica;
+  same : IsSame l.fn.loading.replica l.loading.replica;
+  looks : LooksOnly (g.H.Disk.seen l.fn.disk) (g.H.Disk.seen l.disk) ⊥;
+}
+
+abbrev pub decreases-pieces : goal.decreases-pieces
+decreases-pieces g l = l.len - l.taken

@@ -1,0 +1,22 @@
+use Rattle.std.proofs.Common.{ℕ, arith, subst, inr}
+use Rattle.std.proofs.lemmas.Result.{err_from_is_err_and}
+use Rattle.replica_file.specs.Pieces.{AreWhole}
+use Rattle.replica_file.proofs.PartLemmas.{piece_bad, piece_none, piece_took, told_one}
+use Rattle.replica_file.proofs.frames.take_some.Goals as goal
+
+pub returns-in_err-len-clause-bad : goal.returns-in_err-len-clause-bad
+returns-in_err-len-clause-bad g c is =
+    let p = err_from_is_err_and c.from_residual-in_err-len.result c.from_residual-in_err-len.ensures.1 in
+    let bad = c.in_err-len.ensures.bad (cc (is, p.1, p.2)) in
+    told_one (g.H.Disk.seen c.args.disk.now).past (λ h told. inr (piece_bad h.last.seen c.args.at c.args.left c.min-size.result c.in_ok-piece.piece.items told (omega arith) bad)) c.in_ok-piece.ensures.told
+
+pub returns-then-len-eq0-clause-bad : goal.returns-then-len-eq0-clause-bad
+returns-then-len-eq0-clause-bad g c is =
+    let took = c.in_ok-len.ensures.took in
+    told_one (g.H.Disk.seen c.args.disk.now).past (λ h told. inr (piece_none h.last.seen c.args.at c.args.left c.min-size.result c.in_ok-piece.piece.items told (omega arith) took.ops
+    (subst (λ (n : ℕ). AreWhole c.in_ok-piece.piece.items n took.ops) c.if-len-eq0.true took.whole) (omega arith) (omega arith) (omega arith))) c.in_ok-piece.ensures.told
+
+pub returns-clause-took : goal.returns-clause-took
+returns-clause-took g c =
+    told_one (g.H.Disk.seen c.args.disk.now).past (λ h told. piece_took h.last.seen c.args.at c.args.left c.min-size.result c.in_ok-piece.piece.items told (omega arith) c.in_ok-len.len
+    c.args.loading.now.finds_place c.take_piece.new.loading.finds_place c.args.loading.now.replica c.take_piece.new.loading.replica c.in_ok-len.ensures.took) c.in_ok-piece.ensures.told

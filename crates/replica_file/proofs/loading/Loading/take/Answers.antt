@@ -1,0 +1,14 @@
+use Rattle.replica_file.proofs.LoadingLemmas.{feeds_dropped, feeds_refused, feeds_taken, refused_many}
+use Rattle.replica_file.proofs.loading.Loading.take.Goals as goal
+
+pub returns-then-not-self-clause-feeds : goal.returns-then-not-self-clause-feeds
+returns-then-not-self-clause-feeds c = feeds_dropped _ _ c.args.op c.if-not-self.true
+
+pub returns-in-Ok-clause-feeds : goal.returns-in-Ok-clause-feeds
+returns-in-Ok-clause-feeds c =
+    feeds_taken _ _ _ c.args.op c.if-not-self.false c.requires.stands (λ many. let no = c.in-Ok.ensures.too_many.1 many in cc no) c.in-Ok.ensures.held
+
+pub returns-in-Err-TooMany-clause-feeds : goal.returns-in-Err-TooMany-clause-feeds
+returns-in-Err-TooMany-clause-feeds c =
+    let both = refused_many _ _ c.args.op _ _ c.in-Err-TooMany.field-0 c.in-Err-TooMany._most c.in-Err-TooMany.field-0-is c.in-Err-TooMany.ensures.too_many c.in-Err-TooMany.ensures.err in
+    feeds_refused _ _ _ c.args.op c.if-not-self.false both.0 both.1

@@ -1,0 +1,20 @@
+use Rattle.std.proofs.Common.{◌≡◌, ◌-◌, ◌+◌, ◌*◌, ◌≤◌}
+use Rattle.std.specs.Prelude.{IfSome, true}
+use Rattle.replica_file.specs.Loading.{IsReady, IsSame}
+use Rattle.replica_file.specs.Looks.{LooksOnly}
+use Rattle.replica_file.specs.Slots.{Walked}
+use Rattle.replica_file.proofs.slots.take_slots.Given as goal
+
+abbrev pub invariant-slots : goal.invariant-slots
+invariant-slots g l = record {
+  walked : IfSome (g.H.Disk.seen l.fn.disk).past (λ h. Walked h.last.seen l.slots l.gate l.loading.replica);
+  reaches : l.gate.at ≤ 13 + 268435461 * l.slots;
+  few : l.slots ≤ 4294967295;
+  finds_place : l.loading.finds_place ≡ true;
+  ready : IsReady l.loading.replica;
+  same : IsSame l.fn.loading.replica l.loading.replica;
+  looks : LooksOnly (g.H.Disk.seen l.fn.disk) (g.H.Disk.seen l.disk) ⊥;
+}
+
+abbrev pub decreases-slots : goal.decreases-slots
+decreases-slots g l = 4294967295 - l.slots

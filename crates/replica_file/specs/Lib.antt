@@ -1,0 +1,9 @@
+pub mod Ends
+pub mod Gates
+pub mod Create
+pub mod Append
+pub mod Load
+pub mod Looks
+pub mod Loading
+pub mod Pieces
+pub mod Slots

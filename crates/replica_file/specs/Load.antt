@@ -1,0 +1,74 @@
+-- What loading a file comes to.
+use Rattle.std.specs.Prelude.{◌≡◌, ◌↔◌, ℕ, ◌<◌, List, [], ◌∷◌, ◌++◌, true, false, Contains, Result, Ok, Err}
+use Rattle.fugue_ids.specs.declared.op.Op.{Op}
+use Rattle.outer_ports.specs.disk.Disks.{RoomView}
+use Rattle.origin_model.specs.files.Image.{Batch, Content, EndsBadly, HasImage, Holds, OpenSlots, batch_ops, has_header, header_of, number_at, slots_of, state}
+use Rattle.origin_model.specs.taking.Taking.{TooMany as AnswersTooMany, answers_from, nothing}
+use Rattle.op_frame.specs.Courses.{HasPlace}
+use Rattle.replica_core.specs.State.{State}
+use Rattle.replica_file.specs.declared.end.End.{End}
+use Rattle.replica_file.specs.declared.load_fault.LoadFault.{LoadFault}
+use Rattle.replica_file.specs.declared.load_fault.LoadFault.TheVariants.{NotReplica, BadBatch, DiskFault, TooMany, NoMemory}
+
+-- the hold that a file's header says
+abbrev pub hold_of : List ℕ → ℕ
+hold_of bytes = number_at 9 (header_of bytes)
+
+-- all of the operations can be taken in by a replica that holds nothing
+abbrev pub FindPlace : (hold most : ℕ) → List Op → Type 0
+FindPlace hold most ops = HasPlace hold most nothing ops
+
+-- one of them is one too many
+abbrev pub AreTooMany : (hold most : ℕ) → List Op → Type 0
+AreTooMany hold most ops = Contains (answers_from hold most nothing ops) AnswersTooMany
+
+-- the replica that took a file's content in
+abbrev pub replica_of : Content → (most : ℕ) → State
+replica_of content most = record { number = content.replica; hold = content.hold; most = most; held = state content }
+
+-- the file holds a content that can all be taken in
+pub record Loads (most : ℕ) (bytes : List ℕ) (replica : State) (end : End) : Type 0 where
+  pub content : Content
+  pub holds : HasImage bytes (Holds content)
+  pub place : FindPlace content.hold most content.ops
+  pub replica_is : replica ≡ replica_of content most
+  pub end_is : end ≡ record { at = content.at; slots = content.slots }
+
+-- the open slot of this number has no batch, and the operations of the slots before it can all be taken in
+pub record FindsBadBatch (most : ℕ) (bytes : List ℕ) (slot : ℕ) : Type 0 where
+  pub header : has_header bytes ≡ true
+  pub ends : EndsBadly (slots_of bytes) slot
+  pub place : FindPlace (hold_of bytes) most (batch_ops ends.batches)
+
+-- an operation of an open slot with a batch is one too many, and those of the slots before it can all be taken in
+pub record FindsTooMany (most : ℕ) (bytes : List ℕ) : Type 0 where
+  pub header : has_header bytes ≡ true
+  pub earlier : List Batch
+  pub batch : Batch
+  pub rest : List ℕ
+  pub found : OpenSlots (slots_of bytes) (earlier ++ batch ∷ []) rest
+  pub place : FindPlace (hold_of bytes) most (batch_ops earlier)
+  pub refused : AreTooMany (hold_of bytes) most (batch_ops (earlier ++ batch ∷ []))
+
+-- the bytes decide such an answer: it is no fault of the disk, and no want of memory
+abbrev pub IsByBytes : Result (State × End) LoadFault → Type 0
+IsByBytes (Err DiskFault) = ⊥
+IsByBytes (Err NoMemory) = ⊥
+IsByBytes result = Unit {0}
+
+-- where which answer comes
+abbrev pub AnswerIs : (most : ℕ) → List ℕ → Result (State × End) LoadFault → Type 0
+AnswerIs most bytes (Ok loaded) = Loads most bytes loaded.0 loaded.1
+AnswerIs most bytes (Err NotReplica) = has_header bytes ≡ false
+AnswerIs most bytes (Err (BadBatch slot)) = FindsBadBatch most bytes slot
+AnswerIs most bytes (Err (TooMany count)) = (count ≡ most) × FindsTooMany most bytes
+AnswerIs most bytes (Err DiskFault) = Unit {0}
+AnswerIs most bytes (Err NoMemory) = Unit {0}
+
+-- each answer comes exactly where the bytes say so, but for a fault of the disk and want of memory
+abbrev pub AnswersBy : Result (State × End) LoadFault → (most : ℕ) → List ℕ → Type 0
+AnswersBy result most bytes = IsByBytes result → (answer : Result (State × End) LoadFault) → IsByBytes answer → (result ≡ answer) ↔ AnswerIs most bytes answer
+
+-- the room lasts for the sync
+abbrev pub LastsToLoad : RoomView → Type 0
+LastsToLoad room = 0 < room.calls

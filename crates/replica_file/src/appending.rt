@@ -1,0 +1,60 @@
+ghost use Rattle.std.specs.Prelude.{◌≡◌, ◌≢◌, ◌⊎◌, ◌↔◌, ◌≤◌, [], IfSome, IfOk, OnOk};
+ghost use Rattle.fugue_ids.specs.Causes.{Rose};
+ghost use Rattle.outer_ports.specs.disk.Moments.{LeavesOnlyTo};
+ghost use Rattle.replica_file.specs.Append.{HasBatch, HoldsEither, IsTooLong, behind_gate, next_end};
+ghost use Rattle.origin_model.specs.files.Image.{Content};
+ghost use Rattle.replica_file.specs.Ends.{EndsAt, Means, Reaches};
+ghost use Rattle.replica_file.specs.Gates.{LastsFor, opened, spent_opening};
+
+use crate::batch::bytes_behind_gate;
+use crate::gate::write_behind;
+use crate::{AppendFault, End};
+use fugue_ids::Op;
+use outer_ports::Disk;
+use std::alloc::Global;
+
+/// Appends the operations as one batch, and answers where the file's meaning ends then. At every moment a crash leaves
+/// all of the batch or none. No operations are no batch: then the file is left as it is.
+pub fn append<H: Disk>(
+    alloc: Global,
+    disk: &mut H,
+    end: End,
+    ops: &[Op],
+) -> Result<End, AppendFault>
+    requires reaches { Reaches end }
+    requires ends { IfSome (H.seen disk.old).past (λ h. EndsAt h.last end) }
+    ensures none { ops.now ≡ [] → (result ≡ Ok end) × (H.seen disk.new ≡ H.seen disk.old) }
+    ensures too_long { result ≢ Err AppendFault.NoMemory
+        → (result ≡ Err AppendFault.BatchTooLong) ↔ IsTooLong end ops.now }
+    ensures untouched { (result ≡ Err AppendFault.BatchTooLong) ⊎ (result ≡ Err AppendFault.NoMemory)
+        → H.seen disk.new ≡ H.seen disk.old }
+    ensures reaches { IfOk result Reaches }
+    ensures end { ops.now ≢ [] → IfOk result (λ behind. behind ≡ next_end end ops.now) }
+    ensures calls { ops.now ≢ [] → OnOk result ((H.seen disk.new).past
+        ≡ opened end.at (behind_gate ops.now) (H.seen disk.old).past) }
+    ensures room { ops.now ≢ [] → OnOk result ((H.seen disk.new).room
+        ≡ spent_opening (behind_gate ops.now) (H.seen disk.old).room) }
+    ensures moments { IfSome (H.seen disk.old).past (λ h. (content : Content) → Means h.last content
+        → LeavesOnlyTo h (H.seen disk.new).past (HoldsEither content ops.now)) }
+    ensures appended { ops.now ≢ [] → OnOk result (IfSome (H.seen disk.old).past (λ h. (content : Content)
+        → Means h.last content → IfSome (H.seen disk.new).past (λ k. HasBatch content end ops.now k.last))) }
+    ensures later { (H.seen disk.old).faults ≤ (H.seen disk.new).faults }
+    ensures cause { result ≡ Err AppendFault.DiskFault → Rose (H.seen disk.old).faults (H.seen disk.new).faults }
+    ensures sure { IfSome (H.seen disk.old).room (λ room.
+        LastsFor (behind_gate ops.now) room → result ≢ Err AppendFault.DiskFault) }
+    ensures calm { IfSome (H.seen disk.old).room (λ room.
+        LastsFor (behind_gate ops.now) room → (H.seen disk.new).faults ≡ (H.seen disk.old).faults) }
+{
+    if ops.is_empty() {
+        return Ok(end);
+    }
+    if end.slots == u32::MAX {
+        return Err(AppendFault::BatchTooLong);
+    }
+    let bytes = bytes_behind_gate(alloc, ops)?;
+    write_behind(disk, end.at, &bytes)?;
+    Ok(End {
+        at: end.at + bytes.len() as u64,
+        slots: end.slots + 1,
+    })
+}

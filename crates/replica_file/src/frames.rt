@@ -1,0 +1,67 @@
+ghost use Rattle.std.specs.Prelude.{◌≡◌, ◌+◌, ◌<◌, ◌≤◌, ◌^◌, IfSome, IfOk, OnOk};
+ghost use Rattle.replica_file.specs.Loading.{IsReady, IsSame};
+ghost use Rattle.replica_file.specs.Looks.{LooksOnly};
+ghost use Rattle.replica_file.specs.Slots.{HasNoFrames, TakesFrames, TakesSome};
+
+use crate::loading::Loading;
+use crate::piece::{PIECE, take_piece};
+use crate::reading::read_piece;
+use crate::stop::Stop;
+use outer_ports::Disk;
+use std::alloc::Global;
+
+/// Takes a part of the file in, which is to be whole frames, a piece at a time. A frame that a piece cuts is read again
+/// with the next one.
+pub(crate) fn take_frames<H: Disk>(
+    alloc: Global,
+    disk: &mut H,
+    at: u64,
+    len: u64,
+    loading: &mut Loading,
+) -> Result<(), Stop>
+    requires small { at + len < 2 ^ 64 }
+    requires ready { IsReady loading.old.replica }
+    ensures took { OnOk result (IfSome (H.seen disk.old).past (λ h. TakesFrames h.last.seen at len
+        loading.old.finds_place loading.old.replica loading.new.finds_place loading.new.replica)) }
+    ensures bad { result ≡ Err Stop.Bad → IfSome (H.seen disk.old).past (λ h. HasNoFrames h.last.seen at len) }
+    ensures ready { OnOk result (IsReady loading.new.replica) }
+    ensures same { OnOk result (IsSame loading.old.replica loading.new.replica) }
+    ensures looks { LooksOnly (H.seen disk.old) (H.seen disk.new) (result ≡ Err Stop.Disk) }
+{
+    let mut taken = 0;
+    'pieces: while taken < len {
+        taken += take_some(alloc, disk, at + taken, len - taken, loading)?;
+    }
+    Ok(())
+}
+
+/// Takes the whole frames of the next piece in, and answers how many bytes they have, which are some.
+fn take_some<H: Disk>(
+    alloc: Global,
+    disk: &mut H,
+    at: u64,
+    left: u64,
+    loading: &mut Loading,
+) -> Result<u64, Stop>
+    requires small { at + left < 2 ^ 64 }
+    requires some { 0 < left }
+    requires ready { IsReady loading.old.replica }
+    ensures within { IfOk result (λ len. (0 < len) × (len ≤ left)) }
+    ensures took { IfOk result (λ len. IfSome (H.seen disk.old).past (λ h. TakesSome h.last.seen at left len
+        loading.old.finds_place loading.old.replica loading.new.finds_place loading.new.replica)) }
+    ensures bad { result ≡ Err Stop.Bad → IfSome (H.seen disk.old).past (λ h. HasNoFrames h.last.seen at left) }
+    ensures ready { OnOk result (IsReady loading.new.replica) }
+    ensures same { OnOk result (IsSame loading.old.replica loading.new.replica) }
+    ensures looks { LooksOnly (H.seen disk.old) (H.seen disk.new) (result ≡ Err Stop.Disk) }
+{
+    let size = left.min(PIECE as u64) as usize;
+    let piece = read_piece(alloc, disk, at, size)?;
+    if piece.len() < size {
+        return Err(Stop::Bad);
+    }
+    let len = take_piece(alloc, piece, loading)?;
+    if len == 0 {
+        return Err(Stop::Bad);
+    }
+    Ok(len)
+}

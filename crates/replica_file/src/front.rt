@@ -1,0 +1,50 @@
+ghost use Rattle.std.specs.Prelude.{◌≡◌, ◌<◌, ◌≤◌, false, IfSome, IfOk, IfErr, ℕ};
+ghost use Rattle.origin_model.specs.files.Image.{has_header};
+ghost use Rattle.fugue_ids.specs.declared.limits.TheConstants.{GREATEST_HOLD};
+ghost use Rattle.replica_file.specs.Looks.{LooksOnly};
+ghost use Rattle.replica_file.specs.Slots.{IsFront, StopsFor};
+
+use crate::LoadFault;
+use crate::gate_place::Gate;
+use crate::header::{HEADER, Header, read_header};
+use crate::slot::read_gate;
+use crate::stop::Stop;
+use outer_ports::Disk;
+
+/// What stands in front of the slots, and the first gate.
+#[derive(Clone, Copy, Debug, PartialEq, Eq)]
+pub(crate) struct Front {
+    pub(crate) header: Header,
+    pub(crate) gate: Gate,
+}
+
+/// The front of a file.
+pub(crate) fn read_front<H: Disk>(disk: &mut H) -> Result<Front, LoadFault>
+    ensures told { IfOk result (λ front. IfSome (H.seen disk.old).past (λ h. IsFront h.last.seen front.header front.gate)) }
+    ensures at { IfOk result (λ front. front.gate.at ≡ 13) }
+    ensures within { IfOk result (λ front.
+        (0 < front.header.replica) × (0 < front.header.hold) × (front.header.hold ≤ GREATEST_HOLD)) }
+    ensures stops { IfErr result (λ fault. IfSome (H.seen disk.old).past (λ h.
+        (most : ℕ) → StopsFor most h.last.seen fault)) }
+    ensures looks { LooksOnly (H.seen disk.old) (H.seen disk.new) (result ≡ Err LoadFault.DiskFault) }
+{
+    match read_both(disk) {
+        Ok(front) => Ok(front),
+        Err(Stop::Bad) => Err(LoadFault::NotReplica),
+        Err(Stop::Disk) => Err(LoadFault::DiskFault),
+        Err(Stop::NoMemory) => Err(LoadFault::NoMemory),
+    }
+}
+
+fn read_both<H: Disk>(disk: &mut H) -> Result<Front, Stop>
+    ensures told { IfOk result (λ front. IfSome (H.seen disk.old).past (λ h. IsFront h.last.seen front.header front.gate)) }
+    ensures at { IfOk result (λ front. front.gate.at ≡ 13) }
+    ensures within { IfOk result (λ front.
+        (0 < front.header.replica) × (0 < front.header.hold) × (front.header.hold ≤ GREATEST_HOLD)) }
+    ensures bad { result ≡ Err Stop.Bad → IfSome (H.seen disk.old).past (λ h. has_header h.last.seen ≡ false) }
+    ensures looks { LooksOnly (H.seen disk.old) (H.seen disk.new) (result ≡ Err Stop.Disk) }
+{
+    let header = read_header(disk)?;
+    let gate = read_gate(disk, HEADER as u64)?;
+    Ok(Front { header, gate })
+}

@@ -1,0 +1,6 @@
+/// A gate of a file.
+#[derive(Clone, Copy, Debug, PartialEq, Eq)]
+pub(crate) struct Gate {
+    pub(crate) at: u64,
+    pub(crate) open: bool,
+}

@@ -1,0 +1,61 @@
+ghost use Rattle.std.specs.Prelude.{◌≡◌, ◌≢◌, ◌⊎◌, ◌<◌, ◌≤◌, ◌+◌, IfSome, IfOk, IfErr, OnOk};
+ghost use Rattle.fugue_ids.specs.Causes.{Rose};
+ghost use Rattle.fugue_ids.specs.declared.limits.TheConstants.{MOST_OPERATIONS};
+ghost use Rattle.outer_ports.specs.disk.Disks.{spent};
+ghost use Rattle.outer_ports.specs.disk.Moments.{LeavesOnlyTo, MayLeave, after};
+ghost use Rattle.outer_ports.specs.disk.States.{settled};
+ghost use Rattle.replica_file.specs.Ends.{EndsAt, Reaches};
+ghost use Rattle.replica_file.specs.Load.{AnswersBy, LastsToLoad, Loads};
+ghost use Rattle.replica_file.specs.Loading.{IsReady};
+ghost use Rattle.replica_file.specs.Looks.{LooksOnly};
+ghost use Rattle.replica_file.specs.Slots.{StopsFor};
+
+use crate::front::read_front;
+use crate::loading::Loading;
+use crate::slots::take_slots;
+use crate::{End, LoadFault};
+use outer_ports::Disk;
+use replica_core::Replica;
+use std::alloc::Global;
+
+/// Loads the replica that a file holds, which may have `most` operations, and finds where the file's meaning ends.
+/// Operations that are refused change nothing and are no fault.
+pub fn load<H: Disk>(alloc: Global, disk: &mut H, most: u32) -> Result<(Replica, End), LoadFault>
+    requires some { 0 < most }
+    requires within { most ≤ MOST_OPERATIONS }
+    ensures exactly { IfSome (H.seen disk.old).past (λ h. AnswersBy result most h.last.seen) }
+    ensures ready { IfOk result (λ loaded. IsReady loaded.0) }
+    ensures ends { IfOk result (λ loaded. IfSome (H.seen disk.new).past (λ h. EndsAt h.last loaded.1)) }
+    ensures reaches { IfOk result (λ loaded. Reaches loaded.1) }
+    ensures synced { ((H.seen disk.new).past ≡ after settled (H.seen disk.old).past)
+        ⊎ ((result ≡ Err LoadFault.DiskFault) × ((H.seen disk.new).past ≡ (H.seen disk.old).past)) }
+    ensures moments { IfSome (H.seen disk.old).past (λ h. LeavesOnlyTo h (H.seen disk.new).past (MayLeave h)) }
+    ensures room { ((H.seen disk.new).room ≡ spent 0 (H.seen disk.old).room)
+        ⊎ ((result ≡ Err LoadFault.DiskFault) × ((H.seen disk.new).room ≡ (H.seen disk.old).room)) }
+    ensures later { (H.seen disk.old).faults ≤ (H.seen disk.new).faults }
+    ensures cause { result ≡ Err LoadFault.DiskFault → Rose (H.seen disk.old).faults (H.seen disk.new).faults }
+    ensures sure { IfSome (H.seen disk.old).room (λ room. LastsToLoad room → result ≢ Err LoadFault.DiskFault) }
+    ensures calm { IfSome (H.seen disk.old).room (λ room.
+        LastsToLoad room → (H.seen disk.new).faults ≡ (H.seen disk.old).faults) }
+{
+    disk.sync()?;
+    read_all(alloc, disk, most)
+}
+
+/// Loads what a read gives.
+fn read_all<H: Disk>(alloc: Global, disk: &mut H, most: u32) -> Result<(Replica, End), LoadFault>
+    requires some { 0 < most }
+    requires within { most ≤ MOST_OPERATIONS }
+    ensures loads { IfOk result (λ loaded. IfSome (H.seen disk.old).past (λ h. Loads most h.last.seen loaded.0 loaded.1)) }
+    ensures stops { IfErr result (λ fault. IfSome (H.seen disk.old).past (λ h. StopsFor most h.last.seen fault)) }
+    ensures ready { IfOk result (λ loaded. IsReady loaded.0) }
+    ensures reaches { IfOk result (λ loaded. Reaches loaded.1) }
+    ensures looks { LooksOnly (H.seen disk.old) (H.seen disk.new) (result ≡ Err LoadFault.DiskFault) }
+{
+    let front = read_front(disk)?;
+    let mut loading = Loading::new(alloc, front.header, most);
+    match take_slots(alloc, disk, front.gate, most, &mut loading) {
+        Ok(end) => Ok((loading.into_replica(), end)),
+        Err(fault) => Err(fault),
+    }
+}

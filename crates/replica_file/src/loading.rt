@@ -1,0 +1,81 @@
+ghost use Rattle.std.specs.Prelude.{◌≡◌, ◌<◌, ◌≤◌, ◌∷◌, [], true, OnOk};
+ghost use Rattle.fugue_ids.specs.declared.limits.TheConstants.{GREATEST_HOLD, MOST_OPERATIONS};
+ghost use Rattle.origin_model.specs.taking.Taking.{nothing};
+ghost use Rattle.replica_core.specs.State.{Stands};
+ghost use Rattle.replica_file.specs.Loading.{Feeds, IsReady, IsSame};
+
+use crate::header::Header;
+use fugue_ids::{NoMemory, Op};
+use origin_model::Tally;
+use replica_core::{FeedFault, Replica};
+use std::alloc::Global;
+
+/// A replica on its way, that takes in a file's operations.
+#[derive(Drop)]
+pub(crate) struct Loading {
+    pub(crate) replica: Replica,
+    /// Whether all operations found their place so far. Those behind one too many are not taken in.
+    pub(crate) finds_place: bool,
+}
+
+impl Loading {
+    /// A replica of this header that holds nothing yet.
+    pub(crate) fn new(alloc: Global, header: Header, most: u32) -> Loading
+        requires some_replica { 0 < header.replica }
+        requires some_hold { 0 < header.hold }
+        requires hold_within { header.hold ≤ GREATEST_HOLD }
+        requires some_most { 0 < most }
+        requires most_within { most ≤ MOST_OPERATIONS }
+        ensures replica { result.replica ≡ record { number = header.replica; hold = header.hold; most = most; held = nothing } }
+        ensures ready { IsReady result.replica }
+        ensures finds_place { result.finds_place ≡ true }
+    {
+        Loading {
+            replica: new_replica(alloc, header, most),
+            finds_place: true,
+        }
+    }
+
+    pub(crate) fn into_replica(self) -> Replica
+        ensures { result ≡ self.replica }
+    {
+        self.replica
+    }
+
+    /// Takes in the next operation. Refusals change nothing and are no faults, but one too many is noted.
+    pub(crate) fn take(&mut self, op: Op) -> Result<(), NoMemory>
+        requires { IsReady self.old.replica }
+        ensures feeds { OnOk result (Feeds self.old.finds_place self.old.replica
+            self.new.finds_place self.new.replica (op ∷ [])) }
+        ensures ready { OnOk result (IsReady self.new.replica) }
+        ensures same { OnOk result (IsSame self.old.replica self.new.replica) }
+    {
+        if !self.finds_place {
+            return Ok(());
+        }
+        let mut tally = Tally::default();
+        match self.replica.feed(op, &mut tally) {
+            Ok(_kept) => Ok(()),
+            Err(FeedFault::TooMany(_most)) => {
+                self.finds_place = false;
+                Ok(())
+            }
+            Err(FeedFault::NoMemory) => Err(NoMemory),
+        }
+    }
+}
+
+fn new_replica(alloc: Global, header: Header, most: u32) -> Replica
+    requires some_replica { 0 < header.replica }
+    requires some_hold { 0 < header.hold }
+    requires hold_within { header.hold ≤ GREATEST_HOLD }
+    requires some_most { 0 < most }
+    requires most_within { most ≤ MOST_OPERATIONS }
+    ensures replica { result ≡ record { number = header.replica; hold = header.hold; most = most; held = nothing } }
+    ensures stands { Stands result }
+{
+    match Replica::new(alloc, header.replica, header.hold, most) {
+        Ok(replica) => replica,
+        Err(_) => unreachable!(),
+    }
+}

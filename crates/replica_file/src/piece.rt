@@ -1,0 +1,91 @@
+ghost use Rattle.std.specs.Prelude.{◌≡◌, ◌≢◌, ◌<◌, ◌≤◌, ◌+◌, [], None, length, List, ℕ, IfOk, OnOk};
+ghost use Rattle.fugue_ids.specs.declared.op.Op.{Op};
+ghost use Rattle.replica_file.specs.Loading.{IsReady, IsSame};
+ghost use Rattle.replica_file.specs.Pieces.{AreBad, IsReading, Steps, TakesPiece};
+
+use crate::loading::Loading;
+use crate::stop::Stop;
+use fugue_ids::NoMemory;
+use op_frame::{FrameFault, FrameReader};
+use outer_ports::{Source, SureSource};
+use std::alloc::Global;
+
+/// How many bytes of a file are read at once.
+pub(crate) const PIECE: usize = 65_536;
+
+/// Some bytes of a file in memory, on their way into a replica.
+#[derive(Drop)]
+struct Piece {
+    reader: FrameReader,
+    source: SureSource,
+    len: u64,
+}
+
+impl Piece {
+    fn new(alloc: Global, bytes: Vec<u8>) -> Result<Piece, NoMemory>
+        ensures reading { IfOk result (λ piece.
+            IsReading bytes.items [] piece.reader (⟦<SureSource as Source>⟧.seen piece.source)) }
+        ensures len { IfOk result (λ piece. piece.len ≡ length bytes.items) }
+    {
+        let len = bytes.len() as u64;
+        Ok(Piece {
+            reader: FrameReader::new(alloc, len)?,
+            source: SureSource::new(bytes, PIECE),
+            len,
+        })
+    }
+
+    /// Takes in the operation of the next frame. Where no whole frame is left, the answer is how many bytes the frames
+    /// until there have.
+    fn take_next(&mut self, loading: &mut Loading) -> Result<Option<u64>, Stop>
+        requires no_fault { self.old.reader.fault ≡ None }
+        requires ready { IsReady loading.old.replica }
+        ensures steps { (bytes : List ℕ) (ops : List Op)
+            → IsReading bytes ops self.old.reader (⟦<SureSource as Source>⟧.seen self.old.source)
+            → self.old.len ≡ length bytes
+            → Steps bytes ops loading.old.finds_place loading.old.replica loading.new.finds_place loading.new.replica
+            self.new.reader (⟦<SureSource as Source>⟧.seen self.new.source) result }
+        ensures goes_on { result ≡ Ok None
+            → (self.new.reader.fault ≡ None) × (self.old.reader.offset < self.new.reader.offset) }
+        ensures within { self.new.reader.offset ≤ self.new.reader.limit }
+        ensures limit { self.new.reader.limit ≡ self.old.reader.limit }
+        ensures len { self.new.len ≡ self.old.len }
+        ensures ready { OnOk result (IsReady loading.new.replica) }
+        ensures same { OnOk result (IsSame loading.old.replica loading.new.replica) }
+        ensures not_disk { result ≢ Err Stop.Disk }
+    {
+        match self.reader.next(&mut self.source) {
+            Ok(Some(op)) => {
+                loading.take(op)?;
+                Ok(None)
+            }
+            Ok(None) => Ok(Some(self.len)),
+            Err(FrameFault::CutShort(offset)) => Ok(Some(offset)),
+            Err(FrameFault::NoMemory) => Err(Stop::NoMemory),
+            Err(FrameFault::BadFrame(_)) => Err(Stop::Bad),
+            // The piece is in memory, and within the limit.
+            Err(FrameFault::ReadFault) => Err(Stop::Bad),
+            Err(FrameFault::TooLong) => Err(Stop::Bad),
+        }
+    }
+}
+
+/// Takes the whole frames at the front of a piece in, and answers how many bytes they have.
+pub(crate) fn take_piece(alloc: Global, bytes: Vec<u8>, loading: &mut Loading) -> Result<u64, Stop>
+    requires { IsReady loading.old.replica }
+    ensures took { IfOk result (λ len. TakesPiece bytes.items len loading.old.finds_place loading.old.replica
+        loading.new.finds_place loading.new.replica) }
+    ensures bad { result ≡ Err Stop.Bad → AreBad bytes.items }
+    ensures ready { OnOk result (IsReady loading.new.replica) }
+    ensures same { OnOk result (IsSame loading.old.replica loading.new.replica) }
+    ensures not_disk { result ≢ Err Stop.Disk }
+{
+    let mut piece = Piece::new(alloc, bytes)?;
+    'frames: loop {
+        match piece.take_next(loading) {
+            Ok(None) => {}
+            Ok(Some(len)) => return Ok(len),
+            Err(stop) => return Err(stop),
+        }
+    }
+}

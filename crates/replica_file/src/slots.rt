@@ -1,0 +1,85 @@
+ghost use Rattle.std.specs.Prelude.{◌≡◌, ◌+◌, ◌*◌, ◌<◌, ◌≤◌, true, IfSome, IfOk, IfErr, OnOk};
+ghost use Rattle.replica_file.specs.Ends.{Reaches};
+ghost use Rattle.replica_file.specs.Loading.{IsReady, IsSame};
+ghost use Rattle.replica_file.specs.Looks.{LooksOnly};
+ghost use Rattle.replica_file.specs.Slots.{StopsFor, Walked, WalksOut};
+
+use crate::gate_place::Gate;
+use crate::loading::Loading;
+use crate::slot::take_slot;
+use crate::stop::Stop;
+use crate::{End, LoadFault};
+use outer_ports::Disk;
+use std::alloc::Global;
+
+/// Takes the slots in from the first gate on, and answers where the file's meaning ends.
+pub(crate) fn take_slots<H: Disk>(
+    alloc: Global,
+    disk: &mut H,
+    first: Gate,
+    most: u32,
+    loading: &mut Loading,
+) -> Result<End, LoadFault>
+    requires walked { IfSome (H.seen disk.old).past (λ h. Walked h.last.seen 0 first loading.old.replica) }
+    requires at { first.at ≡ 13 }
+    requires ready { IsReady loading.old.replica }
+    requires finds_place { loading.old.finds_place ≡ true }
+    requires most { loading.old.replica.most ≡ most }
+    ensures ends { IfOk result (λ end. IfSome (H.seen disk.old).past (λ h. WalksOut h.last.seen end loading.new.replica)) }
+    ensures stops { IfErr result (λ fault. IfSome (H.seen disk.old).past (λ h.
+        StopsFor most h.last.seen fault)) }
+    ensures reaches { IfOk result Reaches }
+    ensures ready { OnOk result (IsReady loading.new.replica) }
+    ensures same { OnOk result (IsSame loading.old.replica loading.new.replica) }
+    ensures looks { LooksOnly (H.seen disk.old) (H.seen disk.new) (result ≡ Err LoadFault.DiskFault) }
+{
+    let mut gate = first;
+    let mut slots = 0;
+    'slots: while gate.open {
+        gate = next_gate(alloc, disk, gate, slots, most, loading)?;
+        slots += 1;
+    }
+    Ok(End { at: gate.at, slots })
+}
+
+/// Takes the open slot of this number in, whose gate this is, and answers the next gate.
+fn next_gate<H: Disk>(
+    alloc: Global,
+    disk: &mut H,
+    gate: Gate,
+    slots: u32,
+    most: u32,
+    loading: &mut Loading,
+) -> Result<Gate, LoadFault>
+    requires walked { IfSome (H.seen disk.old).past (λ h. Walked h.last.seen slots gate loading.old.replica) }
+    requires open { gate.open ≡ true }
+    requires reaches { gate.at ≤ 13 + 268435461 * slots }
+    requires ready { IsReady loading.old.replica }
+    requires finds_place { loading.old.finds_place ≡ true }
+    requires most { loading.old.replica.most ≡ most }
+    ensures walked { IfOk result (λ next. IfSome (H.seen disk.old).past (λ h.
+        Walked h.last.seen (slots + 1) next loading.new.replica)) }
+    ensures stops { IfErr result (λ fault. IfSome (H.seen disk.old).past (λ h.
+        StopsFor most h.last.seen fault)) }
+    ensures more { OnOk result (slots < 4294967295) }
+    ensures reaches { IfOk result (λ next. next.at ≤ 13 + 268435461 * (slots + 1)) }
+    ensures finds_place { OnOk result (loading.new.finds_place ≡ true) }
+    ensures ready { OnOk result (IsReady loading.new.replica) }
+    ensures same { OnOk result (IsSame loading.old.replica loading.new.replica) }
+    ensures looks { LooksOnly (H.seen disk.old) (H.seen disk.new) (result ≡ Err LoadFault.DiskFault) }
+{
+    if slots == u32::MAX {
+        return Err(LoadFault::BadBatch(slots));
+    }
+    match take_slot(alloc, disk, gate.at, loading) {
+        Ok(next) => {
+            if !loading.finds_place {
+                return Err(LoadFault::TooMany(most));
+            }
+            Ok(next)
+        }
+        Err(Stop::Bad) => Err(LoadFault::BadBatch(slots)),
+        Err(Stop::Disk) => Err(LoadFault::DiskFault),
+        Err(Stop::NoMemory) => Err(LoadFault::NoMemory),
+    }
+}

@@ -1,0 +1,32 @@
+use fugue_ids::{Failed, NoMemory};
+
+/// Why the slots of a file are not taken in any further.
+#[derive(Clone, Copy, Debug, PartialEq, Eq)]
+pub(crate) enum Stop {
+    /// The slot has no batch, or no byte stands behind it.
+    Bad,
+    Disk,
+    NoMemory,
+}
+
+impl From<Failed> for Stop {
+    ghost use Rattle.std.specs.Prelude.{◌≡◌};
+    ghost use Rattle.replica_file.specs.declared.stop.Stop.TheVariants.{Disk};
+
+    ghost from_gives = { λ _ stop. stop ≡ Disk };
+
+    fn from(_: Failed) -> Stop {
+        Stop::Disk
+    }
+}
+
+impl From<NoMemory> for Stop {
+    ghost use Rattle.std.specs.Prelude.{◌≡◌};
+    ghost use Rattle.replica_file.specs.declared.stop.Stop.TheVariants.{NoMemory as NoMemoryFound};
+
+    ghost from_gives = { λ _ stop. stop ≡ NoMemoryFound };
+
+    fn from(_: NoMemory) -> Stop {
+        Stop::NoMemory
+    }
+}
