@@ -1,0 +1,4 @@
+pub mod LogLemmas
+pub mod SessionLemmas
+pub mod TakingLemmas
+pub mod PieceLemmas

@@ -1,0 +1,4 @@
+pub mod Greetings
+pub mod Logs
+pub mod Sessions
+pub mod Relays

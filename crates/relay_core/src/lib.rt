@@ -1,0 +1,17 @@
+//! The relay: sessions whose texts are read byte by byte, and the log of the frames that came.
+#![tactic(auto)]
+
+mod greeting;
+mod log;
+mod no_memory_for;
+mod piece;
+mod relay;
+mod session;
+mod sessions;
+mod taking;
+#[cfg(test)]
+mod tests;
+
+pub use no_memory_for::NoMemoryFor;
+pub use origin_model::{Event, Reply};
+pub use relay::{MOST_LOGGED, Relay};

@@ -1,0 +1,61 @@
+ghost use Rattle.std.specs.Prelude.{◌≡◌, true, OnErr, OnOk, option_map};
+ghost use Rattle.std.specs.FinMap as finite;
+ghost use Rattle.origin_model.specs.relay.Relay.{opened};
+ghost use Rattle.relay_core.specs.Sessions.{reading_of, sessions_in, settled};
+
+use crate::session::Session;
+use fugue_ids::NoMemory;
+use std::collections::BTreeMap;
+
+/// The open sessions.
+pub(crate) type Sessions = BTreeMap<u32, Session>;
+
+/// One session more, of whose text nothing came; an open one stays as it is. After want of memory all are as before.
+pub(crate) fn open(sessions: &mut Sessions, n: u32) -> Result<(), NoMemory>
+    ensures ok { OnOk result (sessions_in sessions.new ≡ opened n (sessions_in sessions.old)) }
+    ensures err { OnErr result (sessions_in sessions.new ≡ sessions_in sessions.old) }
+{
+    if sessions.contains_key(&n) {
+        return Ok(());
+    }
+    let Ok(_) = sessions.insert(n, Session::new()) else {
+        return Err(NoMemory);
+    };
+    Ok(())
+}
+
+/// One session less.
+pub(crate) fn close(sessions: &mut Sessions, n: u32)
+    ensures { sessions_in sessions.new ≡ finite.remove (sessions_in sessions.old) n }
+{
+    sessions.remove(&n);
+}
+
+/// A session with another value.
+fn replace(sessions: &mut Sessions, n: u32, session: Session)
+    requires { finite.contains_key (sessions_in sessions.old) n ≡ true }
+    ensures { sessions_in sessions.new ≡ finite.insert (sessions_in sessions.old) n (reading_of session) }
+{
+    if let Some(place) = sessions.get_mut(&n) {
+        *place = session;
+    }
+}
+
+/// What becomes of an open session: it goes on, or is closed.
+pub(crate) fn settle(sessions: &mut Sessions, n: u32, kept: Option<Session>)
+    requires { finite.contains_key (sessions_in sessions.old) n ≡ true }
+    ensures { sessions_in sessions.new ≡ settled n (sessions_in sessions.old) kept }
+{
+    match kept {
+        Some(session) => replace(sessions, n, session),
+        None => close(sessions, n),
+    }
+}
+
+/// A copy of an open session.
+pub(crate) fn copy_of(sessions: &Sessions, n: u32) -> Option<Session>
+    ensures { option_map reading_of result ≡ finite.get (sessions_in sessions.now) n }
+{
+    let session = sessions.get(&n)?;
+    Some(session.copied())
+}

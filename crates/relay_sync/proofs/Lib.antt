@@ -1,0 +1,6 @@
+pub mod ServingLemmas
+pub mod SendingLemmas
+pub mod OverLemmas
+pub mod HearingLemmas
+pub mod SayingLemmas
+pub mod SyncingLemmas

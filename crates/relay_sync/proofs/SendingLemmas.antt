@@ -1,0 +1,134 @@
+-- Sending a reply, whole and up to a fault.
+use Rattle.std.proofs.Common.{[], List, ap, arith, drop, false, length, nat_eq, refl, subst, sym, take, true, ℕ, Bool, ◌+◌, ◌++◌, ◌-◌, ◌<◌, ◌∙◌, ◌∷◌, ◌≡◌, ◌≢◌}
+use Rattle.std.specs.Prelude.{Err, None, Ok, Option, Some, if◌then◌else◌, option_map}
+use Rattle.std.proofs.lemmas.Bool.{eqb-true, eq-eqb, true≢false}
+use Rattle.std.proofs.lemmas.List.{append-nil, take_all}
+use Rattle.fugue_ids.specs.Outs.{OutView, Took, TookFront}
+use Rattle.fugue_ids.proofs.JoinLemmas.{call_grows, call_stops, text_none, took_none}
+use Rattle.origin_model.specs.declared.relay.reply.Reply.{Reply}
+use Rattle.outer_ports.specs.declared.dock.dock_step.DockStep.{DockStep}
+use Rattle.outer_ports.specs.dock.Docks.{DockView, Ends, Sends, Takes, out_to}
+use Rattle.outer_ports.specs.dock.Steps.{with_bytes}
+use Rattle.relay_sync.specs.Sending.{GivesSteps, Replied, RepliedPartly, SendsText}
+use Rattle.relay_sync.specs.Serving.{bytes_to, closed_by}
+
+-- a step that was taken
+pub takes_gives : {E : Type 0} (old new : DockView) (step : DockStep) (buf : List ℕ) → Takes {E = E} old new (Ok step) buf → GivesSteps old new (with_bytes step buf ∷ [])
+takes_gives old new step buf h =
+    record { gave = record { taken = h.taken; comes = (new.coming, h.came, refl) }; nothing_sent = h.nothing_sent; ended = h.ended; port = h.port; later = h.cause.later }
+
+-- nothing was sent yet
+pub sends_none : {E T : Type 0} (x : T) (dock : DockView) (session : ℕ) → SendsText {E = E} {T = T} dock dock (Ok x) session []
+sends_none {E} {T} x dock session =
+    record { writes = text_none {E = E} {T = T} x (out_to session dock); others = λ other apart. (refl, refl); nothing_taken = record { taken = refl; coming = refl }; port = refl; ended = refl }
+
+-- one call more
+pub sends_grow : {E T : Type 0} (x : T) (u v w : DockView) (session : ℕ) (piece : List ℕ) (at n : ℕ) → SendsText {E = E} {T = T} u v (Ok x) session (take at piece)
+    → Sends {E = E} v w (Ok n) session (take (length piece - at) (drop at piece)) → SendsText {E = E} {T = T} u w (Ok x) session (take (at + n) piece)
+sends_grow {E} {T} x u v w session piece at n s t = record {
+  writes = call_grows {E = E} {T = T} x (out_to session u) (out_to session v) (out_to session w) piece at n s.writes t.writes;
+  others = λ other apart. ((t.others other apart).0 ∙ (s.others other apart).0, (t.others other apart).1 ∙ (s.others other apart).1);
+  nothing_taken = record { taken = t.nothing_taken.taken ∙ s.nothing_taken.taken; coming = t.nothing_taken.coming ∙ s.nothing_taken.coming };
+  port = t.port ∙ s.port;
+  ended = t.ended ∙ s.ended;
+}
+
+pub sends_stop : {E T S : Type 0} (x : T) (e : E) (u v w : DockView) (session : ℕ) (piece : List ℕ) (at : ℕ) → at < length piece → SendsText {E = E} {T = T} u v (Ok x) session (take at piece)
+    → Sends {E = E} v w (Err e) session (take (length piece - at) (drop at piece)) → SendsText {E = E} {T = S} u w (Err e) session piece
+sends_stop {E} {T} {S} x e u v w session piece at below s t = record {
+  writes = call_stops {E = E} {T = T} {S = S} x e (out_to session u) (out_to session v) (out_to session w) piece at below s.writes t.writes;
+  others = λ other apart. ((t.others other apart).0 ∙ (s.others other apart).0, (t.others other apart).1 ∙ (s.others other apart).1);
+  nothing_taken = record { taken = t.nothing_taken.taken ∙ s.nothing_taken.taken; coming = t.nothing_taken.coming ∙ s.nothing_taken.coming };
+  port = t.port ∙ s.port;
+  ended = t.ended ∙ s.ended;
+}
+
+-- what one session got is what each got
+module _ (P : OutView → OutView → List ℕ → Type 0) (u v : DockView) (reply : Reply) where
+  each : P (out_to reply.session u) (out_to reply.session v) reply.bytes → ((other : ℕ) → other ≢ reply.session → P (out_to other u) (out_to other v) [])
+      → (session : ℕ) → P (out_to session u) (out_to session v) (bytes_to session (Some reply))
+  each own others session = by_test (nat_eq session reply.session) refl
+    where
+      by_test : (b : Bool) → nat_eq session reply.session ≡ b → P (out_to session u) (out_to session v) (if b then reply.bytes else [])
+      by_test true e = subst (λ n. P (out_to n u) (out_to n v) reply.bytes) (sym (eqb-true session reply.session e)) own
+      by_test false e = others session (λ same. true≢false (sym (eq-eqb session reply.session same) ∙ e))
+
+front_none : (v w : OutView) → Took v w [] → TookFront v w []
+front_none v w t = record { count = 0; within = omega arith; took = t }
+
+front_whole : (v w : OutView) (bytes : List ℕ) → Took v w bytes → TookFront v w bytes
+front_whole v w bytes t = record { count = length bytes; within = omega arith; took = subst (Took v w) (sym (take_all (length bytes) bytes (omega arith))) t }
+
+grows_none : {T : Type 0} (known : Option (List T)) → known ≡ option_map (λ xs. xs ++ []) known
+grows_none None = refl
+grows_none (Some xs) = ap Some (sym (append-nil xs))
+
+-- the reply went out, and its session goes on
+pub replied_on : {E T : Type 0} (x : T) (u v : DockView) (reply : Reply) → reply.closes ≡ false → SendsText {E = E} {T = T} u v (Ok x) reply.session reply.bytes → Replied u v (Some reply)
+replied_on {E} {T} x u v reply on s = record {
+  sent = each Took u v reply s.writes.ok (λ other apart. took_none (out_to other u) (out_to other v) (s.others other apart).0 (s.others other apart).1);
+  ended = rw on (s.ended ∙ grows_none u.ended);
+  nothing_taken = s.nothing_taken;
+  port = s.port;
+  later = s.writes.cause.later;
+}
+
+-- or is ended
+pub replied_ended : {E T F S : Type 0} (x : T) (y : S) (u v w : DockView) (reply : Reply) → reply.closes ≡ true → SendsText {E = E} {T = T} u v (Ok x) reply.session reply.bytes
+    → Ends {E = F} {T = S} v w (Ok y) reply.session → Replied u w (Some reply)
+replied_ended {E} {T} {F} {S} x y u v w reply closes s t = record {
+  sent = each Took u w reply
+      (record { written = t.nothing_sent.sent reply.session ∙ s.writes.ok.written; room = t.nothing_sent.room reply.session ∙ s.writes.ok.room })
+      (λ other apart. took_none (out_to other u) (out_to other w) (t.nothing_sent.sent other ∙ (s.others other apart).0) (t.nothing_sent.room other ∙ (s.others other apart).1));
+  ended = rw closes (t.ended ∙ ap (option_map (λ ended. ended ++ reply.session ∷ [])) s.ended);
+  nothing_taken = record { taken = t.nothing_taken.taken ∙ s.nothing_taken.taken; coming = t.nothing_taken.coming ∙ s.nothing_taken.coming };
+  port = t.port ∙ s.port;
+  later = omega (arith, s.writes.cause.later, t.cause.later);
+}
+
+-- a fault while it went out
+pub replied_front : {E T : Type 0} (e : E) (u v : DockView) (reply : Reply) → SendsText {E = E} {T = T} u v (Err e) reply.session reply.bytes → RepliedPartly u v (Some reply)
+replied_front {E} {T} e u v reply s = record {
+  sent = each TookFront u v reply s.writes.err
+      (λ other apart. front_none (out_to other u) (out_to other v) (took_none (out_to other u) (out_to other v) (s.others other apart).0 (s.others other apart).1));
+  ended = record { count = 0; ended = s.ended ∙ grows_none u.ended };
+  nothing_taken = s.nothing_taken;
+  port = s.port;
+  later = s.writes.cause.later;
+}
+
+-- or as its session was to be ended
+pub replied_open : {E T F S : Type 0} (x : T) (f : F) (u v w : DockView) (reply : Reply) → SendsText {E = E} {T = T} u v (Ok x) reply.session reply.bytes
+    → Ends {E = F} {T = S} v w (Err f) reply.session → RepliedPartly u w (Some reply)
+replied_open {E} {T} {F} {S} x f u v w reply s t = record {
+  sent = each TookFront u w reply
+      (front_whole (out_to reply.session u) (out_to reply.session w) reply.bytes
+      (record { written = t.nothing_sent.sent reply.session ∙ s.writes.ok.written; room = t.nothing_sent.room reply.session ∙ s.writes.ok.room }))
+      (λ other apart.
+      front_none (out_to other u) (out_to other w)
+      (took_none (out_to other u) (out_to other w) (t.nothing_sent.sent other ∙ (s.others other apart).0) (t.nothing_sent.room other ∙ (s.others other apart).1)));
+  ended = record { count = 0; ended = t.kept ∙ s.ended ∙ grows_none u.ended };
+  nothing_taken = record { taken = t.nothing_taken.taken ∙ s.nothing_taken.taken; coming = t.nothing_taken.coming ∙ s.nothing_taken.coming };
+  port = t.port ∙ s.port;
+  later = omega (arith, s.writes.cause.later, t.cause.later);
+}
+
+-- nothing was to be sent
+pub replied_none : (dock : DockView) → Replied dock dock None
+replied_none dock = record {
+  sent = λ session. took_none (out_to session dock) (out_to session dock) refl refl;
+  ended = grows_none dock.ended;
+  nothing_taken = record { taken = refl; coming = refl };
+  port = refl;
+  later = omega arith;
+}
+
+-- a reply that was sent whole, seen as up to a fault
+pub replied_partly : (u v : DockView) (reply : Option Reply) → Replied u v reply → RepliedPartly u v reply
+replied_partly u v reply r = record {
+  sent = λ session. front_whole (out_to session u) (out_to session v) (bytes_to session reply) (r.sent session);
+  ended = record { count = length (closed_by reply); ended = rw (take_all (length (closed_by reply)) (closed_by reply) (omega arith)) r.ended };
+  nothing_taken = r.nothing_taken;
+  port = r.port;
+  later = r.later;
+}

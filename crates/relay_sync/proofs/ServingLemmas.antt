@@ -1,0 +1,190 @@
+-- Turns of serving one behind the other, whole and up to a fault.
+use Rattle.std.proofs.Common.{[], List, ap, append_assoc, arith, length, inl, inr, length-append, refl, subst, sym, take, ℕ, ◌+◌, ◌++◌, ◌<◌, ◌≤◌, ◌∙◌, ◌∷◌, ◌≡◌, ◌⊎◌}
+use Rattle.std.specs.Prelude.{None, Option, Some, map, option_map}
+use Rattle.std.proofs.str.Laws.{order}
+use Rattle.std.proofs.Math.Seq.{take-append-add, take-append_seam}
+use Rattle.std.proofs.lemmas.List.{append-nil, map-append, take-append-le, take_all}
+use Rattle.std.proofs.lemmas.List.Concat.{flat_map-append}
+use Rattle.fugue_ids.specs.Outs.{OutView, Took, TookFront}
+use Rattle.fugue_ids.proofs.JoinLemmas.{took_joins, took_none}
+use Rattle.origin_model.specs.declared.relay.reply.Reply.{Reply}
+use Rattle.origin_model.specs.relay.Relay.{Relay, Runs, Steps}
+use Rattle.origin_model.proofs.SharedLemmas.{runs-append, step_runs}
+use Rattle.outer_ports.specs.dock.Docks.{DockView, SendsNothing, TakesNothing, out_to}
+use Rattle.outer_ports.specs.declared.dock.mem_step.MemStep.{MemStep}
+use Rattle.relay_sync.specs.Sending.{GivesSteps, Replied, RepliedPartly}
+use Rattle.relay_sync.specs.Serving.{Comes, GaveSteps, NoneAfter, Serves, ServesPartly, Turn, bytes_to, closed_by, closed_in, count_over, event_of, over_after, replies_of, sent_to, steps_of}
+
+-- a known list that grows twice
+grows_twice : {T : Type 0} (known : Option (List T)) (a b : List T) → option_map (λ xs. xs ++ b) (option_map (λ xs. xs ++ a) known) ≡ option_map (λ xs. xs ++ (a ++ b)) known
+grows_twice None a b = refl
+grows_twice (Some xs) a b = ap Some (append_assoc xs a b)
+
+grows_none : {T : Type 0} (known : Option (List T)) → known ≡ option_map (λ xs. xs ++ []) known
+grows_none None = refl
+grows_none (Some xs) = ap Some (sym (append-nil xs))
+
+comes-append : (a b c : Option (List MemStep)) (xs ys : List MemStep) → Comes a xs b → Comes b ys c → Comes a (xs ++ ys) c
+comes-append a b c [] ys h i = subst (λ s. Comes s ys c) h i
+comes-append a b c (x ∷ xs) ys h i = (h.0, h.1, comes-append h.0 b c xs ys h.2 i)
+
+-- a front behind a whole part
+front_behind : (u v w : OutView) (a b : List ℕ) → Took u v a → TookFront v w b → TookFront u w (a ++ b)
+front_behind u v w a b s t = record {
+  count = length a + t.count;
+  within = omega (arith, t.within, length-append a b);
+  took = subst (Took u w) (sym (take-append-add a b t.count)) (took_joins u v w a (take t.count b) s t.took);
+}
+
+-- steps one behind the other
+pub gave-append : (a b c : DockView) (xs ys : List MemStep) → GaveSteps a b xs → GaveSteps b c ys → GaveSteps a c (xs ++ ys)
+gave-append a b c xs ys h i =
+    record { taken = i.taken ∙ ap (option_map (λ steps. steps ++ ys)) h.taken ∙ grows_twice a.taken xs ys; comes = comes-append a.coming b.coming c.coming xs ys h.comes i.comes }
+
+gave_none : (a b : DockView) → TakesNothing a b → GaveSteps a b []
+gave_none a b h = record { taken = h.taken ∙ grows_none a.taken; comes = h.coming }
+
+-- a view in the place of one with the same content
+sent_after : (a b : DockView) → SendsNothing a b → (session : ℕ) → Took (out_to session a) (out_to session b) []
+sent_after a b h session = took_none (out_to session a) (out_to session b) (h.sent session) (h.room session)
+
+turns-append : (xs ys : List Turn) → steps_of (xs ++ ys) ≡ steps_of xs ++ steps_of ys
+turns-append xs ys = map-append (λ (t : Turn). t.step) xs ys
+
+runs-turns : (a b c : Relay) (xs ys : List Turn) → Runs a (map event_of (steps_of xs)) b (replies_of xs) → Runs b (map event_of (steps_of ys)) c (replies_of ys)
+    → Runs a (map event_of (steps_of (xs ++ ys))) c (replies_of (xs ++ ys))
+runs-turns a b c xs ys h i =
+    rw (turns-append xs ys, map-append event_of (steps_of xs) (steps_of ys), map-append (λ (t : Turn). t.reply) xs ys)
+    (runs-append (map event_of (steps_of xs)) (map event_of (steps_of ys)) a b c (replies_of xs) (replies_of ys) h i)
+
+sent-append : (session : ℕ) (xs ys : List Turn) → sent_to session (xs ++ ys) ≡ sent_to session xs ++ sent_to session ys
+sent-append session xs ys = flat_map-append (λ (t : Turn). bytes_to session t.reply) xs ys
+
+closed-append : (xs ys : List Turn) → closed_in (xs ++ ys) ≡ closed_in xs ++ closed_in ys
+closed-append xs ys = flat_map-append (λ (t : Turn). closed_by t.reply) xs ys
+
+-- nothing was served yet
+pub serves_none : (relay : Relay) (dock : DockView) → Serves relay relay dock dock []
+serves_none relay dock = record {
+  runs = (refl, refl);
+  gave = gave_none dock dock (record { taken = refl; coming = refl });
+  sent = λ session. took_none (out_to session dock) (out_to session dock) refl refl;
+  ended = grows_none dock.ended;
+  port = refl;
+  later = omega arith;
+}
+
+-- turns behind turns
+pub serves-append : (a b c : Relay) (x y z : DockView) (us vs : List Turn) → Serves a b x y us → Serves b c y z vs → Serves a c x z (us ++ vs)
+serves-append a b c x y z us vs h i = record {
+  runs = runs-turns a b c us vs h.runs i.runs;
+  gave = rw (turns-append us vs) (gave-append x y z (steps_of us) (steps_of vs) h.gave i.gave);
+  sent = λ session. rw (sent-append session us vs) (took_joins (out_to session x) (out_to session y) (out_to session z) (sent_to session us) (sent_to session vs) (h.sent session) (i.sent session));
+  ended = rw (closed-append us vs) (i.ended ∙ ap (option_map (λ ended. ended ++ closed_in vs)) h.ended ∙ grows_twice x.ended (closed_in us) (closed_in vs));
+  port = i.port ∙ h.port;
+  later = omega (arith, h.later, i.later);
+}
+
+-- turns, and then a fault
+pub partly-append : (a b c : Relay) (x y z : DockView) (us : List Turn) → Serves a b x y us → ServesPartly b c y z → ServesPartly a c x z
+partly-append a b c x y z us h i = record {
+  turns = us ++ i.turns;
+  more = i.more;
+  runs = runs-turns a b c us i.turns h.runs i.runs;
+  gave = rw (turns-append us i.turns, append_assoc (steps_of us) (steps_of i.turns) i.more) (gave-append x y z (steps_of us) (steps_of i.turns ++ i.more) h.gave i.gave);
+  sent = λ session.
+      rw (sent-append session us i.turns)
+      (front_behind (out_to session x) (out_to session y) (out_to session z) (sent_to session us) (sent_to session i.turns) (h.sent session) (i.sent session));
+  ended = record {
+    count = length (closed_in us) + i.ended.count;
+    ended = rw (closed-append us i.turns, take-append-add (closed_in us) (closed_in i.turns) i.ended.count)
+        (i.ended.ended ∙ ap (option_map (λ ended. ended ++ take i.ended.count (closed_in i.turns))) h.ended ∙ grows_twice x.ended (closed_in us) (take i.ended.count (closed_in i.turns)));
+  };
+  port = i.port ∙ h.port;
+  later = omega (arith, h.later, i.later);
+}
+
+front_all : (v w : OutView) (bytes : List ℕ) → Took v w bytes → TookFront v w bytes
+front_all v w bytes t = record { count = length bytes; within = omega arith; took = subst (Took v w) (sym (take_all (length bytes) bytes (omega arith))) t }
+
+-- whole turns, seen as up to a fault
+pub whole_partly : (a b : Relay) (x y : DockView) (turns : List Turn) → Serves a b x y turns → ServesPartly a b x y
+whole_partly a b x y turns h = record {
+  turns = turns;
+  more = [];
+  runs = h.runs;
+  gave = rw (append-nil (steps_of turns)) h.gave;
+  sent = λ session. front_all (out_to session x) (out_to session y) (sent_to session turns) (h.sent session);
+  ended = record { count = length (closed_in turns); ended = rw (take_all (length (closed_in turns)) (closed_in turns) (omega arith)) h.ended };
+  port = h.port;
+  later = h.later;
+}
+
+-- steps of which the relay heard none
+pub unheard_partly : (a b : Relay) (x y : DockView) (steps : List MemStep) → b ≡ a → GivesSteps x y steps → ServesPartly a b x y
+unheard_partly a b x y steps same h = record {
+  turns = [];
+  more = steps;
+  runs = (same, refl);
+  gave = h.gave;
+  sent = λ session. front_all (out_to session x) (out_to session y) [] (sent_after x y h.nothing_sent session);
+  ended = record { count = 0; ended = h.ended ∙ grows_none x.ended };
+  port = h.port;
+  later = h.later;
+}
+
+-- a step whose reply was sent
+pub turn_serves : (a b : Relay) (x y z : DockView) (step : MemStep) (reply : Option Reply) → GivesSteps x y (step ∷ []) → Steps a (event_of step) b reply → Replied y z reply
+    → Serves a b x z (record { step = step; reply = reply } ∷ [])
+turn_serves a b x y z step reply g s r = record {
+  runs = step_runs (event_of step) a b reply s;
+  gave = subst (GaveSteps x z) (append-nil (step ∷ [])) (gave-append x y z (step ∷ []) [] g.gave (gave_none y z r.nothing_taken));
+  sent = λ session.
+      rw (append-nil (bytes_to session reply))
+      (took_joins (out_to session x) (out_to session y) (out_to session z) [] (bytes_to session reply) (sent_after x y g.nothing_sent session) (r.sent session));
+  ended = rw (append-nil (closed_by reply)) (r.ended ∙ ap (option_map (λ ended. ended ++ closed_by reply)) g.ended);
+  port = r.port ∙ g.port;
+  later = omega (arith, g.later, r.later);
+}
+
+-- or up to a fault
+pub turn_partly : (a b : Relay) (x y z : DockView) (step : MemStep) (reply : Option Reply) → GivesSteps x y (step ∷ []) → Steps a (event_of step) b reply → RepliedPartly y z reply
+    → ServesPartly a b x z
+turn_partly a b x y z step reply g s r = record {
+  turns = record { step = step; reply = reply } ∷ [];
+  more = [];
+  runs = step_runs (event_of step) a b reply s;
+  gave = gave-append x y z (step ∷ []) [] g.gave (gave_none y z r.nothing_taken);
+  sent = λ session.
+      rw (append-nil (bytes_to session reply))
+      (front_behind (out_to session x) (out_to session y) (out_to session z) [] (bytes_to session reply) (sent_after x y g.nothing_sent session) (r.sent session));
+  ended = record { count = r.ended.count; ended = rw (append-nil (closed_by reply)) (r.ended.ended ∙ ap (option_map (λ ended. ended ++ take r.ended.count (closed_by reply))) g.ended) };
+  port = r.port ∙ g.port;
+  later = omega (arith, g.later, r.later);
+}
+
+pub over-append : (us vs : List Turn) (over : List ℕ) → over_after over (us ++ vs) ≡ over_after (over_after over us) vs
+over-append [] vs over = refl
+over-append (u ∷ us) vs over = over-append us vs (over_after over (u ∷ []))
+
+-- no turn yet
+pub none_before : (sessions : ℕ) → (count : ℕ) → count < 0 → count_over (take count []) < sessions
+none_before sessions count below = absurd (omega (arith, below))
+
+-- the front of a list with one more
+take-more : (turns : List Turn) (turn : Turn) (count : ℕ) → count < length (turns ++ turn ∷ []) → (count < length turns) ⊎ (take count (turns ++ turn ∷ []) ≡ turns)
+take-more turns turn count below = by (order count (length turns))
+  where
+    by : (count < length turns) ⊎ (length turns ≤ count) → (count < length turns) ⊎ (take count (turns ++ turn ∷ []) ≡ turns)
+    by (inl p) = inl p
+    by (inr p) =
+        let same : count ≡ length turns = omega (arith, p, below, length-append turns (turn ∷ [])) in
+        inr (ap (λ n. take n (turns ++ turn ∷ [])) same ∙ take-append_seam turns (turn ∷ []))
+
+-- one turn more, where fewer sessions were over before it
+pub none_after : (sessions : ℕ) (turns : List Turn) (turn : Turn) → NoneAfter sessions turns → count_over turns < sessions → NoneAfter sessions (turns ++ turn ∷ [])
+none_after sessions turns turn none fewer count below = by (take-more turns turn count below)
+  where
+    by : (count < length turns) ⊎ (take count (turns ++ turn ∷ []) ≡ turns) → count_over (take count (turns ++ turn ∷ [])) < sessions
+    by (inl p) = rw (take-append-le count turns (turn ∷ []) (omega (arith, p))) (none count p)
+    by (inr e) = rw e fewer

@@ -1,0 +1,196 @@
+-- A reply on its way: what one message more makes of it.
+use Rattle.std.proofs.Common.{[], List, ap, append_assoc, arith, false, inl, inr, length, length-append, refl, subst, sym, true, ℕ, ◌+◌, ◌++◌, ◌≤◌, ◌∙◌, ◌∷◌, ◌≡◌, ◌≢◌, ◌⊎◌}
+use Rattle.std.specs.Prelude.{All, Err, Ok, Result, is_some, Option, Some, None}
+use Rattle.std.proofs.lemmas.Bool.{cases_Bool}
+use Rattle.std.proofs.lemmas.Grind.{flat_map-append}
+use Rattle.std.proofs.lemmas.List.{append-nil}
+use Rattle.std.proofs.lemmas.List.Elements.{All-nil, All-push}
+use Rattle.fugue_ids.specs.declared.limits.TheConstants.{STREAM_LIMIT}
+use Rattle.fugue_ids.specs.declared.op.Op.{Op}
+use Rattle.fugue_ids.proofs.JoinLemmas.{took_none}
+use Rattle.origin_model.specs.declared.taking.tally.Tally.{Tally}
+use Rattle.origin_model.specs.frames.Frames.{HasFrame, IsFrame, frame, frames}
+use Rattle.origin_model.specs.taking.Taking.{Held, TooMany as AnswersTooMany, answer, held_from, intake, intake_counted, is_kept, kept_from, tally_from}
+use Rattle.origin_model.proofs.SharedLemmas.{held-append}
+use Rattle.op_frame.specs.Courses.{HasPlace}
+use Rattle.op_frame.proofs.CourseLemmas.{places-append, places-one}
+use Rattle.outer_ports.specs.wire.Wires.{WireView, out_of}
+use Rattle.replica_core.specs.Keeping.{LeavesUnkept, TakesInKeeping}
+use Rattle.replica_core.specs.declared.feed_fault.FeedFault.{FeedFault}
+use Rattle.replica_core.specs.declared.feed_fault.FeedFault.TheVariants as feed_fault
+use Rattle.replica_core.specs.State.{State}
+use Rattle.relay_sync.specs.Replies.{Hears, IsMessage, StopsIn, Whole}
+use Rattle.relay_sync.specs.FeedFaults.{fault_of}
+use Rattle.relay_sync.specs.Saying.{SaysTo, text_for}
+use Rattle.relay_sync.specs.Syncing.{FailsToAsk, HearsOne, HearsPartly, HearsReply, IsReady, StopsAt, StopsFor, TakesIn, TakesOne, Taking}
+use Rattle.relay_sync.specs.declared.message.Message.{Message}
+use Rattle.relay_sync.specs.declared.message.Message.TheVariants.{End, Operation}
+use Rattle.relay_sync.specs.declared.sync_fault.SyncFault.{SyncFault}
+use Rattle.relay_sync.specs.declared.sync_fault.SyncFault.TheVariants.{BadReply, CutShort, NoMemory, RelayRefused, TooLong, TooMany, WireFault}
+use Rattle.relay_sync.proofs.HearingLemmas.{hears-append, hears_none, stops_in}
+
+tally-append : (hold most : ℕ) (s : Held) (a b : List Op) (t : Tally) → tally_from hold most (held_from hold most s a) b (tally_from hold most s a t) ≡ tally_from hold most s (a ++ b) t
+tally-append hold most s [] b t = refl
+tally-append hold most s (op ∷ a) b t = tally-append hold most (intake hold most s op) a b (intake_counted hold most s op t)
+
+-- a kept operation, and a refused one
+kept-yes : (hold most : ℕ) (s : Held) (op : Op) (ops : List Op) → is_kept (answer hold most s op) ≡ true
+    → kept_from hold most s (op ∷ ops) ≡ op ∷ kept_from hold most (intake hold most s op) ops
+kept-yes hold most s op ops e = rw (e, kept_from)
+
+kept-no : (hold most : ℕ) (s : Held) (op : Op) (ops : List Op) → is_kept (answer hold most s op) ≡ false
+    → kept_from hold most s (op ∷ ops) ≡ kept_from hold most (intake hold most s op) ops
+kept-no hold most s op ops e = rw (e, kept_from)
+
+-- what is kept of two lists, one behind the other
+kept-append : (hold most : ℕ) (s : Held) (a b : List Op) → kept_from hold most s a ++ kept_from hold most (held_from hold most s a) b ≡ kept_from hold most s (a ++ b)
+kept-append hold most s [] b = refl
+kept-append hold most s (op ∷ a) b =
+    let t : Held = intake hold most s op in
+    elim (cases_Bool (is_kept (answer hold most s op))) [
+      | inl e ↦ ap (λ k. k ++ kept_from hold most (held_from hold most t a) b) (kept-yes hold most s op a e)
+          ∙ ap (λ k. op ∷ k) (kept-append hold most t a b) ∙ sym (kept-yes hold most s op (a ++ b) e)
+      | inr e ↦ ap (λ k. k ++ kept_from hold most (held_from hold most t a) b) (kept-no hold most s op a e)
+          ∙ kept-append hold most t a b ∙ sym (kept-no hold most s op (a ++ b) e)
+    ]
+
+frames-one : (op : Op) → frames (op ∷ []) ≡ frame op
+frames-one op = append-nil (frame op)
+
+-- nothing was taken in yet
+takes_none : (start : Taking) → TakesIn start start []
+takes_none start = record { has_place = All-nil (λ a. a ≢ AnswersTooMany); replica = refl; counts = refl; kept = sym (append-nil start.kept) }
+
+-- one operation more
+takes_more : (start now next : Taking) (ops : List Op) (op : Op) → TakesIn start now ops → answer now.replica.hold now.replica.most now.replica.held op ≢ AnswersTooMany
+    → TakesInKeeping now.replica next.replica op now.counts next.counts now.kept next.kept → TakesIn start next (ops ++ op ∷ [])
+takes_more start now next ops op s place t =
+    let hold : ℕ = start.replica.hold in
+    let most : ℕ = start.replica.most in
+    let held : Held = held_from hold most start.replica.held ops in
+    let reached : State = record start.replica { held = held } in
+    let place : answer hold most held op ≢ AnswersTooMany = subst (λ (r : State). answer r.hold r.most r.held op ≢ AnswersTooMany) s.replica place in
+    let t : TakesInKeeping reached next.replica op now.counts next.counts now.kept next.kept =
+    subst (λ (r : State). TakesInKeeping r next.replica op now.counts next.counts now.kept next.kept) s.replica t in
+    record {
+      has_place = places-append hold most start.replica.held ops (op ∷ []) s.has_place (places-one hold most held op place);
+      replica = t.replica ∙ ap (λ (h : Held). record start.replica { held = h }) (held-append hold most start.replica.held ops (op ∷ []));
+      counts = t.counts ∙ ap (λ (c : Tally). intake_counted hold most held op c) s.counts ∙ tally-append hold most start.replica.held ops (op ∷ []) start.counts;
+      kept = t.kept_are ∙ ap (λ (k : List Op). k ++ kept_from hold most held (op ∷ [])) s.kept
+          ∙ append_assoc start.kept (kept_from hold most start.replica.held ops) (kept_from hold most held (op ∷ []))
+          ∙ ap (λ (k : List Op). start.kept ++ k) (kept-append hold most start.replica.held ops (op ∷ []));
+    }
+
+-- frames were heard, and their operations were taken in
+pub record Goes (old new : WireView) (start now : Taking) (heard : ℕ) : Type 0 where
+  pub ops : List Op
+  pub have_frames : All HasFrame ops
+  pub hears : Hears old new (frames ops)
+  pub takes : TakesIn start now ops
+  pub count : heard ≡ length (frames ops)
+  pub within : heard ≤ STREAM_LIMIT
+
+pub goes_none : (wire : WireView) (start : Taking) → Goes wire wire start start 0
+goes_none wire start = record { ops = []; have_frames = All-nil HasFrame; hears = hears_none wire; takes = takes_none start; count = refl; within = omega arith }
+
+module _ (u v w : WireView) (start now next : Taking) (heard : ℕ) (goes : Goes u v start now heard) where
+  -- one operation more
+  pub goes_on : (last : ℕ) → TakesOne v w now next heard last → Goes u w start next last
+  goes_on last one =
+      let ops : List Op = goes.ops in
+      let op : Op = one.op in
+      let bytes : List ℕ = one.hears.bytes in
+      let is : IsFrame (record { bytes = bytes; ops = op ∷ [] }) = one.hears.is_message in
+      let same : is.op ≡ op = cc is.ops_are in
+      let bytes_are : bytes ≡ frames (op ∷ []) = is.bytes_are ∙ ap frame same ∙ sym (frames-one op) in
+      let joined : frames ops ++ bytes ≡ frames (ops ++ op ∷ []) = ap (λ (b : List ℕ). frames ops ++ b) bytes_are ∙ sym (flat_map-append frame ops (op ∷ [])) in
+      record {
+        ops = ops ++ op ∷ [];
+        have_frames = All-push HasFrame ops op goes.have_frames (subst HasFrame same is.has_frame);
+        hears = subst (Hears u w) joined (hears-append u v w (frames ops) bytes goes.hears one.hears.hears);
+        takes = takes_more start now next ops op goes.takes one.has_place one.takes;
+        count = omega (arith, one.hears.count, goes.count, ap length joined, length-append (frames ops) bytes);
+        within = one.hears.within;
+      }
+
+  -- the end of the reply
+  pub goes_to_end : (last count : ℕ) → Whole (End count) v w heard last [] → next ≡ now → HearsReply u w start next count
+  goes_to_end last count whole same = record {
+    ops = goes.ops;
+    have_frames = goes.have_frames;
+    last = whole.bytes;
+    ends = whole.is_message;
+    hears = hears-append u v w (frames goes.ops) whole.bytes goes.hears whole.hears;
+    within = omega (arith, whole.count, whole.within, goes.count, length-append (frames goes.ops) whole.bytes);
+    takes = subst (λ (t : Taking). TakesIn start t goes.ops) (sym same) goes.takes;
+  }
+
+  -- a fault
+  stops_for : (fault : SyncFault) (bytes : List ℕ) → StopsFor fault v w now next heard bytes → StopsFor fault u w now next heard bytes
+  stops_for WireFault bytes s = (s.0, stops_in WireFault u v w heard bytes goes.hears.later goes.hears.room s.1)
+  stops_for (BadReply at) bytes s = s
+  stops_for (CutShort at) bytes s = s
+  stops_for TooLong bytes s = s
+  stops_for NoMemory bytes s = s
+  stops_for (RelayRefused code) bytes s = s
+  stops_for (TooMany most) bytes s = s
+
+  pub goes_to_fault : (fault : SyncFault) → StopsAt fault v w now next heard → HearsPartly fault u w start next
+  goes_to_fault fault stops = record {
+    ops = goes.ops;
+    have_frames = goes.have_frames;
+    bytes = stops.bytes;
+    hears = hears-append u v w (frames goes.ops) stops.bytes goes.hears stops.hears;
+    middle = now;
+    takes = goes.takes;
+    stops = subst (λ (n : ℕ). StopsFor fault u w now next n stops.bytes) goes.count (stops_for fault stops.bytes stops.stops);
+  }
+
+-- what a message is, by the answer that says so
+pub is_operation : (message : Message) (u v : WireView) (place heard : ℕ) (op : Op) → message ≡ Operation op → Whole message u v place heard [] → Whole (Operation op) u v place heard []
+is_operation message u v place heard op is whole = subst (λ (m : Message). Whole m u v place heard []) is whole
+
+pub is_end : (answer : Option ℕ) (u v : WireView) (before after : Taking) (place heard count : ℕ) → answer ≡ Some count → HearsOne u v before after place heard answer
+    → Whole (End count) u v place heard [] × (after ≡ before)
+is_end answer u v before after place heard count is one = subst (HearsOne u v before after place heard) is one
+
+pub is_more : (answer : Option ℕ) (u v : WireView) (before after : Taking) (place heard : ℕ) → ((count : ℕ) → answer ≡ Some count → ⊥) → HearsOne u v before after place heard answer
+    → TakesOne u v before after place heard
+is_more None u v before after place heard none one = one
+is_more (Some count) u v before after place heard none one = absurd (none count refl)
+
+same_taking : (a b : Taking) → a.replica ≡ b.replica → a.counts ≡ b.counts → a.kept ≡ b.kept → a ≡ b
+same_taking a b p q r = λ i. record { replica = p i; counts = q i; kept = r i }
+
+-- an operation that was heard and not taken in to the end
+pub feed_fails : (u v : WireView) (before after : Taking) (place heard : ℕ) (op : Op) (fault : FeedFault) → Whole (Operation op) u v place heard []
+    → LeavesUnkept before.replica after.replica op before.counts after.counts fault → after.kept ≡ before.kept → StopsAt (fault_of fault) u v before after place
+feed_fails u v before after place heard op (feed_fault.TooMany most) whole left kept = record {
+  bytes = whole.bytes;
+  hears = whole.hears;
+  stops = (same_taking after before left.2 left.3 kept, left.0, op, whole.is_message, left.1);
+}
+feed_fails u v before after place heard op feed_fault.NoMemory whole left kept = record {
+  bytes = whole.bytes;
+  hears = whole.hears;
+  stops = (
+    op,
+    whole.is_message,
+    elim left.1 [
+      | inl none ↦ inl (same_taking after before none.0 none.1 kept)
+      | inr partly ↦ inr (record { replica = left.0; stands = partly; kept = kept })
+    ],
+  );
+}
+
+-- nothing was said for want of memory
+pub fails_at_once : (wire : WireView) (start : Taking) (cursor : ℕ) → FailsToAsk NoMemory wire wire start start cursor
+fails_at_once wire start cursor =
+    record { said = record { count = 0; within = omega arith; took = took_none (out_of wire) (out_of wire) refl refl }; left = refl; cause = omega arith; same = refl }
+
+-- or not all of it was
+pub fails_to_say : {E T : Type 0} (result : Result T E) (e : E) (u v : WireView) (start : Taking) (port cursor : ℕ) (text : List ℕ) → result ≡ Err e → text ≡ text_for cursor start.replica.held
+    → SaysTo u v result port text → FailsToAsk WireFault u v start start cursor
+fails_to_say {E} {T} result e u v start port cursor text is text_is says =
+    let said : SaysTo u v (Err e) port (text_for cursor start.replica.held) = subst (SaysTo u v (Err e) port) text_is (subst (λ (r : Result T E). SaysTo u v r port text) is says) in
+    record { said = said.writes.err; left = said.left; cause = said.writes.cause.failed; same = refl }

@@ -1,0 +1,18 @@
+use Rattle.std.proofs.Common.{List, [], length, ℕ, ◌+◌, ◌++◌, ◌-◌, ◌≤◌, ◌∷◌, ◌≡◌}
+use Rattle.fugue_ids.specs.declared.limits.TheConstants.{STREAM_LIMIT}
+use Rattle.relay_sync.specs.Replies.{Hears, IsMessageFront}
+use Rattle.relay_sync.proofs.hearing.next_frame.Given as goal
+
+-- the bytes so far, the last of which was not looked at yet
+abbrev pub invariant-bytes : goal.invariant-bytes
+invariant-bytes g l = record {
+  bytes : List ℕ;
+  are : l.front ++ l.byte ∷ [] ≡ l.first ∷ bytes;
+  hears : Hears (g.W.Wire.seen l.fn.wire) (g.W.Wire.seen l.wire) bytes;
+  front : IsMessageFront l.front;
+  count : l.heard ≡ l.place + length (l.first ∷ bytes);
+  within : l.heard ≤ STREAM_LIMIT;
+}
+
+abbrev pub decreases-bytes : goal.decreases-bytes
+decreases-bytes g l = STREAM_LIMIT - l.heard

@@ -1,0 +1,5 @@
+use Rattle.relay_sync.proofs.SendingLemmas.{takes_gives}
+use Rattle.relay_sync.proofs.next_step.next_step.Goals as goal
+
+pub returns-in-Err-clause-err : goal.returns-in-Err-clause-err
+returns-in-Err-clause-err g c = (_, takes_gives _ _ c.in-Ok.step _ c.in-Ok.ensures.takes)

@@ -1,0 +1,15 @@
+use Rattle.std.proofs.Common.{List, subst, ℕ}
+use Rattle.std.specs.Prelude.{Ok}
+use Rattle.std.proofs.lemmas.Result.{err_from_is_err_and}
+use Rattle.fugue_ids.specs.declared.failed.Failed.{Failed}
+use Rattle.relay_sync.specs.Sending.{SendsText}
+use Rattle.relay_sync.proofs.SendingLemmas.{replied_open}
+use Rattle.relay_sync.proofs.sending.send_reply.Goals as goal
+
+pub returns-in_err-end-clause-err : goal.returns-in_err-end-clause-err
+returns-in_err-end-clause-err g c =
+    let p = err_from_is_err_and c.from_residual-in_err-end.result c.from_residual-in_err-end.ensures.1 in
+    let reply = c.args.reply.now in
+    let sent : SendsText {E = Failed} {T = Unit {0}} (g.D.Dock.seen c.args.dock.now) (g.D.Dock.seen c.send_whole.new.dock) (Ok tt) reply.session reply.bytes
+    = subst (λ (b : List ℕ). SendsText {E = Failed} {T = Unit {0}} (g.D.Dock.seen c.args.dock.now) (g.D.Dock.seen c.send_whole.new.dock) (Ok tt) reply.session b) c.as_slice.ensures c.in_ok-send_whole.ensures in
+    rw p.1 (replied_open {E = Failed} {T = Unit {0}} {F = Failed} {S = Unit {0}} tt _ _ _ _ reply sent c.in_err-end.ensures)

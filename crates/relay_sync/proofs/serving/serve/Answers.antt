@@ -1,0 +1,29 @@
+use Rattle.std.proofs.Common.{[], arith, length-append, ◌++◌, ◌∷◌}
+use Rattle.std.proofs.lemmas.Result.{err_from_is_err_and}
+use Rattle.relay_sync.specs.Serving.{over_after}
+use Rattle.relay_sync.proofs.ServingLemmas.{none_after, none_before, over-append, partly-append, serves-append, serves_none, whole_partly}
+use Rattle.relay_sync.proofs.OverLemmas.{is_over_none}
+use Rattle.relay_sync.proofs.serving.serve.Goals as goal
+
+pub steps-init : goal.steps-init
+steps-init g c = record { turns = []; serves = serves_none _ _; over = is_over_none _ c.new-over.ensures.empty; none = none_before _; steps = omega arith }
+
+pub returns-then-left-eq0-clause-partly : goal.returns-then-left-eq0-clause-partly
+returns-then-left-eq0-clause-partly g c = whole_partly _ _ _ _ c.steps.invariant.turns c.steps.invariant.serves
+
+pub steps-preserved : goal.steps-preserved
+steps-preserved g c =
+    let i = c.steps.invariant in
+    let s = c.in_ok-serve_step.ensures.ok in
+    record {
+      turns = i.turns ++ s.0 ∷ [];
+      serves = serves-append _ _ _ _ _ _ i.turns (s.0 ∷ []) i.serves s.1;
+      over = rw (over-append i.turns (s.0 ∷ []) []) (s.2 (over_after [] i.turns) i.over);
+      none = none_after c.args.sessions i.turns s.0 i.none (omega (arith, c.steps-test.true, c.len.ensures.len, i.over.count));
+      steps = omega (arith, i.steps, c.if-left-eq0.false, length-append i.turns (s.0 ∷ []));
+    }
+
+pub returns-in_err-serve_step-clause-partly : goal.returns-in_err-serve_step-clause-partly
+returns-in_err-serve_step-clause-partly g c =
+    let p = err_from_is_err_and c.from_residual.result c.from_residual.ensures.1 in
+    rw p.1 (partly-append _ _ _ _ _ _ c.steps.invariant.turns c.steps.invariant.serves c.in_err-serve_step.ensures.partly)

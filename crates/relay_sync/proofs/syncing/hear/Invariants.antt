@@ -1,0 +1,15 @@
+use Rattle.std.proofs.Common.{◌-◌}
+use Rattle.fugue_ids.specs.declared.limits.TheConstants.{STREAM_LIMIT}
+use Rattle.relay_sync.specs.Syncing.{IsReady, begun}
+use Rattle.relay_sync.proofs.SyncingLemmas.{Goes}
+use Rattle.relay_sync.proofs.syncing.hear.Given as goal
+
+abbrev pub invariant-messages : goal.invariant-messages
+invariant-messages g l = record {
+  goes : Goes (g.W.Wire.seen l.fn.wire) (g.W.Wire.seen l.wire) (begun l.fn.replica l.fn.kept.items)
+      (record { replica = l.replica; counts = l.tally; kept = l.kept.items }) l.heard;
+  ready : IsReady (record { replica = l.replica; counts = l.tally; kept = l.kept.items }) l.heard;
+}
+
+abbrev pub decreases-messages : goal.decreases-messages
+decreases-messages g l = STREAM_LIMIT - l.heard

@@ -1,0 +1,39 @@
+-- What one step of serving does to a dock: a step is taken, and a reply is sent.
+use Rattle.std.specs.Prelude.{◌≡◌, ◌≢◌, ℕ, ◌≤◌, List, Result, Option, option_map, ◌++◌}
+use Rattle.fugue_ids.specs.Outs.{Took, TookFront, WritesText}
+use Rattle.origin_model.specs.declared.relay.reply.Reply.{Reply}
+use Rattle.outer_ports.specs.dock.Docks.{DockView, SendsNothing, TakesNothing, out_to}
+use Rattle.outer_ports.specs.declared.dock.mem_step.MemStep.{MemStep}
+use Rattle.relay_sync.specs.Serving.{EndedFront, GaveSteps, bytes_to, closed_by}
+
+-- the dock gave these steps, and nothing else happened to it
+pub record GivesSteps (old new : DockView) (steps : List MemStep) : Type 0 where
+  pub gave : GaveSteps old new steps
+  pub nothing_sent : SendsNothing old new
+  pub ended : new.ended ≡ old.ended
+  pub port : new.port ≡ old.port
+  pub later : old.faults ≤ new.faults
+
+-- a text goes out to one session, whole or up to a fault
+pub record SendsText {E T : Type 0} (old new : DockView) (result : Result T E) (session : ℕ) (text : List ℕ) : Type 0 where
+  pub writes : WritesText (out_to session old) (out_to session new) result text
+  pub others : (other : ℕ) → other ≢ session → (new.sent other ≡ old.sent other) × (new.room other ≡ old.room other)
+  pub nothing_taken : TakesNothing old new
+  pub port : new.port ≡ old.port
+  pub ended : new.ended ≡ old.ended
+
+-- the reply was sent whole, to its session alone, which is ended where the reply closes it
+pub record Replied (old new : DockView) (reply : Option Reply) : Type 0 where
+  pub sent : (session : ℕ) → Took (out_to session old) (out_to session new) (bytes_to session reply)
+  pub ended : new.ended ≡ option_map (λ ended. ended ++ closed_by reply) old.ended
+  pub nothing_taken : TakesNothing old new
+  pub port : new.port ≡ old.port
+  pub later : old.faults ≤ new.faults
+
+-- the same up to a fault
+pub record RepliedPartly (old new : DockView) (reply : Option Reply) : Type 0 where
+  pub sent : (session : ℕ) → TookFront (out_to session old) (out_to session new) (bytes_to session reply)
+  pub ended : EndedFront old new (closed_by reply)
+  pub nothing_taken : TakesNothing old new
+  pub port : new.port ≡ old.port
+  pub later : old.faults ≤ new.faults

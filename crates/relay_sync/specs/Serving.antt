@@ -1,0 +1,110 @@
+-- What serving does: the steps that a dock gives are given to a relay, and its replies are sent.
+use Rattle.std.specs.Prelude.{◌≡◌, ℕ, ◌<◌, ◌≤◌, List, [], ◌∷◌, ◌++◌, length, take, flat_map, map, nat_eq, if◌then◌else◌, Option, Some, None, option_map}
+use Rattle.fugue_ids.specs.Outs.{Took, TookFront}
+use Rattle.origin_model.specs.declared.relay.event.Event.{Event}
+use Rattle.origin_model.specs.declared.relay.event.Event.TheVariants as event
+use Rattle.origin_model.specs.declared.relay.reply.Reply.{Reply}
+use Rattle.origin_model.specs.relay.Relay.{Relay, Runs}
+use Rattle.outer_ports.specs.dock.Docks.{DockView, out_to}
+use Rattle.outer_ports.specs.dock.Steps.{GivesSome}
+use Rattle.outer_ports.specs.declared.dock.mem_step.MemStep.{MemStep}
+use Rattle.outer_ports.specs.declared.dock.mem_step.MemStep.TheVariants.{Opened, Bytes, Gone}
+use Rattle.relay_sync.specs.Over.{noted}
+
+-- a step, as an event of the relay
+abbrev pub event_of : MemStep → Event
+event_of (Opened session) = event.Opened session
+event_of (Bytes session bytes) = event.Piece session bytes
+event_of (Gone session) = event.Gone session
+
+-- a step, and the relay's reply to it
+pub record Turn : Type 0 where
+  pub step : MemStep
+  pub reply : Option Reply
+
+abbrev pub steps_of : List Turn → List MemStep
+steps_of turns = map (λ turn. turn.step) turns
+
+abbrev pub replies_of : List Turn → List (Option Reply)
+replies_of turns = map (λ turn. turn.reply) turns
+
+-- what a reply brings to a session
+abbrev pub bytes_to : ℕ → Option Reply → List ℕ
+bytes_to session None = []
+bytes_to session (Some reply) = if nat_eq session reply.session then reply.bytes else []
+
+-- the replies to a session, one behind the other
+abbrev pub sent_to : ℕ → List Turn → List ℕ
+sent_to session turns = flat_map (λ turn. bytes_to session turn.reply) turns
+
+-- the session that a reply closes
+abbrev pub closed_by : Option Reply → List ℕ
+closed_by None = []
+closed_by (Some reply) = if reply.closes then reply.session ∷ [] else []
+
+abbrev pub closed_in : List Turn → List ℕ
+closed_in turns = flat_map (λ turn. closed_by turn.reply) turns
+
+-- the sessions that are over, with those that the reply closes
+abbrev pub with_closed : List ℕ → Option Reply → List ℕ
+with_closed over None = over
+with_closed over (Some reply) = if reply.closes then noted over reply.session else over
+
+-- and with the one that is gone
+abbrev pub with_gone : List ℕ → MemStep → List ℕ
+with_gone over (Opened session) = over
+with_gone over (Bytes session bytes) = over
+with_gone over (Gone session) = noted over session
+
+-- the same by the number that is gone
+abbrev pub with_number : List ℕ → Option ℕ → List ℕ
+with_number over None = over
+with_number over (Some session) = noted over session
+
+abbrev pub over_after : List ℕ → List Turn → List ℕ
+over_after over [] = over
+over_after over (turn ∷ turns) = over_after (with_gone (with_closed over turn.reply) turn.step) turns
+
+-- how many sessions are closed or gone
+abbrev pub count_over : List Turn → ℕ
+count_over turns = length (over_after [] turns)
+
+-- the steps came one after another, each whole or in part
+abbrev pub Comes : Option (List MemStep) → List MemStep → Option (List MemStep) → Type 0
+Comes old [] new = new ≡ old
+Comes old (step ∷ steps) new = (middle : Option (List MemStep)) × GivesSome old middle step × Comes middle steps new
+
+-- the dock gave these steps
+pub record GaveSteps (old new : DockView) (steps : List MemStep) : Type 0 where
+  pub taken : new.taken ≡ option_map (λ taken. taken ++ steps) old.taken
+  pub comes : Comes old.coming steps new.coming
+
+-- each step was given to the relay, and each reply was sent whole, to its session alone; those that close theirs ended it
+pub record Serves (old_relay new_relay : Relay) (old new : DockView) (turns : List Turn) : Type 0 where
+  pub runs : Runs old_relay (map event_of (steps_of turns)) new_relay (replies_of turns)
+  pub gave : GaveSteps old new (steps_of turns)
+  pub sent : (session : ℕ) → Took (out_to session old) (out_to session new) (sent_to session turns)
+  pub ended : new.ended ≡ option_map (λ ended. ended ++ closed_in turns) old.ended
+  pub port : new.port ≡ old.port
+  pub later : old.faults ≤ new.faults
+
+-- a front of the sessions was ended
+pub record EndedFront (old new : DockView) (sessions : List ℕ) : Type 0 where
+  pub count : ℕ
+  pub ended : new.ended ≡ option_map (λ ended. ended ++ take count sessions) old.ended
+
+-- the same up to a fault: the relay stands after a front of the events, and each session was sent a front of its bytes
+pub record ServesPartly (old_relay new_relay : Relay) (old new : DockView) : Type 0 where
+  pub turns : List Turn
+  -- the step that the relay was not given
+  pub more : List MemStep
+  pub runs : Runs old_relay (map event_of (steps_of turns)) new_relay (replies_of turns)
+  pub gave : GaveSteps old new (steps_of turns ++ more)
+  pub sent : (session : ℕ) → TookFront (out_to session old) (out_to session new) (sent_to session turns)
+  pub ended : EndedFront old new (closed_in turns)
+  pub port : new.port ≡ old.port
+  pub later : old.faults ≤ new.faults
+
+-- no step was asked for once so many sessions were over
+abbrev pub NoneAfter : ℕ → List Turn → Type 0
+NoneAfter sessions turns = (count : ℕ) → count < length turns → count_over (take count turns) < sessions

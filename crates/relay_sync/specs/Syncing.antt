@@ -1,0 +1,142 @@
+-- An exchange with a relay: a replica says what it holds, hears the reply, and takes in its operations as they come.
+use Rattle.std.specs.Prelude.{◌≡◌, ◌≢◌, ◌⊎◌, ◌+◌, ◌*◌, ◌≤◌, ℕ, All, List, [], ◌∷◌, ◌++◌, length, Option, Some, None, Result, Err, option_map}
+use Rattle.fugue_ids.specs.Causes.{Rose}
+use Rattle.fugue_ids.specs.Outs.{Took, TookFront}
+use Rattle.fugue_ids.specs.declared.limits.TheConstants.{GREATEST_HOLD, STREAM_LIMIT}
+use Rattle.fugue_ids.specs.declared.op.Op.{Op}
+use Rattle.origin_model.specs.declared.taking.tally.Tally.{Tally}
+use Rattle.origin_model.specs.frames.Frames.{HasFrame, frames}
+use Rattle.origin_model.specs.taking.Taking.{Held, IsSettled, TooMany as AnswersTooMany, answer, held_from, kept_from, no_counts, tally_from}
+use Rattle.op_frame.specs.Courses.{HasPlace}
+use Rattle.outer_ports.specs.wire.Wires.{WireView, out_of}
+use Rattle.replica_core.specs.Keeping.{TakesInKeeping}
+use Rattle.replica_core.specs.State.{State}
+use Rattle.replica_core.specs.Told.{StandsPartly, total}
+use Rattle.relay_sync.specs.Replies.{Hears, IsMessage, StopsIn, Whole}
+use Rattle.relay_sync.specs.Saying.{text_for}
+use Rattle.relay_sync.specs.declared.message.Message.TheVariants.{End, Operation, Refusal}
+use Rattle.relay_sync.specs.declared.sync_fault.SyncFault.{SyncFault}
+use Rattle.relay_sync.specs.declared.sync_fault.SyncFault.TheVariants.{BadReply, CutShort, NoMemory, RelayRefused, TooLong, TooMany, WireFault}
+
+-- a replica that takes in a reply, what became of the operations so far, and copies of those that were kept
+pub record Taking : Type 0 where
+  pub replica : State
+  pub counts : Tally
+  pub kept : List Op
+
+-- nothing was counted yet
+abbrev pub begun : State → List Op → Taking
+begun replica kept = record { replica = replica; counts = no_counts; kept = kept }
+
+-- the operations were taken in one after another, and each found its place
+pub record TakesIn (old new : Taking) (ops : List Op) : Type 0 where
+  pub has_place : HasPlace old.replica.hold old.replica.most old.replica.held ops
+  pub replica : new.replica ≡ record old.replica { held = held_from old.replica.hold old.replica.most old.replica.held ops }
+  pub counts : new.counts ≡ tally_from old.replica.hold old.replica.most old.replica.held ops old.counts
+  pub kept : new.kept ≡ old.kept ++ kept_from old.replica.hold old.replica.most old.replica.held ops
+
+-- memory was wanting while the operation, which stands already, settled others
+pub record TakesPartly (old new : Taking) (op : Op) : Type 0 where
+  pub replica : new.replica ≡ record old.replica { held = new.replica.held }
+  pub stands : StandsPartly old.replica.hold old.replica.most old.replica.held new.replica.held op old.counts new.counts
+  pub kept : new.kept ≡ old.kept
+
+-- one operation more can be taken in and counted
+pub record IsReady (now : Taking) (heard : ℕ) : Type 0 where
+  pub settled : IsSettled now.replica.held
+  -- a frame has more than one byte
+  pub few : 2 * (total now.counts + length now.replica.held.waiting) ≤ heard + 2 * GREATEST_HOLD
+
+-- the reply was heard to its end, and its operations were taken in
+pub record HearsReply (old new : WireView) (before after : Taking) (count : ℕ) : Type 0 where
+  pub ops : List Op
+  pub have_frames : All HasFrame ops
+  pub last : List ℕ
+  pub ends : IsMessage (End count) last
+  pub hears : Hears old new (frames ops ++ last)
+  pub within : length (frames ops ++ last) ≤ STREAM_LIMIT
+  pub takes : TakesIn before after ops
+
+-- why no more was heard, behind the frames of what was taken in: the bytes there decide
+abbrev pub StopsFor : SyncFault → (old new : WireView) → (before after : Taking) → (place : ℕ) → List ℕ → Type 0
+StopsFor (RelayRefused code) old new before after place bytes = (after ≡ before) × IsMessage (Refusal code) bytes × (place + length bytes ≤ STREAM_LIMIT)
+StopsFor (TooMany most) old new before after place bytes =
+    (after ≡ before) × (most ≡ before.replica.most) × (op : Op) × IsMessage (Operation op) bytes
+    × (answer before.replica.hold before.replica.most before.replica.held op ≡ AnswersTooMany)
+StopsFor NoMemory old new before after place bytes = (op : Op) × IsMessage (Operation op) bytes × ((after ≡ before) ⊎ TakesPartly before after op)
+StopsFor fault old new before after place bytes = (after ≡ before) × StopsIn fault old new place bytes
+
+-- the reply was heard up to a fault, and the operations before it were taken in
+pub record HearsPartly (fault : SyncFault) (old new : WireView) (before after : Taking) : Type 0 where
+  pub ops : List Op
+  pub have_frames : All HasFrame ops
+  pub bytes : List ℕ
+  pub hears : Hears old new (frames ops ++ bytes)
+  pub middle : Taking
+  pub takes : TakesIn before middle ops
+  pub stops : StopsFor fault old new middle after (length (frames ops)) bytes
+
+-- all that the replica holds was said to the port
+pub record Asks (old new : WireView) (port cursor : ℕ) (held : Held) : Type 0 where
+  pub dialled : new.port ≡ option_map (λ before. Some port) old.port
+  pub said : Took (out_of old) (out_of new) (text_for cursor held)
+  pub left : new.left ≡ old.left
+  pub later : old.faults ≤ new.faults
+
+-- why not all of it was said
+abbrev pub SaysNotAll : SyncFault → (old new : WireView) → Type 0
+SaysNotAll WireFault old new = Rose old.faults new.faults
+SaysNotAll NoMemory old new = old.faults ≤ new.faults
+SaysNotAll fault old new = ⊥
+
+-- the replica said what it holds, and took in the reply
+pub record Syncs (old new : WireView) (before after : Taking) (port cursor count : ℕ) : Type 0 where
+  pub asked : WireView
+  pub asks : Asks old asked port cursor before.replica.held
+  pub hears : HearsReply asked new before after count
+
+-- a front of it was said, and nothing was heard
+pub record FailsToAsk (fault : SyncFault) (old new : WireView) (before after : Taking) (cursor : ℕ) : Type 0 where
+  pub said : TookFront (out_of old) (out_of new) (text_for cursor before.replica.held)
+  pub left : new.left ≡ old.left
+  pub cause : SaysNotAll fault old new
+  pub same : after ≡ before
+
+-- it was said, and the reply was heard up to a fault
+pub record FailsToHear (fault : SyncFault) (old new : WireView) (before after : Taking) (port cursor : ℕ) : Type 0 where
+  pub asked : WireView
+  pub asks : Asks old asked port cursor before.replica.held
+  pub hears : HearsPartly fault asked new before after
+
+abbrev pub Fails : SyncFault → (old new : WireView) → (before after : Taking) → (port cursor : ℕ) → Type 0
+Fails fault old new before after port cursor = FailsToAsk fault old new before after cursor ⊎ FailsToHear fault old new before after port cursor
+
+-- calls are sure, and so many bytes fit
+abbrev pub Fits : ℕ → WireView → Type 0
+Fits count wire = (room : ℕ) × (wire.room ≡ Some room) × (count ≤ room)
+
+-- a call on the wire is blamed only where one failed, and none fails on a sure wire which what is said fits
+pub record BlamesWire {T : Type 0} (said : ℕ) (old new : WireView) (result : Result T SyncFault) : Type 0 where
+  pub later : old.faults ≤ new.faults
+  pub rose : result ≡ Err WireFault → Rose old.faults new.faults
+  pub calm : Fits said old → new.faults ≡ old.faults
+  pub sure : Fits said old → result ≢ Err WireFault
+
+-- one message was heard: an operation, which was taken in
+pub record TakesOne (old new : WireView) (before after : Taking) (place heard : ℕ) : Type 0 where
+  pub op : Op
+  pub hears : Whole (Operation op) old new place heard []
+  pub has_place : answer before.replica.hold before.replica.most before.replica.held op ≢ AnswersTooMany
+  pub takes : TakesInKeeping before.replica after.replica op before.counts after.counts before.kept after.kept
+  pub ready : IsReady after heard
+
+-- or the end of the reply
+abbrev pub HearsOne : (old new : WireView) → (before after : Taking) → (place heard : ℕ) → Option ℕ → Type 0
+HearsOne old new before after place heard None = TakesOne old new before after place heard
+HearsOne old new before after place heard (Some count) = Whole (End count) old new place heard [] × (after ≡ before)
+
+-- or a fault was met
+pub record StopsAt (fault : SyncFault) (old new : WireView) (before after : Taking) (place : ℕ) : Type 0 where
+  pub bytes : List ℕ
+  pub hears : Hears old new bytes
+  pub stops : StopsFor fault old new before after place bytes

@@ -1,0 +1,133 @@
+ghost use Rattle.std.specs.Prelude.{◌≡◌, ◌≢◌, ◌+◌, ◌≤◌, ◌∷◌, [], IfErr, IfOk, List, length, ℕ};
+ghost use Rattle.fugue_ids.specs.declared.op.Op.{Op as AnyOp};
+ghost use Rattle.origin_model.specs.frames.Frames.{IsFrame};
+ghost use Rattle.op_frame.specs.FrameFronts.{IsFrameOf};
+ghost use Rattle.relay_sync.specs.Replies.{Hears, IsMessageFront, Stops, Whole};
+ghost use Rattle.relay_sync.specs.declared.message.Message.TheVariants.{Operation};
+ghost use Rattle.relay_sync.specs.declared.sync_fault.SyncFault.TheVariants.{NoMemory as WantsMemory};
+
+use crate::message::Message;
+use crate::sync_fault::SyncFault;
+use fugue_ids::{Op, STREAM_LIMIT};
+use op_frame::{First, FrameFront, Grown, first_frame};
+use outer_ports::Wire;
+use std::alloc::Global;
+
+/// The first byte of the message that ends a reply.
+const END: u8 = 0x55;
+
+/// The first byte of the message that refuses.
+const REFUSAL: u8 = 0x58;
+
+/// Hears the next message of a reply, byte by byte, so that nothing behind it is heard.
+pub(crate) fn next_message<W: Wire>(
+    alloc: Global,
+    wire: &mut W,
+    heard: &mut u64,
+) -> Result<Message, SyncFault>
+    requires { heard.old ≤ STREAM_LIMIT }
+    ensures ok { IfOk result (λ message. Whole message (W.seen wire.old) (W.seen wire.new) heard.old heard.new []) }
+    ensures err { IfErr result (λ fault. Stops fault (W.seen wire.old) (W.seen wire.new) heard.old []) }
+{
+    let place = *heard;
+    let first = next_byte(wire, heard, place)?;
+    match first {
+        END => next_number(wire, heard, place),
+        REFUSAL => next_code(wire, heard, place),
+        _ => next_frame(alloc, wire, heard, place, first),
+    }
+}
+
+/// Hears one byte more of the message at the place. The one past the limit is too many.
+fn next_byte<W: Wire>(wire: &mut W, heard: &mut u64, place: u64) -> Result<u8, SyncFault>
+    requires { heard.old ≤ STREAM_LIMIT }
+    ensures ok { IfOk result (λ byte. Hears (W.seen wire.old) (W.seen wire.new) (byte ∷ [])) }
+    ensures count { IfOk result (λ byte. heard.new ≡ heard.old + 1) }
+    ensures within { IfOk result (λ byte. heard.new ≤ STREAM_LIMIT) }
+    ensures err { IfErr result (λ fault. (before : List ℕ) → IsMessageFront before → place + length before ≡ heard.old → Stops fault (W.seen wire.old) (W.seen wire.new) place before) }
+{
+    let mut buffer = [0];
+    let Ok(count) = wire.read(&mut buffer) else {
+        return Err(SyncFault::WireFault);
+    };
+    if count == 0 {
+        return Err(SyncFault::CutShort(place));
+    }
+    if *heard == STREAM_LIMIT {
+        return Err(SyncFault::TooLong);
+    }
+    *heard += 1;
+    Ok(buffer[0])
+}
+
+/// The number behind the byte that ends a reply.
+fn next_number<W: Wire>(wire: &mut W, heard: &mut u64, place: u64) -> Result<Message, SyncFault>
+    requires within { heard.old ≤ STREAM_LIMIT }
+    requires count { heard.old ≡ place + 1 }
+    ensures ok { IfOk result (λ message. Whole message (W.seen wire.old) (W.seen wire.new) place heard.new (END ∷ [])) }
+    ensures err { IfErr result (λ fault. Stops fault (W.seen wire.old) (W.seen wire.new) place (END ∷ [])) }
+{
+    let a = next_byte(wire, heard, place)?;
+    let b = next_byte(wire, heard, place)?;
+    let c = next_byte(wire, heard, place)?;
+    let d = next_byte(wire, heard, place)?;
+    Ok(Message::End(u32::from_be_bytes([a, b, c, d])))
+}
+
+/// The code behind the byte that refuses.
+fn next_code<W: Wire>(wire: &mut W, heard: &mut u64, place: u64) -> Result<Message, SyncFault>
+    requires within { heard.old ≤ STREAM_LIMIT }
+    requires count { heard.old ≡ place + 1 }
+    ensures ok { IfOk result (λ message. Whole message (W.seen wire.old) (W.seen wire.new) place heard.new (REFUSAL ∷ [])) }
+    ensures err { IfErr result (λ fault. Stops fault (W.seen wire.old) (W.seen wire.new) place (REFUSAL ∷ [])) }
+{
+    let code = next_byte(wire, heard, place)?;
+    if code == 0 || code > 3 {
+        return Err(SyncFault::BadReply(place));
+    }
+    Ok(Message::Refusal(code))
+}
+
+/// The frame that begins with this byte.
+fn next_frame<W: Wire>(
+    alloc: Global,
+    wire: &mut W,
+    heard: &mut u64,
+    place: u64,
+    first: u8,
+) -> Result<Message, SyncFault>
+    requires within { heard.old ≤ STREAM_LIMIT }
+    requires count { heard.old ≡ place + 1 }
+    requires no_end { first ≢ END }
+    requires no_refusal { first ≢ REFUSAL }
+    ensures ok { IfOk result (λ message. Whole message (W.seen wire.old) (W.seen wire.new) place heard.new (first ∷ [])) }
+    ensures err { IfErr result (λ fault. Stops fault (W.seen wire.old) (W.seen wire.new) place (first ∷ [])) }
+{
+    let mut front = FrameFront::new();
+    let mut byte = first;
+    'bytes: loop {
+        match front.push(byte) {
+            Grown::Frame => return operation_of(alloc, front.as_slice()),
+            Grown::Bad => return Err(SyncFault::BadReply(place)),
+            Grown::Front => byte = next_byte(wire, heard, place)?,
+        }
+    }
+}
+
+/// The operation of a frame.
+fn operation_of(alloc: Global, frame: &[u8]) -> Result<Message, SyncFault>
+    requires { IsFrameOf frame.now }
+    ensures ok { IfOk result (λ message. (op : AnyOp) × (message ≡ Operation op) × IsFrame (record { bytes = frame.now; ops = op ∷ [] })) }
+    ensures err { IfErr result (λ fault. fault ≡ WantsMemory) }
+{
+    let Ok(first) = first_frame(alloc, frame) else {
+        return Err(SyncFault::NoMemory);
+    };
+    match first {
+        First::Whole(mut ops, _) => match ops.pop() {
+            Some(op) => Ok(Message::Operation(op)),
+            None => unreachable!(),
+        },
+        First::Prefix | First::Bad => unreachable!(),
+    }
+}

@@ -1,0 +1,38 @@
+ghost use Rattle.std.specs.Prelude.{◌≡◌, ◌≢◌, ◌∷◌, [], Err, IfOk, List, OnErr};
+ghost use Rattle.fugue_ids.specs.Causes.{Rose};
+ghost use Rattle.outer_ports.specs.declared.dock.mem_step.MemStep.{MemStep as AnyStep};
+ghost use Rattle.relay_sync.specs.Sending.{GivesSteps};
+ghost use Rattle.relay_sync.specs.declared.serve_fault.ServeFault.TheVariants.{DockFault, TooLong};
+
+use crate::serve_fault::ServeFault;
+use fugue_ids::{BUFFER, ByteList, NoMemory};
+use outer_ports::{Dock, DockStep, MemStep};
+use std::alloc::Global;
+
+/// Takes the next step of the dock, with its bytes. After want of memory the step is lost.
+pub(crate) fn next_step<D: Dock>(alloc: Global, dock: &mut D) -> Result<MemStep, ServeFault>
+    ensures ok { IfOk result (λ step. GivesSteps (D.seen dock.old) (D.seen dock.new) (step ∷ [])) }
+    ensures err { OnErr result ((steps : List AnyStep) × GivesSteps (D.seen dock.old) (D.seen dock.new) steps) }
+    ensures dock_fault { result ≡ Err DockFault → Rose (D.seen dock.old).faults (D.seen dock.new).faults }
+    ensures not_long { result ≢ Err TooLong }
+{
+    let mut buffer = [0; BUFFER];
+    let Ok(step) = dock.next(&mut buffer) else {
+        return Err(ServeFault::DockFault);
+    };
+    match step {
+        DockStep::Opened(session) => Ok(MemStep::Opened(session)),
+        DockStep::Gone(session) => Ok(MemStep::Gone(session)),
+        DockStep::Bytes(session, count) => match copy_of(alloc, &buffer[..count]) {
+            Ok(bytes) => Ok(MemStep::Bytes(session, bytes)),
+            Err(_) => Err(ServeFault::NoMemory),
+        },
+    }
+}
+
+fn copy_of(alloc: Global, bytes: &[u8]) -> Result<ByteList, NoMemory>
+    ensures { IfOk result (λ copy. copy ≡ bytes.now) }
+{
+    let bytes = bytes.to_vec(alloc)?;
+    Ok(ByteList::new(bytes))
+}

@@ -1,0 +1,49 @@
+ghost use Rattle.std.specs.Prelude.{◌≡◌, IfOk};
+ghost use Rattle.replica_core.specs.State.{Stands};
+ghost use Rattle.relay_sync.specs.Saying.{SaysText, SaysTo, text_for};
+
+use fugue_ids::{Failed, NoMemory};
+use op_frame::encode_all;
+use outer_ports::Wire;
+use replica_core::Replica;
+use std::alloc::Global;
+
+/// The first byte of what is said to a relay.
+const GREETING: u8 = 0x48;
+
+/// The last one.
+const CLOSING: u8 = 0x44;
+
+/// What the replica says: all that it holds, and from where on it asks for the log.
+pub(crate) fn text_of(alloc: Global, replica: &Replica, cursor: u32) -> Result<Vec<u8>, NoMemory>
+    ensures text { IfOk result (λ text. text.items ≡ text_for cursor replica.now.held) }
+    ensures stands { Stands replica.now }
+{
+    let accepted = replica.accepted();
+    let mut text = Vec::new(alloc);
+    text.push(GREETING)?;
+    text.extend_from_slice(&cursor.to_be_bytes())?;
+    encode_all(accepted, &mut text)?;
+    encode_all(replica.waiting(), &mut text)?;
+    text.push(CLOSING)?;
+    Ok(text)
+}
+
+/// Says the whole text to whoever listens on the port, or fails with a front of it said.
+pub(crate) fn say<W: Wire>(wire: &mut W, port: u16, text: &[u8]) -> Result<(), Failed>
+    ensures { SaysTo (W.seen wire.old) (W.seen wire.new) result port text.now }
+{
+    wire.dial(port)?;
+    say_whole(wire, text)
+}
+
+/// Says the whole piece, or fails with a front of it said.
+fn say_whole<W: Wire>(wire: &mut W, piece: &[u8]) -> Result<(), Failed>
+    ensures { SaysText (W.seen wire.old) (W.seen wire.new) result piece.now }
+{
+    let mut at = 0;
+    while at < piece.len() {
+        at += wire.write(&piece[at..])?;
+    }
+    Ok(())
+}

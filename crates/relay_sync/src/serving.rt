@@ -1,0 +1,119 @@
+ghost use Rattle.std.specs.Prelude.{◌≡◌, ◌≢◌, ◌<◌, ◌≤◌, ◌∷◌, [], Err, List, OnErr, OnOk, length, ℕ};
+ghost use Rattle.fugue_ids.specs.Causes.{Rose};
+ghost use Rattle.relay_core.specs.Sessions.{listed};
+ghost use Rattle.origin_model.specs.declared.relay.reply.Reply.{Reply as AnyReply};
+ghost use Rattle.std.specs.Prelude.{Option as Maybe};
+ghost use Rattle.relay_sync.specs.Over.{IsOver};
+ghost use Rattle.relay_sync.specs.Sending.{Replied, RepliedPartly};
+ghost use Rattle.relay_sync.specs.Serving.{NoneAfter, Serves, ServesPartly, Turn, count_over, event_of as event_by, over_after, with_closed, with_gone, with_number};
+ghost use Rattle.relay_sync.specs.declared.serve_fault.ServeFault.TheVariants.{DockFault as AtDock, TooLong as TakesTooLong};
+
+use crate::next_step::next_step;
+use crate::over::{note, note_gone};
+use crate::sending::send_reply;
+use crate::serve_fault::ServeFault;
+use outer_ports::{Dock, MemStep};
+use relay_core::{Event, Relay, Reply};
+use std::alloc::Global;
+use std::collections::BTreeSet;
+use std::hash::BuildHasher;
+
+/// Gives the dock's steps to the relay and sends its replies, until so many sessions are closed or gone; a number counts once.
+///
+/// After a fault the relay stands after a front of the steps.
+pub fn serve<B: BuildHasher, D: Dock>(
+    alloc: Global,
+    relay: &mut Relay<B>,
+    dock: &mut D,
+    sessions: u32,
+    steps: u64,
+) -> Result<(), ServeFault>
+    ensures ok { OnOk result ((turns : List Turn) × Serves relay.old relay.new (D.seen dock.old) (D.seen dock.new) turns
+        × (sessions ≤ count_over turns) × NoneAfter sessions turns × (length turns ≤ steps)) }
+    ensures too_long { result ≡ Err TakesTooLong → (turns : List Turn) × Serves relay.old relay.new (D.seen dock.old) (D.seen dock.new) turns
+        × (count_over turns < sessions) × NoneAfter sessions turns × (length turns ≡ steps) }
+    ensures partly { OnErr result (ServesPartly relay.old relay.new (D.seen dock.old) (D.seen dock.new)) }
+    ensures dock_fault { result ≡ Err AtDock → Rose (D.seen dock.old).faults (D.seen dock.new).faults }
+{
+    let mut over = BTreeSet::new(alloc);
+    let mut left = steps;
+    'steps: while over.len() < sessions as usize {
+        if left == 0 {
+            return Err(ServeFault::TooLong);
+        }
+        left -= 1;
+        serve_step(alloc, relay, dock, &mut over)?;
+    }
+    Ok(())
+}
+
+/// One step of the dock, and the reply to it.
+fn serve_step<B: BuildHasher, D: Dock>(
+    alloc: Global,
+    relay: &mut Relay<B>,
+    dock: &mut D,
+    over: &mut BTreeSet<u32>,
+) -> Result<(), ServeFault>
+    ensures ok { OnOk result ((turn : Turn) × Serves relay.old relay.new (D.seen dock.old) (D.seen dock.new) (turn ∷ [])
+        × ((sessions : List ℕ) → IsOver over.old sessions → IsOver over.new (over_after sessions (turn ∷ [])))) }
+    ensures partly { OnErr result (ServesPartly relay.old relay.new (D.seen dock.old) (D.seen dock.new)) }
+    ensures dock_fault { result ≡ Err AtDock → Rose (D.seen dock.old).faults (D.seen dock.new).faults }
+    ensures not_long { result ≢ Err TakesTooLong }
+{
+    let step = next_step(alloc, dock)?;
+    let gone = gone_by(&step);
+    let Ok(replies) = relay.step(event_of(step)) else {
+        return Err(ServeFault::NoMemory);
+    };
+    answer(dock, over, &replies)?;
+    let Ok(()) = note_gone(over, gone) else {
+        return Err(ServeFault::NoMemory);
+    };
+    Ok(())
+}
+
+/// Sends the reply, where there is one, and notes that its session is over.
+fn answer<D: Dock>(
+    dock: &mut D,
+    over: &mut BTreeSet<u32>,
+    replies: &[Reply],
+) -> Result<(), ServeFault>
+    ensures ok { (reply : Maybe AnyReply) → replies.now ≡ listed reply → OnOk result (Replied (D.seen dock.old) (D.seen dock.new) reply
+        × ((sessions : List ℕ) → IsOver over.old sessions → IsOver over.new (with_closed sessions reply))) }
+    ensures partly { (reply : Maybe AnyReply) → replies.now ≡ listed reply → OnErr result (RepliedPartly (D.seen dock.old) (D.seen dock.new) reply) }
+    ensures dock_fault { result ≡ Err AtDock → Rose (D.seen dock.old).faults (D.seen dock.new).faults }
+    ensures not_long { result ≢ Err TakesTooLong }
+{
+    let [reply] = replies else {
+        return Ok(());
+    };
+    let Ok(()) = send_reply(dock, reply) else {
+        return Err(ServeFault::DockFault);
+    };
+    if reply.closes {
+        let Ok(()) = note(over, reply.session) else {
+            return Err(ServeFault::NoMemory);
+        };
+    }
+    Ok(())
+}
+
+/// The session that the step says is gone.
+fn gone_by(step: &MemStep) -> Option<u32>
+    ensures { (sessions : List ℕ) → with_gone sessions step.now ≡ with_number sessions result }
+{
+    match step {
+        MemStep::Gone(session) => Some(*session),
+        MemStep::Opened(_) | MemStep::Bytes(..) => None,
+    }
+}
+
+fn event_of(step: MemStep) -> Event
+    ensures { result ≡ event_by step }
+{
+    match step {
+        MemStep::Opened(session) => Event::Opened(session),
+        MemStep::Bytes(session, bytes) => Event::Piece(session, bytes),
+        MemStep::Gone(session) => Event::Gone(session),
+    }
+}

@@ -1,0 +1,98 @@
+ghost use Rattle.std.specs.Prelude.{◌≡◌, ◌≤◌, IfErr, IfOk, OnOk, length};
+ghost use Rattle.fugue_ids.specs.declared.limits.TheConstants.{GREATEST_HOLD};
+ghost use Rattle.origin_model.specs.declared.taking.tally.Tally.{Tally as AnyTally};
+ghost use Rattle.origin_model.specs.taking.Taking.{IsSettled};
+ghost use Rattle.relay_sync.specs.Saying.{text_for};
+ghost use Rattle.relay_sync.specs.Syncing.{BlamesWire, Fails, HearsOne, HearsPartly, HearsReply, IsReady, StopsAt, Syncs, begun};
+
+use crate::hearing::next_message;
+use crate::message::Message;
+use crate::saying::{say, text_of};
+use crate::sync_fault::SyncFault;
+use crate::synced::Synced;
+use fugue_ids::{Op, STREAM_LIMIT};
+use origin_model::Tally;
+use outer_ports::Wire;
+use replica_core::Replica;
+use std::alloc::Global;
+
+/// Tells a relay all that the replica holds, and takes in what it answers.
+///
+/// The cursor says from where on the relay's log is asked for. Copies of the operations that were kept are appended to
+/// `kept`. After a fault the replica holds what the messages before it brought.
+pub fn sync<W: Wire>(
+    alloc: Global,
+    replica: &mut Replica,
+    wire: &mut W,
+    port: u16,
+    cursor: u32,
+    kept: &mut Vec<Op>,
+) -> Result<Synced, SyncFault>
+    requires { IsSettled replica.old.held }
+    ensures ok { IfOk result (λ synced. Syncs (W.seen wire.old) (W.seen wire.new) (begun replica.old kept.old.items)
+        (record { replica = replica.new; counts = synced.tally; kept = kept.new.items }) port cursor synced.cursor) }
+    ensures settled { OnOk result (IsSettled replica.new.held) }
+    ensures err { IfErr result (λ fault. (counts : AnyTally) × Fails fault (W.seen wire.old) (W.seen wire.new) (begun replica.old kept.old.items)
+        (record { replica = replica.new; counts = counts; kept = kept.new.items }) port cursor) }
+    ensures wire { BlamesWire (length (text_for cursor replica.old.held)) (W.seen wire.old) (W.seen wire.new) result }
+{
+    let Ok(text) = text_of(alloc, replica, cursor) else {
+        return Err(SyncFault::NoMemory);
+    };
+    let Ok(()) = say(wire, port, text.as_slice()) else {
+        return Err(SyncFault::WireFault);
+    };
+    hear(alloc, replica, wire, kept)
+}
+
+/// Hears the reply, and takes in its operations as they come.
+fn hear<W: Wire>(
+    alloc: Global,
+    replica: &mut Replica,
+    wire: &mut W,
+    kept: &mut Vec<Op>,
+) -> Result<Synced, SyncFault>
+    requires settled { IsSettled replica.old.held }
+    requires few { length replica.old.held.waiting ≤ GREATEST_HOLD }
+    ensures ok { IfOk result (λ synced. HearsReply (W.seen wire.old) (W.seen wire.new) (begun replica.old kept.old.items)
+        (record { replica = replica.new; counts = synced.tally; kept = kept.new.items }) synced.cursor) }
+    ensures settled { OnOk result (IsSettled replica.new.held) }
+    ensures err { IfErr result (λ fault. (counts : AnyTally) × HearsPartly fault (W.seen wire.old) (W.seen wire.new) (begun replica.old kept.old.items)
+        (record { replica = replica.new; counts = counts; kept = kept.new.items })) }
+{
+    let mut tally = Tally::default();
+    let mut heard = 0;
+    'messages: loop {
+        if let Some(cursor) = hear_one(alloc, replica, wire, &mut heard, &mut tally, kept)? {
+            return Ok(Synced { tally, cursor });
+        }
+    }
+}
+
+/// Hears one message: an operation is taken in, and the number that ends the reply is the answer.
+fn hear_one<W: Wire>(
+    alloc: Global,
+    replica: &mut Replica,
+    wire: &mut W,
+    heard: &mut u64,
+    tally: &mut Tally,
+    kept: &mut Vec<Op>,
+) -> Result<Option<u32>, SyncFault>
+    requires within { heard.old ≤ STREAM_LIMIT }
+    requires ready { IsReady (record { replica = replica.old; counts = tally.old; kept = kept.old.items }) heard.old }
+    ensures ok { IfOk result (λ count. HearsOne (W.seen wire.old) (W.seen wire.new)
+        (record { replica = replica.old; counts = tally.old; kept = kept.old.items })
+        (record { replica = replica.new; counts = tally.new; kept = kept.new.items }) heard.old heard.new count) }
+    ensures err { IfErr result (λ fault. StopsAt fault (W.seen wire.old) (W.seen wire.new)
+        (record { replica = replica.old; counts = tally.old; kept = kept.old.items })
+        (record { replica = replica.new; counts = tally.new; kept = kept.new.items }) heard.old) }
+{
+    match next_message(alloc, wire, heard)? {
+        Message::Operation(op) => {
+            replica.feed_keeping(op, tally, kept)?;
+            Ok(None)
+        }
+        Message::End(count) => Ok(Some(count)),
+        Message::Refusal(code) => Err(SyncFault::RelayRefused(code)),
+    }
+}
