@@ -16,10 +16,10 @@ use Rattle.manuscript_cli.specs.declared.status.Status.TheVariants as status
 use Rattle.manuscript_cli.proofs.ShowLemmas.{same_input}
 
 module _ (hold : ℕ) (old new : Touched) (bytes : List ℕ) (ops : List Op) (course : Course) (is : old.input.left ≡ Some bytes) (comes : ComesTo hold bytes ops course) where
-  finished_so : (end : Status) → Finished hold old new end → Showed hold ops old new end × (course ≡ Whole)
+  finished_so : (end : Status) → Finished hold old new end → Showed hold nothing ops old new end × (course ≡ Whole)
   finished_so end done =
       let same = same_input hold old.input.left bytes done.ops ops Whole course is done.came comes in
-      (subst (λ o. Showed hold o old new end) same.0 done.showed, sym same.1)
+      (subst (λ o. Showed hold nothing o old new end) same.0 done.showed, sym same.1)
 
   decided_so : (end : Status) → Finished hold old new end → end ≡ status_for hold ops course
   decided_so end done = let so = finished_so end done in so.0.end_is ∙ ap (status_for hold ops) (sym so.1)

@@ -1,4 +1,3 @@
-pub mod WordLemmas
 pub mod TextLemmas
 pub mod IntakeLemmas
 pub mod HeadlineLemmas

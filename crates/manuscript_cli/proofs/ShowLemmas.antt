@@ -97,7 +97,7 @@ same_input hold left bytes ops others course other is came comes =
     comes_once hold MOST_OPERATIONS nothing STREAM_LIMIT bytes ops others course other (subst (λ l. IfSome l (λ b. ComesTo hold b ops course)) is came) comes
 
 -- of a whole input its manuscript is brought
-brought_of : (hold : ℕ) (ops others : List Op) (course : Course) → (ops ≡ others) × (Whole ≡ course) → brought hold others course ≡ printed hold ops
+brought_of : (hold : ℕ) (ops others : List Op) (course : Course) → (ops ≡ others) × (Whole ≡ course) → brought hold others course ≡ printed hold nothing ops
 brought_of hold ops others course same = λ i. brought hold (sym same.0 i) (sym same.1 i)
 
 -- where the manuscript has room, the output stays calm

@@ -23,11 +23,11 @@ pub record IsCalm (old new : Touched) : Type 0 where
 abbrev pub Headline : (hold : ℕ) → Touched → Touched → Status → Type 0
 Headline hold old new end =
     (bytes : List ℕ) (ops : List Op) → old.input.left ≡ Some bytes → Reads bytes ops EndsWhole → length bytes ≤ STREAM_LIMIT → HasPlace hold MOST_OPERATIONS nothing ops
-    → IsCalm old new → end ≢ status.NoMemory → Showed hold ops old new end
+    → IsCalm old new → end ≢ status.NoMemory → Showed hold nothing ops old new end
 
 -- the status to which a stream leads
 abbrev pub status_for : (hold : ℕ) → List Op → Course → Status
-status_for hold ops Whole = status_after hold ops
+status_for hold ops Whole = status_after hold nothing ops
 status_for hold ops (CutShort offset) = status.BadInput
 status_for hold ops (BadFrame offset) = status.BadInput
 status_for hold ops TooLong = status.Limit

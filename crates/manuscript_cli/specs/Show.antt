@@ -4,7 +4,7 @@ use Rattle.fugue_ids.specs.Causes.{Rose}
 use Rattle.fugue_ids.specs.Outs.{Took, TookFront}
 use Rattle.fugue_ids.specs.declared.op.Op.{Op}
 use Rattle.origin_model.specs.order.Printed.{manuscript}
-use Rattle.origin_model.specs.taking.Taking.{nothing, held, tally}
+use Rattle.origin_model.specs.taking.Taking.{Held, nothing, held_from, tally_from, no_counts}
 use Rattle.replica_core.specs.State.{State}
 use Rattle.manuscript_cli.specs.Counts.{counts_line, status_by}
 use Rattle.op_frame.specs.Courses.{Comes, Course, Whole, CutShort, BadFrame, TooLong, TooMany}
@@ -20,15 +20,15 @@ use Rattle.manuscript_cli.specs.declared.status.Status.TheVariants as status
 abbrev pub reader : ℕ → State
 reader hold = record { number = 1; hold = hold; most = MOST_OPERATIONS; held = nothing }
 
--- what is printed of these operations, what is noted, and the status that they lead to
-abbrev pub printed : (hold : ℕ) → List Op → List ℕ
-printed hold ops = manuscript (held hold MOST_OPERATIONS ops).history
+-- what is printed where these operations were taken in from a state, what is noted, and the status that they lead to
+abbrev pub printed : (hold : ℕ) → Held → List Op → List ℕ
+printed hold start ops = manuscript (held_from hold MOST_OPERATIONS start ops).history
 
-abbrev pub noted : (hold : ℕ) → List Op → List ℕ
-noted hold ops = counts_line (tally hold MOST_OPERATIONS ops) (length (held hold MOST_OPERATIONS ops).waiting)
+abbrev pub noted : (hold : ℕ) → Held → List Op → List ℕ
+noted hold start ops = counts_line (tally_from hold MOST_OPERATIONS start ops no_counts) (length (held_from hold MOST_OPERATIONS start ops).waiting)
 
-abbrev pub status_after : (hold : ℕ) → List Op → Status
-status_after hold ops = status_by (tally hold MOST_OPERATIONS ops) (length (held hold MOST_OPERATIONS ops).waiting)
+abbrev pub status_after : (hold : ℕ) → Held → List Op → Status
+status_after hold start ops = status_by (tally_from hold MOST_OPERATIONS start ops no_counts) (length (held_from hold MOST_OPERATIONS start ops).waiting)
 
 -- a stream that is taken in from nothing comes to this end
 abbrev pub ComesTo : (hold : ℕ) → List ℕ → List Op → Course → Type 0
@@ -39,17 +39,17 @@ abbrev pub InputComes : (hold : ℕ) → Touched → List Op → Course → Type
 InputComes hold old ops course = IfSome old.input.left (λ bytes. ComesTo hold bytes ops course)
 
 -- all of the input was read, and the manuscript and the counts of these operations were written
-pub record Showed (hold : ℕ) (ops : List Op) (old new : Touched) (end : Status) : Type 0 where
+pub record Showed (hold : ℕ) (start : Held) (ops : List Op) (old new : Touched) (end : Status) : Type 0 where
   pub read : IfSome new.input.left (λ bytes. bytes ≡ [])
-  pub output : Took old.output new.output (printed hold ops)
-  pub notes : Took old.notes new.notes (noted hold ops)
-  pub end_is : end ≡ status_after hold ops
+  pub output : Took old.output new.output (printed hold start ops)
+  pub notes : Took old.notes new.notes (noted hold start ops)
+  pub end_is : end ≡ status_after hold start ops
 
 -- the input came to its end, and its operations were shown
 pub record Finished (hold : ℕ) (old new : Touched) (end : Status) : Type 0 where
   pub ops : List Op
   pub came : InputComes hold old ops Whole
-  pub showed : Showed hold ops old new end
+  pub showed : Showed hold nothing ops old new end
 
 -- nothing was printed, and the notes got the refusal's line
 pub record Refused (old new : Touched) (why : Refusal) : Type 0 where
@@ -72,19 +72,19 @@ pub record ReadFailed (old new : Touched) : Type 0 where
 pub record OutputFailed (hold : ℕ) (old new : Touched) : Type 0 where
   pub ops : List Op
   pub came : InputComes hold old ops Whole
-  pub output : TookFront old.output new.output (printed hold ops)
+  pub output : TookFront old.output new.output (printed hold nothing ops)
   pub rose : Rose old.output.faults new.output.faults
-  pub no_room : HasRoom (length (printed hold ops)) old.output → ⊥
+  pub no_room : HasRoom (length (printed hold nothing ops)) old.output → ⊥
   pub notes : Told old.notes new.notes (line_of refusal.Outside)
 
 -- everything was read and printed, and the notes failed: they hold a front of the counts, and then one of the fault's line
 pub record NotesFailed (hold : ℕ) (old new : Touched) : Type 0 where
   pub ops : List Op
   pub came : InputComes hold old ops Whole
-  pub output : Took old.output new.output (printed hold ops)
+  pub output : Took old.output new.output (printed hold nothing ops)
   pub rose : Rose old.notes.faults new.notes.faults
   pub no_room : HasRoom notes_room old.notes → ⊥
-  pub notes : TookFronts old.notes new.notes (noted hold ops) (line_of refusal.Outside)
+  pub notes : TookFronts old.notes new.notes (noted hold nothing ops) (line_of refusal.Outside)
 
 -- what was done, for each way in which the command may end
 abbrev pub ShowMeets : (hold : ℕ) → Touched → Touched → Status → Type 0
@@ -100,7 +100,7 @@ ShowMeets hold old new status.BadFile = ⊥
 
 -- what a stream brings to the output: nothing, where it is not whole
 abbrev pub brought : (hold : ℕ) → List Op → Course → List ℕ
-brought hold ops Whole = printed hold ops
+brought hold ops Whole = printed hold nothing ops
 brought hold ops (CutShort offset) = []
 brought hold ops (BadFrame offset) = []
 brought hold ops TooLong = []

@@ -1,7 +1,7 @@
-ghost use Rattle.std.specs.Prelude.{◌≡◌, ◌<◌, ◌^◌, ◌↔◌, ℕ, Some, IfSome, IsTrue, decimal};
+ghost use Rattle.std.specs.Prelude.{◌≡◌, ℕ, Some, IfSome};
 ghost use Rattle.manuscript_cli.specs.Number.{IsNumber};
 
-use itoa::Buffer;
+use edit_script::read_decimal;
 
 /// Reads a number as the commands write it, from `low` to `high`.
 pub(crate) fn read_number(word: &str, low: u32, high: u32) -> Option<u32>
@@ -13,21 +13,4 @@ pub(crate) fn read_number(word: &str, low: u32, high: u32) -> Option<u32>
         return None;
     }
     Some(number)
-}
-
-/// Reads decimal digits with no sign, and no zero in front but in `0` itself.
-fn read_decimal(word: &str) -> Option<u32>
-    ensures digits { IfSome result (λ n. word.now ≡ decimal n) }
-    ensures every { (n : ℕ) → n < 2 ^ 32 → word.now ≡ decimal n → result ≡ Some n }
-{
-    match word.parse::<u32>() {
-        Ok(number) if is_text_of(number, word) => Some(number),
-        _ => None,
-    }
-}
-
-fn is_text_of(number: u32, word: &str) -> bool
-    ensures { IsTrue result ↔ (word.now ≡ decimal number) }
-{
-    Buffer::new().format(number) == word
 }
