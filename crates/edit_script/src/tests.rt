@@ -1,11 +1,15 @@
 ghost use Rattle.origin_model.specs.taking.Taking.{IsSettled};
 
+mod plain;
+
 use super::*;
 use fugue_ids::{ElementId, Op, Title};
 use outer_ports::{MemSink, MemSource};
+use plain::has_form;
 use replica_core::Replica;
 use std::alloc::Global;
 use std::process::Abort;
+use std::str;
 use std::test::Fail;
 
 /// A script, what is answered, and what is shown then. Each row begins where the one before it left off.
@@ -296,4 +300,82 @@ fn put_behind_a_hidden_one(
 fn a_hidden_element_is_the_right_origin(rt: HostRuntime) -> Result<(), Fail> {
     let mut replica = Replica::new(rt.alloc(), 1, 1, 1000)?;
     put_behind_a_hidden_one(&rt, rt.alloc(), &mut replica)
+}
+
+/// Lines that are odd in one byte, which is another one or is left out.
+const LINES: [&str; 5] = [
+    "add 1 Ti",
+    "put 1 0 a\\n\\\\b",
+    "cut 10 2 3",
+    "drop 10",
+    "# n",
+];
+
+const BYTES: [Option<u8>; 12] = [
+    None,
+    Some(b' '),
+    Some(b'0'),
+    Some(b'1'),
+    Some(b'9'),
+    Some(b'-'),
+    Some(b'+'),
+    Some(b'\\'),
+    Some(b'n'),
+    Some(b'\r'),
+    Some(b'#'),
+    Some(b'a'),
+];
+
+/// The line with this byte at a position, or without the one there.
+fn odd(alloc: Global, line: &str, at: usize, byte: Option<u8>) -> Result<Vec<u8>, Fail> {
+    let mut bytes = Vec::new(alloc);
+    for (position, old) in line.bytes().enumerate() {
+        if position != at {
+            bytes.push(old)?;
+        } else if let Some(new) = byte {
+            bytes.push(new)?;
+        }
+    }
+    Ok(bytes)
+}
+
+/// A line is bad exactly where the plain reading finds no form.
+fn compare_form(rt: &impl Abort, alloc: Global, replica: &mut Replica, line: Vec<u8>)
+    requires { IsSettled replica.old.held }
+    ensures { IsSettled replica.new.held }
+{
+    let wanted = match str::from_utf8(&line) {
+        Ok(text) => has_form(text),
+        Err(_) => false,
+    };
+    let answer = run_bytes(alloc, replica, line, Vec::new(alloc));
+    assert_eq!(rt; answer != Err(ScriptFault::BadLine(1)), wanted);
+}
+
+fn compare_odd(
+    rt: &impl Abort,
+    alloc: Global,
+    replica: &mut Replica,
+    line: &str,
+) -> Result<(), Fail> {
+    for at in 0..line.len() {
+        for byte in BYTES {
+            assert!(rt; replica.is_settled());
+            compare_form(rt, alloc, replica, odd(alloc, line, at, byte)?);
+        }
+    }
+    Ok(())
+}
+
+fn compare_lines(rt: &impl Abort, alloc: Global, replica: &mut Replica) -> Result<(), Fail> {
+    for line in LINES {
+        compare_odd(rt, alloc, replica, line)?;
+    }
+    Ok(())
+}
+
+#[test]
+fn a_line_is_bad_exactly_where_a_plain_reading_finds_no_form(rt: HostRuntime) -> Result<(), Fail> {
+    let mut replica = Replica::new(rt.alloc(), 1, 1, 1000)?;
+    compare_lines(&rt, rt.alloc(), &mut replica)
 }
