@@ -80,7 +80,7 @@ image_at_rest bytes image is = ext_get_or 0 image bytes (omega (arith, is.no_sho
 pub sync_brings_none : SyncBringsNone
 sync_brings_none s image honest is = subst (IsImage s) (sym (image_at_rest s.seen image is)) honest
 
--- a place outside a range is outside what the range has of so many bytes
+-- an offset outside of a range is outside of what the range has of so many bytes
 outside_within : (at n i long : ℕ) → (i < at) ⊎ (at + n ≤ i) → (i < min at long) ⊎ (min at long + min n (long - at) ≤ i)
 outside_within at n i long (inl below) = elim (cases_lt i long) [ inl inside ↦ inl (omega (arith, below, inside)) | inr past ↦ inr (omega (arith, below, past)) ]
 outside_within at n i long (inr above) = inr (omega (arith, above))

@@ -1,8 +1,9 @@
 -- The laws of the moments.
 use Rattle.std.proofs.Common.{◌≡◌, inl, inr, ℕ, ◌+◌, ◌-◌, ◌<◌, ◌≤◌, List, [], ◌∷◌, ◌++◌, length, get_or, refl, ap, sym, subst, ◌∙◌, arith, append_assoc, length-append}
 use Rattle.std.proofs.lemmas.List.{get_or_append_left}
-use Rattle.std.proofs.lemmas.List.Elements.{All-nil, All-cons, All-append}
+use Rattle.std.proofs.lemmas.List.Elements.{All-nil, All-cons, All-append, All-head}
 use Rattle.std.proofs.lemmas.Bool.{cases_lt}
+use Rattle.std.specs.Prelude.{All}
 use Rattle.outer_ports.specs.disk.States.{State, IsImage}
 use Rattle.outer_ports.specs.disk.Moments.{History, moments, moment, state_at, stepped, LeftSince, LeavesOnly}
 use Rattle.outer_ports.specs.disk.Laws.{SpansJoin, SinceNow}
@@ -39,6 +40,14 @@ since_leaves_only old new P image leaves left =
     = ap (λ (l : List State). get_or l (moment new - left.m) new.last) leaves.grows ∙ get_or_append_left leaves.recent (moments old) new.last (moment new - left.m) below in
     leaves.each (moment new - left.m) new.last below image (subst (λ s. IsImage s image) is left.left)
 
+-- what has P leaves nothing but what has Q
+pub leaves_weaker : (P Q : List ℕ → Type 0) → ((image : List ℕ) → P image → Q image) → (old new : History) → LeavesOnly old new P → LeavesOnly old new Q
+leaves_weaker P Q more old new leaves = record {
+  recent = leaves.recent;
+  grows = leaves.grows;
+  each = λ n d below image is. more image (leaves.each n d below image is);
+}
+
 module _ (P : List ℕ → Type 0) where
   -- each image of a state has P
   abbrev HasOnly : State → Type 0
@@ -62,3 +71,11 @@ module _ (P : List ℕ → Type 0) where
     grows = two.grows ∙ ap (λ (l : List State). two.recent ++ l) one.grows ∙ sym (append_assoc two.recent one.recent (moments a));
     each = All-append HasOnly two.recent one.recent two.each one.each;
   }
+
+  -- the state that stands leaves nothing but what has P, if each that came does, and the one before them did
+  pub last_leaves : (old new : History) → LeavesOnly old new P → ((image : List ℕ) → IsImage old.last image → P image) → (image : List ℕ) → IsImage new.last image → P image
+  last_leaves old new leaves first = by_recent leaves.recent leaves.grows leaves.each
+    where
+      by_recent : (recent : List State) → moments new ≡ recent ++ moments old → All HasOnly recent → HasOnly new.last
+      by_recent [] grows each = let same : new.last ≡ old.last = cc grows in subst HasOnly (sym same) first
+      by_recent (s ∷ recent) grows each = let same : new.last ≡ s = cc grows in subst HasOnly (sym same) (All-head HasOnly s recent each)

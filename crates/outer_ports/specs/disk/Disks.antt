@@ -1,6 +1,7 @@
 -- A disk, as contracts see it, and what each call does to it.
 use Rattle.std.specs.Prelude.{◌≡◌, ℕ, ◌-◌, ◌<◌, ◌≤◌, List, length, take, drop, Option, Some, None, Result, IfSome, IfOk, OnOk, OnErr}
 use Rattle.fugue_ids.specs.Causes.{HasCause}
+use Rattle.outer_ports.specs.Counts.{FailsOnlyFor}
 use Rattle.outer_ports.specs.disk.States.{IsHonest, wrote, settled}
 use Rattle.outer_ports.specs.disk.Moments.{History, after, MayHaveWritten}
 
@@ -28,9 +29,7 @@ spent n (Some room) = Some (record { bytes = room.bytes - n; calls = room.calls 
 pub record Looks {E T : Type 0} (old new : DiskView) (result : Result T E) : Type 0 where
   pub past : new.past ≡ old.past
   pub room : new.room ≡ old.room
-  pub cause : HasCause old.faults new.faults result
-  pub sure : IfSome old.room (λ room. OnErr result ⊥)
-  pub calm : IfSome old.room (λ room. new.faults ≡ old.faults)
+  pub count : FailsOnlyFor old.room (λ room. ⊥) old.faults new.faults result
 
 -- where calls are sure, a step that fits is taken, and one that does not fit fails and does nothing
 pub record IsSureStep {E T : Type 0} (room : RoomView) (n : ℕ) (old new : DiskView) (result : Result T E) : Type 0 where
@@ -44,7 +43,7 @@ pub record Sizes {E : Type 0} (old new : DiskView) (result : Result ℕ E) : Typ
   pub told : IfOk result (λ n. IfSome old.past (λ h. n ≡ length h.last.seen))
   pub looks : Looks old new result
 
--- n bytes of those that stand from a place on, none only where there is none or no room
+-- n bytes of those from an offset on, none only where there is none or no room
 pub record GivesAt (seen : List ℕ) (at n : ℕ) (buf : List ℕ) : Type 0 where
   pub given : take n buf ≡ take n (drop at seen)
   pub inside : n ≤ length seen - at

@@ -1,8 +1,8 @@
 -- A dock, as contracts see it, and what each call does to it.
 use Rattle.std.specs.Prelude.{◌≡◌, ◌≢◌, ℕ, ◌-◌, ◌<◌, List, [], ◌∷◌, ◌++◌, length, Option, Some, Result, IfSome, IfOk, OnOk, OnErr, option_map}
 use Rattle.std.specs.Io.KnownBytes.{append_known}
-use Rattle.fugue_ids.specs.Causes.{HasCause}
 use Rattle.fugue_ids.specs.Outs.{OutView, WritesSome}
+use Rattle.outer_ports.specs.Counts.{FailsOnlyFor}
 use Rattle.outer_ports.specs.dock.Steps.{Fits, with_bytes, GivesSome}
 use Rattle.outer_ports.specs.declared.dock.dock_step.DockStep.{DockStep}
 use Rattle.outer_ports.specs.declared.dock.mem_step.MemStep.{MemStep}
@@ -48,9 +48,7 @@ pub record Listens {E T : Type 0} (old new : DockView) (result : Result T E) (po
   pub nothing_taken : TakesNothing old new
   pub ended : new.ended ≡ old.ended
   pub ends : new.ends ≡ old.ends
-  pub cause : HasCause old.faults new.faults result
-  pub succeeds : IfSome old.ends (λ ends. OnErr result ⊥)
-  pub calm : IfSome old.ends (λ ends. new.faults ≡ old.faults)
+  pub count : FailsOnlyFor old.ends (λ ends. ⊥) old.faults new.faults result
 
 -- a step is taken; nothing at an error, which a sure dock gives only where no step is left
 pub record Takes {E : Type 0} (old new : DockView) (result : Result DockStep E) (buf : List ℕ) : Type 0 where
@@ -62,9 +60,7 @@ pub record Takes {E : Type 0} (old new : DockView) (result : Result DockStep E) 
   pub port : new.port ≡ old.port
   pub ended : new.ended ≡ old.ended
   pub ends : new.ends ≡ old.ends
-  pub cause : HasCause old.faults new.faults result
-  pub succeeds : IfSome old.ends (λ ends. OnErr result (IfSome old.coming (λ coming. coming ≡ [])))
-  pub calm : IfSome old.ends (λ ends. OnOk result (new.faults ≡ old.faults))
+  pub count : FailsOnlyFor old.ends (λ ends. IfSome old.coming (λ coming. coming ≡ [])) old.faults new.faults result
 
 -- a session's bytes go out, as to a sink
 pub record Sends {E : Type 0} (old new : DockView) (result : Result ℕ E) (session : ℕ) (piece : List ℕ) : Type 0 where
@@ -84,7 +80,5 @@ pub record Ends {E T : Type 0} (old new : DockView) (result : Result T E) (sessi
   pub nothing_sent : SendsNothing old new
   pub nothing_taken : TakesNothing old new
   pub port : new.port ≡ old.port
-  pub cause : HasCause old.faults new.faults result
-  pub succeeds : IfSome old.ends (λ ends. 0 < ends → OnErr result ⊥)
+  pub count : FailsOnlyFor old.ends (λ ends. ends ≡ 0) old.faults new.faults result
   pub within : IfSome old.ends (λ ends. OnOk result (0 < ends))
-  pub calm : IfSome old.ends (λ ends. OnOk result (new.faults ≡ old.faults))

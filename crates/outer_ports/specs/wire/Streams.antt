@@ -1,5 +1,5 @@
 -- What passes on a connection, where there is one.
-use Rattle.std.specs.Prelude.{◌≡◌, ℕ, List, Option, Some, None, Result, IfSome}
+use Rattle.std.specs.Prelude.{◌≡◌, ℕ, List, Option, Some, None, Result}
 use Rattle.std.specs.Io.KnownBytes.{ReadConsumes, WriteAppends}
 
 -- the connection stays, and gives what the read answers

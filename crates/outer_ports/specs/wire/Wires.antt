@@ -1,7 +1,7 @@
 -- A wire, as contracts see it, and what each call does to it.
 use Rattle.std.specs.Prelude.{◌≡◌, ℕ, List, Option, Some, Result, IfSome, OnOk, OnErr, is_some, option_map}
-use Rattle.fugue_ids.specs.Causes.{HasCause}
 use Rattle.fugue_ids.specs.Outs.{OutView, WritesSome}
+use Rattle.outer_ports.specs.Counts.{FailsOnlyFor}
 use Rattle.outer_ports.specs.Sources.{SourceView, ReadsSome}
 
 pub record WireView : Type 0 where
@@ -31,9 +31,7 @@ pub record Dials {E T : Type 0} (old new : WireView) (result : Result T E) (port
   pub left : new.left ≡ old.left
   pub said : new.said ≡ old.said
   pub room : new.room ≡ old.room
-  pub cause : HasCause old.faults new.faults result
-  pub succeeds : IfSome old.room (λ room. OnErr result ⊥)
-  pub calm : IfSome old.room (λ room. new.faults ≡ old.faults)
+  pub count : FailsOnlyFor old.room (λ room. ⊥) old.faults new.faults result
 
 -- a read, as of a source
 pub record WireReads {E : Type 0} (old new : WireView) (result : Result ℕ E) (buf : List ℕ) : Type 0 where

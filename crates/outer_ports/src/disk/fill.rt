@@ -13,7 +13,7 @@ pub(crate) fn fill(bytes: &mut [u8], ranges: &[(u64, u64)], byte: u8)
 fn fill_range(bytes: &mut [u8], at: u64, count: u64, byte: u8)
     ensures { bytes.new ≡ range_filled at count byte bytes.old }
 {
-    let place = at.min(bytes.len() as u64) as usize;
-    let inner = count.min((bytes.len() - place) as u64) as usize;
-    bytes[place..place + inner].fill(byte);
+    let offset = at.min(bytes.len() as u64) as usize;
+    let inner = count.min((bytes.len() - offset) as u64) as usize;
+    bytes[offset..offset + inner].fill(byte);
 }

@@ -92,9 +92,9 @@ impl Kept {
         ensures gives { GivesAt self.now.past.last.seen at result buf.new }
         ensures count { result ≡ min (length buf.new) (length self.now.past.last.seen - at) }
     {
-        let place = at.min(self.bytes.len() as u64) as usize;
-        let count = buf.len().min(self.bytes.len() - place);
-        buf[..count].copy_from_slice(&self.bytes[place..place + count]);
+        let offset = at.min(self.bytes.len() as u64) as usize;
+        let count = buf.len().min(self.bytes.len() - offset);
+        buf[..count].copy_from_slice(&self.bytes[offset..offset + count]);
         count
     }
 
