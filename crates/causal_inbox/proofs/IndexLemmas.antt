@@ -1,6 +1,6 @@
 -- An index stays one as operations come and go.
-use Rattle.std.proofs.Common.{ap, arith, cond, false, inl, inr, refl, subst, sym, true, take, drop, length, ℕ, suc, List, [], ◌∷◌, ◌++◌, Bool, nat_eq, ◌+◌, ◌<◌, ◌∙◌, ◌≡◌, length-append, get_or}
-use Rattle.std.specs.Prelude.{Some, slice_get, All, AllPairs, map, not}
+use Rattle.std.proofs.Common.{ap, arith, false, inl, inr, refl, subst, sym, true, take, drop, length, ℕ, suc, List, [], ◌∷◌, ◌++◌, Bool, nat_eq, ◌+◌, ◌<◌, ◌∙◌, ◌≡◌, length-append, get_or}
+use Rattle.std.specs.Prelude.{Some, if◌then◌else◌, slice_get, All, AllPairs, map, not}
 use Rattle.std.specs.List.{position_or_len, remove}
 use Rattle.std.specs.Option.{option_map}
 use Rattle.std.proofs.lemmas.Bool.{cases_Bool, cond_both, or_parts}
@@ -54,9 +54,9 @@ ages-append key (o ∷ ops) others (b ∷ ages) more same =
     elim (cases_Bool (has_key key o)) [ inl e ↦ rw e (ap (λ l. b ∷ l) rest) | inr e ↦ rw e rest ]
 
 -- a list with or without a last age
-put_behind : (b : Bool) (l : List ℕ) (a : ℕ) → cond b (l ++ a ∷ []) l ≡ l ++ cond b (a ∷ []) []
-put_behind true l a = refl
-put_behind false l a = sym (append-nil l)
+pushed_if : (b : Bool) (l : List ℕ) (a : ℕ) → (if b then l ++ a ∷ [] else l) ≡ l ++ (if b then a ∷ [] else [])
+pushed_if true l a = refl
+pushed_if false l a = sym (append-nil l)
 
 -- an index with one operation more
 pub index_added : (ops : List Op) (op : Op) (ages : List ℕ) (a : ℕ) (keys : List Key) (old new : Key → List ℕ) → All (λ b. b < a) ages → AreKeys keys op
@@ -67,9 +67,9 @@ index_added ops op ages a keys old new above are changed index = record {
   listed = λ (key : Key).
       let all : All (λ b. b < a) (ages_with key ops ages) = ages_all (λ b. b < a) key ops ages above in
       changed key
-      ∙ (λ i. cond (are key i) (added (index.listed key i) a) (index.listed key i))
-      ∙ ap (λ l. cond (has_key key op) l (ages_with key ops ages)) (added_above a (ages_with key ops ages) all)
-      ∙ put_behind (has_key key op) (ages_with key ops ages) a
+      ∙ (λ i. if are key i then added (index.listed key i) a else index.listed key i)
+      ∙ ap (λ l. if has_key key op then l else ages_with key ops ages) (added_above a (ages_with key ops ages) all)
+      ∙ pushed_if (has_key key op) (ages_with key ops ages) a
       ∙ sym (ages-append key ops (op ∷ []) ages (a ∷ []) index.one_each);
 }
 
@@ -98,13 +98,13 @@ index_undone ops ages a keys old mid new above front changed index = record {
       let all : All (λ b. b < a) (old key) = subst (All (λ b. b < a)) (sym (index.listed key)) (ages_all (λ b. b < a) key ops ages above) in
       elim (cases_Bool (is_among keys key)) [
         | inl e ↦
-            changed key ∙ ap (λ b. cond b (dropped (mid key) a) (mid key)) e ∙ ap (λ l. dropped l a) (front.front key)
+            changed key ∙ ap (λ b. if b then dropped (mid key) a else mid key) e ∙ ap (λ l. dropped l a) (front.front key)
             ∙ cond_both (is_among (take front.count keys) key) (added (old key) a) (old key) (λ l. dropped l a ≡ old key)
             (λ _. added_dropped a (old key) all) (λ _. dropped_above a (old key) all)
             ∙ index.listed key
         | inr e ↦
-            changed key ∙ ap (λ b. cond b (dropped (mid key) a) (mid key)) e
-            ∙ front.front key ∙ ap (λ b. cond b (added (old key) a) (old key)) (front_among key front.count keys e) ∙ index.listed key
+            changed key ∙ ap (λ b. if b then dropped (mid key) a else mid key) e
+            ∙ front.front key ∙ ap (λ b. if b then added (old key) a else old key) (front_among key front.count keys e) ∙ index.listed key
       ];
 }
 
@@ -116,7 +116,7 @@ parted_at xs i x is =
 
 -- the ages under a key with one operation less
 ages_removed : (key : Key) (op : Op) (a : ℕ) (ops : List Op) (ages : List ℕ) (p : ℕ) → length ages ≡ length ops → AllPairs ◌<◌ ages → slice_get ops p ≡ Some op → slice_get ages p ≡ Some a
-    → cond (has_key key op) (dropped (ages_with key ops ages) a) (ages_with key ops ages) ≡ ages_with key (remove ops p) (remove ages p)
+    → (if has_key key op then dropped (ages_with key ops ages) a else ages_with key ops ages) ≡ ages_with key (remove ops p) (remove ages p)
 ages_removed key op a ops ages p same r is at =
     let long : length (take p ages) ≡ length (take p ops) =
     length-take-le p ages (omega (arith, slice_get_within ages p a at)) ∙ sym (length-take-le p ops (omega (arith, slice_get_within ops p op is))) in
@@ -146,7 +146,7 @@ index_removed ops op ages p a keys old new is at are changed index = record {
   rise = all_pairs_remove ◌<◌ ages p (slice_get_within ages p a at) index.rise;
   listed = λ (key : Key).
       changed key
-      ∙ (λ i. cond (are key i) (dropped (index.listed key i) a) (index.listed key i))
+      ∙ (λ i. if are key i then dropped (index.listed key i) a else index.listed key i)
       ∙ ages_removed key op a ops ages p index.one_each index.rise is at;
 }
 

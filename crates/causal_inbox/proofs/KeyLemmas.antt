@@ -1,13 +1,18 @@
 -- Equality of keys, and lists under keys as one key after another changes.
-use Rattle.std.proofs.Common.{ap, arith, cond, false, inl, inr, refl, sym, true, take, ℕ, List, [], ◌∷◌, ◌++◌, Bool, ◌&&◌, ◌||◌, ◌+◌, ◌∙◌, ◌≡◌}
+use Rattle.std.proofs.Common.{ap, append_assoc, false, inl, inr, refl, sym, true, take, ℕ, List, [], ◌∷◌, ◌++◌, Bool, ◌&&◌, ◌||◌, ◌+◌, ◌∙◌, ◌≡◌}
 use Rattle.std.proofs.Math.Bool.{and-false, and-true, or-false}
 use Rattle.std.proofs.lemmas.Bool.{and_parts, cases_Bool, true≢false}
 use Rattle.std.proofs.lemmas.List.Folds.{list_any-append}
 use Rattle.fugue_ids.specs.Identifiers.{Identifier, id_eq}
-use Rattle.std.specs.Prelude.{Option, Some, None}
-use Rattle.fugue_ids.specs.declared.op.Op.TheVariants.{Text}
+use Rattle.std.specs.Prelude.{Option, Some, None, if◌then◌else◌, option_to_list}
+use Rattle.std.specs.List.{list_any}
+use Rattle.fugue_ids.specs.declared.op.Op.TheVariants.{Delete, Section, Text}
 use Rattle.fugue_ids.proofs.IdentifierLemmas.{id_eq-true, id_eq-refl}
-use Rattle.causal_inbox.specs.Key.{has_key, has_kind, is_among, key_eq, kind_eq, named, named_or, own}
+use Rattle.fugue_ids.specs.declared.op.Op.{Op}
+use Rattle.origin_model.specs.operations.History.{is_own}
+use Rattle.origin_model.specs.operations.Verdict.{names}
+use Rattle.origin_model.specs.declared.operations.role.Role.{Role}
+use Rattle.causal_inbox.specs.Key.{has_key, has_kind, is_among, is_delete, key_eq, kind_eq, main_key, named, named_or, own, target}
 use Rattle.causal_inbox.specs.Index.{added}
 use Rattle.causal_inbox.specs.Lists.{Changed, FrontAdded}
 use Rattle.fugue_ids.specs.Keyed.{IsReplaced}
@@ -51,7 +56,7 @@ among_more key keys i x e =
     ap (λ l. is_among l key) e ∙ list_any-append (λ other. key_eq other key) (take i keys) (x ∷ []) ∙ ap (λ b. is_among (take i keys) key || b) (or-false (key_eq x key))
 
 -- a change made where it may have been made before
-merged : (change : List ℕ → List ℕ) → ((l : List ℕ) → change (change l) ≡ change l) → (p : Bool) (l : List ℕ) → change (cond p (change l) l) ≡ cond (p || true) (change l) l
+merged : (change : List ℕ → List ℕ) → ((l : List ℕ) → change (change l) ≡ change l) → (p : Bool) (l : List ℕ) → change (if p then change l else l) ≡ (if p || true then change l else l)
 merged change twice true l = twice l
 merged change twice false l = refl
 
@@ -65,10 +70,10 @@ changed_more change twice keys i x old mid new e before step key =
           let same : x ≡ key = key_eq-true x key y in
           ap new (sym same) ∙ step.here ∙ ap (λ (k : Key). change (mid k)) same ∙ ap change (before key)
           ∙ merged change twice (is_among (take i keys) key) (old key)
-          ∙ sym (ap (λ (b : Bool). cond b (change (old key)) (old key)) (more ∙ ap (λ (b : Bool). is_among (take i keys) key || b) y))
+          ∙ sym (ap (λ (b : Bool). if b then change (old key) else old key) (more ∙ ap (λ (b : Bool). is_among (take i keys) key || b) y))
       | inr n ↦
           step.others key (key_eq-false x key n) ∙ before key
-          ∙ sym (ap (λ (b : Bool). cond b (change (old key)) (old key)) (more ∙ ap (λ (b : Bool). is_among (take i keys) key || b) n ∙ or-false (is_among (take i keys) key)))
+          ∙ sym (ap (λ (b : Bool). if b then change (old key) else old key) (more ∙ ap (λ (b : Bool). is_among (take i keys) key || b) n ∙ or-false (is_among (take i keys) key)))
     ]
 
 -- want of memory at one key leaves the age under those before it
@@ -83,26 +88,61 @@ front_added keys i a x old mid new before step = record { count = i; front = λ 
           | inr n ↦ step.others key (key_eq-false x key n)
         ]
 
--- the keys of a Text
-pub text_keys : (key : Key) (i s : Identifier) (l r : Option Identifier) (ch : ℕ)
-    → is_among (own i ∷ named s ∷ named_or l (own i) ∷ named_or r (own i) ∷ []) key ≡ has_key key (Text i s l r ch)
-text_keys key i s l r ch = by_kind key.kind key.id l r
-  where
-    own_alone : (b : Bool) → (b || (false || (b || (b || false)))) ≡ b
-    own_alone true = refl
-    own_alone false = refl
+-- the identifier is among what is named
+abbrev has_name : Identifier → List (Identifier × Role) → Bool
+has_name x ns = list_any (λ n. id_eq n.0 x) ns
 
-    by_kind : (kind : Kind) (x : Identifier) (l r : Option Identifier)
-        → is_among (own i ∷ named s ∷ named_or l (own i) ∷ named_or r (own i) ∷ []) (record { id = x; kind = kind }) ≡ has_kind kind x (Text i s l r ch)
-    by_kind Own x None None = simp (and-true, and-false) (own_alone (id_eq i x))
-    by_kind Own x None (Some d) = simp (and-true, and-false) (grind arith)
-    by_kind Own x (Some c) None = simp (and-true, and-false) (grind arith)
-    by_kind Own x (Some c) (Some d) = simp (and-true, and-false, or-false)
-    by_kind Target x None None = simp and-false
-    by_kind Target x None (Some d) = simp and-false
-    by_kind Target x (Some c) None = simp and-false
-    by_kind Target x (Some c) (Some d) = simp and-false
-    by_kind Named x None None = simp (and-true, and-false)
-    by_kind Named x None (Some d) = simp (and-true, and-false)
-    by_kind Named x (Some c) None = simp (and-true, and-false)
-    by_kind Named x (Some c) (Some d) = simp (and-true, and-false)
+-- the main key of an operation, and one for each identifier that it names
+module _ (main : Key) (a b c : Option (Identifier × Role)) where
+  abbrev four : List Key
+  four = main ∷ named_or a main ∷ named_or b main ∷ named_or c main ∷ []
+
+  -- a key that is not of a named one is the main one alone
+  main_alone : (key : Key) → kind_eq Named key.kind ≡ false → is_among four key ≡ key_eq main key
+  main_alone key other = elim (cases_Bool (key_eq main key)) [
+    | inl is ↦ ap (λ m. m || is_among (named_or a main ∷ named_or b main ∷ named_or c main ∷ []) key) is ∙ sym is
+    | inr none ↦ (λ i. none i || (neither a none i || (neither b none i || (neither c none i || false)))) ∙ sym none
+  ]
+    where
+      neither : (n : Option (Identifier × Role)) → key_eq main key ≡ false → key_eq (named_or n main) key ≡ false
+      neither None none = none
+      neither (Some n) none = ap (λ k. id_eq n.0 key.id && k) other ∙ and-false (id_eq n.0 key.id)
+
+  -- the key of a named one is one of the others
+  named_alone : (x : Identifier) → key_eq main (named x) ≡ false
+      → is_among four (named x) ≡ has_name x (option_to_list a ++ option_to_list b ++ option_to_list c)
+  named_alone x none =
+      (λ i. none i || (each a i || (each b i || (each c i || false))))
+      ∙ ap (λ r. has_name x (option_to_list a) || (has_name x (option_to_list b) || r)) (or-false (has_name x (option_to_list c)))
+      ∙ ap (λ r. has_name x (option_to_list a) || r) (sym (list_any-append (λ n. id_eq n.0 x) (option_to_list b) (option_to_list c)))
+      ∙ sym (list_any-append (λ n. id_eq n.0 x) (option_to_list a) (option_to_list b ++ option_to_list c))
+      ∙ ap (has_name x) (sym (append_assoc (option_to_list a) (option_to_list b) (option_to_list c)))
+    where
+      each : (n : Option (Identifier × Role)) → key_eq (named_or n main) (named x) ≡ has_name x (option_to_list n)
+      each None = none
+      each (Some n) = and-true (id_eq n.0 x) ∙ sym (or-false (id_eq n.0 x))
+
+-- they are just the keys of the operation
+pub keys_are : (op : Op) (a b c : Option (Identifier × Role)) → option_to_list a ++ option_to_list b ++ option_to_list c ≡ names op
+    → (key : Key) → is_among (main_key op ∷ named_or a (main_key op) ∷ named_or b (main_key op) ∷ named_or c (main_key op) ∷ []) key ≡ has_key key op
+keys_are op a b c are key = by_kind key.kind key.id
+  where
+    its_own : (o : Op) (x : Identifier) → key_eq (main_key o) (own x) ≡ is_own x o
+    its_own (Section i l r t) x = and-true (id_eq i x)
+    its_own (Text i s l r ch) x = and-true (id_eq i x)
+    its_own (Delete t) x = and-false (id_eq t x)
+
+    its_target : (o : Op) (x : Identifier) → key_eq (main_key o) (target x) ≡ is_delete x o
+    its_target (Section i l r t) x = and-false (id_eq i x)
+    its_target (Text i s l r ch) x = and-false (id_eq i x)
+    its_target (Delete t) x = and-true (id_eq t x)
+
+    not_named : (o : Op) (x : Identifier) → key_eq (main_key o) (named x) ≡ false
+    not_named (Section i l r t) x = and-false (id_eq i x)
+    not_named (Text i s l r ch) x = and-false (id_eq i x)
+    not_named (Delete t) x = and-false (id_eq t x)
+
+    by_kind : (kind : Kind) (x : Identifier) → is_among (four (main_key op) a b c) (record { id = x; kind = kind }) ≡ has_kind kind x op
+    by_kind Own x = main_alone (main_key op) a b c (own x) refl ∙ its_own op x
+    by_kind Target x = main_alone (main_key op) a b c (target x) refl ∙ its_target op x
+    by_kind Named x = named_alone (main_key op) a b c x (not_named op x) ∙ ap (has_name x) are

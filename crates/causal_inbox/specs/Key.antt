@@ -5,6 +5,7 @@ use Rattle.fugue_ids.specs.Identifiers.{Identifier, id_eq}
 use Rattle.fugue_ids.specs.declared.op.Op.{Op}
 use Rattle.fugue_ids.specs.declared.op.Op.TheVariants.{Section, Text, Delete}
 use Rattle.origin_model.specs.operations.History.{is_own}
+use Rattle.origin_model.specs.declared.operations.role.Role.{Role}
 use Rattle.causal_inbox.specs.Naming.{is_naming}
 use Rattle.causal_inbox.specs.declared.key.Key.{Key}
 use Rattle.causal_inbox.specs.declared.key.Kind.{Kind}
@@ -54,9 +55,9 @@ main_key (Text id section left right ch) = own id
 main_key (Delete t) = target t
 
 -- the key of an identifier that may be named, or another
-abbrev pub named_or : Option Identifier → Key → Key
+abbrev pub named_or : Option (Identifier × Role) → Key → Key
 named_or None other = other
-named_or (Some i) other = named i
+named_or (Some n) other = named n.0
 
 -- the key is among the keys
 abbrev pub is_among : List Key → Key → Bool

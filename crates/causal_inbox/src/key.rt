@@ -4,6 +4,7 @@ ghost use Rattle.std.specs.Prelude.{◌≡◌};
 ghost use Rattle.causal_inbox.specs.Key.{AreKeys, main_key as main_key_of, named, named_or, own, target};
 
 use fugue_ids::{ElementId, Op};
+use origin_model::{Named, names_of};
 
 /// What operations are looked up by. In their order the keys of one replica stand together.
 #[derive(Clone, Copy, Debug, PartialEq, Eq, PartialOrd, Ord)]
@@ -67,34 +68,21 @@ pub(crate) fn main_key(op: &Op) -> Key
 pub(crate) fn keys(op: &Op) -> [Key; 4]
     ensures { AreKeys result op.now }
 {
-    match op {
-        Op::Section { left, right, .. } => [
-            main_key(op),
-            main_key(op),
-            named_or(*left, op),
-            named_or(*right, op),
-        ],
-        Op::Text {
-            section,
-            left,
-            right,
-            ..
-        } => [
-            main_key(op),
-            named_key(*section),
-            named_or(*left, op),
-            named_or(*right, op),
-        ],
-        Op::Delete { target } => [main_key(op), main_key(op), main_key(op), named_key(*target)],
-    }
+    let (first, second, third) = names_of(op);
+    [
+        main_key(op),
+        named_or(first, op),
+        named_or(second, op),
+        named_or(third, op),
+    ]
 }
 
 /// The key of an identifier that is named, and the main key where there is none.
-fn named_or(origin: Option<ElementId>, op: &Op) -> Key
-    ensures { result ≡ named_or origin (main_key_of op.now) }
+fn named_or(named: Named, op: &Op) -> Key
+    ensures { result ≡ named_or named (main_key_of op.now) }
 {
-    match origin {
-        Some(id) => named_key(id),
+    match named {
+        Some((id, _)) => named_key(id),
         None => main_key(op),
     }
 }

@@ -7,7 +7,7 @@ use Rattle.origin_model.specs.frames.Frames.{frame, IsPartial, IsBad}
 use Rattle.op_frame.specs.declared.fault.FrameFault.{FrameFault}
 use Rattle.op_frame.specs.declared.fault.FrameFault.TheVariants.{BadFrame, CutShort, ReadFault, TooLong, NoMemory}
 use Rattle.op_frame.specs.Readers.{AnswerIs, AnswersBy, IsByBytes, StartsWithin}
-use Rattle.op_frame.proofs.FrameLemmas.{framed_of, framed_is}
+use Rattle.origin_model.proofs.SharedLemmas.{framed_is, framed_of}
 use Rattle.op_frame.proofs.OperationLemmas.{operation_code}
 use Rattle.op_frame.proofs.StreamLemmas.{begins_not_partial, no_bytes_are_partial, frame_some}
 use Rattle.op_frame.proofs.ToldLemmas.{take_past}

@@ -1,102 +1,23 @@
 -- What a stream comes to: exactly one end, and by which end a reader's answers and those of taking in show it.
 use Rattle.std.proofs.Common.{◌≡◌, ◌≢◌, ℕ, ◌-◌, ◌<◌, ◌≤◌, List, [], ◌∷◌, ◌++◌, length, take, refl, ap, sym, subst, ◌∙◌, arith, append_assoc, length-append, inl, inr}
-use Rattle.std.specs.Prelude.{◌⊎◌, Option, Some, None, IfSome, Result, Ok, Err}
-use Rattle.std.specs.List.{AllByRecursion}
+use Rattle.std.specs.Prelude.{◌⊎◌, All, Option, Some, None, IfSome, Result, Ok, Err}
 use Rattle.std.specs.Io.KnownBytes.{prepend_known}
 use Rattle.std.proofs.lemmas.List.{take_all, append-nil}
-use Rattle.std.proofs.lemmas.List.Elements.{All-nil, All-cons, All-head, All-tail, All-append, All-same, recursion_from_All}
+use Rattle.std.proofs.lemmas.List.Elements.{All-cons, All-head, All-nil, All-tail}
 use Rattle.std.proofs.lemmas.Bool.{cases_order}
 use Rattle.std.proofs.lemmas.Option.{IfSome_then}
 use Rattle.fugue_ids.specs.declared.op.Op.{Op}
 use Rattle.outer_ports.specs.Sources.{SourceView}
 use Rattle.origin_model.specs.frames.Frames.{frame, End, Whole as EndsWhole, CutShort as EndsCutShort, BadFrame as EndsInBadFrame, Framed, IsFrame, Reads}
-use Rattle.origin_model.specs.taking.Taking.{Held, Answer, Again, Conflict, Stray, TooMany as AnswersTooMany, Accepted, Full, Waits, intake, answer, answers_from, held_from, intake_counted, tally_from, no_counts}
+use Rattle.origin_model.specs.taking.Taking.{Held, HasPlace, TooMany as AnswersTooMany, intake, answer, held_from, intake_counted, tally_from, no_counts}
 use Rattle.origin_model.specs.declared.taking.tally.Tally.{Tally}
-use Rattle.origin_model.proofs.SharedLemmas.{held-append, answers-append}
+use Rattle.origin_model.proofs.SharedLemmas.{Refused, framed_is, framed_of, held-append, no_place_left, places-append, places-none, places-one, same_refused, taken_or_refused, tally-append}
 use Rattle.op_frame.specs.declared.fault.FrameFault.{FrameFault}
 use Rattle.op_frame.specs.declared.fault.FrameFault.TheVariants as frame_fault
 use Rattle.op_frame.specs.Readers.{Reading, to_give, Follows, Gave, Nexts}
-use Rattle.op_frame.specs.Courses.{HasPlace, Course, Whole, CutShort, BadFrame, TooLong, TooMany, MeetsTooMany, Ends, Comes}
-use Rattle.op_frame.proofs.FrameLemmas.{framed_of, framed_is}
+use Rattle.op_frame.specs.Courses.{Course, Whole, CutShort, BadFrame, TooLong, TooMany, MeetsTooMany, Ends, Comes}
 use Rattle.op_frame.proofs.StreamLemmas.{bytes_of, ops_of, frame_some, reads_once, reads_some, starts_first, starts_more, gave_none, follows}
 use Rattle.op_frame.proofs.ToldLemmas.{prepend_twice, shows, take_past}
-
--- the operations up to the first that finds no place
-record Refused (hold most : ℕ) (start : Held) (all : List Op) : Type 0 where
-  front : List Op
-  op : Op
-  more : List Op
-  is : all ≡ front ++ op ∷ more
-  has_place : HasPlace hold most start front
-  refused : answer hold most (held_from hold most start front) op ≡ AnswersTooMany
-
-module _ (hold most : ℕ) where
-  -- all find their place, one list behind the other
-  pub places-append : (start : Held) (a b : List Op) → HasPlace hold most start a → HasPlace hold most (held_from hold most start a) b → HasPlace hold most start (a ++ b)
-  places-append start a b p q =
-      All-same (λ (x : Answer). x ≢ AnswersTooMany) _ _ (answers-append hold most start a b)
-      (All-append (λ (x : Answer). x ≢ AnswersTooMany) (answers_from hold most start a) (answers_from hold most (held_from hold most start a) b) p q)
-
-  pub places-one : (start : Held) (op : Op) → (answer hold most start op ≡ AnswersTooMany → ⊥) → HasPlace hold most start (op ∷ [])
-  places-one start op other = All-cons (λ (x : Answer). x ≢ AnswersTooMany) (answer hold most start op) [] other (All-nil (λ (x : Answer). x ≢ AnswersTooMany))
-
-  -- an operation that is taken in finds its place
-  pub no_place_left : (start : Held) (ops more : List Op) (op : Op) → HasPlace hold most start (ops ++ op ∷ more)
-      → answer hold most (held_from hold most start ops) op ≡ AnswersTooMany → ⊥
-  no_place_left start [] more op places is = All-head (λ (x : Answer). x ≢ AnswersTooMany) (answer hold most start op) (answers_from hold most (intake hold most start op) more) places is
-  no_place_left start (o ∷ ops) more op places is =
-      no_place_left (intake hold most start o) ops more op
-      (All-tail (λ (x : Answer). x ≢ AnswersTooMany) (answer hold most start o) (answers_from hold most (intake hold most start o) (ops ++ op ∷ more)) places) is
-
-  -- the first operation that finds no place is one
-  same_refused : (start : Held) (all : List Op) (a b : Refused hold most start all) → a.front ≡ b.front
-  same_refused start all a b = same start a.front b.front a.op b.op a.more b.more (sym a.is ∙ b.is) a.has_place b.has_place a.refused b.refused
-    where
-      same : (s : Held) (a b : List Op) (x y : Op) (more others : List Op) → a ++ x ∷ more ≡ b ++ y ∷ others → HasPlace hold most s a → HasPlace hold most s b
-          → answer hold most (held_from hold most s a) x ≡ AnswersTooMany → answer hold most (held_from hold most s b) y ≡ AnswersTooMany → a ≡ b
-      same s [] [] x y more others is p q r t = refl
-      same s [] (z ∷ b) x y more others is p q r t =
-          let first : x ≡ z = cc is in
-          absurd (no_place_left s [] b z q (subst (λ (o : Op). answer hold most s o ≡ AnswersTooMany) first r))
-      same s (w ∷ a) [] x y more others is p q r t =
-          let first : w ≡ y = cc is in
-          absurd (no_place_left s [] a w p (subst (λ (o : Op). answer hold most s o ≡ AnswersTooMany) (sym first) t))
-      same s (w ∷ a) (z ∷ b) x y more others is p q r t =
-          let first : w ≡ z = cc is in
-          let rest : a ++ x ∷ more ≡ b ++ y ∷ others = cc is in
-          let behind = same (intake hold most s w) a b x y more others rest
-          (All-tail (λ (v : Answer). v ≢ AnswersTooMany) (answer hold most s w) (answers_from hold most (intake hold most s w) a) p)
-          (subst (λ (o : Op). HasPlace hold most (intake hold most s o) b) (sym first)
-          (All-tail (λ (v : Answer). v ≢ AnswersTooMany) (answer hold most s z) (answers_from hold most (intake hold most s z) b) q))
-          r (subst (λ (o : Op). answer hold most (held_from hold most (intake hold most s o) b) y ≡ AnswersTooMany) (sym first) t) in
-          λ i. first i ∷ behind i
-
-  too_many_or_not : (a : Answer) → (a ≡ AnswersTooMany) ⊎ (a ≢ AnswersTooMany)
-  too_many_or_not AnswersTooMany = inl refl
-  too_many_or_not Again = inr (λ is. cc is)
-  too_many_or_not Conflict = inr (λ is. cc is)
-  too_many_or_not (Stray i) = inr (λ is. cc is)
-  too_many_or_not Accepted = inr (λ is. cc is)
-  too_many_or_not Full = inr (λ is. cc is)
-  too_many_or_not Waits = inr (λ is. cc is)
-
-  -- all find their place, or one is the first that finds none
-  taken_or_refused : (start : Held) (ops : List Op) → HasPlace hold most start ops ⊎ Refused hold most start ops
-  taken_or_refused start [] = inl (All-nil (λ (x : Answer). x ≢ AnswersTooMany))
-  taken_or_refused start (op ∷ ops) = elim (too_many_or_not (answer hold most start op)) [
-    | inl many ↦ inr (record { front = []; op = op; more = ops; is = refl; has_place = All-nil (λ (x : Answer). x ≢ AnswersTooMany); refused = many })
-    | inr other ↦ elim (taken_or_refused (intake hold most start op) ops) [
-      | inl places ↦ inl (places-append start (op ∷ []) ops (places-one start op other) places)
-      | inr r ↦ inr (record {
-        front = op ∷ r.front;
-        op = r.op;
-        more = r.more;
-        is = ap (λ (t : List Op). op ∷ t) r.is;
-        has_place = places-append start (op ∷ []) r.front (places-one start op other) r.has_place;
-        refused = r.refused;
-      })
-    ]
-  ]
 
 -- the course of a stream whose bytes up to the limit end so, by whether it is longer
 abbrev course_by : {limit n : ℕ} → End → (n ≤ limit) ⊎ (limit < n) → Course
@@ -111,7 +32,7 @@ module _ (hold most : ℕ) where
   meets_here start f b is r = record {
     earlier = [];
     rest = f.bytes ++ b;
-    starts = record { found = []; are_frames = tt; ops_are = refl; split = refl };
+    starts = record { found = []; are_frames = All-nil IsFrame; ops_are = refl; split = refl };
     framed = f;
     behind = b;
     begins = record { is_frame = is; split = refl };
@@ -130,7 +51,7 @@ module _ (hold most : ℕ) where
     rest = m.rest;
     starts = record {
       found = f ∷ m.starts.found;
-      are_frames = (is, m.starts.are_frames);
+      are_frames = All-cons IsFrame f m.starts.found is m.starts.are_frames;
       ops_are = ap (λ (l : List Op). f.ops ++ l) m.starts.ops_are;
       split = ap (λ (l : List ℕ). f.bytes ++ l) m.starts.split ∙ sym (append_assoc f.bytes (bytes_of m.starts.found) m.rest);
     };
@@ -146,22 +67,22 @@ module _ (hold most : ℕ) where
   }
 
   -- the operations of frames all find their place, or a frame brings the first that finds none
-  met_or_not : (start : Held) (found : List Framed) (rest : List ℕ) → AllByRecursion IsFrame found
+  met_or_not : (start : Held) (found : List Framed) (rest : List ℕ) → All IsFrame found
       → HasPlace hold most start (ops_of found) ⊎ ((ops : List Op) × HasPlace hold most start ops × MeetsTooMany hold most start (bytes_of found ++ rest) ops)
-  met_or_not start [] rest are = inl (All-nil (λ (x : Answer). x ≢ AnswersTooMany))
+  met_or_not start [] rest are = inl (places-none hold most start)
   met_or_not start (f ∷ found) rest are = elim (taken_or_refused hold most start f.ops) [
     | inr r ↦ inr (
       r.front,
       r.has_place,
-      subst (λ (b : List ℕ). MeetsTooMany hold most start b r.front) (sym (append_assoc f.bytes (bytes_of found) rest)) (meets_here start f (bytes_of found ++ rest) are.0 r),
+      subst (λ (b : List ℕ). MeetsTooMany hold most start b r.front) (sym (append_assoc f.bytes (bytes_of found) rest)) (meets_here start f (bytes_of found ++ rest) (All-head IsFrame f found are) r),
     )
-    | inl places ↦ elim (met_or_not (held_from hold most start f.ops) found rest are.1) [
+    | inl places ↦ elim (met_or_not (held_from hold most start f.ops) found rest (All-tail IsFrame f found are)) [
       | inl others ↦ inl (places-append hold most start f.ops (ops_of found) places others)
       | inr m ↦ inr (
         f.ops ++ m.0,
         places-append hold most start f.ops m.0 places m.1,
         subst (λ (b : List ℕ). MeetsTooMany hold most start b (f.ops ++ m.0)) (sym (append_assoc f.bytes (bytes_of found) rest))
-            (meets_later start f (bytes_of found ++ rest) m.0 are.0 m.2),
+            (meets_later start f (bytes_of found ++ rest) m.0 (All-head IsFrame f found are) m.2),
       )
     ]
   ]
@@ -268,17 +189,13 @@ pub record Fed (hold most : ℕ) (start : Held) (told : Option (List ℕ)) (read
   pub state_is : state ≡ held_from hold most start ops
   pub counts_are : counts ≡ tally_from hold most start ops no_counts
 
-tally-append : (hold most : ℕ) (s : Held) (a b : List Op) (t : Tally) → tally_from hold most (held_from hold most s a) b (tally_from hold most s a t) ≡ tally_from hold most s (a ++ b) t
-tally-append hold most s [] b t = refl
-tally-append hold most s (op ∷ a) b t = tally-append hold most (intake hold most s op) a b (intake_counted hold most s op t)
-
 module _ (hold most : ℕ) (start : Held) where
   -- a fresh reader
   pub fed_none : (reader : Reading) (left : Option (List ℕ)) → reader.unread ≡ [] → reader.offset ≡ 0 → Fed hold most start left reader left start no_counts
   fed_none reader left none at = record {
     ops = [];
     gave = gave_none reader left none at;
-    has_place = All-nil (λ (x : Answer). x ≢ AnswersTooMany);
+    has_place = places-none hold most start;
     state_is = refl;
     counts_are = refl;
   }
@@ -332,7 +249,7 @@ module _ (hold most : ℕ) (start : Held) where
             rest = frame op ++ take (old.limit - new.offset) rest;
             starts = record {
               found = fed.gave.found;
-              are_frames = recursion_from_All IsFrame fed.gave.found fed.gave.are_frames;
+              are_frames = fed.gave.are_frames;
               ops_are = fed.gave.ops_are;
               split = take_past (bytes_of fed.gave.found ++ frame op) rest old.limit new.offset
                   (omega (arith, nexts.advances.offset, fed.gave.offset, length-append (bytes_of fed.gave.found) (frame op))) (omega (arith, nexts.advances.within, nexts.advances.limit))

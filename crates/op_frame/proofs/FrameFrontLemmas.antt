@@ -1,12 +1,10 @@
 -- What is due behind some bytes of a frame, byte by byte.
-use Rattle.std.proofs.Common.{◌≡◌, ℕ, zero, suc, ◌+◌, ◌-◌, ◌<◌, ◌≤◌, Bool, true, false, List, [], ◌∷◌, ◌++◌, length, take, drop, set, refl, ap, sym, subst, ◌∙◌, append_assoc, arith, length-append}
-use Rattle.std.specs.Prelude.{◌↔◌, ◌||◌, Option, Some, None, Result, Ok, Err}
-use Rattle.std.specs.Char.{IsScalar}
+use Rattle.std.proofs.Common.{◌≡◌, ℕ, zero, suc, ◌+◌, ◌-◌, ◌<◌, ◌≤◌, false, List, [], ◌∷◌, ◌++◌, length, take, drop, set, refl, ap, sym, subst, ◌∙◌, append_assoc, arith, length-append}
+use Rattle.std.specs.Prelude.{◌↔◌, Option, Some, None}
 use Rattle.std.specs.Int.{from_be_bytes, to_be_bytes, w16}
-use Rattle.std.specs.List.{AllByRecursion}
-use Rattle.std.specs.Str.{IsUtf8, all_scalars, chars, encode_utf8_all}
+use Rattle.std.specs.Str.{IsUtf8, chars, encode_utf8_all}
 use Rattle.std.proofs.Math.Seq.{drop-append_seam, take-add, take-append_seam}
-use Rattle.std.proofs.lemmas.Bool.{both_ways, or_from, or_parts}
+use Rattle.std.proofs.lemmas.Bool.{or_from, or_parts}
 use Rattle.std.proofs.lemmas.List.{append-nil, take-set-le, take_all, take_more_set}
 use Rattle.std.proofs.lemmas.List.Folds.{list_any-append}
 use Rattle.std.proofs.lemmas.Nat.{from_be_bytes-to_be_bytes_2}
@@ -16,7 +14,7 @@ use Rattle.fugue_ids.specs.Titles.{ends_line, has_line_end}
 use Rattle.fugue_ids.specs.declared.limits.TheConstants.{LONGEST_TITLE}
 use Rattle.fugue_ids.specs.declared.op.Op.{Op}
 use Rattle.fugue_ids.specs.declared.op.Op.TheVariants.{Delete, Section, Text as TextOp}
-use Rattle.origin_model.specs.frames.Frames.{HasFrame, IsFrame, IsOrigin, IsPartial, IsTitle, frame, id_bytes, origin_bytes, scalar_bytes, title_bytes}
+use Rattle.origin_model.specs.frames.Frames.{HasFrame, IsFrame, IsPartial, IsTitle, frame, id_bytes, origin_bytes, scalar_bytes, title_bytes}
 use Rattle.op_frame.specs.Formats.{FitsNone, Format, IsFront, Starts, Stops, identifier, scalar, title_length, title_text}
 use Rattle.op_frame.specs.FrameFronts.{Awaits, Completes, IsDueFront, IsFrameOf, IsGrown, IsIdentifierBytes, IsJudged, IsLast, IsOriginBytes, IsSound, IsTitleEnd, LeavesDue, Several, Then, field_size, grown_by, judged_by, text_due}
 use Rattle.op_frame.specs.declared.due.Due.{Due}
@@ -29,7 +27,7 @@ use Rattle.op_frame.specs.declared.grown.Grown.TheVariants.{Bad as IsNeither, Fr
 use Rattle.op_frame.specs.declared.stop.Stop.{Stop}
 use Rattle.op_frame.specs.declared.stop.Stop.TheVariants.{Bad, NoMemory, Prefix}
 use Rattle.op_frame.proofs.CodeLemmas.{same_fronts}
-use Rattle.op_frame.proofs.TitleLemmas.{not_text, spelled, text_front}
+use Rattle.op_frame.proofs.TitleLemmas.{are_all_scalars, not_text, spelled, text_front}
 
 -- nothing has no bytes
 none_long : (bytes : List ℕ) → length bytes ≡ 0 → bytes ≡ []
@@ -69,13 +67,8 @@ module _ {T : Type 0} (F : Format T) (size : ℕ) (long : (v : T) → F.valid v 
   field_none : (bytes : List ℕ) → FitsNone F bytes → (more : List ℕ) → Then (Spelled F) Rest (bytes ++ more) → ⊥
   field_none bytes p more t = p.never t.2.0 t.1 more t.2.1 (ap (λ b. b ++ t.1) (sym t.2.2) ∙ sym t.4)
 
--- UTF-8 of scalars
-all_are_scalars : (t : List ℕ) → AllByRecursion IsScalar t → all_scalars t ≡ true
-all_are_scalars [] p = refl
-all_are_scalars (c ∷ t) p = rw (p.0, all_are_scalars t p.1) refl
-
 title_end : (t : List ℕ) → IsTitle t → IsTitleEnd (length (encode_utf8_all t)) (encode_utf8_all t)
-title_end t p = ((t, (all_are_scalars t p.scalars, refl)), p.text.one_line, refl)
+title_end t p = ((t, (are_all_scalars t p.scalars, refl)), p.text.one_line, refl)
 
 -- there are bytes that are due, and some where a frame is not whole
 pub record Sample (due : Due) : Type 0 where

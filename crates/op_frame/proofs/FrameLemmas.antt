@@ -1,16 +1,11 @@
 -- What stands at the front of bytes, in the words of the grammar.
-use Rattle.std.proofs.Common.{◌≡◌, ℕ, List, [], ◌∷◌, ◌++◌, refl, ap, sym, ◌∙◌, inl, inr, arith, append_assoc}
+use Rattle.std.proofs.Common.{◌≡◌, ℕ, List, [], ◌∷◌, ◌++◌, ap, sym, ◌∙◌, inl, inr, arith, append_assoc}
 use Rattle.std.proofs.lemmas.List.{append-nil}
 use Rattle.fugue_ids.specs.declared.op.Op.{Op}
-use Rattle.origin_model.specs.frames.Frames.{frame, HasFrame, Framed, IsFrame, IsPartial, IsBad}
+use Rattle.origin_model.specs.frames.Frames.{frame, HasFrame, IsPartial, IsBad}
+use Rattle.origin_model.proofs.SharedLemmas.{framed_is, framed_of}
 use Rattle.op_frame.specs.Formats.{IsFront, FitsNone, operation}
 use Rattle.op_frame.proofs.FormatLemmas.{two_fronts}
-
-abbrev pub framed_of : Op → Framed
-framed_of op = record { bytes = frame op; ops = op ∷ [] }
-
-pub framed_is : (op : Op) → HasFrame op → IsFrame (framed_of op)
-framed_is op has = record { op = op; has_frame = has; bytes_are = refl; ops_are = refl }
 
 -- a front of an operation's frame
 pub partial_is : (b : List ℕ) → IsFront operation b → IsPartial b

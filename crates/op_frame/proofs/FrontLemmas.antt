@@ -3,6 +3,7 @@ use Rattle.std.proofs.Common.{◌≡◌, ℕ, ◌<◌, List, [], ◌∷◌, ◌+
 use Rattle.std.specs.Prelude.{◌^◌, Option, Some, None}
 use Rattle.std.specs.Char.{IsScalar}
 use Rattle.std.specs.Str.{encode_utf8_all}
+use Rattle.std.proofs.lemmas.List.Elements.{All-from_recursion, recursion_from_All}
 use Rattle.std.proofs.lemmas.Str.{length-le-encodes}
 use Rattle.fugue_ids.specs.Identifiers.{Identifier}
 use Rattle.fugue_ids.specs.Titles.{IsTitleText, has_line_end}
@@ -11,7 +12,7 @@ use Rattle.fugue_ids.specs.declared.op.Op.TheVariants.{Section, Text, Delete}
 use Rattle.origin_model.specs.frames.Frames.{frame, HasFrame, IsIdentifier, IsOrigin, IsTitle, Framed, Begins, IsPartial, IsBad}
 use Rattle.op_frame.proofs.CodeLemmas.{scalar_below}
 use Rattle.op_frame.proofs.OperationLemmas.{section_fields, text_fields, section_of, text_of}
-use Rattle.op_frame.proofs.FrameLemmas.{framed_of, framed_is}
+use Rattle.origin_model.proofs.SharedLemmas.{framed_is, framed_of}
 use Rattle.op_frame.proofs.SearchLemmas.{Decided, decided_by, both_decided, is_true_decided, is_false_decided, equal_decided, less_decided, Found, IsSearched, below, narrowed, mapped, paired, listed}
 
 identifiers : IsSearched IsIdentifier
@@ -44,7 +45,7 @@ text_decided bytes =
 titles : IsSearched IsTitle
 titles =
     mapped _ (narrowed _ (listed _ scalars 480) (λ t. IsTitleText (encode_utf8_all t)) (λ t. text_decided (encode_utf8_all t))) (λ t. t) (λ t. t) IsTitle
-    (λ t is. record { scalars = is.0.1; text = is.1 }) (λ t is. (((omega (arith, length-le-encodes t, is.text.short), is.scalars), is.text), refl))
+    (λ t is. record { scalars = All-from_recursion IsScalar t is.0.1; text = is.1 }) (λ t is. (((omega (arith, length-le-encodes t, is.text.short), recursion_from_All IsScalar t is.scalars), is.text), refl))
 
 sections : IsSearched section_fields.valid
 sections = paired _ identifiers _ (paired _ origins _ (paired _ origins _ titles))

@@ -1,6 +1,8 @@
 -- What stands at the front of bytes, for the three kinds of frames.
 use Rattle.std.proofs.Common.{◌≡◌, ℕ, List, [], ◌∷◌, ◌++◌, length, drop, refl, ap, sym, subst, ◌∙◌, inl, inr, append_assoc, arith}
 use Rattle.std.specs.Prelude.{Option, Result, Ok, Err}
+use Rattle.std.specs.Char.{IsScalar}
+use Rattle.std.proofs.lemmas.List.Elements.{All-cons, All-nil}
 use Rattle.std.proofs.lemmas.Str.{encode_ascii}
 use Rattle.fugue_ids.specs.Titles.{IsTitleText}
 use Rattle.fugue_ids.specs.Identifiers.{Identifier}
@@ -158,7 +160,7 @@ operation_code = record { once = code_of_kind }
 -- a title
 pub sample_title : IsTitle (65 ∷ [])
 sample_title = record {
-  scalars = (refl, tt);
+  scalars = All-cons IsScalar 65 [] refl (All-nil IsScalar);
   text = subst IsTitleText (ap (λ (l : List ℕ). l ++ []) (sym (encode_ascii 65 (omega arith)))) (record { some = omega arith; short = omega arith; one_line = refl });
 }
 

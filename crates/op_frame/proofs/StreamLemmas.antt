@@ -1,18 +1,18 @@
 -- Streams of frames: what stands at their front, how they are read, and what a caller of the reader concludes from its answers.
-use Rattle.std.specs.Prelude.{◌≡◌, ℕ, zero, suc, ◌+◌, ◌-◌, ◌<◌, ◌≤◌, All, List, [], ◌∷◌, ◌++◌, length, take, drop, map, flat_map, Option, Some, None, Result, Ok, Err, IfSome, IsErrOf, ◌⊎◌, refl}
+use Rattle.std.specs.Prelude.{◌≡◌, ℕ, zero, suc, ◌+◌, ◌-◌, ◌<◌, ◌≤◌, All, List, [], ◌∷◌, ◌++◌, length, take, drop, flat_map, Option, Some, None, Result, Ok, Err, IfSome, IsErrOf, ◌⊎◌, refl}
 use Rattle.std.proofs.Common.{ap, sym, subst, ◌∙◌, arith, append_assoc, length-append, inl, inr}
-use Rattle.std.specs.List.{AllByRecursion}
 use Rattle.std.specs.Io.KnownBytes.{prepend_known}
 use Rattle.std.proofs.lemmas.List.{append-nil, flat_map_more, take-append-drop}
-use Rattle.std.proofs.lemmas.List.Elements.{All-from_recursion, All-map, All-nil, All-push, All-weaker, recursion_from_All}
+use Rattle.std.proofs.lemmas.List.Elements.{All-cons, All-head, All-nil, All-push, All-tail}
 use Rattle.fugue_ids.specs.declared.op.Op.{Op}
 use Rattle.outer_ports.specs.Sources.{SourceView}
-use Rattle.origin_model.specs.frames.Frames.{frame, frames, HasFrame, Framed, IsFrame, Begins, IsPartial, IsBad, End, Whole, CutShort as EndsCut, BadFrame as EndsBad, EndsSo, Reads, Starts}
+use Rattle.origin_model.specs.frames.Frames.{frame, Framed, IsFrame, Begins, IsPartial, IsBad, End, Whole, CutShort as EndsCut, BadFrame as EndsBad, EndsSo, Reads, Starts}
 use Rattle.op_frame.specs.declared.fault.FrameFault.TheVariants.{BadFrame, CutShort, ReadFault, TooLong, NoMemory}
 use Rattle.op_frame.specs.declared.fault.FrameFault.{FrameFault}
 use Rattle.op_frame.specs.Readers.{Reading, to_give, AnswerIs, AreFirst, Chains, EndsBy, Follows, Gave, IsByBytes, Nexts, given_with}
 use Rattle.op_frame.proofs.OperationLemmas.{operation_code, operation_empty, frame_is}
-use Rattle.op_frame.proofs.FrameLemmas.{framed_of, framed_is, partial_is, bad_goes_on}
+use Rattle.origin_model.proofs.SharedLemmas.{framed_is, framed_of}
+use Rattle.op_frame.proofs.FrameLemmas.{partial_is, bad_goes_on}
 use Rattle.op_frame.proofs.ToldLemmas.{prepend_none, prepend_twice, shows, some_is, take_past}
 use Rattle.op_frame.proofs.FrontLemmas.{Front, frame_there, front_there, bad_there, front_of}
 
@@ -71,20 +71,20 @@ same_end rest k (EndsBad j) (EndsBad l) p q = ap EndsBad (p.0 ∙ sym q.0)
 -- frames with a rest behind them, and further frames in this rest
 record GoesOn (fs : List Framed) (r : List ℕ) (gs : List Framed) (s : List ℕ) : Type 0 where
   more : List Framed
-  are_frames : AllByRecursion IsFrame more
+  are_frames : All IsFrame more
   rest : r ≡ bytes_of more ++ s
   bytes : bytes_of gs ≡ bytes_of fs ++ bytes_of more
   ops : ops_of gs ≡ ops_of fs ++ ops_of more
 
 -- frames at the front are the first ones of all up to an end
-goes_on : (fs : List Framed) (r : List ℕ) (gs : List Framed) (s : List ℕ) → AllByRecursion IsFrame fs → AllByRecursion IsFrame gs → bytes_of fs ++ r ≡ bytes_of gs ++ s
+goes_on : (fs : List Framed) (r : List ℕ) (gs : List Framed) (s : List ℕ) → All IsFrame fs → All IsFrame gs → bytes_of fs ++ r ≡ bytes_of gs ++ s
     → (k : ℕ) (end : End) → EndsSo s k end → GoesOn fs r gs s
 goes_on [] r gs s p q same k end ends = record { more = gs; are_frames = q; rest = same; bytes = refl; ops = refl }
 goes_on (f ∷ fs) r [] s p q same k end ends =
-    absurd (not_ended s f (bytes_of fs ++ r) k end (record { is_frame = p.0; split = sym same ∙ append_assoc f.bytes (bytes_of fs) r }) ends)
+    absurd (not_ended s f (bytes_of fs ++ r) k end (record { is_frame = All-head IsFrame f fs p; split = sym same ∙ append_assoc f.bytes (bytes_of fs) r }) ends)
 goes_on (f ∷ fs) r (g ∷ gs) s p q same k end ends =
-    let first = same_front f g (bytes_of fs ++ r) (bytes_of gs ++ s) p.0 q.0 (sym (append_assoc f.bytes (bytes_of fs) r) ∙ same ∙ append_assoc g.bytes (bytes_of gs) s) in
-    let behind = goes_on fs r gs s p.1 q.1 first.rest k end ends in
+    let first = same_front f g (bytes_of fs ++ r) (bytes_of gs ++ s) (All-head IsFrame f fs p) (All-head IsFrame g gs q) (sym (append_assoc f.bytes (bytes_of fs) r) ∙ same ∙ append_assoc g.bytes (bytes_of gs) s) in
+    let behind = goes_on fs r gs s (All-tail IsFrame f fs p) (All-tail IsFrame g gs q) first.rest k end ends in
     record {
       more = behind.more;
       are_frames = behind.are_frames;
@@ -94,10 +94,10 @@ goes_on (f ∷ fs) r (g ∷ gs) s p q same k end ends =
     }
 
 -- behind an end stands no frame
-none_behind : (more : List Framed) (r s : List ℕ) (k : ℕ) (end : End) → AllByRecursion IsFrame more → r ≡ bytes_of more ++ s → EndsSo r k end → more ≡ []
+none_behind : (more : List Framed) (r s : List ℕ) (k : ℕ) (end : End) → All IsFrame more → r ≡ bytes_of more ++ s → EndsSo r k end → more ≡ []
 none_behind [] r s k end are is ends = refl
 none_behind (f ∷ more) r s k end are is ends =
-    absurd (not_ended r f (bytes_of more ++ s) k end (record { is_frame = are.0; split = is ∙ append_assoc f.bytes (bytes_of more) s }) ends)
+    absurd (not_ended r f (bytes_of more ++ s) k end (record { is_frame = All-head IsFrame f more are; split = is ∙ append_assoc f.bytes (bytes_of more) s }) ends)
 
 -- a stream is read in one way
 pub reads_once : (b : List ℕ) (ops others : List Op) (e f : End) → Reads b ops e → Reads b others f → (ops ≡ others) × (e ≡ f)
@@ -120,7 +120,7 @@ starts_first b ops rest all end p q =
 pub starts_more : (b : List ℕ) (ops : List Op) (rest : List ℕ) (framed : Framed) (behind : List ℕ) → Starts b ops rest → Begins rest framed behind → Starts b (ops ++ framed.ops) behind
 starts_more b ops rest framed behind p q = record {
   found = p.found ++ framed ∷ [];
-  are_frames = recursion_from_All IsFrame (p.found ++ framed ∷ []) (All-push IsFrame p.found framed (All-from_recursion IsFrame p.found p.are_frames) q.is_frame);
+  are_frames = All-push IsFrame p.found framed p.are_frames q.is_frame;
   ops_are = ap (λ (l : List Op). l ++ framed.ops) p.ops_are ∙ flat_map_more (λ f. f.ops) [] p.found framed;
   split = p.split ∙ ap (λ (l : List ℕ). bytes_of p.found ++ l) q.split ∙ sym (append_assoc (bytes_of p.found) framed.bytes behind)
       ∙ ap (λ (l : List ℕ). l ++ behind) (flat_map_more (λ f. f.bytes) [] p.found framed);
@@ -129,19 +129,19 @@ starts_more b ops rest framed behind p q = record {
 -- frames up to where the bytes end, and how they end there, counted from a start
 record ReadsFrom (start : ℕ) (b : List ℕ) : Type 0 where
   found : List Framed
-  are_frames : AllByRecursion IsFrame found
+  are_frames : All IsFrame found
   rest : List ℕ
   split : b ≡ bytes_of found ++ rest
   end : End
   ends : EndsSo rest (start + length (bytes_of found)) end
 
 reads_from : (most start : ℕ) (b : List ℕ) → length b ≤ most → ReadsFrom start b
-reads_from most start [] fits = record { found = []; are_frames = tt; rest = []; split = refl; end = Whole; ends = refl }
+reads_from most start [] fits = record { found = []; are_frames = All-nil IsFrame; rest = []; split = refl; end = Whole; ends = refl }
 reads_from zero start (x ∷ b) fits = absurd (omega (arith, fits))
 reads_from (suc most) start (x ∷ b) fits = by_front (front_of (x ∷ b)) (λ later rest. reads_from most later rest)
   where
     stops_here : (end : End) → EndsSo (x ∷ b) (start + 0) end → ReadsFrom start (x ∷ b)
-    stops_here end ends = record { found = []; are_frames = tt; rest = x ∷ b; split = refl; end = end; ends = ends }
+    stops_here end ends = record { found = []; are_frames = All-nil IsFrame; rest = x ∷ b; split = refl; end = end; ends = ends }
 
     by_front : Front (x ∷ b) → ((later : ℕ) (rest : List ℕ) → length rest ≤ most → ReadsFrom later rest) → ReadsFrom start (x ∷ b)
     by_front (frame_there framed rest begins) reads =
@@ -149,7 +149,7 @@ reads_from (suc most) start (x ∷ b) fits = by_front (front_of (x ∷ b)) (λ l
         (omega (arith, fits, framed_some framed begins.is_frame, ap length begins.split, length-append framed.bytes rest)) in
         record {
           found = framed ∷ behind.found;
-          are_frames = (begins.is_frame, behind.are_frames);
+          are_frames = All-cons IsFrame framed behind.found begins.is_frame behind.are_frames;
           rest = behind.rest;
           split = begins.split ∙ ap (λ (l : List ℕ). framed.bytes ++ l) behind.split ∙ sym (append_assoc framed.bytes (bytes_of behind.found) behind.rest);
           end = behind.end;
@@ -173,25 +173,6 @@ reads_some b =
         ends = subst (λ (n : ℕ). EndsSo r.rest n r.end) (omega arith) r.ends;
       },
     )
-
--- the frames of operations are read as these operations, whole
-pub reads_frames : (ops : List Op) → All HasFrame ops → Reads (frames ops) ops Whole
-reads_frames ops all = record {
-  found = map framed_of ops;
-  are_frames = recursion_from_All IsFrame (map framed_of ops) (All-map IsFrame framed_of ops (All-weaker HasFrame (λ op. IsFrame (framed_of op)) framed_is ops all));
-  ops_are = framed_ops ops;
-  rest = [];
-  split = sym (framed_bytes ops) ∙ sym (append-nil (bytes_of (map framed_of ops)));
-  ends = refl;
-}
-  where
-    framed_bytes : (ops : List Op) → bytes_of (map framed_of ops) ≡ frames ops
-    framed_bytes [] = refl
-    framed_bytes (op ∷ ops) = ap (λ (l : List ℕ). frame op ++ l) (framed_bytes ops)
-
-    framed_ops : (ops : List Op) → ops ≡ ops_of (map framed_of ops)
-    framed_ops [] = refl
-    framed_ops (op ∷ ops) = ap (λ (l : List Op). op ∷ l) (framed_ops ops)
 
 -- nothing was given yet
 pub gave_none : (reader : Reading) (left : Option (List ℕ)) → reader.unread ≡ [] → reader.offset ≡ 0 → Gave left [] reader left
@@ -226,7 +207,7 @@ gave_reads : (told : Option (List ℕ)) (ops : List Op) (reader : Reading) (left
     → EndsSo rest reader.offset end → Reads (bytes_of so.found ++ rest) ops end
 gave_reads told ops reader left so rest end ends = record {
   found = so.found;
-  are_frames = recursion_from_All IsFrame so.found so.are_frames;
+  are_frames = so.are_frames;
   ops_are = so.ops_are;
   rest = rest;
   split = refl;
@@ -237,7 +218,7 @@ gave_reads told ops reader left so rest end ends = record {
 gave_first : (told : Option (List ℕ)) (ops : List Op) (reader : Reading) (left : Option (List ℕ)) → Gave told ops reader left → IfSome told (AreFirst ops)
 gave_first told ops reader left so = shows (AreFirst ops) (bytes_of so.found) (to_give reader left) told so.split
     (λ rest is all end reads. starts_first (bytes_of so.found ++ rest) ops rest all end
-    (record { found = so.found; are_frames = recursion_from_All IsFrame so.found so.are_frames; ops_are = so.ops_are; split = refl }) reads)
+    (record { found = so.found; are_frames = so.are_frames; ops_are = so.ops_are; split = refl }) reads)
 
 -- how bytes end that begin a frame
 partial_end : (rest : List ℕ) (k : ℕ) → IsPartial rest → (end : End) × EndsSo rest k end × ((end ≡ Whole) ⊎ ((offset : ℕ) × (end ≡ EndsCut offset)))

@@ -1,7 +1,6 @@
 -- What stands at the front of bytes, for a title and its parts.
 use Rattle.std.proofs.Common.{◌≡◌, ◌≢◌, ℕ, zero, suc, ◌+◌, ◌-◌, ◌<◌, ◌≤◌, Bool, true, false, List, [], ◌∷◌, ◌++◌, length, take, drop, get_or, refl, ap, sym, subst, ◌∙◌, ◌⊎◌, inl, inr, append_assoc, arith, length-append, length-drop}
-use Rattle.std.specs.Prelude.{◌↔◌, ◌&&◌, is_some, Option, Some, None, Result, Ok, Err}
-use Rattle.std.specs.List.{AllByRecursion}
+use Rattle.std.specs.Prelude.{◌↔◌, ◌&&◌, All, is_some, Option, Some, None, Result, Ok, Err}
 use Rattle.std.specs.Char.{IsScalar, encode_utf8}
 use Rattle.std.specs.Int.{to_be_bytes, w16}
 use Rattle.std.specs.Str.{chars, IsUtf8, IsValidUpTo, encode_utf8_all, all_scalars, IsErrorLen}
@@ -9,6 +8,7 @@ use Rattle.std.specs.Str.Lossy.{utf8_error_len}
 use Rattle.std.proofs.str.Laws.{order, both}
 use Rattle.std.proofs.lemmas.Bool.{or_from, or_parts}
 use Rattle.std.proofs.lemmas.List.{get_or-drop, take-append-drop, take-append-le, drop-append-le, length-take-le, take_at}
+use Rattle.std.proofs.lemmas.List.Elements.{All-cons, All-head, All-nil, All-tail}
 use Rattle.std.proofs.lemmas.List.Folds.{list_any-append}
 use Rattle.std.proofs.Math.Seq.{take-add}
 use Rattle.std.proofs.lemmas.Str.{encodes_same, IsUtf8-nil, encode_ascii, length-encode, len_utf8_bounds, encodes-chars, scalars-chars, IsUtf8-append, IsUtf8-drop, IsUtf8-encode, IsCharBoundary-from_take}
@@ -30,13 +30,13 @@ no_line_ends xs ys p q = list_any-append ends_line xs ys ∙ or_from _ _ p q
 front_line_end : (xs ys : List ℕ) → has_line_end (xs ++ ys) ≡ false → has_line_end xs ≡ false
 front_line_end xs ys p = (or_parts _ _ (sym (list_any-append ends_line xs ys) ∙ p)).0
 
-all_are_scalars : (t : List ℕ) → all_scalars t ≡ true → AllByRecursion IsScalar t
-all_are_scalars [] p = tt
-all_are_scalars (c ∷ t) p = let h = both _ _ p in (h.0, all_are_scalars t h.1)
+all_are_scalars : (t : List ℕ) → all_scalars t ≡ true → All IsScalar t
+all_are_scalars [] p = All-nil IsScalar
+all_are_scalars (c ∷ t) p = let h = both _ _ p in All-cons IsScalar c t h.0 (all_are_scalars t h.1)
 
-are_all_scalars : (t : List ℕ) → AllByRecursion IsScalar t → all_scalars t ≡ true
+pub are_all_scalars : (t : List ℕ) → All IsScalar t → all_scalars t ≡ true
 are_all_scalars [] p = refl
-are_all_scalars (c ∷ t) p = λ i. p.0 i && are_all_scalars t p.1 i
+are_all_scalars (c ∷ t) p = λ i. All-head IsScalar c t p i && are_all_scalars t (All-tail IsScalar c t p) i
 
 title_utf8 : (t : List ℕ) → IsTitle t → IsUtf8 (encode_utf8_all t)
 title_utf8 t p = (t, (are_all_scalars t p.scalars, refl))
@@ -44,7 +44,7 @@ title_utf8 t p = (t, (are_all_scalars t p.scalars, refl))
 -- the scalars of a title's text
 pub title_of : (t bytes : List ℕ) → bytes ≡ encode_utf8_all t → IsUtf8 bytes → IsTitleText bytes → IsTitle t
 title_of t bytes is utf8 text = record {
-  scalars = subst (AllByRecursion IsScalar) (encodes_same utf8.0 t (utf8.1.1 ∙ is)) (all_are_scalars utf8.0 utf8.1.0);
+  scalars = subst (All IsScalar) (encodes_same utf8.0 t (utf8.1.1 ∙ is)) (all_are_scalars utf8.0 utf8.1.0);
   text = subst IsTitleText is text;
 }
 
@@ -101,14 +101,14 @@ record Straddles (front more : List ℕ) (at : ℕ) : Type 0 where
 front_and : (at : ℕ) (front x between : List ℕ) → drop at front ≡ x ++ between → take (at + length x) front ≡ take at front ++ x
 front_and at front x between same = take-add at (length x) front ∙ ap (λ (l : List ℕ). take at front ++ l) (ap (take (length x)) same ∙ take_at x between (length x) refl)
 
-cut_within : (front more : List ℕ) (at : ℕ) → IsValidUpTo front at → (cs : List ℕ) → AllByRecursion IsScalar cs → encode_utf8_all cs ≡ drop at front ++ more → Straddles front more at
+cut_within : (front more : List ℕ) (at : ℕ) → IsValidUpTo front at → (cs : List ℕ) → All IsScalar cs → encode_utf8_all cs ≡ drop at front ++ more → Straddles front more at
 cut_within front more at valid [] all is =
     absurd (omega (arith, valid.short, ap length is, length-append (drop at front) more, length-drop at front))
 cut_within front more at valid (c ∷ cs) all is = elim (two_fronts (encode_utf8 c) (encode_utf8_all cs) (drop at front) more is) [
   | inl p ↦ absurd (valid.longest (at + length (encode_utf8 c)) (omega (arith, (len_utf8_bounds c).0, length-encode c)) (longer p.between p.is))
   | inr p ↦ record {
     ch = c;
-    scalar = all.0;
+    scalar = All-head IsScalar c cs all;
     rest = p.between;
     lacks = p.some;
     is = p.is;
@@ -117,7 +117,7 @@ cut_within front more at valid (c ∷ cs) all is = elim (two_fronts (encode_utf8
 ]
   where
     longer : (between : List ℕ) → drop at front ≡ encode_utf8 c ++ between → IsUtf8 (take (at + length (encode_utf8 c)) front)
-    longer between same = subst IsUtf8 (sym (front_and at front (encode_utf8 c) between same)) (IsUtf8-append (take at front) (encode_utf8 c) valid.front (IsUtf8-encode c all.0))
+    longer between same = subst IsUtf8 (sym (front_and at front (encode_utf8 c) between same)) (IsUtf8-append (take at front) (encode_utf8 c) valid.front (IsUtf8-encode c (All-head IsScalar c cs all)))
 
 straddles : (front more : List ℕ) (at : ℕ) → IsValidUpTo front at → (t : List ℕ) → IsTitle t → encode_utf8_all t ≡ front ++ more → Straddles front more at
 straddles front more at valid t p is =

@@ -1,12 +1,8 @@
 -- What a stream comes to whose operations are taken in, from a state and within limits: how it ends, and what was taken in until then.
-use Rattle.std.specs.Prelude.{◌≡◌, ◌≢◌, ◌⊎◌, ℕ, ◌<◌, ◌≤◌, All, List, ◌∷◌, ◌++◌, length, take}
+use Rattle.std.specs.Prelude.{◌≡◌, ◌⊎◌, ℕ, ◌<◌, ◌≤◌, List, ◌∷◌, ◌++◌, length, take}
 use Rattle.fugue_ids.specs.declared.op.Op.{Op}
 use Rattle.origin_model.specs.frames.Frames.{End, Whole as EndsWhole, CutShort as EndsCutShort, BadFrame as EndsInBadFrame, Framed, Begins, Starts, Reads}
-use Rattle.origin_model.specs.taking.Taking.{Held, TooMany as AnswersTooMany, held_from, answer, answers_from}
-
--- all of the operations can be taken in: no answer is that there are too many
-abbrev pub HasPlace : (hold most : ℕ) (start : Held) → List Op → Type 0
-HasPlace hold most start ops = All (λ a. a ≢ AnswersTooMany) (answers_from hold most start ops)
+use Rattle.origin_model.specs.taking.Taking.{Held, HasPlace, TooMany as AnswersTooMany, held_from, answer}
 
 -- how taking in a stream ends
 pub data Course : Type 0 where

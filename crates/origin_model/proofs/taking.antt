@@ -2,6 +2,7 @@
 pub mod ClosureLawLemmas
 pub mod ClosureLemmas
 pub mod KeptLemmas
+pub mod RefusedLemmas
 pub mod SelfNamedLemmas
 pub mod SettlingLemmas
 pub mod TakingLemmas

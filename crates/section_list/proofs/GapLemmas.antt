@@ -6,26 +6,26 @@ use Rattle.fugue_ids.specs.Identifiers.{Identifier}
 use Rattle.fugue_ids.specs.Listed.{index_of}
 use Rattle.fugue_ids.proofs.IdentifierLemmas.{cases_id, eq-id_eq, index_of-here, index_of-there, ne-id_eq}
 use Rattle.origin_model.specs.edits.Landing.{following, head_of}
-use Rattle.origin_model.specs.sides.Slot.{behind, in_front}
+use Rattle.origin_model.specs.sides.Slot.{inserted_before, inserted_behind}
 
 -- x directly before y is x at the index of y
-pub in_front-insert : (y x : Identifier) (xs : List Identifier) → in_front y x xs ≡ insert xs (index_of xs y) x
-in_front-insert y x [] = refl
-in_front-insert y x (e ∷ es) =
+pub inserted_before-insert : (y x : Identifier) (xs : List Identifier) → inserted_before y x xs ≡ insert xs (index_of xs y) x
+inserted_before-insert y x [] = refl
+inserted_before-insert y x (e ∷ es) =
     elim (cases_id y e) [
-      | inl d ↦ ap (λ b. if b then x ∷ e ∷ es else e ∷ in_front y x es) (eq-id_eq e y (sym d)) ∙ ap (λ k. insert (e ∷ es) k x) (sym (index_of-here e es y d))
-      | inr n ↦ ap (λ b. if b then x ∷ e ∷ es else e ∷ in_front y x es) (ne-id_eq e y (λ d. n (sym d)))
-          ∙ ap (λ zs. e ∷ zs) (in_front-insert y x es) ∙ ap (λ k. insert (e ∷ es) k x) (sym (index_of-there e es y n))
+      | inl d ↦ ap (λ b. if b then x ∷ e ∷ es else e ∷ inserted_before y x es) (eq-id_eq e y (sym d)) ∙ ap (λ k. insert (e ∷ es) k x) (sym (index_of-here e es y d))
+      | inr n ↦ ap (λ b. if b then x ∷ e ∷ es else e ∷ inserted_before y x es) (ne-id_eq e y (λ d. n (sym d)))
+          ∙ ap (λ zs. e ∷ zs) (inserted_before-insert y x es) ∙ ap (λ k. insert (e ∷ es) k x) (sym (index_of-there e es y n))
     ]
 
 -- x directly behind y is x at the next index
-pub behind-insert : (y x : Identifier) (xs : List Identifier) → behind y x xs ≡ insert xs (suc (index_of xs y)) x
-behind-insert y x [] = refl
-behind-insert y x (e ∷ es) =
+pub inserted_behind-insert : (y x : Identifier) (xs : List Identifier) → inserted_behind y x xs ≡ insert xs (suc (index_of xs y)) x
+inserted_behind-insert y x [] = refl
+inserted_behind-insert y x (e ∷ es) =
     elim (cases_id y e) [
-      | inl d ↦ ap (λ b. if b then e ∷ x ∷ es else e ∷ behind y x es) (eq-id_eq e y (sym d)) ∙ ap (λ k. insert (e ∷ es) (suc k) x) (sym (index_of-here e es y d))
-      | inr n ↦ ap (λ b. if b then e ∷ x ∷ es else e ∷ behind y x es) (ne-id_eq e y (λ d. n (sym d)))
-          ∙ ap (λ zs. e ∷ zs) (behind-insert y x es) ∙ ap (λ k. insert (e ∷ es) (suc k) x) (sym (index_of-there e es y n))
+      | inl d ↦ ap (λ b. if b then e ∷ x ∷ es else e ∷ inserted_behind y x es) (eq-id_eq e y (sym d)) ∙ ap (λ k. insert (e ∷ es) (suc k) x) (sym (index_of-here e es y d))
+      | inr n ↦ ap (λ b. if b then e ∷ x ∷ es else e ∷ inserted_behind y x es) (ne-id_eq e y (λ d. n (sym d)))
+          ∙ ap (λ zs. e ∷ zs) (inserted_behind-insert y x es) ∙ ap (λ k. insert (e ∷ es) (suc k) x) (sym (index_of-there e es y n))
     ]
 
 -- what follows an origin, by its position

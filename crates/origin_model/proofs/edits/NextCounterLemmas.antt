@@ -5,7 +5,7 @@ use Rattle.std.proofs.Math.Nat.{le-max_left, le-max_right}
 use Rattle.std.proofs.lemmas.Grind.{flat_map-append}
 use Rattle.std.proofs.lemmas.List.{map-append}
 use Rattle.origin_model.specs.operations.Counters.{counters, counters_among, IsGreatest, mentioned}
-use Rattle.origin_model.specs.edits.Edits.{above_all, next_counter, next_of}
+use Rattle.origin_model.specs.edits.Edits.{above_all, next_counter, next_above}
 
 -- what no number is above
 above_le : (ns : List ℕ) (n : ℕ) → All (λ m. m ≤ n) ns → above_all ns ≤ suc n
@@ -29,12 +29,12 @@ same_number : (a b : ℕ) → a ≤ b → b ≤ a → a ≡ b
 same_number a b l k = omega (arith, l, k)
 
 -- what is above all numbers, by the greatest
-above_greatest : (ns : List ℕ) (g : Option ℕ) → IsGreatest ns g → above_all ns ≡ next_of g
+above_greatest : (ns : List ℕ) (g : Option ℕ) → IsGreatest ns g → above_all ns ≡ next_above g
 above_greatest ns None g = ap above_all (g.none.0 refl)
 above_greatest ns (Some n) g = same_number (above_all ns) (suc n) (above_le ns n g.bound) (le_above ns g.member.0 n g.member.1 g.member.2)
 
 -- the next counter is one more than the greatest, or 0
-pub next_by_greatest : (r : ℕ) (h w : List Op) (greatest : Option ℕ) → IsGreatest (counters r (h ++ w)) greatest → next_counter r h w ≡ next_of greatest
+pub next_by_greatest : (r : ℕ) (h w : List Op) (greatest : Option ℕ) → IsGreatest (counters r (h ++ w)) greatest → next_counter r h w ≡ next_above greatest
 next_by_greatest r h w o g = above_greatest (counters r (h ++ w)) o g
 
 -- what is above the numbers of two lists
@@ -51,7 +51,7 @@ counters-append r h w =
 
 -- the next counter, by two greatest ones
 pub next_by_two : (r : ℕ) (h w : List Op) (accepted waiting : Option ℕ) → IsGreatest (counters r h) accepted → IsGreatest (counters r w) waiting
-    → next_counter r h w ≡ max (next_of accepted) (next_of waiting)
+    → next_counter r h w ≡ max (next_above accepted) (next_above waiting)
 next_by_two r h w a b f g =
     ap above_all (counters-append r h w) ∙ above-append (counters r h) (counters r w)
     ∙ (λ i. max (above_greatest (counters r h) a f i) (above_greatest (counters r w) b g i))

@@ -1,5 +1,5 @@
 -- A file by its parts: a new one, one with a further batch, and one with other bytes behind its gate.
-use Rattle.origin_model.proofs.Words.{All, All-append, All-cons, All-nil, AllByRecursion, List, Op, [], ap, append-nil, append_assoc, arith, drop, length, length-append, length-take-le, refl, suc, sym, take, take-append-drop, true, ℕ, ◌&&◌, ◌++◌, ◌+◌, ◌<◌, ◌^◌, ◌∙◌, ◌∷◌, ◌≡◌, ◌≢◌, ◌≤◌}
+use Rattle.origin_model.proofs.Words.{All, All-append, All-cons, All-nil, List, Op, [], ap, append-nil, append_assoc, arith, drop, length, length-append, length-take-le, refl, suc, sym, take, take-append-drop, true, ℕ, ◌&&◌, ◌++◌, ◌+◌, ◌<◌, ◌^◌, ◌∙◌, ◌∷◌, ◌≡◌, ◌≢◌, ◌≤◌}
 use Rattle.std.proofs.Common.{nat_le}
 use Rattle.std.proofs.Math.Seq.{drop-append_seam, take-append-add, take-append_seam}
 use Rattle.std.proofs.lemmas.Bool.{and_from, and_parts, le-leb, leb-true}
@@ -103,7 +103,7 @@ with_batch content ops =
     record { replica = content.replica; hold = content.hold; ops = content.ops ++ ops; at = content.at + length (open_slot (batch_of ops)); slots = content.slots + 1 }
 
 -- a batch that is written in the place of the gate, open, with another gate than 1 behind it, is the file's last
-pub batch_appended : (bytes : List ℕ) (content : Content) (ops : List Op) (gate : ℕ) (rest : List ℕ) → HasImage bytes (Holds content) → AllByRecursion HasFrame ops
+pub batch_appended : (bytes : List ℕ) (content : Content) (ops : List Op) (gate : ℕ) (rest : List ℕ) → HasImage bytes (Holds content) → All HasFrame ops
     → length (frames ops) ≤ LONGEST_BATCH → content.slots < last_slot → gate ≢ 1
     → HasImage (take content.at bytes ++ (open_slot (batch_of ops) ++ gate ∷ rest)) (Holds (with_batch content ops))
 batch_appended bytes content ops gate rest h f short few closed =

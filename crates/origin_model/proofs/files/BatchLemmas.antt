@@ -1,7 +1,8 @@
 -- Batches: the frames of operations are one, and bytes are told from other bytes by where they part.
-use Rattle.origin_model.proofs.Words.{AllByRecursion, List, Op, [], ap, append-nil, arith, drop, flat_map, length, map, refl, subst, sym, take, ℕ, ◌++◌, ◌<◌, ◌^◌, ◌∙◌, ◌∷◌, ◌≡◌, ◌≤◌}
+use Rattle.origin_model.proofs.Words.{All, All-weaker, List, Op, [], ap, append-nil, arith, drop, flat_map, length, map, refl, subst, sym, take, ℕ, ◌++◌, ◌<◌, ◌^◌, ◌∙◌, ◌∷◌, ◌≡◌, ◌≤◌}
 use Rattle.std.proofs.Math.Seq.{drop-append_seam, take-append_seam}
 use Rattle.std.proofs.lemmas.Grind.{flat_map-append}
+use Rattle.std.proofs.lemmas.List.Elements.{All-map}
 use Rattle.std.proofs.lemmas.Nat.{from_be_bytes-to_be_bytes_4}
 use Rattle.std.specs.Int.{from_be_bytes, to_be_bytes, w32}
 use Rattle.origin_model.specs.declared.files.TheConstants.{LONGEST_BATCH}
@@ -16,36 +17,40 @@ same_front xs ys vs ws l e = sym (take-append_seam xs ys) ∙ (λ i. take (l i) 
 pub same_rest : (xs ys vs ws : List ℕ) → length xs ≡ length vs → xs ++ ys ≡ vs ++ ws → ys ≡ ws
 same_rest xs ys vs ws l e = sym (drop-append_seam xs ys) ∙ (λ i. drop (l i) (e i)) ∙ drop-append_seam vs ws
 
--- each operation with its frame
-abbrev framed_all : List Op → List Framed
-framed_all ops = map (λ op. record { bytes = frame op; ops = op ∷ [] }) ops
+-- an operation with its frame
+abbrev pub framed_of : Op → Framed
+framed_of op = record { bytes = frame op; ops = op ∷ [] }
 
--- they are frames
-are_frames : (ops : List Op) → AllByRecursion HasFrame ops → AllByRecursion IsFrame (framed_all ops)
-are_frames [] h = tt
-are_frames (op ∷ ops) h = (record { op = op; has_frame = h.0; bytes_are = refl; ops_are = refl }, are_frames ops h.1)
+pub framed_is : (op : Op) → HasFrame op → IsFrame (framed_of op)
+framed_is op has = record { op = op; has_frame = has; bytes_are = refl; ops_are = refl }
 
--- of these operations
-framed_ops : (ops : List Op) → ops ≡ flat_map (λ framed. framed.ops) (framed_all ops)
+-- frames of these operations
+framed_ops : (ops : List Op) → ops ≡ flat_map (λ framed. framed.ops) (map framed_of ops)
 framed_ops [] = refl
 framed_ops (op ∷ ops) = ap (λ z. op ∷ z) (framed_ops ops)
 
 -- and of their bytes
-framed_bytes : (ops : List Op) → frames ops ≡ flat_map (λ framed. framed.bytes) (framed_all ops)
+framed_bytes : (ops : List Op) → frames ops ≡ flat_map (λ framed. framed.bytes) (map framed_of ops)
 framed_bytes [] = refl
 framed_bytes (op ∷ ops) = ap (λ z. frame op ++ z) (framed_bytes ops)
 
 -- the frames of operations are read as these operations
-pub frames_read : (ops : List Op) → AllByRecursion HasFrame ops → Reads (frames ops) ops Whole
-frames_read ops h =
-    record { found = framed_all ops; are_frames = are_frames ops h; ops_are = framed_ops ops; rest = []; split = framed_bytes ops ∙ sym (append-nil (flat_map (λ framed. framed.bytes) (framed_all ops))); ends = refl }
+pub frames_read : (ops : List Op) → All HasFrame ops → Reads (frames ops) ops Whole
+frames_read ops all = record {
+  found = map framed_of ops;
+  are_frames = All-map IsFrame framed_of ops (All-weaker HasFrame (λ op. IsFrame (framed_of op)) framed_is ops all);
+  ops_are = framed_ops ops;
+  rest = [];
+  split = framed_bytes ops ∙ sym (append-nil (flat_map (λ framed. framed.bytes) (map framed_of ops)));
+  ends = refl;
+}
 
 -- the batch of operations
 abbrev pub batch_of : List Op → Batch
 batch_of ops = record { number = to_be_bytes w32 (length (frames ops)); bytes = frames ops; ops = ops }
 
 -- it is one, where its frames are within the limit
-pub is_batch : (ops : List Op) → AllByRecursion HasFrame ops → length (frames ops) ≤ LONGEST_BATCH → IsBatch (batch_of ops)
+pub is_batch : (ops : List Op) → All HasFrame ops → length (frames ops) ≤ LONGEST_BATCH → IsBatch (batch_of ops)
 is_batch ops h l =
     let fits : length (frames ops) < 2 ^ 32 = omega (arith, l) in
     record { four_bytes = refl; counts = from_be_bytes-to_be_bytes_4 (length (frames ops)) fits; short = l; reads = frames_read ops h }

@@ -1,7 +1,7 @@
 -- Small files of replica 1 with hold 16, and what they mean.
-use Rattle.origin_model.proofs.Words.{All-nil, Delete, Op, [], arith, refl, ◌++◌, ◌∷◌, ◌≡◌}
+use Rattle.origin_model.proofs.Words.{All-cons, All-nil, Delete, Op, [], arith, refl, ◌++◌, ◌∷◌, ◌≡◌}
 use Rattle.origin_model.specs.files.Image.{BadBatch, HasImage, Holds, IsBatch, NoGate, NotReplica, header, new_file}
-use Rattle.origin_model.specs.frames.Frames.{frame}
+use Rattle.origin_model.specs.frames.Frames.{HasFrame, frame}
 use Rattle.origin_model.proofs.files.AppendLemmas.{batch_appended, new_file_holds}
 
 -- a new file has 14 bytes, of which the last is a closed gate
@@ -28,12 +28,12 @@ op = Delete (record { replica = 9; counter = 0 })
 second_gate_of_7 : HasImage (header 1 16 ++ (1 ∷ 0 ∷ 0 ∷ 0 ∷ 9 ∷ frame op) ++ 7 ∷ 1 ∷ 1 ∷ []) (Holds (record { replica = 1; hold = 16; ops = op ∷ []; at = 27; slots = 1 }))
 second_gate_of_7 =
     batch_appended (new_file 1 16) (record { replica = 1; hold = 16; ops = []; at = 13; slots = 0 }) (op ∷ []) 7 (1 ∷ 1 ∷ []) new_file_is_empty
-    (record { some_replica = omega arith; replica_fits = omega arith; counter_fits = omega arith }, tt) (omega arith) (omega arith) (λ e. omega (arith, e))
+    (All-cons HasFrame op [] (record { some_replica = omega arith; replica_fits = omega arith; counter_fits = omega arith }) (All-nil HasFrame)) (omega arith) (omega arith) (λ e. omega (arith, e))
 
 -- an empty batch is one
 empty_batch : HasImage (header 1 16 ++ (1 ∷ 0 ∷ 0 ∷ 0 ∷ 0 ∷ []) ++ 0 ∷ []) (Holds (record { replica = 1; hold = 16; ops = []; at = 18; slots = 1 }))
 empty_batch =
-    batch_appended (new_file 1 16) (record { replica = 1; hold = 16; ops = []; at = 13; slots = 0 }) [] 0 [] new_file_is_empty tt (omega arith) (omega arith) (λ e. omega (arith, e))
+    batch_appended (new_file 1 16) (record { replica = 1; hold = 16; ops = []; at = 13; slots = 0 }) [] 0 [] new_file_is_empty (All-nil HasFrame) (omega arith) (omega arith) (λ e. omega (arith, e))
 
 -- but not without a byte behind it
 empty_batch_at_the_end : HasImage (header 1 16 ++ 1 ∷ 0 ∷ 0 ∷ 0 ∷ 0 ∷ []) (BadBatch 0)

@@ -1,5 +1,6 @@
 -- Small runs of a relay: the frames of a section S and of a text A come in two sessions, and others are refused, each at the byte that shows it.
-use Rattle.origin_model.proofs.Words.{◌<◌, Delete, Identifier, List, None, Op, Option, Section, Some, Text, [], ap, append-nil, arith, codes, drop, length, refl, sym, take, true, ℕ, ◌++◌, ◌∙◌, ◌∷◌, ◌≡◌, ◌≢◌}
+use Rattle.origin_model.proofs.Words.{◌<◌, All-cons, All-nil, Delete, Identifier, List, None, Op, Option, Section, Some, Text, [], ap, append-nil, arith, codes, drop, length, refl, sym, take, true, ℕ, ◌++◌, ◌∙◌, ◌∷◌, ◌≡◌, ◌≢◌}
+use Rattle.std.specs.Char.{IsScalar}
 use Rattle.std.specs.Int.{from_be_bytes, w32}
 use lib.Utf8.{encode}
 use Rattle.std.specs.FinMap as finite
@@ -10,7 +11,7 @@ use Rattle.origin_model.specs.declared.relay.event.Event.TheVariants.{Gone, Open
 use Rattle.origin_model.specs.declared.relay.reply.Reply.{Reply}
 use Rattle.origin_model.specs.frames.Frames.{HasFrame, frame}
 use Rattle.origin_model.specs.relay.Relay.{Relay, Runs, Sessions, Steps, new_relay, reply_of}
-use Rattle.origin_model.specs.relay.Session.{answer, Closes, Goes, Reading, IsKind, Neither, Taken, TakesAll, closing, goes_on, greeted, refusal, refused, unread}
+use Rattle.origin_model.specs.relay.Session.{reply_from, Closes, Goes, Reading, IsKind, Neither, Taken, TakesAll, closing, goes_on, greeted, refusal, refused, unread}
 use Rattle.origin_model.proofs.relay.OneOutcomeLemmas.{begins_low, first}
 use Rattle.origin_model.proofs.relay.RunLemmas.{after_piece, open_stays, opened_steps, unknown_steps, piece_steps, follows_runs}
 use Rattle.origin_model.proofs.relay.TextLemmas.{closing_takes, hello, hello_takes, closed_takes, frame_takes, front_takes, partly, takes-append}
@@ -31,7 +32,7 @@ S_has = (
   record { some_replica = omega arith; replica_fits = omega arith; counter_fits = omega arith },
   tt,
   tt,
-  record { scalars = (refl, tt); text = record { some = omega arith; short = omega arith; one_line = refl } },
+  record { scalars = All-cons IsScalar 84 [] refl (All-nil IsScalar); text = record { some = omega arith; short = omega arith; one_line = refl } },
 )
 
 A_has : HasFrame A
@@ -84,7 +85,7 @@ two_sessions_run =
     let f : Sessions = finite.remove e 1 in
     let hello_0 = hello_takes many [] 0 (omega arith) in
     let hello_1 = takes-append many (hello 0) (frame A) (record { log = []; next = Goes unread }) (goes_on [] 0) (goes_on (frame A ∷ []) 0) hello_0 (frame_takes many 0 [] A A_has) in
-    let closes : Taken = record { log = both; next = Closes (answer both 0) } in
+    let closes : Taken = record { log = both; next = Closes (reply_from both 0) } in
     let s = opened_steps (new_relay many) 0 (simp gets refl) in
     let t = opened_steps (relay [] a) 1 (simp gets refl) in
     let u = piece_steps (relay [] b) 0 unread (hello 0) (goes_on [] 0) (simp gets refl) hello_0 in
@@ -135,7 +136,7 @@ module _ (others : Sessions) where
       let u = more b (0x48 ∷ 0 ∷ []) 0 (simp gets refl) in
       let v = more c (0x48 ∷ 0 ∷ 0 ∷ []) 0 (simp gets refl) in
       let w = more d (0x48 ∷ 0 ∷ 0 ∷ 0 ∷ []) 1 (simp gets refl) in
-      let x = piece_steps (relay both e) 2 (behind 1) closing (record { log = both; next = Closes (answer both 1) }) (simp gets refl) (closing_takes many 1 both) in
+      let x = piece_steps (relay both e) 2 (behind 1) closing (record { log = both; next = Closes (reply_from both 1) }) (simp gets refl) (closing_takes many 1 both) in
       follows_runs (relay both others)
       ((Piece 2 (0x48 ∷ []), relay both a, None) ∷ (Piece 2 (0 ∷ []), relay both b, None) ∷ (Piece 2 (0 ∷ []), relay both c, None) ∷ (Piece 2 (0 ∷ []), relay both d, None)
       ∷ (Piece 2 (1 ∷ []), relay both e, None) ∷ (Piece 2 (0x44 ∷ []), relay both closed_2, reply 2 second_frame) ∷ []) (s, (t, (u, (v, (w, (x, tt))))))

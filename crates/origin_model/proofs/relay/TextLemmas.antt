@@ -2,8 +2,9 @@
 use Rattle.origin_model.proofs.Words.{Delete, List, Op, Section, Some, Text, [], ap, append-nil, append_assoc, arith, refl, subst, sym, ℕ, ◌++◌, ◌<◌, ◌^◌, ◌∙◌, ◌∷◌, ◌≡◌}
 use Rattle.std.proofs.lemmas.Nat.{from_be_bytes-to_be_bytes_4}
 use Rattle.std.specs.Int.{byte_at, to_be_bytes, w32}
-use Rattle.origin_model.specs.frames.Frames.{HasFrame, IsFrame, IsPartial, frame}
-use Rattle.origin_model.specs.relay.Session.{Closes, Closing, Frame, Front, Goes, Taken, TakesAll, answer, at_cursor, closing, greeted, greeting, logged, unread}
+use Rattle.origin_model.specs.frames.Frames.{HasFrame, IsPartial, frame}
+use Rattle.origin_model.specs.relay.Session.{Closes, Closing, Frame, Front, Goes, Taken, TakesAll, reply_from, at_cursor, closing, greeted, greeting, logged, unread}
+use Rattle.origin_model.proofs.files.BatchLemmas.{framed_is, framed_of}
 
 -- bytes that come one after the other are read as the bytes joined
 pub takes-append : (limit : ℕ) (xs ys : List ℕ) (a b c : Taken) → TakesAll limit xs a b → TakesAll limit ys b c → TakesAll limit (xs ++ ys) a c
@@ -19,14 +20,10 @@ closed_takes limit (byte ∷ bytes) log reply = (record { log = log; next = Clos
 abbrev pub partly : List (List ℕ) → ℕ → List ℕ → Taken
 partly log cursor rest = record { log = log; next = Goes (record { cursor = Some cursor; rest = rest }) }
 
--- a frame, and one of its proper fronts
-framed_of : (op : Op) → HasFrame op → IsFrame (record { bytes = frame op; ops = op ∷ [] })
-framed_of op has = record { op = op; has_frame = has; bytes_are = refl; ops_are = refl }
-
 -- bytes with more behind them in a frame
 pub front_of : (op : Op) → HasFrame op → (xs : List ℕ) (y : ℕ) (ys : List ℕ) → frame op ≡ xs ++ y ∷ ys → IsPartial xs
 front_of op has xs y ys e =
-    record { framed = record { bytes = frame op; ops = op ∷ [] }; is_frame = framed_of op has; more = y ∷ ys; lacks = omega arith; front = e }
+    record { framed = framed_of op; is_frame = framed_is op has; more = y ∷ ys; lacks = omega arith; front = e }
 
 -- bytes within a frame change nothing yet
 pub front_takes : (limit cursor : ℕ) (log : List (List ℕ)) (op : Op) → HasFrame op → (xs ys : List ℕ) (z : ℕ) (zs : List ℕ) → frame op ≡ xs ++ (ys ++ z ∷ zs)
@@ -80,5 +77,5 @@ hello_takes limit log cursor fits =
     )
 
 -- the closing byte behind a whole message is answered
-pub closing_takes : (limit cursor : ℕ) (log : List (List ℕ)) → TakesAll limit closing (partly log cursor []) (record { log = log; next = Closes (answer log cursor) })
-closing_takes limit cursor log = (record { log = log; next = Closes (answer log cursor) }, (Closing, refl, refl), refl)
+pub closing_takes : (limit cursor : ℕ) (log : List (List ℕ)) → TakesAll limit closing (partly log cursor []) (record { log = log; next = Closes (reply_from log cursor) })
+closing_takes limit cursor log = (record { log = log; next = Closes (reply_from log cursor) }, (Closing, refl, refl), refl)

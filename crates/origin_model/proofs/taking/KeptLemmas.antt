@@ -1,7 +1,8 @@
 -- The kept operations of a list stand for all of it: what is refused changes nothing, and what is kept is kept again.
 use Rattle.origin_model.proofs.Words.{All, All-append, All-cons, All-nil, All-weaker, List, Op, [], ap, cases_Bool, false, inl, inr, refl, subst, sym, true, true≢false, ℕ, ◌++◌, ◌∙◌, ◌∷◌, ◌≡◌, ◌≢◌}
 use Rattle.origin_model.specs.taking.Closure.{answers, KeptSuffice, PartsAsOne, SavedSuffice, StaysSettled}
-use Rattle.origin_model.specs.taking.Taking.{Held, IsSettled, Answer, Accepted, Full, TooMany, Waits, answer, answers_from, decided_on, held, held_from, intake, is_kept, kept_from, nothing, settle, taken}
+use Rattle.origin_model.specs.taking.Taking.{Held, IsSettled, Answer, Accepted, Full, TooMany, Waits, answer, answers_from, decided_on, held, held_from, intake, intake_counted, is_kept, kept_from, nothing, settle, taken, tally_from}
+use Rattle.origin_model.specs.declared.taking.tally.Tally.{Tally}
 use Rattle.origin_model.proofs.taking.SettlingLemmas.{settle-settled, settles}
 
 -- an answer by which nothing is kept changes nothing
@@ -31,18 +32,24 @@ pub answers-append : (hold most : ℕ) (s : Held) (a b : List Op)
 answers-append hold most s [] b = refl
 answers-append hold most s (op ∷ a) b = ap (λ t. answer hold most s op ∷ t) (answers-append hold most (intake hold most s op) a b)
 
+-- how two lists, one behind the other, are counted
+pub tally-append : (hold most : ℕ) (s : Held) (a b : List Op) (t : Tally)
+    → tally_from hold most (held_from hold most s a) b (tally_from hold most s a t) ≡ tally_from hold most s (a ++ b) t
+tally-append hold most s [] b t = refl
+tally-append hold most s (op ∷ a) b t = tally-append hold most (intake hold most s op) a b (intake_counted hold most s op t)
+
 -- a kept operation
-kept-yes : (hold most : ℕ) (s : Held) (op : Op) (ops : List Op) → is_kept (answer hold most s op) ≡ true
+pub kept-yes : (hold most : ℕ) (s : Held) (op : Op) (ops : List Op) → is_kept (answer hold most s op) ≡ true
     → kept_from hold most s (op ∷ ops) ≡ op ∷ kept_from hold most (intake hold most s op) ops
 kept-yes hold most s op ops e = rw (e, kept_from)
 
 -- a refused one
-kept-no : (hold most : ℕ) (s : Held) (op : Op) (ops : List Op) → is_kept (answer hold most s op) ≡ false
+pub kept-no : (hold most : ℕ) (s : Held) (op : Op) (ops : List Op) → is_kept (answer hold most s op) ≡ false
     → kept_from hold most s (op ∷ ops) ≡ kept_from hold most (intake hold most s op) ops
 kept-no hold most s op ops e = rw (e, kept_from)
 
 -- what is kept of two lists, one behind the other
-kept-append : (hold most : ℕ) (s : Held) (a b : List Op) → kept_from hold most s a ++ kept_from hold most (held_from hold most s a) b ≡ kept_from hold most s (a ++ b)
+pub kept-append : (hold most : ℕ) (s : Held) (a b : List Op) → kept_from hold most s a ++ kept_from hold most (held_from hold most s a) b ≡ kept_from hold most s (a ++ b)
 kept-append hold most s [] b = refl
 kept-append hold most s (op ∷ a) b =
     let t : Held = intake hold most s op in

@@ -15,16 +15,16 @@ pub record IsEarliest (h w : List Op) (r : Op × List Op) : Type 0 where
 abbrev pub without : Held → Op × List Op → Held
 without s r = record { history = joined (verdict s.history r.0) r.0 s.history; waiting = r.1 }
 
--- another operation in front of the others
-abbrev in_front : Op → Option (Op × List Op) → Option (Op × List Op)
-in_front o q = elim q [ None ↦ None | Some r ↦ Some (r.0, o ∷ r.1) ]
+-- what was found behind an operation that is not decided, which stays with the others
+abbrev pub passed_over : Op → Option (Op × List Op) → Option (Op × List Op)
+passed_over o q = elim q [ None ↦ None | Some r ↦ Some (r.0, o ∷ r.1) ]
 
 -- a decided operation is the earliest
 pub earliest-yes : (h : List Op) (o : Op) (w : List Op) → decided_on h o ≡ true → earliest h (o ∷ w) ≡ Some (o, w)
 earliest-yes h o w e = rw (e, earliest)
 
 -- any other one stays in front
-pub earliest-no : (h : List Op) (o : Op) (w : List Op) → decided_on h o ≡ false → earliest h (o ∷ w) ≡ in_front o (earliest h w)
+pub earliest-no : (h : List Op) (o : Op) (w : List Op) → decided_on h o ≡ false → earliest h (o ∷ w) ≡ passed_over o (earliest h w)
 earliest-no h o w e = rw (e, earliest)
 
 -- no operation is decided, or the earliest is found
@@ -34,10 +34,10 @@ earliest_found h (o ∷ w) =
     elim (cases_Bool (decided_on h o)) [
       | inl t ↦ inr ((o, w), earliest-yes h o w t, record { ready = t; same = λ x. refl; fewer = refl })
       | inr t ↦ elim (earliest_found h w) [
-        | inl k ↦ inl (earliest-no h o w t ∙ ap (in_front o) k.0, All-cons (λ op. decided_on h op ≡ false) o w t k.1)
+        | inl k ↦ inl (earliest-no h o w t ∙ ap (passed_over o) k.0, All-cons (λ op. decided_on h op ≡ false) o w t k.1)
         | inr k ↦ inr (
           (k.0.0, o ∷ k.0.1),
-          earliest-no h o w t ∙ ap (in_front o) k.1,
+          earliest-no h o w t ∙ ap (passed_over o) k.1,
           record {
             ready = k.2.ready;
             same = λ x. ap (λ b. op_eq o x || b) (k.2.same x) ∙ swap_or (op_eq o x) (op_eq k.0.0 x) (has_op k.0.1 x);

@@ -31,9 +31,9 @@ abbrev pub next_counter : ℕ → (history waiting : List Op) → ℕ
 next_counter replica history waiting = above_all (counters replica (history ++ waiting))
 
 -- the same by the greatest counter
-abbrev pub next_of : Option ℕ → ℕ
-next_of None = 0
-next_of (Some n) = suc n
+abbrev pub next_above : Option ℕ → ℕ
+next_above None = 0
+next_above (Some n) = suc n
 
 abbrev pub id_at : ℕ → ℕ → Identifier
 id_at replica counter = record { replica = replica; counter = counter }

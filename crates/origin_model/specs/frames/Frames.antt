@@ -1,6 +1,5 @@
 -- The bytes of operations, and the reading of a stream of them. Numbers are big-endian.
-use Rattle.std.specs.Prelude.{◌≡◌, ◌≢◌, ℕ, ◌<◌, ◌^◌, Option, Some, None, List, [], ◌∷◌, ◌++◌, length, drop, flat_map}
-use Rattle.std.specs.List.{AllByRecursion}
+use Rattle.std.specs.Prelude.{◌≡◌, ◌≢◌, ℕ, ◌<◌, ◌^◌, Option, Some, None, All, List, [], ◌∷◌, ◌++◌, length, drop, flat_map}
 use Rattle.std.specs.Int.{to_be_bytes, w16, w32}
 use Rattle.std.specs.Char.{IsScalar}
 use Rattle.std.specs.Str.{encode_utf8_all}
@@ -48,7 +47,7 @@ IsOrigin (Some id) = IsIdentifier id
 
 -- scalars whose UTF-8 has 1 to 480 bytes without LF and CR
 pub record IsTitle (title : List ℕ) : Type 0 where
-  pub scalars : AllByRecursion IsScalar title
+  pub scalars : All IsScalar title
   pub text : IsTitleText (encode_utf8_all title)
 
 -- the operation is one that a frame can stand for: each operation of the program is
@@ -102,7 +101,7 @@ EndsSo rest offset (BadFrame k) = (k ≡ offset) × IsBad rest
 -- the operations of the bytes, and how the bytes end
 pub record Reads (bytes : List ℕ) (ops : List Op) (end : End) : Type 0 where
   pub found : List Framed
-  pub are_frames : AllByRecursion IsFrame found
+  pub are_frames : All IsFrame found
   pub ops_are : ops ≡ flat_map (λ framed. framed.ops) found
   pub rest : List ℕ
   pub split : bytes ≡ flat_map (λ framed. framed.bytes) found ++ rest
@@ -111,6 +110,6 @@ pub record Reads (bytes : List ℕ) (ops : List Op) (end : End) : Type 0 where
 -- frames of the operations stand at the front of the bytes, and then the rest
 pub record Starts (bytes : List ℕ) (ops : List Op) (rest : List ℕ) : Type 0 where
   pub found : List Framed
-  pub are_frames : AllByRecursion IsFrame found
+  pub are_frames : All IsFrame found
   pub ops_are : ops ≡ flat_map (λ framed. framed.ops) found
   pub split : bytes ≡ flat_map (λ framed. framed.bytes) found ++ rest

@@ -44,8 +44,8 @@ abbrev pub refused : List (List ℕ) → (code : ℕ) → Taken
 refused log code = record { log = log; next = Closes (refusal code) }
 
 -- the frames of the log from the cursor on, then 55 and the log's length
-abbrev pub answer : List (List ℕ) → (cursor : ℕ) → List ℕ
-answer log cursor = flat_map (λ frame. frame) (drop cursor log) ++ 0x55 ∷ to_be_bytes w32 (length log)
+abbrev pub reply_from : List (List ℕ) → (cursor : ℕ) → List ℕ
+reply_from log cursor = flat_map (λ frame. frame) (drop cursor log) ++ 0x55 ∷ to_be_bytes w32 (length log)
 
 -- the frame is in the log
 abbrev pub is_logged : List (List ℕ) → List ℕ → Bool
@@ -84,7 +84,7 @@ IsKind Neither bytes = ((ops : List Op) → IsFrame (record { bytes = bytes; ops
 -- and what they do
 abbrev pub told : Kind → (limit : ℕ) → List (List ℕ) → (cursor : ℕ) → List ℕ → Taken
 told Frame limit log cursor bytes = logged limit log cursor bytes
-told Closing limit log cursor bytes = record { log = log; next = Closes (answer log cursor) }
+told Closing limit log cursor bytes = record { log = log; next = Closes (reply_from log cursor) }
 told Front limit log cursor bytes = record { log = log; next = Goes (record { cursor = Some cursor; rest = bytes }) }
 told Neither limit log cursor bytes = refused log 1
 

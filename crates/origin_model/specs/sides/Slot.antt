@@ -93,21 +93,21 @@ abbrev pub IsGap : (Slot → List Identifier) → Slot → List Identifier → L
 IsGap children s [] youngers g = NoElder children s youngers g
 IsGap children s (e ∷ es) youngers g = HasElder children (e ∷ es) g
 
--- x directly behind y
-abbrev pub behind : Identifier → Identifier → List Identifier → List Identifier
-behind y x [] = x ∷ []
-behind y x (e ∷ es) = if id_eq e y then e ∷ x ∷ es else e ∷ behind y x es
+-- x inserted directly behind y, and at the end where there is no y
+abbrev pub inserted_behind : Identifier → Identifier → List Identifier → List Identifier
+inserted_behind y x [] = x ∷ []
+inserted_behind y x (e ∷ es) = if id_eq e y then e ∷ x ∷ es else e ∷ inserted_behind y x es
 
--- x directly before y
-abbrev pub in_front : Identifier → Identifier → List Identifier → List Identifier
-in_front y x [] = x ∷ []
-in_front y x (e ∷ es) = if id_eq e y then x ∷ e ∷ es else e ∷ in_front y x es
+-- x inserted directly before y
+abbrev pub inserted_before : Identifier → Identifier → List Identifier → List Identifier
+inserted_before y x [] = x ∷ []
+inserted_before y x (e ∷ es) = if id_eq e y then x ∷ e ∷ es else e ∷ inserted_before y x es
 
 -- the list with x in the gap
 abbrev pub at_gap : Gap → Identifier → List Identifier → List Identifier
 at_gap Alone x es = x ∷ es
-at_gap (Before y) x es = in_front y x es
-at_gap (After y) x es = behind y x es
+at_gap (Before y) x es = inserted_before y x es
+at_gap (After y) x es = inserted_behind y x es
 
 -- the gap's neighbour is a member
 abbrev pub IsBeside : Gap → List Identifier → Type 0

@@ -5,7 +5,7 @@ use Rattle.fugue_ids.specs.Ops.{id_of}
 use Rattle.fugue_ids.specs.declared.op.Op.{Op}
 use Rattle.origin_model.specs.operations.History.{has_op, accepted}
 use Rattle.origin_model.specs.order.Laws.{IsPartOf, SameOps, IsSameText}
-use Rattle.origin_model.specs.taking.Taking.{Held, nothing, Answer, TooMany, Full, held, held_from, kept, kept_from, answers_from, is_kept, IsSettled, settle, closure}
+use Rattle.origin_model.specs.taking.Taking.{Held, HasPlace, nothing, Answer, TooMany, Full, held, held_from, kept, kept_from, answers_from, is_kept, IsSettled, settle, closure}
 use Rattle.origin_model.specs.operations.Verdict.{names, verdict, Lawful}
 use Rattle.origin_model.specs.declared.operations.verdict.Verdict.TheVariants.{Ready}
 
@@ -121,7 +121,7 @@ StaysSettled = (hold most : ℕ) (s : Held) (ops : List Op) → IsSettled s → 
 pub record IsSaved (hold most : ℕ) (file ops : List Op) : Type 0 where
   pub same_state : held hold most (file ++ kept_from hold most (held hold most file) ops) ≡ held_from hold most (held hold most file) ops
   pub within_limits : WithinLimits (answers hold most file) → WithinLimits (answers hold most (file ++ kept_from hold most (held hold most file) ops))
-  pub has_place : All (λ a. a ≢ TooMany) (answers hold most file) → All (λ a. a ≢ TooMany) (answers hold most (file ++ kept_from hold most (held hold most file) ops))
+  pub has_place : HasPlace hold most nothing file → HasPlace hold most nothing (file ++ kept_from hold most (held hold most file) ops)
 
 -- saving the kept operations behind those of the file saves the state, and the file meets no limit that it did not meet before;
 -- where nothing was refused for want of a place, nothing is, even if something was Full

@@ -1,5 +1,5 @@
 -- Taking operations in. A history is newest first; what waits stands in order of arrival.
-use Rattle.std.specs.Prelude.{◌≡◌, All, Option, Some, None, Bool, true, false, if◌then◌else◌, ◌||◌, List, [], ◌∷◌, ◌++◌, ℕ, ◌+◌, ◌-◌, nat_eq, length}
+use Rattle.std.specs.Prelude.{◌≡◌, ◌≢◌, All, Option, Some, None, Bool, true, false, if◌then◌else◌, ◌||◌, List, [], ◌∷◌, ◌++◌, ℕ, ◌+◌, ◌-◌, nat_eq, length}
 use Rattle.fugue_ids.specs.Identifiers.{Identifier}
 use Rattle.fugue_ids.specs.Ops.{id_of}
 use Rattle.fugue_ids.specs.declared.op.Op.{Op}
@@ -113,6 +113,10 @@ held hold most ops = held_from hold most nothing ops
 abbrev pub answers_from : (hold most : ℕ) → Held → List Op → List Answer
 answers_from hold most s [] = []
 answers_from hold most s (op ∷ ops) = answer hold most s op ∷ answers_from hold most (intake hold most s op) ops
+
+-- all of the operations can be taken in: no answer is that there are too many
+abbrev pub HasPlace : (hold most : ℕ) (start : Held) → List Op → Type 0
+HasPlace hold most start ops = All (λ a. a ≢ TooMany) (answers_from hold most start ops)
 
 abbrev pub is_kept : Answer → Bool
 is_kept Accepted = true

@@ -1,5 +1,5 @@
-use Rattle.std.proofs.Common.{ap, sym, ◌∙◌, ◌≡◌, ◌-◌, ◌++◌, ◌∷◌, [], List, ℕ, length, nat_eq, slice_get, false, cond}
-use Rattle.std.specs.Prelude.{Some}
+use Rattle.std.proofs.Common.{ap, sym, ◌∙◌, ◌≡◌, ◌-◌, ◌++◌, ◌∷◌, [], List, ℕ, length, nat_eq, slice_get, false}
+use Rattle.std.specs.Prelude.{Some, if◌then◌else◌}
 use Rattle.std.specs.Option.{option_eq}
 use Rattle.std.specs.List.{insert}
 use Rattle.std.proofs.lemmas.List.Edits.{insert_end}
@@ -16,5 +16,5 @@ returns-clause-ok c =
     let here : c.copied.result ≡ slice_get ages (length ages - 1) = c.copied.ensures ∙ c.last.ensures.value ∙ ap (λ l. slice_get l (length l - 1)) read in
     let last : is_last ages c.args.age ≡ false = ap (λ o. option_eq nat_eq o (Some c.args.age)) (sym here) ∙ sym c.eq.ensures ∙ c.if-eq.false in
     let end : insert ages (length c.list_under-ages.result.now) c.args.age ≡ added ages c.args.age =
-    ap (λ l. insert ages (length l) c.args.age) read ∙ insert_end ages c.args.age ∙ sym (ap (λ b. cond b ages (ages ++ c.args.age ∷ [])) last) in
+    ap (λ l. insert ages (length l) c.args.age) read ∙ insert_end ages c.args.age ∙ sym (ap (λ b. if b then ages else ages ++ c.args.age ∷ []) last) in
     on_ok_weaker c.insert_under.result (replaced_by c.args.key _ _ _ _ end) c.insert_under.ensures.ok

@@ -1,4 +1,4 @@
-use Rattle.std.proofs.Common.{List, [], ap, arith, drop, length, length-append, refl, set, subst, sym, take, ℕ, ◌+◌, ◌++◌, ◌-◌, ◌<◌, ◌∙◌, ◌∷◌, ◌≡◌}
+use Rattle.std.proofs.Common.{[], ap, arith, length, length-append, refl, subst, sym, take, ◌++◌, ◌-◌, ◌<◌, ◌∙◌, ◌∷◌, ◌≡◌}
 use Rattle.std.proofs.lemmas.List.{length-take-le, take_more_set}
 use Rattle.op_frame.specs.FrameFronts.{Awaits, IsGrown, grown_by}
 use Rattle.op_frame.specs.declared.grown.Grown.TheVariants.{Bad, Front}
