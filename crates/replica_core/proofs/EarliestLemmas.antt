@@ -6,11 +6,7 @@ use Rattle.std.proofs.lemmas.Bool.{cases_Bool}
 use Rattle.std.proofs.lemmas.List.Elements.{All-head, All-tail}
 use Rattle.fugue_ids.specs.declared.op.Op.{Op}
 use Rattle.origin_model.specs.taking.Taking.{decided_on, earliest}
-use Rattle.origin_model.proofs.SharedLemmas.{earliest-no, earliest-yes}
-
--- what was found behind an operation that is not decided
-abbrev pub behind : Op → Option (Op × List Op) → Option (Op × List Op)
-behind o found = elim found [ None ↦ None | Some r ↦ Some (r.0, o ∷ r.1) ]
+use Rattle.origin_model.proofs.SharedLemmas.{earliest-no, earliest-yes, passed_over}
 
 first-decided : (h : List Op) (o : Op) (w : List Op) → decided_on h o ≡ true → position_or_len (decided_on h) (o ∷ w) ≡ 0
 first-decided h o w e = rw e
@@ -23,7 +19,7 @@ pub earliest_settled : (h w : List Op) → All (λ op. decided_on h op ≡ false
 earliest_settled h [] settled = refl
 earliest_settled h (o ∷ w) settled =
     earliest-no h o w (All-head (λ op. decided_on h op ≡ false) o w settled)
-    ∙ ap (behind o) (earliest_settled h w (All-tail (λ op. decided_on h op ≡ false) o w settled))
+    ∙ ap (passed_over o) (earliest_settled h w (All-tail (λ op. decided_on h op ≡ false) o w settled))
 
 some_at : (h w : List Op) (op : Op) → slice_get w (position_or_len (decided_on h) w) ≡ Some op → earliest h w ≡ Some (op, remove w (position_or_len (decided_on h) w))
 some_at h [] op is = cc
@@ -39,7 +35,7 @@ some_at h (o ∷ w) op is =
           let further : slice_get w (position_or_len (decided_on h) w) ≡ Some op =
           subst (λ (k : ℕ). slice_get (o ∷ w) k ≡ Some op) (first-behind h o w e) is in
           earliest-no h o w e
-          ∙ ap (behind o) (some_at h w op further)
+          ∙ ap (passed_over o) (some_at h w op further)
           ∙ ap (λ (k : ℕ). Some (op, remove (o ∷ w) k)) (sym (first-behind h o w e))
     ]
 

@@ -24,43 +24,43 @@ not_none : (fault : EditFault) → Some fault ≡ None → ⊥
 not_none fault e = cc
 
 -- a choice that refuses nothing
-if_none : (b : Bool) (fault : EditFault) (cause : Option EditFault) → (if b then Some fault else cause) ≡ None → (b ≡ false) × (cause ≡ None)
+pub if_none : (b : Bool) (fault : EditFault) (cause : Option EditFault) → (if b then Some fault else cause) ≡ None → (b ≡ false) × (cause ≡ None)
 if_none true fault cause e = absurd (not_none fault e)
 if_none false fault cause e = (refl, e)
 
 -- there is the section, and nothing is refused in it
-section_there : (o : Option Identifier) (cause : Identifier → Option EditFault) → in_section o cause ≡ None → (x : Identifier) × (o ≡ Some x) × (cause x ≡ None)
+pub section_there : (o : Option Identifier) (cause : Identifier → Option EditFault) → in_section o cause ≡ None → (x : Identifier) × (o ≡ Some x) × (cause x ≡ None)
 section_there None cause e = absurd (not_none NoSection e)
 section_there (Some x) cause e = (x, refl, e)
 
 -- the position is within, and nothing is refused besides
-position_within : (position count : ℕ) (cause : Option EditFault) → in_range position count cause ≡ None → (position ≤ count) × (cause ≡ None)
+pub position_within : (position count : ℕ) (cause : Option EditFault) → in_range position count cause ≡ None → (position ≤ count) × (cause ≡ None)
 position_within position count cause e =
     let f = if_none (nat_lt count position) OutOfRange cause e in (ltb-false count position f.0, f.1)
 
 -- the operations are not too many
-ops_fit : (s : State) (n : ℕ) → refused_ops s n ≡ None → held_count s + n ≤ s.most
+pub ops_fit : (s : State) (n : ℕ) → refused_ops s n ≡ None → held_count s + n ≤ s.most
 ops_fit s n e = ltb-false s.most (held_count s + n) (if_none (nat_lt s.most (held_count s + n)) (TooMany (held_count s)) None e).0
 
 -- nor are those of new elements
-elements_fit : (s : State) (n : ℕ) → refused_elements s n ≡ None → held_count s + n ≤ s.most
+pub elements_fit : (s : State) (n : ℕ) → refused_elements s n ≡ None → held_count s + n ≤ s.most
 elements_fit s n e = ops_fit s n (if_none _ _ (refused_ops s n) e).1
 
 -- a put that is not refused
-record MayPut (s : State) (k at n : ℕ) : Type 0 where
-  section : Identifier
-  there : section_shown s k ≡ Some section
-  within_shown : at ≤ shown_count s (within section)
-  room : held_count s + n ≤ s.most
+pub record MayPut (s : State) (k at n : ℕ) : Type 0 where
+  pub section : Identifier
+  pub there : section_shown s k ≡ Some section
+  pub within_shown : at ≤ shown_count s (within section)
+  pub room : held_count s + n ≤ s.most
 
-may_put : (s : State) (k at : ℕ) (new : List ℕ) → refusal s (Put k at new) ≡ None → MayPut s k at (length new)
+pub may_put : (s : State) (k at : ℕ) (new : List ℕ) → refusal s (Put k at new) ≡ None → MayPut s k at (length new)
 may_put s k at new e =
     let x = section_there (section_shown s k) (λ x. in_range at (shown_count s (within x)) (refused_elements s (length new))) e in
     let r = position_within at (shown_count s (within x.0)) (refused_elements s (length new)) x.2 in
     record { section = x.0; there = x.1; within_shown = r.0; room = elements_fit s (length new) r.1 }
 
 -- a cut that is not refused
-may_cut : (s : State) (k at n : ℕ) → refusal s (Cut k at n) ≡ None → MayPut s k (at + n) n
+pub may_cut : (s : State) (k at n : ℕ) → refusal s (Cut k at n) ≡ None → MayPut s k (at + n) n
 may_cut s k at n e =
     let x = section_there (section_shown s k) (λ x. in_range (at + n) (shown_count s (within x)) (refused_ops s n)) e in
     let r = position_within (at + n) (shown_count s (within x.0)) (refused_ops s n) x.2 in
@@ -115,7 +115,7 @@ drop_can_join s k stands settled e =
 splices : (p : Place) (old new : State) (ops : List Op) (at n : ℕ) (ids : List Identifier) → new ≡ with_ops old ops → IsEdit p old.held.history ops at n ids → IsSpliced p old new at n ids
 splices p old new ops at n ids is e = subst (λ s. IsSpliced p old s at n ids) (sym is) (record { here = e.here; elsewhere = e.elsewhere })
 
-inserts : (p : Place) (old new : State) (ops : List Op) (at : ℕ) (ids : List Identifier) → new ≡ with_ops old ops
+pub inserts : (p : Place) (old new : State) (ops : List Op) (at : ℕ) (ids : List Identifier) → new ≡ with_ops old ops
     → IsEdit p old.held.history ops at 0 ids × StandsBehind (left_for p old.held.history at) ids (order p old.held.history) (order p (extended old.held.history ops)) → IsInserted p old new at ids
 inserts p old new ops at ids is lands =
     record {
@@ -123,7 +123,7 @@ inserts p old new ops at ids is lands =
       behind = subst (λ (s : State). StandsBehind (left_for p old.held.history at) ids (order p old.held.history) (order p s.held.history)) (sym is) lands.1;
     }
 
-erases : (p : Place) (old new : State) (ops : List Op) (at n : ℕ) → new ≡ with_ops old ops
+pub erases : (p : Place) (old new : State) (ops : List Op) (at n : ℕ) → new ≡ with_ops old ops
     → IsEdit p old.held.history ops at n [] × ((q : Place) → order q (extended old.held.history ops) ≡ order q old.held.history) → IsErased p old new at n
 erases p old new ops at n is takes =
     record {

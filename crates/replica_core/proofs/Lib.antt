@@ -6,6 +6,7 @@ pub mod FeedLemmas
 pub mod GreatestLemmas
 pub mod IndexLemmas
 pub mod JoinLemmas
+pub mod KeepingLemmas
 pub mod LookUpLemmas
 pub mod ManuscriptLemmas
 pub mod MarkLemmas

@@ -3,23 +3,23 @@ use Rattle.std.proofs.Common.{◌≡◌, refl, sym, ◌∙◌, ap, ℕ, ◌+◌,
 use Rattle.std.specs.Prelude.{Bool, Option, Some, None, if◌then◌else◌, unwrap_or}
 use Rattle.std.proofs.lemmas.Bool.{lt-ltb, le-ltb}
 use Rattle.origin_model.specs.operations.Counters.{counters, IsGreatest}
-use Rattle.origin_model.specs.edits.Edits.{next_of}
+use Rattle.origin_model.specs.edits.Edits.{next_above}
 use Rattle.origin_model.proofs.edits.NextCounterLemmas.{next_by_greatest}
 use Rattle.replica_core.specs.Edits.{next_of_own, refused_elements, refused_ops}
 use Rattle.replica_core.specs.State.{State, all_ops}
 use Rattle.replica_core.specs.declared.edits.edit_fault.EditFault.TheVariants.{IdsSpent}
 
 -- the next counter is behind the greatest one
-pub next_is : (s : State) (greatest : Option ℕ) (next : ℕ) → IsGreatest (counters s.number (all_ops s.held)) greatest → next ≡ next_of greatest → next ≡ next_of_own s
+pub next_is : (s : State) (greatest : Option ℕ) (next : ℕ) → IsGreatest (counters s.number (all_ops s.held)) greatest → next ≡ next_above greatest → next ≡ next_of_own s
 next_is s greatest next is value = value ∙ sym (next_by_greatest s.number s.held.history s.held.waiting greatest is)
 
 -- the counter before the next one is the greatest
-before_next : (greatest : Option ℕ) → next_of greatest - 1 ≡ unwrap_or greatest 0
+before_next : (greatest : Option ℕ) → next_above greatest - 1 ≡ unwrap_or greatest 0
 before_next None = refl
 before_next (Some n) = omega arith
 
 -- more elements than counters are left
-pub ids_spent : (s : State) (greatest : Option ℕ) (next n carried : ℕ) → IsGreatest (counters s.number (all_ops s.held)) greatest → next ≡ next_of greatest
+pub ids_spent : (s : State) (greatest : Option ℕ) (next n carried : ℕ) → IsGreatest (counters s.number (all_ops s.held)) greatest → next ≡ next_above greatest
     → next ≤ 2 ^ 32 → 2 ^ 32 - next < n → carried ≡ unwrap_or greatest 0 → refused_elements s n ≡ Some (IdsSpent carried)
 ids_spent s greatest next n carried is value few more last =
     let own : next ≡ next_of_own s = next_is s greatest next is value in
@@ -29,7 +29,7 @@ ids_spent s greatest next n carried is value few more last =
     (λ i. if some i && past i then Some (IdsSpent (before i)) else refused_ops s n)
 
 -- as many as are left, or fewer
-pub ids_left : (s : State) (greatest : Option ℕ) (next n : ℕ) → IsGreatest (counters s.number (all_ops s.held)) greatest → next ≡ next_of greatest
+pub ids_left : (s : State) (greatest : Option ℕ) (next n : ℕ) → IsGreatest (counters s.number (all_ops s.held)) greatest → next ≡ next_above greatest
     → n ≤ 2 ^ 32 - next → next ≤ 2 ^ 32 → refused_elements s n ≡ refused_ops s n
 ids_left s greatest next n is value left few =
     let own : next ≡ next_of_own s = next_is s greatest next is value in

@@ -44,7 +44,7 @@ other_ids_at (Some i) op ops is e = λ k d below j own other.
     not_own i ops e k d below (other ∙ sym own ∙ is)
 
 -- an operation whose identifier is not held shares none with the members
-other_ids : (ops : List Op) (op : Op) → id_held ops (id_of op) ≡ false → All (HaveOtherIds op) ops
+pub other_ids : (ops : List Op) (op : Op) → id_held ops (id_of op) ≡ false → All (HaveOtherIds op) ops
 other_ids ops op e = other_ids_at (id_of op) op ops refl e
 
 -- an accepted operation

@@ -1,7 +1,7 @@
 //! What refuses an edit before it begins.
 
 ghost use Rattle.std.specs.Prelude.{◌≡◌, ◌≤◌, ◌+◌, ◌^◌, None, Some, IfErr, IfOk, OnOk};
-ghost use Rattle.origin_model.specs.edits.Edits.{next_of};
+ghost use Rattle.origin_model.specs.edits.Edits.{next_above};
 ghost use Rattle.replica_core.specs.Edits.{next_of_own, refused_elements, refused_ops};
 ghost use Rattle.replica_core.specs.State.{Stands};
 
@@ -12,7 +12,7 @@ const COUNTERS: u64 = 1 << 32;
 
 /// The counter behind the greatest one.
 fn next_behind(greatest: Option<u32>) -> u64
-    ensures value { result ≡ next_of greatest }
+    ensures value { result ≡ next_above greatest }
     ensures within { result ≤ 2 ^ 32 }
 {
     match greatest {
