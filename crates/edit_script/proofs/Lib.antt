@@ -5,3 +5,4 @@ pub mod SourceLemmas
 pub mod MakingLemmas
 pub mod RunLemmas
 pub mod OnceLemmas
+pub mod TakenInLemmas

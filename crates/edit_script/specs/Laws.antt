@@ -1,7 +1,10 @@
--- Laws of scripts: what a line asks for and what a script comes to is one thing.
-use Rattle.std.specs.Prelude.{◌≡◌, ◌≢◌, ℕ, List}
+-- Laws of scripts: what a line asks for and what a script comes to is one thing, and what a script made comes to the same where it is taken in.
+use Rattle.std.specs.Prelude.{◌≡◌, ◌≢◌, ℕ, List, ◌++◌}
+use Rattle.fugue_ids.specs.declared.op.Op.{Op}
+use Rattle.origin_model.specs.operations.History.{accepted}
+use Rattle.origin_model.specs.taking.Taking.{IsSettled, held_from, kept_from}
 use Rattle.origin_model.specs.edits.Edits.{Command}
-use Rattle.replica_core.specs.State.{State}
+use Rattle.replica_core.specs.State.{State, Stands}
 use Rattle.edit_script.specs.declared.fault.ScriptFault.{ScriptFault}
 use Rattle.edit_script.specs.declared.fault.ScriptFault.TheVariants.{NoMemory}
 use Rattle.edit_script.specs.Grammar.{Asks, IsNote}
@@ -17,3 +20,14 @@ pub record RunsOnce : Type 0 where
   pub whole : (old a b : State) (script : List ℕ) (m n : ℕ) → RunsWhole old a script m → RunsWhole old b script n → (a ≡ b) × (m ≡ n)
   pub stops : (old a b : State) (script : List ℕ) (f g : ScriptFault) → f ≢ NoMemory → g ≢ NoMemory → StopsAt old a script f → StopsAt old b script g → (a ≡ b) × (f ≡ g)
   pub apart : (old a b : State) (script : List ℕ) (n : ℕ) (f : ScriptFault) → f ≢ NoMemory → RunsWhole old a script n → StopsAt old b script f → ⊥
+
+-- operations that are taken in where a replica was come to where it is, and all of them are kept
+pub record AreTakenIn (old new : State) (made : List Op) : Type 0 where
+  pub state : held_from old.hold old.most old.held made ≡ new.held
+  pub all_kept : kept_from old.hold old.most old.held made ≡ made
+
+-- what a script made on a settled replica, taken in by a copy of what that was, comes to what the script came to
+abbrev pub ScriptsAreTakenIn : Type 0
+ScriptsAreTakenIn =
+    (old new : State) (script : List ℕ) (n : ℕ) (made : List Op) → Stands old → IsSettled old.held → RunsWhole old new script n
+    → accepted new.held.history ≡ accepted old.held.history ++ made → AreTakenIn old new made

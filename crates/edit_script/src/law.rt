@@ -1,4 +1,4 @@
-ghost use Rattle.edit_script.specs.Laws.{AsksOnce, RunsOnce};
+ghost use Rattle.edit_script.specs.Laws.{AsksOnce, RunsOnce, ScriptsAreTakenIn};
 
 /// No line asks for two edits.
 pub fn lines_ask_once()
@@ -8,4 +8,9 @@ pub fn lines_ask_once()
 /// From a state a script comes to its end, or to its first faulty line, and to one of these.
 pub fn scripts_run_once()
     ensures { RunsOnce }
+{}
+
+/// What a script made on a settled replica, taken in by a copy of what that was, comes to what the script came to, and all of it is kept.
+pub fn scripts_are_taken_in()
+    ensures { ScriptsAreTakenIn }
 {}

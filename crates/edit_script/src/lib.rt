@@ -13,9 +13,10 @@ mod script;
 mod text;
 
 pub use fault::ScriptFault;
-pub use law::{lines_ask_once, scripts_run_once};
+pub use law::{lines_ask_once, scripts_are_taken_in, scripts_run_once};
 pub use number::read_decimal;
 pub use run::run_script;
+pub use script::LONGEST_SCRIPT;
 
 #[cfg(test)]
 mod tests;

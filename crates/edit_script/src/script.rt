@@ -8,7 +8,7 @@ use outer_ports::Source;
 use std::alloc::Global;
 
 /// The most bytes of a script.
-const LONGEST_SCRIPT: usize = 1_048_576;
+pub const LONGEST_SCRIPT: usize = 1_048_576;
 
 /// Reads all that the source has left, into one buffer that is taken once. One byte past the limit may be taken to see
 /// that the script is longer.
