@@ -2,7 +2,6 @@
 use Rattle.std.proofs.Common.{◌≡◌, ◌≢◌, inl, inr, ℕ, ◌+◌, ◌<◌, ◌≤◌, List, [], ◌∷◌, ◌++◌, length, take, drop, get_or, refl, ap, sym, subst, ◌∙◌, arith, append_assoc, length-append, length-drop, drop-cons, add-one}
 use Rattle.std.proofs.lemmas.List.{length-take, take-append-drop}
 use Rattle.std.proofs.Math.Seq.{take-append-add, take-append_seam}
-use Rattle.std.proofs.lemmas.List.Elements.{recursion_from_All}
 use Rattle.std.proofs.lemmas.Bool.{cases_eq}
 use Rattle.std.proofs.lemmas.Option.{get_or_from_slice_get}
 use Rattle.std.specs.Prelude.{All, Some, None, Option, IfSome}
@@ -77,7 +76,7 @@ module _ (before : List ℕ) (content : Content) (ops : List Op) (h : HasImage b
       ap (λ (n : ℕ). record { replica = content.replica; hold = content.hold; ops = content.ops ++ ops; at = content.at + n; slots = content.slots + 1 }) long in
       subst (λ (z : List ℕ). HasImage z (Holds (with_ops content ops))) (sym bytes)
       (subst (λ (c : Content). HasImage (take content.at before ++ (open_slot (batch_of ops) ++ 0 ∷ more)) (Holds c)) same
-      (batch_appended before content ops 0 more h (recursion_from_All HasFrame ops have) short few (λ e. omega (arith, e))))
+      (batch_appended before content ops 0 more h have short few (λ e. omega (arith, e))))
 
   -- what a crash leaves holds what the file held, or that with the batch
   pub holds_either : (image : List ℕ) → content.at + 1 ≤ length before → BeforeOrWritten before content.at (behind_gate ops) image → HoldsEither content ops image

@@ -1,5 +1,6 @@
 pub mod GateLemmas
 pub mod ExitLemmas
+pub mod HonestLemmas
 pub mod AppendLemmas
 pub mod LoadingLemmas
 pub mod ReadingLemmas

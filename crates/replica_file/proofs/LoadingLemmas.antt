@@ -10,8 +10,7 @@ use Rattle.origin_model.specs.operations.Verdict.{verdict}
 use Rattle.origin_model.specs.declared.operations.verdict.Verdict.{Verdict}
 use Rattle.origin_model.specs.declared.operations.verdict.Verdict.TheVariants as verdict_is
 use Rattle.origin_model.specs.taking.Taking.{Again, Conflict, Held, Answer, TooMany as AnswersTooMany, answer, answer_by, answers_from, held, intake, is_again, is_taken, nothing, taken, settle}
-use Rattle.origin_model.proofs.SharedLemmas.{answers-append, held-append}
-use Rattle.op_frame.proofs.CourseLemmas.{places-append, places-one}
+use Rattle.origin_model.proofs.SharedLemmas.{answers-append, held-append, places-append, places-one}
 use Rattle.replica_core.specs.State.{State, Stands}
 use Rattle.replica_core.specs.Told.{Leaves}
 use Rattle.replica_core.specs.declared.feed_fault.FeedFault.{FeedFault}

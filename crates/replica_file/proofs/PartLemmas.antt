@@ -1,9 +1,9 @@
 -- The frames of a part of a file, a piece at a time.
 use Rattle.std.proofs.Common.{◌≡◌, ◌≢◌, ◌⊎◌, inl, inr, ℕ, ◌+◌, ◌-◌, ◌<◌, ◌≤◌, min, List, [], ◌∷◌, ◌++◌, length, take, drop, refl, ap, sym, subst, ◌∙◌, arith, append_assoc, length-append, length-drop}
 use Rattle.std.specs.Prelude.{Option, Some, None, IfSome, Bool, flat_map}
-use Rattle.std.specs.List.{AllByRecursion}
 use Rattle.std.proofs.Math.Seq.{take-add}
 use Rattle.std.proofs.lemmas.Grind.{flat_map-append}
+use Rattle.std.proofs.lemmas.List.Elements.{All-append, All-nil}
 use Rattle.std.proofs.lemmas.List.{length-take, drop-append-le, drop-take}
 use Rattle.fugue_ids.specs.declared.op.Op.{Op}
 use Rattle.outer_ports.specs.disk.Moments.{History}
@@ -17,10 +17,6 @@ use Rattle.replica_file.proofs.LoadingLemmas.{feeds_none, feeds_then}
 use Rattle.replica_file.proofs.PieceLemmas.{partial_short}
 use Rattle.replica_file.proofs.ReadingLemmas.{drop_twice}
 
-all_join : (xs ys : List Framed) → AllByRecursion IsFrame xs → AllByRecursion IsFrame ys → AllByRecursion IsFrame (xs ++ ys)
-all_join [] ys a b = b
-all_join (x ∷ xs) ys a b = (a.0, all_join xs ys a.1 b)
-
 abbrev bytes_of : List Framed → List ℕ
 bytes_of found = flat_map (λ framed. framed.bytes) found
 
@@ -28,13 +24,13 @@ abbrev ops_of : List Framed → List Op
 ops_of found = flat_map (λ framed. framed.ops) found
 
 starts_none : (bytes : List ℕ) → Starts bytes [] bytes
-starts_none bytes = record { found = []; are_frames = tt; ops_are = refl; split = refl }
+starts_none bytes = record { found = []; are_frames = All-nil IsFrame; ops_are = refl; split = refl }
 
 -- frames, and frames behind them
 starts_then : (bytes rest last : List ℕ) (ops more : List Op) → Starts bytes ops rest → Starts rest more last → Starts bytes (ops ++ more) last
 starts_then bytes rest last ops more one two = record {
   found = one.found ++ two.found;
-  are_frames = all_join one.found two.found one.are_frames two.are_frames;
+  are_frames = All-append IsFrame one.found two.found one.are_frames two.are_frames;
   ops_are = (λ i. one.ops_are i ++ two.ops_are i) ∙ sym (flat_map-append (λ (framed : Framed). framed.ops) one.found two.found);
   split = one.split ∙ ap (λ (r : List ℕ). bytes_of one.found ++ r) two.split ∙ sym (append_assoc (bytes_of one.found) (bytes_of two.found) last)
       ∙ ap (λ (l : List ℕ). l ++ last) (sym (flat_map-append (λ (framed : Framed). framed.bytes) one.found two.found));

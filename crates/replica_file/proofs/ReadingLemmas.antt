@@ -27,10 +27,10 @@ pub looked : {E T : Type 0} (b c : DiskView) (x : T) → Looks {E = E} b c (Ok x
 looked b c x looks = record {
   past = looks.past;
   room = looks.room;
-  later = looks.cause.later;
+  later = looks.count.cause.later;
   rose = λ failed. absurd failed;
   sure = never b.room;
-  calm = looks.calm;
+  calm = looks.count.calm;
 }
   where
     never : (o : Option RoomView) → IfSome o (λ r. ⊥ → ⊥)

@@ -3,8 +3,7 @@ use Rattle.std.specs.Prelude.{◌≡◌, ◌↔◌, ℕ, ◌<◌, List, [], ◌�
 use Rattle.fugue_ids.specs.declared.op.Op.{Op}
 use Rattle.outer_ports.specs.disk.Disks.{RoomView}
 use Rattle.origin_model.specs.files.Image.{Batch, Content, EndsBadly, HasImage, Holds, OpenSlots, batch_ops, has_header, header_of, number_at, slots_of, state}
-use Rattle.origin_model.specs.taking.Taking.{TooMany as AnswersTooMany, answers_from, nothing}
-use Rattle.op_frame.specs.Courses.{HasPlace}
+use Rattle.origin_model.specs.taking.Taking.{HasPlace, TooMany as AnswersTooMany, answers_from, nothing}
 use Rattle.replica_core.specs.State.{State}
 use Rattle.replica_file.specs.declared.end.End.{End}
 use Rattle.replica_file.specs.declared.load_fault.LoadFault.{LoadFault}

@@ -1,6 +1,7 @@
 ghost use Rattle.std.specs.Prelude.{◌≡◌, ◌≢◌, ◌⊎◌, ◌↔◌, ◌≤◌, [], IfSome, IfOk, OnOk};
 ghost use Rattle.fugue_ids.specs.Causes.{Rose};
 ghost use Rattle.outer_ports.specs.disk.Moments.{LeavesOnlyTo};
+ghost use Rattle.outer_ports.specs.disk.States.{IsHonest};
 ghost use Rattle.replica_file.specs.Append.{HasBatch, HoldsEither, IsTooLong, behind_gate, next_end};
 ghost use Rattle.origin_model.specs.files.Image.{Content};
 ghost use Rattle.replica_file.specs.Ends.{EndsAt, Means, Reaches};
@@ -36,6 +37,7 @@ pub fn append<H: Disk>(
         ≡ spent_opening (behind_gate ops.now) (H.seen disk.old).room) }
     ensures moments { IfSome (H.seen disk.old).past (λ h. (content : Content) → Means h.last content
         → LeavesOnlyTo h (H.seen disk.new).past (HoldsEither content ops.now)) }
+    ensures honest { IfSome (H.seen disk.old).past (λ h. IsHonest h.last) → IfSome (H.seen disk.new).past (λ k. IsHonest k.last) }
     ensures appended { ops.now ≢ [] → OnOk result (IfSome (H.seen disk.old).past (λ h. (content : Content)
         → Means h.last content → IfSome (H.seen disk.new).past (λ k. HasBatch content end ops.now k.last))) }
     ensures later { (H.seen disk.old).faults ≤ (H.seen disk.new).faults }

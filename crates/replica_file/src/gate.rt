@@ -1,6 +1,7 @@
 ghost use Rattle.std.specs.Prelude.{◌≡◌, ◌+◌, ◌<◌, ◌^◌, IfSome, OnOk, OnErr};
 ghost use Rattle.fugue_ids.specs.Causes.{HasCause};
 ghost use Rattle.outer_ports.specs.disk.Moments.{LeavesOnlyTo};
+ghost use Rattle.outer_ports.specs.disk.States.{IsHonest};
 ghost use Rattle.replica_file.specs.Ends.{Agrees};
 ghost use Rattle.replica_file.specs.Gates.{BeforeOrWritten, OpenedTo, LastsFor, opened, spent_opening};
 
@@ -22,6 +23,7 @@ pub(crate) fn write_behind<H: Disk>(disk: &mut H, gate: u64, bytes: &[u8]) -> Re
     ensures opened { OnOk result (IfSome (H.seen disk.old).past (λ h.
         OpenedTo h.last.seen gate bytes.now (H.seen disk.new).past)) }
     ensures past { OnOk result ((H.seen disk.new).past ≡ opened gate bytes.now (H.seen disk.old).past) }
+    ensures honest { IfSome (H.seen disk.old).past (λ h. IsHonest h.last) → IfSome (H.seen disk.new).past (λ k. IsHonest k.last) }
     ensures room { OnOk result ((H.seen disk.new).room ≡ spent_opening bytes.now (H.seen disk.old).room) }
     ensures cause { HasCause (H.seen disk.old).faults (H.seen disk.new).faults result }
     ensures sure { IfSome (H.seen disk.old).room (λ room. LastsFor bytes.now room → OnErr result ⊥) }
