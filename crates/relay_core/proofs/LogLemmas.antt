@@ -10,7 +10,7 @@ use Rattle.std.proofs.lemmas.List.{drop-map, length-map, map-append, take-append
 use Rattle.std.proofs.lemmas.List.Folds.{flat_map-map}
 use Rattle.indexmap.specs.IndexSet.{insert_key}
 use Rattle.relay_core.specs.Logs.{Grows}
-use Rattle.origin_model.specs.relay.Session.{answer, is_logged}
+use Rattle.origin_model.specs.relay.Session.{reply_from, is_logged}
 
 -- a vector is among others where its bytes are among theirs
 pub logged-keys : (frame : List ℕ) (ks : List (Vec ℕ Global)) → list_any (λ k. pointwise nat_eq frame k.items) ks ≡ is_logged (map (λ k. k.items) ks) frame
@@ -29,7 +29,7 @@ from-cursor ks cursor = sym (ap (flat_map (λ f. f)) (drop-map (λ (k : Vec ℕ 
 
 -- the parts of an answer
 pub joined : (ks : List (Vec ℕ Global)) (cursor n : ℕ) (a b c number : List ℕ) → a ≡ flat_map (λ k. k.items) (drop cursor ks) → b ≡ a ++ 0x55 ∷ [] → c ≡ b ++ number
-    → number ≡ to_be_bytes w32 n → n ≡ length ks → c ≡ answer (map (λ k. k.items) ks) cursor
+    → number ≡ to_be_bytes w32 n → n ≡ length ks → c ≡ reply_from (map (λ k. k.items) ks) cursor
 joined ks cursor n a b c number ea eb ec en el =
     let frames : List ℕ = flat_map (λ f. f) (drop cursor (map (λ (k : Vec ℕ Global). k.items) ks)) in
     let count : number ≡ to_be_bytes w32 (length (map (λ (k : Vec ℕ Global). k.items) ks)) = en ∙ ap (to_be_bytes w32) (el ∙ sym (length-map ks (λ (k : Vec ℕ Global). k.items))) in

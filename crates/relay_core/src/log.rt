@@ -1,5 +1,5 @@
 ghost use Rattle.std.specs.Prelude.{◌≡◌, ◌<◌, ◌^◌, ◌++◌, ◌∷◌, [], drop, flat_map, length, false, IfOk, OnErr, OnOk};
-ghost use Rattle.origin_model.specs.relay.Session.{answer as answer_to, is_logged};
+ghost use Rattle.origin_model.specs.relay.Session.{is_logged, reply_from};
 ghost use Rattle.relay_core.specs.Logs.{frames_in};
 
 use fugue_ids::{ByteList, NoMemory};
@@ -52,7 +52,7 @@ pub(crate) fn answer<B: BuildHasher>(
     cursor: u32,
 ) -> Result<ByteList, NoMemory>
     requires { length (frames_in log.now) < 2 ^ 32 }
-    ensures { IfOk result (λ bytes. bytes ≡ answer_to (frames_in log.now) cursor) }
+    ensures { IfOk result (λ bytes. bytes ≡ reply_from (frames_in log.now) cursor) }
 {
     let mut bytes = Vec::new(alloc);
     append_all(&mut bytes, from_cursor(log, cursor))?;

@@ -1,10 +1,9 @@
 -- Messages of a reply, as they are heard byte by byte.
-use Rattle.std.proofs.Common.{[], List, ap, append_assoc, arith, drop, get_or, length, length-append, refl, subst, sym, take, ℕ, zero, suc, ◌+◌, ◌++◌, ◌<◌, ◌≤◌, ◌∙◌, ◌∷◌, ◌≡◌, ◌≢◌}
-use Rattle.std.specs.Prelude.{is_some, IfErr, IfSome, None, Ok, Err, Option, Result, Some}
+use Rattle.std.proofs.Common.{[], List, ap, append_assoc, arith, drop, get_or, length, length-append, refl, subst, sym, take, ℕ, ◌+◌, ◌++◌, ◌<◌, ◌≤◌, ◌∙◌, ◌∷◌, ◌≡◌, ◌≢◌}
+use Rattle.std.specs.Prelude.{is_some, IfErr, None, Ok, Err, Option, Result, Some}
 use Rattle.std.specs.Int.{from_be_bytes, w32}
 use Rattle.std.specs.Io.KnownBytes.{prepend_known}
 use Rattle.std.proofs.lemmas.List.{append-nil, take-append-drop, take_all}
-use Rattle.fugue_ids.specs.declared.limits.TheConstants.{STREAM_LIMIT}
 use Rattle.fugue_ids.specs.declared.op.Op.{Op}
 use Rattle.fugue_ids.specs.declared.op.Op.TheVariants.{Delete, Section, Text}
 use Rattle.origin_model.specs.frames.Frames.{IsFrame, IsPartial, frame}
@@ -13,7 +12,6 @@ use Rattle.op_frame.specs.Firsts.{Carries, FirstIs}
 use Rattle.op_frame.specs.FrameFronts.{IsFrameOf, IsGrown}
 use Rattle.op_frame.specs.declared.first.First.{First}
 use Rattle.op_frame.specs.declared.grown.Grown.TheVariants.{Bad}
-use Rattle.outer_ports.specs.Sources.{ReadsSome}
 use Rattle.outer_ports.specs.wire.Wires.{WireReads, WireView}
 use Rattle.relay_sync.specs.Replies.{Hears, IsBroken, IsCode, IsMessage, IsMessageFront, Stops, StopsIn, Whole, ending}
 use Rattle.relay_sync.specs.declared.message.Message.{Message}

@@ -4,3 +4,5 @@ pub mod OverLemmas
 pub mod HearingLemmas
 pub mod SayingLemmas
 pub mod SyncingLemmas
+pub mod OutcomeLemmas
+pub mod HeardLemmas

@@ -1,6 +1,6 @@
 -- A text that goes out on a wire, piece by piece, behind the dialling.
 use Rattle.std.proofs.Common.{[], List, arith, drop, length, refl, take, ℕ, ◌+◌, ◌-◌, ◌<◌, ◌∙◌, ◌≡◌}
-use Rattle.std.specs.Prelude.{Err, IfSome, None, Ok, OnOk, OnErr, Option, Result, Some, option_map}
+use Rattle.std.specs.Prelude.{Err, IfSome, None, Ok, OnOk, Option, Result, Some, option_map}
 use Rattle.fugue_ids.specs.Outs.{IsSure, WritesText}
 use Rattle.fugue_ids.proofs.JoinLemmas.{call_grows, call_stops, text_joins, text_none, took_none}
 use Rattle.outer_ports.specs.wire.Wires.{Dials, WireView, WireWrites, out_of}
@@ -34,8 +34,8 @@ dialled_none : {E T : Type 0} (x : T) (u v : WireView) (port : ℕ) → Dials {E
 dialled_none {E} {T} x u v port d = record {
   ok = took_none (out_of u) (out_of v) d.said d.room;
   err = tt;
-  cause = record { later = d.cause.later; failed = tt };
-  sure = sure_dialled E T x u.room u.faults v.faults d.calm;
+  cause = record { later = d.count.cause.later; failed = tt };
+  sure = sure_dialled E T x u.room u.faults v.faults d.count.calm;
 }
 
 dialled_stays : {E T : Type 0} (result : Result T E) (u v w : WireView) (port : ℕ) → v.port ≡ option_map (λ before. Some port) u.port → w.port ≡ v.port
@@ -58,8 +58,8 @@ says_refused {E} {T} {S} e u v port text d = record {
   writes = record {
     ok = tt;
     err = record { count = 0; within = omega arith; took = took_none (out_of u) (out_of v) d.said d.room };
-    cause = record { later = d.cause.later; failed = d.cause.failed };
-    sure = sure_refused E S e u.room (length text) u.faults v.faults d.succeeds;
+    cause = record { later = d.count.cause.later; failed = d.count.cause.failed };
+    sure = sure_refused E S e u.room (length text) u.faults v.faults d.count.excused;
   };
   dialled = tt;
   left = d.left;

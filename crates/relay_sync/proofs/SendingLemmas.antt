@@ -1,26 +1,28 @@
 -- Sending a reply, whole and up to a fault.
-use Rattle.std.proofs.Common.{[], List, ap, arith, drop, false, length, nat_eq, refl, subst, sym, take, true, ℕ, Bool, ◌+◌, ◌++◌, ◌-◌, ◌<◌, ◌∙◌, ◌∷◌, ◌≡◌, ◌≢◌}
-use Rattle.std.specs.Prelude.{Err, None, Ok, Option, Some, if◌then◌else◌, option_map}
+use Rattle.std.proofs.Common.{[], List, ap, arith, drop, false, length, nat_eq, refl, subst, sym, take, true, ℕ, Bool, ◌+◌, ◌++◌, ◌-◌, ◌<◌, ◌∙◌, ◌∷◌, ◌≤◌, ◌≡◌, ◌≢◌}
+use Rattle.std.specs.Prelude.{Err, IfSome, None, Ok, Option, Some, if◌then◌else◌, option_map}
 use Rattle.std.proofs.lemmas.Bool.{eqb-true, eq-eqb, true≢false}
 use Rattle.std.proofs.lemmas.List.{append-nil, take_all}
-use Rattle.fugue_ids.specs.Outs.{OutView, Took, TookFront}
+use Rattle.fugue_ids.specs.Outs.{IsSure, OutView, Took, TookFront}
 use Rattle.fugue_ids.proofs.JoinLemmas.{call_grows, call_stops, text_none, took_none}
 use Rattle.origin_model.specs.declared.relay.reply.Reply.{Reply}
 use Rattle.outer_ports.specs.declared.dock.dock_step.DockStep.{DockStep}
+use Rattle.outer_ports.specs.declared.dock.mem_step.MemStep.{MemStep}
 use Rattle.outer_ports.specs.dock.Docks.{DockView, Ends, Sends, Takes, out_to}
 use Rattle.outer_ports.specs.dock.Steps.{with_bytes}
-use Rattle.relay_sync.specs.Sending.{GivesSteps, Replied, RepliedPartly, SendsText}
-use Rattle.relay_sync.specs.Serving.{bytes_to, closed_by}
+use Rattle.relay_sync.specs.Sending.{GivesSteps, LastsFor, Replied, RepliedPartly, SendsText}
+use Rattle.relay_sync.specs.Serving.{bytes_to, closed_by, ends_behind, Spends}
+use Rattle.relay_sync.specs.declared.serve_fault.ServeFault.TheVariants.{DockFault, NoMemory}
 
 -- a step that was taken
 pub takes_gives : {E : Type 0} (old new : DockView) (step : DockStep) (buf : List ℕ) → Takes {E = E} old new (Ok step) buf → GivesSteps old new (with_bytes step buf ∷ [])
 takes_gives old new step buf h =
-    record { gave = record { taken = h.taken; comes = (new.coming, h.came, refl) }; nothing_sent = h.nothing_sent; ended = h.ended; port = h.port; later = h.cause.later }
+    record { gave = record { taken = h.taken; comes = (new.coming, h.came, refl) }; nothing_sent = h.nothing_sent; ended = h.ended; ends = h.ends; port = h.port; later = h.count.cause.later }
 
 -- nothing was sent yet
 pub sends_none : {E T : Type 0} (x : T) (dock : DockView) (session : ℕ) → SendsText {E = E} {T = T} dock dock (Ok x) session []
 sends_none {E} {T} x dock session =
-    record { writes = text_none {E = E} {T = T} x (out_to session dock); others = λ other apart. (refl, refl); nothing_taken = record { taken = refl; coming = refl }; port = refl; ended = refl }
+    record { writes = text_none {E = E} {T = T} x (out_to session dock); others = λ other apart. (refl, refl); nothing_taken = record { taken = refl; coming = refl }; port = refl; ended = refl; ends = refl }
 
 -- one call more
 pub sends_grow : {E T : Type 0} (x : T) (u v w : DockView) (session : ℕ) (piece : List ℕ) (at n : ℕ) → SendsText {E = E} {T = T} u v (Ok x) session (take at piece)
@@ -31,6 +33,7 @@ sends_grow {E} {T} x u v w session piece at n s t = record {
   nothing_taken = record { taken = t.nothing_taken.taken ∙ s.nothing_taken.taken; coming = t.nothing_taken.coming ∙ s.nothing_taken.coming };
   port = t.port ∙ s.port;
   ended = t.ended ∙ s.ended;
+  ends = t.ends ∙ s.ends;
 }
 
 pub sends_stop : {E T S : Type 0} (x : T) (e : E) (u v w : DockView) (session : ℕ) (piece : List ℕ) (at : ℕ) → at < length piece → SendsText {E = E} {T = T} u v (Ok x) session (take at piece)
@@ -41,7 +44,32 @@ sends_stop {E} {T} {S} x e u v w session piece at below s t = record {
   nothing_taken = record { taken = t.nothing_taken.taken ∙ s.nothing_taken.taken; coming = t.nothing_taken.coming ∙ s.nothing_taken.coming };
   port = t.port ∙ s.port;
   ended = t.ended ∙ s.ended;
+  ends = t.ends ∙ s.ends;
 }
+
+-- what is so of a number that is told
+pub sure_is : (P : ℕ → Type 0) (told : Option ℕ) (n : ℕ) → told ≡ Some n → IfSome told P → P n
+sure_is P told n is holds = subst (λ (o : Option ℕ). IfSome o P) is holds
+
+pub ends_none : (ends : Option ℕ) → ends ≡ ends_behind [] ends
+ends_none None = refl
+ends_none (Some n) = ap Some (omega arith)
+
+-- a text that fits goes out, and the count of faults stays
+text_room : (u : DockView) (reply : Reply) → LastsFor u (Some reply) → (room : ℕ) × (u.room reply.session ≡ Some room) × (length reply.bytes ≤ room)
+text_room u reply h =
+    let r = h.room reply.session in
+    (r.0, r.1, subst (λ (b : Bool). length (if b then reply.bytes else []) ≤ r.0) (eq-eqb reply.session reply.session refl) r.2)
+
+text_calm : {E T : Type 0} (x : T) (u v : DockView) (reply : Reply) → SendsText {E = E} {T = T} u v (Ok x) reply.session reply.bytes → LastsFor u (Some reply) → v.faults ≡ u.faults
+text_calm {E} {T} x u v reply s h =
+    let r = text_room u reply h in
+    (sure_is (λ (room : ℕ). IsSure {E = E} {T = T} room (length reply.bytes) u.faults v.faults (Ok x)) (u.room reply.session) r.0 r.1 s.writes.sure).calm
+
+text_fits : {E T : Type 0} (e : E) (u v : DockView) (reply : Reply) → SendsText {E = E} {T = T} u v (Err e) reply.session reply.bytes → LastsFor u (Some reply) → ⊥
+text_fits {E} {T} e u v reply s h =
+    let r = text_room u reply h in
+    (sure_is (λ (room : ℕ). IsSure {E = E} {T = T} room (length reply.bytes) u.faults v.faults (Err e)) (u.room reply.session) r.0 r.1 s.writes.sure).fits r.2
 
 -- what one session got is what each got
 module _ (P : OutView → OutView → List ℕ → Type 0) (u v : DockView) (reply : Reply) where
@@ -68,9 +96,11 @@ pub replied_on : {E T : Type 0} (x : T) (u v : DockView) (reply : Reply) → rep
 replied_on {E} {T} x u v reply on s = record {
   sent = each Took u v reply s.writes.ok (λ other apart. took_none (out_to other u) (out_to other v) (s.others other apart).0 (s.others other apart).1);
   ended = rw on (s.ended ∙ grows_none u.ended);
+  ends = rw on (s.ends ∙ ends_none u.ends);
   nothing_taken = s.nothing_taken;
   port = s.port;
   later = s.writes.cause.later;
+  calm = λ h. text_calm {E = E} {T = T} x u v reply s h;
 }
 
 -- or is ended
@@ -81,13 +111,15 @@ replied_ended {E} {T} {F} {S} x y u v w reply closes s t = record {
       (record { written = t.nothing_sent.sent reply.session ∙ s.writes.ok.written; room = t.nothing_sent.room reply.session ∙ s.writes.ok.room })
       (λ other apart. took_none (out_to other u) (out_to other w) (t.nothing_sent.sent other ∙ (s.others other apart).0) (t.nothing_sent.room other ∙ (s.others other apart).1));
   ended = rw closes (t.ended ∙ ap (option_map (λ ended. ended ++ reply.session ∷ [])) s.ended);
+  ends = rw closes (t.ends ∙ ap (option_map (λ ends. ends - 1)) s.ends);
   nothing_taken = record { taken = t.nothing_taken.taken ∙ s.nothing_taken.taken; coming = t.nothing_taken.coming ∙ s.nothing_taken.coming };
   port = t.port ∙ s.port;
-  later = omega (arith, s.writes.cause.later, t.cause.later);
+  later = omega (arith, s.writes.cause.later, t.count.cause.later);
+  calm = λ h. sure_is (λ n. w.faults ≡ v.faults) v.ends h.ends.0 (s.ends ∙ h.ends.1) t.count.calm ∙ text_calm {E = E} {T = T} x u v reply s h;
 }
 
 -- a fault while it went out
-pub replied_front : {E T : Type 0} (e : E) (u v : DockView) (reply : Reply) → SendsText {E = E} {T = T} u v (Err e) reply.session reply.bytes → RepliedPartly u v (Some reply)
+pub replied_front : {E T : Type 0} (e : E) (u v : DockView) (reply : Reply) → SendsText {E = E} {T = T} u v (Err e) reply.session reply.bytes → RepliedPartly DockFault u v (Some reply)
 replied_front {E} {T} e u v reply s = record {
   sent = each TookFront u v reply s.writes.err
       (λ other apart. front_none (out_to other u) (out_to other v) (took_none (out_to other u) (out_to other v) (s.others other apart).0 (s.others other apart).1));
@@ -95,12 +127,13 @@ replied_front {E} {T} e u v reply s = record {
   nothing_taken = s.nothing_taken;
   port = s.port;
   later = s.writes.cause.later;
+  calm = λ h. absurd (text_fits {E = E} {T = T} e u v reply s h);
 }
 
 -- or as its session was to be ended
 pub replied_open : {E T F S : Type 0} (x : T) (f : F) (u v w : DockView) (reply : Reply) → SendsText {E = E} {T = T} u v (Ok x) reply.session reply.bytes
-    → Ends {E = F} {T = S} v w (Err f) reply.session → RepliedPartly u w (Some reply)
-replied_open {E} {T} {F} {S} x f u v w reply s t = record {
+    → Ends {E = F} {T = S} v w (Err f) reply.session → reply.closes ≡ true → RepliedPartly DockFault u w (Some reply)
+replied_open {E} {T} {F} {S} x f u v w reply s t closes = record {
   sent = each TookFront u w reply
       (front_whole (out_to reply.session u) (out_to reply.session w) reply.bytes
       (record { written = t.nothing_sent.sent reply.session ∙ s.writes.ok.written; room = t.nothing_sent.room reply.session ∙ s.writes.ok.room }))
@@ -110,7 +143,11 @@ replied_open {E} {T} {F} {S} x f u v w reply s t = record {
   ended = record { count = 0; ended = t.kept ∙ s.ended ∙ grows_none u.ended };
   nothing_taken = record { taken = t.nothing_taken.taken ∙ s.nothing_taken.taken; coming = t.nothing_taken.coming ∙ s.nothing_taken.coming };
   port = t.port ∙ s.port;
-  later = omega (arith, s.writes.cause.later, t.cause.later);
+  later = omega (arith, s.writes.cause.later, t.count.cause.later);
+  calm = λ h.
+      let none : h.ends.0 ≡ 0 = sure_is (λ (n : ℕ). n ≡ 0) v.ends h.ends.0 (s.ends ∙ h.ends.1) t.count.excused in
+      let one : 1 ≤ h.ends.0 = subst (λ (b : Bool). length (if b then reply.session ∷ [] else []) ≤ h.ends.0) closes h.ends.2 in
+      absurd (omega (arith, none, one));
 }
 
 -- nothing was to be sent
@@ -118,17 +155,28 @@ pub replied_none : (dock : DockView) → Replied dock dock None
 replied_none dock = record {
   sent = λ session. took_none (out_to session dock) (out_to session dock) refl refl;
   ended = grows_none dock.ended;
+  ends = ends_none dock.ends;
   nothing_taken = record { taken = refl; coming = refl };
   port = refl;
   later = omega arith;
+  calm = λ h. refl;
 }
 
 -- a reply that was sent whole, seen as up to a fault
-pub replied_partly : (u v : DockView) (reply : Option Reply) → Replied u v reply → RepliedPartly u v reply
+pub replied_partly : (u v : DockView) (reply : Option Reply) → Replied u v reply → RepliedPartly NoMemory u v reply
 replied_partly u v reply r = record {
   sent = λ session. front_whole (out_to session u) (out_to session v) (bytes_to session reply) (r.sent session);
   ended = record { count = length (closed_by reply); ended = rw (take_all (length (closed_by reply)) (closed_by reply) (omega arith)) r.ended };
   nothing_taken = r.nothing_taken;
   port = r.port;
   later = r.later;
+  calm = r.calm;
 }
+
+-- a step that was taken, or not, from a sure dock
+pub takes_calm : {E : Type 0} (old new : DockView) (step : DockStep) (buf : List ℕ) → Takes {E = E} old new (Ok step) buf → IfSome old.ends (λ ends. new.faults ≡ old.faults)
+takes_calm old new step buf h = h.count.calm
+
+pub takes_spent : {E : Type 0} (e : E) (old new : DockView) (buf : List ℕ) → Takes {E = E} old new (Err e) buf → IfSome old.ends (λ ends. Spends DockFault old new)
+takes_spent e old new buf h =
+    subst (λ (coming : Option (List MemStep)). IfSome old.ends (λ ends. IfSome coming (λ steps. steps ≡ []))) (sym h.kept.coming) h.count.excused

@@ -1,19 +1,22 @@
 -- Turns of serving one behind the other, whole and up to a fault.
-use Rattle.std.proofs.Common.{[], List, ap, append_assoc, arith, length, inl, inr, length-append, refl, subst, sym, take, ℕ, ◌+◌, ◌++◌, ◌<◌, ◌≤◌, ◌∙◌, ◌∷◌, ◌≡◌, ◌⊎◌}
-use Rattle.std.specs.Prelude.{None, Option, Some, map, option_map}
+use Rattle.std.proofs.Common.{[], List, ap, append_assoc, arith, length, inl, inr, length-append, refl, subst, sym, take, ℕ, ◌+◌, ◌++◌, ◌<◌, ◌≤◌, ◌∙◌, ◌∷◌, ◌-◌, ◌≡◌, ◌≢◌, ◌⊎◌}
+use Rattle.std.specs.Prelude.{IfSome, None, Option, Some, map, option_map}
 use Rattle.std.proofs.str.Laws.{order}
 use Rattle.std.proofs.Math.Seq.{take-append-add, take-append_seam}
 use Rattle.std.proofs.lemmas.List.{append-nil, map-append, take-append-le, take_all}
 use Rattle.std.proofs.lemmas.List.Concat.{flat_map-append}
-use Rattle.fugue_ids.specs.Outs.{OutView, Took, TookFront}
+use Rattle.fugue_ids.specs.Outs.{OutView, spent, Took, TookFront}
 use Rattle.fugue_ids.proofs.JoinLemmas.{took_joins, took_none}
 use Rattle.origin_model.specs.declared.relay.reply.Reply.{Reply}
 use Rattle.origin_model.specs.relay.Relay.{Relay, Runs, Steps}
 use Rattle.origin_model.proofs.SharedLemmas.{runs-append, step_runs}
 use Rattle.outer_ports.specs.dock.Docks.{DockView, SendsNothing, TakesNothing, out_to}
 use Rattle.outer_ports.specs.declared.dock.mem_step.MemStep.{MemStep}
-use Rattle.relay_sync.specs.Sending.{GivesSteps, Replied, RepliedPartly}
-use Rattle.relay_sync.specs.Serving.{Comes, GaveSteps, NoneAfter, Serves, ServesPartly, Turn, bytes_to, closed_by, closed_in, count_over, event_of, over_after, replies_of, sent_to, steps_of}
+use Rattle.relay_sync.specs.Sending.{GivesSteps, LastsFor, Replied, RepliedPartly}
+use Rattle.relay_sync.specs.Serving.{Comes, GaveSteps, HasRoomFor, Lasts, NoneAfter, Serves, ServesPartly, Spends, ends_behind, Turn, bytes_to, closed_by, closed_in, count_over, event_of, over_after, replies_of, sent_to, steps_of}
+use Rattle.relay_sync.specs.declared.serve_fault.ServeFault.{ServeFault}
+use Rattle.relay_sync.specs.declared.serve_fault.ServeFault.TheVariants.{DockFault, NoMemory, TooLong}
+use Rattle.relay_sync.proofs.SendingLemmas.{ends_none, sure_is}
 
 -- a known list that grows twice
 grows_twice : {T : Type 0} (known : Option (List T)) (a b : List T) → option_map (λ xs. xs ++ b) (option_map (λ xs. xs ++ a) known) ≡ option_map (λ xs. xs ++ (a ++ b)) known
@@ -63,6 +66,57 @@ sent-append session xs ys = flat_map-append (λ (t : Turn). bytes_to session t.r
 closed-append : (xs ys : List Turn) → closed_in (xs ++ ys) ≡ closed_in xs ++ closed_in ys
 closed-append xs ys = flat_map-append (λ (t : Turn). closed_by t.reply) xs ys
 
+ends_twice : (ends : Option ℕ) (a b : List ℕ) → ends_behind b (ends_behind a ends) ≡ ends_behind (a ++ b) ends
+ends_twice None a b = refl
+ends_twice (Some n) a b = ap Some (omega (arith, length-append a b))
+
+-- room for two parts: for the first, and then for the second
+module _ (x : DockView) (all a b : ℕ → List ℕ) (closed c d : List ℕ) (parts : (session : ℕ) → all session ≡ a session ++ b session) (ends_are : closed ≡ c ++ d) (h : HasRoomFor x all closed) where
+  room_first : HasRoomFor x a c
+  room_first = record {
+    room = λ session.
+        let r = h.room session in
+        (r.0, r.1, omega (arith, r.2, ap length (parts session), length-append (a session) (b session)));
+    ends = (h.ends.0, h.ends.1, omega (arith, h.ends.2, ap length ends_are, length-append c d));
+  }
+
+  room_then : (y : DockView) → ((session : ℕ) → y.room session ≡ spent (length (a session)) (x.room session)) → y.ends ≡ ends_behind c x.ends → HasRoomFor y b d
+  room_then y rooms ends = record {
+    room = λ session.
+        let r = h.room session in (
+          r.0 - length (a session),
+          rooms session ∙ ap (spent (length (a session))) r.1,
+          omega (arith, r.2, ap length (parts session), length-append (a session) (b session)),
+        );
+    ends = (h.ends.0 - length c, ends ∙ ap (ends_behind c) h.ends.1, omega (arith, h.ends.2, ap length ends_are, length-append c d));
+  }
+
+lasts_first : (x : DockView) (us vs : List Turn) → Lasts x (us ++ vs) → Lasts x us
+lasts_first x us vs lasts =
+    room_first x (λ session. sent_to session (us ++ vs)) (λ session. sent_to session us) (λ session. sent_to session vs) (closed_in (us ++ vs)) (closed_in us) (closed_in vs)
+    (λ session. sent-append session us vs) (closed-append us vs) lasts
+
+lasts_then : (a b : Relay) (x y : DockView) (us vs : List Turn) → Serves a b x y us → Lasts x (us ++ vs) → Lasts y vs
+lasts_then a b x y us vs h lasts =
+    room_then x (λ session. sent_to session (us ++ vs)) (λ session. sent_to session us) (λ session. sent_to session vs) (closed_in (us ++ vs)) (closed_in us) (closed_in vs)
+    (λ session. sent-append session us vs) (closed-append us vs) lasts y (λ session. (h.sent session).room) h.ends
+
+lasts_reply : (x y : DockView) (step : MemStep) (reply : Option Reply) → GivesSteps x y (step ∷ []) → Lasts x (record { step = step; reply = reply } ∷ []) → LastsFor y reply
+lasts_reply x y step reply g lasts =
+    room_then x (λ session. bytes_to session reply ++ []) (λ session. []) (λ session. bytes_to session reply) (closed_by reply ++ []) [] (closed_by reply)
+    (λ session. append-nil (bytes_to session reply)) (append-nil (closed_by reply)) lasts y (λ session. (sent_after x y g.nothing_sent session).room) (g.ends ∙ ends_none x.ends)
+
+-- calls before which no fault was counted
+spends_behind : (fault : ServeFault) (x y z : DockView) → y.faults ≡ x.faults → Spends fault y z → Spends fault x z
+spends_behind DockFault x y z same s = s
+spends_behind TooLong x y z same s = s ∙ same
+spends_behind NoMemory x y z same s = s ∙ same
+
+spends_none : (fault : ServeFault) (x y : DockView) → fault ≢ DockFault → y.faults ≡ x.faults → Spends fault x y
+spends_none DockFault x y other same = absurd (other refl)
+spends_none TooLong x y other same = same
+spends_none NoMemory x y other same = same
+
 -- nothing was served yet
 pub serves_none : (relay : Relay) (dock : DockView) → Serves relay relay dock dock []
 serves_none relay dock = record {
@@ -70,8 +124,10 @@ serves_none relay dock = record {
   gave = gave_none dock dock (record { taken = refl; coming = refl });
   sent = λ session. took_none (out_to session dock) (out_to session dock) refl refl;
   ended = grows_none dock.ended;
+  ends = ends_none dock.ends;
   port = refl;
   later = omega arith;
+  calm = λ h. refl;
 }
 
 -- turns behind turns
@@ -81,13 +137,15 @@ serves-append a b c x y z us vs h i = record {
   gave = rw (turns-append us vs) (gave-append x y z (steps_of us) (steps_of vs) h.gave i.gave);
   sent = λ session. rw (sent-append session us vs) (took_joins (out_to session x) (out_to session y) (out_to session z) (sent_to session us) (sent_to session vs) (h.sent session) (i.sent session));
   ended = rw (closed-append us vs) (i.ended ∙ ap (option_map (λ ended. ended ++ closed_in vs)) h.ended ∙ grows_twice x.ended (closed_in us) (closed_in vs));
+  ends = rw (closed-append us vs) (i.ends ∙ ap (ends_behind (closed_in vs)) h.ends ∙ ends_twice x.ends (closed_in us) (closed_in vs));
   port = i.port ∙ h.port;
   later = omega (arith, h.later, i.later);
+  calm = λ lasts. i.calm (lasts_then a b x y us vs h lasts) ∙ h.calm (lasts_first x us vs lasts);
 }
 
 -- turns, and then a fault
-pub partly-append : (a b c : Relay) (x y z : DockView) (us : List Turn) → Serves a b x y us → ServesPartly b c y z → ServesPartly a c x z
-partly-append a b c x y z us h i = record {
+pub partly-append : (fault : ServeFault) (a b c : Relay) (x y z : DockView) (us : List Turn) → Serves a b x y us → ServesPartly fault b c y z → ServesPartly fault a c x z
+partly-append fault a b c x y z us h i = record {
   turns = us ++ i.turns;
   more = i.more;
   runs = runs-turns a b c us i.turns h.runs i.runs;
@@ -102,14 +160,15 @@ partly-append a b c x y z us h i = record {
   };
   port = i.port ∙ h.port;
   later = omega (arith, h.later, i.later);
+  calm = λ lasts. spends_behind fault x y z (h.calm (lasts_first x us i.turns lasts)) (i.calm (lasts_then a b x y us i.turns h lasts));
 }
 
 front_all : (v w : OutView) (bytes : List ℕ) → Took v w bytes → TookFront v w bytes
 front_all v w bytes t = record { count = length bytes; within = omega arith; took = subst (Took v w) (sym (take_all (length bytes) bytes (omega arith))) t }
 
 -- whole turns, seen as up to a fault
-pub whole_partly : (a b : Relay) (x y : DockView) (turns : List Turn) → Serves a b x y turns → ServesPartly a b x y
-whole_partly a b x y turns h = record {
+pub whole_partly : (fault : ServeFault) (a b : Relay) (x y : DockView) (turns : List Turn) → fault ≢ DockFault → Serves a b x y turns → ServesPartly fault a b x y
+whole_partly fault a b x y turns other h = record {
   turns = turns;
   more = [];
   runs = h.runs;
@@ -118,11 +177,12 @@ whole_partly a b x y turns h = record {
   ended = record { count = length (closed_in turns); ended = rw (take_all (length (closed_in turns)) (closed_in turns) (omega arith)) h.ended };
   port = h.port;
   later = h.later;
+  calm = λ lasts. spends_none fault x y other (h.calm lasts);
 }
 
 -- steps of which the relay heard none
-pub unheard_partly : (a b : Relay) (x y : DockView) (steps : List MemStep) → b ≡ a → GivesSteps x y steps → ServesPartly a b x y
-unheard_partly a b x y steps same h = record {
+pub unheard_partly : (fault : ServeFault) (a b : Relay) (x y : DockView) (steps : List MemStep) → b ≡ a → GivesSteps x y steps → IfSome x.ends (λ ends. Spends fault x y) → ServesPartly fault a b x y
+unheard_partly fault a b x y steps same h spent = record {
   turns = [];
   more = steps;
   runs = (same, refl);
@@ -131,26 +191,29 @@ unheard_partly a b x y steps same h = record {
   ended = record { count = 0; ended = h.ended ∙ grows_none x.ended };
   port = h.port;
   later = h.later;
+  calm = λ lasts. sure_is (λ ends. Spends fault x y) x.ends lasts.ends.0 lasts.ends.1 spent;
 }
 
 -- a step whose reply was sent
-pub turn_serves : (a b : Relay) (x y z : DockView) (step : MemStep) (reply : Option Reply) → GivesSteps x y (step ∷ []) → Steps a (event_of step) b reply → Replied y z reply
+pub turn_serves : (a b : Relay) (x y z : DockView) (step : MemStep) (reply : Option Reply) → GivesSteps x y (step ∷ []) → IfSome x.ends (λ ends. y.faults ≡ x.faults) → Steps a (event_of step) b reply → Replied y z reply
     → Serves a b x z (record { step = step; reply = reply } ∷ [])
-turn_serves a b x y z step reply g s r = record {
+turn_serves a b x y z step reply g sure s r = record {
   runs = step_runs (event_of step) a b reply s;
   gave = subst (GaveSteps x z) (append-nil (step ∷ [])) (gave-append x y z (step ∷ []) [] g.gave (gave_none y z r.nothing_taken));
   sent = λ session.
       rw (append-nil (bytes_to session reply))
       (took_joins (out_to session x) (out_to session y) (out_to session z) [] (bytes_to session reply) (sent_after x y g.nothing_sent session) (r.sent session));
   ended = rw (append-nil (closed_by reply)) (r.ended ∙ ap (option_map (λ ended. ended ++ closed_by reply)) g.ended);
+  ends = rw (append-nil (closed_by reply)) (r.ends ∙ ap (ends_behind (closed_by reply)) g.ends);
   port = r.port ∙ g.port;
   later = omega (arith, g.later, r.later);
+  calm = λ lasts. r.calm (lasts_reply x y step reply g lasts) ∙ sure_is (λ ends. y.faults ≡ x.faults) x.ends lasts.ends.0 lasts.ends.1 sure;
 }
 
 -- or up to a fault
-pub turn_partly : (a b : Relay) (x y z : DockView) (step : MemStep) (reply : Option Reply) → GivesSteps x y (step ∷ []) → Steps a (event_of step) b reply → RepliedPartly y z reply
-    → ServesPartly a b x z
-turn_partly a b x y z step reply g s r = record {
+pub turn_partly : (fault : ServeFault) (a b : Relay) (x y z : DockView) (step : MemStep) (reply : Option Reply) → GivesSteps x y (step ∷ []) → IfSome x.ends (λ ends. y.faults ≡ x.faults)
+    → Steps a (event_of step) b reply → RepliedPartly fault y z reply → ServesPartly fault a b x z
+turn_partly fault a b x y z step reply g sure s r = record {
   turns = record { step = step; reply = reply } ∷ [];
   more = [];
   runs = step_runs (event_of step) a b reply s;
@@ -161,6 +224,8 @@ turn_partly a b x y z step reply g s r = record {
   ended = record { count = r.ended.count; ended = rw (append-nil (closed_by reply)) (r.ended.ended ∙ ap (option_map (λ ended. ended ++ take r.ended.count (closed_by reply))) g.ended) };
   port = r.port ∙ g.port;
   later = omega (arith, g.later, r.later);
+  calm = λ lasts.
+      spends_behind fault x y z (sure_is (λ ends. y.faults ≡ x.faults) x.ends lasts.ends.0 lasts.ends.1 sure) (r.calm (lasts_reply x y step reply g lasts));
 }
 
 pub over-append : (us vs : List Turn) (over : List ℕ) → over_after over (us ++ vs) ≡ over_after (over_after over us) vs

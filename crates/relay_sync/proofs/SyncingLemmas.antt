@@ -1,85 +1,30 @@
 -- A reply on its way: what one message more makes of it.
-use Rattle.std.proofs.Common.{[], List, ap, append_assoc, arith, false, inl, inr, length, length-append, refl, subst, sym, true, ℕ, ◌+◌, ◌++◌, ◌≤◌, ◌∙◌, ◌∷◌, ◌≡◌, ◌≢◌, ◌⊎◌}
-use Rattle.std.specs.Prelude.{All, Err, Ok, Result, is_some, Option, Some, None}
-use Rattle.std.proofs.lemmas.Bool.{cases_Bool}
+use Rattle.std.proofs.Common.{[], List, ap, arith, inl, inr, length, length-append, refl, subst, sym, ℕ, ◌++◌, ◌≤◌, ◌∙◌, ◌∷◌, ◌≡◌}
+use Rattle.std.specs.Prelude.{All, Err, Result, Option, Some, None}
 use Rattle.std.proofs.lemmas.Grind.{flat_map-append}
 use Rattle.std.proofs.lemmas.List.{append-nil}
 use Rattle.std.proofs.lemmas.List.Elements.{All-nil, All-push}
 use Rattle.fugue_ids.specs.declared.limits.TheConstants.{STREAM_LIMIT}
 use Rattle.fugue_ids.specs.declared.op.Op.{Op}
 use Rattle.fugue_ids.proofs.JoinLemmas.{took_none}
-use Rattle.origin_model.specs.declared.taking.tally.Tally.{Tally}
 use Rattle.origin_model.specs.frames.Frames.{HasFrame, IsFrame, frame, frames}
-use Rattle.origin_model.specs.taking.Taking.{Held, TooMany as AnswersTooMany, answer, held_from, intake, intake_counted, is_kept, kept_from, tally_from}
-use Rattle.origin_model.proofs.SharedLemmas.{held-append}
-use Rattle.op_frame.specs.Courses.{HasPlace}
-use Rattle.op_frame.proofs.CourseLemmas.{places-append, places-one}
 use Rattle.outer_ports.specs.wire.Wires.{WireView, out_of}
-use Rattle.replica_core.specs.Keeping.{LeavesUnkept, TakesInKeeping}
+use Rattle.replica_core.specs.Keeping.{LeavesUnkept, TakesIn, Taking}
 use Rattle.replica_core.specs.declared.feed_fault.FeedFault.{FeedFault}
 use Rattle.replica_core.specs.declared.feed_fault.FeedFault.TheVariants as feed_fault
-use Rattle.replica_core.specs.State.{State}
-use Rattle.relay_sync.specs.Replies.{Hears, IsMessage, StopsIn, Whole}
+use Rattle.replica_core.proofs.KeepingLemmas.{same_taking, takes_more, takes_none}
+use Rattle.relay_sync.specs.Replies.{Hears, Whole}
 use Rattle.relay_sync.specs.FeedFaults.{fault_of}
 use Rattle.relay_sync.specs.Saying.{SaysTo, text_for}
-use Rattle.relay_sync.specs.Syncing.{FailsToAsk, HearsOne, HearsPartly, HearsReply, IsReady, StopsAt, StopsFor, TakesIn, TakesOne, Taking}
+use Rattle.relay_sync.specs.Syncing.{FailsToAsk, HearsOne, HearsPartly, HearsReply, StopsAt, StopsFor, TakesOne}
 use Rattle.relay_sync.specs.declared.message.Message.{Message}
 use Rattle.relay_sync.specs.declared.message.Message.TheVariants.{End, Operation}
 use Rattle.relay_sync.specs.declared.sync_fault.SyncFault.{SyncFault}
 use Rattle.relay_sync.specs.declared.sync_fault.SyncFault.TheVariants.{BadReply, CutShort, NoMemory, RelayRefused, TooLong, TooMany, WireFault}
 use Rattle.relay_sync.proofs.HearingLemmas.{hears-append, hears_none, stops_in}
 
-tally-append : (hold most : ℕ) (s : Held) (a b : List Op) (t : Tally) → tally_from hold most (held_from hold most s a) b (tally_from hold most s a t) ≡ tally_from hold most s (a ++ b) t
-tally-append hold most s [] b t = refl
-tally-append hold most s (op ∷ a) b t = tally-append hold most (intake hold most s op) a b (intake_counted hold most s op t)
-
--- a kept operation, and a refused one
-kept-yes : (hold most : ℕ) (s : Held) (op : Op) (ops : List Op) → is_kept (answer hold most s op) ≡ true
-    → kept_from hold most s (op ∷ ops) ≡ op ∷ kept_from hold most (intake hold most s op) ops
-kept-yes hold most s op ops e = rw (e, kept_from)
-
-kept-no : (hold most : ℕ) (s : Held) (op : Op) (ops : List Op) → is_kept (answer hold most s op) ≡ false
-    → kept_from hold most s (op ∷ ops) ≡ kept_from hold most (intake hold most s op) ops
-kept-no hold most s op ops e = rw (e, kept_from)
-
--- what is kept of two lists, one behind the other
-kept-append : (hold most : ℕ) (s : Held) (a b : List Op) → kept_from hold most s a ++ kept_from hold most (held_from hold most s a) b ≡ kept_from hold most s (a ++ b)
-kept-append hold most s [] b = refl
-kept-append hold most s (op ∷ a) b =
-    let t : Held = intake hold most s op in
-    elim (cases_Bool (is_kept (answer hold most s op))) [
-      | inl e ↦ ap (λ k. k ++ kept_from hold most (held_from hold most t a) b) (kept-yes hold most s op a e)
-          ∙ ap (λ k. op ∷ k) (kept-append hold most t a b) ∙ sym (kept-yes hold most s op (a ++ b) e)
-      | inr e ↦ ap (λ k. k ++ kept_from hold most (held_from hold most t a) b) (kept-no hold most s op a e)
-          ∙ kept-append hold most t a b ∙ sym (kept-no hold most s op (a ++ b) e)
-    ]
-
 frames-one : (op : Op) → frames (op ∷ []) ≡ frame op
 frames-one op = append-nil (frame op)
-
--- nothing was taken in yet
-takes_none : (start : Taking) → TakesIn start start []
-takes_none start = record { has_place = All-nil (λ a. a ≢ AnswersTooMany); replica = refl; counts = refl; kept = sym (append-nil start.kept) }
-
--- one operation more
-takes_more : (start now next : Taking) (ops : List Op) (op : Op) → TakesIn start now ops → answer now.replica.hold now.replica.most now.replica.held op ≢ AnswersTooMany
-    → TakesInKeeping now.replica next.replica op now.counts next.counts now.kept next.kept → TakesIn start next (ops ++ op ∷ [])
-takes_more start now next ops op s place t =
-    let hold : ℕ = start.replica.hold in
-    let most : ℕ = start.replica.most in
-    let held : Held = held_from hold most start.replica.held ops in
-    let reached : State = record start.replica { held = held } in
-    let place : answer hold most held op ≢ AnswersTooMany = subst (λ (r : State). answer r.hold r.most r.held op ≢ AnswersTooMany) s.replica place in
-    let t : TakesInKeeping reached next.replica op now.counts next.counts now.kept next.kept =
-    subst (λ (r : State). TakesInKeeping r next.replica op now.counts next.counts now.kept next.kept) s.replica t in
-    record {
-      has_place = places-append hold most start.replica.held ops (op ∷ []) s.has_place (places-one hold most held op place);
-      replica = t.replica ∙ ap (λ (h : Held). record start.replica { held = h }) (held-append hold most start.replica.held ops (op ∷ []));
-      counts = t.counts ∙ ap (λ (c : Tally). intake_counted hold most held op c) s.counts ∙ tally-append hold most start.replica.held ops (op ∷ []) start.counts;
-      kept = t.kept_are ∙ ap (λ (k : List Op). k ++ kept_from hold most held (op ∷ [])) s.kept
-          ∙ append_assoc start.kept (kept_from hold most start.replica.held ops) (kept_from hold most held (op ∷ []))
-          ∙ ap (λ (k : List Op). start.kept ++ k) (kept-append hold most start.replica.held ops (op ∷ []));
-    }
 
 -- frames were heard, and their operations were taken in
 pub record Goes (old new : WireView) (start now : Taking) (heard : ℕ) : Type 0 where
@@ -159,16 +104,13 @@ pub is_more : (answer : Option ℕ) (u v : WireView) (before after : Taking) (pl
 is_more None u v before after place heard none one = one
 is_more (Some count) u v before after place heard none one = absurd (none count refl)
 
-same_taking : (a b : Taking) → a.replica ≡ b.replica → a.counts ≡ b.counts → a.kept ≡ b.kept → a ≡ b
-same_taking a b p q r = λ i. record { replica = p i; counts = q i; kept = r i }
-
 -- an operation that was heard and not taken in to the end
 pub feed_fails : (u v : WireView) (before after : Taking) (place heard : ℕ) (op : Op) (fault : FeedFault) → Whole (Operation op) u v place heard []
     → LeavesUnkept before.replica after.replica op before.counts after.counts fault → after.kept ≡ before.kept → StopsAt (fault_of fault) u v before after place
 feed_fails u v before after place heard op (feed_fault.TooMany most) whole left kept = record {
   bytes = whole.bytes;
   hears = whole.hears;
-  stops = (same_taking after before left.2 left.3 kept, left.0, op, whole.is_message, left.1);
+  stops = (same_taking after before left.2 left.3 kept, left.0, op, whole.is_message, omega (arith, whole.count, whole.within), left.1);
 }
 feed_fails u v before after place heard op feed_fault.NoMemory whole left kept = record {
   bytes = whole.bytes;

@@ -5,3 +5,4 @@ pub mod Replies
 pub mod Saying
 pub mod FeedFaults
 pub mod Syncing
+pub mod Outcomes

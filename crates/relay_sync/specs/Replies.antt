@@ -1,11 +1,11 @@
 -- A relay's reply as it is heard: message by message, each at its last byte.
-use Rattle.std.specs.Prelude.{◌≡◌, ◌≢◌, ◌⊎◌, ℕ, ◌+◌, ◌<◌, ◌≤◌, List, [], ◌∷◌, ◌++◌, length, take, is_some, true, IfSome}
+use Rattle.std.specs.Prelude.{◌≡◌, ℕ, ◌+◌, ◌<◌, ◌≤◌, List, [], ◌∷◌, ◌++◌, length, is_some, true, IfSome}
 use Rattle.std.specs.Int.{from_be_bytes, w32}
 use Rattle.std.specs.Io.KnownBytes.{prepend_known}
 use Rattle.fugue_ids.specs.Causes.{Rose}
 use Rattle.fugue_ids.specs.declared.limits.TheConstants.{STREAM_LIMIT}
 use Rattle.fugue_ids.specs.declared.op.Op.{Op}
-use Rattle.origin_model.specs.frames.Frames.{IsFrame, Starts}
+use Rattle.origin_model.specs.frames.Frames.{IsFrame}
 use Rattle.origin_model.specs.relay.Session.{refusal}
 use Rattle.outer_ports.specs.wire.Wires.{WireView}
 use Rattle.relay_sync.specs.declared.message.Message.{Message}

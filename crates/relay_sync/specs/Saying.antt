@@ -1,5 +1,5 @@
 -- What a replica says to a relay.
-use Rattle.std.specs.Prelude.{◌≡◌, ℕ, List, ◌∷◌, ◌++◌, Option, Some, Result, OnOk, option_map}
+use Rattle.std.specs.Prelude.{◌≡◌, ℕ, List, ◌∷◌, ◌++◌, Some, Result, OnOk, option_map}
 use Rattle.std.specs.Int.{to_be_bytes, w32}
 use Rattle.fugue_ids.specs.Outs.{WritesText}
 use Rattle.origin_model.specs.frames.Frames.{frames}

@@ -4,13 +4,15 @@ use Rattle.fugue_ids.specs.Outs.{Took, TookFront, WritesText}
 use Rattle.origin_model.specs.declared.relay.reply.Reply.{Reply}
 use Rattle.outer_ports.specs.dock.Docks.{DockView, SendsNothing, TakesNothing, out_to}
 use Rattle.outer_ports.specs.declared.dock.mem_step.MemStep.{MemStep}
-use Rattle.relay_sync.specs.Serving.{EndedFront, GaveSteps, bytes_to, closed_by}
+use Rattle.relay_sync.specs.Serving.{EndedFront, GaveSteps, HasRoomFor, Spends, bytes_to, closed_by, ends_behind}
+use Rattle.relay_sync.specs.declared.serve_fault.ServeFault.{ServeFault}
 
 -- the dock gave these steps, and nothing else happened to it
 pub record GivesSteps (old new : DockView) (steps : List MemStep) : Type 0 where
   pub gave : GaveSteps old new steps
   pub nothing_sent : SendsNothing old new
   pub ended : new.ended ≡ old.ended
+  pub ends : new.ends ≡ old.ends
   pub port : new.port ≡ old.port
   pub later : old.faults ≤ new.faults
 
@@ -21,19 +23,27 @@ pub record SendsText {E T : Type 0} (old new : DockView) (result : Result T E) (
   pub nothing_taken : TakesNothing old new
   pub port : new.port ≡ old.port
   pub ended : new.ended ≡ old.ended
+  pub ends : new.ends ≡ old.ends
+
+-- the dock lasts for a reply
+abbrev pub LastsFor : DockView → Option Reply → Type 0
+LastsFor dock reply = HasRoomFor dock (λ session. bytes_to session reply) (closed_by reply)
 
 -- the reply was sent whole, to its session alone, which is ended where the reply closes it
 pub record Replied (old new : DockView) (reply : Option Reply) : Type 0 where
   pub sent : (session : ℕ) → Took (out_to session old) (out_to session new) (bytes_to session reply)
   pub ended : new.ended ≡ option_map (λ ended. ended ++ closed_by reply) old.ended
+  pub ends : new.ends ≡ ends_behind (closed_by reply) old.ends
   pub nothing_taken : TakesNothing old new
   pub port : new.port ≡ old.port
   pub later : old.faults ≤ new.faults
+  pub calm : LastsFor old reply → new.faults ≡ old.faults
 
 -- the same up to a fault
-pub record RepliedPartly (old new : DockView) (reply : Option Reply) : Type 0 where
+pub record RepliedPartly (fault : ServeFault) (old new : DockView) (reply : Option Reply) : Type 0 where
   pub sent : (session : ℕ) → TookFront (out_to session old) (out_to session new) (bytes_to session reply)
   pub ended : EndedFront old new (closed_by reply)
   pub nothing_taken : TakesNothing old new
   pub port : new.port ≡ old.port
   pub later : old.faults ≤ new.faults
+  pub calm : LastsFor old reply → Spends fault old new

@@ -1,5 +1,5 @@
 -- What serving does: the steps that a dock gives are given to a relay, and its replies are sent.
-use Rattle.std.specs.Prelude.{◌≡◌, ℕ, ◌<◌, ◌≤◌, List, [], ◌∷◌, ◌++◌, length, take, flat_map, map, nat_eq, if◌then◌else◌, Option, Some, None, option_map}
+use Rattle.std.specs.Prelude.{◌≡◌, ℕ, ◌<◌, ◌≤◌, List, [], ◌∷◌, ◌++◌, length, take, flat_map, map, nat_eq, if◌then◌else◌, Option, Some, None, IfSome, option_map, ◌-◌}
 use Rattle.fugue_ids.specs.Outs.{Took, TookFront}
 use Rattle.origin_model.specs.declared.relay.event.Event.{Event}
 use Rattle.origin_model.specs.declared.relay.event.Event.TheVariants as event
@@ -10,6 +10,8 @@ use Rattle.outer_ports.specs.dock.Steps.{GivesSome}
 use Rattle.outer_ports.specs.declared.dock.mem_step.MemStep.{MemStep}
 use Rattle.outer_ports.specs.declared.dock.mem_step.MemStep.TheVariants.{Opened, Bytes, Gone}
 use Rattle.relay_sync.specs.Over.{noted}
+use Rattle.relay_sync.specs.declared.serve_fault.ServeFault.{ServeFault}
+use Rattle.relay_sync.specs.declared.serve_fault.ServeFault.TheVariants.{DockFault}
 
 -- a step, as an event of the relay
 abbrev pub event_of : MemStep → Event
@@ -79,14 +81,35 @@ pub record GaveSteps (old new : DockView) (steps : List MemStep) : Type 0 where
   pub taken : new.taken ≡ option_map (λ taken. taken ++ steps) old.taken
   pub comes : Comes old.coming steps new.coming
 
+-- calls are sure, these bytes fit for each session, and so many sessions can be ended
+pub record HasRoomFor (dock : DockView) (sent : ℕ → List ℕ) (closed : List ℕ) : Type 0 where
+  pub room : (session : ℕ) → (room : ℕ) × (dock.room session ≡ Some room) × (length (sent session) ≤ room)
+  pub ends : (ends : ℕ) × (dock.ends ≡ Some ends) × (length closed ≤ ends)
+
+-- the dock lasts for the replies to these turns
+abbrev pub Lasts : DockView → List Turn → Type 0
+Lasts dock turns = HasRoomFor dock (λ session. sent_to session turns) (closed_in turns)
+
+-- so many further sessions can be ended where these were
+abbrev pub ends_behind : List ℕ → Option ℕ → Option ℕ
+ends_behind closed ends = option_map (λ ends. ends - length closed) ends
+
+-- with a fault of the dock no step was left; with another the count of faults stays
+abbrev pub Spends : ServeFault → (old new : DockView) → Type 0
+Spends DockFault old new = IfSome new.coming (λ coming. coming ≡ [])
+Spends fault old new = new.faults ≡ old.faults
+
 -- each step was given to the relay, and each reply was sent whole, to its session alone; those that close theirs ended it
 pub record Serves (old_relay new_relay : Relay) (old new : DockView) (turns : List Turn) : Type 0 where
   pub runs : Runs old_relay (map event_of (steps_of turns)) new_relay (replies_of turns)
   pub gave : GaveSteps old new (steps_of turns)
   pub sent : (session : ℕ) → Took (out_to session old) (out_to session new) (sent_to session turns)
   pub ended : new.ended ≡ option_map (λ ended. ended ++ closed_in turns) old.ended
+  pub ends : new.ends ≡ ends_behind (closed_in turns) old.ends
   pub port : new.port ≡ old.port
   pub later : old.faults ≤ new.faults
+  -- no call fails on a dock that lasts
+  pub calm : Lasts old turns → new.faults ≡ old.faults
 
 -- a front of the sessions was ended
 pub record EndedFront (old new : DockView) (sessions : List ℕ) : Type 0 where
@@ -94,7 +117,7 @@ pub record EndedFront (old new : DockView) (sessions : List ℕ) : Type 0 where
   pub ended : new.ended ≡ option_map (λ ended. ended ++ take count sessions) old.ended
 
 -- the same up to a fault: the relay stands after a front of the events, and each session was sent a front of its bytes
-pub record ServesPartly (old_relay new_relay : Relay) (old new : DockView) : Type 0 where
+pub record ServesPartly (fault : ServeFault) (old_relay new_relay : Relay) (old new : DockView) : Type 0 where
   pub turns : List Turn
   -- the step that the relay was not given
   pub more : List MemStep
@@ -104,6 +127,8 @@ pub record ServesPartly (old_relay new_relay : Relay) (old new : DockView) : Typ
   pub ended : EndedFront old new (closed_in turns)
   pub port : new.port ≡ old.port
   pub later : old.faults ≤ new.faults
+  -- a dock that lasts for the replies fails only where no step is left
+  pub calm : Lasts old turns → Spends fault old new
 
 -- no step was asked for once so many sessions were over
 abbrev pub NoneAfter : ℕ → List Turn → Type 0

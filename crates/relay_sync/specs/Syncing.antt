@@ -1,45 +1,19 @@
 -- An exchange with a relay: a replica says what it holds, hears the reply, and takes in its operations as they come.
-use Rattle.std.specs.Prelude.{◌≡◌, ◌≢◌, ◌⊎◌, ◌+◌, ◌*◌, ◌≤◌, ℕ, All, List, [], ◌∷◌, ◌++◌, length, Option, Some, None, Result, Err, option_map}
+use Rattle.std.specs.Prelude.{◌≡◌, ◌≢◌, ◌⊎◌, ◌+◌, ◌*◌, ◌≤◌, ℕ, All, List, [], ◌++◌, length, Option, Some, None, Result, Err, option_map}
 use Rattle.fugue_ids.specs.Causes.{Rose}
 use Rattle.fugue_ids.specs.Outs.{Took, TookFront}
 use Rattle.fugue_ids.specs.declared.limits.TheConstants.{GREATEST_HOLD, STREAM_LIMIT}
 use Rattle.fugue_ids.specs.declared.op.Op.{Op}
-use Rattle.origin_model.specs.declared.taking.tally.Tally.{Tally}
 use Rattle.origin_model.specs.frames.Frames.{HasFrame, frames}
-use Rattle.origin_model.specs.taking.Taking.{Held, IsSettled, TooMany as AnswersTooMany, answer, held_from, kept_from, no_counts, tally_from}
-use Rattle.op_frame.specs.Courses.{HasPlace}
+use Rattle.origin_model.specs.taking.Taking.{Held, IsSettled, TooMany as AnswersTooMany, answer}
 use Rattle.outer_ports.specs.wire.Wires.{WireView, out_of}
-use Rattle.replica_core.specs.Keeping.{TakesInKeeping}
-use Rattle.replica_core.specs.State.{State}
-use Rattle.replica_core.specs.Told.{StandsPartly, total}
+use Rattle.replica_core.specs.Keeping.{TakesIn, TakesInKeeping, TakesPartly, Taking}
+use Rattle.replica_core.specs.Told.{total}
 use Rattle.relay_sync.specs.Replies.{Hears, IsMessage, StopsIn, Whole}
 use Rattle.relay_sync.specs.Saying.{text_for}
 use Rattle.relay_sync.specs.declared.message.Message.TheVariants.{End, Operation, Refusal}
 use Rattle.relay_sync.specs.declared.sync_fault.SyncFault.{SyncFault}
-use Rattle.relay_sync.specs.declared.sync_fault.SyncFault.TheVariants.{BadReply, CutShort, NoMemory, RelayRefused, TooLong, TooMany, WireFault}
-
--- a replica that takes in a reply, what became of the operations so far, and copies of those that were kept
-pub record Taking : Type 0 where
-  pub replica : State
-  pub counts : Tally
-  pub kept : List Op
-
--- nothing was counted yet
-abbrev pub begun : State → List Op → Taking
-begun replica kept = record { replica = replica; counts = no_counts; kept = kept }
-
--- the operations were taken in one after another, and each found its place
-pub record TakesIn (old new : Taking) (ops : List Op) : Type 0 where
-  pub has_place : HasPlace old.replica.hold old.replica.most old.replica.held ops
-  pub replica : new.replica ≡ record old.replica { held = held_from old.replica.hold old.replica.most old.replica.held ops }
-  pub counts : new.counts ≡ tally_from old.replica.hold old.replica.most old.replica.held ops old.counts
-  pub kept : new.kept ≡ old.kept ++ kept_from old.replica.hold old.replica.most old.replica.held ops
-
--- memory was wanting while the operation, which stands already, settled others
-pub record TakesPartly (old new : Taking) (op : Op) : Type 0 where
-  pub replica : new.replica ≡ record old.replica { held = new.replica.held }
-  pub stands : StandsPartly old.replica.hold old.replica.most old.replica.held new.replica.held op old.counts new.counts
-  pub kept : new.kept ≡ old.kept
+use Rattle.relay_sync.specs.declared.sync_fault.SyncFault.TheVariants.{NoMemory, RelayRefused, TooMany, WireFault}
 
 -- one operation more can be taken in and counted
 pub record IsReady (now : Taking) (heard : ℕ) : Type 0 where
@@ -62,7 +36,7 @@ abbrev pub StopsFor : SyncFault → (old new : WireView) → (before after : Tak
 StopsFor (RelayRefused code) old new before after place bytes = (after ≡ before) × IsMessage (Refusal code) bytes × (place + length bytes ≤ STREAM_LIMIT)
 StopsFor (TooMany most) old new before after place bytes =
     (after ≡ before) × (most ≡ before.replica.most) × (op : Op) × IsMessage (Operation op) bytes
-    × (answer before.replica.hold before.replica.most before.replica.held op ≡ AnswersTooMany)
+    × (place + length bytes ≤ STREAM_LIMIT) × (answer before.replica.hold before.replica.most before.replica.held op ≡ AnswersTooMany)
 StopsFor NoMemory old new before after place bytes = (op : Op) × IsMessage (Operation op) bytes × ((after ≡ before) ⊎ TakesPartly before after op)
 StopsFor fault old new before after place bytes = (after ≡ before) × StopsIn fault old new place bytes
 

@@ -2,6 +2,7 @@
 #![tactic(auto)]
 
 mod hearing;
+mod law;
 mod message;
 mod next_step;
 mod over;
@@ -15,6 +16,7 @@ mod syncing;
 #[cfg(test)]
 mod tests;
 
+pub use law::replies_come_once;
 pub use serve_fault::ServeFault;
 pub use serving::serve;
 pub use sync_fault::SyncFault;

@@ -1,7 +1,8 @@
-ghost use Rattle.std.specs.Prelude.{◌≡◌, ◌≢◌, ◌∷◌, [], Err, IfOk, List, OnErr};
+ghost use Rattle.std.specs.Prelude.{◌≡◌, ◌≢◌, ◌∷◌, [], Err, IfErr, IfOk, IfSome, List, OnErr, OnOk};
 ghost use Rattle.fugue_ids.specs.Causes.{Rose};
 ghost use Rattle.outer_ports.specs.declared.dock.mem_step.MemStep.{MemStep as AnyStep};
 ghost use Rattle.relay_sync.specs.Sending.{GivesSteps};
+ghost use Rattle.relay_sync.specs.Serving.{Spends};
 ghost use Rattle.relay_sync.specs.declared.serve_fault.ServeFault.TheVariants.{DockFault, TooLong};
 
 use crate::serve_fault::ServeFault;
@@ -13,6 +14,8 @@ use std::alloc::Global;
 pub(crate) fn next_step<D: Dock>(alloc: Global, dock: &mut D) -> Result<MemStep, ServeFault>
     ensures ok { IfOk result (λ step. GivesSteps (D.seen dock.old) (D.seen dock.new) (step ∷ [])) }
     ensures err { OnErr result ((steps : List AnyStep) × GivesSteps (D.seen dock.old) (D.seen dock.new) steps) }
+    ensures calm { IfSome (D.seen dock.old).ends (λ ends. OnOk result ((D.seen dock.new).faults ≡ (D.seen dock.old).faults)) }
+    ensures spent { IfSome (D.seen dock.old).ends (λ ends. IfErr result (λ fault. Spends fault (D.seen dock.old) (D.seen dock.new))) }
     ensures dock_fault { result ≡ Err DockFault → Rose (D.seen dock.old).faults (D.seen dock.new).faults }
     ensures not_long { result ≢ Err TooLong }
 {

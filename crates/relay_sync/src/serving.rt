@@ -1,4 +1,4 @@
-ghost use Rattle.std.specs.Prelude.{◌≡◌, ◌≢◌, ◌<◌, ◌≤◌, ◌∷◌, [], Err, List, OnErr, OnOk, length, ℕ};
+ghost use Rattle.std.specs.Prelude.{◌≡◌, ◌≢◌, ◌<◌, ◌≤◌, ◌∷◌, [], Err, IfErr, List, OnOk, length, ℕ};
 ghost use Rattle.fugue_ids.specs.Causes.{Rose};
 ghost use Rattle.relay_core.specs.Sessions.{listed};
 ghost use Rattle.origin_model.specs.declared.relay.reply.Reply.{Reply as AnyReply};
@@ -32,7 +32,7 @@ pub fn serve<B: BuildHasher, D: Dock>(
         × (sessions ≤ count_over turns) × NoneAfter sessions turns × (length turns ≤ steps)) }
     ensures too_long { result ≡ Err TakesTooLong → (turns : List Turn) × Serves relay.old relay.new (D.seen dock.old) (D.seen dock.new) turns
         × (count_over turns < sessions) × NoneAfter sessions turns × (length turns ≡ steps) }
-    ensures partly { OnErr result (ServesPartly relay.old relay.new (D.seen dock.old) (D.seen dock.new)) }
+    ensures partly { IfErr result (λ fault. ServesPartly fault relay.old relay.new (D.seen dock.old) (D.seen dock.new)) }
     ensures dock_fault { result ≡ Err AtDock → Rose (D.seen dock.old).faults (D.seen dock.new).faults }
 {
     let mut over = BTreeSet::new(alloc);
@@ -56,7 +56,7 @@ fn serve_step<B: BuildHasher, D: Dock>(
 ) -> Result<(), ServeFault>
     ensures ok { OnOk result ((turn : Turn) × Serves relay.old relay.new (D.seen dock.old) (D.seen dock.new) (turn ∷ [])
         × ((sessions : List ℕ) → IsOver over.old sessions → IsOver over.new (over_after sessions (turn ∷ [])))) }
-    ensures partly { OnErr result (ServesPartly relay.old relay.new (D.seen dock.old) (D.seen dock.new)) }
+    ensures partly { IfErr result (λ fault. ServesPartly fault relay.old relay.new (D.seen dock.old) (D.seen dock.new)) }
     ensures dock_fault { result ≡ Err AtDock → Rose (D.seen dock.old).faults (D.seen dock.new).faults }
     ensures not_long { result ≢ Err TakesTooLong }
 {
@@ -80,7 +80,7 @@ fn answer<D: Dock>(
 ) -> Result<(), ServeFault>
     ensures ok { (reply : Maybe AnyReply) → replies.now ≡ listed reply → OnOk result (Replied (D.seen dock.old) (D.seen dock.new) reply
         × ((sessions : List ℕ) → IsOver over.old sessions → IsOver over.new (with_closed sessions reply))) }
-    ensures partly { (reply : Maybe AnyReply) → replies.now ≡ listed reply → OnErr result (RepliedPartly (D.seen dock.old) (D.seen dock.new) reply) }
+    ensures partly { (reply : Maybe AnyReply) → replies.now ≡ listed reply → IfErr result (λ fault. RepliedPartly fault (D.seen dock.old) (D.seen dock.new) reply) }
     ensures dock_fault { result ≡ Err AtDock → Rose (D.seen dock.old).faults (D.seen dock.new).faults }
     ensures not_long { result ≢ Err TakesTooLong }
 {

@@ -2,8 +2,10 @@ ghost use Rattle.std.specs.Prelude.{◌≡◌, ◌≤◌, IfErr, IfOk, OnOk, len
 ghost use Rattle.fugue_ids.specs.declared.limits.TheConstants.{GREATEST_HOLD};
 ghost use Rattle.origin_model.specs.declared.taking.tally.Tally.{Tally as AnyTally};
 ghost use Rattle.origin_model.specs.taking.Taking.{IsSettled};
+ghost use Rattle.replica_core.specs.Keeping.{begun};
+ghost use Rattle.relay_sync.specs.Outcomes.{Ended, HeardTo, HeardUpTo};
 ghost use Rattle.relay_sync.specs.Saying.{text_for};
-ghost use Rattle.relay_sync.specs.Syncing.{BlamesWire, Fails, HearsOne, HearsPartly, HearsReply, IsReady, StopsAt, Syncs, begun};
+ghost use Rattle.relay_sync.specs.Syncing.{BlamesWire, Fails, HearsOne, HearsPartly, HearsReply, IsReady, StopsAt, Syncs};
 
 use crate::hearing::next_message;
 use crate::message::Message;
@@ -34,6 +36,10 @@ pub fn sync<W: Wire>(
     ensures settled { OnOk result (IsSettled replica.new.held) }
     ensures err { IfErr result (λ fault. (counts : AnyTally) × Fails fault (W.seen wire.old) (W.seen wire.new) (begun replica.old kept.old.items)
         (record { replica = replica.new; counts = counts; kept = kept.new.items }) port cursor) }
+    ensures reply { IfOk result (λ synced. HeardTo (W.seen wire.old).left (begun replica.old kept.old.items)
+        (record { replica = replica.new; counts = synced.tally; kept = kept.new.items }) (Ended synced.cursor)) }
+    ensures up_to { IfErr result (λ fault. (counts : AnyTally) × HeardUpTo fault (W.seen wire.old).left (begun replica.old kept.old.items)
+        (record { replica = replica.new; counts = counts; kept = kept.new.items })) }
     ensures wire { BlamesWire (length (text_for cursor replica.old.held)) (W.seen wire.old) (W.seen wire.new) result }
 {
     let Ok(text) = text_of(alloc, replica, cursor) else {

@@ -112,6 +112,55 @@ fn a_number_counts_once_and_no_step_is_asked_for_behind_the_last(
     Ok(())
 }
 
+/// All that a session says that brings both frames.
+const BRINGS_BOTH: &[u8] = &[
+    0x48, 0, 0, 0, 0, 2, 0, 0, 0, 1, 0, 0, 0, 0, 0, 0, 0, 9, 0, 0, 0, 0, 0, 0, 0, 0, 97, 1, 0, 0,
+    0, 9, 0, 0, 0, 0, 0, 0, 0, 1, 84, 0x44,
+];
+
+/// A session that is gone behind these bytes.
+fn gone_behind(alloc: Global, bytes: &[u8]) -> Result<Vec<MemStep>, Fail>
+    ensures { IfOk result (λ steps. All HasBytes steps.items) }
+{
+    let mut steps = Vec::new(alloc);
+    steps.push(MemStep::Opened(0))?;
+    if !bytes.is_empty() {
+        steps.push(says(alloc, 0, bytes)?)?;
+    }
+    steps.push(MemStep::Gone(0))?;
+    Ok(steps)
+}
+
+/// How many frames came whole where a session that brings both is cut.
+fn whole_frames(count: usize) -> u32 {
+    match count {
+        0..=26 => 0,
+        27..=40 => 1,
+        _ => 2,
+    }
+}
+
+#[test]
+fn a_session_may_be_cut_at_each_byte(rt: HostRuntime) -> Result<(), Fail> {
+    for count in 0..BRINGS_BOTH.len() {
+        let steps = gone_behind(rt.alloc(), &BRINGS_BOTH[..count])?;
+        let mut dock = MemDock::new(rt.alloc(), steps, 7, Vec::new(rt.alloc()));
+        let result = served(rt.alloc(), &mut dock, 1, 100);
+        assert_eq!(rt; result, (Ok(()), whole_frames(count)), "cut at {count}");
+        assert!(rt; dock.sent(0).is_empty() && dock.ended().is_empty());
+    }
+    Ok(())
+}
+
+#[test]
+fn a_session_that_is_not_cut_is_answered(rt: HostRuntime) -> Result<(), Fail> {
+    let steps = gone_behind(rt.alloc(), BRINGS_BOTH)?;
+    let mut dock = MemDock::new(rt.alloc(), steps, 7, Vec::new(rt.alloc()));
+    assert_eq!(rt; served(rt.alloc(), &mut dock, 1, 100), (Ok(()), 2));
+    assert_eq!(rt; dock.sent(0), BOTH);
+    Ok(())
+}
+
 #[test]
 fn a_call_that_fails_ends_it(rt: HostRuntime) -> Result<(), Fail> {
     // In pieces of 7 bytes: ten steps, six sends and an end; one step, six sends and an end.

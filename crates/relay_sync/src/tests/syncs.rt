@@ -1,3 +1,4 @@
+use super::BOTH;
 use crate::{SyncFault, Synced, sync};
 use fugue_ids::Op;
 use origin_model::Tally;
@@ -195,6 +196,41 @@ fn a_reply_fails_exactly_by_its_bytes(rt: HostRuntime) -> Result<(), Fail> {
         assert_eq!(rt;
             replied(&rt, rt.alloc(), reply, none)?,
             (Err(*fault), *kept)
+        );
+    }
+    Ok(())
+}
+
+/// What an exchange of a new replica comes to with this reply, and how many operations it keeps.
+fn heard(
+    rt: &impl Abort,
+    alloc: Global,
+    reply: &[u8],
+) -> Result<(Result<Synced, SyncFault>, usize), Fail> {
+    let mut kept = Vec::new(alloc);
+    let mut wire = MemWire::new(alloc, reply.to_vec(alloc)?, 3, Vec::new(alloc));
+    let mut replica = Replica::new(alloc, 1, 10, 10)?;
+    let result = exchanged(rt, alloc, &mut replica, &mut wire, 0, &mut kept);
+    Ok((result, kept.len()))
+}
+
+/// Where the message begins in which a reply of both frames is cut, and how many frames are before it.
+fn cut_in(count: usize) -> (u64, usize) {
+    match count {
+        0..=21 => (0, 0),
+        22..=35 => (22, 1),
+        _ => (36, 2),
+    }
+}
+
+#[test]
+fn a_reply_may_be_cut_at_each_byte(rt: HostRuntime) -> Result<(), Fail> {
+    for count in 0..BOTH.len() {
+        let (place, kept) = cut_in(count);
+        assert_eq!(rt;
+            heard(&rt, rt.alloc(), &BOTH[..count])?,
+            (Err(SyncFault::CutShort(place)), kept),
+            "cut at {count}"
         );
     }
     Ok(())

@@ -1,4 +1,4 @@
-use Rattle.std.proofs.Common.{[], List, arith, subst, ℕ, ◌∷◌}
+use Rattle.std.proofs.Common.{[], arith, subst, ℕ, ◌∷◌}
 use Rattle.std.proofs.lemmas.Result.{err_from_is_err_and}
 use Rattle.relay_sync.specs.Replies.{Hears}
 use Rattle.relay_sync.proofs.HearingLemmas.{err_behind, no_bytes}

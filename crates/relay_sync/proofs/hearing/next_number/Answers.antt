@@ -1,4 +1,4 @@
-use Rattle.std.proofs.Common.{[], List, arith, refl, ℕ, ◌∷◌}
+use Rattle.std.proofs.Common.{[], arith, refl, ◌∷◌}
 use Rattle.std.proofs.lemmas.Result.{err_from_is_err_and}
 use Rattle.relay_sync.proofs.HearingLemmas.{end_0, end_1, end_2, end_3, hears-append, stops_behind}
 use Rattle.relay_sync.proofs.hearing.next_number.Goals as goal

@@ -1,4 +1,4 @@
-use Rattle.std.proofs.Common.{List, ap, arith, inl, inr, length, refl, subst, ◌≡◌}
+use Rattle.std.proofs.Common.{ap, arith, inl, inr, length, refl, subst, ◌≡◌}
 use Rattle.op_frame.specs.Firsts.{Carries}
 use Rattle.op_frame.specs.declared.first.First.{First}
 use Rattle.relay_sync.proofs.HearingLemmas.{frame_carried, frame_popped}

@@ -2,28 +2,29 @@ use Rattle.std.proofs.Common.{refl, subst, ◌∙◌}
 use Rattle.std.proofs.lemmas.Result.{err_from_is_err_and}
 use Rattle.origin_model.specs.relay.Relay.{Steps}
 use Rattle.relay_sync.specs.Serving.{with_closed}
+use Rattle.relay_sync.specs.declared.serve_fault.ServeFault.TheVariants.{NoMemory}
 use Rattle.relay_sync.proofs.ServingLemmas.{turn_partly, turn_serves, unheard_partly, whole_partly}
 use Rattle.relay_sync.proofs.serving.serve_step.Goals as goal
 
 pub returns-in_err-step-clause-partly : goal.returns-in_err-step-clause-partly
 returns-in_err-step-clause-partly g c =
     let p = err_from_is_err_and c.from_residual.result c.from_residual.ensures.1 in
-    rw p.1 (unheard_partly _ _ _ _ c.in_err-step.ensures.err.0 refl c.in_err-step.ensures.err.1)
+    rw (p.1, p.2) (unheard_partly _ _ _ _ _ c.in_err-step.ensures.err.0 refl c.in_err-step.ensures.err.1 c.in_err-step.ensures.spent)
 
 pub returns-in_default-clause-partly : goal.returns-in_default-clause-partly
-returns-in_default-clause-partly g c = unheard_partly _ _ _ _ _ c.in_default.ensures.unchanged c.in_ok-step.ensures.ok
+returns-in_default-clause-partly g c = unheard_partly NoMemory _ _ _ _ _ c.in_default.ensures.unchanged c.in_ok-step.ensures.ok c.in_ok-step.ensures.calm
 
 pub returns-in_err-answer-clause-partly : goal.returns-in_err-answer-clause-partly
 returns-in_err-answer-clause-partly g c =
     let p = err_from_is_err_and c.from_residual-in_err-answer.result c.from_residual-in_err-answer.ensures.1 in
     let s = c.in-Ok.ensures.ok in
-    rw p.1 (turn_partly _ _ _ _ _ c.in_ok-step.step s.reply c.in_ok-step.ensures.ok (subst (λ e. Steps c.args.relay.now e c.step.new.self s.reply) c.event_of.ensures s.steps)
+    rw (p.1, p.2) (turn_partly _ _ _ _ _ _ c.in_ok-step.step s.reply c.in_ok-step.ensures.ok c.in_ok-step.ensures.calm (subst (λ e. Steps c.args.relay.now e c.step.new.self s.reply) c.event_of.ensures s.steps)
     (c.in_err-answer.ensures.partly s.reply (c.deref.ensures.value ∙ s.replies_are)))
 
 pub returns-in_default-note_gone-clause-partly : goal.returns-in_default-note_gone-clause-partly
 returns-in_default-note_gone-clause-partly g c =
     let s = c.in-Ok.ensures.ok in
-    whole_partly _ _ _ _ _ (turn_serves _ _ _ _ _ c.in_ok-step.step s.reply c.in_ok-step.ensures.ok (subst (λ e. Steps c.args.relay.now e c.step.new.self s.reply) c.event_of.ensures s.steps)
+    whole_partly NoMemory _ _ _ _ _ (λ is. cc is) (turn_serves _ _ _ _ _ c.in_ok-step.step s.reply c.in_ok-step.ensures.ok c.in_ok-step.ensures.calm (subst (λ e. Steps c.args.relay.now e c.step.new.self s.reply) c.event_of.ensures s.steps)
     (c.in_ok-answer.ensures.ok s.reply (c.deref.ensures.value ∙ s.replies_are)).0)
 
 pub returns-clause-ok : goal.returns-clause-ok
@@ -31,6 +32,6 @@ returns-clause-ok g c =
     let s = c.in-Ok.ensures.ok in
     let answered = c.in_ok-answer.ensures.ok s.reply (c.deref.ensures.value ∙ s.replies_are) in (
       record { step = c.in_ok-step.step; reply = s.reply },
-      turn_serves _ _ _ _ _ c.in_ok-step.step s.reply c.in_ok-step.ensures.ok (subst (λ e. Steps c.args.relay.now e c.step.new.self s.reply) c.event_of.ensures s.steps) answered.0,
+      turn_serves _ _ _ _ _ c.in_ok-step.step s.reply c.in_ok-step.ensures.ok c.in_ok-step.ensures.calm (subst (λ e. Steps c.args.relay.now e c.step.new.self s.reply) c.event_of.ensures s.steps) answered.0,
       λ sessions is. rw (c.gone_by-gone.ensures (with_closed sessions s.reply)) (c.in-Ok-note_gone.ensures (with_closed sessions s.reply) (answered.1 sessions is)),
     )

@@ -1,6 +1,7 @@
 use Rattle.std.proofs.Common.{◌-◌}
 use Rattle.fugue_ids.specs.declared.limits.TheConstants.{STREAM_LIMIT}
-use Rattle.relay_sync.specs.Syncing.{IsReady, begun}
+use Rattle.replica_core.specs.Keeping.{begun}
+use Rattle.relay_sync.specs.Syncing.{IsReady}
 use Rattle.relay_sync.proofs.SyncingLemmas.{Goes}
 use Rattle.relay_sync.proofs.syncing.hear.Given as goal
 

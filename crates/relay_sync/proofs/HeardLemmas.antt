@@ -1,0 +1,166 @@
+-- What was heard of a reply whose bytes are told is what these bytes come to.
+use Rattle.std.proofs.Common.{[], List, ap, append_assoc, arith, length, length-append, refl, subst, sym, take, ℕ, ◌+◌, ◌++◌, ◌-◌, ◌<◌, ◌≤◌, ◌∙◌, ◌∷◌, ◌≡◌, ◌⊎◌, inl, inr}
+use Rattle.std.specs.Prelude.{All, Option, Some}
+use Rattle.std.proofs.lemmas.List.{append-nil, take_all, take_at}
+use Rattle.fugue_ids.specs.declared.limits.TheConstants.{STREAM_LIMIT}
+use Rattle.fugue_ids.specs.declared.op.Op.{Op}
+use Rattle.origin_model.specs.frames.Frames.{HasFrame, frames}
+use Rattle.origin_model.specs.taking.Taking.{Held, TooMany as AnswersTooMany, answer, held_from, kept_from, tally_from}
+use Rattle.op_frame.proofs.FormatLemmas.{FallsShort, Reaches, two_fronts}
+use Rattle.op_frame.proofs.ToldLemmas.{shows, some_is, take_past}
+use Rattle.outer_ports.specs.wire.Wires.{WireView}
+use Rattle.replica_core.specs.Keeping.{TakesIn, Taking}
+use Rattle.replica_core.specs.State.{State}
+use Rattle.replica_core.proofs.KeepingLemmas.{same_taking}
+use Rattle.relay_sync.specs.Outcomes.{BeginsWith, EndsReply, HeardTo, HeardUpTo, HearsTo, IsNoMessage, ReplyEnd, Ended, Refused as EndsRefused, Bad, Cut, TooLong as EndsTooLong, TooMany as EndsTooMany}
+use Rattle.relay_sync.specs.Replies.{IsBroken, IsMessage, IsMessageFront}
+use Rattle.relay_sync.specs.Syncing.{HearsPartly, HearsReply, StopsFor}
+use Rattle.relay_sync.specs.declared.message.Message.{Message}
+use Rattle.relay_sync.specs.declared.message.Message.TheVariants.{End, Operation, Refusal}
+use Rattle.relay_sync.specs.declared.sync_fault.SyncFault.{SyncFault}
+use Rattle.relay_sync.specs.declared.sync_fault.SyncFault.TheVariants.{BadReply, CutShort, NoMemory, RelayRefused, TooLong, TooMany, WireFault}
+use Rattle.relay_sync.proofs.OutcomeLemmas.{begins_no_front, reply_comes_once}
+
+-- bytes that broke off a message are none, however they go on
+broken_is_none : (bytes behind : List ℕ) → IsBroken bytes → IsNoMessage (bytes ++ behind)
+broken_is_none bytes behind b = record { none_begins = λ message p. by_fronts message p (two_fronts bytes behind p.whole p.behind p.split); no_front = no_front }
+  where
+    no_front : IsMessageFront (bytes ++ behind) → ⊥
+    no_front f = b.no_front (record {
+      message = f.message;
+      whole = f.whole;
+      is_message = f.is_message;
+      more = behind ++ f.more;
+      lacks = omega (arith, f.lacks, length-append behind f.more);
+      front = f.front ∙ append_assoc bytes behind f.more;
+    })
+
+    -- a message that these bytes go past
+    gone_past : (message : Message) (whole between : List ℕ) → IsMessage message whole → 0 < length between → bytes ≡ whole ++ between → ⊥
+    gone_past message whole between is some split = by_fronts (two_fronts b.before (b.byte ∷ []) whole between same)
+      where
+        same : b.before ++ b.byte ∷ [] ≡ whole ++ between
+        same = sym b.bytes_are ∙ split
+
+        not_before : (more : List ℕ) → b.before ≡ whole ++ more → ⊥
+        not_before more is_front = begins_no_front message b.before (record { whole = whole; is_message = is; behind = more; split = is_front }) b.was_front
+
+        by_rest : (c : List ℕ) → whole ≡ b.before ++ c → ⊥
+        by_rest [] all = not_before [] (sym (append-nil b.before) ∙ sym all ∙ sym (append-nil whole))
+        by_rest (x ∷ c) all =
+            omega (arith, some, ap length same, ap length all, length-append b.before (b.byte ∷ []), length-append whole between, length-append b.before (x ∷ c))
+
+        by_fronts : Reaches b.before whole ⊎ FallsShort b.before whole → ⊥
+        by_fronts (inl r) = by_rest r.between r.is
+        by_fronts (inr f) = not_before f.between f.is
+
+    reached : (message : Message) (whole c : List ℕ) → IsMessage message whole → whole ≡ bytes ++ c → ⊥
+    reached message whole [] is all = b.no_message message (subst (IsMessage message) (all ∙ append-nil bytes) is)
+    reached message whole (x ∷ c) is all = b.no_front (record { message = message; whole = whole; is_message = is; more = x ∷ c; lacks = omega arith; front = all })
+
+    by_fronts : (message : Message) (p : BeginsWith message (bytes ++ behind)) → Reaches bytes p.whole ⊎ FallsShort bytes p.whole → ⊥
+    by_fronts message p (inl r) = reached message p.whole r.between p.is_message r.is
+    by_fronts message p (inr f) = gone_past message p.whole f.between p.is_message f.some f.is
+
+module _ (before middle after : Taking) (ops : List Op) (have : All HasFrame ops) (takes : TakesIn before middle ops) (same : after ≡ middle) where
+  abbrev now : Held
+  now = held_from before.replica.hold before.replica.most before.replica.held ops
+
+  -- an end behind the operations
+  comes_to : (bytes rest : List ℕ) (end : ReplyEnd) → take STREAM_LIMIT bytes ≡ frames ops ++ rest
+      → EndsReply before.replica.hold before.replica.most now (length bytes) (length (frames ops)) rest end → HearsTo bytes before after end
+  comes_to bytes rest end split ends = record {
+    ops = ops;
+    comes = record { have_frames = have; has_place = takes.has_place; rest = rest; split = split; ends = ends };
+    takes = subst (λ (t : Taking). TakesIn before t ops) (sym same) takes;
+  }
+
+  module _ (bytes more : List ℕ) (within : length (frames ops) + length bytes ≤ STREAM_LIMIT) where
+    -- the bytes with what stands behind them up to the limit
+    abbrev on : List ℕ
+    on = take (STREAM_LIMIT - length (frames ops ++ bytes)) more
+
+    split_on : take STREAM_LIMIT ((frames ops ++ bytes) ++ more) ≡ frames ops ++ (bytes ++ on)
+    split_on =
+        take_past (frames ops ++ bytes) more STREAM_LIMIT (length (frames ops ++ bytes)) refl (omega (arith, within, length-append (frames ops) bytes))
+        ∙ append_assoc (frames ops) bytes on
+
+    begins_on : (message : Message) → IsMessage message bytes → BeginsWith message (bytes ++ on)
+    begins_on message is = record { whole = bytes; is_message = is; behind = on; split = refl }
+
+    pub comes_to_end : (count : ℕ) → IsMessage (End count) bytes → HearsTo ((frames ops ++ bytes) ++ more) before after (Ended count)
+    comes_to_end count is = comes_to ((frames ops ++ bytes) ++ more) (bytes ++ on) (Ended count) split_on (begins_on (End count) is)
+
+    comes_to_refusal : (code : ℕ) → IsMessage (Refusal code) bytes → HearsTo ((frames ops ++ bytes) ++ more) before after (EndsRefused code)
+    comes_to_refusal code is = comes_to ((frames ops ++ bytes) ++ more) (bytes ++ on) (EndsRefused code) split_on (begins_on (Refusal code) is)
+
+    comes_to_none : (at : ℕ) → at ≡ length (frames ops) → IsBroken bytes → HearsTo ((frames ops ++ bytes) ++ more) before after (Bad at)
+    comes_to_none at is broken = comes_to ((frames ops ++ bytes) ++ more) (bytes ++ on) (Bad at) split_on (is, broken_is_none bytes on broken)
+
+    comes_to_many : (op : Op) → IsMessage (Operation op) bytes → answer middle.replica.hold middle.replica.most middle.replica.held op ≡ AnswersTooMany
+        → HearsTo ((frames ops ++ bytes) ++ more) before after EndsTooMany
+    comes_to_many op is many =
+        comes_to ((frames ops ++ bytes) ++ more) (bytes ++ on) EndsTooMany split_on
+        (op, begins_on (Operation op) is, ap (λ (s : State). answer s.hold s.most s.held op) (sym takes.replica) ∙ many)
+
+    comes_to_cut : (at : ℕ) → at ≡ length (frames ops) → IsMessageFront bytes → more ≡ [] → HearsTo ((frames ops ++ bytes) ++ more) before after (Cut at)
+    comes_to_cut at is front none =
+        let size : length ((frames ops ++ bytes) ++ more) ≤ STREAM_LIMIT = omega (arith, within, ap length none, length-append (frames ops ++ bytes) more, length-append (frames ops) bytes) in
+        let all : (frames ops ++ bytes) ++ more ≡ frames ops ++ bytes = ap (λ (l : List ℕ). (frames ops ++ bytes) ++ l) none ∙ append-nil (frames ops ++ bytes) in
+        comes_to ((frames ops ++ bytes) ++ more) bytes (Cut at) (take_all STREAM_LIMIT ((frames ops ++ bytes) ++ more) size ∙ all) (is, size, front)
+
+  comes_to_long : (bytes more front : List ℕ) (byte : ℕ) → bytes ≡ front ++ byte ∷ [] → IsMessageFront front → length (frames ops) + length front ≡ STREAM_LIMIT
+      → HearsTo ((frames ops ++ bytes) ++ more) before after EndsTooLong
+  comes_to_long bytes more front byte is partial full =
+      let all : (frames ops ++ bytes) ++ more ≡ (frames ops ++ front) ++ byte ∷ more = ap (λ (l : List ℕ). (frames ops ++ l) ++ more) is ∙ regroup (frames ops) front byte more in
+      let size : length (frames ops ++ front) ≡ STREAM_LIMIT = length-append (frames ops) front ∙ full in
+      comes_to ((frames ops ++ bytes) ++ more) front EndsTooLong (ap (take STREAM_LIMIT) all ∙ take_at (frames ops ++ front) (byte ∷ more) STREAM_LIMIT size)
+      (omega (arith, ap length all, size, length-append (frames ops ++ front) (byte ∷ more)), partial)
+    where
+      regroup : (a b : List ℕ) (x : ℕ) (c : List ℕ) → (a ++ (b ++ x ∷ [])) ++ c ≡ (a ++ b) ++ x ∷ c
+      regroup a b x c = simp append_assoc
+
+pub reply_heard : (old new : WireView) (before after : Taking) (count : ℕ) → HearsReply old new before after count → HeardTo old.left before after (Ended count)
+reply_heard old new before after count h =
+    shows (λ (bytes : List ℕ). HearsTo bytes before after (Ended count)) (frames h.ops ++ h.last) new.left old.left h.hears.heard
+    (λ more is. comes_to_end before after after h.ops h.have_frames h.takes refl h.last more (omega (arith, h.within, length-append (frames h.ops) h.last)) count h.ends)
+
+pub reply_up_to : (fault : SyncFault) (old new : WireView) (before after : Taking) → HearsPartly fault old new before after → HeardUpTo fault old.left before after
+reply_up_to fault old new before after h = by_fault fault h.stops
+  where
+    told : (end : ReplyEnd) → ((more : List ℕ) → new.left ≡ Some more → HearsTo ((frames h.ops ++ h.bytes) ++ more) before after end) → HeardTo old.left before after end
+    told end comes = shows (λ (bytes : List ℕ). HearsTo bytes before after end) (frames h.ops ++ h.bytes) new.left old.left h.hears.heard comes
+
+    by_fault : (fault : SyncFault) → StopsFor fault old new h.middle after (length (frames h.ops)) h.bytes → HeardUpTo fault old.left before after
+    by_fault WireFault s = tt
+    by_fault NoMemory s = tt
+    by_fault (RelayRefused code) s =
+        told (EndsRefused code) (λ more is. comes_to_refusal before h.middle after h.ops h.have_frames h.takes s.0 h.bytes more s.2 code s.1)
+    by_fault (TooMany most) s =
+        told EndsTooMany (λ more is. comes_to_many before h.middle after h.ops h.have_frames h.takes s.0 h.bytes more s.4 s.2 s.3 s.5)
+    by_fault (BadReply at) s =
+        told (Bad at) (λ more is. comes_to_none before h.middle after h.ops h.have_frames h.takes s.0 h.bytes more s.1.2 at s.1.0 s.1.1)
+    by_fault (CutShort at) s = told (Cut at) (λ more is.
+        comes_to_cut before h.middle after h.ops h.have_frames h.takes s.0 h.bytes more s.1.3 at s.1.0 s.1.1 (some_is (λ (l : List ℕ). l ≡ []) new.left more s.1.2 is))
+    by_fault TooLong s =
+        told EndsTooLong (λ more is. comes_to_long before h.middle after h.ops h.have_frames h.takes s.0 h.bytes more s.1.0 s.1.1 s.1.2 s.1.3 s.1.4)
+
+pub reply_same : (bytes : List ℕ) (before after others : Taking) (end other : ReplyEnd) → HearsTo bytes before after end → HearsTo bytes before others other
+    → (after ≡ others) × (end ≡ other)
+reply_same bytes before after others end other p q =
+    let s : State = before.replica in
+    let same = reply_comes_once s.hold s.most s.held bytes p.ops q.ops end other p.comes q.comes in (
+      same_taking after others (p.takes.replica ∙ ap (λ (x : List Op). record s { held = held_from s.hold s.most s.held x }) same.0 ∙ sym q.takes.replica)
+          (p.takes.counts ∙ ap (λ (x : List Op). tally_from s.hold s.most s.held x before.counts) same.0 ∙ sym q.takes.counts)
+          (p.takes.kept ∙ ap (λ (x : List Op). before.kept ++ kept_from s.hold s.most s.held x) same.0 ∙ sym q.takes.kept),
+      same.1,
+    )
+
+-- the same behind what was said
+pub heard_behind : (said old new : WireView) (before after : Taking) (count : ℕ) → old.left ≡ said.left → HearsReply old new before after count → HeardTo said.left before after (Ended count)
+heard_behind said old new before after count same h =
+    subst (λ (told : Option (List ℕ)). HeardTo told before after (Ended count)) same (reply_heard old new before after count h)
+
+pub up_to_behind : (fault : SyncFault) (said old new : WireView) (before after : Taking) → old.left ≡ said.left → HearsPartly fault old new before after → HeardUpTo fault said.left before after
+up_to_behind fault said old new before after same h =
+    subst (λ (told : Option (List ℕ)). HeardUpTo fault told before after) same (reply_up_to fault old new before after h)

@@ -1,0 +1,92 @@
+-- What a reply comes to whose operations are taken in, from a state and within limits: how it ends, and what was taken in until then.
+use Rattle.std.specs.Prelude.{◌≡◌, ℕ, ◌<◌, ◌≤◌, All, IfSome, List, ◌++◌, length, take, Option, Some, None}
+use Rattle.fugue_ids.specs.declared.limits.TheConstants.{STREAM_LIMIT}
+use Rattle.fugue_ids.specs.declared.op.Op.{Op}
+use Rattle.origin_model.specs.frames.Frames.{HasFrame, frames}
+use Rattle.origin_model.specs.taking.Taking.{Held, HasPlace, TooMany as AnswersTooMany, answer, held_from}
+use Rattle.outer_ports.specs.wire.Wires.{WireView}
+use Rattle.replica_core.specs.Keeping.{TakesIn, Taking}
+use Rattle.relay_sync.specs.Replies.{IsMessage, IsMessageFront}
+use Rattle.relay_sync.specs.Syncing.{HearsPartly, HearsReply}
+use Rattle.relay_sync.specs.declared.message.Message.{Message}
+use Rattle.relay_sync.specs.declared.message.Message.TheVariants.{End, Operation, Refusal}
+use Rattle.relay_sync.specs.declared.sync_fault.SyncFault.{SyncFault}
+use Rattle.relay_sync.specs.declared.sync_fault.SyncFault.TheVariants as sync_fault
+
+-- how a reply ends
+pub data ReplyEnd : Type 0 where
+  -- by the message that ends it, with the length of the log
+  Ended : ℕ → ReplyEnd
+  -- by a refusal, with its code
+  Refused : ℕ → ReplyEnd
+  -- at a place where the bytes are no message, however they go on
+  Bad : ℕ → ReplyEnd
+  -- at the place of a message that doesn't come, or not whole
+  Cut : ℕ → ReplyEnd
+  -- the reply goes on past its limit, and up to there it has neither an end nor a fault
+  TooLong : ReplyEnd
+  -- one operation more came than can be held
+  TooMany : ReplyEnd
+
+-- the message is a front of the bytes
+pub record BeginsWith (message : Message) (bytes : List ℕ) : Type 0 where
+  pub whole : List ℕ
+  pub is_message : IsMessage message whole
+  pub behind : List ℕ
+  pub split : bytes ≡ whole ++ behind
+
+-- no message is a front of the bytes, and they are no front of a message
+pub record IsNoMessage (bytes : List ℕ) : Type 0 where
+  pub none_begins : (message : Message) → BeginsWith message bytes → ⊥
+  pub no_front : IsMessageFront bytes → ⊥
+
+-- How the rest behind the operations ends a reply of so many bytes. The rest goes up to the limit, and what stands behind a message there counts for nothing.
+abbrev pub EndsReply : (hold most : ℕ) (now : Held) (size place : ℕ) → List ℕ → ReplyEnd → Type 0
+EndsReply hold most now size place rest (Ended count) = BeginsWith (End count) rest
+EndsReply hold most now size place rest (Refused code) = BeginsWith (Refusal code) rest
+EndsReply hold most now size place rest (Bad at) = (at ≡ place) × IsNoMessage rest
+EndsReply hold most now size place rest (Cut at) = (at ≡ place) × (size ≤ STREAM_LIMIT) × IsMessageFront rest
+EndsReply hold most now size place rest TooLong = (STREAM_LIMIT < size) × IsMessageFront rest
+EndsReply hold most now size place rest TooMany = (op : Op) × BeginsWith (Operation op) rest × (answer hold most now op ≡ AnswersTooMany)
+
+-- the bytes come to this end, and the operations were taken in before it
+pub record ReplyComes (hold most : ℕ) (start : Held) (bytes : List ℕ) (ops : List Op) (end : ReplyEnd) : Type 0 where
+  pub have_frames : All HasFrame ops
+  pub has_place : HasPlace hold most start ops
+  pub rest : List ℕ
+  pub split : take STREAM_LIMIT bytes ≡ frames ops ++ rest
+  pub ends : EndsReply hold most (held_from hold most start ops) (length bytes) (length (frames ops)) rest end
+
+-- the same, and what a replica that takes the operations in comes to
+pub record HearsTo (bytes : List ℕ) (before after : Taking) (end : ReplyEnd) : Type 0 where
+  pub ops : List Op
+  pub comes : ReplyComes before.replica.hold before.replica.most before.replica.held bytes ops end
+  pub takes : TakesIn before after ops
+
+-- the end that a fault tells, where the bytes decide it
+abbrev pub end_of : SyncFault → Option ReplyEnd
+end_of (sync_fault.BadReply at) = Some (Bad at)
+end_of (sync_fault.CutShort at) = Some (Cut at)
+end_of (sync_fault.RelayRefused code) = Some (Refused code)
+end_of sync_fault.TooLong = Some TooLong
+end_of (sync_fault.TooMany most) = Some TooMany
+end_of sync_fault.WireFault = None
+end_of sync_fault.NoMemory = None
+
+-- what was heard of bytes that are told
+abbrev pub HeardTo : Option (List ℕ) → (before after : Taking) → ReplyEnd → Type 0
+HeardTo told before after end = IfSome told (λ bytes. HearsTo bytes before after end)
+
+-- the same up to a fault
+abbrev pub HeardUpTo : SyncFault → Option (List ℕ) → (before after : Taking) → Type 0
+HeardUpTo fault told before after = IfSome (end_of fault) (HeardTo told before after)
+
+-- all bytes come to exactly one end, and what is heard of them is what they come to
+pub record RepliesComeOnce : Type 0 where
+  pub one : (hold most : ℕ) (start : Held) (bytes : List ℕ) (ops others : List Op) (end other : ReplyEnd)
+      → ReplyComes hold most start bytes ops end → ReplyComes hold most start bytes others other → (ops ≡ others) × (end ≡ other)
+  pub some : (hold most : ℕ) (start : Held) (bytes : List ℕ) → (ops : List Op) × (end : ReplyEnd) × ReplyComes hold most start bytes ops end
+  pub heard : (old new : WireView) (before after : Taking) (count : ℕ) → HearsReply old new before after count → HeardTo old.left before after (Ended count)
+  pub up_to : (fault : SyncFault) (old new : WireView) (before after : Taking) → HearsPartly fault old new before after → HeardUpTo fault old.left before after
+  pub same : (bytes : List ℕ) (before after others : Taking) (end other : ReplyEnd) → HearsTo bytes before after end → HearsTo bytes before others other
+      → (after ≡ others) × (end ≡ other)
