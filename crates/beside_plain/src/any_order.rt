@@ -1,7 +1,7 @@
 //! Every stream of up to five operations of a small pool, taken in one after another, against the closure of its operations.
 
-use crate::lines::Line::{Delete, Section, Text};
-use crate::lines::{Line, NONE, SECTION, op};
+use crate::op_lines::Line::{Delete, Section, Text};
+use crate::op_lines::{Line, NONE, SECTION, op};
 use crate::plain::Plain;
 use fugue_ids::Op;
 use origin_model::{PlainReplica, Verdict};

@@ -5,7 +5,7 @@ ghost use Rattle.origin_model.specs.operations.Verdict.{verdict};
 ghost use Rattle.origin_model.specs.declared.operations.verdict.Verdict.TheVariants.{Ready};
 ghost use Rattle.section_catalogue.specs.Manuscript.{StandsFor};
 
-use crate::lines::{Line, op};
+use crate::op_lines::{Line, op};
 use fugue_ids::{NoMemory, Op};
 use origin_model::{PlainReplica, Verdict};
 use section_catalogue::Manuscript;

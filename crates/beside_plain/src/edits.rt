@@ -1,7 +1,7 @@
 //! Edits of a replica: what they answer, make and show, by value.
 
-use crate::lines::Line::{Delete, Section, Text};
-use crate::lines::{Line, NONE, SECTION, T, id, op};
+use crate::op_lines::Line::{Delete, Section, Text};
+use crate::op_lines::{Line, NONE, SECTION, T, id, op};
 use crate::replicas::feed_one;
 use fugue_ids::Title;
 use outer_ports::MemSink;

@@ -8,11 +8,13 @@ mod beside;
 #[cfg(test)]
 mod edits;
 #[cfg(test)]
-mod lines;
+mod interleaved;
 #[cfg(test)]
 mod made;
 #[cfg(test)]
 mod manuscripts;
+#[cfg(test)]
+mod op_lines;
 #[cfg(test)]
 mod plain;
 #[cfg(test)]

@@ -1,8 +1,8 @@
 //! A manuscript lists, shows and prints what the plain replica does.
 
 use crate::beside::{Beside, filled};
-use crate::lines::Line::{Delete, Section, Text};
-use crate::lines::{A, B, BACKWARDS, D, HIDDEN, Line, NONE, OTHER, SECTION, T, X, Y, id};
+use crate::op_lines::Line::{Delete, Section, Text};
+use crate::op_lines::{A, B, BACKWARDS, D, HIDDEN, Line, NONE, OTHER, SECTION, T, X, Y, id};
 use fugue_ids::ElementId;
 use origin_model::Place;
 use outer_ports::MemSink;

@@ -1,7 +1,7 @@
 //! The replica beside the plain one, on one pool of operations in many orders.
 
-use crate::lines::Line::{Delete, Section, Text};
-use crate::lines::{Line, NONE, SECTION, op};
+use crate::op_lines::Line::{Delete, Section, Text};
+use crate::op_lines::{Line, NONE, SECTION, op};
 use crate::plain::Plain;
 use crate::replicas::feed_one;
 use outer_ports::MemSink;

@@ -3,8 +3,8 @@
 ghost use Rattle.std.specs.Prelude.{◌<◌, IsTrue};
 ghost use Rattle.replica_core.specs.Told.{StaysBelow};
 
-use crate::lines::Line::{Delete, Text};
-use crate::lines::{A, B, D, Line, NONE, SECTION, T, X, Y, id, op};
+use crate::op_lines::Line::{Delete, Text};
+use crate::op_lines::{A, B, D, Line, NONE, SECTION, T, X, Y, id, op};
 use fugue_ids::Op;
 use outer_ports::MemSink;
 use replica_core::{DeliverFault, NewFault, Replica, Settled, Taken, Tally};

@@ -1,7 +1,7 @@
 //! The worked examples, in every order in which each operation is Ready on those before it.
 
-use crate::lines::Line::Text;
-use crate::lines::{A, B, BACKWARDS, D, HIDDEN, Line, NONE, SECTION, T, X, Y, op};
+use crate::op_lines::Line::Text;
+use crate::op_lines::{A, B, BACKWARDS, D, HIDDEN, Line, NONE, SECTION, T, X, Y, op};
 use crate::replicas::{all_accepted, shows};
 use origin_model::{PlainReplica, Verdict};
 use std::alloc::Global;
@@ -83,7 +83,7 @@ fn count_ready(
 
 #[test]
 fn every_ready_order_shows_the_text(rt: HostRuntime) -> Result<(), Fail> {
-    let rows: [(&[Line], usize, u32, &'static str); 5] = [
+    let rows: [(&[Line], usize, u32, &'static str); 6] = [
         (&[T, B, A, D, X, Y], 720, 5, "# T\nAXYDB\n"),
         (HIDDEN, 40_320, 96, "# T\nAXY\n"),
         (BACKWARDS, 120, 2, "# T\nPQVZ\n"),
@@ -104,6 +104,19 @@ fn every_ready_order_shows_the_text(rt: HostRuntime) -> Result<(), Fail> {
                 T,
                 Text((1, 0), SECTION, NONE, NONE, 'b'),
                 Text((1, 1), SECTION, NONE, (1, 0), 'a'),
+                Text((2, 0), SECTION, NONE, NONE, 'y'),
+                Text((2, 1), SECTION, NONE, (2, 0), 'x'),
+            ],
+            120,
+            6,
+            "# T\nabxy\n",
+        ),
+        // One passage was written forwards, and the other backwards.
+        (
+            &[
+                T,
+                Text((1, 0), SECTION, NONE, NONE, 'a'),
+                Text((1, 1), SECTION, (1, 0), NONE, 'b'),
                 Text((2, 0), SECTION, NONE, NONE, 'y'),
                 Text((2, 1), SECTION, NONE, (2, 0), 'x'),
             ],

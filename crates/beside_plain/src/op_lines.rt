@@ -1,4 +1,4 @@
-//! The lines of tables, which stand for operations.
+//! Lines that stand for operations, each with its section, of which the tables are made.
 
 use fugue_ids::{ElementId, Op, Title};
 use std::alloc::Global;

@@ -1,0 +1,7 @@
+pub mod DeliveryLemmas
+pub mod PoolLemmas
+pub mod EffectLemmas
+pub mod WorldLemmas
+pub mod CallLemmas
+pub mod ListLawLemmas
+mod Examples

@@ -1,0 +1,54 @@
+-- The laws of worlds: one order for all replicas at all moments, and edits that land where they were asked.
+use Rattle.std.proofs.Common.{List, [], ap, subst, sym, ◌∷◌, ◌≡◌}
+use Rattle.std.specs.Prelude.{AllPairs, None, filter, not}
+use Rattle.std.proofs.lemmas.List.Elements.{All-weaker}
+use Rattle.std.proofs.lemmas.List.Kept.{AllPairs-cons}
+use Rattle.fugue_ids.specs.declared.op.Op.{Op}
+use Rattle.fugue_ids.proofs.ListLemmas.{all_pairs_nil}
+use Rattle.origin_model.specs.operations.Verdict.{Lawful}
+use Rattle.origin_model.specs.order.Laws.{IsPartOf}
+use Rattle.origin_model.specs.order.Printed.{is_hidden}
+use Rattle.origin_model.proofs.SharedLemmas.{parts_keep_order, when_ready}
+use Rattle.replica_core.specs.State.{HaveOtherIds, State}
+use Rattle.replica_core.specs.Edits.{refusal}
+use Rattle.replica_core.proofs.StandingLemmas.{other_ids}
+use Rattle.list_spec.specs.StrongList.{EditsLand, IsOneList, IsView, Lands, StrongList}
+use Rattle.list_spec.specs.Worlds.{World, after_events, world}
+use Rattle.list_spec.proofs.EffectLemmas.{edit_lands}
+use Rattle.list_spec.proofs.WorldLemmas.{IsMember, events_further, events_keep, events_sound, world_sound}
+
+-- no two operations of a lawful history have one identifier
+lawful_own : (h : List Op) → Lawful h → AllPairs HaveOtherIds h
+lawful_own [] w = all_pairs_nil HaveOtherIds
+lawful_own (op ∷ h) w = AllPairs-cons HaveOtherIds op h (other_ids h op (when_ready h op w.0).fresh) (lawful_own h w.1)
+
+-- a lawful part of a pool is a view of it
+part_view : (pool h : List Op) → Lawful pool → Lawful h → IsPartOf h pool → IsView pool h
+part_view pool h w v part =
+    record {
+      lawful = v;
+      part = part;
+      same_order = λ p. (parts_keep_order p h pool v w part).same_order;
+      shows = λ p. ap (filter (λ x. not (is_hidden h x))) (parts_keep_order p h pool v w part).same_order;
+    }
+
+-- one order for all replicas at all moments
+pub strong_list : StrongList
+strong_list replicas earlier later new =
+    let now : World = world replicas earlier in
+    let then : World = after_events now later in
+    let sound = world_sound replicas earlier new in
+    let lawful : Lawful then.pool = (events_sound now later sound).lawful in
+    subst (λ (w : World). IsOneList w.pool now.replicas) (sym (events_further (record { replicas = replicas; pool = [] }) earlier later))
+    (record {
+      lawful = lawful;
+      own_ids = lawful_own then.pool lawful;
+      views = All-weaker (IsMember now.pool) (λ (s : State). IsView then.pool s.held.history)
+          (λ s m. part_view then.pool s.held.history lawful m.lawful (λ x k. events_keep now later x (m.history_part x k))) now.replicas sound.members;
+    })
+
+-- an edit that is not refused lands where it was asked
+pub edits_land : EditsLand
+edits_land replicas events command new =
+    let w : World = world replicas events in
+    All-weaker (IsMember w.pool) (λ (s : State). refusal s command ≡ None → Lands command s) (λ s m e. edit_lands command s m.lawful e) w.replicas (world_sound replicas events new).members

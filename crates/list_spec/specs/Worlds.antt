@@ -1,0 +1,69 @@
+-- Worlds: replicas that authors edit, and to which the operations that were made are delivered, in whatever order and however often.
+-- A history and a pool are newest first.
+use Rattle.std.specs.Prelude.{◌≡◌, ◌≢◌, ℕ, nat_eq, if◌then◌else◌, Some, None, List, [], ◌∷◌, map, flat_map, All, AllPairs}
+use Rattle.fugue_ids.specs.declared.op.Op.{Op}
+use Rattle.origin_model.specs.operations.History.{has_op}
+use Rattle.origin_model.specs.taking.Taking.{intake, nothing}
+use Rattle.origin_model.specs.edits.Edits.{Command}
+use Rattle.replica_core.specs.State.{State}
+use Rattle.replica_core.specs.Edits.{made_by, refusal, with_ops}
+
+-- what happens in a world, one at a time
+pub data Event : Type 0 where
+  -- the author of the replica with this number edits
+  Edit : (number : ℕ) → Command → Event
+  -- an operation reaches that replica
+  Deliver : (number : ℕ) → Op → Event
+
+-- the replicas, and the pool: every operation that was ever made, once
+pub record World : Type 0 where
+  pub replicas : List State
+  pub pool : List Op
+
+abbrev pub numbers : List State → List ℕ
+numbers replicas = map (λ (s : State). s.number) replicas
+
+-- replicas with distinct numbers that hold nothing yet
+pub record AreNew (replicas : List State) : Type 0 where
+  pub distinct : AllPairs (λ m n. m ≢ n) (numbers replicas)
+  pub empty : All (λ (s : State). s.held ≡ nothing) replicas
+
+-- the operations of an edit: none where it is refused
+abbrev pub effect : State → Command → List Op
+effect s command = elim (refusal s command) [ None ↦ made_by s command | Some fault ↦ [] ]
+
+-- the replica behind an edit
+abbrev pub edited : Command → State → State
+edited command s = with_ops s (effect s command)
+
+-- the replica behind a delivery
+abbrev pub delivered : Op → State → State
+delivered op s = record s { held = intake s.hold s.most s.held op }
+
+-- the replicas where the one with this number changed
+abbrev pub changed : ℕ → (State → State) → List State → List State
+changed number change replicas = map (λ (s : State). if nat_eq s.number number then change s else s) replicas
+
+-- the operations that an edit makes at the replica with this number
+abbrev pub made_at : ℕ → Command → List State → List Op
+made_at number command replicas = flat_map (λ (s : State). if nat_eq s.number number then effect s command else []) replicas
+
+-- the pool with operations that it lacks, in the order in which they were made
+abbrev pub pooled : List Op → List Op → List Op
+pooled pool [] = pool
+pooled pool (op ∷ ops) = pooled (if has_op pool op then pool else op ∷ pool) ops
+
+-- the world behind an event; only what was made can be delivered
+abbrev pub after_event : World → Event → World
+after_event w (Edit number command) =
+    record { replicas = changed number (edited command) w.replicas; pool = pooled w.pool (made_at number command w.replicas) }
+after_event w (Deliver number op) =
+    if has_op w.pool op then record { replicas = changed number (delivered op) w.replicas; pool = w.pool } else w
+
+abbrev pub after_events : World → List Event → World
+after_events w [] = w
+after_events w (event ∷ events) = after_events (after_event w event) events
+
+-- the world of replicas behind events, begun with nothing made
+abbrev pub world : List State → List Event → World
+world replicas events = after_events (record { replicas = replicas; pool = [] }) events
