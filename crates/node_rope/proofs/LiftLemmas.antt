@@ -1,0 +1,60 @@
+-- The link over a rotation.
+use Rattle.std.proofs.Common.{◌≡◌, ℕ, ◌<◌, ◌⊎◌, inl, inr, true, false, cond, List, length, slice_set, Option, None, Some, refl, sym, ap, ◌∙◌, subst, arith}
+use Rattle.std.proofs.Math.ListN.{length-set}
+use Rattle.std.proofs.lemmas.Bool.Decides.{eqb_tells}
+use Rattle.node_rope.specs.declared.cells.Shape.{Shape}
+use Rattle.node_rope.specs.declared.cells.Link.{Link}
+use Rattle.node_rope.specs.Shapes.{shape_at, number_of}
+use Rattle.node_rope.specs.Walk.{moved}
+use Rattle.node_rope.specs.Turned.{leads, swapped, with_child}
+use Rattle.node_rope.proofs.WalkLemmas.{moved-other, moved-here, some-same, none-some}
+use Rattle.node_rope.proofs.RaiseLemmas.{set_same, set_other}
+
+pub length-with_child : (ss : List Shape) (o : Option Link) (p : ℕ) (c : Link) → length (with_child ss o p c) ≡ length ss
+length-with_child ss None p c = refl
+length-with_child ss (Some g) p c = length-set ss g.number _
+
+pub with_child-other : (ss : List Shape) (o : Option Link) (p : ℕ) (c : Link) (j : ℕ) → (number_of o ≡ Some j → ⊥) → shape_at (with_child ss o p c) j ≡ shape_at ss j
+with_child-other ss None p c j h = refl
+with_child-other ss (Some g) p c j h = set_other ss g.number j _ (λ e. h (ap Some (sym e)))
+
+pub with_child-same : (ss : List Shape) (o : Option Link) (p : ℕ) (c : Link) (j : ℕ) → number_of o ≡ Some j → j < length ss → shape_at (with_child ss o p c) j ≡ swapped (shape_at ss j) p c
+with_child-same ss None p c j e h = absurd (none-some j e)
+with_child-same ss (Some g) p c j e h =
+    let is = some-same g.number j e in
+    subst (λ (k : ℕ). shape_at (slice_set ss g.number (swapped (shape_at ss g.number) p c)) k ≡ swapped (shape_at ss k) p c) is
+    (set_same ss g.number _ (omega (arith, is, h)))
+
+pub leads-tells : (o : Option Link) (i : ℕ) → ((leads o i ≡ true) × (number_of o ≡ Some i)) ⊎ ((leads o i ≡ false) × (number_of o ≡ Some i → ⊥))
+leads-tells None i = inr (refl, none-some i)
+leads-tells (Some l) i = elim (eqb_tells l.number i) as (λ _. ((leads (Some l) i ≡ true) × (number_of (Some l) ≡ Some i)) ⊎ ((leads (Some l) i ≡ false) × (number_of (Some l) ≡ Some i → ⊥))) [
+  | inl e ↦ inl (e.0, ap Some e.1)
+  | inr e ↦ inr (e.0, λ f. e.1 (some-same l.number i f))
+]
+
+-- the new node over c: its links, with c in the place of p
+module _ (h : Shape) (p : ℕ) (c : Link) (has : (number_of h.left ≡ Some p) ⊎ (number_of h.right ≡ Some p)) (once : number_of h.left ≡ Some p → number_of h.right ≡ Some p → ⊥) where
+  pub swapped-left : number_of (swapped h p c).left ≡ moved p c.number (number_of h.left)
+  swapped-left = elim (leads-tells h.left p) as (λ _. number_of (swapped h p c).left ≡ moved p c.number (number_of h.left)) [
+    | inl e ↦ ap (λ b. number_of (cond b (record h { left = Some c }) (record h { right = Some c })).left) e.0 ∙ sym (moved-here p c.number) ∙ ap (moved p c.number) (sym e.1)
+    | inr e ↦ ap (λ b. number_of (cond b (record h { left = Some c }) (record h { right = Some c })).left) e.0 ∙ sym (moved-other p c.number (number_of h.left) e.1)
+  ]
+
+  pub swapped-right : number_of (swapped h p c).right ≡ moved p c.number (number_of h.right)
+  swapped-right = elim (leads-tells h.left p) as (λ _. number_of (swapped h p c).right ≡ moved p c.number (number_of h.right)) [
+    | inl e ↦ ap (λ b. number_of (cond b (record h { left = Some c }) (record h { right = Some c })).right) e.0 ∙ sym (moved-other p c.number (number_of h.right) (once e.1))
+    | inr e ↦ ap (λ b. number_of (cond b (record h { left = Some c }) (record h { right = Some c })).right) e.0 ∙ sym (moved-here p c.number)
+        ∙ ap (moved p c.number) (elim has as (λ _. Some p ≡ number_of h.right) [ inl f ↦ absurd (e.1 f) | inr f ↦ sym f ])
+  ]
+
+  pub swapped-rest : ((swapped h p c).parent ≡ h.parent) × ((swapped h p c).count ≡ h.count)
+  swapped-rest = elim (leads-tells h.left p) as (λ _. ((swapped h p c).parent ≡ h.parent) × ((swapped h p c).count ≡ h.count)) [
+    | inl e ↦ (ap (λ b. (cond b (record h { left = Some c }) (record h { right = Some c })).parent) e.0, ap (λ b. (cond b (record h { left = Some c }) (record h { right = Some c })).count) e.0)
+    | inr e ↦ (ap (λ b. (cond b (record h { left = Some c }) (record h { right = Some c })).parent) e.0, ap (λ b. (cond b (record h { left = Some c }) (record h { right = Some c })).count) e.0)
+  ]
+
+pub swapped-field : {X : Type 0} (f : Shape → X) → ((s : Shape) (q : Option Link) → f (record s { left = q }) ≡ f s) → ((s : Shape) (q : Option Link) → f (record s { right = q }) ≡ f s) → (h : Shape) (p : ℕ) (c : Link) → f (swapped h p c) ≡ f h
+swapped-field f l r h p c = elim (leads-tells h.left p) as (λ _. f (swapped h p c) ≡ f h) [
+  | inl e ↦ ap (λ b. f (cond b (record h { left = Some c }) (record h { right = Some c }))) e.0 ∙ l h (Some c)
+  | inr e ↦ ap (λ b. f (cond b (record h { left = Some c }) (record h { right = Some c }))) e.0 ∙ r h (Some c)
+]

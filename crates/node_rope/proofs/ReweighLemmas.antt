@@ -1,0 +1,302 @@
+-- One step of the climb that sums weights anew.
+use Rattle.std.proofs.Common.{◌≡◌, ◌≢◌, ◌⊎◌, inl, inr, ℕ, zero, suc, ◌+◌, ◌*◌, ◌-◌, min, ◌<◌, ◌≤◌, List, ◌∷◌, ◌++◌, length, slice_set, Option, None, Some, refl, sym, ap, ◌∙◌, subst, arith}
+use Rattle.node_rope.specs.declared.store.Store.{Store}
+use Rattle.node_rope.specs.declared.cells.Shape.{Shape}
+use Rattle.node_rope.specs.declared.cells.Link.{Link}
+use Rattle.node_rope.specs.declared.cells.Own.{Own}
+use Rattle.node_rope.specs.Made.{IsMade, IsKept, made_count, shapes_of}
+use Rattle.node_rope.specs.Shapes.{IsSound, shape_at, number_of, tree_of, weight_at, weigh, least_at, order}
+use Rattle.node_rope.specs.Walk.{Tree, count_of, walk, whole}
+use Rattle.node_rope.specs.Sums.{lesser, sum_of}
+use Rattle.node_rope.specs.Shapes.{leasts}
+use Rattle.node_rope.specs.Reweighed.{summed, IsStill, AreStill, SameOwns, IsTree, IsSoundBut}
+use Rattle.node_rope.proofs.WalkLemmas.{some-same, below-left, below-right, length-whole}
+use Rattle.node_rope.proofs.TurnLemmas.{same-or-not}
+use Rattle.node_rope.proofs.ShapeLemmas.{length-shapes, made-below, weight-sum, least-sum}
+use Rattle.node_rope.proofs.RaiseLemmas.{set_same, set_other}
+use Rattle.node_rope.proofs.ClimbLemmas.{weight-is}
+use Rattle.node_rope.proofs.LightLemmas.{bounded}
+
+pub still : (h : Shape) → IsStill h h
+still h = record { left = refl; right = refl; parent = refl; key = refl; count = refl }
+
+pub still-trans : (ss us ws : List Shape) → AreStill ss us → AreStill us ws → AreStill ss ws
+still-trans ss us ws f g i = let a = f i in let b = g i in record { left = b.left ∙ a.left; right = b.right ∙ a.right; parent = b.parent ∙ a.parent; key = b.key ∙ a.key; count = b.count ∙ a.count }
+
+pub sound-tree : {T : Type 0} (s : Store T) (root : Option Link) → IsSound s root → IsTree s root
+sound-tree s root r = record { counted = r.counted; linked = r.linked; top = r.top; crown = r.crown; below = r.below; made_left = r.made_left; made_right = r.made_right; made_parent = r.made_parent; made_root = r.made_root; small = r.small }
+
+pub tree-along : {T : Type 0} (s u : Store T) (root : Option Link) → AreStill (shapes_of s) (shapes_of u) → made_count u ≡ made_count s → IsKept s u → IsTree s root → IsTree u root
+tree-along s u root same count kept r = record {
+  counted = λ x. omega (arith, r.counted x, (same x).count, lefts x, rights x);
+  linked = record {
+    from_left = λ x m e. ap number_of (same m).parent ∙ r.linked.from_left x m (sym (ap number_of (same x).left) ∙ e);
+    from_right = λ x m e. ap number_of (same m).parent ∙ r.linked.from_right x m (sym (ap number_of (same x).right) ∙ e);
+    apart = λ x m e f. r.linked.apart x m (sym (ap number_of (same x).left) ∙ e) (sym (ap number_of (same x).right) ∙ f);
+  };
+  top = λ i h e. r.top i (omega (arith, h, count)) (sym (same i).parent ∙ e);
+  crown = λ i e. (same i).parent ∙ r.crown i e;
+  below = λ i p e. elim (r.below i p (sym (ap number_of (same i).parent) ∙ e)) as (λ _. (number_of (shape_at (shapes_of u) p).left ≡ Some i) ⊎ (number_of (shape_at (shapes_of u) p).right ≡ Some i)) [
+    | inl f ↦ inl (ap number_of (same p).left ∙ f)
+    | inr f ↦ inr (ap number_of (same p).right ∙ f)
+  ];
+  made_left = λ i m e. kept m (r.made_left i m (sym (same i).left ∙ e));
+  made_right = λ i m e. kept m (r.made_right i m (sym (same i).right ∙ e));
+  made_parent = λ i m e. kept m (r.made_parent i m (sym (same i).parent ∙ e));
+  made_root = λ m e. kept m (r.made_root m e);
+  small = λ i. omega (arith, (same i).count, r.small i, count);
+} where
+  counts : (o : Option ℕ) → count_of (tree_of (shapes_of u)) o ≡ count_of (tree_of (shapes_of s)) o
+  counts None = refl
+  counts (Some x) = (same x).count
+
+  lefts : (x : ℕ) → count_of (tree_of (shapes_of u)) (number_of (shape_at (shapes_of u) x).left) ≡ count_of (tree_of (shapes_of s)) (number_of (shape_at (shapes_of s) x).left)
+  lefts x = counts (number_of (shape_at (shapes_of u) x).left) ∙ ap (λ o. count_of (tree_of (shapes_of s)) (number_of o)) (same x).left
+
+  rights : (x : ℕ) → count_of (tree_of (shapes_of u)) (number_of (shape_at (shapes_of u) x).right) ≡ count_of (tree_of (shapes_of s)) (number_of (shape_at (shapes_of s) x).right)
+  rights x = counts (number_of (shape_at (shapes_of u) x).right) ∙ ap (λ o. count_of (tree_of (shapes_of s)) (number_of o)) (same x).right
+
+pub but-none : {T : Type 0} (s : Store T) (root : Option Link) → IsSoundBut s root None → IsSound s root
+but-none s root b = let r = b.tree in record {
+  counted = r.counted;
+  ranked = λ x. b.low x (λ e. no x e) ∙ (λ j. min (least-sum (shapes_of s) (shape_at (shapes_of s) x).left j) (min (shape_at (shapes_of s) x).own.rank (least-sum (shapes_of s) (shape_at (shapes_of s) x).right j)));
+  weighed = λ x. omega (arith, b.rest x (λ e. no x e), weight-sum (shapes_of s) (shape_at (shapes_of s) x).left, weight-sum (shapes_of s) (shape_at (shapes_of s) x).right);
+  linked = r.linked;
+  top = r.top;
+  crown = r.crown;
+  below = r.below;
+  made_left = r.made_left;
+  made_right = r.made_right;
+  made_parent = r.made_parent;
+  made_root = r.made_root;
+  small = r.small;
+} where
+  no : (x : ℕ) → None ≡ Some x → ⊥
+  no x e = cc
+
+pub heavy : (ss : List Shape) → ((i : ℕ) → (shape_at ss i).weight ≤ 4194304 * (shape_at ss i).count) → (o : Option Link) → weight_at ss o ≤ 4194304 * count_of (tree_of ss) (number_of o)
+heavy ss b None = omega arith
+heavy ss b (Some l) = b l.number
+
+pub sound-bound : {T : Type 0} (s : Store T) (root : Option Link) → IsSound s root → ((i : ℕ) → (shape_at (shapes_of s) i).own.weight < 4194305) → (i : ℕ) → (shape_at (shapes_of s) i).weight ≤ 4194304 * (shape_at (shapes_of s) i).count
+sound-bound s root r light i =
+    let b = bounded (shapes_of s) light (whole (tree_of (shapes_of s)) (Some i)) in
+    let l : length (whole (tree_of (shapes_of s)) (Some i)) ≡ (shape_at (shapes_of s) i).count = length-whole (tree_of (shapes_of s)) r.counted (Some i) in
+    let w : (shape_at (shapes_of s) i).weight ≡ weigh (shapes_of s) (whole (tree_of (shapes_of s)) (Some i)) = weight-is (shapes_of s) r.counted r.weighed (Some i) in
+    omega (arith, b, l, w)
+
+-- the weights at other nodes, where one is written
+weight-other : (ss us : List Shape) (x : ℕ) → ((i : ℕ) → i ≢ x → (shape_at us i).weight ≡ (shape_at ss i).weight) → (o : Option Link) → (number_of o ≡ Some x → ⊥) → weight_at us o ≡ weight_at ss o
+weight-other ss us x h None ne = refl
+weight-other ss us x h (Some l) ne = h l.number (λ e. ne (ap Some e))
+
+module _ {T : Type 0} (s u : Store T) (root : Option Link) (l : Link) (b : IsSoundBut s root (Some l)) (count : made_count u ≡ made_count s) (kept : IsKept s u)
+    (is : shapes_of u ≡ slice_set (shapes_of s) l.number (summed (shapes_of s) (shape_at (shapes_of s) l.number))) where
+  abbrev ss : List Shape
+  ss = shapes_of s
+
+  abbrev us : List Shape
+  us = shapes_of u
+
+  abbrev x : ℕ
+  x = l.number
+
+  abbrev sum : ℕ
+  sum = weight_at ss (shape_at ss x).left + ((shape_at ss x).own.weight + weight_at ss (shape_at ss x).right)
+
+  inside : x < length ss
+  inside = let h = made-below s l (b.here l refl) in omega (arith, h, length-shapes s)
+
+  pub here : shape_at us x ≡ summed ss (shape_at ss x)
+  here = ap (λ xs. shape_at xs x) is ∙ set_same ss x (summed ss (shape_at ss x)) inside
+
+  elsewhere : (i : ℕ) → i ≢ x → shape_at us i ≡ shape_at ss i
+  elsewhere i h = ap (λ xs. shape_at xs i) is ∙ set_other ss x i (summed ss (shape_at ss x)) h
+
+  pub step-still : AreStill ss us
+  step-still i = elim (same-or-not i x) as (λ _. IsStill (shape_at ss i) (shape_at us i)) [
+    | inl e ↦ subst (λ (j : ℕ). IsStill (shape_at ss j) (shape_at us j)) (sym e) (subst (λ h. IsStill (shape_at ss x) h) (sym here) (record { left = refl; right = refl; parent = refl; key = refl; count = refl }))
+    | inr e ↦ subst (λ h. IsStill (shape_at ss i) h) (sym (elsewhere i e)) (still (shape_at ss i))
+  ]
+
+  pub step-owns : SameOwns ss us
+  step-owns i = elim (same-or-not i x) as (λ _. (shape_at us i).own ≡ (shape_at ss i).own) [
+    | inl e ↦ ap (λ (j : ℕ). (shape_at us j).own) e ∙ ap (λ (h : Shape). h.own) here ∙ ap (λ (j : ℕ). (shape_at ss j).own) (sym e)
+    | inr e ↦ ap (λ (h : Shape). h.own) (elsewhere i e)
+  ]
+
+  other-least : (o : Option Link) → (number_of o ≡ Some x → ⊥) → least_at us o ≡ least_at ss o
+  other-least None h = refl
+  other-least (Some k) h = ap (λ (g : Shape). g.least) (elsewhere k.number (λ e. h (ap Some e)))
+
+  other : (o : Option Link) → (number_of o ≡ Some x → ⊥) → weight_at us o ≡ weight_at ss o
+  other = weight-other ss us x (λ i e. ap (λ (h : Shape). h.weight) (elsewhere i e))
+
+  not-own-left : number_of (shape_at ss x).left ≡ Some x → ⊥
+  not-own-left e = let h = below-left (tree_of ss) b.tree.counted x x e in omega (arith, h)
+
+  not-own-right : number_of (shape_at ss x).right ≡ Some x → ⊥
+  not-own-right e = let h = below-right (tree_of ss) b.tree.counted x x e in omega (arith, h)
+
+  step-rest : (i : ℕ) → (number_of (shape_at ss x).parent ≡ Some i → ⊥) → (shape_at us i).weight ≡ weight_at us (shape_at us i).left + ((shape_at us i).own.weight + weight_at us (shape_at us i).right)
+  step-rest i ne = elim (same-or-not i x) as (λ _. (shape_at us i).weight ≡ weight_at us (shape_at us i).left + ((shape_at us i).own.weight + weight_at us (shape_at us i).right)) [
+    | inl e ↦ subst (λ (j : ℕ). (shape_at us j).weight ≡ weight_at us (shape_at us j).left + ((shape_at us j).own.weight + weight_at us (shape_at us j).right)) (sym e)
+        (omega (arith, ap (λ (h : Shape). h.weight) here, ap (λ (h : Shape). h.own.weight) here, ap (λ (h : Shape). weight_at us h.left) here, ap (λ (h : Shape). weight_at us h.right) here, other (shape_at ss x).left not-own-left, other (shape_at ss x).right not-own-right))
+    | inr e ↦ (
+        let w = ap (λ (h : Shape). h.weight) (elsewhere i e) in
+        let o = ap (λ (h : Shape). h.own.weight) (elsewhere i e) in
+        let l' = ap (λ (h : Shape). weight_at us h.left) (elsewhere i e) in
+        let r' = ap (λ (h : Shape). weight_at us h.right) (elsewhere i e) in
+        let a = other (shape_at ss i).left (λ f. ne (b.tree.linked.from_left i x f)) in
+        let c = other (shape_at ss i).right (λ f. ne (b.tree.linked.from_right i x f)) in
+        let old = b.rest i (λ f. e (sym (some-same x i f))) in
+        omega (arith, w, o, l', r', a, c, old))
+  ]
+
+  abbrev IsLow : ℕ → Type 0
+  IsLow i = (shape_at us i).least ≡ min (least_at us (shape_at us i).left) (min (shape_at us i).own.rank (least_at us (shape_at us i).right))
+
+  low-here : IsLow x
+  low-here =
+      let left : least_at ss (shape_at ss x).left ≡ least_at us (shape_at us x).left = sym (ap (λ (h : Shape). least_at us h.left) here ∙ other-least (shape_at ss x).left not-own-left) in
+      let right : least_at ss (shape_at ss x).right ≡ least_at us (shape_at us x).right = sym (ap (λ (h : Shape). least_at us h.right) here ∙ other-least (shape_at ss x).right not-own-right) in
+      ap (λ (h : Shape). h.least) here ∙ (λ j. min (left j) (min (sym (ap (λ (h : Shape). h.own.rank) here) j) (right j)))
+
+  low-other : (i : ℕ) → i ≢ x → (number_of (shape_at ss x).parent ≡ Some i → ⊥) → IsLow i
+  low-other i e ne =
+      let left : least_at ss (shape_at ss i).left ≡ least_at us (shape_at us i).left = sym (ap (λ (h : Shape). least_at us h.left) (elsewhere i e) ∙ other-least (shape_at ss i).left (λ f. ne (b.tree.linked.from_left i x f))) in
+      let right : least_at ss (shape_at ss i).right ≡ least_at us (shape_at us i).right = sym (ap (λ (h : Shape). least_at us h.right) (elsewhere i e) ∙ other-least (shape_at ss i).right (λ f. ne (b.tree.linked.from_right i x f))) in
+      ap (λ (h : Shape). h.least) (elsewhere i e) ∙ b.low i (λ f. e (sym (some-same x i f))) ∙ (λ j. min (left j) (min (sym (ap (λ (h : Shape). h.own.rank) (elsewhere i e)) j) (right j)))
+
+  step-low : (i : ℕ) → (number_of (shape_at ss x).parent ≡ Some i → ⊥) → IsLow i
+  step-low i ne = elim (same-or-not i x) as (λ _. IsLow i) [ inl e ↦ subst IsLow (sym e) low-here | inr e ↦ low-other i e ne ]
+
+  pub fits : sum ≤ 4194304 * (shape_at ss x).count
+  fits = omega (arith, heavy ss b.bound (shape_at ss x).left, heavy ss b.bound (shape_at ss x).right, b.light x, b.tree.counted x)
+
+  pub step-but : IsSoundBut u root (shape_at ss x).parent
+  step-but = record {
+    tree = tree-along s u root step-still count kept b.tree;
+    rest = step-rest;
+    low = step-low;
+    light = λ i. omega (arith, b.light i, ap (λ o. o.weight) (step-owns i));
+    bound = λ i. elim (same-or-not i x) as (λ _. (shape_at us i).weight ≤ 4194304 * (shape_at us i).count) [
+      | inl e ↦ subst (λ (j : ℕ). (shape_at us j).weight ≤ 4194304 * (shape_at us j).count) (sym e) (omega (arith, fits, ap (λ (h : Shape). h.weight) here, ap (λ (h : Shape). h.count) here))
+      | inr e ↦ omega (arith, b.bound i, ap (λ (h : Shape). h.weight) (elsewhere i e), ap (λ (h : Shape). h.count) (elsewhere i e))
+    ];
+    few = omega (arith, b.few, count);
+    here = λ m e. kept m (b.tree.made_parent x m e);
+  }
+
+-- the sum fits
+pub but-fits : {T : Type 0} (s : Store T) (root : Option Link) (l : Link) → IsSoundBut s root (Some l) → weight_at (shapes_of s) (shape_at (shapes_of s) l.number).left + ((shape_at (shapes_of s) l.number).own.weight + weight_at (shapes_of s) (shape_at (shapes_of s) l.number).right) < 18446744073709551616
+but-fits s root l b =
+    let ss = shapes_of s in
+    omega (arith, heavy ss b.bound (shape_at ss l.number).left, heavy ss b.bound (shape_at ss l.number).right, b.light l.number, b.tree.counted l.number, b.tree.small l.number, b.few)
+
+-- the measure of the climb
+abbrev pub left_to_sum : ℕ → List Shape → Option Link → ℕ
+left_to_sum n hs None = 0
+left_to_sum n hs (Some l) = suc (suc n - (shape_at hs l.number).count)
+
+pub sums-nearer : {T : Type 0} (s u : Store T) (root : Option Link) (l : Link) (n : ℕ) → IsSoundBut s root (Some l) → AreStill (shapes_of s) (shapes_of u) → n ≡ made_count s → (o : Option Link) → (shape_at (shapes_of s) l.number).parent ≡ o → left_to_sum n (shapes_of u) o < left_to_sum n (shapes_of s) (Some l)
+sums-nearer s u root l n b same e None f = omega arith
+sums-nearer s u root l n b same e (Some p) f =
+    let up : (shape_at (shapes_of s) l.number).count < (shape_at (shapes_of s) p.number).count = elim (b.tree.below l.number p.number (ap number_of f)) as (λ _. (shape_at (shapes_of s) l.number).count < (shape_at (shapes_of s) p.number).count) [
+      | inl h ↦ below-left (tree_of (shapes_of s)) b.tree.counted p.number l.number h
+      | inr h ↦ below-right (tree_of (shapes_of s)) b.tree.counted p.number l.number h
+    ] in
+    omega (arith, up, (same p.number).count, b.tree.small p.number, e)
+
+walk-same : (t u : Tree) → ((x : ℕ) → u.left x ≡ t.left x) → ((x : ℕ) → u.right x ≡ t.right x) → (f : ℕ) (o : Option ℕ) → walk u f o ≡ walk t f o
+walk-same t u l r f None = refl
+walk-same t u l r zero (Some x) = refl
+walk-same t u l r (suc f) (Some x) =
+    ap (λ xs. xs ++ x ∷ walk u f (u.right x)) (ap (walk u f) (l x) ∙ walk-same t u l r f (t.left x)) ∙ ap (λ xs. walk t f (t.left x) ++ x ∷ xs) (ap (walk u f) (r x) ∙ walk-same t u l r f (t.right x))
+
+pub order-still : {T : Type 0} (s u : Store T) (root : Option Link) → AreStill (shapes_of s) (shapes_of u) → order u root ≡ order s root
+order-still s u root same = by (number_of root) where
+  by : (o : Option ℕ) → whole (tree_of (shapes_of u)) o ≡ whole (tree_of (shapes_of s)) o
+  by None = refl
+  by (Some x) = ap (λ f. walk (tree_of (shapes_of u)) f (Some x)) (same x).count ∙ walk-same (tree_of (shapes_of s)) (tree_of (shapes_of u)) (λ i. ap number_of (same i).left) (λ i. ap number_of (same i).right) (shape_at (shapes_of s) x).count (Some x)
+
+-- ---- a new weight of one node's own value
+module _ {T : Type 0} (s u : Store T) (root : Option Link) (at : Link) (w : Own) (sound : IsSound s root) (made : IsMade s at) (count : made_count u ≡ made_count s) (kept : IsKept s u) (is : shapes_of u ≡ slice_set (shapes_of s) at.number (record (shape_at (shapes_of s) at.number) { own = w })) where
+  own-inside : at.number < length (shapes_of s)
+  own-inside = let h = made-below s at made in omega (arith, h, length-shapes s)
+
+  own-there : shape_at (shapes_of u) at.number ≡ record (shape_at (shapes_of s) at.number) { own = w }
+  own-there = ap (λ xs. shape_at xs at.number) is ∙ set_same (shapes_of s) at.number (record (shape_at (shapes_of s) at.number) { own = w }) own-inside
+
+  own-elsewhere : (i : ℕ) → i ≢ at.number → shape_at (shapes_of u) i ≡ shape_at (shapes_of s) i
+  own-elsewhere i h = ap (λ xs. shape_at xs i) is ∙ set_other (shapes_of s) at.number i (record (shape_at (shapes_of s) at.number) { own = w }) h
+
+  pub own-still : AreStill (shapes_of s) (shapes_of u)
+  own-still i = elim (same-or-not i at.number) as (λ _. IsStill (shape_at (shapes_of s) i) (shape_at (shapes_of u) i)) [
+    | inl e ↦ subst (λ (j : ℕ). IsStill (shape_at (shapes_of s) j) (shape_at (shapes_of u) j)) (sym e) (subst (λ h. IsStill (shape_at (shapes_of s) at.number) h) (sym own-there) (record { left = refl; right = refl; parent = refl; key = refl; count = refl }))
+    | inr e ↦ subst (λ h. IsStill (shape_at (shapes_of s) i) h) (sym (own-elsewhere i e)) (still (shape_at (shapes_of s) i))
+  ]
+
+  own-weight : (i : ℕ) → (shape_at (shapes_of u) i).weight ≡ (shape_at (shapes_of s) i).weight
+  own-weight i = elim (same-or-not i at.number) as (λ _. (shape_at (shapes_of u) i).weight ≡ (shape_at (shapes_of s) i).weight) [
+    | inl e ↦ ap (λ (j : ℕ). (shape_at (shapes_of u) j).weight) e ∙ ap (λ (h : Shape). h.weight) own-there ∙ ap (λ (j : ℕ). (shape_at (shapes_of s) j).weight) (sym e)
+    | inr e ↦ ap (λ (h : Shape). h.weight) (own-elsewhere i e)
+  ]
+
+  own-weight-at : (o : Option Link) → weight_at (shapes_of u) o ≡ weight_at (shapes_of s) o
+  own-weight-at None = refl
+  own-weight-at (Some l) = own-weight l.number
+
+  own-least : (i : ℕ) → (shape_at (shapes_of u) i).least ≡ (shape_at (shapes_of s) i).least
+  own-least i = elim (same-or-not i at.number) as (λ _. (shape_at (shapes_of u) i).least ≡ (shape_at (shapes_of s) i).least) [
+    | inl e ↦ ap (λ (j : ℕ). (shape_at (shapes_of u) j).least) e ∙ ap (λ (h : Shape). h.least) own-there ∙ ap (λ (j : ℕ). (shape_at (shapes_of s) j).least) (sym e)
+    | inr e ↦ ap (λ (h : Shape). h.least) (own-elsewhere i e)
+  ]
+
+  own-least-at : (o : Option Link) → least_at (shapes_of u) o ≡ least_at (shapes_of s) o
+  own-least-at None = refl
+  own-least-at (Some l) = own-least l.number
+
+  own-low : (i : ℕ) → i ≢ at.number → (shape_at (shapes_of u) i).least ≡ min (least_at (shapes_of u) (shape_at (shapes_of u) i).left) (min (shape_at (shapes_of u) i).own.rank (least_at (shapes_of u) (shape_at (shapes_of u) i).right))
+  own-low i ne =
+      let e = own-elsewhere i ne in
+      let left : sum_of lesser (leasts (shapes_of s)) (number_of (shape_at (shapes_of s) i).left) ≡ least_at (shapes_of u) (shape_at (shapes_of u) i).left =
+      sym (ap (λ (h : Shape). least_at (shapes_of u) h.left) e ∙ own-least-at (shape_at (shapes_of s) i).left ∙ least-sum (shapes_of s) (shape_at (shapes_of s) i).left) in
+      let right : sum_of lesser (leasts (shapes_of s)) (number_of (shape_at (shapes_of s) i).right) ≡ least_at (shapes_of u) (shape_at (shapes_of u) i).right =
+      sym (ap (λ (h : Shape). least_at (shapes_of u) h.right) e ∙ own-least-at (shape_at (shapes_of s) i).right ∙ least-sum (shapes_of s) (shape_at (shapes_of s) i).right) in
+      own-least i ∙ sound.ranked i ∙ (λ j. min (left j) (min (sym (ap (λ (h : Shape). h.own.rank) e) j) (right j)))
+
+  pub own-here : (shape_at (shapes_of u) at.number).own ≡ w
+  own-here = ap (λ (h : Shape). h.own) own-there
+
+  pub own-others : (i : ℕ) → i ≢ at.number → (shape_at (shapes_of u) i).own ≡ (shape_at (shapes_of s) i).own
+  own-others i e = ap (λ (h : Shape). h.own) (own-elsewhere i e)
+
+  pub own-but : made_count s < 4194305 → ((i : ℕ) → (shape_at (shapes_of s) i).own.weight < 4194305) → w.weight < 4194305 → IsSoundBut u root (Some at)
+  own-but few light lt = record {
+    tree = tree-along s u root own-still count kept (sound-tree s root sound);
+    rest = λ i ne. (
+        let e = own-elsewhere i (λ f. ne (ap Some (sym f))) in
+        let a = own-weight-at (shape_at (shapes_of s) i).left in
+        let b = own-weight-at (shape_at (shapes_of s) i).right in
+        omega (
+          arith,
+          sound.weighed i,
+          weight-sum (shapes_of s) (shape_at (shapes_of s) i).left,
+          weight-sum (shapes_of s) (shape_at (shapes_of s) i).right,
+          a,
+          b,
+          ap (λ (h : Shape). h.weight) e,
+          ap (λ (h : Shape). h.own.weight) e,
+          ap (λ (h : Shape). weight_at (shapes_of u) h.left) e,
+          ap (λ (h : Shape). weight_at (shapes_of u) h.right) e,
+        ));
+    low = λ i ne. own-low i (λ f. ne (ap Some (sym f)));
+    light = λ i. elim (same-or-not i at.number) as (λ _. (shape_at (shapes_of u) i).own.weight < 4194305) [
+      | inl e ↦ omega (arith, lt, ap (λ o. o.weight) own-here, ap (λ (j : ℕ). (shape_at (shapes_of u) j).own.weight) e)
+      | inr e ↦ omega (arith, light i, ap (λ o. o.weight) (own-others i e))
+    ];
+    bound = λ i. omega (arith, own-weight i, sound-bound s root sound light i, (own-still i).count);
+    few = omega (arith, few, count);
+    here = λ m e. let same : at ≡ m = cc in subst (λ (k : Link). IsMade u k) same (kept at made);
+  }

@@ -1,0 +1,176 @@
+-- A store's tree is sound again after a rotation, and its order is the same.
+use Rattle.std.proofs.Common.{◌≡◌, ℕ, suc, ◌+◌, ◌-◌, min, ◌<◌, ◌≤◌, ◌≢◌, ◌⊎◌, inl, inr, cond, List, length, Option, None, Some, refl, sym, ap, ◌∙◌, subst, arith}
+use Rattle.node_rope.specs.declared.store.Store.{Store}
+use Rattle.node_rope.specs.declared.cells.Shape.{Shape}
+use Rattle.node_rope.specs.declared.cells.Link.{Link}
+use Rattle.node_rope.specs.Made.{IsMade, IsKept, made_count, shapes_of}
+use Rattle.node_rope.specs.Shapes.{IsSound, AreMade, shape_at, number_of, tree_of, weights, owns, leasts, ranks, order, weight_at, least_at, IsWeighed, IsRanked}
+use Rattle.node_rope.specs.Walk.{Tree, count_of, whole, IsCounted, IsLinked, IsTurned, moved}
+use Rattle.node_rope.specs.Sums.{adding, lesser, sum_of}
+use Rattle.node_rope.specs.Turned.{swapped, with_child, lifted_left}
+use Rattle.node_rope.proofs.WalkLemmas.{none-some, rotated-walk}
+use Rattle.node_rope.proofs.TurnLemmas.{same-or-not, turned-counted, turned-linked, turned-sums, turned-below, turned-top, turned-crown}
+use Rattle.node_rope.proofs.ShapeLemmas.{length-shapes, made-below, weight-sum, least-sum}
+use Rattle.node_rope.proofs.JoinLemmas.{some-or-not, adding-commutes, lesser-commutes}
+use Rattle.node_rope.proofs.GrowthLemmas.{are-within, unnumbered}
+use Rattle.node_rope.proofs.LiftLemmas.{leads-tells}
+use Rattle.node_rope.proofs.LiftLeftLemmas as lifts
+
+module _ {T : Type 0} (s v : Store T) (root root' : Option Link) (p c : Link) (sound : IsSound s root) (made_p : IsMade s p) (made_c : IsMade s c) (was : number_of (shape_at (shapes_of s) p.number).left ≡ Some c.number)
+    (is : shapes_of v ≡ with_child (lifted_left (shapes_of s) p c (shape_at (shapes_of s) p.number) (shape_at (shapes_of s) c.number)) (shape_at (shapes_of s) p.number).parent p.number c)
+    (kept : IsKept s v) (count : made_count v ≡ made_count s) (moves : number_of root' ≡ moved p.number c.number (number_of root)) (made_root' : AreMade v root') where
+  abbrev ss : List Shape
+  ss = shapes_of s
+
+  abbrev vs : List Shape
+  vs = with_child (lifted_left ss p c (shape_at ss p.number) (shape_at ss c.number)) (shape_at ss p.number).parent p.number c
+
+  abbrev t : Tree
+  t = tree_of ss
+
+  abbrev u : Tree
+  u = tree_of vs
+
+  in_p : p.number < length ss
+  in_p = let h = made-below s p made_p in omega (arith, h, length-shapes s)
+
+  in_c : c.number < length ss
+  in_c = let h = made-below s c made_c in omega (arith, h, length-shapes s)
+
+  in_middle : (m : ℕ) → number_of (shape_at ss c.number).right ≡ Some m → m < length ss
+  in_middle m e = (are-within s root sound).rights c.number m e
+
+  in_top : (g : ℕ) → number_of (shape_at ss p.number).parent ≡ Some g → g < length ss
+  in_top g e = (are-within s root sound).parents p.number g e
+
+  over : (g : ℕ) → number_of (shape_at ss p.number).parent ≡ Some g → (number_of (shape_at ss g).left ≡ Some p.number) ⊎ (number_of (shape_at ss g).right ≡ Some p.number)
+  over g e = sound.below p.number g e
+
+  n : IsTurned t u p.number c.number
+  n = lifts.turned ss p c sound.counted sound.linked was in_p in_c in_middle in_top over
+
+  pub turned_p : shape_at vs p.number ≡ record (shape_at ss p.number) { left = (shape_at ss c.number).right; parent = Some c; count = ((shape_at ss p.number).count - (shape_at ss c.number).count) + count_of t (number_of (shape_at ss c.number).right); weight = ((shape_at ss p.number).weight - (shape_at ss c.number).weight) + weight_at ss (shape_at ss c.number).right; least = min (least_at ss (shape_at ss c.number).right) (min (shape_at ss p.number).own.rank (least_at ss (shape_at ss p.number).right)) }
+  turned_p = lifts.all_p ss p c sound.counted sound.linked was in_p in_c in_middle in_top over
+
+  pub turned_c : shape_at vs c.number ≡ record (shape_at ss c.number) { right = Some p; parent = (shape_at ss p.number).parent; count = (shape_at ss p.number).count; weight = (shape_at ss p.number).weight; least = (shape_at ss p.number).least }
+  turned_c = lifts.all_c ss p c sound.counted sound.linked was in_p in_c in_middle in_top over
+
+  rest : {X : Type 0} (f : Shape → X) → ((h : Shape) (q : Option Link) → f (record h { left = q }) ≡ f h) → ((h : Shape) (q : Option Link) → f (record h { right = q }) ≡ f h) → ((h : Shape) (q : Option Link) → f (record h { parent = q }) ≡ f h)
+      → (i : ℕ) → i ≢ p.number → i ≢ c.number → f (shape_at vs i) ≡ f (shape_at ss i)
+  rest = lifts.untouched ss p c sound.counted sound.linked was in_p in_c in_middle in_top over
+
+  every : {X : Type 0} (f : Shape → X) → f (shape_at vs p.number) ≡ f (shape_at ss p.number) → f (shape_at vs c.number) ≡ f (shape_at ss c.number) → ((i : ℕ) → i ≢ p.number → i ≢ c.number → f (shape_at vs i) ≡ f (shape_at ss i)) → (i : ℕ) → f (shape_at vs i) ≡ f (shape_at ss i)
+  every f at_p at_c others i = elim (same-or-not i p.number) as (λ _. f (shape_at vs i) ≡ f (shape_at ss i)) [
+    | inl e ↦ ap (λ (k : ℕ). f (shape_at vs k)) e ∙ at_p ∙ ap (λ (k : ℕ). f (shape_at ss k)) (sym e)
+    | inr e ↦ elim (same-or-not i c.number) as (λ _. f (shape_at vs i) ≡ f (shape_at ss i)) [
+      | inl g ↦ ap (λ (k : ℕ). f (shape_at vs k)) g ∙ at_c ∙ ap (λ (k : ℕ). f (shape_at ss k)) (sym g)
+      | inr g ↦ others i e g
+    ]
+  ]
+
+  pub own-kept : (i : ℕ) → (shape_at vs i).own ≡ (shape_at ss i).own
+  own-kept = every (λ h. h.own) (ap (λ h. h.own) turned_p) (ap (λ h. h.own) turned_c) (rest (λ h. h.own) (λ h q. refl) (λ h q. refl) (λ h q. refl))
+
+  pub key-kept : (i : ℕ) → (shape_at vs i).key ≡ (shape_at ss i).key
+  key-kept = every (λ h. h.key) (ap (λ h. h.key) turned_p) (ap (λ h. h.key) turned_c) (rest (λ h. h.key) (λ h q. refl) (λ h q. refl) (λ h q. refl))
+
+  counted-now : IsCounted u
+  counted-now = turned-counted t u sound.counted sound.linked p.number c.number n
+
+  linked-now : IsLinked u
+  linked-now = turned-linked t u sound.counted sound.linked p.number c.number n
+
+  weighed-now : IsWeighed vs
+  weighed-now i =
+      let below_right = weight-sum ss (shape_at ss c.number).right in
+      let at_p : (shape_at vs p.number).weight ≡ sum_of adding (weights ss) (t.right c.number) + ((shape_at ss p.number).own.weight + sum_of adding (weights ss) (t.right p.number)) =
+      omega (arith, ap (λ h. h.weight) turned_p, sound.weighed p.number, ap (sum_of adding (weights ss)) was, below_right) in
+      let all = (turned-sums t u sound.counted sound.linked p.number c.number n adding adding-commutes.assoc (owns ss) (weights ss) (weights vs) sound.weighed
+      (ap (λ h. h.weight) turned_c) at_p (rest (λ h. h.weight) (λ h q. refl) (λ h q. refl) (λ h q. refl))) in
+      omega (arith, all i, ap (λ o. o.weight) (own-kept i))
+
+  ranked-now : IsRanked vs
+  ranked-now i =
+      let at_p : (shape_at vs p.number).least ≡ min (sum_of lesser (leasts ss) (t.right c.number)) (min (shape_at ss p.number).own.rank (sum_of lesser (leasts ss) (t.right p.number))) =
+      ap (λ h. h.least) turned_p ∙ (λ j. min (least-sum ss (shape_at ss c.number).right j) (min (shape_at ss p.number).own.rank (least-sum ss (shape_at ss p.number).right j))) in
+      let all = turned-sums t u sound.counted sound.linked p.number c.number n lesser lesser-commutes.assoc (ranks ss) (leasts ss) (leasts vs) sound.ranked
+      (ap (λ h. h.least) turned_c) at_p (rest (λ h. h.least) (λ h q. refl) (λ h q. refl) (λ h q. refl)) in
+      all i ∙ ap (λ r. min (sum_of lesser (leasts vs) (u.left i)) (min r (sum_of lesser (leasts vs) (u.right i)))) (sym (ap (λ o. o.rank) (own-kept i)))
+
+  below-now : (i q : ℕ) → u.parent i ≡ Some q → (u.left q ≡ Some i) ⊎ (u.right q ≡ Some i)
+  below-now = (turned-below t u sound.counted sound.linked p.number c.number n sound.below)
+
+  -- each link of a turned tree was made
+  link-is : (o : Option Link) (a m : Link) → Some a ≡ Some m → IsMade v a → IsMade v m
+  link-is o a m e made = let is : a ≡ m = cc in subst (λ (k : Link). IsMade v k) is made
+
+  elsewhere-made : (f : Shape → Option Link) → ((h : Shape) (q : Option Link) → (f (record h { left = q }) ≡ f h) ⊎ (f (record h { left = q }) ≡ q)) → ((h : Shape) (q : Option Link) → (f (record h { right = q }) ≡ f h) ⊎ (f (record h { right = q }) ≡ q)) → ((h : Shape) (q : Option Link) → (f (record h { parent = q }) ≡ f h) ⊎ (f (record h { parent = q }) ≡ q))
+      → ((i : ℕ) → AreMade s (f (shape_at ss i))) → (i : ℕ) → i ≢ p.number → i ≢ c.number → AreMade v (f (shape_at vs i))
+  elsewhere-made f l r q old i ip ic m e =
+      let one : (h : Shape) (a : Link) → IsMade v a → ((k : Link) → f h ≡ Some k → IsMade v k) → (g : Option Link → Shape) → ((f (g (Some a)) ≡ f h) ⊎ (f (g (Some a)) ≡ Some a)) → (k : Link) → f (g (Some a)) ≡ Some k → IsMade v k =
+      λ h a ma mh g w k x. elim w as (λ _. IsMade v k) [ inl y ↦ mh k (sym y ∙ x) | inr y ↦ link-is None a k (sym y ∙ x) ma ] in
+      let was_made : (k : Link) → f (shape_at ss i) ≡ Some k → IsMade v k = λ k x. kept k (old i k x) in
+      elim (some-or-not (number_of (shape_at ss p.number).parent) i) as (λ _. IsMade v m) [
+        | inl g ↦ (
+            let x : f (swapped (shape_at ss i) p.number c) ≡ Some m = sym (ap f (lifts.at_top ss p c sound.counted sound.linked was in_p in_c in_middle in_top over i ip ic g)) ∙ e in
+            elim (leads-tells (shape_at ss i).left p.number) as (λ _. IsMade v m) [
+              | inl y ↦ one (shape_at ss i) c (kept c made_c) was_made (λ o. record (shape_at ss i) { left = o }) (l (shape_at ss i) (Some c)) m (sym (ap (λ b. f (cond b (record (shape_at ss i) { left = Some c }) (record (shape_at ss i) { right = Some c }))) y.0) ∙ x)
+              | inr y ↦ one (shape_at ss i) c (kept c made_c) was_made (λ o. record (shape_at ss i) { right = o }) (r (shape_at ss i) (Some c)) m (sym (ap (λ b. f (cond b (record (shape_at ss i) { left = Some c }) (record (shape_at ss i) { right = Some c }))) y.0) ∙ x)
+            ])
+        | inr g ↦ elim (lifts.at_rest ss p c sound.counted sound.linked was in_p in_c in_middle in_top over i ip ic g) as (λ _. IsMade v m) [
+          | inl y ↦ was_made m (sym (ap f y) ∙ e)
+          | inr y ↦ one (shape_at ss i) p (kept p made_p) was_made (λ o. record (shape_at ss i) { parent = o }) (q (shape_at ss i) (Some p)) m (sym (ap f y.1) ∙ e)
+        ]
+      ]
+
+  made-all : (f : Shape → Option Link) → AreMade v (f (shape_at vs p.number)) → AreMade v (f (shape_at vs c.number)) → ((i : ℕ) → i ≢ p.number → i ≢ c.number → AreMade v (f (shape_at vs i))) → (i : ℕ) → AreMade v (f (shape_at vs i))
+  made-all f at_p at_c others i = elim (same-or-not i p.number) as (λ _. AreMade v (f (shape_at vs i))) [
+    | inl e ↦ subst (λ (k : ℕ). AreMade v (f (shape_at vs k))) (sym e) at_p
+    | inr e ↦ elim (same-or-not i c.number) as (λ _. AreMade v (f (shape_at vs i))) [
+      | inl g ↦ subst (λ (k : ℕ). AreMade v (f (shape_at vs k))) (sym g) at_c
+      | inr g ↦ others i e g
+    ]
+  ]
+
+  lefts-now : (i : ℕ) → AreMade v (shape_at vs i).left
+  lefts-now = made-all (λ h. h.left) (λ m e. kept m (sound.made_right c.number m (sym (ap (λ h. h.left) turned_p) ∙ e))) (λ m e. kept m (sound.made_left c.number m (sym (ap (λ h. h.left) turned_c) ∙ e)))
+      (elsewhere-made (λ h. h.left) (λ h q. inr refl) (λ h q. inl refl) (λ h q. inl refl) sound.made_left)
+
+  rights-now : (i : ℕ) → AreMade v (shape_at vs i).right
+  rights-now = made-all (λ h. h.right) (λ m e. kept m (sound.made_right p.number m (sym (ap (λ h. h.right) turned_p) ∙ e))) (λ m e. link-is None p m (sym (ap (λ h. h.right) turned_c) ∙ e) (kept p made_p))
+      (elsewhere-made (λ h. h.right) (λ h q. inl refl) (λ h q. inr refl) (λ h q. inl refl) sound.made_right)
+
+  parents-now : (i : ℕ) → AreMade v (shape_at vs i).parent
+  parents-now = made-all (λ h. h.parent) (λ m e. link-is None c m (sym (ap (λ h. h.parent) turned_p) ∙ e) (kept c made_c)) (λ m e. kept m (sound.made_parent p.number m (sym (ap (λ h. h.parent) turned_c) ∙ e)))
+      (elsewhere-made (λ h. h.parent) (λ h q. inl refl) (λ h q. inl refl) (λ h q. inr refl) sound.made_parent)
+
+  small-now : (i : ℕ) → (shape_at vs i).count ≤ suc (made_count v)
+  small-now i = elim (same-or-not i p.number) as (λ _. (shape_at vs i).count ≤ suc (made_count v)) [
+    | inl e ↦ omega (arith, ap (λ (k : ℕ). (shape_at vs k).count) e, ap (λ h. h.count) turned_p, sound.small p.number, count, sound.counted p.number, ap (count_of t) was, sound.counted c.number)
+    | inr e ↦ elim (same-or-not i c.number) as (λ _. (shape_at vs i).count ≤ suc (made_count v)) [
+      | inl g ↦ omega (arith, ap (λ (k : ℕ). (shape_at vs k).count) g, ap (λ h. h.count) turned_c, sound.small p.number, count)
+      | inr g ↦ omega (arith, rest (λ h. h.count) (λ h q. refl) (λ h q. refl) (λ h q. refl) i e g, sound.small i, count)
+    ]
+  ]
+
+  pub sound-turned : IsSound v root'
+  sound-turned = record {
+    counted = subst (λ (xs : List Shape). IsCounted (tree_of xs)) (sym is) counted-now;
+    weighed = subst (λ (xs : List Shape). IsWeighed xs) (sym is) weighed-now;
+    ranked = subst (λ (xs : List Shape). IsRanked xs) (sym is) ranked-now;
+    linked = subst (λ (xs : List Shape). IsLinked (tree_of xs)) (sym is) linked-now;
+    top = λ i h f. moves ∙ turned-top t u sound.counted sound.linked p.number c.number n (λ (k : ℕ). k < made_count s) (made-below s p made_p) (number_of root) (λ k hk e. sound.top k hk (unnumbered (shape_at ss k).parent e)) i (omega (arith, h, count)) (ap number_of (sym (ap (λ (xs : List Shape). (shape_at xs i).parent) is) ∙ f));
+    crown = λ i f. ap (λ (xs : List Shape). (shape_at xs i).parent) is ∙ unnumbered (shape_at vs i).parent (turned-crown t u sound.counted sound.linked p.number c.number n (number_of root) (λ k e. ap number_of (sound.crown k e)) i (sym moves ∙ f));
+    below = subst (λ (xs : List Shape). (i q : ℕ) → (tree_of xs).parent i ≡ Some q → ((tree_of xs).left q ≡ Some i) ⊎ ((tree_of xs).right q ≡ Some i)) (sym is) below-now;
+    made_left = λ i m f. lefts-now i m (sym (ap (λ (xs : List Shape). (shape_at xs i).left) is) ∙ f);
+    made_right = λ i m f. rights-now i m (sym (ap (λ (xs : List Shape). (shape_at xs i).right) is) ∙ f);
+    made_parent = λ i m f. parents-now i m (sym (ap (λ (xs : List Shape). (shape_at xs i).parent) is) ∙ f);
+    made_root = made_root';
+    small = λ i. subst (λ (xs : List Shape). (shape_at xs i).count ≤ suc (made_count v)) (sym is) (small-now i);
+  }
+
+  root-not-c : number_of root ≡ Some c.number → ⊥
+  root-not-c e = none-some p.number (sym (ap number_of (sound.crown c.number e)) ∙ sound.linked.from_left p.number c.number was)
+
+  pub order-turned : order v root' ≡ order s root
+  order-turned = ap (λ xs. whole (tree_of xs) (number_of root')) is ∙ ap (whole u) moves ∙ rotated-walk t u sound.counted counted-now sound.linked p.number c.number n.rotated (count_of t (number_of root)) (number_of root) (omega arith) root-not-c

@@ -1,0 +1,15 @@
+use Rattle.std.proofs.Common.{◌≡◌}
+use Rattle.node_rope.specs.Made.{shapes_of}
+use Rattle.node_rope.specs.Shapes.{AreMade, number_of, tree_of}
+use Rattle.node_rope.specs.Walk.{count_of}
+use Rattle.node_rope.specs.Low.{last_low_below}
+use Rattle.node_rope.proofs.low.last_below.Given as goal
+
+abbrev pub invariant-down : goal.invariant-down
+invariant-down g l = record {
+  made : AreMade l.store l.cur;
+  same : last_low_below (shapes_of l.store) l.most l.cur ≡ last_low_below (shapes_of l.store) l.most l.fn.from;
+}
+
+abbrev pub decreases-down : goal.decreases-down
+decreases-down g l = count_of (tree_of (shapes_of l.store)) (number_of l.cur)

@@ -1,0 +1,22 @@
+use Rattle.std.proofs.Common.{ℕ, take, Some, sym, ap, ◌∙◌}
+use Rattle.std.specs.Prelude.{option_map}
+use Rattle.node_rope.specs.Made.{shapes_of}
+use Rattle.node_rope.specs.Shapes.{shape_at, number_of}
+use Rattle.node_rope.specs.Items.{own_of}
+use Rattle.node_rope.specs.Places.{last_low_key}
+use Rattle.node_rope.proofs.LowItemLemmas.{last-seen}
+use Rattle.node_rope.proofs.rope.Rope.last_low.Goals as goal
+
+pub returns-in-Some : goal.returns-in-Some
+returns-in-Some g c =
+    let i = c.self.inside in
+    let key = λ (x : ℕ). (shape_at (shapes_of i.store) x).key in
+    let seen = last-seen (own_of g.T.Weigh.weight_of g.T.Weigh.rank_of) i.store i.root i.map.links c.self.invariant c.args.most c.args.to in
+    ap (λ h. Some h.key) c.shape.ensures ∙ ap (option_map key) (ap number_of (sym c.in-Some.is) ∙ c.last_low_node.ensures.found) ∙ sym seen ∙ ap (λ xs. last_low_key g.T.Weigh.rank_of c.args.most (take c.args.to xs)) c.self.view_is
+
+pub returns-in-None : goal.returns-in-None
+returns-in-None g c =
+    let i = c.self.inside in
+    let key = λ (x : ℕ). (shape_at (shapes_of i.store) x).key in
+    let seen = last-seen (own_of g.T.Weigh.weight_of g.T.Weigh.rank_of) i.store i.root i.map.links c.self.invariant c.args.most c.args.to in
+    ap (option_map key) (ap number_of (sym c.in-None.is) ∙ c.last_low_node.ensures.found) ∙ sym seen ∙ ap (λ xs. last_low_key g.T.Weigh.rank_of c.args.most (take c.args.to xs)) c.self.view_is

@@ -1,0 +1,79 @@
+-- The tree that the shapes of a store make.
+use Rattle.std.specs.Prelude.{◌≡◌, ℕ, suc, ◌<◌, ◌≤◌, ◌⊎◌, List, slice_index_or, Option, None, Some, option_map}
+use Rattle.node_rope.specs.declared.store.Store.{Store}
+use Rattle.node_rope.specs.declared.cells.Shape.{Shape}
+use Rattle.node_rope.specs.declared.cells.Link.{Link}
+use Rattle.node_rope.specs.Made.{IsMade, shapes_of, made_count}
+use Rattle.node_rope.specs.Walk.{Tree, whole, IsCounted, IsLinked}
+use Rattle.node_rope.specs.Sums.{adding, lesser, no_rank, IsSummed, fold}
+
+-- what stands for a number past the last: a node alone
+abbrev pub lone : Shape
+lone = record { key = record { replica = 0; counter = 0 }; left = None; right = None; parent = None; count = 1; weight = 0; least = no_rank; own = record { weight = 0; rank = no_rank } }
+
+abbrev pub shape_at : List Shape → ℕ → Shape
+shape_at ss i = slice_index_or ss i lone
+
+abbrev pub number_of : Option Link → Option ℕ
+number_of = option_map (λ l. l.number)
+
+abbrev pub tree_of : List Shape → Tree
+tree_of ss = record { left = λ i. number_of (shape_at ss i).left; right = λ i. number_of (shape_at ss i).right; parent = λ i. number_of (shape_at ss i).parent; count = λ i. (shape_at ss i).count }
+
+-- the weights of subtrees, and of single values
+abbrev pub weights : List Shape → ℕ → ℕ
+weights ss i = (shape_at ss i).weight
+
+abbrev pub owns : List Shape → ℕ → ℕ
+owns ss i = (shape_at ss i).own.weight
+
+abbrev pub weight_at : List Shape → Option Link → ℕ
+weight_at ss None = 0
+weight_at ss (Some l) = (shape_at ss l.number).weight
+
+-- the least ranks of subtrees, and the ranks of single values
+abbrev pub leasts : List Shape → ℕ → ℕ
+leasts ss i = (shape_at ss i).least
+
+abbrev pub ranks : List Shape → ℕ → ℕ
+ranks ss i = (shape_at ss i).own.rank
+
+-- each rank has 64 bits
+abbrev pub AreRanksFit : List Shape → Type 0
+AreRanksFit ss = (i : ℕ) → ranks ss i ≤ no_rank
+
+abbrev pub least_at : List Shape → Option Link → ℕ
+least_at ss None = no_rank
+least_at ss (Some l) = (shape_at ss l.number).least
+
+-- the weight of nodes
+abbrev pub weigh : List Shape → List ℕ → ℕ
+weigh ss = fold adding (owns ss)
+
+abbrev pub IsWeighed : List Shape → Type 0
+IsWeighed ss = IsSummed adding (tree_of ss) (owns ss) (weights ss)
+
+abbrev pub IsRanked : List Shape → Type 0
+IsRanked ss = IsSummed lesser (tree_of ss) (ranks ss) (leasts ss)
+
+abbrev pub AreMade : {T : Type 0} → Store T → Option Link → Type 0
+AreMade s o = (l : Link) → o ≡ Some l → IsMade s l
+
+-- the store's nodes make one tree below root
+pub record IsSound {T : Type 0} (s : Store T) (root : Option Link) : Type 0 where
+  pub counted : IsCounted (tree_of (shapes_of s))
+  pub weighed : IsWeighed (shapes_of s)
+  pub ranked : IsRanked (shapes_of s)
+  pub linked : IsLinked (tree_of (shapes_of s))
+  pub top : (i : ℕ) → i < made_count s → (shape_at (shapes_of s) i).parent ≡ None → number_of root ≡ Some i
+  pub crown : (i : ℕ) → number_of root ≡ Some i → (shape_at (shapes_of s) i).parent ≡ None
+  pub below : (i p : ℕ) → number_of (shape_at (shapes_of s) i).parent ≡ Some p → (number_of (shape_at (shapes_of s) p).left ≡ Some i) ⊎ (number_of (shape_at (shapes_of s) p).right ≡ Some i)
+  pub made_left : (i : ℕ) → AreMade s (shape_at (shapes_of s) i).left
+  pub made_right : (i : ℕ) → AreMade s (shape_at (shapes_of s) i).right
+  pub made_parent : (i : ℕ) → AreMade s (shape_at (shapes_of s) i).parent
+  pub made_root : AreMade s root
+  pub small : (i : ℕ) → (shape_at (shapes_of s) i).count ≤ suc (made_count s)
+
+-- the numbers of the nodes in order
+abbrev pub order : {T : Type 0} → Store T → Option Link → List ℕ
+order s root = whole (tree_of (shapes_of s)) (number_of root)

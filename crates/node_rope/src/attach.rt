@@ -1,0 +1,176 @@
+// A new node beside another.
+ghost use Rattle.std.specs.Prelude.{◌≡◌, ◌+◌, ◌-◌, ◌^◌, ◌<◌, ◌≤◌, [], ◌∷◌, ◌++◌, flat_map, IfOk, IfErr, Some};
+ghost use Rattle.node_rope.specs.Made.{IsMade, IsKept, made_count, shapes_of, values_of};
+ghost use Rattle.node_rope.specs.Shapes.{IsSound, AreMade, shape_at, order};
+ghost use Rattle.node_rope.specs.Walk.{before as place_before, after as place_after};
+ghost use Rattle.node_rope.specs.Rising.{AreSmall};
+ghost use Rattle.node_rope.specs.Grown.{with_parent, new_before, new_after, joined_before, joined_after, IsGrown};
+
+use crate::back::Back;
+use crate::cells::{Link, Own, Shape};
+use crate::climb::{count_below, least_below, weight_below};
+use crate::raise::raise;
+use crate::store::Store;
+use fugue_ids::ElementId;
+
+pub(crate) fn set_parent<T: Drop>(store: &mut Store<T>, link: Option<Link>, parent: Option<Link>)
+    requires { AreMade store.old link }
+    ensures shapes { shapes_of store.new ≡ with_parent (shapes_of store.old) link parent }
+    ensures values { values_of store.new ≡ values_of store.old }
+    ensures count { made_count store.new ≡ made_count store.old }
+    ensures kept { IsKept store.old store.new }
+{
+    if let Some(l) = link {
+        let shape = store.shape(l);
+        store.set_shape(l, Shape { parent, ..shape });
+    }
+}
+
+// The sums above the new node are not yet raised.
+fn join_before<T: Drop>(
+    store: &mut Store<T>,
+    at: Link,
+    key: ElementId,
+    own: Own,
+    value: T,
+) -> Result<Link, Back<T>>
+    requires made { IsMade store.old at }
+    requires left { AreMade store.old (shape_at (shapes_of store.old) at.number).left }
+    requires few { made_count store.old < 2 ^ 62 }
+    requires fits { own.rank < 2 ^ 64 }
+    requires small { AreSmall (shapes_of store.old) (own.weight + own.weight) }
+    ensures joined { IfOk result (λ l. (shapes_of store.new ≡ joined_before (shapes_of store.old) at l (new_before (shapes_of store.old) at key own)) × (values_of store.new ≡ values_of store.old ++ (value ∷ [])) × (l.number ≡ made_count store.old) × IsMade store.new l × (made_count store.new ≡ made_count store.old + 1)) }
+    ensures refused { IfErr result (λ b. (b.value ≡ value) × (store.new ≡ store.old)) }
+    ensures kept { IsKept store.old store.new }
+{
+    let beside = store.shape(at);
+    let count = count_below(store, beside.left) + 1;
+    let weight = weight_below(store, beside.left) + own.weight;
+    let least = least_below(store, beside.left).min(own.rank);
+    let shape = Shape {
+        key,
+        left: beside.left,
+        right: None,
+        parent: Some(at),
+        count,
+        weight,
+        least,
+        own,
+    };
+    match store.make(shape, value) {
+        Ok(link) => {
+            set_parent(store, beside.left, Some(link));
+            store.set_shape(
+                at,
+                Shape {
+                    left: Some(link),
+                    ..beside
+                },
+            );
+            Ok(link)
+        }
+        Err(back) => Err(back),
+    }
+}
+
+fn join_after<T: Drop>(
+    store: &mut Store<T>,
+    at: Link,
+    key: ElementId,
+    own: Own,
+    value: T,
+) -> Result<Link, Back<T>>
+    requires made { IsMade store.old at }
+    requires right { AreMade store.old (shape_at (shapes_of store.old) at.number).right }
+    requires few { made_count store.old < 2 ^ 62 }
+    requires fits { own.rank < 2 ^ 64 }
+    requires small { AreSmall (shapes_of store.old) (own.weight + own.weight) }
+    ensures joined { IfOk result (λ l. (shapes_of store.new ≡ joined_after (shapes_of store.old) at l (new_after (shapes_of store.old) at key own)) × (values_of store.new ≡ values_of store.old ++ (value ∷ [])) × (l.number ≡ made_count store.old) × IsMade store.new l × (made_count store.new ≡ made_count store.old + 1)) }
+    ensures refused { IfErr result (λ b. (b.value ≡ value) × (store.new ≡ store.old)) }
+    ensures kept { IsKept store.old store.new }
+{
+    let beside = store.shape(at);
+    let count = count_below(store, beside.right) + 1;
+    let weight = weight_below(store, beside.right) + own.weight;
+    let least = least_below(store, beside.right).min(own.rank);
+    let shape = Shape {
+        key,
+        left: None,
+        right: beside.right,
+        parent: Some(at),
+        count,
+        weight,
+        least,
+        own,
+    };
+    match store.make(shape, value) {
+        Ok(link) => {
+            set_parent(store, beside.right, Some(link));
+            store.set_shape(
+                at,
+                Shape {
+                    right: Some(link),
+                    ..beside
+                },
+            );
+            Ok(link)
+        }
+        Err(back) => Err(back),
+    }
+}
+
+// A new node that stands directly before `at`.
+pub(crate) fn attach_before<T: Drop>(
+    store: &mut Store<T>,
+    root: Option<Link>,
+    at: Link,
+    key: ElementId,
+    own: Own,
+    value: T,
+) -> Result<Link, Back<T>>
+    requires made { IsMade store.old at }
+    requires sound { IsSound store.old root }
+    requires few { made_count store.old < 2 ^ 62 }
+    requires fits { own.rank < 2 ^ 64 }
+    requires small { AreSmall (shapes_of store.old) (own.weight + own.weight) }
+    ensures grown { IfOk result (λ l. IsGrown store.old store.new root key own value l) }
+    ensures walk { IfOk result (λ l. order store.new root ≡ flat_map (place_before at.number l.number) (order store.old root)) }
+    ensures refused { IfErr result (λ b. (b.value ≡ value) × (store.new ≡ store.old)) }
+    ensures kept { IsKept store.old store.new }
+{
+    match join_before(store, at, key, own, value) {
+        Ok(link) => {
+            raise(store, Some(at), own);
+            Ok(link)
+        }
+        Err(back) => Err(back),
+    }
+}
+
+// A new node that stands directly behind `at`.
+pub(crate) fn attach_after<T: Drop>(
+    store: &mut Store<T>,
+    root: Option<Link>,
+    at: Link,
+    key: ElementId,
+    own: Own,
+    value: T,
+) -> Result<Link, Back<T>>
+    requires made { IsMade store.old at }
+    requires sound { IsSound store.old root }
+    requires few { made_count store.old < 2 ^ 62 }
+    requires fits { own.rank < 2 ^ 64 }
+    requires small { AreSmall (shapes_of store.old) (own.weight + own.weight) }
+    ensures grown { IfOk result (λ l. IsGrown store.old store.new root key own value l) }
+    ensures walk { IfOk result (λ l. order store.new root ≡ flat_map (place_after at.number l.number) (order store.old root)) }
+    ensures refused { IfErr result (λ b. (b.value ≡ value) × (store.new ≡ store.old)) }
+    ensures kept { IsKept store.old store.new }
+{
+    match join_after(store, at, key, own, value) {
+        Ok(link) => {
+            raise(store, Some(at), own);
+            Ok(link)
+        }
+        Err(back) => Err(back),
+    }
+}

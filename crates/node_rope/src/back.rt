@@ -1,0 +1,5 @@
+/// Want of memory, with the value handed back.
+#[derive(Drop)]
+pub struct Back<T> {
+    pub value: T,
+}

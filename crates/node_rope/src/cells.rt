@@ -1,0 +1,38 @@
+// The nodes of a rope, as the list of them in the order made.
+use crate::pile::Spot;
+use fugue_ids::ElementId;
+
+/// A node of one store: where it lies, and its number.
+#[derive(Clone, Copy)]
+pub struct Link {
+    pub(crate) spot: Spot,
+    pub(crate) number: usize,
+}
+
+/// What a value counts for by itself.
+#[derive(Clone, Copy)]
+pub struct Own {
+    pub(crate) weight: u64,
+    pub(crate) rank: u64,
+}
+
+/// A node but for its value. `own` is what its value counts for; `count`, `weight` and `least`, the least rank, are those of its subtree.
+#[derive(Clone, Copy)]
+pub struct Shape {
+    pub(crate) key: ElementId,
+    pub(crate) left: Option<Link>,
+    pub(crate) right: Option<Link>,
+    pub(crate) parent: Option<Link>,
+    pub(crate) count: usize,
+    pub(crate) weight: u64,
+    pub(crate) least: u64,
+    pub(crate) own: Own,
+}
+
+// `older` leads to the node made before.
+#[derive(Drop)]
+pub struct Node<T> {
+    pub(crate) shape: Shape,
+    pub(crate) older: Option<Link>,
+    pub(crate) value: T,
+}

@@ -1,0 +1,25 @@
+//! Values in an order, each under a key of its own, in a balanced tree of raw nodes.
+#![tactic(auto)]
+
+mod attach;
+mod back;
+mod behind;
+mod cells;
+mod climb;
+mod find;
+mod links;
+mod look_ups;
+mod low;
+mod pile;
+mod raise;
+mod reweigh;
+mod rope;
+mod store;
+#[cfg(test)]
+mod tests;
+mod turn;
+mod weigh;
+
+pub use back::Back;
+pub use rope::Rope;
+pub use weigh::Weigh;

@@ -1,0 +1,95 @@
+// The map from keys to nodes.
+ghost use Rattle.std.specs.Prelude.{◌≡◌, None, Some, IsTrue, IsFalse, option_map};
+ghost use Rattle.std.specs.BTreeMap.{get};
+ghost use Rattle.fugue_ids.specs.Identifiers.{id_cmp};
+ghost use Rattle.node_rope.specs.Linked.{IsEmpty, IsSet, IsSame, IsFloorKey};
+
+use crate::cells::Link;
+use crate::pile;
+use fugue_ids::ElementId;
+use std::alloc::Global;
+use std::collections::BTreeMap;
+
+/// The node of each key. The one that was used last is at hand.
+#[derive(Drop)]
+pub struct KeyMap {
+    pub(crate) links: BTreeMap<ElementId, Link>,
+    recent: Option<ElementId>,
+    at_hand: Link,
+    ghost found: { option_map (get id_cmp links) recent ≡ option_map (λ k. Some at_hand) recent },
+}
+
+// Holds a key's room until its node is made.
+pub(crate) fn nowhere() -> Link {
+    Link {
+        spot: pile::nowhere(),
+        number: 0,
+    }
+}
+
+pub(crate) fn no_links(alloc: Global) -> KeyMap
+    ensures { IsEmpty result.links }
+{
+    KeyMap {
+        links: BTreeMap::new(alloc),
+        recent: None,
+        at_hand: nowhere(),
+    }
+}
+
+// The node of the key.
+pub(crate) fn find_link(map: &KeyMap, key: ElementId) -> Option<Link>
+    ensures { result ≡ get id_cmp map.now.links key }
+{
+    if let Some(recent) = map.recent {
+        if recent == key {
+            return Some(map.at_hand);
+        }
+    }
+    match map.links.get(&key) {
+        Some(link) => Some(*link),
+        None => None,
+    }
+}
+
+// The key's node is looked for again soon.
+pub(crate) fn keep_at_hand(map: &mut KeyMap, key: ElementId, link: Link)
+    requires { get id_cmp map.old.links key ≡ Some link }
+    ensures { map.new.links ≡ map.old.links }
+{
+    map.recent = Some(key);
+    map.at_hand = link;
+}
+
+// False for want of memory, which only a new key can meet.
+pub(crate) fn set_link(map: &mut KeyMap, key: ElementId, link: Link) -> bool
+    ensures set { IsTrue result → IsSet map.old.links map.new.links key (Some link) }
+    ensures refused { IsFalse result → IsSame map.old.links map.new.links }
+    ensures absent { IsFalse result → get id_cmp map.old.links key ≡ None }
+{
+    match map.links.insert(key, link) {
+        Ok(_) => {
+            map.recent = Some(key);
+            map.at_hand = link;
+            true
+        }
+        Err(_) => false,
+    }
+}
+
+pub(crate) fn drop_link(map: &mut KeyMap, key: ElementId)
+    ensures { IsSet map.old.links map.new.links key None }
+{
+    map.links.remove(&key);
+    map.recent = None;
+}
+
+// The greatest key that is not above this one.
+pub(crate) fn floor_key(map: &KeyMap, key: ElementId) -> Option<ElementId>
+    ensures { IsFloorKey map.now.links key result }
+{
+    match map.links.range(..=key).next_back() {
+        Some((k, _)) => Some(*k),
+        None => None,
+    }
+}

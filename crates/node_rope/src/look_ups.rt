@@ -1,0 +1,137 @@
+// Look-ups of a rope. None of them takes memory.
+ghost use Rattle.std.specs.Prelude.{◌≡◌, ◌<◌, ◌+◌, ◌≤◌, ℕ, IfSome, IsSome, IfNone, None, drop, length, take, option_copied, slice_get};
+ghost use Rattle.std.specs.Map.{keys_of};
+ghost use Rattle.node_rope.specs.Places.{StandsAt, AreKeysDistinct, weight_sum, IsUnit, IsFloor, first_low_key, last_low_key};
+ghost use Rattle.node_rope.specs.Items.{value_under};
+
+use crate::behind::node_behind;
+use crate::climb::{before, weight_below};
+use crate::find::{find_weight, node_at};
+use crate::links::{find_link, floor_key};
+use crate::low::{first_low_node, last_low_node};
+use crate::rope::Rope;
+use crate::weigh::Weigh;
+use fugue_ids::ElementId;
+
+impl<T: Weigh> Rope<T> {
+    pub fn len(&self) -> usize
+        ensures length { result ≡ length self.now }
+        ensures distinct { AreKeysDistinct self.now }
+    {
+        let _ = &self.store;
+        match self.root {
+            Some(root) => self.store.shape(root).count,
+            None => 0,
+        }
+    }
+
+    /// The value under the key.
+    pub fn get(&self, key: ElementId) -> Option<&T>
+        ensures { option_copied result ≡ value_under key self.now }
+    {
+        match find_link(&self.map, key) {
+            Some(link) => Some(self.store.value(link)),
+            None => None,
+        }
+    }
+
+    /// How many items stand before the one with this key.
+    pub fn place(&self, key: ElementId) -> Option<usize>
+        ensures none { IfNone result (value_under key self.now ≡ None) }
+        ensures some { IfSome result (λ i. StandsAt self.now i key) }
+        ensures inside { IfSome result (λ i. i < length self.now) }
+    {
+        match find_link(&self.map, key) {
+            Some(link) => Some(before(&self.store, self.root, link).count),
+            None => None,
+        }
+    }
+
+    /// The key of the item behind this many others.
+    pub fn key_at(&self, place: usize) -> Option<ElementId>
+        ensures { result ≡ slice_get (keys_of self.now) place }
+    {
+        match node_at(&self.store, self.root, place) {
+            Some(link) => Some(self.store.shape(link).key),
+            None => None,
+        }
+    }
+
+    /// The key of the first item.
+    pub fn first(&self) -> Option<ElementId>
+        ensures { result ≡ slice_get (keys_of self.now) 0 }
+    {
+        self.key_at(0)
+    }
+
+    /// The key of the item behind the one with this key.
+    pub fn next(&self, key: ElementId) -> Option<ElementId>
+        ensures some { IfSome result (λ n. (i : ℕ) × StandsAt self.now i key × StandsAt self.now (i + 1) n) }
+        ensures none { IfNone result (IsSome (value_under key self.now) → (i : ℕ) × StandsAt self.now i key × (length self.now ≡ i + 1)) }
+    {
+        let link = match find_link(&self.map, key) {
+            Some(link) => link,
+            None => return None,
+        };
+        match node_behind(&self.store, self.root, link) {
+            Some(behind) => Some(self.store.shape(behind).key),
+            None => None,
+        }
+    }
+
+    /// The weight of all items before the one with this key.
+    pub fn weight_before(&self, key: ElementId) -> Option<u64>
+        ensures none { IfNone result (value_under key self.now ≡ None) }
+        ensures some { IfSome result (λ w. (i : ℕ) × StandsAt self.now i key × (w ≡ weight_sum T.weight_of (take i self.now))) }
+    {
+        match find_link(&self.map, key) {
+            Some(link) => Some(before(&self.store, self.root, link).weight),
+            None => None,
+        }
+    }
+
+    /// The weight of all items.
+    pub fn total(&self) -> u64
+        ensures { result ≡ weight_sum T.weight_of self.now }
+    {
+        weight_below(&self.store, self.root)
+    }
+
+    /// The key of the item that holds a unit of weight, and how many of its units stand before that one.
+    pub fn find_weight(&self, w: u64) -> Option<(ElementId, u64)>
+        ensures none { IfNone result (weight_sum T.weight_of self.now ≤ w) }
+        ensures some { IfSome result (λ u. IsUnit T.weight_of self.now w u.0 u.1) }
+    {
+        match find_weight(&self.store, self.root, w) {
+            Some(unit) => Some((self.store.shape(unit.link).key, unit.inside)),
+            None => None,
+        }
+    }
+
+    /// The key of the first item, of those behind `from` others, whose rank is at most `most`.
+    pub fn first_low(&self, from: usize, most: u64) -> Option<ElementId>
+        ensures { result ≡ first_low_key T.rank_of most (drop from self.now) }
+    {
+        match first_low_node(&self.store, self.root, from, most) {
+            Some(link) => Some(self.store.shape(link).key),
+            None => None,
+        }
+    }
+
+    /// The key of the last item, of the first `to` ones, whose rank is at most `most`.
+    pub fn last_low(&self, to: usize, most: u64) -> Option<ElementId>
+        ensures { result ≡ last_low_key T.rank_of most (take to self.now) }
+    {
+        match last_low_node(&self.store, self.root, to, most) {
+            Some(link) => Some(self.store.shape(link).key),
+            None => None,
+        }
+    }
+
+    /// The greatest key that is not above this one.
+    pub fn floor(&self, key: ElementId) -> Option<ElementId>
+        ensures { IsFloor self.now key result }
+    {
+        floor_key(&self.map, key)
+    }
+}

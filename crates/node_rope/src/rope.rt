@@ -1,0 +1,168 @@
+ghost use Rattle.std.specs.Prelude.{◌≡◌, ◌<◌, ◌≤◌, ◌^◌, [], ◌∷◌, OnOk, IfErr, IsSome, IsNone, Some, length};
+ghost use Rattle.node_rope.specs.Items.{value_under, own_of as counts_for};
+ghost use Rattle.node_rope.specs.Beside.{placed_before, placed_after, put_under};
+
+use crate::attach::{attach_after, attach_before};
+use crate::back::Back;
+use crate::cells::{Link, Own, Shape};
+use crate::links::{KeyMap, drop_link, find_link, keep_at_hand, no_links, nowhere, set_link};
+use crate::reweigh::set_own;
+use crate::store::Store;
+use crate::turn::settle;
+use crate::weigh::Weigh;
+use fugue_ids::{ElementId, MOST_OPERATIONS};
+use std::alloc::Global;
+use std::marker::Model;
+
+/// Values in an order, each under a key of its own.
+#[derive(Drop)]
+pub struct Rope<T: Weigh> {
+    pub(crate) store: Store<T>,
+    pub(crate) root: Option<Link>,
+    pub(crate) map: KeyMap,
+}
+
+impl<T: Weigh> Model for Rope<T> {
+    ghost use Rattle.std.specs.Prelude.{List};
+    ghost use Rattle.fugue_ids.specs.Identifiers.{Identifier};
+
+    ghost Value = { List (Identifier × T) };
+
+    ghost use Rattle.node_rope.specs.Items.{items_of, own_of, IsRope};
+
+    ghost view = { λ r. items_of r.store r.root };
+
+    ghost invariant = { λ r. IsRope (own_of T.weight_of T.rank_of) r.store r.root r.map.links };
+}
+
+/// What the value counts for.
+fn own_of<T: Weigh>(value: &T) -> Own
+    ensures own { result ≡ counts_for T.weight_of T.rank_of value.now }
+    ensures light { result.weight ≤ MOST_OPERATIONS }
+    ensures fits { result.rank < 2 ^ 64 }
+{
+    Own {
+        weight: value.weight(),
+        rank: value.rank(),
+    }
+}
+
+impl<T: Weigh> Rope<T> {
+    pub fn new(alloc: Global) -> Rope<T>
+        ensures { result ≡ [] }
+    {
+        Rope {
+            store: Store::new(alloc),
+            root: None,
+            map: no_links(alloc),
+        }
+    }
+
+    /// A new item directly before the one with the key `at`. After want of memory the rope is as before.
+    pub fn insert_before(&mut self, at: ElementId, key: ElementId, value: T) -> Result<(), Back<T>>
+        requires held { IsSome (value_under at self.old) }
+        requires fresh { IsNone (value_under key self.old) }
+        requires room { length self.old < MOST_OPERATIONS }
+        ensures placed { OnOk result (self.new ≡ placed_before at (key, value) self.old) }
+        ensures refused { IfErr result (λ b. (b.value ≡ value) × (self.new ≡ self.old)) }
+    {
+        let link = match find_link(&self.map, at) {
+            Some(link) => link,
+            None => return Err(Back { value }),
+        };
+        let own = own_of(&value);
+        if !set_link(&mut self.map, key, link) {
+            return Err(Back { value });
+        }
+        match attach_before(&mut self.store, self.root, link, key, own, value) {
+            Ok(node) => {
+                self.root = settle(&mut self.store, self.root, node);
+                set_link(&mut self.map, key, node);
+                Ok(())
+            }
+            Err(back) => {
+                drop_link(&mut self.map, key);
+                Err(back)
+            }
+        }
+    }
+
+    /// A new item directly behind the one with the key `at`. After want of memory the rope is as before.
+    pub fn insert_after(&mut self, at: ElementId, key: ElementId, value: T) -> Result<(), Back<T>>
+        requires held { IsSome (value_under at self.old) }
+        requires fresh { IsNone (value_under key self.old) }
+        requires room { length self.old < MOST_OPERATIONS }
+        ensures placed { OnOk result (self.new ≡ placed_after at (key, value) self.old) }
+        ensures refused { IfErr result (λ b. (b.value ≡ value) × (self.new ≡ self.old)) }
+    {
+        let link = match find_link(&self.map, at) {
+            Some(link) => link,
+            None => return Err(Back { value }),
+        };
+        let own = own_of(&value);
+        if !set_link(&mut self.map, key, link) {
+            return Err(Back { value });
+        }
+        match attach_after(&mut self.store, self.root, link, key, own, value) {
+            Ok(node) => {
+                self.root = settle(&mut self.store, self.root, node);
+                set_link(&mut self.map, key, node);
+                Ok(())
+            }
+            Err(back) => {
+                drop_link(&mut self.map, key);
+                Err(back)
+            }
+        }
+    }
+
+    /// The first item of an empty rope.
+    pub fn insert_first(&mut self, key: ElementId, value: T) -> Result<(), Back<T>>
+        requires { self.old ≡ [] }
+        ensures placed { OnOk result (self.new ≡ (key, value) ∷ []) }
+        ensures refused { IfErr result (λ b. (b.value ≡ value) × (self.new ≡ self.old)) }
+    {
+        if !set_link(&mut self.map, key, nowhere()) {
+            return Err(Back { value });
+        }
+        let own = own_of(&value);
+        let shape = Shape {
+            key,
+            left: None,
+            right: None,
+            parent: None,
+            count: 1,
+            weight: own.weight,
+            least: own.rank,
+            own,
+        };
+        match self.store.make(shape, value) {
+            Ok(node) => {
+                self.root = Some(node);
+                set_link(&mut self.map, key, node);
+                Ok(())
+            }
+            Err(back) => {
+                drop_link(&mut self.map, key);
+                Err(back)
+            }
+        }
+    }
+
+    /// Another value under the key. The old one is the answer.
+    pub fn put(&mut self, key: ElementId, value: T) -> T
+        requires { IsSome (value_under key self.old) }
+        ensures old { value_under key self.old ≡ Some result }
+        ensures put { self.new ≡ put_under key value self.old }
+    {
+        let link = match find_link(&self.map, key) {
+            Some(link) => link,
+            None => return value,
+        };
+        let own = own_of(&value);
+        keep_at_hand(&mut self.map, key, link);
+        let old = self.store.set_value(link, value);
+        set_own(&mut self.store, self.root, link, own);
+        old
+    }
+}

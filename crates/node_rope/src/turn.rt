@@ -1,0 +1,229 @@
+// Rotations.
+ghost use Rattle.std.specs.Prelude.{◌≡◌, ◌+◌, ◌-◌, ◌^◌, ◌<◌, ◌≤◌, IsTrue, ◌↔◌, Some};
+ghost use Rattle.node_rope.specs.Made.{IsMade, IsKept, made_count, shapes_of, values_of};
+ghost use Rattle.node_rope.specs.Shapes.{IsSound, AreMade, shape_at, number_of, order, weight_at};
+ghost use Rattle.node_rope.specs.Grown.{with_parent};
+ghost use Rattle.node_rope.specs.Turned.{count_at, with_child, lifted_left, lifted_right, SameItems};
+
+use crate::attach::set_parent;
+use crate::cells::{Link, Shape};
+use crate::climb::{count_below, leads_to, least_below, weight_below};
+use crate::store::Store;
+
+fn lift_left<T: Drop>(store: &mut Store<T>, p: Link, c: Link, above: Shape, below: Shape)
+    requires made_p { IsMade store.old p }
+    requires made_c { IsMade store.old c }
+    requires made_right { AreMade store.old below.right }
+    requires made_other { AreMade store.old above.right }
+    requires counts { below.count ≤ above.count }
+    requires small { above.count - below.count + count_at (shapes_of store.old) below.right < 2 ^ 64 }
+    requires weights { below.weight ≤ above.weight }
+    requires light { above.weight - below.weight + weight_at (shapes_of store.old) below.right < 2 ^ 64 }
+    ensures shapes { shapes_of store.new ≡ lifted_left (shapes_of store.old) p c above below }
+    ensures values { values_of store.new ≡ values_of store.old }
+    ensures count { made_count store.new ≡ made_count store.old }
+    ensures kept { IsKept store.old store.new }
+{
+    let inner = count_below(store, below.right);
+    let sum = weight_below(store, below.right);
+    let other = least_below(store, above.right);
+    let least = least_below(store, below.right).min(above.own.rank.min(other));
+    set_parent(store, below.right, Some(p));
+    store.set_shape(
+        p,
+        Shape {
+            left: below.right,
+            parent: Some(c),
+            count: above.count - below.count + inner,
+            weight: above.weight - below.weight + sum,
+            least,
+            ..above
+        },
+    );
+    store.set_shape(
+        c,
+        Shape {
+            right: Some(p),
+            parent: above.parent,
+            count: above.count,
+            weight: above.weight,
+            least: above.least,
+            ..below
+        },
+    );
+}
+
+fn lift_right<T: Drop>(store: &mut Store<T>, p: Link, c: Link, above: Shape, below: Shape)
+    requires made_p { IsMade store.old p }
+    requires made_c { IsMade store.old c }
+    requires made_left { AreMade store.old below.left }
+    requires made_other { AreMade store.old above.left }
+    requires counts { below.count ≤ above.count }
+    requires small { above.count - below.count + count_at (shapes_of store.old) below.left < 2 ^ 64 }
+    requires weights { below.weight ≤ above.weight }
+    requires light { above.weight - below.weight + weight_at (shapes_of store.old) below.left < 2 ^ 64 }
+    ensures shapes { shapes_of store.new ≡ lifted_right (shapes_of store.old) p c above below }
+    ensures values { values_of store.new ≡ values_of store.old }
+    ensures count { made_count store.new ≡ made_count store.old }
+    ensures kept { IsKept store.old store.new }
+{
+    let inner = count_below(store, below.left);
+    let sum = weight_below(store, below.left);
+    let other = least_below(store, above.left);
+    let least = least_below(store, below.left).min(above.own.rank.min(other));
+    set_parent(store, below.left, Some(p));
+    store.set_shape(
+        p,
+        Shape {
+            right: below.left,
+            parent: Some(c),
+            count: above.count - below.count + inner,
+            weight: above.weight - below.weight + sum,
+            least,
+            ..above
+        },
+    );
+    store.set_shape(
+        c,
+        Shape {
+            left: Some(p),
+            parent: above.parent,
+            count: above.count,
+            weight: above.weight,
+            least: above.least,
+            ..below
+        },
+    );
+}
+
+// In the node `over`, `c` takes the place of its child `p`.
+fn set_child<T: Drop>(store: &mut Store<T>, over: Option<Link>, p: Link, c: Link)
+    requires { AreMade store.old over }
+    ensures shapes { shapes_of store.new ≡ with_child (shapes_of store.old) over p.number c }
+    ensures values { values_of store.new ≡ values_of store.old }
+    ensures count { made_count store.new ≡ made_count store.old }
+    ensures kept { IsKept store.old store.new }
+{
+    if let Some(g) = over {
+        let shape = store.shape(g);
+        if leads_to(shape.left, p) {
+            store.set_shape(
+                g,
+                Shape {
+                    left: Some(c),
+                    ..shape
+                },
+            );
+        } else {
+            store.set_shape(
+                g,
+                Shape {
+                    right: Some(c),
+                    ..shape
+                },
+            );
+        }
+    }
+}
+
+// `c`, the left child of `p`, comes above it. The answer is the top.
+fn turn_left<T: Drop>(store: &mut Store<T>, root: Option<Link>, p: Link, c: Link) -> Option<Link>
+    requires sound { IsSound store.old root }
+    requires made_p { IsMade store.old p }
+    requires made_c { IsMade store.old c }
+    requires child { number_of (shape_at (shapes_of store.old) p.number).left ≡ Some c.number }
+    ensures sound { IsSound store.new result }
+    ensures order { order store.new result ≡ order store.old root }
+    ensures items { SameItems (shapes_of store.old) (shapes_of store.new) }
+    ensures taller { (shape_at (shapes_of store.new) c.number).count ≡ (shape_at (shapes_of store.old) p.number).count }
+    ensures values { values_of store.new ≡ values_of store.old }
+    ensures count { made_count store.new ≡ made_count store.old }
+    ensures kept { IsKept store.old store.new }
+{
+    let above = store.shape(p);
+    let below = store.shape(c);
+    let over = above.parent;
+    lift_left(store, p, c, above, below);
+    set_child(store, over, p, c);
+    match over {
+        Some(_g) => root,
+        None => Some(c),
+    }
+}
+
+// `c`, the right child of `p`, comes above it. The answer is the top.
+fn turn_right<T: Drop>(store: &mut Store<T>, root: Option<Link>, p: Link, c: Link) -> Option<Link>
+    requires sound { IsSound store.old root }
+    requires made_p { IsMade store.old p }
+    requires made_c { IsMade store.old c }
+    requires child { number_of (shape_at (shapes_of store.old) p.number).right ≡ Some c.number }
+    ensures sound { IsSound store.new result }
+    ensures order { order store.new result ≡ order store.old root }
+    ensures items { SameItems (shapes_of store.old) (shapes_of store.new) }
+    ensures taller { (shape_at (shapes_of store.new) c.number).count ≡ (shape_at (shapes_of store.old) p.number).count }
+    ensures values { values_of store.new ≡ values_of store.old }
+    ensures count { made_count store.new ≡ made_count store.old }
+    ensures kept { IsKept store.old store.new }
+{
+    let above = store.shape(p);
+    let below = store.shape(c);
+    let over = above.parent;
+    lift_right(store, p, c, above, below);
+    set_child(store, over, p, c);
+    match over {
+        Some(_g) => root,
+        None => Some(c),
+    }
+}
+
+// `c` comes above its parent `p`.
+fn rise<T: Drop>(store: &mut Store<T>, root: Option<Link>, p: Link, c: Link) -> Option<Link>
+    requires sound { IsSound store.old root }
+    requires made_c { IsMade store.old c }
+    requires child { (shape_at (shapes_of store.old) c.number).parent ≡ Some p }
+    ensures sound { IsSound store.new result }
+    ensures order { order store.new result ≡ order store.old root }
+    ensures items { SameItems (shapes_of store.old) (shapes_of store.new) }
+    ensures taller { (shape_at (shapes_of store.new) c.number).count ≡ (shape_at (shapes_of store.old) p.number).count }
+    ensures values { values_of store.new ≡ values_of store.old }
+    ensures count { made_count store.new ≡ made_count store.old }
+    ensures kept { IsKept store.old store.new }
+{
+    if leads_to(store.shape(p).left, c) {
+        turn_left(store, root, p, c)
+    } else {
+        turn_right(store, root, p, c)
+    }
+}
+
+// Which node stands higher: a fixed mixture of its number, so that no order of inserts makes a deep tree by habit.
+fn height_of(number: usize) -> u64 {
+    let mut mixed = (number as u64).wrapping_mul(0x9E37_79B9_7F4A_7C15);
+    mixed = (mixed ^ (mixed >> 30)).wrapping_mul(0xBF58_476D_1CE4_E5B9);
+    mixed = (mixed ^ (mixed >> 27)).wrapping_mul(0x94D0_49BB_1331_11EB);
+    mixed ^ (mixed >> 31)
+}
+
+// Lets a new node rise to its height. The answer is the top.
+pub(crate) fn settle<T: Drop>(store: &mut Store<T>, root: Option<Link>, node: Link) -> Option<Link>
+    requires sound { IsSound store.old root }
+    requires made { IsMade store.old node }
+    ensures sound { IsSound store.new result }
+    ensures order { order store.new result ≡ order store.old root }
+    ensures items { SameItems (shapes_of store.old) (shapes_of store.new) }
+    ensures values { values_of store.new ≡ values_of store.old }
+    ensures count { made_count store.new ≡ made_count store.old }
+    ensures kept { IsKept store.old store.new }
+{
+    let height = height_of(node.number);
+    let mut top = root;
+    let mut shape = store.shape(node);
+    'up: while let Some(above) = shape.parent {
+        if height <= height_of(above.number) {
+            return top;
+        }
+        top = rise(store, top, above, node);
+        shape = store.shape(node);
+    }
+    top
+}
