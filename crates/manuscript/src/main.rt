@@ -1,8 +1,10 @@
 //! An offline editor for a manuscript that several authors change on their own machines.
 #![tactic(auto)]
 
-use manuscript_cli::{Refusal, Status, run, tell};
-use outer_ports::{StdSink, StdSource};
+use manuscript_cli::{Refusal, Status, files_of, read_words, run, tell};
+use outer_ports::{FileDisk, Opening, StdSink, StdSource, TcpDock, TcpWire};
+use std::fs::{File, OpenFile, OpenOptions};
+use std::hash::RandomState;
 use std::process::ExitCode;
 use std::rt::Env;
 use std::{env, io};
@@ -15,8 +17,35 @@ fn words(rt: &(impl Env + AllocGlobal)) -> io::Result<Vec<String>> {
         .map_err(io::Error::from)
 }
 
-/// Runs on the streams of the process.
-fn run_on_streams(rt: &HostRuntime) -> Status {
+/// Takes the least numbers that are free for files: those of the standard streams that are closed, where some are.
+///
+/// A file that is opened while these stand gets another number, so that no standard stream reads or writes it.
+fn take_least_numbers(rt: &HostRuntime) -> [io::Result<File>; 3] {
+    [open_root(rt), open_root(rt), open_root(rt)]
+}
+
+fn open_root(rt: &HostRuntime) -> io::Result<File> {
+    OpenOptions::new().read(true).open(rt, "/")
+}
+
+/// Opens the file that the words' command is about, for what the command does with it.
+fn open_home(rt: &HostRuntime, words: &[String]) -> FileDisk {
+    match (read_words(words), files_of(words)) {
+        (Some(command), (Some(path), _)) => FileDisk::open(rt, path, command.opening()),
+        _ => FileDisk::closed(),
+    }
+}
+
+/// Opens the other file that the words' command reads.
+fn open_guest(rt: &HostRuntime, words: &[String]) -> FileDisk {
+    match files_of(words) {
+        (_, Some(path)) => FileDisk::open(rt, path, Opening::Reading),
+        _ => FileDisk::closed(),
+    }
+}
+
+/// Runs on the streams of the process, the files that the words name, and the network of this machine.
+fn run_on_process(rt: &HostRuntime) -> Status {
     let mut input = StdSource::new(rt.stdin());
     let mut output = StdSink::new(rt.stdout());
     let mut notes = StdSink::new(rt.stderr());
@@ -28,9 +57,29 @@ fn run_on_streams(rt: &HostRuntime) -> Status {
         // A word that is not UTF-8: no command has such words.
         Err(_) => Vec::new(rt.alloc()),
     };
-    run(rt.alloc(), &words, &mut input, &mut output, &mut notes)
+    let Ok(hasher) = RandomState::new(rt) else {
+        return tell(&mut notes, Refusal::Outside);
+    };
+    let taken = take_least_numbers(rt);
+    let mut home = open_home(rt, &words);
+    let mut guest = open_guest(rt, &words);
+    drop(taken);
+    let mut wire = TcpWire::new(*rt);
+    let mut dock = TcpDock::new(*rt);
+    run(
+        rt.alloc(),
+        &words,
+        &mut input,
+        &mut output,
+        &mut notes,
+        &mut home,
+        &mut guest,
+        &mut wire,
+        &mut dock,
+        hasher,
+    )
 }
 
 fn main(rt: HostRuntime) -> ExitCode {
-    ExitCode::from(run_on_streams(&rt).code())
+    ExitCode::from(run_on_process(&rt).code())
 }

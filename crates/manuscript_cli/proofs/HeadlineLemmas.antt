@@ -3,19 +3,19 @@ use Rattle.std.proofs.Common.{◌≡◌, ℕ, ◌≤◌, List, length, refl, ap,
 use Rattle.std.specs.Prelude.{Some}
 use Rattle.fugue_ids.specs.declared.op.Op.{Op}
 use Rattle.origin_model.specs.frames.Frames.{Reads, Whole as EndsWhole}
-use Rattle.origin_model.specs.taking.Taking.{nothing}
-use Rattle.op_frame.specs.Courses.{HasPlace, Course, Whole, CutShort, BadFrame, TooLong, TooMany}
+use Rattle.origin_model.specs.taking.Taking.{HasPlace, nothing}
+use Rattle.op_frame.specs.Courses.{Course, Whole, CutShort, BadFrame, TooLong, TooMany}
 use Rattle.manuscript_cli.specs.Headline.{Headline, status_for, IsDecided}
 use Rattle.fugue_ids.specs.declared.limits.TheConstants.{MOST_OPERATIONS, STREAM_LIMIT}
 use Rattle.manuscript_cli.specs.Show.{ComesTo, Showed, Finished, StreamRefused, ShowMeets}
-use Rattle.manuscript_cli.specs.Touched.{Touched}
+use Rattle.manuscript_cli.specs.Touched.{Streams}
 use Rattle.manuscript_cli.specs.declared.refusal.Refusal.{Refusal}
 use Rattle.manuscript_cli.specs.declared.refusal.Refusal.TheVariants as refusal
 use Rattle.manuscript_cli.specs.declared.status.Status.{Status}
 use Rattle.manuscript_cli.specs.declared.status.Status.TheVariants as status
 use Rattle.manuscript_cli.proofs.ShowLemmas.{same_input}
 
-module _ (hold : ℕ) (old new : Touched) (bytes : List ℕ) (ops : List Op) (course : Course) (is : old.input.left ≡ Some bytes) (comes : ComesTo hold bytes ops course) where
+module _ (hold : ℕ) (old new : Streams) (bytes : List ℕ) (ops : List Op) (course : Course) (is : old.input.left ≡ Some bytes) (comes : ComesTo hold bytes ops course) where
   finished_so : (end : Status) → Finished hold old new end → Showed hold nothing ops old new end × (course ≡ Whole)
   finished_so end done =
       let same = same_input hold old.input.left bytes done.ops ops Whole course is done.came comes in
@@ -27,7 +27,7 @@ module _ (hold : ℕ) (old new : Touched) (bytes : List ℕ) (ops : List Op) (co
   refused_so : (other : Course) (why : Refusal) → StreamRefused hold old new other why → other ≡ course
   refused_so other why refused = (same_input hold old.input.left bytes refused.ops ops other course is refused.came comes).1
 
-pub decided : (hold : ℕ) (old new : Touched) (end : Status) → ShowMeets hold old new end → IsDecided hold old new end
+pub decided : (hold : ℕ) (old new : Streams) (end : Status) → ShowMeets hold old new end → IsDecided hold old new end
 decided hold old new status.Done meets bytes ops course is comes = inl (decided_so hold old new bytes ops course is comes status.Done meets)
 decided hold old new status.Partial meets bytes ops course is comes = inl (decided_so hold old new bytes ops course is comes status.Partial meets)
 decided hold old new status.BadInput meets bytes ops course is comes =
@@ -53,7 +53,7 @@ whole : (hold : ℕ) (bytes : List ℕ) (ops : List Op) → Reads bytes ops Ends
 whole hold bytes ops reads short place = record { has_place = place; ends = (short, reads) }
 
 -- where no object failed and no limit was met, the stream was shown
-pub headline : (hold : ℕ) (old new : Touched) (end : Status) → ShowMeets hold old new end → Headline hold old new end
+pub headline : (hold : ℕ) (old new : Streams) (end : Status) → ShowMeets hold old new end → Headline hold old new end
 headline hold old new status.Done meets bytes ops is reads short place calm memory =
     (finished_so hold old new bytes ops Whole is (whole hold bytes ops reads short place) status.Done meets).0
 headline hold old new status.Partial meets bytes ops is reads short place calm memory =

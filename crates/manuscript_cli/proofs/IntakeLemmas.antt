@@ -1,14 +1,19 @@
 -- Taking in a stream: what a step is by what its calls answered, and what all steps come to.
-use Rattle.std.proofs.Common.{◌≡◌, ℕ, List, [], ap, sym, subst, ◌∙◌}
-use Rattle.std.specs.Prelude.{Option, Bool, true, false, Ok, Err, IfSome}
+use Rattle.std.proofs.Common.{◌≡◌, ◌≢◌, ℕ, List, [], ◌∷◌, ◌++◌, refl, ap, sym, subst, ◌∙◌, append_assoc}
+use Rattle.std.specs.Prelude.{Option, Some, None, Bool, true, false, Ok, Err, IfSome}
+use Rattle.std.proofs.lemmas.List.{append-nil}
 use Rattle.fugue_ids.specs.declared.op.Op.{Op}
 use Rattle.outer_ports.specs.Sources.{SourceView}
-use Rattle.origin_model.specs.taking.Taking.{TooMany as AnswersTooMany, answer, intake, intake_counted}
+use Rattle.origin_model.specs.declared.taking.tally.Tally.{Tally}
+use Rattle.origin_model.specs.taking.Taking.{HasPlace, Held, TooMany as AnswersTooMany, answer, held_from, intake, intake_counted, kept_from, no_counts, tally_from}
+use Rattle.origin_model.proofs.SharedLemmas.{held-append, kept-append, places-append, places-none, places-one, tally-append}
 use Rattle.op_frame.specs.Courses.{Comes, Course, Whole, CutShort as IsCutShort, BadFrame as HasBadFrame, TooLong as IsTooLong, TooMany as HasTooMany}
-use Rattle.op_frame.proofs.CourseLemmas.{Fed, fed_more, fed_whole, fed_cut, fed_bad, fed_long, fed_many}
+use Rattle.op_frame.specs.Readers.{Gave}
+use Rattle.op_frame.proofs.StreamLemmas.{follows, gave_none}
+use Rattle.op_frame.proofs.CourseLemmas.{Fed, fed_whole, fed_cut, fed_bad, fed_long, fed_many}
 use Rattle.replica_core.specs.State.{State}
 use Rattle.fugue_ids.specs.declared.limits.TheConstants.{STREAM_LIMIT}
-use Rattle.manuscript_cli.specs.Intake.{Taking, TakesOne, Steps, SourceComes, TakesIn, StopsFor}
+use Rattle.manuscript_cli.specs.Intake.{Taking, TakesOne, Steps, SourceComes, TakesIn, StopsFor, copied}
 use Rattle.manuscript_cli.specs.declared.refusal.Refusal.{Refusal}
 use Rattle.manuscript_cli.specs.declared.refusal.Refusal.TheVariants as refusal
 
@@ -22,31 +27,67 @@ Ended old new before after = Steps old new before after (Ok false)
 pub step_ended : (more : Bool) (old new : Taking) (before after : SourceView) → more ≡ false → Steps old new before after (Ok more) → Ended old new before after
 step_ended more old new before after is steps = subst (λ b. Steps old new before after (Ok b)) is steps
 
--- a state that differs from the start in what it holds
-abbrev pub GrewFrom : State → State → Type 0
-GrewFrom start now = now ≡ record start { held = now.held }
+-- counts that are all 0
+pub fresh_counts : (t : Tally) → (t.accepted ≡ 0) × ((t.repeated ≡ 0) × ((t.conflict ≡ 0) × ((t.stray ≡ 0) × (t.full ≡ 0)))) → t ≡ no_counts
+fresh_counts t (accepted, (repeated, (conflict, (stray, full)))) =
+    λ i. record { accepted = accepted i; repeated = repeated i; conflict = conflict i; stray = stray i; full = full i }
 
-module _ (start : State) (told : Option (List ℕ)) (old new : Taking) (before after : SourceView) (grew : GrewFrom start old.replica)
-    (fed : Fed start.hold start.most start.held told old.reader before.left old.replica.held old.counts) where
-  same_hold : old.replica.hold ≡ start.hold
-  same_hold = ap (λ (s : State). s.hold) grew
+copied-nil : (kept : Option (List Op)) → copied kept [] ≡ kept
+copied-nil None = refl
+copied-nil (Some ops) = ap Some (append-nil ops)
 
-  same_most : old.replica.most ≡ start.most
-  same_most = ap (λ (s : State). s.most) grew
+copied-append : (kept : Option (List Op)) (a b : List Op) → copied (copied kept a) b ≡ copied kept (a ++ b)
+copied-append None a b = refl
+copied-append (Some ops) a b = ap Some (append_assoc ops a b)
+
+-- of the bytes that were told, the reader gave operations, which were taken in from a start
+pub record FedFrom (start : State) (kept : Option (List Op)) (told : Option (List ℕ)) (now : Taking) (left : Option (List ℕ)) : Type 0 where
+  pub ops : List Op
+  pub gave : Gave told ops now.reader left
+  pub has_place : HasPlace start.hold start.most start.held ops
+  pub replica_is : now.replica ≡ record start { held = held_from start.hold start.most start.held ops }
+  pub counts_are : now.counts ≡ tally_from start.hold start.most start.held ops no_counts
+  pub kept_are : now.kept ≡ copied kept (kept_from start.hold start.most start.held ops)
+
+-- nothing was read yet
+pub fed_nothing : (start : State) (told : Option (List ℕ)) (now : Taking) → now.reader.unread ≡ [] → now.reader.offset ≡ 0 → now.replica ≡ start → now.counts ≡ no_counts
+    → FedFrom start now.kept told now told
+fed_nothing start told now none at same counts = record {
+  ops = [];
+  gave = gave_none now.reader told none at;
+  has_place = places-none start.hold start.most start.held;
+  replica_is = same;
+  counts_are = counts;
+  kept_are = sym (copied-nil now.kept);
+}
+
+module _ (start : State) (kept : Option (List Op)) (told : Option (List ℕ)) (old new : Taking) (before after : SourceView) (fed : FedFrom start kept told old before.left) where
+  reached : Held
+  reached = held_from start.hold start.most start.held fed.ops
 
   -- one operation more was taken in
-  pub fed_one : TakesOne old new before after → Fed start.hold start.most start.held told new.reader after.left new.replica.held new.counts
+  pub fed_one : TakesOne old new before after → FedFrom start kept told new after.left
   fed_one one =
-      let other = λ (many : answer start.hold start.most old.replica.held one.op ≡ AnswersTooMany). one.has_place ((λ i. answer (same_hold i) (same_most i) old.replica.held one.op) ∙ many) in
-      let held : new.replica.held ≡ intake start.hold start.most old.replica.held one.op = ap (λ (s : State). s.held) one.replica ∙ (λ i. intake (same_hold i) (same_most i) old.replica.held one.op) in
-      let counts : new.counts ≡ intake_counted start.hold start.most old.replica.held one.op old.counts =
-      one.counts ∙ (λ i. intake_counted (same_hold i) (same_most i) old.replica.held one.op old.counts) in
-      subst (λ s. Fed start.hold start.most start.held told new.reader after.left s new.counts) (sym held)
-      (subst (Fed start.hold start.most start.held told new.reader after.left (intake start.hold start.most old.replica.held one.op)) (sym counts)
-      (fed_more start.hold start.most start.held told old.reader new.reader before after old.replica.held old.counts fed one.op one.nexts other))
+      let hold : ℕ = start.hold in
+      let most : ℕ = start.most in
+      let held : Held = held_from hold most start.held fed.ops in
+      let place : answer hold most held one.op ≢ AnswersTooMany = subst (λ (r : State). answer r.hold r.most r.held one.op ≢ AnswersTooMany) fed.replica_is one.has_place in
+      record {
+        ops = fed.ops ++ one.op ∷ [];
+        gave = (follows told fed.ops old.reader new.reader before after fed.gave (Ok (Some one.op)) one.nexts).gave (λ is. cc is);
+        has_place = places-append hold most start.held fed.ops (one.op ∷ []) fed.has_place (places-one hold most held one.op place);
+        replica_is = one.replica ∙ ap (λ (r : State). record r { held = intake r.hold r.most r.held one.op }) fed.replica_is
+            ∙ ap (λ (h : Held). record start { held = h }) (held-append hold most start.held fed.ops (one.op ∷ []));
+        counts_are = one.counts ∙ (λ i. let r : State = fed.replica_is i in intake_counted r.hold r.most r.held one.op (fed.counts_are i))
+            ∙ tally-append hold most start.held fed.ops (one.op ∷ []) no_counts;
+        kept_are = one.kept ∙ (λ i. let r : State = fed.replica_is i in copied (fed.kept_are i) (kept_from r.hold r.most r.held (one.op ∷ [])))
+            ∙ copied-append kept (kept_from hold most start.held fed.ops) (kept_from hold most held (one.op ∷ []))
+            ∙ ap (copied kept) (kept-append hold most start.held fed.ops (one.op ∷ []));
+      }
 
-  pub grew_one : TakesOne old new before after → GrewFrom start new.replica
-  grew_one one = let e = one.replica in cc (e, grew)
+  -- what the reader gave and the counts of it
+  abbrev counted : Fed start.hold start.most start.held told old.reader before.left old.replica.held old.counts
+  counted = record { ops = fed.ops; gave = fed.gave; has_place = fed.has_place; state_is = ap (λ (r : State). r.held) fed.replica_is; counts_are = fed.counts_are }
 
   at_limit : (course : Course) → old.reader.limit ≡ STREAM_LIMIT → IfSome told (λ bytes. Comes start.hold start.most start.held old.reader.limit bytes fed.ops course)
       → IfSome told (λ bytes. Comes start.hold start.most start.held STREAM_LIMIT bytes fed.ops course)
@@ -54,14 +95,15 @@ module _ (start : State) (told : Option (List ℕ)) (old new : Taking) (before a
 
   -- the end was reached
   pub fed_over : (source last : SourceView) → source.left ≡ told → last.left ≡ after.left → old.reader.limit ≡ STREAM_LIMIT → Ended old new before after
-      → TakesIn start source last new.replica new.counts
+      → TakesIn start source last new.replica new.counts kept new.kept
   fed_over source last same same_last limit ended = record {
     ops = fed.ops;
     came = subst (λ o. IfSome o (λ bytes. Comes start.hold start.most start.held STREAM_LIMIT bytes fed.ops Whole)) (sym same)
-        (at_limit Whole limit (fed_whole start.hold start.most start.held told old.reader new.reader before after old.replica.held old.counts fed ended.0));
+        (at_limit Whole limit (fed_whole start.hold start.most start.held told old.reader new.reader before after old.replica.held old.counts counted ended.0));
     read = subst (λ o. IfSome o (λ bytes. bytes ≡ [])) (sym same_last) ended.0.moves.1;
-    replica_is = ended.1 ∙ grew ∙ (λ i. record start { held = fed.state_is i });
+    replica_is = ended.1 ∙ fed.replica_is;
     counts_are = ended.2 ∙ fed.counts_are;
+    kept_are = ended.3 ∙ fed.kept_are;
   }
 
   -- a step met the cause to stop
@@ -72,16 +114,17 @@ module _ (start : State) (told : Option (List ℕ)) (old new : Taking) (before a
       came course is = (fed.ops, subst (λ o. IfSome o (λ bytes. Comes start.hold start.most start.held STREAM_LIMIT bytes fed.ops course)) (sym same) (at_limit course limit is))
 
       by_cause : (why : Refusal) → Steps old new before after (Err why) → StopsFor why start source
-      by_cause refusal.Words steps = absurd steps
       by_cause (refusal.BadFrame k) steps =
-          came (HasBadFrame k) (fed_bad start.hold start.most start.held told old.reader new.reader before after old.replica.held old.counts fed k steps)
+          came (HasBadFrame k) (fed_bad start.hold start.most start.held told old.reader new.reader before after old.replica.held old.counts counted k steps)
       by_cause (refusal.CutShort k) steps =
-          came (IsCutShort k) (fed_cut start.hold start.most start.held told old.reader new.reader before after old.replica.held old.counts fed k steps)
+          came (IsCutShort k) (fed_cut start.hold start.most start.held told old.reader new.reader before after old.replica.held old.counts counted k steps)
       by_cause refusal.TooLong steps =
-          came IsTooLong (fed_long start.hold start.most start.held told old.reader new.reader before after old.replica.held old.counts fed steps)
+          came IsTooLong (fed_long start.hold start.most start.held told old.reader new.reader before after old.replica.held old.counts counted steps)
       by_cause (refusal.TooMany count) steps =
-          let many = came HasTooMany (fed_many start.hold start.most start.held told old.reader new.reader before after old.replica.held old.counts fed steps.1.op steps.1.nexts
-          ((λ i. answer (sym same_hold i) (sym same_most i) old.replica.held steps.1.op) ∙ steps.1.refused)) in
-          (steps.0 ∙ same_most, many.0, many.1)
+          let refused = subst (λ (r : State). answer r.hold r.most r.held steps.1.op ≡ AnswersTooMany) fed.replica_is steps.1.refused in
+          let many = came HasTooMany (fed_many start.hold start.most start.held told old.reader new.reader before after old.replica.held old.counts counted steps.1.op steps.1.nexts
+          (ap (λ (r : State). answer start.hold start.most r.held steps.1.op) fed.replica_is ∙ refused)) in
+          (steps.0 ∙ ap (λ (r : State). r.most) fed.replica_is, many.0, many.1)
       by_cause refusal.Outside steps = tt
       by_cause refusal.NoMemory steps = tt
+      by_cause _ steps = absurd steps

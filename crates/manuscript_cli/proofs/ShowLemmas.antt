@@ -15,23 +15,20 @@ use Rattle.manuscript_cli.specs.Counts.{is_done}
 use Rattle.fugue_ids.specs.declared.limits.TheConstants.{MOST_OPERATIONS, STREAM_LIMIT}
 use Rattle.manuscript_cli.specs.Printing.{PrintMeets}
 use Rattle.manuscript_cli.specs.Refusal.{line_of, Told, status_of}
-use Rattle.manuscript_cli.specs.Run.{Meets}
-use Rattle.manuscript_cli.specs.Show.{reader, ComesTo, Finished, ShowMeets, ShowStaysCalm, NeverOutside, brought, printed}
+use Rattle.manuscript_cli.specs.Show.{reader, ComesTo, Finished, ShowMeets, NeverOutside, brought, printed}
 use Rattle.manuscript_cli.specs.Intake.{TakesIn, StopsFor}
-use Rattle.manuscript_cli.specs.Touched.{Touched, HasRoom, StaysCalm}
-use Rattle.manuscript_cli.specs.declared.command.Command.{Command}
-use Rattle.manuscript_cli.specs.declared.command.Command.TheVariants.{Show}
+use Rattle.manuscript_cli.specs.Touched.{Streams, HasRoom, StaysCalm}
 use Rattle.manuscript_cli.specs.declared.refusal.Refusal.{Refusal}
 use Rattle.manuscript_cli.specs.declared.refusal.Refusal.TheVariants as refusal
 use Rattle.manuscript_cli.specs.declared.status.Status.{Status}
 use Rattle.manuscript_cli.specs.declared.status.Status.TheVariants as status
 
 -- the end of what was shown is Done or Partial
-done_or_partial : (all : Bool) → let end : Status = if all then status.Done else status.Partial in (end ≡ status.Done) ⊎ (end ≡ status.Partial)
+pub done_or_partial : (all : Bool) → let end : Status = if all then status.Done else status.Partial in (end ≡ status.Done) ⊎ (end ≡ status.Partial)
 done_or_partial true = inl refl
 done_or_partial false = inr refl
 
-finished_meets : (hold : ℕ) (old new : Touched) (end : Status) → Finished hold old new end → ShowMeets hold old new end
+finished_meets : (hold : ℕ) (old new : Streams) (end : Status) → Finished hold old new end → ShowMeets hold old new end
 finished_meets hold old new end done =
     elim (done_or_partial (is_done (tally hold MOST_OPERATIONS done.ops) (length (held hold MOST_OPERATIONS done.ops).waiting))) [
       | inl is ↦ let so = done.showed.end_is ∙ is in subst (ShowMeets hold old new) (sym so) (subst (Finished hold old new) so done)
@@ -39,9 +36,9 @@ finished_meets hold old new end done =
     ]
 
 -- the stream was taken in, and the manuscript printed and noted, or not
-pub printed_meets : (hold : ℕ) (old new : Touched) (replica : State) (counts : Tally) (end : Status) → TakesIn (reader hold) old.input new.input replica counts
-    → PrintMeets replica.held counts old.output new.output old.notes new.notes end → ShowMeets hold old new end
-printed_meets hold old new replica counts end taken prints =
+pub printed_meets : (hold : ℕ) (old new : Streams) (replica : State) (counts : Tally) (kept kept_after : Option (List Op)) (end : Status)
+    → TakesIn (reader hold) old.input new.input replica counts kept kept_after → PrintMeets replica.held counts old.output new.output old.notes new.notes end → ShowMeets hold old new end
+printed_meets hold old new replica counts kept kept_after end taken prints =
     by_state (subst (λ s. PrintMeets s (tally hold MOST_OPERATIONS taken.ops) old.output new.output old.notes new.notes end) (ap (λ (r : State). r.held) taken.replica_is)
     (subst (λ c. PrintMeets replica.held c old.output new.output old.notes new.notes end) taken.counts_are prints))
   where
@@ -74,10 +71,9 @@ printed_meets hold old new replica counts end taken prints =
     })))
 
 -- the stream was refused
-pub refused_meets : (why : Refusal) (hold : ℕ) (old new : Touched) → StopsFor why (reader hold) old.input
+pub refused_meets : (why : Refusal) (hold : ℕ) (old new : Streams) → StopsFor why (reader hold) old.input
     → (why ≡ refusal.Outside → Rose old.input.faults new.input.faults) → (old.input.sure ≡ true → why ≢ refusal.Outside)
     → new.output ≡ old.output → Told old.notes new.notes (line_of why) → ShowMeets hold old new (status_of why)
-refused_meets refusal.Words hold old new stops rose sure same told = absurd stops
 refused_meets (refusal.BadFrame k) hold old new stops rose sure same told = (k, inl (record { ops = stops.0; came = stops.1; refused = record { output = same; notes = told } }))
 refused_meets (refusal.CutShort k) hold old new stops rose sure same told = (k, inr (record { ops = stops.0; came = stops.1; refused = record { output = same; notes = told } }))
 refused_meets refusal.TooLong hold old new stops rose sure same told = inl (record { ops = stops.0; came = stops.1; refused = record { output = same; notes = told } })
@@ -89,6 +85,7 @@ refused_meets (refusal.TooMany count) hold old new stops rose sure same told = i
 refused_meets refusal.Outside hold old new stops rose sure same told =
     inl (record { rose = rose refl; not_sure = λ is. sure is refl; refused = record { output = same; notes = told } })
 refused_meets refusal.NoMemory hold old new stops rose sure same told = record { output = same; notes = told }
+refused_meets _ hold old new stops rose sure same told = absurd stops
 
 -- what the input came to is what its bytes come to
 pub same_input : (hold : ℕ) (left : Option (List ℕ)) (bytes : List ℕ) (ops others : List Op) (course other : Course) → left ≡ Some bytes
@@ -101,15 +98,15 @@ brought_of : (hold : ℕ) (ops others : List Op) (course : Course) → (ops ≡ 
 brought_of hold ops others course same = λ i. brought hold (sym same.0 i) (sym same.1 i)
 
 -- where the manuscript has room, the output stays calm
-pub output_calm : (hold : ℕ) (input input' : SourceView) (output output' : OutView) (replica : State) (counts : Tally) → TakesIn (reader hold) input input' replica counts
-    → StaysCalm (length (manuscript replica.held.history)) output output' → (bytes : List ℕ) (ops : List Op) (course : Course) → input.left ≡ Some bytes
+pub output_calm : (hold : ℕ) (input input' : SourceView) (output output' : OutView) (replica : State) (counts : Tally) (kept kept_after : Option (List Op))
+    → TakesIn (reader hold) input input' replica counts kept kept_after → StaysCalm (length (manuscript replica.held.history)) output output' → (bytes : List ℕ) (ops : List Op) (course : Course) → input.left ≡ Some bytes
     → ComesTo hold bytes ops course → StaysCalm (length (brought hold ops course)) output output'
-output_calm hold input input' output output' replica counts taken calm bytes ops course is comes has =
+output_calm hold input input' output output' replica counts kept kept_after taken calm bytes ops course is comes has =
     let same = brought_of hold taken.ops ops course (same_input hold input.left bytes taken.ops ops Whole course is taken.came comes) in
     calm (subst (λ text. HasRoom (length text) output) (same ∙ ap (λ (r : State). manuscript r.held.history) (sym taken.replica_is)) has)
 
 -- where all is sure and has room, no outside fault comes
-pub never_outside : (hold : ℕ) (old new : Touched) (end : Status) → ShowMeets hold old new end → NeverOutside hold old end
+pub never_outside : (hold : ℕ) (old new : Streams) (end : Status) → ShowMeets hold old new end → NeverOutside hold old end
 never_outside hold old new end meets bytes ops course is comes sure output notes outside = by_cause (subst (ShowMeets hold old new) outside meets)
   where
     by_cause : ShowMeets hold old new status.OutsideFault → ⊥
@@ -118,12 +115,3 @@ never_outside hold old new end meets bytes ops course is comes sure output notes
         let same = brought_of hold write.ops ops course (same_input hold old.input.left bytes write.ops ops Whole course is write.came comes) in
         write.no_room (subst (λ text. HasRoom (length text) old.output) same output)
     by_cause (inr (inr note)) = note.no_room notes
-
--- each command is `show`
-pub is_show : (command : Command) → (hold : ℕ) × (command ≡ Show hold)
-is_show (Show hold) = (hold, refl)
-
-pub show_meets : (command : Command) (hold : ℕ) (old new : Touched) (end : Status) → command ≡ Show hold → ShowMeets hold old new end → ShowStaysCalm hold old new
-    → Meets (Some command) old new end
-show_meets command hold old new end same does calm =
-    subst (λ c. Meets (Some c) old new end) (sym same) (record { others = refl; does = does; calm = calm; never_outside = never_outside hold old new end does })

@@ -1,12 +1,15 @@
 -- Lines that are written to the notes, and sure objects with room for them.
-use Rattle.std.proofs.Common.{ℕ, ◌≤◌, List, length, take, sym, subst, arith}
+use Rattle.std.proofs.Common.{◌≡◌, inr, ℕ, ◌≤◌, List, length, take, sym, subst, arith}
 use Rattle.std.specs.Prelude.{Result, Ok, Err, IfSome}
 use Rattle.std.proofs.lemmas.List.{take_all}
 use Rattle.fugue_ids.proofs.JoinLemmas.{took_joins}
 use Rattle.fugue_ids.specs.Outs.{OutView, IsSure, Took, TookFront, WritesText}
 use Rattle.fugue_ids.specs.declared.failed.Failed.{Failed}
-use Rattle.manuscript_cli.specs.Refusal.{Told, TookFronts}
+use Rattle.manuscript_cli.specs.Printing.{NoteMeets}
+use Rattle.manuscript_cli.specs.Refusal.{Told, TookFronts, line_of, status_of}
 use Rattle.manuscript_cli.specs.Touched.{HasRoom, StaysCalm, notes_room}
+use Rattle.manuscript_cli.specs.declared.refusal.Refusal.TheVariants as refusal
+use Rattle.manuscript_cli.specs.declared.status.Status.{Status}
 
 -- a text for which there is room goes out, and no fault is counted
 sure_of : (result : Result (Unit {0}) Failed) (old new : OutView) (text : List ℕ) → WritesText old new result text → (has : HasRoom (length text) old)
@@ -24,7 +27,7 @@ pub text_stays_calm : (result : Result (Unit {0}) Failed) (old new : OutView) (t
 text_stays_calm (Ok x) old new text bytes wrote short has = (sure_of (Ok x) old new text wrote (less_room (length text) bytes old short has)).calm
 text_stays_calm (Err e) old new text bytes wrote short has = absurd (text_has_no_room e old new text bytes wrote short has)
 
-whole_front : (old new : OutView) (text : List ℕ) → Took old new text → TookFront old new text
+pub whole_front : (old new : OutView) (text : List ℕ) → Took old new text → TookFront old new text
 whole_front old new text took = record { count = length text; within = omega arith; took = subst (Took old new) (sym (take_all (length text) text (omega arith))) took }
 
 -- a line was written, as far as the notes took it
@@ -53,3 +56,13 @@ fronts_joined old mid new first second a b = record {
   more_within = b.within;
   took = took_joins old mid new (take a.count first) (take b.count second) a.took b.took;
 }
+
+-- a line of notes did not go out whole, and the fault was told
+pub not_noted : (e : Failed) (old mid new : OutView) (line : List ℕ) (status end : Status) → WritesText {E = Failed} {T = Unit {0}} old mid (Err e) line → length line ≤ notes_room
+    → Told mid new (line_of refusal.Outside) → end ≡ status_of refusal.Outside → NoteMeets line status old new end
+not_noted e old mid new line status end wrote short told is = inr (record {
+  took = fronts_joined old mid new line (line_of refusal.Outside) wrote.err told.front;
+  rose = omega (arith, wrote.cause.failed, told.later);
+  no_room = text_has_no_room e old mid line notes_room wrote short;
+  end_is = is;
+})

@@ -1,10 +1,12 @@
 -- Which words ask for which command. Words are lists of bytes.
-use Rattle.std.specs.Prelude.{◌≡◌, ◌⊎◌, ℕ, List, [], ◌∷◌, codes, Option, Some, IfSome}
+use Rattle.std.specs.Prelude.{◌≡◌, ◌≢◌, ◌⊎◌, ℕ, List, [], ◌∷◌, codes, Option, Some, None, IfSome}
 use Rattle.fugue_ids.specs.declared.limits.TheConstants.{GREATEST_HOLD}
+use Rattle.outer_ports.specs.declared.disk.file_disk.Opening.{Opening}
+use Rattle.outer_ports.specs.declared.disk.file_disk.Opening.TheVariants.{Reading, Writing, Creating}
 use Rattle.manuscript_cli.specs.Number.{IsNumber}
 use Rattle.manuscript_cli.specs.declared.command.Command.{Command}
-use Rattle.manuscript_cli.specs.declared.command.Command.TheVariants.{Show}
-use Rattle.manuscript_cli.specs.declared.words.TheConstants.{USUAL_HOLD}
+use Rattle.manuscript_cli.specs.declared.command.Command.TheVariants.{Show, New, Edit, Print, Take, Send, Merge, Relay, Sync}
+use Rattle.manuscript_cli.specs.declared.words.TheConstants.{GREATEST_CURSOR, GREATEST_PORT, GREATEST_REPLICA, MOST_SESSIONS, USUAL_HOLD}
 
 -- `show HOLD`
 pub record NamesShow (words : List (List ℕ)) (hold : ℕ) : Type 0 where
@@ -12,11 +14,86 @@ pub record NamesShow (words : List (List ℕ)) (hold : ℕ) : Type 0 where
   pub words_are : words ≡ codes "show" ∷ word ∷ []
   pub number : IsNumber word 1 GREATEST_HOLD hold
 
+-- `new FILE REPLICA HOLD`
+pub record NamesNew (words : List (List ℕ)) (replica hold : ℕ) : Type 0 where
+  pub file : List ℕ
+  pub some : file ≢ []
+  pub number_word : List ℕ
+  pub hold_word : List ℕ
+  pub words_are : words ≡ codes "new" ∷ file ∷ number_word ∷ hold_word ∷ []
+  pub replica_is : IsNumber number_word 1 GREATEST_REPLICA replica
+  pub hold_is : IsNumber hold_word 1 GREATEST_HOLD hold
+
+-- a name, and FILE
+pub record NamesFile (name : List ℕ) (words : List (List ℕ)) : Type 0 where
+  pub file : List ℕ
+  pub some : file ≢ []
+  pub words_are : words ≡ name ∷ file ∷ []
+
+-- `merge FILE OTHER`
+pub record NamesMerge (words : List (List ℕ)) : Type 0 where
+  pub file : List ℕ
+  pub some : file ≢ []
+  pub other : List ℕ
+  pub some_other : other ≢ []
+  pub words_are : words ≡ codes "merge" ∷ file ∷ other ∷ []
+
+-- `relay PORT SESSIONS`
+pub record NamesRelay (words : List (List ℕ)) (port sessions : ℕ) : Type 0 where
+  pub port_word : List ℕ
+  pub sessions_word : List ℕ
+  pub words_are : words ≡ codes "relay" ∷ port_word ∷ sessions_word ∷ []
+  pub port_is : IsNumber port_word 1 GREATEST_PORT port
+  pub sessions_are : IsNumber sessions_word 1 MOST_SESSIONS sessions
+
+-- `sync FILE PORT CURSOR`
+pub record NamesSync (words : List (List ℕ)) (port cursor : ℕ) : Type 0 where
+  pub file : List ℕ
+  pub some : file ≢ []
+  pub port_word : List ℕ
+  pub cursor_word : List ℕ
+  pub words_are : words ≡ codes "sync" ∷ file ∷ port_word ∷ cursor_word ∷ []
+  pub port_is : IsNumber port_word 1 GREATEST_PORT port
+  pub cursor_is : IsNumber cursor_word 0 GREATEST_CURSOR cursor
+
 -- the words ask for the command
 abbrev pub Names : List (List ℕ) → Command → Type 0
 Names words (Show hold) = ((words ≡ codes "show" ∷ []) × (hold ≡ USUAL_HOLD)) ⊎ NamesShow words hold
+Names words (New replica hold) = NamesNew words replica hold
+Names words Edit = NamesFile (codes "edit") words
+Names words Print = NamesFile (codes "print") words
+Names words Take = NamesFile (codes "take") words
+Names words Send = NamesFile (codes "send") words
+Names words Merge = NamesMerge words
+Names words (Relay port sessions) = NamesRelay words port sessions
+Names words (Sync port cursor) = NamesSync words port cursor
 
 -- the command that the words ask for: None, where they ask for none
 pub record IsCommand (words : List (List ℕ)) (command : Option Command) : Type 0 where
   pub named : IfSome command (Names words)
   pub only : (other : Command) → Names words other → command ≡ Some other
+
+-- the file that a command is about, and the other file that it reads: the words behind its name
+abbrev pub home_word : Command → List (List ℕ) → Option (List ℕ)
+home_word (Show hold) words = None
+home_word (Relay port sessions) words = None
+home_word _ (name ∷ file ∷ more) = Some file
+home_word _ words = None
+
+abbrev pub guest_word : Command → List (List ℕ) → Option (List ℕ)
+guest_word Merge (name ∷ file ∷ other ∷ more) = Some other
+guest_word _ words = None
+
+-- what the file that a command is about is opened for: to be made, to be read and written, or to be read alone
+abbrev pub opening_for : Command → Opening
+opening_for (New replica hold) = Creating
+opening_for Edit = Writing
+opening_for Take = Writing
+opening_for Merge = Writing
+opening_for (Sync port cursor) = Writing
+opening_for _ = Reading
+
+-- these are the files of the command that the words ask for: none, where they ask for none
+pub record HasFiles (words : List (List ℕ)) (home guest : Option (List ℕ)) : Type 0 where
+  pub of_command : (command : Command) → Names words command → (home ≡ home_word command words) × (guest ≡ guest_word command words)
+  pub of_none : ((command : Command) → Names words command → ⊥) → (home ≡ None) × (guest ≡ None)

@@ -1,5 +1,5 @@
 -- The line of notes that says what became of the operations, and the status that they lead to.
-use Rattle.std.specs.Prelude.{ℕ, Bool, List, [], ◌∷◌, flat_map, codes, decimal, nat_eq, ◌&&◌, if◌then◌else◌}
+use Rattle.std.specs.Prelude.{ℕ, Bool, List, [], ◌∷◌, ◌++◌, Option, Some, None, flat_map, codes, decimal, nat_eq, ◌&&◌, if◌then◌else◌}
 use Rattle.origin_model.specs.declared.taking.tally.Tally.{Tally}
 use Rattle.manuscript_cli.specs.declared.status.Status.{Status}
 use Rattle.manuscript_cli.specs.declared.status.Status.TheVariants.{Done, Partial}
@@ -14,6 +14,15 @@ counts_line tally waiting =
     ∷ codes ", stray " ∷ decimal tally.stray
     ∷ codes ", full " ∷ decimal tally.full
     ∷ (10 ∷ []) ∷ [])
+
+-- the line that says where a relay's log ended
+abbrev pub cursor_line : ℕ → List ℕ
+cursor_line cursor = codes "cursor " ++ decimal cursor ++ 10 ∷ []
+
+-- the counts, and behind them where a relay's log ended, if they came from one
+abbrev pub counts_text : Tally → ℕ → Option ℕ → List ℕ
+counts_text tally waiting None = counts_line tally waiting
+counts_text tally waiting (Some cursor) = counts_line tally waiting ++ cursor_line cursor
 
 -- nothing waits, and nothing was refused but repeats
 abbrev pub is_done : Tally → ℕ → Bool

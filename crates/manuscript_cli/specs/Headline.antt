@@ -3,16 +3,16 @@ use Rattle.std.specs.Prelude.{◌≡◌, ◌≢◌, ◌⊎◌, ℕ, ◌≤◌, L
 use Rattle.fugue_ids.specs.Causes.{Rose}
 use Rattle.fugue_ids.specs.declared.op.Op.{Op}
 use Rattle.origin_model.specs.frames.Frames.{Reads, Whole as EndsWhole}
-use Rattle.origin_model.specs.taking.Taking.{nothing}
-use Rattle.op_frame.specs.Courses.{HasPlace, Course, Whole, CutShort, BadFrame, TooLong, TooMany}
+use Rattle.origin_model.specs.taking.Taking.{HasPlace, nothing}
+use Rattle.op_frame.specs.Courses.{Course, Whole, CutShort, BadFrame, TooLong, TooMany}
 use Rattle.fugue_ids.specs.declared.limits.TheConstants.{MOST_OPERATIONS, STREAM_LIMIT}
 use Rattle.manuscript_cli.specs.Show.{ComesTo, Showed, status_after}
-use Rattle.manuscript_cli.specs.Touched.{Touched}
+use Rattle.manuscript_cli.specs.Touched.{Streams}
 use Rattle.manuscript_cli.specs.declared.status.Status.{Status}
 use Rattle.manuscript_cli.specs.declared.status.Status.TheVariants as status
 
 -- no count of faults rose
-pub record IsCalm (old new : Touched) : Type 0 where
+pub record IsCalm (old new : Streams) : Type 0 where
   pub input : Rose old.input.faults new.input.faults → ⊥
   pub output : Rose old.output.faults new.output.faults → ⊥
   pub notes : Rose old.notes.faults new.notes.faults → ⊥
@@ -20,7 +20,7 @@ pub record IsCalm (old new : Touched) : Type 0 where
 -- For every stream of framed operations, however ordered, cut or repeated, the manuscript printed is the visible part of one total order fixed
 -- by the set of accepted operations alone; an operation is accepted exactly when its causes are and its identifier holds no other record,
 -- otherwise it waits within the stated capacity or is refused by name; so replicas that accepted the same set print equal bytes.
-abbrev pub Headline : (hold : ℕ) → Touched → Touched → Status → Type 0
+abbrev pub Headline : (hold : ℕ) → Streams → Streams → Status → Type 0
 Headline hold old new end =
     (bytes : List ℕ) (ops : List Op) → old.input.left ≡ Some bytes → Reads bytes ops EndsWhole → length bytes ≤ STREAM_LIMIT → HasPlace hold MOST_OPERATIONS nothing ops
     → IsCalm old new → end ≢ status.NoMemory → Showed hold nothing ops old new end
@@ -34,13 +34,13 @@ status_for hold ops TooLong = status.Limit
 status_for hold ops TooMany = status.Limit
 
 -- what justifies an outside fault of `show`: the input failed, or where all was read what is written
-abbrev pub MetFault : Touched → Touched → Course → Type 0
+abbrev pub MetFault : Streams → Streams → Course → Type 0
 MetFault old new course =
     Rose old.input.faults new.input.faults
     ⊎ ((course ≡ Whole) × (Rose old.output.faults new.output.faults ⊎ Rose old.notes.faults new.notes.faults))
 
 -- the stream decides the status, but for want of memory and faults
-abbrev pub IsDecided : (hold : ℕ) → Touched → Touched → Status → Type 0
+abbrev pub IsDecided : (hold : ℕ) → Streams → Streams → Status → Type 0
 IsDecided hold old new end =
     (bytes : List ℕ) (ops : List Op) (course : Course) → old.input.left ≡ Some bytes → ComesTo hold bytes ops course
     → (end ≡ status_for hold ops course) ⊎ (end ≡ status.NoMemory) ⊎ ((end ≡ status.OutsideFault) × MetFault old new course)

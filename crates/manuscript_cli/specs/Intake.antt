@@ -1,23 +1,39 @@
 -- Taking in a stream, one operation after another: a step of it, what it comes to, and why it stops.
-use Rattle.std.specs.Prelude.{◌≡◌, ◌≢◌, ◌+◌, ◌*◌, ◌≤◌, List, [], length, Some, None, Bool, true, false, Result, Ok, Err, IfSome}
+use Rattle.std.specs.Prelude.{◌≡◌, ◌≢◌, ◌+◌, ◌*◌, ◌≤◌, List, [], ◌∷◌, ◌++◌, length, Option, Some, None, option_map, Bool, true, false, Result, Ok, Err, IfSome}
 use Rattle.fugue_ids.specs.declared.op.Op.{Op}
 use Rattle.outer_ports.specs.Sources.{SourceView}
-use Rattle.origin_model.specs.taking.Taking.{TooMany as AnswersTooMany, IsSettled, answer, intake, intake_counted, held_from, tally_from, no_counts}
+use Rattle.origin_model.specs.taking.Taking.{TooMany as AnswersTooMany, IsSettled, answer, intake, intake_counted, held_from, kept_from, tally_from, no_counts}
 use Rattle.origin_model.specs.declared.taking.tally.Tally.{Tally}
 use Rattle.op_frame.specs.Courses.{Comes, Course, Whole, CutShort as IsCutShort, BadFrame as HasBadFrame, TooLong as IsTooLong, TooMany as HasTooMany}
 use Rattle.op_frame.specs.Readers.{Reading, Nexts}
 use Rattle.op_frame.specs.declared.fault.FrameFault.TheVariants as frame_fault
+use Rattle.replica_core.specs.declared.feed_fault.FeedFault.{FeedFault}
+use Rattle.replica_core.specs.declared.feed_fault.FeedFault.TheVariants as feed_fault
 use Rattle.replica_core.specs.State.{State}
 use Rattle.replica_core.specs.Told.{total}
 use Rattle.fugue_ids.specs.declared.limits.TheConstants.{GREATEST_HOLD, STREAM_LIMIT}
 use Rattle.manuscript_cli.specs.declared.refusal.Refusal.{Refusal}
-use Rattle.manuscript_cli.specs.declared.refusal.Refusal.TheVariants.{Words, BadFrame, CutShort, TooLong, TooMany, Outside, NoMemory}
+use Rattle.manuscript_cli.specs.declared.refusal.Refusal.TheVariants.{BadFrame, CutShort, TooLong, TooMany, Outside, NoMemory}
 
--- a stream on its way: the reader, the replica, and what became of the operations so far
+-- copies of the operations that were kept, and these behind them: none, where they are forgotten
+abbrev pub copied : Option (List Op) → List Op → Option (List Op)
+copied kept ops = option_map (λ before. before ++ ops) kept
+
+abbrev pub ops_in : Option (List Op) → List Op
+ops_in None = []
+ops_in (Some ops) = ops
+
+-- why an operation was not taken in
+abbrev pub FeedsNot : FeedFault → State → Op → Type 0
+FeedsNot (feed_fault.TooMany limit) replica op = (limit ≡ replica.most) × (answer replica.hold replica.most replica.held op ≡ AnswersTooMany)
+FeedsNot feed_fault.NoMemory replica op = Unit {0}
+
+-- a stream on its way: the reader, the replica, what became of the operations so far, and copies of those that were kept
 pub record Taking : Type 0 where
   pub reader : Reading
   pub replica : State
   pub counts : Tally
+  pub kept : Option (List Op)
 
 -- one operation more can be read and counted
 pub record IsReady (now : Taking) : Type 0 where
@@ -34,6 +50,7 @@ pub record TakesOne (old new : Taking) (before after : SourceView) : Type 0 wher
   pub has_place : answer old.replica.hold old.replica.most old.replica.held op ≢ AnswersTooMany
   pub replica : new.replica ≡ record old.replica { held = intake old.replica.hold old.replica.most old.replica.held op }
   pub counts : new.counts ≡ intake_counted old.replica.hold old.replica.most old.replica.held op old.counts
+  pub kept : new.kept ≡ copied old.kept (kept_from old.replica.hold old.replica.most old.replica.held (op ∷ []))
   pub ready : IsReady new
 
 -- the next operation was read, and found no place
@@ -45,33 +62,34 @@ pub record FindsNoPlace (old new : Taking) (before after : SourceView) : Type 0 
 -- one step, by its answer: whether there was an operation
 abbrev pub Steps : Taking → Taking → SourceView → SourceView → Result Bool Refusal → Type 0
 Steps old new before after (Ok true) = TakesOne old new before after
-Steps old new before after (Ok false) = Nexts old.reader new.reader before after (Ok None) × (new.replica ≡ old.replica) × (new.counts ≡ old.counts)
-Steps old new before after (Err Words) = ⊥
+Steps old new before after (Ok false) = Nexts old.reader new.reader before after (Ok None) × (new.replica ≡ old.replica) × (new.counts ≡ old.counts) × (new.kept ≡ old.kept)
 Steps old new before after (Err (BadFrame offset)) = Nexts old.reader new.reader before after (Err (frame_fault.BadFrame offset))
 Steps old new before after (Err (CutShort offset)) = Nexts old.reader new.reader before after (Err (frame_fault.CutShort offset))
 Steps old new before after (Err TooLong) = Nexts old.reader new.reader before after (Err frame_fault.TooLong)
 Steps old new before after (Err (TooMany count)) = (count ≡ old.replica.most) × FindsNoPlace old new before after
 Steps old new before after (Err Outside) = Unit {0}
 Steps old new before after (Err NoMemory) = Unit {0}
+Steps old new before after (Err _) = ⊥
 
 -- the source, where it is told, comes to this end
 abbrev pub SourceComes : State → SourceView → List Op → Course → Type 0
 SourceComes start old ops course = IfSome old.left (λ bytes. Comes start.hold start.most start.held STREAM_LIMIT bytes ops course)
 
 -- the source came to its end, and the replica took its operations in
-pub record TakesIn (start : State) (old new : SourceView) (replica : State) (counts : Tally) : Type 0 where
+pub record TakesIn (start : State) (old new : SourceView) (replica : State) (counts : Tally) (kept kept_after : Option (List Op)) : Type 0 where
   pub ops : List Op
   pub came : SourceComes start old ops Whole
   pub read : IfSome new.left (λ bytes. bytes ≡ [])
   pub replica_is : replica ≡ record start { held = held_from start.hold start.most start.held ops }
   pub counts_are : counts ≡ tally_from start.hold start.most start.held ops no_counts
+  pub kept_are : kept_after ≡ copied kept (kept_from start.hold start.most start.held ops)
 
 -- the cause of a refusal of the stream
 abbrev pub StopsFor : Refusal → State → SourceView → Type 0
-StopsFor Words start old = ⊥
 StopsFor (BadFrame offset) start old = (ops : List Op) × SourceComes start old ops (HasBadFrame offset)
 StopsFor (CutShort offset) start old = (ops : List Op) × SourceComes start old ops (IsCutShort offset)
 StopsFor TooLong start old = (ops : List Op) × SourceComes start old ops IsTooLong
 StopsFor (TooMany count) start old = (count ≡ start.most) × (ops : List Op) × SourceComes start old ops HasTooMany
 StopsFor Outside start old = Unit {0}
 StopsFor NoMemory start old = Unit {0}
+StopsFor _ start old = ⊥

@@ -8,4 +8,15 @@ pub mod Printing
 pub mod Intake
 pub mod Show
 pub mod Headline
+pub mod Findings
+pub mod Files
+pub mod Crashes
+pub mod FileOut
+pub mod New
+pub mod Saving
+pub mod Take
+pub mod Merge
+pub mod Sync
+pub mod Edit
+pub mod Relay
 pub mod Run

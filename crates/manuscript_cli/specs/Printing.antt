@@ -1,5 +1,5 @@
 -- What printing does at each of its ends.
-use Rattle.std.specs.Prelude.{◌≡◌, ◌⊎◌, ℕ, length}
+use Rattle.std.specs.Prelude.{◌≡◌, ◌⊎◌, ℕ, List, length}
 use Rattle.fugue_ids.specs.Causes.{Rose}
 use Rattle.fugue_ids.specs.Outs.{OutView, Took, TookFront}
 use Rattle.origin_model.specs.order.Printed.{manuscript}
@@ -12,25 +12,26 @@ use Rattle.manuscript_cli.specs.declared.refusal.Refusal.TheVariants as refusal
 use Rattle.manuscript_cli.specs.declared.status.Status.{Status}
 use Rattle.manuscript_cli.specs.declared.status.Status.TheVariants as status
 
--- the counts were written
-pub record Noted (counts : Tally) (waiting : ℕ) (old new : OutView) (end : Status) : Type 0 where
-  pub took : Took old new (counts_line counts waiting)
-  pub end_is : end ≡ status_by counts waiting
+-- a line of notes was written
+pub record Noted (line : List ℕ) (status : Status) (old new : OutView) (end : Status) : Type 0 where
+  pub took : Took old new line
+  pub end_is : end ≡ status
 
--- the notes failed: they hold a front of the counts, and then one of the fault's line
-pub record NotNoted (counts : Tally) (waiting : ℕ) (old new : OutView) (end : Status) : Type 0 where
-  pub took : TookFronts old new (counts_line counts waiting) (line_of refusal.Outside)
+-- the notes failed: they hold a front of the line, and then one of the fault's line
+pub record NotNoted (line : List ℕ) (old new : OutView) (end : Status) : Type 0 where
+  pub took : TookFronts old new line (line_of refusal.Outside)
   pub rose : Rose old.faults new.faults
   pub no_room : HasRoom notes_room old → ⊥
   pub end_is : end ≡ status.OutsideFault
 
-abbrev pub NoteMeets : Tally → ℕ → OutView → OutView → Status → Type 0
-NoteMeets counts waiting old new end = Noted counts waiting old new end ⊎ NotNoted counts waiting old new end
+-- the line was written and the status answered, or the notes failed
+abbrev pub NoteMeets : (line : List ℕ) (status : Status) → OutView → OutView → Status → Type 0
+NoteMeets line status old new end = Noted line status old new end ⊎ NotNoted line old new end
 
 -- the manuscript was written, and the counts noted or not
 pub record Printed (state : Held) (counts : Tally) (output output' notes notes' : OutView) (end : Status) : Type 0 where
   pub printed : Took output output' (manuscript state.history)
-  pub noted : NoteMeets counts (length state.waiting) notes notes' end
+  pub noted : NoteMeets (counts_line counts (length state.waiting)) (status_by counts (length state.waiting)) notes notes' end
 
 -- the output failed: a front of the manuscript was written
 pub record NotPrinted (state : Held) (output output' notes notes' : OutView) (end : Status) : Type 0 where

@@ -10,7 +10,7 @@ use Rattle.manuscript_cli.specs.Counts.{counts_line, status_by}
 use Rattle.op_frame.specs.Courses.{Comes, Course, Whole, CutShort, BadFrame, TooLong, TooMany}
 use Rattle.fugue_ids.specs.declared.limits.TheConstants.{MOST_OPERATIONS, STREAM_LIMIT}
 use Rattle.manuscript_cli.specs.Refusal.{line_of, Told, TookFronts}
-use Rattle.manuscript_cli.specs.Touched.{Touched, HasRoom, StaysCalm, notes_room}
+use Rattle.manuscript_cli.specs.Touched.{Streams, HasRoom, StaysCalm, notes_room}
 use Rattle.manuscript_cli.specs.declared.refusal.Refusal.{Refusal}
 use Rattle.manuscript_cli.specs.declared.refusal.Refusal.TheVariants as refusal
 use Rattle.manuscript_cli.specs.declared.status.Status.{Status}
@@ -35,41 +35,41 @@ abbrev pub ComesTo : (hold : ℕ) → List ℕ → List Op → Course → Type 0
 ComesTo hold bytes ops course = Comes hold MOST_OPERATIONS nothing STREAM_LIMIT bytes ops course
 
 -- the input, where it is told, comes to this end
-abbrev pub InputComes : (hold : ℕ) → Touched → List Op → Course → Type 0
+abbrev pub InputComes : (hold : ℕ) → Streams → List Op → Course → Type 0
 InputComes hold old ops course = IfSome old.input.left (λ bytes. ComesTo hold bytes ops course)
 
 -- all of the input was read, and the manuscript and the counts of these operations were written
-pub record Showed (hold : ℕ) (start : Held) (ops : List Op) (old new : Touched) (end : Status) : Type 0 where
+pub record Showed (hold : ℕ) (start : Held) (ops : List Op) (old new : Streams) (end : Status) : Type 0 where
   pub read : IfSome new.input.left (λ bytes. bytes ≡ [])
   pub output : Took old.output new.output (printed hold start ops)
   pub notes : Took old.notes new.notes (noted hold start ops)
   pub end_is : end ≡ status_after hold start ops
 
 -- the input came to its end, and its operations were shown
-pub record Finished (hold : ℕ) (old new : Touched) (end : Status) : Type 0 where
+pub record Finished (hold : ℕ) (old new : Streams) (end : Status) : Type 0 where
   pub ops : List Op
   pub came : InputComes hold old ops Whole
   pub showed : Showed hold nothing ops old new end
 
 -- nothing was printed, and the notes got the refusal's line
-pub record Refused (old new : Touched) (why : Refusal) : Type 0 where
+pub record Refused (old new : Streams) (why : Refusal) : Type 0 where
   pub output : new.output ≡ old.output
   pub notes : Told old.notes new.notes (line_of why)
 
 -- the stream came to such an end, which was told
-pub record StreamRefused (hold : ℕ) (old new : Touched) (course : Course) (why : Refusal) : Type 0 where
+pub record StreamRefused (hold : ℕ) (old new : Streams) (course : Course) (why : Refusal) : Type 0 where
   pub ops : List Op
   pub came : InputComes hold old ops course
   pub refused : Refused old new why
 
 -- a read failed
-pub record ReadFailed (old new : Touched) : Type 0 where
+pub record ReadFailed (old new : Streams) : Type 0 where
   pub rose : Rose old.input.faults new.input.faults
   pub not_sure : old.input.sure ≡ true → ⊥
   pub refused : Refused old new refusal.Outside
 
 -- everything was read, and the output failed: a front of the manuscript was printed
-pub record OutputFailed (hold : ℕ) (old new : Touched) : Type 0 where
+pub record OutputFailed (hold : ℕ) (old new : Streams) : Type 0 where
   pub ops : List Op
   pub came : InputComes hold old ops Whole
   pub output : TookFront old.output new.output (printed hold nothing ops)
@@ -78,7 +78,7 @@ pub record OutputFailed (hold : ℕ) (old new : Touched) : Type 0 where
   pub notes : Told old.notes new.notes (line_of refusal.Outside)
 
 -- everything was read and printed, and the notes failed: they hold a front of the counts, and then one of the fault's line
-pub record NotesFailed (hold : ℕ) (old new : Touched) : Type 0 where
+pub record NotesFailed (hold : ℕ) (old new : Streams) : Type 0 where
   pub ops : List Op
   pub came : InputComes hold old ops Whole
   pub output : Took old.output new.output (printed hold nothing ops)
@@ -87,7 +87,7 @@ pub record NotesFailed (hold : ℕ) (old new : Touched) : Type 0 where
   pub notes : TookFronts old.notes new.notes (noted hold nothing ops) (line_of refusal.Outside)
 
 -- what was done, for each way in which the command may end
-abbrev pub ShowMeets : (hold : ℕ) → Touched → Touched → Status → Type 0
+abbrev pub ShowMeets : (hold : ℕ) → Streams → Streams → Status → Type 0
 ShowMeets hold old new status.Done = Finished hold old new status.Done
 ShowMeets hold old new status.Partial = Finished hold old new status.Partial
 ShowMeets hold old new status.BadInput =
@@ -107,14 +107,14 @@ brought hold ops TooLong = []
 brought hold ops TooMany = []
 
 -- sure objects with room count no fault, however the command ends
-pub record ShowStaysCalm (hold : ℕ) (old new : Touched) : Type 0 where
+pub record ShowStaysCalm (hold : ℕ) (old new : Streams) : Type 0 where
   pub input : old.input.sure ≡ true → new.input.faults ≡ old.input.faults
   pub output : (bytes : List ℕ) (ops : List Op) (course : Course) → old.input.left ≡ Some bytes → ComesTo hold bytes ops course
       → StaysCalm (length (brought hold ops course)) old.output new.output
   pub notes : StaysCalm notes_room old.notes new.notes
 
 -- and where all are sure and have room, no outside fault comes
-abbrev pub NeverOutside : (hold : ℕ) → Touched → Status → Type 0
+abbrev pub NeverOutside : (hold : ℕ) → Streams → Status → Type 0
 NeverOutside hold old end =
     (bytes : List ℕ) (ops : List Op) (course : Course) → old.input.left ≡ Some bytes → ComesTo hold bytes ops course → old.input.sure ≡ true
     → HasRoom (length (brought hold ops course)) old.output → HasRoom notes_room old.notes → end ≢ status.OutsideFault

@@ -2,11 +2,35 @@
 use Rattle.std.specs.Prelude.{◌≡◌, ℕ, ◌≤◌, Some}
 use Rattle.fugue_ids.specs.Outs.{OutView}
 use Rattle.outer_ports.specs.Sources.{SourceView}
+use Rattle.outer_ports.specs.disk.Disks.{DiskView, RoomView}
+use Rattle.outer_ports.specs.disk.Moments.{History}
+use Rattle.outer_ports.specs.dock.Docks.{DockView}
+use Rattle.outer_ports.specs.wire.Wires.{WireView}
 
-pub record Touched : Type 0 where
+-- the streams of the process
+pub record Streams : Type 0 where
   pub input : SourceView
   pub output : OutView
   pub notes : OutView
+
+pub record Touched : Type 0 where
+  pub streams : Streams
+  -- the file that a command is about
+  pub home : DiskView
+  -- the other file that it reads
+  pub guest : DiskView
+  -- the connection to a relay
+  pub wire : WireView
+  -- where others ask a relay
+  pub dock : DockView
+
+-- what a call did to an object: how contracts saw it before, and after
+pub record Change (V : Type 0) : Type 0 where
+  pub old : V
+  pub new : V
+
+abbrev pub change : {V : Type 0} → V → V → Change V
+change old new = record { old = old; new = new }
 
 -- writes are sure, and so many bytes fit
 pub record HasRoom (bytes : ℕ) (out : OutView) : Type 0 where
@@ -21,3 +45,18 @@ StaysCalm bytes old new = HasRoom bytes old → new.faults ≡ old.faults
 -- the room that notes need
 abbrev pub notes_room : ℕ
 notes_room = 256
+
+-- calls on the disk are sure, and so many bytes, in so many writes and syncs, fit
+pub record HasDiskRoom (count : ℕ) (disk : DiskView) : Type 0 where
+  pub room : RoomView
+  pub is : disk.room ≡ Some room
+  pub bytes_fit : count ≤ room.bytes
+  pub calls_fit : count ≤ room.calls
+
+-- where so much fits, no fault is counted
+abbrev pub DiskStaysCalm : (count : ℕ) → Change DiskView → Type 0
+DiskStaysCalm count disk = HasDiskRoom count disk.old → disk.new.faults ≡ disk.old.faults
+
+-- what stands on the disk is told
+abbrev pub IsTold : DiskView → Type 0
+IsTold disk = (h : History) × (disk.past ≡ Some h)

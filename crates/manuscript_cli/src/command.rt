@@ -1,6 +1,42 @@
+ghost use Rattle.std.specs.Prelude.{◌≡◌};
+ghost use Rattle.manuscript_cli.specs.Command.{opening_for};
+
+use outer_ports::Opening;
+
 /// What the words of the command line ask for.
 #[derive(Clone, Copy, Debug, PartialEq, Eq)]
 pub enum Command {
     /// Print the manuscript of the frames on the input. At most so many operations wait.
     Show(u32),
+    /// Make the file of a replica of this number, in which at most so many operations wait.
+    New(u32, u32),
+    /// Run the script on the input on a file's replica, and save what it made.
+    Edit,
+    /// Print the manuscript of a file.
+    Print,
+    /// Take the frames on the input into a file's replica, and save what was kept.
+    Take,
+    /// Write the frames of all that a file's replica holds.
+    Send,
+    /// Take what another file's replica holds into a file's, and save what was kept.
+    Merge,
+    /// Serve so many sessions at this port, with a relay that is new.
+    Relay(u16, u32),
+    /// Tell the relay at this port what a file's replica holds, ask for its log from the cursor on, and save what was kept.
+    Sync(u16, u32),
+}
+
+impl Command {
+    /// What the file that the command is about is opened for.
+    pub fn opening(self) -> Opening
+        ensures { result ≡ opening_for self }
+    {
+        match self {
+            Command::New(_, _) => Opening::Creating,
+            Command::Edit | Command::Take | Command::Merge | Command::Sync(_, _) =>
+                Opening::Writing,
+            Command::Show(_) | Command::Print | Command::Send | Command::Relay(_, _) =>
+                Opening::Reading,
+        }
+    }
 }

@@ -3,11 +3,20 @@
 
 mod command;
 mod counts;
+mod edit;
+mod file_out;
+mod home_file;
+mod kept;
+mod merge;
+mod new_file;
 mod number;
 mod printing;
 mod refusal;
+mod relay;
 mod show;
 mod status;
+mod sync_file;
+mod take;
 mod take_in;
 #[cfg(test)]
 mod tests;
@@ -18,4 +27,4 @@ pub use command::Command;
 pub use refusal::{Refusal, tell};
 pub use status::Status;
 pub use top::run;
-pub use words::read_words;
+pub use words::{files_of, read_words};

@@ -3,6 +3,7 @@ ghost use Rattle.fugue_ids.specs.declared.limits.TheConstants.{GREATEST_HOLD as 
 ghost use Rattle.manuscript_cli.specs.Show.{reader, ShowMeets, ShowStaysCalm};
 
 use crate::Status;
+use crate::kept::Kept;
 use crate::printing::print;
 use crate::refusal::tell;
 use crate::take_in::take_in;
@@ -51,8 +52,9 @@ fn show_by<S: Source, O: Sink, N: Sink>(
         (record { input = S.seen input.old; output = O.seen output.old; notes = N.seen notes.old })
         (record { input = S.seen input.new; output = O.seen output.new; notes = N.seen notes.new }) }
 {
-    match take_in(alloc, replica, input) {
-        Ok(tally) => print(replica, &tally, output, notes),
+    let taken = take_in(alloc, replica, input, &mut Kept::forgotten());
+    match taken {
+        Ok(tally) => print(replica, tally, output, notes),
         Err(why) => tell(notes, why),
     }
 }

@@ -5,6 +5,7 @@ ghost use Rattle.origin_model.specs.taking.Taking.{IsSettled};
 ghost use Rattle.manuscript_cli.specs.Intake.{IsReady, Steps, TakesIn, StopsFor};
 ghost use Rattle.manuscript_cli.specs.declared.refusal.Refusal.TheVariants.{Outside};
 
+use crate::kept::Kept;
 use crate::refusal::Refusal;
 use fugue_ids::STREAM_LIMIT;
 use op_frame::FrameReader;
@@ -22,18 +23,22 @@ struct Intake {
 
 impl Intake {
     /// Takes in the next operation. The answer is whether there was one.
-    fn step<S: Source>(&mut self, replica: &mut Replica, source: &mut S) -> Result<bool, Refusal>
-        requires { IsReady (record { reader = self.old.reader; replica = replica.old; counts = self.old.tally }) }
-        ensures steps { Steps (record { reader = self.old.reader; replica = replica.old; counts = self.old.tally })
-            (record { reader = self.new.reader; replica = replica.new; counts = self.new.tally })
+    fn step<S: Source>(
+        &mut self,
+        replica: &mut Replica,
+        source: &mut S,
+        kept: &mut Kept,
+    ) -> Result<bool, Refusal>
+        requires { IsReady (record { reader = self.old.reader; replica = replica.old; counts = self.old.tally; kept = kept.old }) }
+        ensures steps { Steps (record { reader = self.old.reader; replica = replica.old; counts = self.old.tally; kept = kept.old })
+            (record { reader = self.new.reader; replica = replica.new; counts = self.new.tally; kept = kept.new })
             (S.seen source.old) (S.seen source.new) result }
         ensures count { KeepsCount (S.seen source.old) (S.seen source.new) (IsErrOf result Outside) }
     {
         let Some(op) = self.reader.next(source)? else {
             return Ok(false);
         };
-        // Whether it is kept is known here, for those that save what was kept.
-        let _kept = replica.feed(op, &mut self.tally)?;
+        kept.feed(replica, op, &mut self.tally)?;
         Ok(true)
     }
 }
@@ -43,10 +48,11 @@ pub(crate) fn take_in<S: Source>(
     alloc: Global,
     replica: &mut Replica,
     source: &mut S,
+    kept: &mut Kept,
 ) -> Result<Tally, Refusal>
     requires settled { IsSettled replica.old.held }
     requires few { length replica.old.held.waiting ≤ GREATEST_HOLD }
-    ensures ok { IfOk result (λ tally. TakesIn replica.old (S.seen source.old) (S.seen source.new) replica.new tally) }
+    ensures ok { IfOk result (λ tally. TakesIn replica.old (S.seen source.old) (S.seen source.new) replica.new tally kept.old kept.new) }
     ensures err { IfErr result (λ why. StopsFor why replica.old (S.seen source.old)) }
     ensures count { KeepsCount (S.seen source.old) (S.seen source.new) (IsErrOf result Outside) }
 {
@@ -54,6 +60,6 @@ pub(crate) fn take_in<S: Source>(
         reader: FrameReader::new(alloc, STREAM_LIMIT)?,
         tally: Tally::default(),
     };
-    'frames: while intake.step(replica, source)? {}
+    'frames: while intake.step(replica, source, kept)? {}
     Ok(intake.tally)
 }

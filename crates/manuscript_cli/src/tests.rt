@@ -1,7 +1,16 @@
 use crate::{Refusal, Status, run, tell};
-use outer_ports::{MemSink, MemSource, SureSink, SureSource};
+use outer_ports::{
+    Disk, FileDisk, MemDock, MemSink, MemSource, MemWire, Sink, Source, SureSink, SureSource,
+};
 use std::alloc::{AllocError, Global};
+use std::hash::{BuildHasherDefault, FoldHasher};
 use std::test::Fail;
+
+mod edits;
+mod files;
+mod relays;
+mod synced;
+mod taken;
 
 /// The section (9,0) with the title T.
 const S: &[u8] = b"\x01\0\0\0\x09\0\0\0\0\0\0\0\x01T";
@@ -104,6 +113,37 @@ fn words_of(alloc: Global, line: &str) -> Result<Vec<String>, AllocError> {
     Ok(words)
 }
 
+/// Runs a command that asks nobody and serves nobody: each call on a relay or a dock would fail.
+fn run_offline<S: Source, O: Sink, N: Sink, H: Disk, G: Disk>(
+    alloc: Global,
+    words: &[String],
+    input: &mut S,
+    output: &mut O,
+    notes: &mut N,
+    home: &mut H,
+    guest: &mut G,
+) -> Status {
+    let mut wire = MemWire::new(alloc, Vec::new(alloc), 1, Vec::new(alloc));
+    let mut dock = MemDock::new(alloc, Vec::new(alloc), 1, Vec::new(alloc));
+    let hasher: BuildHasherDefault<FoldHasher> = BuildHasherDefault::default();
+    run(
+        alloc, words, input, output, notes, home, guest, &mut wire, &mut dock, hasher,
+    )
+}
+
+/// Runs a command that uses no file: each call on one would fail.
+fn show_by<S: Source, O: Sink, N: Sink>(
+    alloc: Global,
+    words: &[String],
+    input: &mut S,
+    output: &mut O,
+    notes: &mut N,
+) -> Status {
+    let mut home = FileDisk::closed();
+    let mut guest = FileDisk::closed();
+    run_offline(alloc, words, input, output, notes, &mut home, &mut guest)
+}
+
 /// What came out of a run, beside the text and the line of notes that are wanted of a whole one.
 #[derive(Clone, Copy, PartialEq, Eq)]
 struct Seen {
@@ -146,7 +186,7 @@ fn see(
     let mut output = MemSink::new(alloc, 3, Vec::from_slice(alloc, output)?);
     let mut notes = MemSink::new(alloc, 64, Vec::from_slice(alloc, notes)?);
     let words = words_of(alloc, words)?;
-    let status = run(alloc, &words, &mut input, &mut output, &mut notes);
+    let status = show_by(alloc, &words, &mut input, &mut output, &mut notes);
     Ok(Seen {
         status,
         is_text: output.written() == text,
@@ -409,7 +449,7 @@ fn see_surely(alloc: Global, room: usize) -> Result<(Status, bool), Fail> {
     let mut input = SureSource::new(stream(alloc, FRAMES)?, 4096);
     let mut output = SureSink::new(alloc, 4096, room)?;
     let mut notes = SureSink::new(alloc, 4096, 256)?;
-    let status = run(alloc, &words, &mut input, &mut output, &mut notes);
+    let status = show_by(alloc, &words, &mut input, &mut output, &mut notes);
     Ok((status, output.written() == TEXT))
 }
 
@@ -435,6 +475,26 @@ const REFUSALS: &[(Refusal, &str, Status)] = &[
         "cut short at byte 0",
         Status::BadInput,
     ),
+    (Refusal::BadLine(7), "bad line 7", Status::BadInput),
+    (
+        Refusal::NoSection(2),
+        "no section at line 2",
+        Status::BadInput,
+    ),
+    (
+        Refusal::OutOfRange(4_294_967_295),
+        "out of range at line 4294967295",
+        Status::BadInput,
+    ),
+    (Refusal::NotReplica, "not a replica", Status::BadFile),
+    (Refusal::BadBatch(3), "bad batch 3", Status::BadFile),
+    (Refusal::NotEmpty, "not empty", Status::BadFile),
+    (
+        Refusal::IdsSpent(4_294_967_295),
+        "ids spent: 4294967295",
+        Status::Limit,
+    ),
+    (Refusal::BatchTooLong, "batch too long", Status::Limit),
     (Refusal::TooLong, "too long", Status::Limit),
     (
         Refusal::TooMany(4_194_304),
@@ -550,7 +610,7 @@ fn many_letters_go_out_in_few_writes(rt: HostRuntime) -> Result<(), Fail> {
     let mut input = MemSource::new(typed(rt.alloc(), 10_000)?, 4096, Vec::new(rt.alloc()));
     let mut output = MemSink::new(rt.alloc(), 65_536, Vec::from_slice(rt.alloc(), &[8])?);
     let mut notes = MemSink::new(rt.alloc(), 64, Vec::new(rt.alloc()));
-    let status = run(rt.alloc(), &words, &mut input, &mut output, &mut notes);
+    let status = show_by(rt.alloc(), &words, &mut input, &mut output, &mut notes);
     assert_eq!(rt; status, Status::Done);
     assert_eq!(rt; output.written().len(), 10_005);
     assert!(rt; output.written().starts_with(b"# T\naaa") && output.written().ends_with(b"aaa\n"));

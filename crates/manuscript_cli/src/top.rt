@@ -6,30 +6,59 @@ ghost use Rattle.manuscript_cli.specs.declared.command.Command.{Command as AnyCo
 ghost use Rattle.manuscript_cli.specs.declared.command.Command.TheVariants.{Show};
 ghost use Rattle.manuscript_cli.specs.declared.status.Status.TheVariants.{Usage};
 
+use crate::edit::edit;
+use crate::file_out::{print_file, send_file};
+use crate::merge::merge;
+use crate::new_file::new_file;
 use crate::refusal::{Refusal, tell};
+use crate::relay::relay;
 use crate::show::show;
+use crate::sync_file::sync_file;
+use crate::take::take;
 use crate::{Command, Status, read_words};
-use outer_ports::{Sink, Source};
+use outer_ports::{Disk, Dock, Sink, Source, Wire};
 use std::alloc::Global;
+use std::hash::BuildHasher;
 
 /// Does what the words ask for: the program's one call.
 ///
-/// Results go to `output`; what was done and why something was refused goes to `notes`, one line for each.
-pub fn run<S: Source, O: Sink, N: Sink>(
+/// Results go to `output`; what was done and why something was refused goes to `notes`, one line for each. The file that a
+/// command is about is `home`, and the other one that it reads is `guest`. A relay is asked over `wire`, and serves at
+/// `dock`, where `hasher` is for its log.
+pub fn run<S: Source, O: Sink, N: Sink, H: Disk, G: Disk, W: Wire, D: Dock, B: BuildHasher + Drop>(
     alloc: Global,
     words: &[String],
     input: &mut S,
     output: &mut O,
     notes: &mut N,
+    home: &mut H,
+    guest: &mut G,
+    wire: &mut W,
+    dock: &mut D,
+    hasher: B,
 ) -> Status
     // The words decide whether anything is done.
     ensures usage { (result ≡ Usage) ↔ ((command : AnyCommand) → Names (map string_bytes words.now) command → ⊥) }
-    ensures untouched { result ≡ Usage → (input.new ≡ input.old) × (output.new ≡ output.old) }
+    ensures untouched { result ≡ Usage
+        → (input.new ≡ input.old) × (output.new ≡ output.old) × (home.new ≡ home.old) × (guest.new ≡ guest.old)
+        × (wire.new ≡ wire.old) × (dock.new ≡ dock.old) }
 
     // There is a command that the words ask for, or none, and this is what it did.
     ensures meets { (command : Option AnyCommand) × IsCommand (map string_bytes words.now) command × Meets command
-        (record { input = S.seen input.old; output = O.seen output.old; notes = N.seen notes.old })
-        (record { input = S.seen input.new; output = O.seen output.new; notes = N.seen notes.new }) result }
+        (record {
+          streams = record { input = S.seen input.old; output = O.seen output.old; notes = N.seen notes.old };
+          home = H.seen home.old;
+          guest = G.seen guest.old;
+          wire = W.seen wire.old;
+          dock = D.seen dock.old;
+        })
+        (record {
+          streams = record { input = S.seen input.new; output = O.seen output.new; notes = N.seen notes.new };
+          home = H.seen home.new;
+          guest = G.seen guest.new;
+          wire = W.seen wire.new;
+          dock = D.seen dock.new;
+        }) result }
 
     // The stream decides the status of `show`, and a whole stream is shown.
     ensures decided { (hold : ℕ) → Names (map string_bytes words.now) (Show hold) → IsDecided hold
@@ -42,5 +71,15 @@ pub fn run<S: Source, O: Sink, N: Sink>(
     match read_words(words) {
         None => tell(notes, Refusal::Words),
         Some(Command::Show(hold)) => show(alloc, hold, input, output, notes),
+        Some(Command::New(replica, hold)) => new_file(replica, hold, home, notes),
+        Some(Command::Edit) => edit(alloc, home, input, notes),
+        Some(Command::Print) => print_file(alloc, home, output, notes),
+        Some(Command::Take) => take(alloc, home, input, notes),
+        Some(Command::Send) => send_file(alloc, home, output, notes),
+        Some(Command::Merge) => merge(alloc, home, guest, notes),
+        Some(Command::Relay(port, sessions)) => {
+            relay(alloc, port, sessions, output, notes, dock, hasher)
+        }
+        Some(Command::Sync(port, cursor)) => sync_file(alloc, port, cursor, home, wire, notes),
     }
 }

@@ -1,5 +1,8 @@
-ghost use Rattle.std.specs.Prelude.{◌≡◌, ◌↔◌, map, string_bytes, IsTrue};
-ghost use Rattle.manuscript_cli.specs.Command.{IsCommand};
+ghost use Rattle.std.specs.Prelude.{◌≡◌, ◌∷◌, [], ℕ, IfSome, Some, codes, map, string_bytes};
+ghost use Rattle.std.specs.Option.{option_copied};
+ghost use Rattle.manuscript_cli.specs.Command.{HasFiles, IsCommand};
+ghost use Rattle.manuscript_cli.specs.Number.{IsNumber};
+ghost use Rattle.manuscript_cli.specs.declared.words.TheConstants.{GREATEST_PORT as greatest_port};
 
 use crate::Command;
 use crate::number::read_number;
@@ -8,22 +11,126 @@ use fugue_ids::GREATEST_HOLD;
 /// How many operations may wait where `show` stands alone.
 const USUAL_HOLD: u32 = 65_536;
 
+/// The greatest number of a replica.
+const GREATEST_REPLICA: u32 = u32::MAX;
+
+const GREATEST_PORT: u32 = 65_535;
+
+/// The greatest place in a relay's log.
+const GREATEST_CURSOR: u32 = u32::MAX;
+
+/// How many sessions a relay serves at most.
+const MOST_SESSIONS: u32 = 65_535;
+
 /// Reads the words of the command line. None is the answer where they are those of no command.
 pub fn read_words(words: &[String]) -> Option<Command>
     ensures { IsCommand (map string_bytes words.now) result }
 {
     match words {
-        [word] if is_word(word, "show") => Some(Command::Show(USUAL_HOLD)),
-        [word, hold] if is_word(word, "show") => {
-            let hold = read_number(hold.as_str(), 1, GREATEST_HOLD)?;
-            Some(Command::Show(hold))
+        [name] => read_alone(name.as_str()),
+        [name, word] => read_one(name.as_str(), word.as_str()),
+        [name, file, other] => read_two(name.as_str(), file.as_str(), other.as_str()),
+        [name, file, first, second] => {
+            read_three(
+                name.as_str(),
+                file.as_str(),
+                first.as_str(),
+                second.as_str(),
+            )
         }
         _ => None,
     }
 }
 
-fn is_word(word: &String, text: &str) -> bool
-    ensures { IsTrue result ↔ (string_bytes word.now ≡ text.now) }
+fn read_alone(name: &str) -> Option<Command>
+    ensures { IsCommand (name.now ∷ []) result }
 {
-    word.as_str() == text
+    match name {
+        "show" => Some(Command::Show(USUAL_HOLD)),
+        _ => None,
+    }
+}
+
+fn read_one(name: &str, word: &str) -> Option<Command>
+    ensures { IsCommand (name.now ∷ word.now ∷ []) result }
+{
+    match name {
+        "show" => read_number(word, 1, GREATEST_HOLD).map(Command::Show),
+        "edit" if !word.is_empty() => Some(Command::Edit),
+        "print" if !word.is_empty() => Some(Command::Print),
+        "take" if !word.is_empty() => Some(Command::Take),
+        "send" if !word.is_empty() => Some(Command::Send),
+        _ => None,
+    }
+}
+
+fn read_two(name: &str, file: &str, other: &str) -> Option<Command>
+    ensures { IsCommand (name.now ∷ file.now ∷ other.now ∷ []) result }
+{
+    match name {
+        "merge" if !file.is_empty() && !other.is_empty() => Some(Command::Merge),
+        "relay" => read_relay(file, other),
+        _ => None,
+    }
+}
+
+fn read_relay(port: &str, sessions: &str) -> Option<Command>
+    ensures { IsCommand (codes "relay" ∷ port.now ∷ sessions.now ∷ []) result }
+{
+    let port = read_port(port)?;
+    let sessions = read_number(sessions, 1, MOST_SESSIONS)?;
+    Some(Command::Relay(port, sessions))
+}
+
+/// Reads the number of a port.
+fn read_port(word: &str) -> Option<u16>
+    ensures number { IfSome result (λ n. IsNumber word.now 1 greatest_port n) }
+    ensures every { (n : ℕ) → IsNumber word.now 1 greatest_port n → result ≡ Some n }
+{
+    let port = read_number(word, 1, GREATEST_PORT)?;
+    Some(port as u16)
+}
+
+fn read_three(name: &str, file: &str, first: &str, second: &str) -> Option<Command>
+    ensures { IsCommand (name.now ∷ file.now ∷ first.now ∷ second.now ∷ []) result }
+{
+    match name {
+        "new" => read_new(file, first, second),
+        "sync" => read_sync(file, first, second),
+        _ => None,
+    }
+}
+
+fn read_sync(file: &str, port: &str, cursor: &str) -> Option<Command>
+    ensures { IsCommand (codes "sync" ∷ file.now ∷ port.now ∷ cursor.now ∷ []) result }
+{
+    if file.is_empty() {
+        return None;
+    }
+    let port = read_port(port)?;
+    let cursor = read_number(cursor, 0, GREATEST_CURSOR)?;
+    Some(Command::Sync(port, cursor))
+}
+
+fn read_new(file: &str, number: &str, hold: &str) -> Option<Command>
+    ensures { IsCommand (codes "new" ∷ file.now ∷ number.now ∷ hold.now ∷ []) result }
+{
+    if file.is_empty() {
+        return None;
+    }
+    let replica = read_number(number, 1, GREATEST_REPLICA)?;
+    let hold = read_number(hold, 1, GREATEST_HOLD)?;
+    Some(Command::New(replica, hold))
+}
+
+/// The file that the command of the words is about, and the other file that it reads. Words of no command have none.
+pub fn files_of(words: &[String]) -> (Option<&str>, Option<&str>)
+    ensures { HasFiles (map string_bytes words.now) (option_copied result.0) (option_copied result.1) }
+{
+    match (read_words(words), words) {
+        (Some(Command::Merge), [_, file, other]) => (Some(file.as_str()), Some(other.as_str())),
+        (Some(Command::Show(_) | Command::Relay(_, _)) | None, _) => (None, None),
+        (Some(_), [_, file, ..]) => (Some(file.as_str()), None),
+        _ => (None, None),
+    }
 }

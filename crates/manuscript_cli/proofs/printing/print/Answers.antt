@@ -1,9 +1,9 @@
-use Rattle.std.proofs.Common.{length, inl, inr, arith, ap}
+use Rattle.std.proofs.Common.{inl, inr, arith}
 use Rattle.manuscript_cli.proofs.TextLemmas.{text_stays_calm, text_has_no_room}
 use Rattle.manuscript_cli.proofs.printing.print.Goals as goal
 
 pub returns-in-Ok-clause-meets : goal.returns-in-Ok-clause-meets
-returns-in-Ok-clause-meets g c = inl (record { printed = c.in-Ok.ensures.text.ok; noted = rw (ap length c.waiting.ensures.waiting) at c.note.ensures.meets })
+returns-in-Ok-clause-meets g c = inl (record { printed = c.in-Ok.ensures.text.ok; noted = rw c.of.ensures at c.note.ensures.meets })
 
 pub returns-in-Ok-clause-output : goal.returns-in-Ok-clause-output
 returns-in-Ok-clause-output g c = text_stays_calm _ _ _ _ _ c.in-Ok.ensures.text (omega arith)

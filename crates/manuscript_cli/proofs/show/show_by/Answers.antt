@@ -4,12 +4,12 @@ use Rattle.manuscript_cli.proofs.ShowLemmas.{printed_meets, refused_meets, outpu
 use Rattle.manuscript_cli.proofs.show.show_by.Goals as goal
 
 pub returns-in-Ok-clause-meets : goal.returns-in-Ok-clause-meets
-returns-in-Ok-clause-meets g c = printed_meets _ _ _ _ _ _ (rw c.requires at c.in-Ok.ensures.ok) c.print.ensures.meets
+returns-in-Ok-clause-meets g c = printed_meets _ _ _ _ _ _ _ _ (rw c.requires at c.in-Ok.ensures.ok) c.print.ensures.meets
 
 pub returns-in-Ok-clause-calm : goal.returns-in-Ok-clause-calm
 returns-in-Ok-clause-calm g c = record {
   input = c.in-Ok.ensures.count.calm;
-  output = output_calm _ _ _ (g.O.Out.seen c.args.output.now) (g.O.Out.seen c.print.new.output) _ _ (rw c.requires at c.in-Ok.ensures.ok) c.print.ensures.output;
+  output = output_calm _ _ _ (g.O.Out.seen c.args.output.now) (g.O.Out.seen c.print.new.output) _ _ _ _ (rw c.requires at c.in-Ok.ensures.ok) c.print.ensures.output;
   notes = c.print.ensures.notes;
 }
 

@@ -1,25 +1,14 @@
-use Rattle.std.proofs.Common.{◌≡◌, ap, arith, refl, subst, sym, ◌∙◌}
+use Rattle.std.proofs.Common.{ap, arith, refl, ◌∙◌}
 use Rattle.std.proofs.lemmas.Result.{err_from_is_err_and}
-use Rattle.origin_model.specs.taking.Taking.{no_counts}
 use Rattle.op_frame.specs.Readers.{Reading}
-use Rattle.op_frame.proofs.CourseLemmas.{Fed, fed_none}
-use Rattle.manuscript_cli.proofs.IntakeLemmas.{step_took, step_ended, fed_one, grew_one, fed_over, fed_stops}
+use Rattle.manuscript_cli.proofs.IntakeLemmas.{fresh_counts, step_took, step_ended, fed_nothing, fed_one, fed_over, fed_stops}
 use Rattle.manuscript_cli.proofs.take_in.take_in.Goals as goal
 
 pub frames-init : goal.frames-init
 frames-init g c =
     let fresh = c.in_ok-new.ensures.fresh in
-    let none = c.default.ensures in
-    let no_counts_yet : no_counts ≡ c.default.result = λ i. record {
-      accepted = sym none.0 i;
-      repeated = sym none.1.0 i;
-      conflict = sym none.1.1.0 i;
-      stray = sym none.1.1.1.0 i;
-      full = sym none.1.1.1.1 i;
-    } in
     record {
-      fed = subst (Fed _ _ _ _ _ _ _) no_counts_yet (fed_none _ _ _ _ _ (ap (λ (r : Reading). r.unread) fresh) (ap (λ (r : Reading). r.offset) fresh));
-      grew = refl;
+      fed = fed_nothing _ _ _ (ap (λ (r : Reading). r.unread) fresh) (ap (λ (r : Reading). r.offset) fresh) refl (fresh_counts _ c.default.ensures);
       ready = record {
         no_fault = ap (λ (r : Reading). r.fault) fresh;
         limit = ap (λ (r : Reading). r.limit) fresh;
@@ -33,15 +22,14 @@ pub returns-in_err-step-clause-err : goal.returns-in_err-step-clause-err
 returns-in_err-step-clause-err g c =
     let kept = c.frames.invariant in
     let p = err_from_is_err_and c.from_residual-in_err-step.result c.from_residual-in_err-step.ensures.1 in
-    rw (p.1, p.2) (fed_stops _ _ _ _ _ _ kept.grew kept.fed c.in_err-step.field-0.0 _ refl kept.ready.limit c.in_err-step.ensures.steps)
+    rw (p.1, p.2) (fed_stops _ _ _ _ _ _ _ kept.fed c.in_err-step.field-0.0 _ refl kept.ready.limit c.in_err-step.ensures.steps)
 
 pub frames-preserved : goal.frames-preserved
 frames-preserved g c =
     let kept = c.frames.invariant in
     let one = step_took _ _ _ _ _ c.if-branch.true c.in_ok-step.ensures.steps in
     record {
-      fed = fed_one _ _ _ _ _ _ kept.grew kept.fed one;
-      grew = grew_one _ _ _ _ _ _ kept.grew kept.fed one;
+      fed = fed_one _ _ _ _ _ _ _ kept.fed one;
       ready = one.ready;
       count = record {
         later = omega (arith, kept.count.later, c.in_ok-step.ensures.count.later);
@@ -55,4 +43,4 @@ frames-preserved g c =
 pub returns-clause-ok : goal.returns-clause-ok
 returns-clause-ok g c =
     let kept = c.frames.invariant in
-    fed_over _ _ _ _ _ _ kept.grew kept.fed _ _ refl refl kept.ready.limit (step_ended _ _ _ _ _ c.if-branch.false c.in_ok-step.ensures.steps)
+    fed_over _ _ _ _ _ _ _ kept.fed _ _ refl refl kept.ready.limit (step_ended _ _ _ _ _ c.if-branch.false c.in_ok-step.ensures.steps)

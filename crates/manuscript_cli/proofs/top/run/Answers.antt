@@ -1,8 +1,8 @@
-use Rattle.std.proofs.Common.{◌≡◌}
+use Rattle.std.proofs.Common.{◌≡◌, refl}
 use Rattle.std.specs.Prelude.{Some}
 use Rattle.manuscript_cli.specs.declared.command.Command.TheVariants.{Show}
 use Rattle.manuscript_cli.proofs.HeadlineLemmas.{decided, headline}
-use Rattle.manuscript_cli.proofs.ShowLemmas.{is_show, show_meets}
+use Rattle.manuscript_cli.proofs.RunLemmas.{show_meets}
 use Rattle.manuscript_cli.proofs.top.run.Goals as goal
 
 -- Where no command was read, none is named.
@@ -14,16 +14,15 @@ returns-in-None-clause-headline g c hold named = cc (c.in-None.ensures.only (Sho
 
 pub returns-in-Some-Show-clause-meets : goal.returns-in-Some-Show-clause-meets
 returns-in-Some-Show-clause-meets g c =
-    let same = (is_show c.in-Some-Show.field-0).1 in
-    (Some c.in-Some-Show.field-0, c.in-Some-Show.ensures, show_meets _ _ _ _ _ same (rw same at c.show.ensures.meets) (rw same at c.show.ensures.calm))
+    (Some c.in-Some-Show.field-0, c.in-Some-Show.ensures, show_meets _ _ _ _ _ c.in-Some-Show.field-0-is refl c.show.ensures.meets c.show.ensures.calm)
 
 -- The command that was read is the one that is named.
 pub returns-in-Some-Show-clause-decided : goal.returns-in-Some-Show-clause-decided
 returns-in-Some-Show-clause-decided g c hold named =
-    let same : c.in-Some-Show.field-0 ≡ Show hold = cc (c.in-Some-Show.ensures.only (Show hold) named) in
+    let same : c.in-Some-Show.hold ≡ hold = cc (c.in-Some-Show.field-0-is, c.in-Some-Show.ensures.only (Show hold) named) in
     decided _ _ _ _ (rw same at c.show.ensures.meets)
 
 pub returns-in-Some-Show-clause-headline : goal.returns-in-Some-Show-clause-headline
 returns-in-Some-Show-clause-headline g c hold named =
-    let same : c.in-Some-Show.field-0 ≡ Show hold = cc (c.in-Some-Show.ensures.only (Show hold) named) in
+    let same : c.in-Some-Show.hold ≡ hold = cc (c.in-Some-Show.field-0-is, c.in-Some-Show.ensures.only (Show hold) named) in
     headline _ _ _ _ (rw same at c.show.ensures.meets)

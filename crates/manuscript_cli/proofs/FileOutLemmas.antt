@@ -1,0 +1,104 @@
+-- What a command does that writes a text of what a file holds, by how the file was loaded and the text written.
+use Rattle.std.proofs.Common.{◌≡◌, ℕ, List, length, refl, ap, sym, subst, ◌∙◌, inl, inr}
+use Rattle.std.specs.Prelude.{Err}
+use Rattle.fugue_ids.specs.Causes.{Rose}
+use Rattle.fugue_ids.specs.Outs.{OutView}
+use Rattle.origin_model.specs.taking.Taking.{Held}
+use Rattle.outer_ports.specs.disk.Disks.{DiskView}
+use Rattle.replica_core.specs.State.{State as Replica}
+use Rattle.replica_file.specs.declared.end.End.{End}
+use Rattle.manuscript_cli.proofs.CrashLemmas.{kept_never_torn}
+use Rattle.manuscript_cli.proofs.FoundLemmas.{holds_once, holds_or_refuses, refuses_once}
+use Rattle.manuscript_cli.specs.Crashes.{IsFinished}
+use Rattle.manuscript_cli.specs.FileOut.{FileDecides, FileOutMeets, FileOutNeverOutside, SomeFails, TextFound, TextMeets, WritesFileOut, WritesOut, bytes_found, status_found}
+use Rattle.manuscript_cli.specs.Files.{FileRefuses, IsLoaded, KeepsFile, LoadMeets}
+use Rattle.manuscript_cli.specs.Findings.{Finding, Refuses, Does}
+use Rattle.manuscript_cli.specs.Refusal.{Told, line_of, status_of}
+use Rattle.manuscript_cli.specs.Touched.{Change, HasRoom, IsTold, StaysCalm, change, notes_room}
+use Rattle.manuscript_cli.specs.declared.refusal.Refusal.{Refusal}
+use Rattle.manuscript_cli.specs.declared.refusal.Refusal.TheVariants as refusal
+use Rattle.manuscript_cli.specs.declared.status.Status.{Status}
+use Rattle.manuscript_cli.specs.declared.status.Status.TheVariants as status
+
+text_once : (text : Held → List ℕ) (file : DiskView) → IsTold file → (a b : Finding (List ℕ)) → TextFound text file a → TextFound text file b → a ≡ b
+text_once text file told (Refuses why) (Refuses other) one two = ap Refuses (refuses_once file told why other one two)
+text_once text file told (Refuses why) (Does bytes) one two = absurd (holds_or_refuses file told (two.0, two.1) why two.2 one)
+text_once text file told (Does bytes) (Refuses why) one two = absurd (holds_or_refuses file told (one.0, one.1) why one.2 two)
+text_once text file told (Does bytes) (Does others) one two =
+    ap Does (one.3 ∙ ap (λ (l : Replica × End). text l.0.held) (holds_once file told (one.0, one.1) (two.0, two.1) one.2 two.2) ∙ sym two.3)
+
+-- the file was loaded, and the text of its replica was written
+module _ (text : Held → List ℕ) (file : Change DiskView) (replica : Replica) (at : End) (output notes : Change OutView) (end : Status)
+    (loaded : IsLoaded file replica at) (wrote : WritesOut (text replica.held) output notes end) where
+  abbrev bytes : List ℕ
+  bytes = text replica.held
+
+  found : TextFound text file.old (Does bytes)
+  found = (replica, at, loaded.holds, refl)
+
+  same_found : IsTold file.old → (other : Finding (List ℕ)) → TextFound text file.old other → Does bytes ≡ other
+  same_found told other is = text_once text file.old told (Does bytes) other found is
+
+  meets : (end : Status) → TextMeets bytes output notes end → FileOutMeets text file output notes end
+  meets status.Done came = record { bytes = bytes; found = found; came = came }
+  meets status.OutsideFault came = inr (record { bytes = bytes; found = found; came = came })
+  meets status.NoMemory came = came
+  meets _ came = absurd came
+
+  decided : (end : Status) → TextMeets bytes output notes end → FileDecides text file output end
+  decided status.Done came told other is = inl (ap status_found (same_found told other is))
+  decided status.OutsideFault came told other is = inr (inr (refl, subst (SomeFails file output) (same_found told other is) (inr came.rose)))
+  decided status.NoMemory came told other is = inr (inl refl)
+  decided _ came told other is = absurd came
+
+  pub text_written : WritesFileOut text file output notes end
+  text_written = record {
+    meets = meets end wrote.meets;
+    keeps = loaded.keeps;
+    crash = kept_never_torn file end loaded.keeps (λ done. loaded.synced);
+    calm = record {
+      file_calm = loaded.keeps.calm;
+      output_calm = λ told other is. subst (λ f. StaysCalm (length (bytes_found f)) output.old output.new) (same_found told other is) wrote.output_calm;
+      notes_calm = wrote.notes_calm;
+    };
+    never_outside = λ told other is room has outside.
+        (subst (TextMeets bytes output notes) outside wrote.meets).no_room (subst (λ f. HasRoom (length (bytes_found f)) output.old) (sym (same_found told other is)) has);
+    decides = decided end wrote.meets;
+  }
+
+-- nothing was written, and why was told
+module _ (text : Held → List ℕ) (file : Change DiskView) (out : OutView) (notes : Change OutView) where
+  ended : (end : Status) → (IsFinished end → ⊥) → KeepsFile file → StaysCalm notes_room notes.old notes.new → FileOutMeets text file (change out out) notes end
+      → FileOutNeverOutside text file (change out out) notes end → FileDecides text file (change out out) end → WritesFileOut text file (change out out) notes end
+  ended end unfinished keeps calm meets never decides = record {
+    meets = meets;
+    keeps = keeps;
+    crash = kept_never_torn file end keeps (λ done. absurd (unfinished done));
+    calm = record { file_calm = keeps.calm; output_calm = λ told other is has. refl; notes_calm = calm };
+    never_outside = never;
+    decides = decides;
+  }
+
+  decided_by : (why : Refusal) → FileRefuses file.old why → FileDecides text file (change out out) (status_of why)
+  decided_by why refuses told other is = inl (ap status_found (text_once text file.old told (Refuses why) other refuses is))
+
+  load_failed : (found : Finding (List ℕ)) → Rose file.old.faults file.new.faults → SomeFails file (change out out) found
+  load_failed (Refuses why) rose = rose
+  load_failed (Does written) rose = inl rose
+
+  pub load_refused : (why : Refusal) → LoadMeets file (Err why) → Told notes.old notes.new (line_of why) → WritesFileOut text file (change out out) notes (status_of why)
+  load_refused refusal.Outside failed told = ended status.OutsideFault (λ done. elim done [ inl is ↦ cc is | inr is ↦ cc is ]) failed.keeps told.calm
+      (inl (record { rose = failed.rose; no_room = failed.no_room; nothing = record { wrote = refl; noted = told } }))
+      (λ is other found room has outside. failed.no_room room) (λ is other found. inr (inr (refl, load_failed other failed.rose)))
+  load_refused refusal.NoMemory keeps told = ended status.NoMemory (λ done. elim done [ inl is ↦ cc is | inr is ↦ cc is ]) keeps told.calm
+      (record { wrote = refl; noted = told }) (λ is other found room has outside. cc outside) (λ is other found. inr (inl refl))
+  load_refused refusal.NotReplica refused told = ended status.BadFile (λ done. elim done [ inl is ↦ cc is | inr is ↦ cc is ]) refused.1 told.calm
+      (record { why = refusal.NotReplica; found = refused.0; end_is = refl; nothing = record { wrote = refl; noted = told } })
+      (λ is other found room has outside. cc outside) (decided_by refusal.NotReplica refused.0)
+  load_refused (refusal.BadBatch slot) refused told = ended status.BadFile (λ done. elim done [ inl is ↦ cc is | inr is ↦ cc is ]) refused.1 told.calm
+      (record { why = refusal.BadBatch slot; found = refused.0; end_is = refl; nothing = record { wrote = refl; noted = told } })
+      (λ is other found room has outside. cc outside) (decided_by (refusal.BadBatch slot) refused.0)
+  load_refused (refusal.TooMany count) refused told = ended status.Limit (λ done. elim done [ inl is ↦ cc is | inr is ↦ cc is ]) refused.1 told.calm
+      (record { why = refusal.TooMany count; found = refused.0; end_is = refl; nothing = record { wrote = refl; noted = told } })
+      (λ is other found room has outside. cc outside) (decided_by (refusal.TooMany count) refused.0)
+  load_refused _ refused told = absurd refused.0

@@ -1,0 +1,106 @@
+-- From what a load and what was given come to, to what a command that saves comes to.
+use Rattle.std.proofs.Common.{◌≡◌, inl, inr, refl, ap, sym, subst, arith}
+use Rattle.std.specs.Prelude.{◌⊎◌, Result, Ok, Err}
+use Rattle.outer_ports.specs.disk.Disks.{DiskView}
+use Rattle.replica_core.specs.State.{State as Replica}
+use Rattle.replica_file.proofs.HonestLemmas.{settled_honest}
+use Rattle.replica_file.specs.Append.{IsTooLong}
+use Rattle.replica_file.specs.declared.end.End.{End}
+use Rattle.manuscript_cli.specs.Files.{AppendFailed, IsAppended, IsLoaded, KeepsFile, LoadMeets, SaveMeets}
+use Rattle.manuscript_cli.specs.Findings.{Refuses, Does}
+use Rattle.manuscript_cli.specs.Saving.{ComesToSave, GivenMeets, Giver, IsDone, Outcome, SaveFailed, SavingFound, StopsSaving, Suffices}
+use Rattle.manuscript_cli.specs.Touched.{Change, change}
+use Rattle.manuscript_cli.specs.declared.refusal.Refusal.{Refusal}
+use Rattle.manuscript_cli.specs.declared.refusal.Refusal.TheVariants as refusal
+use Rattle.manuscript_cli.proofs.SavedLemmas.{calm_so, gains_so, later_so, saved_so, with_room}
+
+module _ (giver : Giver) (a b c : DiskView) (replica : Replica) (end : End) (loaded : IsLoaded (change a b) replica end) where
+  done_so : (outcome : Outcome) → giver.Gives replica (Does outcome) → Suffices replica outcome → IsAppended end outcome.saved (change b c) → IsDone giver (change a c) outcome
+  done_so outcome gives suffices saves = record {
+    replica = replica;
+    end = end;
+    holds = loaded.holds;
+    gives = gives;
+    fits = saves.fits;
+    saves = saved_so replica end outcome.saved a.past b.past c.past loaded.holds loaded.synced loaded.keeps.moments saves.moments (λ is. ap (λ (d : DiskView). d.past) (saves.none is)) saves.appended;
+    later = later_so replica end outcome a.past b.past c.past loaded.holds suffices loaded.synced (λ is. ap (λ (d : DiskView). d.past) (saves.none is)) saves.calls saves.appended;
+    calm = calm_so outcome.saved a b c loaded.keeps.calm loaded.room saves.none saves.calm;
+  }
+
+  failed_so : (outcome : Outcome) → giver.Gives replica (Does outcome) → AppendFailed end outcome.saved (change b c) → SaveFailed giver (change a c)
+  failed_so outcome gives fails = record {
+    replica = replica;
+    end = end;
+    holds = loaded.holds;
+    outcome = outcome;
+    gives = gives;
+    fits = fails.fits;
+    moments = gains_so replica end outcome.saved a.past b.past c.past loaded.holds loaded.synced loaded.keeps.moments fails.moments
+        (fails.honest (settled_honest a.past b.past loaded.synced));
+    rose = omega (arith, fails.rose, loaded.later);
+    no_room = λ has. with_room ⊥ outcome.saved a b fails.some loaded.room has fails.no_room;
+  }
+
+  still_kept : c ≡ b → KeepsFile (change a c)
+  still_kept same = subst (λ (d : DiskView). KeepsFile (change a d)) (sym same) loaded.keeps
+
+  abbrev IsGiven : Refusal → Type 0
+  IsGiven why = giver.Gives replica (Refuses why) ⊎ ((why ≡ refusal.BatchTooLong) × (outcome : Outcome) × giver.Gives replica (Does outcome) × IsTooLong end outcome.saved)
+
+  refused_so : (why : Refusal) → IsGiven why × (c ≡ b) → SavingFound giver a (Refuses why) × KeepsFile (change a c)
+  refused_so why given = (inr (replica, end, loaded.holds, given.0), still_kept given.1)
+
+  stops_so : (why : Refusal) → GivenMeets giver replica end (change b c) (Err why) → StopsSaving giver (change a c) why
+  stops_so refusal.Outside (inl gave_none) = inr (inl (record { failed = gave_none.0; not_sure = gave_none.1; keeps = still_kept gave_none.2 }))
+  stops_so refusal.Outside (inr fails) = inr (inr (failed_so fails.0 fails.1 fails.2))
+  stops_so refusal.NoMemory same = still_kept same
+  stops_so refusal.Words given = given
+  stops_so (refusal.BadFrame offset) given = refused_so (refusal.BadFrame offset) given
+  stops_so (refusal.CutShort offset) given = refused_so (refusal.CutShort offset) given
+  stops_so (refusal.BadLine line) given = refused_so (refusal.BadLine line) given
+  stops_so (refusal.NoSection line) given = refused_so (refusal.NoSection line) given
+  stops_so (refusal.OutOfRange line) given = refused_so (refusal.OutOfRange line) given
+  stops_so refusal.NotReplica given = refused_so refusal.NotReplica given
+  stops_so (refusal.BadBatch slot) given = refused_so (refusal.BadBatch slot) given
+  stops_so refusal.NotEmpty given = refused_so refusal.NotEmpty given
+  stops_so (refusal.TooMany count) given = refused_so (refusal.TooMany count) given
+  stops_so (refusal.IdsSpent count) given = refused_so (refusal.IdsSpent count) given
+  stops_so refusal.TooLong given = refused_so refusal.TooLong given
+  stops_so refusal.BatchTooLong given = refused_so refusal.BatchTooLong given
+  stops_so (refusal.BadReply offset) given = refused_so (refusal.BadReply offset) given
+  stops_so (refusal.RelayRefused code) given = refused_so (refusal.RelayRefused code) given
+  stops_so (refusal.ReplyCutShort offset) given = refused_so (refusal.ReplyCutShort offset) given
+
+  -- the file was loaded, and something given to it
+  pub given_comes : (result : Result Outcome Refusal) → GivenMeets giver replica end (change b c) result → ComesToSave giver (change a c) result
+  given_comes (Ok outcome) given = done_so outcome given.0 given.1 given.2
+  given_comes (Err why) given = stops_so why given
+
+-- an outcome that was not saved
+pub not_saved : (giver : Giver) (replica : Replica) (end : End) (file : Change DiskView) (outcome : Outcome) → giver.Gives replica (Does outcome) → (why : Refusal) → SaveMeets end outcome.saved file (Err why)
+    → GivenMeets giver replica end file (Err why)
+not_saved giver replica end file outcome gives refusal.Outside fails = inr (outcome, gives, fails)
+not_saved giver replica end file outcome gives refusal.NoMemory same = same
+not_saved giver replica end file outcome gives refusal.BatchTooLong meets = (inr (refl, outcome, gives, meets.0), meets.1)
+not_saved giver replica end file outcome gives _ meets = absurd meets
+
+-- the file was not loaded
+pub load_stops : (giver : Giver) (file : Change DiskView) (why : Refusal) → LoadMeets file (Err why) → ComesToSave giver file (Err why)
+load_stops giver file refusal.Outside fails = inl fails
+load_stops giver file refusal.NoMemory keeps = keeps
+load_stops giver file refusal.Words stops = stops.0
+load_stops giver file (refusal.BadFrame offset) stops = absurd stops.0
+load_stops giver file (refusal.CutShort offset) stops = absurd stops.0
+load_stops giver file (refusal.BadLine line) stops = absurd stops.0
+load_stops giver file (refusal.NoSection line) stops = absurd stops.0
+load_stops giver file (refusal.OutOfRange line) stops = absurd stops.0
+load_stops giver file refusal.NotReplica stops = (inl stops.0, stops.1)
+load_stops giver file (refusal.BadBatch slot) stops = (inl stops.0, stops.1)
+load_stops giver file refusal.NotEmpty stops = absurd stops.0
+load_stops giver file (refusal.TooMany count) stops = (inl stops.0, stops.1)
+load_stops giver file (refusal.IdsSpent count) stops = absurd stops.0
+load_stops giver file refusal.TooLong stops = absurd stops.0
+load_stops giver file refusal.BatchTooLong stops = absurd stops.0
+load_stops giver file (refusal.BadReply offset) stops = absurd stops.0
+load_stops giver file (refusal.RelayRefused code) stops = absurd stops.0
+load_stops giver file (refusal.ReplyCutShort offset) stops = absurd stops.0

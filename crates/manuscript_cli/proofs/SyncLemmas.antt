@@ -1,0 +1,175 @@
+-- An exchange with a relay: what was said, what was given to a loaded file by the reply, and that a reply gives one thing.
+use Rattle.std.proofs.Common.{List, [], ap, false, true, arith, inl, inr, length, length-append, refl, subst, sym, ℕ, ◌+◌, ◌++◌, ◌<◌, ◌^◌, ◌∙◌, ◌∷◌, ◌≡◌, ◌≢◌, ◌≤◌}
+use Rattle.std.specs.Prelude.{Err, IfSome, None, Ok, Option, Result, Some, decimal}
+use Rattle.std.proofs.lemmas.Fmt.{length-decimal-le}
+use Rattle.fugue_ids.specs.Causes.{Rose}
+use Rattle.fugue_ids.specs.Outs.{Took}
+use Rattle.fugue_ids.specs.declared.op.Op.{Op}
+use Rattle.origin_model.specs.declared.taking.tally.Tally.{Tally}
+use Rattle.origin_model.specs.taking.Taking.{IsSettled}
+use Rattle.outer_ports.specs.disk.Disks.{DiskView}
+use Rattle.outer_ports.specs.wire.Wires.{WireView, out_of}
+use Rattle.relay_sync.specs.Outcomes.{Bad, Cut, Ended, HeardTo, HeardUpTo, Refused, ReplyComes, ReplyEnd, TooLong, TooMany}
+use Rattle.relay_sync.specs.Saying.{text_for}
+use Rattle.relay_sync.specs.Syncing.{Fails, Fits, Syncs}
+use Rattle.relay_sync.specs.declared.sync_fault.SyncFault.{SyncFault}
+use Rattle.relay_sync.specs.declared.sync_fault.SyncFault.TheVariants as sync_fault
+use Rattle.relay_sync.proofs.OutcomeLemmas.{reply_comes_once}
+use Rattle.replica_core.specs.Keeping.{TakesIn, Taking, begun}
+use Rattle.replica_core.specs.State.{State as Replica}
+use Rattle.replica_file.specs.declared.end.End.{End}
+use Rattle.manuscript_cli.specs.Counts.{cursor_line}
+use Rattle.manuscript_cli.specs.Files.{FileHolds, IsAppended, SaveMeets}
+use Rattle.manuscript_cli.specs.Findings.{Finding, Refuses, Does}
+use Rattle.manuscript_cli.specs.Refusal.{sync_refusal}
+use Rattle.manuscript_cli.specs.Saving.{GivenMeets, Outcome}
+use Rattle.manuscript_cli.specs.Sync.{AnswerComes, ReplyGives, Speaks, SpeaksFor, reply, reply_to}
+use Rattle.manuscript_cli.specs.Take.{GivenCounted, noted_in, taken_in}
+use Rattle.manuscript_cli.specs.Touched.{Change, change, notes_room}
+use Rattle.manuscript_cli.specs.declared.counts.Counts.{Counts}
+use Rattle.manuscript_cli.specs.declared.refusal.Refusal.{Refusal}
+use Rattle.manuscript_cli.specs.declared.refusal.Refusal.TheVariants as refusal
+use Rattle.manuscript_cli.proofs.GivenLemmas.{GivesOnce}
+use Rattle.manuscript_cli.proofs.TakeLemmas.{taken_given, taken_not_saved}
+use Rattle.manuscript_cli.proofs.TextLemmas.{whole_front}
+
+cursor_short : (cursor : ℕ) → cursor < 2 ^ 32 → length (cursor_line cursor) ≤ 18
+cursor_short cursor fits = omega (arith, length-decimal-le 10 cursor (omega arith) (omega (arith, fits)) (omega (arith, fits)), length-append (decimal cursor) (10 ∷ []))
+
+-- the counts of an exchange fit the notes
+pub exchange_short : (line : List ℕ) (cursor : ℕ) → cursor < 2 ^ 32 → length line + 18 ≤ notes_room → length (line ++ cursor_line cursor) ≤ notes_room
+exchange_short line cursor fits short = omega (arith, short, cursor_short cursor fits, length-append line (cursor_line cursor))
+
+-- an error is not ok
+pub never_ok : false ≡ true → ⊥
+never_ok is = cc is
+
+-- what was said stays said while a reply is heard
+still_said : (old asked new : WireView) (text : List ℕ) → Took (out_of old) (out_of asked) text → new.said ≡ asked.said → new.room ≡ asked.room → Took (out_of old) (out_of new) text
+still_said old asked new text took said room = record { written = said ∙ took.written; room = room ∙ took.room }
+
+module _ (port cursor : ℕ) (old new : WireView) (before after : Taking) (done : Type 0)
+    (calm : Fits (length (text_for cursor before.replica.held)) old → new.faults ≡ old.faults) where
+  -- the replica spoke and heard the reply
+  pub speaks_whole : (count : ℕ) → Syncs old new before after port cursor count → Speaks port cursor before.replica.held (change old new) done
+  speaks_whole count s =
+      let took = still_said old s.asked new (text_for cursor before.replica.held) s.asks.said s.hears.hears.said s.hears.hears.room in
+      record {
+        front = whole_front (out_of old) (out_of new) (text_for cursor before.replica.held) took;
+        whole = λ d. took;
+        dialled = λ d. s.hears.hears.port ∙ s.asks.dialled;
+        calm = calm;
+      }
+
+  -- it spoke up to a fault, or heard the reply up to one
+  pub speaks_front : (fault : SyncFault) → Fails fault old new before after port cursor → (done → ⊥) → Speaks port cursor before.replica.held (change old new) done
+  speaks_front fault (inl asks) not_done = record { front = asks.said; whole = λ d. absurd (not_done d); dialled = λ d. absurd (not_done d); calm = calm }
+  speaks_front fault (inr hear) not_done = record {
+    front = whole_front (out_of old) (out_of new) (text_for cursor before.replica.held)
+        (still_said old hear.asked new (text_for cursor before.replica.held) hear.asks.said hear.hears.hears.said hear.hears.hears.room);
+    whole = λ d. absurd (not_done d);
+    dialled = λ d. absurd (not_done d);
+    calm = calm;
+  }
+
+-- what was said, where less is known to be done
+pub speaks_weaker : (port cursor : ℕ) (home : DiskView) (wire : Change WireView) (done less : Type 0) → (less → done) → SpeaksFor port cursor home wire done → SpeaksFor port cursor home wire less
+speaks_weaker port cursor home wire done less leads (inl still) = inl (still.0, λ l. still.1 (leads l))
+speaks_weaker port cursor home wire done less leads (inr (replica, end, holds, speaks)) =
+    inr (replica, end, holds, record { front = speaks.front; whole = λ l. speaks.whole (leads l); dialled = λ l. speaks.dialled (leads l); calm = speaks.calm })
+
+-- the operations of a reply that was heard to its end
+pub reply_ops : (told : Option (List ℕ)) (before after : Taking) (end : ReplyEnd) (ops : List Op) → TakesIn before after ops → HeardTo told before after end
+    → (all : List Op) × IfSome told (λ bytes. ReplyComes before.replica.hold before.replica.most before.replica.held bytes all end) × TakesIn before after all
+reply_ops None before after end ops takes heard = (ops, tt, takes)
+reply_ops (Some bytes) before after end ops takes heard = (heard.ops, heard.comes, heard.takes)
+
+-- those that were taken in before a fault
+cause_ops : (told : Option (List ℕ)) (before after : Taking) (end : ReplyEnd) → HeardTo told before after end
+    → (all : List Op) × IfSome told (λ bytes. ReplyComes before.replica.hold before.replica.most before.replica.held bytes all end)
+cause_ops None before after end heard = ([], tt)
+cause_ops (Some bytes) before after end heard = (heard.ops, heard.comes)
+
+-- an exchange stopped
+pub reply_stops : (fault : SyncFault) (port cursor : ℕ) (replica : Replica) (kept : List Op) (after last : Taking) (end : End) (file : DiskView) (wire : Change WireView)
+    → Fails fault wire.old wire.new (begun replica kept) after port cursor → HeardUpTo fault wire.old.left (begun replica kept) last
+    → (fault ≡ sync_fault.WireFault → Rose wire.old.faults wire.new.faults) → (Fits (length (text_for cursor replica.held)) wire.old → fault ≢ sync_fault.WireFault)
+    → GivenMeets (reply_to cursor replica wire) replica end (change file file) (Err (sync_refusal fault))
+reply_stops sync_fault.WireFault port cursor replica kept after last end file wire fails heard rose sure = inl (rose refl, λ fits. sure fits refl, refl)
+reply_stops (sync_fault.BadReply k) port cursor replica kept after last end file wire fails heard rose sure = (inl (cause_ops wire.old.left (begun replica kept) last (Bad k) heard), refl)
+reply_stops (sync_fault.RelayRefused code) port cursor replica kept after last end file wire fails heard rose sure =
+    (inl (cause_ops wire.old.left (begun replica kept) last (Refused code) heard), refl)
+reply_stops (sync_fault.CutShort k) port cursor replica kept after last end file wire fails heard rose sure = (inl (cause_ops wire.old.left (begun replica kept) last (Cut k) heard), refl)
+reply_stops sync_fault.TooLong port cursor replica kept after last end file wire fails heard rose sure = (inl (cause_ops wire.old.left (begun replica kept) last TooLong heard), refl)
+reply_stops (sync_fault.TooMany most) port cursor replica kept after last end file wire fails heard rose sure =
+    let cause = cause_ops wire.old.left (begun replica kept) last TooMany heard in
+    (inl (elim fails [ inl asks ↦ absurd asks.cause | inr hear ↦ hear.hears.stops.1 ∙ ap (λ (r : Replica). r.most) hear.hears.takes.replica ], cause.0, cause.1), refl)
+reply_stops sync_fault.NoMemory port cursor replica kept after last end file wire fails heard rose sure = refl
+
+module _ (cursor : ℕ) (replica now : Replica) (end : End) (file : Change DiskView) (wire : Change WireView) (tally : Tally) (kept kept_after : List Op) (none : kept ≡ []) (count : ℕ) (ops : List Op)
+    (comes : AnswerComes replica wire.old ops (Ended count)) (taken : TakesIn (begun replica kept) (record { replica = now; counts = tally; kept = kept_after }) ops) where
+  given : ReplyGives wire.old replica (Does (noted_in replica ops (Some count)))
+  given = (ops, count, comes, refl)
+
+  kept_are : kept_after ≡ (taken_in replica ops).saved
+  kept_are = taken.kept ∙ ap (λ (k : List Op). k ++ (taken_in replica ops).saved) none
+
+  -- a reply was taken in, and what was kept was saved
+  pub sync_given : (counts : Counts) → IsSettled replica.held → counts ≡ record { tally = tally; waiting = length now.held.waiting; cursor = Some count } → IsAppended end kept_after file
+      → GivenCounted (reply_to cursor replica wire) replica end file (Ok counts)
+  sync_given counts settled is appended =
+      taken_given (reply_to cursor replica wire) replica end file ops (Some count) given counts settled
+      (is ∙ (λ i. record { tally = taken.counts i; waiting = length (taken.replica i).held.waiting; cursor = Some count }))
+      (subst (λ (o : List Op). IsAppended end o file) kept_are appended)
+
+  -- what was kept was not saved
+  pub sync_not_saved : (why : Refusal) (saved : List Op) → saved ≡ kept_after → SaveMeets end saved file (Err why) → GivenMeets (reply_to cursor replica wire) replica end file (Err why)
+  sync_not_saved why saved same meets =
+      taken_not_saved (reply_to cursor replica wire) replica end file ops (Some count) given why (subst (λ (o : List Op). SaveMeets end o file (Err why)) (same ∙ kept_are) meets)
+
+-- the reply to what the file's replica said
+pub reply_by_file : (cursor : ℕ) (replica : Replica) (end : End) (home : DiskView) (wire : Change WireView) (file : Change DiskView) → FileHolds home replica end → (result : Result Counts Refusal)
+    → GivenCounted (reply_to cursor replica wire) replica end file result → GivenCounted (reply cursor home wire) replica end file result
+reply_by_file cursor replica end home wire file holds (Ok counts) did = did
+reply_by_file cursor replica end home wire file holds (Err refusal.Outside) stopped = elim stopped [
+  | inl failed ↦ inl (failed.0, λ sure. failed.1 (sure replica end holds), failed.2)
+  | inr failed ↦ inr failed
+]
+reply_by_file cursor replica end home wire file holds (Err _) stopped = stopped
+
+-- what a reply gives that comes to an end
+abbrev reply_finding : Replica → List Op → ReplyEnd → Finding Outcome
+reply_finding replica ops (Ended count) = Does (noted_in replica ops (Some count))
+reply_finding replica ops (Refused code) = Refuses (refusal.RelayRefused code)
+reply_finding replica ops (Bad k) = Refuses (refusal.BadReply k)
+reply_finding replica ops (Cut k) = Refuses (refusal.ReplyCutShort k)
+reply_finding replica ops TooLong = Refuses refusal.TooLong
+reply_finding replica ops TooMany = Refuses (refusal.TooMany replica.most)
+
+-- the end to which a reply came
+record ComesTo (wire : WireView) (replica : Replica) (finding : Finding Outcome) : Type 0 where
+  ops : List Op
+  end : ReplyEnd
+  came : AnswerComes replica wire ops end
+  finding_is : finding ≡ reply_finding replica ops end
+
+comes_to : (wire : WireView) (replica : Replica) (finding : Finding Outcome) → ReplyGives wire replica finding → ComesTo wire replica finding
+comes_to wire replica (Does outcome) gives = record { ops = gives.0; end = Ended gives.1; came = gives.2; finding_is = ap Does gives.3 }
+comes_to wire replica (Refuses (refusal.BadReply k)) gives = record { ops = gives.0; end = Bad k; came = gives.1; finding_is = refl }
+comes_to wire replica (Refuses (refusal.RelayRefused code)) gives = record { ops = gives.0; end = Refused code; came = gives.1; finding_is = refl }
+comes_to wire replica (Refuses (refusal.ReplyCutShort k)) gives = record { ops = gives.0; end = Cut k; came = gives.1; finding_is = refl }
+comes_to wire replica (Refuses refusal.TooLong) gives = record { ops = gives.0; end = TooLong; came = gives.1; finding_is = refl }
+comes_to wire replica (Refuses (refusal.TooMany most)) gives =
+    record { ops = gives.1; end = TooMany; came = gives.2; finding_is = ap (λ (n : ℕ). Refuses (refusal.TooMany n)) gives.0 }
+comes_to wire replica (Refuses _) gives = absurd gives
+
+-- a reply that is told gives one thing
+pub reply_once : (cursor : ℕ) (home : DiskView) (wire : Change WireView) → GivesOnce (reply cursor home wire)
+reply_once cursor home wire told replica one two gives others =
+    let a = comes_to wire.old replica one gives in
+    let b = comes_to wire.old replica two others in
+    let same = reply_comes_once replica.hold replica.most replica.held told.0 a.ops b.ops a.end b.end (by_bytes a.ops a.end a.came) (by_bytes b.ops b.end b.came) in
+    a.finding_is ∙ (λ i. reply_finding replica (same.0 i) (same.1 i)) ∙ sym b.finding_is
+  where
+    by_bytes : (ops : List Op) (end : ReplyEnd) → AnswerComes replica wire.old ops end → ReplyComes replica.hold replica.most replica.held told.0 ops end
+    by_bytes ops end came = subst (λ o. IfSome o (λ bytes. ReplyComes replica.hold replica.most replica.held bytes ops end)) told.1 came

@@ -1,0 +1,11 @@
+use Rattle.std.proofs.Common.{refl}
+use Rattle.manuscript_cli.proofs.NewLemmas.{created, not_created}
+use Rattle.manuscript_cli.proofs.new_file.new_file.Goals as goal
+
+pub returns-in-Ok : goal.returns-in-Ok
+returns-in-Ok g c = created _ _ _ _ _ _ c.in-Ok.ensures.not_empty c.in-Ok.ensures.calls c.in-Ok.ensures.made c.in-Ok.ensures.holds c.in-Ok.ensures.calm
+
+pub returns-in-Err : goal.returns-in-Err
+returns-in-Err g c =
+    let found = c.in-Err.ensures in
+    rw c.tell.ensures.status (rw c.from.ensures (not_created _ _ _ _ _ _ c.in-Err.fault _ refl found.not_empty found.kept found.torn found.cause found.sure found.calm (rw c.from.ensures at c.tell.ensures.told)))

@@ -1,0 +1,14 @@
+use Rattle.std.proofs.Common.{refl}
+use Rattle.manuscript_cli.proofs.RelayLemmas.{all_served, not_all_served}
+use Rattle.manuscript_cli.proofs.relay.relay_by.Goals as goal
+
+pub returns-in-Ok-clause-meets : goal.returns-in-Ok-clause-meets
+returns-in-Ok-clause-meets g c =
+    let opened = c.in_ok-open.ensures.meets in
+    all_served _ _ _ _ _ opened.0 opened.1 opened.2 _ _ c.log_len.ensures (rw c.requires at c.in-Ok.ensures.ok)
+
+pub returns-in-Err-clause-meets : goal.returns-in-Err-clause-meets
+returns-in-Err-clause-meets g c =
+    let opened = c.in_ok-open.ensures.meets in
+    rw c.from.ensures (not_all_served _ _ _ _ _ opened.0 opened.1 opened.2 _ c.in-Err.fault _ refl (rw c.requires at c.in-Err.ensures.too_long) (rw c.requires at c.in-Err.ensures.partly)
+    c.in-Err.ensures.dock_fault)

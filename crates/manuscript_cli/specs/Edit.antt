@@ -1,0 +1,79 @@
+-- The command `edit`: a script is run on a file's replica, and what it made is saved.
+use Rattle.std.specs.Prelude.{◌≡◌, ◌≢◌, ◌⊎◌, ℕ, ◌<◌, ◌≤◌, List, [], ◌∷◌, ◌++◌, length, true, Some, IfSome, Result, Ok, Err, codes, decimal}
+use Rattle.fugue_ids.specs.Causes.{Rose}
+use Rattle.fugue_ids.specs.declared.op.Op.{Op}
+use Rattle.origin_model.specs.operations.History.{accepted}
+use Rattle.edit_script.specs.declared.fault.ScriptFault.{ScriptFault}
+use Rattle.edit_script.specs.declared.fault.ScriptFault.TheVariants as script_fault
+use Rattle.edit_script.specs.declared.script.TheConstants.{LONGEST_SCRIPT}
+use Rattle.edit_script.specs.Scripts.{RunsWhole, StopsAt}
+use Rattle.outer_ports.specs.Sources.{SourceView}
+use Rattle.outer_ports.specs.disk.Disks.{DiskView}
+use Rattle.replica_core.specs.State.{State as Replica}
+use Rattle.replica_file.specs.declared.end.End.{End}
+use Rattle.manuscript_cli.specs.Findings.{Finding, Refuses, Does}
+use Rattle.manuscript_cli.specs.Refusal.{script_refusal}
+use Rattle.manuscript_cli.specs.Saving.{ComesToSave, GivenMeets, Giver, Outcome}
+use Rattle.manuscript_cli.specs.Touched.{Change}
+use Rattle.manuscript_cli.specs.declared.refusal.Refusal.{Refusal}
+use Rattle.manuscript_cli.specs.declared.refusal.Refusal.TheVariants as refusal
+use Rattle.manuscript_cli.specs.declared.status.Status.TheVariants as status
+
+-- the line of the notes that says how many operations a script made
+abbrev pub made_line : ℕ → List ℕ
+made_line count = codes "made " ++ decimal count ++ 10 ∷ []
+
+-- what comes of operations that a script made, by which it came to this replica
+abbrev pub made_outcome : Replica → List Op → Outcome
+made_outcome last made = record { saved = made; held = last.held; line = made_line (length made); status = status.Done }
+
+-- the script was run to its end on a replica, and made these operations
+pub record RunsScript (replica : Replica) (script : List ℕ) (outcome : Outcome) : Type 0 where
+  pub short : length script ≤ LONGEST_SCRIPT
+  pub made : List Op
+  pub last : Replica
+  pub runs : RunsWhole replica last script (length made)
+  pub made_are : accepted last.held.history ≡ accepted replica.held.history ++ made
+  pub outcome_is : outcome ≡ made_outcome last made
+
+-- the script has a first faulty line, and its fault is the cause of this refusal
+pub record HasFaultyLine (replica : Replica) (script : List ℕ) (why : Refusal) : Type 0 where
+  pub short : length script ≤ LONGEST_SCRIPT
+  pub fault : ScriptFault
+  pub why_is : why ≡ script_refusal fault
+  -- want of memory is no line's fault
+  pub no_want : fault ≢ script_fault.NoMemory
+  pub last : Replica
+  pub stops : StopsAt replica last script fault
+
+-- the script is the cause of this refusal: it is longer than its limit, or has a faulty line
+abbrev pub ScriptRefuses : Replica → List ℕ → Refusal → Type 0
+ScriptRefuses replica script why = ((why ≡ refusal.TooLong) × (LONGEST_SCRIPT < length script)) ⊎ HasFaultyLine replica script why
+
+-- what a script gives
+abbrev pub ScriptGives : SourceView → Replica → Finding Outcome → Type 0
+ScriptGives input replica (Refuses why) = IfSome input.left (λ script. ScriptRefuses replica script why)
+ScriptGives input replica (Does outcome) = IfSome input.left (λ script. RunsScript replica script outcome)
+
+abbrev pub script : Change SourceView → Giver
+script input = record {
+  Gives = ScriptGives input.old;
+  Told = (bytes : List ℕ) × (input.old.left ≡ Some bytes);
+  Failed = Rose input.old.faults input.new.faults;
+  Sure = input.old.sure ≡ true;
+}
+
+-- the number of operations that a script made is that of its outcome
+pub record HasMade (count : ℕ) (outcome : Outcome) : Type 0 where
+  pub line_is : outcome.line ≡ made_line count
+  pub status_is : outcome.status ≡ status.Done
+
+-- what was given to a file that is loaded, as the number tells it
+abbrev pub GivenMade : Giver → Replica → End → Change DiskView → Result ℕ Refusal → Type 0
+GivenMade giver replica end file (Ok count) = (outcome : Outcome) × HasMade count outcome × GivenMeets giver replica end file (Ok outcome)
+GivenMade giver replica end file (Err why) = GivenMeets giver replica end file (Err why)
+
+-- what was given and saved, as the number tells it
+abbrev pub SavesMade : Giver → Change DiskView → Result ℕ Refusal → Type 0
+SavesMade giver file (Ok count) = (outcome : Outcome) × HasMade count outcome × ComesToSave giver file (Ok outcome)
+SavesMade giver file (Err why) = ComesToSave giver file (Err why)

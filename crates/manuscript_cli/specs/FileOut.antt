@@ -1,0 +1,122 @@
+-- The commands that write what a file holds to the output, as a text of the replica's state.
+use Rattle.std.specs.Prelude.{◌≡◌, ◌≢◌, ◌⊎◌, ℕ, List, [], length}
+use Rattle.fugue_ids.specs.Causes.{Rose}
+use Rattle.fugue_ids.specs.Outs.{OutView, Took, TookFront}
+use Rattle.origin_model.specs.taking.Taking.{Held}
+use Rattle.outer_ports.specs.disk.Disks.{DiskView}
+use Rattle.replica_core.specs.State.{State as Replica}
+use Rattle.replica_file.specs.declared.end.End.{End}
+use Rattle.manuscript_cli.specs.Crashes.{NeverTorn}
+use Rattle.manuscript_cli.specs.Files.{FileHolds, FileRefuses, KeepsFile}
+use Rattle.manuscript_cli.specs.Findings.{Finding, Refuses, Does, IsDecided}
+use Rattle.manuscript_cli.specs.Refusal.{line_of, status_of, Told}
+use Rattle.manuscript_cli.specs.Touched.{Change, DiskStaysCalm, HasDiskRoom, HasRoom, IsTold, StaysCalm, notes_room}
+use Rattle.manuscript_cli.specs.declared.refusal.Refusal.{Refusal}
+use Rattle.manuscript_cli.specs.declared.refusal.Refusal.TheVariants as refusal
+use Rattle.manuscript_cli.specs.declared.status.Status.{Status}
+use Rattle.manuscript_cli.specs.declared.status.Status.TheVariants as status
+
+-- what the file leads to: it is refused, or there is the text of its replica
+abbrev pub TextFound : (text : Held → List ℕ) → DiskView → Finding (List ℕ) → Type 0
+TextFound text file (Refuses why) = FileRefuses file why
+TextFound text file (Does bytes) = (replica : Replica) × (end : End) × FileHolds file replica end × (bytes ≡ text replica.held)
+
+-- the bytes that go out, and the status
+abbrev pub bytes_found : Finding (List ℕ) → List ℕ
+bytes_found (Refuses why) = []
+bytes_found (Does bytes) = bytes
+
+abbrev pub status_found : Finding (List ℕ) → Status
+status_found (Refuses why) = status_of why
+status_found (Does bytes) = status.Done
+
+-- the text went out, and nothing was noted
+pub record WroteText (bytes : List ℕ) (output notes : Change OutView) : Type 0 where
+  pub wrote : Took output.old output.new bytes
+  pub noted : notes.new ≡ notes.old
+
+-- the output failed: a front of the text went out
+pub record WroteFront (bytes : List ℕ) (output notes : Change OutView) : Type 0 where
+  pub wrote : TookFront output.old output.new bytes
+  pub rose : Rose output.old.faults output.new.faults
+  pub no_room : HasRoom (length bytes) output.old → ⊥
+  pub noted : Told notes.old notes.new (line_of refusal.Outside)
+
+-- nothing went out, and the notes got the refusal's line
+pub record WroteNothing (output notes : Change OutView) (why : Refusal) : Type 0 where
+  pub wrote : output.new ≡ output.old
+  pub noted : Told notes.old notes.new (line_of why)
+
+-- what came of writing a text
+abbrev pub TextMeets : (bytes : List ℕ) → (output notes : Change OutView) → Status → Type 0
+TextMeets bytes output notes status.Done = WroteText bytes output notes
+TextMeets bytes output notes status.OutsideFault = WroteFront bytes output notes
+TextMeets bytes output notes status.NoMemory = WroteNothing output notes refusal.NoMemory
+TextMeets bytes output notes _ = ⊥
+
+pub record WritesOut (bytes : List ℕ) (output notes : Change OutView) (end : Status) : Type 0 where
+  pub meets : TextMeets bytes output notes end
+  pub output_calm : StaysCalm (length bytes) output.old output.new
+  pub notes_calm : StaysCalm notes_room notes.old notes.new
+
+-- the text of what the file holds was written, and this came of it
+pub record WroteHeld (text : Held → List ℕ) (file : DiskView) (Wrote : List ℕ → Type 0) : Type 0 where
+  pub bytes : List ℕ
+  pub found : TextFound text file (Does bytes)
+  pub came : Wrote bytes
+
+-- the file was refused
+pub record FileRefused (text : Held → List ℕ) (file : DiskView) (output notes : Change OutView) (end : Status) : Type 0 where
+  pub why : Refusal
+  pub found : TextFound text file (Refuses why)
+  pub end_is : end ≡ status_of why
+  pub nothing : WroteNothing output notes why
+
+-- the file was not read
+pub record FileFailed (file : Change DiskView) (output notes : Change OutView) : Type 0 where
+  pub rose : Rose file.old.faults file.new.faults
+  pub no_room : HasDiskRoom 1 file.old → ⊥
+  pub nothing : WroteNothing output notes refusal.Outside
+
+-- what was done, for each way in which the command may end
+abbrev pub FileOutMeets : (text : Held → List ℕ) → Change DiskView → (output notes : Change OutView) → Status → Type 0
+FileOutMeets text file output notes status.Done = WroteHeld text file.old (λ bytes. WroteText bytes output notes)
+FileOutMeets text file output notes status.BadFile = FileRefused text file.old output notes status.BadFile
+FileOutMeets text file output notes status.Limit = FileRefused text file.old output notes status.Limit
+FileOutMeets text file output notes status.OutsideFault = FileFailed file output notes ⊎ WroteHeld text file.old (λ bytes. WroteFront bytes output notes)
+FileOutMeets text file output notes status.NoMemory = WroteNothing output notes refusal.NoMemory
+FileOutMeets text file output notes status.Usage = ⊥
+FileOutMeets text file output notes status.BadInput = ⊥
+FileOutMeets text file output notes status.Partial = ⊥
+
+-- sure objects with room count no fault, however the command ends
+pub record FileOutStaysCalm (text : Held → List ℕ) (file : Change DiskView) (output notes : Change OutView) : Type 0 where
+  pub file_calm : DiskStaysCalm 1 file
+  pub output_calm : IsTold file.old → (found : Finding (List ℕ)) → TextFound text file.old found → StaysCalm (length (bytes_found found)) output.old output.new
+  pub notes_calm : StaysCalm notes_room notes.old notes.new
+
+-- and where all are sure and have room, no outside fault comes
+abbrev pub FileOutNeverOutside : (text : Held → List ℕ) → Change DiskView → (output notes : Change OutView) → Status → Type 0
+FileOutNeverOutside text file output notes end =
+    IsTold file.old → (found : Finding (List ℕ)) → TextFound text file.old found → HasDiskRoom 1 file.old → HasRoom (length (bytes_found found)) output.old
+    → end ≢ status.OutsideFault
+
+-- A call that failed. One on the output counts only where there is a text to write.
+abbrev pub SomeFails : (file : Change DiskView) (output : Change OutView) → Finding (List ℕ) → Type 0
+SomeFails file output (Refuses why) = Rose file.old.faults file.new.faults
+SomeFails file output (Does bytes) = Rose file.old.faults file.new.faults ⊎ Rose output.old.faults output.new.faults
+
+-- the file decides the status, but for want of memory and faults
+abbrev pub FileDecides : (text : Held → List ℕ) → Change DiskView → (output : Change OutView) → Status → Type 0
+FileDecides text file output end =
+    IsTold file.old → (found : Finding (List ℕ)) → TextFound text file.old found
+    → IsDecided (status_found found) (SomeFails file output found) end
+
+-- a command that writes a text of what a file holds
+pub record WritesFileOut (text : Held → List ℕ) (file : Change DiskView) (output notes : Change OutView) (end : Status) : Type 0 where
+  pub meets : FileOutMeets text file output notes end
+  pub keeps : KeepsFile file
+  pub crash : NeverTorn (λ gave. gave ≡ []) file end
+  pub calm : FileOutStaysCalm text file output notes
+  pub never_outside : FileOutNeverOutside text file output notes end
+  pub decides : FileDecides text file output end

@@ -1,0 +1,139 @@
+-- The command `relay`: it listens on a port, and serves the sessions of others with a relay that is new.
+use Rattle.std.specs.Prelude.{◌≡◌, ◌⊎◌, ℕ, ◌<◌, ◌≤◌, List, [], ◌∷◌, ◌++◌, length, Some, Result, Ok, Err, is_some, true, codes, decimal, option_map}
+use Rattle.fugue_ids.specs.Causes.{Rose}
+use Rattle.fugue_ids.specs.Outs.{OutView, Took, TookFront}
+use Rattle.origin_model.specs.relay.Relay.{Relay, new_relay}
+use Rattle.outer_ports.specs.dock.Docks.{DockView, SendsNothing, TakesNothing}
+use Rattle.relay_core.specs.declared.relay.TheConstants.{MOST_LOGGED}
+use Rattle.relay_sync.specs.Serving.{NoneAfter, Serves, ServesPartly, Turn, count_over}
+use Rattle.relay_sync.specs.declared.serve_fault.ServeFault.{ServeFault}
+use Rattle.relay_sync.specs.declared.serve_fault.ServeFault.TheVariants as serve_fault
+use Rattle.manuscript_cli.specs.Refusal.{line_of, Told, TookFronts}
+use Rattle.manuscript_cli.specs.Touched.{Change, HasRoom, StaysCalm, notes_room}
+use Rattle.manuscript_cli.specs.declared.refusal.Refusal.{Refusal}
+use Rattle.manuscript_cli.specs.declared.refusal.Refusal.TheVariants as refusal
+use Rattle.manuscript_cli.specs.declared.status.Status.{Status}
+use Rattle.manuscript_cli.specs.declared.status.Status.TheVariants as status
+
+-- what goes out once the port is listened on
+abbrev pub ready_line : List ℕ
+ready_line = codes "ready" ++ 10 ∷ []
+
+-- the line of the notes that says how many frames the log has at the end
+abbrev pub log_line : ℕ → List ℕ
+log_line count = codes "log " ++ decimal count ++ 10 ∷ []
+
+-- how many steps a run takes at most
+abbrev pub most_steps : ℕ
+most_steps = 18446744073709551615
+
+-- the dock, now listening on the port
+abbrev pub listening : (port : ℕ) → DockView → DockView
+listening port dock = record dock { port = option_map (λ before. Some port) dock.port }
+
+-- calls on the dock are sure
+abbrev pub CallsAreSure : DockView → Type 0
+CallsAreSure dock = is_some dock.ends ≡ true
+
+-- nothing was taken, sent or ended, and a sure dock counts no fault
+pub record IsIdle (old new : DockView) : Type 0 where
+  pub port : new.port ≡ old.port
+  pub nothing_taken : TakesNothing old new
+  pub nothing_sent : SendsNothing old new
+  pub ended : new.ended ≡ old.ended
+  pub ends : new.ends ≡ old.ends
+  pub calm : CallsAreSure old → new.faults ≡ old.faults
+
+-- A new relay was given the dock's steps, and served so many sessions: the last step brought the last of them to its end, and none was asked for behind it.
+pub record ServedAll (port sessions : ℕ) (dock : Change DockView) (logged : ℕ) : Type 0 where
+  pub turns : List Turn
+  pub relay : Relay
+  pub serves : Serves (new_relay MOST_LOGGED) relay (listening port dock.old) dock.new turns
+  pub over : sessions ≤ count_over turns
+  pub none_after : NoneAfter sessions turns
+  pub few : length turns ≤ most_steps
+  -- so many frames are in its log
+  pub logged_is : logged ≡ length relay.log
+
+-- all steps that a run may take were taken, and fewer sessions are over
+pub record TookAllSteps (port sessions : ℕ) (dock : Change DockView) : Type 0 where
+  pub turns : List Turn
+  pub relay : Relay
+  pub serves : Serves (new_relay MOST_LOGGED) relay (listening port dock.old) dock.new turns
+  pub not_over : count_over turns < sessions
+  pub none_after : NoneAfter sessions turns
+  pub all : length turns ≡ most_steps
+
+-- a front of the steps was served, up to this fault
+pub record ServedPartly (fault : ServeFault) (port : ℕ) (dock : Change DockView) : Type 0 where
+  pub relay : Relay
+  pub serves : ServesPartly fault (new_relay MOST_LOGGED) relay (listening port dock.old) dock.new
+
+-- the port was not listened on
+pub record ListeningFailed (output : Change OutView) (dock : Change DockView) : Type 0 where
+  pub output_kept : output.new ≡ output.old
+  pub idle : IsIdle dock.old dock.new
+  pub rose : Rose dock.old.faults dock.new.faults
+  pub not_sure : CallsAreSure dock.old → ⊥
+
+-- the port was listened on, and a front of the line went out
+pub record ReadyFailed (port : ℕ) (output : Change OutView) (dock : Change DockView) : Type 0 where
+  pub front : TookFront output.old output.new ready_line
+  pub idle : IsIdle (listening port dock.old) dock.new
+  pub rose : Rose output.old.faults output.new.faults
+  pub no_room : HasRoom (length ready_line) output.old → ⊥
+
+-- a call on the dock failed behind it
+pub record ServingFailed (port : ℕ) (output : Change OutView) (dock : Change DockView) : Type 0 where
+  pub ready : Took output.old output.new ready_line
+  pub partly : ServedPartly serve_fault.DockFault port dock
+  pub rose : Rose dock.old.faults dock.new.faults
+
+-- the port is listened on, and that was said, or why not
+abbrev pub OpeningMeets : (port : ℕ) → (output : Change OutView) → Change DockView → Result (Unit {0}) Refusal → Type 0
+OpeningMeets port output dock (Ok done) = Took output.old output.new ready_line × IsIdle (listening port dock.old) dock.new × (dock.old.faults ≤ dock.new.faults)
+OpeningMeets port output dock (Err refusal.Outside) = ListeningFailed output dock ⊎ ReadyFailed port output dock
+OpeningMeets port output dock (Err _) = ⊥
+
+-- what was served, and how many frames the log has; or why not all
+abbrev pub ServingMeets : (port sessions : ℕ) → (output : Change OutView) → Change DockView → Result ℕ Refusal → Type 0
+ServingMeets port sessions output dock (Ok logged) = Took output.old output.new ready_line × ServedAll port sessions dock logged
+ServingMeets port sessions output dock (Err refusal.Outside) = ListeningFailed output dock ⊎ ReadyFailed port output dock ⊎ ServingFailed port output dock
+ServingMeets port sessions output dock (Err refusal.TooLong) = Took output.old output.new ready_line × TookAllSteps port sessions dock
+ServingMeets port sessions output dock (Err refusal.NoMemory) = Took output.old output.new ready_line × ServedPartly serve_fault.NoMemory port dock
+ServingMeets port sessions output dock (Err _) = ⊥
+
+-- all was served, and noted
+pub record Finished (port sessions : ℕ) (output notes : Change OutView) (dock : Change DockView) : Type 0 where
+  pub logged : ℕ
+  pub served : ServingMeets port sessions output dock (Ok logged)
+  pub noted : Took notes.old notes.new (log_line logged)
+
+-- all was served, and the notes failed: they hold a front of the line, and then one of the fault's
+pub record NotesFailed (port sessions : ℕ) (output notes : Change OutView) (dock : Change DockView) : Type 0 where
+  pub logged : ℕ
+  pub served : ServingMeets port sessions output dock (Ok logged)
+  pub noted : TookFronts notes.old notes.new (log_line logged) (line_of refusal.Outside)
+  pub rose : Rose notes.old.faults notes.new.faults
+  pub no_room : HasRoom notes_room notes.old → ⊥
+
+-- it stopped, and the notes got the refusal's line
+pub record Stopped (port sessions : ℕ) (output notes : Change OutView) (dock : Change DockView) (why : Refusal) : Type 0 where
+  pub stops : ServingMeets port sessions output dock (Err why)
+  pub noted : Told notes.old notes.new (line_of why)
+
+-- what was done, for each way in which the command may end
+abbrev pub RelayMeets : (port sessions : ℕ) → (output notes : Change OutView) → Change DockView → Status → Type 0
+RelayMeets port sessions output notes dock status.Done = Finished port sessions output notes dock
+RelayMeets port sessions output notes dock status.OutsideFault =
+    Stopped port sessions output notes dock refusal.Outside ⊎ NotesFailed port sessions output notes dock
+RelayMeets port sessions output notes dock status.Limit = Stopped port sessions output notes dock refusal.TooLong
+RelayMeets port sessions output notes dock status.NoMemory = Stopped port sessions output notes dock refusal.NoMemory
+RelayMeets port sessions output notes dock _ = ⊥
+
+-- the command `relay`
+pub record Relays (port sessions : ℕ) (output notes : Change OutView) (dock : Change DockView) (end : Status) : Type 0 where
+  pub meets : RelayMeets port sessions output notes dock end
+  -- sure objects with room count no fault
+  pub output_calm : StaysCalm (length ready_line) output.old output.new
+  pub notes_calm : StaysCalm notes_room notes.old notes.new

@@ -1,0 +1,180 @@
+ghost use Rattle.std.specs.Prelude.{◌<◌, All, IfOk, length};
+ghost use Rattle.outer_ports.specs.dock.Steps.{HasBytes};
+
+use super::{LOWER_A, S, stream, words_of};
+use crate::{Status, run};
+use fugue_ids::ByteList;
+use outer_ports::{Dock, DockStep, FileDisk, MemDock, MemSink, MemSource, MemStep, MemWire};
+use std::alloc::{AllocError, Global};
+use std::hash::{BuildHasherDefault, FoldHasher};
+use std::test::Fail;
+
+/// A greeting from the start of the log on.
+const HELLO: &[u8] = b"\x48\0\0\0\0";
+
+/// What the relay answers to who asks for a log of two frames.
+fn reply(alloc: Global) -> Result<Vec<u8>, AllocError> {
+    stream(alloc, &[LOWER_A, S, b"\x55\0\0\0\x02"])
+}
+
+fn says(alloc: Global, session: u32, bytes: &[u8]) -> Result<MemStep, Fail>
+    requires { 0 < length bytes.now }
+    ensures { IfOk result HasBytes }
+{
+    Ok(MemStep::Bytes(session, ByteList::new(bytes.to_vec(alloc)?)))
+}
+
+/// Two sessions bring a frame each, the second one first, and end their texts, the second one first.
+fn two_sessions(alloc: Global) -> Result<Vec<MemStep>, Fail>
+    ensures { IfOk result (λ steps. All HasBytes steps.items) }
+{
+    let mut steps = Vec::new(alloc);
+    steps.push(MemStep::Opened(0))?;
+    steps.push(MemStep::Opened(1))?;
+    steps.push(says(alloc, 0, HELLO)?)?;
+    steps.push(says(alloc, 1, HELLO)?)?;
+    steps.push(says(alloc, 1, LOWER_A)?)?;
+    steps.push(says(alloc, 0, S)?)?;
+    steps.push(says(alloc, 1, &[0x44])?)?;
+    steps.push(says(alloc, 0, &[0x44])?)?;
+    Ok(steps)
+}
+
+/// What is wanted of a run: what is written, what is noted, and the status.
+type Ends = (&'static [u8], &'static [u8], Status);
+
+/// The calls of the dock, of the output and of the notes that fail, counted from 0.
+type Fails = [&'static [u32]; 3];
+
+const NONE: Fails = [&[], &[], &[]];
+
+/// What came of a run at the dock.
+#[derive(Clone, Copy, PartialEq, Eq)]
+struct Seen {
+    /// The output, the notes and the status are as wanted.
+    is_so: bool,
+    port: Option<u16>,
+    /// Both sessions were sent all that they asked for, and ended in the order in which they asked.
+    are_answered: bool,
+    /// The dock's next step is still the first one.
+    is_untouched: bool,
+}
+
+/// Runs at a dock that gives and takes so many bytes a call.
+fn see(alloc: Global, words: &str, piece: usize, fails: Fails, ends: Ends) -> Result<Seen, Fail> {
+    let [dock_fails, output_fails, notes_fails] = fails;
+    let reply = reply(alloc)?;
+    let words = words_of(alloc, words)?;
+    let dock_fails = Vec::from_slice(alloc, dock_fails)?;
+    let output_fails = Vec::from_slice(alloc, output_fails)?;
+    let notes_fails = Vec::from_slice(alloc, notes_fails)?;
+    let steps = two_sessions(alloc)?;
+    let mut dock = MemDock::new(alloc, steps, piece.max(1), dock_fails);
+    let mut output = MemSink::new(alloc, 3, output_fails);
+    let mut notes = MemSink::new(alloc, 64, notes_fails);
+    let status = run_at(alloc, &words, &mut dock, &mut output, &mut notes);
+    let (text, line, end) = ends;
+    Ok(Seen {
+        is_so: output.written() == text && notes.written() == line && status == end,
+        port: dock.port(),
+        are_answered: dock.sent(0) == reply.as_slice()
+            && dock.sent(1) == reply.as_slice()
+            && dock.ended() == [1, 0].as_slice(),
+        is_untouched: dock.next(&mut [0; 5]) == Ok(DockStep::Opened(0)),
+    })
+}
+
+/// Runs at the dock, with an empty input and no file.
+fn run_at<D: Dock>(
+    alloc: Global,
+    words: &[String],
+    dock: &mut D,
+    output: &mut MemSink,
+    notes: &mut MemSink,
+) -> Status {
+    let mut input = MemSource::new(Vec::new(alloc), 1, Vec::new(alloc));
+    let mut home = FileDisk::closed();
+    let mut guest = FileDisk::closed();
+    let mut wire = MemWire::new(alloc, Vec::new(alloc), 1, Vec::new(alloc));
+    let hasher: BuildHasherDefault<FoldHasher> = BuildHasherDefault::default();
+    run(
+        alloc, words, &mut input, output, notes, &mut home, &mut guest, &mut wire, dock, hasher,
+    )
+}
+
+const RELAY: &str = "relay 47113 2";
+
+const DONE: Ends = (b"ready\n", b"log 2\n", Status::Done);
+
+#[test]
+fn a_relay_says_that_it_is_ready_and_answers_each_session(rt: HostRuntime) -> Result<(), Fail> {
+    for piece in [1, 7, 64] {
+        let seen = see(rt.alloc(), RELAY, piece, NONE, DONE)?;
+        assert!(rt;
+            seen.is_so && seen.are_answered && seen.port == Some(47113),
+            "{piece}"
+        );
+    }
+    Ok(())
+}
+
+#[test]
+fn no_step_is_asked_for_behind_the_last_session(rt: HostRuntime) -> Result<(), Fail> {
+    let seen = see(rt.alloc(), "relay 47113 1", 64, NONE, DONE)?;
+    assert!(rt; seen.is_so && !seen.are_answered && !seen.is_untouched);
+    Ok(())
+}
+
+/// The words, the calls that fail, the ends, whether the sessions are answered, and whether no step was taken. At the dock
+/// there are: listening, eight steps, and for each of two sessions a send and its end.
+type Row = (&'static str, Fails, Ends, bool, bool);
+
+const LISTENING_FAILED: Ends = (b"", b"outside fault\n", Status::OutsideFault);
+
+const SERVING_FAILED: Ends = (b"ready\n", b"outside fault\n", Status::OutsideFault);
+
+const USAGE: Ends = (b"", b"words not understood\n", Status::Usage);
+
+const ROWS: &[Row] = &[
+    (RELAY, [&[0], &[], &[]], LISTENING_FAILED, false, true),
+    (RELAY, [&[1], &[], &[]], SERVING_FAILED, false, true),
+    (RELAY, [&[2], &[], &[]], SERVING_FAILED, false, false),
+    (RELAY, [&[3], &[], &[]], SERVING_FAILED, false, false),
+    (RELAY, [&[4], &[], &[]], SERVING_FAILED, false, false),
+    (RELAY, [&[5], &[], &[]], SERVING_FAILED, false, false),
+    (RELAY, [&[6], &[], &[]], SERVING_FAILED, false, false),
+    (RELAY, [&[7], &[], &[]], SERVING_FAILED, false, false),
+    (RELAY, [&[8], &[], &[]], SERVING_FAILED, false, false),
+    (RELAY, [&[9], &[], &[]], SERVING_FAILED, false, false),
+    (RELAY, [&[10], &[], &[]], SERVING_FAILED, false, false),
+    (RELAY, [&[11], &[], &[]], SERVING_FAILED, false, false),
+    (RELAY, [&[12], &[], &[]], SERVING_FAILED, false, false),
+    (RELAY, [&[13], &[], &[]], DONE, true, false),
+    (RELAY, [&[], &[0], &[]], LISTENING_FAILED, false, true),
+    (
+        RELAY,
+        [&[], &[1], &[]],
+        (b"rea", b"outside fault\n", Status::OutsideFault),
+        false,
+        true,
+    ),
+    (RELAY, [&[], &[], &[0]], SERVING_FAILED, true, false),
+    ("relay 0 1", NONE, USAGE, false, true),
+    ("relay 65536 1", NONE, USAGE, false, true),
+    ("relay 47113 0", NONE, USAGE, false, true),
+    ("relay 47113 65536", NONE, USAGE, false, true),
+    ("relay 47113", NONE, USAGE, false, true),
+    ("relay 47113 1 1", NONE, USAGE, false, true),
+];
+
+#[test]
+fn each_call_may_fail_while_a_relay_serves(rt: HostRuntime) -> Result<(), Fail> {
+    for (words, fails, ends, are_answered, is_untouched) in ROWS {
+        let seen = see(rt.alloc(), words, 64, *fails, *ends)?;
+        assert!(rt;
+            seen.is_so && seen.are_answered == *are_answered && seen.is_untouched == *is_untouched,
+            "{words}: {fails:?}"
+        );
+    }
+    Ok(())
+}

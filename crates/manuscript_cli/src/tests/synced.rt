@@ -1,0 +1,239 @@
+use super::taken::{Batch, File, bytes_of, has_bytes, room_for};
+use super::{BEHIND_A, S, is_cut_off, stream, words_of};
+use crate::{Status, run};
+use outer_ports::{
+    Disk, FileDisk, MemDisk, MemDock, MemSink, MemSource, MemWire, Sink, SureDisk, SureSink,
+    SureWire, Wire,
+};
+use std::alloc::Global;
+use std::hash::{BuildHasherDefault, FoldHasher};
+use std::test::Fail;
+
+/// Runs on a file and a wire alone.
+fn run_on<N: Sink, H: Disk, W: Wire>(
+    alloc: Global,
+    words: &[String],
+    notes: &mut N,
+    home: &mut H,
+    wire: &mut W,
+) -> Status {
+    let mut input = MemSource::new(Vec::new(alloc), 1, Vec::new(alloc));
+    let mut output = MemSink::new(alloc, 1, Vec::new(alloc));
+    let mut guest = FileDisk::closed();
+    let mut dock = MemDock::new(alloc, Vec::new(alloc), 1, Vec::new(alloc));
+    let hasher: BuildHasherDefault<FoldHasher> = BuildHasherDefault::default();
+    run(
+        alloc,
+        words,
+        &mut input,
+        &mut output,
+        notes,
+        home,
+        &mut guest,
+        wire,
+        &mut dock,
+        hasher,
+    )
+}
+
+/// An exchange, and what is wanted of it.
+#[derive(Clone, Copy)]
+struct Case {
+    words: &'static str,
+    home: File,
+    /// What the wire answers.
+    reply: Batch,
+    /// What is said, and the port: nothing where none is dialled.
+    said: Batch,
+    port: Option<u16>,
+    line: &'static str,
+    status: Status,
+    /// What the file gains.
+    saved: Batch,
+}
+
+/// The reply to an empty file that asks from the start, the line, the status, and what the file gains.
+type Asked = (Batch, &'static str, Status, Batch);
+
+const ASKED: &[Asked] = &[
+    (
+        &[S, b"\x55\0\0\0\x01"],
+        "accepted 1, repeated 0, waiting 0, conflict 0, stray 0, full 0\ncursor 1\n",
+        Status::Done,
+        &[S],
+    ),
+    (
+        &[S, BEHIND_A, b"\x55\0\0\0\x02", b"and so on"],
+        "accepted 1, repeated 0, waiting 1, conflict 0, stray 0, full 0\ncursor 2\n",
+        Status::Partial,
+        &[S, BEHIND_A],
+    ),
+    (
+        &[b"\x55\xff\xff\xff\xff"],
+        "accepted 0, repeated 0, waiting 0, conflict 0, stray 0, full 0\ncursor 4294967295\n",
+        Status::Done,
+        &[],
+    ),
+    (
+        &[S, b"\x58\x02"],
+        "relay refused 2\n",
+        Status::BadInput,
+        &[],
+    ),
+    (
+        &[S, b"\x58\x04"],
+        "bad reply at byte 14\n",
+        Status::BadInput,
+        &[],
+    ),
+    (
+        &[S, b"\xff"],
+        "bad reply at byte 14\n",
+        Status::BadInput,
+        &[],
+    ),
+    (
+        &[S, b"\x02\0"],
+        "reply cut short at byte 14\n",
+        Status::BadInput,
+        &[],
+    ),
+    (&[], "reply cut short at byte 0\n", Status::BadInput, &[]),
+];
+
+const CASES: &[Case] = &[
+    Case {
+        words: "sync F 65535 7",
+        home: (1, 16, &[&[BEHIND_A], &[S]]),
+        reply: &[S, b"\x55\0\0\0\x08"],
+        said: &[b"\x48\0\0\0\x07", S, BEHIND_A, b"\x44"],
+        port: Some(65_535),
+        line: "accepted 0, repeated 1, waiting 1, conflict 0, stray 0, full 0\ncursor 8\n",
+        status: Status::Partial,
+        saved: &[],
+    },
+    Case {
+        words: "sync F 4000 0",
+        home: (0, 16, &[]),
+        reply: &[S, b"\x55\0\0\0\x01"],
+        said: &[],
+        port: None,
+        line: "not a replica\n",
+        status: Status::BadFile,
+        saved: &[],
+    },
+    Case {
+        words: "sync F 65536 0",
+        home: (1, 16, &[]),
+        reply: &[S, b"\x55\0\0\0\x01"],
+        said: &[],
+        port: None,
+        line: "words not understood\n",
+        status: Status::Usage,
+        saved: &[],
+    },
+    Case {
+        words: "sync F 1 4294967296",
+        home: (1, 16, &[]),
+        reply: &[S, b"\x55\0\0\0\x01"],
+        said: &[],
+        port: None,
+        line: "words not understood\n",
+        status: Status::Usage,
+        saved: &[],
+    },
+];
+
+/// Whether the case comes to what is wanted of it, on sure objects with just the room that it needs.
+fn is_met(alloc: Global, case: &Case) -> Result<bool, Fail> {
+    let words = words_of(alloc, case.words)?;
+    let room = room_for(alloc, case.saved)?;
+    let bytes = bytes_of(alloc, case.home, &[])?;
+    let wanted = bytes_of(alloc, case.home, case.saved)?;
+    let said = stream(alloc, case.said)?;
+    let reply = stream(alloc, case.reply)?;
+    let mut notes = SureSink::new(alloc, 4096, 256)?;
+    let mut home = SureDisk::new(alloc, bytes, room)?;
+    let mut wire = SureWire::new(alloc, reply, 3, said.len())?;
+    let status = run_on(alloc, &words, &mut notes, &mut home, &mut wire);
+    Ok(
+        status == case.status
+            && notes.written() == case.line.as_bytes()
+            && wire.said() == said.as_slice()
+            && wire.port() == case.port
+            && has_bytes(&mut home, &wanted),
+    )
+}
+
+#[test]
+fn a_file_speaks_with_a_relay(rt: HostRuntime) -> Result<(), Fail> {
+    for (reply, line, status, saved) in ASKED {
+        let case = Case {
+            words: "sync F 4000 0",
+            home: (1, 16, &[]),
+            reply,
+            said: &[b"\x48\0\0\0\0\x44"],
+            port: Some(4000),
+            line,
+            status: *status,
+            saved,
+        };
+        assert!(rt; is_met(rt.alloc(), &case)?, "{line}");
+    }
+    for case in CASES {
+        assert!(rt; is_met(rt.alloc(), case)?, "{}", case.line);
+    }
+    Ok(())
+}
+
+const COUNTS: &[u8] = b"accepted 1, repeated 0, waiting 0, conflict 0, stray 0, full 0\ncursor 1\n";
+
+/// Runs where one call on the wire fails, and perhaps one on the notes. The answer is the status, whether the fault was
+/// noted as it should be, and whether the file is as it was.
+fn status_without(
+    alloc: Global,
+    wire_fails: &[u32],
+    notes_fail: &[u32],
+) -> Result<(Status, bool, bool), Fail> {
+    let words = words_of(alloc, "sync F 4000 0")?;
+    let notes_fail = Vec::from_slice(alloc, notes_fail)?;
+    let wire_fails = Vec::from_slice(alloc, wire_fails)?;
+    let empty = bytes_of(alloc, (1, 16, &[]), &[])?;
+    let bytes = empty.clone()?;
+    let reply = stream(alloc, &[S, b"\x55\0\0\0\x01"])?;
+    let mut notes = MemSink::new(alloc, 64, notes_fail);
+    let mut home = MemDisk::new(alloc, bytes, Vec::new(alloc));
+    let mut wire = MemWire::new(alloc, reply, 3, wire_fails);
+    let status = run_on(alloc, &words, &mut notes, &mut home, &mut wire);
+    let is_kept = has_bytes(&mut home, &empty);
+    Ok((status, is_cut_off(notes.written(), COUNTS), is_kept))
+}
+
+/// A dial, two writes, and a read for each of the 19 bytes of the reply.
+#[test]
+fn each_call_on_the_wire_may_fail(rt: HostRuntime) -> Result<(), Fail> {
+    for call in 0..22 {
+        let (status, is_told, is_kept) = status_without(rt.alloc(), &[call], &[])?;
+        assert!(rt;
+            status == Status::OutsideFault && is_told && is_kept,
+            "call {call}"
+        );
+    }
+    let (status, _, is_kept) = status_without(rt.alloc(), &[22], &[])?;
+    assert!(rt; status == Status::Done && !is_kept);
+    Ok(())
+}
+
+#[test]
+fn each_call_on_the_notes_of_an_exchange_may_fail(rt: HostRuntime) -> Result<(), Fail> {
+    for call in 0..16 {
+        let (status, is_told, is_kept) = status_without(rt.alloc(), &[], &[call])?;
+        assert!(rt;
+            status == Status::OutsideFault && is_told && !is_kept,
+            "call {call}"
+        );
+    }
+    let (status, _, _) = status_without(rt.alloc(), &[], &[16])?;
+    assert!(rt; status == Status::Done);
+    Ok(())
+}
