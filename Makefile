@@ -6,9 +6,10 @@ SOURCES := crates.txt HANDLES $(shell find crates -regex 'crates/[^/]*/out' -pru
 
 .PHONY: run test install
 
-# The main job, on a chapter that two authors wrote apart.
+# The main job: a chapter that two authors wrote apart, as a stream, and their two files in a folder of their own.
 run: bin/manuscript
 	bin/manuscript show < samples/two_authors.frames
+	folder=$$(mktemp -d) && cd "$$folder" && PATH="$(CURDIR)/bin:$$PATH" sh -ev "$(CURDIR)/samples/two_authors.sh" && rm -r "$$folder"
 
 # The program proves as it is built; an empty stream prints nothing.
 bin/manuscript: $(SOURCES)

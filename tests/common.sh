@@ -1,0 +1,127 @@
+# What the tests of the built program share. A test sources it, and ends with `ended`.
+set -u
+cd "$(dirname "${BASH_SOURCE[0]}")/.."
+program=$PWD/bin/manuscript
+[ -x "$program" ] || {
+    echo "$program is not there: make bin/manuscript" >&2
+    exit 1
+}
+work=$(mktemp -d)
+trap 'rm -rf "$work"' EXIT
+tried=0
+failed=0
+
+# Frames, as escapes that printf reads. An identifier is a replica and a counter below 256.
+
+id() {
+    printf '\\0\\0\\0\\%03o\\0\\0\\0\\%03o' "$1" "$2"
+}
+
+# An origin: an identifier, or nothing for the start or the end of the text.
+origin() {
+    if [ $# = 0 ]; then printf '\\0'; else printf '\\1%s' "$(id "$1" "$2")"; fi
+}
+
+# A letter: its identifier, its section, its left and its right origin, and what it is.
+letter() {
+    printf '\\2%s%s%s%s\\0\\0%s' "$(id $1)" "$(id $2)" "$(origin $3)" "$(origin $4)" "$5"
+}
+
+section='\1'$(id 9 0)'\0\0\0\001T'
+b=$(letter '1 0' '9 0' '' '' B)
+a=$(letter '1 1' '9 0' '' '1 0' A)
+d=$(letter '2 0' '9 0' '' '1 0' D)
+x=$(letter '3 0' '9 0' '1 1' '1 0' X)
+y=$(letter '2 1' '9 0' '1 1' '2 0' Y)
+after_b=$(letter '1 1' '9 0' '1 0' '' C)
+other_b=$(letter '1 0' '9 0' '' '' z)
+in_b=$(letter '2 0' '1 0' '' '' c)
+drops_b='\3'$(id 1 0)
+
+# Puts the frames into a file with the name.
+put() {
+    local name=$1
+    shift
+    printf "$(printf '%s' "$@")" >"$work/$name"
+}
+
+# A section with so many letters, each typed behind the one before.
+put_long() {
+    local name=$1 count=$2 at frames frame
+    frames=$section$(letter '1 0' '9 0' '' '' x)
+    for ((at = 1; at < count; at++)); do
+        printf -v frame '\\2\\0\\0\\0\\1\\0\\0\\%03o\\%03o\\0\\0\\0\\011\\0\\0\\0\\0\\1\\0\\0\\0\\1\\0\\0\\%03o\\%03o\\0\\0\\0x' \
+            $((at / 256)) $((at % 256)) $(((at - 1) / 256)) $(((at - 1) % 256))
+        frames+=$frame
+    done
+    printf "$frames" >"$work/$name"
+}
+
+# The line of counts: accepted, repeated, waiting, conflict, stray and full ones.
+counts() {
+    printf 'accepted %s, repeated %s, waiting %s, conflict %s, stray %s, full %s\\n' "$@"
+}
+
+# Compares what was seen with what is wanted: the status, the output and the notes, both as escapes.
+compare() {
+    local name=$1 seen=$2 status=$3
+    printf "$4" >"$work/wanted_output"
+    printf "$5" >"$work/wanted_notes"
+    tried=$((tried + 1))
+    if [ "$seen" = "$status" ] && cmp -s "$work/output" "$work/wanted_output" && cmp -s "$work/notes" "$work/wanted_notes"; then
+        echo "ok: $name"
+    else
+        failed=$((failed + 1))
+        echo "FAILED: $name: status $seen and not $status, output '$(head -c 80 "$work/output")', notes '$(head -c 80 "$work/notes")'"
+    fi
+}
+
+# Runs the program on a file, with the words behind what is wanted.
+try() {
+    local name=$1 input=$2 status=$3 output=$4 notes=$5
+    shift 5
+    "$program" "$@" <"$work/$input" >"$work/output" 2>"$work/notes"
+    compare "$name" $? "$status" "$output" "$notes"
+}
+
+# Runs the program where it has so many KiB of memory, from little to much. Ends without memory have to be seen, and
+# each has to say so.
+try_memory() {
+    local name=$1 input=$2 seen=0 wrong=0 kilobytes status
+    shift 2
+    for ((kilobytes = 2400; kilobytes <= 8000; kilobytes += 200)); do
+        # The shell that is limited needs memory for the words itself: it takes more before, and has that to use.
+        bash -c ': "$@" "$@" "$@"; ulimit -v "$0"; exec "$@"' "$kilobytes" "$program" "$@" \
+            <"$work/$input" >"$work/output" 2>"$work/notes"
+        status=$?
+        if [ $status = 5 ]; then
+            seen=$((seen + 1))
+            [ "$(cat "$work/notes"; echo .)" = $'no memory\n.' ] && [ ! -s "$work/output" ] || wrong=$((wrong + 1))
+        fi
+    done
+    tried=$((tried + 1))
+    if [ $seen -gt 0 ] && [ $wrong = 0 ]; then
+        echo "ok: $name"
+    else
+        failed=$((failed + 1))
+        echo "FAILED: $name: $seen ends with status 5, $wrong of them with other outputs"
+    fi
+}
+
+# Says that something was seen, or not.
+check() {
+    local name=$1
+    shift
+    tried=$((tried + 1))
+    if "$@"; then
+        echo "ok: $name"
+    else
+        failed=$((failed + 1))
+        echo "FAILED: $name"
+    fi
+}
+
+ended() {
+    echo "$tried tried, $failed failed"
+    [ $failed = 0 ]
+}

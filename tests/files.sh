@@ -1,0 +1,211 @@
+#!/usr/bin/env bash
+# Tests the commands on replica files, on real files, byte by byte: what they print, note and leave, and what they
+# refuse. A file that may not be written is tried as another user, where the tests run as one who may write all.
+. "$(dirname "$0")/common.sh"
+
+# The header of a file.
+header() {
+    printf 'FGMX\\1\\0\\0\\0\\%03o\\0\\0\\0\\%03o' "$1" "$2"
+}
+
+# A batch of these frames, behind an open gate.
+batch() {
+    local frames=$1 long
+    long=$(printf "$frames" | wc -c)
+    printf '\\1\\0\\0\\%03o\\%03o%s' $((long / 256)) $((long % 256)) "$frames"
+}
+
+# Says whether a file has these bytes, as escapes.
+holds() {
+    printf "$2" | cmp -s - "$work/$1"
+}
+
+# Writes a script to a file with the name.
+script() {
+    local name=$1
+    shift
+    printf '%s\n' "$@" >"$work/$name"
+}
+
+put nothing
+script nothing_asked
+put titled "$section"
+script chapter 'add 1 T' 'put 1 0 AB' 'cut 1 1 1' 'put 1 1 C'
+s='\1'$(id 1 0)'\0\0\0\001T'
+made=$s$(letter '1 1' '1 0' '' '' A)$(letter '1 2' '1 0' '1 1' '' B)'\3'$(id 1 2)$(letter '1 3' '1 0' '1 1' '1 2' C)
+f=$work/f
+g=$work/g
+all=$(counts 5 0 0 0 0 0)
+outside='outside fault\n'
+usage='words not understood\n'
+
+# A file is made, edited, printed and sent.
+try 'a file is made' nothing 0 '' '' new "$f" 1 16
+check 'it has a header and a closed gate' holds f "$(header 1 16)"'\0'
+try 'a script is run' chapter 0 '' 'made 5\n' edit "$f"
+check 'what it made is one batch' holds f "$(header 1 16)$(batch "$made")"'\0'
+try 'the manuscript is printed' nothing 0 '# T\nAC\n' '' print "$f"
+try 'its operations are sent' nothing 0 "$made" '' send "$f"
+cp "$f" "$work/edited"
+
+# Another author takes them in.
+try 'another file is made' nothing 0 '' '' new "$g" 2 16
+try 'the first is merged' nothing 0 '' "$all" merge "$g" "$f"
+try 'both print the same' nothing 0 '# T\nAC\n' '' print "$g"
+cp "$g" "$work/merged"
+try 'the first is merged once more' nothing 0 '' "$(counts 0 5 0 0 0 0)" merge "$g" "$f"
+check 'nothing is saved twice' cmp -s "$g" "$work/merged"
+check 'the file that is merged stays as it is' cmp -s "$f" "$work/edited"
+try 'a third file is made' nothing 0 '' '' new "$work/h" 3 16
+"$program" send "$f" | "$program" take "$work/h" >"$work/output" 2>"$work/notes"
+compare 'what one sends another takes' "${PIPESTATUS[1]}" 0 '' "$all"
+try 'and prints the same' nothing 0 '# T\nAC\n' '' print "$work/h"
+try 'an empty script' nothing_asked 0 '' 'made 0\n' edit "$f"
+check 'saves nothing' cmp -s "$f" "$work/edited"
+try 'a file merged with itself' nothing 4 '' "$outside" merge "$f" "$f"
+check 'stays as it is' cmp -s "$f" "$work/edited"
+
+# What waits is kept, and is saved.
+new_file() {
+    rm -f "$work/$1"
+    "$program" new "$work/$1" 1 16 </dev/null >/dev/null 2>&1
+}
+waits=$(letter '2 0' '9 0' '1 0' '' w)
+put waiting "$section" "$waits"
+new_file w
+try 'an operation waits' waiting 3 '' "$(counts 1 0 1 0 0 0)" take "$work/w"
+try 'it is not shown' nothing 0 '# T\n\n' '' print "$work/w"
+script put_x 'put 1 0 x'
+try 'a counter that a waiting one names is not used' put_x 0 '' 'made 1\n' edit "$work/w"
+try 'what waits is sent behind what is accepted' nothing 0 "$section$(letter '1 1' '9 0' '' '' x)$waits" '' send "$work/w"
+
+# The last counter is spent.
+last='\2\0\0\0\1\377\377\377\377'$(id 9 0)'\0\0\0\0y'
+put spent "$section" "$last"
+new_file l
+try 'an operation with the last counter' spent 0 '' "$(counts 2 0 0 0 0 0)" take "$work/l"
+cp "$work/l" "$work/before"
+try 'no counter is left' put_x 7 '' 'ids spent: 4294967295\n' edit "$work/l"
+check 'the file is as before' cmp -s "$work/l" "$work/before"
+script cut_y 'cut 1 0 1'
+try 'a cut needs none' cut_y 0 '' 'made 1\n' edit "$work/l"
+
+# What is not whole is not saved.
+script bad_line 'put 1 0 x' '# a note' 'put 1 0'
+try 'a bad line' bad_line 2 '' 'bad line 3\n' edit "$f"
+script no_section 'put 1 0 x' 'drop 2'
+try 'no section' no_section 2 '' 'no section at line 2\n' edit "$f"
+script out_of_range 'put 1 3 x'
+try 'out of range' out_of_range 2 '' 'out of range at line 1\n' edit "$f"
+put bad "$section" '\5'
+try 'a bad frame' bad 2 '' 'bad frame at byte 14\n' take "$f"
+put cut "$section" '\1\0\0\0'
+try 'a stream that is cut short' cut 2 '' 'cut short at byte 14\n' take "$f"
+head -c 1048577 /dev/zero | tr '\0' '#' >"$work/long"
+try 'a script that is too long' long 7 '' 'too long\n' edit "$f"
+check 'nothing of these was saved' cmp -s "$f" "$work/edited"
+
+# Files that are none, and such as end earlier.
+try 'a file that is not empty is not made' nothing 6 '' 'not empty\n' new "$f" 1 16
+check 'and stays as it is' cmp -s "$f" "$work/edited"
+put empty
+try 'an empty file is made' nothing 0 '' '' new "$work/empty" 1 16
+{ printf '\0'; tail -c +2 "$f"; } >"$work/other_mark"
+try 'another mark' nothing 6 '' 'not a replica\n' print "$work/other_mark"
+try 'another mark, to be merged' nothing 6 '' 'not a replica\n' merge "$f" "$work/other_mark"
+{ head -c 13 "$f"; printf '\7'; tail -c +15 "$f"; } >"$work/closed"
+try 'a closed gate ends the meaning' nothing 0 '' '' print "$work/closed"
+head -c 131 "$f" >"$work/cut_file"
+try 'a batch with no byte behind it' nothing 6 '' 'bad batch 0\n' print "$work/cut_file"
+check 'the file is as before' cmp -s "$f" "$work/edited"
+
+# The words.
+try 'no file' nothing 1 '' "$usage" print
+try 'an empty name' nothing 1 '' "$usage" print ''
+try 'two files where one is printed' nothing 1 '' "$usage" print "$f" "$f"
+try 'no replica' nothing 1 '' "$usage" new "$work/none" 0 16
+try 'a hold of 0' nothing 1 '' "$usage" new "$work/none" 1 0
+try 'a hold that is too great' nothing 1 '' "$usage" new "$work/none" 1 1048577
+try 'a replica that is too great' nothing 1 '' "$usage" new "$work/none" 4294967296 16
+check 'words that are no command make no file' [ ! -e "$work/none" ]
+try 'a file that is not there is not made by an edit' chapter 4 '' "$outside" edit "$work/none"
+check 'indeed' [ ! -e "$work/none" ]
+try 'a folder' nothing 4 '' "$outside" print "$work"
+try 'the other file is not there' nothing 4 '' "$outside" merge "$f" "$work/none"
+try 'the greatest replica' nothing 0 '' '' new "$work/greatest" 4294967295 1048576
+
+# Two programs, one file: the first one keeps it, and nothing is lost.
+new_file shared
+{
+    sleep 1
+    printf 'add 1 T\n'
+} | "$program" edit "$work/shared" 2>"$work/first_notes" &
+sleep 0.3
+try 'the file is in use' chapter 4 '' "$outside" edit "$work/shared"
+try 'and is not read meanwhile' nothing 4 '' "$outside" print "$work/shared"
+wait $!
+check 'who came first ended well' holds first_notes 'made 1\n'
+try 'and is in the file' nothing 0 '# T\n\n' '' print "$work/shared"
+exec {reader}<"$f"
+flock -s "$reader"
+try 'two may read at once' nothing 0 '# T\nAC\n' '' print "$f"
+exec {reader}<&-
+
+# The outside fails.
+: >"$work/output"
+"$program" print "$f" </dev/null >/dev/full 2>"$work/notes"
+compare 'a full device as output' $? 4 '' "$outside"
+"$program" send "$f" </dev/null >/dev/full 2>"$work/notes"
+compare 'a full device as output of send' $? 4 '' "$outside"
+cp "$f" "$work/small"
+head -c 3000 /dev/zero | tr '\0' y >"$work/letters"
+{ printf 'put 1 0 '; cat "$work/letters"; printf '\n'; } >"$work/much"
+: >"$work/output"
+bash -c 'trap "" XFSZ; ulimit -f 1; exec "$0" edit "$1" <"$2"' "$program" "$work/small" "$work/much" >"$work/output" 2>"$work/notes"
+compare 'a file that may not grow so far' $? 4 '' "$outside"
+try 'reads as before' nothing 0 '# T\nAC\n' '' print "$work/small"
+try 'and the edit is made later' much 0 '' 'made 3000\n' edit "$work/small"
+: >"$work/output"
+"$program" edit "$f" <"$work" >"$work/output" 2>"$work/notes"
+compare 'a folder as script' $? 4 '' "$outside"
+"$program" take "$f" <&- >"$work/output" 2>"$work/notes"
+compare 'no input' $? 4 '' "$outside"
+check 'the file is as before' cmp -s "$f" "$work/edited"
+cp "$f" "$work/noted"
+: >"$work/notes"
+"$program" edit "$work/noted" <"$work/put_x" >"$work/output" 2>/dev/full
+compare 'notes that fail' $? 4 '' ''
+try 'what was saved before stands' nothing 0 '# T\nxAC\n' '' print "$work/noted"
+
+# A stream that is closed, whose number a file that is opened could get.
+cp "$f" "$work/apart"
+: >"$work/notes"
+"$program" edit "$work/apart" <"$work/put_x" >"$work/output" 2>&-
+compare 'no notes' $? 4 '' ''
+try 'what was saved before stands' nothing 0 '# T\nxAC\n' '' print "$work/apart"
+"$program" edit "$work/apart" <&- >"$work/output" 2>"$work/notes"
+compare 'no script' $? 4 '' "$outside"
+: >"$work/output"
+"$program" print "$work/apart" </dev/null >&- 2>"$work/notes"
+compare 'no output' $? 4 '' "$outside"
+try 'the file is as before' nothing 0 '# T\nxAC\n' '' print "$work/apart"
+
+# A file that may be read and not written.
+as_other=()
+chmod 444 "$f"
+chmod 755 "$work"
+if [ -w "$f" ]; then
+    as_other=(setpriv --reuid 65534 --regid 65534 --clear-groups)
+    "${as_other[@]}" test -x "$program" 2>/dev/null || as_other=(none)
+fi
+if [ "${as_other[*]}" != none ]; then
+    "${as_other[@]}" "$program" print "$f" </dev/null >"$work/output" 2>"$work/notes"
+    compare 'a file that may not be written is printed' $? 0 '# T\nAC\n' ''
+    "${as_other[@]}" "$program" edit "$f" <"$work/put_x" >"$work/output" 2>"$work/notes"
+    compare 'and not edited' $? 4 '' "$outside"
+    check 'it is as before' cmp -s "$f" "$work/edited"
+else
+    echo 'not tried: a file that may not be written, since no other user may run the program'
+fi
+
+ended

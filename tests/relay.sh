@@ -1,0 +1,140 @@
+#!/usr/bin/env bash
+# Tests the relay as a process, on real sockets of this machine: files that are brought together through it, by turns
+# and several at once, and peers that say nothing, talk nonsense, break off, or never read what they are answered.
+. "$(dirname "$0")/common.sh"
+
+# A port that is most likely free.
+port=$((20000 + RANDOM % 20000))
+
+# Starts a relay of so many sessions, and waits until it listens. One that is not over in time is ended.
+start_relay() {
+    rm -f "$work/relay_output"
+    timeout 100 "$program" relay "$port" "$1" </dev/null >"$work/relay_output" 2>"$work/relay_notes" &
+    relay=$!
+    local waited
+    for ((waited = 0; waited < 100; waited++)); do
+        [ -s "$work/relay_output" ] && return
+        sleep 0.1
+    done
+}
+
+# Compares how the relay ended, and its last line, with what is wanted.
+relay_ends() {
+    local name=$1
+    wait "$relay"
+    local status=$?
+    cp "$work/relay_output" "$work/output"
+    cp "$work/relay_notes" "$work/notes"
+    compare "$name" "$status" 0 'ready\n' "$2"
+}
+
+# Brings a file together with the relay, from the cursor on that its last exchange noted.
+exchange() {
+    local name=$1
+    "$program" sync "$work/$name" "$port" "$(cat "$work/$name.cursor")" </dev/null 2>"$work/$name.notes" || echo "$?" >>"$work/$name.failed"
+    sed -n 's/^cursor //p' "$work/$name.notes" >"$work/$name.cursor"
+}
+
+# A file of the replica with this number, which begins at the log's start.
+begin() {
+    "$program" new "$work/$1" "$2" 1000 </dev/null
+    echo 0 >"$work/$1.cursor"
+}
+
+# Opens a session of a peer, as the number in `peer`.
+open_peer() {
+    exec {peer}<>"/dev/tcp/127.0.0.1/$port"
+}
+
+close_peer() {
+    exec {peer}>&-
+}
+
+put nothing
+outside='outside fault\n'
+usage='words not understood\n'
+try 'port 0' nothing 1 '' "$usage" relay 0 1
+try 'a port that is too great' nothing 1 '' "$usage" relay 65536 1
+try 'no session' nothing 1 '' "$usage" relay "$port" 0
+try 'a cursor that is no number' nothing 1 '' "$usage" sync "$work/a" "$port" x
+
+# Two files by turns, and one exchange after the other.
+begin a 1
+begin b 2
+printf 'add 1 T\n' | "$program" edit "$work/a" 2>/dev/null
+start_relay 40
+check 'the relay listens' [ -s "$work/relay_output" ]
+try 'the port is in use' nothing 4 '' "$outside" relay "$port" 1
+for ((turn = 1; turn <= 10; turn++)); do
+    exchange a
+    exchange b
+    printf "put 1 0 a$turn\\n" | "$program" edit "$work/a" 2>/dev/null
+    printf "put 1 0 b$turn\\n" | "$program" edit "$work/b" 2>/dev/null
+done
+for ((turn = 1; turn <= 8; turn++)); do
+    exchange a
+    exchange b
+done
+exchange a &
+exchange b &
+wait %2 %3
+exchange a
+exchange b
+relay_ends 'a relay of 40 sessions' "log $("$program" send "$work/a" </dev/null | "$program" show 2>&1 >/dev/null | sed 's/accepted \([0-9]*\),.*/\1/')\n"
+"$program" print "$work/a" </dev/null >"$work/text_a"
+"$program" print "$work/b" </dev/null >"$work/text_b"
+check 'two files print the same' cmp -s "$work/text_a" "$work/text_b"
+check 'and no exchange failed' [ ! -e "$work/a.failed" -a ! -e "$work/b.failed" ]
+check 'and have all that was written' [ "$(wc -c <"$work/text_a")" -gt 40 ]
+
+# Several at once, and peers that do not keep to the rules.
+port=$((port + 1))
+names=(c d e f)
+number=10
+for name in "${names[@]}"; do
+    begin "$name" $((number++))
+    printf 'add 1 %s\nput 1 0 text of %s\n' "$name" "$name" | "$program" edit "$work/$name" 2>/dev/null
+done
+put wide '\1'"$(id 9 0)"'\0\0\001\340'"$(head -c 480 /dev/zero | tr '\0' t)"
+for _ in {1..9}; do
+    cat "$work/wide" "$work/wide" >"$work/wider"
+    mv "$work/wider" "$work/wide"
+done
+start_relay 18
+open_peer
+close_peer
+open_peer
+printf 'nonsense' >&"$peer"
+head -c 2 <&"$peer" >"$work/output"
+printf 'X\1' | cmp -s - "$work/output"
+check 'nonsense is answered with a refusal' [ $? = 0 ]
+close_peer
+open_peer
+printf 'H\0\0\0\0\2\0\0' >&"$peer"
+close_peer
+open_peer
+printf 'H\0\0\0\0D' >&"$peer"
+sleep 0.2
+close_peer
+for name in "${names[@]}"; do exchange "$name" & done
+open_peer
+printf 'H\0\0\0\0' >&"$peer"
+for ((times = 0; times < 400; times++)); do cat "$work/wide"; done >&"$peer"
+close_peer
+open_peer
+printf 'H\0\0\0\7D' >&"$peer"
+cat <&"$peer" >"$work/output"
+close_peer
+wait $(jobs -p | grep -v "^$relay$")
+for name in "${names[@]}" "${names[@]}"; do exchange "$name"; done
+all=$(for name in "${names[@]}"; do "$program" send "$work/$name" </dev/null; done | "$program" show 2>&1 >/dev/null | sed 's/accepted \([0-9]*\),.*/\1/')
+relay_ends 'a relay of peers that do not keep to the rules' "log $all\n"
+for name in "${names[@]}"; do "$program" print "$work/$name" </dev/null >"$work/text_$name"; done
+check 'several files print the same' [ "$(cat "$work"/text_[cdef] | sort | uniq -c | awk '{ print $1 % 4 }' | sort -u)" = 0 ]
+check 'byte by byte' cmp -s "$work/text_c" "$work/text_f"
+check 'and no exchange failed' [ ! -e "$work/c.failed" -a ! -e "$work/d.failed" -a ! -e "$work/e.failed" -a ! -e "$work/f.failed" ]
+
+# Nobody listens.
+try 'no relay' nothing 4 '' "$outside" sync "$work/a" $((port + 1)) 0
+
+ended
