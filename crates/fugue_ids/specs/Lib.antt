@@ -6,3 +6,4 @@ pub mod Ops
 pub mod Causes
 pub mod Outs
 pub mod Gathers
+pub mod Keys

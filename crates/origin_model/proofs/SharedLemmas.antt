@@ -4,16 +4,15 @@ pub use Rattle.origin_model.proofs.operations.LookupLemmas.{cases_held, found, h
 pub use Rattle.origin_model.proofs.operations.FoundedLemmas.{no_text_before, not_hidden_before, ready_is_new, same_nodes_same_order, section_first, shown_can_go, target_is_shown}
 pub use Rattle.origin_model.proofs.order.OrderLawLemmas.{Within-part, order_total, parts_keep_order}
 pub use Rattle.origin_model.proofs.order.OrderLemmas.{order-none, order-some}
-pub use Rattle.origin_model.proofs.order.OrderedListLemmas.{same_ordered}
 pub use Rattle.origin_model.proofs.order.PositionLemmas.{index_end}
 pub use Rattle.origin_model.proofs.order.PrintedLemmas.{section_joins}
-pub use Rattle.origin_model.proofs.order.StrictOrderLemmas.{fork-irrefl, fork-trans, ranked-trans}
-pub use Rattle.origin_model.proofs.sides.AttachLemmas.{attach_keeps, cases_slot}
-pub use Rattle.origin_model.proofs.sides.DetachedLemmas.{absent_stays, detach_any, found_without, newest_taken_back}
-pub use Rattle.origin_model.proofs.sides.NodeAgeLemmas.{IsNewer, children_newer, newer}
+pub use Rattle.origin_model.proofs.sides.DetachedLemmas.{absent_stays, found_without, newest_taken_back, nodes_stay}
+pub use Rattle.origin_model.proofs.sides.HalvesLemmas.{passing_before, passing_behind}
+pub use Rattle.origin_model.proofs.sides.KeyedOrderLemmas.{adjacent, gap_at, gap_found, gap_within, key_found, key_held, keyed_at_gap, keyed_ids, keyed_joins, keyed_once, keys_fit, new_key_slot, order_once, part_bounds, part_least, siblings_fall, slot_held}
+pub use Rattle.origin_model.proofs.sides.NewKeyLemmas.{key-other, never_both, newest_key}
 pub use Rattle.origin_model.proofs.sides.NodeHistoryLemmas.{holder-nodes, nodes-lawful, nodes_lawful, op_of}
 pub use Rattle.origin_model.proofs.sides.NodeOrderLemmas.{IsByNodes, nodes-none, nodes_listed, order_by_nodes}
-pub use Rattle.origin_model.proofs.sides.SidedGapLemmas.{IsPlace, gap_is_place}
+pub use Rattle.origin_model.specs.sides.Slot.{IsPlace}
 pub use Rattle.origin_model.proofs.taking.KeptLemmas.{answers-append, held-append, kept-append, kept-no, kept-yes, kept_suffice, saved_suffice, stays_settled, tally-append}
 pub use Rattle.origin_model.proofs.taking.RefusedLemmas.{Refused, no_place_left, places-append, places-none, places-one, same_refused, taken_or_refused}
 pub use Rattle.origin_model.proofs.taking.SettlingLemmas.{IsEarliest, earliest-no, earliest-yes, earliest_found, passed_over, settle-settled, within-none, within-some, without}

@@ -1,12 +1,20 @@
 -- Lemmas on the tree of sides.
-pub mod AttachLemmas
 pub mod DetachedLemmas
-pub mod DetachedTableLemmas
 pub mod GapLemmas
-pub mod NodeAgeLemmas
 pub mod NodeHistoryLemmas
 pub mod NodeOrderLemmas
 pub mod SiblingLemmas
 pub mod SidedGapLemmas
 pub mod SlotLemmas
 pub mod SpineLemmas
+pub mod KeyExamples
+pub mod ChainLengthLemmas
+pub mod KeyedListLemmas
+pub mod BlockLemmas
+pub mod OwnTableLemmas
+pub mod KeyedBlockLemmas
+pub mod KeyedPartLemmas
+pub mod HalvesLemmas
+pub mod KeyedGapLemmas
+pub mod NewKeyLemmas
+pub mod KeyedOrderLemmas

@@ -2,3 +2,6 @@
 pub mod Slot
 pub mod Node
 pub mod Detached
+pub mod Keys
+pub mod KeyedGap
+pub mod KeyLaws

@@ -3,6 +3,7 @@
 ghost use Rattle.origin_model.specs.taking.Closure.{ClosureOfSet, ClosureIsClosed, ClosureBySet, SameSetConverges, ClosureOfUnion, ClosureOfMerge, KeptSuffice, SettlingEnds, StaysSettled, PartsAsOne, SavedSuffice, SelfNamedNeverAccepted};
 ghost use Rattle.origin_model.specs.edits.Landing.{LandsBehind, LandsBehindOrigin};
 ghost use Rattle.origin_model.specs.order.Laws.{OrderTotal, LaterOpsKeepOrder, PartsKeepOrder, OrderBySet};
+ghost use Rattle.origin_model.specs.sides.KeyLaws.{BlockEndByKeys, BlockStartByKeys, GapByKeys, KeyBound, KeysStay, NewKey, RunKey, SiblingsByKeys};
 
 /// The elements of a place are in a total order, which `order` lists.
 pub fn order_total()
@@ -21,6 +22,23 @@ pub fn later_ops_keep_order()
 pub fn lands_behind()
     ensures between { LandsBehind }
     ensures by_origin { LandsBehindOrigin }
+{}
+
+/// The key of an element is fixed when it comes, and known from those of its origins.
+pub fn keys_are_fixed()
+    ensures new { NewKey }
+    ensures stay { KeysStay }
+    ensures run { RunKey }
+    ensures bound { KeyBound }
+{}
+
+/// The tree of sides is read off the order by keys, where they fit their numbers: the ends of a block, the children of a slot, and so the gap of a
+/// new element.
+pub fn gap_by_keys()
+    ensures end { BlockEndByKeys }
+    ensures start { BlockStartByKeys }
+    ensures siblings { SiblingsByKeys }
+    ensures gap { GapByKeys }
 {}
 
 /// The order is fixed by the set of the operations.

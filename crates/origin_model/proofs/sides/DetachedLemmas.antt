@@ -1,14 +1,8 @@
--- A node that is no origin taken out: the others are nodes still, and have the tables without it.
-use Rattle.origin_model.proofs.Words.{Identifier, List, None, Op, Option, Some, [], ap, cases_id, catalogue, eq-id_eq, false, filter, holder, id_eq, if◌then◌else◌, inl, inr, is_some, ne-id_eq, not, refl, subst, sym, true, true≢false, ◌++◌, ◌∙◌, ◌∷◌, ◌≡◌, ◌≢◌}
+-- A node that is no origin taken out: the others are nodes still.
+use Rattle.origin_model.proofs.Words.{Identifier, List, None, Option, Some, [], ap, cases_id, eq-id_eq, false, filter, id_eq, if◌then◌else◌, inl, inr, is_some, ne-id_eq, not, refl, subst, sym, true, true≢false, ◌∙◌, ◌∷◌, ◌≡◌, ◌≢◌}
 use Rattle.origin_model.specs.sides.Detached.{NoOrigin, without}
-use Rattle.origin_model.specs.sides.Node.{AreNodes, IsNew, as_op, as_ops, find_node, has_node, has_origin}
-use Rattle.origin_model.specs.sides.Slot.{IsTable, slot_by}
-use Rattle.fugue_ids.specs.Keyed.{IsReplaced}
+use Rattle.origin_model.specs.sides.Node.{AreNodes, IsNew, find_node, has_node, has_origin}
 use Rattle.origin_model.specs.declared.sides.node.Node.{Node}
-use Rattle.origin_model.specs.declared.sides.slot.Slot.{Slot}
-use Rattle.origin_model.proofs.sides.DetachedTableLemmas.{IsWithout, narrowed}
-use Rattle.origin_model.proofs.operations.LookupLemmas.{IsHeld}
-use Rattle.origin_model.proofs.sides.NodeHistoryLemmas.{holder-nodes, holds-nodes, nodes-lawful, op_of}
 
 -- the node itself is left out
 without-own : (x : Identifier) (n : Node) (ns : List Node) → n.id ≡ x → without x (n ∷ ns) ≡ without x ns
@@ -92,7 +86,7 @@ origin_stays x ns None d k = refl
 origin_stays x ns (Some v) d k = ap is_some (others_there x ns v (λ e. d (ap Some e))) ∙ k
 
 -- the others are nodes still
-nodes_stay : (x : Identifier) (ns : List Node) → AreNodes ns → NoOrigin x ns → AreNodes (without x ns)
+pub nodes_stay : (x : Identifier) (ns : List Node) → AreNodes ns → NoOrigin x ns → AreNodes (without x ns)
 nodes_stay x [] a f = tt
 nodes_stay x (n ∷ ns) a f =
     elim (cases_id n.id x) [
@@ -105,27 +99,3 @@ nodes_stay x (n ∷ ns) a f =
           } in
           subst AreNodes (sym (without-other x n ns e)) (new, nodes_stay x ns a.1 f.2)
     ]
-
--- the history without the node
-without_history : (x : Identifier) (ns : List Node) → IsWithout (as_ops (without x ns)) (as_ops ns) x
-without_history x ns =
-    let s : List Op = as_ops (without x ns) in
-    let out : IsHeld s x → ⊥ = λ k. true≢false (sym k ∙ holds-nodes (without x ns) x ∙ ap is_some (gone x ns)) in
-    let other : (v : Identifier) → v ≢ x → holder s v ≡ holder (as_ops ns) v = λ v d.
-    holder-nodes (without x ns) v ∙ ap op_of (others_there x ns v d) ∙ sym (holder-nodes ns v) in
-    record { within = λ i op e. sym (other i (λ d. out (subst (IsHeld s) d (ap is_some e)))) ∙ e; without = out; others = other }
-
--- a node that no other has as an origin leaves its siblings, and the tables are those of the others
-pub detach_any :
-    (ns : List Node) (n : Node) (old new : Slot → List Identifier) (elders youngers : List Identifier)
-    → AreNodes ns → find_node ns n.id ≡ Some n → NoOrigin n.id ns → IsTable catalogue (as_ops ns) old
-    → old (slot_by (as_ops ns) n.left n.right) ≡ elders ++ n.id ∷ youngers
-    → IsReplaced old new (slot_by (as_ops ns) n.left n.right) (elders ++ youngers)
-    → AreNodes (without n.id ns) × IsTable catalogue (as_ops (without n.id ns)) new
-detach_any ns n old new elders youngers a e f t c r =
-    let b : AreNodes (without n.id ns) = nodes_stay n.id ns a f in
-    let s : List Op = as_ops (without n.id ns) in
-    let held : holder (as_ops ns) n.id ≡ Some (as_op n) = holder-nodes ns n.id ∙ ap op_of e in (
-      b,
-      narrowed catalogue s (as_ops ns) n.id (nodes-lawful (without n.id ns) b) (nodes-lawful ns a) (without_history n.id ns) (as_op n) held old new elders youngers t c r,
-    )

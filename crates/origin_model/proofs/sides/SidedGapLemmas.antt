@@ -1,8 +1,8 @@
 -- The gap that the sided tree gives is the place of the new element: what stands before it there stands before it by the chains, and what stands behind it stands behind it.
-use Rattle.origin_model.proofs.Words.{All-contains, Bool, Contains, Contains-append_cases, Contains-append_left, Identifier, IsIn, IsOrderedBy, Lawful, List, None, Op, Option, Place, Some, [], all_pairs_before, ap, append-nil, append_assoc, append_cancel_left, before_in, cases_Bool, cases_id, chain_before, contains_here, contains_middle, element_of, false, false≢true, fork_before, has_left, index_of_origin, inl, inr, is_own, left_at, left_of, lefts, next_left, next_right, order, placed, ranked, refl, right_of, rights, same_from_push, sibling, subst, sym, true, true≢false, ◌++◌, ◌↔◌, ◌∙◌, ◌∷◌, ◌≡◌, ◌≢◌, ◌⊎◌}
+use Rattle.origin_model.proofs.Words.{All-contains, Bool, Contains, Contains-append_cases, Contains-append_left, Identifier, IsIn, IsOrderedBy, Lawful, List, None, Op, Option, Place, Some, [], all_pairs_before, ap, append-nil, append_assoc, append_cancel_left, before_in, cases_Bool, cases_id, chain_before, contains_here, contains_middle, element_of, false, false≢true, fork_before, has_left, index_of_origin, inl, inr, is_own, left_at, left_of, lefts, next_left, next_right, order, placed, ranked, refl, right_of, rights, same_from_push, sibling, subst, sym, true, true≢false, ◌++◌, ◌∙◌, ◌∷◌, ◌≡◌, ◌≢◌, ◌⊎◌}
 use Rattle.fugue_ids.specs.declared.gap.Gap.{Gap}
 use Rattle.fugue_ids.specs.declared.gap.Gap.TheVariants.{After, Alone, Before}
-use Rattle.origin_model.specs.sides.Slot.{BeforeBlock, BeforeFirst, BehindElder, FirstBelow, HasElder, IsBeside, IsChild, IsGap, IsParted, IsTable, NoElder, at_gap, slot_by, slot_of}
+use Rattle.origin_model.specs.sides.Slot.{BeforeBlock, BeforeFirst, BehindElder, FirstBelow, HasElder, IsBeside, IsChild, IsGap, IsParted, IsPlace, IsTable, NoElder, at_gap, slot_by, slot_of}
 use Rattle.origin_model.specs.declared.sides.slot.Slot.{Slot}
 use Rattle.origin_model.specs.declared.sides.slot.Slot.TheVariants.{LeftOf, RightOf}
 use Rattle.origin_model.proofs.order.{IsIn-held, before_at, before_in-irrefl, before_in-older, before_in-total, before_in-trans, chain-ends, chain-held, chain-other, chain-own, chain_above, chain_before-fork, chain_before-same, common, empty_from, first_of, fork-irrefl, fork-trans, has_left-at, heads, last_of, left_in, longer, never_none, no_member, order-has, order-in, order-ordered, order-some, parts, parts_late, right-older, right_in, same_chain, stay_ordered, turns, turns_off}
@@ -11,12 +11,6 @@ use Rattle.origin_model.proofs.operations.LookupLemmas.{IsHeld, element_own, hel
 use Rattle.origin_model.proofs.sides.SiblingLemmas.{elders_first, youngers_last}
 use Rattle.origin_model.proofs.sides.SlotLemmas.{IsThere, Under, child-held, child-in, child-left, child-lefts, child-rights, child_under, over, rooted, slot-no, slot-yes, slot_by-left, slot_by-over, slot_left, there, under_left}
 use Rattle.origin_model.proofs.sides.SpineLemmas.{first_child, spine_first, spine_last}
-
--- x stands in the gap: with it, the finished list is the longer one
-pub record IsPlace (g : Gap) (x : Identifier) (finished longer : List Identifier) : Type 0 where
-  pub place : longer ≡ at_gap g x finished
-  pub beside : IsBeside g finished
-  pub alone : (g ≡ Alone) ↔ (finished ≡ [])
 
 -- the parent of a left child is its right origin, and has the same left origin
 pub left_parent : (h : List Op) (l r : Option Identifier) (q : Identifier) → slot_by h l r ≡ LeftOf q → (r ≡ Some q) × (has_left h q l ≡ true)

@@ -1,5 +1,5 @@
 -- The order of a place by sides: a tree whose nodes have left and right children, after Weidner and Kleppmann, "The Art of the Fugue".
-use Rattle.std.specs.Prelude.{◌≡◌, Option, Some, None, Bool, true, false, if◌then◌else◌, List, [], ◌∷◌, ◌++◌}
+use Rattle.std.specs.Prelude.{◌≡◌, ◌↔◌, Option, Some, None, Bool, true, false, if◌then◌else◌, List, [], ◌∷◌, ◌++◌}
 use Rattle.std.specs.List.{All, Contains}
 use Rattle.fugue_ids.specs.Identifiers.{Identifier, id_eq}
 use Rattle.fugue_ids.specs.declared.gap.Gap.{Gap}
@@ -114,3 +114,9 @@ abbrev pub IsBeside : Gap → List Identifier → Type 0
 IsBeside Alone es = Unit {0}
 IsBeside (Before y) es = Contains es y
 IsBeside (After y) es = Contains es y
+
+-- x stands in the gap: with it, the finished list is the longer one
+pub record IsPlace (g : Gap) (x : Identifier) (finished longer : List Identifier) : Type 0 where
+  pub place : longer ≡ at_gap g x finished
+  pub beside : IsBeside g finished
+  pub alone : (g ≡ Alone) ↔ (finished ≡ [])
