@@ -12,16 +12,17 @@ Fits (given.Opened session) room = ⊤
 Fits (given.Bytes session count) room = (1 ≤ count) × (count ≤ room)
 Fits (given.Gone session) room = ⊤
 
--- whether a session is open, and its number, or that of the next one
+-- whether a session is open and was ended, and its number, or that of the next one
 pub record Turn : Type 0 where
   pub is_open : Bool
+  pub is_ended : Bool
   pub session : ℕ
 
 -- sessions come one after another, each with the next number
 abbrev pub InTurn : DockStep → Turn → Turn → Type 0
-InTurn (given.Opened session) old new = (old ≡ record { is_open = false; session = session }) × (new ≡ record { is_open = true; session = session })
-InTurn (given.Bytes session count) old new = (old ≡ record { is_open = true; session = session }) × (new ≡ old)
-InTurn (given.Gone session) old new = (old ≡ record { is_open = true; session = session }) × (new ≡ record { is_open = false; session = min (session + 1) (2 ^ 32 - 1) })
+InTurn (given.Opened session) old new = (old ≡ record old { is_open = false; session = session }) × (new ≡ record { is_open = true; is_ended = false; session = session })
+InTurn (given.Bytes session count) old new = (old ≡ record old { is_open = true; session = session }) × (new ≡ old)
+InTurn (given.Gone session) old new = (old ≡ record old { is_open = true; session = session }) × (new ≡ record old { is_open = false; session = min (session + 1) (2 ^ 32 - 1) })
 
 -- a step that was given, with its bytes
 abbrev pub with_bytes : DockStep → List ℕ → MemStep

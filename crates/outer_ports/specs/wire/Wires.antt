@@ -1,5 +1,5 @@
 -- A wire, as contracts see it, and what each call does to it.
-use Rattle.std.specs.Prelude.{◌≡◌, ℕ, List, Option, Some, Result, IfSome, OnOk, OnErr, is_some, option_map}
+use Rattle.std.specs.Prelude.{◌≡◌, ℕ, List, Option, Some, Result, OnOk, OnErr, is_some, option_map}
 use Rattle.fugue_ids.specs.Outs.{OutView, WritesSome}
 use Rattle.outer_ports.specs.Counts.{FailsOnlyFor}
 use Rattle.outer_ports.specs.Sources.{SourceView, ReadsSome}

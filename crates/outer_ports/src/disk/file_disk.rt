@@ -41,7 +41,8 @@ impl FileDisk {
 
     /// A disk of no file, for whoever has none to open: each call on it fails.
     pub fn closed() -> FileDisk
-        ensures { ⟦<FileDisk as Disk>⟧.seen result ≡ record { past = None; faults = 0; room = None } }
+        ensures file { result.file ≡ None }
+        ensures seen { ⟦<FileDisk as Disk>⟧.seen result ≡ record { past = None; faults = 0; room = None } }
     {
         FileDisk {
             file: None,

@@ -120,6 +120,7 @@ fn hears_first<D: Dock, W: Wire>(rt: &impl Abort, dock: &mut D, first: &mut W, s
     comes(rt, dock, &steps);
     sends(rt, dock, &[(0, "yes", Ok(3))]);
     assert_eq!(rt; dock.end(0), Ok(()));
+    sends(rt, dock, &[(0, "more", Ok(4))]);
     passes(
         rt,
         first,
