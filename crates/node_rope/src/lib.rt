@@ -3,6 +3,7 @@
 
 mod attach;
 mod back;
+mod balance;
 mod behind;
 mod cells;
 mod climb;

@@ -4,11 +4,11 @@ ghost use Rattle.node_rope.specs.Beside.{placed_before, placed_after, put_under}
 
 use crate::attach::{attach_after, attach_before};
 use crate::back::Back;
+use crate::balance::settle;
 use crate::cells::{Link, Own, Shape};
 use crate::links::{KeyMap, drop_link, find_link, keep_at_hand, no_links, nowhere, set_link};
 use crate::reweigh::set_own;
 use crate::store::Store;
-use crate::turn::settle;
 use crate::weigh::Weigh;
 use fugue_ids::{ElementId, MOST_OPERATIONS};
 use std::alloc::Global;

@@ -1,6 +1,8 @@
 ghost use Rattle.std.specs.Prelude.{◌≡◌, IsFalse, IsNone, IsSome, IsTrue, ℕ};
 ghost use Rattle.node_rope.specs.Items.{value_under};
 
+mod depth;
+
 use crate::{Rope, Weigh};
 use fugue_ids::{ElementId, NoMemory};
 use std::alloc::Global;

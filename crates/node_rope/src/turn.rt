@@ -1,8 +1,7 @@
 // Rotations.
-ghost use Rattle.std.specs.Prelude.{◌≡◌, ◌+◌, ◌-◌, ◌^◌, ◌<◌, ◌≤◌, IsTrue, ◌↔◌, Some};
+ghost use Rattle.std.specs.Prelude.{◌≡◌, ◌+◌, ◌-◌, ◌^◌, ◌<◌, ◌≤◌, Some};
 ghost use Rattle.node_rope.specs.Made.{IsMade, IsKept, made_count, shapes_of, values_of};
 ghost use Rattle.node_rope.specs.Shapes.{IsSound, AreMade, shape_at, number_of, order, weight_at};
-ghost use Rattle.node_rope.specs.Grown.{with_parent};
 ghost use Rattle.node_rope.specs.Turned.{count_at, with_child, lifted_left, lifted_right, SameItems};
 
 use crate::attach::set_parent;
@@ -136,6 +135,8 @@ fn turn_left<T: Drop>(store: &mut Store<T>, root: Option<Link>, p: Link, c: Link
     ensures order { order store.new result ≡ order store.old root }
     ensures items { SameItems (shapes_of store.old) (shapes_of store.new) }
     ensures taller { (shape_at (shapes_of store.new) c.number).count ≡ (shape_at (shapes_of store.old) p.number).count }
+    ensures lower { (shape_at (shapes_of store.new) p.number).count < (shape_at (shapes_of store.old) p.number).count }
+    ensures above { (shape_at (shapes_of store.new) c.number).parent ≡ (shape_at (shapes_of store.old) p.number).parent }
     ensures values { values_of store.new ≡ values_of store.old }
     ensures count { made_count store.new ≡ made_count store.old }
     ensures kept { IsKept store.old store.new }
@@ -161,6 +162,8 @@ fn turn_right<T: Drop>(store: &mut Store<T>, root: Option<Link>, p: Link, c: Lin
     ensures order { order store.new result ≡ order store.old root }
     ensures items { SameItems (shapes_of store.old) (shapes_of store.new) }
     ensures taller { (shape_at (shapes_of store.new) c.number).count ≡ (shape_at (shapes_of store.old) p.number).count }
+    ensures lower { (shape_at (shapes_of store.new) p.number).count < (shape_at (shapes_of store.old) p.number).count }
+    ensures above { (shape_at (shapes_of store.new) c.number).parent ≡ (shape_at (shapes_of store.old) p.number).parent }
     ensures values { values_of store.new ≡ values_of store.old }
     ensures count { made_count store.new ≡ made_count store.old }
     ensures kept { IsKept store.old store.new }
@@ -177,14 +180,22 @@ fn turn_right<T: Drop>(store: &mut Store<T>, root: Option<Link>, p: Link, c: Lin
 }
 
 // `c` comes above its parent `p`.
-fn rise<T: Drop>(store: &mut Store<T>, root: Option<Link>, p: Link, c: Link) -> Option<Link>
+pub(crate) fn rise<T: Drop>(
+    store: &mut Store<T>,
+    root: Option<Link>,
+    p: Link,
+    c: Link,
+) -> Option<Link>
     requires sound { IsSound store.old root }
+    requires made_p { IsMade store.old p }
     requires made_c { IsMade store.old c }
-    requires child { (shape_at (shapes_of store.old) c.number).parent ≡ Some p }
+    requires child { number_of (shape_at (shapes_of store.old) c.number).parent ≡ Some p.number }
     ensures sound { IsSound store.new result }
     ensures order { order store.new result ≡ order store.old root }
     ensures items { SameItems (shapes_of store.old) (shapes_of store.new) }
     ensures taller { (shape_at (shapes_of store.new) c.number).count ≡ (shape_at (shapes_of store.old) p.number).count }
+    ensures lower { (shape_at (shapes_of store.new) p.number).count < (shape_at (shapes_of store.old) p.number).count }
+    ensures above { (shape_at (shapes_of store.new) c.number).parent ≡ (shape_at (shapes_of store.old) p.number).parent }
     ensures values { values_of store.new ≡ values_of store.old }
     ensures count { made_count store.new ≡ made_count store.old }
     ensures kept { IsKept store.old store.new }
@@ -194,36 +205,4 @@ fn rise<T: Drop>(store: &mut Store<T>, root: Option<Link>, p: Link, c: Link) -> 
     } else {
         turn_right(store, root, p, c)
     }
-}
-
-// Which node stands higher: a fixed mixture of its number, so that no order of inserts makes a deep tree by habit.
-fn height_of(number: usize) -> u64 {
-    let mut mixed = (number as u64).wrapping_mul(0x9E37_79B9_7F4A_7C15);
-    mixed = (mixed ^ (mixed >> 30)).wrapping_mul(0xBF58_476D_1CE4_E5B9);
-    mixed = (mixed ^ (mixed >> 27)).wrapping_mul(0x94D0_49BB_1331_11EB);
-    mixed ^ (mixed >> 31)
-}
-
-// Lets a new node rise to its height. The answer is the top.
-pub(crate) fn settle<T: Drop>(store: &mut Store<T>, root: Option<Link>, node: Link) -> Option<Link>
-    requires sound { IsSound store.old root }
-    requires made { IsMade store.old node }
-    ensures sound { IsSound store.new result }
-    ensures order { order store.new result ≡ order store.old root }
-    ensures items { SameItems (shapes_of store.old) (shapes_of store.new) }
-    ensures values { values_of store.new ≡ values_of store.old }
-    ensures count { made_count store.new ≡ made_count store.old }
-    ensures kept { IsKept store.old store.new }
-{
-    let height = height_of(node.number);
-    let mut top = root;
-    let mut shape = store.shape(node);
-    'up: while let Some(above) = shape.parent {
-        if height <= height_of(above.number) {
-            return top;
-        }
-        top = rise(store, top, above, node);
-        shape = store.shape(node);
-    }
-    top
 }

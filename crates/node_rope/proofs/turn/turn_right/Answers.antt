@@ -8,7 +8,7 @@ use Rattle.node_rope.specs.Walk.{count_of, moved}
 use Rattle.node_rope.specs.Turned.{with_child, lifted_right}
 use Rattle.node_rope.proofs.ShapeLemmas.{made-below, weight-sum}
 use Rattle.node_rope.proofs.WalkLemmas.{moved-other, moved-here}
-use Rattle.node_rope.proofs.TurnRightLemmas.{sound-turned, order-turned, own-kept, key-kept, turned_c}
+use Rattle.node_rope.proofs.TurnRightLemmas.{sound-turned, order-turned, own-kept, key-kept, turned_p, turned_c}
 use Rattle.node_rope.proofs.turn.turn_right.Goals as goal
 
 pub lift_right-requires-clause-made_left : goal.lift_right-requires-clause-made_left
@@ -110,6 +110,42 @@ returns-in-Some-clause-taller g c =
     let root' : Option Link = c.args.root in
     ap (λ (xs : List Shape). (shape_at xs c.args.c.number).count) is ∙ ap (λ h. h.count) (turned_c s v c.args.root root' c.args.p c.args.c so c.requires.made_p c.requires.made_c c.requires.child is kept count moves made)
 
+pub returns-in-Some-clause-lower : goal.returns-in-Some-clause-lower
+returns-in-Some-clause-lower g c =
+    let s = c.args.store.now in
+    let ss = shapes_of s in
+    let v = c.set_child.new.store in
+    let so = c.requires.sound in
+    let above = c.shape-above.ensures in
+    let is : shapes_of v ≡ with_child (lifted_right ss c.args.p c.args.c (shape_at ss c.args.p.number) (shape_at ss c.args.c.number)) (shape_at ss c.args.p.number).parent c.args.p.number c.args.c =
+    rw (c.set_child.ensures.shapes, c.lift_right.ensures.shapes, above, c.shape-below.ensures) refl in
+    let kept : (l : Link) → IsMade s l → IsMade v l = λ l m. c.set_child.ensures.kept l (c.lift_right.ensures.kept l m) in
+    let count = c.set_child.ensures.count ∙ c.lift_right.ensures.count in
+    let up : (shape_at ss c.args.p.number).parent ≡ Some c.in-Some._g = sym (ap (λ h. h.parent) above) ∙ c.in-Some.is in
+    let not-top : number_of c.args.root ≡ Some c.args.p.number → ⊥ = λ e. let none = so.crown c.args.p.number e in cc in
+    let moves : number_of c.args.root ≡ moved c.args.p.number c.args.c.number (number_of c.args.root) = sym (moved-other c.args.p.number c.args.c.number (number_of c.args.root) not-top) in
+    let made : AreMade v c.args.root = λ m e. kept m (so.made_root m e) in
+    let root' : Option Link = c.args.root in
+    omega (arith, ap (λ (xs : List Shape). (shape_at xs c.args.p.number).count) is, ap (λ h. h.count) (turned_p s v c.args.root root' c.args.p c.args.c so c.requires.made_p c.requires.made_c c.requires.child is kept count moves made), so.counted c.args.p.number, so.counted c.args.c.number, ap (count_of (tree_of ss)) c.requires.child)
+
+pub returns-in-Some-clause-above : goal.returns-in-Some-clause-above
+returns-in-Some-clause-above g c =
+    let s = c.args.store.now in
+    let ss = shapes_of s in
+    let v = c.set_child.new.store in
+    let so = c.requires.sound in
+    let above = c.shape-above.ensures in
+    let is : shapes_of v ≡ with_child (lifted_right ss c.args.p c.args.c (shape_at ss c.args.p.number) (shape_at ss c.args.c.number)) (shape_at ss c.args.p.number).parent c.args.p.number c.args.c =
+    rw (c.set_child.ensures.shapes, c.lift_right.ensures.shapes, above, c.shape-below.ensures) refl in
+    let kept : (l : Link) → IsMade s l → IsMade v l = λ l m. c.set_child.ensures.kept l (c.lift_right.ensures.kept l m) in
+    let count = c.set_child.ensures.count ∙ c.lift_right.ensures.count in
+    let up : (shape_at ss c.args.p.number).parent ≡ Some c.in-Some._g = sym (ap (λ h. h.parent) above) ∙ c.in-Some.is in
+    let not-top : number_of c.args.root ≡ Some c.args.p.number → ⊥ = λ e. let none = so.crown c.args.p.number e in cc in
+    let moves : number_of c.args.root ≡ moved c.args.p.number c.args.c.number (number_of c.args.root) = sym (moved-other c.args.p.number c.args.c.number (number_of c.args.root) not-top) in
+    let made : AreMade v c.args.root = λ m e. kept m (so.made_root m e) in
+    let root' : Option Link = c.args.root in
+    ap (λ (xs : List Shape). (shape_at xs c.args.c.number).parent) is ∙ ap (λ h. h.parent) (turned_c s v c.args.root root' c.args.p c.args.c so c.requires.made_p c.requires.made_c c.requires.child is kept count moves made)
+
 pub returns-in-None-clause-sound : goal.returns-in-None-clause-sound
 returns-in-None-clause-sound g c =
     let s = c.args.store.now in
@@ -181,3 +217,39 @@ returns-in-None-clause-taller g c =
     let made : AreMade v (Some c.args.c) = λ m e. (let same : c.args.c ≡ m = cc in subst (λ (k : Link). IsMade v k) same (kept c.args.c c.requires.made_c)) in
     let root' : Option Link = Some c.args.c in
     ap (λ (xs : List Shape). (shape_at xs c.args.c.number).count) is ∙ ap (λ h. h.count) (turned_c s v c.args.root root' c.args.p c.args.c so c.requires.made_p c.requires.made_c c.requires.child is kept count moves made)
+
+pub returns-in-None-clause-lower : goal.returns-in-None-clause-lower
+returns-in-None-clause-lower g c =
+    let s = c.args.store.now in
+    let ss = shapes_of s in
+    let v = c.set_child.new.store in
+    let so = c.requires.sound in
+    let above = c.shape-above.ensures in
+    let is : shapes_of v ≡ with_child (lifted_right ss c.args.p c.args.c (shape_at ss c.args.p.number) (shape_at ss c.args.c.number)) (shape_at ss c.args.p.number).parent c.args.p.number c.args.c =
+    rw (c.set_child.ensures.shapes, c.lift_right.ensures.shapes, above, c.shape-below.ensures) refl in
+    let kept : (l : Link) → IsMade s l → IsMade v l = λ l m. c.set_child.ensures.kept l (c.lift_right.ensures.kept l m) in
+    let count = c.set_child.ensures.count ∙ c.lift_right.ensures.count in
+    let up : (shape_at ss c.args.p.number).parent ≡ None = sym (ap (λ h. h.parent) above) ∙ c.in-None.is in
+    let top = so.top c.args.p.number (made-below s c.args.p c.requires.made_p) up in
+    let moves : Some c.args.c.number ≡ moved c.args.p.number c.args.c.number (number_of c.args.root) = sym (ap (moved c.args.p.number c.args.c.number) top ∙ moved-here c.args.p.number c.args.c.number) in
+    let made : AreMade v (Some c.args.c) = λ m e. (let same : c.args.c ≡ m = cc in subst (λ (k : Link). IsMade v k) same (kept c.args.c c.requires.made_c)) in
+    let root' : Option Link = Some c.args.c in
+    omega (arith, ap (λ (xs : List Shape). (shape_at xs c.args.p.number).count) is, ap (λ h. h.count) (turned_p s v c.args.root root' c.args.p c.args.c so c.requires.made_p c.requires.made_c c.requires.child is kept count moves made), so.counted c.args.p.number, so.counted c.args.c.number, ap (count_of (tree_of ss)) c.requires.child)
+
+pub returns-in-None-clause-above : goal.returns-in-None-clause-above
+returns-in-None-clause-above g c =
+    let s = c.args.store.now in
+    let ss = shapes_of s in
+    let v = c.set_child.new.store in
+    let so = c.requires.sound in
+    let above = c.shape-above.ensures in
+    let is : shapes_of v ≡ with_child (lifted_right ss c.args.p c.args.c (shape_at ss c.args.p.number) (shape_at ss c.args.c.number)) (shape_at ss c.args.p.number).parent c.args.p.number c.args.c =
+    rw (c.set_child.ensures.shapes, c.lift_right.ensures.shapes, above, c.shape-below.ensures) refl in
+    let kept : (l : Link) → IsMade s l → IsMade v l = λ l m. c.set_child.ensures.kept l (c.lift_right.ensures.kept l m) in
+    let count = c.set_child.ensures.count ∙ c.lift_right.ensures.count in
+    let up : (shape_at ss c.args.p.number).parent ≡ None = sym (ap (λ h. h.parent) above) ∙ c.in-None.is in
+    let top = so.top c.args.p.number (made-below s c.args.p c.requires.made_p) up in
+    let moves : Some c.args.c.number ≡ moved c.args.p.number c.args.c.number (number_of c.args.root) = sym (ap (moved c.args.p.number c.args.c.number) top ∙ moved-here c.args.p.number c.args.c.number) in
+    let made : AreMade v (Some c.args.c) = λ m e. (let same : c.args.c ≡ m = cc in subst (λ (k : Link). IsMade v k) same (kept c.args.c c.requires.made_c)) in
+    let root' : Option Link = Some c.args.c in
+    ap (λ (xs : List Shape). (shape_at xs c.args.c.number).parent) is ∙ ap (λ h. h.parent) (turned_c s v c.args.root root' c.args.p c.args.c so c.requires.made_p c.requires.made_c c.requires.child is kept count moves made)

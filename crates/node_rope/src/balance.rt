@@ -1,0 +1,164 @@
+// Balance by weight: no child weighs more than three times its sibling, where a subtree weighs its count and one more. A child that comes to weigh more rises, or its inner child does where that weighs at least twice the outer one. With three and two this restores the balance after one node more (Hirai and Yamamoto, Balancing weight-balanced trees). No proof rests on the choice.
+ghost use Rattle.std.specs.Prelude.{◌≡◌, ◌⊎◌, ◌<◌, IfSome, Some};
+ghost use Rattle.node_rope.specs.Made.{IsMade, IsKept, made_count, shapes_of, values_of};
+ghost use Rattle.node_rope.specs.Shapes.{IsSound, AreMade, shape_at, number_of, order, tree_of};
+ghost use Rattle.node_rope.specs.Turned.{SameItems};
+ghost use Rattle.node_rope.specs.Walk.{IsLinked};
+
+use crate::cells::{Link, Shape};
+use crate::climb::{count_below, leads_to};
+use crate::store::Store;
+use crate::turn::rise;
+
+// A child of the node.
+fn child_of(shape: Shape) -> Option<Link>
+    ensures { IfSome result (λ c. (shape.left ≡ Some c) ⊎ (shape.right ≡ Some c)) }
+{
+    match shape.left {
+        Some(left) => Some(left),
+        None => shape.right,
+    }
+}
+
+// Lets a new node sink below all that it took over from its neighbour. The answer is the top.
+fn sink<T: Drop>(store: &mut Store<T>, root: Option<Link>, node: Link) -> Option<Link>
+    requires sound { IsSound store.old root }
+    requires made { IsMade store.old node }
+    ensures sound { IsSound store.new result }
+    ensures order { order store.new result ≡ order store.old root }
+    ensures items { SameItems (shapes_of store.old) (shapes_of store.new) }
+    ensures values { values_of store.new ≡ values_of store.old }
+    ensures count { made_count store.new ≡ made_count store.old }
+    ensures kept { IsKept store.old store.new }
+{
+    let mut top = root;
+    let mut shape = store.shape(node);
+    'down: while let Some(below) = child_of(shape) {
+        top = rise(store, top, node, below);
+        shape = store.shape(node);
+    }
+    top
+}
+
+// Whether `c` weighs too much beside the other child of its parent, whose shape is `above`.
+fn is_too_heavy<T: Drop>(store: &Store<T>, above: Shape, c: Link) -> bool
+    requires made { IsMade store.now c }
+    requires left { AreMade store.now above.left }
+    requires right { AreMade store.now above.right }
+{
+    let beside = if leads_to(above.left, c) {
+        above.right
+    } else {
+        above.left
+    };
+    store.shape(c).count / 3 > count_below(store, beside)
+}
+
+// The inner child, where it weighs at least twice the outer one.
+fn if_heavy<T: Drop>(store: &Store<T>, inner: Option<Link>, outer: Option<Link>) -> Option<Link>
+    requires inner { AreMade store.now inner }
+    requires outer { AreMade store.now outer }
+    ensures { IfSome result (λ m. inner ≡ Some m) }
+{
+    let outer = count_below(store, outer);
+    if count_below(store, inner).saturating_sub(outer) > outer {
+        inner
+    } else {
+        None
+    }
+}
+
+// The inner child of `c`, where it must rise first. `left` is what stands at the left of their parent.
+fn heavy_inner<T: Drop>(store: &Store<T>, left: Option<Link>, c: Link) -> Option<Link>
+    requires made { IsMade store.now c }
+    requires linked { IsLinked (tree_of (shapes_of store.now)) }
+    requires left { AreMade store.now (shape_at (shapes_of store.now) c.number).left }
+    requires right { AreMade store.now (shape_at (shapes_of store.now) c.number).right }
+    ensures child { IfSome result (λ m. number_of (shape_at (shapes_of store.now) m.number).parent ≡ Some c.number) }
+    ensures made { IfSome result (λ m. IsMade store.now m) }
+{
+    let below = store.shape(c);
+    if leads_to(left, c) {
+        if_heavy(store, below.right, below.left)
+    } else {
+        if_heavy(store, below.left, below.right)
+    }
+}
+
+// The top, and the node from which a climb goes on.
+#[derive(Clone, Copy)]
+struct Stage {
+    top: Option<Link>,
+    at: Link,
+}
+
+// Brings `p` in balance, whose child `c` has grown. The climb goes on from the node that stands in its place.
+fn restore<T: Drop>(store: &mut Store<T>, root: Option<Link>, p: Link, c: Link) -> Stage
+    requires sound { IsSound store.old root }
+    requires made_p { IsMade store.old p }
+    requires made_c { IsMade store.old c }
+    requires child { number_of (shape_at (shapes_of store.old) c.number).parent ≡ Some p.number }
+    ensures sound { IsSound store.new result.top }
+    ensures made { IsMade store.new result.at }
+    ensures higher { (shape_at (shapes_of store.old) c.number).count < (shape_at (shapes_of store.new) result.at.number).count }
+    ensures order { order store.new result.top ≡ order store.old root }
+    ensures items { SameItems (shapes_of store.old) (shapes_of store.new) }
+    ensures values { values_of store.new ≡ values_of store.old }
+    ensures count { made_count store.new ≡ made_count store.old }
+    ensures kept { IsKept store.old store.new }
+{
+    let above = store.shape(p);
+    let left = above.left;
+    if !is_too_heavy(store, above, c) {
+        return Stage { top: root, at: p };
+    }
+    match heavy_inner(store, left, c) {
+        Some(inner) => {
+            let half = rise(store, root, c, inner);
+            let top = rise(store, half, p, inner);
+            Stage { top, at: inner }
+        }
+        None => {
+            let top = rise(store, root, p, c);
+            Stage { top, at: c }
+        }
+    }
+}
+
+// Brings each node above a new leaf in balance. The answer is the top.
+fn restore_above<T: Drop>(store: &mut Store<T>, root: Option<Link>, leaf: Link) -> Option<Link>
+    requires sound { IsSound store.old root }
+    requires made { IsMade store.old leaf }
+    ensures sound { IsSound store.new result }
+    ensures order { order store.new result ≡ order store.old root }
+    ensures items { SameItems (shapes_of store.old) (shapes_of store.new) }
+    ensures values { values_of store.new ≡ values_of store.old }
+    ensures count { made_count store.new ≡ made_count store.old }
+    ensures kept { IsKept store.old store.new }
+{
+    let mut stage = Stage {
+        top: root,
+        at: leaf,
+    };
+    let mut shape = store.shape(leaf);
+    'up: while let Some(above) = shape.parent {
+        stage = restore(store, stage.top, above, stage.at);
+        shape = store.shape(stage.at);
+    }
+    stage.top
+}
+
+// Brings the tree in balance around a new node. The answer is the top.
+pub(crate) fn settle<T: Drop>(store: &mut Store<T>, root: Option<Link>, node: Link) -> Option<Link>
+    requires sound { IsSound store.old root }
+    requires made { IsMade store.old node }
+    ensures sound { IsSound store.new result }
+    ensures order { order store.new result ≡ order store.old root }
+    ensures items { SameItems (shapes_of store.old) (shapes_of store.new) }
+    ensures values { values_of store.new ≡ values_of store.old }
+    ensures count { made_count store.new ≡ made_count store.old }
+    ensures kept { IsKept store.old store.new }
+{
+    let top = sink(store, root, node);
+    restore_above(store, top, node)
+}
