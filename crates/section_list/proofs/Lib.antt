@@ -1,4 +1,3 @@
-pub mod GapLemmas
 pub mod GrowthLemmas
-pub mod HidingLemmas
-pub mod VisibleLemmas
+pub mod KeptLemmas
+pub mod PlainLemmas

@@ -1,8 +1,12 @@
--- Cells in a list.
-use Rattle.std.specs.Prelude.{Bool, true, not, if◌then◌else◌, ◌&&◌, List, [], ◌∷◌, ℕ, map, filter}
+-- The elements of a place, each with its scalar and its hidden mark.
+use Rattle.std.specs.Prelude.{Bool, true, not, if◌then◌else◌, ◌&&◌, List, ℕ, map, filter}
 use Rattle.std.specs.List.{list_any}
 use Rattle.fugue_ids.specs.Identifiers.{Identifier, id_eq}
-use Rattle.section_list.specs.declared.cell.Cell.{Cell}
+
+pub record Cell : Type 0 where
+  pub id : Identifier
+  pub ch : ℕ
+  pub hidden : Bool
 
 -- the identifiers of the cells
 abbrev pub ids : List Cell → List Identifier
@@ -15,10 +19,6 @@ visible_cells cells = filter (λ c. not c.hidden) cells
 -- the scalars that are not hidden
 abbrev pub text : List Cell → List ℕ
 text cells = map (λ c. c.ch) (visible_cells cells)
-
--- what one cell adds to the text
-abbrev pub text_of : Cell → List ℕ
-text_of c = if c.hidden then [] else c.ch ∷ []
 
 -- a cell of x is hidden
 abbrev pub is_hidden : List Cell → Identifier → Bool

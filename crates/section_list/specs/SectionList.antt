@@ -5,8 +5,7 @@ use Rattle.fugue_ids.specs.Identifiers.{Identifier}
 use Rattle.fugue_ids.specs.Listed.{index_of}
 use Rattle.origin_model.specs.sides.Node.{AreNodes, node_order}
 use Rattle.origin_model.specs.declared.sides.node.Node.{Node}
-use Rattle.section_list.specs.Cells.{ids, hiding}
-use Rattle.section_list.specs.declared.cell.Cell.{Cell}
+use Rattle.section_list.specs.Cells.{Cell, ids, hiding}
 
 pub record Listing : Type 0 where
   -- the elements with their origins, the newest first

@@ -1,17 +1,24 @@
-ghost use Rattle.std.specs.Prelude.{◌≡◌, ◌<◌, false, true, length, slice_get, OnErr, OnOk};
+ghost use Rattle.std.specs.Prelude.{◌≡◌, ◌<◌, ◌∷◌, false, true, drop, length, slice_get, OnErr, OnOk};
 ghost use Rattle.std.specs.Str.{encode_utf8_all};
 ghost use Rattle.fugue_ids.specs.Gathers.{GathersText};
 ghost use Rattle.fugue_ids.specs.Outs.{WritesText};
 ghost use Rattle.origin_model.specs.sides.Node.{has_node, has_origin};
 ghost use Rattle.origin_model.specs.edits.Landing.{following};
+ghost use Rattle.std.specs.List.{insert};
+ghost use Rattle.origin_model.specs.sides.KeyedGap.{gap_index};
+ghost use Rattle.origin_model.specs.sides.Node.{IsNew};
+ghost use Rattle.origin_model.specs.sides.Slot.{IsBeside};
+ghost use Rattle.run_store.specs.Cells.{ids as stored_ids};
+ghost use Rattle.run_store.specs.NewCells.{new_cell};
+ghost use Rattle.run_store.specs.Stored.{IsAloneWhereEmpty};
 ghost use Rattle.section_list.specs.Cells.{ids, is_hidden as hidden_in, text, visible_cells};
+ghost use Rattle.section_list.specs.Kept.{KeepsNodes};
 ghost use Rattle.section_list.specs.SectionList.{IsInOrder, nothing, with_element, with_hidden};
 
-use crate::cells::Cells;
-use crate::shown::Shown;
-use fugue_ids::{ElementId, Failed, Gather, MOST_OPERATIONS, NoMemory, Out};
+use fugue_ids::{ElementId, Failed, Gap, Gather, MOST_OPERATIONS, NoMemory, Out};
 use origin_model::Node;
 use outer_ports::Sink;
+use run_store::{RunStore, Shown};
 use sided_tree::SidedTree;
 use std::alloc::Global;
 use std::marker::Model;
@@ -20,17 +27,49 @@ use std::marker::Model;
 #[derive(Drop)]
 pub struct SectionList {
     tree: SidedTree,
-    cells: Cells,
+    store: RunStore,
 }
 
 impl Model for SectionList {
-    ghost use Rattle.section_list.specs.SectionList.{IsInOrder, Listing};
+    ghost use Rattle.std.specs.Prelude.{map};
+    ghost use Rattle.section_list.specs.Kept.{KeepsNodes, plain};
+    ghost use Rattle.section_list.specs.SectionList.{Listing};
 
     ghost Value = { Listing };
 
-    ghost view = { λ s. record { nodes = s.tree; cells = s.cells } };
+    ghost view = { λ s. record { nodes = s.tree; cells = map plain s.store.cells } };
 
-    ghost invariant = { λ s. IsInOrder (record { nodes = s.tree; cells = s.cells }) };
+    ghost invariant = { λ s. KeepsNodes s.tree s.store.cells };
+}
+
+/// The node joins the tree, and its cell goes into the gap of the store. After want of memory the nodes and the cells are as before.
+fn put_in(
+    tree: &mut SidedTree,
+    store: &mut RunStore,
+    gap: Gap,
+    node: &Node,
+    ch: char,
+) -> Result<(), NoMemory>
+    requires kept { KeepsNodes tree.old store.old.cells }
+    requires new { IsNew tree.old node.now }
+    requires beside { IsBeside gap (stored_ids store.old.cells) }
+    requires alone { IsAloneWhereEmpty gap store.old.cells }
+    requires room { length store.old.cells < MOST_OPERATIONS }
+    ensures tree_ok { OnOk result (tree.new ≡ node.now ∷ tree.old) }
+    ensures tree_err { OnErr result (tree.new ≡ tree.old) }
+    ensures store_ok { OnOk result (store.new.cells ≡ insert store.old.cells (gap_index gap (stored_ids store.old.cells))
+        (new_cell store.old.cells node.now.id node.now.left node.now.right ch)) }
+    ensures store_err { OnErr result (store.new.cells ≡ store.old.cells) }
+{
+    let order = &*store;
+    tree.attach(node.id, node.left, node.right, order)?;
+    match store.insert(gap, node.id, node.left, node.right, ch) {
+        Ok(()) => Ok(()),
+        Err(refused) => {
+            tree.detach(node.id);
+            Err(refused)
+        }
+    }
 }
 
 impl SectionList {
@@ -41,7 +80,7 @@ impl SectionList {
     {
         SectionList {
             tree: SidedTree::new(alloc),
-            cells: Cells::new(alloc),
+            store: RunStore::new(alloc),
         }
     }
 
@@ -50,13 +89,13 @@ impl SectionList {
         ensures len { result ≡ length self.now.cells }
         ensures in_order { IsInOrder self.now }
     {
-        self.cells.len()
+        self.store.len()
     }
 
     pub fn visible_count(&self) -> usize
         ensures { result ≡ length (visible_cells self.now.cells) }
     {
-        self.cells.visible_count()
+        self.store.visible_count()
     }
 
     pub fn holds(&self, id: ElementId) -> bool
@@ -69,28 +108,35 @@ impl SectionList {
     pub fn is_hidden(&self, id: ElementId) -> bool
         ensures { result ≡ hidden_in self.now.cells id }
     {
-        self.cells.is_hidden(id)
+        self.store.is_hidden(id)
     }
 
     /// The element with i visible ones before it that is visible itself.
     pub fn nth_visible(&self, i: usize) -> Option<ElementId>
         ensures { result ≡ slice_get (ids (visible_cells self.now.cells)) i }
     {
-        self.cells.nth_visible(i)
+        self.store.nth_visible(i)
     }
 
-    /// A walk along the visible elements, in order. All its steps together pass each element once.
+    /// A walk along the visible elements, in order.
     pub fn shown(&self) -> Shown<'_>
         ensures { result ≡ ids (visible_cells self.now.cells) }
     {
-        self.cells.shown()
+        self.store.shown()
+    }
+
+    /// A walk along those that have `at` visible ones before them: none of these is passed.
+    pub fn shown_from(&self, at: usize) -> Shown<'_>
+        ensures { result ≡ drop at (ids (visible_cells self.now.cells)) }
+    {
+        self.store.shown_from(at)
     }
 
     /// The element behind this one, hidden or not; the first one for None. None comes back for one that is not held or stands last.
     pub fn after(&self, id: Option<ElementId>) -> Option<ElementId>
         ensures { result ≡ following (ids self.now.cells) id }
     {
-        self.cells.after(id)
+        self.store.after(id)
     }
 
     /// One element more, which is not hidden. After want of memory all is as before.
@@ -109,16 +155,11 @@ impl SectionList {
         ensures err { OnErr result (self.new ≡ self.old) }
         ensures in_order { IsInOrder self.new }
     {
-        let spot = self.tree.find_spot(&Node { id, left, right }, &self.cells);
-        let at = self.cells.gap_position(&self.tree.gap(&spot));
-        self.tree.attach_at(&spot)?;
-        match self.cells.insert(at, id, ch) {
-            Ok(()) => Ok(()),
-            Err(refused) => {
-                self.tree.detach(id);
-                Err(refused)
-            }
-        }
+        let node = Node { id, left, right };
+        let gap = self
+            .tree
+            .find_gap(node.id, node.left, node.right, &self.store);
+        put_in(&mut self.tree, &mut self.store, gap, &node, ch)
     }
 
     /// Hides the element. A hidden one stays as it is.
@@ -129,23 +170,20 @@ impl SectionList {
         ensures again { hidden_in self.old.cells id ≡ true → self.new ≡ self.old }
         ensures in_order { IsInOrder self.new }
     {
-        self.cells.hide(id);
-        Ok(())
+        self.store.hide(id)
     }
 
     /// Writes the text: the scalars of the visible elements, in order. They go out by whole arrays, and it takes no memory.
     pub fn write_text<O: Sink>(&self, output: &mut O) -> Result<(), Failed>
         ensures { WritesText (O.seen output.old) (O.seen output.new) result (encode_utf8_all (text self.now.cells)) }
     {
-        let mut gather = Gather::new();
-        self.put_text(&mut gather, output)?;
-        gather.flush(output)
+        self.store.write_text(output)
     }
 
     /// Puts the text behind what waits to go out.
     pub fn put_text<O: Out>(&self, gather: &mut Gather, output: &mut O) -> Result<(), Failed>
         ensures { GathersText (O.seen output.old) (O.seen output.new) gather.old gather.new result (encode_utf8_all (text self.now.cells)) }
     {
-        self.cells.put_text(gather, output)
+        self.store.put_text(gather, output)
     }
 }

@@ -1,8 +1,10 @@
+pub mod ElderLemmas
 pub mod NodesLemmas
-pub mod PartingLemmas
+pub mod OneLemmas
+pub mod OrderLemmas
+pub mod PartLemmas
+pub mod PlaceLemmas
 pub mod RankLemmas
 pub mod RightOriginLemmas
+pub mod SearchLemmas
 pub mod SlotLemmas
-pub mod SpotLemmas
-pub mod TreeLemmas
-pub mod WalkLemmas

@@ -9,7 +9,7 @@ use Rattle.origin_model.specs.operations.History.{holder, right_of}
 use Rattle.origin_model.specs.order.Order.{right_at}
 use Rattle.origin_model.specs.declared.sides.node.Node.{Node}
 use Rattle.origin_model.proofs.SharedLemmas.{holder-nodes, nodes_listed, op_of}
-use Rattle.sided_tree.specs.Spot.{StandsIn}
+use Rattle.fugue_ids.specs.Listed.{HoldsOrigin}
 
 -- a node stays there as one comes
 node_stays : (n : Node) (ns : List Node) (x : Identifier) → has_node ns x ≡ true → has_node (n ∷ ns) x ≡ true
@@ -42,12 +42,12 @@ right_there (n ∷ ns) x a =
     ]
 
 -- an origin that is there stands in the order
-pub origin_stands : (ns : List Node) (list : List Identifier) (o : Option Identifier) → AreNodes ns → list ≡ node_order ns → has_origin ns o ≡ true → StandsIn o list
+pub origin_stands : (ns : List Node) (list : List Identifier) (o : Option Identifier) → AreNodes ns → list ≡ node_order ns → has_origin ns o ≡ true → HoldsOrigin list o
 origin_stands ns list None a e k = tt
-origin_stands ns list (Some x) a e k = subst (StandsIn (Some x)) (sym e) ((nodes_listed ns a x).0 k)
+origin_stands ns list (Some x) a e k = subst (λ l. HoldsOrigin l (Some x)) (sym e) ((nodes_listed ns a x).0 k)
 
 -- so does the right origin of a node
-pub right_stands : (ns : List Node) (list : List Identifier) (x : Identifier) → AreNodes ns → list ≡ node_order ns → StandsIn (right_at (as_ops ns) x) list
+pub right_stands : (ns : List Node) (list : List Identifier) (x : Identifier) → AreNodes ns → list ≡ node_order ns → HoldsOrigin list (right_at (as_ops ns) x)
 right_stands ns list x a e = origin_stands ns list (right_at (as_ops ns) x) a e (right_there ns x a)
 
 -- the history of nodes holds what a look-up among them finds

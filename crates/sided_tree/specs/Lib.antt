@@ -1,5 +1,3 @@
-pub mod Children
 pub mod Nodes
 pub mod Side
-pub mod SidedTree
-pub mod Spot
+pub mod SlotKeys

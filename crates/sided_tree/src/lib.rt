@@ -1,17 +1,18 @@
-//! The sided tree of one place: it finds where a new element stands by the sides of its origins, and not by their chains.
+//! The sided tree of one place: it finds where a new element stands by the sides of its origins and by keys, and not by their chains.
 #![tactic(auto)]
 
-mod children;
+mod blocks;
+mod elders;
+mod gaps;
 mod nodes;
 mod origins;
+mod part;
 mod positions;
 mod siblings;
-mod spot;
-mod tables;
+mod slots;
 #[cfg(test)]
 mod tests;
 mod tree;
 
-pub use fugue_ids::{Gap, OrderOf, Side};
-pub use spot::Spot;
+pub use fugue_ids::{Gap, Key, OrderOf, Side};
 pub use tree::SidedTree;

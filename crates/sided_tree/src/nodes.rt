@@ -1,11 +1,15 @@
 ghost use Rattle.std.specs.Prelude.{◌≡◌, ◌∷◌, [], true, false, OnErr, OnOk};
+ghost use Rattle.origin_model.specs.order.Order.{has_left as has_left_on, right_at};
 ghost use Rattle.origin_model.specs.sides.Detached.{without};
-ghost use Rattle.origin_model.specs.sides.Node.{AreNodes, find_node, has_node};
+ghost use Rattle.origin_model.specs.sides.Keys.{keyed_order};
+ghost use Rattle.origin_model.specs.sides.Node.{AreNodes, as_op, as_ops, find_node, has_node, node_order};
+ghost use Rattle.origin_model.specs.sides.Slot.{goes_before as goes_before_in, slot_by};
 
 use crate::origins::Origins;
 use crate::positions::last_position;
-use fugue_ids::{ElementId, NoMemory};
-use origin_model::Node;
+use crate::siblings::goes_first;
+use fugue_ids::{ElementId, NoMemory, OrderOf};
+use origin_model::{Node, Slot};
 use std::alloc::Global;
 use std::collections::BTreeMap;
 use std::marker::Model;
@@ -52,6 +56,47 @@ impl Nodes {
             }),
             None => None,
         }
+    }
+
+    /// Whether r is a node with this left origin.
+    #[tactic(auto, using(crate::proofs::RightOriginLemmas::held_nodes))]
+    fn has_left(&self, r: ElementId, left: &Option<ElementId>) -> bool
+        ensures { result ≡ has_left_on (as_ops self.now) r left.now }
+    {
+        match self.find(r) {
+            Some(node) => node.left == *left,
+            None => false,
+        }
+    }
+
+    /// The right origin of a node.
+    #[tactic(auto, using(crate::proofs::RightOriginLemmas::held_nodes))]
+    fn right_of(&self, id: ElementId) -> Option<ElementId>
+        ensures { result ≡ right_at (as_ops self.now) id }
+    {
+        match self.find(id) {
+            Some(node) => node.right,
+            None => None,
+        }
+    }
+
+    /// Where a node with these origins hangs.
+    pub fn slot(&self, left: Option<ElementId>, right: Option<ElementId>) -> Slot
+        ensures { result ≡ slot_by (as_ops self.now) left right }
+    {
+        match right {
+            Some(r) if self.has_left(r, &left) => Slot::LeftOf(r),
+            _ => Slot::RightOf(left),
+        }
+    }
+
+    /// Whether a sibling goes before a new node.
+    pub fn goes_before<F: OrderOf>(&self, order: &F, sibling: ElementId, node: &Node) -> bool
+        requires new { AreNodes (node.now ∷ self.now) }
+        requires list { F.listed order.now ≡ keyed_order self.now }
+        ensures { result ≡ goes_before_in (node_order self.now) (as_ops self.now) (as_op node.now) node.now.id sibling }
+    {
+        goes_first(order, self.right_of(sibling), node.right, sibling, node.id)
     }
 
     /// One node more. After want of memory the nodes are as before.

@@ -1,6 +1,7 @@
 ghost use Rattle.std.specs.Prelude.{◌≡◌};
+ghost use Rattle.fugue_ids.specs.Keys.{ids};
+ghost use Rattle.fugue_ids.specs.Listed.{HoldsOrigin};
 ghost use Rattle.origin_model.specs.order.Order.{index_of_origin, ranked};
-ghost use Rattle.sided_tree.specs.Spot.{StandsIn};
 
 use fugue_ids::{ElementId, OrderOf};
 
@@ -13,9 +14,9 @@ pub(crate) fn goes_first<F: OrderOf>(
     a: ElementId,
     b: ElementId,
 ) -> bool
-    requires here_stands { StandsIn here (F.listed order.now) }
-    requires there_stands { StandsIn there (F.listed order.now) }
-    ensures { result ≡ ranked (index_of_origin (F.listed order.now) here) (index_of_origin (F.listed order.now) there) a b }
+    requires here_stands { HoldsOrigin (ids (F.listed order.now)) here }
+    requires there_stands { HoldsOrigin (ids (F.listed order.now)) there }
+    ensures { result ≡ ranked (index_of_origin (ids (F.listed order.now)) here) (index_of_origin (ids (F.listed order.now)) there) a b }
 {
     match (here, there) {
         (None, None) => a < b,

@@ -1,11 +1,24 @@
-//! The public calls on a place of one element. The crates above try longer places beside the plain replica.
+//! The public calls on a place of one element, and how often an order is asked in longer places. The crates above try places beside the plain
+//! replica.
 
-ghost use Rattle.std.specs.Prelude.{option_to_list};
+mod entry;
+mod place;
+mod plain_order;
+mod searches;
 
+ghost use Rattle.std.specs.Prelude.{◌≡◌, map, option_to_list};
+ghost use Rattle.fugue_ids.specs.Keys.{first_low};
+
+use crate::tests::place::Place;
 use crate::{Gap, OrderOf, Side, SidedTree};
-use fugue_ids::ElementId;
+use fugue_ids::{ElementId, Key, NoMemory};
 use std::prelude::HostRuntime;
 use std::test::Fail;
+
+const FIRST: Key = Key {
+    depth: 1,
+    forest: 0,
+};
 
 /// The order of a place with one element or none.
 #[derive(Drop)]
@@ -13,8 +26,17 @@ struct Few {
     id: Option<ElementId>,
 }
 
+impl Few {
+    /// The element, where its key is at most this one.
+    fn low(&self, most: Key) -> Option<ElementId>
+        ensures { result ≡ first_low most (map (λ x. record { id = x; key = record { depth = 1; forest = 0 } }) (option_to_list self.now.id)) }
+    {
+        if FIRST <= most { self.id } else { None }
+    }
+}
+
 impl OrderOf for Few {
-    ghost listed = { λ few. option_to_list few.id };
+    ghost listed = { λ few. map (λ x. record { id = x; key = record { depth = 1; forest = 0 } }) (option_to_list few.id) };
 
     fn earlier(&self, _a: ElementId, _b: ElementId) -> bool {
         match self.id {
@@ -22,10 +44,49 @@ impl OrderOf for Few {
             Some(_) | None => false,
         }
     }
+
+    fn key(&self, _id: ElementId) -> Key {
+        FIRST
+    }
+
+    fn behind(&self, id: Option<ElementId>) -> Option<ElementId> {
+        match id {
+            None => self.id,
+            Some(_) => None,
+        }
+    }
+
+    fn before(&self, id: Option<ElementId>) -> Option<ElementId> {
+        match id {
+            None => self.id,
+            Some(_) => None,
+        }
+    }
+
+    fn first_low(&self, id: Option<ElementId>, most: Key) -> Option<ElementId> {
+        match id {
+            None => self.low(most),
+            Some(_) => None,
+        }
+    }
+
+    fn last_low(&self, id: Option<ElementId>, most: Key) -> Option<ElementId> {
+        match id {
+            None => self.low(most),
+            Some(_) => None,
+        }
+    }
+
+    fn middle(&self, from: Option<ElementId>, to: Option<ElementId>) -> Option<ElementId> {
+        match (from, to) {
+            (None, None) => self.id,
+            _ => None,
+        }
+    }
 }
 
 #[test]
-#[tactic(auto, using(crate::proofs::TreeLemmas::empty_order, crate::proofs::TreeLemmas::one_order))]
+#[tactic(auto, using(crate::proofs::OneLemmas::none_listed, crate::proofs::OneLemmas::one_listed))]
 fn a_second_element_hangs_on_the_side_of_its_origins(rt: HostRuntime) -> Result<(), Fail> {
     let id = ElementId::new(1, 0).expect(&rt, "a replica");
     let next = ElementId::new(2, 0).expect(&rt, "a replica");
@@ -40,5 +101,35 @@ fn a_second_element_hangs_on_the_side_of_its_origins(rt: HostRuntime) -> Result<
     assert_eq!(rt; tree.find_gap(next, None, Some(id), &one), Gap::Before(id));
     assert_eq!(rt; tree.find_gap(next, Some(id), None, &one), Gap::After(id));
     assert_eq!(rt; tree.find_gap(next, None, None, &one), Gap::After(id));
+    Ok(())
+}
+
+fn numbered(counter: u32) -> Result<ElementId, NoMemory> {
+    ElementId::new(1, counter).ok_or(NoMemory)
+}
+
+#[test]
+fn typing_makes_no_search(rt: HostRuntime) -> Result<(), Fail> {
+    let mut place = Place::new(rt.alloc());
+    let mut left = None;
+    for counter in 0..100 {
+        let id = numbered(counter)?;
+        place = place.with(id, left)?;
+        assert_eq!(rt; place.searched(), 0);
+        left = Some(id);
+    }
+    Ok(())
+}
+
+#[test]
+fn a_thousand_siblings_cost_a_few_searches(rt: HostRuntime) -> Result<(), Fail> {
+    let mut elders = Place::new(rt.alloc());
+    let mut youngers = Place::new(rt.alloc());
+    for counter in 0..1_000 {
+        elders = elders.with(numbered(counter)?, None)?;
+        youngers = youngers.with(numbered(1_000 - counter)?, None)?;
+        assert!(rt; elders.searched() < 100);
+        assert!(rt; youngers.searched() < 100);
+    }
     Ok(())
 }

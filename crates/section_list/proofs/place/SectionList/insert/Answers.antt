@@ -1,57 +1,47 @@
-use Rattle.std.proofs.Common.{ap, subst, sym, ◌∙◌, ◌∷◌, ◌≡◌}
-use Rattle.std.specs.List.{insert}
-use Rattle.origin_model.specs.sides.Node.{node_order}
-use Rattle.origin_model.specs.sides.Slot.{IsBeside}
-use Rattle.section_list.specs.Cells.{ids}
-use Rattle.section_list.specs.SectionList.{IsInOrder}
-use Rattle.section_list.proofs.GrowthLemmas.{grown_in_order, is_back, is_grown, new_here, no_origin, placed_at}
-use Rattle.section_list.proofs.place.SectionList.insert.Goals.{In-Ok}
+use Rattle.std.proofs.Common.{List, ap, subst, sym, ◌∙◌, ◌≡◌}
+use Rattle.origin_model.specs.sides.Node.{IsNew, has_node, has_origin}
+use Rattle.origin_model.specs.declared.sides.node.Node.{Node}
+use Rattle.section_list.specs.Kept.{KeepsNodes}
+use Rattle.section_list.specs.SectionList.{Listing, with_element}
+use Rattle.section_list.proofs.GrowthLemmas.{after_err, after_kept, after_ok, alone_kept, gap_beside, seen_in_order}
+use Rattle.section_list.proofs.KeptLemmas.{keyed_kept, on_err, on_ok}
 use Rattle.section_list.proofs.place.SectionList.insert.Goals as goal
 
-pub find_spot-spot-requires-clause-new : goal.find_spot-spot-requires-clause-new
-find_spot-spot-requires-clause-new c =
-    new_here c.self.inside.tree c.self.inside.cells c.args.self.now (record { id = c.args.id; left = c.args.left; right = c.args.right }) c.self.view_is c.self.invariant
-    (record { fresh = c.requires.fresh; left = c.requires.left; right = c.requires.right })
+-- a node that is new in what readers see is new in the tree
+new_here : (seen now : Listing) (n : Node) → seen ≡ now → IsNew now.nodes n → IsNew seen.nodes n
+new_here seen now n v new = subst (λ (s : Listing). IsNew s.nodes n) (sym v) new
 
-pub gap_position-at-requires-clause-beside : goal.gap_position-at-requires-clause-beside
-gap_position-at-requires-clause-beside c = subst (IsBeside c.gap.result) (sym c.self.invariant.in_order) c.gap.ensures.beside
+pub find_gap-gap-requires-clause-list : goal.find_gap-gap-requires-clause-list
+find_gap-gap-requires-clause-list c = keyed_kept c.self.inside.tree c.self.inside.store.cells c.self.invariant
 
-pub detach-requires-clause-no_origin : goal.detach-requires-clause-no_origin
-detach-requires-clause-no_origin c =
-    no_origin c.self.inside.tree c.self.inside.cells c.args.self.now (record { id = c.args.id; left = c.args.left; right = c.args.right }) c.self.view_is c.self.invariant
-    (record { fresh = c.requires.fresh; left = c.requires.left; right = c.requires.right }) c.attach_at.new.self
-    (c.in_ok-attach_at.ensures.ok ∙ ap (λ m. m ∷ c.self.inside.tree) c.find_spot-spot.ensures.node)
+pub put_in-requires-clause-beside : goal.put_in-requires-clause-beside
+put_in-requires-clause-beside c = gap_beside c.self.inside.tree c.self.inside.store.cells c.self.invariant c.find_gap-gap.result c.find_gap-gap.ensures.beside
 
--- where the new cell stands
-place : (c : In-Ok) → node_order (record { id = c.args.id; left = c.args.left; right = c.args.right } ∷ c.self.inside.tree) ≡ insert (ids c.self.inside.cells) c.gap_position-at.result c.args.id
-place c =
-    placed_at c.self.inside.tree c.self.inside.cells c.find_spot-spot.result.node (record { id = c.args.id; left = c.args.left; right = c.args.right }) c.gap.result c.gap_position-at.result
-    c.find_spot-spot.ensures.node c.self.invariant.in_order c.gap.ensures.place c.gap_position-at.ensures.place
+pub put_in-requires-clause-alone : goal.put_in-requires-clause-alone
+put_in-requires-clause-alone c = alone_kept c.self.inside.tree c.self.inside.store.cells c.self.invariant c.find_gap-gap.result c.find_gap-gap.ensures.alone
 
-pub invariant_of-self-in-Ok : goal.invariant_of-self-in-Ok
-invariant_of-self-in-Ok c =
-    grown_in_order c.self.inside.tree c.self.inside.cells c.args.self.now (record { id = c.args.id; left = c.args.left; right = c.args.right }) c.self.view_is c.self.invariant
-    (record { fresh = c.requires.fresh; left = c.requires.left; right = c.requires.right }) c.attach_at.new.self c.insert.new.self c.args.ch c.gap_position-at.result c.gap_position-at.ensures.within
-    (place c) (c.in_ok-attach_at.ensures.ok ∙ ap (λ m. m ∷ c.self.inside.tree) c.find_spot-spot.ensures.node) c.in-Ok.ensures.ok
+pub invariant_of-self : goal.invariant_of-self
+invariant_of-self c =
+    after_kept c.self.inside.tree c.self.inside.store.cells c.self.invariant (record { id = c.args.id; left = c.args.left; right = c.args.right })
+    (new_here _ _ _ c.self.view_is (record { fresh = c.requires.fresh; left = c.requires.left; right = c.requires.right }))
+    c.find_gap-gap.result c.find_gap-gap.ensures.beside c.find_gap-gap.ensures.place c.put_in.result c.put_in.new.tree c.put_in.new.store.cells c.args.ch
+    c.put_in.ensures.tree_ok c.put_in.ensures.tree_err c.put_in.ensures.store_ok c.put_in.ensures.store_err
 
-pub returns-in-Ok-clause-in_order : goal.returns-in-Ok-clause-in_order
-returns-in-Ok-clause-in_order c = invariant_of-self-in-Ok c
+pub returns-clause-ok : goal.returns-clause-ok
+returns-clause-ok c =
+    on_ok c.put_in.result (λ e. e ∙ ap (with_element (record { id = c.args.id; left = c.args.left; right = c.args.right }) c.args.ch) c.self.view_is)
+    (after_ok c.self.inside.tree c.self.inside.store.cells c.self.invariant (record { id = c.args.id; left = c.args.left; right = c.args.right })
+    (new_here _ _ _ c.self.view_is (record { fresh = c.requires.fresh; left = c.requires.left; right = c.requires.right }))
+    c.find_gap-gap.result c.find_gap-gap.ensures.beside c.find_gap-gap.ensures.place c.put_in.result c.put_in.new.tree c.put_in.new.store.cells c.args.ch
+    c.put_in.ensures.tree_ok c.put_in.ensures.tree_err c.put_in.ensures.store_ok c.put_in.ensures.store_err)
 
-pub returns-in-Ok-clause-ok : goal.returns-in-Ok-clause-ok
-returns-in-Ok-clause-ok c =
-    is_grown c.self.inside.tree c.self.inside.cells c.args.self.now (record { id = c.args.id; left = c.args.left; right = c.args.right }) c.self.view_is c.self.invariant
-    (record { fresh = c.requires.fresh; left = c.requires.left; right = c.requires.right }) c.attach_at.new.self c.insert.new.self c.args.ch c.gap_position-at.result c.gap_position-at.ensures.within
-    (place c) (c.in_ok-attach_at.ensures.ok ∙ ap (λ m. m ∷ c.self.inside.tree) c.find_spot-spot.ensures.node) c.in-Ok.ensures.ok
+pub returns-clause-err : goal.returns-clause-err
+returns-clause-err c =
+    on_err c.put_in.result (λ e. e ∙ c.self.view_is)
+    (after_err c.self.inside.tree c.self.inside.store.cells c.self.invariant (record { id = c.args.id; left = c.args.left; right = c.args.right })
+    (new_here _ _ _ c.self.view_is (record { fresh = c.requires.fresh; left = c.requires.left; right = c.requires.right }))
+    c.find_gap-gap.result c.find_gap-gap.ensures.beside c.find_gap-gap.ensures.place c.put_in.result c.put_in.new.tree c.put_in.new.store.cells c.args.ch
+    c.put_in.ensures.tree_ok c.put_in.ensures.tree_err c.put_in.ensures.store_ok c.put_in.ensures.store_err)
 
-pub returns-in-Err-clause-err : goal.returns-in-Err-clause-err
-returns-in-Err-clause-err c =
-    is_back c.self.inside.tree c.self.inside.cells c.args.self.now (record { id = c.args.id; left = c.args.left; right = c.args.right }) c.self.view_is c.self.invariant
-    (record { fresh = c.requires.fresh; left = c.requires.left; right = c.requires.right }) c.attach_at.new.self c.detach.new.self c.insert.new.self
-    (c.in_ok-attach_at.ensures.ok ∙ ap (λ m. m ∷ c.self.inside.tree) c.find_spot-spot.ensures.node) c.detach.ensures.others c.in-Err.ensures.err
-    ∙ c.self.view_is
-
-pub returns-in-Err-clause-in_order : goal.returns-in-Err-clause-in_order
-returns-in-Err-clause-in_order c = subst IsInOrder (sym (returns-in-Err-clause-err c ∙ sym c.self.view_is)) c.self.invariant
-
-pub invariant_of-self-in-Err : goal.invariant_of-self-in-Err
-invariant_of-self-in-Err c = returns-in-Err-clause-in_order c
+pub returns-clause-in_order : goal.returns-clause-in_order
+returns-clause-in_order c = seen_in_order c.put_in.new.tree c.put_in.new.store.cells (invariant_of-self c)

@@ -1,0 +1,77 @@
+-- Cells of a run, by their places in it.
+use Rattle.std.proofs.Common.{◌≡◌, ◌≢◌, ℕ, zero, suc, ◌+◌, ◌<◌, List, [], ◌∷◌, ◌++◌, ap, arith, get_or, length, refl, sym, take, drop, ◌∙◌}
+use Rattle.std.specs.Prelude.{Some}
+use Rattle.fugue_ids.specs.Identifiers.{Identifier}
+use Rattle.run_store.specs.Heads.{head_behind, id_behind, lettered, next_head, typed}
+use Rattle.run_store.specs.declared.head.Head.{Head}
+
+pub behind-none : (x : Identifier) → id_behind 0 x ≡ x
+behind-none x = let e : x.counter + 0 ≡ x.counter = omega arith in λ i. record { replica = x.replica; counter = e i }
+
+-- one behind the next one is two behind
+pub behind-next : (n : ℕ) (h : Head) → head_behind n (next_head h) ≡ head_behind (suc n) h
+behind-next zero h =
+    let d : suc h.key.depth ≡ h.key.depth + 1 = omega arith in
+    λ i. record { id = id_behind 1 h.id; left = Some (sym (behind-none h.id) i); right = h.right; hidden = h.hidden; key = record { depth = d i; forest = 0 } }
+behind-next (suc n) h =
+    let c : (h.id.counter + 1) + suc n ≡ h.id.counter + suc (suc n) = omega arith in
+    let b : (h.id.counter + 1) + n ≡ h.id.counter + suc n = omega arith in
+    let d : suc h.key.depth + suc n ≡ h.key.depth + suc (suc n) = omega arith in
+    λ i. record {
+      id = record { replica = h.id.replica; counter = c i };
+      left = Some (record { replica = h.id.replica; counter = b i });
+      right = h.right;
+      hidden = h.hidden;
+      key = record { depth = d i; forest = 0 };
+    }
+
+-- behind one that stands behind another
+pub behind-behind : (m n : ℕ) (h : Head) → head_behind n (head_behind m h) ≡ head_behind (m + n) h
+behind-behind zero n h = let e : n ≡ 0 + n = omega arith in ap (λ k. head_behind k h) e
+behind-behind (suc m) n h =
+    let e : suc (m + n) ≡ suc m + n = omega arith in
+    ap (head_behind n) (sym (behind-next m h)) ∙ behind-behind m n (next_head h) ∙ behind-next (m + n) h ∙ ap (λ k. head_behind k h) e
+
+pub behind-id : (n : ℕ) (h : Head) → (head_behind n h).id ≡ id_behind n h.id
+behind-id zero h = sym (behind-none h.id)
+behind-id (suc n) h = refl
+
+pub behind-hidden : (n : ℕ) (h : Head) → (head_behind n h).hidden ≡ h.hidden
+behind-hidden zero h = refl
+behind-hidden (suc n) h = refl
+
+pub behind-right : (n : ℕ) (h : Head) → (head_behind n h).right ≡ h.right
+behind-right zero h = refl
+behind-right (suc n) h = refl
+
+pub behind-depth : (n : ℕ) (h : Head) → (head_behind n h).key.depth ≡ h.key.depth + n
+behind-depth zero h = omega arith
+behind-depth (suc n) h = refl
+
+pub typed-append : (h : Head) (xs ys : List ℕ) → typed h (xs ++ ys) ≡ typed h xs ++ typed (head_behind (length xs) h) ys
+typed-append h [] ys = refl
+typed-append h (x ∷ xs) ys =
+    ap (λ cs. lettered h x ∷ cs) (typed-append (next_head h) xs ys ∙ ap (λ k. typed (next_head h) xs ++ typed k ys) (behind-next (length xs) h))
+
+pub length-typed : (h : Head) (xs : List ℕ) → length (typed h xs) ≡ length xs
+length-typed h [] = refl
+length-typed h (x ∷ xs) = ap suc (length-typed (next_head h) xs)
+
+-- the cell at a place of a run
+pub typed-at : (h : Head) (o : ℕ) (xs : List ℕ) → o < length xs
+    → typed h xs ≡ typed h (take o xs) ++ lettered (head_behind o h) (get_or xs o 0) ∷ typed (head_behind (suc o) h) (drop (suc o) xs)
+typed-at h o [] l = absurd (omega (arith, l))
+typed-at h zero (x ∷ xs) l = ap (λ k. lettered h x ∷ typed k xs) (behind-next 0 h)
+typed-at h (suc o) (x ∷ xs) l =
+    let r : o < length xs = omega (arith, l) in
+    ap (λ cs. lettered h x ∷ cs)
+    (typed-at (next_head h) o xs r
+    ∙ (λ i. typed (next_head h) (take o xs) ++ lettered (behind-next o h i) (get_or xs o 0) ∷ typed (behind-next (suc o) h i) (drop (suc o) xs)))
+
+pub behind-forest : (n : ℕ) (h : Head) → 0 < n → (head_behind n h).key.forest ≡ 0
+behind-forest zero h l = absurd (omega (arith, l))
+behind-forest (suc n) h l = refl
+
+-- no other cell of a run has the identifier of its first one
+pub behind-other : (n : ℕ) (h : Head) → 0 < n → (head_behind n h).id ≢ h.id
+behind-other n h l e = omega (arith, l, ap (λ (x : Identifier). x.counter) (sym (behind-id n h) ∙ e))

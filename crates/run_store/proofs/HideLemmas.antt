@@ -1,0 +1,124 @@
+-- A cell that is hidden, in a run of its own.
+use Rattle.std.proofs.Common.{◌≡◌, ◌≢◌, ℕ, suc, true, false, List, [], ◌∷◌, ◌++◌, ap, arith, length, refl, subst, sym, drop, ◌∙◌}
+use Rattle.std.specs.Prelude.{Some, cond, if◌then◌else◌, map}
+use Rattle.std.specs.List.{All, AllPairs}
+use Rattle.std.proofs.lemmas.List.{length-map}
+use Rattle.std.proofs.lemmas.List.Elements.{All-cons, All-nil}
+use Rattle.fugue_ids.specs.Identifiers.{Identifier, id_eq}
+use Rattle.node_rope.specs.Beside.{put_under}
+use Rattle.node_rope.specs.Items.{value_under}
+use Rattle.run_store.specs.Cells.{hiding, ids, is_hidden}
+use Rattle.run_store.specs.Heads.{head_behind, typed}
+use Rattle.run_store.specs.Runs.{AreRuns, IsRun, IsSpot, all_cells, cells_in, first_of, letters_of}
+use Rattle.run_store.specs.declared.cell.Cell.{Cell}
+use Rattle.run_store.specs.declared.run.Run.{Run}
+use Rattle.run_store.specs.declared.runs.Runs.{Runs}
+use Rattle.run_store.proofs.CellLemmas.{hidden-at, hiding-at}
+use Rattle.run_store.proofs.HeadLemmas.{behind-hidden}
+use Rattle.run_store.proofs.PartLemmas.{all-between}
+use Rattle.run_store.proofs.RopeLemmas.{found, put-at}
+use Rattle.run_store.proofs.RunsLemmas.{Item, cell_there, cells-around, cells_before, cells_behind, kept-run, keys-apart, length-letters, located, placed}
+
+-- the identifiers stay
+same_id : (x : Identifier) (c : Cell) → (hiding x c).id ≡ c.id
+same_id x c = elim (id_eq c.id x) as (λ b. ◌≡◌ {A = Identifier} ((if b then record c { hidden = true } else c).id) c.id) [ true ↦ refl | false ↦ refl ]
+
+ids-hiding : (x : Identifier) (cs : List Cell) → ids (map (hiding x) cs) ≡ ids cs
+ids-hiding x [] = refl
+ids-hiding x (c ∷ cs) = λ i. same_id x c i ∷ ids-hiding x cs i
+
+-- the mark of the cell at a spot is that of its run
+module _ (r : Runs) (s : AreRuns r) (x : Identifier) (run : Run) (o : ℕ) (spot : IsSpot r.rope x run o) where
+  pub spot-hidden : is_hidden (cells_in r) x ≡ run.hidden
+  spot-hidden =
+      let l = located r s run o spot.held spot.inside in
+      let F = cells_before r.letters l.front run o in
+      let B = cells_behind r.letters run (suc o) l.back in
+      (λ i. is_hidden (l.place.cells_is i) (spot.is i))
+      ∙ hidden-at (head_behind o (first_of run)).id F (cell_there r.letters run o) B l.place.before l.place.behind refl
+      ∙ behind-hidden o (first_of run)
+
+  -- a hidden one that is hidden again stays
+  pub hidden-again : run.hidden ≡ true → cells_in r ≡ map (hiding x) (cells_in r)
+  hidden-again h =
+      let l = located r s run o spot.held spot.inside in
+      let F = cells_before r.letters l.front run o in
+      let B = cells_behind r.letters run (suc o) l.back in
+      let c = cell_there r.letters run o in
+      let t : c.hidden ≡ true = behind-hidden o (first_of run) ∙ h in
+      l.place.cells_is
+      ∙ (λ i. F ++ record c { hidden = t i } ∷ B)
+      ∙ sym (hiding-at (head_behind o (first_of run)).id F c B l.place.before l.place.behind refl)
+      ∙ sym (λ i. map (hiding (spot.is i)) (l.place.cells_is i))
+
+-- a run of one cell, hidden
+module _ (r : Runs) (s : AreRuns r) (run : Run) (v : value_under run.id r.rope ≡ Some run) (one : run.len ≡ 1) where
+  abbrev pub hidden_run : Run
+  hidden_run = record run { hidden = true }
+
+  abbrev pub hidden_runs : Runs
+  hidden_runs = record { rope = put_under run.id hidden_run r.rope; letters = r.letters; count = r.count }
+
+  this : IsRun r.letters r.count (run.id, run)
+  this = kept-run r s run.id run v
+
+  hidden-run : IsRun r.letters r.count (run.id, hidden_run)
+  hidden-run = record {
+    named = refl;
+    some = this.some;
+    within = this.within;
+    counters = this.counters;
+    ends = this.ends;
+    deep = this.deep;
+    depths = this.depths;
+    forests = this.forests;
+  }
+
+  -- the run has no second letter
+  no-more : drop 1 (letters_of r.letters run) ≡ []
+  no-more = only (letters_of r.letters run) (length-letters r.letters r.count (run.id, run) this ∙ one)
+    where
+      only : (xs : List ℕ) → length xs ≡ 1 → drop 1 xs ≡ []
+      only [] e = absurd (omega (arith, e))
+      only (x ∷ []) e = refl
+      only (x ∷ y ∷ xs) e = absurd (omega (arith, e))
+
+  module _ (front back : List Item) (is : r.rope ≡ front ++ (run.id, run) ∷ back) where
+    put-is : put_under run.id hidden_run r.rope ≡ front ++ (run.id, hidden_run) ∷ back
+    put-is =
+        let k = keys-apart r s front run 0 back is this.some in
+        ap (put_under run.id hidden_run) is ∙ put-at run.id run hidden_run front back k.0 k.1
+
+    same-behind : cells_behind r.letters run 1 back ≡ cells_behind r.letters hidden_run 1 back
+    same-behind =
+        (λ i. typed (head_behind 1 (first_of run)) (no-more i) ++ all_cells r.letters back)
+        ∙ sym (λ i. typed (head_behind 1 (first_of hidden_run)) (no-more i) ++ all_cells r.letters back)
+
+    cells-hidden : cells_in hidden_runs ≡ map (hiding run.id) (cells_in r)
+    cells-hidden =
+        let p = placed r s front run 0 back is this.some in
+        let F = cells_before r.letters front run 0 in
+        let c = cell_there r.letters run 0 in
+        ap (all_cells r.letters) put-is
+        ∙ cells-around r.letters front hidden_run 0 back r.count hidden-run this.some
+        ∙ ap (λ cs. F ++ record c { hidden = true } ∷ cs) (sym same-behind)
+        ∙ sym (hiding-at run.id F c (cells_behind r.letters run 1 back) p.before p.behind refl)
+        ∙ ap (map (hiding run.id)) (sym p.cells_is)
+
+  pub hiding-cells : cells_in hidden_runs ≡ map (hiding run.id) (cells_in r)
+  hiding-cells = let p = found run.id run r.rope v in cells-hidden p.front p.back p.is
+
+  pub hiding-sound : AreRuns hidden_runs
+  hiding-sound =
+      let p = found run.id run r.rope v in
+      let P = IsRun r.letters r.count in
+      record {
+        each = subst (All P) (sym (put-is p.front p.back p.is))
+            (all-between P p.front (run.id, run) ((run.id, hidden_run) ∷ []) p.back (subst (All P) p.is s.each) (All-cons P (run.id, hidden_run) [] hidden-run (All-nil P)));
+        distinct = subst (AllPairs (λ x y. x ≢ y)) (sym (ap ids hiding-cells ∙ ids-hiding run.id (cells_in r))) s.distinct;
+        counted = s.counted ∙ sym (ap length hiding-cells ∙ length-map (cells_in r) (hiding run.id));
+        few = s.few;
+      }
+
+  pub hiding-length : length hidden_runs.rope ≡ length r.rope
+  hiding-length = length-map r.rope (λ (x : Item). (x.0, cond (id_eq x.0 run.id) hidden_run x.1))

@@ -1,0 +1,89 @@
+-- One cell more among those of a store.
+use Rattle.std.proofs.Common.{◌≡◌, ◌≢◌, ℕ, zero, suc, ◌+◌, ◌<◌, ◌≤◌, List, [], ◌∷◌, ◌++◌, ap, arith, length, length-append, refl, subst, sym, take, drop, ◌∙◌}
+use Rattle.std.specs.List.{All, AllPairs, Contains, insert}
+use Rattle.std.proofs.lemmas.List.{length-take-le, take-append-drop}
+use Rattle.fugue_ids.specs.Listed.{index_of}
+use Rattle.fugue_ids.proofs.ListLemmas.{all_before, all_behind, all_from_contains, all_pairs_insert}
+use Rattle.run_store.specs.Cells.{ids}
+use Rattle.run_store.specs.Growth.{IsNew}
+use Rattle.run_store.specs.Heads.{head_behind, lettered, typed}
+use Rattle.run_store.specs.Runs.{AreRuns, IsRun, all_cells, cells_in, cells_of, first_of, letters_of}
+use Rattle.run_store.specs.declared.cell.Cell.{Cell}
+use Rattle.run_store.specs.declared.head.Head.{Head}
+use Rattle.run_store.specs.declared.run.Run.{Run}
+use Rattle.run_store.specs.declared.runs.Runs.{Runs}
+use Rattle.run_store.proofs.CellLemmas.{index-at}
+use Rattle.run_store.proofs.GrowLemmas.{new-stretch}
+use Rattle.run_store.proofs.HeadLemmas.{length-typed}
+use Rattle.run_store.proofs.RunsLemmas.{IsPlaced, Item, cell_there, cells_before, cells_behind, length-letters}
+
+ids-insert : (cs : List Cell) (k : ℕ) (c : Cell) → ids (insert cs k c) ≡ insert (ids cs) k c.id
+ids-insert cs zero c = refl
+ids-insert [] (suc k) c = refl
+ids-insert (d ∷ cs) (suc k) c = ap (λ xs. d.id ∷ xs) (ids-insert cs k c)
+
+-- distinct cells with a new one
+pub distinct-insert : (cs : List Cell) (k : ℕ) (c : Cell) → AllPairs (λ x y. x ≢ y) (ids cs) → (Contains (ids cs) c.id → ⊥) → AllPairs (λ x y. x ≢ y) (ids (insert cs k c))
+distinct-insert cs k c d fresh =
+    let xs = ids cs in
+    let e = sym (take-append-drop k xs) in
+    let left : All (λ y. y ≢ c.id) xs = all_from_contains (λ y. y ≢ c.id) xs (λ y m s. fresh (subst (Contains xs) s m)) in
+    let right : All (λ y. c.id ≢ y) xs = all_from_contains (λ y. c.id ≢ y) xs (λ y m s. fresh (subst (Contains xs) (sym s) m)) in
+    subst (AllPairs (λ x y. x ≢ y)) (sym (ids-insert cs k c))
+    (all_pairs_insert (λ x y. x ≢ y) xs k c.id d
+    (all_before (λ y. y ≢ c.id) (take k xs) (drop k xs) (subst (All (λ y. y ≢ c.id)) e left))
+    (all_behind (λ y. c.id ≢ y) (take k xs) (drop k xs) (subst (All (λ y. c.id ≢ y)) e right)))
+
+pub length-insert : {X : Type 0} (xs : List X) (k : ℕ) (x : X) → k ≤ length xs → length (insert xs k x) ≡ suc (length xs)
+length-insert xs zero x l = refl
+length-insert [] (suc k) x l = absurd (omega (arith, l))
+length-insert (y ∷ xs) (suc k) x l = ap suc (length-insert xs k x (omega (arith, l)))
+
+-- the place of the cell at a place of a run
+pub index-placed : (r : Runs) (front : List Item) (run : Run) (o : ℕ) (back : List Item) → IsPlaced r front run o back → o < run.len
+    → index_of (ids (cells_in r)) (head_behind o (first_of run)).id ≡ length (all_cells r.letters front) + o
+index-placed r front run o back p l =
+    let x = (head_behind o (first_of run)).id in
+    let F = cells_before r.letters front run o in
+    let ls = letters_of r.letters run in
+    let k : length (take o ls) ≡ o = length-take-le o ls (omega (arith, l, length-letters r.letters r.count (run.id, run) p.is_run)) in
+    ap (λ cs. index_of (ids cs) x) p.cells_is
+    ∙ index-at x F (cell_there r.letters run o) (cells_behind r.letters run (suc o) back) p.before refl
+    ∙ omega (arith, k, length-append (all_cells r.letters front) (typed (first_of run) (take o ls)), length-typed (first_of run) (take o ls))
+
+-- a new store whose cells are the old ones with a new one
+module _ (r : Runs) (s : AreRuns r) (h : Head) (ch : ℕ) (new : IsNew (cells_in r) h) where
+  abbrev pub new_cell : Cell
+  new_cell = lettered h ch
+
+  pub joined-sound : (now : Runs) (k : ℕ) → k ≤ length (cells_in r) → All (IsRun now.letters now.count) now.rope → cells_in now ≡ insert (cells_in r) k new_cell
+      → now.count ≡ r.count + 1 → AreRuns now
+  joined-sound now k within each cells count =
+      let n = ap length cells ∙ length-insert (cells_in r) k new_cell within in
+      record {
+        each = each;
+        distinct = subst (λ cs. AllPairs (λ x y. x ≢ y) (ids cs)) (sym cells) (distinct-insert (cells_in r) k new_cell s.distinct new.fresh);
+        counted = omega (arith, n, s.counted, count);
+        few = omega (arith, s.counted, new.room, count);
+      }
+
+  -- the numbers of a run of the cell alone
+  pub alone-run : (L : List (List ℕ)) (run : Run) → run ≡ record { id = h.id; left = h.left; right = h.right; hidden = h.hidden; key = h.key; stretch = length L; start = 0; len = 1 }
+      → IsRun (L ++ (ch ∷ []) ∷ []) (r.count + 1) (run.id, run)
+  alone-run L run e =
+      let st = new-stretch L (ch ∷ []) in
+      let d : 0 < h.key.depth = omega (arith, ap (λ k. k.depth) new.key) in
+      subst (λ z. IsRun (L ++ (ch ∷ []) ∷ []) (r.count + 1) (z.id, z)) (sym e) (record {
+        named = refl;
+        some = omega arith;
+        within = omega (arith, ap length st);
+        counters = omega (arith, new.counter);
+        ends = omega arith;
+        deep = d;
+        depths = omega (arith, new.depths, s.counted);
+        forests = omega (arith, new.forests, s.counted);
+      })
+
+  pub alone-cells : (L : List (List ℕ)) (run : Run) → run ≡ record { id = h.id; left = h.left; right = h.right; hidden = h.hidden; key = h.key; stretch = length L; start = 0; len = 1 }
+      → cells_of (L ++ (ch ∷ []) ∷ []) run ≡ new_cell ∷ []
+  alone-cells L run e = ap (cells_of (L ++ (ch ∷ []) ∷ [])) e ∙ ap (λ xs. typed h (take 1 xs)) (new-stretch L (ch ∷ []))

@@ -1,0 +1,24 @@
+use Rattle.std.proofs.Common.{List, ap, arith, subst, ◌+◌, ◌-◌, ◌∙◌, ◌≡◌}
+use Rattle.std.specs.Prelude.{OnOk}
+use Rattle.fugue_ids.specs.Identifiers.{Identifier}
+use Rattle.run_store.specs.Growth.{inserted_behind, last_id}
+use Rattle.run_store.specs.Heads.{head_behind, lettered}
+use Rattle.run_store.specs.Runs.{cells_in, first_of}
+use Rattle.run_store.specs.declared.cell.Cell.{Cell}
+use Rattle.run_store.proofs.RunsLemmas.{kept-run}
+use Rattle.run_store.proofs.runs.Runs.insert_between.Goals as goal
+
+pub overflow_add-end : goal.overflow_add-end
+overflow_add-end c =
+    let r = c.args.spot.now.run in
+    let x = kept-run c.args.self.now c.requires.sound r.id r c.requires.held in
+    omega (arith, c.requires.inside, x.depths, x.deep, c.requires.sound.few)
+
+pub returns-clause-ok : goal.returns-clause-ok
+returns-clause-ok c =
+    let o = c.args.spot.now.offset in
+    let run = c.args.spot.now.run in
+    let e : (o + 1) - 1 ≡ o = omega arith in
+    let id : last_id c.run_to.result ≡ (head_behind o (first_of run)).id = ap last_id c.run_to.ensures ∙ ap (λ n. (head_behind n (first_of run)).id) e in
+    subst (λ (p : Identifier × List Cell). OnOk c.begin_behind.result (cells_in c.begin_behind.new.self ≡ inserted_behind p.0 (lettered c.args.head.now c.args.ch) p.1))
+    (λ i. (id i, c.in_ok-cut_behind.ensures.cells i)) c.begin_behind.ensures.ok

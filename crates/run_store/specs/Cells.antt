@@ -1,0 +1,44 @@
+-- Cells in a list.
+use Rattle.std.specs.Prelude.{Bool, not, if◌then◌else◌, ◌&&◌, List, [], ◌∷◌, Option, Some, None, option_map, ℕ, map, filter, true}
+use Rattle.std.specs.List.{list_any}
+use Rattle.fugue_ids.specs.Identifiers.{Identifier, id_eq}
+use Rattle.fugue_ids.specs.Keys.{Keyed}
+use Rattle.run_store.specs.declared.cell.Cell.{Cell}
+
+-- the identifiers of the cells
+abbrev pub ids : List Cell → List Identifier
+ids cells = map (λ c. c.id) cells
+
+-- the cells as elements of an order, each with its key
+abbrev pub keyed : List Cell → List Keyed
+keyed cells = map (λ c. record { id = c.id; key = c.key }) cells
+
+-- the cells that are not hidden
+abbrev pub visible_cells : List Cell → List Cell
+visible_cells cells = filter (λ c. not c.hidden) cells
+
+-- the scalars that are not hidden
+abbrev pub text : List Cell → List ℕ
+text cells = map (λ c. c.ch) (visible_cells cells)
+
+-- the cell of x
+abbrev pub cell_of : List Cell → Identifier → Option Cell
+cell_of [] x = None
+cell_of (c ∷ cs) x = if id_eq c.id x then Some c else cell_of cs x
+
+-- the cell of an origin: none for the start and the end
+abbrev pub cell_of_origin : List Cell → Option Identifier → Option Cell
+cell_of_origin cells None = None
+cell_of_origin cells (Some x) = cell_of cells x
+
+-- the origins of the cell of x
+abbrev pub origins_of : List Cell → Identifier → Option (Option Identifier × Option Identifier)
+origins_of cells x = option_map (λ c. (c.left, c.right)) (cell_of cells x)
+
+-- a cell of x is hidden
+abbrev pub is_hidden : List Cell → Identifier → Bool
+is_hidden cells x = list_any (λ c. id_eq c.id x && c.hidden) cells
+
+-- the cell as it is once x is hidden
+abbrev pub hiding : Identifier → Cell → Cell
+hiding x c = if id_eq c.id x then record c { hidden = true } else c

@@ -1,0 +1,36 @@
+-- The cells of a run, one behind the other.
+use Rattle.std.specs.Prelude.{ℕ, zero, suc, ◌+◌, ◌*◌, List, [], ◌∷◌, Some}
+use Rattle.fugue_ids.specs.Identifiers.{Identifier}
+use Rattle.fugue_ids.specs.declared.key.Key.{Key}
+use Rattle.run_store.specs.declared.cell.Cell.{Cell}
+use Rattle.run_store.specs.declared.head.Head.{Head}
+
+-- the identifier n behind another one of the same replica
+abbrev pub id_behind : ℕ → Identifier → Identifier
+id_behind n x = record { replica = x.replica; counter = x.counter + n }
+
+-- the cell directly behind this one in its run
+abbrev pub next_head : Head → Head
+next_head h = record { id = id_behind 1 h.id; left = Some h.id; right = h.right; hidden = h.hidden; key = record { depth = suc h.key.depth; forest = 0 } }
+
+-- the cell n behind this one in its run
+abbrev pub head_behind : ℕ → Head → Head
+head_behind zero h = h
+head_behind (suc n) h =
+    record { id = id_behind (suc n) h.id; left = Some (id_behind n h.id); right = h.right; hidden = h.hidden; key = record { depth = h.key.depth + suc n; forest = 0 } }
+
+-- a cell with its letter, and without
+abbrev pub lettered : Head → ℕ → Cell
+lettered h ch = record { id = h.id; left = h.left; right = h.right; ch = ch; hidden = h.hidden; key = h.key }
+
+abbrev pub head_of : Cell → Head
+head_of c = record { id = c.id; left = c.left; right = c.right; hidden = c.hidden; key = c.key }
+
+-- the cells of letters of which each stands behind the one before it
+abbrev pub typed : Head → List ℕ → List Cell
+typed h [] = []
+typed h (ch ∷ chs) = lettered h ch ∷ typed (next_head h) chs
+
+-- a key as one number: comparing the numbers is comparing the keys
+abbrev pub rank_of : Key → ℕ
+rank_of k = k.depth * 4294967296 + k.forest

@@ -1,0 +1,67 @@
+-- Runs of cells: each keeps its first cell, and finds its letters in a stretch of them.
+use Rattle.std.specs.Prelude.{◌≡◌, ◌≢◌, ◌≤◌, ◌<◌, ◌^◌, ℕ, ◌+◌, ◌-◌, List, [], Some, All, AllPairs, drop, flat_map, length, take, slice_index_or}
+use Rattle.fugue_ids.specs.Identifiers.{Identifier}
+use Rattle.fugue_ids.specs.declared.limits.TheConstants.{MOST_OPERATIONS}
+use Rattle.node_rope.specs.Beside.{placed_after, put_under}
+use Rattle.node_rope.specs.Items.{value_under}
+use Rattle.run_store.specs.Cells.{ids}
+use Rattle.run_store.specs.Heads.{head_behind, typed}
+use Rattle.run_store.specs.declared.cell.Cell.{Cell}
+use Rattle.run_store.specs.declared.head.Head.{Head}
+use Rattle.run_store.specs.declared.run.Run.{Run}
+use Rattle.run_store.specs.declared.runs.Runs.{Runs}
+
+-- the first cell of a run
+abbrev pub first_of : Run → Head
+first_of r = record { id = r.id; left = r.left; right = r.right; hidden = r.hidden; key = r.key }
+
+-- the letters of a run
+abbrev pub letters_of : List (List ℕ) → Run → List ℕ
+letters_of letters r = take r.len (drop r.start (slice_index_or letters r.stretch []))
+
+abbrev pub cells_of : List (List ℕ) → Run → List Cell
+cells_of letters r = typed (first_of r) (letters_of letters r)
+
+-- the cells of all runs of a rope, in order
+abbrev pub all_cells : List (List ℕ) → List (Identifier × Run) → List Cell
+all_cells letters = flat_map (λ x. cells_of letters x.1)
+
+abbrev pub cells_in : Runs → List Cell
+cells_in r = all_cells r.letters r.rope
+
+-- a run under its first identifier: it is not empty, it has its letters, and its numbers fit
+pub record IsRun (letters : List (List ℕ)) (count : ℕ) (x : Identifier × Run) : Type 0 where
+  pub named : x.0 ≡ x.1.id
+  pub some : 0 < x.1.len
+  pub within : x.1.start + x.1.len ≤ length (slice_index_or letters x.1.stretch [])
+  pub counters : x.1.id.counter + x.1.len ≤ 2 ^ 32
+  pub ends : x.1.start + x.1.len ≤ count
+  pub deep : 0 < x.1.key.depth
+  pub depths : x.1.key.depth + x.1.len ≤ count + 1
+  pub forests : x.1.key.forest ≤ count
+
+-- the runs keep distinct cells, and the count is theirs
+pub record AreRuns (r : Runs) : Type 0 where
+  pub each : All (IsRun r.letters r.count) r.rope
+  pub distinct : AllPairs (λ x y. x ≢ y) (ids (cells_in r))
+  pub counted : r.count ≡ length (cells_in r)
+  pub few : r.count ≤ MOST_OPERATIONS
+
+-- the cell of x stands behind `offset` others in a run
+pub record IsSpot (rope : List (Identifier × Run)) (x : Identifier) (run : Run) (offset : ℕ) : Type 0 where
+  pub held : value_under run.id rope ≡ Some run
+  pub inside : offset < run.len
+  pub is : x ≡ (head_behind offset (first_of run)).id
+
+-- the cells of a run before the place n, and those from it on, as runs
+abbrev pub run_to : ℕ → Run → Run
+run_to n r = record r { len = n }
+
+abbrev pub run_from : ℕ → Run → Run
+run_from n r =
+    let h = head_behind n (first_of r) in
+    record { id = h.id; left = h.left; right = h.right; hidden = h.hidden; key = h.key; stretch = r.stretch; start = r.start + n; len = r.len - n }
+
+-- the rope with a run parted at a place
+abbrev pub parted : ℕ → Run → List (Identifier × Run) → List (Identifier × Run)
+parted n r rope = put_under r.id (run_to n r) (placed_after r.id ((head_behind n (first_of r)).id, run_from n r) rope)

@@ -1,0 +1,245 @@
+// A new cell goes in: into the run behind which it was typed, or into one of its own.
+ghost use Rattle.std.specs.Prelude.{◌≡◌, ◌<◌, ◌≤◌, ◌+◌, ◌^◌, [], ◌∷◌, Some, IsSome, Contains, IfOk, length, suc, true, false, slice_index_or, OnErr, OnOk};
+ghost use Rattle.fugue_ids.specs.Listed.{index_of};
+ghost use Rattle.node_rope.specs.Items.{value_under};
+ghost use Rattle.run_store.specs.Cells.{cell_of, ids};
+ghost use Rattle.run_store.specs.Growth.{IsLonger, IsNew, inserted_behind, inserted_before, last_id};
+ghost use Rattle.run_store.specs.Heads.{head_behind, lettered};
+ghost use Rattle.run_store.specs.NewCells.{cell_before, is_continued as continues};
+ghost use Rattle.run_store.specs.Runs.{AreRuns, IsSpot, cells_in, first_of};
+ghost use Rattle.run_store.specs.Stored.{IsRaised};
+
+use crate::find::Spot;
+use crate::head::Head;
+use crate::letters::Letters;
+use crate::new_cells::is_continued;
+use crate::parts::{cell_at, run_to};
+use crate::run::Run;
+use crate::runs::Runs;
+use fugue_ids::{ElementId, NoMemory};
+
+/// The run with one letter more, which has its letters there.
+fn longer_at(run: &Run, stretch: usize, start: usize) -> Run
+    requires { run.now.len + 1 < 2 ^ 32 }
+    ensures { result ≡ record run.now { stretch = stretch; start = start; len = suc run.now.len } }
+{
+    Run {
+        id: run.id,
+        left: run.left,
+        right: run.right,
+        hidden: run.hidden,
+        key: run.key,
+        stretch,
+        start,
+        len: run.len + 1,
+    }
+}
+
+/// One letter more behind those of the run. Were another there already, the run's letters would be copied; no run that is continued has one there, since its cell would have the identifier of the new one.
+fn lengthened(letters: &mut Letters, run: &Run, ch: char) -> Result<Run, NoMemory>
+    requires some { 0 < run.now.len }
+    requires few { run.now.start + run.now.len < 2 ^ 31 }
+    requires within { run.now.start + run.now.len ≤ length (slice_index_or letters.old run.now.stretch []) }
+    ensures ok { IfOk result (λ longer. IsLonger letters.old letters.new run.now ch longer) }
+    ensures err { OnErr result (letters.new ≡ letters.old) }
+{
+    let end = run.start + run.len as usize;
+    if letters.stretch(run.stretch).len() == end {
+        letters.push(run.stretch, ch)?;
+        Ok(longer_at(run, run.stretch, run.start))
+    } else {
+        let stretch = letters.copy(run.stretch, run.start, end, ch)?;
+        Ok(longer_at(run, stretch, 0))
+    }
+}
+
+/// A run of one cell, whose letter stands in a stretch of its own.
+fn alone(head: &Head, stretch: usize) -> Run
+    ensures { result ≡ record { id = head.now.id; left = head.now.left; right = head.now.right; hidden = head.now.hidden; key = head.now.key; stretch = stretch; start = 0; len = 1 } }
+{
+    Run {
+        id: head.id,
+        left: head.left,
+        right: head.right,
+        hidden: head.hidden,
+        key: head.key,
+        stretch,
+        start: 0,
+        len: 1,
+    }
+}
+
+impl Runs {
+    /// The run with the cell that continues it.
+    fn extend(&mut self, run: &Run, head: &Head, ch: char) -> Result<(), NoMemory>
+        requires sound { AreRuns self.old }
+        requires held { value_under run.now.id self.old.rope ≡ Some run.now }
+        requires new { IsNew (cells_in self.old) head.now }
+        requires next { head.now ≡ head_behind run.now.len (first_of run.now) }
+        ensures sound { AreRuns self.new }
+        ensures ok { OnOk result (cells_in self.new ≡ inserted_behind (last_id run.now) (lettered head.now ch) (cells_in self.old)) }
+        ensures kept { OnOk result (length self.new.rope ≡ length self.old.rope) }
+        ensures err { OnErr result (self.new ≡ self.old) }
+    {
+        let _ = head;
+        let longer = lengthened(&mut self.letters, run, ch)?;
+        self.rope.put(run.id, longer);
+        self.count += 1;
+        Ok(())
+    }
+
+    /// A new run of one cell, directly behind this one.
+    fn begin_behind(&mut self, run: &Run, head: &Head, ch: char) -> Result<(), NoMemory>
+        requires sound { AreRuns self.old }
+        requires held { value_under run.now.id self.old.rope ≡ Some run.now }
+        requires new { IsNew (cells_in self.old) head.now }
+        ensures sound { AreRuns self.new }
+        ensures ok { OnOk result (cells_in self.new ≡ inserted_behind (last_id run.now) (lettered head.now ch) (cells_in self.old)) }
+        ensures raised { OnOk result (length self.new.rope ≡ length self.old.rope + 1) }
+        ensures err { OnErr result (self.new ≡ self.old) }
+    {
+        let stretch = self.letters.begin(ch)?;
+        match self
+            .rope
+            .insert_after(run.id, head.id, alone(head, stretch))
+        {
+            Ok(()) => {
+                self.count += 1;
+                Ok(())
+            }
+            Err(_) => {
+                self.letters.take_back();
+                Err(NoMemory)
+            }
+        }
+    }
+
+    /// A new run of one cell, directly before the run with this key.
+    fn begin_before(&mut self, key: ElementId, head: &Head, ch: char) -> Result<(), NoMemory>
+        requires sound { AreRuns self.old }
+        requires held { IsSome (value_under key self.old.rope) }
+        requires new { IsNew (cells_in self.old) head.now }
+        ensures sound { AreRuns self.new }
+        ensures ok { OnOk result (cells_in self.new ≡ inserted_before key (lettered head.now ch) (cells_in self.old)) }
+        ensures raised { OnOk result (length self.new.rope ≡ length self.old.rope + 1) }
+        ensures err { OnErr result (self.new ≡ self.old) }
+    {
+        let stretch = self.letters.begin(ch)?;
+        match self.rope.insert_before(key, head.id, alone(head, stretch)) {
+            Ok(()) => {
+                self.count += 1;
+                Ok(())
+            }
+            Err(_) => {
+                self.letters.take_back();
+                Err(NoMemory)
+            }
+        }
+    }
+
+    /// The first cell.
+    pub(crate) fn insert_first(&mut self, head: &Head, ch: char) -> Result<(), NoMemory>
+        requires sound { AreRuns self.old }
+        requires none { cells_in self.old ≡ [] }
+        requires new { IsNew (cells_in self.old) head.now }
+        ensures sound { AreRuns self.new }
+        ensures ok { OnOk result (cells_in self.new ≡ lettered head.now ch ∷ []) }
+        ensures raised { OnOk result (length self.new.rope ≡ length self.old.rope + 1) }
+        ensures err { OnErr result (self.new ≡ self.old) }
+    {
+        let stretch = self.letters.begin(ch)?;
+        match self.rope.insert_first(head.id, alone(head, stretch)) {
+            Ok(()) => {
+                self.count += 1;
+                Ok(())
+            }
+            Err(_) => {
+                self.letters.take_back();
+                Err(NoMemory)
+            }
+        }
+    }
+
+    /// A new run directly behind the cell at the spot.
+    fn insert_between(&mut self, spot: &Spot, head: &Head, ch: char) -> Result<(), NoMemory>
+        requires sound { AreRuns self.old }
+        requires held { value_under spot.now.run.id self.old.rope ≡ Some spot.now.run }
+        requires inside { spot.now.offset < spot.now.run.len }
+        requires new { IsNew (cells_in self.old) head.now }
+        ensures sound { AreRuns self.new }
+        ensures ok { OnOk result (cells_in self.new ≡ inserted_behind (head_behind spot.now.offset (first_of spot.now.run)).id (lettered head.now ch) (cells_in self.old)) }
+        ensures err { OnErr result (cells_in self.new ≡ cells_in self.old) }
+        ensures raised { OnOk result (IsRaised 2 (length self.old.rope) (length self.new.rope)) }
+        ensures refused { OnErr result (IsRaised 1 (length self.old.rope) (length self.new.rope)) }
+    {
+        let end = spot.offset + 1;
+        self.cut_behind(&spot.run, end)?;
+        self.begin_behind(&run_to(&spot.run, end), head, ch)
+    }
+
+    /// A new cell directly behind the one at the spot.
+    fn insert_at(&mut self, spot: &Spot, head: &Head, ch: char) -> Result<(), NoMemory>
+        requires sound { AreRuns self.old }
+        requires held { value_under spot.now.run.id self.old.rope ≡ Some spot.now.run }
+        requires inside { spot.now.offset < spot.now.run.len }
+        requires new { IsNew (cells_in self.old) head.now }
+        ensures sound { AreRuns self.new }
+        ensures ok { OnOk result (cells_in self.new ≡ inserted_behind (head_behind spot.now.offset (first_of spot.now.run)).id (lettered head.now ch) (cells_in self.old)) }
+        ensures err { OnErr result (cells_in self.new ≡ cells_in self.old) }
+        ensures continued { OnOk result (continues (Some (lettered (head_behind spot.now.offset (first_of spot.now.run)) 0)) head.now.id head.now.left head.now.right ≡ true → length self.new.rope ≡ length self.old.rope) }
+        ensures raised { OnOk result (IsRaised 2 (length self.old.rope) (length self.new.rope)) }
+        ensures refused { OnErr result (IsRaised 1 (length self.old.rope) (length self.new.rope)) }
+    {
+        if is_continued(&cell_at(&spot.run, spot.offset), head) {
+            self.extend(&spot.run, head, ch)
+        } else {
+            self.insert_between(spot, head, ch)
+        }
+    }
+
+    /// A new cell directly behind this one.
+    pub(crate) fn insert_behind(
+        &mut self,
+        at: ElementId,
+        head: &Head,
+        ch: char,
+    ) -> Result<(), NoMemory>
+        requires sound { AreRuns self.old }
+        requires held { Contains (ids (cells_in self.old)) at }
+        requires new { IsNew (cells_in self.old) head.now }
+        ensures sound { AreRuns self.new }
+        ensures ok { OnOk result (cells_in self.new ≡ inserted_behind at (lettered head.now ch) (cells_in self.old)) }
+        ensures err { OnErr result (cells_in self.new ≡ cells_in self.old) }
+        ensures continued { OnOk result (continues (cell_of (cells_in self.old) at) head.now.id head.now.left head.now.right ≡ true → length self.new.rope ≡ length self.old.rope) }
+        ensures raised { OnOk result (IsRaised 2 (length self.old.rope) (length self.new.rope)) }
+        ensures refused { OnErr result (IsRaised 1 (length self.old.rope) (length self.new.rope)) }
+    {
+        match self.find(at) {
+            Some(spot) => self.insert_at(&spot, head, ch),
+            None => Err(NoMemory),
+        }
+    }
+
+    /// A new cell directly before this one.
+    pub(crate) fn insert_before(
+        &mut self,
+        at: ElementId,
+        head: &Head,
+        ch: char,
+    ) -> Result<(), NoMemory>
+        requires sound { AreRuns self.old }
+        requires held { Contains (ids (cells_in self.old)) at }
+        requires new { IsNew (cells_in self.old) head.now }
+        ensures sound { AreRuns self.new }
+        ensures ok { OnOk result (cells_in self.new ≡ inserted_before at (lettered head.now ch) (cells_in self.old)) }
+        ensures err { OnErr result (cells_in self.new ≡ cells_in self.old) }
+        ensures continued { OnOk result (continues (cell_before (cells_in self.old) (index_of (ids (cells_in self.old)) at)) head.now.id head.now.left head.now.right ≡ true → length self.new.rope ≡ length self.old.rope) }
+        ensures raised { OnOk result (IsRaised 2 (length self.old.rope) (length self.new.rope)) }
+        ensures refused { OnErr result (IsRaised 1 (length self.old.rope) (length self.new.rope)) }
+    {
+        match self.before(Some(at)) {
+            Some(behind) => self.insert_behind(behind, head, ch),
+            None => self.begin_before(at, head, ch),
+        }
+    }
+}

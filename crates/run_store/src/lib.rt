@@ -1,0 +1,29 @@
+//! The cells of one place, kept in runs: stretches of cells of one author that stand next to each other.
+#![tactic(auto)]
+
+mod cell;
+mod cut;
+mod find;
+mod head;
+mod hide;
+mod insert;
+mod letters;
+mod look_ups;
+mod low;
+mod middle;
+mod new_cells;
+mod order;
+mod parts;
+mod run;
+mod runs;
+mod shown;
+mod store;
+#[cfg(test)]
+mod tests;
+mod text;
+mod visible;
+mod walk;
+
+pub use cell::Cell;
+pub use shown::Shown;
+pub use store::RunStore;

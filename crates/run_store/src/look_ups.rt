@@ -1,0 +1,109 @@
+// Look-ups of a store. None of them takes memory.
+ghost use Rattle.std.specs.Prelude.{◌≡◌, ◌≢◌, ◌↔◌, ◌≤◌, AllPairs, Contains, IsTrue, drop, length, slice_get};
+ghost use Rattle.std.specs.Str.{encode_utf8_all};
+ghost use Rattle.fugue_ids.specs.Gathers.{GathersText};
+ghost use Rattle.fugue_ids.specs.Outs.{WritesText};
+ghost use Rattle.origin_model.specs.edits.Landing.{following};
+ghost use Rattle.run_store.specs.Cells.{ids, is_hidden as hidden_in, origins_of, text, visible_cells};
+
+use crate::shown::Shown;
+use crate::store::RunStore;
+use fugue_ids::{ElementId, Failed, Gather, MOST_OPERATIONS, OrderOf, Out};
+use outer_ports::Sink;
+
+impl RunStore {
+    /// How many cells there are, hidden ones too.
+    pub fn len(&self) -> usize
+        ensures len { result ≡ length self.now.cells }
+        ensures distinct { AllPairs (λ x y. x ≢ y) (ids self.now.cells) }
+        ensures few { length self.now.cells ≤ MOST_OPERATIONS }
+    {
+        self.runs.count
+    }
+
+    /// How many runs keep the cells.
+    pub fn runs(&self) -> usize
+        ensures { result ≡ self.now.runs }
+    {
+        self.runs.rope.len()
+    }
+
+    pub fn visible_count(&self) -> usize
+        ensures { result ≡ length (visible_cells self.now.cells) }
+    {
+        self.runs.visible_count()
+    }
+
+    pub fn holds(&self, id: ElementId) -> bool
+        ensures { IsTrue result ↔ Contains (ids self.now.cells) id }
+    {
+        match self.runs.find(id) {
+            Some(_) => true,
+            None => false,
+        }
+    }
+
+    /// Whether the cell is held and hidden.
+    pub fn is_hidden(&self, id: ElementId) -> bool
+        ensures { result ≡ hidden_in self.now.cells id }
+    {
+        match self.runs.head(id) {
+            Some(head) => head.hidden,
+            None => false,
+        }
+    }
+
+    /// The left origin and the right one. None is the answer for a cell that is not held.
+    pub fn origins(&self, id: ElementId) -> Option<(Option<ElementId>, Option<ElementId>)>
+        ensures { result ≡ origins_of self.now.cells id }
+    {
+        match self.runs.head(id) {
+            Some(head) => Some((head.left, head.right)),
+            None => None,
+        }
+    }
+
+    /// The cell with i visible ones before it that is visible itself.
+    pub fn nth_visible(&self, i: usize) -> Option<ElementId>
+        ensures { result ≡ slice_get (ids (visible_cells self.now.cells)) i }
+    {
+        self.runs.nth_visible(i)
+    }
+
+    /// The cell behind this one, hidden or not; the first one for None. None comes back for one that is not held or stands last.
+    pub fn after(&self, id: Option<ElementId>) -> Option<ElementId>
+        ensures { result ≡ following (ids self.now.cells) id }
+    {
+        self.behind(id)
+    }
+
+    /// A walk along the visible cells, in order.
+    pub fn shown(&self) -> Shown<'_>
+        ensures { result ≡ ids (visible_cells self.now.cells) }
+    {
+        self.shown_from(0)
+    }
+
+    /// The same walk from the visible cell behind this many others on.
+    pub fn shown_from(&self, at: usize) -> Shown<'_>
+        ensures { result ≡ drop at (ids (visible_cells self.now.cells)) }
+    {
+        Shown::new(self, at)
+    }
+
+    /// Writes the scalars of the visible cells, in order.
+    pub fn write_text<O: Sink>(&self, output: &mut O) -> Result<(), Failed>
+        ensures { WritesText (O.seen output.old) (O.seen output.new) result (encode_utf8_all (text self.now.cells)) }
+    {
+        let mut gather = Gather::new();
+        self.put_text(&mut gather, output)?;
+        gather.flush(output)
+    }
+
+    /// Puts the text behind what waits to go out.
+    pub fn put_text<O: Out>(&self, gather: &mut Gather, output: &mut O) -> Result<(), Failed>
+        ensures { GathersText (O.seen output.old) (O.seen output.new) gather.old gather.new result (encode_utf8_all (text self.now.cells)) }
+    {
+        self.runs.put_text(gather, output)
+    }
+}

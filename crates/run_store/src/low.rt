@@ -1,0 +1,114 @@
+// The nearest cell whose key is low enough. The keys of a run rise, so its first cell has its least one.
+ghost use Rattle.std.specs.Prelude.{◌≡◌, ◌<◌, ◌≤◌, ◌+◌, ◌^◌, List, ℕ, drop, length, not, take};
+ghost use Rattle.fugue_ids.specs.Keys.{first_low as first_low_in, front_of, key_lt, last_low as last_low_in, rest_of};
+ghost use Rattle.fugue_ids.specs.Listed.{HoldsOrigin};
+ghost use Rattle.run_store.specs.Cells.{ids, keyed};
+ghost use Rattle.run_store.specs.Heads.{head_behind, typed};
+ghost use Rattle.run_store.specs.Runs.{AreRuns, all_cells, cells_in, first_of};
+
+use crate::parts::cell_at;
+use crate::run::{Run, rank_of};
+use crate::runs::Runs;
+use fugue_ids::{ElementId, Key};
+
+/// Whether a key is at most another.
+fn is_at_most(key: Key, most: Key) -> bool
+    ensures { result ≡ not (key_lt most key) }
+{
+    key.depth < most.depth || (key.depth == most.depth && key.forest <= most.forest)
+}
+
+/// The last of the first `len` cells of a run whose key is at most `most`.
+fn last_low_of(run: &Run, len: u32, most: Key) -> Option<ElementId>
+    requires within { len ≤ run.now.len }
+    requires counters { run.now.id.counter + run.now.len ≤ 2 ^ 32 }
+    requires depths { run.now.key.depth + run.now.len ≤ 2 ^ 32 }
+    ensures { (letters : List ℕ) → length letters ≡ len → result ≡ last_low_in most (keyed (typed (first_of run.now) letters)) }
+{
+    if len == 0 {
+        return None;
+    }
+    let deeper = most.depth.saturating_sub(run.key.depth).min(len - 1);
+    if deeper > 0 {
+        return Some(cell_at(run, deeper).id);
+    }
+    if is_at_most(run.key, most) {
+        Some(run.id)
+    } else {
+        None
+    }
+}
+
+/// The cell of a run behind `from` others, where its key is at most `most`: those behind it are deeper.
+fn first_low_of(run: &Run, from: u32, most: Key) -> Option<ElementId>
+    requires behind { 0 < from }
+    requires counters { run.now.id.counter + run.now.len ≤ 2 ^ 32 }
+    requires depths { run.now.key.depth + run.now.len ≤ 2 ^ 32 }
+    ensures { (letters : List ℕ) → length letters ≡ run.now.len
+        → result ≡ first_low_in most (keyed (typed (head_behind from (first_of run.now)) (drop from letters))) }
+{
+    if from >= run.len {
+        return None;
+    }
+    if run.key.depth + from <= most.depth {
+        Some(cell_at(run, from).id)
+    } else {
+        None
+    }
+}
+
+impl Runs {
+    /// The first low cell of the runs behind this many.
+    fn first_low_from(&self, runs: usize, most: Key) -> Option<ElementId>
+        requires sound { AreRuns self.now }
+        ensures { result ≡ first_low_in most (keyed (all_cells self.now.letters (drop runs self.now.rope))) }
+    {
+        self.rope.first_low(runs, rank_of(most))
+    }
+
+    /// The last low cell of this many runs.
+    fn last_low_to(&self, runs: usize, most: Key) -> Option<ElementId>
+        requires sound { AreRuns self.now }
+        ensures { result ≡ last_low_in most (keyed (all_cells self.now.letters (take runs self.now.rope))) }
+    {
+        let key = self.rope.last_low(runs, rank_of(most))?;
+        match self.run(key) {
+            Some(run) => last_low_of(&run, run.len, most),
+            None => None,
+        }
+    }
+
+    /// The first low cell behind this one, or behind the beginning.
+    pub(crate) fn first_low(&self, id: Option<ElementId>, most: Key) -> Option<ElementId>
+        requires sound { AreRuns self.now }
+        requires held { HoldsOrigin (ids (cells_in self.now)) id }
+        ensures { result ≡ first_low_in most (rest_of id (keyed (cells_in self.now))) }
+    {
+        let id = match id {
+            Some(id) => id,
+            None => return self.first_low_from(0, most),
+        };
+        let spot = self.find(id)?;
+        match first_low_of(&spot.run, spot.offset + 1, most) {
+            Some(id) => Some(id),
+            None => self.first_low_from(self.place_of(&spot.run) + 1, most),
+        }
+    }
+
+    /// The last low cell before this one, or before the end.
+    pub(crate) fn last_low(&self, id: Option<ElementId>, most: Key) -> Option<ElementId>
+        requires sound { AreRuns self.now }
+        requires held { HoldsOrigin (ids (cells_in self.now)) id }
+        ensures { result ≡ last_low_in most (front_of id (keyed (cells_in self.now))) }
+    {
+        let id = match id {
+            Some(id) => id,
+            None => return self.last_low_to(self.rope.len(), most),
+        };
+        let spot = self.find(id)?;
+        match last_low_of(&spot.run, spot.offset, most) {
+            Some(id) => Some(id),
+            None => self.last_low_to(self.place_of(&spot.run), most),
+        }
+    }
+}

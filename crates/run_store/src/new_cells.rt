@@ -1,0 +1,118 @@
+// What a new cell is: its key, and whether it continues a run.
+ghost use Rattle.std.specs.Prelude.{◌≡◌, ◌<◌, ◌≤◌, ◌^◌, ℕ, Contains, IfSome, Some, length, option_map, suc};
+ghost use Rattle.run_store.specs.Cells.{cell_of_origin, ids};
+ghost use Rattle.run_store.specs.Growth.{IsNew};
+ghost use Rattle.run_store.specs.Heads.{head_of, lettered};
+ghost use Rattle.run_store.specs.NewCells.{depth_under, forest_beside as forest_by, is_continued as continues, is_next as follows, new_cell, shares_right};
+ghost use Rattle.run_store.specs.Runs.{AreRuns, cells_in};
+
+use crate::head::Head;
+use crate::runs::Runs;
+use fugue_ids::{ElementId, Key, MOST_OPERATIONS};
+
+/// Whether an identifier is the next one of the same replica.
+fn is_next(last: &ElementId, id: &ElementId) -> bool
+    ensures { result ≡ follows last.now id.now }
+{
+    id.replica == last.replica && id.counter > last.counter && id.counter - last.counter == 1
+}
+
+/// Whether a new cell directly behind this one continues its run.
+pub(crate) fn is_continued(last: &Head, new: &Head) -> bool
+    ensures { result ≡ continues (Some (lettered last.now 0)) new.now.id new.now.left new.now.right }
+{
+    if new.left != Some(last.id) {
+        return false;
+    }
+    if !is_next(&last.id, &new.id) {
+        return false;
+    }
+    new.right == last.right && !last.hidden
+}
+
+// That the counter fits is told where it is read.
+fn counter_of(id: &ElementId) -> u32
+    ensures is { result ≡ id.now.counter }
+    ensures fits { result < 2 ^ 32 }
+{
+    id.counter
+}
+
+impl Runs {
+    /// What the cell of an origin says of itself.
+    fn origin(&self, origin: &Option<ElementId>) -> Option<Head>
+        requires { AreRuns self.now }
+        ensures is { result ≡ option_map head_of (cell_of_origin (cells_in self.now) origin.now) }
+        ensures depths { IfSome result (λ h. h.key.depth ≤ length (cells_in self.now)) }
+        ensures forests { IfSome result (λ h. h.key.forest ≤ length (cells_in self.now)) }
+    {
+        match origin {
+            Some(id) => self.head(*id),
+            None => None,
+        }
+    }
+
+    /// One more than the forest of the right origin, where that has the same left origin.
+    fn forest_beside(&self, left: &Option<ElementId>, right: &Option<ElementId>) -> u32
+        requires sound { AreRuns self.now }
+        requires room { length (cells_in self.now) < MOST_OPERATIONS }
+        ensures is { result ≡ forest_by (cells_in self.now) left.now right.now }
+        ensures small { result ≤ suc (length (cells_in self.now)) }
+    {
+        match self.origin(right) {
+            Some(beside) => {
+                if beside.left == *left {
+                    beside.key.forest + 1
+                } else {
+                    0
+                }
+            }
+            None => 0,
+        }
+    }
+
+    /// The depth of the left origin, and whether that has the right origin itself.
+    fn parent(&self, left: &Option<ElementId>, right: &Option<ElementId>) -> (u32, bool)
+        requires { AreRuns self.now }
+        ensures depth { result.0 ≡ depth_under (cells_in self.now) left.now }
+        ensures small { result.0 ≤ length (cells_in self.now) }
+        ensures shares { result.1 ≡ shares_right (cells_in self.now) left.now right.now }
+    {
+        match self.origin(left) {
+            Some(parent) => (parent.key.depth, parent.right == *right),
+            None => (0, false),
+        }
+    }
+
+    /// What a new cell with these origins says of itself.
+    pub(crate) fn new_head(
+        &self,
+        id: ElementId,
+        left: Option<ElementId>,
+        right: Option<ElementId>,
+    ) -> Head
+        requires sound { AreRuns self.now }
+        requires room { length (cells_in self.now) < MOST_OPERATIONS }
+        requires fresh { Contains (ids (cells_in self.now)) id → ⊥ }
+        ensures new { IsNew (cells_in self.now) result }
+        ensures cell { (ch : ℕ) → lettered result ch ≡ new_cell (cells_in self.now) id left right ch }
+    {
+        let _ = counter_of(&id);
+        let (depth, shares) = self.parent(&left, &right);
+        let forest = if shares {
+            0
+        } else {
+            self.forest_beside(&left, &right)
+        };
+        Head {
+            id,
+            left,
+            right,
+            hidden: false,
+            key: Key {
+                depth: depth + 1,
+                forest,
+            },
+        }
+    }
+}

@@ -1,0 +1,90 @@
+// Cells of a run, and parts of it as runs.
+ghost use Rattle.std.specs.Prelude.{◌≡◌, ◌+◌, ◌<◌, ◌≤◌, ◌^◌};
+ghost use Rattle.run_store.specs.Heads.{head_behind, id_behind as id_by};
+ghost use Rattle.run_store.specs.Runs.{first_of, run_from as rest_by, run_to as front_by};
+
+use crate::head::Head;
+use crate::run::Run;
+use fugue_ids::{ElementId, Key};
+
+/// The identifier n behind another one of the same replica.
+fn id_behind(id: ElementId, n: u32) -> ElementId
+    requires { id.counter + n < 2 ^ 32 }
+    ensures { result ≡ id_by n id }
+{
+    ElementId {
+        replica: id.replica,
+        counter: id.counter + n,
+    }
+}
+
+/// The cell of a run behind n others.
+pub(crate) fn cell_at(run: &Run, n: u32) -> Head
+    requires counters { run.now.id.counter + n < 2 ^ 32 }
+    requires depths { run.now.key.depth + n < 2 ^ 32 }
+    ensures { result ≡ head_behind n (first_of run.now) }
+{
+    if n == 0 {
+        return Head {
+            id: run.id,
+            left: run.left,
+            right: run.right,
+            hidden: run.hidden,
+            key: run.key,
+        };
+    }
+    Head {
+        id: id_behind(run.id, n),
+        left: Some(id_behind(run.id, n - 1)),
+        right: run.right,
+        hidden: run.hidden,
+        key: Key {
+            depth: run.key.depth + n,
+            forest: 0,
+        },
+    }
+}
+
+/// The first identifier of a run, under which it is kept.
+pub(crate) fn key_of(run: &Run) -> ElementId
+    ensures { result ≡ run.now.id }
+{
+    run.id
+}
+
+/// The cells of a run before the place n, as a run.
+pub(crate) fn run_to(run: &Run, n: u32) -> Run
+    ensures { result ≡ front_by n run.now }
+{
+    Run {
+        id: run.id,
+        left: run.left,
+        right: run.right,
+        hidden: run.hidden,
+        key: run.key,
+        stretch: run.stretch,
+        start: run.start,
+        len: n,
+    }
+}
+
+/// The cells of a run from the place n on, as a run.
+pub(crate) fn run_from(run: &Run, n: u32) -> Run
+    requires counters { run.now.id.counter + n < 2 ^ 32 }
+    requires depths { run.now.key.depth + n < 2 ^ 32 }
+    requires within { n ≤ run.now.len }
+    requires fits { run.now.start + n < 2 ^ 64 }
+    ensures { result ≡ rest_by n run.now }
+{
+    let first = cell_at(run, n);
+    Run {
+        id: first.id,
+        left: first.left,
+        right: first.right,
+        hidden: first.hidden,
+        key: first.key,
+        stretch: run.stretch,
+        start: run.start + n as usize,
+        len: run.len - n,
+    }
+}

@@ -1,0 +1,93 @@
+ghost use Rattle.std.specs.Prelude.{◌≡◌, ◌≢◌, ◌↔◌, ◌<◌, ◌≤◌, [], AllPairs, Contains, IsTrue, length, map, true, OnErr, OnOk, slice_get};
+ghost use Rattle.std.specs.List.{insert};
+ghost use Rattle.std.specs.Str.{encode_utf8_all};
+ghost use Rattle.fugue_ids.specs.Gathers.{GathersText};
+ghost use Rattle.fugue_ids.specs.Outs.{WritesText};
+ghost use Rattle.origin_model.specs.sides.Slot.{IsBeside};
+ghost use Rattle.origin_model.specs.sides.KeyedGap.{gap_index};
+ghost use Rattle.origin_model.specs.edits.Landing.{following};
+ghost use Rattle.run_store.specs.Cells.{hiding, ids, is_hidden as hidden_in, keyed, origins_of, text, visible_cells};
+ghost use Rattle.run_store.specs.NewCells.{continues, new_cell};
+ghost use Rattle.run_store.specs.Stored.{IsAloneWhereEmpty, IsRaised};
+
+use crate::letters::Letters;
+use crate::runs::Runs;
+use crate::shown::Shown;
+use fugue_ids::{ElementId, Failed, Gap, Gather, MOST_OPERATIONS, NoMemory, Out};
+use node_rope::Rope;
+use outer_ports::Sink;
+use std::alloc::Global;
+use std::marker::Model;
+
+/// The cells of a place in order, kept in runs.
+#[derive(Drop)]
+pub struct RunStore {
+    pub(crate) runs: Runs,
+}
+
+impl Model for RunStore {
+    ghost use Rattle.std.specs.Prelude.{length};
+    ghost use Rattle.run_store.specs.Stored.{Stored};
+
+    ghost Value = { Stored };
+
+    ghost use Rattle.run_store.specs.Runs.{AreRuns, cells_in};
+
+    ghost view = { λ s. record { cells = cells_in s.runs; runs = length s.runs.rope } };
+
+    ghost invariant = { λ s. AreRuns s.runs };
+}
+
+impl RunStore {
+    /// A store without cells. It takes no memory.
+    pub fn new(alloc: Global) -> RunStore
+        ensures { result ≡ record { cells = []; runs = 0 } }
+    {
+        RunStore {
+            runs: Runs {
+                rope: Rope::new(alloc),
+                letters: Letters::new(alloc),
+                count: 0,
+            },
+        }
+    }
+
+    /// One cell more, in the gap, which is not hidden. After want of memory a run may be parted.
+    pub fn insert(
+        &mut self,
+        gap: Gap,
+        id: ElementId,
+        left: Option<ElementId>,
+        right: Option<ElementId>,
+        ch: char,
+    ) -> Result<(), NoMemory>
+        requires fresh { Contains (ids self.old.cells) id → ⊥ }
+        requires beside { IsBeside gap (ids self.old.cells) }
+        requires alone { IsAloneWhereEmpty gap self.old.cells }
+        requires room { length self.old.cells < MOST_OPERATIONS }
+        ensures ok { OnOk result (self.new.cells ≡ insert self.old.cells (gap_index gap (ids self.old.cells)) (new_cell self.old.cells id left right ch)) }
+        ensures err { OnErr result (self.new.cells ≡ self.old.cells) }
+        ensures continued { OnOk result (continues self.old.cells gap id left right ≡ true → self.new.runs ≡ self.old.runs) }
+        ensures raised { OnOk result (IsRaised 2 self.old.runs self.new.runs) }
+        ensures refused { OnErr result (IsRaised 1 self.old.runs self.new.runs) }
+    {
+        let head = self.runs.new_head(id, left, right);
+        match gap {
+            Gap::Alone => self.runs.insert_first(&head, ch),
+            Gap::Before(at) => self.runs.insert_before(at, &head, ch),
+            Gap::After(at) => self.runs.insert_behind(at, &head, ch),
+        }
+    }
+
+    /// Hides a cell, which may part its run. A hidden cell stays as it is.
+    pub fn hide(&mut self, id: ElementId) -> Result<(), NoMemory>
+        requires held { Contains (ids self.old.cells) id }
+        ensures ok { OnOk result (self.new.cells ≡ map (hiding id) self.old.cells) }
+        ensures err { OnErr result (self.new.cells ≡ self.old.cells) }
+        ensures raised { OnOk result (IsRaised 2 self.old.runs self.new.runs) }
+        ensures refused { OnErr result (IsRaised 1 self.old.runs self.new.runs) }
+        ensures again { hidden_in self.old.cells id ≡ true → self.new ≡ self.old }
+    {
+        self.runs.hide(id)
+    }
+}

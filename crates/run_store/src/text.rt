@@ -1,0 +1,72 @@
+// The letters that are not hidden.
+ghost use Rattle.std.specs.Prelude.{◌≡◌, ◌<◌, ◌≤◌, ◌+◌, ◌^◌, [], Some, length, slice_get, slice_index_or};
+ghost use Rattle.std.specs.Str.{encode_utf8_all};
+ghost use Rattle.fugue_ids.specs.Gathers.{GathersText};
+ghost use Rattle.fugue_ids.specs.Identifiers.{Identifier};
+ghost use Rattle.run_store.specs.Cells.{text};
+ghost use Rattle.run_store.specs.Runs.{AreRuns, cells_in, cells_of};
+ghost use Rattle.run_store.specs.declared.run.Run.{Run};
+
+use crate::letters::Letters;
+use crate::run::Run;
+use crate::runs::Runs;
+use fugue_ids::{Failed, Gather, Out};
+
+/// Puts the letters, in order.
+fn put_letters<O: Out>(letters: &[char], gather: &mut Gather, output: &mut O) -> Result<(), Failed>
+    ensures { GathersText (O.seen output.old) (O.seen output.new) gather.old gather.new result (encode_utf8_all letters.now) }
+{
+    'letters: for ch in letters {
+        gather.put_scalar(output, *ch)?;
+    }
+    Ok(())
+}
+
+/// Puts the letters of a run, if it is not hidden.
+fn put_run<O: Out>(
+    letters: &Letters,
+    run: &Run,
+    gather: &mut Gather,
+    output: &mut O,
+) -> Result<(), Failed>
+    requires few { run.now.start + run.now.len < 2 ^ 31 }
+    requires within { run.now.start + run.now.len ≤ length (slice_index_or letters.now run.now.stretch []) }
+    ensures { GathersText (O.seen output.old) (O.seen output.new) gather.old gather.new result (encode_utf8_all (text (cells_of letters.now run.now))) }
+{
+    if run.hidden {
+        return Ok(());
+    }
+    let end = run.start + run.len as usize;
+    let all = letters.stretch(run.stretch);
+    put_letters(&all[run.start..end], gather, output)
+}
+
+impl Runs {
+    /// Puts the letters of the run behind this many others.
+    fn put_run_at<O: Out>(
+        &self,
+        place: usize,
+        gather: &mut Gather,
+        output: &mut O,
+    ) -> Result<(), Failed>
+        requires sound { AreRuns self.now }
+        requires inside { place < length self.now.rope }
+        ensures { (x : Identifier × Run) → slice_get self.now.rope place ≡ Some x → GathersText (O.seen output.old) (O.seen output.new) gather.old gather.new result (encode_utf8_all (text (cells_of self.now.letters x.1))) }
+    {
+        match self.run_at(place) {
+            Some(run) => put_run(&self.letters, &run, gather, output),
+            None => Ok(()),
+        }
+    }
+
+    /// Puts the letters of all runs that are not hidden.
+    pub(crate) fn put_text<O: Out>(&self, gather: &mut Gather, output: &mut O) -> Result<(), Failed>
+        requires { AreRuns self.now }
+        ensures { GathersText (O.seen output.old) (O.seen output.new) gather.old gather.new result (encode_utf8_all (text (cells_in self.now))) }
+    {
+        'runs: for place in 0..self.rope.len() {
+            self.put_run_at(place, gather, output)?;
+        }
+        Ok(())
+    }
+}

@@ -1,0 +1,190 @@
+-- A store that has the nodes of a place in order has their keys, gives a new one its key, and has the longer list of nodes once it is put in.
+use Rattle.std.proofs.Common.{Bool, List, [], ap, arith, false, inl, inr, length, refl, subst, suc, sym, true, ℕ, ◌∙◌, ◌∷◌, ◌≡◌, ◌≢◌, ◌≤◌, zero}
+use Rattle.std.specs.Prelude.{Err, None, Ok, OnErr, OnOk, Option, Result, Some, if◌then◌else◌, is_some, map}
+use Rattle.std.specs.List.{All, Contains, insert}
+use Rattle.std.proofs.lemmas.Bool.{cases_Bool, false≢true, true≢false}
+use Rattle.std.proofs.lemmas.List.Elements.{All-contains, All-head, All-map, All-tail}
+use Rattle.fugue_ids.specs.Identifiers.{Identifier, id_eq, origin_eq}
+use Rattle.fugue_ids.specs.declared.key.Key.{Key}
+use Rattle.fugue_ids.specs.declared.op.Op.{Op}
+use Rattle.fugue_ids.proofs.IdentifierLemmas.{cases_id, eq-id_eq, id_eq-true, ne-id_eq, origin_eq-true}
+use Rattle.fugue_ids.proofs.ListLemmas.{all_from_contains, all_insert, contains_cases, contains_here, contains_map_from, contains_none, contains_there}
+use Rattle.fugue_ids.specs.Keys.{Keyed}
+use Rattle.origin_model.specs.operations.History.{holder, left_of}
+use Rattle.origin_model.specs.operations.Verdict.{Lawful}
+use Rattle.origin_model.specs.order.Order.{has_left, right_beside}
+use Rattle.origin_model.specs.sides.Keys.{depth_above, forest_above, forest_of, key_of, keyed as keyed_in, keyed_as, keyed_order, new_key}
+use Rattle.origin_model.specs.sides.Node.{AreNodes, IsNew, as_op, as_ops, find_node, has_node, has_origin, node_order}
+use Rattle.origin_model.specs.declared.sides.node.Node.{Node}
+use Rattle.origin_model.proofs.SharedLemmas.{holder-nodes, key-other, never_both, newest_key, nodes-lawful, nodes_listed, op_of}
+use Rattle.run_store.specs.Cells.{cell_of, hiding, ids, keyed}
+use Rattle.run_store.specs.NewCells.{depth_of, depth_under, forest_beside, forest_of as forest_held, has_right, new_cell, new_key as stored_key, shares_right}
+use Rattle.run_store.specs.declared.cell.Cell.{Cell as StoredCell}
+use Rattle.section_list.specs.Kept.{IsOfNode, KeepsNodes, node_of}
+
+-- the keys of cells that have those of their nodes
+keyed-each : (ns : List Node) (cs : List StoredCell) → All (IsOfNode ns) cs → keyed cs ≡ keyed_in (as_ops ns) (ids cs)
+keyed-each ns [] a = refl
+keyed-each ns (c ∷ cs) a =
+    let e = (All-head (IsOfNode ns) c cs a).key in
+    let r = keyed-each ns cs (All-tail (IsOfNode ns) c cs a) in
+    λ i. record { id = c.id; key = e i } ∷ r i
+
+-- the store lists the nodes with their keys
+pub keyed_kept : (ns : List Node) (cs : List StoredCell) → KeepsNodes ns cs → keyed cs ≡ keyed_order ns
+keyed_kept ns cs k = keyed-each ns cs k.each ∙ ap (keyed_in (as_ops ns)) k.in_order
+
+-- the first cell of an identifier
+pub record Found (cs : List StoredCell) (x : Identifier) : Type 0 where
+  pub cell : StoredCell
+  pub found : cell_of cs x ≡ Some cell
+  pub own : cell.id ≡ x
+  pub member : Contains cs cell
+
+-- a member has one
+find_cell : (cs : List StoredCell) (x : Identifier) → Contains (ids cs) x → Found cs x
+find_cell [] x m = absurd (contains_none x m)
+find_cell (c ∷ cs) x m =
+    elim (cases_id c.id x) [
+      | inl d ↦ record { cell = c; found = ap (λ b. if b then Some c else cell_of cs x) (eq-id_eq c.id x d); own = d; member = contains_here c cs }
+      | inr n ↦
+          let r = find_cell cs x (elim (contains_cases c.id (ids cs) x m) [ inl d ↦ absurd (n d) | inr j ↦ j ]) in
+          record { cell = r.cell; found = ap (λ b. if b then Some c else cell_of cs x) (ne-id_eq c.id x n) ∙ r.found; own = r.own; member = contains_there c cs r.cell r.member }
+    ]
+
+-- a store with the nodes in order
+module _ (ns : List Node) (cs : List StoredCell) (k : KeepsNodes ns cs) where
+  -- the nodes as a history
+  abbrev h : List Op
+  h = as_ops ns
+
+  -- the cell of a node
+  cell_at : (x : Identifier) → has_node ns x ≡ true → Found cs x
+  cell_at x n = find_cell cs x (subst (λ t. Contains t x) (sym k.in_order) ((nodes_listed ns k.are_nodes x).0 n))
+
+  -- has the node's origins
+  held_at : (x : Identifier) (f : Found cs x) → holder h x ≡ Some (as_op (node_of f.cell))
+  held_at x f =
+      let o = All-contains (IsOfNode ns) cs f.cell k.each f.member in
+      holder-nodes ns x ∙ ap op_of (ap (find_node ns) (sym f.own) ∙ o.node)
+
+  -- and the node's key
+  key_at : (x : Identifier) (f : Found cs x) → f.cell.key ≡ key_of h x
+  key_at x f = (All-contains (IsOfNode ns) cs f.cell k.each f.member).key ∙ ap (key_of h) f.own
+
+  -- a new cell is deeper by one than its left origin
+  depth_kept : (l : Option Identifier) → has_origin ns l ≡ true → depth_under cs l ≡ depth_above h l
+  depth_kept None o = refl
+  depth_kept (Some l) o = let f = cell_at l o in ap depth_of f.found ∙ ap (λ (z : Key). z.depth) (key_at l f)
+
+  -- what has this left origin
+  left_kept : (r : Identifier) (l : Option Identifier) (f : Found cs r) → has_left h r l ≡ origin_eq f.cell.left l
+  left_kept r l f = ap (λ (o : Option Op). elim o [ None ↦ false | Some op ↦ origin_eq (left_of op) l ]) (held_at r f)
+
+  -- its forest is greater by one than that of its right origin, where that has the same left origin
+  beside_kept : (l r : Option Identifier) → has_origin ns r ≡ true → forest_beside cs l r ≡ forest_above h (right_beside h l r)
+  beside_kept l None o = refl
+  beside_kept l (Some r) o =
+      let f = cell_at r o in
+      ap (λ c. forest_held c l) f.found
+      ∙ elim (cases_Bool (origin_eq f.cell.left l)) [
+        | inl t ↦ ap (λ b. if b then suc f.cell.key.forest else 0) t ∙ ap (λ (z : Key). suc z.forest) (key_at r f) ∙ ap (λ b. forest_above h (if b then Some r else None)) (sym (left_kept r l f ∙ t))
+        | inr t ↦ ap (λ b. if b then suc f.cell.key.forest else 0) t ∙ ap (λ b. forest_above h (if b then Some r else None)) (sym (left_kept r l f ∙ t))
+      ]
+
+  -- where the left origin has the right origin itself, that has another left origin
+  shared_apart : (l r : Option Identifier) → has_origin ns l ≡ true → has_origin ns r ≡ true → shares_right cs l r ≡ true → forest_above h (right_beside h l r) ≡ 0
+  shared_apart None r p q s = absurd (false≢true s)
+  shared_apart (Some l) None p q s = refl
+  shared_apart (Some l) (Some r) p q s =
+      let f = cell_at l p in
+      let g = cell_at r q in
+      let right : f.cell.right ≡ Some r = origin_eq-true f.cell.right (Some r) (sym (ap (λ c. has_right c (Some r)) f.found) ∙ s) in
+      elim (cases_Bool (has_left h r (Some l))) [
+        | inr t ↦ ap (λ b. forest_above h (if b then Some r else None)) t
+        | inl t ↦
+            let left : g.cell.left ≡ Some l = origin_eq-true g.cell.left (Some l) (sym (left_kept r (Some l) g) ∙ t) in
+            absurd (never_both h l r (as_op (node_of f.cell)) (as_op (node_of g.cell)) (nodes-lawful ns k.are_nodes) (held_at l f) (held_at r g) right left)
+      ]
+
+  -- so the store gives a new cell its key
+  pub new_key_kept : (l r : Option Identifier) → has_origin ns l ≡ true → has_origin ns r ≡ true → stored_key cs l r ≡ new_key h l r
+  new_key_kept l r p q =
+      let d = depth_kept l p in
+      let f : (if shares_right cs l r then 0 else forest_beside cs l r) ≡ forest_above h (right_beside h l r) = elim (cases_Bool (shares_right cs l r)) [
+        | inl s ↦ ap (λ b. if b then 0 else forest_beside cs l r) s ∙ sym (shared_apart l r p q s)
+        | inr s ↦ ap (λ b. if b then 0 else forest_beside cs l r) s ∙ beside_kept l r q
+      ] in
+      λ i. record { depth = suc (d i); forest = f i }
+
+  -- a new node
+  module _ (n : Node) (new : IsNew ns n) where
+    -- an older cell is not its
+    apart : (c : StoredCell) → IsOfNode ns c → n.id ≢ c.id
+    apart c o d = true≢false (sym (ap is_some (ap (find_node ns) d ∙ o.node)) ∙ new.fresh)
+
+    -- older cells keep their nodes and keys
+    stays : (c : StoredCell) → IsOfNode ns c → IsOfNode (n ∷ ns) c
+    stays c o =
+        let other : id_eq n.id c.id ≡ false = ne-id_eq n.id c.id (apart c o) in
+        record {
+          node = ap (λ b. if b then Some n else find_node ns c.id) other ∙ o.node;
+          key = o.key ∙ sym (ap (λ (z : Keyed). z.key) (key-other (as_op n) h c.id other));
+        }
+
+    -- the new cell has the new node
+    own_cell : (ch : ℕ) → IsOfNode (n ∷ ns) (new_cell cs n.id n.left n.right ch)
+    own_cell ch = record {
+      node = ap (λ b. if b then Some n else find_node ns n.id) (eq-id_eq n.id n.id refl);
+      key = new_key_kept n.left n.right new.left new.right ∙ sym (newest_key (as_op n) h n.id (eq-id_eq n.id n.id refl));
+    }
+
+    -- the identifiers with one more
+    ids-insert : (cells : List StoredCell) (i : ℕ) (c : StoredCell) → ids (insert cells i c) ≡ insert (ids cells) i c.id
+    ids-insert cells zero c = refl
+    ids-insert [] (suc i) c = refl
+    ids-insert (d ∷ cells) (suc i) c = ap (λ t. d.id ∷ t) (ids-insert cells i c)
+
+    -- the store with the new cell has the longer list of nodes
+    pub keeps_more : (i ch : ℕ) → node_order (n ∷ ns) ≡ insert (ids cs) i n.id → KeepsNodes (n ∷ ns) (insert cs i (new_cell cs n.id n.left n.right ch))
+    keeps_more i ch e =
+        let c : StoredCell = new_cell cs n.id n.left n.right ch in
+        record {
+          are_nodes = (new, k.are_nodes);
+          in_order = ids-insert cs i c ∙ sym e;
+          each = all_insert (IsOfNode (n ∷ ns)) cs i c (own_cell ch) (all_from_contains (IsOfNode (n ∷ ns)) cs (λ d m. stays d (All-contains (IsOfNode ns) cs d k.each m)));
+        }
+
+  -- a hidden cell keeps its node
+  hides : (x : Identifier) (c : StoredCell) → IsOfNode ns c → IsOfNode ns (hiding x c)
+  hides x c o = elim (id_eq c.id x) as (λ b. IsOfNode ns (if b then record c { hidden = true } else c)) [ true ↦ record { node = o.node; key = o.key } | false ↦ o ]
+
+  -- the identifiers stay
+  ids-hiding : (x : Identifier) (cells : List StoredCell) → ids (map (hiding x) cells) ≡ ids cells
+  ids-hiding x [] = refl
+  ids-hiding x (c ∷ cells) =
+      let e : (hiding x c).id ≡ c.id = elim (id_eq c.id x) as (λ b. (if b then record c { hidden = true } else c).id ≡ c.id) [ true ↦ refl | false ↦ refl ] in
+      λ i. e i ∷ ids-hiding x cells i
+
+  -- so the store keeps the nodes
+  pub keeps_hidden : (x : Identifier) → KeepsNodes ns (map (hiding x) cs)
+  keeps_hidden x = record {
+    are_nodes = k.are_nodes;
+    in_order = ids-hiding x cs ∙ k.in_order;
+    each = All-map (IsOfNode ns) (hiding x) cs (all_from_contains (λ c. IsOfNode ns (hiding x c)) cs (λ c m. hides x c (All-contains (IsOfNode ns) cs c k.each m)));
+  }
+
+-- what follows where there is a value
+pub on_ok : {T E A B : Type 0} (r : Result T E) → (A → B) → OnOk r A → OnOk r B
+on_ok (Ok v) f k = f k
+on_ok (Err e) f k = k
+
+-- what follows where there is an error
+pub on_err : {T E A B : Type 0} (r : Result T E) → (A → B) → OnErr r A → OnErr r B
+on_err (Ok v) f k = k
+on_err (Err e) f k = f k
+
+-- whether or not the cell was hidden, the store keeps the nodes
+pub kept_hidden : {T E : Type 0} (ns : List Node) (cs after : List StoredCell) (x : Identifier) → KeepsNodes ns cs → (r : Result T E) → OnOk r (after ≡ map (hiding x) cs) → OnErr r (after ≡ cs) → KeepsNodes ns after
+kept_hidden ns cs after x k (Ok v) ok err = subst (KeepsNodes ns) (sym ok) (keeps_hidden ns cs k x)
+kept_hidden ns cs after x k (Err e) ok err = subst (KeepsNodes ns) (sym err) k

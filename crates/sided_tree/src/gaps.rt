@@ -1,0 +1,72 @@
+ghost use Rattle.std.specs.Prelude.{◌≡◌, ◌↔◌, ◌∷◌, All, true};
+ghost use Rattle.fugue_ids.specs.Keys.{IsFit, first_id, ids, rest_of};
+ghost use Rattle.origin_model.specs.sides.KeyedGap.{before_all as before_all_in, gap_between as gap_between_in, gap_by_keys as gap_by_keys_in, no_elder_gap as no_elder_gap_in, slot_key as slot_key_of};
+ghost use Rattle.origin_model.specs.sides.Keys.{keyed_order};
+ghost use Rattle.origin_model.specs.sides.Node.{AreNodes, as_op, as_ops, node_order};
+ghost use Rattle.origin_model.specs.sides.Slot.{goes_before, slot_by};
+ghost use Rattle.sided_tree.specs.SlotKeys.{HoldsElement};
+
+use crate::blocks::{block_end, block_start};
+use crate::elders::last_elder;
+use crate::nodes::Nodes;
+use crate::slots::{slot_key, slot_part};
+use fugue_ids::{ElementId, Gap, Key, OrderOf};
+use origin_model::{Node, Slot};
+
+/// The gap of a new node, by the siblings in its slot.
+pub(crate) fn gap_by_keys<F: OrderOf>(nodes: &Nodes, order: &F, node: &Node) -> Gap
+    requires new { AreNodes (node.now ∷ nodes.now) }
+    requires list { F.listed order.now ≡ keyed_order nodes.now }
+    ensures gap { result ≡ gap_by_keys_in (F.listed order.now) (slot_by (as_ops nodes.now) node.now.left node.now.right)
+        (slot_key_of (as_ops nodes.now) (slot_by (as_ops nodes.now) node.now.left node.now.right)) (goes_before (node_order nodes.now) (as_ops nodes.now) (as_op node.now) node.now.id) }
+    ensures fit { All IsFit (F.listed order.now) }
+{
+    let slot = nodes.slot(node.left, node.right);
+    let key = slot_key(order, &slot);
+    let Some(part) = slot_part(order, &slot, key) else {
+        return no_elder_gap(order, &slot, key);
+    };
+    match last_elder(nodes, order, node, &part) {
+        Some(elder) => Gap::After(block_end(order, part.key.depth, elder)),
+        None => no_elder_gap(order, &slot, key),
+    }
+}
+
+/// The gap of a new child of the slot, whose element has this key, where no sibling goes before it.
+fn no_elder_gap<F: OrderOf>(order: &F, slot: &Slot, key: Key) -> Gap
+    requires held { HoldsElement (ids (F.listed order.now)) slot.now }
+    ensures { result ≡ no_elder_gap_in (F.listed order.now) slot.now key }
+{
+    match slot {
+        Slot::RightOf(None) => before_all(order.behind(None)),
+        Slot::RightOf(Some(left)) => Gap::After(*left),
+        Slot::LeftOf(right) => Gap::Before(block_start(order, key, *right)),
+    }
+}
+
+/// The gap before all, the first of which this is.
+fn before_all(first: Option<ElementId>) -> Gap
+    ensures { result ≡ before_all_in first }
+{
+    match first {
+        Some(first) => Gap::Before(first),
+        None => Gap::Alone,
+    }
+}
+
+/// Whether the right origin of the node directly follows the left one.
+pub(crate) fn are_beside<F: OrderOf>(order: &F, node: &Node) -> bool
+    ensures { (result ≡ true) ↔ (first_id (rest_of node.now.left (F.listed order.now)) ≡ node.now.right) }
+{
+    order.behind(node.left) == node.right
+}
+
+/// The gap between the origins of the node, which stand next to each other.
+pub(crate) fn gap_between(node: &Node) -> Gap
+    ensures { result ≡ gap_between_in node.now.left node.now.right }
+{
+    match node.left {
+        Some(left) => Gap::After(left),
+        None => before_all(node.right),
+    }
+}

@@ -1,0 +1,72 @@
+ghost use Rattle.std.specs.Prelude.{◌≡◌, ◌↔◌, ◌⊎◌, ◌≤◌, ◌^◌, ◌≢◌, All, IfSome, IsNone, None};
+ghost use Rattle.fugue_ids.specs.Keys.{IsFit, ids};
+ghost use Rattle.origin_model.specs.declared.sides.slot.Slot.TheVariants.{RightOf};
+ghost use Rattle.origin_model.specs.sides.KeyedGap.{child_key as child_key_of, part_from, part_to};
+ghost use Rattle.sided_tree.specs.SlotKeys.{HoldsElement, IsSlotKey};
+
+use crate::blocks::widest;
+use crate::part::Part;
+use fugue_ids::{ElementId, Key, OrderOf};
+use origin_model::Slot;
+
+/// The key of the element of the slot; the start has the least one.
+pub(crate) fn slot_key<F: OrderOf>(order: &F, slot: &Slot) -> Key
+    requires held { HoldsElement (ids (F.listed order.now)) slot.now }
+    ensures key { IsSlotKey (F.listed order.now) slot.now result }
+    ensures fit { slot.now ≢ RightOf None → All IsFit (F.listed order.now) }
+{
+    match slot {
+        Slot::RightOf(None) => Key {
+            depth: 0,
+            forest: 0,
+        },
+        Slot::RightOf(Some(element)) | Slot::LeftOf(element) => order.key(*element),
+    }
+}
+
+/// The key of the children of the slot, whose element has this one; None where it is too great for a key, so that there are none.
+fn child_key(slot: &Slot, key: Key) -> Option<Key>
+    ensures some { IfSome result (λ child. child ≡ child_key_of slot.now key) }
+    ensures none { IsNone result ↔ ((2 ^ 32 ≤ (child_key_of slot.now key).depth) ⊎ (2 ^ 32 ≤ (child_key_of slot.now key).forest)) }
+{
+    match slot {
+        Slot::RightOf(_) => Some(Key {
+            depth: key.depth.checked_add(1)?,
+            forest: 0,
+        }),
+        Slot::LeftOf(_) => Some(Key {
+            depth: key.depth,
+            forest: key.forest.checked_add(1)?,
+        }),
+    }
+}
+
+/// The part of the order in which the children of the slot stand, whose element has this key; None where their key is too great, so that there
+/// are none.
+pub(crate) fn slot_part<F: OrderOf>(order: &F, slot: &Slot, key: Key) -> Option<Part>
+    requires held { HoldsElement (ids (F.listed order.now)) slot.now }
+    ensures some { IfSome result (λ part. (part.from ≡ part_from (F.listed order.now) slot.now key) × (part.to ≡ part_to (F.listed order.now) slot.now key)
+        × (part.key ≡ child_key_of slot.now key)) }
+    ensures none { IsNone result ↔ ((2 ^ 32 ≤ (child_key_of slot.now key).depth) ⊎ (2 ^ 32 ≤ (child_key_of slot.now key).forest)) }
+{
+    let child = child_key(slot, key)?;
+    let (from, to) = slot_ends(order, slot, key);
+    Some(Part {
+        from,
+        to,
+        key: child,
+    })
+}
+
+/// What stands directly before and directly behind that part.
+fn slot_ends<F: OrderOf>(order: &F, slot: &Slot, key: Key) -> (Option<ElementId>, Option<ElementId>)
+    requires held { HoldsElement (ids (F.listed order.now)) slot.now }
+    ensures from { result.0 ≡ part_from (F.listed order.now) slot.now key }
+    ensures to { result.1 ≡ part_to (F.listed order.now) slot.now key }
+{
+    match slot {
+        Slot::RightOf(None) => (None, None),
+        Slot::RightOf(Some(left)) => (Some(*left), order.first_low(Some(*left), widest(key.depth))),
+        Slot::LeftOf(right) => (order.last_low(Some(*right), key), Some(*right)),
+    }
+}
