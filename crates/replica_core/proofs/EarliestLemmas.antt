@@ -1,6 +1,6 @@
 -- The earliest decided operation is the one at the first decided position, and the others are the list without it.
 use Rattle.std.proofs.Common.{◌≡◌, refl, sym, ◌∙◌, ap, subst, ℕ, suc, List, [], ◌∷◌, length, Bool, true, false, cond, arith, inl, inr, ltb}
-use Rattle.std.specs.Prelude.{All, Option, Some, None, position, remove, slice_get}
+use Rattle.std.specs.Prelude.{All, Some, None, position, remove, slice_get}
 use Rattle.std.specs.List.{position_or_len}
 use Rattle.std.proofs.lemmas.Bool.{cases_Bool}
 use Rattle.std.proofs.lemmas.List.Elements.{All-head, All-tail}

@@ -6,7 +6,7 @@ use Rattle.origin_model.specs.operations.Verdict.{verdict}
 use Rattle.origin_model.specs.declared.taking.tally.Tally.{Tally}
 use Rattle.origin_model.specs.taking.Taking.{Held, Answer, Accepted, Waits, answer, taken, is_decided, is_kept, settle, intake, answer_counted, settling_counted, intake_counted, IsSettled}
 use Rattle.replica_core.specs.Settling.{Reaches}
-use Rattle.replica_core.specs.Told.{StandsPartly, Leaves, total}
+use Rattle.replica_core.specs.Told.{JoinsNext, StandsPartly, Leaves, total}
 use Rattle.replica_core.specs.State.{State}
 use Rattle.replica_core.specs.declared.feed_fault.FeedFault.TheVariants.{NoMemory as FedNoMemory}
 use Rattle.replica_core.proofs.DecisionLemmas.{may_wait, waits_undecided}
@@ -43,11 +43,12 @@ fed_settled hold most s u op t e r settled =
     }
 
 -- an accepted operation, and some of the settling behind it
-pub fed_partly : (hold most : ℕ) (s u : Held) (op : Op) (t : Tally) → answer hold most s op ≡ Accepted → Reaches (taken Accepted s op) u
+pub fed_partly : (hold most : ℕ) (s u : Held) (op : Op) (t : Tally) → answer hold most s op ≡ Accepted → Reaches (taken Accepted s op) u → JoinsNext u
     → StandsPartly hold most s u op t (settling_counted (taken Accepted s op) u (answer_counted Accepted t))
-fed_partly hold most s u op t e r = record {
+fed_partly hold most s u op t e r stopped = record {
   steps = subst (λ b. Reaches (taken b s op) u) (sym e) r;
   counted = sym (ap (λ (b : Answer). settling_counted (taken b s op) u (answer_counted b t)) e);
+  stopped = stopped;
   goes_on = settle-reaches (taken Accepted s op) u r ∙ sym (ap (λ (b : Answer). settle (taken b s op)) e);
 }
 
@@ -124,11 +125,11 @@ accepted_fed s mid new op before after e is so settled =
 -- an accepted operation, and some of the settling behind it
 pub accepted_partly : (s mid new : State) (op : Op) (before after : Tally) → answer s.hold s.most s.held op ≡ Accepted
     → mid ≡ record s { held = taken (answer s.hold s.most s.held op) s.held op }
-    → IsSettledBehind mid new (answer_counted Accepted before) after → Leaves s new op before after FedNoMemory
-accepted_partly s mid new op before after e is so =
+    → IsSettledBehind mid new (answer_counted Accepted before) after → JoinsNext new.held → Leaves s new op before after FedNoMemory
+accepted_partly s mid new op before after e is so stopped =
     let mid_is = accepted_mid s mid op e is in
     let held_is : mid.held ≡ taken Accepted s.held op = ap (λ (x : State). x.held) mid_is in
-    let partly = fed_partly s.hold s.most s.held new.held op before e (subst (λ (h : Held). Reaches h new.held) held_is so.steps) in
+    let partly = fed_partly s.hold s.most s.held new.held op before e (subst (λ (h : Held). Reaches h new.held) held_is so.steps) stopped in
     let counted : after ≡ settling_counted (taken Accepted s.held op) new.held (answer_counted Accepted before) =
     so.counted ∙ ap (λ (h : Held). settling_counted h new.held (answer_counted Accepted before)) held_is in (
       ap is_kept e,

@@ -8,8 +8,6 @@ use Rattle.std.specs.declared.cmp.Ordering.TheVariants.{Less}
 use Rattle.std.specs.declared.ops.Bound.{Bound}
 use Rattle.std.specs.declared.ops.Bound.TheVariants.{Excluded, Included, Unbounded}
 use Rattle.std.specs.BTreeMap.Range.{IsInRange, IsRangeOf}
-use Rattle.std.specs.BTreeMap.{BTreeMap, get}
-use Rattle.std.specs.BTreeSet.{BTreeSet}
 use Rattle.std.proofs.lemmas.Bool.{cases_Bool, eq-eqb, eqb-true, true≢false}
 use Rattle.std.proofs.lemmas.List.{append-nil}
 use Rattle.std.proofs.lemmas.List.Elements.{All-append, All-weaker, Contains-append_left, Contains-append_right, Contains-append_cases}
@@ -25,8 +23,11 @@ use Rattle.origin_model.specs.operations.Verdict.{Lawful, first_missing, names, 
 use Rattle.origin_model.specs.declared.operations.role.Role.{Role}
 use Rattle.origin_model.specs.declared.operations.verdict.Verdict.TheVariants.{Ready}
 use Rattle.origin_model.proofs.SharedLemmas.{cases_held, holds-other, holds-own, missing-held, own_id, when_ready}
-use Rattle.replica_core.specs.Index.{IsGreatestHeld, IsIndex}
-use Rattle.replica_core.proofs.IndexLemmas.{has_position}
+use Rattle.replica_core.specs.Index.{IsIndex, position_of}
+use Rattle.std.specs.FinMap.{FinMap, get}
+use Rattle.stretch_map.specs.Rules.{IsGreatestIn}
+use Rattle.stretch_map.specs.declared.position.Position.{Position}
+use Rattle.replica_core.proofs.IndexLemmas.{has_position, is_some-as}
 
 -- where none is missing, each name is held
 names_held : (h : List Op) (ns : List (Identifier × Role)) (x : Identifier) → first_missing h ns ≡ None → Contains (map (λ named. named.0) ns) x → holds h x ≡ true
@@ -104,14 +105,14 @@ no_member [] none = refl
 no_member (n ∷ ns) none = absurd (none n (contains_here n ns))
 
 -- the greatest counter with a position is the greatest that the operations of the history have or name
-pub greatest_held : (r : ℕ) (m : BTreeMap Identifier ℕ) (s : BTreeSet Identifier) (h : List Op) (greatest : Option ℕ) → IsIndex m s h → Lawful h
-    → IsGreatestHeld m r greatest → IsGreatest (counters r h) greatest
-greatest_held r m s h greatest index lawful g = by_greatest greatest g
+pub greatest_held : (r : ℕ) (m t : FinMap id_cmp Position) (h : List Op) (greatest : Option ℕ) → IsIndex m t h → Lawful h
+    → IsGreatestIn (get m) r greatest → IsGreatest (counters r h) greatest
+greatest_held r m t h greatest index lawful g = by_greatest greatest g
   where
-    found : (n : ℕ) → is_some (get id_cmp m (id_at r n)) ≡ holds h (id_at r n)
-    found n = ap is_some (index.positions_are (id_at r n)) ∙ has_position h (id_at r n)
+    found : (n : ℕ) → is_some (get m (id_at r n)) ≡ holds h (id_at r n)
+    found n = ap is_some (index.positions_are (id_at r n)) ∙ is_some-as (position_of (is_own (id_at r n)) h) ∙ has_position h (id_at r n)
 
-    by_greatest : (o : Option ℕ) → IsGreatestHeld m r o → IsGreatest (counters r h) o
+    by_greatest : (o : Option ℕ) → IsGreatestIn (get m) r o → IsGreatest (counters r h) o
     by_greatest None g =
         let empty : counters r h ≡ [] = no_member (counters r h) (λ n c. absurd (true≢false (sym (counter_held r n h lawful c) ∙ sym (found n) ∙ ap is_some (g.none refl n)))) in
         record { none = (λ e. empty, λ e. refl); member = tt; bound = tt }
@@ -139,63 +140,3 @@ greatest_both ns ms n m a b =
   where
     max_one : (n m : ℕ) → (max n m ≡ n) ⊎ (max n m ≡ m)
     max_one n m = grind arith
-
--- identifiers of one replica are ordered by their counters
-counter_le : (a r c n : ℕ) → a ≡ r → is_lt (ordering_then (nat_cmp a r) (nat_cmp c n)) ≡ false → n ≤ c
-counter_le a r c n same below = grind (arith, nat_tests)
-
--- the identifiers of a replica lie from its first one on and before the first one of the next
-in_replica : (r n : ℕ) → IsInRange id_cmp (Included (id_at r 0)) (Excluded (id_at (r + 1) 0)) (id_at r n)
-in_replica r n = (not_above r n, below r n)
-  where
-    not_above : (r n : ℕ) → is_gt (ordering_then (nat_cmp r r) (nat_cmp 0 n)) ≡ false
-    not_above r n = grind (arith, nat_tests)
-
-    below : (r n : ℕ) → ordering_then (nat_cmp r (r + 1)) (nat_cmp n 0) ≡ Less
-    below r n = grind (arith, nat_tests)
-
-from_first : (r n : ℕ) → is_gt (id_cmp (id_at r 0) (id_at r n)) ≡ false
-from_first r n = (in_replica r n).0
-
-at_least : (r a c : ℕ) → is_gt (ordering_then (nat_cmp r a) (nat_cmp 0 c)) ≡ false → r ≤ a
-at_least r a c from = grind (arith, nat_tests)
-
-at_most : (r a c : ℕ) → ordering_then (nat_cmp a (r + 1)) (nat_cmp c 0) ≡ Less → a ≤ r
-at_most r a c before = grind (arith, nat_tests)
-
-module _ {A : Type 0} (key : A → Identifier) (position : A → ℕ) (r : ℕ) (m : BTreeMap Identifier ℕ) (es rest : List (Identifier × ℕ)) where
-  -- the last one of a part of the map, if there is one
-  abbrev IsLast : Option A → Type 0
-  IsLast last = MatchOption last ((es ≡ []) × (rest ≡ [])) (λ a. es ≡ rest ++ (key a, position a) ∷ [])
-
-  -- where the part has all identifiers of the replica, and the last one is such, it has the greatest counter
-  greatest_in : (lo hi : Bound Identifier) (last : Option A) → IsRangeOf id_cmp lo hi m es → IsLast last → ((n : ℕ) → IsInRange id_cmp lo hi (id_at r n))
-      → IfSome last (λ a. IsInRange id_cmp lo hi (key a) → (key a).replica ≡ r) → IsGreatestHeld m r (option_map (λ a. (key a).counter) last)
-  greatest_in lo hi None part steps inside own = record { none = λ e n. part.5 steps.0 (id_at r n) (inside n); held = tt; bound = tt }
-  greatest_in lo hi (Some a) part steps inside own =
-      let entry = part.3 (key a, position a) rest steps in
-      let mine : (key a).replica ≡ r = own entry.0 in
-      record {
-        none = λ e. absurd (true≢false e);
-        held = subst (λ (x : Identifier). IsSome (get id_cmp m x)) (λ i. record { replica = mine i; counter = (key a).counter }) (ap is_some entry.1);
-        bound = λ n some. counter_le (key a).replica r (key a).counter n mine (part.4 (key a, position a) rest steps (id_at r n) (inside n) some);
-      }
-
-  -- the part from the replica's first identifier on and before that of the next replica
-  pub greatest_before : (next : ℕ) (last : Option A) → next ≡ r + 1 → IsRangeOf id_cmp (Included (id_at r 0)) (Excluded (id_at next 0)) m es → IsLast last
-      → IsGreatestHeld m r (option_map (λ a. (key a).counter) last)
-  greatest_before next last is part steps =
-      greatest_in (Included (id_at r 0)) (Excluded (id_at (r + 1) 0)) last (subst (λ (n : ℕ). IsRangeOf id_cmp (Included (id_at r 0)) (Excluded (id_at n 0)) m es) is part) steps (in_replica r) (own last)
-    where
-      own : (o : Option A) → IfSome o (λ a. IsInRange id_cmp (Included (id_at r 0)) (Excluded (id_at (r + 1) 0)) (key a) → (key a).replica ≡ r)
-      own None = tt
-      own (Some a) = λ inside. omega (arith, at_least r (key a).replica (key a).counter inside.0, at_most r (key a).replica (key a).counter inside.1)
-
-  -- the part from the first identifier of the last replica on
-  pub greatest_from : (last : Option A) → (r + 1 < 2 ^ 32 → ⊥) → IsRangeOf id_cmp (Included (id_at r 0)) Unbounded m es → IsLast last
-      → IfSome last (λ a. (key a).replica < 2 ^ 32) → IsGreatestHeld m r (option_map (λ a. (key a).counter) last)
-  greatest_from last no_next part steps fits = greatest_in (Included (id_at r 0)) Unbounded last part steps (λ n. (from_first r n, tt)) (own last fits)
-    where
-      own : (o : Option A) → IfSome o (λ a. (key a).replica < 2 ^ 32) → IfSome o (λ a. IsInRange id_cmp (Included (id_at r 0)) Unbounded (key a) → (key a).replica ≡ r)
-      own None fits = tt
-      own (Some a) fits = λ inside. omega (arith, at_least r (key a).replica (key a).counter inside.0, fits, no_next)

@@ -1,13 +1,13 @@
 -- What an index finds in a history, and what it is as the newest operation goes.
-use Rattle.std.proofs.Common.{Bool, List, [], ap, arith, false, inl, inr, length, refl, reverse, subst, suc, sym, true, zero, ℕ, ◌++◌, ◌<◌, ◌||◌, ◌∙◌, ◌∷◌, ◌≡◌}
-use Rattle.std.specs.Prelude.{None, Option, Some, is_some, slice_get}
-use Rattle.std.specs.BTreeMap.{BTreeMap, Updates, get}
-use Rattle.std.specs.BTreeSet.{BTreeSet, Updates as UpdatesSet, contains}
+use Rattle.std.proofs.Common.{Bool, List, [], ap, arith, false, inl, inr, length, refl, reverse, subst, suc, sym, true, zero, ℕ, ◌++◌, ◌<◌, ◌||◌, ◌∙◌, ◌∷◌, ◌≡◌, ◌≢◌, ◌+◌}
+use Rattle.std.specs.Prelude.{None, Option, Some, cond, is_some, option_map, slice_get}
+use Rattle.std.specs.FinMap.{FinMap, get, get-insert, get-remove, insert, remove}
+use Rattle.std.specs.Ordering.{is_eq}
 use Rattle.std.proofs.lemmas.Bool.{cases_Bool, false_from_ne_true, true≢false}
 use Rattle.std.proofs.lemmas.List.{length-reverse, reverse-append, reverse-reverse}
 use Rattle.fugue_ids.specs.Identifiers.{Identifier, id_cmp, origin_eq}
 use Rattle.fugue_ids.specs.Ops.{id_of, op_eq}
-use Rattle.fugue_ids.proofs.IdentifierLemmas.{cases_id, id_at-other, id_eq-refl, ne-id_eq}
+use Rattle.fugue_ids.proofs.IdentifierLemmas.{cases_id, id_at-other, id_at-same, id_eq-refl, ne-id_eq}
 use Rattle.fugue_ids.proofs.OpLemmas.{op_eq-refl, op_eq-true}
 use Rattle.std.proofs.lemmas.Option.{none-some}
 use Rattle.fugue_ids.specs.declared.op.Op.{Op}
@@ -16,7 +16,11 @@ use Rattle.origin_model.specs.operations.History.{has_op, holder, holds, is_own}
 use Rattle.origin_model.specs.operations.Verdict.{Lawful, id_held, verdict}
 use Rattle.origin_model.specs.declared.operations.verdict.Verdict.TheVariants.{Ready}
 use Rattle.origin_model.proofs.SharedLemmas.{has-holder, holder-has, holder-other, holder-own, holds-other, holds-own, ready_absent, when_ready}
-use Rattle.replica_core.specs.Index.{IsIndex, position_of_own}
+use Rattle.replica_core.specs.Index.{ArePositions, IsIndex, IsUnnoted, as_position, is_delete_of, position_of}
+use Rattle.stretch_map.specs.Ahead.{ahead}
+use Rattle.stretch_map.specs.Rules.{IsFollowed, later}
+use Rattle.stretch_map.specs.declared.position.Position.{Position}
+use Rattle.stretch_map.proofs.OrderLemmas.{id_cmp_total}
 
 -- a Ready operation is not there, and neither is its identifier
 pub is_new : (h : List Op) (op : Op) → verdict h op ≡ Ready → (has_op h op ≡ false) × (id_held h (id_of op) ≡ false)
@@ -27,52 +31,133 @@ none_from None e = refl
 none_from (Some x) e = absurd (true≢false e)
 
 -- the newest operation has the position behind the others
-position-own : (op : Op) (h : List Op) (x : Identifier) → is_own x op ≡ true → position_of_own (op ∷ h) x ≡ Some (length h)
-position-own op h x e = rw (e, position_of_own)
+position-own : (test : Op → Bool) (op : Op) (h : List Op) → test op ≡ true → position_of test (op ∷ h) ≡ Some (length h)
+position-own test op h e = rw (e, position_of)
 
--- other identifiers have the positions that they had
-position-other : (op : Op) (h : List Op) (x : Identifier) → is_own x op ≡ false → position_of_own (op ∷ h) x ≡ position_of_own h x
-position-other op h x e = rw (e, position_of_own)
+-- others have the positions that they had
+position-other : (test : Op → Bool) (op : Op) (h : List Op) → test op ≡ false → position_of test (op ∷ h) ≡ position_of test h
+position-other test op h e = rw (e, position_of)
 
 -- an identifier has a position where it is held
-pub has_position : (h : List Op) (x : Identifier) → is_some (position_of_own h x) ≡ holds h x
+pub has_position : (h : List Op) (x : Identifier) → is_some (position_of (is_own x) h) ≡ holds h x
 has_position [] x = refl
 has_position (op ∷ h) x =
     elim (cases_Bool (is_own x op)) [
-      | inl own ↦ ap is_some (position-own op h x own) ∙ sym (holds-own op h x own)
-      | inr other ↦ ap is_some (position-other op h x other) ∙ has_position h x ∙ sym (holds-other op h x other)
+      | inl own ↦ ap is_some (position-own (is_own x) op h own) ∙ sym (holds-own op h x own)
+      | inr other ↦ ap is_some (position-other (is_own x) op h other) ∙ has_position h x ∙ sym (holds-other op h x other)
+    ]
+
+-- a target has one where a Delete names it
+has_target : (h : List Op) (x : Identifier) → is_some (position_of (is_delete_of x) h) ≡ has_op h (Delete x)
+has_target [] x = refl
+has_target (op ∷ h) x =
+    elim (cases_Bool (is_delete_of x op)) [
+      | inl own ↦ ap is_some (position-own (is_delete_of x) op h own) ∙ ap (λ b. b || has_op h (Delete x)) (sym own)
+      | inr other ↦ ap is_some (position-other (is_delete_of x) op h other) ∙ has_target h x ∙ ap (λ b. b || has_op h (Delete x)) (sym other)
     ]
 
 -- an operation with an identifier is no Delete
-no_delete : (op : Op) (i x : Identifier) → id_of op ≡ Some i → op_eq op (Delete x) ≡ false
+no_delete : (op : Op) (i x : Identifier) → id_of op ≡ Some i → is_delete_of x op ≡ false
 no_delete (Section j l r t) i x e = refl
 no_delete (Text j s l r c) i x e = refl
 no_delete (Delete t) i x e = cc
 
--- the newest operation, which has an identifier, was taken out
-pub forgot_position : (op : Op) (i : Identifier) (m n : BTreeMap Identifier ℕ) (s : BTreeSet Identifier) (h : List Op) → id_of op ≡ Some i
-    → Updates id_cmp m n i None → IsIndex m s (op ∷ h) → verdict h op ≡ Ready → IsIndex n s h
-forgot_position op i m n s h is u old ready =
-    let free : position_of_own h i ≡ None = none_from (position_of_own h i) (has_position h i ∙ ap (id_held h) (sym is) ∙ (is_new h op ready).1) in
+pub owns : (op : Op) (i : Identifier) → id_of op ≡ Some i → is_own i op ≡ true
+owns op i is = ap (λ o. origin_eq o (Some i)) is ∙ id_eq-refl i
+
+-- the operation with the identifier i has no other one
+no_other : (op : Op) (i x : Identifier) → id_of op ≡ Some i → x ≢ i → is_own x op ≡ false
+no_other op i x is apart = ap (λ o. origin_eq o (Some x)) is ∙ ne-id_eq i x (λ e. apart (sym e))
+
+-- what a look-up finds has a position
+pub is_some-as : (o : Option ℕ) → is_some (option_map as_position o) ≡ is_some o
+is_some-as None = refl
+is_some-as (Some k) = refl
+
+module _ (test : Identifier → Op → Bool) (m n : FinMap id_cmp Position) (op : Op) (h : List Op) where
+  -- no identifier has the newest operation
+  noted-other : ((x : Identifier) → test x op ≡ false) → ArePositions test m h → ArePositions test m (op ∷ h)
+  noted-other no_one are x = are x ∙ ap (option_map as_position) (sym (position-other (test x) op h (no_one x)))
+
+  forgot-other : ((x : Identifier) → test x op ≡ false) → ArePositions test m (op ∷ h) → ArePositions test m h
+  forgot-other no_one are x = are x ∙ ap (option_map as_position) (position-other (test x) op h (no_one x))
+
+  -- the identifier i has it, and was put in
+  noted-own : (i : Identifier) → n ≡ insert m i (as_position (length h)) → test i op ≡ true → ((x : Identifier) → x ≢ i → test x op ≡ false)
+      → ArePositions test m h → ArePositions test n (op ∷ h)
+  noted-own i is own others are x =
+      let at : get n x ≡ cond (is_eq (id_cmp x i)) (Some (as_position (length h))) (get m x) = ap (λ k. get k x) is ∙ get-insert id_cmp_total m i (as_position (length h)) x in
+      elim (cases_id x i) [
+        | inl e ↦
+            at ∙ ap (λ b. cond b (Some (as_position (length h))) (get m x)) (ap (λ y. is_eq (id_cmp y i)) e ∙ id_at-same i)
+            ∙ ap (option_map as_position) (sym (position-own (test x) op h (ap (λ y. test y op) e ∙ own)))
+        | inr e ↦
+            at ∙ ap (λ b. cond b (Some (as_position (length h))) (get m x)) (id_at-other x i (λ d. e (sym d)))
+            ∙ noted-other-at x (others x e) (are x)
+      ]
+    where
+      noted-other-at : (x : Identifier) → test x op ≡ false → get m x ≡ option_map as_position (position_of (test x) h) → get m x ≡ option_map as_position (position_of (test x) (op ∷ h))
+      noted-other-at x none at = at ∙ ap (option_map as_position) (sym (position-other (test x) op h none))
+
+  -- and was taken out
+  forgot-own : (i : Identifier) → n ≡ remove m i → position_of (test i) h ≡ None → ((x : Identifier) → x ≢ i → test x op ≡ false)
+      → ArePositions test m (op ∷ h) → ArePositions test n h
+  forgot-own i is free others are x =
+      let at : get n x ≡ cond (is_eq (id_cmp x i)) None (get m x) = ap (λ k. get k x) is ∙ get-remove id_cmp_total m i x in
+      elim (cases_id x i) [
+        | inl e ↦
+            at ∙ ap (λ b. cond b None (get m x)) (ap (λ y. is_eq (id_cmp y i)) e ∙ id_at-same i)
+            ∙ ap (option_map as_position) (sym (ap (λ y. position_of (test y) h) e ∙ free))
+        | inr e ↦
+            at ∙ ap (λ b. cond b None (get m x)) (id_at-other x i (λ d. e (sym d)))
+            ∙ are x ∙ ap (option_map as_position) (position-other (test x) op h (others x e))
+      ]
+
+-- the newest operation, which has an identifier, was put in
+pub noted_position : (op : Op) (i : Identifier) (m n t : FinMap id_cmp Position) (h : List Op) (k : ℕ) → id_of op ≡ Some i → n ≡ insert m i (as_position k) → IsIndex m t h → length h ≡ k
+    → IsIndex n t (op ∷ h)
+noted_position op i m n t h k is put index same =
     record {
-      positions_are = λ x. elim (cases_id i x) [
-        | inl e ↦ ap (get id_cmp n) (sym e) ∙ u.1 ∙ sym free ∙ ap (position_of_own h) e
-        | inr e ↦ u.2 x (id_at-other i x (λ d. e (sym d))) ∙ old.positions_are x ∙ position-other op h x (ap (λ o. origin_eq o (Some x)) is ∙ ne-id_eq i x e)
-      ];
-      targets_are = λ x. old.targets_are x ∙ ap (λ b. b || has_op h (Delete x)) (no_delete op i x is);
+      positions_are = noted-own is_own m n op h i (put ∙ ap (λ j. insert m i (as_position j)) (sym same)) (owns op i is) (λ x. no_other op i x is) index.positions_are;
+      targets_are = noted-other is_delete_of t t op h (λ x. no_delete op i x is) index.targets_are;
+    }
+
+-- a Delete was
+pub noted_target : (i : Identifier) (m s t : FinMap id_cmp Position) (h : List Op) (k : ℕ) → t ≡ insert s i (as_position k) → IsIndex m s h → length h ≡ k
+    → IsIndex m t (Delete i ∷ h)
+noted_target i m s t h k put index same =
+    record {
+      positions_are = noted-other is_own m m (Delete i) h (λ x. refl) index.positions_are;
+      targets_are = noted-own is_delete_of s t (Delete i) h i (put ∙ ap (λ j. insert s i (as_position j)) (sym same)) (id_eq-refl i) (λ x apart. ne-id_eq i x (λ e. apart (sym e))) index.targets_are;
+    }
+
+free_own : (op : Op) (i : Identifier) (h : List Op) → id_of op ≡ Some i → verdict h op ≡ Ready → position_of (is_own i) h ≡ None
+free_own op i h is ready = none_from (position_of (is_own i) h) (has_position h i ∙ ap (id_held h) (sym is) ∙ (is_new h op ready).1)
+
+free_target : (i : Identifier) (h : List Op) → verdict h (Delete i) ≡ Ready → position_of (is_delete_of i) h ≡ None
+free_target i h ready = none_from (position_of (is_delete_of i) h) (has_target h i ∙ (is_new h (Delete i) ready).0)
+
+-- the newest operation, which has an identifier, was taken out
+pub forgot_position : (op : Op) (i : Identifier) (m n t : FinMap id_cmp Position) (h : List Op) → id_of op ≡ Some i → n ≡ remove m i → IsIndex m t (op ∷ h) → verdict h op ≡ Ready → IsIndex n t h
+forgot_position op i m n t h is gone index ready =
+    record {
+      positions_are = forgot-own is_own m n op h i gone (free_own op i h is ready) (λ x. no_other op i x is) index.positions_are;
+      targets_are = forgot-other is_delete_of t t op h (λ x. no_delete op i x is) index.targets_are;
     }
 
 -- the newest operation, a Delete, was taken out
-pub forgot_target : (t : Identifier) (m : BTreeMap Identifier ℕ) (s n : BTreeSet Identifier) (h : List Op)
-    → UpdatesSet id_cmp s n t false → IsIndex m s (Delete t ∷ h) → verdict h (Delete t) ≡ Ready → IsIndex m n h
-forgot_target t m s n h u old ready =
+pub forgot_target : (i : Identifier) (m s t : FinMap id_cmp Position) (h : List Op) → t ≡ remove s i → IsIndex m s (Delete i ∷ h) → verdict h (Delete i) ≡ Ready → IsIndex m t h
+forgot_target i m s t h gone index ready =
     record {
-      positions_are = old.positions_are;
-      targets_are = λ x. elim (cases_id t x) [
-        | inl e ↦ ap (contains id_cmp n) (sym e) ∙ u.1 ∙ sym (is_new h (Delete t) ready).0 ∙ ap (λ y. has_op h (Delete y)) e
-        | inr e ↦ u.2 x (id_at-other t x (λ d. e (sym d))) ∙ old.targets_are x ∙ ap (λ b. b || has_op h (Delete x)) (ne-id_eq t x e)
-      ];
+      positions_are = forgot-other is_own m m (Delete i) h (λ x. refl) index.positions_are;
+      targets_are = forgot-own is_delete_of s t (Delete i) h i gone (free_target i h ready) (λ x apart. ne-id_eq i x (λ e. apart (sym e))) index.targets_are;
     }
+
+-- an operation that is Ready has no position
+pub unnoted : (m t : FinMap id_cmp Position) (h : List Op) (op : Op) → IsIndex m t h → verdict h op ≡ Ready → IsUnnoted m t op
+unnoted m t h (Section i l r c) index ready = index.positions_are i ∙ ap (option_map as_position) (free_own (Section i l r c) i h refl ready)
+unnoted m t h (Text i s l r c) index ready = index.positions_are i ∙ ap (option_map as_position) (free_own (Text i s l r c) i h refl ready)
+unnoted m t h (Delete i) index ready = index.targets_are i ∙ ap (option_map as_position) (free_target i h ready)
 
 some_same : {X : Type 0} (a b : X) → Some a ≡ Some b → a ≡ b
 some_same a b e = cc
@@ -89,53 +174,77 @@ get-behind [] y = refl
 get-behind (x ∷ xs) y = get-behind xs y
 
 -- a position is below the number of operations
-position_below : (h : List Op) (x : Identifier) (k : ℕ) → position_of_own h x ≡ Some k → k < length h
-position_below [] x k e = cc
-position_below (op ∷ h) x k e =
-    elim (cases_Bool (is_own x op)) [
-      | inl o ↦ let d : length h ≡ k = some_same (length h) k (sym (position-own op h x o) ∙ e) in omega (arith, d)
-      | inr o ↦ let below = position_below h x k (sym (position-other op h x o) ∙ e) in omega (arith, below)
+position_below : (test : Op → Bool) (h : List Op) (k : ℕ) → position_of test h ≡ Some k → k < length h
+position_below test [] k e = cc
+position_below test (op ∷ h) k e =
+    elim (cases_Bool (test op)) [
+      | inl o ↦ let d : length h ≡ k = some_same (length h) k (sym (position-own test op h o) ∙ e) in omega (arith, d)
+      | inr o ↦ let below = position_below test h k (sym (position-other test op h o) ∙ e) in omega (arith, below)
     ]
 
+-- none comes behind that of the newest operation
+pub last_position : (test : Identifier → Op → Bool) (m : FinMap id_cmp Position) (op : Op) (h : List Op) (i : Identifier) → ArePositions test m (op ∷ h) → test i op ≡ true
+    → IsFollowed (λ first p k. later p k) (get m) i → ⊥
+last_position test m op h i are own f =
+    let at : Some (as_position (length h)) ≡ Some f.value = ap (option_map as_position) (sym (position-own (test i) op h own)) ∙ sym (are i) ∙ f.held in
+    let here : length h ≡ f.value.at = let same : as_position (length h) ≡ f.value = cc in ap (λ p. p.at) same in
+    behind (position_of (test (ahead i 1)) (op ∷ h)) refl (sym (are (ahead i 1)) ∙ f.followed) here
+  where
+    behind : (o : Option ℕ) → position_of (test (ahead i 1)) (op ∷ h) ≡ o → option_map as_position o ≡ Some (later f.value 1) → length h ≡ f.value.at → ⊥
+    behind None is e here = cc
+    behind (Some k) is e here =
+        let same : as_position k ≡ later f.value 1 = cc in
+        let next : k ≡ f.value.at + 1 = ap (λ p. p.at) same in
+        let below : k < suc (length h) = position_below (test (ahead i 1)) (op ∷ h) k is in
+        omega (arith, next, below, here)
+
 -- at the position of an identifier stands its holder
-held_at : (h : List Op) (x : Identifier) (k : ℕ) → position_of_own h x ≡ Some k → slice_get (reverse h) k ≡ holder h x
+held_at : (h : List Op) (x : Identifier) (k : ℕ) → position_of (is_own x) h ≡ Some k → slice_get (reverse h) k ≡ holder h x
 held_at [] x k e = cc
 held_at (op ∷ h) x k e =
     let longer : reverse (op ∷ h) ≡ reverse h ++ op ∷ [] = reverse-append (op ∷ []) h in
     elim (cases_Bool (is_own x op)) [
       | inl o ↦
-          let d : length h ≡ k = some_same (length h) k (sym (position-own op h x o) ∙ e) in
+          let d : length h ≡ k = some_same (length h) k (sym (position-own (is_own x) op h o) ∙ e) in
           ap (λ (l : List Op). slice_get l k) longer
           ∙ ap (slice_get (reverse h ++ op ∷ [])) (sym (length-reverse h ∙ d))
           ∙ get-behind (reverse h) op
           ∙ sym (holder-own op h x o)
       | inr o ↦
-          let before : position_of_own h x ≡ Some k = sym (position-other op h x o) ∙ e in
+          let before : position_of (is_own x) h ≡ Some k = sym (position-other (is_own x) op h o) ∙ e in
           ap (λ (l : List Op). slice_get l k) longer
-          ∙ get-front (reverse h) (op ∷ []) k (subst (λ (n : ℕ). k < n) (sym (length-reverse h)) (position_below h x k before))
+          ∙ get-front (reverse h) (op ∷ []) k (subst (λ (n : ℕ). k < n) (sym (length-reverse h)) (position_below (is_own x) h k before))
           ∙ held_at h x k before
           ∙ sym (holder-other op h x o)
     ]
 
 -- the operation at the position of an identifier
-pub position_held : (m : BTreeMap Identifier ℕ) (s : BTreeSet Identifier) (ops : List Op) (x : Identifier) (k : ℕ)
-    → IsIndex m s (reverse ops) → Some k ≡ get id_cmp m x → slice_get ops k ≡ holder (reverse ops) x
-position_held m s ops x k index e =
-    ap (λ (l : List Op). slice_get l k) (sym (reverse-reverse ops)) ∙ held_at (reverse ops) x k (sym (index.positions_are x) ∙ sym e)
+pub position_held : (m t : FinMap id_cmp Position) (ops : List Op) (x : Identifier) (k : ℕ) → IsIndex m t (reverse ops) → Some k ≡ option_map (λ p. p.at) (get m x)
+    → slice_get ops k ≡ holder (reverse ops) x
+position_held m t ops x k index e =
+    ap (λ (l : List Op). slice_get l k) (sym (reverse-reverse ops)) ∙ held_at (reverse ops) x k (back (position_of (is_own x) (reverse ops)) (e ∙ ap (option_map (λ p. p.at)) (index.positions_are x)))
+  where
+    back : (o : Option ℕ) → Some k ≡ option_map (λ p. p.at) (option_map as_position o) → o ≡ Some k
+    back None d = cc
+    back (Some j) d = cc
 
 -- an identifier without a position is not held
-pub position_free : (m : BTreeMap Identifier ℕ) (s : BTreeSet Identifier) (h : List Op) (x : Identifier)
-    → IsIndex m s h → None ≡ get id_cmp m x → None ≡ holder h x
-position_free m s h x index e = sym (none_from (holder h x) (sym (has_position h x) ∙ ap is_some (sym (index.positions_are x) ∙ sym e)))
+pub position_free : (m t : FinMap id_cmp Position) (h : List Op) (x : Identifier) → IsIndex m t h → None ≡ option_map (λ p. p.at) (get m x) → None ≡ holder h x
+position_free m t h x index e = sym (none_from (holder h x) (sym (has_position h x) ∙ sym (is_some-as (position_of (is_own x) h)) ∙ ap is_some (sym (index.positions_are x)) ∙ gone (get m x) e))
+  where
+    gone : (o : Option Position) → None ≡ option_map (λ p. p.at) o → is_some o ≡ false
+    gone None d = refl
+    gone (Some p) d = cc
+
+-- a target is found where a Delete names it
+pub target_held : (m t : FinMap id_cmp Position) (h : List Op) (x : Identifier) → IsIndex m t h → is_some (get t x) ≡ has_op h (Delete x)
+target_held m t h x index = ap is_some (index.targets_are x) ∙ is_some-as (position_of (is_delete_of x) h) ∙ has_target h x
 
 -- two tests that hold together are one
 same_test : (a b : Bool) → (a ≡ true → b ≡ true) → (b ≡ true → a ≡ true) → a ≡ b
 same_test true b there back = sym (there refl)
 same_test false true there back = back refl
 same_test false false there back = refl
-
-owns : (op : Op) (i : Identifier) → id_of op ≡ Some i → is_own i op ≡ true
-owns op i is = ap (λ o. origin_eq o (Some i)) is ∙ id_eq-refl i
 
 -- the holder of an operation's identifier decides whether it is there
 pub has_held : (h : List Op) (op o : Op) (i : Identifier) → Lawful h → id_of op ≡ Some i → Some o ≡ holder h i → op_eq o op ≡ has_op h op

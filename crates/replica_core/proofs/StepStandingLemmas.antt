@@ -1,16 +1,18 @@
 -- What the steps of a replica's settling leave.
 use Rattle.std.proofs.Common.{◌≡◌, refl, sym, ◌∙◌, ap, subst, ℕ, ◌<◌, length, List, ◌∷◌, get_or}
 use Rattle.std.specs.Prelude.{Some, position, remove, slice_get}
-use Rattle.std.proofs.lemmas.Option.{get_or_from_slice_get, slice_get_within}
+use Rattle.std.proofs.lemmas.List.Quantifiers.{position-Some}
+use Rattle.std.proofs.lemmas.Option.{get_or_from_slice_get, slice_get-get_or, slice_get_within}
 use Rattle.fugue_ids.specs.declared.op.Op.{Op}
 use Rattle.origin_model.specs.operations.Verdict.{verdict}
 use Rattle.origin_model.specs.declared.operations.verdict.Verdict.TheVariants.{Ready}
 use Rattle.origin_model.specs.taking.Taking.{Held, decided_on}
 use Rattle.causal_inbox.specs.Waiting.{Waiting}
 use Rattle.replica_core.specs.State.{State, Stands}
-use Rattle.replica_core.specs.Told.{Settles}
+use Rattle.replica_core.specs.Told.{JoinsNext, Settles}
 use Rattle.replica_core.specs.declared.settled.Settled.{Settled}
 use Rattle.replica_core.specs.declared.settled.Settled.TheVariants.{Accepted, DroppedStray}
+use Rattle.replica_core.proofs.EarliestLemmas.{earliest_at}
 use Rattle.replica_core.proofs.StandingLemmas.{stands_dropped, stands_joined}
 use Rattle.replica_core.proofs.StepLemmas.{step_joined, step_dropped}
 
@@ -70,3 +72,12 @@ dropped_step s inbox new k op removed read same first is_read at other out is_ne
       );
       stands = subst (λ (h : Held). Stands (record s { held = h })) is_held (stands_dropped s k stands below);
     }
+
+-- the Ready operation that was read at the first position of a decided one is the next to leave
+pub joins_next : (s : Held) (k : ℕ) (op : Op) (read : List Op) → position (decided_on s.history) s.waiting ≡ Some k → read ≡ s.waiting → op ≡ get_or read k op
+    → verdict s.history op ≡ Ready → JoinsNext s
+joins_next s k op read first is_read at ready =
+    let inside = (position-Some (decided_on s.history) s.waiting k op first).0 in
+    let there : slice_get s.waiting k ≡ Some op =
+    slice_get-get_or s.waiting k op inside ∙ ap (λ (o : Op). Some o) (sym (at ∙ ap (λ (w : List Op). get_or w k op) is_read)) in
+    record { op = op; others = remove s.waiting k; next = earliest_at s.history s.waiting k op first there; ready = ready }

@@ -1,25 +1,36 @@
--- Where accepted operations are found: the positions of those with identifiers, and the targets of the Deletes.
-use Rattle.std.specs.Prelude.{◌≡◌, ◌≤◌, ℕ, IsNone, IsSome, IfSome, if◌then◌else◌, Option, Some, None, List, [], ◌∷◌, length}
-use Rattle.std.specs.BTreeMap.{BTreeMap, get}
-use Rattle.std.specs.BTreeSet.{BTreeSet, contains}
+-- Where accepted operations are found: the positions of those with identifiers, and of the Deletes by their targets.
+use Rattle.std.specs.Prelude.{◌≡◌, ℕ, Bool, if◌then◌else◌, Option, Some, None, List, [], ◌∷◌, length, option_map}
+use Rattle.std.specs.FinMap.{FinMap, get}
 use Rattle.fugue_ids.specs.Identifiers.{Identifier, id_cmp}
+use Rattle.fugue_ids.specs.Ops.{op_eq}
 use Rattle.fugue_ids.specs.declared.op.Op.{Op}
-use Rattle.fugue_ids.specs.declared.op.Op.TheVariants.{Delete}
-use Rattle.origin_model.specs.edits.Edits.{id_at}
-use Rattle.origin_model.specs.operations.History.{has_op, is_own}
+use Rattle.fugue_ids.specs.declared.op.Op.TheVariants.{Delete, Section, Text}
+use Rattle.origin_model.specs.operations.History.{is_own}
+use Rattle.stretch_map.specs.declared.position.Position.{Position}
 
--- the position of the operation with the identifier x of its own: how many are older
-abbrev pub position_of_own : List Op → Identifier → Option ℕ
-position_of_own [] x = None
-position_of_own (op ∷ older) x = if is_own x op then Some (length older) else position_of_own older x
+-- the position of the newest operation that passes the test: how many are older
+abbrev pub position_of : (Op → Bool) → List Op → Option ℕ
+position_of test [] = None
+position_of test (op ∷ older) = if test op then Some (length older) else position_of test older
+
+-- the operation is the Delete of x
+abbrev pub is_delete_of : Identifier → Op → Bool
+is_delete_of x op = op_eq op (Delete x)
+
+abbrev pub as_position : ℕ → Position
+as_position k = record { at = k }
+
+-- each identifier has the position of the operation of which the test is true
+abbrev pub ArePositions : (Identifier → Op → Bool) → FinMap id_cmp Position → List Op → Type 0
+ArePositions test m history = (x : Identifier) → get m x ≡ option_map as_position (position_of (test x) history)
 
 -- the positions are those of the history's operations, and the targets those of its Deletes
-pub record IsIndex (positions : BTreeMap Identifier ℕ) (targets : BTreeSet Identifier) (history : List Op) : Type 0 where
-  pub positions_are : (x : Identifier) → get id_cmp positions x ≡ position_of_own history x
-  pub targets_are : (x : Identifier) → contains id_cmp targets x ≡ has_op history (Delete x)
+pub record IsIndex (positions targets : FinMap id_cmp Position) (history : List Op) : Type 0 where
+  pub positions_are : ArePositions is_own positions history
+  pub targets_are : ArePositions is_delete_of targets history
 
--- the greatest counter of the replica among the identifiers that have a position
-pub record IsGreatestHeld (positions : BTreeMap Identifier ℕ) (replica : ℕ) (greatest : Option ℕ) : Type 0 where
-  pub none : IsNone greatest → (n : ℕ) → get id_cmp positions (id_at replica n) ≡ None
-  pub held : IfSome greatest (λ n. IsSome (get id_cmp positions (id_at replica n)))
-  pub bound : IfSome greatest (λ n. (m : ℕ) → IsSome (get id_cmp positions (id_at replica m)) → m ≤ n)
+-- the operation has no position yet
+abbrev pub IsUnnoted : FinMap id_cmp Position → FinMap id_cmp Position → Op → Type 0
+IsUnnoted positions targets (Section i l r t) = get positions i ≡ None
+IsUnnoted positions targets (Text i s l r c) = get positions i ≡ None
+IsUnnoted positions targets (Delete t) = get targets t ≡ None

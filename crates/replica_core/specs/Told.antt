@@ -1,6 +1,8 @@
 -- What the answers of a replica say.
-use Rattle.std.specs.Prelude.{◌≡◌, ℕ, ◌<◌, ◌+◌, ◌^◌, ◌∷◌, Bool, true, false, ◌⊎◌, Option, Some, None, Result, Ok, Err}
+use Rattle.std.specs.Prelude.{◌≡◌, ℕ, ◌<◌, ◌+◌, ◌^◌, ◌∷◌, Bool, true, false, ◌⊎◌, List, Option, Some, None, Result, Ok, Err}
 use Rattle.fugue_ids.specs.declared.op.Op.{Op}
+use Rattle.origin_model.specs.operations.Verdict.{verdict}
+use Rattle.origin_model.specs.declared.operations.verdict.Verdict.TheVariants.{Ready}
 use Rattle.origin_model.specs.declared.taking.tally.Tally.{Tally}
 use Rattle.origin_model.specs.taking.Taking.{Held, Answer, Again, Conflict, Stray, TooMany, Accepted, Full, Waits, answer, taken, is_kept, settle_step, earliest, settle, intake, answer_counted, settling_counted, IsSettled}
 use Rattle.replica_core.specs.declared.taken.Taken.{Taken}
@@ -33,6 +35,13 @@ Settles old new (Some (SettledAccepted op)) =
 Settles old new (Some (DroppedStray op)) =
     (settle_step old ≡ Some new) × (earliest old.history old.waiting ≡ Some (op, new.waiting)) × (new.history ≡ old.history)
 
+-- the next waiting operation to leave is Ready: it joins the history, which takes memory
+pub record JoinsNext (s : Held) : Type 0 where
+  pub op : Op
+  pub others : List Op
+  pub next : earliest s.history s.waiting ≡ Some (op, others)
+  pub ready : verdict s.history op ≡ Ready
+
 -- each number of the tally is below 2,147,483,648
 pub record StaysBelow (tally : Tally) : Type 0 where
   pub accepted : tally.accepted < 2 ^ 31
@@ -45,10 +54,11 @@ pub record StaysBelow (tally : Tally) : Type 0 where
 abbrev pub total : Tally → ℕ
 total tally = tally.accepted + tally.repeated + tally.conflict + tally.stray + tally.full
 
--- the operation stands and settling stopped on its way: the tally counts what stands, and what is left of settling ends where all of it would have ended
+-- the operation stands and settling stopped on its way, at one that joins: the tally counts what stands, and what is left of settling ends where all of it would have ended
 pub record StandsPartly (hold most : ℕ) (old new : Held) (op : Op) (before after : Tally) : Type 0 where
   pub steps : Reaches (taken (answer hold most old op) old op) new
   pub counted : after ≡ settling_counted (taken (answer hold most old op) old op) new (answer_counted (answer hold most old op) before)
+  pub stopped : JoinsNext new
   pub goes_on : settle new ≡ intake hold most old op
 
 -- what a fault of `feed` leaves: want of memory comes only where the operation would be kept

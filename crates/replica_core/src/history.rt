@@ -30,7 +30,7 @@ impl Model for History {
 
     ghost invariant = { λ history. record {
       lawful : Lawful (reverse history.ops.items);
-      indexed : IsIndex history.index.positions history.index.targets (reverse history.ops.items);
+      indexed : IsIndex history.index.positions.values history.index.targets.values (reverse history.ops.items);
     } };
 }
 
@@ -49,7 +49,6 @@ fn equals(a: &Op, b: &Op) -> bool
 impl Lookup for History {
     ghost history = { λ history. history };
 
-    #[tactic(auto, using(crate::proofs::IndexLemmas::position_free))]
     fn holder(&self, id: ElementId) -> Option<&Op> {
         match self.index.position(id) {
             Some(position) => op_at(&self.ops, position),

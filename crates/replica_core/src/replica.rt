@@ -9,7 +9,7 @@ ghost use Rattle.replica_core.specs.State.{all_ops, IsOpen, IsOutside, IsWithin,
 ghost use Rattle.replica_core.specs.Edits.{CanJoin, held_count, with_ops};
 ghost use Rattle.replica_core.specs.Decision.{answer_by_decision};
 ghost use Rattle.replica_core.specs.Settling.{Reaches};
-ghost use Rattle.replica_core.specs.Told.{Answers, Settles, StaysBelow, total, Leaves, IsCounted};
+ghost use Rattle.replica_core.specs.Told.{Answers, IsCounted, JoinsNext, Leaves, Settles, StaysBelow, total};
 
 use crate::accepted::Accepted;
 use crate::decision::{Decision, decide};
@@ -221,11 +221,12 @@ impl Replica {
     }
 
     /// Lets the earliest waiting operation that can be accepted or is stray leave: None is the answer where there is none.
-    /// After want of memory all is as before.
+    /// After want of memory, which comes only before one that is accepted, all is as before.
     pub fn settle_one(&mut self) -> Result<Option<Settled>, NoMemory>
         ensures step { IfOk result (λ settled. Settles self.old.held self.new.held settled) }
         ensures others { self.new ≡ record self.old { held = self.new.held } }
         ensures err { OnErr result (self.new ≡ self.old) }
+        ensures wanting { OnErr result (JoinsNext self.old.held) }
         ensures stands { Stands self.new }
     {
         let Some(position) = self.due.first() else {
@@ -306,6 +307,7 @@ impl Replica {
         requires accepted { tally.old.accepted ≤ 2 ^ 31 }
         requires stray { tally.old.stray < 2 ^ 31 }
         ensures ok { OnOk result (IsSettled self.new.held) }
+        ensures stopped { OnErr result (JoinsNext self.new.held) }
         ensures steps { Reaches self.old.held self.new.held }
         ensures tally { tally.new ≡ settling_counted self.old.held self.new.held tally.old }
         ensures others { self.new ≡ record self.old { held = self.new.held } }
@@ -322,6 +324,7 @@ impl Replica {
         ensures step { IfOk result (λ more. IsCounted self.old.held self.new.held tally.old tally.new more) }
         ensures others { self.new ≡ record self.old { held = self.new.held } }
         ensures err { OnErr result ((self.new ≡ self.old) × (tally.new ≡ tally.old)) }
+        ensures stopped { OnErr result (JoinsNext self.new.held) }
         ensures stands { Stands self.new }
     {
         match self.settle_one()? {

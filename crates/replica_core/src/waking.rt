@@ -1,22 +1,14 @@
 //! What a change of the accepted or of the waiting operations does to the marks.
 
 ghost use Rattle.std.specs.Prelude.{◌≡◌, ◌≢◌, ◌<◌, ◌≤◌, ◌↔◌, ◌++◌, ◌∷◌, [], Some, false, drop, length, remove, slice_get, AllPairs, OnOk, OnErr, IfErr};
-ghost use Rattle.origin_model.specs.taking.Taking.{is_decided};
 ghost use Rattle.causal_inbox.specs.Faults.{refused};
 ghost use Rattle.replica_core.specs.State.{HaveOtherIds};
 ghost use Rattle.replica_core.specs.Due.{due_marks, newest_id as newest_id_of};
 
 use crate::accepted::Accepted;
 use crate::due::Due;
-use causal_inbox::{Inbox, PushFault};
+use causal_inbox::{Inbox, PushFault, is_decided};
 use fugue_ids::{ElementId, NoMemory, Op};
-use origin_model::Verdict;
-
-fn can_leave(verdict: Verdict) -> bool
-    ensures { result ≡ is_decided verdict }
-{
-    matches!(verdict, Verdict::Ready | Verdict::Stray(_))
-}
 
 fn newest_id(accepted: &Accepted) -> Option<ElementId>
     ensures { result ≡ newest_id_of accepted.now }
@@ -42,7 +34,7 @@ pub(crate) fn wake(inbox: &Inbox, accepted: &Accepted, due: &mut Due)
         let Some(position) = inbox.nth_naming(id, k) else {
             return;
         };
-        due.put(position, can_leave(accepted.verdict(&waiting[position])));
+        due.put(position, is_decided(accepted.verdict(&waiting[position])));
     }
 }
 

@@ -3,6 +3,7 @@ pub mod ConditionLemmas
 pub mod GrowthLemmas
 pub mod HidingLemmas
 pub mod HolderLemmas
+pub mod HomeLemmas
 pub mod ListingLemmas
 pub mod PrintingLemmas
 pub mod ShownLemmas

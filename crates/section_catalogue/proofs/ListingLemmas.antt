@@ -17,9 +17,8 @@ use Rattle.origin_model.specs.operations.Verdict.{Lawful}
 use Rattle.origin_model.specs.declared.sides.node.Node.{Node}
 use Rattle.origin_model.specs.declared.operations.place.Place.{Place}
 use Rattle.origin_model.proofs.SharedLemmas.{order-some, order_by_nodes, order_total, same_nodes_same_order}
-use Rattle.section_list.specs.Cells.{ids, hiding}
+use Rattle.section_list.specs.Cells.{Cell, ids, hiding}
 use Rattle.section_list.specs.SectionList.{Listing, with_element, with_hidden}
-use Rattle.section_list.specs.declared.cell.Cell.{Cell}
 use Rattle.section_catalogue.specs.Place.{Lists, cell_in, place_held}
 use Rattle.section_catalogue.proofs.HolderLemmas.{in_place}
 use Rattle.std.specs.Prelude.{count_by}

@@ -18,9 +18,8 @@ use Rattle.origin_model.specs.declared.operations.place.Place.{Place}
 use Rattle.origin_model.specs.declared.operations.place.Place.TheVariants.{Catalogue as catalogue, Section as within}
 use Rattle.origin_model.proofs.SharedLemmas.{holder_owns, order_total}
 use Rattle.origin_model.specs.edits.Landing.{following}
-use Rattle.section_list.specs.Cells.{ids, is_hidden as hidden_in, text, visible_cells}
+use Rattle.section_list.specs.Cells.{Cell, ids, is_hidden as hidden_in, text, visible_cells}
 use Rattle.section_list.specs.SectionList.{Listing}
-use Rattle.section_list.specs.declared.cell.Cell.{Cell}
 use Rattle.section_catalogue.specs.declared.section.Section.{Section as Titled}
 use Rattle.section_catalogue.specs.Contents.{Contents, section_at}
 use Rattle.section_catalogue.specs.Section.{printed_at, printed_entry}

@@ -1,12 +1,14 @@
 -- A manuscript as contracts see it, and look-ups in it.
-use Rattle.std.specs.Prelude.{Option, Some, None, ℕ, List, length, option_map}
+use Rattle.std.specs.Prelude.{Option, Some, None, ℕ, List, length, map, option_map}
 use Rattle.std.specs.BTreeMap.{is_at}
+use Rattle.std.specs.FinMap.{FinMap, entries}
 use Rattle.std.specs.Map.{lookup}
 use Rattle.fugue_ids.specs.Identifiers.{Identifier, id_cmp}
 use Rattle.fugue_ids.specs.declared.op.Op.{Op}
 use Rattle.fugue_ids.specs.declared.op.Op.TheVariants.{Section, Text, Delete}
 use Rattle.origin_model.specs.declared.operations.place.Place.{Place}
 use Rattle.section_list.specs.SectionList.{Listing}
+use Rattle.section_catalogue.specs.declared.home.Home.{Home}
 use Rattle.section_catalogue.specs.declared.section.Section.{Section as Titled}
 use Rattle.section_catalogue.specs.declared.tables.Tables.{Tables}
 
@@ -18,9 +20,13 @@ pub record Contents : Type 0 where
   -- the place of each element
   pub places : List (Identifier × Place)
 
+-- the places of elements, by their identifiers
+abbrev pub places_of : FinMap id_cmp Home → List (Identifier × Place)
+places_of homes = map (λ e. (e.0, e.1.place)) (entries homes)
+
 -- what the tables keep
 abbrev pub contents_of : Tables → Contents
-contents_of t = record { catalogue = t.catalogue; sections = t.sections.entries; places = t.places.entries }
+contents_of t = record { catalogue = t.catalogue; sections = t.sections.entries; places = places_of t.places.values }
 
 -- what entries have at an identifier
 abbrev pub entry_at : {X : Type 0} → List (Identifier × X) → Identifier → Option X

@@ -8,8 +8,8 @@ use Rattle.origin_model.specs.operations.History.{holder, place}
 use Rattle.origin_model.specs.order.Order.{order}
 use Rattle.origin_model.specs.order.Printed.{is_hidden}
 use Rattle.origin_model.specs.declared.operations.place.Place.{Place}
+use Rattle.section_list.specs.Cells.{Cell}
 use Rattle.section_list.specs.SectionList.{IsInOrder, Listing}
-use Rattle.section_list.specs.declared.cell.Cell.{Cell}
 
 -- where an operation's element stands
 abbrev pub place_held : Option Op → Option Place

@@ -3,6 +3,8 @@
 
 mod growth;
 mod hiding;
+mod home;
+mod homes;
 mod laws;
 mod manuscript;
 mod maps;

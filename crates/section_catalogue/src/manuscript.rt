@@ -8,7 +8,7 @@ ghost use Rattle.section_catalogue.specs.Manuscript.{Grows, HasHistory, Hides, I
 
 use crate::growth::{add_section, add_text};
 use crate::hiding::hide_at;
-use crate::maps::find;
+use crate::homes::home_of;
 use crate::printing::put_sections;
 use crate::tables::Tables;
 use fugue_ids::{ElementId, Failed, Gather, MOST_OPERATIONS, NoMemory, Op};
@@ -16,7 +16,6 @@ use origin_model::{Node, Place};
 use outer_ports::Sink;
 use section_list::SectionList;
 use std::alloc::Global;
-use std::collections::BTreeMap;
 use std::marker::Model;
 
 /// All places of a manuscript.
@@ -49,11 +48,7 @@ impl Manuscript {
     {
         Manuscript {
             alloc,
-            tables: Tables {
-                catalogue: SectionList::new(alloc),
-                sections: BTreeMap::new(alloc),
-                places: BTreeMap::new(alloc),
-            },
+            tables: Tables::new(alloc),
         }
     }
 
@@ -62,7 +57,7 @@ impl Manuscript {
         ensures place { result ≡ place_at self.now id }
         ensures has_history { HasHistory self.now }
     {
-        find(&self.tables.places, &id)
+        home_of(&self.tables.places, id)
     }
 
     /// How many sections are shown.
@@ -142,7 +137,7 @@ impl Manuscript {
         ensures err { OnErr result (Stays self.old self.new) }
         ensures has_history { HasHistory self.new }
     {
-        match find(&self.tables.places, &id) {
+        match home_of(&self.tables.places, id) {
             Some(place) => hide_at(&mut self.tables, &place, id),
             None => Ok(()),
         }

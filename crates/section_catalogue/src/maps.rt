@@ -27,10 +27,3 @@ pub(crate) fn clear<V: Drop>(map: &mut BTreeMap<ElementId, V>, id: &ElementId)
 {
     map.remove(id);
 }
-
-/// The value at the identifier.
-pub(crate) fn find<V: Copy>(map: &BTreeMap<ElementId, V>, id: &ElementId) -> Option<V>
-    ensures { result ≡ entry_at map.now.entries id.now }
-{
-    map.get(id).copied()
-}

@@ -1,8 +1,14 @@
+ghost use Rattle.std.specs.Prelude.{◌≡◌};
+ghost use Rattle.section_catalogue.specs.Contents.{contents_of};
+ghost use Rattle.section_catalogue.specs.Manuscript.{nothing};
+
+use crate::home::Home;
 use crate::section::Section;
 use fugue_ids::ElementId;
-use origin_model::Place;
 use section_list::SectionList;
+use std::alloc::Global;
 use std::collections::BTreeMap;
+use stretch_map::StretchMap;
 
 /// What a manuscript keeps.
 #[derive(Drop)]
@@ -11,5 +17,18 @@ pub(crate) struct Tables {
     pub catalogue: SectionList,
     pub sections: BTreeMap<ElementId, Section>,
     /// The place of each element.
-    pub places: BTreeMap<ElementId, Place>,
+    pub places: StretchMap<Home>,
+}
+
+impl Tables {
+    /// It takes no memory.
+    pub fn new(alloc: Global) -> Tables
+        ensures { contents_of result ≡ nothing }
+    {
+        Tables {
+            catalogue: SectionList::new(alloc),
+            sections: BTreeMap::new(alloc),
+            places: StretchMap::new(alloc),
+        }
+    }
 }

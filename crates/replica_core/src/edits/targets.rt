@@ -28,18 +28,7 @@ pub(crate) fn shown_part(
     ensures part { IfOk result (λ part. part.items ≡ take n (drop at (ids (visible_cells place.now.cells)))) }
     ensures some { OnErr result (0 < n) }
 {
-    let mut walk = place.shown();
-    skip(&mut walk, at);
-    gather(alloc, &mut walk, n)
-}
-
-/// Passes so many.
-fn skip(walk: &mut Shown, count: usize)
-    ensures { walk.new ≡ drop count walk.old }
-{
-    'passed: for _ in 0..count {
-        walk.step();
-    }
+    gather(alloc, &mut place.shown_from(at), n)
 }
 
 /// The next ones, so many.

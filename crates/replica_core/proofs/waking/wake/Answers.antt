@@ -60,7 +60,7 @@ loop-k-preserved c =
     let positions : List ℕ = naming c.in-Some.id w in
     let below = naming_within c.in-Some.id c.args.inbox.now.ops c.loop-k.k c.in-Some-nth_naming.position (sym c.nth_naming.ensures ∙ c.in-Some-nth_naming.is) in
     let is : op ≡ get_or w p op = c.index-waiting-position.is ∙ ap (λ (l : List Op). get_or l p op) c.ops-waiting.ensures.ops in
-    let decided : c.can_leave.result ≡ decided_on h op = c.can_leave.ensures ∙ ap is_decided c.verdict.ensures in
+    let decided : c.is_decided.result ≡ decided_on h op = c.is_decided.ensures ∙ ap is_decided c.verdict.ensures in
     let put : c.put.new.self ≡ set c.loop-k.due p (decided_on h op) = c.put.ensures ∙ ap (set c.loop-k.due p) decided in
     record {
       right = ap (all_tried (decided_on h) w (drop (c.loop-k.k + 1) positions)) put

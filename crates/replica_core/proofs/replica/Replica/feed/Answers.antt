@@ -21,7 +21,7 @@ returns-in-Err-clause-err c =
     let told = rw c.in-Ok-Accepted.field-0-is at c.in-Ok-Accepted.ensures.answer in
     let so : IsSettledBehind c.deliver.new.self c.settle.new.self (answer_counted Accepted c.args.tally.now) c.settle.new.tally =
     record { steps = c.settle.ensures.steps; counted = c.settle.ensures.tally; others = c.settle.ensures.others } in
-    accepted_partly c.args.self.now c.deliver.new.self c.settle.new.self c.args.op c.args.tally.now c.settle.new.tally told c.in-Ok-Accepted.ensures.ok so
+    accepted_partly c.args.self.now c.deliver.new.self c.settle.new.self c.args.op c.args.tally.now c.settle.new.tally told c.in-Ok-Accepted.ensures.ok so c.in-Err.ensures.stopped
 
 waits : (c : goal.In-Ok-Waits) → IsFedState c.args.self.now c.args.op c.args.tally.now c.deliver.new.self c.args.tally.now
 waits c =

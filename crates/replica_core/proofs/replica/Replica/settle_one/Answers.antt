@@ -1,14 +1,14 @@
 use Rattle.std.proofs.Common.{refl, sym, ◌∙◌, subst, ap, List, ◌∷◌, drop}
-use Rattle.std.specs.Prelude.{Some}
+use Rattle.std.specs.Prelude.{Some, Result, Ok, Err, OnErr}
 use Rattle.fugue_ids.specs.declared.op.Op.{Op}
 use Rattle.causal_inbox.specs.Waiting.{Waiting}
 use Rattle.origin_model.specs.taking.Taking.{Held, IsSettled}
 use Rattle.replica_core.specs.State.{State}
-use Rattle.replica_core.specs.Told.{Settles}
+use Rattle.replica_core.specs.Told.{JoinsNext, Settles}
 use Rattle.replica_core.specs.declared.settled.Settled.TheVariants.{Accepted, DroppedStray}
 use Rattle.replica_core.proofs.MarkLemmas.{first_due, due_position, marks_left}
 use Rattle.replica_core.proofs.StepLemmas.{none_left}
-use Rattle.replica_core.proofs.StepStandingLemmas.{IsStep, accepted_step, dropped_step}
+use Rattle.replica_core.proofs.StepStandingLemmas.{IsStep, accepted_step, dropped_step, joins_next}
 use Rattle.replica_core.proofs.replica.Replica.settle_one.Goals as goal
 
 pub returns-in_default-clause-step : goal.returns-in_default-clause-step
@@ -19,6 +19,30 @@ returns-in_default-clause-step c =
           (c.first.ensures ∙ first_due c.self.inside.accepted c.self.inside.inbox.ops c.self.inside.due c.self.invariant.marks) c.in_default.not-Some),
       refl,
     )
+
+on_err : {E T P : Type 0} (result : Result T E) → P → OnErr result P
+on_err (Ok v) p = tt
+on_err (Err e) p = p
+
+pub returns-in_err-copy-in-Ready-clause-wanting : goal.returns-in_err-copy-in-Ready-clause-wanting
+returns-in_err-copy-in-Ready-clause-wanting c =
+    let h : List Op = c.self.inside.accepted in
+    let w : List Op = c.self.inside.inbox.ops in
+    let Next : State → Type 0 = λ s. OnErr c.from_residual.result (JoinsNext s.held) in
+    subst Next c.self.view_is
+    (on_err c.from_residual.result (joins_next (record { history = h; waiting = w }) c.in-Some.position c.index-ops-position.result c.ops.result.now
+    (due_position h w c.self.inside.due c.first.result c.in-Some.position c.self.invariant.marks c.first.ensures c.in-Some.is)
+    c.ops.ensures.ops c.index-ops-position.is (sym c.verdict.ensures ∙ c.in-Ready.is)))
+
+pub returns-in_default-accept-clause-wanting : goal.returns-in_default-accept-clause-wanting
+returns-in_default-accept-clause-wanting c =
+    let h : List Op = c.self.inside.accepted in
+    let w : List Op = c.self.inside.inbox.ops in
+    let Next : State → Type 0 = λ s. JoinsNext s.held in
+    subst Next c.self.view_is
+    (joins_next (record { history = h; waiting = w }) c.in-Some.position c.index-ops-position.result c.ops.result.now
+    (due_position h w c.self.inside.due c.first.result c.in-Some.position c.self.invariant.marks c.first.ensures c.in-Some.is)
+    c.ops.ensures.ops c.index-ops-position.is (sym c.verdict.ensures ∙ c.in-Ready.is))
 
 -- the step of an operation that was Ready, before the others are woken
 joins : (c : goal.After-wake-arg-in-Ready-2-1) → IsStep
@@ -105,5 +129,6 @@ returns-in_default-verdict c =
       step = subst Steps c.self.view_is (dropped c).settles;
       others = ap (λ (s : State). record s { held = held }) c.self.view_is;
       err = tt;
+      wanting = tt;
       stands = (dropped c).stands;
     }

@@ -1,0 +1,21 @@
+use Rattle.std.proofs.Common.{[], refl, subst, sym}
+use Rattle.origin_model.specs.order.Order.{order}
+use Rattle.section_catalogue.specs.Manuscript.{HasHistory, StandsFor, nothing}
+use Rattle.section_catalogue.proofs.manuscript.Manuscript.new.Goals as goal
+
+-- without elements, it stands for the history of none
+stands : StandsFor nothing []
+unfolding order
+stands = record {
+  lawful = tt;
+  sections = record { in_order = record { are_nodes = tt; in_order = refl }; same_nodes = λ x. refl; cells = refl };
+  titles = λ s. refl;
+  texts = λ s. tt;
+  places = λ x. refl;
+}
+
+pub invariant_of-result : goal.invariant_of-result
+invariant_of-result c = subst HasHistory (sym c.new.ensures) (record { history = []; stands = stands })
+
+pub returns-clause-has_history : goal.returns-clause-has_history
+returns-clause-has_history c = invariant_of-result c

@@ -1,0 +1,204 @@
+-- The greatest counter of a replica, by the last of its stretches.
+use Rattle.std.proofs.Common.{List, [], ap, arith, inl, inr, refl, subst, sym, max, false, ℕ, ◌+◌, ◌++◌, ◌<◌, ◌^◌, ◌∙◌, ◌∷◌, ◌≡◌, ◌≤◌, ◌⊎◌}
+use Rattle.std.specs.Prelude.{IfNone, IfSome, None, Option, Some, is_some, option_map}
+use Rattle.std.specs.BTreeMap.{BTreeMap}
+use Rattle.std.specs.BTreeMap.Range.{IsInRange, IsRangeOf}
+use Rattle.std.specs.Option.{MatchOption}
+use Rattle.std.specs.Ordering.{is_gt, is_lt, nat_cmp, ordering_then}
+use Rattle.std.specs.declared.cmp.Ordering.TheVariants.{Less}
+use Rattle.std.specs.declared.ops.Bound.{Bound}
+use Rattle.std.specs.declared.ops.Bound.TheVariants.{Excluded, Included, Unbounded}
+use Rattle.std.proofs.lemmas.Bool.{true≢false}
+use Rattle.std.proofs.lemmas.Bool.Decides.{nat_tests}
+use Rattle.fugue_ids.specs.Identifiers.{Identifier, id_cmp}
+use Rattle.stretch_map.specs.Contents.{Entry, Layout, value_in}
+use Rattle.stretch_map.specs.Rules.{IsGreatestIn, greater_of}
+use Rattle.stretch_map.specs.Stretches.{AreStretches, Has, IsGreatestOf, IsLastOf, Keeps}
+use Rattle.stretch_map.specs.declared.stretch.Stretch.{Stretch}
+use Rattle.stretch_map.proofs.FoundLemmas.{cases_le, covered, found, same_kept}
+
+-- the identifier of the replica with a counter
+abbrev id_at : ℕ → ℕ → Identifier
+id_at r n = record { replica = r; counter = n }
+
+-- identifiers of one replica are ordered by their counters
+counter_le : (a r c n : ℕ) → a ≡ r → is_lt (ordering_then (nat_cmp a r) (nat_cmp c n)) ≡ false → n ≤ c
+counter_le a r c n same below = grind (arith, nat_tests)
+
+-- the identifiers of a replica lie from its first one on and before the first one of the next
+in_replica : (r n : ℕ) → IsInRange id_cmp (Included (id_at r 0)) (Excluded (id_at (r + 1) 0)) (id_at r n)
+in_replica r n = (not_above r n, below r n)
+  where
+    not_above : (r n : ℕ) → is_gt (ordering_then (nat_cmp r r) (nat_cmp 0 n)) ≡ false
+    not_above r n = grind (arith, nat_tests)
+
+    below : (r n : ℕ) → ordering_then (nat_cmp r (r + 1)) (nat_cmp n 0) ≡ Less
+    below r n = grind (arith, nat_tests)
+
+at_least : (r a c : ℕ) → is_gt (ordering_then (nat_cmp r a) (nat_cmp 0 c)) ≡ false → r ≤ a
+at_least r a c from = grind (arith, nat_tests)
+
+at_most : (r a c : ℕ) → ordering_then (nat_cmp a (r + 1)) (nat_cmp c 0) ≡ Less → a ≤ r
+at_most r a c before = grind (arith, nat_tests)
+
+module _ {V : Type 0} {A : Type 0} (entry : A → Entry V) (r : ℕ) (m : BTreeMap Identifier (Stretch V)) (es rest : List (Entry V)) where
+  -- the last one of a part of the map, if there is one
+  abbrev IsLast : Option A → Type 0
+  IsLast last = MatchOption last ((es ≡ []) × (rest ≡ [])) (λ a. es ≡ rest ++ entry a ∷ [])
+
+  -- the last of a part that has all stretches of the replica is its last one, or it has none
+  abbrev IsLastIn : Option (Entry V) → Type 0
+  IsLastIn o = IfNone o ((e : Entry V) → Keeps m.entries e → e.0.replica ≡ r → ⊥) × IfSome o (IsLastOf (Keeps m.entries) r)
+
+  last_in : (lo hi : Bound Identifier) (last : Option A) → IsRangeOf id_cmp lo hi m es → IsLast last → ((n : ℕ) → IsInRange id_cmp lo hi (id_at r n))
+      → IfSome last (λ a. IsInRange id_cmp lo hi (entry a).0 → (entry a).0.replica ≡ r) → IsLastIn (option_map entry last)
+  last_in lo hi None part steps inside own = (
+    (λ e kept mine.
+        let here : e.0 ≡ id_at r e.0.counter = λ i. record { replica = mine i; counter = e.0.counter } in
+        let none = part.5 steps.0 (id_at r e.0.counter) (inside e.0.counter) in
+        let there : Keeps m.entries (id_at r e.0.counter, e.1) = subst (λ (x : Identifier). Keeps m.entries (x, e.1)) here kept in
+        let both : None ≡ Some e.1 = sym none ∙ there in
+        cc),
+    tt,
+  )
+  last_in lo hi (Some a) part steps inside own =
+      let here = part.3 (entry a) rest steps in
+      let mine : (entry a).0.replica ≡ r = own here.0 in (
+        tt,
+        record {
+          one = here.1;
+          own = mine;
+          last = λ f kept same.
+              let at : f.0 ≡ id_at r f.0.counter = λ i. record { replica = same i; counter = f.0.counter } in
+              let there : Keeps m.entries (id_at r f.0.counter, f.1) = subst (λ (x : Identifier). Keeps m.entries (x, f.1)) at kept in
+              counter_le (entry a).0.replica r (entry a).0.counter f.0.counter mine (part.4 (entry a) rest steps (id_at r f.0.counter) (inside f.0.counter) (ap is_some there));
+        },
+      )
+
+  -- the part from the replica's first identifier on and before that of the next replica
+  pub last_before : (next : ℕ) (last : Option A) → next ≡ r + 1 → IsRangeOf id_cmp (Included (id_at r 0)) (Excluded (id_at next 0)) m es → IsLast last → IsLastIn (option_map entry last)
+  last_before next last is part steps =
+      last_in (Included (id_at r 0)) (Excluded (id_at (r + 1) 0)) last (subst (λ (n : ℕ). IsRangeOf id_cmp (Included (id_at r 0)) (Excluded (id_at n 0)) m es) is part) steps (in_replica r) (own last)
+    where
+      own : (o : Option A) → IfSome o (λ a. IsInRange id_cmp (Included (id_at r 0)) (Excluded (id_at (r + 1) 0)) (entry a).0 → (entry a).0.replica ≡ r)
+      own None = tt
+      own (Some a) = λ inside. omega (arith, at_least r (entry a).0.replica (entry a).0.counter inside.0, at_most r (entry a).0.replica (entry a).0.counter inside.1)
+
+  -- the part from the first identifier of the last replica on
+  pub last_from : (last : Option A) → (r + 1 < 2 ^ 32 → ⊥) → IsRangeOf id_cmp (Included (id_at r 0)) Unbounded m es → IsLast last
+      → IfSome last (λ a. (entry a).0.replica < 2 ^ 32) → IsLastIn (option_map entry last)
+  last_from last no_next part steps fits = last_in (Included (id_at r 0)) Unbounded last part steps (λ n. ((in_replica r n).0, tt)) (own last fits)
+    where
+      own : (o : Option A) → IfSome o (λ a. (entry a).0.replica < 2 ^ 32) → IfSome o (λ a. IsInRange id_cmp (Included (id_at r 0)) Unbounded (entry a).0 → (entry a).0.replica ≡ r)
+      own None fits = tt
+      own (Some a) fits = λ inside. omega (arith, at_least r (entry a).0.replica (entry a).0.counter inside.0, fits, no_next)
+
+module _ {V : Type 0} (nth : Identifier → V → ℕ → V) (reaches : Identifier → V → ℕ → Type 0) (l : Layout V) (are : AreStretches reaches l) (r : ℕ) where
+  -- the last kept stretch of the replica has the greatest counter of them
+  pub greatest_by_last : (e : Entry V) → IsLastOf (Keeps l.1) r e → IsGreatestOf (Keeps l.1) r (Some e.1.last)
+  greatest_by_last e is =
+      record {
+        none = tt;
+        some = (
+          (e, is.one, is.own, refl),
+          λ f kept mine.
+              elim (cases_le e.0.counter f.0.counter) [
+                | inl same ↦
+                    let below : f.0.counter ≤ e.0.counter = is.last f kept mine in
+                    let c : f.0.counter ≡ e.0.counter = omega (arith, same, below) in
+                    let here : f.0 ≡ e.0 = λ i. record { replica = (mine ∙ sym is.own) i; counter = c i } in
+                    let value : f.1 ≡ e.1 = same_kept l.1 f e kept is.one here in
+                    let last : f.1.last ≡ e.1.last = ap (λ s. s.last) value in
+                    omega (arith, last)
+                | inr less ↦
+                    let far : f.1.last < e.0.counter = are.apart f e (inr kept) (inr is.one) (mine ∙ sym is.own) less in
+                    let begun : e.0.counter ≤ e.1.last = are.begun e (inr is.one) in
+                    omega (arith, far, begun)
+              ],
+        );
+      }
+
+  -- the greatest counter in all stretches is that of the identifiers with a value
+  in_all : (o : Option ℕ) → IsGreatestOf (Has l) r o → IsGreatestIn (value_in nth l) r o
+  in_all None is = record {
+    none = λ e n. elim (found nth reaches l are (id_at r n)) [ inl w ↦ w.0 | inr w ↦ absurd (is.none w.0 w.1 w.2.replica) ];
+    held = tt;
+    bound = tt;
+  }
+  in_all (Some n) is =
+      let e : Entry V = is.some.0.0 in
+      let last : e.1.last ≡ n = is.some.0.3 in
+      let begun : e.0.counter ≤ e.1.last = are.begun e is.some.0.1 in
+      record {
+        none = λ e. absurd (true≢false e);
+        held = ap is_some (covered nth reaches l are (id_at r n) e is.some.0.1 (record { replica = is.some.0.2; from = omega (arith, last, begun); to = omega (arith, last) }));
+        bound = λ m some. elim (found nth reaches l are (id_at r m)) [
+          | inl w ↦ absurd (true≢false (sym some ∙ ap is_some w.0))
+          | inr w ↦ let to : m ≤ w.0.1.last = w.2.to in let top : w.0.1.last ≤ n = is.some.1 w.0 w.1 w.2.replica in omega (arith, to, top)
+        ];
+      }
+
+  -- that of the stretch at hand and of the kept ones, the greater
+  pub greatest_both : (n m : ℕ) → IsGreatestOf (λ e. l.0 ≡ Some e) r (Some n) → IsGreatestOf (Keeps l.1) r (Some m) → IsGreatestIn (value_in nth l) r (Some (max n m))
+  greatest_both n m a b =
+      in_all (Some (max n m)) (record {
+        none = tt;
+        some = (
+          elim (max_one n m) [
+            | inl is ↦ (a.some.0.0, inl a.some.0.1, a.some.0.2, a.some.0.3 ∙ sym is)
+            | inr is ↦ (b.some.0.0, inr b.some.0.1, b.some.0.2, b.some.0.3 ∙ sym is)
+          ],
+          λ f h mine. elim h [
+            | inl x ↦ let top : f.1.last ≤ n = a.some.1 f x mine in omega (arith, top)
+            | inr x ↦ let top : f.1.last ≤ m = b.some.1 f x mine in omega (arith, top)
+          ],
+        );
+      })
+    where
+      max_one : (n m : ℕ) → (max n m ≡ n) ⊎ (max n m ≡ m)
+      max_one n m = grind arith
+
+  pub greatest_first : (n : ℕ) → IsGreatestOf (λ e. l.0 ≡ Some e) r (Some n) → IsGreatestOf (Keeps l.1) r None → IsGreatestIn (value_in nth l) r (Some n)
+  greatest_first n a b =
+      in_all (Some n) (record {
+        none = tt;
+        some = ((a.some.0.0, inl a.some.0.1, a.some.0.2, a.some.0.3), λ f h mine. elim h [ inl x ↦ a.some.1 f x mine | inr x ↦ absurd (b.none f x mine) ]);
+      })
+
+  pub greatest_other : (o : Option ℕ) → IsGreatestOf (λ e. l.0 ≡ Some e) r None → IsGreatestOf (Keeps l.1) r o → IsGreatestIn (value_in nth l) r o
+  greatest_other None a b = in_all None (record { none = λ e h mine. elim h [ inl x ↦ a.none e x mine | inr x ↦ b.none e x mine ]; some = tt })
+  greatest_other (Some m) a b =
+      in_all (Some m) (record {
+        none = tt;
+        some = ((b.some.0.0, inr b.some.0.1, b.some.0.2, b.some.0.3), λ f h mine. elim h [ inl x ↦ absurd (a.none f x mine) | inr x ↦ b.some.1 f x mine ]);
+      })
+
+  -- the greater of both
+  pub greatest_all : (a b : Option ℕ) → IsGreatestOf (λ e. l.0 ≡ Some e) r a → IsGreatestOf (Keeps l.1) r b → IsGreatestIn (value_in nth l) r (greater_of a b)
+  greatest_all None b x y = greatest_other b x y
+  greatest_all (Some n) None x y = greatest_first n x y
+  greatest_all (Some n) (Some m) x y = greatest_both n m x y
+
+  -- the last kept stretch of the replica, if there is one
+  pub greatest_by : (o : Option (Entry V)) → IfNone o ((e : Entry V) → Keeps l.1 e → e.0.replica ≡ r → ⊥) → IfSome o (IsLastOf (Keeps l.1) r)
+      → IsGreatestOf (Keeps l.1) r (option_map (λ (e : Entry V). e.1.last) o)
+  greatest_by None none some = record { none = none; some = tt }
+  greatest_by (Some e) none some = greatest_by_last e some
+
+  -- the stretch at hand, of the replica
+  pub greatest_at_hand : (e : Entry V) → l.0 ≡ Some e → e.0.replica ≡ r → IsGreatestOf (λ x. l.0 ≡ Some x) r (Some e.1.last)
+  greatest_at_hand e old mine =
+      record {
+        none = tt;
+        some = ((e, old, mine, refl), λ f h own. let same : f ≡ e = let both : Some f ≡ Some e = sym h ∙ old in cc in let last : f.1.last ≡ e.1.last = ap (λ (x : Entry V). x.1.last) same in omega (arith, last));
+      }
+
+-- the same of another look-up of the same values
+pub greatest_as : {V : Type 0} (f g : Identifier → Option V) (r : ℕ) (o : Option ℕ) → ((q : Identifier) → f q ≡ g q) → IsGreatestIn f r o → IsGreatestIn g r o
+greatest_as f g r None same is = record { none = λ e n. sym (same (id_at r n)) ∙ is.none e n; held = tt; bound = tt }
+greatest_as f g r (Some n) same is =
+    record {
+      none = λ e m. sym (same (id_at r m)) ∙ is.none e m;
+      held = sym (ap is_some (same (id_at r n))) ∙ is.held;
+      bound = λ m some. is.bound m (ap is_some (same (id_at r m)) ∙ some);
+    }

@@ -1,0 +1,12 @@
+pub mod FoundLemmas
+pub mod GreatestLemmas
+pub mod GrownLemmas
+pub mod KeptLemmas
+pub mod LessenedLemmas
+pub mod MapLemmas
+pub mod OrderLemmas
+pub mod PartedLemmas
+pub mod PutLemmas
+pub mod ReadLemmas
+pub mod ResultLemmas
+pub mod TakenLemmas

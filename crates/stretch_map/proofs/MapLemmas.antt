@@ -1,0 +1,87 @@
+-- The finite map that stretches stand for, as it is read, grows and shrinks.
+use Rattle.std.proofs.Common.{ap, arith, cond, inl, inr, subst, sym, true, ℕ, ◌+◌, ◌-◌, ◌∙◌, ◌≡◌, ◌≤◌}
+use Rattle.std.specs.Prelude.{Err, IfSome, None, Ok, OnErr, Option, Result, Some, is_some, []}
+use Rattle.std.specs.BTreeMap.{is_at}
+use Rattle.std.specs.FinMap.{empty, empty_of_len, from_entries, get, get-empty, get-from_entries, get-insert, get-remove, insert, len, len-empty, len-insert, len-remove, remove, same_map}
+use Rattle.std.specs.List.Sorted.{IsStrictlySortedBy}
+use Rattle.std.specs.Map.{keys_of, lookup}
+use Rattle.std.specs.Ordering.{is_eq}
+use Rattle.fugue_ids.specs.Identifiers.{Identifier, id_cmp}
+use Rattle.stretch_map.specs.Ahead.{ahead}
+use Rattle.stretch_map.specs.Contents.{Entry, Layout, all_of, contents, spread, value_in}
+use Rattle.stretch_map.specs.Rules.{IsFollowed}
+use Rattle.stretch_map.specs.Stretches.{Adds, AreStretches, EndsAt, Has, IsSame, Loses}
+use Rattle.stretch_map.proofs.FoundLemmas.{cases_le, cases_number, covered}
+use Rattle.std.proofs.lemmas.Bool.{true≢false}
+use Rattle.stretch_map.proofs.OrderLemmas.{id_cmp-IsAntisymmetric, id_cmp_total}
+
+module _ {V : Type 0} (nth : Identifier → V → ℕ → V) where
+  -- a value of the finite map is the one that is found in the entries
+  pub get-contents : (l : Layout V) (q : Identifier) → get (contents nth l) q ≡ value_in nth l q
+  get-contents l q = get-from_entries id_cmp_total (spread nth (all_of l.0 l.1)) q
+
+  -- no stretches stand for the empty map
+  pub contents-none : (l : Layout V) → l.0 ≡ None → l.1 ≡ [] → contents nth l ≡ empty
+  contents-none l none gone = λ i. from_entries {R = id_cmp} (spread nth (all_of (none i) (gone i)))
+
+  -- equal values make equal maps
+  pub contents-same : (l k : Layout V) → ((q : Identifier) → value_in nth k q ≡ value_in nth l q) → contents nth k ≡ contents nth l
+  contents-same l k same = same_map id_cmp_total id_cmp-IsAntisymmetric (contents nth k) (contents nth l) (λ q. get-contents k q ∙ same q ∙ sym (get-contents l q))
+
+  module _ (reaches : Identifier → V → ℕ → Type 0) (l k : Layout V) (key : Identifier) where
+    -- one value more
+    pub contents-adds : (value : V) → Adds nth reaches l k key value → contents nth k ≡ insert (contents nth l) key value
+    contents-adds value adds =
+        same_map id_cmp_total id_cmp-IsAntisymmetric (contents nth k) (insert (contents nth l) key value)
+        (λ q.
+        get-contents k q ∙ adds.found q ∙ ap (λ o. cond (is_eq (id_cmp q key)) (Some value) o) (sym (get-contents l q))
+        ∙ sym (get-insert id_cmp_total (contents nth l) key value q))
+
+    -- one value less
+    pub contents-loses : Loses nth reaches l k key → contents nth k ≡ remove (contents nth l) key
+    contents-loses loses =
+        same_map id_cmp_total id_cmp-IsAntisymmetric (contents nth k) (remove (contents nth l) key)
+        (λ q.
+        get-contents k q ∙ loses.found q ∙ ap (λ o. cond (is_eq (id_cmp q key)) None o) (sym (get-contents l q)) ∙ sym (get-remove id_cmp_total (contents nth l) key q))
+
+  -- where the next identifier has not the value that follows, a stretch ends with the key
+  pub ends_unless_followed : (reaches : Identifier → V → ℕ → Type 0) → ((first : Identifier) (value : V) (j k : ℕ) → nth (ahead first j) (nth first value j) k ≡ nth first value (j + k))
+      → (l : Layout V) → AreStretches reaches l → (key : Identifier) → (IsFollowed nth (value_in nth l) key → ⊥) → EndsAt l key
+  ends_unless_followed reaches adds l are key not e has cover =
+      elim (cases_le e.1.last key.counter) [
+        | inl low ↦ low
+        | inr over ↦
+            let from : e.0.counter ≤ key.counter = cover.from in
+            let j : ℕ = key.counter - e.0.counter in
+            let steps : key.counter + 1 - e.0.counter ≡ key.counter - e.0.counter + 1 = omega arith in
+            let there : ahead e.0 (key.counter - e.0.counter) ≡ key = let c : e.0.counter + (key.counter - e.0.counter) ≡ key.counter = omega arith in λ i. record { replica = cover.replica i; counter = c i } in
+            let next = covered nth reaches l are (ahead key 1) e has (record { replica = cover.replica; from = omega arith; to = omega arith }) in
+            absurd (not (record {
+              value = nth e.0 e.1.value (key.counter - e.0.counter);
+              held = covered nth reaches l are key e has cover;
+              followed = next ∙ ap (λ n. Some (nth e.0 e.1.value n)) steps ∙ ap Some (sym (adds e.0 e.1.value (key.counter - e.0.counter) 1)) ∙ ap (λ x. Some (nth x (nth e.0 e.1.value (key.counter - e.0.counter)) 1)) there;
+            }))
+      ]
+
+-- no stretches are stretches
+pub none_are : {V : Type 0} (reaches : Identifier → V → ℕ → Type 0) (l : Layout V) → l.0 ≡ None → l.1 ≡ [] → IsStrictlySortedBy id_cmp (keys_of l.1) → AreStretches reaches l
+none_are {V} reaches l none gone ordered =
+    record {
+      begun = λ e h. absurd (never e h);
+      apart = λ e f h. absurd (never e h);
+      reached = λ e h. absurd (never e h);
+      alone = subst (λ (o : Option (Entry V)). IfSome o (λ z. lookup (is_at (id_cmp z.0)) l.1 ≡ None)) (sym none) tt;
+      ordered = ordered;
+    }
+  where
+    never : (e : Entry V) → Has l e → ⊥
+    never e h = elim h [
+      | inl a ↦ let no_one : None ≡ Some e = sym none ∙ a in cc
+      | inr a ↦ let both : None ≡ Some e.1 = sym (ap (lookup (is_at (id_cmp e.0))) gone) ∙ a in cc
+    ]
+
+-- where the stretches are the same, one still ends with a key
+pub still_ends : {V : Type 0} (nth : Identifier → V → ℕ → V) (reaches : Identifier → V → ℕ → Type 0) (l k : Layout V) → IsSame nth reaches l k → (o : Option Identifier)
+    → IfSome o (EndsAt l) → IfSome o (EndsAt k)
+still_ends nth reaches l k same None ends = tt
+still_ends nth reaches l k same (Some key) ends = λ e h c. ends e (same.among e h) c

@@ -1,0 +1,6 @@
+pub mod Ahead
+pub mod Contents
+pub mod Order
+pub mod RuleLaws
+pub mod Rules
+pub mod Stretches

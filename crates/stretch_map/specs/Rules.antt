@@ -1,0 +1,46 @@
+-- The rules of the values that stretches have.
+use Rattle.std.specs.Prelude.{◌≡◌, ℕ, zero, suc, ◌+◌, ◌<◌, ◌≤◌, ◌^◌, IfSome, IsNone, IsSome, None, Option, Some, max}
+use Rattle.fugue_ids.specs.Identifiers.{Identifier}
+use Rattle.stretch_map.specs.Ahead.{ahead}
+use Rattle.stretch_map.specs.declared.position.Position.{Position}
+use Rattle.stretch_map.specs.declared.typed.Typed.{Typed}
+
+-- the position so many steps behind
+abbrev pub later : Position → ℕ → Position
+later p k = record { at = p.at + k }
+
+-- the position so many steps behind is a number of 64 bits
+abbrev pub CanBeLater : Position → ℕ → Type 0
+CanBeLater p k = 0 < k → p.at + k < 2 ^ 64
+
+-- the origins so many steps behind: the identifier before it is the left origin
+abbrev pub typed_behind : Identifier → Typed → ℕ → Typed
+typed_behind first t zero = t
+typed_behind first t (suc k) = record { left = Some (ahead first k); right = t.right }
+
+-- the value is the one that follows that of the identifier before
+pub record IsNext {V : Type 0} (nth : Identifier → V → ℕ → V) (reaches : Identifier → V → ℕ → Type 0) (value_of : Identifier → Option V) (key : Identifier) (value : V) : Type 0 where
+  pub before : Identifier
+  pub at_key : ahead before 1 ≡ key
+  pub value_before : V
+  pub held : value_of before ≡ Some value_before
+  pub reached : reaches before value_before 1
+  pub follows : nth before value_before 1 ≡ value
+
+-- the next identifier has the value that follows
+pub record IsFollowed {V : Type 0} (nth : Identifier → V → ℕ → V) (value_of : Identifier → Option V) (key : Identifier) : Type 0 where
+  pub value : V
+  pub held : value_of key ≡ Some value
+  pub followed : value_of (ahead key 1) ≡ Some (nth key value 1)
+
+-- the greatest counter of the replica's identifiers that have a value, and None where none has one
+pub record IsGreatestIn {V : Type 0} (value_of : Identifier → Option V) (replica : ℕ) (greatest : Option ℕ) : Type 0 where
+  pub none : IsNone greatest → (n : ℕ) → value_of (record { replica = replica; counter = n }) ≡ None
+  pub held : IfSome greatest (λ n. IsSome (value_of (record { replica = replica; counter = n })))
+  pub bound : IfSome greatest (λ n. (m : ℕ) → IsSome (value_of (record { replica = replica; counter = m })) → m ≤ n)
+
+-- the greater of two numbers that may be there
+abbrev pub greater_of : Option ℕ → Option ℕ → Option ℕ
+greater_of None b = b
+greater_of (Some n) None = Some n
+greater_of (Some n) (Some m) = Some (max n m)

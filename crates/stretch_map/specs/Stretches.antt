@@ -1,0 +1,139 @@
+-- The stretches of a map, and what becomes of them.
+use Rattle.std.specs.Prelude.{◌≡◌, ◌≢◌, ◌⊎◌, ℕ, ◌+◌, ◌-◌, ◌<◌, ◌≤◌, None, Option, Some, List, IfNone, IfSome, cond, option_map}
+use Rattle.std.specs.BTreeMap.{BTreeMap, IsOrdered, UpdatesBy, is_at}
+use Rattle.std.specs.List.Sorted.{IsStrictlySortedBy}
+use Rattle.std.specs.Map.{keys_of, lookup}
+use Rattle.std.specs.Ordering.{is_eq}
+use Rattle.fugue_ids.specs.Identifiers.{Identifier, id_cmp}
+use Rattle.stretch_map.specs.Ahead.{ahead}
+use Rattle.stretch_map.specs.Contents.{Entry, Layout, value_in}
+use Rattle.stretch_map.specs.Order.{IsAtMost}
+use Rattle.stretch_map.specs.declared.stretch.Stretch.{Stretch}
+
+-- the stretch that is kept under an identifier
+abbrev pub kept_at : {V : Type 0} → List (Entry V) → Identifier → Option (Stretch V)
+kept_at es q = lookup (is_at (id_cmp q)) es
+
+-- the stretch is kept
+abbrev pub Keeps : {V : Type 0} → List (Entry V) → Entry V → Type 0
+Keeps es e = kept_at es e.0 ≡ Some e.1
+
+-- the stretch is kept, or is the one at hand
+abbrev pub Has : {V : Type 0} → Layout V → Entry V → Type 0
+Has l e = (l.0 ≡ Some e) ⊎ Keeps l.1 e
+
+-- q is one of the identifiers of a stretch
+pub record Covers {V : Type 0} (e : Entry V) (q : Identifier) : Type 0 where
+  pub replica : e.0.replica ≡ q.replica
+  pub from : e.0.counter ≤ q.counter
+  pub to : q.counter ≤ e.1.last
+
+-- the rule reaches to the end of a stretch
+abbrev pub IsReached : {V : Type 0} → (Identifier → V → ℕ → Type 0) → Entry V → Type 0
+IsReached reaches e = (k : ℕ) → e.0.counter + k ≤ e.1.last → reaches e.0 e.1.value k
+
+-- no stretch is empty, none overlap, and the rule reaches to the end of each
+pub record AreStretches {V : Type 0} (reaches : Identifier → V → ℕ → Type 0) (l : Layout V) : Type 0 where
+  pub begun : (e : Entry V) → Has l e → e.0.counter ≤ e.1.last
+  pub apart : (e f : Entry V) → Has l e → Has l f → e.0.replica ≡ f.0.replica → e.0.counter < f.0.counter → e.1.last < f.0.counter
+  pub reached : (e : Entry V) → Has l e → IsReached reaches e
+  pub alone : IfSome l.0 (λ e. kept_at l.1 e.0 ≡ None)
+  pub ordered : IsStrictlySortedBy id_cmp (keys_of l.1)
+
+-- a stretch ends at the key, if it has it
+abbrev pub EndsAt : {V : Type 0} → Layout V → Identifier → Type 0
+EndsAt {V} l key = (e : Entry V) → Has l e → Covers e key → e.1.last ≤ key.counter
+
+-- what one of the stretches for which P holds has at the key, and None where none of them has it
+pub record IsReadIn {V : Type 0} (nth : Identifier → V → ℕ → V) (P : Entry V → Type 0) (key : Identifier) (value : Option V) : Type 0 where
+  pub none : IfNone value ((e : Entry V) → P e → Covers e key → ⊥)
+  pub some : IfSome value (λ v. (e : Entry V) × P e × Covers e key × (v ≡ nth e.0 e.1.value (key.counter - e.0.counter)))
+
+-- no stretch begins at the key or before
+abbrev pub NoneUpTo : {V : Type 0} → List (Entry V) → Identifier → Type 0
+NoneUpTo {V} es key = (e : Entry V) → Keeps es e → IsAtMost e.0 key → ⊥
+
+-- the last stretch that begins at the key or before
+pub record IsFloor {V : Type 0} (es : List (Entry V)) (key : Identifier) (e : Entry V) : Type 0 where
+  pub kept : Keeps es e
+  pub up_to : IsAtMost e.0 key
+  pub last : (f : Entry V) → Keeps es f → IsAtMost f.0 key → IsAtMost f.0 e.0
+
+-- the stretch ends right before the key, and the rule leads from it to the value
+pub record GoesOn {V : Type 0} (nth : Identifier → V → ℕ → V) (reaches : Identifier → V → ℕ → Type 0) (e : Entry V) (key : Identifier) (value : V) : Type 0 where
+  pub replica : e.0.replica ≡ key.replica
+  pub next : e.1.last + 1 ≡ key.counter
+  pub reached : reaches e.0 e.1.value (key.counter - e.0.counter)
+  pub follows : nth e.0 e.1.value (key.counter - e.0.counter) ≡ value
+
+-- the stretch has the key as its last identifier too
+abbrev pub up_to : {V : Type 0} → Entry V → ℕ → Entry V
+up_to e last = (e.0, record { value = e.1.value; last = last })
+
+-- the map n is m, but that one stretch goes on with the value at the key, and has it
+pub record Grows {V : Type 0} (nth : Identifier → V → ℕ → V) (reaches : Identifier → V → ℕ → Type 0) (m n : BTreeMap Identifier (Stretch V)) (key : Identifier) (value : V) : Type 0 where
+  pub stretch : Entry V
+  pub kept : Keeps m.entries stretch
+  pub goes_on : GoesOn nth reaches stretch key value
+  pub updates : UpdatesBy id_cmp (id_cmp stretch.0) m n (Some (up_to stretch key.counter).1)
+  pub ordered : IsOrdered id_cmp n
+
+-- k has the value at the key, and else those of l; a stretch ends there
+pub record Adds {V : Type 0} (nth : Identifier → V → ℕ → V) (reaches : Identifier → V → ℕ → Type 0) (l k : Layout V) (key : Identifier) (value : V) : Type 0 where
+  pub are : AreStretches reaches k
+  pub found : (q : Identifier) → value_in nth k q ≡ cond (is_eq (id_cmp q key)) (Some value) (value_in nth l q)
+  pub ends : EndsAt k key
+
+-- k has the values of l, but none at the key
+pub record Loses {V : Type 0} (nth : Identifier → V → ℕ → V) (reaches : Identifier → V → ℕ → Type 0) (l k : Layout V) (key : Identifier) : Type 0 where
+  pub are : AreStretches reaches k
+  pub found : (q : Identifier) → value_in nth k q ≡ cond (is_eq (id_cmp q key)) None (value_in nth l q)
+
+-- k has the stretches of l, and the same values
+pub record IsSame {V : Type 0} (nth : Identifier → V → ℕ → V) (reaches : Identifier → V → ℕ → Type 0) (l k : Layout V) : Type 0 where
+  pub are : AreStretches reaches k
+  pub found : (q : Identifier) → value_in nth k q ≡ value_in nth l q
+  pub among : (e : Entry V) → Has k e → Has l e
+
+-- what is left of a stretch without its last identifier
+abbrev pub IsShorter : {V : Type 0} → Entry V → Option (Entry V) → Type 0
+IsShorter e r = IfNone r (e.0.counter ≡ e.1.last) × IfSome r (λ x. (e.0.counter < e.1.last) × (x ≡ up_to e (e.1.last - 1)))
+
+-- n is m, but that this stretch is without its last identifier
+pub record IsTakenFrom {V : Type 0} (m n : BTreeMap Identifier (Stretch V)) (e : Entry V) : Type 0 where
+  pub left : Option (Entry V)
+  pub shorter : IsShorter e left
+  pub updates : UpdatesBy id_cmp (id_cmp e.0) m n (option_map (λ x. x.1) left)
+  pub ordered : IsOrdered id_cmp n
+
+-- what is left of a stretch behind so many steps
+abbrev pub rest_behind : {V : Type 0} → (Identifier → V → ℕ → V) → Entry V → ℕ → Entry V
+rest_behind nth e j = (ahead e.0 j, record { value = nth e.0 e.1.value j; last = e.1.last })
+
+-- n is m, but that this stretch ends with the key, and what was behind is another one
+pub record IsCut {V : Type 0} (nth : Identifier → V → ℕ → V) (m n : BTreeMap Identifier (Stretch V)) (e : Entry V) (key : Identifier) : Type 0 where
+  pub head : Keeps n.entries (up_to e key.counter)
+  pub tail : Keeps n.entries (rest_behind nth e (key.counter - e.0.counter + 1))
+  pub others : (q : Identifier) → q ≢ e.0 → q ≢ ahead e.0 (key.counter - e.0.counter + 1) → kept_at n.entries q ≡ kept_at m.entries q
+  pub ordered : IsOrdered id_cmp n
+
+-- k has the values of l, and this stretch ends with the key
+pub record IsParted {V : Type 0} (nth : Identifier → V → ℕ → V) (reaches : Identifier → V → ℕ → Type 0) (l k : Layout V) (e : Entry V) (key : Identifier) : Type 0 where
+  pub are : AreStretches reaches k
+  pub found : (q : Identifier) → value_in nth k q ≡ value_in nth l q
+  pub head : Keeps k.1 (up_to e key.counter)
+
+-- P holds for no stretch of the replica
+abbrev pub NoneOf : {V : Type 0} → (Entry V → Type 0) → ℕ → Type 0
+NoneOf {V} P replica = (e : Entry V) → P e → e.0.replica ≡ replica → ⊥
+
+-- the last stretch of the replica of those for which P holds
+pub record IsLastOf {V : Type 0} (P : Entry V → Type 0) (replica : ℕ) (e : Entry V) : Type 0 where
+  pub one : P e
+  pub own : e.0.replica ≡ replica
+  pub last : (f : Entry V) → P f → f.0.replica ≡ replica → f.0.counter ≤ e.0.counter
+
+-- the greatest counter of the replica in the stretches for which P holds
+pub record IsGreatestOf {V : Type 0} (P : Entry V → Type 0) (replica : ℕ) (greatest : Option ℕ) : Type 0 where
+  pub none : IfNone greatest (NoneOf P replica)
+  pub some : IfSome greatest (λ n. ((e : Entry V) × P e × (e.0.replica ≡ replica) × (e.1.last ≡ n)) × ((f : Entry V) → P f → f.0.replica ≡ replica → f.1.last ≤ n))

@@ -1,0 +1,109 @@
+//! The greatest counter of a replica.
+
+ghost use Rattle.std.specs.Prelude.{◌≡◌, ◌<◌, ◌^◌, IfNone, IfSome, Some, option_map};
+ghost use Rattle.stretch_map.specs.Contents.{layout, value_of};
+ghost use Rattle.stretch_map.specs.Rules.{IsGreatestIn, greater_of};
+ghost use Rattle.stretch_map.specs.Stretches.{AreStretches, Has, IsGreatestOf, IsLastOf, Keeps, NoneOf};
+
+use crate::follows::Follows;
+use crate::read::at_hand;
+use crate::stretch::Stretch;
+use crate::stretches::Stretches;
+use fugue_ids::ElementId;
+use std::collections::BTreeMap;
+
+/// The entry, if there is one.
+fn copied<V: Copy>(entry: Option<(&ElementId, &Stretch<V>)>) -> Option<(ElementId, Stretch<V>)>
+    ensures same { result ≡ option_map (λ e. (e.0.now, e.1.now)) entry.entry }
+    ensures fits { IfSome entry.entry (λ e. e.0.now.replica < 2 ^ 32) }
+{
+    match entry {
+        Some((id, stretch)) => {
+            let replica = id.replica;
+            prove!(replica <= u32::MAX);
+            Some((*id, *stretch))
+        }
+        None => None,
+    }
+}
+
+/// The last kept stretch of the replica.
+fn last_kept<V: Copy>(
+    kept: &BTreeMap<ElementId, Stretch<V>>,
+    replica: u32,
+) -> Option<(ElementId, Stretch<V>)>
+    requires { 0 < replica }
+    ensures none { IfNone result (NoneOf (Keeps kept.now.entries) replica) }
+    ensures some { IfSome result (IsLastOf (Keeps kept.now.entries) replica) }
+{
+    let first = ElementId {
+        replica,
+        counter: 0,
+    };
+    match replica.checked_add(1) {
+        Some(replica) => {
+            let next = ElementId {
+                replica,
+                counter: 0,
+            };
+            copied(kept.range(first..next).next_back())
+        }
+        None => copied(kept.range(first..).next_back()),
+    }
+}
+
+/// The counter of the stretch's last identifier.
+fn last_counter<V: Copy>(entry: Option<(ElementId, Stretch<V>)>) -> Option<u32>
+    ensures { result ≡ option_map (λ e. e.1.last) entry }
+{
+    match entry {
+        Some((_, stretch)) => Some(stretch.last),
+        None => None,
+    }
+}
+
+/// The greater counter of two that may be there.
+fn greater(a: Option<u32>, b: Option<u32>) -> Option<u32>
+    ensures { result ≡ greater_of a b }
+{
+    match (a, b) {
+        (Some(a), Some(b)) => Some(a.max(b)),
+        (Some(a), None) => Some(a),
+        (None, b) => b,
+    }
+}
+
+/// The greatest counter in the kept stretches.
+fn greatest_kept<V: Follows>(stretches: &Stretches<V>, replica: u32) -> Option<u32>
+    requires positive { 0 < replica }
+    requires are { AreStretches V.reaches (layout stretches.now) }
+    ensures { IsGreatestOf (Keeps stretches.now.kept.entries) replica result }
+{
+    last_counter(last_kept(&stretches.kept, replica))
+}
+
+/// The greatest counter in the stretch at hand.
+fn greatest_recent<V: Follows>(stretches: &Stretches<V>, replica: u32) -> Option<u32>
+    requires { AreStretches V.reaches (layout stretches.now) }
+    ensures { IsGreatestOf (λ e. stretches.now.recent ≡ Some e) replica result }
+{
+    let Some((first, stretch)) = at_hand(stretches) else {
+        return None;
+    };
+    if first.replica != replica {
+        return None;
+    }
+    Some(stretch.last)
+}
+
+/// The greatest counter of the replica's identifiers that have a value.
+pub(crate) fn greatest<V: Follows>(stretches: &Stretches<V>, replica: u32) -> Option<u32>
+    requires positive { 0 < replica }
+    requires are { AreStretches V.reaches (layout stretches.now) }
+    ensures { IsGreatestIn (value_of V.nth stretches.now) replica result }
+{
+    greater(
+        greatest_recent(stretches, replica),
+        greatest_kept(stretches, replica),
+    )
+}

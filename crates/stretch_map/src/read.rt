@@ -1,0 +1,67 @@
+//! The value of an identifier.
+
+ghost use Rattle.std.specs.Prelude.{◌≡◌, ◌-◌, IfNone, IfSome, None, Some};
+ghost use Rattle.stretch_map.specs.Contents.{Entry, layout, value_of};
+ghost use Rattle.stretch_map.specs.Stretches.{AreStretches, Covers, IsReached, IsReadIn, Keeps};
+
+use crate::floor::floor;
+use crate::follows::Follows;
+use crate::stretch::Stretch;
+use crate::stretches::Stretches;
+use fugue_ids::ElementId;
+
+/// The value that the stretch has at the key.
+fn value_in<V: Follows>(first: ElementId, stretch: &Stretch<V>, key: ElementId) -> Option<V>
+    requires { IsReached V.reaches (first, stretch.now) }
+    ensures none { IfNone result (Covers (first, stretch.now) key → ⊥) }
+    ensures some { IfSome result (λ value. Covers (first, stretch.now) key × (value ≡ V.nth first stretch.now.value (key.counter - first.counter))) }
+{
+    if first.replica != key.replica || key.counter < first.counter || stretch.last < key.counter {
+        return None;
+    }
+    Some(stretch.value.nth(first, key.counter - first.counter))
+}
+
+/// The stretch at hand.
+pub(crate) fn at_hand<V: Copy>(stretches: &Stretches<V>) -> Option<(ElementId, Stretch<V>)>
+    ensures none { IfNone result (stretches.now.recent ≡ None) }
+    ensures some { IfSome result (λ e. stretches.now.recent ≡ Some e) }
+{
+    match stretches.recent {
+        Some((first, stretch)) => Some((first, stretch)),
+        None => None,
+    }
+}
+
+/// The value that the stretch at hand has at the key.
+pub(crate) fn recent_value<V: Follows>(stretches: &Stretches<V>, key: ElementId) -> Option<V>
+    requires { AreStretches V.reaches (layout stretches.now) }
+    ensures { IsReadIn V.nth (λ e. stretches.now.recent ≡ Some e) key result }
+{
+    let Some((first, stretch)) = at_hand(stretches) else {
+        return None;
+    };
+    value_in(first, &stretch, key)
+}
+
+/// The value that one of the other stretches has at the key.
+pub(crate) fn kept_value<V: Follows>(stretches: &Stretches<V>, key: ElementId) -> Option<V>
+    requires { AreStretches V.reaches (layout stretches.now) }
+    ensures { IsReadIn V.nth (Keeps stretches.now.kept.entries) key result }
+{
+    let Some((first, stretch)) = floor(&stretches.kept, key) else {
+        return None;
+    };
+    value_in(first, &stretch, key)
+}
+
+/// The value at the key.
+pub(crate) fn value_at<V: Follows>(stretches: &Stretches<V>, key: ElementId) -> Option<V>
+    requires { AreStretches V.reaches (layout stretches.now) }
+    ensures { result ≡ value_of V.nth stretches.now key }
+{
+    match recent_value(stretches, key) {
+        Some(value) => Some(value),
+        None => kept_value(stretches, key),
+    }
+}

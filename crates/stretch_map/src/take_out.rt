@@ -1,0 +1,188 @@
+//! One value less.
+
+ghost use Rattle.std.specs.Prelude.{◌≡◌, ◌+◌, ◌<◌, ◌≤◌, None, Some, IfNone, IfOk, IfSome, IsFalse, IsOk, IsTrue, OnErr, OnOk};
+ghost use Rattle.std.specs.BTreeMap.{IsUnchanged};
+ghost use Rattle.stretch_map.specs.Contents.{Entry, layout, value_of};
+ghost use Rattle.stretch_map.specs.Stretches.{AreStretches, Covers, EndsAt, IsCut, IsParted, IsReached, IsSame, IsShorter, IsTakenFrom, Keeps, Loses, up_to};
+
+use crate::floor::floor;
+use crate::follows::Follows;
+use crate::put::shelve;
+use crate::read::{at_hand, value_at};
+use crate::stretch::Stretch;
+use crate::stretches::Stretches;
+use fugue_ids::{ElementId, NoMemory};
+use std::collections::BTreeMap;
+
+fn covers<V: Copy>(first: ElementId, stretch: &Stretch<V>, key: ElementId) -> bool
+    ensures on { IsTrue result → Covers (first, stretch.now) key }
+    ensures off { IsFalse result → Covers (first, stretch.now) key → ⊥ }
+{
+    first.replica == key.replica && first.counter <= key.counter && key.counter <= stretch.last
+}
+
+/// The stretch without its last identifier, if it has another one.
+fn shorter<V: Follows>(first: ElementId, stretch: &Stretch<V>) -> Option<(ElementId, Stretch<V>)>
+    requires { first.counter ≤ stretch.now.last }
+    ensures { IsShorter (first, stretch.now) result }
+{
+    if stretch.last == first.counter {
+        return None;
+    }
+    let last = stretch.last - 1;
+    let value = stretch.value;
+    Some((first, Stretch { value, last }))
+}
+
+/// Whether the stretch at hand ended with the key, and is without it now.
+fn shorten_recent<V: Follows>(stretches: &mut Stretches<V>, key: ElementId) -> bool
+    requires { AreStretches V.reaches (layout stretches.old) }
+    ensures on { IsTrue result → Loses V.nth V.reaches (layout stretches.old) (layout stretches.new) key }
+    ensures off { IsFalse result → layout stretches.new ≡ layout stretches.old }
+    ensures goes_on { IsFalse result → (e : Entry V) → stretches.old.recent ≡ Some e → Covers e key → key.counter < e.1.last }
+{
+    let Some((first, stretch)) = at_hand(stretches) else {
+        return false;
+    };
+    if first.replica != key.replica || stretch.last != key.counter {
+        return false;
+    }
+    stretches.recent = shorter(first, &stretch);
+    true
+}
+
+/// The stretch at hand does not have the key: if it did, it went to the others. After want of memory all is as before.
+fn shelve_over<V: Follows>(stretches: &mut Stretches<V>, key: ElementId) -> Result<(), NoMemory>
+    requires { AreStretches V.reaches (layout stretches.old) }
+    ensures same { OnOk result (IsSame V.nth V.reaches (layout stretches.old) (layout stretches.new)) }
+    ensures apart { OnOk result ((e : Entry V) → stretches.new.recent ≡ Some e → Covers e key → ⊥) }
+    ensures err { OnErr result (layout stretches.new ≡ layout stretches.old) }
+    ensures sure { ((e : Entry V) → stretches.old.recent ≡ Some e → Covers e key → ⊥) → IsOk result }
+{
+    let Some((first, stretch)) = at_hand(stretches) else {
+        return Ok(());
+    };
+    if !covers(first, &stretch, key) {
+        return Ok(());
+    }
+    shelve(stretches)
+}
+
+/// The kept stretch without its last identifier.
+fn shorten_kept<V: Follows>(
+    kept: &mut BTreeMap<ElementId, Stretch<V>>,
+    first: ElementId,
+    stretch: &Stretch<V>,
+)
+    requires begun { first.counter ≤ stretch.now.last }
+    requires there { Keeps kept.old.entries (first, stretch.now) }
+    ensures { IsTakenFrom kept.old kept.new (first, stretch.now) }
+{
+    match shorter(first, stretch) {
+        Some((_, rest)) => {
+            if let Some(stretch) = kept.get_mut(&first) {
+                *stretch = rest;
+            }
+        }
+        None => {
+            kept.remove(&first);
+        }
+    }
+}
+
+/// The kept stretch cut in two behind the key. After want of memory all is as before.
+fn cut_behind<V: Follows>(
+    kept: &mut BTreeMap<ElementId, Stretch<V>>,
+    first: ElementId,
+    value: V,
+    last: u32,
+    key: ElementId,
+) -> Result<(), NoMemory>
+    requires there { Keeps kept.old.entries (first, record { value = value; last = last }) }
+    requires reached { IsReached V.reaches (first, record { value = value; last = last }) }
+    requires covers { Covers {V = V} (first, record { value = value; last = last }) key }
+    requires inside { key.counter < last }
+    ensures ok { OnOk result (IsCut V.nth kept.old kept.new (first, record { value = value; last = last }) key) }
+    ensures err { OnErr result (IsUnchanged kept.old kept.new) }
+{
+    let steps = key.counter - first.counter + 1;
+    let behind = ElementId {
+        replica: first.replica,
+        counter: key.counter + 1,
+    };
+    let tail = Stretch {
+        value: value.nth(first, steps),
+        last,
+    };
+    kept.insert(behind, tail)?;
+    if let Some(head) = kept.get_mut(&first) {
+        let last = key.counter;
+        *head = Stretch { value, last };
+    }
+    Ok(())
+}
+
+/// The kept stretch ends with the key: what was behind is another one. After want of memory all is as before.
+fn end_at<V: Follows>(
+    stretches: &mut Stretches<V>,
+    first: ElementId,
+    stretch: &Stretch<V>,
+    key: ElementId,
+) -> Result<(), NoMemory>
+    requires are { AreStretches V.reaches (layout stretches.old) }
+    requires there { Keeps stretches.old.kept.entries (first, stretch.now) }
+    requires covers { Covers (first, stretch.now) key }
+    ensures ok { OnOk result (IsParted V.nth V.reaches (layout stretches.old) (layout stretches.new) (first, stretch.now) key) }
+    ensures err { OnErr result (layout stretches.new ≡ layout stretches.old) }
+    ensures sure { stretch.now.last ≤ key.counter → IsOk result }
+{
+    if stretch.last <= key.counter {
+        return Ok(());
+    }
+    cut_behind(&mut stretches.kept, first, stretch.value, stretch.last, key)?;
+    Ok(())
+}
+
+/// A kept stretch without the key, which the one at hand does not have. After want of memory all is as before.
+fn take_kept<V: Follows>(stretches: &mut Stretches<V>, key: ElementId) -> Result<(), NoMemory>
+    requires are { AreStretches V.reaches (layout stretches.old) }
+    requires apart { (e : Entry V) → stretches.old.recent ≡ Some e → Covers e key → ⊥ }
+    ensures ok { OnOk result (Loses V.nth V.reaches (layout stretches.old) (layout stretches.new) key) }
+    ensures err { OnErr result (layout stretches.new ≡ layout stretches.old) }
+    ensures sure { EndsAt (layout stretches.old) key → IsOk result }
+{
+    let Some((first, stretch)) = floor(&stretches.kept, key) else {
+        return Ok(());
+    };
+    if !covers(first, &stretch, key) {
+        return Ok(());
+    }
+    end_at(stretches, first, &stretch, key)?;
+    let head = Stretch {
+        value: stretch.value,
+        last: key.counter,
+    };
+    shorten_kept(&mut stretches.kept, first, &head);
+    Ok(())
+}
+
+/// The value of the key, which has none then. After want of memory the values are as before; none is wanted where a stretch ends with
+/// the key.
+pub(crate) fn take_out<V: Follows>(
+    stretches: &mut Stretches<V>,
+    key: ElementId,
+) -> Result<Option<V>, NoMemory>
+    requires { AreStretches V.reaches (layout stretches.old) }
+    ensures value { IfOk result (λ value. value ≡ value_of V.nth stretches.old key) }
+    ensures ok { OnOk result (Loses V.nth V.reaches (layout stretches.old) (layout stretches.new) key) }
+    ensures err { OnErr result (IsSame V.nth V.reaches (layout stretches.old) (layout stretches.new)) }
+    ensures sure { EndsAt (layout stretches.old) key → IsOk result }
+{
+    let value = value_at(stretches, key);
+    if shorten_recent(stretches, key) {
+        return Ok(value);
+    }
+    shelve_over(stretches, key)?;
+    take_kept(stretches, key)?;
+    Ok(value)
+}
