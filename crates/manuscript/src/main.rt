@@ -9,10 +9,13 @@ use std::process::ExitCode;
 use std::rt::Env;
 use std::{env, io};
 
-/// The words behind the program's name.
-fn words(rt: &(impl Env + AllocGlobal)) -> io::Result<Vec<String>> {
+#[cfg(test)]
+mod tests;
+
+/// The words behind those that name the program.
+fn words(rt: &(impl Env + AllocGlobal), names: usize) -> io::Result<Vec<String>> {
     env::args(rt)?
-        .skip(1)
+        .skip(names)
         .collect(rt.alloc())
         .map_err(io::Error::from)
 }
@@ -45,11 +48,11 @@ fn open_guest(rt: &HostRuntime, words: &[String]) -> FileDisk {
 }
 
 /// Runs on the streams of the process, the files that the words name, and the network of this machine.
-fn run_on_process(rt: &HostRuntime) -> Status {
+fn run_on_process(rt: &HostRuntime, names: usize) -> Status {
     let mut input = StdSource::new(rt.stdin());
     let mut output = StdSink::new(rt.stdout());
     let mut notes = StdSink::new(rt.stderr());
-    let words = match words(rt) {
+    let words = match words(rt, names) {
         Ok(words) => words,
         Err(error) if error.kind() == io::ErrorKind::OutOfMemory => {
             return tell(&mut notes, Refusal::NoMemory);
@@ -81,5 +84,5 @@ fn run_on_process(rt: &HostRuntime) -> Status {
 }
 
 fn main(rt: HostRuntime) -> ExitCode {
-    ExitCode::from(run_on_process(&rt).code())
+    ExitCode::from(run_on_process(&rt, 1).code())
 }

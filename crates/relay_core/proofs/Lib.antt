@@ -2,3 +2,4 @@ pub mod LogLemmas
 pub mod SessionLemmas
 pub mod TakingLemmas
 pub mod PieceLemmas
+pub mod PartsLemmas

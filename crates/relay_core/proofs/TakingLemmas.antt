@@ -4,7 +4,7 @@ use Rattle.std.specs.Prelude.{Err, IfOk, None, Ok, Option, Result, Some, if◌th
 use Rattle.std.specs.Int.{from_be_bytes, w32}
 use Rattle.std.proofs.lemmas.Bool.{eq-eqb, true≢false}
 use Rattle.std.proofs.lemmas.List.{append-nil, take-append-drop, take_more}
-use Rattle.origin_model.specs.relay.Session.{Closes, Closing, Frame, Front, Goes, Kind, Neither, Next, Reading, Taken, TakesAll, TakesByte, TakesOne, closing, goes_on, greeted, greeting, is_logged, refusal, refused, told}
+use Rattle.origin_model.specs.relay.Session.{Closes, Closing, Frame, Front, Goes, Kind, Neither, Reading, Taken, TakesAll, TakesByte, TakesOne, closing, goes_on, greeted, greeting, is_logged, refusal, refused, told}
 use Rattle.origin_model.proofs.SharedLemmas.{closed_takes, takes-append}
 use Rattle.op_frame.specs.FrameFronts.{IsGrown}
 use Rattle.op_frame.specs.declared.grown.Grown.TheVariants.{Bad}

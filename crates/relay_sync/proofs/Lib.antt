@@ -6,3 +6,4 @@ pub mod SayingLemmas
 pub mod SyncingLemmas
 pub mod OutcomeLemmas
 pub mod HeardLemmas
+pub mod WholeLemmas

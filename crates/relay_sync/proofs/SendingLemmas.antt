@@ -127,6 +127,7 @@ replied_front {E} {T} e u v reply s = record {
   nothing_taken = s.nothing_taken;
   port = s.port;
   later = s.writes.cause.later;
+  sure = λ h. absurd (text_fits {E = E} {T = T} e u v reply s h);
   calm = λ h. absurd (text_fits {E = E} {T = T} e u v reply s h);
 }
 
@@ -144,11 +145,15 @@ replied_open {E} {T} {F} {S} x f u v w reply s t closes = record {
   nothing_taken = record { taken = t.nothing_taken.taken ∙ s.nothing_taken.taken; coming = t.nothing_taken.coming ∙ s.nothing_taken.coming };
   port = t.port ∙ s.port;
   later = omega (arith, s.writes.cause.later, t.count.cause.later);
-  calm = λ h.
-      let none : h.ends.0 ≡ 0 = sure_is (λ (n : ℕ). n ≡ 0) v.ends h.ends.0 (s.ends ∙ h.ends.1) t.count.excused in
-      let one : 1 ≤ h.ends.0 = subst (λ (b : Bool). length (if b then reply.session ∷ [] else []) ≤ h.ends.0) closes h.ends.2 in
-      absurd (omega (arith, none, one));
+  sure = λ h. absurd (never h);
+  calm = λ h. absurd (never h);
 }
+  where
+    never : LastsFor u (Some reply) → ⊥
+    never h =
+        let none : h.ends.0 ≡ 0 = sure_is (λ (n : ℕ). n ≡ 0) v.ends h.ends.0 (s.ends ∙ h.ends.1) t.count.excused in
+        let one : 1 ≤ h.ends.0 = subst (λ (b : Bool). length (if b then reply.session ∷ [] else []) ≤ h.ends.0) closes h.ends.2 in
+        omega (arith, none, one)
 
 -- nothing was to be sent
 pub replied_none : (dock : DockView) → Replied dock dock None
@@ -170,6 +175,7 @@ replied_partly u v reply r = record {
   nothing_taken = r.nothing_taken;
   port = r.port;
   later = r.later;
+  sure = λ h is. cc is;
   calm = r.calm;
 }
 
@@ -177,6 +183,22 @@ replied_partly u v reply r = record {
 pub takes_calm : {E : Type 0} (old new : DockView) (step : DockStep) (buf : List ℕ) → Takes {E = E} old new (Ok step) buf → IfSome old.ends (λ ends. new.faults ≡ old.faults)
 takes_calm old new step buf h = h.count.calm
 
-pub takes_spent : {E : Type 0} (e : E) (old new : DockView) (buf : List ℕ) → Takes {E = E} old new (Err e) buf → IfSome old.ends (λ ends. Spends DockFault old new)
-takes_spent e old new buf h =
-    subst (λ (coming : Option (List MemStep)). IfSome old.ends (λ ends. IfSome coming (λ steps. steps ≡ []))) (sym h.kept.coming) h.count.excused
+pub takes_none : {E : Type 0} (e : E) (old new : DockView) (buf : List ℕ) → Takes {E = E} old new (Err e) buf
+    → (steps : List MemStep) × GivesSteps old new steps × (length steps ≤ 1) × IfSome old.ends (λ ends. Spends DockFault steps old new)
+takes_none e old new buf h = (
+  [],
+  record {
+    gave = record { taken = h.kept.taken ∙ grows_none old.taken; comes = h.kept.coming };
+    nothing_sent = h.nothing_sent;
+    ended = h.ended;
+    ends = h.ends;
+    port = h.port;
+    later = h.count.cause.later;
+  },
+  omega arith,
+  none_left old.ends h.count.excused,
+)
+  where
+    none_left : (ends : Option ℕ) → IfSome ends (λ ends. IfSome old.coming (λ steps. steps ≡ [])) → IfSome ends (λ ends. Spends DockFault [] old new)
+    none_left None excused = tt
+    none_left (Some n) excused = (refl, subst (λ (coming : Option (List MemStep)). IfSome coming (λ steps. steps ≡ [])) (sym h.kept.coming) excused)

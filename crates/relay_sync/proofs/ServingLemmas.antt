@@ -13,7 +13,7 @@ use Rattle.origin_model.proofs.SharedLemmas.{runs-append, step_runs}
 use Rattle.outer_ports.specs.dock.Docks.{DockView, SendsNothing, TakesNothing, out_to}
 use Rattle.outer_ports.specs.declared.dock.mem_step.MemStep.{MemStep}
 use Rattle.relay_sync.specs.Sending.{GivesSteps, LastsFor, Replied, RepliedPartly}
-use Rattle.relay_sync.specs.Serving.{Comes, GaveSteps, HasRoomFor, Lasts, NoneAfter, Serves, ServesPartly, Spends, ends_behind, Turn, bytes_to, closed_by, closed_in, count_over, event_of, over_after, replies_of, sent_to, steps_of}
+use Rattle.relay_sync.specs.Serving.{Comes, GaveSteps, HasRoomFor, Lasts, NoneAfter, Serves, ServesPartly, ServingStops, Spends, ends_behind, Turn, TurnStops, bytes_to, closed_by, closed_in, count_over, event_of, over_after, replies_of, sent_to, steps_of}
 use Rattle.relay_sync.specs.declared.serve_fault.ServeFault.{ServeFault}
 use Rattle.relay_sync.specs.declared.serve_fault.ServeFault.TheVariants.{DockFault, NoMemory, TooLong}
 use Rattle.relay_sync.proofs.SendingLemmas.{ends_none, sure_is}
@@ -72,7 +72,7 @@ ends_twice (Some n) a b = ap Some (omega (arith, length-append a b))
 
 -- room for two parts: for the first, and then for the second
 module _ (x : DockView) (all a b : ℕ → List ℕ) (closed c d : List ℕ) (parts : (session : ℕ) → all session ≡ a session ++ b session) (ends_are : closed ≡ c ++ d) (h : HasRoomFor x all closed) where
-  room_first : HasRoomFor x a c
+  pub room_first : HasRoomFor x a c
   room_first = record {
     room = λ session.
         let r = h.room session in
@@ -107,15 +107,15 @@ lasts_reply x y step reply g lasts =
     (λ session. append-nil (bytes_to session reply)) (append-nil (closed_by reply)) lasts y (λ session. (sent_after x y g.nothing_sent session).room) (g.ends ∙ ends_none x.ends)
 
 -- calls before which no fault was counted
-spends_behind : (fault : ServeFault) (x y z : DockView) → y.faults ≡ x.faults → Spends fault y z → Spends fault x z
-spends_behind DockFault x y z same s = s
-spends_behind TooLong x y z same s = s ∙ same
-spends_behind NoMemory x y z same s = s ∙ same
+spends_behind : (fault : ServeFault) (more : List MemStep) (x y z : DockView) → y.faults ≡ x.faults → Spends fault more y z → Spends fault more x z
+spends_behind DockFault more x y z same s = s
+spends_behind TooLong more x y z same s = s ∙ same
+spends_behind NoMemory more x y z same s = s ∙ same
 
-spends_none : (fault : ServeFault) (x y : DockView) → fault ≢ DockFault → y.faults ≡ x.faults → Spends fault x y
-spends_none DockFault x y other same = absurd (other refl)
-spends_none TooLong x y other same = same
-spends_none NoMemory x y other same = same
+spends_none : (fault : ServeFault) (more : List MemStep) (x y : DockView) → fault ≢ DockFault → y.faults ≡ x.faults → Spends fault more x y
+spends_none DockFault more x y other same = absurd (other refl)
+spends_none TooLong more x y other same = same
+spends_none NoMemory more x y other same = same
 
 -- nothing was served yet
 pub serves_none : (relay : Relay) (dock : DockView) → Serves relay relay dock dock []
@@ -144,54 +144,55 @@ serves-append a b c x y z us vs h i = record {
 }
 
 -- turns, and then a fault
-pub partly-append : (fault : ServeFault) (a b c : Relay) (x y z : DockView) (us : List Turn) → Serves a b x y us → ServesPartly fault b c y z → ServesPartly fault a c x z
-partly-append fault a b c x y z us h i = record {
-  turns = us ++ i.turns;
+partly-append : (fault : ServeFault) (a b c : Relay) (x y z : DockView) (us vs : List Turn) → Serves a b x y us → ServesPartly fault b c y z vs → ServesPartly fault a c x z (us ++ vs)
+partly-append fault a b c x y z us vs h i = record {
   more = i.more;
-  runs = runs-turns a b c us i.turns h.runs i.runs;
-  gave = rw (turns-append us i.turns, append_assoc (steps_of us) (steps_of i.turns) i.more) (gave-append x y z (steps_of us) (steps_of i.turns ++ i.more) h.gave i.gave);
+  few = i.few;
+  runs = runs-turns a b c us vs h.runs i.runs;
+  gave = rw (turns-append us vs, append_assoc (steps_of us) (steps_of vs) i.more) (gave-append x y z (steps_of us) (steps_of vs ++ i.more) h.gave i.gave);
   sent = λ session.
-      rw (sent-append session us i.turns)
-      (front_behind (out_to session x) (out_to session y) (out_to session z) (sent_to session us) (sent_to session i.turns) (h.sent session) (i.sent session));
+      rw (sent-append session us vs)
+      (front_behind (out_to session x) (out_to session y) (out_to session z) (sent_to session us) (sent_to session vs) (h.sent session) (i.sent session));
   ended = record {
     count = length (closed_in us) + i.ended.count;
-    ended = rw (closed-append us i.turns, take-append-add (closed_in us) (closed_in i.turns) i.ended.count)
-        (i.ended.ended ∙ ap (option_map (λ ended. ended ++ take i.ended.count (closed_in i.turns))) h.ended ∙ grows_twice x.ended (closed_in us) (take i.ended.count (closed_in i.turns)));
+    ended = rw (closed-append us vs, take-append-add (closed_in us) (closed_in vs) i.ended.count)
+        (i.ended.ended ∙ ap (option_map (λ ended. ended ++ take i.ended.count (closed_in vs))) h.ended ∙ grows_twice x.ended (closed_in us) (take i.ended.count (closed_in vs)));
   };
   port = i.port ∙ h.port;
   later = omega (arith, h.later, i.later);
-  calm = λ lasts. spends_behind fault x y z (h.calm (lasts_first x us i.turns lasts)) (i.calm (lasts_then a b x y us i.turns h lasts));
+  calm = λ lasts. spends_behind fault i.more x y z (h.calm (lasts_first x us vs lasts)) (i.calm (lasts_then a b x y us vs h lasts));
 }
 
 front_all : (v w : OutView) (bytes : List ℕ) → Took v w bytes → TookFront v w bytes
 front_all v w bytes t = record { count = length bytes; within = omega arith; took = subst (Took v w) (sym (take_all (length bytes) bytes (omega arith))) t }
 
 -- whole turns, seen as up to a fault
-pub whole_partly : (fault : ServeFault) (a b : Relay) (x y : DockView) (turns : List Turn) → fault ≢ DockFault → Serves a b x y turns → ServesPartly fault a b x y
+whole_partly : (fault : ServeFault) (a b : Relay) (x y : DockView) (turns : List Turn) → fault ≢ DockFault → Serves a b x y turns → ServesPartly fault a b x y turns
 whole_partly fault a b x y turns other h = record {
-  turns = turns;
   more = [];
+  few = omega arith;
   runs = h.runs;
   gave = rw (append-nil (steps_of turns)) h.gave;
   sent = λ session. front_all (out_to session x) (out_to session y) (sent_to session turns) (h.sent session);
   ended = record { count = length (closed_in turns); ended = rw (take_all (length (closed_in turns)) (closed_in turns) (omega arith)) h.ended };
   port = h.port;
   later = h.later;
-  calm = λ lasts. spends_none fault x y other (h.calm lasts);
+  calm = λ lasts. spends_none fault [] x y other (h.calm lasts);
 }
 
 -- steps of which the relay heard none
-pub unheard_partly : (fault : ServeFault) (a b : Relay) (x y : DockView) (steps : List MemStep) → b ≡ a → GivesSteps x y steps → IfSome x.ends (λ ends. Spends fault x y) → ServesPartly fault a b x y
-unheard_partly fault a b x y steps same h spent = record {
-  turns = [];
+unheard_partly : (fault : ServeFault) (a b : Relay) (x y : DockView) (steps : List MemStep) → b ≡ a → GivesSteps x y steps → length steps ≤ 1 → IfSome x.ends (λ ends. Spends fault steps x y)
+    → ServesPartly fault a b x y []
+unheard_partly fault a b x y steps same h few spent = record {
   more = steps;
+  few = few;
   runs = (same, refl);
   gave = h.gave;
   sent = λ session. front_all (out_to session x) (out_to session y) [] (sent_after x y h.nothing_sent session);
   ended = record { count = 0; ended = h.ended ∙ grows_none x.ended };
   port = h.port;
   later = h.later;
-  calm = λ lasts. sure_is (λ ends. Spends fault x y) x.ends lasts.ends.0 lasts.ends.1 spent;
+  calm = λ lasts. sure_is (λ ends. Spends fault steps x y) x.ends lasts.ends.0 lasts.ends.1 spent;
 }
 
 -- a step whose reply was sent
@@ -211,11 +212,11 @@ turn_serves a b x y z step reply g sure s r = record {
 }
 
 -- or up to a fault
-pub turn_partly : (fault : ServeFault) (a b : Relay) (x y z : DockView) (step : MemStep) (reply : Option Reply) → GivesSteps x y (step ∷ []) → IfSome x.ends (λ ends. y.faults ≡ x.faults)
-    → Steps a (event_of step) b reply → RepliedPartly fault y z reply → ServesPartly fault a b x z
+turn_partly : (fault : ServeFault) (a b : Relay) (x y z : DockView) (step : MemStep) (reply : Option Reply) → GivesSteps x y (step ∷ []) → IfSome x.ends (λ ends. y.faults ≡ x.faults)
+    → Steps a (event_of step) b reply → RepliedPartly fault y z reply → ServesPartly fault a b x z (record { step = step; reply = reply } ∷ [])
 turn_partly fault a b x y z step reply g sure s r = record {
-  turns = record { step = step; reply = reply } ∷ [];
   more = [];
+  few = omega arith;
   runs = step_runs (event_of step) a b reply s;
   gave = gave-append x y z (step ∷ []) [] g.gave (gave_none y z r.nothing_taken);
   sent = λ session.
@@ -225,8 +226,29 @@ turn_partly fault a b x y z step reply g sure s r = record {
   port = r.port ∙ g.port;
   later = omega (arith, g.later, r.later);
   calm = λ lasts.
-      spends_behind fault x y z (sure_is (λ ends. y.faults ≡ x.faults) x.ends lasts.ends.0 lasts.ends.1 sure) (r.calm (lasts_reply x y step reply g lasts));
+      let for = lasts_reply x y step reply g lasts in
+      spends_none fault [] x z (r.sure for) (r.calm for ∙ sure_is (λ ends. y.faults ≡ x.faults) x.ends lasts.ends.0 lasts.ends.1 sure);
 }
+
+-- a turn that stopped before the relay heard a step
+pub unheard_stops : (fault : ServeFault) (a b : Relay) (x y : DockView) (steps : List MemStep) → b ≡ a → GivesSteps x y steps → length steps ≤ 1 → IfSome x.ends (λ ends. Spends fault steps x y) → TurnStops fault a b x y
+unheard_stops fault a b x y steps same h few spent =
+    record { turns = []; partly = unheard_partly fault a b x y steps same h few spent; few = omega arith; none_begun = λ lasts is. refl }
+
+-- as the reply was sent
+pub reply_stops : (fault : ServeFault) (a b : Relay) (x y z : DockView) (step : MemStep) (reply : Option Reply) → GivesSteps x y (step ∷ []) → IfSome x.ends (λ ends. y.faults ≡ x.faults)
+    → Steps a (event_of step) b reply → RepliedPartly fault y z reply → TurnStops fault a b x z
+reply_stops fault a b x y z step reply g sure s r = record {
+  turns = record { step = step; reply = reply } ∷ [];
+  partly = turn_partly fault a b x y z step reply g sure s r;
+  few = omega arith;
+  none_begun = λ lasts is. absurd (r.sure (lasts_reply x y step reply g lasts) is);
+}
+
+-- or behind it
+pub turn_stops : (fault : ServeFault) (a b : Relay) (x y : DockView) (turn : Turn) → fault ≢ DockFault → Serves a b x y (turn ∷ []) → TurnStops fault a b x y
+turn_stops fault a b x y turn other h =
+    record { turns = turn ∷ []; partly = whole_partly fault a b x y (turn ∷ []) other h; few = omega arith; none_begun = λ lasts is. absurd (other is) }
 
 pub over-append : (us vs : List Turn) (over : List ℕ) → over_after over (us ++ vs) ≡ over_after (over_after over us) vs
 over-append [] vs over = refl
@@ -253,3 +275,25 @@ none_after sessions turns turn none fewer count below = by (take-more turns turn
     by : (count < length turns) ⊎ (take count (turns ++ turn ∷ []) ≡ turns) → count_over (take count (turns ++ turn ∷ [])) < sessions
     by (inl p) = rw (take-append-le count turns (turn ∷ []) (omega (arith, p))) (none count p)
     by (inr e) = rw e fewer
+
+-- turns, and then one that stopped
+pub stops_behind : (sessions : ℕ) (fault : ServeFault) (a b c : Relay) (x y z : DockView) (us : List Turn) → Serves a b x y us → NoneAfter sessions us → count_over us < sessions
+    → TurnStops fault b c y z → ServingStops sessions fault a c x z
+stops_behind sessions fault a b c x y z us h none fewer i = record {
+  turns = us ++ i.turns;
+  partly = partly-append fault a b c x y z us i.turns h i.partly;
+  none_after = few_after i.turns i.few;
+  not_over = λ lasts is.
+      let begun : i.turns ≡ [] = i.none_begun (lasts_then a b x y us i.turns h lasts) is in
+      rw (begun, append-nil us) fewer;
+}
+  where
+    few_after : (vs : List Turn) → length vs ≤ 1 → NoneAfter sessions (us ++ vs)
+    few_after [] few = rw (append-nil us) none
+    few_after (v ∷ []) few = none_after sessions us v none fewer
+    few_after (v ∷ w ∷ vs) few = absurd (omega (arith, few))
+
+-- all steps that are allowed were taken
+pub long_stops : (sessions : ℕ) (a b : Relay) (x y : DockView) (us : List Turn) → Serves a b x y us → NoneAfter sessions us → count_over us < sessions → ServingStops sessions TooLong a b x y
+long_stops sessions a b x y us h none fewer =
+    record { turns = us; partly = whole_partly TooLong a b x y us (λ is. cc is) h; none_after = none; not_over = λ lasts is. fewer }

@@ -4,8 +4,9 @@ use Rattle.fugue_ids.specs.Outs.{Took, TookFront, WritesText}
 use Rattle.origin_model.specs.declared.relay.reply.Reply.{Reply}
 use Rattle.outer_ports.specs.dock.Docks.{DockView, SendsNothing, TakesNothing, out_to}
 use Rattle.outer_ports.specs.declared.dock.mem_step.MemStep.{MemStep}
-use Rattle.relay_sync.specs.Serving.{EndedFront, GaveSteps, HasRoomFor, Spends, bytes_to, closed_by, ends_behind}
+use Rattle.relay_sync.specs.Serving.{EndedFront, GaveSteps, HasRoomFor, bytes_to, closed_by, ends_behind}
 use Rattle.relay_sync.specs.declared.serve_fault.ServeFault.{ServeFault}
+use Rattle.relay_sync.specs.declared.serve_fault.ServeFault.TheVariants.{DockFault}
 
 -- the dock gave these steps, and nothing else happened to it
 pub record GivesSteps (old new : DockView) (steps : List MemStep) : Type 0 where
@@ -46,4 +47,6 @@ pub record RepliedPartly (fault : ServeFault) (old new : DockView) (reply : Opti
   pub nothing_taken : TakesNothing old new
   pub port : new.port ≡ old.port
   pub later : old.faults ≤ new.faults
-  pub calm : LastsFor old reply → Spends fault old new
+  -- a dock that lasts for the reply is not what failed
+  pub sure : LastsFor old reply → fault ≢ DockFault
+  pub calm : LastsFor old reply → new.faults ≡ old.faults

@@ -1,5 +1,5 @@
 -- What serving does: the steps that a dock gives are given to a relay, and its replies are sent.
-use Rattle.std.specs.Prelude.{◌≡◌, ℕ, ◌<◌, ◌≤◌, List, [], ◌∷◌, ◌++◌, length, take, flat_map, map, nat_eq, if◌then◌else◌, Option, Some, None, IfSome, option_map, ◌-◌}
+use Rattle.std.specs.Prelude.{◌≡◌, ◌≢◌, Result, Err, ℕ, ◌<◌, ◌≤◌, List, [], ◌∷◌, ◌++◌, length, take, flat_map, map, nat_eq, if◌then◌else◌, Option, Some, None, IfSome, option_map, ◌-◌}
 use Rattle.fugue_ids.specs.Outs.{Took, TookFront}
 use Rattle.origin_model.specs.declared.relay.event.Event.{Event}
 use Rattle.origin_model.specs.declared.relay.event.Event.TheVariants as event
@@ -94,10 +94,10 @@ Lasts dock turns = HasRoomFor dock (λ session. sent_to session turns) (closed_i
 abbrev pub ends_behind : List ℕ → Option ℕ → Option ℕ
 ends_behind closed ends = option_map (λ ends. ends - length closed) ends
 
--- with a fault of the dock no step was left; with another the count of faults stays
-abbrev pub Spends : ServeFault → (old new : DockView) → Type 0
-Spends DockFault old new = IfSome new.coming (λ coming. coming ≡ [])
-Spends fault old new = new.faults ≡ old.faults
+-- with a fault of the dock the relay was given each step, and none was left; with another the count of faults stays
+abbrev pub Spends : ServeFault → (more : List MemStep) → (old new : DockView) → Type 0
+Spends DockFault more old new = (more ≡ []) × IfSome new.coming (λ coming. coming ≡ [])
+Spends fault more old new = new.faults ≡ old.faults
 
 -- each step was given to the relay, and each reply was sent whole, to its session alone; those that close theirs ended it
 pub record Serves (old_relay new_relay : Relay) (old new : DockView) (turns : List Turn) : Type 0 where
@@ -117,10 +117,10 @@ pub record EndedFront (old new : DockView) (sessions : List ℕ) : Type 0 where
   pub ended : new.ended ≡ option_map (λ ended. ended ++ take count sessions) old.ended
 
 -- the same up to a fault: the relay stands after a front of the events, and each session was sent a front of its bytes
-pub record ServesPartly (fault : ServeFault) (old_relay new_relay : Relay) (old new : DockView) : Type 0 where
-  pub turns : List Turn
-  -- the step that the relay was not given
+pub record ServesPartly (fault : ServeFault) (old_relay new_relay : Relay) (old new : DockView) (turns : List Turn) : Type 0 where
+  -- the step that the relay was not given, where there is one
   pub more : List MemStep
+  pub few : length more ≤ 1
   pub runs : Runs old_relay (map event_of (steps_of turns)) new_relay (replies_of turns)
   pub gave : GaveSteps old new (steps_of turns ++ more)
   pub sent : (session : ℕ) → TookFront (out_to session old) (out_to session new) (sent_to session turns)
@@ -128,8 +128,51 @@ pub record ServesPartly (fault : ServeFault) (old_relay new_relay : Relay) (old 
   pub port : new.port ≡ old.port
   pub later : old.faults ≤ new.faults
   -- a dock that lasts for the replies fails only where no step is left
-  pub calm : Lasts old turns → Spends fault old new
+  pub calm : Lasts old turns → Spends fault more old new
 
 -- no step was asked for once so many sessions were over
 abbrev pub NoneAfter : ℕ → List Turn → Type 0
 NoneAfter sessions turns = (count : ℕ) → count < length turns → count_over (take count turns) < sessions
+
+-- one turn or none, up to a fault; a dock that lasts fails only as a step is asked for
+pub record TurnStops (fault : ServeFault) (old_relay new_relay : Relay) (old new : DockView) : Type 0 where
+  pub turns : List Turn
+  pub partly : ServesPartly fault old_relay new_relay old new turns
+  pub few : length turns ≤ 1
+  pub none_begun : Lasts old turns → fault ≡ DockFault → turns ≡ []
+
+-- serving stopped at a fault; a dock that lasts fails only before so many sessions are over
+pub record ServingStops (sessions : ℕ) (fault : ServeFault) (old_relay new_relay : Relay) (old new : DockView) : Type 0 where
+  pub turns : List Turn
+  pub partly : ServesPartly fault old_relay new_relay old new turns
+  pub none_after : NoneAfter sessions turns
+  pub not_over : Lasts old turns → fault ≡ DockFault → count_over turns < sessions
+
+-- The first of the steps to come bring so many sessions to their end, and the dock lasts for the replies to them. The steps
+-- are those that stand there, in whatever parts the dock gives them.
+pub record Suffices (sessions : ℕ) (relay : Relay) (dock : DockView) : Type 0 where
+  pub turns : List Turn
+  pub behind : List MemStep
+  pub coming : dock.coming ≡ Some (steps_of turns ++ behind)
+  pub last : Relay
+  pub runs : Runs relay (map event_of (steps_of turns)) last (replies_of turns)
+  pub over : sessions ≤ count_over turns
+  pub lasts : Lasts dock turns
+
+-- a dock that suffices counts no fault, and none is told
+pub record BlamesDock {T : Type 0} (sessions : ℕ) (relay : Relay) (old new : DockView) (result : Result T ServeFault) : Type 0 where
+  pub calm : Suffices sessions relay old → new.faults ≡ old.faults
+  pub sure : Suffices sessions relay old → result ≢ Err DockFault
+
+-- turns that send the same to each session, and bring the same sessions to their end
+pub record SameTurns (a b : List Turn) : Type 0 where
+  pub sent : (session : ℕ) → sent_to session a ≡ sent_to session b
+  pub closed : closed_in a ≡ closed_in b
+  pub over : over_after [] a ≡ over_after [] b
+
+-- The parts in which a dock gives its steps, to the last, count as joined. Where a last piece was given in part, the steps are
+-- those up to there, with that part for the piece.
+pub record PartsCountAsJoined : Type 0 where
+  pub same : (start one other : Relay) (whole parts : List Turn) → Comes (Some (steps_of whole)) (steps_of parts) (Some [])
+      → Runs start (map event_of (steps_of whole)) one (replies_of whole) → Runs start (map event_of (steps_of parts)) other (replies_of parts)
+      → (one ≡ other) × SameTurns whole parts

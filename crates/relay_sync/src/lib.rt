@@ -16,7 +16,7 @@ mod syncing;
 #[cfg(test)]
 mod tests;
 
-pub use law::replies_come_once;
+pub use law::{parts_count_as_joined, replies_come_once};
 pub use serve_fault::ServeFault;
 pub use serving::serve;
 pub use sync_fault::SyncFault;

@@ -1,4 +1,4 @@
-ghost use Rattle.std.specs.Prelude.{◌≡◌, ◌≢◌, ◌∷◌, [], Err, IfErr, IfOk, IfSome, List, OnErr, OnOk};
+ghost use Rattle.std.specs.Prelude.{◌≡◌, ◌≢◌, ◌≤◌, ◌∷◌, [], Err, IfErr, IfOk, IfSome, List, OnOk, length};
 ghost use Rattle.fugue_ids.specs.Causes.{Rose};
 ghost use Rattle.outer_ports.specs.declared.dock.mem_step.MemStep.{MemStep as AnyStep};
 ghost use Rattle.relay_sync.specs.Sending.{GivesSteps};
@@ -13,9 +13,9 @@ use std::alloc::Global;
 /// Takes the next step of the dock, with its bytes. After want of memory the step is lost.
 pub(crate) fn next_step<D: Dock>(alloc: Global, dock: &mut D) -> Result<MemStep, ServeFault>
     ensures ok { IfOk result (λ step. GivesSteps (D.seen dock.old) (D.seen dock.new) (step ∷ [])) }
-    ensures err { OnErr result ((steps : List AnyStep) × GivesSteps (D.seen dock.old) (D.seen dock.new) steps) }
+    ensures err { IfErr result (λ fault. (steps : List AnyStep) × GivesSteps (D.seen dock.old) (D.seen dock.new) steps × (length steps ≤ 1)
+        × IfSome (D.seen dock.old).ends (λ ends. Spends fault steps (D.seen dock.old) (D.seen dock.new))) }
     ensures calm { IfSome (D.seen dock.old).ends (λ ends. OnOk result ((D.seen dock.new).faults ≡ (D.seen dock.old).faults)) }
-    ensures spent { IfSome (D.seen dock.old).ends (λ ends. IfErr result (λ fault. Spends fault (D.seen dock.old) (D.seen dock.new))) }
     ensures dock_fault { result ≡ Err DockFault → Rose (D.seen dock.old).faults (D.seen dock.new).faults }
     ensures not_long { result ≢ Err TooLong }
 {

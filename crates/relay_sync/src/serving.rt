@@ -5,7 +5,7 @@ ghost use Rattle.origin_model.specs.declared.relay.reply.Reply.{Reply as AnyRepl
 ghost use Rattle.std.specs.Prelude.{Option as Maybe};
 ghost use Rattle.relay_sync.specs.Over.{IsOver};
 ghost use Rattle.relay_sync.specs.Sending.{Replied, RepliedPartly};
-ghost use Rattle.relay_sync.specs.Serving.{NoneAfter, Serves, ServesPartly, Turn, count_over, event_of as event_by, over_after, with_closed, with_gone, with_number};
+ghost use Rattle.relay_sync.specs.Serving.{BlamesDock, NoneAfter, Serves, ServingStops, Turn, TurnStops, count_over, event_of as event_by, over_after, with_closed, with_gone, with_number};
 ghost use Rattle.relay_sync.specs.declared.serve_fault.ServeFault.TheVariants.{DockFault as AtDock, TooLong as TakesTooLong};
 
 use crate::next_step::next_step;
@@ -32,8 +32,9 @@ pub fn serve<B: BuildHasher, D: Dock>(
         × (sessions ≤ count_over turns) × NoneAfter sessions turns × (length turns ≤ steps)) }
     ensures too_long { result ≡ Err TakesTooLong → (turns : List Turn) × Serves relay.old relay.new (D.seen dock.old) (D.seen dock.new) turns
         × (count_over turns < sessions) × NoneAfter sessions turns × (length turns ≡ steps) }
-    ensures partly { IfErr result (λ fault. ServesPartly fault relay.old relay.new (D.seen dock.old) (D.seen dock.new)) }
+    ensures partly { IfErr result (λ fault. ServingStops sessions fault relay.old relay.new (D.seen dock.old) (D.seen dock.new)) }
     ensures dock_fault { result ≡ Err AtDock → Rose (D.seen dock.old).faults (D.seen dock.new).faults }
+    ensures dock { BlamesDock sessions relay.old (D.seen dock.old) (D.seen dock.new) result }
 {
     let mut over = BTreeSet::new(alloc);
     let mut left = steps;
@@ -56,7 +57,7 @@ fn serve_step<B: BuildHasher, D: Dock>(
 ) -> Result<(), ServeFault>
     ensures ok { OnOk result ((turn : Turn) × Serves relay.old relay.new (D.seen dock.old) (D.seen dock.new) (turn ∷ [])
         × ((sessions : List ℕ) → IsOver over.old sessions → IsOver over.new (over_after sessions (turn ∷ [])))) }
-    ensures partly { IfErr result (λ fault. ServesPartly fault relay.old relay.new (D.seen dock.old) (D.seen dock.new)) }
+    ensures partly { IfErr result (λ fault. TurnStops fault relay.old relay.new (D.seen dock.old) (D.seen dock.new)) }
     ensures dock_fault { result ≡ Err AtDock → Rose (D.seen dock.old).faults (D.seen dock.new).faults }
     ensures not_long { result ≢ Err TakesTooLong }
 {

@@ -1,5 +1,9 @@
-use Rattle.relay_sync.proofs.SendingLemmas.{takes_gives}
+use Rattle.std.proofs.Common.{arith}
+use Rattle.relay_sync.proofs.SendingLemmas.{takes_calm, takes_gives, takes_none}
 use Rattle.relay_sync.proofs.next_step.next_step.Goals as goal
 
 pub returns-in-Err-clause-err : goal.returns-in-Err-clause-err
-returns-in-Err-clause-err g c = (_, takes_gives _ _ c.in-Ok.step _ c.in-Ok.ensures.takes)
+returns-in-Err-clause-err g c = (_, takes_gives _ _ c.in-Ok.step _ c.in-Ok.ensures.takes, omega arith, takes_calm _ _ _ _ c.in-Ok.ensures.takes)
+
+pub returns-in_default-clause-err : goal.returns-in_default-clause-err
+returns-in_default-clause-err g c = takes_none _ _ _ _ c.in_default.ensures.takes

@@ -1,8 +1,8 @@
 use Rattle.std.proofs.Common.{[], arith, length-append, ◌++◌, ◌∷◌}
 use Rattle.std.proofs.lemmas.Result.{err_from_is_err_and}
 use Rattle.relay_sync.specs.Serving.{over_after}
-use Rattle.relay_sync.specs.declared.serve_fault.ServeFault.TheVariants.{TooLong}
-use Rattle.relay_sync.proofs.ServingLemmas.{none_after, none_before, over-append, partly-append, serves-append, serves_none, whole_partly}
+use Rattle.relay_sync.proofs.ServingLemmas.{none_after, none_before, over-append, serves-append, serves_none, stops_behind, long_stops}
+use Rattle.relay_sync.proofs.WholeLemmas.{served_blames, stopped_blames}
 use Rattle.relay_sync.proofs.OverLemmas.{is_over_none}
 use Rattle.relay_sync.proofs.serving.serve.Goals as goal
 
@@ -10,7 +10,9 @@ pub steps-init : goal.steps-init
 steps-init g c = record { turns = []; serves = serves_none _ _; over = is_over_none _ c.new-over.ensures.empty; none = none_before _; steps = omega arith }
 
 pub returns-then-left-eq0-clause-partly : goal.returns-then-left-eq0-clause-partly
-returns-then-left-eq0-clause-partly g c = whole_partly TooLong _ _ _ _ c.steps.invariant.turns (λ is. cc is) c.steps.invariant.serves
+returns-then-left-eq0-clause-partly g c =
+    let i = c.steps.invariant in
+    long_stops _ _ _ _ _ i.turns i.serves i.none (omega (arith, c.steps-test.true, c.len.ensures.len, i.over.count))
 
 pub steps-preserved : goal.steps-preserved
 steps-preserved g c =
@@ -27,4 +29,19 @@ steps-preserved g c =
 pub returns-in_err-serve_step-clause-partly : goal.returns-in_err-serve_step-clause-partly
 returns-in_err-serve_step-clause-partly g c =
     let p = err_from_is_err_and c.from_residual.result c.from_residual.ensures.1 in
-    rw (p.1, p.2) (partly-append _ _ _ _ _ _ _ c.steps.invariant.turns c.steps.invariant.serves c.in_err-serve_step.ensures.partly)
+    let i = c.steps.invariant in
+    rw (p.1, p.2) (stops_behind _ _ _ _ _ _ _ _ i.turns i.serves i.none (omega (arith, c.steps-test.true, c.len.ensures.len, i.over.count)) c.in_err-serve_step.ensures.partly)
+
+pub returns-then-left-eq0-clause-dock : goal.returns-then-left-eq0-clause-dock
+returns-then-left-eq0-clause-dock g c =
+    let i = c.steps.invariant in
+    stopped_blames _ _ _ _ _ _ (long_stops _ _ _ _ _ i.turns i.serves i.none (omega (arith, c.steps-test.true, c.len.ensures.len, i.over.count)))
+
+pub returns-in_err-serve_step-clause-dock : goal.returns-in_err-serve_step-clause-dock
+returns-in_err-serve_step-clause-dock g c =
+    let p = err_from_is_err_and c.from_residual.result c.from_residual.ensures.1 in
+    let i = c.steps.invariant in
+    rw (p.1, p.2) (stopped_blames _ _ _ _ _ _ (stops_behind _ _ _ _ _ _ _ _ i.turns i.serves i.none (omega (arith, c.steps-test.true, c.len.ensures.len, i.over.count)) c.in_err-serve_step.ensures.partly))
+
+pub returns-clause-dock : goal.returns-clause-dock
+returns-clause-dock g c = let i = c.steps.invariant in served_blames _ _ _ _ _ _ i.turns i.serves i.none
