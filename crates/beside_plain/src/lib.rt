@@ -6,6 +6,8 @@ mod any_order;
 #[cfg(test)]
 mod beside;
 #[cfg(test)]
+mod bulk_turns;
+#[cfg(test)]
 mod edits;
 #[cfg(test)]
 mod interleaved;

@@ -63,7 +63,7 @@ fewer_elements s m n l e =
     ap (λ b. if b then Some (IdsSpent (next_of_own s - 1)) else refused_ops s m) (fewer_counters (next_of_own s) m n l parts.0) ∙ fewer_ops s m n l parts.1
 
 -- within the range nothing else is refused
-range_none : (position count : ℕ) (rest : Option EditFault) → position ≤ count → rest ≡ None → in_range position count rest ≡ None
+pub range_none : (position count : ℕ) (rest : Option EditFault) → position ≤ count → rest ≡ None → in_range position count rest ≡ None
 range_none position count rest l e = ap (λ b. if b then Some OutOfRange else rest) (le-ltb count position l) ∙ e
 
 -- a smaller put, and a smaller cut, are not refused either

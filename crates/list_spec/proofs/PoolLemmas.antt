@@ -43,14 +43,14 @@ not_pooled r h pool (Some x) own m f =
     false_from_ne_true _ (λ t. true≢false (sym (held t) ∙ f))
 
 -- what is Ready at the replica, and new to the pool, is Ready there
-ready_there : (r : ℕ) (h pool : List Op) (op : Op) → IsPoolOf r h pool → IsBy r op → verdict h op ≡ Ready → has_op pool op ≡ false → verdict pool op ≡ Ready
+pub ready_there : (r : ℕ) (h pool : List Op) (op : Op) → IsPoolOf r h pool → IsBy r op → verdict h op ≡ Ready → has_op pool op ≡ false → verdict pool op ≡ Ready
 ready_there r h pool op p m v new =
     let ready = when_ready h op v in
     let named = names_within h pool (names op) (Within-part h pool p.lawful p.part) ready.none_stray ready.none_missing in
     becomes_ready pool op new (not_pooled r h pool (id_of op) p.own m ready.fresh) named.0 named.1
 
 -- the operation is in both, or in the history alone
-own_more : (r : ℕ) (h pool : List Op) (op : Op) → HoldsOwn r h pool → HoldsOwn r (op ∷ h) (op ∷ pool)
+pub own_more : (r : ℕ) (h pool : List Op) (op : Op) → HoldsOwn r h pool → HoldsOwn r (op ∷ h) (op ∷ pool)
 own_more r h pool op own n k =
     elim (cases_Bool (is_own (id_at r n) op)) [
       | inl t ↦ holds-own op h (id_at r n) t
@@ -88,7 +88,7 @@ pool_keeps pool [] x k = k
 pool_keeps pool (op ∷ ops) x k = pool_keeps (with_one pool op) ops x (one_keeps pool op x k)
 
 -- an operation of r has no identifier of another number
-other_number : (r : ℕ) (op : Op) (i : Identifier) → i.replica ≢ r → IsBy r op → is_own i op ≡ false
+pub other_number : (r : ℕ) (op : Op) (i : Identifier) → i.replica ≢ r → IsBy r op → is_own i op ≡ false
 other_number r op i n m = false_from_ne_true _ (λ t. n (subst (λ o. IfSome o (λ x. x.replica ≡ r)) (own_id op i t) m))
 
 -- no identifier of another number comes to the pool

@@ -4,6 +4,7 @@ pub mod HeadlineLemmas
 pub mod ShowLemmas
 pub mod RunLemmas
 pub mod RelayLemmas
+pub mod BulkLemmas
 pub mod NewLemmas
 pub mod FoundLemmas
 pub mod FileOutLemmas

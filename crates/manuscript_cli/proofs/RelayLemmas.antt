@@ -1,5 +1,5 @@
 -- What `relay` does, by what listening, serving and noting do.
-use Rattle.std.proofs.Common.{◌≡◌, ℕ, ◌<◌, ◌≤◌, List, length, ◌++◌, ap, sym, subst, ◌∙◌, inl, inr, arith}
+use Rattle.std.proofs.Common.{◌≡◌, ◌≢◌, refl, ℕ, ◌<◌, ◌≤◌, List, length, ◌++◌, ap, sym, subst, ◌∙◌, inl, inr, arith}
 use Rattle.std.specs.Prelude.{Result, Ok, Err, is_some, option_map}
 use Rattle.std.specs.Io.KnownBytes.{append_known}
 use Rattle.fugue_ids.specs.Causes.{Rose}
@@ -8,13 +8,13 @@ use Rattle.origin_model.specs.relay.Relay.{Relay, new_relay}
 use Rattle.outer_ports.specs.dock.Docks.{DockView, out_to}
 use Rattle.outer_ports.specs.declared.dock.mem_step.MemStep.{MemStep}
 use Rattle.relay_core.specs.declared.relay.TheConstants.{MOST_LOGGED}
-use Rattle.relay_sync.specs.Serving.{Comes, GaveSteps, Lasts, NoneAfter, Serves, ServesPartly, Spends, Turn, closed_in, count_over, ends_behind, sent_to, steps_of}
+use Rattle.relay_sync.specs.Serving.{BlamesDock, Comes, GaveSteps, Lasts, NoneAfter, Serves, ServesPartly, ServingStops, Spends, Suffices, Turn, closed_in, count_over, ends_behind, sent_to, steps_of}
 use Rattle.relay_sync.specs.declared.serve_fault.ServeFault.{ServeFault}
 use Rattle.relay_sync.specs.declared.serve_fault.ServeFault.TheVariants as serve_fault
 use Rattle.manuscript_cli.specs.Printing.{NoteMeets}
 use Rattle.manuscript_cli.specs.Refusal.{line_of, serve_refusal, status_of, Told}
-use Rattle.manuscript_cli.specs.Relay.{IsIdle, RelayMeets, Relays, ServingMeets, listening, log_line, most_steps, ready_line}
-use Rattle.manuscript_cli.specs.Touched.{Change, StaysCalm, notes_room}
+use Rattle.manuscript_cli.specs.Relay.{CallsAreSure, IsEnough, IsIdle, NeverBlamed, OpeningMeets, RelayMeets, Relays, ServingMeets, listening, log_line, most_steps, ready_line}
+use Rattle.manuscript_cli.specs.Touched.{Change, HasRoom, StaysCalm, notes_room}
 use Rattle.manuscript_cli.specs.declared.refusal.Refusal.{Refusal}
 use Rattle.manuscript_cli.specs.declared.refusal.Refusal.TheVariants as refusal
 use Rattle.manuscript_cli.specs.declared.status.Status.{Status}
@@ -44,10 +44,10 @@ module _ (first second last : DockView) (idle : IsIdle first second) (later : fi
   still_calm : (turns : List Turn) → Lasts first turns → second.faults ≡ first.faults
   still_calm turns lasts = idle.calm (ap is_some lasts.ends.1)
 
-  spends_from : (fault : ServeFault) (turns : List Turn) → Lasts first turns → Spends fault second last → Spends fault first last
-  spends_from serve_fault.DockFault turns lasts spends = spends
-  spends_from serve_fault.TooLong turns lasts spends = spends ∙ still_calm turns lasts
-  spends_from serve_fault.NoMemory turns lasts spends = spends ∙ still_calm turns lasts
+  spends_from : (fault : ServeFault) (more : List MemStep) (turns : List Turn) → Lasts first turns → Spends fault more second last → Spends fault more first last
+  spends_from serve_fault.DockFault more turns lasts spends = spends
+  spends_from serve_fault.TooLong more turns lasts spends = spends ∙ still_calm turns lasts
+  spends_from serve_fault.NoMemory more turns lasts spends = spends ∙ still_calm turns lasts
 
   serves_from : (old new : Relay) (turns : List Turn) → Serves old new second last turns → Serves old new first last turns
   serves_from old new turns serves = record {
@@ -61,18 +61,45 @@ module _ (first second last : DockView) (idle : IsIdle first second) (later : fi
     calm = λ lasts. serves.calm (lasts_on turns lasts) ∙ still_calm turns lasts;
   }
 
-  serves_partly_from : (fault : ServeFault) (old new : Relay) → ServesPartly fault old new second last → ServesPartly fault old new first last
-  serves_partly_from fault old new partly = record {
-    turns = partly.turns;
+  serves_partly_from : (fault : ServeFault) (old new : Relay) (turns : List Turn) → ServesPartly fault old new second last turns → ServesPartly fault old new first last turns
+  serves_partly_from fault old new turns partly = record {
     more = partly.more;
+    few = partly.few;
     runs = partly.runs;
-    gave = gave_from (steps_of partly.turns ++ partly.more) partly.gave;
+    gave = gave_from (steps_of turns ++ partly.more) partly.gave;
     sent = λ session. let front = partly.sent session in record { count = front.count; within = front.within; took = took_from session _ front.took };
     ended = record { count = partly.ended.count; ended = partly.ended.ended ∙ ap (option_map (λ ended. ended ++ _)) idle.ended };
     port = partly.port ∙ idle.port;
     later = omega (arith, later, partly.later);
-    calm = λ lasts. spends_from fault partly.turns lasts (partly.calm (lasts_on partly.turns lasts));
+    calm = λ lasts. spends_from fault partly.more turns lasts (partly.calm (lasts_on turns lasts));
   }
+
+  stops_from : (sessions : ℕ) (fault : ServeFault) (old new : Relay) → ServingStops sessions fault old new second last → ServingStops sessions fault old new first last
+  stops_from sessions fault old new stops = record {
+    turns = stops.turns;
+    partly = serves_partly_from fault old new stops.turns stops.partly;
+    none_after = stops.none_after;
+    not_over = λ lasts is. stops.not_over (lasts_on stops.turns lasts) is;
+  }
+
+  -- what suffices still does
+  suffices_on : (sessions : ℕ) (relay : Relay) → Suffices sessions relay first → Suffices sessions relay second
+  suffices_on sessions relay s = record {
+    turns = s.turns;
+    behind = s.behind;
+    coming = idle.nothing_taken.coming ∙ s.coming;
+    last = s.last;
+    runs = s.runs;
+    over = s.over;
+    lasts = lasts_on s.turns s.lasts;
+  }
+
+-- a dock that is listening suffices as before
+as_listening : (sessions port : ℕ) (dock : DockView) → IsEnough sessions dock → IsEnough sessions (listening port dock)
+as_listening sessions port dock s = record { turns = s.turns; behind = s.behind; coming = s.coming; last = s.last; runs = s.runs; over = s.over; lasts = record { room = s.lasts.room; ends = s.lasts.ends } }
+
+is_sure : (sessions : ℕ) (dock : DockView) → IsEnough sessions dock → CallsAreSure dock
+is_sure sessions dock s = ap is_some s.lasts.ends.1
 
 -- the port was listened on, and what serving did then
 module _ (port sessions : ℕ) (output : Change OutView) (dock : Change DockView) (second : DockView) (ready : Took output.old output.new ready_line)
@@ -95,16 +122,16 @@ module _ (port sessions : ℕ) (output : Change OutView) (dock : Change DockView
 
   pub not_all_served : (fault : ServeFault) (result : Result (Unit {0}) ServeFault) → result ≡ Err fault
       → (result ≡ Err serve_fault.TooLong → (turns : List Turn) × Serves (new_relay MOST_LOGGED) relay second dock.new turns × (count_over turns < sessions) × NoneAfter sessions turns × (length turns ≡ most_steps))
-      → ServesPartly fault (new_relay MOST_LOGGED) relay second dock.new → (result ≡ Err serve_fault.DockFault → Rose second.faults dock.new.faults)
+      → ServingStops sessions fault (new_relay MOST_LOGGED) relay second dock.new → (result ≡ Err serve_fault.DockFault → Rose second.faults dock.new.faults)
       → ServingMeets port sessions output dock (Err (serve_refusal fault))
   not_all_served serve_fault.DockFault result is long partly rose =
       inr (inr (record {
         ready = ready;
-        partly = record { relay = relay; serves = serves_partly_from (listening port dock.old) second dock.new idle later serve_fault.DockFault (new_relay MOST_LOGGED) relay partly };
+        partly = record { relay = relay; stops = stops_from (listening port dock.old) second dock.new idle later sessions serve_fault.DockFault (new_relay MOST_LOGGED) relay partly };
         rose = omega (arith, rose is, later);
       }))
   not_all_served serve_fault.NoMemory result is long partly rose =
-      (ready, record { relay = relay; serves = serves_partly_from (listening port dock.old) second dock.new idle later serve_fault.NoMemory (new_relay MOST_LOGGED) relay partly })
+      (ready, record { relay = relay; stops = stops_from (listening port dock.old) second dock.new idle later sessions serve_fault.NoMemory (new_relay MOST_LOGGED) relay partly })
   not_all_served serve_fault.TooLong result is long partly rose =
       let so = long is in (
         ready,
@@ -118,22 +145,55 @@ module _ (port sessions : ℕ) (output : Change OutView) (dock : Change DockView
         },
       )
 
+  -- where the steps at entry are enough
+  never_rose : (result : Result (Unit {0}) ServeFault) → BlamesDock sessions (new_relay MOST_LOGGED) second dock.new result → IsEnough sessions dock.old → dock.new.faults ≡ dock.old.faults
+  never_rose result blames s =
+      blames.calm (suffices_on (listening port dock.old) second dock.new idle later sessions (new_relay MOST_LOGGED) (as_listening sessions port dock.old s))
+      ∙ idle.calm (is_sure sessions dock.old s)
+
+  pub served_blameless : {T : Type 0} (logged : T) (result : Result (Unit {0}) ServeFault) → BlamesDock sessions (new_relay MOST_LOGGED) second dock.new result → NeverBlamed sessions output dock (Ok logged)
+  served_blameless logged result blames = record { calm = never_rose result blames; sure = λ s has is. cc is }
+
+  pub stopped_blameless : {T : Type 0} (fault : ServeFault) → BlamesDock {T = Unit {0}} sessions (new_relay MOST_LOGGED) second dock.new (Err fault) → NeverBlamed {T = T} sessions output dock (Err (serve_refusal fault))
+  stopped_blameless fault blames = record {
+    calm = never_rose (Err fault) blames;
+    sure = λ s has is.
+        blames.sure (suffices_on (listening port dock.old) second dock.new idle later sessions (new_relay MOST_LOGGED) (as_listening sessions port dock.old s)) (ap Err (dock_fault fault (cc is)));
+  }
+    where
+      dock_fault : (fault : ServeFault) → serve_refusal fault ≡ refusal.Outside → fault ≡ serve_fault.DockFault
+      dock_fault serve_fault.DockFault is = refl
+      dock_fault serve_fault.TooLong is = absurd (cc is)
+      dock_fault serve_fault.NoMemory is = absurd (cc is)
+
+-- the port was not listened on, or that was not said
+pub closed_blameless : {T : Type 0} (port sessions : ℕ) (output : Change OutView) (dock : Change DockView) (why : Refusal) → OpeningMeets port output dock (Err why) → NeverBlamed {T = T} sessions output dock (Err why)
+closed_blameless port sessions output dock refusal.Outside (inl failed) =
+    record { calm = λ s. failed.idle.calm (is_sure sessions dock.old s); sure = λ s has is. failed.not_sure (is_sure sessions dock.old s) }
+closed_blameless port sessions output dock refusal.Outside (inr failed) =
+    record { calm = λ s. failed.idle.calm (is_sure sessions dock.old s); sure = λ s has is. failed.no_room has }
+closed_blameless port sessions output dock _ meets = absurd meets
+
 -- from what was served to the ends of the command
 module _ (port sessions : ℕ) (output notes : Change OutView) (dock : Change DockView) (output_calm : StaysCalm (length ready_line) output.old output.new)
     (notes_calm : StaysCalm notes_room notes.old notes.new) where
-  ends_so : (end : Status) → RelayMeets port sessions output notes dock end → Relays port sessions output notes dock end
-  ends_so end meets = record { meets = meets; output_calm = output_calm; notes_calm = notes_calm }
+  ends_so : (end : Status) → RelayMeets port sessions output notes dock end → (IsEnough sessions dock.old → dock.new.faults ≡ dock.old.faults)
+      → (IsEnough sessions dock.old → HasRoom (length ready_line) output.old → HasRoom notes_room notes.old → end ≢ status.OutsideFault) → Relays port sessions output notes dock end
+  ends_so end meets calm never = record { meets = meets; output_calm = output_calm; notes_calm = notes_calm; dock_calm = calm; never_outside = never }
 
-  pub relay_noted : (logged : ℕ) (end : Status) → ServingMeets port sessions output dock (Ok logged) → NoteMeets (log_line logged) status.Done notes.old notes.new end
+  pub relay_noted : (logged : ℕ) (end : Status) → ServingMeets port sessions output dock (Ok logged) → NeverBlamed sessions output dock (Ok logged) → NoteMeets (log_line logged) status.Done notes.old notes.new end
       → Relays port sessions output notes dock end
-  relay_noted logged end served (inl noted) =
-      subst (Relays port sessions output notes dock) (sym noted.end_is) (ends_so status.Done (record { logged = logged; served = served; noted = noted.took }))
-  relay_noted logged end served (inr failed) =
+  relay_noted logged end served blameless (inl noted) =
+      subst (Relays port sessions output notes dock) (sym noted.end_is)
+      (ends_so status.Done (record { logged = logged; served = served; noted = noted.took }) blameless.calm (λ s has notes_have is. cc is))
+  relay_noted logged end served blameless (inr failed) =
       subst (Relays port sessions output notes dock) (sym failed.end_is)
-      (ends_so status.OutsideFault (inr (record { logged = logged; served = served; noted = failed.took; rose = failed.rose; no_room = failed.no_room })))
+      (ends_so status.OutsideFault (inr (record { logged = logged; served = served; noted = failed.took; rose = failed.rose; no_room = failed.no_room })) blameless.calm
+      (λ s has notes_have is. failed.no_room notes_have))
 
-  pub relay_stopped : (why : Refusal) → ServingMeets port sessions output dock (Err why) → Told notes.old notes.new (line_of why) → Relays port sessions output notes dock (status_of why)
-  relay_stopped refusal.Outside stops told = ends_so status.OutsideFault (inl (record { stops = stops; noted = told }))
-  relay_stopped refusal.TooLong stops told = ends_so status.Limit (record { stops = stops; noted = told })
-  relay_stopped refusal.NoMemory stops told = ends_so status.NoMemory (record { stops = stops; noted = told })
-  relay_stopped _ stops told = absurd stops
+  pub relay_stopped : (why : Refusal) → ServingMeets port sessions output dock (Err why) → NeverBlamed {T = ℕ} sessions output dock (Err why) → Told notes.old notes.new (line_of why)
+      → Relays port sessions output notes dock (status_of why)
+  relay_stopped refusal.Outside stops blameless told = ends_so status.OutsideFault (inl (record { stops = stops; noted = told })) blameless.calm (λ s has notes_have is. blameless.sure s has refl)
+  relay_stopped refusal.TooLong stops blameless told = ends_so status.Limit (record { stops = stops; noted = told }) blameless.calm (λ s has notes_have is. cc is)
+  relay_stopped refusal.NoMemory stops blameless told = ends_so status.NoMemory (record { stops = stops; noted = told }) blameless.calm (λ s has notes_have is. cc is)
+  relay_stopped _ stops blameless told = absurd stops

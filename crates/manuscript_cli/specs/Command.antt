@@ -3,10 +3,11 @@ use Rattle.std.specs.Prelude.{◌≡◌, ◌≢◌, ◌⊎◌, ℕ, List, [], �
 use Rattle.fugue_ids.specs.declared.limits.TheConstants.{GREATEST_HOLD}
 use Rattle.outer_ports.specs.declared.disk.file_disk.Opening.{Opening}
 use Rattle.outer_ports.specs.declared.disk.file_disk.Opening.TheVariants.{Reading, Writing, Creating}
+use Rattle.bulk_world.specs.declared.limits.TheConstants.{MOST_TURNS}
 use Rattle.manuscript_cli.specs.Number.{IsNumber}
 use Rattle.manuscript_cli.specs.declared.command.Command.{Command}
-use Rattle.manuscript_cli.specs.declared.command.Command.TheVariants.{Show, New, Edit, Print, Take, Send, Merge, Relay, Sync}
-use Rattle.manuscript_cli.specs.declared.words.TheConstants.{GREATEST_CURSOR, GREATEST_PORT, GREATEST_REPLICA, MOST_SESSIONS, USUAL_HOLD}
+use Rattle.manuscript_cli.specs.declared.command.Command.TheVariants.{Show, New, Edit, Print, Take, Send, Merge, Relay, Sync, Bulk}
+use Rattle.manuscript_cli.specs.declared.words.TheConstants.{GREATEST_CURSOR, GREATEST_PORT, GREATEST_REPLICA, GREATEST_SEED, MOST_SESSIONS, USUAL_HOLD}
 
 -- `show HOLD`
 pub record NamesShow (words : List (List ℕ)) (hold : ℕ) : Type 0 where
@@ -56,6 +57,14 @@ pub record NamesSync (words : List (List ℕ)) (port cursor : ℕ) : Type 0 wher
   pub port_is : IsNumber port_word 1 GREATEST_PORT port
   pub cursor_is : IsNumber cursor_word 0 GREATEST_CURSOR cursor
 
+-- `bulk SEED COUNT`
+pub record NamesBulk (words : List (List ℕ)) (seed count : ℕ) : Type 0 where
+  pub seed_word : List ℕ
+  pub count_word : List ℕ
+  pub words_are : words ≡ codes "bulk" ∷ seed_word ∷ count_word ∷ []
+  pub seed_is : IsNumber seed_word 0 GREATEST_SEED seed
+  pub count_is : IsNumber count_word 1 MOST_TURNS count
+
 -- the words ask for the command
 abbrev pub Names : List (List ℕ) → Command → Type 0
 Names words (Show hold) = ((words ≡ codes "show" ∷ []) × (hold ≡ USUAL_HOLD)) ⊎ NamesShow words hold
@@ -67,6 +76,7 @@ Names words Send = NamesFile (codes "send") words
 Names words Merge = NamesMerge words
 Names words (Relay port sessions) = NamesRelay words port sessions
 Names words (Sync port cursor) = NamesSync words port cursor
+Names words (Bulk seed count) = NamesBulk words seed count
 
 -- the command that the words ask for: None, where they ask for none
 pub record IsCommand (words : List (List ℕ)) (command : Option Command) : Type 0 where
@@ -77,6 +87,7 @@ pub record IsCommand (words : List (List ℕ)) (command : Option Command) : Type
 abbrev pub home_word : Command → List (List ℕ) → Option (List ℕ)
 home_word (Show hold) words = None
 home_word (Relay port sessions) words = None
+home_word (Bulk seed count) words = None
 home_word _ (name ∷ file ∷ more) = Some file
 home_word _ words = None
 

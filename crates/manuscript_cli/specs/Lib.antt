@@ -19,4 +19,5 @@ pub mod Merge
 pub mod Sync
 pub mod Edit
 pub mod Relay
+pub mod Bulk
 pub mod Run

@@ -1,11 +1,11 @@
 -- The command `relay`: it listens on a port, and serves the sessions of others with a relay that is new.
-use Rattle.std.specs.Prelude.{◌≡◌, ◌⊎◌, ℕ, ◌<◌, ◌≤◌, List, [], ◌∷◌, ◌++◌, length, Some, Result, Ok, Err, is_some, true, codes, decimal, option_map}
+use Rattle.std.specs.Prelude.{◌≡◌, ◌≢◌, ◌⊎◌, ℕ, ◌<◌, ◌≤◌, List, [], ◌∷◌, ◌++◌, length, Some, Result, Ok, Err, is_some, true, codes, decimal, option_map}
 use Rattle.fugue_ids.specs.Causes.{Rose}
 use Rattle.fugue_ids.specs.Outs.{OutView, Took, TookFront}
 use Rattle.origin_model.specs.relay.Relay.{Relay, new_relay}
 use Rattle.outer_ports.specs.dock.Docks.{DockView, SendsNothing, TakesNothing}
 use Rattle.relay_core.specs.declared.relay.TheConstants.{MOST_LOGGED}
-use Rattle.relay_sync.specs.Serving.{NoneAfter, Serves, ServesPartly, Turn, count_over}
+use Rattle.relay_sync.specs.Serving.{NoneAfter, Serves, ServingStops, Suffices, Turn, count_over}
 use Rattle.relay_sync.specs.declared.serve_fault.ServeFault.{ServeFault}
 use Rattle.relay_sync.specs.declared.serve_fault.ServeFault.TheVariants as serve_fault
 use Rattle.manuscript_cli.specs.Refusal.{line_of, Told, TookFronts}
@@ -65,9 +65,9 @@ pub record TookAllSteps (port sessions : ℕ) (dock : Change DockView) : Type 0 
   pub all : length turns ≡ most_steps
 
 -- a front of the steps was served, up to this fault
-pub record ServedPartly (fault : ServeFault) (port : ℕ) (dock : Change DockView) : Type 0 where
+pub record ServedPartly (fault : ServeFault) (port sessions : ℕ) (dock : Change DockView) : Type 0 where
   pub relay : Relay
-  pub serves : ServesPartly fault (new_relay MOST_LOGGED) relay (listening port dock.old) dock.new
+  pub stops : ServingStops sessions fault (new_relay MOST_LOGGED) relay (listening port dock.old) dock.new
 
 -- the port was not listened on
 pub record ListeningFailed (output : Change OutView) (dock : Change DockView) : Type 0 where
@@ -84,9 +84,9 @@ pub record ReadyFailed (port : ℕ) (output : Change OutView) (dock : Change Doc
   pub no_room : HasRoom (length ready_line) output.old → ⊥
 
 -- a call on the dock failed behind it
-pub record ServingFailed (port : ℕ) (output : Change OutView) (dock : Change DockView) : Type 0 where
+pub record ServingFailed (port sessions : ℕ) (output : Change OutView) (dock : Change DockView) : Type 0 where
   pub ready : Took output.old output.new ready_line
-  pub partly : ServedPartly serve_fault.DockFault port dock
+  pub partly : ServedPartly serve_fault.DockFault port sessions dock
   pub rose : Rose dock.old.faults dock.new.faults
 
 -- the port is listened on, and that was said, or why not
@@ -98,10 +98,19 @@ OpeningMeets port output dock (Err _) = ⊥
 -- what was served, and how many frames the log has; or why not all
 abbrev pub ServingMeets : (port sessions : ℕ) → (output : Change OutView) → Change DockView → Result ℕ Refusal → Type 0
 ServingMeets port sessions output dock (Ok logged) = Took output.old output.new ready_line × ServedAll port sessions dock logged
-ServingMeets port sessions output dock (Err refusal.Outside) = ListeningFailed output dock ⊎ ReadyFailed port output dock ⊎ ServingFailed port output dock
+ServingMeets port sessions output dock (Err refusal.Outside) = ListeningFailed output dock ⊎ ReadyFailed port output dock ⊎ ServingFailed port sessions output dock
 ServingMeets port sessions output dock (Err refusal.TooLong) = Took output.old output.new ready_line × TookAllSteps port sessions dock
-ServingMeets port sessions output dock (Err refusal.NoMemory) = Took output.old output.new ready_line × ServedPartly serve_fault.NoMemory port dock
+ServingMeets port sessions output dock (Err refusal.NoMemory) = Took output.old output.new ready_line × ServedPartly serve_fault.NoMemory port sessions dock
 ServingMeets port sessions output dock (Err _) = ⊥
+
+-- the steps that a dock gives a new relay are enough, and there is room for what they ask for
+abbrev pub IsEnough : (sessions : ℕ) → DockView → Type 0
+IsEnough sessions dock = Suffices sessions (new_relay MOST_LOGGED) dock
+
+-- where they are enough no fault of the dock is counted, and none is told where the output has room
+pub record NeverBlamed {T : Type 0} (sessions : ℕ) (output : Change OutView) (dock : Change DockView) (result : Result T Refusal) : Type 0 where
+  pub calm : IsEnough sessions dock.old → dock.new.faults ≡ dock.old.faults
+  pub sure : IsEnough sessions dock.old → HasRoom (length ready_line) output.old → result ≢ Err refusal.Outside
 
 -- all was served, and noted
 pub record Finished (port sessions : ℕ) (output notes : Change OutView) (dock : Change DockView) : Type 0 where
@@ -137,3 +146,6 @@ pub record Relays (port sessions : ℕ) (output notes : Change OutView) (dock : 
   -- sure objects with room count no fault
   pub output_calm : StaysCalm (length ready_line) output.old output.new
   pub notes_calm : StaysCalm notes_room notes.old notes.new
+  pub dock_calm : IsEnough sessions dock.old → dock.new.faults ≡ dock.old.faults
+  -- and where all are, no outside fault comes
+  pub never_outside : IsEnough sessions dock.old → HasRoom (length ready_line) output.old → HasRoom notes_room notes.old → end ≢ status.OutsideFault

@@ -4,6 +4,7 @@ use Rattle.origin_model.specs.frames.Frames.{frames}
 use Rattle.origin_model.specs.order.Printed.{manuscript}
 use Rattle.origin_model.specs.taking.Taking.{Held}
 use Rattle.outer_ports.specs.Sources.{SourceView}
+use Rattle.manuscript_cli.specs.Bulk.{Bulks}
 use Rattle.manuscript_cli.specs.Crashes.{IsFinished}
 use Rattle.manuscript_cli.specs.Edit.{script}
 use Rattle.manuscript_cli.specs.FileOut.{WritesFileOut}
@@ -17,7 +18,7 @@ use Rattle.manuscript_cli.specs.Sync.{SpeaksFor, reply}
 use Rattle.manuscript_cli.specs.Take.{ops_of, other_file, stream}
 use Rattle.manuscript_cli.specs.Touched.{DiskStaysCalm, Touched, change}
 use Rattle.manuscript_cli.specs.declared.command.Command.{Command}
-use Rattle.manuscript_cli.specs.declared.command.Command.TheVariants.{Show, New, Edit, Print, Take, Send, Merge, Relay, Sync}
+use Rattle.manuscript_cli.specs.declared.command.Command.TheVariants.{Show, New, Edit, Print, Take, Send, Merge, Relay, Sync, Bulk}
 use Rattle.manuscript_cli.specs.declared.refusal.Refusal.TheVariants.{Words}
 use Rattle.manuscript_cli.specs.declared.status.Status.{Status}
 use Rattle.manuscript_cli.specs.declared.status.Status.TheVariants.{Usage}
@@ -74,6 +75,11 @@ pub record RunsSync (port cursor : ℕ) (old new : Touched) (end : Status) : Typ
   pub does : SavesGiven (reply cursor old.home (change old.wire new.wire)) (change old.home new.home) (change old.streams.notes new.streams.notes) end
   pub speaks : SpeaksFor port cursor old.home (change old.wire new.wire) (IsFinished end)
 
+-- `bulk` uses the output, and the notes
+pub record RunsBulk (seed count : ℕ) (old new : Touched) (end : Status) : Type 0 where
+  pub others : new ≡ record old { streams = record old.streams { output = new.streams.output; notes = new.streams.notes } }
+  pub does : Bulks seed count (change old.streams.output new.streams.output) (change old.streams.notes new.streams.notes) end
+
 -- the frames of all that a replica holds
 abbrev pub frames_held : Held → List ℕ
 frames_held held = frames (ops_of held)
@@ -90,3 +96,4 @@ Meets (Some Send) old new end = RunsFileOut frames_held old new end
 Meets (Some Merge) old new end = RunsMerge old new end
 Meets (Some (Relay port sessions)) old new end = RunsRelay port sessions old new end
 Meets (Some (Sync port cursor)) old new end = RunsSync port cursor old new end
+Meets (Some (Bulk seed count)) old new end = RunsBulk seed count old new end

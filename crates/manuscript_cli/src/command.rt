@@ -24,6 +24,8 @@ pub enum Command {
     Relay(u16, u32),
     /// Tell the relay at this port what a file's replica holds, ask for its log from the cursor on, and save what was kept.
     Sync(u16, u32),
+    /// Make a large manuscript by the numbers of a seed in so many turns, and tell of it.
+    Bulk(u32, u32),
 }
 
 impl Command {
@@ -35,8 +37,11 @@ impl Command {
             Command::New(_, _) => Opening::Creating,
             Command::Edit | Command::Take | Command::Merge | Command::Sync(_, _) =>
                 Opening::Writing,
-            Command::Show(_) | Command::Print | Command::Send | Command::Relay(_, _) =>
-                Opening::Reading,
+            Command::Show(_)
+            | Command::Print
+            | Command::Send
+            | Command::Relay(_, _)
+            | Command::Bulk(_, _) => Opening::Reading,
         }
     }
 }

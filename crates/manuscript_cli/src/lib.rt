@@ -1,6 +1,7 @@
 //! The commands of the program `manuscript`, over whatever takes and gives bytes.
 #![tactic(auto)]
 
+mod bulk;
 mod command;
 mod counts;
 mod edit;

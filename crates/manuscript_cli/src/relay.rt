@@ -2,7 +2,7 @@ ghost use Rattle.std.specs.Prelude.{◌≡◌, ◌≤◌, length};
 ghost use Rattle.fugue_ids.specs.Outs.{WritesText};
 ghost use Rattle.origin_model.specs.relay.Relay.{new_relay};
 ghost use Rattle.manuscript_cli.specs.Printing.{NoteMeets};
-ghost use Rattle.manuscript_cli.specs.Relay.{OpeningMeets, Relays, ServingMeets, log_line, ready_line};
+ghost use Rattle.manuscript_cli.specs.Relay.{NeverBlamed, OpeningMeets, Relays, ServingMeets, log_line, ready_line};
 ghost use Rattle.manuscript_cli.specs.Touched.{StaysCalm, change, notes_room};
 ghost use Rattle.manuscript_cli.specs.declared.status.Status.TheVariants.{Done};
 ghost use Rattle.relay_core.specs.declared.relay.TheConstants.{MOST_LOGGED as most_logged};
@@ -47,6 +47,7 @@ fn relayed<O: Sink, D: Dock, B: BuildHasher + Drop>(
 ) -> Result<u32, Refusal>
     ensures meets { ServingMeets port sessions (change (O.seen output.old) (O.seen output.new)) (change (D.seen dock.old) (D.seen dock.new)) result }
     ensures calm { StaysCalm (length ready_line) (O.seen output.old) (O.seen output.new) }
+    ensures dock { NeverBlamed sessions (change (O.seen output.old) (O.seen output.new)) (change (D.seen dock.old) (D.seen dock.new)) result }
 {
     let mut relay = Relay::new(alloc, hasher, MOST_LOGGED);
     relay_by(alloc, port, sessions, output, dock, &mut relay)
@@ -64,6 +65,7 @@ fn relay_by<O: Sink, D: Dock, B: BuildHasher + Drop>(
     requires { relay.old ≡ new_relay most_logged }
     ensures meets { ServingMeets port sessions (change (O.seen output.old) (O.seen output.new)) (change (D.seen dock.old) (D.seen dock.new)) result }
     ensures calm { StaysCalm (length ready_line) (O.seen output.old) (O.seen output.new) }
+    ensures dock { NeverBlamed sessions (change (O.seen output.old) (O.seen output.new)) (change (D.seen dock.old) (D.seen dock.new)) result }
 {
     open(port, output, dock)?;
     match serve(alloc, relay, dock, sessions, u64::MAX) {

@@ -6,6 +6,7 @@ use std::alloc::{AllocError, Global};
 use std::hash::{BuildHasherDefault, FoldHasher};
 use std::test::Fail;
 
+mod bulks;
 mod edits;
 mod files;
 mod relays;

@@ -6,6 +6,7 @@ ghost use Rattle.manuscript_cli.specs.declared.command.Command.{Command as AnyCo
 ghost use Rattle.manuscript_cli.specs.declared.command.Command.TheVariants.{Show};
 ghost use Rattle.manuscript_cli.specs.declared.status.Status.TheVariants.{Usage};
 
+use crate::bulk::bulk;
 use crate::edit::edit;
 use crate::file_out::{print_file, send_file};
 use crate::merge::merge;
@@ -81,5 +82,6 @@ pub fn run<S: Source, O: Sink, N: Sink, H: Disk, G: Disk, W: Wire, D: Dock, B: B
             relay(alloc, port, sessions, output, notes, dock, hasher)
         }
         Some(Command::Sync(port, cursor)) => sync_file(alloc, port, cursor, home, wire, notes),
+        Some(Command::Bulk(seed, count)) => bulk(alloc, seed, count, output, notes),
     }
 }

@@ -6,6 +6,7 @@ ghost use Rattle.manuscript_cli.specs.declared.words.TheConstants.{GREATEST_PORT
 
 use crate::Command;
 use crate::number::read_number;
+use bulk_world::MOST_TURNS;
 use fugue_ids::GREATEST_HOLD;
 
 /// How many operations may wait where `show` stands alone.
@@ -15,6 +16,8 @@ const USUAL_HOLD: u32 = 65_536;
 const GREATEST_REPLICA: u32 = u32::MAX;
 
 const GREATEST_PORT: u32 = 65_535;
+
+const GREATEST_SEED: u32 = u32::MAX;
 
 /// The greatest place in a relay's log.
 const GREATEST_CURSOR: u32 = u32::MAX;
@@ -70,6 +73,7 @@ fn read_two(name: &str, file: &str, other: &str) -> Option<Command>
     match name {
         "merge" if !file.is_empty() && !other.is_empty() => Some(Command::Merge),
         "relay" => read_relay(file, other),
+        "bulk" => read_bulk(file, other),
         _ => None,
     }
 }
@@ -80,6 +84,14 @@ fn read_relay(port: &str, sessions: &str) -> Option<Command>
     let port = read_port(port)?;
     let sessions = read_number(sessions, 1, MOST_SESSIONS)?;
     Some(Command::Relay(port, sessions))
+}
+
+fn read_bulk(seed: &str, count: &str) -> Option<Command>
+    ensures { IsCommand (codes "bulk" ∷ seed.now ∷ count.now ∷ []) result }
+{
+    let seed = read_number(seed, 0, GREATEST_SEED)?;
+    let count = read_number(count, 1, MOST_TURNS)?;
+    Some(Command::Bulk(seed, count))
 }
 
 /// Reads the number of a port.
@@ -129,7 +141,9 @@ pub fn files_of(words: &[String]) -> (Option<&str>, Option<&str>)
 {
     match (read_words(words), words) {
         (Some(Command::Merge), [_, file, other]) => (Some(file.as_str()), Some(other.as_str())),
-        (Some(Command::Show(_) | Command::Relay(_, _)) | None, _) => (None, None),
+        (Some(Command::Show(_) | Command::Relay(_, _) | Command::Bulk(_, _)) | None, _) => {
+            (None, None)
+        }
         (Some(_), [_, file, ..]) => (Some(file.as_str()), None),
         _ => (None, None),
     }

@@ -4,7 +4,9 @@ ghost use Rattle.outer_ports.specs.dock.Steps.{HasBytes};
 use super::{LOWER_A, S, stream, words_of};
 use crate::{Status, run};
 use fugue_ids::ByteList;
-use outer_ports::{Dock, DockStep, FileDisk, MemDock, MemSink, MemSource, MemStep, MemWire};
+use outer_ports::{
+    Dock, DockStep, FileDisk, MemDock, MemSink, MemSource, MemStep, MemWire, SureDock,
+};
 use std::alloc::{AllocError, Global};
 use std::hash::{BuildHasherDefault, FoldHasher};
 use std::test::Fail;
@@ -158,7 +160,30 @@ const ROWS: &[Row] = &[
         false,
         true,
     ),
+    (RELAY, [&[], &[2], &[]], DONE, true, false),
     (RELAY, [&[], &[], &[0]], SERVING_FAILED, true, false),
+    (
+        RELAY,
+        [&[], &[], &[1]],
+        (b"ready\n", b"log outside fault\n", Status::OutsideFault),
+        true,
+        false,
+    ),
+    (
+        RELAY,
+        [&[], &[], &[2]],
+        (b"ready\n", b"log 2outside fault\n", Status::OutsideFault),
+        true,
+        false,
+    ),
+    (RELAY, [&[], &[], &[3]], DONE, true, false),
+    (
+        RELAY,
+        [&[0], &[], &[0]],
+        (b"", b"", Status::OutsideFault),
+        false,
+        true,
+    ),
     ("relay 0 1", NONE, USAGE, false, true),
     ("relay 65536 1", NONE, USAGE, false, true),
     ("relay 47113 0", NONE, USAGE, false, true),
@@ -176,5 +201,49 @@ fn each_call_may_fail_while_a_relay_serves(rt: HostRuntime) -> Result<(), Fail> 
             "{words}: {fails:?}"
         );
     }
+    Ok(())
+}
+
+/// One session says what no text begins with; another one brings a frame, and goes before its text ends.
+fn hostile_sessions(alloc: Global) -> Result<Vec<MemStep>, Fail>
+    ensures { IfOk result (λ steps. All HasBytes steps.items) }
+{
+    let mut steps = Vec::new(alloc);
+    steps.push(MemStep::Opened(0))?;
+    steps.push(says(alloc, 0, b"\0")?)?;
+    steps.push(MemStep::Opened(1))?;
+    steps.push(says(alloc, 1, HELLO)?)?;
+    steps.push(says(alloc, 1, S)?)?;
+    steps.push(MemStep::Gone(1))?;
+    Ok(steps)
+}
+
+#[test]
+fn a_bad_text_is_refused_and_what_came_whole_stays(rt: HostRuntime) -> Result<(), Fail> {
+    let alloc = rt.alloc();
+    let words = words_of(alloc, RELAY)?;
+    let mut dock = MemDock::new(alloc, hostile_sessions(alloc)?, 64, Vec::new(alloc));
+    let mut output = MemSink::new(alloc, 64, Vec::new(alloc));
+    let mut notes = MemSink::new(alloc, 64, Vec::new(alloc));
+    let status = run_at(alloc, &words, &mut dock, &mut output, &mut notes);
+    assert!(rt; status == Status::Done && notes.written() == b"log 1\n".as_slice());
+    assert!(rt; dock.sent(0) == b"\x58\x01".as_slice() && dock.sent(1).is_empty());
+    assert!(rt; dock.ended() == [0].as_slice());
+    Ok(())
+}
+
+/// How a run ends at a sure dock with so many bytes of room for each session.
+fn status_within(alloc: Global, room: usize) -> Result<Status, Fail> {
+    let words = words_of(alloc, RELAY)?;
+    let mut dock = SureDock::new(alloc, two_sessions(alloc)?, 3, room)?;
+    let mut output = MemSink::new(alloc, 64, Vec::new(alloc));
+    let mut notes = MemSink::new(alloc, 64, Vec::new(alloc));
+    Ok(run_at(alloc, &words, &mut dock, &mut output, &mut notes))
+}
+
+#[test]
+fn a_sure_dock_with_room_for_the_replies_does_not_fail(rt: HostRuntime) -> Result<(), Fail> {
+    assert_eq!(rt; status_within(rt.alloc(), 41)?, Status::Done);
+    assert_eq!(rt; status_within(rt.alloc(), 40)?, Status::OutsideFault);
     Ok(())
 }

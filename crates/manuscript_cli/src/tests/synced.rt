@@ -1,4 +1,4 @@
-use super::taken::{Batch, File, bytes_of, has_bytes, room_for};
+use super::taken::{Batch, File, bytes_of, has_bytes, room_for, sends};
 use super::{BEHIND_A, S, is_cut_off, stream, words_of};
 use crate::{Status, run};
 use outer_ports::{
@@ -80,6 +80,7 @@ const ASKED: &[Asked] = &[
         Status::BadInput,
         &[],
     ),
+    (&[b"\x58\x02"], "relay refused 2\n", Status::BadInput, &[]),
     (
         &[S, b"\x58\x04"],
         "bad reply at byte 14\n",
@@ -236,4 +237,36 @@ fn each_call_on_the_notes_of_an_exchange_may_fail(rt: HostRuntime) -> Result<(),
     let (status, _, _) = status_without(rt.alloc(), &[], &[16])?;
     assert!(rt; status == Status::Done);
     Ok(())
+}
+
+/// Runs where one call on the file fails. The answer is the status, whether the fault was noted as it should be, and whether
+/// the file holds all that came, or nothing.
+fn left_without(alloc: Global, call: u32) -> Result<(Status, bool, (bool, bool)), Fail> {
+    let words = words_of(alloc, "sync F 4000 0")?;
+    let send = words_of(alloc, "send F")?;
+    let fails = Vec::from_slice(alloc, &[call])?;
+    let reply = stream(alloc, &[S, b"\x55\0\0\0\x01"])?;
+    let bytes = bytes_of(alloc, (1, 16, &[]), &[])?;
+    let mut notes = MemSink::new(alloc, 64, Vec::new(alloc));
+    let mut home = MemDisk::new(alloc, bytes, fails);
+    let mut wire = MemWire::new(alloc, reply, 19, Vec::new(alloc));
+    let status = run_on(alloc, &words, &mut notes, &mut home, &mut wire);
+    let is_told = is_cut_off(notes.written(), COUNTS);
+    Ok((status, is_told, sends(alloc, &send, S, &mut home)))
+}
+
+#[test]
+fn each_call_on_the_file_of_an_exchange_may_fail(rt: HostRuntime) -> Result<(), Fail> {
+    for call in 0..64 {
+        let (status, is_told, (is_saved, is_empty)) = left_without(rt.alloc(), call)?;
+        if status == Status::Done {
+            assert!(rt; call >= 7, "{call} calls");
+            return Ok(());
+        }
+        assert!(rt;
+            status == Status::OutsideFault && is_told && (is_saved || is_empty),
+            "call {call}"
+        );
+    }
+    Err(Fail::new("no run is without a fault"))
 }

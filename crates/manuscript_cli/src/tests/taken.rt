@@ -354,7 +354,12 @@ impl Left {
 }
 
 /// Whether a file sends these frames, and whether it sends nothing.
-fn sends(alloc: Global, words: &[String], frames: &[u8], home: &mut MemDisk) -> (bool, bool) {
+pub(super) fn sends(
+    alloc: Global,
+    words: &[String],
+    frames: &[u8],
+    home: &mut MemDisk,
+) -> (bool, bool) {
     let mut input = MemSource::new(Vec::new(alloc), 1, Vec::new(alloc));
     let mut output = MemSink::new(alloc, 64, Vec::new(alloc));
     let mut notes = MemSink::new(alloc, 64, Vec::new(alloc));

@@ -1,0 +1,153 @@
+//! Two authors who edit by the numbers of a seed, beside plain replicas that accept the same operations.
+
+use crate::edits::Edit::{self, Add, Cut, Put};
+use crate::edits::make;
+use crate::plain::Plain;
+use crate::replicas::feed_one;
+use bulk_world::{Summary, bulk};
+use outer_ports::MemSink;
+use replica_core::{Replica, Tally};
+use std::alloc::Global;
+use std::process::Abort;
+use std::test::Fail;
+
+const SEED: u32 = 7;
+
+const TURNS: u32 = 200;
+
+const LETTERS: [&str; 26] = [
+    "a", "b", "c", "d", "e", "f", "g", "h", "i", "j", "k", "l", "m", "n", "o", "p", "q", "r", "s",
+    "t", "u", "v", "w", "x", "y", "z",
+];
+
+fn next(x: u32) -> u32 {
+    x.wrapping_mul(1_664_525).wrapping_add(1_013_904_223)
+}
+
+/// What the number asks for, where so many scalars are shown.
+fn edit_of(x: u32, shown: usize) -> Edit {
+    let upper = x >> 16;
+    if shown > 0 && upper % 8 == 0 {
+        Cut(0, x as usize % shown, 1)
+    } else {
+        let letter = LETTERS[(upper / 8 % 26) as usize];
+        Put(0, x as usize % shown.saturating_add(1), letter)
+    }
+}
+
+fn take_turn(rt: &impl Abort, alloc: Global, replica: &mut Replica, x: u32) -> Result<(), Fail> {
+    let shown = replica.text_len(0).unwrap_or(0);
+    make(rt, alloc, replica, edit_of(x, shown))??;
+    Ok(())
+}
+
+/// Feeds what one has accepted, from one operation on and before another.
+fn feed_part(
+    rt: &impl Abort,
+    alloc: Global,
+    from: &Replica,
+    to: &mut Replica,
+    part: (usize, usize),
+) -> Result<(), Fail> {
+    let mut tally = Tally::default();
+    for op in from.accepted().iter().take(part.1).skip(part.0) {
+        feed_one(rt, to, op.clone_in(alloc)?, &mut tally)?;
+    }
+    Ok(())
+}
+
+/// The manuscript, which a plain replica that accepts the same operations has too.
+fn manuscript(rt: &impl Abort, alloc: Global, replica: &Replica) -> Result<MemSink, Fail> {
+    let mut plain = Plain::new(alloc);
+    for op in replica.accepted() {
+        plain.take_in(op.clone_in(alloc)?)?;
+    }
+    let mut printed = MemSink::new(alloc, 4096, Vec::new(alloc));
+    let mut wanted = MemSink::new(alloc, 4096, Vec::new(alloc));
+    replica.write_manuscript(&mut printed)?;
+    plain.accepted.print_into(&mut wanted)?;
+    assert!(rt; plain.waiting.is_empty() && printed.written() == wanted.written());
+    Ok(printed)
+}
+
+fn sum_of(text: &[u8]) -> u32 {
+    let mut sum = 0u32;
+    let mut place = 1u32;
+    for byte in text {
+        sum = sum.wrapping_add(place.wrapping_mul(u32::from(*byte)));
+        place = place.wrapping_add(1);
+    }
+    sum
+}
+
+/// The section's text is what stands between its title and the last line's end.
+fn text_of(manuscript: &[u8]) -> Option<&[u8]> {
+    manuscript
+        .strip_prefix(b"# B\n".as_slice())?
+        .strip_suffix(b"\n".as_slice())
+}
+
+fn tell(
+    rt: &impl Abort,
+    alloc: Global,
+    first: &Replica,
+    second: &Replica,
+) -> Result<Option<Summary>, Fail> {
+    let one = manuscript(rt, alloc, first)?;
+    let two = manuscript(rt, alloc, second)?;
+    let Some(text) = text_of(one.written()) else {
+        return Ok(None);
+    };
+    Ok(Some(Summary {
+        operations: first.accepted().len(),
+        scalars: text.len(),
+        sum: sum_of(text),
+        is_equal: one.written() == two.written(),
+    }))
+}
+
+fn make_by_turns(
+    rt: &impl Abort,
+    alloc: Global,
+    first: &mut Replica,
+    second: &mut Replica,
+) -> Result<Option<Summary>, Fail> {
+    make(rt, alloc, first, Add(0, "B"))??;
+    feed_part(rt, alloc, first, second, (0, 1))?;
+    let mut x = SEED;
+    for turn in 1..=TURNS {
+        x = next(x);
+        if turn % 2 == 1 {
+            take_turn(rt, alloc, first, x)?;
+        } else {
+            take_turn(rt, alloc, second, x)?;
+        }
+    }
+    let made = second.accepted().len();
+    feed_part(rt, alloc, first, second, (1, first.accepted().len()))?;
+    feed_part(rt, alloc, second, first, (1, made))?;
+    tell(rt, alloc, first, second)
+}
+
+fn made_with_second(
+    rt: &impl Abort,
+    alloc: Global,
+    first: &mut Replica,
+) -> Result<Option<Summary>, Fail> {
+    let mut second = Replica::new(alloc, 2, 100, 1000)?;
+    make_by_turns(rt, alloc, first, &mut second)
+}
+
+fn made(rt: &impl Abort, alloc: Global) -> Result<Option<Summary>, Fail> {
+    let mut first = Replica::new(alloc, 1, 100, 1000)?;
+    made_with_second(rt, alloc, &mut first)
+}
+
+#[test]
+fn a_bulk_manuscript_is_that_of_plain_replicas(rt: HostRuntime) -> Result<(), Fail> {
+    let told = bulk(rt.alloc(), SEED, TURNS)?;
+    assert_eq!(rt; made(&rt, rt.alloc())?, Some(told));
+    assert_eq!(rt; told.operations, 201);
+    assert!(rt; told.is_equal);
+    Ok(())
+}

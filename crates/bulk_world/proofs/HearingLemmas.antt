@@ -1,0 +1,155 @@
+-- What an author hears of.
+use Rattle.std.proofs.Common.{Bool, List, [], ap, arith, false, drop, get_or, inl, inr, length, refl, reverse, subst, sym, take, true, ◌++◌, ◌+◌, ◌-◌, ◌<◌, ◌∙◌, ◌∷◌, ◌≡◌, ℕ}
+use Rattle.std.specs.Prelude.{All, Err, Result, ◌↔◌, if◌then◌else◌, nat_eq}
+use Rattle.std.proofs.lemmas.Bool.{cases_Bool, or_left}
+use Rattle.std.proofs.lemmas.List.{at_drop_more, reverse-append, take-append-le, take_all}
+use Rattle.std.proofs.lemmas.List.Elements.{All-append, All-cons, All-head, All-nil, All-tail, All-weaker}
+use Rattle.fugue_ids.specs.Ops.{op_eq}
+use Rattle.fugue_ids.specs.declared.op.Op.{Op}
+use Rattle.fugue_ids.proofs.OpLemmas.{op_eq-refl}
+use Rattle.origin_model.specs.declared.operations.verdict.Verdict.{Verdict}
+use Rattle.origin_model.specs.declared.operations.verdict.Verdict.TheVariants.{Ready}
+use Rattle.origin_model.specs.operations.History.{accepted, has_op}
+use Rattle.origin_model.specs.operations.Verdict.{verdict}
+use Rattle.origin_model.specs.taking.Taking.{Accepted, Answer, Held, IsSettled, TooMany, answer, held_from, intake, joined, settle, settled_within, taken}
+use Rattle.origin_model.proofs.SharedLemmas.{earliest_found, settle-settled, within-none, within-some, without}
+use Rattle.replica_core.specs.State.{State}
+use Rattle.replica_core.specs.Told.{Leaves}
+use Rattle.origin_model.specs.declared.taking.tally.Tally.{Tally}
+use Rattle.replica_core.specs.declared.feed_fault.FeedFault.{FeedFault}
+use Rattle.replica_core.specs.declared.feed_fault.FeedFault.TheVariants as feed_fault
+use Rattle.list_spec.specs.Worlds.{Deliver, Edit, Event, World, after_event, after_events, changed, delivered, made_at, pooled}
+use Rattle.list_spec.proofs.PoolLemmas.{pool_keeps}
+use Rattle.list_spec.proofs.WorldLemmas.{events_keep}
+use Rattle.bulk_world.specs.declared.limits.TheConstants.{HOLD}
+use Rattle.fugue_ids.specs.declared.limits.TheConstants.{MOST_OPERATIONS}
+use Rattle.bulk_world.specs.Turns.{among, delivers, made_in, made_over}
+use Rattle.bulk_world.proofs.TurnLemmas.{numbered}
+
+-- where there are too many, nothing changes
+pub nothing_heard : (hold most : ℕ) (s : Held) (op : Op) → IsSettled s → answer hold most s op ≡ TooMany → intake hold most s op ≡ s
+nothing_heard hold most s op settled e = ap (λ a. settle (taken a s op)) e ∙ settle-settled s settled
+
+-- a replica that heard an operation
+abbrev pub heard_one : State → Op → State
+heard_one s op = record s { held = intake s.hold s.most s.held op }
+
+-- the same of a call that answers so
+pub too_many_heard : (s new : State) (op copy : Op) (n : ℕ) (fault : FeedFault) (before after : Tally) (result : Result Bool FeedFault) → result ≡ Err fault → fault ≡ feed_fault.TooMany n
+    → Leaves s new copy before after fault → copy ≡ op → IsSettled s.held → ((result ≡ Err (feed_fault.TooMany s.most)) ↔ (answer s.hold s.most s.held copy ≡ TooMany))
+    → new ≡ heard_one s op
+too_many_heard s new op copy n fault before after result is named leaves copied settled exactly =
+    let left : Leaves s new copy before after (feed_fault.TooMany n) = subst (Leaves s new copy before after) named leaves in
+    let full : answer s.hold s.most s.held copy ≡ TooMany = exactly.0 (is ∙ ap Err (named ∙ ap feed_fault.TooMany left.0)) in
+    left.1 ∙ ap (λ h. record s { held = h }) (sym (nothing_heard s.hold s.most s.held op settled (ap (answer s.hold s.most s.held) (sym copied) ∙ full)))
+
+-- hearing operations one after another
+pub hears_next : (hold most : ℕ) (now start : Held) (op : Op) (ops : List Op) (k : ℕ) → k < length ops → op ≡ get_or ops k op
+    → held_from hold most now (drop k ops) ≡ start → held_from hold most (intake hold most now op) (drop (k + 1) ops) ≡ start
+hears_next hold most now start op ops k l is e = ap (λ x. held_from hold most now (x ∷ drop (k + 1) ops)) is ∙ sym (at_drop_more (held_from hold most now) ops k op l) ∙ e
+
+-- the older history is the end of the newer one
+abbrev EndsIn : List Op → Held → Type 0
+EndsIn h s = (more : List Op) × (s.history ≡ more ++ h)
+
+-- one step of settling keeps it
+leaves : (h : List Op) (s : Held) (r : Op × List Op) → EndsIn h s → EndsIn h (without s r)
+leaves h s r e = by_verdict (verdict s.history r.0)
+  where
+    by_verdict : (v : Verdict) → EndsIn h (record { history = joined v r.0 s.history; waiting = r.1 })
+    by_verdict Ready = (r.0 ∷ e.0, ap (λ l. r.0 ∷ l) e.1)
+    by_verdict _ = e
+
+steps : (h room : List Op) (s : Held) → EndsIn h s → EndsIn h (settled_within room s)
+steps h [] s e = e
+steps h (o ∷ room) s e =
+    elim (earliest_found s.history s.waiting) [
+      | inl k ↦ subst (EndsIn h) (sym (within-none o room s k.0)) e
+      | inr k ↦ subst (EndsIn h) (sym (within-some o room s k.0 k.1)) (steps h room (without s k.0) (leaves h s k.0 e))
+    ]
+
+settling : (h : List Op) (s : Held) → EndsIn h s → EndsIn h (settle s)
+unfolding settle
+settling h s e = steps h s.waiting s e
+
+answering : (h : List Op) (a : Answer) (s : Held) (op : Op) → EndsIn h s → EndsIn h (taken a s op)
+answering h Accepted s op e = (op ∷ e.0, ap (λ l. op ∷ l) e.1)
+answering h _ s op e = e
+
+-- what was accepted stays at the end of the history
+hears_on : (hold most : ℕ) (h : List Op) (s : Held) (ops : List Op) → EndsIn h s → EndsIn h (held_from hold most s ops)
+hears_on hold most h s [] e = e
+hears_on hold most h s (op ∷ ops) e =
+    hears_on hold most h (intake hold most s op) ops (settling h (taken (answer hold most s op) s op) (answering h (answer hold most s op) s op e))
+
+-- so the accepted operations begin with those that were accepted before
+pub first_accepted : (hold most : ℕ) (s : Held) (ops : List Op) → (more : List Op) × (accepted (held_from hold most s ops).history ≡ accepted s.history ++ more)
+first_accepted hold most s ops =
+    let e : EndsIn s.history (held_from hold most s ops) = hears_on hold most s.history s ops ([], refl) in
+    (reverse e.0, ap reverse e.1 ∙ reverse-append e.0 s.history)
+
+-- the operation is of the pool
+abbrev pub IsPooled : List Op → Op → Type 0
+IsPooled pool op = has_op pool op ≡ true
+
+-- what is made comes to the pool
+one_pooled : (pool : List Op) (op : Op) → IsPooled (if has_op pool op then pool else op ∷ pool) op
+one_pooled pool op =
+    elim (cases_Bool (has_op pool op)) [
+      | inl t ↦ subst (λ l. IsPooled l op) (sym (ap (λ b. if b then pool else op ∷ pool) t)) t
+      | inr t ↦ subst (λ l. IsPooled l op) (sym (ap (λ b. if b then pool else op ∷ pool) t)) (or_left (op_eq op op) (has_op pool op) (op_eq-refl op))
+    ]
+
+all_pooled : (pool ops : List Op) → All (IsPooled (pooled pool ops)) ops
+all_pooled pool [] = All-nil (IsPooled pool)
+all_pooled pool (op ∷ ops) =
+    let first : List Op = if has_op pool op then pool else op ∷ pool in
+    All-cons (IsPooled (pooled first ops)) op ops (pool_keeps first ops op (one_pooled pool op)) (all_pooled first ops)
+
+event_pooled : (n : ℕ) (w : World) (event : Event) → All (IsPooled (after_event w event).pool) (made_in n w event)
+event_pooled n w (Edit number command) =
+    let made : List Op = made_at number command w.replicas in
+    let P : Op → Type 0 = IsPooled (pooled w.pool made) in
+    elim (nat_eq number n) as (λ b. All P (if b then made else [])) [ true ↦ all_pooled w.pool made | false ↦ All-nil P ]
+event_pooled n w (Deliver number op) = All-nil (IsPooled (after_event w (Deliver number op)).pool)
+
+-- whatever was made in events is in the pool behind them
+pub made_pooled : (n : ℕ) (w : World) (events : List Event) → All (IsPooled (after_events w events).pool) (made_over n w events)
+made_pooled n w [] = All-nil (IsPooled w.pool)
+made_pooled n w (event ∷ events) =
+    let next : World = after_event w event in
+    let P : Op → Type 0 = IsPooled (after_events next events).pool in
+    All-append P (made_in n w event) (made_over n next events)
+    (All-weaker (IsPooled next.pool) P (λ op m. events_keep next events op m) (made_in n w event) (event_pooled n w event)) (made_pooled n next events)
+
+-- a delivery of what was made
+delivery : (pool : List Op) (op : Op) (n : ℕ) (one two : State) → IsPooled pool op
+    → after_event (among pool one two) (Deliver n op) ≡ record { replicas = changed n (delivered op) (one ∷ two ∷ []); pool = pool }
+delivery pool op n one two m = ap (λ b. if b then record { replicas = changed n (delivered op) (one ∷ two ∷ []); pool = pool } else among pool one two) m
+
+-- replica 2 hears of operations that were made
+pub second_hears : (pool ops : List Op) (h k : Held) → All (IsPooled pool) ops
+    → after_events (among pool (numbered 1 h) (numbered 2 k)) (delivers 2 ops) ≡ among pool (numbered 1 h) (numbered 2 (held_from HOLD MOST_OPERATIONS k ops))
+second_hears pool [] h k m = refl
+second_hears pool (op ∷ ops) h k m =
+    ap (λ w. after_events w (delivers 2 ops)) (delivery pool op 2 (numbered 1 h) (numbered 2 k) (All-head (IsPooled pool) op ops m))
+    ∙ second_hears pool ops h (intake HOLD MOST_OPERATIONS k op) (All-tail (IsPooled pool) op ops m)
+
+-- replica 1 hears of operations that were made
+pub first_hears : (pool ops : List Op) (h k : Held) → All (IsPooled pool) ops
+    → after_events (among pool (numbered 1 h) (numbered 2 k)) (delivers 1 ops) ≡ among pool (numbered 1 (held_from HOLD MOST_OPERATIONS h ops)) (numbered 2 k)
+first_hears pool [] h k m = refl
+first_hears pool (op ∷ ops) h k m =
+    ap (λ w. after_events w (delivers 1 ops)) (delivery pool op 1 (numbered 1 h) (numbered 2 k) (All-head (IsPooled pool) op ops m))
+    ∙ first_hears pool ops (intake HOLD MOST_OPERATIONS h op) k (All-tail (IsPooled pool) op ops m)
+
+-- all operations but the first
+pub behind_first : (op : Op) (made all : List Op) → all ≡ (op ∷ []) ++ made → take (length all - 1) (drop 1 all) ≡ made
+behind_first op made all is =
+    ap (λ l. take (length l - 1) (drop 1 l)) is ∙ take_all (length (op ∷ made) - 1) made (omega arith)
+
+-- the same of a front
+pub behind_first_of : (op : Op) (made more all : List Op) (n : ℕ) → all ≡ ((op ∷ []) ++ made) ++ more → n ≡ length ((op ∷ []) ++ made) → take (n - 1) (drop 1 all) ≡ made
+behind_first_of op made more all n is counted =
+    let few : n - 1 ≡ length made = omega (arith, counted) in
+    ap (λ l. take (n - 1) (drop 1 l)) is ∙ ap (λ m. take m (made ++ more)) few ∙ take-append-le (length made) made more (omega arith) ∙ take_all (length made) made (omega arith)

@@ -1,0 +1,10 @@
+mod TurnLemmas
+mod HearingLemmas
+mod BulkLemmas
+mod OpeningLemmas
+mod SumLemmas
+mod TellingLemmas
+mod MergeLemmas
+mod SteadyLemmas
+mod TogetherLemmas
+mod Examples

@@ -1,0 +1,5 @@
+pub mod Edit
+pub mod Generator
+pub mod Turns
+pub mod Summary
+pub mod Laws

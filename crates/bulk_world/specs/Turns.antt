@@ -1,0 +1,95 @@
+-- The world of a bulk manuscript: two replicas edit one section by turns, without hearing of each other, and then each hears what the other made.
+use Rattle.std.specs.Prelude.{◌≡◌, ◌%◌, ℕ, zero, suc, nat_eq, if◌then◌else◌, Some, None, List, [], ◌∷◌, ◌++◌, length, map, codes}
+use Rattle.fugue_ids.specs.declared.op.Op.{Op}
+use Rattle.fugue_ids.specs.declared.op.Op.TheVariants.{Section}
+use Rattle.origin_model.specs.order.Printed.{text}
+use Rattle.origin_model.specs.taking.Taking.{nothing}
+use Rattle.origin_model.specs.edits.Edits.{Add, id_at}
+use Rattle.replica_core.specs.State.{State}
+use Rattle.replica_core.specs.Edits.{section_shown}
+use Rattle.list_spec.specs.Worlds.{Deliver, Edit, Event, World, after_event, after_events, made_at, world}
+use Rattle.bulk_world.specs.Generator.{command_of, next}
+use Rattle.bulk_world.specs.declared.limits.TheConstants.{HOLD}
+use Rattle.fugue_ids.specs.declared.limits.TheConstants.{MOST_OPERATIONS}
+
+-- a replica that holds nothing
+abbrev pub author : ℕ → State
+author number = record { number = number; hold = HOLD; most = MOST_OPERATIONS; held = nothing }
+
+abbrev pub authors : List State
+authors = author 1 ∷ author 2 ∷ []
+
+-- the replica with this number, as it is in a world
+abbrev pub replica_of : ℕ → List State → State
+replica_of n [] = author n
+replica_of n (s ∷ ss) = if nat_eq s.number n then s else replica_of n ss
+
+-- the scalars that a replica shows of its first section
+abbrev pub first_text : State → List ℕ
+first_text s = elim (section_shown s 0) [ None ↦ [] | Some x ↦ text s.held.history x ]
+
+-- the operations that the replica with this number makes in events
+abbrev pub made_in : ℕ → World → Event → List Op
+made_in n w (Edit number command) = if nat_eq number n then made_at number command w.replicas else []
+made_in n w (Deliver number op) = []
+
+abbrev pub made_over : ℕ → World → List Event → List Op
+made_over n w [] = []
+made_over n w (event ∷ events) = made_in n w event ++ made_over n (after_event w event) events
+
+-- each of the operations is delivered to the replica with this number
+abbrev pub delivers : ℕ → List Op → List Event
+delivers n ops = map (λ op. Deliver n op) ops
+
+-- replica 1 adds the section, and replica 2 hears of it
+abbrev pub adding : List Event
+adding = Edit 1 (Add 0 (codes "B")) ∷ []
+
+abbrev pub opening : List Event
+opening = adding ++ delivers 2 (made_over 1 (world authors []) adding)
+
+-- whose turn i is: that of replica 1 where i is odd
+abbrev pub turn_of : ℕ → ℕ
+turn_of i = if nat_eq (i % 2) 1 then 1 else 2
+
+-- the turn i, by the number x
+abbrev pub turn : World → (i x : ℕ) → Event
+turn w i x = Edit (turn_of i) (command_of x (length (first_text (replica_of (turn_of i) w.replicas))))
+
+-- so many turns from the turn i on, by the numbers behind x
+abbrev pub turns : World → (count i x : ℕ) → List Event
+turns w zero i x = []
+turns w (suc count) i x = let event = turn w i (next x) in event ∷ turns (after_event w event) count (suc i) (next x)
+
+-- two replicas, and what was made so far
+abbrev pub among : (pool : List Op) → State → State → World
+among pool one two = record { replicas = one ∷ two ∷ []; pool = pool }
+
+-- a replica of the world, with whatever it holds
+abbrev pub IsAuthor : ℕ → State → Type 0
+IsAuthor n s = s ≡ record (author n) { held = s.held }
+
+-- what both begin with
+abbrev pub opened : ℕ → State
+opened n = record (author n) { held = record { history = Section (id_at 1 0) None None (codes "B") ∷ []; waiting = [] } }
+
+-- so many turns from the turn i on, by the numbers behind x, lead from two replicas to two others
+abbrev pub Leads : (count i x : ℕ) → (one two one' two' : State) → Type 0
+Leads count i x one two one' two' =
+    (pool : List Op) → (after_events (among pool one two) (turns (among pool one two) count i x)).replicas ≡ one' ∷ two' ∷ []
+
+-- behind events, each replica hears what the other made in them
+abbrev pub hearing : World → List Event → List Event
+hearing w events = delivers 2 (made_over 1 w events) ++ delivers 1 (made_over 2 w events)
+
+-- the turns that a seed leads to
+abbrev pub all_turns : (seed count : ℕ) → List Event
+all_turns seed count = turns (world authors opening) count 1 seed
+
+-- all that happens
+abbrev pub events : (seed count : ℕ) → List Event
+events seed count = opening ++ (all_turns seed count ++ hearing (world authors opening) (all_turns seed count))
+
+-- the world of a bulk manuscript
+abbrev pub bulk_world : (seed count : ℕ) → World
+bulk_world seed count = world authors (events seed count)
