@@ -4,7 +4,7 @@ PREFIX ?= $(HOME)/.local
 
 SOURCES := crates.txt HANDLES $(shell find crates -regex 'crates/[^/]*/out' -prune -o -type f -print)
 
-.PHONY: run test install
+.PHONY: run test demo bench install
 
 # The main job: a chapter that two authors wrote apart, as a stream, and their two files in a folder of their own.
 run: bin/manuscript
@@ -13,7 +13,7 @@ run: bin/manuscript
 
 # The program proves as it is built; an empty stream prints nothing.
 bin/manuscript: $(SOURCES)
-	cd crates/manuscript && $(RT) run -- show < /dev/null
+	RT="$(RT)" .ci/build
 	mkdir -p bin
 	install -m 755 crates/manuscript/out/manuscript $@
 
@@ -21,5 +21,14 @@ bin/manuscript: $(SOURCES)
 test:
 	$(RT) ci
 
+# Two authors who write apart, exchange by streams, files and a relay, and lose a machine in the midst of an edit.
+demo: bin/manuscript
+	examples/demo.sh
+
+# How long the commands take on this machine.
+bench: bin/manuscript
+	examples/bench.sh
+
 install: bin/manuscript
 	install -D -m 755 bin/manuscript $(PREFIX)/bin/manuscript
+	install -D -m 644 docs/manuscript.1 $(PREFIX)/share/man/man1/manuscript.1

@@ -1,0 +1,59 @@
+#!/usr/bin/env bash
+# What `make bench` shows: how long the commands take on this machine, in seconds of the processor, as a table.
+#
+#     examples/bench.sh [LETTERS..]     # 10,000 and 100,000 where none is given
+set -eu
+cd "$(dirname "$0")/.."
+here=$PWD
+[ -x bin/manuscript ] || { echo "bin/manuscript is not there: make bin/manuscript" >&2; exit 1; }
+PATH=$here/bin:$PATH
+folder=$(mktemp -d)
+trap 'cd /; rm -rf "$folder"' EXIT
+cd "$folder"
+[ $# -gt 0 ] || set -- 10000 100000
+TIMEFORMAT='%U %S'
+
+# A row: what is done, and how long a shell line takes. Where it fails there is no row.
+row() {
+    local what=$1 times
+    if times=$({ time bash -c "$2" >/dev/null 2>&1; } 2>&1); then
+        awk -v what="$what" '{ printf "| %s | %.2f |\n", what, $1 + $2 }' <<<"$times"
+    fi
+}
+
+# A script that puts so many letters at once, and one that types them behind one another.
+put_script() {
+    printf 'put 1 0 '
+    head -c "$1" /dev/zero | tr '\0' x
+    echo
+}
+
+type_script() {
+    local at
+    for ((at = 0; at < $1; at++)); do echo "put 1 $at x"; done
+}
+
+processor=$(sed -n 's/^model name[^:]*: //p' /proc/cpuinfo 2>/dev/null | head -n 1)
+echo "On ${processor:-this processor}, $(getconf _NPROCESSORS_ONLN) of them, of which one is used:"
+echo
+echo '| what | seconds |'
+echo '|---|---|'
+row 'the sample of three authors, 11,937 operations: `show`' "manuscript show <$here/samples/oosterwick/all.frames"
+for letters; do
+    manuscript new ann.ms 1 1000
+    echo 'add 1 T' | manuscript edit ann.ms 2>/dev/null
+    cp ann.ms typed.ms
+    manuscript new ben.ms 2 1000
+    manuscript send ann.ms | manuscript take ben.ms 2>/dev/null
+    put_script "$letters" >put
+    row "a text of $letters letters at once: \`edit\`" 'manuscript edit ann.ms <put'
+    row "that text: \`print\`" 'manuscript print ann.ms'
+    manuscript send ann.ms >frames
+    row "its frames: \`show\`" 'manuscript show <frames'
+    manuscript edit ben.ms <put 2>/dev/null
+    row "the text of another author, as long and at the same place: \`merge\`" 'manuscript merge ben.ms ann.ms'
+    type_script $((letters / 10)) >typed
+    row "$((letters / 10)) letters typed one by one, a line of a script each: \`edit\`" 'manuscript edit typed.ms <typed'
+    row "a manuscript of $letters turns: \`bulk\`" "manuscript bulk 7 $letters"
+    rm -f ann.ms ben.ms typed.ms
+done

@@ -1,0 +1,117 @@
+#!/usr/bin/env python3
+"""Odd streams and files, made from a seed: what the program prints, notes and ends with has to be what the small reader
+in this language, which knows docs/FORMATS.md alone, makes of them.
+
+    odd_streams.py PROGRAM SEED COUNT
+"""
+
+import io
+import random
+import subprocess
+import sys
+from contextlib import redirect_stderr, redirect_stdout
+from pathlib import Path
+from tempfile import TemporaryDirectory
+
+sys.path.insert(0, str(Path(__file__).parent.parent / "examples"))
+sys.dont_write_bytecode = True
+import reader
+
+# Bytes at which some field of a frame begins to be wrong, or just is not.
+TELLING = [0, 1, 2, 3, 4, 10, 13, 0x10, 0x11, 0xD7, 0xD8, 0xDF, 0xE0, 0xC1, 0xC3, 0xED, 0xF4, 0xF5, 0xFF]
+TITLES = ["T", "Sea", "\u00e9", "\U0001f3a9x", "a b", "t" * 480]
+SECTION = bytes.fromhex("01 00000001 00000000 00 00 0001 54")
+
+
+class Odd:
+    """Makes operations of few identifiers, so that they rest on each other, wait, clash and stray."""
+
+    def __init__(self, seed):
+        self.random = random.Random(seed)
+
+    def identifier(self):
+        return self.random.randrange(1, 4).to_bytes(4, "big") + self.random.randrange(6).to_bytes(4, "big")
+
+    def origin(self):
+        return b"\0" if self.random.random() < 0.4 else b"\1" + self.identifier()
+
+    def frame(self):
+        kind = self.random.random()
+        if kind < 0.2:
+            title = self.random.choice(TITLES).encode()
+            return b"\1" + self.identifier() + self.origin() + self.origin() + len(title).to_bytes(2, "big") + title
+        if kind < 0.85:
+            section = SECTION[1:9] if self.random.random() < 0.6 else self.identifier()
+            scalar = ord(self.random.choice("abc\u00e9\U0001f3a9"))
+            return b"\2" + self.identifier() + section + self.origin() + self.origin() + scalar.to_bytes(3, "big")
+        return b"\3" + self.identifier()
+
+    def frames(self, most):
+        return b"".join(self.frame() for _ in range(self.random.randrange(most)))
+
+    def stream(self):
+        """Frames, of which some bytes may be others, or the end may lack."""
+        stream = bytearray((SECTION if self.random.random() < 0.8 else b"") + self.frames(40))
+        if stream and self.random.random() < 0.3:
+            stream[self.random.randrange(len(stream))] = self.random.choice(TELLING)
+        if self.random.random() < 0.3:
+            del stream[self.random.randrange(len(stream) + 1) :]
+        return bytes(stream)
+
+    def file(self):
+        """A header and slots, of which each part may be wrong."""
+        hold = self.random.choice([1, 2, 16, 1_048_576] * 3 + [0, 1_048_577])
+        file = b"FGMX\1" + self.random.randrange(5).to_bytes(4, "big") + hold.to_bytes(4, "big")
+        for _ in range(self.random.randrange(4)):
+            batch = self.stream() if self.random.random() < 0.2 else self.frames(12)
+            size = len(batch) + self.random.choice([0] * 20 + [1, -1, 300_000_000])
+            file += b"\1" + max(size, 0).to_bytes(4, "big") + batch
+        file += self.random.choice([b"\0", b"\0", b"\0", b"\7", b"\0more", b""])
+        return file[: self.random.randrange(len(file) + 1)] if self.random.random() < 0.1 else file
+
+
+def read(command, data):
+    """What the reader prints and notes, and its status."""
+    output = io.TextIOWrapper(io.BytesIO(), encoding="utf-8", newline="")
+    notes = io.StringIO()
+    with redirect_stdout(output), redirect_stderr(notes):
+        try:
+            status = reader.COMMANDS[command](data)
+        except reader.Refused as refused:
+            print(refused, file=sys.stderr)
+            status = refused.status
+    output.flush()
+    return output.buffer.getvalue(), notes.getvalue().encode(), status
+
+
+def run(program, words, data=b""):
+    ended = subprocess.run([program, *words], input=data, capture_output=True, check=False)
+    return ended.stdout, ended.stderr, ended.returncode
+
+
+def main(program, seed, count):
+    odd = Odd(seed)
+    wrong = 0
+    statuses = {}
+    with TemporaryDirectory() as folder:
+        file = Path(folder, "file")
+        for _ in range(count):
+            stream, data = odd.stream(), odd.file()
+            file.write_bytes(data)
+            tries = [
+                ("show", stream, run(program, ["show"], stream)),
+                ("print", data, run(program, ["print", str(file)])),
+                ("send", data, run(program, ["send", str(file)])),
+            ]
+            for command, given, seen in tries:
+                statuses[command, seen[2]] = statuses.get((command, seen[2]), 0) + 1
+                if seen != read(command, given):
+                    wrong += 1
+                    print(f"{command} of {given.hex()}: {seen} and not {read(command, given)}")
+    ends = ", ".join(f"{command} with {status} {times}" for (command, status), times in sorted(statuses.items()))
+    print(f"{count} odd streams and files: {ends}; {wrong} read differently")
+    return 1 if wrong else 0
+
+
+if __name__ == "__main__":
+    sys.exit(main(sys.argv[1], int(sys.argv[2]), int(sys.argv[3])))

@@ -1,0 +1,62 @@
+#!/usr/bin/env bash
+# Makes the samples anew from their scripts, and compares them with what stands in the repository: the frames, and the
+# text that each author reads. Where there is python3, the small reader in another language has to read the same.
+. "$(dirname "$0")/common.sh"
+
+samples=$PWD/samples
+reader=$PWD/examples/reader.py
+PATH=${program%/*}:$PATH
+oosterwick=$samples/oosterwick
+
+# Makes a file of what a command prints.
+printed() {
+    local name=$1
+    shift
+    "$@" >"$work/$name" 2>"$work/$name.notes" </dev/null
+}
+
+# What `show` and the reader make of a stream.
+both_show() {
+    local name=$1 frames=$2
+    manuscript show <"$frames" >"$work/shown" 2>"$work/shown.notes"
+    echo $? >"$work/shown.status"
+    python3 "$reader" show "$frames" >"$work/read" 2>"$work/read.notes"
+    echo $? >"$work/read.status"
+    check "the reader shows $name, as the program" cmp -s "$work/shown" "$work/read"
+    check '    and notes the same' cmp -s "$work/shown.notes" "$work/read.notes"
+    check '    and ends with the same status' cmp -s "$work/shown.status" "$work/read.status"
+}
+
+mkdir "$work/made"
+"$oosterwick/make.sh" "$work/made" >"$work/make.log" 2>&1
+check 'the sample of three authors is made' [ $? = 0 ]
+check 'its text is the one that is kept' cmp "$work/made/manuscript.txt" "$oosterwick/manuscript.txt"
+check 'and so are its frames' cmp "$work/made/all.frames" "$oosterwick/all.frames"
+for author in ann ben cleo; do
+    printed "$author" manuscript print "$work/made/$author.ms"
+    check "$author reads the same" cmp -s "$work/$author" "$oosterwick/manuscript.txt"
+done
+manuscript show <"$oosterwick/all.frames" >"$work/shown" 2>"$work/notes"
+check 'the frames are shown as the text' cmp -s "$work/shown" "$oosterwick/manuscript.txt"
+
+if command -v python3 >/dev/null; then
+    for author in ann ben cleo; do
+        printed read python3 "$reader" print "$work/made/$author.ms"
+        check "the reader prints the file of $author" cmp -s "$work/read" "$oosterwick/manuscript.txt"
+        manuscript send "$work/made/$author.ms" >"$work/sent"
+        printed read python3 "$reader" send "$work/made/$author.ms"
+        check '    and sends what it holds' cmp -s "$work/read" "$work/sent"
+    done
+    both_show 'the sample of three authors' "$oosterwick/all.frames"
+    both_show 'the sample stream of two authors' "$samples/two_authors.frames"
+    put cut "$section" "$b" "$y"
+    head -c 60 "$work/cut" >"$work/cut_short"
+    both_show 'a stream that is cut short' "$work/cut_short"
+    put bad "$section" "$b" '\2\0\0\0\0'
+    both_show 'a stream with a bad frame' "$work/bad"
+    put odd "$y" "$section" "$b" "$other_b" "$in_b" "$a" "$b" "$drops_b"
+    both_show 'operations that wait, clash, stray and come twice' "$work/odd"
+    check 'the reader and the program agree on odd streams and files' python3 tests/odd_streams.py "$program" 1 200
+fi
+
+ended
