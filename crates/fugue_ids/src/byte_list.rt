@@ -17,12 +17,14 @@ impl Model for ByteList {
 }
 
 impl ByteList {
+    /// A list of these bytes.
     pub fn new(bytes: Vec<u8>) -> ByteList
         ensures { result ≡ bytes.items }
     {
         ByteList { bytes }
     }
 
+    /// The bytes, in order.
     pub fn as_slice(&self) -> &[u8]
         ensures { result.now ≡ self.now }
     {

@@ -62,6 +62,7 @@ impl From<AllocError> for TitleFault {
 }
 
 impl Title {
+    /// The text as a title: one line of 1 to 480 bytes.
     pub fn read(alloc: Global, text: &str) -> Result<Title, TitleFault>
         ensures ok { IfOk result (λ title. encode_utf8_all title ≡ text.now) }
         ensures empty { (result ≡ Err TitleFault.Empty) ↔ (text.now ≡ []) }
@@ -83,6 +84,7 @@ impl Title {
         })
     }
 
+    /// The text of the title.
     pub fn as_str(&self) -> &str
         ensures text { result.now ≡ encode_utf8_all self.now }
         ensures is_title { IsTitleText result.now }

@@ -19,6 +19,7 @@ pub enum First {
     Bad,
 }
 
+/// What stands at the front of the bytes.
 pub fn first_frame(alloc: Global, bytes: &[u8]) -> Result<First, NoMemory>
     ensures { IfOk result (λ first. FirstIs first bytes.now) }
 {

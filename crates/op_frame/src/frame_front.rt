@@ -46,6 +46,7 @@ impl FrameFront {
         }
     }
 
+    /// The bytes that came so far.
     pub fn as_slice(&self) -> &[u8]
         ensures { result.now ≡ self.now }
     {

@@ -34,6 +34,7 @@ impl Model for FrameReader {
 }
 
 impl FrameReader {
+    /// A reader that gives the frames of a stream of at most `limit` bytes. It takes an array of 4,096 bytes.
     pub fn new(alloc: Global, limit: u64) -> Result<FrameReader, NoMemory>
         ensures fresh { IfOk result (λ reader. reader ≡ record { limit = limit; unread = []; offset = 0; last = 0; fault = None }) }
         ensures gave_none { IfOk result (λ reader. (left : Option (List ℕ)) → Gave left [] reader left) }

@@ -83,6 +83,17 @@ fn operations_are_written_byte_for_byte(rt: HostRuntime) -> Result<(), Fail> {
     Ok(())
 }
 
+#[test]
+fn operations_are_appended_one_behind_the_other(rt: HostRuntime) -> Result<(), Fail> {
+    let mut out = Vec::from_slice(rt.alloc(), b"#")?;
+    encode_all(&six_operations(&rt)?, &mut out)?;
+    assert_eq!(rt;
+        out.strip_prefix(b"#".as_slice()),
+        Some(joined(&rt)?.as_slice())
+    );
+    Ok(())
+}
+
 /// Whether the fronts of the frame begin one, and the frame with a byte behind it is this operation's.
 fn is_first(rt: &HostRuntime, op: &Op, frame: &[u8]) -> Result<bool, Fail> {
     for len in 0..frame.len() {

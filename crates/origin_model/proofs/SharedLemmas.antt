@@ -1,6 +1,7 @@
 -- The lemmas that proofs of other crates may cite.
 pub use Rattle.origin_model.proofs.operations.CauseLemmas.{becomes_ready, names_within, ready_absent}
 pub use Rattle.origin_model.proofs.operations.LookupLemmas.{cases_held, found, has-append, has-holder, holder-has, holder-other, holder-own, holder_owns, holds-cons, holds-older, holds-other, holds-own, missing-held, own_id, when_ready}
+pub use Rattle.origin_model.proofs.operations.OneLookUpLemmas.{owns}
 pub use Rattle.origin_model.proofs.operations.FoundedLemmas.{no_text_before, not_hidden_before, ready_is_new, same_nodes_same_order, section_first, shown_can_go, target_is_shown}
 pub use Rattle.origin_model.proofs.order.OrderLawLemmas.{Within-part, order_total, parts_keep_order}
 pub use Rattle.origin_model.proofs.order.OrderLemmas.{order-none, order-some}
@@ -8,11 +9,13 @@ pub use Rattle.origin_model.proofs.order.PositionLemmas.{index_end}
 pub use Rattle.origin_model.proofs.order.PrintedLemmas.{section_joins}
 pub use Rattle.origin_model.proofs.sides.DetachedLemmas.{absent_stays, found_without, newest_taken_back, nodes_stay}
 pub use Rattle.origin_model.proofs.sides.HalvesLemmas.{passing_before, passing_behind}
+pub use Rattle.origin_model.proofs.sides.KeyedListLemmas.{front_at, rest_at}
 pub use Rattle.origin_model.proofs.sides.KeyedOrderLemmas.{adjacent, gap_at, gap_found, gap_within, key_found, key_held, keyed_at_gap, keyed_ids, keyed_joins, keyed_once, keys_fit, new_key_slot, order_once, part_bounds, part_least, siblings_fall, slot_held}
 pub use Rattle.origin_model.proofs.sides.NewKeyLemmas.{key-other, never_both, newest_key}
 pub use Rattle.origin_model.proofs.sides.NodeHistoryLemmas.{holder-nodes, nodes-lawful, nodes_lawful, op_of}
 pub use Rattle.origin_model.proofs.sides.NodeOrderLemmas.{IsByNodes, nodes-none, nodes_listed, order_by_nodes}
 pub use Rattle.origin_model.specs.sides.Slot.{IsPlace}
+pub use Rattle.origin_model.proofs.taking.AcceptedFrontLemmas.{first_accepted}
 pub use Rattle.origin_model.proofs.taking.KeptLemmas.{answers-append, held-append, kept-append, kept-no, kept-yes, kept_suffice, saved_suffice, stays_settled, tally-append}
 pub use Rattle.origin_model.proofs.taking.RefusedLemmas.{Refused, no_place_left, places-append, places-none, places-one, same_refused, taken_or_refused}
 pub use Rattle.origin_model.proofs.taking.SettlingLemmas.{IsEarliest, earliest-no, earliest-yes, earliest_found, passed_over, settle-settled, within-none, within-some, without}
@@ -22,5 +25,6 @@ pub use Rattle.origin_model.proofs.files.BatchLemmas.{batch_of, behind_number, f
 pub use Rattle.origin_model.proofs.files.ImageLemmas.{Bad, Closed, Ends, ReadOnce, image_once, no_open_slot, slots_not_empty}
 pub use Rattle.origin_model.proofs.files.WalkLemmas.{ReadSome, image_some}
 pub use Rattle.origin_model.proofs.relay.OneOutcomeLemmas.{NoFront, SomeKind, all_once, all_some, one_kind, run_once, run_some, step_once, step_some}
+pub use Rattle.origin_model.proofs.relay.PartsLemmas.{InParts, in_parts}
 pub use Rattle.origin_model.proofs.relay.RunLemmas.{Follows, Path, after_piece, ends_at, follows_runs, open_stays, opened_steps, piece_steps, runs-append, state_after, step_runs, unknown_steps}
 pub use Rattle.origin_model.proofs.relay.TextLemmas.{closed_takes, closing_takes, frame_takes, front_of, front_takes, hello, hello_takes, partly, rest_takes, takes-append}

@@ -2,3 +2,4 @@
 pub mod CauseLemmas
 pub mod FoundedLemmas
 pub mod LookupLemmas
+pub mod OneLookUpLemmas

@@ -2,4 +2,5 @@
 pub mod OneOutcomeLemmas
 pub mod TextLemmas
 pub mod RunLemmas
+pub mod PartsLemmas
 pub mod RelayExamples

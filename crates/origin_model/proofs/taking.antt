@@ -1,4 +1,5 @@
 -- Lemmas on taking in.
+pub mod AcceptedFrontLemmas
 pub mod ClosureLawLemmas
 pub mod ClosureLemmas
 pub mod KeptLemmas

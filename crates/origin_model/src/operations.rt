@@ -1,6 +1,8 @@
 //! Operations, looked up among the accepted ones, and what one is to them.
 
+pub(crate) mod found;
 pub(crate) mod lookup;
+pub(crate) mod name_faults;
 pub(crate) mod named;
 pub(crate) mod names;
 mod no_memory_for;

@@ -50,8 +50,8 @@ impl Lookup for PlainReplica {
         find_holder(&self.ops, id)
     }
 
-    fn contains(&self, op: &Op) -> bool {
-        contains_op(&self.ops, op)
+    fn has_delete(&self, target: ElementId) -> bool {
+        contains_op(&self.ops, &Op::Delete { target })
     }
 }
 

@@ -17,6 +17,7 @@ pub struct StdSink<W: Write + Drop> {
 }
 
 impl<W: Write + Drop> StdSink<W> {
+    /// A sink that hands on to the stream, which has not failed yet.
     pub fn new(writer: W) -> StdSink<W>
         ensures seen { ⟦<StdSink<W> as Out>⟧.seen result
             ≡ record { written = None; faults = 0; room = None } }

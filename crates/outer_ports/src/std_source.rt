@@ -16,6 +16,7 @@ pub struct StdSource<R: Read + Drop> {
 }
 
 impl<R: Read + Drop> StdSource<R> {
+    /// A source of what the stream gives, which has not failed yet.
     pub fn new(reader: R) -> StdSource<R>
         ensures seen { ⟦<StdSource<R> as Source>⟧.seen result
             ≡ record { left = None; faults = 0; sure = false } }

@@ -2,4 +2,3 @@ pub mod LogLemmas
 pub mod SessionLemmas
 pub mod TakingLemmas
 pub mod PieceLemmas
-pub mod PartsLemmas

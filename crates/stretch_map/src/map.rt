@@ -42,6 +42,7 @@ impl<V: Follows> Model for StretchMap<V> {
 }
 
 impl<V: Follows> StretchMap<V> {
+    /// A map without values. It takes no memory.
     pub fn new(alloc: Global) -> StretchMap<V>
         ensures values { result.values ≡ map.empty }
         ensures newest { result.newest ≡ None }

@@ -5,6 +5,8 @@ use Rattle.fugue_ids.specs.Ops.{id_of}
 use Rattle.fugue_ids.specs.declared.op.Op.{Op}
 use Rattle.fugue_ids.specs.declared.op.Op.TheVariants.{Section, Text, Delete}
 use Rattle.origin_model.specs.operations.History.{holder, holds, has_op}
+use Rattle.origin_model.specs.declared.operations.found.Found.{Found}
+use Rattle.origin_model.specs.declared.operations.found.Found.TheVariants.{Same, Clash, Absent}
 use Rattle.origin_model.specs.declared.operations.role.Role.{Role}
 use Rattle.origin_model.specs.declared.operations.role.Role.TheVariants.{Any, Section as SectionRole, TextOf}
 use Rattle.origin_model.specs.declared.operations.verdict.Verdict.{Verdict}
@@ -45,6 +47,12 @@ first_missing history (n ∷ ns) = elim (holder history n.0) [ None ↦ Some n.0
 abbrev pub id_held : List Op → Option Identifier → Bool
 id_held history None = false
 id_held history (Some i) = holds history i
+
+-- what is there of an operation: the same one, another one with its identifier, or neither
+abbrev pub found_as : (is_held is_taken : Bool) → Found
+found_as true is_taken = Same
+found_as false true = Clash
+found_as false false = Absent
 
 -- the first line that applies: the operation is held, its identifier is held, a named one does not fit, a named one is not held
 abbrev pub first_line : (is_held is_taken : Bool) (stray missing : Option Identifier) → Verdict

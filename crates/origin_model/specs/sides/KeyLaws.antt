@@ -28,10 +28,14 @@ StandsAt p h (RightOf None) = Unit {0}
 StandsAt p h (RightOf (Some l)) = IsIn p h l
 StandsAt p h (LeftOf q) = IsIn p h q
 
--- the element of the slot is one of the nodes
+-- the element of the slot is one of the list
+abbrev pub HoldsElement : List Identifier → Slot → Type 0
+HoldsElement list (RightOf l) = HoldsOrigin list l
+HoldsElement list (LeftOf q) = Contains list q
+
+-- it is one of the nodes
 abbrev pub HoldsSlot : List Node → Slot → Type 0
-HoldsSlot ns (RightOf l) = HoldsOrigin (node_order ns) l
-HoldsSlot ns (LeftOf q) = Contains (node_order ns) q
+HoldsSlot ns s = HoldsElement (node_order ns) s
 
 -- y is the last node below s
 pub record EndsBlock (children : Slot → List Identifier) (s y : Identifier) : Type 0 where

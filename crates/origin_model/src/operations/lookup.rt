@@ -2,7 +2,9 @@
 
 ghost use Rattle.std.specs.Prelude.{◌≡◌, List, reverse, option_copied};
 ghost use Rattle.fugue_ids.specs.declared.op.Op.{Op as AnyOp};
+ghost use Rattle.fugue_ids.specs.declared.op.Op.TheVariants.{Delete};
 ghost use Rattle.origin_model.specs.operations.History.{has_op, holder as holder_in};
+ghost use Rattle.origin_model.specs.operations.Verdict.{Lawful};
 
 use fugue_ids::{ElementId, Op};
 
@@ -13,13 +15,15 @@ pub trait Lookup {
 
     /// The operation with this identifier of its own.
     fn holder(&self, id: ElementId) -> Option<&Op>
-        ensures { option_copied result ≡ holder_in (history self.now) id };
+        ensures held { option_copied result ≡ holder_in (history self.now) id }
+        ensures lawful { Lawful (history self.now) };
 
-    /// Whether an equal operation is there.
-    fn contains(&self, op: &Op) -> bool
-        ensures { result ≡ has_op (history self.now) op.now };
+    /// Whether a Delete of this target is there.
+    fn has_delete(&self, target: ElementId) -> bool
+        ensures { result ≡ has_op (history self.now) (Delete target) };
 }
 
+/// Whether an equal operation is among them.
 pub fn contains_op(ops: &[Op], op: &Op) -> bool
     ensures { result ≡ has_op (reverse ops.now) op.now }
 {
@@ -33,6 +37,7 @@ pub fn contains_op(ops: &[Op], op: &Op) -> bool
     false
 }
 
+/// The newest operation with this identifier of its own.
 pub fn find_holder(ops: &[Op], id: ElementId) -> Option<&Op>
     ensures { option_copied result ≡ holder_in (reverse ops.now) id }
 {

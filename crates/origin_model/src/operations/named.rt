@@ -1,10 +1,13 @@
 //! What an operation is against the accepted operations.
 
-ghost use Rattle.std.specs.Prelude.{◌≡◌, option_to_list};
-ghost use Rattle.fugue_ids.specs.Ops.{id_of};
-ghost use Rattle.origin_model.specs.operations.Verdict.{names, fits as fits_role, first_stray, first_missing, id_held, verdict as verdict_on};
+ghost use Rattle.std.specs.Prelude.{◌≡◌, option_to_list, true};
+ghost use Rattle.fugue_ids.specs.Ops.{id_of, op_eq};
+ghost use Rattle.origin_model.specs.operations.History.{has_op};
+ghost use Rattle.origin_model.specs.operations.Verdict.{names, fits as fits_role, first_stray, first_missing, found_as, id_held, verdict as verdict_on};
 
+use crate::operations::found::Found;
 use crate::operations::lookup::Lookup;
+use crate::operations::name_faults::NameFaults;
 use crate::operations::names::{Named, names_of};
 use crate::{Role, Verdict};
 use fugue_ids::{ElementId, Op};
@@ -28,48 +31,69 @@ fn fits(role: Role, op: &Op) -> bool
     }
 }
 
-fn stray_of<L: Lookup>(lookup: &L, named: Named) -> Option<ElementId>
-    ensures { result ≡ first_stray (L.history lookup.now) (option_to_list named) }
+/// What is wrong with one name, by one look-up.
+fn faults_of<L: Lookup>(lookup: &L, named: Named) -> NameFaults
+    ensures stray { result.stray ≡ first_stray (L.history lookup.now) (option_to_list named) }
+    ensures missing { result.missing ≡ first_missing (L.history lookup.now) (option_to_list named) }
 {
-    let (id, role) = named?;
-    let op = lookup.holder(id)?;
-    if fits(role, op) { None } else { Some(id) }
-}
-
-fn missing_of<L: Lookup>(lookup: &L, named: Named) -> Option<ElementId>
-    ensures { result ≡ first_missing (L.history lookup.now) (option_to_list named) }
-{
-    let (id, _) = named?;
+    let Some((id, role)) = named else {
+        return NameFaults::none();
+    };
     match lookup.holder(id) {
-        Some(_) => None,
-        None => Some(id),
+        Some(op) => {
+            if fits(role, op) {
+                NameFaults::none()
+            } else {
+                NameFaults {
+                    stray: Some(id),
+                    missing: None,
+                }
+            }
+        }
+        None => NameFaults {
+            stray: None,
+            missing: Some(id),
+        },
     }
 }
 
-fn stray_name<L: Lookup>(lookup: &L, op: &Op) -> Option<ElementId>
-    ensures { result ≡ first_stray (L.history lookup.now) (names op.now) }
+fn name_faults<L: Lookup>(lookup: &L, op: &Op) -> NameFaults
+    ensures stray { result.stray ≡ first_stray (L.history lookup.now) (names op.now) }
+    ensures missing { result.missing ≡ first_missing (L.history lookup.now) (names op.now) }
 {
     let (first, second, third) = names_of(op);
-    stray_of(lookup, first)
-        .or(stray_of(lookup, second))
-        .or(stray_of(lookup, third))
+    faults_of(lookup, first)
+        .or(faults_of(lookup, second))
+        .or(faults_of(lookup, third))
 }
 
-fn missing_name<L: Lookup>(lookup: &L, op: &Op) -> Option<ElementId>
-    ensures { result ≡ first_missing (L.history lookup.now) (names op.now) }
+/// What an operation is beside the one that has its identifier.
+fn beside(other: &Op, op: &Op) -> Found
+    ensures { result ≡ found_as (op_eq other.now op.now) true }
 {
-    let (first, second, third) = names_of(op);
-    missing_of(lookup, first)
-        .or(missing_of(lookup, second))
-        .or(missing_of(lookup, third))
+    if *other == *op {
+        Found::Same
+    } else {
+        Found::Clash
+    }
 }
 
-fn is_taken<L: Lookup>(lookup: &L, op: &Op) -> bool
-    ensures { result ≡ id_held (L.history lookup.now) (id_of op.now) }
+/// What is there of an operation, by one look-up: where its identifier is held, an equal one can only be the holder.
+fn found_of<L: Lookup>(lookup: &L, op: &Op) -> Found
+    ensures { result ≡ found_as (has_op (L.history lookup.now) op.now) (id_held (L.history lookup.now) (id_of op.now)) }
 {
-    match op.id() {
-        Some(id) => lookup.holder(id).is_some(),
-        None => false,
+    match op {
+        Op::Section { id, .. } | Op::Text { id, .. } => match lookup.holder(*id) {
+            Some(other) => beside(other, op),
+            None => Found::Absent,
+        },
+        Op::Delete { target } => {
+            if lookup.has_delete(*target) {
+                Found::Same
+            } else {
+                Found::Absent
+            }
+        }
     }
 }
 
@@ -78,16 +102,16 @@ fn is_taken<L: Lookup>(lookup: &L, op: &Op) -> bool
 pub fn verdict_in<L: Lookup>(lookup: &L, op: &Op) -> Verdict
     ensures { result ≡ verdict_on (L.history lookup.now) op.now }
 {
-    if lookup.contains(op) {
-        return Verdict::Again;
+    match found_of(lookup, op) {
+        Found::Same => return Verdict::Again,
+        Found::Clash => return Verdict::Conflict,
+        Found::Absent => {}
     }
-    if is_taken(lookup, op) {
-        return Verdict::Conflict;
-    }
-    if let Some(id) = stray_name(lookup, op) {
+    let faults = name_faults(lookup, op);
+    if let Some(id) = faults.stray {
         return Verdict::Stray(id);
     }
-    if let Some(id) = missing_name(lookup, op) {
+    if let Some(id) = faults.missing {
         return Verdict::Missing(id);
     }
     Verdict::Ready

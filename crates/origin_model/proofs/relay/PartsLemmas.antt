@@ -1,6 +1,5 @@
 -- A piece that comes in two parts: the relay ends as behind the whole piece, and the reply to the whole comes with one of the parts.
-use Rattle.std.proofs.Common.{[], List, ap, cond, false, inl, inr, refl, subst, sym, true, ℕ, Bool, ◌++◌, ◌∙◌, ◌∷◌, ◌≡◌, ◌⊎◌}
-use Rattle.std.specs.Prelude.{None, Option, Some}
+use Rattle.origin_model.proofs.Words.{Bool, List, None, Option, Some, [], ap, cond, false, inl, inr, refl, subst, sym, true, ℕ, ◌++◌, ◌∙◌, ◌∷◌, ◌≡◌, ◌⊎◌}
 use Rattle.std.specs.Cmp.{eq_by_cmp_equiv, nat_cmp_total}
 use Rattle.std.specs.FinMap as finite
 use Rattle.std.specs.FinMap.{get-insert, get-remove, gets, nat_cmp-IsAntisymmetric, same_map}
@@ -8,7 +7,7 @@ use Rattle.origin_model.specs.declared.relay.event.Event.TheVariants.{Piece}
 use Rattle.origin_model.specs.declared.relay.reply.Reply.{Reply}
 use Rattle.origin_model.specs.relay.Relay.{Relay, Sessions, Steps, StepsPiece, TakesPiece, reply_of, sessions_after}
 use Rattle.origin_model.specs.relay.Session.{Closes, Goes, Next, Reading, Taken, TakesAll}
-use Rattle.origin_model.proofs.SharedLemmas.{after_piece, piece_steps, unknown_steps}
+use Rattle.origin_model.proofs.relay.RunLemmas.{after_piece, piece_steps, unknown_steps}
 
 -- what is read of bytes is read of a front of them, and then of the rest
 takes_split : (limit : ℕ) (xs ys : List ℕ) (a c : Taken) → TakesAll limit (xs ++ ys) a c → (b : Taken) × TakesAll limit xs a b × TakesAll limit ys b c

@@ -1,9 +1,0 @@
-use Rattle.origin_model.proofs.Words.{option_to_list, sym}
-use Rattle.origin_model.proofs.operations.LookupLemmas.{stray_of_three}
-use Rattle.origin_model.proofs.operations.named.stray_name.Goals as goal
-
-pub returns : goal.returns
-returns g c =
-    let n = c.names_of-first.result in
-    rw (← c.names_of-first.ensures, c.or-2.ensures, c.or.ensures, c.stray_of.ensures, c.stray_of-2.ensures, c.stray_of-3.ensures)
-    (sym (stray_of_three (g.L.Lookup.history c.args.lookup.now) (option_to_list n.0) (option_to_list n.1) (option_to_list n.2)))
