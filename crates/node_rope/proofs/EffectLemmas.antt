@@ -6,7 +6,10 @@ use Rattle.std.proofs.lemmas.List.{append-nil}
 use Rattle.std.proofs.lemmas.List.Concat.{flat_map-append}
 use Rattle.std.specs.Prelude.{eqb}
 use Rattle.fugue_ids.specs.Identifiers.{Identifier, id_eq}
-use Rattle.node_rope.specs.Beside.{new_then, then_new, placed_before, placed_after}
+use Rattle.node_rope.specs.Beside.{new_then, then_new, placed_before, placed_after, placed_beside}
+use Rattle.node_rope.specs.declared.side.Side.{Side}
+use Rattle.node_rope.specs.declared.side.Side.TheVariants.{Left, Right}
+use Rattle.node_rope.specs.Sides.{beside}
 use Rattle.node_rope.specs.declared.store.Store.{Store}
 use Rattle.node_rope.specs.declared.cells.Shape.{Shape}
 use Rattle.node_rope.specs.declared.cells.Link.{Link}
@@ -132,7 +135,7 @@ module _ {T : Type 0} (s u : Store T) (root top : Option Link) (sound : IsSound 
         let it : Identifier × T = ((shape_at (shapes_of s) x).key, v.0) in
         ap (flat_map (new_then at (key, value))) is ∙ append-nil (new_then at (key, value) it) ∙ ap (λ b. cond b ((key, value) ∷ it ∷ []) (it ∷ [])) (alone x h) ∙ ap (λ (ys : List (Identifier × T)). cond (eqb x y) ((key, value) ∷ ys) ys) (sym is)
 
-    pub list-before : order u top ≡ flat_map (before y l.number) (order s root) → items_of u top ≡ placed_before at (key, value) (items_of s root)
+    list-before : order u top ≡ flat_map (before y l.number) (order s root) → items_of u top ≡ placed_before at (key, value) (items_of s root)
     list-before e = items-before y e ∙ sym (through s root sound (new_then at (key, value)) (item_at s) (beside_before y) keyed-before)
 
     keyed-after : (x : ℕ) → x < made_count s → flat_map (then_new at (key, value)) (item_at s x) ≡ beside_after y x
@@ -142,5 +145,9 @@ module _ {T : Type 0} (s u : Store T) (root top : Option Link) (sound : IsSound 
         let it : Identifier × T = ((shape_at (shapes_of s) x).key, v.0) in
         ap (flat_map (then_new at (key, value))) is ∙ append-nil (then_new at (key, value) it) ∙ ap (λ b. cond b (it ∷ (key, value) ∷ []) (it ∷ [])) (alone x h) ∙ ap (λ (ys : List (Identifier × T)). cond (eqb x y) (ys ++ (key, value) ∷ []) ys) (sym is)
 
-    pub list-after : order u top ≡ flat_map (after y l.number) (order s root) → items_of u top ≡ placed_after at (key, value) (items_of s root)
+    list-after : order u top ≡ flat_map (after y l.number) (order s root) → items_of u top ≡ placed_after at (key, value) (items_of s root)
     list-after e = items-after y e ∙ sym (through s root sound (then_new at (key, value)) (item_at s) (beside_after y) keyed-after)
+
+    pub list-beside : (d : Side) → order u top ≡ flat_map (beside d y l.number) (order s root) → items_of u top ≡ placed_beside d at (key, value) (items_of s root)
+    list-beside Left e = list-before e
+    list-beside Right e = list-after e

@@ -35,9 +35,9 @@ are-within s root sound = record {
   parents = λ x m e. numbered s (shape_at (shapes_of s) x).parent m (sound.made_parent x) e;
 }
 
-module _ {T : Type 0} (s u : Store T) (root : Option Link) (at l : Link) (w : Own) (sound : IsSound s root) (e : IsEntered (shapes_of s) (shapes_of u) at l w)
+module _ {T : Type 0} (s u : Store T) (root : Option Link) (at l : Link) (w : Own) (sound : IsSound s root) (e : IsEntered (shape_at (shapes_of s)) (shape_at (shapes_of u)) at l w)
     (kept : IsKept s u) (number : l.number ≡ made_count s) (made_l : IsMade u l) (made_at : IsMade s at) (count : made_count u ≡ made_count s + 1) where
-  came-made : (m : Link) → Came (shapes_of s) at l m → IsMade u m
+  came-made : (m : Link) → Came (shape_at (shapes_of s)) at l m → IsMade u m
   came-made m (inl f) = subst (λ (k : Link). IsMade u k) (sym f) made_l
   came-made m (inr (inl f)) = subst (λ (k : Link). IsMade u k) (sym f) (kept at made_at)
   came-made m (inr (inr (j, inl f))) = kept m (sound.made_left j m f)

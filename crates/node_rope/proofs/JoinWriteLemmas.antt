@@ -1,13 +1,14 @@
 -- What is written where a node joins, node by node.
 use Rattle.std.proofs.Common.{◌≡◌, ℕ, zero, suc, ◌+◌, ◌<◌, ◌≤◌, ◌≢◌, inl, inr, List, [], ◌∷◌, ◌++◌, length, slice_set, Option, None, Some, refl, sym, ap, ◌∙◌, subst, arith}
 use lib.ListN.{length-set, length-append}
+use Rattle.node_rope.specs.declared.side.Side.TheVariants.{Left}
 use Rattle.node_rope.specs.declared.cells.Shape.{Shape}
 use Rattle.node_rope.specs.declared.cells.Link.{Link}
 use Rattle.node_rope.specs.Shapes.{shape_at, lone, number_of, tree_of}
-use Rattle.node_rope.specs.Walk.{IsCounted, mirror}
-use Rattle.node_rope.specs.Grown.{with_parent, joined_before, joined_after}
+use Rattle.node_rope.specs.Walk.{IsCounted}
+use Rattle.node_rope.specs.Grown.{with_parent, joined_beside}
 use Rattle.node_rope.specs.Joined.{IsJoined}
-use Rattle.node_rope.proofs.WalkLemmas.{below-left, below-right, some-same, none-some}
+use Rattle.node_rope.proofs.WalkLemmas.{below-left, some-same, none-some}
 use Rattle.node_rope.proofs.TurnLemmas.{same-or-not}
 use Rattle.node_rope.proofs.JoinLemmas.{some-or-not}
 use Rattle.node_rope.proofs.RaiseLemmas.{set_same, set_other}
@@ -63,21 +64,21 @@ module _ (ss : List Shape) (at l : Link) (h : Shape) (ct : IsCounted (tree_of ss
   mid-before = with_parent more-before o-before (Some l)
 
   abbrev us-before : List Shape
-  us-before = joined_before ss at l h
+  us-before = joined_beside Left ss at l h
 
   long-before : length mid-before ≡ length ss + 1
   long-before = length-with_parent more-before o-before (Some l) ∙ length-append ss (h ∷ [])
 
   pub length-joined-before : length us-before ≡ length ss + 1
-  unfolding joined_before
+  unfolding joined_beside
   length-joined-before = length-set mid-before y_before _ ∙ long-before
 
   pub at_y_before : shape_at us-before y_before ≡ record (shape_at ss y_before) { left = Some l }
-  unfolding joined_before
+  unfolding joined_beside
   at_y_before = set_same mid-before y_before (record (shape_at ss y_before) { left = Some l }) (omega (arith, in_y, long-before))
 
   away_before : (x : ℕ) → x ≢ y_before → shape_at us-before x ≡ shape_at mid-before x
-  unfolding joined_before
+  unfolding joined_beside
   away_before x e = set_other mid-before y_before x (record (shape_at ss y_before) { left = Some l }) e
 
   pub at_n-before : shape_at us-before l.number ≡ h
@@ -130,92 +131,6 @@ module _ (ss : List Shape) (at l : Link) (h : Shape) (ct : IsCounted (tree_of ss
     others_parent = λ x xn e. ap number_of (parents-before x xn e);
     new_left = λ x e. let k = within.lefts x l.number e in omega (arith, k, number);
     new_right = λ x e. let k = within.rights x l.number e in omega (arith, k, number);
-    new_parent = λ x e. let k = within.parents x l.number e in omega (arith, k, number);
-    fresh = λ e. omega (arith, number, in_y, e);
-  }
-
-module _ (ss : List Shape) (at l : Link) (h : Shape) (ct : IsCounted (tree_of ss)) (within : AreWithin ss) (in_y : at.number < length ss) (number : l.number ≡ length ss)
-    (h_right : h.right ≡ (shape_at ss at.number).right) (h_left : h.left ≡ None) (h_parent : h.parent ≡ Some at) where
-  abbrev y_after : ℕ
-  y_after = at.number
-
-  abbrev o-after : Option Link
-  o-after = (shape_at ss at.number).right
-
-  abbrev more-after : List Shape
-  more-after = ss ++ h ∷ []
-
-  abbrev mid-after : List Shape
-  mid-after = with_parent more-after o-after (Some l)
-
-  abbrev us-after : List Shape
-  us-after = joined_after ss at l h
-
-  long-after : length mid-after ≡ length ss + 1
-  long-after = length-with_parent more-after o-after (Some l) ∙ length-append ss (h ∷ [])
-
-  pub length-joined-after : length us-after ≡ length ss + 1
-  unfolding joined_after
-  length-joined-after = length-set mid-after y_after _ ∙ long-after
-
-  pub at_y_after : shape_at us-after y_after ≡ record (shape_at ss y_after) { right = Some l }
-  unfolding joined_after
-  at_y_after = set_same mid-after y_after (record (shape_at ss y_after) { right = Some l }) (omega (arith, in_y, long-after))
-
-  away_after : (x : ℕ) → x ≢ y_after → shape_at us-after x ≡ shape_at mid-after x
-  unfolding joined_after
-  away_after x e = set_other mid-after y_after x (record (shape_at ss y_after) { right = Some l }) e
-
-  pub at_n-after : shape_at us-after l.number ≡ h
-  at_n-after = away_after l.number (λ e. omega (arith, number, in_y, e)) ∙ with_parent-other more-after o-after (Some l) l.number (λ e. let k = within.rights y_after l.number e in omega (arith, k, number))
-      ∙ ap (shape_at more-after) number ∙ got-new ss h
-
-  pub at_m-after : (m : ℕ) → number_of o-after ≡ Some m → shape_at us-after m ≡ record (shape_at ss m) { parent = Some l }
-  at_m-after m e =
-      let with_l : Shape → Shape = λ s. record s { parent = Some l } in
-      let small = below-right (tree_of ss) ct y_after m e in
-      let k = within.rights y_after m e in
-      away_after m (λ f. omega (arith, small, ap (λ (j : ℕ). (shape_at ss j).count) f)) ∙ with_parent-same more-after o-after (Some l) m e (omega (arith, k, length-append ss (h ∷ [])))
-      ∙ ap with_l (got-more ss h m (λ f. omega (arith, k, f)))
-
-  pub at_else-after : (x : ℕ) → x ≢ l.number → x ≢ y_after → (number_of o-after ≡ Some x → ⊥) → shape_at us-after x ≡ shape_at ss x
-  at_else-after x xn xy e = away_after x xy ∙ with_parent-other more-after o-after (Some l) x e ∙ got-more ss h x (λ f. xn (f ∙ sym number))
-
-  -- a field that neither write touches
-  pub field-after : {X : Type 0} (f : Shape → X) → ((s : Shape) (q : Option Link) → f (record s { parent = q }) ≡ f s) → ((s : Shape) (q : Option Link) → f (record s { right = q }) ≡ f s) → (x : ℕ) → x ≢ l.number → f (shape_at us-after x) ≡ f (shape_at ss x)
-  field-after f p q x xn = elim (same-or-not x y_after) as (λ _. f (shape_at us-after x) ≡ f (shape_at ss x)) [
-    | inl e ↦ ap (λ (j : ℕ). f (shape_at us-after j)) e ∙ ap f at_y_after ∙ q (shape_at ss y_after) (Some l) ∙ ap (λ (j : ℕ). f (shape_at ss j)) (sym e)
-    | inr e ↦ elim (some-or-not (number_of o-after) x) as (λ _. f (shape_at us-after x) ≡ f (shape_at ss x)) [
-      | inl g ↦ ap f (at_m-after x g) ∙ p (shape_at ss x) (Some l)
-      | inr g ↦ ap f (at_else-after x xn e g)
-    ]
-  ]
-
-  -- a field that only the write of the parent touches
-  pub others-after : {X : Type 0} (f : Shape → X) → ((s : Shape) (q : Option Link) → f (record s { parent = q }) ≡ f s) → (x : ℕ) → x ≢ y_after → x ≢ l.number → f (shape_at us-after x) ≡ f (shape_at ss x)
-  others-after f p x e xn = elim (some-or-not (number_of o-after) x) as (λ _. f (shape_at us-after x) ≡ f (shape_at ss x)) [
-    | inl g ↦ ap f (at_m-after x g) ∙ p (shape_at ss x) (Some l)
-    | inr g ↦ ap f (at_else-after x xn e g)
-  ]
-
-  pub parents-after : (x : ℕ) → x ≢ l.number → (number_of o-after ≡ Some x → ⊥) → (shape_at us-after x).parent ≡ (shape_at ss x).parent
-  parents-after x xn g = elim (same-or-not x y_after) as (λ _. (shape_at us-after x).parent ≡ (shape_at ss x).parent) [
-    | inl e ↦ ap (λ (j : ℕ). (shape_at us-after j).parent) e ∙ ap (λ s. s.parent) at_y_after ∙ ap (λ (j : ℕ). (shape_at ss j).parent) (sym e)
-    | inr e ↦ ap (λ s. s.parent) (at_else-after x xn e g)
-  ]
-
-  pub is-joined-after : IsJoined (mirror (tree_of ss)) (mirror (tree_of us-after)) y_after l.number
-  is-joined-after = record {
-    y_left = ap (λ s. number_of s.right) at_y_after;
-    n_left = ap (λ s. number_of s.right) at_n-after ∙ ap number_of h_right;
-    n_right = ap (λ s. number_of s.left) at_n-after ∙ ap number_of h_left;
-    n_parent = ap (λ s. number_of s.parent) at_n-after ∙ ap number_of h_parent;
-    moved_parent = λ m e. ap (λ s. number_of s.parent) (at_m-after m e);
-    others_left = λ x xy xn. ap number_of (others-after (λ s. s.right) (λ s q. refl) x xy xn);
-    others_right = λ x xn. ap number_of (field-after (λ s. s.left) (λ s q. refl) (λ s q. refl) x xn);
-    others_parent = λ x xn e. ap number_of (parents-after x xn e);
-    new_left = λ x e. let k = within.rights x l.number e in omega (arith, k, number);
-    new_right = λ x e. let k = within.lefts x l.number e in omega (arith, k, number);
     new_parent = λ x e. let k = within.parents x l.number e in omega (arith, k, number);
     fresh = λ e. omega (arith, number, in_y, e);
   }

@@ -1,5 +1,5 @@
 -- Each node of a rope stands in its order, and the list has each node's value under its key.
-use Rattle.std.proofs.Common.{◌≡◌, ◌≢◌, ◌⊎◌, inl, inr, ℕ, zero, suc, ◌+◌, ◌<◌, ◌≤◌, Bool, true, false, cond, List, [], ◌∷◌, ◌++◌, length, flat_map, slice_get, get_or, Option, None, Some, refl, sym, ap, ◌∙◌, subst, arith}
+use Rattle.std.proofs.Common.{◌≡◌, ◌≢◌, ◌⊎◌, inl, inr, ℕ, zero, suc, ◌+◌, ◌<◌, ◌≤◌, Bool, true, false, cond, List, [], ◌∷◌, ◌++◌, length, map, flat_map, slice_get, get_or, Option, None, Some, refl, sym, ap, ◌∙◌, subst, arith}
 use Rattle.std.specs.Prelude.{eqb, is_some}
 use Rattle.std.specs.BTreeMap.{BTreeMap, get}
 use Rattle.std.proofs.lemmas.Bool.{false_from_ne_true}
@@ -102,6 +102,17 @@ length-values s = length-map s.pile.values value_of
 
 pub value-made : {T : Type 0} (s : Store T) (x : ℕ) → x < made_count s → (v : T) × (slice_get (values_of s) x ≡ Some v)
 value-made s x h = some-of (values_of s) x (omega (arith, h, length-values s))
+
+-- the items of a second store, where each is made from the one of the same node
+pub mapped-items : {T : Type 0} (s v : Store T) (f : Identifier × T → Identifier × T) → ((x : ℕ) → x < made_count s → (a : T) → slice_get (values_of s) x ≡ Some a → item_at v x ≡ f ((shape_at (shapes_of s) x).key, a) ∷ [])
+    → (xs : List ℕ) → ((x : ℕ) → Among x xs → x < made_count s) → flat_map (item_at v) xs ≡ map f (flat_map (item_at s) xs)
+mapped-items s v f each [] made = refl
+mapped-items {T} s v f each (x ∷ xs) made =
+    let h = made x (inl refl) in
+    let a = value-made s x h in
+    let p : Identifier × T = f ((shape_at (shapes_of s) x).key, a.0) in
+    ap (λ (ys : List (Identifier × T)). ys ++ flat_map (item_at v) xs) (each x h a.0 a.1) ∙ ap (λ (ys : List (Identifier × T)). p ∷ ys) (mapped-items s v f each xs (λ y b. made y (inr b)))
+    ∙ ap (λ (ys : List (Identifier × T)). map f (ys ++ flat_map (item_at s) xs)) (sym (item-is s x a.0 h a.1))
 
 read-value : {X : Type 0} (xs : List X) (i : ℕ) (d v : X) → slice_get xs i ≡ Some v → get_or xs i d ≡ v
 read-value [] i d v e = absurd (cc)

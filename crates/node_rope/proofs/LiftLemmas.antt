@@ -6,7 +6,7 @@ use Rattle.node_rope.specs.declared.cells.Shape.{Shape}
 use Rattle.node_rope.specs.declared.cells.Link.{Link}
 use Rattle.node_rope.specs.Shapes.{shape_at, number_of}
 use Rattle.node_rope.specs.Walk.{moved}
-use Rattle.node_rope.specs.Turned.{leads, swapped, with_child}
+use Rattle.node_rope.specs.Turned.{leads, relinked, swapped, with_child}
 use Rattle.node_rope.proofs.WalkLemmas.{moved-other, moved-here, some-same, none-some}
 use Rattle.node_rope.proofs.RaiseLemmas.{set_same, set_other}
 
@@ -32,29 +32,21 @@ leads-tells (Some l) i = elim (eqb_tells l.number i) as (λ _. ((leads (Some l) 
   | inr e ↦ inr (e.0, λ f. e.1 (some-same l.number i f))
 ]
 
--- the new node over c: its links, with c in the place of p
-module _ (h : Shape) (p : ℕ) (c : Link) (has : (number_of h.left ≡ Some p) ⊎ (number_of h.right ≡ Some p)) (once : number_of h.left ≡ Some p → number_of h.right ≡ Some p → ⊥) where
-  pub swapped-left : number_of (swapped h p c).left ≡ moved p c.number (number_of h.left)
-  swapped-left = elim (leads-tells h.left p) as (λ _. number_of (swapped h p c).left ≡ moved p c.number (number_of h.left)) [
-    | inl e ↦ ap (λ b. number_of (cond b (record h { left = Some c }) (record h { right = Some c })).left) e.0 ∙ sym (moved-here p c.number) ∙ ap (moved p c.number) (sym e.1)
-    | inr e ↦ ap (λ b. number_of (cond b (record h { left = Some c }) (record h { right = Some c })).left) e.0 ∙ sym (moved-other p c.number (number_of h.left) e.1)
-  ]
+link-same : (l m : Link) → Some l ≡ Some m → m ≡ l
+link-same l m e = cc
 
-  pub swapped-right : number_of (swapped h p c).right ≡ moved p c.number (number_of h.right)
-  swapped-right = elim (leads-tells h.left p) as (λ _. number_of (swapped h p c).right ≡ moved p c.number (number_of h.right)) [
-    | inl e ↦ ap (λ b. number_of (cond b (record h { left = Some c }) (record h { right = Some c })).right) e.0 ∙ sym (moved-other p c.number (number_of h.right) (once e.1))
-    | inr e ↦ ap (λ b. number_of (cond b (record h { left = Some c }) (record h { right = Some c })).right) e.0 ∙ sym (moved-here p c.number)
-        ∙ ap (moved p c.number) (elim has as (λ _. Some p ≡ number_of h.right) [ inl f ↦ absurd (e.1 f) | inr f ↦ sym f ])
-  ]
+-- a link of the node over c, with c in the place of p
+pub relinked-moved : (o : Option Link) (p : ℕ) (c : Link) → number_of (relinked o p c) ≡ moved p c.number (number_of o)
+relinked-moved o p c = elim (leads-tells o p) as (λ _. number_of (relinked o p c) ≡ moved p c.number (number_of o)) [
+  | inl e ↦ ap (λ b. number_of (cond b (Some c) o)) e.0 ∙ sym (moved-here p c.number) ∙ ap (moved p c.number) (sym e.1)
+  | inr e ↦ ap (λ b. number_of (cond b (Some c) o)) e.0 ∙ sym (moved-other p c.number (number_of o) e.1)
+]
 
-  pub swapped-rest : ((swapped h p c).parent ≡ h.parent) × ((swapped h p c).count ≡ h.count)
-  swapped-rest = elim (leads-tells h.left p) as (λ _. ((swapped h p c).parent ≡ h.parent) × ((swapped h p c).count ≡ h.count)) [
-    | inl e ↦ (ap (λ b. (cond b (record h { left = Some c }) (record h { right = Some c })).parent) e.0, ap (λ b. (cond b (record h { left = Some c }) (record h { right = Some c })).count) e.0)
-    | inr e ↦ (ap (λ b. (cond b (record h { left = Some c }) (record h { right = Some c })).parent) e.0, ap (λ b. (cond b (record h { left = Some c }) (record h { right = Some c })).count) e.0)
-  ]
+pub relinked-from : (o : Option Link) (p : ℕ) (c m : Link) → relinked o p c ≡ Some m → (m ≡ c) ⊎ (o ≡ Some m)
+relinked-from o p c m h = elim (leads-tells o p) as (λ _. (m ≡ c) ⊎ (o ≡ Some m)) [
+  | inl e ↦ inl (link-same c m (sym (ap (λ b. cond b (Some c) o) e.0) ∙ h))
+  | inr e ↦ inr (sym (ap (λ b. cond b (Some c) o) e.0) ∙ h)
+]
 
 pub swapped-field : {X : Type 0} (f : Shape → X) → ((s : Shape) (q : Option Link) → f (record s { left = q }) ≡ f s) → ((s : Shape) (q : Option Link) → f (record s { right = q }) ≡ f s) → (h : Shape) (p : ℕ) (c : Link) → f (swapped h p c) ≡ f h
-swapped-field f l r h p c = elim (leads-tells h.left p) as (λ _. f (swapped h p c) ≡ f h) [
-  | inl e ↦ ap (λ b. f (cond b (record h { left = Some c }) (record h { right = Some c }))) e.0 ∙ l h (Some c)
-  | inr e ↦ ap (λ b. f (cond b (record h { left = Some c }) (record h { right = Some c }))) e.0 ∙ r h (Some c)
-]
+swapped-field f l r h p c = r (record h { left = relinked h.left p c }) (relinked h.right p c) ∙ l h (relinked h.left p c)

@@ -1,9 +1,9 @@
 -- What holds of a tree with its sides exchanged.
-use Rattle.std.proofs.Common.{◌≡◌, ℕ, ◌+◌, ◌≢◌, ◌⊎◌, inl, inr, Option, None, Some, refl, sym, ap, ◌∙◌, arith}
-use Rattle.node_rope.specs.Walk.{Tree, count_of, whole, IsCounted, IsLinked, moved, IsRotated, IsTurned, mirror}
-use Rattle.node_rope.proofs.WalkLemmas.{moved-other, moved-here, some-same, rotated-walk}
+use Rattle.std.proofs.Common.{◌≡◌, ℕ, zero, suc, ◌+◌, ◌⊎◌, inl, inr, [], ◌∷◌, ◌++◌, Option, None, Some, refl, sym, ap, ◌∙◌, arith, append_assoc}
+use Rattle.std.specs.Prelude.{reverse}
+use Rattle.std.proofs.lemmas.List.{reverse-append}
+use Rattle.node_rope.specs.Walk.{Tree, count_of, walk, whole, IsCounted, IsLinked, mirror}
 use Rattle.node_rope.proofs.JoinLemmas.{turn-round}
-use Rattle.node_rope.proofs.TurnLemmas.{same-or-not, turned-counted, turned-linked}
 use Rattle.node_rope.specs.Sums.{Measure, IsCommutative, sum_of, IsSummed}
 use Rattle.node_rope.specs.Joined.{IsSummedBut, IsBelow}
 
@@ -31,35 +31,14 @@ mirror-linked t linked = record { from_left = linked.from_right; from_right = li
 pub mirror-below : (t : Tree) → IsBelow t → IsBelow (mirror t)
 mirror-below t below i p e = elim (below i p e) as (λ _. (t.right p ≡ Some i) ⊎ (t.left p ≡ Some i)) [ inl f ↦ inr f | inr f ↦ inl f ]
 
-pub back-and-forth : (p c : ℕ) (o : Option ℕ) → (o ≡ Some c → ⊥) → moved c p (moved p c o) ≡ o
-back-and-forth p c None h = refl
-back-and-forth p c (Some x) h = elim (same-or-not x p) as (λ _. moved c p (moved p c (Some x)) ≡ Some x) [
-  | inl e ↦ ap (λ y. moved c p (moved p c (Some y))) e ∙ ap (moved c p) (moved-here p c) ∙ moved-here c p ∙ ap Some (sym e)
-  | inr e ↦ ap (moved c p) (moved-other p c (Some x) (λ f. e (some-same x p f))) ∙ moved-other c p (Some x) h
-]
+walk-mirrored : (t : Tree) (f : ℕ) (o : Option ℕ) → walk (mirror t) f o ≡ reverse (walk t f o)
+walk-mirrored t f None = refl
+walk-mirrored t zero (Some x) = refl
+walk-mirrored t (suc f) (Some x) =
+    ap (λ xs. xs ++ x ∷ walk (mirror t) f (t.left x)) (walk-mirrored t f (t.right x)) ∙ ap (λ xs. reverse (walk t f (t.right x)) ++ x ∷ xs) (walk-mirrored t f (t.left x))
+    ∙ sym (append_assoc (reverse (walk t f (t.right x))) (x ∷ []) (reverse (walk t f (t.left x)))) ∙ ap (λ xs. xs ++ reverse (walk t f (t.left x))) (sym (reverse-append (x ∷ []) (walk t f (t.right x))))
+    ∙ sym (reverse-append (walk t f (t.left x)) (x ∷ walk t f (t.right x)))
 
--- c, the right child of p, comes above it
-module _ (t u : Tree) (ct : IsCounted t) (linked : IsLinked t) (p c : ℕ) (n : IsTurned (mirror t) (mirror u) p c) where
-  pub turned-counted-right : IsCounted u
-  turned-counted-right = mirror-counted (mirror u) (turned-counted (mirror t) (mirror u) (mirror-counted t ct) (mirror-linked t linked) p c n)
-
-  pub turned-linked-right : IsLinked u
-  turned-linked-right = mirror-linked (mirror u) (turned-linked (mirror t) (mirror u) (mirror-counted t ct) (mirror-linked t linked) p c n)
-
-  -- only p leads to c
-  not-to-c : (x : ℕ) → x ≢ p → (o : Option ℕ) → ((m : ℕ) → o ≡ Some m → t.parent m ≡ Some x) → o ≡ Some c → ⊥
-  not-to-c x xp o back e = xp (some-same x p (sym (back c e) ∙ linked.from_right p c n.rotated.was))
-
-  backwards : IsRotated u t c p
-  backwards = record {
-    was = n.rotated.c_right;
-    c_left = sym n.rotated.p_right;
-    c_right = n.rotated.was;
-    p_left = sym n.rotated.p_left;
-    p_right = sym n.rotated.c_left;
-    others_left = λ x xc xp. sym (ap (moved c p) (n.rotated.others_right x xp xc) ∙ back-and-forth p c (t.left x) (not-to-c x xp (t.left x) (linked.from_left x)));
-    others_right = λ x xc xp. sym (ap (moved c p) (n.rotated.others_left x xp xc) ∙ back-and-forth p c (t.right x) (not-to-c x xp (t.right x) (linked.from_right x)));
-  }
-
-  pub rotated-walk-right : (o : Option ℕ) → (o ≡ Some p → ⊥) → whole t (moved c p o) ≡ whole u o
-  rotated-walk-right o h = rotated-walk u t turned-counted-right ct turned-linked-right c p backwards (count_of u o) o (omega arith) h
+pub whole-mirrored : (t : Tree) (o : Option ℕ) → whole (mirror t) o ≡ reverse (whole t o)
+whole-mirrored t None = refl
+whole-mirrored t (Some x) = walk-mirrored t (t.count x) (Some x)

@@ -1,5 +1,5 @@
 -- Another value in a node.
-use Rattle.std.proofs.Common.{◌≡◌, ◌≢◌, ◌⊎◌, inl, inr, ℕ, zero, suc, ◌<◌, ◌≤◌, Bool, cond, List, [], ◌∷◌, ◌++◌, length, flat_map, slice_get, slice_set, Option, Some, refl, sym, ap, ◌∙◌, subst, arith}
+use Rattle.std.proofs.Common.{◌≡◌, ◌≢◌, ◌⊎◌, inl, inr, ℕ, zero, suc, ◌<◌, ◌≤◌, Bool, cond, List, [], ◌∷◌, length, flat_map, slice_get, slice_set, Option, Some, refl, sym, ap, ◌∙◌, subst, arith}
 use Rattle.std.specs.Prelude.{eqb}
 use Rattle.std.specs.BTreeMap.{BTreeMap, get}
 use Rattle.std.proofs.lemmas.Bool.Decides.{eqb_tells}
@@ -18,8 +18,8 @@ use Rattle.node_rope.specs.Reweighed.{AreStill, IsStill}
 use Rattle.node_rope.proofs.TurnLemmas.{same-or-not}
 use Rattle.node_rope.proofs.ShapeLemmas.{made-below}
 use Rattle.node_rope.proofs.EffectLemmas.{item-is}
-use Rattle.node_rope.proofs.KeyLemmas.{Among, all-made, value-made, alone, length-values}
-use Rattle.node_rope.proofs.ReweighLemmas.{still, sound-tree, tree-along, order-still}
+use Rattle.node_rope.proofs.KeyLemmas.{all-made, mapped-items, alone, length-values}
+use Rattle.node_rope.proofs.ReweighLemmas.{still, placed, sound-tree, tree-sound, tree-along, order-still}
 
 got-set : {X : Type 0} (xs : List X) (n : ℕ) (y : X) (i : ℕ) (x : X) → slice_get (slice_set xs n y) i ≡ Some x → ((i ≡ n) × (y ≡ x)) ⊎ ((i ≢ n) × (slice_get xs i ≡ Some x))
 got-set [] n y i x e = absurd (cc)
@@ -51,20 +51,10 @@ module _ {T : Type 0} (s u : Store T) (root : Option Link) (l : Link) (value : T
   valued-still i = subst (λ (xs : List Shape). IsStill (shape_at (shapes_of s) i) (shape_at xs i)) (sym shapes) (still (shape_at (shapes_of s) i))
 
   pub valued-sound : IsSound u root
-  valued-sound = let r = tree-along s u root valued-still valued-count kept (sound-tree s root sound) in record {
-    counted = r.counted;
-    weighed = subst (λ (xs : List Shape). IsWeighed xs) (sym shapes) sound.weighed;
-    ranked = subst (λ (xs : List Shape). IsRanked xs) (sym shapes) sound.ranked;
-    linked = r.linked;
-    top = r.top;
-    crown = r.crown;
-    below = r.below;
-    made_left = r.made_left;
-    made_right = r.made_right;
-    made_parent = r.made_parent;
-    made_root = r.made_root;
-    small = r.small;
-  }
+  valued-sound =
+      tree-sound u root (tree-along s u root (placed (shapes_of s) (shapes_of u) valued-still) valued-count kept (sound-tree s root sound))
+      (subst (λ (xs : List Shape). IsWeighed xs) (sym shapes) sound.weighed)
+      (subst (λ (xs : List Shape). IsRanked xs) (sym shapes) sound.ranked)
 
 -- s with another value in the node l, and its weight
 module _ {T : Type 0} (wt : T → Own) (s v : Store T) (root : Option Link) (m : BTreeMap Identifier Link) (key : Identifier) (l : Link) (w : Own) (value : T) (r : IsRope wt s root m) (at : get id_cmp m key ≡ Some l)
@@ -104,14 +94,5 @@ module _ {T : Type 0} (wt : T → Own) (s v : Store T) (root : Option Link) (m :
       item-is v x (cond (eqb x l.number) value a) (omega (arith, h, put-count)) read ∙ ap (λ (k : Identifier). (k, cond (eqb x l.number) value a) ∷ []) (same x).key
       ∙ ap (λ (b : Bool). ((shape_at (shapes_of s) x).key, cond b value a) ∷ []) (sym (alone wt s root m r key l at x h))
 
-  put-items : (xs : List ℕ) → ((x : ℕ) → Among x xs → x < made_count s) → flat_map (item_at v) xs ≡ put_under key value (flat_map (item_at s) xs)
-  put-items [] made = refl
-  put-items (x ∷ xs) made =
-      let h = made x (inl refl) in
-      let a = value-made s x h in
-      let p : Identifier × T = ((shape_at (shapes_of s) x).key, cond (id_eq (shape_at (shapes_of s) x).key key) value a.0) in
-      ap (λ (ys : List (Identifier × T)). ys ++ flat_map (item_at v) xs) (put-item x h a.0 a.1) ∙ ap (λ (ys : List (Identifier × T)). p ∷ ys) (put-items xs (λ y b. made y (inr b)))
-      ∙ ap (λ (ys : List (Identifier × T)). put_under key value (ys ++ flat_map (item_at s) xs)) (sym (item-is s x a.0 h a.1))
-
   pub put-list : items_of v root ≡ put_under key value (items_of s root)
-  put-list = ap (flat_map (item_at v)) (order-still s v root same) ∙ put-items (order s root) (all-made s root r.sound)
+  put-list = ap (flat_map (item_at v)) (order-still s v root (placed (shapes_of s) (shapes_of v) same)) ∙ mapped-items s v (λ x. (x.0, cond (id_eq x.0 key) value x.1)) put-item (order s root) (all-made s root r.sound)

@@ -5,11 +5,11 @@ use Rattle.node_rope.specs.declared.cells.Shape.{Shape}
 use Rattle.node_rope.specs.declared.cells.Link.{Link}
 use Rattle.node_rope.specs.declared.cells.Own.{Own}
 use Rattle.node_rope.specs.Made.{IsMade, IsKept, made_count, shapes_of}
-use Rattle.node_rope.specs.Shapes.{IsSound, shape_at, number_of, tree_of, weight_at, weigh, least_at, order}
+use Rattle.node_rope.specs.Shapes.{IsSound, shape_at, number_of, tree_of, weight_at, weigh, least_at, order, IsWeighed, IsRanked}
 use Rattle.node_rope.specs.Walk.{Tree, count_of, walk, whole}
 use Rattle.node_rope.specs.Sums.{lesser, sum_of}
 use Rattle.node_rope.specs.Shapes.{leasts}
-use Rattle.node_rope.specs.Reweighed.{summed, IsStill, AreStill, SameOwns, IsTree, IsSoundBut}
+use Rattle.node_rope.specs.Reweighed.{summed, IsStill, AreStill, ArePlaced, SameOwns, IsTree, IsSoundBut}
 use Rattle.node_rope.proofs.WalkLemmas.{some-same, below-left, below-right, length-whole}
 use Rattle.node_rope.proofs.TurnLemmas.{same-or-not}
 use Rattle.node_rope.proofs.ShapeLemmas.{length-shapes, made-below, weight-sum, least-sum}
@@ -23,10 +23,13 @@ still h = record { left = refl; right = refl; parent = refl; key = refl; count =
 pub still-trans : (ss us ws : List Shape) → AreStill ss us → AreStill us ws → AreStill ss ws
 still-trans ss us ws f g i = let a = f i in let b = g i in record { left = b.left ∙ a.left; right = b.right ∙ a.right; parent = b.parent ∙ a.parent; key = b.key ∙ a.key; count = b.count ∙ a.count }
 
+pub placed : (ss us : List Shape) → AreStill ss us → ArePlaced ss us
+placed ss us f i = let a = f i in record { left = a.left; right = a.right; parent = a.parent; count = a.count }
+
 pub sound-tree : {T : Type 0} (s : Store T) (root : Option Link) → IsSound s root → IsTree s root
 sound-tree s root r = record { counted = r.counted; linked = r.linked; top = r.top; crown = r.crown; below = r.below; made_left = r.made_left; made_right = r.made_right; made_parent = r.made_parent; made_root = r.made_root; small = r.small }
 
-pub tree-along : {T : Type 0} (s u : Store T) (root : Option Link) → AreStill (shapes_of s) (shapes_of u) → made_count u ≡ made_count s → IsKept s u → IsTree s root → IsTree u root
+pub tree-along : {T : Type 0} (s u : Store T) (root : Option Link) → ArePlaced (shapes_of s) (shapes_of u) → made_count u ≡ made_count s → IsKept s u → IsTree s root → IsTree u root
 tree-along s u root same count kept r = record {
   counted = λ x. omega (arith, r.counted x, (same x).count, lefts x, rights x);
   linked = record {
@@ -56,11 +59,11 @@ tree-along s u root same count kept r = record {
   rights : (x : ℕ) → count_of (tree_of (shapes_of u)) (number_of (shape_at (shapes_of u) x).right) ≡ count_of (tree_of (shapes_of s)) (number_of (shape_at (shapes_of s) x).right)
   rights x = counts (number_of (shape_at (shapes_of u) x).right) ∙ ap (λ o. count_of (tree_of (shapes_of s)) (number_of o)) (same x).right
 
-pub but-none : {T : Type 0} (s : Store T) (root : Option Link) → IsSoundBut s root None → IsSound s root
-but-none s root b = let r = b.tree in record {
+pub tree-sound : {T : Type 0} (s : Store T) (root : Option Link) → IsTree s root → IsWeighed (shapes_of s) → IsRanked (shapes_of s) → IsSound s root
+tree-sound s root r weighed ranked = record {
   counted = r.counted;
-  ranked = λ x. b.low x (λ e. no x e) ∙ (λ j. min (least-sum (shapes_of s) (shape_at (shapes_of s) x).left j) (min (shape_at (shapes_of s) x).own.rank (least-sum (shapes_of s) (shape_at (shapes_of s) x).right j)));
-  weighed = λ x. omega (arith, b.rest x (λ e. no x e), weight-sum (shapes_of s) (shape_at (shapes_of s) x).left, weight-sum (shapes_of s) (shape_at (shapes_of s) x).right);
+  weighed = weighed;
+  ranked = ranked;
   linked = r.linked;
   top = r.top;
   crown = r.crown;
@@ -70,9 +73,15 @@ but-none s root b = let r = b.tree in record {
   made_parent = r.made_parent;
   made_root = r.made_root;
   small = r.small;
-} where
-  no : (x : ℕ) → None ≡ Some x → ⊥
-  no x e = cc
+}
+
+pub but-none : {T : Type 0} (s : Store T) (root : Option Link) → IsSoundBut s root None → IsSound s root
+but-none s root b = tree-sound s root b.tree
+    (λ x. omega (arith, b.rest x (λ e. no x e), weight-sum (shapes_of s) (shape_at (shapes_of s) x).left, weight-sum (shapes_of s) (shape_at (shapes_of s) x).right))
+    (λ x. b.low x (λ e. no x e) ∙ (λ j. min (least-sum (shapes_of s) (shape_at (shapes_of s) x).left j) (min (shape_at (shapes_of s) x).own.rank (least-sum (shapes_of s) (shape_at (shapes_of s) x).right j))))
+  where
+    no : (x : ℕ) → None ≡ Some x → ⊥
+    no x e = cc
 
 pub heavy : (ss : List Shape) → ((i : ℕ) → (shape_at ss i).weight ≤ 4194304 * (shape_at ss i).count) → (o : Option Link) → weight_at ss o ≤ 4194304 * count_of (tree_of ss) (number_of o)
 heavy ss b None = omega arith
@@ -176,7 +185,7 @@ module _ {T : Type 0} (s u : Store T) (root : Option Link) (l : Link) (b : IsSou
 
   pub step-but : IsSoundBut u root (shape_at ss x).parent
   step-but = record {
-    tree = tree-along s u root step-still count kept b.tree;
+    tree = tree-along s u root (placed ss us step-still) count kept b.tree;
     rest = step-rest;
     low = step-low;
     light = λ i. omega (arith, b.light i, ap (λ o. o.weight) (step-owns i));
@@ -214,7 +223,7 @@ walk-same t u l r zero (Some x) = refl
 walk-same t u l r (suc f) (Some x) =
     ap (λ xs. xs ++ x ∷ walk u f (u.right x)) (ap (walk u f) (l x) ∙ walk-same t u l r f (t.left x)) ∙ ap (λ xs. walk t f (t.left x) ++ x ∷ xs) (ap (walk u f) (r x) ∙ walk-same t u l r f (t.right x))
 
-pub order-still : {T : Type 0} (s u : Store T) (root : Option Link) → AreStill (shapes_of s) (shapes_of u) → order u root ≡ order s root
+pub order-still : {T : Type 0} (s u : Store T) (root : Option Link) → ArePlaced (shapes_of s) (shapes_of u) → order u root ≡ order s root
 order-still s u root same = by (number_of root) where
   by : (o : Option ℕ) → whole (tree_of (shapes_of u)) o ≡ whole (tree_of (shapes_of s)) o
   by None = refl
@@ -274,7 +283,7 @@ module _ {T : Type 0} (s u : Store T) (root : Option Link) (at : Link) (w : Own)
 
   pub own-but : made_count s < 4194305 → ((i : ℕ) → (shape_at (shapes_of s) i).own.weight < 4194305) → w.weight < 4194305 → IsSoundBut u root (Some at)
   own-but few light lt = record {
-    tree = tree-along s u root own-still count kept (sound-tree s root sound);
+    tree = tree-along s u root (placed (shapes_of s) (shapes_of u) own-still) count kept (sound-tree s root sound);
     rest = λ i ne. (
         let e = own-elsewhere i (λ f. ne (ap Some (sym f))) in
         let a = own-weight-at (shape_at (shapes_of s) i).left in

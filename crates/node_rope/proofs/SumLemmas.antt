@@ -25,6 +25,16 @@ module _ {M : Type 0} (m : Measure M) (L : IsLawful m) where
     pub sum-is : (o : Option ℕ) → sum_of m s o ≡ fold m own (whole t o)
     sum-is o = sums (count_of t o) o (omega arith)
 
+-- equal numbers over equal links
+pub summed-along : {M : Type 0} (m : Measure M) (t u : Tree) (own own' s s' : ℕ → M) → ((x : ℕ) → u.left x ≡ t.left x) → ((x : ℕ) → u.right x ≡ t.right x) → ((x : ℕ) → own' x ≡ own x) → ((x : ℕ) → s' x ≡ s x) → IsSummed m t own s → IsSummed m u own' s'
+summed-along {M} m t u own own' s s' lefts rights owns sums h x = sums x ∙ h x ∙ (λ j. m.both (side (t.left x) (u.left x) (lefts x) j) (m.both (sym (owns x) j) (side (t.right x) (u.right x) (rights x) j))) where
+  same : (o : Option ℕ) → sum_of m s o ≡ sum_of m s' o
+  same None = refl
+  same (Some y) = sym (sums y)
+
+  side : (o q : Option ℕ) → q ≡ o → sum_of m s o ≡ sum_of m s' q
+  side o q e = same o ∙ ap (sum_of m s') (sym e)
+
 pub take-seam : (xs : List ℕ) (x : ℕ) (ys : List ℕ) (i j : ℕ) → j ≡ length xs + suc i → take j (xs ++ x ∷ ys) ≡ xs ++ x ∷ take i ys
 take-seam [] x ys i zero e = absurd (omega (arith, e))
 take-seam [] x ys i (suc j) e = let k : j ≡ i = omega (arith, e) in ap (λ n. x ∷ take n ys) k

@@ -1,6 +1,7 @@
 -- A node joins the tree of a store.
 use Rattle.std.specs.Prelude.{◌≡◌, ◌≢◌, ℕ, ◌+◌, min, List, [], ◌∷◌, ◌++◌, slice_set, Option, None, Some}
 use Rattle.fugue_ids.specs.Identifiers.{Identifier}
+use Rattle.node_rope.specs.declared.side.Side.{Side}
 use Rattle.node_rope.specs.declared.store.Store.{Store}
 use Rattle.node_rope.specs.declared.cells.Shape.{Shape}
 use Rattle.node_rope.specs.declared.cells.Link.{Link}
@@ -8,23 +9,18 @@ use Rattle.node_rope.specs.declared.cells.Own.{Own}
 use Rattle.node_rope.specs.Made.{IsMade, made_count, shapes_of, values_of}
 use Rattle.node_rope.specs.Shapes.{IsSound, shape_at, number_of, tree_of, weight_at, least_at}
 use Rattle.node_rope.specs.Walk.{count_of}
+use Rattle.node_rope.specs.Sides.{faced}
 
 abbrev pub with_parent : List Shape → Option Link → Option Link → List Shape
 with_parent ss None q = ss
 with_parent ss (Some l) q = slice_set ss l.number (record (shape_at ss l.number) { parent = q })
 
--- the new node, which takes what was below at's left, or below its right
-abbrev pub new_before : List Shape → Link → Identifier → Own → Shape
-new_before ss at key w = let o = (shape_at ss at.number).left in record { key = key; left = o; right = None; parent = Some at; count = count_of (tree_of ss) (number_of o) + 1; weight = weight_at ss o + w.weight; least = min (least_at ss o) w.rank; own = w }
+-- the new node, which takes what was below at's side
+abbrev pub new_beside : Side → List Shape → Link → Identifier → Own → Shape
+new_beside d ss at key w = let o = (faced d (shape_at ss at.number)).left in faced d (record { key = key; left = o; right = None; parent = Some at; count = count_of (tree_of ss) (number_of o) + 1; weight = weight_at ss o + w.weight; least = min (least_at ss o) w.rank; own = w })
 
-abbrev pub new_after : List Shape → Link → Identifier → Own → Shape
-new_after ss at key w = let o = (shape_at ss at.number).right in record { key = key; left = None; right = o; parent = Some at; count = count_of (tree_of ss) (number_of o) + 1; weight = weight_at ss o + w.weight; least = min (least_at ss o) w.rank; own = w }
-
-unfoldable pub joined_before : List Shape → Link → Link → Shape → List Shape
-joined_before ss at l h = slice_set (with_parent (ss ++ h ∷ []) (shape_at ss at.number).left (Some l)) at.number (record (shape_at ss at.number) { left = Some l })
-
-unfoldable pub joined_after : List Shape → Link → Link → Shape → List Shape
-joined_after ss at l h = slice_set (with_parent (ss ++ h ∷ []) (shape_at ss at.number).right (Some l)) at.number (record (shape_at ss at.number) { right = Some l })
+unfoldable pub joined_beside : Side → List Shape → Link → Link → Shape → List Shape
+joined_beside d ss at l h = slice_set (with_parent (ss ++ h ∷ []) (faced d (shape_at ss at.number)).left (Some l)) at.number (faced d (record (faced d (shape_at ss at.number)) { left = Some l }))
 
 -- the store u has one more node than s
 pub record IsGrown {T : Type 0} (s u : Store T) (root : Option Link) (key : Identifier) (w : Own) (value : T) (l : Link) : Type 0 where

@@ -13,6 +13,7 @@ pub mod Reweighed
 pub mod Rising
 pub mod Shaped
 pub mod Shapes
+pub mod Sides
 pub mod Sums
 pub mod Swaps
 pub mod Turned

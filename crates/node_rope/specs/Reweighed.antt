@@ -7,6 +7,16 @@ use Rattle.node_rope.specs.Made.{made_count, shapes_of}
 use Rattle.node_rope.specs.Walk.{IsCounted, IsLinked}
 use Rattle.node_rope.specs.Shapes.{shape_at, number_of, tree_of, weight_at, least_at, AreMade}
 
+-- the links and the count are the same
+pub record IsPlaced (g h : Shape) : Type 0 where
+  pub left : h.left ≡ g.left
+  pub right : h.right ≡ g.right
+  pub parent : h.parent ≡ g.parent
+  pub count : h.count ≡ g.count
+
+abbrev pub ArePlaced : List Shape → List Shape → Type 0
+ArePlaced ss us = (i : ℕ) → IsPlaced (shape_at ss i) (shape_at us i)
+
 -- all but the weights and ranks is the same
 pub record IsStill (g h : Shape) : Type 0 where
   pub left : h.left ≡ g.left

@@ -1,8 +1,11 @@
 -- What a rotation writes.
 use Rattle.std.specs.Prelude.{◌≡◌, ℕ, ◌+◌, ◌-◌, min, Bool, false, cond, eqb, List, slice_set, Option, None, Some}
+use Rattle.node_rope.specs.declared.side.Side.{Side}
+use Rattle.node_rope.specs.declared.side.Side.TheVariants.{Left, Right}
 use Rattle.node_rope.specs.declared.cells.Shape.{Shape}
 use Rattle.node_rope.specs.declared.cells.Link.{Link}
 use Rattle.node_rope.specs.Shapes.{shape_at, number_of, tree_of, weight_at, least_at}
+use Rattle.node_rope.specs.Sides.{faced}
 use Rattle.node_rope.specs.Grown.{with_parent}
 use Rattle.node_rope.specs.Walk.{count_of}
 
@@ -13,25 +16,26 @@ abbrev pub leads : Option Link → ℕ → Bool
 leads None i = false
 leads (Some l) i = eqb l.number i
 
--- h, with a link to c in the place of its link to p
+-- the side at which c stands, where left is what stands at the left
+abbrev pub side_of : Option Link → ℕ → Side
+side_of left c = cond (leads left c) Left Right
+
+-- o, with a link to c in the place of one to p
+abbrev pub relinked : Option Link → ℕ → Link → Option Link
+relinked o p c = cond (leads o p) (Some c) o
+
 abbrev pub swapped : Shape → ℕ → Link → Shape
-swapped h p c = cond (leads h.left p) (record h { left = Some c }) (record h { right = Some c })
+swapped h p c = record h { left = relinked h.left p c; right = relinked h.right p c }
 
 abbrev pub with_child : List Shape → Option Link → ℕ → Link → List Shape
 with_child ss None p c = ss
 with_child ss (Some g) p c = slice_set ss g.number (swapped (shape_at ss g.number) p c)
 
--- the shapes with c, the left child of p, above it, and the node over p left as it was
-unfoldable pub lifted_left : List Shape → Link → Link → Shape → Shape → List Shape
-lifted_left ss p c above below =
-    slice_set (slice_set (with_parent ss below.right (Some p)) p.number (record above { left = below.right; parent = Some c; count = (above.count - below.count) + count_at ss below.right; weight = (above.weight - below.weight) + weight_at ss below.right; least = min (least_at ss below.right) (min above.own.rank (least_at ss above.right)) }))
-    c.number (record below { right = Some p; parent = above.parent; count = above.count; weight = above.weight; least = above.least })
-
--- the same of the right child
-unfoldable pub lifted_right : List Shape → Link → Link → Shape → Shape → List Shape
-lifted_right ss p c above below =
-    slice_set (slice_set (with_parent ss below.left (Some p)) p.number (record above { right = below.left; parent = Some c; count = (above.count - below.count) + count_at ss below.left; weight = (above.weight - below.weight) + weight_at ss below.left; least = min (least_at ss below.left) (min above.own.rank (least_at ss above.left)) }))
-    c.number (record below { left = Some p; parent = above.parent; count = above.count; weight = above.weight; least = above.least })
+-- the shapes with c, the child of p at the side, above it, and the node over p left as it was. Both are given as seen from there
+unfoldable pub lifted : Side → List Shape → Link → Link → Shape → Shape → List Shape
+lifted d ss p c above below =
+    slice_set (slice_set (with_parent ss below.right (Some p)) p.number (faced d (record above { left = below.right; parent = Some c; count = (above.count - below.count) + count_at ss below.right; weight = (above.weight - below.weight) + weight_at ss below.right; least = min (least_at ss below.right) (min above.own.rank (least_at ss above.right)) })))
+    c.number (faced d (record below { right = Some p; parent = above.parent; count = above.count; weight = above.weight; least = above.least }))
 
 -- each node keeps its key and what its value counts for
 abbrev pub SameItems : List Shape → List Shape → Type 0

@@ -2,14 +2,15 @@
 ghost use Rattle.std.specs.Prelude.{◌≡◌, ◌+◌, ◌-◌, ◌^◌, ◌<◌, ◌≤◌, [], ◌∷◌, ◌++◌, flat_map, IfOk, IfErr, Some};
 ghost use Rattle.node_rope.specs.Made.{IsMade, IsKept, made_count, shapes_of, values_of};
 ghost use Rattle.node_rope.specs.Shapes.{IsSound, AreMade, shape_at, order};
-ghost use Rattle.node_rope.specs.Walk.{before as place_before, after as place_after};
+ghost use Rattle.node_rope.specs.Sides.{faced, beside};
 ghost use Rattle.node_rope.specs.Rising.{AreSmall};
-ghost use Rattle.node_rope.specs.Grown.{with_parent, new_before, new_after, joined_before, joined_after, IsGrown};
+ghost use Rattle.node_rope.specs.Grown.{with_parent, new_beside, joined_beside, IsGrown};
 
 use crate::back::Back;
 use crate::cells::{Link, Own, Shape};
 use crate::climb::{count_below, least_below, weight_below};
 use crate::raise::raise;
+use crate::side::{Side, facing};
 use crate::store::Store;
 use fugue_ids::ElementId;
 
@@ -27,29 +28,30 @@ pub(crate) fn set_parent<T: Drop>(store: &mut Store<T>, link: Option<Link>, pare
 }
 
 // The sums above the new node are not yet raised.
-fn join_before<T: Drop>(
+fn join<T: Drop>(
     store: &mut Store<T>,
+    side: Side,
     at: Link,
     key: ElementId,
     own: Own,
     value: T,
 ) -> Result<Link, Back<T>>
     requires made { IsMade store.old at }
-    requires left { AreMade store.old (shape_at (shapes_of store.old) at.number).left }
+    requires near { AreMade store.old (faced side (shape_at (shapes_of store.old) at.number)).left }
     requires few { made_count store.old < 2 ^ 62 }
     requires fits { own.rank < 2 ^ 64 }
     requires small { AreSmall (shapes_of store.old) (own.weight + own.weight) }
-    ensures joined { IfOk result (λ l. (shapes_of store.new ≡ joined_before (shapes_of store.old) at l (new_before (shapes_of store.old) at key own)) × (values_of store.new ≡ values_of store.old ++ (value ∷ [])) × (l.number ≡ made_count store.old) × IsMade store.new l × (made_count store.new ≡ made_count store.old + 1)) }
+    ensures joined { IfOk result (λ l. (shapes_of store.new ≡ joined_beside side (shapes_of store.old) at l (new_beside side (shapes_of store.old) at key own)) × (values_of store.new ≡ values_of store.old ++ (value ∷ [])) × (l.number ≡ made_count store.old) × IsMade store.new l × (made_count store.new ≡ made_count store.old + 1)) }
     ensures refused { IfErr result (λ b. (b.value ≡ value) × (store.new ≡ store.old)) }
     ensures kept { IsKept store.old store.new }
 {
-    let beside = store.shape(at);
-    let count = count_below(store, beside.left) + 1;
-    let weight = weight_below(store, beside.left) + own.weight;
-    let least = least_below(store, beside.left).min(own.rank);
+    let next = facing(store.shape(at), side);
+    let count = count_below(store, next.left) + 1;
+    let weight = weight_below(store, next.left) + own.weight;
+    let least = least_below(store, next.left).min(own.rank);
     let shape = Shape {
         key,
-        left: beside.left,
+        left: next.left,
         right: None,
         parent: Some(at),
         count,
@@ -57,72 +59,25 @@ fn join_before<T: Drop>(
         least,
         own,
     };
-    match store.make(shape, value) {
+    match store.make(facing(shape, side), value) {
         Ok(link) => {
-            set_parent(store, beside.left, Some(link));
-            store.set_shape(
-                at,
-                Shape {
-                    left: Some(link),
-                    ..beside
-                },
-            );
+            set_parent(store, next.left, Some(link));
+            let over = Shape {
+                left: Some(link),
+                ..next
+            };
+            store.set_shape(at, facing(over, side));
             Ok(link)
         }
         Err(back) => Err(back),
     }
 }
 
-fn join_after<T: Drop>(
-    store: &mut Store<T>,
-    at: Link,
-    key: ElementId,
-    own: Own,
-    value: T,
-) -> Result<Link, Back<T>>
-    requires made { IsMade store.old at }
-    requires right { AreMade store.old (shape_at (shapes_of store.old) at.number).right }
-    requires few { made_count store.old < 2 ^ 62 }
-    requires fits { own.rank < 2 ^ 64 }
-    requires small { AreSmall (shapes_of store.old) (own.weight + own.weight) }
-    ensures joined { IfOk result (λ l. (shapes_of store.new ≡ joined_after (shapes_of store.old) at l (new_after (shapes_of store.old) at key own)) × (values_of store.new ≡ values_of store.old ++ (value ∷ [])) × (l.number ≡ made_count store.old) × IsMade store.new l × (made_count store.new ≡ made_count store.old + 1)) }
-    ensures refused { IfErr result (λ b. (b.value ≡ value) × (store.new ≡ store.old)) }
-    ensures kept { IsKept store.old store.new }
-{
-    let beside = store.shape(at);
-    let count = count_below(store, beside.right) + 1;
-    let weight = weight_below(store, beside.right) + own.weight;
-    let least = least_below(store, beside.right).min(own.rank);
-    let shape = Shape {
-        key,
-        left: None,
-        right: beside.right,
-        parent: Some(at),
-        count,
-        weight,
-        least,
-        own,
-    };
-    match store.make(shape, value) {
-        Ok(link) => {
-            set_parent(store, beside.right, Some(link));
-            store.set_shape(
-                at,
-                Shape {
-                    right: Some(link),
-                    ..beside
-                },
-            );
-            Ok(link)
-        }
-        Err(back) => Err(back),
-    }
-}
-
-// A new node that stands directly before `at`.
-pub(crate) fn attach_before<T: Drop>(
+// A new node that stands directly at the side of `at`.
+pub(crate) fn attach<T: Drop>(
     store: &mut Store<T>,
     root: Option<Link>,
+    side: Side,
     at: Link,
     key: ElementId,
     own: Own,
@@ -134,39 +89,11 @@ pub(crate) fn attach_before<T: Drop>(
     requires fits { own.rank < 2 ^ 64 }
     requires small { AreSmall (shapes_of store.old) (own.weight + own.weight) }
     ensures grown { IfOk result (λ l. IsGrown store.old store.new root key own value l) }
-    ensures walk { IfOk result (λ l. order store.new root ≡ flat_map (place_before at.number l.number) (order store.old root)) }
+    ensures walk { IfOk result (λ l. order store.new root ≡ flat_map (beside side at.number l.number) (order store.old root)) }
     ensures refused { IfErr result (λ b. (b.value ≡ value) × (store.new ≡ store.old)) }
     ensures kept { IsKept store.old store.new }
 {
-    match join_before(store, at, key, own, value) {
-        Ok(link) => {
-            raise(store, Some(at), own);
-            Ok(link)
-        }
-        Err(back) => Err(back),
-    }
-}
-
-// A new node that stands directly behind `at`.
-pub(crate) fn attach_after<T: Drop>(
-    store: &mut Store<T>,
-    root: Option<Link>,
-    at: Link,
-    key: ElementId,
-    own: Own,
-    value: T,
-) -> Result<Link, Back<T>>
-    requires made { IsMade store.old at }
-    requires sound { IsSound store.old root }
-    requires few { made_count store.old < 2 ^ 62 }
-    requires fits { own.rank < 2 ^ 64 }
-    requires small { AreSmall (shapes_of store.old) (own.weight + own.weight) }
-    ensures grown { IfOk result (λ l. IsGrown store.old store.new root key own value l) }
-    ensures walk { IfOk result (λ l. order store.new root ≡ flat_map (place_after at.number l.number) (order store.old root)) }
-    ensures refused { IfErr result (λ b. (b.value ≡ value) × (store.new ≡ store.old)) }
-    ensures kept { IsKept store.old store.new }
-{
-    match join_after(store, at, key, own, value) {
+    match join(store, side, at, key, own, value) {
         Ok(link) => {
             raise(store, Some(at), own);
             Ok(link)

@@ -6,7 +6,8 @@ ghost use Rattle.node_rope.specs.Turned.{SameItems};
 ghost use Rattle.node_rope.specs.Walk.{IsLinked};
 
 use crate::cells::{Link, Shape};
-use crate::climb::{count_below, leads_to};
+use crate::climb::count_below;
+use crate::side::{Side, facing, side_of};
 use crate::store::Store;
 use crate::turn::rise;
 
@@ -40,17 +41,11 @@ fn sink<T: Drop>(store: &mut Store<T>, root: Option<Link>, node: Link) -> Option
     top
 }
 
-// Whether `c` weighs too much beside the other child of its parent, whose shape is `above`.
-fn is_too_heavy<T: Drop>(store: &Store<T>, above: Shape, c: Link) -> bool
+// Whether `c` weighs too much beside the other child of its parent.
+fn is_too_heavy<T: Drop>(store: &Store<T>, beside: Option<Link>, c: Link) -> bool
     requires made { IsMade store.now c }
-    requires left { AreMade store.now above.left }
-    requires right { AreMade store.now above.right }
+    requires beside { AreMade store.now beside }
 {
-    let beside = if leads_to(above.left, c) {
-        above.right
-    } else {
-        above.left
-    };
     store.shape(c).count / 3 > count_below(store, beside)
 }
 
@@ -68,8 +63,8 @@ fn if_heavy<T: Drop>(store: &Store<T>, inner: Option<Link>, outer: Option<Link>)
     }
 }
 
-// The inner child of `c`, where it must rise first. `left` is what stands at the left of their parent.
-fn heavy_inner<T: Drop>(store: &Store<T>, left: Option<Link>, c: Link) -> Option<Link>
+// The inner child of `c`, which stands at the side of its parent, where it must rise first.
+fn heavy_inner<T: Drop>(store: &Store<T>, side: Side, c: Link) -> Option<Link>
     requires made { IsMade store.now c }
     requires linked { IsLinked (tree_of (shapes_of store.now)) }
     requires left { AreMade store.now (shape_at (shapes_of store.now) c.number).left }
@@ -77,12 +72,8 @@ fn heavy_inner<T: Drop>(store: &Store<T>, left: Option<Link>, c: Link) -> Option
     ensures child { IfSome result (λ m. number_of (shape_at (shapes_of store.now) m.number).parent ≡ Some c.number) }
     ensures made { IfSome result (λ m. IsMade store.now m) }
 {
-    let below = store.shape(c);
-    if leads_to(left, c) {
-        if_heavy(store, below.right, below.left)
-    } else {
-        if_heavy(store, below.left, below.right)
-    }
+    let below = facing(store.shape(c), side);
+    if_heavy(store, below.right, below.left)
 }
 
 // The top, and the node from which a climb goes on.
@@ -107,12 +98,13 @@ fn restore<T: Drop>(store: &mut Store<T>, root: Option<Link>, p: Link, c: Link) 
     ensures count { made_count store.new ≡ made_count store.old }
     ensures kept { IsKept store.old store.new }
 {
-    let above = store.shape(p);
-    let left = above.left;
-    if !is_too_heavy(store, above, c) {
+    let shape = store.shape(p);
+    let side = side_of(shape.left, c);
+    let above = facing(shape, side);
+    if !is_too_heavy(store, above.right, c) {
         return Stage { top: root, at: p };
     }
-    match heavy_inner(store, left, c) {
+    match heavy_inner(store, side, c) {
         Some(inner) => {
             let half = rise(store, root, c, inner);
             let top = rise(store, half, p, inner);

@@ -1,6 +1,7 @@
 //! Values in an order, each under a key of its own, in a balanced tree of raw nodes.
 #![tactic(auto)]
 
+mod at_hand;
 mod attach;
 mod back;
 mod balance;
@@ -13,8 +14,10 @@ mod look_ups;
 mod low;
 mod pile;
 mod raise;
+mod rekey;
 mod reweigh;
 mod rope;
+mod side;
 mod store;
 #[cfg(test)]
 mod tests;

@@ -52,6 +52,11 @@ pub(crate) fn find_link(map: &KeyMap, key: ElementId) -> Option<Link>
     }
 }
 
+// The key whose node is at hand.
+pub(crate) fn recent_key(map: &KeyMap) -> Option<ElementId> {
+    map.recent
+}
+
 // The key's node is looked for again soon.
 pub(crate) fn keep_at_hand(map: &mut KeyMap, key: ElementId, link: Link)
     requires { get id_cmp map.old.links key ≡ Some link }

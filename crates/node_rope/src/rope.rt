@@ -1,13 +1,14 @@
 ghost use Rattle.std.specs.Prelude.{◌≡◌, ◌<◌, ◌≤◌, ◌^◌, [], ◌∷◌, OnOk, IfErr, IsSome, IsNone, Some, length};
 ghost use Rattle.node_rope.specs.Items.{value_under, own_of as counts_for};
-ghost use Rattle.node_rope.specs.Beside.{placed_before, placed_after, put_under};
+ghost use Rattle.node_rope.specs.Beside.{placed_before, placed_after, placed_beside, put_under};
 
-use crate::attach::{attach_after, attach_before};
+use crate::attach::attach;
 use crate::back::Back;
 use crate::balance::settle;
 use crate::cells::{Link, Own, Shape};
 use crate::links::{KeyMap, drop_link, find_link, keep_at_hand, no_links, nowhere, set_link};
 use crate::reweigh::set_own;
+use crate::side::Side;
 use crate::store::Store;
 use crate::weigh::Weigh;
 use fugue_ids::{ElementId, MOST_OPERATIONS};
@@ -58,23 +59,30 @@ impl<T: Weigh> Rope<T> {
         }
     }
 
-    /// A new item directly before the one with the key `at`. After want of memory the rope is as before.
-    pub fn insert_before(&mut self, at: ElementId, key: ElementId, value: T) -> Result<(), Back<T>>
+    // A new item directly at the side of the one with the key `at`.
+    fn insert_beside(
+        &mut self,
+        side: Side,
+        at: ElementId,
+        key: ElementId,
+        value: T,
+    ) -> Result<(), Back<T>>
         requires held { IsSome (value_under at self.old) }
         requires fresh { IsNone (value_under key self.old) }
         requires room { length self.old < MOST_OPERATIONS }
-        ensures placed { OnOk result (self.new ≡ placed_before at (key, value) self.old) }
+        ensures placed { OnOk result (self.new ≡ placed_beside side at (key, value) self.old) }
         ensures refused { IfErr result (λ b. (b.value ≡ value) × (self.new ≡ self.old)) }
     {
         let link = match find_link(&self.map, at) {
             Some(link) => link,
+            // The key `at` is held: no call comes here.
             None => return Err(Back { value }),
         };
         let own = own_of(&value);
         if !set_link(&mut self.map, key, link) {
             return Err(Back { value });
         }
-        match attach_before(&mut self.store, self.root, link, key, own, value) {
+        match attach(&mut self.store, self.root, side, link, key, own, value) {
             Ok(node) => {
                 self.root = settle(&mut self.store, self.root, node);
                 set_link(&mut self.map, key, node);
@@ -87,6 +95,17 @@ impl<T: Weigh> Rope<T> {
         }
     }
 
+    /// A new item directly before the one with the key `at`. After want of memory the rope is as before.
+    pub fn insert_before(&mut self, at: ElementId, key: ElementId, value: T) -> Result<(), Back<T>>
+        requires held { IsSome (value_under at self.old) }
+        requires fresh { IsNone (value_under key self.old) }
+        requires room { length self.old < MOST_OPERATIONS }
+        ensures placed { OnOk result (self.new ≡ placed_before at (key, value) self.old) }
+        ensures refused { IfErr result (λ b. (b.value ≡ value) × (self.new ≡ self.old)) }
+    {
+        self.insert_beside(Side::Left, at, key, value)
+    }
+
     /// A new item directly behind the one with the key `at`. After want of memory the rope is as before.
     pub fn insert_after(&mut self, at: ElementId, key: ElementId, value: T) -> Result<(), Back<T>>
         requires held { IsSome (value_under at self.old) }
@@ -95,25 +114,7 @@ impl<T: Weigh> Rope<T> {
         ensures placed { OnOk result (self.new ≡ placed_after at (key, value) self.old) }
         ensures refused { IfErr result (λ b. (b.value ≡ value) × (self.new ≡ self.old)) }
     {
-        let link = match find_link(&self.map, at) {
-            Some(link) => link,
-            None => return Err(Back { value }),
-        };
-        let own = own_of(&value);
-        if !set_link(&mut self.map, key, link) {
-            return Err(Back { value });
-        }
-        match attach_after(&mut self.store, self.root, link, key, own, value) {
-            Ok(node) => {
-                self.root = settle(&mut self.store, self.root, node);
-                set_link(&mut self.map, key, node);
-                Ok(())
-            }
-            Err(back) => {
-                drop_link(&mut self.map, key);
-                Err(back)
-            }
-        }
+        self.insert_beside(Side::Right, at, key, value)
     }
 
     /// The first item of an empty rope.
@@ -157,6 +158,7 @@ impl<T: Weigh> Rope<T> {
     {
         let link = match find_link(&self.map, key) {
             Some(link) => link,
+            // The key is held: no call comes here.
             None => return value,
         };
         let own = own_of(&value);

@@ -265,3 +265,36 @@ fn a_put_gives_back_the_old_value_and_moves_the_sums(rt: HostRuntime) -> Result<
     assert_eq!(rt; counter(rope.first_low(0, 1)), Some(1));
     Ok(())
 }
+
+/// Another item in the place of one that is held.
+fn exchange(
+    rope: &mut Rope<Stretch>,
+    key: u32,
+    new_key: u32,
+    value: Stretch,
+) -> Result<Stretch, NoMemory> {
+    let key = named(key)?;
+    let new_key = named(new_key)?;
+    if !is_held(rope, key) || is_held(rope, new_key) {
+        return Err(NoMemory);
+    }
+    match rope.rekey(key, new_key, value) {
+        Ok(old) => Ok(old),
+        Err(_) => Err(NoMemory),
+    }
+}
+
+#[test]
+fn an_item_under_another_key_stands_where_the_old_one_did(rt: HostRuntime) -> Result<(), Fail> {
+    let mut rope = filled(rt.alloc(), &[(1, 5), (2, 5), (3, 5)])?;
+    let old = exchange(&mut rope, 1, 9, Stretch { units: 7, rank: 1 })?;
+    assert_eq!(rt; old.units, 2);
+    assert!(rt; rope.get(named(1)?).is_none());
+    assert_eq!(rt; rope.place(named(9)?), Some(1));
+    assert_eq!(rt; counter(rope.key_at(1)), Some(9));
+    assert_eq!(rt; counter(rope.floor(named(8)?)), Some(2));
+    assert_eq!(rt; rope.weight_before(named(2)?), Some(8));
+    assert_eq!(rt; counter(rope.first_low(0, 1)), Some(9));
+    assert_eq!(rt; rope.len(), 3);
+    Ok(())
+}

@@ -2,14 +2,17 @@
 ghost use Rattle.std.specs.Prelude.{◌≡◌, ◌+◌, ◌-◌, ◌^◌, ◌<◌, ◌≤◌, Some};
 ghost use Rattle.node_rope.specs.Made.{IsMade, IsKept, made_count, shapes_of, values_of};
 ghost use Rattle.node_rope.specs.Shapes.{IsSound, AreMade, shape_at, number_of, order, weight_at};
-ghost use Rattle.node_rope.specs.Turned.{count_at, with_child, lifted_left, lifted_right, SameItems};
+ghost use Rattle.node_rope.specs.Sides.{faced};
+ghost use Rattle.node_rope.specs.Turned.{count_at, relinked, with_child, lifted, SameItems};
 
 use crate::attach::set_parent;
 use crate::cells::{Link, Shape};
-use crate::climb::{count_below, leads_to, least_below, weight_below};
+use crate::climb::{count_below, least_below, weight_below};
+use crate::side::{Side, facing, side_of};
 use crate::store::Store;
 
-fn lift_left<T: Drop>(store: &mut Store<T>, p: Link, c: Link, above: Shape, below: Shape)
+// `above` is the shape of `p`, and `below` that of its child `c`, as seen from the side of the child.
+fn lift<T: Drop>(store: &mut Store<T>, side: Side, p: Link, c: Link, above: Shape, below: Shape)
     requires made_p { IsMade store.old p }
     requires made_c { IsMade store.old c }
     requires made_right { AreMade store.old below.right }
@@ -18,7 +21,7 @@ fn lift_left<T: Drop>(store: &mut Store<T>, p: Link, c: Link, above: Shape, belo
     requires small { above.count - below.count + count_at (shapes_of store.old) below.right < 2 ^ 64 }
     requires weights { below.weight ≤ above.weight }
     requires light { above.weight - below.weight + weight_at (shapes_of store.old) below.right < 2 ^ 64 }
-    ensures shapes { shapes_of store.new ≡ lifted_left (shapes_of store.old) p c above below }
+    ensures shapes { shapes_of store.new ≡ lifted side (shapes_of store.old) p c above below }
     ensures values { values_of store.new ≡ values_of store.old }
     ensures count { made_count store.new ≡ made_count store.old }
     ensures kept { IsKept store.old store.new }
@@ -28,71 +31,34 @@ fn lift_left<T: Drop>(store: &mut Store<T>, p: Link, c: Link, above: Shape, belo
     let other = least_below(store, above.right);
     let least = least_below(store, below.right).min(above.own.rank.min(other));
     set_parent(store, below.right, Some(p));
-    store.set_shape(
-        p,
-        Shape {
-            left: below.right,
-            parent: Some(c),
-            count: above.count - below.count + inner,
-            weight: above.weight - below.weight + sum,
-            least,
-            ..above
-        },
-    );
-    store.set_shape(
-        c,
-        Shape {
-            right: Some(p),
-            parent: above.parent,
-            count: above.count,
-            weight: above.weight,
-            least: above.least,
-            ..below
-        },
-    );
+    let lower = Shape {
+        left: below.right,
+        parent: Some(c),
+        count: above.count - below.count + inner,
+        weight: above.weight - below.weight + sum,
+        least,
+        ..above
+    };
+    store.set_shape(p, facing(lower, side));
+    let upper = Shape {
+        right: Some(p),
+        parent: above.parent,
+        count: above.count,
+        weight: above.weight,
+        least: above.least,
+        ..below
+    };
+    store.set_shape(c, facing(upper, side));
 }
 
-fn lift_right<T: Drop>(store: &mut Store<T>, p: Link, c: Link, above: Shape, below: Shape)
-    requires made_p { IsMade store.old p }
-    requires made_c { IsMade store.old c }
-    requires made_left { AreMade store.old below.left }
-    requires made_other { AreMade store.old above.left }
-    requires counts { below.count ≤ above.count }
-    requires small { above.count - below.count + count_at (shapes_of store.old) below.left < 2 ^ 64 }
-    requires weights { below.weight ≤ above.weight }
-    requires light { above.weight - below.weight + weight_at (shapes_of store.old) below.left < 2 ^ 64 }
-    ensures shapes { shapes_of store.new ≡ lifted_right (shapes_of store.old) p c above below }
-    ensures values { values_of store.new ≡ values_of store.old }
-    ensures count { made_count store.new ≡ made_count store.old }
-    ensures kept { IsKept store.old store.new }
+// The link, or where it leads to `p`, one to `c`.
+fn relink(link: Option<Link>, p: Link, c: Link) -> Option<Link>
+    ensures { result ≡ relinked link p.number c }
 {
-    let inner = count_below(store, below.left);
-    let sum = weight_below(store, below.left);
-    let other = least_below(store, above.left);
-    let least = least_below(store, below.left).min(above.own.rank.min(other));
-    set_parent(store, below.left, Some(p));
-    store.set_shape(
-        p,
-        Shape {
-            right: below.left,
-            parent: Some(c),
-            count: above.count - below.count + inner,
-            weight: above.weight - below.weight + sum,
-            least,
-            ..above
-        },
-    );
-    store.set_shape(
-        c,
-        Shape {
-            left: Some(p),
-            parent: above.parent,
-            count: above.count,
-            weight: above.weight,
-            least: above.least,
-            ..below
-        },
-    );
+    match link {
+        Some(l) => { if l.number == p.number { Some(c) } else { link } }
+        None => None,
+    }
 }
 
 // In the node `over`, `c` takes the place of its child `p`.
@@ -105,32 +71,31 @@ fn set_child<T: Drop>(store: &mut Store<T>, over: Option<Link>, p: Link, c: Link
 {
     if let Some(g) = over {
         let shape = store.shape(g);
-        if leads_to(shape.left, p) {
-            store.set_shape(
-                g,
-                Shape {
-                    left: Some(c),
-                    ..shape
-                },
-            );
-        } else {
-            store.set_shape(
-                g,
-                Shape {
-                    right: Some(c),
-                    ..shape
-                },
-            );
-        }
+        let left = relink(shape.left, p, c);
+        let right = relink(shape.right, p, c);
+        store.set_shape(
+            g,
+            Shape {
+                left,
+                right,
+                ..shape
+            },
+        );
     }
 }
 
-// `c`, the left child of `p`, comes above it. The answer is the top.
-fn turn_left<T: Drop>(store: &mut Store<T>, root: Option<Link>, p: Link, c: Link) -> Option<Link>
+// `c`, the child of `p` at the side, comes above it. The answer is the top.
+fn turn<T: Drop>(
+    store: &mut Store<T>,
+    root: Option<Link>,
+    side: Side,
+    p: Link,
+    c: Link,
+) -> Option<Link>
     requires sound { IsSound store.old root }
     requires made_p { IsMade store.old p }
     requires made_c { IsMade store.old c }
-    requires child { number_of (shape_at (shapes_of store.old) p.number).left ≡ Some c.number }
+    requires child { number_of (faced side (shape_at (shapes_of store.old) p.number)).left ≡ Some c.number }
     ensures sound { IsSound store.new result }
     ensures order { order store.new result ≡ order store.old root }
     ensures items { SameItems (shapes_of store.old) (shapes_of store.new) }
@@ -141,37 +106,10 @@ fn turn_left<T: Drop>(store: &mut Store<T>, root: Option<Link>, p: Link, c: Link
     ensures count { made_count store.new ≡ made_count store.old }
     ensures kept { IsKept store.old store.new }
 {
-    let above = store.shape(p);
-    let below = store.shape(c);
+    let above = facing(store.shape(p), side);
+    let below = facing(store.shape(c), side);
     let over = above.parent;
-    lift_left(store, p, c, above, below);
-    set_child(store, over, p, c);
-    match over {
-        Some(_g) => root,
-        None => Some(c),
-    }
-}
-
-// `c`, the right child of `p`, comes above it. The answer is the top.
-fn turn_right<T: Drop>(store: &mut Store<T>, root: Option<Link>, p: Link, c: Link) -> Option<Link>
-    requires sound { IsSound store.old root }
-    requires made_p { IsMade store.old p }
-    requires made_c { IsMade store.old c }
-    requires child { number_of (shape_at (shapes_of store.old) p.number).right ≡ Some c.number }
-    ensures sound { IsSound store.new result }
-    ensures order { order store.new result ≡ order store.old root }
-    ensures items { SameItems (shapes_of store.old) (shapes_of store.new) }
-    ensures taller { (shape_at (shapes_of store.new) c.number).count ≡ (shape_at (shapes_of store.old) p.number).count }
-    ensures lower { (shape_at (shapes_of store.new) p.number).count < (shape_at (shapes_of store.old) p.number).count }
-    ensures above { (shape_at (shapes_of store.new) c.number).parent ≡ (shape_at (shapes_of store.old) p.number).parent }
-    ensures values { values_of store.new ≡ values_of store.old }
-    ensures count { made_count store.new ≡ made_count store.old }
-    ensures kept { IsKept store.old store.new }
-{
-    let above = store.shape(p);
-    let below = store.shape(c);
-    let over = above.parent;
-    lift_right(store, p, c, above, below);
+    lift(store, side, p, c, above, below);
     set_child(store, over, p, c);
     match over {
         Some(_g) => root,
@@ -200,9 +138,6 @@ pub(crate) fn rise<T: Drop>(
     ensures count { made_count store.new ≡ made_count store.old }
     ensures kept { IsKept store.old store.new }
 {
-    if leads_to(store.shape(p).left, c) {
-        turn_left(store, root, p, c)
-    } else {
-        turn_right(store, root, p, c)
-    }
+    let side = side_of(store.shape(p).left, c);
+    turn(store, root, side, p, c)
 }

@@ -70,10 +70,7 @@ returns-clause-put g c =
     let i = c.self.inside in
     let e = c.set_value-old.ensures in
     let o = c.set_own.ensures in
-    let l = c.in-Some.link in
-    let u = c.set_value-old.new.self in
-    let v = c.set_own.new.store in
-    let same = still-trans _ _ _ (valued-still i.store u i.root l c.args.value c.self.invariant.sound e.shapes e.values e.kept) o.still in
-    put-list (own_of g.T.Weigh.weight_of g.T.Weigh.rank_of) i.store v i.root i.map.links c.args.key l c.own_of-own.result c.args.value c.self.invariant (sym c.find_link.ensures ∙ c.in-Some.is) o.sound same o.here
+    put-list (own_of g.T.Weigh.weight_of g.T.Weigh.rank_of) i.store c.set_own.new.store i.root i.map.links c.args.key c.in-Some.link c.own_of-own.result c.args.value c.self.invariant (sym c.find_link.ensures ∙ c.in-Some.is) o.sound
+    (still-trans _ _ _ (valued-still i.store c.set_value-old.new.self i.root c.in-Some.link c.args.value c.self.invariant.sound e.shapes e.values e.kept) o.still) o.here
     (λ j ne. o.others j ne ∙ ap (λ ss. (Rattle.node_rope.specs.Shapes.shape_at ss j).own) e.shapes) (o.values ∙ e.values) (λ x h. o.kept x (e.kept x h)) (omega (arith, c.own_of-own.ensures.light)) (omega (arith, c.own_of-own.ensures.fits)) c.own_of-own.ensures.own
     ∙ ap (put_under c.args.key c.args.value) c.self.view_is

@@ -1,29 +1,39 @@
 -- A store's tree is sound again after a rotation, and its order is the same.
-use Rattle.std.proofs.Common.{◌≡◌, ℕ, suc, ◌+◌, ◌-◌, min, ◌<◌, ◌≤◌, ◌≢◌, ◌⊎◌, inl, inr, cond, List, length, Option, None, Some, refl, sym, ap, ◌∙◌, subst, arith}
+use Rattle.std.proofs.Common.{◌≡◌, ℕ, suc, ◌+◌, ◌-◌, min, ◌<◌, ◌≤◌, ◌≢◌, ◌⊎◌, inl, inr, List, length, Option, None, Some, refl, sym, ap, ◌∙◌, subst, arith}
 use Rattle.node_rope.specs.declared.store.Store.{Store}
+use Rattle.node_rope.specs.declared.side.Side.TheVariants.{Left}
 use Rattle.node_rope.specs.declared.cells.Shape.{Shape}
 use Rattle.node_rope.specs.declared.cells.Link.{Link}
 use Rattle.node_rope.specs.Made.{IsMade, IsKept, made_count, shapes_of}
 use Rattle.node_rope.specs.Shapes.{IsSound, AreMade, shape_at, number_of, tree_of, weights, owns, leasts, ranks, order, weight_at, least_at, IsWeighed, IsRanked}
 use Rattle.node_rope.specs.Walk.{Tree, count_of, whole, IsCounted, IsLinked, IsTurned, moved}
 use Rattle.node_rope.specs.Sums.{adding, lesser, sum_of}
-use Rattle.node_rope.specs.Turned.{swapped, with_child, lifted_left}
+use Rattle.node_rope.specs.Turned.{swapped, with_child, lifted, SameItems}
 use Rattle.node_rope.proofs.WalkLemmas.{none-some, rotated-walk}
 use Rattle.node_rope.proofs.TurnLemmas.{same-or-not, turned-counted, turned-linked, turned-sums, turned-below, turned-top, turned-crown}
 use Rattle.node_rope.proofs.ShapeLemmas.{length-shapes, made-below, weight-sum, least-sum}
 use Rattle.node_rope.proofs.JoinLemmas.{some-or-not, adding-commutes, lesser-commutes}
 use Rattle.node_rope.proofs.GrowthLemmas.{are-within, unnumbered}
-use Rattle.node_rope.proofs.LiftLemmas.{leads-tells}
-use Rattle.node_rope.proofs.LiftLeftLemmas as lifts
+use Rattle.node_rope.proofs.LiftLemmas.{relinked-from}
+use Rattle.node_rope.proofs.LiftedLemmas as lifts
+
+-- c stands above p in the place of p, and the order is the same
+pub record IsRisen {T : Type 0} (s v : Store T) (root root' : Option Link) (p c : Link) : Type 0 where
+  pub sound : IsSound v root'
+  pub same_order : order v root' ≡ order s root
+  pub items : SameItems (shapes_of s) (shapes_of v)
+  pub taller : (shape_at (shapes_of v) c.number).count ≡ (shape_at (shapes_of s) p.number).count
+  pub lower : (shape_at (shapes_of v) p.number).count < (shape_at (shapes_of s) p.number).count
+  pub above : (shape_at (shapes_of v) c.number).parent ≡ (shape_at (shapes_of s) p.number).parent
 
 module _ {T : Type 0} (s v : Store T) (root root' : Option Link) (p c : Link) (sound : IsSound s root) (made_p : IsMade s p) (made_c : IsMade s c) (was : number_of (shape_at (shapes_of s) p.number).left ≡ Some c.number)
-    (is : shapes_of v ≡ with_child (lifted_left (shapes_of s) p c (shape_at (shapes_of s) p.number) (shape_at (shapes_of s) c.number)) (shape_at (shapes_of s) p.number).parent p.number c)
+    (is : shapes_of v ≡ with_child (lifted Left (shapes_of s) p c (shape_at (shapes_of s) p.number) (shape_at (shapes_of s) c.number)) (shape_at (shapes_of s) p.number).parent p.number c)
     (kept : IsKept s v) (count : made_count v ≡ made_count s) (moves : number_of root' ≡ moved p.number c.number (number_of root)) (made_root' : AreMade v root') where
   abbrev ss : List Shape
   ss = shapes_of s
 
   abbrev vs : List Shape
-  vs = with_child (lifted_left ss p c (shape_at ss p.number) (shape_at ss c.number)) (shape_at ss p.number).parent p.number c
+  vs = with_child (lifted Left ss p c (shape_at ss p.number) (shape_at ss c.number)) (shape_at ss p.number).parent p.number c
 
   abbrev t : Tree
   t = tree_of ss
@@ -104,22 +114,24 @@ module _ {T : Type 0} (s v : Store T) (root root' : Option Link) (p c : Link) (s
   link-is : (o : Option Link) (a m : Link) → Some a ≡ Some m → IsMade v a → IsMade v m
   link-is o a m e made = let is : a ≡ m = cc in subst (λ (k : Link). IsMade v k) is made
 
-  elsewhere-made : (f : Shape → Option Link) → ((h : Shape) (q : Option Link) → (f (record h { left = q }) ≡ f h) ⊎ (f (record h { left = q }) ≡ q)) → ((h : Shape) (q : Option Link) → (f (record h { right = q }) ≡ f h) ⊎ (f (record h { right = q }) ≡ q)) → ((h : Shape) (q : Option Link) → (f (record h { parent = q }) ≡ f h) ⊎ (f (record h { parent = q }) ≡ q))
+  link-back : (a m : Link) → Some a ≡ Some m → m ≡ a
+  link-back a m e = cc
+
+  elsewhere-made : (f : Shape → Option Link) → ((h : Shape) (m : Link) → f (swapped h p.number c) ≡ Some m → (m ≡ c) ⊎ (f h ≡ Some m)) → ((h : Shape) (m : Link) → f (record h { parent = Some p }) ≡ Some m → (m ≡ p) ⊎ (f h ≡ Some m))
       → ((i : ℕ) → AreMade s (f (shape_at ss i))) → (i : ℕ) → i ≢ p.number → i ≢ c.number → AreMade v (f (shape_at vs i))
-  elsewhere-made f l r q old i ip ic m e =
-      let one : (h : Shape) (a : Link) → IsMade v a → ((k : Link) → f h ≡ Some k → IsMade v k) → (g : Option Link → Shape) → ((f (g (Some a)) ≡ f h) ⊎ (f (g (Some a)) ≡ Some a)) → (k : Link) → f (g (Some a)) ≡ Some k → IsMade v k =
-      λ h a ma mh g w k x. elim w as (λ _. IsMade v k) [ inl y ↦ mh k (sym y ∙ x) | inr y ↦ link-is None a k (sym y ∙ x) ma ] in
+  elsewhere-made f w q old i ip ic m e =
       let was_made : (k : Link) → f (shape_at ss i) ≡ Some k → IsMade v k = λ k x. kept k (old i k x) in
       elim (some-or-not (number_of (shape_at ss p.number).parent) i) as (λ _. IsMade v m) [
-        | inl g ↦ (
-            let x : f (swapped (shape_at ss i) p.number c) ≡ Some m = sym (ap f (lifts.at_top ss p c sound.counted sound.linked was in_p in_c in_middle in_top over i ip ic g)) ∙ e in
-            elim (leads-tells (shape_at ss i).left p.number) as (λ _. IsMade v m) [
-              | inl y ↦ one (shape_at ss i) c (kept c made_c) was_made (λ o. record (shape_at ss i) { left = o }) (l (shape_at ss i) (Some c)) m (sym (ap (λ b. f (cond b (record (shape_at ss i) { left = Some c }) (record (shape_at ss i) { right = Some c }))) y.0) ∙ x)
-              | inr y ↦ one (shape_at ss i) c (kept c made_c) was_made (λ o. record (shape_at ss i) { right = o }) (r (shape_at ss i) (Some c)) m (sym (ap (λ b. f (cond b (record (shape_at ss i) { left = Some c }) (record (shape_at ss i) { right = Some c }))) y.0) ∙ x)
-            ])
+        | inl g ↦ elim (w (shape_at ss i) m (sym (ap f (lifts.at_top ss p c sound.counted sound.linked was in_p in_c in_middle in_top over i ip ic g)) ∙ e)) as (λ _. IsMade v m) [
+          | inl y ↦ subst (λ (k : Link). IsMade v k) (sym y) (kept c made_c)
+          | inr y ↦ was_made m y
+        ]
         | inr g ↦ elim (lifts.at_rest ss p c sound.counted sound.linked was in_p in_c in_middle in_top over i ip ic g) as (λ _. IsMade v m) [
           | inl y ↦ was_made m (sym (ap f y) ∙ e)
-          | inr y ↦ one (shape_at ss i) p (kept p made_p) was_made (λ o. record (shape_at ss i) { parent = o }) (q (shape_at ss i) (Some p)) m (sym (ap f y.1) ∙ e)
+          | inr y ↦ elim (q (shape_at ss i) m (sym (ap f y.1) ∙ e)) as (λ _. IsMade v m) [
+            | inl z ↦ subst (λ (k : Link). IsMade v k) (sym z) (kept p made_p)
+            | inr z ↦ was_made m z
+          ]
         ]
       ]
 
@@ -134,15 +146,15 @@ module _ {T : Type 0} (s v : Store T) (root root' : Option Link) (p c : Link) (s
 
   lefts-now : (i : ℕ) → AreMade v (shape_at vs i).left
   lefts-now = made-all (λ h. h.left) (λ m e. kept m (sound.made_right c.number m (sym (ap (λ h. h.left) turned_p) ∙ e))) (λ m e. kept m (sound.made_left c.number m (sym (ap (λ h. h.left) turned_c) ∙ e)))
-      (elsewhere-made (λ h. h.left) (λ h q. inr refl) (λ h q. inl refl) (λ h q. inl refl) sound.made_left)
+      (elsewhere-made (λ h. h.left) (λ h m e. relinked-from h.left p.number c m e) (λ h m e. inr e) sound.made_left)
 
   rights-now : (i : ℕ) → AreMade v (shape_at vs i).right
   rights-now = made-all (λ h. h.right) (λ m e. kept m (sound.made_right p.number m (sym (ap (λ h. h.right) turned_p) ∙ e))) (λ m e. link-is None p m (sym (ap (λ h. h.right) turned_c) ∙ e) (kept p made_p))
-      (elsewhere-made (λ h. h.right) (λ h q. inl refl) (λ h q. inr refl) (λ h q. inl refl) sound.made_right)
+      (elsewhere-made (λ h. h.right) (λ h m e. relinked-from h.right p.number c m e) (λ h m e. inr e) sound.made_right)
 
   parents-now : (i : ℕ) → AreMade v (shape_at vs i).parent
   parents-now = made-all (λ h. h.parent) (λ m e. link-is None c m (sym (ap (λ h. h.parent) turned_p) ∙ e) (kept c made_c)) (λ m e. kept m (sound.made_parent p.number m (sym (ap (λ h. h.parent) turned_c) ∙ e)))
-      (elsewhere-made (λ h. h.parent) (λ h q. inl refl) (λ h q. inl refl) (λ h q. inr refl) sound.made_parent)
+      (elsewhere-made (λ h. h.parent) (λ h m e. inr e) (λ h m e. inl (link-back p m e)) sound.made_parent)
 
   small-now : (i : ℕ) → (shape_at vs i).count ≤ suc (made_count v)
   small-now i = elim (same-or-not i p.number) as (λ _. (shape_at vs i).count ≤ suc (made_count v)) [
@@ -174,3 +186,13 @@ module _ {T : Type 0} (s v : Store T) (root root' : Option Link) (p c : Link) (s
 
   pub order-turned : order v root' ≡ order s root
   order-turned = ap (λ xs. whole (tree_of xs) (number_of root')) is ∙ ap (whole u) moves ∙ rotated-walk t u sound.counted counted-now sound.linked p.number c.number n.rotated (count_of t (number_of root)) (number_of root) (omega arith) root-not-c
+
+  pub risen-left : IsRisen s v root root' p c
+  risen-left = record {
+    sound = sound-turned;
+    same_order = order-turned;
+    items = λ i. (ap (λ (xs : List Shape). (shape_at xs i).key) is ∙ key-kept i, ap (λ (xs : List Shape). (shape_at xs i).own) is ∙ own-kept i);
+    taller = ap (λ (xs : List Shape). (shape_at xs c.number).count) is ∙ ap (λ h. h.count) turned_c;
+    lower = omega (arith, ap (λ (xs : List Shape). (shape_at xs p.number).count) is, ap (λ h. h.count) turned_p, sound.counted p.number, sound.counted c.number, ap (count_of t) was);
+    above = ap (λ (xs : List Shape). (shape_at xs c.number).parent) is ∙ ap (λ h. h.parent) turned_c;
+  }

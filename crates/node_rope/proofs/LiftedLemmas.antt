@@ -1,16 +1,17 @@
 -- What a rotation writes is a rotated tree: the left child comes up.
 use Rattle.std.proofs.Common.{◌≡◌, ℕ, ◌+◌, ◌-◌, min, ◌<◌, ◌≢◌, ◌⊎◌, inl, inr, List, length, slice_set, Option, Some, sym, ap, ◌∙◌, arith}
 use Rattle.std.proofs.Math.ListN.{length-set}
+use Rattle.node_rope.specs.declared.side.Side.TheVariants.{Left}
 use Rattle.node_rope.specs.declared.cells.Shape.{Shape}
 use Rattle.node_rope.specs.declared.cells.Link.{Link}
 use Rattle.node_rope.specs.Shapes.{shape_at, number_of, tree_of, weight_at, least_at}
 use Rattle.node_rope.specs.Walk.{Tree, count_of, IsCounted, IsLinked, moved, IsTurned}
 use Rattle.node_rope.specs.Grown.{with_parent}
-use Rattle.node_rope.specs.Turned.{count_at, swapped, with_child, lifted_left}
+use Rattle.node_rope.specs.Turned.{count_at, swapped, with_child, lifted}
 use Rattle.node_rope.proofs.WalkLemmas.{below-left, below-right, moved-other}
 use Rattle.node_rope.proofs.RaiseLemmas.{set_same, set_other}
 use Rattle.node_rope.proofs.JoinWriteLemmas.{length-with_parent, with_parent-other, with_parent-same}
-use Rattle.node_rope.proofs.LiftLemmas.{with_child-other, with_child-same, leads-tells, swapped-left, swapped-right, swapped-rest, swapped-field}
+use Rattle.node_rope.proofs.LiftLemmas.{with_child-other, with_child-same, leads-tells, relinked-moved, swapped-field}
 
 module _ (ss : List Shape) (p c : Link) (ct : IsCounted (tree_of ss)) (linked : IsLinked (tree_of ss)) (was : number_of (shape_at ss p.number).left ≡ Some c.number) (in_p : p.number < length ss) (in_c : c.number < length ss) where
   abbrev t : Tree
@@ -23,7 +24,7 @@ module _ (ss : List Shape) (p c : Link) (ct : IsCounted (tree_of ss)) (linked : 
   below = shape_at ss c.number
 
   abbrev after : List Shape
-  after = lifted_left ss p c above below
+  after = lifted Left ss p c above below
 
   low : below.count < above.count
   low = below-left t ct p.number c.number was
@@ -38,16 +39,16 @@ module _ (ss : List Shape) (p c : Link) (ct : IsCounted (tree_of ss)) (linked : 
   new_c = record below { right = Some p; parent = above.parent; count = above.count; weight = above.weight; least = above.least }
 
   pub at_c : shape_at after c.number ≡ new_c
-  unfolding lifted_left
+  unfolding lifted
   at_c = set_same (slice_set (with_parent ss below.right (Some p)) p.number new_p) c.number new_c (omega (arith, in_c, length-set (with_parent ss below.right (Some p)) p.number new_p, length-with_parent ss below.right (Some p)))
 
   pub at_p : shape_at after p.number ≡ new_p
-  unfolding lifted_left
+  unfolding lifted
   at_p = set_other (slice_set (with_parent ss below.right (Some p)) p.number new_p) c.number p.number new_c differ
       ∙ set_same (with_parent ss below.right (Some p)) p.number new_p (omega (arith, in_p, length-with_parent ss below.right (Some p)))
 
   pub at_else : (i : ℕ) → i ≢ p.number → i ≢ c.number → shape_at after i ≡ shape_at (with_parent ss below.right (Some p)) i
-  unfolding lifted_left
+  unfolding lifted
   at_else i f g = set_other (slice_set (with_parent ss below.right (Some p)) p.number new_p) c.number i new_c g ∙ set_other (with_parent ss below.right (Some p)) p.number i new_p f
 
   pub at_middle : (m : ℕ) → number_of below.right ≡ Some m → m < length ss → shape_at after m ≡ record (shape_at ss m) { parent = Some p }
@@ -69,7 +70,7 @@ module _ (ss : List Shape) (p c : Link) (ct : IsCounted (tree_of ss)) (linked : 
   top = (shape_at ss p.number).parent
 
   abbrev once_lifted : List Shape
-  once_lifted = lifted_left ss p c (shape_at ss p.number) (shape_at ss c.number)
+  once_lifted = lifted Left ss p c (shape_at ss p.number) (shape_at ss c.number)
 
   abbrev all : List Shape
   all = with_child once_lifted top p.number c
@@ -78,7 +79,7 @@ module _ (ss : List Shape) (p c : Link) (ct : IsCounted (tree_of ss)) (linked : 
   u' = tree_of all
 
   pub length-lifted : length once_lifted ≡ length ss
-  unfolding lifted_left
+  unfolding lifted
   length-lifted = length-set _ c.number _ ∙ length-set _ p.number _ ∙ length-with_parent ss (shape_at ss c.number).right (Some p)
 
   under_top : (g : ℕ) → number_of top ≡ Some g → (shape_at ss p.number).count < (shape_at ss g).count
@@ -120,12 +121,10 @@ module _ (ss : List Shape) (p c : Link) (ct : IsCounted (tree_of ss)) (linked : 
     links : (u'.left i ≡ moved p.number c.number (t'.left i)) × (u'.right i ≡ moved p.number c.number (t'.right i)) × (u'.count i ≡ t'.count i)
     links = elim (leads-tells top i) as (λ _. (u'.left i ≡ moved p.number c.number (t'.left i)) × (u'.right i ≡ moved p.number c.number (t'.right i)) × (u'.count i ≡ t'.count i)) [
       | inl e ↦ (
-          let has = over i e.1 in
-          let once = linked.apart i p.number in (
-            ap (λ h. number_of h.left) (at_top e.1) ∙ swapped-left (shape_at ss i) p.number c has once,
-            ap (λ h. number_of h.right) (at_top e.1) ∙ swapped-right (shape_at ss i) p.number c has once,
-            ap (λ h. h.count) (at_top e.1) ∙ (swapped-rest (shape_at ss i) p.number c has once).1,
-          ))
+        ap (λ h. number_of h.left) (at_top e.1) ∙ relinked-moved (shape_at ss i).left p.number c,
+        ap (λ h. number_of h.right) (at_top e.1) ∙ relinked-moved (shape_at ss i).right p.number c,
+        ap (λ h. h.count) (at_top e.1),
+      )
       | inr e ↦ (
           let l : moved p.number c.number (t'.left i) ≡ t'.left i = moved-other p.number c.number (t'.left i) (λ f. e.1 (linked.from_left i p.number f)) in
           let r : moved p.number c.number (t'.right i) ≡ t'.right i = moved-other p.number c.number (t'.right i) (λ f. e.1 (linked.from_right i p.number f)) in
@@ -137,7 +136,7 @@ module _ (ss : List Shape) (p c : Link) (ct : IsCounted (tree_of ss)) (linked : 
 
     parent_stays : (number_of (shape_at ss c.number).right ≡ Some i → ⊥) → u'.parent i ≡ t'.parent i
     parent_stays f = elim (leads-tells top i) as (λ _. u'.parent i ≡ t'.parent i) [
-      | inl e ↦ ap (λ h. number_of h.parent) (at_top e.1) ∙ ap number_of (swapped-rest (shape_at ss i) p.number c (over i e.1) (linked.apart i p.number)).0
+      | inl e ↦ ap (λ h. number_of h.parent) (at_top e.1)
       | inr e ↦ elim (at_rest e.1) as (λ _. u'.parent i ≡ t'.parent i) [
         | inl g ↦ ap (λ h. number_of h.parent) g
         | inr g ↦ absurd (f g.0)

@@ -1,0 +1,87 @@
+-- A new node at either side of another.
+use Rattle.std.proofs.Common.{◌≡◌, ℕ, ◌+◌, min, ◌<◌, ◌≤◌, List, [], ◌∷◌, ◌++◌, length, map, flat_map, Option, None, Some, refl, sym, ap, ◌∙◌, subst, arith}
+use Rattle.std.proofs.lemmas.List.{map-append, map-set}
+use Rattle.fugue_ids.specs.Identifiers.{Identifier}
+use Rattle.node_rope.specs.declared.side.Side.{Side}
+use Rattle.node_rope.specs.declared.side.Side.TheVariants.{Left, Right}
+use Rattle.node_rope.specs.declared.store.Store.{Store}
+use Rattle.node_rope.specs.declared.cells.Shape.{Shape}
+use Rattle.node_rope.specs.declared.cells.Link.{Link}
+use Rattle.node_rope.specs.declared.cells.Own.{Own}
+use Rattle.node_rope.specs.Made.{IsMade, IsKept, made_count, shapes_of}
+use Rattle.node_rope.specs.Shapes.{IsSound, shape_at, tree_of, order, IsWeighed, IsRanked, weight_at, least_at}
+use Rattle.node_rope.specs.Walk.{IsCounted}
+use Rattle.node_rope.specs.Sums.{no_rank}
+use Rattle.node_rope.specs.Joined.{IsJoined}
+use Rattle.node_rope.specs.Grown.{with_parent, new_beside, joined_beside}
+use Rattle.node_rope.specs.Rising.{IsRaised, SameLinks}
+use Rattle.node_rope.specs.Sides.{flipped, seen, beside}
+use Rattle.node_rope.proofs.ShapeLemmas.{length-shapes, made-below}
+use Rattle.node_rope.proofs.EnterLemmas.{IsEntered, flip-entered, entered_before, joins_before, key_before, own_before}
+use Rattle.node_rope.proofs.GrowthLemmas.{are-within, grown-walk-before, grown-walk-after}
+use Rattle.node_rope.proofs.FaceLemmas.{flip-at, flip-with_parent, flip-count, flip-weight, flip-least, mirrored, shapes-mirrored, there, mirror-sound, tree_by}
+
+-- what is written at the right is written at the left of the mirrored shapes
+flip-joined : (ss : List Shape) (at l : Link) (h : Shape) → map flipped (joined_beside Right ss at l h) ≡ joined_beside Left (map flipped ss) at l (flipped h)
+unfolding joined_beside
+flip-joined ss at l h =
+    let o = (flipped (shape_at ss at.number)).left in
+    map-set flipped (with_parent (ss ++ h ∷ []) o (Some l)) at.number _ ∙ rw (flip-with_parent (ss ++ h ∷ []) o (Some l), map-append flipped ss (h ∷ []), flip-at ss at.number) refl
+
+flip-new : (ss : List Shape) (at : Link) (key : Identifier) (w : Own) → flipped (new_beside Right ss at key w) ≡ new_beside Left (map flipped ss) at key w
+flip-new ss at key w =
+    let node : Option Link → ℕ → ℕ → ℕ → Shape = λ o n v r. record { key = key; left = o; right = None; parent = Some at; count = n + 1; weight = v + w.weight; least = min r w.rank; own = w } in
+    let fs = map flipped ss in
+    let o = (flipped (shape_at ss at.number)).left in
+    (λ i. node o (sym (flip-count ss o) i) (sym (flip-weight ss o) i) (sym (flip-least ss o) i)) ∙ ap (λ (h : Shape). node h.left (Rattle.node_rope.specs.Turned.count_at fs h.left) (weight_at fs h.left) (least_at fs h.left)) (sym (flip-at ss at.number))
+
+-- u is s with the new node l at the side of at, and the sums above it not yet raised
+pub record IsBeside {T : Type 0} (d : Side) (s u : Store T) (at l : Link) (key : Identifier) (w : Own) : Type 0 where
+  pub entered : IsEntered (shape_at (shapes_of s)) (shape_at (shapes_of u)) at l w
+  pub joined : IsJoined (seen d (tree_of (shapes_of s))) (seen d (tree_of (shapes_of u))) at.number l.number
+  pub key_here : (shape_at (shapes_of u) l.number).key ≡ key
+  pub own_here : (shape_at (shapes_of u) l.number).own ≡ w
+
+module _ {T : Type 0} (s u : Store T) (root : Option Link) (at l : Link) (key : Identifier) (w : Own) (so : IsSound s root) (made : IsMade s at) (fits : w.rank ≤ no_rank) (number : l.number ≡ made_count s) where
+  abbrev ss : List Shape
+  ss = shapes_of s
+
+  inside : at.number < length ss
+  inside = let h = made-below s at made in omega (arith, h, length-shapes s)
+
+  beside-left : shapes_of u ≡ joined_beside Left ss at l (new_beside Left ss at key w) → IsBeside Left s u at l key w
+  beside-left is =
+      let n = number ∙ sym (length-shapes s) in
+      let within = are-within s root so in record {
+        entered = subst (λ (hs : List Shape). IsEntered (shape_at ss) (shape_at hs) at l w) (sym is) (entered_before ss at l key w so.counted so.weighed so.ranked fits so.linked so.below within inside n);
+        joined = subst (λ (hs : List Shape). IsJoined (tree_of ss) (tree_of hs) at.number l.number) (sym is) (joins_before ss at l key w so.counted so.weighed so.ranked fits so.linked so.below within inside n);
+        key_here = ap (λ (hs : List Shape). (shape_at hs l.number).key) is ∙ key_before ss at l key w so.counted so.weighed so.ranked fits so.linked so.below within inside n;
+        own_here = ap (λ (hs : List Shape). (shape_at hs l.number).own) is ∙ own_before ss at l key w so.counted so.weighed so.ranked fits so.linked so.below within inside n;
+      }
+
+flip-beside : {T : Type 0} (s u : Store T) (at l : Link) (key : Identifier) (w : Own) → IsBeside Left (mirrored s) (mirrored u) at l key w → IsBeside Right s u at l key w
+flip-beside s u at l key w b = record {
+  entered = flip-entered (shape_at (shapes_of s)) (shape_at (shapes_of u)) at l w (subst (λ (g : ℕ → Shape). IsEntered (λ i. flipped (shape_at (shapes_of s) i)) g at l w) to_u (subst (λ (f : ℕ → Shape). IsEntered f (shape_at (shapes_of (mirrored u))) at l w) to_s b.entered));
+  joined = subst (λ (g : ℕ → Shape). IsJoined (tree_by (λ i. flipped (shape_at (shapes_of s) i))) (tree_by g) at.number l.number) to_u (subst (λ (f : ℕ → Shape). IsJoined (tree_by f) (tree_of (shapes_of (mirrored u))) at.number l.number) to_s b.joined);
+  key_here = sym (ap (λ (h : Shape). h.key) ((there u).at l.number)) ∙ b.key_here;
+  own_here = sym (ap (λ (h : Shape). h.own) ((there u).at l.number)) ∙ b.own_here;
+} where
+  to_s : ◌≡◌ {A = ℕ → Shape} (shape_at (shapes_of (mirrored s))) (λ i. flipped (shape_at (shapes_of s) i))
+  to_s = λ k i. (there s).at i k
+
+  to_u : ◌≡◌ {A = ℕ → Shape} (shape_at (shapes_of (mirrored u))) (λ i. flipped (shape_at (shapes_of u) i))
+  to_u = λ k i. (there u).at i k
+
+pub is-beside : {T : Type 0} (d : Side) (s u : Store T) (root : Option Link) (at l : Link) (key : Identifier) (w : Own) → IsSound s root → IsMade s at → w.rank ≤ no_rank → l.number ≡ made_count s → shapes_of u ≡ joined_beside d (shapes_of s) at l (new_beside d (shapes_of s) at key w)
+    → IsBeside d s u at l key w
+is-beside Left s u root at l key w so made fits number is = beside-left s u root at l key w so made fits number is
+is-beside Right s u root at l key w so made fits number is = flip-beside s u at l key w (beside-left (mirrored s) (mirrored u) root at l key w (mirror-sound s (mirrored s) root (there s) so) made fits (number ∙ sym (there s).count)
+    (shapes-mirrored u ∙ ap (map flipped) is ∙ flip-joined (shapes_of s) at l (new_beside Right (shapes_of s) at key w) ∙ ap (joined_beside Left (map flipped (shapes_of s)) at l) (flip-new (shapes_of s) at key w)
+    ∙ ap (λ (hs : List Shape). joined_beside Left hs at l (new_beside Left hs at key w)) (sym (shapes-mirrored s))))
+
+-- the order once the sums are raised
+pub grown-walk : {T : Type 0} (d : Side) (s u v : Store T) (root : Option Link) (at l : Link) (key : Identifier) (w : Own) → IsSound s root → IsBeside d s u at l key w → IsKept s u → l.number ≡ made_count s → IsMade u l → IsMade s at → made_count u ≡ made_count s + 1
+    → IsCounted (tree_of (shapes_of v)) → IsWeighed (shapes_of v) → IsRanked (shapes_of v) → SameLinks (shapes_of u) (shapes_of v) → IsRaised (shapes_of u) (shapes_of v) w None → IsKept u v → made_count v ≡ made_count u
+    → order v root ≡ flat_map (beside d at.number l.number) (order s root)
+grown-walk Left s u v root at l key w so b kept number made made_at count cv wv rv links raised kept' count' = grown-walk-before s u root at l w so b.entered kept number made made_at count v cv wv rv links raised kept' count' b.joined
+grown-walk Right s u v root at l key w so b kept number made made_at count cv wv rv links raised kept' count' = grown-walk-after s u root at l w so b.entered kept number made made_at count v cv wv rv links raised kept' count' b.joined

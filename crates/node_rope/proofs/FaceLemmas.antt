@@ -1,0 +1,145 @@
+-- A store seen from the right, as one whose nodes have their sides exchanged: what is proved of the left holds of the right.
+use Rattle.std.proofs.Common.{◌≡◌, ℕ, zero, suc, inl, inr, ◌⊎◌, cond, List, [], ◌∷◌, map, slice_get, slice_set, Option, None, Some, refl, sym, ap, ◌∙◌, subst, arith}
+use Rattle.std.specs.Prelude.{reverse}
+use Rattle.std.proofs.lemmas.List.{length-map, map-set}
+use Rattle.node_rope.specs.declared.side.Side.{Side}
+use Rattle.node_rope.specs.declared.side.Side.TheVariants.{Left, Right}
+use Rattle.node_rope.specs.declared.store.Store.{Store}
+use Rattle.node_rope.specs.declared.cells.Shape.{Shape}
+use Rattle.node_rope.specs.declared.cells.Link.{Link}
+use Rattle.node_rope.specs.declared.cells.Node.{Node}
+use Rattle.node_rope.specs.Heaps.{Mooring}
+use Rattle.node_rope.specs.Filed.{Leads, IsFiled}
+use Rattle.node_rope.specs.Shaped.{shape_of, value_of}
+use Rattle.node_rope.specs.Made.{IsKept, made_count, shapes_of, values_of}
+use Rattle.node_rope.specs.Shapes.{IsSound, shape_at, number_of, tree_of, order, weight_at, least_at}
+use Rattle.node_rope.specs.Walk.{Tree, whole, IsCounted, IsLinked}
+use Rattle.node_rope.specs.Sums.{adding, lesser, IsSummed}
+use Rattle.node_rope.specs.Joined.{IsBelow}
+use Rattle.node_rope.specs.Grown.{with_parent}
+use Rattle.node_rope.specs.Sides.{flipped, faced}
+use Rattle.node_rope.specs.Turned.{count_at, side_of, swapped, with_child}
+use Rattle.node_rope.proofs.FilingLemmas.{filed-had}
+use Rattle.node_rope.proofs.LiftLemmas.{leads-tells}
+use Rattle.node_rope.proofs.JoinLemmas.{adding-commutes, lesser-commutes}
+use Rattle.node_rope.proofs.MirrorLemmas.{mirror-counted, mirror-summed, mirror-linked, mirror-below, whole-mirrored}
+
+-- ---- lists of shapes
+pub flip-at : (ss : List Shape) (i : ℕ) → shape_at (map flipped ss) i ≡ flipped (shape_at ss i)
+flip-at [] i = refl
+flip-at (h ∷ ss) zero = refl
+flip-at (h ∷ ss) (suc i) = flip-at ss i
+
+pub flip-with_parent : (ss : List Shape) (o q : Option Link) → map flipped (with_parent ss o q) ≡ with_parent (map flipped ss) o q
+flip-with_parent ss None q = refl
+flip-with_parent ss (Some l) q = map-set flipped ss l.number (record (shape_at ss l.number) { parent = q }) ∙ ap (λ (h : Shape). slice_set (map flipped ss) l.number (record h { parent = q })) (sym (flip-at ss l.number))
+
+pub flip-with_child : (ss : List Shape) (o : Option Link) (p : ℕ) (c : Link) → map flipped (with_child ss o p c) ≡ with_child (map flipped ss) o p c
+flip-with_child ss None p c = refl
+flip-with_child ss (Some g) p c = map-set flipped ss g.number (swapped (shape_at ss g.number) p c) ∙ ap (λ (h : Shape). slice_set (map flipped ss) g.number (swapped h p c)) (sym (flip-at ss g.number))
+
+pub flip-count : (ss : List Shape) (o : Option Link) → count_at (map flipped ss) o ≡ count_at ss o
+flip-count ss None = refl
+flip-count ss (Some l) = ap (λ (h : Shape). h.count) (flip-at ss l.number)
+
+pub flip-weight : (ss : List Shape) (o : Option Link) → weight_at (map flipped ss) o ≡ weight_at ss o
+flip-weight ss None = refl
+flip-weight ss (Some l) = ap (λ (h : Shape). h.weight) (flip-at ss l.number)
+
+pub flip-least : (ss : List Shape) (o : Option Link) → least_at (map flipped ss) o ≡ least_at ss o
+flip-least ss None = refl
+flip-least ss (Some l) = ap (λ (h : Shape). h.least) (flip-at ss l.number)
+
+-- ---- the store
+abbrev flip_node : {T : Type 0} → Node T → Node T
+flip_node n = record n { shape = flipped n.shape }
+
+from-map : {X Y : Type 0} (f : X → Y) (xs : List X) (i : ℕ) (y : Y) → slice_get (map f xs) i ≡ Some y → (x : X) × (slice_get xs i ≡ Some x) × (f x ≡ y)
+from-map f [] i y e = absurd (cc)
+from-map f (x ∷ xs) zero y e = (x, refl, cc)
+from-map f (x ∷ xs) (suc i) y e = from-map f xs i y e
+
+pub flip-filed : {T Z : Type 0} (o : Option Link) (ns : List (Node T)) (ms : List (Mooring Z)) → IsFiled o ns ms → IsFiled o (map flip_node ns) ms
+flip-filed {T} o ns ms f = record {
+  last = subst (λ (n : ℕ). Leads ms o n) (sym (length-map ns flip_node)) f.last;
+  each = λ i n e. let q = from-map flip_node ns i n e in subst (λ (k : Node T). Leads ms k.older i) q.2 (f.each i q.0 q.1);
+}
+
+abbrev pub mirrored : {T : Type 0} → Store T → Store T
+mirrored s = record {
+  pile = record { kind = s.pile.kind; values = map flip_node s.pile.values; moorings = s.pile.moorings; paired = length-map s.pile.values flip_node ∙ s.pile.paired };
+  newest = s.newest;
+  alloc = s.alloc;
+  filed = ∣ flip-filed s.newest s.pile.values s.pile.moorings (filed-had s.newest s.pile.values s.pile.moorings s.filed) ∣₁;
+}
+
+shapes-flip : {T : Type 0} (ns : List (Node T)) → map shape_of (map flip_node ns) ≡ map flipped (map shape_of ns)
+shapes-flip [] = refl
+shapes-flip (n ∷ ns) = ap (λ hs. flipped n.shape ∷ hs) (shapes-flip ns)
+
+pub shapes-mirrored : {T : Type 0} (s : Store T) → shapes_of (mirrored s) ≡ map flipped (shapes_of s)
+shapes-mirrored s = shapes-flip s.pile.values
+
+values-flip : {T : Type 0} (ns : List (Node T)) → map value_of (map flip_node ns) ≡ map value_of ns
+values-flip [] = refl
+values-flip (n ∷ ns) = ap (λ vs. n.value ∷ vs) (values-flip ns)
+
+pub values-mirrored : {T : Type 0} (s : Store T) → values_of (mirrored s) ≡ values_of s
+values-mirrored s = values-flip s.pile.values
+
+-- v has the nodes of s with their sides exchanged
+pub record IsFacing {T : Type 0} (s v : Store T) : Type 0 where
+  pub at : (i : ℕ) → shape_at (shapes_of v) i ≡ flipped (shape_at (shapes_of s) i)
+  pub count : made_count v ≡ made_count s
+  pub kept : IsKept s v
+
+pub there : {T : Type 0} (s : Store T) → IsFacing s (mirrored s)
+there s = record { at = λ i. ap (λ hs. shape_at hs i) (shapes-mirrored s) ∙ flip-at (shapes_of s) i; count = length-map s.pile.values flip_node; kept = λ l m. m }
+
+pub back : {T : Type 0} (s : Store T) → IsFacing (mirrored s) s
+back s = record { at = λ i. ap flipped (sym ((there s).at i)); count = sym (length-map s.pile.values flip_node); kept = λ l m. m }
+
+abbrev pub tree_by : (ℕ → Shape) → Tree
+tree_by f = record { left = λ i. number_of (f i).left; right = λ i. number_of (f i).right; parent = λ i. number_of (f i).parent; count = λ i. (f i).count }
+
+module _ {T : Type 0} (s v : Store T) (root : Option Link) (facing : IsFacing s v) where
+  abbrev f : ℕ → Shape
+  f = shape_at (shapes_of s)
+
+  abbrev same : ◌≡◌ {A = ℕ → Shape} (λ i. flipped (f i)) (shape_at (shapes_of v))
+  same = λ k i. sym (facing.at i) k
+
+  pub mirror-sound : IsSound s root → IsSound v root
+  mirror-sound r = record {
+    counted = subst (λ (g : ℕ → Shape). IsCounted (tree_by g)) same (mirror-counted (tree_of (shapes_of s)) r.counted);
+    weighed = subst (λ (g : ℕ → Shape). IsSummed adding (tree_by g) (λ i. (g i).own.weight) (λ i. (g i).weight)) same (mirror-summed adding adding-commutes (tree_of (shapes_of s)) (λ i. (f i).own.weight) (λ i. (f i).weight) r.weighed);
+    ranked = subst (λ (g : ℕ → Shape). IsSummed lesser (tree_by g) (λ i. (g i).own.rank) (λ i. (g i).least)) same (mirror-summed lesser lesser-commutes (tree_of (shapes_of s)) (λ i. (f i).own.rank) (λ i. (f i).least) r.ranked);
+    linked = subst (λ (g : ℕ → Shape). IsLinked (tree_by g)) same (mirror-linked (tree_of (shapes_of s)) r.linked);
+    top = λ i h e. r.top i (omega (arith, h, facing.count)) (sym (ap (λ (h : Shape). h.parent) (facing.at i)) ∙ e);
+    crown = λ i e. ap (λ (h : Shape). h.parent) (facing.at i) ∙ r.crown i e;
+    below = subst (λ (g : ℕ → Shape). IsBelow (tree_by g)) same (mirror-below (tree_of (shapes_of s)) r.below);
+    made_left = λ i m e. facing.kept m (r.made_right i m (sym (ap (λ (h : Shape). h.left) (facing.at i)) ∙ e));
+    made_right = λ i m e. facing.kept m (r.made_left i m (sym (ap (λ (h : Shape). h.right) (facing.at i)) ∙ e));
+    made_parent = λ i m e. facing.kept m (r.made_parent i m (sym (ap (λ (h : Shape). h.parent) (facing.at i)) ∙ e));
+    made_root = λ m e. facing.kept m (r.made_root m e);
+    small = λ i. omega (arith, ap (λ (h : Shape). h.count) (facing.at i), r.small i, facing.count);
+  }
+
+  pub mirror-order : order v root ≡ reverse (order s root)
+  mirror-order = ap (λ (g : ℕ → Shape). whole (tree_by g) (number_of root)) (sym same) ∙ whole-mirrored (tree_of (shapes_of s)) (number_of root)
+
+-- ---- a node from a side
+pub faced-field : {X : Type 0} (f : Shape → X) → ((h : Shape) → f (flipped h) ≡ f h) → (d : Side) (h : Shape) → f (faced d h) ≡ f h
+faced-field f e Left h = refl
+faced-field f e Right h = e h
+
+pub faced-parent : (ss : List Shape) → IsLinked (tree_of ss) → (d : Side) (i : ℕ) (m : Link) → (faced d (shape_at ss i)).right ≡ Some m → number_of (shape_at ss m.number).parent ≡ Some i
+faced-parent ss linked Left i m e = linked.from_right i m.number (ap number_of e)
+faced-parent ss linked Right i m e = linked.from_left i m.number (ap number_of e)
+
+-- a child stands at its side
+pub side-faces : (h : Shape) (c : ℕ) → (number_of h.left ≡ Some c) ⊎ (number_of h.right ≡ Some c) → number_of (faced (side_of h.left c) h).left ≡ Some c
+side-faces h c has = elim (leads-tells h.left c) as (λ _. number_of (faced (side_of h.left c) h).left ≡ Some c) [
+  | inl e ↦ ap (λ b. number_of (faced (cond b Left Right) h).left) e.0 ∙ e.1
+  | inr e ↦ ap (λ b. number_of (faced (cond b Left Right) h).left) e.0 ∙ elim has as (λ _. number_of h.right ≡ Some c) [ inl f ↦ absurd (e.1 f) | inr f ↦ f ]
+]

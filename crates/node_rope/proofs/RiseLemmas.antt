@@ -1,0 +1,76 @@
+-- A child at either side comes above its parent.
+use Rattle.std.proofs.Common.{◌≡◌, ℕ, ◌+◌, ◌-◌, min, List, map, Option, None, Some, refl, sym, ap, ◌∙◌, subst, arith}
+use Rattle.std.specs.Prelude.{reverse}
+use Rattle.std.proofs.lemmas.List.{map-set}
+use Rattle.node_rope.specs.declared.side.Side.{Side}
+use Rattle.node_rope.specs.declared.side.Side.TheVariants.{Left, Right}
+use Rattle.node_rope.specs.declared.store.Store.{Store}
+use Rattle.node_rope.specs.declared.cells.Shape.{Shape}
+use Rattle.node_rope.specs.declared.cells.Link.{Link}
+use Rattle.node_rope.specs.Made.{IsMade, IsKept, made_count, shapes_of}
+use Rattle.node_rope.specs.Shapes.{IsSound, AreMade, shape_at, number_of, least_at}
+use Rattle.node_rope.specs.Walk.{moved}
+use Rattle.node_rope.specs.Grown.{with_parent}
+use Rattle.node_rope.specs.Sides.{flipped, faced}
+use Rattle.node_rope.specs.Turned.{with_child, lifted}
+use Rattle.node_rope.proofs.WalkLemmas.{moved-other, moved-here}
+use Rattle.node_rope.proofs.ShapeLemmas.{made-below}
+use Rattle.node_rope.proofs.FaceLemmas.{flip-at, flip-with_parent, flip-with_child, flip-count, flip-weight, flip-least, mirrored, shapes-mirrored, there, back, mirror-sound, mirror-order, faced-field}
+use Rattle.node_rope.proofs.TurnedLemmas.{IsRisen, risen-left}
+
+-- what is written at the right is written at the left of the mirrored shapes
+flip-lifted : (ss : List Shape) (p c : Link) (above below : Shape) → map flipped (lifted Right ss p c above below) ≡ lifted Left (map flipped ss) p c above below
+unfolding lifted
+flip-lifted ss p c above below =
+    let lower : ℕ → ℕ → ℕ → Shape = λ n w r. record above { left = below.right; parent = Some c; count = (above.count - below.count) + n; weight = (above.weight - below.weight) + w; least = min r (min above.own.rank (least_at ss above.right)) } in
+    map-set flipped _ c.number _ ∙ rw (map-set flipped (with_parent ss below.right (Some p)) p.number _, flip-with_parent ss below.right (Some p), flip-count ss below.right, flip-weight ss below.right, flip-least ss below.right, flip-least ss above.right) refl
+
+mirror-risen : {T : Type 0} (s v : Store T) (root root' : Option Link) (p c : Link) → IsRisen (mirrored s) (mirrored v) root root' p c → IsRisen s v root root' p c
+mirror-risen s v root root' p c r = record {
+  sound = mirror-sound (mirrored v) v root' (back v) r.sound;
+  same_order = mirror-order (mirrored v) v root' (back v) ∙ ap reverse r.same_order ∙ sym (mirror-order (mirrored s) s root (back s));
+  items = λ i. (sym (ap (λ (h : Shape). h.key) ((there v).at i)) ∙ (r.items i).0 ∙ ap (λ (h : Shape). h.key) ((there s).at i), sym (ap (λ (h : Shape). h.own) ((there v).at i)) ∙ (r.items i).1 ∙ ap (λ (h : Shape). h.own) ((there s).at i));
+  taller = sym (ap (λ (h : Shape). h.count) ((there v).at c.number)) ∙ r.taller ∙ ap (λ (h : Shape). h.count) ((there s).at p.number);
+  lower = omega (arith, ap (λ (h : Shape). h.count) ((there v).at p.number), r.lower, ap (λ (h : Shape). h.count) ((there s).at p.number));
+  above = sym (ap (λ (h : Shape). h.parent) ((there v).at c.number)) ∙ r.above ∙ ap (λ (h : Shape). h.parent) ((there s).at p.number);
+}
+
+-- the mirrored store, where the child at the right is above
+flip-turned : {T : Type 0} (s v : Store T) (p c : Link)
+    → shapes_of v ≡ with_child (lifted Right (shapes_of s) p c (flipped (shape_at (shapes_of s) p.number)) (flipped (shape_at (shapes_of s) c.number))) (shape_at (shapes_of s) p.number).parent p.number c
+    → shapes_of (mirrored v) ≡ with_child (lifted Left (shapes_of (mirrored s)) p c (shape_at (shapes_of (mirrored s)) p.number) (shape_at (shapes_of (mirrored s)) c.number)) (shape_at (shapes_of (mirrored s)) p.number).parent p.number c
+flip-turned s v p c is =
+    let fs = map flipped (shapes_of s) in
+    let a = flipped (shape_at (shapes_of s) p.number) in
+    let b = flipped (shape_at (shapes_of s) c.number) in
+    shapes-mirrored v ∙ ap (map flipped) is ∙ flip-with_child (lifted Right (shapes_of s) p c a b) a.parent p.number c ∙ ap (λ (hs : List Shape). with_child hs a.parent p.number c) (flip-lifted (shapes_of s) p c a b)
+    ∙ ap (λ (h : Shape). with_child (lifted Left fs p c h b) h.parent p.number c) (sym (flip-at (shapes_of s) p.number))
+    ∙ ap (λ (h : Shape). with_child (lifted Left fs p c (shape_at fs p.number) h) (shape_at fs p.number).parent p.number c) (sym (flip-at (shapes_of s) c.number))
+    ∙ ap (λ (hs : List Shape). with_child (lifted Left hs p c (shape_at hs p.number) (shape_at hs c.number)) (shape_at hs p.number).parent p.number c) (sym (shapes-mirrored s))
+
+risen : {T : Type 0} (d : Side) (s v : Store T) (root root' : Option Link) (p c : Link) → IsSound s root → IsMade s p → IsMade s c → number_of (faced d (shape_at (shapes_of s) p.number)).left ≡ Some c.number
+    → shapes_of v ≡ with_child (lifted d (shapes_of s) p c (faced d (shape_at (shapes_of s) p.number)) (faced d (shape_at (shapes_of s) c.number))) (shape_at (shapes_of s) p.number).parent p.number c
+    → IsKept s v → made_count v ≡ made_count s → number_of root' ≡ moved p.number c.number (number_of root) → AreMade v root' → IsRisen s v root root' p c
+risen Left s v root root' p c sound made_p made_c was is kept count moves made = risen-left s v root root' p c sound made_p made_c was is kept count moves made
+risen Right s v root root' p c sound made_p made_c was is kept count moves made = mirror-risen s v root root' p c (risen-left (mirrored s) (mirrored v) root root' p c (mirror-sound s (mirrored s) root (there s) sound) made_p made_c
+    (ap (λ (h : Shape). number_of h.left) ((there s).at p.number) ∙ was) (flip-turned s v p c is) kept ((there v).count ∙ count ∙ sym (there s).count) moves made)
+
+module _ {T : Type 0} (d : Side) (s v : Store T) (root : Option Link) (p c : Link) (sound : IsSound s root) (made_p : IsMade s p) (made_c : IsMade s c) (was : number_of (faced d (shape_at (shapes_of s) p.number)).left ≡ Some c.number)
+    (is : shapes_of v ≡ with_child (lifted d (shapes_of s) p c (faced d (shape_at (shapes_of s) p.number)) (faced d (shape_at (shapes_of s) c.number))) (faced d (shape_at (shapes_of s) p.number)).parent p.number c)
+    (kept : IsKept s v) (count : made_count v ≡ made_count s) where
+  abbrev over : (faced d (shape_at (shapes_of s) p.number)).parent ≡ (shape_at (shapes_of s) p.number).parent
+  over = faced-field (λ h. h.parent) (λ h. refl) d (shape_at (shapes_of s) p.number)
+
+  is-over : shapes_of v ≡ with_child (lifted d (shapes_of s) p c (faced d (shape_at (shapes_of s) p.number)) (faced d (shape_at (shapes_of s) c.number))) (shape_at (shapes_of s) p.number).parent p.number c
+  is-over = is ∙ ap (λ (o : Option Link). with_child (lifted d (shapes_of s) p c (faced d (shape_at (shapes_of s) p.number)) (faced d (shape_at (shapes_of s) c.number))) o p.number c) over
+
+  -- below another node the top stays
+  pub risen-under : (g : Link) → (faced d (shape_at (shapes_of s) p.number)).parent ≡ Some g → IsRisen s v root root p c
+  risen-under g up = risen d s v root root p c sound made_p made_c was is-over kept count (sym (moved-other p.number c.number (number_of root) not-top)) (λ m e. kept m (sound.made_root m e)) where
+    not-top : number_of root ≡ Some p.number → ⊥
+    not-top e = let none = sound.crown p.number e in let some = sym over ∙ up in cc
+
+  pub risen-top : (faced d (shape_at (shapes_of s) p.number)).parent ≡ None → IsRisen s v root (Some c) p c
+  risen-top up =
+      let top = sound.top p.number (made-below s p made_p) (sym over ∙ up) in
+      risen d s v root (Some c) p c sound made_p made_c was is-over kept count (sym (ap (moved p.number c.number) top ∙ moved-here p.number c.number)) (λ m e. (let same : c ≡ m = cc in subst (λ (k : Link). IsMade v k) same (kept c made_c)))
