@@ -12,7 +12,9 @@ use Rattle.fugue_ids.proofs.ListLemmas.{all_pairs_before, all_pairs_behind, all_
 use Rattle.origin_model.specs.edits.Landing.{end_of}
 use Rattle.origin_model.specs.sides.KeyedGap.{Falls, last_passing, low_ids}
 use Rattle.origin_model.proofs.SharedLemmas.{passing_before, passing_behind}
-use Rattle.sided_tree.proofs.PartLemmas.{Apart, Around, apart_front, around_low, end_held, in_back, last_found, low_here, low_in, low_one, lows, no_last, there}
+use Rattle.sided_tree.proofs.LowLemmas.{low_here, low_in, low_one, lows}
+use Rattle.sided_tree.proofs.PartLemmas.{Around, around_low, end_held, last_found, no_last}
+use Rattle.sided_tree.proofs.PartedLemmas.{Apart, apart_front, in_back, there}
 
 -- the first that is there
 abbrev pub or_else : Option Identifier → Option Identifier → Option Identifier

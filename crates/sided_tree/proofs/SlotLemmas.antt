@@ -10,7 +10,7 @@ use Rattle.fugue_ids.specs.Listed.{HoldsOrigin}
 use Rattle.fugue_ids.specs.declared.key.Key.{Key}
 use Rattle.fugue_ids.proofs.ListLemmas.{contains_filter_from, contains_here, contains_there}
 use Rattle.origin_model.specs.edits.Landing.{end_of}
-use Rattle.origin_model.specs.sides.KeyLaws.{HoldsSlot}
+use Rattle.origin_model.specs.sides.KeyLaws.{HoldsElement}
 use Rattle.origin_model.specs.sides.KeyedGap.{Falls, child_key, gap_behind, gap_by_keys, last_passing, low_ids, part_from, part_to, siblings, slot_key, slot_part}
 use Rattle.origin_model.specs.sides.Keys.{keyed_order}
 use Rattle.origin_model.specs.sides.Node.{AreNodes, as_op, as_ops, node_order}
@@ -19,8 +19,9 @@ use Rattle.origin_model.specs.declared.sides.node.Node.{Node}
 use Rattle.origin_model.specs.declared.sides.slot.Slot.{Slot}
 use Rattle.origin_model.specs.declared.sides.slot.Slot.TheVariants.{LeftOf, RightOf}
 use Rattle.origin_model.proofs.SharedLemmas.{key_found, keyed_ids, part_bounds, part_least, siblings_fall, slot_held}
-use Rattle.sided_tree.specs.SlotKeys.{HoldsElement, IsSlotKey}
-use Rattle.sided_tree.proofs.PartLemmas.{front_held, low_in, to_held}
+use Rattle.sided_tree.specs.SlotKeys.{IsSlotKey}
+use Rattle.sided_tree.proofs.LowLemmas.{front_held, low_in}
+use Rattle.sided_tree.proofs.PartedLemmas.{to_held}
 
 -- what holds of all holds of those behind an element, and of those before one
 all_rest : (P : Keyed → Type 0) (x : Option Identifier) (es : List Keyed) → All P es → All P (rest_of x es)
@@ -81,11 +82,7 @@ module _ (n : Node) (ns : List Node) (es : List Keyed) (new : AreNodes (n ∷ ns
 
   -- its element is listed
   pub element_held : HoldsElement (ids es) s
-  element_held = subst (λ l. HoldsElement l s) (sym (ap ids list ∙ keyed_ids ns)) (subst (HoldsElement (node_order ns)) (sym is) (by_slot own (slot_held n ns new)))
-    where
-      by_slot : (z : Slot) → HoldsSlot ns z → HoldsElement (node_order ns) z
-      by_slot (RightOf l) h = h
-      by_slot (LeftOf q) h = h
+  element_held = subst (λ l. HoldsElement l s) (sym (ap ids list ∙ keyed_ids ns)) (subst (HoldsElement (node_order ns)) (sym is) (slot_held n ns new))
 
   -- with its key
   module _ (k : Key) (key : IsSlotKey es s k) where

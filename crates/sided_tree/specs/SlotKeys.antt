@@ -1,17 +1,9 @@
--- The element of a slot in an order, and its key.
+-- The key of the element of a slot in an order.
 use Rattle.std.specs.Prelude.{◌≡◌, Some, None, List}
-use Rattle.std.specs.List.{Contains}
-use Rattle.fugue_ids.specs.Identifiers.{Identifier}
 use Rattle.fugue_ids.specs.Keys.{HasKey, Keyed}
-use Rattle.fugue_ids.specs.Listed.{HoldsOrigin}
 use Rattle.fugue_ids.specs.declared.key.Key.{Key}
 use Rattle.origin_model.specs.declared.sides.slot.Slot.{Slot}
 use Rattle.origin_model.specs.declared.sides.slot.Slot.TheVariants.{LeftOf, RightOf}
-
--- the element of the slot is one of the list
-abbrev pub HoldsElement : List Identifier → Slot → Type 0
-HoldsElement list (RightOf l) = HoldsOrigin list l
-HoldsElement list (LeftOf q) = Contains list q
 
 -- the element of the slot has the key; the start has the least one
 abbrev pub IsSlotKey : List Keyed → Slot → Key → Type 0

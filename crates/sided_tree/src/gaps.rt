@@ -1,10 +1,10 @@
 ghost use Rattle.std.specs.Prelude.{◌≡◌, ◌↔◌, ◌∷◌, All, true};
 ghost use Rattle.fugue_ids.specs.Keys.{IsFit, first_id, ids, rest_of};
+ghost use Rattle.origin_model.specs.sides.KeyLaws.{HoldsElement};
 ghost use Rattle.origin_model.specs.sides.KeyedGap.{before_all as before_all_in, gap_between as gap_between_in, gap_by_keys as gap_by_keys_in, no_elder_gap as no_elder_gap_in, slot_key as slot_key_of};
 ghost use Rattle.origin_model.specs.sides.Keys.{keyed_order};
 ghost use Rattle.origin_model.specs.sides.Node.{AreNodes, as_op, as_ops, node_order};
 ghost use Rattle.origin_model.specs.sides.Slot.{goes_before, slot_by};
-ghost use Rattle.sided_tree.specs.SlotKeys.{HoldsElement};
 
 use crate::blocks::{block_end, block_start};
 use crate::elders::last_elder;

@@ -1,37 +1,35 @@
 ghost use Rattle.std.specs.Prelude.{◌≡◌, ◌∷◌, [], true, false, OnErr, OnOk};
 ghost use Rattle.origin_model.specs.order.Order.{has_left as has_left_on, right_at};
-ghost use Rattle.origin_model.specs.sides.Detached.{without};
+ghost use Rattle.origin_model.specs.sides.Detached.{NoOrigin, without};
 ghost use Rattle.origin_model.specs.sides.Keys.{keyed_order};
 ghost use Rattle.origin_model.specs.sides.Node.{AreNodes, as_op, as_ops, find_node, has_node, node_order};
 ghost use Rattle.origin_model.specs.sides.Slot.{goes_before as goes_before_in, slot_by};
 
-use crate::origins::Origins;
-use crate::positions::last_position;
+use crate::ages::Ages;
 use crate::siblings::goes_first;
 use fugue_ids::{ElementId, NoMemory, OrderOf};
 use origin_model::{Node, Slot};
 use std::alloc::Global;
-use std::collections::BTreeMap;
 use std::marker::Model;
+use stretch_map::{StretchMap, Typed};
 
-/// The nodes of one place, seen as the list of them, the newest first.
+/// The nodes of one place, seen as the list of them, the newest first. Nodes that were typed in one go are one entry.
 #[derive(Drop)]
 pub(crate) struct Nodes {
-    /// The identifiers, the oldest first.
-    ages: Vec<ElementId>,
-    origins: BTreeMap<ElementId, Origins>,
+    origins: StretchMap<Typed>,
+    ages: Ages,
 }
 
 impl Model for Nodes {
     ghost use Rattle.std.specs.Prelude.{List};
     ghost use Rattle.origin_model.specs.declared.sides.node.Node.{Node};
-    ghost use Rattle.sided_tree.specs.Nodes.{IsNodeMap, nodes_in};
+    ghost use Rattle.sided_tree.specs.Nodes.{IsNodeMap};
 
     ghost Value = { List Node };
 
-    ghost view = { λ n. nodes_in n.origins n.ages.items };
+    ghost view = { λ n. n.ages.nodes };
 
-    ghost invariant = { λ n. IsNodeMap n.origins n.ages.items };
+    ghost invariant = { λ n. IsNodeMap n.origins.values n.ages.nodes };
 }
 
 impl Nodes {
@@ -39,8 +37,8 @@ impl Nodes {
         ensures { result ≡ [] }
     {
         Nodes {
-            ages: Vec::new(alloc),
-            origins: BTreeMap::new(alloc),
+            origins: StretchMap::new(alloc),
+            ages: Ages::new(),
         }
     }
 
@@ -48,7 +46,7 @@ impl Nodes {
     pub fn find(&self, id: ElementId) -> Option<Node>
         ensures { result ≡ find_node self.now id }
     {
-        match self.origins.get(&id) {
+        match self.origins.get(id) {
             Some(origins) => Some(Node {
                 id,
                 left: origins.left,
@@ -105,26 +103,21 @@ impl Nodes {
         ensures ok { OnOk result (self.new ≡ node ∷ self.old) }
         ensures err { OnErr result (self.new ≡ self.old) }
     {
-        let origins = Origins {
+        let origins = Typed {
             left: node.left,
             right: node.right,
         };
-        self.ages.push(node.id)?;
-        let Ok(_) = self.origins.insert(node.id, origins) else {
-            self.ages.pop();
-            return Err(NoMemory);
-        };
+        self.origins.insert(node.id, origins)?;
+        self.ages = self.ages.with(&node);
         Ok(())
     }
 
-    /// One node less.
+    /// One node less. This wants no memory: what follows an identifier in a stretch has it as an origin.
     pub fn remove(&mut self, id: ElementId)
-        requires are_nodes { AreNodes self.old }
-        requires held { has_node self.old id ≡ true }
+        requires { NoOrigin id self.old }
         ensures { self.new ≡ without id self.old }
     {
-        let at = last_position(&self.ages, id);
-        self.ages.remove(at);
-        self.origins.remove(&id);
+        let _origins = self.origins.remove(id);
+        self.ages = self.ages.without(&id);
     }
 }

@@ -1,8 +1,9 @@
 ghost use Rattle.std.specs.Prelude.{◌≡◌, ◌↔◌, ◌⊎◌, ◌≤◌, ◌^◌, ◌≢◌, All, IfSome, IsNone, None};
 ghost use Rattle.fugue_ids.specs.Keys.{IsFit, ids};
 ghost use Rattle.origin_model.specs.declared.sides.slot.Slot.TheVariants.{RightOf};
+ghost use Rattle.origin_model.specs.sides.KeyLaws.{HoldsElement};
 ghost use Rattle.origin_model.specs.sides.KeyedGap.{child_key as child_key_of, part_from, part_to};
-ghost use Rattle.sided_tree.specs.SlotKeys.{HoldsElement, IsSlotKey};
+ghost use Rattle.sided_tree.specs.SlotKeys.{IsSlotKey};
 
 use crate::blocks::widest;
 use crate::part::Part;

@@ -104,6 +104,55 @@ fn a_second_element_hangs_on_the_side_of_its_origins(rt: HostRuntime) -> Result<
     Ok(())
 }
 
+#[test]
+#[tactic(auto, using(crate::proofs::OneLemmas::none_listed, crate::proofs::OneLemmas::one_listed))]
+fn a_typed_letter_is_taken_back_and_comes_otherwise(rt: HostRuntime) -> Result<(), Fail> {
+    let id = ElementId::new(1, 0).expect(&rt, "a replica");
+    let next = ElementId::new(1, 1).expect(&rt, "a replica");
+    let mut tree = SidedTree::new(rt.alloc());
+    tree.attach(id, None, None, &Few { id: None })
+        .expect(&rt, "memory");
+    let one = Few { id: Some(id) };
+    tree.attach(next, Some(id), None, &one)
+        .expect(&rt, "memory");
+    assert_eq!(rt; tree.side(Some(id), Some(next)), Side::Left);
+    assert_eq!(rt; tree.side(None, Some(next)), Side::Right);
+    tree.detach(next);
+    assert!(rt; tree.holds(id) && !tree.holds(next));
+    tree.attach(next, None, Some(id), &one)
+        .expect(&rt, "memory");
+    assert_eq!(rt; tree.side(Some(id), Some(next)), Side::Right);
+    assert_eq!(rt; tree.side(None, Some(next)), Side::Left);
+    Ok(())
+}
+
+/// The i-th of letters that two authors type in turn, seven at a time.
+fn typed(i: u32) -> Result<ElementId, NoMemory> {
+    ElementId::new(1 + i / 7 % 2, i / 14 * 7 + i % 7).ok_or(NoMemory)
+}
+
+#[test]
+fn stretches_tell_the_left_origins_that_a_list_tells(rt: HostRuntime) -> Result<(), Fail> {
+    let mut place = Place::new(rt.alloc());
+    let mut letters: Vec<(ElementId, Option<ElementId>)> = Vec::new(rt.alloc());
+    let mut left = None;
+    for i in 0..120 {
+        if i % 11 == 10 {
+            left = Some(typed(i / 2)?);
+        }
+        let id = typed(i)?;
+        letters.push((id, left))?;
+        place = place.with(id, left)?;
+        left = Some(id);
+    }
+    for (id, left) in &letters {
+        for (_, other) in &letters {
+            assert_eq!(rt; place.hangs_left(*other, *id), other == left);
+        }
+    }
+    Ok(())
+}
+
 fn numbered(counter: u32) -> Result<ElementId, NoMemory> {
     ElementId::new(1, counter).ok_or(NoMemory)
 }

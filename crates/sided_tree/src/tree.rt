@@ -20,7 +20,8 @@ use std::marker::Model;
 /// A node hangs as a left child of its right origin where the two have the same left origin, and as a right child of its left origin otherwise.
 /// There is no table of children: the keys of the elements tell where in the order those of a slot stand. A gap is found by searches in the order,
 /// whose number grows with the logarithm of the number of elements in the slot's part, and by none where the right origin directly follows the left
-/// one, as in all typing. A look-up among the nodes costs a number of steps that grows with the logarithm of their number.
+/// one, as in all typing. Nodes that were typed in one go are one entry, and a look-up costs a number of steps that grows with the logarithm of the
+/// number of entries; a letter that is typed on makes none.
 #[derive(Drop)]
 pub struct SidedTree {
     nodes: Nodes,
@@ -116,7 +117,7 @@ impl SidedTree {
         self.nodes.push(Node { id, left, right })
     }
 
-    /// One node less. The cost grows with the number of newer nodes: it is small for the newest node.
+    /// One node less. It takes no memory, and costs a few look-ups.
     pub fn detach(&mut self, id: ElementId)
         requires held { has_node self.old id ≡ true }
         requires no_origin { NoOrigin id self.old }

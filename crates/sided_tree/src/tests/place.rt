@@ -6,7 +6,7 @@ ghost use Rattle.origin_model.specs.sides.Node.{AreNodes, as_ops, has_origin};
 ghost use Rattle.origin_model.specs.sides.Slot.{IsBeside};
 
 use crate::tests::plain_order::PlainOrder;
-use crate::{Gap, OrderOf, SidedTree};
+use crate::{Gap, OrderOf, Side, SidedTree};
 use fugue_ids::{ElementId, Key, NoMemory};
 use std::alloc::Global;
 use std::marker::Model;
@@ -59,6 +59,14 @@ impl Place {
         tree.attach(id, left, None, &order)?;
         order.insert(at, id, key)?;
         Ok(Place { tree, order })
+    }
+
+    /// Whether an element with these origins, which are held, hangs on the left side.
+    pub fn hangs_left(&self, left: Option<ElementId>, right: ElementId) -> bool {
+        if !is_held(&self.tree, &left) || !self.tree.holds(right) {
+            return false;
+        }
+        self.tree.side(left, Some(right)) == Side::Left
     }
 }
 

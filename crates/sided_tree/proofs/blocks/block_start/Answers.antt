@@ -1,7 +1,7 @@
 use Rattle.std.proofs.Common.{Some, subst, sym}
 use Rattle.fugue_ids.specs.Keys.{ids}
 use Rattle.fugue_ids.specs.Listed.{HoldsOrigin}
-use Rattle.sided_tree.proofs.PartLemmas.{last_low_held}
+use Rattle.sided_tree.proofs.LowLemmas.{last_low_held}
 use Rattle.sided_tree.proofs.blocks.block_start.Goals as goal
 
 pub first_low-requires : goal.first_low-requires

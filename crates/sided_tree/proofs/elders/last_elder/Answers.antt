@@ -4,7 +4,7 @@ use Rattle.origin_model.specs.sides.Node.{as_op, as_ops, node_order}
 use Rattle.origin_model.specs.sides.Slot.{goes_before}
 use Rattle.sided_tree.proofs.ElderLemmas.{front_decides, front_falls, halves, last_passes, last_sibling, none_passes}
 use Rattle.sided_tree.proofs.OrderLemmas.{once}
-use Rattle.sided_tree.proofs.PartLemmas.{low_held}
+use Rattle.sided_tree.proofs.LowLemmas.{low_held}
 use Rattle.sided_tree.proofs.elders.last_elder.Goals as goal
 
 pub last-requires-clause-distinct : goal.last-requires-clause-distinct

@@ -1,6 +1,6 @@
 use Rattle.std.proofs.Common.{sym, ap, ◌∙◌}
 use Rattle.std.specs.Prelude.{None, if◌then◌else◌}
-use Rattle.sided_tree.proofs.PartLemmas.{first_in}
+use Rattle.sided_tree.proofs.LowLemmas.{first_in}
 use Rattle.sided_tree.proofs.part.Part.first.Goals as goal
 
 pub returns-then-eq : goal.returns-then-eq

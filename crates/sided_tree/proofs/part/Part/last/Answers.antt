@@ -1,6 +1,7 @@
 use Rattle.std.proofs.Common.{sym, ap, ◌∙◌}
 use Rattle.std.specs.Prelude.{None, if◌then◌else◌}
-use Rattle.sided_tree.proofs.PartLemmas.{last_in, to_held}
+use Rattle.sided_tree.proofs.LowLemmas.{last_in}
+use Rattle.sided_tree.proofs.PartedLemmas.{to_held}
 use Rattle.sided_tree.proofs.part.Part.last.Goals as goal
 
 pub last_low-last-requires : goal.last_low-last-requires

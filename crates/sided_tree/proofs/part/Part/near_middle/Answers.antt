@@ -4,7 +4,8 @@ use Rattle.std.specs.List.{Contains}
 use Rattle.fugue_ids.specs.Keys.{ids, rest_of}
 use Rattle.fugue_ids.specs.Listed.{HoldsOrigin}
 use Rattle.fugue_ids.proofs.ListLemmas.{contains_none}
-use Rattle.sided_tree.proofs.PartLemmas.{around_low, end_held, found_before, found_behind, low_held, member_held, next_held}
+use Rattle.sided_tree.proofs.LowLemmas.{low_held}
+use Rattle.sided_tree.proofs.PartLemmas.{around_low, end_held, found_before, found_behind, member_held, next_held}
 use Rattle.sided_tree.proofs.part.Part.near_middle.Goals as goal
 
 pub middle-requires-clause-held : goal.middle-requires-clause-held
