@@ -25,6 +25,36 @@ cell-fits r s k run o v l =
     let x = kept-run r s k run v in
     (omega (arith, x.counters, l), omega (arith, x.depths, l, s.few), omega (arith, x.ends, l, s.few))
 
+-- the parts of a run
+module _ (L : List (List ℕ)) (n : ℕ) (run : Run) (at : ℕ) (this : IsRun L n (run.id, run)) (behind : 0 < at) (before : at < run.len) where
+  pub front-part : IsRun L n (run.id, run_to at run)
+  front-part = record {
+    named = refl;
+    some = behind;
+    within = omega (arith, this.within, before);
+    counters = omega (arith, this.counters, before);
+    ends = omega (arith, this.ends, before);
+    deep = this.deep;
+    depths = omega (arith, this.depths, before);
+    forests = this.forests;
+  }
+
+  pub back-part : IsRun L n ((head_behind at (first_of run)).id, run_from at run)
+  back-part =
+      let c : (head_behind at (first_of run)).id.counter ≡ run.id.counter + at = ap (λ (x : Identifier). x.counter) (behind-id at (first_of run)) in
+      let d = behind-depth at (first_of run) in
+      let f = behind-forest at (first_of run) behind in
+      record {
+        named = refl;
+        some = omega (arith, before);
+        within = omega (arith, this.within, before);
+        counters = omega (arith, this.counters, before, c);
+        ends = omega (arith, this.ends, before);
+        deep = omega (arith, d, behind);
+        depths = omega (arith, this.depths, before, d);
+        forests = omega (arith, f);
+      }
+
 module _ (r : Runs) (s : AreRuns r) (run : Run) (at : ℕ) (v : value_under run.id r.rope ≡ Some run) (behind : 0 < at) (before : at < run.len) where
   abbrev pub rest_id : Identifier
   rest_id = (head_behind at (first_of run)).id
@@ -62,54 +92,20 @@ module _ (r : Runs) (s : AreRuns r) (run : Run) (at : ℕ) (v : value_under run.
         ∙ ap (put_under run.id (run_to at run)) (after-at run.id run (rest_id, run_from at run) front back k.0 k.1)
         ∙ put-at run.id run (run_to at run) front ((rest_id, run_from at run) ∷ back) k.0 (rest_other, k.1)
 
+  front-run : IsRun r.letters r.count (run.id, run_to at run)
+  front-run = front-part r.letters r.count run at this behind before
+
+  back-run : IsRun r.letters r.count (rest_id, run_from at run)
+  back-run = back-part r.letters r.count run at this behind before
+
   -- a run's cells are those of its parts
   same-cells : cells_of r.letters run ≡ cells_of r.letters (run_to at run) ++ cells_of r.letters (run_from at run)
   same-cells =
       let xs = slice_index_or r.letters run.stretch [] in
-      let l : length (take at (drop run.start xs)) ≡ at = length-letters r.letters r.count (run.id, run_to at run) front_is in
+      let l : length (take at (drop run.start xs)) ≡ at = length-letters r.letters r.count (run.id, run_to at run) front-run in
       ap (typed (first_of run)) (part-parts run.start at run.len xs (omega (arith, before)))
       ∙ typed-append (first_of run) (take at (drop run.start xs)) (take (run.len - at) (drop (run.start + at) xs))
       ∙ ap (λ n. typed (first_of run) (take at (drop run.start xs)) ++ typed (head_behind n (first_of run)) (take (run.len - at) (drop (run.start + at) xs))) l
-    where
-      front_is : IsRun r.letters r.count (run.id, run_to at run)
-      front_is = record {
-        named = refl;
-        some = behind;
-        within = omega (arith, this.within, before);
-        counters = omega (arith, this.counters, before);
-        ends = omega (arith, this.ends, before);
-        deep = this.deep;
-        depths = omega (arith, this.depths, before);
-        forests = this.forests;
-      }
-
-  front-run : IsRun r.letters r.count (run.id, run_to at run)
-  front-run = record {
-    named = refl;
-    some = behind;
-    within = omega (arith, this.within, before);
-    counters = omega (arith, this.counters, before);
-    ends = omega (arith, this.ends, before);
-    deep = this.deep;
-    depths = omega (arith, this.depths, before);
-    forests = this.forests;
-  }
-
-  back-run : IsRun r.letters r.count (rest_id, run_from at run)
-  back-run =
-      let c : rest_id.counter ≡ run.id.counter + at = ap (λ (x : Identifier). x.counter) (behind-id at (first_of run)) in
-      let d = behind-depth at (first_of run) in
-      let f = behind-forest at (first_of run) behind in
-      record {
-        named = refl;
-        some = omega (arith, before);
-        within = omega (arith, this.within, before);
-        counters = omega (arith, this.counters, before, c);
-        ends = omega (arith, this.ends, before);
-        deep = omega (arith, d, behind);
-        depths = omega (arith, this.depths, before, d);
-        forests = omega (arith, f);
-      }
 
   pub cut-cells : all_cells r.letters cut_rope ≡ cells_in r
   cut-cells =

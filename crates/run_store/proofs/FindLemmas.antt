@@ -26,6 +26,17 @@ module _ (r : Runs) (s : AreRuns r) (x : Identifier) where
   pub no-floor : IsFloor r.rope x None → Contains (ids (cells_in r)) x → ⊥
   no-floor f c = let p = contains-run r.letters r.count r.rope x s.each c in none-some p.run.id (floor-is r s x None f p).0
 
+  -- a cell whose identifier is one of those of a run
+  pub spot-in : (k : Identifier) (run : Run) (o : ℕ) → value_under k r.rope ≡ Some run → k.replica ≡ x.replica → x.counter ≡ k.counter + o → o < run.len
+      → IsSpot r.rope x run o
+  spot-in k run o v e d l =
+      let n : k ≡ run.id = (kept-run r s k run v).named in
+      record {
+        held = ap (λ i. value_under i r.rope) (sym n) ∙ v;
+        inside = l;
+        is = (λ i. record { replica = sym e i; counter = d i }) ∙ ap (id_behind o) n ∙ sym (behind-id o (first_of run));
+      }
+
   module _ (k : Identifier) (f : IsFloor r.rope x (Some k)) where
     pub no-run : value_under k r.rope ≡ None → Contains (ids (cells_in r)) x → ⊥
     no-run v c =
@@ -48,15 +59,9 @@ module _ (r : Runs) (s : AreRuns r) (x : Identifier) where
     pub spot-found : (run : Run) → value_under k r.rope ≡ Some run → k.replica ≡ x.replica → x.counter - k.counter < run.len
         → IsSpot r.rope x run (x.counter - k.counter)
     spot-found run v e l =
-        let n : k ≡ run.id = (kept-run r s k run v).named in
         let up = gt-parts k.replica x.replica k.counter x.counter f.1 in
         let c : k.counter ≤ x.counter = grind (arith, up, e) in
-        let d : x.counter ≡ k.counter + (x.counter - k.counter) = omega (arith, c) in
-        record {
-          held = ap (λ i. value_under i r.rope) (sym n) ∙ v;
-          inside = l;
-          is = (λ i. record { replica = sym e i; counter = d i }) ∙ ap (id_behind (x.counter - k.counter)) n ∙ sym (behind-id (x.counter - k.counter) (first_of run));
-        }
+        spot-in k run (x.counter - k.counter) v e (omega (arith, c)) l
 
     pub counters-up : k.replica ≡ x.replica → k.counter ≤ x.counter
     counters-up e = let up = gt-parts k.replica x.replica k.counter x.counter f.1 in grind (arith, up, e)

@@ -1,6 +1,6 @@
 -- A cell that is hidden, in a run of its own.
 use Rattle.std.proofs.Common.{◌≡◌, ◌≢◌, ℕ, suc, true, false, List, [], ◌∷◌, ◌++◌, ap, arith, length, refl, subst, sym, drop, ◌∙◌}
-use Rattle.std.specs.Prelude.{Some, cond, if◌then◌else◌, map}
+use Rattle.std.specs.Prelude.{Bool, Some, cond, if◌then◌else◌, map}
 use Rattle.std.specs.List.{All, AllPairs}
 use Rattle.std.proofs.lemmas.List.{length-map}
 use Rattle.std.proofs.lemmas.List.Elements.{All-cons, All-nil}
@@ -13,7 +13,7 @@ use Rattle.run_store.specs.Runs.{AreRuns, IsRun, IsSpot, all_cells, cells_in, fi
 use Rattle.run_store.specs.declared.cell.Cell.{Cell}
 use Rattle.run_store.specs.declared.run.Run.{Run}
 use Rattle.run_store.specs.declared.runs.Runs.{Runs}
-use Rattle.run_store.proofs.CellLemmas.{hidden-at, hiding-at}
+use Rattle.run_store.proofs.CellLemmas.{hidden-at, hiding-at, others-back, others-front}
 use Rattle.run_store.proofs.HeadLemmas.{behind-hidden}
 use Rattle.run_store.proofs.PartLemmas.{all-between}
 use Rattle.run_store.proofs.RopeLemmas.{found, put-at}
@@ -26,6 +26,36 @@ same_id x c = elim (id_eq c.id x) as (λ b. ◌≡◌ {A = Identifier} ((if b th
 ids-hiding : (x : Identifier) (cs : List Cell) → ids (map (hiding x) cs) ≡ ids cs
 ids-hiding x [] = refl
 ids-hiding x (c ∷ cs) = λ i. same_id x c i ∷ ids-hiding x cs i
+
+-- a store whose cells are those of another one with a cell hidden
+pub marked-sound : (r : Runs) → AreRuns r → (x : Identifier) (now : Runs) → now.count ≡ r.count → All (IsRun now.letters now.count) now.rope
+    → cells_in now ≡ map (hiding x) (cells_in r) → AreRuns now
+marked-sound r s x now count each cells = record {
+  each = each;
+  distinct = subst (AllPairs (λ y z. y ≢ z)) (sym (ap ids cells ∙ ids-hiding x (cells_in r))) s.distinct;
+  counted = count ∙ s.counted ∙ sym (ap length cells ∙ length-map (cells_in r) (hiding x));
+  few = omega (arith, s.few, count);
+}
+
+-- a cell with those around it, once it is hidden
+pub hides-one : (cs : List Cell) → AllPairs (λ x y. x ≢ y) (ids cs) → (front : List Cell) (c : Cell) (back : List Cell) → cs ≡ front ++ c ∷ back
+    → map (hiding c.id) cs ≡ front ++ record c { hidden = true } ∷ back
+hides-one cs d front c back e =
+    let apart = subst (λ zs. AllPairs (λ x y. x ≢ y) (ids zs)) e d in
+    ap (map (hiding c.id)) e ∙ hiding-at c.id front c back (others-front front c back apart) (others-back front c back apart) refl
+
+-- the numbers of a run do not hang on its mark
+pub marked-run : (L : List (List ℕ)) (n : ℕ) (k : Identifier) (run : Run) (m : Bool) → IsRun L n (k, run) → IsRun L n (k, record run { hidden = m })
+marked-run L n k run m this = record {
+  named = this.named;
+  some = this.some;
+  within = this.within;
+  counters = this.counters;
+  ends = this.ends;
+  deep = this.deep;
+  depths = this.depths;
+  forests = this.forests;
+}
 
 -- the mark of the cell at a spot is that of its run
 module _ (r : Runs) (s : AreRuns r) (x : Identifier) (run : Run) (o : ℕ) (spot : IsSpot r.rope x run o) where
@@ -63,16 +93,7 @@ module _ (r : Runs) (s : AreRuns r) (run : Run) (v : value_under run.id r.rope �
   this = kept-run r s run.id run v
 
   hidden-run : IsRun r.letters r.count (run.id, hidden_run)
-  hidden-run = record {
-    named = refl;
-    some = this.some;
-    within = this.within;
-    counters = this.counters;
-    ends = this.ends;
-    deep = this.deep;
-    depths = this.depths;
-    forests = this.forests;
-  }
+  hidden-run = marked-run r.letters r.count run.id run true this
 
   -- the run has no second letter
   no-more : drop 1 (letters_of r.letters run) ≡ []
@@ -112,13 +133,9 @@ module _ (r : Runs) (s : AreRuns r) (run : Run) (v : value_under run.id r.rope �
   hiding-sound =
       let p = found run.id run r.rope v in
       let P = IsRun r.letters r.count in
-      record {
-        each = subst (All P) (sym (put-is p.front p.back p.is))
-            (all-between P p.front (run.id, run) ((run.id, hidden_run) ∷ []) p.back (subst (All P) p.is s.each) (All-cons P (run.id, hidden_run) [] hidden-run (All-nil P)));
-        distinct = subst (AllPairs (λ x y. x ≢ y)) (sym (ap ids hiding-cells ∙ ids-hiding run.id (cells_in r))) s.distinct;
-        counted = s.counted ∙ sym (ap length hiding-cells ∙ length-map (cells_in r) (hiding run.id));
-        few = s.few;
-      }
+      let each = subst (All P) (sym (put-is p.front p.back p.is))
+      (all-between P p.front (run.id, run) ((run.id, hidden_run) ∷ []) p.back (subst (All P) p.is s.each) (All-cons P (run.id, hidden_run) [] hidden-run (All-nil P))) in
+      marked-sound r s run.id hidden_runs refl each hiding-cells
 
   pub hiding-length : length hidden_runs.rope ≡ length r.rope
   hiding-length = length-map r.rope (λ (x : Item). (x.0, cond (id_eq x.0 run.id) hidden_run x.1))

@@ -32,6 +32,11 @@ module _ {X : Type 0} where
   at-within (y ∷ xs) zero x e = omega arith
   at-within (y ∷ xs) (suc i) x e = omega (arith, at-within xs i x e)
 
+  pub drop-there : (xs : List X) (i : ℕ) (x : X) → slice_get xs i ≡ Some x → drop i xs ≡ x ∷ drop (suc i) xs
+  drop-there [] i x e = cc
+  drop-there (y ∷ xs) zero x e = let s : y ≡ x = cc in ap (λ z. z ∷ xs) s
+  drop-there (y ∷ xs) (suc i) x e = drop-there xs i x e
+
   pub drop-first : (xs : List X) (i : ℕ) → slice_get (drop i xs) 0 ≡ slice_get xs i
   drop-first xs zero = refl
   drop-first [] (suc i) = refl

@@ -1,8 +1,8 @@
 -- The cells of runs that are not hidden, by their weight.
 use Rattle.std.proofs.Common.{◌≡◌, ℕ, zero, suc, ◌+◌, ◌<◌, ◌≤◌, Bool, true, false, not, List, [], ◌∷◌, ◌++◌, ap, arith, inl, inr, length, length-append, min, refl, subst, sym, ◌∙◌}
-use Rattle.std.specs.Prelude.{None, Some, if◌then◌else◌, slice_get}
+use Rattle.std.specs.Prelude.{IfSome, Option, None, Some, if◌then◌else◌, slice_get}
 use Rattle.std.specs.List.{All}
-use Rattle.std.proofs.lemmas.Bool.{cases_Bool}
+use Rattle.std.proofs.lemmas.Bool.{cases_Bool, true≢false}
 use Rattle.std.proofs.lemmas.List.{length-map, map-append}
 use Rattle.std.proofs.lemmas.List.Sums.{sum_by-cons}
 use Rattle.std.proofs.lemmas.List.Elements.{All-head, All-tail, filter-append}
@@ -15,13 +15,15 @@ use Rattle.node_rope.specs.Places.{IsUnit, weight_sum}
 use Rattle.run_store.specs.Cells.{ids, visible_cells}
 use Rattle.run_store.specs.Heads.{head_behind, lettered, next_head, typed}
 use Rattle.run_store.specs.Runs.{AreRuns, IsRun, all_cells, cells_in, cells_of, first_of, letters_of}
+use Rattle.run_store.specs.Shown.{IsInHand}
 use Rattle.run_store.specs.declared.cell.Cell.{Cell}
+use Rattle.run_store.specs.declared.find.Spot.{Spot}
 use Rattle.run_store.specs.declared.head.Head.{Head}
 use Rattle.run_store.specs.declared.run.Run.{Run}
 use Rattle.run_store.specs.declared.runs.Runs.{Runs}
 use Rattle.run_store.proofs.HeadLemmas.{behind-next, length-typed}
 use Rattle.run_store.proofs.RopeLemmas.{value-at}
-use Rattle.run_store.proofs.RunsLemmas.{Item, cells-append, keys-apart, length-letters}
+use Rattle.run_store.proofs.RunsLemmas.{Item, cells-append, kept-run, keys-apart, length-letters}
 
 -- what a run counts for
 abbrev pub weight_of : Run → ℕ
@@ -74,6 +76,11 @@ module _ (L : List (List ℕ)) (n : ℕ) (few : n ≤ MOST_OPERATIONS) where
         sum_by-cons (λ (z : Item). weight_of z.1) x xs,
       )
 
+-- what counts for a unit is not hidden
+is-shown : (b : Bool) (m v : ℕ) → v < (if b then 0 else min m MOST_OPERATIONS) → (b ≡ false) × (v < m)
+is-shown true m v l = absurd (omega (arith, l))
+is-shown false m v l = (refl, omega (arith, l))
+
 -- the visible cell of a unit of weight
 module _ (r : Runs) (s : AreRuns r) where
   pub visible-all : length (visible_cells (cells_in r)) ≡ weight_sum weight_of r.rope
@@ -108,10 +115,6 @@ module _ (r : Runs) (s : AreRuns r) where
             ∙ get-behind (ids V) (ids (typed (first_of p.value) ls ++ B)) u
             ∙ get-typed (first_of p.value) ls u B (omega (arith, shown.1, length-letters L r.count (k, p.value) this)),
       )
-    where
-      is-shown : (b : Bool) (m v : ℕ) → v < (if b then 0 else min m MOST_OPERATIONS) → (b ≡ false) × (v < m)
-      is-shown true m v l = absurd (omega (arith, l))
-      is-shown false m v l = (refl, omega (arith, l))
 
   -- the same, by the run that is kept under the key
   pub unit-held : (w : ℕ) (k : Identifier) (u : ℕ) (p : IsUnit weight_of r.rope w k u) → value_under k r.rope ≡ Some p.value
@@ -129,8 +132,68 @@ module _ (r : Runs) (s : AreRuns r) where
       let same : p.value ≡ run = cc in
       subst (λ (z : Run). (u < z.len) × (slice_get (ids (visible_cells (cells_in r))) w ≡ Some (head_behind u (first_of z)).id)) same (unit-cell w k u p)
 
+  -- the run with the cells behind it
+  pub unit-hand : (w : ℕ) (k : Identifier) (u : ℕ) → IsUnit weight_of r.rope w k u → (run : Run) → value_under k r.rope ≡ Some run
+      → IsInHand (ids (visible_cells (cells_in r))) w run u
+  unit-hand w k u p run v =
+      let this = kept-run r s k run v in
+      let held : Some p.value ≡ Some run = sym (unit-held w k u p) ∙ v in
+      let same : p.value ≡ run = cc in
+      let n = ap (λ (z : Run). z.len) same in
+      let shown = is-shown p.value.hidden p.value.len u p.inside in
+      record {
+        inside = (unit-run w k u p run v).0;
+        counters = this.counters;
+        depths = omega (arith, this.depths, s.few);
+        cells = λ j l.
+            let more : u + j < p.value.len = omega (arith, l, n) in
+            let q : IsUnit weight_of r.rope (w + j) k (u + j) = record {
+              front = p.front;
+              value = p.value;
+              back = p.back;
+              split = p.split;
+              before = omega (arith, p.before);
+              inside = weighs p.value.hidden p.value.len (u + j) shown.0 more (this-small k p.value run same this);
+            } in
+            (unit-run (w + j) k (u + j) q run v).1;
+      }
+    where
+      weighs : (b : Bool) (m v : ℕ) → b ≡ false → v < m → m ≤ MOST_OPERATIONS → v < (if b then 0 else min m MOST_OPERATIONS)
+      weighs true m v e l few = absurd (true≢false e)
+      weighs false m v e l few = omega (arith, l, few)
+
+      this-small : (i : Identifier) (z run : Run) → z ≡ run → IsRun r.letters r.count (i, run) → z.len ≤ MOST_OPERATIONS
+      this-small i z run e this = omega (arith, this.depths, this.deep, s.few, ap (λ (y : Run). y.len) e)
+
   pub unit-none : (w : ℕ) (k : Identifier) (u : ℕ) → IsUnit weight_of r.rope w k u → value_under k r.rope ≡ None → ⊥
   unit-none w k u p v = some-none p.value (sym (unit-held w k u p) ∙ v)
     where
       some-none : (z : Run) → Some z ≡ None → ⊥
       some-none z e = cc
+
+-- a step along a run in hand
+pub hand-next : (shown : List Identifier) (passed : ℕ) (run : Run) (o : ℕ) → IsInHand shown passed run o → suc o < run.len → IsInHand shown (passed + 1) run (suc o)
+hand-next shown passed run o h l = record {
+  inside = l;
+  counters = h.counters;
+  depths = h.depths;
+  cells = λ k m.
+      let p : passed + suc k ≡ (passed + 1) + k = omega arith in
+      let q : o + suc k ≡ suc o + k = omega arith in
+      ap (slice_get shown) (sym p) ∙ h.cells (suc k) (omega (arith, m)) ∙ ap (λ j. Some (head_behind j (first_of run)).id) q;
+}
+
+-- the first cell in hand
+pub hand-first : (shown : List Identifier) (passed : ℕ) (run : Run) (o : ℕ) → IsInHand shown passed run o → slice_get shown passed ≡ Some (head_behind o (first_of run)).id
+hand-first shown passed run o h =
+    let p : passed + 0 ≡ passed = omega arith in
+    let q : o + 0 ≡ o = omega arith in
+    ap (slice_get shown) (sym p) ∙ h.cells 0 (omega (arith, h.inside)) ∙ ap (λ j. Some (head_behind j (first_of run)).id) q
+
+-- and what is in hand then
+pub hand-behind : (shown : List Identifier) (passed : ℕ) (run : Run) (o : ℕ) → IsInHand shown passed run o → (next : Option Spot)
+    → IfSome next (λ h. (h.run ≡ run) × (h.offset ≡ suc o) × (suc o < run.len)) → IfSome next (λ h. IsInHand shown (passed + 1) h.run h.offset)
+hand-behind shown passed run o h None e = tt
+hand-behind shown passed run o h (Some n) e =
+    subst (λ k. IsInHand shown (passed + 1) n.run k) (sym e.1)
+    (subst (λ (z : Run). IsInHand shown (passed + 1) z (suc o)) (sym e.0) (hand-next shown passed run o h e.2))

@@ -3,5 +3,7 @@ pub mod Heads
 pub mod Growth
 pub mod NewCells
 pub mod Runs
+pub mod Borders
 pub mod Stored
+pub mod Shown
 pub mod Standings

@@ -1,5 +1,5 @@
 // Where a cell is kept.
-ghost use Rattle.std.specs.Prelude.{◌≡◌, ◌<◌, ◌≤◌, Contains, IfNone, IfSome, Some, length, option_map, slice_get};
+ghost use Rattle.std.specs.Prelude.{◌≡◌, ◌<◌, ◌≤◌, ◌+◌, Contains, IfNone, IfSome, Some, length, option_map, slice_get};
 ghost use Rattle.fugue_ids.specs.Identifiers.{Identifier};
 ghost use Rattle.node_rope.specs.Items.{value_under};
 ghost use Rattle.run_store.specs.Cells.{cell_of, ids};
@@ -17,6 +17,19 @@ use fugue_ids::ElementId;
 pub(crate) struct Spot {
     pub(crate) run: Run,
     pub(crate) offset: u32,
+}
+
+/// How many cells of the run under the key stand before the one of this identifier, if that is among them.
+fn offset_in(key: ElementId, run: &Run, id: ElementId) -> Option<u32>
+    ensures same { IfSome result (λ offset. key.replica ≡ id.replica) }
+    ensures behind { IfSome result (λ offset. id.counter ≡ key.counter + offset) }
+    ensures inside { IfSome result (λ offset. offset < run.now.len) }
+{
+    if key.replica != id.replica || id.counter < key.counter {
+        return None;
+    }
+    let offset = id.counter - key.counter;
+    if offset < run.len { Some(offset) } else { None }
 }
 
 impl Runs {
@@ -48,8 +61,41 @@ impl Runs {
         }
     }
 
-    /// Where the cell of this identifier is.
+    /// Where the cell of this identifier is, if it is in the run that was used last.
+    fn find_near(&self, id: ElementId) -> Option<Spot>
+        requires { AreRuns self.now }
+        ensures { IfSome result (λ s. IsSpot self.now.rope id s.run s.offset) }
+    {
+        let key = self.rope.at_hand()?;
+        let run = self.run(key)?;
+        let offset = offset_in(key, &run, id)?;
+        Some(Spot { run, offset })
+    }
+
+    /// Where the cell of this identifier is. In the run that was used last this costs no search.
     pub(crate) fn find(&self, id: ElementId) -> Option<Spot>
+        requires { AreRuns self.now }
+        ensures some { IfSome result (λ s. IsSpot self.now.rope id s.run s.offset) }
+        ensures none { IfNone result (Contains (ids (cells_in self.now)) id → ⊥) }
+    {
+        match self.find_near(id) {
+            Some(spot) => Some(spot),
+            None => self.find_by_key(id),
+        }
+    }
+
+    /// The run of the cell is at hand from now on.
+    pub(crate) fn look_at(&mut self, id: ElementId)
+        requires { AreRuns self.old }
+        ensures { self.new ≡ self.old }
+    {
+        if let Some(spot) = self.find(id) {
+            self.rope.keep_at_hand(spot.run.id);
+        }
+    }
+
+    /// Where the cell of this identifier is, by the greatest key that is not above it.
+    fn find_by_key(&self, id: ElementId) -> Option<Spot>
         requires { AreRuns self.now }
         ensures some { IfSome result (λ s. IsSpot self.now.rope id s.run s.offset) }
         ensures none { IfNone result (Contains (ids (cells_in self.now)) id → ⊥) }

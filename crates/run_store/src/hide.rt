@@ -1,8 +1,9 @@
-// A cell is hidden in a run of its own.
+// A cell is hidden.
 ghost use Rattle.std.specs.Prelude.{◌≡◌, ◌<◌, suc, Some, Contains, length, map, true, IfOk, OnErr, OnOk};
 ghost use Rattle.node_rope.specs.Items.{value_under};
 ghost use Rattle.run_store.specs.Cells.{hiding, ids, is_hidden as hidden_in};
-ghost use Rattle.run_store.specs.Runs.{AreRuns, cells_in, run_from as rest_by, run_to as front_by};
+ghost use Rattle.run_store.specs.Heads.{head_behind};
+ghost use Rattle.run_store.specs.Runs.{AreRuns, cells_in, first_of, run_from as rest_by, run_to as front_by};
 ghost use Rattle.run_store.specs.Stored.{IsRaised};
 
 use crate::find::Spot;
@@ -47,6 +48,39 @@ impl Runs {
         Ok(run_from(&front, spot.offset))
     }
 
+    /// Hides the cell at the spot in a run of its own.
+    fn hide_alone(&mut self, spot: &Spot) -> Result<(), NoMemory>
+        requires sound { AreRuns self.old }
+        requires held { value_under spot.now.run.id self.old.rope ≡ Some spot.now.run }
+        requires inside { spot.now.offset < spot.now.run.len }
+        ensures sound { AreRuns self.new }
+        ensures ok { OnOk result (cells_in self.new ≡ map (hiding (head_behind spot.now.offset (first_of spot.now.run)).id) (cells_in self.old)) }
+        ensures err { OnErr result (cells_in self.new ≡ cells_in self.old) }
+        ensures raised { OnOk result (IsRaised 2 (length self.old.rope) (length self.new.rope)) }
+        ensures refused { OnErr result (IsRaised 1 (length self.old.rope) (length self.new.rope)) }
+    {
+        let run = self.isolate(spot)?;
+        self.rope.put(key_of(&run), hidden(&run));
+        Ok(())
+    }
+
+    /// Hides the cell at the spot: in the hidden run beside its own, or in one that is parted off.
+    fn hide_at(&mut self, spot: &Spot) -> Result<(), NoMemory>
+        requires sound { AreRuns self.old }
+        requires held { value_under spot.now.run.id self.old.rope ≡ Some spot.now.run }
+        requires inside { spot.now.offset < spot.now.run.len }
+        ensures sound { AreRuns self.new }
+        ensures ok { OnOk result (cells_in self.new ≡ map (hiding (head_behind spot.now.offset (first_of spot.now.run)).id) (cells_in self.old)) }
+        ensures err { OnErr result (cells_in self.new ≡ cells_in self.old) }
+        ensures raised { OnOk result (IsRaised 2 (length self.old.rope) (length self.new.rope)) }
+        ensures refused { OnErr result (IsRaised 1 (length self.old.rope) (length self.new.rope)) }
+    {
+        match self.border(spot) {
+            Some(border) => self.shift(&border),
+            None => self.hide_alone(spot),
+        }
+    }
+
     /// Hides a cell. One that is hidden stays as it is.
     pub(crate) fn hide(&mut self, id: ElementId) -> Result<(), NoMemory>
         requires sound { AreRuns self.old }
@@ -60,13 +94,11 @@ impl Runs {
     {
         let spot = match self.find(id) {
             Some(spot) => spot,
-            None => return Err(NoMemory),
+            None => unreachable!(),
         };
         if spot.run.hidden {
             return Ok(());
         }
-        let run = self.isolate(&spot)?;
-        self.rope.put(key_of(&run), hidden(&run));
-        Ok(())
+        self.hide_at(&spot)
     }
 }

@@ -216,7 +216,7 @@ impl Runs {
     {
         match self.find(at) {
             Some(spot) => self.insert_at(&spot, head, ch),
-            None => Err(NoMemory),
+            None => unreachable!(),
         }
     }
 

@@ -1,11 +1,13 @@
 // Look-ups of a store. None of them takes memory.
-ghost use Rattle.std.specs.Prelude.{◌≡◌, ◌≢◌, ◌↔◌, ◌≤◌, AllPairs, Contains, IsTrue, drop, length, slice_get};
+ghost use Rattle.std.specs.Prelude.{◌≡◌, ◌≢◌, ◌↔◌, ◌≤◌, AllPairs, Contains, IfNone, IfSome, IsTrue, None, drop, length, slice_get};
 ghost use Rattle.std.specs.Str.{encode_utf8_all};
 ghost use Rattle.fugue_ids.specs.Gathers.{GathersText};
 ghost use Rattle.fugue_ids.specs.Outs.{WritesText};
 ghost use Rattle.origin_model.specs.edits.Landing.{following};
 ghost use Rattle.run_store.specs.Cells.{ids, is_hidden as hidden_in, origins_of, text, visible_cells};
+ghost use Rattle.run_store.specs.Shown.{IsInHand};
 
+use crate::find::Spot;
 use crate::shown::Shown;
 use crate::store::RunStore;
 use fugue_ids::{ElementId, Failed, Gather, MOST_OPERATIONS, OrderOf, Out};
@@ -28,12 +30,14 @@ impl RunStore {
         self.runs.rope.len()
     }
 
+    /// How many cells are not hidden.
     pub fn visible_count(&self) -> usize
         ensures { result ≡ length (visible_cells self.now.cells) }
     {
         self.runs.visible_count()
     }
 
+    /// Whether the cell is held, hidden or not.
     pub fn holds(&self, id: ElementId) -> bool
         ensures { IsTrue result ↔ Contains (ids self.now.cells) id }
     {
@@ -68,6 +72,14 @@ impl RunStore {
         ensures { result ≡ slice_get (ids (visible_cells self.now.cells)) i }
     {
         self.runs.nth_visible(i)
+    }
+
+    /// Where that cell is.
+    pub(crate) fn visible_spot(&self, i: usize) -> Option<Spot>
+        ensures some { IfSome result (λ s. IsInHand (ids (visible_cells self.now.cells)) i s.run s.offset) }
+        ensures none { IfNone result (slice_get (ids (visible_cells self.now.cells)) i ≡ None) }
+    {
+        self.runs.visible_spot(i)
     }
 
     /// The cell behind this one, hidden or not; the first one for None. None comes back for one that is not held or stands last.

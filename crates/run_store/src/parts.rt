@@ -18,6 +18,19 @@ fn id_behind(id: ElementId, n: u32) -> ElementId
     }
 }
 
+/// The first cell of a run.
+pub(crate) fn first_cell(run: &Run) -> Head
+    ensures { result ≡ first_of run.now }
+{
+    Head {
+        id: run.id,
+        left: run.left,
+        right: run.right,
+        hidden: run.hidden,
+        key: run.key,
+    }
+}
+
 /// The cell of a run behind n others.
 pub(crate) fn cell_at(run: &Run, n: u32) -> Head
     requires counters { run.now.id.counter + n < 2 ^ 32 }
@@ -25,13 +38,7 @@ pub(crate) fn cell_at(run: &Run, n: u32) -> Head
     ensures { result ≡ head_behind n (first_of run.now) }
 {
     if n == 0 {
-        return Head {
-            id: run.id,
-            left: run.left,
-            right: run.right,
-            hidden: run.hidden,
-            key: run.key,
-        };
+        return first_cell(run);
     }
     Head {
         id: id_behind(run.id, n),

@@ -1,25 +1,61 @@
-ghost use Rattle.std.specs.Prelude.{◌≡◌, drop, slice_get};
+ghost use Rattle.std.specs.Prelude.{◌≡◌, ◌<◌, ◌^◌, IfNone, IfSome, None, drop, slice_get, suc};
 ghost use Rattle.run_store.specs.Cells.{ids, visible_cells};
+ghost use Rattle.run_store.specs.Shown.{IsInHand};
 
+use crate::find::Spot;
+use crate::parts::cell_at;
 use crate::store::RunStore;
 use fugue_ids::ElementId;
 use std::marker::Model;
 
-/// A walk along the visible cells of a store, seen as those that are still to come.
+/// A walk along the visible cells of a store, seen as those that are still to come. Within a run a step costs no search.
 #[derive(Drop)]
 pub struct Shown<'a> {
     store: &'a RunStore,
     passed: usize,
+    hand: Option<Spot>,
 }
 
 impl<'a> Model for Shown<'a> {
-    ghost use Rattle.std.specs.Prelude.{List, drop};
+    ghost use Rattle.std.specs.Prelude.{IfSome, List, drop};
     ghost use Rattle.fugue_ids.specs.Identifiers.{Identifier};
     ghost use Rattle.run_store.specs.Cells.{ids, visible_cells};
+    ghost use Rattle.run_store.specs.Shown.{IsInHand};
 
     ghost Value = { List Identifier };
 
     ghost view = { λ s. drop s.passed (ids (visible_cells s.store.now.cells)) };
+
+    ghost invariant = { λ s. IfSome s.hand (λ h. IsInHand (ids (visible_cells s.store.now.cells)) s.passed h.run h.offset) };
+}
+
+/// Where the next cell is: it is in hand, or looked for.
+fn next_spot(store: &RunStore, passed: usize, hand: Option<Spot>) -> Option<Spot>
+    requires { IfSome hand (λ h. IsInHand (ids (visible_cells store.now.cells)) passed h.run h.offset) }
+    ensures some { IfSome result (λ h. IsInHand (ids (visible_cells store.now.cells)) passed h.run h.offset) }
+    ensures none { IfNone result (slice_get (ids (visible_cells store.now.cells)) passed ≡ None) }
+{
+    match hand {
+        Some(spot) => Some(spot),
+        None => store.visible_spot(passed),
+    }
+}
+
+/// The next cell of the run.
+fn behind(spot: &Spot) -> Option<Spot>
+    requires inside { spot.now.offset < spot.now.run.len }
+    requires fits { spot.now.run.len < 2 ^ 32 }
+    ensures { IfSome result (λ h. (h.run ≡ spot.now.run) × (h.offset ≡ suc spot.now.offset) × (suc spot.now.offset < spot.now.run.len)) }
+{
+    let offset = spot.offset + 1;
+    if offset < spot.run.len {
+        Some(Spot {
+            run: spot.run,
+            offset,
+        })
+    } else {
+        None
+    }
 }
 
 impl<'a> Shown<'a> {
@@ -27,7 +63,11 @@ impl<'a> Shown<'a> {
     pub(crate) fn new(store: &'a RunStore, passed: usize) -> Shown<'a>
         ensures { result ≡ drop passed (ids (visible_cells store.now.cells)) }
     {
-        Shown { store, passed }
+        Shown {
+            store,
+            passed,
+            hand: None,
+        }
     }
 
     /// The next one. It takes no memory.
@@ -38,8 +78,9 @@ impl<'a> Shown<'a> {
         if self.passed >= self.store.visible_count() {
             return None;
         }
-        let next = self.store.nth_visible(self.passed);
+        let spot = next_spot(self.store, self.passed, self.hand)?;
         self.passed += 1;
-        next
+        self.hand = behind(&spot);
+        Some(cell_at(&spot.run, spot.offset).id)
     }
 }

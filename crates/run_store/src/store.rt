@@ -52,6 +52,13 @@ impl RunStore {
         }
     }
 
+    /// The cell is asked for soon: while it is near, that costs no search.
+    pub fn look_at(&mut self, id: ElementId)
+        ensures { self.new ≡ self.old }
+    {
+        self.runs.look_at(id);
+    }
+
     /// One cell more, in the gap, which is not hidden. After want of memory a run may be parted.
     pub fn insert(
         &mut self,

@@ -53,6 +53,66 @@ fn what_is_typed_is_one_run_until_a_letter_is_hidden(rt: HostRuntime) -> Result<
     Ok(())
 }
 
+/// Letters of one author, typed one behind the other.
+fn typed(alloc: Global, letters: u32) -> Result<RunStore, NoMemory> {
+    let mut store = RunStore::new(alloc);
+    for counter in 0..letters {
+        type_letter(&mut store, counter, 'a')?;
+    }
+    Ok(store)
+}
+
+/// Deletes a letter. There are at most so many runs then.
+fn delete(rt: &impl Abort, store: &mut RunStore, counter: u32, runs: usize) -> Result<(), Fail> {
+    hide(store, named(1, counter)?)?;
+    assert!(rt; store.runs() <= runs);
+    Ok(())
+}
+
+/// Deletes 50 letters, the first one first, or the last one.
+fn delete_from_an_end(rt: &impl Abort, store: &mut RunStore, last: bool) -> Result<(), Fail> {
+    for turn in 0..50u32 {
+        let counter = if last {
+            49u32.saturating_sub(turn)
+        } else {
+            turn
+        };
+        delete(rt, store, counter, 2)?;
+    }
+    assert_eq!(rt; store.visible_count(), 0);
+    Ok(())
+}
+
+/// Deletes 40 of 50 letters from the middle on.
+fn delete_outward(rt: &impl Abort, store: &mut RunStore) -> Result<(), Fail> {
+    for turn in 0..20u32 {
+        delete(rt, store, 25u32.saturating_add(turn), 3)?;
+        delete(rt, store, 24u32.saturating_sub(turn), 3)?;
+    }
+    assert!(rt; store.is_hidden(named(1, 5)?));
+    assert!(rt; !store.is_hidden(named(1, 4)?));
+    assert_eq!(rt; store.nth_visible(5), Some(named(1, 45)?));
+    Ok(())
+}
+
+#[test]
+fn letters_deleted_from_the_front_share_a_run(rt: HostRuntime) -> Result<(), Fail> {
+    let mut store = typed(rt.alloc(), 50)?;
+    delete_from_an_end(&rt, &mut store, false)
+}
+
+#[test]
+fn letters_deleted_from_the_back_share_a_run(rt: HostRuntime) -> Result<(), Fail> {
+    let mut store = typed(rt.alloc(), 50)?;
+    delete_from_an_end(&rt, &mut store, true)
+}
+
+#[test]
+fn letters_deleted_from_the_middle_on_share_a_run(rt: HostRuntime) -> Result<(), Fail> {
+    let mut store = typed(rt.alloc(), 50)?;
+    delete_outward(&rt, &mut store)
+}
+
 #[test]
 fn a_letter_inside_a_run_parts_it(rt: HostRuntime) -> Result<(), Fail> {
     let mut store = RunStore::new(rt.alloc());
@@ -209,6 +269,87 @@ fn run_seed(rt: &impl Abort, alloc: Global, seed: u64) -> Result<(), Fail> {
         if turn % 8 == 7 {
             compare(rt, alloc, &store, &cells)?;
         }
+    }
+    Ok(())
+}
+
+const WIPED: usize = 23;
+
+/// A letter behind the last one, in both.
+fn type_beside(
+    rt: &impl Abort,
+    store: &mut RunStore,
+    cells: &mut Vec<Cell>,
+    counter: u32,
+) -> Result<(), Fail> {
+    let left = cells.last().map(|cell: &Cell| cell.id);
+    let gap = left.map_or(Gap::Alone, Gap::After);
+    let cell = Cell {
+        id: named(1, counter)?,
+        left,
+        right: None,
+        ch: 'w',
+        hidden: false,
+        key: new_key(cells, &left, &None),
+    };
+    join(rt, store, cells, gap, cell)
+}
+
+fn hide_beside(store: &mut RunStore, cells: &mut [Cell], at: usize) -> Result<(), Fail> {
+    if let Some(cell) = cells.get_mut(at) {
+        hide(store, cell.id)?;
+        cell.hidden = true;
+    }
+    Ok(())
+}
+
+/// Hides letters, each so many behind the one before it, and at the end from the start on, and compares.
+fn hide_in_steps(
+    rt: &impl Abort,
+    alloc: Global,
+    store: &mut RunStore,
+    cells: &mut [Cell],
+    first: usize,
+    step: usize,
+) -> Result<(), Fail> {
+    let mut at = first;
+    for turn in 0..WIPED {
+        hide_beside(store, cells, at % WIPED)?;
+        at = at.saturating_add(step);
+        if turn % 6 == 5 {
+            compare(rt, alloc, store, cells)?;
+        }
+    }
+    compare(rt, alloc, store, cells)
+}
+
+/// Types letters and hides them all in steps.
+fn wipe_beside(
+    rt: &impl Abort,
+    alloc: Global,
+    store: &mut RunStore,
+    cells: &mut Vec<Cell>,
+    first: usize,
+    step: usize,
+) -> Result<(), Fail> {
+    for turn in 0..WIPED {
+        type_beside(rt, store, cells, u32::try_from(turn).unwrap_or(0))?;
+    }
+    hide_in_steps(rt, alloc, store, cells, first, step)
+}
+
+fn wipe(rt: &impl Abort, alloc: Global, first: usize, step: usize) -> Result<(), Fail> {
+    let mut store = RunStore::new(alloc);
+    let mut cells = Vec::new(alloc);
+    wipe_beside(rt, alloc, &mut store, &mut cells, first, step)
+}
+
+#[test]
+fn a_store_that_is_wiped_stands_for_its_cells(rt: HostRuntime) -> Result<(), Fail> {
+    wipe(&rt, rt.alloc(), 0, 1)?;
+    wipe(&rt, rt.alloc(), WIPED - 1, WIPED - 1)?;
+    for step in 2..8 {
+        wipe(&rt, rt.alloc(), step, step)?;
     }
     Ok(())
 }

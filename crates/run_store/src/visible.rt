@@ -1,8 +1,10 @@
 // Cells by their places among those that are not hidden.
-ghost use Rattle.std.specs.Prelude.{◌≡◌, length, slice_get};
+ghost use Rattle.std.specs.Prelude.{◌≡◌, IfNone, IfSome, None, length, slice_get};
 ghost use Rattle.run_store.specs.Cells.{ids, visible_cells};
 ghost use Rattle.run_store.specs.Runs.{AreRuns, cells_in};
+ghost use Rattle.run_store.specs.Shown.{IsInHand};
 
+use crate::find::Spot;
 use crate::parts::cell_at;
 use crate::runs::Runs;
 use fugue_ids::ElementId;
@@ -15,12 +17,25 @@ impl Runs {
         self.rope.total() as usize
     }
 
+    /// Where the visible cell behind i others is.
+    pub(crate) fn visible_spot(&self, i: usize) -> Option<Spot>
+        requires { AreRuns self.now }
+        ensures some { IfSome result (λ s. IsInHand (ids (visible_cells (cells_in self.now))) i s.run s.offset) }
+        ensures none { IfNone result (slice_get (ids (visible_cells (cells_in self.now))) i ≡ None) }
+    {
+        let (key, inside) = self.rope.find_weight(i as u64)?;
+        let run = self.run(key)?;
+        Some(Spot {
+            run,
+            offset: inside as u32,
+        })
+    }
+
     pub(crate) fn nth_visible(&self, i: usize) -> Option<ElementId>
         requires { AreRuns self.now }
         ensures { result ≡ slice_get (ids (visible_cells (cells_in self.now))) i }
     {
-        let (key, inside) = self.rope.find_weight(i as u64)?;
-        let run = self.run(key)?;
-        Some(cell_at(&run, inside as u32).id)
+        let spot = self.visible_spot(i)?;
+        Some(cell_at(&spot.run, spot.offset).id)
     }
 }

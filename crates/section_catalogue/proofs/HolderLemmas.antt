@@ -1,5 +1,5 @@
 -- What a history says of an identifier, as one more operation comes.
-use Rattle.std.proofs.Common.{List, [], ap, false, inl, inr, refl, sym, true, ◌∙◌, ◌∷◌, ◌≡◌, ◌≢◌}
+use Rattle.std.proofs.Common.{List, [], ap, false, inl, inr, refl, sym, ◌∙◌, ◌∷◌, ◌≡◌, ◌≢◌}
 use Rattle.std.specs.Prelude.{if◌then◌else◌, None, Option, Some, is_some}
 use Rattle.std.proofs.lemmas.Bool.{cases_Bool, true≢false}
 use Rattle.fugue_ids.specs.Identifiers.{Identifier, id_eq, origin_eq}

@@ -1,5 +1,5 @@
 -- The places of elements, as a look-up reads them.
-use Rattle.std.proofs.Common.{Bool, List, [], ap, arith, cond, inl, inr, length, refl, sym, true, false, ◌∙◌, ◌∷◌, ◌≡◌, ◌≢◌}
+use Rattle.std.proofs.Common.{Bool, List, [], ap, arith, cond, length, refl, sym, true, false, ◌∙◌, ◌∷◌, ◌≡◌}
 use Rattle.std.specs.Prelude.{None, Option, Some, map, option_map}
 use Rattle.std.specs.FinMap.{FinMap, empty, entries, find, get, get-entries, get-insert, get-remove, insert, len-empty, len-entries, remove}
 use Rattle.std.specs.Ordering.{is_eq}

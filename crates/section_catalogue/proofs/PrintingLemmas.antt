@@ -1,5 +1,5 @@
 -- A text that is gathered part by part, while the parts to come are looked up.
-use Rattle.std.proofs.Common.{List, [], append_assoc, drop, length, arith, refl, subst, sym, ◌+◌, ◌<◌, ◌∙◌, ◌∷◌, ◌++◌, ◌≡◌, ℕ, ap}
+use Rattle.std.proofs.Common.{List, [], append_assoc, drop, length, arith, refl, subst, sym, ◌<◌, ◌∙◌, ◌∷◌, ◌++◌, ◌≡◌, ℕ, ap}
 use Rattle.std.specs.Prelude.{Err, None, Ok, Some, flat_map, slice_get}
 use Rattle.std.proofs.lemmas.List.{append-nil}
 use Rattle.fugue_ids.specs.Gathers.{GathersText}

@@ -1,5 +1,5 @@
 -- A place as readers see it, one element more in it, and that step undone.
-use Rattle.std.proofs.Common.{List, [], ap, arith, length, refl, subst, sym, ℕ, ◌<◌, ◌∙◌, ◌∷◌, ◌≡◌, ◌≤◌, ◌↔◌, false, true}
+use Rattle.std.proofs.Common.{List, [], ap, length, refl, subst, sym, ℕ, ◌∙◌, ◌∷◌, ◌≡◌, ◌↔◌, false, true}
 use Rattle.std.specs.Prelude.{Err, Ok, OnErr, OnOk, Result, Some, if◌then◌else◌, is_some, map}
 use Rattle.std.specs.List.{Contains, insert}
 use Rattle.std.proofs.lemmas.Bool.{true≢false}

@@ -1,5 +1,5 @@
 -- A store that has the nodes of a place in order has their keys, gives a new one its key, and has the longer list of nodes once it is put in.
-use Rattle.std.proofs.Common.{Bool, List, [], ap, arith, false, inl, inr, length, refl, subst, suc, sym, true, ℕ, ◌∙◌, ◌∷◌, ◌≡◌, ◌≢◌, ◌≤◌, zero}
+use Rattle.std.proofs.Common.{List, [], ap, false, inl, inr, refl, subst, suc, sym, true, ℕ, ◌∙◌, ◌∷◌, ◌≡◌, ◌≢◌, zero}
 use Rattle.std.specs.Prelude.{Err, None, Ok, OnErr, OnOk, Option, Result, Some, if◌then◌else◌, is_some, map}
 use Rattle.std.specs.List.{All, Contains, insert}
 use Rattle.std.proofs.lemmas.Bool.{cases_Bool, false≢true, true≢false}
@@ -7,14 +7,13 @@ use Rattle.std.proofs.lemmas.List.Elements.{All-contains, All-head, All-map, All
 use Rattle.fugue_ids.specs.Identifiers.{Identifier, id_eq, origin_eq}
 use Rattle.fugue_ids.specs.declared.key.Key.{Key}
 use Rattle.fugue_ids.specs.declared.op.Op.{Op}
-use Rattle.fugue_ids.proofs.IdentifierLemmas.{cases_id, eq-id_eq, id_eq-true, ne-id_eq, origin_eq-true}
-use Rattle.fugue_ids.proofs.ListLemmas.{all_from_contains, all_insert, contains_cases, contains_here, contains_map_from, contains_none, contains_there}
+use Rattle.fugue_ids.proofs.IdentifierLemmas.{cases_id, eq-id_eq, ne-id_eq, origin_eq-true}
+use Rattle.fugue_ids.proofs.ListLemmas.{all_from_contains, all_insert, contains_cases, contains_here, contains_none, contains_there}
 use Rattle.fugue_ids.specs.Keys.{Keyed}
 use Rattle.origin_model.specs.operations.History.{holder, left_of}
-use Rattle.origin_model.specs.operations.Verdict.{Lawful}
 use Rattle.origin_model.specs.order.Order.{has_left, right_beside}
-use Rattle.origin_model.specs.sides.Keys.{depth_above, forest_above, forest_of, key_of, keyed as keyed_in, keyed_as, keyed_order, new_key}
-use Rattle.origin_model.specs.sides.Node.{AreNodes, IsNew, as_op, as_ops, find_node, has_node, has_origin, node_order}
+use Rattle.origin_model.specs.sides.Keys.{depth_above, forest_above, key_of, keyed as keyed_in, keyed_order, new_key}
+use Rattle.origin_model.specs.sides.Node.{IsNew, as_op, as_ops, find_node, has_node, has_origin, node_order}
 use Rattle.origin_model.specs.declared.sides.node.Node.{Node}
 use Rattle.origin_model.proofs.SharedLemmas.{holder-nodes, key-other, never_both, newest_key, nodes-lawful, nodes_listed, op_of}
 use Rattle.run_store.specs.Cells.{cell_of, hiding, ids, keyed}

@@ -1,6 +1,6 @@
 -- Stored cells without origins and keys: what is read of them is the same.
-use Rattle.std.proofs.Common.{Bool, List, [], ap, false, inl, inr, length, not, refl, sym, true, ℕ, ◌&&◌, ◌||◌, ◌∙◌, ◌∷◌, ◌≡◌, zero, suc}
-use Rattle.std.specs.Prelude.{cond, filter, if◌then◌else◌, map}
+use Rattle.std.proofs.Common.{List, [], ap, false, length, not, refl, true, ℕ, ◌&&◌, ◌||◌, ◌∙◌, ◌∷◌, ◌≡◌, zero, suc}
+use Rattle.std.specs.Prelude.{cond, if◌then◌else◌, map}
 use Rattle.std.specs.List.{insert}
 use Rattle.std.proofs.lemmas.List.{length-map}
 use Rattle.fugue_ids.specs.Identifiers.{Identifier, id_eq}

@@ -1,7 +1,6 @@
 -- What a store has of the elements of a place: their origins and their keys too.
-use Rattle.std.specs.Prelude.{◌≡◌, Some, List, map}
+use Rattle.std.specs.Prelude.{◌≡◌, Some, List}
 use Rattle.std.specs.List.{All}
-use Rattle.fugue_ids.specs.Keys.{Keyed}
 use Rattle.origin_model.specs.sides.Keys.{key_of}
 use Rattle.origin_model.specs.sides.Node.{AreNodes, as_ops, find_node, node_order}
 use Rattle.origin_model.specs.declared.sides.node.Node.{Node}

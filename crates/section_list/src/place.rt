@@ -92,12 +92,14 @@ impl SectionList {
         self.store.len()
     }
 
+    /// How many elements are visible.
     pub fn visible_count(&self) -> usize
         ensures { result ≡ length (visible_cells self.now.cells) }
     {
         self.store.visible_count()
     }
 
+    /// Whether an element, hidden or not, has the identifier.
     pub fn holds(&self, id: ElementId) -> bool
         ensures { result ≡ has_node self.now.nodes id }
     {
@@ -139,8 +141,37 @@ impl SectionList {
         self.store.after(id)
     }
 
+    /// The element is asked for soon.
+    fn look_at(&mut self, id: &Option<ElementId>)
+        ensures { self.new ≡ self.old }
+    {
+        if let Some(id) = id {
+            self.store.look_at(*id);
+        }
+    }
+
     /// One element more, which is not hidden. After want of memory all is as before.
     pub fn insert(
+        &mut self,
+        id: ElementId,
+        left: Option<ElementId>,
+        right: Option<ElementId>,
+        ch: char,
+    ) -> Result<(), NoMemory>
+        requires fresh { has_node self.old.nodes id ≡ false }
+        requires left { has_origin self.old.nodes left ≡ true }
+        requires right { has_origin self.old.nodes right ≡ true }
+        requires room { length self.old.cells < MOST_OPERATIONS }
+        ensures ok { OnOk result (self.new ≡ with_element (record { id = id; left = left; right = right }) ch self.old) }
+        ensures err { OnErr result (self.new ≡ self.old) }
+        ensures in_order { IsInOrder self.new }
+    {
+        self.look_at(&left);
+        self.insert_near(id, left, right, ch)
+    }
+
+    /// The same, where the left origin was looked at.
+    fn insert_near(
         &mut self,
         id: ElementId,
         left: Option<ElementId>,

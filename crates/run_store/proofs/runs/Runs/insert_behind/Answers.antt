@@ -9,13 +9,13 @@ use Rattle.run_store.specs.declared.cell.Cell.{Cell}
 use Rattle.run_store.proofs.FindLemmas.{cell-found}
 use Rattle.run_store.proofs.runs.Runs.insert_behind.Goals as goal
 
-pub returns-in-Some-clause-ok : goal.returns-in-Some-clause-ok
-returns-in-Some-clause-ok c =
+pub returns-clause-ok : goal.returns-clause-ok
+returns-clause-ok c =
     subst (λ (x : Identifier). OnOk c.insert_at.result (cells_in c.insert_at.new.self ≡ inserted_behind x (lettered c.args.head.now c.args.ch) (cells_in c.args.self.now)))
     (sym c.in-Some.ensures.some.is) c.insert_at.ensures.ok
 
-pub returns-in-Some-clause-continued : goal.returns-in-Some-clause-continued
-returns-in-Some-clause-continued c =
+pub returns-clause-continued : goal.returns-clause-continued
+returns-clause-continued c =
     let h = c.args.head.now in
     let r = c.args.self.now in
     subst (λ (o : Option Cell). OnOk c.insert_at.result (is_continued o h.id h.left h.right ≡ true → length c.insert_at.new.self.rope ≡ length r.rope))

@@ -1,27 +1,26 @@
-use Rattle.std.proofs.Common.{ap, sym, ◌∙◌}
+use Rattle.std.proofs.Common.{ap, arith, sym, ◌∙◌}
 use Rattle.std.specs.Prelude.{Some}
+use Rattle.run_store.specs.Cells.{ids, visible_cells}
+use Rattle.run_store.specs.Runs.{cells_in}
 use Rattle.run_store.specs.declared.head.Head.{Head}
-use Rattle.run_store.proofs.CutLemmas.{cell-fits}
-use Rattle.run_store.proofs.VisibleLemmas.{no-unit, unit-none, unit-run}
+use Rattle.run_store.proofs.VisibleLemmas.{hand-first}
 use Rattle.run_store.proofs.runs.Runs.nth_visible.Goals as goal
 
-pub returns-in_err-key : goal.returns-in_err-key
-returns-in_err-key c = c.from_residual.ensures ∙ sym (no-unit c.args.self.now c.requires c.args.i c.in_err-key.ensures.none)
-
-pub returns-in_err-run : goal.returns-in_err-run
-returns-in_err-run c = absurd (unit-none c.args.self.now c.requires c.args.i c.in_ok-key.key c.in_ok-key.inside c.in_ok-key.ensures.some (sym c.in_err-run.ensures))
+pub returns-in_err-spot : goal.returns-in_err-spot
+returns-in_err-spot c = c.from_residual.ensures ∙ sym c.in_err-spot.ensures.none
 
 pub cell_at-requires-clause-counters : goal.cell_at-requires-clause-counters
 cell_at-requires-clause-counters c =
-    let p = unit-run c.args.self.now c.requires c.args.i c.in_ok-key.key c.in_ok-key.inside c.in_ok-key.ensures.some c.in_ok-run.run' (sym c.in_ok-run.ensures) in
-    (cell-fits c.args.self.now c.requires c.in_ok-key.key c.in_ok-run.run' c.in_ok-key.inside (sym c.in_ok-run.ensures) p.0).0
+    let h = c.in_ok-spot.ensures.some in
+    omega (arith, h.counters, h.inside)
 
 pub cell_at-requires-clause-depths : goal.cell_at-requires-clause-depths
 cell_at-requires-clause-depths c =
-    let p = unit-run c.args.self.now c.requires c.args.i c.in_ok-key.key c.in_ok-key.inside c.in_ok-key.ensures.some c.in_ok-run.run' (sym c.in_ok-run.ensures) in
-    (cell-fits c.args.self.now c.requires c.in_ok-key.key c.in_ok-run.run' c.in_ok-key.inside (sym c.in_ok-run.ensures) p.0).1
+    let h = c.in_ok-spot.ensures.some in
+    omega (arith, h.depths, h.inside)
 
 pub returns : goal.returns
 returns c =
-    let p = unit-run c.args.self.now c.requires c.args.i c.in_ok-key.key c.in_ok-key.inside c.in_ok-key.ensures.some c.in_ok-run.run' (sym c.in_ok-run.ensures) in
-    ap (λ (h : Head). Some h.id) c.cell_at.ensures ∙ sym p.1
+    let spot = c.in_ok-spot.spot in
+    ap (λ (h : Head). Some h.id) c.cell_at.ensures
+    ∙ sym (hand-first (ids (visible_cells (cells_in c.args.self.now))) c.args.i spot.run spot.offset c.in_ok-spot.ensures.some)

@@ -1,10 +1,12 @@
 use Rattle.std.proofs.Common.{ap, arith, drop, length, sym, ◌∙◌, ◌≤◌}
-use Rattle.std.specs.Prelude.{slice_get}
+use Rattle.std.specs.Prelude.{Some, slice_get}
 use Rattle.std.proofs.lemmas.List.{length-map}
 use Rattle.run_store.specs.Cells.{ids, visible_cells}
 use Rattle.run_store.specs.declared.cell.Cell.{Cell}
+use Rattle.run_store.specs.declared.head.Head.{Head}
 use Rattle.run_store.proofs.PartLemmas.{drop-drop}
 use Rattle.run_store.proofs.PlaceLemmas.{drop-all, drop-first}
+use Rattle.run_store.proofs.VisibleLemmas.{hand-behind, hand-first}
 use Rattle.run_store.proofs.shown.Shown.step.Goals as goal
 
 pub overflow_add-self : goal.overflow_add-self
@@ -21,10 +23,20 @@ returns-then-self-visible_count c =
       rest = sym c.self.view_is ∙ none ∙ sym (ap (drop 1) (sym c.self.view_is ∙ none));
     }
 
+pub invariant_of-self : goal.invariant_of-self
+invariant_of-self c =
+    let xs = ids (visible_cells c.self.inside.store.now.cells) in
+    let spot = c.in_ok-spot.spot in
+    hand-behind xs c.self.inside.passed spot.run spot.offset c.in_ok-spot.ensures.some c.behind-self-inside.result c.behind-self-inside.ensures
+
 pub returns : goal.returns
 returns c =
     let xs = ids (visible_cells c.self.inside.store.now.cells) in
+    let spot = c.in_ok-spot.spot in
     record {
-      first = c.nth_visible-next.ensures ∙ sym (drop-first xs c.self.inside.passed) ∙ ap (λ ys. slice_get ys 0) c.self.view_is;
+      first =
+          ap (λ (h : Head). Some h.id) c.cell_at.ensures
+          ∙ sym (hand-first xs c.self.inside.passed spot.run spot.offset c.in_ok-spot.ensures.some)
+          ∙ sym (drop-first xs c.self.inside.passed) ∙ ap (λ ys. slice_get ys 0) c.self.view_is;
       rest = sym (drop-drop c.self.inside.passed 1 xs) ∙ ap (drop 1) c.self.view_is;
     }

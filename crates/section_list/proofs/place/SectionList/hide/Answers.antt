@@ -1,9 +1,7 @@
-use Rattle.std.proofs.Common.{ap, subst, sym, ◌∙◌}
-use Rattle.std.specs.Prelude.{map}
+use Rattle.std.proofs.Common.{ap, sym, ◌∙◌}
 use Rattle.origin_model.specs.sides.Node.{has_node}
 use Rattle.section_list.specs.Cells.{is_hidden}
-use Rattle.section_list.specs.Kept.{KeepsNodes, plain}
-use Rattle.section_list.specs.SectionList.{IsInOrder, with_hidden}
+use Rattle.section_list.specs.SectionList.{with_hidden}
 use Rattle.section_list.proofs.GrowthLemmas.{cell_held, seen, seen_in_order}
 use Rattle.section_list.proofs.KeptLemmas.{kept_hidden, on_ok}
 use Rattle.section_list.proofs.PlainLemmas.{plain_hidden, plain_hiding}

@@ -1,5 +1,4 @@
-use Rattle.std.proofs.Common.{ap, subst, sym, ◌∙◌}
-use Rattle.section_list.specs.Kept.{KeepsNodes}
+use Rattle.std.proofs.Common.{ap}
 use Rattle.section_list.proofs.GrowthLemmas.{nothing_kept, seen_in_order}
 use Rattle.section_list.proofs.place.SectionList.new.Goals as goal
 

@@ -2,7 +2,7 @@ use Rattle.std.proofs.Common.{arith, ap, subst, sym, ℕ, ◌-◌, ◌∙◌, �
 use Rattle.fugue_ids.specs.Identifiers.{Identifier}
 use Rattle.run_store.specs.Runs.{IsSpot}
 use Rattle.run_store.proofs.FindLemmas.{counters-up, no-floor, no-run, not-there, spot-found}
-use Rattle.run_store.proofs.runs.Runs.find.Goals as goal
+use Rattle.run_store.proofs.runs.Runs.find_by_key.Goals as goal
 
 -- the numbers of the identifier and of the key
 abbrev replica_of : Identifier → ℕ

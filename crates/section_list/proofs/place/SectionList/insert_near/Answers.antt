@@ -1,11 +1,10 @@
-use Rattle.std.proofs.Common.{List, ap, subst, sym, ◌∙◌, ◌≡◌}
-use Rattle.origin_model.specs.sides.Node.{IsNew, has_node, has_origin}
+use Rattle.std.proofs.Common.{ap, subst, sym, ◌∙◌, ◌≡◌}
+use Rattle.origin_model.specs.sides.Node.{IsNew}
 use Rattle.origin_model.specs.declared.sides.node.Node.{Node}
-use Rattle.section_list.specs.Kept.{KeepsNodes}
 use Rattle.section_list.specs.SectionList.{Listing, with_element}
 use Rattle.section_list.proofs.GrowthLemmas.{after_err, after_kept, after_ok, alone_kept, gap_beside, seen_in_order}
 use Rattle.section_list.proofs.KeptLemmas.{keyed_kept, on_err, on_ok}
-use Rattle.section_list.proofs.place.SectionList.insert.Goals as goal
+use Rattle.section_list.proofs.place.SectionList.insert_near.Goals as goal
 
 -- a node that is new in what readers see is new in the tree
 new_here : (seen now : Listing) (n : Node) → seen ≡ now → IsNew now.nodes n → IsNew seen.nodes n

@@ -1,0 +1,59 @@
+-- Two runs that stand next to each other and are one passage, but for their marks.
+use Rattle.std.specs.Prelude.{◌≡◌, ◌≢◌, ◌⊎◌, ◌<◌, Bool, true, false, ◌&&◌, nat_eq, ℕ, suc, ◌+◌, ◌-◌, List, ◌∷◌, ◌++◌, Some}
+use Rattle.fugue_ids.specs.Identifiers.{Identifier}
+use Rattle.node_rope.specs.Beside.{put_under, rekeyed}
+use Rattle.run_store.specs.Growth.{last_id}
+use Rattle.run_store.specs.Heads.{head_behind, lettered}
+use Rattle.run_store.specs.NewCells.{is_continued}
+use Rattle.run_store.specs.Runs.{first_of, run_from, run_to}
+use Rattle.run_store.specs.declared.head.Head.{Head}
+use Rattle.run_store.specs.declared.run.Run.{Run}
+
+-- the cells of both as one run, with the mark of the second
+abbrev pub together : Run → Run → Run
+together a b = record a { hidden = b.hidden; len = a.len + b.len }
+
+-- the last cell of a run, as if it were not hidden
+abbrev pub last_shown : Run → Head
+last_shown a = record (head_behind (a.len - 1) (first_of a)) { hidden = false }
+
+-- the first cell of b continues a, whatever the marks, and so do the letters
+abbrev pub goes_on : Run → Run → Bool
+goes_on a b =
+    is_continued (Some (lettered (last_shown a) 0)) b.id b.left b.right
+    && (nat_eq b.key.depth ((last_shown a).key.depth + 1) && (nat_eq b.key.forest 0 && (nat_eq b.stretch a.stretch && nat_eq b.start (a.start + a.len))))
+
+-- b stands directly behind a, and goes on from it
+pub record IsBorder (rope : List (Identifier × Run)) (a b : Run) : Type 0 where
+  pub before : List (Identifier × Run)
+  pub behind : List (Identifier × Run)
+  pub is : rope ≡ before ++ (a.id, a) ∷ (b.id, b) ∷ behind
+  pub passage : b ≡ run_from a.len (together a b)
+
+-- another place where the passage can be parted
+pub record IsMove (a b : Run) (n : ℕ) : Type 0 where
+  pub some : 0 < n
+  pub rest : n < a.len + b.len
+  pub other : n ≢ a.len
+
+-- the rope with the border at the place n of the passage
+abbrev pub shifted : ℕ → Run → Run → List (Identifier × Run) → List (Identifier × Run)
+shifted n a b rope = let new = run_from n (together a b) in put_under a.id (run_to n a) (rekeyed b.id (new.id, new) rope)
+
+-- the first cell of b comes to the hidden run before it
+pub record IsTakenFirst (x : Identifier) (a b : Run) (n : ℕ) : Type 0 where
+  pub hidden : a.hidden ≡ true
+  pub at : n ≡ suc a.len
+  pub is : x ≡ b.id
+
+-- the last cell of a comes to the hidden run behind it
+pub record IsTakenLast (x : Identifier) (a b : Run) (n : ℕ) : Type 0 where
+  pub hidden : b.hidden ≡ true
+  pub at : suc n ≡ a.len
+  pub is : x ≡ last_id a
+
+-- a border that hides the cell of x as it comes to the place n
+pub record IsHiding (rope : List (Identifier × Run)) (x : Identifier) (a b : Run) (n : ℕ) : Type 0 where
+  pub border : IsBorder rope a b
+  pub move : IsMove a b n
+  pub taken : IsTakenFirst x a b n ⊎ IsTakenLast x a b n

@@ -1,0 +1,163 @@
+// The border between a hidden run and its neighbour moves over a cell, which is so hidden without a run of its own.
+ghost use Rattle.std.specs.Prelude.{◌≡◌, ◌<◌, ◌≤◌, ◌+◌, ◌^◌, IfSome, Some, OnErr, OnOk};
+ghost use Rattle.node_rope.specs.Items.{value_under};
+ghost use Rattle.run_store.specs.Borders.{IsBorder, IsHiding, IsMove, goes_on as continues, shifted, together as both};
+ghost use Rattle.run_store.specs.Growth.{last_id};
+ghost use Rattle.run_store.specs.Heads.{head_behind};
+ghost use Rattle.run_store.specs.Runs.{AreRuns, first_of};
+
+use crate::find::Spot;
+use crate::head::Head;
+use crate::new_cells::is_continued;
+use crate::parts::{cell_at, first_cell, key_of, run_from, run_to};
+use crate::run::Run;
+use crate::runs::Runs;
+use fugue_ids::NoMemory;
+
+/// Two runs that are one passage, but for their marks, and how many cells of it the first one is to have.
+#[derive(Clone, Copy)]
+pub(crate) struct Border {
+    front: Run,
+    back: Run,
+    at: u32,
+}
+
+/// The cells of both as one run, with the mark of the second.
+fn together(front: &Run, back: &Run) -> Run
+    requires { front.now.len + back.now.len < 2 ^ 32 }
+    ensures { result ≡ both front.now back.now }
+{
+    Run {
+        id: front.id,
+        left: front.left,
+        right: front.right,
+        hidden: back.hidden,
+        key: front.key,
+        stretch: front.stretch,
+        start: front.start,
+        len: front.len + back.len,
+    }
+}
+
+/// Whether a run goes on from the one before it, whatever their marks: its cells, and its letters too.
+fn goes_on(front: &Run, back: &Run) -> bool
+    requires some { 0 < front.now.len }
+    requires counters { front.now.id.counter + front.now.len ≤ 2 ^ 32 }
+    requires depths { front.now.key.depth + front.now.len < 2 ^ 32 }
+    requires fits { front.now.start + front.now.len < 2 ^ 64 }
+    ensures { result ≡ continues front.now back.now }
+{
+    let last = Head {
+        hidden: false,
+        ..cell_at(front, front.len - 1)
+    };
+    let first = first_cell(back);
+    if !is_continued(&last, &first) {
+        return false;
+    }
+    if first.key.depth != last.key.depth + 1 {
+        return false;
+    }
+    if first.key.forest != 0 {
+        return false;
+    }
+    back.stretch == front.stretch && back.start == front.start + front.len as usize
+}
+
+impl Runs {
+    /// The run directly behind this one, if it goes on from it.
+    fn continuation(&self, front: &Run) -> Option<Run>
+        requires sound { AreRuns self.now }
+        requires held { value_under front.now.id self.now.rope ≡ Some front.now }
+        ensures { IfSome result (λ back. IsBorder self.now.rope front.now back) }
+    {
+        let key = self.rope.next(front.id)?;
+        let back = self.run(key)?;
+        if goes_on(front, &back) {
+            Some(back)
+        } else {
+            None
+        }
+    }
+
+    /// The border to a hidden run before this one.
+    fn border_before(&self, run: &Run) -> Option<Border>
+        requires sound { AreRuns self.now }
+        requires held { value_under run.now.id self.now.rope ≡ Some run.now }
+        requires more { 1 < run.now.len }
+        ensures { IfSome result (λ b. IsHiding self.now.rope run.now.id b.front b.back b.at) }
+    {
+        let left = run.left?;
+        let spot = self.find(left)?;
+        let front = spot.run;
+        if !front.hidden {
+            return None;
+        }
+        let back = self.continuation(&front)?;
+        if back.id == run.id {
+            Some(Border {
+                front,
+                back,
+                at: front.len + 1,
+            })
+        } else {
+            None
+        }
+    }
+
+    /// The border to a hidden run behind this one.
+    fn border_behind(&self, run: &Run) -> Option<Border>
+        requires sound { AreRuns self.now }
+        requires held { value_under run.now.id self.now.rope ≡ Some run.now }
+        requires more { 1 < run.now.len }
+        ensures { IfSome result (λ b. IsHiding self.now.rope (last_id run.now) b.front b.back b.at) }
+    {
+        let back = self.continuation(run)?;
+        if !back.hidden {
+            return None;
+        }
+        Some(Border {
+            front: *run,
+            back,
+            at: run.len - 1,
+        })
+    }
+
+    /// The border over which the cell at the spot comes to a hidden run: it stands at an end of its own run, and not alone.
+    pub(crate) fn border(&self, spot: &Spot) -> Option<Border>
+        requires sound { AreRuns self.now }
+        requires held { value_under spot.now.run.id self.now.rope ≡ Some spot.now.run }
+        requires inside { spot.now.offset < spot.now.run.len }
+        ensures { IfSome result (λ b. IsHiding self.now.rope (head_behind spot.now.offset (first_of spot.now.run)).id b.front b.back b.at) }
+    {
+        if spot.run.len == 1 {
+            return None;
+        }
+        if spot.offset == 0 {
+            return self.border_before(&spot.run);
+        }
+        if spot.offset == spot.run.len - 1 {
+            return self.border_behind(&spot.run);
+        }
+        None
+    }
+
+    /// Moves a border. No letter is copied.
+    pub(crate) fn shift(&mut self, border: &Border) -> Result<(), NoMemory>
+        requires sound { AreRuns self.old }
+        requires beside { IsBorder self.old.rope border.now.front border.now.back }
+        requires to { IsMove border.now.front border.now.back border.now.at }
+        ensures ok { OnOk result (self.new ≡ record { rope = shifted border.now.at border.now.front border.now.back self.old.rope; letters = self.old.letters; count = self.old.count }) }
+        ensures err { OnErr result (self.new ≡ self.old) }
+    {
+        let rest = run_from(&together(&border.front, &border.back), border.at);
+        match self.rope.rekey(key_of(&border.back), key_of(&rest), rest) {
+            Ok(_) => {
+                self.rope
+                    .put(key_of(&border.front), run_to(&border.front, border.at));
+                Ok(())
+            }
+            Err(_) => Err(NoMemory),
+        }
+    }
+}
