@@ -3,13 +3,11 @@ use Rattle.std.proofs.Common.{◌≡◌, ℕ, ◌≤◌, ◌<◌, List, [], ◌�
 use Rattle.std.specs.Prelude.{◌⊎◌, Option, Some, None, IfSome, IsSome, is_some, slice_get, option_to_list, All, Contains, filter, flat_map, map}
 use Rattle.std.specs.List.{list_any}
 use Rattle.std.specs.BTreeMap.{BTreeMap, get}
-use Rattle.std.specs.declared.vec.Vec.{Vec}
-use Rattle.std.specs.declared.alloc.Global.{Global}
 use Rattle.std.proofs.lemmas.Bool.{eq-eqb, eqb-true, or_cases, or_left, or_right}
 use Rattle.std.proofs.lemmas.List.Folds.{Any-from_list_any, list_any-from_Any}
 use Rattle.std.proofs.lemmas.List.Elements.{Contains-append_left, Contains-append_right, Contains-append_cases}
 use Rattle.fugue_ids.specs.Identifiers.{Identifier, id_eq, origin_eq}
-use Rattle.fugue_ids.specs.Keyed.{HasNoEmpty, items_of}
+use Rattle.causal_inbox.specs.Keyed.{HasNoEmpty, items_of}
 use Rattle.fugue_ids.specs.Ops.{id_of}
 use Rattle.fugue_ids.specs.declared.op.Op.{Op}
 use Rattle.fugue_ids.specs.declared.op.Op.TheVariants.{Section, Text, Delete}
@@ -74,7 +72,7 @@ mentioned_keys i (op ∷ ops) c = elim (Contains-append_cases (mentioned op) (fl
 ]
 
 -- a key has an entry where an operation has it
-entry_where : (m : BTreeMap Key (Vec ℕ Global)) (ops : List Op) (ages : List ℕ) (key : Key) → HasNoEmpty key_cmp m → IsAgeIndex ops ages (ages_under m)
+entry_where : (m : BTreeMap Key (List ℕ)) (ops : List Op) (ages : List ℕ) (key : Key) → HasNoEmpty key_cmp m → IsAgeIndex ops ages (ages_under m)
     → is_some (get key_cmp m key) ≡ list_any (has_key key) ops
 entry_where m ops ages key none index =
     by_entry (get key_cmp m key) (none key) ∙ ap (λ l. is_some (slice_get l 0)) (index.listed key) ∙ some_age key ops ages index.one_each
@@ -83,9 +81,9 @@ entry_where m ops ages key none index =
     filled [] within = absurd (omega (arith, within))
     filled (a ∷ l) within = refl
 
-    by_entry : (o : Option (Vec ℕ Global)) → IfSome o (λ v. 0 < length v.items) → is_some o ≡ is_some (slice_get (items_of o) 0)
+    by_entry : (o : Option (List ℕ)) → IfSome o (λ v. 0 < length v) → is_some o ≡ is_some (slice_get (items_of o) 0)
     by_entry None f = refl
-    by_entry (Some v) f = filled v.items f
+    by_entry (Some v) f = filled v f
 
 no_member : (ns : List ℕ) → ((n : ℕ) → Contains ns n → ⊥) → ns ≡ []
 no_member [] none = refl
@@ -96,14 +94,14 @@ greatest_of [] n c b = absurd (contains_none n c)
 greatest_of (m ∷ ns) n c b = record { none = (λ e. cc, λ e. cc); member = c; bound = b }
 
 -- a key of the replica with the counter
-record KeyOf (m : BTreeMap Key (Vec ℕ Global)) (r n : ℕ) : Type 0 where
+record KeyOf (m : BTreeMap Key (List ℕ)) (r n : ℕ) : Type 0 where
   key : Key
   of_replica : key.id.replica ≡ r
   of_counter : key.id.counter ≡ n
   there : IsSome (get key_cmp m key)
 
 -- the greatest counter under keys is the greatest that the operations have or name
-pub greatest_mentioned : (m : BTreeMap Key (Vec ℕ Global)) (r : ℕ) (ops : List Op) (ages : List ℕ) (greatest : Option ℕ) → HasNoEmpty key_cmp m → IsGreatestUnder m r greatest
+pub greatest_mentioned : (m : BTreeMap Key (List ℕ)) (r : ℕ) (ops : List Op) (ages : List ℕ) (greatest : Option ℕ) → HasNoEmpty key_cmp m → IsGreatestUnder m r greatest
     → IsAgeIndex ops ages (ages_under m) → IsGreatest (counters r ops) greatest
 greatest_mentioned m r ops ages greatest none g index = by_greatest greatest g
   where
@@ -126,7 +124,7 @@ greatest_mentioned m r ops ages greatest none g index = by_greatest greatest g
           | inr e ↦ record { key = named found.0; of_replica = eqb-true found.0.replica r kept.1; of_counter = found.2; there = entry (named found.0) ∙ e }
         ]
 
-    none_there : (o : Option (Vec ℕ Global)) → o ≡ None → IsSome o → ⊥
+    none_there : (o : Option (List ℕ)) → o ≡ None → IsSome o → ⊥
     none_there None e s = cc
     none_there (Some v) e s = cc
 

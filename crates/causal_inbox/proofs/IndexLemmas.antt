@@ -150,13 +150,14 @@ index_removed ops op ages p a keys old new is at are changed index = record {
       ∙ ages_removed key op a ops ages p index.one_each index.rise is at;
 }
 
+-- a list is as before where what was put at its end is taken back
+pub put_back : {X : Type 0} (xs : List X) (x : X) → remove (xs ++ x ∷ []) (length xs) ≡ xs
+put_back [] x = refl
+put_back (y ∷ xs) x = ap (λ l. y ∷ l) (put_back xs x)
+
 -- an index is as before where the last operation is taken back
 pub index_back : (ops : List Op) (op : Op) (ages : List ℕ) (at : Key → List ℕ) → IsAgeIndex (remove (ops ++ op ∷ []) (length ops)) ages at → IsAgeIndex ops ages at
-index_back ops op ages at index = subst (λ l. IsAgeIndex l ages at) (put_back ops) index
-  where
-    put_back : (xs : List Op) → remove (xs ++ op ∷ []) (length xs) ≡ xs
-    put_back [] = refl
-    put_back (y ∷ xs) = ap (λ l. y ∷ l) (put_back xs)
+index_back ops op ages at index = subst (λ l. IsAgeIndex l ages at) (put_back ops op) index
 
 -- the operations that have a key stand where a function takes the ages under it
 positions_are : (f : ℕ → ℕ) (at : ℕ) (key : Key) (ops : List Op) (ages : List ℕ) → length ages ≡ length ops → ((i : ℕ) → i < length ages → f (get_or ages i 0) ≡ at + i)

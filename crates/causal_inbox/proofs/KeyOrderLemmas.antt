@@ -9,8 +9,6 @@ use Rattle.std.specs.BTreeMap.Range.{IsRangeOf}
 use Rattle.std.specs.Map.Iter.{TakesLast, deref_pair}
 use Rattle.std.specs.declared.ops.Bound.TheVariants.{Excluded, Unbounded}
 use Rattle.std.specs.declared.cmp.Ordering.TheVariants.{Less}
-use Rattle.std.specs.declared.vec.Vec.{Vec}
-use Rattle.std.specs.declared.alloc.Global.{Global}
 use Rattle.fugue_ids.specs.Keyed.{IsReplaced, IsReplacedBy}
 use Rattle.causal_inbox.specs.Greatest.{IsGreatestUnder, IsLastKey}
 use Rattle.causal_inbox.specs.Key.{own}
@@ -48,14 +46,14 @@ no_entry None none = refl
 no_entry (Some x) none = absurd (none refl)
 
 -- the greatest counter by the last key
-pub greatest_last : (m : BTreeMap Key (Vec ℕ Global)) (r : ℕ) (key : Key) → IsLastKey m r (Some key) → key.id.replica ≡ r → IsGreatestUnder m r (Some key.id.counter)
+pub greatest_last : (m : BTreeMap Key (List ℕ)) (r : ℕ) (key : Key) → IsLastKey m r (Some key) → key.id.replica ≡ r → IsGreatestUnder m r (Some key.id.counter)
 greatest_last m r key l same = record {
   none = λ e. cc;
   member = (key, same, refl, l.some);
   bound = λ k at there. counters_rise key k (same ∙ sym at) (l.last k (omega (arith, at)) there);
 }
 
-pub greatest_other : (m : BTreeMap Key (Vec ℕ Global)) (r : ℕ) (key : Key) → IsLastKey m r (Some key) → (key.id.replica ≡ r → ⊥) → IsGreatestUnder m r None
+pub greatest_other : (m : BTreeMap Key (List ℕ)) (r : ℕ) (key : Key) → IsLastKey m r (Some key) → (key.id.replica ≡ r → ⊥) → IsGreatestUnder m r None
 greatest_other m r key l other = record {
   none = λ e k at. no_entry (get key_cmp m k) (λ there.
       let rise = replicas_rise key k (l.last k (omega (arith, at)) there) in
@@ -65,11 +63,11 @@ greatest_other m r key l other = record {
   bound = tt;
 }
 
-pub greatest_none : (m : BTreeMap Key (Vec ℕ Global)) (r : ℕ) → IsLastKey m r None → IsGreatestUnder m r None
+pub greatest_none : (m : BTreeMap Key (List ℕ)) (r : ℕ) → IsLastKey m r None → IsGreatestUnder m r None
 greatest_none m r l = record { none = λ e k at. l.none refl k (omega (arith, at)); member = tt; bound = tt }
 
 -- the last key of a range that ends before the next replica
-pub last_in_range : (m : BTreeMap Key (Vec ℕ Global)) (r : ℕ) (seen left : List (Key × Vec ℕ Global)) (o : Option (Bor Key × Bor (Vec ℕ Global)))
+pub last_in_range : (m : BTreeMap Key (List ℕ)) (r : ℕ) (seen left : List (Key × List ℕ)) (o : Option (Bor Key × Bor (List ℕ)))
     → IsRangeOf key_cmp Unbounded (Excluded (own (record { replica = r + 1; counter = 0 }))) m seen → TakesLast deref_pair seen o left
     → IsLastKey m r (option_map (λ e. e.0.now) o)
 last_in_range m r seen left None range step = record { none = λ e k at. range.5 step.0 k (tt, before_first k r at); some = tt; within = tt; last = tt }

@@ -4,3 +4,4 @@ pub mod AgeLemmas
 pub mod IndexLemmas
 pub mod FindingLemmas
 pub mod GreatestLemmas
+pub mod QueueLemmas

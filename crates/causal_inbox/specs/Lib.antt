@@ -6,3 +6,4 @@ pub mod Naming
 pub mod Key
 pub mod Index
 pub mod Lists
+pub mod Keyed

@@ -2,11 +2,9 @@
 use Rattle.std.specs.Prelude.{◌≡◌, ℕ, Bool, List, AllPairs, ◌<◌, if◌then◌else◌, take}
 use Rattle.std.specs.BTreeMap.{BTreeMap}
 use Rattle.std.specs.declared.cmp.Ordering.{Ordering}
-use Rattle.std.specs.declared.vec.Vec.{Vec}
-use Rattle.std.specs.declared.alloc.Global.{Global}
-use Rattle.fugue_ids.specs.Keyed.{list_in}
 use Rattle.causal_inbox.specs.Index.{added}
 use Rattle.causal_inbox.specs.Key.{is_among}
+use Rattle.causal_inbox.specs.Keyed.{list_in}
 use Rattle.causal_inbox.specs.declared.key.Key.{Key}
 use Rattle.causal_inbox.specs.contracts.key.KeyOrd.TheImpl as key_ord
 
@@ -15,7 +13,7 @@ abbrev pub key_cmp : Key → Key → Ordering
 key_cmp = (key_ord.ghosts).cmp
 
 -- the ages under a key
-abbrev pub ages_under : BTreeMap Key (Vec ℕ Global) → Key → List ℕ
+abbrev pub ages_under : BTreeMap Key (List ℕ) → Key → List ℕ
 ages_under m key = list_in key_cmp m key
 
 -- the lists under the keys that the test names are changed, and the others stay

@@ -3,6 +3,7 @@
 ghost use Rattle.std.specs.Prelude.{◌≡◌, ◌<◌, ◌^◌, IfSome, option_map};
 ghost use Rattle.causal_inbox.specs.Greatest.{IsGreatestUnder, IsLastKey};
 
+use crate::Queue;
 use crate::key::{Key, own_key};
 use crate::lists::Lists;
 use fugue_ids::ElementId;
@@ -35,7 +36,7 @@ fn last_key(lists: &Lists, replica: u32) -> Option<Key>
 }
 
 /// The key of an entry that may be there.
-fn key_of(entry: Option<(&Key, &Vec<u64>)>) -> Option<Key>
+fn key_of(entry: Option<(&Key, &Queue<u64>)>) -> Option<Key>
     ensures key { result ≡ option_map (λ e. e.0.now) entry.entry }
     ensures fits { IfSome result (λ key. key.id.replica < 2 ^ 32) }
 {

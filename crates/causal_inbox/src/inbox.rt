@@ -1,4 +1,4 @@
-ghost use Rattle.std.specs.Prelude.{◌≡◌, ◌↔◌, ◌<◌, ◌≤◌, ◌++◌, ◌∷◌, [], true, false, length, position as first_position, remove as without, slice_get, OnOk, OnErr, IfErr};
+ghost use Rattle.std.specs.Prelude.{◌≡◌, ◌↔◌, ◌<◌, ◌≤◌, ◌++◌, ◌∷◌, [], None, true, false, length, position as first_position, remove as without, slice_get, OnOk, OnErr, IfErr};
 ghost use Rattle.fugue_ids.specs.Ops.{id_of};
 ghost use Rattle.origin_model.specs.operations.History.{has_op};
 ghost use Rattle.origin_model.specs.operations.Verdict.{id_held, verdict};
@@ -9,7 +9,7 @@ ghost use Rattle.causal_inbox.specs.Naming.{naming};
 
 use crate::index::Index;
 use crate::key::named_key;
-use crate::{Facts, Found, PushFault};
+use crate::{Facts, Found, PushFault, Queue};
 use fugue_ids::{ElementId, Op};
 use origin_model::Verdict;
 use std::alloc::Global;
@@ -18,7 +18,7 @@ use std::marker::Model;
 /// The waiting operations, in the order in which they came, and how many may wait.
 #[derive(Drop)]
 pub struct Inbox {
-    ops: Vec<Op>,
+    ops: Queue<Op>,
     index: Index,
     hold: u32,
 }
@@ -27,16 +27,16 @@ impl Model for Inbox {
     ghost use Rattle.std.specs.Prelude.{◌≤◌, length};
     ghost use Rattle.causal_inbox.specs.Index.{IsAgeIndex};
     ghost use Rattle.causal_inbox.specs.Lists.{ages_under, key_cmp};
-    ghost use Rattle.fugue_ids.specs.Keyed.{HasNoEmpty};
+    ghost use Rattle.causal_inbox.specs.Keyed.{HasNoEmpty};
     ghost use Rattle.causal_inbox.specs.Waiting.{Waiting};
 
     ghost Value = { Waiting };
 
-    ghost view = { λ inbox. record { ops = inbox.ops.items; hold = inbox.hold } };
+    ghost view = { λ inbox. record { ops = inbox.ops; hold = inbox.hold } };
 
     ghost invariant = { λ inbox. record {
-      within : length inbox.ops.items ≤ inbox.hold;
-      index : IsAgeIndex inbox.ops.items inbox.index.ages.items (ages_under inbox.index.lists);
+      within : length inbox.ops ≤ inbox.hold;
+      index : IsAgeIndex inbox.ops inbox.index.ages (ages_under inbox.index.lists);
       no_empty : HasNoEmpty key_cmp inbox.index.lists;
     } };
 }
@@ -46,7 +46,7 @@ impl Inbox {
         ensures { result ≡ record { ops = []; hold = hold } }
     {
         Inbox {
-            ops: Vec::new(alloc),
+            ops: Queue::new(alloc),
             index: Index::new(alloc),
             hold,
         }
@@ -95,7 +95,8 @@ impl Inbox {
     pub fn next_decidable<F: Facts>(&self, facts: &F) -> Option<usize>
         ensures { result ≡ first_position (λ op. decides (verdict (F.history facts.now) op)) self.now.ops }
     {
-        self.ops.iter().position(|op| is_decided(facts.verdict(op)))
+        let ops = self.ops.as_slice();
+        ops.iter().position(|op| is_decided(facts.verdict(op)))
     }
 
     /// The position of the operation that rests on the identifier behind k others that do.
@@ -112,7 +113,7 @@ impl Inbox {
         ensures rest { self.new ≡ record self.old { ops = without self.old.ops position } }
         ensures within { length self.new.ops ≤ self.new.hold }
     {
-        let op = self.ops.remove(position);
+        let op = self.ops.remove(position, filler());
         self.index.remove(&op, position);
         op
     }
@@ -129,6 +130,18 @@ impl Inbox {
         ensures within { length self.now.ops ≤ self.now.hold }
     {
         self.ops.as_slice()
+    }
+}
+
+/// What lies in the place of an operation that left: it holds no memory.
+fn filler() -> Op
+    ensures { id_of result ≡ None }
+{
+    Op::Delete {
+        target: ElementId {
+            replica: 1,
+            counter: 0,
+        },
     }
 }
 

@@ -5,33 +5,35 @@ ghost use Rattle.fugue_ids.specs.declared.op.Op.{Op as AnyOp};
 ghost use Rattle.origin_model.specs.operations.History.{has_op};
 ghost use Rattle.origin_model.specs.operations.Verdict.{id_held};
 ghost use Rattle.origin_model.specs.operations.Counters.{counters, IsGreatest};
-ghost use Rattle.fugue_ids.specs.Keyed.{HasNoEmpty};
+ghost use Rattle.causal_inbox.specs.Keyed.{HasNoEmpty};
 ghost use Rattle.std.specs.List.{position_or_len};
 ghost use Rattle.causal_inbox.specs.Index.{IsAgeIndex, IsAgeIndexOfSome, is_equal_at, positions_with};
 ghost use Rattle.causal_inbox.specs.Lists.{ages_under, key_cmp};
 
+use crate::Queue;
 use crate::greatest::greatest_under;
 use crate::key::{Key, keys, main_key, own_key};
+use crate::keyed_lists::list_under;
 use crate::lists::{Lists, add_age, drop_age, nth_age};
-use fugue_ids::{ElementId, NoMemory, Op, list_under};
+use fugue_ids::{ElementId, NoMemory, Op};
 use std::alloc::Global;
 
 /// Where the operations of a list stand that have a key. Each of them has an age, greater than those before it, so that one that is
 /// removed changes no other.
 #[derive(Drop)]
 pub(crate) struct Index {
-    pub ages: Vec<u64>,
+    pub ages: Queue<u64>,
     pub lists: Lists,
     alloc: Global,
 }
 
 impl Index {
     pub fn new(alloc: Global) -> Index
-        ensures index { IsAgeIndex [] result.ages.items (ages_under result.lists) }
+        ensures index { IsAgeIndex [] result.ages (ages_under result.lists) }
         ensures no_empty { HasNoEmpty key_cmp result.lists }
     {
         Index {
-            ages: Vec::new(alloc),
+            ages: Queue::new(alloc),
             lists: Lists::new(alloc),
             alloc,
         }
@@ -39,8 +41,8 @@ impl Index {
 
     /// The position of the operation with the key that stands behind k others with it.
     pub fn nth(&self, key: &Key, k: usize) -> Option<usize>
-        requires { AllPairs ◌<◌ self.now.ages.items }
-        ensures { (ops : List AnyOp) → IsAgeIndex ops self.now.ages.items (ages_under self.now.lists) → result ≡ slice_get (positions_with key.now ops) k }
+        requires { AllPairs ◌<◌ self.now.ages }
+        ensures { (ops : List AnyOp) → IsAgeIndex ops self.now.ages (ages_under self.now.lists) → result ≡ slice_get (positions_with key.now ops) k }
     {
         match nth_age(&self.lists, key, k) {
             Some(age) => Some(position(self.ages.as_slice(), age)),
@@ -50,7 +52,7 @@ impl Index {
 
     /// Whether one of the operations is equal.
     pub fn has_equal(&self, ops: &[Op], op: &Op) -> bool
-        requires { IsAgeIndex ops.now self.now.ages.items (ages_under self.now.lists) }
+        requires { IsAgeIndex ops.now self.now.ages (ages_under self.now.lists) }
         ensures { result ≡ has_op ops.now op.now }
     {
         let key = main_key(op);
@@ -64,7 +66,7 @@ impl Index {
 
     /// Whether one of the operations has the identifier.
     pub fn has_id(&self, ops: &[Op], id: Option<ElementId>) -> bool
-        requires { IsAgeIndex ops.now self.now.ages.items (ages_under self.now.lists) }
+        requires { IsAgeIndex ops.now self.now.ages (ages_under self.now.lists) }
         ensures { result ≡ id_held ops.now id }
     {
         match id {
@@ -77,26 +79,27 @@ impl Index {
     #[tactic(auto, using(crate::proofs::GreatestLemmas::greatest_mentioned))]
     pub fn greatest(&self, replica: u32) -> Option<u32>
         requires { HasNoEmpty key_cmp self.now.lists }
-        ensures { (ops : List AnyOp) → IsAgeIndex ops self.now.ages.items (ages_under self.now.lists) → IsGreatest (counters replica ops) result }
+        ensures { (ops : List AnyOp) → IsAgeIndex ops self.now.ages (ages_under self.now.lists) → IsGreatest (counters replica ops) result }
     {
         greatest_under(&self.lists, replica)
     }
 
     /// One operation more, at the end. After want of memory the index is as before.
     pub fn add(&mut self, op: &Op) -> Result<(), NoMemory>
-        requires { IsAgeIndexOfSome self.old.ages.items (ages_under self.old.lists) }
-        ensures ok { OnOk result ((ops : List AnyOp) → IsAgeIndex ops self.old.ages.items (ages_under self.old.lists)
-            → IsAgeIndex (ops ++ op.now ∷ []) self.new.ages.items (ages_under self.new.lists)) }
-        ensures err { OnErr result ((ops : List AnyOp) → IsAgeIndex ops self.old.ages.items (ages_under self.old.lists)
-            → IsAgeIndex ops self.new.ages.items (ages_under self.new.lists)) }
+        requires { IsAgeIndexOfSome self.old.ages (ages_under self.old.lists) }
+        ensures ok { OnOk result ((ops : List AnyOp) → IsAgeIndex ops self.old.ages (ages_under self.old.lists)
+            → IsAgeIndex (ops ++ op.now ∷ []) self.new.ages (ages_under self.new.lists)) }
+        ensures err { OnErr result ((ops : List AnyOp) → IsAgeIndex ops self.old.ages (ages_under self.old.lists)
+            → IsAgeIndex ops self.new.ages (ages_under self.new.lists)) }
         ensures no_empty { HasNoEmpty key_cmp self.old.lists → HasNoEmpty key_cmp self.new.lists }
     {
+        let end = self.ages.len();
         let age = next_age(self.ages.as_slice())?;
         self.ages.push(age)?;
         let keys = keys(op);
         if let Err(fault) = add_age(&mut self.lists, self.alloc, &keys, age) {
             drop_age(&mut self.lists, &keys, age);
-            self.ages.pop();
+            self.ages.remove(end, 0);
             return Err(fault);
         }
         Ok(())
@@ -104,13 +107,13 @@ impl Index {
 
     /// The operation at the position less.
     pub fn remove(&mut self, op: &Op, position: usize)
-        requires within { position < length self.old.ages.items }
-        requires some { IsAgeIndexOfSome self.old.ages.items (ages_under self.old.lists) }
-        ensures index { (ops : List AnyOp) → IsAgeIndex ops self.old.ages.items (ages_under self.old.lists) → slice_get ops position ≡ Some op.now
-            → IsAgeIndex (without ops position) self.new.ages.items (ages_under self.new.lists) }
+        requires within { position < length self.old.ages }
+        requires some { IsAgeIndexOfSome self.old.ages (ages_under self.old.lists) }
+        ensures index { (ops : List AnyOp) → IsAgeIndex ops self.old.ages (ages_under self.old.lists) → slice_get ops position ≡ Some op.now
+            → IsAgeIndex (without ops position) self.new.ages (ages_under self.new.lists) }
         ensures no_empty { HasNoEmpty key_cmp self.old.lists → HasNoEmpty key_cmp self.new.lists }
     {
-        let age = self.ages.remove(position);
+        let age = self.ages.remove(position, 0);
         drop_age(&mut self.lists, &keys(op), age);
     }
 }

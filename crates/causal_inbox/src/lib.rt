@@ -7,13 +7,16 @@ mod greatest;
 mod inbox;
 mod index;
 mod key;
+mod keyed_lists;
 mod lists;
 mod push_fault;
+mod queue;
 
 pub use facts::Facts;
 pub use found::Found;
 pub use inbox::{Inbox, is_decided};
 pub use push_fault::PushFault;
+pub use queue::Queue;
 
 #[cfg(test)]
 mod tests;

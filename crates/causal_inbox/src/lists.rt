@@ -4,10 +4,12 @@ ghost use Rattle.std.specs.Prelude.{◌≡◌, slice_get, AllPairs, ◌<◌, OnO
 ghost use Rattle.causal_inbox.specs.Index.{added, dropped};
 ghost use Rattle.causal_inbox.specs.Key.{is_among};
 ghost use Rattle.causal_inbox.specs.Lists.{AllRise, Changed, FrontAdded, ages_under, key_cmp};
-ghost use Rattle.fugue_ids.specs.Keyed.{HasNoEmpty, IsReplaced};
+ghost use Rattle.causal_inbox.specs.Keyed.{HasNoEmpty};
+ghost use Rattle.fugue_ids.specs.Keyed.{IsReplaced};
 
 use crate::key::Key;
-use fugue_ids::{KeyedLists, NoMemory, insert_under, list_under, remove_under};
+use crate::keyed_lists::{KeyedLists, list_under, push_under, remove_under};
+use fugue_ids::NoMemory;
 use std::alloc::Global;
 
 /// The ages under each key, in order.
@@ -27,11 +29,10 @@ fn add_under(lists: &mut Lists, alloc: Global, key: Key, age: u64) -> Result<(),
     ensures no_empty { HasNoEmpty key_cmp lists.old → HasNoEmpty key_cmp lists.new }
 {
     let ages = list_under(lists, &key);
-    let end = ages.len();
     if ages.last().copied() == Some(age) {
         return Ok(());
     }
-    insert_under(lists, alloc, key, end, age)
+    push_under(lists, alloc, key, age)
 }
 
 /// The age under one key less.

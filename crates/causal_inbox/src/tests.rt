@@ -1,3 +1,5 @@
+mod queue_beside_vector;
+
 ghost use Rattle.std.specs.Prelude.{◌<◌};
 
 use super::*;
@@ -152,6 +154,39 @@ fn what_rests_on_an_element_is_found_as_operations_come_and_go(
         take_step(&mut inbox, rt.alloc(), ops.as_slice(), step)?;
         assert_eq!(rt; inbox.ops().len(), waiting, "{step:?}");
         assert_eq!(rt; inbox.nth_naming(id(1, 0), 0), named, "{step:?}");
+    }
+    Ok(())
+}
+
+/// A hundred operations, each of which rests on another element.
+fn fill(inbox: &mut Inbox) -> Result<(), NoMemory> {
+    for counter in 0..100 {
+        let op = text(id(1, counter), Some(id(2, counter)), 'a');
+        if inbox.push(op).is_err() {
+            return Err(NoMemory);
+        }
+    }
+    Ok(())
+}
+
+/// The first one leaves, and the next one is the first then. The answer is where the last one stands.
+fn leave_in_front(inbox: &mut Inbox, counter: u32) -> Option<usize> {
+    if inbox.ops().is_empty() || inbox.remove(0).id() != Some(id(1, counter)) {
+        return None;
+    }
+    inbox.nth_naming(id(2, 99), 0)
+}
+
+#[test]
+fn those_that_leave_in_front_leave_the_others_in_order(rt: HostRuntime) -> Result<(), Fail> {
+    let mut inbox = Inbox::new(rt.alloc(), 100);
+    fill(&mut inbox)?;
+    for counter in 0..99u32 {
+        let last = leave_in_front(&mut inbox, counter);
+        assert!(rt;
+            last == Some(98usize.saturating_sub(counter as usize)),
+            "{counter}"
+        );
     }
     Ok(())
 }

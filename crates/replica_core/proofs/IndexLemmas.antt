@@ -3,19 +3,17 @@ use Rattle.std.proofs.Common.{Bool, List, [], ap, arith, false, inl, inr, length
 use Rattle.std.specs.Prelude.{None, Option, Some, cond, is_some, option_map, slice_get}
 use Rattle.std.specs.FinMap.{FinMap, get, get-insert, get-remove, insert, remove}
 use Rattle.std.specs.Ordering.{is_eq}
-use Rattle.std.proofs.lemmas.Bool.{cases_Bool, false_from_ne_true, true≢false}
+use Rattle.std.proofs.lemmas.Bool.{cases_Bool, true≢false}
 use Rattle.std.proofs.lemmas.List.{length-reverse, reverse-append, reverse-reverse}
 use Rattle.fugue_ids.specs.Identifiers.{Identifier, id_cmp, origin_eq}
-use Rattle.fugue_ids.specs.Ops.{id_of, op_eq}
+use Rattle.fugue_ids.specs.Ops.{id_of}
 use Rattle.fugue_ids.proofs.IdentifierLemmas.{cases_id, id_at-other, id_at-same, id_eq-refl, ne-id_eq}
-use Rattle.fugue_ids.proofs.OpLemmas.{op_eq-refl, op_eq-true}
-use Rattle.std.proofs.lemmas.Option.{none-some}
 use Rattle.fugue_ids.specs.declared.op.Op.{Op}
 use Rattle.fugue_ids.specs.declared.op.Op.TheVariants.{Delete, Section, Text}
 use Rattle.origin_model.specs.operations.History.{has_op, holder, holds, is_own}
-use Rattle.origin_model.specs.operations.Verdict.{Lawful, id_held, verdict}
+use Rattle.origin_model.specs.operations.Verdict.{id_held, verdict}
 use Rattle.origin_model.specs.declared.operations.verdict.Verdict.TheVariants.{Ready}
-use Rattle.origin_model.proofs.SharedLemmas.{has-holder, holder-has, holder-other, holder-own, holds-other, holds-own, ready_absent, when_ready}
+use Rattle.origin_model.proofs.SharedLemmas.{holder-other, holder-own, holds-other, holds-own, owns, ready_absent, when_ready}
 use Rattle.replica_core.specs.Index.{ArePositions, IsIndex, IsUnnoted, as_position, is_delete_of, position_of}
 use Rattle.stretch_map.specs.Ahead.{ahead}
 use Rattle.stretch_map.specs.Rules.{IsFollowed, later}
@@ -61,9 +59,6 @@ no_delete : (op : Op) (i x : Identifier) → id_of op ≡ Some i → is_delete_o
 no_delete (Section j l r t) i x e = refl
 no_delete (Text j s l r c) i x e = refl
 no_delete (Delete t) i x e = cc
-
-pub owns : (op : Op) (i : Identifier) → id_of op ≡ Some i → is_own i op ≡ true
-owns op i is = ap (λ o. origin_eq o (Some i)) is ∙ id_eq-refl i
 
 -- the operation with the identifier i has no other one
 no_other : (op : Op) (i x : Identifier) → id_of op ≡ Some i → x ≢ i → is_own x op ≡ false
@@ -239,20 +234,3 @@ position_free m t h x index e = sym (none_from (holder h x) (sym (has_position h
 -- a target is found where a Delete names it
 pub target_held : (m t : FinMap id_cmp Position) (h : List Op) (x : Identifier) → IsIndex m t h → is_some (get t x) ≡ has_op h (Delete x)
 target_held m t h x index = ap is_some (index.targets_are x) ∙ is_some-as (position_of (is_delete_of x) h) ∙ has_target h x
-
--- two tests that hold together are one
-same_test : (a b : Bool) → (a ≡ true → b ≡ true) → (b ≡ true → a ≡ true) → a ≡ b
-same_test true b there back = sym (there refl)
-same_test false true there back = back refl
-same_test false false there back = refl
-
--- the holder of an operation's identifier decides whether it is there
-pub has_held : (h : List Op) (op o : Op) (i : Identifier) → Lawful h → id_of op ≡ Some i → Some o ≡ holder h i → op_eq o op ≡ has_op h op
-has_held h op o i w is e =
-    same_test (op_eq o op) (has_op h op)
-    (λ same. subst (λ x. has_op h x ≡ true) (op_eq-true o op same) (holder-has h i o (sym e)))
-    (λ there. subst (λ x. op_eq o x ≡ true) (some_same o op (e ∙ has-holder h i op w there (owns op i is))) (op_eq-refl o))
-
--- an operation whose identifier is not held is not there
-pub has_free : (h : List Op) (op : Op) (i : Identifier) → Lawful h → id_of op ≡ Some i → None ≡ holder h i → false ≡ has_op h op
-has_free h op i w is e = sym (false_from_ne_true (has_op h op) (λ there. none-some op (e ∙ has-holder h i op w there (owns op i is))))

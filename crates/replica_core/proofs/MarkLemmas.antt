@@ -1,13 +1,15 @@
 -- The marks of the waiting operations: how many are set, and what they say of those that wait.
-use Rattle.std.proofs.Common.{◌≡◌, refl, sym, ap, ◌∙◌, ◌+◌, ℕ, suc, List, [], ◌∷◌, ◌++◌, length, Bool, true, false, not, ltb, take, drop, arith}
+use Rattle.std.proofs.Common.{◌≡◌, ◌<◌, ◌≤◌, refl, sym, ap, ◌∙◌, ◌+◌, ◌-◌, ℕ, suc, min, List, [], ◌∷◌, ◌++◌, length, Bool, true, false, not, ltb, set, take, drop, get_or, inl, inr, arith}
 use Rattle.std.specs.Prelude.{Option, Some, None, All, cond, count_by, position, remove}
 use Rattle.std.specs.List.{position_or_len}
-use Rattle.std.proofs.lemmas.List.{length-map, map-append, take-map, drop-map}
+use Rattle.std.proofs.lemmas.Bool.{cases_eq, cases_lt}
+use Rattle.std.proofs.lemmas.List.{get_or-set_other, get_or-set_same, get_or_append_left, length-map, length-set, map-append, take-map, drop-map}
+use Rattle.std.proofs.lemmas.List.Edits.{get_or-remove_above, get_or-remove_below, length-remove}
 use Rattle.std.proofs.lemmas.List.Elements.{All-nil, All-cons, All-head, All-tail, All-map}
-use Rattle.std.proofs.lemmas.List.Sums.{sum_by-cons}
+use Rattle.std.proofs.lemmas.List.Sums.{get_or-le-sum_by, sum_by-cons, sum_by-remove, sum_by-set, sum_by_push}
 use Rattle.fugue_ids.specs.declared.op.Op.{Op}
 use Rattle.origin_model.specs.taking.Taking.{decided_on}
-use Rattle.replica_core.specs.Due.{due_marks}
+use Rattle.replica_core.specs.Due.{IsClearBefore, due_marks}
 
 count-cons : (mark : Bool) (marks : List Bool) → count_by (λ m. m) (mark ∷ marks) ≡ cond mark 1 0 + count_by (λ m. m) marks
 count-cons mark marks = sum_by-cons (λ m. cond m 1 0) mark marks
@@ -25,6 +27,61 @@ none_counted (mark ∷ marks) clear =
     let front : mark ≡ false = All-head (λ m. m ≡ false) mark marks clear in
     let rest : count_by (λ m. m) marks ≡ 0 = none_counted marks (All-tail (λ m. m ≡ false) mark marks clear) in
     count-cons mark marks ∙ (rw (front, rest) refl)
+
+-- a mark that is counted
+pub counted_at : (marks : List Bool) (p : ℕ) → p < length marks → cond (get_or marks p false) 1 0 ≤ count_by (λ m. m) marks
+counted_at marks p within = get_or-le-sum_by (λ m. cond m 1 0) marks p false within
+
+-- the count after a mark is set or not
+pub counted_put : (marks : List Bool) (p : ℕ) (mark : Bool) → p < length marks
+    → count_by (λ m. m) (set marks p mark) + cond (get_or marks p false) 1 0 ≡ count_by (λ m. m) marks + cond mark 1 0
+counted_put marks p mark within = sum_by-set (λ m. cond m 1 0) marks p mark false within
+
+-- one mark less counts as one that is not set
+pub counted_removed : (marks : List Bool) (p : ℕ) → p < length marks → count_by (λ m. m) (set marks p false) ≡ count_by (λ m. m) (remove marks p)
+counted_removed marks p within = omega (arith, counted_put marks p false within, sum_by-remove (λ m. cond m 1 0) marks p false within)
+
+-- one more that is not set is not counted
+pub counted_pushed : (marks : List Bool) → count_by (λ m. m) (marks ++ false ∷ []) ≡ count_by (λ m. m) marks
+counted_pushed marks = omega (arith, sum_by_push (λ m. cond m 1 0) marks false)
+
+-- the marks in front after one is set or not
+pub clear_put : (marks : List Bool) (clear n p : ℕ) (mark : Bool) → IsClearBefore clear marks → clear ≤ length marks → n ≡ cond mark (min clear p) clear → IsClearBefore n (set marks p mark)
+clear_put marks clear n p true front within is k below =
+    get_or-set_other marks p k true false (λ same. omega (arith, is, below, same)) ∙ front k (omega (arith, is, below))
+clear_put marks clear n p false front within is k below = elim (cases_eq k p) [
+  | inl same ↦ ap (λ j. get_or (set marks p false) j false) same ∙ get_or-set_same marks p false false (omega (arith, is, below, within, same))
+  | inr other ↦ get_or-set_other marks p k false false other ∙ front k (omega (arith, is, below))
+]
+
+-- they are marks that are there
+pub clear_within : (marks put : List Bool) (clear n p : ℕ) (mark : Bool) → clear ≤ length marks → n ≡ cond mark (min clear p) clear → put ≡ set marks p mark → n ≤ length put
+clear_within marks put clear n p true within is same = omega (arith, within, is, ap length same, length-set marks p true)
+clear_within marks put clear n p false within is same = omega (arith, within, is, ap length same, length-set marks p false)
+
+-- the marks in front with one mark less
+pub clear_removed : (marks : List Bool) (clear n p : ℕ) → IsClearBefore clear marks → p < length marks → (p < clear → n ≡ clear - 1) → (clear ≤ p → n ≡ clear) → IsClearBefore n (remove marks p)
+clear_removed marks clear n p front within before behind k below = elim (cases_lt p clear) [
+  | inl in_front ↦ elim (cases_lt k p) [
+    | inl lower ↦ get_or-remove_below marks p false k lower within ∙ front k (omega (arith, lower, in_front))
+    | inr higher ↦ get_or-remove_above marks p false k higher within ∙ front (k + 1) (omega (arith, below, before in_front))
+  ]
+  | inr past ↦ get_or-remove_below marks p false k (omega (arith, below, behind past, past)) within ∙ front k (omega (arith, below, behind past))
+]
+
+-- they are marks that are left
+pub clear_left : (marks left : List Bool) (clear n p : ℕ) → clear ≤ length marks → p < length marks → (p < clear → n ≡ clear - 1) → (clear ≤ p → n ≡ clear) → left ≡ remove marks p
+    → n ≤ length left
+clear_left marks left clear n p within there before behind same =
+    let one_less : length (remove marks p) + 1 ≡ length marks = length-remove marks p there in
+    elim (cases_lt p clear) [
+      | inl in_front ↦ omega (arith, within, one_less, ap length same, before in_front)
+      | inr past ↦ omega (arith, there, one_less, ap length same, behind past, past)
+    ]
+
+-- the marks in front with one mark more
+pub clear_pushed : (marks : List Bool) (clear : ℕ) (mark : Bool) → IsClearBefore clear marks → clear ≤ length marks → IsClearBefore clear (marks ++ mark ∷ [])
+clear_pushed marks clear mark front within k below = get_or_append_left marks (mark ∷ []) false k (omega (arith, below, within)) ∙ front k below
 
 -- no mark is set exactly where nothing that waits is decided
 pub clear_settled : (h w : List Op) → All (λ m. m ≡ false) (due_marks h w) → All (λ op. decided_on h op ≡ false) w

@@ -1,5 +1,7 @@
-ghost use Rattle.std.specs.Prelude.{◌≡◌, ◌<◌, ◌≤◌, ◌↔◌, ◌+◌, ◌-◌, ◌^◌, ◌++◌, ◌∷◌, [], false, if◌then◌else◌, length, position as first_position, set as with_mark, remove, OnOk, OnErr, IsTrue, All};
+ghost use Rattle.std.specs.Prelude.{◌≡◌, ◌<◌, ◌≤◌, ◌↔◌, ◌-◌, ◌++◌, ◌∷◌, [], false, if◌then◌else◌, count_by, length, position as first_position, set as with_mark, remove, min, OnOk, OnErr, IsTrue, All};
+ghost use Rattle.replica_core.specs.Due.{IsClearBefore};
 
+use causal_inbox::Queue;
 use fugue_ids::NoMemory;
 use std::alloc::Global;
 use std::marker::Model;
@@ -7,19 +9,26 @@ use std::marker::Model;
 /// Which of the waiting operations can leave: a mark for each of them, in their order.
 #[derive(Drop)]
 pub(crate) struct Due {
-    marks: Vec<bool>,
+    marks: Queue<bool>,
     /// How many marks are set, so that nothing is looked through where none is.
     count: usize,
+    /// How many marks in front are known not to be set, so that they are looked through once.
+    clear: usize,
 }
 
 impl Model for Due {
-    ghost use Rattle.std.specs.Prelude.{◌≡◌, Bool, List, count_by};
+    ghost use Rattle.std.specs.Prelude.{◌≡◌, ◌≤◌, Bool, List, count_by, length};
+    ghost use Rattle.replica_core.specs.Due.{IsClearBefore};
 
     ghost Value = { List Bool };
 
-    ghost view = { λ due. due.marks.items };
+    ghost view = { λ due. due.marks };
 
-    ghost invariant = { λ due. due.count ≡ count_by (λ mark. mark) due.marks.items };
+    ghost invariant = { λ due. record {
+      counted : due.count ≡ count_by (λ mark. mark) due.marks;
+      front : IsClearBefore due.clear due.marks;
+      within : due.clear ≤ length due.marks;
+    } };
 }
 
 impl Due {
@@ -27,8 +36,9 @@ impl Due {
         ensures { result ≡ [] }
     {
         Due {
-            marks: Vec::new(alloc),
+            marks: Queue::new(alloc),
             count: 0,
+            clear: 0,
         }
     }
 
@@ -40,13 +50,16 @@ impl Due {
     }
 
     /// The position of the first mark that is set.
-    pub fn first(&self) -> Option<usize>
-        ensures { result ≡ first_position (λ mark. mark) self.now }
+    pub fn first(&mut self) -> Option<usize>
+        ensures first { result ≡ first_position (λ mark. mark) self.old }
+        ensures same { self.new ≡ self.old }
     {
         if self.is_clear() {
             return None;
         }
-        self.marks.iter().position(|mark| *mark)
+        let position = first_behind(self.marks.as_slice(), self.clear)?;
+        self.clear = position;
+        Some(position)
     }
 
     /// One more mark, which is not set.
@@ -63,9 +76,9 @@ impl Due {
         requires { position < length self.old }
         ensures { self.new ≡ with_mark self.old position mark }
     {
-        let before = self.marks[position];
-        self.marks[position] = mark;
-        self.count = changed(self.count, before, mark);
+        self.count = count_with(self.marks.as_slice(), self.count, position, mark);
+        self.clear = clear_with(self.clear, position, mark);
+        self.marks.put(position, mark);
     }
 
     /// One mark less. Those behind it close up.
@@ -73,17 +86,52 @@ impl Due {
         requires { position < length self.old }
         ensures { self.new ≡ remove self.old position }
     {
-        let before = self.marks.remove(position);
-        self.count = changed(self.count, before, false);
+        self.count = count_with(self.marks.as_slice(), self.count, position, false);
+        self.clear = clear_without(self.clear, position);
+        self.marks.remove(position, false);
     }
 }
 
-/// The number of marks that are set, after one that was `before` became `after`.
-fn changed(count: usize, before: bool, after: bool) -> usize
-    requires counted { (if before then 1 else 0) ≤ count }
-    requires room { count < 2 ^ 64 - 1 }
-    ensures { result + (if before then 1 else 0) ≡ count + (if after then 1 else 0) }
+/// The position of the first mark that is set.
+fn first_set(marks: &[bool]) -> Option<usize>
+    ensures { result ≡ first_position (λ mark. mark) marks.now }
 {
-    let others = if before { count - 1 } else { count };
-    if after { others + 1 } else { others }
+    marks.iter().position(|mark| *mark)
+}
+
+/// The same, where none of the first `clear` is.
+fn first_behind(marks: &[bool], clear: usize) -> Option<usize>
+    requires within { clear ≤ length marks.now }
+    requires front { IsClearBefore clear marks.now }
+    ensures { result ≡ first_position (λ mark. mark) marks.now }
+{
+    match first_set(&marks[clear..]) {
+        Some(position) => Some(clear + position),
+        None => None,
+    }
+}
+
+/// How many marks in front are not set, after the one at the position is set or not.
+fn clear_with(clear: usize, position: usize, mark: bool) -> usize
+    ensures { result ≡ (if mark then min clear position else clear) }
+{
+    if mark { clear.min(position) } else { clear }
+}
+
+/// The same after the one at the position is no more there.
+fn clear_without(clear: usize, position: usize) -> usize
+    ensures before { position < clear → result ≡ clear - 1 }
+    ensures behind { clear ≤ position → result ≡ clear }
+{
+    if position < clear { clear - 1 } else { clear }
+}
+
+/// How many marks are set, after the one at the position is set or not.
+fn count_with(marks: &[bool], count: usize, position: usize, mark: bool) -> usize
+    requires within { position < length marks.now }
+    requires counted { count ≡ count_by (λ mark. mark) marks.now }
+    ensures { result ≡ count_by (λ mark. mark) (with_mark marks.now position mark) }
+{
+    let others = if marks[position] { count - 1 } else { count };
+    if mark { others + 1 } else { others }
 }

@@ -1,5 +1,4 @@
 ghost use Rattle.std.specs.Prelude.{◌≡◌, ◌≢◌, ◌<◌, ◌∷◌, [], Some, OnErr, OnOk, IfErr, option_copied, slice_get};
-ghost use Rattle.fugue_ids.specs.Ops.{op_eq};
 ghost use Rattle.origin_model.specs.operations.History.{accepted};
 ghost use Rattle.origin_model.specs.operations.Counters.{counters, IsGreatest};
 ghost use Rattle.origin_model.specs.operations.Verdict.{verdict, Lawful};
@@ -40,12 +39,6 @@ fn op_at(ops: &[Op], position: usize) -> Option<&Op>
     ops.get(position)
 }
 
-fn equals(a: &Op, b: &Op) -> bool
-    ensures { result ≡ op_eq a.now b.now }
-{
-    *a == *b
-}
-
 impl Lookup for History {
     ghost history = { λ history. history };
 
@@ -56,15 +49,8 @@ impl Lookup for History {
         }
     }
 
-    #[tactic(auto, using(crate::proofs::IndexLemmas::has_free))]
-    fn contains(&self, op: &Op) -> bool {
-        match op {
-            Op::Section { id, .. } | Op::Text { id, .. } => match self.holder(*id) {
-                Some(other) => equals(other, op),
-                None => false,
-            },
-            Op::Delete { target } => self.index.is_target(*target),
-        }
+    fn has_delete(&self, target: ElementId) -> bool {
+        self.index.is_target(target)
     }
 }
 

@@ -108,6 +108,7 @@ impl Replica {
         self.due.is_clear()
     }
 
+    /// The replica that the operations of its edits are of.
     pub fn number(&self) -> u32
         ensures number { result ≡ self.now.number }
         ensures stands { Stands self.now }

@@ -2,7 +2,7 @@ use Rattle.std.proofs.Common.{take}
 use Rattle.causal_inbox.specs.Index.{added}
 use Rattle.causal_inbox.specs.Key.{is_among}
 use Rattle.causal_inbox.specs.Lists.{Changed, ages_under, key_cmp}
-use Rattle.fugue_ids.specs.Keyed.{HasNoEmpty}
+use Rattle.causal_inbox.specs.Keyed.{HasNoEmpty}
 use Rattle.causal_inbox.proofs.lists.add_age.Given as goal
 
 -- the age stands under each of the keys so far, and no list is empty

@@ -6,6 +6,6 @@ use Rattle.causal_inbox.proofs.inbox.Inbox.nth_naming.Goals as goal
 
 pub returns : goal.returns
 returns c =
-    c.nth.ensures c.self.inside.ops.items c.self.invariant.index
-    ∙ ap (λ key. slice_get (positions_with key c.self.inside.ops.items) c.args.k) c.named_key.ensures
+    c.nth.ensures c.self.inside.ops c.self.invariant.index
+    ∙ ap (λ key. slice_get (positions_with key c.self.inside.ops) c.args.k) c.named_key.ensures
     ∙ ap (λ w. slice_get (naming c.args.id w.ops) c.args.k) c.self.view_is

@@ -7,7 +7,7 @@ use Rattle.causal_inbox.proofs.index.Index.nth.Goals as goal
 
 pub returns-in-Some : goal.returns-in-Some
 returns-in-Some c = λ ops index.
-    ap Some (c.position.ensures ∙ ap (position_or_len (λ b. nat_eq b c.in-Some.age)) c.as_slice.ensures.value)
+    ap Some (c.position.ensures ∙ ap (position_or_len (λ b. nat_eq b c.in-Some.age)) c.as_slice.ensures)
     ∙ sym (index_nth ops _ _ _ c.args.k index ∙ ap (option_map _) (sym c.nth_age.ensures ∙ c.in-Some.is))
 
 pub returns-in-None : goal.returns-in-None

@@ -4,16 +4,16 @@ use Rattle.origin_model.specs.operations.History.{holder}
 use Rattle.replica_core.proofs.IndexLemmas.{position_free, position_held}
 use Rattle.replica_core.proofs.history.HistoryLookup.holder.Goals as goal
 
-pub returns-in-Some : goal.returns-in-Some
-returns-in-Some c =
+pub returns-in-Some-clause-held : goal.returns-in-Some-clause-held
+returns-in-Some-clause-held c =
     let inside = c.self.inside in
     c.op_at.ensures
     ∙ ap (λ ops. slice_get ops c.in-Some.position) c.deref.ensures.value
     ∙ position_held inside.index.positions.values inside.index.targets.values inside.ops.items c.args.id c.in-Some.position c.self.invariant.indexed (sym c.in-Some.is ∙ c.position.ensures)
     ∙ ap (λ h. holder h c.args.id) c.self.view_is
 
-pub returns-in-None : goal.returns-in-None
-returns-in-None c =
+pub returns-in-None-clause-held : goal.returns-in-None-clause-held
+returns-in-None-clause-held c =
     let inside = c.self.inside in
     position_free inside.index.positions.values inside.index.targets.values (reverse inside.ops.items) c.args.id c.self.invariant.indexed (sym c.in-None.is ∙ c.position.ensures)
     ∙ ap (λ h. holder h c.args.id) c.self.view_is

@@ -7,7 +7,8 @@ use Rattle.origin_model.specs.operations.History.{is_own}
 use Rattle.origin_model.specs.operations.Verdict.{verdict}
 use Rattle.origin_model.specs.declared.operations.verdict.Verdict.TheVariants.{Ready}
 use Rattle.replica_core.specs.Index.{IsIndex, is_delete_of}
-use Rattle.replica_core.proofs.IndexLemmas.{forgot_position, forgot_target, last_position, owns}
+use Rattle.origin_model.proofs.SharedLemmas.{owns}
+use Rattle.replica_core.proofs.IndexLemmas.{forgot_position, forgot_target, last_position}
 use Rattle.stretch_map.proofs.ResultLemmas.{ok_gives}
 use Rattle.replica_core.proofs.index.Index.forget.Goals as goal
 

@@ -16,8 +16,8 @@ returns-in_default-clause-step c =
     let Settled : State → Type 0 = λ s. IsSettled s.held in (
       subst Settled c.self.view_is
           (none_left (record { history = c.self.inside.accepted; waiting = c.self.inside.inbox.ops }) c.first.result
-          (c.first.ensures ∙ first_due c.self.inside.accepted c.self.inside.inbox.ops c.self.inside.due c.self.invariant.marks) c.in_default.not-Some),
-      refl,
+          (c.first.ensures.first ∙ first_due c.self.inside.accepted c.self.inside.inbox.ops c.self.inside.due c.self.invariant.marks) c.in_default.not-Some),
+      ap (λ (s : State). s.held) c.self.view_is,
     )
 
 on_err : {E T P : Type 0} (result : Result T E) → P → OnErr result P
@@ -31,7 +31,7 @@ returns-in_err-copy-in-Ready-clause-wanting c =
     let Next : State → Type 0 = λ s. OnErr c.from_residual.result (JoinsNext s.held) in
     subst Next c.self.view_is
     (on_err c.from_residual.result (joins_next (record { history = h; waiting = w }) c.in-Some.position c.index-ops-position.result c.ops.result.now
-    (due_position h w c.self.inside.due c.first.result c.in-Some.position c.self.invariant.marks c.first.ensures c.in-Some.is)
+    (due_position h w c.self.inside.due c.first.result c.in-Some.position c.self.invariant.marks c.first.ensures.first c.in-Some.is)
     c.ops.ensures.ops c.index-ops-position.is (sym c.verdict.ensures ∙ c.in-Ready.is)))
 
 pub returns-in_default-accept-clause-wanting : goal.returns-in_default-accept-clause-wanting
@@ -41,7 +41,7 @@ returns-in_default-accept-clause-wanting c =
     let Next : State → Type 0 = λ s. JoinsNext s.held in
     subst Next c.self.view_is
     (joins_next (record { history = h; waiting = w }) c.in-Some.position c.index-ops-position.result c.ops.result.now
-    (due_position h w c.self.inside.due c.first.result c.in-Some.position c.self.invariant.marks c.first.ensures c.in-Some.is)
+    (due_position h w c.self.inside.due c.first.result c.in-Some.position c.self.invariant.marks c.first.ensures.first c.in-Some.is)
     c.ops.ensures.ops c.index-ops-position.is (sym c.verdict.ensures ∙ c.in-Ready.is))
 
 -- the step of an operation that was Ready, before the others are woken
@@ -53,14 +53,14 @@ joins c =
     let w : List Op = c.self.inside.inbox.ops in
     let s : State = record { number = c.self.inside.number; hold = c.self.inside.hold; most = c.self.inside.most; held = record { history = h; waiting = w } } in
     accepted_step s c.self.inside.inbox c.leave-op.new.inbox c.in-Some.position c.index-ops-position.result c.leave-op.result c.ops.result.now c.accept.new.self
-    refl (due_position h w c.self.inside.due c.first.result c.in-Some.position c.self.invariant.marks c.first.ensures c.in-Some.is) c.ops.ensures.ops c.index-ops-position.is
+    refl (due_position h w c.self.inside.due c.first.result c.in-Some.position c.self.invariant.marks c.first.ensures.first c.in-Some.is) c.ops.ensures.ops c.index-ops-position.is
     (sym c.verdict.ensures ∙ c.in-Ready.is)
     (c.in-Ok.ensures.ok ∙ ap (λ (o : Op). o ∷ h) c.in_ok-copy-in-Ready.ensures) c.leave-op.ensures.op c.leave-op.ensures.rest c.self.invariant.stands
 
 pub wake-requires-clause-marks : goal.wake-requires-clause-marks
 wake-requires-clause-marks c =
-    marks_left c.self.inside.accepted c.self.inside.inbox.ops (drop 1 c.accept.new.self) c.leave-op.new.inbox.ops c.in-Some.position c.self.inside.due c.leave-op.new.due
-    c.self.invariant.marks c.leave-op.ensures.mark (ap (λ (l : List Op). drop 1 l) c.in-Ok.ensures.ok) (ap (λ (i : Waiting). i.ops) c.leave-op.ensures.rest)
+    marks_left c.self.inside.accepted c.self.inside.inbox.ops (drop 1 c.accept.new.self) c.leave-op.new.inbox.ops c.in-Some.position c.first.new.self c.leave-op.new.due
+    (c.first.ensures.same ∙ c.self.invariant.marks) c.leave-op.ensures.mark (ap (λ (l : List Op). drop 1 l) c.in-Ok.ensures.ok) (ap (λ (i : Waiting). i.ops) c.leave-op.ensures.rest)
 
 pub wake-requires-clause-once : goal.wake-requires-clause-once
 wake-requires-clause-once c = (joins c).stands.once
@@ -79,7 +79,7 @@ joined c =
       most = c.self.inside.most;
       held = record { history = c.self.inside.accepted; waiting = c.self.inside.inbox.ops };
     } in
-    let position = due_position c.self.inside.accepted c.self.inside.inbox.ops c.self.inside.due c.first.result c.in-Some.position c.self.invariant.marks c.first.ensures c.in-Some.is in
+    let position = due_position c.self.inside.accepted c.self.inside.inbox.ops c.self.inside.due c.first.result c.in-Some.position c.self.invariant.marks c.first.ensures.first c.in-Some.is in
     accepted_step s c.self.inside.inbox c.leave-op.new.inbox c.in-Some.position c.index-ops-position.result c.leave-op.result c.ops.result.now c.accept.new.self
     refl position c.ops.ensures.ops c.index-ops-position.is
     (sym c.verdict.ensures ∙ c.in-Ready.is)
@@ -109,7 +109,7 @@ dropped c =
     let w : List Op = c.self.inside.inbox.ops in
     let s : State = record { number = c.self.inside.number; hold = c.self.inside.hold; most = c.self.inside.most; held = record { history = h; waiting = w } } in
     dropped_step s c.self.inside.inbox c.leave-op-in_default-verdict.new.inbox c.in-Some.position c.index-ops-position.result c.leave-op-in_default-verdict.result c.ops.result.now
-    refl (due_position h w c.self.inside.due c.first.result c.in-Some.position c.self.invariant.marks c.first.ensures c.in-Some.is) c.ops.ensures.ops c.index-ops-position.is
+    refl (due_position h w c.self.inside.due c.first.result c.in-Some.position c.self.invariant.marks c.first.ensures.first c.in-Some.is) c.ops.ensures.ops c.index-ops-position.is
     (λ ready. c.in_default-verdict.not-Ready (c.verdict.ensures ∙ ready))
     c.leave-op-in_default-verdict.ensures.op c.leave-op-in_default-verdict.ensures.rest c.self.invariant.stands
 
@@ -117,8 +117,8 @@ pub invariant_of-self-in_default-verdict : goal.invariant_of-self-in_default-ver
 invariant_of-self-in_default-verdict c = record {
   same_hold = ap (λ (i : Waiting). i.hold) c.leave-op-in_default-verdict.ensures.rest ∙ c.self.invariant.same_hold;
   stands = (dropped c).stands;
-  marks = marks_left c.self.inside.accepted c.self.inside.inbox.ops c.self.inside.accepted c.leave-op-in_default-verdict.new.inbox.ops c.in-Some.position c.self.inside.due
-      c.leave-op-in_default-verdict.new.due c.self.invariant.marks c.leave-op-in_default-verdict.ensures.mark refl (ap (λ (i : Waiting). i.ops) c.leave-op-in_default-verdict.ensures.rest);
+  marks = marks_left c.self.inside.accepted c.self.inside.inbox.ops c.self.inside.accepted c.leave-op-in_default-verdict.new.inbox.ops c.in-Some.position c.first.new.self
+      c.leave-op-in_default-verdict.new.due (c.first.ensures.same ∙ c.self.invariant.marks) c.leave-op-in_default-verdict.ensures.mark refl (ap (λ (i : Waiting). i.ops) c.leave-op-in_default-verdict.ensures.rest);
 }
 
 pub returns-in_default-verdict : goal.returns-in_default-verdict
