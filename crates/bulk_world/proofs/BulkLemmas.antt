@@ -17,7 +17,8 @@ use Rattle.fugue_ids.specs.declared.limits.TheConstants.{MOST_OPERATIONS}
 use Rattle.bulk_world.specs.Turns.{Leads, all_turns, among, authors, bulk_world, delivers, events, hearing, made_over, opened, opening, turns}
 use Rattle.bulk_world.specs.Summary.{summary, told_of}
 use Rattle.bulk_world.proofs.TurnLemmas.{IsTurned, numbered, turned}
-use Rattle.bulk_world.proofs.HearingLemmas.{IsPooled, behind_first, behind_first_of, first_accepted, first_hears, made_pooled, second_hears}
+use Rattle.origin_model.proofs.SharedLemmas.{first_accepted}
+use Rattle.bulk_world.proofs.HearingLemmas.{IsPooled, behind_first, behind_first_of, first_hears, made_pooled, second_hears}
 
 -- the section of both
 abbrev pub the_section : Op

@@ -5,3 +5,5 @@ pub mod WorldLemmas
 pub mod CallLemmas
 pub mod ListLawLemmas
 mod Examples
+mod PassageExamples
+mod PremiseExamples
