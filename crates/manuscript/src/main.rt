@@ -22,7 +22,7 @@ fn words(rt: &(impl Env + AllocGlobal), names: usize) -> io::Result<Vec<String>>
 
 /// Takes the least numbers that are free for files: those of the standard streams that are closed, where some are.
 ///
-/// A file that is opened while these stand gets another number, so that no standard stream reads or writes it.
+/// A file or a socket that is opened while these stand gets another number, so that no standard stream reads or writes it.
 fn take_least_numbers(rt: &HostRuntime) -> [io::Result<File>; 3] {
     [open_root(rt), open_root(rt), open_root(rt)]
 }
@@ -66,10 +66,9 @@ fn run_on_process(rt: &HostRuntime, names: usize) -> Status {
     let taken = take_least_numbers(rt);
     let mut home = open_home(rt, &words);
     let mut guest = open_guest(rt, &words);
-    drop(taken);
     let mut wire = TcpWire::new(*rt);
     let mut dock = TcpDock::new(*rt);
-    run(
+    let status = run(
         rt.alloc(),
         &words,
         &mut input,
@@ -80,7 +79,9 @@ fn run_on_process(rt: &HostRuntime, names: usize) -> Status {
         &mut wire,
         &mut dock,
         hasher,
-    )
+    );
+    drop(taken);
+    status
 }
 
 fn main(rt: HostRuntime) -> ExitCode {

@@ -40,8 +40,8 @@ module _ (text : Held → List ℕ) (file : Change DiskView) (replica : Replica)
   same_found told other is = text_once text file.old told (Does bytes) other found is
 
   meets : (end : Status) → TextMeets bytes output notes end → FileOutMeets text file output notes end
-  meets status.Done came = record { bytes = bytes; found = found; came = came }
-  meets status.OutsideFault came = inr (record { bytes = bytes; found = found; came = came })
+  meets status.Done came = record { bytes = bytes; found = found; synced = loaded.synced; came = came }
+  meets status.OutsideFault came = inr (record { bytes = bytes; found = found; synced = loaded.synced; came = came })
   meets status.NoMemory came = came
   meets _ came = absurd came
 

@@ -8,7 +8,7 @@ use Rattle.origin_model.specs.relay.Relay.{Relay, new_relay}
 use Rattle.outer_ports.specs.dock.Docks.{DockView, out_to}
 use Rattle.outer_ports.specs.declared.dock.mem_step.MemStep.{MemStep}
 use Rattle.relay_core.specs.declared.relay.TheConstants.{MOST_LOGGED}
-use Rattle.relay_sync.specs.Serving.{BlamesDock, Comes, GaveSteps, Lasts, NoneAfter, Serves, ServesPartly, ServingStops, Spends, Suffices, Turn, closed_in, count_over, ends_behind, sent_to, steps_of}
+use Rattle.relay_sync.specs.Serving.{BlamesDock, Comes, GaveSteps, Lasts, NoneAfter, Serves, ServesPartly, ServingStops, Spends, StopsInTurn, Suffices, Turn, closed_in, count_over, ends_behind, sent_to, steps_of}
 use Rattle.relay_sync.specs.declared.serve_fault.ServeFault.{ServeFault}
 use Rattle.relay_sync.specs.declared.serve_fault.ServeFault.TheVariants as serve_fault
 use Rattle.manuscript_cli.specs.Printing.{NoteMeets}
@@ -74,14 +74,6 @@ module _ (first second last : DockView) (idle : IsIdle first second) (later : fi
     calm = λ lasts. spends_from fault partly.more turns lasts (partly.calm (lasts_on turns lasts));
   }
 
-  stops_from : (sessions : ℕ) (fault : ServeFault) (old new : Relay) → ServingStops sessions fault old new second last → ServingStops sessions fault old new first last
-  stops_from sessions fault old new stops = record {
-    turns = stops.turns;
-    partly = serves_partly_from fault old new stops.turns stops.partly;
-    none_after = stops.none_after;
-    not_over = λ lasts is. stops.not_over (lasts_on stops.turns lasts) is;
-  }
-
   -- what suffices still does
   suffices_on : (sessions : ℕ) (relay : Relay) → Suffices sessions relay first → Suffices sessions relay second
   suffices_on sessions relay s = record {
@@ -92,6 +84,28 @@ module _ (first second last : DockView) (idle : IsIdle first second) (later : fi
     runs = s.runs;
     over = s.over;
     lasts = lasts_on s.turns s.lasts;
+  }
+
+module _ (first second last : DockView) (idle : IsIdle first second) (later : first.faults ≤ second.faults) where
+  in_turn_from : (fault : ServeFault) (old new : Relay) (turns : List Turn) → StopsInTurn fault old new second last turns → StopsInTurn fault old new first last turns
+  in_turn_from fault old new turns so = record {
+    served = so.served;
+    between = so.between;
+    middle = so.middle;
+    serves = serves_from first second so.middle idle later old so.between so.served so.serves;
+    stops = so.stops;
+    turns_are = so.turns_are;
+  }
+
+  stops_from : (sessions steps : ℕ) (fault : ServeFault) (old new : Relay) → ServingStops sessions steps fault old new second last → ServingStops sessions steps fault old new first last
+  unfolding serves_partly_from
+  stops_from sessions steps fault old new stops = record {
+    turns = stops.turns;
+    partly = serves_partly_from first second last idle later fault old new stops.turns stops.partly;
+    few = stops.few;
+    in_turn = in_turn_from fault old new stops.turns stops.in_turn;
+    none_after = stops.none_after;
+    not_over = λ lasts is. stops.not_over (lasts_on first second last idle later stops.turns lasts) is;
   }
 
 -- a dock that is listening suffices as before
@@ -122,16 +136,16 @@ module _ (port sessions : ℕ) (output : Change OutView) (dock : Change DockView
 
   pub not_all_served : (fault : ServeFault) (result : Result (Unit {0}) ServeFault) → result ≡ Err fault
       → (result ≡ Err serve_fault.TooLong → (turns : List Turn) × Serves (new_relay MOST_LOGGED) relay second dock.new turns × (count_over turns < sessions) × NoneAfter sessions turns × (length turns ≡ most_steps))
-      → ServingStops sessions fault (new_relay MOST_LOGGED) relay second dock.new → (result ≡ Err serve_fault.DockFault → Rose second.faults dock.new.faults)
+      → ServingStops sessions most_steps fault (new_relay MOST_LOGGED) relay second dock.new → (result ≡ Err serve_fault.DockFault → Rose second.faults dock.new.faults)
       → ServingMeets port sessions output dock (Err (serve_refusal fault))
   not_all_served serve_fault.DockFault result is long partly rose =
       inr (inr (record {
         ready = ready;
-        partly = record { relay = relay; stops = stops_from (listening port dock.old) second dock.new idle later sessions serve_fault.DockFault (new_relay MOST_LOGGED) relay partly };
+        partly = record { relay = relay; stops = stops_from (listening port dock.old) second dock.new idle later sessions most_steps serve_fault.DockFault (new_relay MOST_LOGGED) relay partly };
         rose = omega (arith, rose is, later);
       }))
   not_all_served serve_fault.NoMemory result is long partly rose =
-      (ready, record { relay = relay; stops = stops_from (listening port dock.old) second dock.new idle later sessions serve_fault.NoMemory (new_relay MOST_LOGGED) relay partly })
+      (ready, record { relay = relay; stops = stops_from (listening port dock.old) second dock.new idle later sessions most_steps serve_fault.NoMemory (new_relay MOST_LOGGED) relay partly })
   not_all_served serve_fault.TooLong result is long partly rose =
       let so = long is in (
         ready,

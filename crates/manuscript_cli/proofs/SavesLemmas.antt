@@ -4,6 +4,8 @@ use Rattle.std.specs.Prelude.{◌⊎◌, Ok, Err}
 use Rattle.fugue_ids.specs.Causes.{Rose}
 use Rattle.fugue_ids.specs.Outs.{OutView}
 use Rattle.outer_ports.specs.disk.Disks.{DiskView}
+use Rattle.outer_ports.specs.disk.Moments.{after}
+use Rattle.outer_ports.specs.disk.States.{settled}
 use Rattle.manuscript_cli.specs.Crashes.{IsFinished, NeverTorn}
 use Rattle.manuscript_cli.specs.Files.{FileRefuses, KeepsFile, LoadFailed}
 use Rattle.manuscript_cli.specs.Findings.{Finding, Refuses, Does, IsDecided}
@@ -53,7 +55,7 @@ module _ (giver : Giver) (once : GivesOnce giver) (file : Change DiskView) where
   abbrev Causes : Refusal → Type 0
   Causes why = ((why ≡ refusal.Outside) × SomeFailed) ⊎ ((why ≡ refusal.NoMemory) × KeepsFile file) ⊎ IsFound why
 
-  found_so : (why : Refusal) → SavingFound giver file.old (Refuses why) × KeepsFile file → status_of why ≢ status.OutsideFault → (IsFinished (status_of why) → ⊥) → Causes why
+  found_so : (why : Refusal) → SavingFound giver file.old (Refuses why) × KeepsFile file × (FileRefuses file.old why ⊎ (file.new.past ≡ after settled file.old.past)) → status_of why ≢ status.OutsideFault → (IsFinished (status_of why) → ⊥) → Causes why
   found_so why stops inside not_done = inr (inr (record { found = stops.0; keeps = stops.1; inside = inside; not_done = not_done }))
 
   -- a status that is neither Done nor Partial
@@ -111,6 +113,12 @@ module _ (giver : Giver) (once : GivesOnce giver) (file : Change DiskView) where
   failed_rose (inl load) = inl load.rose
   failed_rose (inr (inl giving)) = inr giving.failed
   failed_rose (inr (inr save)) = inl save.rose
+
+  -- where the file is refused, the call that failed was on the file
+  refused_rose : SomeFailed → IsTold file.old → (why : Refusal) → FileRefuses file.old why → Rose file.old.faults file.new.faults
+  refused_rose (inl load) told why cause = load.rose
+  refused_rose (inr (inl giving)) told why cause = absurd (holds_or_refuses file.old told (giving.replica, giving.end) why giving.holds cause)
+  refused_rose (inr (inr save)) told why cause = save.rose
 
   -- no crash tears the file
   failed_crash : (end : Status) → (IsFinished end → ⊥) → SomeFailed → NeverTorn (Gave giver file.old end) file end
@@ -183,7 +191,7 @@ module _ (giver : Giver) (once : GivesOnce giver) (file : Change DiskView) where
       file_calm : Finds (λ found. DiskStaysCalm (room_needed found) file)
       inside : Finds (λ found. giver.Sure → HasDiskRoom (room_needed found) file.old → end ≢ status.OutsideFault)
       decided : Finds (λ found. IsDecided (outcome_status found) (SomeFails giver file notes found) end)
-      refused : FileIsRefused giver file notes end
+      refused : FileIsRefused file end
 
     -- what is found of a file that is refused is that refusal
     same_refusal : IsTold file.old → (found why : Refusal) → SavingFound giver file.old (Refuses found) → FileRefuses file.old why → found ≡ why
@@ -203,7 +211,7 @@ module _ (giver : Giver) (once : GivesOnce giver) (file : Change DiskView) where
       file_calm = failed_calm failed;
       inside = λ told gave found so sure has. absurd (failed_room failed told gave found so sure has);
       decided = λ told gave found so. inr (inr (refl, failed_fails failed found));
-      refused = λ told why cause. inr (inr (refl, failed_fails failed (Refuses why)));
+      refused = λ told why cause. inr (inr (refl, refused_rose failed told why cause));
     }
 
     memory_follows : KeepsFile file → Follows status.NoMemory

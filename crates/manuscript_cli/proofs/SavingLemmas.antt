@@ -1,12 +1,15 @@
 -- From what a load and what was given come to, to what a command that saves comes to.
-use Rattle.std.proofs.Common.{◌≡◌, inl, inr, refl, ap, sym, subst, arith}
+use Rattle.std.proofs.Common.{◌≡◌, inl, inr, refl, ap, sym, subst, arith, ◌∙◌}
 use Rattle.std.specs.Prelude.{◌⊎◌, Result, Ok, Err}
 use Rattle.outer_ports.specs.disk.Disks.{DiskView}
+use Rattle.outer_ports.specs.disk.Moments.{after}
+use Rattle.outer_ports.specs.disk.States.{settled}
 use Rattle.replica_core.specs.State.{State as Replica}
 use Rattle.replica_file.proofs.HonestLemmas.{settled_honest}
-use Rattle.replica_file.specs.Append.{IsTooLong}
+use Rattle.replica_file.specs.Append.{IsTooLong, behind_gate}
+use Rattle.replica_file.specs.Gates.{opened}
 use Rattle.replica_file.specs.declared.end.End.{End}
-use Rattle.manuscript_cli.specs.Files.{AppendFailed, IsAppended, IsLoaded, KeepsFile, LoadMeets, SaveMeets}
+use Rattle.manuscript_cli.specs.Files.{AppendFailed, FileRefuses, IsAppended, IsLoaded, KeepsFile, LoadMeets, SaveMeets}
 use Rattle.manuscript_cli.specs.Findings.{Refuses, Does}
 use Rattle.manuscript_cli.specs.Saving.{ComesToSave, GivenMeets, Giver, IsDone, Outcome, SaveFailed, SavingFound, StopsSaving, Suffices}
 use Rattle.manuscript_cli.specs.Touched.{Change, change}
@@ -15,6 +18,9 @@ use Rattle.manuscript_cli.specs.declared.refusal.Refusal.TheVariants as refusal
 use Rattle.manuscript_cli.proofs.SavedLemmas.{calm_so, gains_so, later_so, saved_so, with_room}
 
 module _ (giver : Giver) (a b c : DiskView) (replica : Replica) (end : End) (loaded : IsLoaded (change a b) replica end) where
+  same_past : c ≡ b → c.past ≡ b.past
+  same_past same = ap (λ (d : DiskView). d.past) same
+
   done_so : (outcome : Outcome) → giver.Gives replica (Does outcome) → Suffices replica outcome → IsAppended end outcome.saved (change b c) → IsDone giver (change a c) outcome
   done_so outcome gives suffices saves = record {
     replica = replica;
@@ -24,6 +30,8 @@ module _ (giver : Giver) (a b c : DiskView) (replica : Replica) (end : End) (loa
     fits = saves.fits;
     saves = saved_so replica end outcome.saved a.past b.past c.past loaded.holds loaded.synced loaded.keeps.moments saves.moments (λ is. ap (λ (d : DiskView). d.past) (saves.none is)) saves.appended;
     later = later_so replica end outcome a.past b.past c.past loaded.holds suffices loaded.synced (λ is. ap (λ (d : DiskView). d.past) (saves.none is)) saves.calls saves.appended;
+    none = λ is. same_past (saves.none is) ∙ loaded.synced;
+    batch = λ some. saves.calls some ∙ ap (opened end.at (behind_gate outcome.saved)) loaded.synced;
     calm = calm_so outcome.saved a b c loaded.keeps.calm loaded.room saves.none saves.calm;
   }
 
@@ -47,11 +55,11 @@ module _ (giver : Giver) (a b c : DiskView) (replica : Replica) (end : End) (loa
   abbrev IsGiven : Refusal → Type 0
   IsGiven why = giver.Gives replica (Refuses why) ⊎ ((why ≡ refusal.BatchTooLong) × (outcome : Outcome) × giver.Gives replica (Does outcome) × IsTooLong end outcome.saved)
 
-  refused_so : (why : Refusal) → IsGiven why × (c ≡ b) → SavingFound giver a (Refuses why) × KeepsFile (change a c)
-  refused_so why given = (inr (replica, end, loaded.holds, given.0), still_kept given.1)
+  refused_so : (why : Refusal) → IsGiven why × (c ≡ b) → SavingFound giver a (Refuses why) × KeepsFile (change a c) × (FileRefuses a why ⊎ (c.past ≡ after settled a.past))
+  refused_so why given = (inr (replica, end, loaded.holds, given.0), still_kept given.1, inr (same_past given.1 ∙ loaded.synced))
 
   stops_so : (why : Refusal) → GivenMeets giver replica end (change b c) (Err why) → StopsSaving giver (change a c) why
-  stops_so refusal.Outside (inl gave_none) = inr (inl (record { failed = gave_none.0; not_sure = gave_none.1; keeps = still_kept gave_none.2 }))
+  stops_so refusal.Outside (inl gave_none) = inr (inl (record { replica = replica; end = end; holds = loaded.holds; synced = same_past gave_none.2 ∙ loaded.synced; failed = gave_none.0; not_sure = gave_none.1; keeps = still_kept gave_none.2 }))
   stops_so refusal.Outside (inr fails) = inr (inr (failed_so fails.0 fails.1 fails.2))
   stops_so refusal.NoMemory same = still_kept same
   stops_so refusal.Words given = given
@@ -94,10 +102,10 @@ load_stops giver file (refusal.CutShort offset) stops = absurd stops.0
 load_stops giver file (refusal.BadLine line) stops = absurd stops.0
 load_stops giver file (refusal.NoSection line) stops = absurd stops.0
 load_stops giver file (refusal.OutOfRange line) stops = absurd stops.0
-load_stops giver file refusal.NotReplica stops = (inl stops.0, stops.1)
-load_stops giver file (refusal.BadBatch slot) stops = (inl stops.0, stops.1)
+load_stops giver file refusal.NotReplica stops = (inl stops.0, stops.1, inl stops.0)
+load_stops giver file (refusal.BadBatch slot) stops = (inl stops.0, stops.1, inl stops.0)
 load_stops giver file refusal.NotEmpty stops = absurd stops.0
-load_stops giver file (refusal.TooMany count) stops = (inl stops.0, stops.1)
+load_stops giver file (refusal.TooMany count) stops = (inl stops.0, stops.1, inl stops.0)
 load_stops giver file (refusal.IdsSpent count) stops = absurd stops.0
 load_stops giver file refusal.TooLong stops = absurd stops.0
 load_stops giver file refusal.BatchTooLong stops = absurd stops.0

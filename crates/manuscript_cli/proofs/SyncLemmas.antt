@@ -56,19 +56,23 @@ module _ (port cursor : ℕ) (old new : WireView) (before after : Taking) (done 
       let took = still_said old s.asked new (text_for cursor before.replica.held) s.asks.said s.hears.hears.said s.hears.hears.room in
       record {
         front = whole_front (out_of old) (out_of new) (text_for cursor before.replica.held) took;
+        no_other = inl (s.hears.hears.port ∙ s.asks.dialled);
         whole = λ d. took;
         dialled = λ d. s.hears.hears.port ∙ s.asks.dialled;
+        heard = λ d. record { ops = s.hears.ops; count = count; last = s.hears.last; ends = s.hears.ends; heard = sym s.asks.left ∙ s.hears.hears.heard };
         calm = calm;
       }
 
   -- it spoke up to a fault, or heard the reply up to one
   pub speaks_front : (fault : SyncFault) → Fails fault old new before after port cursor → (done → ⊥) → Speaks port cursor before.replica.held (change old new) done
-  speaks_front fault (inl asks) not_done = record { front = asks.said; whole = λ d. absurd (not_done d); dialled = λ d. absurd (not_done d); calm = calm }
+  speaks_front fault (inl asks) not_done = record { front = asks.said; no_other = asks.no_other; whole = λ d. absurd (not_done d); dialled = λ d. absurd (not_done d); heard = λ d. absurd (not_done d); calm = calm }
   speaks_front fault (inr hear) not_done = record {
     front = whole_front (out_of old) (out_of new) (text_for cursor before.replica.held)
         (still_said old hear.asked new (text_for cursor before.replica.held) hear.asks.said hear.hears.hears.said hear.hears.hears.room);
+    no_other = inl (hear.hears.hears.port ∙ hear.asks.dialled);
     whole = λ d. absurd (not_done d);
     dialled = λ d. absurd (not_done d);
+    heard = λ d. absurd (not_done d);
     calm = calm;
   }
 
@@ -76,7 +80,7 @@ module _ (port cursor : ℕ) (old new : WireView) (before after : Taking) (done 
 pub speaks_weaker : (port cursor : ℕ) (home : DiskView) (wire : Change WireView) (done less : Type 0) → (less → done) → SpeaksFor port cursor home wire done → SpeaksFor port cursor home wire less
 speaks_weaker port cursor home wire done less leads (inl still) = inl (still.0, λ l. still.1 (leads l))
 speaks_weaker port cursor home wire done less leads (inr (replica, end, holds, speaks)) =
-    inr (replica, end, holds, record { front = speaks.front; whole = λ l. speaks.whole (leads l); dialled = λ l. speaks.dialled (leads l); calm = speaks.calm })
+    inr (replica, end, holds, record { front = speaks.front; no_other = speaks.no_other; whole = λ l. speaks.whole (leads l); dialled = λ l. speaks.dialled (leads l); heard = λ l. speaks.heard (leads l); calm = speaks.calm })
 
 -- the operations of a reply that was heard to its end
 pub reply_ops : (told : Option (List ℕ)) (before after : Taking) (end : ReplyEnd) (ops : List Op) → TakesIn before after ops → HeardTo told before after end

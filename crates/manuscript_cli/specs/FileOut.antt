@@ -4,6 +4,8 @@ use Rattle.fugue_ids.specs.Causes.{Rose}
 use Rattle.fugue_ids.specs.Outs.{OutView, Took, TookFront}
 use Rattle.origin_model.specs.taking.Taking.{Held}
 use Rattle.outer_ports.specs.disk.Disks.{DiskView}
+use Rattle.outer_ports.specs.disk.Moments.{after}
+use Rattle.outer_ports.specs.disk.States.{settled}
 use Rattle.replica_core.specs.State.{State as Replica}
 use Rattle.replica_file.specs.declared.end.End.{End}
 use Rattle.manuscript_cli.specs.Crashes.{NeverTorn}
@@ -59,10 +61,11 @@ pub record WritesOut (bytes : List ℕ) (output notes : Change OutView) (end : S
   pub output_calm : StaysCalm (length bytes) output.old output.new
   pub notes_calm : StaysCalm notes_room notes.old notes.new
 
--- the text of what the file holds was written, and this came of it
-pub record WroteHeld (text : Held → List ℕ) (file : DiskView) (Wrote : List ℕ → Type 0) : Type 0 where
+-- the file was loaded, which settles it, the text of what it holds was written, and this came of it
+pub record WroteHeld (text : Held → List ℕ) (file : Change DiskView) (Wrote : List ℕ → Type 0) : Type 0 where
   pub bytes : List ℕ
-  pub found : TextFound text file (Does bytes)
+  pub found : TextFound text file.old (Does bytes)
+  pub synced : file.new.past ≡ after settled file.old.past
   pub came : Wrote bytes
 
 -- the file was refused
@@ -80,10 +83,10 @@ pub record FileFailed (file : Change DiskView) (output notes : Change OutView) :
 
 -- what was done, for each way in which the command may end
 abbrev pub FileOutMeets : (text : Held → List ℕ) → Change DiskView → (output notes : Change OutView) → Status → Type 0
-FileOutMeets text file output notes status.Done = WroteHeld text file.old (λ bytes. WroteText bytes output notes)
+FileOutMeets text file output notes status.Done = WroteHeld text file (λ bytes. WroteText bytes output notes)
 FileOutMeets text file output notes status.BadFile = FileRefused text file.old output notes status.BadFile
 FileOutMeets text file output notes status.Limit = FileRefused text file.old output notes status.Limit
-FileOutMeets text file output notes status.OutsideFault = FileFailed file output notes ⊎ WroteHeld text file.old (λ bytes. WroteFront bytes output notes)
+FileOutMeets text file output notes status.OutsideFault = FileFailed file output notes ⊎ WroteHeld text file (λ bytes. WroteFront bytes output notes)
 FileOutMeets text file output notes status.NoMemory = WroteNothing output notes refusal.NoMemory
 FileOutMeets text file output notes status.Usage = ⊥
 FileOutMeets text file output notes status.BadInput = ⊥

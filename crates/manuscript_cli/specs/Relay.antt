@@ -67,7 +67,7 @@ pub record TookAllSteps (port sessions : ℕ) (dock : Change DockView) : Type 0 
 -- a front of the steps was served, up to this fault
 pub record ServedPartly (fault : ServeFault) (port sessions : ℕ) (dock : Change DockView) : Type 0 where
   pub relay : Relay
-  pub stops : ServingStops sessions fault (new_relay MOST_LOGGED) relay (listening port dock.old) dock.new
+  pub stops : ServingStops sessions most_steps fault (new_relay MOST_LOGGED) relay (listening port dock.old) dock.new
 
 -- the port was not listened on
 pub record ListeningFailed (output : Change OutView) (dock : Change DockView) : Type 0 where

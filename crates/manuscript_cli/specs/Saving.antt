@@ -6,8 +6,11 @@ use Rattle.fugue_ids.specs.declared.op.Op.{Op}
 use Rattle.origin_model.specs.frames.Frames.{frames}
 use Rattle.origin_model.specs.taking.Taking.{HasPlace, Held, held_from}
 use Rattle.outer_ports.specs.disk.Disks.{DiskView}
+use Rattle.outer_ports.specs.disk.Moments.{after}
+use Rattle.outer_ports.specs.disk.States.{settled}
 use Rattle.replica_core.specs.State.{State as Replica}
-use Rattle.replica_file.specs.Append.{IsTooLong}
+use Rattle.replica_file.specs.Append.{IsTooLong, behind_gate}
+use Rattle.replica_file.specs.Gates.{opened}
 use Rattle.replica_file.specs.declared.end.End.{End}
 use Rattle.manuscript_cli.specs.Crashes.{IsFinished, NeverTorn}
 use Rattle.manuscript_cli.specs.Files.{AppendFailed, FileHolds, FileRefuses, GainsAllOrNone, IsAppended, IsSaved, KeepsFile, LoadFailed}
@@ -71,6 +74,9 @@ pub record IsDone (giver : Giver) (file : Change DiskView) (outcome : Outcome) :
   pub gives : giver.Gives replica (Does outcome)
   pub fits : IsTooLong end outcome.saved → ⊥
   pub saves : IfSome file.old.past (λ h. IsSaved outcome.saved h file.new.past)
+  -- the file was settled, and then one batch was appended where its meaning ends, or none
+  pub none : outcome.saved ≡ [] → file.new.past ≡ after settled file.old.past
+  pub batch : outcome.saved ≢ [] → file.new.past ≡ opened end.at (behind_gate outcome.saved) (after settled file.old.past)
   pub later : (last : End) × FileHolds file.new (record replica { held = outcome.held }) last
   pub calm : DiskStaysCalm (room_to_save outcome.saved) file
 
@@ -86,18 +92,23 @@ pub record SaveFailed (giver : Giver) (file : Change DiskView) : Type 0 where
   pub rose : Rose file.old.faults file.new.faults
   pub no_room : HasDiskRoom (room_to_save outcome.saved) file.old → ⊥
 
--- a call on the giver failed
+-- a call on the giver failed, behind the loading of the file, which settles it
 pub record GivingFailed (giver : Giver) (file : Change DiskView) : Type 0 where
+  pub replica : Replica
+  pub end : End
+  pub holds : FileHolds file.old replica end
+  pub synced : file.new.past ≡ after settled file.old.past
   pub failed : giver.Failed
   pub not_sure : giver.Sure → ⊥
   pub keeps : KeepsFile file
 
--- why nothing was done, or not all of it: but for failures the file is as it was
+-- why nothing was done, or not all of it: but for failures the file is as it was, and settled where it was not refused
 abbrev pub StopsSaving : Giver → Change DiskView → Refusal → Type 0
 StopsSaving giver file refusal.Outside = LoadFailed file ⊎ GivingFailed giver file ⊎ SaveFailed giver file
 StopsSaving giver file refusal.NoMemory = KeepsFile file
 StopsSaving giver file refusal.Words = ⊥
-StopsSaving giver file why = SavingFound giver file.old (Refuses why) × KeepsFile file
+StopsSaving giver file why =
+    SavingFound giver file.old (Refuses why) × KeepsFile file × (FileRefuses file.old why ⊎ (file.new.past ≡ after settled file.old.past))
 
 -- the outcome, or why it did not come
 abbrev pub ComesToSave : Giver → Change DiskView → Result Outcome Refusal → Type 0
@@ -173,10 +184,10 @@ SavingIsDecided giver file notes end =
     IsTold file.old → giver.Told → (found : Finding Outcome) → SavingFound giver file.old found
     → IsDecided (outcome_status found) (SomeFails giver file notes found) end
 
--- a file that is the cause of a refusal decides it alone, whether the giver is told or not
-abbrev pub FileIsRefused : Giver → Change DiskView → Change OutView → Status → Type 0
-FileIsRefused giver file notes end =
-    IsTold file.old → (why : Refusal) → FileRefuses file.old why → IsDecided (status_of why) (SomeFails giver file notes (Refuses why)) end
+-- a file that is the cause of a refusal decides it alone, whatever the giver does, which comes behind it
+abbrev pub FileIsRefused : Change DiskView → Status → Type 0
+FileIsRefused file end =
+    IsTold file.old → (why : Refusal) → FileRefuses file.old why → IsDecided (status_of why) (Rose file.old.faults file.new.faults) end
 
 -- what a command gave to be saved: the outcome's operations, or nothing where it did not do all
 abbrev pub Gave : Giver → DiskView → Status → List Op → Type 0
@@ -191,4 +202,4 @@ pub record SavesGiven (giver : Giver) (file : Change DiskView) (notes : Change O
   pub calm : SavingStaysCalm giver file notes
   pub never_outside : SavingNeverOutside giver file notes end
   pub decided : SavingIsDecided giver file notes end
-  pub refused : FileIsRefused giver file notes end
+  pub refused : FileIsRefused file end

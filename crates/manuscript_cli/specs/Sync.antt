@@ -7,8 +7,8 @@ use Rattle.origin_model.specs.taking.Taking.{Held}
 use Rattle.outer_ports.specs.disk.Disks.{DiskView}
 use Rattle.outer_ports.specs.wire.Wires.{WireView, out_of}
 use Rattle.relay_sync.specs.Outcomes.{Bad, Cut, Ended, Refused, ReplyComes, ReplyEnd, TooLong, TooMany}
-use Rattle.relay_sync.specs.Saying.{text_for}
-use Rattle.relay_sync.specs.Syncing.{Fits}
+use Rattle.relay_sync.specs.Saying.{SaysToNoOther, text_for}
+use Rattle.relay_sync.specs.Syncing.{Fits, HearsNoFurther}
 use Rattle.replica_core.specs.State.{State as Replica}
 use Rattle.replica_file.specs.declared.end.End.{End}
 use Rattle.manuscript_cli.specs.Files.{FileHolds}
@@ -55,11 +55,13 @@ reply cursor home wire = record {
   Sure = (replica : Replica) (end : End) → FileHolds home replica end → Fits (length (text_for cursor replica.held)) wire.old;
 }
 
--- A front of what is held was said; all of it, to the port, where all was done. A sure wire that has room for it counts no fault.
+-- A front of what is held was said, to nobody but the port; all of it, to the port, where all was done, and then the reply was heard and nothing behind it. A sure wire that has room for it counts no fault.
 pub record Speaks (port cursor : ℕ) (held : Held) (wire : Change WireView) (done : Type 0) : Type 0 where
   pub front : TookFront (out_of wire.old) (out_of wire.new) (text_for cursor held)
+  pub no_other : SaysToNoOther wire.old wire.new port
   pub whole : done → Took (out_of wire.old) (out_of wire.new) (text_for cursor held)
   pub dialled : done → wire.new.port ≡ option_map (λ before. Some port) wire.old.port
+  pub heard : done → HearsNoFurther wire.old.left wire.new.left
   pub calm : Fits (length (text_for cursor held)) wire.old → wire.new.faults ≡ wire.old.faults
 
 -- the replica of the file spoke, or nothing was said at all

@@ -8,6 +8,7 @@ mod edit;
 mod file_out;
 mod home_file;
 mod kept;
+mod laws;
 mod merge;
 mod new_file;
 mod number;
@@ -25,6 +26,7 @@ mod top;
 mod words;
 
 pub use command::Command;
+pub use laws::limits_in_numbers;
 pub use refusal::{Refusal, tell};
 pub use status::Status;
 pub use top::run;

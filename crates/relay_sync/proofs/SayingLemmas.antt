@@ -1,5 +1,5 @@
 -- A text that goes out on a wire, piece by piece, behind the dialling.
-use Rattle.std.proofs.Common.{[], List, arith, drop, length, refl, take, ℕ, ◌+◌, ◌-◌, ◌<◌, ◌∙◌, ◌≡◌}
+use Rattle.std.proofs.Common.{[], List, arith, drop, inl, inr, length, refl, take, ℕ, ◌+◌, ◌-◌, ◌<◌, ◌∙◌, ◌≡◌}
 use Rattle.std.specs.Prelude.{Err, IfSome, None, Ok, OnOk, Option, Result, Some, option_map}
 use Rattle.fugue_ids.specs.Outs.{IsSure, WritesText}
 use Rattle.fugue_ids.proofs.JoinLemmas.{call_grows, call_stops, text_joins, text_none, took_none}
@@ -49,6 +49,7 @@ pub says_dialled : {E T : Type 0} (x : T) (result : Result T E) (u v w : WireVie
 says_dialled {E} {T} x result u v w port text d s = record {
   writes = text_joins {E = E} {T = T} {S = T} x result (out_of u) (out_of v) (out_of w) [] text (dialled_none {E = E} {T = T} x u v port d) s.writes;
   dialled = dialled_stays result u v w port d.dialled s.port;
+  no_other = inl (s.port ∙ d.dialled);
   left = s.left ∙ d.left;
 }
 
@@ -62,5 +63,6 @@ says_refused {E} {T} {S} e u v port text d = record {
     sure = sure_refused E S e u.room (length text) u.faults v.faults d.count.excused;
   };
   dialled = tt;
+  no_other = inr (d.kept, d.said);
   left = d.left;
 }

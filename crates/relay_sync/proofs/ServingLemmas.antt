@@ -144,7 +144,7 @@ serves-append a b c x y z us vs h i = record {
 }
 
 -- turns, and then a fault
-partly-append : (fault : ServeFault) (a b c : Relay) (x y z : DockView) (us vs : List Turn) → Serves a b x y us → ServesPartly fault b c y z vs → ServesPartly fault a c x z (us ++ vs)
+abbrev partly-append : (fault : ServeFault) (a b c : Relay) (x y z : DockView) (us vs : List Turn) → Serves a b x y us → ServesPartly fault b c y z vs → ServesPartly fault a c x z (us ++ vs)
 partly-append fault a b c x y z us vs h i = record {
   more = i.more;
   few = i.few;
@@ -167,7 +167,7 @@ front_all : (v w : OutView) (bytes : List ℕ) → Took v w bytes → TookFront 
 front_all v w bytes t = record { count = length bytes; within = omega arith; took = subst (Took v w) (sym (take_all (length bytes) bytes (omega arith))) t }
 
 -- whole turns, seen as up to a fault
-whole_partly : (fault : ServeFault) (a b : Relay) (x y : DockView) (turns : List Turn) → fault ≢ DockFault → Serves a b x y turns → ServesPartly fault a b x y turns
+abbrev whole_partly : (fault : ServeFault) (a b : Relay) (x y : DockView) (turns : List Turn) → fault ≢ DockFault → Serves a b x y turns → ServesPartly fault a b x y turns
 whole_partly fault a b x y turns other h = record {
   more = [];
   few = omega arith;
@@ -181,7 +181,7 @@ whole_partly fault a b x y turns other h = record {
 }
 
 -- steps of which the relay heard none
-unheard_partly : (fault : ServeFault) (a b : Relay) (x y : DockView) (steps : List MemStep) → b ≡ a → GivesSteps x y steps → length steps ≤ 1 → IfSome x.ends (λ ends. Spends fault steps x y)
+abbrev unheard_partly : (fault : ServeFault) (a b : Relay) (x y : DockView) (steps : List MemStep) → b ≡ a → GivesSteps x y steps → length steps ≤ 1 → IfSome x.ends (λ ends. Spends fault steps x y)
     → ServesPartly fault a b x y []
 unheard_partly fault a b x y steps same h few spent = record {
   more = steps;
@@ -212,7 +212,7 @@ turn_serves a b x y z step reply g sure s r = record {
 }
 
 -- or up to a fault
-turn_partly : (fault : ServeFault) (a b : Relay) (x y z : DockView) (step : MemStep) (reply : Option Reply) → GivesSteps x y (step ∷ []) → IfSome x.ends (λ ends. y.faults ≡ x.faults)
+abbrev turn_partly : (fault : ServeFault) (a b : Relay) (x y z : DockView) (step : MemStep) (reply : Option Reply) → GivesSteps x y (step ∷ []) → IfSome x.ends (λ ends. y.faults ≡ x.faults)
     → Steps a (event_of step) b reply → RepliedPartly fault y z reply → ServesPartly fault a b x z (record { step = step; reply = reply } ∷ [])
 turn_partly fault a b x y z step reply g sure s r = record {
   more = [];
@@ -233,7 +233,7 @@ turn_partly fault a b x y z step reply g sure s r = record {
 -- a turn that stopped before the relay heard a step
 pub unheard_stops : (fault : ServeFault) (a b : Relay) (x y : DockView) (steps : List MemStep) → b ≡ a → GivesSteps x y steps → length steps ≤ 1 → IfSome x.ends (λ ends. Spends fault steps x y) → TurnStops fault a b x y
 unheard_stops fault a b x y steps same h few spent =
-    record { turns = []; partly = unheard_partly fault a b x y steps same h few spent; few = omega arith; none_begun = λ lasts is. refl }
+    record { turns = []; partly = unheard_partly fault a b x y steps same h few spent; few = (let f : 0 + length steps ≤ 1 = omega (arith, few) in f); none_begun = λ lasts is. refl }
 
 -- as the reply was sent
 pub reply_stops : (fault : ServeFault) (a b : Relay) (x y z : DockView) (step : MemStep) (reply : Option Reply) → GivesSteps x y (step ∷ []) → IfSome x.ends (λ ends. y.faults ≡ x.faults)
@@ -241,14 +241,23 @@ pub reply_stops : (fault : ServeFault) (a b : Relay) (x y z : DockView) (step : 
 reply_stops fault a b x y z step reply g sure s r = record {
   turns = record { step = step; reply = reply } ∷ [];
   partly = turn_partly fault a b x y z step reply g sure s r;
-  few = omega arith;
+  few = let f : 1 + 0 ≤ 1 = omega arith in f;
   none_begun = λ lasts is. absurd (r.sure (lasts_reply x y step reply g lasts) is);
 }
 
 -- or behind it
 pub turn_stops : (fault : ServeFault) (a b : Relay) (x y : DockView) (turn : Turn) → fault ≢ DockFault → Serves a b x y (turn ∷ []) → TurnStops fault a b x y
 turn_stops fault a b x y turn other h =
-    record { turns = turn ∷ []; partly = whole_partly fault a b x y (turn ∷ []) other h; few = omega arith; none_begun = λ lasts is. absurd (other is) }
+    record { turns = turn ∷ []; partly = whole_partly fault a b x y (turn ∷ []) other h; few = (let f : 1 + 0 ≤ 1 = omega arith in f); none_begun = λ lasts is. absurd (other is) }
+
+-- or before the next one
+abbrev none_stops : (relay : Relay) (dock : DockView) → TurnStops TooLong relay relay dock dock
+none_stops relay dock = record {
+  turns = [];
+  partly = whole_partly TooLong relay relay dock dock [] (λ is. cc is) (serves_none relay dock);
+  few = let f : 0 + 0 ≤ 1 = omega arith in f;
+  none_begun = λ lasts is. refl;
+}
 
 pub over-append : (us vs : List Turn) (over : List ℕ) → over_after over (us ++ vs) ≡ over_after (over_after over us) vs
 over-append [] vs over = refl
@@ -277,12 +286,14 @@ none_after sessions turns turn none fewer count below = by (take-more turns turn
     by (inr e) = rw e fewer
 
 -- turns, and then one that stopped
-pub stops_behind : (sessions : ℕ) (fault : ServeFault) (a b c : Relay) (x y z : DockView) (us : List Turn) → Serves a b x y us → NoneAfter sessions us → count_over us < sessions
-    → TurnStops fault b c y z → ServingStops sessions fault a c x z
-stops_behind sessions fault a b c x y z us h none fewer i = record {
+pub stops_behind : (sessions steps : ℕ) (fault : ServeFault) (a b c : Relay) (x y z : DockView) (us : List Turn) → Serves a b x y us → NoneAfter sessions us → count_over us < sessions → length us < steps
+    → TurnStops fault b c y z → ServingStops sessions steps fault a c x z
+stops_behind sessions steps fault a b c x y z us h none fewer below i = record {
   turns = us ++ i.turns;
   partly = partly-append fault a b c x y z us i.turns h i.partly;
-  none_after = few_after i.turns i.few;
+  few = let f : length (us ++ i.turns) + length i.partly.more ≤ steps = omega (arith, below, i.few, length-append us i.turns) in f;
+  in_turn = record { served = us; between = b; middle = y; serves = h; stops = i; turns_are = refl };
+  none_after = few_after i.turns (omega (arith, i.few));
   not_over = λ lasts is.
       let begun : i.turns ≡ [] = i.none_begun (lasts_then a b x y us i.turns h lasts) is in
       rw (begun, append-nil us) fewer;
@@ -294,6 +305,12 @@ stops_behind sessions fault a b c x y z us h none fewer i = record {
     few_after (v ∷ w ∷ vs) few = absurd (omega (arith, few))
 
 -- all steps that are allowed were taken
-pub long_stops : (sessions : ℕ) (a b : Relay) (x y : DockView) (us : List Turn) → Serves a b x y us → NoneAfter sessions us → count_over us < sessions → ServingStops sessions TooLong a b x y
-long_stops sessions a b x y us h none fewer =
-    record { turns = us; partly = whole_partly TooLong a b x y us (λ is. cc is) h; none_after = none; not_over = λ lasts is. fewer }
+pub long_stops : (sessions steps : ℕ) (a b : Relay) (x y : DockView) (us : List Turn) → Serves a b x y us → NoneAfter sessions us → count_over us < sessions → length us ≤ steps → ServingStops sessions steps TooLong a b x y
+long_stops sessions steps a b x y us h none fewer within = record {
+  turns = us;
+  partly = whole_partly TooLong a b x y us (λ is. cc is) h;
+  few = let f : length us + 0 ≤ steps = omega (arith, within) in f;
+  in_turn = record { served = us; between = b; middle = y; serves = h; stops = none_stops b y; turns_are = sym (append-nil us) };
+  none_after = none;
+  not_over = λ lasts is. fewer;
+}

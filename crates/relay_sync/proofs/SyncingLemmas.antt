@@ -126,13 +126,18 @@ feed_fails u v before after place heard op feed_fault.NoMemory whole left kept =
 }
 
 -- nothing was said for want of memory
-pub fails_at_once : (wire : WireView) (start : Taking) (cursor : ℕ) → FailsToAsk NoMemory wire wire start start cursor
-fails_at_once wire start cursor =
-    record { said = record { count = 0; within = omega arith; took = took_none (out_of wire) (out_of wire) refl refl }; left = refl; cause = omega arith; same = refl }
+pub fails_at_once : (wire : WireView) (start : Taking) (port cursor : ℕ) → FailsToAsk NoMemory wire wire start start port cursor
+fails_at_once wire start port cursor = record {
+  said = record { count = 0; within = omega arith; took = took_none (out_of wire) (out_of wire) refl refl };
+  no_other = inr (refl, refl);
+  left = refl;
+  cause = refl;
+  same = refl;
+}
 
 -- or not all of it was
 pub fails_to_say : {E T : Type 0} (result : Result T E) (e : E) (u v : WireView) (start : Taking) (port cursor : ℕ) (text : List ℕ) → result ≡ Err e → text ≡ text_for cursor start.replica.held
-    → SaysTo u v result port text → FailsToAsk WireFault u v start start cursor
+    → SaysTo u v result port text → FailsToAsk WireFault u v start start port cursor
 fails_to_say {E} {T} result e u v start port cursor text is text_is says =
     let said : SaysTo u v (Err e) port (text_for cursor start.replica.held) = subst (SaysTo u v (Err e) port) text_is (subst (λ (r : Result T E). SaysTo u v r port text) is says) in
-    record { said = said.writes.err; left = said.left; cause = said.writes.cause.failed; same = refl }
+    record { said = said.writes.err; no_other = said.no_other; left = said.left; cause = said.writes.cause.failed; same = refl }

@@ -6,14 +6,13 @@ use Rattle.std.proofs.lemmas.Bool.{ltb-false}
 use Rattle.origin_model.specs.declared.relay.event.Event.TheVariants.{Piece}
 use Rattle.origin_model.specs.declared.relay.reply.Reply.{Reply}
 use Rattle.origin_model.specs.relay.Relay.{Relay, Runs, Steps}
-use Rattle.origin_model.proofs.SharedLemmas.{NoFront, step_once}
+use Rattle.origin_model.proofs.SharedLemmas.{InParts, NoFront, in_parts, step_once}
 use Rattle.op_frame.proofs.OperationLemmas.{operation_code}
 use Rattle.origin_model.specs.frames.Frames.{frame}
 use Rattle.outer_ports.specs.dock.Docks.{DockView}
 use Rattle.outer_ports.specs.dock.Steps.{Gives, GivesSome, part_of, rest_of}
 use Rattle.outer_ports.specs.declared.dock.mem_step.MemStep.{MemStep}
 use Rattle.outer_ports.specs.declared.dock.mem_step.MemStep.TheVariants.{Opened, Bytes, Gone}
-use Rattle.relay_core.proofs.PartsLemmas.{InParts, in_parts}
 use Rattle.relay_sync.specs.Serving.{BlamesDock, Comes, Lasts, NoneAfter, Serves, SameTurns, ServingStops, Spends, Suffices, Turn, bytes_to, closed_by, closed_in, count_over, event_of, over_after, replies_of, sent_to, steps_of, with_closed}
 use Rattle.relay_sync.specs.declared.serve_fault.ServeFault.{ServeFault}
 use Rattle.relay_sync.specs.declared.serve_fault.ServeFault.TheVariants.{DockFault, NoMemory, TooLong}
@@ -259,13 +258,13 @@ calm_served : (sessions : ℕ) (a b : Relay) (x y : DockView) (turns : List Turn
 calm_served sessions a b x y turns h none s = h.calm (lasts_so sessions a x s b turns y.coming h.gave.comes h.runs none)
 
 -- and up to a fault, which is none of the dock
-module _ (sessions : ℕ) (a b : Relay) (x y : DockView) where
-  lasts_until : (fault : ServeFault) → (h : ServingStops sessions fault a b x y) → Suffices sessions a x → Lasts x h.turns
+module _ (sessions steps : ℕ) (a b : Relay) (x y : DockView) where
+  lasts_until : (fault : ServeFault) → (h : ServingStops sessions steps fault a b x y) → Suffices sessions a x → Lasts x h.turns
   lasts_until fault h s =
       let split = comes_split (steps_of h.turns) h.partly.more x.coming y.coming h.partly.gave.comes in
       lasts_so sessions a x s b h.turns split.0 split.1 h.partly.runs h.none_after
 
-  no_dock_fault : ServingStops sessions DockFault a b x y → Suffices sessions a x → ⊥
+  no_dock_fault : ServingStops sessions steps DockFault a b x y → Suffices sessions a x → ⊥
   no_dock_fault h s =
       let split = comes_split (steps_of h.turns) h.partly.more x.coming y.coming h.partly.gave.comes in
       let lasts = lasts_until DockFault h s in
@@ -276,12 +275,12 @@ module _ (sessions : ℕ) (a b : Relay) (x y : DockView) where
       let enough = all_over sessions a x s b h.turns split.0 split.1 h.partly.runs h.none_after (left.1 ∙ ap Some none) in
       omega (arith, enough, h.not_over lasts refl)
 
-  calm_stopped : (fault : ServeFault) → ServingStops sessions fault a b x y → Suffices sessions a x → y.faults ≡ x.faults
+  calm_stopped : (fault : ServeFault) → ServingStops sessions steps fault a b x y → Suffices sessions a x → y.faults ≡ x.faults
   calm_stopped DockFault h s = absurd (no_dock_fault h s)
   calm_stopped TooLong h s = h.partly.calm (lasts_until TooLong h s)
   calm_stopped NoMemory h s = h.partly.calm (lasts_until NoMemory h s)
 
-  sure_stopped : (fault : ServeFault) → ServingStops sessions fault a b x y → Suffices sessions a x → fault ≢ DockFault
+  sure_stopped : (fault : ServeFault) → ServingStops sessions steps fault a b x y → Suffices sessions a x → fault ≢ DockFault
   sure_stopped DockFault h s is = no_dock_fault h s
   sure_stopped TooLong h s is = cc is
   sure_stopped NoMemory h s is = cc is
@@ -289,5 +288,5 @@ module _ (sessions : ℕ) (a b : Relay) (x y : DockView) where
 pub served_blames : {T : Type 0} (result : T) (sessions : ℕ) (a b : Relay) (x y : DockView) (turns : List Turn) → Serves a b x y turns → NoneAfter sessions turns → BlamesDock sessions a x y (Ok result)
 served_blames result sessions a b x y turns h none = record { calm = calm_served sessions a b x y turns h none; sure = λ s is. cc is }
 
-pub stopped_blames : {T : Type 0} (sessions : ℕ) (a b : Relay) (x y : DockView) (fault : ServeFault) → ServingStops sessions fault a b x y → BlamesDock {T = T} sessions a x y (Err fault)
-stopped_blames sessions a b x y fault h = record { calm = calm_stopped sessions a b x y fault h; sure = λ s is. sure_stopped sessions a b x y fault h s (cc is) }
+pub stopped_blames : {T : Type 0} (sessions steps : ℕ) (a b : Relay) (x y : DockView) (fault : ServeFault) → ServingStops sessions steps fault a b x y → BlamesDock {T = T} sessions a x y (Err fault)
+stopped_blames sessions steps a b x y fault h = record { calm = calm_stopped sessions steps a b x y fault h; sure = λ s is. sure_stopped sessions steps a b x y fault h s (cc is) }

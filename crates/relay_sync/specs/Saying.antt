@@ -1,5 +1,5 @@
 -- What a replica says to a relay.
-use Rattle.std.specs.Prelude.{◌≡◌, ℕ, List, ◌∷◌, ◌++◌, Some, Result, OnOk, option_map}
+use Rattle.std.specs.Prelude.{◌≡◌, ◌⊎◌, ℕ, List, ◌∷◌, ◌++◌, Some, Result, OnOk, option_map}
 use Rattle.std.specs.Int.{to_be_bytes, w32}
 use Rattle.fugue_ids.specs.Outs.{WritesText}
 use Rattle.origin_model.specs.frames.Frames.{frames}
@@ -18,8 +18,13 @@ pub record SaysText {E T : Type 0} (old new : WireView) (result : Result T E) (t
   pub port : new.port ≡ old.port
   pub left : new.left ≡ old.left
 
+-- the port was dialled, or no port was and nothing was said
+abbrev pub SaysToNoOther : (old new : WireView) → (port : ℕ) → Type 0
+SaysToNoOther old new port = (new.port ≡ option_map (λ before. Some port) old.port) ⊎ ((new.port ≡ old.port) × (new.said ≡ old.said))
+
 -- the same to whoever listens on the port, who is dialled first
 pub record SaysTo {E T : Type 0} (old new : WireView) (result : Result T E) (port : ℕ) (text : List ℕ) : Type 0 where
   pub writes : WritesText (out_of old) (out_of new) result text
   pub dialled : OnOk result (new.port ≡ option_map (λ before. Some port) old.port)
+  pub no_other : SaysToNoOther old new port
   pub left : new.left ≡ old.left

@@ -1,5 +1,5 @@
 -- What serving does: the steps that a dock gives are given to a relay, and its replies are sent.
-use Rattle.std.specs.Prelude.{◌≡◌, ◌≢◌, Result, Err, ℕ, ◌<◌, ◌≤◌, List, [], ◌∷◌, ◌++◌, length, take, flat_map, map, nat_eq, if◌then◌else◌, Option, Some, None, IfSome, option_map, ◌-◌}
+use Rattle.std.specs.Prelude.{◌≡◌, ◌≢◌, Result, Err, ℕ, ◌+◌, ◌<◌, ◌≤◌, List, [], ◌∷◌, ◌++◌, length, take, flat_map, map, nat_eq, if◌then◌else◌, Option, Some, None, IfSome, option_map, ◌-◌}
 use Rattle.fugue_ids.specs.Outs.{Took, TookFront}
 use Rattle.origin_model.specs.declared.relay.event.Event.{Event}
 use Rattle.origin_model.specs.declared.relay.event.Event.TheVariants as event
@@ -138,13 +138,24 @@ NoneAfter sessions turns = (count : ℕ) → count < length turns → count_over
 pub record TurnStops (fault : ServeFault) (old_relay new_relay : Relay) (old new : DockView) : Type 0 where
   pub turns : List Turn
   pub partly : ServesPartly fault old_relay new_relay old new turns
-  pub few : length turns ≤ 1
+  pub few : length turns + length partly.more ≤ 1
   pub none_begun : Lasts old turns → fault ≡ DockFault → turns ≡ []
 
--- serving stopped at a fault; a dock that lasts fails only before so many sessions are over
-pub record ServingStops (sessions : ℕ) (fault : ServeFault) (old_relay new_relay : Relay) (old new : DockView) : Type 0 where
+-- each turn but the last was served whole: no step is asked for before the reply to the one before it was sent
+pub record StopsInTurn (fault : ServeFault) (old_relay new_relay : Relay) (old new : DockView) (turns : List Turn) : Type 0 where
+  pub served : List Turn
+  pub between : Relay
+  pub middle : DockView
+  pub serves : Serves old_relay between old middle served
+  pub stops : TurnStops fault between new_relay middle new
+  pub turns_are : turns ≡ served ++ stops.turns
+
+-- serving stopped at a fault, with at most so many steps taken; a dock that lasts fails only before so many sessions are over
+pub record ServingStops (sessions steps : ℕ) (fault : ServeFault) (old_relay new_relay : Relay) (old new : DockView) : Type 0 where
   pub turns : List Turn
   pub partly : ServesPartly fault old_relay new_relay old new turns
+  pub few : length turns + length partly.more ≤ steps
+  pub in_turn : StopsInTurn fault old_relay new_relay old new turns
   pub none_after : NoneAfter sessions turns
   pub not_over : Lasts old turns → fault ≡ DockFault → count_over turns < sessions
 

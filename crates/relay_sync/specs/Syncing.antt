@@ -1,5 +1,6 @@
 -- An exchange with a relay: a replica says what it holds, hears the reply, and takes in its operations as they come.
 use Rattle.std.specs.Prelude.{◌≡◌, ◌≢◌, ◌⊎◌, ◌+◌, ◌*◌, ◌≤◌, ℕ, All, List, [], ◌++◌, length, Option, Some, None, Result, Err, option_map}
+use Rattle.std.specs.Io.KnownBytes.{prepend_known}
 use Rattle.fugue_ids.specs.Causes.{Rose}
 use Rattle.fugue_ids.specs.Outs.{Took, TookFront}
 use Rattle.fugue_ids.specs.declared.limits.TheConstants.{GREATEST_HOLD, STREAM_LIMIT}
@@ -10,7 +11,7 @@ use Rattle.outer_ports.specs.wire.Wires.{WireView, out_of}
 use Rattle.replica_core.specs.Keeping.{TakesIn, TakesInKeeping, TakesPartly, Taking}
 use Rattle.replica_core.specs.Told.{total}
 use Rattle.relay_sync.specs.Replies.{Hears, IsMessage, StopsIn, Whole}
-use Rattle.relay_sync.specs.Saying.{text_for}
+use Rattle.relay_sync.specs.Saying.{SaysToNoOther, text_for}
 use Rattle.relay_sync.specs.declared.message.Message.TheVariants.{End, Operation, Refusal}
 use Rattle.relay_sync.specs.declared.sync_fault.SyncFault.{SyncFault}
 use Rattle.relay_sync.specs.declared.sync_fault.SyncFault.TheVariants.{NoMemory, RelayRefused, TooMany, WireFault}
@@ -50,6 +51,14 @@ pub record HearsPartly (fault : SyncFault) (old new : WireView) (before after : 
   pub takes : TakesIn before middle ops
   pub stops : StopsFor fault old new middle after (length (frames ops)) bytes
 
+-- of these bytes a reply was heard up to the message that ends it, and nothing behind it
+pub record HearsNoFurther (old new : Option (List ℕ)) : Type 0 where
+  pub ops : List Op
+  pub count : ℕ
+  pub last : List ℕ
+  pub ends : IsMessage (End count) last
+  pub heard : old ≡ prepend_known (frames ops ++ last) new
+
 -- all that the replica holds was said to the port
 pub record Asks (old new : WireView) (port cursor : ℕ) (held : Held) : Type 0 where
   pub dialled : new.port ≡ option_map (λ before. Some port) old.port
@@ -57,10 +66,10 @@ pub record Asks (old new : WireView) (port cursor : ℕ) (held : Held) : Type 0 
   pub left : new.left ≡ old.left
   pub later : old.faults ≤ new.faults
 
--- why not all of it was said
+-- why not all of it was said: for want of memory nothing was done
 abbrev pub SaysNotAll : SyncFault → (old new : WireView) → Type 0
 SaysNotAll WireFault old new = Rose old.faults new.faults
-SaysNotAll NoMemory old new = old.faults ≤ new.faults
+SaysNotAll NoMemory old new = new ≡ old
 SaysNotAll fault old new = ⊥
 
 -- the replica said what it holds, and took in the reply
@@ -69,9 +78,10 @@ pub record Syncs (old new : WireView) (before after : Taking) (port cursor count
   pub asks : Asks old asked port cursor before.replica.held
   pub hears : HearsReply asked new before after count
 
--- a front of it was said, and nothing was heard
-pub record FailsToAsk (fault : SyncFault) (old new : WireView) (before after : Taking) (cursor : ℕ) : Type 0 where
+-- a front of it was said to the port, and nothing was heard
+pub record FailsToAsk (fault : SyncFault) (old new : WireView) (before after : Taking) (port cursor : ℕ) : Type 0 where
   pub said : TookFront (out_of old) (out_of new) (text_for cursor before.replica.held)
+  pub no_other : SaysToNoOther old new port
   pub left : new.left ≡ old.left
   pub cause : SaysNotAll fault old new
   pub same : after ≡ before
@@ -83,7 +93,7 @@ pub record FailsToHear (fault : SyncFault) (old new : WireView) (before after : 
   pub hears : HearsPartly fault asked new before after
 
 abbrev pub Fails : SyncFault → (old new : WireView) → (before after : Taking) → (port cursor : ℕ) → Type 0
-Fails fault old new before after port cursor = FailsToAsk fault old new before after cursor ⊎ FailsToHear fault old new before after port cursor
+Fails fault old new before after port cursor = FailsToAsk fault old new before after port cursor ⊎ FailsToHear fault old new before after port cursor
 
 -- calls are sure, and so many bytes fit
 abbrev pub Fits : ℕ → WireView → Type 0

@@ -32,7 +32,7 @@ pub fn serve<B: BuildHasher, D: Dock>(
         × (sessions ≤ count_over turns) × NoneAfter sessions turns × (length turns ≤ steps)) }
     ensures too_long { result ≡ Err TakesTooLong → (turns : List Turn) × Serves relay.old relay.new (D.seen dock.old) (D.seen dock.new) turns
         × (count_over turns < sessions) × NoneAfter sessions turns × (length turns ≡ steps) }
-    ensures partly { IfErr result (λ fault. ServingStops sessions fault relay.old relay.new (D.seen dock.old) (D.seen dock.new)) }
+    ensures partly { IfErr result (λ fault. ServingStops sessions steps fault relay.old relay.new (D.seen dock.old) (D.seen dock.new)) }
     ensures dock_fault { result ≡ Err AtDock → Rose (D.seen dock.old).faults (D.seen dock.new).faults }
     ensures dock { BlamesDock sessions relay.old (D.seen dock.old) (D.seen dock.new) result }
 {

@@ -1,7 +1,8 @@
 ghost use Rattle.std.specs.Prelude.{◌<◌, All, IfOk, length};
 ghost use Rattle.outer_ports.specs.dock.Steps.{HasBytes};
 
-use super::{LOWER_A, S, stream, words_of};
+use super::frames::{LOWER_A, S, stream};
+use super::words_of;
 use crate::{Status, run};
 use fugue_ids::ByteList;
 use outer_ports::{

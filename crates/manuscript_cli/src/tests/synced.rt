@@ -1,5 +1,6 @@
+use super::frames::{BEHIND_A, S, stream};
 use super::taken::{Batch, File, bytes_of, has_bytes, room_for, sends};
-use super::{BEHIND_A, S, is_cut_off, stream, words_of};
+use super::{is_cut_off, words_of};
 use crate::{Status, run};
 use outer_ports::{
     Disk, FileDisk, MemDisk, MemDock, MemSink, MemSource, MemWire, Sink, SureDisk, SureSink,

@@ -1,7 +1,5 @@
-use super::{
-    BEHIND_A, CUT, IN_A, LOWER_A, LOWER_B, NOWHERE, OTHER_A, S, is_cut_off, run_offline, stream,
-    words_of,
-};
+use super::frames::{BEHIND_A, CUT, IN_A, LOWER_A, LOWER_B, NOWHERE, OTHER_A, S, stream};
+use super::{is_cut_off, run_offline, words_of};
 use crate::Status;
 use outer_ports::{
     Disk, FileDisk, MemDisk, MemSink, MemSource, Sink, SureDisk, SureSink, SureSource,

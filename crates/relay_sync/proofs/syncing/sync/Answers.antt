@@ -6,7 +6,7 @@ use Rattle.relay_sync.proofs.SyncingLemmas.{fails_at_once, fails_to_say}
 use Rattle.relay_sync.proofs.syncing.sync.Goals as goal
 
 pub returns-in_default-clause-err : goal.returns-in_default-clause-err
-returns-in_default-clause-err g c = (no_counts, inl (fails_at_once _ _ _))
+returns-in_default-clause-err g c = (no_counts, inl (fails_at_once _ _ _ _))
 
 pub returns-in_default-say-clause-err : goal.returns-in_default-say-clause-err
 returns-in_default-say-clause-err g c =

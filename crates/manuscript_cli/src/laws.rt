@@ -1,0 +1,27 @@
+//! Laws of the commands.
+
+ghost use Rattle.std.specs.Prelude.{◌≡◌};
+ghost use Rattle.fugue_ids.specs.declared.limits.TheConstants.{GREATEST_HOLD, LONGEST_TITLE, MOST_OPERATIONS, STREAM_LIMIT};
+ghost use Rattle.origin_model.specs.declared.files.TheConstants.{LONGEST_BATCH};
+ghost use Rattle.edit_script.specs.declared.script.TheConstants.{LONGEST_SCRIPT};
+ghost use Rattle.relay_core.specs.declared.relay.TheConstants.{MOST_LOGGED};
+ghost use Rattle.bulk_world.specs.declared.limits.TheConstants.{MOST_TURNS};
+ghost use Rattle.manuscript_cli.specs.declared.words.TheConstants.{GREATEST_CURSOR, GREATEST_PORT, GREATEST_REPLICA, GREATEST_SEED, MOST_SESSIONS, USUAL_HOLD};
+
+/// Each limit, in numbers. The contracts name them, so that each stands once.
+pub fn limits_in_numbers()
+    ensures operations { MOST_OPERATIONS ≡ 4194304 }
+    ensures greatest_hold { GREATEST_HOLD ≡ 1048576 }
+    ensures usual_hold { USUAL_HOLD ≡ 65536 }
+    ensures title { LONGEST_TITLE ≡ 480 }
+    ensures stream { STREAM_LIMIT ≡ 2147483648 }
+    ensures script { LONGEST_SCRIPT ≡ 1048576 }
+    ensures batch { LONGEST_BATCH ≡ 268435456 }
+    ensures log { MOST_LOGGED ≡ 1048576 }
+    ensures sessions { MOST_SESSIONS ≡ 65535 }
+    ensures port { GREATEST_PORT ≡ 65535 }
+    ensures replica { GREATEST_REPLICA ≡ 4294967295 }
+    ensures cursor { GREATEST_CURSOR ≡ 4294967295 }
+    ensures seed { GREATEST_SEED ≡ 4294967295 }
+    ensures turns { MOST_TURNS ≡ 1000000 }
+{}
