@@ -1,4 +1,4 @@
-# Proves, builds, runs and installs the program. All that is needed is the toolchain's command `rt`.
+# Proves, builds, runs and installs the program. Beside bash and awk all that is needed is the toolchain's command `rt`.
 RT ?= rt
 PREFIX ?= $(HOME)/.local
 

@@ -113,6 +113,10 @@ try 'an empty file is made' nothing 0 '' '' new "$work/empty" 1 16
 { printf '\0'; tail -c +2 "$f"; } >"$work/other_mark"
 try 'another mark' nothing 6 '' 'not a replica\n' print "$work/other_mark"
 try 'another mark, to be merged' nothing 6 '' 'not a replica\n' merge "$f" "$work/other_mark"
+try 'the file is judged before the other one' nothing 6 '' 'not a replica\n' merge "$work/other_mark" "$work/none"
+: >"$work/output"
+"$program" edit "$work/other_mark" <&- 2>"$work/notes"
+compare 'and before the input is read' $? 6 '' 'not a replica\n'
 { head -c 13 "$f"; printf '\7'; tail -c +15 "$f"; } >"$work/closed"
 try 'a closed gate ends the meaning' nothing 0 '' '' print "$work/closed"
 head -c 131 "$f" >"$work/cut_file"
@@ -136,20 +140,29 @@ try 'the greatest replica' nothing 0 '' '' new "$work/greatest" 4294967295 10485
 
 # Two programs, one file: the first one keeps it, and nothing is lost.
 new_file shared
-{
-    sleep 1
-    printf 'add 1 T\n'
-} | "$program" edit "$work/shared" 2>"$work/first_notes" &
-sleep 0.3
+mkfifo "$work/slowly"
+"$program" edit "$work/shared" <"$work/slowly" 2>"$work/first_notes" &
+exec {script}>"$work/slowly"
+for ((waited = 0; waited < 100; waited++)); do
+    readlink /proc/$!/fd/* 2>/dev/null | grep -qxF "$work/shared" && break
+    sleep 0.05
+done
+sleep 0.1
 try 'the file is in use' chapter 4 '' "$outside" edit "$work/shared"
 try 'and is not read meanwhile' nothing 4 '' "$outside" print "$work/shared"
+printf 'add 1 T\n' >&"$script"
+exec {script}>&-
 wait $!
 check 'who came first ended well' holds first_notes 'made 1\n'
 try 'and is in the file' nothing 0 '# T\n\n' '' print "$work/shared"
-exec {reader}<"$f"
-flock -s "$reader"
-try 'two may read at once' nothing 0 '# T\nAC\n' '' print "$f"
-exec {reader}<&-
+if command -v flock >/dev/null; then
+    exec {reader}<"$f"
+    flock -s "$reader"
+    try 'two may read at once' nothing 0 '# T\nAC\n' '' print "$f"
+    exec {reader}<&-
+else
+    echo 'not tried: two that read at once, since there is no flock'
+fi
 
 # The outside fails.
 : >"$work/output"

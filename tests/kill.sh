@@ -54,6 +54,7 @@ fi
 old=0
 new=0
 wrong=0
+killed=0
 start=${EPOCHREALTIME/./}
 cp "$work/before" "$file"
 "$program" edit "$file" <"$work/script" 2>/dev/null
@@ -65,8 +66,11 @@ for ((times = 1; times <= 200; times++)); do
     sleep "$pause"
     kill -9 $! 2>/dev/null
     wait $! 2>/dev/null
-    look $?
+    status=$?
+    [ "$status" != 137 ] || killed=$((killed + 1))
+    look "$status"
 done
-check "killed at 200 moments: $old times all is as before, $new times all is there, $wrong times else" [ "$wrong" = 0 ]
+check "killed at $killed of 200 moments: $old times all is as before, $new times all is there, $wrong times else" \
+    [ "$wrong" = 0 -a "$killed" -gt 0 ]
 
 ended

@@ -100,7 +100,7 @@ for _ in {1..9}; do
     cat "$work/wide" "$work/wide" >"$work/wider"
     mv "$work/wider" "$work/wide"
 done
-start_relay 18
+start_relay 20
 open_peer
 close_peer
 open_peer
@@ -127,6 +127,13 @@ cat <&"$peer" >"$work/output"
 close_peer
 wait $(jobs -p | grep -v "^$relay$")
 for name in "${names[@]}" "${names[@]}"; do exchange "$name"; done
+# A connection does not get the number of a closed stream: the notes would go to the relay.
+: >"$work/output"
+: >"$work/notes"
+"$program" sync "$work/c" "$port" 0 </dev/null 2>&-
+compare 'a sync whose notes are closed' $? 4 '' ''
+"$program" sync "$work/c" "$port" 0 <&- 2>"$work/c.notes"
+check 'a sync reads no input' [ "$?" = 0 -a -s "$work/c.notes" ]
 all=$(for name in "${names[@]}"; do "$program" send "$work/$name" </dev/null; done | "$program" show 2>&1 >/dev/null | sed 's/accepted \([0-9]*\),.*/\1/')
 relay_ends 'a relay of peers that do not keep to the rules' "log $all\n"
 for name in "${names[@]}"; do "$program" print "$work/$name" </dev/null >"$work/text_$name"; done
