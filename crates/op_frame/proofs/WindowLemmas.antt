@@ -26,12 +26,6 @@ placed_behind old part rest s e n le within enough =
     ∙ take-append-add (take (e - s) (drop s old)) (part ++ rest) n
     ∙ ap (λ (l : List ℕ). take (e - s) (drop s old) ++ l) (take-append-le n part rest enough)
 
--- a window without its first bytes
-pub skipped : (s e n : ℕ) (b : List ℕ) → s + n ≤ e → take (e - (s + n)) (drop (s + n) b) ≡ drop n (take (e - s) (drop s b))
-skipped s e n b le =
-    let is : e - s ≡ n + (e - (s + n)) = omega (arith, le) in
-    sym (ap (λ (k : ℕ). drop n (take k (drop s b))) is ∙ drop-take n (e - (s + n)) (drop s b) ∙ ap (take (e - (s + n))) (drop-drop n s b ∙ ap (λ (k : ℕ). drop k b) (omega arith)))
-
 -- a part written back
 written : {E : Type 0} (e to len : ℕ) (items old new : List ℕ) (before after : SourceView) (result : Result ℕ E) → Placed {E = E} old new e to before after result
     → e ≤ to → to ≤ length old → length old ≡ len → take len (new ++ drop (length new) items) ≡ new

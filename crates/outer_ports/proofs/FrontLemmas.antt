@@ -1,9 +1,15 @@
--- What a call does that gives the front of some bytes.
+-- The front of some bytes, and what a call does that gives it.
 use Rattle.std.proofs.Common.{◌≡◌, ℕ, ◌+◌, ◌-◌, ◌<◌, ◌≤◌, List, ◌++◌, length, take, drop, Some, Ok, true, refl, ap, sym, ◌∙◌, arith, length-append, length-drop, length-take-le, drop-drop}
 use Rattle.std.proofs.lemmas.Bool.{false≢true}
 use Rattle.std.proofs.Math.Seq.{take-append_seam}
-use Rattle.std.proofs.lemmas.List.{take-append-drop, drop_all}
+use Rattle.std.proofs.lemmas.List.{take-append-drop, drop_all, drop-take}
 use Rattle.outer_ports.specs.Sources.{ReadsSome}
+
+-- a window without its first bytes
+pub skipped : (s e n : ℕ) (b : List ℕ) → s + n ≤ e → take (e - (s + n)) (drop (s + n) b) ≡ drop n (take (e - s) (drop s b))
+skipped s e n b le =
+    let is : e - s ≡ n + (e - (s + n)) = omega (arith, le) in
+    sym (ap (λ (k : ℕ). drop n (take k (drop s b))) is ∙ drop-take n (e - (s + n)) (drop s b) ∙ ap (take (e - (s + n))) (drop-drop n s b ∙ ap (λ (k : ℕ). drop k b) (omega arith)))
 
 -- a buffer whose front holds the next n bytes has been read into, where n is 0 only at the end
 pub reads_front : {E : Type 0} (bytes left front buf : List ℕ) (at n faults : ℕ)

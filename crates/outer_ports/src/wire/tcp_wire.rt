@@ -7,16 +7,17 @@ ghost use Rattle.outer_ports.specs.wire.Wires.{Dials, WireReads, WireWrites};
 use crate::Wire;
 use crate::faults::Faults;
 use crate::taken::taken;
+use crate::wire::buffered::Buffered;
 use fugue_ids::Failed;
 use std::io::{self, ErrorKind, Read, Write};
 use std::net::{Net, TcpStream};
 
-/// A connection to a port of 127.0.0.1. It does not tell what passes.
+/// A connection to a port of 127.0.0.1. It does not tell what passes. It may read ahead of what is asked for.
 #[derive(Drop)]
 pub struct TcpWire<R: Net + Drop> {
     net: R,
     /// None until a call of `dial` went well.
-    stream: Option<R::Stream>,
+    stream: Option<Buffered<R::Stream>>,
     faults: Faults,
 }
 
@@ -46,7 +47,7 @@ impl<R: Net + Drop> Wire for TcpWire<R> {
         ensures kept { OnErr result (self.new.stream ≡ self.old.stream) }
     {
         let given = TcpStream::connect(&self.net, ("127.0.0.1", port));
-        self.stream = Some(self.faults.pass(given)?);
+        self.stream = Some(Buffered::new(self.faults.pass(given)?));
         Ok(())
     }
 
@@ -55,7 +56,7 @@ impl<R: Net + Drop> Wire for TcpWire<R> {
             result buf.new }
         ensures faults { CountsFaults self.old.faults self.new.faults result }
         ensures missing { self.old.stream ≡ None → IsErr result }
-        ensures stream { Hears R.Stream.remaining self.old.stream self.new.stream result buf.new }
+        ensures stream { Hears (⟦<Buffered<R::Stream> as Read>⟧.remaining) self.old.stream self.new.stream result buf.new }
     {
         self.faults.pass(hear(&mut self.stream, buf))
     }
@@ -65,7 +66,7 @@ impl<R: Net + Drop> Wire for TcpWire<R> {
             result piece.now }
         ensures faults { CountsFaults self.old.faults self.new.faults result }
         ensures missing { self.old.stream ≡ None → IsErr result }
-        ensures stream { Says R.Stream.contents self.old.stream self.new.stream result piece.now }
+        ensures stream { Says (⟦<Buffered<R::Stream> as Write>⟧.contents) self.old.stream self.new.stream result piece.now }
     {
         self.faults.pass(say(&mut self.stream, piece))
     }

@@ -1,6 +1,6 @@
 use Rattle.std.proofs.Common.{ap, ◌∙◌, ◌-◌, ◌≡◌, arith, drop, take, length, length-take}
 use Rattle.op_frame.specs.Windows.{Window}
-use Rattle.op_frame.proofs.WindowLemmas.{skipped}
+use Rattle.outer_ports.proofs.FrontLemmas.{skipped}
 use Rattle.op_frame.proofs.unread.Unread.skip.Goals as goal
 
 pub returns : goal.returns
