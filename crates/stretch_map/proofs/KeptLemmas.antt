@@ -9,8 +9,8 @@ use Rattle.fugue_ids.proofs.IdentifierLemmas.{cases_id, id_at-other}
 use Rattle.stretch_map.specs.Contents.{Entry, Layout, value_in}
 use Rattle.stretch_map.specs.Stretches.{AreStretches, Has, IsSame, Keeps, kept_at}
 use Rattle.stretch_map.specs.declared.stretch.Stretch.{Stretch}
-use Rattle.stretch_map.proofs.FoundLemmas.{covered, found, not_covered, uncovered}
-use Rattle.stretch_map.proofs.GrownLemmas.{Sets}
+use Rattle.stretch_map.proofs.FoundLemmas.{not_covered}
+use Rattle.stretch_map.proofs.SetLemmas.{Sets, value_stays}
 
 module _ {V : Type 0} (nth : Identifier → V → ℕ → V) (reaches : Identifier → V → ℕ → Type 0) (l k : Layout V) (are : AreStretches reaches l) where
   -- where the stretches are the same, the values are
@@ -25,10 +25,7 @@ module _ {V : Type 0} (nth : Identifier → V → ℕ → V) (reaches : Identifi
       } in
       record {
         are = new_are;
-        found = λ q. elim (found nth reaches l are q) [
-          | inl w ↦ uncovered nth reaches k new_are q (λ e h c. w.1 e (among e h) c) ∙ sym w.0
-          | inr w ↦ covered nth reaches k new_are q w.0 (stays w.0 w.1) w.2 ∙ sym w.3
-        ];
+        found = λ q. value_stays nth reaches l k are new_are q (λ e h c. (e, among e h, c)) (λ e h c. (e, stays e h, c, refl));
         among = among;
       }
 

@@ -9,4 +9,5 @@ pub mod PartedLemmas
 pub mod PutLemmas
 pub mod ReadLemmas
 pub mod ResultLemmas
+pub mod SetLemmas
 pub mod TakenLemmas

@@ -1,8 +1,8 @@
 -- The finite map that stretches stand for, as it is read, grows and shrinks.
-use Rattle.std.proofs.Common.{ap, arith, cond, inl, inr, subst, sym, true, ℕ, ◌+◌, ◌-◌, ◌∙◌, ◌≡◌, ◌≤◌}
-use Rattle.std.specs.Prelude.{Err, IfSome, None, Ok, OnErr, Option, Result, Some, is_some, []}
+use Rattle.std.proofs.Common.{ap, arith, cond, inl, inr, subst, sym, ℕ, ◌+◌, ◌-◌, ◌∙◌, ◌≡◌, ◌≤◌}
+use Rattle.std.specs.Prelude.{IfSome, None, Option, Some, []}
 use Rattle.std.specs.BTreeMap.{is_at}
-use Rattle.std.specs.FinMap.{empty, empty_of_len, from_entries, get, get-empty, get-from_entries, get-insert, get-remove, insert, len, len-empty, len-insert, len-remove, remove, same_map}
+use Rattle.std.specs.FinMap.{empty, from_entries, get, get-from_entries, get-insert, get-remove, insert, remove, same_map}
 use Rattle.std.specs.List.Sorted.{IsStrictlySortedBy}
 use Rattle.std.specs.Map.{keys_of, lookup}
 use Rattle.std.specs.Ordering.{is_eq}
@@ -11,8 +11,7 @@ use Rattle.stretch_map.specs.Ahead.{ahead}
 use Rattle.stretch_map.specs.Contents.{Entry, Layout, all_of, contents, spread, value_in}
 use Rattle.stretch_map.specs.Rules.{IsFollowed}
 use Rattle.stretch_map.specs.Stretches.{Adds, AreStretches, EndsAt, Has, IsSame, Loses}
-use Rattle.stretch_map.proofs.FoundLemmas.{cases_le, cases_number, covered}
-use Rattle.std.proofs.lemmas.Bool.{true≢false}
+use Rattle.stretch_map.proofs.FoundLemmas.{cases_le, covered}
 use Rattle.stretch_map.proofs.OrderLemmas.{id_cmp-IsAntisymmetric, id_cmp_total}
 
 module _ {V : Type 0} (nth : Identifier → V → ℕ → V) where

@@ -1,13 +1,13 @@
 -- A stretch cut in two: the values are the same.
-use Rattle.std.proofs.Common.{ap, arith, inl, inr, subst, sym, ℕ, ◌+◌, ◌-◌, ◌<◌, ◌∙◌, ◌≡◌, ◌≢◌, ◌≤◌}
-use Rattle.std.specs.Prelude.{None, Some}
+use Rattle.std.proofs.Common.{ap, arith, inl, inr, refl, subst, sym, ℕ, ◌+◌, ◌-◌, ◌<◌, ◌∙◌, ◌≡◌, ◌≢◌, ◌≤◌}
 use Rattle.fugue_ids.specs.Identifiers.{Identifier}
 use Rattle.fugue_ids.proofs.IdentifierLemmas.{cases_id}
 use Rattle.stretch_map.specs.Ahead.{ahead}
 use Rattle.stretch_map.specs.Contents.{Entry, Layout, value_in}
 use Rattle.stretch_map.specs.Stretches.{AreStretches, Covers, Has, IsReached, rest_behind, up_to}
-use Rattle.stretch_map.proofs.FoundLemmas.{cases_le, cases_number, covered, found, same_has, uncovered}
+use Rattle.stretch_map.proofs.FoundLemmas.{cases_le, cases_number, same_has}
 use Rattle.stretch_map.proofs.LessenedLemmas.{Splits}
+use Rattle.stretch_map.proofs.SetLemmas.{value_stays}
 
 module _ {V : Type 0} (nth : Identifier → V → ℕ → V) (reaches : Identifier → V → ℕ → Type 0)
     (adds : (first : Identifier) (value : V) (j k : ℕ) → nth (ahead first j) (nth first value j) k ≡ nth first value (j + k))
@@ -101,57 +101,53 @@ module _ {V : Type 0} (nth : Identifier → V → ℕ → V) (reaches : Identifi
         ordered = splits.ordered;
       }
 
-  parted_none : (q : Identifier) → ((x : Entry V) → Has l x → Covers x q → ⊥) → value_in nth k q ≡ None
-  parted_none q none =
-      uncovered nth reaches k parted_are q
-      (λ a h c.
-      elim (splits.cases a h) [
-        | inl d ↦
-            let cover : Covers (up_to e (e.0.counter + j - 1)) q = subst (λ (x : Entry V). Covers x q) d c in
-            let low : e.0.counter ≤ q.counter = cover.from in
-            let high : q.counter ≤ e.0.counter + j - 1 = cover.to in
-            none e old (record { replica = cover.replica; from = low; to = omega (arith, within) })
-        | inr d ↦
-            elim d [
-              | inl i ↦
-                  let cover : Covers (rest_behind nth e j) q = subst (λ (x : Entry V). Covers x q) i c in
-                  let low : e.0.counter + j ≤ q.counter = cover.from in
-                  none e old (record { replica = cover.replica; from = omega arith; to = cover.to })
-              | inr i ↦ none a i.2 c
-            ]
-      ])
-
-  parted_own : (q : Identifier) → Covers e q → value_in nth k q ≡ value_in nth l q
+  parted_own : (q : Identifier) → Covers e q → (y : Entry V) × Has k y × Covers y q × (nth y.0 y.1.value (q.counter - y.0.counter) ≡ nth e.0 e.1.value (q.counter - e.0.counter))
   parted_own q cover =
       let low : e.0.counter ≤ q.counter = cover.from in
       let high : q.counter ≤ e.1.last = cover.to in
       elim (cases_le (e.0.counter + j) q.counter) [
         | inl behind ↦
-            let steps : j + (q.counter - (e.0.counter + j)) ≡ q.counter - e.0.counter = omega arith in
-            covered nth reaches k parted_are q (rest_behind nth e j) splits.tail (record { replica = cover.replica; from = behind; to = high })
-            ∙ ap Some (adds e.0 e.1.value j (q.counter - (e.0.counter + j)) ∙ ap (nth e.0 e.1.value) steps) ∙ sym (covered nth reaches l are q e old cover)
-        | inr before ↦
-            covered nth reaches k parted_are q (up_to e (e.0.counter + j - 1)) splits.head (record { replica = cover.replica; from = low; to = omega arith })
-            ∙ sym (covered nth reaches l are q e old cover)
+            let steps : j + (q.counter - (e.0.counter + j)) ≡ q.counter - e.0.counter = omega arith in (
+              rest_behind nth e j,
+              splits.tail,
+              record { replica = cover.replica; from = behind; to = high },
+              adds e.0 e.1.value j (q.counter - (e.0.counter + j)) ∙ ap (nth e.0 e.1.value) steps,
+            )
+        | inr before ↦ (up_to e (e.0.counter + j - 1), splits.head, record { replica = cover.replica; from = low; to = omega arith }, refl)
       ]
 
   -- they have its values
   pub parted_found : (q : Identifier) → value_in nth k q ≡ value_in nth l q
   parted_found q =
-      elim (found nth reaches l are q) [
-        | inl w ↦ parted_none q w.1 ∙ sym w.0
-        | inr w ↦
-            elim (cases_id w.0.0 e.0) [
-              | inl d ↦
-                  let value : w.0.1 ≡ e.1 = same_has reaches l are w.0 e w.1 old d in
-                  parted_own q (subst (λ (x : Entry V). Covers x q) (λ i. (d i, value i)) w.2)
-              | inr d ↦
-                  let not_rest : w.0.0 ≢ ahead e.0 j = λ i.
-                  let wc : w.0.0.counter ≡ e.0.counter + j = ap (λ (x : Identifier). x.counter) i in
-                  let wr : e.0.replica ≡ w.0.0.replica = sym (ap (λ (x : Identifier). x.replica) i) in
-                  let far : e.1.last < w.0.0.counter = are.apart e w.0 old w.1 wr (omega (arith, some, wc)) in
-                  absurd (omega (arith, within))
-                  in
-                  covered nth reaches k parted_are q w.0 (splits.stays w.0 d not_rest w.1) w.2 ∙ sym w.3
+      value_stays nth reaches l k are parted_are q
+      (λ x h c.
+      elim (splits.cases x h) [
+        | inl d ↦
+            let cover : Covers (up_to e (e.0.counter + j - 1)) q = subst (λ (z : Entry V). Covers z q) d c in
+            let low : e.0.counter ≤ q.counter = cover.from in
+            let high : q.counter ≤ e.0.counter + j - 1 = cover.to in
+            (e, old, record { replica = cover.replica; from = low; to = omega (arith, within) })
+        | inr d ↦
+            elim d [
+              | inl i ↦
+                  let cover : Covers (rest_behind nth e j) q = subst (λ (z : Entry V). Covers z q) i c in
+                  let low : e.0.counter + j ≤ q.counter = cover.from in
+                  (e, old, record { replica = cover.replica; from = omega arith; to = cover.to })
+              | inr i ↦ (x, i.2, c)
             ]
-      ]
+      ])
+      (λ x h c.
+      elim (cases_id x.0 e.0) [
+        | inl d ↦
+            let value : x.1 ≡ e.1 = same_has reaches l are x e h old d in
+            let there = parted_own q (subst (λ (z : Entry V). Covers z q) (λ i. (d i, value i)) c) in
+            (there.0, there.1, there.2, there.3 ∙ (λ i. nth (sym d i) (sym value i).value (q.counter - (sym d i).counter)))
+        | inr d ↦
+            let not_rest : x.0 ≢ ahead e.0 j = λ i.
+            let there : x.0.counter ≡ e.0.counter + j = ap (λ (z : Identifier). z.counter) i in
+            let rep : e.0.replica ≡ x.0.replica = sym (ap (λ (z : Identifier). z.replica) i) in
+            let far : e.1.last < x.0.counter = are.apart e x old h rep (omega (arith, some, there)) in
+            absurd (omega (arith, within))
+            in
+            (x, splits.stays x d not_rest h, c, refl)
+      ])

@@ -1,5 +1,5 @@
-use Rattle.std.proofs.Common.{ap, inl, inr, subst, sym, ◌≤◌, ◌∙◌, ℕ, cond, ◌-◌, ◌≡◌}
-use Rattle.std.specs.Prelude.{IfSome, None, is_ok, is_some}
+use Rattle.std.proofs.Common.{ap, inl, inr, subst, sym, ◌∙◌, ◌≡◌}
+use Rattle.std.specs.Prelude.{IfSome, None, is_ok}
 use Rattle.std.specs.FinMap as map
 use Rattle.std.proofs.lemmas.Bool.{false≢true}
 use Rattle.stretch_map.specs.Ahead.{ahead}
