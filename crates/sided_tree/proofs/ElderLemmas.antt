@@ -12,6 +12,8 @@ use Rattle.fugue_ids.proofs.ListLemmas.{all_pairs_before, all_pairs_behind, all_
 use Rattle.origin_model.specs.edits.Landing.{end_of}
 use Rattle.origin_model.specs.sides.KeyedGap.{Falls, last_passing, low_ids}
 use Rattle.origin_model.proofs.SharedLemmas.{passing_before, passing_behind}
+use Rattle.sided_tree.specs.Elders.{BeginsLow, EndsLow, siblings_in}
+use Rattle.sided_tree.specs.declared.part.Part.{Part}
 use Rattle.sided_tree.proofs.LowLemmas.{low_here, low_in, low_one, lows}
 use Rattle.sided_tree.proofs.PartLemmas.{Around, around_low, end_held, last_found, no_last}
 use Rattle.sided_tree.proofs.PartedLemmas.{Apart, apart_front, in_back, there}
@@ -126,10 +128,52 @@ module _ (G : Identifier → Bool) (k : Key) (es : List Keyed) where
       ap (last_passing G) r.1 ∙ passing_behind G r.0 [] x t ∙ ap end_of (ap (λ b. if b then x ∷ [] else []) t)
 
 -- the siblings in front of the last one, where that fails
-module _ (G : Identifier → Bool) (es : List Keyed) (k : Key) (from to : Option Identifier) (s : Identifier) (h : Halves es k from to s) (f : Falls G (low_ids k (between from to es))) where
-  pub front_falls : Falls G (low_ids k (between from (Some s) es))
-  front_falls = falls_before G (low_ids k (between from (Some s) es)) s (low_ids k (between (Some s) to es)) (subst (Falls G) h.parted f)
+module _ (G : Identifier → Bool) (es : List Keyed) (part : Part) (apart : Apart es) (f : BeginsLow es part) (t : EndsLow es part) (s : Identifier)
+    (last : last_low part.key (between part.from part.to es) ≡ Some s) where
+  at_last : Halves es part.key part.from part.to s
+  at_last = halves es part.key part.from part.to s apart f t (last_sibling G part.key (between part.from part.to es) s last)
 
-  pub front_decides : G s ≡ false → last_passing G (low_ids k (between from to es)) ≡ last_passing G (low_ids k (between from (Some s) es))
-  front_decides n =
-      ap (last_passing G) h.parted ∙ passing_before G (low_ids k (between from (Some s) es)) (low_ids k (between (Some s) to es)) s (subst (Falls G) h.parted f) n
+  pub front_ends : EndsLow es (record part { to = Some s })
+  front_ends = at_last.low_behind
+
+  pub front_falls : Falls G (siblings_in es part) → Falls G (siblings_in es (record part { to = Some s }))
+  front_falls falls = falls_before G (low_ids part.key (between part.from (Some s) es)) s (low_ids part.key (between (Some s) part.to es)) (subst (Falls G) at_last.parted falls)
+
+  pub front_decides : Falls G (siblings_in es part) → G s ≡ false → last_passing G (siblings_in es part) ≡ last_passing G (siblings_in es (record part { to = Some s }))
+  front_decides falls fails =
+      ap (last_passing G) at_last.parted
+      ∙ passing_before G (low_ids part.key (between part.from (Some s) es)) (low_ids part.key (between (Some s) part.to es)) s (subst (Falls G) at_last.parted falls) fails
+
+-- the search for the last that passes of the siblings in a part has come down to the rest: it is the last one there, or else the one that was seen last
+pub record IsSearched (G : Identifier → Bool) (es : List Keyed) (part rest : Part) (elder : Option Identifier) : Type 0 where
+  pub from : BeginsLow es rest
+  pub to : EndsLow es rest
+  pub falls : Falls G (siblings_in es rest)
+  pub found : last_passing G (siblings_in es part) ≡ or_else (last_passing G (siblings_in es rest)) elder
+
+-- a step of the search, at a sibling of the rest
+module _ (G : Identifier → Bool) (es : List Keyed) (part rest : Part) (elder : Option Identifier) (is : IsSearched G es part rest elder) (s : Identifier)
+    (h : Halves es rest.key rest.from rest.to s) where
+  -- it goes on behind one that passes
+  pub search_behind : G s ≡ true → IsSearched G es part (record rest { from = Some s }) (Some s)
+  search_behind passes =
+      let front = low_ids rest.key (between rest.from (Some s) es) in
+      let back = low_ids rest.key (between (Some s) rest.to es) in
+      record {
+        from = h.low;
+        to = h.end_low;
+        falls = falls_behind G front s back (subst (Falls G) h.parted is.falls);
+        found = is.found ∙ seen_behind G (siblings_in es rest) front back s elder h.parted passes;
+      }
+
+  -- and before one that fails
+  pub search_before : G s ≡ false → IsSearched G es part (record rest { to = Some s }) elder
+  search_before fails =
+      let front = low_ids rest.key (between rest.from (Some s) es) in
+      let back = low_ids rest.key (between (Some s) rest.to es) in
+      record {
+        from = is.from;
+        to = h.low_behind;
+        falls = falls_before G front s back (subst (Falls G) h.parted is.falls);
+        found = is.found ∙ seen_before G (siblings_in es rest) front back s elder h.parted is.falls fails;
+      }

@@ -13,12 +13,13 @@ use Rattle.origin_model.specs.edits.Landing.{end_of}
 use Rattle.origin_model.specs.sides.KeyLaws.{HoldsElement}
 use Rattle.origin_model.specs.sides.KeyedGap.{Falls, child_key, gap_behind, gap_by_keys, last_passing, low_ids, part_from, part_to, siblings, slot_key, slot_part}
 use Rattle.origin_model.specs.sides.Keys.{keyed_order}
-use Rattle.origin_model.specs.sides.Node.{AreNodes, as_op, as_ops, node_order}
-use Rattle.origin_model.specs.sides.Slot.{goes_before, slot_by}
+use Rattle.origin_model.specs.sides.Node.{AreNodes, as_ops, node_order}
+use Rattle.origin_model.specs.sides.Slot.{slot_by}
 use Rattle.origin_model.specs.declared.sides.node.Node.{Node}
 use Rattle.origin_model.specs.declared.sides.slot.Slot.{Slot}
 use Rattle.origin_model.specs.declared.sides.slot.Slot.TheVariants.{LeftOf, RightOf}
 use Rattle.origin_model.proofs.SharedLemmas.{key_found, keyed_ids, part_bounds, part_least, siblings_fall, slot_held}
+use Rattle.sided_tree.specs.Elders.{is_elder}
 use Rattle.sided_tree.specs.SlotKeys.{IsSlotKey}
 use Rattle.sided_tree.proofs.LowLemmas.{front_held, low_in}
 use Rattle.sided_tree.proofs.PartedLemmas.{to_held}
@@ -78,7 +79,7 @@ module _ (n : Node) (ns : List Node) (es : List Keyed) (new : AreNodes (n ∷ ns
   own = slot_by (as_ops ns) n.left n.right
 
   abbrev first : Identifier → Bool
-  first = goes_before (node_order ns) (as_ops ns) (as_op n) n.id
+  first = is_elder ns n
 
   -- its element is listed
   pub element_held : HoldsElement (ids es) s

@@ -1,3 +1,4 @@
+pub mod Elders
 pub mod Nodes
 pub mod Side
 pub mod SlotKeys

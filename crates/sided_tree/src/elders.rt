@@ -1,10 +1,9 @@
 ghost use Rattle.std.specs.Prelude.{◌≡◌, ◌∷◌, All};
-ghost use Rattle.fugue_ids.specs.Keys.{IsFit, between, rest_of};
-ghost use Rattle.fugue_ids.specs.Listed.{HoldsOrigin};
-ghost use Rattle.origin_model.specs.sides.KeyedGap.{Falls, last_passing, low_ids};
+ghost use Rattle.fugue_ids.specs.Keys.{IsFit};
+ghost use Rattle.origin_model.specs.sides.KeyedGap.{Falls, last_passing};
 ghost use Rattle.origin_model.specs.sides.Keys.{keyed_order};
-ghost use Rattle.origin_model.specs.sides.Node.{AreNodes, as_op, as_ops, node_order};
-ghost use Rattle.origin_model.specs.sides.Slot.{goes_before};
+ghost use Rattle.origin_model.specs.sides.Node.{AreNodes};
+ghost use Rattle.sided_tree.specs.Elders.{BeginsLow, EndsLow, is_elder, siblings_in};
 
 use crate::nodes::Nodes;
 use crate::part::Part;
@@ -22,12 +21,10 @@ pub(crate) fn last_elder<F: OrderOf>(
 ) -> Option<ElementId>
     requires new { AreNodes (node.now ∷ nodes.now) }
     requires list { F.listed order.now ≡ keyed_order nodes.now }
-    requires from { HoldsOrigin (low_ids part.now.key (F.listed order.now)) part.now.from }
-    requires to { HoldsOrigin (low_ids part.now.key (rest_of part.now.from (F.listed order.now))) part.now.to }
-    requires falls { All IsFit (F.listed order.now)
-        → Falls (goes_before (node_order nodes.now) (as_ops nodes.now) (as_op node.now) node.now.id) (low_ids part.now.key (between part.now.from part.now.to (F.listed order.now))) }
-    ensures elder { result ≡
-        last_passing (goes_before (node_order nodes.now) (as_ops nodes.now) (as_op node.now) node.now.id) (low_ids part.now.key (between part.now.from part.now.to (F.listed order.now))) }
+    requires from { BeginsLow (F.listed order.now) part.now }
+    requires to { EndsLow (F.listed order.now) part.now }
+    requires falls { All IsFit (F.listed order.now) → Falls (is_elder nodes.now node.now) (siblings_in (F.listed order.now) part.now) }
+    ensures elder { result ≡ last_passing (is_elder nodes.now node.now) (siblings_in (F.listed order.now) part.now) }
     ensures fit { All IsFit (F.listed order.now) }
 {
     let last = part.last(order)?;
@@ -38,25 +35,23 @@ pub(crate) fn last_elder<F: OrderOf>(
         to: Some(last),
         ..*part
     };
-    elder_by_halves(nodes, order, node, &front)
+    elder_by_halves(nodes, order, node, front)
 }
 
-/// The same, by halves: the part shrinks round the answer, which is the last elder that was seen where no sibling is left.
+/// The same, by halves: the rest shrinks round the answer, which is the last elder that was seen where no sibling is left.
 fn elder_by_halves<F: OrderOf>(
     nodes: &Nodes,
     order: &F,
     node: &Node,
-    part: &Part,
+    mut rest: Part,
 ) -> Option<ElementId>
     requires new { AreNodes (node.now ∷ nodes.now) }
     requires list { F.listed order.now ≡ keyed_order nodes.now }
-    requires from { HoldsOrigin (low_ids part.now.key (F.listed order.now)) part.now.from }
-    requires to { HoldsOrigin (low_ids part.now.key (rest_of part.now.from (F.listed order.now))) part.now.to }
-    requires falls { Falls (goes_before (node_order nodes.now) (as_ops nodes.now) (as_op node.now) node.now.id) (low_ids part.now.key (between part.now.from part.now.to (F.listed order.now))) }
-    ensures { result ≡
-        last_passing (goes_before (node_order nodes.now) (as_ops nodes.now) (as_op node.now) node.now.id) (low_ids part.now.key (between part.now.from part.now.to (F.listed order.now))) }
+    requires from { BeginsLow (F.listed order.now) rest }
+    requires to { EndsLow (F.listed order.now) rest }
+    requires falls { Falls (is_elder nodes.now node.now) (siblings_in (F.listed order.now) rest) }
+    ensures { result ≡ last_passing (is_elder nodes.now node.now) (siblings_in (F.listed order.now) rest) }
 {
-    let mut rest = *part;
     let mut elder = None;
     'halve: while let Some(sibling) = rest.near_middle(order) {
         if nodes.goes_before(order, sibling, node) {

@@ -3,8 +3,9 @@ ghost use Rattle.fugue_ids.specs.Keys.{IsFit, first_id, ids, rest_of};
 ghost use Rattle.origin_model.specs.sides.KeyLaws.{HoldsElement};
 ghost use Rattle.origin_model.specs.sides.KeyedGap.{before_all as before_all_in, gap_between as gap_between_in, gap_by_keys as gap_by_keys_in, no_elder_gap as no_elder_gap_in, slot_key as slot_key_of};
 ghost use Rattle.origin_model.specs.sides.Keys.{keyed_order};
-ghost use Rattle.origin_model.specs.sides.Node.{AreNodes, as_op, as_ops, node_order};
-ghost use Rattle.origin_model.specs.sides.Slot.{goes_before, slot_by};
+ghost use Rattle.origin_model.specs.sides.Node.{AreNodes, as_ops};
+ghost use Rattle.origin_model.specs.sides.Slot.{slot_by};
+ghost use Rattle.sided_tree.specs.Elders.{is_elder};
 
 use crate::blocks::{block_end, block_start};
 use crate::elders::last_elder;
@@ -18,7 +19,7 @@ pub(crate) fn gap_by_keys<F: OrderOf>(nodes: &Nodes, order: &F, node: &Node) -> 
     requires new { AreNodes (node.now ∷ nodes.now) }
     requires list { F.listed order.now ≡ keyed_order nodes.now }
     ensures gap { result ≡ gap_by_keys_in (F.listed order.now) (slot_by (as_ops nodes.now) node.now.left node.now.right)
-        (slot_key_of (as_ops nodes.now) (slot_by (as_ops nodes.now) node.now.left node.now.right)) (goes_before (node_order nodes.now) (as_ops nodes.now) (as_op node.now) node.now.id) }
+        (slot_key_of (as_ops nodes.now) (slot_by (as_ops nodes.now) node.now.left node.now.right)) (is_elder nodes.now node.now) }
     ensures fit { All IsFit (F.listed order.now) }
 {
     let slot = nodes.slot(node.left, node.right);

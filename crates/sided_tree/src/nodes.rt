@@ -1,9 +1,11 @@
-ghost use Rattle.std.specs.Prelude.{◌≡◌, ◌∷◌, [], true, false, OnErr, OnOk};
+ghost use Rattle.std.specs.Prelude.{◌≡◌, ◌∷◌, [], true, false, IsOk, OnErr, OnOk};
 ghost use Rattle.origin_model.specs.order.Order.{has_left as has_left_on, right_at};
 ghost use Rattle.origin_model.specs.sides.Detached.{NoOrigin, without};
 ghost use Rattle.origin_model.specs.sides.Keys.{keyed_order};
-ghost use Rattle.origin_model.specs.sides.Node.{AreNodes, as_op, as_ops, find_node, has_node, node_order};
-ghost use Rattle.origin_model.specs.sides.Slot.{goes_before as goes_before_in, slot_by};
+ghost use Rattle.origin_model.specs.sides.Node.{AreNodes, as_ops, find_node, has_node};
+ghost use Rattle.origin_model.specs.sides.Slot.{slot_by};
+ghost use Rattle.sided_tree.specs.Elders.{is_elder};
+ghost use Rattle.sided_tree.specs.Nodes.{IsTyped};
 
 use crate::ages::Ages;
 use crate::siblings::goes_first;
@@ -92,16 +94,17 @@ impl Nodes {
     pub fn goes_before<F: OrderOf>(&self, order: &F, sibling: ElementId, node: &Node) -> bool
         requires new { AreNodes (node.now ∷ self.now) }
         requires list { F.listed order.now ≡ keyed_order self.now }
-        ensures { result ≡ goes_before_in (node_order self.now) (as_ops self.now) (as_op node.now) node.now.id sibling }
+        ensures { result ≡ is_elder self.now node.now sibling }
     {
         goes_first(order, self.right_of(sibling), node.right, sibling, node.id)
     }
 
-    /// One node more. After want of memory the nodes are as before.
+    /// One node more. After want of memory the nodes are as before. None is wanted for a node that was typed behind the one before it.
     pub fn push(&mut self, node: Node) -> Result<(), NoMemory>
         requires fresh { has_node self.old node.id ≡ false }
         ensures ok { OnOk result (self.new ≡ node ∷ self.old) }
         ensures err { OnErr result (self.new ≡ self.old) }
+        ensures sure { IsTyped self.old node → IsOk result }
     {
         let origins = Typed {
             left: node.left,

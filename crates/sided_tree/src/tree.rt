@@ -1,4 +1,4 @@
-ghost use Rattle.std.specs.Prelude.{◌≡◌, ◌↔◌, ◌∷◌, [], false, true, OnErr, OnOk};
+ghost use Rattle.std.specs.Prelude.{◌≡◌, ◌↔◌, ◌∷◌, [], false, true, IsOk, OnErr, OnOk};
 ghost use Rattle.fugue_ids.specs.Keys.{ids};
 ghost use Rattle.fugue_ids.specs.declared.gap.Gap.TheVariants.{Alone};
 ghost use Rattle.fugue_ids.specs.declared.side.Side.TheVariants.{Left};
@@ -6,6 +6,7 @@ ghost use Rattle.origin_model.specs.sides.Detached.{NoOrigin, without};
 ghost use Rattle.origin_model.specs.sides.Keys.{keyed_order};
 ghost use Rattle.origin_model.specs.sides.Node.{AreNodes, has_node, has_origin, node_order};
 ghost use Rattle.origin_model.specs.sides.Slot.{IsBeside, at_gap};
+ghost use Rattle.sided_tree.specs.Nodes.{IsTyped};
 ghost use Rattle.sided_tree.specs.Side.{HangsLeft};
 
 use crate::gaps::{are_beside, gap_between, gap_by_keys};
@@ -95,7 +96,8 @@ impl SidedTree {
         gap_by_keys(nodes, order, &node)
     }
 
-    /// One node more. After want of memory the tree is as before. Of all calls, this one alone takes memory.
+    /// One node more. After want of memory the tree is as before. Of all calls, this one alone takes memory, and none for a node that was typed
+    /// behind the one before it.
     ///
     /// The order is not looked at: where the node stands is told by its key.
     pub fn attach<F: OrderOf>(
@@ -111,6 +113,7 @@ impl SidedTree {
         requires list { F.listed order.now ≡ keyed_order self.old }
         ensures ok { OnOk result (self.new ≡ record { id = id; left = left; right = right } ∷ self.old) }
         ensures err { OnErr result (self.new ≡ self.old) }
+        ensures sure { IsTyped self.old (record { id = id; left = left; right = right }) → IsOk result }
         ensures are_nodes { AreNodes self.new }
     {
         let _ = order;

@@ -1,8 +1,7 @@
 use Rattle.std.proofs.Common.{sym, ◌∙◌}
 use Rattle.fugue_ids.specs.Keys.{between, rest_of}
-use Rattle.origin_model.specs.sides.Node.{as_op, as_ops, node_order}
-use Rattle.origin_model.specs.sides.Slot.{goes_before}
-use Rattle.sided_tree.proofs.ElderLemmas.{front_decides, front_falls, halves, last_passes, last_sibling, none_passes}
+use Rattle.sided_tree.specs.Elders.{is_elder}
+use Rattle.sided_tree.proofs.ElderLemmas.{front_decides, front_ends, front_falls, last_passes, none_passes}
 use Rattle.sided_tree.proofs.OrderLemmas.{once}
 use Rattle.sided_tree.proofs.LowLemmas.{low_held}
 use Rattle.sided_tree.proofs.elders.last_elder.Goals as goal
@@ -16,41 +15,29 @@ last-requires-clause-to g c = low_held c.args.part.now.key (rest_of c.args.part.
 pub returns-in_err-last-clause-elder : goal.returns-in_err-last-clause-elder
 returns-in_err-last-clause-elder g c =
     let part = c.args.part.now in
-    let first = goes_before (node_order c.args.nodes.now) (as_ops c.args.nodes.now) (as_op c.args.node.now) c.args.node.now.id in
+    let first = is_elder c.args.nodes.now c.args.node.now in
     c.from_residual.ensures ∙ sym (none_passes first part.key (between part.from part.to (g.F.OrderOf.listed c.args.order.now)) (sym c.in_err-last.ensures.last))
 
 pub returns-then-goes_before-clause-elder : goal.returns-then-goes_before-clause-elder
 returns-then-goes_before-clause-elder g c =
     let part = c.args.part.now in
-    let first = goes_before (node_order c.args.nodes.now) (as_ops c.args.nodes.now) (as_op c.args.node.now) c.args.node.now.id in
+    let first = is_elder c.args.nodes.now c.args.node.now in
     sym (last_passes first part.key (between part.from part.to (g.F.OrderOf.listed c.args.order.now)) c.in_ok-last.last (sym c.in_ok-last.ensures.last) (sym c.goes_before.ensures ∙ c.if-goes_before.true))
 
 pub elder_by_halves-requires-clause-to : goal.elder_by_halves-requires-clause-to
 elder_by_halves-requires-clause-to g c =
     let es = g.F.OrderOf.listed c.args.order.now in
-    let part = c.args.part.now in
-    let first = goes_before (node_order c.args.nodes.now) (as_ops c.args.nodes.now) (as_op c.args.node.now) c.args.node.now.id in
-    let s = c.in_ok-last.last in
-    let h = halves es part.key part.from part.to s (once c.args.nodes.now es c.requires.new.1 c.requires.list) c.requires.from c.requires.to
-    (last_sibling first part.key (between part.from part.to es) s (sym c.in_ok-last.ensures.last)) in
-    h.low_behind
+    front_ends (is_elder c.args.nodes.now c.args.node.now) es c.args.part.now (once c.args.nodes.now es c.requires.new.1 c.requires.list) c.requires.from c.requires.to c.in_ok-last.last (sym c.in_ok-last.ensures.last)
 
 pub elder_by_halves-requires-clause-falls : goal.elder_by_halves-requires-clause-falls
 elder_by_halves-requires-clause-falls g c =
     let es = g.F.OrderOf.listed c.args.order.now in
-    let part = c.args.part.now in
-    let first = goes_before (node_order c.args.nodes.now) (as_ops c.args.nodes.now) (as_op c.args.node.now) c.args.node.now.id in
-    let s = c.in_ok-last.last in
-    let h = halves es part.key part.from part.to s (once c.args.nodes.now es c.requires.new.1 c.requires.list) c.requires.from c.requires.to
-    (last_sibling first part.key (between part.from part.to es) s (sym c.in_ok-last.ensures.last)) in
-    front_falls first es part.key part.from part.to s h (c.requires.falls c.in_ok-last.ensures.fit)
+    front_falls (is_elder c.args.nodes.now c.args.node.now) es c.args.part.now (once c.args.nodes.now es c.requires.new.1 c.requires.list) c.requires.from c.requires.to c.in_ok-last.last (sym c.in_ok-last.ensures.last)
+    (c.requires.falls c.in_ok-last.ensures.fit)
 
 pub returns-clause-elder : goal.returns-clause-elder
 returns-clause-elder g c =
     let es = g.F.OrderOf.listed c.args.order.now in
-    let part = c.args.part.now in
-    let first = goes_before (node_order c.args.nodes.now) (as_ops c.args.nodes.now) (as_op c.args.node.now) c.args.node.now.id in
-    let s = c.in_ok-last.last in
-    let h = halves es part.key part.from part.to s (once c.args.nodes.now es c.requires.new.1 c.requires.list) c.requires.from c.requires.to
-    (last_sibling first part.key (between part.from part.to es) s (sym c.in_ok-last.ensures.last)) in
-    c.elder_by_halves.ensures ∙ sym (front_decides first es part.key part.from part.to s h (c.requires.falls c.in_ok-last.ensures.fit) (sym c.goes_before.ensures ∙ c.if-goes_before.false))
+    c.elder_by_halves.ensures
+    ∙ sym (front_decides (is_elder c.args.nodes.now c.args.node.now) es c.args.part.now (once c.args.nodes.now es c.requires.new.1 c.requires.list) c.requires.from c.requires.to c.in_ok-last.last (sym c.in_ok-last.ensures.last)
+    (c.requires.falls c.in_ok-last.ensures.fit) (sym c.goes_before.ensures ∙ c.if-goes_before.false))

@@ -4,8 +4,7 @@ use Rattle.fugue_ids.specs.Keys.{between, rest_of}
 use Rattle.fugue_ids.specs.Listed.{HoldsOrigin}
 use Rattle.fugue_ids.specs.declared.gap.Gap.TheVariants.{After}
 use Rattle.origin_model.specs.sides.KeyedGap.{Falls, block_end, low_ids}
-use Rattle.origin_model.specs.sides.Node.{as_op, as_ops, node_order}
-use Rattle.origin_model.specs.sides.Slot.{goes_before}
+use Rattle.sided_tree.specs.Elders.{is_elder}
 use Rattle.sided_tree.proofs.SlotLemmas.{bounds, by_elder, elder_held, element_held, fall, no_sibling, same_siblings}
 use Rattle.sided_tree.proofs.gaps.gap_by_keys.Goals as goal
 
@@ -52,7 +51,7 @@ last_elder-requires-clause-falls g c = λ fit.
     let es = g.F.OrderOf.listed c.args.order.now in
     let part = c.in-Some.ensures.some in
     let f = fall n ns es c.requires.new c.requires.list c.slot-slot.result c.slot-slot.ensures c.slot_key-key.result c.slot_key-key.ensures.key fit in
-    subst (λ T. T) (λ i. Falls (goes_before (node_order ns) (as_ops ns) (as_op n) n.id) (low_ids (sym part.2 i) (between (sym part.0 i) (sym part.1 i) es))) f
+    subst (λ T. T) (λ i. Falls (is_elder ns n) (low_ids (sym part.2 i) (between (sym part.0 i) (sym part.1 i) es))) f
 
 pub block_end-requires : goal.block_end-requires
 block_end-requires g c =
@@ -60,7 +59,7 @@ block_end-requires g c =
     let ns = c.args.nodes.now in
     let es = g.F.OrderOf.listed c.args.order.now in
     let part = c.in-Some.ensures.some in
-    let same = same_siblings (goes_before (node_order ns) (as_ops ns) (as_op n) n.id) es c.slot-slot.result c.slot_key-key.result c.in-Some.part.from c.in-Some.part.to c.in-Some.part.key part.0 part.1 part.2 in
+    let same = same_siblings (is_elder ns n) es c.slot-slot.result c.slot_key-key.result c.in-Some.part.from c.in-Some.part.to c.in-Some.part.key part.0 part.1 part.2 in
     elder_held n ns es c.requires.new c.requires.list c.slot-slot.result c.slot-slot.ensures c.slot_key-key.result c.slot_key-key.ensures.key c.in-Some-last_elder.elder (sym (c.in-Some-last_elder.ensures.elder ∙ same))
 
 pub returns-in-Some-last_elder-clause-gap : goal.returns-in-Some-last_elder-clause-gap
@@ -69,7 +68,7 @@ returns-in-Some-last_elder-clause-gap g c =
     let ns = c.args.nodes.now in
     let es = g.F.OrderOf.listed c.args.order.now in
     let part = c.in-Some.ensures.some in
-    let same = same_siblings (goes_before (node_order ns) (as_ops ns) (as_op n) n.id) es c.slot-slot.result c.slot_key-key.result c.in-Some.part.from c.in-Some.part.to c.in-Some.part.key part.0 part.1 part.2 in
+    let same = same_siblings (is_elder ns n) es c.slot-slot.result c.slot_key-key.result c.in-Some.part.from c.in-Some.part.to c.in-Some.part.key part.0 part.1 part.2 in
     ap After (c.block_end.ensures ∙ (λ i. block_end es (part.2 i).depth c.in-Some-last_elder.elder))
     ∙ by_elder n ns es c.requires.new c.requires.list c.slot-slot.result c.slot-slot.ensures c.slot_key-key.result c.slot_key-key.ensures.key (Some c.in-Some-last_elder.elder) (c.in-Some-last_elder.ensures.elder ∙ same)
 
@@ -79,6 +78,6 @@ returns-in-None-clause-gap g c =
     let ns = c.args.nodes.now in
     let es = g.F.OrderOf.listed c.args.order.now in
     let part = c.in-Some.ensures.some in
-    let same = same_siblings (goes_before (node_order ns) (as_ops ns) (as_op n) n.id) es c.slot-slot.result c.slot_key-key.result c.in-Some.part.from c.in-Some.part.to c.in-Some.part.key part.0 part.1 part.2 in
+    let same = same_siblings (is_elder ns n) es c.slot-slot.result c.slot_key-key.result c.in-Some.part.from c.in-Some.part.to c.in-Some.part.key part.0 part.1 part.2 in
     c.no_elder_gap-in-None.ensures
     ∙ by_elder n ns es c.requires.new c.requires.list c.slot-slot.result c.slot-slot.ensures c.slot_key-key.result c.slot_key-key.ensures.key None (c.in-None.ensures.elder ∙ same)
