@@ -1,5 +1,5 @@
 -- A new node at either side of another.
-use Rattle.std.proofs.Common.{◌≡◌, ℕ, ◌+◌, min, ◌<◌, ◌≤◌, List, [], ◌∷◌, ◌++◌, length, map, flat_map, Option, None, Some, refl, sym, ap, ◌∙◌, subst, arith}
+use Rattle.std.proofs.Common.{◌≡◌, ℕ, ◌+◌, ◌^◌, min, ◌<◌, ◌≤◌, List, [], ◌∷◌, ◌++◌, length, map, flat_map, Option, None, Some, refl, sym, ap, ◌∙◌, subst, arith}
 use Rattle.std.proofs.lemmas.List.{map-append, map-set}
 use Rattle.fugue_ids.specs.Identifiers.{Identifier}
 use Rattle.node_rope.specs.declared.side.Side.{Side}
@@ -8,17 +8,17 @@ use Rattle.node_rope.specs.declared.store.Store.{Store}
 use Rattle.node_rope.specs.declared.cells.Shape.{Shape}
 use Rattle.node_rope.specs.declared.cells.Link.{Link}
 use Rattle.node_rope.specs.declared.cells.Own.{Own}
-use Rattle.node_rope.specs.Made.{IsMade, IsKept, made_count, shapes_of}
+use Rattle.node_rope.specs.Made.{IsMade, IsKept, made_count, shapes_of, values_of}
 use Rattle.node_rope.specs.Shapes.{IsSound, shape_at, tree_of, order, IsWeighed, IsRanked, weight_at, least_at}
 use Rattle.node_rope.specs.Walk.{IsCounted}
 use Rattle.node_rope.specs.Sums.{no_rank}
 use Rattle.node_rope.specs.Joined.{IsJoined}
-use Rattle.node_rope.specs.Grown.{with_parent, new_beside, joined_beside}
-use Rattle.node_rope.specs.Rising.{IsRaised, SameLinks}
+use Rattle.node_rope.specs.Grown.{with_parent, new_beside, joined_beside, IsGrown}
+use Rattle.node_rope.specs.Rising.{IsRising, IsRaised, SameLinks, AreSmall}
 use Rattle.node_rope.specs.Sides.{flipped, seen, beside}
 use Rattle.node_rope.proofs.ShapeLemmas.{length-shapes, made-below}
 use Rattle.node_rope.proofs.EnterLemmas.{IsEntered, flip-entered, entered_before, joins_before, key_before, own_before}
-use Rattle.node_rope.proofs.GrowthLemmas.{are-within, grown-walk-before, grown-walk-after}
+use Rattle.node_rope.proofs.GrowthLemmas.{are-within, rising, small, grown, grown-walk-before, grown-walk-after}
 use Rattle.node_rope.proofs.FaceLemmas.{flip-at, flip-with_parent, flip-count, flip-weight, flip-least, mirrored, shapes-mirrored, there, mirror-sound, tree_by}
 
 -- what is written at the right is written at the left of the mirrored shapes
@@ -72,16 +72,33 @@ flip-beside s u at l key w b = record {
   to_u : ◌≡◌ {A = ℕ → Shape} (shape_at (shapes_of (mirrored u))) (λ i. flipped (shape_at (shapes_of u) i))
   to_u = λ k i. (there u).at i k
 
-pub is-beside : {T : Type 0} (d : Side) (s u : Store T) (root : Option Link) (at l : Link) (key : Identifier) (w : Own) → IsSound s root → IsMade s at → w.rank ≤ no_rank → l.number ≡ made_count s → shapes_of u ≡ joined_beside d (shapes_of s) at l (new_beside d (shapes_of s) at key w)
+is-beside : {T : Type 0} (d : Side) (s u : Store T) (root : Option Link) (at l : Link) (key : Identifier) (w : Own) → IsSound s root → IsMade s at → w.rank ≤ no_rank → l.number ≡ made_count s → shapes_of u ≡ joined_beside d (shapes_of s) at l (new_beside d (shapes_of s) at key w)
     → IsBeside d s u at l key w
 is-beside Left s u root at l key w so made fits number is = beside-left s u root at l key w so made fits number is
 is-beside Right s u root at l key w so made fits number is = flip-beside s u at l key w (beside-left (mirrored s) (mirrored u) root at l key w (mirror-sound s (mirrored s) root (there s) so) made fits (number ∙ sym (there s).count)
     (shapes-mirrored u ∙ ap (map flipped) is ∙ flip-joined (shapes_of s) at l (new_beside Right (shapes_of s) at key w) ∙ ap (joined_beside Left (map flipped (shapes_of s)) at l) (flip-new (shapes_of s) at key w)
     ∙ ap (λ (hs : List Shape). joined_beside Left hs at l (new_beside Left hs at key w)) (sym (shapes-mirrored s))))
 
--- the order once the sums are raised
-pub grown-walk : {T : Type 0} (d : Side) (s u v : Store T) (root : Option Link) (at l : Link) (key : Identifier) (w : Own) → IsSound s root → IsBeside d s u at l key w → IsKept s u → l.number ≡ made_count s → IsMade u l → IsMade s at → made_count u ≡ made_count s + 1
-    → IsCounted (tree_of (shapes_of v)) → IsWeighed (shapes_of v) → IsRanked (shapes_of v) → SameLinks (shapes_of u) (shapes_of v) → IsRaised (shapes_of u) (shapes_of v) w None → IsKept u v → made_count v ≡ made_count u
-    → order v root ≡ flat_map (beside d at.number l.number) (order s root)
-grown-walk Left s u v root at l key w so b kept number made made_at count cv wv rv links raised kept' count' = grown-walk-before s u root at l w so b.entered kept number made made_at count v cv wv rv links raised kept' count' b.joined
-grown-walk Right s u v root at l key w so b kept number made made_at count cv wv rv links raised kept' count' = grown-walk-after s u root at l w so b.entered kept number made made_at count v cv wv rv links raised kept' count' b.joined
+-- ---- u has a new node l of the shape h at the side of at
+module _ {T : Type 0} (d : Side) (s u : Store T) (root : Option Link) (at l : Link) (key : Identifier) (w : Own) (h : Shape) (new : h ≡ new_beside d (shapes_of s) at key w) (sound : IsSound s root) (made_at : IsMade s at) (fits : w.rank ≤ no_rank)
+    (is : shapes_of u ≡ joined_beside d (shapes_of s) at l h) (number : l.number ≡ made_count s) (made : IsMade u l) (count : made_count u ≡ made_count s + 1) (kept : IsKept s u) where
+  b : IsBeside d s u at l key w
+  b = is-beside d s u root at l key w sound made_at fits number (is ∙ ap (joined_beside d (shapes_of s) at l) new)
+
+  pub beside-rising : IsRising u w (Some at)
+  beside-rising = rising s u root at l w sound b.entered kept number made made_at count
+
+  pub beside-small : made_count s < 2 ^ 62 → AreSmall (shapes_of s) (w.weight + w.weight) → AreSmall (shapes_of u) w.weight
+  beside-small = small s u root at l w sound b.entered kept number made made_at count
+
+  -- the sums are raised
+  module _ (v : Store T) (cv : IsCounted (tree_of (shapes_of v))) (wv : IsWeighed (shapes_of v)) (rv : IsRanked (shapes_of v)) (links : SameLinks (shapes_of u) (shapes_of v)) (raised : IsRaised (shapes_of u) (shapes_of v) w None)
+      (kept' : IsKept u v) (count' : made_count v ≡ made_count u) where
+    pub beside-grown : (value : T) → values_of v ≡ values_of s ++ value ∷ [] → IsGrown s v root key w value l
+    beside-grown value values = grown s u root at l w sound b.entered kept number made made_at count v cv wv rv links raised kept' count' key value values b.key_here b.own_here
+
+    pub beside-walk : order v root ≡ flat_map (beside d at.number l.number) (order s root)
+    beside-walk = by d b.joined where
+      by : (d : Side) → IsJoined (seen d (tree_of (shapes_of s))) (seen d (tree_of (shapes_of u))) at.number l.number → order v root ≡ flat_map (beside d at.number l.number) (order s root)
+      by Left = grown-walk-before s u root at l w sound b.entered kept number made made_at count v cv wv rv links raised kept' count'
+      by Right = grown-walk-after s u root at l w sound b.entered kept number made made_at count v cv wv rv links raised kept' count'

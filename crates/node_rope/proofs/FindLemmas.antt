@@ -1,68 +1,126 @@
--- One step of the descent to a unit of weight.
-use Rattle.std.proofs.Common.{◌≡◌, ℕ, ◌+◌, ◌-◌, ◌<◌, ◌≤◌, ◌⊎◌, inl, inr, List, [], ◌∷◌, ◌++◌, Option, None, Some, refl, sym, ap, ◌∙◌, arith}
+-- One step of the descent to a unit of weight, or to a place.
+use Rattle.std.proofs.Common.{◌≡◌, ℕ, ◌+◌, ◌-◌, ◌<◌, ◌≤◌, ◌⊎◌, inl, inr, List, [], ◌∷◌, ◌++◌, length, length-append, get_or, Option, Some, refl, sym, ap, ◌∙◌, subst, arith}
+use Rattle.std.proofs.Math.Seq.{get_or-append_seam}
 use Rattle.std.proofs.lemmas.List.{append_assoc, append-nil}
 use Rattle.node_rope.specs.declared.store.Store.{Store}
 use Rattle.node_rope.specs.declared.cells.Shape.{Shape}
 use Rattle.node_rope.specs.declared.cells.Link.{Link}
 use Rattle.node_rope.specs.Made.{shapes_of}
-use Rattle.node_rope.specs.Shapes.{IsSound, shape_at, number_of, tree_of, weigh, weight_at, owns, order}
+use Rattle.node_rope.specs.Shapes.{IsSound, AreMade, shape_at, number_of, tree_of, weigh, weight_at, owns, order}
 use Rattle.node_rope.specs.Sums.{adding}
-use Rattle.node_rope.specs.Walk.{whole}
+use Rattle.node_rope.specs.Walk.{count_of, whole}
 use Rattle.node_rope.specs.Found.{IsFound, IsReached}
-use Rattle.node_rope.proofs.WalkLemmas.{whole-node}
+use Rattle.node_rope.proofs.WalkLemmas.{whole-node, length-whole}
 use Rattle.node_rope.proofs.ShapeLemmas.{weight-sum}
 use Rattle.node_rope.proofs.SumLemmas.{adding-lawful, fold-append}
 use Rattle.node_rope.proofs.ClimbLemmas.{weight-is}
 
-module _ {T : Type 0} (s : Store T) (root : Option Link) (sound : IsSound s root) (w : ℕ) (l : Link) (r : ℕ) (at : IsReached s (order s root) w (Some l) r) where
+-- how a list of nodes is counted: of a node, and of two lists
+pub record IsSize (size : List ℕ → ℕ) (own : ℕ → ℕ) : Type 0 where
+  pub none : size [] ≡ 0
+  pub one : (x : ℕ) (xs : List ℕ) → size (x ∷ xs) ≡ own x + size xs
+  pub both : (xs ys : List ℕ) → size (xs ++ ys) ≡ size xs + size ys
+
+pub weighing : (ss : List Shape) → IsSize (weigh ss) (owns ss)
+weighing ss = record { none = refl; one = λ x xs. refl; both = fold-append adding adding-lawful (owns ss) }
+
+pub counting : IsSize length (λ _. 1)
+counting = record { none = refl; one = λ x xs. omega arith; both = λ xs ys. length-append xs ys }
+
+-- the unit w of xs is the unit r of x
+record StandsIn (size : List ℕ → ℕ) (own : ℕ → ℕ) (xs : List ℕ) (w x r : ℕ) : Type 0 where
+  front : List ℕ
+  back : List ℕ
+  split : xs ≡ front ++ x ∷ back
+  before : w ≡ size front + r
+  inside : r < own x
+
+-- the loop reads the node l, and what is left of it
+module _ {T : Type 0} (size : List ℕ → ℕ) (own : ℕ → ℕ) (S : IsSize size own) (s : Store T) (root : Option Link) (sound : IsSound s root) (w : ℕ) (o : Option Link) (r : ℕ) (reached : IsReached size s (order s root) w o r) (l : Link) (is_l : o ≡ Some l)
+    (h : Shape) (read : h ≡ shape_at (shapes_of s) l.number) (left : ℕ) (is_left : left ≡ size (whole (tree_of (shapes_of s)) (number_of h.left))) where
+  abbrev x : ℕ
+  x = l.number
+
+  at : IsReached size s (order s root) w (Some l) r
+  at = subst (λ (q : Option Link). IsReached size s (order s root) w q r) is_l reached
+
+  abbrev L : List ℕ
+  L = whole (tree_of (shapes_of s)) (number_of h.left)
+
+  abbrev R : List ℕ
+  R = whole (tree_of (shapes_of s)) (number_of h.right)
+
+  node : whole (tree_of (shapes_of s)) (Some x) ≡ L ++ x ∷ R
+  node = whole-node (tree_of (shapes_of s)) sound.counted x ∙ ap (λ (g : Shape). whole (tree_of (shapes_of s)) (number_of g.left) ++ x ∷ whole (tree_of (shapes_of s)) (number_of g.right)) (sym read)
+
+  all : size (whole (tree_of (shapes_of s)) (Some x)) ≡ size L + (own x + size R)
+  all = ap size node ∙ S.both L (x ∷ R) ∙ ap (λ n. size L + n) (S.one x R)
+
+  parts : order s root ≡ at.front ++ (L ++ (x ∷ (R ++ at.back)))
+  parts = at.split ∙ ap (λ xs. at.front ++ (xs ++ at.back)) node ∙ ap (λ xs. at.front ++ xs) (append_assoc L (x ∷ R) at.back)
+
+  split-here : order s root ≡ (at.front ++ L) ++ x ∷ (R ++ at.back)
+  split-here = parts ∙ sym (append_assoc at.front L (x ∷ (R ++ at.back)))
+
+  pub goes-left : r < left → IsReached size s (order s root) w h.left r
+  goes-left k = record { front = at.front; back = x ∷ (R ++ at.back); split = parts; before = at.before; here = inl (omega (arith, k, is_left)); made = subst (λ (g : Shape). AreMade s g.left) (sym read) (sound.made_left x) }
+
+  stands-here : left ≤ r → r - left < own x → StandsIn size own (order s root) w x (r - left)
+  stands-here k j = record { front = at.front ++ L; back = R ++ at.back; split = split-here; before = omega (arith, at.before, S.both at.front L, is_left, k); inside = j }
+
+  pub goes-right : left ≤ r → own x ≤ r - left → IsReached size s (order s root) w h.right (r - left - own x)
+  goes-right k j = record {
+    front = (at.front ++ L) ++ x ∷ [];
+    back = at.back;
+    split = split-here ∙ sym (append_assoc (at.front ++ L) (x ∷ []) (R ++ at.back));
+    before = omega (arith, at.before, S.both at.front L, is_left, k, j, S.both (at.front ++ L) (x ∷ []), S.one x [], S.none);
+    here = elim at.here as (λ _. (r - left - own x < size R) ⊎ (at.back ≡ [])) [ inl e ↦ inl (omega (arith, e, all, is_left, k, j)) | inr e ↦ inr e ];
+    made = subst (λ (g : Shape). AreMade s g.right) (sym read) (sound.made_right x);
+  }
+
+-- ---- by weight
+module _ {T : Type 0} (s : Store T) (root : Option Link) (sound : IsSound s root) (w : ℕ) (o : Option Link) (r : ℕ) (reached : IsReached (weigh (shapes_of s)) s (order s root) w o r) (l : Link) (is_l : o ≡ Some l)
+    (h : Shape) (read : h ≡ shape_at (shapes_of s) l.number) (left : ℕ) (is_left : left ≡ weight_at (shapes_of s) h.left) where
   abbrev ss : List Shape
   ss = shapes_of s
 
-  abbrev pub L : List ℕ
-  L = whole (tree_of ss) (number_of (shape_at ss l.number).left)
+  sum : left ≡ weigh ss (whole (tree_of ss) (number_of h.left))
+  sum = is_left ∙ weight-sum ss h.left ∙ weight-is ss sound.counted sound.weighed (number_of h.left)
 
-  abbrev R : List ℕ
-  R = whole (tree_of ss) (number_of (shape_at ss l.number).right)
+  own : h.own.weight ≡ owns ss l.number
+  own = ap (λ (g : Shape). g.own.weight) read
 
-  pub left-weight : weight_at ss (shape_at ss l.number).left ≡ weigh ss L
-  left-weight = weight-sum ss (shape_at ss l.number).left ∙ weight-is ss sound.counted sound.weighed (number_of (shape_at ss l.number).left)
+  pub find-left : r < left → IsReached (weigh ss) s (order s root) w h.left r
+  find-left = goes-left (weigh ss) (owns ss) (weighing ss) s root sound w o r reached l is_l h read left sum
 
-  node : whole (tree_of ss) (Some l.number) ≡ L ++ l.number ∷ R
-  node = whole-node (tree_of ss) sound.counted l.number
+  pub find-here : left ≤ r → r - left < h.own.weight → IsFound ss (order s root) w l (r - left)
+  find-here k j =
+      let it = stands-here (weigh ss) (owns ss) (weighing ss) s root sound w o r reached l is_l h read left sum k (omega (arith, own, j)) in
+      record { front = it.front; back = it.back; split = it.split; before = it.before; inside = it.inside }
 
-  all : weigh ss (whole (tree_of ss) (Some l.number)) ≡ weigh ss L + ((shape_at ss l.number).own.weight + weigh ss R)
-  all = ap (weigh ss) node ∙ fold-append adding adding-lawful (owns ss) L (l.number ∷ R)
+  pub find-right : left ≤ r → h.own.weight ≤ r - left → IsReached (weigh ss) s (order s root) w h.right (r - left - h.own.weight)
+  find-right k j = rw own (goes-right (weigh ss) (owns ss) (weighing ss) s root sound w o r reached l is_l h read left sum k (omega (arith, own, j)))
 
-  parts : order s root ≡ at.front ++ (L ++ (l.number ∷ (R ++ at.back)))
-  parts = at.split ∙ ap (λ xs. at.front ++ (xs ++ at.back)) node ∙ ap (λ xs. at.front ++ xs) (append_assoc L (l.number ∷ R) at.back)
+-- ---- by place
+module _ {T : Type 0} (s : Store T) (root : Option Link) (sound : IsSound s root) (w : ℕ) (o : Option Link) (r : ℕ) (reached : IsReached length s (order s root) w o r) (l : Link) (is_l : o ≡ Some l)
+    (h : Shape) (read : h ≡ shape_at (shapes_of s) l.number) (left : ℕ) (is_left : left ≡ count_of (tree_of (shapes_of s)) (number_of h.left)) where
+  size : left ≡ length (whole (tree_of (shapes_of s)) (number_of h.left))
+  size = is_left ∙ sym (length-whole (tree_of (shapes_of s)) sound.counted (number_of h.left))
 
-  pub goes-left : r < weigh ss L → IsReached s (order s root) w (shape_at ss l.number).left r
-  goes-left h = record { front = at.front; back = l.number ∷ (R ++ at.back); split = parts; before = at.before; here = inl h; made = sound.made_left l.number }
+  pub place-left : r < left → IsReached length s (order s root) w h.left r
+  place-left = goes-left length (λ _. 1) counting s root sound w o r reached l is_l h read left size
 
-  split-here : order s root ≡ (at.front ++ L) ++ l.number ∷ (R ++ at.back)
-  split-here = parts ∙ sym (append_assoc at.front L (l.number ∷ (R ++ at.back)))
+  pub place-here : r ≡ left → (w < length (order s root)) × (get_or (order s root) w 0 ≡ l.number)
+  place-here k =
+      let it = stands-here length (λ _. 1) counting s root sound w o r reached l is_l h read left size (omega (arith, k)) (omega (arith, k)) in
+      let place : w ≡ length it.front = omega (arith, it.before, k) in (
+        omega (arith, place, ap length it.split, length-append it.front (l.number ∷ it.back)),
+        ap (λ (xs : List ℕ). get_or xs w 0) it.split ∙ ap (λ (n : ℕ). get_or (it.front ++ l.number ∷ it.back) n 0) place ∙ get_or-append_seam it.front l.number it.back 0,
+      )
 
-  front-weight : weigh ss (at.front ++ L) ≡ weigh ss at.front + weigh ss L
-  front-weight = fold-append adding adding-lawful (owns ss) at.front L
+  pub place-right : left < r → IsReached length s (order s root) w h.right (r - left - 1)
+  place-right k = goes-right length (λ _. 1) counting s root sound w o r reached l is_l h read left size (omega (arith, k)) (omega (arith, k))
 
-  pub is-here : weigh ss L ≤ r → r - weigh ss L < (shape_at ss l.number).own.weight → IsFound ss (order s root) w l (r - weigh ss L)
-  is-here h k = record { front = at.front ++ L; back = R ++ at.back; split = split-here; before = omega (arith, at.before, front-weight, h); inside = k }
-
-  pub goes-right : weigh ss L ≤ r → (shape_at ss l.number).own.weight ≤ r - weigh ss L → IsReached s (order s root) w (shape_at ss l.number).right (r - weigh ss L - (shape_at ss l.number).own.weight)
-  goes-right h k = record {
-    front = (at.front ++ L) ++ l.number ∷ [];
-    back = at.back;
-    split = split-here ∙ sym (append_assoc (at.front ++ L) (l.number ∷ []) (R ++ at.back));
-    before = omega (arith, at.before, front-weight, h, k, fold-append adding adding-lawful (owns ss) (at.front ++ L) (l.number ∷ []));
-    here = elim at.here as (λ _. (r - weigh ss L - (shape_at ss l.number).own.weight < weigh ss R) ⊎ (at.back ≡ [])) [ inl e ↦ inl (omega (arith, e, all, h, k)) | inr e ↦ inr e ];
-    made = sound.made_right l.number;
-  }
-
-pub starts : {T : Type 0} (s : Store T) (root : Option Link) (sound : IsSound s root) (w : ℕ) → IsReached s (order s root) w root w
-starts s root sound w = record { front = []; back = []; split = sym (append-nil (order s root)); before = omega arith; here = inr refl; made = sound.made_root }
-
-pub is-past : {T : Type 0} (s : Store T) (xs : List ℕ) (w r : ℕ) → IsReached s xs w None r → weigh (shapes_of s) xs ≤ w
-is-past s xs w r at = elim at.here as (λ _. weigh (shapes_of s) xs ≤ w) [
-  | inl e ↦ absurd (omega (arith, e))
-  | inr e ↦ (let f : xs ≡ at.front = at.split ∙ ap (λ ys. at.front ++ ys) e ∙ append-nil at.front in omega (arith, at.before, ap (weigh (shapes_of s)) f))
-]
+-- ---- the start
+pub starts : {T : Type 0} (size : List ℕ → ℕ) (own : ℕ → ℕ) → IsSize size own → (s : Store T) (root : Option Link) (sound : IsSound s root) (w : ℕ) → IsReached size s (order s root) w root w
+starts size own S s root sound w = record { front = []; back = []; split = sym (append-nil (order s root)); before = omega (arith, S.none); here = inr refl; made = sound.made_root }

@@ -19,7 +19,7 @@ use Rattle.node_rope.specs.Items.{IsRope, item_at, items_of, value_under}
 use Rattle.node_rope.specs.Linked.{IsSet, IsSame}
 use Rattle.node_rope.specs.Sums.{no_rank}
 use Rattle.node_rope.specs.Grown.{IsGrown}
-use Rattle.node_rope.specs.Turned.{SameItems}
+use Rattle.node_rope.specs.Turned.{IsRearranged}
 use Rattle.node_rope.proofs.WalkLemmas.{whole-node}
 use Rattle.node_rope.proofs.TurnLemmas.{same-or-not}
 use Rattle.node_rope.proofs.ShapeLemmas.{length-shapes, made-below, higher}
@@ -159,6 +159,14 @@ module _ {T : Type 0} (wt : T → Own) (s : Store T) (root : Option Link) (m : B
   pub held : (k : Identifier) (l : Link) → get id_cmp m k ≡ Some l → (v : T) → slice_get (values_of s) l.number ≡ Some v → value_under k (items_of s root) ≡ Some v
   held k l e v is = value-among s k l.number v (alone k l e) is (order s root) (all-made s root r.sound) (in-order s root r.sound l.number (made-below s l (r.mapped k l e)))
 
+  -- the value of a node stands under its key
+  pub node-holds : (l : Link) → IsMade s l → (d : T) → d ≡ get_or (values_of s) l.number d → value_under (shape_at (shapes_of s) l.number).key (items_of s root) ≡ Some d
+  node-holds l made d read =
+      let below = made-below s l made in
+      let v = value-made s l.number below in
+      let at = r.listed l.number below in
+      held (shape_at (shapes_of s) l.number).key at.0 at.2 v.0 (ap (slice_get (values_of s)) at.1 ∙ v.1) ∙ ap Some (sym (value-read s l.number d v.0 read v.1))
+
   pub not-held : (k : Identifier) → get id_cmp m k ≡ None → value_under k (items_of s root) ≡ None
   not-held k e = value-none s k (λ x h. false_from_ne_true _ (λ g. (
       let is : (shape_at (shapes_of s) x).key ≡ k = id_eq-true (shape_at (shapes_of s) x).key k g in
@@ -199,18 +207,17 @@ module _ {T : Type 0} (wt : T → Own) (s : Store T) (root : Option Link) (m : B
   ]
 
 -- the grown store, whose nodes moved in the tree
-pub regrown : {T : Type 0} (s u v : Store T) (root top : Option Link) (key : Identifier) (w : Own) (value : T) (l : Link) → IsGrown s u root key w value l → IsSound v top → SameItems (shapes_of u) (shapes_of v) → values_of v ≡ values_of u → made_count v ≡ made_count u → IsKept u v
-    → IsGrown s v top key w value l
-regrown s u v root top key w value l g sound items values count kept = record {
-  sound = sound;
+pub regrown : {T : Type 0} (s u v : Store T) (root top : Option Link) (key : Identifier) (w : Own) (value : T) (l : Link) → IsGrown s u root key w value l → IsRearranged u v root top → IsGrown s v top key w value l
+regrown s u v root top key w value l g e = record {
+  sound = e.sound;
   number = g.number;
-  made = kept l g.made;
-  count = count ∙ g.count;
-  values = values ∙ g.values;
-  key_here = (items l.number).0 ∙ g.key_here;
-  own_here = (items l.number).1 ∙ g.own_here;
-  keys = λ i ne. (items i).0 ∙ g.keys i ne;
-  owns = λ i ne. (items i).1 ∙ g.owns i ne;
+  made = e.kept l g.made;
+  count = e.count ∙ g.count;
+  values = e.values ∙ g.values;
+  key_here = (e.items l.number).0 ∙ g.key_here;
+  own_here = (e.items l.number).1 ∙ g.own_here;
+  keys = λ i ne. (e.items i).0 ∙ g.keys i ne;
+  owns = λ i ne. (e.items i).1 ∙ g.owns i ne;
 }
 
 got-end : {X : Type 0} (xs : List X) (y : X) (i : ℕ) (x : X) → slice_get (xs ++ y ∷ []) i ≡ Some x → (slice_get xs i ≡ Some x) ⊎ ((i ≡ length xs) × (y ≡ x))

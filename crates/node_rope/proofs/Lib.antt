@@ -24,7 +24,6 @@ pub mod LowLemmas
 pub mod MirrorLemmas
 pub mod NodeCountLemmas
 pub mod OnceLemmas
-pub mod PlaceLemmas
 pub mod PutLemmas
 pub mod RaiseLemmas
 pub mod RekeyLemmas
@@ -37,3 +36,4 @@ pub mod SumLemmas
 pub mod TurnedLemmas
 pub mod TurnLemmas
 pub mod WalkLemmas
+pub mod WalkedLemmas

@@ -1,21 +1,30 @@
--- The first and the last low node, by the least ranks of subtrees.
+-- The first low node as seen from a side, by the least ranks of subtrees.
 use Rattle.std.proofs.Common.{◌≡◌, ℕ, zero, suc, ◌-◌, ◌<◌, ◌≤◌, min, Bool, true, false, ◌||◌, cond, List, [], ◌∷◌, ◌++◌, length, drop, take, Option, None, Some, refl, sym, ap, ◌∙◌, arith}
-use Rattle.std.specs.Prelude.{nat_le, is_some}
+use Rattle.std.specs.Prelude.{nat_le, is_some, reverse}
 use Rattle.std.proofs.lemmas.Bool.Decides.{nat_tests}
+use Rattle.std.proofs.lemmas.List.{reverse-append, length-reverse, length-drop, take-append-drop}
+use Rattle.node_rope.specs.declared.side.Side.{Side}
+use Rattle.node_rope.specs.declared.side.Side.TheVariants.{Left, Right}
+use Rattle.node_rope.specs.declared.store.Store.{Store}
 use Rattle.node_rope.specs.declared.cells.Shape.{Shape}
 use Rattle.node_rope.specs.declared.cells.Link.{Link}
+use Rattle.node_rope.specs.Made.{shapes_of}
 use Rattle.node_rope.specs.Walk.{Tree, count_of, whole, IsCounted}
-use Rattle.node_rope.specs.Sums.{lesser, no_rank, sum_of}
-use Rattle.node_rope.specs.Shapes.{AreRanksFit, IsRanked, shape_at, number_of, tree_of, ranks, leasts}
-use Rattle.node_rope.specs.Low.{or_else, if_low, first_low, last_low, low_at, first_low_below, last_low_below, first_low_from, last_low_to}
+use Rattle.node_rope.specs.Sums.{lesser, no_rank, sum_of, IsSummed}
+use Rattle.node_rope.specs.Sides.{faced, seen}
+use Rattle.node_rope.specs.Shapes.{AreMade, AreRanksFit, IsSound, order, shape_at, number_of, tree_of, ranks, leasts}
+use Rattle.node_rope.specs.Low.{or_else, if_low, first_low, last_low, low_at, low_below, low_from, seen_order}
 use Rattle.node_rope.proofs.WalkLemmas.{whole-node, length-whole}
-use Rattle.node_rope.proofs.SumLemmas.{take-seam, take-first, drop-first, drop-past}
+use Rattle.node_rope.proofs.MirrorLemmas.{mirror-counted, mirror-summed, whole-mirrored}
+use Rattle.node_rope.proofs.JoinLemmas.{lesser-commutes}
+use Rattle.node_rope.proofs.FaceLemmas.{faced-field}
+use Rattle.node_rope.proofs.SumLemmas.{drop-first, drop-past}
 
 pub or_else-assoc : {X : Type 0} (a b d : Option X) → or_else (or_else a b) d ≡ or_else a (or_else b d)
 or_else-assoc None b d = refl
 or_else-assoc (Some x) b d = refl
 
-pub or_else-none : {X : Type 0} (a : Option X) → or_else a None ≡ a
+or_else-none : {X : Type 0} (a : Option X) → or_else a None ≡ a
 or_else-none None = refl
 or_else-none (Some x) = refl
 
@@ -42,36 +51,72 @@ module _ {X : Type 0} (rank : X → ℕ) (most : ℕ) where
   first-append [] ys = refl
   first-append (x ∷ xs) ys = ap (or_else (if_low rank most x)) (first-append xs ys) ∙ sym (or_else-assoc (if_low rank most x) (first_low rank most xs) (first_low rank most ys))
 
-  pub last-append : (xs ys : List X) → last_low rank most (xs ++ ys) ≡ or_else (last_low rank most ys) (last_low rank most xs)
-  last-append [] ys = sym (or_else-none (last_low rank most ys))
-  last-append (x ∷ xs) ys = ap (λ o. or_else o (if_low rank most x)) (last-append xs ys) ∙ or_else-assoc (last_low rank most ys) (last_low rank most xs) (if_low rank most x)
-
-  pub if-low : (x : X) → is_some (if_low rank most x) ≡ nat_le (rank x) most
+  if-low : (x : X) → is_some (if_low rank most x) ≡ nat_le (rank x) most
   if-low x = by (nat_le (rank x) most) where
     by : (b : Bool) → is_some (cond b (Some x) None) ≡ b
     by false = refl
     by true = refl
 
-  -- a list has a first low one where it has a last one
-  pub both-ends : (xs : List X) → is_some (last_low rank most xs) ≡ is_some (first_low rank most xs)
-  both-ends [] = refl
-  both-ends (x ∷ xs) = is_some-or (last_low rank most xs) (if_low rank most x) ∙ ap (λ b. b || is_some (if_low rank most x)) (both-ends xs) ∙ or-swap (is_some (first_low rank most xs)) (is_some (if_low rank most x)) ∙ sym (is_some-or (if_low rank most x) (first_low rank most xs))
+  -- the last one is the first from the end
+  pub first-reversed : (xs : List X) → first_low rank most (reverse xs) ≡ last_low rank most xs
+  first-reversed [] = refl
+  first-reversed (x ∷ xs) = ap (first_low rank most) (reverse-append (x ∷ []) xs) ∙ first-append (reverse xs) (x ∷ []) ∙ ap (or_else (first_low rank most (reverse xs))) (or_else-none (if_low rank most x)) ∙ ap (λ o. or_else o (if_low rank most x)) (first-reversed xs)
 
-pub le-told : (a b : ℕ) → a ≤ b → nat_le a b ≡ true
+le-told : (a b : ℕ) → a ≤ b → nat_le a b ≡ true
 le-told a b h = grind (arith, nat_tests)
 
-pub le-not : (a b : ℕ) → b < a → nat_le a b ≡ false
+le-not : (a b : ℕ) → b < a → nat_le a b ≡ false
 le-not a b h = grind (arith, nat_tests)
 
 le-min : (a b most : ℕ) → (nat_le a most || nat_le b most) ≡ nat_le (min a b) most
 le-min a b most = grind (arith, nat_tests)
 
-module _ (ss : List Shape) (ct : IsCounted (tree_of ss)) (rt : IsRanked ss) (fits : AreRanksFit ss) (most : ℕ) where
+-- ---- a tree as it is seen from a side
+seen-counted : (d : Side) (t : Tree) → IsCounted t → IsCounted (seen d t)
+seen-counted Left t ct = ct
+seen-counted Right t ct = mirror-counted t ct
+
+seen-ranked : (d : Side) (t : Tree) (own s : ℕ → ℕ) → IsSummed lesser t own s → IsSummed lesser (seen d t) own s
+seen-ranked Left t own s h = h
+seen-ranked Right t own s h = mirror-summed lesser lesser-commutes t own s h
+
+seen-count : (d : Side) (t : Tree) (o : Option ℕ) → count_of (seen d t) o ≡ count_of t o
+seen-count Left t o = refl
+seen-count Right t None = refl
+seen-count Right t (Some x) = refl
+
+seen-left : (d : Side) (ss : List Shape) (x : ℕ) → (seen d (tree_of ss)).left x ≡ number_of (faced d (shape_at ss x)).left
+seen-left Left ss x = refl
+seen-left Right ss x = refl
+
+seen-right : (d : Side) (ss : List Shape) (x : ℕ) → (seen d (tree_of ss)).right x ≡ number_of (faced d (shape_at ss x)).right
+seen-right Left ss x = refl
+seen-right Right ss x = refl
+
+module _ {T : Type 0} (s : Store T) (root : Option Link) (so : IsSound s root) where
+  left-made : (d : Side) (x : ℕ) → AreMade s (faced d (shape_at (shapes_of s) x)).left
+  left-made Left x = so.made_left x
+  left-made Right x = so.made_right x
+
+  right-made : (d : Side) (x : ℕ) → AreMade s (faced d (shape_at (shapes_of s) x)).right
+  right-made Left x = so.made_right x
+  right-made Right x = so.made_left x
+
+module _ {T : Type 0} (s : Store T) (root : Option Link) (so : IsSound s root) (fits : AreRanksFit (shapes_of s)) (most : ℕ) (d : Side) where
+  abbrev ss : List Shape
+  ss = shapes_of s
+
   abbrev t : Tree
-  t = tree_of ss
+  t = seen d (tree_of ss)
 
   abbrev rank : ℕ → ℕ
   rank = ranks ss
+
+  ct : IsCounted t
+  ct = seen-counted d (tree_of ss) so.counted
+
+  rt : IsSummed lesser t rank (leasts ss)
+  rt = seen-ranked d (tree_of ss) rank (leasts ss) so.ranked
 
   abbrev low : Option ℕ → Bool
   low None = false
@@ -79,9 +124,6 @@ module _ (ss : List Shape) (ct : IsCounted (tree_of ss)) (rt : IsRanked ss) (fit
 
   first-node : (x : ℕ) → first_low rank most (whole t (Some x)) ≡ or_else (first_low rank most (whole t (t.left x))) (or_else (if_low rank most x) (first_low rank most (whole t (t.right x))))
   first-node x = ap (first_low rank most) (whole-node t ct x) ∙ first-append rank most (whole t (t.left x)) (x ∷ whole t (t.right x))
-
-  last-node : (x : ℕ) → last_low rank most (whole t (Some x)) ≡ or_else (last_low rank most (whole t (t.right x))) (or_else (if_low rank most x) (last_low rank most (whole t (t.left x))))
-  last-node x = ap (last_low rank most) (whole-node t ct x) ∙ last-append rank most (whole t (t.left x)) (x ∷ whole t (t.right x)) ∙ or_else-assoc (last_low rank most (whole t (t.right x))) (if_low rank most x) (last_low rank most (whole t (t.left x)))
 
   -- a node and what is below it has a low one where its least rank is low
   low-node : (o q : Option ℕ) (r least : ℕ) → r ≤ no_rank → least ≡ min (sum_of lesser (leasts ss) o) (min r (sum_of lesser (leasts ss) q)) → (low o || (nat_le r most || low q)) ≡ nat_le least most
@@ -106,91 +148,92 @@ module _ (ss : List Shape) (ct : IsCounted (tree_of ss)) (rt : IsRanked ss) (fit
   low-is (Some l) = refl
 
   -- what the test of a subtree tells
-  pub first-told : (o : Option Link) → is_some (first_low_below ss most o) ≡ low_at ss most o
-  first-told o = has-low (count_of t (number_of o)) (number_of o) (omega arith) ∙ low-is o
+  told : (o : Option Link) → is_some (low_below ss most d o) ≡ low_at ss most o
+  told o = has-low (count_of t (number_of o)) (number_of o) (omega arith) ∙ low-is o
 
-  pub last-told : (o : Option Link) → is_some (last_low_below ss most o) ≡ low_at ss most o
-  last-told o = both-ends rank most (whole t (number_of o)) ∙ first-told o
-
-  if-here : (x : ℕ) → nat_le (rank x) most ≡ true → if_low rank most x ≡ Some x
-  if-here x h = ap (λ b. cond b (Some x) None) h
-
-  if-not : (x : ℕ) → nat_le (rank x) most ≡ false → if_low rank most x ≡ None
-  if-not x h = ap (λ b. cond b (Some x) None) h
-
-  -- ---- one step down, from a node
-  module _ (l : Link) where
+  -- ---- one step down, from a node l, whose shape as seen from the side is h
+  module _ (l : Link) (h : Shape) (is : h ≡ faced d (shape_at ss l.number)) where
     abbrev x : ℕ
     x = l.number
 
-    abbrev left : Option Link
-    left = (shape_at ss x).left
+    pub near-made : AreMade s h.left
+    near-made m e = left-made s root so d x m (sym (ap (λ (g : Shape). g.left) is) ∙ e)
 
-    abbrev right : Option Link
-    right = (shape_at ss x).right
+    pub far-made : AreMade s h.right
+    far-made m e = right-made s root so d x m (sym (ap (λ (g : Shape). g.right) is) ∙ e)
 
-    pub first-left : low_at ss most left ≡ true → first_low_below ss most (Some l) ≡ first_low_below ss most left
-    first-left h = first-node x ∙ or_else-some (first_low_below ss most left) (first_low_from ss most (Some l)) (first-told left ∙ h)
+    left-is : t.left x ≡ number_of h.left
+    left-is = seen-left d ss x ∙ ap (λ (g : Shape). number_of g.left) (sym is)
 
-    pub first-not-left : low_at ss most left ≡ false → first_low_below ss most (Some l) ≡ first_low_from ss most (Some l)
-    first-not-left h = first-node x ∙ or_else-without (first_low_below ss most left) (first_low_from ss most (Some l)) (first-told left ∙ h)
+    right-is : t.right x ≡ number_of h.right
+    right-is = seen-right d ss x ∙ ap (λ (g : Shape). number_of g.right) (sym is)
 
-    pub from-here : nat_le (rank x) most ≡ true → first_low_from ss most (Some l) ≡ Some x
-    from-here h = ap (λ o. or_else o (first_low_below ss most right)) (if-here x h)
+    rank-is : h.own.rank ≡ rank x
+    rank-is = ap (λ (g : Shape). g.own.rank) is ∙ faced-field (λ g. g.own.rank) (λ g. refl) d (shape_at ss x)
 
-    pub from-right : nat_le (rank x) most ≡ false → first_low_from ss most (Some l) ≡ first_low_below ss most right
-    from-right h = ap (λ o. or_else o (first_low_below ss most right)) (if-not x h)
+    from-is : low_from ss most d (Some l) ≡ or_else (if_low rank most x) (low_below ss most d h.right)
+    from-is = ap (λ (g : Shape). or_else (if_low rank most x) (low_below ss most d g.right)) (sym is)
 
-    pub last-right : low_at ss most right ≡ true → last_low_below ss most (Some l) ≡ last_low_below ss most right
-    last-right h = last-node x ∙ or_else-some (last_low_below ss most right) (last_low_to ss most (Some l)) (last-told right ∙ h)
+    below-is : low_below ss most d (Some l) ≡ or_else (low_below ss most d h.left) (low_from ss most d (Some l))
+    below-is = first-node x ∙ (λ i. or_else (first_low rank most (whole t (left-is i))) (or_else (if_low rank most x) (first_low rank most (whole t (seen-right d ss x i)))))
 
-    pub last-not-right : low_at ss most right ≡ false → last_low_below ss most (Some l) ≡ last_low_to ss most (Some l)
-    last-not-right h = last-node x ∙ or_else-without (last_low_below ss most right) (last_low_to ss most (Some l)) (last-told right ∙ h)
+    pub goes-near : low_at ss most h.left ≡ true → low_below ss most d (Some l) ≡ low_below ss most d h.left
+    goes-near e = below-is ∙ or_else-some (low_below ss most d h.left) (low_from ss most d (Some l)) (told h.left ∙ e)
 
-    pub to-here : nat_le (rank x) most ≡ true → last_low_to ss most (Some l) ≡ Some x
-    to-here h = ap (λ o. or_else o (last_low_below ss most left)) (if-here x h)
+    pub passes : low_at ss most h.left ≡ false → low_below ss most d (Some l) ≡ low_from ss most d (Some l)
+    passes e = below-is ∙ or_else-without (low_below ss most d h.left) (low_from ss most d (Some l)) (told h.left ∙ e)
 
-    pub to-left : nat_le (rank x) most ≡ false → last_low_to ss most (Some l) ≡ last_low_below ss most left
-    to-left h = ap (λ o. or_else o (last_low_below ss most left)) (if-not x h)
+    pub stands : h.own.rank ≤ most → low_from ss most d (Some l) ≡ Some x
+    stands e =
+        let here : nat_le (rank x) most ≡ true = le-told (rank x) most (omega (arith, e, rank-is)) in
+        from-is ∙ ap (λ b. or_else (cond b (Some x) None) (low_below ss most d h.right)) here
 
-    -- where the node or its right side is low, another one does not matter
-    pub from-low : (nat_le (rank x) most || low_at ss most right) ≡ true → (other : Option ℕ) → or_else (first_low_from ss most (Some l)) other ≡ first_low_from ss most (Some l)
-    from-low h other = or_else-some (first_low_from ss most (Some l)) other (is_some-or (if_low rank most x) (first_low_below ss most right) ∙ (λ i. if-low rank most x i || first-told right i) ∙ h)
+    pub goes-far : most < h.own.rank → low_from ss most d (Some l) ≡ low_below ss most d h.right
+    goes-far e =
+        let past : nat_le (rank x) most ≡ false = le-not (rank x) most (omega (arith, e, rank-is)) in
+        from-is ∙ ap (λ b. or_else (cond b (Some x) None) (low_below ss most d h.right)) past
 
-    pub from-none : (nat_le (rank x) most || low_at ss most right) ≡ false → (other : Option ℕ) → or_else (first_low_from ss most (Some l)) other ≡ other
-    from-none h other = or_else-without (first_low_from ss most (Some l)) other (is_some-or (if_low rank most x) (first_low_below ss most right) ∙ (λ i. if-low rank most x i || first-told right i) ∙ h)
+    -- where the node or its other side is low, another one does not matter
+    module _ (other : Option ℕ) where
+      pub keeps-far : most < h.own.rank → low_at ss most h.right ≡ true → or_else (low_from ss most d (Some l)) other ≡ low_from ss most d (Some l)
+      keeps-far n e = ap (λ o. or_else o other) (goes-far n) ∙ or_else-some (low_below ss most d h.right) other (told h.right ∙ e) ∙ sym (goes-far n)
 
-    pub to-low : (nat_le (rank x) most || low_at ss most left) ≡ true → (other : Option ℕ) → or_else (last_low_to ss most (Some l)) other ≡ last_low_to ss most (Some l)
-    to-low h other = or_else-some (last_low_to ss most (Some l)) other (is_some-or (if_low rank most x) (last_low_below ss most left) ∙ (λ i. if-low rank most x i || last-told left i) ∙ h)
-
-    pub to-none : (nat_le (rank x) most || low_at ss most left) ≡ false → (other : Option ℕ) → or_else (last_low_to ss most (Some l)) other ≡ other
-    to-none h other = or_else-without (last_low_to ss most (Some l)) other (is_some-or (if_low rank most x) (last_low_below ss most left) ∙ (λ i. if-low rank most x i || last-told left i) ∙ h)
+      pub leaves : most < h.own.rank → low_at ss most h.right ≡ false → or_else (low_from ss most d (Some l)) other ≡ other
+      leaves n e = ap (λ o. or_else o other) (goes-far n) ∙ or_else-without (low_below ss most d h.right) other (told h.right ∙ e)
 
     -- ---- a place among the nodes below
     module _ (rest : ℕ) where
-      abbrev W : List ℕ
-      W = whole t (Some x)
-
       abbrev L : List ℕ
-      L = whole t (number_of left)
+      L = whole t (number_of h.left)
 
       abbrev R : List ℕ
-      R = whole t (number_of right)
+      R = whole t (number_of h.right)
 
-      left-length : length L ≡ count_of t (number_of left)
-      left-length = length-whole t ct (number_of left)
+      split : whole t (Some x) ≡ L ++ x ∷ R
+      split = whole-node t ct x ∙ (λ i. whole t (left-is i) ++ x ∷ whole t (right-is i))
 
-      pub drop-left : rest ≤ count_of t (number_of left) → first_low rank most (drop rest W) ≡ or_else (first_low rank most (drop rest L)) (first_low_from ss most (Some l))
-      drop-left h = ap (λ xs. first_low rank most (drop rest xs)) (whole-node t ct x) ∙ ap (first_low rank most) (drop-first L (x ∷ R) rest (omega (arith, h, left-length))) ∙ first-append rank most (drop rest L) (x ∷ R)
+      left-length : length L ≡ count_of (tree_of ss) (number_of h.left)
+      left-length = length-whole t ct (number_of h.left) ∙ seen-count d (tree_of ss) (number_of h.left)
 
-      pub drop-right : count_of t (number_of left) < rest → drop rest W ≡ drop (rest - count_of t (number_of left) - 1) R
-      drop-right h = ap (drop rest) (whole-node t ct x) ∙ drop-past L x R (rest - count_of t (number_of left) - 1) rest (omega (arith, h, left-length))
+      pub place-near : rest ≤ count_of (tree_of ss) (number_of h.left) → first_low rank most (drop rest (whole t (Some x))) ≡ or_else (first_low rank most (drop rest L)) (low_from ss most d (Some l))
+      place-near e = ap (λ xs. first_low rank most (drop rest xs)) split ∙ ap (first_low rank most) (drop-first L (x ∷ R) rest (omega (arith, e, left-length))) ∙ first-append rank most (drop rest L) (x ∷ R) ∙ ap (or_else (first_low rank most (drop rest L))) (sym from-is)
 
-      pub take-left : rest ≤ count_of t (number_of left) → take rest W ≡ take rest L
-      take-left h = ap (take rest) (whole-node t ct x) ∙ take-first L (x ∷ R) rest (omega (arith, h, left-length))
+      pub place-far : count_of (tree_of ss) (number_of h.left) < rest → drop rest (whole t (Some x)) ≡ drop (rest - count_of (tree_of ss) (number_of h.left) - 1) R
+      place-far e = ap (drop rest) split ∙ drop-past L x R (rest - count_of (tree_of ss) (number_of h.left) - 1) rest (omega (arith, e, left-length))
 
-      pub take-right : count_of t (number_of left) < rest → last_low rank most (take rest W) ≡ or_else (last_low rank most (take (rest - count_of t (number_of left) - 1) R)) (last_low_to ss most (Some l))
-      take-right h =
-          let S = take (rest - count_of t (number_of left) - 1) R in
-          ap (λ xs. last_low rank most (take rest xs)) (whole-node t ct x) ∙ ap (last_low rank most) (take-seam L x R (rest - count_of t (number_of left) - 1) rest (omega (arith, h, left-length)))
-          ∙ last-append rank most L (x ∷ S) ∙ or_else-assoc (last_low rank most S) (if_low rank most x) (last_low_below ss most left)
+-- ---- from the end
+drop-all : (xs ys : List ℕ) → drop (length xs) (xs ++ ys) ≡ ys
+drop-all [] ys = refl
+drop-all (x ∷ xs) ys = drop-all xs ys
+
+drop-reversed : (xs : List ℕ) (i : ℕ) → drop (length xs - i) (reverse xs) ≡ reverse (take i xs)
+drop-reversed xs i =
+    let whole : reverse xs ≡ reverse (drop i xs) ++ reverse (take i xs) = ap reverse (sym (take-append-drop i xs)) ∙ reverse-append (take i xs) (drop i xs) in
+    let size : length xs - i ≡ length (reverse (drop i xs)) = sym (length-reverse (drop i xs) ∙ length-drop i xs) in
+    (λ j. drop (size j) (whole j)) ∙ drop-all (reverse (drop i xs)) (reverse (take i xs))
+
+pub last-seen-right : {T : Type 0} (s : Store T) (root : Option Link) → IsSound s root → (most to : ℕ) → first_low (ranks (shapes_of s)) most (drop (count_of (tree_of (shapes_of s)) (number_of root) - to) (seen_order Right s root)) ≡ last_low (ranks (shapes_of s)) most (take to (order s root))
+last-seen-right s root so most to =
+    let xs = order s root in
+    let n = length-whole (tree_of (shapes_of s)) so.counted (number_of root) in
+    ap (first_low (ranks (shapes_of s)) most) ((λ j. drop (sym n j - to) (whole-mirrored (tree_of (shapes_of s)) (number_of root) j)) ∙ drop-reversed xs to) ∙ first-reversed (ranks (shapes_of s)) most (take to xs)

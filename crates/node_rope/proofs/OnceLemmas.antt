@@ -137,7 +137,7 @@ among-at [] i h = absurd (omega (arith, h))
 among-at (x ∷ xs) zero h = inl refl
 among-at (x ∷ xs) (suc i) h = inr (among-at xs i (omega (arith, h)))
 
-once-index : (xs : List ℕ) → NoRepeat xs → (i j : ℕ) → i < length xs → j < length xs → get_or xs i 0 ≡ get_or xs j 0 → i ≡ j
+pub once-index : (xs : List ℕ) → NoRepeat xs → (i j : ℕ) → i < length xs → j < length xs → get_or xs i 0 ≡ get_or xs j 0 → i ≡ j
 once-index [] n i j h k e = absurd (omega (arith, h))
 once-index (x ∷ xs) n zero zero h k e = refl
 once-index (x ∷ xs) n zero (suc j) h k e = absurd (n.0 (subst (λ (y : ℕ). Among y xs) (sym e) (among-at xs j (omega (arith, k)))))

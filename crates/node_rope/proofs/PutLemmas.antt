@@ -19,7 +19,7 @@ use Rattle.node_rope.proofs.TurnLemmas.{same-or-not}
 use Rattle.node_rope.proofs.ShapeLemmas.{made-below}
 use Rattle.node_rope.proofs.EffectLemmas.{item-is}
 use Rattle.node_rope.proofs.KeyLemmas.{all-made, mapped-items, alone, length-values}
-use Rattle.node_rope.proofs.ReweighLemmas.{still, placed, sound-tree, tree-sound, tree-along, order-still}
+use Rattle.node_rope.proofs.ReweighLemmas.{still, placed, tree-along, order-still}
 
 got-set : {X : Type 0} (xs : List X) (n : ℕ) (y : X) (i : ℕ) (x : X) → slice_get (slice_set xs n y) i ≡ Some x → ((i ≡ n) × (y ≡ x)) ⊎ ((i ≢ n) × (slice_get xs i ≡ Some x))
 got-set [] n y i x e = absurd (cc)
@@ -52,7 +52,7 @@ module _ {T : Type 0} (s u : Store T) (root : Option Link) (l : Link) (value : T
 
   pub valued-sound : IsSound u root
   valued-sound =
-      tree-sound u root (tree-along s u root (placed (shapes_of s) (shapes_of u) valued-still) valued-count kept (sound-tree s root sound))
+      tree-along s u root (placed (shapes_of s) (shapes_of u) valued-still) valued-count kept sound
       (subst (λ (xs : List Shape). IsWeighed xs) (sym shapes) sound.weighed)
       (subst (λ (xs : List Shape). IsRanked xs) (sym shapes) sound.ranked)
 

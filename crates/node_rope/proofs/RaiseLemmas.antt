@@ -1,11 +1,11 @@
 -- One step of the climb that raises sums.
-use Rattle.std.proofs.Common.{◌≡◌, ℕ, ◌+◌, ◌<◌, ◌≤◌, ◌≢◌, ◌⊎◌, inl, inr, List, length, slice_set, Option, None, Some, refl, sym, ap, ◌∙◌, subst, arith}
+use Rattle.std.proofs.Common.{◌≡◌, ℕ, ◌+◌, ◌<◌, ◌≤◌, min, ◌≢◌, ◌⊎◌, inl, inr, List, length, slice_set, Option, None, Some, refl, sym, ap, ◌∙◌, subst, arith}
 use Rattle.std.proofs.lemmas.List.{get_or-set_other, get_or-set_same}
 use Rattle.node_rope.specs.declared.store.Store.{Store}
 use Rattle.node_rope.specs.declared.cells.Shape.{Shape}
 use Rattle.node_rope.specs.declared.cells.Link.{Link}
 use Rattle.node_rope.specs.declared.cells.Own.{Own}
-use Rattle.node_rope.specs.Made.{IsKept, shapes_of}
+use Rattle.node_rope.specs.Made.{IsMade, IsKept, shapes_of}
 use Rattle.node_rope.specs.Shapes.{shape_at, lone, number_of, tree_of, owns, weights, ranks, leasts}
 use Rattle.node_rope.specs.Walk.{Tree, IsLinked}
 use Rattle.node_rope.specs.Sums.{Measure, adding, lesser, sum_of}
@@ -22,7 +22,15 @@ set_same ss i h p = get_or-set_same ss i h lone p
 pub set_other : (ss : List Shape) (i j : ℕ) (h : Shape) → j ≢ i → shape_at (slice_set ss i h) j ≡ shape_at ss j
 set_other ss i j h p = get_or-set_other ss i j h lone p
 
-pub likewise : (h : Shape) → IsLikewise h h
+-- one shape is written
+module _ {T : Type 0} (s u : Store T) (l : Link) (h : Shape) (made : IsMade s l) (is : shapes_of u ≡ slice_set (shapes_of s) l.number h) where
+  pub written : shape_at (shapes_of u) l.number ≡ h
+  written = ap (λ xs. shape_at xs l.number) is ∙ set_same (shapes_of s) l.number h (omega (arith, made-below s l made, length-shapes s))
+
+  pub unwritten : (i : ℕ) → i ≢ l.number → shape_at (shapes_of u) i ≡ shape_at (shapes_of s) i
+  unwritten i e = ap (λ xs. shape_at xs i) is ∙ set_other (shapes_of s) l.number i h e
+
+likewise : (h : Shape) → IsLikewise h h
 likewise h = record { left = refl; right = refl; parent = refl; key = refl; own = refl }
 
 pub links-trans : (ss us ws : List Shape) → SameLinks ss us → SameLinks us ws → SameLinks ss ws
@@ -51,16 +59,13 @@ module _ {T : Type 0} (s u : Store T) (w : Own) (l : Link) (rising : IsRising s 
   abbrev x : ℕ
   x = l.number
 
-  inside : x < length ss
-  inside = let h = made-below s l (rising.made_here l refl) in omega (arith, length-shapes s)
+  here : shape_at us x ≡ more w (shape_at ss x)
+  here = written s u l (more w (shape_at ss x)) (rising.made_here l refl) is
 
-  pub here : shape_at us x ≡ more w (shape_at ss x)
-  here = ap (λ xs. shape_at xs x) is ∙ set_same ss x (more w (shape_at ss x)) inside
+  elsewhere : (i : ℕ) → i ≢ x → shape_at us i ≡ shape_at ss i
+  elsewhere = unwritten s u l (more w (shape_at ss x)) (rising.made_here l refl) is
 
-  pub elsewhere : (i : ℕ) → i ≢ x → shape_at us i ≡ shape_at ss i
-  elsewhere i h = ap (λ xs. shape_at xs i) is ∙ set_other ss x i (more w (shape_at ss x)) h
-
-  pub step-links : SameLinks ss us
+  step-links : SameLinks ss us
   step-links i = elim (same-or-not i x) as (λ _. IsLikewise (shape_at ss i) (shape_at us i)) [
     | inl e ↦ subst (λ (j : ℕ). IsLikewise (shape_at ss j) (shape_at us j)) (sym e) (subst (λ h. IsLikewise (shape_at ss x) h) (sym here) (record { left = refl; right = refl; parent = refl; key = refl; own = refl }))
     | inr e ↦ subst (λ h. IsLikewise (shape_at ss i) h) (sym (elsewhere i e)) (likewise (shape_at ss i))
@@ -69,7 +74,7 @@ module _ {T : Type 0} (s u : Store T) (w : Own) (l : Link) (rising : IsRising s 
   own : (z : ℕ) → (tree_of ss).parent x ≡ Some z → z ≢ x
   own z e f = rising.proper x (e ∙ ap Some f)
 
-  pub higher : (z : ℕ) → (tree_of ss).parent x ≡ Some z → (shape_at ss x).count + 1 ≤ (shape_at ss z).count
+  higher : (z : ℕ) → (tree_of ss).parent x ≡ Some z → (shape_at ss x).count + 1 ≤ (shape_at ss z).count
   higher z e = elim (rising.below x z e) as (λ _. (shape_at ss x).count + 1 ≤ (shape_at ss z).count) [
     | inl f ↦ omega (arith, rising.counts.rest z (λ g. own z e (some-same z x (sym g))), ap (sum_of adding (tree_of ss).count) f)
     | inr f ↦ omega (arith, rising.counts.rest z (λ g. own z e (some-same z x (sym g))), ap (sum_of adding (tree_of ss).count) f)
@@ -82,7 +87,7 @@ module _ {T : Type 0} (s u : Store T) (w : Own) (l : Link) (rising : IsRising s 
     rest = λ z f. b.rest z f ∙ ap (λ a. m.both (sum_of m s' (t.left z)) (m.both a (sum_of m s' (t.right z)))) (sym (e z));
   }
 
-  pub step-rising : IsRising u w (shape_at ss x).parent
+  step-rising : IsRising u w (shape_at ss x).parent
   step-rising = record {
     counts = raised-once adding adding-commutes (tree_of ss) (tree_of us) rising.linked rising.below (λ _. 1) (tree_of ss).count (tree_of us).count 1 x (λ i. ap number_of (step-links i).left) (λ i. ap number_of (step-links i).right)
         (ap (λ h. h.count) here) (λ i e. ap (λ h. h.count) (elsewhere i e)) (rising.proper x) rising.counts;
@@ -103,7 +108,7 @@ module _ {T : Type 0} (s u : Store T) (w : Own) (l : Link) (rising : IsRising s 
     up_kept : (z : ℕ) → number_of (shape_at ss x).parent ≡ Some z → shape_at us z ≡ shape_at ss z
     up_kept z e = elsewhere z (own z e)
 
-    pub step-raised : IsRaised ss₀ us w (shape_at ss x).parent
+    step-raised : IsRaised ss₀ us w (shape_at ss x).parent
     step-raised = record {
       each = λ i. elim (same-or-not i x) as (λ _. (shape_at us i ≡ shape_at ss₀ i) ⊎ ((shape_at us i ≡ more w (shape_at ss₀ i)) × ((z : ℕ) → number_of (shape_at ss x).parent ≡ Some z → (shape_at us i).count ≤ (shape_at us z).count))) [
         | inl e ↦ inr (
@@ -121,8 +126,27 @@ module _ {T : Type 0} (s u : Store T) (w : Own) (l : Link) (rising : IsRising s 
       ];
     }
 
-    pub step-smaller : AreSmall ss₀ w.weight → left_to_rise us (shape_at ss x).parent < left_to_rise ss (Some l)
+    step-smaller : AreSmall ss₀ w.weight → left_to_rise us (shape_at ss x).parent < left_to_rise ss (Some l)
     step-smaller small = by (shape_at ss x).parent refl where
       by : (o : Option Link) → (shape_at ss x).parent ≡ o → left_to_rise us o < left_to_rise ss (Some l)
       by None e = omega arith
       by (Some z) e = let f = ap number_of e in omega (arith, ap (λ h. h.count) (up_kept z.number f), higher z.number f, small.counts x, ap (λ h. h.count) (raised.at x refl))
+
+-- ---- one step of the loop: q is the next node
+pub record IsRaisedOnce {T : Type 0} (s u : Store T) (w : Own) (o q : Option Link) : Type 0 where
+  pub rising : IsRising u w q
+  pub links : SameLinks (shapes_of s) (shapes_of u)
+  pub raised : (ss₀ : List Shape) → IsRaised ss₀ (shapes_of s) w o → IsRaised ss₀ (shapes_of u) w q
+  pub smaller : (ss₀ : List Shape) → IsRaised ss₀ (shapes_of s) w o → AreSmall ss₀ w.weight → left_to_rise (shapes_of u) q < left_to_rise (shapes_of s) o
+
+pub raised-step : {T : Type 0} (s u : Store T) (w : Own) (o : Option Link) (l : Link) → o ≡ Some l → IsRising s w o → (h : Shape) → h ≡ shape_at (shapes_of s) l.number → (least : ℕ) → least ≡ min h.least w.rank → IsKept s u
+    → shapes_of u ≡ slice_set (shapes_of s) l.number (record h { count = h.count + 1; weight = h.weight + w.weight; least = least }) → IsRaisedOnce s u w o h.parent
+raised-step s u w o l is_l rising h read least is_least kept is = subst (λ o. IsRaisedOnce s u w o h.parent) (sym is_l) (subst (λ (g : Shape). IsRaisedOnce s u w (Some l) g.parent) (sym read) once) where
+  at : IsRising s w (Some l)
+  at = subst (IsRising s w) is_l rising
+
+  writes : shapes_of u ≡ slice_set (shapes_of s) l.number (more w (shape_at (shapes_of s) l.number))
+  writes = is ∙ ap (λ (k : ℕ). slice_set (shapes_of s) l.number (record h { count = h.count + 1; weight = h.weight + w.weight; least = k })) is_least ∙ ap (λ (g : Shape). slice_set (shapes_of s) l.number (more w g)) read
+
+  once : IsRaisedOnce s u w (Some l) (shape_at (shapes_of s) l.number).parent
+  once = record { rising = step-rising s u w l at kept writes; links = step-links s u w l at kept writes; raised = step-raised s u w l at kept writes; smaller = step-smaller s u w l at kept writes }

@@ -23,7 +23,7 @@ use Rattle.node_rope.proofs.RaiseLemmas.{set_same, set_other}
 use Rattle.node_rope.proofs.SumLemmas.{summed-along}
 use Rattle.node_rope.proofs.EffectLemmas.{item-is}
 use Rattle.node_rope.proofs.KeyLemmas.{all-made, mapped-items, alone}
-use Rattle.node_rope.proofs.ReweighLemmas.{sound-tree, tree-sound, tree-along, order-still}
+use Rattle.node_rope.proofs.ReweighLemmas.{tree-along, order-still}
 
 -- s with another key in the node l
 module _ {T : Type 0} (s v : Store T) (root : Option Link) (l : Link) (other : Identifier) (sound : IsSound s root) (made : IsMade s l) (is : shapes_of v ≡ slice_set (shapes_of s) l.number (record (shape_at (shapes_of s) l.number) { key = other }))
@@ -64,7 +64,7 @@ module _ {T : Type 0} (s v : Store T) (root : Option Link) (l : Link) (other : I
       let p = renamed-placed in
       let lefts = λ (i : ℕ). ap number_of (p i).left in
       let rights = λ (i : ℕ). ap number_of (p i).right in
-      tree-sound v root (tree-along s v root p count kept (sound-tree s root sound))
+      tree-along s v root p count kept sound
       (summed-along adding (tree_of ss) (tree_of us) (owns ss) (owns us) (weights ss) (weights us) lefts rights (field (λ h. h.own.weight) (λ h k. refl)) (field (λ h. h.weight) (λ h k. refl)) sound.weighed)
       (summed-along lesser (tree_of ss) (tree_of us) (ranks ss) (ranks us) (leasts ss) (leasts us) lefts rights (field (λ h. h.own.rank) (λ h k. refl)) (field (λ h. h.least) (λ h k. refl)) sound.ranked)
 

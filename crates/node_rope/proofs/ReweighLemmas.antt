@@ -5,15 +5,15 @@ use Rattle.node_rope.specs.declared.cells.Shape.{Shape}
 use Rattle.node_rope.specs.declared.cells.Link.{Link}
 use Rattle.node_rope.specs.declared.cells.Own.{Own}
 use Rattle.node_rope.specs.Made.{IsMade, IsKept, made_count, shapes_of}
-use Rattle.node_rope.specs.Shapes.{IsSound, shape_at, number_of, tree_of, weight_at, weigh, least_at, order, IsWeighed, IsRanked}
+use Rattle.node_rope.specs.Shapes.{IsSound, IsTree, shape_at, number_of, tree_of, weight_at, weigh, least_at, order}
 use Rattle.node_rope.specs.Walk.{Tree, count_of, walk, whole}
 use Rattle.node_rope.specs.Sums.{lesser, sum_of}
 use Rattle.node_rope.specs.Shapes.{leasts}
-use Rattle.node_rope.specs.Reweighed.{summed, IsStill, AreStill, ArePlaced, SameOwns, IsTree, IsSoundBut}
+use Rattle.node_rope.specs.Reweighed.{summed, IsStill, AreStill, ArePlaced, SameOwns, IsSoundBut}
 use Rattle.node_rope.proofs.WalkLemmas.{some-same, below-left, below-right, length-whole}
 use Rattle.node_rope.proofs.TurnLemmas.{same-or-not}
-use Rattle.node_rope.proofs.ShapeLemmas.{length-shapes, made-below, weight-sum, least-sum}
-use Rattle.node_rope.proofs.RaiseLemmas.{set_same, set_other}
+use Rattle.node_rope.proofs.ShapeLemmas.{weight-sum, least-sum}
+use Rattle.node_rope.proofs.RaiseLemmas.{written, unwritten}
 use Rattle.node_rope.proofs.ClimbLemmas.{weight-is}
 use Rattle.node_rope.proofs.LightLemmas.{bounded}
 
@@ -26,12 +26,12 @@ still-trans ss us ws f g i = let a = f i in let b = g i in record { left = b.lef
 pub placed : (ss us : List Shape) → AreStill ss us → ArePlaced ss us
 placed ss us f i = let a = f i in record { left = a.left; right = a.right; parent = a.parent; count = a.count }
 
-pub sound-tree : {T : Type 0} (s : Store T) (root : Option Link) → IsSound s root → IsTree s root
-sound-tree s root r = record { counted = r.counted; linked = r.linked; top = r.top; crown = r.crown; below = r.below; made_left = r.made_left; made_right = r.made_right; made_parent = r.made_parent; made_root = r.made_root; small = r.small }
-
-pub tree-along : {T : Type 0} (s u : Store T) (root : Option Link) → ArePlaced (shapes_of s) (shapes_of u) → made_count u ≡ made_count s → IsKept s u → IsTree s root → IsTree u root
-tree-along s u root same count kept r = record {
+-- the same tree, with other weights and ranks
+pub tree-along : {T : Type 0} {W R W' R' : Type 0} (s u : Store T) (root : Option Link) → ArePlaced (shapes_of s) (shapes_of u) → made_count u ≡ made_count s → IsKept s u → IsTree s root W R → W' → R' → IsTree u root W' R'
+tree-along s u root same count kept r weighed ranked = record {
   counted = λ x. omega (arith, r.counted x, (same x).count, lefts x, rights x);
+  weighed = weighed;
+  ranked = ranked;
   linked = record {
     from_left = λ x m e. ap number_of (same m).parent ∙ r.linked.from_left x m (sym (ap number_of (same x).left) ∙ e);
     from_right = λ x m e. ap number_of (same m).parent ∙ r.linked.from_right x m (sym (ap number_of (same x).right) ∙ e);
@@ -59,26 +59,10 @@ tree-along s u root same count kept r = record {
   rights : (x : ℕ) → count_of (tree_of (shapes_of u)) (number_of (shape_at (shapes_of u) x).right) ≡ count_of (tree_of (shapes_of s)) (number_of (shape_at (shapes_of s) x).right)
   rights x = counts (number_of (shape_at (shapes_of u) x).right) ∙ ap (λ o. count_of (tree_of (shapes_of s)) (number_of o)) (same x).right
 
-pub tree-sound : {T : Type 0} (s : Store T) (root : Option Link) → IsTree s root → IsWeighed (shapes_of s) → IsRanked (shapes_of s) → IsSound s root
-tree-sound s root r weighed ranked = record {
-  counted = r.counted;
-  weighed = weighed;
-  ranked = ranked;
-  linked = r.linked;
-  top = r.top;
-  crown = r.crown;
-  below = r.below;
-  made_left = r.made_left;
-  made_right = r.made_right;
-  made_parent = r.made_parent;
-  made_root = r.made_root;
-  small = r.small;
-}
-
 pub but-none : {T : Type 0} (s : Store T) (root : Option Link) → IsSoundBut s root None → IsSound s root
-but-none s root b = tree-sound s root b.tree
-    (λ x. omega (arith, b.rest x (λ e. no x e), weight-sum (shapes_of s) (shape_at (shapes_of s) x).left, weight-sum (shapes_of s) (shape_at (shapes_of s) x).right))
-    (λ x. b.low x (λ e. no x e) ∙ (λ j. min (least-sum (shapes_of s) (shape_at (shapes_of s) x).left j) (min (shape_at (shapes_of s) x).own.rank (least-sum (shapes_of s) (shape_at (shapes_of s) x).right j))))
+but-none s root b = tree-along s s root (λ i. record { left = refl; right = refl; parent = refl; count = refl }) refl (λ l m. m) b.tree
+    (λ x. omega (arith, b.tree.weighed x (λ e. no x e), weight-sum (shapes_of s) (shape_at (shapes_of s) x).left, weight-sum (shapes_of s) (shape_at (shapes_of s) x).right))
+    (λ x. b.tree.ranked x (λ e. no x e) ∙ (λ j. min (least-sum (shapes_of s) (shape_at (shapes_of s) x).left j) (min (shape_at (shapes_of s) x).own.rank (least-sum (shapes_of s) (shape_at (shapes_of s) x).right j))))
   where
     no : (x : ℕ) → None ≡ Some x → ⊥
     no x e = cc
@@ -101,34 +85,31 @@ weight-other ss us x h (Some l) ne = h l.number (λ e. ne (ap Some e))
 
 module _ {T : Type 0} (s u : Store T) (root : Option Link) (l : Link) (b : IsSoundBut s root (Some l)) (count : made_count u ≡ made_count s) (kept : IsKept s u)
     (is : shapes_of u ≡ slice_set (shapes_of s) l.number (summed (shapes_of s) (shape_at (shapes_of s) l.number))) where
-  abbrev ss : List Shape
-  ss = shapes_of s
-
-  abbrev us : List Shape
-  us = shapes_of u
-
   abbrev x : ℕ
   x = l.number
+
+  abbrev ss : List Shape
+  ss = shapes_of s
 
   abbrev sum : ℕ
   sum = weight_at ss (shape_at ss x).left + ((shape_at ss x).own.weight + weight_at ss (shape_at ss x).right)
 
-  inside : x < length ss
-  inside = let h = made-below s l (b.here l refl) in omega (arith, h, length-shapes s)
+  abbrev us : List Shape
+  us = shapes_of u
 
-  pub here : shape_at us x ≡ summed ss (shape_at ss x)
-  here = ap (λ xs. shape_at xs x) is ∙ set_same ss x (summed ss (shape_at ss x)) inside
+  here : shape_at us x ≡ summed ss (shape_at ss x)
+  here = written s u l (summed ss (shape_at ss x)) (b.here l refl) is
 
   elsewhere : (i : ℕ) → i ≢ x → shape_at us i ≡ shape_at ss i
-  elsewhere i h = ap (λ xs. shape_at xs i) is ∙ set_other ss x i (summed ss (shape_at ss x)) h
+  elsewhere = unwritten s u l (summed ss (shape_at ss x)) (b.here l refl) is
 
-  pub step-still : AreStill ss us
+  step-still : AreStill ss us
   step-still i = elim (same-or-not i x) as (λ _. IsStill (shape_at ss i) (shape_at us i)) [
     | inl e ↦ subst (λ (j : ℕ). IsStill (shape_at ss j) (shape_at us j)) (sym e) (subst (λ h. IsStill (shape_at ss x) h) (sym here) (record { left = refl; right = refl; parent = refl; key = refl; count = refl }))
     | inr e ↦ subst (λ h. IsStill (shape_at ss i) h) (sym (elsewhere i e)) (still (shape_at ss i))
   ]
 
-  pub step-owns : SameOwns ss us
+  step-owns : SameOwns ss us
   step-owns i = elim (same-or-not i x) as (λ _. (shape_at us i).own ≡ (shape_at ss i).own) [
     | inl e ↦ ap (λ (j : ℕ). (shape_at us j).own) e ∙ ap (λ (h : Shape). h.own) here ∙ ap (λ (j : ℕ). (shape_at ss j).own) (sym e)
     | inr e ↦ ap (λ (h : Shape). h.own) (elsewhere i e)
@@ -158,7 +139,7 @@ module _ {T : Type 0} (s u : Store T) (root : Option Link) (l : Link) (b : IsSou
         let r' = ap (λ (h : Shape). weight_at us h.right) (elsewhere i e) in
         let a = other (shape_at ss i).left (λ f. ne (b.tree.linked.from_left i x f)) in
         let c = other (shape_at ss i).right (λ f. ne (b.tree.linked.from_right i x f)) in
-        let old = b.rest i (λ f. e (sym (some-same x i f))) in
+        let old = b.tree.weighed i (λ f. e (sym (some-same x i f))) in
         omega (arith, w, o, l', r', a, c, old))
   ]
 
@@ -175,19 +156,17 @@ module _ {T : Type 0} (s u : Store T) (root : Option Link) (l : Link) (b : IsSou
   low-other i e ne =
       let left : least_at ss (shape_at ss i).left ≡ least_at us (shape_at us i).left = sym (ap (λ (h : Shape). least_at us h.left) (elsewhere i e) ∙ other-least (shape_at ss i).left (λ f. ne (b.tree.linked.from_left i x f))) in
       let right : least_at ss (shape_at ss i).right ≡ least_at us (shape_at us i).right = sym (ap (λ (h : Shape). least_at us h.right) (elsewhere i e) ∙ other-least (shape_at ss i).right (λ f. ne (b.tree.linked.from_right i x f))) in
-      ap (λ (h : Shape). h.least) (elsewhere i e) ∙ b.low i (λ f. e (sym (some-same x i f))) ∙ (λ j. min (left j) (min (sym (ap (λ (h : Shape). h.own.rank) (elsewhere i e)) j) (right j)))
+      ap (λ (h : Shape). h.least) (elsewhere i e) ∙ b.tree.ranked i (λ f. e (sym (some-same x i f))) ∙ (λ j. min (left j) (min (sym (ap (λ (h : Shape). h.own.rank) (elsewhere i e)) j) (right j)))
 
   step-low : (i : ℕ) → (number_of (shape_at ss x).parent ≡ Some i → ⊥) → IsLow i
   step-low i ne = elim (same-or-not i x) as (λ _. IsLow i) [ inl e ↦ subst IsLow (sym e) low-here | inr e ↦ low-other i e ne ]
 
-  pub fits : sum ≤ 4194304 * (shape_at ss x).count
+  fits : sum ≤ 4194304 * (shape_at ss x).count
   fits = omega (arith, heavy ss b.bound (shape_at ss x).left, heavy ss b.bound (shape_at ss x).right, b.light x, b.tree.counted x)
 
-  pub step-but : IsSoundBut u root (shape_at ss x).parent
+  step-but : IsSoundBut u root (shape_at ss x).parent
   step-but = record {
-    tree = tree-along s u root (placed ss us step-still) count kept b.tree;
-    rest = step-rest;
-    low = step-low;
+    tree = tree-along s u root (placed ss us step-still) count kept b.tree step-rest step-low;
     light = λ i. omega (arith, b.light i, ap (λ o. o.weight) (step-owns i));
     bound = λ i. elim (same-or-not i x) as (λ _. (shape_at us i).weight ≤ 4194304 * (shape_at us i).count) [
       | inl e ↦ subst (λ (j : ℕ). (shape_at us j).weight ≤ 4194304 * (shape_at us j).count) (sym e) (omega (arith, fits, ap (λ (h : Shape). h.weight) here, ap (λ (h : Shape). h.count) here))
@@ -208,7 +187,7 @@ abbrev pub left_to_sum : ℕ → List Shape → Option Link → ℕ
 left_to_sum n hs None = 0
 left_to_sum n hs (Some l) = suc (suc n - (shape_at hs l.number).count)
 
-pub sums-nearer : {T : Type 0} (s u : Store T) (root : Option Link) (l : Link) (n : ℕ) → IsSoundBut s root (Some l) → AreStill (shapes_of s) (shapes_of u) → n ≡ made_count s → (o : Option Link) → (shape_at (shapes_of s) l.number).parent ≡ o → left_to_sum n (shapes_of u) o < left_to_sum n (shapes_of s) (Some l)
+sums-nearer : {T : Type 0} (s u : Store T) (root : Option Link) (l : Link) (n : ℕ) → IsSoundBut s root (Some l) → AreStill (shapes_of s) (shapes_of u) → n ≡ made_count s → (o : Option Link) → (shape_at (shapes_of s) l.number).parent ≡ o → left_to_sum n (shapes_of u) o < left_to_sum n (shapes_of s) (Some l)
 sums-nearer s u root l n b same e None f = omega arith
 sums-nearer s u root l n b same e (Some p) f =
     let up : (shape_at (shapes_of s) l.number).count < (shape_at (shapes_of s) p.number).count = elim (b.tree.below l.number p.number (ap number_of f)) as (λ _. (shape_at (shapes_of s) l.number).count < (shape_at (shapes_of s) p.number).count) [
@@ -216,6 +195,33 @@ sums-nearer s u root l n b same e (Some p) f =
       | inr h ↦ below-right (tree_of (shapes_of s)) b.tree.counted p.number l.number h
     ] in
     omega (arith, up, (same p.number).count, b.tree.small p.number, e)
+
+-- one step of the loop: q is the next node
+pub record IsSummedOnce {T : Type 0} (s u : Store T) (root o q : Option Link) : Type 0 where
+  pub but : IsSoundBut u root q
+  pub still : AreStill (shapes_of s) (shapes_of u)
+  pub owns : SameOwns (shapes_of s) (shapes_of u)
+  pub smaller : left_to_sum (made_count u) (shapes_of u) q < left_to_sum (made_count s) (shapes_of s) o
+
+pub summed-step : {T : Type 0} (s u : Store T) (root o : Option Link) (l : Link) → o ≡ Some l → IsSoundBut s root o → (h g : Shape) → h ≡ shape_at (shapes_of s) l.number → g ≡ summed (shapes_of s) h → made_count u ≡ made_count s → IsKept s u
+    → shapes_of u ≡ slice_set (shapes_of s) l.number g → IsSummedOnce s u root o h.parent
+summed-step s u root o l is_l but h g read sums count kept is = subst (λ o. IsSummedOnce s u root o h.parent) (sym is_l) (subst (λ (k : Shape). IsSummedOnce s u root (Some l) k.parent) (sym read) once) where
+  b : IsSoundBut s root (Some l)
+  b = subst (IsSoundBut s root) is_l but
+
+  writes : shapes_of u ≡ slice_set (shapes_of s) l.number (summed (shapes_of s) (shape_at (shapes_of s) l.number))
+  writes = is ∙ ap (slice_set (shapes_of s) l.number) (sums ∙ ap (summed (shapes_of s)) read)
+
+  same : AreStill (shapes_of s) (shapes_of u)
+  same = step-still s u root l b count kept writes
+
+  once : IsSummedOnce s u root (Some l) (shape_at (shapes_of s) l.number).parent
+  once = record {
+    but = step-but s u root l b count kept writes;
+    still = same;
+    owns = step-owns s u root l b count kept writes;
+    smaller = subst (λ (n : ℕ). left_to_sum (made_count u) (shapes_of u) (shape_at (shapes_of s) l.number).parent < left_to_sum n (shapes_of s) (Some l)) count (sums-nearer s u root l (made_count u) b same count (shape_at (shapes_of s) l.number).parent refl);
+  }
 
 walk-same : (t u : Tree) → ((x : ℕ) → u.left x ≡ t.left x) → ((x : ℕ) → u.right x ≡ t.right x) → (f : ℕ) (o : Option ℕ) → walk u f o ≡ walk t f o
 walk-same t u l r f None = refl
@@ -230,15 +236,16 @@ order-still s u root same = by (number_of root) where
   by (Some x) = ap (λ f. walk (tree_of (shapes_of u)) f (Some x)) (same x).count ∙ walk-same (tree_of (shapes_of s)) (tree_of (shapes_of u)) (λ i. ap number_of (same i).left) (λ i. ap number_of (same i).right) (shape_at (shapes_of s) x).count (Some x)
 
 -- ---- a new weight of one node's own value
-module _ {T : Type 0} (s u : Store T) (root : Option Link) (at : Link) (w : Own) (sound : IsSound s root) (made : IsMade s at) (count : made_count u ≡ made_count s) (kept : IsKept s u) (is : shapes_of u ≡ slice_set (shapes_of s) at.number (record (shape_at (shapes_of s) at.number) { own = w })) where
-  own-inside : at.number < length (shapes_of s)
-  own-inside = let h = made-below s at made in omega (arith, h, length-shapes s)
+module _ {T : Type 0} (s u : Store T) (root : Option Link) (at : Link) (w : Own) (sound : IsSound s root) (made : IsMade s at) (count : made_count u ≡ made_count s) (kept : IsKept s u)
+    (h : Shape) (read : h ≡ shape_at (shapes_of s) at.number) (is : shapes_of u ≡ slice_set (shapes_of s) at.number (record h { own = w })) where
+  writes : shapes_of u ≡ slice_set (shapes_of s) at.number (record (shape_at (shapes_of s) at.number) { own = w })
+  writes = is ∙ ap (λ (g : Shape). slice_set (shapes_of s) at.number (record g { own = w })) read
 
   own-there : shape_at (shapes_of u) at.number ≡ record (shape_at (shapes_of s) at.number) { own = w }
-  own-there = ap (λ xs. shape_at xs at.number) is ∙ set_same (shapes_of s) at.number (record (shape_at (shapes_of s) at.number) { own = w }) own-inside
+  own-there = written s u at (record (shape_at (shapes_of s) at.number) { own = w }) made writes
 
   own-elsewhere : (i : ℕ) → i ≢ at.number → shape_at (shapes_of u) i ≡ shape_at (shapes_of s) i
-  own-elsewhere i h = ap (λ xs. shape_at xs i) is ∙ set_other (shapes_of s) at.number i (record (shape_at (shapes_of s) at.number) { own = w }) h
+  own-elsewhere = unwritten s u at (record (shape_at (shapes_of s) at.number) { own = w }) made writes
 
   pub own-still : AreStill (shapes_of s) (shapes_of u)
   own-still i = elim (same-or-not i at.number) as (λ _. IsStill (shape_at (shapes_of s) i) (shape_at (shapes_of u) i)) [
@@ -283,8 +290,8 @@ module _ {T : Type 0} (s u : Store T) (root : Option Link) (at : Link) (w : Own)
 
   pub own-but : made_count s < 4194305 → ((i : ℕ) → (shape_at (shapes_of s) i).own.weight < 4194305) → w.weight < 4194305 → IsSoundBut u root (Some at)
   own-but few light lt = record {
-    tree = tree-along s u root (placed (shapes_of s) (shapes_of u) own-still) count kept (sound-tree s root sound);
-    rest = λ i ne. (
+    tree = tree-along s u root (placed (shapes_of s) (shapes_of u) own-still) count kept sound
+        (λ i ne. (
         let e = own-elsewhere i (λ f. ne (ap Some (sym f))) in
         let a = own-weight-at (shape_at (shapes_of s) i).left in
         let b = own-weight-at (shape_at (shapes_of s) i).right in
@@ -299,8 +306,8 @@ module _ {T : Type 0} (s u : Store T) (root : Option Link) (at : Link) (w : Own)
           ap (λ (h : Shape). h.own.weight) e,
           ap (λ (h : Shape). weight_at (shapes_of u) h.left) e,
           ap (λ (h : Shape). weight_at (shapes_of u) h.right) e,
-        ));
-    low = λ i ne. own-low i (λ f. ne (ap Some (sym f)));
+        )))
+        (λ i ne. own-low i (λ f. ne (ap Some (sym f))));
     light = λ i. elim (same-or-not i at.number) as (λ _. (shape_at (shapes_of u) i).own.weight < 4194305) [
       | inl e ↦ omega (arith, lt, ap (λ o. o.weight) own-here, ap (λ (j : ℕ). (shape_at (shapes_of u) j).own.weight) e)
       | inr e ↦ omega (arith, light i, ap (λ o. o.weight) (own-others i e))

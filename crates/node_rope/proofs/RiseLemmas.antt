@@ -7,16 +7,16 @@ use Rattle.node_rope.specs.declared.side.Side.TheVariants.{Left, Right}
 use Rattle.node_rope.specs.declared.store.Store.{Store}
 use Rattle.node_rope.specs.declared.cells.Shape.{Shape}
 use Rattle.node_rope.specs.declared.cells.Link.{Link}
-use Rattle.node_rope.specs.Made.{IsMade, IsKept, made_count, shapes_of}
+use Rattle.node_rope.specs.Made.{IsMade, IsKept, made_count, shapes_of, values_of}
 use Rattle.node_rope.specs.Shapes.{IsSound, AreMade, shape_at, number_of, least_at}
 use Rattle.node_rope.specs.Walk.{moved}
 use Rattle.node_rope.specs.Grown.{with_parent}
 use Rattle.node_rope.specs.Sides.{flipped, faced}
-use Rattle.node_rope.specs.Turned.{with_child, lifted}
+use Rattle.node_rope.specs.Turned.{side_of, with_child, lifted, IsRearranged, IsRisen}
 use Rattle.node_rope.proofs.WalkLemmas.{moved-other, moved-here}
 use Rattle.node_rope.proofs.ShapeLemmas.{made-below}
-use Rattle.node_rope.proofs.FaceLemmas.{flip-at, flip-with_parent, flip-with_child, flip-count, flip-weight, flip-least, mirrored, shapes-mirrored, there, back, mirror-sound, mirror-order, faced-field}
-use Rattle.node_rope.proofs.TurnedLemmas.{IsRisen, risen-left}
+use Rattle.node_rope.proofs.FaceLemmas.{flip-at, flip-with_parent, flip-with_child, flip-count, flip-weight, flip-least, mirrored, shapes-mirrored, there, back, mirror-sound, mirror-order, faced-field, side-faces}
+use Rattle.node_rope.proofs.TurnedLemmas.{IsLifted, risen-left}
 
 -- what is written at the right is written at the left of the mirrored shapes
 flip-lifted : (ss : List Shape) (p c : Link) (above below : Shape) → map flipped (lifted Right ss p c above below) ≡ lifted Left (map flipped ss) p c above below
@@ -25,7 +25,7 @@ flip-lifted ss p c above below =
     let lower : ℕ → ℕ → ℕ → Shape = λ n w r. record above { left = below.right; parent = Some c; count = (above.count - below.count) + n; weight = (above.weight - below.weight) + w; least = min r (min above.own.rank (least_at ss above.right)) } in
     map-set flipped _ c.number _ ∙ rw (map-set flipped (with_parent ss below.right (Some p)) p.number _, flip-with_parent ss below.right (Some p), flip-count ss below.right, flip-weight ss below.right, flip-least ss below.right, flip-least ss above.right) refl
 
-mirror-risen : {T : Type 0} (s v : Store T) (root root' : Option Link) (p c : Link) → IsRisen (mirrored s) (mirrored v) root root' p c → IsRisen s v root root' p c
+mirror-risen : {T : Type 0} (s v : Store T) (root root' : Option Link) (p c : Link) → IsLifted (mirrored s) (mirrored v) root root' p c → IsLifted s v root root' p c
 mirror-risen s v root root' p c r = record {
   sound = mirror-sound (mirrored v) v root' (back v) r.sound;
   same_order = mirror-order (mirrored v) v root' (back v) ∙ ap reverse r.same_order ∙ sym (mirror-order (mirrored s) s root (back s));
@@ -50,27 +50,57 @@ flip-turned s v p c is =
 
 risen : {T : Type 0} (d : Side) (s v : Store T) (root root' : Option Link) (p c : Link) → IsSound s root → IsMade s p → IsMade s c → number_of (faced d (shape_at (shapes_of s) p.number)).left ≡ Some c.number
     → shapes_of v ≡ with_child (lifted d (shapes_of s) p c (faced d (shape_at (shapes_of s) p.number)) (faced d (shape_at (shapes_of s) c.number))) (shape_at (shapes_of s) p.number).parent p.number c
-    → IsKept s v → made_count v ≡ made_count s → number_of root' ≡ moved p.number c.number (number_of root) → AreMade v root' → IsRisen s v root root' p c
+    → IsKept s v → made_count v ≡ made_count s → number_of root' ≡ moved p.number c.number (number_of root) → AreMade v root' → IsLifted s v root root' p c
 risen Left s v root root' p c sound made_p made_c was is kept count moves made = risen-left s v root root' p c sound made_p made_c was is kept count moves made
 risen Right s v root root' p c sound made_p made_c was is kept count moves made = mirror-risen s v root root' p c (risen-left (mirrored s) (mirrored v) root root' p c (mirror-sound s (mirrored s) root (there s) sound) made_p made_c
     (ap (λ (h : Shape). number_of h.left) ((there s).at p.number) ∙ was) (flip-turned s v p c is) kept ((there v).count ∙ count ∙ sym (there s).count) moves made)
 
-module _ {T : Type 0} (d : Side) (s v : Store T) (root : Option Link) (p c : Link) (sound : IsSound s root) (made_p : IsMade s p) (made_c : IsMade s c) (was : number_of (faced d (shape_at (shapes_of s) p.number)).left ≡ Some c.number)
-    (is : shapes_of v ≡ with_child (lifted d (shapes_of s) p c (faced d (shape_at (shapes_of s) p.number)) (faced d (shape_at (shapes_of s) c.number))) (faced d (shape_at (shapes_of s) p.number)).parent p.number c)
-    (kept : IsKept s v) (count : made_count v ≡ made_count s) where
-  abbrev over : (faced d (shape_at (shapes_of s) p.number)).parent ≡ (shape_at (shapes_of s) p.number).parent
-  over = faced-field (λ h. h.parent) (λ h. refl) d (shape_at (shapes_of s) p.number)
+-- what a rotation reads, and the store u without the new child of the node over p
+module _ {T : Type 0} (s u v : Store T) (root : Option Link) (p c : Link) (sound : IsSound s root) (made_p : IsMade s p) (made_c : IsMade s c) (child : number_of (shape_at (shapes_of s) c.number).parent ≡ Some p.number)
+    (d : Side) (h k above below : Shape) (is_h : h ≡ shape_at (shapes_of s) p.number) (is_k : k ≡ shape_at (shapes_of s) c.number) (side : d ≡ side_of h.left c.number) (faced_h : above ≡ faced d h) (faced_k : below ≡ faced d k)
+    (lifts : shapes_of u ≡ lifted d (shapes_of s) p c above below) (is : shapes_of v ≡ with_child (shapes_of u) above.parent p.number c)
+    (kept : IsKept s v) (count : made_count v ≡ made_count s) (values : values_of v ≡ values_of s) where
+  faces : number_of (faced d (shape_at (shapes_of s) p.number)).left ≡ Some c.number
+  faces = rw (side, is_h) (side-faces (shape_at (shapes_of s) p.number) c.number (sound.below c.number p.number child))
 
-  is-over : shapes_of v ≡ with_child (lifted d (shapes_of s) p c (faced d (shape_at (shapes_of s) p.number)) (faced d (shape_at (shapes_of s) c.number))) (shape_at (shapes_of s) p.number).parent p.number c
-  is-over = is ∙ ap (λ (o : Option Link). with_child (lifted d (shapes_of s) p c (faced d (shape_at (shapes_of s) p.number)) (faced d (shape_at (shapes_of s) c.number))) o p.number c) over
+  is_above : above ≡ faced d (shape_at (shapes_of s) p.number)
+  is_above = faced_h ∙ ap (faced d) is_h
+
+  is_below : below ≡ faced d (shape_at (shapes_of s) c.number)
+  is_below = faced_k ∙ ap (faced d) is_k
+
+  over : above.parent ≡ (shape_at (shapes_of s) p.number).parent
+  over = ap (λ (h : Shape). h.parent) is_above ∙ faced-field (λ h. h.parent) (λ h. refl) d (shape_at (shapes_of s) p.number)
+
+  lifted-to : (top : Option Link) → number_of top ≡ moved p.number c.number (number_of root) → AreMade v top → IsLifted s v root top p c
+  lifted-to top moves made = risen d s v root top p c sound made_p made_c faces (is ∙ (λ i. with_child (lifts i) above.parent p.number c) ∙ (λ i. with_child (lifted d (shapes_of s) p c (is_above i) (is_below i)) (over i) p.number c)) kept count moves made
+
+  risen-so : (top : Option Link) → IsLifted s v root top p c → IsRisen s v root top p c
+  risen-so top r = record {
+    same = record { sound = r.sound; same_order = r.same_order; items = r.items; values = values; count = count; kept = kept };
+    taller = r.taller;
+    lower = r.lower;
+    above = r.above;
+  }
 
   -- below another node the top stays
-  pub risen-under : (g : Link) → (faced d (shape_at (shapes_of s) p.number)).parent ≡ Some g → IsRisen s v root root p c
-  risen-under g up = risen d s v root root p c sound made_p made_c was is-over kept count (sym (moved-other p.number c.number (number_of root) not-top)) (λ m e. kept m (sound.made_root m e)) where
+  pub risen-under : (g : Link) → above.parent ≡ Some g → IsRisen s v root root p c
+  risen-under g up = risen-so root (lifted-to root (sym (moved-other p.number c.number (number_of root) not-top)) (λ m e. kept m (sound.made_root m e))) where
     not-top : number_of root ≡ Some p.number → ⊥
     not-top e = let none = sound.crown p.number e in let some = sym over ∙ up in cc
 
-  pub risen-top : (faced d (shape_at (shapes_of s) p.number)).parent ≡ None → IsRisen s v root (Some c) p c
+  pub risen-top : above.parent ≡ None → IsRisen s v root (Some c) p c
   risen-top up =
       let top = sound.top p.number (made-below s p made_p) (sym over ∙ up) in
-      risen d s v root (Some c) p c sound made_p made_c was is-over kept count (sym (ap (moved p.number c.number) top ∙ moved-here p.number c.number)) (λ m e. (let same : c ≡ m = cc in subst (λ (k : Link). IsMade v k) same (kept c made_c)))
+      risen-so (Some c) (lifted-to (Some c) (sym (ap (moved p.number c.number) top ∙ moved-here p.number c.number)) (λ m e. (let same : c ≡ m = cc in subst (λ (k : Link). IsMade v k) same (kept c made_c))))
+
+-- ---- one change of links after another
+pub rearranged-trans : {T : Type 0} {s u v : Store T} {root mid top : Option Link} → IsRearranged s u root mid → IsRearranged u v mid top → IsRearranged s v root top
+rearranged-trans a b = record {
+  sound = b.sound;
+  same_order = b.same_order ∙ a.same_order;
+  items = λ i. ((b.items i).0 ∙ (a.items i).0, (b.items i).1 ∙ (a.items i).1);
+  values = b.values ∙ a.values;
+  count = b.count ∙ a.count;
+  kept = λ l m. b.kept l (a.kept l m);
+}

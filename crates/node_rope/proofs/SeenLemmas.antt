@@ -1,6 +1,6 @@
 -- What the tree tells of the list of items: keys, places and weights.
 use Rattle.std.proofs.Common.{◌≡◌, inl, inr, ℕ, zero, suc, ◌+◌, ◌<◌, ◌≤◌, List, [], ◌∷◌, ◌++◌, length, take, flat_map, slice_get, get_or, Option, None, Some, refl, sym, ap, ◌∙◌, subst, arith}
-use Rattle.std.specs.Prelude.{is_some, IsSome, true, false}
+use Rattle.std.specs.Prelude.{is_some, IsSome, option_map, true, false}
 use Rattle.std.specs.Map.{keys_of}
 use Rattle.std.specs.BTreeMap.{BTreeMap, get}
 use Rattle.std.proofs.lemmas.List.Concat.{flat_map-append}
@@ -10,7 +10,7 @@ use Rattle.node_rope.specs.declared.store.Store.{Store}
 use Rattle.node_rope.specs.declared.cells.Link.{Link}
 use Rattle.node_rope.specs.declared.cells.Own.{Own}
 use Rattle.node_rope.specs.Made.{made_count, shapes_of, values_of}
-use Rattle.node_rope.specs.Shapes.{shape_at, number_of, tree_of, order, weigh}
+use Rattle.node_rope.specs.Shapes.{IsSound, shape_at, number_of, tree_of, order, weigh}
 use Rattle.node_rope.specs.Walk.{count_of}
 use Rattle.node_rope.proofs.ItemLemmas.{length-items}
 use Rattle.node_rope.specs.Items.{IsRope, item_at, items_of, value_under}
@@ -53,6 +53,13 @@ module _ {T : Type 0} (s : Store T) where
       let it = one-item x (made x (inl refl)) in
       ap (λ (ys : List (Identifier × T)). slice_get (keys_of (ys ++ flat_map (item_at s) xs)) (suc i)) it.2 ∙ items-key xs (λ y a. made y (inr a)) i (omega (arith, h))
 
+  pub items-item : (xs : List ℕ) → AreNodes xs → (i : ℕ) (v : T) → i < length xs → slice_get (values_of s) (get_or xs i 0) ≡ Some v → slice_get (flat_map (item_at s) xs) i ≡ Some ((shape_at (shapes_of s) (get_or xs i 0)).key, v)
+  items-item [] made i v h is = absurd (omega (arith, h))
+  items-item (x ∷ xs) made zero v h is = ap (λ (ys : List (Identifier × T)). slice_get (ys ++ flat_map (item_at s) xs) 0) (item-is s x v (made x (inl refl)) is)
+  items-item (x ∷ xs) made (suc i) v h is =
+      let it = one-item x (made x (inl refl)) in
+      ap (λ (ys : List (Identifier × T)). slice_get (ys ++ flat_map (item_at s) xs) (suc i)) it.2 ∙ items-item xs (λ y a. made y (inr a)) i v (omega (arith, h)) is
+
   pub items-length : (xs : List ℕ) → AreNodes xs → length (flat_map (item_at s) xs) ≡ length xs
   items-length [] made = refl
   items-length (x ∷ xs) made =
@@ -68,6 +75,12 @@ module _ {T : Type 0} (s : Store T) where
       let here = ap (λ o. o.weight) (w x it.0 it.1) in
       let cons = sum_by-cons (λ (y : Identifier × T). (wt y.1).weight) p (flat_map (item_at s) xs) in
       ap (λ (ys : List (Identifier × T)). weight_sum (λ x. (wt x).weight) (ys ++ flat_map (item_at s) xs)) it.2 ∙ omega (arith, rest, here, cons)
+
+pub few-nodes : {T : Type 0} (s : Store T) (root : Option Link) → IsSound s root → made_count s < 4194305 → length (items_of s root) < 4194306
+few-nodes s root sound few = elim (link-or-none root) as (λ _. length (items_of s root) < 4194306) [
+  | inl e ↦ omega (arith, length-items s root sound, ap (λ (o : Option Link). count_of (tree_of (shapes_of s)) (number_of o)) e)
+  | inr e ↦ omega (arith, length-items s root sound, ap (λ (o : Option Link). count_of (tree_of (shapes_of s)) (number_of o)) e.1, sound.small e.0.number, few)
+]
 
 module _ {T : Type 0} (wt : T → Own) (s : Store T) (root : Option Link) (m : BTreeMap Identifier Link) (r : IsRope wt s root m) where
   nodes : (x : ℕ) → Among x (order s root) → x < made_count s
@@ -128,11 +141,18 @@ module _ {T : Type 0} (wt : T → Own) (s : Store T) (root : Option Link) (m : B
     past (x ∷ xs) zero h = absurd (omega (arith, h))
     past (x ∷ xs) (suc i) h = past xs i (omega (arith, h))
 
+  pub value-seen : (i : ℕ) (l : Link) (v : T) → i < length (order s root) → get_or (order s root) i 0 ≡ l.number → slice_get (values_of s) l.number ≡ Some v → option_map (λ x. x.1) (slice_get (items_of s root) i) ≡ Some v
+  value-seen i l v h at is = ap (option_map (λ (x : Identifier × T). x.1)) (items-item s (order s root) nodes i v h (ap (slice_get (values_of s)) at ∙ is))
+
+  pub value-past : (i : ℕ) → length (order s root) ≤ i → option_map (λ x. x.1) (slice_get (items_of s root) i) ≡ None
+  value-past i h = past (items_of s root) i (omega (arith, h, order-length)) where
+    past : (xs : List (Identifier × T)) (i : ℕ) → length xs ≤ i → option_map (λ x. x.1) (slice_get xs i) ≡ None
+    past [] i h = refl
+    past (x ∷ xs) zero h = absurd (omega (arith, h))
+    past (x ∷ xs) (suc i) h = past xs i (omega (arith, h))
+
   pub few-items : length (items_of s root) < 4194306
-  few-items = elim (link-or-none root) as (λ _. length (items_of s root) < 4194306) [
-    | inl e ↦ omega (arith, length-items s root r.sound, ap (λ (o : Option Link). count_of (tree_of (shapes_of s)) (number_of o)) e)
-    | inr e ↦ omega (arith, length-items s root r.sound, ap (λ (o : Option Link). count_of (tree_of (shapes_of s)) (number_of o)) e.1, r.sound.small e.0.number, r.few)
-  ]
+  few-items = few-nodes s root r.sound r.few
 
 pub no-more : {T : Type 0} (xs : List (Identifier × T)) (i : ℕ) → slice_get (keys_of xs) i ≡ None → length xs ≤ i
 no-more [] i e = omega arith

@@ -18,7 +18,7 @@ use Rattle.node_rope.proofs.LiftLemmas.{relinked-from}
 use Rattle.node_rope.proofs.LiftedLemmas as lifts
 
 -- c stands above p in the place of p, and the order is the same
-pub record IsRisen {T : Type 0} (s v : Store T) (root root' : Option Link) (p c : Link) : Type 0 where
+pub record IsLifted {T : Type 0} (s v : Store T) (root root' : Option Link) (p c : Link) : Type 0 where
   pub sound : IsSound v root'
   pub same_order : order v root' ≡ order s root
   pub items : SameItems (shapes_of s) (shapes_of v)
@@ -187,7 +187,7 @@ module _ {T : Type 0} (s v : Store T) (root root' : Option Link) (p c : Link) (s
   pub order-turned : order v root' ≡ order s root
   order-turned = ap (λ xs. whole (tree_of xs) (number_of root')) is ∙ ap (whole u) moves ∙ rotated-walk t u sound.counted counted-now sound.linked p.number c.number n.rotated (count_of t (number_of root)) (number_of root) (omega arith) root-not-c
 
-  pub risen-left : IsRisen s v root root' p c
+  pub risen-left : IsLifted s v root root' p c
   risen-left = record {
     sound = sound-turned;
     same_order = order-turned;

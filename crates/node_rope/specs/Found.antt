@@ -1,5 +1,5 @@
 -- Where a unit of weight stands.
-use Rattle.std.specs.Prelude.{◌≡◌, ℕ, ◌+◌, ◌<◌, ◌⊎◌, List, [], ◌∷◌, ◌++◌, length, slice_get, Option}
+use Rattle.std.specs.Prelude.{◌≡◌, ℕ, ◌+◌, ◌<◌, ◌⊎◌, List, [], ◌∷◌, ◌++◌, slice_get, Option}
 use Rattle.node_rope.specs.declared.store.Store.{Store}
 use Rattle.node_rope.specs.declared.cells.Shape.{Shape}
 use Rattle.node_rope.specs.declared.cells.Link.{Link}
@@ -22,20 +22,11 @@ pub record IsFound (ss : List Shape) (xs : List ℕ) (w : ℕ) (l : Link) (r : �
   pub before : w ≡ weigh ss front + r
   pub inside : r < (shape_at ss l.number).own.weight
 
--- the unit w of the nodes xs is the unit r of the subtree cur, or of what stands behind it, and then nothing does
-pub record IsReached {T : Type 0} (s : Store T) (xs : List ℕ) (w : ℕ) (cur : Option Link) (r : ℕ) : Type 0 where
+-- in the nodes xs the unit w is the unit r of the subtree cur, or of what stands behind it, and then nothing does; size counts units
+pub record IsReached {T : Type 0} (size : List ℕ → ℕ) (s : Store T) (xs : List ℕ) (w : ℕ) (cur : Option Link) (r : ℕ) : Type 0 where
   pub front : List ℕ
   pub back : List ℕ
   pub split : xs ≡ front ++ (whole (tree_of (shapes_of s)) (number_of cur) ++ back)
-  pub before : w ≡ weigh (shapes_of s) front + r
-  pub here : (r < weigh (shapes_of s) (whole (tree_of (shapes_of s)) (number_of cur))) ⊎ (back ≡ [])
-  pub made : AreMade s cur
-
--- the place i of the nodes xs is the place r of the subtree cur, or of what stands behind it, and then nothing does
-pub record IsCountedTo {T : Type 0} (s : Store T) (xs : List ℕ) (i : ℕ) (cur : Option Link) (r : ℕ) : Type 0 where
-  pub front : List ℕ
-  pub back : List ℕ
-  pub split : xs ≡ front ++ (whole (tree_of (shapes_of s)) (number_of cur) ++ back)
-  pub before : i ≡ length front + r
-  pub here : (r < length (whole (tree_of (shapes_of s)) (number_of cur))) ⊎ (back ≡ [])
+  pub before : w ≡ size front + r
+  pub here : (r < size (whole (tree_of (shapes_of s)) (number_of cur))) ⊎ (back ≡ [])
   pub made : AreMade s cur

@@ -18,3 +18,4 @@ pub mod Sums
 pub mod Swaps
 pub mod Turned
 pub mod Walk
+pub mod Walked

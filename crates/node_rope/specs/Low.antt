@@ -1,8 +1,12 @@
 -- The first and the last of a list that is low: whose rank is at most a number.
 use Rattle.std.specs.Prelude.{ℕ, Bool, false, cond, nat_le, List, [], ◌∷◌, Option, None, Some}
+use Rattle.node_rope.specs.declared.side.Side.{Side}
+use Rattle.node_rope.specs.declared.store.Store.{Store}
 use Rattle.node_rope.specs.declared.cells.Shape.{Shape}
 use Rattle.node_rope.specs.declared.cells.Link.{Link}
+use Rattle.node_rope.specs.Made.{shapes_of}
 use Rattle.node_rope.specs.Walk.{whole}
+use Rattle.node_rope.specs.Sides.{seen, faced}
 use Rattle.node_rope.specs.Shapes.{shape_at, number_of, tree_of, ranks}
 
 -- the one, or where there is none, the other
@@ -29,19 +33,15 @@ module _ (ss : List Shape) (most : ℕ) where
   low_at None = false
   low_at (Some l) = nat_le (shape_at ss l.number).least most
 
-  -- the first low one of the nodes below o, and the last one
-  abbrev pub first_low_below : Option Link → Option ℕ
-  first_low_below o = first_low (ranks ss) most (whole (tree_of ss) (number_of o))
+  -- the first low one of the nodes below o, as they are seen from the side
+  abbrev pub low_below : Side → Option Link → Option ℕ
+  low_below d o = first_low (ranks ss) most (whole (seen d (tree_of ss)) (number_of o))
 
-  abbrev pub last_low_below : Option Link → Option ℕ
-  last_low_below o = last_low (ranks ss) most (whole (tree_of ss) (number_of o))
+  -- the first low one of a node and what is below its other side
+  abbrev pub low_from : Side → Option Link → Option ℕ
+  low_from d None = None
+  low_from d (Some l) = or_else (if_low (ranks ss) most l.number) (low_below d (faced d (shape_at ss l.number)).right)
 
-  -- the first low one of a node and what is below its right
-  abbrev pub first_low_from : Option Link → Option ℕ
-  first_low_from None = None
-  first_low_from (Some l) = or_else (if_low (ranks ss) most l.number) (first_low_below (shape_at ss l.number).right)
-
-  -- the last low one of a node and what is below its left
-  abbrev pub last_low_to : Option Link → Option ℕ
-  last_low_to None = None
-  last_low_to (Some l) = or_else (if_low (ranks ss) most l.number) (last_low_below (shape_at ss l.number).left)
+-- the nodes in order, as they are seen from the side
+abbrev pub seen_order : {T : Type 0} → Side → Store T → Option Link → List ℕ
+seen_order d s root = whole (seen d (tree_of (shapes_of s))) (number_of root)

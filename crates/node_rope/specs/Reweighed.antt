@@ -1,11 +1,10 @@
 -- While the weights above a node are summed anew.
-use Rattle.std.specs.Prelude.{◌≡◌, ℕ, suc, ◌+◌, ◌*◌, ◌<◌, ◌≤◌, min, ◌⊎◌, List, Option, None, Some}
+use Rattle.std.specs.Prelude.{◌≡◌, ℕ, ◌+◌, ◌*◌, ◌<◌, ◌≤◌, min, List, Option, Some}
 use Rattle.node_rope.specs.declared.store.Store.{Store}
 use Rattle.node_rope.specs.declared.cells.Shape.{Shape}
 use Rattle.node_rope.specs.declared.cells.Link.{Link}
 use Rattle.node_rope.specs.Made.{made_count, shapes_of}
-use Rattle.node_rope.specs.Walk.{IsCounted, IsLinked}
-use Rattle.node_rope.specs.Shapes.{shape_at, number_of, tree_of, weight_at, least_at, AreMade}
+use Rattle.node_rope.specs.Shapes.{shape_at, number_of, weight_at, least_at, AreMade, IsTree}
 
 -- the links and the count are the same
 pub record IsPlaced (g h : Shape) : Type 0 where
@@ -31,24 +30,16 @@ AreStill ss us = (i : ℕ) → IsStill (shape_at ss i) (shape_at us i)
 abbrev pub SameOwns : List Shape → List Shape → Type 0
 SameOwns ss us = (i : ℕ) → (shape_at us i).own ≡ (shape_at ss i).own
 
--- the nodes make one tree below root
-pub record IsTree {T : Type 0} (s : Store T) (root : Option Link) : Type 0 where
-  pub counted : IsCounted (tree_of (shapes_of s))
-  pub linked : IsLinked (tree_of (shapes_of s))
-  pub top : (i : ℕ) → i < made_count s → (shape_at (shapes_of s) i).parent ≡ None → number_of root ≡ Some i
-  pub crown : (i : ℕ) → number_of root ≡ Some i → (shape_at (shapes_of s) i).parent ≡ None
-  pub below : (i p : ℕ) → number_of (shape_at (shapes_of s) i).parent ≡ Some p → (number_of (shape_at (shapes_of s) p).left ≡ Some i) ⊎ (number_of (shape_at (shapes_of s) p).right ≡ Some i)
-  pub made_left : (i : ℕ) → AreMade s (shape_at (shapes_of s) i).left
-  pub made_right : (i : ℕ) → AreMade s (shape_at (shapes_of s) i).right
-  pub made_parent : (i : ℕ) → AreMade s (shape_at (shapes_of s) i).parent
-  pub made_root : AreMade s root
-  pub small : (i : ℕ) → (shape_at (shapes_of s) i).count ≤ suc (made_count s)
+-- the weights, and the least ranks, are right but at o
+abbrev pub IsWeighedBut : List Shape → Option Link → Type 0
+IsWeighedBut ss o = (i : ℕ) → (number_of o ≡ Some i → ⊥) → (shape_at ss i).weight ≡ weight_at ss (shape_at ss i).left + ((shape_at ss i).own.weight + weight_at ss (shape_at ss i).right)
 
--- and its weights and least ranks are right but at o
+abbrev pub IsRankedBut : List Shape → Option Link → Type 0
+IsRankedBut ss o = (i : ℕ) → (number_of o ≡ Some i → ⊥) → (shape_at ss i).least ≡ min (least_at ss (shape_at ss i).left) (min (shape_at ss i).own.rank (least_at ss (shape_at ss i).right))
+
+-- the nodes make one tree below root, and its weights and least ranks are right but at o
 pub record IsSoundBut {T : Type 0} (s : Store T) (root o : Option Link) : Type 0 where
-  pub tree : IsTree s root
-  pub rest : (i : ℕ) → (number_of o ≡ Some i → ⊥) → (shape_at (shapes_of s) i).weight ≡ weight_at (shapes_of s) (shape_at (shapes_of s) i).left + ((shape_at (shapes_of s) i).own.weight + weight_at (shapes_of s) (shape_at (shapes_of s) i).right)
-  pub low : (i : ℕ) → (number_of o ≡ Some i → ⊥) → (shape_at (shapes_of s) i).least ≡ min (least_at (shapes_of s) (shape_at (shapes_of s) i).left) (min (shape_at (shapes_of s) i).own.rank (least_at (shapes_of s) (shape_at (shapes_of s) i).right))
+  pub tree : IsTree s root (IsWeighedBut (shapes_of s) o) (IsRankedBut (shapes_of s) o)
   pub light : (i : ℕ) → (shape_at (shapes_of s) i).own.weight < 4194305
   pub bound : (i : ℕ) → (shape_at (shapes_of s) i).weight ≤ 4194304 * (shape_at (shapes_of s) i).count
   pub few : made_count s < 4194305

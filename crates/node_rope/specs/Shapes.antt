@@ -59,11 +59,11 @@ IsRanked ss = IsSummed lesser (tree_of ss) (ranks ss) (leasts ss)
 abbrev pub AreMade : {T : Type 0} → Store T → Option Link → Type 0
 AreMade s o = (l : Link) → o ≡ Some l → IsMade s l
 
--- the store's nodes make one tree below root
-pub record IsSound {T : Type 0} (s : Store T) (root : Option Link) : Type 0 where
+-- the store's nodes make one tree below root, of whose weights and least ranks this holds
+pub record IsTree {T : Type 0} (s : Store T) (root : Option Link) (OfWeights OfRanks : Type 0) : Type 0 where
   pub counted : IsCounted (tree_of (shapes_of s))
-  pub weighed : IsWeighed (shapes_of s)
-  pub ranked : IsRanked (shapes_of s)
+  pub weighed : OfWeights
+  pub ranked : OfRanks
   pub linked : IsLinked (tree_of (shapes_of s))
   pub top : (i : ℕ) → i < made_count s → (shape_at (shapes_of s) i).parent ≡ None → number_of root ≡ Some i
   pub crown : (i : ℕ) → number_of root ≡ Some i → (shape_at (shapes_of s) i).parent ≡ None
@@ -73,6 +73,10 @@ pub record IsSound {T : Type 0} (s : Store T) (root : Option Link) : Type 0 wher
   pub made_parent : (i : ℕ) → AreMade s (shape_at (shapes_of s) i).parent
   pub made_root : AreMade s root
   pub small : (i : ℕ) → (shape_at (shapes_of s) i).count ≤ suc (made_count s)
+
+-- and they are right
+abbrev pub IsSound : {T : Type 0} → Store T → Option Link → Type 0
+IsSound s root = IsTree s root (IsWeighed (shapes_of s)) (IsRanked (shapes_of s))
 
 -- the numbers of the nodes in order
 abbrev pub order : {T : Type 0} → Store T → Option Link → List ℕ

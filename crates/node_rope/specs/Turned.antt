@@ -1,10 +1,12 @@
 -- What a rotation writes.
-use Rattle.std.specs.Prelude.{◌≡◌, ℕ, ◌+◌, ◌-◌, min, Bool, false, cond, eqb, List, slice_set, Option, None, Some}
+use Rattle.std.specs.Prelude.{◌≡◌, ℕ, ◌+◌, ◌-◌, ◌<◌, min, Bool, false, cond, eqb, List, slice_set, Option, None, Some}
 use Rattle.node_rope.specs.declared.side.Side.{Side}
 use Rattle.node_rope.specs.declared.side.Side.TheVariants.{Left, Right}
 use Rattle.node_rope.specs.declared.cells.Shape.{Shape}
 use Rattle.node_rope.specs.declared.cells.Link.{Link}
-use Rattle.node_rope.specs.Shapes.{shape_at, number_of, tree_of, weight_at, least_at}
+use Rattle.node_rope.specs.declared.store.Store.{Store}
+use Rattle.node_rope.specs.Made.{IsKept, made_count, shapes_of, values_of}
+use Rattle.node_rope.specs.Shapes.{IsSound, shape_at, number_of, tree_of, weight_at, least_at, order}
 use Rattle.node_rope.specs.Sides.{faced}
 use Rattle.node_rope.specs.Grown.{with_parent}
 use Rattle.node_rope.specs.Walk.{count_of}
@@ -40,3 +42,19 @@ lifted d ss p c above below =
 -- each node keeps its key and what its value counts for
 abbrev pub SameItems : List Shape → List Shape → Type 0
 SameItems ss us = (i : ℕ) → ((shape_at us i).key ≡ (shape_at ss i).key) × ((shape_at us i).own ≡ (shape_at ss i).own)
+
+-- u has one sound tree below top, with the items and values of s in the order of s below root, and its links are good
+pub record IsRearranged {T : Type 0} (s u : Store T) (root top : Option Link) : Type 0 where
+  pub sound : IsSound u top
+  pub same_order : order u top ≡ order s root
+  pub items : SameItems (shapes_of s) (shapes_of u)
+  pub values : values_of u ≡ values_of s
+  pub count : made_count u ≡ made_count s
+  pub kept : IsKept s u
+
+-- c stands above p in the place of p
+pub record IsRisen {T : Type 0} (s u : Store T) (root top : Option Link) (p c : Link) : Type 0 where
+  pub same : IsRearranged s u root top
+  pub taller : (shape_at (shapes_of u) c.number).count ≡ (shape_at (shapes_of s) p.number).count
+  pub lower : (shape_at (shapes_of u) p.number).count < (shape_at (shapes_of s) p.number).count
+  pub above : (shape_at (shapes_of u) c.number).parent ≡ (shape_at (shapes_of s) p.number).parent

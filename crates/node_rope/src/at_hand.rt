@@ -2,7 +2,7 @@
 ghost use Rattle.std.specs.Prelude.{◌≡◌, IfSome, IsSome};
 ghost use Rattle.node_rope.specs.Items.{value_under};
 
-use crate::links::{find_link, keep_at_hand, recent_key};
+use crate::links::{floor_link, keep_at_hand, recent_key};
 use crate::rope::Rope;
 use crate::weigh::Weigh;
 use fugue_ids::ElementId;
@@ -19,12 +19,12 @@ impl<T: Weigh> Rope<T> {
         }
     }
 
-    /// The item under the key comes at hand.
+    /// The item under the key comes at hand, or else the one under the greatest key below it.
     pub fn keep_at_hand(&mut self, key: ElementId)
         ensures { self.new ≡ self.old }
     {
-        if let Some(link) = find_link(&self.map, key) {
-            keep_at_hand(&mut self.map, key, link);
+        if let Some(floor) = floor_link(&self.map, key) {
+            keep_at_hand(&mut self.map, floor.0, floor.1);
         }
     }
 }

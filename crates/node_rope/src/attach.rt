@@ -27,50 +27,51 @@ pub(crate) fn set_parent<T: Drop>(store: &mut Store<T>, link: Option<Link>, pare
     }
 }
 
+// A node for beside `at`, which takes over what is below the side of that one.
+fn new_shape<T: Drop>(store: &Store<T>, side: Side, at: Link, key: ElementId, own: Own) -> Shape
+    requires made { IsMade store.now at }
+    requires near { AreMade store.now (faced side (shape_at (shapes_of store.now) at.number)).left }
+    requires small { AreSmall (shapes_of store.now) (own.weight + own.weight) }
+    ensures { result ≡ new_beside side (shapes_of store.now) at key own }
+{
+    let below = facing(store.shape(at), side).left;
+    let shape = Shape {
+        key,
+        left: below,
+        right: None,
+        parent: Some(at),
+        count: count_below(store, below) + 1,
+        weight: weight_below(store, below) + own.weight,
+        least: least_below(store, below).min(own.rank),
+        own,
+    };
+    facing(shape, side)
+}
+
 // The sums above the new node are not yet raised.
 fn join<T: Drop>(
     store: &mut Store<T>,
     side: Side,
     at: Link,
-    key: ElementId,
-    own: Own,
+    shape: Shape,
     value: T,
 ) -> Result<Link, Back<T>>
     requires made { IsMade store.old at }
     requires near { AreMade store.old (faced side (shape_at (shapes_of store.old) at.number)).left }
     requires few { made_count store.old < 2 ^ 62 }
-    requires fits { own.rank < 2 ^ 64 }
-    requires small { AreSmall (shapes_of store.old) (own.weight + own.weight) }
-    ensures joined { IfOk result (λ l. (shapes_of store.new ≡ joined_beside side (shapes_of store.old) at l (new_beside side (shapes_of store.old) at key own)) × (values_of store.new ≡ values_of store.old ++ (value ∷ [])) × (l.number ≡ made_count store.old) × IsMade store.new l × (made_count store.new ≡ made_count store.old + 1)) }
+    ensures joined { IfOk result (λ l. (shapes_of store.new ≡ joined_beside side (shapes_of store.old) at l shape) × (values_of store.new ≡ values_of store.old ++ (value ∷ [])) × (l.number ≡ made_count store.old) × IsMade store.new l × (made_count store.new ≡ made_count store.old + 1)) }
     ensures refused { IfErr result (λ b. (b.value ≡ value) × (store.new ≡ store.old)) }
     ensures kept { IsKept store.old store.new }
 {
     let next = facing(store.shape(at), side);
-    let count = count_below(store, next.left) + 1;
-    let weight = weight_below(store, next.left) + own.weight;
-    let least = least_below(store, next.left).min(own.rank);
-    let shape = Shape {
-        key,
-        left: next.left,
-        right: None,
-        parent: Some(at),
-        count,
-        weight,
-        least,
-        own,
+    let link = store.make(shape, value)?;
+    set_parent(store, next.left, Some(link));
+    let over = Shape {
+        left: Some(link),
+        ..next
     };
-    match store.make(facing(shape, side), value) {
-        Ok(link) => {
-            set_parent(store, next.left, Some(link));
-            let over = Shape {
-                left: Some(link),
-                ..next
-            };
-            store.set_shape(at, facing(over, side));
-            Ok(link)
-        }
-        Err(back) => Err(back),
-    }
+    store.set_shape(at, facing(over, side));
+    Ok(link)
 }
 
 // A new node that stands directly at the side of `at`.
@@ -93,11 +94,8 @@ pub(crate) fn attach<T: Drop>(
     ensures refused { IfErr result (λ b. (b.value ≡ value) × (store.new ≡ store.old)) }
     ensures kept { IsKept store.old store.new }
 {
-    match join(store, side, at, key, own, value) {
-        Ok(link) => {
-            raise(store, Some(at), own);
-            Ok(link)
-        }
-        Err(back) => Err(back),
-    }
+    let shape = new_shape(store, side, at, key, own);
+    let link = join(store, side, at, shape, value)?;
+    raise(store, Some(at), own);
+    Ok(link)
 }

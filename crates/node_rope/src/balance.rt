@@ -1,8 +1,8 @@
 // Balance by weight: no child weighs more than three times its sibling, where a subtree weighs its count and one more. A child that comes to weigh more rises, or its inner child does where that weighs at least twice the outer one. With three and two this restores the balance after one node more (Hirai and Yamamoto, Balancing weight-balanced trees). No proof rests on the choice.
 ghost use Rattle.std.specs.Prelude.{◌≡◌, ◌⊎◌, ◌<◌, IfSome, Some};
-ghost use Rattle.node_rope.specs.Made.{IsMade, IsKept, made_count, shapes_of, values_of};
-ghost use Rattle.node_rope.specs.Shapes.{IsSound, AreMade, shape_at, number_of, order, tree_of};
-ghost use Rattle.node_rope.specs.Turned.{SameItems};
+ghost use Rattle.node_rope.specs.Made.{IsMade, shapes_of};
+ghost use Rattle.node_rope.specs.Shapes.{IsSound, AreMade, shape_at, number_of, tree_of};
+ghost use Rattle.node_rope.specs.Turned.{IsRearranged};
 ghost use Rattle.node_rope.specs.Walk.{IsLinked};
 
 use crate::cells::{Link, Shape};
@@ -25,12 +25,7 @@ fn child_of(shape: Shape) -> Option<Link>
 fn sink<T: Drop>(store: &mut Store<T>, root: Option<Link>, node: Link) -> Option<Link>
     requires sound { IsSound store.old root }
     requires made { IsMade store.old node }
-    ensures sound { IsSound store.new result }
-    ensures order { order store.new result ≡ order store.old root }
-    ensures items { SameItems (shapes_of store.old) (shapes_of store.new) }
-    ensures values { values_of store.new ≡ values_of store.old }
-    ensures count { made_count store.new ≡ made_count store.old }
-    ensures kept { IsKept store.old store.new }
+    ensures { IsRearranged store.old store.new root result }
 {
     let mut top = root;
     let mut shape = store.shape(node);
@@ -89,14 +84,9 @@ fn restore<T: Drop>(store: &mut Store<T>, root: Option<Link>, p: Link, c: Link) 
     requires made_p { IsMade store.old p }
     requires made_c { IsMade store.old c }
     requires child { number_of (shape_at (shapes_of store.old) c.number).parent ≡ Some p.number }
-    ensures sound { IsSound store.new result.top }
+    ensures same { IsRearranged store.old store.new root result.top }
     ensures made { IsMade store.new result.at }
     ensures higher { (shape_at (shapes_of store.old) c.number).count < (shape_at (shapes_of store.new) result.at.number).count }
-    ensures order { order store.new result.top ≡ order store.old root }
-    ensures items { SameItems (shapes_of store.old) (shapes_of store.new) }
-    ensures values { values_of store.new ≡ values_of store.old }
-    ensures count { made_count store.new ≡ made_count store.old }
-    ensures kept { IsKept store.old store.new }
 {
     let shape = store.shape(p);
     let side = side_of(shape.left, c);
@@ -121,12 +111,7 @@ fn restore<T: Drop>(store: &mut Store<T>, root: Option<Link>, p: Link, c: Link) 
 fn restore_above<T: Drop>(store: &mut Store<T>, root: Option<Link>, leaf: Link) -> Option<Link>
     requires sound { IsSound store.old root }
     requires made { IsMade store.old leaf }
-    ensures sound { IsSound store.new result }
-    ensures order { order store.new result ≡ order store.old root }
-    ensures items { SameItems (shapes_of store.old) (shapes_of store.new) }
-    ensures values { values_of store.new ≡ values_of store.old }
-    ensures count { made_count store.new ≡ made_count store.old }
-    ensures kept { IsKept store.old store.new }
+    ensures { IsRearranged store.old store.new root result }
 {
     let mut stage = Stage {
         top: root,
@@ -144,12 +129,7 @@ fn restore_above<T: Drop>(store: &mut Store<T>, root: Option<Link>, leaf: Link) 
 pub(crate) fn settle<T: Drop>(store: &mut Store<T>, root: Option<Link>, node: Link) -> Option<Link>
     requires sound { IsSound store.old root }
     requires made { IsMade store.old node }
-    ensures sound { IsSound store.new result }
-    ensures order { order store.new result ≡ order store.old root }
-    ensures items { SameItems (shapes_of store.old) (shapes_of store.new) }
-    ensures values { values_of store.new ≡ values_of store.old }
-    ensures count { made_count store.new ≡ made_count store.old }
-    ensures kept { IsKept store.old store.new }
+    ensures { IsRearranged store.old store.new root result }
 {
     let top = sink(store, root, node);
     restore_above(store, top, node)

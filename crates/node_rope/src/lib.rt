@@ -22,8 +22,10 @@ mod store;
 #[cfg(test)]
 mod tests;
 mod turn;
+mod walk;
 mod weigh;
 
 pub use back::Back;
 pub use rope::Rope;
+pub use walk::Walk;
 pub use weigh::Weigh;

@@ -1,5 +1,5 @@
 // The map from keys to nodes.
-ghost use Rattle.std.specs.Prelude.{◌≡◌, None, Some, IsTrue, IsFalse, option_map};
+ghost use Rattle.std.specs.Prelude.{◌≡◌, None, Some, IfSome, IsTrue, IsFalse, option_map};
 ghost use Rattle.std.specs.BTreeMap.{get};
 ghost use Rattle.fugue_ids.specs.Identifiers.{id_cmp};
 ghost use Rattle.node_rope.specs.Linked.{IsEmpty, IsSet, IsSame, IsFloorKey};
@@ -89,12 +89,22 @@ pub(crate) fn drop_link(map: &mut KeyMap, key: ElementId)
     map.recent = None;
 }
 
-// The greatest key that is not above this one.
+// The greatest key that is not above this one, and its node.
+pub(crate) fn floor_link(map: &KeyMap, key: ElementId) -> Option<(ElementId, Link)>
+    ensures floor { IsFloorKey map.now.links key (option_map (λ x. x.0) result) }
+    ensures link { IfSome result (λ x. get id_cmp map.now.links x.0 ≡ Some x.1) }
+{
+    match map.links.range(..=key).next_back() {
+        Some((k, link)) => Some((*k, *link)),
+        None => None,
+    }
+}
+
 pub(crate) fn floor_key(map: &KeyMap, key: ElementId) -> Option<ElementId>
     ensures { IsFloorKey map.now.links key result }
 {
-    match map.links.range(..=key).next_back() {
-        Some((k, _)) => Some(*k),
+    match floor_link(map, key) {
+        Some((k, _)) => Some(k),
         None => None,
     }
 }

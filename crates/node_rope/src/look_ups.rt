@@ -1,5 +1,5 @@
 // Look-ups of a rope. None of them takes memory.
-ghost use Rattle.std.specs.Prelude.{◌≡◌, ◌<◌, ◌+◌, ◌≤◌, ℕ, IfSome, IsSome, IfNone, None, drop, length, take, option_copied, slice_get};
+ghost use Rattle.std.specs.Prelude.{◌≡◌, ◌<◌, ◌+◌, ◌≤◌, ℕ, IfSome, IsSome, IfNone, None, Some, drop, length, take, option_copied, option_map, slice_get};
 ghost use Rattle.std.specs.Map.{keys_of};
 ghost use Rattle.node_rope.specs.Places.{StandsAt, AreKeysDistinct, weight_sum, IsUnit, IsFloor, first_low_key, last_low_key};
 ghost use Rattle.node_rope.specs.Items.{value_under};
@@ -7,7 +7,7 @@ ghost use Rattle.node_rope.specs.Items.{value_under};
 use crate::behind::node_behind;
 use crate::climb::{before, weight_below};
 use crate::find::{find_weight, node_at};
-use crate::links::{find_link, floor_key};
+use crate::links::{find_link, floor_key, floor_link};
 use crate::low::{first_low_node, last_low_node};
 use crate::rope::Rope;
 use crate::weigh::Weigh;
@@ -57,6 +57,16 @@ impl<T: Weigh> Rope<T> {
         }
     }
 
+    /// The value of the item behind this many others.
+    pub fn value_at(&self, place: usize) -> Option<&T>
+        ensures { option_copied result ≡ option_map (λ x. x.1) (slice_get self.now place) }
+    {
+        match node_at(&self.store, self.root, place) {
+            Some(link) => Some(self.store.value(link)),
+            None => None,
+        }
+    }
+
     /// The key of the first item.
     pub fn first(&self) -> Option<ElementId>
         ensures { result ≡ slice_get (keys_of self.now) 0 }
@@ -64,9 +74,10 @@ impl<T: Weigh> Rope<T> {
         self.key_at(0)
     }
 
-    /// The key of the item behind the one with this key.
-    pub fn next(&self, key: ElementId) -> Option<ElementId>
-        ensures some { IfSome result (λ n. (i : ℕ) × StandsAt self.now i key × StandsAt self.now (i + 1) n) }
+    /// The item behind the one with this key.
+    pub fn next_item(&self, key: ElementId) -> Option<(ElementId, &T)>
+        ensures some { IfSome result (λ n. (i : ℕ) × StandsAt self.now i key × StandsAt self.now (i + 1) n.0) }
+        ensures value { IfSome result (λ n. value_under n.0 self.now ≡ Some n.1.now) }
         ensures none { IfNone result (IsSome (value_under key self.now) → (i : ℕ) × StandsAt self.now i key × (length self.now ≡ i + 1)) }
     {
         let link = match find_link(&self.map, key) {
@@ -74,7 +85,18 @@ impl<T: Weigh> Rope<T> {
             None => return None,
         };
         match node_behind(&self.store, self.root, link) {
-            Some(behind) => Some(self.store.shape(behind).key),
+            Some(behind) => Some((self.store.shape(behind).key, self.store.value(behind))),
+            None => None,
+        }
+    }
+
+    /// The key of the item behind the one with this key.
+    pub fn next(&self, key: ElementId) -> Option<ElementId>
+        ensures some { IfSome result (λ n. (i : ℕ) × StandsAt self.now i key × StandsAt self.now (i + 1) n) }
+        ensures none { IfNone result (IsSome (value_under key self.now) → (i : ℕ) × StandsAt self.now i key × (length self.now ≡ i + 1)) }
+    {
+        match self.next_item(key) {
+            Some(item) => Some(item.0),
             None => None,
         }
     }
@@ -102,10 +124,21 @@ impl<T: Weigh> Rope<T> {
         ensures none { IfNone result (weight_sum T.weight_of self.now ≤ w) }
         ensures some { IfSome result (λ u. IsUnit T.weight_of self.now w u.0 u.1) }
     {
-        match find_weight(&self.store, self.root, w) {
-            Some(unit) => Some((self.store.shape(unit.link).key, unit.inside)),
+        match self.find_weight_item(w) {
+            Some(unit) => Some((unit.0, unit.2)),
             None => None,
         }
+    }
+
+    /// The item that holds a unit of weight, and how many of its units stand before that one.
+    pub fn find_weight_item(&self, w: u64) -> Option<(ElementId, &T, u64)>
+        ensures none { IfNone result (weight_sum T.weight_of self.now ≤ w) }
+        ensures some { IfSome result (λ u. IsUnit T.weight_of self.now w u.0 u.2) }
+        ensures value { IfSome result (λ u. value_under u.0 self.now ≡ Some u.1.now) }
+    {
+        let unit = find_weight(&self.store, self.root, w)?;
+        let key = self.store.shape(unit.link).key;
+        Some((key, self.store.value(unit.link), unit.inside))
     }
 
     /// The key of the first item, of those behind `from` others, whose rank is at most `most`.
@@ -118,12 +151,23 @@ impl<T: Weigh> Rope<T> {
         }
     }
 
+    /// The last item, of the first `to` ones, whose rank is at most `most`.
+    pub fn last_low_item(&self, to: usize, most: u64) -> Option<(ElementId, &T)>
+        ensures low { option_map (λ x. x.0) result ≡ last_low_key T.rank_of most (take to self.now) }
+        ensures value { IfSome result (λ x. value_under x.0 self.now ≡ Some x.1.now) }
+    {
+        match last_low_node(&self.store, self.root, to, most) {
+            Some(link) => Some((self.store.shape(link).key, self.store.value(link))),
+            None => None,
+        }
+    }
+
     /// The key of the last item, of the first `to` ones, whose rank is at most `most`.
     pub fn last_low(&self, to: usize, most: u64) -> Option<ElementId>
         ensures { result ≡ last_low_key T.rank_of most (take to self.now) }
     {
-        match last_low_node(&self.store, self.root, to, most) {
-            Some(link) => Some(self.store.shape(link).key),
+        match self.last_low_item(to, most) {
+            Some(item) => Some(item.0),
             None => None,
         }
     }
@@ -133,5 +177,14 @@ impl<T: Weigh> Rope<T> {
         ensures { IsFloor self.now key result }
     {
         floor_key(&self.map, key)
+    }
+
+    /// The item under the greatest key that is not above this one.
+    pub fn floor_item(&self, key: ElementId) -> Option<(ElementId, &T)>
+        ensures floor { IsFloor self.now key (option_map (λ x. x.0) result) }
+        ensures value { IfSome result (λ x. value_under x.0 self.now ≡ Some x.1.now) }
+    {
+        let (found, link) = floor_link(&self.map, key)?;
+        Some((found, self.store.value(link)))
     }
 }

@@ -109,11 +109,22 @@ fn counter(key: Option<ElementId>) -> Option<u32> {
     }
 }
 
-/// Each item stands where the vector has its key.
+/// The rank of a value.
+fn rank(value: Option<&Stretch>) -> Option<u32> {
+    match value {
+        Some(value) => Some(value.rank),
+        None => None,
+    }
+}
+
+/// Each item stands where the vector has its key, which is its rank too.
 fn check_places(rt: &impl Abort, rope: &Rope<Stretch>, beside: &[u32]) -> Result<(), Fail> {
     let mut before = None;
+    let mut walk = rope.walk();
     for (i, key) in beside.iter().enumerate() {
         let named = named(*key)?;
+        assert_eq!(rt; rank(rope.value_at(i)), Some(*key));
+        assert_eq!(rt; rank(walk.step()), Some(*key));
         assert_eq!(rt; rope.place(named), Some(i));
         assert_eq!(rt; rope.weight_before(named), Some(i as u64));
         assert_eq!(rt; counter(rope.key_at(i)), Some(*key));
@@ -122,6 +133,7 @@ fn check_places(rt: &impl Abort, rope: &Rope<Stretch>, beside: &[u32]) -> Result
         }
         before = Some(named);
     }
+    assert_eq!(rt; rank(walk.step()), None);
     assert_eq!(rt; counter(rope.first()), beside.first().copied());
     assert_eq!(rt; rope.len(), beside.len());
     assert_eq!(rt; rope.total(), beside.len() as u64);
@@ -215,6 +227,34 @@ fn floor_is_the_greatest_key_that_is_not_above(rt: HostRuntime) -> Result<(), Fa
     assert_eq!(rt; counter(rope.floor(named(5)?)), Some(2));
     assert_eq!(rt; counter(rope.floor(named(7)?)), Some(7));
     assert_eq!(rt; rope.floor(named(1)?), None);
+    Ok(())
+}
+
+/// The counter of the floor of a key, and the rank there.
+fn floor(rope: &Rope<Stretch>, key: u32) -> Result<Option<(u32, u32)>, NoMemory> {
+    let key = named(key)?;
+    Ok(match rope.floor_item(key) {
+        Some((found, value)) => Some((found.counter, value.rank)),
+        None => None,
+    })
+}
+
+#[test]
+fn values_are_read_by_their_places_and_by_the_floor(rt: HostRuntime) -> Result<(), Fail> {
+    let mut rope = filled(rt.alloc(), &[(1, 5), (1, 6), (1, 7)])?;
+    insert(
+        &mut rope,
+        Beside::Before,
+        0,
+        9,
+        Stretch { units: 0, rank: 8 },
+    )?;
+    assert_eq!(rt; rank(rope.value_at(0)), Some(8));
+    assert_eq!(rt; rank(rope.value_at(3)), Some(7));
+    assert_eq!(rt; rank(rope.value_at(4)), None);
+    assert_eq!(rt; floor(&rope, 8)?, Some((2, 7)));
+    assert_eq!(rt; floor(&rope, 9)?, Some((9, 8)));
+    assert_eq!(rt; floor(&rope, 0)?, Some((0, 5)));
     Ok(())
 }
 

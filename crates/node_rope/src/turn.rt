@@ -1,9 +1,8 @@
 // Rotations.
 ghost use Rattle.std.specs.Prelude.{◌≡◌, ◌+◌, ◌-◌, ◌^◌, ◌<◌, ◌≤◌, Some};
 ghost use Rattle.node_rope.specs.Made.{IsMade, IsKept, made_count, shapes_of, values_of};
-ghost use Rattle.node_rope.specs.Shapes.{IsSound, AreMade, shape_at, number_of, order, weight_at};
-ghost use Rattle.node_rope.specs.Sides.{faced};
-ghost use Rattle.node_rope.specs.Turned.{count_at, relinked, with_child, lifted, SameItems};
+ghost use Rattle.node_rope.specs.Shapes.{IsSound, AreMade, shape_at, number_of, weight_at};
+ghost use Rattle.node_rope.specs.Turned.{count_at, relinked, with_child, lifted, IsRisen};
 
 use crate::attach::set_parent;
 use crate::cells::{Link, Shape};
@@ -84,40 +83,7 @@ fn set_child<T: Drop>(store: &mut Store<T>, over: Option<Link>, p: Link, c: Link
     }
 }
 
-// `c`, the child of `p` at the side, comes above it. The answer is the top.
-fn turn<T: Drop>(
-    store: &mut Store<T>,
-    root: Option<Link>,
-    side: Side,
-    p: Link,
-    c: Link,
-) -> Option<Link>
-    requires sound { IsSound store.old root }
-    requires made_p { IsMade store.old p }
-    requires made_c { IsMade store.old c }
-    requires child { number_of (faced side (shape_at (shapes_of store.old) p.number)).left ≡ Some c.number }
-    ensures sound { IsSound store.new result }
-    ensures order { order store.new result ≡ order store.old root }
-    ensures items { SameItems (shapes_of store.old) (shapes_of store.new) }
-    ensures taller { (shape_at (shapes_of store.new) c.number).count ≡ (shape_at (shapes_of store.old) p.number).count }
-    ensures lower { (shape_at (shapes_of store.new) p.number).count < (shape_at (shapes_of store.old) p.number).count }
-    ensures above { (shape_at (shapes_of store.new) c.number).parent ≡ (shape_at (shapes_of store.old) p.number).parent }
-    ensures values { values_of store.new ≡ values_of store.old }
-    ensures count { made_count store.new ≡ made_count store.old }
-    ensures kept { IsKept store.old store.new }
-{
-    let above = facing(store.shape(p), side);
-    let below = facing(store.shape(c), side);
-    let over = above.parent;
-    lift(store, side, p, c, above, below);
-    set_child(store, over, p, c);
-    match over {
-        Some(_g) => root,
-        None => Some(c),
-    }
-}
-
-// `c` comes above its parent `p`.
+// `c` comes above its parent `p`. The answer is the top.
 pub(crate) fn rise<T: Drop>(
     store: &mut Store<T>,
     root: Option<Link>,
@@ -128,16 +94,17 @@ pub(crate) fn rise<T: Drop>(
     requires made_p { IsMade store.old p }
     requires made_c { IsMade store.old c }
     requires child { number_of (shape_at (shapes_of store.old) c.number).parent ≡ Some p.number }
-    ensures sound { IsSound store.new result }
-    ensures order { order store.new result ≡ order store.old root }
-    ensures items { SameItems (shapes_of store.old) (shapes_of store.new) }
-    ensures taller { (shape_at (shapes_of store.new) c.number).count ≡ (shape_at (shapes_of store.old) p.number).count }
-    ensures lower { (shape_at (shapes_of store.new) p.number).count < (shape_at (shapes_of store.old) p.number).count }
-    ensures above { (shape_at (shapes_of store.new) c.number).parent ≡ (shape_at (shapes_of store.old) p.number).parent }
-    ensures values { values_of store.new ≡ values_of store.old }
-    ensures count { made_count store.new ≡ made_count store.old }
-    ensures kept { IsKept store.old store.new }
+    ensures { IsRisen store.old store.new root result p c }
 {
-    let side = side_of(store.shape(p).left, c);
-    turn(store, root, side, p, c)
+    let shape = store.shape(p);
+    let side = side_of(shape.left, c);
+    let above = facing(shape, side);
+    let below = facing(store.shape(c), side);
+    let over = above.parent;
+    lift(store, side, p, c, above, below);
+    set_child(store, over, p, c);
+    match over {
+        Some(_g) => root,
+        None => Some(c),
+    }
 }

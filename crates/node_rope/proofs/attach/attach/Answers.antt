@@ -1,38 +1,23 @@
 use Rattle.std.proofs.Common.{◌∙◌, arith}
-use Rattle.node_rope.proofs.GrowthLemmas.{rising, small, grown}
-use Rattle.node_rope.proofs.BesideLemmas.{is-beside, grown-walk}
+use Rattle.node_rope.proofs.BesideLemmas.{beside-rising, beside-small, beside-grown, beside-walk}
 use Rattle.node_rope.proofs.attach.attach.Goals as goal
 
 pub raise-requires-clause-rising : goal.raise-requires-clause-rising
 raise-requires-clause-rising g c =
-    let s = c.args.store.now in
-    let j = c.in-Ok.ensures.joined in
-    let u = c.join.new.store in
-    let b = is-beside c.args.side s u c.args.root c.args.at c.in-Ok.link c.args.key c.args.own c.requires.sound c.requires.made (omega (arith, c.requires.fits)) j.2 j.0 in
-    rising s u c.args.root c.args.at c.in-Ok.link c.args.own c.requires.sound b.entered c.join.ensures.kept j.2 j.3 c.requires.made j.4
+    let a = c.args in let q = c.requires in let j = c.in_ok-link.ensures.joined in
+    beside-rising a.side a.store.now c.join.new.store a.root a.at c.in_ok-link.link a.key a.own c.new_shape-shape.result c.new_shape-shape.ensures q.sound q.made (omega (arith, q.fits)) j.0 j.2 j.3 j.4 c.join.ensures.kept
 
 pub raise-requires-clause-small : goal.raise-requires-clause-small
 raise-requires-clause-small g c =
-    let s = c.args.store.now in
-    let j = c.in-Ok.ensures.joined in
-    let u = c.join.new.store in
-    let b = is-beside c.args.side s u c.args.root c.args.at c.in-Ok.link c.args.key c.args.own c.requires.sound c.requires.made (omega (arith, c.requires.fits)) j.2 j.0 in
-    small s u c.args.root c.args.at c.in-Ok.link c.args.own c.requires.sound b.entered c.join.ensures.kept j.2 j.3 c.requires.made j.4 c.requires.few c.requires.small
+    let a = c.args in let q = c.requires in let j = c.in_ok-link.ensures.joined in
+    beside-small a.side a.store.now c.join.new.store a.root a.at c.in_ok-link.link a.key a.own c.new_shape-shape.result c.new_shape-shape.ensures q.sound q.made (omega (arith, q.fits)) j.0 j.2 j.3 j.4 c.join.ensures.kept q.few q.small
 
-pub returns-in-Ok-clause-grown : goal.returns-in-Ok-clause-grown
-returns-in-Ok-clause-grown g c =
-    let s = c.args.store.now in
-    let j = c.in-Ok.ensures.joined in
-    let u = c.join.new.store in
-    let b = is-beside c.args.side s u c.args.root c.args.at c.in-Ok.link c.args.key c.args.own c.requires.sound c.requires.made (omega (arith, c.requires.fits)) j.2 j.0 in
-    let r = c.raise.ensures in
-    grown s u c.args.root c.args.at c.in-Ok.link c.args.own c.requires.sound b.entered c.join.ensures.kept j.2 j.3 c.requires.made j.4 c.raise.new.store r.counted r.weighed r.ranked r.links r.raised r.kept r.count c.args.key c.args.value (r.values ∙ j.1) b.key_here b.own_here
+pub returns-clause-grown : goal.returns-clause-grown
+returns-clause-grown g c =
+    let a = c.args in let q = c.requires in let j = c.in_ok-link.ensures.joined in let r = c.raise.ensures in
+    beside-grown a.side a.store.now c.join.new.store a.root a.at c.in_ok-link.link a.key a.own c.new_shape-shape.result c.new_shape-shape.ensures q.sound q.made (omega (arith, q.fits)) j.0 j.2 j.3 j.4 c.join.ensures.kept c.raise.new.store r.counted r.weighed r.ranked r.links r.raised r.kept r.count a.value (r.values ∙ j.1)
 
-pub returns-in-Ok-clause-walk : goal.returns-in-Ok-clause-walk
-returns-in-Ok-clause-walk g c =
-    let s = c.args.store.now in
-    let j = c.in-Ok.ensures.joined in
-    let u = c.join.new.store in
-    let b = is-beside c.args.side s u c.args.root c.args.at c.in-Ok.link c.args.key c.args.own c.requires.sound c.requires.made (omega (arith, c.requires.fits)) j.2 j.0 in
-    let r = c.raise.ensures in
-    grown-walk c.args.side s u c.raise.new.store c.args.root c.args.at c.in-Ok.link c.args.key c.args.own c.requires.sound b c.join.ensures.kept j.2 j.3 c.requires.made j.4 r.counted r.weighed r.ranked r.links r.raised r.kept r.count
+pub returns-clause-walk : goal.returns-clause-walk
+returns-clause-walk g c =
+    let a = c.args in let q = c.requires in let j = c.in_ok-link.ensures.joined in let r = c.raise.ensures in
+    beside-walk a.side a.store.now c.join.new.store a.root a.at c.in_ok-link.link a.key a.own c.new_shape-shape.result c.new_shape-shape.ensures q.sound q.made (omega (arith, q.fits)) j.0 j.2 j.3 j.4 c.join.ensures.kept c.raise.new.store r.counted r.weighed r.ranked r.links r.raised r.kept r.count

@@ -2,13 +2,13 @@ use Rattle.std.proofs.Common.{refl, ◌∙◌}
 use Rattle.node_rope.specs.Grown.{joined_beside}
 use Rattle.node_rope.proofs.attach.join.Goals as goal
 
-pub returns-in-Ok-clause-joined : goal.returns-in-Ok-clause-joined
+pub returns-clause-joined : goal.returns-clause-joined
 unfolding joined_beside
-returns-in-Ok-clause-joined g c =
-    let m = c.in-Ok.ensures.made in (
-      rw (c.set_shape.ensures.shapes, c.set_parent.ensures.shapes, m.0, c.facing-in-Ok.ensures, c.facing.ensures, c.count_below-count.ensures, c.weight_below.ensures, c.min-least.ensures, c.least_below.ensures, c.facing-next.ensures, c.shape.ensures) refl,
+returns-clause-joined g c =
+    let m = c.in_ok-link.ensures.made in (
+      rw (c.set_shape.ensures.shapes, c.set_parent.ensures.shapes, m.0, c.facing.ensures, c.facing-next.ensures, c.shape.ensures) refl,
       c.set_shape.ensures.values ∙ c.set_parent.ensures.values ∙ m.1,
       m.2,
-      c.set_shape.ensures.kept c.in-Ok.link (c.set_parent.ensures.kept c.in-Ok.link m.3),
+      c.set_shape.ensures.kept c.in_ok-link.link (c.set_parent.ensures.kept c.in_ok-link.link m.3),
       c.set_shape.ensures.count ∙ c.set_parent.ensures.count ∙ m.4,
     )

@@ -13,9 +13,7 @@ pub new_spec : {M : Type 1} → statement M
 new_spec 𝓤 𝓛 𝓜 𝓡 wired T A L LA g d dd allocator glued =
     let H = 𝓛.H in
     let 𝓣 = tables 𝓤 H 𝓜 𝓡 𝓡.env in
-    let R : RattleType = param 0 T in
-    let P : RattleType = param 1 A in
-    let Row : RattleType = pile.the_row R P g in
+    let Row : RattleType = pile.the_row (param 0 T) (param 1 A) g in
     let En = ended T A g d dd in
     let inst = bounded (a_type ∷ a_type ∷ []) (T, (A, tt)) (dcons d (dcons dd dnil)) in
     let fn = inst_fn inst code.function in
@@ -28,7 +26,7 @@ new_spec 𝓤 𝓛 𝓜 𝓡 wired T A L LA g d dd allocator glued =
     let mark : PhantomData (Box T.Denot A.Denot) = record {} in
     let v : Val = vstruct (vcons (vstruct vnil) vnil) in
     let none : Row.Denot = record { kind = mark; values = []; moorings = []; paired = refl } in
-    let F : Fml = (Struct (shape (pile.the_type R P g))).own_val (tt, tt) (v ∷ []) in
+    let F : Fml = (Struct (shape (pile.the_type (param 0 T) (param 1 A) g))).own_val (tt, tt) (v ∷ []) in
     let Values : Type 0 = none.values ≡ [] in
     let Moorings : Type 0 = none.moorings ≡ [] in
     qed 𝓛 (((t₀ ⊛ t₁ ⊛ ‵ ftrue) ⊛ ‵ ftrue) ∷ raw ((c κs z.0.3).requires z.1) ∷ []) ∵ split ! $

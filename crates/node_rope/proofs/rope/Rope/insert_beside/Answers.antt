@@ -29,7 +29,7 @@ invariant_of-self-in-Ok g c =
     let top = c.settle-self-inside.result in
     let node = c.in-Ok.node in
     let wt = own_of g.T.Weigh.weight_of g.T.Weigh.rank_of in
-    let grown = regrown i.store c.attach.new.store v i.root top c.args.key c.own_of-own.result c.args.value node c.in-Ok.ensures.grown e.sound e.items e.values e.count e.kept in
+    let grown = regrown i.store c.attach.new.store v i.root top c.args.key c.own_of-own.result c.args.value node c.in-Ok.ensures.grown e in
     let none = fresh wt i.store i.root i.map.links c.self.invariant c.args.key c.args.self.now c.self.view_is c.requires.fresh in
     let set = set-again c.set_link-in-Ok.result i.map.links c.set_link.new.map.links c.set_link-in-Ok.new.map.links c.args.key c.in-Some.link node (c.set_link.ensures.set c.if-not-set_link.false) c.set_link-in-Ok.ensures.set c.set_link-in-Ok.ensures.absent in
     grown-roped wt i.store v i.root top i.map.links c.set_link-in-Ok.new.map.links c.args.key c.own_of-own.result c.args.value node c.self.invariant grown (λ l h. e.kept l (c.attach.ensures.kept l h)) (omega (arith, few-made wt i.store i.root i.map.links c.self.invariant c.args.self.now c.self.view_is, c.requires.room)) (omega (arith, c.own_of-own.ensures.light)) (omega (arith, c.own_of-own.ensures.fits)) c.own_of-own.ensures.own none set
@@ -52,5 +52,5 @@ returns-in-Ok-clause-placed g c =
     let node = c.in-Ok.node in
     let wt = own_of g.T.Weigh.weight_of g.T.Weigh.rank_of in
     let link = c.in-Some.link in
-    let grown = regrown i.store c.attach.new.store v i.root top c.args.key c.own_of-own.result c.args.value node c.in-Ok.ensures.grown e.sound e.items e.values e.count e.kept in
-    list-beside i.store v i.root top r.sound c.args.key c.own_of-own.result c.args.value node grown c.args.at link.number (alone wt i.store i.root i.map.links r c.args.at link (sym c.find_link.ensures ∙ c.in-Some.is)) c.args.side (e.order ∙ c.in-Ok.ensures.walk) ∙ ap (placed_beside c.args.side c.args.at (c.args.key, c.args.value)) c.self.view_is
+    let grown = regrown i.store c.attach.new.store v i.root top c.args.key c.own_of-own.result c.args.value node c.in-Ok.ensures.grown e in
+    list-beside i.store v i.root top r.sound c.args.key c.own_of-own.result c.args.value node grown c.args.at link.number (alone wt i.store i.root i.map.links r c.args.at link (sym c.find_link.ensures ∙ c.in-Some.is)) c.args.side (e.same_order ∙ c.in-Ok.ensures.walk) ∙ ap (placed_beside c.args.side c.args.at (c.args.key, c.args.value)) c.self.view_is

@@ -10,8 +10,8 @@ before-requires-clause-made g c = c.self.invariant.mapped c.args.key c.in-Some.l
 
 pub returns-in-Some-clause-some : goal.returns-in-Some-clause-some
 returns-in-Some-clause-some g c =
-    let i = c.self.inside in
     let b = c.before-in-Some in
+    let i = c.self.inside in
     subst (λ xs. StandsAt xs b.result.count c.args.key) c.self.view_is (stands (own_of g.T.Weigh.weight_of g.T.Weigh.rank_of) i.store i.root i.map.links c.self.invariant c.args.key c.in-Some.link (sym c.find_link.ensures ∙ c.in-Some.is) b.result.count b.ensures.inside b.ensures.at)
 
 pub returns-in-Some-clause-inside : goal.returns-in-Some-clause-inside

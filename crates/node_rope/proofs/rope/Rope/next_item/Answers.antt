@@ -6,9 +6,9 @@ use Rattle.node_rope.specs.Shapes.{number_of, order, shape_at}
 use Rattle.node_rope.specs.Items.{own_of, value_under}
 use Rattle.node_rope.specs.Places.{StandsAt}
 use Rattle.node_rope.specs.Found.{IsFollowed}
-use Rattle.node_rope.proofs.KeyLemmas.{not-held}
+use Rattle.node_rope.proofs.KeyLemmas.{node-holds, not-held}
 use Rattle.node_rope.proofs.BehindLemmas.{item-stands, item-behind, item-last}
-use Rattle.node_rope.proofs.rope.Rope.next.Goals as goal
+use Rattle.node_rope.proofs.rope.Rope.next_item.Goals as goal
 
 pub node_behind-requires-clause-made : goal.node_behind-requires-clause-made
 node_behind-requires-clause-made g c = c.self.invariant.mapped c.args.key c.in-Some.link (sym c.find_link.ensures ∙ c.in-Some.is)
@@ -26,6 +26,14 @@ returns-in-Some-node_behind-clause-some g c =
       subst (λ xs. StandsAt xs (length f.front) key) c.self.view_is (item-stands wt i.store i.root i.map.links c.self.invariant key l at (Some n.number) f),
       subst (λ h. StandsAt c.args.self.now (length f.front + 1) h.key) (sym c.shape.ensures) (subst (λ xs. StandsAt xs (length f.front + 1) (shape_at (shapes_of i.store) n.number).key) c.self.view_is (item-behind wt i.store i.root i.map.links c.self.invariant key l at n f)),
     )
+
+pub returns-in-Some-node_behind-clause-value : goal.returns-in-Some-node_behind-clause-value
+returns-in-Some-node_behind-clause-value g c =
+    let i = c.self.inside in
+    let n = c.in-Some-node_behind.behind in
+    let made = c.node_behind.ensures.made n c.in-Some-node_behind.is in
+    let holds = node-holds (own_of g.T.Weigh.weight_of g.T.Weigh.rank_of) i.store i.root i.map.links c.self.invariant n made c.value.result.now c.value.ensures in
+    ap (λ h. value_under h.key c.args.self.now) c.shape.ensures ∙ subst (λ xs. value_under (shape_at (shapes_of i.store) n.number).key xs ≡ Some c.value.result.now) c.self.view_is holds
 
 pub returns-in-None-node_behind-clause-none : goal.returns-in-None-node_behind-clause-none
 returns-in-None-node_behind-clause-none g c =

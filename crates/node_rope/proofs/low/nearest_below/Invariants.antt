@@ -2,13 +2,13 @@ use Rattle.std.proofs.Common.{◌≡◌}
 use Rattle.node_rope.specs.Made.{shapes_of}
 use Rattle.node_rope.specs.Shapes.{AreMade, number_of, tree_of}
 use Rattle.node_rope.specs.Walk.{count_of}
-use Rattle.node_rope.specs.Low.{first_low_below}
-use Rattle.node_rope.proofs.low.first_below.Given as goal
+use Rattle.node_rope.specs.Low.{low_below}
+use Rattle.node_rope.proofs.low.nearest_below.Given as goal
 
 abbrev pub invariant-down : goal.invariant-down
 invariant-down g l = record {
   made : AreMade l.store l.cur;
-  same : first_low_below (shapes_of l.store) l.most l.cur ≡ first_low_below (shapes_of l.store) l.most l.fn.from;
+  same : low_below (shapes_of l.store) l.most l.side l.cur ≡ low_below (shapes_of l.store) l.most l.side l.fn.from;
 }
 
 abbrev pub decreases-down : goal.decreases-down
