@@ -38,13 +38,6 @@ module _ (r : Runs) (s : AreRuns r) (x : Identifier) where
       }
 
   module _ (k : Identifier) (f : IsFloor r.rope x (Some k)) where
-    pub no-run : value_under k r.rope ≡ None → Contains (ids (cells_in r)) x → ⊥
-    no-run v c =
-        let p = contains-run r.letters r.count r.rope x s.each c in
-        let q = floor-is r s x (Some k) f p in
-        let e : k ≡ p.run.id = cc in
-        none-some p.run (sym v ∙ ap (λ i. value_under i r.rope) e ∙ q.1)
-
     pub not-there : (run : Run) → value_under k r.rope ≡ Some run → (k.replica ≡ x.replica → run.len ≤ x.counter - k.counter) → Contains (ids (cells_in r)) x → ⊥
     not-there run v far c =
         let p = contains-run r.letters r.count r.rope x s.each c in
@@ -55,13 +48,6 @@ module _ (r : Runs) (s : AreRuns r) (x : Identifier) where
         let at : x ≡ id_behind p.offset p.run.id = p.named ∙ behind-id p.offset (first_of p.run) in
         let replicas : k.replica ≡ x.replica = ap (λ (i : Identifier). i.replica) e ∙ sym (ap (λ (i : Identifier). i.replica) at) in
         omega (arith, far replicas, p.inside, ap (λ (i : Identifier). i.counter) at, ap (λ (i : Identifier). i.counter) e, ap (λ (z : Run). z.len) same)
-
-    pub spot-found : (run : Run) → value_under k r.rope ≡ Some run → k.replica ≡ x.replica → x.counter - k.counter < run.len
-        → IsSpot r.rope x run (x.counter - k.counter)
-    spot-found run v e l =
-        let up = gt-parts k.replica x.replica k.counter x.counter f.1 in
-        let c : k.counter ≤ x.counter = grind (arith, up, e) in
-        spot-in k run (x.counter - k.counter) v e (omega (arith, c)) l
 
     pub counters-up : k.replica ≡ x.replica → k.counter ≤ x.counter
     counters-up e = let up = gt-parts k.replica x.replica k.counter x.counter f.1 in grind (arith, up, e)

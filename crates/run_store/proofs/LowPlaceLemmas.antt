@@ -78,9 +78,6 @@ module _ (r : Runs) (s : AreRuns r) (k : Key) (fits : k.forest < 2 ^ 32) where
           let d : run ≡ p.0 = cc in
           p.2 ∙ ap (λ z. last_low k (keyed (cells_of r.letters z))) (sym d)
 
-      pub no-run-told : None ≡ value_under y r.rope → ⊥
-      no-run-told v = let p = run-told in let w : None ≡ Some p.0 = v ∙ p.1 in cc
-
   -- the cell at a spot
   module _ (x : Identifier) (run : Run) (o : ℕ) (spot : IsSpot r.rope x run o) where
     abbrev letters : List ℕ

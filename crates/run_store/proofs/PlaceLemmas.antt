@@ -53,11 +53,6 @@ module _ {T : Type 0} where
   keys-get (x ∷ xs) zero = refl
   keys-get (x ∷ xs) (suc i) = keys-get xs i
 
-  pub key-none : (xs : List (Identifier × T)) (i : ℕ) → slice_get (keys_of xs) i ≡ None → slice_get xs i ≡ None
-  key-none [] i e = refl
-  key-none (x ∷ xs) zero e = cc
-  key-none (x ∷ xs) (suc i) e = key-none xs i e
-
 module _ (r : Runs) (s : AreRuns r) where
   -- the run at a place
   pub run-at : (i : ℕ) (k : Identifier) (run : Run) → slice_get r.rope i ≡ Some (k, run) → IsRun r.letters r.count (k, run)
@@ -88,11 +83,6 @@ module _ (r : Runs) (s : AreRuns r) where
       let w : Some p.0 ≡ Some run = sym (value-there i run.id p.0 p.1) ∙ v in
       let same : p.0 ≡ run = cc in
       p.1 ∙ (λ j. Some (run.id, same j))
-
-  pub run-there : (i : ℕ) (k : Identifier) → slice_get (keys_of r.rope) i ≡ Some k → value_under k r.rope ≡ option_map (λ (x : Item). x.1) (slice_get r.rope i)
-  run-there i k e =
-      let p = key-there r.rope i k e in
-      value-there i k p.0 p.1 ∙ sym (ap (option_map (λ (x : Item). x.1)) p.1)
 
   -- the run that stands at a place, with its key
   pub run-named : (i : ℕ) (run : Run) → option_map (λ (x : Item). x.1) (slice_get r.rope i) ≡ Some run → slice_get r.rope i ≡ Some (run.id, run)

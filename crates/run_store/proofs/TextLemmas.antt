@@ -1,14 +1,19 @@
 -- The text of runs, part by part.
-use Rattle.std.proofs.Common.{◌≡◌, ℕ, zero, suc, ◌<◌, true, false, not, List, [], ◌∷◌, ◌++◌, ap, append_assoc, arith, get_or, length, refl, sym, ◌∙◌}
-use Rattle.std.specs.Prelude.{Some, flat_map, if◌then◌else◌, map, slice_get}
+use Rattle.std.proofs.Common.{◌≡◌, ℕ, zero, suc, ◌<◌, ◌≤◌, true, false, not, List, [], ◌∷◌, ◌++◌, ap, append_assoc, arith, drop, length, refl, sym, take, ◌∙◌}
+use Rattle.std.specs.Prelude.{None, Ok, Some, flat_map, if◌then◌else◌, map, option_map, slice_get}
 use Rattle.std.specs.Str.{encode_utf8_all}
 use Rattle.std.proofs.lemmas.List.{map-append}
 use lib.Utf8.{encode}
+use Rattle.fugue_ids.specs.Gathers.{GathersText}
+use Rattle.fugue_ids.specs.Outs.{OutView}
 use Rattle.run_store.specs.Cells.{text, visible_cells}
 use Rattle.run_store.specs.Heads.{lettered, next_head, typed}
-use Rattle.run_store.specs.Runs.{all_cells, cells_of}
+use Rattle.run_store.specs.Runs.{AreRuns, all_cells, cells_of}
 use Rattle.run_store.specs.declared.cell.Cell.{Cell}
 use Rattle.run_store.specs.declared.head.Head.{Head}
+use Rattle.run_store.specs.declared.run.Run.{Run}
+use Rattle.run_store.specs.declared.runs.Runs.{Runs}
+use Rattle.run_store.proofs.PlaceLemmas.{drop-first, run-named}
 use Rattle.run_store.proofs.RunsLemmas.{Item}
 use Rattle.run_store.proofs.VisibleLemmas.{visible-append}
 
@@ -48,8 +53,24 @@ text-hidden h (l ∷ ls) e =
     ap (λ b. map (λ (c : Cell). c.ch) (if not b then lettered h l ∷ visible_cells (typed (next_head h) ls) else visible_cells (typed (next_head h) ls))) e
     ∙ text-hidden (next_head h) ls e
 
--- a member by its place
-pub got : {X : Type 0} (xs : List X) (i : ℕ) → i < length xs → (x : X) × (slice_get xs i ≡ Some x) × (get_or xs i x ≡ x)
-got [] i l = absurd (omega (arith, l))
-got (x ∷ xs) zero l = (x, refl, refl)
-got (x ∷ xs) (suc i) l = got xs i (omega (arith, l))
+-- the first runs were gathered, and a walk has the others
+pub record IsUnderWay (L : List (List ℕ)) (rope : List Item) (u v : OutView) (p q : List ℕ) (walk : List Item) : Type 0 where
+  pub place : ℕ
+  pub left : walk ≡ drop place rope
+  pub gathered : GathersText {T = Unit {0}} u v p q (Ok tt) (flat_map (run_text L) (take place rope))
+
+-- what comes first of a walk that has the runs from a place on
+pub next-run : (r : Runs) → AreRuns r → (walk : List Item) (i : ℕ) → walk ≡ drop i r.rope → (run : Run) → Some run ≡ option_map (λ (x : Item). x.1) (slice_get walk 0) → slice_get r.rope i ≡ Some (run.id, run)
+next-run r s walk i left run first =
+    run-named r s i run (sym (first ∙ ap (λ ys. option_map (λ (x : Item). x.1) (slice_get ys 0)) left ∙ ap (option_map (λ (x : Item). x.1)) (drop-first r.rope i)))
+
+pub none-left : (xs walk : List Item) (i : ℕ) → walk ≡ drop i xs → None ≡ option_map (λ (x : Item). x.1) (slice_get walk 0) → length xs ≤ i
+none-left xs walk i left none = past xs i (none ∙ ap (λ ys. option_map (λ (x : Item). x.1) (slice_get ys 0)) left) where
+  past : (xs : List Item) (i : ℕ) → None ≡ option_map (λ (x : Item). x.1) (slice_get (drop i xs) 0) → length xs ≤ i
+  past [] i e = omega arith
+  past (x ∷ xs) zero e = absurd (cc)
+  past (x ∷ xs) (suc i) e = let h = past xs i e in omega (arith, h)
+
+pub fewer-left : (walk : List Item) (run : Run) → Some run ≡ option_map (λ (x : Item). x.1) (slice_get walk 0) → length (drop 1 walk) < length walk
+fewer-left [] run e = absurd (cc)
+fewer-left (x ∷ walk) run e = omega arith

@@ -165,12 +165,6 @@ module _ (r : Runs) (s : AreRuns r) where
       this-small : (i : Identifier) (z run : Run) → z ≡ run → IsRun r.letters r.count (i, run) → z.len ≤ MOST_OPERATIONS
       this-small i z run e this = omega (arith, this.depths, this.deep, s.few, ap (λ (y : Run). y.len) e)
 
-  pub unit-none : (w : ℕ) (k : Identifier) (u : ℕ) → IsUnit weight_of r.rope w k u → value_under k r.rope ≡ None → ⊥
-  unit-none w k u p v = some-none p.value (sym (unit-held w k u p) ∙ v)
-    where
-      some-none : (z : Run) → Some z ≡ None → ⊥
-      some-none z e = cc
-
 -- a step along a run in hand
 pub hand-next : (shown : List Identifier) (passed : ℕ) (run : Run) (o : ℕ) → IsInHand shown passed run o → suc o < run.len → IsInHand shown (passed + 1) run (suc o)
 hand-next shown passed run o h l = record {

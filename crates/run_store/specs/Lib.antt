@@ -5,5 +5,6 @@ pub mod NewCells
 pub mod Runs
 pub mod Borders
 pub mod Stored
+pub mod Changes
 pub mod Shown
 pub mod Standings

@@ -71,12 +71,9 @@ impl Runs {
         requires held { value_under front.now.id self.now.rope ≡ Some front.now }
         ensures { IfSome result (λ back. IsBorder self.now.rope front.now back) }
     {
-        let key = self.rope.next(front.id)?;
-        let back = self.run(key)?;
-        if goes_on(front, &back) {
-            Some(back)
-        } else {
-            None
+        match self.rope.next_item(front.id) {
+            Some(item) if goes_on(front, item.1) => Some(*item.1),
+            _ => None,
         }
     }
 

@@ -1,5 +1,5 @@
 // Where a cell is kept.
-ghost use Rattle.std.specs.Prelude.{◌≡◌, ◌<◌, ◌≤◌, ◌+◌, Contains, IfNone, IfSome, Some, length, option_map, slice_get};
+ghost use Rattle.std.specs.Prelude.{◌≡◌, ◌<◌, ◌≤◌, ◌+◌, ◌-◌, Contains, IfNone, IfSome, Some, length, option_map, slice_get};
 ghost use Rattle.fugue_ids.specs.Identifiers.{Identifier};
 ghost use Rattle.node_rope.specs.Items.{value_under};
 ghost use Rattle.run_store.specs.Cells.{cell_of, ids};
@@ -24,6 +24,7 @@ fn offset_in(key: ElementId, run: &Run, id: ElementId) -> Option<u32>
     ensures same { IfSome result (λ offset. key.replica ≡ id.replica) }
     ensures behind { IfSome result (λ offset. id.counter ≡ key.counter + offset) }
     ensures inside { IfSome result (λ offset. offset < run.now.len) }
+    ensures none { IfNone result (key.replica ≡ id.replica → key.counter ≤ id.counter → run.now.len ≤ id.counter - key.counter) }
 {
     if key.replica != id.replica || id.counter < key.counter {
         return None;
@@ -42,11 +43,9 @@ impl Runs {
 
     /// The run behind this many others.
     pub(crate) fn run_at(&self, place: usize) -> Option<Run>
-        requires sound { AreRuns self.now }
         ensures { result ≡ option_map (λ x. x.1) (slice_get self.now.rope place) }
     {
-        let key = self.rope.key_at(place)?;
-        self.run(key)
+        self.rope.value_at(place).copied()
     }
 
     /// How many runs stand before this one.
@@ -89,8 +88,8 @@ impl Runs {
         requires { AreRuns self.old }
         ensures { self.new ≡ self.old }
     {
-        if let Some(spot) = self.find(id) {
-            self.rope.keep_at_hand(spot.run.id);
+        if self.find_near(id).is_none() {
+            self.rope.keep_at_hand(id);
         }
     }
 
@@ -100,16 +99,15 @@ impl Runs {
         ensures some { IfSome result (λ s. IsSpot self.now.rope id s.run s.offset) }
         ensures none { IfNone result (Contains (ids (cells_in self.now)) id → ⊥) }
     {
-        let key = self.rope.floor(id)?;
-        let run = self.run(key)?;
-        if key.replica != id.replica {
-            return None;
-        }
-        let offset = id.counter - key.counter;
-        if offset < run.len {
-            Some(Spot { run, offset })
-        } else {
-            None
+        match self.rope.floor_item(id) {
+            Some(floor) => {
+                let offset = offset_in(floor.0, floor.1, id)?;
+                Some(Spot {
+                    run: *floor.1,
+                    offset,
+                })
+            }
+            None => None,
         }
     }
 

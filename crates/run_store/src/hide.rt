@@ -1,6 +1,7 @@
 // A cell is hidden.
 ghost use Rattle.std.specs.Prelude.{◌≡◌, ◌<◌, suc, Some, Contains, length, map, true, IfOk, OnErr, OnOk};
 ghost use Rattle.node_rope.specs.Items.{value_under};
+ghost use Rattle.run_store.specs.Changes.{MakesCells};
 ghost use Rattle.run_store.specs.Cells.{hiding, ids, is_hidden as hidden_in};
 ghost use Rattle.run_store.specs.Heads.{head_behind};
 ghost use Rattle.run_store.specs.Runs.{AreRuns, cells_in, first_of, run_from as rest_by, run_to as front_by};
@@ -17,14 +18,8 @@ fn hidden(run: &Run) -> Run
     ensures { result ≡ record run.now { hidden = true } }
 {
     Run {
-        id: run.id,
-        left: run.left,
-        right: run.right,
         hidden: true,
-        key: run.key,
-        stretch: run.stretch,
-        start: run.start,
-        len: run.len,
+        ..*run
     }
 }
 
@@ -53,11 +48,7 @@ impl Runs {
         requires sound { AreRuns self.old }
         requires held { value_under spot.now.run.id self.old.rope ≡ Some spot.now.run }
         requires inside { spot.now.offset < spot.now.run.len }
-        ensures sound { AreRuns self.new }
-        ensures ok { OnOk result (cells_in self.new ≡ map (hiding (head_behind spot.now.offset (first_of spot.now.run)).id) (cells_in self.old)) }
-        ensures err { OnErr result (cells_in self.new ≡ cells_in self.old) }
-        ensures raised { OnOk result (IsRaised 2 (length self.old.rope) (length self.new.rope)) }
-        ensures refused { OnErr result (IsRaised 1 (length self.old.rope) (length self.new.rope)) }
+        ensures { MakesCells result self.old self.new (map (hiding (head_behind spot.now.offset (first_of spot.now.run)).id) (cells_in self.old)) }
     {
         let run = self.isolate(spot)?;
         self.rope.put(key_of(&run), hidden(&run));
@@ -69,11 +60,7 @@ impl Runs {
         requires sound { AreRuns self.old }
         requires held { value_under spot.now.run.id self.old.rope ≡ Some spot.now.run }
         requires inside { spot.now.offset < spot.now.run.len }
-        ensures sound { AreRuns self.new }
-        ensures ok { OnOk result (cells_in self.new ≡ map (hiding (head_behind spot.now.offset (first_of spot.now.run)).id) (cells_in self.old)) }
-        ensures err { OnErr result (cells_in self.new ≡ cells_in self.old) }
-        ensures raised { OnOk result (IsRaised 2 (length self.old.rope) (length self.new.rope)) }
-        ensures refused { OnErr result (IsRaised 1 (length self.old.rope) (length self.new.rope)) }
+        ensures { MakesCells result self.old self.new (map (hiding (head_behind spot.now.offset (first_of spot.now.run)).id) (cells_in self.old)) }
     {
         match self.border(spot) {
             Some(border) => self.shift(&border),
@@ -85,11 +72,7 @@ impl Runs {
     pub(crate) fn hide(&mut self, id: ElementId) -> Result<(), NoMemory>
         requires sound { AreRuns self.old }
         requires held { Contains (ids (cells_in self.old)) id }
-        ensures sound { AreRuns self.new }
-        ensures ok { OnOk result (cells_in self.new ≡ map (hiding id) (cells_in self.old)) }
-        ensures err { OnErr result (cells_in self.new ≡ cells_in self.old) }
-        ensures raised { OnOk result (IsRaised 2 (length self.old.rope) (length self.new.rope)) }
-        ensures refused { OnErr result (IsRaised 1 (length self.old.rope) (length self.new.rope)) }
+        ensures makes { MakesCells result self.old self.new (map (hiding id) (cells_in self.old)) }
         ensures again { hidden_in (cells_in self.old) id ≡ true → self.new ≡ self.old }
     {
         let spot = match self.find(id) {

@@ -2,6 +2,7 @@
 ghost use Rattle.std.specs.Prelude.{◌≡◌, ◌<◌, ◌≤◌, ◌+◌, ◌^◌, [], ◌∷◌, Some, IsSome, Contains, IfOk, length, suc, true, false, slice_index_or, OnErr, OnOk};
 ghost use Rattle.fugue_ids.specs.Listed.{index_of};
 ghost use Rattle.node_rope.specs.Items.{value_under};
+ghost use Rattle.run_store.specs.Changes.{MakesCells};
 ghost use Rattle.run_store.specs.Cells.{cell_of, ids};
 ghost use Rattle.run_store.specs.Growth.{IsLonger, IsNew, inserted_behind, inserted_before, last_id};
 ghost use Rattle.run_store.specs.Heads.{head_behind, lettered};
@@ -24,14 +25,10 @@ fn longer_at(run: &Run, stretch: usize, start: usize) -> Run
     ensures { result ≡ record run.now { stretch = stretch; start = start; len = suc run.now.len } }
 {
     Run {
-        id: run.id,
-        left: run.left,
-        right: run.right,
-        hidden: run.hidden,
-        key: run.key,
         stretch,
         start,
         len: run.len + 1,
+        ..*run
     }
 }
 
@@ -166,11 +163,7 @@ impl Runs {
         requires held { value_under spot.now.run.id self.old.rope ≡ Some spot.now.run }
         requires inside { spot.now.offset < spot.now.run.len }
         requires new { IsNew (cells_in self.old) head.now }
-        ensures sound { AreRuns self.new }
-        ensures ok { OnOk result (cells_in self.new ≡ inserted_behind (head_behind spot.now.offset (first_of spot.now.run)).id (lettered head.now ch) (cells_in self.old)) }
-        ensures err { OnErr result (cells_in self.new ≡ cells_in self.old) }
-        ensures raised { OnOk result (IsRaised 2 (length self.old.rope) (length self.new.rope)) }
-        ensures refused { OnErr result (IsRaised 1 (length self.old.rope) (length self.new.rope)) }
+        ensures { MakesCells result self.old self.new (inserted_behind (head_behind spot.now.offset (first_of spot.now.run)).id (lettered head.now ch) (cells_in self.old)) }
     {
         let end = spot.offset + 1;
         self.cut_behind(&spot.run, end)?;
@@ -183,12 +176,8 @@ impl Runs {
         requires held { value_under spot.now.run.id self.old.rope ≡ Some spot.now.run }
         requires inside { spot.now.offset < spot.now.run.len }
         requires new { IsNew (cells_in self.old) head.now }
-        ensures sound { AreRuns self.new }
-        ensures ok { OnOk result (cells_in self.new ≡ inserted_behind (head_behind spot.now.offset (first_of spot.now.run)).id (lettered head.now ch) (cells_in self.old)) }
-        ensures err { OnErr result (cells_in self.new ≡ cells_in self.old) }
+        ensures makes { MakesCells result self.old self.new (inserted_behind (head_behind spot.now.offset (first_of spot.now.run)).id (lettered head.now ch) (cells_in self.old)) }
         ensures continued { OnOk result (continues (Some (lettered (head_behind spot.now.offset (first_of spot.now.run)) 0)) head.now.id head.now.left head.now.right ≡ true → length self.new.rope ≡ length self.old.rope) }
-        ensures raised { OnOk result (IsRaised 2 (length self.old.rope) (length self.new.rope)) }
-        ensures refused { OnErr result (IsRaised 1 (length self.old.rope) (length self.new.rope)) }
     {
         if is_continued(&cell_at(&spot.run, spot.offset), head) {
             self.extend(&spot.run, head, ch)
@@ -207,12 +196,8 @@ impl Runs {
         requires sound { AreRuns self.old }
         requires held { Contains (ids (cells_in self.old)) at }
         requires new { IsNew (cells_in self.old) head.now }
-        ensures sound { AreRuns self.new }
-        ensures ok { OnOk result (cells_in self.new ≡ inserted_behind at (lettered head.now ch) (cells_in self.old)) }
-        ensures err { OnErr result (cells_in self.new ≡ cells_in self.old) }
+        ensures makes { MakesCells result self.old self.new (inserted_behind at (lettered head.now ch) (cells_in self.old)) }
         ensures continued { OnOk result (continues (cell_of (cells_in self.old) at) head.now.id head.now.left head.now.right ≡ true → length self.new.rope ≡ length self.old.rope) }
-        ensures raised { OnOk result (IsRaised 2 (length self.old.rope) (length self.new.rope)) }
-        ensures refused { OnErr result (IsRaised 1 (length self.old.rope) (length self.new.rope)) }
     {
         match self.find(at) {
             Some(spot) => self.insert_at(&spot, head, ch),
@@ -223,23 +208,19 @@ impl Runs {
     /// A new cell directly before this one.
     pub(crate) fn insert_before(
         &mut self,
-        at: ElementId,
+        next: ElementId,
         head: &Head,
         ch: char,
     ) -> Result<(), NoMemory>
         requires sound { AreRuns self.old }
-        requires held { Contains (ids (cells_in self.old)) at }
+        requires held { Contains (ids (cells_in self.old)) next }
         requires new { IsNew (cells_in self.old) head.now }
-        ensures sound { AreRuns self.new }
-        ensures ok { OnOk result (cells_in self.new ≡ inserted_before at (lettered head.now ch) (cells_in self.old)) }
-        ensures err { OnErr result (cells_in self.new ≡ cells_in self.old) }
-        ensures continued { OnOk result (continues (cell_before (cells_in self.old) (index_of (ids (cells_in self.old)) at)) head.now.id head.now.left head.now.right ≡ true → length self.new.rope ≡ length self.old.rope) }
-        ensures raised { OnOk result (IsRaised 2 (length self.old.rope) (length self.new.rope)) }
-        ensures refused { OnErr result (IsRaised 1 (length self.old.rope) (length self.new.rope)) }
+        ensures makes { MakesCells result self.old self.new (inserted_before next (lettered head.now ch) (cells_in self.old)) }
+        ensures continued { OnOk result (continues (cell_before (cells_in self.old) (index_of (ids (cells_in self.old)) next)) head.now.id head.now.left head.now.right ≡ true → length self.new.rope ≡ length self.old.rope) }
     {
-        match self.before(Some(at)) {
+        match self.before(Some(next)) {
             Some(behind) => self.insert_behind(behind, head, ch),
-            None => self.begin_before(at, head, ch),
+            None => self.begin_before(next, head, ch),
         }
     }
 }

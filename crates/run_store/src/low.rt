@@ -71,9 +71,8 @@ impl Runs {
         requires sound { AreRuns self.now }
         ensures { result ≡ last_low_in most (keyed (all_cells self.now.letters (take runs self.now.rope))) }
     {
-        let key = self.rope.last_low(runs, rank_of(most))?;
-        match self.run(key) {
-            Some(run) => last_low_of(&run, run.len, most),
+        match self.rope.last_low_item(runs, rank_of(most)) {
+            Some(item) => last_low_of(item.1, item.1.len, most),
             None => None,
         }
     }

@@ -63,16 +63,7 @@ pub(crate) fn key_of(run: &Run) -> ElementId
 pub(crate) fn run_to(run: &Run, n: u32) -> Run
     ensures { result ≡ front_by n run.now }
 {
-    Run {
-        id: run.id,
-        left: run.left,
-        right: run.right,
-        hidden: run.hidden,
-        key: run.key,
-        stretch: run.stretch,
-        start: run.start,
-        len: n,
-    }
+    Run { len: n, ..*run }
 }
 
 /// The cells of a run from the place n on, as a run.

@@ -1,11 +1,9 @@
 // The letters that are not hidden.
-ghost use Rattle.std.specs.Prelude.{◌≡◌, ◌<◌, ◌≤◌, ◌+◌, ◌^◌, [], Some, length, slice_get, slice_index_or};
+ghost use Rattle.std.specs.Prelude.{◌<◌, ◌≤◌, ◌+◌, ◌^◌, [], length, slice_index_or};
 ghost use Rattle.std.specs.Str.{encode_utf8_all};
 ghost use Rattle.fugue_ids.specs.Gathers.{GathersText};
-ghost use Rattle.fugue_ids.specs.Identifiers.{Identifier};
 ghost use Rattle.run_store.specs.Cells.{text};
 ghost use Rattle.run_store.specs.Runs.{AreRuns, cells_in, cells_of};
-ghost use Rattle.run_store.specs.declared.run.Run.{Run};
 
 use crate::letters::Letters;
 use crate::run::Run;
@@ -42,30 +40,14 @@ fn put_run<O: Out>(
 }
 
 impl Runs {
-    /// Puts the letters of the run behind this many others.
-    fn put_run_at<O: Out>(
-        &self,
-        place: usize,
-        gather: &mut Gather,
-        output: &mut O,
-    ) -> Result<(), Failed>
-        requires sound { AreRuns self.now }
-        requires inside { place < length self.now.rope }
-        ensures { (x : Identifier × Run) → slice_get self.now.rope place ≡ Some x → GathersText (O.seen output.old) (O.seen output.new) gather.old gather.new result (encode_utf8_all (text (cells_of self.now.letters x.1))) }
-    {
-        match self.run_at(place) {
-            Some(run) => put_run(&self.letters, &run, gather, output),
-            None => Ok(()),
-        }
-    }
-
     /// Puts the letters of all runs that are not hidden.
     pub(crate) fn put_text<O: Out>(&self, gather: &mut Gather, output: &mut O) -> Result<(), Failed>
         requires { AreRuns self.now }
         ensures { GathersText (O.seen output.old) (O.seen output.new) gather.old gather.new result (encode_utf8_all (text (cells_in self.now))) }
     {
-        'runs: for place in 0..self.rope.len() {
-            self.put_run_at(place, gather, output)?;
+        let mut walk = self.rope.walk();
+        'runs: while let Some(run) = walk.step() {
+            put_run(&self.letters, run, gather, output)?;
         }
         Ok(())
     }

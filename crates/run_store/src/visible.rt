@@ -23,12 +23,13 @@ impl Runs {
         ensures some { IfSome result (λ s. IsInHand (ids (visible_cells (cells_in self.now))) i s.run s.offset) }
         ensures none { IfNone result (slice_get (ids (visible_cells (cells_in self.now))) i ≡ None) }
     {
-        let (key, inside) = self.rope.find_weight(i as u64)?;
-        let run = self.run(key)?;
-        Some(Spot {
-            run,
-            offset: inside as u32,
-        })
+        match self.rope.find_weight_item(i as u64) {
+            Some(unit) => Some(Spot {
+                run: *unit.1,
+                offset: unit.2 as u32,
+            }),
+            None => None,
+        }
     }
 
     pub(crate) fn nth_visible(&self, i: usize) -> Option<ElementId>

@@ -42,6 +42,15 @@ impl Model for SectionList {
     ghost invariant = { λ s. KeepsNodes s.tree s.store.cells };
 }
 
+/// The element is asked for soon.
+fn look_at(store: &mut RunStore, id: &Option<ElementId>)
+    ensures { store.new ≡ store.old }
+{
+    if let Some(id) = id {
+        store.look_at(*id);
+    }
+}
+
 /// The node joins the tree, and its cell goes into the gap of the store. After want of memory the nodes and the cells are as before.
 fn put_in(
     tree: &mut SidedTree,
@@ -141,15 +150,6 @@ impl SectionList {
         self.store.after(id)
     }
 
-    /// The element is asked for soon.
-    fn look_at(&mut self, id: &Option<ElementId>)
-        ensures { self.new ≡ self.old }
-    {
-        if let Some(id) = id {
-            self.store.look_at(*id);
-        }
-    }
-
     /// One element more, which is not hidden. After want of memory all is as before.
     pub fn insert(
         &mut self,
@@ -166,26 +166,7 @@ impl SectionList {
         ensures err { OnErr result (self.new ≡ self.old) }
         ensures in_order { IsInOrder self.new }
     {
-        self.look_at(&left);
-        self.insert_near(id, left, right, ch)
-    }
-
-    /// The same, where the left origin was looked at.
-    fn insert_near(
-        &mut self,
-        id: ElementId,
-        left: Option<ElementId>,
-        right: Option<ElementId>,
-        ch: char,
-    ) -> Result<(), NoMemory>
-        requires fresh { has_node self.old.nodes id ≡ false }
-        requires left { has_origin self.old.nodes left ≡ true }
-        requires right { has_origin self.old.nodes right ≡ true }
-        requires room { length self.old.cells < MOST_OPERATIONS }
-        ensures ok { OnOk result (self.new ≡ with_element (record { id = id; left = left; right = right }) ch self.old) }
-        ensures err { OnErr result (self.new ≡ self.old) }
-        ensures in_order { IsInOrder self.new }
-    {
+        look_at(&mut self.store, &left);
         let node = Node { id, left, right };
         let gap = self
             .tree

@@ -15,6 +15,6 @@ goes_on-requires-clause-depths c = omega (arith, (kept-run c.args.self.now c.req
 pub goes_on-requires-clause-fits : goal.goes_on-requires-clause-fits
 goes_on-requires-clause-fits c = omega (arith, (kept-run c.args.self.now c.requires.sound c.args.front.now.id c.args.front.now c.requires.held).ends, c.requires.sound.few)
 
-pub returns-then-goes_on : goal.returns-then-goes_on
-returns-then-goes_on c =
-    border-found c.args.self.now c.requires.sound c.args.front.now c.in_ok-back.back c.in_ok-key.key c.requires.held c.in_ok-key.ensures.some (sym c.in_ok-back.ensures) (sym c.goes_on.ensures ∙ c.if-goes_on.true)
+pub returns-in-Some : goal.returns-in-Some
+returns-in-Some c =
+    border-found c.args.self.now c.requires.sound c.args.front.now c.in-Some.item.1.now c.in-Some.item.0 c.requires.held c.in-Some.ensures.some c.in-Some.ensures.value (sym c.goes_on.ensures ∙ c.if-goes_on.true)

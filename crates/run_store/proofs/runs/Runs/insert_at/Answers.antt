@@ -30,12 +30,14 @@ returns-then-is_continued c =
     let l = next-last r c.requires.sound run o c.requires.held c.requires.inside c.args.head.now c.requires.new (next-by c.is_continued.result c.cell_at.result (head_behind c.args.spot.now.offset (first_of c.args.spot.now.run)) c.args.head.now c.is_continued.ensures c.if-is_continued.true c.cell_at.ensures) in
     let e : run.len - 1 ≡ o = omega (arith, l) in
     record {
-      sound = c.extend.ensures.sound;
-      ok = subst (λ n. OnOk c.extend.result (cells_in c.extend.new.self ≡ inserted_behind (head_behind n (first_of run)).id (lettered c.args.head.now c.args.ch) (cells_in r)))
-          e c.extend.ensures.ok;
-      err = where-err (λ (n : Runs). cells_in n ≡ cells_in r) c.extend.result r c.extend.new.self c.extend.ensures.err refl;
+      makes = record {
+        sound = c.extend.ensures.sound;
+        ok = subst (λ n. OnOk c.extend.result (cells_in c.extend.new.self ≡ inserted_behind (head_behind n (first_of run)).id (lettered c.args.head.now c.args.ch) (cells_in r)))
+            e c.extend.ensures.ok;
+        err = where-err (λ (n : Runs). cells_in n ≡ cells_in r) c.extend.result r c.extend.new.self c.extend.ensures.err refl;
+        raised = on-ok c.extend.result (length c.extend.new.self.rope ≡ length r.rope) (IsRaised 2 (length r.rope) (length c.extend.new.self.rope))
+            (λ k. subst (IsRaised 2 (length r.rope)) (sym k) (kept-raised 2 (length r.rope))) c.extend.ensures.kept;
+        refused = where-err (λ (n : Runs). IsRaised 1 (length r.rope) (length n.rope)) c.extend.result r c.extend.new.self c.extend.ensures.err (kept-raised 1 (length r.rope));
+      };
       continued = on-ok c.extend.result (length c.extend.new.self.rope ≡ length r.rope) _ (λ k t. k) c.extend.ensures.kept;
-      raised = on-ok c.extend.result (length c.extend.new.self.rope ≡ length r.rope) (IsRaised 2 (length r.rope) (length c.extend.new.self.rope))
-          (λ k. subst (IsRaised 2 (length r.rope)) (sym k) (kept-raised 2 (length r.rope))) c.extend.ensures.kept;
-      refused = where-err (λ (n : Runs). IsRaised 1 (length r.rope) (length n.rope)) c.extend.result r c.extend.new.self c.extend.ensures.err (kept-raised 1 (length r.rope));
     }

@@ -1,6 +1,7 @@
 use Rattle.std.proofs.Common.{length, subst, sym, true, ◌≡◌}
 use Rattle.std.specs.Prelude.{OnOk, Option}
 use Rattle.fugue_ids.specs.Identifiers.{Identifier}
+use Rattle.run_store.specs.Changes.{MakesCells}
 use Rattle.run_store.specs.Growth.{inserted_behind}
 use Rattle.run_store.specs.Heads.{lettered}
 use Rattle.run_store.specs.NewCells.{is_continued}
@@ -9,10 +10,10 @@ use Rattle.run_store.specs.declared.cell.Cell.{Cell}
 use Rattle.run_store.proofs.FindLemmas.{cell-found}
 use Rattle.run_store.proofs.runs.Runs.insert_behind.Goals as goal
 
-pub returns-clause-ok : goal.returns-clause-ok
-returns-clause-ok c =
-    subst (λ (x : Identifier). OnOk c.insert_at.result (cells_in c.insert_at.new.self ≡ inserted_behind x (lettered c.args.head.now c.args.ch) (cells_in c.args.self.now)))
-    (sym c.in-Some.ensures.some.is) c.insert_at.ensures.ok
+pub returns-clause-makes : goal.returns-clause-makes
+returns-clause-makes c =
+    subst (λ (x : Identifier). MakesCells c.insert_at.result c.args.self.now c.insert_at.new.self (inserted_behind x (lettered c.args.head.now c.args.ch) (cells_in c.args.self.now)))
+    (sym c.in-Some.ensures.some.is) c.insert_at.ensures.makes
 
 pub returns-clause-continued : goal.returns-clause-continued
 returns-clause-continued c =

@@ -40,7 +40,7 @@ returns-in-Before-clause-ok c =
     let x = lettered c.new_head-head.result c.args.ch in
     subst (λ cs. OnOk c.insert_before.result (cells_in c.insert_before.new.self ≡ cs))
     (joined C c.args.self.now.cells gap_index (Before c.in-Before.at) c.args.gap c.args.id c.args.left c.args.right c.args.ch x e c.in-Before.is (c.new_head-head.ensures.cell c.args.ch))
-    c.insert_before.ensures.ok
+    c.insert_before.ensures.makes.ok
 
 pub returns-in-After-clause-ok : goal.returns-in-After-clause-ok
 returns-in-After-clause-ok c =
@@ -49,7 +49,7 @@ returns-in-After-clause-ok c =
     let x = lettered c.new_head-head.result c.args.ch in
     subst (λ cs. OnOk c.insert_behind.result (cells_in c.insert_behind.new.self ≡ cs))
     (joined C c.args.self.now.cells gap_index (After c.in-After.at) c.args.gap c.args.id c.args.left c.args.right c.args.ch x e c.in-After.is (c.new_head-head.ensures.cell c.args.ch))
-    c.insert_behind.ensures.ok
+    c.insert_behind.ensures.makes.ok
 
 -- whether a run is continued, by the same
 told : (cs now : List Cell) (g gap : Gap) (h : Head) (id : Identifier) (left right : Option Identifier) → cs ≡ now → gap ≡ g → lettered h 0 ≡ new_cell cs id left right 0

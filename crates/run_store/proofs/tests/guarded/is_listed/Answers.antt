@@ -1,4 +1,4 @@
-use Rattle.std.proofs.Common.{Some, subst, sym}
+use Rattle.std.proofs.Common.{subst, sym}
 use Rattle.std.specs.List.{Contains}
 use Rattle.fugue_ids.specs.Keys.{ids}
 use Rattle.fugue_ids.specs.Listed.{HoldsOrigin}
