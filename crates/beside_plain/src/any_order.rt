@@ -61,13 +61,6 @@ fn stream_of(
     Ok(stream)
 }
 
-fn take_all(alloc: Global, plain: &mut Plain, stream: &[Op]) -> Result<(), Fail> {
-    for op in stream {
-        plain.take_in(op.clone_in(alloc)?)?;
-    }
-    Ok(())
-}
-
 fn is_same_set(some: &[Op], others: &[Op]) -> bool {
     some.len() == others.len() && some.iter().all(|op| others.contains(op))
 }
@@ -79,7 +72,7 @@ fn compare(
     closed: &mut PlainReplica,
     stream: &[Op],
 ) -> Result<usize, Fail> {
-    take_all(alloc, plain, stream)?;
+    plain.take_all(alloc, stream)?;
     close(alloc, closed, stream)?;
     assert!(rt;
         is_same_set(plain.accepted.ops(), closed.ops()),

@@ -11,6 +11,7 @@ use origin_model::{PlainReplica, Verdict};
 use section_catalogue::Manuscript;
 use std::alloc::Global;
 use std::marker::Model;
+use std::mem::replace;
 use std::process::Abort;
 use std::test::Fail;
 
@@ -71,8 +72,14 @@ impl Beside {
         }
     }
 
-    /// Takes in an operation that is Ready.
-    pub fn with(self, op: Op) -> Result<Beside, NoMemory> {
+    /// Takes in an operation that is Ready. Where this fails, nothing is left.
+    fn take(&mut self, alloc: Global, op: Op) -> Result<(), NoMemory> {
+        let beside = replace(self, Beside::new(alloc));
+        *self = beside.with(op)?;
+        Ok(())
+    }
+
+    fn with(self, op: Op) -> Result<Beside, NoMemory> {
         let Beside {
             mut manuscript,
             mut replica,
@@ -85,16 +92,15 @@ impl Beside {
     }
 }
 
-fn with_line(rt: &impl Abort, alloc: Global, beside: Beside, line: Line) -> Result<Beside, Fail> {
-    let op = op(rt, alloc, line)?;
-    Ok(beside.with(op)?)
-}
-
-/// The two with the operations of the lines, each of which is Ready on those before it.
-pub fn filled(rt: &impl Abort, alloc: Global, lines: &[Line]) -> Result<Beside, Fail> {
-    let mut beside = Beside::new(alloc);
+/// Takes in the operations of the lines, each of which is Ready on those before it.
+pub fn fill(
+    rt: &impl Abort,
+    alloc: Global,
+    beside: &mut Beside,
+    lines: &[Line],
+) -> Result<(), Fail> {
     for line in lines {
-        beside = with_line(rt, alloc, beside, *line)?;
+        beside.take(alloc, op(rt, alloc, *line)?)?;
     }
-    Ok(beside)
+    Ok(())
 }

@@ -3,10 +3,10 @@
 use crate::edits::Edit::{self, Add, Cut, Put};
 use crate::edits::make;
 use crate::plain::Plain;
-use crate::replicas::feed_one;
+use crate::replicas::{feed_ops, writes, writes_same};
 use bulk_world::{Summary, bulk};
 use outer_ports::MemSink;
-use replica_core::{Replica, Tally};
+use replica_core::Replica;
 use std::alloc::Global;
 use std::process::Abort;
 use std::test::Fail;
@@ -41,33 +41,15 @@ fn take_turn(rt: &impl Abort, alloc: Global, replica: &mut Replica, x: u32) -> R
     Ok(())
 }
 
-/// Feeds what one has accepted, from one operation on and before another.
-fn feed_part(
-    rt: &impl Abort,
-    alloc: Global,
-    from: &Replica,
-    to: &mut Replica,
-    part: (usize, usize),
-) -> Result<(), Fail> {
-    let mut tally = Tally::default();
-    for op in from.accepted().iter().take(part.1).skip(part.0) {
-        feed_one(rt, to, op.clone_in(alloc)?, &mut tally)?;
-    }
-    Ok(())
+fn is_plain_too(alloc: Global, replica: &Replica, plain: &mut Plain) -> Result<bool, Fail> {
+    plain.take_all(alloc, replica.accepted())?;
+    Ok(plain.waiting.is_empty() && writes_same(alloc, replica, &plain.accepted)?)
 }
 
-/// The manuscript, which a plain replica that accepts the same operations has too.
-fn manuscript(rt: &impl Abort, alloc: Global, replica: &Replica) -> Result<MemSink, Fail> {
+/// A plain replica that accepts the same operations has the same manuscript.
+fn is_plain(alloc: Global, replica: &Replica) -> Result<bool, Fail> {
     let mut plain = Plain::new(alloc);
-    for op in replica.accepted() {
-        plain.take_in(op.clone_in(alloc)?)?;
-    }
-    let mut printed = MemSink::new(alloc, 4096, Vec::new(alloc));
-    let mut wanted = MemSink::new(alloc, 4096, Vec::new(alloc));
-    replica.write_manuscript(&mut printed)?;
-    plain.accepted.print_into(&mut wanted)?;
-    assert!(rt; plain.waiting.is_empty() && printed.written() == wanted.written());
-    Ok(printed)
+    is_plain_too(alloc, replica, &mut plain)
 }
 
 fn sum_of(text: &[u8]) -> u32 {
@@ -88,22 +70,49 @@ fn text_of(manuscript: &[u8]) -> Option<&[u8]> {
 }
 
 fn tell(
-    rt: &impl Abort,
     alloc: Global,
     first: &Replica,
     second: &Replica,
+    manuscript: &[u8],
 ) -> Result<Option<Summary>, Fail> {
-    let one = manuscript(rt, alloc, first)?;
-    let two = manuscript(rt, alloc, second)?;
-    let Some(text) = text_of(one.written()) else {
+    let Some(text) = text_of(manuscript) else {
         return Ok(None);
     };
     Ok(Some(Summary {
         operations: first.accepted().len(),
         scalars: text.len(),
         sum: sum_of(text),
-        is_equal: one.written() == two.written(),
+        is_equal: writes(alloc, second, manuscript)?,
     }))
+}
+
+fn tell_both(
+    rt: &impl Abort,
+    alloc: Global,
+    first: &Replica,
+    second: &Replica,
+) -> Result<Option<Summary>, Fail> {
+    assert!(rt; is_plain(alloc, first)? && is_plain(alloc, second)?);
+    let mut printed = MemSink::new(alloc, 4096, Vec::new(alloc));
+    first.write_manuscript(&mut printed)?;
+    tell(alloc, first, second, printed.written())
+}
+
+/// Each hears what the other has made. The first operation is known to both.
+fn feed_each_other(
+    rt: &impl Abort,
+    alloc: Global,
+    first: &mut Replica,
+    second: &mut Replica,
+) -> Result<(), Fail> {
+    let made = second.accepted().len();
+    feed_ops(rt, alloc, second, first.accepted().get(1..).unwrap_or(&[]))?;
+    feed_ops(
+        rt,
+        alloc,
+        first,
+        second.accepted().get(1..made).unwrap_or(&[]),
+    )
 }
 
 fn make_by_turns(
@@ -113,7 +122,7 @@ fn make_by_turns(
     second: &mut Replica,
 ) -> Result<Option<Summary>, Fail> {
     make(rt, alloc, first, Add(0, "B"))??;
-    feed_part(rt, alloc, first, second, (0, 1))?;
+    feed_ops(rt, alloc, second, first.accepted())?;
     let mut x = SEED;
     for turn in 1..=TURNS {
         x = next(x);
@@ -123,10 +132,8 @@ fn make_by_turns(
             take_turn(rt, alloc, second, x)?;
         }
     }
-    let made = second.accepted().len();
-    feed_part(rt, alloc, first, second, (1, first.accepted().len()))?;
-    feed_part(rt, alloc, second, first, (1, made))?;
-    tell(rt, alloc, first, second)
+    feed_each_other(rt, alloc, first, second)?;
+    tell_both(rt, alloc, first, second)
 }
 
 fn made_with_second(

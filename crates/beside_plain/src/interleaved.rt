@@ -4,9 +4,8 @@ use crate::edits::Edit::{self, Add, Cut, Put};
 use crate::edits::make;
 use crate::plain::Plain;
 use crate::pools::is_beside;
-use crate::replicas::feed_one;
+use crate::replicas::{feed_one, feed_ops, writes};
 use fugue_ids::Op;
-use outer_ports::MemSink;
 use replica_core::{Replica, Tally};
 use std::alloc::Global;
 use std::process::Abort;
@@ -70,10 +69,7 @@ fn begin(
     begun: &[Op],
     edits: &[Edit],
 ) -> Result<(), Fail> {
-    let mut tally = Tally::default();
-    for op in begun {
-        feed_one(rt, replica, op.clone_in(alloc)?, &mut tally)?;
-    }
+    feed_ops(rt, alloc, replica, begun)?;
     for edit in edits {
         make(rt, alloc, replica, *edit)??;
     }
@@ -86,13 +82,6 @@ fn gather(alloc: Global, pool: &mut Vec<Op>, replica: &Replica) -> Result<(), Fa
         if !pool.contains(op) {
             pool.push(op.clone_in(alloc)?)?;
         }
-    }
-    Ok(())
-}
-
-fn take_in(alloc: Global, plain: &mut Plain, ops: &[Op]) -> Result<(), Fail> {
-    for op in ops {
-        plain.take_in(op.clone_in(alloc)?)?;
     }
     Ok(())
 }
@@ -112,6 +101,24 @@ fn deliver(
 }
 
 /// Delivers the pool, each operation `step` behind the one before, beside the plain replica.
+fn deliver_beside(
+    rt: &impl Abort,
+    alloc: Global,
+    replica: &mut Replica,
+    plain: &mut Plain,
+    pool: &[Op],
+    order: (usize, usize),
+) -> Result<(), Fail> {
+    plain.take_all(alloc, replica.accepted())?;
+    for turn in 0..DELIVERIES {
+        let at = order.0.saturating_add(turn.saturating_mul(order.1)) % MADE;
+        if let Some(op) = pool.get(at) {
+            deliver(rt, alloc, replica, plain, op)?;
+        }
+    }
+    Ok(())
+}
+
 fn deliver_all(
     rt: &impl Abort,
     alloc: Global,
@@ -120,35 +127,33 @@ fn deliver_all(
     order: (usize, usize),
 ) -> Result<(), Fail> {
     let mut plain = Plain::new(alloc);
-    take_in(alloc, &mut plain, replica.accepted())?;
-    for turn in 0..DELIVERIES {
-        let at = order.0.saturating_add(turn.saturating_mul(order.1)) % MADE;
-        if let Some(op) = pool.get(at) {
-            deliver(rt, alloc, replica, &mut plain, op)?;
-        }
-    }
-    Ok(())
+    deliver_beside(rt, alloc, replica, &mut plain, pool, order)
 }
 
-fn shows_all(rt: &impl Abort, alloc: Global, replica: &Replica) -> Result<(), Fail> {
-    let mut printed = MemSink::new(alloc, 100, Vec::new(alloc));
-    replica.write_manuscript(&mut printed)?;
-    assert_eq!(rt; printed.written(), TEXT.as_bytes());
-    assert_eq!(rt; replica.accepted().len(), MADE);
-    Ok(())
-}
-
-/// What the author's replica made joins the pool.
+/// What the replica has made and heard of joins the pool.
 fn join(
+    rt: &impl Abort,
+    alloc: Global,
+    replica: &mut Replica,
+    pool: &mut Vec<Op>,
+    begun: &[Op],
+    edits: &[Edit],
+) -> Result<(), Fail> {
+    begin(rt, alloc, replica, begun, edits)?;
+    gather(alloc, pool, replica)
+}
+
+/// The same of a new replica of this number.
+fn join_new(
     rt: &impl Abort,
     alloc: Global,
     pool: &mut Vec<Op>,
     begun: &[Op],
-    author: Author,
+    number: u32,
+    edits: &[Edit],
 ) -> Result<(), Fail> {
-    let mut replica = Replica::new(alloc, author.number, 100, 100)?;
-    begin(rt, alloc, &mut replica, begun, author.edits)?;
-    gather(alloc, pool, &replica)
+    let mut replica = Replica::new(alloc, number, 100, 100)?;
+    join(rt, alloc, &mut replica, pool, begun, edits)
 }
 
 fn hear_all(
@@ -161,7 +166,9 @@ fn hear_all(
 ) -> Result<(), Fail> {
     begin(rt, alloc, replica, begun, author.edits)?;
     deliver_all(rt, alloc, replica, pool, author.order)?;
-    shows_all(rt, alloc, replica)
+    assert!(rt; writes(alloc, replica, TEXT.as_bytes())?);
+    assert_eq!(rt; replica.accepted().len(), MADE);
+    Ok(())
 }
 
 /// The author's replica, as it was when it had made its edits, hears of the pool.
@@ -176,23 +183,35 @@ fn hears_all(
     hear_all(rt, alloc, &mut replica, begun, pool, author)
 }
 
-fn begun_in(rt: &impl Abort, alloc: Global, begun: &mut Vec<Op>) -> Result<(), Fail> {
-    let mut replica = Replica::new(alloc, 1, 100, 100)?;
-    begin(rt, alloc, &mut replica, &[], BEGUN)?;
-    gather(alloc, begun, &replica)
+fn fill_pool(rt: &impl Abort, alloc: Global, begun: &[Op], pool: &mut Vec<Op>) -> Result<(), Fail> {
+    for author in AUTHORS {
+        join_new(rt, alloc, pool, begun, author.number, author.edits)?;
+    }
+    assert_eq!(rt; pool.len(), MADE);
+    Ok(())
+}
+
+fn all_hear_all(
+    rt: &impl Abort,
+    alloc: Global,
+    begun: &[Op],
+    pool: &mut Vec<Op>,
+) -> Result<(), Fail> {
+    fill_pool(rt, alloc, begun, pool)?;
+    for author in AUTHORS {
+        hears_all(rt, alloc, begun, pool, *author)?;
+    }
+    Ok(())
+}
+
+fn hear_of_pool(rt: &impl Abort, alloc: Global, begun: &mut Vec<Op>) -> Result<(), Fail> {
+    join_new(rt, alloc, begun, &[], 1, BEGUN)?;
+    let mut pool = Vec::new(alloc);
+    all_hear_all(rt, alloc, begun, &mut pool)
 }
 
 #[test]
 fn three_that_hear_all_in_their_own_orders_show_the_same(rt: HostRuntime) -> Result<(), Fail> {
     let mut begun = Vec::new(rt.alloc());
-    begun_in(&rt, rt.alloc(), &mut begun)?;
-    let mut pool = Vec::new(rt.alloc());
-    for author in AUTHORS {
-        join(&rt, rt.alloc(), &mut pool, begun.as_slice(), *author)?;
-    }
-    assert_eq!(rt; pool.len(), MADE);
-    for author in AUTHORS {
-        hears_all(&rt, rt.alloc(), begun.as_slice(), pool.as_slice(), *author)?;
-    }
-    Ok(())
+    hear_of_pool(&rt, rt.alloc(), &mut begun)
 }

@@ -1,11 +1,13 @@
 //! A manuscript lists, shows and prints what the plain replica does.
 
-use crate::beside::{Beside, filled};
+use crate::beside::{Beside, fill};
 use crate::op_lines::Line::{Delete, Section, Text};
 use crate::op_lines::{A, B, BACKWARDS, D, HIDDEN, Line, NONE, OTHER, SECTION, T, X, Y, id};
+use crate::plain::prints;
 use fugue_ids::ElementId;
 use origin_model::Place;
 use outer_ports::MemSink;
+use section_catalogue::Manuscript;
 use section_list::SectionList;
 use std::alloc::Global;
 use std::process::Abort;
@@ -42,6 +44,11 @@ fn shown_sections(alloc: Global, beside: &Beside) -> Result<Vec<ElementId>, Fail
     Ok(found)
 }
 
+/// Compares in a function that owns nothing.
+fn same(rt: &impl Abort, found: &[ElementId], wanted: &[ElementId]) {
+    assert_eq!(rt; found, wanted);
+}
+
 /// The place lists and shows the same elements on both sides, and each has that place.
 fn compare_place(
     rt: &impl Abort,
@@ -50,14 +57,32 @@ fn compare_place(
     place: Place,
     list: &SectionList,
 ) -> Result<(), Fail> {
+    same(rt, &visible(alloc, list)?, &beside.replica.shown(place)?);
     let all = elements(alloc, list)?;
-    assert_eq!(rt; all.as_slice(), beside.replica.elements(place)?.as_slice());
-    assert_eq!(rt;
-        visible(alloc, list)?.as_slice(),
-        beside.replica.shown(place)?.as_slice()
-    );
-    for id in &all {
-        assert_eq!(rt; beside.manuscript.place_of(*id), Some(place));
+    same(rt, &all, &beside.replica.elements(place)?);
+    have_place(rt, beside, &all, &place);
+    Ok(())
+}
+
+fn has_place(beside: &Beside, id: ElementId, place: &Place) -> bool {
+    beside.manuscript.place_of(id) == Some(*place)
+}
+
+fn have_place(rt: &impl Abort, beside: &Beside, ids: &[ElementId], place: &Place) {
+    for id in ids {
+        assert!(rt; has_place(beside, *id, place));
+    }
+}
+
+fn compare_sections(
+    rt: &impl Abort,
+    alloc: Global,
+    beside: &Beside,
+    ids: &[ElementId],
+) -> Result<(), Fail> {
+    for id in ids {
+        let list = beside.manuscript.section(*id).expect(rt, "a section");
+        compare_place(rt, alloc, beside, Place::Section(*id), list)?;
     }
     Ok(())
 }
@@ -66,39 +91,40 @@ fn compare_place(
 fn compare_places(rt: &impl Abort, alloc: Global, beside: &Beside) -> Result<(), Fail> {
     let catalogue = beside.manuscript.catalogue();
     compare_place(rt, alloc, beside, Place::Catalogue, catalogue)?;
-    for id in &elements(alloc, catalogue)? {
-        let list = beside.manuscript.section(*id).expect(rt, "a section");
-        compare_place(rt, alloc, beside, Place::Section(*id), list)?;
-    }
-    assert_eq!(rt;
-        shown_sections(alloc, beside)?.as_slice(),
-        beside.replica.shown(Place::Catalogue)?.as_slice()
-    );
+    compare_sections(rt, alloc, beside, &elements(alloc, catalogue)?)?;
+    let shown = shown_sections(alloc, beside)?;
+    same(rt, &shown, &beside.replica.shown(Place::Catalogue)?);
     Ok(())
 }
 
-/// Both sides print this text.
-fn compare_text(rt: &impl Abort, alloc: Global, beside: &Beside, wanted: &str) -> Result<(), Fail> {
+fn prints_all(alloc: Global, manuscript: &Manuscript, text: &[u8]) -> Result<bool, Fail> {
     let mut printed = MemSink::new(alloc, 16, Vec::new(alloc));
-    let mut plain = MemSink::new(alloc, 16, Vec::new(alloc));
-    beside.manuscript.write_all(&mut printed)?;
-    beside.replica.print_into(&mut plain)?;
-    assert_eq!(rt; printed.written(), wanted.as_bytes(), "{wanted}");
-    assert_eq!(rt; plain.written(), wanted.as_bytes(), "{wanted}");
-    Ok(())
+    manuscript.write_all(&mut printed)?;
+    Ok(printed.written() == text)
 }
 
-fn compare(rt: &impl Abort, alloc: Global, beside: &Beside, wanted: &str) -> Result<(), Fail> {
+/// Both sides hold the operations of the lines, and print this text.
+fn compare(
+    rt: &impl Abort,
+    alloc: Global,
+    beside: &mut Beside,
+    lines: &[Line],
+    wanted: &str,
+) -> Result<(), Fail> {
+    fill(rt, alloc, beside, lines)?;
     compare_places(rt, alloc, beside)?;
-    compare_text(rt, alloc, beside, wanted)
+    let text = wanted.as_bytes();
+    assert!(rt; prints_all(alloc, &beside.manuscript, text)?, "{wanted}");
+    assert!(rt; prints(alloc, &beside.replica, text)?, "{wanted}");
+    Ok(())
 }
 
 fn compare_lines(rt: &impl Abort, alloc: Global, lines: &[Line], wanted: &str) -> Result<(), Fail> {
-    let beside = filled(rt, alloc, lines)?;
-    compare(rt, alloc, &beside, wanted)
+    let mut beside = Beside::new(alloc);
+    compare(rt, alloc, &mut beside, lines, wanted)
 }
 
-const TABLE: [(&[Line], &str); 9] = [
+const TABLE: &[(&[Line], &str)] = &[
     (&[], ""),
     (&[T, B, A, D, X, Y], "# T\nAXYDB\n"),
     (HIDDEN, "# T\nAXY\n"),
@@ -154,15 +180,16 @@ fn a_manuscript_lists_shows_and_prints_what_the_plain_replica_does(
     Ok(())
 }
 
-fn find_nothing(rt: &impl Abort, beside: &Beside) {
+fn find_nothing(rt: &impl Abort, alloc: Global, beside: &mut Beside) -> Result<(), Fail> {
+    fill(rt, alloc, beside, &[T, B])?;
     assert_eq!(rt; beside.manuscript.place_of(id(rt, OTHER)), None);
     assert!(rt; beside.manuscript.section(id(rt, (1, 0))).is_none());
     assert_eq!(rt; beside.manuscript.section_at(1), None);
+    Ok(())
 }
 
 #[test]
 fn what_is_not_held_has_no_place(rt: HostRuntime) -> Result<(), Fail> {
-    let beside = filled(&rt, rt.alloc(), &[T, B])?;
-    find_nothing(&rt, &beside);
-    Ok(())
+    let mut beside = Beside::new(rt.alloc());
+    find_nothing(&rt, rt.alloc(), &mut beside)
 }

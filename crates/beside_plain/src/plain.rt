@@ -2,6 +2,7 @@
 
 use fugue_ids::Op;
 use origin_model::{PlainReplica, Verdict};
+use outer_ports::MemSink;
 use std::alloc::Global;
 use std::test::Fail;
 
@@ -43,6 +44,13 @@ impl Plain {
         Ok(())
     }
 
+    pub fn take_all(&mut self, alloc: Global, ops: &[Op]) -> Result<(), Fail> {
+        for op in ops {
+            self.take_in(op.clone_in(alloc)?)?;
+        }
+        Ok(())
+    }
+
     fn settle_one(&mut self) -> Result<(), Fail> {
         let decided = self
             .waiting
@@ -56,4 +64,11 @@ impl Plain {
         }
         Ok(())
     }
+}
+
+/// Whether the replica prints this text.
+pub fn prints(alloc: Global, replica: &PlainReplica, text: &[u8]) -> Result<bool, Fail> {
+    let mut printed = MemSink::new(alloc, 100, Vec::new(alloc));
+    replica.print_into(&mut printed)?;
+    Ok(printed.written() == text)
 }

@@ -3,8 +3,8 @@
 use crate::op_lines::Line::{Delete, Section, Text};
 use crate::op_lines::{Line, NONE, SECTION, op};
 use crate::plain::Plain;
-use crate::replicas::feed_one;
-use outer_ports::MemSink;
+use crate::replicas::{feed_one, keep_one, writes_same};
+use fugue_ids::Op;
 use replica_core::{Replica, Tally};
 use std::alloc::Global;
 use std::process::Abort;
@@ -51,15 +51,15 @@ fn step_beside(
 }
 
 pub fn is_beside(alloc: Global, replica: &Replica, plain: &Plain) -> Result<bool, Fail> {
-    let mut printed = MemSink::new(alloc, 100, Vec::new(alloc));
-    let mut wanted = MemSink::new(alloc, 100, Vec::new(alloc));
-    replica.write_manuscript(&mut printed)?;
-    plain.accepted.print_into(&mut wanted)?;
-    Ok(
-        replica.accepted() == plain.accepted.ops()
-            && replica.waiting() == plain.waiting.as_slice()
-            && printed.written() == wanted.written(),
-    )
+    let is_held = replica.accepted() == plain.accepted.ops()
+        && replica.waiting() == plain.waiting.as_slice();
+    Ok(is_held && writes_same(alloc, replica, &plain.accepted)?)
+}
+
+/// The operation of the pool that comes in this turn.
+fn line_at(order: (usize, usize), turn: usize) -> Line {
+    let number = order.0.saturating_add(turn.saturating_mul(order.1)) % POOL.len();
+    POOL[number]
 }
 
 /// Feeds the pool to both, each operation `step` behind the one before, and compares them after each.
@@ -72,8 +72,8 @@ pub fn keep_beside(
 ) -> Result<(), Fail> {
     let mut tally = Tally::default();
     for turn in 0..POOL.len() {
-        let number = order.0.saturating_add(turn.saturating_mul(order.1)) % POOL.len();
-        step_beside(rt, alloc, replica, plain, &mut tally, POOL[number])?;
+        let line = line_at(order, turn);
+        step_beside(rt, alloc, replica, plain, &mut tally, line)?;
     }
     Ok(())
 }
@@ -89,6 +89,96 @@ fn a_replica_keeps_beside_the_plain_one(rt: HostRuntime) -> Result<(), Fail> {
     for first in 0..POOL.len() {
         for step in 1..POOL.len() {
             keeps_beside(&rt, rt.alloc(), (first, step))?;
+        }
+    }
+    Ok(())
+}
+
+/// Whether the plain one holds the operation, accepted or waiting.
+fn is_held(plain: &Plain, op: &Op) -> bool {
+    plain.accepted.ops().contains(op) || plain.waiting.contains(op)
+}
+
+/// What was taken in, as the replica and as the plain one have it.
+#[derive(Drop)]
+struct Kept {
+    by_replica: Vec<Op>,
+    by_plain: Vec<Op>,
+}
+
+/// Both take in the operation.
+fn keep_both(
+    rt: &impl Abort,
+    alloc: Global,
+    replica: &mut Replica,
+    plain: &mut Plain,
+    kept: &mut Kept,
+    op: &Op,
+) -> Result<(), Fail> {
+    let was_held = is_held(plain, op);
+    keep_one(rt, replica, op.clone_in(alloc)?, &mut kept.by_replica)?;
+    plain.take_in(op.clone_in(alloc)?)?;
+    if is_held(plain, op) && !was_held {
+        kept.by_plain.push(op.clone_in(alloc)?)?;
+    }
+    Ok(())
+}
+
+fn keep_line(
+    rt: &impl Abort,
+    alloc: Global,
+    replica: &mut Replica,
+    plain: &mut Plain,
+    kept: &mut Kept,
+    line: Line,
+) -> Result<(), Fail> {
+    let op = op(rt, alloc, line)?;
+    keep_both(rt, alloc, replica, plain, kept, &op)
+}
+
+/// Feeds the pool to both, and compares what each has taken in.
+fn keep_pool(
+    rt: &impl Abort,
+    alloc: Global,
+    replica: &mut Replica,
+    plain: &mut Plain,
+    kept: &mut Kept,
+    order: (usize, usize),
+) -> Result<(), Fail> {
+    for turn in 0..POOL.len() {
+        let line = line_at(order, turn);
+        keep_line(rt, alloc, replica, plain, kept, line)?;
+    }
+    assert!(rt; is_beside(alloc, replica, plain)?);
+    assert!(rt; kept.by_replica == kept.by_plain && !kept.by_plain.is_empty());
+    Ok(())
+}
+
+fn keep_with(
+    rt: &impl Abort,
+    alloc: Global,
+    replica: &mut Replica,
+    plain: &mut Plain,
+    order: (usize, usize),
+) -> Result<(), Fail> {
+    let mut kept = Kept {
+        by_replica: Vec::new(alloc),
+        by_plain: Vec::new(alloc),
+    };
+    keep_pool(rt, alloc, replica, plain, &mut kept, order)
+}
+
+fn keeps_copies(rt: &impl Abort, alloc: Global, order: (usize, usize)) -> Result<(), Fail> {
+    let mut plain = Plain::new(alloc);
+    let mut replica = Replica::new(alloc, 7, 100, 100)?;
+    keep_with(rt, alloc, &mut replica, &mut plain, order)
+}
+
+#[test]
+fn what_is_taken_in_is_kept(rt: HostRuntime) -> Result<(), Fail> {
+    for first in 0..POOL.len() {
+        for step in [1, 5, 16] {
+            keeps_copies(&rt, rt.alloc(), (first, step))?;
         }
     }
     Ok(())

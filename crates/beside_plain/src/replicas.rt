@@ -6,6 +6,7 @@ ghost use Rattle.replica_core.specs.Told.{StaysBelow};
 use crate::op_lines::Line::{Delete, Text};
 use crate::op_lines::{A, B, D, Line, NONE, SECTION, T, X, Y, id, op};
 use fugue_ids::Op;
+use origin_model::PlainReplica;
 use outer_ports::MemSink;
 use replica_core::{DeliverFault, NewFault, Replica, Settled, Taken, Tally};
 use std::alloc::Global;
@@ -22,6 +23,19 @@ fn has_room(tally: &Tally) -> bool
         && tally.conflict < LIMIT
         && tally.stray < LIMIT
         && tally.full < LIMIT
+}
+
+/// Feeds the operation, and keeps a copy of it where it was taken in.
+pub fn keep_one(
+    rt: &impl Abort,
+    replica: &mut Replica,
+    op: Op,
+    kept: &mut Vec<Op>,
+) -> Result<(), Fail> {
+    let mut tally = Tally::default();
+    assert!(rt; replica.is_settled() && has_room(&tally));
+    replica.feed_keeping(op, &mut tally, kept)?;
+    Ok(())
 }
 
 pub fn feed_one(
@@ -61,6 +75,20 @@ pub fn all_accepted(text: &'static str, accepted: u32) -> Shown {
     }
 }
 
+/// Whether this manuscript is written.
+pub fn writes(alloc: Global, replica: &Replica, text: &[u8]) -> Result<bool, Fail> {
+    let mut written = MemSink::new(alloc, 100, Vec::new(alloc));
+    replica.write_manuscript(&mut written)?;
+    Ok(written.written() == text)
+}
+
+/// Whether the plain replica's manuscript is written.
+pub fn writes_same(alloc: Global, replica: &Replica, plain: &PlainReplica) -> Result<bool, Fail> {
+    let mut wanted = MemSink::new(alloc, 4096, Vec::new(alloc));
+    plain.print_into(&mut wanted)?;
+    writes(alloc, replica, wanted.written())
+}
+
 fn compare_shown(
     rt: &impl Abort,
     alloc: Global,
@@ -68,12 +96,38 @@ fn compare_shown(
     tally: &Tally,
     want: &Shown,
 ) -> Result<(), Fail> {
-    let mut sink = MemSink::new(alloc, 100, Vec::new(alloc));
-    replica.write_manuscript(&mut sink)?;
-    assert_eq!(rt; sink.written(), want.text.as_bytes());
+    assert!(rt; writes(alloc, replica, want.text.as_bytes())?, "{want:?}");
     assert_eq!(rt; *tally, want.counts);
     assert_eq!(rt; replica.waiting().len(), want.waiting);
-    assert_eq!(rt; replica.accepted().len() as u32, tally.accepted);
+    assert_eq!(rt; replica.accepted().len(), tally.accepted as usize);
+    Ok(())
+}
+
+/// Feeds the operations of the lines.
+pub fn feed_lines(
+    rt: &impl Abort,
+    alloc: Global,
+    replica: &mut Replica,
+    lines: &[Line],
+    tally: &mut Tally,
+) -> Result<(), Fail> {
+    for line in lines {
+        feed_one(rt, replica, op(rt, alloc, *line)?, tally)?;
+    }
+    Ok(())
+}
+
+/// Feeds copies of the operations.
+pub fn feed_ops(
+    rt: &impl Abort,
+    alloc: Global,
+    replica: &mut Replica,
+    ops: &[Op],
+) -> Result<(), Fail> {
+    let mut tally = Tally::default();
+    for op in ops {
+        feed_one(rt, replica, op.clone_in(alloc)?, &mut tally)?;
+    }
     Ok(())
 }
 
@@ -85,9 +139,7 @@ fn feed_all(
     want: &Shown,
 ) -> Result<(), Fail> {
     let mut tally = Tally::default();
-    for line in lines {
-        feed_one(rt, replica, op(rt, alloc, *line)?, &mut tally)?;
-    }
+    feed_lines(rt, alloc, replica, lines, &mut tally)?;
     compare_shown(rt, alloc, replica, &tally, want)
 }
 
@@ -148,6 +200,13 @@ fn what_is_not_taken_is_counted(rt: HostRuntime) -> Result<(), Fail> {
     Ok(())
 }
 
+fn new_fault(alloc: Global, number: u32, hold: u32, most: u32) -> Option<NewFault> {
+    match Replica::new(alloc, number, hold, most) {
+        Ok(_replica) => None,
+        Err(fault) => Some(fault),
+    }
+}
+
 #[test]
 fn numbers_out_of_range_make_no_replica(rt: HostRuntime) {
     for (number, hold, most, want) in [
@@ -157,10 +216,7 @@ fn numbers_out_of_range_make_no_replica(rt: HostRuntime) {
         (1, 1_048_576, 0, NewFault::BadMost),
         (1, 1, 4_194_305, NewFault::BadMost),
     ] {
-        assert_eq!(rt;
-            Replica::new(rt.alloc(), number, hold, most).err(),
-            Some(want)
-        );
+        assert_eq!(rt; new_fault(rt.alloc(), number, hold, most), Some(want));
     }
 }
 

@@ -23,15 +23,15 @@ fn is_accepted(
     Ok(true)
 }
 
-/// Puts the operations into the order of that number, as far as each is Ready on those before it.
+/// Accepts the operations in the order of that number, as far as each is Ready on those before it, and lists them.
 fn order_ready(
     rt: &impl Abort,
     alloc: Global,
     plain: &mut PlainReplica,
     remaining: &mut Vec<Line>,
+    ordered: &mut Vec<Line>,
     number: usize,
-) -> Result<Vec<Line>, Fail> {
-    let mut ordered = Vec::new(alloc);
+) -> Result<(), Fail> {
     let mut digits = number;
     for _ in 0..remaining.len() {
         let choices = remaining.len();
@@ -45,22 +45,51 @@ fn order_ready(
         }
         ordered.push(line)?;
     }
-    Ok(ordered)
+    Ok(())
 }
 
-fn ready_order(
+fn list_ready(
+    rt: &impl Abort,
+    alloc: Global,
+    row: &[Line],
+    ordered: &mut Vec<Line>,
+    number: usize,
+) -> Result<(), Fail> {
+    let mut remaining = Vec::from_slice(alloc, row)?;
+    let mut plain = PlainReplica::new(alloc);
+    order_ready(rt, alloc, &mut plain, &mut remaining, ordered, number)
+}
+
+/// Whether the order is ready. After it all operations are accepted, and the text is shown.
+fn is_ready(
+    rt: &impl Abort,
+    alloc: Global,
+    row: &[Line],
+    ordered: &mut Vec<Line>,
+    number: usize,
+    text: &'static str,
+) -> Result<bool, Fail> {
+    list_ready(rt, alloc, row, ordered, number)?;
+    if ordered.len() < row.len() {
+        return Ok(false);
+    }
+    let accepted = u32::try_from(row.len()).unwrap_or(0);
+    shows(rt, alloc, 1, ordered, all_accepted(text, accepted))?;
+    Ok(true)
+}
+
+fn is_ready_order(
     rt: &impl Abort,
     alloc: Global,
     row: &[Line],
     number: usize,
-) -> Result<Vec<Line>, Fail> {
-    let mut remaining = Vec::new(alloc);
-    remaining.extend_from_slice(row)?;
-    let mut plain = PlainReplica::new(alloc);
-    order_ready(rt, alloc, &mut plain, &mut remaining, number)
+    text: &'static str,
+) -> Result<bool, Fail> {
+    let mut ordered = Vec::new(alloc);
+    is_ready(rt, alloc, row, &mut ordered, number, text)
 }
 
-/// How many of the orders are ready. After each of these all operations are accepted, and the text is shown.
+/// How many of the orders are ready.
 fn count_ready(
     rt: &impl Abort,
     alloc: Global,
@@ -68,67 +97,89 @@ fn count_ready(
     orders: usize,
     text: &'static str,
 ) -> Result<u32, Fail> {
-    let accepted = u32::try_from(row.len()).unwrap_or(0);
     let mut ready: u32 = 0;
     for number in 0..orders {
-        let ordered = ready_order(rt, alloc, row, number)?;
-        if ordered.len() == row.len() {
-            let want = all_accepted(text, accepted);
-            shows(rt, alloc, 1, ordered.as_slice(), want)?;
+        if is_ready_order(rt, alloc, row, number, text)? {
             ready = ready.saturating_add(1);
         }
     }
     Ok(ready)
 }
 
+// Passages forwards: each letter behind the one before.
+const LOWER_A: Line = Text((1, 0), SECTION, NONE, NONE, 'a');
+
+const B_BEHIND_A: Line = Text((1, 1), SECTION, (1, 0), NONE, 'b');
+
+const C_BEHIND_B: Line = Text((1, 2), SECTION, (1, 1), NONE, 'c');
+
+const LOWER_X: Line = Text((2, 0), SECTION, NONE, NONE, 'x');
+
+const Y_BEHIND_X: Line = Text((2, 1), SECTION, (2, 0), NONE, 'y');
+
+const Z_BEHIND_Y: Line = Text((2, 2), SECTION, (2, 1), NONE, 'z');
+
+// Passages backwards: each letter before the one that was typed last.
+const LOWER_B: Line = Text((1, 0), SECTION, NONE, NONE, 'b');
+
+const A_BEFORE_B: Line = Text((1, 1), SECTION, NONE, (1, 0), 'a');
+
+const LOWER_Y: Line = Text((2, 0), SECTION, NONE, NONE, 'y');
+
+const X_BEFORE_Y: Line = Text((2, 1), SECTION, NONE, (2, 0), 'x');
+
+const Y_BEFORE_X: Line = Text((2, 1), SECTION, NONE, (2, 0), 'y');
+
+const Z_BEFORE_Y: Line = Text((2, 2), SECTION, NONE, (2, 1), 'z');
+
+/// The operations, how many orders they have, how many of these are ready, and the text.
+const ROWS: &[(&[Line], usize, u32, &str)] = &[
+    (&[T, B, A, D, X, Y], 720, 5, "# T\nAXYDB\n"),
+    (HIDDEN, 40_320, 96, "# T\nAXY\n"),
+    (BACKWARDS, 120, 2, "# T\nPQVZ\n"),
+    (
+        &[T, LOWER_A, B_BEHIND_A, LOWER_X, Y_BEHIND_X],
+        120,
+        6,
+        "# T\nabxy\n",
+    ),
+    (
+        &[T, LOWER_B, A_BEFORE_B, LOWER_Y, X_BEFORE_Y],
+        120,
+        6,
+        "# T\nabxy\n",
+    ),
+    // One passage was written forwards, and the other backwards.
+    (
+        &[T, LOWER_A, B_BEHIND_A, LOWER_Y, X_BEFORE_Y],
+        120,
+        6,
+        "# T\nabxy\n",
+    ),
+    (
+        &[
+            T, LOWER_A, B_BEHIND_A, C_BEHIND_B, LOWER_X, Y_BEHIND_X, Z_BEHIND_Y,
+        ],
+        5_040,
+        20,
+        "# T\nabcxyz\n",
+    ),
+    (
+        &[
+            T, LOWER_A, B_BEHIND_A, C_BEHIND_B, LOWER_X, Y_BEFORE_X, Z_BEFORE_Y,
+        ],
+        5_040,
+        20,
+        "# T\nabczyx\n",
+    ),
+];
+
 #[test]
 fn every_ready_order_shows_the_text(rt: HostRuntime) -> Result<(), Fail> {
-    let rows: [(&[Line], usize, u32, &'static str); 6] = [
-        (&[T, B, A, D, X, Y], 720, 5, "# T\nAXYDB\n"),
-        (HIDDEN, 40_320, 96, "# T\nAXY\n"),
-        (BACKWARDS, 120, 2, "# T\nPQVZ\n"),
-        (
-            &[
-                T,
-                Text((1, 0), SECTION, NONE, NONE, 'a'),
-                Text((1, 1), SECTION, (1, 0), NONE, 'b'),
-                Text((2, 0), SECTION, NONE, NONE, 'x'),
-                Text((2, 1), SECTION, (2, 0), NONE, 'y'),
-            ],
-            120,
-            6,
-            "# T\nabxy\n",
-        ),
-        (
-            &[
-                T,
-                Text((1, 0), SECTION, NONE, NONE, 'b'),
-                Text((1, 1), SECTION, NONE, (1, 0), 'a'),
-                Text((2, 0), SECTION, NONE, NONE, 'y'),
-                Text((2, 1), SECTION, NONE, (2, 0), 'x'),
-            ],
-            120,
-            6,
-            "# T\nabxy\n",
-        ),
-        // One passage was written forwards, and the other backwards.
-        (
-            &[
-                T,
-                Text((1, 0), SECTION, NONE, NONE, 'a'),
-                Text((1, 1), SECTION, (1, 0), NONE, 'b'),
-                Text((2, 0), SECTION, NONE, NONE, 'y'),
-                Text((2, 1), SECTION, NONE, (2, 0), 'x'),
-            ],
-            120,
-            6,
-            "# T\nabxy\n",
-        ),
-    ];
-    for (row, orders, ready, text) in rows {
+    for (row, orders, ready, text) in ROWS {
         assert_eq!(rt;
-            count_ready(&rt, rt.alloc(), row, orders, text)?,
-            ready,
+            count_ready(&rt, rt.alloc(), row, *orders, text)?,
+            *ready,
             "{text}"
         );
     }

@@ -3,10 +3,8 @@
 use crate::edits::Edit::{self, Add, Cut, Drop, Put};
 use crate::edits::make;
 use crate::plain::Plain;
-use crate::replicas::feed_one;
-use origin_model::PlainReplica;
-use outer_ports::MemSink;
-use replica_core::{Replica, Tally};
+use crate::replicas::{feed_ops, writes_same};
+use replica_core::Replica;
 use std::alloc::Global;
 use std::process::Abort;
 use std::test::Fail;
@@ -52,11 +50,8 @@ fn feed_from(
     to: &mut Replica,
     first: usize,
 ) -> Result<usize, Fail> {
-    let mut tally = Tally::default();
     let ops = from.accepted();
-    for at in first..ops.len() {
-        feed_one(rt, to, ops[at].clone_in(alloc)?, &mut tally)?;
-    }
+    feed_ops(rt, alloc, to, ops.get(first..).unwrap_or(&[]))?;
     Ok(ops.len())
 }
 
@@ -77,14 +72,6 @@ fn take_turn(
     Ok(())
 }
 
-fn is_same(alloc: Global, replica: &Replica, plain: &PlainReplica) -> Result<bool, Fail> {
-    let mut printed = MemSink::new(alloc, 4096, Vec::new(alloc));
-    let mut wanted = MemSink::new(alloc, 4096, Vec::new(alloc));
-    replica.write_manuscript(&mut printed)?;
-    plain.print_into(&mut wanted)?;
-    Ok(replica.waiting().is_empty() && printed.written() == wanted.written())
-}
-
 /// Both show what the plain replica does with the operations of the first.
 fn compare_both(
     rt: &impl Abort,
@@ -93,13 +80,13 @@ fn compare_both(
     second: &Replica,
     plain: &mut Plain,
 ) -> Result<(), Fail> {
-    for op in first.accepted() {
-        plain.take_in(op.clone_in(alloc)?)?;
-    }
+    plain.take_all(alloc, first.accepted())?;
     assert!(rt; first.accepted().len() > 40);
     assert_eq!(rt; first.accepted().len(), second.accepted().len());
-    assert!(rt; is_same(alloc, first, &plain.accepted)?);
-    assert!(rt; is_same(alloc, second, &plain.accepted)?);
+    for replica in [first, second] {
+        assert!(rt; replica.waiting().is_empty());
+        assert!(rt; writes_same(alloc, replica, &plain.accepted)?);
+    }
     Ok(())
 }
 
@@ -121,6 +108,15 @@ fn edit_by_turns(
     }
     feed_from(rt, alloc, first, second, heard.0)?;
     feed_from(rt, alloc, second, first, heard.1)?;
+    Ok(())
+}
+
+fn show_the_same(
+    rt: &impl Abort,
+    alloc: Global,
+    first: &Replica,
+    second: &Replica,
+) -> Result<(), Fail> {
     let mut plain = Plain::new(alloc);
     compare_both(rt, alloc, first, second, &mut plain)
 }
@@ -132,7 +128,8 @@ fn edits_with_second(
     seed: u64,
 ) -> Result<(), Fail> {
     let mut second = Replica::new(alloc, 2, 100, 1000)?;
-    edit_by_turns(rt, alloc, first, &mut second, seed)
+    edit_by_turns(rt, alloc, first, &mut second, seed)?;
+    show_the_same(rt, alloc, first, &second)
 }
 
 fn edits_by_seed(rt: &impl Abort, alloc: Global, seed: u64) -> Result<(), Fail> {

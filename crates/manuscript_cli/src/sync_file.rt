@@ -51,30 +51,20 @@ fn synced<H: Disk, W: Wire>(
     ensures speaks { SpeaksFor port cursor (H.seen home.old) (change (W.seen wire.old) (W.seen wire.new)) (IsOk result) }
 {
     let (mut replica, end) = load_file(alloc, home)?;
-    sync_by(alloc, port, cursor, &mut replica, end, home, wire)
+    let mut kept = Vec::new(alloc);
+    sync_keeping(
+        alloc,
+        port,
+        cursor,
+        &mut replica,
+        end,
+        home,
+        wire,
+        &mut kept,
+    )
 }
 
 /// Lets the replica of a loaded file speak, and saves what it kept of the reply.
-fn sync_by<H: Disk, W: Wire>(
-    alloc: Global,
-    port: u16,
-    cursor: u32,
-    replica: &mut Replica,
-    end: End,
-    home: &mut H,
-    wire: &mut W,
-) -> Result<Counts, Refusal>
-    requires ready { IsReady replica.old }
-    requires reaches { Reaches end }
-    requires ends { IfSome (H.seen home.old).past (λ h. EndsAt h.last end) }
-    ensures given { GivenCounted (reply_to cursor replica.old (change (W.seen wire.old) (W.seen wire.new))) replica.old end
-        (change (H.seen home.old) (H.seen home.new)) result }
-    ensures speaks { Speaks port cursor replica.old.held (change (W.seen wire.old) (W.seen wire.new)) (IsOk result) }
-{
-    let mut kept = Vec::new(alloc);
-    sync_keeping(alloc, port, cursor, replica, end, home, wire, &mut kept)
-}
-
 fn sync_keeping<H: Disk, W: Wire>(
     alloc: Global,
     port: u16,

@@ -1,7 +1,6 @@
-use super::{Fails, NONE, see, show_by, words_of};
+use super::{Fails, NONE, Seen, see, see_surely};
 use crate::Status;
-use outer_ports::{MemSource, SureSink};
-use std::alloc::Global;
+use std::alloc::{AllocError, Global};
 use std::test::Fail;
 
 /// The words, what is written, what is noted, and the status.
@@ -34,19 +33,30 @@ const ROWS: &[Row] = &[
     ("bulk 7 4 4", "", NOT_UNDERSTOOD, Status::Usage),
 ];
 
+/// Runs with an empty input.
+fn sums(
+    alloc: Global,
+    words: &str,
+    fails: Fails,
+    text: &str,
+    line: &str,
+) -> Result<Seen, AllocError> {
+    let input = Vec::new(alloc);
+    see(
+        alloc,
+        words,
+        input,
+        1,
+        fails,
+        text.as_bytes(),
+        line.as_bytes(),
+    )
+}
+
 #[test]
 fn a_seed_leads_to_one_summary(rt: HostRuntime) -> Result<(), Fail> {
     for (words, text, line, status) in ROWS {
-        let input = Vec::new(rt.alloc());
-        let seen = see(
-            rt.alloc(),
-            words,
-            input,
-            1,
-            NONE,
-            text.as_bytes(),
-            line.as_bytes(),
-        )?;
+        let seen = sums(rt.alloc(), words, NONE, text, line)?;
         assert!(rt; seen.is_shown(*status), "{words}");
     }
     Ok(())
@@ -54,10 +64,9 @@ fn a_seed_leads_to_one_summary(rt: HostRuntime) -> Result<(), Fail> {
 
 #[test]
 fn many_turns_lead_to_the_same_each_time(rt: HostRuntime) -> Result<(), Fail> {
-    let text = b"operations 2001\nscalars 1538\nsum 129221028\nequal\n";
+    let text = "operations 2001\nscalars 1538\nsum 129221028\nequal\n";
     for _ in 0..2 {
-        let input = Vec::new(rt.alloc());
-        let seen = see(rt.alloc(), "bulk 7 2000", input, 1, NONE, text, b"")?;
+        let seen = sums(rt.alloc(), "bulk 7 2000", NONE, text, "")?;
         assert!(rt; seen.is_shown(Status::Done));
     }
     Ok(())
@@ -74,35 +83,21 @@ const FAILING: &[Fails] = &[
 #[test]
 fn each_write_of_a_summary_may_fail(rt: HostRuntime) -> Result<(), Fail> {
     for fails in FAILING {
-        let input = Vec::new(rt.alloc());
-        let seen = see(
-            rt.alloc(),
-            "bulk 7 4",
-            input,
-            1,
-            *fails,
-            FOUR.as_bytes(),
-            b"",
-        )?;
+        let seen = sums(rt.alloc(), "bulk 7 4", *fails, FOUR, "")?;
         assert!(rt; seen.is_outside() && !seen.is_text, "{fails:?}");
     }
     Ok(())
 }
 
-/// Runs with an output that takes so many bytes.
-fn see_surely(alloc: Global, room: usize) -> Result<(Status, bool), Fail> {
-    let words = words_of(alloc, "bulk 7 4")?;
-    let mut input = MemSource::new(Vec::new(alloc), 1, Vec::new(alloc));
-    let mut output = SureSink::new(alloc, 4096, room)?;
-    let mut notes = SureSink::new(alloc, 4096, 256)?;
-    let status = show_by(alloc, &words, &mut input, &mut output, &mut notes);
-    Ok((status, output.written() == FOUR.as_bytes()))
-}
-
 #[test]
 fn a_summary_fits_its_room(rt: HostRuntime) -> Result<(), Fail> {
-    let room = FOUR.len();
-    assert!(rt; see_surely(rt.alloc(), room)? == (Status::Done, true));
-    assert!(rt; see_surely(rt.alloc(), room - 1)? == (Status::OutsideFault, false));
+    for (room, wanted) in [
+        (FOUR.len(), (Status::Done, true)),
+        (FOUR.len() - 1, (Status::OutsideFault, false)),
+    ] {
+        let input = Vec::new(rt.alloc());
+        let seen = see_surely(rt.alloc(), "bulk 7 4", input, room, FOUR.as_bytes())?;
+        assert!(rt; seen == wanted);
+    }
     Ok(())
 }

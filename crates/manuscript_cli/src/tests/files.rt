@@ -1,23 +1,12 @@
-use super::{run_offline, words_of};
+use super::frames::{NEW, PRINTED, SAVED};
+use super::{disk, has_bytes, run_noting, run_on, sink, sure_disk, words_of};
 use crate::{Command, Status, files_of, read_words};
-use outer_ports::{Disk, FileDisk, MemDisk, MemSink, MemSource, Opening, Sink, SureDisk, SureSink};
+use outer_ports::{MemDisk, MemSink, Opening, SureDisk, SureSink};
 use std::alloc::Global;
+use std::process::Abort;
 use std::test::Fail;
 
-/// The file of replica 1 with hold 16 that holds nothing.
-const NEW: &[u8] = b"FGMX\x01\0\0\0\x01\0\0\0\x10\0";
-
-/// The same with the section (1,0), titled T, and in it A, B, which is dropped, and C: one batch.
-const SAVED: &[u8] = b"FGMX\x01\0\0\0\x01\0\0\0\x10\
-\x01\0\0\0\x71\
-\x01\0\0\0\x01\0\0\0\0\0\0\0\x01T\
-\x02\0\0\0\x01\0\0\0\x01\0\0\0\x01\0\0\0\0\0\0\0\0A\
-\x02\0\0\0\x01\0\0\0\x02\0\0\0\x01\0\0\0\0\x01\0\0\0\x01\0\0\0\x01\0\0\0B\
-\x03\0\0\0\x01\0\0\0\x02\
-\x02\0\0\0\x01\0\0\0\x03\0\0\0\x01\0\0\0\0\x01\0\0\0\x01\0\0\0\x01\x01\0\0\0\x01\0\0\0\x02\0\0C\
-\0";
-
-/// The frames of that batch.
+/// The frames of the batch of the saved file.
 const FRAMES: &[u8] = b"\
 \x01\0\0\0\x01\0\0\0\0\0\0\0\x01T\
 \x02\0\0\0\x01\0\0\0\x01\0\0\0\x01\0\0\0\0\0\0\0\0A\
@@ -48,49 +37,25 @@ fn changed(alloc: Global, file: &[u8], at: usize, byte: u8) -> Result<Vec<u8>, F
 /// What is wanted of a run: what is written, what is noted, and the status.
 type Ends = (&'static [u8], &'static [u8], Status);
 
-/// Whether the file has these bytes.
-fn has_bytes<H: Disk>(disk: &mut H, wanted: &[u8]) -> bool {
-    let mut buf = [0; 256];
-    match disk.read_at(0, &mut buf) {
-        Ok(count) => &buf[..count] == wanted,
-        Err(_) => false,
-    }
-}
-
-/// Runs with an empty input on the file alone.
-fn run_on<O: Sink, N: Sink, H: Disk>(
-    alloc: Global,
-    words: &[String],
-    output: &mut O,
-    notes: &mut N,
-    home: &mut H,
-) -> Status {
-    let mut input = MemSource::new(Vec::new(alloc), 1, Vec::new(alloc));
-    let mut guest = FileDisk::closed();
-    run_offline(alloc, words, &mut input, output, notes, home, &mut guest)
+/// Whether a run on the file ends so.
+fn writes_so(alloc: Global, words: &str, home: &mut SureDisk, ends: Ends) -> Result<bool, Fail> {
+    let (text, line, status) = ends;
+    let mut output = SureSink::new(alloc, 4096, text.len())?;
+    let end = run_noting(alloc, words, b"", &mut output, line, home)?;
+    Ok(end == Some(status) && output.written() == text)
 }
 
 /// Whether a run on a sure file of these bytes, with room for so much, ends so and leaves these.
 fn ends_so(
     alloc: Global,
     words: &str,
-    bytes: Vec<u8>,
+    bytes: &[u8],
     room: usize,
     ends: Ends,
     left: &[u8],
 ) -> Result<bool, Fail> {
-    let (text, line, status) = ends;
-    let words = words_of(alloc, words)?;
-    let mut output = SureSink::new(alloc, 4096, text.len())?;
-    let mut notes = SureSink::new(alloc, 4096, 256)?;
-    let mut home = SureDisk::new(alloc, bytes, room)?;
-    let end = run_on(alloc, &words, &mut output, &mut notes, &mut home);
-    Ok(
-        end == status
-            && output.written() == text
-            && notes.written() == line
-            && has_bytes(&mut home, left),
-    )
+    let mut home = sure_disk(alloc, bytes, room)?;
+    Ok(writes_so(alloc, words, &mut home, ends)? && has_bytes(&mut home, left))
 }
 
 /// The words, the file, the room, the ends, and the file behind the run.
@@ -160,7 +125,6 @@ const ROWS: &[Row] = &[
 #[test]
 fn files_are_made_printed_and_sent(rt: HostRuntime) -> Result<(), Fail> {
     for (words, bytes, room, ends, left) in ROWS {
-        let bytes = Vec::from_slice(rt.alloc(), bytes)?;
         assert!(rt;
             ends_so(rt.alloc(), words, bytes, *room, *ends, left)?,
             "{words}"
@@ -178,34 +142,51 @@ const CHANGED: &[(usize, u8, Ends)] = &[
     (131, 1, (b"", b"bad batch 1\n", Status::BadFile)),
 ];
 
+/// Whether printing the saved file ends so and leaves it, where a byte is another one.
+fn prints_changed(alloc: Global, at: usize, byte: u8, ends: Ends) -> Result<bool, Fail> {
+    let bytes = changed(alloc, SAVED, at, byte)?;
+    ends_so(alloc, "print F", &bytes, 1, ends, &bytes)
+}
+
 #[test]
 fn a_changed_byte_is_found_before_anything_is_printed(rt: HostRuntime) -> Result<(), Fail> {
     for (at, byte, ends) in CHANGED {
-        let bytes = changed(rt.alloc(), SAVED, *at, *byte)?;
-        let left = bytes.clone()?;
-        assert!(rt;
-            ends_so(rt.alloc(), "print F", bytes, 1, *ends, &left)?,
-            "byte {at}"
-        );
+        assert!(rt; prints_changed(rt.alloc(), *at, *byte, *ends)?, "byte {at}");
     }
     Ok(())
 }
 
-/// Runs where one call on the file fails. The answer is the status, where nothing was printed and the fault was noted.
-fn status_without(alloc: Global, words: &str, bytes: &[u8], call: u32) -> Result<Status, Fail> {
-    let words = words_of(alloc, words)?;
-    let bytes = Vec::from_slice(alloc, bytes)?;
-    let fails = Vec::from_slice(alloc, &[call])?;
+const TOLD: &[u8] = b"outside fault\n";
+
+/// Runs where calls on the notes fail. The answer is the status, and whether the fault was noted.
+fn tells(
+    alloc: Global,
+    words: &str,
+    output: &mut MemSink,
+    notes_fail: &[u32],
+    home: &mut MemDisk,
+) -> Result<(Status, bool), Fail> {
+    let mut notes = sink(alloc, 64, notes_fail)?;
+    let status = run_on(alloc, words, b"", output, &mut notes, home)?;
+    Ok((status, notes.written() == TOLD))
+}
+
+/// The answer is the status, where nothing was printed and the fault was noted.
+fn status_told(alloc: Global, words: &str, home: &mut MemDisk) -> Result<Status, Fail> {
     let mut output = MemSink::new(alloc, 3, Vec::new(alloc));
-    let mut notes = MemSink::new(alloc, 64, Vec::new(alloc));
-    let mut home = MemDisk::new(alloc, bytes, fails);
-    let status = run_on(alloc, &words, &mut output, &mut notes, &mut home);
-    let is_told = output.written().is_empty() && notes.written() == b"outside fault\n".as_slice();
+    let (status, is_noted) = tells(alloc, words, &mut output, &[], home)?;
+    let is_told = is_noted && output.written().is_empty();
     Ok(if status == Status::OutsideFault && !is_told {
         Status::Usage
     } else {
         status
     })
+}
+
+/// The same where one call on the file fails.
+fn status_without(alloc: Global, words: &str, bytes: &[u8], call: u32) -> Result<Status, Fail> {
+    let mut home = disk(alloc, bytes, &[call])?;
+    status_told(alloc, words, &mut home)
 }
 
 /// How many calls on the file there are: each of them may fail, and the next one is not there.
@@ -220,24 +201,34 @@ fn failing_calls(alloc: Global, words: &str, bytes: &[u8]) -> Result<Option<u32>
     Ok(None)
 }
 
+/// The words, the file, and the least number of calls on it.
+const CALLED: &[(&str, &[u8], u32)] = &[
+    ("new F 1 16", b"", 3),
+    ("print F", SAVED, 4),
+    ("send F", SAVED, 4),
+];
+
 #[test]
 fn each_call_on_a_file_may_fail(rt: HostRuntime) -> Result<(), Fail> {
-    for (words, bytes, least) in [
-        ("new F 1 16", b"".as_slice(), 3),
-        ("print F", SAVED, 4),
-        ("send F", SAVED, 4),
-    ] {
+    for (words, bytes, least) in CALLED {
         let calls = failing_calls(rt.alloc(), words, bytes)?;
-        assert!(rt;
-            calls.is_some_and(|calls| calls >= least),
-            "{words}: {calls:?}"
-        );
+        assert!(rt; calls >= Some(*least), "{words}: {calls:?}");
     }
     Ok(())
 }
 
-/// Runs where one call on the output fails, and perhaps the first one on the notes. The answer is whether a front of the
-/// text went out, and whether the fault was noted.
+fn tells_of_saved(
+    alloc: Global,
+    words: &str,
+    output: &mut MemSink,
+    notes_fail: &[u32],
+) -> Result<(Status, bool), Fail> {
+    let mut home = disk(alloc, SAVED, &[])?;
+    tells(alloc, words, output, notes_fail, &mut home)
+}
+
+/// Runs on the saved file where one call on the output fails, and perhaps the first one on the notes. The answer is the
+/// status, whether a front of the text went out, and whether the fault was noted.
 fn front_without(
     alloc: Global,
     words: &str,
@@ -245,44 +236,38 @@ fn front_without(
     call: u32,
     notes_fail: &[u32],
 ) -> Result<(Status, bool, bool), Fail> {
-    let words = words_of(alloc, words)?;
-    let bytes = Vec::from_slice(alloc, SAVED)?;
-    let output_fail = Vec::from_slice(alloc, &[call])?;
-    let notes_fail = Vec::from_slice(alloc, notes_fail)?;
-    let mut output = MemSink::new(alloc, 3, output_fail);
-    let mut notes = MemSink::new(alloc, 64, notes_fail);
-    let mut home = MemDisk::new(alloc, bytes, Vec::new(alloc));
-    let status = run_on(alloc, &words, &mut output, &mut notes, &mut home);
-    let is_front = text.starts_with(output.written());
-    Ok((
-        status,
-        is_front,
-        notes.written() == b"outside fault\n".as_slice(),
-    ))
+    let mut output = sink(alloc, 3, &[call])?;
+    let (status, is_told) = tells_of_saved(alloc, words, &mut output, notes_fail)?;
+    Ok((status, text.starts_with(output.written()), is_told))
+}
+
+/// Whether the fault of this call on the output is told, where a note can be made.
+fn fails_at(alloc: Global, words: &str, text: &[u8], call: u32) -> Result<bool, Fail> {
+    let told = front_without(alloc, words, text, call, &[])?;
+    let untold = front_without(alloc, words, text, call, &[0])?;
+    Ok(told == (Status::OutsideFault, true, true) && untold == (Status::OutsideFault, true, false))
+}
+
+/// Of this command on the saved file, which writes this text in so many calls, each call may fail.
+fn each_may_fail(
+    rt: &impl Abort,
+    alloc: Global,
+    words: &str,
+    text: &[u8],
+    calls: u32,
+) -> Result<(), Fail> {
+    for call in 0..calls {
+        assert!(rt; fails_at(alloc, words, text, call)?, "{words}: {call}");
+    }
+    let whole = front_without(alloc, words, text, calls, &[])?;
+    assert!(rt; whole == (Status::Done, true, false), "{words}");
+    Ok(())
 }
 
 #[test]
 fn each_call_on_the_output_may_fail(rt: HostRuntime) -> Result<(), Fail> {
-    for (words, text, calls) in [
-        ("print F", b"# T\nAC\n".as_slice(), 3),
-        ("send F", FRAMES, 38),
-    ] {
-        for call in 0..calls {
-            let (status, is_front, is_told) = front_without(rt.alloc(), words, text, call, &[])?;
-            assert!(rt;
-                status == Status::OutsideFault && is_front && is_told,
-                "{words}: {call}"
-            );
-            let (status, is_front, is_told) = front_without(rt.alloc(), words, text, call, &[0])?;
-            assert!(rt;
-                status == Status::OutsideFault && is_front && !is_told,
-                "{words}: {call}"
-            );
-        }
-        let (status, _, is_told) = front_without(rt.alloc(), words, text, calls, &[])?;
-        assert!(rt; status == Status::Done && !is_told, "{words}");
-    }
-    Ok(())
+    each_may_fail(&rt, rt.alloc(), "print F", PRINTED, 3)?;
+    each_may_fail(&rt, rt.alloc(), "send F", FRAMES, 38)
 }
 
 /// The words, and the files of their command.
@@ -301,15 +286,28 @@ const FILES: &[(&str, Option<&str>, Option<&str>)] = &[
     ("forget F", None, None),
 ];
 
+fn names_files(
+    alloc: Global,
+    line: &str,
+    home: Option<&str>,
+    guest: Option<&str>,
+) -> Result<bool, Fail> {
+    let words = words_of(alloc, line)?;
+    Ok(files_of(&words) == (home, guest))
+}
+
+fn is_no_file(alloc: Global, name: &str) -> Result<bool, Fail> {
+    let mut words = words_of(alloc, "print")?;
+    words.push(String::from_str(alloc, name)?)?;
+    Ok(read_words(&words).is_none() && files_of(&words) == (None, None))
+}
+
 #[test]
 fn words_name_the_files_of_their_command(rt: HostRuntime) -> Result<(), Fail> {
     for (line, home, guest) in FILES {
-        let words = words_of(rt.alloc(), line)?;
-        assert!(rt; files_of(&words) == (*home, *guest), "{line}");
+        assert!(rt; names_files(rt.alloc(), line, *home, *guest)?, "{line}");
     }
-    let mut words = words_of(rt.alloc(), "print")?;
-    words.push(String::new(rt.alloc()))?;
-    assert!(rt; read_words(&words).is_none() && files_of(&words) == (None, None));
+    assert!(rt; is_no_file(rt.alloc(), "")?);
     Ok(())
 }
 

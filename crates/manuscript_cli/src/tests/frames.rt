@@ -1,4 +1,4 @@
-//! Frames of operations, as they stand in a stream.
+//! Frames of operations, as they stand in a stream, and files.
 
 use std::alloc::{AllocError, Global};
 
@@ -91,6 +91,22 @@ pub(super) const DROP_S: &[u8] = b"\x03\0\0\0\x09\0\0\0\0";
 
 /// A frame that is cut short.
 pub(super) const CUT: &[u8] = b"\x02\0\0\0\x01\0";
+
+/// The file of replica 1 with hold 16 that holds nothing.
+pub(super) const NEW: &[u8] = b"FGMX\x01\0\0\0\x01\0\0\0\x10\0";
+
+/// The same with the section (1,0), titled T, and in it A, B, which is dropped, and C: one batch.
+pub(super) const SAVED: &[u8] = b"FGMX\x01\0\0\0\x01\0\0\0\x10\
+\x01\0\0\0\x71\
+\x01\0\0\0\x01\0\0\0\0\0\0\0\x01T\
+\x02\0\0\0\x01\0\0\0\x01\0\0\0\x01\0\0\0\0\0\0\0\0A\
+\x02\0\0\0\x01\0\0\0\x02\0\0\0\x01\0\0\0\0\x01\0\0\0\x01\0\0\0\x01\0\0\0B\
+\x03\0\0\0\x01\0\0\0\x02\
+\x02\0\0\0\x01\0\0\0\x03\0\0\0\x01\0\0\0\0\x01\0\0\0\x01\0\0\0\x01\x01\0\0\0\x01\0\0\0\x02\0\0C\
+\0";
+
+/// What is printed of it.
+pub(super) const PRINTED: &[u8] = b"# T\nAC\n";
 
 /// The frames, one behind the other.
 pub(super) fn stream(alloc: Global, frames: &[&[u8]]) -> Result<Vec<u8>, AllocError> {

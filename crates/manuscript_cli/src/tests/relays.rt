@@ -2,14 +2,14 @@ ghost use Rattle.std.specs.Prelude.{◌<◌, All, IfOk, length};
 ghost use Rattle.outer_ports.specs.dock.Steps.{HasBytes};
 
 use super::frames::{LOWER_A, S, stream};
-use super::words_of;
-use crate::{Status, run};
+use super::{run_line, sink};
+use crate::Status;
 use fugue_ids::ByteList;
 use outer_ports::{
     Dock, DockStep, FileDisk, MemDock, MemSink, MemSource, MemStep, MemWire, SureDock,
 };
 use std::alloc::{AllocError, Global};
-use std::hash::{BuildHasherDefault, FoldHasher};
+use std::process::Abort;
 use std::test::Fail;
 
 /// A greeting from the start of the log on.
@@ -63,22 +63,39 @@ struct Seen {
     is_untouched: bool,
 }
 
-/// Runs at a dock that gives and takes so many bytes a call.
-fn see(alloc: Global, words: &str, piece: usize, fails: Fails, ends: Ends) -> Result<Seen, Fail> {
-    let [dock_fails, output_fails, notes_fails] = fails;
-    let reply = reply(alloc)?;
-    let words = words_of(alloc, words)?;
-    let dock_fails = Vec::from_slice(alloc, dock_fails)?;
-    let output_fails = Vec::from_slice(alloc, output_fails)?;
-    let notes_fails = Vec::from_slice(alloc, notes_fails)?;
-    let steps = two_sessions(alloc)?;
-    let mut dock = MemDock::new(alloc, steps, piece.max(1), dock_fails);
-    let mut output = MemSink::new(alloc, 3, output_fails);
-    let mut notes = MemSink::new(alloc, 64, notes_fails);
-    let status = run_at(alloc, &words, &mut dock, &mut output, &mut notes);
+/// Whether a run at the dock writes, notes and answers what is wanted.
+fn runs_so(
+    alloc: Global,
+    words: &str,
+    dock: &mut MemDock,
+    fails: Fails,
+    ends: Ends,
+) -> Result<bool, Fail> {
     let (text, line, end) = ends;
+    let mut output = sink(alloc, 3, fails[1])?;
+    let status = run_noting(alloc, words, dock, &mut output, fails[2], line)?;
+    Ok(status == Some(end) && output.written() == text)
+}
+
+/// The answer is the status, where the notes are this line.
+fn run_noting(
+    alloc: Global,
+    words: &str,
+    dock: &mut MemDock,
+    output: &mut MemSink,
+    fails: &[u32],
+    line: &[u8],
+) -> Result<Option<Status>, Fail> {
+    let mut notes = sink(alloc, 64, fails)?;
+    let status = run_at(alloc, words, dock, output, &mut notes)?;
+    Ok((notes.written() == line).then_some(status))
+}
+
+/// Looks at a dock behind a run.
+fn seen_at(alloc: Global, dock: &mut MemDock, is_so: bool) -> Result<Seen, Fail> {
+    let reply = reply(alloc)?;
     Ok(Seen {
-        is_so: output.written() == text && notes.written() == line && status == end,
+        is_so,
         port: dock.port(),
         are_answered: dock.sent(0) == reply.as_slice()
             && dock.sent(1) == reply.as_slice()
@@ -87,21 +104,38 @@ fn see(alloc: Global, words: &str, piece: usize, fails: Fails, ends: Ends) -> Re
     })
 }
 
+/// Runs at a dock that gives and takes so many bytes a call.
+fn see(alloc: Global, words: &str, piece: usize, fails: Fails, ends: Ends) -> Result<Seen, Fail> {
+    let fail = Vec::from_slice(alloc, fails[0])?;
+    let mut dock = MemDock::new(alloc, two_sessions(alloc)?, piece.max(1), fail);
+    see_at(alloc, words, &mut dock, fails, ends)
+}
+
+fn see_at(
+    alloc: Global,
+    words: &str,
+    dock: &mut MemDock,
+    fails: Fails,
+    ends: Ends,
+) -> Result<Seen, Fail> {
+    let is_so = runs_so(alloc, words, dock, fails, ends)?;
+    seen_at(alloc, dock, is_so)
+}
+
 /// Runs at the dock, with an empty input and no file.
 fn run_at<D: Dock>(
     alloc: Global,
-    words: &[String],
+    words: &str,
     dock: &mut D,
     output: &mut MemSink,
     notes: &mut MemSink,
-) -> Status {
+) -> Result<Status, AllocError> {
     let mut input = MemSource::new(Vec::new(alloc), 1, Vec::new(alloc));
     let mut home = FileDisk::closed();
     let mut guest = FileDisk::closed();
     let mut wire = MemWire::new(alloc, Vec::new(alloc), 1, Vec::new(alloc));
-    let hasher: BuildHasherDefault<FoldHasher> = BuildHasherDefault::default();
-    run(
-        alloc, words, &mut input, output, notes, &mut home, &mut guest, &mut wire, dock, hasher,
+    run_line(
+        alloc, words, &mut input, output, notes, &mut home, &mut guest, &mut wire, dock,
     )
 }
 
@@ -219,27 +253,32 @@ fn hostile_sessions(alloc: Global) -> Result<Vec<MemStep>, Fail>
     Ok(steps)
 }
 
-#[test]
-fn a_bad_text_is_refused_and_what_came_whole_stays(rt: HostRuntime) -> Result<(), Fail> {
-    let alloc = rt.alloc();
-    let words = words_of(alloc, RELAY)?;
-    let mut dock = MemDock::new(alloc, hostile_sessions(alloc)?, 64, Vec::new(alloc));
-    let mut output = MemSink::new(alloc, 64, Vec::new(alloc));
-    let mut notes = MemSink::new(alloc, 64, Vec::new(alloc));
-    let status = run_at(alloc, &words, &mut dock, &mut output, &mut notes);
-    assert!(rt; status == Status::Done && notes.written() == b"log 1\n".as_slice());
+fn refuses_the_first(rt: &impl Abort, alloc: Global, dock: &mut MemDock) -> Result<(), Fail> {
+    let ends: Ends = (b"ready\n", b"log 1\n", Status::Done);
+    assert!(rt; runs_so(alloc, RELAY, dock, NONE, ends)?);
     assert!(rt; dock.sent(0) == b"\x58\x01".as_slice() && dock.sent(1).is_empty());
     assert!(rt; dock.ended() == [0].as_slice());
     Ok(())
 }
 
-/// How a run ends at a sure dock with so many bytes of room for each session.
-fn status_within(alloc: Global, room: usize) -> Result<Status, Fail> {
-    let words = words_of(alloc, RELAY)?;
-    let mut dock = SureDock::new(alloc, two_sessions(alloc)?, 3, room)?;
+#[test]
+fn a_bad_text_is_refused_and_what_came_whole_stays(rt: HostRuntime) -> Result<(), Fail> {
+    let steps = hostile_sessions(rt.alloc())?;
+    let mut dock = MemDock::new(rt.alloc(), steps, 64, Vec::new(rt.alloc()));
+    refuses_the_first(&rt, rt.alloc(), &mut dock)
+}
+
+/// How a run ends at the dock.
+fn status_at(alloc: Global, dock: &mut SureDock) -> Result<Status, Fail> {
     let mut output = MemSink::new(alloc, 64, Vec::new(alloc));
     let mut notes = MemSink::new(alloc, 64, Vec::new(alloc));
-    Ok(run_at(alloc, &words, &mut dock, &mut output, &mut notes))
+    Ok(run_at(alloc, RELAY, dock, &mut output, &mut notes)?)
+}
+
+/// The same at a sure dock with so many bytes of room for each session.
+fn status_within(alloc: Global, room: usize) -> Result<Status, Fail> {
+    let mut dock = SureDock::new(alloc, two_sessions(alloc)?, 3, room)?;
+    status_at(alloc, &mut dock)
 }
 
 #[test]

@@ -4,10 +4,11 @@ use super::frames::{
     A, A_BEFORE_B, B, BEHIND_A, CUT, D, DROP_B, DROP_D, DROP_S, IN_A, LOWER_A, LOWER_B, NOWHERE,
     OTHER_A, P, Q, S, SMALL_B, SMALL_X, SMALL_Y, V, X, X_BEFORE_Y, Y, Y_BEHIND_X, Z, stream,
 };
-use super::{Fails, NONE, see, show_by, words_of};
+use super::{Fails, NONE, see, see_surely, show_by, sink};
 use crate::Status;
-use outer_ports::{MemSink, MemSource, SureSink, SureSource};
+use outer_ports::{MemSink, MemSource};
 use std::alloc::{AllocError, Global};
+use std::process::Abort;
 use std::test::Fail;
 
 /// The words, the frames, the output, the notes and the status.
@@ -158,25 +159,24 @@ const ROWS: &[Row] = &[
     ("print", &[S], "", "words not understood\n", Status::Usage),
 ];
 
+/// Whether the row's stream comes to what is wanted of it in pieces of each of these sizes.
+fn is_shown(alloc: Global, row: &Row) -> Result<bool, Fail> {
+    let (words, frames, text, line, status) = *row;
+    for piece in [1, 5, 4096] {
+        let bytes = stream(alloc, frames)?;
+        let (text, line) = (text.as_bytes(), line.as_bytes());
+        let seen = see(alloc, words, bytes, piece, NONE, text, line)?;
+        if !seen.is_shown(status) {
+            return Ok(false);
+        }
+    }
+    Ok(true)
+}
+
 #[test]
 fn a_stream_is_shown_and_counted(rt: HostRuntime) -> Result<(), Fail> {
-    for (words, frames, text, line, status) in ROWS {
-        for piece in [1, 5, 4096] {
-            let bytes = stream(rt.alloc(), frames)?;
-            let seen = see(
-                rt.alloc(),
-                words,
-                bytes,
-                piece,
-                NONE,
-                text.as_bytes(),
-                line.as_bytes(),
-            )?;
-            assert!(rt;
-                seen.is_shown(*status),
-                "{words} in pieces of {piece}: {text}"
-            );
-        }
+    for row in ROWS {
+        assert!(rt; is_shown(rt.alloc(), row)?, "{}: {}", row.0, row.2);
     }
     Ok(())
 }
@@ -209,22 +209,24 @@ fn end_before(length: usize) -> usize {
         .unwrap_or(0)
 }
 
+/// Whether the stream, cut to the length, is told to be whole, or to be cut in the frame that it ends in.
+fn is_cut_short(alloc: Global, length: usize) -> Result<bool, Fail> {
+    let mut bytes = stream(alloc, FRAMES)?;
+    bytes.truncate(length);
+    let end = end_before(length);
+    let line = format!(in alloc; "cut short at byte {end}\n")?;
+    let seen = see(alloc, "show", bytes, 4096, NONE, b"", line.as_bytes())?;
+    Ok(if end == length {
+        seen.status == Status::Done
+    } else {
+        seen.is_shown(Status::BadInput)
+    })
+}
+
 #[test]
 fn a_stream_may_end_behind_each_frame_and_nowhere_else(rt: HostRuntime) -> Result<(), Fail> {
     for length in 0..=172usize {
-        let mut bytes = stream(rt.alloc(), FRAMES)?;
-        bytes.truncate(length);
-        let end = end_before(length);
-        let line = format!(in rt.alloc(); "cut short at byte {end}\n")?;
-        let seen = see(rt.alloc(), "show", bytes, 4096, NONE, b"", line.as_bytes())?;
-        assert!(rt;
-            if end == length {
-                seen.status == Status::Done
-            } else {
-                seen.is_shown(Status::BadInput)
-            },
-            "cut at byte {length}"
-        );
+        assert!(rt; is_cut_short(rt.alloc(), length)?, "cut at byte {length}");
     }
     Ok(())
 }
@@ -293,22 +295,16 @@ fn each_call_may_fail(rt: HostRuntime) -> Result<(), Fail> {
     Ok(())
 }
 
-/// Runs on sure objects: the output takes so many bytes, and the notes 256.
-fn see_surely(alloc: Global, room: usize) -> Result<(Status, bool), Fail> {
-    let words = words_of(alloc, "show")?;
-    let mut input = SureSource::new(stream(alloc, FRAMES)?, 4096);
-    let mut output = SureSink::new(alloc, 4096, room)?;
-    let mut notes = SureSink::new(alloc, 4096, 256)?;
-    let status = show_by(alloc, &words, &mut input, &mut output, &mut notes);
-    Ok((status, output.written() == TEXT))
-}
-
 #[test]
 fn sure_objects_with_room_do_not_fail(rt: HostRuntime) -> Result<(), Fail> {
-    let (status, is_text) = see_surely(rt.alloc(), 10)?;
-    assert!(rt; status == Status::Done && is_text);
-    let (status, is_text) = see_surely(rt.alloc(), 9)?;
-    assert!(rt; status == Status::OutsideFault && !is_text);
+    for (room, wanted) in [
+        (10, (Status::Done, true)),
+        (9, (Status::OutsideFault, false)),
+    ] {
+        let bytes = stream(rt.alloc(), FRAMES)?;
+        let seen = see_surely(rt.alloc(), "show", bytes, room, TEXT)?;
+        assert!(rt; seen == wanted);
+    }
     Ok(())
 }
 
@@ -366,18 +362,34 @@ const CASES: &[Case] = &[
     ),
 ];
 
+/// Whether this order of the frames prints the text.
+fn prints_in_order(
+    alloc: Global,
+    frames: &[&'static [u8]],
+    number: usize,
+    text: &str,
+) -> Result<bool, Fail> {
+    let bytes = permuted(alloc, frames, number)?;
+    let seen = see(alloc, "show", bytes, 4096, NONE, text.as_bytes(), b"")?;
+    Ok(seen.status == Status::Done && seen.is_text)
+}
+
+fn orders_print(rt: &impl Abort, alloc: Global, case: &Case) -> Result<(), Fail> {
+    let (frames, orders, step, text) = *case;
+    for turn in 0..orders {
+        let number = turn.saturating_mul(step);
+        assert!(rt;
+            prints_in_order(alloc, frames, number, text)?,
+            "order {number} of {text}"
+        );
+    }
+    Ok(())
+}
+
 #[test]
 fn the_orders_of_a_case_print_its_text(rt: HostRuntime) -> Result<(), Fail> {
-    for (frames, orders, step, text) in CASES {
-        for turn in 0..*orders {
-            let number = turn.saturating_mul(*step);
-            let bytes = permuted(rt.alloc(), frames, number)?;
-            let seen = see(rt.alloc(), "show", bytes, 4096, NONE, text.as_bytes(), b"")?;
-            assert!(rt;
-                seen.status == Status::Done && seen.is_text,
-                "order {number} of {text}"
-            );
-        }
+    for case in CASES {
+        orders_print(&rt, rt.alloc(), case)?;
     }
     Ok(())
 }
@@ -395,15 +407,26 @@ fn typed(alloc: Global, count: u32) -> Result<Vec<u8>, AllocError> {
     Ok(bytes)
 }
 
+fn is_many_letters(written: &[u8]) -> bool {
+    written.len() == 10_005 && written.starts_with(b"# T\naaa") && written.ends_with(b"aaa\n")
+}
+
+/// Whether they are written to an output of which this call fails.
+fn writes_many_letters(
+    alloc: Global,
+    input: &mut MemSource,
+    fails: &[u32],
+) -> Result<bool, AllocError> {
+    let mut output = sink(alloc, 65_536, fails)?;
+    let mut notes = MemSink::new(alloc, 64, Vec::new(alloc));
+    let status = show_by(alloc, "show", input, &mut output, &mut notes)?;
+    Ok(status == Status::Done && is_many_letters(output.written()))
+}
+
 #[test]
 fn many_letters_go_out_in_few_writes(rt: HostRuntime) -> Result<(), Fail> {
-    let words = words_of(rt.alloc(), "show")?;
-    let mut input = MemSource::new(typed(rt.alloc(), 10_000)?, 4096, Vec::new(rt.alloc()));
-    let mut output = MemSink::new(rt.alloc(), 65_536, Vec::from_slice(rt.alloc(), &[8])?);
-    let mut notes = MemSink::new(rt.alloc(), 64, Vec::new(rt.alloc()));
-    let status = show_by(rt.alloc(), &words, &mut input, &mut output, &mut notes);
-    assert_eq!(rt; status, Status::Done);
-    assert_eq!(rt; output.written().len(), 10_005);
-    assert!(rt; output.written().starts_with(b"# T\naaa") && output.written().ends_with(b"aaa\n"));
+    let bytes = typed(rt.alloc(), 10_000)?;
+    let mut input = MemSource::new(bytes, 4096, Vec::new(rt.alloc()));
+    assert!(rt; writes_many_letters(rt.alloc(), &mut input, &[8])?);
     Ok(())
 }

@@ -1,29 +1,27 @@
 use super::frames::{BEHIND_A, S, stream};
-use super::taken::{Batch, File, bytes_of, has_bytes, room_for, sends};
-use super::{is_cut_off, words_of};
-use crate::{Status, run};
+use super::taken::{Batch, EMPTY, File, has_file, mem_file, room_for, sends, sure_file};
+use super::{is_cut_off, run_line, sink};
+use crate::Status;
 use outer_ports::{
     Disk, FileDisk, MemDisk, MemDock, MemSink, MemSource, MemWire, Sink, SureDisk, SureSink,
     SureWire, Wire,
 };
-use std::alloc::Global;
-use std::hash::{BuildHasherDefault, FoldHasher};
+use std::alloc::{AllocError, Global};
 use std::test::Fail;
 
 /// Runs on a file and a wire alone.
 fn run_on<N: Sink, H: Disk, W: Wire>(
     alloc: Global,
-    words: &[String],
+    words: &str,
     notes: &mut N,
     home: &mut H,
     wire: &mut W,
-) -> Status {
+) -> Result<Status, AllocError> {
     let mut input = MemSource::new(Vec::new(alloc), 1, Vec::new(alloc));
     let mut output = MemSink::new(alloc, 1, Vec::new(alloc));
     let mut guest = FileDisk::closed();
     let mut dock = MemDock::new(alloc, Vec::new(alloc), 1, Vec::new(alloc));
-    let hasher: BuildHasherDefault<FoldHasher> = BuildHasherDefault::default();
-    run(
+    run_line(
         alloc,
         words,
         &mut input,
@@ -33,7 +31,6 @@ fn run_on<N: Sink, H: Disk, W: Wire>(
         &mut guest,
         wire,
         &mut dock,
-        hasher,
     )
 }
 
@@ -124,47 +121,39 @@ const CASES: &[Case] = &[
         status: Status::BadFile,
         saved: &[],
     },
-    Case {
-        words: "sync F 65536 0",
-        home: (1, 16, &[]),
-        reply: &[S, b"\x55\0\0\0\x01"],
-        said: &[],
-        port: None,
-        line: "words not understood\n",
-        status: Status::Usage,
-        saved: &[],
-    },
-    Case {
-        words: "sync F 1 4294967296",
-        home: (1, 16, &[]),
-        reply: &[S, b"\x55\0\0\0\x01"],
-        said: &[],
-        port: None,
-        line: "words not understood\n",
-        status: Status::Usage,
-        saved: &[],
-    },
 ];
+
+/// The port and the cursor are numbers that are too great.
+const NOT_UNDERSTOOD: &[&str] = &["sync F 65536 0", "sync F 1 4294967296"];
 
 /// Whether the case comes to what is wanted of it, on sure objects with just the room that it needs.
 fn is_met(alloc: Global, case: &Case) -> Result<bool, Fail> {
-    let words = words_of(alloc, case.words)?;
     let room = room_for(alloc, case.saved)?;
-    let bytes = bytes_of(alloc, case.home, &[])?;
-    let wanted = bytes_of(alloc, case.home, case.saved)?;
+    let mut home = sure_file(alloc, case.home, room)?;
+    Ok(speaks_so(alloc, case, &mut home)? && has_file(alloc, &mut home, case.home, case.saved)?)
+}
+
+fn speaks_so(alloc: Global, case: &Case, home: &mut SureDisk) -> Result<bool, Fail> {
     let said = stream(alloc, case.said)?;
+    says_so(alloc, case, home, &said)
+}
+
+fn says_so(alloc: Global, case: &Case, home: &mut SureDisk, said: &[u8]) -> Result<bool, Fail> {
     let reply = stream(alloc, case.reply)?;
-    let mut notes = SureSink::new(alloc, 4096, 256)?;
-    let mut home = SureDisk::new(alloc, bytes, room)?;
     let mut wire = SureWire::new(alloc, reply, 3, said.len())?;
-    let status = run_on(alloc, &words, &mut notes, &mut home, &mut wire);
-    Ok(
-        status == case.status
-            && notes.written() == case.line.as_bytes()
-            && wire.said() == said.as_slice()
-            && wire.port() == case.port
-            && has_bytes(&mut home, &wanted),
-    )
+    let is_noted = notes_so(alloc, case, home, &mut wire)?;
+    Ok(is_noted && wire.said() == said && wire.port() == case.port)
+}
+
+fn notes_so(
+    alloc: Global,
+    case: &Case,
+    home: &mut SureDisk,
+    wire: &mut SureWire,
+) -> Result<bool, Fail> {
+    let mut notes = SureSink::new(alloc, 4096, 256)?;
+    let status = run_on(alloc, case.words, &mut notes, home, wire)?;
+    Ok(status == case.status && notes.written() == case.line.as_bytes())
 }
 
 #[test]
@@ -172,7 +161,7 @@ fn a_file_speaks_with_a_relay(rt: HostRuntime) -> Result<(), Fail> {
     for (reply, line, status, saved) in ASKED {
         let case = Case {
             words: "sync F 4000 0",
-            home: (1, 16, &[]),
+            home: EMPTY,
             reply,
             said: &[b"\x48\0\0\0\0\x44"],
             port: Some(4000),
@@ -185,30 +174,59 @@ fn a_file_speaks_with_a_relay(rt: HostRuntime) -> Result<(), Fail> {
     for case in CASES {
         assert!(rt; is_met(rt.alloc(), case)?, "{}", case.line);
     }
+    for words in NOT_UNDERSTOOD {
+        let case = Case {
+            words,
+            home: EMPTY,
+            reply: &[S, b"\x55\0\0\0\x01"],
+            said: &[],
+            port: None,
+            line: "words not understood\n",
+            status: Status::Usage,
+            saved: &[],
+        };
+        assert!(rt; is_met(rt.alloc(), &case)?, "{words}");
+    }
     Ok(())
 }
 
 const COUNTS: &[u8] = b"accepted 1, repeated 0, waiting 0, conflict 0, stray 0, full 0\ncursor 1\n";
 
-/// Runs where one call on the wire fails, and perhaps one on the notes. The answer is the status, whether the fault was
-/// noted as it should be, and whether the file is as it was.
+/// Runs on a file where calls on the notes fail. The answer is the status, and whether the fault was noted as it should be.
+fn tells(
+    alloc: Global,
+    notes_fail: &[u32],
+    home: &mut MemDisk,
+    wire: &mut MemWire,
+) -> Result<(Status, bool), Fail> {
+    let mut notes = sink(alloc, 64, notes_fail)?;
+    let status = run_on(alloc, "sync F 4000 0", &mut notes, home, wire)?;
+    Ok((status, is_cut_off(notes.written(), COUNTS)))
+}
+
+/// The same where calls on the wire fail too.
+fn tells_without(
+    alloc: Global,
+    wire_fails: &[u32],
+    notes_fail: &[u32],
+    home: &mut MemDisk,
+) -> Result<(Status, bool), Fail> {
+    let reply = stream(alloc, &[S, b"\x55\0\0\0\x01"])?;
+    let fails = Vec::from_slice(alloc, wire_fails)?;
+    let mut wire = MemWire::new(alloc, reply, 3, fails);
+    tells(alloc, notes_fail, home, &mut wire)
+}
+
+/// Runs where one call on the wire fails, or one on the notes. The answer is the status, whether the fault was noted as it
+/// should be, and whether the file is as it was.
 fn status_without(
     alloc: Global,
     wire_fails: &[u32],
     notes_fail: &[u32],
 ) -> Result<(Status, bool, bool), Fail> {
-    let words = words_of(alloc, "sync F 4000 0")?;
-    let notes_fail = Vec::from_slice(alloc, notes_fail)?;
-    let wire_fails = Vec::from_slice(alloc, wire_fails)?;
-    let empty = bytes_of(alloc, (1, 16, &[]), &[])?;
-    let bytes = empty.clone()?;
-    let reply = stream(alloc, &[S, b"\x55\0\0\0\x01"])?;
-    let mut notes = MemSink::new(alloc, 64, notes_fail);
-    let mut home = MemDisk::new(alloc, bytes, Vec::new(alloc));
-    let mut wire = MemWire::new(alloc, reply, 3, wire_fails);
-    let status = run_on(alloc, &words, &mut notes, &mut home, &mut wire);
-    let is_kept = has_bytes(&mut home, &empty);
-    Ok((status, is_cut_off(notes.written(), COUNTS), is_kept))
+    let mut home = mem_file(alloc, EMPTY, &[])?;
+    let (status, is_told) = tells_without(alloc, wire_fails, notes_fail, &mut home)?;
+    Ok((status, is_told, has_file(alloc, &mut home, EMPTY, &[])?))
 }
 
 /// A dial, two writes, and a read for each of the 19 bytes of the reply.
@@ -243,17 +261,9 @@ fn each_call_on_the_notes_of_an_exchange_may_fail(rt: HostRuntime) -> Result<(),
 /// Runs where one call on the file fails. The answer is the status, whether the fault was noted as it should be, and whether
 /// the file holds all that came, or nothing.
 fn left_without(alloc: Global, call: u32) -> Result<(Status, bool, (bool, bool)), Fail> {
-    let words = words_of(alloc, "sync F 4000 0")?;
-    let send = words_of(alloc, "send F")?;
-    let fails = Vec::from_slice(alloc, &[call])?;
-    let reply = stream(alloc, &[S, b"\x55\0\0\0\x01"])?;
-    let bytes = bytes_of(alloc, (1, 16, &[]), &[])?;
-    let mut notes = MemSink::new(alloc, 64, Vec::new(alloc));
-    let mut home = MemDisk::new(alloc, bytes, fails);
-    let mut wire = MemWire::new(alloc, reply, 19, Vec::new(alloc));
-    let status = run_on(alloc, &words, &mut notes, &mut home, &mut wire);
-    let is_told = is_cut_off(notes.written(), COUNTS);
-    Ok((status, is_told, sends(alloc, &send, S, &mut home)))
+    let mut home = mem_file(alloc, EMPTY, &[call])?;
+    let (status, is_told) = tells_without(alloc, &[], &[], &mut home)?;
+    Ok((status, is_told, sends(alloc, S, &mut home)?))
 }
 
 #[test]

@@ -1,9 +1,7 @@
 use super::frames::{BEHIND_A, CUT, IN_A, LOWER_A, LOWER_B, NOWHERE, OTHER_A, S, stream};
-use super::{is_cut_off, run_offline, words_of};
+use super::{has_bytes, is_cut_off, is_done, prints, run_offline, sink, source};
 use crate::Status;
-use outer_ports::{
-    Disk, FileDisk, MemDisk, MemSink, MemSource, Sink, SureDisk, SureSink, SureSource,
-};
+use outer_ports::{Disk, MemDisk, MemSink, MemSource, SureDisk, SureSink, SureSource};
 use std::alloc::{AllocError, Global};
 use std::test::Fail;
 
@@ -49,13 +47,26 @@ fn push_batch(alloc: Global, bytes: &mut Vec<u8>, batch: Batch) -> Result<(), Al
     bytes.extend_from_slice(&frames)
 }
 
-/// Whether the file has these bytes.
-pub(super) fn has_bytes<H: Disk>(disk: &mut H, wanted: &[u8]) -> bool {
-    let mut buf = [0; 512];
-    match disk.read_at(0, &mut buf) {
-        Ok(count) => &buf[..count] == wanted,
-        Err(_) => false,
-    }
+pub(super) fn mem_file(alloc: Global, file: File, fails: &[u32]) -> Result<MemDisk, AllocError> {
+    let bytes = bytes_of(alloc, file, &[])?;
+    let fails = Vec::from_slice(alloc, fails)?;
+    Ok(MemDisk::new(alloc, bytes, fails))
+}
+
+pub(super) fn sure_file(alloc: Global, file: File, room: usize) -> Result<SureDisk, Fail> {
+    let bytes = bytes_of(alloc, file, &[])?;
+    Ok(SureDisk::new(alloc, bytes, room)?)
+}
+
+/// Whether the disk has the bytes of the file.
+pub(super) fn has_file<H: Disk>(
+    alloc: Global,
+    disk: &mut H,
+    file: File,
+    more: Batch,
+) -> Result<bool, Fail> {
+    let wanted = bytes_of(alloc, file, more)?;
+    Ok(has_bytes(disk, &wanted))
 }
 
 /// The room that a file needs to gain a batch.
@@ -69,6 +80,7 @@ pub(super) fn room_for(alloc: Global, batch: Batch) -> Result<usize, AllocError>
 }
 
 /// A run that takes frames in, from the input or from another file, and what is wanted of it.
+#[derive(Clone, Copy)]
 struct Case {
     words: &'static str,
     home: File,
@@ -80,7 +92,7 @@ struct Case {
     saved: Batch,
 }
 
-const EMPTY: File = (1, 16, &[]);
+pub(super) const EMPTY: File = (1, 16, &[]);
 
 const CASES: &[Case] = &[
     Case {
@@ -112,48 +124,12 @@ const CASES: &[Case] = &[
     },
     Case {
         words: "take F",
-        home: EMPTY,
-        guest: EMPTY,
-        input: &[S, LAST],
-        line: "accepted 2, repeated 0, waiting 0, conflict 0, stray 0, full 0\n",
-        status: Status::Done,
-        saved: &[S, LAST],
-    },
-    Case {
-        words: "take F",
-        home: EMPTY,
-        guest: EMPTY,
-        input: &[S, BEHIND_A],
-        line: "accepted 1, repeated 0, waiting 1, conflict 0, stray 0, full 0\n",
-        status: Status::Partial,
-        saved: &[S, BEHIND_A],
-    },
-    Case {
-        words: "take F",
-        home: EMPTY,
-        guest: EMPTY,
-        input: &[BEHIND_A, LOWER_A, S],
-        line: "accepted 3, repeated 0, waiting 0, conflict 0, stray 0, full 0\n",
-        status: Status::Done,
-        saved: &[BEHIND_A, LOWER_A, S],
-    },
-    Case {
-        words: "take F",
         home: (1, 16, &[&[S, LOWER_A]]),
         guest: EMPTY,
         input: &[S, OTHER_A],
         line: "accepted 0, repeated 1, waiting 0, conflict 1, stray 0, full 0\n",
         status: Status::Partial,
         saved: &[],
-    },
-    Case {
-        words: "take F",
-        home: EMPTY,
-        guest: EMPTY,
-        input: &[IN_A, S, LOWER_A],
-        line: "accepted 2, repeated 0, waiting 0, conflict 0, stray 1, full 0\n",
-        status: Status::Partial,
-        saved: &[IN_A, S, LOWER_A],
     },
     Case {
         words: "take F",
@@ -166,38 +142,11 @@ const CASES: &[Case] = &[
     },
     Case {
         words: "take F",
-        home: EMPTY,
-        guest: EMPTY,
-        input: &[],
-        line: "accepted 0, repeated 0, waiting 0, conflict 0, stray 0, full 0\n",
-        status: Status::Done,
-        saved: &[],
-    },
-    Case {
-        words: "take F",
         home: (1, 16, &[&[BEHIND_A]]),
         guest: EMPTY,
         input: &[],
         line: "accepted 0, repeated 0, waiting 1, conflict 0, stray 0, full 0\n",
         status: Status::Partial,
-        saved: &[],
-    },
-    Case {
-        words: "take F",
-        home: EMPTY,
-        guest: EMPTY,
-        input: &[S, NOWHERE],
-        line: "bad frame at byte 14\n",
-        status: Status::BadInput,
-        saved: &[],
-    },
-    Case {
-        words: "take F",
-        home: EMPTY,
-        guest: EMPTY,
-        input: &[S, CUT],
-        line: "cut short at byte 14\n",
-        status: Status::BadInput,
         saved: &[],
     },
     Case {
@@ -229,43 +178,107 @@ const CASES: &[Case] = &[
     },
 ];
 
+/// What comes to a new file, the line, the status, and what the file gains.
+type Taken = (Batch, &'static str, Status, Batch);
+
+const TAKEN: &[Taken] = &[
+    (
+        &[S, LAST],
+        "accepted 2, repeated 0, waiting 0, conflict 0, stray 0, full 0\n",
+        Status::Done,
+        &[S, LAST],
+    ),
+    (
+        &[S, BEHIND_A],
+        "accepted 1, repeated 0, waiting 1, conflict 0, stray 0, full 0\n",
+        Status::Partial,
+        &[S, BEHIND_A],
+    ),
+    (
+        &[BEHIND_A, LOWER_A, S],
+        "accepted 3, repeated 0, waiting 0, conflict 0, stray 0, full 0\n",
+        Status::Done,
+        &[BEHIND_A, LOWER_A, S],
+    ),
+    (
+        &[IN_A, S, LOWER_A],
+        "accepted 2, repeated 0, waiting 0, conflict 0, stray 1, full 0\n",
+        Status::Partial,
+        &[IN_A, S, LOWER_A],
+    ),
+    (
+        &[],
+        "accepted 0, repeated 0, waiting 0, conflict 0, stray 0, full 0\n",
+        Status::Done,
+        &[],
+    ),
+    (
+        &[S, NOWHERE],
+        "bad frame at byte 14\n",
+        Status::BadInput,
+        &[],
+    ),
+    (&[S, CUT], "cut short at byte 14\n", Status::BadInput, &[]),
+];
+
 /// Whether the case comes to what is wanted of it, on sure objects with just the room that it needs.
 fn is_met(alloc: Global, case: &Case) -> Result<bool, Fail> {
-    let words = words_of(alloc, case.words)?;
-    let frames = stream(alloc, case.input)?;
     let room = room_for(alloc, case.saved)?;
-    let wanted_home = bytes_of(alloc, case.home, case.saved)?;
-    let wanted_guest = bytes_of(alloc, case.guest, &[])?;
-    let home = bytes_of(alloc, case.home, &[])?;
-    let guest = bytes_of(alloc, case.guest, &[])?;
-    let mut home = SureDisk::new(alloc, home, room)?;
-    let mut guest = SureDisk::new(alloc, guest, 1)?;
+    let mut home = sure_file(alloc, case.home, room)?;
+    Ok(takes_so(alloc, case, &mut home)? && has_file(alloc, &mut home, case.home, case.saved)?)
+}
+
+fn takes_so(alloc: Global, case: &Case, home: &mut SureDisk) -> Result<bool, Fail> {
+    let mut guest = sure_file(alloc, case.guest, 1)?;
+    Ok(notes_so(alloc, case, home, &mut guest)? && has_file(alloc, &mut guest, case.guest, &[])?)
+}
+
+fn notes_so(
+    alloc: Global,
+    case: &Case,
+    home: &mut SureDisk,
+    guest: &mut SureDisk,
+) -> Result<bool, Fail> {
     let mut notes = SureSink::new(alloc, 4096, 256)?;
-    let status = run_surely(alloc, &words, frames, &mut notes, &mut home, &mut guest);
-    Ok(
-        status == case.status
-            && notes.written() == case.line.as_bytes()
-            && has_bytes(&mut home, &wanted_home)
-            && has_bytes(&mut guest, &wanted_guest),
-    )
+    let status = run_surely(alloc, case, &mut notes, home, guest)?;
+    Ok(status == case.status && notes.written() == case.line.as_bytes())
 }
 
 /// Runs on an input that is sure, and on an output that has no room.
-fn run_surely<N: Sink, H: Disk, G: Disk>(
+fn run_surely(
     alloc: Global,
-    words: &[String],
-    frames: Vec<u8>,
-    notes: &mut N,
-    home: &mut H,
-    guest: &mut G,
-) -> Status {
-    let mut input = SureSource::new(frames, 7);
+    case: &Case,
+    notes: &mut SureSink,
+    home: &mut SureDisk,
+    guest: &mut SureDisk,
+) -> Result<Status, AllocError> {
+    let mut input = SureSource::new(stream(alloc, case.input)?, 7);
     let mut output = MemSink::new(alloc, 1, Vec::new(alloc));
-    run_offline(alloc, words, &mut input, &mut output, notes, home, guest)
+    run_offline(
+        alloc,
+        case.words,
+        &mut input,
+        &mut output,
+        notes,
+        home,
+        guest,
+    )
 }
 
 #[test]
 fn frames_are_taken_into_a_file(rt: HostRuntime) -> Result<(), Fail> {
+    for (input, line, status, saved) in TAKEN {
+        let case = Case {
+            words: "take F",
+            home: EMPTY,
+            guest: EMPTY,
+            input,
+            line,
+            status: *status,
+            saved,
+        };
+        assert!(rt; is_met(rt.alloc(), &case)?, "{line}");
+    }
     for case in CASES {
         assert!(rt; is_met(rt.alloc(), case)?, "{}", case.line);
     }
@@ -273,34 +286,21 @@ fn frames_are_taken_into_a_file(rt: HostRuntime) -> Result<(), Fail> {
 }
 
 /// Whether a file of these batches prints the text.
-fn prints(alloc: Global, file: File, text: &[u8]) -> Result<bool, Fail> {
-    let words = words_of(alloc, "print F")?;
-    let bytes = bytes_of(alloc, file, &[])?;
-    let mut input = MemSource::new(Vec::new(alloc), 1, Vec::new(alloc));
-    let mut output = MemSink::new(alloc, 4096, Vec::new(alloc));
-    let mut notes = MemSink::new(alloc, 64, Vec::new(alloc));
-    let mut home = MemDisk::new(alloc, bytes, Vec::new(alloc));
-    let mut guest = FileDisk::closed();
-    let status = run_offline(
-        alloc,
-        &words,
-        &mut input,
-        &mut output,
-        &mut notes,
-        &mut home,
-        &mut guest,
-    );
-    Ok(status == Status::Done && output.written() == text)
+fn prints_file(alloc: Global, file: File, text: &[u8]) -> Result<bool, Fail> {
+    let mut home = mem_file(alloc, file, &[])?;
+    prints(alloc, &mut home, text)
 }
+
+const PRINTED: &[(File, &[u8])] = &[
+    ((2, 16, &[MADE]), b"# T\nAC\n"),
+    ((1, 16, &[&[S, BEHIND_A]]), b"# T\n\n"),
+    ((1, 16, &[&[IN_A, S, LOWER_A]]), b"# T\na\n"),
+];
 
 #[test]
 fn what_was_saved_is_printed(rt: HostRuntime) -> Result<(), Fail> {
-    for (file, text) in [
-        ((2, 16, [MADE].as_slice()), b"# T\nAC\n".as_slice()),
-        ((1, 16, &[&[S, BEHIND_A]]), b"# T\n\n"),
-        ((1, 16, &[&[IN_A, S, LOWER_A]]), b"# T\na\n"),
-    ] {
-        assert!(rt; prints(rt.alloc(), file, text)?);
+    for (file, text) in PRINTED {
+        assert!(rt; prints_file(rt.alloc(), *file, text)?);
     }
     Ok(())
 }
@@ -314,12 +314,21 @@ enum Object {
     Guest,
 }
 
-/// The call, if it is one on this object.
-fn listed(alloc: Global, is: bool, call: u32) -> Result<Vec<u32>, AllocError> {
-    if is {
-        Vec::from_slice(alloc, &[call])
-    } else {
-        Ok(Vec::new(alloc))
+/// A call on an object that fails, counted from 0.
+#[derive(Clone, Copy)]
+struct Failing {
+    object: Object,
+    call: [u32; 1],
+}
+
+impl Failing {
+    /// The calls of this object that fail.
+    fn on(&self, object: Object) -> &[u32] {
+        if self.object == object {
+            &self.call
+        } else {
+            &[]
+        }
     }
 }
 
@@ -354,102 +363,81 @@ impl Left {
 /// Whether a file sends these frames, and whether it sends nothing.
 pub(super) fn sends(
     alloc: Global,
-    words: &[String],
     frames: &[u8],
     home: &mut MemDisk,
-) -> (bool, bool) {
-    let mut input = MemSource::new(Vec::new(alloc), 1, Vec::new(alloc));
+) -> Result<(bool, bool), Fail> {
     let mut output = MemSink::new(alloc, 64, Vec::new(alloc));
-    let mut notes = MemSink::new(alloc, 64, Vec::new(alloc));
-    let mut guest = FileDisk::closed();
-    let status = run_offline(
-        alloc,
-        words,
-        &mut input,
-        &mut output,
-        &mut notes,
-        home,
-        &mut guest,
-    );
-    let is_sent = status == Status::Done && notes.written().is_empty();
-    (
+    let is_sent = is_done(alloc, "send F", &mut output, home)?;
+    Ok((
         is_sent && output.written() == frames,
         is_sent && output.written().is_empty(),
-    )
+    ))
+}
+
+/// What the file holds behind a run.
+fn left_in(alloc: Global, status: Status, is_told: bool, home: &mut MemDisk) -> Result<Left, Fail> {
+    let frames = stream(alloc, COMING)?;
+    let (is_saved, is_empty) = sends(alloc, &frames, home)?;
+    Ok(Left {
+        status,
+        is_told,
+        is_saved,
+        is_empty,
+    })
 }
 
 /// Runs where one call on an object fails.
-fn left_without(alloc: Global, words: &str, object: Object, call: u32) -> Result<Left, Fail> {
-    let words = words_of(alloc, words)?;
-    let send = words_of(alloc, "send F")?;
-    let frames = stream(alloc, COMING)?;
-    let files = Files {
-        home: bytes_of(alloc, EMPTY, &[])?,
-        guest: bytes_of(alloc, (2, 16, &[COMING]), &[])?,
-    };
-    let fails = Fails {
-        input: listed(alloc, object == Object::Input, call)?,
-        notes: listed(alloc, object == Object::Notes, call)?,
-        home: listed(alloc, object == Object::Home, call)?,
-        guest: listed(alloc, object == Object::Guest, call)?,
-    };
-    let coming = frames.clone()?;
-    Ok(left_by(alloc, &words, &send, coming, files, fails, &frames))
+fn left_without(alloc: Global, words: &str, failing: Failing) -> Result<Left, Fail> {
+    let mut home = mem_file(alloc, EMPTY, failing.on(Object::Home))?;
+    let (status, is_told) = tells_without(alloc, words, &failing, &mut home)?;
+    left_in(alloc, status, is_told, &mut home)
 }
 
-/// The bytes of the two files.
-#[derive(Drop)]
-struct Files {
-    home: Vec<u8>,
-    guest: Vec<u8>,
-}
-
-/// The calls of each object that fail.
-#[derive(Drop)]
-struct Fails {
-    input: Vec<u32>,
-    notes: Vec<u32>,
-    home: Vec<u32>,
-    guest: Vec<u32>,
-}
-
-/// The same, with all that it needs at hand.
-fn left_by(
+/// The answer is the status, and whether the fault was noted as it should be.
+fn tells_without(
     alloc: Global,
-    words: &[String],
-    send: &[String],
-    coming: Vec<u8>,
-    files: Files,
-    fails: Fails,
-    frames: &[u8],
-) -> Left {
-    let mut input = MemSource::new(coming, 22, fails.input);
+    words: &str,
+    failing: &Failing,
+    home: &mut MemDisk,
+) -> Result<(Status, bool), Fail> {
+    let mut notes = sink(alloc, 64, failing.on(Object::Notes))?;
+    let status = takes(alloc, words, failing, &mut notes, home)?;
+    Ok((status, is_cut_off(notes.written(), COUNTS)))
+}
+
+fn takes(
+    alloc: Global,
+    words: &str,
+    failing: &Failing,
+    notes: &mut MemSink,
+    home: &mut MemDisk,
+) -> Result<Status, Fail> {
+    let coming = stream(alloc, COMING)?;
+    let mut input = source(alloc, &coming, 22, failing.on(Object::Input))?;
+    takes_from(alloc, words, failing, &mut input, notes, home)
+}
+
+fn takes_from(
+    alloc: Global,
+    words: &str,
+    failing: &Failing,
+    input: &mut MemSource,
+    notes: &mut MemSink,
+    home: &mut MemDisk,
+) -> Result<Status, Fail> {
+    let mut guest = mem_file(alloc, (2, 16, &[COMING]), failing.on(Object::Guest))?;
     let mut output = MemSink::new(alloc, 1, Vec::new(alloc));
-    let mut notes = MemSink::new(alloc, 64, fails.notes);
-    let mut home = MemDisk::new(alloc, files.home, fails.home);
-    let mut guest = MemDisk::new(alloc, files.guest, fails.guest);
-    let status = run_offline(
-        alloc,
-        words,
-        &mut input,
-        &mut output,
-        &mut notes,
-        &mut home,
-        &mut guest,
-    );
-    let (is_saved, is_empty) = sends(alloc, send, frames, &mut home);
-    Left {
-        status,
-        is_told: is_cut_off(notes.written(), COUNTS),
-        is_saved,
-        is_empty,
-    }
+    Ok(run_offline(alloc, words, input, &mut output, notes, home, &mut guest)?)
 }
 
 /// How many calls on the object there are: each of them may fail, and the next one is not there.
 fn failing_calls(alloc: Global, words: &str, object: Object) -> Result<Option<u32>, Fail> {
     for call in 0..64 {
-        let left = left_without(alloc, words, object, call)?;
+        let failing = Failing {
+            object,
+            call: [call],
+        };
+        let left = left_without(alloc, words, failing)?;
         if left.status == Status::Partial {
             return Ok(Some(call));
         }
@@ -460,21 +448,21 @@ fn failing_calls(alloc: Global, words: &str, object: Object) -> Result<Option<u3
     Ok(None)
 }
 
+/// The words, an object, and the least number of calls on it.
+const CALLED: &[(&str, Object, u32)] = &[
+    ("take F", Object::Input, 3),
+    ("take F", Object::Notes, 13),
+    ("take F", Object::Home, 7),
+    ("merge F G", Object::Guest, 4),
+    ("merge F G", Object::Home, 7),
+    ("merge F G", Object::Notes, 13),
+];
+
 #[test]
 fn each_call_may_fail_while_frames_are_taken(rt: HostRuntime) -> Result<(), Fail> {
-    for (words, object, least) in [
-        ("take F", Object::Input, 3),
-        ("take F", Object::Notes, 13),
-        ("take F", Object::Home, 7),
-        ("merge F G", Object::Guest, 4),
-        ("merge F G", Object::Home, 7),
-        ("merge F G", Object::Notes, 13),
-    ] {
-        let calls = failing_calls(rt.alloc(), words, object)?;
-        assert!(rt;
-            calls.is_some_and(|calls| calls >= least),
-            "{words}, {object:?}: {calls:?}"
-        );
+    for (words, object, least) in CALLED {
+        let calls = failing_calls(rt.alloc(), words, *object)?;
+        assert!(rt; calls >= Some(*least), "{words}, {object:?}: {calls:?}");
     }
     Ok(())
 }
