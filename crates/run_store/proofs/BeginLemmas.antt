@@ -1,35 +1,57 @@
 -- A new cell in a run of its own.
-use Rattle.std.proofs.Common.{◌≡◌, ℕ, suc, ◌+◌, ◌≤◌, List, [], ◌∷◌, ◌++◌, ap, append_assoc, arith, length, length-append, refl, subst, sym, take, ◌-◌, ◌∙◌}
+use Rattle.std.proofs.Common.{◌≡◌, ℕ, ◌+◌, ◌≤◌, List, [], ◌∷◌, ◌++◌, ap, append-nil, append_assoc, arith, length, length-append, refl, subst, sym, take, ◌-◌, ◌∙◌}
 use Rattle.std.specs.Prelude.{Some}
 use Rattle.std.specs.List.{All, insert}
-use Rattle.std.proofs.lemmas.List.Elements.{All-cons, All-head, All-nil, All-tail}
+use Rattle.std.proofs.lemmas.List.Elements.{All-append, All-cons}
 use Rattle.std.proofs.Math.Seq.{take-append_seam}
 use Rattle.fugue_ids.specs.Identifiers.{Identifier}
-use Rattle.fugue_ids.specs.Listed.{index_of}
 use Rattle.fugue_ids.proofs.ListLemmas.{all_before, all_behind}
 use Rattle.node_rope.specs.Beside.{placed_after, placed_before}
 use Rattle.node_rope.specs.Items.{value_under}
-use Rattle.run_store.specs.Cells.{ids}
-use Rattle.run_store.specs.Growth.{AreGrown, IsNew, inserted_before, inserted_behind, last_id}
-use Rattle.run_store.specs.Heads.{lettered, typed}
-use Rattle.run_store.specs.Runs.{AreRuns, IsRun, all_cells, cells_in, cells_of, first_of}
+use Rattle.run_store.specs.Beginning.{CanBegin, begun, placed_at}
+use Rattle.run_store.specs.Growth.{AreGrown, IsNew}
+use Rattle.run_store.specs.Heads.{lettered}
+use Rattle.run_store.specs.Runs.{AreRuns, IsRun, all_cells, cells_in, cells_of}
+use Rattle.run_store.specs.declared.beginning.Beginning.{Beginning}
+use Rattle.run_store.specs.declared.beginning.Beginning.TheVariants.{Before, Behind, First}
 use Rattle.run_store.specs.declared.head.Head.{Head}
 use Rattle.run_store.specs.declared.run.Run.{Run}
 use Rattle.run_store.specs.declared.runs.Runs.{Runs}
-use Rattle.run_store.proofs.GrowLemmas.{grown-cells, grown-letters, grown-more, grown-runs}
+use Rattle.run_store.proofs.CellLemmas.{insert-at}
+use Rattle.run_store.proofs.EitherLemmas.{value-of}
+use Rattle.run_store.proofs.GrowLemmas.{grown-cells, grown-more, grown-runs}
 use Rattle.run_store.proofs.InsertLemmas.{alone-cells, alone-run, joined-sound}
-use Rattle.run_store.proofs.JoinLemmas.{before-run, before-within, behind-run, behind-within}
-use Rattle.run_store.proofs.PartLemmas.{all-between}
+use Rattle.run_store.proofs.JoinLemmas.{before-run, behind-run}
 use Rattle.run_store.proofs.RopeLemmas.{after-at, before-at, found}
 use Rattle.run_store.proofs.RunsLemmas.{Item, cells-append, few-runs, kept-run, keys-apart}
 
+-- without cells there is no run
+pub no-runs : (r : Runs) → AreRuns r → cells_in r ≡ [] → r.rope ≡ []
+no-runs r s none = empty r.rope (omega (arith, few-runs r s, s.counted, ap length none))
+  where
+    empty : (xs : List Item) → length xs ≤ 0 → xs ≡ []
+    empty [] l = refl
+    empty (x ∷ xs) l = absurd (omega (arith, l))
+
 module _ (r : Runs) (s : AreRuns r) (h : Head) (ch : ℕ) (new : IsNew (cells_in r) h) (alone : Run)
     (e : alone ≡ record { id = h.id; left = h.left; right = h.right; hidden = h.hidden; key = h.key; stretch = length r.letters; start = 0; len = 1 }) where
-  abbrev pub new_letters : List (List ℕ)
+  abbrev new_letters : List (List ℕ)
   new_letters = r.letters ++ (ch ∷ []) ∷ []
 
-  abbrev pub new_item : Item
+  abbrev new_item : Item
   new_item = (h.id, alone)
+
+  abbrev with_rope : List Item → Runs
+  with_rope rope = record { rope = rope; letters = new_letters; count = r.count + 1 }
+
+  abbrev pub begun_runs : Beginning → Runs
+  begun_runs at = with_rope (placed_at at new_item r.rope)
+
+  -- what the runs are once the new one begins there
+  pub record IsBegun (at : Beginning) : Type 0 where
+    pub sound : AreRuns (begun_runs at)
+    pub cells : cells_in (begun_runs at) ≡ begun at (lettered h ch) (cells_in r)
+    pub longer : length (placed_at at new_item r.rope) ≡ length r.rope + 1
 
   abbrev P : Item → Type 0
   P = IsRun r.letters r.count
@@ -46,134 +68,74 @@ module _ (r : Runs) (s : AreRuns r) (h : Head) (ch : ℕ) (new : IsNew (cells_in
   new-run : Q new_item
   new-run = subst (λ (i : Identifier). Q (i, alone)) (ap (λ (z : Run). z.id) e) (alone-run r s h ch new r.letters alone e)
 
-  new-cells : cells_of new_letters alone ≡ lettered h ch ∷ []
-  new-cells = alone-cells r s h ch new r.letters alone e
-
   same-cells : (xs : List Item) → All P xs → all_cells new_letters xs ≡ all_cells r.letters xs
   same-cells = grown-cells r.letters new_letters g r.count (r.count + 1) more
 
   same-runs : (xs : List Item) → All P xs → All Q xs
   same-runs = grown-runs r.letters new_letters g r.count (r.count + 1) more
 
-  -- the first cell
-  abbrev pub first_runs : Runs
-  first_runs = record { rope = new_item ∷ []; letters = new_letters; count = r.count + 1 }
+  -- the new run between the others
+  module _ (front back : List Item) (is : r.rope ≡ front ++ back) where
+    abbrev between : List Item
+    between = front ++ new_item ∷ back
 
-  module _ (none : cells_in r ≡ []) where
-    pub no-rope : r.rope ≡ []
-    no-rope = empty r.rope (omega (arith, few-runs r s, s.counted, ap length none))
-      where
-        empty : (xs : List Item) → length xs ≤ 0 → xs ≡ []
-        empty [] l = refl
-        empty (x ∷ xs) l = absurd (omega (arith, l))
+    before : All P front
+    before = all_before P front back (subst (All P) is s.each)
 
-    first-is : cells_in first_runs ≡ lettered h ch ∷ []
-    first-is = ap (λ cs. cs ++ []) new-cells
+    behind : All P back
+    behind = all_behind P front back (subst (All P) is s.each)
 
-    pub first-cells : cells_in first_runs ≡ lettered h ch ∷ []
-    first-cells = first-is
+    between-cells : all_cells new_letters between ≡ all_cells r.letters front ++ lettered h ch ∷ all_cells r.letters back
+    between-cells =
+        cells-append new_letters front (new_item ∷ back)
+        ∙ (λ i. same-cells front before i ++ (alone-cells r s h ch new r.letters alone e i ++ same-cells back behind i))
 
-    pub first-sound : AreRuns first_runs
-    first-sound =
-        joined-sound r s h ch new first_runs 0 (omega arith) (All-cons Q new_item [] new-run (All-nil Q))
-        (first-is ∙ ap (λ cs. insert cs 0 (lettered h ch)) (sym none)) refl
+    between-sound : AreRuns (with_rope between)
+    between-sound =
+        let k = length (all_cells r.letters front) in
+        let old : cells_in r ≡ all_cells r.letters front ++ all_cells r.letters back = ap (all_cells r.letters) is ∙ cells-append r.letters front back in
+        joined-sound r s h ch new (with_rope between) k (omega (arith, ap length old, length-append (all_cells r.letters front) (all_cells r.letters back)))
+        (All-append Q front (new_item ∷ back) (same-runs front before) (All-cons Q new_item back new-run (same-runs back behind)))
+        (between-cells ∙ sym (insert-at (all_cells r.letters front) (lettered h ch) (all_cells r.letters back)) ∙ ap (λ cs. insert cs k (lettered h ch)) (sym old)) refl
 
-    pub first-length : length first_runs.rope ≡ length r.rope + 1
-    first-length = omega (arith, ap length no-rope)
+    begun-between : (at : Beginning) → placed_at at new_item r.rope ≡ between
+        → all_cells r.letters front ++ lettered h ch ∷ all_cells r.letters back ≡ begun at (lettered h ch) (cells_in r) → IsBegun at
+    begun-between at put cells = record {
+      sound = subst (λ xs. AreRuns (with_rope xs)) (sym put) between-sound;
+      cells = ap (all_cells new_letters) put ∙ between-cells ∙ cells;
+      longer = omega (arith, ap length put, ap length is, length-append front back, length-append front (new_item ∷ back));
+    }
 
+  -- the new run beside another one
   module _ (run : Run) (v : value_under run.id r.rope ≡ Some run) where
     this : P (run.id, run)
     this = kept-run r s run.id run v
 
-    same-run : cells_of new_letters run ≡ cells_of r.letters run
-    same-run = ap (typed (first_of run)) (grown-letters r.letters new_letters g r.count (r.count + 1) more (run.id, run) this)
-
-    abbrev pub behind_runs : Runs
-    behind_runs = record { rope = placed_after run.id new_item r.rope; letters = new_letters; count = r.count + 1 }
-
-    abbrev pub before_runs : Runs
-    before_runs = record { rope = placed_before run.id new_item r.rope; letters = new_letters; count = r.count + 1 }
-
-    module _ (front back : List Item) (is : r.rope ≡ front ++ (run.id, run) ∷ back) where
-      runs : All P (front ++ (run.id, run) ∷ back)
-      runs = subst (All P) is s.each
-
-      front-cells : all_cells new_letters front ≡ all_cells r.letters front
-      front-cells = same-cells front (all_before P front ((run.id, run) ∷ back) runs)
-
-      back-cells : all_cells new_letters back ≡ all_cells r.letters back
-      back-cells = same-cells back (All-tail P (run.id, run) back (all_behind P front ((run.id, run) ∷ back) runs))
-
-      behind-put : placed_after run.id new_item r.rope ≡ front ++ (run.id, run) ∷ new_item ∷ back
-      behind-put =
-          let k = keys-apart r s front run 0 back is this.some in
-          ap (placed_after run.id new_item) is ∙ after-at run.id run new_item front back k.0 k.1
-
-      before-put : placed_before run.id new_item r.rope ≡ front ++ new_item ∷ (run.id, run) ∷ back
-      before-put =
-          let k = keys-apart r s front run 0 back is this.some in
-          ap (placed_before run.id new_item) is ∙ before-at run.id run new_item front back k.0 k.1
-
-      behind-is : cells_in behind_runs ≡ inserted_behind (last_id run) (lettered h ch) (cells_in r)
-      behind-is =
-          ap (all_cells new_letters) behind-put
-          ∙ cells-append new_letters front ((run.id, run) ∷ new_item ∷ back)
-          ∙ (λ i. front-cells i ++ (same-run i ++ (new-cells i ++ back-cells i)))
-          ∙ sym (append_assoc (all_cells r.letters front) (cells_of r.letters run) (lettered h ch ∷ all_cells r.letters back))
-          ∙ behind-run r s run front back is this (lettered h ch)
-
-      before-is : cells_in before_runs ≡ inserted_before run.id (lettered h ch) (cells_in r)
-      before-is =
-          ap (all_cells new_letters) before-put
-          ∙ cells-append new_letters front (new_item ∷ (run.id, run) ∷ back)
-          ∙ (λ i. front-cells i ++ (new-cells i ++ (same-run i ++ back-cells i)))
-          ∙ before-run r s run front back is this (lettered h ch)
-
-      now-runs : All Q (front ++ (run.id, run) ∷ back)
-      now-runs = same-runs (front ++ (run.id, run) ∷ back) runs
-
-      this-now : Q (run.id, run)
-      this-now = All-head Q (run.id, run) back (all_behind Q front ((run.id, run) ∷ back) now-runs)
-
-      behind-each : All Q (placed_after run.id new_item r.rope)
-      behind-each =
-          subst (All Q) (sym behind-put)
-          (all-between Q front (run.id, run) ((run.id, run) ∷ new_item ∷ []) back now-runs (All-cons Q (run.id, run) (new_item ∷ []) this-now (All-cons Q new_item [] new-run (All-nil Q))))
-
-      before-each : All Q (placed_before run.id new_item r.rope)
-      before-each =
-          subst (All Q) (sym before-put)
-          (all-between Q front (run.id, run) (new_item ∷ (run.id, run) ∷ []) back now-runs (All-cons Q new_item ((run.id, run) ∷ []) new-run (All-cons Q (run.id, run) [] this-now (All-nil Q))))
-
-      behind-longer : length (placed_after run.id new_item r.rope) ≡ length r.rope + 1
-      behind-longer =
-          omega (arith, ap length behind-put, ap length is, length-append front ((run.id, run) ∷ back), length-append front ((run.id, run) ∷ new_item ∷ back))
-
-      before-longer : length (placed_before run.id new_item r.rope) ≡ length r.rope + 1
-      before-longer =
-          omega (arith, ap length before-put, ap length is, length-append front ((run.id, run) ∷ back), length-append front (new_item ∷ (run.id, run) ∷ back))
-
-    pub behind-cells : cells_in behind_runs ≡ inserted_behind (last_id run) (lettered h ch) (cells_in r)
-    behind-cells = let p = found run.id run r.rope v in behind-is p.front p.back p.is
-
-    pub before-cells : cells_in before_runs ≡ inserted_before run.id (lettered h ch) (cells_in r)
-    before-cells = let p = found run.id run r.rope v in before-is p.front p.back p.is
-
-    pub behind-sound : AreRuns behind_runs
-    behind-sound =
+    begun-before : IsBegun (Before run.id)
+    begun-before =
         let p = found run.id run r.rope v in
-        joined-sound r s h ch new behind_runs (suc (index_of (ids (cells_in r)) (last_id run))) (behind-within r s run p.front p.back p.is this) (behind-each p.front p.back p.is) behind-cells refl
+        let k = keys-apart r s p.front run 0 p.back p.is this.some in
+        begun-between p.front ((run.id, run) ∷ p.back) p.is (Before run.id)
+        (ap (placed_before run.id new_item) p.is ∙ before-at run.id run new_item p.front p.back k.0 k.1)
+        (before-run r s run p.front p.back p.is this (lettered h ch))
 
-    pub before-sound : AreRuns before_runs
-    before-sound =
+    begun-behind : IsBegun (Behind run)
+    begun-behind =
         let p = found run.id run r.rope v in
-        joined-sound r s h ch new before_runs (index_of (ids (cells_in r)) run.id) (before-within r s run p.front p.back p.is this) (before-each p.front p.back p.is) before-cells refl
+        let k = keys-apart r s p.front run 0 p.back p.is this.some in
+        let x : List Item = (run.id, run) ∷ [] in
+        begun-between (p.front ++ x) p.back (p.is ∙ sym (append_assoc p.front x p.back)) (Behind run)
+        (ap (placed_after run.id new_item) p.is ∙ after-at run.id run new_item p.front p.back k.0 k.1 ∙ sym (append_assoc p.front x (new_item ∷ p.back)))
+        (ap (λ cs. cs ++ lettered h ch ∷ all_cells r.letters p.back) (cells-append r.letters p.front x ∙ ap (λ cs. all_cells r.letters p.front ++ cs) (append-nil (cells_of r.letters run)))
+        ∙ behind-run r s run p.front p.back p.is this (lettered h ch))
 
-    pub behind-length : length behind_runs.rope ≡ length r.rope + 1
-    behind-length = let p = found run.id run r.rope v in behind-longer p.front p.back p.is
-
-    pub before-length : length before_runs.rope ≡ length r.rope + 1
-    before-length = let p = found run.id run r.rope v in before-longer p.front p.back p.is
+  pub is-begun : (at : Beginning) → CanBegin at r.rope → IsBegun at
+  is-begun First none = begun-between [] [] none First refl refl
+  is-begun (Before key) held =
+      let w = value-of (value_under key r.rope) held in
+      let n : key ≡ w.0.id = (kept-run r s key w.0 w.1).named in
+      subst (λ k. IsBegun (Before k)) (sym n) (begun-before w.0 (ap (λ k. value_under k r.rope) (sym n) ∙ w.1))
+  is-begun (Behind run) v = begun-behind run v
 
 -- a stretch that is taken back
 pub taken-back : {X : Type 0} (xs : List X) (x : X) → take (length (xs ++ x ∷ []) - 1) (xs ++ x ∷ []) ≡ xs

@@ -1,6 +1,6 @@
 -- A run that is cut in two.
 use Rattle.std.proofs.Common.{◌≡◌, ◌≢◌, ℕ, ◌+◌, ◌-◌, ◌<◌, ◌^◌, false, List, [], ◌∷◌, ◌++◌, ap, append_assoc, arith, length, length-append, refl, subst, sym, take, drop, ◌∙◌}
-use Rattle.std.specs.Prelude.{None, Some, slice_index_or}
+use Rattle.std.specs.Prelude.{None, Some, Result, OnErr, OnOk, slice_index_or}
 use Rattle.std.specs.List.{All, AllPairs}
 use Rattle.std.proofs.lemmas.List.Elements.{All-cons, All-nil}
 use Rattle.fugue_ids.specs.Identifiers.{Identifier, id_eq}
@@ -11,8 +11,10 @@ use Rattle.node_rope.specs.Items.{value_under}
 use Rattle.run_store.specs.Cells.{ids}
 use Rattle.run_store.specs.Heads.{head_behind, typed}
 use Rattle.run_store.specs.Runs.{AreRuns, IsRun, all_cells, cells_in, cells_of, first_of, parted, run_from, run_to}
+use Rattle.run_store.specs.Stored.{IsRaised}
 use Rattle.run_store.specs.declared.run.Run.{Run}
 use Rattle.run_store.specs.declared.runs.Runs.{Runs}
+use Rattle.run_store.proofs.EitherLemmas.{either, kept-raised, one-raised, where-ok}
 use Rattle.run_store.proofs.HeadLemmas.{behind-depth, behind-forest, behind-id, behind-other, typed-append}
 use Rattle.run_store.proofs.PartLemmas.{all-between, part-parts}
 use Rattle.run_store.proofs.RopeLemmas.{after-at, found, keys-append, put-at, value-at, value-none}
@@ -24,6 +26,14 @@ pub cell-fits : (r : Runs) → AreRuns r → (k : Identifier) (run : Run) (o : �
 cell-fits r s k run o v l =
     let x = kept-run r s k run v in
     (omega (arith, x.counters, l), omega (arith, x.depths, l, s.few), omega (arith, x.ends, l, s.few))
+
+-- what a cut leaves, by its answer: the same cells, and the two parts of the run where it was made
+pub record IsCut {T E : Type 0} (res : Result T E) (run : Run) (at : ℕ) (old new : Runs) : Type 0 where
+  pub sound : AreRuns new
+  pub cells : cells_in new ≡ cells_in old
+  pub front : OnOk res (value_under run.id new.rope ≡ Some (run_to at run))
+  pub rest : OnOk res (value_under (head_behind at (first_of run)).id new.rope ≡ Some (run_from at run))
+  pub raised : IsRaised 1 (length old.rope) (length new.rope)
 
 -- the parts of a run
 module _ (L : List (List ℕ)) (n : ℕ) (run : Run) (at : ℕ) (this : IsRun L n (run.id, run)) (behind : 0 < at) (before : at < run.len) where
@@ -157,6 +167,16 @@ module _ (r : Runs) (s : AreRuns r) (run : Run) (at : ℕ) (v : value_under run.
         length-append p.front ((run.id, run) ∷ p.back),
         length-append p.front ((run.id, run_to at run) ∷ (rest_id, run_from at run) ∷ p.back),
       )
+
+  pub is-cut : {T E : Type 0} (res : Result T E) (now : Runs) → OnOk res (now ≡ cut_runs) → OnErr res (now ≡ r) → IsCut res run at r now
+  is-cut res now ok err = record {
+    sound = either AreRuns res cut_runs r now ok err cut-sound s;
+    cells = either (λ (n : Runs). cells_in n ≡ cells_in r) res cut_runs r now ok err cut-cells refl;
+    front = where-ok (λ (n : Runs). value_under run.id n.rope ≡ Some (run_to at run)) res cut_runs now ok front-held;
+    rest = where-ok (λ (n : Runs). value_under rest_id n.rope ≡ Some (run_from at run)) res cut_runs now ok back-held;
+    raised = either (λ (n : Runs). IsRaised 1 (length r.rope) (length n.rope)) res cut_runs r now ok err
+        (one-raised (length r.rope) (length cut_rope) cut-longer) (kept-raised 1 (length r.rope));
+  }
 
   pub cut-room : length r.rope < MOST_OPERATIONS
   cut-room = omega (arith, cut-longer, few-runs cut_runs cut-sound, s.few)

@@ -62,9 +62,6 @@ module _ (r : Runs) (s : AreRuns r) where
     index-first : index_of (ids (cells_in r)) run.id ≡ length (all_cells r.letters front)
     index-first = omega (arith, index-placed r front run 0 back (placed r s front run 0 back is this.some) this.some)
 
-    pub before-within : index_of (ids (cells_in r)) run.id ≤ length (cells_in r)
-    before-within = omega (arith, index-first, length-to, ap length cells-there, length-append to_run (all_cells r.letters back))
-
     -- and before it
     pub before-run : (c : Cell) → all_cells r.letters front ++ c ∷ (cells_of r.letters run ++ all_cells r.letters back) ≡ inserted_before run.id c (cells_in r)
     before-run c =

@@ -3,6 +3,7 @@ pub mod Heads
 pub mod Growth
 pub mod NewCells
 pub mod Runs
+pub mod Beginning
 pub mod Borders
 pub mod Stored
 pub mod Changes

@@ -1,15 +1,17 @@
 // A new cell goes in: into the run behind which it was typed, or into one of its own.
-ghost use Rattle.std.specs.Prelude.{◌≡◌, ◌<◌, ◌≤◌, ◌+◌, ◌^◌, [], ◌∷◌, Some, IsSome, Contains, IfOk, length, suc, true, false, slice_index_or, OnErr, OnOk};
+ghost use Rattle.std.specs.Prelude.{◌≡◌, ◌<◌, ◌≤◌, ◌+◌, ◌^◌, [], Some, IsNone, Contains, IfOk, length, suc, true, false, slice_index_or, OnErr, OnOk};
 ghost use Rattle.fugue_ids.specs.Listed.{index_of};
 ghost use Rattle.node_rope.specs.Items.{value_under};
+ghost use Rattle.run_store.specs.Beginning.{CanBegin, begun, placed_at};
 ghost use Rattle.run_store.specs.Changes.{MakesCells};
 ghost use Rattle.run_store.specs.Cells.{cell_of, ids};
-ghost use Rattle.run_store.specs.Growth.{IsLonger, IsNew, inserted_behind, inserted_before, last_id};
+ghost use Rattle.run_store.specs.Growth.{IsLonger, IsNew, inserted_before, inserted_behind, last_id};
 ghost use Rattle.run_store.specs.Heads.{head_behind, lettered};
 ghost use Rattle.run_store.specs.NewCells.{cell_before, is_continued as continues};
 ghost use Rattle.run_store.specs.Runs.{AreRuns, IsSpot, cells_in, first_of};
 ghost use Rattle.run_store.specs.Stored.{IsRaised};
 
+use crate::beginning::Beginning;
 use crate::find::Spot;
 use crate::head::Head;
 use crate::letters::Letters;
@@ -17,7 +19,8 @@ use crate::new_cells::is_continued;
 use crate::parts::{cell_at, run_to};
 use crate::run::Run;
 use crate::runs::Runs;
-use fugue_ids::{ElementId, NoMemory};
+use fugue_ids::{ElementId, MOST_OPERATIONS, NoMemory};
+use node_rope::{Back, Rope};
 
 /// The run with one letter more, which has its letters there.
 fn longer_at(run: &Run, stretch: usize, start: usize) -> Run
@@ -66,6 +69,21 @@ fn alone(head: &Head, stretch: usize) -> Run
     }
 }
 
+/// Puts a run there, under its key.
+fn place(rope: &mut Rope<Run>, at: Beginning, key: ElementId, run: Run) -> Result<(), Back<Run>>
+    requires held { CanBegin at rope.old }
+    requires fresh { IsNone (value_under key rope.old) }
+    requires room { length rope.old < MOST_OPERATIONS }
+    ensures placed { OnOk result (rope.new ≡ placed_at at (key, run) rope.old) }
+    ensures refused { OnErr result (rope.new ≡ rope.old) }
+{
+    match at {
+        Beginning::First => rope.insert_first(key, run),
+        Beginning::Before(next) => rope.insert_before(next, key, run),
+        Beginning::Behind(front) => rope.insert_after(front.id, key, run),
+    }
+}
+
 impl Runs {
     /// The run with the cell that continues it.
     fn extend(&mut self, run: &Run, head: &Head, ch: char) -> Result<(), NoMemory>
@@ -85,67 +103,18 @@ impl Runs {
         Ok(())
     }
 
-    /// A new run of one cell, directly behind this one.
-    fn begin_behind(&mut self, run: &Run, head: &Head, ch: char) -> Result<(), NoMemory>
+    /// A new run of one cell begins there.
+    pub(crate) fn begin(&mut self, at: Beginning, head: &Head, ch: char) -> Result<(), NoMemory>
         requires sound { AreRuns self.old }
-        requires held { value_under run.now.id self.old.rope ≡ Some run.now }
+        requires held { CanBegin at self.old.rope }
         requires new { IsNew (cells_in self.old) head.now }
         ensures sound { AreRuns self.new }
-        ensures ok { OnOk result (cells_in self.new ≡ inserted_behind (last_id run.now) (lettered head.now ch) (cells_in self.old)) }
+        ensures ok { OnOk result (cells_in self.new ≡ begun at (lettered head.now ch) (cells_in self.old)) }
         ensures raised { OnOk result (length self.new.rope ≡ length self.old.rope + 1) }
         ensures err { OnErr result (self.new ≡ self.old) }
     {
         let stretch = self.letters.begin(ch)?;
-        match self
-            .rope
-            .insert_after(run.id, head.id, alone(head, stretch))
-        {
-            Ok(()) => {
-                self.count += 1;
-                Ok(())
-            }
-            Err(_) => {
-                self.letters.take_back();
-                Err(NoMemory)
-            }
-        }
-    }
-
-    /// A new run of one cell, directly before the run with this key.
-    fn begin_before(&mut self, key: ElementId, head: &Head, ch: char) -> Result<(), NoMemory>
-        requires sound { AreRuns self.old }
-        requires held { IsSome (value_under key self.old.rope) }
-        requires new { IsNew (cells_in self.old) head.now }
-        ensures sound { AreRuns self.new }
-        ensures ok { OnOk result (cells_in self.new ≡ inserted_before key (lettered head.now ch) (cells_in self.old)) }
-        ensures raised { OnOk result (length self.new.rope ≡ length self.old.rope + 1) }
-        ensures err { OnErr result (self.new ≡ self.old) }
-    {
-        let stretch = self.letters.begin(ch)?;
-        match self.rope.insert_before(key, head.id, alone(head, stretch)) {
-            Ok(()) => {
-                self.count += 1;
-                Ok(())
-            }
-            Err(_) => {
-                self.letters.take_back();
-                Err(NoMemory)
-            }
-        }
-    }
-
-    /// The first cell.
-    pub(crate) fn insert_first(&mut self, head: &Head, ch: char) -> Result<(), NoMemory>
-        requires sound { AreRuns self.old }
-        requires none { cells_in self.old ≡ [] }
-        requires new { IsNew (cells_in self.old) head.now }
-        ensures sound { AreRuns self.new }
-        ensures ok { OnOk result (cells_in self.new ≡ lettered head.now ch ∷ []) }
-        ensures raised { OnOk result (length self.new.rope ≡ length self.old.rope + 1) }
-        ensures err { OnErr result (self.new ≡ self.old) }
-    {
-        let stretch = self.letters.begin(ch)?;
-        match self.rope.insert_first(head.id, alone(head, stretch)) {
+        match place(&mut self.rope, at, head.id, alone(head, stretch)) {
             Ok(()) => {
                 self.count += 1;
                 Ok(())
@@ -167,7 +136,7 @@ impl Runs {
     {
         let end = spot.offset + 1;
         self.cut_behind(&spot.run, end)?;
-        self.begin_behind(&run_to(&spot.run, end), head, ch)
+        self.begin(Beginning::Behind(run_to(&spot.run, end)), head, ch)
     }
 
     /// A new cell directly behind the one at the spot.
@@ -220,7 +189,7 @@ impl Runs {
     {
         match self.before(Some(next)) {
             Some(behind) => self.insert_behind(behind, head, ch),
-            None => self.begin_before(next, head, ch),
+            None => self.begin(Beginning::Before(next), head, ch),
         }
     }
 }

@@ -1,6 +1,7 @@
 //! The cells of one place, kept in runs: stretches of cells of one author that stand next to each other.
 #![tactic(auto)]
 
+mod beginning;
 mod border;
 mod cell;
 mod cut;

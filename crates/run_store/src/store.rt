@@ -10,6 +10,7 @@ ghost use Rattle.run_store.specs.Cells.{hiding, ids, is_hidden as hidden_in, key
 ghost use Rattle.run_store.specs.NewCells.{continues, new_cell};
 ghost use Rattle.run_store.specs.Stored.{IsAloneWhereEmpty, IsRaised};
 
+use crate::beginning::Beginning;
 use crate::letters::Letters;
 use crate::runs::Runs;
 use crate::shown::Shown;
@@ -80,7 +81,7 @@ impl RunStore {
     {
         let head = self.runs.new_head(id, left, right);
         match gap {
-            Gap::Alone => self.runs.insert_first(&head, ch),
+            Gap::Alone => self.runs.begin(Beginning::First, &head, ch),
             Gap::Before(at) => self.runs.insert_before(at, &head, ch),
             Gap::After(at) => self.runs.insert_behind(at, &head, ch),
         }

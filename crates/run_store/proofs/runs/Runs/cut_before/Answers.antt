@@ -1,12 +1,10 @@
 use Rattle.std.proofs.Common.{ap, arith, length, refl, sym, ◌∙◌, ◌+◌, ◌-◌, ◌<◌, ◌≡◌}
 use Rattle.std.specs.Prelude.{Some}
 use Rattle.node_rope.specs.Items.{value_under}
-use Rattle.run_store.specs.Runs.{AreRuns, cells_in, first_of, run_from}
+use Rattle.run_store.specs.Runs.{first_of, run_from}
 use Rattle.run_store.specs.Heads.{head_behind}
-use Rattle.run_store.specs.Stored.{IsRaised}
-use Rattle.run_store.specs.declared.runs.Runs.{Runs}
-use Rattle.run_store.proofs.CutLemmas.{cut-cells, cut-longer, cut-sound, cut_runs, back-held}
-use Rattle.run_store.proofs.EitherLemmas.{either, kept-raised, one-raised, where-ok}
+use Rattle.run_store.proofs.CutLemmas.{is-cut}
+use Rattle.run_store.proofs.EitherLemmas.{kept-raised}
 use Rattle.run_store.proofs.runs.Runs.cut_before.Goals as goal
 
 pub returns-then-offset-eq0 : goal.returns-then-offset-eq0
@@ -26,18 +24,7 @@ returns-then-offset-eq0 c =
 
 pub returns : goal.returns
 returns c =
-    let r = c.args.self.now in
-    let run = c.args.run.now in
     let some : 0 < c.args.offset = omega (arith, c.if-offset-eq0.false) in
-    let cut = cut_runs r c.requires.sound run c.args.offset c.requires.held some c.requires.inside in
-    record {
-      sound = either AreRuns c.split.result cut r c.split.new.self c.split.ensures.ok c.split.ensures.err
-          (cut-sound r c.requires.sound run c.args.offset c.requires.held some c.requires.inside) c.requires.sound;
-      cells = either (λ (n : Runs). cells_in n ≡ cells_in r) c.split.result cut r c.split.new.self c.split.ensures.ok c.split.ensures.err
-          (cut-cells r c.requires.sound run c.args.offset c.requires.held some c.requires.inside) refl;
-      held = where-ok (λ (n : Runs). value_under (head_behind c.args.offset (first_of run)).id n.rope ≡ Some (run_from c.args.offset run)) c.split.result cut c.split.new.self c.split.ensures.ok
-          (back-held r c.requires.sound run c.args.offset c.requires.held some c.requires.inside);
-      raised = either (λ (n : Runs). IsRaised 1 (length r.rope) (length n.rope)) c.split.result cut r c.split.new.self c.split.ensures.ok c.split.ensures.err
-          (one-raised (length r.rope) (length cut.rope) (cut-longer r c.requires.sound run c.args.offset c.requires.held some c.requires.inside)) (kept-raised 1 (length r.rope));
-      err = c.split.ensures.err;
-    }
+    let cut =
+    is-cut c.args.self.now c.requires.sound c.args.run.now c.args.offset c.requires.held some c.requires.inside c.split.result c.split.new.self c.split.ensures.ok c.split.ensures.err in
+    record { sound = cut.sound; cells = cut.cells; held = cut.rest; raised = cut.raised; err = c.split.ensures.err }

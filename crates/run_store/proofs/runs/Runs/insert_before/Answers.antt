@@ -19,8 +19,8 @@ pub insert_behind-requires-clause-held : goal.insert_behind-requires-clause-held
 insert_behind-requires-clause-held c =
     (is-behind (cells_in c.args.self.now) c.requires.sound.distinct c.args.next c.requires.held c.in-Some.behind c.in-Some.ensures).held
 
-pub begin_before-requires-clause-held : goal.begin_before-requires-clause-held
-begin_before-requires-clause-held c =
+pub begin-requires-clause-held : goal.begin-requires-clause-held
+begin-requires-clause-held c =
     first-key c.args.self.now c.requires.sound c.args.next (is-first (cells_in c.args.self.now) c.requires.sound.distinct c.args.next c.requires.held c.in-None.ensures).1
 
 pub returns-in-Some-clause-makes : goal.returns-in-Some-clause-makes
@@ -32,15 +32,15 @@ returns-in-Some-clause-makes c =
 pub returns-in-None-clause-makes : goal.returns-in-None-clause-makes
 returns-in-None-clause-makes c =
     let old = c.args.self.now in
-    let new = c.begin_before.new.self in
+    let new = c.begin.new.self in
     let n = length old.rope in
-    let begun = c.begin_before.ensures in
+    let begun = c.begin.ensures in
     record {
       sound = begun.sound;
       ok = begun.ok;
-      err = where-err (λ (r : Runs). cells_in r ≡ cells_in old) c.begin_before.result old new begun.err refl;
-      raised = on-ok c.begin_before.result (length new.rope ≡ n + 1) (IsRaised 2 n (length new.rope)) (λ more. raised-more 1 2 n (length new.rope) (omega arith) (one-raised n (length new.rope) more)) begun.raised;
-      refused = where-err (λ (r : Runs). IsRaised 1 n (length r.rope)) c.begin_before.result old new begun.err (kept-raised 1 n);
+      err = where-err (λ (r : Runs). cells_in r ≡ cells_in old) c.begin.result old new begun.err refl;
+      raised = on-ok c.begin.result (length new.rope ≡ n + 1) (IsRaised 2 n (length new.rope)) (λ more. raised-more 1 2 n (length new.rope) (omega arith) (one-raised n (length new.rope) more)) begun.raised;
+      refused = where-err (λ (r : Runs). IsRaised 1 n (length r.rope)) c.begin.result old new begun.err (kept-raised 1 n);
     }
 
 pub returns-in-Some-clause-continued : goal.returns-in-Some-clause-continued
@@ -56,5 +56,5 @@ returns-in-None-clause-continued c =
     let cs = cells_in c.args.self.now in
     let h = c.args.head.now in
     let z = (is-first cs c.requires.sound.distinct c.args.next c.requires.held c.in-None.ensures).0 in
-    any-ok c.begin_before.result (is_continued (cell_before cs (index_of (ids cs) c.args.next)) h.id h.left h.right ≡ true → length c.begin_before.new.self.rope ≡ length c.args.self.now.rope)
+    any-ok c.begin.result (is_continued (cell_before cs (index_of (ids cs) c.args.next)) h.id h.left h.right ≡ true → length c.begin.new.self.rope ≡ length c.args.self.now.rope)
     (λ t. absurd (false≢true (sym (ap (λ n. is_continued (cell_before cs n) h.id h.left h.right) z) ∙ t)))

@@ -24,16 +24,16 @@ returns c =
     let e : (o + 1) - 1 ≡ o = omega arith in
     let id : last_id c.run_to.result ≡ (head_behind o (first_of run)).id = ap last_id c.run_to.ensures ∙ ap (λ n. (head_behind n (first_of run)).id) e in
     let cut = c.in_ok-cut_behind.ensures in
-    let begun = c.begin_behind.ensures in
+    let begun = c.begin.ensures in
     let old = c.args.self.now in
     let parted = c.cut_behind.new.self in
-    let new = c.begin_behind.new.self in
+    let new = c.begin.new.self in
     let n = length old.rope in
     record {
       sound = begun.sound;
-      ok = subst (λ (p : Identifier × List Cell). OnOk c.begin_behind.result (cells_in new ≡ inserted_behind p.0 (lettered c.args.head.now c.args.ch) p.1)) (λ i. (id i, cut.cells i)) begun.ok;
-      err = where-err (λ (r : Runs). cells_in r ≡ cells_in old) c.begin_behind.result parted new begun.err cut.cells;
-      raised = on-ok c.begin_behind.result (length new.rope ≡ length parted.rope + 1) (IsRaised 2 n (length new.rope))
+      ok = subst (λ (p : Identifier × List Cell). OnOk c.begin.result (cells_in new ≡ inserted_behind p.0 (lettered c.args.head.now c.args.ch) p.1)) (λ i. (id i, cut.cells i)) begun.ok;
+      err = where-err (λ (r : Runs). cells_in r ≡ cells_in old) c.begin.result parted new begun.err cut.cells;
+      raised = on-ok c.begin.result (length new.rope ≡ length parted.rope + 1) (IsRaised 2 n (length new.rope))
           (λ more. raised-twice 1 1 n (length parted.rope) (length new.rope) cut.raised (one-raised (length parted.rope) (length new.rope) more)) begun.raised;
-      refused = where-err (λ (r : Runs). IsRaised 1 n (length r.rope)) c.begin_behind.result parted new begun.err cut.raised;
+      refused = where-err (λ (r : Runs). IsRaised 1 n (length r.rope)) c.begin.result parted new begun.err cut.raised;
     }

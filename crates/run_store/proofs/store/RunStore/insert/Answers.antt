@@ -13,6 +13,7 @@ use Rattle.run_store.specs.Runs.{cells_in}
 use Rattle.run_store.specs.Stored.{Stored}
 use Rattle.run_store.specs.declared.cell.Cell.{Cell}
 use Rattle.run_store.specs.declared.head.Head.{Head}
+use Rattle.run_store.proofs.BeginLemmas.{no-runs}
 use Rattle.run_store.proofs.CellLemmas.{cell-get}
 use Rattle.run_store.proofs.EitherLemmas.{on-ok}
 use Rattle.run_store.proofs.store.RunStore.insert.Goals as goal
@@ -23,15 +24,19 @@ joined : (cs now : List Cell) (i : Gap → List Identifier → ℕ) (g gap : Gap
 joined cs now i g gap id left right ch c e f is =
     ap (insert cs (i g (ids cs))) is ∙ (λ j. insert (e j) (i (sym f j) (ids (e j))) (new_cell (e j) id left right ch))
 
+pub begin-requires-clause-held : goal.begin-requires-clause-held
+begin-requires-clause-held c =
+    no-runs c.self.inside.runs c.self.invariant (ap (λ (s : Stored). s.cells) c.self.view_is ∙ c.requires.alone.0 c.in-Alone.is)
+
 pub returns-in-Alone-clause-ok : goal.returns-in-Alone-clause-ok
 returns-in-Alone-clause-ok c =
     let C = cells_in c.self.inside.runs in
     let e = ap (λ (s : Stored). s.cells) c.self.view_is in
     let none : C ≡ [] = e ∙ c.requires.alone.0 c.in-Alone.is in
     let x = lettered c.new_head-head.result c.args.ch in
-    subst (λ cs. OnOk c.insert_first.result (cells_in c.insert_first.new.self ≡ cs))
+    subst (λ cs. OnOk c.begin.result (cells_in c.begin.new.self ≡ cs))
     (ap (λ cs. insert cs 0 x) (sym none) ∙ joined C c.args.self.now.cells gap_index Alone c.args.gap c.args.id c.args.left c.args.right c.args.ch x e c.in-Alone.is (c.new_head-head.ensures.cell c.args.ch))
-    c.insert_first.ensures.ok
+    c.begin.ensures.ok
 
 pub returns-in-Before-clause-ok : goal.returns-in-Before-clause-ok
 returns-in-Before-clause-ok c =

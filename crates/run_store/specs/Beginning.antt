@@ -1,0 +1,28 @@
+-- A run that begins.
+use Rattle.std.specs.Prelude.{◌≡◌, List, [], ◌∷◌, Some, IsSome}
+use Rattle.fugue_ids.specs.Identifiers.{Identifier}
+use Rattle.node_rope.specs.Beside.{placed_after, placed_before}
+use Rattle.node_rope.specs.Items.{value_under}
+use Rattle.run_store.specs.Growth.{inserted_before, inserted_behind, last_id}
+use Rattle.run_store.specs.declared.beginning.Beginning.{Beginning}
+use Rattle.run_store.specs.declared.beginning.Beginning.TheVariants.{Before, Behind, First}
+use Rattle.run_store.specs.declared.cell.Cell.{Cell}
+use Rattle.run_store.specs.declared.run.Run.{Run}
+
+-- the run that it begins beside is in the rope; the first one begins in an empty rope
+abbrev pub CanBegin : Beginning → List (Identifier × Run) → Type 0
+CanBegin First rope = rope ≡ []
+CanBegin (Before key) rope = IsSome (value_under key rope)
+CanBegin (Behind run) rope = value_under run.id rope ≡ Some run
+
+-- the rope with a run that begins there, under its key
+abbrev pub placed_at : Beginning → Identifier × Run → List (Identifier × Run) → List (Identifier × Run)
+placed_at First new rope = new ∷ []
+placed_at (Before key) new rope = placed_before key new rope
+placed_at (Behind run) new rope = placed_after run.id new rope
+
+-- the cells with the new one of a run that begins there
+abbrev pub begun : Beginning → Cell → List Cell → List Cell
+begun First c cells = c ∷ []
+begun (Before key) c cells = inserted_before key c cells
+begun (Behind run) c cells = inserted_behind (last_id run) c cells
