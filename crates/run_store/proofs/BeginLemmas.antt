@@ -1,10 +1,9 @@
 -- A new cell in a run of its own.
-use Rattle.std.proofs.Common.{◌≡◌, ℕ, ◌+◌, ◌≤◌, List, [], ◌∷◌, ◌++◌, ap, append-nil, append_assoc, arith, length, length-append, refl, subst, sym, take, ◌-◌, ◌∙◌}
-use Rattle.std.specs.Prelude.{Some}
+use Rattle.std.proofs.Common.{◌≡◌, ℕ, ◌+◌, ◌<◌, ◌≤◌, List, [], ◌∷◌, ◌++◌, ap, append-nil, append_assoc, arith, length, length-append, refl, subst, sym, take, ◌-◌, ◌∙◌}
+use Rattle.std.specs.Prelude.{Some, slice_index_or, slice_set}
 use Rattle.std.specs.List.{All, insert}
 use Rattle.std.proofs.lemmas.List.Elements.{All-append, All-cons}
 use Rattle.std.proofs.Math.Seq.{take-append_seam}
-use Rattle.fugue_ids.specs.Identifiers.{Identifier}
 use Rattle.fugue_ids.proofs.ListLemmas.{all_before, all_behind}
 use Rattle.node_rope.specs.Beside.{placed_after, placed_before}
 use Rattle.node_rope.specs.Items.{value_under}
@@ -19,8 +18,8 @@ use Rattle.run_store.specs.declared.run.Run.{Run}
 use Rattle.run_store.specs.declared.runs.Runs.{Runs}
 use Rattle.run_store.proofs.CellLemmas.{insert-at}
 use Rattle.run_store.proofs.EitherLemmas.{value-of}
-use Rattle.run_store.proofs.GrowLemmas.{grown-cells, grown-more, grown-runs}
-use Rattle.run_store.proofs.InsertLemmas.{alone-cells, alone-run, joined-sound}
+use Rattle.run_store.proofs.GrowLemmas.{grown-cells, grown-runs, grown-set}
+use Rattle.run_store.proofs.InsertLemmas.{alone-cells, alone-run, alone_run, begun-letters, joined-sound, letters_begun}
 use Rattle.run_store.proofs.JoinLemmas.{before-run, behind-run}
 use Rattle.run_store.proofs.RopeLemmas.{after-at, before-at, found}
 use Rattle.run_store.proofs.RunsLemmas.{Item, cells-append, few-runs, kept-run, keys-apart}
@@ -34,9 +33,9 @@ no-runs r s none = empty r.rope (omega (arith, few-runs r s, s.counted, ap lengt
     empty (x ∷ xs) l = absurd (omega (arith, l))
 
 module _ (r : Runs) (s : AreRuns r) (h : Head) (ch : ℕ) (new : IsNew (cells_in r) h) (alone : Run)
-    (e : alone ≡ record { id = h.id; left = h.left; right = h.right; hidden = h.hidden; key = h.key; stretch = length r.letters; start = 0; len = 1 }) where
+    (e : alone ≡ alone_run r s h ch new) where
   abbrev new_letters : List (List ℕ)
-  new_letters = r.letters ++ (ch ∷ []) ∷ []
+  new_letters = letters_begun r s h ch new
 
   abbrev new_item : Item
   new_item = (h.id, alone)
@@ -60,13 +59,16 @@ module _ (r : Runs) (s : AreRuns r) (h : Head) (ch : ℕ) (new : IsNew (cells_in
   Q = IsRun new_letters (r.count + 1)
 
   g : AreGrown r.letters new_letters
-  g = grown-more r.letters (ch ∷ [])
+  g = grown-set r.letters 0 (ch ∷ [])
 
   more : r.count ≤ r.count + 1
   more = omega arith
 
   new-run : Q new_item
-  new-run = subst (λ (i : Identifier). Q (i, alone)) (ap (λ (z : Run). z.id) e) (alone-run r s h ch new r.letters alone e)
+  new-run = subst (λ (z : Run). Q (h.id, z)) (sym e) (alone-run r s h ch new)
+
+  new-cells : cells_of new_letters alone ≡ lettered h ch ∷ []
+  new-cells = ap (cells_of new_letters) e ∙ alone-cells r s h ch new
 
   same-cells : (xs : List Item) → All P xs → all_cells new_letters xs ≡ all_cells r.letters xs
   same-cells = grown-cells r.letters new_letters g r.count (r.count + 1) more
@@ -88,7 +90,7 @@ module _ (r : Runs) (s : AreRuns r) (h : Head) (ch : ℕ) (new : IsNew (cells_in
     between-cells : all_cells new_letters between ≡ all_cells r.letters front ++ lettered h ch ∷ all_cells r.letters back
     between-cells =
         cells-append new_letters front (new_item ∷ back)
-        ∙ (λ i. same-cells front before i ++ (alone-cells r s h ch new r.letters alone e i ++ same-cells back behind i))
+        ∙ (λ i. same-cells front before i ++ (new-cells i ++ same-cells back behind i))
 
     between-sound : AreRuns (with_rope between)
     between-sound =
@@ -96,7 +98,7 @@ module _ (r : Runs) (s : AreRuns r) (h : Head) (ch : ℕ) (new : IsNew (cells_in
         let old : cells_in r ≡ all_cells r.letters front ++ all_cells r.letters back = ap (all_cells r.letters) is ∙ cells-append r.letters front back in
         joined-sound r s h ch new (with_rope between) k (omega (arith, ap length old, length-append (all_cells r.letters front) (all_cells r.letters back)))
         (All-append Q front (new_item ∷ back) (same-runs front before) (All-cons Q new_item back new-run (same-runs back behind)))
-        (between-cells ∙ sym (insert-at (all_cells r.letters front) (lettered h ch) (all_cells r.letters back)) ∙ ap (λ cs. insert cs k (lettered h ch)) (sym old)) refl
+        (between-cells ∙ sym (insert-at (all_cells r.letters front) (lettered h ch) (all_cells r.letters back)) ∙ ap (λ cs. insert cs k (lettered h ch)) (sym old)) refl (begun-letters r s h ch new)
 
     begun-between : (at : Beginning) → placed_at at new_item r.rope ≡ between
         → all_cells r.letters front ++ lettered h ch ∷ all_cells r.letters back ≡ begun at (lettered h ch) (cells_in r) → IsBegun at
@@ -137,8 +139,10 @@ module _ (r : Runs) (s : AreRuns r) (h : Head) (ch : ℕ) (new : IsNew (cells_in
       subst (λ k. IsBegun (Before k)) (sym n) (begun-before w.0 (ap (λ k. value_under k r.rope) (sym n) ∙ w.1))
   is-begun (Behind run) v = begun-behind run v
 
--- a stretch that is taken back
-pub taken-back : {X : Type 0} (xs : List X) (x : X) → take (length (xs ++ x ∷ []) - 1) (xs ++ x ∷ []) ≡ xs
-taken-back xs x =
-    let e : length (xs ++ x ∷ []) - 1 ≡ length xs = omega (arith, length-append xs (x ∷ [])) in
-    ap (λ n. take n (xs ++ x ∷ [])) e ∙ take-append_seam xs (x ∷ [])
+-- a letter that is taken back
+pub taken-back : (L : List (List ℕ)) (ch : ℕ) → 0 < length L
+    → let M = slice_set L 0 (slice_index_or L 0 [] ++ ch ∷ []) in slice_set M 0 (take (length (slice_index_or M 0 []) - 1) (slice_index_or M 0 [])) ≡ L
+taken-back [] ch l = absurd (omega (arith, l))
+taken-back (first ∷ L) ch l =
+    let e : length (first ++ ch ∷ []) - 1 ≡ length first = omega (arith, length-append first (ch ∷ [])) in
+    ap (λ n. take n (first ++ ch ∷ []) ∷ L) e ∙ ap (λ xs. xs ∷ L) (take-append_seam first (ch ∷ []))

@@ -293,7 +293,7 @@ module _ (r : Runs) (s : AreRuns r) (a b : Run) (border : IsBorder r.rope a b) w
     ]
 
     pub taken-sound : IsTakenFirst x a b n ⊎ IsTakenLast x a b n → AreRuns (shifted_runs n move)
-    taken-sound taken = marked-sound r s x (shifted_runs n move) refl (shifted-each n move) (taken-cells taken)
+    taken-sound taken = marked-sound r s x (shifted_runs n move) refl refl (shifted-each n move) (taken-cells taken)
 
   -- where the second run is this one, of two cells or more, and the first one is hidden
   pub hides-first : (run : Run) (n : ℕ) → value_under run.id r.rope ≡ Some run → 1 < run.len → b.id ≡ run.id → a.hidden ≡ true → n ≡ a.len + 1 → IsHiding r.rope run.id a b n

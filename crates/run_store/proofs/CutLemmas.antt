@@ -22,7 +22,7 @@ use Rattle.run_store.proofs.RunsLemmas.{Item, cells-append, few-runs, kept-run, 
 
 -- the numbers of a cell of a run fit
 pub cell-fits : (r : Runs) → AreRuns r → (k : Identifier) (run : Run) (o : ℕ) → value_under k r.rope ≡ Some run → o < run.len
-    → (run.id.counter + o < 2 ^ 32) × (run.key.depth + o < 2 ^ 32) × (run.start + o < 2 ^ 64)
+    → (run.id.counter + o < 2 ^ 32) × (run.key.depth + o < 2 ^ 32) × (run.start + o < 2 ^ 32)
 cell-fits r s k run o v l =
     let x = kept-run r s k run v in
     (omega (arith, x.counters, l), omega (arith, x.depths, l, s.few), omega (arith, x.ends, l, s.few))
@@ -141,6 +141,7 @@ module _ (r : Runs) (s : AreRuns r) (run : Run) (at : ℕ) (v : value_under run.
         distinct = subst (λ cs. AllPairs (λ x y. x ≢ y) (ids cs)) (sym cut-cells) s.distinct;
         counted = s.counted ∙ ap length (sym cut-cells);
         few = s.few;
+        letters = s.letters;
       }
 
   pub front-held : value_under run.id cut_rope ≡ Some (run_to at run)

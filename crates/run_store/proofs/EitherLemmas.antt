@@ -47,3 +47,7 @@ value-of (Some x) e = (x, refl)
 pub on-ok : {T E : Type 0} (res : Result T E) (P Q : Type 0) → (P → Q) → OnOk res P → OnOk res Q
 on-ok (Ok t) P Q f p = f p
 on-ok (Err e) P Q f p = tt
+
+pub on-err : {T E : Type 0} (res : Result T E) (P Q : Type 0) → (P → Q) → OnErr res P → OnErr res Q
+on-err (Ok t) P Q f p = tt
+on-err (Err e) P Q f p = f p

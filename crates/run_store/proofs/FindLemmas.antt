@@ -80,5 +80,5 @@ module _ (r : Runs) (s : AreRuns r) (x : Identifier) where
   spot-forest run zero spot = let k = kept-run r s run.id run spot.held in omega (arith, k.forests, s.counted)
   spot-forest run (suc o) spot = omega arith
 
-  pub spot-fits : (run : Run) (o : ℕ) → IsSpot r.rope x run o → (run.id.counter + o < 2 ^ 32) × (run.key.depth + o < 2 ^ 32) × (run.start + o < 2 ^ 64)
+  pub spot-fits : (run : Run) (o : ℕ) → IsSpot r.rope x run o → (run.id.counter + o < 2 ^ 32) × (run.key.depth + o < 2 ^ 32) × (run.start + o < 2 ^ 32)
   spot-fits run o spot = cell-fits r s run.id run o spot.held spot.inside

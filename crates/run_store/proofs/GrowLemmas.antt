@@ -2,7 +2,7 @@
 use Rattle.std.proofs.Common.{◌≡◌, ℕ, zero, suc, ◌+◌, ◌<◌, ◌≤◌, List, [], ◌∷◌, ◌++◌, ap, append-nil, arith, length, length-append, length-drop, refl, sym, take, drop, ◌∙◌}
 use Rattle.std.specs.Prelude.{slice_index_or, slice_set}
 use Rattle.std.specs.List.{All}
-use Rattle.std.proofs.lemmas.List.{drop-append-le, length-take-le, take_all}
+use Rattle.std.proofs.lemmas.List.{drop-append-le, length-set, length-take-le, take_all}
 use Rattle.std.proofs.lemmas.List.Elements.{All-head, All-tail, All-cons, All-nil}
 use Rattle.run_store.specs.Growth.{AreGrown, IsLonger}
 use Rattle.run_store.specs.Heads.{typed}
@@ -35,6 +35,17 @@ pub set-stretch : (L : List (List ℕ)) (i : ℕ) (new : List ℕ) → i < lengt
 set-stretch [] i new l = absurd (omega (arith, l))
 set-stretch (x ∷ L) zero new l = refl
 set-stretch (x ∷ L) (suc i) new l = set-stretch L i new (omega (arith, l))
+
+-- where a letter comes to one, the first one is as it was or has that letter more
+set-first : (L : List (List ℕ)) (i ch : ℕ) → length (slice_index_or (slice_set L i (slice_index_or L i [] ++ ch ∷ [])) 0 []) ≤ length (slice_index_or L 0 []) + 1
+set-first [] i ch = omega arith
+set-first (l ∷ L) zero ch = omega (arith, length-append l (ch ∷ []))
+set-first (l ∷ L) (suc i) ch = omega arith
+
+-- a new stretch is not the first one, where there is one
+first-kept : (L : List (List ℕ)) (new : List ℕ) → 0 < length L → slice_index_or (L ++ new ∷ []) 0 [] ≡ slice_index_or L 0 []
+first-kept [] new l = absurd (omega (arith, l))
+first-kept (l ∷ L) new some = refl
 
 -- a stretch with letters is one of those
 pub stretch-there : (L : List (List ℕ)) (i : ℕ) → 0 < length (slice_index_or L i []) → i < length L
@@ -89,6 +100,11 @@ longer-pushed L run ch some e =
       letters = ap (λ xs. take (suc run.len) (drop run.start xs)) now ∙ part-longer run.start run.len old ch e;
       within = omega (arith, e, ap length now, length-append old (ch ∷ []));
       begin = omega arith;
+      few = λ count ends are. record {
+        first = omega (arith, are.first, length-set L run.stretch (old ++ ch ∷ []));
+        shared = omega (arith, are.shared, set-first L run.stretch ch);
+        others = omega (arith, are.others, length-set L run.stretch (old ++ ch ∷ []));
+      };
     }
 
 pub longer-copied : (L : List (List ℕ)) (run : Run) (ch n : ℕ) → n ≡ length L → run.start + run.len ≤ length (slice_index_or L run.stretch [])
@@ -105,4 +121,9 @@ longer-copied L run ch n is within =
       letters = ap (λ xs. take (suc run.len) xs) now ∙ take_all (suc run.len) new (omega (arith, m));
       within = omega (arith, m, ap length now);
       begin = omega arith;
+      few = λ count ends are. record {
+        first = omega (arith, length-append L (new ∷ []));
+        shared = omega (arith, are.shared, ap length (first-kept L new are.first));
+        others = omega (arith, are.others, length-append L (new ∷ []));
+      };
     }

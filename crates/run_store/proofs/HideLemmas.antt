@@ -9,7 +9,7 @@ use Rattle.node_rope.specs.Beside.{put_under}
 use Rattle.node_rope.specs.Items.{value_under}
 use Rattle.run_store.specs.Cells.{hiding, ids, is_hidden}
 use Rattle.run_store.specs.Heads.{head_behind, typed}
-use Rattle.run_store.specs.Runs.{AreRuns, IsRun, IsSpot, all_cells, cells_in, first_of, letters_of}
+use Rattle.run_store.specs.Runs.{AreLetters, AreRuns, IsRun, IsSpot, all_cells, cells_in, first_of, letters_of}
 use Rattle.run_store.specs.declared.cell.Cell.{Cell}
 use Rattle.run_store.specs.declared.run.Run.{Run}
 use Rattle.run_store.specs.declared.runs.Runs.{Runs}
@@ -28,13 +28,14 @@ ids-hiding x [] = refl
 ids-hiding x (c ∷ cs) = λ i. same_id x c i ∷ ids-hiding x cs i
 
 -- a store whose cells are those of another one with a cell hidden
-pub marked-sound : (r : Runs) → AreRuns r → (x : Identifier) (now : Runs) → now.count ≡ r.count → All (IsRun now.letters now.count) now.rope
+pub marked-sound : (r : Runs) → AreRuns r → (x : Identifier) (now : Runs) → now.count ≡ r.count → now.letters ≡ r.letters → All (IsRun now.letters now.count) now.rope
     → cells_in now ≡ map (hiding x) (cells_in r) → AreRuns now
-marked-sound r s x now count each cells = record {
+marked-sound r s x now count letters each cells = record {
   each = each;
   distinct = subst (AllPairs (λ y z. y ≢ z)) (sym (ap ids cells ∙ ids-hiding x (cells_in r))) s.distinct;
   counted = count ∙ s.counted ∙ sym (ap length cells ∙ length-map (cells_in r) (hiding x));
   few = omega (arith, s.few, count);
+  letters = subst (AreLetters now.letters) (sym count) (subst (λ L. AreLetters L r.count) (sym letters) s.letters);
 }
 
 -- a cell with those around it, once it is hidden
@@ -135,7 +136,7 @@ module _ (r : Runs) (s : AreRuns r) (run : Run) (v : value_under run.id r.rope �
       let P = IsRun r.letters r.count in
       let each = subst (All P) (sym (put-is p.front p.back p.is))
       (all-between P p.front (run.id, run) ((run.id, hidden_run) ∷ []) p.back (subst (All P) p.is s.each) (All-cons P (run.id, hidden_run) [] hidden-run (All-nil P))) in
-      marked-sound r s run.id hidden_runs refl each hiding-cells
+      marked-sound r s run.id hidden_runs refl refl each hiding-cells
 
   pub hiding-length : length hidden_runs.rope ≡ length r.rope
   hiding-length = length-map r.rope (λ (x : Item). (x.0, cond (id_eq x.0 run.id) hidden_run x.1))

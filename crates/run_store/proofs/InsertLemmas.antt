@@ -1,19 +1,20 @@
 -- One cell more among those of a store.
 use Rattle.std.proofs.Common.{◌≡◌, ◌≢◌, ℕ, zero, suc, ◌+◌, ◌<◌, ◌≤◌, List, [], ◌∷◌, ◌++◌, ap, arith, length, length-append, refl, subst, sym, take, drop, ◌∙◌}
+use Rattle.std.specs.Prelude.{slice_index_or, slice_set}
 use Rattle.std.specs.List.{All, AllPairs, Contains, insert}
-use Rattle.std.proofs.lemmas.List.{length-take-le, take-append-drop}
+use Rattle.std.proofs.lemmas.List.{length-set, length-take-le, take-append-drop}
 use Rattle.fugue_ids.specs.Listed.{index_of}
 use Rattle.fugue_ids.proofs.ListLemmas.{all_before, all_behind, all_from_contains, all_pairs_insert}
 use Rattle.run_store.specs.Cells.{ids}
 use Rattle.run_store.specs.Growth.{IsNew}
 use Rattle.run_store.specs.Heads.{head_behind, lettered, typed}
-use Rattle.run_store.specs.Runs.{AreRuns, IsRun, all_cells, cells_in, cells_of, first_of, letters_of}
+use Rattle.run_store.specs.Runs.{AreLetters, AreRuns, IsRun, all_cells, cells_in, cells_of, first_of, letters_of}
 use Rattle.run_store.specs.declared.cell.Cell.{Cell}
 use Rattle.run_store.specs.declared.head.Head.{Head}
 use Rattle.run_store.specs.declared.run.Run.{Run}
 use Rattle.run_store.specs.declared.runs.Runs.{Runs}
 use Rattle.run_store.proofs.CellLemmas.{index-at}
-use Rattle.run_store.proofs.GrowLemmas.{new-stretch}
+use Rattle.run_store.proofs.GrowLemmas.{part-longer, set-stretch}
 use Rattle.run_store.proofs.HeadLemmas.{length-typed}
 use Rattle.run_store.proofs.RunsLemmas.{IsPlaced, Item, cell_there, cells_before, cells_behind, length-letters}
 
@@ -57,33 +58,53 @@ module _ (r : Runs) (s : AreRuns r) (h : Head) (ch : ℕ) (new : IsNew (cells_in
   new_cell = lettered h ch
 
   pub joined-sound : (now : Runs) (k : ℕ) → k ≤ length (cells_in r) → All (IsRun now.letters now.count) now.rope → cells_in now ≡ insert (cells_in r) k new_cell
-      → now.count ≡ r.count + 1 → AreRuns now
-  joined-sound now k within each cells count =
+      → now.count ≡ r.count + 1 → AreLetters now.letters now.count → AreRuns now
+  joined-sound now k within each cells count letters =
       let n = ap length cells ∙ length-insert (cells_in r) k new_cell within in
       record {
         each = each;
         distinct = subst (λ cs. AllPairs (λ x y. x ≢ y) (ids cs)) (sym cells) (distinct-insert (cells_in r) k new_cell s.distinct new.fresh);
         counted = omega (arith, n, s.counted, count);
         few = omega (arith, s.counted, new.room, count);
+        letters = letters;
       }
 
+  -- the letters with that of the cell behind those of the first stretch
+  abbrev pub first_letters : List ℕ
+  first_letters = slice_index_or r.letters 0 []
+
+  abbrev pub letters_begun : List (List ℕ)
+  letters_begun = slice_set r.letters 0 (first_letters ++ ch ∷ [])
+
+  abbrev pub alone_run : Run
+  alone_run = record { id = h.id; left = h.left; right = h.right; hidden = h.hidden; key = h.key; stretch = 0; start = length first_letters; len = 1 }
+
+  first-begun : slice_index_or letters_begun 0 [] ≡ first_letters ++ ch ∷ []
+  first-begun = set-stretch r.letters 0 (first_letters ++ ch ∷ []) s.letters.first
+
+  pub begun-letters : AreLetters letters_begun (r.count + 1)
+  begun-letters = record {
+    first = omega (arith, s.letters.first, length-set r.letters 0 (first_letters ++ ch ∷ []));
+    shared = omega (arith, s.letters.shared, ap length first-begun, length-append first_letters (ch ∷ []));
+    others = omega (arith, s.letters.others, length-set r.letters 0 (first_letters ++ ch ∷ []));
+  }
+
   -- the numbers of a run of the cell alone
-  pub alone-run : (L : List (List ℕ)) (run : Run) → run ≡ record { id = h.id; left = h.left; right = h.right; hidden = h.hidden; key = h.key; stretch = length L; start = 0; len = 1 }
-      → IsRun (L ++ (ch ∷ []) ∷ []) (r.count + 1) (run.id, run)
-  alone-run L run e =
-      let st = new-stretch L (ch ∷ []) in
+  pub alone-run : IsRun letters_begun (r.count + 1) (h.id, alone_run)
+  alone-run =
       let d : 0 < h.key.depth = omega (arith, ap (λ k. k.depth) new.key) in
-      subst (λ z. IsRun (L ++ (ch ∷ []) ∷ []) (r.count + 1) (z.id, z)) (sym e) (record {
+      record {
         named = refl;
         some = omega arith;
-        within = omega (arith, ap length st);
+        within = omega (arith, ap length first-begun, length-append first_letters (ch ∷ []));
         counters = omega (arith, new.counter);
-        ends = omega arith;
+        ends = omega (arith, s.letters.shared);
         deep = d;
         depths = omega (arith, new.depths, s.counted);
         forests = omega (arith, new.forests, s.counted);
-      })
+      }
 
-  pub alone-cells : (L : List (List ℕ)) (run : Run) → run ≡ record { id = h.id; left = h.left; right = h.right; hidden = h.hidden; key = h.key; stretch = length L; start = 0; len = 1 }
-      → cells_of (L ++ (ch ∷ []) ∷ []) run ≡ new_cell ∷ []
-  alone-cells L run e = ap (cells_of (L ++ (ch ∷ []) ∷ [])) e ∙ ap (λ xs. typed h (take 1 xs)) (new-stretch L (ch ∷ []))
+  pub alone-cells : cells_of letters_begun alone_run ≡ new_cell ∷ []
+  alone-cells =
+      ap (λ xs. typed h (take 1 (drop (length first_letters) xs))) first-begun
+      ∙ ap (typed h) (part-longer (length first_letters) 0 first_letters ch (omega arith))

@@ -154,7 +154,7 @@ module _ (r : Runs) (s : AreRuns r) where
       extended-sound =
           let p = found run.id run r.rope v in
           joined-sound r s h ch new extended (suc (index_of (ids (cells_in r)) (last_id run))) (behind-within run p.front p.back p.is this) (extended-each p.front p.back p.is)
-          extended-cells refl
+          extended-cells refl (il.few r.count this.ends s.letters)
 
       pub extended-length : length extended.rope ≡ length r.rope
       extended-length = length-map r.rope (λ (x : Item). (x.0, cond (id_eq x.0 run.id) longer x.1))

@@ -7,7 +7,7 @@ use Rattle.fugue_ids.specs.declared.limits.TheConstants.{MOST_OPERATIONS}
 use Rattle.run_store.specs.Cells.{ids}
 use Rattle.run_store.specs.Heads.{head_behind}
 use Rattle.run_store.specs.NewCells.{new_key}
-use Rattle.run_store.specs.Runs.{first_of, letters_of}
+use Rattle.run_store.specs.Runs.{AreLetters, first_of, letters_of}
 use Rattle.run_store.specs.declared.cell.Cell.{Cell}
 use Rattle.run_store.specs.declared.head.Head.{Head}
 use Rattle.run_store.specs.declared.run.Run.{Run}
@@ -23,6 +23,7 @@ pub record IsLonger (old new : List (List ℕ)) (run : Run) (ch : ℕ) (longer :
   pub letters : letters_of new longer ≡ letters_of old run ++ ch ∷ []
   pub within : longer.start + longer.len ≤ length (slice_index_or new longer.stretch [])
   pub begin : longer.start ≤ run.start
+  pub few : (count : ℕ) → run.start + run.len ≤ count → AreLetters old count → AreLetters new (count + 1)
 
 -- a cell that may come to these
 pub record IsNew (cells : List Cell) (h : Head) : Type 0 where

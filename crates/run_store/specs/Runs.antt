@@ -40,12 +40,19 @@ pub record IsRun (letters : List (List ℕ)) (count : ℕ) (x : Identifier × Ru
   pub depths : x.1.key.depth + x.1.len ≤ count + 1
   pub forests : x.1.key.forest ≤ count
 
+-- the first stretch is there, with no more letters than there are cells, and there are no more others than cells
+pub record AreLetters (letters : List (List ℕ)) (count : ℕ) : Type 0 where
+  pub first : 0 < length letters
+  pub shared : length (slice_index_or letters 0 []) ≤ count
+  pub others : length letters ≤ count + 1
+
 -- the runs keep distinct cells, and the count is theirs
 pub record AreRuns (r : Runs) : Type 0 where
   pub each : All (IsRun r.letters r.count) r.rope
   pub distinct : AllPairs (λ x y. x ≢ y) (ids (cells_in r))
   pub counted : r.count ≡ length (cells_in r)
   pub few : r.count ≤ MOST_OPERATIONS
+  pub letters : AreLetters r.letters r.count
 
 -- the cell of x stands behind `offset` others in a run
 pub record IsSpot (rope : List (Identifier × Run)) (x : Identifier) (run : Run) (offset : ℕ) : Type 0 where

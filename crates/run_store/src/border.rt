@@ -44,7 +44,7 @@ fn goes_on(front: &Run, back: &Run) -> bool
     requires some { 0 < front.now.len }
     requires counters { front.now.id.counter + front.now.len ≤ 2 ^ 32 }
     requires depths { front.now.key.depth + front.now.len < 2 ^ 32 }
-    requires fits { front.now.start + front.now.len < 2 ^ 64 }
+    requires fits { front.now.start + front.now.len < 2 ^ 32 }
     ensures { result ≡ continues front.now back.now }
 {
     let last = Head {
@@ -61,7 +61,7 @@ fn goes_on(front: &Run, back: &Run) -> bool
     if first.key.forest != 0 {
         return false;
     }
-    back.stretch == front.stretch && back.start == front.start + front.len as usize
+    back.stretch == front.stretch && back.start == front.start + front.len
 }
 
 impl Runs {

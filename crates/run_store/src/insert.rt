@@ -23,7 +23,7 @@ use fugue_ids::{ElementId, MOST_OPERATIONS, NoMemory};
 use node_rope::{Back, Rope};
 
 /// The run with one letter more, which has its letters there.
-fn longer_at(run: &Run, stretch: usize, start: usize) -> Run
+fn longer_at(run: &Run, stretch: u32, start: u32) -> Run
     requires { run.now.len + 1 < 2 ^ 32 }
     ensures { result ≡ record run.now { stretch = stretch; start = start; len = suc run.now.len } }
 {
@@ -35,27 +35,28 @@ fn longer_at(run: &Run, stretch: usize, start: usize) -> Run
     }
 }
 
-/// One letter more behind those of the run. Were another there already, the run's letters would be copied; no run that is continued has one there, since its cell would have the identifier of the new one.
+/// One letter more behind those of the run. Where another stands there, which is another run's, the run's letters are copied.
 fn lengthened(letters: &mut Letters, run: &Run, ch: char) -> Result<Run, NoMemory>
     requires some { 0 < run.now.len }
     requires few { run.now.start + run.now.len < 2 ^ 31 }
     requires within { run.now.start + run.now.len ≤ length (slice_index_or letters.old run.now.stretch []) }
+    requires stretches { length letters.old < 2 ^ 32 }
     ensures ok { IfOk result (λ longer. IsLonger letters.old letters.new run.now ch longer) }
     ensures err { OnErr result (letters.new ≡ letters.old) }
 {
-    let end = run.start + run.len as usize;
+    let end = run.start as usize + run.len as usize;
     if letters.stretch(run.stretch).len() == end {
         letters.push(run.stretch, ch)?;
         Ok(longer_at(run, run.stretch, run.start))
     } else {
-        let stretch = letters.copy(run.stretch, run.start, end, ch)?;
+        let stretch = letters.copy(run.stretch, run.start, run.len, ch)?;
         Ok(longer_at(run, stretch, 0))
     }
 }
 
-/// A run of one cell, whose letter stands in a stretch of its own.
-fn alone(head: &Head, stretch: usize) -> Run
-    ensures { result ≡ record { id = head.now.id; left = head.now.left; right = head.now.right; hidden = head.now.hidden; key = head.now.key; stretch = stretch; start = 0; len = 1 } }
+/// A run of one cell, whose letter stands there in the first stretch.
+fn alone(head: &Head, start: u32) -> Run
+    ensures { result ≡ record { id = head.now.id; left = head.now.left; right = head.now.right; hidden = head.now.hidden; key = head.now.key; stretch = 0; start = start; len = 1 } }
 {
     Run {
         id: head.id,
@@ -63,8 +64,8 @@ fn alone(head: &Head, stretch: usize) -> Run
         right: head.right,
         hidden: head.hidden,
         key: head.key,
-        stretch,
-        start: 0,
+        stretch: 0,
+        start,
         len: 1,
     }
 }
@@ -113,8 +114,8 @@ impl Runs {
         ensures raised { OnOk result (length self.new.rope ≡ length self.old.rope + 1) }
         ensures err { OnErr result (self.new ≡ self.old) }
     {
-        let stretch = self.letters.begin(ch)?;
-        match place(&mut self.rope, at, head.id, alone(head, stretch)) {
+        let start = self.letters.begin(ch)?;
+        match place(&mut self.rope, at, head.id, alone(head, start)) {
             Ok(()) => {
                 self.count += 1;
                 Ok(())

@@ -1,94 +1,102 @@
-ghost use Rattle.std.specs.Prelude.{◌≡◌, ◌<◌, ◌≤◌, ◌-◌, ◌+◌, [], ◌∷◌, ◌++◌, drop, length, map, take, slice_index_or, slice_set, OnErr, OnOk, IfOk};
+ghost use Rattle.std.specs.Prelude.{◌≡◌, ◌<◌, ◌≤◌, ◌-◌, ◌+◌, ◌^◌, [], ◌∷◌, ◌++◌, drop, length, map, take, slice_index_or, slice_set, OnErr, OnOk, IfOk};
 
 use fugue_ids::NoMemory;
 use std::alloc::Global;
 use std::marker::Model;
 
 /// Stretches of letters, each in the order of arrival. A letter is never moved or changed, so runs share a stretch by ranges of it.
+///
+/// Each run begins in the first stretch, so that a run of one letter costs no more than that letter. One that is typed on behind the letters of
+/// another is copied into a stretch of its own, once.
 #[derive(Drop)]
 pub struct Letters {
-    stretches: Vec<Vec<char>>,
+    first: Vec<char>,
+    others: Vec<Vec<char>>,
     alloc: Global,
 }
 
 impl Model for Letters {
-    ghost use Rattle.std.specs.Prelude.{List, ℕ, map};
+    ghost use Rattle.std.specs.Prelude.{◌∷◌, List, ℕ, map};
 
     ghost Value = { List (List ℕ) };
 
-    ghost view = { λ l. map (λ v. v.items) l.stretches.items };
+    ghost view = { λ l. l.first.items ∷ map (λ v. v.items) l.others.items };
 }
 
 impl Letters {
     pub(crate) fn new(alloc: Global) -> Letters
-        ensures { result ≡ [] }
+        ensures { result ≡ [] ∷ [] }
     {
         Letters {
-            stretches: Vec::new(alloc),
+            first: Vec::new(alloc),
+            others: Vec::new(alloc),
             alloc,
         }
     }
 
     /// The letters of a stretch.
-    pub(crate) fn stretch(&self, stretch: usize) -> &[char]
+    pub(crate) fn stretch(&self, stretch: u32) -> &[char]
         ensures { result.now ≡ slice_index_or self.now stretch [] }
     {
-        match self.stretches.get(stretch) {
+        if stretch == 0 {
+            return self.first.as_slice();
+        }
+        match self.others.get(stretch as usize - 1) {
             Some(letters) => letters.as_slice(),
             None => &[],
         }
     }
 
-    /// A new stretch of these letters.
-    fn add(&mut self, letters: Vec<char>) -> Result<usize, NoMemory>
-        ensures ok { IfOk result (λ n. (n ≡ length self.old) × (self.new ≡ self.old ++ letters.items ∷ [])) }
+    /// A letter behind those of the first stretch. The answer is where it stands there.
+    pub(crate) fn begin(&mut self, ch: char) -> Result<u32, NoMemory>
+        requires { length (slice_index_or self.old 0 []) < 2 ^ 32 }
+        ensures ok { IfOk result (λ start. (start ≡ length (slice_index_or self.old 0 [])) × (self.new ≡ slice_set self.old 0 (slice_index_or self.old 0 [] ++ ch ∷ []))) }
         ensures err { OnErr result (self.new ≡ self.old) }
     {
-        let stretch = self.stretches.len();
-        self.stretches.push(letters)?;
-        Ok(stretch)
-    }
-
-    /// A new stretch of one letter.
-    pub(crate) fn begin(&mut self, ch: char) -> Result<usize, NoMemory>
-        ensures ok { IfOk result (λ n. (n ≡ length self.old) × (self.new ≡ self.old ++ (ch ∷ []) ∷ [])) }
-        ensures err { OnErr result (self.new ≡ self.old) }
-    {
-        let letters = followed(self.alloc, &[], ch)?;
-        self.add(letters)
+        let start = self.first.len() as u32;
+        self.first.push(ch)?;
+        Ok(start)
     }
 
     /// A new stretch of a part of another one and one letter more.
     pub(crate) fn copy(
         &mut self,
-        stretch: usize,
-        start: usize,
-        end: usize,
+        stretch: u32,
+        start: u32,
+        len: u32,
         ch: char,
-    ) -> Result<usize, NoMemory>
-        requires order { start ≤ end }
-        requires within { end ≤ length (slice_index_or self.old stretch []) }
-        ensures ok { IfOk result (λ n. (n ≡ length self.old) × (self.new ≡ self.old ++ (take (end - start) (drop start (slice_index_or self.old stretch [])) ++ ch ∷ []) ∷ [])) }
+    ) -> Result<u32, NoMemory>
+        requires within { start + len ≤ length (slice_index_or self.old stretch []) }
+        requires few { length self.old < 2 ^ 32 }
+        ensures ok { IfOk result (λ n. (n ≡ length self.old) × (self.new ≡ self.old ++ (take len (drop start (slice_index_or self.old stretch [])) ++ ch ∷ []) ∷ [])) }
         ensures err { OnErr result (self.new ≡ self.old) }
     {
+        let start = start as usize;
+        let end = start + len as usize;
         let letters = followed(self.alloc, &self.stretch(stretch)[start..end], ch)?;
-        self.add(letters)
+        let stretch = self.others.len() as u32 + 1;
+        self.others.push(letters)?;
+        Ok(stretch)
     }
 
     /// One letter more in a stretch.
-    pub(crate) fn push(&mut self, stretch: usize, ch: char) -> Result<(), NoMemory>
+    pub(crate) fn push(&mut self, stretch: u32, ch: char) -> Result<(), NoMemory>
         requires { stretch < length self.old }
         ensures ok { OnOk result (self.new ≡ slice_set self.old stretch (slice_index_or self.old stretch [] ++ ch ∷ [])) }
         ensures err { OnErr result (self.new ≡ self.old) }
     {
-        push_letter(&mut self.stretches, stretch, ch)
+        if stretch == 0 {
+            self.first.push(ch)?;
+            return Ok(());
+        }
+        push_letter(&mut self.others, stretch as usize - 1, ch)
     }
 
-    /// Takes the last stretch back.
+    /// Takes the last letter of the first stretch back.
     pub(crate) fn take_back(&mut self)
-        ensures { self.new ≡ take (length self.old - 1) self.old }
+        ensures { self.new ≡ slice_set self.old 0 (take (length (slice_index_or self.old 0 []) - 1) (slice_index_or self.old 0 [])) }
     {
-        let _ = self.stretches.pop();
+        let _ = self.first.pop();
     }
 }
 

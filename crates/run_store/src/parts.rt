@@ -71,7 +71,7 @@ pub(crate) fn run_from(run: &Run, n: u32) -> Run
     requires counters { run.now.id.counter + n < 2 ^ 32 }
     requires depths { run.now.key.depth + n < 2 ^ 32 }
     requires within { n ≤ run.now.len }
-    requires fits { run.now.start + n < 2 ^ 64 }
+    requires fits { run.now.start + n < 2 ^ 32 }
     ensures { result ≡ rest_by n run.now }
 {
     let first = cell_at(run, n);
@@ -82,7 +82,7 @@ pub(crate) fn run_from(run: &Run, n: u32) -> Run
         hidden: first.hidden,
         key: first.key,
         stretch: run.stretch,
-        start: run.start + n as usize,
+        start: run.start + n,
         len: run.len - n,
     }
 }

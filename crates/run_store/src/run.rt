@@ -10,11 +10,11 @@ pub struct Run {
     pub(crate) id: ElementId,
     pub(crate) left: Option<ElementId>,
     pub(crate) right: Option<ElementId>,
-    pub(crate) hidden: bool,
     pub(crate) key: Key,
-    pub(crate) stretch: usize,
-    pub(crate) start: usize,
+    pub(crate) stretch: u32,
+    pub(crate) start: u32,
     pub(crate) len: u32,
+    pub(crate) hidden: bool,
 }
 
 impl Weigh for Run {

@@ -34,9 +34,9 @@ fn put_run<O: Out>(
     if run.hidden {
         return Ok(());
     }
-    let end = run.start + run.len as usize;
-    let all = letters.stretch(run.stretch);
-    put_letters(&all[run.start..end], gather, output)
+    let start = run.start as usize;
+    let end = start + run.len as usize;
+    put_letters(&letters.stretch(run.stretch)[start..end], gather, output)
 }
 
 impl Runs {

@@ -1,4 +1,4 @@
-use Rattle.std.proofs.Common.{[], ap, arith, drop, length, subst, suc, sym, take, ◌+◌, ◌-◌, ◌++◌, ◌∙◌, ◌∷◌, ◌≡◌}
+use Rattle.std.proofs.Common.{[], ap, length, subst, suc, sym, ◌+◌, ◌∙◌, ◌≡◌}
 use Rattle.std.specs.Prelude.{slice_index_or}
 use Rattle.run_store.specs.Growth.{IsLonger}
 use Rattle.run_store.proofs.GrowLemmas.{longer-copied, longer-pushed}
@@ -16,8 +16,7 @@ pub returns-in_ok-stretch-clause-ok : goal.returns-in_ok-stretch-clause-ok
 returns-in_ok-stretch-clause-ok c =
     let L = c.args.letters.now in
     let run = c.args.run.now in
-    let d : (run.start + run.len) - run.start ≡ run.len = omega arith in
     subst (IsLonger L c.copy.new.self run c.args.ch) (sym c.longer_at-else-stretch-end.ensures)
     (subst (λ M. IsLonger L M run c.args.ch (record run { stretch = c.in_ok-stretch.stretch; start = 0; len = suc run.len }))
-    (sym (c.in_ok-stretch.ensures.ok.1 ∙ ap (λ n. L ++ (take n (drop run.start (slice_index_or L run.stretch [])) ++ c.args.ch ∷ []) ∷ []) d))
+    (sym c.in_ok-stretch.ensures.ok.1)
     (longer-copied L run c.args.ch c.in_ok-stretch.stretch c.in_ok-stretch.ensures.ok.0 c.requires.within))
