@@ -11,6 +11,7 @@ ghost use Rattle.manuscript_cli.specs.declared.status.Status.TheVariants.{Done};
 
 use crate::Status;
 use crate::home_file::{load_file, save};
+use crate::printing::noted;
 use crate::refusal::{Refusal, tell};
 use edit_script::run_script;
 use fugue_ids::{Failed, Out, write_pieces};
@@ -74,10 +75,8 @@ fn note<N: Sink>(made: u32, notes: &mut N) -> Status
     ensures meets { NoteMeets (made_line made) Done (N.seen notes.old) (N.seen notes.new) result }
     ensures calm { StaysCalm notes_room (N.seen notes.old) (N.seen notes.new) }
 {
-    match write_made(notes, made) {
-        Ok(()) => Status::Done,
-        Err(_) => tell(notes, Refusal::Outside),
-    }
+    let written = write_made(notes, made);
+    noted(written, Status::Done, notes)
 }
 
 fn write_made<N: Out>(notes: &mut N, made: u32) -> Result<(), Failed>

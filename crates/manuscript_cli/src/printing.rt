@@ -1,4 +1,5 @@
-ghost use Rattle.std.specs.Prelude.{◌≡◌, length};
+ghost use Rattle.std.specs.Prelude.{◌≡◌, ◌≤◌, List, ℕ, length};
+ghost use Rattle.fugue_ids.specs.Outs.{OutView, WritesText};
 ghost use Rattle.origin_model.specs.order.Printed.{manuscript};
 ghost use Rattle.manuscript_cli.specs.Counts.{counts_text, status_by};
 ghost use Rattle.manuscript_cli.specs.Printing.{NoteMeets, PrintMeets};
@@ -7,6 +8,7 @@ ghost use Rattle.manuscript_cli.specs.Touched.{StaysCalm, notes_room};
 use crate::Status;
 use crate::counts::{Counts, status_of, write_counts};
 use crate::refusal::{Refusal, tell};
+use fugue_ids::Failed;
 use origin_model::Tally;
 use outer_ports::Sink;
 use replica_core::Replica;
@@ -34,8 +36,19 @@ pub(crate) fn note<N: Sink>(counts: &Counts, notes: &mut N) -> Status
         (N.seen notes.old) (N.seen notes.new) result }
     ensures calm { StaysCalm notes_room (N.seen notes.old) (N.seen notes.new) }
 {
-    match write_counts(notes, counts) {
-        Ok(()) => status_of(counts),
+    let written = write_counts(notes, counts);
+    noted(written, status_of(counts), notes)
+}
+
+/// The status, where the line of notes was written. Where it was not, that is told as a fault outside.
+pub(crate) fn noted<N: Sink>(written: Result<(), Failed>, status: Status, notes: &mut N) -> Status
+    ensures meets { (before : OutView) (line : List ℕ) → WritesText before (N.seen notes.old) written line → length line ≤ notes_room
+        → NoteMeets line status before (N.seen notes.new) result }
+    ensures calm { (before : OutView) (line : List ℕ) → WritesText before (N.seen notes.old) written line → length line ≤ notes_room
+        → StaysCalm notes_room before (N.seen notes.new) }
+{
+    match written {
+        Ok(()) => status,
         Err(_) => tell(notes, Refusal::Outside),
     }
 }

@@ -8,6 +8,7 @@ ghost use Rattle.manuscript_cli.specs.declared.status.Status.TheVariants.{Done};
 ghost use Rattle.relay_core.specs.declared.relay.TheConstants.{MOST_LOGGED as most_logged};
 
 use crate::Status;
+use crate::printing::noted;
 use crate::refusal::{Refusal, tell};
 use fugue_ids::{Failed, Out, write_pieces, write_whole};
 use itoa::Buffer;
@@ -93,10 +94,8 @@ fn note<N: Sink>(logged: u32, notes: &mut N) -> Status
     ensures meets { NoteMeets (log_line logged) Done (N.seen notes.old) (N.seen notes.new) result }
     ensures calm { StaysCalm notes_room (N.seen notes.old) (N.seen notes.new) }
 {
-    match write_logged(notes, logged) {
-        Ok(()) => Status::Done,
-        Err(_) => tell(notes, Refusal::Outside),
-    }
+    let written = write_logged(notes, logged);
+    noted(written, Status::Done, notes)
 }
 
 fn write_logged<N: Out>(notes: &mut N, logged: u32) -> Result<(), Failed>

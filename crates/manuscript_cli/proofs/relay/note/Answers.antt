@@ -1,5 +1,7 @@
-use Rattle.manuscript_cli.proofs.TextLemmas.{not_noted}
 use Rattle.manuscript_cli.proofs.relay.note.Goals as goal
 
-pub returns-in-Err-clause-meets : goal.returns-in-Err-clause-meets
-returns-in-Err-clause-meets g c = not_noted _ _ _ _ _ _ _ c.in-Err.ensures.text c.in-Err.ensures.short c.tell.ensures.told c.tell.ensures.status
+pub returns : goal.returns
+returns g c = record {
+  meets = c.noted.ensures.meets _ _ c.write_logged-written.ensures.text c.write_logged-written.ensures.short;
+  calm = c.noted.ensures.calm _ _ c.write_logged-written.ensures.text c.write_logged-written.ensures.short;
+}
