@@ -8,6 +8,7 @@ use Rattle.node_rope.specs.declared.store.Store.{Store}
 use Rattle.node_rope.specs.declared.cells.Shape.{Shape}
 use Rattle.node_rope.specs.declared.cells.Link.{Link}
 use Rattle.node_rope.specs.declared.cells.Node.{Node}
+use Rattle.node_rope.specs.declared.pile.Spot.{Spot}
 use Rattle.node_rope.specs.Heaps.{Mooring}
 use Rattle.node_rope.specs.Filed.{Leads, IsFiled}
 use Rattle.node_rope.specs.Shaped.{shape_of, value_of}
@@ -59,9 +60,9 @@ from-map f [] i y e = absurd (cc)
 from-map f (x ∷ xs) zero y e = (x, refl, cc)
 from-map f (x ∷ xs) (suc i) y e = from-map f xs i y e
 
-pub flip-filed : {T Z : Type 0} (o : Option Link) (ns : List (Node T)) (ms : List (Mooring Z)) → IsFiled o ns ms → IsFiled o (map flip_node ns) ms
-flip-filed {T} o ns ms f = record {
-  last = subst (λ (n : ℕ). Leads ms o n) (sym (length-map ns flip_node)) f.last;
+pub flip-filed : {T Z : Type 0} (s : Spot) (ns : List (Node T)) (ms : List (Mooring Z)) → IsFiled s ns ms → IsFiled s (map flip_node ns) ms
+flip-filed {T} s ns ms f = record {
+  last = subst (λ (n : ℕ). Leads ms s n) (sym (length-map ns flip_node)) f.last;
   each = λ i n e. let q = from-map flip_node ns i n e in subst (λ (k : Node T). Leads ms k.older i) q.2 (f.each i q.0 q.1);
 }
 
@@ -69,6 +70,8 @@ abbrev pub mirrored : {T : Type 0} → Store T → Store T
 mirrored s = record {
   pile = record { kind = s.pile.kind; values = map flip_node s.pile.values; moorings = s.pile.moorings; paired = length-map s.pile.values flip_node ∙ s.pile.paired };
   newest = s.newest;
+  count = s.count;
+  counted = s.counted ∙ sym (length-map s.pile.values flip_node);
   alloc = s.alloc;
   filed = ∣ flip-filed s.newest s.pile.values s.pile.moorings (filed-had s.newest s.pile.values s.pile.moorings s.filed) ∣₁;
 }

@@ -58,7 +58,7 @@ module _ {T : Type 0} (s u : Store T) (root : Option Link) (at l : Link) (w : Ow
 
   pub small : made_count s < 2 ^ 62 → AreSmall (shapes_of s) (w.weight + w.weight) → AreSmall (shapes_of u) w.weight
   small few b = record {
-    counts = λ i. elim (same-or-not i l.number) as (λ _. (shape_at (shapes_of u) i).count < 2 ^ 63 - 1) [
+    counts = λ i. elim (same-or-not i l.number) as (λ _. (shape_at (shapes_of u) i).count < 2 ^ 32 - 1) [
       | inl f ↦ omega (arith, ap (λ (k : ℕ). (shape_at (shapes_of u) k).count) f, e.new_count, b.counts at.number)
       | inr f ↦ omega (arith, e.count_same i f, b.counts i)
     ];

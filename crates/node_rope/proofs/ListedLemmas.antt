@@ -1,8 +1,8 @@
 -- Lists of nodes, seen through one of their parts.
-use Rattle.std.proofs.Common.{◌≡◌, ◌⊎◌, inl, inr, ℕ, zero, suc, ◌<◌, ◌≤◌, List, [], ◌∷◌, ◌++◌, length, map, get_or, slice_get, slice_set, Option, None, Some, refl, sym, ap, ◌∙◌, subst, arith}
+use Rattle.std.proofs.Common.{◌≡◌, ◌⊎◌, inl, inr, ℕ, zero, suc, ◌<◌, ◌≤◌, List, [], ◌∷◌, ◌++◌, length, map, get_or, slice_get, slice_set, Some, refl, sym, ap, ◌∙◌, subst, arith}
 use lib.ListN.{length-set, length-append}
 use Rattle.node_rope.specs.Heaps.{Mooring, LiesAt}
-use Rattle.node_rope.specs.declared.cells.Link.{Link}
+use Rattle.node_rope.specs.declared.pile.Spot.{Spot}
 use Rattle.node_rope.specs.declared.cells.Node.{Node}
 use Rattle.node_rope.specs.Filed.{Leads, IsFiled}
 use Rattle.node_rope.proofs.BoxLemmas.{lies-longer, lies-shorter, lies-last}
@@ -30,16 +30,16 @@ older-same (x ∷ ns) zero (suc j) w r e h n g = (n, g, refl)
 older-same (x ∷ ns) (suc i) zero w r e h n g = let k : x ≡ n = cc in (x, refl, ap (λ y. y.older) k)
 older-same (x ∷ ns) (suc i) (suc j) w r e h n g = older-same ns i j w r e h n g
 
-pub filed-set : {T Z : Type 0} (o : Option Link) (ns : List (Node T)) (ms : List (Mooring Z)) (i : ℕ) (w r : Node T) → r ≡ get_or ns i r → w.older ≡ r.older → IsFiled o ns ms → IsFiled o (slice_set ns i w) ms
-filed-set o ns ms i w r e h f = record {
-  last = subst (λ (k : ℕ). Leads ms o k) (sym (length-set ns i w)) f.last;
-  each = λ j n g. let m = older-same ns i j w r e h n g in subst (λ (p : Option Link). Leads ms p j) m.2 (f.each j m.0 m.1);
+pub filed-set : {T Z : Type 0} (s : Spot) (ns : List (Node T)) (ms : List (Mooring Z)) (i : ℕ) (w r : Node T) → r ≡ get_or ns i r → w.older ≡ r.older → IsFiled s ns ms → IsFiled s (slice_set ns i w) ms
+filed-set s ns ms i w r e h f = record {
+  last = subst (λ (k : ℕ). Leads ms s k) (sym (length-set ns i w)) f.last;
+  each = λ j n g. let m = older-same ns i j w r e h n g in subst (λ (q : Spot). Leads ms q j) m.2 (f.each j m.0 m.1);
 }
 
 -- one more node
-pub leads-longer : {Z : Type 0} (ms ks : List (Mooring Z)) (o : Option Link) (n : ℕ) → Leads ms o n → Leads (ms ++ ks) o n
-leads-longer ms ks None n e = e
-leads-longer ms ks (Some l) n e = (e.0, lies-longer ms ks l.number l.spot.address e.1)
+pub leads-longer : {Z : Type 0} (ms ks : List (Mooring Z)) (s : Spot) (n : ℕ) → Leads ms s n → Leads (ms ++ ks) s n
+leads-longer ms ks s zero e = e
+leads-longer ms ks s (suc n) e = lies-longer ms ks n s.address e
 
 got-last : {T : Type 0} (ns : List (Node T)) (w : Node T) (i : ℕ) (n : Node T) → slice_get (ns ++ w ∷ []) i ≡ Some n → (slice_get ns i ≡ Some n) ⊎ ((i ≡ length ns) × (w ≡ n))
 got-last [] w zero n g = inr (refl, cc)
@@ -47,20 +47,22 @@ got-last [] w (suc i) n g = absurd (cc)
 got-last (x ∷ ns) w zero n g = inl g
 got-last (x ∷ ns) w (suc i) n g = elim (got-last ns w i n g) as (λ _. (slice_get ns i ≡ Some n) ⊎ ((suc i ≡ suc (length ns)) × (w ≡ n))) [ inl h ↦ inl h | inr h ↦ inr (ap suc h.0, h.1) ]
 
-pub filed-more : {T Z : Type 0} (o : Option Link) (ns : List (Node T)) (ms : List (Mooring Z)) (w : Node T) (l : Link) (m : Mooring Z) → length ns ≡ length ms → IsFiled o ns ms → w.older ≡ o → l.number ≡ length ns → l.spot.address ≡ m.0
-    → IsFiled (Some l) (ns ++ w ∷ []) (ms ++ m ∷ [])
-filed-more o ns ms w l m pair f h e a = record {
-  last = (ap suc e ∙ (omega (arith, length-append ns (w ∷ []))), subst (λ (p : denote.RawPtr.Ptr). LiesAt (ms ++ m ∷ []) l.number p) (sym a) (lies-last ms m l.number (omega arith)));
+pub filed-more : {T Z : Type 0} (s : Spot) (ns : List (Node T)) (ms : List (Mooring Z)) (w : Node T) (t : Spot) (m : Mooring Z) → length ns ≡ length ms → IsFiled s ns ms → w.older ≡ s → t.address ≡ m.0
+    → IsFiled t (ns ++ w ∷ []) (ms ++ m ∷ [])
+filed-more s ns ms w t m pair f h a = record {
+  last =
+      let longer : suc (length ns) ≡ length (ns ++ w ∷ []) = omega (arith, length-append ns (w ∷ [])) in
+      subst (λ (n : ℕ). Leads (ms ++ m ∷ []) t n) longer (subst (λ (p : denote.RawPtr.Ptr). LiesAt (ms ++ m ∷ []) (length ns) p) (sym a) (lies-last ms m (length ns) pair));
   each = λ i n g. elim (got-last ns w i n g) as (λ _. Leads (ms ++ m ∷ []) n.older i) [
     | inl k ↦ leads-longer ms (m ∷ []) n.older i (f.each i n k)
-    | inr k ↦ leads-longer ms (m ∷ []) n.older i (subst (λ (p : Option Link). Leads ms p i) (sym h ∙ ap (λ y. y.older) k.1) (subst (λ (j : ℕ). Leads ms o j) (sym k.0) f.last))
+    | inr k ↦ leads-longer ms (m ∷ []) n.older i (subst (λ (q : Spot). Leads ms q i) (sym h ∙ ap (λ y. y.older) k.1) (subst (λ (j : ℕ). Leads ms s j) (sym k.0) f.last))
   ];
 }
 
 -- one node less
-leads-shorter : {Z : Type 0} (ms ks : List (Mooring Z)) (o : Option Link) (n : ℕ) → n ≤ length ms → Leads (ms ++ ks) o n → Leads ms o n
-leads-shorter ms ks None n h e = e
-leads-shorter ms ks (Some l) n h e = let k = e.0 in (e.0, lies-shorter ms ks l.number l.spot.address (omega arith) e.1)
+leads-shorter : {Z : Type 0} (ms ks : List (Mooring Z)) (s : Spot) (n : ℕ) → n ≤ length ms → Leads (ms ++ ks) s n → Leads ms s n
+leads-shorter ms ks s zero h e = e
+leads-shorter ms ks s (suc n) h e = lies-shorter ms ks n s.address (omega arith) e
 
 got-first : {T : Type 0} (ns : List T) (w : T) (i : ℕ) (n : T) → slice_get ns i ≡ Some n → slice_get (ns ++ w ∷ []) i ≡ Some n
 got-first [] w i n g = absurd (cc)
@@ -76,8 +78,8 @@ got-below [] i n g = absurd (cc)
 got-below (x ∷ ns) zero n g = omega arith
 got-below (x ∷ ns) (suc i) n g = let h = got-below ns i n g in omega arith
 
-pub filed-less : {T Z : Type 0} (o : Option Link) (ns : List (Node T)) (ms : List (Mooring Z)) (w : Node T) (m : Mooring Z) → length ns ≡ length ms → IsFiled o (ns ++ w ∷ []) (ms ++ m ∷ []) → IsFiled w.older ns ms
-filed-less o ns ms w m pair f = record {
+pub filed-less : {T Z : Type 0} (s : Spot) (ns : List (Node T)) (ms : List (Mooring Z)) (w : Node T) (m : Mooring Z) → length ns ≡ length ms → IsFiled s (ns ++ w ∷ []) (ms ++ m ∷ []) → IsFiled w.older ns ms
+filed-less s ns ms w m pair f = record {
   last = leads-shorter ms (m ∷ []) w.older (length ns) (omega arith) (f.each (length ns) w (got-end ns w));
   each = λ i n g. let h = got-below ns i n g in leads-shorter ms (m ∷ []) n.older i (omega arith) (f.each i n (got-first ns w i n g));
 }

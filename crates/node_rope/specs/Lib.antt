@@ -8,6 +8,7 @@ pub mod Joined
 pub mod Linked
 pub mod Low
 pub mod Made
+pub mod Packing
 pub mod Places
 pub mod Reweighed
 pub mod Rising

@@ -47,5 +47,5 @@ left_to_rise ss None = 0
 left_to_rise ss (Some l) = suc (2 ^ 63 - (shape_at ss l.number).count)
 
 pub record AreSmall (ss : List Shape) (w : ℕ) : Type 0 where
-  pub counts : (i : ℕ) → (shape_at ss i).count < 2 ^ 63 - 1
+  pub counts : (i : ℕ) → (shape_at ss i).count < 2 ^ 32 - 1
   pub weights : (i : ℕ) → (shape_at ss i).weight + w < 2 ^ 64

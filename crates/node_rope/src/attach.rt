@@ -41,7 +41,7 @@ fn new_shape<T: Drop>(store: &Store<T>, side: Side, at: Link, key: ElementId, ow
         right: None,
         parent: Some(at),
         count: count_below(store, below) + 1,
-        weight: weight_below(store, below) + own.weight,
+        weight: weight_below(store, below) + own.weight as u64,
         least: least_below(store, below).min(own.rank),
         own,
     };
@@ -58,7 +58,7 @@ fn join<T: Drop>(
 ) -> Result<Link, Back<T>>
     requires made { IsMade store.old at }
     requires near { AreMade store.old (faced side (shape_at (shapes_of store.old) at.number)).left }
-    requires few { made_count store.old < 2 ^ 62 }
+    requires few { made_count store.old < 2 ^ 32 - 1 }
     ensures joined { IfOk result (λ l. (shapes_of store.new ≡ joined_beside side (shapes_of store.old) at l shape) × (values_of store.new ≡ values_of store.old ++ (value ∷ [])) × (l.number ≡ made_count store.old) × IsMade store.new l × (made_count store.new ≡ made_count store.old + 1)) }
     ensures refused { IfErr result (λ b. (b.value ≡ value) × (store.new ≡ store.old)) }
     ensures kept { IsKept store.old store.new }
@@ -86,7 +86,7 @@ pub(crate) fn attach<T: Drop>(
 ) -> Result<Link, Back<T>>
     requires made { IsMade store.old at }
     requires sound { IsSound store.old root }
-    requires few { made_count store.old < 2 ^ 62 }
+    requires few { made_count store.old < 2 ^ 32 - 1 }
     requires fits { own.rank < 2 ^ 64 }
     requires small { AreSmall (shapes_of store.old) (own.weight + own.weight) }
     ensures grown { IfOk result (λ l. IsGrown store.old store.new root key own value l) }

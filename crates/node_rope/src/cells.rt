@@ -1,4 +1,5 @@
 // The nodes of a rope, as the list of them in the order made.
+use crate::packed::Packed;
 use crate::pile::Spot;
 use fugue_ids::ElementId;
 
@@ -6,13 +7,13 @@ use fugue_ids::ElementId;
 #[derive(Clone, Copy)]
 pub struct Link {
     pub(crate) spot: Spot,
-    pub(crate) number: usize,
+    pub(crate) number: u32,
 }
 
 /// What a value counts for by itself.
 #[derive(Clone, Copy)]
 pub struct Own {
-    pub(crate) weight: u64,
+    pub(crate) weight: u32,
     pub(crate) rank: u64,
 }
 
@@ -23,16 +24,16 @@ pub struct Shape {
     pub(crate) left: Option<Link>,
     pub(crate) right: Option<Link>,
     pub(crate) parent: Option<Link>,
-    pub(crate) count: usize,
+    pub(crate) count: u32,
     pub(crate) weight: u64,
     pub(crate) least: u64,
     pub(crate) own: Own,
 }
 
-// `older` leads to the node made before.
+// `older` is where the node made before lies.
 #[derive(Drop)]
 pub struct Node<T> {
-    pub(crate) shape: Shape,
-    pub(crate) older: Option<Link>,
+    pub(crate) shape: Packed,
+    pub(crate) older: Spot,
     pub(crate) value: T,
 }

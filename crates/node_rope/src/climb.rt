@@ -7,7 +7,7 @@ ghost use Rattle.node_rope.specs.Walk.{count_of};
 use crate::cells::{Link, Shape};
 use crate::store::Store;
 
-pub(crate) fn count_below<T: Drop>(store: &Store<T>, link: Option<Link>) -> usize
+pub(crate) fn count_below<T: Drop>(store: &Store<T>, link: Option<Link>) -> u32
     requires { AreMade store.now link }
     ensures { result ≡ count_of (tree_of (shapes_of store.now)) (number_of link) }
 {
@@ -63,13 +63,13 @@ pub(crate) fn before<T: Drop>(store: &Store<T>, root: Option<Link>, at: Link) ->
 {
     let mut cur = at;
     let mut shape = store.shape(at);
-    let mut count = count_below(store, shape.left);
+    let mut count = count_below(store, shape.left) as usize;
     let mut weight = weight_below(store, shape.left);
     'up: while let Some(up) = shape.parent {
         let above = store.shape(up);
         if leads_to(above.right, cur) {
-            count = count_below(store, above.left) + 1 + count;
-            weight = weight_below(store, above.left) + (above.own.weight + weight);
+            count = count_below(store, above.left) as usize + 1 + count;
+            weight = weight_below(store, above.left) + (above.own.weight as u64 + weight);
         }
         cur = up;
         shape = above;

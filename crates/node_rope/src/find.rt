@@ -28,13 +28,13 @@ pub(crate) fn find_weight<T: Drop>(store: &Store<T>, root: Option<Link>, w: u64)
         let left = weight_below(store, shape.left);
         if rest < left {
             cur = shape.left;
-        } else if rest - left < shape.own.weight {
+        } else if rest - left < shape.own.weight as u64 {
             return Some(Unit {
                 link,
                 inside: rest - left,
             });
         } else {
-            rest = rest - left - shape.own.weight;
+            rest = rest - left - shape.own.weight as u64;
             cur = shape.right;
         }
     }
@@ -52,7 +52,7 @@ pub(crate) fn node_at<T: Drop>(store: &Store<T>, root: Option<Link>, place: usiz
     let mut rest = place;
     'down: while let Some(link) = cur {
         let shape = store.shape(link);
-        let left = count_below(store, shape.left);
+        let left = count_below(store, shape.left) as usize;
         if rest < left {
             cur = shape.left;
         } else if rest == left {

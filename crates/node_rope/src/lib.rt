@@ -12,6 +12,7 @@ mod find;
 mod links;
 mod look_ups;
 mod low;
+mod packed;
 mod pile;
 mod raise;
 mod rekey;

@@ -20,7 +20,7 @@ impl<T: Weigh> Rope<T> {
     {
         let _ = &self.store;
         match self.root {
-            Some(root) => self.store.shape(root).count,
+            Some(root) => self.store.shape(root).count as usize,
             None => 0,
         }
     }

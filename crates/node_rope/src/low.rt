@@ -94,7 +94,7 @@ fn low_node<T: Drop>(
     let mut rest = from;
     'down: while let Some(link) = cur {
         let shape = facing(store.shape(link), side);
-        let left = count_below(store, shape.left);
+        let left = count_below(store, shape.left) as usize;
         if rest <= left {
             near = low_from_or(store, root, side, link, most, near);
             cur = shape.left;
@@ -139,6 +139,6 @@ pub(crate) fn last_low_node<T: Drop>(
     ensures found { number_of result ≡ last_low (ranks (shapes_of store.now)) most (take to (order store.now root)) }
     ensures made { AreMade store.now result }
 {
-    let behind = count_below(store, root).saturating_sub(to);
+    let behind = (count_below(store, root) as usize).saturating_sub(to);
     low_node(store, root, Side::Right, behind, most)
 }

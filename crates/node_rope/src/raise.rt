@@ -28,7 +28,7 @@ pub(crate) fn raise<T: Drop>(store: &mut Store<T>, from: Option<Link>, own: Own)
             l,
             Shape {
                 count: shape.count + 1,
-                weight: shape.weight + own.weight,
+                weight: shape.weight + own.weight as u64,
                 least: shape.least.min(own.rank),
                 ..shape
             },

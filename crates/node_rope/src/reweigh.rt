@@ -17,7 +17,8 @@ fn with_sums<T: Drop>(store: &Store<T>, shape: Shape) -> Shape
 {
     let Own { weight, rank } = shape.own;
     Shape {
-        weight: weight_below(store, shape.left) + (weight + weight_below(store, shape.right)),
+        weight: weight_below(store, shape.left)
+            + (weight as u64 + weight_below(store, shape.right)),
         least: least_below(store, shape.left).min(rank.min(least_below(store, shape.right))),
         ..shape
     }

@@ -43,7 +43,7 @@ fn own_of<T: Weigh>(value: &T) -> Own
     ensures fits { result.rank < 2 ^ 64 }
 {
     Own {
-        weight: value.weight(),
+        weight: value.weight() as u32,
         rank: value.rank(),
     }
 }
@@ -133,7 +133,7 @@ impl<T: Weigh> Rope<T> {
             right: None,
             parent: None,
             count: 1,
-            weight: own.weight,
+            weight: own.weight as u64,
             least: own.rank,
             own,
         };

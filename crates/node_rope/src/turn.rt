@@ -17,7 +17,7 @@ fn lift<T: Drop>(store: &mut Store<T>, side: Side, p: Link, c: Link, above: Shap
     requires made_right { AreMade store.old below.right }
     requires made_other { AreMade store.old above.right }
     requires counts { below.count ≤ above.count }
-    requires small { above.count - below.count + count_at (shapes_of store.old) below.right < 2 ^ 64 }
+    requires small { above.count - below.count + count_at (shapes_of store.old) below.right < 2 ^ 32 }
     requires weights { below.weight ≤ above.weight }
     requires light { above.weight - below.weight + weight_at (shapes_of store.old) below.right < 2 ^ 64 }
     ensures shapes { shapes_of store.new ≡ lifted side (shapes_of store.old) p c above below }

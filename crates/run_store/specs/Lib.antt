@@ -2,6 +2,7 @@ pub mod Cells
 pub mod Heads
 pub mod Growth
 pub mod NewCells
+pub mod Origins
 pub mod Runs
 pub mod Beginning
 pub mod Borders

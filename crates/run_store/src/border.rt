@@ -84,7 +84,7 @@ impl Runs {
         requires more { 1 < run.now.len }
         ensures { IfSome result (λ b. IsHiding self.now.rope run.now.id b.front b.back b.at) }
     {
-        let left = run.left?;
+        let left = run.left.id()?;
         let spot = self.find(left)?;
         let front = spot.run;
         if !front.hidden {

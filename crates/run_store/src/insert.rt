@@ -16,6 +16,7 @@ use crate::find::Spot;
 use crate::head::Head;
 use crate::letters::Letters;
 use crate::new_cells::is_continued;
+use crate::origin::Origin;
 use crate::parts::{cell_at, run_to};
 use crate::run::Run;
 use crate::runs::Runs;
@@ -60,8 +61,8 @@ fn alone(head: &Head, start: u32) -> Run
 {
     Run {
         id: head.id,
-        left: head.left,
-        right: head.right,
+        left: Origin::new(head.left),
+        right: Origin::new(head.right),
         hidden: head.hidden,
         key: head.key,
         stretch: 0,

@@ -15,6 +15,7 @@ mod low;
 mod middle;
 mod new_cells;
 mod order;
+mod origin;
 mod parts;
 mod run;
 mod runs;

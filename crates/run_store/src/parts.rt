@@ -4,6 +4,7 @@ ghost use Rattle.run_store.specs.Heads.{head_behind, id_behind as id_by};
 ghost use Rattle.run_store.specs.Runs.{first_of, run_from as rest_by, run_to as front_by};
 
 use crate::head::Head;
+use crate::origin::Origin;
 use crate::run::Run;
 use fugue_ids::{ElementId, Key};
 
@@ -24,8 +25,8 @@ pub(crate) fn first_cell(run: &Run) -> Head
 {
     Head {
         id: run.id,
-        left: run.left,
-        right: run.right,
+        left: run.left.id(),
+        right: run.right.id(),
         hidden: run.hidden,
         key: run.key,
     }
@@ -43,7 +44,7 @@ pub(crate) fn cell_at(run: &Run, n: u32) -> Head
     Head {
         id: id_behind(run.id, n),
         left: Some(id_behind(run.id, n - 1)),
-        right: run.right,
+        right: run.right.id(),
         hidden: run.hidden,
         key: Key {
             depth: run.key.depth + n,
@@ -77,8 +78,8 @@ pub(crate) fn run_from(run: &Run, n: u32) -> Run
     let first = cell_at(run, n);
     Run {
         id: first.id,
-        left: first.left,
-        right: first.right,
+        left: Origin::new(first.left),
+        right: Origin::new(first.right),
         hidden: first.hidden,
         key: first.key,
         stretch: run.stretch,

@@ -1,21 +1,25 @@
 ghost use Rattle.std.specs.Prelude.{◌≡◌};
 ghost use Rattle.run_store.specs.Heads.{rank_of as number_of};
 
+use crate::origin::Origin;
 use fugue_ids::{ElementId, Key, MOST_OPERATIONS};
 use node_rope::Weigh;
+use std::mem::size_of;
 
 /// Cells that stand next to each other: each but the first is the letter behind the one before it. What it says of cells is said of the first one. Their letters are a part of one stretch.
 #[derive(Clone, Copy)]
 pub struct Run {
     pub(crate) id: ElementId,
-    pub(crate) left: Option<ElementId>,
-    pub(crate) right: Option<ElementId>,
+    pub(crate) left: Origin,
+    pub(crate) right: Origin,
     pub(crate) key: Key,
     pub(crate) stretch: u32,
     pub(crate) start: u32,
     pub(crate) len: u32,
     pub(crate) hidden: bool,
 }
+
+const _: () = prove!(size_of::<Run>() == 48);
 
 impl Weigh for Run {
     ghost use Rattle.std.specs.Prelude.{if◌then◌else◌, min};

@@ -1,5 +1,5 @@
 // What a store does.
-ghost use Rattle.std.specs.Prelude.{◌≡◌, ◌<◌, ◌+◌, ◌^◌, [], ◌∷◌, ◌++◌, length, slice_set, slice_index_or, MatchResult, IfOk, IfErr};
+ghost use Rattle.std.specs.Prelude.{◌≡◌, ◌<◌, ◌+◌, ◌-◌, ◌^◌, [], ◌∷◌, ◌++◌, length, slice_set, slice_index_or, MatchResult, IfOk, IfErr};
 ghost use Rattle.node_rope.specs.Made.{IsMade, IsKept, made_count, shapes_of, values_of};
 ghost use Rattle.node_rope.specs.Shapes.{shape_at};
 ghost use Rattle.node_rope.specs.Filed.{IsFiled};
@@ -7,7 +7,8 @@ ghost use Rattle.node_rope.specs.Filed.{IsFiled};
 use super::Store;
 use crate::back::Back;
 use crate::cells::{Link, Node, Shape};
-use crate::pile::Pile;
+use crate::packed::Packed;
+use crate::pile::{self, Pile, Spot};
 use std::alloc::Global;
 use std::mem::replace;
 
@@ -18,19 +19,9 @@ impl<T: Drop> Store<T> {
     {
         Store {
             pile: Pile::new(),
-            newest: None,
+            newest: pile::nowhere(),
+            count: 0,
             alloc,
-        }
-    }
-
-    // The number of nodes.
-    pub(crate) fn len(&self) -> usize
-        requires { made_count self.now < 2 ^ 63 }
-        ensures { result ≡ made_count self.now }
-    {
-        match self.newest {
-            Some(last) => last.number + 1,
-            None => 0,
         }
     }
 
@@ -38,7 +29,7 @@ impl<T: Drop> Store<T> {
         requires { IsMade self.now link }
         ensures { result ≡ shape_at (shapes_of self.now) link.number }
     {
-        self.pile.at(link.spot, link.number).shape
+        self.pile.at(link.spot, link.number as usize).shape.shape()
     }
 
     pub(crate) fn set_shape(&mut self, link: Link, shape: Shape)
@@ -48,14 +39,14 @@ impl<T: Drop> Store<T> {
         ensures count { made_count self.new ≡ made_count self.old }
         ensures kept { IsKept self.old self.new }
     {
-        self.pile.at_mut(link.spot, link.number).shape = shape;
+        self.pile.at_mut(link.spot, link.number as usize).shape = Packed::new(shape);
     }
 
     pub(crate) fn value(&self, link: Link) -> &T
         requires { IsMade self.now link }
         ensures { result.now ≡ slice_index_or (values_of self.now) link.number result.now }
     {
-        &self.pile.at(link.spot, link.number).value
+        &self.pile.at(link.spot, link.number as usize).value
     }
 
     pub(crate) fn set_value(&mut self, link: Link, value: T) -> T
@@ -65,17 +56,21 @@ impl<T: Drop> Store<T> {
         ensures result { result ≡ slice_index_or (values_of self.old) link.number result }
         ensures kept { IsKept self.old self.new }
     {
-        replace(&mut self.pile.at_mut(link.spot, link.number).value, value)
+        replace(
+            &mut self.pile.at_mut(link.spot, link.number as usize).value,
+            value,
+        )
     }
+
     // The room is taken first.
     pub(crate) fn make(&mut self, shape: Shape, value: T) -> Result<Link, Back<T>>
-        requires { made_count self.old < 2 ^ 63 }
+        requires { made_count self.old < 2 ^ 32 - 1 }
         ensures made { IfOk result (λ l. (shapes_of self.new ≡ shapes_of self.old ++ (shape ∷ [])) × (values_of self.new ≡ values_of self.old ++ (value ∷ [])) × (l.number ≡ made_count self.old) × IsMade self.new l × (made_count self.new ≡ made_count self.old + 1)) }
         ensures refused { IfErr result (λ b. (b.value ≡ value) × (self.new ≡ self.old)) }
         ensures kept { IsKept self.old self.new }
     {
         let node = Node {
-            shape,
+            shape: Packed::new(shape),
             older: self.newest,
             value,
         };
@@ -87,25 +82,33 @@ impl<T: Drop> Store<T> {
                 });
             }
         };
-        let number = self.len();
         let link = Link {
             spot: self.pile.add(boxed),
-            number,
+            number: self.count,
         };
-        self.newest = Some(link);
+        self.newest = link.spot;
+        self.count += 1;
         Ok(link)
     }
 }
 
 // Frees each node, the newest first. Nothing is left of the pile.
-pub(super) fn free_all<T: Drop>(pile: Pile<Node<T>, Global>, newest: Option<Link>, alloc: Global)
-    requires { IsFiled newest pile.values pile.moorings }
+pub(super) fn free_all<T: Drop>(
+    pile: Pile<Node<T>, Global>,
+    newest: Spot,
+    count: u32,
+    alloc: Global,
+)
+    requires counted { count ≡ length pile.values }
+    requires filed { IsFiled newest pile.values pile.moorings }
 {
     let mut pile = pile;
     let mut newest = newest;
-    'nodes: while let Some(last) = newest {
-        let node = Box::into_inner(pile.take(last.spot, alloc));
+    let mut left = count;
+    'nodes: while left > 0 {
+        let node = Box::into_inner(pile.take(newest, alloc));
         newest = node.older;
+        left -= 1;
     }
     pile.finish();
 }

@@ -10,7 +10,7 @@ raise-requires-clause-rising g c =
 pub raise-requires-clause-small : goal.raise-requires-clause-small
 raise-requires-clause-small g c =
     let a = c.args in let q = c.requires in let j = c.in_ok-link.ensures.joined in
-    beside-small a.side a.store.now c.join.new.store a.root a.at c.in_ok-link.link a.key a.own c.new_shape-shape.result c.new_shape-shape.ensures q.sound q.made (omega (arith, q.fits)) j.0 j.2 j.3 j.4 c.join.ensures.kept q.few q.small
+    beside-small a.side a.store.now c.join.new.store a.root a.at c.in_ok-link.link a.key a.own c.new_shape-shape.result c.new_shape-shape.ensures q.sound q.made (omega (arith, q.fits)) j.0 j.2 j.3 j.4 c.join.ensures.kept (omega (arith, q.few)) q.small
 
 pub returns-clause-grown : goal.returns-clause-grown
 returns-clause-grown g c =

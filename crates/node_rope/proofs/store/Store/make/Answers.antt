@@ -12,20 +12,20 @@ invariant_of-self g c =
     let s = c.args.self.now in
     let vs = s.pile.values in
     let ms = s.pile.moorings in
-    let w : Node g.row.T.Denot = record { shape = c.args.shape; older = s.newest; value = c.args.value } in
+    let w : Node g.row.T.Denot = record { shape = c.new.result; older = s.newest; value = c.args.value } in
     let values = c.add.ensures.values ∙ ap (λ n. vs ++ n ∷ []) c.in-Ok.ensures.ok in
-    let f = filed-more s.newest vs ms w (record { spot = c.add.result; number = c.len-number.result }) (c.add.result.address, c.in-Ok.boxed.alloc) s.pile.paired (filed-had s.newest vs ms s.filed) refl c.len-number.ensures refl in
-    record { filed = ∣ rw (values, c.add.ensures.moorings) f ∣₁ }
+    let f = filed-more s.newest vs ms w c.add.result (c.add.result.address, c.in-Ok.boxed.alloc) s.pile.paired (filed-had s.newest vs ms s.filed) refl refl in
+    record { counted = omega (arith, s.counted, ap length values, lib.ListN.length-append vs (w ∷ [])); filed = ∣ rw (values, c.add.ensures.moorings) f ∣₁ }
 
 pub returns-clause-made : goal.returns-clause-made
 returns-clause-made g c =
     let s = c.args.self.now in
     let vs = s.pile.values in
-    let w : Node g.row.T.Denot = record { shape = c.args.shape; older = s.newest; value = c.args.value } in
+    let w : Node g.row.T.Denot = record { shape = c.new.result; older = s.newest; value = c.args.value } in
     let values = c.add.ensures.values ∙ ap (λ n. vs ++ n ∷ []) c.in-Ok.ensures.ok in
     let pair = s.pile.paired in
-    let at = lies-last s.pile.moorings (c.add.result.address, c.in-Ok.boxed.alloc) c.len-number.result (omega (arith, c.len-number.ensures, pair)) in
-    (ap (map shape_of) values ∙ map-append shape_of vs (w ∷ []), ap (map value_of) values ∙ map-append value_of vs (w ∷ []), c.len-number.ensures, rw c.add.ensures.moorings at, ap length values ∙ lib.ListN.length-append vs (w ∷ []))
+    let at = lies-last s.pile.moorings (c.add.result.address, c.in-Ok.boxed.alloc) s.count (omega (arith, s.counted, pair)) in
+    (ap (map shape_of) values ∙ map-append shape_of vs (w ∷ []) ∙ ap (λ h. map shape_of vs ++ h ∷ []) c.new.ensures, ap (map value_of) values ∙ map-append value_of vs (w ∷ []), s.counted, rw c.add.ensures.moorings at, ap length values ∙ lib.ListN.length-append vs (w ∷ []))
 
 pub returns-clause-kept : goal.returns-clause-kept
 returns-clause-kept g c l at = rw c.add.ensures.moorings (lies-longer c.args.self.now.pile.moorings _ l.number l.spot.address at)

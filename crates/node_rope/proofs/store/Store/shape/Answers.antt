@@ -1,4 +1,4 @@
-use Rattle.std.proofs.Common.{arith}
+use Rattle.std.proofs.Common.{◌∙◌, arith}
 use Rattle.node_rope.specs.Shaped.{shape_of}
 use Rattle.node_rope.specs.Shapes.{lone}
 use Rattle.node_rope.proofs.BoxLemmas.{lies-below}
@@ -10,4 +10,4 @@ returns g c =
     let p = c.args.self.now.pile in
     let h = lies-below p.moorings c.args.link.number c.args.link.spot.address c.requires in
     let pair = p.paired in
-    got-mapped shape_of p.values c.args.link.number c.at.result.now lone c.at.ensures (omega arith)
+    c.shape.ensures ∙ got-mapped shape_of p.values c.args.link.number c.at.result.now lone c.at.ensures (omega arith)

@@ -1,0 +1,128 @@
+ghost use Rattle.std.specs.Prelude.{◌≡◌};
+ghost use Rattle.node_rope.specs.Packing.{link_if};
+
+use crate::cells::{Link, Own, Shape};
+use crate::pile::{self, Spot};
+use fugue_ids::ElementId;
+use std::marker::Model;
+use std::mem::size_of;
+
+/// A shape as a node keeps it: an `Option<Link>` takes 24 bytes, and its parts that stand here 13.
+#[derive(Drop)]
+pub struct Packed {
+    key: ElementId,
+    left: Spot,
+    right: Spot,
+    parent: Spot,
+    weight: u64,
+    least: u64,
+    own_rank: u64,
+    own_weight: u32,
+    count: u32,
+    left_number: u32,
+    right_number: u32,
+    parent_number: u32,
+    has_left: bool,
+    has_right: bool,
+    has_parent: bool,
+}
+
+const _: () = prove!(size_of::<Packed>() == 80);
+
+impl Model for Packed {
+    ghost use Rattle.node_rope.specs.Packing.{link_if};
+    ghost use Rattle.node_rope.specs.declared.cells.Shape.{Shape};
+
+    ghost Value = { Shape };
+
+    ghost view = { λ p. record {
+      key = p.key;
+      left = link_if p.has_left p.left p.left_number;
+      right = link_if p.has_right p.right p.right_number;
+      parent = link_if p.has_parent p.parent p.parent_number;
+      count = p.count;
+      weight = p.weight;
+      least = p.least;
+      own = record { weight = p.own_weight; rank = p.own_rank };
+    } };
+}
+
+impl Packed {
+    pub(crate) fn new(shape: Shape) -> Packed
+        ensures { result ≡ shape }
+    {
+        let left = parts_of(shape.left);
+        let right = parts_of(shape.right);
+        let parent = parts_of(shape.parent);
+        Packed {
+            key: shape.key,
+            left: left.spot,
+            right: right.spot,
+            parent: parent.spot,
+            weight: shape.weight,
+            least: shape.least,
+            own_rank: shape.own.rank,
+            own_weight: shape.own.weight,
+            count: shape.count,
+            left_number: left.number,
+            right_number: right.number,
+            parent_number: parent.number,
+            has_left: left.there,
+            has_right: right.there,
+            has_parent: parent.there,
+        }
+    }
+
+    pub(crate) fn shape(&self) -> Shape
+        ensures { result ≡ self.now }
+    {
+        Shape {
+            key: self.key,
+            left: link_of(self.has_left, self.left, self.left_number),
+            right: link_of(self.has_right, self.right, self.right_number),
+            parent: link_of(self.has_parent, self.parent, self.parent_number),
+            count: self.count,
+            weight: self.weight,
+            least: self.least,
+            own: Own {
+                weight: self.own_weight,
+                rank: self.own_rank,
+            },
+        }
+    }
+}
+
+// The parts of a link, if there is one.
+#[derive(Clone, Copy)]
+struct Parts {
+    there: bool,
+    spot: Spot,
+    number: u32,
+}
+
+fn parts_of(link: Option<Link>) -> Parts
+    ensures { link_if result.there result.spot result.number ≡ link }
+{
+    match link {
+        Some(link) => Parts {
+            there: true,
+            spot: link.spot,
+            number: link.number,
+        },
+        None => Parts {
+            there: false,
+            spot: pile::nowhere(),
+            number: 0,
+        },
+    }
+}
+
+fn link_of(there: bool, spot: Spot, number: u32) -> Option<Link>
+    ensures { result ≡ link_if there spot number }
+{
+    if there {
+        Some(Link { spot, number })
+    } else {
+        None
+    }
+}
