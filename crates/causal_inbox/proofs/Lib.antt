@@ -5,3 +5,5 @@ pub mod IndexLemmas
 pub mod FindingLemmas
 pub mod GreatestLemmas
 pub mod QueueLemmas
+pub mod GapLemmas
+pub mod InboxLemmas

@@ -7,3 +7,4 @@ pub mod Key
 pub mod Index
 pub mod Lists
 pub mod Keyed
+pub mod Gap

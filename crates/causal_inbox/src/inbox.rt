@@ -7,10 +7,13 @@ ghost use Rattle.origin_model.specs.operations.Counters.{counters, IsGreatest};
 ghost use Rattle.causal_inbox.specs.Faults.{refused};
 ghost use Rattle.causal_inbox.specs.Naming.{naming};
 
+mod open_inbox;
+
 use crate::index::Index;
 use crate::key::named_key;
 use crate::{Facts, Found, PushFault, Queue};
 use fugue_ids::{ElementId, Op};
+pub use open_inbox::OpenInbox;
 use origin_model::Verdict;
 use std::alloc::Global;
 use std::marker::Model;

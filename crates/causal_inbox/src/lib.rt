@@ -3,6 +3,7 @@
 
 mod facts;
 mod found;
+mod gapped;
 mod greatest;
 mod inbox;
 mod index;
@@ -14,7 +15,7 @@ mod queue;
 
 pub use facts::Facts;
 pub use found::Found;
-pub use inbox::{Inbox, is_decided};
+pub use inbox::{Inbox, OpenInbox, is_decided};
 pub use push_fault::PushFault;
 pub use queue::Queue;
 

@@ -1,5 +1,6 @@
 ghost use Rattle.std.specs.Prelude.{◌≡◌, ◌<◌, ◌≤◌, ◌+◌, ◌-◌, ◌++◌, ◌∷◌, [], Some, drop, take, length, remove as without, set as with_item, slice_get, OnOk, OnErr, IfErr};
 
+use crate::gapped::Gapped;
 use std::alloc::{AllocFailed, Global};
 use std::marker::Model;
 use std::mem::replace;
@@ -32,6 +33,22 @@ impl<T: Drop> Queue<T> {
             items: Vec::new(alloc),
             gone: 0,
         }
+    }
+
+    /// The items behind those that are gone.
+    pub(crate) fn behind(mut items: Vec<T>, mut gone: usize) -> Queue<T>
+        requires { gone ≤ length items.items }
+        ensures { result ≡ drop gone items.items }
+    {
+        drop_gone(&mut items, &mut gone);
+        Queue { items, gone }
+    }
+
+    /// The same items, to leave one after another.
+    pub(crate) fn open(self) -> Gapped<T>
+        ensures { result ≡ self }
+    {
+        Gapped::new(self.items, self.gone)
     }
 
     pub fn as_slice(&self) -> &[T]

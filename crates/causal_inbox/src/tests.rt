@@ -1,3 +1,4 @@
+mod gapped_beside_vector;
 mod queue_beside_vector;
 
 ghost use Rattle.std.specs.Prelude.{◌<◌};
@@ -188,5 +189,30 @@ fn those_that_leave_in_front_leave_the_others_in_order(rt: HostRuntime) -> Resul
             "{counter}"
         );
     }
+    Ok(())
+}
+
+/// The one with the counter leaves, which stands behind as many. The answer is where the last one stands.
+fn leave_open(inbox: &mut OpenInbox, counter: u32) -> Option<usize> {
+    let position = counter as usize;
+    if position >= inbox.len() || inbox.op_at(position).id() != Some(id(1, counter)) {
+        return None;
+    }
+    inbox.remove(position);
+    inbox.nth_naming(id(2, 99), 0)
+}
+
+#[test]
+fn those_that_leave_in_reverse_leave_the_others_in_order(rt: HostRuntime) -> Result<(), Fail> {
+    let mut inbox = Inbox::new(rt.alloc(), 100);
+    fill(&mut inbox)?;
+    let mut open = inbox.open();
+    for k in 0..50u32 {
+        let last = leave_open(&mut open, 49u32.saturating_sub(k));
+        assert!(rt; last == Some(98usize.saturating_sub(k as usize)), "{k}");
+    }
+    let inbox = open.close();
+    assert_eq!(rt; inbox.ops().len(), 50);
+    assert_eq!(rt; inbox.nth_naming(id(2, 50), 0), Some(0));
     Ok(())
 }

@@ -1,8 +1,7 @@
 -- What the steps of a replica's settling leave.
-use Rattle.std.proofs.Common.{◌≡◌, refl, sym, ◌∙◌, ap, subst, ℕ, ◌<◌, length, List, ◌∷◌, get_or}
+use Rattle.std.proofs.Common.{◌≡◌, refl, sym, ◌∙◌, ap, subst, ℕ, ◌<◌, length, List, ◌∷◌}
 use Rattle.std.specs.Prelude.{Some, position, remove, slice_get}
-use Rattle.std.proofs.lemmas.List.Quantifiers.{position-Some}
-use Rattle.std.proofs.lemmas.Option.{get_or_from_slice_get, slice_get-get_or, slice_get_within}
+use Rattle.std.proofs.lemmas.Option.{slice_get_within}
 use Rattle.fugue_ids.specs.declared.op.Op.{Op}
 use Rattle.origin_model.specs.operations.Verdict.{verdict}
 use Rattle.origin_model.specs.declared.operations.verdict.Verdict.TheVariants.{Ready}
@@ -16,10 +15,8 @@ use Rattle.replica_core.proofs.EarliestLemmas.{earliest_at}
 use Rattle.replica_core.proofs.StandingLemmas.{stands_dropped, stands_joined}
 use Rattle.replica_core.proofs.StepLemmas.{step_joined, step_dropped}
 
--- the operation that was read at a first is the one that was removed there
-same_op : (waiting read : List Op) (k : ℕ) (op removed : Op) → read ≡ waiting → op ≡ get_or read k op → slice_get waiting k ≡ Some removed → op ≡ removed
-same_op waiting read k op removed is at out =
-    at ∙ ap (λ (w : List Op). get_or w k op) is ∙ get_or_from_slice_get waiting k removed op out
+same_op : (op removed : Op) → Some op ≡ Some removed → op ≡ removed
+same_op op removed e = cc
 
 -- a step of settling, and what is so after it
 pub record IsStep (s : State) (new : Held) (settled : Settled) : Type 0 where
@@ -27,14 +24,14 @@ pub record IsStep (s : State) (new : Held) (settled : Settled) : Type 0 where
   pub stands : Stands (record s { held = new })
 
 -- the Ready operation at the first first of a decided one was accepted and removed
-pub accepted_step : (s : State) (inbox new : Waiting) (k : ℕ) (op removed : Op) (read history : List Op)
+pub accepted_step : (s : State) (inbox new : Waiting) (k : ℕ) (op removed : Op) (history : List Op)
     → inbox.ops ≡ s.held.waiting → position (decided_on s.held.history) s.held.waiting ≡ Some k
-    → read ≡ s.held.waiting → op ≡ get_or read k op → verdict s.held.history op ≡ Ready
+    → slice_get s.held.waiting k ≡ Some op → verdict s.held.history op ≡ Ready
     → history ≡ op ∷ s.held.history → slice_get s.held.waiting k ≡ Some removed → new ≡ record inbox { ops = remove inbox.ops k } → Stands s
     → IsStep s (record { history = history; waiting = new.ops }) (Accepted removed)
-accepted_step s inbox new k op removed read history same first is_read at ready is_history out is_new stands =
+accepted_step s inbox new k op removed history same first there ready is_history out is_new stands =
     let w : List Op = s.held.waiting in
-    let it : op ≡ removed = same_op w read k op removed is_read at out in
+    let it : op ≡ removed = same_op op removed (sym there ∙ out) in
     let ready_removed : verdict s.held.history removed ≡ Ready = ap (verdict s.held.history) (sym it) ∙ ready in
     let longer : history ≡ removed ∷ s.held.history = is_history ∙ ap (λ (o : Op). o ∷ s.held.history) it in
     let rest : new.ops ≡ remove w k = ap (λ (i : Waiting). i.ops) is_new ∙ ap (λ (ops : List Op). remove ops k) same in
@@ -51,14 +48,14 @@ accepted_step s inbox new k op removed read history same first is_read at ready 
     }
 
 -- the operation at the first first of a decided one was not Ready and was removed
-pub dropped_step : (s : State) (inbox new : Waiting) (k : ℕ) (op removed : Op) (read : List Op)
+pub dropped_step : (s : State) (inbox new : Waiting) (k : ℕ) (op removed : Op)
     → inbox.ops ≡ s.held.waiting → position (decided_on s.held.history) s.held.waiting ≡ Some k
-    → read ≡ s.held.waiting → op ≡ get_or read k op → (verdict s.held.history op ≡ Ready → ⊥)
+    → slice_get s.held.waiting k ≡ Some op → (verdict s.held.history op ≡ Ready → ⊥)
     → slice_get s.held.waiting k ≡ Some removed → new ≡ record inbox { ops = remove inbox.ops k } → Stands s
     → IsStep s (record { history = s.held.history; waiting = new.ops }) (DroppedStray removed)
-dropped_step s inbox new k op removed read same first is_read at other out is_new stands =
+dropped_step s inbox new k op removed same first there other out is_new stands =
     let w : List Op = s.held.waiting in
-    let it : op ≡ removed = same_op w read k op removed is_read at out in
+    let it : op ≡ removed = same_op op removed (sym there ∙ out) in
     let rest : new.ops ≡ remove w k = ap (λ (i : Waiting). i.ops) is_new ∙ ap (λ (ops : List Op). remove ops k) same in
     let step = step_dropped s.held k removed first out (λ ready. other (ap (verdict s.held.history) it ∙ ready)) in
     let below : k < length w = slice_get_within w k removed out in
@@ -73,11 +70,7 @@ dropped_step s inbox new k op removed read same first is_read at other out is_ne
       stands = subst (λ (h : Held). Stands (record s { held = h })) is_held (stands_dropped s k stands below);
     }
 
--- the Ready operation that was read at the first position of a decided one is the next to leave
-pub joins_next : (s : Held) (k : ℕ) (op : Op) (read : List Op) → position (decided_on s.history) s.waiting ≡ Some k → read ≡ s.waiting → op ≡ get_or read k op
-    → verdict s.history op ≡ Ready → JoinsNext s
-joins_next s k op read first is_read at ready =
-    let inside = (position-Some (decided_on s.history) s.waiting k op first).0 in
-    let there : slice_get s.waiting k ≡ Some op =
-    slice_get-get_or s.waiting k op inside ∙ ap (λ (o : Op). Some o) (sym (at ∙ ap (λ (w : List Op). get_or w k op) is_read)) in
-    record { op = op; others = remove s.waiting k; next = earliest_at s.history s.waiting k op first there; ready = ready }
+-- the Ready operation at the first position of a decided one is the next to leave
+pub joins_next : (s : Held) (k : ℕ) (op : Op) → position (decided_on s.history) s.waiting ≡ Some k → slice_get s.waiting k ≡ Some op → verdict s.history op ≡ Ready
+    → JoinsNext s
+joins_next s k op first there ready = record { op = op; others = remove s.waiting k; next = earliest_at s.history s.waiting k op first there; ready = ready }

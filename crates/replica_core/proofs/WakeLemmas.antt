@@ -211,9 +211,8 @@ drop-none (x ∷ positions) zero e = cc
 drop-none (x ∷ positions) (suc k) e = drop-none positions k e
 
 -- trying one leaves those behind it to be tried
-pub next_tried : (test : Op → Bool) (ops : List Op) (positions : List ℕ) (k p : ℕ) (marks : List Bool) (op : Op) → slice_get positions k ≡ Some p → p < length ops → op ≡ get_or ops p op
+pub next_tried : (test : Op → Bool) (ops : List Op) (positions : List ℕ) (k p : ℕ) (marks : List Bool) (op : Op) → slice_get positions k ≡ Some p → slice_get ops p ≡ Some op
     → all_tried test ops (drop k positions) marks ≡ all_tried test ops (drop (k + 1) positions) (set marks p (test op))
-next_tried test ops positions k p marks op at below is =
-    let here : slice_get ops p ≡ Some op = slice_get-get_or ops p op below ∙ ap (λ (o : Op). Some o) (sym is) in
+next_tried test ops positions k p marks op at here =
     ap (λ (l : List ℕ). all_tried test ops l marks) (drop-next positions k (k + 1) p (omega arith) at)
     ∙ ap (all_tried test ops (drop (k + 1) positions)) (tried-some test ops p marks op here)

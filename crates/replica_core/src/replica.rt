@@ -9,13 +9,15 @@ ghost use Rattle.replica_core.specs.State.{all_ops, IsOpen, IsOutside, IsWithin,
 ghost use Rattle.replica_core.specs.Edits.{CanJoin, held_count, with_ops};
 ghost use Rattle.replica_core.specs.Decision.{answer_by_decision};
 ghost use Rattle.replica_core.specs.Settling.{Reaches};
-ghost use Rattle.replica_core.specs.Told.{Answers, IsCounted, JoinsNext, Leaves, Settles, StaysBelow, total};
+ghost use Rattle.replica_core.specs.Told.{Answers, JoinsNext, Leaves, Settles, StaysBelow, total};
+
+mod settling;
 
 use crate::accepted::Accepted;
 use crate::decision::{Decision, decide};
 use crate::due::Due;
 use crate::greatest::greater;
-use crate::waking::{leave, wait, wake};
+use crate::waking::{open_and_wake, wait};
 use crate::{DeliverFault, FeedFault, NewFault, Settled, Taken};
 use causal_inbox::{Inbox, PushFault};
 use fugue_ids::{Failed, GREATEST_HOLD, MOST_OPERATIONS, NoMemory, Op};
@@ -208,7 +210,7 @@ impl Replica {
             Decision::TooMany => Err(DeliverFault::TooMany(op, self.most)),
             Decision::Ready => match self.accepted.accept(op) {
                 Ok(()) => {
-                    wake(&self.inbox, &self.accepted, &mut self.due);
+                    open_and_wake(&mut self.inbox, self.alloc, &self.accepted, &mut self.due);
                     Ok(Taken::Accepted)
                 }
                 Err(refused) => Err(DeliverFault::NoMemory(refused.op)),
@@ -230,25 +232,10 @@ impl Replica {
         ensures wanting { OnErr result (JoinsNext self.old.held) }
         ensures stands { Stands self.new }
     {
-        let Some(position) = self.due.first() else {
-            return Ok(None);
-        };
-        let op = &self.inbox.ops()[position];
-        match self.accepted.verdict(op) {
-            Verdict::Ready => {
-                let copy = op.clone_in(self.alloc)?;
-                let Ok(()) = self.accepted.accept(copy) else {
-                    return Err(NoMemory);
-                };
-                let op = leave(&mut self.inbox, &mut self.due, position);
-                wake(&self.inbox, &self.accepted, &mut self.due);
-                Ok(Some(Settled::Accepted(op)))
-            }
-            _ => {
-                let op = leave(&mut self.inbox, &mut self.due, position);
-                Ok(Some(Settled::DroppedStray(op)))
-            }
-        }
+        let mut settling = self.open();
+        let result = settling.step();
+        *self = settling.close();
+        result
     }
 
     /// Delivers the operation, settles to the end and counts: the answer is whether it was accepted or waits.
@@ -314,30 +301,12 @@ impl Replica {
         ensures others { self.new ≡ record self.old { held = self.new.held } }
         ensures stands { Stands self.new }
     {
-        while self.settle_counted(tally)? {}
-        Ok(())
-    }
-
-    /// One step of settling, counted: the answer is whether there was one.
-    fn settle_counted(&mut self, tally: &mut Tally) -> Result<bool, NoMemory>
-        requires accepted { tally.old.accepted < 2 ^ 32 - 1 }
-        requires stray { tally.old.stray < 2 ^ 32 - 1 }
-        ensures step { IfOk result (λ more. IsCounted self.old.held self.new.held tally.old tally.new more) }
-        ensures others { self.new ≡ record self.old { held = self.new.held } }
-        ensures err { OnErr result ((self.new ≡ self.old) × (tally.new ≡ tally.old)) }
-        ensures stopped { OnErr result (JoinsNext self.new.held) }
-        ensures stands { Stands self.new }
-    {
-        match self.settle_one()? {
-            Some(Settled::Accepted(_op)) => {
-                tally.accepted += 1;
-                Ok(true)
-            }
-            Some(Settled::DroppedStray(_op)) => {
-                tally.stray += 1;
-                Ok(true)
-            }
-            None => Ok(false),
+        if self.is_settled() {
+            return Ok(());
         }
+        let mut settling = self.open();
+        let result = settling.settle(tally);
+        *self = settling.close();
+        result
     }
 }

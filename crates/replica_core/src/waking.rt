@@ -7,8 +7,10 @@ ghost use Rattle.replica_core.specs.Due.{due_marks, newest_id as newest_id_of};
 
 use crate::accepted::Accepted;
 use crate::due::Due;
-use causal_inbox::{Inbox, PushFault, is_decided};
+use causal_inbox::{Inbox, OpenInbox, PushFault, is_decided};
 use fugue_ids::{ElementId, NoMemory, Op};
+use std::alloc::Global;
+use std::mem::replace;
 
 fn newest_id(accepted: &Accepted) -> Option<ElementId>
     ensures { result ≡ newest_id_of accepted.now }
@@ -20,7 +22,7 @@ fn newest_id(accepted: &Accepted) -> Option<ElementId>
 }
 
 /// Tries anew those that rest on the newest accepted operation: all others are decided as before.
-pub(crate) fn wake(inbox: &Inbox, accepted: &Accepted, due: &mut Due)
+pub(crate) fn wake(inbox: &OpenInbox, accepted: &Accepted, due: &mut Due)
     requires marks { due.old ≡ due_marks (drop 1 accepted.now) inbox.now.ops }
     requires once { AllPairs (λ a b. a ≢ b) (accepted.now ++ inbox.now.ops) }
     requires own_ids { AllPairs HaveOtherIds (accepted.now ++ inbox.now.ops) }
@@ -29,13 +31,28 @@ pub(crate) fn wake(inbox: &Inbox, accepted: &Accepted, due: &mut Due)
     let Some(id) = newest_id(accepted) else {
         return;
     };
-    let waiting = inbox.ops();
-    for k in 0..waiting.len() {
+    for k in 0..inbox.len() {
         let Some(position) = inbox.nth_naming(id, k) else {
             return;
         };
-        due.put(position, is_decided(accepted.verdict(&waiting[position])));
+        due.put(
+            position,
+            is_decided(accepted.verdict(inbox.op_at(position))),
+        );
     }
+}
+
+/// The same over an inbox that is not open: nothing leaves it, so it closes as it was.
+pub(crate) fn open_and_wake(inbox: &mut Inbox, alloc: Global, accepted: &Accepted, due: &mut Due)
+    requires marks { due.old ≡ due_marks (drop 1 accepted.now) inbox.old.ops }
+    requires once { AllPairs (λ a b. a ≢ b) (accepted.now ++ inbox.old.ops) }
+    requires own_ids { AllPairs HaveOtherIds (accepted.now ++ inbox.old.ops) }
+    ensures marks { due.new ≡ due_marks accepted.now inbox.old.ops }
+    ensures inbox { inbox.new ≡ inbox.old }
+{
+    let open = replace(inbox, Inbox::new(alloc, 0)).open();
+    wake(&open, accepted, due);
+    *inbox = open.close();
 }
 
 /// One more waits, which cannot leave yet. After want of memory all is as before.
@@ -61,7 +78,7 @@ pub(crate) fn wait(inbox: &mut Inbox, due: &mut Due, op: Op) -> Result<(), PushF
 }
 
 /// The operation at the position waits no longer. Those behind it close up.
-pub(crate) fn leave(inbox: &mut Inbox, due: &mut Due, position: usize) -> Op
+pub(crate) fn leave(inbox: &mut OpenInbox, due: &mut Due, position: usize) -> Op
     requires within { position < length inbox.old.ops }
     requires marks { length due.old ≡ length inbox.old.ops }
     ensures op { slice_get inbox.old.ops position ≡ Some result }

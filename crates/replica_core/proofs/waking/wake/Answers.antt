@@ -1,4 +1,4 @@
-use Rattle.std.proofs.Common.{◌≡◌, sym, ◌∙◌, ap, refl, arith, ℕ, ◌+◌, List, [], Bool, length, drop, get_or}
+use Rattle.std.proofs.Common.{◌≡◌, sym, ◌∙◌, ap, refl, arith, ℕ, ◌+◌, List, [], Bool, length, drop}
 use Rattle.std.specs.Prelude.{Option, None, Some, set}
 use Rattle.std.proofs.lemmas.List.{drop_all, length-map, length-set}
 use Rattle.fugue_ids.specs.Identifiers.{Identifier}
@@ -36,15 +36,8 @@ returns-in_default-nth_naming c =
     ended c.args.accepted.now c.args.inbox.now.ops c.in-Some.id c.loop-k.k c.loop-k.due
     (drop-none positions c.loop-k.k (sym c.nth_naming.ensures ∙ c.in_default-nth_naming.is)) c.loop-k.invariant.right
 
-pub offset_bounds-waiting-position : goal.offset_bounds-waiting-position
-offset_bounds-waiting-position c =
-    let below = naming_within c.in-Some.id c.args.inbox.now.ops c.loop-k.k c.in-Some-nth_naming.position (sym c.nth_naming.ensures ∙ c.in-Some-nth_naming.is) in
-    omega (arith, below, ap length c.ops-waiting.ensures.ops)
-
-pub bounds-waiting-position : goal.bounds-waiting-position
-bounds-waiting-position c =
-    let below = naming_within c.in-Some.id c.args.inbox.now.ops c.loop-k.k c.in-Some-nth_naming.position (sym c.nth_naming.ensures ∙ c.in-Some-nth_naming.is) in
-    omega (arith, below, ap length c.ops-waiting.ensures.ops)
+pub op_at-requires : goal.op_at-requires
+op_at-requires c = naming_within c.in-Some.id c.args.inbox.now.ops c.loop-k.k c.in-Some-nth_naming.position (sym c.nth_naming.ensures ∙ c.in-Some-nth_naming.is)
 
 pub put-requires : goal.put-requires
 put-requires c =
@@ -56,15 +49,13 @@ loop-k-preserved c =
     let h : List Op = c.args.accepted.now in
     let w : List Op = c.args.inbox.now.ops in
     let p : ℕ = c.in-Some-nth_naming.position in
-    let op : Op = c.index-waiting-position.result in
+    let op : Op = c.op_at.result.now in
     let positions : List ℕ = naming c.in-Some.id w in
-    let below = naming_within c.in-Some.id c.args.inbox.now.ops c.loop-k.k c.in-Some-nth_naming.position (sym c.nth_naming.ensures ∙ c.in-Some-nth_naming.is) in
-    let is : op ≡ get_or w p op = c.index-waiting-position.is ∙ ap (λ (l : List Op). get_or l p op) c.ops-waiting.ensures.ops in
     let decided : c.is_decided.result ≡ decided_on h op = c.is_decided.ensures ∙ ap is_decided c.verdict.ensures in
     let put : c.put.new.self ≡ set c.loop-k.due p (decided_on h op) = c.put.ensures ∙ ap (set c.loop-k.due p) decided in
     record {
       right = ap (all_tried (decided_on h) w (drop (c.loop-k.k + 1) positions)) put
-          ∙ sym (next_tried (decided_on h) w positions c.loop-k.k p c.loop-k.due op (sym c.nth_naming.ensures ∙ c.in-Some-nth_naming.is) below is)
+          ∙ sym (next_tried (decided_on h) w positions c.loop-k.k p c.loop-k.due op (sym c.nth_naming.ensures ∙ c.in-Some-nth_naming.is) c.op_at.ensures)
           ∙ c.loop-k.invariant.right;
       same_length = ap length put ∙ length-set c.loop-k.due p (decided_on h op) ∙ c.loop-k.invariant.same_length;
     }
@@ -73,4 +64,4 @@ pub returns : goal.returns
 returns c =
     let positions : List ℕ = naming c.in-Some.id c.args.inbox.now.ops in
     ended c.args.accepted.now c.args.inbox.now.ops c.in-Some.id c.loop-k.k c.loop-k.due
-    (drop_all c.loop-k.k positions (omega (arith, few_naming c.in-Some.id c.args.inbox.now.ops, ap length c.ops-waiting.ensures.ops))) c.loop-k.invariant.right
+    (drop_all c.loop-k.k positions (omega (arith, few_naming c.in-Some.id c.args.inbox.now.ops, c.len-k-end.ensures))) c.loop-k.invariant.right

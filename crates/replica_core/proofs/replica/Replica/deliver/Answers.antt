@@ -17,24 +17,34 @@ accepts s now new op same answered is stands =
     let IsAccepted : State → Type 0 = λ x. answer x.hold x.most x.held op ≡ Accepted in
     stands_by_accept s new op (subst IsAccepted (sym same) answered) is stands
 
-pub wake-requires-clause-once : goal.wake-requires-clause-once
-wake-requires-clause-once c =
+-- what is so after `open_and_wake`, which leaves the inbox as it was
+woken : (s now : State) (new : List Op) (op : Op) (before after : Waiting) → s ≡ now → before.ops ≡ s.held.waiting → after ≡ before
+    → answer now.hold now.most now.held op ≡ Accepted → new ≡ op ∷ s.held.history → Stands s
+    → Stands (record s { held = record { history = new; waiting = after.ops } })
+woken s now new op before after same waiting left answered is stands =
+    let ops_of : Waiting → List Op = λ i. i.ops in
+    subst (λ (w : List Op). Stands (record s { held = record { history = new; waiting = w } })) (sym (ap ops_of left ∙ waiting)) (accepts s now new op same answered is stands)
+
+pub open_and_wake-requires-clause-once : goal.open_and_wake-requires-clause-once
+open_and_wake-requires-clause-once c =
     (accepts _ c.args.self.now c.accept.new.self c.args.op c.self.view_is c.in-Ready.ensures c.in-Ok.ensures.ok c.self.invariant.stands).once
 
-pub wake-requires-clause-own_ids : goal.wake-requires-clause-own_ids
-wake-requires-clause-own_ids c =
+pub open_and_wake-requires-clause-own_ids : goal.open_and_wake-requires-clause-own_ids
+open_and_wake-requires-clause-own_ids c =
     (accepts _ c.args.self.now c.accept.new.self c.args.op c.self.view_is c.in-Ready.ensures c.in-Ok.ensures.ok c.self.invariant.stands).own_ids
 
 pub invariant_of-self : goal.invariant_of-self
 invariant_of-self c = record {
-  same_hold = c.self.invariant.same_hold;
-  stands = accepts _ c.args.self.now c.accept.new.self c.args.op c.self.view_is c.in-Ready.ensures c.in-Ok.ensures.ok c.self.invariant.stands;
-  marks = c.wake.ensures;
+  same_hold = ap (λ (i : Waiting). i.hold) c.open_and_wake.ensures.inbox ∙ c.self.invariant.same_hold;
+  stands = woken _ c.args.self.now c.accept.new.self c.args.op c.self.inside.inbox c.open_and_wake.new.inbox c.self.view_is refl c.open_and_wake.ensures.inbox
+      c.in-Ready.ensures c.in-Ok.ensures.ok c.self.invariant.stands;
+  marks = c.open_and_wake.ensures.marks ∙ ap (λ (i : Waiting). due_marks c.accept.new.self i.ops) (sym c.open_and_wake.ensures.inbox);
 }
 
 pub returns-in-Ok-clause-stands : goal.returns-in-Ok-clause-stands
 returns-in-Ok-clause-stands c =
-    accepts _ c.args.self.now c.accept.new.self c.args.op c.self.view_is c.in-Ready.ensures c.in-Ok.ensures.ok c.self.invariant.stands
+    woken _ c.args.self.now c.accept.new.self c.args.op c.self.inside.inbox c.open_and_wake.new.inbox c.self.view_is refl c.open_and_wake.ensures.inbox
+    c.in-Ready.ensures c.in-Ok.ensures.ok c.self.invariant.stands
 
 -- what is so after `wait`
 record Waited (s : State) (inbox : Waiting) (marks : List Bool) : Type 0 where
