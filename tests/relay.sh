@@ -141,6 +141,13 @@ check 'several files print the same' [ "$(cat "$work"/text_[cdef] | sort | uniq 
 check 'byte by byte' cmp -s "$work/text_c" "$work/text_f"
 check 'and no exchange failed' [ ! -e "$work/c.failed" -a ! -e "$work/d.failed" -a ! -e "$work/e.failed" -a ! -e "$work/f.failed" ]
 
+# A peer that says nothing for a minute is given up.
+port=$((port + 1))
+start_relay 1
+open_peer
+relay_ends 'a relay of a silent peer' 'log 0\n'
+close_peer
+
 # Nobody listens.
 try 'no relay' nothing 4 '' "$outside" sync "$work/a" $((port + 1)) 0
 

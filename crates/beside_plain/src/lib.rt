@@ -16,6 +16,8 @@ mod made;
 #[cfg(test)]
 mod manuscripts;
 #[cfg(test)]
+mod model;
+#[cfg(test)]
 mod op_lines;
 #[cfg(test)]
 mod plain;

@@ -9,7 +9,7 @@ use std::mem::replace;
 ///
 /// A gap lies where the last one left, and grows with each. The places before `gone` are gone, as in the queue.
 #[derive(Drop)]
-pub(crate) struct Gapped<T> {
+pub struct Gapped<T> {
     items: Vec<T>,
     gone: usize,
     /// Where the gap begins.
@@ -34,7 +34,7 @@ impl<T> Model for Gapped<T> {
 
 impl<T: Drop> Gapped<T> {
     /// The items behind those that are gone.
-    pub fn new(items: Vec<T>, gone: usize) -> Gapped<T>
+    pub(crate) fn new(items: Vec<T>, gone: usize) -> Gapped<T>
         requires { gone ≤ length items.items }
         ensures { result ≡ drop gone items.items }
     {

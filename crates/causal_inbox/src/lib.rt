@@ -15,9 +15,7 @@ mod queue;
 
 pub use facts::Facts;
 pub use found::Found;
+pub use gapped::Gapped;
 pub use inbox::{Inbox, OpenInbox, is_decided};
 pub use push_fault::PushFault;
 pub use queue::Queue;
-
-#[cfg(test)]
-mod tests;

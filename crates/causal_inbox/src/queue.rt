@@ -45,7 +45,7 @@ impl<T: Drop> Queue<T> {
     }
 
     /// The same items, to leave one after another.
-    pub(crate) fn open(self) -> Gapped<T>
+    pub fn open(self) -> Gapped<T>
         ensures { result ≡ self }
     {
         Gapped::new(self.items, self.gone)

@@ -4,6 +4,3 @@
 mod span;
 
 pub use span::cluster_span;
-
-#[cfg(test)]
-mod tests;

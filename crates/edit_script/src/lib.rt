@@ -17,6 +17,3 @@ pub use law::{lines_ask_once, scripts_are_taken_in, scripts_run_once};
 pub use number::read_decimal;
 pub use run::run_script;
 pub use script::LONGEST_SCRIPT;
-
-#[cfg(test)]
-mod tests;

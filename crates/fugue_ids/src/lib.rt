@@ -13,8 +13,6 @@ mod op;
 mod order_of;
 mod out;
 mod side;
-#[cfg(test)]
-mod tests;
 mod title;
 
 pub use byte_list::ByteList;

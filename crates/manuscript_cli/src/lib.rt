@@ -20,8 +20,6 @@ mod status;
 mod sync_file;
 mod take;
 mod take_in;
-#[cfg(test)]
-mod tests;
 mod top;
 mod words;
 

@@ -27,6 +27,3 @@ pub use frame_front::{FrameFront, LONGEST_FRAME};
 pub use grown::Grown;
 pub use law::{comes_once, one_frame, reads_once};
 pub use reader::FrameReader;
-
-#[cfg(test)]
-mod tests;

@@ -1,20 +1,14 @@
 //! The model of a manuscript: what operations are to one another, the order of a place, what is printed, and the bytes of operations.
 #![tactic(auto)]
 
-#[cfg(test)]
-mod by_sides;
 mod files;
 mod laws;
-#[cfg(test)]
-mod lines;
 mod operations;
 mod order;
 mod plain_replica;
 mod relay;
 mod sides;
 mod taking;
-#[cfg(test)]
-mod tests;
 
 pub use files::LONGEST_BATCH;
 pub use laws::{

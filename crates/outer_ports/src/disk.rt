@@ -10,8 +10,6 @@ mod overwrite;
 mod pick;
 mod step;
 mod sure_disk;
-#[cfg(test)]
-mod tests;
 
 pub use file_disk::{FileDisk, Opening};
 use fugue_ids::Failed;

@@ -10,8 +10,6 @@ mod mem_step;
 mod part;
 mod sure_dock;
 mod tcp_dock;
-#[cfg(test)]
-mod tests;
 
 pub use dock_step::DockStep;
 use fugue_ids::Failed;

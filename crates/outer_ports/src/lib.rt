@@ -30,6 +30,3 @@ pub use std_source::StdSource;
 pub use sure_sink::SureSink;
 pub use sure_source::SureSource;
 pub use wire::{MemWire, SureWire, TcpWire, Wire};
-
-#[cfg(test)]
-mod tests;

@@ -5,8 +5,6 @@ mod buffered;
 mod mem_wire;
 mod sure_wire;
 mod tcp_wire;
-#[cfg(test)]
-pub(crate) mod tests;
 
 use fugue_ids::Failed;
 pub use mem_wire::MemWire;

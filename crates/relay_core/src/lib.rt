@@ -9,8 +9,6 @@ mod relay;
 mod session;
 mod sessions;
 mod taking;
-#[cfg(test)]
-mod tests;
 
 pub use no_memory_for::NoMemoryFor;
 pub use origin_model::{Event, Reply};

@@ -13,8 +13,6 @@ mod serving;
 mod sync_fault;
 mod synced;
 mod syncing;
-#[cfg(test)]
-mod tests;
 
 pub use law::{parts_count_as_joined, replies_come_once};
 pub use serve_fault::ServeFault;

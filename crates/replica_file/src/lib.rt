@@ -20,8 +20,6 @@ mod reading;
 mod slot;
 mod slots;
 mod stop;
-#[cfg(test)]
-mod tests;
 
 pub use append_fault::AppendFault;
 pub use appending::append;

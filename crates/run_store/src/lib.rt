@@ -21,8 +21,6 @@ mod run;
 mod runs;
 mod shown;
 mod store;
-#[cfg(test)]
-mod tests;
 mod text;
 mod visible;
 mod walk;

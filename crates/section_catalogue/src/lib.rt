@@ -12,8 +12,6 @@ mod printing;
 mod section;
 mod sections;
 mod tables;
-#[cfg(test)]
-mod tests;
 
 pub use laws::look_ups_are_the_definitions;
 pub use manuscript::Manuscript;

@@ -2,8 +2,6 @@
 #![tactic(auto)]
 
 mod place;
-#[cfg(test)]
-mod tests;
 
 pub use place::SectionList;
 pub use run_store::Shown;

@@ -9,8 +9,6 @@ mod nodes;
 mod part;
 mod siblings;
 mod slots;
-#[cfg(test)]
-mod tests;
 mod tree;
 
 pub use fugue_ids::{Gap, Key, OrderOf, Side};

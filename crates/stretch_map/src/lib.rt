@@ -20,6 +20,3 @@ pub use map::StretchMap;
 pub use position::Position;
 pub use same::Same;
 pub use typed::Typed;
-
-#[cfg(test)]
-mod tests;

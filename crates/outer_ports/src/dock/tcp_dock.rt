@@ -34,7 +34,7 @@ pub struct TcpDock<R: Net + Drop> {
     is_ended: bool,
     /// The number of the session that is open, or of the next one.
     session: u32,
-    pub(super) patience: Duration,
+    patience: Duration,
     faults: Faults,
 }
 

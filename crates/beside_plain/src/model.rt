@@ -1,0 +1,326 @@
+//! Worked rows of the plain replica itself, and its order beside that of the sides.
+
+mod by_sides;
+
+use crate::op_lines::Line::{self, Delete, Section, Text};
+use crate::op_lines::{A, B, D, NONE, Name, SECTION, T, id, op};
+use by_sides::{Node, by_sides};
+use origin_model::{Place, PlainReplica, Verdict};
+use std::alloc::Global;
+use std::prelude::HostRuntime;
+use std::process::Abort;
+use std::test::Fail;
+
+fn take_in(
+    rt: &impl Abort,
+    alloc: Global,
+    replica: &mut PlainReplica,
+    line: Line,
+) -> Result<(), Fail> {
+    let op = op(rt, alloc, line)?;
+    assert!(rt; replica.verdict(&op) == Verdict::Ready);
+    replica.accept(op)?;
+    Ok(())
+}
+
+fn take_all(
+    rt: &impl Abort,
+    alloc: Global,
+    replica: &mut PlainReplica,
+    lines: &[Line],
+) -> Result<(), Fail> {
+    for line in lines {
+        take_in(rt, alloc, replica, *line)?;
+    }
+    Ok(())
+}
+
+fn section(rt: &impl Abort) -> Place {
+    Place::Section(id(rt, SECTION))
+}
+
+fn hide(rt: &impl Abort, alloc: Global, replica: &mut PlainReplica) -> Result<(), Fail> {
+    let all = [id(rt, (1, 1)), id(rt, (2, 0)), id(rt, (1, 0))];
+    let kept = [id(rt, (2, 0)), id(rt, (1, 0))];
+    take_all(rt, alloc, replica, &[T, B, A, D, Delete((1, 1))])?;
+    assert_eq!(rt; replica.elements(section(rt))?.as_slice(), all.as_slice());
+    assert_eq!(rt; replica.shown(section(rt))?.as_slice(), kept.as_slice());
+    Ok(())
+}
+
+#[test]
+fn a_delete_hides_and_keeps_the_place(rt: HostRuntime) -> Result<(), Fail> {
+    let mut replica = PlainReplica::new(rt.alloc());
+    hide(&rt, rt.alloc(), &mut replica)
+}
+
+fn verdict_of(
+    rt: &impl Abort,
+    alloc: Global,
+    replica: &PlainReplica,
+    line: Line,
+) -> Result<Verdict, Fail> {
+    let op = op(rt, alloc, line)?;
+    Ok(replica.verdict(&op))
+}
+
+fn compare_verdicts(
+    rt: &impl Abort,
+    alloc: Global,
+    replica: &mut PlainReplica,
+) -> Result<(), Fail> {
+    let stray_section = Verdict::Stray(id(rt, SECTION));
+    let stray_text = Verdict::Stray(id(rt, (1, 0)));
+    let unknown = Verdict::Missing(id(rt, (7, 0)));
+    let table = [
+        (A, Verdict::Again),
+        (Text((1, 1), SECTION, NONE, (1, 0), 'a'), Verdict::Conflict),
+        (
+            Text((1, 1), SECTION, (7, 0), SECTION, 'a'),
+            Verdict::Conflict,
+        ),
+        (Text((2, 0), SECTION, SECTION, (7, 0), 'a'), stray_section),
+        (Text((2, 0), SECTION, (7, 0), SECTION, 'a'), stray_section),
+        (Section((2, 0), NONE, (1, 0), "V"), stray_text),
+        (Text((2, 0), SECTION, (1, 0), (7, 0), 'a'), unknown),
+        (Delete((7, 0)), unknown),
+        (Delete((1, 0)), Verdict::Ready),
+        (Text((2, 0), SECTION, (1, 0), (1, 1), 'a'), Verdict::Ready),
+    ];
+    take_all(
+        rt,
+        alloc,
+        replica,
+        &[T, Section((8, 0), NONE, NONE, "U"), B, A],
+    )?;
+    for (line, wanted) in table {
+        assert_eq!(rt; verdict_of(rt, alloc, replica, line)?, wanted, "{line:?}");
+    }
+    Ok(())
+}
+
+#[test]
+fn the_first_line_that_applies_is_the_verdict(rt: HostRuntime) -> Result<(), Fail> {
+    let mut replica = PlainReplica::new(rt.alloc());
+    compare_verdicts(&rt, rt.alloc(), &mut replica)
+}
+
+/// The elements of the section, which are these nodes.
+fn list_nodes(
+    rt: &impl Abort,
+    alloc: Global,
+    replica: &mut PlainReplica,
+    nodes: &[Node],
+) -> Result<Vec<Name>, Fail> {
+    take_in(rt, alloc, replica, T)?;
+    for node in nodes {
+        take_in(
+            rt,
+            alloc,
+            replica,
+            Text(node.id, SECTION, node.left, node.right, 'a'),
+        )?;
+    }
+    let mut names = Vec::new(alloc);
+    for id in &replica.elements(section(rt))? {
+        names.push((id.replica, id.counter))?;
+    }
+    Ok(names)
+}
+
+fn order_of(rt: &impl Abort, alloc: Global, nodes: &[Node]) -> Result<Vec<Name>, Fail> {
+    let mut replica = PlainReplica::new(alloc);
+    list_nodes(rt, alloc, &mut replica, nodes)
+}
+
+/// Whether the order of these nodes, as a replica has it, is that of the sides.
+fn is_by_sides(rt: &impl Abort, alloc: Global, nodes: &[Node]) -> Result<bool, Fail> {
+    let wanted = by_sides(alloc, nodes)?;
+    let found = order_of(rt, alloc, nodes)?;
+    Ok(found.len() == nodes.len() && found == wanted)
+}
+
+fn nodes_of(alloc: Global, triples: &[(Name, Name, Name)]) -> Result<Vec<Node>, Fail> {
+    let mut nodes = Vec::new(alloc);
+    for (id, left, right) in triples {
+        nodes.push(Node {
+            id: *id,
+            left: *left,
+            right: *right,
+        })?;
+    }
+    Ok(nodes)
+}
+
+const P: Name = (1, 0);
+
+const Q: Name = (2, 0);
+
+const R: Name = (3, 0);
+
+const S: Name = (4, 0);
+
+const U: Name = (5, 0);
+
+const V: Name = (6, 0);
+
+const LISTS: [(&str, &[(Name, Name, Name)]); 14] = [
+    (
+        "two passages typed forwards",
+        &[(P, NONE, NONE), (R, NONE, NONE), (Q, P, NONE), (S, R, NONE)],
+    ),
+    (
+        "two passages typed backwards",
+        &[(P, NONE, NONE), (R, NONE, NONE), (Q, NONE, P), (S, NONE, R)],
+    ),
+    (
+        "three beginnings, later identifiers first",
+        &[(R, NONE, NONE), (Q, NONE, NONE), (P, NONE, NONE)],
+    ),
+    (
+        "later right origins first",
+        &[
+            (U, NONE, NONE),
+            (V, U, NONE),
+            (S, U, V),
+            (P, S, NONE),
+            (Q, S, V),
+            (R, S, V),
+        ],
+    ),
+    (
+        "left children by identifier",
+        &[(P, NONE, NONE), (R, NONE, P), (Q, NONE, P), (S, NONE, R)],
+    ),
+    (
+        "between two that come to stand apart",
+        &[
+            (P, NONE, NONE),
+            (Q, P, NONE),
+            (R, P, Q),
+            (S, P, Q),
+            (U, R, S),
+            (V, R, Q),
+        ],
+    ),
+    (
+        "the right origin is the left one",
+        &[(P, NONE, NONE), (Q, P, P), (R, P, Q), (S, P, P)],
+    ),
+    (
+        "the right origin stands before the left one",
+        &[
+            (P, NONE, NONE),
+            (Q, P, NONE),
+            (R, Q, P),
+            (S, Q, NONE),
+            (U, R, P),
+        ],
+    ),
+    (
+        "the right origin is in another branch",
+        &[
+            (P, NONE, NONE),
+            (Q, NONE, NONE),
+            (R, P, NONE),
+            (S, Q, R),
+            (U, P, S),
+            (V, Q, R),
+        ],
+    ),
+    (
+        "the right origin is below the left one, and not the next",
+        &[
+            (P, NONE, NONE),
+            (Q, P, NONE),
+            (R, Q, NONE),
+            (S, P, R),
+            (U, P, Q),
+        ],
+    ),
+    (
+        "right origins that point backwards tie by identifier",
+        &[
+            (V, NONE, NONE),
+            (U, V, NONE),
+            (S, U, V),
+            (R, U, V),
+            (Q, U, NONE),
+        ],
+    ),
+    (
+        "a left child whose sibling has a left child",
+        &[
+            (U, NONE, NONE),
+            (V, NONE, U),
+            (P, NONE, U),
+            (Q, NONE, V),
+            (R, NONE, Q),
+            (S, NONE, P),
+        ],
+    ),
+    (
+        "the start with every right origin",
+        &[
+            (R, NONE, NONE),
+            (Q, R, NONE),
+            (P, NONE, Q),
+            (S, NONE, P),
+            (U, NONE, R),
+        ],
+    ),
+    (
+        "a chain below a hostile element",
+        &[
+            (Q, NONE, NONE),
+            (R, Q, NONE),
+            (P, R, Q),
+            (S, P, R),
+            (U, S, Q),
+            (V, R, P),
+        ],
+    ),
+];
+
+#[test]
+fn the_order_is_that_of_the_sides(rt: HostRuntime) -> Result<(), Fail> {
+    for (name, triples) in LISTS {
+        let nodes = nodes_of(rt.alloc(), triples)?;
+        assert!(rt; is_by_sides(&rt, rt.alloc(), nodes.as_slice())?, "{name}");
+    }
+    Ok(())
+}
+
+/// One of the ways in which each element has origins that came before it. The first name is the start and the end.
+fn list_of(alloc: Global, choice: usize, names: &[Name]) -> Result<Vec<Node>, Fail> {
+    let mut nodes = Vec::new(alloc);
+    let mut rest = choice;
+    for count in 1..names.len() {
+        let left = names[rest % count];
+        rest /= count;
+        let right = names[rest % count];
+        rest /= count;
+        nodes.push(Node {
+            id: names[count],
+            left,
+            right,
+        })?;
+    }
+    Ok(nodes)
+}
+
+#[test]
+fn every_list_of_four_elements_stands_as_the_sides_say(rt: HostRuntime) -> Result<(), Fail> {
+    let orders: [[Name; 5]; 3] = [
+        [NONE, (1, 0), (1, 1), (2, 0), (3, 0)],
+        [NONE, (3, 0), (2, 1), (2, 0), (1, 7)],
+        [NONE, (2, 0), (3, 0), (1, 0), (2, 1)],
+    ];
+    for names in orders {
+        for choice in 0..576 {
+            let nodes = list_of(rt.alloc(), choice, &names)?;
+            assert!(rt; is_by_sides(&rt, rt.alloc(), nodes.as_slice())?, "{choice}");
+        }
+    }
+    Ok(())
+}

@@ -1,0 +1,94 @@
+//! The order of a place by sides and a walk of the tree, computed slowly: the tests compare the order with it.
+
+use crate::op_lines::{NONE, Name};
+use std::alloc::{AllocError, Global};
+
+/// An element with its origins.
+#[derive(Clone, Copy, Debug, PartialEq, Eq)]
+pub struct Node {
+    pub id: Name,
+    pub left: Name,
+    pub right: Name,
+}
+
+/// What a walk does next.
+#[derive(Clone, Copy, Debug, PartialEq, Eq)]
+enum Turn {
+    Below(Name),
+    Show(Name),
+}
+
+/// An element is a left child of its right origin where the two have one left origin, and else a right child of its left origin.
+fn is_left_child(nodes: &[Node], node: &Node) -> bool {
+    nodes
+        .iter()
+        .any(|other| other.id == node.right && other.left == node.left)
+}
+
+/// How many elements stand from the right origin on: the later it is, the fewer.
+fn count_from(finished: &[Name], right: Name) -> usize {
+    finished.iter().skip_while(|id| **id != right).count()
+}
+
+/// Left children by identifier; right children by later right origin first, and then by identifier.
+fn children(
+    alloc: Global,
+    nodes: &[Node],
+    finished: &[Name],
+    parent: Name,
+    on_left: bool,
+) -> Result<Vec<(usize, Name)>, AllocError> {
+    let mut found = Vec::new(alloc);
+    for node in nodes {
+        let is_left = is_left_child(nodes, node);
+        let (above, rank) = if is_left {
+            (node.right, 0)
+        } else {
+            (node.left, count_from(finished, node.right))
+        };
+        if is_left == on_left && above == parent {
+            found.push((rank, node.id))?;
+        }
+    }
+    found.sort_unstable();
+    Ok(found)
+}
+
+/// Puts the children on the stack, the last one first.
+fn stack_children(stack: &mut Vec<Turn>, children: &[(usize, Name)]) -> Result<(), AllocError> {
+    for (_, id) in children.iter().rev() {
+        stack.push(Turn::Below(*id))?;
+    }
+    Ok(())
+}
+
+/// Left children, the node, right children.
+fn walk(alloc: Global, nodes: &[Node], finished: &[Name]) -> Result<Vec<Name>, AllocError> {
+    let mut list = Vec::new(alloc);
+    let mut stack = Vec::new(alloc);
+    let roots = children(alloc, nodes, finished, NONE, false)?;
+    stack_children(&mut stack, roots.as_slice())?;
+    for _ in 0..nodes.len().saturating_mul(2) {
+        match stack.pop() {
+            Some(Turn::Show(id)) => list.push(id)?,
+            Some(Turn::Below(id)) => {
+                let behind = children(alloc, nodes, finished, id, false)?;
+                let in_front = children(alloc, nodes, finished, id, true)?;
+                stack_children(&mut stack, behind.as_slice())?;
+                stack.push(Turn::Show(id))?;
+                stack_children(&mut stack, in_front.as_slice())?;
+            }
+            None => {}
+        }
+    }
+    Ok(list)
+}
+
+/// The order of the nodes, which came in this order: right origins are compared in the order of the nodes that came before.
+pub fn by_sides(alloc: Global, nodes: &[Node]) -> Result<Vec<Name>, AllocError> {
+    let mut finished = Vec::new(alloc);
+    for count in 0..nodes.len() {
+        finished = walk(alloc, &nodes[..count + 1], finished.as_slice())?;
+    }
+    Ok(finished)
+}

@@ -1,0 +1,118 @@
+//! Frames of operations, as they stand in a stream, and files.
+
+use std::alloc::{AllocError, Global};
+
+/// The section (9,0) with the title T.
+pub(crate) const S: &[u8] = b"\x01\0\0\0\x09\0\0\0\0\0\0\0\x01T";
+
+/// The letter B, (1,0).
+pub(crate) const B: &[u8] = b"\x02\0\0\0\x01\0\0\0\0\0\0\0\x09\0\0\0\0\0\0\0\0B";
+
+/// The letter A, (1,1), before (1,0).
+pub(crate) const A: &[u8] =
+    b"\x02\0\0\0\x01\0\0\0\x01\0\0\0\x09\0\0\0\0\0\x01\0\0\0\x01\0\0\0\0\0\0A";
+
+/// The letter D, (2,0), before (1,0).
+pub(crate) const D: &[u8] =
+    b"\x02\0\0\0\x02\0\0\0\0\0\0\0\x09\0\0\0\0\0\x01\0\0\0\x01\0\0\0\0\0\0D";
+
+/// The letter X, (3,0), behind (1,1), before (1,0).
+pub(crate) const X: &[u8] =
+    b"\x02\0\0\0\x03\0\0\0\0\0\0\0\x09\0\0\0\0\x01\0\0\0\x01\0\0\0\x01\x01\0\0\0\x01\0\0\0\0\0\0X";
+
+/// The letter Y, (2,1), behind (1,1), before (2,0).
+pub(crate) const Y: &[u8] =
+    b"\x02\0\0\0\x02\0\0\0\x01\0\0\0\x09\0\0\0\0\x01\0\0\0\x01\0\0\0\x01\x01\0\0\0\x02\0\0\0\0\0\0Y";
+
+/// The letter P, (1,0).
+pub(crate) const P: &[u8] = b"\x02\0\0\0\x01\0\0\0\0\0\0\0\x09\0\0\0\0\0\0\0\0P";
+
+/// The letter Q, (1,1), behind (1,0).
+pub(crate) const Q: &[u8] =
+    b"\x02\0\0\0\x01\0\0\0\x01\0\0\0\x09\0\0\0\0\x01\0\0\0\x01\0\0\0\0\0\0\0Q";
+
+/// The letter Z, (2,0), behind (1,1), before (1,0).
+pub(crate) const Z: &[u8] =
+    b"\x02\0\0\0\x02\0\0\0\0\0\0\0\x09\0\0\0\0\x01\0\0\0\x01\0\0\0\x01\x01\0\0\0\x01\0\0\0\0\0\0Z";
+
+/// The letter V, (3,0), behind (1,1).
+pub(crate) const V: &[u8] =
+    b"\x02\0\0\0\x03\0\0\0\0\0\0\0\x09\0\0\0\0\x01\0\0\0\x01\0\0\0\x01\0\0\0V";
+
+/// The letter a, (1,0).
+pub(crate) const LOWER_A: &[u8] = b"\x02\0\0\0\x01\0\0\0\0\0\0\0\x09\0\0\0\0\0\0\0\0a";
+
+/// The letter z, (1,0).
+pub(crate) const OTHER_A: &[u8] = b"\x02\0\0\0\x01\0\0\0\0\0\0\0\x09\0\0\0\0\0\0\0\0z";
+
+/// The letter b, (1,1), behind (1,0).
+pub(crate) const LOWER_B: &[u8] =
+    b"\x02\0\0\0\x01\0\0\0\x01\0\0\0\x09\0\0\0\0\x01\0\0\0\x01\0\0\0\0\0\0\0b";
+
+/// The letter c, (2,0), behind (1,0).
+pub(crate) const BEHIND_A: &[u8] =
+    b"\x02\0\0\0\x02\0\0\0\0\0\0\0\x09\0\0\0\0\x01\0\0\0\x01\0\0\0\0\0\0\0c";
+
+/// The letter c, (2,0), in (1,0).
+pub(crate) const IN_A: &[u8] = b"\x02\0\0\0\x02\0\0\0\0\0\0\0\x01\0\0\0\0\0\0\0\0c";
+
+/// The letter x, (0,0).
+pub(crate) const NOWHERE: &[u8] = b"\x02\0\0\0\0\0\0\0\0\0\0\0\x09\0\0\0\0\0\0\0\0x";
+
+/// The letter x, (2,0).
+pub(crate) const SMALL_X: &[u8] = b"\x02\0\0\0\x02\0\0\0\0\0\0\0\x09\0\0\0\0\0\0\0\0x";
+
+/// The letter y, (2,1), behind (2,0).
+pub(crate) const Y_BEHIND_X: &[u8] =
+    b"\x02\0\0\0\x02\0\0\0\x01\0\0\0\x09\0\0\0\0\x01\0\0\0\x02\0\0\0\0\0\0\0y";
+
+/// The letter b, (1,0).
+pub(crate) const SMALL_B: &[u8] = b"\x02\0\0\0\x01\0\0\0\0\0\0\0\x09\0\0\0\0\0\0\0\0b";
+
+/// The letter a, (1,1), before (1,0).
+pub(crate) const A_BEFORE_B: &[u8] =
+    b"\x02\0\0\0\x01\0\0\0\x01\0\0\0\x09\0\0\0\0\0\x01\0\0\0\x01\0\0\0\0\0\0a";
+
+/// The letter y, (2,0).
+pub(crate) const SMALL_Y: &[u8] = b"\x02\0\0\0\x02\0\0\0\0\0\0\0\x09\0\0\0\0\0\0\0\0y";
+
+/// The letter x, (2,1), before (2,0).
+pub(crate) const X_BEFORE_Y: &[u8] =
+    b"\x02\0\0\0\x02\0\0\0\x01\0\0\0\x09\0\0\0\0\0\x01\0\0\0\x02\0\0\0\0\0\0x";
+
+/// The letter (2,0) is dropped.
+pub(crate) const DROP_D: &[u8] = b"\x03\0\0\0\x02\0\0\0\0";
+
+/// The letter (1,0) is dropped.
+pub(crate) const DROP_B: &[u8] = b"\x03\0\0\0\x01\0\0\0\0";
+
+/// The section is dropped.
+pub(crate) const DROP_S: &[u8] = b"\x03\0\0\0\x09\0\0\0\0";
+
+/// A frame that is cut short.
+pub(crate) const CUT: &[u8] = b"\x02\0\0\0\x01\0";
+
+/// The file of replica 1 with hold 16 that holds nothing.
+pub(crate) const NEW: &[u8] = b"FGMX\x01\0\0\0\x01\0\0\0\x10\0";
+
+/// The same with the section (1,0), titled T, and in it A, B, which is dropped, and C: one batch.
+pub(crate) const SAVED: &[u8] = b"FGMX\x01\0\0\0\x01\0\0\0\x10\
+\x01\0\0\0\x71\
+\x01\0\0\0\x01\0\0\0\0\0\0\0\x01T\
+\x02\0\0\0\x01\0\0\0\x01\0\0\0\x01\0\0\0\0\0\0\0\0A\
+\x02\0\0\0\x01\0\0\0\x02\0\0\0\x01\0\0\0\0\x01\0\0\0\x01\0\0\0\x01\0\0\0B\
+\x03\0\0\0\x01\0\0\0\x02\
+\x02\0\0\0\x01\0\0\0\x03\0\0\0\x01\0\0\0\0\x01\0\0\0\x01\0\0\0\x01\x01\0\0\0\x01\0\0\0\x02\0\0C\
+\0";
+
+/// What is printed of it.
+pub(crate) const PRINTED: &[u8] = b"# T\nAC\n";
+
+/// The frames, one behind the other.
+pub(crate) fn stream(alloc: Global, frames: &[&[u8]]) -> Result<Vec<u8>, AllocError> {
+    let mut bytes = Vec::new(alloc);
+    for frame in frames {
+        bytes.extend_from_slice(frame)?;
+    }
+    Ok(bytes)
+}

@@ -1,0 +1,17 @@
+//! Scripts, files, exchanges and the program's commands, on objects in memory whose calls fail where it is listed.
+//!
+//! There are tests here alone. Within its library each would be proved together with all of the library, once more.
+#![tactic(auto)]
+
+#[cfg(test)]
+mod commands;
+#[cfg(test)]
+mod exchanges;
+#[cfg(test)]
+mod files;
+#[cfg(test)]
+mod frames;
+#[cfg(test)]
+mod says;
+#[cfg(test)]
+mod scripts;

@@ -1,0 +1,27 @@
+//! The libraries below a replica, called as other crates call them: worked rows, and slow plain programs beside the fast ones.
+//!
+//! There are tests here alone. Within its library each would be proved together with all of the library, once more.
+#![tactic(auto)]
+
+#[cfg(test)]
+mod catalogue;
+#[cfg(test)]
+mod clusters;
+#[cfg(test)]
+mod frames;
+#[cfg(test)]
+mod identifiers;
+#[cfg(test)]
+mod log;
+#[cfg(test)]
+mod ports;
+#[cfg(test)]
+mod runs;
+#[cfg(test)]
+mod section;
+#[cfg(test)]
+mod sides;
+#[cfg(test)]
+mod stretches;
+#[cfg(test)]
+mod waiting;

@@ -1,0 +1,83 @@
+use causal_inbox::Queue;
+use fugue_ids::NoMemory;
+use std::mem::replace;
+use std::test::Fail;
+
+/// What is done to a list.
+#[derive(Clone, Copy, Debug)]
+enum Step {
+    Comes(u64),
+    /// Another item at the position.
+    Becomes(usize, u64),
+    /// The one at the position goes.
+    Goes(usize),
+}
+
+/// The step on both. The answer is whether they gave the same.
+fn take_step(queue: &mut Queue<u64>, vector: &mut Vec<u64>, step: Step) -> Result<bool, NoMemory> {
+    match step {
+        Step::Comes(item) => {
+            queue.push(item)?;
+            vector.push(item)?;
+            Ok(true)
+        }
+        Step::Becomes(at, item) if at < queue.len() && at < vector.len() => {
+            Ok(queue.put(at, item) == replace(&mut vector[at], item))
+        }
+        Step::Goes(at) if at < queue.len() && at < vector.len() => {
+            Ok(queue.remove(at, 0) == vector.remove(at))
+        }
+        _ => Ok(false),
+    }
+}
+
+#[test]
+fn items_come_change_and_go_as_in_a_vector(rt: HostRuntime) -> Result<(), Fail> {
+    let mut queue = Queue::new(rt.alloc());
+    let mut vector = Vec::new(rt.alloc());
+    for step in [
+        Step::Comes(1),
+        Step::Goes(0),
+        Step::Comes(2),
+        Step::Comes(3),
+        Step::Comes(4),
+        Step::Comes(5),
+        Step::Comes(6),
+        Step::Comes(7),
+        Step::Comes(8),
+        Step::Goes(1),
+        Step::Becomes(0, 9),
+        Step::Goes(2),
+        Step::Becomes(3, 10),
+        Step::Goes(3),
+        Step::Goes(3),
+        Step::Comes(11),
+        Step::Goes(0),
+        Step::Goes(0),
+        Step::Becomes(1, 12),
+        Step::Goes(0),
+        Step::Comes(13),
+        Step::Goes(1),
+        Step::Goes(0),
+    ] {
+        assert!(rt; take_step(&mut queue, &mut vector, step)?, "{step:?}");
+        assert!(rt; queue.as_slice() == vector.as_slice(), "{step:?}");
+        assert_eq!(rt; queue.len(), vector.len(), "{step:?}");
+    }
+    Ok(())
+}
+
+#[test]
+fn many_go_through_in_order(rt: HostRuntime) -> Result<(), Fail> {
+    let mut queue = Queue::new(rt.alloc());
+    for item in 0..20_000u64 {
+        queue.push(item)?;
+        if queue.len() > 100 {
+            let first = queue.remove(0, 0);
+            assert!(rt; first < item && item - first == 100, "{first}");
+        }
+    }
+    assert!(rt; queue.as_slice().first().copied() == Some(19_900));
+    assert_eq!(rt; queue.len(), 100);
+    Ok(())
+}
