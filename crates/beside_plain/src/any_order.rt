@@ -1,5 +1,6 @@
 //! Every stream of up to five operations of a small pool, taken in one after another, against the closure of its operations.
 
+use crate::assertions::{equal, holds_at};
 use crate::op_lines::Line::{Delete, Section, Text};
 use crate::op_lines::{Line, NONE, SECTION, op};
 use crate::plain::Plain;
@@ -74,10 +75,7 @@ fn compare(
 ) -> Result<usize, Fail> {
     plain.take_all(alloc, stream)?;
     close(alloc, closed, stream)?;
-    assert!(rt;
-        is_same_set(plain.accepted.ops(), closed.ops()),
-        "{stream:?}"
-    );
+    holds_at(rt, &stream, is_same_set(plain.accepted.ops(), closed.ops()));
     Ok(closed.ops().len())
 }
 
@@ -99,6 +97,6 @@ fn every_small_stream_accepts_its_closure(rt: HostRuntime) -> Result<(), Fail> {
         }
     }
     // Counted by another program, which knows sets alone.
-    assert_eq!(rt; accepted, 55_701);
+    equal(&rt, accepted, 55_701);
     Ok(())
 }

@@ -1,5 +1,6 @@
 //! Two authors who edit by the numbers of a seed, beside plain replicas that accept the same operations.
 
+use crate::assertions::equal;
 use crate::edits::Edit::{self, Add, Cut, Put};
 use crate::edits::make;
 use crate::plain::Plain;
@@ -153,8 +154,8 @@ fn made(rt: &impl Abort, alloc: Global) -> Result<Option<Summary>, Fail> {
 #[test]
 fn a_bulk_manuscript_is_that_of_plain_replicas(rt: HostRuntime) -> Result<(), Fail> {
     let told = bulk(rt.alloc(), SEED, TURNS)?;
-    assert_eq!(rt; made(&rt, rt.alloc())?, Some(told));
-    assert_eq!(rt; told.operations, 201);
+    equal(&rt, made(&rt, rt.alloc())?, Some(told));
+    equal(&rt, told.operations, 201);
     assert!(rt; told.is_equal);
     Ok(())
 }

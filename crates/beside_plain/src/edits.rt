@@ -1,5 +1,6 @@
 //! Edits of a replica: what they answer, make and show, by value.
 
+use crate::assertions::{equal, equal_at, holds_at};
 use crate::op_lines::Line::{Delete, Section, Text};
 use crate::op_lines::{Line, NONE, SECTION, T, id, op};
 use crate::replicas::{feed_lines, writes};
@@ -10,7 +11,7 @@ use std::process::Abort;
 use std::test::Fail;
 
 /// An edit, by positions in what is shown.
-#[derive(Clone, Copy, Debug, PartialEq, Eq)]
+#[derive(Clone, Copy, Debug)]
 pub enum Edit {
     Put(usize, usize, &'static str),
     Cut(usize, usize, usize),
@@ -38,7 +39,7 @@ pub fn make(
 }
 
 /// The operations that come first, and then edits with their answers.
-#[derive(Clone, Copy, Debug, PartialEq, Eq)]
+#[derive(Clone, Copy, Debug)]
 struct Row {
     most: u32,
     lines: &'static [Line],
@@ -163,9 +164,9 @@ fn answer_row(
 ) -> Result<(), Fail> {
     feed(rt, alloc, replica, row.lines)?;
     for (edit, answer) in row.edits {
-        assert_eq!(rt; make(rt, alloc, replica, *edit)?, *answer, "{edit:?}");
+        equal_at(rt, &edit, make(rt, alloc, replica, *edit)?, *answer);
     }
-    assert!(rt; writes(alloc, replica, row.text.as_bytes())?, "{row:?}");
+    holds_at(rt, &row, writes(alloc, replica, row.text.as_bytes())?);
     Ok(())
 }
 
@@ -194,9 +195,9 @@ fn has_accepted(
     replica: &Replica,
     lines: &[Line],
 ) -> Result<(), Fail> {
-    assert_eq!(rt; replica.accepted().len(), lines.len());
+    equal(rt, replica.accepted().len(), lines.len());
     for (accepted, line) in replica.accepted().iter().zip(lines) {
-        assert!(rt; is_op(rt, alloc, accepted, *line)?, "{line:?}");
+        holds_at(rt, &line, is_op(rt, alloc, accepted, *line)?);
     }
     Ok(())
 }
@@ -223,7 +224,7 @@ fn makes_operations(rt: &impl Abort, alloc: Global, replica: &mut Replica) -> Re
         Delete(SECTION),
     ];
     has_accepted(rt, alloc, replica, &lines)?;
-    assert_eq!(rt; replica.waiting().len(), 1);
+    equal(rt, replica.waiting().len(), 1);
     Ok(())
 }
 
@@ -246,13 +247,18 @@ fn tells_what_is_shown(rt: &impl Abort, alloc: Global, replica: &mut Replica) ->
     feed(rt, alloc, replica, SECTIONS)?;
     make(rt, alloc, replica, Put(0, 0, "aé€"))??;
     make(rt, alloc, replica, Cut(0, 0, 1))??;
-    assert_eq!(rt; replica.section_count(), 1);
-    assert_eq!(rt; (replica.text_len(0), replica.text_len(1)), (Some(2), None));
+    equal(rt, replica.section_count(), 1);
+    equal(
+        rt,
+        (replica.text_len(0), replica.text_len(1)),
+        (Some(2), None),
+    );
     assert!(rt; has_text(replica, 0, "é€")?);
     assert!(rt; replica.text_of(1)?.is_none());
-    assert_eq!(rt;
+    equal(
+        rt,
         (replica.holds(id(rt, (1, 2))), replica.holds(id(rt, (1, 3)))),
-        (true, false)
+        (true, false),
     );
     Ok(())
 }

@@ -1,5 +1,6 @@
 //! Three replicas that edit without hearing of each other, and then hear of all operations in orders of their own, with repeats.
 
+use crate::assertions::{equal, holds_at};
 use crate::edits::Edit::{self, Add, Cut, Put};
 use crate::edits::make;
 use crate::plain::Plain;
@@ -96,7 +97,7 @@ fn deliver(
     let mut tally = Tally::default();
     feed_one(rt, replica, op.clone_in(alloc)?, &mut tally)?;
     plain.take_in(op.clone_in(alloc)?)?;
-    assert!(rt; is_beside(alloc, replica, plain)?, "{op:?}");
+    holds_at(rt, &op, is_beside(alloc, replica, plain)?);
     Ok(())
 }
 
@@ -167,7 +168,7 @@ fn hear_all(
     begin(rt, alloc, replica, begun, author.edits)?;
     deliver_all(rt, alloc, replica, pool, author.order)?;
     assert!(rt; writes(alloc, replica, TEXT.as_bytes())?);
-    assert_eq!(rt; replica.accepted().len(), MADE);
+    equal(rt, replica.accepted().len(), MADE);
     Ok(())
 }
 
@@ -187,7 +188,7 @@ fn fill_pool(rt: &impl Abort, alloc: Global, begun: &[Op], pool: &mut Vec<Op>) -
     for author in AUTHORS {
         join_new(rt, alloc, pool, begun, author.number, author.edits)?;
     }
-    assert_eq!(rt; pool.len(), MADE);
+    equal(rt, pool.len(), MADE);
     Ok(())
 }
 

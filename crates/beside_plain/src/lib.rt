@@ -4,6 +4,8 @@
 #[cfg(test)]
 mod any_order;
 #[cfg(test)]
+mod assertions;
+#[cfg(test)]
 mod beside;
 #[cfg(test)]
 mod bulk_turns;

@@ -1,5 +1,6 @@
 //! What an edit makes, beside a plain program of the definitions.
 
+use crate::assertions::{equal_at, holds_at};
 use crate::edits::Edit::{self, Add, Cut, Drop, Put};
 use crate::edits::make;
 use crate::plain::Plain;
@@ -182,10 +183,10 @@ fn edit_beside(
 ) -> Result<(), Fail> {
     if let Ok(count) = make(rt, alloc, replica, edit)? {
         let ops = made_of(rt, alloc, plain, edit)?;
-        assert_eq!(rt; count as usize, ops.len(), "{edit:?}");
+        equal_at(rt, &edit, count as usize, ops.len());
         take_all(plain, ops)?;
     }
-    assert!(rt; is_beside(alloc, replica, plain)?, "{edit:?}");
+    holds_at(rt, &edit, is_beside(alloc, replica, plain)?);
     Ok(())
 }
 

@@ -1,5 +1,6 @@
 //! A manuscript lists, shows and prints what the plain replica does.
 
+use crate::assertions::{equal, holds_at};
 use crate::beside::{Beside, fill};
 use crate::op_lines::Line::{Delete, Section, Text};
 use crate::op_lines::{A, B, BACKWARDS, D, HIDDEN, Line, NONE, OTHER, SECTION, T, X, Y, id};
@@ -46,7 +47,7 @@ fn shown_sections(alloc: Global, beside: &Beside) -> Result<Vec<ElementId>, Fail
 
 /// Compares in a function that owns nothing.
 fn same(rt: &impl Abort, found: &[ElementId], wanted: &[ElementId]) {
-    assert_eq!(rt; found, wanted);
+    equal(rt, found, wanted);
 }
 
 /// The place lists and shows the same elements on both sides, and each has that place.
@@ -114,8 +115,8 @@ fn compare(
     fill(rt, alloc, beside, lines)?;
     compare_places(rt, alloc, beside)?;
     let text = wanted.as_bytes();
-    assert!(rt; prints_all(alloc, &beside.manuscript, text)?, "{wanted}");
-    assert!(rt; prints(alloc, &beside.replica, text)?, "{wanted}");
+    holds_at(rt, &wanted, prints_all(alloc, &beside.manuscript, text)?);
+    holds_at(rt, &wanted, prints(alloc, &beside.replica, text)?);
     Ok(())
 }
 
@@ -182,9 +183,9 @@ fn a_manuscript_lists_shows_and_prints_what_the_plain_replica_does(
 
 fn find_nothing(rt: &impl Abort, alloc: Global, beside: &mut Beside) -> Result<(), Fail> {
     fill(rt, alloc, beside, &[T, B])?;
-    assert_eq!(rt; beside.manuscript.place_of(id(rt, OTHER)), None);
+    equal(rt, beside.manuscript.place_of(id(rt, OTHER)), None);
     assert!(rt; beside.manuscript.section(id(rt, (1, 0))).is_none());
-    assert_eq!(rt; beside.manuscript.section_at(1), None);
+    equal(rt, beside.manuscript.section_at(1), None);
     Ok(())
 }
 

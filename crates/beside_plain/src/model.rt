@@ -2,6 +2,7 @@
 
 mod by_sides;
 
+use crate::assertions::{equal, equal_at, holds_at};
 use crate::op_lines::Line::{self, Delete, Section, Text};
 use crate::op_lines::{A, B, D, NONE, Name, SECTION, T, id, op};
 use by_sides::{Node, by_sides};
@@ -43,8 +44,12 @@ fn hide(rt: &impl Abort, alloc: Global, replica: &mut PlainReplica) -> Result<()
     let all = [id(rt, (1, 1)), id(rt, (2, 0)), id(rt, (1, 0))];
     let kept = [id(rt, (2, 0)), id(rt, (1, 0))];
     take_all(rt, alloc, replica, &[T, B, A, D, Delete((1, 1))])?;
-    assert_eq!(rt; replica.elements(section(rt))?.as_slice(), all.as_slice());
-    assert_eq!(rt; replica.shown(section(rt))?.as_slice(), kept.as_slice());
+    equal(
+        rt,
+        replica.elements(section(rt))?.as_slice(),
+        all.as_slice(),
+    );
+    equal(rt, replica.shown(section(rt))?.as_slice(), kept.as_slice());
     Ok(())
 }
 
@@ -94,7 +99,7 @@ fn compare_verdicts(
         &[T, Section((8, 0), NONE, NONE, "U"), B, A],
     )?;
     for (line, wanted) in table {
-        assert_eq!(rt; verdict_of(rt, alloc, replica, line)?, wanted, "{line:?}");
+        equal_at(rt, &line, verdict_of(rt, alloc, replica, line)?, wanted);
     }
     Ok(())
 }
@@ -286,7 +291,7 @@ const LISTS: [(&str, &[(Name, Name, Name)]); 14] = [
 fn the_order_is_that_of_the_sides(rt: HostRuntime) -> Result<(), Fail> {
     for (name, triples) in LISTS {
         let nodes = nodes_of(rt.alloc(), triples)?;
-        assert!(rt; is_by_sides(&rt, rt.alloc(), nodes.as_slice())?, "{name}");
+        holds_at(&rt, &name, is_by_sides(&rt, rt.alloc(), nodes.as_slice())?);
     }
     Ok(())
 }
@@ -319,7 +324,11 @@ fn every_list_of_four_elements_stands_as_the_sides_say(rt: HostRuntime) -> Resul
     for names in orders {
         for choice in 0..576 {
             let nodes = list_of(rt.alloc(), choice, &names)?;
-            assert!(rt; is_by_sides(&rt, rt.alloc(), nodes.as_slice())?, "{choice}");
+            holds_at(
+                &rt,
+                &choice,
+                is_by_sides(&rt, rt.alloc(), nodes.as_slice())?,
+            );
         }
     }
     Ok(())

@@ -15,7 +15,7 @@ pub const SECTION: Name = (9, 0);
 pub const OTHER: Name = (4, 0);
 
 /// An operation, with its identifier, its section, and its left and its right origin.
-#[derive(Clone, Copy, Debug, PartialEq, Eq)]
+#[derive(Clone, Copy, Debug)]
 pub enum Line {
     Section(Name, Name, Name, &'static str),
     Text(Name, Name, Name, Name, char),

@@ -1,5 +1,6 @@
 //! The replica beside the plain one, on one pool of operations in many orders.
 
+use crate::assertions::holds_at;
 use crate::op_lines::Line::{Delete, Section, Text};
 use crate::op_lines::{Line, NONE, SECTION, op};
 use crate::plain::Plain;
@@ -46,7 +47,7 @@ fn step_beside(
 ) -> Result<(), Fail> {
     feed_one(rt, replica, op(rt, alloc, line)?, tally)?;
     plain.take_in(op(rt, alloc, line)?)?;
-    assert!(rt; is_beside(alloc, replica, plain)?, "{line:?}");
+    holds_at(rt, &line, is_beside(alloc, replica, plain)?);
     Ok(())
 }
 

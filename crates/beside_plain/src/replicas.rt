@@ -3,6 +3,7 @@
 ghost use Rattle.std.specs.Prelude.{◌<◌, IsTrue};
 ghost use Rattle.replica_core.specs.Told.{StaysBelow};
 
+use crate::assertions::{equal, equal_at, holds_at};
 use crate::op_lines::Line::{Delete, Text};
 use crate::op_lines::{A, B, D, Line, NONE, SECTION, T, X, Y, id, op};
 use fugue_ids::Op;
@@ -96,10 +97,10 @@ fn compare_shown(
     tally: &Tally,
     want: &Shown,
 ) -> Result<(), Fail> {
-    assert!(rt; writes(alloc, replica, want.text.as_bytes())?, "{want:?}");
-    assert_eq!(rt; *tally, want.counts);
-    assert_eq!(rt; replica.waiting().len(), want.waiting);
-    assert_eq!(rt; replica.accepted().len(), tally.accepted as usize);
+    holds_at(rt, &want, writes(alloc, replica, want.text.as_bytes())?);
+    equal(rt, *tally, want.counts);
+    equal(rt, replica.waiting().len(), want.waiting);
+    equal(rt, replica.accepted().len(), tally.accepted as usize);
     Ok(())
 }
 
@@ -216,7 +217,7 @@ fn numbers_out_of_range_make_no_replica(rt: HostRuntime) {
         (1, 1_048_576, 0, NewFault::BadMost),
         (1, 1, 4_194_305, NewFault::BadMost),
     ] {
-        assert_eq!(rt; new_fault(rt.alloc(), number, hold, most), Some(want));
+        equal(&rt, new_fault(rt.alloc(), number, hold, most), Some(want));
     }
 }
 
@@ -254,12 +255,12 @@ fn deliver_line(
 ) -> Result<(), Fail> {
     let taken = deliver(rt, replica, op(rt, alloc, line)?)?;
     let settled = settle_one(replica)?;
-    assert_eq!(rt; (taken, settled), want, "{line:?}");
+    equal_at(rt, &line, (taken, settled), want);
     Ok(())
 }
 
 fn deliver_in_turn(rt: &impl Abort, alloc: Global, replica: &mut Replica) -> Result<(), Fail> {
-    assert_eq!(rt; (replica.number(), replica.hold()), (7, 1));
+    equal(rt, (replica.number(), replica.hold()), (7, 1));
     for (line, want, settled) in [
         (FIRST, Taken::Waits, "nothing"),
         (T, Taken::Accepted, "accepted"),
@@ -268,7 +269,7 @@ fn deliver_in_turn(rt: &impl Abort, alloc: Global, replica: &mut Replica) -> Res
     ] {
         deliver_line(rt, alloc, replica, line, (want, settled))?;
     }
-    assert_eq!(rt; refused_at(rt, replica, op(rt, alloc, SECOND)?), 3);
+    equal(rt, refused_at(rt, replica, op(rt, alloc, SECOND)?), 3);
     Ok(())
 }
 

@@ -1,5 +1,6 @@
 //! The worked examples, in every order in which each operation is Ready on those before it.
 
+use crate::assertions::equal_at;
 use crate::op_lines::Line::Text;
 use crate::op_lines::{A, B, BACKWARDS, D, HIDDEN, Line, NONE, SECTION, T, X, Y, op};
 use crate::replicas::{all_accepted, shows};
@@ -177,10 +178,11 @@ const ROWS: &[(&[Line], usize, u32, &str)] = &[
 #[test]
 fn every_ready_order_shows_the_text(rt: HostRuntime) -> Result<(), Fail> {
     for (row, orders, ready, text) in ROWS {
-        assert_eq!(rt;
+        equal_at(
+            &rt,
+            &text,
             count_ready(&rt, rt.alloc(), row, *orders, text)?,
             *ready,
-            "{text}"
         );
     }
     Ok(())

@@ -1,5 +1,6 @@
 //! Two replicas that edit by turns and feed each other.
 
+use crate::assertions::equal;
 use crate::edits::Edit::{self, Add, Cut, Drop, Put};
 use crate::edits::make;
 use crate::plain::Plain;
@@ -82,7 +83,7 @@ fn compare_both(
 ) -> Result<(), Fail> {
     plain.take_all(alloc, first.accepted())?;
     assert!(rt; first.accepted().len() > 40);
-    assert_eq!(rt; first.accepted().len(), second.accepted().len());
+    equal(rt, first.accepted().len(), second.accepted().len());
     for replica in [first, second] {
         assert!(rt; replica.waiting().is_empty());
         assert!(rt; writes_same(alloc, replica, &plain.accepted)?);

@@ -3,6 +3,7 @@ ghost use Rattle.outer_ports.specs.dock.Steps.{HasBytes};
 
 mod syncs;
 
+use crate::assertions::{equal, equal_at};
 use crate::says::{HELLO, says};
 use outer_ports::{Dock, DockStep, MemDock, MemStep};
 use relay_core::{MOST_LOGGED, Relay};
@@ -60,9 +61,9 @@ fn served(
 fn each_session_is_sent_its_reply_and_ended(rt: HostRuntime) -> Result<(), Fail> {
     let none = Vec::new(rt.alloc());
     let mut dock = MemDock::new(rt.alloc(), two_sessions(rt.alloc())?, 7, none);
-    assert_eq!(rt; served(rt.alloc(), &mut dock, 2, 100), (Ok(()), 2));
-    assert_eq!(rt; (dock.sent(0), dock.sent(1)), (BOTH, BOTH));
-    assert_eq!(rt; dock.ended(), [1, 0].as_slice());
+    equal(&rt, served(rt.alloc(), &mut dock, 2, 100), (Ok(()), 2));
+    equal(&rt, (dock.sent(0), dock.sent(1)), (BOTH, BOTH));
+    equal(&rt, dock.ended(), [1, 0].as_slice());
     Ok(())
 }
 
@@ -70,11 +71,12 @@ fn each_session_is_sent_its_reply_and_ended(rt: HostRuntime) -> Result<(), Fail>
 fn sessions_that_take_too_many_steps_are_left(rt: HostRuntime) -> Result<(), Fail> {
     let none = Vec::new(rt.alloc());
     let mut dock = MemDock::new(rt.alloc(), two_sessions(rt.alloc())?, 100, none);
-    assert_eq!(rt;
+    equal(
+        &rt,
         served(rt.alloc(), &mut dock, 1, 2),
-        (Err(ServeFault::TooLong), 0)
+        (Err(ServeFault::TooLong), 0),
     );
-    assert_eq!(rt; dock.next(&mut [0; 5]), Ok(DockStep::Bytes(0, 5)));
+    equal(&rt, dock.next(&mut [0; 5]), Ok(DockStep::Bytes(0, 5)));
     Ok(())
 }
 
@@ -97,8 +99,8 @@ fn a_number_counts_once_and_no_step_is_asked_for_behind_the_last(
 ) -> Result<(), Fail> {
     let none = Vec::new(rt.alloc());
     let mut dock = MemDock::new(rt.alloc(), gone_sessions(rt.alloc())?, 7, none);
-    assert_eq!(rt; served(rt.alloc(), &mut dock, 2, 100), (Ok(()), 0));
-    assert_eq!(rt; dock.next(&mut [0; 1]), Ok(DockStep::Opened(9)));
+    equal(&rt, served(rt.alloc(), &mut dock, 2, 100), (Ok(()), 0));
+    equal(&rt, dock.next(&mut [0; 1]), Ok(DockStep::Opened(9)));
     Ok(())
 }
 
@@ -136,7 +138,7 @@ fn a_session_may_be_cut_at_each_byte(rt: HostRuntime) -> Result<(), Fail> {
         let steps = gone_behind(rt.alloc(), &BRINGS_BOTH[..count])?;
         let mut dock = MemDock::new(rt.alloc(), steps, 7, Vec::new(rt.alloc()));
         let result = served(rt.alloc(), &mut dock, 1, 100);
-        assert_eq!(rt; result, (Ok(()), whole_frames(count)), "cut at {count}");
+        equal_at(&rt, &count, result, (Ok(()), whole_frames(count)));
         assert!(rt; dock.sent(0).is_empty() && dock.ended().is_empty());
     }
     Ok(())
@@ -146,8 +148,8 @@ fn a_session_may_be_cut_at_each_byte(rt: HostRuntime) -> Result<(), Fail> {
 fn a_session_that_is_not_cut_is_answered(rt: HostRuntime) -> Result<(), Fail> {
     let steps = gone_behind(rt.alloc(), BRINGS_BOTH)?;
     let mut dock = MemDock::new(rt.alloc(), steps, 7, Vec::new(rt.alloc()));
-    assert_eq!(rt; served(rt.alloc(), &mut dock, 1, 100), (Ok(()), 2));
-    assert_eq!(rt; dock.sent(0), BOTH);
+    equal(&rt, served(rt.alloc(), &mut dock, 1, 100), (Ok(()), 2));
+    equal(&rt, dock.sent(0), BOTH);
     Ok(())
 }
 
@@ -158,7 +160,7 @@ fn a_call_that_fails_ends_it(rt: HostRuntime) -> Result<(), Fail> {
         let fail = [call].to_vec(rt.alloc())?;
         let mut dock = MemDock::new(rt.alloc(), two_sessions(rt.alloc())?, 7, fail);
         let (result, _) = served(rt.alloc(), &mut dock, 2, 100);
-        assert_eq!(rt; result, Err(ServeFault::DockFault), "call {call}");
+        equal_at(&rt, &call, result, Err(ServeFault::DockFault));
     }
     Ok(())
 }

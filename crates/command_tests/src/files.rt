@@ -2,6 +2,7 @@ ghost use Rattle.std.specs.Prelude.{◌<◌, ◌≤◌, IfSome, IfOk};
 ghost use Rattle.fugue_ids.specs.declared.limits.TheConstants.{MOST_OPERATIONS as most_operations};
 ghost use Rattle.replica_file.specs.Ends.{EndsAt, Reaches};
 
+use crate::assertions::{equal, equal_at};
 use crate::frames::{NEW, SAVED};
 use fugue_ids::{ElementId, Failed, MOST_OPERATIONS, NoMemory, Op, Title};
 use outer_ports::{Disk, MemDisk, MemSink, Pick, SureDisk};
@@ -89,16 +90,16 @@ const PRINTED: &[u8] = b"# T\nAC\n";
 /// Makes a file, and saves to it.
 fn makes_and_saves<H: Disk>(rt: &impl Abort, alloc: Global, disk: &mut H, ops: &[Op]) {
     let mut buf = [0; 256];
-    assert_eq!(rt; create(disk, 1, 16), Ok(()));
-    assert_eq!(rt; front(disk, &mut buf), Ok(NEW));
-    assert_eq!(rt; create(disk, 1, 16), Err(CreateFault::NotEmpty));
+    equal(rt, create(disk, 1, 16), Ok(()));
+    equal(rt, front(disk, &mut buf), Ok(NEW));
+    equal(rt, create(disk, 1, 16), Err(CreateFault::NotEmpty));
     let end = End { at: 131, slots: 1 };
-    assert_eq!(rt; save(alloc, disk, ops), Some(end));
-    assert_eq!(rt; front(disk, &mut buf), Ok(SAVED));
-    assert_eq!(rt; counted(alloc, disk, MOST_OPERATIONS), Ok((5, end)));
+    equal(rt, save(alloc, disk, ops), Some(end));
+    equal(rt, front(disk, &mut buf), Ok(SAVED));
+    equal(rt, counted(alloc, disk, MOST_OPERATIONS), Ok((5, end)));
     assert!(rt; shows(alloc, disk, PRINTED));
-    assert_eq!(rt; save(alloc, disk, &[]), Some(end));
-    assert_eq!(rt; front(disk, &mut buf), Ok(SAVED));
+    equal(rt, save(alloc, disk, &[]), Some(end));
+    equal(rt, front(disk, &mut buf), Ok(SAVED));
 }
 
 fn on_a_sure_disk(rt: &impl Abort, alloc: Global, ops: &[Op]) -> Result<(), Fail> {
@@ -149,11 +150,11 @@ fn bytes_decide_what_loading_answers(rt: HostRuntime) -> Result<(), Fail> {
     ];
     for (len, at, byte, most, answer) in rows {
         let given = loads(rt.alloc(), len, at, byte, most)?;
-        assert_eq!(rt; given, answer, "{len} {at} {byte}");
+        equal_at(&rt, &(len, at, byte), given, answer);
     }
     let empty = b"FGMX\x01\0\0\0\x01\0\0\0\x10\x01\0\0\0\0\0".to_vec(rt.alloc())?;
     let given = loads_bytes(rt.alloc(), empty, 9)?;
-    assert_eq!(rt; given, Ok((0, End { at: 18, slots: 1 })));
+    equal(&rt, given, Ok((0, End { at: 18, slots: 1 })));
     Ok(())
 }
 
@@ -209,7 +210,7 @@ fn crash_at(rt: &impl Abort, alloc: Global, call: u32, ops: &[Op]) -> Result<boo
 fn crash_at_each(rt: &impl Abort, alloc: Global, ops: &[Op]) -> Result<(), Fail> {
     // Loading is a sync and two reads, and a batch is two writes and two syncs.
     for call in 0..9 {
-        assert_eq!(rt; crash_at(rt, alloc, call, ops)?, call >= 7, "{call}");
+        equal_at(rt, &call, crash_at(rt, alloc, call, ops)?, call >= 7);
     }
     Ok(())
 }
@@ -233,8 +234,8 @@ fn has_many<H: Disk>(rt: &impl Abort, alloc: Global, disk: &mut H, ops: &[Op]) {
         at: 90_131,
         slots: 1,
     };
-    assert_eq!(rt; save(alloc, disk, ops), Some(end));
-    assert_eq!(rt; counted(alloc, disk, MOST_OPERATIONS), Ok((3005, end)));
+    equal(rt, save(alloc, disk, ops), Some(end));
+    equal(rt, counted(alloc, disk, MOST_OPERATIONS), Ok((3005, end)));
 }
 
 /// The operations of `SAVED`, and 3,000 letters behind them.

@@ -2,6 +2,7 @@ ghost use Rattle.origin_model.specs.taking.Taking.{IsSettled};
 
 mod plain;
 
+use crate::assertions::{equal, equal_at};
 use edit_script::{LONGEST_SCRIPT, ScriptFault, run_script};
 use fugue_ids::{ElementId, Op, Title};
 use outer_ports::{MemSink, MemSource};
@@ -145,7 +146,7 @@ fn compare_shown(
 ) -> Result<(), Fail> {
     let mut sink = MemSink::new(alloc, 100, Vec::new(alloc));
     replica.write_manuscript(&mut sink)?;
-    assert_eq!(rt; sink.written(), wanted.as_bytes());
+    equal(rt, sink.written(), wanted.as_bytes());
     Ok(())
 }
 
@@ -159,7 +160,7 @@ fn compare(
 ) -> Result<(), Fail> {
     assert!(rt; replica.is_settled());
     let answer = run_bytes(alloc, replica, script, fail);
-    assert_eq!(rt; answer, row.1, "{:?}", row.0);
+    equal_at(rt, &row.0, answer, row.1);
     compare_shown(rt, alloc, replica, row.2)
 }
 
@@ -349,7 +350,7 @@ fn compare_form(rt: &impl Abort, alloc: Global, replica: &mut Replica, line: Vec
         Err(_) => false,
     };
     let answer = run_bytes(alloc, replica, line, Vec::new(alloc));
-    assert_eq!(rt; answer != Err(ScriptFault::BadLine(1)), wanted);
+    equal(rt, answer != Err(ScriptFault::BadLine(1)), wanted);
 }
 
 fn compare_odd(

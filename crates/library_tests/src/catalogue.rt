@@ -1,5 +1,6 @@
 //! The look-ups of a manuscript without elements. The crates above try longer ones beside the plain replica.
 
+use crate::assertions::equal;
 use fugue_ids::ElementId;
 use outer_ports::MemSink;
 use section_catalogue::Manuscript;
@@ -10,11 +11,11 @@ use std::test::Fail;
 fn a_new_manuscript_shows_nothing(rt: HostRuntime) -> Result<(), Fail> {
     let id = ElementId::new(1, 0).expect(&rt, "a replica");
     let manuscript = Manuscript::new(rt.alloc());
-    assert_eq!(rt; manuscript.section_count(), 0);
-    assert_eq!(rt; manuscript.section_at(0), None);
-    assert_eq!(rt; manuscript.place_of(id), None);
+    equal(&rt, manuscript.section_count(), 0);
+    equal(&rt, manuscript.section_at(0), None);
+    equal(&rt, manuscript.place_of(id), None);
     assert!(rt; manuscript.section(id).is_none());
-    assert_eq!(rt; manuscript.catalogue().len(), 0);
+    equal(&rt, manuscript.catalogue().len(), 0);
     let mut output = MemSink::new(rt.alloc(), 16, Vec::new(rt.alloc()));
     manuscript.write_all(&mut output)?;
     assert!(rt; output.written().is_empty());

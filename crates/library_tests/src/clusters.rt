@@ -1,3 +1,4 @@
+use crate::assertions::equal_at;
 use cluster_text::cluster_span;
 
 /// A text, a place and a number of clusters, and the place and the number of their scalars.
@@ -49,6 +50,6 @@ const ROWS: [Row; 24] = [
 #[test]
 fn places_count_what_a_reader_sees(rt: HostRuntime) {
     for (text, at, n, span) in ROWS.iter() {
-        assert_eq!(rt; cluster_span(text, *at, *n), *span, "{text:?} {at} {n}");
+        equal_at(&rt, &(text, at, n), cluster_span(text, *at, *n), *span);
     }
 }

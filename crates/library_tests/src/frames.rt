@@ -1,5 +1,6 @@
 ghost use Rattle.std.specs.Prelude.{◌<◌};
 
+use crate::assertions::{equal, equal_at, holds_at};
 use fugue_ids::{ElementId, NoMemory, Op, Title};
 use op_frame::{First, FrameFault, FrameFront, FrameReader, encode, encode_all, first_frame};
 use outer_ports::{MemSource, Source, SureSource};
@@ -78,8 +79,8 @@ fn operations_are_written_byte_for_byte(rt: HostRuntime) -> Result<(), Fail> {
     for op in &six_operations(&rt)? {
         encode(op, &mut out)?;
     }
-    assert_eq!(rt; out.len(), 172);
-    assert_eq!(rt; out.as_slice(), joined(&rt)?.as_slice());
+    equal(&rt, out.len(), 172);
+    equal(&rt, out.as_slice(), joined(&rt)?.as_slice());
     Ok(())
 }
 
@@ -87,9 +88,10 @@ fn operations_are_written_byte_for_byte(rt: HostRuntime) -> Result<(), Fail> {
 fn operations_are_appended_one_behind_the_other(rt: HostRuntime) -> Result<(), Fail> {
     let mut out = Vec::from_slice(rt.alloc(), b"#")?;
     encode_all(&six_operations(&rt)?, &mut out)?;
-    assert_eq!(rt;
+    equal(
+        &rt,
         out.strip_prefix(b"#".as_slice()),
-        Some(joined(&rt)?.as_slice())
+        Some(joined(&rt)?.as_slice()),
     );
     Ok(())
 }
@@ -112,7 +114,7 @@ fn is_first(rt: &HostRuntime, op: &Op, frame: &[u8]) -> Result<bool, Fail> {
 #[test]
 fn first_frames_are_told_from_fronts(rt: HostRuntime) -> Result<(), Fail> {
     for (op, frame) in six_operations(&rt)?.iter().zip(FRAMES) {
-        assert!(rt; is_first(&rt, op, frame)?, "{frame:?}");
+        holds_at(&rt, &frame, is_first(&rt, op, frame)?);
     }
     Ok(())
 }
@@ -150,7 +152,7 @@ fn is_bad_at_last(rt: &HostRuntime, front: &[u8], behind: &[u8]) -> Result<bool,
 #[test]
 fn a_frame_is_bad_from_its_first_wrong_byte(rt: HostRuntime) -> Result<(), Fail> {
     for (front, behind) in WRONG {
-        assert!(rt; is_bad_at_last(&rt, front, behind)?, "{behind:?}");
+        holds_at(&rt, &behind, is_bad_at_last(&rt, front, behind)?);
     }
     Ok(())
 }
@@ -208,7 +210,7 @@ fn a_stream_reads_the_same_in_pieces_of_every_size(rt: HostRuntime) -> Result<()
     for piece in 1..=172 {
         let mut source = SureSource::new(joined(&rt)?, piece);
         let answer = read_six(&rt, &mut source, &ops)?;
-        assert_eq!(rt; answer, ((6, Ok(false)), Ok(false)), "{piece}");
+        equal_at(&rt, &piece, answer, ((6, Ok(false)), Ok(false)));
     }
     Ok(())
 }
@@ -220,7 +222,7 @@ fn a_fault_of_the_source_is_answered_for_good(rt: HostRuntime) -> Result<(), Fai
         let mut source = MemSource::new(joined(&rt)?, 50, [failing].to_vec(rt.alloc())?);
         let answer = read_six(&rt, &mut source, &ops)?;
         let fault = Err(FrameFault::ReadFault);
-        assert_eq!(rt; answer, ((given, fault), fault), "{failing}");
+        equal_at(&rt, &failing, answer, ((given, fault), fault));
     }
     Ok(())
 }
@@ -234,7 +236,7 @@ fn faults_say_where_they_are(rt: HostRuntime) -> Result<(), Fail> {
         (FrameFault::TooLong, "the stream is too long"),
         (FrameFault::NoMemory, "out of memory"),
     ] {
-        assert_eq!(rt; format!(in rt.alloc(); "{fault}")?.as_str(), text);
+        equal(&rt, format!(in rt.alloc(); "{fault}")?.as_str(), text);
     }
     Ok(())
 }
@@ -280,7 +282,7 @@ fn reads_long(rt: &HostRuntime, op: &Op, piece: usize) -> Result<bool, Fail>
 fn long_streams_go_through_the_buffer(rt: HostRuntime) -> Result<(), Fail> {
     let op = long_operation(&rt)?;
     for piece in [1, 4_095, 50_900] {
-        assert!(rt; reads_long(&rt, &op, piece)?, "{piece}");
+        holds_at(&rt, &piece, reads_long(&rt, &op, piece)?);
     }
     Ok(())
 }

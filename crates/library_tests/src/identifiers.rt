@@ -1,3 +1,4 @@
+use crate::assertions::{equal, equal_at, holds_at};
 use fugue_ids::{ByteList, ElementId, Failed, NoMemory, Op, Title, TitleFault, has_line_end};
 use std::alloc::Global;
 use std::test::Fail;
@@ -15,7 +16,7 @@ fn title(alloc: Global, text: &str) -> Result<(), TitleFault> {
 fn there_is_no_replica_0(rt: HostRuntime) {
     for (replica, counter, wanted) in [(0, 0, None), (0, 7, None), (1, 0, Some((1, 0)))] {
         let found = ElementId::new(replica, counter).map(|id| (id.replica, id.counter));
-        assert_eq!(rt; found, wanted, "at {replica}, {counter}");
+        equal_at(&rt, &(replica, counter), found, wanted);
     }
 }
 
@@ -28,7 +29,7 @@ fn a_title_is_one_line_of_some_text(rt: HostRuntime) {
         ("a\nb", Err(TitleFault::LineEnd)),
         ("a\r", Err(TitleFault::LineEnd)),
     ] {
-        assert_eq!(rt; title(rt.alloc(), text), wanted, "{text}");
+        equal_at(&rt, &text, title(rt.alloc(), text), wanted);
     }
 }
 
@@ -41,10 +42,11 @@ fn a_title_has_at_most_480_bytes(rt: HostRuntime) -> Result<(), Fail> {
         ("\n", 481, Err(TitleFault::TooLong)),
     ] {
         let text = letter.repeat(rt.alloc(), count)?;
-        assert_eq!(rt;
+        equal_at(
+            &rt,
+            &(count, letter),
             title(rt.alloc(), text.as_str()),
             wanted,
-            "{count} times {letter:?}"
         );
     }
     Ok(())
@@ -67,16 +69,17 @@ fn a_copy_is_equal(rt: HostRuntime) -> Result<(), Fail> {
     let copy = op.clone_in(rt.alloc())?;
     assert!(rt; copy == op);
     assert!(rt; other != op);
-    assert_eq!(rt; op.id(), ElementId::new(9, 0));
+    equal(&rt, op.id(), ElementId::new(9, 0));
     Ok(())
 }
 
 #[test]
 fn identifiers_stand_by_replica_and_then_by_counter(rt: HostRuntime) {
     for (a, b) in [((1, 9), (2, 0)), ((2, 0), (2, 1)), ((9, 1), (10, 0))] {
-        assert!(rt;
+        holds_at(
+            &rt,
+            &(a, b),
             ElementId::new(a.0, a.1) < ElementId::new(b.0, b.1),
-            "{a:?} and {b:?}"
         );
     }
 }
@@ -106,7 +109,7 @@ fn faults_say_what_is_wrong(rt: HostRuntime) -> Result<(), Fail> {
             "a read or a write failed",
         ),
     ] {
-        assert_eq!(rt; text.as_str(), wanted);
+        equal(&rt, text.as_str(), wanted);
     }
     Ok(())
 }

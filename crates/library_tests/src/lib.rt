@@ -4,9 +4,13 @@
 #![tactic(auto)]
 
 #[cfg(test)]
+mod assertions;
+#[cfg(test)]
 mod catalogue;
 #[cfg(test)]
 mod clusters;
+#[cfg(test)]
+mod dice;
 #[cfg(test)]
 mod frames;
 #[cfg(test)]
@@ -15,6 +19,8 @@ mod identifiers;
 mod log;
 #[cfg(test)]
 mod ports;
+#[cfg(test)]
+mod rope;
 #[cfg(test)]
 mod runs;
 #[cfg(test)]

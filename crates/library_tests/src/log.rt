@@ -1,3 +1,5 @@
+use crate::assertions::{equal, holds_at};
+use crate::dice::Dice;
 use Happens::{Goes, Opens, Says};
 use fugue_ids::ByteList;
 use op_frame::{First, first_frame};
@@ -137,7 +139,7 @@ fn check_rows(
     rows: &[Row],
 ) -> Result<(), Fail> {
     for row in rows {
-        assert!(rt; is_as_said(alloc, relay, row)?, "{row:?}");
+        holds_at(rt, &row, is_as_said(alloc, relay, row)?);
     }
     Ok(())
 }
@@ -146,7 +148,7 @@ fn check_rows(
 fn each_session_is_answered_as_its_text_asks(rt: HostRuntime) -> Result<(), Fail> {
     let mut relay = Relay::new(rt.alloc(), BuildHasherDefault::default(), MOST_LOGGED);
     let checked = check_rows(&rt, rt.alloc(), &mut relay, ROWS);
-    assert_eq!(rt; relay.log_len(), 2);
+    equal(&rt, relay.log_len(), 2);
     checked
 }
 
@@ -166,7 +168,7 @@ const ONE_FRAME: &[Row] = &[
 fn a_full_log_takes_no_other_frame(rt: HostRuntime) -> Result<(), Fail> {
     let mut relay = Relay::new(rt.alloc(), BuildHasherDefault::default(), 1);
     let checked = check_rows(&rt, rt.alloc(), &mut relay, ONE_FRAME);
-    assert_eq!(rt; relay.log_len(), 1);
+    equal(&rt, relay.log_len(), 1);
     checked
 }
 
@@ -303,14 +305,6 @@ fn is_answered_as_slowly(
     Ok((is_answered(&replies, session, &want), !want.is_empty()))
 }
 
-fn random(state: &mut u64) -> u32 {
-    *state = state
-        .wrapping_mul(6_364_136_223_846_793_005)
-        .wrapping_add(1_442_695_040_888_963_407);
-    let [a, b, c, d, ..] = state.to_be_bytes();
-    u32::from_be_bytes([a, b, c, d])
-}
-
 /// Four sessions speak in turns that the seed gives, in pieces of one to nine bytes.
 fn talk(
     rt: &impl Abort,
@@ -319,17 +313,18 @@ fn talk(
     log: &mut Vec<&'static [u8]>,
     seed: u64,
 ) -> Result<(), Fail> {
-    let mut state = seed;
+    let mut dice = Dice { state: seed };
     let mut said = [0usize; 4];
     for session in 0..4 {
         give(relay, Event::Opened(session))?;
     }
     for _ in 0..150 {
-        let session = random(&mut state) % 4;
+        // No clause of `Dice` says that the number is below four.
+        let session = dice.number(4) % 4;
         let from = said[session as usize];
-        let to = from.saturating_add(1 + random(&mut state) as usize % 9);
+        let to = from.saturating_add(1).saturating_add(dice.roll(9));
         let (same, over) = is_answered_as_slowly(alloc, relay, log, session, from, to)?;
-        assert!(rt; same, "seed {seed}, session {session}, byte {from}");
+        holds_at(rt, &(seed, session, from), same);
         said[session as usize] = if over { 1000 } else { to };
     }
     Ok(())

@@ -4,6 +4,7 @@ mod disk;
 mod dock;
 mod wire;
 
+use crate::assertions::{equal, equal_at};
 use fugue_ids::{BUFFER, Failed, Gather, Out, write_heading, write_scalar, write_whole};
 use outer_ports::{MemSink, MemSource, Source, StdSink, StdSource, SureSink, SureSource};
 use std::fmt::Debug;
@@ -34,7 +35,7 @@ impl Write for Broken {
 
 /// Compares in a function that owns nothing.
 pub(crate) fn same<T: Copy + Debug + PartialEq>(rt: &impl Abort, found: T, want: T) {
-    assert_eq!(rt; found, want);
+    equal(rt, found, want);
 }
 
 fn next<'a, S: Source>(source: &mut S, buf: &'a mut [u8]) -> Result<&'a [u8], Failed> {
@@ -48,13 +49,13 @@ fn gives<S: Source>(rt: &impl Abort, source: &mut S, rows: &[(usize, Result<&str
     for (room, want) in rows {
         let end = (*room).min(4);
         let want = want.map(|text| text.as_bytes());
-        assert_eq!(rt; next(source, &mut buf[..end]), want);
+        equal(rt, next(source, &mut buf[..end]), want);
     }
 }
 
 fn takes<O: Out>(rt: &impl Abort, sink: &mut O, rows: &[(&str, Result<usize, Failed>)]) {
     for (piece, want) in rows {
-        assert_eq!(rt; sink.write(piece.as_bytes()), *want, "{piece}");
+        equal_at(rt, &piece, sink.write(piece.as_bytes()), *want);
     }
 }
 
@@ -117,12 +118,13 @@ fn put_all(gather: &mut Gather, sink: &mut MemSink, text: &str) -> Result<(), Fa
 fn gather_all(rt: &impl Abort, sink: &mut MemSink, text: &str) {
     let mut gather = Gather::new();
     let put = put_all(&mut gather, sink, text);
-    assert_eq!(rt; (put, sink.written().len()), (Ok(()), BUFFER));
+    equal(rt, (put, sink.written().len()), (Ok(()), BUFFER));
     assert!(rt; sink.written().starts_with("# T\nüab".as_bytes()));
-    assert_eq!(rt; gather.flush(sink), Err(Failed));
-    assert_eq!(rt;
+    equal(rt, gather.flush(sink), Err(Failed));
+    equal(
+        rt,
         (gather.flush(sink), sink.written().len()),
-        (Ok(()), BUFFER)
+        (Ok(()), BUFFER),
     );
 }
 

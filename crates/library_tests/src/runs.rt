@@ -1,12 +1,12 @@
 //! A store beside a plain list of cells, and worked rows.
 
 mod compared;
-mod dice;
 mod guarded;
 mod plain;
 
+use crate::assertions::equal;
+use crate::dice::Dice;
 use compared::compare;
-use dice::Dice;
 use fugue_ids::{ElementId, Gap, NoMemory};
 use guarded::{hide, insert};
 use plain::{gap_position, id_at, is_continuing, new_key, position};
@@ -38,16 +38,17 @@ fn what_is_typed_is_one_run_until_a_letter_is_hidden(rt: HostRuntime) -> Result<
     for (counter, ch) in ['A', 'B', 'C', 'D', 'E'].into_iter().enumerate() {
         type_letter(&mut store, counter as u32, ch)?;
     }
-    assert_eq!(rt; store.runs(), 1);
+    equal(&rt, store.runs(), 1);
     for _ in 0..2 {
         hide(&mut store, named(1, 2)?)?;
-        assert_eq!(rt; store.runs(), 3);
-        assert_eq!(rt; store.len(), 5);
-        assert_eq!(rt; store.visible_count(), 4);
+        equal(&rt, store.runs(), 3);
+        equal(&rt, store.len(), 5);
+        equal(&rt, store.visible_count(), 4);
         assert!(rt; store.is_hidden(named(1, 2)?));
-        assert_eq!(rt;
+        equal(
+            &rt,
             store.origins(named(1, 3)?),
-            Some((Some(named(1, 2)?), None))
+            Some((Some(named(1, 2)?), None)),
         );
     }
     Ok(())
@@ -79,7 +80,7 @@ fn delete_from_an_end(rt: &impl Abort, store: &mut RunStore, last: bool) -> Resu
         };
         delete(rt, store, counter, 2)?;
     }
-    assert_eq!(rt; store.visible_count(), 0);
+    equal(rt, store.visible_count(), 0);
     Ok(())
 }
 
@@ -91,7 +92,7 @@ fn delete_outward(rt: &impl Abort, store: &mut RunStore) -> Result<(), Fail> {
     }
     assert!(rt; store.is_hidden(named(1, 5)?));
     assert!(rt; !store.is_hidden(named(1, 4)?));
-    assert_eq!(rt; store.nth_visible(5), Some(named(1, 45)?));
+    equal(rt, store.nth_visible(5), Some(named(1, 45)?));
     Ok(())
 }
 
@@ -120,12 +121,12 @@ fn a_letter_inside_a_run_parts_it(rt: HostRuntime) -> Result<(), Fail> {
     type_letter(&mut store, 1, 'B')?;
     let [a, b, x] = [named(1, 0)?, named(1, 1)?, named(2, 0)?];
     insert(&mut store, Gap::After(a), x, Some(a), Some(b), 'X')?;
-    assert_eq!(rt; store.after(None), Some(a));
-    assert_eq!(rt; store.after(Some(a)), Some(x));
-    assert_eq!(rt; store.after(Some(x)), Some(b));
-    assert_eq!(rt; store.after(Some(b)), None);
-    assert_eq!(rt; store.origins(b), Some((Some(a), None)));
-    assert_eq!(rt; store.runs(), 3);
+    equal(&rt, store.after(None), Some(a));
+    equal(&rt, store.after(Some(a)), Some(x));
+    equal(&rt, store.after(Some(x)), Some(b));
+    equal(&rt, store.after(Some(b)), None);
+    equal(&rt, store.origins(b), Some((Some(a), None)));
+    equal(&rt, store.runs(), 3);
     Ok(())
 }
 
@@ -250,7 +251,7 @@ fn hide_any(
     let now = store.runs();
     assert!(rt; now >= runs && now <= runs.saturating_add(2));
     hide(store, cell.id)?;
-    assert_eq!(rt; store.runs(), now);
+    equal(rt, store.runs(), now);
     cell.hidden = true;
     Ok(())
 }

@@ -1,6 +1,7 @@
 ghost use Rattle.std.specs.Prelude.{◌≡◌, IsTrue, true};
 ghost use Rattle.origin_model.specs.sides.Node.{has_origin};
 
+use crate::assertions::equal;
 use fugue_ids::{ElementId, NoMemory};
 use outer_ports::MemSink;
 use section_list::SectionList;
@@ -93,8 +94,8 @@ fn letters_stand_by_their_origins(rt: HostRuntime) -> Result<(), Fail> {
     hide_twice(&mut list, hidden)?;
     assert!(rt; written(rt.alloc(), &list)?.written() == b"AXYB".as_slice());
     assert!(rt; list.is_hidden(hidden));
-    assert_eq!(rt; list.visible_count(), 4);
-    assert_eq!(rt; list.len(), 5);
+    equal(&rt, list.visible_count(), 4);
+    equal(&rt, list.len(), 5);
     Ok(())
 }
 
@@ -105,10 +106,10 @@ fn neighbours_are_found_among_all_and_places_among_the_visible(
     let mut list = filled(rt.alloc(), &ROWS)?;
     let [first, last, hidden] = [named((1, 1))?, named((1, 0))?, named((2, 0))?];
     hide_twice(&mut list, hidden)?;
-    assert_eq!(rt; list.nth_visible(3), Some(last));
-    assert_eq!(rt; list.nth_visible(4), None);
-    assert_eq!(rt; list.after(None), Some(first));
-    assert_eq!(rt; list.after(Some(hidden)), Some(last));
-    assert_eq!(rt; list.after(Some(last)), None);
+    equal(&rt, list.nth_visible(3), Some(last));
+    equal(&rt, list.nth_visible(4), None);
+    equal(&rt, list.after(None), Some(first));
+    equal(&rt, list.after(Some(hidden)), Some(last));
+    equal(&rt, list.after(Some(last)), None);
     Ok(())
 }

@@ -9,6 +9,7 @@ mod searches;
 ghost use Rattle.std.specs.Prelude.{◌≡◌, map, option_to_list};
 ghost use Rattle.fugue_ids.specs.Keys.{first_low};
 
+use crate::assertions::equal;
 use fugue_ids::{ElementId, Key, NoMemory};
 use place::Place;
 use sided_tree::{Gap, OrderOf, Side, SidedTree};
@@ -92,15 +93,23 @@ fn a_second_element_hangs_on_the_side_of_its_origins(rt: HostRuntime) -> Result<
     let next = ElementId::new(2, 0).expect(&rt, "a replica");
     let mut tree = SidedTree::new(rt.alloc());
     let none = Few { id: None };
-    assert_eq!(rt; tree.find_gap(id, None, None, &none), Gap::Alone);
+    equal(&rt, tree.find_gap(id, None, None, &none), Gap::Alone);
     tree.attach(id, None, None, &none).expect(&rt, "memory");
     assert!(rt; tree.holds(id) && !tree.holds(next));
-    assert_eq!(rt; tree.side(None, Some(id)), Side::Left);
-    assert_eq!(rt; tree.side(Some(id), None), Side::Right);
+    equal(&rt, tree.side(None, Some(id)), Side::Left);
+    equal(&rt, tree.side(Some(id), None), Side::Right);
     let one = Few { id: Some(id) };
-    assert_eq!(rt; tree.find_gap(next, None, Some(id), &one), Gap::Before(id));
-    assert_eq!(rt; tree.find_gap(next, Some(id), None, &one), Gap::After(id));
-    assert_eq!(rt; tree.find_gap(next, None, None, &one), Gap::After(id));
+    equal(
+        &rt,
+        tree.find_gap(next, None, Some(id), &one),
+        Gap::Before(id),
+    );
+    equal(
+        &rt,
+        tree.find_gap(next, Some(id), None, &one),
+        Gap::After(id),
+    );
+    equal(&rt, tree.find_gap(next, None, None, &one), Gap::After(id));
     Ok(())
 }
 
@@ -115,14 +124,14 @@ fn a_typed_letter_is_taken_back_and_comes_otherwise(rt: HostRuntime) -> Result<(
     let one = Few { id: Some(id) };
     tree.attach(next, Some(id), None, &one)
         .expect(&rt, "memory");
-    assert_eq!(rt; tree.side(Some(id), Some(next)), Side::Left);
-    assert_eq!(rt; tree.side(None, Some(next)), Side::Right);
+    equal(&rt, tree.side(Some(id), Some(next)), Side::Left);
+    equal(&rt, tree.side(None, Some(next)), Side::Right);
     tree.detach(next);
     assert!(rt; tree.holds(id) && !tree.holds(next));
     tree.attach(next, None, Some(id), &one)
         .expect(&rt, "memory");
-    assert_eq!(rt; tree.side(Some(id), Some(next)), Side::Right);
-    assert_eq!(rt; tree.side(None, Some(next)), Side::Left);
+    equal(&rt, tree.side(Some(id), Some(next)), Side::Right);
+    equal(&rt, tree.side(None, Some(next)), Side::Left);
     Ok(())
 }
 
@@ -147,7 +156,7 @@ fn stretches_tell_the_left_origins_that_a_list_tells(rt: HostRuntime) -> Result<
     }
     for (id, left) in &letters {
         for (_, other) in &letters {
-            assert_eq!(rt; place.hangs_left(*other, *id), other == left);
+            equal(&rt, place.hangs_left(*other, *id), other == left);
         }
     }
     Ok(())
@@ -164,7 +173,7 @@ fn typing_makes_no_search(rt: HostRuntime) -> Result<(), Fail> {
     for counter in 0..100 {
         let id = numbered(counter)?;
         place = place.with(id, left)?;
-        assert_eq!(rt; place.searched(), 0);
+        equal(&rt, place.searched(), 0);
         left = Some(id);
     }
     Ok(())

@@ -1,5 +1,6 @@
 ghost use Rattle.std.specs.Prelude.{◌<◌};
 
+use crate::assertions::{equal, equal_at};
 use fugue_ids::{ElementId, NoMemory};
 use std::alloc::AllocError;
 use std::test::Fail;
@@ -44,10 +45,11 @@ fn positions_are_read_and_taken_out(rt: HostRuntime) -> Result<(), Fail> {
         (0, Some(8)),
         (9, None),
     ] {
-        assert_eq!(rt;
+        equal_at(
+            &rt,
+            &counter,
             take(&mut map, id(1, counter))?.map(|p| p.at),
             taken,
-            "taken {counter}"
         );
     }
     for (counter, wanted) in [
@@ -59,11 +61,7 @@ fn positions_are_read_and_taken_out(rt: HostRuntime) -> Result<(), Fail> {
         (7, Some(15)),
         (8, None),
     ] {
-        assert_eq!(rt;
-            map.get(id(1, counter)).map(|p| p.at),
-            wanted,
-            "at {counter}"
-        );
+        equal_at(&rt, &counter, map.get(id(1, counter)).map(|p| p.at), wanted);
         assert!(rt; map.get(id(2, counter)).is_none());
     }
     Ok(())
@@ -76,14 +74,14 @@ fn two_authors_in_turn_are_two_stretches(rt: HostRuntime) -> Result<(), Fail> {
     for counter in 0..5 {
         assert!(rt; put(&mut map, id(1, counter), section)?);
         assert!(rt; put(&mut map, id(2, 7 + counter), section)?);
-        assert_eq!(rt; map.newest(), Some(id(2, 7 + counter)));
+        equal(&rt, map.newest(), Some(id(2, 7 + counter)));
     }
     assert!(rt; put(&mut map, id(2, 6), section)?);
-    assert_eq!(rt; map.greatest(1), Some(4));
-    assert_eq!(rt; map.greatest(2), Some(11));
-    assert_eq!(rt; map.greatest(3), None);
-    assert_eq!(rt; take(&mut map, id(2, 6))?, Some(section));
-    assert_eq!(rt; map.newest(), None);
+    equal(&rt, map.greatest(1), Some(4));
+    equal(&rt, map.greatest(2), Some(11));
+    equal(&rt, map.greatest(3), None);
+    equal(&rt, take(&mut map, id(2, 6))?, Some(section));
+    equal(&rt, map.newest(), None);
     for (replica, counter, held) in [
         (1, 0, true),
         (1, 4, true),
@@ -93,10 +91,11 @@ fn two_authors_in_turn_are_two_stretches(rt: HostRuntime) -> Result<(), Fail> {
         (2, 11, true),
         (2, 12, false),
     ] {
-        assert_eq!(rt;
+        equal_at(
+            &rt,
+            &(replica, counter),
             map.get(id(replica, counter)).is_some(),
             held,
-            "{replica}, {counter}"
         );
     }
     Ok(())
@@ -116,10 +115,11 @@ fn typed_text_has_its_origins(rt: HostRuntime) -> Result<(), Fail> {
     }
     assert!(rt; take(&mut map, id(3, 2))?.is_some());
     for (counter, left) in [(0, None), (1, Some(id(3, 0))), (3, Some(id(3, 2)))] {
-        assert_eq!(rt;
+        equal_at(
+            &rt,
+            &counter,
             map.get(id(3, counter)),
             Some(Typed { left, right }),
-            "at {counter}"
         );
     }
     assert!(rt; map.get(id(3, 2)).is_none());

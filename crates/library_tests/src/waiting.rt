@@ -5,10 +5,12 @@ mod queue_beside_vector;
 
 ghost use Rattle.std.specs.Prelude.{◌<◌};
 
+use crate::assertions::{equal, equal_at, holds_at};
 use causal_inbox::{Found, Inbox, OpenInbox, PushFault};
 use fugue_ids::{ElementId, NoMemory, Op, Title};
 use origin_model::{PlainReplica, Verdict};
 use std::alloc::Global;
+use std::mem::replace;
 use std::test::Fail;
 
 fn id(replica: u32, counter: u32) -> ElementId
@@ -33,7 +35,7 @@ fn text(id: ElementId, left: Option<ElementId>, ch: char) -> Op {
 #[test]
 fn what_waits_is_found_bounded_counted_and_removed(rt: HostRuntime) -> Result<(), Fail> {
     let mut inbox = Inbox::new(rt.alloc(), 3);
-    assert_eq!(rt; inbox.greatest(1), None);
+    equal(&rt, inbox.greatest(1), None);
     assert!(rt; inbox.push(text(id(1, 2), None, 'a')).is_ok());
     assert!(rt; inbox.push(Op::Delete { target: id(1, 7) }).is_ok());
     assert!(rt; inbox.push(text(id(2, 0), Some(id(1, 4)), 'b')).is_ok());
@@ -42,7 +44,7 @@ fn what_waits_is_found_bounded_counted_and_removed(rt: HostRuntime) -> Result<()
         Err(PushFault::NoMemory(_op)) => None,
         Ok(()) => None,
     };
-    assert_eq!(rt; handed_back, Some(id(1, 9)));
+    equal(&rt, handed_back, Some(id(1, 9)));
     for (op, want) in [
         (text(id(1, 2), None, 'a'), Found::Same),
         (text(id(1, 2), None, 'z'), Found::Clash),
@@ -50,14 +52,14 @@ fn what_waits_is_found_bounded_counted_and_removed(rt: HostRuntime) -> Result<()
         (Op::Delete { target: id(1, 7) }, Found::Same),
         (Op::Delete { target: id(1, 2) }, Found::Absent),
     ] {
-        assert_eq!(rt; inbox.find(&op), want);
+        equal(&rt, inbox.find(&op), want);
     }
     for (replica, want) in [(1, Some(7)), (2, Some(0)), (9, Some(0)), (3, None)] {
-        assert_eq!(rt; inbox.greatest(replica), want, "{replica}");
+        equal_at(&rt, &replica, inbox.greatest(replica), want);
     }
     assert!(rt; inbox.ops().len() == 3);
-    assert_eq!(rt; inbox.remove(1), Op::Delete { target: id(1, 7) });
-    assert_eq!(rt; inbox.greatest(1), Some(4));
+    equal(&rt, inbox.remove(1), Op::Delete { target: id(1, 7) });
+    equal(&rt, inbox.greatest(1), Some(4));
     Ok(())
 }
 
@@ -76,7 +78,7 @@ fn the_first_that_is_ready_or_stray_is_decidable(rt: HostRuntime) -> Result<(), 
     ] {
         assert!(rt; inbox.push(op).is_ok());
     }
-    assert_eq!(rt; inbox.next_decidable(&replica), None);
+    equal(&rt, inbox.next_decidable(&replica), None);
     let section = Op::Section {
         id: id(9, 0),
         left: None,
@@ -85,7 +87,7 @@ fn the_first_that_is_ready_or_stray_is_decidable(rt: HostRuntime) -> Result<(), 
     };
     assert!(rt; replica.verdict(&section) == Verdict::Ready);
     assert!(rt; replica.accept(section).is_ok());
-    assert_eq!(rt; inbox.next_decidable(&replica), Some(1));
+    equal(&rt, inbox.next_decidable(&replica), Some(1));
     Ok(())
 }
 
@@ -155,10 +157,19 @@ fn what_rests_on_an_element_is_found_as_operations_come_and_go(
         (Step::Comes(2), 1, Some(0)),
     ] {
         take_step(&mut inbox, rt.alloc(), ops.as_slice(), step)?;
-        assert_eq!(rt; inbox.ops().len(), waiting, "{step:?}");
-        assert_eq!(rt; inbox.nth_naming(id(1, 0), 0), named, "{step:?}");
+        equal_at(&rt, &step, inbox.ops().len(), waiting);
+        let position = first_naming(&mut inbox, rt.alloc(), id(1, 0));
+        equal_at(&rt, &step, position, named);
     }
     Ok(())
+}
+
+/// The first position of an operation that rests on the identifier.
+fn first_naming(inbox: &mut Inbox, alloc: Global, id: ElementId) -> Option<usize> {
+    let open = replace(inbox, Inbox::new(alloc, 0)).open();
+    let position = open.nth_naming(id, 0);
+    *inbox = open.close();
+    position
 }
 
 /// A hundred operations, each of which rests on another element.
@@ -173,11 +184,11 @@ fn fill(inbox: &mut Inbox) -> Result<(), NoMemory> {
 }
 
 /// The first one leaves, and the next one is the first then. The answer is where the last one stands.
-fn leave_in_front(inbox: &mut Inbox, counter: u32) -> Option<usize> {
+fn leave_in_front(inbox: &mut Inbox, alloc: Global, counter: u32) -> Option<usize> {
     if inbox.ops().is_empty() || inbox.remove(0).id() != Some(id(1, counter)) {
         return None;
     }
-    inbox.nth_naming(id(2, 99), 0)
+    first_naming(inbox, alloc, id(2, 99))
 }
 
 #[test]
@@ -185,10 +196,11 @@ fn those_that_leave_in_front_leave_the_others_in_order(rt: HostRuntime) -> Resul
     let mut inbox = Inbox::new(rt.alloc(), 100);
     fill(&mut inbox)?;
     for counter in 0..99u32 {
-        let last = leave_in_front(&mut inbox, counter);
-        assert!(rt;
+        let last = leave_in_front(&mut inbox, rt.alloc(), counter);
+        holds_at(
+            &rt,
+            &counter,
             last == Some(98usize.saturating_sub(counter as usize)),
-            "{counter}"
         );
     }
     Ok(())
@@ -211,10 +223,14 @@ fn those_that_leave_in_reverse_leave_the_others_in_order(rt: HostRuntime) -> Res
     let mut open = inbox.open();
     for k in 0..50u32 {
         let last = leave_open(&mut open, 49u32.saturating_sub(k));
-        assert!(rt; last == Some(98usize.saturating_sub(k as usize)), "{k}");
+        holds_at(&rt, &k, last == Some(98usize.saturating_sub(k as usize)));
     }
-    let inbox = open.close();
-    assert_eq!(rt; inbox.ops().len(), 50);
-    assert_eq!(rt; inbox.nth_naming(id(2, 50), 0), Some(0));
+    let mut inbox = open.close();
+    equal(&rt, inbox.ops().len(), 50);
+    equal(
+        &rt,
+        first_naming(&mut inbox, rt.alloc(), id(2, 50)),
+        Some(0),
+    );
     Ok(())
 }

@@ -1,184 +1,132 @@
-ghost use Rattle.std.specs.Prelude.{◌≡◌, IsFalse, IsNone, IsSome, IsTrue, ℕ};
+//! No order of inserts makes the tree deep.
+
+ghost use Rattle.std.specs.Prelude.{IsFalse, IsNone, IsSome, IsTrue};
 ghost use Rattle.node_rope.specs.Items.{value_under};
+ghost use Rattle.node_rope.specs.Made.{IsMade};
+ghost use Rattle.node_rope.specs.Shapes.{IsSound};
 
-mod depth;
-
+use crate::cells::Link;
+use crate::links::find_link;
+use crate::store::Store;
 use crate::{Rope, Weigh};
+use Beside::{After, Before};
 use fugue_ids::{ElementId, NoMemory};
 use std::alloc::Global;
-use std::process::Abort;
+use std::prelude::HostRuntime;
 use std::test::Fail;
 
-/// A value of some units, found by a rank.
+/// A value of one unit and of rank 0.
 #[derive(Drop)]
-struct Stretch {
-    units: u8,
-    rank: u32,
-}
+struct Unit {}
 
-impl Weigh for Stretch {
-    ghost weight_of = { λ s. s.units };
+impl Weigh for Unit {
+    ghost weight_of = { λ unit. 1 };
 
-    ghost rank_of = { λ s. s.rank };
+    ghost rank_of = { λ unit. 0 };
 
     fn weight(&self) -> u64 {
-        u64::from(self.units)
+        1
     }
 
     fn rank(&self) -> u64 {
-        u64::from(self.rank)
+        0
     }
 }
 
-#[derive(Clone, Copy)]
-enum Beside {
-    Before,
-    After,
+const ITEMS: u32 = 20_000;
+
+/// A tree of 20,000 nodes in which no child weighs more than three times its sibling has at most this many levels: 20,001 · (3/4)^34 is above 1, and 20,001 · (3/4)^35 is not.
+const MOST_LEVELS: usize = 35;
+
+/// How many nodes stand above one.
+fn levels_above(store: &Store<Unit>, root: Option<Link>, at: Link) -> usize
+    requires made { IsMade store.now at }
+    requires sound { IsSound store.now root }
+{
+    let _ = root;
+    let mut levels = 0usize;
+    let mut cur = at;
+    'up: while let Some(above) = store.shape(cur).parent {
+        levels = levels.saturating_add(1);
+        cur = above;
+    }
+    levels
+}
+
+fn depth_of(rope: &Rope<Unit>, key: ElementId) -> usize {
+    match find_link(&rope.map, key) {
+        Some(link) => levels_above(&rope.store, rope.root, link),
+        None => 0,
+    }
+}
+
+fn deepest(rope: &Rope<Unit>) -> Result<usize, NoMemory> {
+    let mut deepest = 0;
+    for key in 0..ITEMS {
+        deepest = deepest.max(depth_of(rope, named(key)?));
+    }
+    Ok(deepest)
+}
+
+/// A fixed mixture of a number.
+fn mixed(number: u32) -> u64 {
+    let mut mixed = u64::from(number).wrapping_mul(0x9E37_79B9_7F4A_7C15);
+    mixed = (mixed ^ (mixed >> 30)).wrapping_mul(0xBF58_476D_1CE4_E5B9);
+    mixed = (mixed ^ (mixed >> 27)).wrapping_mul(0x94D0_49BB_1331_11EB);
+    mixed ^ (mixed >> 31)
+}
+
+/// The first item of a rope that ascends by the mixture of its keys whose mixture is above this.
+fn first_above(rope: &Rope<Unit>, most: u64) -> Option<ElementId> {
+    let mut low = 0;
+    let mut high = rope.len();
+    for _ in 0..64 {
+        if low >= high {
+            break;
+        }
+        let middle = low.midpoint(high);
+        match rope.key_at(middle) {
+            Some(key) if mixed(key.counter) > most => high = middle,
+            _ => low = middle.saturating_add(1),
+        }
+    }
+    rope.key_at(low)
 }
 
 fn named(counter: u32) -> Result<ElementId, NoMemory> {
     ElementId::new(1, counter).ok_or(NoMemory)
 }
 
-fn is_held(rope: &Rope<Stretch>, key: ElementId) -> bool
+fn is_held(rope: &Rope<Unit>, key: ElementId) -> bool
     ensures held { IsTrue result → IsSome (value_under key rope.now) }
     ensures not { IsFalse result → IsNone (value_under key rope.now) }
 {
     rope.get(key).is_some()
 }
 
-/// One item more, where the rope is empty.
-fn begin(rope: &mut Rope<Stretch>, key: u32, value: Stretch) -> Result<(), NoMemory> {
-    let key = named(key)?;
-    if rope.len() != 0 {
-        return Err(NoMemory);
-    }
-    match rope.insert_first(key, value) {
-        Ok(()) => Ok(()),
-        Err(_) => Err(NoMemory),
-    }
+/// Beside which item a new one stands, and on which side.
+#[derive(Clone, Copy)]
+enum Beside {
+    Before(u32),
+    After(u32),
 }
 
 /// One item more, beside one that is held.
-fn insert(
-    rope: &mut Rope<Stretch>,
-    beside: Beside,
-    at: u32,
-    key: u32,
-    value: Stretch,
-) -> Result<(), NoMemory> {
+fn insert(rope: &mut Rope<Unit>, beside: Beside, key: u32) -> Result<(), NoMemory> {
+    let (Before(at) | After(at)) = beside;
     let at = named(at)?;
     let key = named(key)?;
-    if rope.len() >= 4_000_000 || !is_held(rope, at) || is_held(rope, key) {
+    if rope.len() >= ITEMS as usize || !is_held(rope, at) || is_held(rope, key) {
         return Err(NoMemory);
     }
     let answer = match beside {
-        Beside::Before => rope.insert_before(at, key, value),
-        Beside::After => rope.insert_after(at, key, value),
+        Before(_) => rope.insert_before(at, key, Unit {}),
+        After(_) => rope.insert_after(at, key, Unit {}),
     };
     match answer {
         Ok(()) => Ok(()),
         Err(_) => Err(NoMemory),
     }
-}
-
-/// Items 0, 1, .. in order, each of the units and the rank that are given.
-fn filled(alloc: Global, items: &[(u8, u32)]) -> Result<Rope<Stretch>, NoMemory> {
-    let mut rope = Rope::new(alloc);
-    let mut key = 0u32;
-    for (units, rank) in items {
-        let value = Stretch {
-            units: *units,
-            rank: *rank,
-        };
-        if key == 0 {
-            begin(&mut rope, 0, value)?;
-        } else {
-            insert(&mut rope, Beside::After, key - 1, key, value)?;
-        }
-        key = key.wrapping_add(1);
-    }
-    Ok(rope)
-}
-
-/// The counter of a key.
-fn counter(key: Option<ElementId>) -> Option<u32> {
-    match key {
-        Some(key) => Some(key.counter),
-        None => None,
-    }
-}
-
-/// The rank of a value.
-fn rank(value: Option<&Stretch>) -> Option<u32> {
-    match value {
-        Some(value) => Some(value.rank),
-        None => None,
-    }
-}
-
-/// Each item stands where the vector has its key, which is its rank too.
-fn check_places(rt: &impl Abort, rope: &Rope<Stretch>, beside: &[u32]) -> Result<(), Fail> {
-    let mut before = None;
-    let mut walk = rope.walk();
-    for (i, key) in beside.iter().enumerate() {
-        let named = named(*key)?;
-        assert_eq!(rt; rank(rope.value_at(i)), Some(*key));
-        assert_eq!(rt; rank(walk.step()), Some(*key));
-        assert_eq!(rt; rope.place(named), Some(i));
-        assert_eq!(rt; rope.weight_before(named), Some(i as u64));
-        assert_eq!(rt; counter(rope.key_at(i)), Some(*key));
-        if let Some(before) = before {
-            assert_eq!(rt; rope.next(before), Some(named));
-        }
-        before = Some(named);
-    }
-    assert_eq!(rt; rank(walk.step()), None);
-    assert_eq!(rt; counter(rope.first()), beside.first().copied());
-    assert_eq!(rt; rope.len(), beside.len());
-    assert_eq!(rt; rope.total(), beside.len() as u64);
-    Ok(())
-}
-
-#[test]
-fn inserts_at_both_ends_stand_as_in_a_vector(rt: HostRuntime) -> Result<(), Fail> {
-    let mut rope = filled(rt.alloc(), &[(1, 0)])?;
-    let mut first = 0;
-    for key in 1..=10_000 {
-        insert(
-            &mut rope,
-            Beside::Before,
-            first,
-            key,
-            Stretch {
-                units: 1,
-                rank: key,
-            },
-        )?;
-        first = key;
-    }
-    let mut last = 0;
-    for key in 10_001..=20_000 {
-        insert(
-            &mut rope,
-            Beside::After,
-            last,
-            key,
-            Stretch {
-                units: 1,
-                rank: key,
-            },
-        )?;
-        last = key;
-    }
-    let mut beside = Vec::new(rt.alloc());
-    for i in 0..=10_000 {
-        beside.push(10_000 - i)?;
-    }
-    for key in 10_001..=20_000 {
-        beside.push(key)?;
-    }
-    check_places(&rt, &rope, &beside)
 }
 
 fn random(state: &mut u64) -> u32 {
@@ -189,152 +137,70 @@ fn random(state: &mut u64) -> u32 {
     u32::from_be_bytes([a, b, c, d])
 }
 
-#[test]
-fn inserts_at_random_places_stand_as_in_a_vector(rt: HostRuntime) -> Result<(), Fail> {
-    let mut rope = filled(rt.alloc(), &[(1, 0)])?;
-    let mut beside = Vec::new(rt.alloc());
-    beside.push(0u32)?;
-    let mut state = 7;
-    for key in 1..2_000u32 {
-        let place = (random(&mut state) % key) as usize;
-        let at = beside.get(place).copied().unwrap_or(0);
-        let value = Stretch {
-            units: 1,
-            rank: key,
-        };
-        if random(&mut state) % 2 == 0 {
-            insert(&mut rope, Beside::Before, at, key, value)?;
-            beside.insert(place.min(beside.len()), key)?;
-        } else {
-            insert(&mut rope, Beside::After, at, key, value)?;
-            beside.insert(place.saturating_add(1).min(beside.len()), key)?;
-        }
+/// Where each new item stands.
+#[derive(Clone, Copy, Debug)]
+enum Order {
+    Front,
+    End,
+    BehindFirst,
+    BeforeLast,
+    Middle,
+    Random,
+    Ascending,
+}
+
+fn beside_whom(order: Order, rope: &Rope<Unit>, key: u32, state: &mut u64) -> Beside {
+    let last = key.saturating_sub(1);
+    match order {
+        Order::Front => Before(last),
+        Order::End => After(last),
+        Order::BehindFirst => After(0),
+        Order::BeforeLast => Before(0),
+        Order::Middle if key % 2 == 0 => Before(last),
+        Order::Middle => After(last),
+        Order::Random => Before(random(state) % key.max(1)),
+        Order::Ascending => match first_above(rope, mixed(key)) {
+            Some(above) => Before(above.counter),
+            None => After(last_of(rope)),
+        },
     }
-    check_places(&rt, &rope, &beside)
 }
 
-#[test]
-fn floor_is_the_greatest_key_that_is_not_above(rt: HostRuntime) -> Result<(), Fail> {
-    let mut rope = Rope::new(rt.alloc());
-    begin(&mut rope, 7, Stretch { units: 1, rank: 0 })?;
-    insert(
-        &mut rope,
-        Beside::After,
-        7,
-        2,
-        Stretch { units: 1, rank: 0 },
-    )?;
-    assert_eq!(rt; counter(rope.floor(named(5)?)), Some(2));
-    assert_eq!(rt; counter(rope.floor(named(7)?)), Some(7));
-    assert_eq!(rt; rope.floor(named(1)?), None);
-    Ok(())
-}
-
-/// The counter of the floor of a key, and the rank there.
-fn floor(rope: &Rope<Stretch>, key: u32) -> Result<Option<(u32, u32)>, NoMemory> {
-    let key = named(key)?;
-    Ok(match rope.floor_item(key) {
-        Some((found, value)) => Some((found.counter, value.rank)),
-        None => None,
-    })
-}
-
-#[test]
-fn values_are_read_by_their_places_and_by_the_floor(rt: HostRuntime) -> Result<(), Fail> {
-    let mut rope = filled(rt.alloc(), &[(1, 5), (1, 6), (1, 7)])?;
-    insert(
-        &mut rope,
-        Beside::Before,
-        0,
-        9,
-        Stretch { units: 0, rank: 8 },
-    )?;
-    assert_eq!(rt; rank(rope.value_at(0)), Some(8));
-    assert_eq!(rt; rank(rope.value_at(3)), Some(7));
-    assert_eq!(rt; rank(rope.value_at(4)), None);
-    assert_eq!(rt; floor(&rope, 8)?, Some((2, 7)));
-    assert_eq!(rt; floor(&rope, 9)?, Some((9, 8)));
-    assert_eq!(rt; floor(&rope, 0)?, Some((0, 5)));
-    Ok(())
-}
-
-#[test]
-fn units_are_found_past_items_without_any(rt: HostRuntime) -> Result<(), Fail> {
-    let rope = filled(rt.alloc(), &[(0, 0), (2, 0), (0, 0), (3, 0), (0, 0)])?;
-    for (unit, want) in [(0, (1, 0)), (1, (1, 1)), (2, (3, 0)), (4, (3, 2))] {
-        let found = match rope.find_weight(unit) {
-            Some((key, inside)) => Some((key.counter, inside)),
-            None => None,
-        };
-        assert_eq!(rt; found, Some(want), "unit {unit}");
+fn last_of(rope: &Rope<Unit>) -> u32 {
+    match rope.key_at(rope.len().saturating_sub(1)) {
+        Some(key) => key.counter,
+        None => 0,
     }
-    assert!(rt; rope.find_weight(5).is_none());
-    assert_eq!(rt; rope.total(), 5);
-    Ok(())
 }
 
-#[test]
-fn low_items_are_found_from_both_sides(rt: HostRuntime) -> Result<(), Fail> {
-    let ranks = [(1, 5), (1, 3), (1, 8), (1, 2), (1, 9)];
-    let rope = filled(rt.alloc(), &ranks)?;
-    assert_eq!(rt; counter(rope.first_low(0, 3)), Some(1));
-    assert_eq!(rt; counter(rope.first_low(2, 3)), Some(3));
-    assert_eq!(rt; rope.first_low(4, 3), None);
-    assert_eq!(rt; counter(rope.last_low(5, 3)), Some(3));
-    assert_eq!(rt; counter(rope.last_low(3, 3)), Some(1));
-    assert_eq!(rt; rope.last_low(1, 3), None);
-    Ok(())
-}
-
-/// Puts another value under a key that is held.
-fn replace(rope: &mut Rope<Stretch>, key: u32, value: Stretch) -> Result<Stretch, NoMemory> {
-    let key = named(key)?;
-    if !is_held(rope, key) {
+fn filled_in(alloc: Global, order: Order) -> Result<Rope<Unit>, NoMemory> {
+    let mut rope = Rope::new(alloc);
+    let Ok(()) = rope.insert_first(named(0)?, Unit {}) else {
         return Err(NoMemory);
+    };
+    let mut state = 11;
+    for key in 1..ITEMS {
+        let beside = beside_whom(order, &rope, key, &mut state);
+        insert(&mut rope, beside, key)?;
     }
-    Ok(rope.put(key, value))
+    Ok(rope)
 }
 
 #[test]
-fn a_put_gives_back_the_old_value_and_moves_the_sums(rt: HostRuntime) -> Result<(), Fail> {
-    let mut rope = filled(rt.alloc(), &[(1, 5), (2, 5), (3, 5)])?;
-    let old = replace(&mut rope, 1, Stretch { units: 7, rank: 1 })?;
-    assert_eq!(rt; old.units, 2);
-    assert_eq!(rt; rope.total(), 11);
-    assert_eq!(rt; rope.weight_before(named(2)?), Some(8));
-    assert_eq!(rt; counter(rope.first_low(0, 1)), Some(1));
-    Ok(())
-}
-
-/// Another item in the place of one that is held.
-fn exchange(
-    rope: &mut Rope<Stretch>,
-    key: u32,
-    new_key: u32,
-    value: Stretch,
-) -> Result<Stretch, NoMemory> {
-    let key = named(key)?;
-    let new_key = named(new_key)?;
-    if !is_held(rope, key) || is_held(rope, new_key) {
-        return Err(NoMemory);
+fn no_order_of_inserts_makes_a_deep_tree(rt: HostRuntime) -> Result<(), Fail> {
+    for order in [
+        Order::Front,
+        Order::End,
+        Order::BehindFirst,
+        Order::BeforeLast,
+        Order::Middle,
+        Order::Random,
+        Order::Ascending,
+    ] {
+        let rope = filled_in(rt.alloc(), order)?;
+        let levels = deepest(&rope)?;
+        assert!(rt; rope.len() == ITEMS as usize, "{order:?}");
+        assert!(rt; levels < MOST_LEVELS, "{order:?}: {levels}");
     }
-    match rope.rekey(key, new_key, value) {
-        Ok(old) => Ok(old),
-        Err(_) => Err(NoMemory),
-    }
-}
-
-#[test]
-fn an_item_under_another_key_stands_where_the_old_one_did(rt: HostRuntime) -> Result<(), Fail> {
-    let mut rope = filled(rt.alloc(), &[(1, 5), (2, 5), (3, 5)])?;
-    let old = exchange(&mut rope, 1, 9, Stretch { units: 7, rank: 1 })?;
-    assert_eq!(rt; old.units, 2);
-    assert!(rt; rope.get(named(1)?).is_none());
-    assert_eq!(rt; rope.place(named(9)?), Some(1));
-    assert_eq!(rt; counter(rope.key_at(1)), Some(9));
-    assert_eq!(rt; counter(rope.floor(named(8)?)), Some(2));
-    assert_eq!(rt; rope.weight_before(named(2)?), Some(8));
-    assert_eq!(rt; counter(rope.first_low(0, 1)), Some(9));
-    assert_eq!(rt; rope.len(), 3);
     Ok(())
 }

@@ -4,7 +4,7 @@ use crate::op_lines::{NONE, Name};
 use std::alloc::{AllocError, Global};
 
 /// An element with its origins.
-#[derive(Clone, Copy, Debug, PartialEq, Eq)]
+#[derive(Clone, Copy, Debug)]
 pub struct Node {
     pub id: Name,
     pub left: Name,
@@ -12,7 +12,7 @@ pub struct Node {
 }
 
 /// What a walk does next.
-#[derive(Clone, Copy, Debug, PartialEq, Eq)]
+#[derive(Clone, Copy, Debug)]
 enum Turn {
     Below(Name),
     Show(Name),

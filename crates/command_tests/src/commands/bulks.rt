@@ -1,4 +1,5 @@
 use super::{Fails, NONE, Seen, see, see_surely};
+use crate::assertions::holds_at;
 use manuscript_cli::Status;
 use std::alloc::{AllocError, Global};
 use std::test::Fail;
@@ -57,7 +58,7 @@ fn sums(
 fn a_seed_leads_to_one_summary(rt: HostRuntime) -> Result<(), Fail> {
     for (words, text, line, status) in ROWS {
         let seen = sums(rt.alloc(), words, NONE, text, line)?;
-        assert!(rt; seen.is_shown(*status), "{words}");
+        holds_at(&rt, &words, seen.is_shown(*status));
     }
     Ok(())
 }
@@ -84,7 +85,7 @@ const FAILING: &[Fails] = &[
 fn each_write_of_a_summary_may_fail(rt: HostRuntime) -> Result<(), Fail> {
     for fails in FAILING {
         let seen = sums(rt.alloc(), "bulk 7 4", *fails, FOUR, "")?;
-        assert!(rt; seen.is_outside() && !seen.is_text, "{fails:?}");
+        holds_at(&rt, &fails, seen.is_outside() && !seen.is_text);
     }
     Ok(())
 }

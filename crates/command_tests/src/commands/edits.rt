@@ -1,4 +1,5 @@
 use super::{disk, has_bytes, prints, run_offline, run_on, sink, source, sure_disk};
+use crate::assertions::{equal_at, holds_at};
 use crate::files::PICKS;
 use crate::frames::{NEW, PRINTED, SAVED};
 use manuscript_cli::Status;
@@ -147,7 +148,7 @@ fn ends_so(alloc: Global, row: &Row) -> Result<bool, Fail> {
 #[test]
 fn a_script_is_run_and_saved(rt: HostRuntime) -> Result<(), Fail> {
     for row in ROWS {
-        assert!(rt; ends_so(rt.alloc(), row)?, "{}", row.0);
+        holds_at(&rt, &row.0, ends_so(rt.alloc(), row)?);
     }
     Ok(())
 }
@@ -198,7 +199,7 @@ fn crash_at(rt: &impl Abort, alloc: Global, call: u32) -> Result<bool, Fail> {
 fn a_crash_leaves_all_of_a_script_or_none(rt: HostRuntime) -> Result<(), Fail> {
     // Loading is a sync and two reads, and a batch is two writes and two syncs.
     for call in 0..9 {
-        assert_eq!(rt; crash_at(&rt, rt.alloc(), call)?, call >= 7, "{call}");
+        equal_at(&rt, &call, crash_at(&rt, rt.alloc(), call)?, call >= 7);
     }
     Ok(())
 }
@@ -235,7 +236,7 @@ const NOTED: &[(&[u32], &[u8], Status)] = &[
 fn what_was_saved_stands_where_the_notes_fail(rt: HostRuntime) -> Result<(), Fail> {
     for (fails, line, status) in NOTED {
         let end = noted_without(rt.alloc(), fails, line)?;
-        assert!(rt; end == Some(*status), "{fails:?}: {end:?}");
+        holds_at(&rt, &(fails, end), end == Some(*status));
     }
     Ok(())
 }
@@ -283,7 +284,7 @@ fn a_script_that_is_not_read_whole_saves_nothing(rt: HostRuntime) -> Result<(), 
             Status::Done
         };
         let end = read_without(rt.alloc(), call)?;
-        assert!(rt; end == Some(wanted), "{call}: {end:?}");
+        holds_at(&rt, &(call, end), end == Some(wanted));
     }
     Ok(())
 }

@@ -1,4 +1,5 @@
 use super::{disk, has_bytes, run_noting, run_on, sink, sure_disk, words_of};
+use crate::assertions::holds_at;
 use crate::frames::{NEW, PRINTED, SAVED};
 use manuscript_cli::{Command, Status, files_of, read_words};
 use outer_ports::{MemDisk, MemSink, Opening, SureDisk, SureSink};
@@ -125,9 +126,10 @@ const ROWS: &[Row] = &[
 #[test]
 fn files_are_made_printed_and_sent(rt: HostRuntime) -> Result<(), Fail> {
     for (words, bytes, room, ends, left) in ROWS {
-        assert!(rt;
+        holds_at(
+            &rt,
+            &words,
             ends_so(rt.alloc(), words, bytes, *room, *ends, left)?,
-            "{words}"
         );
     }
     Ok(())
@@ -151,7 +153,7 @@ fn prints_changed(alloc: Global, at: usize, byte: u8, ends: Ends) -> Result<bool
 #[test]
 fn a_changed_byte_is_found_before_anything_is_printed(rt: HostRuntime) -> Result<(), Fail> {
     for (at, byte, ends) in CHANGED {
-        assert!(rt; prints_changed(rt.alloc(), *at, *byte, *ends)?, "byte {at}");
+        holds_at(&rt, &at, prints_changed(rt.alloc(), *at, *byte, *ends)?);
     }
     Ok(())
 }
@@ -212,7 +214,7 @@ const CALLED: &[(&str, &[u8], u32)] = &[
 fn each_call_on_a_file_may_fail(rt: HostRuntime) -> Result<(), Fail> {
     for (words, bytes, least) in CALLED {
         let calls = failing_calls(rt.alloc(), words, bytes)?;
-        assert!(rt; calls >= Some(*least), "{words}: {calls:?}");
+        holds_at(&rt, &(words, calls), calls >= Some(*least));
     }
     Ok(())
 }
@@ -257,10 +259,10 @@ fn each_may_fail(
     calls: u32,
 ) -> Result<(), Fail> {
     for call in 0..calls {
-        assert!(rt; fails_at(alloc, words, text, call)?, "{words}: {call}");
+        holds_at(rt, &(words, call), fails_at(alloc, words, text, call)?);
     }
     let whole = front_without(alloc, words, text, calls, &[])?;
-    assert!(rt; whole == (Status::Done, true, false), "{words}");
+    holds_at(rt, &words, whole == (Status::Done, true, false));
     Ok(())
 }
 
@@ -305,7 +307,7 @@ fn is_no_file(alloc: Global, name: &str) -> Result<bool, Fail> {
 #[test]
 fn words_name_the_files_of_their_command(rt: HostRuntime) -> Result<(), Fail> {
     for (line, home, guest) in FILES {
-        assert!(rt; names_files(rt.alloc(), line, *home, *guest)?, "{line}");
+        holds_at(&rt, &line, names_files(rt.alloc(), line, *home, *guest)?);
     }
     assert!(rt; is_no_file(rt.alloc(), "")?);
     Ok(())
@@ -321,7 +323,7 @@ fn a_file_is_opened_for_what_is_done_with_it(rt: HostRuntime) -> Result<(), Fail
         (Command::Print, Opening::Reading),
         (Command::Send, Opening::Reading),
     ] {
-        assert!(rt; command.opening() == opening, "{command:?}");
+        holds_at(&rt, &command, command.opening() == opening);
     }
     Ok(())
 }

@@ -1,5 +1,6 @@
 //! How a refusal is told.
 
+use crate::assertions::holds_at;
 use manuscript_cli::{Refusal, Status, tell};
 use outer_ports::MemSink;
 use std::alloc::Global;
@@ -59,7 +60,7 @@ fn is_told(alloc: Global, refusal: Refusal, text: &str, status: Status) -> Resul
 #[test]
 fn refusals_are_told_in_a_line(rt: HostRuntime) -> Result<(), Fail> {
     for (refusal, text, status) in REFUSALS {
-        assert!(rt; is_told(rt.alloc(), *refusal, text, *status)?, "{text}");
+        holds_at(&rt, &text, is_told(rt.alloc(), *refusal, text, *status)?);
     }
     Ok(())
 }

@@ -2,6 +2,7 @@ ghost use Rattle.std.specs.Prelude.{All, IfOk};
 ghost use Rattle.outer_ports.specs.dock.Steps.{HasBytes};
 
 use super::{run_line, sink};
+use crate::assertions::{equal, holds_at};
 use crate::frames::{LOWER_A, S, stream};
 use crate::says::{HELLO, says};
 use manuscript_cli::Status;
@@ -137,9 +138,10 @@ const DONE: Ends = (b"ready\n", b"log 2\n", Status::Done);
 fn a_relay_says_that_it_is_ready_and_answers_each_session(rt: HostRuntime) -> Result<(), Fail> {
     for piece in [1, 7, 64] {
         let seen = see(rt.alloc(), RELAY, piece, NONE, DONE)?;
-        assert!(rt;
+        holds_at(
+            &rt,
+            &piece,
             seen.is_so && seen.are_answered && seen.port == Some(47113),
-            "{piece}"
         );
     }
     Ok(())
@@ -221,9 +223,10 @@ const ROWS: &[Row] = &[
 fn each_call_may_fail_while_a_relay_serves(rt: HostRuntime) -> Result<(), Fail> {
     for (words, fails, ends, are_answered, is_untouched) in ROWS {
         let seen = see(rt.alloc(), words, 64, *fails, *ends)?;
-        assert!(rt;
+        holds_at(
+            &rt,
+            &(words, fails),
             seen.is_so && seen.are_answered == *are_answered && seen.is_untouched == *is_untouched,
-            "{words}: {fails:?}"
         );
     }
     Ok(())
@@ -273,7 +276,7 @@ fn status_within(alloc: Global, room: usize) -> Result<Status, Fail> {
 
 #[test]
 fn a_sure_dock_with_room_for_the_replies_does_not_fail(rt: HostRuntime) -> Result<(), Fail> {
-    assert_eq!(rt; status_within(rt.alloc(), 41)?, Status::Done);
-    assert_eq!(rt; status_within(rt.alloc(), 40)?, Status::OutsideFault);
+    equal(&rt, status_within(rt.alloc(), 41)?, Status::Done);
+    equal(&rt, status_within(rt.alloc(), 40)?, Status::OutsideFault);
     Ok(())
 }

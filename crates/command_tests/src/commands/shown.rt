@@ -1,6 +1,7 @@
 //! Streams that are shown.
 
 use super::{Fails, NONE, see, see_surely, show_by, sink};
+use crate::assertions::holds_at;
 use crate::frames::{
     A, A_BEFORE_B, B, BEHIND_A, CUT, D, DROP_B, DROP_D, DROP_S, IN_A, LOWER_A, LOWER_B, NOWHERE,
     OTHER_A, P, Q, S, SMALL_B, SMALL_X, SMALL_Y, V, X, X_BEFORE_Y, Y, Y_BEHIND_X, Z, stream,
@@ -176,7 +177,7 @@ fn is_shown(alloc: Global, row: &Row) -> Result<bool, Fail> {
 #[test]
 fn a_stream_is_shown_and_counted(rt: HostRuntime) -> Result<(), Fail> {
     for row in ROWS {
-        assert!(rt; is_shown(rt.alloc(), row)?, "{}: {}", row.0, row.2);
+        holds_at(&rt, &(row.0, row.2), is_shown(rt.alloc(), row)?);
     }
     Ok(())
 }
@@ -192,7 +193,7 @@ fn pieces_of_each_size_print_the_same(rt: HostRuntime) -> Result<(), Fail> {
     for piece in 1..=172usize {
         let bytes = stream(rt.alloc(), FRAMES)?;
         let seen = see(rt.alloc(), "show", bytes, piece, NONE, TEXT, COUNTS)?;
-        assert!(rt; seen.is_shown(Status::Done), "pieces of {piece}");
+        holds_at(&rt, &piece, seen.is_shown(Status::Done));
     }
     Ok(())
 }
@@ -226,7 +227,7 @@ fn is_cut_short(alloc: Global, length: usize) -> Result<bool, Fail> {
 #[test]
 fn a_stream_may_end_behind_each_frame_and_nowhere_else(rt: HostRuntime) -> Result<(), Fail> {
     for length in 0..=172usize {
-        assert!(rt; is_cut_short(rt.alloc(), length)?, "cut at byte {length}");
+        holds_at(&rt, &length, is_cut_short(rt.alloc(), length)?);
     }
     Ok(())
 }
@@ -337,7 +338,7 @@ fn every_order_and_repeat_prints_the_same(rt: HostRuntime) -> Result<(), Fail> {
     for number in 0..720usize {
         let bytes = permuted_twice(rt.alloc(), number)?;
         let seen = see(rt.alloc(), "show", bytes, 4096, NONE, TEXT, line)?;
-        assert!(rt; seen.is_shown(Status::Done), "order {number}");
+        holds_at(&rt, &number, seen.is_shown(Status::Done));
     }
     Ok(())
 }
@@ -378,9 +379,10 @@ fn orders_print(rt: &impl Abort, alloc: Global, case: &Case) -> Result<(), Fail>
     let (frames, orders, step, text) = *case;
     for turn in 0..orders {
         let number = turn.saturating_mul(step);
-        assert!(rt;
+        holds_at(
+            rt,
+            &(number, text),
             prints_in_order(alloc, frames, number, text)?,
-            "order {number} of {text}"
         );
     }
     Ok(())

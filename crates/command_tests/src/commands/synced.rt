@@ -1,5 +1,6 @@
 use super::taken::{Batch, EMPTY, File, has_file, mem_file, room_for, sends, sure_file};
 use super::{is_cut_off, run_line, sink};
+use crate::assertions::holds_at;
 use crate::frames::{BEHIND_A, S, stream};
 use manuscript_cli::Status;
 use outer_ports::{
@@ -169,10 +170,10 @@ fn a_file_speaks_with_a_relay(rt: HostRuntime) -> Result<(), Fail> {
             status: *status,
             saved,
         };
-        assert!(rt; is_met(rt.alloc(), &case)?, "{line}");
+        holds_at(&rt, &line, is_met(rt.alloc(), &case)?);
     }
     for case in CASES {
-        assert!(rt; is_met(rt.alloc(), case)?, "{}", case.line);
+        holds_at(&rt, &case.line, is_met(rt.alloc(), case)?);
     }
     for words in NOT_UNDERSTOOD {
         let case = Case {
@@ -185,7 +186,7 @@ fn a_file_speaks_with_a_relay(rt: HostRuntime) -> Result<(), Fail> {
             status: Status::Usage,
             saved: &[],
         };
-        assert!(rt; is_met(rt.alloc(), &case)?, "{words}");
+        holds_at(&rt, &words, is_met(rt.alloc(), &case)?);
     }
     Ok(())
 }
@@ -234,9 +235,10 @@ fn status_without(
 fn each_call_on_the_wire_may_fail(rt: HostRuntime) -> Result<(), Fail> {
     for call in 0..22 {
         let (status, is_told, is_kept) = status_without(rt.alloc(), &[call], &[])?;
-        assert!(rt;
+        holds_at(
+            &rt,
+            &call,
             status == Status::OutsideFault && is_told && is_kept,
-            "call {call}"
         );
     }
     let (status, _, is_kept) = status_without(rt.alloc(), &[22], &[])?;
@@ -248,9 +250,10 @@ fn each_call_on_the_wire_may_fail(rt: HostRuntime) -> Result<(), Fail> {
 fn each_call_on_the_notes_of_an_exchange_may_fail(rt: HostRuntime) -> Result<(), Fail> {
     for call in 0..16 {
         let (status, is_told, is_kept) = status_without(rt.alloc(), &[], &[call])?;
-        assert!(rt;
+        holds_at(
+            &rt,
+            &call,
             status == Status::OutsideFault && is_told && !is_kept,
-            "call {call}"
         );
     }
     let (status, _, _) = status_without(rt.alloc(), &[], &[16])?;
@@ -271,12 +274,13 @@ fn each_call_on_the_file_of_an_exchange_may_fail(rt: HostRuntime) -> Result<(), 
     for call in 0..64 {
         let (status, is_told, (is_saved, is_empty)) = left_without(rt.alloc(), call)?;
         if status == Status::Done {
-            assert!(rt; call >= 7, "{call} calls");
+            holds_at(&rt, &call, call >= 7);
             return Ok(());
         }
-        assert!(rt;
+        holds_at(
+            &rt,
+            &call,
             status == Status::OutsideFault && is_told && (is_saved || is_empty),
-            "call {call}"
         );
     }
     Err(Fail::new("no run is without a fault"))

@@ -1,4 +1,5 @@
 use super::{has_bytes, is_cut_off, is_done, prints, run_offline, sink, source};
+use crate::assertions::holds_at;
 use crate::frames::{BEHIND_A, CUT, IN_A, LOWER_A, LOWER_B, NOWHERE, OTHER_A, S, stream};
 use manuscript_cli::Status;
 use outer_ports::{Disk, MemDisk, MemSink, MemSource, SureDisk, SureSink, SureSource};
@@ -277,10 +278,10 @@ fn frames_are_taken_into_a_file(rt: HostRuntime) -> Result<(), Fail> {
             status: *status,
             saved,
         };
-        assert!(rt; is_met(rt.alloc(), &case)?, "{line}");
+        holds_at(&rt, &line, is_met(rt.alloc(), &case)?);
     }
     for case in CASES {
-        assert!(rt; is_met(rt.alloc(), case)?, "{}", case.line);
+        holds_at(&rt, &case.line, is_met(rt.alloc(), case)?);
     }
     Ok(())
 }
@@ -462,7 +463,7 @@ const CALLED: &[(&str, Object, u32)] = &[
 fn each_call_may_fail_while_frames_are_taken(rt: HostRuntime) -> Result<(), Fail> {
     for (words, object, least) in CALLED {
         let calls = failing_calls(rt.alloc(), words, *object)?;
-        assert!(rt; calls >= Some(*least), "{words}, {object:?}: {calls:?}");
+        holds_at(&rt, &(words, object, calls), calls >= Some(*least));
     }
     Ok(())
 }

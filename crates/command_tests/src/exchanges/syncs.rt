@@ -1,4 +1,5 @@
 use super::BOTH;
+use crate::assertions::{equal, equal_at};
 use fugue_ids::Op;
 use origin_model::Tally;
 use outer_ports::{MemWire, SureWire, Wire};
@@ -193,9 +194,10 @@ fn replied(
 fn a_reply_fails_exactly_by_its_bytes(rt: HostRuntime) -> Result<(), Fail> {
     for (reply, fault, kept) in FAULTS {
         let none = Vec::new(rt.alloc());
-        assert_eq!(rt;
+        equal(
+            &rt,
             replied(&rt, rt.alloc(), reply, none)?,
-            (Err(*fault), *kept)
+            (Err(*fault), *kept),
         );
     }
     Ok(())
@@ -227,10 +229,11 @@ fn cut_in(count: usize) -> (u64, usize) {
 fn a_reply_may_be_cut_at_each_byte(rt: HostRuntime) -> Result<(), Fail> {
     for count in 0..BOTH.len() {
         let (place, kept) = cut_in(count);
-        assert_eq!(rt;
+        equal_at(
+            &rt,
+            &count,
             heard(&rt, rt.alloc(), &BOTH[..count])?,
             (Err(SyncFault::CutShort(place)), kept),
-            "cut at {count}"
         );
     }
     Ok(())
@@ -242,7 +245,7 @@ fn each_call_on_the_wire_may_fail(rt: HostRuntime) -> Result<(), Fail> {
     for call in 0..8 {
         let fail = [call].to_vec(rt.alloc())?;
         let result = replied(&rt, rt.alloc(), &[0x55, 0, 0, 0, 0], fail)?;
-        assert_eq!(rt; result, (Err(SyncFault::WireFault), 0), "call {call}");
+        equal_at(&rt, &call, result, (Err(SyncFault::WireFault), 0));
     }
     Ok(())
 }
@@ -260,7 +263,7 @@ fn a_sure_wire_takes_what_fits(rt: HostRuntime) -> Result<(), Fail> {
         tally: UNCOUNTED,
         cursor: 7,
     };
-    assert_eq!(rt; surely(&rt, rt.alloc(), 6)?, Ok(synced));
-    assert_eq!(rt; surely(&rt, rt.alloc(), 5)?, Err(SyncFault::WireFault));
+    equal(&rt, surely(&rt, rt.alloc(), 6)?, Ok(synced));
+    equal(&rt, surely(&rt, rt.alloc(), 5)?, Err(SyncFault::WireFault));
     Ok(())
 }

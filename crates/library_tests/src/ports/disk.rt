@@ -1,6 +1,7 @@
 mod slow;
 
 use super::same;
+use crate::assertions::{equal, equal_at, holds_at};
 use fugue_ids::{Failed, NoMemory};
 use outer_ports::{Disk, FileDisk, MemDisk, Opening, Pick, SureDisk};
 use slow::SlowDisk;
@@ -45,15 +46,15 @@ fn take<D: Disk>(disk: &mut D, step: &Step) -> Result<(), Failed> {
 fn holds<D: Disk>(rt: &impl Abort, disk: &mut D, steps: &[(Step, Result<(), Failed>)], want: &str) {
     let mut buf = [0; 16];
     for (step, answer) in steps {
-        assert_eq!(rt; take(disk, step), *answer);
+        equal(rt, take(disk, step), *answer);
     }
-    assert_eq!(rt; all(disk, &mut buf), Ok(want.as_bytes()));
+    equal(rt, all(disk, &mut buf), Ok(want.as_bytes()));
 }
 
 fn leaves(rt: &impl Abort, crashed: Result<MemDisk, NoMemory>, want: &str) {
     match crashed {
         Ok(mut disk) => holds(rt, &mut disk, &[], want),
-        Err(_) => assert!(rt; false, "{want}"),
+        Err(_) => holds_at(rt, &want, false),
     }
 }
 
@@ -80,7 +81,7 @@ fn compare_slow(rt: &impl Abort, row: &Row) {
         (Pick::Fill(b'.'), row.filled),
     ] {
         let same = SlowDisk::new(want).image(Pick::Old) == slow.image(pick);
-        assert!(rt; same, "{want}");
+        holds_at(rt, &want, same);
     }
 }
 
@@ -215,7 +216,7 @@ fn keeps<R: Files<File = File> + Abort>(
 ) {
     let mut disk = FileDisk::open(rt, "kept", opening);
     holds(rt, &mut disk, steps, left);
-    assert_eq!(rt; disk.read_at(left.len() as u64, &mut [0]), Ok(0));
+    equal(rt, disk.read_at(left.len() as u64, &mut [0]), Ok(0));
 }
 
 #[test]
@@ -242,7 +243,7 @@ fn opens<R: Files<File = File> + Abort>(
 ) {
     let mut first = FileDisk::open(rt, path, openings[0]);
     let mut second = FileDisk::open(rt, path, openings[1]);
-    assert_eq!(rt; [first.size(), second.size()], want, "{openings:?}");
+    equal_at(rt, &openings, [first.size(), second.size()], want);
 }
 
 #[test]
@@ -282,6 +283,6 @@ fn a_locked_or_missing_file_is_not_opened(rt: HostRuntime) -> Result<(), Fail> {
     ] {
         opens(&rt, path, openings, want);
     }
-    assert_eq!(rt; FileDisk::closed().size(), Err(Failed));
+    equal(&rt, FileDisk::closed().size(), Err(Failed));
     Ok(())
 }

@@ -3,6 +3,7 @@ ghost use Rattle.outer_ports.specs.dock.Steps.{HasBytes};
 
 use super::same;
 use super::wire::{Call, passes};
+use crate::assertions::{equal, equal_at, holds_at};
 use fugue_ids::{ByteList, Failed};
 use outer_ports::{Dock, DockStep, MemDock, MemStep, SureDock, TcpDock, TcpWire, Wire};
 use std::alloc::Global;
@@ -26,20 +27,20 @@ fn comes<D: Dock>(rt: &impl Abort, dock: &mut D, rows: &[(usize, Result<DockStep
     let mut buf = [0; 4];
     for (room, want, text) in rows {
         let end = (*room).clamp(1, 4);
-        assert_eq!(rt; dock.next(&mut buf[..end]), *want);
-        assert!(rt; buf.starts_with(text.as_bytes()), "{text}");
+        equal(rt, dock.next(&mut buf[..end]), *want);
+        holds_at(rt, &text, buf.starts_with(text.as_bytes()));
     }
 }
 
 fn sends<D: Dock>(rt: &impl Abort, dock: &mut D, rows: &[(u32, &str, Result<usize, Failed>)]) {
     for (session, piece, want) in rows {
-        assert_eq!(rt; dock.send(*session, piece.as_bytes()), *want, "{piece}");
+        equal_at(rt, &piece, dock.send(*session, piece.as_bytes()), *want);
     }
 }
 
 /// Of a dock that gives and takes two bytes at most.
 fn serves<D: Dock>(rt: &impl Abort, dock: &mut D) {
-    assert_eq!(rt; dock.listen(9), Ok(()));
+    equal(rt, dock.listen(9), Ok(()));
     let steps = [
         (4, Ok(DockStep::Opened(7)), ""),
         (4, Ok(DockStep::Bytes(7, 2)), "ab"),
@@ -49,7 +50,7 @@ fn serves<D: Dock>(rt: &impl Abort, dock: &mut D) {
     ];
     comes(rt, dock, &steps);
     sends(rt, dock, &[(7, "xyz", Ok(2)), (7, "z", Ok(1))]);
-    assert_eq!(rt; dock.end(7), Ok(()));
+    equal(rt, dock.end(7), Ok(()));
 }
 
 #[test]
@@ -118,7 +119,7 @@ fn hears_first<D: Dock, W: Wire>(rt: &impl Abort, dock: &mut D, first: &mut W, s
     ];
     comes(rt, dock, &steps);
     sends(rt, dock, &[(0, "yes", Ok(3))]);
-    assert_eq!(rt; dock.end(0), Ok(()));
+    equal(rt, dock.end(0), Ok(()));
     sends(rt, dock, &[(0, "more", Ok(4))]);
     passes(
         rt,

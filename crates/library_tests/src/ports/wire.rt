@@ -1,4 +1,5 @@
 use super::same;
+use crate::assertions::{equal, holds_at};
 use fugue_ids::Failed;
 use outer_ports::{MemWire, SureWire, TcpWire, Wire};
 use std::process::Abort;
@@ -31,9 +32,9 @@ pub(crate) fn passes<W: Wire>(
 ) {
     let mut buf = [0; 4];
     for (call, want) in rows {
-        assert_eq!(rt; pass(wire, call, &mut buf), *want);
+        equal(rt, pass(wire, call, &mut buf), *want);
         if let Call::Read(text) = call {
-            assert!(rt; buf.starts_with(text.as_bytes()), "{text}");
+            holds_at(rt, &text, buf.starts_with(text.as_bytes()));
         }
     }
 }

@@ -2,6 +2,7 @@
 
 use super::guarded::{before, first_low, is_earlier, key, last_low, middle_before, middle_behind};
 use super::plain::{id_at, position};
+use crate::assertions::equal;
 use fugue_ids::{ElementId, Key, OrderOf};
 use outer_ports::MemSink;
 use run_store::{Cell, RunStore};
@@ -13,20 +14,20 @@ use std::test::Fail;
 fn compare_cells(rt: &impl Abort, store: &RunStore, cells: &[Cell]) {
     let mut last = None;
     for (i, cell) in cells.iter().enumerate() {
-        let next = id_at(cells, i.saturating_add(1));
+        let behind = i.saturating_add(1);
         assert!(rt; store.holds(cell.id));
-        assert_eq!(rt; store.is_hidden(cell.id), cell.hidden);
-        assert_eq!(rt; store.origins(cell.id), Some((cell.left, cell.right)));
-        assert_eq!(rt; key(store, cell.id), Some(cell.key));
-        assert_eq!(rt; store.after(Some(cell.id)), next);
-        assert_eq!(rt; store.behind(Some(cell.id)), next);
-        assert_eq!(rt; before(store, Some(cell.id)), last);
+        equal(rt, store.is_hidden(cell.id), cell.hidden);
+        equal(rt, store.origins(cell.id), Some((cell.left, cell.right)));
+        equal(rt, key(store, cell.id), Some(cell.key));
+        equal(rt, store.after(Some(cell.id)), id_at(cells, behind));
+        equal(rt, store.behind(Some(cell.id)), id_at(cells, behind));
+        equal(rt, before(store, Some(cell.id)), last);
         last = Some(cell.id);
     }
-    assert_eq!(rt; store.len(), cells.len());
-    assert_eq!(rt; store.after(None), id_at(cells, 0));
-    assert_eq!(rt; store.behind(None), id_at(cells, 0));
-    assert_eq!(rt; before(store, None), last);
+    equal(rt, store.len(), cells.len());
+    equal(rt, store.after(None), id_at(cells, 0));
+    equal(rt, store.behind(None), id_at(cells, 0));
+    equal(rt, before(store, None), last);
 }
 
 /// Those that are not hidden come in order.
@@ -35,15 +36,15 @@ fn compare_visible(rt: &impl Abort, store: &RunStore, cells: &[Cell]) {
     let mut seen = 0usize;
     for cell in cells {
         if !cell.hidden {
-            assert_eq!(rt; store.nth_visible(seen), Some(cell.id));
-            assert_eq!(rt; store.shown_from(seen).step(), Some(cell.id));
-            assert_eq!(rt; walk.step(), Some(cell.id));
+            equal(rt, store.nth_visible(seen), Some(cell.id));
+            equal(rt, store.shown_from(seen).step(), Some(cell.id));
+            equal(rt, walk.step(), Some(cell.id));
             seen = seen.saturating_add(1);
         }
     }
-    assert_eq!(rt; store.nth_visible(seen), None);
-    assert_eq!(rt; walk.step(), None);
-    assert_eq!(rt; store.visible_count(), seen);
+    equal(rt, store.nth_visible(seen), None);
+    equal(rt, walk.step(), None);
+    equal(rt, store.visible_count(), seen);
 }
 
 fn first_among(cells: &[Cell], most: Key) -> Option<ElementId> {
@@ -67,18 +68,20 @@ fn last_among(cells: &[Cell], most: Key) -> Option<ElementId> {
 
 /// Searches for a key from each cell on, and from each back.
 fn compare_searches(rt: &impl Abort, store: &RunStore, cells: &[Cell], most: Key) {
-    assert_eq!(rt; first_low(store, None, most), first_among(cells, most));
-    assert_eq!(rt; last_low(store, None, most), last_among(cells, most));
+    equal(rt, first_low(store, None, most), first_among(cells, most));
+    equal(rt, last_low(store, None, most), last_among(cells, most));
     for (i, cell) in cells.iter().enumerate() {
         let (front, rest) = cells.split_at(i);
         let behind = rest.get(1..).unwrap_or(&[]);
-        assert_eq!(rt;
+        equal(
+            rt,
             first_low(store, Some(cell.id), most),
-            first_among(behind, most)
+            first_among(behind, most),
         );
-        assert_eq!(rt;
+        equal(
+            rt,
             last_low(store, Some(cell.id), most),
-            last_among(front, most)
+            last_among(front, most),
         );
     }
 }
@@ -87,7 +90,7 @@ fn compare_searches(rt: &impl Abort, store: &RunStore, cells: &[Cell], most: Key
 fn compare_places(rt: &impl Abort, store: &RunStore, cells: &[Cell]) {
     for (i, cell) in cells.iter().enumerate() {
         for (j, other) in cells.iter().enumerate() {
-            assert_eq!(rt; is_earlier(store, cell.id, other.id), i < j);
+            equal(rt, is_earlier(store, cell.id, other.id), i < j);
         }
     }
 }
@@ -105,12 +108,12 @@ fn compare_middles(rt: &impl Abort, store: &RunStore, cells: &[Cell]) {
     for (i, cell) in cells.iter().enumerate() {
         let before = place_of(cells, &middle_before(store, Some(cell.id)));
         let behind = place_of(cells, &middle_behind(store, Some(cell.id)));
-        assert_eq!(rt; before.is_some(), i > 0);
+        equal(rt, before.is_some(), i > 0);
         assert!(rt; before.is_none_or(|place| place < i));
-        assert_eq!(rt; behind.is_some(), i.saturating_add(1) < cells.len());
+        equal(rt, behind.is_some(), i.saturating_add(1) < cells.len());
         assert!(rt; behind.is_none_or(|place| place > i));
     }
-    assert_eq!(rt; middle_before(store, None).is_some(), !cells.is_empty());
+    equal(rt, middle_before(store, None).is_some(), !cells.is_empty());
 }
 
 fn text_of(alloc: Global, cells: &[Cell]) -> Result<String, Fail> {

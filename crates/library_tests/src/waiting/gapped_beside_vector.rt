@@ -1,3 +1,4 @@
+use crate::assertions::holds_at;
 use causal_inbox::Queue;
 use fugue_ids::NoMemory;
 use std::alloc::Global;
@@ -36,7 +37,7 @@ fn items_leave_around_a_gap_as_from_a_vector(rt: HostRuntime) -> Result<(), Fail
         &[2, 7, 1, 8, 0],
         &[11, 10, 3, 8],
     ] {
-        assert!(rt; leave_alike(rt.alloc(), positions)?, "{positions:?}");
+        holds_at(&rt, &positions, leave_alike(rt.alloc(), positions)?);
     }
     Ok(())
 }

@@ -1,3 +1,4 @@
+use crate::assertions::{equal, equal_at, holds_at};
 use causal_inbox::Queue;
 use fugue_ids::NoMemory;
 use std::mem::replace;
@@ -60,9 +61,9 @@ fn items_come_change_and_go_as_in_a_vector(rt: HostRuntime) -> Result<(), Fail> 
         Step::Goes(1),
         Step::Goes(0),
     ] {
-        assert!(rt; take_step(&mut queue, &mut vector, step)?, "{step:?}");
-        assert!(rt; queue.as_slice() == vector.as_slice(), "{step:?}");
-        assert_eq!(rt; queue.len(), vector.len(), "{step:?}");
+        holds_at(&rt, &step, take_step(&mut queue, &mut vector, step)?);
+        holds_at(&rt, &step, queue.as_slice() == vector.as_slice());
+        equal_at(&rt, &step, queue.len(), vector.len());
     }
     Ok(())
 }
@@ -74,10 +75,10 @@ fn many_go_through_in_order(rt: HostRuntime) -> Result<(), Fail> {
         queue.push(item)?;
         if queue.len() > 100 {
             let first = queue.remove(0, 0);
-            assert!(rt; first < item && item - first == 100, "{first}");
+            holds_at(&rt, &first, first < item && item - first == 100);
         }
     }
     assert!(rt; queue.as_slice().first().copied() == Some(19_900));
-    assert_eq!(rt; queue.len(), 100);
+    equal(&rt, queue.len(), 100);
     Ok(())
 }

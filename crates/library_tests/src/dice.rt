@@ -1,3 +1,5 @@
+//! Numbers that look random, the same for the same seed (the multiplier and the addend of Knuth's MMIX).
+
 /// Numbers that a seed gives.
 #[derive(Clone, Copy)]
 pub struct Dice {

@@ -1,6 +1,6 @@
 use Rattle.std.proofs.Common.{sym, ap, ◌∙◌, refl}
 use Rattle.node_rope.proofs.ShapeLemmas.{nearer}
-use Rattle.node_rope.proofs.tests.depth.levels_above.Goals as goal
+use Rattle.node_rope.proofs.tests.levels_above.Goals as goal
 
 pub up-smaller : goal.up-smaller
 up-smaller c =

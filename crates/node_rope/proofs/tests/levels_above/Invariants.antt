@@ -1,7 +1,7 @@
 use Rattle.std.proofs.Common.{◌-◌, suc}
 use Rattle.node_rope.specs.Made.{IsMade, made_count, shapes_of}
 use Rattle.node_rope.specs.Shapes.{shape_at}
-use Rattle.node_rope.proofs.tests.depth.levels_above.Given as goal
+use Rattle.node_rope.proofs.tests.levels_above.Given as goal
 
 abbrev pub invariant-up : goal.invariant-up
 invariant-up l = record {
