@@ -1,22 +1,21 @@
-ghost use Rattle.std.specs.Prelude.{◌≡◌, ◌↔◌, ◌<◌, ◌≤◌, ◌++◌, ◌∷◌, [], None, true, false, length, position as first_position, remove as without, slice_get, OnOk, OnErr, IfErr};
+ghost use Rattle.std.specs.Prelude.{◌≡◌, ◌↔◌, ◌<◌, ◌≤◌, ◌++◌, ◌∷◌, [], true, false, length, position as first_position, remove as without, slice_get, OnOk, OnErr, IfErr};
 ghost use Rattle.fugue_ids.specs.Ops.{id_of};
 ghost use Rattle.origin_model.specs.operations.History.{has_op};
 ghost use Rattle.origin_model.specs.operations.Verdict.{id_held, verdict};
 ghost use Rattle.origin_model.specs.taking.Taking.{is_decided as decides};
 ghost use Rattle.origin_model.specs.operations.Counters.{counters, IsGreatest};
 ghost use Rattle.causal_inbox.specs.Faults.{refused};
-ghost use Rattle.causal_inbox.specs.Naming.{naming};
 
 mod open_inbox;
 
 use crate::index::Index;
-use crate::key::named_key;
 use crate::{Facts, Found, PushFault, Queue};
-use fugue_ids::{ElementId, Op};
+use fugue_ids::Op;
 pub use open_inbox::OpenInbox;
 use origin_model::Verdict;
 use std::alloc::Global;
 use std::marker::Model;
+use std::mem::replace;
 
 /// The waiting operations, in the order in which they came, and how many may wait.
 #[derive(Drop)]
@@ -27,21 +26,13 @@ pub struct Inbox {
 }
 
 impl Model for Inbox {
-    ghost use Rattle.std.specs.Prelude.{◌≤◌, length};
-    ghost use Rattle.causal_inbox.specs.Index.{IsAgeIndex};
-    ghost use Rattle.causal_inbox.specs.Lists.{ages_under, key_cmp};
-    ghost use Rattle.causal_inbox.specs.Keyed.{HasNoEmpty};
-    ghost use Rattle.causal_inbox.specs.Waiting.{Waiting};
+    ghost use Rattle.causal_inbox.specs.Waiting.{IsIndexed, Waiting};
 
     ghost Value = { Waiting };
 
     ghost view = { λ inbox. record { ops = inbox.ops; hold = inbox.hold } };
 
-    ghost invariant = { λ inbox. record {
-      within : length inbox.ops ≤ inbox.hold;
-      index : IsAgeIndex inbox.ops inbox.index.ages (ages_under inbox.index.lists);
-      no_empty : HasNoEmpty key_cmp inbox.index.lists;
-    } };
+    ghost invariant = { λ inbox. IsIndexed inbox.ops inbox.hold inbox.index.ages inbox.index.lists };
 }
 
 impl Inbox {
@@ -102,13 +93,6 @@ impl Inbox {
         ops.iter().position(|op| is_decided(facts.verdict(op)))
     }
 
-    /// The position of the operation that rests on the identifier behind k others that do.
-    pub fn nth_naming(&self, id: ElementId, k: usize) -> Option<usize>
-        ensures { result ≡ slice_get (naming id self.now.ops) k }
-    {
-        self.index.nth(&named_key(id), k)
-    }
-
     /// Those behind it close up.
     pub fn remove(&mut self, position: usize) -> Op
         requires { position < length self.old.ops }
@@ -116,8 +100,9 @@ impl Inbox {
         ensures rest { self.new ≡ record self.old { ops = without self.old.ops position } }
         ensures within { length self.new.ops ≤ self.new.hold }
     {
-        let op = self.ops.remove(position, filler());
-        self.index.remove(&op, position);
+        let mut open = replace(self, Inbox::new(self.index.alloc, self.hold)).open();
+        let op = open.remove(position);
+        *self = open.close();
         op
     }
 
@@ -133,18 +118,6 @@ impl Inbox {
         ensures within { length self.now.ops ≤ self.now.hold }
     {
         self.ops.as_slice()
-    }
-}
-
-/// What lies in the place of an operation that left: it holds no memory.
-fn filler() -> Op
-    ensures { id_of result ≡ None }
-{
-    Op::Delete {
-        target: ElementId {
-            replica: 1,
-            counter: 0,
-        },
     }
 }
 

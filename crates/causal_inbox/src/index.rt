@@ -24,7 +24,7 @@ use std::alloc::Global;
 pub(crate) struct Index {
     pub ages: Queue<u64>,
     pub lists: Lists,
-    alloc: Global,
+    pub alloc: Global,
 }
 
 impl Index {

@@ -1,7 +1,8 @@
-ghost use Rattle.std.specs.Prelude.{◌≡◌, ◌<◌, ◌≤◌, Some, length, remove as without, slice_get};
+ghost use Rattle.std.specs.Prelude.{◌≡◌, ◌<◌, ◌≤◌, None, Some, length, remove as without, slice_get};
+ghost use Rattle.fugue_ids.specs.Ops.{id_of};
 ghost use Rattle.causal_inbox.specs.Naming.{naming};
 
-use super::{Inbox, filler};
+use super::Inbox;
 use crate::gapped::Gapped;
 use crate::index::Index;
 use crate::key::named_key;
@@ -17,21 +18,13 @@ pub struct OpenInbox {
 }
 
 impl Model for OpenInbox {
-    ghost use Rattle.std.specs.Prelude.{◌≤◌, length};
-    ghost use Rattle.causal_inbox.specs.Index.{IsAgeIndex};
-    ghost use Rattle.causal_inbox.specs.Lists.{ages_under, key_cmp};
-    ghost use Rattle.causal_inbox.specs.Keyed.{HasNoEmpty};
-    ghost use Rattle.causal_inbox.specs.Waiting.{Waiting};
+    ghost use Rattle.causal_inbox.specs.Waiting.{IsIndexed, Waiting};
 
     ghost Value = { Waiting };
 
     ghost view = { λ inbox. record { ops = inbox.ops; hold = inbox.hold } };
 
-    ghost invariant = { λ inbox. record {
-      within : length inbox.ops ≤ inbox.hold;
-      index : IsAgeIndex inbox.ops inbox.index.ages (ages_under inbox.index.lists);
-      no_empty : HasNoEmpty key_cmp inbox.index.lists;
-    } };
+    ghost invariant = { λ inbox. IsIndexed inbox.ops inbox.hold inbox.index.ages inbox.index.lists };
 }
 
 impl Inbox {
@@ -79,7 +72,7 @@ impl OpenInbox {
         self.index.nth(&named_key(id), k)
     }
 
-    /// Those behind it close up.
+    /// One leaves, and those behind it come one position forward.
     pub fn remove(&mut self, position: usize) -> Op
         requires { position < length self.old.ops }
         ensures op { slice_get self.old.ops position ≡ Some result }
@@ -89,5 +82,17 @@ impl OpenInbox {
         let op = self.ops.remove(position, filler());
         self.index.remove(&op, position);
         op
+    }
+}
+
+/// What lies in the place of an operation that left: it holds no memory.
+fn filler() -> Op
+    ensures { id_of result ≡ None }
+{
+    Op::Delete {
+        target: ElementId {
+            replica: 1,
+            counter: 0,
+        },
     }
 }
