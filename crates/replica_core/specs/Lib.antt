@@ -1,5 +1,6 @@
 pub mod State
 pub mod Due
+pub mod Replica
 pub mod Settling
 pub mod Decision
 pub mod Told

@@ -1,5 +1,5 @@
 -- What the answers of a replica say.
-use Rattle.std.specs.Prelude.{◌≡◌, ℕ, ◌<◌, ◌+◌, ◌^◌, ◌∷◌, Bool, true, false, ◌⊎◌, List, Option, Some, None, Result, Ok, Err}
+use Rattle.std.specs.Prelude.{◌≡◌, ℕ, ◌<◌, ◌+◌, ◌^◌, ◌∷◌, Bool, true, false, ◌⊎◌, List, Option, Some, None, Result, Ok, Err, OnOk, OnErr}
 use Rattle.fugue_ids.specs.declared.op.Op.{Op}
 use Rattle.origin_model.specs.operations.Verdict.{verdict}
 use Rattle.origin_model.specs.declared.operations.verdict.Verdict.TheVariants.{Ready}
@@ -71,3 +71,11 @@ Leaves old new op before after FedNoMemory =
 abbrev pub IsCounted : (old new : Held) → (before after : Tally) → Bool → Type 0
 IsCounted old new before after true = (settle_step old ≡ Some new) × (after ≡ settling_counted old new before)
 IsCounted old new before after false = IsSettled old × (new ≡ old) × (after ≡ before)
+
+-- settling went to its end, or as far as memory lasted, and the tally counts its steps
+pub record SettlesAll {T E : Type 0} (old new : State) (before after : Tally) (result : Result T E) : Type 0 where
+  pub steps : Reaches old.held new.held
+  pub counted : after ≡ settling_counted old.held new.held before
+  pub others : new ≡ record old { held = new.held }
+  pub ended : OnOk result (IsSettled new.held)
+  pub stopped : OnErr result (JoinsNext new.held)

@@ -3,13 +3,12 @@ ghost use Rattle.fugue_ids.specs.Outs.{WritesText};
 ghost use Rattle.origin_model.specs.operations.History.{accepted as accepted_list};
 ghost use Rattle.origin_model.specs.operations.Verdict.{verdict as verdict_on};
 ghost use Rattle.origin_model.specs.order.Printed.{manuscript};
-ghost use Rattle.origin_model.specs.taking.Taking.{nothing, answer, taken, TooMany, intake, settling_counted, intake_counted, is_kept, IsSettled};
+ghost use Rattle.origin_model.specs.taking.Taking.{nothing, answer, taken, TooMany, intake, intake_counted, is_kept, IsSettled};
 ghost use Rattle.origin_model.specs.operations.Counters.{counters, IsGreatest};
 ghost use Rattle.replica_core.specs.State.{all_ops, IsOpen, IsOutside, IsWithin, Stands};
 ghost use Rattle.replica_core.specs.Edits.{CanJoin, held_count, with_ops};
 ghost use Rattle.replica_core.specs.Decision.{answer_by_decision};
-ghost use Rattle.replica_core.specs.Settling.{Reaches};
-ghost use Rattle.replica_core.specs.Told.{Answers, JoinsNext, Leaves, Settles, StaysBelow, total};
+ghost use Rattle.replica_core.specs.Told.{Answers, JoinsNext, Leaves, Settles, SettlesAll, StaysBelow, total};
 
 mod settling;
 
@@ -39,29 +38,15 @@ pub struct Replica {
 }
 
 impl Model for Replica {
-    ghost use Rattle.std.specs.Prelude.{◌≡◌};
-    ghost use Rattle.replica_core.specs.State.{State, Stands};
-    ghost use Rattle.replica_core.specs.Due.{due_marks};
+    ghost use Rattle.replica_core.specs.State.{State};
+    ghost use Rattle.replica_core.specs.Replica.{IsKept, state_of};
 
     ghost Value = { State };
 
-    ghost view = { λ replica. record {
-      number = replica.number;
-      hold = replica.hold;
-      most = replica.most;
-      held = record { history = replica.accepted; waiting = replica.inbox.ops };
-    } };
+    ghost view = { λ replica. state_of replica.number replica.hold replica.most replica.accepted replica.inbox };
 
-    ghost invariant = { λ replica. record {
-      same_hold : replica.inbox.hold ≡ replica.hold;
-      stands : Stands (record {
-        number = replica.number;
-        hold = replica.hold;
-        most = replica.most;
-        held = record { history = replica.accepted; waiting = replica.inbox.ops };
-      });
-      marks : replica.due ≡ due_marks replica.accepted replica.inbox.ops;
-    } };
+    ghost invariant = { λ replica.
+        IsKept (state_of replica.number replica.hold replica.most replica.accepted replica.inbox) replica.inbox replica.due };
 }
 
 impl Replica {
@@ -294,11 +279,7 @@ impl Replica {
         requires stands { Stands self.old }
         requires accepted { tally.old.accepted ≤ 2 ^ 31 }
         requires stray { tally.old.stray < 2 ^ 31 }
-        ensures ok { OnOk result (IsSettled self.new.held) }
-        ensures stopped { OnErr result (JoinsNext self.new.held) }
-        ensures steps { Reaches self.old.held self.new.held }
-        ensures tally { tally.new ≡ settling_counted self.old.held self.new.held tally.old }
-        ensures others { self.new ≡ record self.old { held = self.new.held } }
+        ensures settles { SettlesAll self.old self.new tally.old tally.new result }
         ensures stands { Stands self.new }
     {
         if self.is_settled() {

@@ -1,8 +1,6 @@
-ghost use Rattle.std.specs.Prelude.{◌≡◌, ◌<◌, ◌≤◌, ◌-◌, ◌^◌, IfOk, OnOk, OnErr};
-ghost use Rattle.origin_model.specs.taking.Taking.{IsSettled, settling_counted};
-ghost use Rattle.replica_core.specs.Settling.{Reaches};
+ghost use Rattle.std.specs.Prelude.{◌≡◌, ◌<◌, ◌≤◌, ◌-◌, ◌^◌, IfOk, OnErr};
 ghost use Rattle.replica_core.specs.State.{Stands};
-ghost use Rattle.replica_core.specs.Told.{IsCounted, JoinsNext, Settles};
+ghost use Rattle.replica_core.specs.Told.{IsCounted, JoinsNext, Settles, SettlesAll};
 
 use super::Replica;
 use crate::Settled;
@@ -29,29 +27,15 @@ pub(crate) struct Settling {
 }
 
 impl Model for Settling {
-    ghost use Rattle.std.specs.Prelude.{◌≡◌};
-    ghost use Rattle.replica_core.specs.State.{State, Stands};
-    ghost use Rattle.replica_core.specs.Due.{due_marks};
+    ghost use Rattle.replica_core.specs.State.{State};
+    ghost use Rattle.replica_core.specs.Replica.{IsKept, state_of};
 
     ghost Value = { State };
 
-    ghost view = { λ settling. record {
-      number = settling.number;
-      hold = settling.hold;
-      most = settling.most;
-      held = record { history = settling.accepted; waiting = settling.inbox.ops };
-    } };
+    ghost view = { λ settling. state_of settling.number settling.hold settling.most settling.accepted settling.inbox };
 
-    ghost invariant = { λ settling. record {
-      same_hold : settling.inbox.hold ≡ settling.hold;
-      stands : Stands (record {
-        number = settling.number;
-        hold = settling.hold;
-        most = settling.most;
-        held = record { history = settling.accepted; waiting = settling.inbox.ops };
-      });
-      marks : settling.due ≡ due_marks settling.accepted settling.inbox.ops;
-    } };
+    ghost invariant = { λ settling.
+        IsKept (state_of settling.number settling.hold settling.most settling.accepted settling.inbox) settling.inbox settling.due };
 }
 
 impl Replica {
@@ -122,11 +106,7 @@ impl Settling {
         requires stands { Stands self.old }
         requires accepted { tally.old.accepted ≤ 2 ^ 31 }
         requires stray { tally.old.stray < 2 ^ 31 }
-        ensures ok { OnOk result (IsSettled self.new.held) }
-        ensures stopped { OnErr result (JoinsNext self.new.held) }
-        ensures steps { Reaches self.old.held self.new.held }
-        ensures tally { tally.new ≡ settling_counted self.old.held self.new.held tally.old }
-        ensures others { self.new ≡ record self.old { held = self.new.held } }
+        ensures settles { SettlesAll self.old self.new tally.old tally.new result }
         ensures stands { Stands self.new }
     {
         while self.settle_counted(tally)? {}

@@ -1,14 +1,13 @@
 use Rattle.std.proofs.Common.{refl, arith, ◌∷◌, [], length-append}
-use Rattle.origin_model.specs.taking.Taking.{Again, Conflict, Stray, Accepted, Full, Waits, answer_counted}
-use Rattle.replica_core.proofs.FeedLemmas.{IsFedState, IsSettledBehind, refused_fed, taken_fed, accepted_fed, accepted_partly, waits_settled}
+use Rattle.origin_model.specs.taking.Taking.{Again, Conflict, Stray, Full, Waits, answer_counted}
+use Rattle.replica_core.proofs.FeedLemmas.{IsFedState, refused_fed, taken_fed, accepted_fed, accepted_partly, waits_settled}
 use Rattle.replica_core.proofs.replica.Replica.feed.Goals as goal
 
 accepted : (c : goal.In-Ok) → IsFedState c.args.self.now c.args.op c.args.tally.now c.settle.new.self c.settle.new.tally
 accepted c =
     let told = rw c.in-Ok-Accepted.field-0-is at c.in-Ok-Accepted.ensures.answer in
-    let so : IsSettledBehind c.deliver.new.self c.settle.new.self (answer_counted Accepted c.args.tally.now) c.settle.new.tally =
-    record { steps = c.settle.ensures.steps; counted = c.settle.ensures.tally; others = c.settle.ensures.others } in
-    accepted_fed c.args.self.now c.deliver.new.self c.settle.new.self c.args.op c.args.tally.now c.settle.new.tally told c.in-Ok-Accepted.ensures.ok so c.in-Ok.ensures.ok
+    accepted_fed c.args.self.now c.deliver.new.self c.settle.new.self c.args.op c.args.tally.now c.settle.new.tally told c.in-Ok-Accepted.ensures.ok
+    c.in-Ok.ensures.settles c.in-Ok.ensures.settles.ended
 
 pub returns-in-Ok-clause-held : goal.returns-in-Ok-clause-held
 returns-in-Ok-clause-held c = (accepted c).held
@@ -19,9 +18,8 @@ returns-in-Ok-clause-tally c = (accepted c).counted
 pub returns-in-Err-clause-err : goal.returns-in-Err-clause-err
 returns-in-Err-clause-err c =
     let told = rw c.in-Ok-Accepted.field-0-is at c.in-Ok-Accepted.ensures.answer in
-    let so : IsSettledBehind c.deliver.new.self c.settle.new.self (answer_counted Accepted c.args.tally.now) c.settle.new.tally =
-    record { steps = c.settle.ensures.steps; counted = c.settle.ensures.tally; others = c.settle.ensures.others } in
-    accepted_partly c.args.self.now c.deliver.new.self c.settle.new.self c.args.op c.args.tally.now c.settle.new.tally told c.in-Ok-Accepted.ensures.ok so c.in-Err.ensures.stopped
+    accepted_partly c.args.self.now c.deliver.new.self c.settle.new.self c.args.op c.args.tally.now c.settle.new.tally told c.in-Ok-Accepted.ensures.ok
+    c.in-Err.ensures.settles c.in-Err.ensures.settles.stopped
 
 waits : (c : goal.In-Ok-Waits) → IsFedState c.args.self.now c.args.op c.args.tally.now c.deliver.new.self c.args.tally.now
 waits c =

@@ -1,14 +1,23 @@
-use Rattle.std.proofs.Common.{subst, sym}
-use Rattle.std.specs.Prelude.{OnOk}
-use Rattle.origin_model.specs.taking.Taking.{IsSettled}
+use Rattle.std.proofs.Common.{refl, subst, sym}
+use Rattle.origin_model.specs.declared.taking.tally.Tally.{Tally}
 use Rattle.replica_core.specs.Settling.{Here}
 use Rattle.replica_core.specs.State.{State}
+use Rattle.replica_core.specs.Told.{SettlesAll}
+use Rattle.replica_core.proofs.CountLemmas.{counted-none}
 use Rattle.replica_core.proofs.replica.Replica.settle.Goals as goal
 
-pub returns-then-is_settled-clause-steps : goal.returns-then-is_settled-clause-steps
-returns-then-is_settled-clause-steps c = Here c.args.self.now.held
+pub returns-then-is_settled-clause-settles : goal.returns-then-is_settled-clause-settles
+returns-then-is_settled-clause-settles c = record {
+  steps = Here c.args.self.now.held;
+  counted = sym (counted-none c.args.self.now.held c.args.tally.now);
+  others = refl;
+  ended = c.if-is_settled.ensures.settled.0 refl;
+  stopped = tt;
+}
 
-pub returns-clause-ok : goal.returns-clause-ok
-returns-clause-ok c =
-    let Ends : State → Type 0 = λ s. OnOk c.settle-result.result (IsSettled s.held) in
-    subst Ends (sym c.close.ensures) c.settle-result.ensures.ok
+pub returns-clause-settles : goal.returns-clause-settles
+returns-clause-settles c =
+    let tally : Tally = c.settle-result.new.tally in
+    let FromThere : State → Type 0 = λ s. SettlesAll s c.close.result c.args.tally.now tally c.settle-result.result in
+    let ToThere : State → Type 0 = λ s. SettlesAll c.open-settling.result s c.args.tally.now tally c.settle-result.result in
+    subst FromThere c.open-settling.ensures (subst ToThere (sym c.close.ensures) c.settle-result.ensures.settles)
