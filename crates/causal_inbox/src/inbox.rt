@@ -15,7 +15,6 @@ pub use open_inbox::OpenInbox;
 use origin_model::Verdict;
 use std::alloc::Global;
 use std::marker::Model;
-use std::mem::replace;
 
 /// The waiting operations, in the order in which they came, and how many may wait.
 #[derive(Drop)]
@@ -100,7 +99,7 @@ impl Inbox {
         ensures rest { self.new ≡ record self.old { ops = without self.old.ops position } }
         ensures within { length self.new.ops ≤ self.new.hold }
     {
-        let mut open = replace(self, Inbox::new(self.index.alloc, self.hold)).open();
+        let mut open = self.open();
         let op = open.remove(position);
         *self = open.close();
         op

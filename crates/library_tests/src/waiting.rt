@@ -10,7 +10,6 @@ use causal_inbox::{Found, Inbox, OpenInbox, PushFault};
 use fugue_ids::{ElementId, NoMemory, Op, Title};
 use origin_model::{PlainReplica, Verdict};
 use std::alloc::Global;
-use std::mem::replace;
 use std::test::Fail;
 
 fn id(replica: u32, counter: u32) -> ElementId
@@ -158,15 +157,15 @@ fn what_rests_on_an_element_is_found_as_operations_come_and_go(
     ] {
         take_step(&mut inbox, rt.alloc(), ops.as_slice(), step)?;
         equal_at(&rt, &step, inbox.ops().len(), waiting);
-        let position = first_naming(&mut inbox, rt.alloc(), id(1, 0));
+        let position = first_naming(&mut inbox, id(1, 0));
         equal_at(&rt, &step, position, named);
     }
     Ok(())
 }
 
 /// The first position of an operation that rests on the identifier.
-fn first_naming(inbox: &mut Inbox, alloc: Global, id: ElementId) -> Option<usize> {
-    let open = replace(inbox, Inbox::new(alloc, 0)).open();
+fn first_naming(inbox: &mut Inbox, id: ElementId) -> Option<usize> {
+    let open = inbox.open();
     let position = open.nth_naming(id, 0);
     *inbox = open.close();
     position
@@ -184,11 +183,11 @@ fn fill(inbox: &mut Inbox) -> Result<(), NoMemory> {
 }
 
 /// The first one leaves, and the next one is the first then. The answer is where the last one stands.
-fn leave_in_front(inbox: &mut Inbox, alloc: Global, counter: u32) -> Option<usize> {
+fn leave_in_front(inbox: &mut Inbox, counter: u32) -> Option<usize> {
     if inbox.ops().is_empty() || inbox.remove(0).id() != Some(id(1, counter)) {
         return None;
     }
-    first_naming(inbox, alloc, id(2, 99))
+    first_naming(inbox, id(2, 99))
 }
 
 #[test]
@@ -196,7 +195,7 @@ fn those_that_leave_in_front_leave_the_others_in_order(rt: HostRuntime) -> Resul
     let mut inbox = Inbox::new(rt.alloc(), 100);
     fill(&mut inbox)?;
     for counter in 0..99u32 {
-        let last = leave_in_front(&mut inbox, rt.alloc(), counter);
+        let last = leave_in_front(&mut inbox, counter);
         holds_at(
             &rt,
             &counter,
@@ -227,10 +226,6 @@ fn those_that_leave_in_reverse_leave_the_others_in_order(rt: HostRuntime) -> Res
     }
     let mut inbox = open.close();
     equal(&rt, inbox.ops().len(), 50);
-    equal(
-        &rt,
-        first_naming(&mut inbox, rt.alloc(), id(2, 50)),
-        Some(0),
-    );
+    equal(&rt, first_naming(&mut inbox, id(2, 50)), Some(0));
     Ok(())
 }

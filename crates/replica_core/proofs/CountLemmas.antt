@@ -7,7 +7,7 @@ use Rattle.origin_model.specs.declared.taking.tally.Tally.{Tally}
 use Rattle.origin_model.specs.taking.Taking.{Held, settle_step, count_joined, count_dropped, settling_counted}
 use Rattle.replica_core.specs.State.{State, Stands}
 use Rattle.replica_core.specs.Settling.{Reaches, Here, Step}
-use Rattle.replica_core.specs.Told.{IsCounted, Settles}
+use Rattle.replica_core.specs.Told.{IsCounted, Settles, SettlesOn}
 use Rattle.replica_core.specs.declared.settled.Settled.{Settled}
 use Rattle.replica_core.specs.declared.settled.Settled.TheVariants.{Accepted as SettledAccepted, DroppedStray}
 use Rattle.replica_core.proofs.StepLemmas.{step_moves, reaches_then}
@@ -66,20 +66,20 @@ counted_more s t u x r e =
 
 -- how far settling has come, and what is counted of it
 pub record IsSettling (start now : State) (before after : Tally) : Type 0 where
-  pub steps : Reaches start.held now.held
-  pub counted : after ≡ settling_counted start.held now.held before
-  pub others : now ≡ record start { held = now.held }
+  pub way : SettlesOn start now before after
   pub stands : Stands now
   pub few : length start.held.waiting ≤ GREATEST_HOLD
   pub accepted : before.accepted ≤ 2 ^ 31
   pub stray : before.stray < 2 ^ 31
 
 -- settling that has not begun
+pub settles_here : (s : State) (t : Tally) → SettlesOn s s t t
+settles_here s t = record { steps = Here s.held; counted = sym (counted-none s.held t); others = refl }
+
+-- the same, where a loop begins
 pub settling_starts : (s : State) (t : Tally) → Stands s → t.accepted ≤ 2 ^ 31 → t.stray < 2 ^ 31 → IsSettling s s t t
 settling_starts s t stands accepted stray = record {
-  steps = Here s.held;
-  counted = sym (counted-none s.held t);
-  others = refl;
+  way = settles_here s t;
   stands = stands;
   few = omega (arith, stands.few_wait, stands.hold_within.1);
   accepted = accepted;
@@ -90,9 +90,11 @@ settling_starts s t stands accepted stray = record {
 pub settling_more : (start now next : State) (before after then : Tally) → IsSettling start now before after → IsCounted now.held next.held after then true
     → next ≡ record now { held = next.held } → Stands next → IsSettling start next before then
 settling_more start now next before after then so step others stands = record {
-  steps = reaches_then start.held now.held next.held so.steps step.0;
-  counted = step.1 ∙ ap (settling_counted now.held next.held) so.counted ∙ counted_more start.held now.held next.held before so.steps step.0;
-  others = others ∙ ap (λ (s : State). record s { held = next.held }) so.others;
+  way = record {
+    steps = reaches_then start.held now.held next.held so.way.steps step.0;
+    counted = step.1 ∙ ap (settling_counted now.held next.held) so.way.counted ∙ counted_more start.held now.held next.held before so.way.steps step.0;
+    others = others ∙ ap (λ (s : State). record s { held = next.held }) so.way.others;
+  };
   stands = stands;
   few = so.few;
   accepted = so.accepted;

@@ -1,13 +1,12 @@
 -- What taking in one operation comes to.
 use Rattle.std.proofs.Common.{◌≡◌, sym, ◌∙◌, ap, subst, ℕ, ◌+◌, length, false, arith, inr}
-use Rattle.std.specs.Prelude.{Result}
 use Rattle.std.proofs.lemmas.List.Elements.{All-push}
 use Rattle.fugue_ids.specs.declared.op.Op.{Op}
 use Rattle.origin_model.specs.operations.Verdict.{verdict}
 use Rattle.origin_model.specs.declared.taking.tally.Tally.{Tally}
 use Rattle.origin_model.specs.taking.Taking.{Held, Answer, Accepted, Waits, answer, taken, is_decided, is_kept, settle, intake, answer_counted, settling_counted, intake_counted, IsSettled}
 use Rattle.replica_core.specs.Settling.{Reaches}
-use Rattle.replica_core.specs.Told.{JoinsNext, StandsPartly, SettlesAll, Leaves, total}
+use Rattle.replica_core.specs.Told.{JoinsNext, StandsPartly, SettlesOn, Leaves, total}
 use Rattle.replica_core.specs.State.{State}
 use Rattle.replica_core.specs.declared.feed_fault.FeedFault.TheVariants.{NoMemory as FedNoMemory}
 use Rattle.replica_core.proofs.DecisionLemmas.{may_wait, waits_undecided}
@@ -101,9 +100,9 @@ counted_once : (s u : Held) (t : Tally) → Reaches s u → total (settling_coun
 counted_once s u t r = let g = reaches_grew s u r in omega (arith, g.later, g.together)
 
 -- an accepted operation, and all of the settling behind it
-pub accepted_fed : {T E : Type 0} {r : Result T E} (s mid new : State) (op : Op) (before after : Tally) → answer s.hold s.most s.held op ≡ Accepted
+pub accepted_fed : (s mid new : State) (op : Op) (before after : Tally) → answer s.hold s.most s.held op ≡ Accepted
     → mid ≡ record s { held = taken (answer s.hold s.most s.held op) s.held op }
-    → SettlesAll mid new (answer_counted Accepted before) after r → IsSettled new.held → IsFedState s op before new after
+    → SettlesOn mid new (answer_counted Accepted before) after → IsSettled new.held → IsFedState s op before new after
 accepted_fed s mid new op before after e is so settled =
     let mid_is = accepted_mid s mid op e is in
     let held_is : mid.held ≡ taken Accepted s.held op = ap (λ (x : State). x.held) mid_is in
@@ -118,9 +117,9 @@ accepted_fed s mid new op before after e is so settled =
     }
 
 -- an accepted operation, and some of the settling behind it
-pub accepted_partly : {T E : Type 0} {r : Result T E} (s mid new : State) (op : Op) (before after : Tally) → answer s.hold s.most s.held op ≡ Accepted
+pub accepted_partly : (s mid new : State) (op : Op) (before after : Tally) → answer s.hold s.most s.held op ≡ Accepted
     → mid ≡ record s { held = taken (answer s.hold s.most s.held op) s.held op }
-    → SettlesAll mid new (answer_counted Accepted before) after r → JoinsNext new.held → Leaves s new op before after FedNoMemory
+    → SettlesOn mid new (answer_counted Accepted before) after → JoinsNext new.held → Leaves s new op before after FedNoMemory
 accepted_partly s mid new op before after e is so stopped =
     let mid_is = accepted_mid s mid op e is in
     let held_is : mid.held ≡ taken Accepted s.held op = ap (λ (x : State). x.held) mid_is in

@@ -23,7 +23,7 @@ pub record IsStep (s : State) (new : Held) (settled : Settled) : Type 0 where
   pub settles : Settles s.held new (Some settled)
   pub stands : Stands (record s { held = new })
 
--- the Ready operation at the first first of a decided one was accepted and removed
+-- the Ready operation at the first position of a decided one was accepted and removed
 pub accepted_step : (s : State) (inbox new : Waiting) (k : ℕ) (op removed : Op) (history : List Op)
     → inbox.ops ≡ s.held.waiting → position (decided_on s.held.history) s.held.waiting ≡ Some k
     → slice_get s.held.waiting k ≡ Some op → verdict s.held.history op ≡ Ready
@@ -47,7 +47,7 @@ accepted_step s inbox new k op removed history same first there ready is_history
       stands = subst (λ (h : Held). Stands (record s { held = h })) is_held (stands_joined s k removed stands out ready_removed);
     }
 
--- the operation at the first first of a decided one was not Ready and was removed
+-- the operation at the first position of a decided one was not Ready and was removed
 pub dropped_step : (s : State) (inbox new : Waiting) (k : ℕ) (op removed : Op)
     → inbox.ops ≡ s.held.waiting → position (decided_on s.held.history) s.held.waiting ≡ Some k
     → slice_get s.held.waiting k ≡ Some op → (verdict s.held.history op ≡ Ready → ⊥)

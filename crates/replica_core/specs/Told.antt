@@ -72,10 +72,14 @@ abbrev pub IsCounted : (old new : Held) → (before after : Tally) → Bool → 
 IsCounted old new before after true = (settle_step old ≡ Some new) × (after ≡ settling_counted old new before)
 IsCounted old new before after false = IsSettled old × (new ≡ old) × (after ≡ before)
 
--- settling went to its end, or as far as memory lasted, and the tally counts its steps
-pub record SettlesAll {T E : Type 0} (old new : State) (before after : Tally) (result : Result T E) : Type 0 where
+-- settling has come from one state to another, and the tally counts its steps
+pub record SettlesOn (old new : State) (before after : Tally) : Type 0 where
   pub steps : Reaches old.held new.held
   pub counted : after ≡ settling_counted old.held new.held before
   pub others : new ≡ record old { held = new.held }
+
+-- settling went to its end, or stopped for want of memory, at one that joins
+pub record SettlesOrStops {T E : Type 0} (old new : State) (before after : Tally) (result : Result T E) : Type 0 where
+  pub way : SettlesOn old new before after
   pub ended : OnOk result (IsSettled new.held)
   pub stopped : OnErr result (JoinsNext new.held)

@@ -8,7 +8,7 @@ ghost use Rattle.origin_model.specs.operations.Counters.{counters, IsGreatest};
 ghost use Rattle.replica_core.specs.State.{all_ops, IsOpen, IsOutside, IsWithin, Stands};
 ghost use Rattle.replica_core.specs.Edits.{CanJoin, held_count, with_ops};
 ghost use Rattle.replica_core.specs.Decision.{answer_by_decision};
-ghost use Rattle.replica_core.specs.Told.{Answers, JoinsNext, Leaves, Settles, SettlesAll, StaysBelow, total};
+ghost use Rattle.replica_core.specs.Told.{Answers, JoinsNext, Leaves, Settles, SettlesOrStops, StaysBelow, total};
 
 mod settling;
 
@@ -195,7 +195,7 @@ impl Replica {
             Decision::TooMany => Err(DeliverFault::TooMany(op, self.most)),
             Decision::Ready => match self.accepted.accept(op) {
                 Ok(()) => {
-                    open_and_wake(&mut self.inbox, self.alloc, &self.accepted, &mut self.due);
+                    open_and_wake(&mut self.inbox, &self.accepted, &mut self.due);
                     Ok(Taken::Accepted)
                 }
                 Err(refused) => Err(DeliverFault::NoMemory(refused.op)),
@@ -279,7 +279,7 @@ impl Replica {
         requires stands { Stands self.old }
         requires accepted { tally.old.accepted ≤ 2 ^ 31 }
         requires stray { tally.old.stray < 2 ^ 31 }
-        ensures settles { SettlesAll self.old self.new tally.old tally.new result }
+        ensures settles { SettlesOrStops self.old self.new tally.old tally.new result }
         ensures stands { Stands self.new }
     {
         if self.is_settled() {

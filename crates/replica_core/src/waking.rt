@@ -9,8 +9,6 @@ use crate::accepted::Accepted;
 use crate::due::Due;
 use causal_inbox::{Inbox, OpenInbox, PushFault, is_decided};
 use fugue_ids::{ElementId, NoMemory, Op};
-use std::alloc::Global;
-use std::mem::replace;
 
 fn newest_id(accepted: &Accepted) -> Option<ElementId>
     ensures { result ≡ newest_id_of accepted.now }
@@ -43,14 +41,14 @@ pub(crate) fn wake(inbox: &OpenInbox, accepted: &Accepted, due: &mut Due)
 }
 
 /// The same over an inbox that is not open: nothing leaves it, so it closes as it was.
-pub(crate) fn open_and_wake(inbox: &mut Inbox, alloc: Global, accepted: &Accepted, due: &mut Due)
+pub(crate) fn open_and_wake(inbox: &mut Inbox, accepted: &Accepted, due: &mut Due)
     requires marks { due.old ≡ due_marks (drop 1 accepted.now) inbox.old.ops }
     requires once { AllPairs (λ a b. a ≢ b) (accepted.now ++ inbox.old.ops) }
     requires own_ids { AllPairs HaveOtherIds (accepted.now ++ inbox.old.ops) }
     ensures marks { due.new ≡ due_marks accepted.now inbox.old.ops }
     ensures inbox { inbox.new ≡ inbox.old }
 {
-    let open = replace(inbox, Inbox::new(alloc, 0)).open();
+    let open = inbox.open();
     wake(&open, accepted, due);
     *inbox = open.close();
 }

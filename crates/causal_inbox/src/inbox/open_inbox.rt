@@ -1,4 +1,4 @@
-ghost use Rattle.std.specs.Prelude.{◌≡◌, ◌<◌, ◌≤◌, None, Some, length, remove as without, slice_get};
+ghost use Rattle.std.specs.Prelude.{◌≡◌, ◌<◌, ◌≤◌, [], None, Some, length, remove as without, slice_get};
 ghost use Rattle.fugue_ids.specs.Ops.{id_of};
 ghost use Rattle.causal_inbox.specs.Naming.{naming};
 
@@ -8,6 +8,7 @@ use crate::index::Index;
 use crate::key::named_key;
 use fugue_ids::{ElementId, Op};
 use std::marker::Model;
+use std::mem::replace;
 
 /// An inbox that operations leave one after another: one that leaves beside the last one moves none but those between the two.
 #[derive(Drop)]
@@ -28,14 +29,17 @@ impl Model for OpenInbox {
 }
 
 impl Inbox {
-    /// The same operations, to leave one after another.
-    pub fn open(self) -> OpenInbox
-        ensures { result ≡ self }
+    /// The same operations, to leave one after another. An inbox with none stays behind, which takes no memory.
+    pub fn open(&mut self) -> OpenInbox
+        ensures open { result ≡ self.old }
+        ensures emptied { self.new ≡ record self.old { ops = [] } }
     {
+        let emptied = Inbox::new(self.index.alloc, self.hold);
+        let Inbox { ops, index, hold } = replace(self, emptied);
         OpenInbox {
-            ops: self.ops.open(),
-            index: self.index,
-            hold: self.hold,
+            ops: ops.open(),
+            index,
+            hold,
         }
     }
 }

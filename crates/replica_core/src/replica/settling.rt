@@ -1,13 +1,13 @@
 ghost use Rattle.std.specs.Prelude.{◌≡◌, ◌<◌, ◌≤◌, ◌-◌, ◌^◌, IfOk, OnErr};
 ghost use Rattle.replica_core.specs.State.{Stands};
-ghost use Rattle.replica_core.specs.Told.{IsCounted, JoinsNext, Settles, SettlesAll};
+ghost use Rattle.replica_core.specs.Told.{IsCounted, JoinsNext, Settles, SettlesOrStops};
 
 use super::Replica;
 use crate::Settled;
 use crate::accepted::Accepted;
 use crate::due::Due;
 use crate::waking::{leave, wake};
-use causal_inbox::{Inbox, OpenInbox};
+use causal_inbox::OpenInbox;
 use fugue_ids::NoMemory;
 use origin_model::{Tally, Verdict};
 use std::alloc::Global;
@@ -43,14 +43,13 @@ impl Replica {
     pub(crate) fn open(&mut self) -> Settling
         ensures { result ≡ self.old }
     {
-        let inbox = replace(&mut self.inbox, Inbox::new(self.alloc, self.hold));
         Settling {
             alloc: self.alloc,
             number: self.number,
             hold: self.hold,
             most: self.most,
             accepted: replace(&mut self.accepted, Accepted::new(self.alloc)),
-            inbox: inbox.open(),
+            inbox: self.inbox.open(),
             due: replace(&mut self.due, Due::new(self.alloc)),
         }
     }
@@ -106,7 +105,7 @@ impl Settling {
         requires stands { Stands self.old }
         requires accepted { tally.old.accepted ≤ 2 ^ 31 }
         requires stray { tally.old.stray < 2 ^ 31 }
-        ensures settles { SettlesAll self.old self.new tally.old tally.new result }
+        ensures settles { SettlesOrStops self.old self.new tally.old tally.new result }
         ensures stands { Stands self.new }
     {
         while self.settle_counted(tally)? {}

@@ -7,7 +7,7 @@ accepted : (c : goal.In-Ok) → IsFedState c.args.self.now c.args.op c.args.tall
 accepted c =
     let told = rw c.in-Ok-Accepted.field-0-is at c.in-Ok-Accepted.ensures.answer in
     accepted_fed c.args.self.now c.deliver.new.self c.settle.new.self c.args.op c.args.tally.now c.settle.new.tally told c.in-Ok-Accepted.ensures.ok
-    c.in-Ok.ensures.settles c.in-Ok.ensures.settles.ended
+    c.in-Ok.ensures.settles.way c.in-Ok.ensures.settles.ended
 
 pub returns-in-Ok-clause-held : goal.returns-in-Ok-clause-held
 returns-in-Ok-clause-held c = (accepted c).held
@@ -19,7 +19,7 @@ pub returns-in-Err-clause-err : goal.returns-in-Err-clause-err
 returns-in-Err-clause-err c =
     let told = rw c.in-Ok-Accepted.field-0-is at c.in-Ok-Accepted.ensures.answer in
     accepted_partly c.args.self.now c.deliver.new.self c.settle.new.self c.args.op c.args.tally.now c.settle.new.tally told c.in-Ok-Accepted.ensures.ok
-    c.in-Err.ensures.settles c.in-Err.ensures.settles.stopped
+    c.in-Err.ensures.settles.way c.in-Err.ensures.settles.stopped
 
 waits : (c : goal.In-Ok-Waits) → IsFedState c.args.self.now c.args.op c.args.tally.now c.deliver.new.self c.args.tally.now
 waits c =

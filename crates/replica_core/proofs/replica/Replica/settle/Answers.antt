@@ -1,16 +1,13 @@
 use Rattle.std.proofs.Common.{refl, subst, sym}
 use Rattle.origin_model.specs.declared.taking.tally.Tally.{Tally}
-use Rattle.replica_core.specs.Settling.{Here}
 use Rattle.replica_core.specs.State.{State}
-use Rattle.replica_core.specs.Told.{SettlesAll}
-use Rattle.replica_core.proofs.CountLemmas.{counted-none}
+use Rattle.replica_core.specs.Told.{SettlesOrStops}
+use Rattle.replica_core.proofs.CountLemmas.{settles_here}
 use Rattle.replica_core.proofs.replica.Replica.settle.Goals as goal
 
 pub returns-then-is_settled-clause-settles : goal.returns-then-is_settled-clause-settles
 returns-then-is_settled-clause-settles c = record {
-  steps = Here c.args.self.now.held;
-  counted = sym (counted-none c.args.self.now.held c.args.tally.now);
-  others = refl;
+  way = settles_here c.args.self.now c.args.tally.now;
   ended = c.if-is_settled.ensures.settled.0 refl;
   stopped = tt;
 }
@@ -18,6 +15,6 @@ returns-then-is_settled-clause-settles c = record {
 pub returns-clause-settles : goal.returns-clause-settles
 returns-clause-settles c =
     let tally : Tally = c.settle-result.new.tally in
-    let FromThere : State → Type 0 = λ s. SettlesAll s c.close.result c.args.tally.now tally c.settle-result.result in
-    let ToThere : State → Type 0 = λ s. SettlesAll c.open-settling.result s c.args.tally.now tally c.settle-result.result in
+    let FromThere : State → Type 0 = λ s. SettlesOrStops s c.close.result c.args.tally.now tally c.settle-result.result in
+    let ToThere : State → Type 0 = λ s. SettlesOrStops c.open-settling.result s c.args.tally.now tally c.settle-result.result in
     subst FromThere c.open-settling.ensures (subst ToThere (sym c.close.ensures) c.settle-result.ensures.settles)
