@@ -16,7 +16,9 @@ pub fn bulk(alloc: Global, seed: u32, count: u32) -> Result<Summary, NoMemory>
     ensures { IfOk result (λ told. told ≡ summary (bulk_world seed count)) }
 {
     let mut first = new_author(alloc, 1);
-    bulk_by(alloc, &mut first, seed, count)
+    let told = bulk_by(alloc, &mut first, seed, count);
+    drop(first);
+    told
 }
 
 /// The same, with the first author's replica.
@@ -25,7 +27,9 @@ fn bulk_by(alloc: Global, first: &mut Replica, seed: u32, count: u32) -> Result<
     ensures { IfOk result (λ told. told ≡ summary (bulk_world seed count)) }
 {
     let mut second = new_author(alloc, 2);
-    bulk_among(alloc, first, &mut second, seed, count)
+    let told = bulk_among(alloc, first, &mut second, seed, count);
+    drop(second);
+    told
 }
 
 /// The same, with the replicas of both.

@@ -45,7 +45,9 @@ fn edited<S: Source, H: Disk>(alloc: Global, home: &mut H, input: &mut S) -> Res
     ensures calm { (S.seen input.old).sure ≡ true → (S.seen input.new).faults ≡ (S.seen input.old).faults }
 {
     let (mut replica, end) = load_file(alloc, home)?;
-    edit_by(alloc, &mut replica, end, home, input)
+    let made = edit_by(alloc, &mut replica, end, home, input);
+    drop(replica);
+    made
 }
 
 /// The same, by the replica that the file holds.

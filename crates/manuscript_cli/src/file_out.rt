@@ -24,7 +24,11 @@ pub(crate) fn print_file<O: Sink, N: Sink, H: Disk>(
         (change (O.seen output.old) (O.seen output.new)) (change (N.seen notes.old) (N.seen notes.new)) result }
 {
     match load_file(alloc, home) {
-        Ok((replica, _)) => print_held(&replica, output, notes),
+        Ok((replica, _)) => {
+            let status = print_held(&replica, output, notes);
+            drop(replica);
+            status
+        }
         Err(why) => tell(notes, why),
     }
 }
@@ -40,7 +44,11 @@ pub(crate) fn send_file<O: Sink, N: Sink, H: Disk>(
         (change (O.seen output.old) (O.seen output.new)) (change (N.seen notes.old) (N.seen notes.new)) result }
 {
     match load_file(alloc, home) {
-        Ok((replica, _)) => send_held(alloc, &replica, output, notes),
+        Ok((replica, _)) => {
+            let status = send_held(alloc, &replica, output, notes);
+            drop(replica);
+            status
+        }
         Err(refusal) => tell(notes, refusal),
     }
 }

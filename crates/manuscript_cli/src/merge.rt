@@ -48,7 +48,9 @@ fn merged<H: Disk, G: Disk>(alloc: Global, home: &mut H, guest: &mut G) -> Resul
     ensures keeps { KeepsFile (change (G.seen guest.old) (G.seen guest.new)) }
 {
     let (mut replica, end) = load_file(alloc, home)?;
-    merge_into(alloc, &mut replica, end, home, guest)
+    let merged = merge_into(alloc, &mut replica, end, home, guest);
+    drop(replica);
+    merged
 }
 
 /// Takes what another file's replica holds into the replica of a loaded file, and saves what was kept.
@@ -67,7 +69,9 @@ fn merge_into<H: Disk, G: Disk>(
     ensures guest { KeepsFile (change (G.seen guest.old) (G.seen guest.new)) }
 {
     let (other, _) = load_file(alloc, guest)?;
-    merge_from(alloc, replica, end, home, &other)
+    let merged = merge_from(alloc, replica, end, home, &other);
+    drop(other);
+    merged
 }
 
 fn merge_from<H: Disk>(

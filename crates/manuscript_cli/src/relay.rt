@@ -51,7 +51,9 @@ fn relayed<O: Sink, D: Dock, B: BuildHasher + Drop>(
     ensures dock { NeverBlamed sessions (change (O.seen output.old) (O.seen output.new)) (change (D.seen dock.old) (D.seen dock.new)) result }
 {
     let mut relay = Relay::new(alloc, hasher, MOST_LOGGED);
-    relay_by(alloc, port, sessions, output, dock, &mut relay)
+    let logged = relay_by(alloc, port, sessions, output, dock, &mut relay);
+    drop(relay);
+    logged
 }
 
 /// The same, with a relay to which nothing happened.

@@ -33,7 +33,9 @@ pub(crate) fn show<S: Source, O: Sink, N: Sink>(
         (record { input = S.seen input.new; output = O.seen output.new; notes = N.seen notes.new }) }
 {
     let mut replica = new_reader(alloc, hold);
-    show_by(alloc, &mut replica, input, output, notes)
+    let status = show_by(alloc, &mut replica, input, output, notes);
+    drop(replica);
+    status
 }
 
 /// Shows by a replica that holds nothing yet.

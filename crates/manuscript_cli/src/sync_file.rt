@@ -52,7 +52,7 @@ fn synced<H: Disk, W: Wire>(
 {
     let (mut replica, end) = load_file(alloc, home)?;
     let mut kept = Vec::new(alloc);
-    sync_keeping(
+    let synced = sync_keeping(
         alloc,
         port,
         cursor,
@@ -61,7 +61,9 @@ fn synced<H: Disk, W: Wire>(
         home,
         wire,
         &mut kept,
-    )
+    );
+    drop(replica);
+    synced
 }
 
 /// Lets the replica of a loaded file speak, and saves what it kept of the reply.

@@ -43,7 +43,9 @@ fn taken<S: Source, H: Disk>(alloc: Global, home: &mut H, input: &mut S) -> Resu
     ensures calm { (S.seen input.old).sure ≡ true → (S.seen input.new).faults ≡ (S.seen input.old).faults }
 {
     let (mut replica, end) = load_file(alloc, home)?;
-    take_by(alloc, &mut replica, end, home, input)
+    let taken = take_by(alloc, &mut replica, end, home, input);
+    drop(replica);
+    taken
 }
 
 /// Takes the operations that the input has left into the replica of a loaded file, and saves those that were kept.

@@ -24,6 +24,7 @@ use origin_model::{Tally, Verdict};
 use outer_ports::Sink;
 use std::alloc::Global;
 use std::marker::Model;
+use std::mem::replace;
 
 /// One author's replica of the manuscript: the accepted operations, and those that wait for others.
 #[derive(Drop)]
@@ -219,7 +220,7 @@ impl Replica {
     {
         let mut settling = self.open();
         let result = settling.step();
-        *self = settling.close();
+        drop(replace(self, settling.close()));
         result
     }
 
@@ -287,7 +288,7 @@ impl Replica {
         }
         let mut settling = self.open();
         let result = settling.settle(tally);
-        *self = settling.close();
+        drop(replace(self, settling.close()));
         result
     }
 }

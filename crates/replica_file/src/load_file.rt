@@ -56,6 +56,9 @@ fn read_all<H: Disk>(alloc: Global, disk: &mut H, most: u32) -> Result<(Replica,
     let mut loading = Loading::new(alloc, front.header, most);
     match take_slots(alloc, disk, front.gate, most, &mut loading) {
         Ok(end) => Ok((loading.into_replica(), end)),
-        Err(fault) => Err(fault),
+        Err(fault) => {
+            drop(loading);
+            Err(fault)
+        }
     }
 }

@@ -11,4 +11,4 @@ returns-in_err-replica-clause-saves g c =
     rw (p.1, p.2) (load_stops (script (change (g.S.Source.seen c.args.input.now) (g.S.Source.seen c.args.input.now))) _ _ c.in_err-replica.ensures.meets)
 
 pub returns-clause-saves : goal.returns-clause-saves
-returns-clause-saves g c = made_comes _ _ _ _ _ _ _ c.in_ok-replica.ensures.meets c.edit_by.ensures.given
+returns-clause-saves g c = made_comes _ _ _ _ _ _ _ c.in_ok-replica.ensures.meets c.edit_by-made.ensures.given

@@ -1,4 +1,4 @@
-use Rattle.std.proofs.Common.{refl, subst, sym}
+use Rattle.std.proofs.Common.{refl, subst, sym, ◌∙◌}
 use Rattle.origin_model.specs.declared.taking.tally.Tally.{Tally}
 use Rattle.replica_core.specs.State.{State}
 use Rattle.replica_core.specs.Told.{SettlesOrStops}
@@ -15,6 +15,6 @@ returns-then-is_settled-clause-settles c = record {
 pub returns-clause-settles : goal.returns-clause-settles
 returns-clause-settles c =
     let tally : Tally = c.settle-result.new.tally in
-    let FromThere : State → Type 0 = λ s. SettlesOrStops s c.close.result c.args.tally.now tally c.settle-result.result in
+    let FromThere : State → Type 0 = λ s. SettlesOrStops s c.replace.new.dest c.args.tally.now tally c.settle-result.result in
     let ToThere : State → Type 0 = λ s. SettlesOrStops c.open-settling.result s c.args.tally.now tally c.settle-result.result in
-    subst FromThere c.open-settling.ensures (subst ToThere (sym c.close.ensures) c.settle-result.ensures.settles)
+    subst FromThere c.open-settling.ensures (subst ToThere (sym (c.replace.ensures.after ∙ c.close.ensures)) c.settle-result.ensures.settles)
