@@ -75,7 +75,7 @@ impl Beside {
     /// Takes in an operation that is Ready. Where this fails, nothing is left.
     fn take(&mut self, alloc: Global, op: Op) -> Result<(), NoMemory> {
         let beside = replace(self, Beside::new(alloc));
-        *self = beside.with(op)?;
+        drop(replace(self, beside.with(op)?));
         Ok(())
     }
 

@@ -143,12 +143,16 @@ fn made_with_second(
     first: &mut Replica,
 ) -> Result<Option<Summary>, Fail> {
     let mut second = Replica::new(alloc, 2, 100, 1000)?;
-    make_by_turns(rt, alloc, first, &mut second)
+    let summary = make_by_turns(rt, alloc, first, &mut second);
+    drop(second);
+    summary
 }
 
 fn made(rt: &impl Abort, alloc: Global) -> Result<Option<Summary>, Fail> {
     let mut first = Replica::new(alloc, 1, 100, 1000)?;
-    made_with_second(rt, alloc, &mut first)
+    let summary = made_with_second(rt, alloc, &mut first);
+    drop(first);
+    summary
 }
 
 #[test]

@@ -164,15 +164,17 @@ fn answer_row(
 ) -> Result<(), Fail> {
     feed(rt, alloc, replica, row.lines)?;
     for (edit, answer) in row.edits {
-        equal_at(rt, &edit, make(rt, alloc, replica, *edit)?, *answer);
+        equal_at(rt, edit, make(rt, alloc, replica, *edit)?, *answer);
     }
-    holds_at(rt, &row, writes(alloc, replica, row.text.as_bytes())?);
+    holds_at(rt, row, writes(alloc, replica, row.text.as_bytes())?);
     Ok(())
 }
 
 fn answers_row(rt: &impl Abort, alloc: Global, row: &Row) -> Result<(), Fail> {
     let mut replica = Replica::new(alloc, 1, 100, row.most)?;
-    answer_row(rt, alloc, &mut replica, row)
+    let done = answer_row(rt, alloc, &mut replica, row);
+    drop(replica);
+    done
 }
 
 #[test]
@@ -197,7 +199,7 @@ fn has_accepted(
 ) -> Result<(), Fail> {
     equal(rt, replica.accepted().len(), lines.len());
     for (accepted, line) in replica.accepted().iter().zip(lines) {
-        holds_at(rt, &line, is_op(rt, alloc, accepted, *line)?);
+        holds_at(rt, line, is_op(rt, alloc, accepted, *line)?);
     }
     Ok(())
 }
@@ -231,7 +233,9 @@ fn makes_operations(rt: &impl Abort, alloc: Global, replica: &mut Replica) -> Re
 #[test]
 fn edits_make_their_operations_at_the_end(rt: HostRuntime) -> Result<(), Fail> {
     let mut replica = Replica::new(rt.alloc(), 1, 100, 100)?;
-    makes_operations(&rt, rt.alloc(), &mut replica)
+    let done = makes_operations(&rt, rt.alloc(), &mut replica);
+    drop(replica);
+    done
 }
 
 fn has_text(replica: &Replica, section: usize, wanted: &str) -> Result<bool, Fail> {
@@ -266,5 +270,7 @@ fn tells_what_is_shown(rt: &impl Abort, alloc: Global, replica: &mut Replica) ->
 #[test]
 fn a_replica_tells_what_it_shows_and_holds(rt: HostRuntime) -> Result<(), Fail> {
     let mut replica = Replica::new(rt.alloc(), 1, 100, 100)?;
-    tells_what_is_shown(&rt, rt.alloc(), &mut replica)
+    let done = tells_what_is_shown(&rt, rt.alloc(), &mut replica);
+    drop(replica);
+    done
 }

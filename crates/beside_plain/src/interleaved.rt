@@ -97,7 +97,7 @@ fn deliver(
     let mut tally = Tally::default();
     feed_one(rt, replica, op.clone_in(alloc)?, &mut tally)?;
     plain.take_in(op.clone_in(alloc)?)?;
-    holds_at(rt, &op, is_beside(alloc, replica, plain)?);
+    holds_at(rt, op, is_beside(alloc, replica, plain)?);
     Ok(())
 }
 
@@ -154,7 +154,9 @@ fn join_new(
     edits: &[Edit],
 ) -> Result<(), Fail> {
     let mut replica = Replica::new(alloc, number, 100, 100)?;
-    join(rt, alloc, &mut replica, pool, begun, edits)
+    let joined = join(rt, alloc, &mut replica, pool, begun, edits);
+    drop(replica);
+    joined
 }
 
 fn hear_all(
@@ -181,7 +183,9 @@ fn hears_all(
     author: Author,
 ) -> Result<(), Fail> {
     let mut replica = Replica::new(alloc, author.number, 100, 100)?;
-    hear_all(rt, alloc, &mut replica, begun, pool, author)
+    let heard = hear_all(rt, alloc, &mut replica, begun, pool, author);
+    drop(replica);
+    heard
 }
 
 fn fill_pool(rt: &impl Abort, alloc: Global, begun: &[Op], pool: &mut Vec<Op>) -> Result<(), Fail> {

@@ -221,9 +221,11 @@ fn edits_beside(
 }
 
 fn makes_beside(rt: &impl Abort, alloc: Global, order: (usize, usize)) -> Result<(), Fail> {
-    let mut plain = Plain::new(alloc);
     let mut replica = Replica::new(alloc, NUMBER, 100, 100)?;
-    edits_beside(rt, alloc, &mut replica, &mut plain, order)
+    let mut plain = Plain::new(alloc);
+    let done = edits_beside(rt, alloc, &mut replica, &mut plain, order);
+    drop(replica);
+    done
 }
 
 #[test]

@@ -122,7 +122,9 @@ fn compare(
 
 fn compare_lines(rt: &impl Abort, alloc: Global, lines: &[Line], wanted: &str) -> Result<(), Fail> {
     let mut beside = Beside::new(alloc);
-    compare(rt, alloc, &mut beside, lines, wanted)
+    let done = compare(rt, alloc, &mut beside, lines, wanted);
+    drop(beside);
+    done
 }
 
 const TABLE: &[(&[Line], &str)] = &[
@@ -192,5 +194,7 @@ fn find_nothing(rt: &impl Abort, alloc: Global, beside: &mut Beside) -> Result<(
 #[test]
 fn what_is_not_held_has_no_place(rt: HostRuntime) -> Result<(), Fail> {
     let mut beside = Beside::new(rt.alloc());
-    find_nothing(&rt, rt.alloc(), &mut beside)
+    let done = find_nothing(&rt, rt.alloc(), &mut beside);
+    drop(beside);
+    done
 }

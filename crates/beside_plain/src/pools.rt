@@ -80,9 +80,11 @@ pub fn keep_beside(
 }
 
 fn keeps_beside(rt: &impl Abort, alloc: Global, order: (usize, usize)) -> Result<(), Fail> {
-    let mut plain = Plain::new(alloc);
     let mut replica = Replica::new(alloc, 7, 100, 100)?;
-    keep_beside(rt, alloc, &mut replica, &mut plain, order)
+    let mut plain = Plain::new(alloc);
+    let done = keep_beside(rt, alloc, &mut replica, &mut plain, order);
+    drop(replica);
+    done
 }
 
 #[test]
@@ -170,9 +172,11 @@ fn keep_with(
 }
 
 fn keeps_copies(rt: &impl Abort, alloc: Global, order: (usize, usize)) -> Result<(), Fail> {
-    let mut plain = Plain::new(alloc);
     let mut replica = Replica::new(alloc, 7, 100, 100)?;
-    keep_with(rt, alloc, &mut replica, &mut plain, order)
+    let mut plain = Plain::new(alloc);
+    let done = keep_with(rt, alloc, &mut replica, &mut plain, order);
+    drop(replica);
+    done
 }
 
 #[test]

@@ -97,7 +97,7 @@ fn compare_shown(
     tally: &Tally,
     want: &Shown,
 ) -> Result<(), Fail> {
-    holds_at(rt, &want, writes(alloc, replica, want.text.as_bytes())?);
+    holds_at(rt, want, writes(alloc, replica, want.text.as_bytes())?);
     equal(rt, *tally, want.counts);
     equal(rt, replica.waiting().len(), want.waiting);
     equal(rt, replica.accepted().len(), tally.accepted as usize);
@@ -153,7 +153,9 @@ pub fn shows(
     want: Shown,
 ) -> Result<(), Fail> {
     let mut replica = Replica::new(alloc, 7, hold, 100)?;
-    feed_all(rt, alloc, &mut replica, lines, &want)
+    let done = feed_all(rt, alloc, &mut replica, lines, &want);
+    drop(replica);
+    done
 }
 
 const FIRST: Line = Text((1, 0), SECTION, NONE, NONE, 'a');
@@ -203,7 +205,10 @@ fn what_is_not_taken_is_counted(rt: HostRuntime) -> Result<(), Fail> {
 
 fn new_fault(alloc: Global, number: u32, hold: u32, most: u32) -> Option<NewFault> {
     match Replica::new(alloc, number, hold, most) {
-        Ok(_replica) => None,
+        Ok(replica) => {
+            drop(replica);
+            None
+        }
         Err(fault) => Some(fault),
     }
 }
@@ -276,5 +281,7 @@ fn deliver_in_turn(rt: &impl Abort, alloc: Global, replica: &mut Replica) -> Res
 #[test]
 fn a_delivery_waits_to_be_settled(rt: HostRuntime) -> Result<(), Fail> {
     let mut replica = Replica::new(rt.alloc(), 7, 1, 3)?;
-    deliver_in_turn(&rt, rt.alloc(), &mut replica)
+    let done = deliver_in_turn(&rt, rt.alloc(), &mut replica);
+    drop(replica);
+    done
 }

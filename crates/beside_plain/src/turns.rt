@@ -122,6 +122,17 @@ fn show_the_same(
     compare_both(rt, alloc, first, second, &mut plain)
 }
 
+fn edit_and_show(
+    rt: &impl Abort,
+    alloc: Global,
+    first: &mut Replica,
+    second: &mut Replica,
+    seed: u64,
+) -> Result<(), Fail> {
+    edit_by_turns(rt, alloc, first, second, seed)?;
+    show_the_same(rt, alloc, first, second)
+}
+
 fn edits_with_second(
     rt: &impl Abort,
     alloc: Global,
@@ -129,13 +140,16 @@ fn edits_with_second(
     seed: u64,
 ) -> Result<(), Fail> {
     let mut second = Replica::new(alloc, 2, 100, 1000)?;
-    edit_by_turns(rt, alloc, first, &mut second, seed)?;
-    show_the_same(rt, alloc, first, &second)
+    let done = edit_and_show(rt, alloc, first, &mut second, seed);
+    drop(second);
+    done
 }
 
 fn edits_by_seed(rt: &impl Abort, alloc: Global, seed: u64) -> Result<(), Fail> {
     let mut first = Replica::new(alloc, 1, 100, 1000)?;
-    edits_with_second(rt, alloc, &mut first, seed)
+    let done = edits_with_second(rt, alloc, &mut first, seed);
+    drop(first);
+    done
 }
 
 #[test]

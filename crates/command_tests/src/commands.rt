@@ -87,9 +87,12 @@ fn run_offline<S: Source, O: Sink, N: Sink, H: Disk, G: Disk>(
 ) -> Result<Status, AllocError> {
     let mut wire = MemWire::new(alloc, Vec::new(alloc), 1, Vec::new(alloc));
     let mut dock = MemDock::new(alloc, Vec::new(alloc), 1, Vec::new(alloc));
-    run_line(
+    let status = run_line(
         alloc, line, input, output, notes, home, guest, &mut wire, &mut dock,
-    )
+    );
+    drop(dock);
+    drop(wire);
+    status
 }
 
 /// Runs a command that uses no file: each call on one would fail.

@@ -54,7 +54,9 @@ fn served(
         MOST_LOGGED,
     );
     let result = serve(alloc, &mut relay, dock, sessions, steps);
-    (result, relay.log_len())
+    let logged = relay.log_len();
+    drop(relay);
+    (result, logged)
 }
 
 #[test]

@@ -60,7 +60,11 @@ fn counted<H: Disk>(alloc: Global, disk: &mut H, most: u32) -> Result<(usize, En
     ensures reaches { IfOk result (λ found. Reaches found.1) }
 {
     match load(alloc, disk, most) {
-        Ok((replica, end)) => Ok((replica.accepted().len() + replica.waiting().len(), end)),
+        Ok((replica, end)) => {
+            let count = replica.accepted().len() + replica.waiting().len();
+            drop(replica);
+            Ok((count, end))
+        }
         Err(fault) => Err(fault),
     }
 }
@@ -74,7 +78,11 @@ fn save<H: Disk>(alloc: Global, disk: &mut H, ops: &[Op]) -> Option<End> {
 /// Whether this is printed of a file.
 fn shows<H: Disk>(alloc: Global, disk: &mut H, text: &[u8]) -> bool {
     match load(alloc, disk, MOST_OPERATIONS) {
-        Ok((replica, _end)) => prints(alloc, &replica, text),
+        Ok((replica, _end)) => {
+            let is_printed = prints(alloc, &replica, text);
+            drop(replica);
+            is_printed
+        }
         Err(_) => false,
     }
 }

@@ -164,9 +164,22 @@ fn compare(
     compare_shown(rt, alloc, replica, row.2)
 }
 
-fn run_rows(rt: &impl Abort, alloc: Global, most: u32, rows: &[Row]) -> Result<(), Fail> {
+/// What is done with a new replica that may accept so many operations.
+fn with_new<F: FnOnce(&mut Replica) -> Result<(), Fail>>(
+    alloc: Global,
+    most: u32,
+    then: F,
+) -> Result<(), Fail>
+    requires { F.IsAlwaysCallable then }
+{
     let mut replica = Replica::new(alloc, 1, 1, most)?;
-    run_each(rt, alloc, &mut replica, rows)
+    let done = then(&mut replica);
+    drop(replica);
+    done
+}
+
+fn run_rows(rt: &impl Abort, alloc: Global, most: u32, rows: &[Row]) -> Result<(), Fail> {
+    with_new(alloc, most, |replica| run_each(rt, alloc, replica, rows))
 }
 
 fn run_each(
@@ -224,8 +237,11 @@ fn read_whole(rt: &impl Abort, alloc: Global, replica: &mut Replica) -> Result<(
 
 #[test]
 fn a_script_is_read_whole_before_it_runs(rt: HostRuntime) -> Result<(), Fail> {
-    let mut replica = Replica::new(rt.alloc(), 1, 1, 1000)?;
-    read_whole(&rt, rt.alloc(), &mut replica)
+    with_new(
+        rt.alloc(),
+        1000,
+        |replica| read_whole(&rt, rt.alloc(), replica),
+    )
 }
 
 fn bytes_and_titles(rt: &impl Abort, alloc: Global, replica: &mut Replica) -> Result<(), Fail> {
@@ -241,8 +257,11 @@ fn bytes_and_titles(rt: &impl Abort, alloc: Global, replica: &mut Replica) -> Re
 
 #[test]
 fn what_is_no_text_or_no_title_is_a_bad_line(rt: HostRuntime) -> Result<(), Fail> {
-    let mut replica = Replica::new(rt.alloc(), 1, 1, 1000)?;
-    bytes_and_titles(&rt, rt.alloc(), &mut replica)
+    with_new(
+        rt.alloc(),
+        1000,
+        |replica| bytes_and_titles(&rt, rt.alloc(), replica),
+    )
 }
 
 fn spend(rt: &impl Abort, alloc: Global, replica: &mut Replica) -> Result<(), Fail> {
@@ -266,8 +285,7 @@ fn spend(rt: &impl Abort, alloc: Global, replica: &mut Replica) -> Result<(), Fa
 
 #[test]
 fn no_counter_is_left(rt: HostRuntime) -> Result<(), Fail> {
-    let mut replica = Replica::new(rt.alloc(), 1, 1, 1000)?;
-    spend(&rt, rt.alloc(), &mut replica)
+    with_new(rt.alloc(), 1000, |replica| spend(&rt, rt.alloc(), replica))
 }
 
 fn put_behind_a_hidden_one(
@@ -299,8 +317,11 @@ fn put_behind_a_hidden_one(
 
 #[test]
 fn a_hidden_element_is_the_right_origin(rt: HostRuntime) -> Result<(), Fail> {
-    let mut replica = Replica::new(rt.alloc(), 1, 1, 1000)?;
-    put_behind_a_hidden_one(&rt, rt.alloc(), &mut replica)
+    with_new(
+        rt.alloc(),
+        1000,
+        |replica| put_behind_a_hidden_one(&rt, rt.alloc(), replica),
+    )
 }
 
 /// Lines that are odd in one byte, which is another one or is left out.
@@ -377,6 +398,9 @@ fn compare_lines(rt: &impl Abort, alloc: Global, replica: &mut Replica) -> Resul
 
 #[test]
 fn a_line_is_bad_exactly_where_a_plain_reading_finds_no_form(rt: HostRuntime) -> Result<(), Fail> {
-    let mut replica = Replica::new(rt.alloc(), 1, 1, 1000)?;
-    compare_lines(&rt, rt.alloc(), &mut replica)
+    with_new(
+        rt.alloc(),
+        1000,
+        |replica| compare_lines(&rt, rt.alloc(), replica),
+    )
 }

@@ -139,7 +139,7 @@ fn check_rows(
     rows: &[Row],
 ) -> Result<(), Fail> {
     for row in rows {
-        holds_at(rt, &row, is_as_said(alloc, relay, row)?);
+        holds_at(rt, row, is_as_said(alloc, relay, row)?);
     }
     Ok(())
 }

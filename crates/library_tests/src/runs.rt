@@ -176,6 +176,24 @@ fn letter(dice: &mut Dice) -> char {
     }
 }
 
+/// A cell that is shown, with some letter.
+fn new_cell(
+    dice: &mut Dice,
+    cells: &[Cell],
+    id: ElementId,
+    left: Option<ElementId>,
+    right: Option<ElementId>,
+) -> Cell {
+    Cell {
+        id,
+        left,
+        right,
+        ch: letter(dice),
+        hidden: false,
+        key: new_key(cells, &left, &right),
+    }
+}
+
 /// A cell with any origins in any gap.
 fn put_anywhere(
     rt: &impl Abort,
@@ -195,14 +213,7 @@ fn put_anywhere(
     };
     let left = any_origin(dice, cells);
     let right = any_origin(dice, cells);
-    let cell = Cell {
-        id,
-        left,
-        right,
-        ch: letter(dice),
-        hidden: false,
-        key: new_key(cells, &left, &right),
-    };
+    let cell = new_cell(dice, cells, id, left, right);
     join(rt, store, cells, gap, cell)
 }
 
@@ -223,15 +234,7 @@ fn put_behind(
     if position(cells, id).is_some() {
         return Ok(());
     }
-    let left = Some(behind);
-    let cell = Cell {
-        id,
-        left,
-        right,
-        ch: letter(dice),
-        hidden: false,
-        key: new_key(cells, &left, &right),
-    };
+    let cell = new_cell(dice, cells, id, Some(behind), right);
     join(rt, store, cells, Gap::After(behind), cell)
 }
 

@@ -6,6 +6,7 @@ use fugue_ids::{ElementId, NoMemory};
 use outer_ports::MemSink;
 use section_list::SectionList;
 use std::alloc::Global;
+use std::process::Abort;
 use std::test::Fail;
 
 /// A letter with its identifier and origins: replica and counter of each.
@@ -59,12 +60,11 @@ fn insert(
     list.insert(id, left, right, ch)
 }
 
-fn filled(alloc: Global, rows: &[Row]) -> Result<SectionList, NoMemory> {
-    let mut list = SectionList::new(alloc);
-    for (id, left, right, ch) in rows {
-        insert(&mut list, *id, *left, *right, *ch)?;
+fn fill(list: &mut SectionList) -> Result<(), NoMemory> {
+    for (id, left, right, ch) in ROWS {
+        insert(list, id, left, right, ch)?;
     }
-    Ok(list)
+    Ok(())
 }
 
 /// Hides an element twice.
@@ -86,16 +86,35 @@ fn written(alloc: Global, list: &SectionList) -> Result<MemSink, Fail> {
     Ok(output)
 }
 
+fn stand_by_origins(rt: &impl Abort, alloc: Global, list: &mut SectionList) -> Result<(), Fail> {
+    fill(list)?;
+    assert!(rt; written(alloc, list)?.written() == b"AXYDB".as_slice());
+    let hidden = named((2, 0))?;
+    hide_twice(list, hidden)?;
+    assert!(rt; written(alloc, list)?.written() == b"AXYB".as_slice());
+    assert!(rt; list.is_hidden(hidden));
+    equal(rt, list.visible_count(), 4);
+    equal(rt, list.len(), 5);
+    Ok(())
+}
+
 #[test]
 fn letters_stand_by_their_origins(rt: HostRuntime) -> Result<(), Fail> {
-    let mut list = filled(rt.alloc(), &ROWS)?;
-    assert!(rt; written(rt.alloc(), &list)?.written() == b"AXYDB".as_slice());
-    let hidden = named((2, 0))?;
-    hide_twice(&mut list, hidden)?;
-    assert!(rt; written(rt.alloc(), &list)?.written() == b"AXYB".as_slice());
-    assert!(rt; list.is_hidden(hidden));
-    equal(&rt, list.visible_count(), 4);
-    equal(&rt, list.len(), 5);
+    let mut list = SectionList::new(rt.alloc());
+    let done = stand_by_origins(&rt, rt.alloc(), &mut list);
+    drop(list);
+    done
+}
+
+fn find_neighbours(rt: &impl Abort, list: &mut SectionList) -> Result<(), Fail> {
+    fill(list)?;
+    let [first, last, hidden] = [named((1, 1))?, named((1, 0))?, named((2, 0))?];
+    hide_twice(list, hidden)?;
+    equal(rt, list.nth_visible(3), Some(last));
+    equal(rt, list.nth_visible(4), None);
+    equal(rt, list.after(None), Some(first));
+    equal(rt, list.after(Some(hidden)), Some(last));
+    equal(rt, list.after(Some(last)), None);
     Ok(())
 }
 
@@ -103,13 +122,8 @@ fn letters_stand_by_their_origins(rt: HostRuntime) -> Result<(), Fail> {
 fn neighbours_are_found_among_all_and_places_among_the_visible(
     rt: HostRuntime,
 ) -> Result<(), Fail> {
-    let mut list = filled(rt.alloc(), &ROWS)?;
-    let [first, last, hidden] = [named((1, 1))?, named((1, 0))?, named((2, 0))?];
-    hide_twice(&mut list, hidden)?;
-    equal(&rt, list.nth_visible(3), Some(last));
-    equal(&rt, list.nth_visible(4), None);
-    equal(&rt, list.after(None), Some(first));
-    equal(&rt, list.after(Some(hidden)), Some(last));
-    equal(&rt, list.after(Some(last)), None);
-    Ok(())
+    let mut list = SectionList::new(rt.alloc());
+    let done = find_neighbours(&rt, &mut list);
+    drop(list);
+    done
 }

@@ -13,7 +13,9 @@ use crate::assertions::equal;
 use fugue_ids::{ElementId, Key, NoMemory};
 use place::Place;
 use sided_tree::{Gap, OrderOf, Side, SidedTree};
+use std::alloc::Global;
 use std::prelude::HostRuntime;
+use std::process::Abort;
 use std::test::Fail;
 
 const FIRST: Key = Key {
@@ -140,10 +142,12 @@ fn typed(i: u32) -> Result<ElementId, NoMemory> {
     ElementId::new(1 + i / 7 % 2, i / 14 * 7 + i % 7).ok_or(NoMemory)
 }
 
-#[test]
-fn stretches_tell_the_left_origins_that_a_list_tells(rt: HostRuntime) -> Result<(), Fail> {
-    let mut place = Place::new(rt.alloc());
-    let mut letters: Vec<(ElementId, Option<ElementId>)> = Vec::new(rt.alloc());
+/// A letter and its left origin.
+type Letter = (ElementId, Option<ElementId>);
+
+/// Letters of which each is typed behind the one before it, or, now and then, behind an earlier one.
+fn typed_letters(alloc: Global) -> Result<Vec<Letter>, Fail> {
+    let mut letters = Vec::new(alloc);
     let mut left = None;
     for i in 0..120 {
         if i % 11 == 10 {
@@ -151,19 +155,41 @@ fn stretches_tell_the_left_origins_that_a_list_tells(rt: HostRuntime) -> Result<
         }
         let id = typed(i)?;
         letters.push((id, left))?;
-        place = place.with(id, left)?;
         left = Some(id);
     }
-    for (id, left) in &letters {
-        for (_, other) in &letters {
-            equal(&rt, place.hangs_left(*other, *id), other == left);
+    Ok(letters)
+}
+
+fn place_of(alloc: Global, letters: &[Letter]) -> Result<Place, NoMemory> {
+    let mut place = Place::new(alloc);
+    for (id, left) in letters {
+        place = place.with(*id, *left)?;
+    }
+    Ok(place)
+}
+
+fn hang_as_listed(rt: &impl Abort, place: &Place, letters: &[Letter]) {
+    for (id, left) in letters {
+        for (_, other) in letters {
+            equal(rt, place.hangs_left(*other, *id), other == left);
         }
     }
+}
+
+#[test]
+fn stretches_tell_the_left_origins_that_a_list_tells(rt: HostRuntime) -> Result<(), Fail> {
+    let letters = typed_letters(rt.alloc())?;
+    let place = place_of(rt.alloc(), &letters)?;
+    hang_as_listed(&rt, &place, &letters);
+    drop(place);
     Ok(())
 }
 
-fn numbered(counter: u32) -> Result<ElementId, NoMemory> {
-    ElementId::new(1, counter).ok_or(NoMemory)
+fn numbered(counter: u32) -> ElementId {
+    ElementId {
+        replica: 1,
+        counter,
+    }
 }
 
 #[test]
@@ -171,23 +197,30 @@ fn typing_makes_no_search(rt: HostRuntime) -> Result<(), Fail> {
     let mut place = Place::new(rt.alloc());
     let mut left = None;
     for counter in 0..100 {
-        let id = numbered(counter)?;
+        let id = numbered(counter);
         place = place.with(id, left)?;
         equal(&rt, place.searched(), 0);
         left = Some(id);
     }
+    drop(place);
+    Ok(())
+}
+
+/// Siblings come, the first one first or the last one first.
+fn siblings_come(rt: &impl Abort, alloc: Global, is_rising: bool) -> Result<(), NoMemory> {
+    let mut place = Place::new(alloc);
+    for counter in 0..1_000 {
+        let number = if is_rising { counter } else { 1_000 - counter };
+        place = place.with(numbered(number), None)?;
+        assert!(rt; place.searched() < 100);
+    }
+    drop(place);
     Ok(())
 }
 
 #[test]
 fn a_thousand_siblings_cost_a_few_searches(rt: HostRuntime) -> Result<(), Fail> {
-    let mut elders = Place::new(rt.alloc());
-    let mut youngers = Place::new(rt.alloc());
-    for counter in 0..1_000 {
-        elders = elders.with(numbered(counter)?, None)?;
-        youngers = youngers.with(numbered(1_000 - counter)?, None)?;
-        assert!(rt; elders.searched() < 100);
-        assert!(rt; youngers.searched() < 100);
-    }
+    siblings_come(&rt, rt.alloc(), true)?;
+    siblings_come(&rt, rt.alloc(), false)?;
     Ok(())
 }

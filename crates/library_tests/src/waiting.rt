@@ -10,6 +10,7 @@ use causal_inbox::{Found, Inbox, OpenInbox, PushFault};
 use fugue_ids::{ElementId, NoMemory, Op, Title};
 use origin_model::{PlainReplica, Verdict};
 use std::alloc::Global;
+use std::process::Abort;
 use std::test::Fail;
 
 fn id(replica: u32, counter: u32) -> ElementId
@@ -130,12 +131,7 @@ fn take_step(inbox: &mut Inbox, alloc: Global, ops: &[Op], step: Step) -> Result
     }
 }
 
-#[test]
-fn what_rests_on_an_element_is_found_as_operations_come_and_go(
-    rt: HostRuntime,
-) -> Result<(), Fail> {
-    let ops = sharing(rt.alloc())?;
-    let mut inbox = Inbox::new(rt.alloc(), 9);
+fn come_and_go(rt: &impl Abort, alloc: Global, inbox: &mut Inbox, ops: &[Op]) -> Result<(), Fail> {
     for (step, waiting, named) in [
         (Step::Comes(3), 1, Some(0)),
         (Step::Comes(0), 2, Some(0)),
@@ -155,12 +151,23 @@ fn what_rests_on_an_element_is_found_as_operations_come_and_go(
         (Step::Goes(0), 0, None),
         (Step::Comes(2), 1, Some(0)),
     ] {
-        take_step(&mut inbox, rt.alloc(), ops.as_slice(), step)?;
-        equal_at(&rt, &step, inbox.ops().len(), waiting);
-        let position = first_naming(&mut inbox, id(1, 0));
-        equal_at(&rt, &step, position, named);
+        take_step(inbox, alloc, ops, step)?;
+        equal_at(rt, &step, inbox.ops().len(), waiting);
+        let position = first_naming(inbox, id(1, 0));
+        equal_at(rt, &step, position, named);
     }
     Ok(())
+}
+
+#[test]
+fn what_rests_on_an_element_is_found_as_operations_come_and_go(
+    rt: HostRuntime,
+) -> Result<(), Fail> {
+    let ops = sharing(rt.alloc())?;
+    let mut inbox = Inbox::new(rt.alloc(), 9);
+    let done = come_and_go(&rt, rt.alloc(), &mut inbox, &ops);
+    drop(inbox);
+    done
 }
 
 /// The first position of an operation that rests on the identifier.
@@ -220,6 +227,7 @@ fn those_that_leave_in_reverse_leave_the_others_in_order(rt: HostRuntime) -> Res
     let mut inbox = Inbox::new(rt.alloc(), 100);
     fill(&mut inbox)?;
     let mut open = inbox.open();
+    assert!(rt; inbox.ops().is_empty());
     for k in 0..50u32 {
         let last = leave_open(&mut open, 49u32.saturating_sub(k));
         holds_at(&rt, &k, last == Some(98usize.saturating_sub(k as usize)));

@@ -125,9 +125,11 @@ fn run_at<D: Dock>(
     let mut home = FileDisk::closed();
     let mut guest = FileDisk::closed();
     let mut wire = MemWire::new(alloc, Vec::new(alloc), 1, Vec::new(alloc));
-    run_line(
+    let status = run_line(
         alloc, words, &mut input, output, notes, &mut home, &mut guest, &mut wire, dock,
-    )
+    );
+    drop(wire);
+    status
 }
 
 const RELAY: &str = "relay 47113 2";

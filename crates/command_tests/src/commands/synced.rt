@@ -22,7 +22,7 @@ fn run_on<N: Sink, H: Disk, W: Wire>(
     let mut output = MemSink::new(alloc, 1, Vec::new(alloc));
     let mut guest = FileDisk::closed();
     let mut dock = MemDock::new(alloc, Vec::new(alloc), 1, Vec::new(alloc));
-    run_line(
+    let status = run_line(
         alloc,
         words,
         &mut input,
@@ -32,7 +32,9 @@ fn run_on<N: Sink, H: Disk, W: Wire>(
         &mut guest,
         wire,
         &mut dock,
-    )
+    );
+    drop(dock);
+    status
 }
 
 /// An exchange, and what is wanted of it.

@@ -127,7 +127,9 @@ fn all_go(
 fn a_replica_says_what_it_holds_and_takes_in_the_reply(rt: HostRuntime) -> Result<(), Fail> {
     let mut replica = Replica::new(rt.alloc(), 1, 10, 10)?;
     let mut kept = Vec::new(rt.alloc());
-    all_go(&rt, rt.alloc(), &mut replica, &mut kept)
+    let done = all_go(&rt, rt.alloc(), &mut replica, &mut kept);
+    drop(replica);
+    done
 }
 
 /// Replies that are not whole or no replies, what each comes to where one operation may be held, and how many are kept.
@@ -174,7 +176,9 @@ fn anew<W: Wire>(
     kept: &mut Vec<Op>,
 ) -> Result<Result<Synced, SyncFault>, Fail> {
     let mut replica = Replica::new(alloc, 1, 1, 1)?;
-    Ok(exchanged(rt, alloc, &mut replica, wire, 0, kept))
+    let result = exchanged(rt, alloc, &mut replica, wire, 0, kept);
+    drop(replica);
+    Ok(result)
 }
 
 /// What it comes to with this reply, and how many operations it keeps.
@@ -209,10 +213,12 @@ fn heard(
     alloc: Global,
     reply: &[u8],
 ) -> Result<(Result<Synced, SyncFault>, usize), Fail> {
-    let mut kept = Vec::new(alloc);
-    let mut wire = MemWire::new(alloc, reply.to_vec(alloc)?, 3, Vec::new(alloc));
+    let reply = reply.to_vec(alloc)?;
     let mut replica = Replica::new(alloc, 1, 10, 10)?;
+    let mut kept = Vec::new(alloc);
+    let mut wire = MemWire::new(alloc, reply, 3, Vec::new(alloc));
     let result = exchanged(rt, alloc, &mut replica, &mut wire, 0, &mut kept);
+    drop(replica);
     Ok((result, kept.len()))
 }
 
