@@ -84,11 +84,16 @@ impl Beside {
             mut manuscript,
             mut replica,
         } = self;
-        take_in(&mut manuscript, &mut replica, op)?;
-        Ok(Beside {
-            manuscript,
-            replica,
-        })
+        match take_in(&mut manuscript, &mut replica, op) {
+            Ok(()) => Ok(Beside {
+                manuscript,
+                replica,
+            }),
+            Err(NoMemory) => {
+                drop(manuscript);
+                Err(NoMemory)
+            }
+        }
     }
 }
 

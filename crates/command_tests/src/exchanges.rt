@@ -66,6 +66,7 @@ fn each_session_is_sent_its_reply_and_ended(rt: HostRuntime) -> Result<(), Fail>
     equal(&rt, served(rt.alloc(), &mut dock, 2, 100), (Ok(()), 2));
     equal(&rt, (dock.sent(0), dock.sent(1)), (BOTH, BOTH));
     equal(&rt, dock.ended(), [1, 0].as_slice());
+    drop(dock);
     Ok(())
 }
 
@@ -79,6 +80,7 @@ fn sessions_that_take_too_many_steps_are_left(rt: HostRuntime) -> Result<(), Fai
         (Err(ServeFault::TooLong), 0),
     );
     equal(&rt, dock.next(&mut [0; 5]), Ok(DockStep::Bytes(0, 5)));
+    drop(dock);
     Ok(())
 }
 
@@ -103,6 +105,7 @@ fn a_number_counts_once_and_no_step_is_asked_for_behind_the_last(
     let mut dock = MemDock::new(rt.alloc(), gone_sessions(rt.alloc())?, 7, none);
     equal(&rt, served(rt.alloc(), &mut dock, 2, 100), (Ok(()), 0));
     equal(&rt, dock.next(&mut [0; 1]), Ok(DockStep::Opened(9)));
+    drop(dock);
     Ok(())
 }
 
@@ -142,6 +145,7 @@ fn a_session_may_be_cut_at_each_byte(rt: HostRuntime) -> Result<(), Fail> {
         let result = served(rt.alloc(), &mut dock, 1, 100);
         equal_at(&rt, &count, result, (Ok(()), whole_frames(count)));
         assert!(rt; dock.sent(0).is_empty() && dock.ended().is_empty());
+        drop(dock);
     }
     Ok(())
 }
@@ -152,6 +156,7 @@ fn a_session_that_is_not_cut_is_answered(rt: HostRuntime) -> Result<(), Fail> {
     let mut dock = MemDock::new(rt.alloc(), steps, 7, Vec::new(rt.alloc()));
     equal(&rt, served(rt.alloc(), &mut dock, 1, 100), (Ok(()), 2));
     equal(&rt, dock.sent(0), BOTH);
+    drop(dock);
     Ok(())
 }
 
@@ -163,6 +168,7 @@ fn a_call_that_fails_ends_it(rt: HostRuntime) -> Result<(), Fail> {
         let mut dock = MemDock::new(rt.alloc(), two_sessions(rt.alloc())?, 7, fail);
         let (result, _) = served(rt.alloc(), &mut dock, 2, 100);
         equal_at(&rt, &call, result, Err(ServeFault::DockFault));
+        drop(dock);
     }
     Ok(())
 }

@@ -149,6 +149,7 @@ fn each_session_is_answered_as_its_text_asks(rt: HostRuntime) -> Result<(), Fail
     let mut relay = Relay::new(rt.alloc(), BuildHasherDefault::default(), MOST_LOGGED);
     let checked = check_rows(&rt, rt.alloc(), &mut relay, ROWS);
     equal(&rt, relay.log_len(), 2);
+    drop(relay);
     checked
 }
 
@@ -169,6 +170,7 @@ fn a_full_log_takes_no_other_frame(rt: HostRuntime) -> Result<(), Fail> {
     let mut relay = Relay::new(rt.alloc(), BuildHasherDefault::default(), 1);
     let checked = check_rows(&rt, rt.alloc(), &mut relay, ONE_FRAME);
     equal(&rt, relay.log_len(), 1);
+    drop(relay);
     checked
 }
 
@@ -330,14 +332,21 @@ fn talk(
     Ok(())
 }
 
+/// The same with a new relay.
+fn talk_anew(rt: &impl Abort, alloc: Global, seed: u64) -> Result<(), Fail> {
+    let mut relay = Relay::new(alloc, BuildHasherDefault::default(), FEW as u32);
+    let mut log = Vec::new(alloc);
+    let done = talk(rt, alloc, &mut relay, &mut log, seed);
+    drop(relay);
+    done
+}
+
 #[test]
 fn interleaved_sessions_are_answered_as_their_joined_texts_ask(
     rt: HostRuntime,
 ) -> Result<(), Fail> {
     for seed in 0..1000 {
-        let mut relay = Relay::new(rt.alloc(), BuildHasherDefault::default(), FEW as u32);
-        let mut log = Vec::new(rt.alloc());
-        talk(&rt, rt.alloc(), &mut relay, &mut log, seed)?;
+        talk_anew(&rt, rt.alloc(), seed)?;
     }
     Ok(())
 }

@@ -112,6 +112,7 @@ fn a_second_element_hangs_on_the_side_of_its_origins(rt: HostRuntime) -> Result<
         Gap::After(id),
     );
     equal(&rt, tree.find_gap(next, None, None, &one), Gap::After(id));
+    drop(tree);
     Ok(())
 }
 
@@ -134,6 +135,7 @@ fn a_typed_letter_is_taken_back_and_comes_otherwise(rt: HostRuntime) -> Result<(
         .expect(&rt, "memory");
     equal(&rt, tree.side(Some(id), Some(next)), Side::Right);
     equal(&rt, tree.side(None, Some(next)), Side::Left);
+    drop(tree);
     Ok(())
 }
 

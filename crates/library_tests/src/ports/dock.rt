@@ -70,6 +70,7 @@ fn a_dock_in_memory_serves_and_fails_where_listed(rt: HostRuntime) -> Result<(),
         (b"xyz".as_slice(), b"".as_slice()),
     );
     same(&rt, (dock.port(), dock.ended()), (Some(9), [7].as_slice()));
+    drop(dock);
     Ok(())
 }
 
@@ -85,6 +86,7 @@ fn a_sure_dock_takes_what_fits(rt: HostRuntime) -> Result<(), Fail> {
     );
     same(&rt, dock.sent(7), b"xyz".as_slice());
     same(&rt, (dock.port(), dock.ended()), (Some(9), [7].as_slice()));
+    drop(dock);
     Ok(())
 }
 
