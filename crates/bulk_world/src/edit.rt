@@ -4,7 +4,7 @@ use fugue_ids::NoMemory;
 use replica_core::EditFault;
 
 /// An edit of the first section, by positions in what is shown.
-#[derive(Clone, Copy, Debug, PartialEq, Eq)]
+#[derive(Clone, Copy)]
 pub(crate) enum Edit {
     /// Puts a letter.
     Put(usize, char),

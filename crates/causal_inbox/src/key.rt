@@ -7,14 +7,14 @@ use fugue_ids::{ElementId, Op};
 use origin_model::{Named, names_of};
 
 /// What operations are looked up by. In their order the keys of one replica stand together.
-#[derive(Clone, Copy, Debug, PartialEq, Eq, PartialOrd, Ord)]
+#[derive(Clone, Copy, PartialEq, Eq, PartialOrd, Ord)]
 pub(crate) struct Key {
     pub id: ElementId,
     pub kind: Kind,
 }
 
 /// What an operation has to do with the identifier.
-#[derive(Clone, Copy, Debug, PartialEq, Eq, PartialOrd, Ord)]
+#[derive(Clone, Copy, PartialEq, Eq, PartialOrd, Ord)]
 pub(crate) enum Kind {
     /// It makes the element.
     Own,

@@ -12,7 +12,7 @@ use fugue_ids::{NoMemory, Title, TitleFault};
 use std::alloc::Global;
 
 /// An edit that a line asks for. Sections count from 0, and places and counts are clusters.
-#[derive(Debug, Drop)]
+#[derive(Drop)]
 pub(crate) enum Edit {
     Add { at: u32, title: Title },
     Put { section: u32, at: u32, text: String },

@@ -2,7 +2,7 @@ ghost use Rattle.std.specs.Prelude.{◌≡◌, ℕ, List, Some, ◌++◌, ◌∷
 ghost use Rattle.edit_script.specs.Grammar.{HasNoSpace};
 
 /// The first word of a line, by which its form is known.
-#[derive(Clone, Copy, Debug, PartialEq, Eq)]
+#[derive(Clone, Copy)]
 pub(crate) enum Form {
     Add,
     Put,

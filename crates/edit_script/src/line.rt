@@ -8,7 +8,7 @@ use replica_core::{EditFault, Replica};
 use std::alloc::Global;
 
 /// Why a line was not run.
-#[derive(Clone, Copy, Debug, PartialEq, Eq)]
+#[derive(Clone, Copy)]
 pub(crate) enum LineFault {
     /// It is no line of a script.
     Bad,

@@ -10,7 +10,7 @@ use origin_model::Tally;
 use replica_core::Replica;
 
 /// What became of the operations that a command took in, and how many wait at the end.
-#[derive(Clone, Copy, Debug, PartialEq, Eq)]
+#[derive(Clone, Copy)]
 pub(crate) struct Counts {
     pub(crate) tally: Tally,
     pub(crate) waiting: usize,

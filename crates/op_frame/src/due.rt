@@ -1,12 +1,12 @@
 /// What a frame still lacks: all of it, or so many identifiers, then so many origins, and then its last field.
-#[derive(Clone, Copy, Debug, PartialEq, Eq)]
+#[derive(Clone, Copy)]
 pub(crate) enum Due {
     Kind,
     Fields(u8, u8, Last),
 }
 
 /// What a frame ends with.
-#[derive(Clone, Copy, Debug, PartialEq, Eq)]
+#[derive(Clone, Copy)]
 pub(crate) enum Last {
     Nothing,
     Scalar,
@@ -16,7 +16,7 @@ pub(crate) enum Last {
 }
 
 /// What some bytes of the field are that is due.
-#[derive(Clone, Copy, Debug, PartialEq, Eq)]
+#[derive(Clone, Copy)]
 pub(crate) enum Judged {
     /// All of it, and this is due behind it.
     Done(Due),

@@ -1,5 +1,5 @@
 /// Why nothing was read from the front of some bytes.
-#[derive(Clone, Copy, Debug, PartialEq, Eq)]
+#[derive(Clone, Copy)]
 pub(crate) enum Stop {
     /// More bytes may still make it readable.
     Prefix,

@@ -29,7 +29,7 @@ impl Model for Greeting {
 }
 
 /// What the first bytes of a text are.
-#[derive(Clone, Copy, Debug, PartialEq, Eq)]
+#[derive(Clone, Copy, PartialEq, Eq)]
 pub(crate) enum Greeted {
     Partly,
     /// A whole greeting, with its cursor.

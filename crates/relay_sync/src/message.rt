@@ -1,7 +1,7 @@
 use fugue_ids::Op;
 
 /// A message of a relay's reply.
-#[derive(Debug, Drop)]
+#[derive(Drop)]
 pub(crate) enum Message {
     /// A frame of the log.
     Operation(Op),

@@ -64,7 +64,7 @@ counted_more s t u x r e =
           (omega (arith, g.later, more)) (omega (arith, g.later, g.together, more, m.shorter))
     ]
 
--- how far settling has come, and what is counted of it
+-- how far settling has come, and what its loop needs
 pub record IsSettling (start now : State) (before after : Tally) : Type 0 where
   pub way : SettlesOn start now before after
   pub stands : Stands now

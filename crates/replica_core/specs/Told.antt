@@ -54,7 +54,7 @@ pub record StaysBelow (tally : Tally) : Type 0 where
 abbrev pub total : Tally → ℕ
 total tally = tally.accepted + tally.repeated + tally.conflict + tally.stray + tally.full
 
--- the operation stands and settling stopped on its way, at one that joins: the tally counts what stands, and what is left of settling ends where all of it would have ended
+-- the operation stands and settling stopped on its way, before a waiting operation that joins: the tally counts what stands, and what is left of settling ends where all of it would have ended
 pub record StandsPartly (hold most : ℕ) (old new : Held) (op : Op) (before after : Tally) : Type 0 where
   pub steps : Reaches (taken (answer hold most old op) old op) new
   pub counted : after ≡ settling_counted (taken (answer hold most old op) old op) new (answer_counted (answer hold most old op) before)
@@ -78,7 +78,7 @@ pub record SettlesOn (old new : State) (before after : Tally) : Type 0 where
   pub counted : after ≡ settling_counted old.held new.held before
   pub others : new ≡ record old { held = new.held }
 
--- settling went to its end, or stopped for want of memory, at one that joins
+-- settling went to its end, or stopped for want of memory, before a waiting operation that joins
 pub record SettlesOrStops {T E : Type 0} (old new : State) (before after : Tally) (result : Result T E) : Type 0 where
   pub way : SettlesOn old new before after
   pub ended : OnOk result (IsSettled new.held)

@@ -6,7 +6,7 @@ use fugue_ids::ElementId;
 use origin_model::Verdict;
 
 /// What becomes of an operation, before it is looked whether one more may wait.
-#[derive(Clone, Copy, Debug, PartialEq, Eq)]
+#[derive(Clone, Copy)]
 pub(crate) enum Decision {
     Again,
     Conflict,

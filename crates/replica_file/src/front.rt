@@ -12,7 +12,7 @@ use crate::stop::Stop;
 use outer_ports::Disk;
 
 /// What stands in front of the slots, and the first gate.
-#[derive(Clone, Copy, Debug, PartialEq, Eq)]
+#[derive(Clone, Copy)]
 pub(crate) struct Front {
     pub(crate) header: Header,
     pub(crate) gate: Gate,

@@ -1,5 +1,5 @@
 /// A gate of a file.
-#[derive(Clone, Copy, Debug, PartialEq, Eq)]
+#[derive(Clone, Copy)]
 pub(crate) struct Gate {
     pub(crate) at: u64,
     pub(crate) open: bool,

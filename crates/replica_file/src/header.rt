@@ -18,7 +18,7 @@ const MARK: [u8; 4] = *b"FGMX";
 const VERSION: u8 = 1;
 
 /// What stands in front of the slots.
-#[derive(Clone, Copy, Debug, PartialEq, Eq)]
+#[derive(Clone, Copy)]
 pub(crate) struct Header {
     pub(crate) replica: u32,
     pub(crate) hold: u32,

@@ -6,7 +6,7 @@ ghost use Rattle.origin_model.specs.sides.KeyedGap.{low_ids};
 use fugue_ids::{ElementId, Key, OrderOf};
 
 /// A part of an order, in which the elements of a key are looked for: none there has a lesser one.
-#[derive(Clone, Copy, Debug)]
+#[derive(Clone, Copy)]
 pub(crate) struct Part {
     /// It begins behind this element, or at the beginning.
     pub from: Option<ElementId>,

@@ -29,7 +29,7 @@ impl Model for OpenInbox {
 }
 
 impl Inbox {
-    /// The same operations, to leave one after another. An inbox with none stays behind, which takes no memory.
+    /// The same operations, to leave one after another. An empty inbox with the same hold stays behind; it takes no memory.
     pub fn open(&mut self) -> OpenInbox
         ensures open { result ≡ self.old }
         ensures emptied { self.new ≡ record self.old { ops = [] } }
