@@ -1,6 +1,7 @@
 #!/usr/bin/env bash
-# Large manuscripts, each within a minute: the summary of a million turns, whose numbers another program computed, and
-# a text of 300,000 letters that one author puts at once and another takes in.
+# Large manuscripts, each within a minute: the summary of a million turns, whose numbers another program computed, a
+# text of 300,000 letters that one author puts at once and another takes in, and texts of 100,000 letters that come in
+# six orders.
 . "$(dirname "$0")/common.sh"
 
 # Whether what a command printed is what was wanted.
@@ -35,5 +36,48 @@ done
 # All of it deleted, by one cut.
 look 'a long cut' 'made 300000' "$(printf 'cut 1 0 300000\n' | timeout 60 "$program" edit "$work/1" 2>&1)"
 look 'nothing left' '# T' "$(timeout 60 "$program" print "$work/1" </dev/null)"
+
+# The frames of 100,000 letters, each directly behind the start or one that came before it, and the text that they make.
+# Two authors take turns: so no letter joins the run of another, and each is a node of the tree.
+typed() {
+    local order=$1 text=$2
+    printf "$section"
+    LC_ALL=C awk -v order="$order" -v text="$text" '
+        function bytes(number) { printf "%c%c%c%c", number / 16777216, number / 65536 % 256, number / 256 % 256, number % 256 }
+        function id(letter) { bytes(1 + letter % 2); bytes(int(letter / 2)) }
+        function origin(letter) { if (letter) { printf "\1"; id(letter) } else printf "%c", 0 }
+        function scalar(letter) { return 97 + letter % 26 }
+
+        # Behind which letter a new one comes. 0 is the start of the text.
+        function place(letter) {
+            if (order == "in front") return 0
+            if (order == "at the end") return letter - 1
+            if (order == "behind the first") return letter > 1
+            if (order == "before the last") return letter > 2 ? letter - 1 : 0
+            if (order == "in the middle") return letter % 2 ? letter - 1 : letter - 2
+            state = (state * 1664525 + 1013904223) % 4294967296
+            return int(state / 4294967296 * letter)
+        }
+
+        BEGIN {
+            behind[0] = 0
+            for (letter = 1; letter <= 100000; letter++) {
+                left = place(letter)
+                printf "\2"; id(letter); bytes(9); bytes(0); origin(left); origin(behind[left])
+                printf "%c%c%c", 0, 0, scalar(letter)
+                behind[letter] = behind[left]
+                behind[left] = letter
+            }
+            for (letter = behind[0]; letter; letter = behind[letter]) printf "%c", scalar(letter) >text
+        }'
+}
+
+# No order of inserts makes the tree of a text deep: each takes a second or two of the processor, where a tree that is a
+# chain takes many minutes.
+for order in 'in front' 'at the end' 'behind the first' 'before the last' 'in the middle' 'at random'; do
+    typed "$order" "$work/text" >"$work/frames"
+    (ulimit -t 10 && "$program" show) <"$work/frames" >"$work/output" 2>"$work/notes"
+    compare "letters $order" $? 0 "# T\n$(cat "$work/text")\n" "$(counts 100001 0 0 0 0 0)"
+done
 
 ended

@@ -20,8 +20,6 @@ mod reweigh;
 mod rope;
 mod side;
 mod store;
-#[cfg(test)]
-mod tests;
 mod turn;
 mod walk;
 mod weigh;
