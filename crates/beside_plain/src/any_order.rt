@@ -62,10 +62,6 @@ fn stream_of(
     Ok(stream)
 }
 
-fn is_same_set(some: &[Op], others: &[Op]) -> bool {
-    some.len() == others.len() && some.iter().all(|op| others.contains(op))
-}
-
 fn compare(
     rt: &impl Abort,
     alloc: Global,
@@ -75,8 +71,11 @@ fn compare(
 ) -> Result<usize, Fail> {
     plain.take_all(alloc, stream)?;
     close(alloc, closed, stream)?;
-    holds_at(rt, &stream, is_same_set(plain.accepted.ops(), closed.ops()));
-    Ok(closed.ops().len())
+    let ops = plain.accepted.ops();
+    let is_same_set = ops.len() == closed.ops().len()
+        && ops.iter().all(|op| closed.ops().contains(op));
+    holds_at(rt, &stream, is_same_set);
+    Ok(ops.len())
 }
 
 /// How many operations the stream accepts.

@@ -63,31 +63,15 @@ fn next_counter(plain: &Plain) -> u32 {
     next
 }
 
-/// The element in front of the position.
-fn in_front(elements: &[ElementId], at: usize) -> Option<ElementId> {
-    match at.checked_sub(1) {
-        Some(last) => elements.get(last).copied(),
-        None => None,
-    }
-}
-
-/// Behind which of all elements the left one stands: none for the start.
-fn count_up_to(elements: &[ElementId], left: &Option<ElementId>) -> usize {
-    match left {
-        Some(left) => match elements.iter().position(|id| *id == *left) {
-            Some(position) => position.saturating_add(1),
-            None => elements.len(),
-        },
-        None => 0,
-    }
-}
-
 /// Where an element comes in: behind the shown element in front of the position, before the next one of all.
 fn spot_at(rt: &impl Abort, plain: &Plain, place: &Place, at: usize) -> Result<Spot, Fail> {
     let shown = plain.accepted.shown(*place)?;
     let all = plain.accepted.elements(*place)?;
-    let left = in_front(&shown, at);
-    let right = all.get(count_up_to(&all, &left)).copied();
+    let left = shown.iter().take(at).last().copied();
+    let right = match left {
+        Some(left) => all.iter().skip_while(|id| **id != left).nth(1).copied(),
+        None => all.first().copied(),
+    };
     let id = ElementId::new(NUMBER, next_counter(plain)).expect(rt, "a replica");
     Ok(Spot { id, left, right })
 }
@@ -114,23 +98,16 @@ fn texts(
     Ok(made)
 }
 
+/// The Deletes of so many that a place shows.
 fn deletes(
-    rt: &impl Abort,
     alloc: Global,
     plain: &Plain,
-    section: usize,
+    place: &Place,
     at: usize,
     n: usize,
 ) -> Result<Vec<Op>, Fail> {
-    let section = section_at(rt, plain, section)?;
     let mut made = Vec::new(alloc);
-    for target in plain
-        .accepted
-        .shown(Place::Section(section))?
-        .iter()
-        .skip(at)
-        .take(n)
-    {
+    for target in plain.accepted.shown(*place)?.iter().skip(at).take(n) {
         made.push(Op::Delete { target: *target })?;
     }
     Ok(made)
@@ -156,21 +133,13 @@ fn new_section(
 fn made_of(rt: &impl Abort, alloc: Global, plain: &Plain, edit: Edit) -> Result<Vec<Op>, Fail> {
     match edit {
         Put(section, at, text) => texts(rt, alloc, plain, section, at, text),
-        Cut(section, at, n) => deletes(rt, alloc, plain, section, at, n),
+        Cut(section, at, n) => {
+            let section = section_at(rt, plain, section)?;
+            deletes(alloc, plain, &Place::Section(section), at, n)
+        }
         Add(at, title) => Ok(vec![in alloc; new_section(rt, alloc, plain, at, title)?]?),
-        Drop(section) => Ok(vec![in alloc;
-            Op::Delete {
-                target: section_at(rt, plain, section)?
-            },
-        ]?),
+        Drop(section) => deletes(alloc, plain, &Place::Catalogue, section, 1),
     }
-}
-
-fn take_all(plain: &mut Plain, ops: Vec<Op>) -> Result<(), Fail> {
-    for op in ops {
-        plain.take_in(op)?;
-    }
-    Ok(())
 }
 
 /// One edit at both, which then are the same.
@@ -184,7 +153,7 @@ fn edit_beside(
     if let Ok(count) = make(rt, alloc, replica, edit)? {
         let ops = made_of(rt, alloc, plain, edit)?;
         equal_at(rt, &edit, count as usize, ops.len());
-        take_all(plain, ops)?;
+        plain.take_all(alloc, &ops)?;
     }
     holds_at(rt, &edit, is_beside(alloc, replica, plain)?);
     Ok(())

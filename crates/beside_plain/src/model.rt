@@ -12,18 +12,6 @@ use std::prelude::HostRuntime;
 use std::process::Abort;
 use std::test::Fail;
 
-fn take_in(
-    rt: &impl Abort,
-    alloc: Global,
-    replica: &mut PlainReplica,
-    line: Line,
-) -> Result<(), Fail> {
-    let op = op(rt, alloc, line)?;
-    assert!(rt; replica.verdict(&op) == Verdict::Ready);
-    replica.accept(op)?;
-    Ok(())
-}
-
 fn take_all(
     rt: &impl Abort,
     alloc: Global,
@@ -31,25 +19,20 @@ fn take_all(
     lines: &[Line],
 ) -> Result<(), Fail> {
     for line in lines {
-        take_in(rt, alloc, replica, *line)?;
+        let op = op(rt, alloc, *line)?;
+        assert!(rt; replica.verdict(&op) == Verdict::Ready);
+        replica.accept(op)?;
     }
     Ok(())
-}
-
-fn section(rt: &impl Abort) -> Place {
-    Place::Section(id(rt, SECTION))
 }
 
 fn hide(rt: &impl Abort, alloc: Global, replica: &mut PlainReplica) -> Result<(), Fail> {
     let all = [id(rt, (1, 1)), id(rt, (2, 0)), id(rt, (1, 0))];
     let kept = [id(rt, (2, 0)), id(rt, (1, 0))];
     take_all(rt, alloc, replica, &[T, B, A, D, Delete((1, 1))])?;
-    equal(
-        rt,
-        replica.elements(section(rt))?.as_slice(),
-        all.as_slice(),
-    );
-    equal(rt, replica.shown(section(rt))?.as_slice(), kept.as_slice());
+    let section = Place::Section(id(rt, SECTION));
+    equal(rt, replica.elements(section)?.as_slice(), all.as_slice());
+    equal(rt, replica.shown(section)?.as_slice(), kept.as_slice());
     Ok(())
 }
 
@@ -57,16 +40,6 @@ fn hide(rt: &impl Abort, alloc: Global, replica: &mut PlainReplica) -> Result<()
 fn a_delete_hides_and_keeps_the_place(rt: HostRuntime) -> Result<(), Fail> {
     let mut replica = PlainReplica::new(rt.alloc());
     hide(&rt, rt.alloc(), &mut replica)
-}
-
-fn verdict_of(
-    rt: &impl Abort,
-    alloc: Global,
-    replica: &PlainReplica,
-    line: Line,
-) -> Result<Verdict, Fail> {
-    let op = op(rt, alloc, line)?;
-    Ok(replica.verdict(&op))
 }
 
 fn compare_verdicts(
@@ -99,7 +72,8 @@ fn compare_verdicts(
         &[T, Section((8, 0), NONE, NONE, "U"), B, A],
     )?;
     for (line, wanted) in table {
-        equal_at(rt, &line, verdict_of(rt, alloc, replica, line)?, wanted);
+        let op = op(rt, alloc, line)?;
+        equal_at(rt, &line, replica.verdict(&op), wanted);
     }
     Ok(())
 }
@@ -117,17 +91,13 @@ fn list_nodes(
     replica: &mut PlainReplica,
     nodes: &[Node],
 ) -> Result<Vec<Name>, Fail> {
-    take_in(rt, alloc, replica, T)?;
-    for node in nodes {
-        take_in(
-            rt,
-            alloc,
-            replica,
-            Text(node.id, SECTION, node.left, node.right, 'a'),
-        )?;
+    take_all(rt, alloc, replica, &[T])?;
+    for (id, left, right) in nodes {
+        let line = Text(*id, SECTION, *left, *right, 'a');
+        take_all(rt, alloc, replica, &[line])?;
     }
     let mut names = Vec::new(alloc);
-    for id in &replica.elements(section(rt))? {
+    for id in &replica.elements(Place::Section(id(rt, SECTION)))? {
         names.push((id.replica, id.counter))?;
     }
     Ok(names)
@@ -145,18 +115,6 @@ fn is_by_sides(rt: &impl Abort, alloc: Global, nodes: &[Node]) -> Result<bool, F
     Ok(found.len() == nodes.len() && found == wanted)
 }
 
-fn nodes_of(alloc: Global, triples: &[(Name, Name, Name)]) -> Result<Vec<Node>, Fail> {
-    let mut nodes = Vec::new(alloc);
-    for (id, left, right) in triples {
-        nodes.push(Node {
-            id: *id,
-            left: *left,
-            right: *right,
-        })?;
-    }
-    Ok(nodes)
-}
-
 const P: Name = (1, 0);
 
 const Q: Name = (2, 0);
@@ -169,7 +127,7 @@ const U: Name = (5, 0);
 
 const V: Name = (6, 0);
 
-const LISTS: [(&str, &[(Name, Name, Name)]); 14] = [
+const LISTS: [(&str, &[Node]); 14] = [
     (
         "two passages typed forwards",
         &[(P, NONE, NONE), (R, NONE, NONE), (Q, P, NONE), (S, R, NONE)],
@@ -289,9 +247,8 @@ const LISTS: [(&str, &[(Name, Name, Name)]); 14] = [
 
 #[test]
 fn the_order_is_that_of_the_sides(rt: HostRuntime) -> Result<(), Fail> {
-    for (name, triples) in LISTS {
-        let nodes = nodes_of(rt.alloc(), triples)?;
-        holds_at(&rt, &name, is_by_sides(&rt, rt.alloc(), nodes.as_slice())?);
+    for (name, nodes) in LISTS {
+        holds_at(&rt, &name, is_by_sides(&rt, rt.alloc(), nodes)?);
     }
     Ok(())
 }
@@ -305,11 +262,7 @@ fn list_of(alloc: Global, choice: usize, names: &[Name]) -> Result<Vec<Node>, Fa
         rest /= count;
         let right = names[rest % count];
         rest /= count;
-        nodes.push(Node {
-            id: names[count],
-            left,
-            right,
-        })?;
+        nodes.push((names[count], left, right))?;
     }
     Ok(nodes)
 }

@@ -12,15 +12,6 @@ pub struct Plain {
     pub waiting: Vec<Op>,
 }
 
-/// A waiting operation that is equal or has the identifier.
-fn excludes(waiting: &Op, op: &Op) -> bool {
-    *waiting == *op || waiting.id().is_some() && waiting.id() == op.id()
-}
-
-fn is_decided(accepted: &PlainReplica, op: &Op) -> bool {
-    matches!(accepted.verdict(op), Verdict::Ready | Verdict::Stray(_))
-}
-
 impl Plain {
     pub fn new(alloc: Global) -> Plain {
         Plain {
@@ -30,7 +21,11 @@ impl Plain {
     }
 
     pub fn take_in(&mut self, op: Op) -> Result<(), Fail> {
-        if self.waiting.iter().any(|other| excludes(other, &op)) {
+        // Its equal waits, or another one of its identifier.
+        let is_excluded = self.waiting.iter().any(|other| {
+            *other == op || other.id().is_some() && other.id() == op.id()
+        });
+        if is_excluded {
             return Ok(());
         }
         match self.accepted.verdict(&op) {
@@ -52,10 +47,12 @@ impl Plain {
     }
 
     fn settle_one(&mut self) -> Result<(), Fail> {
-        let decided = self
-            .waiting
-            .iter()
-            .position(|op| is_decided(&self.accepted, op));
+        let decided = self.waiting.iter().position(|op| {
+            matches!(
+                self.accepted.verdict(op),
+                Verdict::Ready | Verdict::Stray(_)
+            )
+        });
         if let Some(at) = decided {
             let op = self.waiting.remove(at);
             if self.accepted.verdict(&op) == Verdict::Ready {

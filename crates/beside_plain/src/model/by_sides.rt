@@ -3,34 +3,19 @@
 use crate::op_lines::{NONE, Name};
 use std::alloc::{AllocError, Global};
 
-/// An element with its origins.
-#[derive(Clone, Copy, Debug)]
-pub struct Node {
-    pub id: Name,
-    pub left: Name,
-    pub right: Name,
-}
+/// An element with its left and its right origin.
+pub type Node = (Name, Name, Name);
 
 /// What a walk does next.
-#[derive(Clone, Copy, Debug)]
+#[derive(Clone, Copy)]
 enum Turn {
     Below(Name),
     Show(Name),
 }
 
-/// An element is a left child of its right origin where the two have one left origin, and else a right child of its left origin.
-fn is_left_child(nodes: &[Node], node: &Node) -> bool {
-    nodes
-        .iter()
-        .any(|other| other.id == node.right && other.left == node.left)
-}
-
-/// How many elements stand from the right origin on: the later it is, the fewer.
-fn count_from(finished: &[Name], right: Name) -> usize {
-    finished.iter().skip_while(|id| **id != right).count()
-}
-
 /// Left children by identifier; right children by later right origin first, and then by identifier.
+///
+/// An element is a left child of its right origin where the two have one left origin, and else a right child of its left origin.
 fn children(
     alloc: Global,
     nodes: &[Node],
@@ -39,15 +24,15 @@ fn children(
     on_left: bool,
 ) -> Result<Vec<(usize, Name)>, AllocError> {
     let mut found = Vec::new(alloc);
-    for node in nodes {
-        let is_left = is_left_child(nodes, node);
-        let (above, rank) = if is_left {
-            (node.right, 0)
-        } else {
-            (node.left, count_from(finished, node.right))
-        };
+    for (id, left, right) in nodes {
+        let is_left = nodes
+            .iter()
+            .any(|other| other.0 == *right && other.1 == *left);
+        let above = if is_left { *right } else { *left };
         if is_left == on_left && above == parent {
-            found.push((rank, node.id))?;
+            // The later the right origin is, the fewer elements stand from it on.
+            let from_right = finished.iter().skip_while(|id| **id != *right).count();
+            found.push((if is_left { 0 } else { from_right }, *id))?;
         }
     }
     found.sort_unstable();
