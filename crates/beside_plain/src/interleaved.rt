@@ -1,11 +1,11 @@
 //! Three replicas that edit without hearing of each other, and then hear of all operations in orders of their own, with repeats.
 
-use crate::assertions::{equal, holds_at};
+use crate::assertions::equal;
 use crate::edits::Edit::{self, Add, Cut, Put};
 use crate::edits::make;
 use crate::plain::Plain;
-use crate::pools::is_beside;
-use crate::replicas::{feed_one, feed_ops, writes};
+use crate::pools::step_beside;
+use crate::replicas::{feed_ops, writes};
 use fugue_ids::Op;
 use replica_core::{Replica, Tally};
 use std::alloc::Global;
@@ -28,7 +28,6 @@ const THIRD: &[Edit] = &[
 ];
 
 /// A replica's number, its edits, and the order in which it hears of the pool: which operation comes first, and how far behind each the next one stands.
-#[derive(Clone, Copy)]
 struct Author {
     number: u32,
     edits: &'static [Edit],
@@ -87,65 +86,8 @@ fn gather(alloc: Global, pool: &mut Vec<Op>, replica: &Replica) -> Result<(), Fa
     Ok(())
 }
 
-fn deliver(
-    rt: &impl Abort,
-    alloc: Global,
-    replica: &mut Replica,
-    plain: &mut Plain,
-    op: &Op,
-) -> Result<(), Fail> {
-    let mut tally = Tally::default();
-    feed_one(rt, replica, op.clone_in(alloc)?, &mut tally)?;
-    plain.take_in(op.clone_in(alloc)?)?;
-    holds_at(rt, op, is_beside(alloc, replica, plain)?);
-    Ok(())
-}
-
-/// Delivers the pool, each operation `step` behind the one before, beside the plain replica.
-fn deliver_beside(
-    rt: &impl Abort,
-    alloc: Global,
-    replica: &mut Replica,
-    plain: &mut Plain,
-    pool: &[Op],
-    order: (usize, usize),
-) -> Result<(), Fail> {
-    plain.take_all(alloc, replica.accepted())?;
-    for turn in 0..DELIVERIES {
-        let at = order.0.saturating_add(turn.saturating_mul(order.1)) % MADE;
-        if let Some(op) = pool.get(at) {
-            deliver(rt, alloc, replica, plain, op)?;
-        }
-    }
-    Ok(())
-}
-
-fn deliver_all(
-    rt: &impl Abort,
-    alloc: Global,
-    replica: &mut Replica,
-    pool: &[Op],
-    order: (usize, usize),
-) -> Result<(), Fail> {
-    let mut plain = Plain::new(alloc);
-    deliver_beside(rt, alloc, replica, &mut plain, pool, order)
-}
-
-/// What the replica has made and heard of joins the pool.
+/// What a new replica of this number has heard of and made joins the pool.
 fn join(
-    rt: &impl Abort,
-    alloc: Global,
-    replica: &mut Replica,
-    pool: &mut Vec<Op>,
-    begun: &[Op],
-    edits: &[Edit],
-) -> Result<(), Fail> {
-    begin(rt, alloc, replica, begun, edits)?;
-    gather(alloc, pool, replica)
-}
-
-/// The same of a new replica of this number.
-fn join_new(
     rt: &impl Abort,
     alloc: Global,
     pool: &mut Vec<Op>,
@@ -154,21 +96,34 @@ fn join_new(
     edits: &[Edit],
 ) -> Result<(), Fail> {
     let mut replica = Replica::new(alloc, number, 100, 100)?;
-    let joined = join(rt, alloc, &mut replica, pool, begun, edits);
+    let joined = match begin(rt, alloc, &mut replica, begun, edits) {
+        Ok(()) => gather(alloc, pool, &replica),
+        Err(fail) => Err(fail),
+    };
     drop(replica);
     joined
 }
 
+/// Delivers the pool, each operation `step` behind the one before, to the author's replica and to the plain one.
 fn hear_all(
     rt: &impl Abort,
     alloc: Global,
     replica: &mut Replica,
+    plain: &mut Plain,
     begun: &[Op],
     pool: &[Op],
-    author: Author,
+    author: &Author,
 ) -> Result<(), Fail> {
     begin(rt, alloc, replica, begun, author.edits)?;
-    deliver_all(rt, alloc, replica, pool, author.order)?;
+    plain.take_all(alloc, replica.accepted())?;
+    let mut tally = Tally::default();
+    let (first, step) = author.order;
+    for turn in 0..DELIVERIES {
+        let at = first.saturating_add(turn.saturating_mul(step)) % MADE;
+        if let Some(op) = pool.get(at) {
+            step_beside(rt, alloc, replica, plain, &mut tally, op)?;
+        }
+    }
     assert!(rt; writes(alloc, replica, TEXT.as_bytes())?);
     equal(rt, replica.accepted().len(), MADE);
     Ok(())
@@ -180,17 +135,18 @@ fn hears_all(
     alloc: Global,
     begun: &[Op],
     pool: &[Op],
-    author: Author,
+    author: &Author,
 ) -> Result<(), Fail> {
     let mut replica = Replica::new(alloc, author.number, 100, 100)?;
-    let heard = hear_all(rt, alloc, &mut replica, begun, pool, author);
+    let mut plain = Plain::new(alloc);
+    let heard = hear_all(rt, alloc, &mut replica, &mut plain, begun, pool, author);
     drop(replica);
     heard
 }
 
 fn fill_pool(rt: &impl Abort, alloc: Global, begun: &[Op], pool: &mut Vec<Op>) -> Result<(), Fail> {
     for author in AUTHORS {
-        join_new(rt, alloc, pool, begun, author.number, author.edits)?;
+        join(rt, alloc, pool, begun, author.number, author.edits)?;
     }
     equal(rt, pool.len(), MADE);
     Ok(())
@@ -199,24 +155,20 @@ fn fill_pool(rt: &impl Abort, alloc: Global, begun: &[Op], pool: &mut Vec<Op>) -
 fn all_hear_all(
     rt: &impl Abort,
     alloc: Global,
-    begun: &[Op],
+    begun: &mut Vec<Op>,
     pool: &mut Vec<Op>,
 ) -> Result<(), Fail> {
+    join(rt, alloc, begun, &[], 1, BEGUN)?;
     fill_pool(rt, alloc, begun, pool)?;
     for author in AUTHORS {
-        hears_all(rt, alloc, begun, pool, *author)?;
+        hears_all(rt, alloc, begun, pool, author)?;
     }
     Ok(())
-}
-
-fn hear_of_pool(rt: &impl Abort, alloc: Global, begun: &mut Vec<Op>) -> Result<(), Fail> {
-    join_new(rt, alloc, begun, &[], 1, BEGUN)?;
-    let mut pool = Vec::new(alloc);
-    all_hear_all(rt, alloc, begun, &mut pool)
 }
 
 #[test]
 fn three_that_hear_all_in_their_own_orders_show_the_same(rt: HostRuntime) -> Result<(), Fail> {
     let mut begun = Vec::new(rt.alloc());
-    hear_of_pool(&rt, rt.alloc(), &mut begun)
+    let mut pool = Vec::new(rt.alloc());
+    all_hear_all(&rt, rt.alloc(), &mut begun, &mut pool)
 }

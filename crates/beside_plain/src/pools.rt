@@ -36,18 +36,18 @@ pub const POOL: &[Line] = &[
     Delete((9, 1)),
 ];
 
-/// One more operation of the pool for both, which then show the same.
-fn step_beside(
+/// One more operation for both, which then show the same.
+pub fn step_beside(
     rt: &impl Abort,
     alloc: Global,
     replica: &mut Replica,
     plain: &mut Plain,
     tally: &mut Tally,
-    line: Line,
+    op: &Op,
 ) -> Result<(), Fail> {
-    feed_one(rt, replica, op(rt, alloc, line)?, tally)?;
-    plain.take_in(op(rt, alloc, line)?)?;
-    holds_at(rt, &line, is_beside(alloc, replica, plain)?);
+    feed_one(rt, replica, op.clone_in(alloc)?, tally)?;
+    plain.take_in(op.clone_in(alloc)?)?;
+    holds_at(rt, op, is_beside(alloc, replica, plain)?);
     Ok(())
 }
 
@@ -73,8 +73,8 @@ pub fn keep_beside(
 ) -> Result<(), Fail> {
     let mut tally = Tally::default();
     for turn in 0..POOL.len() {
-        let line = line_at(order, turn);
-        step_beside(rt, alloc, replica, plain, &mut tally, line)?;
+        let op = op(rt, alloc, line_at(order, turn))?;
+        step_beside(rt, alloc, replica, plain, &mut tally, &op)?;
     }
     Ok(())
 }
@@ -127,18 +127,6 @@ fn keep_both(
     Ok(())
 }
 
-fn keep_line(
-    rt: &impl Abort,
-    alloc: Global,
-    replica: &mut Replica,
-    plain: &mut Plain,
-    kept: &mut Kept,
-    line: Line,
-) -> Result<(), Fail> {
-    let op = op(rt, alloc, line)?;
-    keep_both(rt, alloc, replica, plain, kept, &op)
-}
-
 /// Feeds the pool to both, and compares what each has taken in.
 fn keep_pool(
     rt: &impl Abort,
@@ -149,32 +137,22 @@ fn keep_pool(
     order: (usize, usize),
 ) -> Result<(), Fail> {
     for turn in 0..POOL.len() {
-        let line = line_at(order, turn);
-        keep_line(rt, alloc, replica, plain, kept, line)?;
+        let op = op(rt, alloc, line_at(order, turn))?;
+        keep_both(rt, alloc, replica, plain, kept, &op)?;
     }
     assert!(rt; is_beside(alloc, replica, plain)?);
     assert!(rt; kept.by_replica == kept.by_plain && !kept.by_plain.is_empty());
     Ok(())
 }
 
-fn keep_with(
-    rt: &impl Abort,
-    alloc: Global,
-    replica: &mut Replica,
-    plain: &mut Plain,
-    order: (usize, usize),
-) -> Result<(), Fail> {
+fn keeps_copies(rt: &impl Abort, alloc: Global, order: (usize, usize)) -> Result<(), Fail> {
+    let mut replica = Replica::new(alloc, 7, 100, 100)?;
+    let mut plain = Plain::new(alloc);
     let mut kept = Kept {
         by_replica: Vec::new(alloc),
         by_plain: Vec::new(alloc),
     };
-    keep_pool(rt, alloc, replica, plain, &mut kept, order)
-}
-
-fn keeps_copies(rt: &impl Abort, alloc: Global, order: (usize, usize)) -> Result<(), Fail> {
-    let mut replica = Replica::new(alloc, 7, 100, 100)?;
-    let mut plain = Plain::new(alloc);
-    let done = keep_with(rt, alloc, &mut replica, &mut plain, order);
+    let done = keep_pool(rt, alloc, &mut replica, &mut plain, &mut kept, order);
     drop(replica);
     done
 }
