@@ -3,8 +3,7 @@
 use crate::assertions::equal;
 use crate::edits::Edit::{self, Add, Cut, Put};
 use crate::edits::make;
-use crate::plain::Plain;
-use crate::replicas::{feed_ops, writes, writes_same};
+use crate::replicas::{feed_ops, writes, writes_as_plain};
 use bulk_world::{Summary, bulk};
 use outer_ports::MemSink;
 use replica_core::Replica;
@@ -20,10 +19,6 @@ const LETTERS: [&str; 26] = [
     "a", "b", "c", "d", "e", "f", "g", "h", "i", "j", "k", "l", "m", "n", "o", "p", "q", "r", "s",
     "t", "u", "v", "w", "x", "y", "z",
 ];
-
-fn next(x: u32) -> u32 {
-    x.wrapping_mul(1_664_525).wrapping_add(1_013_904_223)
-}
 
 /// What the number asks for, where so many scalars are shown.
 fn edit_of(x: u32, shown: usize) -> Edit {
@@ -42,17 +37,6 @@ fn take_turn(rt: &impl Abort, alloc: Global, replica: &mut Replica, x: u32) -> R
     Ok(())
 }
 
-fn is_plain_too(alloc: Global, replica: &Replica, plain: &mut Plain) -> Result<bool, Fail> {
-    plain.take_all(alloc, replica.accepted())?;
-    Ok(plain.waiting.is_empty() && writes_same(alloc, replica, &plain.accepted)?)
-}
-
-/// A plain replica that accepts the same operations has the same manuscript.
-fn is_plain(alloc: Global, replica: &Replica) -> Result<bool, Fail> {
-    let mut plain = Plain::new(alloc);
-    is_plain_too(alloc, replica, &mut plain)
-}
-
 fn sum_of(text: &[u8]) -> u32 {
     let mut sum = 0u32;
     let mut place = 1u32;
@@ -64,39 +48,37 @@ fn sum_of(text: &[u8]) -> u32 {
 }
 
 /// The section's text is what stands between its title and the last line's end.
-fn text_of(manuscript: &[u8]) -> Option<&[u8]> {
-    manuscript
-        .strip_prefix(b"# B\n".as_slice())?
-        .strip_suffix(b"\n".as_slice())
-}
-
 fn tell(
+    rt: &impl Abort,
     alloc: Global,
     first: &Replica,
     second: &Replica,
     manuscript: &[u8],
-) -> Result<Option<Summary>, Fail> {
-    let Some(text) = text_of(manuscript) else {
-        return Ok(None);
-    };
-    Ok(Some(Summary {
+) -> Result<Summary, Fail> {
+    let behind = manuscript.strip_prefix(b"# B\n".as_slice());
+    let behind = behind.expect(rt, "a title");
+    let text = behind.strip_suffix(b"\n".as_slice());
+    let text = text.expect(rt, "a line end");
+    Ok(Summary {
         operations: first.accepted().len(),
         scalars: text.len(),
         sum: sum_of(text),
         is_equal: writes(alloc, second, manuscript)?,
-    }))
+    })
 }
 
+/// A plain replica that accepts the same operations has the same manuscript.
 fn tell_both(
     rt: &impl Abort,
     alloc: Global,
     first: &Replica,
     second: &Replica,
-) -> Result<Option<Summary>, Fail> {
-    assert!(rt; is_plain(alloc, first)? && is_plain(alloc, second)?);
+) -> Result<Summary, Fail> {
+    assert!(rt; writes_as_plain(alloc, first, first.accepted())?);
+    assert!(rt; writes_as_plain(alloc, second, second.accepted())?);
     let mut printed = MemSink::new(alloc, 4096, Vec::new(alloc));
     first.write_manuscript(&mut printed)?;
-    tell(alloc, first, second, printed.written())
+    tell(rt, alloc, first, second, printed.written())
 }
 
 /// Each hears what the other has made. The first operation is known to both.
@@ -121,12 +103,12 @@ fn make_by_turns(
     alloc: Global,
     first: &mut Replica,
     second: &mut Replica,
-) -> Result<Option<Summary>, Fail> {
+) -> Result<Summary, Fail> {
     make(rt, alloc, first, Add(0, "B"))??;
     feed_ops(rt, alloc, second, first.accepted())?;
     let mut x = SEED;
     for turn in 1..=TURNS {
-        x = next(x);
+        x = x.wrapping_mul(1_664_525).wrapping_add(1_013_904_223);
         if turn % 2 == 1 {
             take_turn(rt, alloc, first, x)?;
         } else {
@@ -137,20 +119,16 @@ fn make_by_turns(
     tell_both(rt, alloc, first, second)
 }
 
-fn made_with_second(
-    rt: &impl Abort,
-    alloc: Global,
-    first: &mut Replica,
-) -> Result<Option<Summary>, Fail> {
-    let mut second = Replica::new(alloc, 2, 100, 1000)?;
-    let summary = make_by_turns(rt, alloc, first, &mut second);
-    drop(second);
-    summary
-}
-
-fn made(rt: &impl Abort, alloc: Global) -> Result<Option<Summary>, Fail> {
+fn made(rt: &impl Abort, alloc: Global) -> Result<Summary, Fail> {
     let mut first = Replica::new(alloc, 1, 100, 1000)?;
-    let summary = made_with_second(rt, alloc, &mut first);
+    let summary = match Replica::new(alloc, 2, 100, 1000) {
+        Ok(mut second) => {
+            let summary = make_by_turns(rt, alloc, &mut first, &mut second);
+            drop(second);
+            summary
+        }
+        Err(fault) => Err(Fail::from(fault)),
+    };
     drop(first);
     summary
 }
@@ -158,7 +136,7 @@ fn made(rt: &impl Abort, alloc: Global) -> Result<Option<Summary>, Fail> {
 #[test]
 fn a_bulk_manuscript_is_that_of_plain_replicas(rt: HostRuntime) -> Result<(), Fail> {
     let told = bulk(rt.alloc(), SEED, TURNS)?;
-    equal(&rt, made(&rt, rt.alloc())?, Some(told));
+    equal(&rt, made(&rt, rt.alloc())?, told);
     equal(&rt, told.operations, 201);
     assert!(rt; told.is_equal);
     Ok(())

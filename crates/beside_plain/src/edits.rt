@@ -4,7 +4,7 @@ use crate::assertions::{equal, equal_at, holds_at};
 use crate::op_lines::Line::{Delete, Section, Text};
 use crate::op_lines::{Line, NONE, SECTION, T, id, op};
 use crate::replicas::{feed_lines, writes};
-use fugue_ids::{Op, Title};
+use fugue_ids::Title;
 use replica_core::{EditFault, Replica, Tally};
 use std::alloc::Global;
 use std::process::Abort;
@@ -38,13 +38,14 @@ pub fn make(
     }
 }
 
-/// The operations that come first, and then edits with their answers.
-#[derive(Clone, Copy, Debug)]
+/// The operations that come first, how many of them wait, edits with their answers, the manuscript that is shown then, and the operations that are accepted, where the row tells them.
 struct Row {
     most: u32,
     lines: &'static [Line],
+    waiting: usize,
     edits: &'static [(Edit, Answer)],
     text: &'static str,
+    accepted: Option<&'static [Line]>,
 }
 
 const SPENT: Answer = Err(EditFault::IdsSpent(4_294_967_295));
@@ -60,6 +61,7 @@ const ROWS: &[Row] = &[
     Row {
         most: 100,
         lines: &[],
+        waiting: 0,
         edits: &[
             (Add(0, "T"), Ok(1)),
             (Put(0, 0, "AB"), Ok(2)),
@@ -67,10 +69,12 @@ const ROWS: &[Row] = &[
             (Put(0, 1, "C"), Ok(1)),
         ],
         text: "# T\nAC\n",
+        accepted: None,
     },
     Row {
         most: 100,
         lines: &[],
+        waiting: 0,
         edits: &[
             (Add(0, "T"), Ok(1)),
             (Put(0, 0, "e\u{301}f"), Ok(3)),
@@ -79,20 +83,24 @@ const ROWS: &[Row] = &[
             (Cut(0, 9, 1), OUT_OF_RANGE),
         ],
         text: "# T\nXf\n",
+        accepted: None,
     },
     Row {
         most: 100,
         lines: &[],
+        waiting: 0,
         edits: &[
             (Drop(0), NO_SECTION),
             (Put(0, 9, ""), NO_SECTION),
             (Cut(0, 9, 0), NO_SECTION),
         ],
         text: "",
+        accepted: None,
     },
     Row {
         most: 3,
         lines: &[],
+        waiting: 0,
         edits: &[
             (Add(0, "T"), Ok(1)),
             (Put(0, 0, "ABC"), Err(EditFault::TooMany(1))),
@@ -104,16 +112,20 @@ const ROWS: &[Row] = &[
             (Cut(0, 2, 0), Ok(0)),
         ],
         text: "# T\nAB\n",
+        accepted: None,
     },
     Row {
         most: 2,
         lines: &[T, WAITING],
+        waiting: 1,
         edits: &[(Put(0, 0, "x"), Err(EditFault::TooMany(2)))],
         text: "# T\n\n",
+        accepted: None,
     },
     Row {
         most: 5,
         lines: &[T, Text((1, 4_294_967_295), SECTION, NONE, NONE, 'x')],
+        waiting: 0,
         edits: &[
             (Put(0, 0, "yyyyy"), SPENT),
             (Put(0, 2, "y"), OUT_OF_RANGE),
@@ -123,19 +135,23 @@ const ROWS: &[Row] = &[
             (Drop(0), Ok(1)),
         ],
         text: "",
+        accepted: None,
     },
     Row {
         most: 100,
         lines: &[T, Text((1, 4_294_967_293), SECTION, NONE, NONE, 'x')],
+        waiting: 0,
         edits: &[
             (Put(0, 1, "abc"), Err(EditFault::IdsSpent(4_294_967_293))),
             (Put(0, 1, "ab"), Ok(2)),
         ],
         text: "# T\nxab\n",
+        accepted: None,
     },
     Row {
         most: 100,
         lines: &[],
+        waiting: 0,
         edits: &[
             (Add(0, "T"), Ok(1)),
             (Put(0, 0, "AB"), Ok(2)),
@@ -147,48 +163,32 @@ const ROWS: &[Row] = &[
             (Drop(0), Ok(1)),
         ],
         text: "# T\nA-B\n",
+        accepted: None,
+    },
+    // A text in front of a deleted one, behind an identifier that waits.
+    Row {
+        most: 100,
+        lines: &[T, WAITING],
+        waiting: 1,
+        edits: &[
+            (Put(0, 0, "AB"), Ok(2)),
+            (Cut(0, 1, 1), Ok(1)),
+            (Put(0, 1, "C"), Ok(1)),
+            (Add(1, "U"), Ok(1)),
+            (Drop(0), Ok(1)),
+        ],
+        text: "# U\n\n",
+        accepted: Some(&[
+            T,
+            Text((1, 1), SECTION, NONE, NONE, 'A'),
+            Text((1, 2), SECTION, (1, 1), NONE, 'B'),
+            Delete((1, 2)),
+            Text((1, 3), SECTION, (1, 1), (1, 2), 'C'),
+            Section((1, 4), SECTION, NONE, "U"),
+            Delete(SECTION),
+        ]),
     },
 ];
-
-/// Feeds the operations of the lines, whatever the counts are.
-fn feed(rt: &impl Abort, alloc: Global, replica: &mut Replica, lines: &[Line]) -> Result<(), Fail> {
-    let mut tally = Tally::default();
-    feed_lines(rt, alloc, replica, lines, &mut tally)
-}
-
-fn answer_row(
-    rt: &impl Abort,
-    alloc: Global,
-    replica: &mut Replica,
-    row: &Row,
-) -> Result<(), Fail> {
-    feed(rt, alloc, replica, row.lines)?;
-    for (edit, answer) in row.edits {
-        equal_at(rt, edit, make(rt, alloc, replica, *edit)?, *answer);
-    }
-    holds_at(rt, row, writes(alloc, replica, row.text.as_bytes())?);
-    Ok(())
-}
-
-fn answers_row(rt: &impl Abort, alloc: Global, row: &Row) -> Result<(), Fail> {
-    let mut replica = Replica::new(alloc, 1, 100, row.most)?;
-    let done = answer_row(rt, alloc, &mut replica, row);
-    drop(replica);
-    done
-}
-
-#[test]
-fn edits_answer_and_show_what_was_asked(rt: HostRuntime) -> Result<(), Fail> {
-    for row in ROWS {
-        answers_row(&rt, rt.alloc(), row)?;
-    }
-    Ok(())
-}
-
-fn is_op(rt: &impl Abort, alloc: Global, found: &Op, line: Line) -> Result<bool, Fail> {
-    let wanted = op(rt, alloc, line)?;
-    Ok(*found == wanted)
-}
 
 /// The replica's accepted operations are those of the lines.
 fn has_accepted(
@@ -199,56 +199,50 @@ fn has_accepted(
 ) -> Result<(), Fail> {
     equal(rt, replica.accepted().len(), lines.len());
     for (accepted, line) in replica.accepted().iter().zip(lines) {
-        holds_at(rt, line, is_op(rt, alloc, accepted, *line)?);
+        let wanted = op(rt, alloc, *line)?;
+        holds_at(rt, line, *accepted == wanted);
     }
     Ok(())
 }
 
-/// A text in front of a deleted one, behind an identifier that waits.
-fn makes_operations(rt: &impl Abort, alloc: Global, replica: &mut Replica) -> Result<(), Fail> {
-    feed(rt, alloc, replica, &[T, WAITING])?;
-    for edit in [
-        Put(0, 0, "AB"),
-        Cut(0, 1, 1),
-        Put(0, 1, "C"),
-        Add(1, "U"),
-        Drop(0),
-    ] {
-        make(rt, alloc, replica, edit)??;
+fn answer_row(
+    rt: &impl Abort,
+    alloc: Global,
+    replica: &mut Replica,
+    row: &Row,
+) -> Result<(), Fail> {
+    feed_lines(rt, alloc, replica, row.lines, &mut Tally::default())?;
+    for (edit, answer) in row.edits {
+        equal_at(rt, edit, make(rt, alloc, replica, *edit)?, *answer);
     }
-    let lines = [
-        T,
-        Text((1, 1), SECTION, NONE, NONE, 'A'),
-        Text((1, 2), SECTION, (1, 1), NONE, 'B'),
-        Delete((1, 2)),
-        Text((1, 3), SECTION, (1, 1), (1, 2), 'C'),
-        Section((1, 4), SECTION, NONE, "U"),
-        Delete(SECTION),
-    ];
-    has_accepted(rt, alloc, replica, &lines)?;
-    equal(rt, replica.waiting().len(), 1);
-    Ok(())
+    equal_at(rt, &row.edits, replica.waiting().len(), row.waiting);
+    let is_written = writes(alloc, replica, row.text.as_bytes())?;
+    holds_at(rt, &row.edits, is_written);
+    match row.accepted {
+        Some(lines) => has_accepted(rt, alloc, replica, lines),
+        None => Ok(()),
+    }
 }
 
-#[test]
-fn edits_make_their_operations_at_the_end(rt: HostRuntime) -> Result<(), Fail> {
-    let mut replica = Replica::new(rt.alloc(), 1, 100, 100)?;
-    let done = makes_operations(&rt, rt.alloc(), &mut replica);
+fn answers_row(rt: &impl Abort, alloc: Global, row: &Row) -> Result<(), Fail> {
+    let mut replica = Replica::new(alloc, 1, 100, row.most)?;
+    let done = answer_row(rt, alloc, &mut replica, row);
     drop(replica);
     done
 }
 
-fn has_text(replica: &Replica, section: usize, wanted: &str) -> Result<bool, Fail> {
-    match replica.text_of(section)? {
-        Some(text) => Ok(text.as_str() == wanted),
-        None => Ok(false),
+#[test]
+fn edits_answer_show_and_make_what_was_asked(rt: HostRuntime) -> Result<(), Fail> {
+    for row in ROWS {
+        answers_row(&rt, rt.alloc(), row)?;
     }
+    Ok(())
 }
 
 const SECTIONS: &[Line] = &[T, Section((9, 1), SECTION, NONE, "U"), Delete(SECTION)];
 
 fn tells_what_is_shown(rt: &impl Abort, alloc: Global, replica: &mut Replica) -> Result<(), Fail> {
-    feed(rt, alloc, replica, SECTIONS)?;
+    feed_lines(rt, alloc, replica, SECTIONS, &mut Tally::default())?;
     make(rt, alloc, replica, Put(0, 0, "aé€"))??;
     make(rt, alloc, replica, Cut(0, 0, 1))??;
     equal(rt, replica.section_count(), 1);
@@ -257,13 +251,14 @@ fn tells_what_is_shown(rt: &impl Abort, alloc: Global, replica: &mut Replica) ->
         (replica.text_len(0), replica.text_len(1)),
         (Some(2), None),
     );
-    assert!(rt; has_text(replica, 0, "é€")?);
     assert!(rt; replica.text_of(1)?.is_none());
     equal(
         rt,
         (replica.holds(id(rt, (1, 2))), replica.holds(id(rt, (1, 3)))),
         (true, false),
     );
+    let text = replica.text_of(0)?.expect(rt, "a section");
+    equal(rt, text.as_str(), "é€");
     Ok(())
 }
 

@@ -3,7 +3,7 @@
 use crate::assertions::{equal, holds_at};
 use crate::beside::{Beside, fill};
 use crate::op_lines::Line::{Delete, Section, Text};
-use crate::op_lines::{A, B, BACKWARDS, D, HIDDEN, Line, NONE, OTHER, SECTION, T, X, Y, id};
+use crate::op_lines::{A, B, BACKWARDS, D, HIDDEN, Line, NONE, Name, OTHER, SECTION, T, X, Y, id};
 use crate::plain::prints;
 use fugue_ids::ElementId;
 use origin_model::Place;
@@ -61,18 +61,10 @@ fn compare_place(
     same(rt, &visible(alloc, list)?, &beside.replica.shown(place)?);
     let all = elements(alloc, list)?;
     same(rt, &all, &beside.replica.elements(place)?);
-    have_place(rt, beside, &all, &place);
-    Ok(())
-}
-
-fn has_place(beside: &Beside, id: ElementId, place: &Place) -> bool {
-    beside.manuscript.place_of(id) == Some(*place)
-}
-
-fn have_place(rt: &impl Abort, beside: &Beside, ids: &[ElementId], place: &Place) {
-    for id in ids {
-        assert!(rt; has_place(beside, *id, place));
+    for id in &all {
+        equal(rt, beside.manuscript.place_of(*id), Some(place));
     }
+    Ok(())
 }
 
 fn compare_sections(
@@ -104,7 +96,10 @@ fn prints_all(alloc: Global, manuscript: &Manuscript, text: &[u8]) -> Result<boo
     Ok(printed.written() == text)
 }
 
-/// Both sides hold the operations of the lines, and print this text.
+/// No line has it.
+const UNKNOWN: Name = (8, 8);
+
+/// Both sides hold the operations of the lines, and print this text. What they do not hold has no place.
 fn compare(
     rt: &impl Abort,
     alloc: Global,
@@ -117,6 +112,11 @@ fn compare(
     let text = wanted.as_bytes();
     holds_at(rt, &wanted, prints_all(alloc, &beside.manuscript, text)?);
     holds_at(rt, &wanted, prints(alloc, &beside.replica, text)?);
+    let manuscript = &beside.manuscript;
+    equal(rt, manuscript.place_of(id(rt, UNKNOWN)), None);
+    equal(rt, manuscript.section_at(manuscript.section_count()), None);
+    // A text, where it is held.
+    assert!(rt; manuscript.section(id(rt, (1, 0))).is_none());
     Ok(())
 }
 
@@ -181,20 +181,4 @@ fn a_manuscript_lists_shows_and_prints_what_the_plain_replica_does(
         compare_lines(&rt, rt.alloc(), lines, wanted)?;
     }
     Ok(())
-}
-
-fn find_nothing(rt: &impl Abort, alloc: Global, beside: &mut Beside) -> Result<(), Fail> {
-    fill(rt, alloc, beside, &[T, B])?;
-    equal(rt, beside.manuscript.place_of(id(rt, OTHER)), None);
-    assert!(rt; beside.manuscript.section(id(rt, (1, 0))).is_none());
-    equal(rt, beside.manuscript.section_at(1), None);
-    Ok(())
-}
-
-#[test]
-fn what_is_not_held_has_no_place(rt: HostRuntime) -> Result<(), Fail> {
-    let mut beside = Beside::new(rt.alloc());
-    let done = find_nothing(&rt, rt.alloc(), &mut beside);
-    drop(beside);
-    done
 }

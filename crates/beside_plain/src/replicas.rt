@@ -5,7 +5,8 @@ ghost use Rattle.replica_core.specs.Told.{StaysBelow};
 
 use crate::assertions::{equal, equal_at, holds_at};
 use crate::op_lines::Line::{Delete, Text};
-use crate::op_lines::{A, B, D, Line, NONE, SECTION, T, X, Y, id, op};
+use crate::op_lines::{A, B, D, Line, NONE, SECTION, T, X, Y, op};
+use crate::plain::Plain;
 use fugue_ids::Op;
 use origin_model::PlainReplica;
 use outer_ports::MemSink;
@@ -50,7 +51,7 @@ pub fn feed_one(
     Ok(())
 }
 
-fn counts(accepted: u32, conflict: u32, stray: u32, full: u32) -> Tally {
+pub fn counts(accepted: u32, conflict: u32, stray: u32, full: u32) -> Tally {
     Tally {
         accepted,
         repeated: 0,
@@ -61,19 +62,11 @@ fn counts(accepted: u32, conflict: u32, stray: u32, full: u32) -> Tally {
 }
 
 /// The manuscript that is shown, the counts, and how many wait.
-#[derive(Clone, Copy, Debug, PartialEq, Eq)]
+#[derive(Clone, Copy)]
 pub struct Shown {
     pub text: &'static str,
     pub counts: Tally,
     pub waiting: usize,
-}
-
-pub fn all_accepted(text: &'static str, accepted: u32) -> Shown {
-    Shown {
-        text,
-        counts: counts(accepted, 0, 0, 0),
-        waiting: 0,
-    }
 }
 
 /// Whether this manuscript is written.
@@ -90,18 +83,20 @@ pub fn writes_same(alloc: Global, replica: &Replica, plain: &PlainReplica) -> Re
     writes(alloc, replica, wanted.written())
 }
 
-fn compare_shown(
-    rt: &impl Abort,
+fn writes_as(
     alloc: Global,
     replica: &Replica,
-    tally: &Tally,
-    want: &Shown,
-) -> Result<(), Fail> {
-    holds_at(rt, want, writes(alloc, replica, want.text.as_bytes())?);
-    equal(rt, *tally, want.counts);
-    equal(rt, replica.waiting().len(), want.waiting);
-    equal(rt, replica.accepted().len(), tally.accepted as usize);
-    Ok(())
+    plain: &mut Plain,
+    ops: &[Op],
+) -> Result<bool, Fail> {
+    plain.take_all(alloc, ops)?;
+    Ok(plain.waiting.is_empty() && writes_same(alloc, replica, &plain.accepted)?)
+}
+
+/// Whether a plain replica accepts these operations, and its manuscript is written.
+pub fn writes_as_plain(alloc: Global, replica: &Replica, ops: &[Op]) -> Result<bool, Fail> {
+    let mut plain = Plain::new(alloc);
+    writes_as(alloc, replica, &mut plain, ops)
 }
 
 /// Feeds the operations of the lines.
@@ -141,7 +136,16 @@ fn feed_all(
 ) -> Result<(), Fail> {
     let mut tally = Tally::default();
     feed_lines(rt, alloc, replica, lines, &mut tally)?;
-    compare_shown(rt, alloc, replica, &tally, want)
+    holds_at(
+        rt,
+        &want.text,
+        writes(alloc, replica, want.text.as_bytes())?,
+    );
+    equal_at(rt, &want.text, tally, want.counts);
+    equal_at(rt, &want.text, replica.waiting().len(), want.waiting);
+    let accepted = replica.accepted().len();
+    equal_at(rt, &want.text, accepted, want.counts.accepted as usize);
+    Ok(())
 }
 
 /// Feeds the operations to a new replica, and looks at what it shows.
@@ -166,14 +170,15 @@ const SECOND: Line = Text((1, 1), SECTION, (1, 0), NONE, 'b');
 const MISFIT: Line = Text((2, 0), (1, 0), NONE, NONE, 'x');
 
 #[test]
-fn operations_backwards_show_the_text(rt: HostRuntime) -> Result<(), Fail> {
-    let want = all_accepted("# T\nAXYDB\n", 6);
-    shows(&rt, rt.alloc(), 5, &[Y, X, D, A, B, T], want)
-}
-
-#[test]
-fn what_is_not_taken_is_counted(rt: HostRuntime) -> Result<(), Fail> {
-    let table: [(u32, &[Line], &'static str, Tally, usize); 5] = [
+fn what_is_taken_is_shown_and_what_is_not_is_counted(rt: HostRuntime) -> Result<(), Fail> {
+    let table: [(u32, &[Line], &'static str, Tally, usize); 6] = [
+        (
+            5,
+            &[Y, X, D, A, B, T],
+            "# T\nAXYDB\n",
+            counts(6, 0, 0, 0),
+            0,
+        ),
         (
             1,
             &[FIRST, SECOND, T, SECOND],
@@ -203,16 +208,6 @@ fn what_is_not_taken_is_counted(rt: HostRuntime) -> Result<(), Fail> {
     Ok(())
 }
 
-fn new_fault(alloc: Global, number: u32, hold: u32, most: u32) -> Option<NewFault> {
-    match Replica::new(alloc, number, hold, most) {
-        Ok(replica) => {
-            drop(replica);
-            None
-        }
-        Err(fault) => Some(fault),
-    }
-}
-
 #[test]
 fn numbers_out_of_range_make_no_replica(rt: HostRuntime) {
     for (number, hold, most, want) in [
@@ -222,31 +217,8 @@ fn numbers_out_of_range_make_no_replica(rt: HostRuntime) {
         (1, 1_048_576, 0, NewFault::BadMost),
         (1, 1, 4_194_305, NewFault::BadMost),
     ] {
-        equal(&rt, new_fault(rt.alloc(), number, hold, most), Some(want));
-    }
-}
-
-/// What settling did, and of which element.
-fn settle_one(replica: &mut Replica) -> Result<&'static str, Fail> {
-    match replica.settle_one()? {
-        Some(Settled::Accepted(_op)) => Ok("accepted"),
-        Some(Settled::DroppedStray(_op)) => Ok("dropped"),
-        None => Ok("nothing"),
-    }
-}
-
-fn deliver(rt: &impl Abort, replica: &mut Replica, op: Op) -> Result<Taken, Fail> {
-    assert!(rt; replica.is_settled());
-    Ok(replica.deliver(op)?)
-}
-
-/// The number that a refusal names.
-fn refused_at(rt: &impl Abort, replica: &mut Replica, op: Op) -> u32 {
-    assert!(rt; replica.is_settled());
-    match replica.deliver(op) {
-        Err(DeliverFault::TooMany(_op, most)) => most,
-        Err(_fault) => 0,
-        Ok(_taken) => 0,
+        let fault = Replica::new(rt.alloc(), number, hold, most).err();
+        equal(&rt, fault, Some(want));
     }
 }
 
@@ -258,8 +230,13 @@ fn deliver_line(
     line: Line,
     want: (Taken, &'static str),
 ) -> Result<(), Fail> {
-    let taken = deliver(rt, replica, op(rt, alloc, line)?)?;
-    let settled = settle_one(replica)?;
+    assert!(rt; replica.is_settled());
+    let taken = replica.deliver(op(rt, alloc, line)?)?;
+    let settled = match replica.settle_one()? {
+        Some(Settled::Accepted(_op)) => "accepted",
+        Some(Settled::DroppedStray(_op)) => "dropped",
+        None => "nothing",
+    };
     equal_at(rt, &line, (taken, settled), want);
     Ok(())
 }
@@ -274,7 +251,13 @@ fn deliver_in_turn(rt: &impl Abort, alloc: Global, replica: &mut Replica) -> Res
     ] {
         deliver_line(rt, alloc, replica, line, (want, settled))?;
     }
-    equal(rt, refused_at(rt, replica, op(rt, alloc, SECOND)?), 3);
+    assert!(rt; replica.is_settled());
+    let most = match replica.deliver(op(rt, alloc, SECOND)?) {
+        Err(DeliverFault::TooMany(_op, most)) => Some(most),
+        Err(_fault) => None,
+        Ok(_taken) => None,
+    };
+    equal(rt, most, Some(3));
     Ok(())
 }
 

@@ -3,62 +3,48 @@
 use crate::assertions::equal_at;
 use crate::op_lines::Line::Text;
 use crate::op_lines::{A, B, BACKWARDS, D, HIDDEN, Line, NONE, SECTION, T, X, Y, op};
-use crate::replicas::{all_accepted, shows};
+use crate::replicas::{Shown, counts, shows};
 use origin_model::{PlainReplica, Verdict};
 use std::alloc::Global;
 use std::process::Abort;
 use std::test::Fail;
 
-/// Whether the operation was Ready. Then it is accepted.
-fn is_accepted(
-    rt: &impl Abort,
-    alloc: Global,
-    plain: &mut PlainReplica,
-    line: Line,
-) -> Result<bool, Fail> {
-    let op = op(rt, alloc, line)?;
-    if plain.verdict(&op) != Verdict::Ready {
-        return Ok(false);
-    }
-    plain.accept(op)?;
-    Ok(true)
-}
-
 /// Accepts the operations in the order of that number, as far as each is Ready on those before it, and lists them.
-fn order_ready(
+fn accept_ready(
     rt: &impl Abort,
     alloc: Global,
     plain: &mut PlainReplica,
-    remaining: &mut Vec<Line>,
-    ordered: &mut Vec<Line>,
+    row: &[Line],
     number: usize,
-) -> Result<(), Fail> {
+) -> Result<Vec<Line>, Fail> {
+    let mut remaining = Vec::from_slice(alloc, row)?;
+    let mut ordered = Vec::new(alloc);
     let mut digits = number;
-    for _ in 0..remaining.len() {
+    for _ in 0..row.len() {
         let choices = remaining.len();
         if choices == 0 {
             break;
         }
         let line = remaining.remove(digits % choices);
         digits /= choices;
-        if !is_accepted(rt, alloc, plain, line)? {
+        let op = op(rt, alloc, line)?;
+        if plain.verdict(&op) != Verdict::Ready {
             break;
         }
+        plain.accept(op)?;
         ordered.push(line)?;
     }
-    Ok(())
+    Ok(ordered)
 }
 
 fn list_ready(
     rt: &impl Abort,
     alloc: Global,
     row: &[Line],
-    ordered: &mut Vec<Line>,
     number: usize,
-) -> Result<(), Fail> {
-    let mut remaining = Vec::from_slice(alloc, row)?;
+) -> Result<Vec<Line>, Fail> {
     let mut plain = PlainReplica::new(alloc);
-    order_ready(rt, alloc, &mut plain, &mut remaining, ordered, number)
+    accept_ready(rt, alloc, &mut plain, row, number)
 }
 
 /// Whether the order is ready. After it all operations are accepted, and the text is shown.
@@ -66,28 +52,20 @@ fn is_ready(
     rt: &impl Abort,
     alloc: Global,
     row: &[Line],
-    ordered: &mut Vec<Line>,
     number: usize,
     text: &'static str,
 ) -> Result<bool, Fail> {
-    list_ready(rt, alloc, row, ordered, number)?;
+    let ordered = list_ready(rt, alloc, row, number)?;
     if ordered.len() < row.len() {
         return Ok(false);
     }
-    let accepted = u32::try_from(row.len()).unwrap_or(0);
-    shows(rt, alloc, 1, ordered, all_accepted(text, accepted))?;
+    let want = Shown {
+        text,
+        counts: counts(u32::try_from(row.len()).unwrap_or(0), 0, 0, 0),
+        waiting: 0,
+    };
+    shows(rt, alloc, 1, &ordered, want)?;
     Ok(true)
-}
-
-fn is_ready_order(
-    rt: &impl Abort,
-    alloc: Global,
-    row: &[Line],
-    number: usize,
-    text: &'static str,
-) -> Result<bool, Fail> {
-    let mut ordered = Vec::new(alloc);
-    is_ready(rt, alloc, row, &mut ordered, number, text)
 }
 
 /// How many of the orders are ready.
@@ -100,7 +78,7 @@ fn count_ready(
 ) -> Result<u32, Fail> {
     let mut ready: u32 = 0;
     for number in 0..orders {
-        if is_ready_order(rt, alloc, row, number, text)? {
+        if is_ready(rt, alloc, row, number, text)? {
             ready = ready.saturating_add(1);
         }
     }

@@ -3,8 +3,7 @@
 use crate::assertions::equal;
 use crate::edits::Edit::{self, Add, Cut, Drop, Put};
 use crate::edits::make;
-use crate::plain::Plain;
-use crate::replicas::{feed_ops, writes_same};
+use crate::replicas::{feed_ops, writes_as_plain};
 use replica_core::Replica;
 use std::alloc::Global;
 use std::process::Abort;
@@ -79,14 +78,12 @@ fn compare_both(
     alloc: Global,
     first: &Replica,
     second: &Replica,
-    plain: &mut Plain,
 ) -> Result<(), Fail> {
-    plain.take_all(alloc, first.accepted())?;
     assert!(rt; first.accepted().len() > 40);
     equal(rt, first.accepted().len(), second.accepted().len());
     for replica in [first, second] {
         assert!(rt; replica.waiting().is_empty());
-        assert!(rt; writes_same(alloc, replica, &plain.accepted)?);
+        assert!(rt; writes_as_plain(alloc, replica, first.accepted())?);
     }
     Ok(())
 }
@@ -112,17 +109,8 @@ fn edit_by_turns(
     Ok(())
 }
 
-fn show_the_same(
-    rt: &impl Abort,
-    alloc: Global,
-    first: &Replica,
-    second: &Replica,
-) -> Result<(), Fail> {
-    let mut plain = Plain::new(alloc);
-    compare_both(rt, alloc, first, second, &mut plain)
-}
-
-fn edit_and_show(
+/// They edit, and then compare what they show.
+fn edit_and_compare(
     rt: &impl Abort,
     alloc: Global,
     first: &mut Replica,
@@ -130,24 +118,19 @@ fn edit_and_show(
     seed: u64,
 ) -> Result<(), Fail> {
     edit_by_turns(rt, alloc, first, second, seed)?;
-    show_the_same(rt, alloc, first, second)
-}
-
-fn edits_with_second(
-    rt: &impl Abort,
-    alloc: Global,
-    first: &mut Replica,
-    seed: u64,
-) -> Result<(), Fail> {
-    let mut second = Replica::new(alloc, 2, 100, 1000)?;
-    let done = edit_and_show(rt, alloc, first, &mut second, seed);
-    drop(second);
-    done
+    compare_both(rt, alloc, first, second)
 }
 
 fn edits_by_seed(rt: &impl Abort, alloc: Global, seed: u64) -> Result<(), Fail> {
     let mut first = Replica::new(alloc, 1, 100, 1000)?;
-    let done = edits_with_second(rt, alloc, &mut first, seed);
+    let done = match Replica::new(alloc, 2, 100, 1000) {
+        Ok(mut second) => {
+            let done = edit_and_compare(rt, alloc, &mut first, &mut second, seed);
+            drop(second);
+            done
+        }
+        Err(fault) => Err(Fail::from(fault)),
+    };
     drop(first);
     done
 }
