@@ -1,6 +1,7 @@
 ghost use Rattle.std.specs.Prelude.{◌<◌};
 
 use crate::assertions::{equal, equal_at, holds_at};
+use crate::ids::id;
 use fugue_ids::{ElementId, NoMemory, Op, Title};
 use op_frame::{First, FrameFault, FrameFront, FrameReader, encode, encode_all, first_frame};
 use outer_ports::{MemSource, Source, SureSource};
@@ -30,12 +31,6 @@ const FRAMES: [&[u8]; 6] = [
 
 /// Where each of the six frames begins.
 const STARTS: [u64; 6] = [0, 14, 36, 66, 96, 134];
-
-fn id(replica: u32, counter: u32) -> ElementId
-    requires { 0 < replica }
-{
-    ElementId { replica, counter }
-}
 
 fn text(own: ElementId, left: Option<ElementId>, right: Option<ElementId>, ch: char) -> Op {
     Op::Text {
@@ -74,36 +69,31 @@ fn joined(rt: &HostRuntime) -> Result<Vec<u8>, NoMemory> {
 }
 
 #[test]
-fn operations_are_written_byte_for_byte(rt: HostRuntime) -> Result<(), Fail> {
-    let mut out = Vec::new(rt.alloc());
-    for op in &six_operations(&rt)? {
-        encode(op, &mut out)?;
-    }
-    equal(&rt, out.len(), 172);
-    equal(&rt, out.as_slice(), joined(&rt)?.as_slice());
-    Ok(())
-}
-
-#[test]
 fn operations_are_appended_one_behind_the_other(rt: HostRuntime) -> Result<(), Fail> {
+    let frames = joined(&rt)?;
     let mut out = Vec::from_slice(rt.alloc(), b"#")?;
     encode_all(&six_operations(&rt)?, &mut out)?;
+    equal(&rt, frames.len(), 172);
     equal(
         &rt,
         out.strip_prefix(b"#".as_slice()),
-        Some(joined(&rt)?.as_slice()),
+        Some(frames.as_slice()),
     );
     Ok(())
 }
 
-/// Whether the fronts of the frame begin one, and the frame with a byte behind it is this operation's.
-fn is_first(rt: &HostRuntime, op: &Op, frame: &[u8]) -> Result<bool, Fail> {
+/// Whether the operation is written as this frame, whose fronts begin one, and which with a byte behind it is this operation's.
+fn is_framed(rt: &HostRuntime, op: &Op, frame: &[u8]) -> Result<bool, Fail> {
+    let mut bytes = Vec::new(rt.alloc());
+    encode(op, &mut bytes)?;
+    if bytes.as_slice() != frame {
+        return Ok(false);
+    }
     for len in 0..frame.len() {
         if !matches!(first_frame(rt.alloc(), &frame[..len])?, First::Prefix) {
             return Ok(false);
         }
     }
-    let mut bytes = frame.to_vec(rt.alloc())?;
     bytes.push(255)?;
     match first_frame(rt.alloc(), &bytes)? {
         First::Whole(ops, len) => Ok(len == frame.len() && ops.len() == 1 && ops[0] == *op),
@@ -112,9 +102,9 @@ fn is_first(rt: &HostRuntime, op: &Op, frame: &[u8]) -> Result<bool, Fail> {
 }
 
 #[test]
-fn first_frames_are_told_from_fronts(rt: HostRuntime) -> Result<(), Fail> {
+fn operations_are_written_byte_for_byte_and_told_from_fronts(rt: HostRuntime) -> Result<(), Fail> {
     for (op, frame) in six_operations(&rt)?.iter().zip(FRAMES) {
-        holds_at(&rt, &frame, is_first(&rt, op, frame)?);
+        holds_at(&rt, &frame, is_framed(&rt, op, frame)?);
     }
     Ok(())
 }
@@ -157,29 +147,17 @@ fn a_frame_is_bad_from_its_first_wrong_byte(rt: HostRuntime) -> Result<(), Fail>
     Ok(())
 }
 
-/// Whether the reader gives this operation, and at this offset.
-fn gives<S: Source>(
-    reader: &mut FrameReader,
-    source: &mut S,
-    op: &Op,
-    start: u64,
-) -> Result<bool, FrameFault> {
-    match reader.next(source)? {
-        Some(found) => Ok(found == *op && reader.last_at() == start),
-        None => Ok(false),
-    }
-}
-
-/// How many of the operations came, and the answer behind them: whether one more came.
+/// How many of the operations came, each from its offset, and the answer behind them: whether one more came.
 fn read_all<S: Source>(
     reader: &mut FrameReader,
     source: &mut S,
     ops: &[Op],
 ) -> (usize, Result<bool, FrameFault>) {
-    for count in 0..ops.len().min(6) {
-        match gives(reader, source, &ops[count], STARTS[count]) {
-            Ok(true) => {}
-            other => return (count, other),
+    for (count, (op, start)) in ops.iter().zip(STARTS).enumerate() {
+        match reader.next(source) {
+            Ok(Some(found)) if found == *op && reader.last_at() == start => {}
+            Ok(_) => return (count, Ok(false)),
+            Err(fault) => return (count, Err(fault)),
         }
     }
     (ops.len(), reader.next(source).map(|given| given.is_some()))
@@ -192,16 +170,10 @@ fn read_six<S: Source>(
     ops: &[Op],
 ) -> Result<((usize, Result<bool, FrameFault>), Result<bool, FrameFault>), NoMemory> {
     let mut reader = FrameReader::new(rt.alloc(), 172)?;
-    Ok(read_and_again(&mut reader, source, ops))
-}
-
-fn read_and_again<S: Source>(
-    reader: &mut FrameReader,
-    source: &mut S,
-    ops: &[Op],
-) -> ((usize, Result<bool, FrameFault>), Result<bool, FrameFault>) {
-    let answer = read_all(reader, source, ops);
-    (answer, reader.next(source).map(|given| given.is_some()))
+    let answer = read_all(&mut reader, source, ops);
+    let (_, again) = read_all(&mut reader, source, &[]);
+    drop(reader);
+    Ok((answer, again))
 }
 
 #[test]
@@ -256,16 +228,6 @@ fn gives_hundred<S: Source>(
     Ok(reader.next(source)?.is_none())
 }
 
-fn long_operation(rt: &HostRuntime) -> Result<Op, Fail> {
-    let long = str::from_utf8(&[b'x'; 480]).map_err(|_| Fail::new("no text"))?;
-    Ok(Op::Section {
-        id: id(9, 0),
-        left: Some(id(1, 2)),
-        right: Some(id(3, 4)),
-        title: Title::read(rt.alloc(), long)?,
-    })
-}
-
 fn reads_long(rt: &HostRuntime, op: &Op, piece: usize) -> Result<bool, Fail>
     requires { 0 < piece }
 {
@@ -280,7 +242,13 @@ fn reads_long(rt: &HostRuntime, op: &Op, piece: usize) -> Result<bool, Fail>
 
 #[test]
 fn long_streams_go_through_the_buffer(rt: HostRuntime) -> Result<(), Fail> {
-    let op = long_operation(&rt)?;
+    let long = str::from_utf8(&[b'x'; 480]).map_err(|_| Fail::new("no text"))?;
+    let op = Op::Section {
+        id: id(9, 0),
+        left: Some(id(1, 2)),
+        right: Some(id(3, 4)),
+        title: Title::read(rt.alloc(), long)?,
+    };
     for piece in [1, 4_095, 50_900] {
         holds_at(&rt, &piece, reads_long(&rt, &op, piece)?);
     }

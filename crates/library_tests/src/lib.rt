@@ -16,6 +16,8 @@ mod frames;
 #[cfg(test)]
 mod identifiers;
 #[cfg(test)]
+mod ids;
+#[cfg(test)]
 mod log;
 #[cfg(test)]
 mod ports;

@@ -3,7 +3,7 @@ use crate::dice::Dice;
 use Happens::{Goes, Opens, Says};
 use fugue_ids::ByteList;
 use op_frame::{First, first_frame};
-use relay_core::{Event, MOST_LOGGED, NoMemoryFor, Relay, Reply};
+use relay_core::{Event, MOST_LOGGED, Relay, Reply};
 use std::alloc::{AllocError, Global};
 use std::hash::{BuildHasherDefault, FoldHasher};
 use std::process::Abort;
@@ -40,60 +40,61 @@ const BOTH: &[u8] = &[
 const SECOND: &[u8] = &[1, 0, 0, 0, 9, 0, 0, 0, 0, 0, 0, 0, 1, 84, 0x55, 0, 0, 0, 2];
 
 /// What happens to a session.
-#[derive(Clone, Copy, Debug)]
+#[derive(Clone, Copy)]
 enum Happens {
-    Opens(u32),
-    Says(u32, &'static [u8]),
-    Goes(u32),
+    Opens,
+    Says(&'static [u8]),
+    Goes,
 }
 
-/// What happens, and the reply to it; no bytes where there is none.
-type Row = (Happens, &'static [u8]);
+/// A session, what happens to it, and the reply to it; no bytes where there is none.
+type Row = (u32, Happens, &'static [u8]);
 
 /// Two sessions bring a frame each, and are answered both; each later one is read beside that log.
 const ROWS: &[Row] = &[
-    (Opens(0), &[]),
-    (Opens(1), &[]),
-    (Says(0, &[0x48, 0, 0, 0, 0]), &[]),
-    (Says(1, HELLO_TEXT), &[]),
-    (Says(0, SECTION), &[]),
-    (Says(1, &[0x44]), BOTH),
-    (Says(0, &[0x44]), BOTH),
-    (Opens(2), &[]),
-    (Says(2, &[0x48]), &[]),
-    (Says(2, &[0]), &[]),
-    (Says(2, &[0]), &[]),
-    (Says(2, &[0]), &[]),
-    (Says(2, &[1]), &[]),
-    (Says(2, &[0x44]), SECOND),
-    (Opens(3), &[]),
-    (Says(3, &[0x48, 0, 0, 0, 3]), &[0x58, 3]),
+    (0, Opens, &[]),
+    (1, Opens, &[]),
+    (0, Says(&[0x48, 0, 0, 0, 0]), &[]),
+    (1, Says(HELLO_TEXT), &[]),
+    (0, Says(SECTION), &[]),
+    (1, Says(&[0x44]), BOTH),
+    (0, Says(&[0x44]), BOTH),
+    (2, Opens, &[]),
+    (2, Says(&[0x48]), &[]),
+    (2, Says(&[0]), &[]),
+    (2, Says(&[0]), &[]),
+    (2, Says(&[0]), &[]),
+    (2, Says(&[1]), &[]),
+    (2, Says(&[0x44]), SECOND),
+    (3, Opens, &[]),
+    (3, Says(&[0x48, 0, 0, 0, 3]), &[0x58, 3]),
     // A cursor at the log's end is fine.
-    (Opens(4), &[]),
+    (4, Opens, &[]),
     (
-        Says(4, &[0x48, 0, 0, 0, 2, 0x44, 0x44]),
+        4,
+        Says(&[0x48, 0, 0, 0, 2, 0x44, 0x44]),
         &[0x55, 0, 0, 0, 2],
     ),
     // Closed, and unknown.
-    (Says(4, &[0x44]), &[]),
-    (Says(7, &[0]), &[]),
-    (Goes(7), &[]),
+    (4, Says(&[0x44]), &[]),
+    (7, Says(&[0]), &[]),
+    (7, Goes, &[]),
     // No message begins with these.
-    (Opens(5), &[]),
-    (Says(5, &[0]), &[0x58, 1]),
-    (Opens(5), &[]),
-    (Says(5, &[0x48, 0, 0, 0, 0, 5, 0x44]), &[0x58, 1]),
+    (5, Opens, &[]),
+    (5, Says(&[0]), &[0x58, 1]),
+    (5, Opens, &[]),
+    (5, Says(&[0x48, 0, 0, 0, 0, 5, 0x44]), &[0x58, 1]),
     // Replica 0, at the last byte of it.
-    (Opens(5), &[]),
-    (Says(5, &[0x48, 0, 0, 0, 0, 2, 0, 0, 0]), &[]),
-    (Opens(5), &[]),
-    (Says(5, &[0]), &[0x58, 1]),
+    (5, Opens, &[]),
+    (5, Says(&[0x48, 0, 0, 0, 0, 2, 0, 0, 0]), &[]),
+    (5, Opens, &[]),
+    (5, Says(&[0]), &[0x58, 1]),
     // A number that is opened again begins an empty text.
-    (Opens(6), &[]),
-    (Says(6, &[0x48, 0, 0]), &[]),
-    (Goes(6), &[]),
-    (Opens(6), &[]),
-    (Says(6, &[0]), &[0x58, 1]),
+    (6, Opens, &[]),
+    (6, Says(&[0x48, 0, 0]), &[]),
+    (6, Goes, &[]),
+    (6, Opens, &[]),
+    (6, Says(&[0]), &[0x58, 1]),
 ];
 
 /// Whether there is one reply, with these bytes, that closes the session, or none where there are no bytes.
@@ -105,31 +106,22 @@ fn is_answered(replies: &[Reply], session: u32, bytes: &[u8]) -> bool {
     }
 }
 
-fn give(relay: &mut Relay<Plain>, event: Event) -> Result<Vec<Reply>, Fail> {
+/// The replies to what happens to a session.
+fn replies_to(
+    alloc: Global,
+    relay: &mut Relay<Plain>,
+    session: u32,
+    happens: &Happens,
+) -> Result<Vec<Reply>, Fail> {
+    let event = match happens {
+        Opens => Event::Opened(session),
+        Says(bytes) => Event::Piece(session, ByteList::new(bytes.to_vec(alloc)?)),
+        Goes => Event::Gone(session),
+    };
     match relay.step(event) {
         Ok(replies) => Ok(replies),
         Err(_) => Err(Fail::from(AllocError)),
     }
-}
-
-fn say(
-    alloc: Global,
-    relay: &mut Relay<Plain>,
-    session: u32,
-    bytes: &[u8],
-) -> Result<Vec<Reply>, Fail> {
-    let bytes = ByteList::new(bytes.to_vec(alloc)?);
-    give(relay, Event::Piece(session, bytes))
-}
-
-fn is_as_said(alloc: Global, relay: &mut Relay<Plain>, row: &Row) -> Result<bool, Fail> {
-    let (happens, want) = *row;
-    let (session, replies) = match happens {
-        Opens(session) => (session, give(relay, Event::Opened(session))?),
-        Goes(session) => (session, give(relay, Event::Gone(session))?),
-        Says(session, bytes) => (session, say(alloc, relay, session, bytes)?),
-    };
-    Ok(is_answered(&replies, session, want))
 }
 
 fn check_rows(
@@ -138,40 +130,38 @@ fn check_rows(
     relay: &mut Relay<Plain>,
     rows: &[Row],
 ) -> Result<(), Fail> {
-    for row in rows {
-        holds_at(rt, row, is_as_said(alloc, relay, row)?);
+    for (row, (session, happens, want)) in rows.iter().enumerate() {
+        let replies = replies_to(alloc, relay, *session, happens)?;
+        let answered = is_answered(&replies, *session, want);
+        holds_at(rt, &(row, *session, *want), answered);
     }
     Ok(())
 }
 
-#[test]
-fn each_session_is_answered_as_its_text_asks(rt: HostRuntime) -> Result<(), Fail> {
-    let mut relay = Relay::new(rt.alloc(), BuildHasherDefault::default(), MOST_LOGGED);
-    let checked = check_rows(&rt, rt.alloc(), &mut relay, ROWS);
-    equal(&rt, relay.log_len(), 2);
-    drop(relay);
-    checked
-}
-
 /// One frame fits; it is known when it comes again, and another is refused.
 const ONE_FRAME: &[Row] = &[
-    (Opens(8), &[]),
-    (Says(8, HELLO_SECTION_TEXT), &[0x58, 2]),
-    (Opens(9), &[]),
-    (Says(9, &[0x48, 0, 0, 0, 1]), &[]),
-    (Says(9, SECTION), &[]),
-    (Says(9, &[0x44]), &[0x55, 0, 0, 0, 1]),
-    (Opens(9), &[]),
-    (Says(9, HELLO_TEXT), &[0x58, 2]),
+    (8, Opens, &[]),
+    (8, Says(HELLO_SECTION_TEXT), &[0x58, 2]),
+    (9, Opens, &[]),
+    (9, Says(&[0x48, 0, 0, 0, 1]), &[]),
+    (9, Says(SECTION), &[]),
+    (9, Says(&[0x44]), &[0x55, 0, 0, 0, 1]),
+    (9, Opens, &[]),
+    (9, Says(HELLO_TEXT), &[0x58, 2]),
 ];
 
 #[test]
-fn a_full_log_takes_no_other_frame(rt: HostRuntime) -> Result<(), Fail> {
-    let mut relay = Relay::new(rt.alloc(), BuildHasherDefault::default(), 1);
-    let checked = check_rows(&rt, rt.alloc(), &mut relay, ONE_FRAME);
-    equal(&rt, relay.log_len(), 1);
-    drop(relay);
-    checked
+fn each_session_is_answered_as_its_text_asks_while_the_log_has_room(
+    rt: HostRuntime,
+) -> Result<(), Fail> {
+    for (most, rows, logged) in [(MOST_LOGGED, ROWS, 2), (1, ONE_FRAME, 1)] {
+        let mut relay = Relay::new(rt.alloc(), BuildHasherDefault::default(), most);
+        let checked = check_rows(&rt, rt.alloc(), &mut relay, rows);
+        equal(&rt, relay.log_len(), logged);
+        drop(relay);
+        checked?;
+    }
+    Ok(())
 }
 
 /// What four sessions say: a section and a text, with a byte behind the closing one; the text again, with more; a cursor
@@ -200,7 +190,7 @@ const TEXTS: [&[u8]; 4] = [
 ];
 
 /// What a text is at its last byte, read from its start.
-#[derive(Clone, Copy, Debug)]
+#[derive(Clone, Copy)]
 enum Told {
     Partly,
     /// The greeting ends there.
@@ -213,23 +203,18 @@ enum Told {
 }
 
 fn read_text(alloc: Global, text: &[u8]) -> Result<Told, Fail> {
-    match text {
-        [] => Ok(Told::Partly),
-        [0x48, a, b, c, d, messages @ ..] => {
-            let cursor = u32::from_be_bytes([*a, *b, *c, *d]);
-            read_messages(alloc, cursor, text.len(), messages)
-        }
-        [0x48, ..] => Ok(Told::Partly),
-        _ => Ok(Told::Bad),
-    }
-}
-
-fn read_messages(alloc: Global, cursor: u32, end: usize, messages: &[u8]) -> Result<Told, Fail> {
+    let [0x48, a, b, c, d, messages @ ..] = text else {
+        return Ok(match text {
+            [] | [0x48, ..] => Told::Partly,
+            _ => Told::Bad,
+        });
+    };
+    let cursor = u32::from_be_bytes([*a, *b, *c, *d]);
     let mut rest = messages;
     for _ in 0..messages.len() {
         match first_frame(alloc, rest)? {
             First::Whole(_, len) if len < rest.len() => rest = &rest[len..],
-            First::Whole(..) => return Ok(Told::Frame(end.saturating_sub(rest.len()))),
+            First::Whole(..) => return Ok(Told::Frame(text.len().saturating_sub(rest.len()))),
             First::Prefix => return Ok(Told::Partly),
             First::Bad if matches!(rest, [0x44]) => return Ok(Told::Closing(cursor)),
             First::Bad => return Ok(Told::Bad),
@@ -291,23 +276,14 @@ fn slow_piece(
 /// How many frames the log takes here.
 const FEW: usize = 4;
 
-/// Whether the piece is answered as the text read anew asks; no bytes where the session is over.
-fn is_answered_as_slowly(
-    alloc: Global,
-    relay: &mut Relay<Plain>,
-    log: &mut Vec<&'static [u8]>,
-    session: u32,
-    from: usize,
-    to: usize,
-) -> Result<(bool, bool), Fail> {
-    let text = TEXTS[session as usize % 4];
-    let (from, to) = (from.min(to).min(text.len()), to.min(text.len()));
-    let want = slow_piece(alloc, log, text, from, to)?;
-    let replies = say(alloc, relay, session, &text[from..to])?;
-    Ok((is_answered(&replies, session, &want), !want.is_empty()))
-}
+const OPENED: &[Row] = &[
+    (0, Opens, &[]),
+    (1, Opens, &[]),
+    (2, Opens, &[]),
+    (3, Opens, &[]),
+];
 
-/// Four sessions speak in turns that the seed gives, in pieces of one to nine bytes.
+/// Four sessions speak in turns that the seed gives, in pieces of one to nine bytes, until each is over.
 fn talk(
     rt: &impl Abort,
     alloc: Global,
@@ -317,28 +293,21 @@ fn talk(
 ) -> Result<(), Fail> {
     let mut dice = Dice { state: seed };
     let mut said = [0usize; 4];
-    for session in 0..4 {
-        give(relay, Event::Opened(session))?;
-    }
+    check_rows(rt, alloc, relay, OPENED)?;
     for _ in 0..150 {
         // No clause of `Dice` says that the number is below four.
         let session = dice.number(4) % 4;
-        let from = said[session as usize];
-        let to = from.saturating_add(1).saturating_add(dice.roll(9));
-        let (same, over) = is_answered_as_slowly(alloc, relay, log, session, from, to)?;
+        let text = TEXTS[session as usize];
+        let from = said[session as usize].min(text.len());
+        let to = from.saturating_add(dice.roll(9)).saturating_add(1);
+        let to = to.min(text.len()).max(from);
+        let want = slow_piece(alloc, log, text, from, to)?;
+        let replies = replies_to(alloc, relay, session, &Says(&text[from..to]))?;
+        let same = is_answered(&replies, session, &want);
         holds_at(rt, &(seed, session, from), same);
-        said[session as usize] = if over { 1000 } else { to };
+        said[session as usize] = if want.is_empty() { to } else { text.len() };
     }
     Ok(())
-}
-
-/// The same with a new relay.
-fn talk_anew(rt: &impl Abort, alloc: Global, seed: u64) -> Result<(), Fail> {
-    let mut relay = Relay::new(alloc, BuildHasherDefault::default(), FEW as u32);
-    let mut log = Vec::new(alloc);
-    let done = talk(rt, alloc, &mut relay, &mut log, seed);
-    drop(relay);
-    done
 }
 
 #[test]
@@ -346,7 +315,11 @@ fn interleaved_sessions_are_answered_as_their_joined_texts_ask(
     rt: HostRuntime,
 ) -> Result<(), Fail> {
     for seed in 0..1000 {
-        talk_anew(&rt, rt.alloc(), seed)?;
+        let mut relay = Relay::new(rt.alloc(), BuildHasherDefault::default(), FEW as u32);
+        let mut log = Vec::new(rt.alloc());
+        let done = talk(&rt, rt.alloc(), &mut relay, &mut log, seed);
+        drop(relay);
+        done?;
     }
     Ok(())
 }

@@ -6,112 +6,35 @@ mod place;
 mod plain_order;
 mod searches;
 
-ghost use Rattle.std.specs.Prelude.{◌≡◌, map, option_to_list};
-ghost use Rattle.fugue_ids.specs.Keys.{first_low};
-
-use crate::assertions::equal;
-use fugue_ids::{ElementId, Key, NoMemory};
+use crate::assertions::{equal, holds_at};
+use crate::ids::id;
+use fugue_ids::{ElementId, NoMemory};
 use place::Place;
-use sided_tree::{Gap, OrderOf, Side, SidedTree};
+use plain_order::PlainOrder;
+use sided_tree::{Gap, Side, SidedTree};
 use std::alloc::Global;
-use std::prelude::HostRuntime;
 use std::process::Abort;
 use std::test::Fail;
-
-const FIRST: Key = Key {
-    depth: 1,
-    forest: 0,
-};
-
-/// The order of a place with one element or none.
-#[derive(Drop)]
-struct Few {
-    id: Option<ElementId>,
-}
-
-impl Few {
-    /// The element, where its key is at most this one.
-    fn low(&self, most: Key) -> Option<ElementId>
-        ensures { result ≡ first_low most (map (λ x. record { id = x; key = record { depth = 1; forest = 0 } }) (option_to_list self.now.id)) }
-    {
-        if FIRST <= most { self.id } else { None }
-    }
-}
-
-impl OrderOf for Few {
-    ghost listed = { λ few. map (λ x. record { id = x; key = record { depth = 1; forest = 0 } }) (option_to_list few.id) };
-
-    fn earlier(&self, _a: ElementId, _b: ElementId) -> bool {
-        match self.id {
-            // Two that are listed are the one that there is.
-            Some(_) | None => false,
-        }
-    }
-
-    fn key(&self, _id: ElementId) -> Key {
-        FIRST
-    }
-
-    fn behind(&self, id: Option<ElementId>) -> Option<ElementId> {
-        match id {
-            None => self.id,
-            Some(_) => None,
-        }
-    }
-
-    fn before(&self, id: Option<ElementId>) -> Option<ElementId> {
-        match id {
-            None => self.id,
-            Some(_) => None,
-        }
-    }
-
-    fn first_low(&self, id: Option<ElementId>, most: Key) -> Option<ElementId> {
-        match id {
-            None => self.low(most),
-            Some(_) => None,
-        }
-    }
-
-    fn last_low(&self, id: Option<ElementId>, most: Key) -> Option<ElementId> {
-        match id {
-            None => self.low(most),
-            Some(_) => None,
-        }
-    }
-
-    fn middle(&self, from: Option<ElementId>, to: Option<ElementId>) -> Option<ElementId> {
-        match (from, to) {
-            (None, None) => self.id,
-            _ => None,
-        }
-    }
-}
 
 #[test]
 #[tactic(auto, using(sided_tree::proofs::OneLemmas::none_listed, sided_tree::proofs::OneLemmas::one_listed))]
 fn a_second_element_hangs_on_the_side_of_its_origins(rt: HostRuntime) -> Result<(), Fail> {
-    let id = ElementId::new(1, 0).expect(&rt, "a replica");
-    let next = ElementId::new(2, 0).expect(&rt, "a replica");
+    let (first, next) = (id(1, 0), id(2, 0));
+    let none = PlainOrder::new(rt.alloc());
+    let one = PlainOrder::of_one(rt.alloc(), first)?;
     let mut tree = SidedTree::new(rt.alloc());
-    let none = Few { id: None };
-    equal(&rt, tree.find_gap(id, None, None, &none), Gap::Alone);
-    tree.attach(id, None, None, &none).expect(&rt, "memory");
-    assert!(rt; tree.holds(id) && !tree.holds(next));
-    equal(&rt, tree.side(None, Some(id)), Side::Left);
-    equal(&rt, tree.side(Some(id), None), Side::Right);
-    let one = Few { id: Some(id) };
-    equal(
-        &rt,
-        tree.find_gap(next, None, Some(id), &one),
-        Gap::Before(id),
-    );
-    equal(
-        &rt,
-        tree.find_gap(next, Some(id), None, &one),
-        Gap::After(id),
-    );
-    equal(&rt, tree.find_gap(next, None, None, &one), Gap::After(id));
+    equal(&rt, tree.find_gap(first, None, None, &none), Gap::Alone);
+    tree.attach(first, None, None, &none).expect(&rt, "memory");
+    assert!(rt; tree.holds(first) && !tree.holds(next));
+    equal(&rt, tree.side(None, Some(first)), Side::Left);
+    equal(&rt, tree.side(Some(first), None), Side::Right);
+    let gaps = [
+        tree.find_gap(next, None, Some(first), &one),
+        tree.find_gap(next, Some(first), None, &one),
+        tree.find_gap(next, None, None, &one),
+    ];
+    let wanted = [Gap::Before(first), Gap::After(first), Gap::After(first)];
+    equal(&rt, gaps, wanted);
     drop(tree);
     Ok(())
 }
@@ -119,29 +42,28 @@ fn a_second_element_hangs_on_the_side_of_its_origins(rt: HostRuntime) -> Result<
 #[test]
 #[tactic(auto, using(sided_tree::proofs::OneLemmas::none_listed, sided_tree::proofs::OneLemmas::one_listed))]
 fn a_typed_letter_is_taken_back_and_comes_otherwise(rt: HostRuntime) -> Result<(), Fail> {
-    let id = ElementId::new(1, 0).expect(&rt, "a replica");
-    let next = ElementId::new(1, 1).expect(&rt, "a replica");
+    let (first, next) = (id(1, 0), id(1, 1));
+    let none = PlainOrder::new(rt.alloc());
+    let one = PlainOrder::of_one(rt.alloc(), first)?;
     let mut tree = SidedTree::new(rt.alloc());
-    tree.attach(id, None, None, &Few { id: None })
+    tree.attach(first, None, None, &none).expect(&rt, "memory");
+    tree.attach(next, Some(first), None, &one)
         .expect(&rt, "memory");
-    let one = Few { id: Some(id) };
-    tree.attach(next, Some(id), None, &one)
-        .expect(&rt, "memory");
-    equal(&rt, tree.side(Some(id), Some(next)), Side::Left);
+    equal(&rt, tree.side(Some(first), Some(next)), Side::Left);
     equal(&rt, tree.side(None, Some(next)), Side::Right);
     tree.detach(next);
-    assert!(rt; tree.holds(id) && !tree.holds(next));
-    tree.attach(next, None, Some(id), &one)
+    assert!(rt; tree.holds(first) && !tree.holds(next));
+    tree.attach(next, None, Some(first), &one)
         .expect(&rt, "memory");
-    equal(&rt, tree.side(Some(id), Some(next)), Side::Right);
+    equal(&rt, tree.side(Some(first), Some(next)), Side::Right);
     equal(&rt, tree.side(None, Some(next)), Side::Left);
     drop(tree);
     Ok(())
 }
 
 /// The i-th of letters that two authors type in turn, seven at a time.
-fn typed(i: u32) -> Result<ElementId, NoMemory> {
-    ElementId::new(1 + i / 7 % 2, i / 14 * 7 + i % 7).ok_or(NoMemory)
+fn typed(i: u32) -> ElementId {
+    id(1 + i / 7 % 2, i / 14 * 7 + i % 7)
 }
 
 /// A letter and its left origin.
@@ -153,9 +75,9 @@ fn typed_letters(alloc: Global) -> Result<Vec<Letter>, Fail> {
     let mut left = None;
     for i in 0..120 {
         if i % 11 == 10 {
-            left = Some(typed(i / 2)?);
+            left = Some(typed(i / 2));
         }
-        let id = typed(i)?;
+        let id = typed(i);
         letters.push((id, left))?;
         left = Some(id);
     }
@@ -187,19 +109,12 @@ fn stretches_tell_the_left_origins_that_a_list_tells(rt: HostRuntime) -> Result<
     Ok(())
 }
 
-fn numbered(counter: u32) -> ElementId {
-    ElementId {
-        replica: 1,
-        counter,
-    }
-}
-
 #[test]
 fn typing_makes_no_search(rt: HostRuntime) -> Result<(), Fail> {
     let mut place = Place::new(rt.alloc());
     let mut left = None;
     for counter in 0..100 {
-        let id = numbered(counter);
+        let id = id(1, counter);
         place = place.with(id, left)?;
         equal(&rt, place.searched(), 0);
         left = Some(id);
@@ -213,8 +128,8 @@ fn siblings_come(rt: &impl Abort, alloc: Global, is_rising: bool) -> Result<(), 
     let mut place = Place::new(alloc);
     for counter in 0..1_000 {
         let number = if is_rising { counter } else { 1_000 - counter };
-        place = place.with(numbered(number), None)?;
-        assert!(rt; place.searched() < 100);
+        place = place.with(id(1, number), None)?;
+        holds_at(rt, &number, place.searched() < 100);
     }
     drop(place);
     Ok(())

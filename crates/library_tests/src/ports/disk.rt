@@ -1,12 +1,11 @@
 mod slow;
 
-use super::same;
 use crate::assertions::{equal, equal_at, holds_at};
 use fugue_ids::{Failed, NoMemory};
 use outer_ports::{Disk, FileDisk, MemDisk, Opening, Pick, SureDisk};
 use slow::SlowDisk;
 use std::alloc::Global;
-use std::fs::{self, File, Files};
+use std::fs::{self, File};
 use std::process::Abort;
 use std::test::Fail;
 
@@ -17,71 +16,44 @@ enum Step {
     Sync,
 }
 
+/// A step, and the disk's answer.
+type Taken = (Step, Result<(), Failed>);
+
 /// What a disk of these bytes holds after some steps, and what a crash may leave of it.
 struct Row {
     first: &'static str,
     /// The calls that fail.
     fail: &'static [u32],
-    steps: &'static [(Step, Result<(), Failed>)],
+    steps: &'static [Taken],
     seen: &'static str,
     old: &'static str,
     new: &'static str,
     filled: &'static str,
 }
 
-fn all<'a, D: Disk>(disk: &mut D, buf: &'a mut [u8]) -> Result<&'a [u8], Failed> {
-    let count = disk.read_at(0, buf)?;
-    Ok(&buf[..count])
-}
-
-fn take<D: Disk>(disk: &mut D, step: &Step) -> Result<(), Failed> {
-    match step {
-        Step::Write(at, _) if disk.size()? < *at => Err(Failed),
-        Step::Write(at, bytes) => disk.write_at(*at, bytes.as_bytes()),
-        Step::Sync => disk.sync(),
-    }
-}
-
 /// Takes the steps, and compares what stands then.
-fn holds<D: Disk>(rt: &impl Abort, disk: &mut D, steps: &[(Step, Result<(), Failed>)], want: &str) {
+fn holds<D: Disk>(rt: &impl Abort, disk: &mut D, steps: &[Taken], want: &str) {
     let mut buf = [0; 16];
     for (step, answer) in steps {
-        equal(rt, take(disk, step), *answer);
+        let found = match step {
+            Step::Write(at, bytes) => match disk.size() {
+                Ok(size) if size >= *at => disk.write_at(*at, bytes.as_bytes()),
+                _ => Err(Failed),
+            },
+            Step::Sync => disk.sync(),
+        };
+        equal(rt, found, *answer);
     }
-    equal(rt, all(disk, &mut buf), Ok(want.as_bytes()));
+    match disk.read_at(0, &mut buf) {
+        Ok(count) => equal(rt, &buf[..count], want.as_bytes()),
+        Err(Failed) => holds_at(rt, &want, false),
+    }
 }
 
 fn leaves(rt: &impl Abort, crashed: Result<MemDisk, NoMemory>, want: &str) {
     match crashed {
         Ok(mut disk) => holds(rt, &mut disk, &[], want),
         Err(_) => holds_at(rt, &want, false),
-    }
-}
-
-fn compare(rt: &impl Abort, alloc: Global, row: &Row) -> Result<(), Fail> {
-    let fail = row.fail.to_vec(alloc)?;
-    let first = row.first.as_bytes().to_vec(alloc)?;
-    let mut disk = MemDisk::new(alloc, first, fail);
-    holds(rt, &mut disk, row.steps, row.seen);
-    leaves(rt, disk.crash(Pick::Old), row.old);
-    leaves(rt, disk.crash(Pick::New), row.new);
-    leaves(rt, disk.crash(Pick::Fill(b'.')), row.filled);
-    Ok(())
-}
-
-/// The same by the plain program of the model.
-fn compare_slow(rt: &impl Abort, row: &Row) {
-    let mut slow = SlowDisk::new(row.first);
-    for (step, answer) in row.steps {
-        slow.take(step, *answer);
-    }
-    for (pick, want) in [
-        (Pick::Old, row.old),
-        (Pick::New, row.new),
-        (Pick::Fill(b'.'), row.filled),
-    ] {
-        let same = SlowDisk::new(want).image(Pick::Old) == slow.image(pick);
-        holds_at(rt, &want, same);
     }
 }
 
@@ -179,11 +151,29 @@ const ROWS: [Row; 8] = [
     },
 ];
 
+/// Compares a disk with the row, and the model's plain program too.
+fn compare(rt: &impl Abort, alloc: Global, row: &Row) -> Result<(), Fail> {
+    let fail = row.fail.to_vec(alloc)?;
+    let first = row.first.as_bytes().to_vec(alloc)?;
+    let slow = SlowDisk::after(row.first, row.steps);
+    let mut disk = MemDisk::new(alloc, first, fail);
+    holds(rt, &mut disk, row.steps, row.seen);
+    for (pick, want) in [
+        (Pick::Old, row.old),
+        (Pick::New, row.new),
+        (Pick::Fill(b'.'), row.filled),
+    ] {
+        leaves(rt, disk.crash(pick), want);
+        holds_at(rt, &want, slow.leaves(pick, want.as_bytes()));
+    }
+    drop(disk);
+    Ok(())
+}
+
 #[test]
 fn a_crash_leaves_what_the_model_says(rt: HostRuntime) -> Result<(), Fail> {
     for row in &ROWS {
         compare(&rt, rt.alloc(), row)?;
-        compare_slow(&rt, row);
     }
     Ok(())
 }
@@ -204,84 +194,79 @@ fn a_sure_disk_takes_what_fits(rt: HostRuntime) -> Result<(), Fail> {
         (Step::Sync, Err(Failed)),
     ];
     holds(&rt, &mut disk, &steps, "xyz");
+    drop(disk);
     Ok(())
 }
 
-/// Opens the file, takes the steps and compares what stands then.
-fn keeps<R: Files<File = File> + Abort>(
-    rt: &R,
-    opening: Opening,
-    steps: &[(Step, Result<(), Failed>)],
-    left: &str,
-) {
-    let mut disk = FileDisk::open(rt, "kept", opening);
-    holds(rt, &mut disk, steps, left);
-    equal(rt, disk.read_at(left.len() as u64, &mut [0]), Ok(0));
-}
+/// How a file is opened in turn, the steps that it takes then, and what stands behind them.
+const KEPT: [(Opening, &[Taken], &str); 4] = [
+    (
+        Opening::Creating,
+        &[(Step::Write(0, "abc"), Ok(())), (Step::Sync, Ok(()))],
+        "abc",
+    ),
+    (Opening::Writing, &[(Step::Write(1, "XYZ"), Ok(()))], "aXYZ"),
+    (
+        Opening::Reading,
+        &[(Step::Sync, Ok(())), (Step::Write(0, "d"), Err(Failed))],
+        "aXYZ",
+    ),
+    (Opening::Creating, &[], "aXYZ"),
+];
 
 #[test]
 fn a_file_keeps_what_is_written(rt: HostRuntime) {
-    let steps = [(Step::Write(0, "abc"), Ok(())), (Step::Sync, Ok(()))];
-    keeps(&rt, Opening::Creating, &steps, "abc");
-    keeps(
-        &rt,
-        Opening::Writing,
-        &[(Step::Write(1, "XYZ"), Ok(()))],
-        "aXYZ",
-    );
-    let steps = [(Step::Sync, Ok(())), (Step::Write(0, "d"), Err(Failed))];
-    keeps(&rt, Opening::Reading, &steps, "aXYZ");
-    keeps(&rt, Opening::Creating, &[], "aXYZ");
+    for (opening, steps, left) in KEPT {
+        let mut disk = FileDisk::open(&rt, "kept", opening);
+        holds(&rt, &mut disk, steps, left);
+        equal(&rt, disk.read_at(left.len() as u64, &mut [0]), Ok(0));
+        drop(disk);
+    }
 }
 
-/// Opens a file twice, and compares what both say of its length.
-fn opens<R: Files<File = File> + Abort>(
-    rt: &R,
-    path: &str,
-    openings: [Opening; 2],
-    want: [Result<u64, Failed>; 2],
-) {
-    let mut first = FileDisk::open(rt, path, openings[0]);
-    let mut second = FileDisk::open(rt, path, openings[1]);
-    equal_at(rt, &openings, [first.size(), second.size()], want);
-}
+/// How a file is opened twice, and what both say of its length.
+const OPENED: [(&str, [Opening; 2], [Result<u64, Failed>; 2]); 6] = [
+    (
+        "locked",
+        [Opening::Writing, Opening::Reading],
+        [Ok(3), Err(Failed)],
+    ),
+    (
+        "locked",
+        [Opening::Writing, Opening::Writing],
+        [Ok(3), Err(Failed)],
+    ),
+    (
+        "locked",
+        [Opening::Writing, Opening::Creating],
+        [Ok(3), Err(Failed)],
+    ),
+    (
+        "locked",
+        [Opening::Reading, Opening::Reading],
+        [Ok(3), Ok(3)],
+    ),
+    (
+        "locked",
+        [Opening::Reading, Opening::Writing],
+        [Ok(3), Err(Failed)],
+    ),
+    (
+        "missing",
+        [Opening::Reading, Opening::Writing],
+        [Err(Failed), Err(Failed)],
+    ),
+];
 
 #[test]
 fn a_locked_or_missing_file_is_not_opened(rt: HostRuntime) -> Result<(), Fail> {
     fs::write(&rt, "locked", b"abc")?;
-    for (path, openings, want) in [
-        (
-            "locked",
-            [Opening::Writing, Opening::Reading],
-            [Ok(3), Err(Failed)],
-        ),
-        (
-            "locked",
-            [Opening::Writing, Opening::Writing],
-            [Ok(3), Err(Failed)],
-        ),
-        (
-            "locked",
-            [Opening::Writing, Opening::Creating],
-            [Ok(3), Err(Failed)],
-        ),
-        (
-            "locked",
-            [Opening::Reading, Opening::Reading],
-            [Ok(3), Ok(3)],
-        ),
-        (
-            "locked",
-            [Opening::Reading, Opening::Writing],
-            [Ok(3), Err(Failed)],
-        ),
-        (
-            "missing",
-            [Opening::Reading, Opening::Writing],
-            [Err(Failed), Err(Failed)],
-        ),
-    ] {
-        opens(&rt, path, openings, want);
+    for (path, openings, want) in OPENED {
+        let mut first = FileDisk::open(&rt, path, openings[0]);
+        let mut second = FileDisk::open(&rt, path, openings[1]);
+        equal_at(&rt, &openings, [first.size(), second.size()], want);
+        drop(first);
+        drop(second);
     }
     equal(&rt, FileDisk::closed().size(), Err(Failed));
     Ok(())

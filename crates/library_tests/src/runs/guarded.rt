@@ -7,7 +7,7 @@ ghost use Rattle.origin_model.specs.sides.Slot.{IsBeside};
 ghost use Rattle.run_store.specs.Cells.{ids, keyed};
 ghost use Rattle.run_store.specs.Stored.{IsAloneWhereEmpty};
 
-use fugue_ids::{ElementId, Gap, Key, NoMemory, OrderOf};
+use fugue_ids::{ElementId, Gap, NoMemory};
 use run_store::RunStore;
 
 /// Whether a cell may go into the gap.
@@ -22,7 +22,7 @@ fn is_beside(store: &RunStore, gap: &Gap) -> bool
 }
 
 /// Whether the origin stands in the order, or is the start or the end.
-fn is_listed(store: &RunStore, origin: &Option<ElementId>) -> bool
+pub fn is_listed(store: &RunStore, origin: &Option<ElementId>) -> bool
     ensures { IsTrue result → HoldsOrigin (ids_in (keyed store.now.cells)) origin.now }
 {
     match origin {
@@ -50,58 +50,4 @@ pub fn hide(store: &mut RunStore, id: ElementId) -> Result<(), NoMemory> {
         return Err(NoMemory);
     }
     store.hide(id)
-}
-
-pub fn key(store: &RunStore, id: ElementId) -> Option<Key> {
-    if is_listed(store, &Some(id)) {
-        Some(store.key(id))
-    } else {
-        None
-    }
-}
-
-pub fn is_earlier(store: &RunStore, a: ElementId, b: ElementId) -> bool {
-    is_listed(store, &Some(a)) && is_listed(store, &Some(b)) && store.earlier(a, b)
-}
-
-pub fn before(store: &RunStore, id: Option<ElementId>) -> Option<ElementId> {
-    if is_listed(store, &id) {
-        store.before(id)
-    } else {
-        None
-    }
-}
-
-pub fn first_low(store: &RunStore, id: Option<ElementId>, most: Key) -> Option<ElementId> {
-    if is_listed(store, &id) {
-        store.first_low(id, most)
-    } else {
-        None
-    }
-}
-
-pub fn last_low(store: &RunStore, id: Option<ElementId>, most: Key) -> Option<ElementId> {
-    if is_listed(store, &id) {
-        store.last_low(id, most)
-    } else {
-        None
-    }
-}
-
-/// An element before this one.
-pub fn middle_before(store: &RunStore, to: Option<ElementId>) -> Option<ElementId> {
-    if is_listed(store, &to) {
-        store.middle(None, to)
-    } else {
-        None
-    }
-}
-
-/// An element behind this one.
-pub fn middle_behind(store: &RunStore, from: Option<ElementId>) -> Option<ElementId> {
-    if is_listed(store, &from) {
-        store.middle(from, None)
-    } else {
-        None
-    }
 }

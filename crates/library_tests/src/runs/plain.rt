@@ -3,9 +3,10 @@
 use fugue_ids::{ElementId, Gap, Key};
 use run_store::Cell;
 
-pub fn position(cells: &[Cell], id: ElementId) -> Option<usize> {
+/// Where a cell stands that there is.
+pub fn position(cells: &[Cell], id: Option<ElementId>) -> Option<usize> {
     for (i, cell) in cells.iter().enumerate() {
-        if cell.id == id {
+        if Some(cell.id) == id {
             return Some(i);
         }
     }
@@ -29,38 +30,27 @@ fn cell_of<'a>(cells: &'a [Cell], origin: &Option<ElementId>) -> Option<&'a Cell
     None
 }
 
-fn depth(cells: &[Cell], left: &Option<ElementId>) -> u32 {
-    match cell_of(cells, left) {
+/// The key of a new cell with these origins.
+pub fn new_key(cells: &[Cell], left: &Option<ElementId>, right: &Option<ElementId>) -> Key {
+    let before = cell_of(cells, left);
+    let depth = match before {
         Some(cell) => cell.key.depth.saturating_add(1),
         None => 1,
-    }
-}
-
-fn forest(cells: &[Cell], left: &Option<ElementId>, right: &Option<ElementId>) -> u32 {
-    if let Some(cell) = cell_of(cells, left) {
-        if cell.right == *right {
-            return 0;
-        }
-    }
-    match cell_of(cells, right) {
-        Some(cell) if cell.left == *left => cell.key.forest.saturating_add(1),
+    };
+    let forest = match (before, cell_of(cells, right)) {
+        (Some(cell), _) if cell.right == *right => 0,
+        (_, Some(cell)) if cell.left == *left => cell.key.forest.saturating_add(1),
         _ => 0,
-    }
-}
-
-pub fn new_key(cells: &[Cell], left: &Option<ElementId>, right: &Option<ElementId>) -> Key {
-    Key {
-        depth: depth(cells, left),
-        forest: forest(cells, left, right),
-    }
+    };
+    Key { depth, forest }
 }
 
 /// How many cells stand before the gap.
 pub fn gap_position(cells: &[Cell], gap: &Gap) -> usize {
     match gap {
         Gap::Alone => 0,
-        Gap::Before(id) => position(cells, *id).unwrap_or(0),
-        Gap::After(id) => position(cells, *id).map_or(0, |i| i.saturating_add(1)),
+        Gap::Before(id) => position(cells, Some(*id)).unwrap_or(0),
+        Gap::After(id) => position(cells, Some(*id)).map_or(0, |i| i.saturating_add(1)),
     }
 }
 

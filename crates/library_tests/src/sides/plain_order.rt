@@ -1,4 +1,4 @@
-ghost use Rattle.std.specs.Prelude.{◌≡◌, ◌≤◌, [], OnOk, length};
+ghost use Rattle.std.specs.Prelude.{◌≡◌, ◌≤◌, ◌∷◌, [], IfOk, OnOk, length};
 ghost use Rattle.std.specs.List.{insert};
 ghost use Rattle.fugue_ids.specs.Keys.{ids};
 ghost use Rattle.fugue_ids.specs.Listed.{index_of};
@@ -74,6 +74,19 @@ impl PlainOrder {
             entries: Vec::new(alloc),
             searches: Cell::new(0),
         }
+    }
+
+    /// The order of one element without origins.
+    pub fn of_one(alloc: Global, id: ElementId) -> Result<PlainOrder, NoMemory>
+        ensures { IfOk result (λ o. o ≡ record { id = id; key = record { depth = 1; forest = 0 } } ∷ []) }
+    {
+        let key = Key {
+            depth: 1,
+            forest: 0,
+        };
+        let mut order = PlainOrder::new(alloc);
+        order.insert(0, id, key)?;
+        Ok(order)
     }
 
     fn count(&self) {

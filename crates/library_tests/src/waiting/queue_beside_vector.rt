@@ -1,8 +1,6 @@
 use crate::assertions::{equal, equal_at, holds_at};
 use causal_inbox::Queue;
-use fugue_ids::NoMemory;
 use std::mem::replace;
-use std::test::Fail;
 
 /// What is done to a list.
 #[derive(Clone, Copy, Debug)]
@@ -14,26 +12,8 @@ enum Step {
     Goes(usize),
 }
 
-/// The step on both. The answer is whether they gave the same.
-fn take_step(queue: &mut Queue<u64>, vector: &mut Vec<u64>, step: Step) -> Result<bool, NoMemory> {
-    match step {
-        Step::Comes(item) => {
-            queue.push(item)?;
-            vector.push(item)?;
-            Ok(true)
-        }
-        Step::Becomes(at, item) if at < queue.len() && at < vector.len() => {
-            Ok(queue.put(at, item) == replace(&mut vector[at], item))
-        }
-        Step::Goes(at) if at < queue.len() && at < vector.len() => {
-            Ok(queue.remove(at, 0) == vector.remove(at))
-        }
-        _ => Ok(false),
-    }
-}
-
 #[test]
-fn items_come_change_and_go_as_in_a_vector(rt: HostRuntime) -> Result<(), Fail> {
+fn items_come_change_and_go_as_in_a_vector(rt: HostRuntime) {
     let mut queue = Queue::new(rt.alloc());
     let mut vector = Vec::new(rt.alloc());
     for step in [
@@ -61,24 +41,33 @@ fn items_come_change_and_go_as_in_a_vector(rt: HostRuntime) -> Result<(), Fail> 
         Step::Goes(1),
         Step::Goes(0),
     ] {
-        holds_at(&rt, &step, take_step(&mut queue, &mut vector, step)?);
-        holds_at(&rt, &step, queue.as_slice() == vector.as_slice());
+        let same = match step {
+            Step::Comes(item) => queue.push(item).is_ok() && vector.push(item).is_ok(),
+            Step::Becomes(at, item) if at < queue.len() && at < vector.len() => {
+                queue.put(at, item) == replace(&mut vector[at], item)
+            }
+            Step::Goes(at) if at < queue.len() && at < vector.len() => {
+                queue.remove(at, 0) == vector.remove(at)
+            }
+            _ => false,
+        };
+        holds_at(&rt, &step, same && queue.as_slice() == vector.as_slice());
         equal_at(&rt, &step, queue.len(), vector.len());
     }
-    Ok(())
+    drop(queue);
 }
 
 #[test]
-fn many_go_through_in_order(rt: HostRuntime) -> Result<(), Fail> {
+fn many_go_through_in_order(rt: HostRuntime) {
     let mut queue = Queue::new(rt.alloc());
     for item in 0..20_000u64 {
-        queue.push(item)?;
+        holds_at(&rt, &item, queue.push(item).is_ok());
         if queue.len() > 100 {
             let first = queue.remove(0, 0);
             holds_at(&rt, &first, first < item && item - first == 100);
         }
     }
-    assert!(rt; queue.as_slice().first().copied() == Some(19_900));
+    equal(&rt, queue.as_slice().first().copied(), Some(19_900));
     equal(&rt, queue.len(), 100);
-    Ok(())
+    drop(queue);
 }

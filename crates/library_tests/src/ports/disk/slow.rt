@@ -1,7 +1,6 @@
 //! A disk of at most sixteen bytes that finds each byte of an image by the model's own words.
 
-use super::Step;
-use fugue_ids::Failed;
+use super::{Step, Taken};
 use outer_ports::Pick;
 
 /// A byte for each offset, and none past the end.
@@ -17,36 +16,38 @@ pub(super) struct SlowDisk {
     touched: [bool; 16],
 }
 
-fn set<T>(slots: &mut [T; 16], at: usize, value: T)
-where
-    T: Copy,
-{
-    if let Some(slot) = slots.get_mut(at) {
-        *slot = value;
-    }
-}
-
 impl SlowDisk {
-    pub(super) fn new(first: &str) -> SlowDisk {
+    /// A disk of these bytes that took the steps.
+    pub(super) fn after(first: &str, steps: &[Taken]) -> SlowDisk {
         let mut seen = [None; 16];
-        for (offset, byte) in first.bytes().enumerate() {
-            set(&mut seen, offset, Some(byte));
+        for (slot, byte) in seen.iter_mut().zip(first.bytes()) {
+            *slot = Some(byte);
         }
-        SlowDisk {
+        let mut disk = SlowDisk {
             seen,
             base: seen,
             touched: [false; 16],
+        };
+        for taken in steps {
+            disk.take(taken);
         }
+        disk
     }
 
-    /// Takes a step that had this answer: a write that failed may have left anything in its range.
-    pub(super) fn take(&mut self, step: &Step, answer: Result<(), Failed>) {
-        match (step, answer) {
-            (Step::Write(at, text), Ok(())) => {
-                self.touch(*at as usize, text.len());
-                self.write(*at as usize, text);
+    /// Takes a step that had an answer: a write that failed may have left anything in its range.
+    fn take(&mut self, taken: &Taken) {
+        match taken {
+            (Step::Write(at, text), answer) => {
+                for (offset, byte) in text.bytes().enumerate() {
+                    let at = (*at as usize).saturating_add(offset);
+                    if let Some(touched) = self.touched.get_mut(at) {
+                        *touched = true;
+                    }
+                    if let (Some(seen), Ok(())) = (self.seen.get_mut(at), answer) {
+                        *seen = Some(byte);
+                    }
+                }
             }
-            (Step::Write(at, text), Err(_)) => self.touch(*at as usize, text.len()),
             (Step::Sync, Ok(())) => {
                 self.base = self.seen;
                 self.touched = [false; 16];
@@ -55,25 +56,14 @@ impl SlowDisk {
         }
     }
 
-    fn write(&mut self, at: usize, text: &str) {
-        for (offset, byte) in text.bytes().enumerate() {
-            set(&mut self.seen, at.saturating_add(offset), Some(byte));
-        }
-    }
-
-    fn touch(&mut self, at: usize, count: usize) {
-        for offset in 0..count {
-            set(&mut self.touched, at.saturating_add(offset), true);
-        }
-    }
-
-    /// What a crash leaves.
-    pub(super) fn image(&self, pick: Pick) -> Bytes {
-        let mut image = [None; 16];
+    /// Whether a crash leaves these bytes.
+    pub(super) fn leaves(&self, pick: Pick, bytes: &[u8]) -> bool {
         for offset in 0..16 {
-            set(&mut image, offset, self.left_at(offset, pick));
+            if self.left_at(offset, pick) != bytes.get(offset).copied() {
+                return false;
+            }
         }
-        image
+        true
     }
 
     /// The byte at an offset. An image goes on where a byte was settled, or, but for Old, up to the last that was touched.
