@@ -84,15 +84,15 @@ fn operations_are_appended_one_behind_the_other(rt: HostRuntime) -> Result<(), F
 
 /// Whether the operation is written as this frame, whose fronts begin one, and which with a byte behind it is this operation's.
 fn is_framed(rt: &HostRuntime, op: &Op, frame: &[u8]) -> Result<bool, Fail> {
-    let mut bytes = Vec::new(rt.alloc());
-    encode(op, &mut bytes)?;
-    if bytes.as_slice() != frame {
-        return Ok(false);
-    }
     for len in 0..frame.len() {
         if !matches!(first_frame(rt.alloc(), &frame[..len])?, First::Prefix) {
             return Ok(false);
         }
+    }
+    let mut bytes = Vec::new(rt.alloc());
+    encode(op, &mut bytes)?;
+    if bytes.as_slice() != frame {
+        return Ok(false);
     }
     bytes.push(255)?;
     match first_frame(rt.alloc(), &bytes)? {

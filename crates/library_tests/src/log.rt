@@ -298,9 +298,9 @@ fn talk(
         // No clause of `Dice` says that the number is below four.
         let session = dice.number(4) % 4;
         let text = TEXTS[session as usize];
-        let from = said[session as usize].min(text.len());
-        let to = from.saturating_add(dice.roll(9)).saturating_add(1);
-        let to = to.min(text.len()).max(from);
+        let from = said[session as usize];
+        let to = from.saturating_add(1).saturating_add(dice.roll(9));
+        let (from, to) = (from.min(to).min(text.len()), to.min(text.len()));
         let want = slow_piece(alloc, log, text, from, to)?;
         let replies = replies_to(alloc, relay, session, &Says(&text[from..to]))?;
         let same = is_answered(&replies, session, &want);

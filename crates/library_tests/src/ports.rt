@@ -39,7 +39,7 @@ fn gives<S: Source>(rt: &impl Abort, source: &mut S, rows: &[(usize, Result<&str
         let end = (*room).min(4);
         let want = want.map(|text| text.as_bytes());
         match source.read(&mut buf[..end]) {
-            Ok(count) => equal_at(rt, room, Ok(&buf[..count]), want),
+            Ok(count) => equal_at(rt, room, Ok(buf.get(..count).unwrap_or(&[])), want),
             Err(failed) => equal_at(rt, room, Err(failed), want),
         }
     }

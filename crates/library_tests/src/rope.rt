@@ -73,8 +73,8 @@ fn insert(
 /// Items 0, 1, .. in order, each of the units and the rank that are given.
 fn fill(rope: &mut Rope<Stretch>, items: &[(u8, u32)]) -> Result<(), NoMemory> {
     let mut at = At::First;
-    for (counter, (units, rank)) in (0u32..).zip(items) {
-        let key = id(1, counter);
+    for (i, (units, rank)) in items.iter().enumerate() {
+        let key = id(1, i as u32);
         let value = Stretch {
             units: *units,
             rank: *rank,
@@ -121,11 +121,12 @@ fn inserts_at_both_ends_stand_as_in_a_vector(rt: HostRuntime) {
     let mut rope = Rope::new(rt.alloc());
     let mut beside = Vec::new(rt.alloc());
     for rank in 0..=20_000u32 {
+        let last = id(1, rank.saturating_sub(1));
         let at = match rank {
             0 => At::First,
-            1..=10_000 => At::Before(id(1, rank - 1)),
+            1..=10_000 => At::Before(last),
             10_001 => At::After(id(1, 0)),
-            _ => At::After(id(1, rank - 1)),
+            _ => At::After(last),
         };
         let value = Stretch { units: 1, rank };
         let inserted = insert(&mut rope, at, id(1, rank), value).is_ok();

@@ -94,7 +94,7 @@ fn the_first_that_is_ready_or_stray_is_decidable(rt: HostRuntime) -> Result<(), 
 }
 
 /// What is done to an inbox.
-#[derive(Clone, Copy, Debug)]
+#[derive(Clone, Copy)]
 enum Step {
     /// One of the operations comes.
     Comes(usize),
@@ -103,7 +103,7 @@ enum Step {
 }
 
 fn come_and_go(rt: &impl Abort, alloc: Global, inbox: &mut Inbox, ops: &[Op]) -> Result<(), Fail> {
-    for (step, waiting, named) in [
+    for (turn, (step, waiting, named)) in [
         (Step::Comes(3), 1, Some(0)),
         (Step::Comes(0), 2, Some(0)),
         (Step::Comes(2), 3, Some(0)),
@@ -121,7 +121,10 @@ fn come_and_go(rt: &impl Abort, alloc: Global, inbox: &mut Inbox, ops: &[Op]) ->
         (Step::Goes(1), 1, None),
         (Step::Goes(0), 0, None),
         (Step::Comes(2), 1, Some(0)),
-    ] {
+    ]
+    .into_iter()
+    .enumerate()
+    {
         let taken = match step {
             Step::Comes(n) if n < ops.len() => inbox.push(ops[n].clone_in(alloc)?).is_ok(),
             Step::Goes(at) if at < inbox.ops().len() => {
@@ -130,10 +133,10 @@ fn come_and_go(rt: &impl Abort, alloc: Global, inbox: &mut Inbox, ops: &[Op]) ->
             }
             _ => false,
         };
-        holds_at(rt, &step, taken);
-        equal_at(rt, &step, inbox.ops().len(), waiting);
+        holds_at(rt, &turn, taken);
+        equal_at(rt, &turn, inbox.ops().len(), waiting);
         let position = first_naming(inbox, id(1, 0));
-        equal_at(rt, &step, position, named);
+        equal_at(rt, &turn, position, named);
     }
     Ok(())
 }

@@ -45,7 +45,7 @@ fn holds<D: Disk>(rt: &impl Abort, disk: &mut D, steps: &[Taken], want: &str) {
         equal(rt, found, *answer);
     }
     match disk.read_at(0, &mut buf) {
-        Ok(count) => equal(rt, &buf[..count], want.as_bytes()),
+        Ok(count) => equal(rt, buf.get(..count), Some(want.as_bytes())),
         Err(Failed) => holds_at(rt, &want, false),
     }
 }

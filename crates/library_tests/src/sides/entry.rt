@@ -2,7 +2,7 @@ use fugue_ids::{ElementId, Key};
 use std::marker::Model;
 
 /// An element with its key.
-#[derive(Clone, Copy, Debug)]
+#[derive(Clone, Copy)]
 pub struct Entry {
     pub id: ElementId,
     pub key: Key,

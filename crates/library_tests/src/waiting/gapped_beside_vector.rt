@@ -1,31 +1,30 @@
-use crate::assertions::holds_at;
+use crate::assertions::{equal, holds_at};
 use causal_inbox::Queue;
-use fugue_ids::NoMemory;
 use std::alloc::Global;
+use std::process::Abort;
 use std::test::Fail;
 
-/// Items leave an open queue at the positions, one after another. The answer is whether they leave a vector alike.
-fn leave_alike(alloc: Global, positions: &[usize]) -> Result<bool, NoMemory> {
+const ITEMS: [u64; 12] = [0, 1, 2, 3, 4, 5, 6, 7, 8, 9, 10, 11];
+
+/// Items leave an open queue at the positions, one after another, and leave a vector alike.
+fn leave_alike(rt: &impl Abort, alloc: Global, positions: &[usize]) -> Result<(), Fail> {
+    let mut vector = Vec::from_slice(alloc, &ITEMS)?;
     let mut queue = Queue::new(alloc);
-    let mut vector = Vec::new(alloc);
-    for item in 0..12u64 {
-        queue.push(item)?;
-        vector.push(item)?;
+    for item in ITEMS {
+        holds_at(rt, &item, queue.push(item).is_ok());
     }
     let mut open = queue.open();
     for position in positions {
         let position = *position;
-        if position >= open.len() || position >= vector.len() {
-            return Ok(false);
-        }
-        if *open.get(position) != vector[position] {
-            return Ok(false);
-        }
-        if open.remove(position, 99) != vector.remove(position) {
-            return Ok(false);
+        if position < open.len() && position < vector.len() {
+            equal(rt, *open.get(position), vector[position]);
+            equal(rt, open.remove(position, 99), vector.remove(position));
+        } else {
+            holds_at(rt, &position, false);
         }
     }
-    Ok(open.close().as_slice() == vector.as_slice())
+    equal(rt, open.close().as_slice(), vector.as_slice());
+    Ok(())
 }
 
 #[test]
@@ -37,7 +36,7 @@ fn items_leave_around_a_gap_as_from_a_vector(rt: HostRuntime) -> Result<(), Fail
         &[2, 7, 1, 8, 0],
         &[11, 10, 3, 8],
     ] {
-        holds_at(&rt, &positions, leave_alike(rt.alloc(), positions)?);
+        leave_alike(&rt, rt.alloc(), positions)?;
     }
     Ok(())
 }

@@ -3,7 +3,7 @@ use causal_inbox::Queue;
 use std::mem::replace;
 
 /// What is done to a list.
-#[derive(Clone, Copy, Debug)]
+#[derive(Clone, Copy)]
 enum Step {
     Comes(u64),
     /// Another item at the position.
@@ -16,7 +16,7 @@ enum Step {
 fn items_come_change_and_go_as_in_a_vector(rt: HostRuntime) {
     let mut queue = Queue::new(rt.alloc());
     let mut vector = Vec::new(rt.alloc());
-    for step in [
+    for (turn, step) in [
         Step::Comes(1),
         Step::Goes(0),
         Step::Comes(2),
@@ -40,7 +40,10 @@ fn items_come_change_and_go_as_in_a_vector(rt: HostRuntime) {
         Step::Comes(13),
         Step::Goes(1),
         Step::Goes(0),
-    ] {
+    ]
+    .into_iter()
+    .enumerate()
+    {
         let same = match step {
             Step::Comes(item) => queue.push(item).is_ok() && vector.push(item).is_ok(),
             Step::Becomes(at, item) if at < queue.len() && at < vector.len() => {
@@ -51,8 +54,8 @@ fn items_come_change_and_go_as_in_a_vector(rt: HostRuntime) {
             }
             _ => false,
         };
-        holds_at(&rt, &step, same && queue.as_slice() == vector.as_slice());
-        equal_at(&rt, &step, queue.len(), vector.len());
+        holds_at(&rt, &turn, same && queue.as_slice() == vector.as_slice());
+        equal_at(&rt, &turn, queue.len(), vector.len());
     }
     drop(queue);
 }
