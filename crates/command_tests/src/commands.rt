@@ -1,15 +1,15 @@
 //! The program's commands, run on objects in memory.
 //!
-//! A function makes one object or two, and lends them: what owns little is soon proved.
+//! A function makes a few objects, lends them and drops them by name, with one way out: such a function is soon proved.
 
+use crate::files::has_bytes;
+use crate::memory::{list, sure_disk, sure_sink};
 use manuscript_cli::{Status, run};
 use outer_ports::{
-    Disk, Dock, FileDisk, MemDisk, MemDock, MemSink, MemSource, MemWire, Sink, Source, SureDisk,
-    SureSink, SureSource, Wire,
+    Disk, Dock, FileDisk, MemDock, MemSink, MemSource, MemWire, Sink, Source, SureSource, Wire,
 };
-use std::alloc::{AllocError, Global};
 use std::hash::{BuildHasherDefault, FoldHasher};
-use std::test::Fail;
+use std::process::Abort;
 
 mod bulks;
 mod edits;
@@ -20,45 +20,19 @@ mod shown;
 mod synced;
 mod taken;
 
-fn words_of(alloc: Global, line: &str) -> Result<Vec<String>, AllocError> {
-    let mut words = Vec::new(alloc);
-    for word in line.split_whitespace() {
-        words.push(String::from_str(alloc, word)?)?;
+/// The words of the line, with one space between them.
+fn words_of(rt: &(impl Abort + AllocGlobal), line: &str) -> Vec<String> {
+    let mut words = Vec::new(rt.alloc());
+    for word in line.split(' ') {
+        let word = String::from_str(rt.alloc(), word).expect(rt, "memory");
+        words.push(word).expect(rt, "memory");
     }
-    Ok(words)
-}
-
-/// An input that comes in pieces, and whose calls fail that are listed.
-fn source(
-    alloc: Global,
-    bytes: &[u8],
-    piece: usize,
-    fails: &[u32],
-) -> Result<MemSource, AllocError> {
-    let bytes = Vec::from_slice(alloc, bytes)?;
-    let fails = Vec::from_slice(alloc, fails)?;
-    Ok(MemSource::new(bytes, piece.max(1), fails))
-}
-
-fn sink(alloc: Global, piece: usize, fails: &[u32]) -> Result<MemSink, AllocError> {
-    let fails = Vec::from_slice(alloc, fails)?;
-    Ok(MemSink::new(alloc, piece.max(1), fails))
-}
-
-fn disk(alloc: Global, bytes: &[u8], fails: &[u32]) -> Result<MemDisk, AllocError> {
-    let bytes = Vec::from_slice(alloc, bytes)?;
-    let fails = Vec::from_slice(alloc, fails)?;
-    Ok(MemDisk::new(alloc, bytes, fails))
-}
-
-fn sure_disk(alloc: Global, bytes: &[u8], room: usize) -> Result<SureDisk, Fail> {
-    let bytes = Vec::from_slice(alloc, bytes)?;
-    Ok(SureDisk::new(alloc, bytes, room)?)
+    words
 }
 
 /// Runs the words of the line.
 fn run_line<S: Source, O: Sink, N: Sink, H: Disk, G: Disk, W: Wire, D: Dock>(
-    alloc: Global,
+    rt: &(impl Abort + AllocGlobal),
     line: &str,
     input: &mut S,
     output: &mut O,
@@ -67,28 +41,40 @@ fn run_line<S: Source, O: Sink, N: Sink, H: Disk, G: Disk, W: Wire, D: Dock>(
     guest: &mut G,
     wire: &mut W,
     dock: &mut D,
-) -> Result<Status, AllocError> {
-    let words = words_of(alloc, line)?;
+) -> Status {
+    let words = words_of(rt, line);
     let hasher: BuildHasherDefault<FoldHasher> = BuildHasherDefault::default();
-    Ok(run(
-        alloc, &words, input, output, notes, home, guest, wire, dock, hasher,
-    ))
+    let status = run(
+        rt.alloc(),
+        &words,
+        input,
+        output,
+        notes,
+        home,
+        guest,
+        wire,
+        dock,
+        hasher,
+    );
+    drop(words);
+    status
 }
 
 /// Runs a command that asks nobody and serves nobody: each call on a relay or a dock would fail.
 fn run_offline<S: Source, O: Sink, N: Sink, H: Disk, G: Disk>(
-    alloc: Global,
+    rt: &(impl Abort + AllocGlobal),
     line: &str,
     input: &mut S,
     output: &mut O,
     notes: &mut N,
     home: &mut H,
     guest: &mut G,
-) -> Result<Status, AllocError> {
+) -> Status {
+    let alloc = rt.alloc();
     let mut wire = MemWire::new(alloc, Vec::new(alloc), 1, Vec::new(alloc));
     let mut dock = MemDock::new(alloc, Vec::new(alloc), 1, Vec::new(alloc));
     let status = run_line(
-        alloc, line, input, output, notes, home, guest, &mut wire, &mut dock,
+        rt, line, input, output, notes, home, guest, &mut wire, &mut dock,
     );
     drop(dock);
     drop(wire);
@@ -97,101 +83,75 @@ fn run_offline<S: Source, O: Sink, N: Sink, H: Disk, G: Disk>(
 
 /// Runs a command that uses no file: each call on one would fail.
 fn show_by<S: Source, O: Sink, N: Sink>(
-    alloc: Global,
+    rt: &(impl Abort + AllocGlobal),
     line: &str,
     input: &mut S,
     output: &mut O,
     notes: &mut N,
-) -> Result<Status, AllocError> {
+) -> Status {
     let mut home = FileDisk::closed();
     let mut guest = FileDisk::closed();
-    run_offline(alloc, line, input, output, notes, &mut home, &mut guest)
+    let status = run_offline(rt, line, input, output, notes, &mut home, &mut guest);
+    drop(guest);
+    drop(home);
+    status
 }
 
-/// Runs on the file alone, with this input.
+/// Runs on the file alone, with an input that comes in pieces and of which these calls fail.
 fn run_on<O: Sink, N: Sink, H: Disk>(
-    alloc: Global,
+    rt: &(impl Abort + AllocGlobal),
     line: &str,
-    input: &[u8],
+    input: (&[u8], &[u32]),
     output: &mut O,
     notes: &mut N,
     home: &mut H,
-) -> Result<Status, AllocError> {
-    let mut input = source(alloc, input, 7, &[])?;
+) -> Status {
+    let mut input = MemSource::new(list(rt, input.0), 10, list(rt, input.1));
     let mut guest = FileDisk::closed();
-    run_offline(alloc, line, &mut input, output, notes, home, &mut guest)
+    let status = run_offline(rt, line, &mut input, output, notes, home, &mut guest);
+    drop(guest);
+    drop(input);
+    status
 }
 
-/// The same with notes that are sure, and answers the status where they are this line.
-fn run_noting<O: Sink, H: Disk>(
-    alloc: Global,
+/// What is wanted of a run: what is written, what is noted, and the status.
+type Ends = (&'static [u8], &'static [u8], Status);
+
+/// Whether a run on the file ends so, on an output with room for just what is wanted.
+fn ends_on<H: Disk>(
+    rt: &(impl Abort + AllocGlobal),
     line: &str,
     input: &[u8],
-    output: &mut O,
-    noted: &[u8],
+    ends: (&[u8], &[u8], Status),
     home: &mut H,
-) -> Result<Option<Status>, Fail> {
-    let mut notes = SureSink::new(alloc, 4096, 256)?;
-    let status = run_on(alloc, line, input, output, &mut notes, home)?;
-    Ok((notes.written() == noted).then_some(status))
+) -> bool {
+    let mut output = sure_sink(rt, ends.0.len());
+    let mut notes = sure_sink(rt, 256);
+    let status = run_on(rt, line, (input, &[]), &mut output, &mut notes, home);
+    let is_so = (output.written(), notes.written(), status) == ends;
+    drop(notes);
+    drop(output);
+    is_so
 }
 
-/// Whether the command on the file is done, and has nothing to note.
-fn is_done<H: Disk>(
-    alloc: Global,
+/// The same on a sure file of these bytes, with room for so much, and whether it leaves these bytes.
+fn ends_so(
+    rt: &(impl Abort + AllocGlobal),
     line: &str,
-    output: &mut MemSink,
-    home: &mut H,
-) -> Result<bool, Fail> {
-    let status = run_noting(alloc, line, b"", output, b"", home)?;
-    Ok(status == Some(Status::Done))
+    input: &[u8],
+    file: (&[u8], usize),
+    ends: (&[u8], &[u8], Status),
+    left: &[u8],
+) -> bool {
+    let mut home = sure_disk(rt, list(rt, file.0), file.1);
+    let is_so = ends_on(rt, line, input, ends, &mut home) && has_bytes(&mut home, left);
+    drop(home);
+    is_so
 }
 
-/// Whether this is printed of the file.
-fn prints<H: Disk>(alloc: Global, home: &mut H, text: &[u8]) -> Result<bool, Fail> {
-    let mut output = MemSink::new(alloc, 64, Vec::new(alloc));
-    Ok(is_done(alloc, "print F", &mut output, home)? && output.written() == text)
-}
-
-/// Whether the file has these bytes.
-fn has_bytes<H: Disk>(disk: &mut H, wanted: &[u8]) -> bool {
-    let mut buf = [0; 512];
-    match disk.read_at(0, &mut buf) {
-        Ok(count) => &buf[..count] == wanted,
-        Err(_) => false,
-    }
-}
-
-/// What came out of a run, beside the text and the line of notes that are wanted of a whole one.
-#[derive(Clone, Copy, PartialEq, Eq)]
-struct Seen {
-    status: Status,
-    /// The output holds the text, and a front of it.
-    is_text: bool,
-    is_front: bool,
-    /// The notes hold the line, and a front of it with the fault's line behind.
-    is_line: bool,
-    is_cut_off: bool,
-}
-
-impl Seen {
-    fn of(status: Status, written: &[u8], noted: &[u8], text: &[u8], line: &[u8]) -> Seen {
-        Seen {
-            status,
-            is_text: written == text,
-            is_front: text.starts_with(written),
-            is_line: noted == line,
-            is_cut_off: is_cut_off(noted, line),
-        }
-    }
-
-    fn is_shown(self, status: Status) -> bool {
-        self.status == status && self.is_text && self.is_line
-    }
-
-    fn is_outside(self) -> bool {
-        self.status == Status::OutsideFault && self.is_front && self.is_cut_off
-    }
+/// Whether the command writes this of the file, and has nothing to note.
+fn gives<H: Disk>(rt: &(impl Abort + AllocGlobal), line: &str, home: &mut H, text: &[u8]) -> bool {
+    ends_on(rt, line, b"", (text, b"", Status::Done), home)
 }
 
 /// The calls of the input, the output and the notes that fail, counted from 0.
@@ -199,46 +159,29 @@ type Fails = [&'static [u32]; 3];
 
 const NONE: Fails = [&[], &[], &[]];
 
+/// What came out of a run: the status, whether the output and the notes are those of a whole run, and whether they are what
+/// a fault outside leaves of these.
+type Seen = (Status, bool, bool);
+
 /// Runs on a stream that comes in pieces. The output takes three bytes at once, and the notes 64.
 fn see(
-    alloc: Global,
-    words: &str,
-    bytes: Vec<u8>,
-    piece: usize,
+    rt: &(impl Abort + AllocGlobal),
+    line: &str,
+    stream: (Vec<u8>, usize),
     fails: Fails,
     text: &[u8],
-    line: &[u8],
-) -> Result<Seen, AllocError> {
-    let fail = Vec::from_slice(alloc, fails[0])?;
-    let mut input = MemSource::new(bytes, piece.max(1), fail);
-    see_of(alloc, words, &mut input, fails, text, line)
-}
-
-fn see_of(
-    alloc: Global,
-    words: &str,
-    input: &mut MemSource,
-    fails: Fails,
-    text: &[u8],
-    line: &[u8],
-) -> Result<Seen, AllocError> {
-    let mut output = sink(alloc, 3, fails[1])?;
-    see_by(alloc, words, input, &mut output, fails[2], text, line)
-}
-
-fn see_by(
-    alloc: Global,
-    words: &str,
-    input: &mut MemSource,
-    output: &mut MemSink,
-    fails: &[u32],
-    text: &[u8],
-    line: &[u8],
-) -> Result<Seen, AllocError> {
-    let mut notes = sink(alloc, 64, fails)?;
-    let status = show_by(alloc, words, input, output, &mut notes)?;
-    let (written, noted) = (output.written(), notes.written());
-    Ok(Seen::of(status, written, noted, text, line))
+    note: &[u8],
+) -> Seen {
+    let mut input = MemSource::new(stream.0, stream.1.max(1), list(rt, fails[0]));
+    let mut output = MemSink::new(rt.alloc(), 3, list(rt, fails[1]));
+    let mut notes = MemSink::new(rt.alloc(), 64, list(rt, fails[2]));
+    let status = show_by(rt, line, &mut input, &mut output, &mut notes);
+    let is_whole = output.written() == text && notes.written() == note;
+    let is_cut = text.starts_with(output.written()) && is_cut_off(notes.written(), note);
+    drop(notes);
+    drop(output);
+    drop(input);
+    (status, is_whole, is_cut)
 }
 
 /// The notes hold a front of the line, and then the fault's line.
@@ -252,34 +195,19 @@ fn is_cut_off(notes: &[u8], line: &[u8]) -> bool {
 /// Runs on sure objects: the output takes so many bytes, and the notes 256. The answer is the status, and whether the text
 /// was written.
 fn see_surely(
-    alloc: Global,
-    words: &str,
+    rt: &(impl Abort + AllocGlobal),
+    line: &str,
     bytes: Vec<u8>,
     room: usize,
     text: &[u8],
-) -> Result<(Status, bool), Fail> {
+) -> (Status, bool) {
     let mut input = SureSource::new(bytes, 4096);
-    see_within(alloc, words, &mut input, room, text)
-}
-
-fn see_within(
-    alloc: Global,
-    words: &str,
-    input: &mut SureSource,
-    room: usize,
-    text: &[u8],
-) -> Result<(Status, bool), Fail> {
-    let mut output = SureSink::new(alloc, 4096, room)?;
-    let status = show_into(alloc, words, input, &mut output)?;
-    Ok((status, output.written() == text))
-}
-
-fn show_into(
-    alloc: Global,
-    words: &str,
-    input: &mut SureSource,
-    output: &mut SureSink,
-) -> Result<Status, Fail> {
-    let mut notes = SureSink::new(alloc, 4096, 256)?;
-    Ok(show_by(alloc, words, input, output, &mut notes)?)
+    let mut output = sure_sink(rt, room);
+    let mut notes = sure_sink(rt, 256);
+    let status = show_by(rt, line, &mut input, &mut output, &mut notes);
+    let is_text = output.written() == text;
+    drop(notes);
+    drop(output);
+    drop(input);
+    (status, is_text)
 }

@@ -1,16 +1,16 @@
-ghost use Rattle.std.specs.Prelude.{All, IfOk};
-ghost use Rattle.outer_ports.specs.dock.Steps.{HasBytes};
-
 mod syncs;
 
 use crate::assertions::{equal, equal_at};
-use crate::says::{HELLO, says};
-use outer_ports::{Dock, DockStep, MemDock, MemStep};
+use crate::frames::REPLY;
+use crate::memory::list;
+use crate::sessions::Coming::{Goes, Opens, Says};
+use crate::sessions::{Coming, HELLO, steps};
+use fugue_ids::Failed;
+use outer_ports::{Dock, DockStep, MemDock};
 use relay_core::{MOST_LOGGED, Relay};
 use relay_sync::{ServeFault, serve};
-use std::alloc::Global;
 use std::hash::{BuildHasherDefault, FoldHasher};
-use std::test::Fail;
+use std::process::Abort;
 
 /// The same, and the frame of a text.
 const HELLO_TEXT: &[u8] = &[
@@ -20,93 +20,105 @@ const HELLO_TEXT: &[u8] = &[
 /// The frame of a section.
 const SECTION: &[u8] = &[1, 0, 0, 0, 9, 0, 0, 0, 0, 0, 0, 0, 1, 84];
 
-/// Both frames, the text first, and the length of a log of two.
-const BOTH: &[u8] = &[
-    2, 0, 0, 0, 1, 0, 0, 0, 0, 0, 0, 0, 9, 0, 0, 0, 0, 0, 0, 0, 0, 97, 1, 0, 0, 0, 9, 0, 0, 0, 0,
-    0, 0, 0, 1, 84, 0x55, 0, 0, 0, 2,
-];
-
 /// Two sessions bring a frame each, and end their texts.
-fn two_sessions(alloc: Global) -> Result<Vec<MemStep>, Fail>
-    ensures { IfOk result (λ steps. All HasBytes steps.items) }
-{
-    let mut steps = Vec::new(alloc);
-    steps.push(MemStep::Opened(0))?;
-    steps.push(MemStep::Opened(1))?;
-    steps.push(says(alloc, 0, HELLO)?)?;
-    steps.push(says(alloc, 1, HELLO_TEXT)?)?;
-    steps.push(says(alloc, 0, SECTION)?)?;
-    steps.push(says(alloc, 1, &[0x44])?)?;
-    steps.push(says(alloc, 0, &[0x44])?)?;
-    Ok(steps)
-}
+const TWO_SESSIONS: &[Coming] = &[
+    Opens(0),
+    Opens(1),
+    Says(0, HELLO),
+    Says(1, HELLO_TEXT),
+    Says(0, SECTION),
+    Says(1, &[0x44]),
+    Says(0, &[0x44]),
+];
 
 /// What a new relay comes to at the dock, and how many frames its log has then.
 fn served(
-    alloc: Global,
+    rt: &(impl Abort + AllocGlobal),
     dock: &mut MemDock,
     sessions: u32,
     steps: u64,
 ) -> (Result<(), ServeFault>, u32) {
     let mut relay: Relay<BuildHasherDefault<FoldHasher>> = Relay::new(
-        alloc,
+        rt.alloc(),
         BuildHasherDefault::default(),
         MOST_LOGGED,
     );
-    let result = serve(alloc, &mut relay, dock, sessions, steps);
+    let result = serve(rt.alloc(), &mut relay, dock, sessions, steps);
     let logged = relay.log_len();
     drop(relay);
     (result, logged)
 }
 
-#[test]
-fn each_session_is_sent_its_reply_and_ended(rt: HostRuntime) -> Result<(), Fail> {
-    let none = Vec::new(rt.alloc());
-    let mut dock = MemDock::new(rt.alloc(), two_sessions(rt.alloc())?, 7, none);
-    equal(&rt, served(rt.alloc(), &mut dock, 2, 100), (Ok(()), 2));
-    equal(&rt, (dock.sent(0), dock.sent(1)), (BOTH, BOTH));
-    equal(&rt, dock.ended(), [1, 0].as_slice());
+/// What comes at a dock, how many bytes a call it gives and takes, how many sessions and steps are served, and what is wanted.
+struct Serving {
+    coming: &'static [Coming<'static>],
+    piece: usize,
+    sessions: u32,
+    steps: u64,
+    result: Result<(), ServeFault>,
+    logged: u32,
+    /// What each of two sessions is sent.
+    sent: &'static [u8],
+    ended: &'static [u32],
+    /// The step that was not asked for.
+    next: Result<DockStep, Failed>,
+}
+
+const SERVINGS: &[Serving] = &[
+    Serving {
+        coming: TWO_SESSIONS,
+        piece: 7,
+        sessions: 2,
+        steps: 100,
+        result: Ok(()),
+        logged: 2,
+        sent: REPLY,
+        ended: &[1, 0],
+        next: Err(Failed),
+    },
+    // Sessions that take too many steps are left.
+    Serving {
+        coming: TWO_SESSIONS,
+        piece: 100,
+        sessions: 1,
+        steps: 2,
+        result: Err(ServeFault::TooLong),
+        logged: 0,
+        sent: &[],
+        ended: &[],
+        next: Ok(DockStep::Bytes(0, 5)),
+    },
+    // Sessions are gone, one of them twice and never opened: a number counts once.
+    Serving {
+        coming: &[Goes(5), Goes(5), Opens(6), Goes(6), Opens(9)],
+        piece: 7,
+        sessions: 2,
+        steps: 100,
+        result: Ok(()),
+        logged: 0,
+        sent: &[],
+        ended: &[],
+        next: Ok(DockStep::Opened(9)),
+    },
+];
+
+/// Serves at a dock, and compares.
+fn serves_so(rt: &(impl Abort + AllocGlobal), row: &Serving) {
+    let steps = steps(rt, row.coming);
+    let mut dock = MemDock::new(rt.alloc(), steps, row.piece.max(1), Vec::new(rt.alloc()));
+    let result = served(rt, &mut dock, row.sessions, row.steps);
+    equal(rt, result, (row.result, row.logged));
+    equal(rt, (dock.sent(0), dock.sent(1)), (row.sent, row.sent));
+    equal(rt, dock.ended(), row.ended);
+    equal(rt, dock.next(&mut [0; 5]), row.next);
     drop(dock);
-    Ok(())
 }
 
 #[test]
-fn sessions_that_take_too_many_steps_are_left(rt: HostRuntime) -> Result<(), Fail> {
-    let none = Vec::new(rt.alloc());
-    let mut dock = MemDock::new(rt.alloc(), two_sessions(rt.alloc())?, 100, none);
-    equal(
-        &rt,
-        served(rt.alloc(), &mut dock, 1, 2),
-        (Err(ServeFault::TooLong), 0),
-    );
-    equal(&rt, dock.next(&mut [0; 5]), Ok(DockStep::Bytes(0, 5)));
-    drop(dock);
-    Ok(())
-}
-
-/// Sessions that are gone, one of them twice and never opened.
-fn gone_sessions(alloc: Global) -> Result<Vec<MemStep>, Fail>
-    ensures { IfOk result (λ steps. All HasBytes steps.items) }
-{
-    let mut steps = Vec::new(alloc);
-    steps.push(MemStep::Gone(5))?;
-    steps.push(MemStep::Gone(5))?;
-    steps.push(MemStep::Opened(6))?;
-    steps.push(MemStep::Gone(6))?;
-    steps.push(MemStep::Opened(9))?;
-    Ok(steps)
-}
-
-#[test]
-fn a_number_counts_once_and_no_step_is_asked_for_behind_the_last(
-    rt: HostRuntime,
-) -> Result<(), Fail> {
-    let none = Vec::new(rt.alloc());
-    let mut dock = MemDock::new(rt.alloc(), gone_sessions(rt.alloc())?, 7, none);
-    equal(&rt, served(rt.alloc(), &mut dock, 2, 100), (Ok(()), 0));
-    equal(&rt, dock.next(&mut [0; 1]), Ok(DockStep::Opened(9)));
-    drop(dock);
-    Ok(())
+fn each_session_is_sent_its_reply_and_ended(rt: HostRuntime) {
+    for row in SERVINGS {
+        serves_so(&rt, row);
+    }
 }
 
 /// All that a session says that brings both frames.
@@ -115,60 +127,38 @@ const BRINGS_BOTH: &[u8] = &[
     0, 9, 0, 0, 0, 0, 0, 0, 0, 1, 84, 0x44,
 ];
 
-/// A session that is gone behind these bytes.
-fn gone_behind(alloc: Global, bytes: &[u8]) -> Result<Vec<MemStep>, Fail>
-    ensures { IfOk result (λ steps. All HasBytes steps.items) }
-{
-    let mut steps = Vec::new(alloc);
-    steps.push(MemStep::Opened(0))?;
-    if !bytes.is_empty() {
-        steps.push(says(alloc, 0, bytes)?)?;
-    }
-    steps.push(MemStep::Gone(0))?;
-    Ok(steps)
-}
-
-/// How many frames came whole where a session that brings both is cut.
-fn whole_frames(count: usize) -> u32 {
-    match count {
-        0..=26 => 0,
-        27..=40 => 1,
-        _ => 2,
-    }
-}
-
-#[test]
-fn a_session_may_be_cut_at_each_byte(rt: HostRuntime) -> Result<(), Fail> {
-    for count in 0..BRINGS_BOTH.len() {
-        let steps = gone_behind(rt.alloc(), &BRINGS_BOTH[..count])?;
-        let mut dock = MemDock::new(rt.alloc(), steps, 7, Vec::new(rt.alloc()));
-        let result = served(rt.alloc(), &mut dock, 1, 100);
-        equal_at(&rt, &count, result, (Ok(()), whole_frames(count)));
-        assert!(rt; dock.sent(0).is_empty() && dock.ended().is_empty());
-        drop(dock);
-    }
-    Ok(())
-}
-
-#[test]
-fn a_session_that_is_not_cut_is_answered(rt: HostRuntime) -> Result<(), Fail> {
-    let steps = gone_behind(rt.alloc(), BRINGS_BOTH)?;
+/// A session that brings both frames is gone behind so many bytes, of which so many frames came whole, and is answered so.
+fn is_cut(rt: &(impl Abort + AllocGlobal), count: usize, logged: u32, sent: &[u8]) {
+    let said = &BRINGS_BOTH[..count.min(BRINGS_BOTH.len())];
+    let steps = steps(rt, &[Opens(0), Says(0, said), Goes(0)]);
     let mut dock = MemDock::new(rt.alloc(), steps, 7, Vec::new(rt.alloc()));
-    equal(&rt, served(rt.alloc(), &mut dock, 1, 100), (Ok(()), 2));
-    equal(&rt, dock.sent(0), BOTH);
+    equal_at(rt, &count, served(rt, &mut dock, 1, 100), (Ok(()), logged));
+    equal_at(rt, &count, dock.sent(0), sent);
+    equal_at(rt, &count, dock.ended().is_empty(), sent.is_empty());
     drop(dock);
-    Ok(())
 }
 
 #[test]
-fn a_call_that_fails_ends_it(rt: HostRuntime) -> Result<(), Fail> {
+fn a_session_may_be_cut_at_each_byte(rt: HostRuntime) {
+    for count in 0..BRINGS_BOTH.len() {
+        let logged = match count {
+            0..=26 => 0,
+            27..=40 => 1,
+            _ => 2,
+        };
+        is_cut(&rt, count, logged, &[]);
+    }
+    is_cut(&rt, BRINGS_BOTH.len(), 2, REPLY);
+}
+
+#[test]
+fn a_call_that_fails_ends_it(rt: HostRuntime) {
     // In pieces of 7 bytes: ten steps, six sends and an end; one step, six sends and an end.
     for call in 0..25 {
-        let fail = [call].to_vec(rt.alloc())?;
-        let mut dock = MemDock::new(rt.alloc(), two_sessions(rt.alloc())?, 7, fail);
-        let (result, _) = served(rt.alloc(), &mut dock, 2, 100);
-        equal_at(&rt, &call, result, Err(ServeFault::DockFault));
+        let steps = steps(&rt, TWO_SESSIONS);
+        let mut dock = MemDock::new(rt.alloc(), steps, 7, list(&rt, &[call]));
+        let (result, _) = served(&rt, &mut dock, 2, 100);
         drop(dock);
+        equal_at(&rt, &call, result, Err(ServeFault::DockFault));
     }
-    Ok(())
 }

@@ -1,6 +1,6 @@
 //! Frames of operations, as they stand in a stream, and files.
 
-use std::alloc::{AllocError, Global};
+use std::process::Abort;
 
 /// The section (9,0) with the title T.
 pub(crate) const S: &[u8] = b"\x01\0\0\0\x09\0\0\0\0\0\0\0\x01T";
@@ -108,11 +108,17 @@ pub(crate) const SAVED: &[u8] = b"FGMX\x01\0\0\0\x01\0\0\0\x10\
 /// What is printed of it.
 pub(crate) const PRINTED: &[u8] = b"# T\nAC\n";
 
+/// What a relay answers to who asks for a log of two frames: those of a and of the section, and the log's length.
+pub(crate) const REPLY: &[u8] = &[
+    2, 0, 0, 0, 1, 0, 0, 0, 0, 0, 0, 0, 9, 0, 0, 0, 0, 0, 0, 0, 0, 97, 1, 0, 0, 0, 9, 0, 0, 0, 0,
+    0, 0, 0, 1, 84, 0x55, 0, 0, 0, 2,
+];
+
 /// The frames, one behind the other.
-pub(crate) fn stream(alloc: Global, frames: &[&[u8]]) -> Result<Vec<u8>, AllocError> {
-    let mut bytes = Vec::new(alloc);
+pub(crate) fn stream(rt: &(impl Abort + AllocGlobal), frames: &[&[u8]]) -> Vec<u8> {
+    let mut bytes = Vec::new(rt.alloc());
     for frame in frames {
-        bytes.extend_from_slice(frame)?;
+        bytes.extend_from_slice(frame).expect(rt, "memory");
     }
-    Ok(bytes)
+    bytes
 }

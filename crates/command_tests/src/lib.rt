@@ -14,6 +14,8 @@ mod files;
 #[cfg(test)]
 mod frames;
 #[cfg(test)]
-mod says;
+mod memory;
 #[cfg(test)]
 mod scripts;
+#[cfg(test)]
+mod sessions;

@@ -2,16 +2,15 @@ ghost use Rattle.origin_model.specs.taking.Taking.{IsSettled};
 
 mod plain;
 
-use crate::assertions::{equal, equal_at};
-use edit_script::{LONGEST_SCRIPT, ScriptFault, run_script};
+use crate::assertions::{equal, equal_at, holds_at};
+use crate::memory::list;
+use edit_script::{ScriptFault, run_script};
 use fugue_ids::{ElementId, Op, Title};
 use outer_ports::{MemSink, MemSource};
 use plain::has_form;
 use replica_core::Replica;
-use std::alloc::Global;
 use std::process::Abort;
 use std::str;
-use std::test::Fail;
 
 /// A script, what is answered, and what is shown then. Each row begins where the one before it left off.
 type Row = (&'static str, Result<u32, ScriptFault>, &'static str);
@@ -124,181 +123,146 @@ const FAULTS: [Row; 36] = [
     ),
 ];
 
-/// Runs a script that comes in pieces of seven bytes. The reads listed in `fail` fail.
+const LIMIT: [Row; 2] = [
+    ("add 1 T\nput 1 0 ab", Ok(3), "# T\nab\n"),
+    ("cut 1 0 1", Err(ScriptFault::TooMany(3)), "# T\nab\n"),
+];
+
+/// A new replica that may accept so many operations.
+fn new_replica(rt: &(impl Abort + AllocGlobal), most: u32) -> Replica {
+    Replica::new(rt.alloc(), 1, 1, most).expect(rt, "memory")
+}
+
+/// Runs a script that comes in pieces of seven bytes. The reads listed in `fails` fail.
 fn run_bytes(
-    alloc: Global,
+    rt: &(impl Abort + AllocGlobal),
     replica: &mut Replica,
     script: Vec<u8>,
-    fail: Vec<u32>,
+    fails: &[u32],
 ) -> Result<u32, ScriptFault>
     requires { IsSettled replica.old.held }
     ensures { IsSettled replica.new.held }
 {
-    let mut source = MemSource::new(script, 7, fail);
-    run_script(alloc, replica, &mut source)
-}
-
-fn compare_shown(
-    rt: &impl Abort,
-    alloc: Global,
-    replica: &Replica,
-    wanted: &str,
-) -> Result<(), Fail> {
-    let mut sink = MemSink::new(alloc, 100, Vec::new(alloc));
-    replica.write_manuscript(&mut sink)?;
-    equal(rt, sink.written(), wanted.as_bytes());
-    Ok(())
+    let mut source = MemSource::new(script, 7, list(rt, fails));
+    let answer = run_script(rt.alloc(), replica, &mut source);
+    drop(source);
+    answer
 }
 
 fn compare(
-    rt: &impl Abort,
-    alloc: Global,
+    rt: &(impl Abort + AllocGlobal),
     replica: &mut Replica,
     script: Vec<u8>,
-    fail: Vec<u32>,
+    fails: &[u32],
     row: &Row,
-) -> Result<(), Fail> {
-    assert!(rt; replica.is_settled());
-    let answer = run_bytes(alloc, replica, script, fail);
+) {
+    assert!(*rt; replica.is_settled());
+    let answer = run_bytes(rt, replica, script, fails);
     equal_at(rt, &row.0, answer, row.1);
-    compare_shown(rt, alloc, replica, row.2)
+    let mut sink = MemSink::new(rt.alloc(), 100, Vec::new(rt.alloc()));
+    let written = replica.write_manuscript(&mut sink);
+    holds_at(rt, &row.0, written.is_ok());
+    equal_at(rt, &row.0, sink.written(), row.2.as_bytes());
+    drop(sink);
 }
 
-/// What is done with a new replica that may accept so many operations.
-fn with_new<F: FnOnce(&mut Replica) -> Result<(), Fail>>(
-    alloc: Global,
-    most: u32,
-    then: F,
-) -> Result<(), Fail>
-    requires { F.IsAlwaysCallable then }
-{
-    let mut replica = Replica::new(alloc, 1, 1, most)?;
-    let done = then(&mut replica);
-    drop(replica);
-    done
-}
-
-fn run_rows(rt: &impl Abort, alloc: Global, most: u32, rows: &[Row]) -> Result<(), Fail> {
-    with_new(alloc, most, |replica| run_each(rt, alloc, replica, rows))
-}
-
-fn run_each(
-    rt: &impl Abort,
-    alloc: Global,
-    replica: &mut Replica,
-    rows: &[Row],
-) -> Result<(), Fail> {
+fn run_each(rt: &(impl Abort + AllocGlobal), replica: &mut Replica, rows: &[Row]) {
     for row in rows {
-        let script = Vec::from_slice(alloc, row.0.as_bytes())?;
-        compare(rt, alloc, replica, script, Vec::new(alloc), row)?;
+        compare(rt, replica, list(rt, row.0.as_bytes()), &[], row);
     }
-    Ok(())
 }
+
+fn run_on_new(rt: &(impl Abort + AllocGlobal), most: u32, rows: &[Row]) {
+    let mut replica = new_replica(rt, most);
+    run_each(rt, &mut replica, rows);
+    drop(replica);
+}
+
+/// Places count what a reader sees, the first faulty line decides, and no operation is made that may not be.
+#[test]
+fn scripts_change_what_is_shown(rt: HostRuntime) {
+    run_on_new(&rt, 1000, &PLACES);
+    run_on_new(&rt, 1000, &FAULTS);
+    run_on_new(&rt, 3, &LIMIT);
+}
+
+/// A front, the length to which it is filled, and with which byte, the reads that fail, and the row. Nothing is shown then.
+const WHOLE: [(&[u8], usize, u8, &[u32], Row); 5] = [
+    (b"", 1_048_576, b'\n', &[], ("limit", Ok(0), "")),
+    (
+        b"add 1 T\n",
+        1_048_577,
+        b'\n',
+        &[],
+        ("one byte more", Err(ScriptFault::TooLong), ""),
+    ),
+    (
+        b"add 1 T\nadd 1 U",
+        16,
+        b'\n',
+        &[1],
+        ("a failed read", Err(ScriptFault::ReadFault), ""),
+    ),
+    (
+        b"# a\n# \xff",
+        8,
+        b'\n',
+        &[],
+        ("not UTF-8", Err(ScriptFault::BadLine(2)), ""),
+    ),
+    (
+        b"add 1 ",
+        487,
+        b'a',
+        &[],
+        ("a long title", Err(ScriptFault::BadLine(1)), ""),
+    ),
+];
 
 #[test]
-fn places_count_what_a_reader_sees(rt: HostRuntime) -> Result<(), Fail> {
-    run_rows(&rt, rt.alloc(), 1000, &PLACES)
+fn a_script_is_read_whole_before_it_runs(rt: HostRuntime) {
+    let mut replica = new_replica(&rt, 1000);
+    for (front, len, byte, fails, row) in &WHOLE {
+        let mut script = list(&rt, front);
+        script.resize(*len, *byte).expect(&rt, "memory");
+        compare(&rt, &mut replica, script, fails, row);
+    }
+    drop(replica);
 }
 
-#[test]
-fn the_first_faulty_line_decides(rt: HostRuntime) -> Result<(), Fail> {
-    run_rows(&rt, rt.alloc(), 1000, &FAULTS)
-}
+const SPENT: [Row; 2] = [
+    ("add 1 U", Err(ScriptFault::IdsSpent(u32::MAX)), "# T\n\n"),
+    ("drop 1", Ok(1), ""),
+];
 
-#[test]
-fn one_operation_more_than_may_be(rt: HostRuntime) -> Result<(), Fail> {
-    let rows: [Row; 2] = [
-        ("add 1 T\nput 1 0 ab", Ok(3), "# T\nab\n"),
-        ("cut 1 0 1", Err(ScriptFault::TooMany(3)), "# T\nab\n"),
-    ];
-    run_rows(&rt, rt.alloc(), 3, &rows)
-}
-
-/// A byte, many times, behind a front.
-fn filled(alloc: Global, front: &[u8], len: usize, byte: u8) -> Result<Vec<u8>, Fail> {
-    let mut bytes = Vec::from_slice(alloc, front)?;
-    bytes.resize(len, byte)?;
-    Ok(bytes)
-}
-
-fn read_whole(rt: &impl Abort, alloc: Global, replica: &mut Replica) -> Result<(), Fail> {
-    let none = Vec::new(alloc);
-    let limit = filled(alloc, b"", 1_048_576, b'\n')?;
-    compare(rt, alloc, replica, limit, none, &("limit", Ok(0), ""))?;
-    let none = Vec::new(alloc);
-    let longer = filled(alloc, b"add 1 T\n", 1_048_577, b'\n')?;
-    let too_long = ("one byte more", Err(ScriptFault::TooLong), "");
-    compare(rt, alloc, replica, longer, none, &too_long)?;
-    let second = Vec::from_slice(alloc, &[1])?;
-    let cut_off = Vec::from_slice(alloc, b"add 1 T\nadd 1 U\n")?;
-    let fault = ("a failed read", Err(ScriptFault::ReadFault), "");
-    compare(rt, alloc, replica, cut_off, second, &fault)
-}
-
-#[test]
-fn a_script_is_read_whole_before_it_runs(rt: HostRuntime) -> Result<(), Fail> {
-    with_new(
-        rt.alloc(),
-        1000,
-        |replica| read_whole(&rt, rt.alloc(), replica),
-    )
-}
-
-fn bytes_and_titles(rt: &impl Abort, alloc: Global, replica: &mut Replica) -> Result<(), Fail> {
-    let none = Vec::new(alloc);
-    let note = Vec::from_slice(alloc, b"# a\n# \xff\n")?;
-    let bad = ("not UTF-8", Err(ScriptFault::BadLine(2)), "");
-    compare(rt, alloc, replica, note, none, &bad)?;
-    let none = Vec::new(alloc);
-    let long = filled(alloc, b"add 1 ", 6 + 481, b'a')?;
-    let bad = ("a long title", Err(ScriptFault::BadLine(1)), "");
-    compare(rt, alloc, replica, long, none, &bad)
-}
-
-#[test]
-fn what_is_no_text_or_no_title_is_a_bad_line(rt: HostRuntime) -> Result<(), Fail> {
-    with_new(
-        rt.alloc(),
-        1000,
-        |replica| bytes_and_titles(&rt, rt.alloc(), replica),
-    )
-}
-
-fn spend(rt: &impl Abort, alloc: Global, replica: &mut Replica) -> Result<(), Fail> {
-    assert!(rt; replica.is_settled());
-    let last = Op::Section {
-        id: ElementId {
-            replica: 1,
-            counter: u32::MAX,
-        },
-        left: None,
-        right: None,
-        title: Title::read(alloc, "T")?,
-    };
-    assert!(rt; replica.deliver(last).is_ok());
-    let rows: [Row; 2] = [
-        ("add 1 U", Err(ScriptFault::IdsSpent(u32::MAX)), "# T\n\n"),
-        ("drop 1", Ok(1), ""),
-    ];
-    run_each(rt, alloc, replica, &rows)
-}
-
-#[test]
-fn no_counter_is_left(rt: HostRuntime) -> Result<(), Fail> {
-    with_new(rt.alloc(), 1000, |replica| spend(&rt, rt.alloc(), replica))
-}
-
-fn put_behind_a_hidden_one(
-    rt: &impl Abort,
-    alloc: Global,
-    replica: &mut Replica,
-) -> Result<(), Fail> {
-    run_each(rt, alloc, replica, &PLACES[..1])?;
-    let own = |counter| ElementId {
+fn own(counter: u32) -> ElementId {
+    ElementId {
         replica: 1,
         counter,
+    }
+}
+
+#[test]
+fn no_counter_is_left(rt: HostRuntime) {
+    let last = Op::Section {
+        id: own(u32::MAX),
+        left: None,
+        right: None,
+        title: Title::read(rt.alloc(), "T").expect(&rt, "a title"),
     };
-    match replica.accepted() {
+    let mut replica = new_replica(&rt, 1000);
+    assert!(rt; replica.is_settled());
+    let is_taken = replica.deliver(last).is_ok();
+    equal(&rt, is_taken, true);
+    run_each(&rt, &mut replica, &SPENT);
+    drop(replica);
+}
+
+#[test]
+fn a_hidden_element_is_the_right_origin(rt: HostRuntime) {
+    let mut replica = new_replica(&rt, 1000);
+    run_each(&rt, &mut replica, &PLACES[..1]);
+    let is_behind = match replica.accepted() {
         [
             ..,
             Op::Text {
@@ -307,21 +271,11 @@ fn put_behind_a_hidden_one(
                 right,
                 ..
             },
-        ] => {
-            assert!(rt; *id == own(3) && *left == Some(own(1)) && *right == Some(own(2)));
-        }
-        _ => assert!(rt; false),
-    }
-    Ok(())
-}
-
-#[test]
-fn a_hidden_element_is_the_right_origin(rt: HostRuntime) -> Result<(), Fail> {
-    with_new(
-        rt.alloc(),
-        1000,
-        |replica| put_behind_a_hidden_one(&rt, rt.alloc(), replica),
-    )
+        ] => (*id, *left, *right) == (own(3), Some(own(1)), Some(own(2))),
+        _ => false,
+    };
+    equal(&rt, is_behind, true);
+    drop(replica);
 }
 
 /// Lines that are odd in one byte, which is another one or is left out.
@@ -349,58 +303,41 @@ const BYTES: [Option<u8>; 12] = [
 ];
 
 /// The line with this byte at a position, or without the one there.
-fn odd(alloc: Global, line: &str, at: usize, byte: Option<u8>) -> Result<Vec<u8>, Fail> {
-    let mut bytes = Vec::new(alloc);
+fn odd(rt: &(impl Abort + AllocGlobal), line: &str, at: usize, byte: Option<u8>) -> Vec<u8> {
+    let mut bytes = Vec::new(rt.alloc());
     for (position, old) in line.bytes().enumerate() {
-        if position != at {
-            bytes.push(old)?;
-        } else if let Some(new) = byte {
-            bytes.push(new)?;
+        let here = if position == at { byte } else { Some(old) };
+        if let Some(byte) = here {
+            bytes.push(byte).expect(rt, "memory");
         }
     }
-    Ok(bytes)
+    bytes
 }
 
 /// A line is bad exactly where the plain reading finds no form.
-fn compare_form(rt: &impl Abort, alloc: Global, replica: &mut Replica, line: Vec<u8>)
-    requires { IsSettled replica.old.held }
-    ensures { IsSettled replica.new.held }
-{
+fn compare_form(rt: &(impl Abort + AllocGlobal), replica: &mut Replica, line: Vec<u8>) {
     let wanted = match str::from_utf8(&line) {
         Ok(text) => has_form(text),
         Err(_) => false,
     };
-    let answer = run_bytes(alloc, replica, line, Vec::new(alloc));
+    assert!(*rt; replica.is_settled());
+    let answer = run_bytes(rt, replica, line, &[]);
     equal(rt, answer != Err(ScriptFault::BadLine(1)), wanted);
 }
 
-fn compare_odd(
-    rt: &impl Abort,
-    alloc: Global,
-    replica: &mut Replica,
-    line: &str,
-) -> Result<(), Fail> {
+fn compare_odd(rt: &(impl Abort + AllocGlobal), replica: &mut Replica, line: &str) {
     for at in 0..line.len() {
         for byte in BYTES {
-            assert!(rt; replica.is_settled());
-            compare_form(rt, alloc, replica, odd(alloc, line, at, byte)?);
+            compare_form(rt, replica, odd(rt, line, at, byte));
         }
     }
-    Ok(())
-}
-
-fn compare_lines(rt: &impl Abort, alloc: Global, replica: &mut Replica) -> Result<(), Fail> {
-    for line in LINES {
-        compare_odd(rt, alloc, replica, line)?;
-    }
-    Ok(())
 }
 
 #[test]
-fn a_line_is_bad_exactly_where_a_plain_reading_finds_no_form(rt: HostRuntime) -> Result<(), Fail> {
-    with_new(
-        rt.alloc(),
-        1000,
-        |replica| compare_lines(&rt, rt.alloc(), replica),
-    )
+fn a_line_is_bad_exactly_where_a_plain_reading_finds_no_form(rt: HostRuntime) {
+    let mut replica = new_replica(&rt, 1000);
+    for line in LINES {
+        compare_odd(&rt, &mut replica, line);
+    }
+    drop(replica);
 }

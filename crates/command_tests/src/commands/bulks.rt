@@ -1,8 +1,7 @@
 use super::{Fails, NONE, Seen, see, see_surely};
-use crate::assertions::holds_at;
+use crate::assertions::equal_at;
 use manuscript_cli::Status;
-use std::alloc::{AllocError, Global};
-use std::test::Fail;
+use std::process::Abort;
 
 /// The words, what is written, what is noted, and the status.
 type Row = (&'static str, &'static str, &'static str, Status);
@@ -26,6 +25,19 @@ const ROWS: &[Row] = &[
         "",
         Status::Done,
     ),
+    // Many turns lead to the same each time.
+    (
+        "bulk 7 2000",
+        "operations 2001\nscalars 1538\nsum 129221028\nequal\n",
+        "",
+        Status::Done,
+    ),
+    (
+        "bulk 7 2000",
+        "operations 2001\nscalars 1538\nsum 129221028\nequal\n",
+        "",
+        Status::Done,
+    ),
     ("bulk 7 0", "", NOT_UNDERSTOOD, Status::Usage),
     ("bulk 7 1000001", "", NOT_UNDERSTOOD, Status::Usage),
     ("bulk 4294967296 4", "", NOT_UNDERSTOOD, Status::Usage),
@@ -36,18 +48,17 @@ const ROWS: &[Row] = &[
 
 /// Runs with an empty input.
 fn sums(
-    alloc: Global,
+    rt: &(impl Abort + AllocGlobal),
     words: &str,
     fails: Fails,
     text: &str,
     line: &str,
-) -> Result<Seen, AllocError> {
-    let input = Vec::new(alloc);
+) -> Seen {
+    let input = Vec::new(rt.alloc());
     see(
-        alloc,
+        rt,
         words,
-        input,
-        1,
+        (input, 1),
         fails,
         text.as_bytes(),
         line.as_bytes(),
@@ -55,25 +66,14 @@ fn sums(
 }
 
 #[test]
-fn a_seed_leads_to_one_summary(rt: HostRuntime) -> Result<(), Fail> {
+fn a_seed_leads_to_one_summary(rt: HostRuntime) {
     for (words, text, line, status) in ROWS {
-        let seen = sums(rt.alloc(), words, NONE, text, line)?;
-        holds_at(&rt, &words, seen.is_shown(*status));
+        let seen = sums(&rt, words, NONE, text, line);
+        equal_at(&rt, &words, seen, (*status, true, false));
     }
-    Ok(())
 }
 
-#[test]
-fn many_turns_lead_to_the_same_each_time(rt: HostRuntime) -> Result<(), Fail> {
-    let text = "operations 2001\nscalars 1538\nsum 129221028\nequal\n";
-    for _ in 0..2 {
-        let seen = sums(rt.alloc(), "bulk 7 2000", NONE, text, "")?;
-        assert!(rt; seen.is_shown(Status::Done));
-    }
-    Ok(())
-}
-
-/// Calls that fail alone: writes of the summary, and of the fault's line.
+/// Calls that fail alone: writes of the summary.
 const FAILING: &[Fails] = &[
     [&[], &[0], &[]],
     [&[], &[1], &[]],
@@ -82,23 +82,23 @@ const FAILING: &[Fails] = &[
 ];
 
 #[test]
-fn each_write_of_a_summary_may_fail(rt: HostRuntime) -> Result<(), Fail> {
+fn each_write_of_a_summary_may_fail(rt: HostRuntime) {
+    // The last byte is not written.
+    let front = "operations 5\nscalars 4\nsum 1074\nequal";
     for fails in FAILING {
-        let seen = sums(rt.alloc(), "bulk 7 4", *fails, FOUR, "")?;
-        holds_at(&rt, &fails, seen.is_outside() && !seen.is_text);
+        let seen = sums(&rt, "bulk 7 4", *fails, front, "");
+        equal_at(&rt, &fails, seen, (Status::OutsideFault, false, true));
     }
-    Ok(())
 }
 
 #[test]
-fn a_summary_fits_its_room(rt: HostRuntime) -> Result<(), Fail> {
+fn a_summary_fits_its_room(rt: HostRuntime) {
     for (room, wanted) in [
         (FOUR.len(), (Status::Done, true)),
         (FOUR.len() - 1, (Status::OutsideFault, false)),
     ] {
         let input = Vec::new(rt.alloc());
-        let seen = see_surely(rt.alloc(), "bulk 7 4", input, room, FOUR.as_bytes())?;
-        assert!(rt; seen == wanted);
+        let seen = see_surely(&rt, "bulk 7 4", input, room, FOUR.as_bytes());
+        equal_at(&rt, &room, seen, wanted);
     }
-    Ok(())
 }

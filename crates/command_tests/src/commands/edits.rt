@@ -1,12 +1,11 @@
-use super::{disk, has_bytes, prints, run_offline, run_on, sink, source, sure_disk};
+use super::{ends_on, ends_so, gives, run_on};
 use crate::assertions::{equal_at, holds_at};
-use crate::files::PICKS;
+use crate::files::has_bytes;
 use crate::frames::{NEW, PRINTED, SAVED};
+use crate::memory::list;
 use manuscript_cli::Status;
-use outer_ports::{Disk, FileDisk, MemDisk, MemSink, MemSource, Pick, Sink, SureDisk, SureSink};
-use std::alloc::{AllocError, Global};
+use outer_ports::{MemDisk, MemSink, Pick};
 use std::process::Abort;
-use std::test::Fail;
 
 /// It makes of the new file what is saved.
 const SCRIPT: &[u8] = b"add 1 T\nput 1 0 AB\ncut 1 1 1\nput 1 1 C\n";
@@ -42,34 +41,6 @@ const TYPED: &[u8] = b"FGMX\x01\0\0\0\x01\0\0\0\x10\
 \x01\0\0\0\x16\
 \x02\0\0\0\x01\0\0\0\x01\0\0\0\x09\0\0\0\0\0\0\0\0x\
 \0";
-
-/// Runs the script on the file.
-fn edits<N: Sink, H: Disk>(
-    alloc: Global,
-    script: &[u8],
-    notes: &mut N,
-    home: &mut H,
-) -> Result<Status, AllocError> {
-    let mut output = MemSink::new(alloc, 64, Vec::new(alloc));
-    let status = run_on(alloc, "edit F", script, &mut output, notes, home)?;
-    Ok(if output.written().is_empty() {
-        status
-    } else {
-        Status::Usage
-    })
-}
-
-/// Runs the script on the file, and answers the status where the notes are this line.
-fn edits_noting<H: Disk>(
-    alloc: Global,
-    script: &[u8],
-    line: &[u8],
-    home: &mut H,
-) -> Result<Option<Status>, Fail> {
-    let mut notes = SureSink::new(alloc, 4096, 256)?;
-    let status = edits(alloc, script, &mut notes, home)?;
-    Ok((notes.written() == line).then_some(status))
-}
 
 /// The script, the file, the room, the line of notes, the status, and the file behind the run.
 type Row = (
@@ -137,89 +108,86 @@ const ROWS: &[Row] = &[
     ),
 ];
 
-/// Whether the row's script on its file, which has just the room, ends as the row says.
-fn ends_so(alloc: Global, row: &Row) -> Result<bool, Fail> {
-    let (script, file, room, line, status, left) = *row;
-    let mut home = sure_disk(alloc, file, room)?;
-    let end = edits_noting(alloc, script.as_bytes(), line.as_bytes(), &mut home)?;
-    Ok(end == Some(status) && has_bytes(&mut home, left))
-}
-
 #[test]
-fn a_script_is_run_and_saved(rt: HostRuntime) -> Result<(), Fail> {
-    for row in ROWS {
-        holds_at(&rt, &row.0, ends_so(rt.alloc(), row)?);
+fn a_script_is_run_and_saved(rt: HostRuntime) {
+    for (script, file, room, line, status, left) in ROWS {
+        let ends: (&[u8], &[u8], Status) = (b"", line.as_bytes(), *status);
+        let is_so = ends_so(&rt, "edit F", script.as_bytes(), (file, *room), ends, left);
+        holds_at(&rt, &script, is_so);
     }
-    Ok(())
 }
 
-/// What a crash left is the file with the script's operations, or without them; then the script goes through.
-fn has_all_or_none<H: Disk>(
-    rt: &impl Abort,
-    alloc: Global,
-    home: &mut H,
-    saved: bool,
-) -> Result<(), Fail> {
-    if prints(alloc, home, PRINTED)? {
-        return Ok(());
-    }
-    assert!(rt; !saved && prints(alloc, home, b"")?);
-    let again = edits_noting(alloc, SCRIPT, b"made 5\n", home)?;
-    assert!(rt; again == Some(Status::Done) && prints(alloc, home, PRINTED)?);
-    Ok(())
+/// Whether the script is run on the file, and saved.
+fn is_edited(rt: &(impl Abort + AllocGlobal), home: &mut MemDisk) -> bool {
+    ends_on(rt, "edit F", SCRIPT, (b"", b"made 5\n", Status::Done), home)
 }
 
-fn looks_at(
-    rt: &impl Abort,
-    alloc: Global,
+/// Whether a crash leaves the file with the script's operations, as it must where they are saved, or without them; then the
+/// script goes through.
+fn is_whole_behind(
+    rt: &(impl Abort + AllocGlobal),
     home: &MemDisk,
     pick: Pick,
-    saved: bool,
-) -> Result<(), Fail> {
-    let mut left = home.crash(pick)?;
-    has_all_or_none(rt, alloc, &mut left, saved)
+    is_saved: bool,
+) -> bool {
+    let mut left = home.crash(pick).expect(rt, "memory");
+    let is_whole = gives(rt, "print F", &mut left, PRINTED)
+        || !is_saved
+            && gives(rt, "print F", &mut left, b"")
+            && is_edited(rt, &mut left)
+            && gives(rt, "print F", &mut left, PRINTED);
+    drop(left);
+    is_whole
 }
 
-/// Runs the script, and looks at what crashes leave. The answer is whether no call failed.
-fn crashes(rt: &impl Abort, alloc: Global, home: &mut MemDisk) -> Result<bool, Fail> {
-    let done = edits_noting(alloc, SCRIPT, b"made 5\n", home)? == Some(Status::Done);
-    for pick in PICKS {
-        looks_at(rt, alloc, home, *pick, done)?;
-    }
-    Ok(done)
-}
-
-/// The same on a disk that fails at this call.
-fn crash_at(rt: &impl Abort, alloc: Global, call: u32) -> Result<bool, Fail> {
-    let mut home = disk(alloc, NEW, &[call])?;
-    crashes(rt, alloc, &mut home)
-}
+/// The crashes behind which a file is looked at.
+const PICKS: &[Pick] = &[
+    Pick::Old,
+    Pick::New,
+    Pick::Fill(0),
+    Pick::Fill(1),
+    Pick::Fill(7),
+    Pick::Fill(255),
+];
 
 #[test]
-fn a_crash_leaves_all_of_a_script_or_none(rt: HostRuntime) -> Result<(), Fail> {
+fn a_crash_leaves_all_of_a_script_or_none(rt: HostRuntime) {
     // Loading is a sync and two reads, and a batch is two writes and two syncs.
     for call in 0..9 {
-        equal_at(&rt, &call, crash_at(&rt, rt.alloc(), call)?, call >= 7);
+        crash_at(&rt, call, call >= 7);
     }
-    Ok(())
 }
 
-/// Runs the script on a new file, and answers the status where the file shows what the script made.
-fn edits_new(alloc: Global, notes: &mut MemSink) -> Result<Option<Status>, Fail> {
-    let mut home = disk(alloc, NEW, &[])?;
-    let status = edits(alloc, SCRIPT, notes, &mut home)?;
-    Ok(prints(alloc, &mut home, PRINTED)?.then_some(status))
+/// Runs the script where this call on the file fails, and looks at what crashes leave. It is saved where no call fails.
+fn crash_at(rt: &(impl Abort + AllocGlobal), call: u32, is_saved: bool) {
+    let mut home = MemDisk::new(rt.alloc(), list(rt, NEW), list(rt, &[call]));
+    equal_at(rt, &call, is_edited(rt, &mut home), is_saved);
+    for pick in PICKS {
+        let is_whole = is_whole_behind(rt, &home, *pick, is_saved);
+        holds_at(rt, &(call, pick), is_whole);
+    }
+    drop(home);
 }
 
-/// The same where calls of the notes fail, which then hold this line.
-fn noted_without(alloc: Global, fails: &[u32], line: &[u8]) -> Result<Option<Status>, Fail> {
-    let mut notes = sink(alloc, 64, fails)?;
-    let status = edits_new(alloc, &mut notes)?;
-    Ok(if notes.written() == line {
-        status
-    } else {
-        None
-    })
+/// Runs the script on a new file, where calls of the script and of the notes fail. The answer is the status, and whether this
+/// line is noted, nothing is written and the file has these bytes.
+fn edits_new(
+    rt: &(impl Abort + AllocGlobal),
+    fails: [&[u32]; 2],
+    line: &[u8],
+    left: &[u8],
+) -> (Status, bool) {
+    let mut home = MemDisk::new(rt.alloc(), list(rt, NEW), Vec::new(rt.alloc()));
+    let mut output = MemSink::new(rt.alloc(), 64, Vec::new(rt.alloc()));
+    let mut notes = MemSink::new(rt.alloc(), 64, list(rt, fails[1]));
+    let script = (SCRIPT, fails[0]);
+    let status = run_on(rt, "edit F", script, &mut output, &mut notes, &mut home);
+    let is_noted = notes.written() == line && output.written().is_empty();
+    drop(notes);
+    drop(output);
+    let is_left = has_bytes(&mut home, left);
+    drop(home);
+    (status, is_noted && is_left)
 }
 
 /// The calls of the notes that fail, what is noted then, and the status. The line goes out in three parts, and so does the
@@ -233,58 +201,23 @@ const NOTED: &[(&[u32], &[u8], Status)] = &[
 ];
 
 #[test]
-fn what_was_saved_stands_where_the_notes_fail(rt: HostRuntime) -> Result<(), Fail> {
+fn what_was_saved_stands_where_the_notes_fail(rt: HostRuntime) {
     for (fails, line, status) in NOTED {
-        let end = noted_without(rt.alloc(), fails, line)?;
-        holds_at(&rt, &(fails, end), end == Some(*status));
+        let end = edits_new(&rt, [&[], fails], line, SAVED);
+        equal_at(&rt, &fails, end, (*status, true));
     }
-    Ok(())
-}
-
-/// Runs the script on the file, where a read of the script fails.
-fn reads_without(alloc: Global, call: u32, home: &mut SureDisk) -> Result<Status, AllocError> {
-    let mut input = source(alloc, SCRIPT, 10, &[call])?;
-    edits_from(alloc, &mut input, home)
-}
-
-fn edits_from(
-    alloc: Global,
-    input: &mut MemSource,
-    home: &mut SureDisk,
-) -> Result<Status, AllocError> {
-    let mut output = MemSink::new(alloc, 64, Vec::new(alloc));
-    let mut notes = MemSink::new(alloc, 64, Vec::new(alloc));
-    let mut guest = FileDisk::closed();
-    run_offline(
-        alloc,
-        "edit F",
-        input,
-        &mut output,
-        &mut notes,
-        home,
-        &mut guest,
-    )
-}
-
-/// The same on a new file. The answer is the status, where the file is as it was, or the script was saved.
-fn read_without(alloc: Global, call: u32) -> Result<Option<Status>, Fail> {
-    let mut home = sure_disk(alloc, NEW, 119)?;
-    let end = reads_without(alloc, call, &mut home)?;
-    let left = if end == Status::Done { SAVED } else { NEW };
-    Ok(has_bytes(&mut home, left).then_some(end))
 }
 
 #[test]
-fn a_script_that_is_not_read_whole_saves_nothing(rt: HostRuntime) -> Result<(), Fail> {
+fn a_script_that_is_not_read_whole_saves_nothing(rt: HostRuntime) {
     // The script has 39 bytes: four pieces, and an empty read at its end.
     for call in 0..7 {
-        let wanted = if call < 5 {
-            Status::OutsideFault
+        let (status, line, left): (Status, &[u8], &[u8]) = if call < 5 {
+            (Status::OutsideFault, b"outside fault\n", NEW)
         } else {
-            Status::Done
+            (Status::Done, b"made 5\n", SAVED)
         };
-        let end = read_without(rt.alloc(), call)?;
-        holds_at(&rt, &(call, end), end == Some(wanted));
+        let end = edits_new(&rt, [&[call], &[]], line, left);
+        equal_at(&rt, &call, end, (status, true));
     }
-    Ok(())
 }

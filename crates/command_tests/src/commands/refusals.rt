@@ -3,8 +3,7 @@
 use crate::assertions::holds_at;
 use manuscript_cli::{Refusal, Status, tell};
 use outer_ports::MemSink;
-use std::alloc::Global;
-use std::test::Fail;
+use std::process::Abort;
 
 /// Each refusal, its text and its status.
 const REFUSALS: &[(Refusal, &str, Status)] = &[
@@ -49,18 +48,20 @@ const REFUSALS: &[(Refusal, &str, Status)] = &[
     (Refusal::NoMemory, "no memory", Status::NoMemory),
 ];
 
-/// The refusal as it is told, and as it is displayed.
-fn is_told(alloc: Global, refusal: Refusal, text: &str, status: Status) -> Result<bool, Fail> {
-    let line = format!(in alloc; "{refusal}\n")?;
-    let mut notes = MemSink::new(alloc, 5, Vec::new(alloc));
+/// Whether the refusal is told, and displayed, by this line, with this status.
+fn is_told(rt: &(impl Abort + AllocGlobal), refusal: Refusal, text: &str, status: Status) -> bool {
+    let line = format!(in rt.alloc(); "{refusal}\n").expect(rt, "memory");
+    let mut notes = MemSink::new(rt.alloc(), 5, Vec::new(rt.alloc()));
     let end = tell(&mut notes, refusal);
-    Ok(end == status && notes.written() == line.as_bytes() && line.trim_end() == text)
+    let is_so = end == status && notes.written() == line.as_bytes() && line.trim_end() == text;
+    drop(notes);
+    drop(line);
+    is_so
 }
 
 #[test]
-fn refusals_are_told_in_a_line(rt: HostRuntime) -> Result<(), Fail> {
+fn refusals_are_told_in_a_line(rt: HostRuntime) {
     for (refusal, text, status) in REFUSALS {
-        holds_at(&rt, &text, is_told(rt.alloc(), *refusal, text, *status)?);
+        holds_at(&rt, &text, is_told(&rt, *refusal, text, *status));
     }
-    Ok(())
 }

@@ -1,16 +1,18 @@
 //! Streams that are shown.
 
-use super::{Fails, NONE, see, see_surely, show_by, sink};
-use crate::assertions::holds_at;
+use super::{Fails, NONE, see, see_surely, show_by};
+use crate::assertions::{equal, equal_at, holds_at};
 use crate::frames::{
     A, A_BEFORE_B, B, BEHIND_A, CUT, D, DROP_B, DROP_D, DROP_S, IN_A, LOWER_A, LOWER_B, NOWHERE,
     OTHER_A, P, Q, S, SMALL_B, SMALL_X, SMALL_Y, V, X, X_BEFORE_Y, Y, Y_BEHIND_X, Z, stream,
 };
+use crate::memory::list;
 use manuscript_cli::Status;
 use outer_ports::{MemSink, MemSource};
-use std::alloc::{AllocError, Global};
 use std::process::Abort;
-use std::test::Fail;
+
+/// The frame of A with a kind that there is not.
+const NO_KIND: &[u8] = b"\0\0\0\0\x01\0\0\0\x01\0\0\0\x09\0\0\0\0\0\x01\0\0\0\x01\0\0\0\0\0\0A";
 
 /// The words, the frames, the output, the notes and the status.
 type Row = (
@@ -136,6 +138,13 @@ const ROWS: &[Row] = &[
     ),
     (
         "show",
+        &[S, B, NO_KIND, D, X, Y],
+        "",
+        "bad frame at byte 36\n",
+        Status::BadInput,
+    ),
+    (
+        "show",
         &[S, CUT],
         "",
         "cut short at byte 14\n",
@@ -160,26 +169,21 @@ const ROWS: &[Row] = &[
     ("print", &[S], "", "words not understood\n", Status::Usage),
 ];
 
-/// Whether the row's stream comes to what is wanted of it in pieces of each of these sizes.
-fn is_shown(alloc: Global, row: &Row) -> Result<bool, Fail> {
+/// The row's stream comes to what is wanted of it in pieces of each of these sizes.
+fn is_shown(rt: &(impl Abort + AllocGlobal), row: &Row) {
     let (words, frames, text, line, status) = *row;
     for piece in [1, 5, 4096] {
-        let bytes = stream(alloc, frames)?;
-        let (text, line) = (text.as_bytes(), line.as_bytes());
-        let seen = see(alloc, words, bytes, piece, NONE, text, line)?;
-        if !seen.is_shown(status) {
-            return Ok(false);
-        }
+        let stream = (stream(rt, frames), piece);
+        let seen = see(rt, words, stream, NONE, text.as_bytes(), line.as_bytes());
+        equal_at(rt, &(words, text, line, piece), seen, (status, true, false));
     }
-    Ok(true)
 }
 
 #[test]
-fn a_stream_is_shown_and_counted(rt: HostRuntime) -> Result<(), Fail> {
+fn a_stream_is_shown_and_counted(rt: HostRuntime) {
     for row in ROWS {
-        holds_at(&rt, &(row.0, row.2), is_shown(rt.alloc(), row)?);
+        is_shown(&rt, row);
     }
-    Ok(())
 }
 
 const TEXT: &[u8] = b"# T\nAXYDB\n";
@@ -189,59 +193,47 @@ const COUNTS: &[u8] = b"accepted 6, repeated 0, waiting 0, conflict 0, stray 0, 
 const FRAMES: &[&[u8]] = &[S, B, A, D, X, Y];
 
 #[test]
-fn pieces_of_each_size_print_the_same(rt: HostRuntime) -> Result<(), Fail> {
+fn pieces_of_each_size_print_the_same(rt: HostRuntime) {
     for piece in 1..=172usize {
-        let bytes = stream(rt.alloc(), FRAMES)?;
-        let seen = see(rt.alloc(), "show", bytes, piece, NONE, TEXT, COUNTS)?;
-        holds_at(&rt, &piece, seen.is_shown(Status::Done));
+        let stream = (stream(&rt, FRAMES), piece);
+        let seen = see(&rt, "show", stream, NONE, TEXT, COUNTS);
+        equal_at(&rt, &piece, seen, (Status::Done, true, false));
     }
-    Ok(())
 }
 
-/// Where a frame of the stream begins or ends.
-const ENDS: [usize; 7] = [0, 14, 36, 66, 96, 134, 172];
+/// Where each frame of the stream begins and ends, and the end of the stream.
+const PLACES: &[(usize, usize)] = &[
+    (0, 14),
+    (14, 36),
+    (36, 66),
+    (66, 96),
+    (96, 134),
+    (134, 172),
+    (172, 173),
+];
 
-/// The last end of a frame that is no greater.
-fn end_before(length: usize) -> usize {
-    ENDS.iter()
-        .copied()
-        .filter(|end| *end <= length)
-        .max()
-        .unwrap_or(0)
-}
-
-/// Whether the stream, cut to the length, is told to be whole, or to be cut in the frame that it ends in.
-fn is_cut_short(alloc: Global, length: usize) -> Result<bool, Fail> {
-    let mut bytes = stream(alloc, FRAMES)?;
-    bytes.truncate(length);
-    let end = end_before(length);
-    let line = format!(in alloc; "cut short at byte {end}\n")?;
-    let seen = see(alloc, "show", bytes, 4096, NONE, b"", line.as_bytes())?;
-    Ok(if end == length {
-        seen.status == Status::Done
-    } else {
-        seen.is_shown(Status::BadInput)
-    })
+/// The stream, cut at each byte of a frame, is whole where the frame begins, and is told to be cut short there elsewhere.
+fn is_cut_short(rt: &(impl Abort + AllocGlobal), begin: usize, end: usize) {
+    let line = format!(in rt.alloc(); "cut short at byte {begin}\n").expect(rt, "memory");
+    for length in begin..end {
+        let mut bytes = stream(rt, FRAMES);
+        bytes.truncate(length);
+        let (status, is_told, _) = see(rt, "show", (bytes, 4096), NONE, b"", line.as_bytes());
+        let is_right = if length == begin {
+            status == Status::Done
+        } else {
+            status == Status::BadInput && is_told
+        };
+        holds_at(rt, &length, is_right);
+    }
+    drop(line);
 }
 
 #[test]
-fn a_stream_may_end_behind_each_frame_and_nowhere_else(rt: HostRuntime) -> Result<(), Fail> {
-    for length in 0..=172usize {
-        holds_at(&rt, &length, is_cut_short(rt.alloc(), length)?);
+fn a_stream_may_end_behind_each_frame_and_nowhere_else(rt: HostRuntime) {
+    for (begin, end) in PLACES {
+        is_cut_short(&rt, *begin, *end);
     }
-    Ok(())
-}
-
-#[test]
-fn a_changed_kind_is_told_with_its_byte(rt: HostRuntime) -> Result<(), Fail> {
-    let mut bytes = stream(rt.alloc(), FRAMES)?;
-    if let Some(kind) = bytes.get_mut(36) {
-        *kind = 0;
-    }
-    let line = b"bad frame at byte 36\n";
-    let seen = see(rt.alloc(), "show", bytes, 4096, NONE, b"", line)?;
-    assert!(rt; seen.is_shown(Status::BadInput));
-    Ok(())
 }
 
 /// Calls that fail alone. The stream has 172 bytes: 8 pieces of 22 bytes, and an empty read at its end. A write of the
@@ -276,159 +268,148 @@ const FAILING: &[Fails] = &[
 ];
 
 #[test]
-fn each_call_may_fail(rt: HostRuntime) -> Result<(), Fail> {
+fn each_call_may_fail(rt: HostRuntime) {
     for fails in FAILING {
-        let bytes = stream(rt.alloc(), FRAMES)?;
-        let seen = see(rt.alloc(), "show", bytes, 22, *fails, TEXT, COUNTS)?;
-        assert!(rt; seen.is_outside());
+        let stream = (stream(&rt, FRAMES), 22);
+        let seen = see(&rt, "show", stream, *fails, TEXT, COUNTS);
+        equal_at(&rt, &fails, seen, (Status::OutsideFault, false, true));
     }
-    let bytes = stream(rt.alloc(), FRAMES)?;
-    let seen = see(
-        rt.alloc(),
-        "show",
-        bytes,
-        22,
-        [&[9], &[4], &[13]],
-        TEXT,
-        COUNTS,
-    )?;
-    assert!(rt; seen.is_shown(Status::Done));
-    Ok(())
+    let stream = (stream(&rt, FRAMES), 22);
+    let behind: Fails = [&[9], &[4], &[13]];
+    let seen = see(&rt, "show", stream, behind, TEXT, COUNTS);
+    equal(&rt, seen, (Status::Done, true, false));
 }
 
 #[test]
-fn sure_objects_with_room_do_not_fail(rt: HostRuntime) -> Result<(), Fail> {
+fn sure_objects_with_room_do_not_fail(rt: HostRuntime) {
     for (room, wanted) in [
         (10, (Status::Done, true)),
         (9, (Status::OutsideFault, false)),
     ] {
-        let bytes = stream(rt.alloc(), FRAMES)?;
-        let seen = see_surely(rt.alloc(), "show", bytes, room, TEXT)?;
-        assert!(rt; seen == wanted);
+        let bytes = stream(&rt, FRAMES);
+        equal_at(
+            &rt,
+            &room,
+            see_surely(&rt, "show", bytes, room, TEXT),
+            wanted,
+        );
     }
-    Ok(())
 }
 
 /// One of the orders of the frames, by its number.
-fn permuted(alloc: Global, frames: &[&'static [u8]], number: usize) -> Result<Vec<u8>, AllocError> {
+fn permuted(rt: &(impl Abort + AllocGlobal), frames: &[&'static [u8]], number: usize) -> Vec<u8> {
     let mut number = number;
-    let mut left = Vec::from_slice(alloc, frames)?;
-    let mut bytes = Vec::new(alloc);
+    let mut left = list(rt, frames);
+    let mut bytes = Vec::new(rt.alloc());
     for _ in frames {
         let count = left.len();
         if count > 0 {
-            bytes.extend_from_slice(left.remove(number % count))?;
+            let frame = left.remove(number % count);
+            bytes.extend_from_slice(frame).expect(rt, "memory");
             number /= count;
         }
     }
-    Ok(bytes)
-}
-
-/// One of the orders of the frames, and then another one of them all.
-fn permuted_twice(alloc: Global, number: usize) -> Result<Vec<u8>, AllocError> {
-    let mut bytes = permuted(alloc, FRAMES, number)?;
-    let again = permuted(alloc, FRAMES, number / 2)?;
-    bytes.extend_from_slice(&again)?;
-    Ok(bytes)
+    drop(left);
+    bytes
 }
 
 #[test]
-fn every_order_and_repeat_prints_the_same(rt: HostRuntime) -> Result<(), Fail> {
+fn every_order_and_repeat_prints_the_same(rt: HostRuntime) {
     let line = b"accepted 6, repeated 6, waiting 0, conflict 0, stray 0, full 0\n";
     for number in 0..720usize {
-        let bytes = permuted_twice(rt.alloc(), number)?;
-        let seen = see(rt.alloc(), "show", bytes, 4096, NONE, TEXT, line)?;
-        holds_at(&rt, &number, seen.is_shown(Status::Done));
+        let mut bytes = permuted(&rt, FRAMES, number);
+        let again = permuted(&rt, FRAMES, number / 2);
+        bytes.extend_from_slice(&again).expect(&rt, "memory");
+        drop(again);
+        let seen = see(&rt, "show", (bytes, 4096), NONE, TEXT, line);
+        equal_at(&rt, &number, seen, (Status::Done, true, false));
     }
-    Ok(())
 }
 
-/// The frames, how many of their orders are tried, how far these lie apart, and what each prints.
-type Case = (&'static [&'static [u8]], usize, usize, &'static str);
+/// The frames, how many of their orders are tried, how far these lie apart, and what each prints and notes.
+type Case = (
+    &'static [&'static [u8]],
+    usize,
+    usize,
+    &'static [u8],
+    &'static [u8],
+);
+
+const FIVE: &[u8] = b"accepted 5, repeated 0, waiting 0, conflict 0, stray 0, full 0\n";
+
+const EIGHT: &[u8] = b"accepted 8, repeated 0, waiting 0, conflict 0, stray 0, full 0\n";
 
 const CASES: &[Case] = &[
-    (&[S, B, A, D, X, Y, DROP_D, DROP_B], 1_000, 40, "# T\nAXY\n"),
-    (&[S, P, Q, Z, V], 120, 1, "# T\nPQVZ\n"),
+    (
+        &[S, B, A, D, X, Y, DROP_D, DROP_B],
+        1_000,
+        40,
+        b"# T\nAXY\n",
+        EIGHT,
+    ),
+    (&[S, P, Q, Z, V], 120, 1, b"# T\nPQVZ\n", FIVE),
     (
         &[S, LOWER_A, LOWER_B, SMALL_X, Y_BEHIND_X],
         120,
         1,
-        "# T\nabxy\n",
+        b"# T\nabxy\n",
+        FIVE,
     ),
     (
         &[S, SMALL_B, A_BEFORE_B, SMALL_Y, X_BEFORE_Y],
         120,
         1,
-        "# T\nabxy\n",
+        b"# T\nabxy\n",
+        FIVE,
     ),
 ];
 
-/// Whether this order of the frames prints the text.
-fn prints_in_order(
-    alloc: Global,
-    frames: &[&'static [u8]],
-    number: usize,
-    text: &str,
-) -> Result<bool, Fail> {
-    let bytes = permuted(alloc, frames, number)?;
-    let seen = see(alloc, "show", bytes, 4096, NONE, text.as_bytes(), b"")?;
-    Ok(seen.status == Status::Done && seen.is_text)
-}
-
-fn orders_print(rt: &impl Abort, alloc: Global, case: &Case) -> Result<(), Fail> {
-    let (frames, orders, step, text) = *case;
+fn orders_print(rt: &(impl Abort + AllocGlobal), case: &Case) {
+    let (frames, orders, step, text, line) = *case;
     for turn in 0..orders {
-        let number = turn.saturating_mul(step);
-        holds_at(
-            rt,
-            &(number, text),
-            prints_in_order(alloc, frames, number, text)?,
-        );
+        let bytes = permuted(rt, frames, turn.saturating_mul(step));
+        let seen = see(rt, "show", (bytes, 4096), NONE, text, line);
+        equal_at(rt, &(text, turn), seen, (Status::Done, true, false));
     }
-    Ok(())
 }
 
 #[test]
-fn the_orders_of_a_case_print_its_text(rt: HostRuntime) -> Result<(), Fail> {
+fn the_orders_of_a_case_print_its_text(rt: HostRuntime) {
     for case in CASES {
-        orders_print(&rt, rt.alloc(), case)?;
+        orders_print(&rt, case);
     }
-    Ok(())
 }
 
 /// The section with so many letters, each typed behind the one before.
-fn typed(alloc: Global, count: u32) -> Result<Vec<u8>, AllocError> {
-    let mut bytes = stream(alloc, &[S, LOWER_A])?;
+fn typed(rt: &(impl Abort + AllocGlobal), count: u32) -> Vec<u8> {
+    let mut bytes = stream(rt, &[S, LOWER_A]);
     for counter in 1..count {
-        bytes.extend_from_slice(b"\x02\0\0\0\x01")?;
-        bytes.extend_from_slice(&counter.to_be_bytes())?;
-        bytes.extend_from_slice(b"\0\0\0\x09\0\0\0\0\x01\0\0\0\x01")?;
-        bytes.extend_from_slice(&(counter - 1).to_be_bytes())?;
-        bytes.extend_from_slice(b"\0\0\0a")?;
+        let frame: [&[u8]; 5] = [
+            b"\x02\0\0\0\x01",
+            &counter.to_be_bytes(),
+            b"\0\0\0\x09\0\0\0\0\x01\0\0\0\x01",
+            &(counter - 1).to_be_bytes(),
+            b"\0\0\0a",
+        ];
+        let frame = stream(rt, &frame);
+        bytes.extend_from_slice(&frame).expect(rt, "memory");
+        drop(frame);
     }
-    Ok(bytes)
-}
-
-fn is_many_letters(written: &[u8]) -> bool {
-    written.len() == 10_005 && written.starts_with(b"# T\naaa") && written.ends_with(b"aaa\n")
-}
-
-/// Whether they are written to an output of which this call fails.
-fn writes_many_letters(
-    alloc: Global,
-    input: &mut MemSource,
-    fails: &[u32],
-) -> Result<bool, AllocError> {
-    let mut output = sink(alloc, 65_536, fails)?;
-    let mut notes = MemSink::new(alloc, 64, Vec::new(alloc));
-    let status = show_by(alloc, "show", input, &mut output, &mut notes)?;
-    Ok(status == Status::Done && is_many_letters(output.written()))
+    bytes
 }
 
 #[test]
-fn many_letters_go_out_in_few_writes(rt: HostRuntime) -> Result<(), Fail> {
-    let bytes = typed(rt.alloc(), 10_000)?;
-    let mut input = MemSource::new(bytes, 4096, Vec::new(rt.alloc()));
-    assert!(rt; writes_many_letters(rt.alloc(), &mut input, &[8])?);
-    Ok(())
+fn many_letters_go_out_in_few_writes(rt: HostRuntime) {
+    let mut input = MemSource::new(typed(&rt, 10_000), 4096, Vec::new(rt.alloc()));
+    let mut output = MemSink::new(rt.alloc(), 65_536, list(&rt, &[8]));
+    let mut notes = MemSink::new(rt.alloc(), 64, Vec::new(rt.alloc()));
+    let status = show_by(&rt, "show", &mut input, &mut output, &mut notes);
+    let text = output.written();
+    let is_whole = text.len() == 10_005
+        && text.starts_with(b"# T\naaa")
+        && text.ends_with(b"aaa\n");
+    drop(notes);
+    drop(output);
+    drop(input);
+    equal(&rt, (status, is_whole), (Status::Done, true));
 }

@@ -1,29 +1,30 @@
-use super::taken::{Batch, EMPTY, File, has_file, mem_file, room_for, sends, sure_file};
-use super::{is_cut_off, run_line, sink};
-use crate::assertions::holds_at;
-use crate::frames::{BEHIND_A, S, stream};
+use super::taken::{Batch, EMPTY, File, bytes_of, sends};
+use super::{is_cut_off, run_line};
+use crate::assertions::{equal, equal_at, holds_at};
+use crate::files::has_bytes;
+use crate::frames::{BEHIND_A, NEW, S, stream};
+use crate::memory::{list, sure_disk, sure_sink};
 use manuscript_cli::Status;
 use outer_ports::{
-    Disk, FileDisk, MemDisk, MemDock, MemSink, MemSource, MemWire, Sink, SureDisk, SureSink,
-    SureWire, Wire,
+    Disk, FileDisk, MemDisk, MemDock, MemSink, MemSource, MemWire, Sink, SureDisk, SureWire, Wire,
 };
-use std::alloc::{AllocError, Global};
-use std::test::Fail;
+use std::process::Abort;
 
 /// Runs on a file and a wire alone.
 fn run_on<N: Sink, H: Disk, W: Wire>(
-    alloc: Global,
+    rt: &(impl Abort + AllocGlobal),
     words: &str,
     notes: &mut N,
     home: &mut H,
     wire: &mut W,
-) -> Result<Status, AllocError> {
+) -> Status {
+    let alloc = rt.alloc();
     let mut input = MemSource::new(Vec::new(alloc), 1, Vec::new(alloc));
     let mut output = MemSink::new(alloc, 1, Vec::new(alloc));
     let mut guest = FileDisk::closed();
     let mut dock = MemDock::new(alloc, Vec::new(alloc), 1, Vec::new(alloc));
     let status = run_line(
-        alloc,
+        rt,
         words,
         &mut input,
         &mut output,
@@ -34,6 +35,9 @@ fn run_on<N: Sink, H: Disk, W: Wire>(
         &mut dock,
     );
     drop(dock);
+    drop(guest);
+    drop(output);
+    drop(input);
     status
 }
 
@@ -53,57 +57,93 @@ struct Case {
     saved: Batch,
 }
 
-/// The reply to an empty file that asks from the start, the line, the status, and what the file gains.
-type Asked = (Batch, &'static str, Status, Batch);
+const COUNTS: &str = "accepted 1, repeated 0, waiting 0, conflict 0, stray 0, full 0\ncursor 1\n";
 
-const ASKED: &[Asked] = &[
-    (
-        &[S, b"\x55\0\0\0\x01"],
-        "accepted 1, repeated 0, waiting 0, conflict 0, stray 0, full 0\ncursor 1\n",
-        Status::Done,
-        &[S],
-    ),
-    (
-        &[S, BEHIND_A, b"\x55\0\0\0\x02", b"and so on"],
-        "accepted 1, repeated 0, waiting 1, conflict 0, stray 0, full 0\ncursor 2\n",
-        Status::Partial,
-        &[S, BEHIND_A],
-    ),
-    (
-        &[b"\x55\xff\xff\xff\xff"],
-        "accepted 0, repeated 0, waiting 0, conflict 0, stray 0, full 0\ncursor 4294967295\n",
-        Status::Done,
-        &[],
-    ),
-    (
-        &[S, b"\x58\x02"],
-        "relay refused 2\n",
-        Status::BadInput,
-        &[],
-    ),
-    (&[b"\x58\x02"], "relay refused 2\n", Status::BadInput, &[]),
-    (
-        &[S, b"\x58\x04"],
-        "bad reply at byte 14\n",
-        Status::BadInput,
-        &[],
-    ),
-    (
-        &[S, b"\xff"],
-        "bad reply at byte 14\n",
-        Status::BadInput,
-        &[],
-    ),
-    (
-        &[S, b"\x02\0"],
-        "reply cut short at byte 14\n",
-        Status::BadInput,
-        &[],
-    ),
-    (&[], "reply cut short at byte 0\n", Status::BadInput, &[]),
-];
+/// An empty file asks from the start.
+const ASKED: Case = Case {
+    words: "sync F 4000 0",
+    home: EMPTY,
+    reply: &[S, b"\x55\0\0\0\x01"],
+    said: &[b"\x48\0\0\0\0\x44"],
+    port: Some(4000),
+    line: COUNTS,
+    status: Status::Done,
+    saved: &[S],
+};
+
+const NOT_UNDERSTOOD: Case = Case {
+    said: &[],
+    port: None,
+    line: "words not understood\n",
+    status: Status::Usage,
+    saved: &[],
+    ..ASKED
+};
 
 const CASES: &[Case] = &[
+    Case {
+        reply: &[S, b"\x55\0\0\0\x01"],
+        line: "accepted 1, repeated 0, waiting 0, conflict 0, stray 0, full 0\ncursor 1\n",
+        status: Status::Done,
+        saved: &[S],
+        ..ASKED
+    },
+    Case {
+        reply: &[S, BEHIND_A, b"\x55\0\0\0\x02", b"and so on"],
+        line: "accepted 1, repeated 0, waiting 1, conflict 0, stray 0, full 0\ncursor 2\n",
+        status: Status::Partial,
+        saved: &[S, BEHIND_A],
+        ..ASKED
+    },
+    Case {
+        reply: &[b"\x55\xff\xff\xff\xff"],
+        line: "accepted 0, repeated 0, waiting 0, conflict 0, stray 0, full 0\ncursor 4294967295\n",
+        status: Status::Done,
+        saved: &[],
+        ..ASKED
+    },
+    Case {
+        reply: &[S, b"\x58\x02"],
+        line: "relay refused 2\n",
+        status: Status::BadInput,
+        saved: &[],
+        ..ASKED
+    },
+    Case {
+        reply: &[b"\x58\x02"],
+        line: "relay refused 2\n",
+        status: Status::BadInput,
+        saved: &[],
+        ..ASKED
+    },
+    Case {
+        reply: &[S, b"\x58\x04"],
+        line: "bad reply at byte 14\n",
+        status: Status::BadInput,
+        saved: &[],
+        ..ASKED
+    },
+    Case {
+        reply: &[S, b"\xff"],
+        line: "bad reply at byte 14\n",
+        status: Status::BadInput,
+        saved: &[],
+        ..ASKED
+    },
+    Case {
+        reply: &[S, b"\x02\0"],
+        line: "reply cut short at byte 14\n",
+        status: Status::BadInput,
+        saved: &[],
+        ..ASKED
+    },
+    Case {
+        reply: &[],
+        line: "reply cut short at byte 0\n",
+        status: Status::BadInput,
+        saved: &[],
+        ..ASKED
+    },
     Case {
         words: "sync F 65535 7",
         home: (1, 16, &[&[BEHIND_A], &[S]]),
@@ -115,175 +155,111 @@ const CASES: &[Case] = &[
         saved: &[],
     },
     Case {
-        words: "sync F 4000 0",
         home: (0, 16, &[]),
-        reply: &[S, b"\x55\0\0\0\x01"],
         said: &[],
         port: None,
         line: "not a replica\n",
         status: Status::BadFile,
         saved: &[],
+        ..ASKED
+    },
+    // The port and the cursor are numbers that are too great.
+    Case {
+        words: "sync F 65536 0",
+        ..NOT_UNDERSTOOD
+    },
+    Case {
+        words: "sync F 1 4294967296",
+        ..NOT_UNDERSTOOD
     },
 ];
 
-/// The port and the cursor are numbers that are too great.
-const NOT_UNDERSTOOD: &[&str] = &["sync F 65536 0", "sync F 1 4294967296"];
-
 /// Whether the case comes to what is wanted of it, on sure objects with just the room that it needs.
-fn is_met(alloc: Global, case: &Case) -> Result<bool, Fail> {
-    let room = room_for(alloc, case.saved)?;
-    let mut home = sure_file(alloc, case.home, room)?;
-    Ok(speaks_so(alloc, case, &mut home)? && has_file(alloc, &mut home, case.home, case.saved)?)
+fn is_met(rt: &(impl Abort + AllocGlobal), case: &Case) -> bool {
+    let bytes = bytes_of(rt, case.home, &[]);
+    let wanted = bytes_of(rt, case.home, case.saved);
+    let room = wanted.len().saturating_sub(bytes.len()).saturating_add(1);
+    let mut home = sure_disk(rt, bytes, room);
+    let is_so = speaks_so(rt, case, &mut home) && has_bytes(&mut home, &wanted);
+    drop(home);
+    drop(wanted);
+    is_so
 }
 
-fn speaks_so(alloc: Global, case: &Case, home: &mut SureDisk) -> Result<bool, Fail> {
-    let said = stream(alloc, case.said)?;
-    says_so(alloc, case, home, &said)
-}
-
-fn says_so(alloc: Global, case: &Case, home: &mut SureDisk, said: &[u8]) -> Result<bool, Fail> {
-    let reply = stream(alloc, case.reply)?;
-    let mut wire = SureWire::new(alloc, reply, 3, said.len())?;
-    let is_noted = notes_so(alloc, case, home, &mut wire)?;
-    Ok(is_noted && wire.said() == said && wire.port() == case.port)
-}
-
-fn notes_so(
-    alloc: Global,
-    case: &Case,
-    home: &mut SureDisk,
-    wire: &mut SureWire,
-) -> Result<bool, Fail> {
-    let mut notes = SureSink::new(alloc, 4096, 256)?;
-    let status = run_on(alloc, case.words, &mut notes, home, wire)?;
-    Ok(status == case.status && notes.written() == case.line.as_bytes())
+fn speaks_so(rt: &(impl Abort + AllocGlobal), case: &Case, home: &mut SureDisk) -> bool {
+    let said = stream(rt, case.said);
+    let reply = stream(rt, case.reply);
+    let mut wire = SureWire::new(rt.alloc(), reply, 3, said.len()).expect(rt, "memory");
+    let mut notes = sure_sink(rt, 256);
+    let status = run_on(rt, case.words, &mut notes, home, &mut wire);
+    let is_so = status == case.status
+        && notes.written() == case.line.as_bytes()
+        && wire.said() == said.as_slice()
+        && wire.port() == case.port;
+    drop(notes);
+    drop(wire);
+    drop(said);
+    is_so
 }
 
 #[test]
-fn a_file_speaks_with_a_relay(rt: HostRuntime) -> Result<(), Fail> {
-    for (reply, line, status, saved) in ASKED {
-        let case = Case {
-            words: "sync F 4000 0",
-            home: EMPTY,
-            reply,
-            said: &[b"\x48\0\0\0\0\x44"],
-            port: Some(4000),
-            line,
-            status: *status,
-            saved,
-        };
-        holds_at(&rt, &line, is_met(rt.alloc(), &case)?);
-    }
+fn a_file_speaks_with_a_relay(rt: HostRuntime) {
     for case in CASES {
-        holds_at(&rt, &case.line, is_met(rt.alloc(), case)?);
+        holds_at(&rt, &(case.words, case.line), is_met(&rt, case));
     }
-    for words in NOT_UNDERSTOOD {
-        let case = Case {
-            words,
-            home: EMPTY,
-            reply: &[S, b"\x55\0\0\0\x01"],
-            said: &[],
-            port: None,
-            line: "words not understood\n",
-            status: Status::Usage,
-            saved: &[],
-        };
-        holds_at(&rt, &words, is_met(rt.alloc(), &case)?);
-    }
-    Ok(())
 }
 
-const COUNTS: &[u8] = b"accepted 1, repeated 0, waiting 0, conflict 0, stray 0, full 0\ncursor 1\n";
+/// What a run left of which calls failed: the status, whether the fault was noted as it should be, whether the file is as it
+/// was, and whether it holds all that came, or nothing.
+type Left = (Status, bool, bool, bool);
 
-/// Runs on a file where calls on the notes fail. The answer is the status, and whether the fault was noted as it should be.
-fn tells(
-    alloc: Global,
-    notes_fail: &[u32],
-    home: &mut MemDisk,
-    wire: &mut MemWire,
-) -> Result<(Status, bool), Fail> {
-    let mut notes = sink(alloc, 64, notes_fail)?;
-    let status = run_on(alloc, "sync F 4000 0", &mut notes, home, wire)?;
-    Ok((status, is_cut_off(notes.written(), COUNTS)))
-}
-
-/// The same where calls on the wire fail too.
-fn tells_without(
-    alloc: Global,
-    wire_fails: &[u32],
-    notes_fail: &[u32],
-    home: &mut MemDisk,
-) -> Result<(Status, bool), Fail> {
-    let reply = stream(alloc, &[S, b"\x55\0\0\0\x01"])?;
-    let fails = Vec::from_slice(alloc, wire_fails)?;
-    let mut wire = MemWire::new(alloc, reply, 3, fails);
-    tells(alloc, notes_fail, home, &mut wire)
-}
-
-/// Runs where one call on the wire fails, or one on the notes. The answer is the status, whether the fault was noted as it
-/// should be, and whether the file is as it was.
-fn status_without(
-    alloc: Global,
-    wire_fails: &[u32],
-    notes_fail: &[u32],
-) -> Result<(Status, bool, bool), Fail> {
-    let mut home = mem_file(alloc, EMPTY, &[])?;
-    let (status, is_told) = tells_without(alloc, wire_fails, notes_fail, &mut home)?;
-    Ok((status, is_told, has_file(alloc, &mut home, EMPTY, &[])?))
+/// Runs where these calls on the wire, the notes and the file fail.
+fn left_without(rt: &(impl Abort + AllocGlobal), fails: [&[u32]; 3]) -> Left {
+    let reply = stream(rt, ASKED.reply);
+    let mut wire = MemWire::new(rt.alloc(), reply, 3, list(rt, fails[0]));
+    let mut notes = MemSink::new(rt.alloc(), 64, list(rt, fails[1]));
+    let mut home = MemDisk::new(rt.alloc(), list(rt, NEW), list(rt, fails[2]));
+    let status = run_on(rt, ASKED.words, &mut notes, &mut home, &mut wire);
+    let is_told = is_cut_off(notes.written(), COUNTS.as_bytes());
+    drop(notes);
+    drop(wire);
+    let is_kept = has_bytes(&mut home, NEW);
+    let (is_saved, is_empty) = sends(rt, ASKED.saved, &mut home);
+    drop(home);
+    (status, is_told, is_kept, is_saved || is_empty)
 }
 
 /// A dial, two writes, and a read for each of the 19 bytes of the reply.
 #[test]
-fn each_call_on_the_wire_may_fail(rt: HostRuntime) -> Result<(), Fail> {
+fn each_call_on_the_wire_may_fail(rt: HostRuntime) {
     for call in 0..22 {
-        let (status, is_told, is_kept) = status_without(rt.alloc(), &[call], &[])?;
-        holds_at(
-            &rt,
-            &call,
-            status == Status::OutsideFault && is_told && is_kept,
-        );
+        let left = left_without(&rt, [&[call], &[], &[]]);
+        equal_at(&rt, &call, left, (Status::OutsideFault, true, true, true));
     }
-    let (status, _, is_kept) = status_without(rt.alloc(), &[22], &[])?;
-    assert!(rt; status == Status::Done && !is_kept);
-    Ok(())
+    let left = left_without(&rt, [&[22], &[], &[]]);
+    equal(&rt, left, (Status::Done, false, false, true));
 }
 
 #[test]
-fn each_call_on_the_notes_of_an_exchange_may_fail(rt: HostRuntime) -> Result<(), Fail> {
+fn each_call_on_the_notes_of_an_exchange_may_fail(rt: HostRuntime) {
     for call in 0..16 {
-        let (status, is_told, is_kept) = status_without(rt.alloc(), &[], &[call])?;
-        holds_at(
-            &rt,
-            &call,
-            status == Status::OutsideFault && is_told && !is_kept,
-        );
+        let left = left_without(&rt, [&[], &[call], &[]]);
+        equal_at(&rt, &call, left, (Status::OutsideFault, true, false, true));
     }
-    let (status, _, _) = status_without(rt.alloc(), &[], &[16])?;
-    assert!(rt; status == Status::Done);
-    Ok(())
+    let left = left_without(&rt, [&[], &[16], &[]]);
+    equal(&rt, left, (Status::Done, false, false, true));
 }
 
-/// Runs where one call on the file fails. The answer is the status, whether the fault was noted as it should be, and whether
-/// the file holds all that came, or nothing.
-fn left_without(alloc: Global, call: u32) -> Result<(Status, bool, (bool, bool)), Fail> {
-    let mut home = mem_file(alloc, EMPTY, &[call])?;
-    let (status, is_told) = tells_without(alloc, &[], &[], &mut home)?;
-    Ok((status, is_told, sends(alloc, S, &mut home)?))
-}
-
+/// Loading is a sync and two reads, and a batch is two writes and two syncs.
 #[test]
-fn each_call_on_the_file_of_an_exchange_may_fail(rt: HostRuntime) -> Result<(), Fail> {
-    for call in 0..64 {
-        let (status, is_told, (is_saved, is_empty)) = left_without(rt.alloc(), call)?;
-        if status == Status::Done {
-            holds_at(&rt, &call, call >= 7);
-            return Ok(());
-        }
-        holds_at(
-            &rt,
-            &call,
-            status == Status::OutsideFault && is_told && (is_saved || is_empty),
-        );
+fn each_call_on_the_file_of_an_exchange_may_fail(rt: HostRuntime) {
+    for call in 0..8 {
+        let (status, is_told, _, is_whole) = left_without(&rt, [&[], &[], &[call]]);
+        let wanted = if call < 7 {
+            (Status::OutsideFault, true, true)
+        } else {
+            (Status::Done, false, true)
+        };
+        equal_at(&rt, &call, (status, is_told, is_whole), wanted);
     }
-    Err(Fail::new("no run is without a fault"))
 }

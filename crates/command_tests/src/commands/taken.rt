@@ -1,10 +1,11 @@
-use super::{has_bytes, is_cut_off, is_done, prints, run_offline, sink, source};
+use super::{gives, is_cut_off, run_offline};
 use crate::assertions::holds_at;
-use crate::frames::{BEHIND_A, CUT, IN_A, LOWER_A, LOWER_B, NOWHERE, OTHER_A, S, stream};
+use crate::files::has_bytes;
+use crate::frames::{BEHIND_A, CUT, IN_A, LOWER_A, LOWER_B, NEW, NOWHERE, OTHER_A, S, stream};
+use crate::memory::{list, sure_disk, sure_sink};
 use manuscript_cli::Status;
-use outer_ports::{Disk, MemDisk, MemSink, MemSource, SureDisk, SureSink, SureSource};
-use std::alloc::{AllocError, Global};
-use std::test::Fail;
+use outer_ports::{MemDisk, MemSink, MemSource, SureDisk, SureSource};
+use std::process::Abort;
 
 /// The section (1,0), titled T, and in it A, B, which is dropped, and C.
 const MADE: Batch = &[
@@ -25,63 +26,29 @@ pub(super) type Batch = &'static [&'static [u8]];
 pub(super) type File = (u8, u8, &'static [Batch]);
 
 /// The bytes of a file, with one batch more where that has frames.
-pub(super) fn bytes_of(alloc: Global, file: File, more: Batch) -> Result<Vec<u8>, AllocError> {
+pub(super) fn bytes_of(rt: &(impl Abort + AllocGlobal), file: File, more: Batch) -> Vec<u8> {
     let (number, hold, batches) = file;
-    let mut bytes = Vec::from_slice(alloc, b"FGMX\x01\0\0\0")?;
-    bytes.extend_from_slice(&[number, 0, 0, 0, hold])?;
+    let mut bytes = stream(rt, &[b"FGMX\x01\0\0\0", &[number, 0, 0, 0, hold]]);
     for batch in batches {
-        push_batch(alloc, &mut bytes, batch)?;
+        push_batch(rt, &mut bytes, batch);
     }
-    push_batch(alloc, &mut bytes, more)?;
-    bytes.push(0)?;
-    Ok(bytes)
+    push_batch(rt, &mut bytes, more);
+    bytes.push(0).expect(rt, "memory");
+    bytes
 }
 
-fn push_batch(alloc: Global, bytes: &mut Vec<u8>, batch: Batch) -> Result<(), AllocError> {
-    if batch.is_empty() {
-        return Ok(());
+fn push_batch(rt: &(impl Abort + AllocGlobal), bytes: &mut Vec<u8>, batch: Batch) {
+    if !batch.is_empty() {
+        let frames = stream(rt, batch);
+        let length = (frames.len() as u64).to_be_bytes();
+        let batch = stream(rt, &[&[1], &length[4..], &frames]);
+        bytes.extend_from_slice(&batch).expect(rt, "memory");
+        drop(batch);
+        drop(frames);
     }
-    let frames = stream(alloc, batch)?;
-    let length = (frames.len() as u64).to_be_bytes();
-    bytes.push(1)?;
-    bytes.extend_from_slice(&length[4..])?;
-    bytes.extend_from_slice(&frames)
-}
-
-pub(super) fn mem_file(alloc: Global, file: File, fails: &[u32]) -> Result<MemDisk, AllocError> {
-    let bytes = bytes_of(alloc, file, &[])?;
-    let fails = Vec::from_slice(alloc, fails)?;
-    Ok(MemDisk::new(alloc, bytes, fails))
-}
-
-pub(super) fn sure_file(alloc: Global, file: File, room: usize) -> Result<SureDisk, Fail> {
-    let bytes = bytes_of(alloc, file, &[])?;
-    Ok(SureDisk::new(alloc, bytes, room)?)
-}
-
-/// Whether the disk has the bytes of the file.
-pub(super) fn has_file<H: Disk>(
-    alloc: Global,
-    disk: &mut H,
-    file: File,
-    more: Batch,
-) -> Result<bool, Fail> {
-    let wanted = bytes_of(alloc, file, more)?;
-    Ok(has_bytes(disk, &wanted))
-}
-
-/// The room that a file needs to gain a batch.
-pub(super) fn room_for(alloc: Global, batch: Batch) -> Result<usize, AllocError> {
-    let frames = stream(alloc, batch)?;
-    Ok(if batch.is_empty() {
-        1
-    } else {
-        frames.len().saturating_add(6)
-    })
 }
 
 /// A run that takes frames in, from the input or from another file, and what is wanted of it.
-#[derive(Clone, Copy)]
 struct Case {
     words: &'static str,
     home: File,
@@ -91,6 +58,8 @@ struct Case {
     status: Status,
     /// What the file gains.
     saved: Batch,
+    /// What is printed of it then.
+    printed: &'static [u8],
 }
 
 pub(super) const EMPTY: File = (1, 16, &[]);
@@ -104,6 +73,7 @@ const CASES: &[Case] = &[
         line: "accepted 5, repeated 0, waiting 0, conflict 0, stray 0, full 0\n",
         status: Status::Done,
         saved: MADE,
+        printed: b"# T\nAC\n",
     },
     Case {
         words: "merge G F",
@@ -113,6 +83,7 @@ const CASES: &[Case] = &[
         line: "accepted 0, repeated 5, waiting 0, conflict 0, stray 0, full 0\n",
         status: Status::Done,
         saved: &[],
+        printed: b"# T\nAC\n",
     },
     Case {
         words: "merge G F",
@@ -122,6 +93,7 @@ const CASES: &[Case] = &[
         line: "accepted 1, repeated 0, waiting 1, conflict 0, stray 0, full 0\n",
         status: Status::Partial,
         saved: &[S, BEHIND_A],
+        printed: b"# T\n\n",
     },
     Case {
         words: "take F",
@@ -131,6 +103,7 @@ const CASES: &[Case] = &[
         line: "accepted 0, repeated 1, waiting 0, conflict 1, stray 0, full 0\n",
         status: Status::Partial,
         saved: &[],
+        printed: b"# T\na\n",
     },
     Case {
         words: "take F",
@@ -140,6 +113,7 @@ const CASES: &[Case] = &[
         line: "accepted 2, repeated 0, waiting 0, conflict 0, stray 0, full 1\n",
         status: Status::Partial,
         saved: &[LOWER_A, S],
+        printed: b"# T\na\n",
     },
     Case {
         words: "take F",
@@ -149,6 +123,7 @@ const CASES: &[Case] = &[
         line: "accepted 0, repeated 0, waiting 1, conflict 0, stray 0, full 0\n",
         status: Status::Partial,
         saved: &[],
+        printed: b"",
     },
     Case {
         words: "take F",
@@ -158,6 +133,7 @@ const CASES: &[Case] = &[
         line: "not a replica\n",
         status: Status::BadFile,
         saved: &[],
+        printed: b"",
     },
     Case {
         words: "merge F G",
@@ -167,6 +143,7 @@ const CASES: &[Case] = &[
         line: "bad batch 0\n",
         status: Status::BadFile,
         saved: &[],
+        printed: b"",
     },
     Case {
         words: "merge F G",
@@ -176,138 +153,130 @@ const CASES: &[Case] = &[
         line: "not a replica\n",
         status: Status::BadFile,
         saved: &[],
+        printed: b"",
+    },
+    Case {
+        words: "take F",
+        home: EMPTY,
+        guest: EMPTY,
+        input: &[S, LAST],
+        line: "accepted 2, repeated 0, waiting 0, conflict 0, stray 0, full 0\n",
+        status: Status::Done,
+        saved: &[S, LAST],
+        printed: b"# T\nx\n",
+    },
+    Case {
+        words: "take F",
+        home: EMPTY,
+        guest: EMPTY,
+        input: &[S, BEHIND_A],
+        line: "accepted 1, repeated 0, waiting 1, conflict 0, stray 0, full 0\n",
+        status: Status::Partial,
+        saved: &[S, BEHIND_A],
+        printed: b"# T\n\n",
+    },
+    Case {
+        words: "take F",
+        home: EMPTY,
+        guest: EMPTY,
+        input: &[BEHIND_A, LOWER_A, S],
+        line: "accepted 3, repeated 0, waiting 0, conflict 0, stray 0, full 0\n",
+        status: Status::Done,
+        saved: &[BEHIND_A, LOWER_A, S],
+        printed: b"# T\nac\n",
+    },
+    Case {
+        words: "take F",
+        home: EMPTY,
+        guest: EMPTY,
+        input: &[IN_A, S, LOWER_A],
+        line: "accepted 2, repeated 0, waiting 0, conflict 0, stray 1, full 0\n",
+        status: Status::Partial,
+        saved: &[IN_A, S, LOWER_A],
+        printed: b"# T\na\n",
+    },
+    Case {
+        words: "take F",
+        home: EMPTY,
+        guest: EMPTY,
+        input: &[],
+        line: "accepted 0, repeated 0, waiting 0, conflict 0, stray 0, full 0\n",
+        status: Status::Done,
+        saved: &[],
+        printed: b"",
+    },
+    Case {
+        words: "take F",
+        home: EMPTY,
+        guest: EMPTY,
+        input: &[S, NOWHERE],
+        line: "bad frame at byte 14\n",
+        status: Status::BadInput,
+        saved: &[],
+        printed: b"",
+    },
+    Case {
+        words: "take F",
+        home: EMPTY,
+        guest: EMPTY,
+        input: &[S, CUT],
+        line: "cut short at byte 14\n",
+        status: Status::BadInput,
+        saved: &[],
+        printed: b"",
     },
 ];
 
-/// What comes to a new file, the line, the status, and what the file gains.
-type Taken = (Batch, &'static str, Status, Batch);
-
-const TAKEN: &[Taken] = &[
-    (
-        &[S, LAST],
-        "accepted 2, repeated 0, waiting 0, conflict 0, stray 0, full 0\n",
-        Status::Done,
-        &[S, LAST],
-    ),
-    (
-        &[S, BEHIND_A],
-        "accepted 1, repeated 0, waiting 1, conflict 0, stray 0, full 0\n",
-        Status::Partial,
-        &[S, BEHIND_A],
-    ),
-    (
-        &[BEHIND_A, LOWER_A, S],
-        "accepted 3, repeated 0, waiting 0, conflict 0, stray 0, full 0\n",
-        Status::Done,
-        &[BEHIND_A, LOWER_A, S],
-    ),
-    (
-        &[IN_A, S, LOWER_A],
-        "accepted 2, repeated 0, waiting 0, conflict 0, stray 1, full 0\n",
-        Status::Partial,
-        &[IN_A, S, LOWER_A],
-    ),
-    (
-        &[],
-        "accepted 0, repeated 0, waiting 0, conflict 0, stray 0, full 0\n",
-        Status::Done,
-        &[],
-    ),
-    (
-        &[S, NOWHERE],
-        "bad frame at byte 14\n",
-        Status::BadInput,
-        &[],
-    ),
-    (&[S, CUT], "cut short at byte 14\n", Status::BadInput, &[]),
-];
-
 /// Whether the case comes to what is wanted of it, on sure objects with just the room that it needs.
-fn is_met(alloc: Global, case: &Case) -> Result<bool, Fail> {
-    let room = room_for(alloc, case.saved)?;
-    let mut home = sure_file(alloc, case.home, room)?;
-    Ok(takes_so(alloc, case, &mut home)? && has_file(alloc, &mut home, case.home, case.saved)?)
-}
-
-fn takes_so(alloc: Global, case: &Case, home: &mut SureDisk) -> Result<bool, Fail> {
-    let mut guest = sure_file(alloc, case.guest, 1)?;
-    Ok(notes_so(alloc, case, home, &mut guest)? && has_file(alloc, &mut guest, case.guest, &[])?)
-}
-
-fn notes_so(
-    alloc: Global,
-    case: &Case,
-    home: &mut SureDisk,
-    guest: &mut SureDisk,
-) -> Result<bool, Fail> {
-    let mut notes = SureSink::new(alloc, 4096, 256)?;
-    let status = run_surely(alloc, case, &mut notes, home, guest)?;
-    Ok(status == case.status && notes.written() == case.line.as_bytes())
+fn is_met(rt: &(impl Abort + AllocGlobal), case: &Case) -> bool {
+    let bytes = bytes_of(rt, case.home, &[]);
+    let wanted = bytes_of(rt, case.home, case.saved);
+    let room = wanted.len().saturating_sub(bytes.len()).saturating_add(1);
+    let mut home = sure_disk(rt, bytes, room);
+    let is_saved = takes_so(rt, case, &mut home) && has_bytes(&mut home, &wanted);
+    drop(home);
+    let mut left = MemDisk::new(rt.alloc(), wanted, Vec::new(rt.alloc()));
+    // A file that cannot be read is not printed.
+    let is_printed = case.status == Status::BadFile
+        || gives(rt, "print F", &mut left, case.printed);
+    drop(left);
+    is_saved && is_printed
 }
 
 /// Runs on an input that is sure, and on an output that has no room.
-fn run_surely(
-    alloc: Global,
-    case: &Case,
-    notes: &mut SureSink,
-    home: &mut SureDisk,
-    guest: &mut SureDisk,
-) -> Result<Status, AllocError> {
-    let mut input = SureSource::new(stream(alloc, case.input)?, 7);
-    let mut output = MemSink::new(alloc, 1, Vec::new(alloc));
-    run_offline(
-        alloc,
+fn takes_so(rt: &(impl Abort + AllocGlobal), case: &Case, home: &mut SureDisk) -> bool {
+    let other = bytes_of(rt, case.guest, &[]);
+    let mut guest = sure_disk(rt, list(rt, &other), 1);
+    let mut input = SureSource::new(stream(rt, case.input), 7);
+    let mut output = sure_sink(rt, 0);
+    let mut notes = sure_sink(rt, 256);
+    let status = run_offline(
+        rt,
         case.words,
         &mut input,
         &mut output,
-        notes,
+        &mut notes,
         home,
-        guest,
-    )
+        &mut guest,
+    );
+    let is_noted = status == case.status && notes.written() == case.line.as_bytes();
+    drop(notes);
+    drop(output);
+    drop(input);
+    let is_so = is_noted && has_bytes(&mut guest, &other);
+    drop(guest);
+    drop(other);
+    is_so
 }
 
 #[test]
-fn frames_are_taken_into_a_file(rt: HostRuntime) -> Result<(), Fail> {
-    for (input, line, status, saved) in TAKEN {
-        let case = Case {
-            words: "take F",
-            home: EMPTY,
-            guest: EMPTY,
-            input,
-            line,
-            status: *status,
-            saved,
-        };
-        holds_at(&rt, &line, is_met(rt.alloc(), &case)?);
-    }
+fn frames_are_taken_into_a_file(rt: HostRuntime) {
     for case in CASES {
-        holds_at(&rt, &case.line, is_met(rt.alloc(), case)?);
+        holds_at(&rt, &(case.words, case.line), is_met(&rt, case));
     }
-    Ok(())
-}
-
-/// Whether a file of these batches prints the text.
-fn prints_file(alloc: Global, file: File, text: &[u8]) -> Result<bool, Fail> {
-    let mut home = mem_file(alloc, file, &[])?;
-    prints(alloc, &mut home, text)
-}
-
-const PRINTED: &[(File, &[u8])] = &[
-    ((2, 16, &[MADE]), b"# T\nAC\n"),
-    ((1, 16, &[&[S, BEHIND_A]]), b"# T\n\n"),
-    ((1, 16, &[&[IN_A, S, LOWER_A]]), b"# T\na\n"),
-];
-
-#[test]
-fn what_was_saved_is_printed(rt: HostRuntime) -> Result<(), Fail> {
-    for (file, text) in PRINTED {
-        assert!(rt; prints_file(rt.alloc(), *file, text)?);
-    }
-    Ok(())
 }
 
 /// The objects of a run of which a call may fail.
-#[derive(Clone, Copy, Debug, PartialEq, Eq)]
 enum Object {
     Input,
     Notes,
@@ -315,138 +284,90 @@ enum Object {
     Guest,
 }
 
-/// A call on an object that fails, counted from 0.
-#[derive(Clone, Copy)]
-struct Failing {
-    object: Object,
-    call: [u32; 1],
-}
-
-impl Failing {
-    /// The calls of this object that fail.
-    fn on(&self, object: Object) -> &[u32] {
-        if self.object == object {
-            &self.call
-        } else {
-            &[]
-        }
-    }
-}
-
 /// The frames that come, from the input or from another file.
 const COMING: Batch = &[S, BEHIND_A];
 
 const COUNTS: &[u8] = b"accepted 1, repeated 0, waiting 1, conflict 0, stray 0, full 0\n";
 
-/// What a run left whose call on an object failed: the status, whether the fault was noted as it should be, and whether the
-/// file holds all that came, or nothing.
-#[derive(Clone, Copy, Debug, PartialEq, Eq)]
-struct Left {
-    status: Status,
-    is_told: bool,
-    is_saved: bool,
-    is_empty: bool,
+/// Runs where these calls on the input, the notes and the other file fail. The answer is the status, and whether the fault
+/// was noted as it should be.
+fn takes(
+    rt: &(impl Abort + AllocGlobal),
+    words: &str,
+    fails: [&[u32]; 3],
+    home: &mut MemDisk,
+) -> (Status, bool) {
+    let mut input = MemSource::new(stream(rt, COMING), 22, list(rt, fails[0]));
+    let mut notes = MemSink::new(rt.alloc(), 64, list(rt, fails[1]));
+    let other = bytes_of(rt, (2, 16, &[COMING]), &[]);
+    let mut guest = MemDisk::new(rt.alloc(), other, list(rt, fails[2]));
+    let mut output = sure_sink(rt, 0);
+    let status = run_offline(
+        rt,
+        words,
+        &mut input,
+        &mut output,
+        &mut notes,
+        home,
+        &mut guest,
+    );
+    let is_told = is_cut_off(notes.written(), COUNTS);
+    drop(output);
+    drop(guest);
+    drop(notes);
+    drop(input);
+    (status, is_told)
 }
 
-impl Left {
-    /// A fault of the input or of the other file leaves the file as it was, and one of the notes leaves it saved.
-    fn is_right(self, object: Object) -> bool {
-        self.status == Status::OutsideFault
-            && self.is_told
-            && match object {
-                Object::Input | Object::Guest => self.is_empty,
-                Object::Notes => self.is_saved,
-                Object::Home => self.is_empty || self.is_saved,
-            }
-    }
+/// Runs where this call on the object fails, and answers the status, where the run left what it should: the fault is noted,
+/// that of the input or of the other file leaves the file empty, and that of the notes leaves it saved.
+fn status_without(
+    rt: &(impl Abort + AllocGlobal),
+    words: &str,
+    object: &Object,
+    call: u32,
+) -> Option<Status> {
+    let call: &[u32] = &[call];
+    let (fails, home_fails): ([&[u32]; 3], &[u32]) = match object {
+        Object::Input => ([call, &[], &[]], &[]),
+        Object::Notes => ([&[], call, &[]], &[]),
+        Object::Guest => ([&[], &[], call], &[]),
+        Object::Home => ([&[], &[], &[]], call),
+    };
+    let mut home = MemDisk::new(rt.alloc(), list(rt, NEW), list(rt, home_fails));
+    let (status, is_told) = takes(rt, words, fails, &mut home);
+    let (is_saved, is_empty) = sends(rt, COMING, &mut home);
+    drop(home);
+    let is_left = match object {
+        Object::Input | Object::Guest => is_empty,
+        Object::Notes => is_saved,
+        Object::Home => is_empty || is_saved,
+    };
+    (status != Status::OutsideFault || is_told && is_left).then_some(status)
 }
 
 /// Whether a file sends these frames, and whether it sends nothing.
 pub(super) fn sends(
-    alloc: Global,
-    frames: &[u8],
+    rt: &(impl Abort + AllocGlobal),
+    frames: Batch,
     home: &mut MemDisk,
-) -> Result<(bool, bool), Fail> {
-    let mut output = MemSink::new(alloc, 64, Vec::new(alloc));
-    let is_sent = is_done(alloc, "send F", &mut output, home)?;
-    Ok((
-        is_sent && output.written() == frames,
-        is_sent && output.written().is_empty(),
-    ))
-}
-
-/// What the file holds behind a run.
-fn left_in(alloc: Global, status: Status, is_told: bool, home: &mut MemDisk) -> Result<Left, Fail> {
-    let frames = stream(alloc, COMING)?;
-    let (is_saved, is_empty) = sends(alloc, &frames, home)?;
-    Ok(Left {
-        status,
-        is_told,
-        is_saved,
-        is_empty,
-    })
-}
-
-/// Runs where one call on an object fails.
-fn left_without(alloc: Global, words: &str, failing: Failing) -> Result<Left, Fail> {
-    let mut home = mem_file(alloc, EMPTY, failing.on(Object::Home))?;
-    let (status, is_told) = tells_without(alloc, words, &failing, &mut home)?;
-    left_in(alloc, status, is_told, &mut home)
-}
-
-/// The answer is the status, and whether the fault was noted as it should be.
-fn tells_without(
-    alloc: Global,
-    words: &str,
-    failing: &Failing,
-    home: &mut MemDisk,
-) -> Result<(Status, bool), Fail> {
-    let mut notes = sink(alloc, 64, failing.on(Object::Notes))?;
-    let status = takes(alloc, words, failing, &mut notes, home)?;
-    Ok((status, is_cut_off(notes.written(), COUNTS)))
-}
-
-fn takes(
-    alloc: Global,
-    words: &str,
-    failing: &Failing,
-    notes: &mut MemSink,
-    home: &mut MemDisk,
-) -> Result<Status, Fail> {
-    let coming = stream(alloc, COMING)?;
-    let mut input = source(alloc, &coming, 22, failing.on(Object::Input))?;
-    takes_from(alloc, words, failing, &mut input, notes, home)
-}
-
-fn takes_from(
-    alloc: Global,
-    words: &str,
-    failing: &Failing,
-    input: &mut MemSource,
-    notes: &mut MemSink,
-    home: &mut MemDisk,
-) -> Result<Status, Fail> {
-    let mut guest = mem_file(alloc, (2, 16, &[COMING]), failing.on(Object::Guest))?;
-    let mut output = MemSink::new(alloc, 1, Vec::new(alloc));
-    Ok(run_offline(alloc, words, input, &mut output, notes, home, &mut guest)?)
+) -> (bool, bool) {
+    let frames = stream(rt, frames);
+    let is_sent = gives(rt, "send F", home, &frames);
+    drop(frames);
+    (is_sent, gives(rt, "send F", home, b""))
 }
 
 /// How many calls on the object there are: each of them may fail, and the next one is not there.
-fn failing_calls(alloc: Global, words: &str, object: Object) -> Result<Option<u32>, Fail> {
+fn failing_calls(rt: &(impl Abort + AllocGlobal), words: &str, object: &Object) -> Option<u32> {
     for call in 0..64 {
-        let failing = Failing {
-            object,
-            call: [call],
-        };
-        let left = left_without(alloc, words, failing)?;
-        if left.status == Status::Partial {
-            return Ok(Some(call));
-        }
-        if !left.is_right(object) {
-            return Ok(None);
+        match status_without(rt, words, object, call) {
+            Some(Status::OutsideFault) => {}
+            Some(Status::Partial) => return Some(call),
+            _ => return None,
         }
     }
-    Ok(None)
+    None
 }
 
 /// The words, an object, and the least number of calls on it.
@@ -460,10 +381,9 @@ const CALLED: &[(&str, Object, u32)] = &[
 ];
 
 #[test]
-fn each_call_may_fail_while_frames_are_taken(rt: HostRuntime) -> Result<(), Fail> {
+fn each_call_may_fail_while_frames_are_taken(rt: HostRuntime) {
     for (words, object, least) in CALLED {
-        let calls = failing_calls(rt.alloc(), words, *object)?;
-        holds_at(&rt, &(words, object, calls), calls >= Some(*least));
+        let calls = failing_calls(&rt, words, object);
+        holds_at(&rt, &(words, calls, least), calls >= Some(*least));
     }
-    Ok(())
 }

@@ -1,13 +1,12 @@
-use super::BOTH;
-use crate::assertions::{equal, equal_at};
+use crate::assertions::{equal, equal_at, holds_at};
+use crate::frames::REPLY;
+use crate::memory::list;
 use fugue_ids::Op;
 use origin_model::Tally;
 use outer_ports::{MemWire, SureWire, Wire};
 use relay_sync::{SyncFault, Synced, sync};
 use replica_core::Replica;
-use std::alloc::Global;
 use std::process::Abort;
-use std::test::Fail;
 
 const UNCOUNTED: Tally = Tally {
     accepted: 0,
@@ -82,54 +81,44 @@ const EXCHANGES: &[Exchange] = &[
 
 /// An exchange of a replica that has nothing left to settle.
 fn exchanged<W: Wire>(
-    rt: &impl Abort,
-    alloc: Global,
+    rt: &(impl Abort + AllocGlobal),
     replica: &mut Replica,
     wire: &mut W,
     cursor: u32,
     kept: &mut Vec<Op>,
 ) -> Result<Synced, SyncFault> {
-    assert!(rt; replica.is_settled());
-    sync(alloc, replica, wire, 47113, cursor, kept)
+    assert!(*rt; replica.is_settled());
+    sync(rt.alloc(), replica, wire, 47113, cursor, kept)
 }
 
 /// Whether the exchange goes as it is told.
 fn goes(
-    rt: &impl Abort,
-    alloc: Global,
+    rt: &(impl Abort + AllocGlobal),
     replica: &mut Replica,
     kept: &mut Vec<Op>,
     exchange: &Exchange,
-) -> Result<bool, Fail> {
-    let mut wire = MemWire::new(alloc, exchange.reply.to_vec(alloc)?, 3, Vec::new(alloc));
-    let result = exchanged(rt, alloc, replica, &mut wire, exchange.cursor, kept);
-    Ok(
-        result == exchange.result
-            && wire.said() == exchange.said
-            && wire.port() == Some(47113)
-            && kept.len() == exchange.kept,
-    )
-}
-
-fn all_go(
-    rt: &impl Abort,
-    alloc: Global,
-    replica: &mut Replica,
-    kept: &mut Vec<Op>,
-) -> Result<(), Fail> {
-    for exchange in EXCHANGES {
-        assert!(rt; goes(rt, alloc, replica, kept, exchange)?);
-    }
-    Ok(())
+) -> bool {
+    let reply = list(rt, exchange.reply);
+    let mut wire = MemWire::new(rt.alloc(), reply, 3, Vec::new(rt.alloc()));
+    let result = exchanged(rt, replica, &mut wire, exchange.cursor, kept);
+    let is_so = result == exchange.result
+        && wire.said() == exchange.said
+        && wire.port() == Some(47113)
+        && kept.len() == exchange.kept;
+    drop(wire);
+    is_so
 }
 
 #[test]
-fn a_replica_says_what_it_holds_and_takes_in_the_reply(rt: HostRuntime) -> Result<(), Fail> {
-    let mut replica = Replica::new(rt.alloc(), 1, 10, 10)?;
+fn a_replica_says_what_it_holds_and_takes_in_the_reply(rt: HostRuntime) {
+    let mut replica = Replica::new(rt.alloc(), 1, 10, 10).expect(&rt, "memory");
     let mut kept = Vec::new(rt.alloc());
-    let done = all_go(&rt, rt.alloc(), &mut replica, &mut kept);
+    for exchange in EXCHANGES {
+        let is_so = goes(&rt, &mut replica, &mut kept, exchange);
+        holds_at(&rt, &exchange.cursor, is_so);
+    }
+    drop(kept);
     drop(replica);
-    done
 }
 
 /// Replies that are not whole or no replies, what each comes to where one operation may be held, and how many are kept.
@@ -168,108 +157,80 @@ const FAULTS: &[(&[u8], SyncFault, usize)] = &[
     ),
 ];
 
-/// An exchange of a new replica that may hold one operation.
+/// What an exchange of a new replica comes to that may hold so many operations, and how many it keeps.
 fn anew<W: Wire>(
-    rt: &impl Abort,
-    alloc: Global,
+    rt: &(impl Abort + AllocGlobal),
+    most: u32,
     wire: &mut W,
-    kept: &mut Vec<Op>,
-) -> Result<Result<Synced, SyncFault>, Fail> {
-    let mut replica = Replica::new(alloc, 1, 1, 1)?;
-    let result = exchanged(rt, alloc, &mut replica, wire, 0, kept);
+) -> (Result<Synced, SyncFault>, usize) {
+    let mut replica = Replica::new(rt.alloc(), 1, most, most).expect(rt, "memory");
+    let mut kept = Vec::new(rt.alloc());
+    let result = exchanged(rt, &mut replica, wire, 0, &mut kept);
+    let count = kept.len();
+    drop(kept);
     drop(replica);
-    Ok(result)
+    (result, count)
 }
 
-/// What it comes to with this reply, and how many operations it keeps.
+/// The same with this reply, over a wire of which these calls fail.
 fn replied(
-    rt: &impl Abort,
-    alloc: Global,
+    rt: &(impl Abort + AllocGlobal),
+    most: u32,
     reply: &[u8],
-    fail: Vec<u32>,
-) -> Result<(Result<Synced, SyncFault>, usize), Fail> {
-    let mut kept = Vec::new(alloc);
-    let mut wire = MemWire::new(alloc, reply.to_vec(alloc)?, 3, fail);
-    let result = anew(rt, alloc, &mut wire, &mut kept)?;
-    Ok((result, kept.len()))
+    fails: &[u32],
+) -> (Result<Synced, SyncFault>, usize) {
+    let mut wire = MemWire::new(rt.alloc(), list(rt, reply), 3, list(rt, fails));
+    let end = anew(rt, most, &mut wire);
+    drop(wire);
+    end
 }
 
 #[test]
-fn a_reply_fails_exactly_by_its_bytes(rt: HostRuntime) -> Result<(), Fail> {
+fn a_reply_fails_exactly_by_its_bytes(rt: HostRuntime) {
     for (reply, fault, kept) in FAULTS {
-        let none = Vec::new(rt.alloc());
-        equal(
-            &rt,
-            replied(&rt, rt.alloc(), reply, none)?,
-            (Err(*fault), *kept),
-        );
-    }
-    Ok(())
-}
-
-/// What an exchange of a new replica comes to with this reply, and how many operations it keeps.
-fn heard(
-    rt: &impl Abort,
-    alloc: Global,
-    reply: &[u8],
-) -> Result<(Result<Synced, SyncFault>, usize), Fail> {
-    let reply = reply.to_vec(alloc)?;
-    let mut replica = Replica::new(alloc, 1, 10, 10)?;
-    let mut kept = Vec::new(alloc);
-    let mut wire = MemWire::new(alloc, reply, 3, Vec::new(alloc));
-    let result = exchanged(rt, alloc, &mut replica, &mut wire, 0, &mut kept);
-    drop(replica);
-    Ok((result, kept.len()))
-}
-
-/// Where the message begins in which a reply of both frames is cut, and how many frames are before it.
-fn cut_in(count: usize) -> (u64, usize) {
-    match count {
-        0..=21 => (0, 0),
-        22..=35 => (22, 1),
-        _ => (36, 2),
+        let end = replied(&rt, 1, reply, &[]);
+        equal_at(&rt, reply, end, (Err(*fault), *kept));
     }
 }
 
 #[test]
-fn a_reply_may_be_cut_at_each_byte(rt: HostRuntime) -> Result<(), Fail> {
-    for count in 0..BOTH.len() {
-        let (place, kept) = cut_in(count);
-        equal_at(
-            &rt,
-            &count,
-            heard(&rt, rt.alloc(), &BOTH[..count])?,
-            (Err(SyncFault::CutShort(place)), kept),
-        );
+fn a_reply_may_be_cut_at_each_byte(rt: HostRuntime) {
+    for count in 0..REPLY.len() {
+        let end = replied(&rt, 10, &REPLY[..count], &[]);
+        // Where the message begins that is cut, and how many frames are before it.
+        let (place, kept) = match count {
+            0..=21 => (0, 0),
+            22..=35 => (22, 1),
+            _ => (36, 2),
+        };
+        equal_at(&rt, &count, end, (Err(SyncFault::CutShort(place)), kept));
     }
-    Ok(())
 }
 
 #[test]
-fn each_call_on_the_wire_may_fail(rt: HostRuntime) -> Result<(), Fail> {
+fn each_call_on_the_wire_may_fail(rt: HostRuntime) {
     // It is dialled, written to twice and read from five times.
     for call in 0..8 {
-        let fail = [call].to_vec(rt.alloc())?;
-        let result = replied(&rt, rt.alloc(), &[0x55, 0, 0, 0, 0], fail)?;
-        equal_at(&rt, &call, result, (Err(SyncFault::WireFault), 0));
+        let end = replied(&rt, 1, &[0x55, 0, 0, 0, 0], &[call]);
+        equal_at(&rt, &call, end, (Err(SyncFault::WireFault), 0));
     }
-    Ok(())
 }
 
 /// What it comes to over a wire that takes so many bytes.
-fn surely(rt: &impl Abort, alloc: Global, room: usize) -> Result<Result<Synced, SyncFault>, Fail> {
-    let mut kept = Vec::new(alloc);
-    let mut wire = SureWire::new(alloc, [0x55, 0, 0, 0, 7].to_vec(alloc)?, 3, room)?;
-    anew(rt, alloc, &mut wire, &mut kept)
+fn surely(rt: &(impl Abort + AllocGlobal), room: usize) -> Result<Synced, SyncFault> {
+    let reply = list(rt, &[0x55, 0, 0, 0, 7]);
+    let mut wire = SureWire::new(rt.alloc(), reply, 3, room).expect(rt, "memory");
+    let (result, _) = anew(rt, 1, &mut wire);
+    drop(wire);
+    result
 }
 
 #[test]
-fn a_sure_wire_takes_what_fits(rt: HostRuntime) -> Result<(), Fail> {
+fn a_sure_wire_takes_what_fits(rt: HostRuntime) {
     let synced = Synced {
         tally: UNCOUNTED,
         cursor: 7,
     };
-    equal(&rt, surely(&rt, rt.alloc(), 6)?, Ok(synced));
-    equal(&rt, surely(&rt, rt.alloc(), 5)?, Err(SyncFault::WireFault));
-    Ok(())
+    equal(&rt, surely(&rt, 6), Ok(synced));
+    equal(&rt, surely(&rt, 5), Err(SyncFault::WireFault));
 }
