@@ -28,10 +28,7 @@ fn start(rt: &HostRuntime, port: &str) -> Result<Process, Fail> {
         return Err(Fail::new("this process has no name"));
     };
     let relay = Command::new(rt.alloc(), name.as_str())?
-        .arg("tests::program")?
-        .arg("relay")?
-        .arg(port)?
-        .arg("3")?
+        .args(["tests::program", "relay", port, "3"])?
         .stdin(Stdio::null())
         .stdout(Stdio::piped())
         .stderr(Stdio::piped())
@@ -53,9 +50,11 @@ fn says<R: Read>(stream: &mut Option<R>, line: &[u8]) -> bool {
     true
 }
 
-fn words_of(rt: &HostRuntime, line: &str) -> Result<Vec<String>, AllocError> {
+/// The words of the line, with this port.
+fn words_of(rt: &HostRuntime, line: &str, port: &str) -> Result<Vec<String>, AllocError> {
     let mut words = Vec::new(rt.alloc());
     for word in line.split_whitespace() {
+        let word = if word == "PORT" { port } else { word };
         words.push(String::from_str(rt.alloc(), word)?)?;
     }
     Ok(words)
@@ -76,72 +75,128 @@ fn run_on(
     let mut wire = TcpWire::new(*rt);
     let mut dock = MemDock::new(alloc, Vec::new(alloc), 1, Vec::new(alloc));
     let hasher: BuildHasherDefault<FoldHasher> = BuildHasherDefault::default();
-    run(
+    let status = run(
         alloc, words, &mut input, output, notes, home, &mut guest, &mut wire, &mut dock, hasher,
-    )
+    );
+    drop(dock);
+    drop(wire);
+    drop(guest);
+    drop(input);
+    status
 }
+
+/// Who runs a command: each author has a file.
+enum Author {
+    Ann,
+    Ben,
+}
+
+/// Who runs it, the command, the script, the output and the notes.
+type Step = (
+    Author,
+    &'static str,
+    &'static str,
+    &'static str,
+    &'static str,
+);
+
+/// Both authors write apart: the first one five operations, the second one a section of its own.
+const WRITING: &[Step] = &[
+    (Author::Ann, "new F 1 16", "", "", ""),
+    (
+        Author::Ann,
+        "edit F",
+        "add 1 T\nput 1 0 AB\ncut 1 1 1\nput 1 1 C\n",
+        "",
+        "made 5\n",
+    ),
+    (Author::Ben, "new F 2 16", "", "", ""),
+    (Author::Ben, "edit F", "add 1 U\n", "", "made 1\n"),
+];
+
+/// Both exchange their files with the relay: the first author twice, the second time from the cursor on that was noted, so
+/// that nothing comes again.
+const MEETING: &[Step] = &[
+    (
+        Author::Ann,
+        "sync F PORT 0",
+        "",
+        "",
+        "accepted 0, repeated 5, waiting 0, conflict 0, stray 0, full 0\ncursor 5\n",
+    ),
+    (
+        Author::Ben,
+        "sync F PORT 0",
+        "",
+        "",
+        "accepted 5, repeated 1, waiting 0, conflict 0, stray 0, full 0\ncursor 6\n",
+    ),
+    (
+        Author::Ann,
+        "sync F PORT 5",
+        "",
+        "",
+        "accepted 1, repeated 0, waiting 0, conflict 0, stray 0, full 0\ncursor 6\n",
+    ),
+];
+
+/// Both print the same.
+const PRINTING: &[Step] = &[
+    (Author::Ann, "print F", "", "# T\nAC\n# U\n\n", ""),
+    (Author::Ben, "print F", "", "# T\nAC\n# U\n\n", ""),
+];
 
 /// Whether the command ends well, with this output and these notes.
 fn ends_so(
     rt: &HostRuntime,
-    line: &str,
-    script: &str,
+    port: &str,
+    step: &Step,
     home: &mut MemDisk,
-    text: &str,
-    noted: &str,
 ) -> Result<bool, AllocError> {
-    let words = words_of(rt, line)?;
+    let (_, line, script, text, noted) = step;
     let script = Vec::from_slice(rt.alloc(), script.as_bytes())?;
+    let words = words_of(rt, line, port)?;
     let mut output = MemSink::new(rt.alloc(), 4096, Vec::new(rt.alloc()));
     let mut notes = MemSink::new(rt.alloc(), 4096, Vec::new(rt.alloc()));
     let status = run_on(rt, &words, script, &mut output, &mut notes, home);
-    Ok(
-        status == Status::Done
-            && output.written() == text.as_bytes()
-            && notes.written() == noted.as_bytes(),
-    )
+    let is_so = status == Status::Done
+        && output.written() == text.as_bytes()
+        && notes.written() == noted.as_bytes();
+    drop(notes);
+    drop(output);
+    drop(words);
+    Ok(is_so)
 }
 
-/// Whether both authors write apart: the first one five operations, the second one a section of its own.
-fn write_apart(rt: &HostRuntime, ann: &mut MemDisk, ben: &mut MemDisk) -> Result<bool, AllocError> {
-    let script = "add 1 T\nput 1 0 AB\ncut 1 1 1\nput 1 1 C\n";
-    Ok(
-        ends_so(rt, "new F 1 16", "", ann, "", "")?
-            && ends_so(rt, "edit F", script, ann, "", "made 5\n")?
-            && ends_so(rt, "new F 2 16", "", ben, "", "")?
-            && ends_so(rt, "edit F", "add 1 U\n", ben, "", "made 1\n")?,
-    )
-}
-
-/// Whether both exchange their files with the relay on the port: the first author twice, the second time from the cursor on
-/// that was noted, so that nothing comes again.
-fn exchange(
+/// Whether all of these end so, with this port for that of the relay.
+fn all_end_so(
     rt: &HostRuntime,
-    port: u16,
+    port: &str,
+    steps: &[Step],
     ann: &mut MemDisk,
     ben: &mut MemDisk,
 ) -> Result<bool, AllocError> {
-    let from_start = format!(in rt.alloc(); "sync F {port} 0")?;
-    let from_five = format!(in rt.alloc(); "sync F {port} 5")?;
-    let known = "accepted 0, repeated 5, waiting 0, conflict 0, stray 0, full 0\ncursor 5\n";
-    let new = "accepted 5, repeated 1, waiting 0, conflict 0, stray 0, full 0\ncursor 6\n";
-    let last = "accepted 1, repeated 0, waiting 0, conflict 0, stray 0, full 0\ncursor 6\n";
-    Ok(
-        ends_so(rt, &from_start, "", ann, "", known)?
-            && ends_so(rt, &from_start, "", ben, "", new)?
-            && ends_so(rt, &from_five, "", ann, "", last)?,
-    )
+    for step in steps {
+        let is_so = match step.0 {
+            Author::Ann => ends_so(rt, port, step, ann)?,
+            Author::Ben => ends_so(rt, port, step, ben)?,
+        };
+        if !is_so {
+            return Ok(false);
+        }
+    }
+    Ok(true)
 }
 
 /// Whether the authors exchange their files at the relay, which then ends well.
 fn meet_at(
     rt: &HostRuntime,
-    port: u16,
+    port: &str,
     relay: &mut Process,
     ann: &mut MemDisk,
     ben: &mut MemDisk,
 ) -> Result<bool, Fail> {
-    if exchange(rt, port, ann, ben)? {
+    if all_end_so(rt, port, MEETING, ann, ben)? {
         Ok(says(&mut relay.stderr, b"log 6\n") && relay.wait()?.success())
     } else {
         relay.kill()?;
@@ -151,8 +206,8 @@ fn meet_at(
 
 /// The same at the first of some ports that is free.
 fn meet(rt: &HostRuntime, ann: &mut MemDisk, ben: &mut MemDisk) -> Result<bool, Fail> {
-    for (port, word) in [(47_113, "47113"), (47_114, "47114"), (47_115, "47115")] {
-        let mut relay = start(rt, word)?;
+    for port in ["47113", "47114", "47115"] {
+        let mut relay = start(rt, port)?;
         if says(&mut relay.stdout, b"ready\n") {
             return meet_at(rt, port, &mut relay, ann, ben);
         }
@@ -160,25 +215,22 @@ fn meet(rt: &HostRuntime, ann: &mut MemDisk, ben: &mut MemDisk) -> Result<bool, 
     Ok(false)
 }
 
-/// Whether two authors who met at a relay print the same.
-fn print_the_same(rt: &HostRuntime) -> Result<bool, Fail> {
-    let mut ann = MemDisk::new(rt.alloc(), Vec::new(rt.alloc()), Vec::new(rt.alloc()));
-    let mut ben = MemDisk::new(rt.alloc(), Vec::new(rt.alloc()), Vec::new(rt.alloc()));
-    print_both(rt, &mut ann, &mut ben)
-}
-
-fn print_both(rt: &HostRuntime, ann: &mut MemDisk, ben: &mut MemDisk) -> Result<bool, Fail> {
-    let text = "# T\nAC\n# U\n\n";
+/// Whether two authors who write apart and meet at a relay print the same.
+fn print_the_same(rt: &HostRuntime, ann: &mut MemDisk, ben: &mut MemDisk) -> Result<bool, Fail> {
     Ok(
-        write_apart(rt, ann, ben)?
+        all_end_so(rt, "", WRITING, ann, ben)?
             && meet(rt, ann, ben)?
-            && ends_so(rt, "print F", "", ann, text, "")?
-            && ends_so(rt, "print F", "", ben, text, "")?,
+            && all_end_so(rt, "", PRINTING, ann, ben)?,
     )
 }
 
 #[test]
 fn authors_meet_at_a_relay_that_is_another_process(rt: HostRuntime) -> Result<(), Fail> {
-    assert!(rt; print_the_same(&rt)?);
+    let mut ann = MemDisk::new(rt.alloc(), Vec::new(rt.alloc()), Vec::new(rt.alloc()));
+    let mut ben = MemDisk::new(rt.alloc(), Vec::new(rt.alloc()), Vec::new(rt.alloc()));
+    let is_so = print_the_same(&rt, &mut ann, &mut ben);
+    drop(ben);
+    drop(ann);
+    assert!(rt; is_so?);
     Ok(())
 }
