@@ -38,7 +38,7 @@ look 'a long cut' 'made 300000' "$(printf 'cut 1 0 300000\n' | timeout 60 "$prog
 look 'nothing left' '# T' "$(timeout 60 "$program" print "$work/1" </dev/null)"
 
 # The frames of 100,000 letters, each directly behind the start or one that came before it, and the text that they make.
-# Two authors take turns: so no letter joins the run of another, and each is a node of the tree.
+# Two authors take turns: so no letter joins the run of another, but for a few at random, and each is a node of the tree.
 typed() {
     local order=$1 text=$2
     printf "$section"
@@ -72,8 +72,8 @@ typed() {
         }'
 }
 
-# No order of inserts makes the tree of a text deep: each takes a second or two of the processor, where a tree that is a
-# chain takes many minutes.
+# None of these orders makes the tree of a text a chain: each takes a second or two of the processor, where a chain takes
+# many minutes.
 for order in 'in front' 'at the end' 'behind the first' 'before the last' 'in the middle' 'at random'; do
     typed "$order" "$work/text" >"$work/frames"
     (ulimit -t 10 && "$program" show) <"$work/frames" >"$work/output" 2>"$work/notes"

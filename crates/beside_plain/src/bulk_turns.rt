@@ -13,6 +13,11 @@ use std::test::Fail;
 
 const SEED: u32 = 7;
 
+/// The generator of the turns, as the bulk's.
+const MULTIPLIER: u32 = 1_664_525;
+
+const ADDEND: u32 = 1_013_904_223;
+
 const TURNS: u32 = 200;
 
 const LETTERS: [&str; 26] = [
@@ -47,7 +52,7 @@ fn sum_of(text: &[u8]) -> u32 {
     sum
 }
 
-/// The section's text is what stands between its title and the last line's end.
+/// What the bulk would tell of both. The section's text is what stands between its title and the last line's end.
 fn tell(
     rt: &impl Abort,
     alloc: Global,
@@ -108,7 +113,7 @@ fn make_by_turns(
     feed_ops(rt, alloc, second, first.accepted())?;
     let mut x = SEED;
     for turn in 1..=TURNS {
-        x = x.wrapping_mul(1_664_525).wrapping_add(1_013_904_223);
+        x = x.wrapping_mul(MULTIPLIER).wrapping_add(ADDEND);
         if turn % 2 == 1 {
             take_turn(rt, alloc, first, x)?;
         } else {

@@ -42,6 +42,16 @@ fn a_delete_hides_and_keeps_the_place(rt: HostRuntime) -> Result<(), Fail> {
     hide(&rt, rt.alloc(), &mut replica)
 }
 
+fn verdict_of(
+    rt: &impl Abort,
+    alloc: Global,
+    replica: &PlainReplica,
+    line: Line,
+) -> Result<Verdict, Fail> {
+    let op = op(rt, alloc, line)?;
+    Ok(replica.verdict(&op))
+}
+
 fn compare_verdicts(
     rt: &impl Abort,
     alloc: Global,
@@ -72,8 +82,7 @@ fn compare_verdicts(
         &[T, Section((8, 0), NONE, NONE, "U"), B, A],
     )?;
     for (line, wanted) in table {
-        let op = op(rt, alloc, line)?;
-        equal_at(rt, &line, replica.verdict(&op), wanted);
+        equal_at(rt, &line, verdict_of(rt, alloc, replica, line)?, wanted);
     }
     Ok(())
 }

@@ -136,15 +136,11 @@ fn feed_all(
 ) -> Result<(), Fail> {
     let mut tally = Tally::default();
     feed_lines(rt, alloc, replica, lines, &mut tally)?;
-    holds_at(
-        rt,
-        &want.text,
-        writes(alloc, replica, want.text.as_bytes())?,
-    );
-    equal_at(rt, &want.text, tally, want.counts);
-    equal_at(rt, &want.text, replica.waiting().len(), want.waiting);
+    holds_at(rt, &lines, writes(alloc, replica, want.text.as_bytes())?);
+    equal_at(rt, &lines, tally, want.counts);
+    equal_at(rt, &lines, replica.waiting().len(), want.waiting);
     let accepted = replica.accepted().len();
-    equal_at(rt, &want.text, accepted, want.counts.accepted as usize);
+    equal_at(rt, &lines, accepted, want.counts.accepted as usize);
     Ok(())
 }
 

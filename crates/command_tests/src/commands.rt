@@ -97,6 +97,9 @@ fn show_by<S: Source, O: Sink, N: Sink>(
     status
 }
 
+/// How many bytes of a script come at once.
+const PIECE: usize = 10;
+
 /// Runs on the file alone, with an input that comes in pieces and of which these calls fail.
 fn run_on<O: Sink, N: Sink, H: Disk>(
     rt: &(impl Abort + AllocGlobal),
@@ -106,7 +109,7 @@ fn run_on<O: Sink, N: Sink, H: Disk>(
     notes: &mut N,
     home: &mut H,
 ) -> Status {
-    let mut input = MemSource::new(list(rt, input.0), 10, list(rt, input.1));
+    let mut input = MemSource::new(list(rt, input.0), PIECE, list(rt, input.1));
     let mut guest = FileDisk::closed();
     let status = run_offline(rt, line, &mut input, output, notes, home, &mut guest);
     drop(guest);

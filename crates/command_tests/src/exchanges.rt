@@ -1,7 +1,7 @@
 mod syncs;
 
 use crate::assertions::{equal, equal_at};
-use crate::frames::REPLY;
+use crate::frames::{REPLY, S};
 use crate::memory::list;
 use crate::sessions::Coming::{Goes, Opens, Says};
 use crate::sessions::{Coming, HELLO, steps};
@@ -12,13 +12,10 @@ use relay_sync::{ServeFault, serve};
 use std::hash::{BuildHasherDefault, FoldHasher};
 use std::process::Abort;
 
-/// The same, and the frame of a text.
+/// A greeting from the start of the log on, and the frame of a text.
 const HELLO_TEXT: &[u8] = &[
     0x48, 0, 0, 0, 0, 2, 0, 0, 0, 1, 0, 0, 0, 0, 0, 0, 0, 9, 0, 0, 0, 0, 0, 0, 0, 0, 97,
 ];
-
-/// The frame of a section.
-const SECTION: &[u8] = &[1, 0, 0, 0, 9, 0, 0, 0, 0, 0, 0, 0, 1, 84];
 
 /// Two sessions bring a frame each, and end their texts.
 const TWO_SESSIONS: &[Coming] = &[
@@ -26,7 +23,7 @@ const TWO_SESSIONS: &[Coming] = &[
     Opens(1),
     Says(0, HELLO),
     Says(1, HELLO_TEXT),
-    Says(0, SECTION),
+    Says(0, S),
     Says(1, &[0x44]),
     Says(0, &[0x44]),
 ];
@@ -115,7 +112,7 @@ fn serves_so(rt: &(impl Abort + AllocGlobal), row: &Serving) {
 }
 
 #[test]
-fn each_session_is_sent_its_reply_and_ended(rt: HostRuntime) {
+fn sessions_are_served_as_far_as_they_may_be(rt: HostRuntime) {
     for row in SERVINGS {
         serves_so(&rt, row);
     }
@@ -128,7 +125,7 @@ const BRINGS_BOTH: &[u8] = &[
 ];
 
 /// A session that brings both frames is gone behind so many bytes, of which so many frames came whole, and is answered so.
-fn is_cut(rt: &(impl Abort + AllocGlobal), count: usize, logged: u32, sent: &[u8]) {
+fn serve_cut(rt: &(impl Abort + AllocGlobal), count: usize, logged: u32, sent: &[u8]) {
     let said = &BRINGS_BOTH[..count.min(BRINGS_BOTH.len())];
     let steps = steps(rt, &[Opens(0), Says(0, said), Goes(0)]);
     let mut dock = MemDock::new(rt.alloc(), steps, 7, Vec::new(rt.alloc()));
@@ -146,9 +143,9 @@ fn a_session_may_be_cut_at_each_byte(rt: HostRuntime) {
             27..=40 => 1,
             _ => 2,
         };
-        is_cut(&rt, count, logged, &[]);
+        serve_cut(&rt, count, logged, &[]);
     }
-    is_cut(&rt, BRINGS_BOTH.len(), 2, REPLY);
+    serve_cut(&rt, BRINGS_BOTH.len(), 2, REPLY);
 }
 
 #[test]

@@ -2,16 +2,16 @@ ghost use Rattle.std.specs.Prelude.{◌<◌, ◌≤◌, IfSome, IfOk};
 ghost use Rattle.fugue_ids.specs.declared.limits.TheConstants.{MOST_OPERATIONS as most_operations};
 ghost use Rattle.replica_file.specs.Ends.{EndsAt, Reaches};
 
-use crate::assertions::{equal, equal_at};
+use crate::assertions::{equal, equal_at, holds_at};
 use crate::frames::{NEW, PRINTED, SAVED};
 use crate::memory::{list, sure_disk};
 use fugue_ids::{ElementId, MOST_OPERATIONS, Op, Title};
-use outer_ports::{Disk, MemDisk, MemSink};
+use outer_ports::{Disk, MemDisk, MemSink, Pick};
 use replica_file::{CreateFault, End, LoadFault, append, create, load};
 use std::alloc::Global;
 use std::process::Abort;
 
-fn id(counter: u32) -> ElementId {
+pub(crate) fn id(counter: u32) -> ElementId {
     ElementId {
         replica: 1,
         counter,
@@ -158,6 +158,49 @@ fn bytes_decide_what_loading_answers(rt: HostRuntime) {
     }
     let empty = list(&rt, b"FGMX\x01\0\0\0\x01\0\0\0\x10\x01\0\0\0\0\0");
     equal(&rt, loads(&rt, empty, 9), Ok((0, End { at: 18, slots: 1 })));
+}
+
+/// The crashes behind which a file is looked at.
+pub(crate) const PICKS: &[Pick] = &[
+    Pick::Old,
+    Pick::New,
+    Pick::Fill(0),
+    Pick::Fill(1),
+    Pick::Fill(7),
+    Pick::Fill(255),
+];
+
+/// Whether the file has the batch, or is as it was where that was not saved, and then takes it.
+fn has_all_or_none(alloc: Global, disk: &mut MemDisk, ops: &[Op], is_saved: bool) -> bool {
+    shows(alloc, disk, PRINTED)
+        || !is_saved
+            && shows(alloc, disk, b"")
+            && save(alloc, disk, ops).is_some()
+            && shows(alloc, disk, PRINTED)
+}
+
+/// Saves where this call on the file fails, and looks at what crashes leave. It is saved where no call fails.
+fn crash_at(rt: &(impl Abort + AllocGlobal), call: u32, ops: &[Op], is_saved: bool) {
+    let mut disk = MemDisk::new(rt.alloc(), list(rt, NEW), list(rt, &[call]));
+    let end = save(rt.alloc(), &mut disk, ops);
+    equal_at(rt, &call, end.is_some(), is_saved);
+    for pick in PICKS {
+        let mut left = disk.crash(*pick).expect(rt, "memory");
+        let is_whole = has_all_or_none(rt.alloc(), &mut left, ops, is_saved);
+        holds_at(rt, &(call, pick), is_whole);
+        drop(left);
+    }
+    drop(disk);
+}
+
+#[test]
+fn a_crash_leaves_all_of_a_batch_or_none(rt: HostRuntime) {
+    let ops = operations(&rt, 0);
+    // Loading is a sync and two reads, and a batch is two writes and two syncs.
+    for call in 0..9 {
+        crash_at(&rt, call, &ops, call >= 7);
+    }
+    drop(ops);
 }
 
 /// Saves operations whose frames are longer than a piece, and loads them.

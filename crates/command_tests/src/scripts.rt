@@ -3,9 +3,10 @@ ghost use Rattle.origin_model.specs.taking.Taking.{IsSettled};
 mod plain;
 
 use crate::assertions::{equal, equal_at, holds_at};
+use crate::files::id;
 use crate::memory::list;
 use edit_script::{ScriptFault, run_script};
-use fugue_ids::{ElementId, Op, Title};
+use fugue_ids::{Op, Title};
 use outer_ports::{MemSink, MemSource};
 use plain::has_form;
 use replica_core::Replica;
@@ -220,7 +221,7 @@ const WHOLE: [(&[u8], usize, u8, &[u32], Row); 5] = [
 ];
 
 #[test]
-fn a_script_is_read_whole_before_it_runs(rt: HostRuntime) {
+fn a_script_is_read_whole_and_its_lines_are_texts(rt: HostRuntime) {
     let mut replica = new_replica(&rt, 1000);
     for (front, len, byte, fails, row) in &WHOLE {
         let mut script = list(&rt, front);
@@ -235,17 +236,10 @@ const SPENT: [Row; 2] = [
     ("drop 1", Ok(1), ""),
 ];
 
-fn own(counter: u32) -> ElementId {
-    ElementId {
-        replica: 1,
-        counter,
-    }
-}
-
 #[test]
 fn no_counter_is_left(rt: HostRuntime) {
     let last = Op::Section {
-        id: own(u32::MAX),
+        id: id(u32::MAX),
         left: None,
         right: None,
         title: Title::read(rt.alloc(), "T").expect(&rt, "a title"),
@@ -271,7 +265,7 @@ fn a_hidden_element_is_the_right_origin(rt: HostRuntime) {
                 right,
                 ..
             },
-        ] => (*id, *left, *right) == (own(3), Some(own(1)), Some(own(2))),
+        ] => (*id, *left, *right) == (id(3), Some(id(1)), Some(id(2))),
         _ => false,
     };
     equal(&rt, is_behind, true);

@@ -82,20 +82,20 @@ fn operations_are_appended_one_behind_the_other(rt: HostRuntime) -> Result<(), F
     Ok(())
 }
 
-/// Whether the operation is written as this frame, whose fronts begin one, and which with a byte behind it is this operation's.
+/// Whether the operation is written as this frame behind what stands there, whose fronts begin one, and which with a byte behind it is this operation's.
 fn is_framed(rt: &HostRuntime, op: &Op, frame: &[u8]) -> Result<bool, Fail> {
     for len in 0..frame.len() {
         if !matches!(first_frame(rt.alloc(), &frame[..len])?, First::Prefix) {
             return Ok(false);
         }
     }
-    let mut bytes = Vec::new(rt.alloc());
+    let mut bytes = Vec::from_slice(rt.alloc(), b"#")?;
     encode(op, &mut bytes)?;
-    if bytes.as_slice() != frame {
+    if bytes.strip_prefix(b"#".as_slice()) != Some(frame) {
         return Ok(false);
     }
     bytes.push(255)?;
-    match first_frame(rt.alloc(), &bytes)? {
+    match first_frame(rt.alloc(), &bytes[1..])? {
         First::Whole(ops, len) => Ok(len == frame.len() && ops.len() == 1 && ops[0] == *op),
         First::Prefix | First::Bad => Ok(false),
     }

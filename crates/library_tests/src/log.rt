@@ -283,7 +283,7 @@ const OPENED: &[Row] = &[
     (3, Opens, &[]),
 ];
 
-/// Four sessions speak in turns that the seed gives, in pieces of one to nine bytes, until each is over.
+/// Four sessions speak in turns that the seed gives, in pieces of one to nine bytes.
 fn talk(
     rt: &impl Abort,
     alloc: Global,

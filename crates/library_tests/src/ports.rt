@@ -37,9 +37,9 @@ fn gives<S: Source>(rt: &impl Abort, source: &mut S, rows: &[(usize, Result<&str
     let mut buf = [0; 4];
     for (room, want) in rows {
         let end = (*room).min(4);
-        let want = want.map(|text| text.as_bytes());
+        let want = want.map(|text| Some(text.as_bytes()));
         match source.read(&mut buf[..end]) {
-            Ok(count) => equal_at(rt, room, Ok(buf.get(..count).unwrap_or(&[])), want),
+            Ok(count) => equal_at(rt, room, Ok(buf.get(..count)), want),
             Err(failed) => equal_at(rt, room, Err(failed), want),
         }
     }
@@ -88,14 +88,14 @@ fn sinks_in_memory_take_pieces_and_fail_where_listed(rt: HostRuntime) -> Result<
 
 #[test]
 fn a_sure_sink_takes_what_fits(rt: HostRuntime) -> Result<(), Fail> {
-    let mut sink = SureSink::new(rt.alloc(), 2, 11)?;
+    let mut sink = SureSink::new(rt.alloc(), 2, 12)?;
     let whole = write_whole(&mut sink, b"abc").is_ok();
     prove!(whole);
     equal(&rt, write_heading(&mut sink, "T"), Ok(()));
-    equal(&rt, write_scalar(&mut sink, 'ü'), Ok(()));
+    equal(&rt, write_scalar(&mut sink, '€'), Ok(()));
     let rows = [("def", Ok(2)), ("f", Err(Failed)), ("", Ok(0))];
     takes(&rt, &mut sink, &rows);
-    equal(&rt, sink.written(), "abc# T\nüde".as_bytes());
+    equal(&rt, sink.written(), "abc# T\n€de".as_bytes());
     Ok(())
 }
 
@@ -121,7 +121,7 @@ fn gathered_bytes_leave_in_whole_arrays(rt: HostRuntime) -> Result<(), Fail> {
 }
 
 #[test]
-fn streams_of_the_system_pass_bytes_and_faults_on(rt: HostRuntime) -> Result<(), Fail> {
+fn streams_pass_bytes_and_faults_on(rt: HostRuntime) -> Result<(), Fail> {
     let mut sink = StdSink::new(File::create(&rt, "stream")?);
     takes(&rt, &mut sink, &[("ab", Ok(2)), ("", Ok(0)), ("c", Ok(1))]);
     let mut source = StdSource::new(File::open(&rt, "stream")?);

@@ -73,14 +73,16 @@ fn insert(
 /// Items 0, 1, .. in order, each of the units and the rank that are given.
 fn fill(rope: &mut Rope<Stretch>, items: &[(u8, u32)]) -> Result<(), NoMemory> {
     let mut at = At::First;
-    for (i, (units, rank)) in items.iter().enumerate() {
-        let key = id(1, i as u32);
+    let mut counter = 0;
+    for (units, rank) in items {
+        let key = id(1, counter);
         let value = Stretch {
             units: *units,
             rank: *rank,
         };
         insert(rope, at, key, value)?;
         at = At::After(key);
+        counter = counter.saturating_add(1);
     }
     Ok(())
 }

@@ -25,7 +25,7 @@ fn text(own: ElementId, left: Option<ElementId>, ch: char) -> Op {
     }
 }
 
-/// In a function that owns no inbox, so that the operation goes cheaply.
+/// In a function that owns no inbox.
 fn finds(rt: &impl Abort, inbox: &Inbox, op: Op, wanted: Found) {
     equal(rt, inbox.find(&op), wanted);
 }

@@ -1,6 +1,6 @@
 use super::{ends_on, ends_so, gives, run_on};
 use crate::assertions::{equal_at, holds_at};
-use crate::files::has_bytes;
+use crate::files::{PICKS, has_bytes};
 use crate::frames::{NEW, PRINTED, SAVED};
 use crate::memory::list;
 use manuscript_cli::Status;
@@ -140,16 +140,6 @@ fn is_whole_behind(
     is_whole
 }
 
-/// The crashes behind which a file is looked at.
-const PICKS: &[Pick] = &[
-    Pick::Old,
-    Pick::New,
-    Pick::Fill(0),
-    Pick::Fill(1),
-    Pick::Fill(7),
-    Pick::Fill(255),
-];
-
 #[test]
 fn a_crash_leaves_all_of_a_script_or_none(rt: HostRuntime) {
     // Loading is a sync and two reads, and a batch is two writes and two syncs.
@@ -210,7 +200,7 @@ fn what_was_saved_stands_where_the_notes_fail(rt: HostRuntime) {
 
 #[test]
 fn a_script_that_is_not_read_whole_saves_nothing(rt: HostRuntime) {
-    // The script has 39 bytes: four pieces, and an empty read at its end.
+    // The script has 39 bytes: four pieces (`PIECE`), and an empty read at its end.
     for call in 0..7 {
         let (status, line, left): (Status, &[u8], &[u8]) = if call < 5 {
             (Status::OutsideFault, b"outside fault\n", NEW)

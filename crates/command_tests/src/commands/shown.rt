@@ -170,7 +170,7 @@ const ROWS: &[Row] = &[
 ];
 
 /// The row's stream comes to what is wanted of it in pieces of each of these sizes.
-fn is_shown(rt: &(impl Abort + AllocGlobal), row: &Row) {
+fn compare_shown(rt: &(impl Abort + AllocGlobal), row: &Row) {
     let (words, frames, text, line, status) = *row;
     for piece in [1, 5, 4096] {
         let stream = (stream(rt, frames), piece);
@@ -182,7 +182,7 @@ fn is_shown(rt: &(impl Abort + AllocGlobal), row: &Row) {
 #[test]
 fn a_stream_is_shown_and_counted(rt: HostRuntime) {
     for row in ROWS {
-        is_shown(&rt, row);
+        compare_shown(&rt, row);
     }
 }
 
@@ -213,7 +213,7 @@ const PLACES: &[(usize, usize)] = &[
 ];
 
 /// The stream, cut at each byte of a frame, is whole where the frame begins, and is told to be cut short there elsewhere.
-fn is_cut_short(rt: &(impl Abort + AllocGlobal), begin: usize, end: usize) {
+fn compare_cut(rt: &(impl Abort + AllocGlobal), begin: usize, end: usize) {
     let line = format!(in rt.alloc(); "cut short at byte {begin}\n").expect(rt, "memory");
     for length in begin..end {
         let mut bytes = stream(rt, FRAMES);
@@ -232,7 +232,7 @@ fn is_cut_short(rt: &(impl Abort + AllocGlobal), begin: usize, end: usize) {
 #[test]
 fn a_stream_may_end_behind_each_frame_and_nowhere_else(rt: HostRuntime) {
     for (begin, end) in PLACES {
-        is_cut_short(&rt, *begin, *end);
+        compare_cut(&rt, *begin, *end);
     }
 }
 

@@ -81,13 +81,7 @@ const NOT_UNDERSTOOD: Case = Case {
 };
 
 const CASES: &[Case] = &[
-    Case {
-        reply: &[S, b"\x55\0\0\0\x01"],
-        line: "accepted 1, repeated 0, waiting 0, conflict 0, stray 0, full 0\ncursor 1\n",
-        status: Status::Done,
-        saved: &[S],
-        ..ASKED
-    },
+    ASKED,
     Case {
         reply: &[S, BEHIND_A, b"\x55\0\0\0\x02", b"and so on"],
         line: "accepted 1, repeated 0, waiting 1, conflict 0, stray 0, full 0\ncursor 2\n",

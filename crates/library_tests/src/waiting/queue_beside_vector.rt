@@ -12,39 +12,38 @@ enum Step {
     Goes(usize),
 }
 
+const STEPS: &[Step] = &[
+    Step::Comes(1),
+    Step::Goes(0),
+    Step::Comes(2),
+    Step::Comes(3),
+    Step::Comes(4),
+    Step::Comes(5),
+    Step::Comes(6),
+    Step::Comes(7),
+    Step::Comes(8),
+    Step::Goes(1),
+    Step::Becomes(0, 9),
+    Step::Goes(2),
+    Step::Becomes(3, 10),
+    Step::Goes(3),
+    Step::Goes(3),
+    Step::Comes(11),
+    Step::Goes(0),
+    Step::Goes(0),
+    Step::Becomes(1, 12),
+    Step::Goes(0),
+    Step::Comes(13),
+    Step::Goes(1),
+    Step::Goes(0),
+];
+
 #[test]
 fn items_come_change_and_go_as_in_a_vector(rt: HostRuntime) {
     let mut queue = Queue::new(rt.alloc());
     let mut vector = Vec::new(rt.alloc());
-    for (turn, step) in [
-        Step::Comes(1),
-        Step::Goes(0),
-        Step::Comes(2),
-        Step::Comes(3),
-        Step::Comes(4),
-        Step::Comes(5),
-        Step::Comes(6),
-        Step::Comes(7),
-        Step::Comes(8),
-        Step::Goes(1),
-        Step::Becomes(0, 9),
-        Step::Goes(2),
-        Step::Becomes(3, 10),
-        Step::Goes(3),
-        Step::Goes(3),
-        Step::Comes(11),
-        Step::Goes(0),
-        Step::Goes(0),
-        Step::Becomes(1, 12),
-        Step::Goes(0),
-        Step::Comes(13),
-        Step::Goes(1),
-        Step::Goes(0),
-    ]
-    .into_iter()
-    .enumerate()
-    {
-        let same = match step {
+    for (turn, step) in STEPS.iter().enumerate() {
+        let same = match *step {
             Step::Comes(item) => queue.push(item).is_ok() && vector.push(item).is_ok(),
             Step::Becomes(at, item) if at < queue.len() && at < vector.len() => {
                 queue.put(at, item) == replace(&mut vector[at], item)
