@@ -260,12 +260,12 @@ fn a_hidden_element_is_the_right_origin(rt: HostRuntime) {
         [
             ..,
             Op::Text {
-                id,
+                id: own,
                 left,
                 right,
                 ..
             },
-        ] => (*id, *left, *right) == (id(3), Some(id(1)), Some(id(2))),
+        ] => (*own, *left, *right) == (id(3), Some(id(1)), Some(id(2))),
         _ => false,
     };
     equal(&rt, is_behind, true);

@@ -167,17 +167,31 @@ fn each_call_on_a_file_may_fail(rt: HostRuntime) {
     }
 }
 
+/// The number of a call that no run makes.
+const NEVER: u32 = u32::MAX;
+
+/// Runs on the saved file where the calls of these numbers fail.
+fn see_without(
+    rt: &(impl Abort + AllocGlobal),
+    words: &str,
+    output: u32,
+    notes: u32,
+    text: &[u8],
+) -> (Status, bool, bool) {
+    see_of(rt, words, SAVED, [&[], &[output], &[notes]], text)
+}
+
 /// Of this command on the saved file, which writes this text in so many calls, each call may fail, and its fault is told
 /// where a note can be made.
 fn each_may_fail(rt: &(impl Abort + AllocGlobal), words: &str, text: &[u8], calls: u32) {
     let fault = Status::OutsideFault;
     for call in 0..calls {
-        let told = see_of(rt, words, SAVED, [&[], &[call], &[]], text);
+        let told = see_without(rt, words, call, NEVER, text);
         equal_at(rt, &(words, call), told, (fault, true, true));
-        let untold = see_of(rt, words, SAVED, [&[], &[call], &[0]], text);
+        let untold = see_without(rt, words, call, 0, text);
         equal_at(rt, &(words, call), untold, (fault, true, false));
     }
-    let whole = see_of(rt, words, SAVED, [&[], &[calls], &[]], text);
+    let whole = see_without(rt, words, calls, NEVER, text);
     equal_at(rt, &words, whole, (Status::Done, true, false));
 }
 
