@@ -39,6 +39,7 @@ pub fn make(
 }
 
 /// The operations that come first, how many of them wait, edits with their answers, the manuscript that is shown then, and the operations that are accepted, where the row tells them.
+#[derive(Clone, Copy)]
 struct Row {
     most: u32,
     lines: &'static [Line],
@@ -57,11 +58,18 @@ const OUT_OF_RANGE: Answer = Err(EditFault::OutOfRange);
 /// It waits, and names an identifier of replica 1.
 const WAITING: Line = Text((2, 0), SECTION, (1, 0), NONE, 'w');
 
+/// Nothing comes first, and there is room for all that is made.
+const FRESH: Row = Row {
+    most: 100,
+    lines: &[],
+    waiting: 0,
+    edits: &[],
+    text: "",
+    accepted: None,
+};
+
 const ROWS: &[Row] = &[
     Row {
-        most: 100,
-        lines: &[],
-        waiting: 0,
         edits: &[
             (Add(0, "T"), Ok(1)),
             (Put(0, 0, "AB"), Ok(2)),
@@ -69,12 +77,9 @@ const ROWS: &[Row] = &[
             (Put(0, 1, "C"), Ok(1)),
         ],
         text: "# T\nAC\n",
-        accepted: None,
+        ..FRESH
     },
     Row {
-        most: 100,
-        lines: &[],
-        waiting: 0,
         edits: &[
             (Add(0, "T"), Ok(1)),
             (Put(0, 0, "e\u{301}f"), Ok(3)),
@@ -83,24 +88,18 @@ const ROWS: &[Row] = &[
             (Cut(0, 9, 1), OUT_OF_RANGE),
         ],
         text: "# T\nXf\n",
-        accepted: None,
+        ..FRESH
     },
     Row {
-        most: 100,
-        lines: &[],
-        waiting: 0,
         edits: &[
             (Drop(0), NO_SECTION),
             (Put(0, 9, ""), NO_SECTION),
             (Cut(0, 9, 0), NO_SECTION),
         ],
-        text: "",
-        accepted: None,
+        ..FRESH
     },
     Row {
         most: 3,
-        lines: &[],
-        waiting: 0,
         edits: &[
             (Add(0, "T"), Ok(1)),
             (Put(0, 0, "ABC"), Err(EditFault::TooMany(1))),
@@ -112,7 +111,7 @@ const ROWS: &[Row] = &[
             (Cut(0, 2, 0), Ok(0)),
         ],
         text: "# T\nAB\n",
-        accepted: None,
+        ..FRESH
     },
     Row {
         most: 2,
@@ -120,12 +119,11 @@ const ROWS: &[Row] = &[
         waiting: 1,
         edits: &[(Put(0, 0, "x"), Err(EditFault::TooMany(2)))],
         text: "# T\n\n",
-        accepted: None,
+        ..FRESH
     },
     Row {
         most: 5,
         lines: &[T, Text((1, 4_294_967_295), SECTION, NONE, NONE, 'x')],
-        waiting: 0,
         edits: &[
             (Put(0, 0, "yyyyy"), SPENT),
             (Put(0, 2, "y"), OUT_OF_RANGE),
@@ -134,24 +132,18 @@ const ROWS: &[Row] = &[
             (Cut(0, 0, 1), Ok(1)),
             (Drop(0), Ok(1)),
         ],
-        text: "",
-        accepted: None,
+        ..FRESH
     },
     Row {
-        most: 100,
         lines: &[T, Text((1, 4_294_967_293), SECTION, NONE, NONE, 'x')],
-        waiting: 0,
         edits: &[
             (Put(0, 1, "abc"), Err(EditFault::IdsSpent(4_294_967_293))),
             (Put(0, 1, "ab"), Ok(2)),
         ],
         text: "# T\nxab\n",
-        accepted: None,
+        ..FRESH
     },
     Row {
-        most: 100,
-        lines: &[],
-        waiting: 0,
         edits: &[
             (Add(0, "T"), Ok(1)),
             (Put(0, 0, "AB"), Ok(2)),
@@ -163,11 +155,10 @@ const ROWS: &[Row] = &[
             (Drop(0), Ok(1)),
         ],
         text: "# T\nA-B\n",
-        accepted: None,
+        ..FRESH
     },
     // A text in front of a deleted one, behind an identifier that waits.
     Row {
-        most: 100,
         lines: &[T, WAITING],
         waiting: 1,
         edits: &[
@@ -187,6 +178,7 @@ const ROWS: &[Row] = &[
             Section((1, 4), SECTION, NONE, "U"),
             Delete(SECTION),
         ]),
+        ..FRESH
     },
 ];
 

@@ -49,6 +49,7 @@ fn push_batch(rt: &(impl Abort + AllocGlobal), bytes: &mut Vec<u8>, batch: Batch
 }
 
 /// A run that takes frames in, from the input or from another file, and what is wanted of it.
+#[derive(Clone, Copy)]
 struct Case {
     words: &'static str,
     home: File,
@@ -64,166 +65,133 @@ struct Case {
 
 pub(super) const EMPTY: File = (1, 16, &[]);
 
+/// An empty file, and no frame to take.
+const NOTHING: Case = Case {
+    words: "take F",
+    home: EMPTY,
+    guest: EMPTY,
+    input: &[],
+    line: "accepted 0, repeated 0, waiting 0, conflict 0, stray 0, full 0\n",
+    status: Status::Done,
+    saved: &[],
+    printed: b"",
+};
+
 const CASES: &[Case] = &[
     Case {
         words: "merge G F",
         home: (2, 16, &[]),
         guest: (1, 16, &[MADE]),
-        input: &[],
         line: "accepted 5, repeated 0, waiting 0, conflict 0, stray 0, full 0\n",
-        status: Status::Done,
         saved: MADE,
         printed: b"# T\nAC\n",
+        ..NOTHING
     },
     Case {
         words: "merge G F",
         home: (2, 16, &[MADE]),
         guest: (1, 16, &[MADE]),
-        input: &[],
         line: "accepted 0, repeated 5, waiting 0, conflict 0, stray 0, full 0\n",
-        status: Status::Done,
-        saved: &[],
         printed: b"# T\nAC\n",
+        ..NOTHING
     },
     Case {
         words: "merge G F",
         home: (2, 16, &[]),
         guest: (1, 16, &[&[BEHIND_A], &[S]]),
-        input: &[],
         line: "accepted 1, repeated 0, waiting 1, conflict 0, stray 0, full 0\n",
         status: Status::Partial,
         saved: &[S, BEHIND_A],
         printed: b"# T\n\n",
+        ..NOTHING
     },
     Case {
-        words: "take F",
         home: (1, 16, &[&[S, LOWER_A]]),
-        guest: EMPTY,
         input: &[S, OTHER_A],
         line: "accepted 0, repeated 1, waiting 0, conflict 1, stray 0, full 0\n",
         status: Status::Partial,
-        saved: &[],
         printed: b"# T\na\n",
+        ..NOTHING
     },
     Case {
-        words: "take F",
         home: (1, 1, &[]),
-        guest: EMPTY,
         input: &[LOWER_A, LOWER_B, S],
         line: "accepted 2, repeated 0, waiting 0, conflict 0, stray 0, full 1\n",
         status: Status::Partial,
         saved: &[LOWER_A, S],
         printed: b"# T\na\n",
+        ..NOTHING
     },
     Case {
-        words: "take F",
         home: (1, 16, &[&[BEHIND_A]]),
-        guest: EMPTY,
-        input: &[],
         line: "accepted 0, repeated 0, waiting 1, conflict 0, stray 0, full 0\n",
         status: Status::Partial,
-        saved: &[],
-        printed: b"",
+        ..NOTHING
     },
     Case {
-        words: "take F",
         home: (0, 16, &[]),
-        guest: EMPTY,
         input: &[NOWHERE],
         line: "not a replica\n",
         status: Status::BadFile,
-        saved: &[],
-        printed: b"",
+        ..NOTHING
     },
     Case {
         words: "merge F G",
-        home: EMPTY,
         guest: (1, 16, &[&[CUT]]),
-        input: &[],
         line: "bad batch 0\n",
         status: Status::BadFile,
-        saved: &[],
-        printed: b"",
+        ..NOTHING
     },
     Case {
         words: "merge F G",
         home: (1, 0, &[]),
         guest: (1, 16, &[&[CUT]]),
-        input: &[],
         line: "not a replica\n",
         status: Status::BadFile,
-        saved: &[],
-        printed: b"",
+        ..NOTHING
     },
     Case {
-        words: "take F",
-        home: EMPTY,
-        guest: EMPTY,
         input: &[S, LAST],
         line: "accepted 2, repeated 0, waiting 0, conflict 0, stray 0, full 0\n",
-        status: Status::Done,
         saved: &[S, LAST],
         printed: b"# T\nx\n",
+        ..NOTHING
     },
     Case {
-        words: "take F",
-        home: EMPTY,
-        guest: EMPTY,
         input: &[S, BEHIND_A],
         line: "accepted 1, repeated 0, waiting 1, conflict 0, stray 0, full 0\n",
         status: Status::Partial,
         saved: &[S, BEHIND_A],
         printed: b"# T\n\n",
+        ..NOTHING
     },
     Case {
-        words: "take F",
-        home: EMPTY,
-        guest: EMPTY,
         input: &[BEHIND_A, LOWER_A, S],
         line: "accepted 3, repeated 0, waiting 0, conflict 0, stray 0, full 0\n",
-        status: Status::Done,
         saved: &[BEHIND_A, LOWER_A, S],
         printed: b"# T\nac\n",
+        ..NOTHING
     },
     Case {
-        words: "take F",
-        home: EMPTY,
-        guest: EMPTY,
         input: &[IN_A, S, LOWER_A],
         line: "accepted 2, repeated 0, waiting 0, conflict 0, stray 1, full 0\n",
         status: Status::Partial,
         saved: &[IN_A, S, LOWER_A],
         printed: b"# T\na\n",
+        ..NOTHING
     },
+    NOTHING,
     Case {
-        words: "take F",
-        home: EMPTY,
-        guest: EMPTY,
-        input: &[],
-        line: "accepted 0, repeated 0, waiting 0, conflict 0, stray 0, full 0\n",
-        status: Status::Done,
-        saved: &[],
-        printed: b"",
-    },
-    Case {
-        words: "take F",
-        home: EMPTY,
-        guest: EMPTY,
         input: &[S, NOWHERE],
         line: "bad frame at byte 14\n",
         status: Status::BadInput,
-        saved: &[],
-        printed: b"",
+        ..NOTHING
     },
     Case {
-        words: "take F",
-        home: EMPTY,
-        guest: EMPTY,
         input: &[S, CUT],
         line: "cut short at byte 14\n",
         status: Status::BadInput,
-        saved: &[],
-        printed: b"",
+        ..NOTHING
     },
 ];
 
