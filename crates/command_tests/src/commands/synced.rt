@@ -1,9 +1,9 @@
-use super::taken::{Batch, EMPTY, File, bytes_of, sends};
+use super::taken::{Batch, EMPTY, File, sends, with_room_for};
 use super::{is_cut_off, run_line};
 use crate::assertions::{equal, equal_at, holds_at};
 use crate::files::has_bytes;
 use crate::frames::{BEHIND_A, NEW, S, stream};
-use crate::memory::{list, sure_disk, sure_sink};
+use crate::memory::{list, sure_sink};
 use manuscript_cli::Status;
 use outer_ports::{
     Disk, FileDisk, MemDisk, MemDock, MemSink, MemSource, MemWire, Sink, SureDisk, SureWire, Wire,
@@ -71,6 +71,13 @@ const ASKED: Case = Case {
     saved: &[S],
 };
 
+/// The reply ends in a fault: what came before it is not saved either.
+const NOTHING_SAVED: Case = Case {
+    status: Status::BadInput,
+    saved: &[],
+    ..ASKED
+};
+
 const NOT_UNDERSTOOD: Case = Case {
     said: &[],
     port: None,
@@ -99,44 +106,32 @@ const CASES: &[Case] = &[
     Case {
         reply: &[S, b"\x58\x02"],
         line: "relay refused 2\n",
-        status: Status::BadInput,
-        saved: &[],
-        ..ASKED
+        ..NOTHING_SAVED
     },
     Case {
         reply: &[b"\x58\x02"],
         line: "relay refused 2\n",
-        status: Status::BadInput,
-        saved: &[],
-        ..ASKED
+        ..NOTHING_SAVED
     },
     Case {
         reply: &[S, b"\x58\x04"],
         line: "bad reply at byte 14\n",
-        status: Status::BadInput,
-        saved: &[],
-        ..ASKED
+        ..NOTHING_SAVED
     },
     Case {
         reply: &[S, b"\xff"],
         line: "bad reply at byte 14\n",
-        status: Status::BadInput,
-        saved: &[],
-        ..ASKED
+        ..NOTHING_SAVED
     },
     Case {
         reply: &[S, b"\x02\0"],
         line: "reply cut short at byte 14\n",
-        status: Status::BadInput,
-        saved: &[],
-        ..ASKED
+        ..NOTHING_SAVED
     },
     Case {
         reply: &[],
         line: "reply cut short at byte 0\n",
-        status: Status::BadInput,
-        saved: &[],
-        ..ASKED
+        ..NOTHING_SAVED
     },
     Case {
         words: "sync F 65535 7",
@@ -168,12 +163,9 @@ const CASES: &[Case] = &[
     },
 ];
 
-/// Whether the case comes to what is wanted of it, on sure objects with just the room that it needs.
+/// Whether the case comes to what is wanted of it, on sure objects.
 fn is_met(rt: &(impl Abort + AllocGlobal), case: &Case) -> bool {
-    let bytes = bytes_of(rt, case.home, &[]);
-    let wanted = bytes_of(rt, case.home, case.saved);
-    let room = wanted.len().saturating_sub(bytes.len()).saturating_add(1);
-    let mut home = sure_disk(rt, bytes, room);
+    let (mut home, wanted) = with_room_for(rt, case.home, case.saved);
     let is_so = speaks_so(rt, case, &mut home) && has_bytes(&mut home, &wanted);
     drop(home);
     drop(wanted);

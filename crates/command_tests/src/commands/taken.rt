@@ -37,6 +37,18 @@ pub(super) fn bytes_of(rt: &(impl Abort + AllocGlobal), file: File, more: Batch)
     bytes
 }
 
+/// The file on a disk with just the room for this batch, and the bytes that it has with the batch.
+pub(super) fn with_room_for(
+    rt: &(impl Abort + AllocGlobal),
+    file: File,
+    saved: Batch,
+) -> (SureDisk, Vec<u8>) {
+    let bytes = bytes_of(rt, file, &[]);
+    let wanted = bytes_of(rt, file, saved);
+    let room = wanted.len().saturating_sub(bytes.len()).saturating_add(1);
+    (sure_disk(rt, bytes, room), wanted)
+}
+
 fn push_batch(rt: &(impl Abort + AllocGlobal), bytes: &mut Vec<u8>, batch: Batch) {
     if !batch.is_empty() {
         let frames = stream(rt, batch);
@@ -195,12 +207,9 @@ const CASES: &[Case] = &[
     },
 ];
 
-/// Whether the case comes to what is wanted of it, on sure objects with just the room that it needs.
+/// Whether the case comes to what is wanted of it, on sure objects.
 fn is_met(rt: &(impl Abort + AllocGlobal), case: &Case) -> bool {
-    let bytes = bytes_of(rt, case.home, &[]);
-    let wanted = bytes_of(rt, case.home, case.saved);
-    let room = wanted.len().saturating_sub(bytes.len()).saturating_add(1);
-    let mut home = sure_disk(rt, bytes, room);
+    let (mut home, wanted) = with_room_for(rt, case.home, case.saved);
     let is_saved = takes_so(rt, case, &mut home) && has_bytes(&mut home, &wanted);
     drop(home);
     let mut left = MemDisk::new(rt.alloc(), wanted, Vec::new(rt.alloc()));
