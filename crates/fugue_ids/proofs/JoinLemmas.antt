@@ -1,10 +1,10 @@
 -- Texts that go out one behind the other.
-use Rattle.std.specs.Prelude.{◌≡◌, ℕ, zero, suc, ◌+◌, ◌-◌, ◌<◌, ◌≤◌, List, [], ◌∷◌, ◌++◌, length, take, drop, flat_map, Option, Some, None, Result, Ok, Err, IfSome, refl}
+use Rattle.std.specs.Prelude.{◌≡◌, ℕ, zero, suc, ◌+◌, ◌-◌, ◌<◌, ◌≤◌, List, [], ◌∷◌, ◌++◌, length, take, drop, flat_map, Option, Some, None, Result, Ok, Err, IfSome, IsSome, refl}
 use Rattle.std.proofs.Common.{ap, sym, subst, ◌∙◌, append_assoc, arith, length-append, length-drop, get_or, add-one}
 use Rattle.std.proofs.lemmas.List.{append-nil, take-append-le, take_all, take-append-drop, length-take-le}
 use Rattle.std.proofs.Math.Seq.{take-append-add, take-add}
 use Rattle.std.specs.Io.KnownBytes.{append_known}
-use Rattle.fugue_ids.specs.Outs.{OutView, spent, Took, TookFront, IsSure, WritesSome, WritesText}
+use Rattle.fugue_ids.specs.Outs.{OutView, OutTells, spent, Took, TookFront, IsSure, WritesSome, WritesText}
 
 append_known-nil : (w : Option (List ℕ)) → append_known w [] ≡ w
 append_known-nil None = refl
@@ -25,6 +25,14 @@ spent-twice (Some r) m n = ap Some (omega arith)
 -- nothing went out
 pub took_none : (v w : OutView) → w.written ≡ v.written → w.room ≡ v.room → Took v w []
 took_none v w e f = record { written = e ∙ sym (append_known-nil v.written); room = f ∙ sym (spent-zero v.room) }
+
+-- what tells goes on telling
+tells_more : (w v : Option (List ℕ)) (bytes : List ℕ) → v ≡ append_known w bytes → IsSome w → IsSome v
+tells_more None v bytes is tells = absurd (cc tells)
+tells_more (Some held) v bytes is tells = subst (λ (o : Option (List ℕ)). IsSome o) (sym is) refl
+
+pub took_tells : (v w : OutView) (bytes : List ℕ) → Took v w bytes → OutTells v → OutTells w
+took_tells v w bytes t = tells_more v.written w.written bytes t.written
 
 -- two parts went out
 pub took_joins : (u v w : OutView) (a b : List ℕ) → Took u v a → Took v w b → Took u w (a ++ b)
@@ -66,7 +74,7 @@ sure_joins x (Err e) (Some r) (Some q) m n f0 f1 f2 is s t =
 
 -- nothing was to go out
 pub text_none : {E T : Type 0} (x : T) (v : OutView) → WritesText {E = E} {T = T} v v (Ok x) []
-text_none {E} {T} x v = record { ok = took_none v v refl refl; err = tt; cause = record { later = omega arith; failed = tt }; sure = sure_none v.room v.faults }
+text_none {E} {T} x v = record { ok = took_none v v refl refl; err = tt; cause = record { later = omega arith; failed = tt }; sure = sure_none v.room v.faults; calm_told = λ tells. refl }
   where
     sure_none : (room : Option ℕ) (faults : ℕ) → IfSome room (λ r. IsSure {E = E} {T = T} r 0 faults faults (Ok x))
     sure_none None faults = tt
@@ -79,6 +87,7 @@ text_stops {E} {T} {S} e u v a b s = record {
   err = front_longer u v a b s.err;
   cause = record { later = s.cause.later; failed = s.cause.failed };
   sure = sure_stops E T S e u.room (length a) (length (a ++ b)) u.faults v.faults (omega (arith, length-append a b)) s.sure;
+  calm_told = λ tells. tt;
 }
 
 -- the first of two texts went out, and the second did or didn't
@@ -90,6 +99,7 @@ text_joins {E} {T} {S} x (Ok y) u v w a b s t = record {
   cause = record { later = omega (arith, s.cause.later, t.cause.later); failed = tt };
   sure = subst (λ n. IfSome u.room (λ r. IsSure {E = E} {T = S} r n u.faults w.faults (Ok y))) (sym (length-append a b))
       (sure_joins {E = E} {T = T} {S = S} x (Ok y) u.room v.room (length a) (length b) u.faults v.faults w.faults s.ok.room s.sure t.sure);
+  calm_told = λ tells. t.calm_told (took_tells u v a s.ok tells) ∙ s.calm_told tells;
 }
 text_joins {E} {T} {S} x (Err e) u v w a b s t = record {
   ok = tt;
@@ -97,6 +107,7 @@ text_joins {E} {T} {S} x (Err e) u v w a b s t = record {
   cause = record { later = omega (arith, s.cause.later, t.cause.later); failed = omega (arith, s.cause.later, t.cause.failed) };
   sure = subst (λ n. IfSome u.room (λ r. IsSure {E = E} {T = S} r n u.faults w.faults (Err e))) (sym (length-append a b))
       (sure_joins {E = E} {T = T} {S = S} x (Err e) u.room v.room (length a) (length b) u.faults v.faults w.faults s.ok.room s.sure t.sure);
+  calm_told = λ tells. tt;
 }
 
 -- what `&piece[at..]` is
@@ -121,6 +132,7 @@ call_wrote {E} {T} x v w piece n t = record {
   err = tt;
   cause = record { later = t.cause.later; failed = tt };
   sure = sure_call E T x v.room n (length (take n piece)) v.faults w.faults (length-take-le n piece t.bound) t.within t.calm;
+  calm_told = t.calm_told;
 }
 
 sure_full : (E S : Type 0) (e : E) (room : Option ℕ) (n before now : ℕ) → IfSome room (λ r. (0 < n) × (r ≡ 0))
@@ -135,7 +147,18 @@ call_failed {E} {S} e v w piece t = record {
   err = record { count = 0; within = omega arith; took = t.none };
   cause = record { later = t.cause.later; failed = t.cause.failed };
   sure = sure_full E S e v.room (length piece) v.faults w.faults t.full;
+  calm_told = λ tells. tt;
 }
+
+-- what takes a text goes on telling
+pub text_tells : {E T : Type 0} (result : Result T E) (v w : OutView) (text : List ℕ) → WritesText {E = E} {T = T} v w result text → OutTells v → OutTells w
+text_tells (Ok x) v w text t = took_tells v w text t.ok
+text_tells (Err e) v w text t = took_tells v w (take t.err.count text) t.err.took
+
+-- so does what takes a front of a piece
+pub write_tells : {E : Type 0} (result : Result ℕ E) (v w : OutView) (piece : List ℕ) → WritesSome {E = E} v w result piece → OutTells v → OutTells w
+write_tells (Ok n) v w piece t = took_tells v w (take n piece) t.took
+write_tells (Err e) v w piece t = took_tells v w (take 0 piece) t.none
 
 -- a text of parts, split at one of them
 pub parts_split : {X : Type 0} (f : X → List ℕ) (xs : List X) (i : ℕ) (d : X) → i < length xs

@@ -1,5 +1,5 @@
 -- What takes bytes, as contracts see it, and what a write does to it.
-use Rattle.std.specs.Prelude.{◌≡◌, ℕ, ◌<◌, ◌≤◌, ◌-◌, List, length, take, Option, Some, None, Result, IfSome, IfOk, OnOk, OnErr}
+use Rattle.std.specs.Prelude.{◌≡◌, ℕ, ◌<◌, ◌≤◌, ◌-◌, List, length, take, Option, Some, None, Result, IfSome, IfOk, IsSome, OnOk, OnErr}
 use Rattle.std.specs.Io.KnownBytes.{append_known}
 use Rattle.fugue_ids.specs.Causes.{HasCause}
 
@@ -10,6 +10,10 @@ pub record OutView : Type 0 where
   pub faults : ℕ
   -- how many bytes still fit, where writes are sure
   pub room : Option ℕ
+
+-- it tells what was written
+abbrev pub OutTells : OutView → Type 0
+OutTells out = IsSome out.written
 
 -- the room that n bytes leave
 abbrev pub spent : ℕ → Option ℕ → Option ℕ
@@ -33,7 +37,8 @@ pub record IsSure {E T : Type 0} (room n before now : ℕ) (result : Result T E)
   pub within : OnOk result (n ≤ room)
   pub calm : OnOk result (now ≡ before)
 
--- one call: a front of the piece goes out, at least one byte of a piece that is not empty; nothing at an error
+-- One call: a front of the piece goes out, at least one byte of a piece that is not empty; nothing at an error. Where the
+-- object tells, the count rises only with an error.
 pub record WritesSome {E : Type 0} (old new : OutView) (result : Result ℕ E) (piece : List ℕ) : Type 0 where
   pub bound : IfOk result (λ n. n ≤ length piece)
   pub some : IfOk result (λ n. 0 < length piece → 0 < n)
@@ -43,10 +48,13 @@ pub record WritesSome {E : Type 0} (old new : OutView) (result : Result ℕ E) (
   pub full : IfSome old.room (λ room. OnErr result ((0 < length piece) × (room ≡ 0)))
   pub within : IfSome old.room (λ room. IfOk result (λ n. n ≤ room))
   pub calm : IfSome old.room (λ room. OnOk result (new.faults ≡ old.faults))
+  pub calm_told : OutTells old → OnOk result (new.faults ≡ old.faults)
 
--- a whole text: it goes out, or an error comes with a front of it gone out
+-- A whole text: it goes out, or an error comes with a front of it gone out. Where the object tells, the count rises only
+-- with an error: no call that failed is made once more.
 pub record WritesText {E T : Type 0} (old new : OutView) (result : Result T E) (text : List ℕ) : Type 0 where
   pub ok : OnOk result (Took old new text)
   pub err : OnErr result (TookFront old new text)
   pub cause : HasCause old.faults new.faults result
   pub sure : IfSome old.room (λ room. IsSure room (length text) old.faults new.faults result)
+  pub calm_told : OutTells old → OnOk result (new.faults ≡ old.faults)
