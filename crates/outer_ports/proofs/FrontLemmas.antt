@@ -28,5 +28,5 @@ reads_front bytes left front buf at n faults is copied inside within stops =
       gave = rw (given, rest) (ap Some (sym (take-append-drop n left)));
       ends = λ none room. sym is ∙ drop_all at bytes (stops none (omega arith));
       kept = tt;
-      count = record { later = omega arith; rose = λ failed. absurd (false≢true failed); sure = refl; succeeds = λ _ failed. false≢true failed; calm = λ _. refl };
+      count = record { later = omega arith; rose = λ failed. absurd (false≢true failed); sure = refl; succeeds = λ _ failed. false≢true failed; calm = λ _. refl; tells = λ _. refl; calm_told = λ _ _. refl };
     }

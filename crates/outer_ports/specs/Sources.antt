@@ -1,5 +1,5 @@
 -- What gives bytes, as contracts see it, and what a read does to it.
-use Rattle.std.specs.Prelude.{◌≡◌, ℕ, ◌<◌, ◌≤◌, List, [], length, take, Option, Bool, true, Result, IsErr, IfSome, IfOk, OnErr}
+use Rattle.std.specs.Prelude.{◌≡◌, ℕ, ◌<◌, ◌≤◌, List, [], length, take, Option, Bool, true, Result, IsErr, IsSome, IfSome, IfOk, OnErr}
 use Rattle.std.specs.Io.KnownBytes.{prepend_known}
 use Rattle.fugue_ids.specs.Causes.{Rose}
 
@@ -11,13 +11,20 @@ pub record SourceView : Type 0 where
   -- no call fails
   pub sure : Bool
 
--- what a call did to a source's count of faults: it never falls, a failure raised it, and a sure source stays calm
+-- it tells what is left
+abbrev pub SourceTells : SourceView → Type 0
+SourceTells source = IsSome source.left
+
+-- What a call did to a source's count of faults: it never falls, a failure raised it, and a sure source stays calm. Where
+-- the source tells, nothing but a failure raised it.
 pub record KeepsCount (old new : SourceView) (failed : Type 0) : Type 0 where
   pub later : old.faults ≤ new.faults
   pub rose : failed → Rose old.faults new.faults
   pub sure : new.sure ≡ old.sure
   pub succeeds : old.sure ≡ true → failed → ⊥
   pub calm : old.sure ≡ true → new.faults ≡ old.faults
+  pub tells : SourceTells old → SourceTells new
+  pub calm_told : SourceTells old → (failed → ⊥) → new.faults ≡ old.faults
 
 -- one call: the next bytes that are left come, none only at the end or for an empty buffer; nothing at an error
 pub record ReadsSome {E : Type 0} (old new : SourceView) (result : Result ℕ E) (buf : List ℕ) : Type 0 where

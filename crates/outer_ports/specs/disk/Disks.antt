@@ -1,5 +1,5 @@
 -- A disk, as contracts see it, and what each call does to it.
-use Rattle.std.specs.Prelude.{◌≡◌, ℕ, ◌-◌, ◌<◌, ◌≤◌, List, length, take, drop, Option, Some, None, Result, IfSome, IfOk, OnOk, OnErr}
+use Rattle.std.specs.Prelude.{◌≡◌, ℕ, ◌-◌, ◌<◌, ◌≤◌, List, length, take, drop, Option, Some, None, Result, IfSome, IfOk, IsSome, OnOk, OnErr}
 use Rattle.fugue_ids.specs.Causes.{HasCause}
 use Rattle.outer_ports.specs.Counts.{FailsOnlyFor}
 use Rattle.outer_ports.specs.disk.States.{IsHonest, wrote, settled}
@@ -20,16 +20,22 @@ pub record DiskView : Type 0 where
   -- what still fits, where calls are sure
   pub room : Option RoomView
 
+-- it tells its states
+abbrev pub DiskTells : DiskView → Type 0
+DiskTells disk = IsSome disk.past
+
 -- the room that a call leaves which writes n bytes
 abbrev pub spent : ℕ → Option RoomView → Option RoomView
 spent n None = None
 spent n (Some room) = Some (record { bytes = room.bytes - n; calls = room.calls - 1 })
 
--- a call that only looks: it changes nothing but the count, and is sure where calls are
+-- A call that only looks: it changes nothing but the count, and is sure where calls are. Here and below, where the disk
+-- tells, the count rises only with an error.
 pub record Looks {E T : Type 0} (old new : DiskView) (result : Result T E) : Type 0 where
   pub past : new.past ≡ old.past
   pub room : new.room ≡ old.room
   pub count : FailsOnlyFor old.room (λ room. ⊥) old.faults new.faults result
+  pub calm_told : DiskTells old → OnOk result (new.faults ≡ old.faults)
 
 -- where calls are sure, a step that fits is taken, and one that does not fit fails and does nothing
 pub record IsSureStep {E T : Type 0} (room : RoomView) (n : ℕ) (old new : DiskView) (result : Result T E) : Type 0 where
@@ -62,6 +68,7 @@ pub record WritesAt {E T : Type 0} (old new : DiskView) (result : Result T E) (a
   pub same_room : OnErr result (new.room ≡ old.room)
   pub cause : HasCause old.faults new.faults result
   pub sure : IfSome old.room (λ room. IsSureStep room (length bytes) old new result)
+  pub calm_told : DiskTells old → OnOk result (new.faults ≡ old.faults)
 
 -- what a read gives was one of the images, and is now the only one
 pub record Syncs {E T : Type 0} (old new : DiskView) (result : Result T E) : Type 0 where
@@ -72,3 +79,4 @@ pub record Syncs {E T : Type 0} (old new : DiskView) (result : Result T E) : Typ
   pub same_room : OnErr result (new.room ≡ old.room)
   pub cause : HasCause old.faults new.faults result
   pub sure : IfSome old.room (λ room. IsSureStep room 0 old new result)
+  pub calm_told : DiskTells old → OnOk result (new.faults ≡ old.faults)

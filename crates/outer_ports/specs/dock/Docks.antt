@@ -1,5 +1,5 @@
 -- A dock, as contracts see it, and what each call does to it.
-use Rattle.std.specs.Prelude.{◌≡◌, ◌≢◌, ℕ, ◌-◌, ◌<◌, List, [], ◌∷◌, ◌++◌, length, Option, Some, Result, IfSome, IfOk, OnOk, OnErr, option_map}
+use Rattle.std.specs.Prelude.{◌≡◌, ◌≢◌, ℕ, ◌-◌, ◌<◌, List, [], ◌∷◌, ◌++◌, length, Option, Some, Result, IfSome, IfOk, IsSome, OnOk, OnErr, option_map}
 use Rattle.std.specs.Io.KnownBytes.{append_known}
 use Rattle.fugue_ids.specs.Outs.{OutView, WritesSome}
 use Rattle.outer_ports.specs.Counts.{FailsOnlyFor}
@@ -26,6 +26,14 @@ pub record DockView : Type 0 where
   -- how many further sessions can be ended, where calls are sure
   pub ends : Option ℕ
 
+-- it tells the port, the steps, what was sent to each session and which were ended
+pub record DockTells (dock : DockView) : Type 0 where
+  pub port : IsSome dock.port
+  pub taken : IsSome dock.taken
+  pub coming : IsSome dock.coming
+  pub sent : (session : ℕ) → IsSome (dock.sent session)
+  pub ended : IsSome dock.ended
+
 -- a dock as what takes a session's bytes
 abbrev pub out_to : ℕ → DockView → OutView
 out_to session dock = record { written = dock.sent session; faults = dock.faults; room = dock.room session }
@@ -40,7 +48,8 @@ pub record TakesNothing (old new : DockView) : Type 0 where
   pub taken : new.taken ≡ old.taken
   pub coming : new.coming ≡ old.coming
 
--- the port is the one listened on; nothing at an error
+-- The port is the one listened on; nothing at an error. Here and below, where the dock tells, the count rises only with an
+-- error.
 pub record Listens {E T : Type 0} (old new : DockView) (result : Result T E) (port : ℕ) : Type 0 where
   pub listened : OnOk result (new.port ≡ option_map (λ before. Some port) old.port)
   pub kept : OnErr result (new.port ≡ old.port)
@@ -49,6 +58,7 @@ pub record Listens {E T : Type 0} (old new : DockView) (result : Result T E) (po
   pub ended : new.ended ≡ old.ended
   pub ends : new.ends ≡ old.ends
   pub count : FailsOnlyFor old.ends (λ ends. ⊥) old.faults new.faults result
+  pub calm_told : DockTells old → OnOk result (new.faults ≡ old.faults)
 
 -- a step is taken; nothing at an error, which a sure dock gives only where no step is left
 pub record Takes {E : Type 0} (old new : DockView) (result : Result DockStep E) (buf : List ℕ) : Type 0 where
@@ -61,6 +71,7 @@ pub record Takes {E : Type 0} (old new : DockView) (result : Result DockStep E) 
   pub ended : new.ended ≡ old.ended
   pub ends : new.ends ≡ old.ends
   pub count : FailsOnlyFor old.ends (λ ends. IfSome old.coming (λ coming. coming ≡ [])) old.faults new.faults result
+  pub calm_told : DockTells old → OnOk result (new.faults ≡ old.faults)
 
 -- a session's bytes go out, as to a sink
 pub record Sends {E : Type 0} (old new : DockView) (result : Result ℕ E) (session : ℕ) (piece : List ℕ) : Type 0 where
@@ -81,4 +92,5 @@ pub record Ends {E T : Type 0} (old new : DockView) (result : Result T E) (sessi
   pub nothing_taken : TakesNothing old new
   pub port : new.port ≡ old.port
   pub count : FailsOnlyFor old.ends (λ ends. ends ≡ 0) old.faults new.faults result
+  pub calm_told : DockTells old → OnOk result (new.faults ≡ old.faults)
   pub within : IfSome old.ends (λ ends. OnOk result (0 < ends))

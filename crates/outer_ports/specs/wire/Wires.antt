@@ -1,5 +1,5 @@
 -- A wire, as contracts see it, and what each call does to it.
-use Rattle.std.specs.Prelude.{◌≡◌, ℕ, List, Option, Some, Result, OnOk, OnErr, is_some, option_map}
+use Rattle.std.specs.Prelude.{◌≡◌, ℕ, List, Option, Some, Result, IsSome, OnOk, OnErr, is_some, option_map}
 use Rattle.fugue_ids.specs.Outs.{OutView, WritesSome}
 use Rattle.outer_ports.specs.Counts.{FailsOnlyFor}
 use Rattle.outer_ports.specs.Sources.{SourceView, ReadsSome}
@@ -16,6 +16,10 @@ pub record WireView : Type 0 where
   -- how many bytes still fit, where calls are sure
   pub room : Option ℕ
 
+-- it tells the port, what is left and what was written
+abbrev pub WireTells : WireView → Type 0
+WireTells wire = IsSome wire.port × IsSome wire.left × IsSome wire.said
+
 -- a wire as what is read from
 abbrev pub source_of : WireView → SourceView
 source_of wire = record { left = wire.left; faults = wire.faults; sure = is_some wire.room }
@@ -24,7 +28,8 @@ source_of wire = record { left = wire.left; faults = wire.faults; sure = is_some
 abbrev pub out_of : WireView → OutView
 out_of wire = record { written = wire.said; faults = wire.faults; room = wire.room }
 
--- the port is the one dialled, and nothing was read or written; nothing at an error
+-- The port is the one dialled, and nothing was read or written; nothing at an error. Where the wire tells, the count rises
+-- only with an error.
 pub record Dials {E T : Type 0} (old new : WireView) (result : Result T E) (port : ℕ) : Type 0 where
   pub dialled : OnOk result (new.port ≡ option_map (λ before. Some port) old.port)
   pub kept : OnErr result (new.port ≡ old.port)
@@ -32,6 +37,7 @@ pub record Dials {E T : Type 0} (old new : WireView) (result : Result T E) (port
   pub said : new.said ≡ old.said
   pub room : new.room ≡ old.room
   pub count : FailsOnlyFor old.room (λ room. ⊥) old.faults new.faults result
+  pub calm_told : WireTells old → OnOk result (new.faults ≡ old.faults)
 
 -- a read, as of a source
 pub record WireReads {E : Type 0} (old new : WireView) (result : Result ℕ E) (buf : List ℕ) : Type 0 where

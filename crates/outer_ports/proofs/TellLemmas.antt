@@ -1,0 +1,123 @@
+-- An object that tells goes on telling, whatever a call on it answers.
+use Rattle.std.proofs.Common.{◌≡◌, inl, inr, ℕ, List, refl, sym, subst}
+use Rattle.std.specs.Prelude.{Option, Some, None, IsSome, Result, Ok, Err, option_map}
+use Rattle.std.specs.Io.KnownBytes.{append_known}
+use Rattle.outer_ports.specs.Sources.{SourceView, SourceTells, ReadsSome}
+use Rattle.outer_ports.specs.disk.States.{State}
+use Rattle.outer_ports.specs.disk.Moments.{History, after, MayHaveWritten}
+use Rattle.outer_ports.specs.disk.Disks.{DiskView, DiskTells, Looks, WritesAt, Syncs}
+use Rattle.outer_ports.specs.wire.Wires.{WireView, WireTells, out_of, Dials, WireReads, WireWrites}
+use Rattle.outer_ports.specs.dock.Steps.{GivesSome}
+use Rattle.outer_ports.specs.dock.Docks.{DockView, DockTells, out_to, Listens, Takes, Sends, Ends}
+use Rattle.outer_ports.specs.declared.dock.dock_step.DockStep.{DockStep}
+use Rattle.outer_ports.specs.declared.dock.mem_step.MemStep.{MemStep}
+use Rattle.std.proofs.lemmas.Bool.{cases_eq}
+use Rattle.fugue_ids.proofs.JoinLemmas.{write_tells}
+
+-- what is the same is told too
+same_tells : {X : Type 0} {old new : Option X} → new ≡ old → IsSome old → IsSome new
+same_tells {X} same tells = subst (λ (o : Option X). IsSome o) (sym same) tells
+
+map_tells : {X : Type 0} (f : X → X) (old new : Option X) → new ≡ option_map f old → IsSome old → IsSome new
+map_tells f None new is tells = absurd (cc tells)
+map_tells f (Some x) new is tells = same_tells is refl
+
+-- a source
+pub read_tells : {E : Type 0} (result : Result ℕ E) (old new : SourceView) (buf : List ℕ) → ReadsSome {E = E} old new result buf → SourceTells old → SourceTells new
+read_tells result old new buf r = r.count.tells
+
+-- a disk
+pub look_tells : {E T : Type 0} (result : Result T E) (old new : DiskView) → Looks {E = E} {T = T} old new result → DiskTells old → DiskTells new
+look_tells result old new l = same_tells l.past
+
+after_tells : (f : State → State) (old new : Option History) → new ≡ after f old → IsSome old → IsSome new
+after_tells f None new is tells = absurd (cc tells)
+after_tells f (Some h) new is tells = same_tells is refl
+
+torn_tells : (at n : ℕ) (old new : Option History) → MayHaveWritten at n old new → IsSome old → IsSome new
+torn_tells at n old new (inl same) = same_tells same
+torn_tells at n old new (inr torn) = after_tells _ old new torn.1
+
+pub write_at_tells : {E T : Type 0} (result : Result T E) (old new : DiskView) (at : ℕ) (bytes : List ℕ) → WritesAt {E = E} {T = T} old new result at bytes → DiskTells old → DiskTells new
+write_at_tells (Ok x) old new at bytes w = after_tells _ old.past new.past w.wrote
+write_at_tells (Err e) old new at bytes w = torn_tells _ _ old.past new.past w.torn
+
+pub sync_tells : {E T : Type 0} (result : Result T E) (old new : DiskView) → Syncs {E = E} {T = T} old new result → DiskTells old → DiskTells new
+sync_tells (Ok x) old new s = after_tells _ old.past new.past s.settled
+sync_tells (Err e) old new s = same_tells s.past
+
+-- a wire
+pub dial_tells : {E T : Type 0} (result : Result T E) (old new : WireView) (port : ℕ) → Dials {E = E} {T = T} old new result port → WireTells old → WireTells new
+dial_tells (Ok x) old new port d tells = (map_tells _ old.port new.port d.dialled tells.0, same_tells d.left tells.1, same_tells d.said tells.2)
+dial_tells (Err e) old new port d tells = (same_tells d.kept tells.0, same_tells d.left tells.1, same_tells d.said tells.2)
+
+pub wire_read_tells : {E : Type 0} (result : Result ℕ E) (old new : WireView) (buf : List ℕ) → WireReads {E = E} old new result buf → WireTells old → WireTells new
+wire_read_tells result old new buf r tells = (same_tells r.port tells.0, r.reads.count.tells tells.1, same_tells r.said tells.2)
+
+pub wire_write_tells : {E : Type 0} (result : Result ℕ E) (old new : WireView) (piece : List ℕ) → WireWrites {E = E} old new result piece → WireTells old → WireTells new
+wire_write_tells result old new piece w tells =
+    (same_tells w.port tells.0, same_tells w.left tells.1, write_tells result (out_of old) (out_of new) piece w.writes tells.2)
+
+-- a dock
+pub listen_tells : {E T : Type 0} (result : Result T E) (old new : DockView) (port : ℕ) → Listens {E = E} {T = T} old new result port → DockTells old → DockTells new
+listen_tells {E} {T} result old new port l tells = record {
+  port = port_tells result l;
+  taken = same_tells l.nothing_taken.taken tells.taken;
+  coming = same_tells l.nothing_taken.coming tells.coming;
+  sent = λ session. same_tells (l.nothing_sent.sent session) (tells.sent session);
+  ended = same_tells l.ended tells.ended;
+}
+  where
+    port_tells : (r : Result T E) → Listens {E = E} {T = T} old new r port → IsSome new.port
+    port_tells (Ok x) l = map_tells _ old.port new.port l.listened tells.port
+    port_tells (Err e) l = same_tells l.kept tells.port
+
+gives_tells : (old new : Option (List MemStep)) (step : MemStep) → GivesSome old new step → IsSome old → IsSome new
+gives_tells None new step gives tells = absurd (cc tells)
+gives_tells (Some old) None step gives tells = absurd gives
+gives_tells (Some old) (Some new) step gives tells = refl
+
+pub take_tells : {E : Type 0} (result : Result DockStep E) (old new : DockView) (buf : List ℕ) → Takes {E = E} old new result buf → DockTells old → DockTells new
+take_tells (Ok step) old new buf t tells = record {
+  port = same_tells t.port tells.port;
+  taken = map_tells _ old.taken new.taken t.taken tells.taken;
+  coming = gives_tells old.coming new.coming _ t.came tells.coming;
+  sent = λ session. same_tells (t.nothing_sent.sent session) (tells.sent session);
+  ended = same_tells t.ended tells.ended;
+}
+take_tells (Err e) old new buf t tells = record {
+  port = same_tells t.port tells.port;
+  taken = same_tells t.kept.taken tells.taken;
+  coming = same_tells t.kept.coming tells.coming;
+  sent = λ session. same_tells (t.nothing_sent.sent session) (tells.sent session);
+  ended = same_tells t.ended tells.ended;
+}
+
+append_tells : (old new : Option (List ℕ)) (more : List ℕ) → new ≡ append_known old more → IsSome old → IsSome new
+append_tells None new more is tells = absurd (cc tells)
+append_tells (Some held) new more is tells = same_tells is refl
+
+pub end_tells : {E T : Type 0} (result : Result T E) (old new : DockView) (session : ℕ) → Ends {E = E} {T = T} old new result session → DockTells old → DockTells new
+end_tells {E} {T} result old new session e tells = record {
+  port = same_tells e.port tells.port;
+  taken = same_tells e.nothing_taken.taken tells.taken;
+  coming = same_tells e.nothing_taken.coming tells.coming;
+  sent = λ other. same_tells (e.nothing_sent.sent other) (tells.sent other);
+  ended = ended_tells result e;
+}
+  where
+    ended_tells : (r : Result T E) → Ends {E = E} {T = T} old new r session → IsSome new.ended
+    ended_tells (Ok x) e = append_tells old.ended new.ended _ e.ended tells.ended
+    ended_tells (Err f) e = same_tells e.kept tells.ended
+
+pub send_tells : {E : Type 0} (result : Result ℕ E) (old new : DockView) (session : ℕ) (piece : List ℕ) → Sends {E = E} old new result session piece → DockTells old → DockTells new
+send_tells result old new session piece s tells = record {
+  port = same_tells s.port tells.port;
+  taken = same_tells s.nothing_taken.taken tells.taken;
+  coming = same_tells s.nothing_taken.coming tells.coming;
+  sent = λ other. elim (cases_eq other session) [
+    | inl it ↦ subst (λ k. IsSome (new.sent k)) (sym it) (write_tells result (out_to session old) (out_to session new) piece s.writes (tells.sent session))
+    | inr differs ↦ same_tells (s.others other differs).0 (tells.sent other)
+  ];
+  ended = same_tells s.ended tells.ended;
+}
