@@ -35,7 +35,7 @@ refill_ok {E} old new v w most room n false is p le =
       ends = λ e. (p.ends none, still_empty old v.left w.left (p.told ∙ ap (λ (l : List ℕ). prepend_known l w.left) (p.stays none)) (p.ends none));
       faults = tt;
       kept = tt;
-      count = count_so _ _ p.count (λ e. cc e);
+      count = count_so _ _ p.count (λ e. cc e) (λ e. absurd (cc e));
     }
 refill_ok {E} old new v w most room n true is p le = record {
   grew = (omega (arith, some_came n is, p.grew.0), omega (arith, p.grew.0, p.grew.1, le));
@@ -43,7 +43,7 @@ refill_ok {E} old new v w most room n true is p le = record {
   ends = λ none. absurd (cc none);
   faults = tt;
   kept = tt;
-  count = count_so _ _ p.count (λ e. cc e);
+  count = count_so _ _ p.count (λ e. cc e) (λ e. absurd (cc e));
 }
 
 pub refill_err : {E : Type 0} (e : E) (old new : List ℕ) (v w : SourceView) (most room : ℕ) → Filled {E = E} old new v w most (Err e) → Refills old new v w room (Err ReadFault)
@@ -53,5 +53,5 @@ refill_err {E} e old new v w most room p = record {
   ends = tt;
   faults = inl (refl, p.kept.1);
   kept = p.kept.0;
-  count = count_so _ _ p.count (λ is. refl);
+  count = count_so _ _ p.count (λ is. refl) (λ is. refl);
 }

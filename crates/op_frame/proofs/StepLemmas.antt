@@ -1,5 +1,5 @@
 -- One step of the reader: what the unread bytes show of those that are to be given.
-use Rattle.std.proofs.Common.{◌≡◌, ◌≢◌, ℕ, ◌-◌, ◌<◌, ◌≤◌, false, List, [], ◌∷◌, ◌++◌, length, take, refl, ap, sym, subst, ◌∙◌, ◌⊎◌, inl, inr, arith, append_assoc, length-append}
+use Rattle.std.proofs.Common.{◌≡◌, ◌≢◌, ℕ, ◌-◌, ◌<◌, ◌≤◌, Bool, false, List, [], ◌∷◌, ◌++◌, length, take, refl, ap, sym, subst, ◌∙◌, ◌⊎◌, inl, inr, arith, append_assoc, length-append}
 use Rattle.std.specs.Prelude.{Option, Some, None, Result, Ok, Err, IfSome, IfOk, IfErr, slice_get}
 use Rattle.std.specs.Io.KnownBytes.{prepend_known}
 use Rattle.std.proofs.lemmas.List.{take_at, append-nil}
@@ -48,7 +48,7 @@ module _ (old unread : List ℕ) (before now : SourceView) (offset room : ℕ) (
     within = omega (arith, s.inside, ap length p.split, length-append (frame op) new);
     full = λ is. absurd (cc is);
     has_frame = p.valid;
-    count = count_so ⊥ _ s.count (λ is. cc is);
+    count = count_so ⊥ _ s.count (λ is. cc is) (λ none. absurd none);
   }
 
   -- no frame stands there, whatever follows
@@ -63,7 +63,7 @@ module _ (old unread : List ℕ) (before now : SourceView) (offset room : ℕ) (
     within = omega (arith, s.inside);
     full = λ is. absurd (cc is);
     has_frame = tt;
-    count = count_so ⊥ _ s.count (λ is. cc is);
+    count = count_so ⊥ _ s.count (λ is. cc is) (λ none. absurd none);
   }
 
   -- a Section's title found no memory
@@ -75,7 +75,7 @@ module _ (old unread : List ℕ) (before now : SourceView) (offset room : ℕ) (
     within = omega (arith, s.inside);
     full = λ is. absurd (cc is);
     has_frame = tt;
-    count = count_so ⊥ _ s.count (λ is. cc is);
+    count = count_so ⊥ _ s.count (λ is. cc is) (λ none. absurd none);
   }
 
   -- the stream is over, and so are its frames, or it is over within one
@@ -88,7 +88,7 @@ module _ (old unread : List ℕ) (before now : SourceView) (offset room : ℕ) (
     within = omega (arith, s.inside);
     full = λ is. absurd (cc is);
     has_frame = tt;
-    count = count_so ⊥ _ s.count (λ is. cc is);
+    count = count_so ⊥ _ s.count (λ is. cc is) (λ none. absurd none);
   }
   over (Ok (Some found)) front none is cut = absurd (cc is.0)
   over (Err e) front none is cut = subst (λ (fault : FrameFault). Takes old unread before now offset room (Err fault)) (sym cut.0) (record {
@@ -100,12 +100,15 @@ module _ (old unread : List ℕ) (before now : SourceView) (offset room : ℕ) (
     within = omega (arith, s.inside);
     full = λ is. absurd (cc is);
     has_frame = tt;
-    count = count_so ⊥ _ s.count (λ is. cc is);
+    count = count_so ⊥ _ s.count (λ is. cc is) (λ none. absurd none);
   })
 
   more_there : (left : Option (List ℕ)) (rest : List ℕ) (byte : ℕ) → Some rest ≡ prepend_known (byte ∷ []) left → 0 < length rest
   more_there None rest byte is = absurd (cc is)
   more_there (Some l) rest byte is = let same : rest ≡ byte ∷ l = cc is in omega (arith, ap length same)
+
+  read_is_long : (e : FrameFault) → ◌≡◌ {A = Result Bool FrameFault} (Err e) (Err ReadFault) → e ≡ TooLong → ⊥
+  read_is_long e is long = cc (is, long)
 
   -- the source failed, or has more than the limit takes
   pub stops : (new : List ℕ) (after : SourceView) (e : FrameFault) → IsFront operation unread → Refills unread new now after (room - length unread) (Err e)
@@ -120,7 +123,7 @@ module _ (old unread : List ℕ) (before now : SourceView) (offset room : ℕ) (
         within = omega (arith, s.inside, ap length r.kept);
         full = λ is. absurd (cc is);
         has_frame = tt;
-        count = count_then _ s.count (count_so _ _ r.count (λ is. ap Err f.0));
+        count = count_then _ s.count (count_so _ _ r.count (λ is. ap Err f.0) (λ is. refl));
       })
       by_fault (inr f) =
           let here : length unread ≡ room = omega (arith, s.inside, f.1) in
@@ -137,7 +140,7 @@ module _ (old unread : List ℕ) (before now : SourceView) (offset room : ℕ) (
             within = omega (arith, s.inside, ap length r.kept);
             full = λ is. omega (arith, here, ap length r.kept);
             has_frame = tt;
-            count = count_then _ s.count (count_so _ _ r.count (λ is. absurd (cc is)));
+            count = count_then _ s.count (count_so _ _ r.count (λ is. absurd (cc is)) (λ is. absurd (read_is_long e is f.0)));
           })
 
   -- the source took nothing from where the reader stands, or gave more
@@ -145,7 +148,7 @@ module _ (old unread : List ℕ) (before now : SourceView) (offset room : ℕ) (
   at_last new after more r = record {
     told = s.told ∙ r.told;
     inside = omega (arith, s.inside, ap length r.grew);
-    count = count_then ⊥ s.count (count_so _ ⊥ r.count (λ none. absurd none));
+    count = count_then ⊥ s.count (count_so _ ⊥ r.count (λ none. absurd none) (λ is. cc is));
   }
 
 origin_short : (o : Option Identifier) → length (origin_bytes o) ≤ 9

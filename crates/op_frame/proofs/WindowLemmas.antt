@@ -2,7 +2,7 @@
 use Rattle.std.proofs.Common.{◌≡◌, ℕ, ◌+◌, ◌-◌, ◌<◌, ◌≤◌, List, ◌++◌, length, take, drop, refl, ap, sym, ◌∙◌, arith, length-append, length-drop}
 use Rattle.std.specs.Prelude.{Result, Ok, Err}
 use Rattle.std.specs.Io.KnownBytes.{prepend_known}
-use Rattle.std.proofs.lemmas.List.{drop-take, drop-append-le, take-append-le, length-take-le, append-nil, drop-drop, take_at}
+use Rattle.std.proofs.lemmas.List.{drop-take, drop-append-le, take-append-le, length-take-le, append-nil, take_at}
 use Rattle.std.proofs.Math.Seq.{take-append-add}
 use Rattle.outer_ports.specs.Sources.{SourceView}
 use Rattle.op_frame.specs.Windows.{Filled, Placed}
@@ -49,7 +49,7 @@ filled_in {E} {T} e s to most len n items old new bytes before after p le some w
       ends = λ none. p.read.ends none (omega (arith, p.long, some));
       stays = λ none. moved ∙ ap (λ (k : ℕ). bytes ++ take k p.part) none ∙ append-nil bytes;
       kept = tt;
-      count = count_so _ _ p.read.count (λ is. is);
+      count = count_so _ _ p.read.count (λ is. is) (λ is. is);
     }
 
 -- a window behind which nothing came
@@ -69,5 +69,5 @@ not_filled_in {E} {T} x y e s to most len items old new bytes before after p le 
       ends = tt;
       stays = tt;
       kept = (moved, p.read.kept);
-      count = count_so _ _ p.read.count (λ is. refl);
+      count = count_so _ _ p.read.count (λ is. refl) (λ is. refl);
     }
