@@ -1,11 +1,11 @@
-ghost use Rattle.std.specs.Prelude.{◌≡◌, ◌↔◌, All, Contains, IfSome, IsNone, List, [], nat_lt};
+ghost use Rattle.std.specs.Prelude.{◌≡◌, ◌≢◌, ◌↔◌, All, AllPairs, Contains, IfSome, IsNone, List, [], nat_lt};
 ghost use Rattle.fugue_ids.specs.Identifiers.{Identifier};
 ghost use Rattle.fugue_ids.specs.Keys.{HasKey, IsFit, Keyed, between, first_id, first_low as first_low_in, front_of, ids, last_id, last_low as last_low_in, rest_of};
 ghost use Rattle.fugue_ids.specs.Listed.{index_of, HoldsOrigin};
 
 use crate::{ElementId, Key};
 
-/// An order of distinct identifiers, each with a key that is fixed when it comes.
+/// An order of distinct identifiers, each with a key that is fixed when it comes. Where there is one to ask for, `key` tells that they are distinct.
 ///
 /// The searches are those that find a gap of a sided tree. A balanced tree that keeps the least key of each subtree answers each in logarithmic time.
 ///
@@ -24,6 +24,7 @@ pub trait OrderOf {
     fn key(&self, id: ElementId) -> Key
         requires held { Contains (ids (listed self.now)) id }
         ensures key { HasKey (listed self.now) id result }
+        ensures distinct { AllPairs (λ x y. x ≢ y) (ids (listed self.now)) }
         ensures fit { All IsFit (listed self.now) };
 
     /// The element directly behind this one; the first one behind the beginning. None comes back for one that is not listed or stands last.

@@ -26,7 +26,7 @@ module _ (n : Node) (ns : List Node) (es : List Keyed) (gap : Gap) (at : ℕ) (n
   order : ids es ≡ node_order ns
   order = ap ids list ∙ keyed_ids ns
 
-  fresh : Contains (ids es) n.id → ⊥
+  pub fresh : Contains (ids es) n.id → ⊥
   fresh c = true≢false (sym ((nodes_listed ns new.1 n.id).1 (subst (λ l. Contains l n.id) order c)) ∙ new.0.fresh)
 
   pub joined : (key : Key) → key ≡ new_key (as_ops ns) n.left n.right → insert es at (record { id = n.id; key = key }) ≡ keyed_order (n ∷ ns)

@@ -1,4 +1,5 @@
 use Rattle.std.proofs.Common.{subst, sym}
+use Rattle.std.specs.Prelude.{AllPairs, ◌≢◌}
 use Rattle.std.specs.List.{All, Contains}
 use Rattle.fugue_ids.specs.Keys.{HasKey, IsFit}
 use Rattle.run_store.specs.Cells.{cell_of, ids, keyed}
@@ -27,3 +28,13 @@ returns-in-None-clause-key c =
 
 pub returns-in-None-clause-fit : goal.returns-in-None-clause-fit
 returns-in-None-clause-fit c = subst (λ (s : Stored). All IsFit (keyed s.cells)) c.self.view_is (all-fit c.self.inside.runs c.self.invariant)
+
+pub returns-in-Some-clause-distinct : goal.returns-in-Some-clause-distinct
+returns-in-Some-clause-distinct c =
+    subst (AllPairs (λ x y. x ≢ y)) (sym (keyed-ids c.args.self.now.cells))
+    (subst (λ (s : Stored). AllPairs (λ x y. x ≢ y) (ids s.cells)) c.self.view_is c.self.invariant.distinct)
+
+pub returns-in-None-clause-distinct : goal.returns-in-None-clause-distinct
+returns-in-None-clause-distinct c =
+    subst (AllPairs (λ x y. x ≢ y)) (sym (keyed-ids c.args.self.now.cells))
+    (subst (λ (s : Stored). AllPairs (λ x y. x ≢ y) (ids s.cells)) c.self.view_is c.self.invariant.distinct)
