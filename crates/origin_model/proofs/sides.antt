@@ -8,6 +8,9 @@ pub mod SidedGapLemmas
 pub mod SlotLemmas
 pub mod SpineLemmas
 pub mod KeyExamples
+pub mod WalkExamples
+pub mod ChildrenLemmas
+pub mod WalkLemmas
 pub mod ChainLengthLemmas
 pub mod KeyedListLemmas
 pub mod BlockLemmas

@@ -2,6 +2,7 @@
 pub mod Slot
 pub mod Node
 pub mod Detached
+pub mod Walk
 pub mod Keys
 pub mod KeyedGap
 pub mod KeyLaws

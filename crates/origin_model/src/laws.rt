@@ -4,6 +4,7 @@ ghost use Rattle.origin_model.specs.taking.Closure.{ClosureOfSet, ClosureIsClose
 ghost use Rattle.origin_model.specs.edits.Landing.{LandsBehind, LandsBehindOrigin};
 ghost use Rattle.origin_model.specs.order.Laws.{OrderTotal, LaterOpsKeepOrder, PartsKeepOrder, OrderBySet};
 ghost use Rattle.origin_model.specs.sides.KeyLaws.{BlockEndByKeys, BlockStartByKeys, GapByKeys, KeyBound, KeysStay, NewKey, RunKey, SiblingsByKeys};
+ghost use Rattle.origin_model.specs.sides.Walk.{WalkIsOrder, WalkIsWhole};
 
 /// The elements of a place are in a total order, which `order` lists.
 pub fn order_total()
@@ -22,6 +23,14 @@ pub fn later_ops_keep_order()
 pub fn lands_behind()
     ensures between { LandsBehind }
     ensures by_origin { LandsBehindOrigin }
+{}
+
+/// The order of a place is the walk of the tree of sides: left children, the node, right children.
+///
+/// The definitions tell the order by chains of origins, and the walk is told by the tree alone, so this is one order told twice.
+pub fn walk_is_order()
+    ensures order { WalkIsOrder }
+    ensures whole { WalkIsWhole }
 {}
 
 /// The key of an element is fixed when it comes, and known from those of its origins.

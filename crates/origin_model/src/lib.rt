@@ -13,7 +13,7 @@ mod taking;
 pub use files::LONGEST_BATCH;
 pub use laws::{
     closure_of_set, gap_by_keys, kept_suffice, keys_are_fixed, lands_behind, later_ops_keep_order,
-    order_by_set, order_total, self_named_never_accepted,
+    order_by_set, order_total, self_named_never_accepted, walk_is_order,
 };
 pub use operations::{
     Lookup, Named, NoMemoryFor, Place, Role, Verdict, left_of, mentioned_by, names_of, right_of,

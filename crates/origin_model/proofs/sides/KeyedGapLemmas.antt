@@ -147,14 +147,18 @@ module _ (p : Place) (h : List Op) (w : Lawful h) (fit : AllFit p h) where
             (record { front = split.0; elder = e; is_last = split.1; path = at.path; below = at.below }))
       ]
 
+-- the slot of a Ready element is in the place, by whichever history its right origin is looked up in
+pub slot_stands_by : (p : Place) (h : List Op) (op : Op) (older : List Op) (x : Identifier) → Lawful (op ∷ older) → element_of p op ≡ Some x → StandsAt p older (slot_of h op)
+slot_stands_by p h op older x w at = by (slot_of h op) refl
+  where
+    by : (s : Slot) → slot_of h op ≡ s → StandsAt p older s
+    by (RightOf None) e = tt
+    by (RightOf (Some l)) e = left_in p op older x l (when_ready older op w.0) at (sym (slot_by-left h (left_of op) (right_of op)) ∙ ap (slot_left h) e)
+    by (LeftOf q) e = right_in p op older x q (when_ready older op w.0) at (left_parent h (left_of op) (right_of op) q e).0
+
 -- the slot of a Ready element is in the place
 pub slot_stands : (p : Place) (op : Op) (older : List Op) (x : Identifier) → Lawful (op ∷ older) → element_of p op ≡ Some x → StandsAt p older (slot_of older op)
-slot_stands p op older x w at = by (slot_of older op) refl
-  where
-    by : (s : Slot) → slot_of older op ≡ s → StandsAt p older s
-    by (RightOf None) e = tt
-    by (RightOf (Some l)) e = left_in p op older x l (when_ready older op w.0) at (sym (slot_by-left older (left_of op) (right_of op)) ∙ ap (slot_left older) e)
-    by (LeftOf q) e = right_in p op older x q (when_ready older op w.0) at (left_parent older (left_of op) (right_of op) q e).0
+slot_stands p op older = slot_stands_by p older op older
 
 -- siblings that go before the new element stand before those that do not
 goes_up : (o : List Identifier) (older : List Op) (op : Op) (x a b : Identifier) → fork_before o older a b ≡ true → goes_before o older op x b ≡ true → goes_before o older op x a ≡ true

@@ -7,34 +7,22 @@ use Rattle.origin_model.specs.declared.sides.slot.Slot.{Slot}
 use Rattle.origin_model.specs.declared.sides.slot.Slot.TheVariants.{LeftOf, RightOf}
 use Rattle.origin_model.specs.sides.KeyLaws.{EndsBlock}
 use Rattle.origin_model.specs.sides.Slot.{BeforeBlock, IsChild, IsTable, slot_of}
+use Rattle.origin_model.specs.sides.Walk.{hangs, hangs_by, slot_eq}
 use Rattle.origin_model.proofs.order.{Ordered-agree, before_at, before_in-irrefl, chain_above, chain_before-fork, common, fork-irrefl, fork_moved, order-has, order-member, order-ordered}
 use Rattle.origin_model.proofs.sides.ChainLengthLemmas.{chain-bound, len, more}
 use Rattle.origin_model.proofs.sides.SlotLemmas.{child-in, child-lefts, child-rights, over, slot_left}
 
--- whether two slots are equal
-abbrev slot_eq : Slot → Slot → Bool
-slot_eq (RightOf a) (RightOf b) = origin_eq a b
-slot_eq (RightOf a) (LeftOf b) = false
-slot_eq (LeftOf a) (RightOf b) = false
-slot_eq (LeftOf a) (LeftOf b) = id_eq a b
-
-slot_eq-refl : (s : Slot) → slot_eq s s ≡ true
+-- a slot is equal to itself
+pub slot_eq-refl : (s : Slot) → slot_eq s s ≡ true
 slot_eq-refl (RightOf a) = origin_eq-refl a
 slot_eq-refl (LeftOf a) = id_eq-refl a
 
-slot_eq-true : (a b : Slot) → slot_eq a b ≡ true → a ≡ b
+-- equal slots are one
+pub slot_eq-true : (a b : Slot) → slot_eq a b ≡ true → a ≡ b
 slot_eq-true (RightOf a) (RightOf b) e = ap RightOf (origin_eq-true a b e)
 slot_eq-true (RightOf a) (LeftOf b) e = absurd (false≢true e)
 slot_eq-true (LeftOf a) (RightOf b) e = absurd (false≢true e)
 slot_eq-true (LeftOf a) (LeftOf b) e = ap LeftOf (id_eq-true a b e)
-
--- whether what a look-up found hangs in the slot
-abbrev hangs_by : List Op → Slot → Option Op → Bool
-hangs_by h s o = elim o [ None ↦ false | Some op ↦ slot_eq (slot_of h op) s ]
-
--- v hangs in the slot
-abbrev hangs : List Op → Slot → Identifier → Bool
-hangs h s v = hangs_by h s (holder h v)
 
 -- the elements that hang in the slot, in order
 abbrev pub table_of : Place → List Op → Slot → List Identifier
