@@ -1,7 +1,7 @@
 #!/usr/bin/env bash
 # Large manuscripts, each within a minute: the summary of a million turns, whose numbers another program computed, a
-# text of 300,000 letters that one author puts at once and another takes in, and texts of 100,000 letters that come in
-# six orders.
+# text of 300,000 letters that one author puts at once and another takes in, texts of 100,000 letters that come in six
+# orders, and batches of each power of two up to the longest.
 . "$(dirname "$0")/common.sh"
 
 # Whether what a command printed is what was wanted.
@@ -79,5 +79,41 @@ for order in 'in front' 'at the end' 'behind the first' 'before the last' 'in th
     (ulimit -t 10 && "$program" show) <"$work/frames" >"$work/output" 2>"$work/notes"
     compare "letters $order" $? 0 "# T\n$(cat "$work/text")\n" "$(counts 100001 0 0 0 0 0)"
 done
+
+# So many sections, each behind the one before, with titles of 480 letters: their frames have 493 bytes, and 501 each behind
+# the first.
+titled() {
+    LC_ALL=C awk -v count="$1" '
+        function bytes(number) { printf "%c%c%c%c", number / 16777216, number / 65536 % 256, number / 256 % 256, number % 256 }
+        BEGIN {
+            title = sprintf("%480s", "")
+            gsub(/ /, "a", title)
+            for (at = 0; at < count; at++) {
+                printf "\1"; bytes(9); bytes(at)
+                if (at) { printf "\1"; bytes(9); bytes(at - 1) } else printf "%c", 0
+                printf "%c%c%c%s", 0, 1, 224, title
+            }
+        }'
+}
+
+# Takes in so many of them as one batch, and says whether all went into the file.
+take_batch() {
+    local count=$1
+    titled "$count" >"$work/frames"
+    rm -f "$work/batch"
+    "$program" new "$work/batch" 1 16 </dev/null
+    timeout 60 "$program" take "$work/batch" <"$work/frames" >"$work/output" 2>"$work/notes"
+}
+
+# Memory is there for a batch of each size, up to the longest that a file takes.
+for ((power = 9; power <= 28; power++)); do
+    count=$((1 + ((1 << power) - 493) / 501))
+    take_batch "$count"
+    compare "a batch of up to 2^$power bytes" $? 0 '' "$(counts "$count" 0 0 0 0 0)"
+    timeout 60 "$program" send "$work/batch" </dev/null | cmp -s - "$work/frames"
+    check 'and all of it is there' [ $? = 0 ]
+done
+take_batch $((count + 1))
+compare 'a batch that is too long' $? 7 '' 'batch too long\n'
 
 ended
