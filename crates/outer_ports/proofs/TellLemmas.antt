@@ -8,7 +8,7 @@ use Rattle.outer_ports.specs.disk.Moments.{History, after, MayHaveWritten}
 use Rattle.outer_ports.specs.disk.Disks.{DiskView, DiskTells, Looks, WritesAt, Syncs}
 use Rattle.outer_ports.specs.wire.Wires.{WireView, WireTells, out_of, Dials, WireReads, WireWrites}
 use Rattle.outer_ports.specs.dock.Steps.{GivesSome}
-use Rattle.outer_ports.specs.dock.Docks.{DockView, DockTells, out_to, Listens, Takes, Sends, Ends}
+use Rattle.outer_ports.specs.dock.Docks.{DockView, DockTells, ended_behind, out_to, Listens, Takes, Sends, Ends}
 use Rattle.outer_ports.specs.declared.dock.dock_step.DockStep.{DockStep}
 use Rattle.outer_ports.specs.declared.dock.mem_step.MemStep.{MemStep}
 use Rattle.std.proofs.lemmas.Bool.{cases_eq}
@@ -66,6 +66,7 @@ listen_tells {E} {T} result old new port l tells = record {
   coming = same_tells l.nothing_taken.coming tells.coming;
   sent = λ session. same_tells (l.nothing_sent.sent session) (tells.sent session);
   ended = same_tells l.ended tells.ended;
+  ended_at = same_tells l.ended_at tells.ended_at;
 }
   where
     port_tells : (r : Result T E) → Listens {E = E} {T = T} old new r port → IsSome new.port
@@ -84,6 +85,7 @@ take_tells (Ok step) old new buf t tells = record {
   coming = gives_tells old.coming new.coming _ t.came tells.coming;
   sent = λ session. same_tells (t.nothing_sent.sent session) (tells.sent session);
   ended = same_tells t.ended tells.ended;
+  ended_at = same_tells t.ended_at tells.ended_at;
 }
 take_tells (Err e) old new buf t tells = record {
   port = same_tells t.port tells.port;
@@ -91,11 +93,17 @@ take_tells (Err e) old new buf t tells = record {
   coming = same_tells t.kept.coming tells.coming;
   sent = λ session. same_tells (t.nothing_sent.sent session) (tells.sent session);
   ended = same_tells t.ended tells.ended;
+  ended_at = same_tells t.ended_at tells.ended_at;
 }
 
 append_tells : (old new : Option (List ℕ)) (more : List ℕ) → new ≡ append_known old more → IsSome old → IsSome new
 append_tells None new more is tells = absurd (cc tells)
 append_tells (Some held) new more is tells = same_tells is refl
+
+behind_tells : (old new sent : Option (List ℕ)) → new ≡ ended_behind old sent → IsSome old → IsSome sent → IsSome new
+behind_tells None new sent is tells sends = absurd (cc tells)
+behind_tells (Some counts) new None is tells sends = absurd (cc sends)
+behind_tells (Some counts) new (Some sent) is tells sends = same_tells is refl
 
 pub end_tells : {E T : Type 0} (result : Result T E) (old new : DockView) (session : ℕ) → Ends {E = E} {T = T} old new result session → DockTells old → DockTells new
 end_tells {E} {T} result old new session e tells = record {
@@ -104,11 +112,16 @@ end_tells {E} {T} result old new session e tells = record {
   coming = same_tells e.nothing_taken.coming tells.coming;
   sent = λ other. same_tells (e.nothing_sent.sent other) (tells.sent other);
   ended = ended_tells result e;
+  ended_at = at_tells result e;
 }
   where
     ended_tells : (r : Result T E) → Ends {E = E} {T = T} old new r session → IsSome new.ended
     ended_tells (Ok x) e = append_tells old.ended new.ended _ e.ended tells.ended
     ended_tells (Err f) e = same_tells e.kept tells.ended
+
+    at_tells : (r : Result T E) → Ends {E = E} {T = T} old new r session → IsSome new.ended_at
+    at_tells (Ok x) e = behind_tells old.ended_at new.ended_at (old.sent session) e.ended_at tells.ended_at (tells.sent session)
+    at_tells (Err f) e = same_tells e.kept_at tells.ended_at
 
 pub send_tells : {E : Type 0} (result : Result ℕ E) (old new : DockView) (session : ℕ) (piece : List ℕ) → Sends {E = E} old new result session piece → DockTells old → DockTells new
 send_tells result old new session piece s tells = record {
@@ -120,4 +133,5 @@ send_tells result old new session piece s tells = record {
     | inr differs ↦ same_tells (s.others other differs).0 (tells.sent other)
   ];
   ended = same_tells s.ended tells.ended;
+  ended_at = same_tells s.ended_at tells.ended_at;
 }

@@ -20,8 +20,8 @@ pub use tcp_dock::TcpDock;
 
 /// Where others ask, in sessions that bear numbers.
 pub trait Dock {
-    /// The port listened on, the steps taken and to come, what was sent to each session, the sessions ended, the count
-    /// of faults, and the room that is left: each form says what of these it tells.
+    /// The port listened on, the steps taken and to come, what was sent to each session, the sessions ended and what they
+    /// had been sent by then, the count of faults, and the room that is left: each form says what of these it tells.
     ghost seen: { Self → DockView };
 
     /// Listens on this port.

@@ -1,5 +1,5 @@
 -- A dock, as contracts see it, and what each call does to it.
-use Rattle.std.specs.Prelude.{◌≡◌, ◌≢◌, ℕ, ◌-◌, ◌<◌, List, [], ◌∷◌, ◌++◌, length, Option, Some, Result, IfSome, IfOk, IsSome, OnOk, OnErr, option_map}
+use Rattle.std.specs.Prelude.{◌≡◌, ◌≢◌, ℕ, ◌-◌, ◌<◌, List, [], ◌∷◌, ◌++◌, length, Option, Some, None, Result, IfSome, IfOk, IsSome, OnOk, OnErr, option_map}
 use Rattle.std.specs.Io.KnownBytes.{append_known}
 use Rattle.fugue_ids.specs.Outs.{OutView, WritesSome}
 use Rattle.outer_ports.specs.Counts.{FailsOnlyFor}
@@ -19,6 +19,8 @@ pub record DockView : Type 0 where
   pub sent : ℕ → Option (List ℕ)
   -- the sessions that were ended, in order
   pub ended : Option (List ℕ)
+  -- how many bytes each of them had been sent as it was ended, in the same order
+  pub ended_at : Option (List ℕ)
   -- how often a call failed
   pub faults : ℕ
   -- how many bytes still fit for each session, where calls are sure
@@ -26,17 +28,24 @@ pub record DockView : Type 0 where
   -- how many further sessions can be ended, where calls are sure
   pub ends : Option ℕ
 
--- it tells the port, the steps, what was sent to each session and which were ended
+-- it tells the port, the steps, what was sent to each session, and which were ended, and when
 pub record DockTells (dock : DockView) : Type 0 where
   pub port : IsSome dock.port
   pub taken : IsSome dock.taken
   pub coming : IsSome dock.coming
   pub sent : (session : ℕ) → IsSome (dock.sent session)
   pub ended : IsSome dock.ended
+  pub ended_at : IsSome dock.ended_at
 
 -- a dock as what takes a session's bytes
 abbrev pub out_to : ℕ → DockView → OutView
 out_to session dock = record { written = dock.sent session; faults = dock.faults; room = dock.room session }
+
+-- a session more was ended, which had been sent these bytes
+abbrev pub ended_behind : Option (List ℕ) → Option (List ℕ) → Option (List ℕ)
+ended_behind None sent = None
+ended_behind (Some counts) None = None
+ended_behind (Some counts) (Some sent) = Some (counts ++ length sent ∷ [])
 
 -- nothing was sent
 pub record SendsNothing (old new : DockView) : Type 0 where
@@ -56,6 +65,7 @@ pub record Listens {E T : Type 0} (old new : DockView) (result : Result T E) (po
   pub nothing_sent : SendsNothing old new
   pub nothing_taken : TakesNothing old new
   pub ended : new.ended ≡ old.ended
+  pub ended_at : new.ended_at ≡ old.ended_at
   pub ends : new.ends ≡ old.ends
   pub count : FailsOnlyFor old.ends (λ ends. ⊥) old.faults new.faults result
   pub calm_told : DockTells old → OnOk result (new.faults ≡ old.faults)
@@ -69,6 +79,7 @@ pub record Takes {E : Type 0} (old new : DockView) (result : Result DockStep E) 
   pub nothing_sent : SendsNothing old new
   pub port : new.port ≡ old.port
   pub ended : new.ended ≡ old.ended
+  pub ended_at : new.ended_at ≡ old.ended_at
   pub ends : new.ends ≡ old.ends
   pub count : FailsOnlyFor old.ends (λ ends. IfSome old.coming (λ coming. coming ≡ [])) old.faults new.faults result
   pub calm_told : DockTells old → OnOk result (new.faults ≡ old.faults)
@@ -80,12 +91,16 @@ pub record Sends {E : Type 0} (old new : DockView) (result : Result ℕ E) (sess
   pub nothing_taken : TakesNothing old new
   pub port : new.port ≡ old.port
   pub ended : new.ended ≡ old.ended
+  pub ended_at : new.ended_at ≡ old.ended_at
   pub ends : new.ends ≡ old.ends
 
--- the session joins those that were ended; nothing at an error
+-- The session joins those that were ended, with what it had been sent so far; nothing at an error. So what is sent once it
+-- was ended can't pass for what was sent before.
 pub record Ends {E T : Type 0} (old new : DockView) (result : Result T E) (session : ℕ) : Type 0 where
   pub ended : OnOk result (new.ended ≡ append_known old.ended (session ∷ []))
   pub kept : OnErr result (new.ended ≡ old.ended)
+  pub ended_at : OnOk result (new.ended_at ≡ ended_behind old.ended_at (old.sent session))
+  pub kept_at : OnErr result (new.ended_at ≡ old.ended_at)
   pub ends : OnOk result (new.ends ≡ option_map (λ ends. ends - 1) old.ends)
   pub same_ends : OnErr result (new.ends ≡ old.ends)
   pub nothing_sent : SendsNothing old new

@@ -15,6 +15,8 @@ pub record MemDockView : Type 0 where
   pub spare_steps : ℕ
   pub logs : List LogView
   pub ended : List ℕ
+  -- how many bytes each of them had been sent as it was ended
+  pub ended_at : List ℕ
   -- how many further sessions it ends with no further memory
   pub spare_ends : ℕ
   -- the most bytes that a call gives or takes
@@ -31,6 +33,8 @@ pub record SureDockView : Type 0 where
   -- how many further sessions can be ended
   pub ends : ℕ
   pub ended : List ℕ
+  -- how many bytes each of them had been sent as it was ended
+  pub ended_at : List ℕ
   -- the most bytes that a call gives or takes
   pub piece : ℕ
 
@@ -69,7 +73,7 @@ pub record MemEnds {E T : Type 0} (old new : MemDockView) (result : Result T E) 
   pub fails : FailsNext old.calls → IsErr result
   pub wanting : OnErr result (FailsNext old.calls ⊎ (old.spare_ends ≡ 0))
   pub refused : OnErr result (new ≡ record old { spare_ends = new.spare_ends; calls = failed old.calls })
-  pub ended : OnOk result (new ≡ record old { ended = old.ended ++ session ∷ []; spare_ends = new.spare_ends; calls = passed old.calls })
+  pub ended : OnOk result (new ≡ record old { ended = old.ended ++ session ∷ []; ended_at = old.ended_at ++ length (sent_by old.logs session) ∷ []; spare_ends = new.spare_ends; calls = passed old.calls })
 
 -- A call fails exactly where no step is left. Otherwise it gives all of the next step that the piece and the buffer allow.
 pub record SureTakes {E : Type 0} (old new : SureDockView) (result : Result DockStep E) (buf : List ℕ) : Type 0 where
@@ -91,4 +95,4 @@ pub record SureSends {E : Type 0} (old new : SureDockView) (result : Result ℕ 
 pub record SureEnds {E T : Type 0} (old new : SureDockView) (result : Result T E) (session : ℕ) : Type 0 where
   pub fails : IsErr result ↔ (old.ends ≡ 0)
   pub refused : OnErr result (new ≡ record old { faults = risen old.faults })
-  pub ended : OnOk result (new ≡ record old { ended = old.ended ++ session ∷ []; ends = old.ends - 1 })
+  pub ended : OnOk result (new ≡ record old { ended = old.ended ++ session ∷ []; ended_at = old.ended_at ++ length (sent_by old.logs session) ∷ []; ends = old.ends - 1 })

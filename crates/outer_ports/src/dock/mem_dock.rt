@@ -7,6 +7,7 @@ ghost use Rattle.outer_ports.specs.dock.Forms.{MemListens, MemTakes, MemSends, M
 use super::arrivals::Arrivals;
 use super::logs::Logs;
 use crate::calls::Calls;
+use crate::reserved::add;
 use crate::{Dock, DockStep, MemStep};
 use fugue_ids::Failed;
 use std::alloc::Global;
@@ -21,17 +22,19 @@ pub struct MemDock {
     arrivals: Arrivals,
     logs: Logs,
     ended: Vec<u32>,
+    /// How many bytes each of these had been sent as it was ended.
+    ended_at: Vec<usize>,
     piece: usize,
     calls: Calls,
 }
 
 impl Model for MemDock {
-    ghost use Rattle.std.specs.Prelude.{◌≤◌, ◌-◌, vec_len, vec_capacity};
+    ghost use Rattle.std.specs.Prelude.{◌≤◌, ◌-◌, min, vec_len, vec_capacity};
     ghost use Rattle.outer_ports.specs.dock.Forms.{MemDockView};
 
     ghost Value = { MemDockView };
 
-    ghost view = { λ d. record { port = d.port; taken = d.arrivals.taken; coming = d.arrivals.coming; spare_steps = d.arrivals.spare; logs = d.logs; ended = d.ended.items; spare_ends = vec_capacity d.ended - vec_len d.ended; piece = d.piece; calls = d.calls } };
+    ghost view = { λ d. record { port = d.port; taken = d.arrivals.taken; coming = d.arrivals.coming; spare_steps = d.arrivals.spare; logs = d.logs; ended = d.ended.items; ended_at = d.ended_at.items; spare_ends = min (vec_capacity d.ended - vec_len d.ended) (vec_capacity d.ended_at - vec_len d.ended_at); piece = d.piece; calls = d.calls } };
 
     ghost invariant = { λ d. 1 ≤ d.piece };
 }
@@ -47,6 +50,7 @@ impl MemDock {
           coming = Some steps.items;
           sent = λ s. Some [];
           ended = Some [];
+          ended_at = Some [];
           faults = 0;
           room = λ s. None;
           ends = None;
@@ -60,6 +64,7 @@ impl MemDock {
             arrivals: Arrivals::new(alloc, steps),
             logs: Logs::new(alloc),
             ended: Vec::new(alloc),
+            ended_at: Vec::new(alloc),
             piece,
             calls: Calls::new(fail),
         }
@@ -88,7 +93,7 @@ impl MemDock {
 }
 
 impl Dock for MemDock {
-    ghost seen = { λ d. record { port = Some d.port; taken = Some d.taken; coming = Some d.coming; sent = λ s. Some (sent_by d.logs s); ended = Some d.ended; faults = d.calls.faults; room = λ s. None; ends = None } };
+    ghost seen = { λ d. record { port = Some d.port; taken = Some d.taken; coming = Some d.coming; sent = λ s. Some (sent_by d.logs s); ended = Some d.ended; ended_at = Some d.ended_at; faults = d.calls.faults; room = λ s. None; ends = None } };
 
     fn listen(&mut self, port: u16) -> Result<(), Failed>
         ensures listens { Listens (⟦<MemDock as Dock>⟧.seen self.old) (⟦<MemDock as Dock>⟧.seen self.new) result port }
@@ -131,9 +136,11 @@ impl Dock for MemDock {
         ensures form { MemEnds self.old self.new result session }
     {
         self.calls.begin()?;
-        match self.ended.push(session) {
-            Ok(()) => Ok(()),
-            Err(_) => Err(self.calls.fail()),
+        if self.ended.reserve(1).is_err() || self.ended_at.reserve(1).is_err() {
+            return Err(self.calls.fail());
         }
+        add(&mut self.ended, session);
+        add(&mut self.ended_at, self.logs.sent(session).len());
+        Ok(())
     }
 }

@@ -21,6 +21,8 @@ pub struct SureDock {
     arrivals: Arrivals,
     logs: Logs,
     ended: Vec<u32>,
+    /// How many bytes each of these had been sent as it was ended.
+    ended_at: Vec<usize>,
     ends: usize,
     piece: usize,
     faults: u64,
@@ -33,11 +35,12 @@ impl Model for SureDock {
 
     ghost Value = { SureDockView };
 
-    ghost view = { λ d. record { port = d.port; taken = d.arrivals.taken; coming = d.arrivals.coming; logs = d.logs; ended = d.ended.items; piece = d.piece; ends = d.ends; faults = d.faults } };
+    ghost view = { λ d. record { port = d.port; taken = d.arrivals.taken; coming = d.arrivals.coming; logs = d.logs; ended = d.ended.items; ended_at = d.ended_at.items; piece = d.piece; ends = d.ends; faults = d.faults } };
 
     ghost invariant = { λ d. (1 ≤ d.piece)
         × (calls_for_all d.arrivals.coming ≤ d.arrivals.ready)
-        × (vec_len d.ended + d.ends ≤ vec_capacity d.ended) };
+        × (vec_len d.ended + d.ends ≤ vec_capacity d.ended)
+        × (vec_len d.ended_at + d.ends ≤ vec_capacity d.ended_at) };
 }
 
 impl SureDock {
@@ -57,6 +60,7 @@ impl SureDock {
           coming = steps.items;
           logs = d.logs;
           ended = [];
+          ended_at = [];
           piece = piece;
           ends = length steps.items;
           faults = 0;
@@ -68,6 +72,7 @@ impl SureDock {
         let logs = rooms(alloc, &steps, room)?;
         let ends = steps.len();
         let ended = Vec::with_capacity(alloc, ends)?;
+        let ended_at = Vec::with_capacity(alloc, ends)?;
         let Some(calls) = most_calls_of(&steps) else {
             return Err(NoMemory);
         };
@@ -78,6 +83,7 @@ impl SureDock {
             arrivals,
             logs,
             ended,
+            ended_at,
             ends,
             piece,
             faults: 0,
@@ -120,7 +126,7 @@ fn rooms(alloc: Global, steps: &[MemStep], room: usize) -> Result<Logs, AllocErr
 }
 
 impl Dock for SureDock {
-    ghost seen = { λ d. record { port = Some d.port; taken = Some d.taken; coming = Some d.coming; sent = λ s. Some (sent_by d.logs s); ended = Some d.ended; faults = d.faults; room = λ s. Some (room_by d.logs s); ends = Some d.ends } };
+    ghost seen = { λ d. record { port = Some d.port; taken = Some d.taken; coming = Some d.coming; sent = λ s. Some (sent_by d.logs s); ended = Some d.ended; ended_at = Some d.ended_at; faults = d.faults; room = λ s. Some (room_by d.logs s); ends = Some d.ends } };
 
     fn listen(&mut self, port: u16) -> Result<(), Failed>
         ensures listens { Listens (⟦<SureDock as Dock>⟧.seen self.old) (⟦<SureDock as Dock>⟧.seen self.new) result port }
@@ -167,6 +173,7 @@ impl Dock for SureDock {
             return Err(Failed);
         }
         add(&mut self.ended, session);
+        add(&mut self.ended_at, self.logs.sent(session).len());
         self.ends -= 1;
         Ok(())
     }

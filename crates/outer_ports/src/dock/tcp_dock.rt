@@ -50,6 +50,7 @@ impl<R: Net + Drop> TcpDock<R> {
           coming = None;
           sent = λ s. None;
           ended = None;
+          ended_at = None;
           faults = 0;
           room = λ s. None;
           ends = None;
@@ -109,7 +110,7 @@ fn with_patience<S: OpenStream + Drop>(stream: S, patience: Duration) -> io::Res
 }
 
 impl<R: Net + Drop> Dock for TcpDock<R> {
-    ghost seen = { λ d. record { port = None; taken = None; coming = None; sent = λ s. None; ended = None; faults = d.faults; room = λ s. None; ends = None } };
+    ghost seen = { λ d. record { port = None; taken = None; coming = None; sent = λ s. None; ended = None; ended_at = None; faults = d.faults; room = λ s. None; ends = None } };
 
     fn listen(&mut self, port: u16) -> Result<(), Failed>
         ensures listens { Listens (⟦<TcpDock<R> as Dock>⟧.seen self.old) (⟦<TcpDock<R> as Dock>⟧.seen self.new)
