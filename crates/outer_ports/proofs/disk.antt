@@ -1,4 +1,5 @@
 -- What the proofs of several functions of src/disk/ use, and what a proof above cites.
 pub mod ImagesLemmas
+pub mod HonestLemmas
 pub mod MomentsLemmas
 pub mod ReplaysLemmas

@@ -13,7 +13,7 @@ mod sure_disk;
 
 pub use file_disk::{FileDisk, Opening};
 use fugue_ids::Failed;
-pub use laws::{spans_join, sync_brings_none};
+pub use laws::{disks_stay_honest, spans_join, sync_brings_none};
 pub use mem_disk::MemDisk;
 pub use pick::Pick;
 pub use sure_disk::SureDisk;

@@ -19,7 +19,10 @@ mod sure_source;
 mod taken;
 mod wire;
 
-pub use disk::{Disk, FileDisk, MemDisk, Opening, Pick, SureDisk, spans_join, sync_brings_none};
+pub use disk::{
+    Disk, FileDisk, MemDisk, Opening, Pick, SureDisk, disks_stay_honest, spans_join,
+    sync_brings_none,
+};
 pub use dock::{Dock, DockStep, MemDock, MemStep, SureDock, TcpDock};
 pub use mem_sink::MemSink;
 pub use mem_source::MemSource;

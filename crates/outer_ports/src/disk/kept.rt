@@ -186,6 +186,7 @@ impl Kept {
     pub(crate) fn crash(&self, alloc: Global, pick: Pick) -> Result<Vec<u8>, AllocError>
         ensures bytes { IfOk result (λ bytes. bytes.items ≡ picked pick self.now.past.last) }
         ensures image { IsImage self.now.past.last (picked pick self.now.past.last) }
+        ensures honest { IsHonest self.now.past.last }
     {
         match pick {
             Pick::Old => self.base().to_vec(alloc),

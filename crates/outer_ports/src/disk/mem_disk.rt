@@ -1,5 +1,5 @@
 ghost use Rattle.std.specs.Prelude.{◌≡◌, ◌≤◌, ◌-◌, [], length, min, Some, None, IfOk};
-ghost use Rattle.outer_ports.specs.disk.States.{IsImage};
+ghost use Rattle.outer_ports.specs.disk.States.{IsHonest, IsImage};
 ghost use Rattle.outer_ports.specs.disk.Disks.{Sizes, ReadsAt, WritesAt, Syncs};
 ghost use Rattle.outer_ports.specs.disk.Picks.{picked};
 ghost use Rattle.outer_ports.specs.disk.Forms.{untouched, MemLooks, MemDiskWrites, MemSyncs};
@@ -33,10 +33,12 @@ impl Model for MemDisk {
 }
 
 impl MemDisk {
+    #[tactic(auto, using(crate::proofs::disk::ImagesLemmas::honest_at_rest))]
     /// A file of these bytes, all of them settled. The calls listed in `fail`, counted from 0, fail.
     pub fn new(alloc: Global, bytes: Vec<u8>, fail: Vec<u32>) -> MemDisk
         ensures seen { ⟦<MemDisk as Disk>⟧.seen result
             ≡ record { past = Some (untouched bytes.items); faults = 0; room = None } }
+        ensures honest { IsHonest result.past.last }
         ensures calls { result.calls ≡ record { made = 0; listed = fail.items; faults = 0 } }
     {
         let ahead = fail.len() + 1;
@@ -48,11 +50,13 @@ impl MemDisk {
         }
     }
 
-    /// One of the files that a crash may leave. No call on it is to fail.
+    /// One of the files that a crash may leave. No call on it is to fail. Both disks are honest.
     pub fn crash(&self, pick: Pick) -> Result<MemDisk, NoMemory>
         ensures past { IfOk result (λ d. d.past ≡ untouched (picked pick self.now.past.last)) }
         ensures image { IsImage self.now.past.last (picked pick self.now.past.last) }
         ensures calls { IfOk result (λ d. d.calls ≡ record { made = 0; listed = []; faults = 0 }) }
+        ensures honest { IsHonest self.now.past.last }
+        ensures rests { IfOk result (λ d. IsHonest d.past.last) }
     {
         crashed(self.alloc, &self.kept, pick)
     }
@@ -121,6 +125,8 @@ pub(crate) fn crashed(alloc: Global, kept: &Kept, pick: Pick) -> Result<MemDisk,
     ensures disk { IfOk result (λ d. (d.past ≡ untouched (picked pick kept.now.past.last))
         × (d.calls ≡ record { made = 0; listed = []; faults = 0 })) }
     ensures image { IsImage kept.now.past.last (picked pick kept.now.past.last) }
+    ensures honest { IsHonest kept.now.past.last }
+    ensures rests { IfOk result (λ d. IsHonest d.past.last) }
 {
     let bytes = kept.crash(alloc, pick)?;
     Ok(MemDisk::new(alloc, bytes, Vec::new(alloc)))

@@ -1,5 +1,5 @@
 ghost use Rattle.std.specs.Prelude.{◌≡◌, ◌≤◌, ◌-◌, [], length, min, Ok, Some, IfOk};
-ghost use Rattle.outer_ports.specs.disk.States.{IsImage, wrote, settled};
+ghost use Rattle.outer_ports.specs.disk.States.{IsHonest, IsImage, wrote, settled};
 ghost use Rattle.outer_ports.specs.disk.Moments.{stepped};
 ghost use Rattle.outer_ports.specs.disk.Disks.{Sizes, ReadsAt, WritesAt, Syncs};
 ghost use Rattle.outer_ports.specs.disk.Picks.{picked};
@@ -30,11 +30,13 @@ impl Model for SureDisk {
 }
 
 impl SureDisk {
+    #[tactic(auto, using(crate::proofs::disk::ImagesLemmas::honest_at_rest))]
     /// A file of these bytes, all of them settled. All writes together write at most `room` bytes, and all writes and
     /// syncs are at most `room` calls.
     pub fn new(alloc: Global, bytes: Vec<u8>, room: usize) -> Result<SureDisk, NoMemory>
-        ensures { IfOk result (λ d. ⟦<SureDisk as Disk>⟧.seen d
+        ensures seen { IfOk result (λ d. ⟦<SureDisk as Disk>⟧.seen d
             ≡ record { past = Some (untouched bytes.items); faults = 0; room = Some (record { bytes = room; calls = room }) }) }
+        ensures honest { IfOk result (λ d. IsHonest d.past.last) }
     {
         let mut kept = Kept::new(alloc, bytes);
         kept.prepare(alloc, room, room)?;
@@ -45,11 +47,13 @@ impl SureDisk {
         })
     }
 
-    /// One of the files that a crash may leave. No call on it is to fail.
+    /// One of the files that a crash may leave. No call on it is to fail. Both disks are honest.
     pub fn crash(&self, pick: Pick) -> Result<MemDisk, NoMemory>
         ensures past { IfOk result (λ d. d.past ≡ untouched (picked pick self.now.past.last)) }
         ensures image { IsImage self.now.past.last (picked pick self.now.past.last) }
         ensures calls { IfOk result (λ d. d.calls ≡ record { made = 0; listed = []; faults = 0 }) }
+        ensures honest { IsHonest self.now.past.last }
+        ensures rests { IfOk result (λ d. IsHonest d.past.last) }
     {
         crashed(self.alloc, &self.kept, pick)
     }
