@@ -62,7 +62,7 @@ compare 'what one sends another takes' "${PIPESTATUS[1]}" 0 '' "$all"
 try 'and prints the same' nothing 0 '# T\nAC\n' '' print "$work/h"
 try 'an empty script' nothing_asked 0 '' 'made 0\n' edit "$f"
 check 'saves nothing' cmp -s "$f" "$work/edited"
-try 'a file merged with itself' nothing 4 '' "$outside" merge "$f" "$f"
+try 'a file merged with itself' nothing 0 '' "$(counts 0 5 0 0 0 0)" merge "$f" "$f"
 check 'stays as it is' cmp -s "$f" "$work/edited"
 
 # What waits is kept, and is saved.
@@ -138,7 +138,7 @@ try 'a folder' nothing 4 '' "$outside" print "$work"
 try 'the other file is not there' nothing 4 '' "$outside" merge "$f" "$work/none"
 try 'the greatest replica' nothing 0 '' '' new "$work/greatest" 4294967295 1048576
 
-# Two programs, one file: the first one keeps it, and nothing is lost.
+# Two programs, one file: the first one keeps it, and nothing is lost. Who only reads takes no lock, and is let in.
 new_file shared
 mkfifo "$work/slowly"
 "$program" edit "$work/shared" <"$work/slowly" 2>"$work/first_notes" &
@@ -149,7 +149,8 @@ for ((waited = 0; waited < 100; waited++)); do
 done
 sleep 0.1
 try 'the file is in use' chapter 4 '' "$outside" edit "$work/shared"
-try 'and is not read meanwhile' nothing 4 '' "$outside" print "$work/shared"
+try 'and is read meanwhile' nothing 0 '' '' print "$work/shared"
+try 'and is merged into another' nothing 0 '' "$(counts 0 0 0 0 0 0)" merge "$g" "$work/shared"
 printf 'add 1 T\n' >&"$script"
 exec {script}>&-
 wait $!
@@ -157,12 +158,40 @@ check 'who came first ended well' holds first_notes 'made 1\n'
 try 'and is in the file' nothing 0 '# T\n\n' '' print "$work/shared"
 if command -v flock >/dev/null; then
     exec {reader}<"$f"
-    flock -s "$reader"
-    try 'two may read at once' nothing 0 '# T\nAC\n' '' print "$f"
+    flock "$reader"
+    try 'a file that is locked is read' nothing 0 '# T\nAC\n' '' print "$f"
+    try 'and is not edited' chapter 4 '' "$outside" edit "$f"
     exec {reader}<&-
 else
-    echo 'not tried: two that read at once, since there is no flock'
+    echo 'not tried: a file that is locked, since there is no flock'
 fi
+
+# One prints in a loop beside one that saves in a loop, 200 letters at a time: no save fails, and each print is the
+# manuscript behind one of the saves.
+new_file loop
+script heading 'add 1 T'
+try 'a file to be printed beside saves' heading 0 '' 'made 1\n' edit "$work/loop"
+printf 'put 1 0 %s\n' "$(head -c 200 /dev/zero | tr '\0' x)" >"$work/more"
+{
+    for ((save = 0; save < 20; save++)); do
+        "$program" edit "$work/loop" <"$work/more" || exit 1
+    done
+} >/dev/null 2>&1 &
+saver=$!
+is_state() {
+    local letters=$(($(wc -c <"$work/output") - 5))
+    ((letters >= 0 && letters % 200 == 0)) && [ ! -s "$work/notes" ] || return 1
+    { printf '# T\n'; head -c "$letters" /dev/zero | tr '\0' x; printf '\n'; } | cmp -s - "$work/output"
+}
+others=0
+for ((prints = 0; prints < 1000; prints++)); do
+    "$program" print "$work/loop" </dev/null >"$work/output" 2>"$work/notes" && is_state || others=$((others + 1))
+    kill -0 $saver 2>/dev/null || break
+done
+wait $saver
+check 'each save beside prints ended well' [ $? = 0 ]
+check 'each print beside saves is one of the states' [ $others = 0 ]
+try 'all letters are printed at last' nothing 0 "# T\n$(head -c 4000 /dev/zero | tr '\0' x)\n" '' print "$work/loop"
 
 # The outside fails.
 : >"$work/output"

@@ -9,10 +9,10 @@ use std::fs::{File, Files, OpenFile, OpenOptions};
 use std::io::{self, ErrorKind};
 use std::os::unix::fs::FileExt;
 
-/// What a file is opened for. The lock is taken at once or not at all.
+/// What a file is opened for. A lock is taken at once or not at all.
 #[derive(Clone, Copy, Debug, PartialEq, Eq)]
 pub enum Opening {
-    /// To read: the file is there, and others may read it too.
+    /// To read: the file is there. It is not locked, so that others may read it, and one may write it.
     Reading,
     /// To read and to write: the file is there, and nobody else has it.
     Writing,
@@ -29,12 +29,12 @@ pub struct FileDisk {
 }
 
 impl FileDisk {
-    /// Opens the file and locks it. Where that fails, each call on the disk fails.
+    /// Opens the file, and locks it where it is opened for more than to read. Where that fails, each call on the disk fails.
     pub fn open<R: Files<File = File>>(files: &R, path: &str, opening: Opening) -> FileDisk
         ensures { ⟦<FileDisk as Disk>⟧.seen result ≡ record { past = None; faults = 0; room = None } }
     {
         FileDisk {
-            file: open_locked(files, path, opening),
+            file: open_file(files, path, opening),
             faults: Faults::none(),
         }
     }
@@ -51,20 +51,16 @@ impl FileDisk {
     }
 }
 
-fn open_locked<R: Files<File = File>>(files: &R, path: &str, opening: Opening) -> Option<File> {
-    let shared = opening == Opening::Reading;
+fn open_file<R: Files<File = File>>(files: &R, path: &str, opening: Opening) -> Option<File> {
     let file = OpenOptions::new()
         .read(true)
-        .write(!shared)
+        .write(opening != Opening::Reading)
         .create(opening == Opening::Creating)
         .open(files, path)
         .ok()?;
-    let locked = if shared {
-        file.try_lock_shared()
-    } else {
-        file.try_lock()
-    };
-    locked.ok()?;
+    if opening != Opening::Reading {
+        file.try_lock().ok()?;
+    }
     Some(file)
 }
 
