@@ -106,7 +106,7 @@ pub(super) fn free_all<T: Drop>(
     let mut newest = newest;
     let mut left = count;
     'nodes: while left > 0 {
-        let node = Box::into_inner(pile.take(newest, alloc));
+        let node = pile.take(newest, alloc);
         newest = node.older;
         left -= 1;
     }

@@ -5,8 +5,8 @@ use Rattle.node_rope.proofs.BoxLemmas.{end-of}
 use Rattle.node_rope.proofs.ListedLemmas.{filed-less}
 use Rattle.node_rope.proofs.store.steps.free_all.Goals as goal
 
-pub take-requires : goal.take-requires
-take-requires g c =
+pub take-node-requires : goal.take-node-requires
+take-node-requires g c =
     let p = c.nodes.pile in
     let pair = p.paired in
     let i = c.nodes.invariant in
@@ -18,12 +18,12 @@ take-requires g c =
 pub nodes-preserved : goal.nodes-preserved
 nodes-preserved g c =
     let p = c.nodes.pile in
-    let n = c.take.new.self in
-    let w = c.take.result.value in
+    let n = c.take-node.new.self in
+    let w = c.take-node.result in
     let i = c.nodes.invariant in
-    let f = subst (λ ms. IsFiled c.nodes.newest (n.values ++ w ∷ []) ms) c.take.ensures.moorings (subst (λ ns. IsFiled c.nodes.newest ns p.moorings) c.take.ensures.values i.filed) in
+    let f = subst (λ ms. IsFiled c.nodes.newest (n.values ++ w ∷ []) ms) c.take-node.ensures.moorings (subst (λ ns. IsFiled c.nodes.newest ns p.moorings) c.take-node.ensures.values i.filed) in
     let less = filed-less c.nodes.newest n.values n.moorings w (c.nodes.newest.address, c.args.alloc) n.paired f in
     record {
-      counted = omega (arith, i.counted, ap length c.take.ensures.values, length-append n.values (w ∷ []));
-      filed = subst (λ o. IsFiled o n.values n.moorings) (ap (λ y. y.older) (sym c.into_inner-node.ensures)) less;
+      counted = omega (arith, i.counted, ap length c.take-node.ensures.values, length-append n.values (w ∷ []));
+      filed = less;
     }

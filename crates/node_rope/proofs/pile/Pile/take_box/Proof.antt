@@ -1,4 +1,4 @@
--- `take` makes the last box again.
+-- `take_box` makes the last box again.
 use Rattle.node_rope.proofs.Words.{◌≡◌, ℕ, ◌+◌, ◌-◌, List, [], ◌∷◌, ◌++◌, length, refl, sym, ap, ◌∙◌, subst, arith, a_type, dcons, dnil, inst_fn, Val, vptr, SProp, ent, emp, id⊢, Fml, ftrue, flft, WpFn, ‵, raw, ◌⊛◌, some, later, at_ret, ◌$◌, ◌∵◌, !, qed, by, move, keep, drop, use0, use1, split, split3, join, group, fsplit, fsplit3, fjoin, pick, await, rewrite, feq_i, feq_l, suffices, stop, fld, of_opd, no_more, and_then, first, blocks, exec, returns, enter, alloc_all, pass_all, free_all, look_at, get, get_in, sets, lands_last, env, sub, whole, fact, fact_i, tables, ◌⊑◌, yes, no, RattleType, owns, types_at, plain, Ptr, ptr_val, nothing, only, heard, opens, closes, bounded, MutBor, Lasts, lasts, triple_of, calls_at_last, Stays, stay_dropped, stay_ref, walk_of, Goes-dropped, Goes-ref, handle_tells, after, framed, proved_at, leaves, Ptr-Good, word-Good, spot_val}
 use lib.ListN.{length-append, take}
 use lib.Dec.{T as IsSo}
@@ -12,13 +12,13 @@ use Rattle.node_rope.specs.contracts.pile.Pile as pile
 use Rattle.node_rope.specs.contracts.pile.Spot as spot
 use Rattle.node_rope.proofs.BoxLemmas.{goes_last, parted}
 use Rattle.node_rope.proofs.SpotLemmas.{Place, spot_had}
-use Rattle.node_rope.specs.contracts.pile.Pile.take.{ended, clauses}
-use Rattle.node_rope.specs.contracts.pile.Pile.take.Key.{name as #self}
-use Rattle.node_rope.proofs.pile.Pile.take.Statement.{statement}
-use Rattle.node_rope.proofs.pile.Pile.take.Code as code
+use Rattle.node_rope.specs.contracts.pile.Pile.take_box.{ended, clauses}
+use Rattle.node_rope.specs.contracts.pile.Pile.take_box.Key.{name as #self}
+use Rattle.node_rope.proofs.pile.Pile.take_box.Statement.{statement}
+use Rattle.node_rope.proofs.pile.Pile.take_box.Code as code
 
-pub take_spec : {M : Type 1} → statement M
-take_spec 𝓤 𝓛 𝓜 𝓡 wired T A L LA g d dd allocator glued =
+pub take_box_spec : {M : Type 1} → statement M
+take_box_spec 𝓤 𝓛 𝓜 𝓡 wired T A L LA g d dd allocator glued =
     let H = 𝓛.H in
     let 𝓣 = tables 𝓤 H 𝓜 𝓡 𝓡.env in
     let E : box.Bx = record { row = T; laws = L; al = record { row = A; laws = LA; g = g; d = d; drops = dd } } in
