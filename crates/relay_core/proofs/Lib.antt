@@ -2,3 +2,9 @@ pub mod LogLemmas
 pub mod SessionLemmas
 pub mod TakingLemmas
 pub mod PieceLemmas
+pub mod KindLemmas
+pub mod TextLemmas
+pub mod CourseLemmas
+pub mod StoryLemmas
+pub mod TellingLemmas
+mod TextExamples

@@ -2,3 +2,5 @@ pub mod Greetings
 pub mod Logs
 pub mod Sessions
 pub mod Relays
+pub mod Texts
+pub mod Laws

@@ -1,0 +1,61 @@
+-- Bytes are of exactly one kind, and so events have exactly one outcome.
+use Rattle.std.proofs.Common.{[], List, ap, append_assoc, inl, inr, sym, ℕ, ◌++◌, ◌∙◌, ◌∷◌, ◌≡◌}
+use Rattle.std.proofs.lemmas.List.{append-nil}
+use Rattle.fugue_ids.specs.declared.op.Op.{Op}
+use Rattle.origin_model.specs.frames.Frames.{Framed, Begins, IsFrame, IsPartial, frame}
+use Rattle.origin_model.specs.relay.Session.{Closing, Frame, Front, IsKind, Kind, Neither, closing}
+use Rattle.origin_model.proofs.SharedLemmas.{NoFront, SomeKind, run_once, run_some, step_once, step_some}
+use Rattle.op_frame.proofs.FrontLemmas.{Front as Found, bad_there, front_of, frame_there, front_there}
+use Rattle.op_frame.proofs.OperationLemmas.{operation_code}
+use Rattle.op_frame.proofs.SearchLemmas.{Decided, equal_decided}
+use Rattle.relay_core.specs.Laws.{EventsComeOnce}
+
+-- no frame is a proper front of another
+pub no_front : NoFront
+no_front a b more p q same = sym (operation_code.once b a [] more q p (append-nil (frame b) ∙ same)).1
+
+-- the bytes are the closing byte or not
+closing_decided : (bytes : List ℕ) → Decided (bytes ≡ closing)
+closing_decided [] = inr (λ e. cc e)
+closing_decided (x ∷ []) = elim (equal_decided x 0x44) [
+  | inl same ↦ inl (ap (λ y. y ∷ []) same)
+  | inr other ↦ inr (λ e. other (cc e))
+]
+closing_decided (x ∷ y ∷ more) = inr (λ e. cc e)
+
+-- bytes that are neither a frame nor a front of one
+none_of : (bytes : List ℕ) → ((ops : List Op) → IsFrame (record { bytes = bytes; ops = ops }) → ⊥) → (IsPartial bytes → ⊥) → (kind : Kind) × IsKind kind bytes
+none_of bytes none apart = elim (closing_decided bytes) [
+  | inl same ↦ (Closing, same)
+  | inr other ↦ (Neither, (none, apart, other))
+]
+
+-- bytes are of some kind
+pub some_kind : SomeKind
+some_kind bytes = by (front_of bytes)
+  where
+    begins : (framed : Framed) (rest : List ℕ) → Begins bytes framed rest → (kind : Kind) × IsKind kind bytes
+    begins framed [] b =
+        let op : Op = b.is_frame.op in
+        (Frame, (framed.ops, record { op = op; has_frame = b.is_frame.has_frame; bytes_are = b.split ∙ append-nil framed.bytes ∙ b.is_frame.bytes_are; ops_are = b.is_frame.ops_are }))
+    begins framed (z ∷ zs) b =
+        let op : Op = b.is_frame.op in
+        let split : bytes ≡ frame op ++ z ∷ zs = b.split ∙ ap (λ t. t ++ z ∷ zs) b.is_frame.bytes_are in
+        none_of bytes (λ ops f. absurd (cc (no_front op f.op (z ∷ zs) b.is_frame.has_frame f.has_frame (sym f.bytes_are ∙ split))))
+        (λ p. absurd (cc (no_front op p.is_frame.op (z ∷ zs ++ p.more) b.is_frame.has_frame p.is_frame.has_frame
+        (sym p.is_frame.bytes_are ∙ p.front ∙ ap (λ t. t ++ p.more) split ∙ append_assoc (frame op) (z ∷ zs) p.more))))
+
+    by : Found bytes → (kind : Kind) × IsKind kind bytes
+    by (frame_there framed rest b) = begins framed rest b
+    by (front_there partial) = (Front, partial)
+    by (bad_there bad) =
+        none_of bytes (λ ops f. bad.no_frame (record { bytes = bytes; ops = ops }) [] (record { is_frame = f; split = sym (append-nil bytes) })) bad.no_front
+
+-- events have exactly one outcome
+pub events_come_once : EventsComeOnce
+events_come_once = record {
+  one = λ relay event new other reply answer h i. step_once no_front relay event new other reply answer h i;
+  some = λ relay event. step_some some_kind relay event;
+  one_run = λ relay events new other replies answers h i. run_once no_front events relay new other replies answers h i;
+  some_run = λ relay events. run_some some_kind events relay;
+}

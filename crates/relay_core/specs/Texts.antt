@@ -1,0 +1,152 @@
+-- A relay by the whole texts of its sessions. The text of a session is the bytes of its pieces joined, from its opening until a reply closes it or it is gone.
+use Rattle.std.specs.Prelude.{◌≡◌, ◌≢◌, ◌⊎◌, ℕ, ◌<◌, ◌≤◌, false, true, All, List, [], ◌∷◌, ◌++◌, length, Option, Some, None, if◌then◌else◌, option_map}
+use Rattle.std.specs.FinMap as finite
+use Rattle.std.specs.Int.{from_be_bytes, w32}
+use Rattle.std.specs.Ordering.{nat_cmp}
+use Rattle.fugue_ids.specs.declared.op.Op.{Op}
+use Rattle.origin_model.specs.declared.relay.event.Event.{Event}
+use Rattle.origin_model.specs.declared.relay.event.Event.TheVariants.{Gone, Opened, Piece}
+use Rattle.origin_model.specs.declared.relay.reply.Reply.{Reply}
+use Rattle.origin_model.specs.frames.Frames.{HasFrame, IsPartial, frame, frames}
+use Rattle.origin_model.specs.relay.Session.{IsKind, Neither, closing, greeting, is_logged, refusal, reply_from}
+
+-- the log with the frame of an operation, where it lacks that one
+abbrev pub with_frame : List (List ℕ) → Op → List (List ℕ)
+with_frame log op = if is_logged log (frame op) then log else log ++ frame op ∷ []
+
+-- the log with the distinct new frames of operations, in order of arrival
+abbrev pub with_frames : List (List ℕ) → List Op → List (List ℕ)
+with_frames log [] = log
+with_frames log (op ∷ ops) = with_frames (with_frame log op) ops
+
+-- the text is 48 and a cursor, then the frames of operations, and then the rest
+pub record Says (text : List ℕ) (cursor : ℕ) (ops : List Op) (rest : List ℕ) : Type 0 where
+  pub number : List ℕ
+  pub four_bytes : length number ≡ 4
+  pub cursor_is : cursor ≡ from_be_bytes w32 number
+  pub have_frames : All HasFrame ops
+  pub text_is : text ≡ greeting ∷ number ++ (frames ops ++ rest)
+
+-- the text is nothing yet, or 48 and some bytes of a cursor
+abbrev pub IsGreetingFront : List ℕ → Type 0
+IsGreetingFront [] = Unit {0}
+IsGreetingFront (first ∷ number) = (first ≡ greeting) × (length number < 4)
+
+-- with their last byte the bytes became neither the closing byte, nor a frame, nor a front of one
+pub record IsForeign (bytes : List ℕ) : Type 0 where
+  pub before : List ℕ
+  pub byte : ℕ
+  pub bytes_are : bytes ≡ before ++ byte ∷ []
+  pub was_front : IsPartial before
+  pub is_none : IsKind Neither bytes
+
+-- what follows the frames of a text: nothing or a proper front of a frame, the closing byte, bytes that are no message and begin none, or a frame that the full log lacks
+pub data Follows : Type 0 where
+  Unfinished : Follows
+  Closed : Follows
+  Foreign : Follows
+  OneTooMany : Follows
+
+-- what stands behind the byte that shows it counts for nothing
+abbrev pub Stands : Follows → (limit : ℕ) → List (List ℕ) → List ℕ → Type 0
+Stands Unfinished limit log rest = IsPartial rest
+Stands Closed limit log rest = (behind : List ℕ) × (rest ≡ closing ++ behind)
+Stands Foreign limit log rest = (shown : List ℕ) × (behind : List ℕ) × IsForeign shown × (rest ≡ shown ++ behind)
+Stands OneTooMany limit log rest =
+    (op : Op) × (behind : List ℕ) × HasFrame op × (rest ≡ frame op ++ behind) × (is_logged log (frame op) ≡ false) × (length log ≡ limit)
+
+-- what the text of a session is: a front of its greeting, one that does not begin with 48, one whose cursor is beyond the log, or one that says operations
+pub data Course : Type 0 where
+  Greets : Course
+  NoGreeting : Course
+  Beyond : Course
+  Speaks : (cursor : ℕ) → (new : List Op) → (rest : List ℕ) → Follows → Course
+
+-- The text has the frames of the operations before, and those of new ones that came to this log. Its cursor was compared with the log as its fourth byte came.
+abbrev pub IsCourse : Course → (limit : ℕ) → (log : List (List ℕ)) → (before : List Op) → (text : List ℕ) → Type 0
+IsCourse Greets limit log before text = IsGreetingFront text
+IsCourse NoGreeting limit log before text = (first : ℕ) × (behind : List ℕ) × (first ≢ greeting) × (text ≡ first ∷ behind)
+IsCourse Beyond limit log before text = (cursor : ℕ) × (behind : List ℕ) × Says text cursor [] behind × (length log < cursor)
+IsCourse (Speaks cursor new rest follows) limit log before text =
+    Says text cursor (before ++ new) rest × (cursor ≤ length log) × (length (with_frames log new) ≤ limit) × Stands follows limit (with_frames log new) rest
+
+-- the log gains the new frames
+abbrev pub log_behind : Course → List (List ℕ) → List (List ℕ)
+log_behind (Speaks cursor new rest follows) log = with_frames log new
+log_behind course log = log
+
+-- the bytes with which a reply closes the session, where one does
+abbrev pub closing_of : Follows → List (List ℕ) → (cursor : ℕ) → Option (List ℕ)
+closing_of Unfinished log cursor = None
+closing_of Closed log cursor = Some (reply_from log cursor)
+closing_of Foreign log cursor = Some (refusal 1)
+closing_of OneTooMany log cursor = Some (refusal 2)
+
+abbrev pub answer_to : Course → List (List ℕ) → Option (List ℕ)
+answer_to Greets log = None
+answer_to NoGreeting log = Some (refusal 1)
+answer_to Beyond log = Some (refusal 3)
+answer_to (Speaks cursor new rest follows) log = closing_of follows (with_frames log new) cursor
+
+-- the text of an open session, and the operations whose frames it has
+abbrev pub HasCome : (text : List ℕ) → List Op → Type 0
+HasCome text before = (IsGreetingFront text × (before ≡ [])) ⊎ ((cursor : ℕ) × (rest : List ℕ) × Says text cursor before rest × IsPartial rest)
+
+-- bytes come to the text of an open session: the log behind them, and the bytes with which the session is closed, where it is
+pub record Comes (limit : ℕ) (log : List (List ℕ)) (text bytes : List ℕ) (new_log : List (List ℕ)) (answer : Option (List ℕ)) : Type 0 where
+  pub before : List Op
+  pub has_come : HasCome text before
+  pub course : Course
+  pub is_course : IsCourse course limit log before (text ++ bytes)
+  pub log_is : new_log ≡ log_behind course log
+  pub answer_is : answer ≡ answer_to course log
+
+-- the texts of the open sessions by their numbers
+abbrev pub Texts : Type 0
+Texts = finite.FinMap nat_cmp (List ℕ)
+
+-- a log, and the texts that came
+pub record Told : Type 0 where
+  pub log : List (List ℕ)
+  pub texts : Texts
+
+-- before any event
+abbrev pub nothing_told : Told
+nothing_told = record { log = []; texts = finite.empty }
+
+-- an open session stays as it is; any other begins an empty text
+abbrev pub with_text : ℕ → Texts → Texts
+with_text n texts = if finite.contains_key texts n then texts else finite.insert texts n []
+
+-- the texts behind a piece: the one that goes on has its bytes, and the one that is closed is gone
+abbrev pub texts_behind : ℕ → Texts → (text : List ℕ) → Option (List ℕ) → Texts
+texts_behind n texts text None = finite.insert texts n text
+texts_behind n texts text (Some answer) = finite.remove texts n
+
+-- the reply to a session that is closed with these bytes
+abbrev pub reply_with : ℕ → Option (List ℕ) → Option Reply
+reply_with n answer = option_map (λ bytes. record { session = n; bytes = bytes; closes = true }) answer
+
+-- a piece of an open session
+pub record TellsPiece (limit : ℕ) (old : Told) (n : ℕ) (text bytes : List ℕ) (new : Told) (reply : Option Reply) : Type 0 where
+  pub answer : Option (List ℕ)
+  pub comes : Comes limit old.log text bytes new.log answer
+  pub texts_are : new.texts ≡ texts_behind n old.texts (text ++ bytes) answer
+  pub reply_is : reply ≡ reply_with n answer
+
+-- a piece of a session that is unknown or closed changes nothing, and has no reply
+abbrev pub TellsTo : (limit : ℕ) → (old : Told) → (n : ℕ) → Option (List ℕ) → (bytes : List ℕ) → (new : Told) → Option Reply → Type 0
+TellsTo limit old n None bytes new reply = (new ≡ old) × (reply ≡ None)
+TellsTo limit old n (Some text) bytes new reply = TellsPiece limit old n text bytes new reply
+
+-- what an event does to the log and the texts, and the reply to it
+abbrev pub Tells : (limit : ℕ) → (old : Told) → Event → (new : Told) → Option Reply → Type 0
+Tells limit old (Opened n) new reply = (new ≡ record { log = old.log; texts = with_text n old.texts }) × (reply ≡ None)
+Tells limit old (Piece n bytes) new reply = TellsTo limit old n (finite.get old.texts n) bytes new reply
+Tells limit old (Gone n) new reply = (new ≡ record { log = old.log; texts = finite.remove old.texts n }) × (reply ≡ None)
+
+-- events one after another, and the reply to each, where there is one
+abbrev pub TellsAll : (limit : ℕ) → (old : Told) → List Event → (new : Told) → List (Option Reply) → Type 0
+TellsAll limit old [] new replies = (new ≡ old) × (replies ≡ [])
+TellsAll limit old (event ∷ events) new replies =
+    (middle : Told) × (reply : Option Reply) × (rest : List (Option Reply)) × Tells limit old event middle reply × TellsAll limit middle events new rest × (replies ≡ reply ∷ rest)
