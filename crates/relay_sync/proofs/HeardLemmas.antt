@@ -1,6 +1,6 @@
 -- What was heard of a reply whose bytes are told is what these bytes come to.
 use Rattle.std.proofs.Common.{[], List, ap, append_assoc, arith, length, length-append, refl, subst, sym, take, ℕ, ◌+◌, ◌++◌, ◌-◌, ◌<◌, ◌≤◌, ◌∙◌, ◌∷◌, ◌≡◌, ◌⊎◌, inl, inr}
-use Rattle.std.specs.Prelude.{All, Option, Some}
+use Rattle.std.specs.Prelude.{All, Err, IfErr, IfOk, IfSome, None, Ok, Option, Result, Some, ◌↔◌}
 use Rattle.std.proofs.lemmas.List.{append-nil, take_all, take_at}
 use Rattle.fugue_ids.specs.declared.limits.TheConstants.{STREAM_LIMIT}
 use Rattle.fugue_ids.specs.declared.op.Op.{Op}
@@ -12,9 +12,11 @@ use Rattle.outer_ports.specs.wire.Wires.{WireView}
 use Rattle.replica_core.specs.Keeping.{TakesIn, Taking}
 use Rattle.replica_core.specs.State.{State}
 use Rattle.replica_core.proofs.KeepingLemmas.{same_taking}
-use Rattle.relay_sync.specs.Outcomes.{BeginsWith, EndsReply, HeardTo, HeardUpTo, HearsTo, IsNoMessage, ReplyEnd, Ended, Refused as EndsRefused, Bad, Cut, TooLong as EndsTooLong, TooMany as EndsTooMany}
+use Rattle.relay_sync.specs.Outcomes.{AnswerIs, AnswersByReply, IsByReply, answer_to, end_of, BeginsWith, EndsReply, HeardTo, HeardUpTo, HearsTo, IsNoMessage, ReplyEnd, Ended, Refused as EndsRefused, Bad, Cut, TooLong as EndsTooLong, TooMany as EndsTooMany}
 use Rattle.relay_sync.specs.Replies.{IsBroken, IsMessage, IsMessageFront}
 use Rattle.relay_sync.specs.Syncing.{HearsPartly, HearsReply, StopsFor}
+use Rattle.relay_sync.specs.declared.synced.Synced.{Synced}
+use Rattle.origin_model.specs.declared.taking.tally.Tally.{Tally}
 use Rattle.relay_sync.specs.declared.message.Message.{Message}
 use Rattle.relay_sync.specs.declared.message.Message.TheVariants.{End, Operation, Refusal}
 use Rattle.relay_sync.specs.declared.sync_fault.SyncFault.{SyncFault}
@@ -164,3 +166,65 @@ heard_behind said old new before after count same h =
 pub up_to_behind : (fault : SyncFault) (said old new : WireView) (before after : Taking) → old.left ≡ said.left → HearsPartly fault old new before after → HeardUpTo fault said.left before after
 up_to_behind fault said old new before after same h =
     subst (λ (told : Option (List ℕ)). HeardUpTo fault told before after) same (reply_up_to fault old new before after h)
+
+-- an answer that the bytes tell comes exactly where they do
+told_exactly : (before : Taking) (bytes : List ℕ) (result : Result Synced SyncFault) → AnswerIs before bytes result → AnswersByReply result before bytes
+told_exactly before bytes result p by answer is = (λ same. subst (AnswerIs before bytes) same p, λ q.
+    let same = reply_same bytes before p.after q.after p.end q.end p.comes q.comes in
+    p.answer_is ∙ (λ i. answer_to (same.0 i) (same.1 i)) ∙ sym q.answer_is)
+
+-- where the bytes decide nothing
+pub undecided_exactly : (fault : SyncFault) (before : Taking) (told : Option (List ℕ)) → (IsByReply (Err fault) → ⊥) → IfSome told (AnswersByReply (Err fault) before)
+undecided_exactly fault before None none = tt
+undecided_exactly fault before (Some bytes) none = λ by. absurd (none by)
+
+-- the answer to what was heard up to a fault
+fault_is : (fault : SyncFault) (end : ReplyEnd) (old new : WireView) (middle after : Taking) (place : ℕ) (bytes : List ℕ) → end_of fault ≡ Some end → StopsFor fault old new middle after place bytes → Err fault ≡ answer_to after end
+fault_is WireFault end old new middle after place bytes is s = absurd (cc is)
+fault_is NoMemory end old new middle after place bytes is s = absurd (cc is)
+fault_is (RelayRefused code) end old new middle after place bytes is s = ap (answer_to after) (cc is)
+fault_is (TooMany most) end old new middle after place bytes is s =
+    ap (λ (n : ℕ). Err (TooMany n)) (s.1 ∙ ap (λ (t : Taking). t.replica.most) (sym s.0)) ∙ ap (answer_to after) (cc is)
+fault_is (BadReply at) end old new middle after place bytes is s = ap (answer_to after) (cc is)
+fault_is (CutShort at) end old new middle after place bytes is s = ap (answer_to after) (cc is)
+fault_is TooLong end old new middle after place bytes is s = ap (answer_to after) (cc is)
+
+heard_exactly : (told : Option (List ℕ)) (before after : Taking) (count : ℕ) → HeardTo told before after (Ended count) → IfSome told (AnswersByReply (Ok (record { tally = after.counts; cursor = count })) before)
+heard_exactly None before after count h = tt
+heard_exactly (Some bytes) before after count h =
+    told_exactly before bytes (Ok (record { tally = after.counts; cursor = count })) (record { after = after; end = Ended count; comes = h; answer_is = refl })
+
+up_to_exactly : (told : Option (List ℕ)) (fault : SyncFault) (before after : Taking) → HeardUpTo fault told before after → ((end : ReplyEnd) → end_of fault ≡ Some end → Err fault ≡ answer_to after end)
+    → (end_of fault ≡ None → IsByReply (Err fault) → ⊥) → IfSome told (AnswersByReply (Err fault) before)
+up_to_exactly told fault before after h is none = by (end_of fault) refl h
+  where
+    told_end : (told : Option (List ℕ)) (end : ReplyEnd) → end_of fault ≡ Some end → HeardTo told before after end → IfSome told (AnswersByReply (Err fault) before)
+    told_end None end so h = tt
+    told_end (Some bytes) end so h = told_exactly before bytes (Err fault) (record { after = after; end = end; comes = h; answer_is = is end so })
+
+    by : (end : Option ReplyEnd) → end_of fault ≡ end → IfSome end (HeardTo told before after) → IfSome told (AnswersByReply (Err fault) before)
+    by None so h = undecided_exactly fault before told (none so)
+    by (Some end) so h = told_end told end so h
+
+decides : (fault : SyncFault) → end_of fault ≡ None → IsByReply (Err fault) → ⊥
+decides WireFault is by = by
+decides NoMemory is by = by
+decides (RelayRefused code) is by = cc is
+decides (TooMany most) is by = cc is
+decides (BadReply at) is by = cc is
+decides (CutShort at) is by = cc is
+decides TooLong is by = cc is
+
+-- what was heard is answered exactly so
+pub hears_exactly : (result : Result Synced SyncFault) (said old new : WireView) (before : Taking) (replica : State) (kept : List Op) → old.left ≡ said.left
+    → IfOk result (λ synced. HearsReply old new before (record { replica = replica; counts = synced.tally; kept = kept }) synced.cursor)
+    → IfErr result (λ fault. (counts : Tally) × HearsPartly fault old new before (record { replica = replica; counts = counts; kept = kept }))
+    → IfSome said.left (AnswersByReply result before)
+hears_exactly (Ok synced) said old new before replica kept same ok err =
+    heard_exactly said.left before (record { replica = replica; counts = synced.tally; kept = kept }) synced.cursor
+    (heard_behind said old new before (record { replica = replica; counts = synced.tally; kept = kept }) synced.cursor same ok)
+hears_exactly (Err fault) said old new before replica kept same ok err =
+    let after : Taking = record { replica = replica; counts = err.0; kept = kept } in
+    let h : HearsPartly fault old new before after = err.1 in
+    up_to_exactly said.left fault before after (up_to_behind fault said old new before after same h)
+    (λ end is. fault_is fault end old new h.middle after (length (frames h.ops)) h.bytes is h.stops) (decides fault)

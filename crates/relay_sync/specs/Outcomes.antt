@@ -1,5 +1,5 @@
 -- What a reply comes to whose operations are taken in, from a state and within limits: how it ends, and what was taken in until then.
-use Rattle.std.specs.Prelude.{◌≡◌, ℕ, ◌<◌, ◌≤◌, All, IfSome, List, ◌++◌, length, take, Option, Some, None}
+use Rattle.std.specs.Prelude.{◌≡◌, ◌↔◌, ℕ, ◌<◌, ◌≤◌, All, IfSome, List, ◌++◌, length, take, Option, Some, None, Result, Ok, Err}
 use Rattle.fugue_ids.specs.declared.limits.TheConstants.{STREAM_LIMIT}
 use Rattle.fugue_ids.specs.declared.op.Op.{Op}
 use Rattle.origin_model.specs.frames.Frames.{HasFrame, frames}
@@ -11,6 +11,7 @@ use Rattle.relay_sync.specs.Syncing.{HearsPartly, HearsReply}
 use Rattle.relay_sync.specs.declared.message.Message.{Message}
 use Rattle.relay_sync.specs.declared.message.Message.TheVariants.{End, Operation, Refusal}
 use Rattle.relay_sync.specs.declared.sync_fault.SyncFault.{SyncFault}
+use Rattle.relay_sync.specs.declared.synced.Synced.{Synced}
 use Rattle.relay_sync.specs.declared.sync_fault.SyncFault.TheVariants as sync_fault
 
 -- how a reply ends
@@ -80,6 +81,32 @@ HeardTo told before after end = IfSome told (λ bytes. HearsTo bytes before afte
 -- the same up to a fault
 abbrev pub HeardUpTo : SyncFault → Option (List ℕ) → (before after : Taking) → Type 0
 HeardUpTo fault told before after = IfSome (end_of fault) (HeardTo told before after)
+
+-- the answer of an exchange whose reply comes to an end, with what was taken in until then
+abbrev pub answer_to : (after : Taking) → ReplyEnd → Result Synced SyncFault
+answer_to after (Ended count) = Ok (record { tally = after.counts; cursor = count })
+answer_to after (Refused code) = Err (sync_fault.RelayRefused code)
+answer_to after (Bad at) = Err (sync_fault.BadReply at)
+answer_to after (Cut at) = Err (sync_fault.CutShort at)
+answer_to after TooLong = Err sync_fault.TooLong
+answer_to after TooMany = Err (sync_fault.TooMany after.replica.most)
+
+-- the reply's bytes decide such an answer: it is no fault of the wire, and no want of memory
+abbrev pub IsByReply : Result Synced SyncFault → Type 0
+IsByReply (Err sync_fault.WireFault) = ⊥
+IsByReply (Err sync_fault.NoMemory) = ⊥
+IsByReply result = Unit {0}
+
+-- the bytes come to the end that is answered so
+pub record AnswerIs (before : Taking) (bytes : List ℕ) (answer : Result Synced SyncFault) : Type 0 where
+  pub after : Taking
+  pub end : ReplyEnd
+  pub comes : HearsTo bytes before after end
+  pub answer_is : answer ≡ answer_to after end
+
+-- each answer comes exactly where the bytes of the reply say so, but for a fault of the wire and want of memory
+abbrev pub AnswersByReply : Result Synced SyncFault → (before : Taking) → List ℕ → Type 0
+AnswersByReply result before bytes = IsByReply result → (answer : Result Synced SyncFault) → IsByReply answer → (result ≡ answer) ↔ AnswerIs before bytes answer
 
 -- all bytes come to exactly one end, and what is heard of them is what they come to
 pub record RepliesComeOnce : Type 0 where

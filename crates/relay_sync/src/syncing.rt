@@ -1,9 +1,9 @@
-ghost use Rattle.std.specs.Prelude.{◌≡◌, ◌≤◌, IfErr, IfOk, OnOk, length};
+ghost use Rattle.std.specs.Prelude.{◌≡◌, ◌≤◌, IfErr, IfOk, IfSome, OnOk, length};
 ghost use Rattle.fugue_ids.specs.declared.limits.TheConstants.{GREATEST_HOLD};
 ghost use Rattle.origin_model.specs.declared.taking.tally.Tally.{Tally as AnyTally};
 ghost use Rattle.origin_model.specs.taking.Taking.{IsSettled};
 ghost use Rattle.replica_core.specs.Keeping.{begun};
-ghost use Rattle.relay_sync.specs.Outcomes.{Ended, HeardTo, HeardUpTo};
+ghost use Rattle.relay_sync.specs.Outcomes.{AnswersByReply, Ended, HeardTo, HeardUpTo};
 ghost use Rattle.relay_sync.specs.Saying.{text_for};
 ghost use Rattle.relay_sync.specs.Syncing.{BlamesWire, Fails, HearsOne, HearsPartly, HearsReply, IsReady, StopsAt, Syncs};
 
@@ -40,6 +40,7 @@ pub fn sync<W: Wire>(
         (record { replica = replica.new; counts = synced.tally; kept = kept.new.items }) (Ended synced.cursor)) }
     ensures up_to { IfErr result (λ fault. (counts : AnyTally) × HeardUpTo fault (W.seen wire.old).left (begun replica.old kept.old.items)
         (record { replica = replica.new; counts = counts; kept = kept.new.items })) }
+    ensures exactly { IfSome (W.seen wire.old).left (λ bytes. AnswersByReply result (begun replica.old kept.old.items) bytes) }
     ensures wire { BlamesWire (length (text_for cursor replica.old.held)) (W.seen wire.old) (W.seen wire.new) result }
 {
     let Ok(text) = text_of(alloc, replica, cursor) else {

@@ -1,7 +1,8 @@
 use Rattle.std.proofs.Common.{inl, ◌∙◌}
 use Rattle.std.proofs.lemmas.Result.{IfErr-weaker, IfOk-weaker}
 use Rattle.origin_model.specs.taking.Taking.{no_counts}
-use Rattle.relay_sync.proofs.HeardLemmas.{heard_behind, up_to_behind}
+use Rattle.relay_sync.proofs.HeardLemmas.{heard_behind, hears_exactly, undecided_exactly, up_to_behind}
+use Rattle.relay_sync.specs.declared.sync_fault.SyncFault.TheVariants.{NoMemory, WireFault}
 use Rattle.relay_sync.proofs.SyncingLemmas.{fails_at_once, fails_to_say}
 use Rattle.relay_sync.proofs.syncing.sync.Goals as goal
 
@@ -17,3 +18,13 @@ returns-clause-reply g c = IfOk-weaker c.hear.result _ _ (λ synced h. heard_beh
 
 pub returns-clause-up_to : goal.returns-clause-up_to
 returns-clause-up_to g c = IfErr-weaker c.hear.result _ _ (λ fault h. (h.0, up_to_behind fault (g.W.Wire.seen c.args.wire.now) (g.W.Wire.seen c.say.new.wire) _ _ _ c.say.ensures.left h.1)) c.hear.ensures.err
+
+pub returns-in_default-clause-exactly : goal.returns-in_default-clause-exactly
+returns-in_default-clause-exactly g c = undecided_exactly NoMemory _ (g.W.Wire.seen c.args.wire.now).left (λ by. by)
+
+pub returns-in_default-say-clause-exactly : goal.returns-in_default-say-clause-exactly
+returns-in_default-say-clause-exactly g c = undecided_exactly WireFault _ (g.W.Wire.seen c.args.wire.now).left (λ by. by)
+
+pub returns-clause-exactly : goal.returns-clause-exactly
+returns-clause-exactly g c =
+    hears_exactly c.hear.result (g.W.Wire.seen c.args.wire.now) (g.W.Wire.seen c.say.new.wire) _ _ _ _ c.say.ensures.left c.hear.ensures.ok c.hear.ensures.err
