@@ -8,7 +8,7 @@ use Rattle.origin_model.specs.relay.Relay.{Relay, new_relay}
 use Rattle.outer_ports.specs.dock.Docks.{DockView, out_to}
 use Rattle.outer_ports.specs.declared.dock.mem_step.MemStep.{MemStep}
 use Rattle.relay_core.specs.declared.relay.TheConstants.{MOST_LOGGED}
-use Rattle.relay_sync.specs.Serving.{BlamesDock, Comes, GaveSteps, Lasts, NoneAfter, Serves, ServesPartly, ServingStops, Spends, StopsInTurn, Suffices, Turn, closed_in, count_over, ends_behind, sent_to, steps_of}
+use Rattle.relay_sync.specs.Serving.{BlamesDock, Comes, GaveSteps, Lasts, NoneAfter, Serves, ServesPartly, ServingStops, Spends, StopsInTurn, Suffices, Turn, closed_in, count_over, ended_in, ends_behind, sent_to, steps_of}
 use Rattle.relay_sync.specs.declared.serve_fault.ServeFault.{ServeFault}
 use Rattle.relay_sync.specs.declared.serve_fault.ServeFault.TheVariants as serve_fault
 use Rattle.manuscript_cli.specs.Printing.{NoteMeets}
@@ -55,6 +55,7 @@ module _ (first second last : DockView) (idle : IsIdle first second) (later : fi
     gave = gave_from (steps_of turns) serves.gave;
     sent = λ session. took_from session (sent_to session turns) (serves.sent session);
     ended = serves.ended ∙ ap (option_map (λ ended. ended ++ closed_in turns)) idle.ended;
+    ended_at = serves.ended_at ∙ (λ i. ended_in (λ session. idle.nothing_sent.sent session i) (idle.ended_at i) turns);
     ends = serves.ends ∙ ap (ends_behind (closed_in turns)) idle.ends;
     port = serves.port ∙ idle.port;
     later = omega (arith, later, serves.later);

@@ -41,6 +41,7 @@ pub record IsIdle (old new : DockView) : Type 0 where
   pub nothing_taken : TakesNothing old new
   pub nothing_sent : SendsNothing old new
   pub ended : new.ended ≡ old.ended
+  pub ended_at : new.ended_at ≡ old.ended_at
   pub ends : new.ends ≡ old.ends
   pub calm : CallsAreSure old → new.faults ≡ old.faults
 

@@ -169,9 +169,12 @@ up_to_behind fault said old new before after same h =
 
 -- an answer that the bytes tell comes exactly where they do
 told_exactly : (before : Taking) (bytes : List ℕ) (result : Result Synced SyncFault) → AnswerIs before bytes result → AnswersByReply result before bytes
-told_exactly before bytes result p by answer is = (λ same. subst (AnswerIs before bytes) same p, λ q.
-    let same = reply_same bytes before p.after q.after p.end q.end p.comes q.comes in
-    p.answer_is ∙ (λ i. answer_to (same.0 i) (same.1 i)) ∙ sym q.answer_is)
+told_exactly before bytes result p by answer is = (
+  λ same. subst (AnswerIs before bytes) same p,
+  λ q.
+      let same = reply_same bytes before p.after q.after p.end q.end p.comes q.comes in
+      p.answer_is ∙ (λ i. answer_to (same.0 i) (same.1 i)) ∙ sym q.answer_is,
+)
 
 -- where the bytes decide nothing
 pub undecided_exactly : (fault : SyncFault) (before : Taking) (told : Option (List ℕ)) → (IsByReply (Err fault) → ⊥) → IfSome told (AnswersByReply (Err fault) before)

@@ -1,6 +1,7 @@
 pub mod ServingLemmas
 pub mod SendingLemmas
 pub mod OverLemmas
+pub mod CountLemmas
 pub mod HearingLemmas
 pub mod SayingLemmas
 pub mod SyncingLemmas

@@ -8,7 +8,7 @@ use Rattle.fugue_ids.proofs.JoinLemmas.{call_grows, call_stops, text_none, took_
 use Rattle.origin_model.specs.declared.relay.reply.Reply.{Reply}
 use Rattle.outer_ports.specs.declared.dock.dock_step.DockStep.{DockStep}
 use Rattle.outer_ports.specs.declared.dock.mem_step.MemStep.{MemStep}
-use Rattle.outer_ports.specs.dock.Docks.{DockView, Ends, Sends, Takes, out_to}
+use Rattle.outer_ports.specs.dock.Docks.{DockView, Ends, Sends, Takes, ended_behind, out_to}
 use Rattle.outer_ports.specs.dock.Steps.{with_bytes}
 use Rattle.relay_sync.specs.Sending.{GivesSteps, LastsFor, Replied, RepliedPartly, SendsText}
 use Rattle.relay_sync.specs.Serving.{bytes_to, closed_by, ends_behind, Spends}
@@ -17,12 +17,12 @@ use Rattle.relay_sync.specs.declared.serve_fault.ServeFault.TheVariants.{DockFau
 -- a step that was taken
 pub takes_gives : {E : Type 0} (old new : DockView) (step : DockStep) (buf : List ℕ) → Takes {E = E} old new (Ok step) buf → GivesSteps old new (with_bytes step buf ∷ [])
 takes_gives old new step buf h =
-    record { gave = record { taken = h.taken; comes = (new.coming, h.came, refl) }; nothing_sent = h.nothing_sent; ended = h.ended; ends = h.ends; port = h.port; later = h.count.cause.later }
+    record { gave = record { taken = h.taken; comes = (new.coming, h.came, refl) }; nothing_sent = h.nothing_sent; ended = h.ended; ended_at = h.ended_at; ends = h.ends; port = h.port; later = h.count.cause.later }
 
 -- nothing was sent yet
 pub sends_none : {E T : Type 0} (x : T) (dock : DockView) (session : ℕ) → SendsText {E = E} {T = T} dock dock (Ok x) session []
 sends_none {E} {T} x dock session =
-    record { writes = text_none {E = E} {T = T} x (out_to session dock); others = λ other apart. (refl, refl); nothing_taken = record { taken = refl; coming = refl }; port = refl; ended = refl; ends = refl }
+    record { writes = text_none {E = E} {T = T} x (out_to session dock); others = λ other apart. (refl, refl); nothing_taken = record { taken = refl; coming = refl }; port = refl; ended = refl; ended_at = refl; ends = refl }
 
 -- one call more
 pub sends_grow : {E T : Type 0} (x : T) (u v w : DockView) (session : ℕ) (piece : List ℕ) (at n : ℕ) → SendsText {E = E} {T = T} u v (Ok x) session (take at piece)
@@ -33,6 +33,7 @@ sends_grow {E} {T} x u v w session piece at n s t = record {
   nothing_taken = record { taken = t.nothing_taken.taken ∙ s.nothing_taken.taken; coming = t.nothing_taken.coming ∙ s.nothing_taken.coming };
   port = t.port ∙ s.port;
   ended = t.ended ∙ s.ended;
+  ended_at = t.ended_at ∙ s.ended_at;
   ends = t.ends ∙ s.ends;
 }
 
@@ -44,6 +45,7 @@ sends_stop {E} {T} {S} x e u v w session piece at below s t = record {
   nothing_taken = record { taken = t.nothing_taken.taken ∙ s.nothing_taken.taken; coming = t.nothing_taken.coming ∙ s.nothing_taken.coming };
   port = t.port ∙ s.port;
   ended = t.ended ∙ s.ended;
+  ended_at = t.ended_at ∙ s.ended_at;
   ends = t.ends ∙ s.ends;
 }
 
@@ -96,6 +98,7 @@ pub replied_on : {E T : Type 0} (x : T) (u v : DockView) (reply : Reply) → rep
 replied_on {E} {T} x u v reply on s = record {
   sent = each Took u v reply s.writes.ok (λ other apart. took_none (out_to other u) (out_to other v) (s.others other apart).0 (s.others other apart).1);
   ended = rw on (s.ended ∙ grows_none u.ended);
+  ended_at = s.ended_at ∙ ap (λ (b : Bool). if b then ended_behind u.ended_at (v.sent reply.session) else u.ended_at) (sym on);
   ends = rw on (s.ends ∙ ends_none u.ends);
   nothing_taken = s.nothing_taken;
   port = s.port;
@@ -111,6 +114,8 @@ replied_ended {E} {T} {F} {S} x y u v w reply closes s t = record {
       (record { written = t.nothing_sent.sent reply.session ∙ s.writes.ok.written; room = t.nothing_sent.room reply.session ∙ s.writes.ok.room })
       (λ other apart. took_none (out_to other u) (out_to other w) (t.nothing_sent.sent other ∙ (s.others other apart).0) (t.nothing_sent.room other ∙ (s.others other apart).1));
   ended = rw closes (t.ended ∙ ap (option_map (λ ended. ended ++ reply.session ∷ [])) s.ended);
+  ended_at = t.ended_at ∙ (λ i. ended_behind (s.ended_at i) (sym (t.nothing_sent.sent reply.session) i))
+      ∙ ap (λ (b : Bool). if b then ended_behind u.ended_at (w.sent reply.session) else u.ended_at) (sym closes);
   ends = rw closes (t.ends ∙ ap (option_map (λ ends. ends - 1)) s.ends);
   nothing_taken = record { taken = t.nothing_taken.taken ∙ s.nothing_taken.taken; coming = t.nothing_taken.coming ∙ s.nothing_taken.coming };
   port = t.port ∙ s.port;
@@ -160,6 +165,7 @@ pub replied_none : (dock : DockView) → Replied dock dock None
 replied_none dock = record {
   sent = λ session. took_none (out_to session dock) (out_to session dock) refl refl;
   ended = grows_none dock.ended;
+  ended_at = refl;
   ends = ends_none dock.ends;
   nothing_taken = record { taken = refl; coming = refl };
   port = refl;
@@ -191,6 +197,7 @@ takes_none e old new buf h = (
     gave = record { taken = h.kept.taken ∙ grows_none old.taken; comes = h.kept.coming };
     nothing_sent = h.nothing_sent;
     ended = h.ended;
+    ended_at = h.ended_at;
     ends = h.ends;
     port = h.port;
     later = h.count.cause.later;

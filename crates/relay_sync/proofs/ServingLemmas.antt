@@ -1,6 +1,7 @@
 -- Turns of serving one behind the other, whole and up to a fault.
 use Rattle.std.proofs.Common.{[], List, ap, append_assoc, arith, length, inl, inr, length-append, refl, subst, sym, take, ℕ, ◌+◌, ◌++◌, ◌<◌, ◌≤◌, ◌∙◌, ◌∷◌, ◌-◌, ◌≡◌, ◌≢◌, ◌⊎◌}
 use Rattle.std.specs.Prelude.{IfSome, None, Option, Some, map, option_map}
+use Rattle.std.specs.Io.KnownBytes.{append_known}
 use Rattle.std.proofs.str.Laws.{order}
 use Rattle.std.proofs.Math.Seq.{take-append-add, take-append_seam}
 use Rattle.std.proofs.lemmas.List.{append-nil, map-append, take-append-le, take_all}
@@ -13,7 +14,7 @@ use Rattle.origin_model.proofs.SharedLemmas.{runs-append, step_runs}
 use Rattle.outer_ports.specs.dock.Docks.{DockView, SendsNothing, TakesNothing, out_to}
 use Rattle.outer_ports.specs.declared.dock.mem_step.MemStep.{MemStep}
 use Rattle.relay_sync.specs.Sending.{GivesSteps, LastsFor, Replied, RepliedPartly}
-use Rattle.relay_sync.specs.Serving.{Comes, GaveSteps, HasRoomFor, Lasts, NoneAfter, Serves, ServesPartly, ServingStops, Spends, ends_behind, Turn, TurnStops, bytes_to, closed_by, closed_in, count_over, event_of, over_after, replies_of, sent_to, steps_of}
+use Rattle.relay_sync.specs.Serving.{Comes, ended_in, ended_with, GaveSteps, HasRoomFor, Lasts, NoneAfter, Serves, ServesPartly, ServingStops, Spends, ends_behind, Turn, TurnStops, bytes_to, closed_by, closed_in, count_over, event_of, over_after, replies_of, sent_to, steps_of}
 use Rattle.relay_sync.specs.declared.serve_fault.ServeFault.{ServeFault}
 use Rattle.relay_sync.specs.declared.serve_fault.ServeFault.TheVariants.{DockFault, NoMemory, TooLong}
 use Rattle.relay_sync.proofs.SendingLemmas.{ends_none, sure_is}
@@ -117,6 +118,24 @@ spends_none DockFault more x y other same = absurd (other refl)
 spends_none TooLong more x y other same = same
 spends_none NoMemory more x y other same = same
 
+-- what a session was sent in two parts
+known_twice : (known : Option (List ℕ)) (a b : List ℕ) → append_known (append_known known a) b ≡ append_known known (a ++ b)
+known_twice None a b = refl
+known_twice (Some xs) a b = ap Some (append_assoc xs a b)
+
+known_none : (known : Option (List ℕ)) → known ≡ append_known known []
+known_none None = refl
+known_none (Some xs) = ap Some (sym (append-nil xs))
+
+-- turns behind turns, by what was sent in those before
+ended-append : (sent : ℕ → Option (List ℕ)) (counts : Option (List ℕ)) (us vs : List Turn)
+    → ended_in sent counts (us ++ vs) ≡ ended_in (λ session. append_known (sent session) (sent_to session us)) (ended_in sent counts us) vs
+ended-append sent counts [] vs = λ i. ended_in (λ session. known_none (sent session) i) counts vs
+ended-append sent counts (u ∷ us) vs =
+    let now : ℕ → Option (List ℕ) = λ session. append_known (sent session) (bytes_to session u.reply) in
+    let behind : Option (List ℕ) = ended_with now u.reply counts in
+    ended-append now behind us vs ∙ (λ i. ended_in (λ session. known_twice (sent session) (bytes_to session u.reply) (sent_to session us) i) (ended_in now behind us) vs)
+
 -- nothing was served yet
 pub serves_none : (relay : Relay) (dock : DockView) → Serves relay relay dock dock []
 serves_none relay dock = record {
@@ -124,6 +143,7 @@ serves_none relay dock = record {
   gave = gave_none dock dock (record { taken = refl; coming = refl });
   sent = λ session. took_none (out_to session dock) (out_to session dock) refl refl;
   ended = grows_none dock.ended;
+  ended_at = refl;
   ends = ends_none dock.ends;
   port = refl;
   later = omega arith;
@@ -137,6 +157,7 @@ serves-append a b c x y z us vs h i = record {
   gave = rw (turns-append us vs) (gave-append x y z (steps_of us) (steps_of vs) h.gave i.gave);
   sent = λ session. rw (sent-append session us vs) (took_joins (out_to session x) (out_to session y) (out_to session z) (sent_to session us) (sent_to session vs) (h.sent session) (i.sent session));
   ended = rw (closed-append us vs) (i.ended ∙ ap (option_map (λ ended. ended ++ closed_in vs)) h.ended ∙ grows_twice x.ended (closed_in us) (closed_in vs));
+  ended_at = i.ended_at ∙ (λ j. ended_in (λ session. (h.sent session).written j) (h.ended_at j) vs) ∙ sym (ended-append x.sent x.ended_at us vs);
   ends = rw (closed-append us vs) (i.ends ∙ ap (ends_behind (closed_in vs)) h.ends ∙ ends_twice x.ends (closed_in us) (closed_in vs));
   port = i.port ∙ h.port;
   later = omega (arith, h.later, i.later);
@@ -205,6 +226,7 @@ turn_serves a b x y z step reply g sure s r = record {
       rw (append-nil (bytes_to session reply))
       (took_joins (out_to session x) (out_to session y) (out_to session z) [] (bytes_to session reply) (sent_after x y g.nothing_sent session) (r.sent session));
   ended = rw (append-nil (closed_by reply)) (r.ended ∙ ap (option_map (λ ended. ended ++ closed_by reply)) g.ended);
+  ended_at = r.ended_at ∙ (λ j. ended_with (λ session. ((r.sent session).written ∙ ap (λ (known : Option (List ℕ)). append_known known (bytes_to session reply)) (g.nothing_sent.sent session)) j) reply (g.ended_at j));
   ends = rw (append-nil (closed_by reply)) (r.ends ∙ ap (ends_behind (closed_by reply)) g.ends);
   port = r.port ∙ g.port;
   later = omega (arith, g.later, r.later);

@@ -1,5 +1,5 @@
 -- A relay's reply as it is heard: message by message, each at its last byte.
-use Rattle.std.specs.Prelude.{◌≡◌, ℕ, ◌+◌, ◌<◌, ◌≤◌, List, [], ◌∷◌, ◌++◌, length, is_some, true, IfSome}
+use Rattle.std.specs.Prelude.{◌≡◌, ℕ, ◌+◌, ◌<◌, ◌≤◌, List, [], ◌∷◌, ◌++◌, length, is_some, true, IfSome, Result, Ok, Err}
 use Rattle.std.specs.Int.{from_be_bytes, w32}
 use Rattle.std.specs.Io.KnownBytes.{prepend_known}
 use Rattle.fugue_ids.specs.Causes.{Rose}
@@ -7,7 +7,7 @@ use Rattle.fugue_ids.specs.declared.limits.TheConstants.{STREAM_LIMIT}
 use Rattle.fugue_ids.specs.declared.op.Op.{Op}
 use Rattle.origin_model.specs.frames.Frames.{IsFrame}
 use Rattle.origin_model.specs.relay.Session.{refusal}
-use Rattle.outer_ports.specs.wire.Wires.{WireView}
+use Rattle.outer_ports.specs.wire.Wires.{WireTells, WireView}
 use Rattle.relay_sync.specs.declared.message.Message.{Message}
 use Rattle.relay_sync.specs.declared.message.Message.TheVariants.{End, Operation, Refusal}
 use Rattle.relay_sync.specs.declared.sync_fault.SyncFault.{SyncFault}
@@ -85,3 +85,13 @@ pub record Whole (message : Message) (old new : WireView) (place heard : ℕ) (b
   pub is_message : IsMessage message (before ++ bytes)
   pub count : heard ≡ place + length (before ++ bytes)
   pub within : heard ≤ STREAM_LIMIT
+
+-- On a wire that tells, the count of faults rises only where the wire is blamed: no call that failed is made once more, and none is told as another fault.
+pub record WireRisesFor (blamed : Type 0) (old new : WireView) : Type 0 where
+  pub tells : WireTells old → WireTells new
+  pub calm_told : WireTells old → (blamed → ⊥) → new.faults ≡ old.faults
+
+-- the answer blames the wire
+abbrev pub IsWireFault : {T : Type 0} → Result T SyncFault → Type 0
+IsWireFault (Ok x) = ⊥
+IsWireFault (Err fault) = fault ≡ WireFault

@@ -1,10 +1,10 @@
 -- What one step of serving does to a dock: a step is taken, and a reply is sent.
-use Rattle.std.specs.Prelude.{◌≡◌, ◌≢◌, ℕ, ◌≤◌, List, Result, Option, option_map, ◌++◌}
+use Rattle.std.specs.Prelude.{◌≡◌, ◌≢◌, ℕ, ◌≤◌, List, Result, Ok, Err, Option, option_map, ◌++◌}
 use Rattle.fugue_ids.specs.Outs.{Took, TookFront, WritesText}
 use Rattle.origin_model.specs.declared.relay.reply.Reply.{Reply}
-use Rattle.outer_ports.specs.dock.Docks.{DockView, SendsNothing, TakesNothing, out_to}
+use Rattle.outer_ports.specs.dock.Docks.{DockTells, DockView, SendsNothing, TakesNothing, out_to}
 use Rattle.outer_ports.specs.declared.dock.mem_step.MemStep.{MemStep}
-use Rattle.relay_sync.specs.Serving.{EndedFront, GaveSteps, HasRoomFor, bytes_to, closed_by, ends_behind}
+use Rattle.relay_sync.specs.Serving.{EndedFront, GaveSteps, HasRoomFor, bytes_to, closed_by, ended_with, ends_behind}
 use Rattle.relay_sync.specs.declared.serve_fault.ServeFault.{ServeFault}
 use Rattle.relay_sync.specs.declared.serve_fault.ServeFault.TheVariants.{DockFault}
 
@@ -13,6 +13,7 @@ pub record GivesSteps (old new : DockView) (steps : List MemStep) : Type 0 where
   pub gave : GaveSteps old new steps
   pub nothing_sent : SendsNothing old new
   pub ended : new.ended ≡ old.ended
+  pub ended_at : new.ended_at ≡ old.ended_at
   pub ends : new.ends ≡ old.ends
   pub port : new.port ≡ old.port
   pub later : old.faults ≤ new.faults
@@ -24,16 +25,18 @@ pub record SendsText {E T : Type 0} (old new : DockView) (result : Result T E) (
   pub nothing_taken : TakesNothing old new
   pub port : new.port ≡ old.port
   pub ended : new.ended ≡ old.ended
+  pub ended_at : new.ended_at ≡ old.ended_at
   pub ends : new.ends ≡ old.ends
 
 -- the dock lasts for a reply
 abbrev pub LastsFor : DockView → Option Reply → Type 0
 LastsFor dock reply = HasRoomFor dock (λ session. bytes_to session reply) (closed_by reply)
 
--- the reply was sent whole, to its session alone, which is ended where the reply closes it
+-- the reply was sent whole, to its session alone, which is ended behind all of it where the reply closes it
 pub record Replied (old new : DockView) (reply : Option Reply) : Type 0 where
   pub sent : (session : ℕ) → Took (out_to session old) (out_to session new) (bytes_to session reply)
   pub ended : new.ended ≡ option_map (λ ended. ended ++ closed_by reply) old.ended
+  pub ended_at : new.ended_at ≡ ended_with new.sent reply old.ended_at
   pub ends : new.ends ≡ ends_behind (closed_by reply) old.ends
   pub nothing_taken : TakesNothing old new
   pub port : new.port ≡ old.port
@@ -50,3 +53,13 @@ pub record RepliedPartly (fault : ServeFault) (old new : DockView) (reply : Opti
   -- a dock that lasts for the reply is not what failed
   pub sure : LastsFor old reply → fault ≢ DockFault
   pub calm : LastsFor old reply → new.faults ≡ old.faults
+
+-- On a dock that tells, the count of faults rises only where the dock is blamed: no call that failed is made once more, and none is told as another fault.
+pub record DockRisesFor (blamed : Type 0) (old new : DockView) : Type 0 where
+  pub tells : DockTells old → DockTells new
+  pub calm_told : DockTells old → (blamed → ⊥) → new.faults ≡ old.faults
+
+-- the answer blames the dock
+abbrev pub IsDockFault : {T : Type 0} → Result T ServeFault → Type 0
+IsDockFault (Ok x) = ⊥
+IsDockFault (Err fault) = fault ≡ DockFault

@@ -1,11 +1,12 @@
 -- What serving does: the steps that a dock gives are given to a relay, and its replies are sent.
 use Rattle.std.specs.Prelude.{◌≡◌, ◌≢◌, Result, Err, ℕ, ◌+◌, ◌<◌, ◌≤◌, List, [], ◌∷◌, ◌++◌, length, take, flat_map, map, nat_eq, if◌then◌else◌, Option, Some, None, IfSome, option_map, ◌-◌}
+use Rattle.std.specs.Io.KnownBytes.{append_known}
 use Rattle.fugue_ids.specs.Outs.{Took, TookFront}
 use Rattle.origin_model.specs.declared.relay.event.Event.{Event}
 use Rattle.origin_model.specs.declared.relay.event.Event.TheVariants as event
 use Rattle.origin_model.specs.declared.relay.reply.Reply.{Reply}
 use Rattle.origin_model.specs.relay.Relay.{Relay, Runs}
-use Rattle.outer_ports.specs.dock.Docks.{DockView, out_to}
+use Rattle.outer_ports.specs.dock.Docks.{DockView, ended_behind, out_to}
 use Rattle.outer_ports.specs.dock.Steps.{GivesSome}
 use Rattle.outer_ports.specs.declared.dock.mem_step.MemStep.{MemStep}
 use Rattle.outer_ports.specs.declared.dock.mem_step.MemStep.TheVariants.{Opened, Bytes, Gone}
@@ -94,6 +95,18 @@ Lasts dock turns = HasRoomFor dock (λ session. sent_to session turns) (closed_i
 abbrev pub ends_behind : List ℕ → Option ℕ → Option ℕ
 ends_behind closed ends = option_map (λ ends. ends - length closed) ends
 
+-- the session that a reply closes is ended with all that it was sent until then: how many bytes
+abbrev pub ended_with : (sent : ℕ → Option (List ℕ)) → Option Reply → Option (List ℕ) → Option (List ℕ)
+ended_with sent None counts = counts
+ended_with sent (Some reply) counts = if reply.closes then ended_behind counts (sent reply.session) else counts
+
+-- the same turn by turn, from what each session was sent before
+abbrev pub ended_in : (sent : ℕ → Option (List ℕ)) → Option (List ℕ) → List Turn → Option (List ℕ)
+ended_in sent counts [] = counts
+ended_in sent counts (turn ∷ turns) =
+    let now : ℕ → Option (List ℕ) = λ session. append_known (sent session) (bytes_to session turn.reply) in
+    ended_in now (ended_with now turn.reply counts) turns
+
 -- with a fault of the dock the relay was given each step, and none was left; with another the count of faults stays
 abbrev pub Spends : ServeFault → (more : List MemStep) → (old new : DockView) → Type 0
 Spends DockFault more old new = (more ≡ []) × IfSome new.coming (λ coming. coming ≡ [])
@@ -105,6 +118,8 @@ pub record Serves (old_relay new_relay : Relay) (old new : DockView) (turns : Li
   pub gave : GaveSteps old new (steps_of turns)
   pub sent : (session : ℕ) → Took (out_to session old) (out_to session new) (sent_to session turns)
   pub ended : new.ended ≡ option_map (λ ended. ended ++ closed_in turns) old.ended
+  -- nothing is sent to a session once its closing reply was sent and it was ended, and it is not ended before
+  pub ended_at : new.ended_at ≡ ended_in old.sent old.ended_at turns
   pub ends : new.ends ≡ ends_behind (closed_in turns) old.ends
   pub port : new.port ≡ old.port
   pub later : old.faults ≤ new.faults

@@ -2,7 +2,7 @@ ghost use Rattle.std.specs.Prelude.{◌≡◌, ◌≢◌, ◌+◌, ◌≤◌, �
 ghost use Rattle.fugue_ids.specs.declared.op.Op.{Op as AnyOp};
 ghost use Rattle.origin_model.specs.frames.Frames.{IsFrame};
 ghost use Rattle.op_frame.specs.FrameFronts.{IsFrameOf};
-ghost use Rattle.relay_sync.specs.Replies.{Hears, IsMessageFront, Stops, Whole};
+ghost use Rattle.relay_sync.specs.Replies.{Hears, IsMessageFront, IsWireFault, Stops, Whole, WireRisesFor};
 ghost use Rattle.relay_sync.specs.declared.message.Message.TheVariants.{Operation};
 ghost use Rattle.relay_sync.specs.declared.sync_fault.SyncFault.TheVariants.{NoMemory as WantsMemory};
 
@@ -28,6 +28,7 @@ pub(crate) fn next_message<W: Wire>(
     requires { heard.old ≤ STREAM_LIMIT }
     ensures ok { IfOk result (λ message. Whole message (W.seen wire.old) (W.seen wire.new) heard.old heard.new []) }
     ensures err { IfErr result (λ fault. Stops fault (W.seen wire.old) (W.seen wire.new) heard.old []) }
+    ensures told { WireRisesFor (IsWireFault result) (W.seen wire.old) (W.seen wire.new) }
 {
     let place = *heard;
     let first = next_byte(wire, heard, place)?;
@@ -45,6 +46,7 @@ fn next_byte<W: Wire>(wire: &mut W, heard: &mut u64, place: u64) -> Result<u8, S
     ensures count { IfOk result (λ byte. heard.new ≡ heard.old + 1) }
     ensures within { IfOk result (λ byte. heard.new ≤ STREAM_LIMIT) }
     ensures err { IfErr result (λ fault. (before : List ℕ) → IsMessageFront before → place + length before ≡ heard.old → Stops fault (W.seen wire.old) (W.seen wire.new) place before) }
+    ensures told { WireRisesFor (IsWireFault result) (W.seen wire.old) (W.seen wire.new) }
 {
     let mut buffer = [0];
     let Ok(count) = wire.read(&mut buffer) else {
@@ -66,6 +68,7 @@ fn next_number<W: Wire>(wire: &mut W, heard: &mut u64, place: u64) -> Result<Mes
     requires count { heard.old ≡ place + 1 }
     ensures ok { IfOk result (λ message. Whole message (W.seen wire.old) (W.seen wire.new) place heard.new (END ∷ [])) }
     ensures err { IfErr result (λ fault. Stops fault (W.seen wire.old) (W.seen wire.new) place (END ∷ [])) }
+    ensures told { WireRisesFor (IsWireFault result) (W.seen wire.old) (W.seen wire.new) }
 {
     let a = next_byte(wire, heard, place)?;
     let b = next_byte(wire, heard, place)?;
@@ -80,6 +83,7 @@ fn next_code<W: Wire>(wire: &mut W, heard: &mut u64, place: u64) -> Result<Messa
     requires count { heard.old ≡ place + 1 }
     ensures ok { IfOk result (λ message. Whole message (W.seen wire.old) (W.seen wire.new) place heard.new (REFUSAL ∷ [])) }
     ensures err { IfErr result (λ fault. Stops fault (W.seen wire.old) (W.seen wire.new) place (REFUSAL ∷ [])) }
+    ensures told { WireRisesFor (IsWireFault result) (W.seen wire.old) (W.seen wire.new) }
 {
     let code = next_byte(wire, heard, place)?;
     if code == 0 || code > 3 {
@@ -102,6 +106,7 @@ fn next_frame<W: Wire>(
     requires no_refusal { first ≢ REFUSAL }
     ensures ok { IfOk result (λ message. Whole message (W.seen wire.old) (W.seen wire.new) place heard.new (first ∷ [])) }
     ensures err { IfErr result (λ fault. Stops fault (W.seen wire.old) (W.seen wire.new) place (first ∷ [])) }
+    ensures told { WireRisesFor (IsWireFault result) (W.seen wire.old) (W.seen wire.new) }
 {
     let mut front = FrameFront::new();
     let mut byte = first;

@@ -1,5 +1,6 @@
-ghost use Rattle.std.specs.Prelude.{◌≡◌, IfOk};
+ghost use Rattle.std.specs.Prelude.{◌≡◌, IfOk, IsErr};
 ghost use Rattle.replica_core.specs.State.{Stands};
+ghost use Rattle.relay_sync.specs.Replies.{WireRisesFor};
 ghost use Rattle.relay_sync.specs.Saying.{SaysText, SaysTo, text_for};
 
 use fugue_ids::{Failed, NoMemory};
@@ -31,7 +32,8 @@ pub(crate) fn text_of(alloc: Global, replica: &Replica, cursor: u32) -> Result<V
 
 /// Says the whole text to whoever listens on the port, or fails with a front of it said.
 pub(crate) fn say<W: Wire>(wire: &mut W, port: u16, text: &[u8]) -> Result<(), Failed>
-    ensures { SaysTo (W.seen wire.old) (W.seen wire.new) result port text.now }
+    ensures says { SaysTo (W.seen wire.old) (W.seen wire.new) result port text.now }
+    ensures told { WireRisesFor (IsErr result) (W.seen wire.old) (W.seen wire.new) }
 {
     wire.dial(port)?;
     say_whole(wire, text)
@@ -39,7 +41,8 @@ pub(crate) fn say<W: Wire>(wire: &mut W, port: u16, text: &[u8]) -> Result<(), F
 
 /// Says the whole piece, or fails with a front of it said.
 fn say_whole<W: Wire>(wire: &mut W, piece: &[u8]) -> Result<(), Failed>
-    ensures { SaysText (W.seen wire.old) (W.seen wire.new) result piece.now }
+    ensures says { SaysText (W.seen wire.old) (W.seen wire.new) result piece.now }
+    ensures told { WireRisesFor (IsErr result) (W.seen wire.old) (W.seen wire.new) }
 {
     let mut at = 0;
     while at < piece.len() {

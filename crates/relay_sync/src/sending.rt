@@ -1,7 +1,7 @@
-ghost use Rattle.std.specs.Prelude.{OnErr, OnOk, Some};
+ghost use Rattle.std.specs.Prelude.{IsErr, OnErr, OnOk, Some};
 ghost use Rattle.fugue_ids.specs.Causes.{HasCause};
 ghost use Rattle.relay_sync.specs.declared.serve_fault.ServeFault.TheVariants.{DockFault as AtDock};
-ghost use Rattle.relay_sync.specs.Sending.{Replied, RepliedPartly, SendsText};
+ghost use Rattle.relay_sync.specs.Sending.{DockRisesFor, Replied, RepliedPartly, SendsText};
 
 use fugue_ids::Failed;
 use outer_ports::Dock;
@@ -11,6 +11,7 @@ use relay_core::Reply;
 pub(crate) fn send_reply<D: Dock>(dock: &mut D, reply: &Reply) -> Result<(), Failed>
     ensures ok { OnOk result (Replied (D.seen dock.old) (D.seen dock.new) (Some reply.now)) }
     ensures err { OnErr result (RepliedPartly AtDock (D.seen dock.old) (D.seen dock.new) (Some reply.now)) }
+    ensures told { DockRisesFor (IsErr result) (D.seen dock.old) (D.seen dock.new) }
     ensures cause { HasCause (D.seen dock.old).faults (D.seen dock.new).faults result }
 {
     send_whole(dock, reply.session, reply.bytes.as_slice())?;

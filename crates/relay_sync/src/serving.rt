@@ -4,7 +4,7 @@ ghost use Rattle.relay_core.specs.Sessions.{listed};
 ghost use Rattle.origin_model.specs.declared.relay.reply.Reply.{Reply as AnyReply};
 ghost use Rattle.std.specs.Prelude.{Option as Maybe};
 ghost use Rattle.relay_sync.specs.Over.{IsOver};
-ghost use Rattle.relay_sync.specs.Sending.{Replied, RepliedPartly};
+ghost use Rattle.relay_sync.specs.Sending.{DockRisesFor, IsDockFault, Replied, RepliedPartly};
 ghost use Rattle.relay_sync.specs.Serving.{BlamesDock, NoneAfter, Serves, ServingStops, Turn, TurnStops, count_over, event_of as event_by, over_after, with_closed, with_gone, with_number};
 ghost use Rattle.relay_sync.specs.declared.serve_fault.ServeFault.TheVariants.{DockFault as AtDock, TooLong as TakesTooLong};
 
@@ -34,6 +34,7 @@ pub fn serve<B: BuildHasher, D: Dock>(
         × (count_over turns < sessions) × NoneAfter sessions turns × (length turns ≡ steps) }
     ensures partly { IfErr result (λ fault. ServingStops sessions steps fault relay.old relay.new (D.seen dock.old) (D.seen dock.new)) }
     ensures dock_fault { result ≡ Err AtDock → Rose (D.seen dock.old).faults (D.seen dock.new).faults }
+    ensures told { DockRisesFor (IsDockFault result) (D.seen dock.old) (D.seen dock.new) }
     ensures dock { BlamesDock sessions relay.old (D.seen dock.old) (D.seen dock.new) result }
 {
     let mut over = BTreeSet::new(alloc);
@@ -59,6 +60,7 @@ fn serve_step<B: BuildHasher, D: Dock>(
         × ((sessions : List ℕ) → IsOver over.old sessions → IsOver over.new (over_after sessions (turn ∷ [])))) }
     ensures partly { IfErr result (λ fault. TurnStops fault relay.old relay.new (D.seen dock.old) (D.seen dock.new)) }
     ensures dock_fault { result ≡ Err AtDock → Rose (D.seen dock.old).faults (D.seen dock.new).faults }
+    ensures told { DockRisesFor (IsDockFault result) (D.seen dock.old) (D.seen dock.new) }
     ensures not_long { result ≢ Err TakesTooLong }
 {
     let step = next_step(alloc, dock)?;
@@ -83,6 +85,7 @@ fn answer<D: Dock>(
         × ((sessions : List ℕ) → IsOver over.old sessions → IsOver over.new (with_closed sessions reply))) }
     ensures partly { (reply : Maybe AnyReply) → replies.now ≡ listed reply → IfErr result (λ fault. RepliedPartly fault (D.seen dock.old) (D.seen dock.new) reply) }
     ensures dock_fault { result ≡ Err AtDock → Rose (D.seen dock.old).faults (D.seen dock.new).faults }
+    ensures told { DockRisesFor (IsDockFault result) (D.seen dock.old) (D.seen dock.new) }
     ensures not_long { result ≢ Err TakesTooLong }
 {
     let [reply] = replies else {

@@ -4,6 +4,7 @@ ghost use Rattle.origin_model.specs.declared.taking.tally.Tally.{Tally as AnyTal
 ghost use Rattle.origin_model.specs.taking.Taking.{IsSettled};
 ghost use Rattle.replica_core.specs.Keeping.{begun};
 ghost use Rattle.relay_sync.specs.Outcomes.{AnswersByReply, Ended, HeardTo, HeardUpTo};
+ghost use Rattle.relay_sync.specs.Replies.{IsWireFault, WireRisesFor};
 ghost use Rattle.relay_sync.specs.Saying.{text_for};
 ghost use Rattle.relay_sync.specs.Syncing.{BlamesWire, Fails, HearsOne, HearsPartly, HearsReply, IsReady, StopsAt, Syncs};
 
@@ -41,6 +42,7 @@ pub fn sync<W: Wire>(
     ensures up_to { IfErr result (λ fault. (counts : AnyTally) × HeardUpTo fault (W.seen wire.old).left (begun replica.old kept.old.items)
         (record { replica = replica.new; counts = counts; kept = kept.new.items })) }
     ensures exactly { IfSome (W.seen wire.old).left (λ bytes. AnswersByReply result (begun replica.old kept.old.items) bytes) }
+    ensures told { WireRisesFor (IsWireFault result) (W.seen wire.old) (W.seen wire.new) }
     ensures wire { BlamesWire (length (text_for cursor replica.old.held)) (W.seen wire.old) (W.seen wire.new) result }
 {
     let Ok(text) = text_of(alloc, replica, cursor) else {
@@ -66,6 +68,7 @@ fn hear<W: Wire>(
     ensures settled { OnOk result (IsSettled replica.new.held) }
     ensures err { IfErr result (λ fault. (counts : AnyTally) × HearsPartly fault (W.seen wire.old) (W.seen wire.new) (begun replica.old kept.old.items)
         (record { replica = replica.new; counts = counts; kept = kept.new.items })) }
+    ensures told { WireRisesFor (IsWireFault result) (W.seen wire.old) (W.seen wire.new) }
 {
     let mut tally = Tally::default();
     let mut heard = 0;
@@ -93,6 +96,7 @@ fn hear_one<W: Wire>(
     ensures err { IfErr result (λ fault. StopsAt fault (W.seen wire.old) (W.seen wire.new)
         (record { replica = replica.old; counts = tally.old; kept = kept.old.items })
         (record { replica = replica.new; counts = tally.new; kept = kept.new.items }) heard.old) }
+    ensures told { WireRisesFor (IsWireFault result) (W.seen wire.old) (W.seen wire.new) }
 {
     match next_message(alloc, wire, heard)? {
         Message::Operation(op) => {

@@ -1,6 +1,6 @@
 use Rattle.std.proofs.Common.{List, [], length, ℕ, ◌+◌, ◌++◌, ◌-◌, ◌≤◌, ◌∷◌, ◌≡◌}
 use Rattle.fugue_ids.specs.declared.limits.TheConstants.{STREAM_LIMIT}
-use Rattle.relay_sync.specs.Replies.{Hears, IsMessageFront}
+use Rattle.relay_sync.specs.Replies.{Hears, IsMessageFront, WireRisesFor}
 use Rattle.relay_sync.proofs.hearing.next_frame.Given as goal
 
 -- the bytes so far, the last of which was not looked at yet
@@ -12,6 +12,7 @@ invariant-bytes g l = record {
   front : IsMessageFront l.front;
   count : l.heard ≡ l.place + length (l.first ∷ bytes);
   within : l.heard ≤ STREAM_LIMIT;
+  told : WireRisesFor ⊥ (g.W.Wire.seen l.fn.wire) (g.W.Wire.seen l.wire);
 }
 
 abbrev pub decreases-bytes : goal.decreases-bytes

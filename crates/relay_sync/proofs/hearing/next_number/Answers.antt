@@ -1,3 +1,4 @@
+use Rattle.relay_sync.proofs.CountLemmas.{wire_on}
 use Rattle.std.proofs.Common.{[], arith, refl, ◌∷◌}
 use Rattle.std.proofs.lemmas.Result.{err_from_is_err_and}
 use Rattle.relay_sync.proofs.HearingLemmas.{end_0, end_1, end_2, end_3, hears-append, stops_behind}
@@ -49,3 +50,26 @@ returns-clause-ok g c =
       count = omega (arith, c.requires.count, c.in_ok-a.ensures.count, c.in_ok-b.ensures.count, c.in_ok-c.ensures.count, c.in_ok-d.ensures.count);
       within = c.in_ok-d.ensures.within;
     }
+
+pub returns-in_err-a-clause-told : goal.returns-in_err-a-clause-told
+returns-in_err-a-clause-told g c =
+    let p = err_from_is_err_and c.from_residual.result c.from_residual.ensures.1 in
+    rw (p.1, p.2) (c.in_err-a.ensures.told)
+
+pub returns-in_err-b-clause-told : goal.returns-in_err-b-clause-told
+returns-in_err-b-clause-told g c =
+    let p = err_from_is_err_and c.from_residual-in_err-b.result c.from_residual-in_err-b.ensures.1 in
+    rw (p.1, p.2) (wire_on _ _ _ _ c.in_ok-a.ensures.told c.in_err-b.ensures.told)
+
+pub returns-in_err-c-clause-told : goal.returns-in_err-c-clause-told
+returns-in_err-c-clause-told g c =
+    let p = err_from_is_err_and c.from_residual-in_err-c.result c.from_residual-in_err-c.ensures.1 in
+    rw (p.1, p.2) (wire_on _ _ _ _ (wire_on ⊥ _ _ _ c.in_ok-a.ensures.told c.in_ok-b.ensures.told) c.in_err-c.ensures.told)
+
+pub returns-in_err-d-clause-told : goal.returns-in_err-d-clause-told
+returns-in_err-d-clause-told g c =
+    let p = err_from_is_err_and c.from_residual-in_err-d.result c.from_residual-in_err-d.ensures.1 in
+    rw (p.1, p.2) (wire_on _ _ _ _ (wire_on ⊥ _ _ _ (wire_on ⊥ _ _ _ c.in_ok-a.ensures.told c.in_ok-b.ensures.told) c.in_ok-c.ensures.told) c.in_err-d.ensures.told)
+
+pub returns-clause-told : goal.returns-clause-told
+returns-clause-told g c = wire_on ⊥ _ _ _ (wire_on ⊥ _ _ _ (wire_on ⊥ _ _ _ c.in_ok-a.ensures.told c.in_ok-b.ensures.told) c.in_ok-c.ensures.told) c.in_ok-d.ensures.told

@@ -1,3 +1,4 @@
+use Rattle.relay_sync.proofs.CountLemmas.{dock_on, dock_went, ends_rises, sends_rises}
 use Rattle.std.proofs.Common.{List, subst, ℕ}
 use Rattle.std.specs.Prelude.{Err, Ok}
 use Rattle.std.proofs.lemmas.Result.{err_from_is_err_and}
@@ -35,3 +36,19 @@ returns-in_err-send_whole-clause-err g c =
     let sent : SendsText {E = Failed} {T = Unit {0}} (g.D.Dock.seen c.args.dock.now) (g.D.Dock.seen c.send_whole.new.dock) (Err c.in_err-send_whole.field-0.0) reply.session reply.bytes
     = subst (λ (b : List ℕ). SendsText {E = Failed} {T = Unit {0}} (g.D.Dock.seen c.args.dock.now) (g.D.Dock.seen c.send_whole.new.dock) (Err c.in_err-send_whole.field-0.0) reply.session b) c.as_slice.ensures c.in_err-send_whole.ensures in
     rw p.1 (replied_front {E = Failed} {T = Unit {0}} c.in_err-send_whole.field-0.0 _ _ reply sent)
+
+pub returns-in_err-send_whole-clause-told : goal.returns-in_err-send_whole-clause-told
+returns-in_err-send_whole-clause-told g c =
+    let p = err_from_is_err_and c.from_residual.result c.from_residual.ensures.1 in
+    rw p.1 (sends_rises _ _ _ _ _ c.in_err-send_whole.ensures)
+
+pub returns-in_err-end-clause-told : goal.returns-in_err-end-clause-told
+returns-in_err-end-clause-told g c =
+    let p = err_from_is_err_and c.from_residual-in_err-end.result c.from_residual-in_err-end.ensures.1 in
+    rw p.1 (dock_on _ _ _ _ (dock_went _ _ (sends_rises _ _ _ _ _ c.in_ok-send_whole.ensures)) (ends_rises _ _ _ _ c.in_err-end.ensures))
+
+pub returns-in_ok-end-clause-told : goal.returns-in_ok-end-clause-told
+returns-in_ok-end-clause-told g c = dock_on _ _ _ _ (dock_went _ _ (sends_rises _ _ _ _ _ c.in_ok-send_whole.ensures)) (ends_rises _ _ _ _ c.in_ok-end.ensures)
+
+pub returns-else-reply-clause-told : goal.returns-else-reply-clause-told
+returns-else-reply-clause-told g c = sends_rises _ _ _ _ _ c.in_ok-send_whole.ensures

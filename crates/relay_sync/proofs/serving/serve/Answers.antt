@@ -1,3 +1,4 @@
+use Rattle.relay_sync.proofs.CountLemmas.{dock_calm, dock_on, dock_still}
 use Rattle.std.proofs.Common.{[], arith, length-append, ◌++◌, ◌∷◌}
 use Rattle.std.proofs.lemmas.Result.{err_from_is_err_and}
 use Rattle.relay_sync.specs.Serving.{over_after}
@@ -7,7 +8,7 @@ use Rattle.relay_sync.proofs.OverLemmas.{is_over_none}
 use Rattle.relay_sync.proofs.serving.serve.Goals as goal
 
 pub steps-init : goal.steps-init
-steps-init g c = record { turns = []; serves = serves_none _ _; over = is_over_none _ c.new-over.ensures.empty; none = none_before _; steps = omega arith }
+steps-init g c = record { turns = []; serves = serves_none _ _; told = dock_still ⊥ _; over = is_over_none _ c.new-over.ensures.empty; none = none_before _; steps = omega arith }
 
 pub returns-then-left-eq0-clause-partly : goal.returns-then-left-eq0-clause-partly
 returns-then-left-eq0-clause-partly g c =
@@ -21,6 +22,7 @@ steps-preserved g c =
     record {
       turns = i.turns ++ s.0 ∷ [];
       serves = serves-append _ _ _ _ _ _ i.turns (s.0 ∷ []) i.serves s.1;
+      told = dock_on ⊥ _ _ _ i.told c.in_ok-serve_step.ensures.told;
       over = rw (over-append i.turns (s.0 ∷ []) []) (s.2 (over_after [] i.turns) i.over);
       none = none_after c.args.sessions i.turns s.0 i.none (omega (arith, c.steps-test.true, c.len.ensures.len, i.over.count));
       steps = omega (arith, i.steps, c.if-left-eq0.false, length-append i.turns (s.0 ∷ []));
@@ -45,3 +47,14 @@ returns-in_err-serve_step-clause-dock g c =
 
 pub returns-clause-dock : goal.returns-clause-dock
 returns-clause-dock g c = let i = c.steps.invariant in served_blames _ _ _ _ _ _ i.turns i.serves i.none
+
+pub returns-then-left-eq0-clause-told : goal.returns-then-left-eq0-clause-told
+returns-then-left-eq0-clause-told g c = dock_calm _ _ _ c.steps.invariant.told
+
+pub returns-in_err-serve_step-clause-told : goal.returns-in_err-serve_step-clause-told
+returns-in_err-serve_step-clause-told g c =
+    let p = err_from_is_err_and c.from_residual.result c.from_residual.ensures.1 in
+    rw (p.1, p.2) (dock_on _ _ _ _ c.steps.invariant.told c.in_err-serve_step.ensures.told)
+
+pub returns-clause-told : goal.returns-clause-told
+returns-clause-told g c = c.steps.invariant.told

@@ -1,3 +1,5 @@
+use Rattle.std.proofs.Common.{refl}
+use Rattle.relay_sync.proofs.CountLemmas.{wire_on, wire_so, wire_still, wire_went}
 use Rattle.std.proofs.Common.{inl, ◌∙◌}
 use Rattle.std.proofs.lemmas.Result.{IfErr-weaker, IfOk-weaker}
 use Rattle.origin_model.specs.taking.Taking.{no_counts}
@@ -11,13 +13,13 @@ returns-in_default-clause-err g c = (no_counts, inl (fails_at_once _ _ _ _))
 
 pub returns-in_default-say-clause-err : goal.returns-in_default-say-clause-err
 returns-in_default-say-clause-err g c =
-    (no_counts, inl (fails_to_say c.say.result c.in_default-say.field-0 _ _ _ c.args.port _ _ c.in_default-say.is (c.as_slice.ensures.value ∙ c.in-Ok.ensures.text) c.say.ensures))
+    (no_counts, inl (fails_to_say c.say.result c.in_default-say.field-0 _ _ _ c.args.port _ _ c.in_default-say.is (c.as_slice.ensures.value ∙ c.in-Ok.ensures.text) c.say.ensures.says))
 
 pub returns-clause-reply : goal.returns-clause-reply
-returns-clause-reply g c = IfOk-weaker c.hear.result _ _ (λ synced h. heard_behind (g.W.Wire.seen c.args.wire.now) (g.W.Wire.seen c.say.new.wire) _ _ _ _ c.say.ensures.left h) c.hear.ensures.ok
+returns-clause-reply g c = IfOk-weaker c.hear.result _ _ (λ synced h. heard_behind (g.W.Wire.seen c.args.wire.now) (g.W.Wire.seen c.say.new.wire) _ _ _ _ c.say.ensures.says.left h) c.hear.ensures.ok
 
 pub returns-clause-up_to : goal.returns-clause-up_to
-returns-clause-up_to g c = IfErr-weaker c.hear.result _ _ (λ fault h. (h.0, up_to_behind fault (g.W.Wire.seen c.args.wire.now) (g.W.Wire.seen c.say.new.wire) _ _ _ c.say.ensures.left h.1)) c.hear.ensures.err
+returns-clause-up_to g c = IfErr-weaker c.hear.result _ _ (λ fault h. (h.0, up_to_behind fault (g.W.Wire.seen c.args.wire.now) (g.W.Wire.seen c.say.new.wire) _ _ _ c.say.ensures.says.left h.1)) c.hear.ensures.err
 
 pub returns-in_default-clause-exactly : goal.returns-in_default-clause-exactly
 returns-in_default-clause-exactly g c = undecided_exactly NoMemory _ (g.W.Wire.seen c.args.wire.now).left (λ by. by)
@@ -27,4 +29,13 @@ returns-in_default-say-clause-exactly g c = undecided_exactly WireFault _ (g.W.W
 
 pub returns-clause-exactly : goal.returns-clause-exactly
 returns-clause-exactly g c =
-    hears_exactly c.hear.result (g.W.Wire.seen c.args.wire.now) (g.W.Wire.seen c.say.new.wire) _ _ _ _ c.say.ensures.left c.hear.ensures.ok c.hear.ensures.err
+    hears_exactly c.hear.result (g.W.Wire.seen c.args.wire.now) (g.W.Wire.seen c.say.new.wire) _ _ _ _ c.say.ensures.says.left c.hear.ensures.ok c.hear.ensures.err
+
+pub returns-in_default-clause-told : goal.returns-in_default-clause-told
+returns-in_default-clause-told g c = wire_still _ _
+
+pub returns-in_default-say-clause-told : goal.returns-in_default-say-clause-told
+returns-in_default-say-clause-told g c = wire_so _ _ _ _ (λ failed. refl) c.say.ensures.told
+
+pub returns-clause-told : goal.returns-clause-told
+returns-clause-told g c = wire_on _ _ _ _ (wire_went _ _ c.in-Ok-say.ensures.told) c.hear.ensures.told
