@@ -4,5 +4,8 @@ pub mod LineLemmas
 pub mod SourceLemmas
 pub mod MakingLemmas
 pub mod RunLemmas
+pub mod DecideLemmas
+pub mod CourseLemmas
 pub mod OnceLemmas
+pub mod AnswerLemmas
 pub mod TakenInLemmas

@@ -19,6 +19,8 @@ use Rattle.edit_script.specs.Grammar.{Asks, HasNoSpace, IsBad, IsNote, escaped, 
 use Rattle.edit_script.specs.Laws.{AsksOnce, RunsOnce}
 use Rattle.edit_script.specs.Lines.{fault_at}
 use Rattle.edit_script.specs.Scripts.{Does, IsRefused, Leads, RunsUpTo, RunsWhole, StopsAt, by_scalars, line_refusal}
+use Rattle.edit_script.proofs.CourseLemmas.{script_course}
+use Rattle.edit_script.proofs.DecideLemmas.{line_is_one}
 use Rattle.edit_script.proofs.EscapeLemmas.{all_read, other_head}
 use Rattle.edit_script.proofs.LineLemmas.{adds, cuts, drops, puts}
 use Rattle.edit_script.proofs.WordLemmas.{decimal_spaceless}
@@ -97,7 +99,7 @@ note_asks_nothing line command note asks = by note.begins command asks
     by (inr hash) (DropSection k) a = other_head 35 100 _ _ (sym hash.1 ∙ a.line_is) refl
 
 pub lines_ask_once : AsksOnce
-lines_ask_once = record { one = asks_once; note = note_asks_nothing }
+lines_ask_once = record { some = line_is_one; one = asks_once; note = note_asks_nothing }
 
 does_once : (s t u : State) (line : List ℕ) (ops others : List Op) → Does s t line ops → Does s u line others → (t ≡ u) × (ops ≡ others)
 does_once s t u line ops others (inl a) (inl b) = (a.1 ∙ sym b.1, a.2 ∙ sym b.2)
@@ -201,4 +203,4 @@ whole_once old a b script m n x y =
     (same.0, x.count ∙ ap length same.1 ∙ sym y.count)
 
 pub scripts_run_once : RunsOnce
-scripts_run_once = record { whole = whole_once; stops = stops_once; apart = stops_or_runs }
+scripts_run_once = record { some = script_course; whole = whole_once; stops = stops_once; apart = stops_or_runs }

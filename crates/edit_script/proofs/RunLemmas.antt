@@ -1,6 +1,6 @@
 -- How the lines of a script are run one after another.
 use Rattle.std.proofs.Common.{◌≡◌, ◌<◌, ◌≤◌, ◌+◌, inl, inr, suc, ℕ, Bool, true, false, cond, List, [], ◌∷◌, ◌++◌, length, take, drop, Option, Some, None, refl, sym, ap, subst, ◌∙◌, arith, append_assoc, append-nil, length-append, length-drop, Bor}
-use Rattle.std.specs.Prelude.{position, ◌==◌, Result, Ok, Err, IfErr}
+use Rattle.std.specs.Prelude.{position, ◌==◌, Result, Ok, Err, IfErr, IfOk}
 use Rattle.std.specs.Option.{option_copied}
 use Rattle.std.specs.List.{onto_first, position_or_len}
 use Rattle.std.proofs.lemmas.Bool.{cases_Bool, ltb-true, ltb-false}
@@ -15,7 +15,7 @@ use Rattle.edit_script.specs.declared.fault.ScriptFault.{ScriptFault}
 use Rattle.edit_script.specs.declared.fault.ScriptFault.TheVariants as fault
 use Rattle.replica_core.specs.declared.edits.edit_fault.EditFault.TheVariants as edit
 use Rattle.edit_script.specs.Grammar.{BeginsWith, lines}
-use Rattle.edit_script.specs.Scripts.{Does, Leads, RunsUpTo, RunsWhole, Stops, StopsAt}
+use Rattle.edit_script.specs.Scripts.{Does, Leads, Runs, RunsUpTo, RunsWhole, Stops, StopsAt}
 use Rattle.edit_script.specs.Sources.{IsScript}
 use Rattle.outer_ports.specs.Sources.{SourceView}
 use Rattle.edit_script.specs.Lines.{Fails, IsRun, fault_at}
@@ -186,3 +186,9 @@ stops_read old new before after script (Err (fault.TooMany n)) is stopped = (scr
 stops_read old new before after script (Err fault.ReadFault) is stopped = absurd stopped
 stops_read old new before after script (Err fault.TooLong) is stopped = absurd stopped
 stops_read old new before after script (Err fault.NoMemory) is stopped = inr (script, is, stopped)
+
+-- and one that is run to its end
+pub runs_read : (old new : State) (before after : SourceView) (script : List ℕ) (result : Result ℕ ScriptFault) → IsScript before after script → IfOk result (RunsWhole old new script)
+    → IfOk result (Runs old new before after)
+runs_read old new before after script (Ok n) is whole = (script, is, whole)
+runs_read old new before after script (Err f) is whole = tt

@@ -1,5 +1,5 @@
--- Laws of scripts: what a line asks for and what a script comes to is one thing, and what a script made comes to the same where it is taken in.
-use Rattle.std.specs.Prelude.{◌≡◌, ◌≢◌, ℕ, List, ◌++◌}
+-- Laws of scripts: what a line asks for and what a script comes to is exactly one thing, and what a script made comes to the same where it is taken in.
+use Rattle.std.specs.Prelude.{◌≡◌, ◌≢◌, ◌⊎◌, ℕ, List, ◌++◌}
 use Rattle.fugue_ids.specs.declared.op.Op.{Op}
 use Rattle.origin_model.specs.operations.History.{accepted}
 use Rattle.origin_model.specs.taking.Taking.{IsSettled, held_from, kept_from}
@@ -7,16 +7,19 @@ use Rattle.origin_model.specs.edits.Edits.{Command}
 use Rattle.replica_core.specs.State.{State, Stands}
 use Rattle.edit_script.specs.declared.fault.ScriptFault.{ScriptFault}
 use Rattle.edit_script.specs.declared.fault.ScriptFault.TheVariants.{NoMemory}
-use Rattle.edit_script.specs.Grammar.{Asks, IsNote}
+use Rattle.edit_script.specs.Grammar.{Asks, IsBad, IsNote}
 use Rattle.edit_script.specs.Scripts.{RunsWhole, StopsAt}
 
--- no line asks for two edits, and no note line for one
+-- each line is a note line, or asks for an edit, or is bad; none asks for two edits, and no note line for one
 pub record AsksOnce : Type 0 where
+  pub some : (line : List ℕ) → IsNote line ⊎ ((command : Command) × Asks line command) ⊎ IsBad line
   pub one : (line : List ℕ) (a b : Command) → Asks line a → Asks line b → a ≡ b
   pub note : (line : List ℕ) (command : Command) → IsNote line → Asks line command → ⊥
 
 -- from a state a script comes to its end or to its first faulty line, and to one of these, where memory is not wanting
 pub record RunsOnce : Type 0 where
+  pub some : (old : State) (script : List ℕ)
+      → ((new : State) × (n : ℕ) × RunsWhole old new script n) ⊎ ((new : State) × (f : ScriptFault) × (f ≢ NoMemory) × StopsAt old new script f)
   pub whole : (old a b : State) (script : List ℕ) (m n : ℕ) → RunsWhole old a script m → RunsWhole old b script n → (a ≡ b) × (m ≡ n)
   pub stops : (old a b : State) (script : List ℕ) (f g : ScriptFault) → f ≢ NoMemory → g ≢ NoMemory → StopsAt old a script f → StopsAt old b script g → (a ≡ b) × (f ≡ g)
   pub apart : (old a b : State) (script : List ℕ) (n : ℕ) (f : ScriptFault) → f ≢ NoMemory → RunsWhole old a script n → StopsAt old b script f → ⊥

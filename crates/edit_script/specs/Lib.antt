@@ -4,4 +4,5 @@ pub mod Commands
 pub mod Sources
 pub mod Scripts
 pub mod Lines
+pub mod Answers
 pub mod Laws

@@ -1,11 +1,11 @@
 ghost use Rattle.edit_script.specs.Laws.{AsksOnce, RunsOnce, ScriptsAreTakenIn};
 
-/// No line asks for two edits.
+/// Each line is a note line, or asks for exactly one edit, or is bad.
 pub fn lines_ask_once()
     ensures { AsksOnce }
 {}
 
-/// From a state a script comes to its end, or to its first faulty line, and to one of these.
+/// From each state each script comes to its end, or to its first faulty line, and to one of these.
 pub fn scripts_run_once()
     ensures { RunsOnce }
 {}

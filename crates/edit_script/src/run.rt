@@ -1,8 +1,9 @@
-ghost use Rattle.std.specs.Prelude.{◌≡◌, ◌≤◌, ◌==◌, length, IfOk, IfErr, IsErrOf, position};
+ghost use Rattle.std.specs.Prelude.{◌≡◌, ◌≤◌, ◌==◌, length, IfOk, IfErr, IfSome, IsErrOf, position};
 ghost use Rattle.std.specs.Option.{option_copied};
 ghost use Rattle.outer_ports.specs.Sources.{KeepsCount};
 ghost use Rattle.origin_model.specs.taking.Taking.{IsSettled};
 ghost use Rattle.edit_script.specs.declared.script.TheConstants.{LONGEST_SCRIPT};
+ghost use Rattle.edit_script.specs.Answers.{AnswersBy};
 ghost use Rattle.edit_script.specs.Grammar.{BeginsWith};
 ghost use Rattle.edit_script.specs.Lines.{fault_at};
 ghost use Rattle.edit_script.specs.Scripts.{Runs, RunsWhole, Stops, StopsAt};
@@ -23,6 +24,7 @@ pub fn run_script<S: Source>(
     requires { IsSettled replica.old.held }
     ensures ok { IfOk result (Runs replica.old replica.new (S.seen source.old) (S.seen source.new)) }
     ensures err { IfErr result (Stops replica.old replica.new (S.seen source.old) (S.seen source.new)) }
+    ensures exactly { IfSome (S.seen source.old).left (AnswersBy result replica.old) }
     ensures count { KeepsCount (S.seen source.old) (S.seen source.new) (IsErrOf result ScriptFault.ReadFault) }
     ensures settled { IsSettled replica.new.held }
 {

@@ -1,0 +1,37 @@
+-- Which answer a script comes to, by the bytes of the script.
+use Rattle.std.specs.Prelude.{◌≡◌, ◌↔◌, ℕ, ◌<◌, ◌≤◌, List, length, Result, Ok, Err}
+use Rattle.replica_core.specs.State.{State}
+use Rattle.edit_script.specs.declared.fault.ScriptFault.{ScriptFault}
+use Rattle.edit_script.specs.declared.fault.ScriptFault.TheVariants.{ReadFault, TooLong, NoMemory}
+use Rattle.edit_script.specs.declared.script.TheConstants.{LONGEST_SCRIPT}
+use Rattle.edit_script.specs.Scripts.{RunsWhole, StopsAt}
+
+-- the bytes decide such an answer: it is no fault of the source, and no want of memory
+abbrev pub IsByBytes : Result ℕ ScriptFault → Type 0
+IsByBytes (Err ReadFault) = ⊥
+IsByBytes (Err NoMemory) = ⊥
+IsByBytes result = Unit {0}
+
+-- the script is run to its end, with n operations made
+pub record EndsWith (old : State) (script : List ℕ) (n : ℕ) : Type 0 where
+  pub short : length script ≤ LONGEST_SCRIPT
+  pub new : State
+  pub runs : RunsWhole old new script n
+
+-- the script stops at its first faulty line
+pub record EndsIn (old : State) (script : List ℕ) (fault : ScriptFault) : Type 0 where
+  pub short : length script ≤ LONGEST_SCRIPT
+  pub new : State
+  pub stops : StopsAt old new script fault
+
+-- where which answer comes, by what the replica is at first and the bytes that the source has left
+abbrev pub AnswerIs : State → List ℕ → Result ℕ ScriptFault → Type 0
+AnswerIs old bytes (Ok n) = EndsWith old bytes n
+AnswerIs old bytes (Err ReadFault) = Unit {0}
+AnswerIs old bytes (Err NoMemory) = Unit {0}
+AnswerIs old bytes (Err TooLong) = LONGEST_SCRIPT < length bytes
+AnswerIs old bytes (Err fault) = EndsIn old bytes fault
+
+-- each answer comes exactly where the bytes say so, but for a fault of the source and want of memory
+abbrev pub AnswersBy : Result ℕ ScriptFault → State → List ℕ → Type 0
+AnswersBy result old bytes = IsByBytes result → (answer : Result ℕ ScriptFault) → IsByBytes answer → (result ≡ answer) ↔ AnswerIs old bytes answer
