@@ -8,5 +8,6 @@ pub mod PieceLemmas
 pub mod PartLemmas
 pub mod SlotLemmas
 pub mod WalkLemmas
+pub mod ImageLemmas
 pub mod OnceLemmas
 pub mod LoadLemmas

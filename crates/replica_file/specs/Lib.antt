@@ -7,3 +7,4 @@ pub mod Looks
 pub mod Loading
 pub mod Pieces
 pub mod Slots
+pub mod Laws

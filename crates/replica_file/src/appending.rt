@@ -1,5 +1,6 @@
 ghost use Rattle.std.specs.Prelude.{◌≡◌, ◌≢◌, ◌⊎◌, ◌↔◌, ◌≤◌, [], IfSome, IfOk, OnOk};
 ghost use Rattle.fugue_ids.specs.Causes.{Rose};
+ghost use Rattle.outer_ports.specs.disk.Disks.{DiskTells};
 ghost use Rattle.outer_ports.specs.disk.Moments.{LeavesOnlyTo};
 ghost use Rattle.outer_ports.specs.disk.States.{IsHonest};
 ghost use Rattle.replica_file.specs.Append.{HasBatch, HoldsEither, IsTooLong, behind_gate, next_end};
@@ -46,6 +47,8 @@ pub fn append<H: Disk>(
         LastsFor (behind_gate ops.now) room → result ≢ Err AppendFault.DiskFault) }
     ensures calm { IfSome (H.seen disk.old).room (λ room.
         LastsFor (behind_gate ops.now) room → (H.seen disk.new).faults ≡ (H.seen disk.old).faults) }
+    ensures calm_told { DiskTells (H.seen disk.old) → result ≢ Err AppendFault.DiskFault
+        → (H.seen disk.new).faults ≡ (H.seen disk.old).faults }
 {
     if ops.is_empty() {
         return Ok(end);

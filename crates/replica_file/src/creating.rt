@@ -2,7 +2,7 @@ ghost use Rattle.std.specs.Prelude.{◌≡◌, ◌≢◌, ◌↔◌, ◌<◌, �
 ghost use Rattle.fugue_ids.specs.Causes.{Rose};
 ghost use Rattle.fugue_ids.specs.declared.limits.TheConstants.{GREATEST_HOLD};
 ghost use Rattle.origin_model.specs.files.Image.{HasImage, Holds, new_file as new_file_of};
-ghost use Rattle.outer_ports.specs.disk.Disks.{spent};
+ghost use Rattle.outer_ports.specs.disk.Disks.{DiskTells, spent};
 ghost use Rattle.outer_ports.specs.disk.Moments.{MayHaveWritten, after};
 ghost use Rattle.outer_ports.specs.disk.States.{at_rest, wrote, settled};
 ghost use Rattle.replica_file.specs.Create.{LastsToCreate, nothing_yet};
@@ -11,7 +11,8 @@ use crate::CreateFault;
 use crate::header::new_file;
 use outer_ports::Disk;
 
-/// Makes the file of a replica that holds nothing. It takes no memory.
+/// Makes the file of a replica that holds nothing. It takes no memory. A file that has bytes stays as it is, whatever
+/// the answer.
 pub fn create<H: Disk>(disk: &mut H, replica: u32, hold: u32) -> Result<(), CreateFault>
     requires some_replica { 0 < replica }
     requires some_hold { 0 < hold }
@@ -20,6 +21,8 @@ pub fn create<H: Disk>(disk: &mut H, replica: u32, hold: u32) -> Result<(), Crea
         result ≢ Err CreateFault.DiskFault → (result ≡ Err CreateFault.NotEmpty) ↔ (h.last.seen ≢ [])) }
     ensures kept { result ≡ Err CreateFault.NotEmpty
         → ((H.seen disk.new).past ≡ (H.seen disk.old).past) × ((H.seen disk.new).room ≡ (H.seen disk.old).room) }
+    ensures overwrites_none { IfSome (H.seen disk.old).past (λ h.
+        h.last.seen ≢ [] → (H.seen disk.new).past ≡ (H.seen disk.old).past) }
     ensures calls { OnOk result ((H.seen disk.new).past
         ≡ after settled (after (wrote 0 (new_file_of replica hold)) (H.seen disk.old).past)) }
     ensures made { OnOk result (IfSome (H.seen disk.new).past (λ h. h.last ≡ at_rest (new_file_of replica hold))) }
@@ -31,6 +34,8 @@ pub fn create<H: Disk>(disk: &mut H, replica: u32, hold: u32) -> Result<(), Crea
     ensures sure { IfSome (H.seen disk.old).room (λ room. LastsToCreate room → result ≢ Err CreateFault.DiskFault) }
     ensures calm { IfSome (H.seen disk.old).room (λ room.
         LastsToCreate room → (H.seen disk.new).faults ≡ (H.seen disk.old).faults) }
+    ensures calm_told { DiskTells (H.seen disk.old) → result ≢ Err CreateFault.DiskFault
+        → (H.seen disk.new).faults ≡ (H.seen disk.old).faults }
 {
     if disk.size()? != 0 {
         return Err(CreateFault::NotEmpty);

@@ -1,5 +1,6 @@
 ghost use Rattle.std.specs.Prelude.{◌≡◌, ◌+◌, ◌<◌, ◌^◌, IfSome, OnOk, OnErr};
 ghost use Rattle.fugue_ids.specs.Causes.{HasCause};
+ghost use Rattle.outer_ports.specs.disk.Disks.{DiskTells};
 ghost use Rattle.outer_ports.specs.disk.Moments.{LeavesOnlyTo};
 ghost use Rattle.outer_ports.specs.disk.States.{IsHonest};
 ghost use Rattle.replica_file.specs.Ends.{Agrees};
@@ -29,6 +30,8 @@ pub(crate) fn write_behind<H: Disk>(disk: &mut H, gate: u64, bytes: &[u8]) -> Re
     ensures sure { IfSome (H.seen disk.old).room (λ room. LastsFor bytes.now room → OnErr result ⊥) }
     ensures calm { IfSome (H.seen disk.old).room (λ room.
         LastsFor bytes.now room → (H.seen disk.new).faults ≡ (H.seen disk.old).faults) }
+    ensures calm_told { DiskTells (H.seen disk.old)
+        → OnOk result ((H.seen disk.new).faults ≡ (H.seen disk.old).faults) }
 {
     disk.write_at(gate + 1, bytes)?;
     disk.sync()?;

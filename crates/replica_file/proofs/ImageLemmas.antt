@@ -1,0 +1,23 @@
+-- Each list of bytes has one image.
+use Rattle.std.proofs.Common.{◌≡◌, ◌⊎◌, inl, inr, ℕ, List}
+use Rattle.fugue_ids.specs.declared.op.Op.{Op}
+use Rattle.origin_model.specs.frames.Frames.{BadFrame, CutShort, End, Reads, Whole}
+use Rattle.origin_model.proofs.SharedLemmas.{ReadSome, image_once, image_some}
+use Rattle.op_frame.proofs.StreamLemmas.{reads_once, reads_some}
+use Rattle.replica_file.specs.Laws.{OneImage}
+use Rattle.replica_file.proofs.AppendLemmas.{read_once}
+
+-- a reading that ends otherwise is none of whole frames
+other_end : (bytes : List ℕ) (ops : List Op) (end : End) → (Whole ≡ end → ⊥) → Reads bytes ops end → (others : List Op) → Reads bytes others Whole → ⊥
+other_end bytes ops end differs reads others whole = differs ((reads_once bytes others ops Whole end whole reads).1)
+
+by_end : (bytes : List ℕ) (ops : List Op) (end : End) → Reads bytes ops end → ((found : List Op) × Reads bytes found Whole) ⊎ ((found : List Op) → Reads bytes found Whole → ⊥)
+by_end bytes ops Whole reads = inl (ops, reads)
+by_end bytes ops (CutShort k) reads = inr (other_end bytes ops (CutShort k) (λ e. cc e) reads)
+by_end bytes ops (BadFrame k) reads = inr (other_end bytes ops (BadFrame k) (λ e. cc e) reads)
+
+read_some : ReadSome
+read_some bytes = let r = reads_some bytes in by_end bytes r.0 r.1 r.2
+
+pub has_one_image : OneImage
+has_one_image = record { one = image_once read_once; some = image_some read_some }
