@@ -9,8 +9,9 @@ use Rattle.origin_model.proofs.SharedLemmas.{to_parts}
 use Rattle.replica_core.specs.State.{State}
 use Rattle.replica_file.specs.declared.end.End.{End}
 use Rattle.replica_file.specs.declared.load_fault.LoadFault.{LoadFault}
+use Rattle.replica_file.specs.declared.load_fault.LoadFault.TheVariants.{NoMemory}
 use Rattle.replica_file.specs.Ends.{EndsAt}
-use Rattle.replica_file.specs.Load.{AnswerIs, AnswersBy, Loads}
+use Rattle.replica_file.specs.Load.{AnswerIs, AnswersBy, LacksMemory, Loads}
 use Rattle.replica_file.proofs.OnceLemmas.{answers_exactly}
 
 -- a sync changes nothing of what a read gives
@@ -22,6 +23,11 @@ pub exactly_settled : (most : ℕ) (o p : Option History) (result : Result (Stat
     → IfOk result (λ loaded. IfSome p (λ h. Loads most h.last.seen loaded.0 loaded.1)) → IfErr result (λ fault. IfSome p (λ h. AnswerIs most h.last.seen (Err fault)))
     → IfSome o (λ h. AnswersBy result most h.last.seen)
 exactly_settled most o p result is ok err = seen_stays (AnswersBy result most) o p is (answers_exactly most p result ok err)
+
+-- where memory was wanting
+pub lacks_settled : (most : ℕ) (o p : Option History) (result : Result (State × End) LoadFault) → p ≡ after settled o → IfErr result (λ fault. IfSome p (λ h. AnswerIs most h.last.seen (Err fault)))
+    → result ≡ Err NoMemory → IfSome o (λ h. LacksMemory most h.last.seen)
+lacks_settled most o p result is err lacking = seen_stays (LacksMemory most) o p is (subst (λ (r : Result (State × End) LoadFault). IfErr r (λ fault. IfSome p (λ h. AnswerIs most h.last.seen (Err fault)))) lacking err)
 
 -- the gate that ends the meaning is there
 gate_inside : (bytes : List ℕ) (content : Content) → HasImage bytes (Holds content) → content.at + 1 ≤ length bytes

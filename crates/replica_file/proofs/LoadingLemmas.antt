@@ -9,12 +9,12 @@ use Rattle.fugue_ids.specs.declared.limits.TheConstants.{MOST_OPERATIONS}
 use Rattle.origin_model.specs.operations.Verdict.{verdict}
 use Rattle.origin_model.specs.declared.operations.verdict.Verdict.{Verdict}
 use Rattle.origin_model.specs.declared.operations.verdict.Verdict.TheVariants as verdict_is
-use Rattle.origin_model.specs.taking.Taking.{Again, Conflict, Held, Answer, TooMany as AnswersTooMany, answer, answer_by, answers_from, held, intake, is_again, is_taken, nothing, taken, settle}
+use Rattle.origin_model.specs.taking.Taking.{Again, Conflict, Held, Answer, TooMany as AnswersTooMany, answer, answer_by, answers_from, held, intake, is_again, is_kept, is_taken, nothing, taken, settle}
 use Rattle.origin_model.proofs.SharedLemmas.{answers-append, held-append, places-append, places-one}
 use Rattle.replica_core.specs.State.{State, Stands}
 use Rattle.replica_core.specs.Told.{Leaves}
 use Rattle.replica_core.specs.declared.feed_fault.FeedFault.{FeedFault}
-use Rattle.replica_core.specs.declared.feed_fault.FeedFault.TheVariants.{TooMany as FedTooMany}
+use Rattle.replica_core.specs.declared.feed_fault.FeedFault.TheVariants.{TooMany as FedTooMany, NoMemory as FedNoMemory}
 use Rattle.origin_model.specs.declared.taking.tally.Tally.{Tally}
 use Rattle.replica_file.specs.Load.{AreTooMany, FindPlace}
 use Rattle.replica_file.specs.Loading.{AreIn, Fed, Feeds, IsSame}
@@ -115,6 +115,11 @@ pub refused_many : (old new : State) (op : Op) (before after : Tally) (fault : F
 refused_many old new op before after fault count is exactly leaves =
     let left = subst (Leaves old new op before after) is leaves in
     (exactly.0 (ap failed_by (is ∙ ap FedTooMany left.0)), left.1)
+
+-- an operation for which memory was wanting would be kept
+pub wanted_kept : (old new : State) (op : Op) (before after : Tally) (fault : FeedFault) → fault ≡ FedNoMemory → Leaves old new op before after fault
+    → is_kept (answer old.hold old.most old.held op) ≡ true
+wanted_kept old new op before after fault is leaves = (subst (Leaves old new op before after) is leaves).0
 
 pub same_then : (a b c : State) → IsSame a b → IsSame b c → IsSame a c
 same_then a b c one two = cc (one, two)

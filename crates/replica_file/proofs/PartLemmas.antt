@@ -1,6 +1,6 @@
 -- The frames of a part of a file, a piece at a time.
 use Rattle.std.proofs.Common.{◌≡◌, ◌≢◌, ◌⊎◌, inl, inr, ℕ, ◌+◌, ◌-◌, ◌<◌, ◌≤◌, min, List, [], ◌∷◌, ◌++◌, length, take, drop, refl, ap, sym, subst, ◌∙◌, arith, append_assoc, length-append, length-drop}
-use Rattle.std.specs.Prelude.{Option, Some, None, IfSome, Bool, flat_map}
+use Rattle.std.specs.Prelude.{Option, Some, None, IfSome, Bool, true, flat_map, slice_get}
 use Rattle.std.proofs.Math.Seq.{take-add}
 use Rattle.std.proofs.lemmas.Grind.{flat_map-append}
 use Rattle.std.proofs.lemmas.List.Elements.{All-append, All-nil}
@@ -11,9 +11,11 @@ use Rattle.origin_model.specs.frames.Frames.{CutShort, BadFrame, Framed, IsBad, 
 use Rattle.op_frame.proofs.FrameLemmas.{bad_goes_on}
 use Rattle.op_frame.proofs.StreamLemmas.{reads_once}
 use Rattle.replica_core.specs.State.{State}
-use Rattle.replica_file.specs.Pieces.{AreBad, AreWhole, TakesPiece}
-use Rattle.replica_file.specs.Slots.{EndsOff, HasNoFrames, TakesFrames, TakesSome, part_of}
-use Rattle.replica_file.proofs.LoadingLemmas.{feeds_none, feeds_then}
+use Rattle.replica_file.specs.Loading.{IsSame}
+use Rattle.replica_file.specs.Pieces.{AreBad, Lacks, TakesPiece}
+use Rattle.replica_file.specs.Slots.{EndsOff, HasNoFrames, TakesFrames, TakesSome}
+use Rattle.replica_file.specs.Wanting.{ArePieces, AreWhole, BeginsPiece, ForOperation, ForTitle, IsWanting, part_of}
+use Rattle.replica_file.proofs.LoadingLemmas.{feeds_none, feeds_then, same_then}
 use Rattle.replica_file.proofs.PieceLemmas.{partial_short}
 use Rattle.replica_file.proofs.ReadingLemmas.{drop_twice}
 
@@ -22,6 +24,10 @@ bytes_of found = flat_map (λ framed. framed.bytes) found
 
 abbrev ops_of : List Framed → List Op
 ops_of found = flat_map (λ framed. framed.ops) found
+
+first_stays : (rest more : List ℕ) (byte : ℕ) → slice_get rest 0 ≡ Some byte → slice_get (rest ++ more) 0 ≡ Some byte
+first_stays [] more byte is = absurd (cc is)
+first_stays (b ∷ rest) more byte is = is
 
 starts_none : (bytes : List ℕ) → Starts bytes [] bytes
 starts_none bytes = record { found = []; are_frames = All-nil IsFrame; ops_are = refl; split = refl }
@@ -120,6 +126,42 @@ module _ (bytes : List ℕ) (at left size : ℕ) (piece : List ℕ) (is : piece 
     feeds = took.feeds;
   }
 
+  -- memory was wanting in the piece
+  pub piece_lacks : (was : Bool) (old : State) → Lacks (λ rest. rest ≡ piece) piece was old → Lacks (λ rest. rest ≡ part_of bytes at left) (part_of bytes at left) was old
+  piece_lacks was old lacks = record {
+    ops = lacks.ops;
+    rest = lacks.rest ++ more;
+    starts = subst (λ (l : List ℕ). Starts l lacks.ops (lacks.rest ++ more)) (sym part_is) (starts_further piece lacks.rest more lacks.ops lacks.starts);
+    now = lacks.now;
+    new = lacks.new;
+    feeds = lacks.feeds;
+    same = lacks.same;
+    wants = by_wants lacks.wants;
+  }
+    where
+      by_wants : (lacks.rest ≡ piece) ⊎ IsWanting lacks.new.hold lacks.new.most lacks.new.held (lacks.now ≡ true) lacks.rest
+          → (lacks.rest ++ more ≡ part_of bytes at left) ⊎ IsWanting lacks.new.hold lacks.new.most lacks.new.held (lacks.now ≡ true) (lacks.rest ++ more)
+      by_wants (inl whole) = inl (ap (λ (l : List ℕ). l ++ more) whole ∙ sym part_is)
+      by_wants (inr (ForTitle first)) = inr (ForTitle (first_stays lacks.rest more 1 first))
+      by_wants (inr (ForOperation op behind starts places kept)) = inr (ForOperation op (behind ++ more) (starts_further lacks.rest behind more (op ∷ []) starts) places kept)
+
+  -- whole frames of a piece
+  pub piece_whole : (len : ℕ) (ops : List Op) → AreWhole piece len ops → size ≡ min left 65536 → (found : List Op) × AreWhole (part_of bytes at (min left 65536)) len found
+  piece_whole len ops whole smaller =
+      (ops, subst (λ (l : List ℕ). AreWhole l len ops) (is ∙ ap (λ (n : ℕ). take n (drop at bytes)) smaller) whole)
+
+-- the pieces of a part that were read
+pub record Pieces (bytes : List ℕ) (at len taken : ℕ) : Type 0 where
+  pub pieces : List ℕ
+  pub are_pieces : ArePieces bytes at len pieces taken
+
+pub no_pieces : (bytes : List ℕ) (at len : ℕ) → Pieces bytes at len 0
+no_pieces bytes at len = record { pieces = []; are_pieces = refl }
+
+pub one_piece_more : (bytes : List ℕ) (at len taken n : ℕ) → Pieces bytes at len taken → ((ops : List Op) × AreWhole (part_of bytes (at + taken) (min (len - taken) 65536)) n ops)
+    → Pieces bytes at len (taken + n)
+one_piece_more bytes at len taken n read whole = record { pieces = n ∷ read.pieces; are_pieces = (taken, refl, whole, read.are_pieces) }
+
 module _ (bytes : List ℕ) (at len taken : ℕ) (within : taken ≤ len) where
   -- what is left of a part
   left_is : part_of bytes (at + taken) (len - taken) ≡ drop taken (part_of bytes at len)
@@ -148,6 +190,26 @@ module _ (bytes : List ℕ) (at len taken : ℕ) (within : taken ≤ len) where
         starts = starts_then (part_of bytes at len) (drop taken (part_of bytes at len)) behind.rest one.ops behind.ops one.starts behind.starts;
         ends = behind.ends;
       })
+
+  -- memory was wanting in what is left
+  pub frames_lacks : (a b : Bool) (r s : State) → IsSame r s → TakesSome bytes at len taken a r b s → Pieces bytes at len taken
+      → Lacks (λ rest. rest ≡ part_of bytes (at + taken) (len - taken)) (part_of bytes (at + taken) (len - taken)) b s → Lacks (BeginsPiece bytes at len) (part_of bytes at len) a r
+  frames_lacks a b r s same one pieces lacks =
+      record {
+        ops = one.ops ++ lacks.ops;
+        rest = lacks.rest;
+        starts = starts_then (part_of bytes at len) (drop taken (part_of bytes at len)) lacks.rest one.ops lacks.ops one.starts (subst (λ (l : List ℕ). Starts l lacks.ops lacks.rest) left_is lacks.starts);
+        now = lacks.now;
+        new = lacks.new;
+        feeds = feeds_then a b lacks.now r s lacks.new one.ops lacks.ops one.feeds lacks.feeds;
+        same = same_then r s lacks.new same lacks.same;
+        wants = by_wants lacks.wants;
+      }
+    where
+      by_wants : (lacks.rest ≡ part_of bytes (at + taken) (len - taken)) ⊎ IsWanting lacks.new.hold lacks.new.most lacks.new.held (lacks.now ≡ true) lacks.rest
+          → BeginsPiece bytes at len lacks.rest ⊎ IsWanting lacks.new.hold lacks.new.most lacks.new.held (lacks.now ≡ true) lacks.rest
+      by_wants (inl whole) = inl (record { taken = taken; pieces = pieces.pieces; are_pieces = pieces.are_pieces; rest_is = whole ∙ left_is })
+      by_wants (inr wanting) = inr wanting
 
 none_left : (l : List ℕ) → length l ≡ 0 → l ≡ []
 none_left [] e = refl
@@ -179,3 +241,7 @@ told_two {Q = Q} (Some h) q same join p r = join h p (subst (λ s. IfSome s Q) s
 pub told_all : {P : History → Type 0} (o : Option History) → ((h : History) → P h) → IfSome o P
 told_all None all = tt
 told_all (Some h) all = all h
+
+pub told_three : {P Q R S : History → Type 0} (o q : Option History) → q ≡ o → ((h : History) → P h → Q h → R h → S h) → IfSome o P → IfSome o Q → IfSome q R → IfSome o S
+told_three None q same join p r s = tt
+told_three {R = R} (Some h) q same join p r s = join h p r (subst (λ t. IfSome t R) same s)

@@ -1,16 +1,23 @@
 -- What a reader's answers say of a piece in memory.
 use Rattle.std.proofs.Common.{◌≡◌, inl, inr, ℕ, ◌<◌, List, [], ◌∷◌, ◌++◌, length, drop, refl, ap, sym, subst, ◌∙◌, arith, length-append}
-use Rattle.std.specs.Prelude.{Some, None, Ok, Err, Bool, flat_map}
+use Rattle.std.specs.Prelude.{Option, Some, None, IfSome, Result, Ok, Err, Bool, true, flat_map, slice_get, ◌-◌}
+use Rattle.std.specs.Io.KnownBytes.{prepend_known}
+use Rattle.std.proofs.lemmas.List.{append-nil}
+use Rattle.std.proofs.lemmas.List.Elements.{All-cons, All-nil}
+use Rattle.std.proofs.lemmas.Option.{same_Some}
 use Rattle.std.proofs.Math.Seq.{drop-append_seam}
 use Rattle.fugue_ids.specs.declared.op.Op.{Op}
 use Rattle.outer_ports.specs.Sources.{SourceView}
-use Rattle.origin_model.specs.frames.Frames.{Whole, Reads, IsPartial}
-use Rattle.op_frame.specs.Readers.{Chains, Reading}
+use Rattle.origin_model.specs.frames.Frames.{Framed, HasFrame, IsFrame, IsPartial, Reads, Starts, Whole, frame}
+use Rattle.origin_model.specs.taking.Taking.{answer, is_kept}
+use Rattle.op_frame.specs.Readers.{AnswersBy, Chains, Nexts, Reading, StartsWithin, to_give}
 use Rattle.op_frame.specs.declared.fault.FrameFault.TheVariants as frame_fault
 use Rattle.op_frame.proofs.StepLemmas.{front_short}
 use Rattle.replica_core.specs.State.{State}
-use Rattle.replica_file.specs.Loading.{Feeds}
-use Rattle.replica_file.specs.Pieces.{AreBad, AreWhole, IsReading, Steps, TakesPiece}
+use Rattle.replica_file.specs.Loading.{Feeds, IsSame}
+use Rattle.replica_file.specs.Pieces.{AreBad, IsReading, Lacks, Steps, TakesPiece}
+use Rattle.replica_file.specs.Wanting.{AreWhole, ForOperation, ForTitle, IsWanting}
+use Rattle.replica_file.proofs.LoadingLemmas.{feeds_none}
 use Rattle.replica_file.specs.declared.stop.Stop.{Stop}
 use Rattle.replica_file.specs.declared.stop.Stop.TheVariants as stop_is
 
@@ -23,6 +30,17 @@ partial_short b p = front_short b (record {
   lacks = p.lacks;
   front = sym p.is_frame.bytes_are ∙ p.front;
 })
+
+-- the frame of an operation at the front
+one_frame : (op : Op) (bytes rest : List ℕ) → HasFrame op → bytes ≡ frame op ++ rest → Starts bytes (op ∷ []) rest
+one_frame op bytes rest has split =
+    let framed : Framed = record { bytes = frame op; ops = op ∷ [] } in
+    record {
+      found = framed ∷ [];
+      are_frames = All-cons IsFrame framed [] (record { op = op; has_frame = has; bytes_are = refl; ops_are = refl }) (All-nil IsFrame);
+      ops_are = refl;
+      split = split ∙ ap (λ (l : List ℕ). l ++ rest) (sym (append-nil (frame op)));
+    }
 
 module _ (bytes : List ℕ) (ops : List Op) (old new : Reading) (before after : SourceView) (reading : IsReading bytes ops old before) where
   -- the piece is over
@@ -87,6 +105,61 @@ module _ (bytes : List ℕ) (ops : List Op) (old new : Reading) (before after : 
         fits = reading.fits ∙ sym limit;
         sure = sure ∙ reading.sure;
       }
+
+  -- memory was wanting for the title of the next frame
+  pub title : (r : State) (was : Bool) → Nexts old new before after (Err frame_fault.NoMemory)
+      → (rest : List ℕ) × Starts bytes ops rest × IsWanting r.hold r.most r.held (was ≡ true) rest
+  title r was nexts = by (to_give old before.left) reading.gave.split nexts.answer
+    where
+      by : (left : Option (List ℕ)) → Some bytes ≡ prepend_known (flat_map (λ framed. framed.bytes) reading.gave.found) left
+          → IfSome left (AnswersBy (Err frame_fault.NoMemory) old.offset (old.limit - old.offset)) → (rest : List ℕ) × Starts bytes ops rest × IsWanting r.hold r.most r.held (was ≡ true) rest
+      by None told answer = absurd (let no : Some bytes ≡ None = told in cc no)
+      by (Some rest) told answer = (
+        rest,
+        record { found = reading.gave.found; are_frames = reading.gave.are_frames; ops_are = reading.gave.ops_are; split = same_Some _ _ told },
+        ForTitle (answer.memory refl),
+      )
+
+  -- memory was wanting for the operation that was given
+  pub operation : (r : State) (was : Bool) (op : Op) → Nexts old new before after (Ok (Some op)) → (was ≡ true) × (is_kept (answer r.hold r.most r.held op) ≡ true)
+      → (rest : List ℕ) × Starts bytes ops rest × IsWanting r.hold r.most r.held (was ≡ true) rest
+  operation r was op nexts kept = by (to_give old before.left) reading.gave.split nexts.answer
+    where
+      by : (left : Option (List ℕ)) → Some bytes ≡ prepend_known (flat_map (λ framed. framed.bytes) reading.gave.found) left
+          → IfSome left (AnswersBy (Ok (Some op)) old.offset (old.limit - old.offset)) → (rest : List ℕ) × Starts bytes ops rest × IsWanting r.hold r.most r.held (was ≡ true) rest
+      by None told answer = absurd (let no : Some bytes ≡ None = told in cc no)
+      by (Some rest) told answer =
+          let first : StartsWithin op (old.limit - old.offset) rest = (answer.exactly tt (Ok (Some op)) tt).0 refl in (
+            rest,
+            record { found = reading.gave.found; are_frames = reading.gave.are_frames; ops_are = reading.gave.ops_are; split = same_Some _ _ told },
+            ForOperation op first.rest (one_frame op rest first.rest first.has_frame first.split) kept.0 kept.1,
+          )
+
+-- memory was wanting for a piece, of which nothing was taken in yet
+pub lacks_none : (Begins : List ℕ → Type 0) (bytes : List ℕ) (was : Bool) (old : State) → Begins bytes → Lacks Begins bytes was old
+lacks_none Begins bytes was old begins = record {
+  ops = [];
+  rest = bytes;
+  starts = record { found = []; are_frames = All-nil IsFrame; ops_are = refl; split = refl };
+  now = was;
+  new = old;
+  feeds = feeds_none was old;
+  same = refl;
+  wants = inl begins;
+}
+
+-- a step that answers so
+pub steps_wanting : (bytes : List ℕ) (ops : List Op) (was now : Bool) (old new : State) (reader : Reading) (source : SourceView) (result : Result (Option ℕ) Stop) (stop : Stop) → result ≡ Err stop
+    → stop ≡ stop_is.NoMemory → ((rest : List ℕ) × Starts bytes ops rest × IsWanting old.hold old.most old.held (was ≡ true) rest) → Steps bytes ops was old now new reader source result
+steps_wanting bytes ops was now old new reader source result stop is same wanting =
+    subst (Steps bytes ops was old now new reader source) (sym (is ∙ ap (λ (s : Stop). Err s) same)) wanting
+
+-- a step for which memory was wanting
+pub steps_lacks : (bytes : List ℕ) (ops : List Op) (first was now : Bool) (begin old new : State) (reader : Reading) (source : SourceView) (stop : Stop)
+    → Feeds first begin was old ops → IsSame begin old → Steps bytes ops was old now new reader source (Err stop) → stop ≡ stop_is.NoMemory → Lacks (λ rest. rest ≡ bytes) bytes first begin
+steps_lacks bytes ops first was now begin old new reader source stop feeds same steps is =
+    let lacks = subst (λ s. Steps bytes ops was old now new reader source (Err s)) is steps in
+    record { ops = ops; rest = lacks.0; starts = lacks.1; now = was; new = old; feeds = feeds; same = same; wants = inr lacks.2 }
 
 -- a step that comes to bad bytes
 pub steps_bad : (bytes : List ℕ) (ops : List Op) (was now : Bool) (old new : State) (reader : Reading) (source : SourceView) (stop : Stop) → Steps bytes ops was old now new reader source (Err stop) → stop ≡ stop_is.Bad → AreBad bytes

@@ -1,6 +1,6 @@
 -- Looking at a disk again and again.
 use Rattle.std.proofs.Common.{◌≡◌, ℕ, zero, suc, ◌+◌, ◌≤◌, List, [], ◌∷◌, ◌++◌, length, take, drop, refl, ap, sym, subst, ◌∙◌, arith, length-drop}
-use Rattle.std.specs.Prelude.{Option, Some, None, IfSome, Ok}
+use Rattle.std.specs.Prelude.{Option, Some, None, IfSome, IsSome, Ok}
 use Rattle.std.proofs.Math.Seq.{take-add, take-append-add}
 use Rattle.std.proofs.lemmas.List.{length-take-le}
 use Rattle.outer_ports.specs.disk.Moments.{History}
@@ -20,6 +20,7 @@ looks_then F a b c one two = record {
   rose = λ failed. let up = two.rose failed in let low = one.later in omega (arith, up, low);
   sure = both a.room b.room (⊥ → ⊥) (F → ⊥) (F → ⊥) one.room (λ p q. q) one.sure two.sure;
   calm = both a.room b.room (b.faults ≡ a.faults) (c.faults ≡ b.faults) (c.faults ≡ a.faults) one.room (λ p q. q ∙ p) one.calm two.calm;
+  calm_told = λ told calm. two.calm_told (subst (λ (o : Option History). IsSome o) (sym one.past) told) calm ∙ one.calm_told told (λ none. none);
 }
 
 -- a call that only looks, and went well
@@ -31,6 +32,7 @@ looked b c x looks = record {
   rose = λ failed. absurd failed;
   sure = never b.room;
   calm = looks.count.calm;
+  calm_told = λ told calm. looks.calm_told told;
 }
   where
     never : (o : Option RoomView) → IfSome o (λ r. ⊥ → ⊥)
@@ -42,14 +44,15 @@ drop_none zero = refl
 drop_none (suc n) = refl
 
 -- where it went well
-pub well : (F : Type 0) (b c : DiskView) → LooksOnly b c F → LooksOnly b c ⊥
-well F b c one = record {
+pub well : (F : Type 0) (b c : DiskView) → (F → ⊥) → LooksOnly b c F → LooksOnly b c ⊥
+well F b c fine one = record {
   past = one.past;
   room = one.room;
   later = one.later;
   rose = λ failed. absurd failed;
   sure = never b.room;
   calm = one.calm;
+  calm_told = λ told calm. one.calm_told told fine;
 }
   where
     never : (o : Option RoomView) → IfSome o (λ r. ⊥ → ⊥)

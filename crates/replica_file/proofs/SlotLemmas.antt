@@ -8,7 +8,9 @@ use Rattle.origin_model.specs.declared.files.TheConstants.{LONGEST_BATCH}
 use Rattle.origin_model.specs.files.Image.{CutShort, IsNoBatch, NoFrames, NoGate, NoLength, TooLong, number_at}
 use Rattle.origin_model.specs.frames.Frames.{Reads, Whole}
 use Rattle.replica_core.specs.State.{State}
-use Rattle.replica_file.specs.Slots.{HasNoFrames, IsGate, TakesFrames, TakesSlot, part_of}
+use Rattle.replica_file.specs.Pieces.{Lacks}
+use Rattle.replica_file.specs.Slots.{HasNoFrames, IsGate, LacksInSlot, TakesFrames, TakesSlot}
+use Rattle.replica_file.specs.Wanting.{BeginsPiece, part_of}
 use Rattle.replica_file.specs.declared.gate_place.Gate.{Gate}
 use Rattle.replica_file.proofs.PartLemmas.{never_whole}
 use Rattle.replica_file.proofs.ReadingLemmas.{drop_twice}
@@ -32,6 +34,13 @@ module _ (bytes : List ℕ) (at : ℕ) where
     bad_frames (inl short) slot = CutShort (omega (arith, ap length frames_behind, short, is))
     bad_frames (inr off) slot = NoFrames (λ ops reads. never_whole (part_of bytes (at + 5) len) off ops
         (subst (λ (l : List ℕ). Reads l ops Whole) ((λ i. take (sym is i) (frames_behind i))) reads))
+
+    -- memory was wanting for the frames
+    pub slot_lacks : (was : Bool) (old : State) → len ≤ LONGEST_BATCH → Lacks (BeginsPiece bytes (at + 5) len) (part_of bytes (at + 5) len) was old → LacksInSlot bytes at was old
+    slot_lacks was old short lacks = record {
+      short = omega (arith, is, short);
+      lacks = subst (λ (n : ℕ). Lacks (BeginsPiece bytes (at + 5) n) (part_of bytes (at + 5) n) was old) is lacks;
+    }
 
     -- no byte is there behind them
     pub bad_gate : length (part_of bytes (at + 5) len) ≡ len → length bytes ≤ at + 5 + len → (slot : ℕ) → IsNoBatch slot behind

@@ -1,5 +1,5 @@
 -- The slots of a file one after another, and what loading comes to at each end of the walk.
-use Rattle.std.proofs.Common.{◌≡◌, ◌≢◌, ℕ, ◌+◌, ◌<◌, List, [], ◌∷◌, ◌++◌, length, drop, refl, ap, sym, subst, ◌∙◌, arith, append_assoc, length-append, drop-cons, add-one}
+use Rattle.std.proofs.Common.{◌≡◌, ◌≢◌, ◌⊎◌, inl, inr, ℕ, ◌+◌, ◌<◌, List, [], ◌∷◌, ◌++◌, length, drop, refl, ap, sym, subst, ◌∙◌, arith, append_assoc, length-append, drop-cons, add-one}
 use Rattle.std.specs.Prelude.{Bool, true, false, Some, slice_get}
 use Rattle.std.proofs.lemmas.Grind.{flat_map-append}
 use Rattle.std.proofs.lemmas.List.{append-nil}
@@ -7,14 +7,15 @@ use Rattle.std.proofs.lemmas.List.Elements.{All-append, All-cons, All-nil}
 use Rattle.std.proofs.lemmas.Option.{get_or_from_slice_get, slice_get_within}
 use Rattle.fugue_ids.specs.declared.op.Op.{Op}
 use Rattle.origin_model.specs.files.Image.{Batch, IsBatch, IsNoBatch, OpenSlots, batch_ops, content_of, has_header, header_of, last_slot, number_at, open_slot, open_slots, slots_of}
-use Rattle.origin_model.specs.taking.Taking.{Answer, TooMany as AnswersTooMany, held, nothing}
+use Rattle.origin_model.specs.taking.Taking.{Answer, Held, TooMany as AnswersTooMany, answer, held, is_kept, nothing}
 use Rattle.fugue_ids.specs.declared.limits.TheConstants.{MOST_OPERATIONS}
 use Rattle.replica_core.specs.State.{State}
 use Rattle.replica_file.specs.declared.end.End.{End}
 use Rattle.replica_file.specs.declared.gate_place.Gate.{Gate}
-use Rattle.replica_file.specs.Load.{AreTooMany, FindPlace, FindsBadBatch, FindsTooMany, Loads}
-use Rattle.replica_file.specs.Loading.{Fed, IsSame}
-use Rattle.replica_file.specs.Slots.{IsGate, TakesSlot, Walked, WalksOut}
+use Rattle.replica_file.specs.Load.{AreTooMany, FindPlace, FindsBadBatch, FindsTooMany, LacksMemory, Loads, hold_of}
+use Rattle.replica_file.specs.Loading.{AreIn, Fed, IsSame}
+use Rattle.replica_file.specs.Slots.{IsGate, LacksInSlot, TakesSlot, Walked, WalksOut}
+use Rattle.replica_file.specs.Wanting.{BeginsPiece, ForOperation, ForTitle, IsWanting}
 
 -- a gate, and what stands behind it
 gate_behind : (bytes : List ℕ) (at byte : ℕ) → slice_get bytes at ≡ Some byte → drop at bytes ≡ byte ∷ drop (at + 1) bytes
@@ -43,6 +44,47 @@ module _ (bytes : List ℕ) (slots : ℕ) (gate : Gate) (r : State) (w : Walked 
       };
       place = subst (λ (h : ℕ). FindPlace h most (batch_ops w.batches)) w.hold_is (subst (λ (m : ℕ). FindPlace r.hold m (batch_ops w.batches)) limit w.fed.place);
     }
+
+    -- memory was wanting in an open slot
+    module _ (most : ℕ) (limit : r.most ≡ most) (was : Bool) (was_so : was ≡ true) (few : slots < last_slot) (slot : LacksInSlot bytes gate.at was r) where
+      abbrev reached : List Op
+      reached = batch_ops w.batches ++ slot.lacks.ops
+
+      fed_so_far : Fed slot.lacks.now slot.lacks.new reached
+      fed_so_far = slot.lacks.feeds.behind (batch_ops w.batches) (subst (λ (b : Bool). Fed b r (batch_ops w.batches)) (sym was_so) w.fed)
+
+      -- what is said of the replica's hold and limit is said of the file's hold and of the limit
+      by_limits : (P : (hold most : ℕ) → Type 0) → P slot.lacks.new.hold slot.lacks.new.most → P (hold_of bytes) most
+      by_limits P is =
+          let same = slot.lacks.same in
+          subst (P (hold_of bytes)) (ap (λ (t : State). t.most) same ∙ limit) (subst (λ (h : ℕ). P h slot.lacks.new.most) (ap (λ (t : State). t.hold) same ∙ w.hold_is) is)
+
+      by_wants : BeginsPiece bytes (gate.at + 5) (number_at (gate.at + 1) bytes) slot.lacks.rest
+          ⊎ IsWanting slot.lacks.new.hold slot.lacks.new.most slot.lacks.new.held (slot.lacks.now ≡ true) slot.lacks.rest
+          → BeginsPiece bytes (gate.at + 5) (number_at (gate.at + 1) bytes) slot.lacks.rest
+          ⊎ IsWanting (hold_of bytes) most (held (hold_of bytes) most reached) (FindPlace (hold_of bytes) most reached) slot.lacks.rest
+      by_wants (inl begins) = inl begins
+      by_wants (inr (ForTitle first)) = inr (ForTitle first)
+      by_wants (inr (ForOperation op behind starts found kept)) =
+          let are : AreIn slot.lacks.new reached = subst (λ (b : Bool). Fed b slot.lacks.new reached) found fed_so_far in
+          inr (ForOperation op behind starts (by_limits (λ h m. FindPlace h m reached) are.place)
+          (by_limits (λ h m. is_kept (answer h m (held h m reached) op) ≡ true) (subst (λ (s : Held). is_kept (answer slot.lacks.new.hold slot.lacks.new.most s op) ≡ true) are.held_is kept)))
+
+      pub walk_lacks : LacksMemory most bytes
+      walk_lacks = record {
+        header = w.header;
+        earlier = w.batches;
+        at = gate.at;
+        at_is = w.at;
+        found = subst (OpenSlots (slots_of bytes) w.batches) open_gate w.found;
+        few = omega (arith, few, w.number);
+        place = subst (λ (h : ℕ). FindPlace h most (batch_ops w.batches)) w.hold_is (subst (λ (m : ℕ). FindPlace r.hold m (batch_ops w.batches)) limit w.fed.place);
+        short = slot.short;
+        ops = slot.lacks.ops;
+        rest = slot.lacks.rest;
+        starts = slot.lacks.starts;
+        wants = by_wants slot.lacks.wants;
+      }
 
     module _ (next : Gate) (was now : Bool) (s : State) (was_so : was ≡ true) (few : slots < last_slot) (same : IsSame r s) (took : TakesSlot bytes gate.at next was r now s) where
       abbrev all : List Batch

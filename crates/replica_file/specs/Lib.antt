@@ -2,6 +2,7 @@ pub mod Ends
 pub mod Gates
 pub mod Create
 pub mod Append
+pub mod Wanting
 pub mod Load
 pub mod Looks
 pub mod Loading

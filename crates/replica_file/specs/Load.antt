@@ -1,10 +1,13 @@
 -- What loading a file comes to.
-use Rattle.std.specs.Prelude.{◌≡◌, ◌↔◌, ℕ, ◌<◌, List, [], ◌∷◌, ◌++◌, true, false, Contains, Result, Ok, Err}
+use Rattle.std.specs.Prelude.{◌≡◌, ◌⊎◌, ◌↔◌, ℕ, ◌+◌, ◌<◌, ◌≤◌, List, [], ◌∷◌, ◌++◌, length, drop, true, false, Contains, Result, Ok, Err}
 use Rattle.fugue_ids.specs.declared.op.Op.{Op}
 use Rattle.outer_ports.specs.disk.Disks.{RoomView}
-use Rattle.origin_model.specs.files.Image.{Batch, Content, EndsBadly, HasImage, Holds, OpenSlots, batch_ops, has_header, header_of, number_at, slots_of, state}
-use Rattle.origin_model.specs.taking.Taking.{HasPlace, TooMany as AnswersTooMany, answers_from, nothing}
+use Rattle.origin_model.specs.declared.files.TheConstants.{LONGEST_BATCH}
+use Rattle.origin_model.specs.frames.Frames.{Starts}
+use Rattle.origin_model.specs.files.Image.{Batch, Content, EndsBadly, HasImage, Holds, OpenSlots, batch_ops, has_header, header_of, last_slot, number_at, open_slots, slots_of, state}
+use Rattle.origin_model.specs.taking.Taking.{HasPlace, TooMany as AnswersTooMany, answers_from, held, nothing}
 use Rattle.replica_core.specs.State.{State}
+use Rattle.replica_file.specs.Wanting.{BeginsPiece, IsWanting, part_of}
 use Rattle.replica_file.specs.declared.end.End.{End}
 use Rattle.replica_file.specs.declared.load_fault.LoadFault.{LoadFault}
 use Rattle.replica_file.specs.declared.load_fault.LoadFault.TheVariants.{NotReplica, BadBatch, DiskFault, TooMany, NoMemory}
@@ -49,6 +52,24 @@ pub record FindsTooMany (most : ℕ) (bytes : List ℕ) : Type 0 where
   pub place : FindPlace (hold_of bytes) most (batch_ops earlier)
   pub refused : AreTooMany (hold_of bytes) most (batch_ops (earlier ++ batch ∷ []))
 
+-- Memory was wanting in an open slot, where a piece of its batch was to be read, or for the frame that comes next.
+-- No byte in front of that place is at fault, and the operations of the slots before it can all be taken in.
+pub record LacksMemory (most : ℕ) (bytes : List ℕ) : Type 0 where
+  pub header : has_header bytes ≡ true
+  pub earlier : List Batch
+  pub at : ℕ
+  pub at_is : at ≡ 13 + length (open_slots earlier)
+  pub found : OpenSlots (slots_of bytes) earlier (1 ∷ drop (at + 1) bytes)
+  pub few : length earlier < last_slot
+  pub place : FindPlace (hold_of bytes) most (batch_ops earlier)
+  pub short : number_at (at + 1) bytes ≤ LONGEST_BATCH
+  -- the operations of the slot's frames in front, and what stands behind these frames
+  pub ops : List Op
+  pub rest : List ℕ
+  pub starts : Starts (part_of bytes (at + 5) (number_at (at + 1) bytes)) ops rest
+  pub wants : BeginsPiece bytes (at + 5) (number_at (at + 1) bytes) rest
+      ⊎ IsWanting (hold_of bytes) most (held (hold_of bytes) most (batch_ops earlier ++ ops)) (FindPlace (hold_of bytes) most (batch_ops earlier ++ ops)) rest
+
 -- the bytes decide such an answer: it is no fault of the disk, and no want of memory
 abbrev pub IsByBytes : Result (State × End) LoadFault → Type 0
 IsByBytes (Err DiskFault) = ⊥
@@ -62,7 +83,7 @@ AnswerIs most bytes (Err NotReplica) = has_header bytes ≡ false
 AnswerIs most bytes (Err (BadBatch slot)) = FindsBadBatch most bytes slot
 AnswerIs most bytes (Err (TooMany count)) = (count ≡ most) × FindsTooMany most bytes
 AnswerIs most bytes (Err DiskFault) = Unit {0}
-AnswerIs most bytes (Err NoMemory) = Unit {0}
+AnswerIs most bytes (Err NoMemory) = LacksMemory most bytes
 
 -- each answer comes exactly where the bytes say so, but for a fault of the disk and want of memory
 abbrev pub AnswersBy : Result (State × End) LoadFault → (most : ℕ) → List ℕ → Type 0

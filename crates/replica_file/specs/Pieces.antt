@@ -5,7 +5,8 @@ use Rattle.outer_ports.specs.Sources.{SourceView}
 use Rattle.origin_model.specs.frames.Frames.{Starts, IsBad, IsPartial}
 use Rattle.op_frame.specs.Readers.{Gave, Reading}
 use Rattle.replica_core.specs.State.{State}
-use Rattle.replica_file.specs.Loading.{Feeds}
+use Rattle.replica_file.specs.Loading.{Feeds, IsSame}
+use Rattle.replica_file.specs.Wanting.{AreWhole, IsWanting}
 use Rattle.replica_file.specs.declared.stop.Stop.{Stop}
 use Rattle.replica_file.specs.declared.stop.Stop.TheVariants.{Bad, Disk, NoMemory}
 
@@ -16,12 +17,6 @@ pub record IsReading (bytes : List ℕ) (ops : List Op) (reader : Reading) (sour
   pub fits : length bytes ≡ reader.limit
   pub sure : source.sure ≡ true
 
--- frames of the operations are the first so many bytes, and behind them there is at most the front of one more
-pub record AreWhole (bytes : List ℕ) (len : ℕ) (ops : List Op) : Type 0 where
-  pub inside : len ≤ length bytes
-  pub starts : Starts bytes ops (drop len bytes)
-  pub ends : (drop len bytes ≡ []) ⊎ IsPartial (drop len bytes)
-
 -- behind some frames stands none, and nothing that begins one
 pub record AreBad (bytes : List ℕ) : Type 0 where
   pub ops : List Op
@@ -29,16 +24,28 @@ pub record AreBad (bytes : List ℕ) : Type 0 where
   pub starts : Starts bytes ops rest
   pub bad : IsBad rest
 
--- one step over a piece: an operation more was taken in, or the whole frames are over, or what follows is bad
+-- one step over a piece: an operation more was taken in, or the whole frames are over, or what follows is bad, or memory was wanting for it
 abbrev pub Steps : List ℕ → List Op → (was : Bool) (old : State) (now : Bool) (new : State) → Reading → SourceView → Result (Option ℕ) Stop → Type 0
 Steps bytes ops was old now new reader source (Ok None) = (op : Op) × IsReading bytes (ops ++ op ∷ []) reader source × Feeds was old now new (op ∷ [])
 Steps bytes ops was old now new reader source (Ok (Some len)) = AreWhole bytes len ops × (now ≡ was) × (new ≡ old)
 Steps bytes ops was old now new reader source (Err Bad) = AreBad bytes
 Steps bytes ops was old now new reader source (Err Disk) = ⊥
-Steps bytes ops was old now new reader source (Err NoMemory) = Unit {0}
+Steps bytes ops was old now new reader source (Err NoMemory) = (rest : List ℕ) × Starts bytes ops rest × IsWanting old.hold old.most old.held (was ≡ true) rest
 
 -- the whole frames at the front of a piece were taken in
 pub record TakesPiece (bytes : List ℕ) (len : ℕ) (was : Bool) (old : State) (now : Bool) (new : State) : Type 0 where
   pub ops : List Op
   pub whole : AreWhole bytes len ops
   pub feeds : Feeds was old now new ops
+
+-- The operations at the front of the bytes were taken in, and memory was wanting for what stands behind them: to read
+-- on, or for the next frame.
+pub record Lacks (Begins : List ℕ → Type 0) (bytes : List ℕ) (was : Bool) (old : State) : Type 0 where
+  pub ops : List Op
+  pub rest : List ℕ
+  pub starts : Starts bytes ops rest
+  pub now : Bool
+  pub new : State
+  pub feeds : Feeds was old now new ops
+  pub same : IsSame old new
+  pub wants : Begins rest ⊎ IsWanting new.hold new.most new.held (now ≡ true) rest

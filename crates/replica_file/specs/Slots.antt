@@ -1,19 +1,18 @@
 -- The slots of a file, one after another, on their way into a replica.
 use Rattle.std.specs.Prelude.{◌≡◌, ◌≢◌, ◌⊎◌, ℕ, ◌+◌, ◌<◌, ◌≤◌, List, [], ◌++◌, length, take, drop, Some, slice_get, Err, Bool, true, false}
 use Rattle.fugue_ids.specs.declared.op.Op.{Op}
+use Rattle.origin_model.specs.declared.files.TheConstants.{LONGEST_BATCH}
 use Rattle.origin_model.specs.files.Image.{Batch, IsBatch, OpenSlots, batch_ops, has_header, header_of, is_header, number_at, open_slots, slots_of}
 use Rattle.origin_model.specs.frames.Frames.{IsBad, IsPartial, Reads, Starts, Whole}
 use Rattle.replica_core.specs.State.{State}
 use Rattle.replica_file.specs.Load.{AnswerIs}
 use Rattle.replica_file.specs.Loading.{AreIn, Feeds}
+use Rattle.replica_file.specs.Pieces.{Lacks}
+use Rattle.replica_file.specs.Wanting.{BeginsPiece, part_of}
 use Rattle.replica_file.specs.declared.end.End.{End}
 use Rattle.replica_file.specs.declared.header.Header.{Header}
 use Rattle.replica_file.specs.declared.load_fault.LoadFault.{LoadFault}
 use Rattle.replica_file.specs.declared.gate_place.Gate.{Gate}
-
--- the bytes of a file from an offset on, so many
-abbrev pub part_of : List ℕ → (at len : ℕ) → List ℕ
-part_of bytes at len = take len (drop at bytes)
 
 -- frames of the operations are the first so many bytes of a part, and they were taken in
 pub record TakesSome (bytes : List ℕ) (at len taken : ℕ) (was : Bool) (old : State) (now : Bool) (new : State) : Type 0 where
@@ -39,6 +38,11 @@ pub record EndsOff (bytes : List ℕ) : Type 0 where
 -- the part is not all there, or it is not whole frames
 abbrev pub HasNoFrames : List ℕ → (at len : ℕ) → Type 0
 HasNoFrames bytes at len = (length (drop at bytes) < len) ⊎ EndsOff (part_of bytes at len)
+
+-- the length of the batch behind a gate was read, and memory was wanting for its frames
+pub record LacksInSlot (bytes : List ℕ) (at : ℕ) (was : Bool) (old : State) : Type 0 where
+  pub short : number_at (at + 1) bytes ≤ LONGEST_BATCH
+  pub lacks : Lacks (BeginsPiece bytes (at + 5) (number_at (at + 1) bytes)) (part_of bytes (at + 5) (number_at (at + 1) bytes)) was old
 
 -- a gate is open or not, as the byte at its place says
 pub record IsGate (bytes : List ℕ) (gate : Gate) : Type 0 where

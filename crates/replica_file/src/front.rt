@@ -1,4 +1,4 @@
-ghost use Rattle.std.specs.Prelude.{◌≡◌, ◌<◌, ◌≤◌, false, IfSome, IfOk, IfErr, ℕ};
+ghost use Rattle.std.specs.Prelude.{◌≡◌, ◌≢◌, ◌<◌, ◌≤◌, false, IfSome, IfOk, IfErr, ℕ};
 ghost use Rattle.origin_model.specs.files.Image.{has_header};
 ghost use Rattle.fugue_ids.specs.declared.limits.TheConstants.{GREATEST_HOLD};
 ghost use Rattle.replica_file.specs.Looks.{LooksOnly};
@@ -42,6 +42,7 @@ fn read_both<H: Disk>(disk: &mut H) -> Result<Front, Stop>
     ensures within { IfOk result (λ front.
         (0 < front.header.replica) × (0 < front.header.hold) × (front.header.hold ≤ GREATEST_HOLD)) }
     ensures bad { result ≡ Err Stop.Bad → IfSome (H.seen disk.old).past (λ h. has_header h.last.seen ≡ false) }
+    ensures no_memory { result ≢ Err Stop.NoMemory }
     ensures looks { LooksOnly (H.seen disk.old) (H.seen disk.new) (result ≡ Err Stop.Disk) }
 {
     let header = read_header(disk)?;

@@ -1,4 +1,4 @@
-ghost use Rattle.std.specs.Prelude.{◌≡◌, ◌⊎◌, ◌↔◌, ◌+◌, ◌<◌, ◌≤◌, false, true, length, IfSome, IsSome, IfOk};
+ghost use Rattle.std.specs.Prelude.{◌≡◌, ◌≢◌, ◌⊎◌, ◌↔◌, ◌+◌, ◌<◌, ◌≤◌, false, true, length, IfSome, IsSome, IfOk};
 ghost use Rattle.fugue_ids.specs.declared.limits.TheConstants.{GREATEST_HOLD};
 ghost use Rattle.origin_model.specs.files.Image.{header_of, is_header, new_file as new_file_of, number_at};
 ghost use Rattle.replica_file.specs.Looks.{LooksOnly};
@@ -41,6 +41,7 @@ pub(crate) fn read_header<H: Disk>(disk: &mut H) -> Result<Header, Stop>
     ensures within { IfOk result (λ header. (0 < header.replica) × (0 < header.hold) × (header.hold ≤ GREATEST_HOLD)) }
     ensures bad { result ≡ Err Stop.Bad → IfSome (H.seen disk.old).past (λ h.
         (length (header_of h.last.seen) < 13) ⊎ (is_header (header_of h.last.seen) ≡ false)) }
+    ensures no_memory { result ≢ Err Stop.NoMemory }
     ensures looks { LooksOnly (H.seen disk.old) (H.seen disk.new) (result ≡ Err Stop.Disk) }
 {
     let mut bytes = [0; HEADER];

@@ -1,11 +1,11 @@
 ghost use Rattle.std.specs.Prelude.{◌≡◌, ◌≢◌, ◌⊎◌, ◌<◌, ◌≤◌, ◌+◌, IfSome, IfOk, IfErr, OnOk};
 ghost use Rattle.fugue_ids.specs.Causes.{Rose};
 ghost use Rattle.fugue_ids.specs.declared.limits.TheConstants.{MOST_OPERATIONS};
-ghost use Rattle.outer_ports.specs.disk.Disks.{spent};
+ghost use Rattle.outer_ports.specs.disk.Disks.{DiskTells, spent};
 ghost use Rattle.outer_ports.specs.disk.Moments.{LeavesOnlyTo, MayLeave, after};
 ghost use Rattle.outer_ports.specs.disk.States.{settled};
 ghost use Rattle.replica_file.specs.Ends.{EndsAt, Reaches};
-ghost use Rattle.replica_file.specs.Load.{AnswersBy, LastsToLoad, Loads};
+ghost use Rattle.replica_file.specs.Load.{AnswersBy, LacksMemory, LastsToLoad, Loads};
 ghost use Rattle.replica_file.specs.Loading.{IsReady};
 ghost use Rattle.replica_file.specs.Looks.{LooksOnly};
 ghost use Rattle.replica_file.specs.Slots.{StopsFor};
@@ -24,6 +24,7 @@ pub fn load<H: Disk>(alloc: Global, disk: &mut H, most: u32) -> Result<(Replica,
     requires some { 0 < most }
     requires within { most ≤ MOST_OPERATIONS }
     ensures exactly { IfSome (H.seen disk.old).past (λ h. AnswersBy result most h.last.seen) }
+    ensures memory { result ≡ Err LoadFault.NoMemory → IfSome (H.seen disk.old).past (λ h. LacksMemory most h.last.seen) }
     ensures ready { IfOk result (λ loaded. IsReady loaded.0) }
     ensures ends { IfOk result (λ loaded. IfSome (H.seen disk.new).past (λ h. EndsAt h.last loaded.1)) }
     ensures reaches { IfOk result (λ loaded. Reaches loaded.1) }
@@ -37,6 +38,8 @@ pub fn load<H: Disk>(alloc: Global, disk: &mut H, most: u32) -> Result<(Replica,
     ensures sure { IfSome (H.seen disk.old).room (λ room. LastsToLoad room → result ≢ Err LoadFault.DiskFault) }
     ensures calm { IfSome (H.seen disk.old).room (λ room.
         LastsToLoad room → (H.seen disk.new).faults ≡ (H.seen disk.old).faults) }
+    ensures calm_told { DiskTells (H.seen disk.old) → result ≢ Err LoadFault.DiskFault
+        → (H.seen disk.new).faults ≡ (H.seen disk.old).faults }
 {
     disk.sync()?;
     read_all(alloc, disk, most)

@@ -1,6 +1,6 @@
-ghost use Rattle.std.specs.Prelude.{◌≡◌, ◌<◌, ◌≤◌, ◌∷◌, [], true, OnOk};
+ghost use Rattle.std.specs.Prelude.{◌≡◌, ◌<◌, ◌≤◌, ◌∷◌, [], true, OnOk, OnErr};
 ghost use Rattle.fugue_ids.specs.declared.limits.TheConstants.{GREATEST_HOLD, MOST_OPERATIONS};
-ghost use Rattle.origin_model.specs.taking.Taking.{nothing};
+ghost use Rattle.origin_model.specs.taking.Taking.{answer, is_kept, nothing};
 ghost use Rattle.replica_core.specs.State.{Stands};
 ghost use Rattle.replica_file.specs.Loading.{Feeds, IsReady, IsSame};
 
@@ -47,6 +47,8 @@ impl Loading {
         requires { IsReady self.old.replica }
         ensures feeds { OnOk result (Feeds self.old.finds_place self.old.replica
             self.new.finds_place self.new.replica (op ∷ [])) }
+        ensures memory { OnErr result ((self.old.finds_place ≡ true)
+            × (is_kept (answer self.old.replica.hold self.old.replica.most self.old.replica.held op) ≡ true)) }
         ensures ready { OnOk result (IsReady self.new.replica) }
         ensures same { OnOk result (IsSame self.old.replica self.new.replica) }
     {

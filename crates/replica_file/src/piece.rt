@@ -1,7 +1,7 @@
 ghost use Rattle.std.specs.Prelude.{◌≡◌, ◌≢◌, ◌<◌, ◌≤◌, ◌+◌, [], None, length, List, ℕ, IfOk, OnOk};
 ghost use Rattle.fugue_ids.specs.declared.op.Op.{Op};
 ghost use Rattle.replica_file.specs.Loading.{IsReady, IsSame};
-ghost use Rattle.replica_file.specs.Pieces.{AreBad, IsReading, Steps, TakesPiece};
+ghost use Rattle.replica_file.specs.Pieces.{AreBad, IsReading, Lacks, Steps, TakesPiece};
 
 use crate::loading::Loading;
 use crate::stop::Stop;
@@ -76,6 +76,8 @@ pub(crate) fn take_piece(alloc: Global, bytes: Vec<u8>, loading: &mut Loading) -
     ensures took { IfOk result (λ len. TakesPiece bytes.items len loading.old.finds_place loading.old.replica
         loading.new.finds_place loading.new.replica) }
     ensures bad { result ≡ Err Stop.Bad → AreBad bytes.items }
+    ensures memory { result ≡ Err Stop.NoMemory
+        → Lacks (λ rest. rest ≡ bytes.items) bytes.items loading.old.finds_place loading.old.replica }
     ensures ready { OnOk result (IsReady loading.new.replica) }
     ensures same { OnOk result (IsSame loading.old.replica loading.new.replica) }
     ensures not_disk { result ≢ Err Stop.Disk }

@@ -1,9 +1,9 @@
-ghost use Rattle.std.specs.Prelude.{◌≡◌, ◌⊎◌, ◌+◌, ◌<◌, ◌≤◌, ◌^◌, ℕ, length, drop, IfSome, IfOk, OnOk};
+ghost use Rattle.std.specs.Prelude.{◌≡◌, ◌≢◌, ◌⊎◌, ◌+◌, ◌<◌, ◌≤◌, ◌^◌, ℕ, length, drop, IfSome, IfOk, OnOk};
 ghost use Rattle.origin_model.specs.declared.files.TheConstants.{LONGEST_BATCH};
 ghost use Rattle.origin_model.specs.files.Image.{IsNoBatch, number_at};
 ghost use Rattle.replica_file.specs.Loading.{IsReady, IsSame};
 ghost use Rattle.replica_file.specs.Looks.{LooksOnly};
-ghost use Rattle.replica_file.specs.Slots.{IsGate, TakesSlot};
+ghost use Rattle.replica_file.specs.Slots.{IsGate, LacksInSlot, TakesSlot};
 
 use crate::batch::LENGTH;
 use crate::frames::take_frames;
@@ -29,6 +29,8 @@ pub(crate) fn take_slot<H: Disk>(
         loading.old.finds_place loading.old.replica loading.new.finds_place loading.new.replica)) }
     ensures bad { result ≡ Err Stop.Bad → IfSome (H.seen disk.old).past (λ h.
         (slot : ℕ) → IsNoBatch slot (drop (at + 1) h.last.seen)) }
+    ensures memory { result ≡ Err Stop.NoMemory → IfSome (H.seen disk.old).past (λ h.
+        LacksInSlot h.last.seen at loading.old.finds_place loading.old.replica) }
     ensures reach { IfOk result (λ next. next.at ≤ at + 268435461) }
     ensures ready { OnOk result (IsReady loading.new.replica) }
     ensures same { OnOk result (IsSame loading.old.replica loading.new.replica) }
@@ -47,6 +49,7 @@ fn read_length<H: Disk>(disk: &mut H, at: u64) -> Result<u64, Stop>
     ensures short { IfOk result (λ len. len ≤ LONGEST_BATCH) }
     ensures bad { result ≡ Err Stop.Bad → IfSome (H.seen disk.old).past (λ h.
         (length (drop at h.last.seen) < 4) ⊎ (LONGEST_BATCH < number_at at h.last.seen)) }
+    ensures no_memory { result ≢ Err Stop.NoMemory }
     ensures looks { LooksOnly (H.seen disk.old) (H.seen disk.new) (result ≡ Err Stop.Disk) }
 {
     let mut number = [0; LENGTH];
@@ -66,6 +69,7 @@ pub(crate) fn read_gate<H: Disk>(disk: &mut H, at: u64) -> Result<Gate, Stop>
     ensures told { IfOk result (λ gate. IfSome (H.seen disk.old).past (λ h. IsGate h.last.seen gate)) }
     ensures at { IfOk result (λ gate. gate.at ≡ at) }
     ensures bad { result ≡ Err Stop.Bad → IfSome (H.seen disk.old).past (λ h. length h.last.seen ≤ at) }
+    ensures no_memory { result ≢ Err Stop.NoMemory }
     ensures looks { LooksOnly (H.seen disk.old) (H.seen disk.new) (result ≡ Err Stop.Disk) }
 {
     let mut gate = [CLOSED; 1];

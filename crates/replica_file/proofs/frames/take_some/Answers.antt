@@ -1,7 +1,8 @@
-use Rattle.std.proofs.Common.{ℕ, arith, subst, inr}
+use Rattle.std.proofs.Common.{ℕ, arith, refl, subst, inr}
 use Rattle.std.proofs.lemmas.Result.{err_from_is_err_and}
-use Rattle.replica_file.specs.Pieces.{AreWhole}
-use Rattle.replica_file.proofs.PartLemmas.{piece_bad, piece_none, piece_took, told_one}
+use Rattle.replica_file.specs.Wanting.{AreWhole}
+use Rattle.replica_file.proofs.PartLemmas.{piece_bad, piece_lacks, piece_none, piece_took, piece_whole, told_all, told_one}
+use Rattle.replica_file.proofs.PieceLemmas.{lacks_none}
 use Rattle.replica_file.proofs.frames.take_some.Goals as goal
 
 pub returns-in_err-len-clause-bad : goal.returns-in_err-len-clause-bad
@@ -20,3 +21,19 @@ pub returns-clause-took : goal.returns-clause-took
 returns-clause-took g c =
     told_one (g.H.Disk.seen c.args.disk.now).past (λ h told. piece_took h.last.seen c.args.at c.args.left c.min-size.result c.in_ok-piece.piece.items told (omega arith) c.in_ok-len.len
     c.args.loading.now.finds_place c.take_piece.new.loading.finds_place c.args.loading.now.replica c.take_piece.new.loading.replica c.in_ok-len.ensures.took) c.in_ok-piece.ensures.told
+
+pub returns-in_err-piece-clause-memory : goal.returns-in_err-piece-clause-memory
+returns-in_err-piece-clause-memory g c is = told_all (g.H.Disk.seen c.args.disk.now).past (λ h. lacks_none _ _ c.args.loading.now.finds_place c.args.loading.now.replica refl)
+
+pub returns-in_err-len-clause-memory : goal.returns-in_err-len-clause-memory
+returns-in_err-len-clause-memory g c is =
+    let p = err_from_is_err_and c.from_residual-in_err-len.result c.from_residual-in_err-len.ensures.1 in
+    let lacks = c.in_err-len.ensures.memory (cc (is, p.1, p.2)) in
+    told_one (g.H.Disk.seen c.args.disk.now).past (λ h told. piece_lacks h.last.seen c.args.at c.args.left c.min-size.result c.in_ok-piece.piece.items told (omega arith)
+    c.args.loading.now.finds_place c.args.loading.now.replica lacks) c.in_ok-piece.ensures.told
+
+pub returns-clause-whole : goal.returns-clause-whole
+returns-clause-whole g c =
+    let took = c.in_ok-len.ensures.took in
+    told_one (g.H.Disk.seen c.args.disk.now).past (λ h told. piece_whole h.last.seen c.args.at c.args.left c.min-size.result c.in_ok-piece.piece.items told (omega arith) c.in_ok-len.len took.ops took.whole (omega arith))
+    c.in_ok-piece.ensures.told

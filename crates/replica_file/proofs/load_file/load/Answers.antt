@@ -1,4 +1,4 @@
-use Rattle.replica_file.proofs.LoadLemmas.{ends_settled, exactly_settled, settled_leaves}
+use Rattle.replica_file.proofs.LoadLemmas.{ends_settled, exactly_settled, lacks_settled, settled_leaves}
 use Rattle.replica_file.proofs.load_file.load.Goals as goal
 
 pub returns-clause-exactly : goal.returns-clause-exactly
@@ -14,3 +14,7 @@ pub returns-clause-moments : goal.returns-clause-moments
 returns-clause-moments g c =
     settled_leaves (g.H.Disk.seen c.args.disk.now).past (g.H.Disk.seen c.sync.new.self).past (g.H.Disk.seen c.read_all.new.disk).past c.in_ok-sync.ensures.honest c.in_ok-sync.ensures.settled
     c.read_all.ensures.looks.past
+
+pub returns-clause-memory : goal.returns-clause-memory
+returns-clause-memory g c =
+    lacks_settled c.args.most (g.H.Disk.seen c.args.disk.now).past (g.H.Disk.seen c.sync.new.self).past c.read_all.result c.in_ok-sync.ensures.settled c.read_all.ensures.stops

@@ -1,7 +1,7 @@
 use Rattle.std.proofs.Common.{◌∙◌}
 use Rattle.std.proofs.lemmas.Result.{err_from_is_err_and}
 use Rattle.replica_file.proofs.PartLemmas.{told_two}
-use Rattle.replica_file.proofs.SlotLemmas.{bad_frames, no_gate, slot_ends}
+use Rattle.replica_file.proofs.SlotLemmas.{bad_frames, no_gate, slot_ends, slot_lacks}
 use Rattle.replica_file.proofs.slot.take_slot.Goals as goal
 
 pub returns-in_err-take_frames-clause-bad : goal.returns-in_err-take_frames-clause-bad
@@ -21,3 +21,9 @@ returns-clause-bad g c is =
     no_gate (g.H.Disk.seen c.args.disk.now).past (g.H.Disk.seen c.read_length.new.disk).past (g.H.Disk.seen c.take_frames.new.disk).past c.args.at c.in_ok-len.len
     c.args.loading.now.finds_place c.take_frames.new.loading.finds_place c.args.loading.now.replica c.take_frames.new.loading.replica c.in_ok-len.ensures.looks.past
     (c.in_ok-take_frames.ensures.looks.past ∙ c.in_ok-len.ensures.looks.past) c.in_ok-len.ensures.told c.in_ok-take_frames.ensures.took (c.read_gate.ensures.bad is)
+
+pub returns-in_err-take_frames-clause-memory : goal.returns-in_err-take_frames-clause-memory
+returns-in_err-take_frames-clause-memory g c is =
+    let p = err_from_is_err_and c.from_residual-in_err-take_frames.result c.from_residual-in_err-take_frames.ensures.1 in
+    told_two (g.H.Disk.seen c.args.disk.now).past (g.H.Disk.seen c.read_length.new.disk).past c.in_ok-len.ensures.looks.past
+    (λ h told lacks. slot_lacks h.last.seen c.args.at c.in_ok-len.len told.0 _ _ c.in_ok-len.ensures.short lacks) c.in_ok-len.ensures.told (c.in_err-take_frames.ensures.memory (cc (is, p.1, p.2)))

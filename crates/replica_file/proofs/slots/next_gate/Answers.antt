@@ -1,7 +1,7 @@
 use Rattle.std.proofs.Common.{refl, arith}
 use Rattle.origin_model.specs.files.Image.{LastSlot}
 use Rattle.replica_file.proofs.PartLemmas.{told_one, told_two}
-use Rattle.replica_file.proofs.WalkLemmas.{walk_bad, walk_many, walk_on}
+use Rattle.replica_file.proofs.WalkLemmas.{walk_bad, walk_lacks, walk_many, walk_on}
 use Rattle.replica_file.proofs.slots.next_gate.Goals as goal
 
 pub returns-then-slots-eq4294967295-clause-stops : goal.returns-then-slots-eq4294967295-clause-stops
@@ -29,3 +29,9 @@ returns-in-Err-Bad-clause-stops g c =
     told_two (g.H.Disk.seen c.args.disk.now).past (g.H.Disk.seen c.args.disk.now).past refl
     (λ h w bad. walk_bad h.last.seen c.args.slots c.args.gate c.args.loading.now.replica w c.requires.open c.args.most c.requires.most (bad c.args.slots)) c.requires.walked
     (c.in-Err-Bad.ensures.bad (cc c.in-Err-Bad.field-0-is))
+
+pub returns-in-Err-NoMemory-clause-stops : goal.returns-in-Err-NoMemory-clause-stops
+returns-in-Err-NoMemory-clause-stops g c =
+    told_two (g.H.Disk.seen c.args.disk.now).past (g.H.Disk.seen c.args.disk.now).past refl
+    (λ h w lacks. walk_lacks h.last.seen c.args.slots c.args.gate c.args.loading.now.replica w c.requires.open c.args.most c.requires.most _ c.requires.finds_place (omega arith) lacks) c.requires.walked
+    (c.in-Err-NoMemory.ensures.memory (cc c.in-Err-NoMemory.field-0-is))

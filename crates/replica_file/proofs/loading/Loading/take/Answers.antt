@@ -1,4 +1,4 @@
-use Rattle.replica_file.proofs.LoadingLemmas.{feeds_dropped, feeds_refused, feeds_taken, refused_many}
+use Rattle.replica_file.proofs.LoadingLemmas.{feeds_dropped, feeds_refused, feeds_taken, refused_many, wanted_kept}
 use Rattle.replica_file.proofs.loading.Loading.take.Goals as goal
 
 pub returns-then-not-self-clause-feeds : goal.returns-then-not-self-clause-feeds
@@ -12,3 +12,7 @@ pub returns-in-Err-TooMany-clause-feeds : goal.returns-in-Err-TooMany-clause-fee
 returns-in-Err-TooMany-clause-feeds c =
     let both = refused_many _ _ c.args.op _ _ c.in-Err-TooMany.field-0 c.in-Err-TooMany._most c.in-Err-TooMany.field-0-is c.in-Err-TooMany.ensures.too_many c.in-Err-TooMany.ensures.err in
     feeds_refused _ _ _ c.args.op c.if-not-self.false both.0 both.1
+
+pub returns-in-Err-NoMemory-clause-memory : goal.returns-in-Err-NoMemory-clause-memory
+returns-in-Err-NoMemory-clause-memory c =
+    (c.if-not-self.false, wanted_kept _ _ _ _ _ _ c.in-Err-NoMemory.field-0-is c.in-Err-NoMemory.ensures.err)
