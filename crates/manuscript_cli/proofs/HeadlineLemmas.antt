@@ -1,14 +1,16 @@
 -- From what `show` does at each of its ends: the headline, and that the stream decides the status.
-use Rattle.std.proofs.Common.{◌≡◌, ℕ, ◌≤◌, List, length, refl, ap, sym, subst, ◌∙◌, inl, inr}
+use Rattle.std.proofs.Common.{◌≡◌, ◌≢◌, ℕ, ◌≤◌, List, length, refl, ap, sym, subst, ◌∙◌, inl, inr}
 use Rattle.std.specs.Prelude.{Some}
 use Rattle.fugue_ids.specs.declared.op.Op.{Op}
 use Rattle.origin_model.specs.frames.Frames.{Reads, Whole as EndsWhole}
-use Rattle.origin_model.specs.taking.Taking.{HasPlace, nothing}
+use Rattle.origin_model.specs.order.Laws.{OrderBySet}
+use Rattle.origin_model.specs.taking.Taking.{HasPlace, held, nothing}
 use Rattle.op_frame.specs.Courses.{Course, Whole, CutShort, BadFrame, TooLong, TooMany}
-use Rattle.manuscript_cli.specs.Headline.{Headline, status_for, IsDecided}
+use Rattle.manuscript_cli.proofs.LawfulLemmas.{held_lawful, printed_by_set}
+use Rattle.manuscript_cli.specs.Headline.{Headline, IsCalm, IsDecided, status_for}
 use Rattle.fugue_ids.specs.declared.limits.TheConstants.{MOST_OPERATIONS, STREAM_LIMIT}
 use Rattle.manuscript_cli.specs.Show.{ComesTo, Showed, Finished, StreamRefused, ShowMeets}
-use Rattle.manuscript_cli.specs.Touched.{Streams}
+use Rattle.manuscript_cli.specs.Touched.{Streams, change}
 use Rattle.manuscript_cli.specs.declared.refusal.Refusal.{Refusal}
 use Rattle.manuscript_cli.specs.declared.refusal.Refusal.TheVariants as refusal
 use Rattle.manuscript_cli.specs.declared.status.Status.{Status}
@@ -53,24 +55,34 @@ whole : (hold : ℕ) (bytes : List ℕ) (ops : List Op) → Reads bytes ops Ends
 whole hold bytes ops reads short place = record { has_place = place; ends = (short, reads) }
 
 -- where no object failed and no limit was met, the stream was shown
-pub headline : (hold : ℕ) (old new : Streams) (end : Status) → ShowMeets hold old new end → Headline hold old new end
-headline hold old new status.Done meets bytes ops is reads short place calm memory =
+whole_showed : (hold : ℕ) (old new : Streams) (end : Status) (bytes : List ℕ) (ops : List Op) → ShowMeets hold old new end → old.input.left ≡ Some bytes → Reads bytes ops EndsWhole → length bytes ≤ STREAM_LIMIT
+    → HasPlace hold MOST_OPERATIONS nothing ops → IsCalm old new → end ≢ status.NoMemory → Showed hold nothing ops old new end
+whole_showed hold old new status.Done bytes ops meets is reads short place calm memory =
     (finished_so hold old new bytes ops Whole is (whole hold bytes ops reads short place) status.Done meets).0
-headline hold old new status.Partial meets bytes ops is reads short place calm memory =
+whole_showed hold old new status.Partial bytes ops meets is reads short place calm memory =
     (finished_so hold old new bytes ops Whole is (whole hold bytes ops reads short place) status.Partial meets).0
-headline hold old new status.BadInput meets bytes ops is reads short place calm memory =
+whole_showed hold old new status.BadInput bytes ops meets is reads short place calm memory =
     absurd (elim meets.1 [
       | inl bad ↦ cc (refused_so hold old new bytes ops Whole is (whole hold bytes ops reads short place) (BadFrame meets.0) (refusal.BadFrame meets.0) bad)
       | inr cut ↦ cc (refused_so hold old new bytes ops Whole is (whole hold bytes ops reads short place) (CutShort meets.0) (refusal.CutShort meets.0) cut)
     ])
-headline hold old new status.Limit meets bytes ops is reads short place calm memory =
+whole_showed hold old new status.Limit bytes ops meets is reads short place calm memory =
     absurd (elim meets [
       | inl long ↦ cc (refused_so hold old new bytes ops Whole is (whole hold bytes ops reads short place) TooLong refusal.TooLong long)
       | inr many ↦ cc (refused_so hold old new bytes ops Whole is (whole hold bytes ops reads short place) TooMany (refusal.TooMany MOST_OPERATIONS) many)
     ])
-headline hold old new status.OutsideFault (inl read) bytes ops is reads short place calm memory = absurd (calm.input read.rose)
-headline hold old new status.OutsideFault (inr (inl write)) bytes ops is reads short place calm memory = absurd (calm.output write.rose)
-headline hold old new status.OutsideFault (inr (inr note)) bytes ops is reads short place calm memory = absurd (calm.notes note.rose)
-headline hold old new status.NoMemory meets bytes ops is reads short place calm memory = absurd (memory refl)
-headline hold old new status.Usage meets bytes ops is reads short place calm memory = absurd meets
-headline hold old new status.BadFile meets bytes ops is reads short place calm memory = absurd meets
+whole_showed hold old new status.OutsideFault bytes ops (inl read) is reads short place calm memory = absurd (calm.input read.rose)
+whole_showed hold old new status.OutsideFault bytes ops (inr (inl write)) is reads short place calm memory = absurd (calm.output write.rose)
+whole_showed hold old new status.OutsideFault bytes ops (inr (inr note)) is reads short place calm memory = absurd (calm.notes note.rose)
+whole_showed hold old new status.NoMemory bytes ops meets is reads short place calm memory = absurd (memory refl)
+whole_showed hold old new status.Usage bytes ops meets is reads short place calm memory = absurd meets
+whole_showed hold old new status.BadFile bytes ops meets is reads short place calm memory = absurd meets
+
+-- and what was printed is fixed by the set of what was accepted
+pub headline : OrderBySet → (hold : ℕ) (old new : Streams) (end : Status) → ShowMeets hold old new end → Headline hold old new end
+headline order hold old new end meets bytes ops is reads short place calm memory =
+    let showed = whole_showed hold old new end bytes ops meets is reads short place calm memory in
+    record {
+      showed = showed;
+      by_set = printed_by_set order (held hold MOST_OPERATIONS ops).history (change old.output new.output) (held_lawful hold MOST_OPERATIONS nothing ops tt) showed.output;
+    }

@@ -18,3 +18,4 @@ pub mod MergeLemmas
 pub mod GivenLemmas
 pub mod SavesLemmas
 pub mod SyncLemmas
+pub mod LawfulLemmas

@@ -3,11 +3,12 @@ use Rattle.std.specs.Prelude.{◌≡◌, ◌≢◌, ◌⊎◌, ℕ, ◌≤◌, L
 use Rattle.fugue_ids.specs.Causes.{Rose}
 use Rattle.fugue_ids.specs.declared.op.Op.{Op}
 use Rattle.origin_model.specs.frames.Frames.{Reads, Whole as EndsWhole}
-use Rattle.origin_model.specs.taking.Taking.{HasPlace, nothing}
+use Rattle.origin_model.specs.taking.Taking.{HasPlace, held, nothing}
 use Rattle.op_frame.specs.Courses.{Course, Whole, CutShort, BadFrame, TooLong, TooMany}
 use Rattle.fugue_ids.specs.declared.limits.TheConstants.{MOST_OPERATIONS, STREAM_LIMIT}
+use Rattle.manuscript_cli.specs.Printing.{PrintedBySet}
 use Rattle.manuscript_cli.specs.Show.{ComesTo, Showed, status_after}
-use Rattle.manuscript_cli.specs.Touched.{Streams}
+use Rattle.manuscript_cli.specs.Touched.{Streams, change}
 use Rattle.manuscript_cli.specs.declared.status.Status.{Status}
 use Rattle.manuscript_cli.specs.declared.status.Status.TheVariants as status
 
@@ -17,13 +18,18 @@ pub record IsCalm (old new : Streams) : Type 0 where
   pub output : Rose old.output.faults new.output.faults → ⊥
   pub notes : Rose old.notes.faults new.notes.faults → ⊥
 
+-- all was shown, and the set of the accepted operations alone fixes what was printed
+pub record ShowedBySet (hold : ℕ) (ops : List Op) (old new : Streams) (end : Status) : Type 0 where
+  pub showed : Showed hold nothing ops old new end
+  pub by_set : PrintedBySet (held hold MOST_OPERATIONS ops).history (change old.output new.output)
+
 -- For every stream of framed operations, however ordered, cut or repeated, the manuscript printed is the visible part of one total order fixed
 -- by the set of accepted operations alone; an operation is accepted exactly when its causes are and its identifier holds no other record,
 -- otherwise it waits within the stated capacity or is refused by name; so replicas that accepted the same set print equal bytes.
 abbrev pub Headline : (hold : ℕ) → Streams → Streams → Status → Type 0
 Headline hold old new end =
     (bytes : List ℕ) (ops : List Op) → old.input.left ≡ Some bytes → Reads bytes ops EndsWhole → length bytes ≤ STREAM_LIMIT → HasPlace hold MOST_OPERATIONS nothing ops
-    → IsCalm old new → end ≢ status.NoMemory → Showed hold nothing ops old new end
+    → IsCalm old new → end ≢ status.NoMemory → ShowedBySet hold ops old new end
 
 -- the status to which a stream leads
 abbrev pub status_for : (hold : ℕ) → List Op → Course → Status

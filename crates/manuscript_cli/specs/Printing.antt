@@ -2,12 +2,15 @@
 use Rattle.std.specs.Prelude.{◌≡◌, ◌⊎◌, ℕ, List, length}
 use Rattle.fugue_ids.specs.Causes.{Rose}
 use Rattle.fugue_ids.specs.Outs.{OutView, Took, TookFront}
+use Rattle.fugue_ids.specs.declared.op.Op.{Op}
+use Rattle.origin_model.specs.operations.Verdict.{Lawful}
+use Rattle.origin_model.specs.order.Laws.{SameOps}
 use Rattle.origin_model.specs.order.Printed.{manuscript}
 use Rattle.origin_model.specs.taking.Taking.{Held}
 use Rattle.origin_model.specs.declared.taking.tally.Tally.{Tally}
 use Rattle.manuscript_cli.specs.Counts.{counts_line, status_by}
 use Rattle.manuscript_cli.specs.Refusal.{line_of, Told, TookFronts}
-use Rattle.manuscript_cli.specs.Touched.{HasRoom, notes_room}
+use Rattle.manuscript_cli.specs.Touched.{Change, HasRoom, notes_room}
 use Rattle.manuscript_cli.specs.declared.refusal.Refusal.TheVariants as refusal
 use Rattle.manuscript_cli.specs.declared.status.Status.{Status}
 use Rattle.manuscript_cli.specs.declared.status.Status.TheVariants as status
@@ -43,3 +46,8 @@ pub record NotPrinted (state : Held) (output output' notes notes' : OutView) (en
 
 abbrev pub PrintMeets : Held → Tally → OutView → OutView → OutView → OutView → Status → Type 0
 PrintMeets state counts output output' notes notes' end = Printed state counts output output' notes notes' end ⊎ NotPrinted state output output' notes notes' end
+
+-- The accepted operations are lawful, and what was printed is the manuscript of every lawful list that has the same operations.
+pub record PrintedBySet (history : List Op) (output : Change OutView) : Type 0 where
+  pub lawful : Lawful history
+  pub printed : (other : List Op) → Lawful other → SameOps history other → Took output.old output.new (manuscript other)

@@ -4,24 +4,27 @@ use Rattle.origin_model.specs.frames.Frames.{frames}
 use Rattle.origin_model.specs.order.Printed.{manuscript}
 use Rattle.origin_model.specs.taking.Taking.{Held}
 use Rattle.outer_ports.specs.Sources.{SourceView}
+use Rattle.replica_core.specs.State.{State as Replica}
+use Rattle.replica_file.specs.declared.end.End.{End}
 use Rattle.manuscript_cli.specs.Bulk.{Bulks}
 use Rattle.manuscript_cli.specs.Crashes.{IsFinished}
 use Rattle.manuscript_cli.specs.Edit.{script}
 use Rattle.manuscript_cli.specs.FileOut.{WritesFileOut}
-use Rattle.manuscript_cli.specs.Files.{KeepsFile}
+use Rattle.manuscript_cli.specs.Files.{FileHolds, KeepsFile}
 use Rattle.manuscript_cli.specs.New.{Creates}
+use Rattle.manuscript_cli.specs.Printing.{PrintedBySet}
 use Rattle.manuscript_cli.specs.Refusal.{line_of, Told}
 use Rattle.manuscript_cli.specs.Relay.{Relays}
 use Rattle.manuscript_cli.specs.Saving.{Giver, SavesGiven}
 use Rattle.manuscript_cli.specs.Show.{ShowMeets, ShowStaysCalm, NeverOutside}
 use Rattle.manuscript_cli.specs.Sync.{SpeaksFor, reply}
 use Rattle.manuscript_cli.specs.Take.{ops_of, other_file, stream}
-use Rattle.manuscript_cli.specs.Touched.{DiskStaysCalm, Touched, change}
+use Rattle.manuscript_cli.specs.Touched.{DiskStaysCalm, IsTold, Touched, change}
 use Rattle.manuscript_cli.specs.declared.command.Command.{Command}
 use Rattle.manuscript_cli.specs.declared.command.Command.TheVariants.{Show, New, Edit, Print, Take, Send, Merge, Relay, Sync, Bulk}
 use Rattle.manuscript_cli.specs.declared.refusal.Refusal.TheVariants.{Words}
 use Rattle.manuscript_cli.specs.declared.status.Status.{Status}
-use Rattle.manuscript_cli.specs.declared.status.Status.TheVariants.{Usage}
+use Rattle.manuscript_cli.specs.declared.status.Status.TheVariants.{Done, Usage}
 
 -- the words are no command: they alone decide it, and only the notes are used
 pub record UsageMeets (old new : Touched) (end : Status) : Type 0 where
@@ -45,6 +48,12 @@ pub record RunsNew (replica hold : ℕ) (old new : Touched) (end : Status) : Typ
 pub record RunsFileOut (text : Held → List ℕ) (old new : Touched) (end : Status) : Type 0 where
   pub others : new ≡ record old { streams = record old.streams { output = new.streams.output; notes = new.streams.notes }; home = new.home }
   pub does : WritesFileOut text (change old.home new.home) (change old.streams.output new.streams.output) (change old.streams.notes new.streams.notes) end
+
+-- `print`: where all was done, the set of the operations that the file's replica accepted alone fixes what was printed
+pub record RunsPrint (old new : Touched) (end : Status) : Type 0 where
+  pub writes : RunsFileOut (λ held. manuscript held.history) old new end
+  pub by_set : end ≡ Done → IsTold old.home → (replica : Replica) (at : End) → FileHolds old.home replica at
+      → PrintedBySet replica.held.history (change old.streams.output new.streams.output)
 
 -- where all was done, the input was read to its end
 pub record ReadsInput (old new : SourceView) (end : Status) : Type 0 where
@@ -90,7 +99,7 @@ Meets None old new end = UsageMeets old new end
 Meets (Some (Show hold)) old new end = RunsShow hold old new end
 Meets (Some (New replica hold)) old new end = RunsNew replica hold old new end
 Meets (Some Edit) old new end = RunsOnInput (script (change old.streams.input new.streams.input)) old new end
-Meets (Some Print) old new end = RunsFileOut (λ held. manuscript held.history) old new end
+Meets (Some Print) old new end = RunsPrint old new end
 Meets (Some Take) old new end = RunsOnInput (stream (change old.streams.input new.streams.input)) old new end
 Meets (Some Send) old new end = RunsFileOut frames_held old new end
 Meets (Some Merge) old new end = RunsMerge old new end

@@ -17,6 +17,7 @@ use crate::show::show;
 use crate::sync_file::sync_file;
 use crate::take::take;
 use crate::{Command, Status, read_words};
+use origin_model::order_by_set;
 use outer_ports::{Disk, Dock, Sink, Source, Wire};
 use std::alloc::Global;
 use std::hash::BuildHasher;
@@ -69,6 +70,8 @@ pub fn run<S: Source, O: Sink, N: Sink, H: Disk, G: Disk, W: Wire, D: Dock, B: B
         (record { input = S.seen input.old; output = O.seen output.old; notes = N.seen notes.old })
         (record { input = S.seen input.new; output = O.seen output.new; notes = N.seen notes.new }) result }
 {
+    // Replicas that accepted the same operations print the same by this law.
+    order_by_set();
     match read_words(words) {
         None => tell(notes, Refusal::Words),
         Some(Command::Show(hold)) => show(alloc, hold, input, output, notes),
