@@ -51,9 +51,9 @@ not_both replica script why outcome (inl long) runs = omega (arith, long.1, runs
 not_both replica script why outcome (inr faulty) runs =
     scripts_run_once.apart replica runs.last faulty.last script (length runs.made) faulty.fault faulty.no_want runs.runs faulty.stops
 
--- what is so of told bytes
-told : (P : List ℕ → Type 0) (left : Option (List ℕ)) (bytes : List ℕ) → left ≡ Some bytes → IfSome left P → P bytes
-told P left bytes is p = subst (λ (l : Option (List ℕ)). IfSome l P) is p
+-- what is so of the script that is left is so of told bytes
+told : (P : List ℕ → Type 0) (left : Option (List ℕ)) (bytes : List ℕ) → left ≡ Some bytes → (script : List ℕ) × IfSome left (λ b. b ≡ script) × P script → P bytes
+told P left bytes is p = subst P (sym (subst (λ (l : Option (List ℕ)). IfSome l (λ b. b ≡ p.0)) is p.1)) p.2
 
 pub script_once : (input : Change SourceView) → GivesOnce (script input)
 script_once input is replica (Refuses f) (Refuses g) a b =
@@ -65,24 +65,28 @@ script_once input is replica (Does f) (Refuses g) a b =
 script_once input is replica (Does f) (Does g) a b =
     ap Does (one_outcome replica is.0 f g (told (λ s. RunsScript replica s f) input.old.left is.0 is.1 a) (told (λ s. RunsScript replica s g) input.old.left is.0 is.1 b))
 
--- what is so of a script that was read whole
-read_whole : (P : List ℕ → Type 0) (script : List ℕ) (before after : Option (List ℕ)) → before ≡ prepend_known script after → IfSome after (λ (left : List ℕ). left ≡ []) → P script → IfSome before P
-read_whole P script before None is ended p = subst (λ (l : Option (List ℕ)). IfSome l P) (sym is) tt
-read_whole P script before (Some left) is ended p =
-    subst (λ (l : Option (List ℕ)). IfSome l P) (sym is) (subst P (sym (ap (λ (l : List ℕ). script ++ l) ended ∙ append-nil script)) p)
+-- a script that was read whole was left
+read_whole : (script : List ℕ) (before after : Option (List ℕ)) → before ≡ prepend_known script after → IfSome after (λ (left : List ℕ). left ≡ []) → IfSome before (λ b. b ≡ script)
+read_whole script before None is ended = subst (λ (l : Option (List ℕ)). IfSome l (λ b. b ≡ script)) (sym is) tt
+read_whole script before (Some left) is ended =
+    subst (λ (l : Option (List ℕ)). IfSome l (λ b. b ≡ script)) (sym is) (ap (λ (l : List ℕ). script ++ l) ended ∙ append-nil script)
 
 module _ (replica last : Replica) (before after : SourceView) (n : ℕ) (run : Runs replica last before after n) where
   -- a script that ran gives its outcome
   pub gives_outcome : ScriptGives before replica (Does (made_outcome last run.2.ops))
   gives_outcome =
-      read_whole (λ s. RunsScript replica s (made_outcome last run.2.ops)) run.0 before.left after.left run.1.told run.1.ended (record {
-        short = run.1.short;
-        made = run.2.ops;
-        last = last;
-        runs = subst (RunsWhole replica last run.0) run.2.count run.2;
-        made_are = run.2.accepted_are;
-        outcome_is = refl;
-      })
+      (
+        run.0,
+        read_whole run.0 before.left after.left run.1.told run.1.ended,
+        record {
+          short = run.1.short;
+          made = run.2.ops;
+          last = last;
+          runs = subst (RunsWhole replica last run.0) run.2.count run.2;
+          made_are = run.2.accepted_are;
+          outcome_is = refl;
+        },
+      )
 
   -- and saved, it suffices
   pub outcome_suffices : Stands replica → IsSettled replica.held → Suffices replica (made_outcome last run.2.ops)
@@ -102,10 +106,10 @@ module _ (replica last : Replica) (before after : SourceView) (n : ℕ) (run : R
       let before_is = ap length old_is in
       ap (take (length new - length old)) behind ∙ take_all (length new - length old) run.2.ops (omega (arith, many, grown, before_is, length-append (accepted replica.held.history) run.2.ops))
 
--- what is so of a longer script
-read_more : (P : List ℕ → Type 0) (front : List ℕ) (before after : Option (List ℕ)) → before ≡ prepend_known front after → ((more : List ℕ) → P (front ++ more)) → IfSome before P
-read_more P front before None is p = subst (λ (l : Option (List ℕ)). IfSome l P) (sym is) tt
-read_more P front before (Some left) is p = subst (λ (l : Option (List ℕ)). IfSome l P) (sym is) (p left)
+-- a script of which a front was read was left, with more behind it
+read_more : (front : List ℕ) (before after : Option (List ℕ)) → before ≡ prepend_known front after → (more : List ℕ) × IfSome before (λ b. b ≡ front ++ more)
+read_more front before None is = ([], subst (λ (l : Option (List ℕ)). IfSome l (λ b. b ≡ front ++ [])) (sym is) tt)
+read_more front before (Some left) is = (left, subst (λ (l : Option (List ℕ)). IfSome l (λ b. b ≡ front ++ left)) (sym is) refl)
 
 -- a script that stopped gives its refusal
 pub gives_refusal : (replica last : Replica) (before after : SourceView) (fault : ScriptFault) → fault ≢ script_fault.NoMemory → fault ≢ script_fault.ReadFault
@@ -113,11 +117,13 @@ pub gives_refusal : (replica last : Replica) (before after : SourceView) (fault 
 gives_refusal replica last before after script_fault.ReadFault no_want no_fault stops = absurd (no_fault refl)
 gives_refusal replica last before after script_fault.NoMemory no_want no_fault stops = absurd (no_want refl)
 gives_refusal replica last before after script_fault.TooLong no_want no_fault stops =
-    read_more (λ s. ScriptRefuses replica s (script_refusal script_fault.TooLong)) stops.1.front before.left after.left stops.1.told
-    (λ more. inl (refl, omega (arith, stops.1.long, length-append stops.1.front more)))
-gives_refusal replica last before after fault no_want no_fault stops =
-    read_whole (λ s. ScriptRefuses replica s (script_refusal fault)) stops.0 before.left after.left stops.1.told stops.1.ended
-    (inr (record { short = stops.1.short; fault = fault; why_is = refl; no_want = no_want; last = last; stops = stops.2 }))
+    let left = read_more stops.1.front before.left after.left stops.1.told in
+    (stops.1.front ++ left.0, left.1, inl (refl, omega (arith, stops.1.long, length-append stops.1.front left.0)))
+gives_refusal replica last before after fault no_want no_fault stops = (
+  stops.0,
+  read_whole stops.0 before.left after.left stops.1.told stops.1.ended,
+  inr (record { short = stops.1.short; fault = fault; why_is = refl; no_want = no_want; last = last; stops = stops.2 }),
+)
 
 -- a script that stopped, and whose operations are not saved
 pub script_stops : (input : Change SourceView) (replica last : Replica) (end : End) (file : DiskView) (fault : ScriptFault) → Stops replica last input.old input.new fault

@@ -50,10 +50,14 @@ pub record HasFaultyLine (replica : Replica) (script : List ℕ) (why : Refusal)
 abbrev pub ScriptRefuses : Replica → List ℕ → Refusal → Type 0
 ScriptRefuses replica script why = ((why ≡ refusal.TooLong) × (LONGEST_SCRIPT < length script)) ⊎ HasFaultyLine replica script why
 
--- what a script gives
+-- the script is all that the source has left, where that is told
+abbrev pub IsLeft : SourceView → List ℕ → Type 0
+IsLeft input script = IfSome input.left (λ bytes. bytes ≡ script)
+
+-- what a script gives: that of one script, also where the source tells none
 abbrev pub ScriptGives : SourceView → Replica → Finding Outcome → Type 0
-ScriptGives input replica (Refuses why) = IfSome input.left (λ script. ScriptRefuses replica script why)
-ScriptGives input replica (Does outcome) = IfSome input.left (λ script. RunsScript replica script outcome)
+ScriptGives input replica (Refuses why) = (script : List ℕ) × IsLeft input script × ScriptRefuses replica script why
+ScriptGives input replica (Does outcome) = (script : List ℕ) × IsLeft input script × RunsScript replica script outcome
 
 abbrev pub script : Change SourceView → Giver
 script input = record {
