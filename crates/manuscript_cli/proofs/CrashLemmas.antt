@@ -1,8 +1,9 @@
 -- What a crash leaves of a replica's file at the ends of a command.
-use Rattle.std.proofs.Common.{◌≡◌, inl, inr, ℕ, List, [], ◌++◌, refl, ap, sym, subst, ◌∙◌}
+use Rattle.std.proofs.Common.{◌≡◌, ◌≢◌, inl, inr, ℕ, List, [], ◌++◌, true, refl, ap, sym, subst, ◌∙◌}
 use Rattle.std.specs.Prelude.{◌⊎◌, Option, Some, None, IfSome}
 use Rattle.std.proofs.lemmas.List.{append-nil}
 use Rattle.fugue_ids.specs.declared.op.Op.{Op}
+use Rattle.origin_model.specs.files.Image.{has_header}
 use Rattle.outer_ports.specs.disk.Disks.{DiskView}
 use Rattle.outer_ports.specs.disk.Moments.{History, LeavesOnly, LeavesOnlyTo, after, moments, stepped}
 use Rattle.outer_ports.specs.disk.States.{IsHonest, at_rest, settled}
@@ -24,6 +25,10 @@ module _ (header : Header) (ops more : List Op) (h : History) (safe : IsSafe hea
   -- what the file had at entry
   pub has_one : (had : List Op) × HasOps header had h.last.seen
   has_one = elim (safe.leaves h.last.seen safe.honest) [ inl first ↦ (ops, first) | inr both ↦ (ops ++ more, both) ]
+
+  -- which is never empty
+  pub safe_filled : h.last.seen ≢ []
+  safe_filled none = let header_there = subst (λ bytes. has_header bytes ≡ true) none has_one.1.holds.0 in cc header_there
 
   pub settling_leaves : LeavesOnly h (stepped settled h) (HasOpsOr header ops more)
   settling_leaves = leaves_more (HasOpsOr header ops more) h h settled (leaves_none (HasOpsOr header ops more) h)
@@ -71,6 +76,17 @@ kept_never_torn file end keeps settled_so header ops more h is safe =
       kept_safe header ops more h safe file.new.past end
           (elim keeps.past [ inl synced ↦ inl (synced ∙ loaded) | inr same ↦ inr (same ∙ is) ]) (λ done. settled_so done ∙ loaded),
     )
+
+-- nor is one that was not touched, by a command that did not do all
+pub still_never_torn : (file : Change DiskView) (end : Status) → (IsFinished end → ⊥) → IfSome file.old.past (λ h. h.last.seen ≢ [] → file.new.past ≡ file.old.past) → NeverTorn (λ gave. gave ≡ []) file end
+still_never_torn file end not_done still header ops more h is safe =
+    let same = subst (λ o. IfSome o (λ (k : History). k.last.seen ≢ [] → file.new.past ≡ file.old.past)) is still in
+    ([], refl, kept_safe header ops more h safe file.new.past end (inr (same (safe_filled header ops more h safe) ∙ is)) (λ done. absurd (not_done done)))
+
+-- and an empty file is not safe
+pub empty_never_torn : (Gave : List Op → Type 0) (file : Change DiskView) (end : Status) → IfSome file.old.past (λ h. h.last.seen ≡ []) → NeverTorn Gave file end
+empty_never_torn Gave file end empty header ops more h is safe =
+    absurd (safe_filled header ops more h safe (subst (λ o. IfSome o (λ (k : History). k.last.seen ≡ [])) is empty))
 
 module _ (header : Header) (ops more : List Op) (h : History) (safe : IsSafe header ops more h.last) (gave : List Op) (new : Option History) (gains : GainsAllOrNone gave h new) where
   abbrev had : List Op

@@ -4,16 +4,17 @@ use Rattle.std.specs.Prelude.{◌↔◌, Option, Some, None, Result, Ok, Err, If
 use Rattle.fugue_ids.specs.Causes.{Rose}
 use Rattle.fugue_ids.specs.Outs.{OutView}
 use Rattle.origin_model.specs.files.Image.{HasImage, Holds, new_file}
-use Rattle.outer_ports.proofs.SharedLemmas.{image_at_rest}
+use Rattle.outer_ports.proofs.SharedLemmas.{image_at_rest, leaves_none}
 use Rattle.outer_ports.specs.disk.Disks.{DiskView, RoomView}
-use Rattle.outer_ports.specs.disk.Moments.{History, MayHaveWritten, after}
+use Rattle.outer_ports.specs.disk.Moments.{History, LeavesOnlyTo, MayHaveWritten, MayLeave, after}
 use Rattle.outer_ports.specs.disk.States.{State, at_rest, settled, wrote}
 use Rattle.replica_file.specs.Create.{LastsToCreate, nothing_yet}
 use Rattle.replica_file.specs.declared.create_fault.CreateFault.{CreateFault}
 use Rattle.replica_file.specs.declared.create_fault.CreateFault.TheVariants.{NotEmpty, DiskFault}
+use Rattle.manuscript_cli.proofs.CrashLemmas.{empty_never_torn, still_never_torn}
 use Rattle.manuscript_cli.specs.Crashes.{IsSafe}
 use Rattle.manuscript_cli.specs.Files.{bytes_of}
-use Rattle.manuscript_cli.specs.New.{Creates}
+use Rattle.manuscript_cli.specs.New.{Creates, KeepsFilled}
 use Rattle.manuscript_cli.specs.Refusal.{create_refusal, line_of, status_of, Told}
 use Rattle.manuscript_cli.specs.Touched.{HasDiskRoom, change}
 use Rattle.manuscript_cli.specs.declared.refusal.Refusal.TheVariants as refusal
@@ -72,6 +73,21 @@ by_room P old lasts has = subst (λ room. IfSome room (λ r. LastsToCreate r →
 empty_only : (old : DiskView) → IfSome old.past (λ h. h.last.seen ≡ []) → (bytes : List ℕ) → bytes_of old.past ≡ Some bytes → bytes ≢ [] → ⊥
 empty_only old empty bytes is filled = filled (same_bytes (λ b. b ≡ []) old.past bytes empty is)
 
+-- a file that had bytes, and is as it was
+abbrev Stays : (old new : Option History) → Type 0
+Stays old new = IfSome old (λ h. h.last.seen ≢ [] → new ≡ old)
+
+still_leaves : (old new : Option History) → Stays old new → IfSome old (λ h. h.last.seen ≢ [] → LeavesOnlyTo h new (MayLeave h))
+still_leaves None new stays = tt
+still_leaves (Some h) new stays = λ filled. subst (λ past. LeavesOnlyTo h past (MayLeave h)) (sym (stays filled)) (leaves_none (MayLeave h) h)
+
+keeps_filled : (old new : DiskView) → Stays old.past new.past → KeepsFilled (change old new)
+keeps_filled old new stays = record { past = stays; moments = still_leaves old.past new.past stays }
+
+empty_stays : (old new : Option History) → IfSome old (λ h. h.last.seen ≡ []) → Stays old new
+empty_stays None new empty = tt
+empty_stays (Some h) new empty = λ filled. absurd (filled empty)
+
 pub created : (replica hold : ℕ) (old new : DiskView) (notes : OutView) (x : Unit {0}) → Finds (Ok x) old.past
     → new.past ≡ after settled (after (wrote 0 (new_file replica hold)) old.past) → IfSome new.past (λ k. k.last ≡ at_rest (new_file replica hold))
     → HasImage (new_file replica hold) (Holds (nothing_yet replica hold)) → IfSome old.room (λ room. LastsToCreate room → new.faults ≡ old.faults)
@@ -85,28 +101,34 @@ created replica hold old new notes x found calls made holds calm = record {
     noted = refl;
   };
   decided = record { empty = λ is. inl refl; not_empty = λ bytes is filled. absurd (empty_only old (found_empty x old.past found) bytes is filled) };
+  filled = keeps_filled old new (empty_stays old.past new.past (found_empty x old.past found));
+  crash = empty_never_torn (λ gave. gave ≡ []) (change old new) status.Done (found_empty x old.past found);
   home_calm = by_room (new.faults ≡ old.faults) old calm;
   notes_calm = λ has. refl;
   never_outside = λ has is. cc is;
 }
 
-found_not_empty : (replica hold : ℕ) (old new : DiskView) (notes notes' : OutView) → Finds (Err NotEmpty) old.past → new.past ≡ old.past
+found_not_empty : (replica hold : ℕ) (old new : DiskView) (notes notes' : OutView) → Finds (Err NotEmpty) old.past → new.past ≡ old.past → Stays old.past new.past
     → IfSome old.room (λ room. LastsToCreate room → new.faults ≡ old.faults) → Told notes notes' (line_of refusal.NotEmpty)
     → Creates replica hold (change old new) (change notes notes') status.BadFile
-found_not_empty replica hold old new notes notes' found kept calm told = record {
+found_not_empty replica hold old new notes notes' found kept stays calm told = record {
   meets = record { found = found_filled old.past found; kept = kept; noted = told };
   decided = record { empty = λ is. absurd (same_bytes (λ b. b ≢ []) old.past [] (found_filled old.past found) is refl); not_empty = λ bytes is filled. inl refl };
+  filled = keeps_filled old new stays;
+  crash = still_never_torn (change old new) status.BadFile (λ done. elim done [ inl is ↦ cc is | inr is ↦ cc is ]) stays;
   home_calm = by_room (new.faults ≡ old.faults) old calm;
   notes_calm = told.calm;
   never_outside = λ has is. cc is;
 }
 
-failed : (replica hold : ℕ) (old new : DiskView) (notes notes' : OutView) → MayHaveWritten 0 14 old.past new.past → Rose old.faults new.faults → IfSome old.room (λ room. LastsToCreate room → ⊥)
+failed : (replica hold : ℕ) (old new : DiskView) (notes notes' : OutView) → MayHaveWritten 0 14 old.past new.past → Stays old.past new.past → Rose old.faults new.faults → IfSome old.room (λ room. LastsToCreate room → ⊥)
     → IfSome old.room (λ room. LastsToCreate room → new.faults ≡ old.faults) → Told notes notes' (line_of refusal.Outside)
     → Creates replica hold (change old new) (change notes notes') status.OutsideFault
-failed replica hold old new notes notes' torn rose sure calm told = record {
+failed replica hold old new notes notes' torn stays rose sure calm told = record {
   meets = record { torn = torn; rose = rose; no_room = by_room ⊥ old sure; noted = told };
   decided = record { empty = λ is. inr (refl, rose); not_empty = λ bytes is filled. inr (refl, rose) };
+  filled = keeps_filled old new stays;
+  crash = still_never_torn (change old new) status.OutsideFault (λ done. elim done [ inl is ↦ cc is | inr is ↦ cc is ]) stays;
   home_calm = by_room (new.faults ≡ old.faults) old calm;
   notes_calm = told.calm;
   never_outside = λ has is. by_room ⊥ old sure has;
@@ -118,11 +140,11 @@ never_failed (Some r) answer is sure = λ lasts. sure lasts is
 
 -- a file was not made, and why was told
 pub not_created : (replica hold : ℕ) (old new : DiskView) (notes notes' : OutView) (fault : CreateFault) (answer : Answer) → answer ≡ Err fault → Finds answer old.past
-    → (answer ≡ Err NotEmpty → (new.past ≡ old.past) × (new.room ≡ old.room)) → MayHaveWritten 0 14 old.past new.past
+    → (answer ≡ Err NotEmpty → (new.past ≡ old.past) × (new.room ≡ old.room)) → Stays old.past new.past → MayHaveWritten 0 14 old.past new.past
     → (answer ≡ Err DiskFault → Rose old.faults new.faults) → IfSome old.room (λ room. LastsToCreate room → answer ≢ Err DiskFault)
     → IfSome old.room (λ room. LastsToCreate room → new.faults ≡ old.faults) → Told notes notes' (line_of (create_refusal fault))
     → Creates replica hold (change old new) (change notes notes') (status_of (create_refusal fault))
-not_created replica hold old new notes notes' NotEmpty answer is found kept torn rose sure calm told =
-    found_not_empty replica hold old new notes notes' (subst (λ a. Finds a old.past) is found) (kept is).0 calm told
-not_created replica hold old new notes notes' DiskFault answer is found kept torn rose sure calm told =
-    failed replica hold old new notes notes' torn (rose is) (never_failed old.room answer is sure) calm told
+not_created replica hold old new notes notes' NotEmpty answer is found kept stays torn rose sure calm told =
+    found_not_empty replica hold old new notes notes' (subst (λ a. Finds a old.past) is found) (kept is).0 stays calm told
+not_created replica hold old new notes notes' DiskFault answer is found kept stays torn rose sure calm told =
+    failed replica hold old new notes notes' torn stays (rose is) (never_failed old.room answer is sure) calm told

@@ -4,9 +4,9 @@ use Rattle.fugue_ids.specs.Causes.{Rose}
 use Rattle.fugue_ids.specs.Outs.{OutView}
 use Rattle.origin_model.specs.files.Image.{new_file}
 use Rattle.outer_ports.specs.disk.Disks.{DiskView}
-use Rattle.outer_ports.specs.disk.Moments.{MayHaveWritten}
+use Rattle.outer_ports.specs.disk.Moments.{LeavesOnlyTo, MayHaveWritten, MayLeave}
 use Rattle.outer_ports.specs.disk.States.{at_rest}
-use Rattle.manuscript_cli.specs.Crashes.{IsSafe}
+use Rattle.manuscript_cli.specs.Crashes.{IsSafe, NeverTorn}
 use Rattle.manuscript_cli.specs.Files.{bytes_of}
 use Rattle.manuscript_cli.specs.Refusal.{line_of, Told}
 use Rattle.manuscript_cli.specs.Touched.{Change, DiskStaysCalm, HasDiskRoom, StaysCalm, notes_room}
@@ -48,10 +48,17 @@ pub record NewIsDecided (home : Change DiskView) (end : Status) : Type 0 where
   pub not_empty : (bytes : List ℕ) → bytes_of home.old.past ≡ Some bytes → bytes ≢ []
       → (end ≡ status.BadFile) ⊎ ((end ≡ status.OutsideFault) × Rose home.old.faults home.new.faults)
 
+-- A file that had bytes is as it was, whatever the answer: no crash left of it what it could not leave at entry.
+pub record KeepsFilled (home : Change DiskView) : Type 0 where
+  pub past : IfSome home.old.past (λ h. h.last.seen ≢ [] → home.new.past ≡ home.old.past)
+  pub moments : IfSome home.old.past (λ h. h.last.seen ≢ [] → LeavesOnlyTo h home.new.past (MayLeave h))
+
 -- the command `new`
 pub record Creates (replica hold : ℕ) (home : Change DiskView) (notes : Change OutView) (end : Status) : Type 0 where
   pub meets : NewMeets replica hold home notes end
   pub decided : NewIsDecided home end
+  pub filled : KeepsFilled home
+  pub crash : NeverTorn (λ gave. gave ≡ []) home end
   -- sure objects with room count no fault
   pub home_calm : DiskStaysCalm 14 home
   pub notes_calm : StaysCalm notes_room notes.old notes.new

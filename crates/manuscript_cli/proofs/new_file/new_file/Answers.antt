@@ -8,4 +8,4 @@ returns-in-Ok g c = created _ _ _ _ _ _ c.in-Ok.ensures.not_empty c.in-Ok.ensure
 pub returns-in-Err : goal.returns-in-Err
 returns-in-Err g c =
     let found = c.in-Err.ensures in
-    rw c.tell.ensures.status (rw c.from.ensures (not_created _ _ _ _ _ _ c.in-Err.fault _ refl found.not_empty found.kept found.torn found.cause found.sure found.calm (rw c.from.ensures at c.tell.ensures.told)))
+    rw c.tell.ensures.status (rw c.from.ensures (not_created _ _ _ _ _ _ c.in-Err.fault _ refl found.not_empty found.kept found.overwrites_none found.torn found.cause found.sure found.calm (rw c.from.ensures at c.tell.ensures.told)))
