@@ -19,3 +19,4 @@ pub mod GivenLemmas
 pub mod SavesLemmas
 pub mod SyncLemmas
 pub mod LawfulLemmas
+pub mod RunsLemmas

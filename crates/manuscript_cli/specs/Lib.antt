@@ -21,3 +21,4 @@ pub mod Edit
 pub mod Relay
 pub mod Bulk
 pub mod Run
+pub mod Runs

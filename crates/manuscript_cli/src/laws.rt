@@ -6,6 +6,7 @@ ghost use Rattle.origin_model.specs.declared.files.TheConstants.{LONGEST_BATCH};
 ghost use Rattle.edit_script.specs.declared.script.TheConstants.{LONGEST_SCRIPT};
 ghost use Rattle.relay_core.specs.declared.relay.TheConstants.{MOST_LOGGED};
 ghost use Rattle.bulk_world.specs.declared.limits.TheConstants.{MOST_TURNS};
+ghost use Rattle.manuscript_cli.specs.Runs.{EachFinishedIsIn};
 ghost use Rattle.manuscript_cli.specs.declared.words.TheConstants.{GREATEST_CURSOR, GREATEST_PORT, GREATEST_REPLICA, GREATEST_SEED, MOST_SESSIONS, USUAL_HOLD};
 
 /// Each limit, in numbers. The contracts name them, so that each stands once.
@@ -24,4 +25,12 @@ pub fn limits_in_numbers()
     ensures cursor { GREATEST_CURSOR ≡ 4294967295 }
     ensures seed { GREATEST_SEED ≡ 4294967295 }
     ensures turns { MOST_TURNS ≡ 1000000 }
+{}
+
+/// Whatever a crash leaves of a file, each command that ended with Done or Partial since it was made is in it, in order.
+///
+/// The law speaks of runs on one home file from a `new` that did all on, each as `run` promises it; a crash may come inside of
+/// each of them and between two.
+pub fn every_finished_command_is_in_the_file()
+    ensures { EachFinishedIsIn }
 {}

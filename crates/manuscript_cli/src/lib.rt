@@ -24,7 +24,7 @@ mod top;
 mod words;
 
 pub use command::Command;
-pub use laws::limits_in_numbers;
+pub use laws::{every_finished_command_is_in_the_file, limits_in_numbers};
 pub use refusal::{Refusal, tell};
 pub use status::Status;
 pub use top::run;

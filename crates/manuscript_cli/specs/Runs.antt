@@ -1,0 +1,80 @@
+-- Commands on one home file, one after another, and what a crash after the last of them leaves of it.
+use Rattle.std.specs.Prelude.{◌≡◌, ◌⊎◌, ℕ, List, [], ◌∷◌, ◌++◌, Option, Some, None}
+use Rattle.fugue_ids.specs.declared.op.Op.{Op}
+use Rattle.outer_ports.specs.disk.Moments.{History, LeftSince, moment}
+use Rattle.outer_ports.specs.disk.States.{State, IsHonest, IsImage, at_rest}
+use Rattle.manuscript_cli.specs.Crashes.{IsFinished}
+use Rattle.manuscript_cli.specs.Edit.{script}
+use Rattle.manuscript_cli.specs.Files.{HasOps}
+use Rattle.manuscript_cli.specs.Run.{Meets}
+use Rattle.manuscript_cli.specs.Saving.{Gave}
+use Rattle.manuscript_cli.specs.Sync.{reply}
+use Rattle.manuscript_cli.specs.Take.{other_file, stream}
+use Rattle.manuscript_cli.specs.Touched.{Touched, change}
+use Rattle.manuscript_cli.specs.declared.command.Command.{Command}
+use Rattle.manuscript_cli.specs.declared.command.Command.TheVariants.{New, Edit, Take, Merge, Sync}
+use Rattle.manuscript_cli.specs.declared.status.Status.{Status}
+use Rattle.manuscript_cli.specs.declared.status.Status.TheVariants.{Done}
+
+-- what a command gave to be saved in its home file: but for those that save, nothing
+abbrev pub GaveBy : Option Command → Touched → Touched → Status → List Op → Type 0
+GaveBy (Some Edit) old new end ops = Gave (script (change old.streams.input new.streams.input)) old.home end ops
+GaveBy (Some Take) old new end ops = Gave (stream (change old.streams.input new.streams.input)) old.home end ops
+GaveBy (Some Merge) old new end ops = Gave (other_file (change old.guest new.guest)) old.home end ops
+GaveBy (Some (Sync port cursor)) old new end ops = Gave (reply cursor old.home (change old.wire new.wire)) old.home end ops
+GaveBy _ old new end ops = ops ≡ []
+
+-- One run of the program, as `run` promises it: it ended with its status, or a crash came at one of its moments, and left these bytes in the home file.
+pub record CommandRun : Type 0 where
+  pub command : Option Command
+  pub old : Touched
+  pub new : Touched
+  pub end : Status
+  pub meets : Meets command old new end
+  pub crash : Option (List ℕ)
+
+-- it ended, with Done or Partial
+abbrev pub DidAll : CommandRun → Type 0
+DidAll run = (run.crash ≡ None) × IsFinished run.end
+
+-- what a run brought into the file: all that it gave to be saved, or nothing where it did not do all
+pub record Brought (run : CommandRun) (ops : List Op) : Type 0 where
+  pub gave : List Op
+  pub given : GaveBy run.command run.old run.new run.end gave
+  pub all_or_none : (ops ≡ gave) ⊎ ((DidAll run → ⊥) × (ops ≡ []))
+
+-- what runs brought, one after another
+abbrev pub AllBrought : List CommandRun → List Op → Type 0
+AllBrought [] ops = ops ≡ []
+AllBrought (run ∷ runs) ops = (first : List Op) × (others : List Op) × Brought run first × AllBrought runs others × (ops ≡ first ++ others)
+
+-- the file behind a run: as it stood at the end, or at rest with what a crash at a moment since the beginning left
+abbrev pub StandsBehind : Option (List ℕ) → (began stood : History) → State → Type 0
+StandsBehind None began stood s = s ≡ stood.last
+StandsBehind (Some image) began stood s = LeftSince stood (moment began) image × (s ≡ at_rest image)
+
+-- a run finds the file in one state, and leaves it in another
+pub record LeadsFrom (run : CommandRun) (s t : State) : Type 0 where
+  pub began : History
+  pub began_is : run.old.home.past ≡ Some began
+  pub begins : began.last ≡ s
+  pub stood : History
+  pub stood_is : run.new.home.past ≡ Some stood
+  pub behind : StandsBehind run.crash began stood t
+
+-- between two runs nothing happens to the file, or a crash
+abbrev pub IsMeanwhile : State → State → Type 0
+IsMeanwhile s t = (t ≡ s) ⊎ ((image : List ℕ) × IsImage s image × (t ≡ at_rest image))
+
+-- runs one after another lead the file from one state to another, and nobody else writes it
+abbrev pub FollowEachOther : List CommandRun → State → State → Type 0
+FollowEachOther [] s t = t ≡ s
+FollowEachOther (run ∷ runs) s t = (found : State) × (left : State) × IsMeanwhile s found × LeadsFrom run found left × FollowEachOther runs left t
+
+-- From a `new` that did all on, whatever a crash after the runs leaves has the header that `new` wrote, and its operations are in order those that each
+-- finished command gave, and of each other one all or none; what a read gives is one of these.
+abbrev pub EachFinishedIsIn : Type 0
+EachFinishedIsIn =
+    (replica hold : ℕ) (old new : Touched) (made : History) (runs : List CommandRun) (last : State)
+    → Meets (Some (New replica hold)) old new Done → new.home.past ≡ Some made → FollowEachOther runs made.last last
+    → IsHonest last × ((image : List ℕ) → IsImage last image → (ops : List Op) × AllBrought runs ops × HasOps (record { replica = replica; hold = hold }) ops image)
