@@ -15,7 +15,7 @@ frames-init g c =
         settled = c.requires.settled;
         few = omega (arith, c.requires.few);
       };
-      count = record { later = omega arith; rose = λ failed. absurd failed; sure = refl; succeeds = λ sure failed. failed; calm = λ sure. refl };
+      count = record { later = omega arith; rose = λ failed. absurd failed; sure = refl; succeeds = λ sure failed. failed; calm = λ sure. refl; tells = λ tells. tells; calm_told = λ tells none. refl };
     }
 
 pub returns-in_err-step-clause-err : goal.returns-in_err-step-clause-err
@@ -37,6 +37,8 @@ frames-preserved g c =
         sure = c.in_ok-step.ensures.count.sure ∙ kept.count.sure;
         succeeds = λ sure failed. failed;
         calm = λ sure. c.in_ok-step.ensures.count.calm (kept.count.sure ∙ sure) ∙ kept.count.calm sure;
+        tells = λ tells. c.in_ok-step.ensures.count.tells (kept.count.tells tells);
+        calm_told = λ tells none. c.in_ok-step.ensures.count.calm_told (kept.count.tells tells) (λ is. cc is) ∙ kept.count.calm_told tells none;
       };
     }
 
