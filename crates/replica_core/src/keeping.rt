@@ -1,5 +1,5 @@
 //! Taking in, with a copy of each operation that is kept, for those who save what was kept.
-ghost use Rattle.std.specs.Prelude.{◌≡◌, ◌<◌, ◌++◌, ◌∷◌, [], OnOk, OnErr, IfErr, vec_len, vec_capacity};
+ghost use Rattle.std.specs.Prelude.{◌≡◌, ◌↔◌, ◌<◌, ◌++◌, ◌∷◌, [], Err, OnOk, OnErr, IfErr, vec_len, vec_capacity};
 ghost use Rattle.origin_model.specs.taking.Taking.{answer, TooMany, IsSettled};
 ghost use Rattle.replica_core.specs.State.{Stands};
 ghost use Rattle.replica_core.specs.Told.{StaysBelow};
@@ -12,7 +12,9 @@ use origin_model::Tally;
 impl Replica {
     /// Feeds the operation, and appends a copy of it to `kept` where it was accepted or waits.
     ///
-    /// The memory for the copy is taken first. After a fault `kept` is as before.
+    /// The memory for the copy is taken first, but for where as many are held as may be: then nothing more is kept, and one
+    /// that is too many is told as that and not as want of memory. After a fault `kept` is as before.
+    #[tactic(auto, using(crate::proofs::KeepingLemmas::full_keeps_none, crate::proofs::KeepingLemmas::room_for_one, crate::proofs::KeepingLemmas::kept_has_place))]
     pub fn feed_keeping(
         &mut self,
         op: Op,
@@ -22,11 +24,15 @@ impl Replica {
         requires settled { IsSettled self.old.held }
         requires counts_rise { StaysBelow tally.old }
         ensures ok { OnOk result (TakesInKeeping self.old self.new op tally.old tally.new kept.old.items kept.new.items) }
-        ensures too_many { answer self.old.hold self.old.most self.old.held op ≡ TooMany → OnOk result ⊥ }
+        ensures too_many { (result ≡ Err (FeedFault.TooMany self.old.most)) ↔ (answer self.old.hold self.old.most self.old.held op ≡ TooMany) }
         ensures err { IfErr result (λ fault. LeavesUnkept self.old self.new op tally.old tally.new fault) }
         ensures unkept { OnErr result (kept.new.items ≡ kept.old.items) }
         ensures stands { Stands self.new }
     {
+        if self.room() == 0 {
+            self.feed(op, tally)?;
+            return Ok(());
+        }
         let copy = op.clone_in(self.alloc)?;
         kept.reserve(1).map_err(NoMemory::from)?;
         if self.feed(op, tally)? {
