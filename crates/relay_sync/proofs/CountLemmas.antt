@@ -92,5 +92,5 @@ write_rises (Ok n) u v piece r = record { tells = wire_write_tells (Ok n) u v pi
 write_rises (Err e) u v piece r = record { tells = wire_write_tells (Err e) u v piece r; calm_told = λ tells none. absurd (none refl) }
 
 pub dial_rises : {E T : Type 0} (result : Result T E) (u v : WireView) (port : ℕ) → Dials {E = E} {T = T} u v result port → WireRisesFor (IsErr result) u v
-dial_rises {E} {T} (Ok x) u v port d = record { tells = dial_tells (Ok x) u v port d; calm_told = λ tells none. d.calm_told tells }
+dial_rises {E} {T} (Ok x) u v port d = record { tells = dial_tells (Ok x) u v port d; calm_told = λ tells none. d.calm_told tells.2 }
 dial_rises {E} {T} (Err e) u v port d = record { tells = dial_tells (Err e) u v port d; calm_told = λ tells none. absurd (none refl) }

@@ -36,6 +36,7 @@ dialled_none {E} {T} x u v port d = record {
   err = tt;
   cause = record { later = d.count.cause.later; failed = tt };
   sure = sure_dialled E T x u.room u.faults v.faults d.count.calm;
+  calm_told = d.calm_told;
 }
 
 dialled_stays : {E T : Type 0} (result : Result T E) (u v w : WireView) (port : ℕ) → v.port ≡ option_map (λ before. Some port) u.port → w.port ≡ v.port
@@ -61,6 +62,7 @@ says_refused {E} {T} {S} e u v port text d = record {
     err = record { count = 0; within = omega arith; took = took_none (out_of u) (out_of v) d.said d.room };
     cause = record { later = d.count.cause.later; failed = d.count.cause.failed };
     sure = sure_refused E S e u.room (length text) u.faults v.faults d.count.excused;
+    calm_told = λ tells. tt;
   };
   dialled = tt;
   no_other = inr (d.kept, d.said);

@@ -28,8 +28,8 @@ source_of wire = record { left = wire.left; faults = wire.faults; sure = is_some
 abbrev pub out_of : WireView → OutView
 out_of wire = record { written = wire.said; faults = wire.faults; room = wire.room }
 
--- The port is the one dialled, and nothing was read or written; nothing at an error. Where the wire tells, the count rises
--- only with an error.
+-- The port is the one dialled, and nothing was read or written; nothing at an error. Where the wire tells what was written,
+-- the count rises only with an error.
 pub record Dials {E T : Type 0} (old new : WireView) (result : Result T E) (port : ℕ) : Type 0 where
   pub dialled : OnOk result (new.port ≡ option_map (λ before. Some port) old.port)
   pub kept : OnErr result (new.port ≡ old.port)
@@ -37,7 +37,7 @@ pub record Dials {E T : Type 0} (old new : WireView) (result : Result T E) (port
   pub said : new.said ≡ old.said
   pub room : new.room ≡ old.room
   pub count : FailsOnlyFor old.room (λ room. ⊥) old.faults new.faults result
-  pub calm_told : WireTells old → OnOk result (new.faults ≡ old.faults)
+  pub calm_told : IsSome old.said → OnOk result (new.faults ≡ old.faults)
 
 -- a read, as of a source
 pub record WireReads {E : Type 0} (old new : WireView) (result : Result ℕ E) (buf : List ℕ) : Type 0 where
