@@ -1,4 +1,4 @@
-ghost use Rattle.std.specs.Prelude.{◌≡◌, ◌≤◌, ◌∷◌, [], IfOk, OnOk, length};
+ghost use Rattle.std.specs.Prelude.{◌≡◌, ◌≤◌, ◌∷◌, [], Contains, IfOk, OnOk, length};
 ghost use Rattle.std.specs.List.{insert};
 ghost use Rattle.fugue_ids.specs.Keys.{ids};
 ghost use Rattle.fugue_ids.specs.Listed.{index_of};
@@ -21,14 +21,14 @@ pub struct PlainOrder {
 }
 
 impl Model for PlainOrder {
-    ghost use Rattle.std.specs.Prelude.{All, List};
-    ghost use Rattle.fugue_ids.specs.Keys.{IsFit, Keyed};
+    ghost use Rattle.std.specs.Prelude.{◌≢◌, All, AllPairs, List};
+    ghost use Rattle.fugue_ids.specs.Keys.{ids, IsFit, Keyed};
 
     ghost Value = { List Keyed };
 
     ghost view = { λ o. o.entries.items };
 
-    ghost invariant = { λ o. All IsFit o.entries.items };
+    ghost invariant = { λ o. All IsFit o.entries.items × AllPairs (λ x y. x ≢ y) (ids o.entries.items) };
 }
 
 impl OrderOf for PlainOrder {
@@ -112,7 +112,8 @@ impl PlainOrder {
 
     /// One element more, behind `at` others.
     pub fn insert(&mut self, at: usize, id: ElementId, key: Key) -> Result<(), NoMemory>
-        requires { at ≤ length self.old }
+        requires within { at ≤ length self.old }
+        requires fresh { Contains (ids self.old) id → ⊥ }
         ensures { OnOk result (self.new ≡ insert self.old at (record { id = id; key = key })) }
     {
         self.entries.insert(at, Entry { id, key })?;
