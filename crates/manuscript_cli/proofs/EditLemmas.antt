@@ -74,19 +74,18 @@ read_whole script before (Some left) is ended =
 module _ (replica last : Replica) (before after : SourceView) (n : ℕ) (run : Runs replica last before after n) where
   -- a script that ran gives its outcome
   pub gives_outcome : ScriptGives before replica (Does (made_outcome last run.2.ops))
-  gives_outcome =
-      (
-        run.0,
-        read_whole run.0 before.left after.left run.1.told run.1.ended,
-        record {
-          short = run.1.short;
-          made = run.2.ops;
-          last = last;
-          runs = subst (RunsWhole replica last run.0) run.2.count run.2;
-          made_are = run.2.accepted_are;
-          outcome_is = refl;
-        },
-      )
+  gives_outcome = (
+    run.0,
+    read_whole run.0 before.left after.left run.1.told run.1.ended,
+    record {
+      short = run.1.short;
+      made = run.2.ops;
+      last = last;
+      runs = subst (RunsWhole replica last run.0) run.2.count run.2;
+      made_are = run.2.accepted_are;
+      outcome_is = refl;
+    },
+  )
 
   -- and saved, it suffices
   pub outcome_suffices : Stands replica → IsSettled replica.held → Suffices replica (made_outcome last run.2.ops)

@@ -256,8 +256,7 @@ pub each_finished_is_in : EachFinishedIsIn
 each_finished_is_in replica hold old new made runs last meets made_is follow =
     let header : Header = record { replica = replica; hold = hold } in
     let safe : IsSafe header [] [] made.last = subst (λ o. IfSome o (λ (k : History). IsSafe header [] [] k.last)) made_is meets.does.meets.safe in
-    let all = all_in header runs [] [] made.last last safe follow in
-    (
+    let all = all_in header runs [] [] made.last last safe follow in (
       all.honest,
       λ image is.
           let has = all.leaves image is in
