@@ -181,16 +181,19 @@ pub undecided_exactly : (fault : SyncFault) (before : Taking) (told : Option (Li
 undecided_exactly fault before None none = tt
 undecided_exactly fault before (Some bytes) none = λ by. absurd (none by)
 
+same_end : {x y : ReplyEnd} → Some x ≡ Some y → x ≡ y
+same_end e = cc e
+
 -- the answer to what was heard up to a fault
 fault_is : (fault : SyncFault) (end : ReplyEnd) (old new : WireView) (middle after : Taking) (place : ℕ) (bytes : List ℕ) → end_of fault ≡ Some end → StopsFor fault old new middle after place bytes → Err fault ≡ answer_to after end
 fault_is WireFault end old new middle after place bytes is s = absurd (cc is)
 fault_is NoMemory end old new middle after place bytes is s = absurd (cc is)
-fault_is (RelayRefused code) end old new middle after place bytes is s = ap (answer_to after) (cc is)
+fault_is (RelayRefused code) end old new middle after place bytes is s = ap (answer_to after) (same_end is)
 fault_is (TooMany most) end old new middle after place bytes is s =
-    ap (λ (n : ℕ). Err (TooMany n)) (s.1 ∙ ap (λ (t : Taking). t.replica.most) (sym s.0)) ∙ ap (answer_to after) (cc is)
-fault_is (BadReply at) end old new middle after place bytes is s = ap (answer_to after) (cc is)
-fault_is (CutShort at) end old new middle after place bytes is s = ap (answer_to after) (cc is)
-fault_is TooLong end old new middle after place bytes is s = ap (answer_to after) (cc is)
+    ap (λ (n : ℕ). Err (TooMany n)) (s.1 ∙ ap (λ (t : Taking). t.replica.most) (sym s.0)) ∙ ap (answer_to after) (same_end is)
+fault_is (BadReply at) end old new middle after place bytes is s = ap (answer_to after) (same_end is)
+fault_is (CutShort at) end old new middle after place bytes is s = ap (answer_to after) (same_end is)
+fault_is TooLong end old new middle after place bytes is s = ap (answer_to after) (same_end is)
 
 heard_exactly : (told : Option (List ℕ)) (before after : Taking) (count : ℕ) → HeardTo told before after (Ended count) → IfSome told (AnswersByReply (Ok (record { tally = after.counts; cursor = count })) before)
 heard_exactly None before after count h = tt
