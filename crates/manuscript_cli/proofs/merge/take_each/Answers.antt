@@ -1,6 +1,7 @@
-use Rattle.std.proofs.Common.{arith, get_or, subst, sym, ◌≡◌}
+use Rattle.std.proofs.Common.{arith, get_or, subst, sym, ◌≡◌, ◌≢◌}
 use Rattle.std.proofs.lemmas.Result.{err_from_is_err_and}
 use Rattle.fugue_ids.specs.declared.op.Op.{Op}
+use Rattle.origin_model.specs.taking.Taking.{TooMany, answer}
 use Rattle.manuscript_cli.proofs.MergeLemmas.{finds_no_place, takes_next}
 use Rattle.manuscript_cli.proofs.merge.take_each.Goals as goal
 
@@ -14,8 +15,10 @@ pub operations-preserved : goal.operations-preserved
 operations-preserved c =
     let fed = c.in_ok-feed_keeping.ensures in
     let is = subst (λ (o : Op). o ≡ get_or c.args.ops.now c.operations.op-index o) (sym c.in_ok-clone_in.ensures) c.op-item.is in
+    let held = c.operations.replica in
+    let has_place : answer held.hold held.most held.held c.in_ok-clone_in.field-0 ≢ TooMany = λ many. cc (fed.too_many.1 many) in
     record {
-      taken = takes_next _ _ _ c.operations-test.true is _ _ _ c.operations.invariant.taken fed.too_many fed.ok;
+      taken = takes_next _ _ _ c.operations-test.true is _ _ _ c.operations.invariant.taken has_place fed.ok;
       settled = fed.ok.settled;
       once = omega (arith, fed.ok.once, c.operations.invariant.once);
     }
