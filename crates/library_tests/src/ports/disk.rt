@@ -229,7 +229,7 @@ const OPENED: [(&str, [Opening; 2], [Result<u64, Failed>; 2]); 6] = [
     (
         "locked",
         [Opening::Writing, Opening::Reading],
-        [Ok(3), Err(Failed)],
+        [Ok(3), Ok(3)],
     ),
     (
         "locked",
@@ -249,7 +249,7 @@ const OPENED: [(&str, [Opening; 2], [Result<u64, Failed>; 2]); 6] = [
     (
         "locked",
         [Opening::Reading, Opening::Writing],
-        [Ok(3), Err(Failed)],
+        [Ok(3), Ok(3)],
     ),
     (
         "missing",
