@@ -44,7 +44,7 @@ run 'manuscript send ann.ms | manuscript take ben.ms'
 run 'manuscript send ben.ms | manuscript take ann.ms'
 both_print
 
-tell 'Now by a relay, which hands on what it hears. It serves three sessions: Ann tells what she has, Ben tells and hears, and Ann asks for what came since, by the cursor that she was told.'
+tell 'Now by a relay, which hands on what it hears. It serves three sessions: Ann tells what she has, Ben tells and hears, and Ann hears what Ben told.'
 run "printf 'add 2 The land\nput 2 0 Hills, mostly.\n' | manuscript edit ann.ms"
 run "printf 'put 1 0 Listen. \n' | manuscript edit ben.ms"
 port=$((20000 + RANDOM % 20000))
@@ -53,9 +53,9 @@ manuscript relay "$port" 3 >ready 2>log &
 relay=$!
 for ((waited = 0; waited < 100; waited++)); do [ -s ready ] && break; sleep 0.1; done
 sed 's/^/    /' ready
-run "manuscript sync ann.ms $port 0 2>&1 | tee told"
+run "manuscript sync ann.ms $port 0"
 run "manuscript sync ben.ms $port 0"
-run "manuscript sync ann.ms $port $(sed -n 's/^cursor //p' told)"
+run "manuscript sync ann.ms $port 0"
 wait "$relay"
 sed 's/^/    /' log
 both_print

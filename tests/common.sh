@@ -62,9 +62,12 @@ counts() {
     printf 'accepted %s, repeated %s, waiting %s, conflict %s, stray %s, full %s\\n' "$@"
 }
 
-# Compares what was seen with what is wanted: the status, the output and the notes, both as escapes.
+# Compares what was seen with what is wanted: the status, the output and the notes, both as escapes. The line that may
+# stand in front of the notes, on what the system refused or how a command is asked for, goes to `cause`.
 compare() {
     local name=$1 seen=$2 status=$3
+    sed -n '1{/^manuscript: /p;/^usage: /p;}' "$work/notes" >"$work/cause"
+    [ ! -s "$work/cause" ] || sed -i 1d "$work/notes"
     printf "$4" >"$work/wanted_output"
     printf "$5" >"$work/wanted_notes"
     tried=$((tried + 1))
@@ -74,6 +77,13 @@ compare() {
         failed=$((failed + 1))
         echo "FAILED: $name: status $seen and not $status, output '$(head -c 80 "$work/output")', notes '$(head -c 80 "$work/notes")'"
     fi
+}
+
+# Compares the line in front of the notes that were last compared with what is wanted.
+because() {
+    local line
+    line=$(cat "$work/cause")
+    check "because: $1" [ "$line" = "$1" ]
 }
 
 # Runs the program on a file, with the words behind what is wanted.

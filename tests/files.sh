@@ -125,17 +125,40 @@ check 'the file is as before' cmp -s "$f" "$work/edited"
 
 # The words.
 try 'no file' nothing 1 '' "$usage" print
+because 'usage: manuscript print FILE'
 try 'an empty name' nothing 1 '' "$usage" print ''
 try 'two files where one is printed' nothing 1 '' "$usage" print "$f" "$f"
 try 'no replica' nothing 1 '' "$usage" new "$work/none" 0 16
 try 'a hold of 0' nothing 1 '' "$usage" new "$work/none" 1 0
 try 'a hold that is too great' nothing 1 '' "$usage" new "$work/none" 1 1048577
+because 'usage: manuscript new FILE NUMBER HOLD'
 try 'a replica that is too great' nothing 1 '' "$usage" new "$work/none" 4294967296 16
 check 'words that are no command make no file' [ ! -e "$work/none" ]
 try 'a file that is not there is not made by an edit' chapter 4 '' "$outside" edit "$work/none"
+because "manuscript: $work/none: no such file (manuscript new makes one)"
 check 'indeed' [ ! -e "$work/none" ]
 try 'a folder' nothing 4 '' "$outside" print "$work"
+because "manuscript: $work: a directory, and no file"
 try 'the other file is not there' nothing 4 '' "$outside" merge "$f" "$work/none"
+because "manuscript: $work/none: no such file (manuscript new makes one)"
+mkfifo "$work/pipe"
+for command in print send edit take; do
+    timeout 10 "$program" "$command" "$work/pipe" <"$work/nothing" >"$work/output" 2>"$work/notes"
+    compare "a pipe is refused at once: $command" $? 4 '' "$outside"
+    because "manuscript: $work/pipe: no regular file"
+done
+timeout 10 "$program" merge "$f" "$work/pipe" </dev/null >"$work/output" 2>"$work/notes"
+compare 'a pipe as the other file' $? 4 '' "$outside"
+because "manuscript: $work/pipe: no regular file"
+timeout 10 "$program" new "$work/pipe" 1 16 </dev/null >"$work/output" 2>"$work/notes"
+compare 'a pipe is not made a file' $? 4 '' "$outside"
+bash -c 'trap "" XFSZ; ulimit -f 0; exec "$0" new "$1" 1 16' "$program" "$work/unfinished" </dev/null >"$work/output" 2>"$work/notes"
+compare 'a file that cannot be written' $? 4 '' "$outside"
+check 'is not left behind' [ ! -e "$work/unfinished" ]
+: >"$work/unfinished"
+bash -c 'trap "" XFSZ; ulimit -f 0; exec "$0" new "$1" 1 16' "$program" "$work/unfinished" </dev/null >"$work/output" 2>"$work/notes"
+compare 'an empty file that was there' $? 4 '' "$outside"
+check 'stays' [ -e "$work/unfinished" ]
 try 'the greatest replica' nothing 0 '' '' new "$work/greatest" 4294967295 1048576
 
 # Two programs, one file: the first one keeps it, and nothing is lost. Who only reads takes no lock, and is let in.
@@ -149,6 +172,7 @@ for ((waited = 0; waited < 100; waited++)); do
 done
 sleep 0.1
 try 'the file is in use' chapter 4 '' "$outside" edit "$work/shared"
+because "manuscript: $work/shared: in use by another program"
 try 'and is read meanwhile' nothing 0 '' '' print "$work/shared"
 try 'and is merged into another' nothing 0 '' "$(counts 0 0 0 0 0 0)" merge "$g" "$work/shared"
 printf 'add 1 T\n' >&"$script"
@@ -245,6 +269,7 @@ if [ "${as_other[*]}" != none ]; then
     compare 'a file that may not be written is printed' $? 0 '# T\nAC\n' ''
     "${as_other[@]}" "$program" edit "$f" <"$work/put_x" >"$work/output" 2>"$work/notes"
     compare 'and not edited' $? 4 '' "$outside"
+    because "manuscript: $f: not permitted"
     check 'it is as before' cmp -s "$f" "$work/edited"
 else
     echo 'not tried: a file that may not be written, since no other user may run the program'

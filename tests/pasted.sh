@@ -5,7 +5,7 @@
 #
 # A session is an indented block (of the manual: a literal one) that begins with a dollar sign: lines with one are run,
 # in order, in one shell and one folder for each document, and what stands behind a line is what it prints, with what
-# it notes. A line that ends in `&` is waited for until it has printed a line. The port of the documents is any port.
+# it notes. The port of the documents is any port.
 . "$(dirname "$0")/common.sh"
 
 # The lines of the sessions of a document in Markdown.
@@ -30,14 +30,10 @@ without_gaps() {
 shell_of() {
     local line
     echo 'exec 2>&1'
-    echo 'began() { lines=$(wc -l <"$PASTED"); }'
-    echo 'told() { for ((waited = 0; waited < 100; waited++)); do [ "$(wc -l <"$PASTED")" -gt "$lines" ] && return; sleep 0.1; done; }'
     while IFS= read -r line; do
         [[ $line == '$ '* ]] || continue
         printf "printf '%%s\\\\n' %q\n" "$line"
-        [[ $line == *'&' ]] && echo began
         printf '%s\n' "${line:2}" | sed "s/47113/$port/g"
-        [[ $line == *'&' ]] && echo told
     done
 }
 
@@ -50,7 +46,7 @@ run_page() {
     esac | without_gaps >"$work/$name.wanted"
     shell_of <"$work/$name.wanted" >"$work/$name.sh"
     mkdir "$work/$name.folder"
-    (cd "$work/$name.folder" && PASTED=$work/$name.seen PATH=${program%/*}:$PATH timeout 120 bash "$work/$name.sh" >"$work/$name.seen" </dev/null)
+    (cd "$work/$name.folder" && PATH=${program%/*}:$PATH timeout 120 bash "$work/$name.sh" >"$work/$name.seen" </dev/null)
     without_gaps <"$work/$name.seen" >"$work/$name.told"
     check "$page: $(grep -c '^\$ ' "$work/$name.wanted") lines print what stands behind them" \
         diff "$work/$name.wanted" "$work/$name.told"

@@ -56,6 +56,7 @@ usage='words not understood\n'
 try 'port 0' nothing 1 '' "$usage" relay 0 1
 try 'a port that is too great' nothing 1 '' "$usage" relay 65536 1
 try 'no session' nothing 1 '' "$usage" relay "$port" 0
+because 'usage: manuscript relay PORT SESSIONS'
 try 'a cursor that is no number' nothing 1 '' "$usage" sync "$work/a" "$port" x
 
 # Two files by turns, and one exchange after the other.
@@ -65,6 +66,7 @@ printf 'add 1 T\n' | "$program" edit "$work/a" 2>/dev/null
 start_relay 40
 check 'the relay listens' [ -s "$work/relay_output" ]
 try 'the port is in use' nothing 4 '' "$outside" relay "$port" 1
+because "manuscript: $port: the port is in use"
 for ((turn = 1; turn <= 10; turn++)); do
     exchange a
     exchange b
@@ -141,14 +143,45 @@ check 'several files print the same' [ "$(cat "$work"/text_[cdef] | sort | uniq 
 check 'byte by byte' cmp -s "$work/text_c" "$work/text_f"
 check 'and no exchange failed' [ ! -e "$work/c.failed" -a ! -e "$work/d.failed" -a ! -e "$work/e.failed" -a ! -e "$work/f.failed" ]
 
-# A peer that says nothing for a minute is given up.
+# A relay that is stopped and goes on keeps its peer, whichever of the two it waits for.
 port=$((port + 1))
 start_relay 1
 open_peer
+printf 'H\0\0\0\0' >&"$peer"
+sleep 0.3
+stopped=$(pgrep -P "$relay")
+kill -STOP "$stopped"
+sleep 0.3
+kill -CONT "$stopped"
+sleep 0.3
+printf 'D' >&"$peer"
+timeout 20 head -c 5 <&"$peer" >"$work/reply"
+check 'a relay that was stopped answers' [ "$(od -An -tx1 "$work/reply")" = ' 55 00 00 00 00' ]
+close_peer
+relay_ends 'a relay that was stopped' 'log 0\n'
+
+# A peer that says nothing for a minute is given up, and so is a relay that says nothing.
+port=$((port + 1))
+start_relay 1
+open_peer
+if command -v python3 >/dev/null; then
+    python3 -c 'import socket, sys, time
+s = socket.socket(); s.setsockopt(socket.SOL_SOCKET, socket.SO_REUSEADDR, 1)
+s.bind(("127.0.0.1", int(sys.argv[1]))); s.listen(); time.sleep(100)' $((port + 2)) &
+    silent=$!
+    sleep 0.5
+    : >"$work/output"
+    timeout 90 "$program" sync "$work/a" $((port + 2)) 0 </dev/null 2>"$work/notes"
+    compare 'a relay that says nothing' $? 4 '' "$outside"
+    kill "$silent"
+else
+    echo 'not tried: a relay that says nothing, since there is no python3'
+fi
 relay_ends 'a relay of a silent peer' 'log 0\n'
 close_peer
 
 # Nobody listens.
 try 'no relay' nothing 4 '' "$outside" sync "$work/a" $((port + 1)) 0
+because "manuscript: $((port + 1)): nobody listens at this port"
 
 ended

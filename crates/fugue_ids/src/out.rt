@@ -2,7 +2,7 @@ ghost use Rattle.std.specs.Prelude.{[], ◌∷◌, ◌++◌, codes, flat_map};
 ghost use Rattle.std.specs.Char.{encode_utf8};
 ghost use Rattle.fugue_ids.specs.Outs.{OutView, WritesSome, WritesText};
 
-use crate::Failed;
+use crate::{Failed, Gather};
 
 /// Where bytes go out.
 pub trait Out {
@@ -25,14 +25,14 @@ pub fn write_whole<O: Out>(out: &mut O, piece: &[u8]) -> Result<(), Failed>
     Ok(())
 }
 
-/// Writes the pieces, one behind the other, or fails with a front of them written.
+/// Writes the pieces, one behind the other, or fails with a front of them written. Pieces that fit into an array go out as
+/// one, so that the lines of two programs on one terminal do not mix.
 pub fn write_pieces<O: Out>(out: &mut O, pieces: &[&[u8]]) -> Result<(), Failed>
     ensures { WritesText (O.seen out.old) (O.seen out.new) result (flat_map (λ piece. piece.now) pieces.now) }
 {
-    for piece in pieces {
-        write_whole(out, piece)?;
-    }
-    Ok(())
+    let mut gather = Gather::new();
+    gather.put_pieces(out, pieces)?;
+    gather.flush(out)
 }
 
 /// Writes a scalar in UTF-8.

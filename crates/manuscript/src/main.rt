@@ -2,15 +2,18 @@
 #![tactic(auto)]
 
 use manuscript_cli::{Refusal, Status, files_of, read_words, run, tell};
-use outer_ports::{FileDisk, Opening, StdSink, StdSource, TcpDock, TcpWire};
-use std::fs::{File, OpenFile, OpenOptions};
+use outer_ports::{FileDisk, Opening, StdSink, StdSource, TcpDock, TcpWire, tell_cause};
+use std::env;
+use std::fs::{self, File, OpenFile, OpenOptions};
 use std::hash::RandomState;
+use std::io::{self, Write};
 use std::process::ExitCode;
 use std::rt::Env;
-use std::{env, io};
+use usage::usage_of;
 
 #[cfg(test)]
 mod tests;
+mod usage;
 
 /// The words behind those that name the program.
 fn words(rt: &(impl Env + AllocGlobal), names: usize) -> io::Result<Vec<String>> {
@@ -31,19 +34,40 @@ fn open_root(rt: &HostRuntime) -> io::Result<File> {
     OpenOptions::new().read(true).open(rt, "/")
 }
 
-/// Opens the file that the words' command is about, for what the command does with it.
-fn open_home(rt: &HostRuntime, words: &[String]) -> FileDisk {
-    match (read_words(words), files_of(words)) {
-        (Some(command), (Some(path), _)) => FileDisk::open(rt, path, command.opening()),
-        _ => FileDisk::closed(),
+/// Opens the file, where there is one. Where the system refuses, it says why.
+fn open_file(rt: &HostRuntime, path: Option<&str>, opening: Opening) -> FileDisk {
+    let Some(path) = path else {
+        return FileDisk::closed();
+    };
+    match FileDisk::open(rt, path, opening) {
+        Ok(disk) => disk,
+        Err(error) => {
+            tell_cause(rt.alloc(), &mut rt.stderr(), path, &error);
+            FileDisk::closed()
+        }
     }
 }
 
-/// Opens the other file that the words' command reads.
-fn open_guest(rt: &HostRuntime, words: &[String]) -> FileDisk {
-    match files_of(words) {
-        (_, Some(path)) => FileDisk::open(rt, path, Opening::Reading),
-        _ => FileDisk::closed(),
+/// Opens the file that the words' command is about, for what the command does with it, and the other one that it reads.
+/// Where the words are no command, it says how one is asked for.
+fn open_files(rt: &HostRuntime, words: &[String]) -> (FileDisk, FileDisk) {
+    let Some(command) = read_words(words) else {
+        let _ = rt.stderr().write_all(usage_of(words).as_bytes());
+        return (FileDisk::closed(), FileDisk::closed());
+    };
+    let (home, guest) = files_of(words);
+    let home = open_file(rt, home, command.opening());
+    let guest = if home.is_open() { guest } else { None };
+    (home, open_file(rt, guest, Opening::Reading))
+}
+
+/// Removes the file where the command made it and could not finish. It is locked until the program ends.
+fn drop_unfinished(rt: &HostRuntime, words: &[String], home: &FileDisk, status: Status) {
+    if let (Some(path), _) = files_of(words)
+        && home.is_made()
+        && status != Status::Done
+    {
+        let _ = fs::remove_file(rt, path);
     }
 }
 
@@ -64,10 +88,9 @@ fn run_on_process(rt: &HostRuntime, names: usize) -> Status {
         return tell(&mut notes, Refusal::Outside);
     };
     let taken = take_least_numbers(rt);
-    let mut home = open_home(rt, &words);
-    let mut guest = open_guest(rt, &words);
-    let mut wire = TcpWire::new(*rt);
-    let mut dock = TcpDock::new(*rt);
+    let (mut home, mut guest) = open_files(rt, &words);
+    let mut wire = TcpWire::new(*rt, rt.stderr());
+    let mut dock = TcpDock::new(*rt, rt.stderr());
     let status = run(
         rt.alloc(),
         &words,
@@ -80,6 +103,7 @@ fn run_on_process(rt: &HostRuntime, names: usize) -> Status {
         &mut dock,
         hasher,
     );
+    drop_unfinished(rt, &words, &home, status);
     drop(taken);
     status
 }

@@ -2,11 +2,11 @@ use crate::run_on_process;
 use manuscript_cli::{Status, run};
 use outer_ports::{FileDisk, MemDisk, MemDock, MemSink, MemSource, TcpWire};
 use std::alloc::AllocError;
-use std::env;
 use std::hash::{BuildHasherDefault, FoldHasher};
 use std::io::Read;
 use std::process::{Child, Command, Processes, Stdio};
 use std::test::Fail;
+use std::{env, io};
 
 /// How many words of a process name this executable and the test that it runs.
 const NAMES: usize = 2;
@@ -72,7 +72,7 @@ fn run_on(
     let alloc = rt.alloc();
     let mut input = MemSource::new(input, 4096, Vec::new(alloc));
     let mut guest = FileDisk::closed();
-    let mut wire = TcpWire::new(*rt);
+    let mut wire = TcpWire::new(*rt, io::sink());
     let mut dock = MemDock::new(alloc, Vec::new(alloc), 1, Vec::new(alloc));
     let hasher: BuildHasherDefault<FoldHasher> = BuildHasherDefault::default();
     let status = run(

@@ -2,7 +2,9 @@
 //! over the system's streams, files and sockets.
 #![tactic(auto)]
 
+mod again;
 mod calls;
+mod causes;
 mod disk;
 mod dock;
 mod faults;
@@ -17,8 +19,10 @@ mod std_source;
 mod sure_sink;
 mod sure_source;
 mod taken;
+mod watch;
 mod wire;
 
+pub use causes::tell_cause;
 pub use disk::{
     Disk, FileDisk, MemDisk, Opening, Pick, SureDisk, disks_stay_honest, spans_join,
     sync_brings_none,

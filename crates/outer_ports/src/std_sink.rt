@@ -3,13 +3,14 @@ ghost use Rattle.std.specs.Io.KnownBytes.{WriteAppends};
 ghost use Rattle.fugue_ids.specs.Outs.{WritesSome};
 ghost use Rattle.outer_ports.specs.Calls.{risen};
 
-use crate::Sink;
 use crate::faults::Faults;
 use crate::taken::taken;
+use crate::{Sink, again};
 use fugue_ids::{Failed, Out};
 use std::io::Write;
 
-/// Writes to a stream of the system. It does not tell what was written there.
+/// Writes to a stream of the system. It does not tell what was written there. A write that a signal interrupts is made
+/// again.
 #[derive(Drop)]
 pub struct StdSink<W: Write + Drop> {
     writer: W,
@@ -40,7 +41,8 @@ impl<W: Write + Drop> Out for StdSink<W> {
         ensures passed { OnOk result (self.new.faults ≡ self.old.faults) }
         ensures failed { OnErr result (self.new.faults ≡ risen self.old.faults) }
     {
-        self.faults.pass(taken(self.writer.write(piece), piece))
+        self.faults
+            .pass(taken(again::write(&mut self.writer, piece), piece))
     }
 }
 

@@ -3,12 +3,12 @@ ghost use Rattle.std.specs.Io.KnownBytes.{ReadConsumes};
 ghost use Rattle.outer_ports.specs.Sources.{ReadsSome};
 ghost use Rattle.outer_ports.specs.Calls.{risen};
 
-use crate::Source;
 use crate::faults::Faults;
+use crate::{Source, again};
 use fugue_ids::Failed;
 use std::io::Read;
 
-/// Reads from a stream of the system. It does not tell what is left there.
+/// Reads from a stream of the system. It does not tell what is left there. A read that a signal interrupts is made again.
 #[derive(Drop)]
 pub struct StdSource<R: Read + Drop> {
     reader: R,
@@ -39,6 +39,6 @@ impl<R: Read + Drop> Source for StdSource<R> {
         ensures passed { OnOk result (self.new.faults ≡ self.old.faults) }
         ensures failed { OnErr result (self.new.faults ≡ risen self.old.faults) }
     {
-        self.faults.pass(self.reader.read(buf))
+        self.faults.pass(again::read(&mut self.reader, buf))
     }
 }

@@ -180,13 +180,11 @@ fn edits_new(
     (status, is_noted && is_left)
 }
 
-/// The calls of the notes that fail, what is noted then, and the status. The line goes out in three parts, and so does the
-/// fault's, of which one is empty.
+/// The calls of the notes that fail, what is noted then, and the status. The line goes out in one piece, and so does the
+/// fault's.
 const NOTED: &[(&[u32], &[u8], Status)] = &[
     (&[], b"made 5\n", Status::Done),
     (&[0], b"outside fault\n", Status::OutsideFault),
-    (&[1], b"made outside fault\n", Status::OutsideFault),
-    (&[2], b"made 5outside fault\n", Status::OutsideFault),
     (&[0, 1], b"", Status::OutsideFault),
 ];
 

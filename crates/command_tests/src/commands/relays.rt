@@ -128,21 +128,7 @@ const ROWS: &[Row] = &[
     ),
     (RELAY, [&[], &[2], &[]], DONE, true, false),
     (RELAY, [&[], &[], &[0]], SERVING_FAILED, true, false),
-    (
-        RELAY,
-        [&[], &[], &[1]],
-        (b"ready\n", b"log outside fault\n", Status::OutsideFault),
-        true,
-        false,
-    ),
-    (
-        RELAY,
-        [&[], &[], &[2]],
-        (b"ready\n", b"log 2outside fault\n", Status::OutsideFault),
-        true,
-        false,
-    ),
-    (RELAY, [&[], &[], &[3]], DONE, true, false),
+    (RELAY, [&[], &[], &[1]], DONE, true, false),
     (
         RELAY,
         [&[0], &[], &[0]],

@@ -214,10 +214,18 @@ const KEPT: [(Opening, &[Taken], &str); 4] = [
     (Opening::Creating, &[], "aXYZ"),
 ];
 
+/// The file, or a closed one where it is not to be had.
+fn opened(rt: &HostRuntime, path: &str, opening: Opening) -> FileDisk {
+    match FileDisk::open(rt, path, opening) {
+        Ok(disk) => disk,
+        Err(_) => FileDisk::closed(),
+    }
+}
+
 #[test]
 fn a_file_keeps_what_is_written(rt: HostRuntime) {
     for (opening, steps, left) in KEPT {
-        let mut disk = FileDisk::open(&rt, "kept", opening);
+        let mut disk = opened(&rt, "kept", opening);
         holds(&rt, &mut disk, steps, left);
         equal(&rt, disk.read_at(left.len() as u64, &mut [0]), Ok(0));
         drop(disk);
@@ -262,8 +270,8 @@ const OPENED: [(&str, [Opening; 2], [Result<u64, Failed>; 2]); 6] = [
 fn a_locked_or_missing_file_is_not_opened(rt: HostRuntime) -> Result<(), Fail> {
     fs::write(&rt, "locked", b"abc")?;
     for (path, openings, want) in OPENED {
-        let mut first = FileDisk::open(&rt, path, openings[0]);
-        let mut second = FileDisk::open(&rt, path, openings[1]);
+        let mut first = opened(&rt, path, openings[0]);
+        let mut second = opened(&rt, path, openings[1]);
         equal_at(&rt, &openings, [first.size(), second.size()], want);
         drop(first);
         drop(second);

@@ -6,6 +6,7 @@ use crate::assertions::{equal, equal_at, holds_at};
 use fugue_ids::{ByteList, Failed};
 use outer_ports::{Dock, DockStep, MemDock, MemStep, SureDock, TcpDock, TcpWire};
 use std::alloc::Global;
+use std::io;
 use std::process::Abort;
 use std::test::Fail;
 
@@ -121,9 +122,9 @@ const HEARD: [Call; 5] = [
 
 #[test]
 fn sessions_come_one_after_another(rt: HostRuntime) {
-    let mut dock = TcpDock::new(rt);
-    let mut first = TcpWire::new(rt);
-    let mut second = TcpWire::new(rt);
+    let mut dock = TcpDock::new(rt, io::sink());
+    let mut first = TcpWire::new(rt, io::sink());
+    let mut second = TcpWire::new(rt, io::sink());
     let dial = (wire::Call::Dial(listen(&mut dock)), Ok(0));
     passes(&rt, &mut first, &[dial]);
     passes(&rt, &mut second, &[dial, (wire::Call::Write("x"), Ok(1))]);
@@ -148,10 +149,10 @@ fn sessions_come_one_after_another(rt: HostRuntime) {
 /// A peer that leaves bytes unread when it goes resets its connection.
 #[test]
 fn what_is_not_bound_fails_and_a_lost_peer_is_gone(rt: HostRuntime) {
-    let mut dock = TcpDock::new(rt);
+    let mut dock = TcpDock::new(rt, io::sink());
     serves(&rt, &mut dock, &[Call::Next(1, Err(Failed), "")]);
     let port = listen(&mut dock);
-    let mut wire = TcpWire::new(rt);
+    let mut wire = TcpWire::new(rt, io::sink());
     let rows = [
         (wire::Call::Write("x"), Err(Failed)),
         (wire::Call::Read(""), Err(Failed)),

@@ -1,11 +1,12 @@
-ghost use Rattle.std.specs.Prelude.{◌≡◌, None, IsErr};
+ghost use Rattle.std.specs.Prelude.{◌≡◌, ◌↔◌, None, IfOk, IsErr, IsFalse, IsSome, IsTrue};
 ghost use Rattle.outer_ports.specs.Counts.{CountsFaults};
 ghost use Rattle.outer_ports.specs.disk.Disks.{Sizes, ReadsAt, WritesAt, Syncs};
+ghost use Rattle.outer_ports.specs.declared.disk.file_disk.Opening.TheVariants.{Creating};
 
-use crate::Disk;
 use crate::faults::Faults;
+use crate::{Disk, again};
 use fugue_ids::Failed;
-use std::fs::{File, Files, OpenFile, OpenOptions};
+use std::fs::{self, File, Files, OpenFile, OpenOptions};
 use std::io::{self, ErrorKind};
 use std::os::unix::fs::FileExt;
 
@@ -23,45 +24,97 @@ pub enum Opening {
 /// A file of the system. It does not tell what stands there.
 #[derive(Drop)]
 pub struct FileDisk {
-    /// None where the file could not be opened.
+    /// None where there is no file to open.
     file: Option<File>,
+    opening: Opening,
+    is_made: bool,
     faults: Faults,
 }
 
 impl FileDisk {
-    /// Opens the file, and locks it where it is opened for more than to read. Where that fails, each call on the disk fails.
-    pub fn open<R: Files<File = File>>(files: &R, path: &str, opening: Opening) -> FileDisk
-        ensures { ⟦<FileDisk as Disk>⟧.seen result ≡ record { past = None; faults = 0; room = None } }
+    /// Opens the file, and locks it where it is opened for more than to read. Only a regular file is opened: what else
+    /// stands there, a pipe for one, could keep the call waiting.
+    pub fn open<R: Files<File = File>>(
+        files: &R,
+        path: &str,
+        opening: Opening,
+    ) -> io::Result<FileDisk>
+        ensures seen { IfOk result (λ disk. ⟦<FileDisk as Disk>⟧.seen disk ≡ record { past = None; faults = 0; room = None }) }
+        ensures made { IfOk result (λ disk. IsTrue disk.is_made → opening ≡ Creating) }
     {
-        FileDisk {
-            file: open_file(files, path, opening),
-            faults: Faults::none(),
+        let (file, is_made) = match opening {
+            Opening::Creating => create_file(files, path)?,
+            Opening::Reading | Opening::Writing => (open_file(files, path, opening)?, false),
+        };
+        if opening != Opening::Reading {
+            file.try_lock()?;
         }
+        Ok(FileDisk {
+            file: Some(file),
+            opening,
+            is_made,
+            faults: Faults::none(),
+        })
     }
 
     /// A disk of no file, for whoever has none to open: each call on it fails.
     pub fn closed() -> FileDisk
         ensures file { result.file ≡ None }
         ensures seen { ⟦<FileDisk as Disk>⟧.seen result ≡ record { past = None; faults = 0; room = None } }
+        ensures made { IsFalse result.is_made }
     {
         FileDisk {
             file: None,
+            opening: Opening::Reading,
+            is_made: false,
             faults: Faults::none(),
         }
     }
+
+    /// Whether there is a file.
+    pub fn is_open(&self) -> bool
+        ensures { IsTrue result ↔ IsSome self.now.file }
+    {
+        self.file.is_some()
+    }
+
+    /// Whether the file was not there before it was opened.
+    pub fn is_made(&self) -> bool
+        ensures { result ≡ self.now.is_made }
+    {
+        self.is_made
+    }
 }
 
-fn open_file<R: Files<File = File>>(files: &R, path: &str, opening: Opening) -> Option<File> {
-    let file = OpenOptions::new()
+/// Makes the file, or opens the one that is there. The answer is whether it was made.
+fn create_file<R: Files<File = File>>(files: &R, path: &str) -> io::Result<(File, bool)> {
+    let made = OpenOptions::new()
+        .read(true)
+        .write(true)
+        .create_new(true)
+        .open(files, path);
+    match made {
+        Ok(file) => Ok((file, true)),
+        Err(error) if error.kind() == ErrorKind::AlreadyExists => {
+            Ok((open_file(files, path, Opening::Writing)?, false))
+        }
+        Err(error) => Err(error),
+    }
+}
+
+/// Opens the regular file that is there.
+fn open_file<R: Files<File = File>>(files: &R, path: &str, opening: Opening) -> io::Result<File> {
+    let metadata = fs::metadata(files, path)?;
+    if metadata.is_dir() {
+        return Err(io::Error::from(ErrorKind::IsADirectory));
+    }
+    if !metadata.is_file() {
+        return Err(io::Error::from(ErrorKind::InvalidInput));
+    }
+    OpenOptions::new()
         .read(true)
         .write(opening != Opening::Reading)
-        .create(opening == Opening::Creating)
         .open(files, path)
-        .ok()?;
-    if opening != Opening::Reading {
-        file.try_lock().ok()?;
-    }
-    Some(file)
 }
 
 impl Disk for FileDisk {
@@ -70,7 +123,7 @@ impl Disk for FileDisk {
     fn size(&mut self) -> Result<u64, Failed>
         ensures sizes { Sizes (⟦<FileDisk as Disk>⟧.seen self.old) (⟦<FileDisk as Disk>⟧.seen self.new) result }
         ensures faults { CountsFaults self.old.faults self.new.faults result }
-        ensures file { self.new.file ≡ self.old.file }
+        ensures others { self.new ≡ record self.old { faults = self.new.faults } }
         ensures missing { self.old.file ≡ None → IsErr result }
     {
         self.faults.pass(match &self.file {
@@ -83,11 +136,11 @@ impl Disk for FileDisk {
         ensures reads { ReadsAt (⟦<FileDisk as Disk>⟧.seen self.old) (⟦<FileDisk as Disk>⟧.seen self.new)
             result at buf.new }
         ensures faults { CountsFaults self.old.faults self.new.faults result }
-        ensures file { self.new.file ≡ self.old.file }
+        ensures others { self.new ≡ record self.old { faults = self.new.faults } }
         ensures missing { self.old.file ≡ None → IsErr result }
     {
         self.faults.pass(match &self.file {
-            Some(file) => file.read_at(buf, at),
+            Some(file) => again::read_at(file, buf, at),
             None => Err(not_open()),
         })
     }
@@ -96,7 +149,7 @@ impl Disk for FileDisk {
         ensures writes { WritesAt (⟦<FileDisk as Disk>⟧.seen self.old) (⟦<FileDisk as Disk>⟧.seen self.new)
             result at bytes.now }
         ensures faults { CountsFaults self.old.faults self.new.faults result }
-        ensures file { self.new.file ≡ self.old.file }
+        ensures others { self.new ≡ record self.old { faults = self.new.faults } }
         ensures missing { self.old.file ≡ None → IsErr result }
     {
         self.faults.pass(match &self.file {
@@ -108,14 +161,31 @@ impl Disk for FileDisk {
     fn sync(&mut self) -> Result<(), Failed>
         ensures syncs { Syncs (⟦<FileDisk as Disk>⟧.seen self.old) (⟦<FileDisk as Disk>⟧.seen self.new) result }
         ensures faults { CountsFaults self.old.faults self.new.faults result }
-        ensures file { self.new.file ≡ self.old.file }
+        ensures others { self.new ≡ record self.old { faults = self.new.faults } }
         ensures missing { self.old.file ≡ None → IsErr result }
     {
         self.faults.pass(match &self.file {
-            Some(file) => file.sync_all(),
+            Some(file) => sync_file(file, self.opening),
             None => Err(not_open()),
         })
     }
+}
+
+/// Syncs the file. Where it was opened to read, on a system that cannot sync such a file, nothing was written, and that
+/// counts as done.
+fn sync_file(file: &File, opening: Opening) -> io::Result<()> {
+    match file.sync_all() {
+        Err(error) if opening == Opening::Reading && is_unable(error.kind()) => Ok(()),
+        synced => synced,
+    }
+}
+
+/// Whether the system has no sync for what was asked of it.
+fn is_unable(kind: ErrorKind) -> bool {
+    matches!(
+        kind,
+        ErrorKind::InvalidInput | ErrorKind::Unsupported | ErrorKind::ReadOnlyFilesystem
+    )
 }
 
 fn length_of(file: &File) -> io::Result<u64> {

@@ -1,5 +1,6 @@
 ghost use Rattle.std.specs.Prelude.{◌≡◌, ◌≢◌, ◌<◌, ◌*◌, length, true, false, Ok, None, IsErr, IsOk, IsSome, IfOk, OnOk, OnErr};
-ghost use Rattle.std.specs.Duration.{as_nanos};
+ghost use Rattle.std.specs.Io.{ReadsAtMost, WritesAtMost};
+ghost use Rattle.std.specs.Io.KnownBytes.{ReadConsumes, WriteAppends};
 ghost use Rattle.fugue_ids.specs.Causes.{HasCause};
 ghost use Rattle.outer_ports.specs.Calls.{risen};
 ghost use Rattle.outer_ports.specs.Counts.{CountsFaults};
@@ -7,44 +8,53 @@ ghost use Rattle.outer_ports.specs.dock.Steps.{InTurn};
 ghost use Rattle.outer_ports.specs.dock.Docks.{Listens, Takes, Sends, Ends};
 ghost use Rattle.outer_ports.specs.dock.Streams.{Accepts, Brings, GoesNowhere, Reaches, Stays};
 
+use crate::again::MOST_CALLS;
+use crate::causes::tell_port;
 use crate::faults::Faults;
 use crate::taken::taken;
-use crate::{Dock, DockStep};
+use crate::watch::Watch;
+use crate::{Dock, DockStep, again};
 use fugue_ids::Failed;
 use std::io::{self, ErrorKind, Read, Write};
 use std::net::{Net, OpenListener, OpenStream, Shutdown, TcpListener};
-use std::time::Duration;
+use std::time::{Clock, Duration};
 
-/// For how many seconds a peer may be silent, or take nothing.
-const PATIENCE: u64 = 60;
+/// For how many milliseconds a failure of accept that passes is waited out at once.
+const PAUSE: u64 = 100;
+
+/// Numbers of the system's errors that accept gives for one connection, or while something is wanting (accept(2)): no
+/// descriptor is left to the system (23) or to the process (24), there is no memory (12, 105), or the network had an error
+/// (64, 71, 92, 95, 100, 101, 112, 113).
+const PASSING: [i32; 12] = [12, 23, 24, 64, 71, 92, 95, 100, 101, 105, 112, 113];
 
 /// Listens on 127.0.0.1, and brings one connection after another, numbered from 0. It does not tell what passes.
 ///
-/// A peer that is lost (it resets, is silent for a minute, or takes nothing for as long) is Gone at the next step.
-/// What is sent to a session that is not there, or that was ended, goes nowhere. Only the listening socket makes a call
-/// fail.
+/// A peer that is lost (it resets, is silent for a minute, or takes nothing for as long), or whose session has lasted for
+/// ten minutes, is Gone at the next step. What is sent to a session that is not there, or that was ended, goes nowhere.
+/// Only the listening socket makes a call fail. Why it could not listen goes to `errors`, in a line.
 #[derive(Drop)]
-pub struct TcpDock<R: Net + Drop> {
+pub struct TcpDock<R: Net + Clock + AllocGlobal + Drop, E: Write + Drop> {
     net: R,
+    errors: E,
     listener: Option<R::Listener>,
     /// The connection of the session that is open: None where there is none, and where the peer is lost.
     stream: Option<R::Stream>,
+    /// When the session began that is open.
+    watch: Option<Watch>,
     is_open: bool,
     /// Nothing more is sent to the session that is open.
     is_ended: bool,
     /// The number of the session that is open, or of the next one.
     session: u32,
-    patience: Duration,
     faults: Faults,
 }
 
-impl<R: Net + Drop> TcpDock<R> {
-    pub fn new(net: R) -> TcpDock<R>
+impl<R: Net + Clock + AllocGlobal + Drop, E: Write + Drop> TcpDock<R, E> {
+    pub fn new(net: R, errors: E) -> TcpDock<R, E>
         ensures open { (result.is_open ≡ false) × (result.is_ended ≡ false) }
         ensures session { result.session ≡ 0 }
-        ensures patience { as_nanos result.patience ≡ 60 * 1_000_000_000 }
         ensures apart { (result.listener ≡ None) × (result.stream ≡ None) }
-        ensures seen { ⟦<TcpDock<R> as Dock>⟧.seen result ≡ record {
+        ensures seen { ⟦<TcpDock<R, E> as Dock>⟧.seen result ≡ record {
           port = None;
           taken = None;
           coming = None;
@@ -58,12 +68,13 @@ impl<R: Net + Drop> TcpDock<R> {
     {
         TcpDock {
             net,
+            errors,
             listener: None,
             stream: None,
+            watch: None,
             is_open: false,
             is_ended: false,
             session: 0,
-            patience: Duration::from_secs(PATIENCE),
             faults: Faults::none(),
         }
     }
@@ -76,7 +87,6 @@ impl<R: Net + Drop> TcpDock<R> {
         ensures stream { OnOk result (Accepts self.new.stream self.old.faults self.new.faults) }
         ensures missing { self.old.listener ≡ None → IsErr result }
         ensures listener { self.new.listener ≡ self.old.listener }
-        ensures patience { self.new.patience ≡ self.old.patience }
         ensures stays { OnErr result (self.new ≡ record self.old { faults = self.new.faults }) }
         ensures failed { OnErr result (self.new.faults ≡ risen self.old.faults) }
         ensures cause { HasCause self.old.faults self.new.faults result }
@@ -86,13 +96,13 @@ impl<R: Net + Drop> TcpDock<R> {
                 .faults
                 .pass(Err(io::Error::from(ErrorKind::NotConnected)));
         };
-        let given = listener.accept();
-        let is_lost = matches!(&given, Err(error) if error.kind() == ErrorKind::ConnectionAborted);
-        self.stream = match self.faults.pass(given) {
-            Ok((stream, _)) => self.faults.pass(with_patience(stream, self.patience)).ok(),
-            // The peer was lost before it was heard.
-            Err(_) if is_lost => None,
-            Err(failed) => return Err(failed),
+        let stream = self.faults.pass(accept(listener, &self.net))?;
+        // A peer whose time cannot be told is lost before it is heard.
+        self.watch = self.faults.pass(Watch::new(&self.net)).ok();
+        self.stream = if self.watch.is_some() {
+            Some(stream)
+        } else {
+            None
         };
         self.is_open = true;
         self.is_ended = false;
@@ -100,34 +110,87 @@ impl<R: Net + Drop> TcpDock<R> {
     }
 }
 
-/// The connection where its peer is not waited for any longer than this.
-fn with_patience<S: OpenStream + Drop>(stream: S, patience: Duration) -> io::Result<S>
-    ensures { IfOk result (λ same. same ≡ stream) }
-{
-    stream.set_read_timeout(Some(patience))?;
-    stream.set_write_timeout(Some(patience))?;
+/// The next connection. What fails for one connection alone, or for a while, is waited out.
+fn accept<L: OpenListener>(listener: &L, clock: &impl Clock) -> io::Result<L::Stream> {
+    'calls: for _ in 1..MOST_CALLS {
+        match listener.accept() {
+            Ok((stream, _)) => return Ok(stream),
+            Err(error) if does_pass(&error) => clock.sleep(Duration::from_millis(PAUSE)),
+            Err(error) => return Err(error),
+        }
+    }
+    let (stream, _) = listener.accept()?;
     Ok(stream)
 }
 
-impl<R: Net + Drop> Dock for TcpDock<R> {
+/// Whether a failure of accept says nothing of the listening socket.
+fn does_pass(error: &io::Error) -> bool {
+    match error.kind() {
+        ErrorKind::Interrupted | ErrorKind::ConnectionAborted | ErrorKind::PermissionDenied => true,
+        _ => error
+            .raw_os_error()
+            .is_some_and(|number| PASSING.contains(&number)),
+    }
+}
+
+/// Reads once, while the session has time.
+fn read_in_time<S: Read + OpenStream>(
+    clock: &impl Clock,
+    watch: Option<Watch>,
+    stream: &mut S,
+    buf: &mut [u8],
+) -> io::Result<usize>
+    ensures bound { ReadsAtMost result buf.new }
+    ensures len { length buf.new ≡ length buf.old }
+    ensures bytes { ReadConsumes (S.remaining stream.old) (S.remaining stream.new) result buf.new }
+{
+    limit_by(clock, watch, stream)?;
+    again::read(stream, buf)
+}
+
+/// Writes once, while the session has time.
+fn write_in_time<S: Write + OpenStream>(
+    clock: &impl Clock,
+    watch: Option<Watch>,
+    stream: &mut S,
+    piece: &[u8],
+) -> io::Result<usize>
+    ensures bound { WritesAtMost result piece.now }
+    ensures bytes { WriteAppends (S.contents stream.old) (S.contents stream.new) result piece.now }
+{
+    limit_by(clock, watch, stream)?;
+    again::write(stream, piece)
+}
+
+fn limit_by<S: OpenStream>(clock: &impl Clock, watch: Option<Watch>, stream: &S) -> io::Result<()> {
+    match watch {
+        Some(watch) => watch.limit(clock, stream),
+        None => Ok(()),
+    }
+}
+
+impl<R: Net + Clock + AllocGlobal + Drop, E: Write + Drop> Dock for TcpDock<R, E> {
     ghost seen = { λ d. record { port = None; taken = None; coming = None; sent = λ s. None; ended = None; ended_at = None; faults = d.faults; room = λ s. None; ends = None } };
 
     fn listen(&mut self, port: u16) -> Result<(), Failed>
-        ensures listens { Listens (⟦<TcpDock<R> as Dock>⟧.seen self.old) (⟦<TcpDock<R> as Dock>⟧.seen self.new)
+        ensures listens { Listens (⟦<TcpDock<R, E> as Dock>⟧.seen self.old) (⟦<TcpDock<R, E> as Dock>⟧.seen self.new)
             result port }
         ensures faults { CountsFaults self.old.faults self.new.faults result }
         ensures bound { OnOk result (IsSome self.new.listener) }
         ensures kept { OnErr result (self.new.listener ≡ self.old.listener) }
-        ensures others { self.new ≡ record self.old { listener = self.new.listener; faults = self.new.faults } }
+        ensures others { self.new ≡ record self.old { listener = self.new.listener; errors = self.new.errors; faults = self.new.faults } }
     {
         let given = TcpListener::bind(&self.net, ("127.0.0.1", port));
+        if let Err(error) = &given {
+            tell_port(self.net.alloc(), &mut self.errors, port, error);
+        }
         self.listener = Some(self.faults.pass(given)?);
         Ok(())
     }
 
     fn next(&mut self, buf: &mut [u8]) -> Result<DockStep, Failed>
         requires room { 0 < length buf.old }
-        ensures takes { Takes (⟦<TcpDock<R> as Dock>⟧.seen self.old) (⟦<TcpDock<R> as Dock>⟧.seen self.new)
+        ensures takes { Takes (⟦<TcpDock<R, E> as Dock>⟧.seen self.old) (⟦<TcpDock<R, E> as Dock>⟧.seen self.new)
             result buf.new }
         ensures turn { IfOk result (λ step. InTurn step
             (record { is_open = self.old.is_open; is_ended = self.old.is_ended; session = self.old.session })
@@ -138,7 +201,6 @@ impl<R: Net + Drop> Dock for TcpDock<R> {
         ensures gone { self.old.is_open ≡ true → self.old.stream ≡ None → result ≡ Ok (DockStep.Gone self.old.session) }
         ensures missing { self.old.is_open ≡ false → self.old.listener ≡ None → IsErr result }
         ensures listener { self.new.listener ≡ self.old.listener }
-        ensures patience { self.new.patience ≡ self.old.patience }
         ensures stays { OnErr result (self.new ≡ record self.old { faults = self.new.faults }) }
         ensures failed { OnErr result (self.new.faults ≡ risen self.old.faults) }
     {
@@ -147,7 +209,9 @@ impl<R: Net + Drop> Dock for TcpDock<R> {
         }
         let session = self.session;
         if let Some(stream) = &mut self.stream
-            && let Ok(count) = self.faults.pass(stream.read(buf))
+            && let Ok(count) = self
+                .faults
+                .pass(read_in_time(&self.net, self.watch, stream, buf))
             && count > 0
         {
             return Ok(DockStep::Bytes(session, count));
@@ -159,7 +223,7 @@ impl<R: Net + Drop> Dock for TcpDock<R> {
     }
 
     fn send(&mut self, session: u32, piece: &[u8]) -> Result<usize, Failed>
-        ensures sends { Sends (⟦<TcpDock<R> as Dock>⟧.seen self.old) (⟦<TcpDock<R> as Dock>⟧.seen self.new)
+        ensures sends { Sends (⟦<TcpDock<R, E> as Dock>⟧.seen self.old) (⟦<TcpDock<R, E> as Dock>⟧.seen self.new)
             result session piece.now }
         ensures lost { IsOk result }
         ensures stream { session ≡ self.old.session → self.old.is_ended ≡ false
@@ -174,7 +238,8 @@ impl<R: Net + Drop> Dock for TcpDock<R> {
             && !self.is_ended
             && let Some(stream) = &mut self.stream
         {
-            match self.faults.pass(taken(stream.write(piece), piece)) {
+            let given = write_in_time(&self.net, self.watch, stream, piece);
+            match self.faults.pass(taken(given, piece)) {
                 Ok(count) => return Ok(count),
                 Err(_) => self.stream = None,
             }
@@ -184,7 +249,7 @@ impl<R: Net + Drop> Dock for TcpDock<R> {
 
     /// The peer sees the end of what is sent to it. What it still sends comes as before, until it is Gone.
     fn end(&mut self, session: u32) -> Result<(), Failed>
-        ensures ends { Ends (⟦<TcpDock<R> as Dock>⟧.seen self.old) (⟦<TcpDock<R> as Dock>⟧.seen self.new)
+        ensures ends { Ends (⟦<TcpDock<R, E> as Dock>⟧.seen self.old) (⟦<TcpDock<R, E> as Dock>⟧.seen self.new)
             result session }
         ensures lost { IsOk result }
         ensures stream { session ≡ self.old.session

@@ -4,55 +4,64 @@ ghost use Rattle.outer_ports.specs.Counts.{CountsFaults};
 ghost use Rattle.outer_ports.specs.wire.Streams.{Hears, Says};
 ghost use Rattle.outer_ports.specs.wire.Wires.{Dials, WireReads, WireWrites};
 
-use crate::Wire;
+use crate::causes::tell_port;
 use crate::faults::Faults;
 use crate::taken::taken;
+use crate::watch::{limit, patience};
 use crate::wire::buffered::Buffered;
+use crate::{Wire, again};
 use fugue_ids::Failed;
 use std::io::{self, ErrorKind, Read, Write};
-use std::net::{Net, TcpStream};
+use std::net::{Ipv4Addr, Net, OpenStream, SocketAddr, SocketAddrV4, TcpStream};
 
 /// A connection to a port of 127.0.0.1. It does not tell what passes. It may read ahead of what is asked for.
+///
+/// Each call waits for the peer for a minute at most. Why a dial failed goes to `errors`, in a line.
 #[derive(Drop)]
-pub struct TcpWire<R: Net + Drop> {
+pub struct TcpWire<R: Net + AllocGlobal + Drop, E: Write + Drop> {
     net: R,
+    errors: E,
     /// None until a call of `dial` went well.
     stream: Option<Buffered<R::Stream>>,
     faults: Faults,
 }
 
-impl<R: Net + Drop> TcpWire<R> {
+impl<R: Net + AllocGlobal + Drop, E: Write + Drop> TcpWire<R, E> {
     /// No port is dialled yet: until then reads and writes fail.
-    pub fn new(net: R) -> TcpWire<R>
-        ensures seen { ⟦<TcpWire<R> as Wire>⟧.seen result
+    pub fn new(net: R, errors: E) -> TcpWire<R, E>
+        ensures seen { ⟦<TcpWire<R, E> as Wire>⟧.seen result
             ≡ record { port = None; left = None; said = None; faults = 0; room = None } }
         ensures apart { result.stream ≡ None }
     {
         TcpWire {
             net,
+            errors,
             stream: None,
             faults: Faults::none(),
         }
     }
 }
 
-impl<R: Net + Drop> Wire for TcpWire<R> {
+impl<R: Net + AllocGlobal + Drop, E: Write + Drop> Wire for TcpWire<R, E> {
     ghost seen = { λ w. record { port = None; left = None; said = None; faults = w.faults; room = None } };
 
     fn dial(&mut self, port: u16) -> Result<(), Failed>
-        ensures dials { Dials (⟦<TcpWire<R> as Wire>⟧.seen self.old) (⟦<TcpWire<R> as Wire>⟧.seen self.new)
+        ensures dials { Dials (⟦<TcpWire<R, E> as Wire>⟧.seen self.old) (⟦<TcpWire<R, E> as Wire>⟧.seen self.new)
             result port }
         ensures faults { CountsFaults self.old.faults self.new.faults result }
         ensures connected { OnOk result (IsSome self.new.stream) }
         ensures kept { OnErr result (self.new.stream ≡ self.old.stream) }
     {
-        let given = TcpStream::connect(&self.net, ("127.0.0.1", port));
+        let given = connect(&self.net, port);
+        if let Err(error) = &given {
+            tell_port(self.net.alloc(), &mut self.errors, port, error);
+        }
         self.stream = Some(Buffered::new(self.faults.pass(given)?));
         Ok(())
     }
 
     fn read(&mut self, buf: &mut [u8]) -> Result<usize, Failed>
-        ensures reads { WireReads (⟦<TcpWire<R> as Wire>⟧.seen self.old) (⟦<TcpWire<R> as Wire>⟧.seen self.new)
+        ensures reads { WireReads (⟦<TcpWire<R, E> as Wire>⟧.seen self.old) (⟦<TcpWire<R, E> as Wire>⟧.seen self.new)
             result buf.new }
         ensures faults { CountsFaults self.old.faults self.new.faults result }
         ensures missing { self.old.stream ≡ None → IsErr result }
@@ -62,7 +71,7 @@ impl<R: Net + Drop> Wire for TcpWire<R> {
     }
 
     fn write(&mut self, piece: &[u8]) -> Result<usize, Failed>
-        ensures writes { WireWrites (⟦<TcpWire<R> as Wire>⟧.seen self.old) (⟦<TcpWire<R> as Wire>⟧.seen self.new)
+        ensures writes { WireWrites (⟦<TcpWire<R, E> as Wire>⟧.seen self.old) (⟦<TcpWire<R, E> as Wire>⟧.seen self.new)
             result piece.now }
         ensures faults { CountsFaults self.old.faults self.new.faults result }
         ensures missing { self.old.stream ≡ None → IsErr result }
@@ -72,6 +81,18 @@ impl<R: Net + Drop> Wire for TcpWire<R> {
     }
 }
 
+/// A connection to the port, whose calls wait for a minute at most. One to itself is none: where nobody listens at the
+/// port, the system may have taken it for this end.
+fn connect<R: Net>(net: &R, port: u16) -> io::Result<R::Stream> {
+    let peer = SocketAddr::V4(SocketAddrV4::new(Ipv4Addr::LOCALHOST, port));
+    let stream = TcpStream::connect_timeout(net, &peer, patience())?;
+    if stream.local_addr()? == peer {
+        return Err(io::Error::from(ErrorKind::ConnectionRefused));
+    }
+    limit(&stream, patience())?;
+    Ok(stream)
+}
+
 /// What a read of the stream gives, where there is one.
 fn hear<S: Read>(stream: &mut Option<S>, buf: &mut [u8]) -> io::Result<usize>
     ensures missing { stream.old ≡ None → IsErr result }
@@ -79,7 +100,7 @@ fn hear<S: Read>(stream: &mut Option<S>, buf: &mut [u8]) -> io::Result<usize>
     ensures stream { Hears S.remaining stream.old stream.new result buf.new }
 {
     match stream {
-        Some(stream) => stream.read(buf),
+        Some(stream) => again::read(stream, buf),
         None => Err(io::Error::from(ErrorKind::NotConnected)),
     }
 }
@@ -92,7 +113,7 @@ fn say<S: Write>(stream: &mut Option<S>, piece: &[u8]) -> io::Result<usize>
     ensures stream { Says S.contents stream.old stream.new result piece.now }
 {
     match stream {
-        Some(stream) => taken(stream.write(piece), piece),
+        Some(stream) => taken(again::write(stream, piece), piece),
         None => Err(io::Error::from(ErrorKind::NotConnected)),
     }
 }

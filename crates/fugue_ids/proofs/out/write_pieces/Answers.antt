@@ -1,11 +1,18 @@
+use Rattle.std.proofs.Common.{subst}
+use Rattle.std.specs.Prelude.{Err, Ok, flat_map}
 use Rattle.std.proofs.lemmas.Result.{err_from_is_err_and}
-use Rattle.fugue_ids.proofs.JoinLemmas.{parts_grow, parts_stop}
+use Rattle.fugue_ids.specs.Gathers.{GathersText}
+use Rattle.fugue_ids.specs.declared.failed.Failed.{Failed}
+use Rattle.fugue_ids.proofs.GatherLemmas.{flush_writes, stop_writes}
 use Rattle.fugue_ids.proofs.out.write_pieces.Goals as goal
 
-pub loop-piece-preserved : goal.loop-piece-preserved
-loop-piece-preserved g c = parts_grow _ _ _ _ tt tt _ _ _ c.loop-piece-test.true c.loop-piece.invariant c.in_ok-write_whole.ensures
-
-pub returns-in_err-write_whole : goal.returns-in_err-write_whole
-returns-in_err-write_whole g c =
+pub returns-in_err-put_pieces : goal.returns-in_err-put_pieces
+returns-in_err-put_pieces g c =
     let p = err_from_is_err_and c.from_residual.result c.from_residual.ensures.1 in
-    rw p.1 (parts_stop _ _ _ _ _ tt _ _ _ c.loop-piece-test.true c.loop-piece.invariant c.in_err-write_whole.ensures)
+    rw p.1 (stop_writes {T = Unit {0}} {S = Unit {0}} _ _ _ _
+    (subst (λ w. GathersText {T = Unit {0}} (g.O.Out.seen c.args.out.now) (g.O.Out.seen c.put_pieces.new.out) w c.put_pieces.new.self (Err (record {})) (flat_map (λ piece. piece.now) c.args.pieces.now)) c.new-gather.ensures c.in_err-put_pieces.ensures))
+
+pub returns : goal.returns
+returns g c = flush_writes {T = Unit {0}} {S = Unit {0}} tt c.flush.result _ _ _ _ _
+    (subst (λ w. GathersText {T = Unit {0}} (g.O.Out.seen c.args.out.now) (g.O.Out.seen c.put_pieces.new.out) w c.put_pieces.new.self (Ok tt) (flat_map (λ piece. piece.now) c.args.pieces.now)) c.new-gather.ensures c.in_ok-put_pieces.ensures)
+    c.flush.ensures.text

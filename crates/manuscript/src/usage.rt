@@ -1,0 +1,24 @@
+//! How the commands are asked for.
+
+/// The line for words that are no command: the form of the command whose name stands first, or else all names.
+pub(crate) fn usage_of(words: &[String]) -> &'static str {
+    let Some(name) = words.first() else {
+        return ALL;
+    };
+    match name.as_str() {
+        "show" => "usage: manuscript show [HOLD] < FRAMES\n",
+        "new" => "usage: manuscript new FILE NUMBER HOLD\n",
+        "edit" => "usage: manuscript edit FILE < SCRIPT\n",
+        "print" => "usage: manuscript print FILE\n",
+        "take" => "usage: manuscript take FILE < FRAMES\n",
+        "send" => "usage: manuscript send FILE > FRAMES\n",
+        "merge" => "usage: manuscript merge FILE OTHER\n",
+        "relay" => "usage: manuscript relay PORT SESSIONS\n",
+        "sync" => "usage: manuscript sync FILE PORT CURSOR\n",
+        "bulk" => "usage: manuscript bulk SEED COUNT\n",
+        _ => ALL,
+    }
+}
+
+const ALL: &str =
+    "usage: manuscript show | new | edit | print | take | send | merge | relay | sync | bulk\n";
