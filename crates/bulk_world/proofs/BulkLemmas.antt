@@ -9,7 +9,7 @@ use Rattle.origin_model.specs.order.Order.{order}
 use Rattle.origin_model.specs.taking.Taking.{Held, held_from, settle}
 use Rattle.origin_model.specs.edits.Edits.{id_at}
 use Rattle.origin_model.proofs.edits.MadeLemmas.{join_at_end}
-use Rattle.replica_core.specs.State.{State}
+use Rattle.origin_model.specs.edits.State.{State}
 use Rattle.list_spec.specs.Worlds.{Event, World, after_events, world}
 use Rattle.list_spec.proofs.WorldLemmas.{events_further}
 use Rattle.bulk_world.specs.declared.limits.TheConstants.{HOLD}

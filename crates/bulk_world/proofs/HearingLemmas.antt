@@ -13,7 +13,7 @@ use Rattle.origin_model.specs.operations.History.{accepted, has_op}
 use Rattle.origin_model.specs.operations.Verdict.{verdict}
 use Rattle.origin_model.specs.taking.Taking.{Accepted, Answer, Held, IsSettled, TooMany, answer, held_from, intake, joined, settle, settled_within, taken}
 use Rattle.origin_model.proofs.SharedLemmas.{earliest_found, settle-settled, within-none, within-some, without}
-use Rattle.replica_core.specs.State.{State}
+use Rattle.origin_model.specs.edits.State.{State}
 use Rattle.replica_core.specs.Told.{Leaves}
 use Rattle.origin_model.specs.declared.taking.tally.Tally.{Tally}
 use Rattle.replica_core.specs.declared.feed_fault.FeedFault.{FeedFault}

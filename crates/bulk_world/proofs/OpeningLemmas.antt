@@ -11,9 +11,9 @@ use Rattle.origin_model.specs.operations.Verdict.{verdict}
 use Rattle.origin_model.specs.order.Order.{order}
 use Rattle.origin_model.specs.taking.Taking.{held_from, settle}
 use Rattle.origin_model.specs.edits.Edits.{Add}
-use Rattle.replica_core.specs.State.{State}
-use Rattle.replica_core.specs.declared.edits.edit_fault.EditFault.{EditFault}
-use Rattle.replica_core.specs.declared.edits.edit_fault.EditFault.TheVariants.{NoMemory as no_memory}
+use Rattle.origin_model.specs.edits.State.{State}
+use Rattle.origin_model.specs.declared.edit_fault.EditFault.{EditFault}
+use Rattle.origin_model.specs.declared.edit_fault.EditFault.TheVariants.{NoMemory as no_memory}
 use Rattle.list_spec.specs.Calls.{IsEditCall}
 use Rattle.list_spec.specs.Worlds.{edited}
 use Rattle.bulk_world.proofs.TurnLemmas.{turn_is}

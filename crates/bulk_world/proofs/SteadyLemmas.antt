@@ -11,7 +11,7 @@ use Rattle.fugue_ids.specs.declared.limits.TheConstants.{MOST_OPERATIONS}
 use Rattle.origin_model.specs.declared.operations.place.Place.TheVariants.{Catalogue as catalogue, Section as within}
 use Rattle.origin_model.specs.declared.operations.role.Role.{Role}
 use Rattle.fugue_ids.specs.Ops.{id_of}
-use Rattle.replica_core.specs.declared.edits.edit_fault.EditFault.TheVariants.{IdsSpent, TooMany}
+use Rattle.origin_model.specs.declared.edit_fault.EditFault.TheVariants.{IdsSpent, TooMany}
 use Rattle.list_spec.proofs.PoolLemmas.{IsBy}
 use Rattle.origin_model.specs.declared.operations.verdict.Verdict.TheVariants.{Ready}
 use Rattle.origin_model.specs.operations.Counters.{counters, mentioned}
@@ -25,8 +25,8 @@ use Rattle.origin_model.proofs.edits.EditedTextLemmas.{text_length}
 use Rattle.origin_model.proofs.edits.FreshIdLemmas.{BelowAll, IsBelow, history_below, none_from}
 use Rattle.origin_model.proofs.edits.MadeLemmas.{cut_made, put_made}
 use Rattle.origin_model.proofs.edits.PutLemmas.{put_lands}
-use Rattle.replica_core.specs.State.{State}
-use Rattle.replica_core.specs.Edits.{held_count, in_range, in_section, next_of_own, refusal, refused_elements, refused_ops, shown_count}
+use Rattle.origin_model.specs.edits.State.{State}
+use Rattle.origin_model.specs.edits.Refusal.{held_count, in_range, in_section, next_of_own, refusal, refused_elements, refused_ops, shown_count}
 use Rattle.list_spec.specs.Worlds.{effect}
 use Rattle.list_spec.proofs.CallLemmas.{range_none}
 use Rattle.list_spec.proofs.EffectLemmas.{made_whole}

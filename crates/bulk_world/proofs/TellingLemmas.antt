@@ -7,8 +7,8 @@ use Rattle.std.proofs.lemmas.Str.{encodes-chars, encodes_same}
 use Rattle.fugue_ids.specs.Identifiers.{Identifier}
 use Rattle.origin_model.specs.operations.History.{accepted}
 use Rattle.origin_model.specs.order.Printed.{manuscript, text}
-use Rattle.replica_core.specs.State.{State}
-use Rattle.replica_core.specs.Edits.{section_shown}
+use Rattle.origin_model.specs.edits.State.{State}
+use Rattle.origin_model.specs.edits.Refusal.{section_shown}
 use Rattle.bulk_world.specs.Summary.{are_same, sum_of, told_of}
 use Rattle.bulk_world.specs.Turns.{first_text}
 use Rattle.bulk_world.specs.declared.summary.Summary.{Summary}

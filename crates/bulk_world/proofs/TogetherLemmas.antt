@@ -13,8 +13,8 @@ use Rattle.origin_model.specs.order.Printed.{manuscript}
 use Rattle.origin_model.specs.taking.Taking.{held_from}
 use Rattle.origin_model.specs.edits.Edits.{extended}
 use Rattle.origin_model.proofs.edits.MadeLemmas.{extended_length, ready_lawful}
-use Rattle.replica_core.specs.State.{State}
-use Rattle.replica_core.specs.Edits.{with_ops}
+use Rattle.origin_model.specs.edits.State.{State}
+use Rattle.origin_model.specs.edits.Effect.{with_ops}
 use Rattle.list_spec.specs.Worlds.{Event, World, after_event, effect, pooled}
 use Rattle.list_spec.proofs.PoolLemmas.{IsBy}
 use Rattle.bulk_world.specs.Generator.{next}

@@ -10,10 +10,10 @@ use Rattle.fugue_ids.specs.declared.op.Op.{Op}
 use Rattle.origin_model.specs.edits.Edits.{Command, Put}
 use Rattle.origin_model.specs.taking.Taking.{Held, IsSettled}
 use Rattle.origin_model.proofs.edits.MadeLemmas.{extended-append}
-use Rattle.replica_core.specs.State.{State}
-use Rattle.replica_core.specs.Edits.{with_ops}
-use Rattle.replica_core.specs.declared.edits.edit_fault.EditFault.{EditFault}
-use Rattle.replica_core.specs.declared.edits.edit_fault.EditFault.TheVariants.{NoMemory}
+use Rattle.origin_model.specs.edits.State.{State}
+use Rattle.origin_model.specs.edits.Effect.{with_ops}
+use Rattle.origin_model.specs.declared.edit_fault.EditFault.{EditFault}
+use Rattle.origin_model.specs.declared.edit_fault.EditFault.TheVariants.{NoMemory}
 use Rattle.list_spec.specs.Calls.{IsEditCall}
 use Rattle.list_spec.specs.Worlds.{Edit, Event, World, after_event, after_events, edited, effect, pooled}
 use Rattle.list_spec.proofs.CallLemmas.{calls_are_edits}

@@ -1,7 +1,7 @@
 -- What is told of a bulk manuscript.
 use Rattle.std.specs.Prelude.{◌+◌, ◌*◌, ◌%◌, ℕ, suc, Bool, nat_eq, if◌then◌else◌, List, [], ◌∷◌, flat_map, length, codes, decimal}
 use Rattle.origin_model.specs.order.Printed.{manuscript}
-use Rattle.replica_core.specs.State.{State}
+use Rattle.origin_model.specs.edits.State.{State}
 use Rattle.list_spec.specs.Worlds.{World}
 use Rattle.bulk_world.specs.Turns.{bulk_world, first_text, replica_of}
 use Rattle.bulk_world.specs.declared.summary.Summary.{Summary}

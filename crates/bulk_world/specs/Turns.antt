@@ -5,8 +5,8 @@ use Rattle.fugue_ids.specs.declared.op.Op.TheVariants.{Section}
 use Rattle.origin_model.specs.order.Printed.{text}
 use Rattle.origin_model.specs.taking.Taking.{nothing}
 use Rattle.origin_model.specs.edits.Edits.{Add, id_at}
-use Rattle.replica_core.specs.State.{State}
-use Rattle.replica_core.specs.Edits.{section_shown}
+use Rattle.origin_model.specs.edits.State.{State}
+use Rattle.origin_model.specs.edits.Refusal.{section_shown}
 use Rattle.list_spec.specs.Worlds.{Deliver, Edit, Event, World, after_event, after_events, made_at, world}
 use Rattle.bulk_world.specs.Generator.{command_of, next}
 use Rattle.bulk_world.specs.declared.limits.TheConstants.{HOLD}

@@ -8,10 +8,11 @@ use Rattle.fugue_ids.specs.Identifiers.{Identifier}
 use Rattle.fugue_ids.specs.declared.op.Op.{Op}
 use Rattle.origin_model.specs.operations.History.{accepted}
 use Rattle.origin_model.specs.edits.Edits.{Command, Put, Cut, Add, DropSection, extended}
-use Rattle.replica_core.specs.State.{State}
-use Rattle.replica_core.specs.Edits.{Gains, held_count, in_range, in_section, made_by, next_of_own, refused_elements, refused_ops, section_shown, with_ops}
-use Rattle.replica_core.specs.declared.edits.edit_fault.EditFault.{EditFault}
-use Rattle.replica_core.specs.declared.edits.edit_fault.EditFault.TheVariants as edit
+use Rattle.origin_model.specs.edits.State.{State}
+use Rattle.origin_model.specs.edits.Refusal.{held_count, in_range, in_section, made_by, next_of_own, refused_elements, refused_ops, section_shown}
+use Rattle.origin_model.specs.edits.Effect.{Gains, with_ops}
+use Rattle.origin_model.specs.declared.edit_fault.EditFault.{EditFault}
+use Rattle.origin_model.specs.declared.edit_fault.EditFault.TheVariants as edit
 use Rattle.edit_script.specs.declared.fault.ScriptFault.{ScriptFault}
 use Rattle.edit_script.specs.declared.fault.ScriptFault.TheVariants as fault
 use Rattle.edit_script.specs.declared.line.LineFault.{LineFault}

@@ -12,10 +12,11 @@ use Rattle.origin_model.specs.edits.Edits.{Command, Put, Cut, Add, DropSection}
 use Rattle.origin_model.specs.declared.operations.place.Place.TheVariants.{Section as within}
 use Rattle.origin_model.proofs.edits.EditedTextLemmas.{text_length}
 use Rattle.cluster_text.specs.Clusters.{clusters, span}
-use Rattle.replica_core.specs.State.{State}
-use Rattle.replica_core.specs.Edits.{section_shown, shown_count, in_section, in_range, refused_elements, refused_ops, refusal, made_by, RefusesExactly, IsMade, LeavesUnmade, StopsPartly}
-use Rattle.replica_core.specs.declared.edits.edit_fault.EditFault.{EditFault}
-use Rattle.replica_core.specs.declared.edits.edit_fault.EditFault.TheVariants.{NoSection, OutOfRange, IdsSpent, TooMany, NoMemory}
+use Rattle.origin_model.specs.edits.State.{State}
+use Rattle.origin_model.specs.edits.Refusal.{section_shown, shown_count, in_section, in_range, refused_elements, refused_ops, refusal, made_by, RefusesExactly}
+use Rattle.origin_model.specs.edits.Effect.{IsMade, LeavesUnmade, StopsPartly}
+use Rattle.origin_model.specs.declared.edit_fault.EditFault.{EditFault}
+use Rattle.origin_model.specs.declared.edit_fault.EditFault.TheVariants.{NoSection, OutOfRange, IdsSpent, TooMany, NoMemory}
 use Rattle.edit_script.specs.Scripts.{by_scalars, clusters_in, in_scalars, line_refusal, scalars_from}
 use Rattle.edit_script.specs.Lines.{IsSpan, Made, Unmade}
 

@@ -7,10 +7,11 @@ use Rattle.std.proofs.lemmas.Option.{none-some, same_Some}
 use Rattle.std.proofs.lemmas.Str.{encodes_same}
 use Rattle.fugue_ids.specs.declared.op.Op.{Op}
 use Rattle.origin_model.specs.edits.Edits.{Command, Put, Cut, Add, DropSection}
-use Rattle.replica_core.specs.State.{State}
-use Rattle.replica_core.specs.Edits.{made_by, with_ops}
-use Rattle.replica_core.specs.declared.edits.edit_fault.EditFault.{EditFault}
-use Rattle.replica_core.specs.declared.edits.edit_fault.EditFault.TheVariants as edit
+use Rattle.origin_model.specs.edits.State.{State}
+use Rattle.origin_model.specs.edits.Refusal.{made_by}
+use Rattle.origin_model.specs.edits.Effect.{with_ops}
+use Rattle.origin_model.specs.declared.edit_fault.EditFault.{EditFault}
+use Rattle.origin_model.specs.declared.edit_fault.EditFault.TheVariants as edit
 use Rattle.edit_script.specs.declared.fault.ScriptFault.{ScriptFault}
 use Rattle.edit_script.specs.declared.fault.ScriptFault.TheVariants as fault
 use Rattle.edit_script.specs.declared.line.LineFault.{LineFault}

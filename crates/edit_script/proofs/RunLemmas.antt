@@ -8,12 +8,12 @@ use Rattle.std.proofs.lemmas.List.{length-take-le}
 use Rattle.std.proofs.lemmas.List.Splits.{slice_split-cons_no, slice_split_first}
 use Rattle.fugue_ids.specs.declared.op.Op.{Op}
 use Rattle.origin_model.specs.operations.History.{accepted}
-use Rattle.replica_core.specs.State.{State}
+use Rattle.origin_model.specs.edits.State.{State}
 use Rattle.edit_script.specs.declared.line.LineFault.{LineFault}
 use Rattle.edit_script.specs.declared.line.LineFault.TheVariants as why
 use Rattle.edit_script.specs.declared.fault.ScriptFault.{ScriptFault}
 use Rattle.edit_script.specs.declared.fault.ScriptFault.TheVariants as fault
-use Rattle.replica_core.specs.declared.edits.edit_fault.EditFault.TheVariants as edit
+use Rattle.origin_model.specs.declared.edit_fault.EditFault.TheVariants as edit
 use Rattle.edit_script.specs.Grammar.{BeginsWith, lines}
 use Rattle.edit_script.specs.Scripts.{Does, Leads, Runs, RunsUpTo, RunsWhole, Stops, StopsAt}
 use Rattle.edit_script.specs.Sources.{IsScript}

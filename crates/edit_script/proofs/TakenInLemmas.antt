@@ -24,9 +24,10 @@ use Rattle.origin_model.proofs.edits.EditIntakeLemmas.{edits_are_taken_in}
 use Rattle.origin_model.proofs.edits.MadeLemmas.{cut_made, drop_made, put_counted, put_made, ready_lawful}
 use Rattle.origin_model.proofs.edits.PutLemmas.{add_lands, put_lands}
 use Rattle.cluster_text.specs.Clusters.{scalars}
-use Rattle.replica_core.specs.State.{State}
-use Rattle.replica_core.specs.Edits.{held_count, in_range, made_by, refused_elements, refused_ops, section_shown, shown_count, with_ops}
-use Rattle.replica_core.proofs.EditLemmas.{elements_fit, ops_fit, position_within, section_there}
+use Rattle.origin_model.specs.edits.State.{State}
+use Rattle.origin_model.specs.edits.Refusal.{held_count, in_range, made_by, refused_elements, refused_ops, section_shown, shown_count}
+use Rattle.origin_model.specs.edits.Effect.{with_ops}
+use Rattle.origin_model.proofs.edits.RefusalLemmas.{elements_fit, ops_fit, position_within, section_there}
 use Rattle.edit_script.specs.Grammar.{lines}
 use Rattle.edit_script.specs.Laws.{AreTakenIn, ScriptsAreTakenIn}
 use Rattle.edit_script.specs.Scripts.{Does, Edits, Leads, by_scalars, clusters_in, in_scalars, line_refusal, scalars_from}

@@ -1,6 +1,6 @@
 -- Which answer a script comes to, by the bytes of the script.
 use Rattle.std.specs.Prelude.{◌≡◌, ◌↔◌, ℕ, ◌<◌, ◌≤◌, List, length, Result, Ok, Err}
-use Rattle.replica_core.specs.State.{State}
+use Rattle.origin_model.specs.edits.State.{State}
 use Rattle.edit_script.specs.declared.fault.ScriptFault.{ScriptFault}
 use Rattle.edit_script.specs.declared.fault.ScriptFault.TheVariants.{ReadFault, TooLong, NoMemory}
 use Rattle.edit_script.specs.declared.script.TheConstants.{LONGEST_SCRIPT}

@@ -5,10 +5,11 @@ use Rattle.fugue_ids.specs.declared.op.Op.{Op}
 use Rattle.origin_model.specs.declared.operations.place.Place.TheVariants.{Section as within}
 use Rattle.cluster_text.specs.Clusters.{span}
 use Rattle.origin_model.specs.edits.Edits.{Command}
-use Rattle.replica_core.specs.State.{State}
-use Rattle.replica_core.specs.Edits.{made_by, section_shown, shown_count, StopsPartly}
-use Rattle.replica_core.specs.declared.edits.edit_fault.EditFault.{EditFault}
-use Rattle.replica_core.specs.declared.edits.edit_fault.EditFault.TheVariants as edit
+use Rattle.origin_model.specs.edits.State.{State}
+use Rattle.origin_model.specs.edits.Refusal.{made_by, section_shown, shown_count}
+use Rattle.origin_model.specs.edits.Effect.{StopsPartly}
+use Rattle.origin_model.specs.declared.edit_fault.EditFault.{EditFault}
+use Rattle.origin_model.specs.declared.edit_fault.EditFault.TheVariants as edit
 use Rattle.edit_script.specs.declared.edit.Edit.{Edit}
 use Rattle.edit_script.specs.declared.fault.ScriptFault.{ScriptFault}
 use Rattle.edit_script.specs.declared.fault.ScriptFault.TheVariants as script

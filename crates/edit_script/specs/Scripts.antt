@@ -7,10 +7,11 @@ use Rattle.origin_model.specs.order.Printed.{text}
 use Rattle.origin_model.specs.edits.Edits.{Command, Put, Cut, Add, DropSection}
 use Rattle.outer_ports.specs.Sources.{SourceView}
 use Rattle.cluster_text.specs.Clusters.{clusters, scalars, span}
-use Rattle.replica_core.specs.State.{State}
-use Rattle.replica_core.specs.Edits.{section_shown, in_section, in_range, refused_elements, refused_ops, refusal, made_by, Gains, StopsPartly}
-use Rattle.replica_core.specs.declared.edits.edit_fault.EditFault.{EditFault}
-use Rattle.replica_core.specs.declared.edits.edit_fault.EditFault.TheVariants as edit
+use Rattle.origin_model.specs.edits.State.{State}
+use Rattle.origin_model.specs.edits.Refusal.{section_shown, in_section, in_range, refused_elements, refused_ops, refusal, made_by}
+use Rattle.origin_model.specs.edits.Effect.{Gains, StopsPartly}
+use Rattle.origin_model.specs.declared.edit_fault.EditFault.{EditFault}
+use Rattle.origin_model.specs.declared.edit_fault.EditFault.TheVariants as edit
 use Rattle.edit_script.specs.declared.fault.ScriptFault.{ScriptFault}
 use Rattle.edit_script.specs.declared.fault.ScriptFault.TheVariants.{BadLine, NoSection, OutOfRange, IdsSpent, TooMany, ReadFault, TooLong, NoMemory}
 use Rattle.edit_script.specs.Grammar.{Asks, IsBad, IsNote, lines}

@@ -9,11 +9,12 @@ use Rattle.origin_model.specs.declared.operations.place.Place.TheVariants.{Catal
 use Rattle.origin_model.specs.order.Printed.{shown}
 use Rattle.origin_model.specs.edits.Edits.{Add, Command, Cut, DropSection, Put, put_in}
 use Rattle.origin_model.proofs.edits.MadeLemmas.{cut_front, drop_made, put_front}
-use Rattle.replica_core.specs.State.{State}
-use Rattle.replica_core.specs.Edits.{LeavesUnmade, StopsPartly, held_count, in_range, in_section, made_by, next_of_own, refusal, refused_elements, refused_ops, section_shown, shown_count, with_ops}
-use Rattle.replica_core.specs.declared.edits.edit_fault.EditFault.{EditFault}
-use Rattle.replica_core.specs.declared.edits.edit_fault.EditFault.TheVariants.{IdsSpent, NoMemory, NoSection, OutOfRange, TooMany}
-use Rattle.replica_core.proofs.EditLemmas.{cut_count, if_none, position_within, section_there}
+use Rattle.origin_model.specs.edits.State.{State}
+use Rattle.origin_model.specs.edits.Refusal.{held_count, in_range, in_section, made_by, next_of_own, refusal, refused_elements, refused_ops, section_shown, shown_count}
+use Rattle.origin_model.specs.edits.Effect.{LeavesUnmade, StopsPartly, with_ops}
+use Rattle.origin_model.specs.declared.edit_fault.EditFault.{EditFault}
+use Rattle.origin_model.specs.declared.edit_fault.EditFault.TheVariants.{IdsSpent, NoMemory, NoSection, OutOfRange, TooMany}
+use Rattle.origin_model.proofs.edits.RefusalLemmas.{cut_count, if_none, position_within, section_there}
 use Rattle.list_spec.specs.Calls.{CallsAreEdits, IsEdit, IsEditCall}
 use Rattle.list_spec.specs.Worlds.{effect}
 use Rattle.list_spec.proofs.EffectLemmas.{made_none, made_whole}

@@ -12,7 +12,7 @@ use Rattle.origin_model.specs.operations.Verdict.{Lawful, verdict}
 use Rattle.origin_model.specs.order.Laws.{IsPartOf}
 use Rattle.origin_model.specs.taking.Taking.{Accepted, Answer, Held, Waits, answer, intake, joined, settle, settled_within, taken}
 use Rattle.origin_model.proofs.SharedLemmas.{IsEarliest, earliest_found, has-append, holds-older, within-none, within-some, without}
-use Rattle.replica_core.proofs.DecisionLemmas.{accepted_is_ready}
+use Rattle.origin_model.proofs.SharedLemmas.{accepted_is_ready}
 
 -- an operation of the pool in front of a part of it
 pub part_more : (pool h : List Op) (op : Op) → has_op pool op ≡ true → IsPartOf h pool → IsPartOf (op ∷ h) pool

@@ -10,13 +10,11 @@ use Rattle.origin_model.specs.declared.operations.place.Place.TheVariants.{Catal
 use Rattle.origin_model.specs.operations.Verdict.{Lawful}
 use Rattle.origin_model.specs.order.Printed.{shown}
 use Rattle.origin_model.specs.edits.Edits.{Add, Command, Cut, DropSection, Put, ReadyInTurn, added, cut_in, deletes_of, id_at, left_for, made, next_counter, put_in, right_for, typed}
-use Rattle.origin_model.proofs.edits.CutLemmas.{cut_takes, drop_takes}
-use Rattle.origin_model.proofs.edits.PutLemmas.{add_lands, put_lands}
-use Rattle.replica_core.specs.State.{State}
-use Rattle.replica_core.specs.Edits.{added_ids, made_by, put_ids, refusal, refused_elements, refused_ops, section_shown, shown_count, with_ops}
-use Rattle.replica_core.specs.declared.edits.edit_fault.EditFault.{EditFault}
-use Rattle.replica_core.proofs.EditLemmas.{erases, inserts, may_cut, may_put, position_within, section_there}
-use Rattle.list_spec.specs.StrongList.{Lands}
+use Rattle.origin_model.specs.edits.State.{State}
+use Rattle.origin_model.specs.edits.Refusal.{made_by, refusal}
+use Rattle.origin_model.specs.edits.Effect.{Lands, with_ops}
+use Rattle.origin_model.specs.declared.edit_fault.EditFault.{EditFault}
+use Rattle.origin_model.proofs.edits.RefusalLemmas.{edit_lands, made_ready}
 use Rattle.list_spec.specs.Worlds.{edited, effect}
 use Rattle.list_spec.proofs.PoolLemmas.{IsBy}
 
@@ -54,19 +52,6 @@ made_are_by r h w (DropSection k) =
       | Some s ↦ deletes_by r (s ∷ [])
     ]
 
--- they are Ready in turn
-made_ready : (command : Command) (s : State) → Lawful s.held.history → refusal s command ≡ None → ReadyInTurn s.held.history (made_by s command)
-made_ready (Put k at new) s w e =
-    let m = may_put s k at new e in (put_lands s.number s.held.history s.held.waiting k at new m.section w m.there m.within_shown).0.ready
-made_ready (Cut k at n) s w e =
-    let m = may_cut s k at n e in (cut_takes s.number s.held.history s.held.waiting k at n m.section w m.there).0.ready
-made_ready (Add at title) s w e =
-    let r = position_within at (shown_count s catalogue) (refused_elements s 1) e in
-    (add_lands s.number s.held.history s.held.waiting at title w r.0).0.ready
-made_ready (DropSection k) s w e =
-    let x = section_there (section_shown s k) (λ x. refused_ops s 1) e in
-    (drop_takes s.number s.held.history s.held.waiting k x.0 w x.1).0.ready
-
 -- what an edit makes, refused or not
 pub record IsEffect (s : State) (ops : List Op) : Type 0 where
   pub ready : ReadyInTurn s.held.history ops
@@ -81,26 +66,5 @@ effect_is command s w = by_refusal (refusal s command) refl
     by_refusal (Some fault) e = subst (IsEffect s) (sym (made_none command s fault e)) (record { ready = tt; by = All-nil (IsBy s.number) })
 
 -- an edit that is not refused lands where it was asked
-pub edit_lands : (command : Command) (s : State) → Lawful s.held.history → refusal s command ≡ None → Lands command s
-edit_lands (Put k at new) s w e =
-    let m = may_put s k at new e in (
-      m.section,
-      m.there,
-      inserts (within m.section) s (edited (Put k at new) s) (made_by s (Put k at new)) at (put_ids s new) (ap (with_ops s) (made_whole (Put k at new) s e))
-          (put_lands s.number s.held.history s.held.waiting k at new m.section w m.there m.within_shown),
-    )
-edit_lands (Cut k at n) s w e =
-    let m = may_cut s k at n e in (
-      m.section,
-      m.there,
-      erases (within m.section) s (edited (Cut k at n) s) (made_by s (Cut k at n)) at n (ap (with_ops s) (made_whole (Cut k at n) s e))
-          (cut_takes s.number s.held.history s.held.waiting k at n m.section w m.there),
-    )
-edit_lands (Add at title) s w e =
-    let r = position_within at (shown_count s catalogue) (refused_elements s 1) e in
-    inserts catalogue s (edited (Add at title) s) (made_by s (Add at title)) at (added_ids s) (ap (with_ops s) (made_whole (Add at title) s e))
-    (add_lands s.number s.held.history s.held.waiting at title w r.0)
-edit_lands (DropSection k) s w e =
-    let x = section_there (section_shown s k) (λ x. refused_ops s 1) e in
-    erases catalogue s (edited (DropSection k) s) (made_by s (DropSection k)) k 1 (ap (with_ops s) (made_whole (DropSection k) s e))
-    (drop_takes s.number s.held.history s.held.waiting k x.0 w x.1)
+pub lands : (command : Command) (s : State) → Lawful s.held.history → refusal s command ≡ None → Lands s (edited command s) command
+lands command s w e = edit_lands command s (edited command s) w e (ap (with_ops s) (made_whole command s e))

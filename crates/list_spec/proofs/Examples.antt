@@ -10,7 +10,7 @@ use Rattle.origin_model.specs.order.Order.{chain, order}
 use Rattle.origin_model.specs.order.Printed.{text}
 use Rattle.origin_model.specs.taking.Taking.{nothing, settle}
 use Rattle.origin_model.specs.edits.Edits.{Add, Cut, Put, id_at}
-use Rattle.replica_core.specs.State.{State}
+use Rattle.origin_model.specs.edits.State.{State}
 use Rattle.list_spec.specs.Worlds.{Deliver, Edit, Event, World, world}
 
 abbrev replica : ℕ → State

@@ -1,26 +1,19 @@
 -- The laws of worlds: one order for all replicas at all moments, and edits that land where they were asked.
-use Rattle.std.proofs.Common.{List, [], ap, subst, sym, ◌∷◌, ◌≡◌}
-use Rattle.std.specs.Prelude.{AllPairs, None, filter, not}
+use Rattle.std.proofs.Common.{List, [], ap, subst, sym, ◌≡◌}
+use Rattle.std.specs.Prelude.{None, filter, not}
 use Rattle.std.proofs.lemmas.List.Elements.{All-weaker}
-use Rattle.std.proofs.lemmas.List.Kept.{AllPairs-cons}
 use Rattle.fugue_ids.specs.declared.op.Op.{Op}
-use Rattle.fugue_ids.proofs.ListLemmas.{all_pairs_nil}
 use Rattle.origin_model.specs.operations.Verdict.{Lawful}
 use Rattle.origin_model.specs.order.Laws.{IsPartOf}
 use Rattle.origin_model.specs.order.Printed.{is_hidden}
-use Rattle.origin_model.proofs.SharedLemmas.{parts_keep_order, when_ready}
-use Rattle.replica_core.specs.State.{HaveOtherIds, State}
-use Rattle.replica_core.specs.Edits.{refusal}
-use Rattle.replica_core.proofs.StandingLemmas.{other_ids}
-use Rattle.list_spec.specs.StrongList.{EditsLand, IsOneList, IsView, Lands, StrongList}
-use Rattle.list_spec.specs.Worlds.{World, after_events, world}
-use Rattle.list_spec.proofs.EffectLemmas.{edit_lands}
+use Rattle.origin_model.proofs.SharedLemmas.{lawful_own, parts_keep_order}
+use Rattle.origin_model.specs.edits.State.{State}
+use Rattle.origin_model.specs.edits.Refusal.{refusal}
+use Rattle.origin_model.specs.edits.Effect.{Lands}
+use Rattle.list_spec.specs.StrongList.{EditsLand, IsOneList, IsView, StrongList}
+use Rattle.list_spec.specs.Worlds.{World, after_events, edited, world}
+use Rattle.list_spec.proofs.EffectLemmas.{lands}
 use Rattle.list_spec.proofs.WorldLemmas.{IsMember, events_further, events_keep, events_sound, world_sound}
-
--- no two operations of a lawful history have one identifier
-lawful_own : (h : List Op) → Lawful h → AllPairs HaveOtherIds h
-lawful_own [] w = all_pairs_nil HaveOtherIds
-lawful_own (op ∷ h) w = AllPairs-cons HaveOtherIds op h (other_ids h op (when_ready h op w.0).fresh) (lawful_own h w.1)
 
 -- a lawful part of a pool is a view of it
 part_view : (pool h : List Op) → Lawful pool → Lawful h → IsPartOf h pool → IsView pool h
@@ -51,4 +44,4 @@ strong_list replicas earlier later new =
 pub edits_land : EditsLand
 edits_land replicas events command new =
     let w : World = world replicas events in
-    All-weaker (IsMember w.pool) (λ (s : State). refusal s command ≡ None → Lands command s) (λ s m e. edit_lands command s m.lawful e) w.replicas (world_sound replicas events new).members
+    All-weaker (IsMember w.pool) (λ (s : State). refusal s command ≡ None → Lands s (edited command s) command) (λ s m e. lands command s m.lawful e) w.replicas (world_sound replicas events new).members

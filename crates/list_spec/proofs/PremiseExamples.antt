@@ -11,12 +11,13 @@ use Rattle.fugue_ids.specs.declared.op.Op.TheVariants.{Section}
 use Rattle.origin_model.specs.order.Order.{chain, order}
 use Rattle.origin_model.specs.taking.Taking.{nothing}
 use Rattle.origin_model.specs.edits.Edits.{Add, Command, id_at}
-use Rattle.replica_core.specs.State.{State}
-use Rattle.replica_core.specs.Edits.{IsMade, LeavesUnmade, RefusesExactly, refusal}
-use Rattle.replica_core.specs.declared.edits.edit_fault.EditFault.{EditFault}
-use Rattle.replica_core.specs.declared.edits.edit_fault.EditFault.TheVariants.{NoMemory, NoSection}
+use Rattle.origin_model.specs.edits.State.{State}
+use Rattle.origin_model.specs.edits.Refusal.{RefusesExactly, refusal}
+use Rattle.origin_model.specs.edits.Effect.{IsMade, Lands, LeavesUnmade}
+use Rattle.origin_model.specs.declared.edit_fault.EditFault.{EditFault}
+use Rattle.origin_model.specs.declared.edit_fault.EditFault.TheVariants.{NoMemory, NoSection}
 use Rattle.list_spec.specs.Calls.{IsEdit}
-use Rattle.list_spec.specs.StrongList.{IsOneList, IsView, Lands}
+use Rattle.list_spec.specs.StrongList.{IsOneList, IsView}
 use Rattle.list_spec.specs.Worlds.{AreNew, Event, edited, numbers, world}
 
 -- replica 1, with room for 10 operations that wait and 100 in all
@@ -54,20 +55,20 @@ second_is_it xs = elim (slice_get xs 1) [ None ↦ false | Some x ↦ id_eq x (i
 
 edits_land_empty :
     ((replicas : List State) (events : List Event) (command : Command) → AllPairs (λ m n. m ≢ n) (numbers replicas)
-    → All (λ (s : State). refusal s command ≡ None → Lands command s) (world replicas events).replicas) → ⊥
+    → All (λ (s : State). refusal s command ≡ None → Lands s (edited command s) command) (world replicas events).replicas) → ⊥
 unfolding order chain
 edits_land_empty law =
     let add : Command = Add 1 (codes "U") in
-    let lands : Lands add twice = All-head (λ (s : State). refusal s add ≡ None → Lands add s) twice [] (law (twice ∷ []) [] add (one_number twice)) refl in
+    let lands : Lands twice (edited add twice) add = All-head (λ (s : State). refusal s add ≡ None → Lands s (edited add s) add) twice [] (law (twice ∷ []) [] add (one_number twice)) refl in
     true≢false (ap second_is_it lands.splices.here)
 
 -- a refused edit does not land: there is no such position
 edits_land_refused :
-    ((replicas : List State) (events : List Event) (command : Command) → AreNew replicas → All (λ (s : State). Lands command s) (world replicas events).replicas) → ⊥
+    ((replicas : List State) (events : List Event) (command : Command) → AreNew replicas → All (λ (s : State). Lands s (edited command s) command) (world replicas events).replicas) → ⊥
 unfolding order chain
 edits_land_refused law =
     let add : Command = Add 5 (codes "T") in
-    let lands : Lands add new_one = All-head (λ (s : State). Lands add s) new_one [] (law (new_one ∷ []) [] add alone) in
+    let lands : Lands new_one (edited add new_one) add = All-head (λ (s : State). Lands s (edited add s) add) new_one [] (law (new_one ∷ []) [] add alone) in
     true≢false (ap (λ xs. nat_eq (length xs) 0) lands.splices.here)
 
 -- the edit that is asked for in these calls, which a new replica does not refuse

@@ -13,7 +13,7 @@ use Rattle.origin_model.specs.order.Laws.{IsPartOf}
 use Rattle.origin_model.specs.taking.Taking.{Held, nothing}
 use Rattle.origin_model.specs.edits.Edits.{Command, id_at}
 use Rattle.origin_model.proofs.edits.MadeLemmas.{ready_lawful}
-use Rattle.replica_core.specs.State.{State}
+use Rattle.origin_model.specs.edits.State.{State}
 use Rattle.list_spec.specs.Worlds.{AreNew, Deliver, Edit, Event, World, after_event, after_events, changed, delivered, edited, effect, made_at, numbers, pooled, world}
 use Rattle.list_spec.proofs.DeliveryLemmas.{taking_in}
 use Rattle.list_spec.proofs.EffectLemmas.{effect_is}

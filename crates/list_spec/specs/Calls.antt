@@ -1,10 +1,11 @@
 -- The calls by which a replica is edited, as events of a world.
 use Rattle.std.specs.Prelude.{◌≡◌, ◌≢◌, ℕ, Result, Err, IfOk, IfErr, take}
 use Rattle.origin_model.specs.edits.Edits.{Command}
-use Rattle.replica_core.specs.State.{State}
-use Rattle.replica_core.specs.Edits.{IsMade, LeavesUnmade, RefusesExactly}
-use Rattle.replica_core.specs.declared.edits.edit_fault.EditFault.{EditFault}
-use Rattle.replica_core.specs.declared.edits.edit_fault.EditFault.TheVariants.{NoMemory}
+use Rattle.origin_model.specs.edits.State.{State}
+use Rattle.origin_model.specs.edits.Refusal.{RefusesExactly}
+use Rattle.origin_model.specs.edits.Effect.{IsMade, LeavesUnmade}
+use Rattle.origin_model.specs.declared.edit_fault.EditFault.{EditFault}
+use Rattle.origin_model.specs.declared.edit_fault.EditFault.TheVariants.{NoMemory}
 use Rattle.list_spec.specs.Worlds.{edited, effect}
 
 -- what `put`, `cut`, `add` and `drop_section` promise of the edit that they are asked for

@@ -5,8 +5,9 @@ use Rattle.fugue_ids.specs.declared.op.Op.{Op}
 use Rattle.origin_model.specs.operations.History.{has_op}
 use Rattle.origin_model.specs.taking.Taking.{intake, nothing}
 use Rattle.origin_model.specs.edits.Edits.{Command}
-use Rattle.replica_core.specs.State.{State}
-use Rattle.replica_core.specs.Edits.{made_by, refusal, with_ops}
+use Rattle.origin_model.specs.edits.State.{State}
+use Rattle.origin_model.specs.edits.Refusal.{made_by, refusal}
+use Rattle.origin_model.specs.edits.Effect.{with_ops}
 
 -- what happens in a world, one at a time
 pub data Event : Type 0 where

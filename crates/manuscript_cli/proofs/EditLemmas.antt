@@ -9,7 +9,7 @@ use Rattle.outer_ports.specs.Sources.{KeepsCount, SourceView}
 use Rattle.outer_ports.specs.disk.Disks.{DiskView}
 use Rattle.origin_model.specs.operations.History.{accepted}
 use Rattle.origin_model.specs.taking.Taking.{IsSettled}
-use Rattle.replica_core.specs.State.{State as Replica, Stands}
+use Rattle.origin_model.specs.edits.State.{State as Replica, Stands}
 use Rattle.edit_script.proofs.OnceLemmas.{scripts_run_once}
 use Rattle.edit_script.proofs.TakenInLemmas.{all_find_place, scripts_are_taken_in}
 use Rattle.edit_script.specs.Scripts.{Runs, RunsWhole, Stops}

@@ -4,7 +4,7 @@ use Rattle.std.specs.Prelude.{IfSome, Ok, Err, Result}
 use Rattle.fugue_ids.specs.declared.limits.TheConstants.{MOST_OPERATIONS}
 use Rattle.outer_ports.specs.disk.Disks.{DiskView}
 use Rattle.outer_ports.specs.disk.Moments.{History}
-use Rattle.replica_core.specs.State.{State as Replica}
+use Rattle.origin_model.specs.edits.State.{State as Replica}
 use Rattle.replica_file.proofs.OnceLemmas.{answers_once}
 use Rattle.replica_file.specs.Load.{AnswerIs, IsByBytes}
 use Rattle.replica_file.specs.declared.end.End.{End}

@@ -8,7 +8,7 @@ use Rattle.outer_ports.specs.disk.Disks.{DiskView, RoomView, spent}
 use Rattle.outer_ports.specs.disk.Moments.{History, LeavesOnlyTo, MayLeave, after}
 use Rattle.outer_ports.specs.disk.States.{IsHonest, settled}
 use Rattle.origin_model.specs.files.Image.{Content}
-use Rattle.replica_core.specs.State.{State as Replica}
+use Rattle.origin_model.specs.edits.State.{State as Replica}
 use Rattle.replica_file.specs.Append.{HasBatch, HoldsEither, IsTooLong, behind_gate}
 use Rattle.replica_file.specs.declared.append_fault.AppendFault.{AppendFault}
 use Rattle.replica_file.specs.declared.append_fault.AppendFault.TheVariants as append_fault

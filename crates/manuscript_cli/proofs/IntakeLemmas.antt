@@ -11,7 +11,7 @@ use Rattle.op_frame.specs.Courses.{Comes, Course, Whole, CutShort as IsCutShort,
 use Rattle.op_frame.specs.Readers.{Gave}
 use Rattle.op_frame.proofs.StreamLemmas.{follows, gave_none}
 use Rattle.op_frame.proofs.CourseLemmas.{Fed, fed_whole, fed_cut, fed_bad, fed_long, fed_many}
-use Rattle.replica_core.specs.State.{State}
+use Rattle.origin_model.specs.edits.State.{State}
 use Rattle.fugue_ids.specs.declared.limits.TheConstants.{STREAM_LIMIT}
 use Rattle.manuscript_cli.specs.Intake.{Taking, TakesOne, Steps, SourceComes, TakesIn, StopsFor, copied}
 use Rattle.manuscript_cli.specs.declared.refusal.Refusal.{Refusal}

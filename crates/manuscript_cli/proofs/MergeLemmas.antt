@@ -9,7 +9,7 @@ use Rattle.origin_model.specs.declared.taking.tally.Tally.{Tally}
 use Rattle.origin_model.specs.taking.Taking.{Answer, HasPlace, Held, IsSettled, TooMany, answer, answers_from, held_from, intake, kept_from, tally_from}
 use Rattle.origin_model.proofs.SharedLemmas.{held-append, kept-append, no_place_left, places-append, places-none, tally-append}
 use Rattle.replica_core.specs.Keeping.{LeavesUnkept, TakesIn, TakesInKeeping, Taking, begun}
-use Rattle.replica_core.specs.State.{State}
+use Rattle.origin_model.specs.edits.State.{State}
 use Rattle.replica_core.specs.declared.feed_fault.FeedFault.{FeedFault}
 use Rattle.replica_core.specs.declared.feed_fault.FeedFault.TheVariants as feed_fault
 use Rattle.replica_core.proofs.KeepingLemmas.{takes_more}

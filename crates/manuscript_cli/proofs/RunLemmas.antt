@@ -9,7 +9,7 @@ use Rattle.origin_model.specs.order.Printed.{manuscript}
 use Rattle.origin_model.specs.taking.Taking.{Held, nothing}
 use Rattle.outer_ports.specs.disk.Disks.{DiskView}
 use Rattle.outer_ports.specs.disk.Moments.{History}
-use Rattle.replica_core.specs.State.{State as Replica}
+use Rattle.origin_model.specs.edits.State.{State as Replica}
 use Rattle.replica_file.specs.Load.{Loads}
 use Rattle.replica_file.specs.declared.end.End.{End}
 use Rattle.manuscript_cli.proofs.FoundLemmas.{holds_once}

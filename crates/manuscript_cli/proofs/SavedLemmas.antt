@@ -12,7 +12,7 @@ use Rattle.origin_model.specs.files.Image.{Content, HasImage, Holds, state}
 use Rattle.origin_model.specs.frames.Frames.{frames}
 use Rattle.origin_model.specs.taking.Taking.{HasPlace, held, nothing}
 use Rattle.origin_model.proofs.SharedLemmas.{held-append, places-append}
-use Rattle.replica_core.specs.State.{State as Replica}
+use Rattle.origin_model.specs.edits.State.{State as Replica}
 use Rattle.replica_file.specs.Append.{HasBatch, HoldsEither, behind_gate, with_ops}
 use Rattle.replica_file.specs.declared.end.End.{End}
 use Rattle.replica_file.specs.Ends.{Means}

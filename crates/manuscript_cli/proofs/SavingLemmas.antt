@@ -4,7 +4,7 @@ use Rattle.std.specs.Prelude.{◌⊎◌, Result, Ok, Err}
 use Rattle.outer_ports.specs.disk.Disks.{DiskView}
 use Rattle.outer_ports.specs.disk.Moments.{after}
 use Rattle.outer_ports.specs.disk.States.{settled}
-use Rattle.replica_core.specs.State.{State as Replica}
+use Rattle.origin_model.specs.edits.State.{State as Replica}
 use Rattle.replica_file.proofs.HonestLemmas.{settled_honest}
 use Rattle.replica_file.specs.Append.{IsTooLong, behind_gate}
 use Rattle.replica_file.specs.Gates.{opened}

@@ -10,7 +10,7 @@ use Rattle.origin_model.specs.taking.Taking.{Held, nothing, held, tally}
 use Rattle.origin_model.specs.declared.taking.tally.Tally.{Tally}
 use Rattle.op_frame.specs.Courses.{Course, Whole}
 use Rattle.op_frame.proofs.CourseLemmas.{comes_once}
-use Rattle.replica_core.specs.State.{State}
+use Rattle.origin_model.specs.edits.State.{State}
 use Rattle.manuscript_cli.specs.Counts.{is_done}
 use Rattle.fugue_ids.specs.declared.limits.TheConstants.{MOST_OPERATIONS, STREAM_LIMIT}
 use Rattle.manuscript_cli.specs.Printing.{PrintMeets}

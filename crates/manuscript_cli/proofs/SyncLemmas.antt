@@ -16,7 +16,7 @@ use Rattle.relay_sync.specs.declared.sync_fault.SyncFault.{SyncFault}
 use Rattle.relay_sync.specs.declared.sync_fault.SyncFault.TheVariants as sync_fault
 use Rattle.relay_sync.proofs.OutcomeLemmas.{reply_comes_once}
 use Rattle.replica_core.specs.Keeping.{TakesIn, Taking, begun}
-use Rattle.replica_core.specs.State.{State as Replica}
+use Rattle.origin_model.specs.edits.State.{State as Replica}
 use Rattle.replica_file.specs.declared.end.End.{End}
 use Rattle.manuscript_cli.specs.Counts.{cursor_line}
 use Rattle.manuscript_cli.specs.Files.{FileHolds, IsAppended, SaveMeets}

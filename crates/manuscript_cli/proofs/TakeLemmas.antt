@@ -12,7 +12,7 @@ use Rattle.outer_ports.specs.Sources.{SourceView}
 use Rattle.outer_ports.specs.disk.Disks.{DiskView}
 use Rattle.op_frame.specs.Courses.{BadFrame, Comes, Course, CutShort, TooLong, TooMany, Whole}
 use Rattle.op_frame.proofs.CourseLemmas.{comes_once}
-use Rattle.replica_core.specs.State.{State as Replica}
+use Rattle.origin_model.specs.edits.State.{State as Replica}
 use Rattle.replica_file.specs.declared.end.End.{End}
 use Rattle.manuscript_cli.specs.Counts.{counts_text, is_done, status_by}
 use Rattle.manuscript_cli.specs.Crashes.{IsFinished}

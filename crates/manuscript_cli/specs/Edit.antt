@@ -9,7 +9,7 @@ use Rattle.edit_script.specs.declared.script.TheConstants.{LONGEST_SCRIPT}
 use Rattle.edit_script.specs.Scripts.{RunsWhole, StopsAt}
 use Rattle.outer_ports.specs.Sources.{SourceView}
 use Rattle.outer_ports.specs.disk.Disks.{DiskView}
-use Rattle.replica_core.specs.State.{State as Replica}
+use Rattle.origin_model.specs.edits.State.{State as Replica}
 use Rattle.replica_file.specs.declared.end.End.{End}
 use Rattle.manuscript_cli.specs.Findings.{Finding, Refuses, Does}
 use Rattle.manuscript_cli.specs.Refusal.{script_refusal}

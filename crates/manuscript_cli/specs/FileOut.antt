@@ -6,7 +6,7 @@ use Rattle.origin_model.specs.taking.Taking.{Held}
 use Rattle.outer_ports.specs.disk.Disks.{DiskView}
 use Rattle.outer_ports.specs.disk.Moments.{after}
 use Rattle.outer_ports.specs.disk.States.{settled}
-use Rattle.replica_core.specs.State.{State as Replica}
+use Rattle.origin_model.specs.edits.State.{State as Replica}
 use Rattle.replica_file.specs.declared.end.End.{End}
 use Rattle.manuscript_cli.specs.Crashes.{NeverTorn}
 use Rattle.manuscript_cli.specs.Files.{FileHolds, FileRefuses, KeepsFile}

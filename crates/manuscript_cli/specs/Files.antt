@@ -7,7 +7,7 @@ use Rattle.origin_model.specs.files.Image.{Content, HasImage, Holds}
 use Rattle.outer_ports.specs.disk.Disks.{DiskView, spent}
 use Rattle.outer_ports.specs.disk.Moments.{History, LeavesOnly, LeavesOnlyTo, MayLeave, after, stepped}
 use Rattle.outer_ports.specs.disk.States.{IsHonest, at_rest, settled}
-use Rattle.replica_core.specs.State.{State as Replica}
+use Rattle.origin_model.specs.edits.State.{State as Replica}
 use Rattle.replica_file.specs.Append.{HasBatch, HoldsEither, IsTooLong, behind_gate}
 use Rattle.replica_file.specs.Ends.{EndsAt, Means, Reaches}
 use Rattle.replica_file.specs.Gates.{LastsFor, opened}

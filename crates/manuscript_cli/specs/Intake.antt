@@ -9,7 +9,7 @@ use Rattle.op_frame.specs.Readers.{Reading, Nexts}
 use Rattle.op_frame.specs.declared.fault.FrameFault.TheVariants as frame_fault
 use Rattle.replica_core.specs.declared.feed_fault.FeedFault.{FeedFault}
 use Rattle.replica_core.specs.declared.feed_fault.FeedFault.TheVariants as feed_fault
-use Rattle.replica_core.specs.State.{State}
+use Rattle.origin_model.specs.edits.State.{State}
 use Rattle.replica_core.specs.Told.{total}
 use Rattle.fugue_ids.specs.declared.limits.TheConstants.{GREATEST_HOLD, STREAM_LIMIT}
 use Rattle.manuscript_cli.specs.declared.refusal.Refusal.{Refusal}

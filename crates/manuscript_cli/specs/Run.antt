@@ -4,7 +4,7 @@ use Rattle.origin_model.specs.frames.Frames.{frames}
 use Rattle.origin_model.specs.order.Printed.{manuscript}
 use Rattle.origin_model.specs.taking.Taking.{Held}
 use Rattle.outer_ports.specs.Sources.{SourceView}
-use Rattle.replica_core.specs.State.{State as Replica}
+use Rattle.origin_model.specs.edits.State.{State as Replica}
 use Rattle.replica_file.specs.declared.end.End.{End}
 use Rattle.manuscript_cli.specs.Bulk.{Bulks}
 use Rattle.manuscript_cli.specs.Crashes.{IsFinished}

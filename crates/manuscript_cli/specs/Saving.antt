@@ -8,7 +8,7 @@ use Rattle.origin_model.specs.taking.Taking.{HasPlace, Held, held_from}
 use Rattle.outer_ports.specs.disk.Disks.{DiskView}
 use Rattle.outer_ports.specs.disk.Moments.{after}
 use Rattle.outer_ports.specs.disk.States.{settled}
-use Rattle.replica_core.specs.State.{State as Replica}
+use Rattle.origin_model.specs.edits.State.{State as Replica}
 use Rattle.replica_file.specs.Append.{IsTooLong, behind_gate}
 use Rattle.replica_file.specs.Gates.{opened}
 use Rattle.replica_file.specs.declared.end.End.{End}

@@ -5,7 +5,7 @@ use Rattle.fugue_ids.specs.Outs.{Took, TookFront}
 use Rattle.fugue_ids.specs.declared.op.Op.{Op}
 use Rattle.origin_model.specs.order.Printed.{manuscript}
 use Rattle.origin_model.specs.taking.Taking.{Held, nothing, held_from, tally_from, no_counts}
-use Rattle.replica_core.specs.State.{State}
+use Rattle.origin_model.specs.edits.State.{State}
 use Rattle.manuscript_cli.specs.Counts.{counts_line, status_by}
 use Rattle.op_frame.specs.Courses.{Comes, Course, Whole, CutShort, BadFrame, TooLong, TooMany}
 use Rattle.fugue_ids.specs.declared.limits.TheConstants.{MOST_OPERATIONS, STREAM_LIMIT}

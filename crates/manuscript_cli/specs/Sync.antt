@@ -9,7 +9,7 @@ use Rattle.outer_ports.specs.wire.Wires.{WireView, out_of}
 use Rattle.relay_sync.specs.Outcomes.{Bad, Cut, Ended, Refused, ReplyComes, ReplyEnd, TooLong, TooMany}
 use Rattle.relay_sync.specs.Saying.{SaysToNoOther, text_for}
 use Rattle.relay_sync.specs.Syncing.{Fits, HearsNoFurther}
-use Rattle.replica_core.specs.State.{State as Replica}
+use Rattle.origin_model.specs.edits.State.{State as Replica}
 use Rattle.replica_file.specs.declared.end.End.{End}
 use Rattle.manuscript_cli.specs.Files.{FileHolds}
 use Rattle.manuscript_cli.specs.Findings.{Finding, Refuses, Does}

@@ -8,7 +8,7 @@ use Rattle.origin_model.specs.declared.taking.tally.Tally.{Tally}
 use Rattle.op_frame.specs.Courses.{Whole, CutShort, BadFrame, TooLong, TooMany}
 use Rattle.outer_ports.specs.Sources.{SourceView}
 use Rattle.outer_ports.specs.disk.Disks.{DiskView}
-use Rattle.replica_core.specs.State.{State as Replica}
+use Rattle.origin_model.specs.edits.State.{State as Replica}
 use Rattle.replica_file.specs.declared.end.End.{End}
 use Rattle.manuscript_cli.specs.Counts.{counts_text, status_by}
 use Rattle.manuscript_cli.specs.Files.{FileHolds, FileRefuses}

@@ -1,7 +1,7 @@
 ghost use Rattle.std.specs.Prelude.{◌≡◌, ◌+◌, ◌<◌, ◌^◌, [], length, IfErr, IfOk, IfSome, OnOk};
 ghost use Rattle.origin_model.specs.taking.Taking.{IsSettled};
 ghost use Rattle.replica_core.specs.Keeping.{TakesIn, begun};
-ghost use Rattle.replica_core.specs.State.{Stands};
+ghost use Rattle.origin_model.specs.edits.State.{Stands};
 ghost use Rattle.replica_core.specs.Told.{total};
 ghost use Rattle.replica_file.specs.Ends.{EndsAt, Reaches};
 ghost use Rattle.replica_file.specs.Loading.{IsReady};

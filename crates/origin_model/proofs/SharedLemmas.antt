@@ -2,6 +2,7 @@
 pub use Rattle.origin_model.proofs.operations.CauseLemmas.{becomes_ready, names_within, ready_absent}
 pub use Rattle.origin_model.proofs.operations.LookupLemmas.{cases_held, found, has-append, has-holder, holder-has, holder-other, holder-own, holder_owns, holds-cons, holds-older, holds-other, holds-own, missing-held, own_id, when_ready}
 pub use Rattle.origin_model.proofs.operations.OneLookUpLemmas.{owns}
+pub use Rattle.origin_model.proofs.operations.OwnIdLemmas.{lawful_own, other_ids}
 pub use Rattle.origin_model.proofs.operations.FoundedLemmas.{no_text_before, not_hidden_before, ready_is_new, same_nodes_same_order, section_first, shown_can_go, target_is_shown}
 pub use Rattle.origin_model.proofs.order.OrderLawLemmas.{Within-part, order_total, parts_keep_order}
 pub use Rattle.origin_model.proofs.order.OrderLemmas.{order-none, order-some}
@@ -19,6 +20,7 @@ pub use Rattle.origin_model.proofs.taking.AcceptedFrontLemmas.{first_accepted}
 pub use Rattle.origin_model.proofs.taking.KeptLemmas.{answers-append, held-append, kept-append, kept-no, kept-yes, kept_suffice, saved_suffice, stays_settled, tally-append}
 pub use Rattle.origin_model.proofs.taking.RefusedLemmas.{Refused, no_place_left, places-append, places-none, places-one, same_refused, taken_or_refused}
 pub use Rattle.origin_model.proofs.taking.SettlingLemmas.{IsEarliest, earliest-no, earliest-yes, earliest_found, passed_over, settle-settled, within-none, within-some, without}
+pub use Rattle.origin_model.proofs.taking.TakingLemmas.{accepted_is_ready}
 pub use Rattle.origin_model.proofs.edits.NextCounterLemmas.{counters-append}
 pub use Rattle.origin_model.proofs.files.AppendLemmas.{Parts, batch_appended, from_parts, new_file_holds, same_to_gate, to_parts, with_batch}
 pub use Rattle.origin_model.proofs.files.BatchLemmas.{batch_of, behind_number, framed_is, framed_of, frames_read, is_batch, number_is, same_batch}

@@ -1,4 +1,4 @@
--- Lemmas on edits, and on how concurrent insertions stand.
+-- Lemmas on edits, on their refusals, and on how concurrent insertions stand.
 pub mod SplitLemmas
 pub mod LandsBehindLemmas
 pub mod FreshIdLemmas
@@ -9,5 +9,6 @@ pub mod MadeLemmas
 pub mod EditedTextLemmas
 pub mod NextCounterLemmas
 pub mod EditIntakeLemmas
+pub mod RefusalLemmas
 pub mod EditExamples
 pub mod PassageLemmas

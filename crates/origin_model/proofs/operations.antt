@@ -3,3 +3,4 @@ pub mod CauseLemmas
 pub mod FoundedLemmas
 pub mod LookupLemmas
 pub mod OneLookUpLemmas
+pub mod OwnIdLemmas

@@ -1,4 +1,7 @@
--- Edits: which operations each makes, where they land, and what they change.
+-- Edits: which are refused, which operations the others make, where those land, and what they change.
 pub mod Landing
 pub mod Edits
+pub mod State
+pub mod Refusal
+pub mod Effect
 pub mod Passages

@@ -1,6 +1,7 @@
 //! The model of a manuscript: what operations are to one another, the order of a place, what is printed, and the bytes of operations.
 #![tactic(auto)]
 
+mod edit_fault;
 mod files;
 mod laws;
 mod operations;
@@ -10,6 +11,7 @@ mod relay;
 mod sides;
 mod taking;
 
+pub use edit_fault::EditFault;
 pub use files::LONGEST_BATCH;
 pub use laws::{
     closure_of_set, gap_by_keys, kept_suffice, keys_are_fixed, lands_behind, later_ops_keep_order,

@@ -10,7 +10,7 @@ use Rattle.op_frame.proofs.FormatLemmas.{FallsShort, Reaches, two_fronts}
 use Rattle.op_frame.proofs.ToldLemmas.{shows, some_is, take_past}
 use Rattle.outer_ports.specs.wire.Wires.{WireView}
 use Rattle.replica_core.specs.Keeping.{TakesIn, Taking}
-use Rattle.replica_core.specs.State.{State}
+use Rattle.origin_model.specs.edits.State.{State}
 use Rattle.replica_core.proofs.KeepingLemmas.{same_taking}
 use Rattle.relay_sync.specs.Outcomes.{AnswerIs, AnswersByReply, IsByReply, answer_to, end_of, BeginsWith, EndsReply, HeardTo, HeardUpTo, HearsTo, IsNoMessage, ReplyEnd, Ended, Refused as EndsRefused, Bad, Cut, TooLong as EndsTooLong, TooMany as EndsTooMany}
 use Rattle.relay_sync.specs.Replies.{IsBroken, IsMessage, IsMessageFront}

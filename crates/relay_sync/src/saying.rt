@@ -1,5 +1,5 @@
 ghost use Rattle.std.specs.Prelude.{◌≡◌, IfOk, IsErr};
-ghost use Rattle.replica_core.specs.State.{Stands};
+ghost use Rattle.origin_model.specs.edits.State.{Stands};
 ghost use Rattle.relay_sync.specs.Replies.{WireRisesFor};
 ghost use Rattle.relay_sync.specs.Saying.{SaysText, SaysTo, text_for};
 

@@ -5,7 +5,7 @@ use Rattle.fugue_ids.specs.declared.op.Op.{Op}
 use Rattle.fugue_ids.specs.declared.limits.TheConstants.{GREATEST_HOLD}
 use Rattle.origin_model.specs.declared.taking.tally.Tally.{Tally}
 use Rattle.origin_model.specs.taking.Taking.{Held, settle_step, count_joined, count_dropped, settling_counted}
-use Rattle.replica_core.specs.State.{State, Stands}
+use Rattle.origin_model.specs.edits.State.{State, Stands}
 use Rattle.replica_core.specs.Settling.{Reaches, Here, Step}
 use Rattle.replica_core.specs.Told.{IsCounted, Settles, SettlesOn}
 use Rattle.replica_core.specs.declared.settled.Settled.{Settled}

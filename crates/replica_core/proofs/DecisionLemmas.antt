@@ -12,7 +12,7 @@ use Rattle.origin_model.specs.operations.History.{has_op, accepted}
 use Rattle.origin_model.specs.operations.Verdict.{verdict, first_line, first_stray, first_missing, names, id_held}
 use Rattle.origin_model.specs.declared.operations.verdict.Verdict.{Verdict}
 use Rattle.origin_model.specs.declared.operations.verdict.Verdict.TheVariants.{Again as AgainOnHistory, Conflict as ConflictOnHistory, Stray as StrayOnHistory, Missing as MissingOnHistory, Ready as ReadyOnHistory}
-use Rattle.origin_model.specs.taking.Taking.{Held, Answer, Again, Conflict, Accepted, Full, Waits, answer, answer_by, is_again, is_kept, is_taken, is_decided}
+use Rattle.origin_model.specs.taking.Taking.{Held, Answer, Again, Conflict, Full, Waits, answer, answer_by, is_again, is_kept, is_taken, is_decided}
 use Rattle.replica_core.specs.declared.decision.Decision.{Decision}
 use Rattle.replica_core.specs.Decision.{decided, answer_by_decision}
 
@@ -113,26 +113,6 @@ abbrev pub may_wait : Answer → Bool
 may_wait Full = true
 may_wait Waits = true
 may_wait _ = false
-
-accepted_ready : (again taken at_most at_hold : Bool) (v : Verdict) → answer_from again taken at_most at_hold v ≡ Accepted → v ≡ ReadyOnHistory
-accepted_ready true taken at_most at_hold v e = cc
-accepted_ready false true at_most at_hold v e = cc
-accepted_ready false false at_most at_hold ReadyOnHistory e = refl
-accepted_ready false false at_most at_hold (StrayOnHistory i) e = cc
-accepted_ready false false true at_hold AgainOnHistory e = cc
-accepted_ready false false true at_hold ConflictOnHistory e = cc
-accepted_ready false false true at_hold (MissingOnHistory i) e = cc
-accepted_ready false false false true AgainOnHistory e = cc
-accepted_ready false false false true ConflictOnHistory e = cc
-accepted_ready false false false true (MissingOnHistory i) e = cc
-accepted_ready false false false false AgainOnHistory e = cc
-accepted_ready false false false false ConflictOnHistory e = cc
-accepted_ready false false false false (MissingOnHistory i) e = cc
-
--- an accepted operation is Ready
-pub accepted_is_ready : (hold most : ℕ) (s : Held) (op : Op) → answer hold most s op ≡ Accepted → verdict s.history op ≡ ReadyOnHistory
-accepted_is_ready hold most s op e =
-    accepted_ready (is_again s op) (is_taken s op) (nat_eq (length s.history + length s.waiting) most) (nat_eq (length s.waiting) hold) (verdict s.history op) e
 
 undecided_from : (again taken at_most at_hold : Bool) (v : Verdict) → may_wait (answer_from again taken at_most at_hold v) ≡ true → is_decided v ≡ false
 undecided_from again taken at_most at_hold AgainOnHistory e = refl

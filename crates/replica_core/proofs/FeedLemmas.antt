@@ -7,7 +7,7 @@ use Rattle.origin_model.specs.declared.taking.tally.Tally.{Tally}
 use Rattle.origin_model.specs.taking.Taking.{Held, Answer, Accepted, Waits, answer, taken, is_decided, is_kept, settle, intake, answer_counted, settling_counted, intake_counted, IsSettled}
 use Rattle.replica_core.specs.Settling.{Reaches}
 use Rattle.replica_core.specs.Told.{JoinsNext, StandsPartly, SettlesOn, Leaves, total}
-use Rattle.replica_core.specs.State.{State}
+use Rattle.origin_model.specs.edits.State.{State}
 use Rattle.replica_core.specs.declared.feed_fault.FeedFault.TheVariants.{NoMemory as FedNoMemory}
 use Rattle.replica_core.proofs.DecisionLemmas.{may_wait, waits_undecided}
 use Rattle.origin_model.proofs.SharedLemmas.{settle-settled}

@@ -12,8 +12,9 @@ use Rattle.origin_model.specs.taking.Taking.{Accepted, answer, decided_on}
 use Rattle.origin_model.specs.edits.Edits.{deletes_of, id_at, typed}
 use Rattle.origin_model.proofs.edits.MadeLemmas.{extended-append, join_at_end}
 use Rattle.replica_core.specs.Due.{due_marks}
-use Rattle.replica_core.specs.Edits.{CanJoin, Gains, StopsPartly, typed_at, with_ops}
-use Rattle.replica_core.specs.State.{State, Stands}
+use Rattle.origin_model.specs.edits.Effect.{Gains, StopsPartly, with_ops}
+use Rattle.replica_core.specs.Edits.{CanJoin, typed_at}
+use Rattle.origin_model.specs.edits.State.{State, Stands}
 use Rattle.replica_core.specs.declared.edits.text_spot.TextSpot.{TextSpot}
 use Rattle.origin_model.proofs.edits.EditIntakeLemmas.{accepts}
 use Rattle.replica_core.proofs.StandingLemmas.{stands_by_accept}

@@ -11,7 +11,7 @@ use Rattle.origin_model.specs.declared.operations.verdict.Verdict.TheVariants.{A
 use Rattle.origin_model.specs.taking.Taking.{Again, Answer, Conflict, Held, TooMany, answer, answer_by, held_from, intake_counted, is_again, is_kept, is_taken, kept_from}
 use Rattle.origin_model.proofs.SharedLemmas.{held-append, kept-append, places-append, places-none, places-one, tally-append}
 use Rattle.replica_core.specs.Keeping.{TakesIn, TakesInKeeping, Taking}
-use Rattle.replica_core.specs.State.{State}
+use Rattle.origin_model.specs.edits.State.{State}
 
 -- nothing was taken in yet
 pub takes_none : (start : Taking) → TakesIn start start []

@@ -5,9 +5,9 @@ use Rattle.std.proofs.lemmas.Bool.{lt-ltb, le-ltb}
 use Rattle.origin_model.specs.operations.Counters.{counters, IsGreatest}
 use Rattle.origin_model.specs.edits.Edits.{next_above}
 use Rattle.origin_model.proofs.edits.NextCounterLemmas.{next_by_greatest}
-use Rattle.replica_core.specs.Edits.{next_of_own, refused_elements, refused_ops}
-use Rattle.replica_core.specs.State.{State, all_ops}
-use Rattle.replica_core.specs.declared.edits.edit_fault.EditFault.TheVariants.{IdsSpent}
+use Rattle.origin_model.specs.edits.Refusal.{next_of_own, refused_elements, refused_ops}
+use Rattle.origin_model.specs.edits.State.{State, all_ops}
+use Rattle.origin_model.specs.declared.edit_fault.EditFault.TheVariants.{IdsSpent}
 
 -- the next counter is behind the greatest one
 pub next_is : (s : State) (greatest : Option ℕ) (next : ℕ) → IsGreatest (counters s.number (all_ops s.held)) greatest → next ≡ next_above greatest → next ≡ next_of_own s

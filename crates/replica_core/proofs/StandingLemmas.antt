@@ -7,9 +7,9 @@ use Rattle.std.proofs.lemmas.List.Kept.{AllPairs-cons}
 use Rattle.std.proofs.lemmas.List.Quantifiers.{all_pairs_push, all_pairs_remove}
 use Rattle.std.proofs.lemmas.Option.{slice_get_within, slice_get-get_or, get_or_from_slice_get}
 use Rattle.std.proofs.lemmas.List.{length_push}
-use Rattle.fugue_ids.specs.Identifiers.{Identifier, origin_eq}
+use Rattle.fugue_ids.specs.Identifiers.{Identifier}
 use Rattle.fugue_ids.specs.Ops.{id_of, op_eq}
-use Rattle.fugue_ids.proofs.IdentifierLemmas.{id_eq-refl, origin_eq-true}
+use Rattle.fugue_ids.proofs.IdentifierLemmas.{origin_eq-true}
 use Rattle.fugue_ids.proofs.OpLemmas.{op_eq-refl, op_eq-true}
 use Rattle.fugue_ids.specs.declared.op.Op.{Op}
 use Rattle.origin_model.proofs.SharedLemmas.{holds-cons}
@@ -17,9 +17,11 @@ use Rattle.origin_model.specs.operations.History.{has_op, holds, is_own}
 use Rattle.origin_model.specs.operations.Verdict.{verdict, first_line, first_stray, first_missing, names, id_held}
 use Rattle.origin_model.specs.declared.operations.verdict.Verdict.TheVariants.{Ready}
 use Rattle.origin_model.specs.taking.Taking.{Held, answer, is_kept, Accepted, Full, Waits}
-use Rattle.replica_core.specs.State.{State, Stands, HaveOtherIds, IsOpen}
+use Rattle.origin_model.specs.operations.History.{HaveOtherIds}
+use Rattle.origin_model.specs.edits.State.{State, Stands, IsOpen}
 use Rattle.causal_inbox.specs.Waiting.{Waiting}
-use Rattle.replica_core.proofs.DecisionLemmas.{IsNew, accepted_is_ready, kept_new}
+use Rattle.origin_model.proofs.SharedLemmas.{accepted_is_ready, other_ids}
+use Rattle.replica_core.proofs.DecisionLemmas.{IsNew, kept_new}
 
 -- an operation that is not in a list differs from its members
 differs : (ops : List Op) (op : Op) → has_op ops op ≡ false → All (λ x. op ≢ x) ops
@@ -27,25 +29,6 @@ differs [] op e = All-nil (λ x. op ≢ x)
 differs (o ∷ ops) op e =
     let p = or_parts (op_eq o op) (has_op ops op) e in
     All-cons (λ x. op ≢ x) o ops (λ same. true≢false (sym (op_eq-refl op) ∙ subst (λ x. op_eq x op ≡ false) (sym same) p.0)) (differs ops op p.1)
-
--- an identifier that is not held is no member's
-not_own : (i : Identifier) (ops : List Op) → holds ops i ≡ false → All (λ x. id_of x ≢ Some i) ops
-not_own i [] e = All-nil (λ x. id_of x ≢ Some i)
-not_own i (o ∷ ops) e =
-    let p = or_parts (is_own i o) (holds ops i) (sym (holds-cons o ops i) ∙ e) in
-    All-cons (λ x. id_of x ≢ Some i) o ops (λ own. true≢false (sym (ap (λ a. origin_eq a (Some i)) own ∙ id_eq-refl i) ∙ p.0)) (not_own i ops p.1)
-
-other_ids_at : (o : Option Identifier) (op : Op) (ops : List Op) → id_of op ≡ o → id_held ops o ≡ false → All (HaveOtherIds op) ops
-other_ids_at None op ops is e = λ k d below i own. absurd (no_id i (sym own ∙ is))
-  where
-    no_id : (i : Identifier) → Some i ≡ None → ⊥
-    no_id i e = cc
-other_ids_at (Some i) op ops is e = λ k d below j own other.
-    not_own i ops e k d below (other ∙ sym own ∙ is)
-
--- an operation whose identifier is not held shares none with the members
-pub other_ids : (ops : List Op) (op : Op) → id_held ops (id_of op) ≡ false → All (HaveOtherIds op) ops
-other_ids ops op e = other_ids_at (id_of op) op ops refl e
 
 -- an accepted operation
 pub stands_accepted : (s : State) (op : Op) → Stands s → IsNew s.most s.held op → verdict s.held.history op ≡ Ready

@@ -7,7 +7,7 @@ use Rattle.origin_model.specs.operations.Verdict.{verdict}
 use Rattle.origin_model.specs.declared.operations.verdict.Verdict.TheVariants.{Ready}
 use Rattle.origin_model.specs.taking.Taking.{Held, decided_on}
 use Rattle.causal_inbox.specs.Waiting.{Waiting}
-use Rattle.replica_core.specs.State.{State, Stands}
+use Rattle.origin_model.specs.edits.State.{State, Stands}
 use Rattle.replica_core.specs.Told.{JoinsNext, Settles}
 use Rattle.replica_core.specs.declared.settled.Settled.{Settled}
 use Rattle.replica_core.specs.declared.settled.Settled.TheVariants.{Accepted, DroppedStray}

@@ -15,7 +15,7 @@ use Rattle.origin_model.specs.declared.operations.role.Role.{Role}
 use Rattle.origin_model.specs.taking.Taking.{is_decided, decided_on}
 use Rattle.causal_inbox.specs.Naming.{is_naming, naming}
 use Rattle.causal_inbox.specs.Positions.{positions_from}
-use Rattle.replica_core.specs.State.{HaveOtherIds}
+use Rattle.origin_model.specs.operations.History.{HaveOtherIds}
 use Rattle.replica_core.specs.Due.{due_marks, newest_id}
 use Rattle.replica_core.proofs.StandingLemmas.{absent_before, id_unheld}
 

@@ -5,7 +5,7 @@ use Rattle.origin_model.specs.declared.taking.tally.Tally.{Tally}
 use Rattle.origin_model.specs.taking.Taking.{HasPlace, TooMany, IsSettled, answer, held_from, intake, intake_counted, kept_from, no_counts, tally_from}
 use Rattle.replica_core.specs.declared.feed_fault.FeedFault.{FeedFault}
 use Rattle.replica_core.specs.declared.feed_fault.FeedFault.TheVariants.{TooMany as FedTooMany, NoMemory}
-use Rattle.replica_core.specs.State.{State}
+use Rattle.origin_model.specs.edits.State.{State}
 use Rattle.replica_core.specs.Told.{StandsPartly, total}
 
 -- the operation was taken in and counted, and is behind the kept ones where it was kept

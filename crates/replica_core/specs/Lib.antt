@@ -1,4 +1,3 @@
-pub mod State
 pub mod Due
 pub mod Replica
 pub mod Settling

@@ -3,7 +3,7 @@ use Rattle.std.specs.Prelude.{◌≡◌, ℕ, Bool, List}
 use Rattle.fugue_ids.specs.declared.op.Op.{Op}
 use Rattle.causal_inbox.specs.Waiting.{Waiting}
 use Rattle.replica_core.specs.Due.{due_marks}
-use Rattle.replica_core.specs.State.{State, Stands}
+use Rattle.origin_model.specs.edits.State.{State, Stands}
 
 -- a replica of this number, with these limits, accepted operations and waiting ones
 abbrev pub state_of : (number hold most : ℕ) → List Op → Waiting → State

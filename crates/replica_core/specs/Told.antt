@@ -14,7 +14,7 @@ use Rattle.replica_core.specs.declared.deliver_fault.DeliverFault.TheVariants.{C
 use Rattle.replica_core.specs.declared.feed_fault.FeedFault.{FeedFault}
 use Rattle.replica_core.specs.declared.feed_fault.FeedFault.TheVariants.{TooMany as FedTooMany, NoMemory as FedNoMemory}
 use Rattle.replica_core.specs.Settling.{Reaches}
-use Rattle.replica_core.specs.State.{State}
+use Rattle.origin_model.specs.edits.State.{State}
 
 -- a delivery tells its answer, and a refusal hands the operation back: want of memory comes only where it would be kept
 abbrev pub Answers : (hold most : ℕ) → Op → Answer → Result Taken DeliverFault → Type 0

@@ -1,14 +1,13 @@
 //! Edits, by positions in what is shown: sections and elements count from 0.
 
-ghost use Rattle.std.specs.Prelude.{◌≡◌, IfErr, IfOk, IfSome, OnOk};
+ghost use Rattle.std.specs.Prelude.{IfErr, IfOk, OnOk};
 ghost use Rattle.std.specs.Str.{chars};
 ghost use Rattle.origin_model.specs.edits.Edits.{Put, Cut, Add, DropSection};
 ghost use Rattle.origin_model.specs.taking.Taking.{IsSettled};
-ghost use Rattle.origin_model.specs.declared.operations.place.Place.TheVariants.{Catalogue as catalogue, Section as within};
-ghost use Rattle.replica_core.specs.Edits.{added_ids, put_ids, section_shown, IsErased, IsInserted, IsMade, LeavesUnmade, RefusesExactly};
-ghost use Rattle.replica_core.specs.State.{Stands};
+ghost use Rattle.origin_model.specs.edits.Refusal.{RefusesExactly};
+ghost use Rattle.origin_model.specs.edits.Effect.{IsMade, Lands, LeavesUnmade};
+ghost use Rattle.origin_model.specs.edits.State.{Stands};
 
-mod edit_fault;
 mod joining;
 mod limits;
 mod origins;
@@ -17,16 +16,15 @@ mod targets;
 mod text_spot;
 
 use crate::Replica;
-pub use edit_fault::EditFault;
 use fugue_ids::Title;
+use origin_model::EditFault;
 
 impl Replica {
     /// Puts a text into a section, before the shown element at the position or behind all of them. The answer is how many operations were made.
     pub fn put(&mut self, section: usize, at: usize, text: &str) -> Result<u32, EditFault>
         requires { IsSettled self.old.held }
         ensures made { IfOk result (λ n. IsMade self.old self.new (Put section at (chars text.now)) n) }
-        ensures lands { OnOk result (IfSome (section_shown self.old section)
-            (λ s. IsInserted (within s) self.old self.new at (put_ids self.old (chars text.now)))) }
+        ensures lands { OnOk result (Lands self.old self.new (Put section at (chars text.now))) }
         ensures refused { RefusesExactly self.old (Put section at (chars text.now)) result }
         ensures unmade { IfErr result (λ fault. LeavesUnmade self.old self.new (Put section at (chars text.now)) fault) }
         ensures settled { IsSettled self.new.held }
@@ -42,7 +40,7 @@ impl Replica {
     pub fn cut(&mut self, section: usize, at: usize, n: usize) -> Result<u32, EditFault>
         requires { IsSettled self.old.held }
         ensures made { IfOk result (λ count. IsMade self.old self.new (Cut section at n) count) }
-        ensures lands { OnOk result (IfSome (section_shown self.old section) (λ s. IsErased (within s) self.old self.new at n)) }
+        ensures lands { OnOk result (Lands self.old self.new (Cut section at n)) }
         ensures refused { RefusesExactly self.old (Cut section at n) result }
         ensures unmade { IfErr result (λ fault. LeavesUnmade self.old self.new (Cut section at n) fault) }
         ensures settled { IsSettled self.new.held }
@@ -57,7 +55,7 @@ impl Replica {
     pub fn add(&mut self, at: usize, title: Title) -> Result<u32, EditFault>
         requires { IsSettled self.old.held }
         ensures made { IfOk result (λ n. IsMade self.old self.new (Add at title) n) }
-        ensures lands { OnOk result (IsInserted catalogue self.old self.new at (added_ids self.old)) }
+        ensures lands { OnOk result (Lands self.old self.new (Add at title)) }
         ensures refused { RefusesExactly self.old (Add at title) result }
         ensures unmade { IfErr result (λ fault. LeavesUnmade self.old self.new (Add at title) fault) }
         ensures settled { IsSettled self.new.held }
@@ -72,7 +70,7 @@ impl Replica {
     pub fn drop_section(&mut self, section: usize) -> Result<u32, EditFault>
         requires { IsSettled self.old.held }
         ensures made { IfOk result (λ n. IsMade self.old self.new (DropSection section) n) }
-        ensures lands { OnOk result (IsErased catalogue self.old self.new section 1) }
+        ensures lands { OnOk result (Lands self.old self.new (DropSection section)) }
         ensures refused { RefusesExactly self.old (DropSection section) result }
         ensures unmade { IfErr result (λ fault. LeavesUnmade self.old self.new (DropSection section) fault) }
         ensures settled { IsSettled self.new.held }

@@ -1,7 +1,7 @@
 //! Taking in, with a copy of each operation that is kept, for those who save what was kept.
 ghost use Rattle.std.specs.Prelude.{◌≡◌, ◌↔◌, ◌<◌, ◌++◌, ◌∷◌, [], Err, OnOk, OnErr, IfErr, vec_len, vec_capacity};
 ghost use Rattle.origin_model.specs.taking.Taking.{answer, TooMany, IsSettled};
-ghost use Rattle.replica_core.specs.State.{Stands};
+ghost use Rattle.origin_model.specs.edits.State.{Stands};
 ghost use Rattle.replica_core.specs.Told.{StaysBelow};
 ghost use Rattle.replica_core.specs.Keeping.{TakesInKeeping, LeavesUnkept};
 

@@ -20,10 +20,9 @@ mod taken;
 mod waking;
 
 pub use deliver_fault::DeliverFault;
-pub use edits::EditFault;
 pub use feed_fault::FeedFault;
 pub use new_fault::NewFault;
-pub use origin_model::Tally;
+pub use origin_model::{EditFault, Tally};
 pub use replica::Replica;
 pub use settled::Settled;
 pub use taken::Taken;

@@ -7,8 +7,8 @@ ghost use Rattle.origin_model.specs.order.Printed.{shown, text as text_on};
 ghost use Rattle.origin_model.specs.declared.operations.place.Place.TheVariants.{Catalogue as catalogue};
 ghost use Rattle.section_list.specs.Cells.{text as text_in};
 ghost use Rattle.section_catalogue.specs.Manuscript.{IsPlaceOf, IsTextOf};
-ghost use Rattle.replica_core.specs.Edits.{section_shown};
-ghost use Rattle.replica_core.specs.State.{Stands};
+ghost use Rattle.origin_model.specs.edits.Refusal.{section_shown};
+ghost use Rattle.origin_model.specs.edits.State.{Stands};
 
 use crate::Replica;
 use crate::shown_section::ShownSection;

@@ -5,8 +5,10 @@ ghost use Rattle.origin_model.specs.operations.Verdict.{verdict as verdict_on};
 ghost use Rattle.origin_model.specs.order.Printed.{manuscript};
 ghost use Rattle.origin_model.specs.taking.Taking.{nothing, answer, taken, TooMany, intake, intake_counted, is_kept, IsSettled};
 ghost use Rattle.origin_model.specs.operations.Counters.{counters, IsGreatest};
-ghost use Rattle.replica_core.specs.State.{all_ops, IsOpen, IsOutside, IsWithin, Stands};
-ghost use Rattle.replica_core.specs.Edits.{CanJoin, held_count, with_ops};
+ghost use Rattle.origin_model.specs.edits.State.{all_ops, IsOpen, IsOutside, IsWithin, Stands};
+ghost use Rattle.origin_model.specs.edits.Refusal.{held_count};
+ghost use Rattle.origin_model.specs.edits.Effect.{with_ops};
+ghost use Rattle.replica_core.specs.Edits.{CanJoin};
 ghost use Rattle.replica_core.specs.Decision.{answer_by_decision};
 ghost use Rattle.replica_core.specs.Told.{Answers, JoinsNext, Leaves, Settles, SettlesOrStops, StaysBelow, total};
 
@@ -39,7 +41,7 @@ pub struct Replica {
 }
 
 impl Model for Replica {
-    ghost use Rattle.replica_core.specs.State.{State};
+    ghost use Rattle.origin_model.specs.edits.State.{State};
     ghost use Rattle.replica_core.specs.Replica.{IsKept, state_of};
 
     ghost Value = { State };

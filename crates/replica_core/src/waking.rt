@@ -2,7 +2,7 @@
 
 ghost use Rattle.std.specs.Prelude.{◌≡◌, ◌≢◌, ◌<◌, ◌≤◌, ◌↔◌, ◌++◌, ◌∷◌, [], Some, false, drop, length, remove, slice_get, AllPairs, OnOk, OnErr, IfErr};
 ghost use Rattle.causal_inbox.specs.Faults.{refused};
-ghost use Rattle.replica_core.specs.State.{HaveOtherIds};
+ghost use Rattle.origin_model.specs.operations.History.{HaveOtherIds};
 ghost use Rattle.replica_core.specs.Due.{due_marks, newest_id as newest_id_of};
 
 use crate::accepted::Accepted;

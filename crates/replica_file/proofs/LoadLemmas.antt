@@ -6,7 +6,7 @@ use Rattle.outer_ports.specs.disk.Moments.{History, LeavesOnlyTo, MayLeave, afte
 use Rattle.outer_ports.proofs.SharedLemmas.{image_at_rest, leaves_more, leaves_none}
 use Rattle.origin_model.specs.files.Image.{Content, HasImage, Holds, open_slots}
 use Rattle.origin_model.proofs.SharedLemmas.{to_parts}
-use Rattle.replica_core.specs.State.{State}
+use Rattle.origin_model.specs.edits.State.{State}
 use Rattle.replica_file.specs.declared.end.End.{End}
 use Rattle.replica_file.specs.declared.load_fault.LoadFault.{LoadFault}
 use Rattle.replica_file.specs.declared.load_fault.LoadFault.TheVariants.{NoMemory}

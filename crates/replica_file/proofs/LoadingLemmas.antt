@@ -11,7 +11,7 @@ use Rattle.origin_model.specs.declared.operations.verdict.Verdict.{Verdict}
 use Rattle.origin_model.specs.declared.operations.verdict.Verdict.TheVariants as verdict_is
 use Rattle.origin_model.specs.taking.Taking.{Again, Conflict, Held, Answer, TooMany as AnswersTooMany, answer, answer_by, answers_from, held, intake, is_again, is_kept, is_taken, nothing, taken, settle}
 use Rattle.origin_model.proofs.SharedLemmas.{answers-append, held-append, places-append, places-one}
-use Rattle.replica_core.specs.State.{State, Stands}
+use Rattle.origin_model.specs.edits.State.{State, Stands}
 use Rattle.replica_core.specs.Told.{Leaves}
 use Rattle.replica_core.specs.declared.feed_fault.FeedFault.{FeedFault}
 use Rattle.replica_core.specs.declared.feed_fault.FeedFault.TheVariants.{TooMany as FedTooMany, NoMemory as FedNoMemory}

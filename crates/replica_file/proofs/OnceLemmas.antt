@@ -10,7 +10,7 @@ use Rattle.outer_ports.specs.disk.Moments.{History}
 use Rattle.origin_model.specs.files.Image.{BadBatch, Batch, Content, Holds, IsBatch, IsNoBatch, OpenSlots, batch_ops, last_slot, open_slot, open_slots, slots_of, state}
 use Rattle.origin_model.specs.frames.Frames.{Reads, Whole}
 use Rattle.origin_model.proofs.SharedLemmas.{Bad, Closed, Ends, image_once, no_open_slot, same_batch, slots_not_empty}
-use Rattle.replica_core.specs.State.{State}
+use Rattle.origin_model.specs.edits.State.{State}
 use Rattle.replica_file.specs.declared.end.End.{End}
 use Rattle.replica_file.specs.declared.load_fault.LoadFault.{LoadFault}
 use Rattle.replica_file.specs.declared.load_fault.LoadFault.TheVariants as fault_is

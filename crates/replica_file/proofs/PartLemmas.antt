@@ -10,7 +10,7 @@ use Rattle.outer_ports.specs.disk.Moments.{History}
 use Rattle.origin_model.specs.frames.Frames.{CutShort, BadFrame, Framed, IsBad, IsFrame, IsPartial, Reads, Starts, Whole}
 use Rattle.op_frame.proofs.FrameLemmas.{bad_goes_on}
 use Rattle.op_frame.proofs.StreamLemmas.{reads_once}
-use Rattle.replica_core.specs.State.{State}
+use Rattle.origin_model.specs.edits.State.{State}
 use Rattle.replica_file.specs.Loading.{IsSame}
 use Rattle.replica_file.specs.Pieces.{AreBad, Lacks, TakesPiece}
 use Rattle.replica_file.specs.Slots.{EndsOff, HasNoFrames, TakesFrames, TakesSome}

@@ -13,7 +13,7 @@ use Rattle.origin_model.specs.taking.Taking.{answer, is_kept}
 use Rattle.op_frame.specs.Readers.{AnswersBy, Chains, Nexts, Reading, StartsWithin, to_give}
 use Rattle.op_frame.specs.declared.fault.FrameFault.TheVariants as frame_fault
 use Rattle.op_frame.proofs.StepLemmas.{front_short}
-use Rattle.replica_core.specs.State.{State}
+use Rattle.origin_model.specs.edits.State.{State}
 use Rattle.replica_file.specs.Loading.{Feeds, IsSame}
 use Rattle.replica_file.specs.Pieces.{AreBad, IsReading, Lacks, Steps, TakesPiece}
 use Rattle.replica_file.specs.Wanting.{AreWhole, ForOperation, ForTitle, IsWanting}

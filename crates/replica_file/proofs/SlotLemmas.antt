@@ -7,7 +7,7 @@ use Rattle.std.proofs.lemmas.List.{length-take, length-take-le, take-append-drop
 use Rattle.origin_model.specs.declared.files.TheConstants.{LONGEST_BATCH}
 use Rattle.origin_model.specs.files.Image.{CutShort, IsNoBatch, NoFrames, NoGate, NoLength, TooLong, number_at}
 use Rattle.origin_model.specs.frames.Frames.{Reads, Whole}
-use Rattle.replica_core.specs.State.{State}
+use Rattle.origin_model.specs.edits.State.{State}
 use Rattle.replica_file.specs.Pieces.{Lacks}
 use Rattle.replica_file.specs.Slots.{HasNoFrames, IsGate, LacksInSlot, TakesFrames, TakesSlot}
 use Rattle.replica_file.specs.Wanting.{BeginsPiece, part_of}

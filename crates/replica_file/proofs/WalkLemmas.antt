@@ -9,7 +9,7 @@ use Rattle.fugue_ids.specs.declared.op.Op.{Op}
 use Rattle.origin_model.specs.files.Image.{Batch, IsBatch, IsNoBatch, OpenSlots, batch_ops, content_of, has_header, header_of, last_slot, number_at, open_slot, open_slots, slots_of}
 use Rattle.origin_model.specs.taking.Taking.{Answer, Held, TooMany as AnswersTooMany, answer, held, is_kept, nothing}
 use Rattle.fugue_ids.specs.declared.limits.TheConstants.{MOST_OPERATIONS}
-use Rattle.replica_core.specs.State.{State}
+use Rattle.origin_model.specs.edits.State.{State}
 use Rattle.replica_file.specs.declared.end.End.{End}
 use Rattle.replica_file.specs.declared.gate_place.Gate.{Gate}
 use Rattle.replica_file.specs.Load.{AreTooMany, FindPlace, FindsBadBatch, FindsTooMany, LacksMemory, Loads, hold_of}

@@ -6,7 +6,7 @@ use Rattle.origin_model.specs.declared.files.TheConstants.{LONGEST_BATCH}
 use Rattle.origin_model.specs.frames.Frames.{Starts}
 use Rattle.origin_model.specs.files.Image.{Batch, Content, EndsBadly, HasImage, Holds, OpenSlots, batch_ops, has_header, header_of, last_slot, number_at, open_slots, slots_of, state}
 use Rattle.origin_model.specs.taking.Taking.{HasPlace, TooMany as AnswersTooMany, answers_from, held, nothing}
-use Rattle.replica_core.specs.State.{State}
+use Rattle.origin_model.specs.edits.State.{State}
 use Rattle.replica_file.specs.Wanting.{BeginsPiece, IsWanting, part_of}
 use Rattle.replica_file.specs.declared.end.End.{End}
 use Rattle.replica_file.specs.declared.load_fault.LoadFault.{LoadFault}

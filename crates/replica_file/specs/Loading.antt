@@ -3,7 +3,7 @@ use Rattle.std.specs.Prelude.{◌≡◌, Bool, true, false, List, ◌++◌}
 use Rattle.fugue_ids.specs.declared.op.Op.{Op}
 use Rattle.fugue_ids.specs.declared.limits.TheConstants.{MOST_OPERATIONS}
 use Rattle.origin_model.specs.taking.Taking.{IsSettled, held}
-use Rattle.replica_core.specs.State.{State, Stands}
+use Rattle.origin_model.specs.edits.State.{State, Stands}
 use Rattle.replica_file.specs.Load.{AreTooMany, FindPlace}
 
 -- one operation more can be taken in

@@ -4,7 +4,7 @@ use Rattle.fugue_ids.specs.declared.op.Op.{Op}
 use Rattle.outer_ports.specs.Sources.{SourceView}
 use Rattle.origin_model.specs.frames.Frames.{Starts, IsBad, IsPartial}
 use Rattle.op_frame.specs.Readers.{Gave, Reading}
-use Rattle.replica_core.specs.State.{State}
+use Rattle.origin_model.specs.edits.State.{State}
 use Rattle.replica_file.specs.Loading.{Feeds, IsSame}
 use Rattle.replica_file.specs.Wanting.{AreWhole, IsWanting}
 use Rattle.replica_file.specs.declared.stop.Stop.{Stop}

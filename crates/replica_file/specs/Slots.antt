@@ -4,7 +4,7 @@ use Rattle.fugue_ids.specs.declared.op.Op.{Op}
 use Rattle.origin_model.specs.declared.files.TheConstants.{LONGEST_BATCH}
 use Rattle.origin_model.specs.files.Image.{Batch, IsBatch, OpenSlots, batch_ops, has_header, header_of, is_header, number_at, open_slots, slots_of}
 use Rattle.origin_model.specs.frames.Frames.{IsBad, IsPartial, Reads, Starts, Whole}
-use Rattle.replica_core.specs.State.{State}
+use Rattle.origin_model.specs.edits.State.{State}
 use Rattle.replica_file.specs.Load.{AnswerIs}
 use Rattle.replica_file.specs.Loading.{AreIn, Feeds}
 use Rattle.replica_file.specs.Pieces.{Lacks}

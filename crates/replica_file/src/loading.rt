@@ -1,7 +1,7 @@
 ghost use Rattle.std.specs.Prelude.{◌≡◌, ◌<◌, ◌≤◌, ◌∷◌, [], true, OnOk, OnErr};
 ghost use Rattle.fugue_ids.specs.declared.limits.TheConstants.{GREATEST_HOLD, MOST_OPERATIONS};
 ghost use Rattle.origin_model.specs.taking.Taking.{answer, is_kept, nothing};
-ghost use Rattle.replica_core.specs.State.{Stands};
+ghost use Rattle.origin_model.specs.edits.State.{Stands};
 ghost use Rattle.replica_file.specs.Loading.{Feeds, IsReady, IsSame};
 
 use crate::header::Header;

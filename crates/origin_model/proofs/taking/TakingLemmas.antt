@@ -2,7 +2,7 @@
 use Rattle.origin_model.proofs.Words.{All-head, All-tail, Bool, Identifier, IsPartOf, Lawful, List, Op, Ready, SameOps, Stray, Verdict, [], ap, cases_Bool, false, false≢true, has_op, if◌then◌else◌, inl, inr, length, nat_eq, op_eq, op_eq-refl, op_eq-true, or_cases, or_left, or_parts, or_right, refl, subst, sym, true, true≢false, verdict, ℕ, ◌++◌, ◌+◌, ◌||◌, ◌∙◌, ◌∷◌, ◌≡◌, ◌≢◌, ◌⊎◌}
 use Rattle.std.proofs.lemmas.Bool.{or_from}
 use Rattle.origin_model.specs.taking.Closure.{Consistent, WithinLimits}
-use Rattle.origin_model.specs.taking.Taking.{Held, Answer, Accepted, Again as AnsweredAgain, Conflict as AnsweredConflict, Full, Stray as AnsweredStray, TooMany, Waits, answer, answer_by, answers_from, held_from, intake, is_decided, is_taken, joined, settle, settled_within, taken}
+use Rattle.origin_model.specs.taking.Taking.{Held, Answer, Accepted, Again as AnsweredAgain, Conflict as AnsweredConflict, Full, Stray as AnsweredStray, TooMany, Waits, answer, answer_by, answers_from, held_from, intake, is_again, is_decided, is_taken, joined, settle, settled_within, taken}
 use Rattle.origin_model.proofs.order.{Within-append}
 use Rattle.origin_model.proofs.operations.CauseLemmas.{Dead, dead_within, stray_dead}
 use Rattle.origin_model.proofs.operations.LookupLemmas.{has-append, swap_or}
@@ -90,6 +90,25 @@ answer_cases true f v = inr (inl refl)
 answer_cases false f Ready = inr (inr (inl (refl, refl)))
 answer_cases false true v = inr (inr (inr (inl refl)))
 answer_cases false false v = inr (inr (inr (inr refl)))
+
+-- Accepted is answered by no other verdict than Ready
+accepted_by : (t f : Bool) (v : Verdict) → answer_by t f v ≡ Accepted → v ≡ Ready
+accepted_by t f v e =
+    elim (answer_cases t f v) [
+      | inl q ↦ cc (q.2, e)
+      | inr q ↦ elim q [ inl r ↦ cc (r, e) | inr r ↦ elim r [ inl x ↦ x.0 | inr x ↦ elim x [ inl y ↦ cc (y, e) | inr y ↦ cc (y, e) ] ] ]
+    ]
+
+-- an operation that is accepted is Ready
+pub accepted_is_ready : (hold most : ℕ) (s : Held) (op : Op) → answer hold most s op ≡ Accepted → verdict s.history op ≡ Ready
+accepted_is_ready hold most s op e =
+    accepted_by (nat_eq (length s.history + length s.waiting) most) (nat_eq (length s.waiting) hold) (verdict s.history op)
+    (by_lines (is_again s op) (is_taken s op) _ e)
+  where
+    by_lines : (again taken : Bool) (a : Answer) → (if again then AnsweredAgain else if taken then AnsweredConflict else a) ≡ Accepted → a ≡ Accepted
+    by_lines true taken a e = cc e
+    by_lines false true a e = cc e
+    by_lines false false a e = e
 
 -- it stays so where the operation is there already, or names one that does not fit
 grow : (done : List Op) (s : Held) (op : Op) → Covers done s → (has_op s.history op ≡ false → has_op s.waiting op ≡ false → Dead s.history op) → Covers (op ∷ done) s

@@ -1,5 +1,5 @@
 -- Operations, looked up in a history. A history is the list of the accepted operations, the newest first.
-use Rattle.std.specs.Prelude.{Option, Some, None, is_some, Bool, true, false, if◌then◌else◌, ◌||◌, List, [], ◌∷◌, reverse}
+use Rattle.std.specs.Prelude.{◌≡◌, ◌≢◌, Option, Some, None, is_some, Bool, true, false, if◌then◌else◌, ◌||◌, List, [], ◌∷◌, reverse}
 use Rattle.fugue_ids.specs.Identifiers.{Identifier, id_eq, origin_eq}
 use Rattle.fugue_ids.specs.Ops.{id_of, op_eq}
 use Rattle.fugue_ids.specs.declared.op.Op.{Op}
@@ -43,6 +43,10 @@ element_of _ _ = None
 -- the operation has this identifier of its own
 abbrev pub is_own : Identifier → Op → Bool
 is_own i op = origin_eq (id_of op) (Some i)
+
+-- the operations have no identifier in common
+abbrev pub HaveOtherIds : Op → Op → Type 0
+HaveOtherIds a b = (i : Identifier) → id_of a ≡ Some i → id_of b ≢ Some i
 
 -- the operation of the history whose own identifier is i
 abbrev pub holder : List Op → Identifier → Option Op

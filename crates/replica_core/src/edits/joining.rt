@@ -4,8 +4,9 @@ ghost use Rattle.std.specs.Prelude.{◌≡◌, ◌<◌, ◌≤◌, ◌+◌, ◌^
 ghost use Rattle.std.specs.Str.{chars};
 ghost use Rattle.origin_model.specs.edits.Edits.{deletes_of, id_at};
 ghost use Rattle.origin_model.specs.taking.Taking.{IsSettled};
-ghost use Rattle.replica_core.specs.Edits.{CanJoin, Gains, StopsPartly, typed_at};
-ghost use Rattle.replica_core.specs.State.{Stands};
+ghost use Rattle.origin_model.specs.edits.Effect.{Gains, StopsPartly};
+ghost use Rattle.replica_core.specs.Edits.{CanJoin, typed_at};
+ghost use Rattle.origin_model.specs.edits.State.{Stands};
 
 use super::text_spot::TextSpot;
 use crate::Replica;

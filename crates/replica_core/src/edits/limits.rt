@@ -2,8 +2,8 @@
 
 ghost use Rattle.std.specs.Prelude.{◌≡◌, ◌≤◌, ◌+◌, ◌^◌, None, Some, IfErr, IfOk, OnOk};
 ghost use Rattle.origin_model.specs.edits.Edits.{next_above};
-ghost use Rattle.replica_core.specs.Edits.{next_of_own, refused_elements, refused_ops};
-ghost use Rattle.replica_core.specs.State.{Stands};
+ghost use Rattle.origin_model.specs.edits.Refusal.{next_of_own, refused_elements, refused_ops};
+ghost use Rattle.origin_model.specs.edits.State.{Stands};
 
 use crate::{EditFault, Replica};
 

@@ -3,8 +3,9 @@
 ghost use Rattle.std.specs.Prelude.{◌≡◌, ◌∷◌, [], None, IfErr, IfOk, OnOk, length, ◌≤◌, ◌+◌, ◌^◌};
 ghost use Rattle.std.specs.Str.{chars};
 ghost use Rattle.origin_model.specs.edits.Edits.{Put, Cut, Add, DropSection, deletes_of};
-ghost use Rattle.replica_core.specs.Edits.{IsCauseOf, made_by, refusal, typed_at};
-ghost use Rattle.replica_core.specs.State.{Stands};
+ghost use Rattle.origin_model.specs.edits.Refusal.{made_by, refusal};
+ghost use Rattle.replica_core.specs.Edits.{IsCauseOf, typed_at};
+ghost use Rattle.origin_model.specs.edits.State.{Stands};
 
 use super::origins::origins_at;
 use super::targets::{has_part, shown_part};

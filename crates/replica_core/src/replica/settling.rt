@@ -1,5 +1,5 @@
 ghost use Rattle.std.specs.Prelude.{◌≡◌, ◌<◌, ◌≤◌, ◌-◌, ◌^◌, IfOk, OnErr};
-ghost use Rattle.replica_core.specs.State.{Stands};
+ghost use Rattle.origin_model.specs.edits.State.{Stands};
 ghost use Rattle.replica_core.specs.Told.{IsCounted, JoinsNext, Settles, SettlesOrStops};
 
 use super::Replica;
@@ -27,7 +27,7 @@ pub(crate) struct Settling {
 }
 
 impl Model for Settling {
-    ghost use Rattle.replica_core.specs.State.{State};
+    ghost use Rattle.origin_model.specs.edits.State.{State};
     ghost use Rattle.replica_core.specs.Replica.{IsKept, state_of};
 
     ghost Value = { State };

@@ -1,5 +1,5 @@
 use Rattle.std.proofs.Common.{ap, sym, ◌∙◌}
-use Rattle.replica_core.specs.State.{State}
+use Rattle.origin_model.specs.edits.State.{State}
 use Rattle.manuscript_cli.specs.Show.{reader}
 use Rattle.manuscript_cli.proofs.show.show.Goals as goal
 

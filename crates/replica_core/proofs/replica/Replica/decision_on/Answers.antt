@@ -1,6 +1,6 @@
 use Rattle.std.proofs.Common.{◌≡◌, subst, length, nat_eq}
 use Rattle.origin_model.specs.taking.Taking.{answer}
-use Rattle.replica_core.specs.State.{State}
+use Rattle.origin_model.specs.edits.State.{State}
 use Rattle.replica_core.specs.Decision.{answer_by_decision}
 use Rattle.replica_core.proofs.DecisionLemmas.{decision_by}
 use Rattle.replica_core.proofs.replica.Replica.decision_on.Goals as goal

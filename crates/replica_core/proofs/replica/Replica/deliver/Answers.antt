@@ -2,7 +2,7 @@ use Rattle.std.proofs.Common.{◌≡◌, refl, sym, ◌∙◌, subst, ap, ℕ, L
 use Rattle.fugue_ids.specs.declared.op.Op.{Op}
 use Rattle.causal_inbox.specs.Waiting.{Waiting}
 use Rattle.origin_model.specs.taking.Taking.{answer, Accepted, Full, Waits}
-use Rattle.replica_core.specs.State.{State, Stands}
+use Rattle.origin_model.specs.edits.State.{State, Stands}
 use Rattle.replica_core.specs.Replica.{state_of}
 use Rattle.replica_core.specs.Due.{due_marks}
 use Rattle.replica_core.proofs.DecisionLemmas.{may_wait, may_wait-decided, waits_undecided}

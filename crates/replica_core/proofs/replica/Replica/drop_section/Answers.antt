@@ -1,13 +1,16 @@
 use Rattle.std.proofs.Common.{ap, subst, sym, ◌∙◌}
-use Rattle.replica_core.specs.Edits.{CanJoin, with_ops}
-use Rattle.replica_core.proofs.EditLemmas.{drop_can_join, drop_erases}
+use Rattle.origin_model.specs.edits.Edits.{DropSection}
+use Rattle.origin_model.specs.edits.Effect.{with_ops}
+use Rattle.replica_core.specs.Edits.{CanJoin}
+use Rattle.origin_model.proofs.edits.RefusalLemmas.{edit_lands}
+use Rattle.replica_core.proofs.EditLemmas.{made_can_join}
 use Rattle.replica_core.proofs.replica.Replica.drop_section.Goals as goal
 
 pub join-requires : goal.join-requires
 join-requires c =
-    subst (CanJoin c.args.self.now) c.in_ok-op.ensures.ok (drop_can_join c.args.self.now c.args.section c.in_ok-op.ensures.stands c.requires c.in_ok-op.ensures.may)
+    subst (CanJoin c.args.self.now) c.in_ok-op.ensures.ok (made_can_join c.args.self.now (DropSection c.args.section) c.in_ok-op.ensures.stands c.requires c.in_ok-op.ensures.may)
 
 pub returns-clause-lands : goal.returns-clause-lands
 returns-clause-lands c =
-    drop_erases c.args.self.now c.join.new.self c.args.section c.in_ok-op.ensures.stands c.in_ok-op.ensures.may
+    edit_lands (DropSection c.args.section) c.args.self.now c.join.new.self c.in_ok-op.ensures.stands.lawful c.in_ok-op.ensures.may
     (c.in_ok-join.ensures.ok ∙ ap (with_ops c.args.self.now) (sym c.in_ok-op.ensures.ok))

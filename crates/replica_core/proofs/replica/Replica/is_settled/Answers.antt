@@ -2,7 +2,7 @@ use Rattle.origin_model.specs.taking.Taking.{IsSettled}
 use Rattle.std.proofs.Common.{◌≡◌, sym, subst, true, false, List, Bool}
 use Rattle.std.specs.Prelude.{All}
 use Rattle.fugue_ids.specs.declared.op.Op.{Op}
-use Rattle.replica_core.specs.State.{State}
+use Rattle.origin_model.specs.edits.State.{State}
 use Rattle.replica_core.proofs.MarkLemmas.{clear_settled, settled_clear}
 use Rattle.replica_core.proofs.replica.Replica.is_settled.Goals as goal
 

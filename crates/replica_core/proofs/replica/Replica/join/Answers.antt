@@ -1,6 +1,6 @@
 use Rattle.std.proofs.Common.{◌∷◌, ◌∙◌, [], subst, sym}
 use Rattle.replica_core.specs.Edits.{CanJoin}
-use Rattle.replica_core.specs.State.{State}
+use Rattle.origin_model.specs.edits.State.{State}
 use Rattle.replica_core.specs.Replica.{state_of}
 use Rattle.replica_core.proofs.JoinLemmas.{joined_marks, joined_stands}
 use Rattle.replica_core.proofs.replica.Replica.join.Goals as goal

@@ -1,13 +1,16 @@
 use Rattle.std.proofs.Common.{ap, subst, sym, ◌∙◌}
 use Rattle.std.specs.Str.{chars}
-use Rattle.replica_core.specs.Edits.{CanJoin, Gains, with_ops}
-use Rattle.replica_core.proofs.EditLemmas.{put_can_join, put_count, put_inserts}
+use Rattle.origin_model.specs.edits.Edits.{Put}
+use Rattle.origin_model.specs.edits.Effect.{Gains, with_ops}
+use Rattle.replica_core.specs.Edits.{CanJoin}
+use Rattle.origin_model.proofs.edits.RefusalLemmas.{edit_lands, put_count}
+use Rattle.replica_core.proofs.EditLemmas.{made_can_join}
 use Rattle.replica_core.proofs.replica.Replica.put.Goals as goal
 
 pub type_text-requires-clause-can_join : goal.type_text-requires-clause-can_join
 type_text-requires-clause-can_join c =
     subst (CanJoin c.args.self.now) c.in-Ok.ensures.ok
-    (put_can_join c.args.self.now c.args.section c.args.at (chars c.args.text.now) c.in-Ok.ensures.stands c.requires c.in-Ok.ensures.may)
+    (made_can_join c.args.self.now (Put c.args.section c.args.at (chars c.args.text.now)) c.in-Ok.ensures.stands c.requires c.in-Ok.ensures.may)
 
 pub returns-in_ok-type_text-in-Ok-clause-made : goal.returns-in_ok-type_text-in-Ok-clause-made
 returns-in_ok-type_text-in-Ok-clause-made c =
@@ -18,5 +21,5 @@ returns-in_ok-type_text-in-Ok-clause-made c =
 
 pub returns-in_ok-type_text-in-Ok-clause-lands : goal.returns-in_ok-type_text-in-Ok-clause-lands
 returns-in_ok-type_text-in-Ok-clause-lands c =
-    put_inserts c.args.self.now c.type_text.new.self c.args.section c.args.at (chars c.args.text.now) c.in-Ok.ensures.stands c.in-Ok.ensures.may
+    edit_lands (Put c.args.section c.args.at (chars c.args.text.now)) c.args.self.now c.type_text.new.self c.in-Ok.ensures.stands.lawful c.in-Ok.ensures.may
     (c.in_ok-type_text-in-Ok.ensures.ok.others ∙ ap (with_ops c.args.self.now) (sym c.in-Ok.ensures.ok))

@@ -1,6 +1,6 @@
 use Rattle.std.proofs.Common.{refl, subst, sym, ◌∙◌}
 use Rattle.origin_model.specs.declared.taking.tally.Tally.{Tally}
-use Rattle.replica_core.specs.State.{State}
+use Rattle.origin_model.specs.edits.State.{State}
 use Rattle.replica_core.specs.Told.{SettlesOrStops}
 use Rattle.replica_core.proofs.CountLemmas.{settles_here}
 use Rattle.replica_core.proofs.replica.Replica.settle.Goals as goal

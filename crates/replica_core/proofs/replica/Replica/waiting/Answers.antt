@@ -1,7 +1,7 @@
 use Rattle.std.proofs.Common.{subst}
 use Rattle.std.specs.Prelude.{All}
 use Rattle.origin_model.specs.operations.Verdict.{verdict}
-use Rattle.replica_core.specs.State.{State, IsOpen}
+use Rattle.origin_model.specs.edits.State.{State, IsOpen}
 use Rattle.replica_core.specs.Replica.{state_of}
 use Rattle.replica_core.proofs.StandingLemmas.{waiting_open}
 use Rattle.replica_core.proofs.replica.Replica.waiting.Goals as goal

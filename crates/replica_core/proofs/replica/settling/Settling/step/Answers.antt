@@ -3,7 +3,7 @@ use Rattle.std.specs.Prelude.{Some, Result, Ok, Err, OnErr}
 use Rattle.fugue_ids.specs.declared.op.Op.{Op}
 use Rattle.causal_inbox.specs.Waiting.{Waiting}
 use Rattle.origin_model.specs.taking.Taking.{Held, IsSettled}
-use Rattle.replica_core.specs.State.{State}
+use Rattle.origin_model.specs.edits.State.{State}
 use Rattle.replica_core.specs.Replica.{state_of}
 use Rattle.replica_core.specs.Told.{JoinsNext, Settles}
 use Rattle.replica_core.specs.declared.settled.Settled.TheVariants.{Accepted, DroppedStray}

@@ -35,7 +35,7 @@ impl Error for EditFault {}
 
 impl From<NoMemory> for EditFault {
     ghost use Rattle.std.specs.Prelude.{◌≡◌};
-    ghost use Rattle.replica_core.specs.declared.edits.edit_fault.EditFault.TheVariants.{NoMemory as no_memory};
+    ghost use Rattle.origin_model.specs.declared.edit_fault.EditFault.TheVariants.{NoMemory as no_memory};
 
     ghost from_gives = { λ _ e. e ≡ no_memory };
 

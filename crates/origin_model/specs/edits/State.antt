@@ -1,9 +1,8 @@
 -- A replica, as contracts see it, and what is so of every replica.
-use Rattle.std.specs.Prelude.{◌≡◌, ◌≢◌, ℕ, ◌<◌, ◌≤◌, ◌+◌, ◌⊎◌, Some, List, ◌++◌, length, AllPairs}
-use Rattle.fugue_ids.specs.Identifiers.{Identifier}
-use Rattle.fugue_ids.specs.Ops.{id_of}
+use Rattle.std.specs.Prelude.{◌≡◌, ◌≢◌, ℕ, ◌<◌, ◌≤◌, ◌+◌, ◌⊎◌, List, ◌++◌, length, AllPairs}
 use Rattle.fugue_ids.specs.declared.op.Op.{Op}
 use Rattle.fugue_ids.specs.declared.limits.TheConstants.{GREATEST_HOLD, MOST_OPERATIONS}
+use Rattle.origin_model.specs.operations.History.{HaveOtherIds}
 use Rattle.origin_model.specs.operations.Verdict.{Lawful}
 use Rattle.origin_model.specs.taking.Taking.{Held}
 use Rattle.origin_model.specs.declared.operations.verdict.Verdict.{Verdict}
@@ -29,10 +28,6 @@ IsOutside greatest n = (n ≡ 0) ⊎ (greatest < n)
 -- the accepted and the waiting operations
 abbrev pub all_ops : Held → List Op
 all_ops held = held.history ++ held.waiting
-
--- the operations have no identifier in common
-abbrev pub HaveOtherIds : Op → Op → Type 0
-HaveOtherIds a b = (i : Identifier) → id_of a ≡ Some i → id_of b ≢ Some i
 
 -- neither the operation nor another with its identifier is accepted
 abbrev pub IsOpen : Verdict → Type 0
