@@ -6,7 +6,7 @@ ghost use Rattle.origin_model.specs.declared.operations.verdict.Verdict.TheVaria
 ghost use Rattle.section_catalogue.specs.Manuscript.{StandsFor};
 
 use crate::op_lines::{Line, op};
-use fugue_ids::{NoMemory, Op};
+use fugue_ids::{NoMemory, Op, OpKey};
 use origin_model::{PlainReplica, Verdict};
 use section_catalogue::Manuscript;
 use std::alloc::Global;
@@ -43,9 +43,9 @@ fn apply(manuscript: &mut Manuscript, replica: &PlainReplica, op: &Op) -> Result
     if replica.ops().len() >= 100 {
         return Err(NoMemory);
     }
-    match op {
-        Op::Section { .. } | Op::Text { .. } => manuscript.insert(op),
-        Op::Delete { target } => manuscript.hide(*target),
+    match op.key() {
+        OpKey::Own(_) => manuscript.insert(op),
+        OpKey::Target(target) => manuscript.hide(target),
     }
 }
 

@@ -6,7 +6,7 @@ use crate::edits::make;
 use crate::plain::Plain;
 use crate::pools::{POOL, is_beside, keep_beside};
 use fugue_ids::{ElementId, Op, Title};
-use origin_model::{Place, mentioned_by};
+use origin_model::{Place, names_of};
 use replica_core::Replica;
 use std::alloc::Global;
 use std::process::Abort;
@@ -39,15 +39,24 @@ impl Spot {
     }
 }
 
+/// The counter, or one more than that of the identifier, where it is the replica's and no smaller.
+fn behind(counter: u32, id: ElementId) -> u32 {
+    if id.replica == NUMBER {
+        counter.max(id.counter.saturating_add(1))
+    } else {
+        counter
+    }
+}
+
 /// The counter, or one more than the greatest one of the replica's that the operation mentions.
 fn raised(counter: u32, op: &Op) -> u32 {
     let mut next = counter;
-    for id in mentioned_by(op) {
-        if let Some(id) = id {
-            if id.replica == NUMBER {
-                next = next.max(id.counter.saturating_add(1));
-            }
-        }
+    if let Some(id) = op.id() {
+        next = behind(next, id);
+    }
+    let names = names_of(op);
+    for named in names.as_slice() {
+        next = behind(next, named.0);
     }
     next
 }

@@ -4,9 +4,10 @@ use Rattle.std.specs.Prelude.{All, None, Option, Some}
 use Rattle.std.proofs.lemmas.Bool.{false_from_ne_true, ne_eqb, or_left, or_right}
 use Rattle.std.proofs.lemmas.List.Elements.{All-cons, All-head, All-nil, All-tail, All-weaker}
 use Rattle.fugue_ids.specs.Identifiers.{Identifier}
-use Rattle.fugue_ids.specs.Ops.{id_of, op_eq}
+use Rattle.fugue_ids.specs.Ops.{id_of, key_of, op_eq}
 use Rattle.fugue_ids.specs.declared.op.Op.{Op}
-use Rattle.fugue_ids.specs.declared.op.Op.TheVariants.{Delete, Section, Text}
+use Rattle.fugue_ids.specs.declared.op.OpKey.{OpKey}
+use Rattle.fugue_ids.specs.declared.op.OpKey.TheVariants.{Own, Target}
 use Rattle.fugue_ids.proofs.OpLemmas.{op_eq-refl, op_eq-true}
 use Rattle.origin_model.specs.declared.operations.verdict.Verdict.TheVariants.{Ready}
 use Rattle.origin_model.specs.operations.History.{has_op, holds}
@@ -20,11 +21,14 @@ use Rattle.origin_model.proofs.edits.MadeLemmas.{ready_lawful}
 use Rattle.list_spec.proofs.DeliveryLemmas.{part_more}
 use Rattle.list_spec.proofs.PoolLemmas.{IsBy, IsPoolOf, other_number, own_more, ready_there}
 
+-- the identifier of a key
+abbrev pub key_id : OpKey → Identifier
+key_id (Own i) = i
+key_id (Target i) = i
+
 -- what an operation adds or deletes is an element of the replica n
 abbrev pub IsOf : ℕ → Op → Type 0
-IsOf n (Section id left right title) = id.replica ≡ n
-IsOf n (Text id section left right ch) = id.replica ≡ n
-IsOf n (Delete target) = target.replica ≡ n
+IsOf n op = (key_id (key_of op)).replica ≡ n
 
 -- the history has no such operation
 abbrev pub IsAbsent : List Op → Op → Type 0
@@ -37,18 +41,12 @@ or_false false b e = (refl, e)
 both_false : (a b : Bool) → a ≡ false → b ≡ false → (a || b) ≡ false
 both_false a b e f = λ i. e i || f i
 
--- an operation is of one replica
-one_of : (m n : ℕ) (a : Op) → IsOf m a → IsOf n a → m ≡ n
-one_of m n (Section id left right title) e f = sym e ∙ f
-one_of m n (Text id section left right ch) e f = sym e ∙ f
-one_of m n (Delete target) e f = sym e ∙ f
-
--- so it is not among those of another
+-- an operation is of one replica, so it is not among those of another
 others_absent : (m n : ℕ) (ops : List Op) (op : Op) → m ≢ n → All (IsOf m) ops → IsOf n op → IsAbsent ops op
 others_absent m n [] op d a e = refl
 others_absent m n (o ∷ ops) op d a e =
     both_false (op_eq o op) (has_op ops op)
-    (false_from_ne_true _ (λ t. d (one_of m n op (subst (IsOf m) (op_eq-true o op t) (All-head (IsOf m) o ops a)) e)))
+    (false_from_ne_true _ (λ t. d (sym (subst (IsOf m) (op_eq-true o op t) (All-head (IsOf m) o ops a)) ∙ e)))
     (others_absent m n ops op d (All-tail (IsOf m) o ops a) e)
 
 -- an operation of a history that others joined

@@ -1,31 +1,26 @@
 -- What is found by keys is what a search of the whole list finds.
-use Rattle.std.proofs.Common.{ap, arith, false, inl, inr, refl, sym, length, ℕ, suc, List, [], ◌∷◌, Bool, nat_eq, ◌||◌, ◌<◌, ◌∙◌, ◌≡◌, get_or}
+use Rattle.std.proofs.Common.{ap, arith, false, inl, inr, refl, sym, length, true, ℕ, suc, List, [], ◌∷◌, Bool, nat_eq, ◌||◌, ◌<◌, ◌∙◌, ◌≡◌, get_or}
 use Rattle.std.specs.Prelude.{is_some, slice_get, AllPairs}
 use Rattle.std.specs.List.{list_any, position_or_len}
-use Rattle.std.proofs.lemmas.Bool.{cases_Bool}
+use Rattle.std.proofs.lemmas.Bool.{cases_Bool, false_from_ne_true, or_left, true≢false}
 use Rattle.std.proofs.lemmas.Option.{slice_get-get_or}
 use Rattle.fugue_ids.specs.Identifiers.{Identifier}
 use Rattle.fugue_ids.specs.Ops.{op_eq}
 use Rattle.fugue_ids.specs.declared.op.Op.{Op}
-use Rattle.fugue_ids.specs.declared.op.Op.TheVariants.{Section, Text, Delete}
+use Rattle.fugue_ids.proofs.OpLemmas.{op_eq-true}
 use Rattle.origin_model.specs.operations.History.{has_op, holds}
 use Rattle.origin_model.proofs.SharedLemmas.{holds-cons}
 use Rattle.causal_inbox.specs.Index.{ages_with, is_equal, is_equal_at}
 use Rattle.causal_inbox.specs.Key.{has_key, main_key, own}
 use Rattle.causal_inbox.specs.declared.key.Key.{Key}
 use Rattle.causal_inbox.proofs.AgeLemmas.{position_found}
+use Rattle.causal_inbox.proofs.KeyLemmas.{key_eq-refl, keys_are}
 
 -- an operation without the main key of another is not equal to it
 unequal : (o op : Op) → has_key (main_key op) o ≡ false → op_eq o op ≡ false
-unequal (Section i l r t) (Section j m s u) e = rw e refl
-unequal (Section i l r t) (Text j q m s d) e = refl
-unequal (Section i l r t) (Delete j) e = refl
-unequal (Text i p l r c) (Section j m s u) e = refl
-unequal (Text i p l r c) (Text j q m s d) e = rw e refl
-unequal (Text i p l r c) (Delete j) e = refl
-unequal (Delete i) (Section j m s u) e = refl
-unequal (Delete i) (Text j q m s d) e = refl
-unequal (Delete i) (Delete j) e = e
+unequal o op e = false_from_ne_true (op_eq o op) (λ same.
+    let own : has_key (main_key op) op ≡ true = sym (keys_are op (main_key op)) ∙ or_left _ _ (key_eq-refl (main_key op)) in
+    true≢false (sym own ∙ ap (has_key (main_key op)) (sym (op_eq-true o op same)) ∙ e))
 
 -- a test of the ages under the main key that tells of each whether its operation is equal
 found_by : (passes : ℕ → Bool) (op : Op) (ops : List Op) (ages : List ℕ) → length ages ≡ length ops

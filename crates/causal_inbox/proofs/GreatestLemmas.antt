@@ -3,14 +3,14 @@ use Rattle.std.proofs.Common.{◌≡◌, ℕ, ◌≤◌, ◌<◌, List, [], ◌�
 use Rattle.std.specs.Prelude.{◌⊎◌, Option, Some, None, IfSome, IsSome, is_some, slice_get, option_to_list, All, Contains, filter, flat_map, map}
 use Rattle.std.specs.List.{list_any}
 use Rattle.std.specs.BTreeMap.{BTreeMap, get}
-use Rattle.std.proofs.lemmas.Bool.{eq-eqb, eqb-true, or_cases, or_left, or_right}
+use Rattle.std.proofs.lemmas.Bool.{false≢true, eq-eqb, eqb-true, or_cases, or_left, or_right}
 use Rattle.std.proofs.lemmas.List.Folds.{Any-from_list_any, list_any-from_Any}
 use Rattle.std.proofs.lemmas.List.Elements.{Contains-append_left, Contains-append_right, Contains-append_cases}
 use Rattle.fugue_ids.specs.Identifiers.{Identifier, id_eq, origin_eq}
 use Rattle.causal_inbox.specs.Keyed.{HasNoEmpty, items_of}
 use Rattle.fugue_ids.specs.Ops.{id_of}
 use Rattle.fugue_ids.specs.declared.op.Op.{Op}
-use Rattle.fugue_ids.specs.declared.op.Op.TheVariants.{Section, Text, Delete}
+use Rattle.fugue_ids.specs.declared.op.Op.TheVariants.{Delete}
 use Rattle.fugue_ids.proofs.IdentifierLemmas.{eq-id_eq, id_eq-refl, id_eq-true, origin_eq-true}
 use Rattle.fugue_ids.proofs.ListLemmas.{all_from_contains, contains_cases, contains_filter, contains_filter_from, contains_here, contains_map, contains_map_from, contains_none}
 use Rattle.origin_model.specs.operations.Counters.{counters, mentioned, IsGreatest}
@@ -41,9 +41,8 @@ kind_mentioned : (kind : Kind) (i : Identifier) (op : Op) → has_kind kind i op
 kind_mentioned Own i op e =
     Contains-append_left (option_to_list (id_of op)) (map (λ n. n.0) (names op)) i (subst (λ o. Contains (option_to_list o) i) (sym (origin_eq-true (id_of op) (Some i) e)) (contains_here i []))
 kind_mentioned Named i op e = Contains-append_right (option_to_list (id_of op)) (map (λ n. n.0) (names op)) i (any_named i (names op) e)
-kind_mentioned Target i (Section j l r t) e = cc
-kind_mentioned Target i (Text j s l r c) e = cc
 kind_mentioned Target i (Delete t) e = subst (Contains (t ∷ [])) (id_eq-true t i e) (contains_here t [])
+kind_mentioned Target i _ e = absurd (false≢true e)
 
 -- and what it has or names is the identifier of one of its keys
 mentioned_key : (i : Identifier) (op : Op) → Contains (mentioned op) i → (has_key (own i) op ≡ true) ⊎ (has_key (named i) op ≡ true)

@@ -15,7 +15,8 @@ use Rattle.std.proofs.Math.Seq.{drop-cons}
 use Rattle.fugue_ids.proofs.ListLemmas.{all_pairs_across, all_pairs_behind, all_pairs_head, all_pairs_nil, all_pairs_tail}
 use Rattle.fugue_ids.specs.declared.op.Op.{Op}
 use Rattle.causal_inbox.specs.Index.{IsAgeIndex, added, ages_with, dropped, positions_with}
-use Rattle.causal_inbox.specs.Key.{AreKeys, has_key, is_among, key_eq}
+use Rattle.causal_inbox.proofs.KeyLemmas.{AreKeys}
+use Rattle.causal_inbox.specs.Key.{has_key, is_among, key_eq}
 use Rattle.causal_inbox.specs.Lists.{AllRise, Changed, FrontAdded}
 use Rattle.causal_inbox.specs.Positions.{positions_from}
 use Rattle.causal_inbox.specs.declared.key.Key.{Key}

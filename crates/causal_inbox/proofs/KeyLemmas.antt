@@ -1,18 +1,21 @@
 -- Equality of keys, and lists under keys as one key after another changes.
-use Rattle.std.proofs.Common.{ap, append_assoc, false, inl, inr, refl, sym, true, take, ℕ, List, [], ◌∷◌, ◌++◌, Bool, ◌&&◌, ◌||◌, ◌+◌, ◌∙◌, ◌≡◌}
+use Rattle.std.proofs.Common.{ap, arith, false, get_or, length, subst, suc, zero, ◌<◌, inl, inr, refl, sym, true, take, ℕ, List, [], ◌∷◌, ◌++◌, Bool, ◌&&◌, ◌||◌, ◌+◌, ◌∙◌, ◌≡◌}
 use Rattle.std.proofs.Math.Bool.{and-false, and-true, or-false}
 use Rattle.std.proofs.lemmas.Bool.{and_parts, cases_Bool, true≢false}
 use Rattle.std.proofs.lemmas.List.Folds.{list_any-append}
-use Rattle.fugue_ids.specs.Identifiers.{Identifier, id_eq}
-use Rattle.std.specs.Prelude.{Option, Some, None, if◌then◌else◌, option_to_list}
+use Rattle.fugue_ids.specs.Identifiers.{Identifier, id_eq, origin_eq}
+use Rattle.std.specs.Prelude.{Some, if◌then◌else◌, map}
 use Rattle.std.specs.List.{list_any}
-use Rattle.fugue_ids.specs.declared.op.Op.TheVariants.{Delete, Section, Text}
+use Rattle.fugue_ids.specs.Ops.{key_of, own_in, target_in}
+use Rattle.fugue_ids.specs.declared.op.OpKey.{OpKey}
+use Rattle.fugue_ids.specs.declared.op.OpKey.TheVariants.{Own as OwnKey, Target as TargetKey}
 use Rattle.fugue_ids.proofs.IdentifierLemmas.{id_eq-true, id_eq-refl}
 use Rattle.fugue_ids.specs.declared.op.Op.{Op}
 use Rattle.origin_model.specs.operations.History.{is_own}
 use Rattle.origin_model.specs.operations.Verdict.{names}
+use Rattle.origin_model.specs.order.Printed.{deletes}
 use Rattle.origin_model.specs.declared.operations.role.Role.{Role}
-use Rattle.causal_inbox.specs.Key.{has_key, has_kind, is_among, is_delete, key_eq, kind_eq, main_key, named, named_or, own, target}
+use Rattle.causal_inbox.specs.Key.{as_key, has_key, has_kind, is_among, key_eq, keys_of, kind_eq, main_key, name_key, named, own, target}
 use Rattle.causal_inbox.specs.Index.{added}
 use Rattle.causal_inbox.specs.Lists.{Changed, FrontAdded}
 use Rattle.fugue_ids.specs.Keyed.{IsReplaced}
@@ -88,61 +91,59 @@ front_added keys i a x old mid new before step = record { count = i; front = λ 
           | inr n ↦ step.others key (key_eq-false x key n)
         ]
 
--- the identifier is among what is named
-abbrev has_name : Identifier → List (Identifier × Role) → Bool
-has_name x ns = list_any (λ n. id_eq n.0 x) ns
+-- the keys are just those of the operation
+abbrev pub AreKeys : List Key → Op → Type 0
+AreKeys keys op = (key : Key) → is_among keys key ≡ has_key key op
 
--- the main key of an operation, and one for each identifier that it names
-module _ (main : Key) (a b c : Option (Identifier × Role)) where
-  abbrev four : List Key
-  four = main ∷ named_or a main ∷ named_or b main ∷ named_or c main ∷ []
-
-  -- a key that is not of a named one is the main one alone
-  main_alone : (key : Key) → kind_eq Named key.kind ≡ false → is_among four key ≡ key_eq main key
-  main_alone key other = elim (cases_Bool (key_eq main key)) [
-    | inl is ↦ ap (λ m. m || is_among (named_or a main ∷ named_or b main ∷ named_or c main ∷ []) key) is ∙ sym is
-    | inr none ↦ (λ i. none i || (neither a none i || (neither b none i || (neither c none i || false)))) ∙ sym none
-  ]
-    where
-      neither : (n : Option (Identifier × Role)) → key_eq main key ≡ false → key_eq (named_or n main) key ≡ false
-      neither None none = none
-      neither (Some n) none = ap (λ k. id_eq n.0 key.id && k) other ∙ and-false (id_eq n.0 key.id)
-
-  -- the key of a named one is one of the others
-  named_alone : (x : Identifier) → key_eq main (named x) ≡ false
-      → is_among four (named x) ≡ has_name x (option_to_list a ++ option_to_list b ++ option_to_list c)
-  named_alone x none =
-      (λ i. none i || (each a i || (each b i || (each c i || false))))
-      ∙ ap (λ r. has_name x (option_to_list a) || (has_name x (option_to_list b) || r)) (or-false (has_name x (option_to_list c)))
-      ∙ ap (λ r. has_name x (option_to_list a) || r) (sym (list_any-append (λ n. id_eq n.0 x) (option_to_list b) (option_to_list c)))
-      ∙ sym (list_any-append (λ n. id_eq n.0 x) (option_to_list a) (option_to_list b ++ option_to_list c))
-      ∙ ap (has_name x) (sym (append_assoc (option_to_list a) (option_to_list b) (option_to_list c)))
-    where
-      each : (n : Option (Identifier × Role)) → key_eq (named_or n main) (named x) ≡ has_name x (option_to_list n)
-      each None = none
-      each (Some n) = and-true (id_eq n.0 x) ∙ sym (or-false (id_eq n.0 x))
-
--- they are just the keys of the operation
-pub keys_are : (op : Op) (a b c : Option (Identifier × Role)) → option_to_list a ++ option_to_list b ++ option_to_list c ≡ names op
-    → (key : Key) → is_among (main_key op ∷ named_or a (main_key op) ∷ named_or b (main_key op) ∷ named_or c (main_key op) ∷ []) key ≡ has_key key op
-keys_are op a b c are key = by_kind key.kind key.id
+-- the main key of an operation and those of its names are just its keys
+pub keys_are : (op : Op) → AreKeys (keys_of op) op
+keys_are op key = by_kind key.kind key.id
   where
-    its_own : (o : Op) (x : Identifier) → key_eq (main_key o) (own x) ≡ is_own x o
-    its_own (Section i l r t) x = and-true (id_eq i x)
-    its_own (Text i s l r ch) x = and-true (id_eq i x)
-    its_own (Delete t) x = and-false (id_eq t x)
+    its_own : (k : OpKey) (x : Identifier) → key_eq (as_key k) (own x) ≡ origin_eq (own_in k) (Some x)
+    its_own (OwnKey i) x = and-true (id_eq i x)
+    its_own (TargetKey i) x = and-false (id_eq i x)
 
-    its_target : (o : Op) (x : Identifier) → key_eq (main_key o) (target x) ≡ is_delete x o
-    its_target (Section i l r t) x = and-false (id_eq i x)
-    its_target (Text i s l r ch) x = and-false (id_eq i x)
-    its_target (Delete t) x = and-true (id_eq t x)
+    its_target : (k : OpKey) (x : Identifier) → key_eq (as_key k) (target x) ≡ origin_eq (target_in k) (Some x)
+    its_target (OwnKey i) x = and-false (id_eq i x)
+    its_target (TargetKey i) x = and-true (id_eq i x)
 
-    not_named : (o : Op) (x : Identifier) → key_eq (main_key o) (named x) ≡ false
-    not_named (Section i l r t) x = and-false (id_eq i x)
-    not_named (Text i s l r ch) x = and-false (id_eq i x)
-    not_named (Delete t) x = and-false (id_eq t x)
+    never_named : (k : OpKey) (x : Identifier) → key_eq (as_key k) (named x) ≡ false
+    never_named (OwnKey i) x = and-false (id_eq i x)
+    never_named (TargetKey i) x = and-false (id_eq i x)
 
-    by_kind : (kind : Kind) (x : Identifier) → is_among (four (main_key op) a b c) (record { id = x; kind = kind }) ≡ has_kind kind x op
-    by_kind Own x = main_alone (main_key op) a b c (own x) refl ∙ its_own op x
-    by_kind Target x = main_alone (main_key op) a b c (target x) refl ∙ its_target op x
-    by_kind Named x = named_alone (main_key op) a b c x (not_named op x) ∙ ap (has_name x) are
+    no_name : (ns : List (Identifier × Role)) (key : Key) → kind_eq Named key.kind ≡ false → is_among (map name_key ns) key ≡ false
+    no_name [] key other = refl
+    no_name (n ∷ ns) key other = λ i. (ap (λ k. id_eq n.0 key.id && k) other ∙ and-false (id_eq n.0 key.id)) i || no_name ns key other i
+
+    same_names : (ns : List (Identifier × Role)) (x : Identifier) → is_among (map name_key ns) (named x) ≡ list_any (λ n. id_eq n.0 x) ns
+    same_names [] x = refl
+    same_names (n ∷ ns) x = λ i. and-true (id_eq n.0 x) i || same_names ns x i
+
+    by_kind : (kind : Kind) (x : Identifier) → is_among (keys_of op) (record { id = x; kind = kind }) ≡ has_kind kind x op
+    by_kind Own x = (λ i. its_own (key_of op) x i || no_name (names op) (own x) refl i) ∙ or-false (is_own x op)
+    by_kind Target x = (λ i. its_target (key_of op) x i || no_name (names op) (target x) refl i) ∙ or-false (deletes x op)
+    by_kind Named x = λ i. never_named (key_of op) x i || same_names (names op) x i
+
+names_next : (ns : List (Identifier × Role)) (k : ℕ) (d : Identifier × Role) → k < length ns → take (suc k) (map name_key ns) ≡ take k (map name_key ns) ++ name_key (get_or ns k d) ∷ []
+names_next [] k d below = absurd (omega (arith, below))
+names_next (n ∷ ns) zero d below = refl
+names_next (n ∷ ns) (suc k) d below = ap (λ l. name_key n ∷ l) (names_next ns k d (omega (arith, below)))
+
+-- the next key is that of the next name
+pub keys_next : (op : Op) (named : List (Identifier × Role)) (k : ℕ) (n : Identifier × Role) (x : Key) → named ≡ names op → k < length named → x ≡ name_key n → n ≡ get_or named k n
+    → take (k + 1 + 1) (keys_of op) ≡ take (k + 1) (keys_of op) ++ x ∷ []
+keys_next op named k n x is below next at =
+    let one : k + 1 ≡ suc k = omega arith in
+    let two : k + 1 + 1 ≡ suc (suc k) = omega arith in
+    let more : take (suc k) (map name_key (names op)) ≡ take k (map name_key (names op)) ++ x ∷ [] =
+    subst (λ ns. take (suc k) (map name_key ns) ≡ take k (map name_key ns) ++ x ∷ []) is
+    (names_next named k n below ∙ ap (λ y. take k (map name_key named) ++ y ∷ []) (sym (next ∙ ap name_key at))) in
+    ap (λ n. take n (keys_of op)) two ∙ ap (λ l. main_key op ∷ l) more ∙ ap (λ n. take n (keys_of op) ++ x ∷ []) (sym one)
+
+-- the first key is the main one
+pub keys_first : (op : Op) (x : Key) → x ≡ main_key op → take (0 + 1) (keys_of op) ≡ take 0 (keys_of op) ++ x ∷ []
+keys_first op x is = ap (λ y. y ∷ []) (sym is)
+
+-- under none of the keys nothing is changed
+pub none_changed : (op : Op) (change : List ℕ → List ℕ) (at : Key → List ℕ) → Changed (is_among (take 0 (keys_of op))) change at at
+none_changed op change at key = refl

@@ -1,10 +1,14 @@
 -- What operations are looked up by.
-use Rattle.std.specs.Prelude.{◌≡◌, Option, Some, None, Bool, true, false, ◌&&◌, List}
+use Rattle.std.specs.Prelude.{Bool, true, false, ◌&&◌, List, ◌∷◌, map}
 use Rattle.std.specs.List.{list_any}
 use Rattle.fugue_ids.specs.Identifiers.{Identifier, id_eq}
 use Rattle.fugue_ids.specs.declared.op.Op.{Op}
-use Rattle.fugue_ids.specs.declared.op.Op.TheVariants.{Section, Text, Delete}
+use Rattle.fugue_ids.specs.declared.op.OpKey.{OpKey}
+use Rattle.fugue_ids.specs.declared.op.OpKey.TheVariants.{Own as OwnKey, Target as TargetKey}
+use Rattle.fugue_ids.specs.Ops.{key_of}
 use Rattle.origin_model.specs.operations.History.{is_own}
+use Rattle.origin_model.specs.operations.Verdict.{names}
+use Rattle.origin_model.specs.order.Printed.{deletes}
 use Rattle.origin_model.specs.declared.operations.role.Role.{Role}
 use Rattle.causal_inbox.specs.Naming.{is_naming}
 use Rattle.causal_inbox.specs.declared.key.Key.{Key}
@@ -32,16 +36,10 @@ kind_eq _ _ = false
 abbrev pub key_eq : Key → Key → Bool
 key_eq a b = id_eq a.id b.id && kind_eq a.kind b.kind
 
--- the operation is a Delete of the identifier
-abbrev pub is_delete : Identifier → Op → Bool
-is_delete i (Section id left right title) = false
-is_delete i (Text id section left right ch) = false
-is_delete i (Delete t) = id_eq t i
-
 -- what the operation has to do with the identifier is of the kind
 abbrev pub has_kind : Kind → Identifier → Op → Bool
 has_kind Own i op = is_own i op
-has_kind Target i op = is_delete i op
+has_kind Target i op = deletes i op
 has_kind Named i op = is_naming i op
 
 -- the operation is found by the key
@@ -49,20 +47,21 @@ abbrev pub has_key : Key → Op → Bool
 has_key key op = has_kind key.kind key.id op
 
 -- the key that equal operations share
-abbrev pub main_key : Op → Key
-main_key (Section id left right title) = own id
-main_key (Text id section left right ch) = own id
-main_key (Delete t) = target t
+abbrev pub as_key : OpKey → Key
+as_key (OwnKey i) = own i
+as_key (TargetKey i) = target i
 
--- the key of an identifier that may be named, or another
-abbrev pub named_or : Option (Identifier × Role) → Key → Key
-named_or None other = other
-named_or (Some n) other = named n.0
+abbrev pub main_key : Op → Key
+main_key op = as_key (key_of op)
+
+-- the key of a named identifier
+abbrev pub name_key : Identifier × Role → Key
+name_key n = named n.0
+
+-- the keys of an operation: the main one, and one for each identifier that it names
+abbrev pub keys_of : Op → List Key
+keys_of op = main_key op ∷ map name_key (names op)
 
 -- the key is among the keys
 abbrev pub is_among : List Key → Key → Bool
 is_among keys key = list_any (λ other. key_eq other key) keys
-
--- the keys are just those of the operation
-abbrev pub AreKeys : List Key → Op → Type 0
-AreKeys keys op = (key : Key) → is_among keys key ≡ has_key key op

@@ -12,7 +12,7 @@ ghost use Rattle.causal_inbox.specs.Lists.{ages_under, key_cmp};
 
 use crate::Queue;
 use crate::greatest::greatest_under;
-use crate::key::{Key, keys, main_key, own_key};
+use crate::key::{Key, main_key, own_key};
 use crate::keyed_lists::list_under;
 use crate::lists::{Lists, add_age, drop_age, nth_age};
 use fugue_ids::{ElementId, NoMemory, Op};
@@ -96,9 +96,8 @@ impl Index {
         let end = self.ages.len();
         let age = next_age(self.ages.as_slice())?;
         self.ages.push(age)?;
-        let keys = keys(op);
-        if let Err(fault) = add_age(&mut self.lists, self.alloc, &keys, age) {
-            drop_age(&mut self.lists, &keys, age);
+        if let Err(fault) = add_age(&mut self.lists, self.alloc, op, age) {
+            drop_age(&mut self.lists, op, age);
             self.ages.remove(end, 0);
             return Err(fault);
         }
@@ -114,7 +113,7 @@ impl Index {
         ensures no_empty { HasNoEmpty key_cmp self.old.lists → HasNoEmpty key_cmp self.new.lists }
     {
         let age = self.ages.remove(position, 0);
-        drop_age(&mut self.lists, &keys(op), age);
+        drop_age(&mut self.lists, op, age);
     }
 }
 

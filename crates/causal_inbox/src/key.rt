@@ -1,10 +1,9 @@
 //! The keys of the index of waiting operations.
 
 ghost use Rattle.std.specs.Prelude.{◌≡◌};
-ghost use Rattle.causal_inbox.specs.Key.{AreKeys, main_key as main_key_of, named, named_or, own, target};
+ghost use Rattle.causal_inbox.specs.Key.{main_key as main_key_of, named, own, target};
 
-use fugue_ids::{ElementId, Op};
-use origin_model::{Named, names_of};
+use fugue_ids::{ElementId, Op, OpKey};
 
 /// What operations are looked up by. In their order the keys of one replica stand together.
 #[derive(Clone, Copy, PartialEq, Eq, PartialOrd, Ord)]
@@ -58,31 +57,8 @@ pub(crate) fn named_key(id: ElementId) -> Key
 pub(crate) fn main_key(op: &Op) -> Key
     ensures { result ≡ main_key_of op.now }
 {
-    match op {
-        Op::Section { id, .. } | Op::Text { id, .. } => own_key(*id),
-        Op::Delete { target } => target_key(*target),
-    }
-}
-
-/// The keys of the operation, each at least once.
-pub(crate) fn keys(op: &Op) -> [Key; 4]
-    ensures { AreKeys result op.now }
-{
-    let (first, second, third) = names_of(op);
-    [
-        main_key(op),
-        named_or(first, op),
-        named_or(second, op),
-        named_or(third, op),
-    ]
-}
-
-/// The key of an identifier that is named, and the main key where there is none.
-fn named_or(named: Named, op: &Op) -> Key
-    ensures { result ≡ named_or named (main_key_of op.now) }
-{
-    match named {
-        Some((id, _)) => named_key(id),
-        None => main_key(op),
+    match op.key() {
+        OpKey::Own(id) => own_key(id),
+        OpKey::Target(id) => target_key(id),
     }
 }

@@ -2,14 +2,15 @@
 
 ghost use Rattle.std.specs.Prelude.{◌≡◌, slice_get, AllPairs, ◌<◌, OnOk, OnErr};
 ghost use Rattle.causal_inbox.specs.Index.{added, dropped};
-ghost use Rattle.causal_inbox.specs.Key.{is_among};
+ghost use Rattle.causal_inbox.specs.Key.{is_among, keys_of};
 ghost use Rattle.causal_inbox.specs.Lists.{AllRise, Changed, FrontAdded, ages_under, key_cmp};
 ghost use Rattle.causal_inbox.specs.Keyed.{HasNoEmpty};
 ghost use Rattle.fugue_ids.specs.Keyed.{IsReplaced};
 
-use crate::key::Key;
+use crate::key::{Key, main_key, named_key};
 use crate::keyed_lists::{KeyedLists, list_under, push_under, remove_under};
-use fugue_ids::NoMemory;
+use fugue_ids::{NoMemory, Op};
+use origin_model::names_of;
 use std::alloc::Global;
 
 /// The ages under each key, in order.
@@ -46,30 +47,29 @@ fn drop_under(lists: &mut Lists, key: Key, age: u64)
     }
 }
 
-/// The age under each of the keys, once. After want of memory it stands under some of them.
-pub(crate) fn add_age(
-    lists: &mut Lists,
-    alloc: Global,
-    keys: &[Key],
-    age: u64,
-) -> Result<(), NoMemory>
-    ensures ok { OnOk result (Changed (is_among keys.now) (λ ages. added ages age) (ages_under lists.old) (ages_under lists.new)) }
-    ensures err { OnErr result (FrontAdded keys.now age (ages_under lists.old) (ages_under lists.new)) }
+/// The age under each key of the operation, once. After want of memory it stands under some of them.
+pub(crate) fn add_age(lists: &mut Lists, alloc: Global, op: &Op, age: u64) -> Result<(), NoMemory>
+    ensures ok { OnOk result (Changed (is_among (keys_of op.now)) (λ ages. added ages age) (ages_under lists.old) (ages_under lists.new)) }
+    ensures err { OnErr result (FrontAdded (keys_of op.now) age (ages_under lists.old) (ages_under lists.new)) }
     ensures no_empty { HasNoEmpty key_cmp lists.old → HasNoEmpty key_cmp lists.new }
 {
-    for key in keys {
-        add_under(lists, alloc, *key, age)?;
+    add_under(lists, alloc, main_key(op), age)?;
+    let names = names_of(op);
+    'names: for named in names.as_slice() {
+        add_under(lists, alloc, named_key(named.0), age)?;
     }
     Ok(())
 }
 
-/// The age under none of the keys.
-pub(crate) fn drop_age(lists: &mut Lists, keys: &[Key], age: u64)
+/// The age under no key of the operation.
+pub(crate) fn drop_age(lists: &mut Lists, op: &Op, age: u64)
     requires { AllRise (ages_under lists.old) }
-    ensures dropped { Changed (is_among keys.now) (λ ages. dropped ages age) (ages_under lists.old) (ages_under lists.new) }
+    ensures dropped { Changed (is_among (keys_of op.now)) (λ ages. dropped ages age) (ages_under lists.old) (ages_under lists.new) }
     ensures no_empty { HasNoEmpty key_cmp lists.old → HasNoEmpty key_cmp lists.new }
 {
-    for key in keys {
-        drop_under(lists, *key, age);
+    drop_under(lists, main_key(op), age);
+    let names = names_of(op);
+    'names: for named in names.as_slice() {
+        drop_under(lists, named_key(named.0), age);
     }
 }

@@ -3,13 +3,33 @@ use Rattle.std.specs.Prelude.{Option, Some, None, Bool, false, ◌&&◌, nat_eq}
 use Rattle.fugue_ids.specs.Identifiers.{Identifier, id_eq, origin_eq}
 use Rattle.fugue_ids.specs.declared.op.Op.{Op}
 use Rattle.fugue_ids.specs.declared.op.Op.TheVariants.{Section, Text, Delete}
+use Rattle.fugue_ids.specs.declared.op.OpKey.{OpKey}
+use Rattle.fugue_ids.specs.declared.op.OpKey.TheVariants.{Own, Target}
 use lib.Pointwise.{pointwise}
 
--- an element's own identifier; a Delete has none
+-- what an operation is looked up by: the identifier of the element that it makes; a Delete makes none, and is looked up by its target
+abbrev pub key_of : Op → OpKey
+key_of (Section id left right title) = Own id
+key_of (Text id section left right ch) = Own id
+key_of (Delete target) = Target target
+
+-- an identifier of an operation's own
+abbrev pub own_in : OpKey → Option Identifier
+own_in (Own id) = Some id
+own_in (Target id) = None
+
+-- the element that a Delete hides
+abbrev pub target_in : OpKey → Option Identifier
+target_in (Own id) = None
+target_in (Target id) = Some id
+
+-- an operation's own identifier; a Delete has none
 abbrev pub id_of : Op → Option Identifier
-id_of (Section id left right title) = Some id
-id_of (Text id section left right ch) = Some id
-id_of (Delete target) = None
+id_of op = own_in (key_of op)
+
+-- the element that an operation hides: only a Delete hides one
+abbrev pub target_of : Op → Option Identifier
+target_of op = target_in (key_of op)
 
 -- the same operation
 abbrev pub op_eq : Op → Op → Bool

@@ -23,7 +23,7 @@ pub use gather::Gather;
 pub use key::Key;
 pub use limits::{BUFFER, GREATEST_HOLD, LONGEST_TITLE, MOST_OPERATIONS, STREAM_LIMIT};
 pub use no_memory::NoMemory;
-pub use op::Op;
+pub use op::{Op, OpKey};
 pub use order_of::OrderOf;
 pub use out::{Out, write_heading, write_pieces, write_scalar, write_whole};
 pub use side::Side;

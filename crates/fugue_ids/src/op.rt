@@ -1,5 +1,5 @@
 ghost use Rattle.std.specs.Prelude.{◌≡◌, IfOk};
-ghost use Rattle.fugue_ids.specs.Ops.{id_of};
+ghost use Rattle.fugue_ids.specs.Ops.{id_of, key_of};
 
 use crate::{ElementId, NoMemory, Title};
 use std::alloc::Global;
@@ -30,14 +30,32 @@ pub enum Op {
     },
 }
 
+/// What an operation is looked up by: equal operations have one key.
+#[derive(Clone, Copy, Debug, PartialEq, Eq)]
+pub enum OpKey {
+    /// The identifier of the element that it makes.
+    Own(ElementId),
+    /// The target of a `Delete`, which has no identifier of its own.
+    Target(ElementId),
+}
+
 impl Op {
+    pub fn key(&self) -> OpKey
+        ensures { result ≡ key_of self.now }
+    {
+        match self {
+            Op::Section { id, .. } | Op::Text { id, .. } => OpKey::Own(*id),
+            Op::Delete { target } => OpKey::Target(*target),
+        }
+    }
+
     /// The identifier of the element that the operation makes: a `Delete` makes none.
     pub fn id(&self) -> Option<ElementId>
         ensures { result ≡ id_of self.now }
     {
-        match self {
-            Op::Section { id, .. } | Op::Text { id, .. } => Some(*id),
-            Op::Delete { .. } => None,
+        match self.key() {
+            OpKey::Own(id) => Some(id),
+            OpKey::Target(_) => None,
         }
     }
 

@@ -1,10 +1,11 @@
 -- The lemmas that proofs of other crates may cite.
 pub use Rattle.origin_model.proofs.operations.CauseLemmas.{becomes_ready, names_within, ready_absent}
+pub use Rattle.origin_model.proofs.operations.ElementLemmas.{element_id, element_own, element_stands, element_there, none_elsewhere, one_place, place_eq-true, place_stands, stands_element, stands_place}
 pub use Rattle.origin_model.proofs.operations.LookupLemmas.{cases_held, found, has-append, has-holder, holder-has, holder-other, holder-own, holder_owns, holds-cons, holds-older, holds-other, holds-own, missing-held, own_id, when_ready}
 pub use Rattle.origin_model.proofs.operations.OneLookUpLemmas.{owns}
 pub use Rattle.origin_model.proofs.operations.OwnIdLemmas.{lawful_own, other_ids}
 pub use Rattle.origin_model.proofs.operations.FoundedLemmas.{no_text_before, not_hidden_before, ready_is_new, same_nodes_same_order, section_first, shown_can_go, target_is_shown}
-pub use Rattle.origin_model.proofs.order.OrderLawLemmas.{Within-part, order_total, parts_keep_order}
+pub use Rattle.origin_model.proofs.order.OrderLawLemmas.{Within-part, hidden-has, order_total, parts_keep_order}
 pub use Rattle.origin_model.proofs.order.OrderLemmas.{order-none, order-some}
 pub use Rattle.origin_model.proofs.order.PositionLemmas.{index_end}
 pub use Rattle.origin_model.proofs.order.PrintedLemmas.{section_joins}

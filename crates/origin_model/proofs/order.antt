@@ -19,7 +19,7 @@ pub use Rattle.origin_model.proofs.order.ChainOrderLemmas.{chain_before-fork, ch
 pub use Rattle.origin_model.proofs.order.ChainPartLemmas.{common, longer, parts, parts_late, turns, turns_off}
 pub use Rattle.origin_model.proofs.order.ListPartLemmas.{empty_from, filter_no, filter_yes, first_before, first_of, front_before, heads, in_rest, last_of, no_member, not_longer, not_nil, once_mid, ordered_out}
 pub use Rattle.origin_model.proofs.order.OrderLawLemmas.{Within-part, hidden-has, later_ops_keep_order, order_by_set, order_total, parts_keep_order, same-part}
-pub use Rattle.origin_model.proofs.order.OrderLemmas.{IsIn-held, IsIn-older, IsIn-own, IsIn-split, before_in-older, fork_moved, in_section, left_in, lefts-in, none_is, order-has, order-in, order-member, order-none, order-ordered, order-some, right-older, right_in, rights-in, section_fits, stay_ordered}
+pub use Rattle.origin_model.proofs.order.OrderLemmas.{IsIn-held, IsIn-older, IsIn-own, IsIn-split, before_in-older, fork_moved, left_in, lefts-in, order-has, order-in, order-member, order-none, order-ordered, order-some, right-older, right_in, rights-in, stay_ordered}
 pub use Rattle.origin_model.proofs.order.OrderedListLemmas.{Ordered-agree, count-no, count-yes, no_loop, placed-behind, placed-first}
 pub use Rattle.origin_model.proofs.order.PartLemmas.{Within, Within-append, before_at, fork-within, has_left_by, left_origin_held, lefts-at, order-same, origin_held, right_origin_held, rights-at}
 pub use Rattle.origin_model.proofs.order.PositionLemmas.{Stands}

@@ -18,10 +18,9 @@ pub use laws::{
     order_by_set, order_total, self_named_never_accepted, walk_is_order,
 };
 pub use operations::{
-    Lookup, Named, NoMemoryFor, Place, Role, Verdict, left_of, mentioned_by, names_of, right_of,
-    verdict_in,
+    Lookup, Named, Names, NoMemoryFor, Node, Place, Role, Verdict, names_of, verdict_in,
 };
 pub use plain_replica::PlainReplica;
 pub use relay::{Event, Reply};
-pub use sides::{Node, Slot};
+pub use sides::Slot;
 pub use taking::Tally;

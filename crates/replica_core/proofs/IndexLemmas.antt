@@ -5,16 +5,20 @@ use Rattle.std.specs.FinMap.{FinMap, get, get-insert, get-remove, insert, remove
 use Rattle.std.specs.Ordering.{is_eq}
 use Rattle.std.proofs.lemmas.Bool.{cases_Bool, true≢false}
 use Rattle.std.proofs.lemmas.List.{length-reverse, reverse-append, reverse-reverse}
-use Rattle.fugue_ids.specs.Identifiers.{Identifier, id_cmp, origin_eq}
-use Rattle.fugue_ids.specs.Ops.{id_of}
+use Rattle.fugue_ids.specs.Identifiers.{Identifier, id_cmp, id_eq, origin_eq}
+use Rattle.fugue_ids.specs.Ops.{id_of, key_of, own_in, target_in}
 use Rattle.fugue_ids.proofs.IdentifierLemmas.{cases_id, id_at-other, id_at-same, id_eq-refl, ne-id_eq}
 use Rattle.fugue_ids.specs.declared.op.Op.{Op}
-use Rattle.fugue_ids.specs.declared.op.Op.TheVariants.{Delete, Section, Text}
+use Rattle.fugue_ids.specs.declared.op.Op.TheVariants.{Delete}
+use Rattle.fugue_ids.specs.declared.op.OpKey.{OpKey}
+use Rattle.fugue_ids.specs.declared.op.OpKey.TheVariants.{Own, Target}
 use Rattle.origin_model.specs.operations.History.{has_op, holder, holds, is_own}
 use Rattle.origin_model.specs.operations.Verdict.{id_held, verdict}
+use Rattle.origin_model.specs.order.Printed.{deletes, is_hidden}
 use Rattle.origin_model.specs.declared.operations.verdict.Verdict.TheVariants.{Ready}
-use Rattle.origin_model.proofs.SharedLemmas.{holder-other, holder-own, holds-other, holds-own, owns, ready_absent, when_ready}
-use Rattle.replica_core.specs.Index.{ArePositions, IsIndex, IsUnnoted, as_position, is_delete_of, position_of}
+use Rattle.origin_model.proofs.SharedLemmas.{hidden-has, holder-other, holder-own, holds-other, holds-own, ready_absent, when_ready}
+use Rattle.section_catalogue.proofs.ConditionLemmas.{target_delete}
+use Rattle.replica_core.specs.Index.{ArePositions, IsFree, IsIndex, IsUnnoted, as_position, position_of}
 use Rattle.stretch_map.specs.Ahead.{ahead}
 use Rattle.stretch_map.specs.Rules.{IsFollowed, later}
 use Rattle.stretch_map.specs.declared.position.Position.{Position}
@@ -46,23 +50,26 @@ has_position (op ∷ h) x =
     ]
 
 -- a target has one where a Delete names it
-has_target : (h : List Op) (x : Identifier) → is_some (position_of (is_delete_of x) h) ≡ has_op h (Delete x)
-has_target [] x = refl
-has_target (op ∷ h) x =
-    elim (cases_Bool (is_delete_of x op)) [
-      | inl own ↦ ap is_some (position-own (is_delete_of x) op h own) ∙ ap (λ b. b || has_op h (Delete x)) (sym own)
-      | inr other ↦ ap is_some (position-other (is_delete_of x) op h other) ∙ has_target h x ∙ ap (λ b. b || has_op h (Delete x)) (sym other)
-    ]
+has_target : (h : List Op) (x : Identifier) → is_some (position_of (deletes x) h) ≡ has_op h (Delete x)
+has_target h x = hides h ∙ hidden-has h x
+  where
+    hides : (h : List Op) → is_some (position_of (deletes x) h) ≡ is_hidden h x
+    hides [] = refl
+    hides (op ∷ h) =
+        elim (cases_Bool (deletes x op)) [
+          | inl own ↦ ap is_some (position-own (deletes x) op h own) ∙ ap (λ b. b || is_hidden h x) (sym own)
+          | inr other ↦ ap is_some (position-other (deletes x) op h other) ∙ hides h ∙ ap (λ b. b || is_hidden h x) (sym other)
+        ]
 
--- an operation with an identifier is no Delete
-no_delete : (op : Op) (i x : Identifier) → id_of op ≡ Some i → is_delete_of x op ≡ false
-no_delete (Section j l r t) i x e = refl
-no_delete (Text j s l r c) i x e = refl
-no_delete (Delete t) i x e = cc
+-- by its key an operation is found under one identifier, and only as what it is
+own_is : (op : Op) (i x : Identifier) → key_of op ≡ Own i → (is_own x op ≡ id_eq i x) × (deletes x op ≡ false)
+own_is op i x e = (ap (λ k. origin_eq (own_in k) (Some x)) e, ap (λ k. origin_eq (target_in k) (Some x)) e)
 
--- the operation with the identifier i has no other one
-no_other : (op : Op) (i x : Identifier) → id_of op ≡ Some i → x ≢ i → is_own x op ≡ false
-no_other op i x is apart = ap (λ o. origin_eq o (Some x)) is ∙ ne-id_eq i x (λ e. apart (sym e))
+target_is : (op : Op) (i x : Identifier) → key_of op ≡ Target i → (is_own x op ≡ false) × (deletes x op ≡ id_eq i x)
+target_is op i x e = (ap (λ k. origin_eq (own_in k) (Some x)) e, ap (λ k. origin_eq (target_in k) (Some x)) e)
+
+no_other : (i x : Identifier) → x ≢ i → id_eq i x ≡ false
+no_other i x apart = ne-id_eq i x (λ e. apart (sym e))
 
 -- what a look-up finds has a position
 pub is_some-as : (o : Option ℕ) → is_some (option_map as_position o) ≡ is_some o
@@ -108,51 +115,54 @@ module _ (test : Identifier → Op → Bool) (m n : FinMap id_cmp Position) (op 
             ∙ are x ∙ ap (option_map as_position) (position-other (test x) op h (others x e))
       ]
 
--- the newest operation, which has an identifier, was put in
-pub noted_position : (op : Op) (i : Identifier) (m n t : FinMap id_cmp Position) (h : List Op) (k : ℕ) → id_of op ≡ Some i → n ≡ insert m i (as_position k) → IsIndex m t h → length h ≡ k
-    → IsIndex n t (op ∷ h)
-noted_position op i m n t h k is put index same =
-    record {
-      positions_are = noted-own is_own m n op h i (put ∙ ap (λ j. insert m i (as_position j)) (sym same)) (owns op i is) (λ x. no_other op i x is) index.positions_are;
-      targets_are = noted-other is_delete_of t t op h (λ x. no_delete op i x is) index.targets_are;
-    }
+module _ (op : Op) (i : Identifier) (h : List Op) where
+  -- the newest operation, which has an identifier, was put in
+  pub noted_position : (m n t : FinMap id_cmp Position) (k : ℕ) → key_of op ≡ Own i → n ≡ insert m i (as_position k) → IsIndex m t h → length h ≡ k → IsIndex n t (op ∷ h)
+  noted_position m n t k key put index same =
+      record {
+        positions_are = noted-own is_own m n op h i (put ∙ ap (λ j. insert m i (as_position j)) (sym same)) ((own_is op i i key).0 ∙ id_eq-refl i)
+            (λ x apart. (own_is op i x key).0 ∙ no_other i x apart) index.positions_are;
+        targets_are = noted-other deletes t t op h (λ x. (own_is op i x key).1) index.targets_are;
+      }
 
--- a Delete was
-pub noted_target : (i : Identifier) (m s t : FinMap id_cmp Position) (h : List Op) (k : ℕ) → t ≡ insert s i (as_position k) → IsIndex m s h → length h ≡ k
-    → IsIndex m t (Delete i ∷ h)
-noted_target i m s t h k put index same =
-    record {
-      positions_are = noted-other is_own m m (Delete i) h (λ x. refl) index.positions_are;
-      targets_are = noted-own is_delete_of s t (Delete i) h i (put ∙ ap (λ j. insert s i (as_position j)) (sym same)) (id_eq-refl i) (λ x apart. ne-id_eq i x (λ e. apart (sym e))) index.targets_are;
-    }
+  -- a Delete was
+  pub noted_target : (m s t : FinMap id_cmp Position) (k : ℕ) → key_of op ≡ Target i → t ≡ insert s i (as_position k) → IsIndex m s h → length h ≡ k → IsIndex m t (op ∷ h)
+  noted_target m s t k key put index same =
+      record {
+        positions_are = noted-other is_own m m op h (λ x. (target_is op i x key).0) index.positions_are;
+        targets_are = noted-own deletes s t op h i (put ∙ ap (λ j. insert s i (as_position j)) (sym same)) ((target_is op i i key).1 ∙ id_eq-refl i)
+            (λ x apart. (target_is op i x key).1 ∙ no_other i x apart) index.targets_are;
+      }
 
-free_own : (op : Op) (i : Identifier) (h : List Op) → id_of op ≡ Some i → verdict h op ≡ Ready → position_of (is_own i) h ≡ None
-free_own op i h is ready = none_from (position_of (is_own i) h) (has_position h i ∙ ap (id_held h) (sym is) ∙ (is_new h op ready).1)
+  free_own : key_of op ≡ Own i → verdict h op ≡ Ready → position_of (is_own i) h ≡ None
+  free_own key ready = none_from (position_of (is_own i) h) (has_position h i ∙ ap (λ k. id_held h (own_in k)) (sym key) ∙ (is_new h op ready).1)
 
-free_target : (i : Identifier) (h : List Op) → verdict h (Delete i) ≡ Ready → position_of (is_delete_of i) h ≡ None
-free_target i h ready = none_from (position_of (is_delete_of i) h) (has_target h i ∙ (is_new h (Delete i) ready).0)
+  free_target : key_of op ≡ Target i → verdict h op ≡ Ready → position_of (deletes i) h ≡ None
+  free_target key ready = none_from (position_of (deletes i) h) (has_target h i ∙ ap (has_op h) (sym (target_delete op i key)) ∙ (is_new h op ready).0)
 
--- the newest operation, which has an identifier, was taken out
-pub forgot_position : (op : Op) (i : Identifier) (m n t : FinMap id_cmp Position) (h : List Op) → id_of op ≡ Some i → n ≡ remove m i → IsIndex m t (op ∷ h) → verdict h op ≡ Ready → IsIndex n t h
-forgot_position op i m n t h is gone index ready =
-    record {
-      positions_are = forgot-own is_own m n op h i gone (free_own op i h is ready) (λ x. no_other op i x is) index.positions_are;
-      targets_are = forgot-other is_delete_of t t op h (λ x. no_delete op i x is) index.targets_are;
-    }
+  -- the newest operation, which has an identifier, was taken out
+  pub forgot_position : (m n t : FinMap id_cmp Position) → key_of op ≡ Own i → n ≡ remove m i → IsIndex m t (op ∷ h) → verdict h op ≡ Ready → IsIndex n t h
+  forgot_position m n t key gone index ready =
+      record {
+        positions_are = forgot-own is_own m n op h i gone (free_own key ready) (λ x apart. (own_is op i x key).0 ∙ no_other i x apart) index.positions_are;
+        targets_are = forgot-other deletes t t op h (λ x. (own_is op i x key).1) index.targets_are;
+      }
 
--- the newest operation, a Delete, was taken out
-pub forgot_target : (i : Identifier) (m s t : FinMap id_cmp Position) (h : List Op) → t ≡ remove s i → IsIndex m s (Delete i ∷ h) → verdict h (Delete i) ≡ Ready → IsIndex m t h
-forgot_target i m s t h gone index ready =
-    record {
-      positions_are = forgot-other is_own m m (Delete i) h (λ x. refl) index.positions_are;
-      targets_are = forgot-own is_delete_of s t (Delete i) h i gone (free_target i h ready) (λ x apart. ne-id_eq i x (λ e. apart (sym e))) index.targets_are;
-    }
+  -- the newest operation, a Delete, was taken out
+  pub forgot_target : (m s t : FinMap id_cmp Position) → key_of op ≡ Target i → t ≡ remove s i → IsIndex m s (op ∷ h) → verdict h op ≡ Ready → IsIndex m t h
+  forgot_target m s t key gone index ready =
+      record {
+        positions_are = forgot-other is_own m m op h (λ x. (target_is op i x key).0) index.positions_are;
+        targets_are = forgot-own deletes s t op h i gone (free_target key ready) (λ x apart. (target_is op i x key).1 ∙ no_other i x apart) index.targets_are;
+      }
 
 -- an operation that is Ready has no position
 pub unnoted : (m t : FinMap id_cmp Position) (h : List Op) (op : Op) → IsIndex m t h → verdict h op ≡ Ready → IsUnnoted m t op
-unnoted m t h (Section i l r c) index ready = index.positions_are i ∙ ap (option_map as_position) (free_own (Section i l r c) i h refl ready)
-unnoted m t h (Text i s l r c) index ready = index.positions_are i ∙ ap (option_map as_position) (free_own (Text i s l r c) i h refl ready)
-unnoted m t h (Delete i) index ready = index.targets_are i ∙ ap (option_map as_position) (free_target i h ready)
+unnoted m t h op index ready = by_key (key_of op) refl
+  where
+    by_key : (k : OpKey) → key_of op ≡ k → IsFree m t k
+    by_key (Own i) key = index.positions_are i ∙ ap (option_map as_position) (free_own op i h key ready)
+    by_key (Target i) key = index.targets_are i ∙ ap (option_map as_position) (free_target op i h key ready)
 
 some_same : {X : Type 0} (a b : X) → Some a ≡ Some b → a ≡ b
 some_same a b e = cc
@@ -178,7 +188,7 @@ position_below test (op ∷ h) k e =
     ]
 
 -- none comes behind that of the newest operation
-pub last_position : (test : Identifier → Op → Bool) (m : FinMap id_cmp Position) (op : Op) (h : List Op) (i : Identifier) → ArePositions test m (op ∷ h) → test i op ≡ true
+last_position : (test : Identifier → Op → Bool) (m : FinMap id_cmp Position) (op : Op) (h : List Op) (i : Identifier) → ArePositions test m (op ∷ h) → test i op ≡ true
     → IsFollowed (λ first p k. later p k) (get m) i → ⊥
 last_position test m op h i are own f =
     let at : Some (as_position (length h)) ≡ Some f.value = ap (option_map as_position) (sym (position-own (test i) op h own)) ∙ sym (are i) ∙ f.held in
@@ -192,6 +202,12 @@ last_position test m op h i are own f =
         let next : k ≡ f.value.at + 1 = ap (λ p. p.at) same in
         let below : k < suc (length h) = position_below (test (ahead i 1)) (op ∷ h) k is in
         omega (arith, next, below, here)
+
+pub last_own : (op : Op) (i : Identifier) (h : List Op) (m : FinMap id_cmp Position) → key_of op ≡ Own i → ArePositions is_own m (op ∷ h) → IsFollowed (λ first p k. later p k) (get m) i → ⊥
+last_own op i h m key are = last_position is_own m op h i are ((own_is op i i key).0 ∙ id_eq-refl i)
+
+pub last_target : (op : Op) (i : Identifier) (h : List Op) (m : FinMap id_cmp Position) → key_of op ≡ Target i → ArePositions deletes m (op ∷ h) → IsFollowed (λ first p k. later p k) (get m) i → ⊥
+last_target op i h m key are = last_position deletes m op h i are ((target_is op i i key).1 ∙ id_eq-refl i)
 
 -- at the position of an identifier stands its holder
 held_at : (h : List Op) (x : Identifier) (k : ℕ) → position_of (is_own x) h ≡ Some k → slice_get (reverse h) k ≡ holder h x
@@ -233,4 +249,4 @@ position_free m t h x index e = sym (none_from (holder h x) (sym (has_position h
 
 -- a target is found where a Delete names it
 pub target_held : (m t : FinMap id_cmp Position) (h : List Op) (x : Identifier) → IsIndex m t h → is_some (get t x) ≡ has_op h (Delete x)
-target_held m t h x index = ap is_some (index.targets_are x) ∙ is_some-as (position_of (is_delete_of x) h) ∙ has_target h x
+target_held m t h x index = ap is_some (index.targets_are x) ∙ is_some-as (position_of (deletes x) h) ∙ has_target h x

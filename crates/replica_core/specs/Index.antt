@@ -2,20 +2,18 @@
 use Rattle.std.specs.Prelude.{◌≡◌, ℕ, Bool, if◌then◌else◌, Option, Some, None, List, [], ◌∷◌, length, option_map}
 use Rattle.std.specs.FinMap.{FinMap, get}
 use Rattle.fugue_ids.specs.Identifiers.{Identifier, id_cmp}
-use Rattle.fugue_ids.specs.Ops.{op_eq}
+use Rattle.fugue_ids.specs.Ops.{key_of}
 use Rattle.fugue_ids.specs.declared.op.Op.{Op}
-use Rattle.fugue_ids.specs.declared.op.Op.TheVariants.{Delete, Section, Text}
+use Rattle.fugue_ids.specs.declared.op.OpKey.{OpKey}
+use Rattle.fugue_ids.specs.declared.op.OpKey.TheVariants.{Own, Target}
 use Rattle.origin_model.specs.operations.History.{is_own}
+use Rattle.origin_model.specs.order.Printed.{deletes}
 use Rattle.stretch_map.specs.declared.position.Position.{Position}
 
 -- the position of the newest operation that passes the test: how many are older
 abbrev pub position_of : (Op → Bool) → List Op → Option ℕ
 position_of test [] = None
 position_of test (op ∷ older) = if test op then Some (length older) else position_of test older
-
--- the operation is the Delete of x
-abbrev pub is_delete_of : Identifier → Op → Bool
-is_delete_of x op = op_eq op (Delete x)
 
 abbrev pub as_position : ℕ → Position
 as_position k = record { at = k }
@@ -27,10 +25,13 @@ ArePositions test m history = (x : Identifier) → get m x ≡ option_map as_pos
 -- the positions are those of the history's operations, and the targets those of its Deletes
 pub record IsIndex (positions targets : FinMap id_cmp Position) (history : List Op) : Type 0 where
   pub positions_are : ArePositions is_own positions history
-  pub targets_are : ArePositions is_delete_of targets history
+  pub targets_are : ArePositions deletes targets history
+
+-- nothing is found by the key
+abbrev pub IsFree : FinMap id_cmp Position → FinMap id_cmp Position → OpKey → Type 0
+IsFree positions targets (Own i) = get positions i ≡ None
+IsFree positions targets (Target i) = get targets i ≡ None
 
 -- the operation has no position yet
 abbrev pub IsUnnoted : FinMap id_cmp Position → FinMap id_cmp Position → Op → Type 0
-IsUnnoted positions targets (Section i l r t) = get positions i ≡ None
-IsUnnoted positions targets (Text i s l r c) = get positions i ≡ None
-IsUnnoted positions targets (Delete t) = get targets t ≡ None
+IsUnnoted positions targets op = IsFree positions targets (key_of op)

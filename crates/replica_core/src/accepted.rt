@@ -11,7 +11,7 @@ ghost use Rattle.section_catalogue.specs.Manuscript.{Grows, IsPlaceOf, IsReadyOn
 
 use crate::history::History;
 use crate::shown_section::ShownSection;
-use fugue_ids::{ElementId, Failed, MOST_OPERATIONS, NoMemory, Op};
+use fugue_ids::{ElementId, Failed, MOST_OPERATIONS, NoMemory, Op, OpKey};
 use origin_model::{Lookup, NoMemoryFor, Verdict, verdict_in};
 use outer_ports::Sink;
 use section_catalogue::Manuscript;
@@ -45,9 +45,9 @@ fn take_in(manuscript: &mut Manuscript, op: &Op) -> Result<(), NoMemory>
     ensures ok { OnOk result (Grows manuscript.old manuscript.new op.now) }
     ensures err { OnErr result (Stays manuscript.old manuscript.new) }
 {
-    match op {
-        Op::Section { .. } | Op::Text { .. } => manuscript.insert(op),
-        Op::Delete { target } => manuscript.hide(*target),
+    match op.key() {
+        OpKey::Own(_) => manuscript.insert(op),
+        OpKey::Target(target) => manuscript.hide(target),
     }
 }
 

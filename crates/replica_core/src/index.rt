@@ -6,7 +6,7 @@ ghost use Rattle.origin_model.specs.declared.operations.verdict.Verdict.TheVaria
 ghost use Rattle.replica_core.specs.Index.{IsIndex, IsUnnoted};
 ghost use Rattle.stretch_map.specs.Rules.{IsGreatestIn};
 
-use fugue_ids::{ElementId, NoMemory, Op};
+use fugue_ids::{ElementId, NoMemory, Op, OpKey};
 use std::alloc::Global;
 use stretch_map::{Position, StretchMap};
 
@@ -60,9 +60,9 @@ impl Index {
         ensures err { OnErr result (self.new ≡ self.old) }
     {
         let position = Position { at: position };
-        match op {
-            Op::Section { id, .. } | Op::Text { id, .. } => self.positions.insert(*id, position),
-            Op::Delete { target } => self.targets.insert(*target, position),
+        match op.key() {
+            OpKey::Own(id) => self.positions.insert(id, position),
+            OpKey::Target(target) => self.targets.insert(target, position),
         }
     }
 
@@ -71,9 +71,9 @@ impl Index {
         ensures { (h : List AnyOp) → IsIndex self.old.positions.values self.old.targets.values (op.now ∷ h) → verdict h op.now ≡ Ready
             → IsIndex self.new.positions.values self.new.targets.values h }
     {
-        let _sure = match op {
-            Op::Section { id, .. } | Op::Text { id, .. } => self.positions.remove(*id),
-            Op::Delete { target } => self.targets.remove(*target),
+        let _sure = match op.key() {
+            OpKey::Own(id) => self.positions.remove(id),
+            OpKey::Target(target) => self.targets.remove(target),
         };
     }
 }

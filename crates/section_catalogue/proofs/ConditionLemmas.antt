@@ -3,10 +3,11 @@ use Rattle.std.proofs.Common.{List, [], ap, false, inl, inr, refl, subst, sym, t
 use Rattle.std.specs.Prelude.{IsSome, None, Option, Some, is_some, option_map}
 use Rattle.std.proofs.lemmas.Bool.{cases_Bool, true≢false}
 use Rattle.fugue_ids.specs.Identifiers.{Identifier}
-use Rattle.fugue_ids.specs.Ops.{id_of}
+use Rattle.fugue_ids.specs.Ops.{id_of, key_of}
+use Rattle.fugue_ids.specs.declared.op.OpKey.TheVariants.{Target}
 use Rattle.fugue_ids.proofs.IdentifierLemmas.{origin_eq-true}
 use Rattle.fugue_ids.specs.declared.op.Op.{Op}
-use Rattle.fugue_ids.specs.declared.op.Op.TheVariants.{Section, Text, Delete}
+use Rattle.fugue_ids.specs.declared.op.Op.TheVariants.{Text, Delete}
 use Rattle.origin_model.specs.order.Laws.{IsIn}
 use Rattle.origin_model.specs.sides.Node.{IsNew, has_node, nodes}
 use Rattle.origin_model.specs.operations.History.{holder, holds, is_own, place}
@@ -20,8 +21,8 @@ use Rattle.section_catalogue.specs.Changes.{HoldsAt}
 use Rattle.section_catalogue.specs.Contents.{Contents, place_at, section_at}
 use Rattle.section_catalogue.specs.Place.{Lists, place_held, title_held}
 use Rattle.section_catalogue.specs.Manuscript.{IsReadyOn, StandsFor}
-use Rattle.origin_model.proofs.SharedLemmas.{found, holder-other, holder-own, holder_owns, order_by_nodes, ready_is_new, section_first, target_is_shown}
-use Rattle.section_catalogue.proofs.HolderLemmas.{is_in, none_held, stands_element}
+use Rattle.origin_model.proofs.SharedLemmas.{found, holder-other, holder-own, holder_owns, order_by_nodes, ready_is_new, section_first, target_is_shown, stands_element}
+use Rattle.section_catalogue.proofs.HolderLemmas.{is_in, none_held}
 use Rattle.section_catalogue.proofs.ListingLemmas.{is_new, node_alike, node_of}
 use Rattle.section_catalogue.proofs.ShownLemmas.{titled}
 use Rattle.section_catalogue.proofs.TextLemmas.{if_some}
@@ -34,13 +35,6 @@ stays_in op older s w i =
       | inr k ↦ record { op = i.op; held = holder-other op older s k ∙ i.held; place = i.place }
     ]
 
--- the section of the newest element is in the catalogue
-newest_section : (op : Op) (older : List Op) (s : Identifier) → verdict older op ≡ Ready → place op ≡ Some (within s) → IsIn catalogue older s
-newest_section (Section id left right title) older s ready e = cc
-newest_section (Text id section left right ch) older s ready e =
-    let d : section ≡ s = cc in subst (IsIn catalogue older) d (section_first older id section left right ch ready)
-newest_section (Delete target) older s ready e = cc
-
 -- the section of each element is in the catalogue
 section_there : (h : List Op) (x s : Identifier) → Lawful h → place_held (holder h x) ≡ Some (within s) → IsIn catalogue h s
 section_there [] x s w e = cc
@@ -48,7 +42,7 @@ section_there (op ∷ older) x s w e =
     elim (cases_Bool (is_own x op)) [
       | inl k ↦
           let here : holder (op ∷ older) x ≡ Some op = holder-own op older x k in
-          stays_in op older s w (newest_section op older s w.0 (sym (ap place_held here) ∙ e))
+          stays_in op older s w (section_first older op s w.0 (sym (ap place_held here) ∙ e))
       | inr k ↦
           let past : holder (op ∷ older) x ≡ holder older x = holder-other op older x k in
           stays_in op older s w (section_there older x s w.1 (sym (ap place_held past) ∙ e))
@@ -107,17 +101,21 @@ module _ (m : Contents) (op : Op) (x : Identifier) (own : id_of op ≡ Some x) (
 
   -- and its node is new in its place
   pub new_in : (p : Place) (s : Listing) → place op ≡ Some p → Lists p r.history s → IsNew s.nodes (node_of op x)
-  new_in p s e l = is_new p op r.history x s (r.ready, r.stands.lawful) (stands_element p op x e own) l
+  new_in p s e l = is_new p op r.history x s (r.ready, r.stands.lawful) (stands_element p op e ∙ own) l
 
 -- the section of a Text that is Ready is there
 pub section_of : (m : Contents) (id section : Identifier) (left right : Option Identifier) (ch : ℕ) → IsReadyOn m (Text id section left right ch) → IsSome (section_at m section)
-section_of m id section left right ch r = entry_there m r.history section r.stands (section_first r.history id section left right ch r.ready)
+section_of m id section left right ch r = entry_there m r.history section r.stands (section_first r.history (Text id section left right ch) section r.ready refl)
+
+-- an operation with the target x is the Delete of x
+pub target_delete : (op : Op) (x : Identifier) → key_of op ≡ Target x → op ≡ Delete x
+target_delete (Delete y) x e = let same : y ≡ x = cc in ap Delete same
+target_delete _ x e = cc
 
 -- each operation with an identifier stands somewhere
 pub has_place : (op : Op) (x : Identifier) → id_of op ≡ Some x → IsSome (place op)
-has_place (Section id left right title) x e = refl
-has_place (Text id section left right ch) x e = refl
 has_place (Delete target) x e = cc
+has_place _ x e = refl
 
 -- a manuscript has a place for each element of the histories that it stands for, so it can hide each
 pub held_has_place : (m : Contents) (h : List Op) (x : Identifier) (op : Op) → StandsFor m h → holder h x ≡ Some op → IsSome (place op) → IsSome (place_at m x)

@@ -15,14 +15,14 @@ use Rattle.origin_model.specs.operations.Verdict.{Lawful, verdict}
 use Rattle.origin_model.specs.declared.operations.place.Place.{Place}
 use Rattle.origin_model.specs.declared.operations.place.Place.TheVariants.{Catalogue as catalogue, Section as within}
 use Rattle.origin_model.specs.declared.operations.verdict.Verdict.TheVariants.{Ready}
-use Rattle.origin_model.proofs.SharedLemmas.{no_text_before, not_hidden_before, order_by_nodes, ready_is_new}
+use Rattle.origin_model.proofs.SharedLemmas.{no_text_before, not_hidden_before, order_by_nodes, ready_is_new, stands_element}
 use Rattle.section_list.specs.SectionList.{Listing, nothing as no_elements, with_element}
 use Rattle.section_catalogue.specs.declared.section.Section.{Section as Titled}
 use Rattle.section_catalogue.specs.Changes.{AddsSection, AddsText}
 use Rattle.section_catalogue.specs.Contents.{Contents, place_at, section_at}
 use Rattle.section_catalogue.specs.Place.{Lists, cell_in, place_held, scalar_held, title_held}
 use Rattle.section_catalogue.specs.Manuscript.{StandsFor}
-use Rattle.section_catalogue.proofs.HolderLemmas.{cell-older, holder-new, holder-older, nodes-other, none_held, order-nothing, order-other, stands_element}
+use Rattle.section_catalogue.proofs.HolderLemmas.{cell-older, holder-new, holder-older, nodes-other, none_held, order-nothing, order-other}
 use Rattle.section_catalogue.proofs.ListingLemmas.{grown, node_of, unmoved}
 use Rattle.section_catalogue.proofs.TextLemmas.{each_text, if_some, titles_stay}
 
@@ -52,7 +52,7 @@ module _ (op : Op) (h : List Op) (x : Identifier) (own : id_of op ≡ Some x) (w
   at_home : (p : Place) (ch : ℕ) (s : Listing) → place op ≡ Some p → scalar_held (Some op) ≡ ch → is_hidden (op ∷ h) x ≡ is_hidden h x → Lists p h s
       → Lists p (op ∷ h) (with_element (node_of op x) ch s)
   at_home p ch s e k j l =
-      grown p op h x ch s w (stands_element p op x e own) l unheld
+      grown p op h x ch s w (stands_element p op e ∙ own) l unheld
       (λ i. record {
         id = x;
         ch = (ap scalar_held (holder-new op h x x own refl) ∙ k) i;

@@ -14,7 +14,7 @@ use Rattle.origin_model.specs.sides.Node.{AreNodes, IsNew, find_node, has_node, 
 use Rattle.origin_model.specs.operations.History.{element_of, holder, holds, left_of, right_of}
 use Rattle.origin_model.specs.order.Order.{before_in, order}
 use Rattle.origin_model.specs.operations.Verdict.{Lawful}
-use Rattle.origin_model.specs.declared.sides.node.Node.{Node}
+use Rattle.origin_model.specs.declared.operations.node.Node.{Node}
 use Rattle.origin_model.specs.declared.operations.place.Place.{Place}
 use Rattle.origin_model.proofs.SharedLemmas.{order-some, order_by_nodes, order_total, same_nodes_same_order}
 use Rattle.section_list.specs.Cells.{Cell, ids, hiding}

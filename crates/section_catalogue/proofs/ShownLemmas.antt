@@ -101,10 +101,8 @@ count_shown m h s = sym (length-map (visible_cells m.catalogue.cells) (λ (c : C
 
 -- an element of a section has a scalar
 one_scalar : (s : Identifier) (o : Option Op) → place_held o ≡ Some (within s) → scalar_of o ≡ scalar_held o ∷ []
-one_scalar s None e = cc
-one_scalar s (Some (Section id left right title)) e = cc
 one_scalar s (Some (Text id section left right ch)) e = refl
-one_scalar s (Some (Delete target)) e = cc
+one_scalar s _ e = cc
 
 -- the text of a section
 text_shown : (m : Contents) (h : List Op) (s : Identifier) (cs : List Cell) → StandsFor m h → cs ≡ map (cell_in h) (order (within s) h) → text cs ≡ text_on h s
@@ -114,8 +112,7 @@ text_shown m h s cs k e =
 -- an element of the catalogue has a title
 pub titled : (op : Op) (s : Identifier) → element_of catalogue op ≡ Some s → (t : List ℕ) × (title_held (Some op) ≡ Some t) × (title_of (Some op) ≡ t)
 titled (Section id left right title) s e = (title, refl, refl)
-titled (Text id section left right ch) s e = cc
-titled (Delete target) s e = cc
+titled _ s e = cc
 
 -- a section that has a title is there
 entry_there : (o : Option Titled) (t : List ℕ) (P : Titled → Type 0) → option_map (λ (e : Titled). e.title) o ≡ Some t → IfSome o P → (e : Titled) × (o ≡ Some e) × (e.title ≡ t) × P e
@@ -146,9 +143,7 @@ there_in : (m : Contents) (h : List Op) (s : Identifier) (o : Option Op) (e : Op
 there_in m h s (Some (Section id left right title)) (Some e) held k there =
     let own : id ≡ s = id_eq-true id s (holder_owns h s (Section id left right title) held) in
     record { op = Section id left right title; held = held; place = ap Some own }
-there_in m h s (Some (Text id section left right ch)) (Some e) held k there = cc
-there_in m h s (Some (Delete target)) (Some e) held k there = cc
-there_in m h s None (Some e) held k there = cc
+there_in m h s _ (Some e) held k there = cc
 there_in m h s o None held k there = cc
 
 -- the look-ups of a manuscript are the definitions

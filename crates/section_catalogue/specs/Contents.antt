@@ -5,8 +5,9 @@ use Rattle.std.specs.FinMap.{FinMap, entries}
 use Rattle.std.specs.Map.{lookup}
 use Rattle.fugue_ids.specs.Identifiers.{Identifier, id_cmp}
 use Rattle.fugue_ids.specs.declared.op.Op.{Op}
-use Rattle.fugue_ids.specs.declared.op.Op.TheVariants.{Section, Text, Delete}
+use Rattle.origin_model.specs.operations.History.{place}
 use Rattle.origin_model.specs.declared.operations.place.Place.{Place}
+use Rattle.origin_model.specs.declared.operations.place.Place.TheVariants.{Catalogue as catalogue, Section as within}
 use Rattle.section_list.specs.SectionList.{Listing}
 use Rattle.section_catalogue.specs.declared.home.Home.{Home}
 use Rattle.section_catalogue.specs.declared.section.Section.{Section as Titled}
@@ -44,13 +45,16 @@ text_at m s = option_map (λ (e : Titled). e.text) (section_at m s)
 abbrev pub place_at : Contents → Identifier → Option Place
 place_at m x = entry_at m.places x
 
--- how many elements a place has, hidden ones too
+-- how many elements a text that may be there has, hidden ones too
 abbrev pub listed_count : Option Listing → ℕ
 listed_count None = 0
 listed_count (Some s) = length s.cells
 
+-- how many elements a place has, hidden ones too
+abbrev pub count_at : Contents → Place → ℕ
+count_at m catalogue = length m.catalogue.cells
+count_at m (within s) = listed_count (text_at m s)
+
 -- how many elements the place of an operation's element has
 abbrev pub place_count : Contents → Op → ℕ
-place_count m (Section id left right title) = length m.catalogue.cells
-place_count m (Text id section left right ch) = listed_count (text_at m section)
-place_count m (Delete target) = 0
+place_count m op = elim (place op) [ None ↦ 0 | Some p ↦ count_at m p ]

@@ -126,7 +126,7 @@ impl Manuscript {
                 let node = Node { id, left, right };
                 add_text(&mut self.tables, section, &node, *ch)
             }
-            Op::Delete { .. } => Ok(()),
+            _ => Ok(()),
         }
     }
 

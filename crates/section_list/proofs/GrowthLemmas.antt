@@ -17,7 +17,7 @@ use Rattle.origin_model.specs.sides.Detached.{NoOrigin, without}
 use Rattle.origin_model.specs.sides.KeyedGap.{gap_index}
 use Rattle.origin_model.specs.sides.Node.{IsNew, find_node, has_node, node_order}
 use Rattle.origin_model.specs.sides.Slot.{IsBeside, at_gap}
-use Rattle.origin_model.specs.declared.sides.node.Node.{Node}
+use Rattle.origin_model.specs.declared.operations.node.Node.{Node}
 use Rattle.origin_model.proofs.SharedLemmas.{gap_at, gap_within, newest_taken_back, nodes_listed}
 use Rattle.run_store.specs.Cells.{ids as stored_ids, keyed}
 use Rattle.run_store.specs.NewCells.{new_cell}

@@ -14,7 +14,7 @@ use Rattle.origin_model.specs.operations.History.{holder, left_of}
 use Rattle.origin_model.specs.order.Order.{has_left, right_beside}
 use Rattle.origin_model.specs.sides.Keys.{depth_above, forest_above, key_of, keyed as keyed_in, keyed_order, new_key}
 use Rattle.origin_model.specs.sides.Node.{IsNew, as_op, as_ops, find_node, has_node, has_origin, node_order}
-use Rattle.origin_model.specs.declared.sides.node.Node.{Node}
+use Rattle.origin_model.specs.declared.operations.node.Node.{Node}
 use Rattle.origin_model.proofs.SharedLemmas.{holder-nodes, key-other, never_both, newest_key, nodes-lawful, nodes_listed, op_of}
 use Rattle.run_store.specs.Cells.{cell_of, hiding, ids, keyed}
 use Rattle.run_store.specs.NewCells.{depth_of, depth_under, forest_beside, forest_of as forest_held, has_right, new_cell, new_key as stored_key, shares_right}

@@ -3,7 +3,7 @@ use Rattle.std.specs.Prelude.{◌≡◌, Some, List}
 use Rattle.std.specs.List.{All}
 use Rattle.origin_model.specs.sides.Keys.{key_of}
 use Rattle.origin_model.specs.sides.Node.{AreNodes, as_ops, find_node, node_order}
-use Rattle.origin_model.specs.declared.sides.node.Node.{Node}
+use Rattle.origin_model.specs.declared.operations.node.Node.{Node}
 use Rattle.run_store.specs.Cells.{ids}
 use Rattle.run_store.specs.declared.cell.Cell.{Cell as StoredCell}
 use Rattle.section_list.specs.Cells.{Cell}

@@ -4,7 +4,7 @@ use Rattle.std.specs.List.{insert}
 use Rattle.fugue_ids.specs.Identifiers.{Identifier}
 use Rattle.fugue_ids.specs.Listed.{index_of}
 use Rattle.origin_model.specs.sides.Node.{AreNodes, node_order}
-use Rattle.origin_model.specs.declared.sides.node.Node.{Node}
+use Rattle.origin_model.specs.declared.operations.node.Node.{Node}
 use Rattle.section_list.specs.Cells.{Cell, ids, hiding}
 
 pub record Listing : Type 0 where

@@ -7,7 +7,7 @@ use Rattle.fugue_ids.specs.Identifiers.{Identifier, id_cmp}
 use Rattle.fugue_ids.proofs.IdentifierLemmas.{cases_id, eq-id_eq, id_at-other, id_at-same, ne-id_eq}
 use Rattle.origin_model.specs.sides.Detached.{NoOrigin, without}
 use Rattle.origin_model.specs.sides.Node.{find_node}
-use Rattle.origin_model.specs.declared.sides.node.Node.{Node}
+use Rattle.origin_model.specs.declared.operations.node.Node.{Node}
 use Rattle.origin_model.proofs.SharedLemmas.{found_without}
 use Rattle.stretch_map.specs.Ahead.{ahead}
 use Rattle.stretch_map.specs.Rules.{IsFollowed, typed_behind}

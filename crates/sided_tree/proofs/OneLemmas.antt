@@ -8,7 +8,7 @@ use Rattle.fugue_ids.proofs.IdentifierLemmas.{index_of-here}
 use Rattle.origin_model.specs.order.Order.{order}
 use Rattle.origin_model.specs.sides.Keys.{keyed_order, new_keyed}
 use Rattle.origin_model.specs.sides.Node.{node_order}
-use Rattle.origin_model.specs.declared.sides.node.Node.{Node}
+use Rattle.origin_model.specs.declared.operations.node.Node.{Node}
 use Rattle.origin_model.proofs.SharedLemmas.{keyed_joins}
 
 pub none_listed : keyed_order [] ≡ []

@@ -11,7 +11,7 @@ use Rattle.origin_model.specs.order.Order.{order}
 use Rattle.origin_model.specs.sides.Keys.{keyed_order}
 use Rattle.origin_model.specs.sides.Node.{AreNodes, find_node, has_node, node_order}
 use Rattle.origin_model.specs.sides.Slot.{IsBeside, IsPlace, at_gap}
-use Rattle.origin_model.specs.declared.sides.node.Node.{Node}
+use Rattle.origin_model.specs.declared.operations.node.Node.{Node}
 use Rattle.origin_model.proofs.SharedLemmas.{keyed_ids, keyed_once, nodes_listed}
 
 -- no node is listed twice

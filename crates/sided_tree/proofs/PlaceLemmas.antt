@@ -12,7 +12,7 @@ use Rattle.origin_model.specs.sides.KeyedGap.{gap_index}
 use Rattle.origin_model.specs.sides.Keys.{keyed_order, new_key}
 use Rattle.origin_model.specs.sides.Node.{AreNodes, as_ops, node_order}
 use Rattle.origin_model.specs.sides.Slot.{IsBeside, at_gap}
-use Rattle.origin_model.specs.declared.sides.node.Node.{Node}
+use Rattle.origin_model.specs.declared.operations.node.Node.{Node}
 use Rattle.origin_model.proofs.SharedLemmas.{gap_at, gap_within, keyed_ids, keyed_joins, nodes_listed}
 
 module _ (n : Node) (ns : List Node) (es : List Keyed) (gap : Gap) (at : ℕ) (new : AreNodes (n ∷ ns)) (list : es ≡ keyed_order ns) (place : node_order (n ∷ ns) ≡ at_gap gap n.id (ids es))

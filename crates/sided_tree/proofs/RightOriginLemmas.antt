@@ -7,7 +7,7 @@ use Rattle.fugue_ids.proofs.IdentifierLemmas.{cases_id, eq-id_eq, ne-id_eq}
 use Rattle.origin_model.specs.sides.Node.{AreNodes, as_op, as_ops, find_node, has_node, has_origin, node_order}
 use Rattle.origin_model.specs.operations.History.{holder, right_of}
 use Rattle.origin_model.specs.order.Order.{right_at}
-use Rattle.origin_model.specs.declared.sides.node.Node.{Node}
+use Rattle.origin_model.specs.declared.operations.node.Node.{Node}
 use Rattle.origin_model.proofs.SharedLemmas.{holder-nodes, nodes_listed, op_of}
 use Rattle.fugue_ids.specs.Listed.{HoldsOrigin}
 

@@ -1,6 +1,6 @@
 ghost use Rattle.std.specs.Prelude.{◌≡◌, List, [], ◌∷◌};
 ghost use Rattle.std.specs.Borrow.{ftrue};
-ghost use Rattle.origin_model.specs.declared.sides.node.Node.{Node};
+ghost use Rattle.origin_model.specs.declared.operations.node.Node.{Node};
 ghost use Rattle.origin_model.specs.sides.Detached.{without};
 
 use fugue_ids::ElementId;

@@ -24,7 +24,7 @@ pub(crate) struct Nodes {
 
 impl Model for Nodes {
     ghost use Rattle.std.specs.Prelude.{List};
-    ghost use Rattle.origin_model.specs.declared.sides.node.Node.{Node};
+    ghost use Rattle.origin_model.specs.declared.operations.node.Node.{Node};
     ghost use Rattle.sided_tree.specs.Nodes.{IsNodeMap};
 
     ghost Value = { List Node };

@@ -31,7 +31,7 @@ pub struct SidedTree {
 impl Model for SidedTree {
     ghost use Rattle.std.specs.Prelude.{List};
     ghost use Rattle.origin_model.specs.sides.Node.{AreNodes};
-    ghost use Rattle.origin_model.specs.declared.sides.node.Node.{Node};
+    ghost use Rattle.origin_model.specs.declared.operations.node.Node.{Node};
 
     ghost Value = { List Node };
 

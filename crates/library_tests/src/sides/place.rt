@@ -21,7 +21,7 @@ pub struct Place {
 impl Model for Place {
     ghost use Rattle.std.specs.Prelude.{◌≡◌, List};
     ghost use Rattle.origin_model.specs.sides.Keys.{keyed_order};
-    ghost use Rattle.origin_model.specs.declared.sides.node.Node.{Node};
+    ghost use Rattle.origin_model.specs.declared.operations.node.Node.{Node};
 
     ghost Value = { List Node };
 

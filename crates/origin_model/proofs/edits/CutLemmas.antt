@@ -1,8 +1,9 @@
 -- Deletes of shown elements: each is Ready in its turn, no order changes, and what is shown loses exactly these elements.
-use Rattle.origin_model.proofs.Words.{All-contains, All-weaker, Bool, Contains, Delete, Identifier, IsIn, Lawful, List, None, Op, Option, Place, Ready, Section, Some, Text, [], all_from_contains, all_pairs_head, all_pairs_tail, ap, append-nil, arith, catalogue, cond, contains_filter_from, contains_middle, drop, element_of, false, filter, holder, id_eq, id_eq-refl, id_eq-true, is_hidden, ne-id_eq, not, not_some, order, refl, shown, slice_get, subst, suc, sym, take, take-append-drop, true, verdict, within, ℕ, ◌++◌, ◌+◌, ◌||◌, ◌∙◌, ◌∷◌, ◌≡◌, ◌≢◌}
+use Rattle.origin_model.proofs.Words.{All-contains, All-weaker, Bool, Contains, Delete, Identifier, IsIn, Lawful, List, None, Op, Option, Place, Ready, Some, [], all_from_contains, all_pairs_head, all_pairs_tail, ap, append-nil, arith, catalogue, cond, contains_filter_from, contains_middle, drop, element_of, false, filter, holder, id_eq, id_eq-refl, is_hidden, ne-id_eq, not, order, refl, shown, slice_get, subst, suc, sym, take, take-append-drop, true, verdict, within, ℕ, ◌++◌, ◌+◌, ◌||◌, ◌∙◌, ◌∷◌, ◌≡◌, ◌≢◌}
 use Rattle.std.proofs.lemmas.List.{drop-drop}
+use Rattle.origin_model.proofs.operations.ElementLemmas.{one_place}
 use Rattle.origin_model.proofs.operations.FoundedLemmas.{shown_can_go}
-use Rattle.origin_model.proofs.order.{IsIn-held, filter_no, filter_yes, in_section, order-member, order-none, order_total}
+use Rattle.origin_model.proofs.order.{IsIn-held, filter_no, filter_yes, order-member, order-none, order_total}
 use Rattle.origin_model.specs.edits.Edits.{Cut, DropSection, IsEdit, ReadyInTurn, cut_in, deletes_of, extended, made}
 use Rattle.origin_model.proofs.edits.SplitLemmas.{Distinct, is_shown, filter_all, get_split, not_yes}
 use Rattle.std.proofs.lemmas.List.Kept.{AllPairs-filter}
@@ -32,24 +33,6 @@ filter_out (y ∷ a) c x d =
     let apart : y ≢ x = All-contains (λ z. y ≢ z) (a ++ x ∷ c) x (all_pairs_head (λ y z. y ≢ z) y (a ++ x ∷ c) d) (contains_middle a x c) in
     filter_yes (but x) y (a ++ x ∷ c) (ap not (ne-id_eq x y (λ e. apart (sym e)))) ∙ ap (λ z. y ∷ z) (filter_out a c x (all_pairs_tail (λ y z. y ≢ z) y (a ++ x ∷ c) d))
 
--- a Delete is no element
-delete_none : (q : Place) (x : Identifier) → element_of q (Delete x) ≡ None
-delete_none catalogue x = refl
-delete_none (within s) x = refl
-
--- an element stands in one place
-one_place : (p q : Place) (op : Op) (x y : Identifier) → element_of p op ≡ Some x → element_of q op ≡ Some y → q ≡ p
-one_place catalogue catalogue op x y e f = refl
-one_place catalogue (within t) (Section i l r c) x y e f = absurd (not_some y (sym f))
-one_place catalogue (within t) (Text i s l r c) x y e f = absurd (not_some x (sym e))
-one_place catalogue (within t) (Delete i) x y e f = absurd (not_some x (sym e))
-one_place (within t) catalogue (Section i l r c) x y e f = absurd (not_some x (sym e))
-one_place (within t) catalogue (Text i s l r c) x y e f = absurd (not_some y (sym f))
-one_place (within t) catalogue (Delete i) x y e f = absurd (not_some x (sym e))
-one_place (within t) (within u) (Section i l r c) x y e f = absurd (not_some x (sym e))
-one_place (within t) (within u) (Text i s l r c) x y e f = ap within (sym (id_eq-true s u (in_section u i s y f)) ∙ id_eq-true s t (in_section t i s x e))
-one_place (within t) (within u) (Delete i) x y e f = absurd (not_some x (sym e))
-
 -- a look-up finds one operation
 same_op : (o : Option Op) (a b : Op) → o ≡ Some a → o ≡ Some b → b ≡ a
 same_op o a b e f = cc (e, f)
@@ -60,7 +43,7 @@ shown_distinct p h w = AllPairs-filter (λ x y. x ≢ y) (is_shown h) (order p h
 
 -- a Delete hides its target
 shown_without : (q : Place) (x : Identifier) (h : List Op) → shown q (Delete x ∷ h) ≡ filter (but x) (shown q h)
-shown_without q x h = ap (filter (is_shown (Delete x ∷ h))) (order-none q (Delete x) h (delete_none q x)) ∙ filter_two (id_eq x) (is_hidden h) (order q h)
+shown_without q x h = ap (filter (is_shown (Delete x ∷ h))) (order-none q (Delete x) h refl) ∙ filter_two (id_eq x) (is_hidden h) (order q h)
 
 -- what Deletes do
 record Taken (p : Place) (h ops : List Op) (left : List Identifier) : Type 0 where
@@ -89,7 +72,7 @@ taking (x ∷ xs) p h a b w e =
     record {
       ready = (ready, rest.ready);
       lawful = rest.lawful;
-      orders = λ q. rest.orders q ∙ order-none q (Delete x) h (delete_none q x);
+      orders = λ q. rest.orders q ∙ order-none q (Delete x) h refl;
       here = rest.here;
       elsewhere = λ q n. rest.elsewhere q n ∙ shown_without q x h
           ∙ filter_all (but x) (shown q h) (all_from_contains (λ y. not (id_eq x y) ≡ true) (shown q h) (λ y m. not_there p q h x y w n there.0 m));

@@ -3,7 +3,8 @@ use Rattle.origin_model.proofs.Words.{All, All-contains, All-head, All-tail, Boo
 use Rattle.std.specs.Prelude.{IfSome}
 use Rattle.origin_model.specs.declared.sides.slot.Slot.TheVariants.{RightOf}
 use Rattle.origin_model.proofs.order.{IsIn-held, before_in-irrefl, before_in-trans, chain-ends, chain-other, chain-own, chain_above, chain_before-fork, chain_before-same, common, first_of, front_before, has_left-at, has_left_by, last_of, left_by, lefts-above, lefts-in, lefts-prefix, never_none, no_member, order-has, order-in, order-ordered, order-some, order_total, parts, placed-behind, placed-first, same_chain, stay_ordered}
-use Rattle.origin_model.proofs.operations.LookupLemmas.{IsHeld, element_own, held_not_own, left_named, when_ready}
+use Rattle.origin_model.proofs.operations.LookupLemmas.{IsHeld, held_not_own, left_named, when_ready}
+use Rattle.origin_model.proofs.operations.ElementLemmas.{element_own}
 use Rattle.origin_model.proofs.sides.SlotLemmas.{IsThere, left_from, there}
 use Rattle.origin_model.specs.edits.Landing.{LandsBehind, LandsBehindOrigin, end_of, following, head_of}
 use Rattle.origin_model.proofs.edits.SplitLemmas.{Distinct, end_none, end_push, end_split, following_end, head_none, head_split}

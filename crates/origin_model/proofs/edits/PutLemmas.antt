@@ -1,7 +1,8 @@
 -- Elements of a put, and a section that is added: each is Ready in its turn, and they land directly behind the left origin, in the order in which they are made.
-use Rattle.origin_model.proofs.Words.{All-append, names, All, All-cons, All-nil, AllPairs, Bool, Delete, Identifier, IsIn, Lawful, List, None, Op, Option, Place, Ready, Role, Section, SectionRole, Some, Text, TextOf, [], ap, append-nil, append_assoc, arith, cases_Bool, catalogue, contains_filter_from, drop, element_of, false, false_from_ne_true, filter, filter-append, fits, given_as, has_op, holds, id_eq, id_eq-refl, id_eq-true, id_of, if◌then◌else◌, inl, inr, is_hidden, is_own, is_some, length, ne-id_eq, not, not_some, order, origin_eq, refl, shown, slice_get, subst, suc, sym, take, true, true≢false, verdict, within, ℕ, ◌++◌, ◌+◌, ◌∙◌, ◌∷◌, ◌≡◌, ◌≢◌, ◌≤◌}
+use Rattle.origin_model.proofs.Words.{All-append, names, All, All-cons, All-nil, AllPairs, Bool, Identifier, IsIn, Lawful, List, None, Op, Option, Place, Ready, Section, SectionRole, Some, Text, TextOf, [], ap, append-nil, append_assoc, arith, catalogue, contains_filter_from, drop, element_of, false, false_from_ne_true, filter, filter-append, given_as, has_op, holds, id_eq-refl, id_of, if◌then◌else◌, is_hidden, is_own, is_some, length, ne-id_eq, not, order, origin_eq, refl, shown, slice_get, subst, suc, sym, take, true, true≢false, verdict, within, ℕ, ◌++◌, ◌+◌, ◌∙◌, ◌∷◌, ◌≡◌, ◌≢◌, ◌≤◌}
 use Rattle.origin_model.proofs.operations.CauseLemmas.{becomes_ready}
 use Rattle.origin_model.proofs.operations.LookupLemmas.{Fits, all_fit, has-holder, holds-other, when_ready}
+use Rattle.origin_model.proofs.operations.ElementLemmas.{element_fits, none_elsewhere, role_in}
 use Rattle.origin_model.proofs.operations.FoundedLemmas.{not_hidden_before}
 use Rattle.origin_model.proofs.order.{IsIn-older, Stands, order-member, order-none, order_total}
 use Rattle.origin_model.specs.edits.Edits.{Add, IsEdit, Put, ReadyInTurn, extended, id_at, left_for, made, next_counter, put_in, right_for, typed, typed_ids}
@@ -10,24 +11,9 @@ use Rattle.origin_model.proofs.edits.FreshIdLemmas.{NoneFrom, history_below, non
 use Rattle.origin_model.proofs.edits.LandsBehindLemmas.{lands_behind}
 use Rattle.origin_model.proofs.edits.SplitLemmas.{is_shown, Split, end_push, end_stands, filter_all, following_end, get_in, head_stands, split, split_origin}
 
--- the role of the origins of a place's elements
-abbrev role_in : Place → Role
-role_in catalogue = SectionRole
-role_in (within s) = TextOf s
-
--- an element of the place has it
-fits_place : (p : Place) (op : Op) (x : Identifier) → element_of p op ≡ Some x → fits (role_in p) op ≡ true
-fits_place catalogue (Section i l r t) x e = refl
-fits_place (within s) (Text i q l r c) x e =
-    elim (id_eq q s) as (λ (b : Bool). (if b then Some i else None) ≡ Some x → b ≡ true) [ true ↦ (λ k. refl) | false ↦ (λ k. absurd (not_some x (sym k))) ] e
-fits_place catalogue (Text i s l r c) x e = absurd (not_some x (sym e))
-fits_place (within s) (Section i l r t) x e = absurd (not_some x (sym e))
-fits_place catalogue (Delete i) x e = absurd (not_some x (sym e))
-fits_place (within s) (Delete i) x e = absurd (not_some x (sym e))
-
 -- an element of the place fits
 one_fit : (p : Place) (h : List Op) (x : Identifier) → IsIn p h x → All (Fits h) ((x, role_in p) ∷ [])
-one_fit p h x m = All-cons (Fits h) (x, role_in p) [] (m.op, m.held, fits_place p m.op x m.place) (All-nil (Fits h))
+one_fit p h x m = All-cons (Fits h) (x, role_in p) [] (m.op, m.held, element_fits p m.op x m.place) (All-nil (Fits h))
 
 -- an origin that stands in the order fits
 origin_fit : (p : Place) (h : List Op) (o : Option Identifier) → Lawful h → Stands o (order p h) → All (Fits h) (given_as (role_in p) o)
@@ -65,20 +51,6 @@ record Landed (p : Place) (h ops : List Op) (ids front back : List Identifier) :
 text_here : (x s : Identifier) (l r : Option Identifier) (ch : ℕ) → element_of (within s) (Text x s l r ch) ≡ Some x
 text_here x s l r ch = ap (λ b. if b then Some x else None) (id_eq-refl s)
 
--- and of no other place
-text_only : (q : Place) (x s : Identifier) (l r : Option Identifier) (ch : ℕ) → q ≢ within s → element_of q (Text x s l r ch) ≡ None
-text_only catalogue x s l r ch n = refl
-text_only (within t) x s l r ch n =
-    elim (cases_Bool (id_eq s t)) [
-      | inl e ↦ absurd (n (ap within (sym (id_eq-true s t e))))
-      | inr e ↦ ap (λ b. if b then Some x else None) e
-    ]
-
--- a section is an element of the catalogue alone
-section_only : (q : Place) (x : Identifier) (l r : Option Identifier) (t : List ℕ) → q ≢ catalogue → element_of q (Section x l r t) ≡ None
-section_only catalogue x l r t n = absurd (n refl)
-section_only (within s) x l r t n = refl
-
 -- the next identifiers are new once one is taken
 none_next : (r c : ℕ) (h : List Op) (op : Op) → id_of op ≡ Some (id_at r c) → NoneFrom r c h → NoneFrom r (suc c) (op ∷ h)
 none_next r c h op e none n k =
@@ -107,7 +79,7 @@ typing (ch ∷ chs) r c s h left right front back w m none o a b =
       lawful = rest.lawful;
       after = rest.after ∙ ap (λ z. z ++ back) (append_assoc front (x ∷ []) (typed_ids r (suc c) chs));
       hidden = λ y. rest.hidden y;
-      elsewhere = λ q n. rest.elsewhere q n ∙ order-none q op h (text_only q x s left right ch n);
+      elsewhere = λ q n. rest.elsewhere q n ∙ order-none q op h (none_elsewhere p q op x (text_here x s left right ch) n);
     }
 
 -- new elements are shown, where their identifiers are new
@@ -200,5 +172,5 @@ add_lands r h w at title v l =
       lawful = (ready, v);
       after = lands_behind catalogue op h x z.front z.back (ready, v) refl z.whole a b ∙ sym (append_assoc z.front (x ∷ []) z.back);
       hidden = λ y. refl;
-      elsewhere = λ q n. order-none q op h (section_only q x left right title n);
+      elsewhere = λ q n. order-none q op h (none_elsewhere catalogue q op x refl n);
     })

@@ -1,13 +1,15 @@
 -- What operations rest on is in the history before them.
-use Rattle.origin_model.proofs.Words.{All-head, is_some, Delete, Identifier, IsIn, Lawful, List, Op, Option, Ready, Section, SectionRole, Some, Text, TextOf, [], ap, cases_origin, catalogue, deletes, element_of, false, false_from_ne_true, given_as, holder, holds, id_eq-true, id_held, id_of, inl, inr, is_hidden, or_cases, refl, subst, sym, true, true≢false, verdict, within, ℕ, ◌++◌, ◌∙◌, ◌∷◌, ◌≡◌}
+use Rattle.origin_model.proofs.Words.{All, All-head, is_some, Delete, Identifier, IsIn, Lawful, List, Op, Ready, SectionRole, Some, [], ap, cases_origin, catalogue, deletes, element_of, false, false_from_ne_true, holder, holds, id_eq-true, id_held, id_of, inl, inr, is_hidden, or_cases, refl, subst, sym, true, true≢false, verdict, within, ◌∙◌, ◌∷◌, ◌≡◌}
+use Rattle.origin_model.specs.operations.History.{place}
 use Rattle.origin_model.specs.sides.Node.{AreNodes, as_ops, find_node, node_order, nodes}
-use Rattle.origin_model.specs.declared.sides.node.Node.{Node}
+use Rattle.origin_model.specs.declared.operations.node.Node.{Node}
 use Rattle.origin_model.specs.declared.operations.role.Role.TheVariants.{Any}
 use Rattle.origin_model.proofs.operations.CauseLemmas.{becomes_ready, ready_absent}
-use Rattle.origin_model.proofs.operations.LookupLemmas.{Fits, IsHeld, found, holder_owns, holds-older, missing-held, own_id, ready_fits, stray-fits, when_ready}
+use Rattle.origin_model.proofs.operations.LookupLemmas.{Fits, IsHeld, element_ready, found, holder_owns, holds-older, missing-held, own_id, ready_fits, stray-fits, when_ready}
+use Rattle.origin_model.proofs.operations.ElementLemmas.{element_stands, element_there, fits_element, home_names}
 use Rattle.origin_model.proofs.sides.NodeHistoryLemmas.{holder-nodes, nodes-lawful, op_of}
 use Rattle.origin_model.proofs.sides.NodeOrderLemmas.{nodes-none}
-use Rattle.origin_model.proofs.order.{IsIn-held, hidden-has, in_section, none_is, order-same, section_fits}
+use Rattle.origin_model.proofs.order.{IsIn-held, hidden-has, order-same}
 
 -- nodes that no look-up can tell apart are histories within each other
 pub same_nodes_same_order : (a b : List Node) → AreNodes a → AreNodes b → ((x : Identifier) → find_node a x ≡ find_node b x) → node_order a ≡ node_order b
@@ -19,18 +21,13 @@ same_nodes_same_order a b v w s =
 pub ready_is_new : (h : List Op) (op : Op) (x : Identifier) → verdict h op ≡ Ready → id_of op ≡ Some x → holds h x ≡ false
 ready_is_new h op x e k = sym (ap (id_held h) k) ∙ (when_ready h op e).fresh
 
--- the section of a Ready Text is in the catalogue
-pub section_first : (h : List Op) (id section : Identifier) (left right : Option Identifier) (ch : ℕ) → verdict h (Text id section left right ch) ≡ Ready → IsIn catalogue h section
-section_first h id s left right ch e =
-    let origins : List _ = given_as (TextOf s) left ++ given_as (TextOf s) right in
-    let f = All-head (Fits h) (s, SectionRole) origins (ready_fits h (Text id s left right ch) (when_ready h (Text id s left right ch) e)) in
-    record { op = f.0; held = f.1; place = section_fits f.0 f.2 ∙ own_id f.0 s (holder_owns h s f.0 f.1) }
-
 -- the section of a Ready element is in the catalogue
-element_section : (h : List Op) (s : Identifier) (op : Op) (x : Identifier) → verdict h op ≡ Ready → element_of (within s) op ≡ Some x → IsIn catalogue h s
-element_section h s (Section i l r t) x e k = none_is _ x k
-element_section h s (Text i q l r c) x e k = subst (IsIn catalogue h) (id_eq-true q s (in_section s i q x k)) (section_first h i q l r c e)
-element_section h s (Delete i) x e k = none_is _ x k
+pub section_first : (h : List Op) (op : Op) (s : Identifier) → verdict h op ≡ Ready → place op ≡ Some (within s) → IsIn catalogue h s
+section_first h op s e k =
+    let n = element_there op (within s) k in
+    let home = element_ready h op n.0 (when_ready h op e) n.1 in
+    let f = All-head (Fits h) (s, SectionRole) [] (subst (λ p. All (Fits h) (home_names p)) n.2 home.home) in
+    record { op = f.0; held = f.1; place = fits_element catalogue f.0 f.2 ∙ own_id f.0 s (holder_owns h s f.0 f.1) }
 
 -- what a longer history does not hold, an older one does not hold
 not-older : (op : Op) (h : List Op) (x : Identifier) → holds (op ∷ h) x ≡ false → holds h x ≡ false
@@ -42,7 +39,7 @@ no_text_before [] s w k = refl
 no_text_before (op ∷ h) s w k =
     elim (cases_origin (element_of (within s) op)) [
       | inl e ↦ nodes-none (within s) op h e ∙ no_text_before h s w.1 (not-older op h s k)
-      | inr e ↦ absurd (true≢false (sym (IsIn-held catalogue h s (element_section h s op e.0 w.0 e.1)) ∙ not-older op h s k))
+      | inr e ↦ absurd (true≢false (sym (IsIn-held catalogue h s (section_first h op s w.0 (element_stands (within s) op e.0 e.1).0)) ∙ not-older op h s k))
     ]
 
 -- the target of a Ready Delete is held
@@ -51,8 +48,7 @@ target_named h x e = ap is_some (All-head (Fits h) (x, Any) [] (ready_fits h (De
 
 target_held : (h : List Op) (op : Op) (x : Identifier) → verdict h op ≡ Ready → deletes x op ≡ true → IsHeld h x
 target_held h (Delete i) x e k = subst (IsHeld h) (id_eq-true i x k) (target_named h i e)
-target_held h (Section i l r t) x e k = absurd (true≢false (sym k))
-target_held h (Text i q l r c) x e k = absurd (true≢false (sym k))
+target_held h _ x e k = absurd (true≢false (sym k))
 
 -- what is not held is not hidden
 pub not_hidden_before : (h : List Op) (x : Identifier) → Lawful h → holds h x ≡ false → is_hidden h x ≡ false

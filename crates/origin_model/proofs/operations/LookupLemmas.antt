@@ -1,19 +1,14 @@
 -- What a look-up in a history finds, and what one more operation changes in it; what a Ready operation names is held and fits.
-use Rattle.origin_model.proofs.Words.{All, All-cons, All-head, All-nil, All-tail, Bool, Delete, Identifier, Lawful, List, None, Op, Option, Place, Ready, Role, Section, SectionRole, Some, Text, TextOf, [], all_before, all_behind, ap, cases_Bool, catalogue, element_of, false, false_from_ne_true, false≢true, first_line, first_missing, first_stray, fits, given_as, has_op, holder, holds, id_eq, id_held, id_of, if◌then◌else◌, inl, inr, is_own, is_some, left_of, names, not_some, older_of, op_eq, op_eq-refl, op_eq-true, or_cases, or_left, or_right, origin_eq-true, refl, reverse, reverse-append, right_at, right_of, subst, sym, true, true≢false, verdict, within, ◌++◌, ◌||◌, ◌∙◌, ◌∷◌, ◌≡◌, ◌⊎◌}
-use Rattle.fugue_ids.proofs.IdentifierLemmas.{same_some}
+use Rattle.origin_model.proofs.Words.{All, All-cons, All-head, All-nil, All-tail, Bool, Identifier, Lawful, List, None, Op, Option, Place, Ready, Role, Some, [], all_before, all_behind, ap, cases_Bool, false, false_from_ne_true, false≢true, first_line, first_missing, first_stray, fits, given_as, has_op, holder, holds, id_held, id_of, if◌then◌else◌, inl, inr, is_own, is_some, left_of, names, not_some, older_of, op_eq, op_eq-refl, op_eq-true, or_cases, or_left, or_right, origin_eq-true, refl, reverse, reverse-append, right_at, right_of, subst, sym, true, true≢false, verdict, ◌++◌, ◌||◌, ◌∙◌, ◌∷◌, ◌≡◌, ◌⊎◌}
+use Rattle.origin_model.specs.declared.operations.node.Node.{Node}
+use Rattle.origin_model.specs.operations.History.{element, place}
+use Rattle.origin_model.proofs.operations.ElementLemmas.{element_names, home_names, role_in}
 use Rattle.origin_model.specs.declared.operations.role.Role.TheVariants.{Any}
 use Rattle.std.specs.Option.{option_or}
 
 -- an identifier that is the operation's own, as an equation
 pub own_id : (op : Op) (x : Identifier) → is_own x op ≡ true → id_of op ≡ Some x
 own_id op x = origin_eq-true (id_of op) (Some x)
-
--- the element of an operation has the operation's own identifier
-pub element_own : (p : Place) (op : Op) (x : Identifier) → element_of p op ≡ Some x → is_own x op ≡ true
-element_own catalogue (Section i l r t) x e = same_some i x e
-element_own (within p) (Text i s l r c) x e =
-    (elim (id_eq s p) as (λ b. (if b then Some i else None) ≡ Some x → id_eq i x ≡ true) [ true ↦ same_some i x | false ↦ (λ k. absurd (not_some x (sym k))) ]) e
-element_own _ _ x e = absurd (not_some x (sym e))
 
 -- the newest operation is found by its own identifier
 pub holder-own : (op : Op) (older : List Op) (i : Identifier) → is_own i op ≡ true → holder (op ∷ older) i ≡ Some op
@@ -119,39 +114,30 @@ all_fit h (n ∷ ns) f =
     let rest = all_fit h ns (All-tail (Fits h) n ns f) in
     (stray-fits h n ns o.0 o.1 o.2 ∙ rest.0, missing-held h n ns o.0 o.1 ∙ rest.1)
 
--- the first that does not fit, of names in two parts
-pub first_stray-append : (h : List Op) (xs ys : List (Identifier × Role)) → first_stray h (xs ++ ys) ≡ option_or (first_stray h xs) (first_stray h ys)
-first_stray-append h [] ys = refl
-first_stray-append h (n ∷ ns) ys =
-    elim (holder h n.0) as (λ o.
-    (elim o [ None ↦ first_stray h (ns ++ ys) | Some op ↦ if fits n.1 op then first_stray h (ns ++ ys) else Some n.0 ])
-    ≡ option_or (elim o [ None ↦ first_stray h ns | Some op ↦ if fits n.1 op then first_stray h ns else Some n.0 ]) (first_stray h ys)) [
-      | None ↦ first_stray-append h ns ys
-      | Some op ↦ elim (fits n.1 op) as (λ b.
-          (if b then first_stray h (ns ++ ys) else Some n.0)
-          ≡ option_or (if b then first_stray h ns else Some n.0) (first_stray h ys)) [
-            | true ↦ first_stray-append h ns ys
+-- the first that does not fit, of one name more
+pub stray-push : (h : List Op) (ns : List (Identifier × Role)) (n : Identifier × Role) → first_stray h (ns ++ n ∷ []) ≡ option_or (first_stray h ns) (first_stray h (n ∷ []))
+stray-push h [] n = refl
+stray-push h (m ∷ ns) n =
+    elim (holder h m.0) as (λ o.
+    (elim o [ None ↦ first_stray h (ns ++ n ∷ []) | Some op ↦ if fits m.1 op then first_stray h (ns ++ n ∷ []) else Some m.0 ])
+    ≡ option_or (elim o [ None ↦ first_stray h ns | Some op ↦ if fits m.1 op then first_stray h ns else Some m.0 ]) (first_stray h (n ∷ []))) [
+      | None ↦ stray-push h ns n
+      | Some op ↦ elim (fits m.1 op) as (λ b.
+          (if b then first_stray h (ns ++ n ∷ []) else Some m.0) ≡ option_or (if b then first_stray h ns else Some m.0) (first_stray h (n ∷ []))) [
+            | true ↦ stray-push h ns n
             | false ↦ refl
           ]
     ]
 
--- the first that is not held, of names in two parts
-pub first_missing-append : (h : List Op) (xs ys : List (Identifier × Role)) → first_missing h (xs ++ ys) ≡ option_or (first_missing h xs) (first_missing h ys)
-first_missing-append h [] ys = refl
-first_missing-append h (n ∷ ns) ys =
-    elim (holder h n.0) as (λ o.
-    (elim o [ None ↦ Some n.0 | Some op ↦ first_missing h (ns ++ ys) ])
-    ≡ option_or (elim o [ None ↦ Some n.0 | Some op ↦ first_missing h ns ]) (first_missing h ys)) [
+-- the first that is not held, of one name more
+pub missing-push : (h : List Op) (ns : List (Identifier × Role)) (n : Identifier × Role) → first_missing h (ns ++ n ∷ []) ≡ option_or (first_missing h ns) (first_missing h (n ∷ []))
+missing-push h [] n = refl
+missing-push h (m ∷ ns) n =
+    elim (holder h m.0) as (λ o.
+    (elim o [ None ↦ Some m.0 | Some op ↦ first_missing h (ns ++ n ∷ []) ]) ≡ option_or (elim o [ None ↦ Some m.0 | Some op ↦ first_missing h ns ]) (first_missing h (n ∷ []))) [
       | None ↦ refl
-      | Some op ↦ first_missing-append h ns ys
+      | Some op ↦ missing-push h ns n
     ]
-
--- of names in three parts
-pub stray_of_three : (h : List Op) (a b c : List (Identifier × Role)) → first_stray h (a ++ b ++ c) ≡ option_or (option_or (first_stray h a) (first_stray h b)) (first_stray h c)
-stray_of_three h a b c = first_stray-append h (a ++ b) c ∙ ap (λ o. option_or o (first_stray h c)) (first_stray-append h a b)
-
-pub missing_of_three : (h : List Op) (a b c : List (Identifier × Role)) → first_missing h (a ++ b ++ c) ≡ option_or (option_or (first_missing h a) (first_missing h b)) (first_missing h c)
-missing_of_three h a b c = first_missing-append h (a ++ b) c ∙ ap (λ o. option_or o (first_missing h c)) (first_missing-append h a b)
 
 -- the operation and its identifier are new, and no named one is missing or does not fit
 pub record IsReady (older : List Op) (op : Op) : Type 0 where
@@ -175,33 +161,59 @@ when_ready older op h =
     let r = ready_line (has_op older op) (id_held older (id_of op)) (first_stray older (names op)) (first_missing older (names op)) h in
     record { absent = r.0; fresh = r.1; none_stray = r.2; none_missing = r.3 }
 
--- the role in which an operation names its origins
+-- the role in which an operation names its origins, by where it stands
+abbrev pub role_by : Option Place → Role
+role_by o = elim o [ None ↦ Any | Some p ↦ role_in p ]
+
 abbrev pub origin_role : Op → Role
-origin_role (Section i left right t) = SectionRole
-origin_role (Text i s left right c) = TextOf s
-origin_role (Delete i) = Any
+origin_role op = role_by (place op)
+
+abbrev place_by : Option (Place × Node) → Option Place
+place_by o = elim o [ None ↦ None | Some e ↦ Some e.0 ]
 
 -- what a Ready operation names is held and fits
 pub ready_fits : (h : List Op) (op : Op) → IsReady h op → All (Fits h) (names op)
 ready_fits h op w = fit_each h (names op) w.none_stray w.none_missing
 
+-- so is what its element names
+pub record ElementFits (h : List Op) (e : Place × Node) : Type 0 where
+  pub home : All (Fits h) (home_names e.0)
+  pub left : All (Fits h) (given_as (role_in e.0) e.1.left)
+  pub right : All (Fits h) (given_as (role_in e.0) e.1.right)
+
+pub element_ready : (h : List Op) (op : Op) (e : Place × Node) → IsReady h op → element op ≡ Some e → ElementFits h e
+element_ready h op e w k =
+    let lefts : List (Identifier × Role) = given_as (role_in e.0) e.1.left in
+    let rights : List (Identifier × Role) = given_as (role_in e.0) e.1.right in
+    let all : All (Fits h) (home_names e.0 ++ lefts ++ rights) = subst (All (Fits h)) (element_names op e k) (ready_fits h op w) in
+    let front : All (Fits h) (home_names e.0 ++ lefts) = all_before (Fits h) (home_names e.0 ++ lefts) rights all in
+    record {
+      home = all_before (Fits h) (home_names e.0) lefts front;
+      left = all_behind (Fits h) (home_names e.0) lefts front;
+      right = all_behind (Fits h) (home_names e.0 ++ lefts) rights all;
+    }
+
 -- an origin among them
 origin_fits : (h : List Op) (role : Role) (o : Option Identifier) (i : Identifier) → All (Fits h) (given_as role o) → o ≡ Some i → Fits h (i, role)
 origin_fits h role o i f e = All-head (Fits h) (i, role) [] (subst (λ o. All (Fits h) (given_as role o)) e f)
 
--- so is its left origin
+-- its left origin
 pub left_fits : (h : List Op) (op : Op) (l : Identifier) → IsReady h op → left_of op ≡ Some l → Fits h (l, origin_role op)
-left_fits h (Section i left right t) l w e = origin_fits h SectionRole left l (all_before (Fits h) (given_as SectionRole left) (given_as SectionRole right) (ready_fits h (Section i left right t) w)) e
-left_fits h (Text i s left right c) l w e =
-    let all = all_before (Fits h) ((s, SectionRole) ∷ given_as (TextOf s) left) (given_as (TextOf s) right) (ready_fits h (Text i s left right c) w) in
-    origin_fits h (TextOf s) left l (All-tail (Fits h) (s, SectionRole) (given_as (TextOf s) left) all) e
-left_fits h (Delete i) l w e = cc
+left_fits h op l w e = by_element (element op) refl e
+  where
+    by_element : (o : Option (Place × Node)) → element op ≡ o → (elim o [ None ↦ None | Some e ↦ e.1.left ]) ≡ Some l
+        → Fits h (l, role_by (place_by o))
+    by_element None k e = cc e
+    by_element (Some n) k e = origin_fits h (role_in n.0) n.1.left l (element_ready h op n w k).left e
 
 -- and its right origin
 pub right_fits : (h : List Op) (op : Op) (r : Identifier) → IsReady h op → right_of op ≡ Some r → Fits h (r, origin_role op)
-right_fits h (Section i left right t) r w e = origin_fits h SectionRole right r (all_behind (Fits h) (given_as SectionRole left) (given_as SectionRole right) (ready_fits h (Section i left right t) w)) e
-right_fits h (Text i s left right c) r w e = origin_fits h (TextOf s) right r (all_behind (Fits h) ((s, SectionRole) ∷ given_as (TextOf s) left) (given_as (TextOf s) right) (ready_fits h (Text i s left right c) w)) e
-right_fits h (Delete i) r w e = cc
+right_fits h op r w e = by_element (element op) refl e
+  where
+    by_element : (o : Option (Place × Node)) → element op ≡ o → (elim o [ None ↦ None | Some e ↦ e.1.right ]) ≡ Some r
+        → Fits h (r, role_by (place_by o))
+    by_element None k e = cc e
+    by_element (Some n) k e = origin_fits h (role_in n.0) n.1.right r (element_ready h op n w k).right e
 
 -- its origins are held
 pub left_named : (h : List Op) (op : Op) (l : Identifier) → IsReady h op → left_of op ≡ Some l → IsHeld h l

@@ -1,11 +1,12 @@
 -- One list of the elements of all places, and one more element in it.
-use Rattle.origin_model.proofs.Words.{Option, Bool, Delete, Identifier, List, None, Op, Place, Section, Some, Text, [], ap, arith, before_in, cases_Bool, catalogue, count_by, drop, drop_more, element_of, false, false≢true, get_or, id_eq-true, if◌then◌else◌, inl, inr, insert, length, length-append, min, older_of, order, place_eq, placed, refl, reverse, reverse-append, slice_get, sym, take, take-append-drop, true, within, ℕ, ◌++◌, ◌+◌, ◌-◌, ◌<◌, ◌∙◌, ◌∷◌, ◌≡◌}
+use Rattle.origin_model.proofs.Words.{Option, Bool, Identifier, List, None, Op, Place, Some, [], ap, arith, before_in, cases_Bool, count_by, drop, drop_more, element_of, false, get_or, id_of, if◌then◌else◌, inl, inr, insert, length, length-append, min, older_of, order, place_eq, placed, refl, reverse, reverse-append, slice_get, sym, take, take-append-drop, true, ℕ, ◌++◌, ◌+◌, ◌-◌, ◌<◌, ◌∙◌, ◌∷◌, ◌≡◌}
 use Rattle.std.proofs.lemmas.List.{take_more, take_at, drop_at}
-use Rattle.origin_model.specs.order.Listed.{stands_in}
+use Rattle.origin_model.specs.declared.operations.node.Node.{Node}
+use Rattle.origin_model.specs.operations.History.{element, stands_at}
+use Rattle.origin_model.proofs.operations.ElementLemmas.{element_id, place_eq-true}
 use Rattle.origin_model.specs.order.Listed.{elements_at, ListsAll}
 use Rattle.origin_model.specs.declared.order.listed.Listed.{Listed}
 use Rattle.origin_model.proofs.order.OrderLemmas.{order-none, order-some}
-use Rattle.std.proofs.lemmas.List.Sums.{count_by-le-length}
 use Rattle.std.proofs.lemmas.List.Sums.{count_by-le-length}
 
 at-yes : (p : Place) (e : Listed) (es : List Listed) → place_eq e.place p ≡ true → elements_at p (e ∷ es) ≡ e.id ∷ elements_at p es
@@ -56,33 +57,25 @@ newest_is (x ∷ xs) op e =
     let a : reverse (x ∷ xs) ≡ op ∷ reverse r.0 = ap reverse r.1 ∙ reverse-append r.0 (op ∷ []) in
     a ∙ ap (λ z. op ∷ older_of z) (sym a)
 
--- an operation's element, by where it stands
-abbrev element_by : Place → Option (Place × Identifier) → Option Identifier
-element_by p o = elim o [ None ↦ None | Some e ↦ if place_eq e.0 p then Some e.1 else None ]
+abbrev place_by : Option (Place × Node) → Option Place
+place_by o = elim o [ None ↦ None | Some e ↦ Some e.0 ]
 
-element-by : (p : Place) (op : Op) → element_of p op ≡ element_by p (stands_in op)
-element-by catalogue (Section i l r t) = refl
-element-by catalogue (Text i s l r c) = refl
-element-by catalogue (Delete i) = refl
-element-by (within p) (Section i l r t) = refl
-element-by (within p) (Text i s l r c) = refl
-element-by (within p) (Delete i) = refl
+abbrev stands_by : Place → Option (Place × Node) → Bool
+stands_by p o = elim (place_by o) [ None ↦ false | Some q ↦ place_eq q p ]
 
-element-at : (p q : Place) (op : Op) (x : Identifier) (b : Bool) → stands_in op ≡ Some (q, x) → place_eq q p ≡ b → element_of p op ≡ (if b then Some x else None)
-element-at p q op x b e h = element-by p op ∙ ap (element_by p) e ∙ ap (λ b. if b then Some x else None) h
+-- whether an element adds to a place, by where it stands
+element-at : (p : Place) (op : Op) (e : Place × Node) (b : Bool) → element op ≡ Some e → place_eq e.0 p ≡ b → element_of p op ≡ (if b then Some e.1.id else None)
+element-at p op e b k h =
+    let stands : stands_at p op ≡ b = ap (stands_by p) k ∙ h in
+    (λ i. if stands i then element_id op e k i else None)
 
-place_eq-true : (q p : Place) → place_eq q p ≡ true → q ≡ p
-place_eq-true catalogue catalogue h = refl
-place_eq-true catalogue (within t) h = absurd (false≢true h)
-place_eq-true (within s) catalogue h = absurd (false≢true h)
-place_eq-true (within s) (within t) h = ap within (id_eq-true s t h)
-
-pub listed-newest : (op : Op) (older : List Op) (listed : List Listed) (q : Place) (x : Identifier) (count i : ℕ)
-    → stands_in op ≡ Some (q, x) → ListsAll older listed
-    → count ≡ count_by (λ e. before_in (elements_at q listed) (op ∷ older) e x) (elements_at q listed)
+listed-newest : (op : Op) (older : List Op) (listed : List Listed) (q : Place) (n : Node) (count i : ℕ)
+    → element op ≡ Some (q, n) → ListsAll older listed
+    → count ≡ count_by (λ e. before_in (elements_at q listed) (op ∷ older) e n.id) (elements_at q listed)
     → length (elements_at q (take i listed)) ≡ min count (length (elements_at q listed))
-    → ListsAll (op ∷ older) (insert listed i (record { place = q; id = x }))
-listed-newest op older listed q x count i e f c l p =
+    → ListsAll (op ∷ older) (insert listed i (record { place = q; id = n.id }))
+listed-newest op older listed q node count i e f c l p =
+    let x : Identifier = node.id in
     let new : Listed = record { place = q; id = x } in
     let a : List Identifier = elements_at p (take i listed) in
     let b : List Identifier = elements_at p (drop i listed) in
@@ -101,28 +94,28 @@ listed-newest op older listed q x count i e f c l p =
           ∙ ap (λ z. a ++ z) (at-yes p new (drop i listed) h)
           ∙ (λ j. sym first j ++ x ∷ sym second j)
           ∙ ap (λ z. placed (λ w. before_in z (op ∷ older) w x) z x) (f p)
-          ∙ sym (order-some p op older x (element-at p q op x true e h))
+          ∙ sym (order-some p op older x (element-at p op (q, node) true e h))
       | inr h ↦
           elements_at-append p (take i listed) (new ∷ drop i listed)
           ∙ ap (λ z. a ++ z) (at-no p new (drop i listed) h)
-          ∙ sym whole ∙ f p ∙ sym (order-none p op older (element-at p q op x false e h))
+          ∙ sym whole ∙ f p ∙ sym (order-none p op older (element-at p op (q, node) false e h))
     ]
 
 pub ruleset end_steps = (taken_yes, taken_no, left_yes, left_no)
 
-pub listed-kept : (ops : List Op) (op : Op) (listed : List Listed) → slice_get ops (length ops - 1) ≡ Some op → stands_in op ≡ None → ListsAll (older_of (reverse ops)) listed → ListsAll (reverse ops) listed
+pub listed-kept : (ops : List Op) (op : Op) (listed : List Listed) → slice_get ops (length ops - 1) ≡ Some op → element op ≡ None → ListsAll (older_of (reverse ops)) listed → ListsAll (reverse ops) listed
 listed-kept ops op listed e n f p =
-    f p ∙ sym (order-none p op (older_of (reverse ops)) (element-by p op ∙ ap (element_by p) n)) ∙ ap (order p) (sym (newest_is ops op e))
+    f p ∙ sym (order-none p op (older_of (reverse ops)) (ap (λ b. if b then id_of op else None) (ap (stands_by p) n))) ∙ ap (order p) (sym (newest_is ops op e))
 
-pub listed-found : (ops : List Op) (op : Op) (old new : List Listed) (q : Place) (x : Identifier) (finished : List Identifier) (count i : ℕ)
-    → slice_get ops (length ops - 1) ≡ Some op → stands_in op ≡ Some (q, x) → ListsAll (older_of (reverse ops)) old
+pub listed-found : (ops : List Op) (op : Op) (old new : List Listed) (q : Place) (n : Node) (finished : List Identifier) (count i : ℕ)
+    → slice_get ops (length ops - 1) ≡ Some op → element op ≡ Some (q, n) → ListsAll (older_of (reverse ops)) old
     → finished ≡ elements_at q old
-    → count ≡ count_by (λ e. before_in finished (reverse ops) e x) finished
+    → count ≡ count_by (λ e. before_in finished (reverse ops) e n.id) finished
     → length (elements_at q (take i old)) ≡ min count (length (elements_at q old))
-    → new ≡ insert old i (record { place = q; id = x })
+    → new ≡ insert old i (record { place = q; id = n.id })
     → ListsAll (reverse ops) new
-listed-found ops op old new q x finished count i e s f g c l n p =
+listed-found ops op old new q n finished count i e s f g c l put p =
     let h : reverse ops ≡ op ∷ older_of (reverse ops) = newest_is ops op e in
-    let d : count ≡ count_by (λ w. before_in (elements_at q old) (op ∷ older_of (reverse ops)) w x) (elements_at q old) =
-    c ∙ (λ j. count_by (λ w. before_in (g j) (h j) w x) (g j)) in
-    ap (elements_at p) n ∙ listed-newest op (older_of (reverse ops)) old q x count i s f d l p ∙ ap (order p) (sym h)
+    let d : count ≡ count_by (λ w. before_in (elements_at q old) (op ∷ older_of (reverse ops)) w n.id) (elements_at q old) =
+    c ∙ (λ j. count_by (λ w. before_in (g j) (h j) w n.id) (g j)) in
+    ap (elements_at p) put ∙ listed-newest op (older_of (reverse ops)) old q n count i s f d l p ∙ ap (order p) (sym h)

@@ -1,7 +1,8 @@
 -- The order of a place: it agrees with the comparison of elements, older elements keep theirs as the history grows, and the order has exactly the elements of the place, whose origins and chains are of the same place.
-use Rattle.origin_model.proofs.Words.{All, All-contains, All-nil, All-push, All-weaker, Bool, Contains, Delete, Identifier, IsIn, IsOrderedBy, Lawful, List, None, Op, Option, Place, Section, SectionRole, Some, Text, TextOf, [], all_insert, all_pairs_head, all_pairs_nil, all_pairs_tail, ap, arith, before_in, cases_Bool, cases_origin, catalogue, chain, count_by, element_of, false, false_from_ne_true, false≢true, fits, fork_before, get_or, id_eq, id_eq-true, id_lt, id_of, if◌then◌else◌, index_of_origin, inl, inr, insert, is_own, is_some, left_of, lefts, length, next_left, next_right, not_some, older_of, order, origin_eq, placed, ranked, refl, right_at, right_of, rights, subst, suc, sym, true, true≢false, within, zero, ℕ, ◌&&◌, ◌<◌, ◌||◌, ◌∙◌, ◌∷◌, ◌≡◌, ◌≤◌, ◌⊎◌}
+use Rattle.origin_model.proofs.Words.{All, All-contains, All-nil, All-push, All-weaker, Bool, Contains, Identifier, IsIn, IsOrderedBy, Lawful, List, None, Op, Option, Place, Some, [], all_insert, all_pairs_head, all_pairs_nil, all_pairs_tail, ap, arith, before_in, cases_Bool, cases_origin, chain, count_by, element_of, false, false_from_ne_true, fits, fork_before, get_or, id_eq-true, id_lt, id_of, index_of_origin, inl, inr, insert, is_own, is_some, left_of, lefts, length, next_left, next_right, older_of, order, origin_eq, placed, ranked, refl, right_at, right_of, rights, subst, suc, sym, true, true≢false, zero, ℕ, ◌&&◌, ◌<◌, ◌||◌, ◌∙◌, ◌∷◌, ◌≡◌, ◌≤◌, ◌⊎◌}
 use Rattle.fugue_ids.proofs.ListLemmas.{contains_insert, contains_inserted}
-use Rattle.origin_model.proofs.operations.LookupLemmas.{Fits, IsHeld, IsReady, element_own, held_not_own, holder-other, holder-own, holder_owns, holds-older, holds-own, left_fits, origin_role, own_id, right_at_held, right_by, right_fits, when_ready}
+use Rattle.origin_model.proofs.operations.LookupLemmas.{Fits, IsHeld, IsReady, held_not_own, holder-other, holder-own, holder_owns, holds-older, holds-own, left_fits, origin_role, own_id, role_by, right_at_held, right_by, right_fits, when_ready}
+use Rattle.origin_model.proofs.operations.ElementLemmas.{element_own, element_stands, fits_element, role_in}
 use Rattle.origin_model.proofs.order.ChainLemmas.{above-all, beside_is, chain-held, chain-other, chain-own, chain_above}
 use Rattle.origin_model.proofs.order.OrderedListLemmas.{Ordered-agree, count-yes, none_before, none_pass, placed-ordered}
 use Rattle.origin_model.proofs.order.PositionLemmas.{index-insert, shifted, shifted-eq, shifted-lt}
@@ -130,34 +131,11 @@ IsIn-split p op older x m =
       | inr o ↦ inr (record { op = m.op; held = sym (holder-other op older x o) ∙ m.held; place = m.place })
     ]
 
--- what fits a Section is in the catalogue
-pub section_fits : (o : Op) → fits SectionRole o ≡ true → element_of catalogue o ≡ id_of o
-section_fits (Section i l r t) h = refl
-section_fits _ h = absurd (false≢true h)
-
--- what fits a Text of a section is in that section
-text_fits : (p s : Identifier) (o : Op) → id_eq s p ≡ true → fits (TextOf s) o ≡ true → element_of (within p) o ≡ id_of o
-text_fits p s (Text i q l r c) e h =
-    ap (λ b. if b then Some i else None) (ap (id_eq q) (sym (id_eq-true s p e)) ∙ h)
-text_fits p s _ e h = absurd (false≢true h)
-
--- a Text in a section names it
-pub in_section : (p i s x : Identifier) → (if id_eq s p then Some i else None) ≡ Some x → id_eq s p ≡ true
-in_section p i s x e =
-    elim (cases_Bool (id_eq s p)) [ inl t ↦ t | inr f ↦ absurd (not_some x (sym e ∙ ap (λ b. if b then Some i else None) f)) ]
-
--- no element is none
-pub none_is : (P : Type 0) (x : Identifier) → None ≡ Some x → P
-none_is P x e = absurd (not_some x (sym e))
-
 -- what fits as an origin of an element is an element of its place
 place_fits : (p : Place) (op o : Op) (x : Identifier) → element_of p op ≡ Some x → fits (origin_role op) o ≡ true → element_of p o ≡ id_of o
-place_fits catalogue (Section i left right t) o x e f = section_fits o f
-place_fits (within p) (Text i s left right c) o x e f = text_fits p s o (in_section p i s x e) f
-place_fits catalogue (Text i s left right c) o x e f = none_is _ x e
-place_fits (within p) (Section i left right t) o x e f = none_is _ x e
-place_fits catalogue (Delete i) o x e f = none_is _ x e
-place_fits (within p) (Delete i) o x e f = none_is _ x e
+place_fits p op o x e f =
+    let role : origin_role op ≡ role_in p = ap role_by (element_stands p op x e).0 in
+    fits_element p o (ap (λ r. fits r o) (sym role) ∙ f)
 
 -- an origin of the newest element that is held and fits is in its place
 origin_in : (p : Place) (op : Op) (older : List Op) (x y : Identifier) → element_of p op ≡ Some x → Fits older (y, origin_role op) → IsIn p older y

@@ -3,7 +3,8 @@ use Rattle.origin_model.proofs.Words.{All, All-contains, AllPairs, Bool, Contain
 use Rattle.origin_model.proofs.order.{IsIn-held, IsIn-older, IsIn-own, IsIn-split, Ordered-agree, fork-total, fork-trans, fork_moved}
 use Rattle.origin_model.proofs.order.OrderedListLemmas.{placed-ordered}
 use Rattle.origin_model.proofs.order.StrictOrderLemmas.{ranked-total, ranked-trans}
-use Rattle.origin_model.proofs.operations.LookupLemmas.{element_own, held_not_own, right_by, when_ready}
+use Rattle.origin_model.proofs.operations.LookupLemmas.{held_not_own, right_by, when_ready}
+use Rattle.origin_model.proofs.operations.ElementLemmas.{element_own}
 use Rattle.origin_model.proofs.sides.OwnTableLemmas.{slot_eq-refl, slot_eq-true}
 use Rattle.origin_model.proofs.sides.SidedGapLemmas.{left_parent}
 use Rattle.origin_model.proofs.sides.SlotLemmas.{child-in}

@@ -4,7 +4,7 @@ use Rattle.fugue_ids.specs.Identifiers.{Identifier}
 use Rattle.fugue_ids.specs.Keys.{Keyed}
 use Rattle.fugue_ids.specs.declared.gap.Gap.{Gap}
 use Rattle.fugue_ids.specs.declared.gap.Gap.TheVariants.{After, Alone, Before}
-use Rattle.origin_model.specs.declared.sides.node.Node.{Node}
+use Rattle.origin_model.specs.declared.operations.node.Node.{Node}
 use Rattle.origin_model.specs.declared.sides.slot.Slot.{Slot}
 use Rattle.origin_model.specs.order.Order.{chain, order}
 use Rattle.origin_model.specs.sides.KeyedGap.{block_end, block_start, gap_by_keys, slot_key}

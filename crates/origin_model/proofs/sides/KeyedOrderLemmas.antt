@@ -8,7 +8,7 @@ use Rattle.fugue_ids.specs.declared.gap.Gap.{Gap}
 use Rattle.fugue_ids.specs.declared.gap.Gap.TheVariants.{After, Alone, Before}
 use Rattle.fugue_ids.specs.declared.key.Key.{Key}
 use Rattle.fugue_ids.proofs.IdentifierLemmas.{contains-below, index_of-here, index_of-insert, index_of-there, index_of-within}
-use Rattle.origin_model.specs.declared.sides.node.Node.{Node}
+use Rattle.origin_model.specs.declared.operations.node.Node.{Node}
 use Rattle.origin_model.specs.declared.sides.slot.Slot.{Slot}
 use Rattle.origin_model.specs.declared.sides.slot.Slot.TheVariants.{LeftOf, RightOf}
 use Rattle.origin_model.specs.edits.Landing.{StandsBehind, following, head_of}

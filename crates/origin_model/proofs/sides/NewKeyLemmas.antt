@@ -5,7 +5,8 @@ use Rattle.origin_model.specs.declared.sides.slot.Slot.TheVariants.{RightOf}
 use Rattle.origin_model.specs.sides.KeyedGap.{child_key, slot_key}
 use Rattle.origin_model.specs.sides.Keys.{depth_above, depth_of, forest_above, forest_of, key_of, keyed, keyed_as, new_key}
 use Rattle.origin_model.specs.sides.Slot.{slot_by}
-use Rattle.origin_model.proofs.operations.LookupLemmas.{IsHeld, element_own, found, held_not_own, holder-other, holder-own, right_named, when_ready}
+use Rattle.origin_model.proofs.operations.LookupLemmas.{IsHeld, found, held_not_own, holder-other, holder-own, right_named, when_ready}
+use Rattle.origin_model.proofs.operations.ElementLemmas.{element_own}
 use Rattle.origin_model.proofs.order.{beside_is, chain-other, chain-own, chain_above, has_left-at, left_at-is, left_origin_held, lefts-above, lefts-at, right_origin_held, rights-at}
 use Rattle.origin_model.proofs.order.OrderLemmas.{order-held}
 use Rattle.origin_model.proofs.order.PartLemmas.{has_left_by}

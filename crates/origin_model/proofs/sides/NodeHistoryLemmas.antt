@@ -1,7 +1,7 @@
 -- Nodes are a lawful history exactly where each was new, and its origins were there, when it came.
 use Rattle.origin_model.proofs.Words.{All, All-append, All-cons, All-nil, Identifier, Lawful, List, None, Op, Option, Ready, SectionRole, Some, [], ap, false, false_from_ne_true, false≢true, given_as, has_op, holder, holds, id_eq, id_eq-refl, if◌then◌else◌, is_some, names, refl, sym, true, true≢false, verdict, ◌↔◌, ◌∙◌, ◌∷◌, ◌≡◌}
 use Rattle.origin_model.specs.sides.Node.{AreNodes, IsNew, as_op, as_ops, find_node, has_node, has_origin}
-use Rattle.origin_model.specs.declared.sides.node.Node.{Node}
+use Rattle.origin_model.specs.declared.operations.node.Node.{Node}
 use Rattle.origin_model.proofs.operations.LookupLemmas.{Fits, IsHeld, all_fit, has-holder, left_named, right_named, when_ready}
 use Rattle.origin_model.proofs.operations.CauseLemmas.{becomes_ready}
 

@@ -1,9 +1,10 @@
 -- The order of a place depends on its nodes alone: they have the chains of its elements, and so compare alike.
 use Rattle.origin_model.proofs.Words.{All, All-contains, All-head, All-tail, Bool, Contains, Identifier, IsIn, Lawful, List, None, Op, Option, Place, Some, [], all_from_contains, ap, before_in, cases_Bool, cases_id, cases_origin, catalogue, count_by, drop, element_of, false, false_from_ne_true, false≢true, fork_before, holder, id_eq-refl, id_eq-true, if◌then◌else◌, index_of_origin, inl, inr, is_own, is_some, left_of, lefts, ne-id_eq, next_left, next_right, order, placed, ranked, refl, right_at, right_of, rights, subst, suc, sym, take, true, true≢false, ◌++◌, ◌↔◌, ◌∙◌, ◌∷◌, ◌≡◌}
 use Rattle.origin_model.specs.sides.Node.{AreNodes, IsNew, as_op, as_ops, find_node, has_node, node_order, nodes, with_node}
-use Rattle.origin_model.specs.declared.sides.node.Node.{Node}
+use Rattle.origin_model.specs.declared.operations.node.Node.{Node}
 use Rattle.origin_model.proofs.order.{IsIn-held, IsIn-older, IsIn-own, IsIn-split, above-same, before_agree, beside-same, beside_is, chain-other, chain-own, chain_above, count-no, count-yes, has_left_by, left_in, lefts-in, order-has, order-in, order-member, order-none, order-some, right_in, rights-in}
-use Rattle.origin_model.proofs.operations.LookupLemmas.{element_own, held_not_own, holder-other, holder-own, holder_owns, right_by, when_ready}
+use Rattle.origin_model.proofs.operations.LookupLemmas.{held_not_own, holder-other, holder-own, holder_owns, right_by, when_ready}
+use Rattle.origin_model.proofs.operations.ElementLemmas.{element_own}
 use Rattle.origin_model.proofs.sides.NodeHistoryLemmas.{has_origin-by, holder-nodes, holds-nodes, nodes-lawful, op_of}
 
 -- the nodes of a place, as a history

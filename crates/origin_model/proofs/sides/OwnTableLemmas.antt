@@ -1,5 +1,5 @@
 -- Each lawful history has tables of children: those of a slot are the elements of the order that hang there. In them each walk down ends, since chains get longer on the way.
-use Rattle.origin_model.proofs.Words.{Bool, Contains, Identifier, IsIn, IsOrderedBy, Lawful, List, None, Op, Option, Place, Some, [], all_from_contains, ap, arith, cases_id, chain_before, contains_filter_from, contains_here, contains_middle, false, false≢true, filter, fork_before, holder, id_eq, id_eq-refl, id_eq-true, inl, inr, lefts, length, next_left, next_right, older_of, order, origin_eq, origin_eq-true, refl, rights, sibling, subst, suc, sym, true, zero, ℕ, ◌++◌, ◌+◌, ◌∙◌, ◌∷◌, ◌≡◌, ◌≤◌, ◌⊎◌}
+use Rattle.origin_model.proofs.Words.{Bool, Contains, Identifier, IsIn, IsOrderedBy, Lawful, List, Op, Place, Some, [], all_from_contains, ap, arith, cases_id, chain_before, contains_filter_from, contains_here, contains_middle, false, false≢true, filter, fork_before, id_eq-refl, id_eq-true, inl, inr, lefts, length, next_left, next_right, older_of, order, origin_eq-true, refl, rights, sibling, subst, suc, sym, true, zero, ℕ, ◌++◌, ◌+◌, ◌∙◌, ◌∷◌, ◌≡◌, ◌≤◌, ◌⊎◌}
 use Rattle.std.proofs.lemmas.List.Kept.{AllPairs-filter}
 use Rattle.fugue_ids.proofs.IdentifierLemmas.{origin_eq-refl}
 use Rattle.fugue_ids.proofs.ListLemmas.{contains_filter}

@@ -1,7 +1,8 @@
 -- The siblings of a new element compare with it as at a fork of two chains.
 use Rattle.origin_model.proofs.Words.{All, All-contains, Bool, Contains, Contains-append_left, Contains-append_right, Identifier, Lawful, List, Op, Place, Some, all_from_contains, ap, element_of, false, fork_before, index_of_origin, is_own, order, ranked, right_at, right_of, subst, sym, true, true≢false, ◌∙◌, ◌∷◌, ◌≡◌, ◌≢◌}
 use Rattle.origin_model.specs.sides.Slot.{IsParted, goes_before}
-use Rattle.origin_model.proofs.operations.LookupLemmas.{IsHeld, element_own, held_not_own, holder-own, right_by, when_ready}
+use Rattle.origin_model.proofs.operations.LookupLemmas.{IsHeld, held_not_own, holder-own, right_by, when_ready}
+use Rattle.origin_model.proofs.operations.ElementLemmas.{element_own}
 use Rattle.origin_model.proofs.order.{fork-total, right-older}
 
 -- a new element x of the place

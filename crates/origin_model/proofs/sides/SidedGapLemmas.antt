@@ -7,7 +7,8 @@ use Rattle.origin_model.specs.declared.sides.slot.Slot.{Slot}
 use Rattle.origin_model.specs.declared.sides.slot.Slot.TheVariants.{LeftOf, RightOf}
 use Rattle.origin_model.proofs.order.{IsIn-held, before_at, before_in-irrefl, before_in-older, before_in-total, before_in-trans, chain-ends, chain-held, chain-other, chain-own, chain_above, chain_before-fork, chain_before-same, common, empty_from, first_of, fork-irrefl, fork-trans, has_left-at, heads, last_of, left_in, longer, never_none, no_member, order-has, order-in, order-ordered, order-some, parts, parts_late, right-older, right_in, same_chain, stay_ordered, turns, turns_off}
 use Rattle.origin_model.proofs.sides.GapLemmas.{placed-after, placed-before}
-use Rattle.origin_model.proofs.operations.LookupLemmas.{IsHeld, element_own, held_not_own, holds-older, holds-own, left_named, right_named, when_ready}
+use Rattle.origin_model.proofs.operations.LookupLemmas.{IsHeld, held_not_own, holds-older, holds-own, left_named, right_named, when_ready}
+use Rattle.origin_model.proofs.operations.ElementLemmas.{element_own}
 use Rattle.origin_model.proofs.sides.SiblingLemmas.{elders_first, youngers_last}
 use Rattle.origin_model.proofs.sides.SlotLemmas.{IsThere, Under, child-held, child-in, child-left, child-lefts, child-rights, child_under, over, rooted, slot-no, slot-yes, slot_by-left, slot_by-over, slot_left, there, under_left}
 use Rattle.origin_model.proofs.sides.SpineLemmas.{first_child, spine_first, spine_last}

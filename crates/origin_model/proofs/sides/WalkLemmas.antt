@@ -3,7 +3,8 @@ use Rattle.origin_model.proofs.Words.{All, All-cons, All-contains, All-head, All
 use Rattle.origin_model.proofs.order.{IsIn-split, Ordered-agree, Within, before_at, before_in-irrefl, before_in-trans, chain_above, chain_before-fork, common, first_before, fork-irrefl, fork_moved, heads, lefts-above, not_longer, order-has, order-member, order-ordered}
 use Rattle.origin_model.proofs.order.OrderedListLemmas.{same_ordered}
 use Rattle.origin_model.proofs.order.PartLemmas.{older_lawful}
-use Rattle.origin_model.proofs.operations.LookupLemmas.{IsHeld, element_own, held_not_own, holder-other, holder-own, when_ready}
+use Rattle.origin_model.proofs.operations.LookupLemmas.{IsHeld, held_not_own, holder-other, holder-own, when_ready}
+use Rattle.origin_model.proofs.operations.ElementLemmas.{element_own}
 use Rattle.origin_model.proofs.sides.SlotLemmas.{child-held, child-in, child-left, child-lefts, child-rights, over, slot_left}
 use Rattle.origin_model.proofs.sides.KeyedGapLemmas.{slot_stands_by}
 use Rattle.origin_model.proofs.sides.ChildrenLemmas.{children-table}
@@ -12,7 +13,7 @@ use Rattle.fugue_ids.proofs.ListLemmas.{all_pairs_append}
 use Rattle.origin_model.specs.declared.sides.slot.Slot.{Slot}
 use Rattle.origin_model.specs.declared.sides.slot.Slot.TheVariants.{LeftOf, RightOf}
 use Rattle.origin_model.specs.sides.KeyLaws.{StandsAt}
-use Rattle.origin_model.specs.sides.Slot.{IsChild, IsTable, slot_by, slot_of}
+use Rattle.origin_model.specs.sides.Slot.{IsChild, IsTable, slot_of}
 use Rattle.origin_model.specs.sides.Walk.{WalkIsOrder, WalkIsWhole, children_of, walk, walk_below, walk_to}
 
 -- lists put together

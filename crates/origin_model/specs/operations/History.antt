@@ -3,7 +3,8 @@ use Rattle.std.specs.Prelude.{◌≡◌, ◌≢◌, Option, Some, None, is_some,
 use Rattle.fugue_ids.specs.Identifiers.{Identifier, id_eq, origin_eq}
 use Rattle.fugue_ids.specs.Ops.{id_of, op_eq}
 use Rattle.fugue_ids.specs.declared.op.Op.{Op}
-use Rattle.fugue_ids.specs.declared.op.Op.TheVariants.{Section, Text, Delete}
+use Rattle.fugue_ids.specs.declared.op.Op.TheVariants.{Section, Text}
+use Rattle.origin_model.specs.declared.operations.node.Node.{Node}
 use Rattle.origin_model.specs.declared.operations.place.Place.{Place}
 use Rattle.origin_model.specs.declared.operations.place.Place.TheVariants.{Catalogue as catalogue, Section as within}
 
@@ -11,22 +12,22 @@ use Rattle.origin_model.specs.declared.operations.place.Place.TheVariants.{Catal
 abbrev pub accepted : List Op → List Op
 accepted history = reverse history
 
--- the origins of an element; a Delete has none
+-- where the element of an operation stands, and its origins; a Delete has none
+abbrev pub element : Op → Option (Place × Node)
+element (Section id left right title) = Some (catalogue, record { id = id; left = left; right = right })
+element (Text id section left right ch) = Some (within section, record { id = id; left = left; right = right })
+element _ = None
+
+-- the origins of an element
 abbrev pub left_of : Op → Option Identifier
-left_of (Section id left right title) = left
-left_of (Text id section left right ch) = left
-left_of (Delete target) = None
+left_of op = elim (element op) [ None ↦ None | Some e ↦ e.1.left ]
 
 abbrev pub right_of : Op → Option Identifier
-right_of (Section id left right title) = right
-right_of (Text id section left right ch) = right
-right_of (Delete target) = None
+right_of op = elim (element op) [ None ↦ None | Some e ↦ e.1.right ]
 
 -- where an operation stands; a Delete stands nowhere
 abbrev pub place : Op → Option Place
-place (Section id left right title) = Some catalogue
-place (Text id section left right ch) = Some (within section)
-place (Delete target) = None
+place op = elim (element op) [ None ↦ None | Some e ↦ Some e.0 ]
 
 abbrev pub place_eq : Place → Place → Bool
 place_eq catalogue catalogue = true
@@ -34,11 +35,13 @@ place_eq catalogue (within t) = false
 place_eq (within s) catalogue = false
 place_eq (within s) (within t) = id_eq s t
 
+-- the operation stands in the place
+abbrev pub stands_at : Place → Op → Bool
+stands_at p op = elim (place op) [ None ↦ false | Some q ↦ place_eq q p ]
+
 -- the element that an operation adds to a place
 abbrev pub element_of : Place → Op → Option Identifier
-element_of catalogue (Section id left right title) = Some id
-element_of (within s) (Text id section left right ch) = if id_eq section s then Some id else None
-element_of _ _ = None
+element_of p op = if stands_at p op then id_of op else None
 
 -- the operation has this identifier of its own
 abbrev pub is_own : Identifier → Op → Bool

@@ -1,12 +1,13 @@
 -- What an operation is against a history, and which histories are lawful.
 use Rattle.std.specs.Prelude.{◌≡◌, Option, Some, None, Bool, true, false, if◌then◌else◌, List, [], ◌∷◌, ◌++◌}
-use Rattle.fugue_ids.specs.Identifiers.{Identifier, id_eq}
+use Rattle.fugue_ids.specs.Identifiers.{Identifier}
 use Rattle.fugue_ids.specs.Ops.{id_of}
 use Rattle.fugue_ids.specs.declared.op.Op.{Op}
 use Rattle.fugue_ids.specs.declared.op.Op.TheVariants.{Section, Text, Delete}
-use Rattle.origin_model.specs.operations.History.{holder, holds, has_op}
+use Rattle.origin_model.specs.operations.History.{holder, holds, has_op, stands_at}
 use Rattle.origin_model.specs.declared.operations.found.Found.{Found}
 use Rattle.origin_model.specs.declared.operations.found.Found.TheVariants.{Same, Clash, Absent}
+use Rattle.origin_model.specs.declared.operations.place.Place.TheVariants.{Catalogue as catalogue, Section as within}
 use Rattle.origin_model.specs.declared.operations.role.Role.{Role}
 use Rattle.origin_model.specs.declared.operations.role.Role.TheVariants.{Any, Section as SectionRole, TextOf}
 use Rattle.origin_model.specs.declared.operations.verdict.Verdict.{Verdict}
@@ -15,9 +16,8 @@ use Rattle.origin_model.specs.declared.operations.verdict.Verdict.TheVariants.{A
 -- the operation fits the role
 abbrev pub fits : Role → Op → Bool
 fits Any op = true
-fits SectionRole (Section id left right title) = true
-fits (TextOf s) (Text id section left right ch) = id_eq section s
-fits _ _ = false
+fits SectionRole op = stands_at catalogue op
+fits (TextOf s) op = stands_at (within s) op
 
 abbrev pub given_as : Role → Option Identifier → List (Identifier × Role)
 given_as role None = []

@@ -1,21 +1,13 @@
 -- The elements of all places in one list, each with its place.
-use Rattle.std.specs.Prelude.{◌≡◌, Option, Some, None, Bool, if◌then◌else◌, not, ◌&&◌, List, [], ◌∷◌, ℕ}
+use Rattle.std.specs.Prelude.{◌≡◌, Bool, if◌then◌else◌, not, ◌&&◌, List, [], ◌∷◌, ℕ}
 use Rattle.std.specs.Str.{encode_utf8_all}
 use Rattle.fugue_ids.specs.Identifiers.{Identifier}
 use Rattle.fugue_ids.specs.declared.op.Op.{Op}
-use Rattle.fugue_ids.specs.declared.op.Op.TheVariants.{Section, Text, Delete}
 use Rattle.origin_model.specs.declared.operations.place.Place.{Place}
-use Rattle.origin_model.specs.declared.operations.place.Place.TheVariants.{Catalogue as catalogue, Section as within}
 use Rattle.origin_model.specs.declared.order.listed.Listed.{Listed}
 use Rattle.origin_model.specs.operations.History.{place_eq, holder}
 use Rattle.origin_model.specs.order.Order.{order}
 use Rattle.origin_model.specs.order.Printed.{is_hidden, scalar_of}
-
--- an operation's element, and where it stands; a Delete has none
-abbrev pub stands_in : Op → Option (Place × Identifier)
-stands_in (Section id left right title) = Some (catalogue, id)
-stands_in (Text id section left right ch) = Some (within section, id)
-stands_in (Delete target) = None
 
 -- the elements of one place
 abbrev pub elements_at : Place → List Listed → List Identifier

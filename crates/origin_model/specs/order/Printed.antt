@@ -2,17 +2,18 @@
 use Rattle.std.specs.Prelude.{Option, Some, Bool, false, not, ◌||◌, List, [], ◌∷◌, ◌++◌, ℕ, filter, codes}
 use Rattle.std.specs.List.{flat_map}
 use Rattle.std.specs.Str.{encode_utf8_all}
-use Rattle.fugue_ids.specs.Identifiers.{Identifier, id_eq}
+use Rattle.fugue_ids.specs.Identifiers.{Identifier, origin_eq}
+use Rattle.fugue_ids.specs.Ops.{target_of}
 use Rattle.fugue_ids.specs.declared.op.Op.{Op}
 use Rattle.origin_model.specs.declared.operations.place.Place.{Place}
 use Rattle.origin_model.specs.declared.operations.place.Place.TheVariants.{Catalogue as catalogue, Section as within}
 use Rattle.origin_model.specs.operations.History.{holder}
 use Rattle.origin_model.specs.order.Order.{order}
-use Rattle.fugue_ids.specs.declared.op.Op.TheVariants.{Section, Text, Delete}
+use Rattle.fugue_ids.specs.declared.op.Op.TheVariants.{Section, Text}
 
+-- the operation hides x
 abbrev pub deletes : Identifier → Op → Bool
-deletes x (Delete target) = id_eq target x
-deletes x _ = false
+deletes x op = origin_eq (target_of op) (Some x)
 
 -- a delete of the list names x
 abbrev pub is_hidden : List Op → Identifier → Bool

@@ -1,7 +1,7 @@
 -- A node that is no origin, taken out of its place.
 use Rattle.std.specs.Prelude.{◌≢◌, Some, not, List, [], ◌∷◌, filter}
 use Rattle.fugue_ids.specs.Identifiers.{Identifier, id_eq}
-use Rattle.origin_model.specs.declared.sides.node.Node.{Node}
+use Rattle.origin_model.specs.declared.operations.node.Node.{Node}
 
 -- no node of the list has x as an origin
 abbrev pub NoOrigin : Identifier → List Node → Type 0

@@ -15,7 +15,7 @@ use Rattle.origin_model.specs.order.Order.{order}
 use Rattle.origin_model.specs.sides.KeyedGap.{block_end, block_start, gap_by_keys, siblings, slot_key}
 use Rattle.origin_model.specs.sides.Keys.{depth_of, forest_of, key_of, keyed, new_key}
 use Rattle.origin_model.specs.sides.Node.{node_order}
-use Rattle.origin_model.specs.declared.sides.node.Node.{Node}
+use Rattle.origin_model.specs.declared.operations.node.Node.{Node}
 use Rattle.origin_model.specs.sides.Slot.{BeforeBlock, IsPlace, IsTable, LastBelow, goes_before, slot_of}
 
 -- each key of the place fits its numbers

@@ -6,7 +6,7 @@ use Rattle.fugue_ids.specs.declared.key.Key.{Key}
 use Rattle.fugue_ids.specs.declared.op.Op.{Op}
 use Rattle.origin_model.specs.order.Order.{lefts, right_beside, rights}
 use Rattle.origin_model.specs.sides.Node.{as_ops, node_order}
-use Rattle.origin_model.specs.declared.sides.node.Node.{Node}
+use Rattle.origin_model.specs.declared.operations.node.Node.{Node}
 
 -- how many elements the chain of left origins down to x has
 abbrev pub depth_of : List Op → Identifier → ℕ

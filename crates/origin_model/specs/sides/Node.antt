@@ -7,7 +7,7 @@ use Rattle.origin_model.specs.operations.History.{left_of, right_of, element_of}
 use Rattle.origin_model.specs.order.Order.{order}
 use Rattle.origin_model.specs.declared.operations.place.Place.{Place}
 use Rattle.origin_model.specs.declared.operations.place.Place.TheVariants.{Catalogue as catalogue}
-use Rattle.origin_model.specs.declared.sides.node.Node.{Node}
+use Rattle.origin_model.specs.declared.operations.node.Node.{Node}
 
 -- one more node, where the operation is an element
 abbrev pub with_node : Option Identifier → Op → List Node → List Node

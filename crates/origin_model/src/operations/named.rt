@@ -1,44 +1,34 @@
 //! What an operation is against the accepted operations.
 
-ghost use Rattle.std.specs.Prelude.{◌≡◌, option_to_list, true};
+ghost use Rattle.std.specs.Prelude.{◌≡◌, ◌∷◌, [], true};
 ghost use Rattle.fugue_ids.specs.Ops.{id_of, op_eq};
 ghost use Rattle.origin_model.specs.operations.History.{has_op};
 ghost use Rattle.origin_model.specs.operations.Verdict.{names, fits as fits_role, first_stray, first_missing, found_as, id_held, verdict as verdict_on};
 
+use crate::operations::element::stands_at;
 use crate::operations::found::Found;
 use crate::operations::lookup::Lookup;
 use crate::operations::name_faults::NameFaults;
 use crate::operations::names::{Named, names_of};
-use crate::{Role, Verdict};
-use fugue_ids::{ElementId, Op};
-
-fn is_text_of(op: &Op, place: ElementId) -> bool
-    ensures { result ≡ fits_role (Role.TextOf place) op.now }
-{
-    match op {
-        Op::Text { section, .. } => *section == place,
-        _ => false,
-    }
-}
+use crate::{Place, Role, Verdict};
+use fugue_ids::{Op, OpKey};
 
 fn fits(role: Role, op: &Op) -> bool
     ensures { result ≡ fits_role role op.now }
 {
     match role {
         Role::Any => true,
-        Role::Section => matches!(op, Op::Section { .. }),
-        Role::TextOf(place) => is_text_of(op, place),
+        Role::Section => stands_at(op, &Place::Catalogue),
+        Role::TextOf(section) => stands_at(op, &Place::Section(section)),
     }
 }
 
 /// What is wrong with one name, by one look-up.
-fn faults_of<L: Lookup>(lookup: &L, named: Named) -> NameFaults
-    ensures stray { result.stray ≡ first_stray (L.history lookup.now) (option_to_list named) }
-    ensures missing { result.missing ≡ first_missing (L.history lookup.now) (option_to_list named) }
+fn faults_of<L: Lookup>(lookup: &L, named: &Named) -> NameFaults
+    ensures stray { result.stray ≡ first_stray (L.history lookup.now) (named.now ∷ []) }
+    ensures missing { result.missing ≡ first_missing (L.history lookup.now) (named.now ∷ []) }
 {
-    let Some((id, role)) = named else {
-        return NameFaults::none();
-    };
+    let (id, role) = *named;
     match lookup.holder(id) {
         Some(op) => {
             if fits(role, op) {
@@ -61,10 +51,12 @@ fn name_faults<L: Lookup>(lookup: &L, op: &Op) -> NameFaults
     ensures stray { result.stray ≡ first_stray (L.history lookup.now) (names op.now) }
     ensures missing { result.missing ≡ first_missing (L.history lookup.now) (names op.now) }
 {
-    let (first, second, third) = names_of(op);
-    faults_of(lookup, first)
-        .or(faults_of(lookup, second))
-        .or(faults_of(lookup, third))
+    let names = names_of(op);
+    let mut faults = NameFaults::none();
+    'names: for named in names.as_slice() {
+        faults = faults.or(faults_of(lookup, named));
+    }
+    faults
 }
 
 /// What an operation is beside the one that has its identifier.
@@ -82,13 +74,13 @@ fn beside(other: &Op, op: &Op) -> Found
 fn found_of<L: Lookup>(lookup: &L, op: &Op) -> Found
     ensures { result ≡ found_as (has_op (L.history lookup.now) op.now) (id_held (L.history lookup.now) (id_of op.now)) }
 {
-    match op {
-        Op::Section { id, .. } | Op::Text { id, .. } => match lookup.holder(*id) {
+    match op.key() {
+        OpKey::Own(id) => match lookup.holder(id) {
             Some(other) => beside(other, op),
             None => Found::Absent,
         },
-        Op::Delete { target } => {
-            if lookup.has_delete(*target) {
+        OpKey::Target(target) => {
+            if lookup.has_delete(target) {
                 Found::Same
             } else {
                 Found::Absent

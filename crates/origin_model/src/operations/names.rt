@@ -1,84 +1,98 @@
 //! What an operation names: its origins, its section and its target, and what each has to be.
 
-ghost use Rattle.std.specs.Prelude.{◌≡◌, ◌++◌, flat_map, map, option_to_list};
-ghost use Rattle.origin_model.specs.operations.History.{left_of as left_origin, right_of as right_origin};
+ghost use Rattle.std.specs.Prelude.{◌≡◌, ◌<◌, ◌≤◌, ◌+◌, ◌++◌, ◌∷◌, [], length};
 ghost use Rattle.origin_model.specs.operations.Verdict.{names, given_as};
-ghost use Rattle.origin_model.specs.operations.Counters.{mentioned};
 
 use crate::Role;
 use fugue_ids::{ElementId, Op};
+use std::marker::Model;
+
+/// The most that an operation names.
+const MOST_NAMES: usize = 3;
 
 /// An identifier with what it has to be.
-pub type Named = Option<(ElementId, Role)>;
+pub type Named = (ElementId, Role);
 
-/// The left origin: a `Delete` has none.
-pub fn left_of(op: &Op) -> Option<ElementId>
-    ensures { result ≡ left_origin op.now }
-{
-    match op {
-        Op::Section { left, .. } | Op::Text { left, .. } => *left,
-        Op::Delete { .. } => None,
-    }
+/// What an operation names, three at most, in order. It is seen as the list of them, and takes no memory.
+#[derive(Drop)]
+pub struct Names {
+    named: [Named; MOST_NAMES],
+    count: usize,
 }
 
-/// The right origin: a `Delete` has none.
-pub fn right_of(op: &Op) -> Option<ElementId>
-    ensures { result ≡ right_origin op.now }
-{
-    match op {
-        Op::Section { right, .. } | Op::Text { right, .. } => *right,
-        Op::Delete { .. } => None,
-    }
+impl Model for Names {
+    ghost use Rattle.std.specs.Prelude.{◌≤◌, List, take};
+    ghost use Rattle.fugue_ids.specs.Identifiers.{Identifier};
+    ghost use Rattle.origin_model.specs.declared.operations.names.TheConstants.{MOST_NAMES};
+    ghost use Rattle.origin_model.specs.declared.operations.role.Role.{Role};
+
+    ghost Value = { List (Identifier × Role) };
+
+    ghost view = { λ n. take n.count n.named };
+
+    ghost invariant = { λ n. n.count ≤ MOST_NAMES };
 }
 
-fn given(role: Role, id: Option<ElementId>) -> Named
-    ensures { option_to_list result ≡ given_as role id }
-{
-    match id {
-        Some(id) => Some((id, role)),
-        None => None,
+impl Names {
+    fn none() -> Names
+        ensures { result ≡ [] }
+    {
+        let unused = ElementId {
+            replica: 1,
+            counter: 0,
+        };
+        Names {
+            named: [(unused, Role::Any); MOST_NAMES],
+            count: 0,
+        }
+    }
+
+    /// One name more.
+    fn and(mut self, id: ElementId, role: Role) -> Names
+        requires { length self < MOST_NAMES }
+        ensures { result ≡ self ++ (id, role) ∷ [] }
+    {
+        self.named[self.count] = (id, role);
+        self.count += 1;
+        self
+    }
+
+    /// An origin more, where it is given.
+    fn and_origin(self, id: Option<ElementId>, role: Role) -> Names
+        requires { length self < MOST_NAMES }
+        ensures { result ≡ self ++ given_as role id }
+    {
+        match id {
+            Some(id) => self.and(id, role),
+            None => self,
+        }
+    }
+
+    pub fn as_slice(&self) -> &[Named]
+        ensures { result.now ≡ self.now }
+    {
+        &self.named[..self.count]
     }
 }
 
 /// The identifiers that an operation rests on, in order, each with what it has to be.
-pub fn names_of(op: &Op) -> (Named, Named, Named)
-    ensures { option_to_list result.0 ++ option_to_list result.1 ++ option_to_list result.2 ≡ names op.now }
+pub fn names_of(op: &Op) -> Names
+    ensures { result ≡ names op.now }
 {
+    let none = Names::none();
     match op {
-        Op::Section { left, right, .. } => {
-            (
-                None,
-                given(Role::Section, *left),
-                given(Role::Section, *right),
-            )
-        }
+        Op::Section { left, right, .. } => none
+            .and_origin(*left, Role::Section)
+            .and_origin(*right, Role::Section),
         Op::Text {
             section,
             left,
             right,
             ..
-        } => {
-            (
-                Some((*section, Role::Section)),
-                given(Role::TextOf(*section), *left),
-                given(Role::TextOf(*section), *right),
-            )
-        }
-        Op::Delete { target } => (Some((*target, Role::Any)), None, None),
+        } => none
+            .and(*section, Role::Section)
+            .and_origin(*left, Role::TextOf(*section))
+            .and_origin(*right, Role::TextOf(*section)),
+        Op::Delete { target } => none.and(*target, Role::Any),
     }
-}
-
-fn id_in(named: Named) -> Option<ElementId>
-    ensures { option_to_list result ≡ map (λ n. n.0) (option_to_list named) }
-{
-    let (id, _) = named?;
-    Some(id)
-}
-
-/// The identifiers that an operation has or names, its own first.
-pub fn mentioned_by(op: &Op) -> [Option<ElementId>; 4]
-    ensures { flat_map option_to_list result ≡ mentioned op.now }
-{
-    let (first, second, third) = names_of(op);
-    [op.id(), id_in(first), id_in(second), id_in(third)]
 }

@@ -6,8 +6,8 @@ ghost use Rattle.origin_model.specs.order.Order.{chain as chain_by, lefts, right
 ghost use Rattle.origin_model.specs.order.Chain.{next_of};
 ghost use Rattle.origin_model.specs.order.Fork.{fork_of, by_fork};
 
+use crate::operations::element::{left_of, right_of};
 use crate::operations::lookup::find_holder;
-use crate::operations::names::{left_of, right_of};
 use crate::order::chain::Chain;
 use crate::order::fork::Fork;
 use fugue_ids::{ElementId, Op};

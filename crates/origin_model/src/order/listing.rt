@@ -4,23 +4,14 @@ ghost use Rattle.std.specs.Prelude.{◌≡◌, ◌≤◌, reverse, IfOk, OnOk, O
 ghost use Rattle.origin_model.specs.operations.History.{place_eq};
 ghost use Rattle.origin_model.specs.operations.Verdict.{Lawful};
 ghost use Rattle.origin_model.specs.order.Order.{IsOrderedBy, before_in, older_of};
-ghost use Rattle.origin_model.specs.order.Listed.{stands_in, elements_at, ListsAll};
+ghost use Rattle.origin_model.specs.order.Listed.{elements_at, ListsAll};
 
 use crate::Place;
+use crate::operations::element::element_of;
 use crate::order::comparison::{is_before, lefts_of};
 use crate::order::listed::Listed;
 use fugue_ids::{ElementId, Op};
 use std::alloc::{AllocError, Global};
-
-fn element(op: &Op) -> Option<(Place, ElementId)>
-    ensures { result ≡ stands_in op.now }
-{
-    match op {
-        Op::Section { id, .. } => Some((Place::Catalogue, *id)),
-        Op::Text { id, section, .. } => Some((Place::Section(*section), *id)),
-        Op::Delete { .. } => None,
-    }
-}
 
 pub fn is_at(e: &Listed, place: &Place) -> bool
     ensures { result ≡ place_eq e.now.place place.now }
@@ -96,9 +87,10 @@ pub fn list_newest(alloc: Global, ops: &[Op], listed: &mut Vec<Listed>) -> Resul
     let Some(op) = ops.last() else {
         return Ok(());
     };
-    let Some((place, id)) = element(op) else {
+    let Some((place, node)) = element_of(op) else {
         return Ok(());
     };
+    let id = node.id;
     let finished = elements_in(alloc, listed.as_slice(), &place)?;
     let count = count_before(alloc, finished.as_slice(), ops, id)?;
     let at = end_of(listed.as_slice(), &place, count);

@@ -7,16 +7,13 @@ ghost use Rattle.origin_model.specs.order.Listed.{elements_at, shows};
 use crate::Place;
 use crate::order::listed::Listed;
 use crate::order::listing::is_at;
-use fugue_ids::{ElementId, Op};
+use fugue_ids::{ElementId, Op, OpKey};
 use std::alloc::{AllocError, Global};
 
 fn deletes(op: &Op, id: ElementId) -> bool
     ensures { result ≡ deletes_on id op.now }
 {
-    match op {
-        Op::Delete { target } => *target == id,
-        _ => false,
-    }
+    op.key() == OpKey::Target(id)
 }
 
 fn is_hidden(ops: &[Op], id: ElementId) -> bool

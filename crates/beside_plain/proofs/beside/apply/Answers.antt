@@ -1,13 +1,17 @@
-use Rattle.std.proofs.Common.{ap, arith, length, subst, sym, ◌∷◌, ◌≡◌}
+use Rattle.std.proofs.Common.{ap, arith, length, subst, sym, ◌∙◌, ◌∷◌, ◌≡◌}
 use Rattle.std.proofs.lemmas.List.{length-reverse}
 use Rattle.std.proofs.lemmas.Result.{on_ok_weaker}
+use Rattle.fugue_ids.specs.Ops.{own_in}
 use Rattle.origin_model.specs.operations.Verdict.{verdict}
 use Rattle.origin_model.specs.declared.operations.verdict.Verdict.TheVariants.{Ready}
 use Rattle.section_catalogue.proofs.BoundLemmas.{places_bounded}
-use Rattle.section_catalogue.proofs.ConditionLemmas.{target_has_place}
+use Rattle.section_catalogue.proofs.ConditionLemmas.{has_place, target_delete, target_has_place}
 use Rattle.section_catalogue.specs.Manuscript.{StandsFor}
 use Rattle.replica_core.proofs.ManuscriptLemmas.{hides_grows}
 use Rattle.beside_plain.proofs.beside.apply.Goals as goal
+
+pub insert-requires-clause-placed : goal.insert-requires-clause-placed
+insert-requires-clause-placed c = has_place c.args.op.now _ (ap own_in (sym c.key.ensures ∙ c.in-Own.is))
 
 pub insert-requires-clause-room : goal.insert-requires-clause-room
 insert-requires-clause-room c =
@@ -16,12 +20,14 @@ insert-requires-clause-room c =
 
 pub hide-requires : goal.hide-requires
 hide-requires c =
-    target_has_place c.args.manuscript.now c.args.replica.now c.in-Delete.target c.requires.stands (subst (λ o. verdict c.args.replica.now o ≡ Ready) c.in-Delete.is c.requires.ready)
+    let is = target_delete c.args.op.now c.in-Target.target (sym c.key.ensures ∙ c.in-Target.is) in
+    target_has_place c.args.manuscript.now c.args.replica.now c.in-Target.target c.requires.stands (subst (λ o. verdict c.args.replica.now o ≡ Ready) is c.requires.ready)
 
-pub returns-in-Delete : goal.returns-in-Delete
-returns-in-Delete c =
-    let ready = subst (λ o. verdict c.args.replica.now o ≡ Ready) c.in-Delete.is c.requires.ready in
+pub returns-in-Target : goal.returns-in-Target
+returns-in-Target c =
+    let is = target_delete c.args.op.now c.in-Target.target (sym c.key.ensures ∙ c.in-Target.is) in
+    let ready = subst (λ o. verdict c.args.replica.now o ≡ Ready) is c.requires.ready in
     on_ok_weaker c.hide.result
-    (λ hides. subst (λ o. StandsFor c.hide.new.self (o ∷ c.args.replica.now)) (sym c.in-Delete.is)
-    (hides_grows c.args.manuscript.now c.hide.new.self c.in-Delete.target hides c.args.replica.now c.requires.stands ready))
+    (λ hides. subst (λ o. StandsFor c.hide.new.self (o ∷ c.args.replica.now)) (sym is)
+    (hides_grows c.args.manuscript.now c.hide.new.self c.in-Target.target hides c.args.replica.now c.requires.stands ready))
     c.hide.ensures.ok

@@ -1,15 +1,24 @@
-use Rattle.origin_model.proofs.Words.{option_to_list, sym}
-use Rattle.origin_model.proofs.operations.LookupLemmas.{missing_of_three, stray_of_three}
+use Rattle.origin_model.proofs.Words.{ap, arith, first_missing, first_stray, names, subst, sym, take, [], ◌++◌, ◌+◌, ◌∙◌, ◌∷◌, ◌≡◌}
+use Rattle.std.proofs.lemmas.List.{take_more}
+use Rattle.std.specs.Option.{option_or}
+use Rattle.origin_model.proofs.operations.LookupLemmas.{missing-push, stray-push}
 use Rattle.origin_model.proofs.operations.named.name_faults.Goals as goal
 
-pub returns-clause-stray : goal.returns-clause-stray
-returns-clause-stray g c =
-    let n = c.names_of-first.result in
-    rw (← c.names_of-first.ensures, c.or-2.ensures.stray, c.or.ensures.stray, c.faults_of.ensures.stray, c.faults_of-2.ensures.stray, c.faults_of-3.ensures.stray)
-    (sym (stray_of_three (g.L.Lookup.history c.args.lookup.now) (option_to_list n.0) (option_to_list n.1) (option_to_list n.2)))
-
-pub returns-clause-missing : goal.returns-clause-missing
-returns-clause-missing g c =
-    let n = c.names_of-first.result in
-    rw (← c.names_of-first.ensures, c.or-2.ensures.missing, c.or.ensures.missing, c.faults_of.ensures.missing, c.faults_of-2.ensures.missing, c.faults_of-3.ensures.missing)
-    (sym (missing_of_three (g.L.Lookup.history c.args.lookup.now) (option_to_list n.0) (option_to_list n.1) (option_to_list n.2)))
+pub names-preserved : goal.names-preserved
+names-preserved g c =
+    let h = g.L.Lookup.history c.args.lookup.now in
+    let named = names c.args.op.now in
+    let items = c.as_slice-named-items.result.now in
+    let k = c.names.named-index in
+    let x = c.named-item.result in
+    let more : take (k + 1) named ≡ take k named ++ x ∷ [] =
+    subst (λ l. take (k + 1) l ≡ take k l ++ x ∷ []) (c.as_slice-named-items.ensures ∙ c.names_of-names.ensures)
+    (take_more items k x (omega (arith, c.names-test.true)) ∙ ap (λ y. take k items ++ y ∷ []) (sym c.named-item.is)) in
+    record {
+      stray = c.or-faults.ensures.stray
+          ∙ (λ i. option_or (c.names.invariant.stray i) (c.faults_of.ensures.stray i))
+          ∙ sym (stray-push h (take k named) x) ∙ ap (first_stray h) (sym more);
+      missing = c.or-faults.ensures.missing
+          ∙ (λ i. option_or (c.names.invariant.missing i) (c.faults_of.ensures.missing i))
+          ∙ sym (missing-push h (take k named) x) ∙ ap (first_missing h) (sym more);
+    }

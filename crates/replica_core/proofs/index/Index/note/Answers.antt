@@ -1,26 +1,24 @@
-use Rattle.std.proofs.Common.{ap, inl, inr, subst, sym, ◌∷◌, ◌≡◌}
-use Rattle.std.specs.Prelude.{Some}
-use Rattle.fugue_ids.specs.Ops.{id_of}
-use Rattle.replica_core.specs.Index.{IsIndex}
+use Rattle.std.proofs.Common.{ap, sym, ◌∙◌, ◌≡◌}
+use Rattle.fugue_ids.specs.Ops.{key_of}
+use Rattle.fugue_ids.specs.declared.op.OpKey.TheVariants.{Own, Target}
 use Rattle.replica_core.proofs.IndexLemmas.{noted_position, noted_target}
 use Rattle.stretch_map.proofs.ResultLemmas.{ok_makes}
 use Rattle.replica_core.proofs.index.Index.note.Goals as goal
 
-pub returns-in-Delete-clause-ok : goal.returns-in-Delete-clause-ok
-returns-in-Delete-clause-ok c =
-    let positions = c.args.self.now.positions.values in
-    let targets = c.args.self.now.targets.values in
-    let new = c.insert.new.self.values in
+pub returns-in-Own-clause-ok : goal.returns-in-Own-clause-ok
+returns-in-Own-clause-ok c =
+    let op = c.args.op.now in
+    let key : key_of op ≡ Own c.in-Own.id = sym c.key.ensures ∙ c.in-Own.is in
     ok_makes _ _ c.insert.result
     (λ put h index same.
-    subst (λ o. IsIndex positions new (o ∷ h)) (sym c.in-Delete.is)
-    (noted_target c.in-Delete.target positions targets new h c.args.position (ap (λ m. m.values) put) index same)) c.insert.ensures.ok
+    noted_position op c.in-Own.id h c.args.self.now.positions.values c.insert.new.self.values c.args.self.now.targets.values c.args.position key
+    (ap (λ m. m.values) put) index same) c.insert.ensures.ok
 
-pub returns-in-Section-clause-ok : goal.returns-in-Section-clause-ok
-returns-in-Section-clause-ok c =
+pub returns-in-Target-clause-ok : goal.returns-in-Target-clause-ok
+returns-in-Target-clause-ok c =
     let op = c.args.op.now in
-    let own : id_of op ≡ Some c.in-Section.id = elim c.in-Section.is [ inl e ↦ ap id_of e.3 | inr e ↦ ap id_of e.4 ] in
-    ok_makes _ _ c.insert-in-Section.result
+    let key : key_of op ≡ Target c.in-Target.target = sym c.key.ensures ∙ c.in-Target.is in
+    ok_makes _ _ c.insert-in-Target.result
     (λ put h index same.
-    noted_position op c.in-Section.id c.args.self.now.positions.values c.insert-in-Section.new.self.values c.args.self.now.targets.values h c.args.position own
-    (ap (λ m. m.values) put) index same) c.insert-in-Section.ensures.ok
+    noted_target op c.in-Target.target h c.args.self.now.positions.values c.args.self.now.targets.values c.insert-in-Target.new.self.values c.args.position key
+    (ap (λ m. m.values) put) index same) c.insert-in-Target.ensures.ok

@@ -1,6 +1,6 @@
 use Rattle.std.proofs.Common.{List, ap, subst, sym, ◌∙◌, ◌≡◌}
 use Rattle.origin_model.specs.sides.Node.{IsNew}
-use Rattle.origin_model.specs.declared.sides.node.Node.{Node}
+use Rattle.origin_model.specs.declared.operations.node.Node.{Node}
 use Rattle.run_store.specs.Stored.{Stored}
 use Rattle.section_list.specs.Kept.{KeepsNodes}
 use Rattle.section_list.specs.SectionList.{Listing, with_element}

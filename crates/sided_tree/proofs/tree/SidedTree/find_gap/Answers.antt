@@ -5,7 +5,7 @@ use Rattle.origin_model.specs.sides.Keys.{keyed_order}
 use Rattle.origin_model.specs.sides.Node.{AreNodes, node_order, as_ops}
 use Rattle.origin_model.specs.sides.KeyedGap.{gap_by_keys, slot_key}
 use Rattle.origin_model.specs.sides.Slot.{IsPlace, slot_by}
-use Rattle.origin_model.specs.declared.sides.node.Node.{Node}
+use Rattle.origin_model.specs.declared.operations.node.Node.{Node}
 use Rattle.std.specs.List.{All}
 use Rattle.sided_tree.specs.Elders.{is_elder}
 use Rattle.origin_model.proofs.SharedLemmas.{adjacent, gap_found}

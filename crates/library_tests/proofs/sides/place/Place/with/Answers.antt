@@ -2,7 +2,7 @@ use Rattle.std.proofs.Common.{ap, refl, sym, ◌∙◌, ◌∷◌}
 use Rattle.std.specs.Prelude.{None}
 use Rattle.origin_model.specs.sides.Keys.{keyed_order}
 use Rattle.origin_model.specs.sides.Node.{AreNodes}
-use Rattle.origin_model.specs.declared.sides.node.Node.{Node}
+use Rattle.origin_model.specs.declared.operations.node.Node.{Node}
 use Rattle.sided_tree.proofs.PlaceLemmas.{fresh, joined, there}
 use Rattle.library_tests.proofs.sides.place.Place.with.Goals as goal
 
