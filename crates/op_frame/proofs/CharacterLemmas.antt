@@ -9,7 +9,7 @@ use Rattle.std.proofs.lemmas.Bool.Decides.{nat_tests}
 use Rattle.std.proofs.str.Laws.{order, one, two, three, four}
 use Rattle.std.proofs.str.Classes.{range}
 use Rattle.fugue_ids.specs.Titles.{has_line_end}
-use Rattle.op_frame.specs.Formats.{width_of}
+use Rattle.op_frame.specs.FrameFronts.{width_of}
 use Rattle.op_frame.proofs.CodeLemmas.{scalar_below}
 use lib.Utf8.{scalar_cases, low_scalar, next}
 

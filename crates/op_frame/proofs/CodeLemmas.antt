@@ -9,8 +9,7 @@ use Rattle.std.specs.Char.{IsScalar}
 use Rattle.std.proofs.lemmas.Bool.Decides.{nat_tests}
 use Rattle.fugue_ids.specs.Identifiers.{Identifier}
 use Rattle.origin_model.specs.frames.Frames.{id_bytes, scalar_bytes}
-use Rattle.op_frame.specs.Formats.{number, replica, identifier, origin, scalar, title, title_length}
-use Rattle.op_frame.proofs.FormatLemmas.{IsCode, code_join}
+use Rattle.op_frame.proofs.FormatLemmas.{IsCode, code_join, identifier, number, origin, replica, scalar, title, title_length}
 
 -- fronts of one length are the same
 pub same_fronts : {X : Type 0} (xs ys r s : List X) → length xs ≡ length ys → xs ++ r ≡ ys ++ s → (xs ≡ ys) × (r ≡ s)

@@ -1,14 +1,12 @@
 -- What stands at the front of bytes is one thing.
-use Rattle.std.proofs.Common.{◌≡◌, ℕ, List, [], ◌∷◌, length, take, drop, refl, ap, sym, subst, ◌∙◌, arith, length-append}
-use Rattle.std.proofs.lemmas.List.{take-append-drop, length-take-le, take_at}
+use Rattle.std.proofs.Common.{◌≡◌, ℕ, ◌≤◌, List, [], ◌∷◌, length, take, drop, refl, ap, sym, subst, ◌∙◌}
+use Rattle.std.proofs.lemmas.List.{take-append-drop, length-take-le}
 use Rattle.std.specs.Prelude.{Vec}
 use Rattle.std.specs.declared.alloc.Global.{Global}
 use Rattle.fugue_ids.specs.declared.op.Op.{Op}
-use Rattle.origin_model.specs.frames.Frames.{frame}
+use Rattle.origin_model.specs.frames.Frames.{IsBad, IsFrame, IsPartial}
 use Rattle.op_frame.specs.Firsts.{FrameOf, FirstIs}
-use Rattle.op_frame.specs.Formats.{Starts, IsFront, FitsNone, operation}
 use Rattle.op_frame.specs.declared.first.First.TheVariants.{Whole, Prefix, Bad}
-use Rattle.op_frame.proofs.FrameLemmas.{partial_is, bad_is}
 use Rattle.op_frame.proofs.StreamLemmas.{begins_not_partial, same_front}
 
 -- one frame stands there
@@ -17,12 +15,11 @@ same_frame ops others n m bytes p q =
     let same = same_front _ _ (drop n bytes) (drop m bytes) p.1.is_frame q.1.is_frame (take-append-drop n bytes ∙ sym (take-append-drop m bytes)) in
     (same.ops, sym (length-take-le n bytes p.0) ∙ ap length same.bytes ∙ length-take-le m bytes q.0)
 
-pub first_whole : (ops : Vec Op Global) (op : Op) (n : ℕ) (bytes : List ℕ) → ops.items ≡ op ∷ [] → n ≡ length (frame op) → Starts operation bytes op (drop n bytes) → FirstIs (Whole ops n) bytes
-first_whole ops op n bytes are long p =
-    let here : take n bytes ≡ frame op = ap (take n) p.split ∙ take_at (frame op) (drop n bytes) n (sym long) in
+pub first_whole : (ops : Vec Op Global) (op : Op) (n : ℕ) (bytes : List ℕ) → ops.items ≡ op ∷ [] → n ≤ length bytes → IsFrame (record { bytes = take n bytes; ops = op ∷ [] }) → FirstIs (Whole ops n) bytes
+first_whole ops op n bytes are within is =
     let found : FrameOf ops.items n bytes = (
-      omega (arith, long, ap length p.split, length-append (frame op) (drop n bytes)),
-      record { is_frame = record { op = op; has_frame = p.valid; bytes_are = here; ops_are = are }; split = sym (take-append-drop n bytes) },
+      within,
+      record { is_frame = subst (λ (l : List Op). IsFrame (record { bytes = take n bytes; ops = l })) (sym are) is; split = sym (take-append-drop n bytes) },
     ) in
     record {
       whole = λ others m. (
@@ -33,16 +30,16 @@ first_whole ops op n bytes are long p =
       bad = ((λ is. absurd (cc is)), λ q. absurd (q.no_frame _ (drop n bytes) found.1));
     }
 
-pub first_partial : (bytes : List ℕ) → IsFront operation bytes → FirstIs Prefix bytes
+pub first_partial : (bytes : List ℕ) → IsPartial bytes → FirstIs Prefix bytes
 first_partial bytes p = record {
-  whole = λ ops n. ((λ c. absurd c), λ q. absurd (begins_not_partial bytes _ (drop n bytes) q.1 (partial_is bytes p)));
-  partial = ((λ is. partial_is bytes p), λ q. refl);
-  bad = ((λ is. absurd (cc is)), λ q. absurd (q.no_front (partial_is bytes p)));
+  whole = λ ops n. ((λ c. absurd c), λ q. absurd (begins_not_partial bytes _ (drop n bytes) q.1 p));
+  partial = ((λ is. p), λ q. refl);
+  bad = ((λ is. absurd (cc is)), λ q. absurd (q.no_front p));
 }
 
-pub first_bad : (bytes : List ℕ) → FitsNone operation bytes → FirstIs Bad bytes
+pub first_bad : (bytes : List ℕ) → IsBad bytes → FirstIs Bad bytes
 first_bad bytes p = record {
-  whole = λ ops n. ((λ c. absurd c), λ q. absurd ((bad_is bytes p).no_frame _ (drop n bytes) q.1));
-  partial = ((λ is. absurd (cc is)), λ q. absurd ((bad_is bytes p).no_front q));
-  bad = ((λ is. bad_is bytes p), λ q. refl);
+  whole = λ ops n. ((λ c. absurd c), λ q. absurd (p.no_frame _ (drop n bytes) q.1));
+  partial = ((λ is. absurd (cc is)), λ q. absurd (p.no_front q));
+  bad = ((λ is. p), λ q. refl);
 }

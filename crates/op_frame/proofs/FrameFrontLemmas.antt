@@ -1,11 +1,12 @@
--- What is due behind some bytes of a frame, byte by byte.
-use Rattle.std.proofs.Common.{◌≡◌, ℕ, zero, suc, ◌+◌, ◌-◌, ◌<◌, ◌≤◌, false, List, [], ◌∷◌, ◌++◌, length, take, drop, set, refl, ap, sym, subst, ◌∙◌, append_assoc, arith, length-append}
+-- What is due behind some bytes of a frame, field by field.
+use Rattle.std.proofs.Common.{◌≡◌, ℕ, zero, suc, ◌+◌, ◌-◌, ◌<◌, ◌≤◌, false, List, [], ◌∷◌, ◌++◌, length, take, drop, get_or, set, refl, ap, sym, subst, ◌∙◌, append_assoc, arith, inl, inr, length-append}
 use Rattle.std.specs.Prelude.{◌↔◌, Option, Some, None}
+use Rattle.std.specs.Char.{IsScalar}
 use Rattle.std.specs.Int.{from_be_bytes, to_be_bytes, w16}
 use Rattle.std.specs.Str.{IsUtf8, chars, encode_utf8_all}
 use Rattle.std.proofs.Math.Seq.{drop-append_seam, take-add, take-append_seam}
 use Rattle.std.proofs.lemmas.Bool.{or_from, or_parts}
-use Rattle.std.proofs.lemmas.List.{append-nil, take-set-le, take_all, take_more_set}
+use Rattle.std.proofs.lemmas.List.{append-nil, append_cancel_left, take-set-le, take_more_set}
 use Rattle.std.proofs.lemmas.List.Folds.{list_any-append}
 use Rattle.std.proofs.lemmas.Nat.{from_be_bytes-to_be_bytes_2}
 use Rattle.std.proofs.lemmas.Str.{encodes-chars, IsCharBoundary-from_take, IsUtf8-append, IsUtf8-drop, IsUtf8-nil}
@@ -14,61 +15,33 @@ use Rattle.fugue_ids.specs.Titles.{ends_line, has_line_end}
 use Rattle.fugue_ids.specs.declared.limits.TheConstants.{LONGEST_TITLE}
 use Rattle.fugue_ids.specs.declared.op.Op.{Op}
 use Rattle.fugue_ids.specs.declared.op.Op.TheVariants.{Delete, Section, Text as TextOp}
-use Rattle.origin_model.specs.frames.Frames.{HasFrame, IsFrame, IsPartial, IsTitle, frame, id_bytes, origin_bytes, scalar_bytes, title_bytes}
-use Rattle.op_frame.specs.Formats.{FitsNone, Format, IsFront, Starts, Stops, identifier, scalar, title_length, title_text}
-use Rattle.op_frame.specs.FrameFronts.{Awaits, Completes, IsDueFront, IsFrameOf, IsGrown, IsIdentifierBytes, IsJudged, IsLast, IsOriginBytes, IsSound, IsTitleEnd, LeavesDue, Several, Then, field_size, grown_by, judged_by, text_due}
+use Rattle.origin_model.specs.frames.Frames.{Begins, Framed, HasFrame, IsBad, IsFrame, IsPartial, frame, id_bytes, origin_bytes, scalar_bytes, title_bytes}
+use Rattle.op_frame.specs.FrameFronts.{Awaits, Completes, IsDueFront, IsFrameOf, IsGrown, IsIdentifierBytes, IsJudged, IsLast, IsOriginBytes, IsSound, IsTitleEnd, LeavesDue, NeverCompletes, Several, Then, code_of, field_size, grown_by, text_due}
 use Rattle.op_frame.specs.declared.due.Due.{Due}
 use Rattle.op_frame.specs.declared.due.Due.TheVariants.{Fields, Kind}
+use Rattle.op_frame.specs.declared.due.Judged.TheVariants.{Front}
 use Rattle.op_frame.specs.declared.due.Last.{Last}
 use Rattle.op_frame.specs.declared.due.Last.TheVariants.{Nothing, Scalar, Text, Title}
-use Rattle.op_frame.specs.declared.frame_front.TheConstants.{LONGEST_FRAME}
+use Rattle.op_frame.specs.declared.encoding.TheConstants.{LONGEST_FRAME}
 use Rattle.op_frame.specs.declared.grown.Grown.{Grown}
 use Rattle.op_frame.specs.declared.grown.Grown.TheVariants.{Bad as IsNeither, Frame as IsWhole, Front as IsFrontGrown}
-use Rattle.op_frame.specs.declared.stop.Stop.{Stop}
-use Rattle.op_frame.specs.declared.stop.Stop.TheVariants.{Bad, NoMemory, Prefix}
-use Rattle.op_frame.proofs.CodeLemmas.{same_fronts}
-use Rattle.op_frame.proofs.TitleLemmas.{are_all_scalars, not_text, spelled, text_front}
+use Rattle.op_frame.proofs.CodeLemmas.{identifier_code, same_fronts}
+use Rattle.op_frame.proofs.FieldLemmas.{AreBytes, IdentifierFront, IdentifierWith, bytes_of_code}
+use Rattle.op_frame.proofs.FormatLemmas.{field_done, identifier, two_fronts}
+use Rattle.op_frame.proofs.FrameLemmas.{bad_goes_on}
+use Rattle.op_frame.proofs.StreamLemmas.{begins_not_partial}
+use Rattle.op_frame.proofs.TitleLemmas.{letters, letters_end, title_end, title_in}
+
+-- a title's bytes
+pub title_spelled : (len : ℕ) (bytes : List ℕ) → IsTitleEnd len bytes → to_be_bytes w16 len ++ bytes ≡ title_bytes (chars bytes)
+title_spelled len bytes e =
+    let same : encode_utf8_all (chars bytes) ≡ bytes = encodes-chars bytes e.0 in
+    λ i. to_be_bytes w16 ((sym e.2 ∙ ap length (sym same)) i) ++ sym same i
 
 -- nothing has no bytes
 none_long : (bytes : List ℕ) → length bytes ≡ 0 → bytes ≡ []
 none_long [] e = refl
 none_long (x ∷ bytes) e = absurd (omega (arith, e))
-
--- the bytes of a field's values
-abbrev Spelled : {T : Type 0} → Format T → List ℕ → Type 0
-Spelled {T} F bytes = (v : T) × F.valid v × (bytes ≡ F.spelling v)
-
--- bytes no longer than a field that begin with one are one
-whole : {T : Type 0} (F : Format T) (size : ℕ) → ((v : T) → F.valid v → length (F.spelling v) ≡ size) → (bytes after : List ℕ) (v : T) → length bytes ≤ size → Starts F bytes v after → bytes ≡ F.spelling v
-whole F size long bytes after v short p =
-    let none : after ≡ [] = none_long after (omega (arith, short, long v p.valid, ap length p.split, length-append (F.spelling v) after)) in
-    p.split ∙ ap (λ r. F.spelling v ++ r) none ∙ append-nil (F.spelling v)
-
--- a field of one length, and what is due behind it
-module _ {T : Type 0} (F : Format T) (size : ℕ) (long : (v : T) → F.valid v → length (F.spelling v) ≡ size) (Rest : List ℕ → Type 0) where
-  -- the field is whole
-  field_done : (bytes : List ℕ) → Spelled F bytes → (more : List ℕ) → Then (Spelled F) Rest (bytes ++ more) ↔ Rest more
-  field_done bytes is more = (
-    λ t.
-        let both = same_fronts bytes t.0 more t.1 (ap length is.2 ∙ long is.0 is.1 ∙ sym (ap length t.2.2 ∙ long t.2.0 t.2.1)) t.4 in
-        subst Rest (sym both.1) t.3,
-    λ r. (bytes, more, is, r, refl),
-  )
-
-  -- some bytes are the front of it
-  field_front : (bytes sample : List ℕ) → Rest sample → (p : IsFront F bytes) → Then (Spelled F) Rest (bytes ++ (p.more ++ sample))
-  field_front bytes sample rest p =
-      (F.spelling p.value, sample, (p.value, p.valid, refl), rest, sym (append_assoc bytes p.more sample) ∙ ap (λ b. b ++ sample) (sym p.front))
-
-  front_short : (bytes : List ℕ) → (p : IsFront F bytes) → length bytes < size
-  front_short bytes p = omega (arith, p.lacks, long p.value p.valid, ap length p.front, length-append bytes p.more)
-
-  -- it does not begin with them
-  field_none : (bytes : List ℕ) → FitsNone F bytes → (more : List ℕ) → Then (Spelled F) Rest (bytes ++ more) → ⊥
-  field_none bytes p more t = p.never t.2.0 t.1 more t.2.1 (ap (λ b. b ++ t.1) (sym t.2.2) ∙ sym t.4)
-
-title_end : (t : List ℕ) → IsTitle t → IsTitleEnd (length (encode_utf8_all t)) (encode_utf8_all t)
-title_end t p = ((t, (are_all_scalars t p.scalars, refl)), p.text.one_line, refl)
 
 -- there are bytes that are due, and some where a frame is not whole
 pub record Sample (due : Due) : Type 0 where
@@ -76,17 +49,11 @@ pub record Sample (due : Due) : Type 0 where
   pub completes : Completes due bytes
   pub some : grown_by due ≡ IsFrontGrown → 0 < length bytes
 
-title_sample : (len : ℕ) → 0 < len → len ≤ LONGEST_TITLE → (t : List ℕ) × IsTitle t × (length (encode_utf8_all t) ≡ len)
-title_sample len some short = let p = text_front len [] IsUtf8-nil refl some short in (p.value, p.valid.0, p.valid.1)
-
 last_sample : (last : Last) → IsSound (Fields 0 0 last) → Sample (Fields 0 0 last)
 last_sample Nothing s = record { bytes = []; completes = refl; some = λ e. absurd (cc e) }
 last_sample Scalar s = record { bytes = 0 ∷ 0 ∷ 0 ∷ []; completes = (0, refl, refl); some = λ e. omega arith }
-last_sample Title s =
-    let t = title_sample 1 (omega arith) (omega arith) in record { bytes = title_bytes t.0; completes = (t.0, t.1, refl); some = λ e. omega (arith, length-append (to_be_bytes w16 (length (encode_utf8_all t.0))) (encode_utf8_all t.0), t.2) }
-last_sample (Text len) s =
-    let t = title_sample len s.0 s.1 in
-    record { bytes = encode_utf8_all t.0; completes = subst (λ n. IsTitleEnd n (encode_utf8_all t.0)) t.2 (title_end t.0 t.1); some = λ e. omega (arith, t.2, s.0) }
+last_sample Title s = record { bytes = 0 ∷ 1 ∷ letters 1; completes = (chars (letters 1), title_in 1 (letters 1) (omega arith) (omega arith) (letters_end 1), title_spelled 1 (letters 1) (letters_end 1)); some = λ e. omega arith }
+last_sample (Text len) s = record { bytes = letters len; completes = letters_end len; some = λ e. omega (arith, s.0, (letters_end len).2) }
 
 sound_without : (identifiers origins : ℕ) (last : Last) → IsSound (Fields identifiers origins last) → IsSound (Fields 0 0 last)
 sound_without identifiers origins Nothing s = tt
@@ -139,30 +106,32 @@ never_bad (Fields zero zero Title) e = cc e
 never_bad (Fields zero zero (Text len)) e = cc e
 
 -- an identifier
-pub identifier_done : (i o : ℕ) (last : Last) (bytes after : List ℕ) (id : Identifier) → 0 < i → length bytes ≤ 8 → IsSound (Fields i o last) → Starts identifier bytes id after
-    → LeavesDue bytes (Fields i o last) (Fields (i - 1) o last)
-identifier_done zero o last bytes after id some short s p = absurd (omega (arith, some))
-identifier_done (suc i) o last bytes after id some short s p =
+pub identifier_done : (i o : ℕ) (last : Last) (bytes : List ℕ) → 0 < i → IsSound (Fields i o last) → IdentifierWith bytes [] → LeavesDue bytes (Fields i o last) (Fields (i - 1) o last)
+identifier_done zero o last bytes some s p = absurd (omega (arith, some))
+identifier_done (suc i) o last bytes some s p =
     let one : suc i - 1 ≡ i = omega arith in
     rw one (record {
-      rest = field_done identifier 8 (λ v is. refl) (Several i IsIdentifierBytes (Several o IsOriginBytes (IsLast last))) bytes (id, p.valid, whole identifier 8 (λ v is. refl) bytes after id short p);
+      rest = field_done identifier identifier_code (Several i IsIdentifierBytes (Several o IsOriginBytes (IsLast last))) bytes (p.id, p.is_identifier, sym (append-nil bytes) ∙ p.is);
       sound = sound_with i o last (sound_without (suc i) o last s);
     })
 
-pub identifier_stops : (i o : ℕ) (last : Last) (bytes : List ℕ) (stop : Stop) → 0 < i → IsSound (Fields i o last) → Stops identifier bytes stop → IsJudged (judged_by stop) (Fields i o last) bytes
-identifier_stops zero o last bytes stop some s p = absurd (omega (arith, some))
-identifier_stops (suc i) o last bytes Prefix some s p =
+pub identifier_front : (i o : ℕ) (last : Last) (bytes : List ℕ) → 0 < i → IsSound (Fields i o last) → length bytes < 8 → IdentifierFront bytes → IsJudged Front (Fields i o last) bytes
+identifier_front zero o last bytes some s short p = absurd (omega (arith, some))
+identifier_front (suc i) o last bytes some s short p =
     let behind = sample (Fields i o last) (sound_with i o last (sound_without (suc i) o last s)) in (
-      front_short identifier 8 (λ v is. refl) (λ b. Unit {0}) bytes p,
+      short,
       record {
         more = p.more ++ behind.bytes;
         lacks = omega (arith, p.lacks, length-append p.more behind.bytes);
-        completes = field_front identifier 8 (λ v is. refl) (Several i IsIdentifierBytes (Several o IsOriginBytes (IsLast last))) bytes behind.bytes behind.completes p;
+        completes = (
+          id_bytes p.whole.id,
+          behind.bytes,
+          (p.whole.id, p.whole.is_identifier, refl),
+          behind.completes,
+          sym (append_assoc bytes p.more behind.bytes) ∙ ap (λ b. b ++ behind.bytes) p.whole.is,
+        );
       },
     )
-identifier_stops (suc i) o last bytes Bad some s p =
-    field_none identifier 8 (λ v is. refl) (Several i IsIdentifierBytes (Several o IsOriginBytes (IsLast last))) bytes p
-identifier_stops (suc i) o last bytes NoMemory some s p = absurd p
 
 -- the first byte of an origin
 pub start_done : (o : ℕ) (last : Last) → 0 < o → IsSound (Fields 0 o last) → LeavesDue (0 ∷ []) (Fields 0 o last) (Fields 0 (o - 1) last)
@@ -196,66 +165,41 @@ tag_done (suc o) last some s =
     first field rest more (Some id, valid, is) r e = (id_bytes id, rest, (id, valid, refl), r, cc (e ∙ ap (λ f. f ++ rest) is))
 
 -- a scalar
-pub scalar_done : (bytes after : List ℕ) (ch : ℕ) → length bytes ≤ 3 → Starts scalar bytes ch after → LeavesDue bytes (Fields 0 0 Scalar) (Fields 0 0 Nothing)
-scalar_done bytes after ch short p =
-    let is : bytes ≡ scalar_bytes ch = whole scalar 3 (λ v is. refl) bytes after ch short p in
-    record {
-      rest = λ more. (
-        λ t. (same_fronts bytes (scalar_bytes t.0) more [] (ap length is) (t.2 ∙ sym (append-nil (scalar_bytes t.0)))).1,
-        λ none. (ch, p.valid, ap (λ m. bytes ++ m) none ∙ append-nil bytes ∙ is),
-      );
-      sound = tt;
-    }
-
-pub scalar_stops : (bytes : List ℕ) (stop : Stop) → Stops scalar bytes stop → IsJudged (judged_by stop) (Fields 0 0 Scalar) bytes
-scalar_stops bytes Prefix p =
-    (front_short scalar 3 (λ v is. refl) (λ b. Unit {0}) bytes p, record { more = p.more; lacks = p.lacks; completes = (p.value, p.valid, sym p.front) })
-scalar_stops bytes Bad p = λ more t. p.never t.0 [] more t.1 (append-nil (scalar_bytes t.0) ∙ sym t.2)
-scalar_stops bytes NoMemory p = absurd p
+pub scalar_front : (bytes : List ℕ) → 0 < length bytes → length bytes < 3 → AreBytes bytes → IsScalar (code_of (get_or bytes 0 0) (get_or bytes 1 0) (get_or bytes 2 0)) → IsDueFront (Fields 0 0 Scalar) bytes
+scalar_front [] some short fits is = absurd (omega (arith, some))
+scalar_front (h ∷ []) some short fits is =
+    record { more = 0 ∷ 0 ∷ []; lacks = omega arith; completes = (code_of h 0 0, is, sym (bytes_of_code h 0 0 (fits 0) (omega arith) (omega arith))) }
+scalar_front (h ∷ m ∷ []) some short fits is =
+    record { more = 0 ∷ []; lacks = omega arith; completes = (code_of h m 0, is, sym (bytes_of_code h m 0 (fits 0) (fits 1) (omega arith))) }
+scalar_front (h ∷ m ∷ l ∷ b) some short fits is = absurd (omega (arith, short))
 
 -- a title's length
 length_once : (v w : ℕ) → v ≤ LONGEST_TITLE → w ≤ LONGEST_TITLE → to_be_bytes w16 v ≡ to_be_bytes w16 w → v ≡ w
 length_once v w p q e =
     sym (from_be_bytes-to_be_bytes_2 v (omega (arith, p))) ∙ ap (from_be_bytes w16) e ∙ from_be_bytes-to_be_bytes_2 w (omega (arith, q))
 
--- a title's text is a title
-title_of_text : (len : ℕ) (bytes : List ℕ) → 0 < len → len ≤ LONGEST_TITLE → (e : IsTitleEnd len bytes) → (title_text len).valid (chars bytes)
-title_of_text len bytes some short e =
-    spelled len bytes e.0 (record { some = omega (arith, some, e.2); short = omega (arith, short, e.2); one_line = e.1 }) e.2
+pub length_done : (bytes : List ℕ) (len : ℕ) → length bytes ≡ 2 → to_be_bytes w16 len ≡ get_or bytes 0 0 ∷ get_or bytes 1 0 ∷ [] → 0 < len → len ≤ LONGEST_TITLE
+    → LeavesDue bytes (Fields 0 0 Title) (Fields 0 0 (Text len))
+length_done (h ∷ l ∷ []) len long is some short = record {
+  rest = λ more. (
+    λ t.
+        let both = same_fronts (h ∷ l ∷ []) (to_be_bytes w16 (length (encode_utf8_all t.0))) more (encode_utf8_all t.0) refl t.2 in
+        let own : length (encode_utf8_all t.0) ≡ len = length_once (length (encode_utf8_all t.0)) len t.1.text.short short (sym both.0 ∙ sym is) in
+        subst (IsTitleEnd len) (sym both.1) (subst (λ n. IsTitleEnd n (encode_utf8_all t.0)) own (title_end t.0 t.1)),
+    λ e. (chars more, title_in len more some short e, ap (λ b. b ++ more) (sym is) ∙ title_spelled len more e),
+  );
+  sound = (some, short);
+}
+length_done [] len long is some short = absurd (omega (arith, long))
+length_done (h ∷ []) len long is some short = absurd (omega (arith, long))
+length_done (h ∷ l ∷ x ∷ b) len long is some short = absurd (omega (arith, long))
 
-pub length_done : (bytes after : List ℕ) (len : ℕ) → length bytes ≤ 2 → Starts title_length bytes len after → LeavesDue bytes (Fields 0 0 Title) (Fields 0 0 (Text len))
-length_done bytes after len short p = record { rest = λ more. (λ t. text t.0 more t.1 t.2, λ e. title more e); sound = p.valid }
-  where
-    is : bytes ≡ to_be_bytes w16 len
-    is = whole title_length 2 (λ v is. refl) bytes after len short p
-
-    text : (t more : List ℕ) → IsTitle t → bytes ++ more ≡ title_bytes t → IsTitleEnd len more
-    text t more valid e =
-        let both = same_fronts bytes (to_be_bytes w16 (length (encode_utf8_all t))) more (encode_utf8_all t) (ap length is) e in
-        let same : length (encode_utf8_all t) ≡ len = length_once (length (encode_utf8_all t)) len valid.text.short p.valid.1 (sym both.0 ∙ is) in
-        subst (IsTitleEnd len) (sym both.1) (subst (λ n. IsTitleEnd n (encode_utf8_all t)) same (title_end t valid))
-
-    title : (more : List ℕ) → IsTitleEnd len more → IsLast Title (bytes ++ more)
-    title more e =
-        let t = title_of_text len more p.valid.0 p.valid.1 e in
-        (chars more, t.0, ap (λ b. b ++ more) is ∙ (λ i. to_be_bytes w16 (sym t.1 i) ++ sym (encodes-chars more e.0) i))
-
-pub length_stops : (bytes : List ℕ) (stop : Stop) → Stops title_length bytes stop → IsJudged (judged_by stop) (Fields 0 0 Title) bytes
-length_stops bytes Prefix p =
-    let t = title_sample p.value p.valid.0 p.valid.1 in (
-      front_short title_length 2 (λ v is. refl) (λ b. Unit {0}) bytes p,
-      record {
-        more = p.more ++ encode_utf8_all t.0;
-        lacks = omega (arith, p.lacks, length-append p.more (encode_utf8_all t.0));
-        completes = (
-          t.0,
-          t.1,
-          sym (append_assoc bytes p.more (encode_utf8_all t.0)) ∙ ap (λ b. b ++ encode_utf8_all t.0) (sym p.front) ∙ ap (λ n. to_be_bytes w16 n ++ encode_utf8_all t.0) (sym t.2),
-        );
-      },
-    )
-length_stops bytes Bad p = λ more t. p.never (length (encode_utf8_all t.0)) (encode_utf8_all t.0) more (t.1.text.some, t.1.text.short) (sym t.2)
-length_stops bytes NoMemory p = absurd p
+-- the first byte of a length
+pub high_front : (high : ℕ) → high ≤ 1 → IsDueFront (Fields 0 0 Title) (high ∷ [])
+high_front zero small = record { more = 1 ∷ letters 1; lacks = omega arith; completes = (chars (letters 1), title_in 1 (letters 1) (omega arith) (omega arith) (letters_end 1), title_spelled 1 (letters 1) (letters_end 1)) }
+high_front (suc zero) small =
+    record { more = 0 ∷ letters 256; lacks = omega arith; completes = (chars (letters 256), title_in 256 (letters 256) (omega arith) (omega arith) (letters_end 256), title_spelled 256 (letters 256) (letters_end 256)) }
+high_front (suc (suc n)) small = absurd (omega (arith, small))
 
 -- the text behind characters of it
 text_behind : (len : ℕ) (bytes more : List ℕ) → IsUtf8 bytes → IsTitleEnd len (bytes ++ more) → IsTitleEnd (len - length bytes) more
@@ -291,17 +235,6 @@ text_done bytes len utf8 one_line short most = record {
   );
   sound = sound_text (len - length bytes) (omega (arith, most));
 }
-
--- characters of a text, and some of another
-pub text_goes_on : (bytes : List ℕ) (len : ℕ) → length bytes < len → IsFront (title_text len) bytes → (length bytes < len) × IsDueFront (Fields 0 0 (Text len)) bytes
-text_goes_on bytes len short p = (
-  short,
-  record { more = p.more; lacks = p.lacks; completes = subst (IsTitleEnd len) p.front (subst (λ n. IsTitleEnd n (encode_utf8_all p.value)) p.valid.1 (title_end p.value p.valid.0)) },
-)
-
-pub text_fits_none : (bytes : List ℕ) (len : ℕ) → 0 < len → len ≤ LONGEST_TITLE → FitsNone (title_text len) bytes → (more : List ℕ) → IsTitleEnd len (bytes ++ more) → ⊥
-text_fits_none bytes len some short p more e =
-    p.never (chars (bytes ++ more)) [] more (title_of_text len (bytes ++ more) some short e) (append-nil (encode_utf8_all (chars (bytes ++ more))) ∙ encodes-chars (bytes ++ more) e.0)
 
 -- fields one behind the other
 four : (a b c d : List ℕ) → a ++ (b ++ (c ++ d)) ≡ a ++ b ++ c ++ d
@@ -390,10 +323,7 @@ nothing_due Scalar bytes is some more e = cc is
 nothing_due Title bytes is some more e = cc is
 nothing_due (Text len) bytes is some more e = cc is
 
--- bytes of a text that has no more
-pub last_none : (bytes : List ℕ) (len : ℕ) → length bytes ≡ len → ¬ (IsUtf8 bytes) → FitsNone (title_text len) bytes
-last_none bytes len long bad = not_text len bytes (omega (arith, long)) (λ u. bad (subst IsUtf8 (take_all len bytes (omega (arith, long))) u))
-
+-- a text of some bytes
 pub some_text : (len : ℕ) → (len ≡ 0 → ⊥) → Fields 0 0 (Text len) ≡ text_due len
 some_text zero some = absurd (some refl)
 some_text (suc len) some = refl
@@ -416,12 +346,48 @@ module _ (due : Due) (before : List ℕ) (rest : (more : List ℕ) → IsFrameOf
   is_grown IsFrontGrown e s = let p = sample due s in subst IsPartial (append-nil before) (is_front [] (record { more = p.bytes; lacks = p.some (sym e); completes = p.completes }))
   is_grown IsNeither e s = absurd (never_bad due (sym e))
 
+-- a field that was looked at is not shorter than what is due
+long_enough : (due : Due) (bytes : List ℕ) → grown_by due ≡ IsFrontGrown → Completes due bytes → field_size due ≤ length bytes
+long_enough Kind bytes e t = long_kind t.0 bytes t.2
+  where
+    long_kind : (op : Op) (bytes : List ℕ) → bytes ≡ frame op → 1 ≤ length bytes
+    long_kind (Section id l r t) bytes is = omega (arith, ap length is)
+    long_kind (TextOp id s l r ch) bytes is = omega (arith, ap length is)
+    long_kind (Delete id) bytes is = omega (arith, ap length is)
+long_enough (Fields (suc i) o last) bytes e t = omega (arith, ap length t.2.2, ap length t.4, length-append t.0 t.1)
+long_enough (Fields zero (suc o) last) bytes e t = long_origin t.0 t.1 t.2.0 t.2.2 t.4
+  where
+    long_origin : (field rest : List ℕ) (origin : Option Identifier) → field ≡ origin_bytes origin → bytes ≡ field ++ rest → 1 ≤ length bytes
+    long_origin field rest None is e = omega (arith, ap length is, ap length e, length-append field rest)
+    long_origin field rest (Some id) is e = omega (arith, ap length is, ap length e, length-append field rest)
+long_enough (Fields zero zero Nothing) bytes e t = absurd (cc e)
+long_enough (Fields zero zero Scalar) bytes e t = omega (arith, ap length t.2)
+long_enough (Fields zero zero Title) bytes e t = omega (arith, ap length t.2, length-append (to_be_bytes w16 (length (encode_utf8_all t.0))) (encode_utf8_all t.0))
+long_enough (Fields zero zero (Text len)) bytes e t = omega (arith, t.2)
+
+-- no frame begins with bytes of which a field is none
+pub no_front : (due : Due) (before field behind : List ℕ) → Awaits due before 0 → grown_by due ≡ IsFrontGrown → length field ≤ field_size due → NeverCompletes due field → IsBad ((before ++ field) ++ behind)
+no_front due before field behind a e short never = bad_goes_on (before ++ field) behind (record {
+  no_frame = λ framed rest b. elim (two_fronts before field framed.bytes rest b.split) [
+    | inl r ↦ elsewhere framed r.between rest b r.is
+    | inr r ↦ begins_not_partial before framed r.between (record { is_frame = b.is_frame; split = r.is }) (is_grown due before a.rest IsFrontGrown (sym e) a.sound)
+  ];
+  no_front = (is_neither due before a.rest field never).1;
+})
+  where
+    elsewhere : (framed : Framed) (between rest : List ℕ) → Begins (before ++ field) framed rest → framed.bytes ≡ before ++ between → ⊥
+    elsewhere framed between rest b is =
+        let completes : Completes due between = (a.rest between).0 (framed.ops, subst (λ l. IsFrame (record { bytes = l; ops = framed.ops })) is b.is_frame) in
+        let split : field ≡ between ++ rest = append_cancel_left before field (between ++ rest) (b.split ∙ ap (λ l. l ++ rest) is ∙ append_assoc before between rest) in
+        let none : rest ≡ [] = none_long rest (omega (arith, long_enough due between e completes, short, ap length split, length-append between rest)) in
+        never [] (subst (Completes due) (sym (append-nil field ∙ split ∙ ap (λ l. between ++ l) none ∙ append-nil between)) completes)
+
 -- no frame is longer than a Section with both origins and a title of 480 bytes
 origin_short : (origin : Option Identifier) → length (origin_bytes origin) ≤ 9
 origin_short None = omega arith
 origin_short (Some id) = omega arith
 
-frame_short : (op : Op) → HasFrame op → length (frame op) ≤ LONGEST_FRAME
+pub frame_short : (op : Op) → HasFrame op → length (frame op) ≤ LONGEST_FRAME
 frame_short (Section id l r t) has =
     omega (
       arith,
@@ -485,3 +451,7 @@ with_field bytes len field byte p q =
     let all : field + (len + 1 - field) ≡ len + 1 = omega (arith, p) in
     ap (λ t. t ++ take (len + 1 - field) (drop field (set bytes len byte))) (sym (take-set-le field bytes len byte p)) ∙ sym (take-add field (len + 1 - field) (set bytes len byte))
     ∙ ap (λ n. take n (set bytes len byte)) all ∙ take_more_set bytes len byte q
+
+-- a front of the bytes with the field behind it
+pub next_field : (bytes : List ℕ) (at end : ℕ) → at ≤ end → take at bytes ++ take (end - at) (drop at bytes) ≡ take end bytes
+next_field bytes at end le = let all : at + (end - at) ≡ end = omega (arith, le) in sym (take-add at (end - at) bytes) ∙ ap (λ n. take n bytes) all

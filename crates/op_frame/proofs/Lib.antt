@@ -16,3 +16,4 @@ pub mod FirstLemmas
 pub mod AnswerLemmas
 pub mod CourseLemmas
 pub mod FrameFrontLemmas
+pub mod DecodingLemmas

@@ -5,16 +5,14 @@ use Rattle.std.specs.Io.KnownBytes.{prepend_known}
 use Rattle.std.proofs.lemmas.List.{take_at, append-nil}
 use Rattle.fugue_ids.specs.declared.op.Op.{Op}
 use Rattle.outer_ports.specs.Sources.{SourceView, KeepsCount}
-use Rattle.fugue_ids.specs.Identifiers.{Identifier}
-use Rattle.fugue_ids.specs.declared.op.Op.TheVariants.{Section, Text, Delete}
-use Rattle.origin_model.specs.frames.Frames.{frame, HasFrame, IsPartial, IsBad, origin_bytes}
+use Rattle.origin_model.specs.frames.Frames.{frame, IsPartial, IsBad}
 use Rattle.op_frame.specs.declared.fault.FrameFault.{FrameFault}
 use Rattle.op_frame.specs.declared.fault.FrameFault.TheVariants.{BadFrame, CutShort, ReadFault, TooLong, NoMemory}
-use Rattle.op_frame.specs.Formats.{Starts, IsFront, FitsNone, operation}
 use Rattle.op_frame.specs.Readers.{AnswerIs, AnswersBy}
 use Rattle.op_frame.specs.Refills.{Refills, Drops}
-use Rattle.op_frame.specs.Steps.{Takes, only_op}
-use Rattle.op_frame.proofs.FrameLemmas.{partial_is, bad_is, none_goes_on}
+use Rattle.op_frame.specs.Steps.{Takes, TakesFrame, only_op}
+use Rattle.op_frame.proofs.FrameLemmas.{bad_goes_on}
+use Rattle.op_frame.proofs.FrameFrontLemmas.{frame_short}
 use Rattle.outer_ports.proofs.CountLemmas.{count_so, count_then}
 use Rattle.op_frame.proofs.ToldLemmas.{prepend_twice, shows, some_is, take_past}
 use Rattle.op_frame.proofs.AnswerLemmas.{answers_by}
@@ -35,28 +33,31 @@ module _ (old unread : List ℕ) (before now : SourceView) (offset room : ℕ) (
   answer result is = shows (AnswersBy result offset room) unread now.left (prepend_known old before.left) s.told (λ rest left. answers_by result offset room (unread ++ rest) (is rest left))
 
   -- a frame stands at the front of the unread bytes
-  pub gives : (new : List ℕ) (op : Op) → Starts operation unread op new → Takes old new before now offset room (Ok (Some op))
-  gives new op p = record {
-    answer = answer (Ok (Some op)) (λ rest is. record {
-      has_frame = p.valid;
-      within = omega (arith, s.inside, ap length p.split, length-append (frame op) new);
-      rest = new ++ rest;
-      split = ap (λ (l : List ℕ). l ++ rest) p.split ∙ append_assoc (frame op) new rest;
-    });
-    at = tt;
-    moves = s.told ∙ ap (λ (l : List ℕ). prepend_known l now.left) p.split ∙ sym (prepend_twice (frame op) new now.left);
-    within = omega (arith, s.inside, ap length p.split, length-append (frame op) new);
-    full = λ is. absurd (cc is);
-    has_frame = p.valid;
-    count = count_so ⊥ _ s.count (λ is. cc is) (λ none. absurd none);
-  }
+  gives : (new : List ℕ) (found : Option (Op × ℕ)) (n : ℕ) → TakesFrame found unread new n → Takes old new before now offset room (only_op (Ok found))
+  gives new None n p = absurd p
+  gives new (Some found) n p =
+      let op : Op = found.0 in
+      record {
+        answer = answer (Ok (Some op)) (λ rest is. record {
+          has_frame = p.0;
+          within = omega (arith, s.inside, ap length p.3, length-append (frame op) new);
+          rest = new ++ rest;
+          split = ap (λ (l : List ℕ). l ++ rest) p.3 ∙ append_assoc (frame op) new rest;
+        });
+        at = tt;
+        moves = s.told ∙ ap (λ (l : List ℕ). prepend_known l now.left) p.3 ∙ sym (prepend_twice (frame op) new now.left);
+        within = omega (arith, s.inside, ap length p.3, length-append (frame op) new);
+        full = λ is. absurd (cc is);
+        has_frame = p.0;
+        count = count_so ⊥ _ s.count (λ is. cc is) (λ none. absurd none);
+      }
 
   -- no frame stands there, whatever follows
-  pub refuses : FitsNone operation unread → Takes old unread before now offset room (Err (BadFrame offset))
-  refuses p = record {
+  pub refuses : IsBad unread → Takes old unread before now offset room (Err (BadFrame offset))
+  refuses bad = record {
     answer = answer (Err (BadFrame offset)) (λ rest is. (
       refl,
-      subst IsBad (sym (take_past unread rest room (length unread) refl s.inside)) (bad_is _ (none_goes_on unread (take (room - length unread) rest) p)),
+      subst IsBad (sym (take_past unread rest room (length unread) refl s.inside)) (bad_goes_on unread (take (room - length unread) rest) bad),
     ));
     at = refl;
     moves = s.told;
@@ -67,19 +68,25 @@ module _ (old unread : List ℕ) (before now : SourceView) (offset room : ℕ) (
   }
 
   -- a Section's title found no memory
-  pub wants : slice_get unread 0 ≡ Some 1 → Takes old unread before now offset room (Err NoMemory)
-  wants first = record {
+  wants : (new : List ℕ) → new ≡ unread → slice_get unread 0 ≡ Some 1 → Takes old new before now offset room (Err NoMemory)
+  wants new same first = record {
     answer = answer (Err NoMemory) (λ rest is. first_stays unread rest 1 first);
     at = tt;
-    moves = s.told;
-    within = omega (arith, s.inside);
+    moves = s.told ∙ ap (λ (l : List ℕ). prepend_known l now.left) (sym same);
+    within = omega (arith, s.inside, ap length same);
     full = λ is. absurd (cc is);
     has_frame = tt;
     count = count_so ⊥ _ s.count (λ is. cc is) (λ none. absurd none);
   }
 
+  -- the frame at the front was taken off, or found no memory
+  pub takes_frame : (new : List ℕ) (n : ℕ) (result : Result (Option (Op × ℕ)) FrameFault) → IfOk result (λ given. TakesFrame given unread new n)
+      → IfErr result (λ e. (e ≡ NoMemory) × (new ≡ unread) × (slice_get unread 0 ≡ Some 1)) → Takes old new before now offset room (only_op result)
+  takes_frame new n (Ok found) ok err = gives new found n ok
+  takes_frame new n (Err e) ok err = subst (λ (fault : FrameFault). Takes old new before now offset room (Err fault)) (sym err.0) (wants new err.1 err.2)
+
   -- the stream is over, and so are its frames, or it is over within one
-  pub over : (result : Result (Option (Op × ℕ)) FrameFault) → IsFront operation unread → IfSome now.left (λ left. left ≡ [])
+  pub over : (result : Result (Option (Op × ℕ)) FrameFault) → IsPartial unread → IfSome now.left (λ left. left ≡ [])
       → IfOk result (λ given. (given ≡ None) × (unread ≡ [])) → IfErr result (λ e. (e ≡ CutShort offset) × (unread ≢ [])) → Takes old unread before now offset room (only_op result)
   over (Ok None) front none is cut = record {
     answer = answer (Ok None) (λ rest left. (λ i. is.1 i ++ some_is (λ (l : List ℕ). l ≡ []) now.left rest none left i));
@@ -94,7 +101,7 @@ module _ (old unread : List ℕ) (before now : SourceView) (offset room : ℕ) (
   over (Err e) front none is cut = subst (λ (fault : FrameFault). Takes old unread before now offset room (Err fault)) (sym cut.0) (record {
     answer = answer (Err (CutShort offset)) (λ rest left.
         let all : unread ≡ unread ++ rest = sym (append-nil unread) ∙ ap (λ (l : List ℕ). unread ++ l) (sym (some_is (λ (l : List ℕ). l ≡ []) now.left rest none left)) in
-        subst (AnswerIs (Err (CutShort offset)) offset room) all (refl, cut.1, s.inside, partial_is unread front));
+        subst (AnswerIs (Err (CutShort offset)) offset room) all (refl, cut.1, s.inside, front));
     at = refl;
     moves = (s.told, none);
     within = omega (arith, s.inside);
@@ -111,7 +118,7 @@ module _ (old unread : List ℕ) (before now : SourceView) (offset room : ℕ) (
   read_is_long e is long = cc (is, long)
 
   -- the source failed, or has more than the limit takes
-  pub stops : (new : List ℕ) (after : SourceView) (e : FrameFault) → IsFront operation unread → Refills unread new now after (room - length unread) (Err e)
+  pub stops : (new : List ℕ) (after : SourceView) (e : FrameFault) → IsPartial unread → Refills unread new now after (room - length unread) (Err e)
       → Takes old new before after offset room (Err e)
   stops new after e front r = by_fault r.faults
     where
@@ -130,7 +137,7 @@ module _ (old unread : List ℕ) (before now : SourceView) (offset room : ℕ) (
           subst (λ (fault : FrameFault). Takes old new before after offset room (Err fault)) (sym f.0) (record {
             answer = answer (Err TooLong) (λ rest is. (
               omega (arith, here, more_there after.left rest f.2.byte (sym is ∙ f.2.dropped), length-append unread rest),
-              subst IsPartial (sym (take_at unread rest room here)) (partial_is unread front),
+              subst IsPartial (sym (take_at unread rest room here)) (front),
             ));
             at = tt;
             moves = (
@@ -151,15 +158,5 @@ module _ (old unread : List ℕ) (before now : SourceView) (offset room : ℕ) (
     count = count_then ⊥ s.count (count_so _ ⊥ r.count (λ none. absurd none) (λ is. cc is));
   }
 
-origin_short : (o : Option Identifier) → length (origin_bytes o) ≤ 9
-origin_short None = omega arith
-origin_short (Some i) = omega arith
-
--- the longest frame is that of a Section with both origins and 480 bytes of title
-frame_short : (op : Op) → HasFrame op → length (frame op) ≤ 509
-frame_short (Section i l r t) has = simp length-append (omega (arith, has.3.text.short, origin_short l, origin_short r))
-frame_short (Text i s l r c) has = simp length-append (omega (arith, origin_short l, origin_short r))
-frame_short (Delete i) has = omega arith
-
-pub front_short : (b : List ℕ) → IsFront operation b → length b < 4096
-front_short b p = omega (arith, frame_short p.value p.valid, ap length p.front, length-append b p.more)
+pub front_short : (b : List ℕ) → IsPartial b → length b < 4096
+front_short b p = omega (arith, frame_short p.is_frame.op p.is_frame.has_frame, ap length p.is_frame.bytes_are, ap length p.front, length-append b p.more)

@@ -10,9 +10,10 @@ use Rattle.origin_model.specs.frames.Frames.{frame, Framed, IsFrame, Begins, IsP
 use Rattle.op_frame.specs.declared.fault.FrameFault.TheVariants.{BadFrame, CutShort, ReadFault, TooLong, NoMemory}
 use Rattle.op_frame.specs.declared.fault.FrameFault.{FrameFault}
 use Rattle.op_frame.specs.Readers.{Reading, to_give, AnswerIs, AreFirst, Chains, EndsBy, Follows, Gave, IsByBytes, Nexts, given_with}
-use Rattle.op_frame.proofs.OperationLemmas.{operation_code, operation_empty, frame_is}
+use Rattle.fugue_ids.specs.declared.op.Op.TheVariants.{Delete, Section, Text}
+use Rattle.op_frame.proofs.OperationLemmas.{operation_code}
 use Rattle.origin_model.proofs.SharedLemmas.{framed_is, framed_of}
-use Rattle.op_frame.proofs.FrameLemmas.{partial_is, bad_goes_on}
+use Rattle.op_frame.proofs.FrameLemmas.{bad_goes_on}
 use Rattle.op_frame.proofs.ToldLemmas.{prepend_none, prepend_twice, shows, some_is, take_past}
 use Rattle.op_frame.proofs.FrontLemmas.{Front, frame_there, front_there, bad_there, front_of}
 
@@ -23,10 +24,20 @@ abbrev pub ops_of : List Framed → List Op
 ops_of found = flat_map (λ framed. framed.ops) found
 
 pub no_bytes_are_partial : IsPartial []
-no_bytes_are_partial = partial_is [] (operation_empty [] refl)
+no_bytes_are_partial =
+    let op : Op = Delete (record { replica = 1; counter = 0 }) in
+    record {
+      framed = framed_of op;
+      is_frame = framed_is op (record { some_replica = omega arith; replica_fits = omega arith; counter_fits = omega arith });
+      more = frame op;
+      lacks = omega arith;
+      front = refl;
+    }
 
 pub frame_some : (op : Op) → 0 < length (frame op)
-frame_some op = omega (arith, ap length (frame_is op))
+frame_some (Section i l r t) = omega arith
+frame_some (Text i s l r ch) = omega arith
+frame_some (Delete i) = omega arith
 
 pub framed_some : (framed : Framed) → IsFrame framed → 0 < length framed.bytes
 framed_some framed is = omega (arith, frame_some is.op, ap length is.bytes_are)

@@ -1,11 +1,12 @@
--- What the first frame of some bytes is.
-use Rattle.std.specs.Prelude.{◌≡◌, ◌↔◌, ℕ, ◌≤◌, List, length, take, drop, Result, Ok, Err}
+-- What the first frame of some bytes is, and what a whole frame says.
+use Rattle.std.specs.Prelude.{◌≡◌, ◌↔◌, ℕ, ◌≤◌, List, ◌∷◌, length, take, drop}
 use Rattle.fugue_ids.specs.declared.op.Op.{Op}
-use Rattle.origin_model.specs.frames.Frames.{frame, Begins, IsPartial, IsBad}
-use Rattle.op_frame.specs.Formats.{Starts, Stops, operation}
+use Rattle.origin_model.specs.frames.Frames.{frame, Begins, HasFrame, IsBad, IsPartial}
+use Rattle.op_frame.specs.FrameFronts.{IsFrameOf, Then}
 use Rattle.op_frame.specs.declared.first.First.{First}
 use Rattle.op_frame.specs.declared.first.First.TheVariants.{Whole, Prefix, Bad}
-use Rattle.op_frame.specs.declared.stop.Stop.{Stop}
+use Rattle.op_frame.specs.declared.front.Front.{Front}
+use Rattle.op_frame.specs.declared.front.Front.TheVariants.{Frame as FrameThere, Prefix as PrefixThere, Bad as NoneThere}
 
 -- the answer is a frame's operations, and its length
 abbrev pub Carries : First → List Op → ℕ → Type 0
@@ -22,7 +23,16 @@ pub record FirstIs (first : First) (bytes : List ℕ) : Type 0 where
   pub partial : (first ≡ Prefix) ↔ IsPartial bytes
   pub bad : (first ≡ Bad) ↔ IsBad bytes
 
--- the same by what stops the reading
-abbrev pub FirstFrame : Result (Op × ℕ) Stop → List ℕ → Type 0
-FirstFrame (Ok found) bytes = (found.1 ≡ length (frame found.0)) × Starts operation bytes found.0 (drop found.1 bytes)
-FirstFrame (Err stop) bytes = Stops operation bytes stop
+-- what stands there, before anything is read of it
+abbrev pub FrontIs : Front → List ℕ → Type 0
+FrontIs (FrameThere len) bytes = (len ≤ length bytes) × IsFrameOf (take len bytes)
+FrontIs PrefixThere bytes = IsPartial bytes
+FrontIs NoneThere bytes = IsBad bytes
+
+-- a field, with anything behind it
+abbrev pub StartsWith : (List ℕ → Type 0) → List ℕ → Type 0
+StartsWith Field bytes = Then Field (λ rest. Unit {0}) bytes
+
+-- behind its first byte, the bytes of the operation's frame
+abbrev pub IsFrameBehind : ℕ → Op → List ℕ → Type 0
+IsFrameBehind kind op rest = HasFrame op × (kind ∷ rest ≡ frame op)

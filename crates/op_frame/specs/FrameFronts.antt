@@ -1,5 +1,5 @@
 -- What a frame still lacks behind some of its bytes.
-use Rattle.std.specs.Prelude.{◌≡◌, ◌↔◌, ℕ, zero, suc, ◌<◌, ◌≤◌, List, [], ◌∷◌, ◌++◌, length, false, Option}
+use Rattle.std.specs.Prelude.{◌≡◌, ◌↔◌, ℕ, zero, suc, ◌+◌, ◌*◌, ◌<◌, ◌≤◌, nat_lt, if◌then◌else◌, List, [], ◌∷◌, ◌++◌, length, false, Option}
 use Rattle.std.specs.Char.{IsScalar}
 use Rattle.std.specs.Str.{IsUtf8}
 use Rattle.fugue_ids.specs.Identifiers.{Identifier}
@@ -13,8 +13,6 @@ use Rattle.op_frame.specs.declared.due.Judged.{Judged}
 use Rattle.op_frame.specs.declared.due.Judged.TheVariants.{Done, Front, Bad}
 use Rattle.op_frame.specs.declared.due.Last.{Last}
 use Rattle.op_frame.specs.declared.due.Last.TheVariants.{Nothing, Scalar, Title, Text}
-use Rattle.op_frame.specs.declared.stop.Stop.{Stop}
-use Rattle.op_frame.specs.declared.stop.Stop.TheVariants.{Prefix}
 use Rattle.op_frame.specs.declared.grown.Grown.{Grown}
 use Rattle.op_frame.specs.declared.grown.Grown.TheVariants.{Frame as IsWhole, Front as IsFront, Bad as IsNeither}
 
@@ -88,21 +86,28 @@ pub record IsDueFront (due : Due) (bytes : List ℕ) : Type 0 where
   pub lacks : 0 < length more
   pub completes : Completes due (bytes ++ more)
 
+-- no bytes behind these make them what is due
+abbrev pub NeverCompletes : Due → List ℕ → Type 0
+NeverCompletes due bytes = (more : List ℕ) → Completes due (bytes ++ more) → ⊥
+
 -- what the bytes of a field are: all of it, some of it, or none
 abbrev pub IsJudged : Judged → Due → List ℕ → Type 0
 IsJudged (Done next) due bytes = LeavesDue bytes due next
 IsJudged Front due bytes = (length bytes < field_size due) × IsDueFront due bytes
-IsJudged Bad due bytes = (more : List ℕ) → Completes due (bytes ++ more) → ⊥
+IsJudged Bad due bytes = NeverCompletes due bytes
+
+-- the number of three bytes
+abbrev pub code_of : (high middle low : ℕ) → ℕ
+code_of high middle low = high * 65536 + middle * 256 + low
+
+-- how many bytes a character has that begins with this byte and is not ASCII
+abbrev pub width_of : ℕ → ℕ
+width_of lead = if nat_lt lead 224 then 2 else (if nat_lt lead 240 then 3 else 4)
 
 -- a text of so many bytes, or nothing
 abbrev pub text_due : ℕ → Due
 text_due zero = Fields 0 0 Nothing
 text_due (suc len) = Fields 0 0 (Text (suc len))
-
--- bytes that are not all of a field, by what stops the reading of it
-abbrev pub judged_by : Stop → Judged
-judged_by Prefix = Front
-judged_by stop = Bad
 
 -- behind these bytes, and so many of the field that is due, this makes a frame
 pub record Awaits (due : Due) (before : List ℕ) (came : ℕ) : Type 0 where

@@ -1,4 +1,3 @@
-pub mod Formats
 pub mod Firsts
 pub mod Encoded
 pub mod Laws

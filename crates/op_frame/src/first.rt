@@ -1,10 +1,8 @@
-ghost use Rattle.std.specs.Prelude.{◌≡◌, Some, IfOk, IsErrOf, slice_get};
-ghost use Rattle.op_frame.specs.Firsts.{FirstIs, FirstFrame};
-ghost use Rattle.op_frame.specs.declared.stop.Stop.TheVariants.{NoMemory as WantsMemory};
+ghost use Rattle.std.specs.Prelude.{IfOk};
+ghost use Rattle.op_frame.specs.Firsts.{FirstIs};
 
-use crate::cursor::Cursor;
-use crate::operation::{SECTION, take_operation};
-use crate::stop::Stop;
+use crate::decoding::decode;
+use crate::front::{Front, front_of};
 use fugue_ids::{NoMemory, Op};
 use std::alloc::Global;
 
@@ -23,24 +21,13 @@ pub enum First {
 pub fn first_frame(alloc: Global, bytes: &[u8]) -> Result<First, NoMemory>
     ensures { IfOk result (λ first. FirstIs first bytes.now) }
 {
-    match first_operation(alloc, bytes) {
-        Ok((op, len)) => {
+    match front_of(bytes) {
+        Front::Frame(len) => {
             let mut ops = Vec::new(alloc);
-            ops.push(op)?;
+            ops.push(decode(alloc, &bytes[..len])?)?;
             Ok(First::Whole(ops, len))
         }
-        Err(Stop::Prefix) => Ok(First::Prefix),
-        Err(Stop::Bad) => Ok(First::Bad),
-        Err(Stop::NoMemory) => Err(NoMemory),
+        Front::Prefix => Ok(First::Prefix),
+        Front::Bad => Ok(First::Bad),
     }
-}
-
-/// The operation of the frame at the front of the bytes, and the frame's length.
-pub(crate) fn first_operation(alloc: Global, bytes: &[u8]) -> Result<(Op, usize), Stop>
-    ensures frame { FirstFrame result bytes.now }
-    ensures no_memory { IsErrOf result WantsMemory → slice_get bytes.now 0 ≡ Some SECTION }
-{
-    let mut cursor = Cursor { rest: bytes };
-    let op = take_operation(alloc, &mut cursor)?;
-    Ok((op, bytes.len() - cursor.rest.len()))
 }

@@ -1,13 +1,11 @@
 ghost use Rattle.std.specs.Prelude.{◌≡◌, ◌∷◌, ◌++◌, []};
-ghost use Rattle.op_frame.specs.FrameFronts.{IsGrown, grown_by as by_due, grown_to};
+ghost use Rattle.op_frame.specs.FrameFronts.{IsGrown, grown_to};
 
-use crate::due::{Due, Judged, Last};
+use crate::due::{Due, Judged};
+use crate::encoding::LONGEST_FRAME;
 use crate::grown::Grown;
-use crate::judge::judge;
+use crate::judge::{grown_by, judge};
 use std::marker::Model;
-
-/// The bytes of the longest frame: a Section with both origins and a title of 480 bytes.
-pub const LONGEST_FRAME: usize = 509;
 
 /// The first bytes of a frame, as they come one by one. It is seen as these bytes, and takes no memory.
 ///
@@ -24,7 +22,7 @@ pub struct FrameFront {
 impl Model for FrameFront {
     ghost use Rattle.std.specs.Prelude.{◌-◌, ◌≤◌, List, drop, take, ℕ};
     ghost use Rattle.op_frame.specs.FrameFronts.{Awaits};
-    ghost use Rattle.op_frame.specs.declared.frame_front.TheConstants.{LONGEST_FRAME};
+    ghost use Rattle.op_frame.specs.declared.encoding.TheConstants.{LONGEST_FRAME};
 
     ghost Value = { List ℕ };
 
@@ -97,15 +95,5 @@ impl FrameFront {
             }
             Judged::Bad => Grown::Bad,
         }
-    }
-}
-
-/// What bytes are behind which this is due.
-fn grown_by(due: Due) -> Grown
-    ensures { result ≡ by_due due }
-{
-    match due {
-        Due::Fields(0, 0, Last::Nothing) => Grown::Frame,
-        _ => Grown::Front,
     }
 }

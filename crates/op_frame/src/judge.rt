@@ -1,20 +1,70 @@
-ghost use Rattle.std.specs.Prelude.{◌≡◌, ◌≤◌, ◌<◌, length, [], ◌∷◌};
-ghost use Rattle.op_frame.specs.FrameFronts.{IsJudged, IsSound, field_size, judged_by, last_size, text_due as due_text};
+ghost use Rattle.std.specs.Prelude.{◌≡◌, ◌≤◌, ◌<◌, length, [], ◌∷◌, true, false};
+ghost use Rattle.op_frame.specs.FrameFronts.{IsJudged, IsSound, field_size as due_size, grown_by as by_due, last_size as due_last_size};
 ghost use Rattle.op_frame.specs.declared.due.Due.TheVariants.{Fields as FieldsDue, Kind as KindDue};
-ghost use Rattle.op_frame.specs.declared.due.Last.TheVariants.{Scalar as ScalarLast, Text as TextLast, Title as TitleLast};
+ghost use Rattle.op_frame.specs.declared.due.Last.TheVariants.{Scalar as ScalarLast};
+ghost use Rattle.op_frame.specs.declared.grown.Grown.TheVariants.{Frame as WholeGrown, Front as FrontGrown};
 
-use crate::cursor::Cursor;
 use crate::due::{Due, Judged, Last};
-use crate::operation::{DELETE, SECTION, TEXT};
-use crate::stop::Stop;
-use crate::title::{title_len, width};
-use fugue_ids::{LONGEST_TITLE, has_line_end};
-use std::str;
+use crate::grown::Grown;
+use crate::kind::{DELETE, SECTION, TEXT};
+use crate::number::{byte_or_0, number, scalar_of};
+use crate::title::{judge_text, judge_title};
 
-/// What these bytes are of the field that is due. They are read anew at each byte that comes, so a field is as short as can be.
+/// How many bytes the field has that is due, or its first part.
+pub(crate) fn field_size(due: Due) -> usize
+    ensures { result ≡ due_size due }
+{
+    match due {
+        Due::Kind => 1,
+        Due::Fields(identifiers, origins, last) => {
+            if identifiers > 0 {
+                return 8;
+            }
+            if origins > 0 {
+                return 1;
+            }
+            last_size(last)
+        }
+    }
+}
+
+fn last_size(last: Last) -> usize
+    ensures { result ≡ due_last_size last }
+{
+    match last {
+        Last::Nothing => 1,
+        Last::Scalar => 3,
+        Last::Title => 2,
+        Last::Text(len) => len,
+    }
+}
+
+/// Whether nothing is due.
+pub(crate) fn is_whole(due: Due) -> bool
+    ensures yes { result ≡ true → by_due due ≡ WholeGrown }
+    ensures no { result ≡ false → by_due due ≡ FrontGrown }
+{
+    match due {
+        Due::Fields(0, 0, Last::Nothing) => true,
+        _ => false,
+    }
+}
+
+/// What bytes are behind which this is due.
+pub(crate) fn grown_by(due: Due) -> Grown
+    ensures { result ≡ by_due due }
+{
+    if is_whole(due) {
+        Grown::Frame
+    } else {
+        Grown::Front
+    }
+}
+
+/// What these bytes are of the field that is due.
 pub(crate) fn judge(due: Due, bytes: &[u8]) -> Judged
     requires some { 0 < length bytes.now }
-    requires short { length bytes.now ≤ field_size due }
+    requires short { length bytes.now ≤ due_size due }
     requires sound { IsSound due }
     ensures { IsJudged result due bytes.now }
 {
@@ -32,6 +82,7 @@ pub(crate) fn judge(due: Due, bytes: &[u8]) -> Judged
     }
 }
 
+/// The fields of a frame, by its first byte.
 fn judge_kind(kind: u8) -> Judged
     ensures { IsJudged result KindDue (kind ∷ []) }
 {
@@ -43,17 +94,23 @@ fn judge_kind(kind: u8) -> Judged
     }
 }
 
+/// There is no replica 0.
 fn judge_identifier(identifiers: u8, origins: u8, last: Last, bytes: &[u8]) -> Judged
     requires some { 0 < identifiers }
     requires short { length bytes.now ≤ 8 }
     requires sound { IsSound (FieldsDue identifiers origins last) }
     ensures { IsJudged result (FieldsDue identifiers origins last) bytes.now }
 {
-    let mut cursor = Cursor { rest: bytes };
-    match cursor.identifier() {
-        Ok(_) => Judged::Done(Due::Fields(identifiers - 1, origins, last)),
-        Err(stop) => unfinished(stop),
+    if bytes.len() < 4 {
+        return Judged::Front;
     }
+    if number(bytes) == 0 {
+        return Judged::Bad;
+    }
+    if bytes.len() < 8 {
+        return Judged::Front;
+    }
+    Judged::Done(Due::Fields(identifiers - 1, origins, last))
 }
 
 /// The first byte of an origin says whether an identifier follows.
@@ -71,7 +128,7 @@ fn judge_tag(origins: u8, last: Last, tag: u8) -> Judged
 
 fn judge_last(last: Last, bytes: &[u8]) -> Judged
     requires some { 0 < length bytes.now }
-    requires short { length bytes.now ≤ last_size last }
+    requires short { length bytes.now ≤ due_last_size last }
     requires sound { IsSound (FieldsDue 0 0 last) }
     ensures { IsJudged result (FieldsDue 0 0 last) bytes.now }
 {
@@ -83,66 +140,17 @@ fn judge_last(last: Last, bytes: &[u8]) -> Judged
     }
 }
 
+/// Fewer than three bytes begin a scalar exactly where they do so with zeros behind them.
 fn judge_scalar(bytes: &[u8]) -> Judged
-    requires { length bytes.now ≤ 3 }
+    requires some { 0 < length bytes.now }
+    requires short { length bytes.now ≤ 3 }
     ensures { IsJudged result (FieldsDue 0 0 ScalarLast) bytes.now }
 {
-    let mut cursor = Cursor { rest: bytes };
-    match cursor.scalar() {
-        Ok(_) => Judged::Done(Due::Fields(0, 0, Last::Nothing)),
-        Err(stop) => unfinished(stop),
-    }
-}
-
-/// A title's length decides how much text is due.
-fn judge_title(bytes: &[u8]) -> Judged
-    requires { length bytes.now ≤ 2 }
-    ensures { IsJudged result (FieldsDue 0 0 TitleLast) bytes.now }
-{
-    match title_len(bytes) {
-        Ok(len) => Judged::Done(Due::Fields(0, 0, Last::Text(len))),
-        Err(stop) => unfinished(stop),
-    }
-}
-
-/// Behind a whole character less text is due.
-fn judge_text(len: usize, bytes: &[u8]) -> Judged
-    requires some { 0 < length bytes.now }
-    requires short { length bytes.now ≤ len }
-    requires most { len ≤ LONGEST_TITLE }
-    ensures { IsJudged result (FieldsDue 0 0 (TextLast len)) bytes.now }
-{
-    if has_line_end(bytes) {
+    if scalar_of(bytes[0], byte_or_0(bytes, 1), byte_or_0(bytes, 2)).is_none() {
         return Judged::Bad;
     }
-    let Err(fault) = str::from_utf8(bytes) else {
-        return Judged::Done(text_due(len - bytes.len()));
-    };
-    if bytes.len() == len || fault.error_len().is_some() {
-        return Judged::Bad;
+    if bytes.len() < 3 {
+        return Judged::Front;
     }
-    let at = fault.valid_up_to();
-    if len - at < width(bytes[at]) {
-        return Judged::Bad;
-    }
-    Judged::Front
-}
-
-fn text_due(len: usize) -> Due
-    ensures { result ≡ due_text len }
-{
-    if len == 0 {
-        return Due::Fields(0, 0, Last::Nothing);
-    }
-    Due::Fields(0, 0, Last::Text(len))
-}
-
-/// What bytes are that are not all of a field.
-fn unfinished(stop: Stop) -> Judged
-    ensures { result ≡ judged_by stop }
-{
-    match stop {
-        Stop::Prefix => Judged::Front,
-        Stop::Bad | Stop::NoMemory => Judged::Bad,
-    }
+    Judged::Done(Due::Fields(0, 0, Last::Nothing))
 }

@@ -1,90 +1,77 @@
-ghost use Rattle.std.specs.Prelude.{◌<◌, ◌≤◌, ◌≡◌, length, drop};
-ghost use Rattle.op_frame.specs.Formats.{FieldIs, Stops, stop_for, title as a_title, title_length, title_text as a_title_text, width_of};
+ghost use Rattle.std.specs.Prelude.{◌≡◌, ◌≤◌, ◌<◌, ◌∷◌, [], length};
+ghost use Rattle.std.specs.Int.{to_be_bytes, w16};
+ghost use Rattle.op_frame.specs.FrameFronts.{IsJudged, text_due as due_text, width_of};
+ghost use Rattle.op_frame.specs.declared.due.Due.TheVariants.{Fields as FieldsDue};
+ghost use Rattle.op_frame.specs.declared.due.Last.TheVariants.{Text as TextLast, Title as TitleLast};
 
-use crate::cursor::Cursor;
-use crate::stop::Stop;
-use fugue_ids::{LONGEST_TITLE, Title, TitleFault, has_line_end};
-use std::alloc::Global;
+use crate::due::{Due, Judged, Last};
+use fugue_ids::{LONGEST_TITLE, has_line_end};
 use std::str;
 
-/// Takes a title off the front of the bytes.
-pub(crate) fn take_title(alloc: Global, bytes: &mut Cursor) -> Result<Title, Stop>
-    ensures { FieldIs a_title result bytes.old.rest.now bytes.new.rest.now }
+/// A title's length decides how much text is due.
+pub(crate) fn judge_title(bytes: &[u8]) -> Judged
+    requires some { 0 < length bytes.now }
+    requires short { length bytes.now ≤ 2 }
+    ensures { IsJudged result (FieldsDue 0 0 TitleLast) bytes.now }
 {
-    let len = title_len(bytes.rest)?;
-    bytes.rest = &bytes.rest[2..];
-    let title = title_text(alloc, bytes.rest, len)?;
-    bytes.rest = &bytes.rest[len..];
-    Ok(title)
+    if bytes.len() == 1 {
+        return judge_high(bytes[0]);
+    }
+    let len = length_of(bytes[0], bytes[1]);
+    if len == 0 || len > LONGEST_TITLE {
+        return Judged::Bad;
+    }
+    Judged::Done(Due::Fields(0, 0, Last::Text(len)))
 }
 
-/// The length in the first two bytes.
-pub(crate) fn title_len(bytes: &[u8]) -> Result<usize, Stop>
-    ensures { FieldIs title_length result bytes.now (drop 2 bytes.now) }
+/// The first byte of a length.
+fn judge_high(high: u8) -> Judged
+    ensures { IsJudged result (FieldsDue 0 0 TitleLast) (high ∷ []) }
 {
-    match bytes {
-        [high, low, ..] => {
-            let len = u16::from_be_bytes([*high, *low]) as usize;
-            if len == 0 || len > LONGEST_TITLE {
-                return Err(Stop::Bad);
-            }
-            Ok(len)
-        }
-        [high] if *high > 1 => Err(Stop::Bad),
-        _ => Err(Stop::Prefix),
-    }
+    if high > 1 { Judged::Bad } else { Judged::Front }
 }
 
-/// The title in the first `len` bytes.
-fn title_text(alloc: Global, bytes: &[u8], len: usize) -> Result<Title, Stop>
-    requires { len ≤ LONGEST_TITLE }
-    ensures { FieldIs (a_title_text len) result bytes.now (drop len bytes.now) }
+fn length_of(high: u8, low: u8) -> usize
+    ensures bytes { to_be_bytes w16 result ≡ high ∷ low ∷ [] }
+    ensures small { result < 65536 }
 {
-    if bytes.len() < len {
-        return Err(judge_front(bytes, len));
-    }
-    let Ok(text) = str::from_utf8(&bytes[..len]) else {
-        return Err(Stop::Bad);
-    };
-    match Title::read(alloc, text) {
-        Ok(title) => Ok(title),
-        Err(fault) => Err(stop_of(fault)),
-    }
+    u16::from_be_bytes([high, low]) as usize
 }
 
-fn stop_of(fault: TitleFault) -> Stop
-    ensures { result ≡ stop_for fault }
-{
-    match fault {
-        TitleFault::NoMemory => Stop::NoMemory,
-        TitleFault::Empty | TitleFault::TooLong | TitleFault::LineEnd => Stop::Bad,
-    }
-}
-
-/// Whether some title of `len` bytes begins with these bytes.
-fn judge_front(bytes: &[u8], len: usize) -> Stop
-    requires shorter { length bytes.now < len }
-    requires short { len ≤ LONGEST_TITLE }
-    ensures { Stops (a_title_text len) bytes.now result }
+/// Behind whole characters less text is due.
+pub(crate) fn judge_text(len: usize, bytes: &[u8]) -> Judged
+    requires some { 0 < length bytes.now }
+    requires short { length bytes.now ≤ len }
+    requires most { len ≤ LONGEST_TITLE }
+    ensures { IsJudged result (FieldsDue 0 0 (TextLast len)) bytes.now }
 {
     if has_line_end(bytes) {
-        return Stop::Bad;
+        return Judged::Bad;
     }
     let Err(fault) = str::from_utf8(bytes) else {
-        return Stop::Prefix;
+        return Judged::Done(text_due(len - bytes.len()));
     };
-    if fault.error_len().is_some() {
-        return Stop::Bad;
+    if bytes.len() == len || fault.error_len().is_some() {
+        return Judged::Bad;
     }
     let at = fault.valid_up_to();
     if len - at < width(bytes[at]) {
-        return Stop::Bad;
+        return Judged::Bad;
     }
-    Stop::Prefix
+    Judged::Front
+}
+
+fn text_due(len: usize) -> Due
+    ensures { result ≡ due_text len }
+{
+    if len == 0 {
+        return Due::Fields(0, 0, Last::Nothing);
+    }
+    Due::Fields(0, 0, Last::Text(len))
 }
 
 /// How many bytes a character has that begins with this byte and is not ASCII.
-pub(crate) fn width(lead: u8) -> usize
+fn width(lead: u8) -> usize
     ensures { result ≡ width_of lead }
 {
     match lead {

@@ -1,16 +1,15 @@
-use Rattle.std.proofs.Common.{List, [], ◌∷◌, ◌++◌, ap, subst, ◌∙◌}
+use Rattle.std.proofs.Common.{List, [], ap, ◌++◌, ◌∙◌, ◌∷◌}
 use Rattle.fugue_ids.specs.declared.op.Op.{Op}
-use Rattle.op_frame.specs.Formats.{Stops, operation}
-use Rattle.op_frame.proofs.FirstLemmas.{first_whole, first_partial, first_bad}
+use Rattle.op_frame.proofs.FirstLemmas.{first_bad, first_partial, first_whole}
 use Rattle.op_frame.proofs.first.first_frame.Goals as goal
 
-pub returns-in-Err-Prefix : goal.returns-in-Err-Prefix
-returns-in-Err-Prefix c = first_partial _ (subst (Stops operation c.args.bytes.now) c.in-Err-Prefix.field-0-is c.in-Err-Prefix.ensures.frame)
+pub returns-in_ok-push-in-Frame : goal.returns-in_ok-push-in-Frame
+returns-in_ok-push-in-Frame c =
+    first_whole c.push.new.self c.in_ok-decode-in-Frame.field-0 c.in-Frame.len _ (c.in_ok-push-in-Frame.ensures.items ∙ ap (λ (l : List Op). l ++ c.in_ok-decode-in-Frame.field-0 ∷ []) c.new-ops.ensures.items)
+    c.in-Frame.ensures.0 c.in_ok-decode-in-Frame.ensures.ok
 
-pub returns-in-Err-Bad : goal.returns-in-Err-Bad
-returns-in-Err-Bad c = first_bad _ (subst (Stops operation c.args.bytes.now) c.in-Err-Bad.field-0-is c.in-Err-Bad.ensures.frame)
+pub returns-in-Prefix : goal.returns-in-Prefix
+returns-in-Prefix c = first_partial _ c.in-Prefix.ensures
 
-pub returns-in_ok-push-in-Ok : goal.returns-in_ok-push-in-Ok
-returns-in_ok-push-in-Ok c =
-    first_whole c.push.new.self c.in-Ok.op c.in-Ok.len _ (c.in_ok-push-in-Ok.ensures.items ∙ ap (λ (l : List Op). l ++ c.in-Ok.op ∷ []) c.new-ops.ensures.items)
-    c.in-Ok.ensures.frame.0 c.in-Ok.ensures.frame.1
+pub returns-in-Bad : goal.returns-in-Bad
+returns-in-Bad c = first_bad _ c.in-Bad.ensures

@@ -1,9 +1,19 @@
-use Rattle.op_frame.proofs.FrameFrontLemmas.{identifier_done, identifier_stops}
+use Rattle.std.proofs.Common.{arith}
+use Rattle.std.proofs.Math.Facts.{Fits-lt-pow}
+use Rattle.op_frame.proofs.FieldLemmas.{counter_cut, id_there, replica_cut}
+use Rattle.op_frame.proofs.FrameFrontLemmas.{identifier_done, identifier_front}
 use Rattle.op_frame.proofs.judge.judge_identifier.Goals as goal
 
-pub returns-in-Ok : goal.returns-in-Ok
-returns-in-Ok c = identifier_done c.args.identifiers c.args.origins c.args.last c.args.bytes.now _ _ c.requires.some c.requires.short c.requires.sound c.in-Ok.ensures
+pub returns-then-bytes-lt4 : goal.returns-then-bytes-lt4
+returns-then-bytes-lt4 c =
+    identifier_front _ _ _ _ c.requires.some c.requires.sound (omega (arith, c.if-bytes-lt4.true)) (replica_cut _ c.if-bytes-lt4.true (λ i. Fits-lt-pow (c.type_inv.bytes i)))
 
-pub returns-in-Err : goal.returns-in-Err
-returns-in-Err c =
-    rw c.unfinished.ensures (identifier_stops c.args.identifiers c.args.origins c.args.last c.args.bytes.now c.in-Err.stop c.requires.some c.requires.sound c.in-Err.ensures)
+pub returns-then-bytes-lt8 : goal.returns-then-bytes-lt8
+returns-then-bytes-lt8 c =
+    identifier_front _ _ _ _ c.requires.some c.requires.sound c.if-bytes-lt8.true
+    (counter_cut _ c.number.result c.number.ensures (omega (arith, c.if-number-eq0.false)) (omega arith) c.if-bytes-lt8.true (λ i. Fits-lt-pow (c.type_inv.bytes i)))
+
+pub returns : goal.returns
+returns c =
+    identifier_done _ _ _ _ c.requires.some c.requires.sound
+    (id_there _ c.number.result c.number.ensures (omega (arith, c.if-number-eq0.false)) (omega arith) (omega (arith, c.requires.short, c.if-bytes-lt8.false)) (λ i. Fits-lt-pow (c.type_inv.bytes i)))

@@ -1,0 +1,40 @@
+ghost use Rattle.op_frame.specs.Firsts.{FrontIs};
+
+use crate::due::{Due, Judged};
+use crate::judge::{field_size, is_whole, judge};
+
+/// What stands at the front of some bytes.
+#[derive(Clone, Copy)]
+pub(crate) enum Front {
+    /// A frame of this length.
+    Frame(usize),
+    /// The bytes are a proper front of some frame.
+    Prefix,
+    /// No frame, whatever follows.
+    Bad,
+}
+
+/// What stands at the front of the bytes, which are looked at field by field.
+pub(crate) fn front_of(bytes: &[u8]) -> Front
+    ensures { FrontIs result bytes.now }
+{
+    let mut due = Due::Kind;
+    let mut at = 0;
+    'fields: loop {
+        if is_whole(due) {
+            return Front::Frame(at);
+        }
+        let end = bytes.len().min(at + field_size(due));
+        if end == at {
+            return Front::Prefix;
+        }
+        match judge(due, &bytes[at..end]) {
+            Judged::Done(next) => {
+                due = next;
+                at = end;
+            }
+            Judged::Front => return Front::Prefix,
+            Judged::Bad => return Front::Bad,
+        }
+    }
+}
