@@ -1,5 +1,5 @@
 -- What is due behind some bytes of a frame, field by field.
-use Rattle.std.proofs.Common.{◌≡◌, ℕ, zero, suc, ◌+◌, ◌-◌, ◌<◌, ◌≤◌, false, List, [], ◌∷◌, ◌++◌, length, take, drop, get_or, set, refl, ap, sym, subst, ◌∙◌, append_assoc, arith, inl, inr, length-append}
+use Rattle.std.proofs.Common.{◌≡◌, ℕ, zero, suc, ◌+◌, ◌-◌, ◌<◌, ◌≤◌, false, List, [], ◌∷◌, ◌++◌, length, take, drop, get_or, set, refl, ap, sym, subst, ◌∙◌, ◌⊎◌, append_assoc, arith, inl, inr, length-append}
 use Rattle.std.specs.Prelude.{◌↔◌, Option, Some, None}
 use Rattle.std.specs.Char.{IsScalar}
 use Rattle.std.specs.Int.{from_be_bytes, to_be_bytes, w16}
@@ -15,8 +15,8 @@ use Rattle.fugue_ids.specs.Titles.{ends_line, has_line_end}
 use Rattle.fugue_ids.specs.declared.limits.TheConstants.{LONGEST_TITLE}
 use Rattle.fugue_ids.specs.declared.op.Op.{Op}
 use Rattle.fugue_ids.specs.declared.op.Op.TheVariants.{Delete, Section, Text as TextOp}
-use Rattle.origin_model.specs.frames.Frames.{Begins, Framed, HasFrame, IsBad, IsFrame, IsPartial, frame, id_bytes, origin_bytes, scalar_bytes, title_bytes}
-use Rattle.op_frame.specs.FrameFronts.{Awaits, Completes, IsDueFront, IsFrameOf, IsGrown, IsIdentifierBytes, IsJudged, IsLast, IsOriginBytes, IsSound, IsTitleEnd, LeavesDue, NeverCompletes, Several, Then, code_of, field_size, grown_by, text_due}
+use Rattle.origin_model.specs.frames.Frames.{Begins, Framed, HasFrame, IsBad, IsFrame, IsIdentifier, IsPartial, frame, id_bytes, origin_bytes, scalar_bytes, title_bytes}
+use Rattle.op_frame.specs.FrameFronts.{Awaits, Completes, IsDueFront, IsFrameOf, IsGrown, IsIdentifierBytes, IsJudged, IsLast, IsOriginBytes, IsSound, IsSoundLast, IsTitleEnd, LeavesDue, NeverCompletes, Several, Then, code_of, field_size, grown_by, text_due}
 use Rattle.op_frame.specs.declared.due.Due.{Due}
 use Rattle.op_frame.specs.declared.due.Due.TheVariants.{Fields, Kind}
 use Rattle.op_frame.specs.declared.due.Judged.TheVariants.{Front}
@@ -38,72 +38,41 @@ title_spelled len bytes e =
     let same : encode_utf8_all (chars bytes) ≡ bytes = encodes-chars bytes e.0 in
     λ i. to_be_bytes w16 ((sym e.2 ∙ ap length (sym same)) i) ++ sym same i
 
+letters_title : (n : ℕ) → 0 < n → n ≤ LONGEST_TITLE → IsLast Title (to_be_bytes w16 n ++ letters n)
+letters_title n some short = (chars (letters n), title_in n (letters n) some short (letters_end n), title_spelled n (letters n) (letters_end n))
+
 -- nothing has no bytes
 none_long : (bytes : List ℕ) → length bytes ≡ 0 → bytes ≡ []
 none_long [] e = refl
 none_long (x ∷ bytes) e = absurd (omega (arith, e))
 
--- there are bytes that are due, and some where a frame is not whole
-pub record Sample (due : Due) : Type 0 where
-  pub bytes : List ℕ
-  pub completes : Completes due bytes
-  pub some : grown_by due ≡ IsFrontGrown → 0 < length bytes
+-- there are bytes that are due: none behind a frame, and some where it is not whole
+record Sample (due : Due) : Type 0 where
+  bytes : List ℕ
+  completes : Completes due bytes
+  ends : (grown_by due ≡ IsWhole) × (bytes ≡ []) ⊎ (grown_by due ≡ IsFrontGrown) × (0 < length bytes)
 
-last_sample : (last : Last) → IsSound (Fields 0 0 last) → Sample (Fields 0 0 last)
-last_sample Nothing s = record { bytes = []; completes = refl; some = λ e. absurd (cc e) }
-last_sample Scalar s = record { bytes = 0 ∷ 0 ∷ 0 ∷ []; completes = (0, refl, refl); some = λ e. omega arith }
-last_sample Title s = record { bytes = 0 ∷ 1 ∷ letters 1; completes = (chars (letters 1), title_in 1 (letters 1) (omega arith) (omega arith) (letters_end 1), title_spelled 1 (letters 1) (letters_end 1)); some = λ e. omega arith }
-last_sample (Text len) s = record { bytes = letters len; completes = letters_end len; some = λ e. omega (arith, s.0, (letters_end len).2) }
-
-sound_without : (identifiers origins : ℕ) (last : Last) → IsSound (Fields identifiers origins last) → IsSound (Fields 0 0 last)
-sound_without identifiers origins Nothing s = tt
-sound_without identifiers origins Scalar s = tt
-sound_without identifiers origins Title s = tt
-sound_without identifiers origins (Text len) s = s
-
-sound_with : (identifiers origins : ℕ) (last : Last) → IsSound (Fields 0 0 last) → IsSound (Fields identifiers origins last)
-sound_with identifiers origins Nothing s = tt
-sound_with identifiers origins Scalar s = tt
-sound_with identifiers origins Title s = tt
-sound_with identifiers origins (Text len) s = s
+last_sample : (last : Last) → IsSoundLast last → Sample (Fields 0 0 last)
+last_sample Nothing s = record { bytes = []; completes = refl; ends = inl (refl, refl) }
+last_sample Scalar s = record { bytes = 0 ∷ 0 ∷ 0 ∷ []; completes = (0, refl, refl); ends = inr (refl, omega arith) }
+last_sample Title s = record { bytes = 0 ∷ 1 ∷ letters 1; completes = letters_title 1 (omega arith) (omega arith); ends = inr (refl, omega arith) }
+last_sample (Text len) s = record { bytes = letters len; completes = letters_end len; ends = inr (refl, omega (arith, s.0, (letters_end len).2)) }
 
 -- replica 1 and counter 0
 abbrev first_id : Identifier
 first_id = record { replica = 1; counter = 0 }
 
-pub sample : (due : Due) → IsSound due → Sample due
-sample Kind s =
-    record { bytes = frame (Delete first_id); completes = (Delete first_id, record { some_replica = omega arith; replica_fits = omega arith; counter_fits = omega arith }, refl); some = λ e. omega arith }
+first_is_one : IsIdentifier first_id
+first_is_one = record { some_replica = omega arith; replica_fits = omega arith; counter_fits = omega arith }
+
+sample : (due : Due) → IsSound due → Sample due
+sample Kind s = record { bytes = frame (Delete first_id); completes = (Delete first_id, first_is_one, refl); ends = inr (refl, omega arith) }
 sample (Fields (suc i) o last) s =
-    let p = sample (Fields i o last) (sound_with i o last (sound_without (suc i) o last s)) in
-    record {
-      bytes = id_bytes first_id ++ p.bytes;
-      completes = (id_bytes first_id, p.bytes, (first_id, record { some_replica = omega arith; replica_fits = omega arith; counter_fits = omega arith }, refl), p.completes, refl);
-      some = λ e. omega arith;
-    }
+    let p = sample (Fields i o last) s in
+    record { bytes = id_bytes first_id ++ p.bytes; completes = (id_bytes first_id, p.bytes, (first_id, first_is_one, refl), p.completes, refl); ends = inr (refl, omega arith) }
 sample (Fields zero (suc o) last) s =
-    let p = sample (Fields zero o last) (sound_with zero o last (sound_without zero (suc o) last s)) in
-    record { bytes = 0 ∷ p.bytes; completes = (0 ∷ [], p.bytes, (None, tt, refl), p.completes, refl); some = λ e. omega arith }
+    let p = sample (Fields zero o last) s in record { bytes = 0 ∷ p.bytes; completes = (0 ∷ [], p.bytes, (None, tt, refl), p.completes, refl); ends = inr (refl, omega arith) }
 sample (Fields zero zero last) s = last_sample last s
-
--- what is due behind a frame, and that some is due else
-whole_completes : (due : Due) → grown_by due ≡ IsWhole → Completes due []
-whole_completes Kind e = absurd (cc e)
-whole_completes (Fields (suc i) o last) e = absurd (cc e)
-whole_completes (Fields zero (suc o) last) e = absurd (cc e)
-whole_completes (Fields zero zero Nothing) e = refl
-whole_completes (Fields zero zero Scalar) e = absurd (cc e)
-whole_completes (Fields zero zero Title) e = absurd (cc e)
-whole_completes (Fields zero zero (Text len)) e = absurd (cc e)
-
-never_bad : (due : Due) → grown_by due ≡ IsNeither → ⊥
-never_bad Kind e = cc e
-never_bad (Fields (suc i) o last) e = cc e
-never_bad (Fields zero (suc o) last) e = cc e
-never_bad (Fields zero zero Nothing) e = cc e
-never_bad (Fields zero zero Scalar) e = cc e
-never_bad (Fields zero zero Title) e = cc e
-never_bad (Fields zero zero (Text len)) e = cc e
 
 -- an identifier
 pub identifier_done : (i o : ℕ) (last : Last) (bytes : List ℕ) → 0 < i → IsSound (Fields i o last) → IdentifierWith bytes [] → LeavesDue bytes (Fields i o last) (Fields (i - 1) o last)
@@ -112,13 +81,13 @@ identifier_done (suc i) o last bytes some s p =
     let one : suc i - 1 ≡ i = omega arith in
     rw one (record {
       rest = field_done identifier identifier_code (Several i IsIdentifierBytes (Several o IsOriginBytes (IsLast last))) bytes (p.id, p.is_identifier, sym (append-nil bytes) ∙ p.is);
-      sound = sound_with i o last (sound_without (suc i) o last s);
+      sound = s;
     })
 
 pub identifier_front : (i o : ℕ) (last : Last) (bytes : List ℕ) → 0 < i → IsSound (Fields i o last) → length bytes < 8 → IdentifierFront bytes → IsJudged Front (Fields i o last) bytes
 identifier_front zero o last bytes some s short p = absurd (omega (arith, some))
 identifier_front (suc i) o last bytes some s short p =
-    let behind = sample (Fields i o last) (sound_with i o last (sound_without (suc i) o last s)) in (
+    let behind = sample (Fields i o last) s in (
       short,
       record {
         more = p.more ++ behind.bytes;
@@ -140,7 +109,7 @@ start_done (suc o) last some s =
     let one : suc o - 1 ≡ o = omega arith in
     rw one (record {
       rest = λ more. (λ t. first t.0 t.1 more t.2 t.3 t.4, λ r. (0 ∷ [], more, (None, tt, refl), r, refl));
-      sound = sound_with 0 o last (sound_without 0 (suc o) last s);
+      sound = s;
     })
   where
     first : (field rest more : List ℕ) → IsOriginBytes field → Several o IsOriginBytes (IsLast last) rest → 0 ∷ more ≡ field ++ rest → Several o IsOriginBytes (IsLast last) more
@@ -156,7 +125,7 @@ tag_done (suc o) last some s =
         λ t. first t.0 t.1 more t.2 t.3 t.4,
         λ t. (1 ∷ t.0, t.1, (Some t.2.0, t.2.1, ap (λ b. 1 ∷ b) t.2.2), t.3, ap (λ b. 1 ∷ b) t.4),
       );
-      sound = sound_with 1 o last (sound_without 0 (suc o) last s);
+      sound = s;
     })
   where
     first : (field rest more : List ℕ) → IsOriginBytes field → Several o IsOriginBytes (IsLast last) rest → 1 ∷ more ≡ field ++ rest
@@ -196,9 +165,8 @@ length_done (h ∷ l ∷ x ∷ b) len long is some short = absurd (omega (arith,
 
 -- the first byte of a length
 pub high_front : (high : ℕ) → high ≤ 1 → IsDueFront (Fields 0 0 Title) (high ∷ [])
-high_front zero small = record { more = 1 ∷ letters 1; lacks = omega arith; completes = (chars (letters 1), title_in 1 (letters 1) (omega arith) (omega arith) (letters_end 1), title_spelled 1 (letters 1) (letters_end 1)) }
-high_front (suc zero) small =
-    record { more = 0 ∷ letters 256; lacks = omega arith; completes = (chars (letters 256), title_in 256 (letters 256) (omega arith) (omega arith) (letters_end 256), title_spelled 256 (letters 256) (letters_end 256)) }
+high_front zero small = record { more = 1 ∷ letters 1; lacks = omega arith; completes = letters_title 1 (omega arith) (omega arith) }
+high_front (suc zero) small = record { more = 0 ∷ letters 256; lacks = omega arith; completes = letters_title 256 (omega arith) (omega arith) }
 high_front (suc (suc n)) small = absurd (omega (arith, small))
 
 -- the text behind characters of it
@@ -342,9 +310,12 @@ module _ (due : Due) (before : List ℕ) (rest : (more : List ℕ) → IsFrameOf
   )
 
   pub is_grown : (grown : Grown) → grown ≡ grown_by due → IsSound due → IsGrown grown before
-  is_grown IsWhole e s = subst IsFrameOf (append-nil before) ((rest []).1 (whole_completes due (sym e)))
-  is_grown IsFrontGrown e s = let p = sample due s in subst IsPartial (append-nil before) (is_front [] (record { more = p.bytes; lacks = p.some (sym e); completes = p.completes }))
-  is_grown IsNeither e s = absurd (never_bad due (sym e))
+  is_grown grown e s =
+      let p = sample due s in
+      elim p.ends [
+        | inl whole ↦ subst (λ g. IsGrown g before) (sym (e ∙ whole.0)) (subst IsFrameOf (append-nil before) ((rest []).1 (subst (Completes due) whole.1 p.completes)))
+        | inr more ↦ subst (λ g. IsGrown g before) (sym (e ∙ more.0)) (subst IsPartial (append-nil before) (is_front [] (record { more = p.bytes; lacks = more.1; completes = p.completes })))
+      ]
 
 -- a field that was looked at is not shorter than what is due
 long_enough : (due : Due) (bytes : List ℕ) → grown_by due ≡ IsFrontGrown → Completes due bytes → field_size due ≤ length bytes
@@ -366,8 +337,8 @@ long_enough (Fields zero zero Title) bytes e t = omega (arith, ap length t.2, le
 long_enough (Fields zero zero (Text len)) bytes e t = omega (arith, t.2)
 
 -- no frame begins with bytes of which a field is none
-pub no_front : (due : Due) (before field behind : List ℕ) → Awaits due before 0 → grown_by due ≡ IsFrontGrown → length field ≤ field_size due → NeverCompletes due field → IsBad ((before ++ field) ++ behind)
-no_front due before field behind a e short never = bad_goes_on (before ++ field) behind (record {
+pub none_begins : (due : Due) (before field behind : List ℕ) → Awaits due before 0 → grown_by due ≡ IsFrontGrown → length field ≤ field_size due → NeverCompletes due field → IsBad ((before ++ field) ++ behind)
+none_begins due before field behind a e short never = bad_goes_on (before ++ field) behind (record {
   no_frame = λ framed rest b. elim (two_fronts before field framed.bytes rest b.split) [
     | inl r ↦ elsewhere framed r.between rest b r.is
     | inr r ↦ begins_not_partial before framed r.between (record { is_frame = b.is_frame; split = r.is }) (is_grown due before a.rest IsFrontGrown (sym e) a.sound)

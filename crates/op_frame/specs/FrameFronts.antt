@@ -58,9 +58,13 @@ Completes Kind bytes = (op : Op) × HasFrame op × (bytes ≡ frame op)
 Completes (Fields identifiers origins last) bytes = Several identifiers IsIdentifierBytes (Several origins IsOriginBytes (IsLast last)) bytes
 
 -- a title's text that is due is not empty, and not too long
+abbrev pub IsSoundLast : Last → Type 0
+IsSoundLast (Text len) = (0 < len) × (len ≤ LONGEST_TITLE)
+IsSoundLast last = Unit {0}
+
 abbrev pub IsSound : Due → Type 0
-IsSound (Fields identifiers origins (Text len)) = (0 < len) × (len ≤ LONGEST_TITLE)
-IsSound due = Unit {0}
+IsSound Kind = Unit {0}
+IsSound (Fields identifiers origins last) = IsSoundLast last
 
 -- how many bytes the field has that is due, or its first part
 abbrev pub last_size : Last → ℕ

@@ -3,7 +3,7 @@ ghost use Rattle.std.specs.Char.{IsScalar};
 ghost use Rattle.origin_model.specs.frames.Frames.{HasFrame, IsIdentifier, IsOrigin, IsTitle, frame, id_bytes, origin_bytes, title_bytes, scalar_bytes};
 ghost use Rattle.op_frame.specs.Encoded.{Puts};
 
-use crate::kind::{DELETE, SECTION, TEXT};
+use crate::protocol::{DELETE, SECTION, TEXT};
 use fugue_ids::{ElementId, LONGEST_TITLE, NoMemory, Op, Title};
 
 /// The longest frame, in bytes: that of a Section with its kind, its identifier, both origins, and the longest title behind its length.

@@ -6,7 +6,7 @@ ghost use Rattle.op_frame.specs.declared.grown.Grown.TheVariants.{Frame as Whole
 
 use crate::due::{Due, Judged, Last};
 use crate::grown::Grown;
-use crate::kind::{DELETE, SECTION, TEXT};
+use crate::protocol::{DELETE, SECTION, TEXT};
 use crate::number::{byte_or_0, number, scalar_of};
 use crate::title::{judge_text, judge_title};
 

@@ -8,9 +8,10 @@ use Rattle.fugue_ids.specs.declared.op.Op.{Op}
 use Rattle.origin_model.specs.frames.Frames.{HasFrame, frames}
 use Rattle.origin_model.specs.relay.Session.{Goes, Reading, Taken, TakesAll, at_cursor, goes_on, greeting, refusal, refused, unread}
 use Rattle.origin_model.proofs.SharedLemmas.{closed_takes, takes-append}
+use Rattle.op_frame.proofs.StreamLemmas.{no_bytes_are_partial}
 use Rattle.relay_core.specs.Sessions.{becomes}
 use Rattle.relay_core.specs.Texts.{Beyond, Course, Greets, IsCourse, IsGreetingFront, NoGreeting, Says, Speaks, answer_to, log_behind, with_frames}
-use Rattle.relay_core.proofs.TextLemmas.{Reads, behind, frames_take, none_partial, outcome, reads, rest_takes}
+use Rattle.relay_core.proofs.TextLemmas.{Reads, behind, frames_take, outcome, reads, rest_takes}
 
 -- the first bytes of a greeting
 pub greeting_goes : (limit : ℕ) (log : List (List ℕ)) (text : List ℕ) → IsGreetingFront text → TakesAll limit text (record { log = log; next = Goes unread }) (record { log = log; next = Goes (record { cursor = None; rest = text }) })
@@ -103,7 +104,7 @@ course_found limit log (first ∷ number) after room h = by_first (nat_eq first 
         let whole : TakesAll limit (greeting ∷ number ++ more) start after = subst (λ (x : ℕ). TakesAll limit (x ∷ number ++ more) start after) is h in
         let rest : TakesAll limit more (goes_on log cursor) after
         = subst (λ (t : Taken). TakesAll limit more t after) (within_log log cursor within) (behind limit (greeting ∷ number) more start (at_cursor log cursor) after whole (greeting_takes limit log number four)) in
-        let r : Reads limit cursor log more after = reads limit cursor after more log [] room none_partial rest in (
+        let r : Reads limit cursor log more after = reads limit cursor after more log [] room no_bytes_are_partial rest in (
           Speaks cursor r.new r.rest r.follows,
           (
             record {

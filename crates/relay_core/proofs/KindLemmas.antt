@@ -4,15 +4,11 @@ use Rattle.std.proofs.lemmas.List.{append-nil}
 use Rattle.fugue_ids.specs.declared.op.Op.{Op}
 use Rattle.origin_model.specs.frames.Frames.{Framed, Begins, IsFrame, IsPartial, frame}
 use Rattle.origin_model.specs.relay.Session.{Closing, Frame, Front, IsKind, Kind, Neither, closing}
-use Rattle.origin_model.proofs.SharedLemmas.{NoFront, SomeKind, run_once, run_some, step_once, step_some}
+use Rattle.origin_model.proofs.SharedLemmas.{SomeKind, run_once, run_some, step_once, step_some}
 use Rattle.op_frame.proofs.FrontLemmas.{Front as Found, bad_there, front_of, frame_there, front_there}
-use Rattle.op_frame.proofs.OperationLemmas.{operation_code}
+use Rattle.op_frame.proofs.OperationLemmas.{no_front}
 use Rattle.op_frame.proofs.SearchLemmas.{Decided, equal_decided}
 use Rattle.relay_core.specs.Laws.{EventsComeOnce}
-
--- no frame is a proper front of another
-pub no_front : NoFront
-no_front a b more p q same = sym (operation_code.once b a [] more q p (append-nil (frame b) ∙ same)).1
 
 -- the bytes are the closing byte or not
 closing_decided : (bytes : List ℕ) → Decided (bytes ≡ closing)

@@ -12,7 +12,7 @@ use Rattle.origin_model.proofs.SharedLemmas.{all_once, partly, takes-append}
 use Rattle.op_frame.proofs.CodeLemmas.{same_fronts}
 use Rattle.relay_core.specs.Texts.{Beyond, Closed, Course, Foreign, Greets, HasCome, IsCourse, IsGreetingFront, NoGreeting, OneTooMany, Says, Speaks, Unfinished, answer_to, log_behind, with_frames}
 use Rattle.relay_core.proofs.CourseLemmas.{course_found, course_takes, greeting_goes, reading_by, taken_by}
-use Rattle.relay_core.proofs.KindLemmas.{no_front}
+use Rattle.op_frame.proofs.OperationLemmas.{no_front}
 use Rattle.relay_core.proofs.TextLemmas.{Reads, behind, frames_take, front_goes, grown, outcome, reads, rest_takes}
 
 -- a text goes on with frames

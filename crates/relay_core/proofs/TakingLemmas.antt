@@ -24,7 +24,7 @@ same_log : (limit : ℕ) (old new : List (List ℕ)) → new ≡ old → Kept li
 same_log limit old new e = record { grows = ([], e ∙ sym (append-nil old)); within = λ h. omega (arith, ap length e, h) }
 
 -- a frame, by whether it is logged and whether the log is full
-abbrev by_tests : List (List ℕ) → ℕ → List ℕ → Bool → Bool → Taken
+abbrev pub by_tests : List (List ℕ) → ℕ → List ℕ → Bool → Bool → Taken
 by_tests log cursor bytes p q = if p then goes_on log cursor else if q then refused log 2 else goes_on (log ++ bytes ∷ []) cursor
 
 by_tests_kept : (limit : ℕ) (log : List (List ℕ)) (cursor : ℕ) (bytes : List ℕ) (p q : Bool) → nat_eq (length log) limit ≡ q → Kept limit log (by_tests log cursor bytes p q).log

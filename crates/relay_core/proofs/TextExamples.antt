@@ -7,7 +7,7 @@ use Rattle.fugue_ids.specs.declared.op.Op.TheVariants.{Delete}
 use Rattle.origin_model.specs.frames.Frames.{HasFrame, frame}
 use Rattle.origin_model.specs.relay.Session.{closing}
 use Rattle.relay_core.specs.Texts.{Beyond, Closed, Comes, NoGreeting, OneTooMany, Speaks}
-use Rattle.relay_core.proofs.TextLemmas.{none_partial}
+use Rattle.op_frame.proofs.StreamLemmas.{no_bytes_are_partial}
 
 abbrev A : Op
 A = Delete (record { replica = 1; counter = 0 })
@@ -60,7 +60,7 @@ goes_beyond = record {
 is_full : Comes 1 (frame A ∷ []) hello (frame A ++ (frame B ++ closing)) (frame A ∷ []) (Some (0x58 ∷ 2 ∷ []))
 is_full = record {
   before = [];
-  has_come = inr (0, [], record { number = 0 ∷ 0 ∷ 0 ∷ 0 ∷ []; four_bytes = refl; cursor_is = refl; have_frames = All-nil HasFrame; text_is = refl }, none_partial);
+  has_come = inr (0, [], record { number = 0 ∷ 0 ∷ 0 ∷ 0 ∷ []; four_bytes = refl; cursor_is = refl; have_frames = All-nil HasFrame; text_is = refl }, no_bytes_are_partial);
   course = Speaks 0 (A ∷ []) (frame B ++ closing) OneTooMany;
   is_course = (
     record { number = 0 ∷ 0 ∷ 0 ∷ 0 ∷ []; four_bytes = refl; cursor_is = refl; have_frames = All-cons HasFrame A [] A_has (All-nil HasFrame); text_is = refl },

@@ -5,13 +5,14 @@ use Rattle.std.proofs.lemmas.Bool.{eq-eqb, eqb-true, true≢false}
 use Rattle.std.proofs.lemmas.List.{append-nil}
 use Rattle.std.proofs.lemmas.List.Elements.{All-cons, All-head, All-nil, All-tail}
 use Rattle.fugue_ids.specs.declared.op.Op.{Op}
-use Rattle.fugue_ids.specs.declared.op.Op.TheVariants.{Delete}
 use Rattle.origin_model.specs.frames.Frames.{HasFrame, IsPartial, frame, frames}
 use Rattle.origin_model.specs.relay.Session.{Closing, Frame, Front, IsKind, Kind, Neither, Taken, TakesAll, closing, goes_on, is_logged, logged, refusal, refused, reply_from, told}
-use Rattle.origin_model.proofs.SharedLemmas.{all_once, closed_takes, closing_takes, frame_takes, framed_is, framed_of, front_takes, partly, takes-append}
+use Rattle.origin_model.proofs.SharedLemmas.{all_once, closed_takes, closing_takes, frame_takes, front_takes, partly, takes-append}
+use Rattle.op_frame.proofs.StreamLemmas.{no_bytes_are_partial}
 use Rattle.relay_core.specs.Sessions.{becomes}
 use Rattle.relay_core.specs.Texts.{Closed, Follows, Foreign, IsForeign, OneTooMany, Stands, Unfinished, closing_of, with_frame, with_frames}
-use Rattle.relay_core.proofs.KindLemmas.{no_front}
+use Rattle.op_frame.proofs.OperationLemmas.{no_front}
+use Rattle.relay_core.proofs.TakingLemmas.{by_tests}
 
 -- bytes are read behind others as they are read with them
 pub behind : (limit : ℕ) (xs ys : List ℕ) (start middle after : Taken) → TakesAll limit (xs ++ ys) start after → TakesAll limit xs start middle → TakesAll limit ys middle after
@@ -19,17 +20,6 @@ behind limit [] ys start middle after h i = subst (λ (t : Taken). TakesAll limi
 behind limit (x ∷ xs) ys start middle after h i =
     let same : h.0 ≡ i.0 = all_once no_front limit (x ∷ []) start h.0 i.0 (h.0, h.1, refl) (i.0, i.1, refl) in
     behind limit xs ys i.0 middle after (subst (λ (t : Taken). TakesAll limit (xs ++ ys) t after) same h.2) i.2
-
--- no bytes are a front of a frame
-pub none_partial : IsPartial []
-none_partial =
-    let op : Op = Delete (record { replica = 1; counter = 0 }) in
-    let has : HasFrame op = record { some_replica = omega arith; replica_fits = omega arith; counter_fits = omega arith } in
-    record { framed = framed_of op; is_frame = framed_is op has; more = frame op; lacks = omega arith; front = refl }
-
--- a frame by whether it is logged and whether the log is full
-abbrev by_tests : List (List ℕ) → ℕ → List ℕ → Bool → Bool → Taken
-by_tests log cursor bytes p q = if p then goes_on log cursor else if q then refused log 2 else goes_on (log ++ bytes ∷ []) cursor
 
 -- a frame for which there is room
 room_for : (limit cursor : ℕ) (log : List (List ℕ)) (bytes : List ℕ) (p q : Bool) → nat_eq (length log) limit ≡ q → length (if p then log else log ++ bytes ∷ []) ≤ limit
@@ -142,14 +132,14 @@ module _ (limit cursor : ℕ) (after : Taken) where
   frame_reads : (log : List (List ℕ)) (op : Op) (bytes : List ℕ) → HasFrame op → length log ≤ limit → Further bytes → (p q : Bool) → is_logged log (frame op) ≡ p → nat_eq (length log) limit ≡ q
       → TakesAll limit bytes (by_tests log cursor (frame op) p q) after → Reads limit cursor log (frame op ++ bytes) after
   frame_reads log op bytes has room further true q is full h =
-      reads_frame log log op bytes has (ap (λ (b : Bool). if b then log else log ++ frame op ∷ []) (sym is)) (further log [] room none_partial h)
+      reads_frame log log op bytes has (ap (λ (b : Bool). if b then log else log ++ frame op ∷ []) (sym is)) (further log [] room no_bytes_are_partial h)
   frame_reads log op bytes has room further false true is full h =
       reads_none log (frame op ++ bytes) OneTooMany room (op, bytes, has, refl, is, eqb-true (length log) limit full)
       (all_once no_front limit bytes (refused log 2) after (refused log 2) h (closed_takes limit bytes log (refusal 2)))
   frame_reads log op bytes has room further false false is full h =
       let other : length log ≢ limit = λ e. true≢false (sym (eq-eqb (length log) limit e) ∙ full) in
       reads_frame log (log ++ frame op ∷ []) op bytes has (ap (λ (b : Bool). if b then log else log ++ frame op ∷ []) (sym is))
-      (further (log ++ frame op ∷ []) [] (omega (arith, room, other, length-append log (frame op ∷ []))) none_partial h)
+      (further (log ++ frame op ∷ []) [] (omega (arith, room, other, length-append log (frame op ∷ []))) no_bytes_are_partial h)
 
   -- one byte more
   kind_reads : (log : List (List ℕ)) (rest : List ℕ) (byte : ℕ) (bytes : List ℕ) → length log ≤ limit → IsPartial rest → Further bytes → (kind : Kind) → IsKind kind (rest ++ byte ∷ [])

@@ -3,10 +3,8 @@ ghost use Rattle.origin_model.specs.relay.Session.{greeted as greeted_as};
 ghost use Rattle.relay_core.specs.Greetings.{greets};
 ghost use Rattle.relay_core.specs.declared.greeting.Greeted.TheVariants.{Partly};
 
+use op_frame::GREETING;
 use std::marker::Model;
-
-/// The first byte of a session's text.
-const GREETING: u8 = 0x48;
 
 /// The bytes of the greeting, 48 and a cursor.
 const GREETING_LEN: usize = 5;

@@ -4,14 +4,12 @@ ghost use Rattle.relay_core.specs.Logs.{frames_in};
 
 use fugue_ids::{ByteList, NoMemory};
 use indexmap::IndexSet;
+use op_frame::END;
 use std::alloc::Global;
 use std::hash::BuildHasher;
 
 /// The distinct frames, in the order in which they came first.
 pub(crate) type Log<B> = IndexSet<Vec<u8>, B>;
-
-/// What ends the answer to a session, with the log's length behind it.
-const END: u8 = 0x55;
 
 pub(crate) fn has_frame<B: BuildHasher>(log: &Log<B>, frame: &[u8]) -> bool
     ensures { result ≡ is_logged (frames_in log.now) frame.now }

@@ -7,15 +7,9 @@ use crate::greeting::Greeted;
 use crate::log::{Log, add, answer, has_frame};
 use crate::session::Session;
 use fugue_ids::{ByteList, NoMemory};
-use op_frame::{FrameFront, Grown};
+use op_frame::{CLOSING, FrameFront, Grown, REFUSAL};
 use std::alloc::Global;
 use std::hash::BuildHasher;
-
-/// What ends a session's text.
-const CLOSING: u8 = 0x44;
-
-/// What begins the reply to a session whose text breaks a rule, with the rule's code behind it.
-const REFUSAL: u8 = 0x58;
 
 fn refuse(alloc: Global, code: u8) -> Result<Option<ByteList>, NoMemory>
     ensures { IfOk result (λ reply. reply ≡ Some (refusal_of code)) }

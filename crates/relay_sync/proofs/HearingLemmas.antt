@@ -8,10 +8,9 @@ use Rattle.fugue_ids.specs.declared.op.Op.{Op}
 use Rattle.fugue_ids.specs.declared.op.Op.TheVariants.{Delete, Section, Text}
 use Rattle.origin_model.specs.frames.Frames.{IsFrame, IsPartial, frame}
 use Rattle.origin_model.specs.relay.Session.{refusal}
-use Rattle.op_frame.specs.Firsts.{Carries, FirstIs}
 use Rattle.op_frame.specs.FrameFronts.{IsFrameOf, IsGrown}
-use Rattle.op_frame.specs.declared.first.First.{First}
 use Rattle.op_frame.specs.declared.grown.Grown.TheVariants.{Bad}
+use Rattle.op_frame.proofs.ToldLemmas.{prepend_none, prepend_twice}
 use Rattle.outer_ports.specs.wire.Wires.{WireReads, WireView}
 use Rattle.relay_sync.specs.Replies.{Hears, IsBroken, IsCode, IsMessage, IsMessageFront, Stops, StopsIn, Whole, ending}
 use Rattle.relay_sync.specs.declared.message.Message.{Message}
@@ -19,14 +18,10 @@ use Rattle.relay_sync.specs.declared.message.Message.TheVariants.{End, Operation
 use Rattle.relay_sync.specs.declared.sync_fault.SyncFault.{SyncFault}
 use Rattle.relay_sync.specs.declared.sync_fault.SyncFault.TheVariants.{BadReply, CutShort, NoMemory, RelayRefused, TooLong, TooMany, WireFault}
 
-prepend-twice : (left : Option (List ℕ)) (a b : List ℕ) → prepend_known a (prepend_known b left) ≡ prepend_known (a ++ b) left
-prepend-twice None a b = refl
-prepend-twice (Some xs) a b = ap Some (sym (append_assoc a b xs))
-
 -- bytes behind bytes
 pub hears-append : (u v w : WireView) (a b : List ℕ) → Hears u v a → Hears v w b → Hears u w (a ++ b)
 hears-append u v w a b s t = record {
-  heard = s.heard ∙ ap (prepend_known a) t.heard ∙ prepend-twice w.left a b;
+  heard = s.heard ∙ ap (prepend_known a) t.heard ∙ prepend_twice a b w.left;
   said = t.said ∙ s.said;
   port = t.port ∙ s.port;
   room = t.room ∙ s.room;
@@ -62,7 +57,7 @@ whole_behind message u v w place heard before bytes s t = record {
 }
 
 -- nothing is a front of the message that ends a reply
-number_front : (front more : List ℕ) → 0 < length more → length (front ++ more) ≡ 4 → IsMessageFront (ending ∷ front)
+pub number_front : (front more : List ℕ) → 0 < length more → length (front ++ more) ≡ 4 → IsMessageFront (ending ∷ front)
 number_front front more lacks long =
     record { message = End (from_be_bytes w32 (front ++ more)); whole = ending ∷ (front ++ more); is_message = (front ++ more, long, refl, refl); more = more; lacks = lacks; front = refl }
 
@@ -94,33 +89,42 @@ frame_front bytes p = record {
   front = p.front;
 }
 
-prepend_none : (left : Option (List ℕ)) → left ≡ prepend_known [] left
-prepend_none None = refl
-prepend_none (Some xs) = refl
-
 pub hears_none : (wire : WireView) → Hears wire wire []
-hears_none wire = record { heard = prepend_none wire.left; said = refl; port = refl; room = refl; later = omega arith; calm = λ sure. refl }
+hears_none wire = record { heard = sym (prepend_none wire.left); said = refl; port = refl; room = refl; later = omega arith; calm = λ sure. refl }
 
--- the first byte of a frame
-frame_first : (op : Op) (x : ℕ) (xs : List ℕ) → x ∷ xs ≡ frame op → x < 4
-frame_first (Section id l r t) x xs e = let is : x ≡ 1 = cc e in omega (arith, is)
-frame_first (Text id s l r ch) x xs e = let is : x ≡ 2 = cc e in omega (arith, is)
-frame_first (Delete id) x xs e = let is : x ≡ 3 = cc e in omega (arith, is)
+-- with which byte a message begins
+abbrev pub IsLead : Message → ℕ → Type 0
+IsLead (Operation op) x = x < 4
+IsLead (End count) x = x ≡ 0x55
+IsLead (Refusal code) x = x ≡ 0x58
+
+pub leads : (message : Message) (whole behind : List ℕ) → IsMessage message whole → IsLead message (get_or (whole ++ behind) 0 0)
+leads (Operation op) whole behind is = subst (λ (w : List ℕ). get_or (w ++ behind) 0 0 < 4) (sym is.bytes_are) (by_op is.op)
+  where
+    by_op : (op : Op) → get_or (frame op ++ behind) 0 0 < 4
+    by_op (Section id l r t) = omega arith
+    by_op (Text id s l r ch) = omega arith
+    by_op (Delete id) = omega arith
+leads (End count) whole behind is = ap (λ (w : List ℕ). get_or (w ++ behind) 0 0) is.3
+leads (Refusal code) whole behind is = ap (λ (w : List ℕ). get_or (w ++ behind) 0 0) is.1
 
 -- a message that begins with 58 has a code, and one that begins with neither 55 nor 58 is a frame
-code_message : (code : ℕ) (more : List ℕ) (message : Message) → IsMessage message (0x58 ∷ code ∷ more) → IsCode code × (more ≡ [])
-code_message code more (Operation op) is =
-    let low : 0x58 < 4 = frame_first is.op 0x58 (code ∷ more) is.bytes_are in
-    absurd (omega (arith, low))
-code_message code more (End count) is =
-    let first : 0x58 ≡ ending = ap (λ (b : List ℕ). get_or b 0 0) is.3 in
-    absurd (omega (arith, first))
-code_message code more (Refusal other) is = (subst IsCode (sym (ap (λ (b : List ℕ). get_or b 1 0) is.1)) is.0, ap (drop 2) is.1)
+pub code_behind : (message : Message) (whole behind : List ℕ) (code : ℕ) (more : List ℕ) → IsMessage message whole → 0x58 ∷ code ∷ more ≡ whole ++ behind → IsCode code
+code_behind message whole behind code more is split = by_kind message is (subst (λ (l : List ℕ). IsLead message (get_or l 0 0)) (sym split) (leads message whole behind is))
+  where
+    by_kind : (message : Message) → IsMessage message whole → IsLead message 0x58 → IsCode code
+    by_kind (Operation op) is lead = absurd (omega (arith, lead))
+    by_kind (End count) is lead = absurd (omega (arith, lead))
+    by_kind (Refusal other) is lead = subst IsCode (sym (ap (λ (l : List ℕ). get_or l 1 0) (split ∙ ap (λ (l : List ℕ). l ++ behind) is.1))) is.0
 
-frame_message : (x : ℕ) (xs : List ℕ) (message : Message) → x ≢ 0x55 → x ≢ 0x58 → IsMessage message (x ∷ xs) → IsFrameOf (x ∷ xs)
-frame_message x xs (Operation op) a b is = (op ∷ [], is)
-frame_message x xs (End count) a b is = absurd (a (cc is.3))
-frame_message x xs (Refusal code) a b is = absurd (b (cc is.1))
+pub other_is_frame : (message : Message) (whole behind : List ℕ) (x : ℕ) (xs : List ℕ) → x ≢ 0x55 → x ≢ 0x58 → IsMessage message whole → x ∷ xs ≡ whole ++ behind
+    → (op : Op) × IsFrame (record { bytes = whole; ops = op ∷ [] })
+other_is_frame message whole behind x xs no_end no_refusal is split = by_kind message is (subst (λ (l : List ℕ). IsLead message (get_or l 0 0)) (sym split) (leads message whole behind is))
+  where
+    by_kind : (message : Message) → IsMessage message whole → IsLead message x → (op : Op) × IsFrame (record { bytes = whole; ops = op ∷ [] })
+    by_kind (Operation op) is lead = (op, is)
+    by_kind (End count) is lead = absurd (no_end lead)
+    by_kind (Refusal code) is lead = absurd (no_refusal lead)
 
 -- a code out of range
 pub broken_code : (code : ℕ) → (IsCode code → ⊥) → IsBroken (0x58 ∷ code ∷ [])
@@ -129,8 +133,8 @@ broken_code code none = record {
   byte = code;
   bytes_are = refl;
   was_front = refusal_front;
-  no_message = λ message is. none (code_message code [] message is).0;
-  no_front = λ p. none (code_message code p.more p.message (subst (IsMessage p.message) p.front p.is_message)).0;
+  no_message = λ message is. none (code_behind message (0x58 ∷ code ∷ []) [] code [] is refl);
+  no_front = λ p. none (code_behind p.message p.whole [] code p.more p.is_message (sym p.front ∙ sym (append-nil p.whole)));
 }
 
 -- a byte with which no frame begins or goes on
@@ -141,10 +145,12 @@ broken_frame first byte front bytes a b are was grown = record {
   byte = byte;
   bytes_are = sym are;
   was_front = was;
-  no_message = λ message is. grown.0 (subst IsFrameOf (sym are) (frame_message first bytes message a b is));
+  no_message = λ message is.
+      let f = other_is_frame message (first ∷ bytes) [] first bytes a b is (sym (append-nil (first ∷ bytes))) in
+      grown.0 (subst IsFrameOf (sym are) (f.0 ∷ [], f.1));
   no_front = λ p.
-      let f = frame_message first (bytes ++ p.more) p.message a b (subst (IsMessage p.message) p.front p.is_message) in
-      grown.1 (subst IsPartial (sym are) (record { framed = record { bytes = first ∷ (bytes ++ p.more); ops = f.0 }; is_frame = f.1; more = p.more; lacks = p.lacks; front = refl }));
+      let f = other_is_frame p.message p.whole [] first (bytes ++ p.more) a b p.is_message (sym p.front ∙ sym (append-nil p.whole)) in
+      grown.1 (subst IsPartial (sym are) (record { framed = record { bytes = p.whole; ops = f.0 ∷ [] }; is_frame = f.1; more = p.more; lacks = p.lacks; front = p.front }));
 }
 
 -- the same fault behind bytes that were heard, whatever the answer
@@ -152,25 +158,6 @@ pub err_behind : {T : Type 0} (result : Result T SyncFault) (u v w : WireView) (
     → IfErr result (λ fault. Stops fault v w place (before ++ bytes)) → IfErr result (λ fault. Stops fault u w place before)
 err_behind (Ok x) u v w place before bytes h s = tt
 err_behind (Err fault) u v w place before bytes h s = stops_behind fault u v w place before bytes h s
-
--- what stands at the front of a frame is this frame
-pub frame_carried : (first : First) (bytes : List ℕ) (f : IsFrameOf bytes) → FirstIs first bytes → Carries first f.0 (length bytes)
-frame_carried first bytes f is =
-    let all : take (length bytes) bytes ≡ bytes = take_all (length bytes) bytes (omega arith) in
-    (is.whole f.0 (length bytes)).1 (
-      omega arith,
-      record { is_frame = subst (λ (b : List ℕ). IsFrame (record { bytes = b; ops = f.0 })) (sym all) f.1; split = sym (take-append-drop (length bytes) bytes) },
-    )
-
-last_one : (xs : List Op) (op other : Op) → xs ++ op ∷ [] ≡ other ∷ [] → op ≡ other
-last_one [] op other is = cc is
-last_one (x ∷ xs) op other is = absurd (omega (arith, ap length is, length-append xs (op ∷ [])))
-
--- the last of a frame's operations is its only one
-pub frame_popped : (bytes : List ℕ) (f : IsFrameOf bytes) (ops rest : List Op) (op : Op) → ops ≡ f.0 → ops ≡ rest ++ op ∷ [] → IsFrame (record { bytes = bytes; ops = op ∷ [] })
-frame_popped bytes f ops rest op are popped =
-    let same : op ≡ f.1.op = last_one rest op f.1.op (sym popped ∙ are ∙ f.1.ops_are) in
-    record { op = f.1.op; has_frame = f.1.has_frame; bytes_are = f.1.bytes_are; ops_are = ap (λ (o : Op). o ∷ []) same }
 
 -- a read that failed
 pub read_fails : {E : Type 0} (result : Result ℕ E) (e : E) (u v : WireView) (buf : List ℕ) (place : ℕ) (before : List ℕ) → result ≡ Err e → WireReads {E = E} u v result buf
@@ -180,7 +167,7 @@ read_fails {E} result e u v buf place before is reads front =
     record {
       bytes = [];
       hears = record {
-        heard = sym r.reads.kept ∙ prepend_none v.left;
+        heard = sym r.reads.kept ∙ sym (prepend_none v.left);
         said = r.said;
         port = r.port;
         room = r.room;

@@ -7,11 +7,11 @@ use Rattle.std.proofs.lemmas.List.{append-nil}
 use Rattle.std.proofs.lemmas.List.Elements.{All-cons, All-head, All-nil, All-tail}
 use Rattle.fugue_ids.specs.declared.limits.TheConstants.{STREAM_LIMIT}
 use Rattle.fugue_ids.specs.declared.op.Op.{Op}
-use Rattle.fugue_ids.specs.declared.op.Op.TheVariants.{Delete, Section, Text}
 use Rattle.origin_model.specs.frames.Frames.{HasFrame, IsFrame, frame, frames}
 use Rattle.origin_model.specs.relay.Session.{refusal}
 use Rattle.origin_model.specs.taking.Taking.{Answer, HasPlace, Held, TooMany as AnswersTooMany, answer, answers_from, held_from, intake}
 use Rattle.origin_model.proofs.SharedLemmas.{Refused, framed_is, no_place_left, places-append, places-none, taken_or_refused}
+use Rattle.op_frame.proofs.CodeLemmas.{same_fronts}
 use Rattle.op_frame.proofs.FrontLemmas.{Front, bad_there, front_of, front_there as part_there, frame_there}
 use Rattle.op_frame.proofs.OperationLemmas.{operation_code}
 use Rattle.op_frame.proofs.SearchLemmas.{Decided, both_decided, decided_by, equal_decided, less_decided}
@@ -20,42 +20,7 @@ use Rattle.relay_sync.specs.Outcomes.{BeginsWith, IsNoMessage, EndsReply, ReplyC
 use Rattle.relay_sync.specs.Replies.{IsCode, IsMessage, IsMessageFront, ending}
 use Rattle.relay_sync.specs.declared.message.Message.{Message}
 use Rattle.relay_sync.specs.declared.message.Message.TheVariants.{End, Operation, Refusal}
-use Rattle.relay_sync.proofs.HearingLemmas.{end_0, end_1, end_2, end_3, frame_front, no_bytes, refusal_front}
-
--- with which byte a message begins
-abbrev IsLead : Message → ℕ → Type 0
-IsLead (Operation op) x = x < 4
-IsLead (End count) x = x ≡ 0x55
-IsLead (Refusal code) x = x ≡ 0x58
-
-record Leads (message : Message) (bytes : List ℕ) : Type 0 where
-  lead : ℕ
-  more : List ℕ
-  is : bytes ≡ lead ∷ more
-  is_lead : IsLead message lead
-
-frame_leads : (op : Op) → (lead : ℕ) × (more : List ℕ) × (frame op ≡ lead ∷ more) × (lead < 4)
-frame_leads (Section id l r t) = (1, _, refl, omega arith)
-frame_leads (Text id s l r ch) = (2, _, refl, omega arith)
-frame_leads (Delete id) = (3, _, refl, omega arith)
-
-leads : (message : Message) (bytes : List ℕ) → IsMessage message bytes → Leads message bytes
-leads (Operation op) bytes is =
-    let f = frame_leads is.op in
-    record { lead = f.0; more = f.1; is = is.bytes_are ∙ f.2; is_lead = f.3 }
-leads (End count) bytes is = record { lead = 0x55; more = is.0; is = is.3; is_lead = refl }
-leads (Refusal code) bytes is = record { lead = 0x58; more = code ∷ []; is = is.1; is_lead = refl }
-
--- lists of one length, with something behind each
-same_fronts : (a b r s : List ℕ) → length a ≡ length b → a ++ r ≡ b ++ s → (a ≡ b) × (r ≡ s)
-same_fronts [] [] r s len is = (refl, is)
-same_fronts [] (y ∷ b) r s len is = absurd (omega (arith, len))
-same_fronts (x ∷ a) [] r s len is = absurd (omega (arith, len))
-same_fronts (x ∷ a) (y ∷ b) r s len is =
-    let first : x ≡ y = cc is in
-    let behind : a ++ r ≡ b ++ s = cc is in
-    let both = same_fronts a b r s (omega (arith, len)) behind in
-    ((λ i. first i ∷ both.0 i), both.1)
+use Rattle.relay_sync.proofs.HearingLemmas.{IsLead, code_behind, end_0, end_1, end_2, end_3, frame_front, leads, no_bytes, other_is_frame, refusal_front}
 
 -- at one place stands one message
 record SameMessage (m n : Message) (r s : List ℕ) : Type 0 where
@@ -63,14 +28,9 @@ record SameMessage (m n : Message) (r s : List ℕ) : Type 0 where
   behind : r ≡ s
 
 same_message : (m n : Message) (a b r s : List ℕ) → IsMessage m a → IsMessage n b → a ++ r ≡ b ++ s → SameMessage m n r s
-same_message m n a b r s p q is = by_kind m n p q (leads m a p) (leads n b q)
+same_message m n a b r s p q is = by_kind m n p q (leads m a r p) (subst (λ (l : List ℕ). IsLead n (get_or l 0 0)) (sym is) (leads n b s q))
   where
-    one_lead : (x y : ℕ) (xs ys : List ℕ) → a ≡ x ∷ xs → b ≡ y ∷ ys → x ≡ y
-    one_lead x y xs ys f g =
-        let both : x ∷ (xs ++ r) ≡ y ∷ (ys ++ s) = ap (λ (l : List ℕ). l ++ r) (sym f) ∙ is ∙ ap (λ (l : List ℕ). l ++ s) g in
-        cc both
-
-    by_kind : (m n : Message) → IsMessage m a → IsMessage n b → Leads m a → Leads n b → SameMessage m n r s
+    by_kind : (m n : Message) → IsMessage m a → IsMessage n b → IsLead m (get_or (a ++ r) 0 0) → IsLead n (get_or (a ++ r) 0 0) → SameMessage m n r s
     by_kind (Operation op) (Operation other) p q f g =
         let same = same_front (record { bytes = a; ops = op ∷ [] }) (record { bytes = b; ops = other ∷ [] }) r s p q is in
         let one : op ≡ other = cc same.ops in
@@ -85,12 +45,12 @@ same_message m n a b r s p q is = by_kind m n p q (leads m a p) (leads n b q)
         let one : code ≡ other = cc whole in
         let rest : r ≡ s = cc whole in
         record { message = ap Refusal one; behind = rest }
-    by_kind (Operation op) (End number) p q f g = absurd (omega (arith, one_lead f.lead g.lead f.more g.more f.is g.is, f.is_lead, g.is_lead))
-    by_kind (Operation op) (Refusal other) p q f g = absurd (omega (arith, one_lead f.lead g.lead f.more g.more f.is g.is, f.is_lead, g.is_lead))
-    by_kind (End count) (Operation other) p q f g = absurd (omega (arith, one_lead f.lead g.lead f.more g.more f.is g.is, f.is_lead, g.is_lead))
-    by_kind (End count) (Refusal other) p q f g = absurd (omega (arith, one_lead f.lead g.lead f.more g.more f.is g.is, f.is_lead, g.is_lead))
-    by_kind (Refusal code) (Operation other) p q f g = absurd (omega (arith, one_lead f.lead g.lead f.more g.more f.is g.is, f.is_lead, g.is_lead))
-    by_kind (Refusal code) (End number) p q f g = absurd (omega (arith, one_lead f.lead g.lead f.more g.more f.is g.is, f.is_lead, g.is_lead))
+    by_kind (Operation op) (End number) p q f g = absurd (omega (arith, f, g))
+    by_kind (Operation op) (Refusal other) p q f g = absurd (omega (arith, f, g))
+    by_kind (End count) (Operation other) p q f g = absurd (omega (arith, f, g))
+    by_kind (End count) (Refusal other) p q f g = absurd (omega (arith, f, g))
+    by_kind (Refusal code) (Operation other) p q f g = absurd (omega (arith, f, g))
+    by_kind (Refusal code) (End number) p q f g = absurd (omega (arith, f, g))
 
 begins_once : (m n : Message) (bytes : List ℕ) → BeginsWith m bytes → BeginsWith n bytes → m ≡ n
 begins_once m n bytes p q = (same_message m n p.whole q.whole p.behind q.behind p.is_message q.is_message (sym p.split ∙ q.split)).message
@@ -117,23 +77,6 @@ end_stand (a ∷ b ∷ c ∷ d ∷ more) =
     message_there (End (from_be_bytes w32 (a ∷ b ∷ c ∷ d ∷ [])))
     (record { whole = ending ∷ a ∷ b ∷ c ∷ d ∷ []; is_message = (a ∷ b ∷ c ∷ d ∷ [], refl, refl, refl); behind = more; split = refl })
 
--- a message that begins with 58 has a code
-code_behind : (message : Message) (whole behind : List ℕ) (code : ℕ) (more : List ℕ) → IsMessage message whole → 0x58 ∷ code ∷ more ≡ whole ++ behind → IsCode code
-code_behind message whole behind code more is split = by_kind message is (leads message whole is)
-  where
-    one_lead : (x : ℕ) (xs : List ℕ) → whole ≡ x ∷ xs → 0x58 ≡ x
-    one_lead x xs f =
-        let both : 0x58 ∷ code ∷ more ≡ x ∷ (xs ++ behind) = split ∙ ap (λ (l : List ℕ). l ++ behind) f in
-        ap (λ (l : List ℕ). get_or l 0 0) both
-
-    by_kind : (message : Message) → IsMessage message whole → Leads message whole → IsCode code
-    by_kind (Operation op) is f = absurd (omega (arith, one_lead f.lead f.more f.is, f.is_lead))
-    by_kind (End count) is f = absurd (omega (arith, one_lead f.lead f.more f.is, f.is_lead))
-    by_kind (Refusal other) is f =
-        let both : 0x58 ∷ code ∷ more ≡ 0x58 ∷ other ∷ behind = split ∙ ap (λ (l : List ℕ). l ++ behind) is.1 in
-        let one : code ≡ other = ap (λ (l : List ℕ). get_or l 1 0) both in
-        subst IsCode (sym one) is.0
-
 refusal_stand : (xs : List ℕ) → Stand (0x58 ∷ xs)
 refusal_stand [] = front_there refusal_front
 refusal_stand (code ∷ more) = by_code (decided_by (both_decided (less_decided 0 code) (less_decided code 4)) (λ p. (omega (arith, p.0), omega (arith, p.1))) (λ p. (omega (arith, p.0), omega (arith, p.1))))
@@ -144,21 +87,6 @@ refusal_stand (code ∷ more) = by_code (decided_by (both_decided (less_decided 
       none_begins = λ message p. none (code_behind message p.whole p.behind code more p.is_message p.split);
       no_front = λ p. none (code_behind p.message p.whole [] code (more ++ p.more) p.is_message (sym p.front ∙ sym (append-nil p.whole)));
     })
-
--- one that begins otherwise is a frame
-other_is_frame : (message : Message) (whole behind : List ℕ) (x : ℕ) (xs : List ℕ) → x ≢ 0x55 → x ≢ 0x58 → IsMessage message whole → x ∷ xs ≡ whole ++ behind
-    → (op : Op) × IsFrame (record { bytes = whole; ops = op ∷ [] })
-other_is_frame message whole behind x xs no_end no_refusal is split = by_kind message is (leads message whole is)
-  where
-    one_lead : (y : ℕ) (ys : List ℕ) → whole ≡ y ∷ ys → x ≡ y
-    one_lead y ys f =
-        let both : x ∷ xs ≡ y ∷ (ys ++ behind) = split ∙ ap (λ (l : List ℕ). l ++ behind) f in
-        ap (λ (l : List ℕ). get_or l 0 0) both
-
-    by_kind : (message : Message) → IsMessage message whole → Leads message whole → (op : Op) × IsFrame (record { bytes = whole; ops = op ∷ [] })
-    by_kind (Operation op) is f = (op, is)
-    by_kind (End count) is f = absurd (no_end (one_lead f.lead f.more f.is ∙ f.is_lead))
-    by_kind (Refusal other) is f = absurd (no_refusal (one_lead f.lead f.more f.is ∙ f.is_lead))
 
 frame_stand : (x : ℕ) (xs : List ℕ) → x ≢ 0x55 → x ≢ 0x58 → Stand (x ∷ xs)
 frame_stand x xs no_end no_refusal = by_front (front_of (x ∷ xs))

@@ -6,9 +6,8 @@ use Rattle.std.proofs.lemmas.Bool.{ltb-false}
 use Rattle.origin_model.specs.declared.relay.event.Event.TheVariants.{Piece}
 use Rattle.origin_model.specs.declared.relay.reply.Reply.{Reply}
 use Rattle.origin_model.specs.relay.Relay.{Relay, Runs, Steps}
-use Rattle.origin_model.proofs.SharedLemmas.{InParts, NoFront, in_parts, step_once}
-use Rattle.op_frame.proofs.OperationLemmas.{operation_code}
-use Rattle.origin_model.specs.frames.Frames.{frame}
+use Rattle.origin_model.proofs.SharedLemmas.{InParts, in_parts, step_once}
+use Rattle.op_frame.proofs.OperationLemmas.{no_front}
 use Rattle.outer_ports.specs.dock.Docks.{DockView}
 use Rattle.outer_ports.specs.dock.Steps.{Gives, GivesSome, part_of, rest_of}
 use Rattle.outer_ports.specs.declared.dock.mem_step.MemStep.{MemStep}
@@ -17,9 +16,6 @@ use Rattle.relay_sync.specs.Serving.{BlamesDock, Comes, Lasts, NoneAfter, Serves
 use Rattle.relay_sync.specs.declared.serve_fault.ServeFault.{ServeFault}
 use Rattle.relay_sync.specs.declared.serve_fault.ServeFault.TheVariants.{DockFault, NoMemory, TooLong}
 use Rattle.relay_sync.proofs.ServingLemmas.{room_first}
-
-no_front : NoFront
-no_front a b more p q same = sym (operation_code.once b a [] more q p (append-nil (frame b) ∙ same)).1
 
 -- a turn, and the relay behind it
 record Begun (old last : Relay) (turn : Turn) (turns : List Turn) : Type 0 where

@@ -9,15 +9,9 @@ ghost use Rattle.relay_sync.specs.declared.sync_fault.SyncFault.TheVariants.{NoM
 use crate::message::Message;
 use crate::sync_fault::SyncFault;
 use fugue_ids::{Op, STREAM_LIMIT};
-use op_frame::{First, FrameFront, Grown, first_frame};
+use op_frame::{END, FrameFront, Grown, REFUSAL, decode};
 use outer_ports::Wire;
 use std::alloc::Global;
-
-/// The first byte of the message that ends a reply.
-const END: u8 = 0x55;
-
-/// The first byte of the message that refuses.
-const REFUSAL: u8 = 0x58;
 
 /// Hears the next message of a reply, byte by byte, so that nothing behind it is heard.
 pub(crate) fn next_message<W: Wire>(
@@ -70,11 +64,13 @@ fn next_number<W: Wire>(wire: &mut W, heard: &mut u64, place: u64) -> Result<Mes
     ensures err { IfErr result (λ fault. Stops fault (W.seen wire.old) (W.seen wire.new) place (END ∷ [])) }
     ensures told { WireRisesFor (IsWireFault result) (W.seen wire.old) (W.seen wire.new) }
 {
-    let a = next_byte(wire, heard, place)?;
-    let b = next_byte(wire, heard, place)?;
-    let c = next_byte(wire, heard, place)?;
-    let d = next_byte(wire, heard, place)?;
-    Ok(Message::End(u32::from_be_bytes([a, b, c, d])))
+    let mut number = [0; 4];
+    let mut came = 0;
+    'bytes: while came < 4 {
+        number[came] = next_byte(wire, heard, place)?;
+        came += 1;
+    }
+    Ok(Message::End(u32::from_be_bytes(number)))
 }
 
 /// The code behind the byte that refuses.
@@ -125,14 +121,8 @@ fn operation_of(alloc: Global, frame: &[u8]) -> Result<Message, SyncFault>
     ensures ok { IfOk result (λ message. (op : AnyOp) × (message ≡ Operation op) × IsFrame (record { bytes = frame.now; ops = op ∷ [] })) }
     ensures err { IfErr result (λ fault. fault ≡ WantsMemory) }
 {
-    let Ok(first) = first_frame(alloc, frame) else {
+    let Ok(op) = decode(alloc, frame) else {
         return Err(SyncFault::NoMemory);
     };
-    match first {
-        First::Whole(mut ops, _) => match ops.pop() {
-            Some(op) => Ok(Message::Operation(op)),
-            None => unreachable!(),
-        },
-        First::Prefix | First::Bad => unreachable!(),
-    }
+    Ok(Message::Operation(op))
 }

@@ -4,16 +4,10 @@ ghost use Rattle.relay_sync.specs.Replies.{WireRisesFor};
 ghost use Rattle.relay_sync.specs.Saying.{SaysText, SaysTo, text_for};
 
 use fugue_ids::{Failed, NoMemory};
-use op_frame::encode_all;
+use op_frame::{CLOSING, GREETING, encode_all};
 use outer_ports::Wire;
 use replica_core::Replica;
 use std::alloc::Global;
-
-/// The first byte of what is said to a relay.
-const GREETING: u8 = 0x48;
-
-/// The last one.
-const CLOSING: u8 = 0x44;
 
 /// What the replica says: all that it holds, and from where on it asks for the log.
 pub(crate) fn text_of(alloc: Global, replica: &Replica, cursor: u32) -> Result<Vec<u8>, NoMemory>

@@ -16,7 +16,7 @@ use Rattle.replica_file.specs.Pieces.{AreBad, Lacks, TakesPiece}
 use Rattle.replica_file.specs.Slots.{EndsOff, HasNoFrames, TakesFrames, TakesSome}
 use Rattle.replica_file.specs.Wanting.{ArePieces, AreWhole, BeginsPiece, ForOperation, ForTitle, IsWanting, part_of}
 use Rattle.replica_file.proofs.LoadingLemmas.{feeds_none, feeds_then, same_then}
-use Rattle.replica_file.proofs.PieceLemmas.{partial_short}
+use Rattle.op_frame.proofs.StepLemmas.{front_short}
 use Rattle.replica_file.proofs.ReadingLemmas.{drop_twice}
 
 abbrev bytes_of : List Framed → List ℕ
@@ -107,7 +107,7 @@ module _ (bytes : List ℕ) (at left size : ℕ) (piece : List ℕ) (is : piece 
       by_ends : (drop 0 piece ≡ []) ⊎ IsPartial (drop 0 piece) → EndsOff (part_of bytes at left)
       by_ends (inl none) = absurd (omega (arith, ap length none, long, some))
       by_ends (inr partial) =
-          let short : length piece < 4096 = partial_short piece partial in
+          let short : length piece < 4096 = front_short piece partial in
           let all : size ≡ left = omega (arith, long, short, smaller) in
           subst EndsOff (is ∙ ap (λ (n : ℕ). take n (drop at bytes)) all) (record {
             ops = [];

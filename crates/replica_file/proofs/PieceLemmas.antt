@@ -12,7 +12,6 @@ use Rattle.origin_model.specs.frames.Frames.{Framed, HasFrame, IsFrame, IsPartia
 use Rattle.origin_model.specs.taking.Taking.{answer, is_kept}
 use Rattle.op_frame.specs.Readers.{AnswersBy, Chains, Nexts, Reading, StartsWithin, to_give}
 use Rattle.op_frame.specs.declared.fault.FrameFault.TheVariants as frame_fault
-use Rattle.op_frame.proofs.StepLemmas.{front_short}
 use Rattle.origin_model.specs.edits.State.{State}
 use Rattle.replica_file.specs.Loading.{Feeds, IsSame}
 use Rattle.replica_file.specs.Pieces.{AreBad, IsReading, Lacks, Steps, TakesPiece}
@@ -20,16 +19,6 @@ use Rattle.replica_file.specs.Wanting.{AreWhole, ForOperation, ForTitle, IsWanti
 use Rattle.replica_file.proofs.LoadingLemmas.{feeds_none}
 use Rattle.replica_file.specs.declared.stop.Stop.{Stop}
 use Rattle.replica_file.specs.declared.stop.Stop.TheVariants as stop_is
-
--- a front of a frame is short
-pub partial_short : (b : List ℕ) → IsPartial b → length b < 4096
-partial_short b p = front_short b (record {
-  value = p.is_frame.op;
-  valid = p.is_frame.has_frame;
-  more = p.more;
-  lacks = p.lacks;
-  front = sym p.is_frame.bytes_are ∙ p.front;
-})
 
 -- the frame of an operation at the front
 one_frame : (op : Op) (bytes rest : List ℕ) → HasFrame op → bytes ≡ frame op ++ rest → Starts bytes (op ∷ []) rest

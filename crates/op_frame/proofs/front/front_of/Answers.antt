@@ -2,7 +2,7 @@ use Rattle.std.proofs.Common.{List, ℕ, arith, ap, drop, length, length-drop, r
 use Rattle.std.proofs.lemmas.List.{length-take-le, take-append-drop, take_all}
 use Rattle.origin_model.specs.frames.Frames.{IsBad, IsPartial}
 use Rattle.op_frame.specs.declared.grown.Grown.TheVariants.{Frame, Front}
-use Rattle.op_frame.proofs.FrameFrontLemmas.{awaits_all, awaits_next, is_front, is_grown, next_field, no_front}
+use Rattle.op_frame.proofs.FrameFrontLemmas.{awaits_all, awaits_next, is_front, is_grown, next_field, none_begins}
 use Rattle.op_frame.proofs.front.front_of.Goals as goal
 
 pub fields-init : goal.fields-init
@@ -44,4 +44,4 @@ returns-in-Bad c =
     let le : at ≤ end = omega (arith, c.min-end.ensures, c.fields.invariant.0) in
     let long : length (take (end - at) (drop at bytes)) ≡ end - at = length-take-le (end - at) (drop at bytes) (omega (arith, c.min-end.ensures, length-drop at bytes)) in
     subst IsBad (ap (λ (l : List ℕ). l ++ drop end bytes) (next_field bytes at end le) ∙ take-append-drop end bytes)
-    (no_front c.fields.due (take at bytes) _ (drop end bytes) c.fields.invariant.1 (c.is_whole.ensures.no c.if-is_whole.false) (omega (arith, long, c.min-end.ensures, c.field_size.ensures)) c.in-Bad.ensures)
+    (none_begins c.fields.due (take at bytes) _ (drop end bytes) c.fields.invariant.1 (c.is_whole.ensures.no c.if-is_whole.false) (omega (arith, long, c.min-end.ensures, c.field_size.ensures)) c.in-Bad.ensures)

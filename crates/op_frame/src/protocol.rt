@@ -1,0 +1,18 @@
+/// The first bytes of the frames of the three kinds.
+pub(crate) const SECTION: u8 = 1;
+
+pub(crate) const TEXT: u8 = 2;
+
+pub(crate) const DELETE: u8 = 3;
+
+/// What begins a session's text, with a cursor behind it.
+pub const GREETING: u8 = 0x48;
+
+/// What ends a session's text.
+pub const CLOSING: u8 = 0x44;
+
+/// What ends the reply to a session, with the log's length behind it.
+pub const END: u8 = 0x55;
+
+/// What begins the reply to a session whose text breaks a rule, with the rule's code behind it.
+pub const REFUSAL: u8 = 0x58;
