@@ -1,14 +1,14 @@
 -- One step of the reader: what the unread bytes show of those that are to be given.
-use Rattle.std.proofs.Common.{◌≡◌, ◌≢◌, ℕ, ◌-◌, ◌<◌, ◌≤◌, Bool, false, List, [], ◌∷◌, ◌++◌, length, take, refl, ap, sym, subst, ◌∙◌, ◌⊎◌, inl, inr, arith, append_assoc, length-append}
-use Rattle.std.specs.Prelude.{Option, Some, None, Result, Ok, Err, IfSome, IfOk, IfErr, slice_get}
+use Rattle.std.proofs.Common.{◌≡◌, ◌≢◌, ℕ, ◌+◌, ◌-◌, ◌<◌, ◌≤◌, Bool, false, List, [], ◌∷◌, ◌++◌, length, take, refl, ap, sym, subst, ◌∙◌, ◌⊎◌, inl, inr, arith, append_assoc, length-append}
+use Rattle.std.specs.Prelude.{Option, Some, None, Result, Ok, Err, IfSome, IfOk, IfErr, IsErrOf, slice_get}
 use Rattle.std.specs.Io.KnownBytes.{prepend_known}
 use Rattle.std.proofs.lemmas.List.{take_at, append-nil}
 use Rattle.fugue_ids.specs.declared.op.Op.{Op}
 use Rattle.outer_ports.specs.Sources.{SourceView, KeepsCount}
-use Rattle.origin_model.specs.frames.Frames.{frame, IsPartial, IsBad}
+use Rattle.origin_model.specs.frames.Frames.{HasFrame, IsBad, IsPartial, frame}
 use Rattle.op_frame.specs.declared.fault.FrameFault.{FrameFault}
 use Rattle.op_frame.specs.declared.fault.FrameFault.TheVariants.{BadFrame, CutShort, ReadFault, TooLong, NoMemory}
-use Rattle.op_frame.specs.Readers.{AnswerIs, AnswersBy}
+use Rattle.op_frame.specs.Readers.{AnswerIs, AnswersBy, CarriesOffset, Moves, given_length}
 use Rattle.op_frame.specs.Refills.{Refills, Drops}
 use Rattle.op_frame.specs.Steps.{Takes, TakesFrame, only_op}
 use Rattle.op_frame.proofs.FrameLemmas.{bad_goes_on}
@@ -32,52 +32,44 @@ module _ (old unread : List ℕ) (before now : SourceView) (offset room : ℕ) (
       → IfSome (prepend_known old before.left) (AnswersBy result offset room)
   answer result is = shows (AnswersBy result offset room) unread now.left (prepend_known old before.left) s.told (λ rest left. answers_by result offset room (unread ++ rest) (is rest left))
 
+  -- an answer that is no fault of the source, by the bytes told so far
+  ends_so : (new : List ℕ) (result : Result (Option Op) FrameFault) → ((rest : List ℕ) → now.left ≡ Some rest → AnswerIs result offset room (unread ++ rest)) → CarriesOffset result offset
+      → Moves result old new before.left now.left → length new + given_length result ≤ room → (IsErrOf result TooLong → ⊥) → (IsErrOf result ReadFault → ⊥) → IfOk result (λ given. IfSome given HasFrame)
+      → Takes old new before now offset room result
+  ends_so new result is at moves within short no_fault has = record {
+    answer = answer result is;
+    at = at;
+    moves = moves;
+    within = within;
+    full = λ long. absurd (short long);
+    has_frame = has;
+    count = count_so ⊥ _ s.count no_fault (λ none. absurd none);
+  }
+
   -- a frame stands at the front of the unread bytes
   gives : (new : List ℕ) (found : Option (Op × ℕ)) (n : ℕ) → TakesFrame found unread new n → Takes old new before now offset room (only_op (Ok found))
   gives new None n p = absurd p
   gives new (Some found) n p =
       let op : Op = found.0 in
-      record {
-        answer = answer (Ok (Some op)) (λ rest is. record {
-          has_frame = p.0;
-          within = omega (arith, s.inside, ap length p.3, length-append (frame op) new);
-          rest = new ++ rest;
-          split = ap (λ (l : List ℕ). l ++ rest) p.3 ∙ append_assoc (frame op) new rest;
-        });
-        at = tt;
-        moves = s.told ∙ ap (λ (l : List ℕ). prepend_known l now.left) p.3 ∙ sym (prepend_twice (frame op) new now.left);
-        within = omega (arith, s.inside, ap length p.3, length-append (frame op) new);
-        full = λ is. absurd (cc is);
+      let within : length new + length (frame op) ≤ room = omega (arith, s.inside, ap length p.3, length-append (frame op) new) in
+      ends_so new (Ok (Some op)) (λ rest is. record {
         has_frame = p.0;
-        count = count_so ⊥ _ s.count (λ is. cc is) (λ none. absurd none);
-      }
+        within = omega (arith, within);
+        rest = new ++ rest;
+        split = ap (λ (l : List ℕ). l ++ rest) p.3 ∙ append_assoc (frame op) new rest;
+      }) tt (s.told ∙ ap (λ (l : List ℕ). prepend_known l now.left) p.3 ∙ sym (prepend_twice (frame op) new now.left)) within (λ is. cc is) (λ is. cc is) p.0
 
   -- no frame stands there, whatever follows
   pub refuses : IsBad unread → Takes old unread before now offset room (Err (BadFrame offset))
-  refuses bad = record {
-    answer = answer (Err (BadFrame offset)) (λ rest is. (
-      refl,
-      subst IsBad (sym (take_past unread rest room (length unread) refl s.inside)) (bad_goes_on unread (take (room - length unread) rest) bad),
-    ));
-    at = refl;
-    moves = s.told;
-    within = omega (arith, s.inside);
-    full = λ is. absurd (cc is);
-    has_frame = tt;
-    count = count_so ⊥ _ s.count (λ is. cc is) (λ none. absurd none);
-  }
+  refuses bad = ends_so unread (Err (BadFrame offset)) (λ rest is. (
+    refl,
+    subst IsBad (sym (take_past unread rest room (length unread) refl s.inside)) (bad_goes_on unread (take (room - length unread) rest) bad),
+  )) refl s.told (omega (arith, s.inside)) (λ is. cc is) (λ is. cc is) tt
 
   -- a Section's title found no memory
   wants : (new : List ℕ) → new ≡ unread → slice_get unread 0 ≡ Some 1 → Takes old new before now offset room (Err NoMemory)
-  wants new same first = record {
-    answer = answer (Err NoMemory) (λ rest is. first_stays unread rest 1 first);
-    at = tt;
-    moves = s.told ∙ ap (λ (l : List ℕ). prepend_known l now.left) (sym same);
-    within = omega (arith, s.inside, ap length same);
-    full = λ is. absurd (cc is);
-    has_frame = tt;
-    count = count_so ⊥ _ s.count (λ is. cc is) (λ none. absurd none);
-  }
+  wants new same first = ends_so new (Err NoMemory) (λ rest is. first_stays unread rest 1 first) tt (s.told ∙ ap (λ (l : List ℕ). prepend_known l now.left) (sym same)) (omega (arith, s.inside, ap length same))
+      (λ is. cc is) (λ is. cc is) tt
 
   -- the frame at the front was taken off, or found no memory
   pub takes_frame : (new : List ℕ) (n : ℕ) (result : Result (Option (Op × ℕ)) FrameFault) → IfOk result (λ given. TakesFrame given unread new n)
@@ -88,27 +80,12 @@ module _ (old unread : List ℕ) (before now : SourceView) (offset room : ℕ) (
   -- the stream is over, and so are its frames, or it is over within one
   pub over : (result : Result (Option (Op × ℕ)) FrameFault) → IsPartial unread → IfSome now.left (λ left. left ≡ [])
       → IfOk result (λ given. (given ≡ None) × (unread ≡ [])) → IfErr result (λ e. (e ≡ CutShort offset) × (unread ≢ [])) → Takes old unread before now offset room (only_op result)
-  over (Ok None) front none is cut = record {
-    answer = answer (Ok None) (λ rest left. (λ i. is.1 i ++ some_is (λ (l : List ℕ). l ≡ []) now.left rest none left i));
-    at = tt;
-    moves = (is.1, none, s.told);
-    within = omega (arith, s.inside);
-    full = λ is. absurd (cc is);
-    has_frame = tt;
-    count = count_so ⊥ _ s.count (λ is. cc is) (λ none. absurd none);
-  }
+  over (Ok None) front none is cut =
+      ends_so unread (Ok None) (λ rest left. (λ i. is.1 i ++ some_is (λ (l : List ℕ). l ≡ []) now.left rest none left i)) tt (is.1, none, s.told) (omega (arith, s.inside)) (λ is. cc is) (λ is. cc is) tt
   over (Ok (Some found)) front none is cut = absurd (cc is.0)
-  over (Err e) front none is cut = subst (λ (fault : FrameFault). Takes old unread before now offset room (Err fault)) (sym cut.0) (record {
-    answer = answer (Err (CutShort offset)) (λ rest left.
-        let all : unread ≡ unread ++ rest = sym (append-nil unread) ∙ ap (λ (l : List ℕ). unread ++ l) (sym (some_is (λ (l : List ℕ). l ≡ []) now.left rest none left)) in
-        subst (AnswerIs (Err (CutShort offset)) offset room) all (refl, cut.1, s.inside, front));
-    at = refl;
-    moves = (s.told, none);
-    within = omega (arith, s.inside);
-    full = λ is. absurd (cc is);
-    has_frame = tt;
-    count = count_so ⊥ _ s.count (λ is. cc is) (λ none. absurd none);
-  })
+  over (Err e) front none is cut = subst (λ (fault : FrameFault). Takes old unread before now offset room (Err fault)) (sym cut.0) (ends_so unread (Err (CutShort offset)) (λ rest left.
+      let all : unread ≡ unread ++ rest = sym (append-nil unread) ∙ ap (λ (l : List ℕ). unread ++ l) (sym (some_is (λ (l : List ℕ). l ≡ []) now.left rest none left)) in
+      subst (AnswerIs (Err (CutShort offset)) offset room) all (refl, cut.1, s.inside, front)) refl (s.told, none) (omega (arith, s.inside)) (λ is. cc is) (λ is. cc is) tt)
 
   more_there : (left : Option (List ℕ)) (rest : List ℕ) (byte : ℕ) → Some rest ≡ prepend_known (byte ∷ []) left → 0 < length rest
   more_there None rest byte is = absurd (cc is)
