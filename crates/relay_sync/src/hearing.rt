@@ -67,7 +67,8 @@ fn next_number<W: Wire>(wire: &mut W, heard: &mut u64, place: u64) -> Result<Mes
     let mut number = [0; 4];
     let mut came = 0;
     'bytes: while came < 4 {
-        number[came] = next_byte(wire, heard, place)?;
+        let byte = next_byte(wire, heard, place)?;
+        number[came] = byte;
         came += 1;
     }
     Ok(Message::End(u32::from_be_bytes(number)))

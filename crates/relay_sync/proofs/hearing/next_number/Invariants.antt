@@ -1,4 +1,4 @@
-use Rattle.std.proofs.Common.{List, [], length, take, ℕ, ◌+◌, ◌-◌, ◌≤◌, ◌∷◌, ◌≡◌}
+use Rattle.std.proofs.Common.{length, take, ℕ, ◌+◌, ◌-◌, ◌≤◌, ◌≡◌}
 use Rattle.fugue_ids.specs.declared.limits.TheConstants.{STREAM_LIMIT}
 use Rattle.relay_sync.specs.Replies.{Hears, WireRisesFor}
 use Rattle.relay_sync.proofs.hearing.next_number.Given as goal
@@ -6,6 +6,7 @@ use Rattle.relay_sync.proofs.hearing.next_number.Given as goal
 -- the bytes of the number so far
 abbrev pub invariant-bytes : goal.invariant-bytes
 invariant-bytes g l = record {
+  long : length l.number ≡ 4;
   short : l.came ≤ 4;
   hears : Hears (g.W.Wire.seen l.fn.wire) (g.W.Wire.seen l.wire) (take l.came l.number);
   count : l.heard ≡ l.place + 1 + l.came;
