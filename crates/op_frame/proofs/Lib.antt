@@ -9,7 +9,6 @@ pub mod SearchLemmas
 pub mod FrontLemmas
 pub mod ToldLemmas
 pub mod WindowLemmas
-pub mod RefillLemmas
 pub mod StepLemmas
 pub mod StreamLemmas
 pub mod FirstLemmas

@@ -5,7 +5,7 @@ use Rattle.std.specs.Char.{IsScalar, encode_utf8}
 use Rattle.std.specs.Str.{chars, IsUtf8, IsValidUpTo, encode_utf8_all, all_scalars, IsErrorLen}
 use Rattle.std.specs.Str.Lossy.{utf8_error_len}
 use Rattle.std.proofs.str.Laws.{both}
-use Rattle.std.proofs.lemmas.Bool.{or_from, or_parts}
+use Rattle.std.proofs.lemmas.Bool.{or_from}
 use Rattle.std.proofs.lemmas.List.{append-nil, get_or-drop, take-append-drop, take-append-le, drop-append-le, take_at}
 use Rattle.std.proofs.lemmas.List.Elements.{All-cons, All-head, All-nil, All-tail}
 use Rattle.std.proofs.lemmas.List.Folds.{list_any-append}
@@ -23,9 +23,6 @@ use Rattle.op_frame.proofs.CharacterLemmas.{Spells, goes_on, cut_is}
 -- neither part has a line end
 pub no_line_ends : (xs ys : List ℕ) → has_line_end xs ≡ false → has_line_end ys ≡ false → has_line_end (xs ++ ys) ≡ false
 no_line_ends xs ys p q = list_any-append ends_line xs ys ∙ or_from _ _ p q
-
-front_line_end : (xs ys : List ℕ) → has_line_end (xs ++ ys) ≡ false → has_line_end xs ≡ false
-front_line_end xs ys p = (or_parts _ _ (sym (list_any-append ends_line xs ys) ∙ p)).0
 
 all_are_scalars : (t : List ℕ) → all_scalars t ≡ true → All IsScalar t
 all_are_scalars [] p = All-nil IsScalar
@@ -129,10 +126,6 @@ begun_utf8 text begun front rest more parts p q r =
     subst IsUtf8 (regroup ∙ ap (λ (l : List ℕ). l ++ (rest ++ more)) parts) (IsUtf8-append text ((begun ++ rest) ++ more) p (IsUtf8-append (begun ++ rest) more q r))
 
 module _ (len : ℕ) (front : List ℕ) where
-  -- a line end in the text
-  pub line_end_none : has_line_end front ≡ true → NeverCompletes (Fields 0 0 (Text len)) front
-  line_end_none ends more e = let clash : true ≡ false = sym ends ∙ front_line_end front more e.1 in cc clash
-
   -- all of it, and no text
   pub last_none : length front ≡ len → (IsUtf8 front → ⊥) → NeverCompletes (Fields 0 0 (Text len)) front
   last_none long bad [] e = bad (subst IsUtf8 (append-nil front) e.0)

@@ -1,5 +1,5 @@
-use Rattle.std.proofs.Common.{sym, ap, subst, ◌∙◌, List, ℕ, ◌++◌, ◌≡◌, append_assoc}
-use Rattle.origin_model.specs.frames.Frames.{frame, HasFrame}
+use Rattle.std.proofs.Common.{sym, ap, ◌∙◌, List, ℕ, ◌++◌, ◌≡◌, append_assoc}
+use Rattle.origin_model.specs.frames.Frames.{frame}
 use Rattle.op_frame.proofs.encoding.encode.Goals as goal
 
 -- six parts one behind the other
@@ -12,17 +12,3 @@ returns-in-Text-clause-ok c =
     six_parts _ _ _ _ _ _ _ _ _ _ _ _ _ _ c.reserve.ensures.items c.put-in-Text.ensures.items c.put_id-in-Text.ensures.puts.items c.put_id-in-Text-2.ensures.puts.items
     c.put_origin-in-Text.ensures.puts.items c.put_origin-in-Text-2.ensures.puts.items c.put_scalar.ensures.puts.items
     ∙ ap (λ (l : List ℕ). c.args.out.now.items ++ l) (sym (ap frame c.in-Text.is))
-
-pub returns-in-Section-clause-has_frame : goal.returns-in-Section-clause-has_frame
-returns-in-Section-clause-has_frame c =
-    subst HasFrame (sym c.in-Section.is) (c.put_id.ensures.is_identifier, c.put_origin.ensures.is_origin, c.put_origin-in-Section.ensures.is_origin, c.put_title.ensures.is_title)
-
-pub returns-in-Text-clause-has_frame : goal.returns-in-Text-clause-has_frame
-returns-in-Text-clause-has_frame c =
-    subst HasFrame (sym c.in-Text.is) (
-      c.put_id-in-Text.ensures.is_identifier,
-      c.put_id-in-Text-2.ensures.is_identifier,
-      c.put_origin-in-Text.ensures.is_origin,
-      c.put_origin-in-Text-2.ensures.is_origin,
-      c.put_scalar.ensures.is_scalar,
-    )

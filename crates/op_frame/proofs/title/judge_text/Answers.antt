@@ -1,12 +1,9 @@
 use Rattle.std.proofs.Common.{ap, arith, sym, ◌∙◌}
 use Rattle.std.specs.Prelude.{is_some}
 use Rattle.op_frame.proofs.FrameFrontLemmas.{text_done}
-use Rattle.op_frame.proofs.TitleLemmas.{cut_front, fault_none, last_none, line_end_none, wide_none}
+use Rattle.op_frame.proofs.TitleLemmas.{cut_front, fault_none, last_none, wide_none}
 use Rattle.op_frame.proofs.title.judge_text.Goals.{then-bytes-len-via-then-bytes-len, then-bytes-len-via-else-bytes-len+then-is_some}
 use Rattle.op_frame.proofs.title.judge_text.Goals as goal
-
-pub returns-then-has_line_end : goal.returns-then-has_line_end
-returns-then-has_line_end c = line_end_none c.args.len c.args.bytes.now (sym c.has_line_end.ensures ∙ c.if-has_line_end.true)
 
 pub returns-in_default : goal.returns-in_default
 returns-in_default c =
