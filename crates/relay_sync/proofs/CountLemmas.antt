@@ -1,12 +1,12 @@
 -- Counts of faults on docks and wires that tell: they rise only where the dock or the wire is blamed.
-use Rattle.std.proofs.Common.{List, false, inl, inr, refl, subst, sym, true, ℕ, ◌∙◌, ◌≡◌, ◌≢◌}
+use Rattle.std.proofs.Common.{List, false, inl, inr, refl, subst, sym, true, ℕ, ◌∙◌, ◌≡◌}
 use Rattle.std.specs.Prelude.{Err, IsErr, IsSome, Ok, Option, Result}
 use Rattle.std.proofs.lemmas.Bool.{cases_eq, false≢true}
 use Rattle.fugue_ids.proofs.JoinLemmas.{text_tells}
 use Rattle.outer_ports.proofs.SharedLemmas.{dial_tells, end_tells, take_tells, wire_read_tells, wire_write_tells}
 use Rattle.outer_ports.specs.declared.dock.dock_step.DockStep.{DockStep}
 use Rattle.outer_ports.specs.dock.Docks.{DockTells, DockView, Ends, Takes, out_to}
-use Rattle.outer_ports.specs.wire.Wires.{Dials, WireReads, WireTells, WireView, WireWrites}
+use Rattle.outer_ports.specs.wire.Wires.{Dials, WireReads, WireView, WireWrites}
 use Rattle.relay_sync.specs.Replies.{WireRisesFor}
 use Rattle.relay_sync.specs.Sending.{DockRisesFor, SendsText}
 

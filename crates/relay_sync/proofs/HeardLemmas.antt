@@ -1,6 +1,6 @@
 -- What was heard of a reply whose bytes are told is what these bytes come to.
 use Rattle.std.proofs.Common.{[], List, ap, append_assoc, arith, length, length-append, refl, subst, sym, take, ℕ, ◌+◌, ◌++◌, ◌-◌, ◌<◌, ◌≤◌, ◌∙◌, ◌∷◌, ◌≡◌, ◌⊎◌, inl, inr}
-use Rattle.std.specs.Prelude.{All, Err, IfErr, IfOk, IfSome, None, Ok, Option, Result, Some, ◌↔◌}
+use Rattle.std.specs.Prelude.{All, Err, IfErr, IfOk, IfSome, None, Ok, Option, Result, Some}
 use Rattle.std.proofs.lemmas.List.{append-nil, take_all, take_at}
 use Rattle.fugue_ids.specs.declared.limits.TheConstants.{STREAM_LIMIT}
 use Rattle.fugue_ids.specs.declared.op.Op.{Op}

@@ -1,9 +1,9 @@
 -- Messages of a reply, as they are heard byte by byte.
-use Rattle.std.proofs.Common.{[], List, ap, append_assoc, arith, drop, get_or, length, length-append, refl, subst, sym, take, ℕ, ◌+◌, ◌++◌, ◌<◌, ◌≤◌, ◌∙◌, ◌∷◌, ◌≡◌, ◌≢◌}
-use Rattle.std.specs.Prelude.{is_some, IfErr, None, Ok, Err, Option, Result, Some}
+use Rattle.std.proofs.Common.{[], List, ap, append_assoc, arith, get_or, length, refl, subst, sym, ℕ, ◌+◌, ◌++◌, ◌<◌, ◌≤◌, ◌∙◌, ◌∷◌, ◌≡◌, ◌≢◌}
+use Rattle.std.specs.Prelude.{is_some, IfErr, Ok, Err, Option, Result}
 use Rattle.std.specs.Int.{from_be_bytes, w32}
 use Rattle.std.specs.Io.KnownBytes.{prepend_known}
-use Rattle.std.proofs.lemmas.List.{append-nil, take-append-drop, take_all}
+use Rattle.std.proofs.lemmas.List.{append-nil}
 use Rattle.fugue_ids.specs.declared.op.Op.{Op}
 use Rattle.fugue_ids.specs.declared.op.Op.TheVariants.{Delete, Section, Text}
 use Rattle.origin_model.specs.frames.Frames.{IsFrame, IsPartial, frame}
@@ -63,18 +63,6 @@ number_front front more lacks long =
 
 pub no_bytes : IsMessageFront []
 no_bytes = record { message = End (from_be_bytes w32 (0 ∷ 0 ∷ 0 ∷ 0 ∷ [])); whole = ending ∷ 0 ∷ 0 ∷ 0 ∷ 0 ∷ []; is_message = (0 ∷ 0 ∷ 0 ∷ 0 ∷ [], refl, refl, refl); more = ending ∷ 0 ∷ 0 ∷ 0 ∷ 0 ∷ []; lacks = omega arith; front = refl }
-
-pub end_0 : IsMessageFront (ending ∷ [])
-end_0 = number_front [] (0 ∷ 0 ∷ 0 ∷ 0 ∷ []) (omega arith) refl
-
-pub end_1 : (a : ℕ) → IsMessageFront (ending ∷ a ∷ [])
-end_1 a = number_front (a ∷ []) (0 ∷ 0 ∷ 0 ∷ []) (omega arith) refl
-
-pub end_2 : (a b : ℕ) → IsMessageFront (ending ∷ a ∷ b ∷ [])
-end_2 a b = number_front (a ∷ b ∷ []) (0 ∷ 0 ∷ []) (omega arith) refl
-
-pub end_3 : (a b c : ℕ) → IsMessageFront (ending ∷ a ∷ b ∷ c ∷ [])
-end_3 a b c = number_front (a ∷ b ∷ c ∷ []) (0 ∷ []) (omega arith) refl
 
 pub refusal_front : IsMessageFront (0x58 ∷ [])
 refusal_front = record { message = Refusal 1; whole = refusal 1; is_message = ((omega arith, omega arith), refl); more = 1 ∷ []; lacks = omega arith; front = refl }

@@ -7,7 +7,7 @@ use Rattle.std.proofs.lemmas.List.{append-nil}
 use Rattle.std.proofs.lemmas.List.Elements.{All-cons, All-head, All-nil, All-tail}
 use Rattle.fugue_ids.specs.declared.limits.TheConstants.{STREAM_LIMIT}
 use Rattle.fugue_ids.specs.declared.op.Op.{Op}
-use Rattle.origin_model.specs.frames.Frames.{HasFrame, IsFrame, frame, frames}
+use Rattle.origin_model.specs.frames.Frames.{HasFrame, frame, frames}
 use Rattle.origin_model.specs.relay.Session.{refusal}
 use Rattle.origin_model.specs.taking.Taking.{Answer, HasPlace, Held, TooMany as AnswersTooMany, answer, answers_from, held_from, intake}
 use Rattle.origin_model.proofs.SharedLemmas.{Refused, framed_is, no_place_left, places-append, places-none, taken_or_refused}
@@ -20,7 +20,7 @@ use Rattle.relay_sync.specs.Outcomes.{BeginsWith, IsNoMessage, EndsReply, ReplyC
 use Rattle.relay_sync.specs.Replies.{IsCode, IsMessage, IsMessageFront, ending}
 use Rattle.relay_sync.specs.declared.message.Message.{Message}
 use Rattle.relay_sync.specs.declared.message.Message.TheVariants.{End, Operation, Refusal}
-use Rattle.relay_sync.proofs.HearingLemmas.{IsLead, code_behind, end_0, end_1, end_2, end_3, frame_front, leads, no_bytes, other_is_frame, refusal_front}
+use Rattle.relay_sync.proofs.HearingLemmas.{IsLead, code_behind, frame_front, leads, no_bytes, number_front, other_is_frame, refusal_front}
 
 -- at one place stands one message
 record SameMessage (m n : Message) (r s : List ℕ) : Type 0 where
@@ -69,10 +69,10 @@ pub data Stand (bytes : List ℕ) : Type 0 where
   none_there : IsNoMessage bytes → Stand bytes
 
 end_stand : (xs : List ℕ) → Stand (0x55 ∷ xs)
-end_stand [] = front_there end_0
-end_stand (a ∷ []) = front_there (end_1 a)
-end_stand (a ∷ b ∷ []) = front_there (end_2 a b)
-end_stand (a ∷ b ∷ c ∷ []) = front_there (end_3 a b c)
+end_stand [] = front_there (number_front [] (0 ∷ 0 ∷ 0 ∷ 0 ∷ []) (omega arith) refl)
+end_stand (a ∷ []) = front_there (number_front (a ∷ []) (0 ∷ 0 ∷ 0 ∷ []) (omega arith) refl)
+end_stand (a ∷ b ∷ []) = front_there (number_front (a ∷ b ∷ []) (0 ∷ 0 ∷ []) (omega arith) refl)
+end_stand (a ∷ b ∷ c ∷ []) = front_there (number_front (a ∷ b ∷ c ∷ []) (0 ∷ []) (omega arith) refl)
 end_stand (a ∷ b ∷ c ∷ d ∷ more) =
     message_there (End (from_be_bytes w32 (a ∷ b ∷ c ∷ d ∷ [])))
     (record { whole = ending ∷ a ∷ b ∷ c ∷ d ∷ []; is_message = (a ∷ b ∷ c ∷ d ∷ [], refl, refl, refl); behind = more; split = refl })

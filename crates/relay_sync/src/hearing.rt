@@ -8,7 +8,7 @@ ghost use Rattle.relay_sync.specs.declared.sync_fault.SyncFault.TheVariants.{NoM
 
 use crate::message::Message;
 use crate::sync_fault::SyncFault;
-use fugue_ids::{Op, STREAM_LIMIT};
+use fugue_ids::STREAM_LIMIT;
 use op_frame::{END, FrameFront, Grown, REFUSAL, decode};
 use outer_ports::Wire;
 use std::alloc::Global;

@@ -1,4 +1,4 @@
-use Rattle.std.proofs.Common.{[], List, ap, arith, drop, length, length-drop, length-set, refl, subst, sym, take, ℕ, ◌++◌, ◌≡◌, ◌∙◌, ◌∷◌}
+use Rattle.std.proofs.Common.{[], List, ap, arith, drop, length, length-drop, length-set, refl, subst, sym, take, ℕ, ◌≡◌, ◌∙◌, ◌∷◌}
 use Rattle.std.proofs.lemmas.List.{length-take-le, take-append-drop, take_all, take_more_set}
 use Rattle.std.proofs.lemmas.Result.{err_from_is_err_and}
 use Rattle.relay_sync.specs.Replies.{Hears}

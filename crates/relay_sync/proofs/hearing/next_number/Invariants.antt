@@ -1,4 +1,4 @@
-use Rattle.std.proofs.Common.{length, take, ℕ, ◌+◌, ◌-◌, ◌≤◌, ◌≡◌}
+use Rattle.std.proofs.Common.{length, take, ◌+◌, ◌-◌, ◌≤◌, ◌≡◌}
 use Rattle.fugue_ids.specs.declared.limits.TheConstants.{STREAM_LIMIT}
 use Rattle.relay_sync.specs.Replies.{Hears, WireRisesFor}
 use Rattle.relay_sync.proofs.hearing.next_number.Given as goal
