@@ -6,8 +6,8 @@ ghost use Rattle.op_frame.specs.FrameFronts.{Completes, IsFrameOf, IsIdentifierB
 ghost use Rattle.op_frame.specs.declared.due.Due.TheVariants.{Fields as FieldsDue};
 ghost use Rattle.op_frame.specs.declared.due.Last.TheVariants.{Nothing as NothingLast, Scalar as ScalarLast, Title as TitleLast};
 
-use crate::protocol::{DELETE, SECTION, TEXT};
 use crate::number::{number, scalar_of};
+use crate::protocol::{DELETE, SECTION, TEXT};
 use fugue_ids::{ElementId, NoMemory, Op, Title, TitleFault};
 use std::alloc::Global;
 use std::str;

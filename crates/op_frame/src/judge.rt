@@ -6,8 +6,8 @@ ghost use Rattle.op_frame.specs.declared.grown.Grown.TheVariants.{Frame as Whole
 
 use crate::due::{Due, Judged, Last};
 use crate::grown::Grown;
-use crate::protocol::{DELETE, SECTION, TEXT};
 use crate::number::{byte_or_0, number, scalar_of};
+use crate::protocol::{DELETE, SECTION, TEXT};
 use crate::title::{judge_text, judge_title};
 
 /// How many bytes the field has that is due, or its first part.
