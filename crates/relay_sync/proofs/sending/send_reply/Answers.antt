@@ -1,41 +1,27 @@
 use Rattle.relay_sync.proofs.CountLemmas.{dock_on, dock_went, ends_rises, sends_rises}
-use Rattle.std.proofs.Common.{List, subst, ℕ}
-use Rattle.std.specs.Prelude.{Err, Ok}
+use Rattle.std.proofs.Common.{sym}
 use Rattle.std.proofs.lemmas.Result.{err_from_is_err_and}
 use Rattle.fugue_ids.specs.declared.failed.Failed.{Failed}
-use Rattle.relay_sync.specs.Sending.{SendsText}
 use Rattle.relay_sync.proofs.SendingLemmas.{replied_ended, replied_front, replied_on, replied_open}
 use Rattle.relay_sync.proofs.sending.send_reply.Goals as goal
 
 pub returns-in_err-end-clause-err : goal.returns-in_err-end-clause-err
 returns-in_err-end-clause-err g c =
     let p = err_from_is_err_and c.from_residual-in_err-end.result c.from_residual-in_err-end.ensures.1 in
-    let reply = c.args.reply.now in
-    let sent : SendsText {E = Failed} {T = Unit {0}} (g.D.Dock.seen c.args.dock.now) (g.D.Dock.seen c.send_whole.new.dock) (Ok tt) reply.session reply.bytes
-    = subst (λ (b : List ℕ). SendsText {E = Failed} {T = Unit {0}} (g.D.Dock.seen c.args.dock.now) (g.D.Dock.seen c.send_whole.new.dock) (Ok tt) reply.session b) c.as_slice.ensures c.in_ok-send_whole.ensures in
-    rw p.1 (replied_open {E = Failed} {T = Unit {0}} {F = Failed} {S = Unit {0}} tt _ _ _ _ reply sent c.in_err-end.ensures c.if-reply.true)
+    rw p.1 (replied_open {E = Failed} {T = Unit {0}} {F = Failed} {S = Unit {0}} tt _ _ _ _ c.args.reply.now (rw (sym c.as_slice.ensures) c.in_ok-send_whole.ensures) c.in_err-end.ensures c.if-reply.true)
 
 pub returns-in_ok-end-clause-ok : goal.returns-in_ok-end-clause-ok
 returns-in_ok-end-clause-ok g c =
-    let reply = c.args.reply.now in
-    let sent : SendsText {E = Failed} {T = Unit {0}} (g.D.Dock.seen c.args.dock.now) (g.D.Dock.seen c.send_whole.new.dock) (Ok tt) reply.session reply.bytes
-    = subst (λ (b : List ℕ). SendsText {E = Failed} {T = Unit {0}} (g.D.Dock.seen c.args.dock.now) (g.D.Dock.seen c.send_whole.new.dock) (Ok tt) reply.session b) c.as_slice.ensures c.in_ok-send_whole.ensures in
-    replied_ended {E = Failed} {T = Unit {0}} {F = Failed} {S = Unit {0}} tt tt _ _ _ reply c.if-reply.true sent c.in_ok-end.ensures
+    replied_ended {E = Failed} {T = Unit {0}} {F = Failed} {S = Unit {0}} tt tt _ _ _ c.args.reply.now c.if-reply.true (rw (sym c.as_slice.ensures) c.in_ok-send_whole.ensures) c.in_ok-end.ensures
 
 pub returns-else-reply-clause-ok : goal.returns-else-reply-clause-ok
 returns-else-reply-clause-ok g c =
-    let reply = c.args.reply.now in
-    let sent : SendsText {E = Failed} {T = Unit {0}} (g.D.Dock.seen c.args.dock.now) (g.D.Dock.seen c.send_whole.new.dock) (Ok tt) reply.session reply.bytes
-    = subst (λ (b : List ℕ). SendsText {E = Failed} {T = Unit {0}} (g.D.Dock.seen c.args.dock.now) (g.D.Dock.seen c.send_whole.new.dock) (Ok tt) reply.session b) c.as_slice.ensures c.in_ok-send_whole.ensures in
-    replied_on {E = Failed} {T = Unit {0}} tt _ _ reply c.if-reply.false sent
+    replied_on {E = Failed} {T = Unit {0}} tt _ _ c.args.reply.now c.if-reply.false (rw (sym c.as_slice.ensures) c.in_ok-send_whole.ensures)
 
 pub returns-in_err-send_whole-clause-err : goal.returns-in_err-send_whole-clause-err
 returns-in_err-send_whole-clause-err g c =
     let p = err_from_is_err_and c.from_residual.result c.from_residual.ensures.1 in
-    let reply = c.args.reply.now in
-    let sent : SendsText {E = Failed} {T = Unit {0}} (g.D.Dock.seen c.args.dock.now) (g.D.Dock.seen c.send_whole.new.dock) (Err c.in_err-send_whole.field-0.0) reply.session reply.bytes
-    = subst (λ (b : List ℕ). SendsText {E = Failed} {T = Unit {0}} (g.D.Dock.seen c.args.dock.now) (g.D.Dock.seen c.send_whole.new.dock) (Err c.in_err-send_whole.field-0.0) reply.session b) c.as_slice.ensures c.in_err-send_whole.ensures in
-    rw p.1 (replied_front {E = Failed} {T = Unit {0}} c.in_err-send_whole.field-0.0 _ _ reply sent)
+    rw p.1 (replied_front {E = Failed} {T = Unit {0}} c.in_err-send_whole.field-0.0 _ _ c.args.reply.now (rw (sym c.as_slice.ensures) c.in_err-send_whole.ensures))
 
 pub returns-in_err-send_whole-clause-told : goal.returns-in_err-send_whole-clause-told
 returns-in_err-send_whole-clause-told g c =
