@@ -44,31 +44,14 @@ pub record NumberFront (b : List ℕ) : Type 0 where
   pub whole : NumberWith b more
   pub some : 0 < whole.number
 
+with_one : (b more : List ℕ) (w x y : ℕ) → b ++ more ≡ w ∷ x ∷ y ∷ 1 ∷ [] → 0 < length more → w < 256 → x < 256 → y < 256 → NumberFront b
+with_one b more w x y is lacks p q r = record { more = more; lacks = lacks; whole = four_bytes b more w x y 1 is p q r (omega arith); some = omega arith }
+
 pub short_number : (b : List ℕ) → length b < 4 → AreBytes b → NumberFront b
-short_number [] short fits = record {
-  more = 1 ∷ 1 ∷ 1 ∷ 1 ∷ [];
-  lacks = omega arith;
-  whole = four_bytes [] (1 ∷ 1 ∷ 1 ∷ 1 ∷ []) 1 1 1 1 refl (omega arith) (omega arith) (omega arith) (omega arith);
-  some = omega arith;
-}
-short_number (w ∷ []) short fits = record {
-  more = 1 ∷ 1 ∷ 1 ∷ [];
-  lacks = omega arith;
-  whole = four_bytes (w ∷ []) (1 ∷ 1 ∷ 1 ∷ []) w 1 1 1 refl (fits 0) (omega arith) (omega arith) (omega arith);
-  some = omega arith;
-}
-short_number (w ∷ x ∷ []) short fits = record {
-  more = 1 ∷ 1 ∷ [];
-  lacks = omega arith;
-  whole = four_bytes (w ∷ x ∷ []) (1 ∷ 1 ∷ []) w x 1 1 refl (fits 0) (fits 1) (omega arith) (omega arith);
-  some = omega arith;
-}
-short_number (w ∷ x ∷ y ∷ []) short fits = record {
-  more = 1 ∷ [];
-  lacks = omega arith;
-  whole = four_bytes (w ∷ x ∷ y ∷ []) (1 ∷ []) w x y 1 refl (fits 0) (fits 1) (fits 2) (omega arith);
-  some = omega arith;
-}
+short_number [] short fits = with_one [] (1 ∷ 1 ∷ 1 ∷ 1 ∷ []) 1 1 1 refl (omega arith) (omega arith) (omega arith) (omega arith)
+short_number (w ∷ []) short fits = with_one (w ∷ []) (1 ∷ 1 ∷ 1 ∷ []) w 1 1 refl (omega arith) (fits 0) (omega arith) (omega arith)
+short_number (w ∷ x ∷ []) short fits = with_one (w ∷ x ∷ []) (1 ∷ 1 ∷ []) w x 1 refl (omega arith) (fits 0) (fits 1) (omega arith)
+short_number (w ∷ x ∷ y ∷ []) short fits = with_one (w ∷ x ∷ y ∷ []) (1 ∷ []) w x y refl (omega arith) (fits 0) (fits 1) (fits 2)
 short_number (w ∷ x ∷ y ∷ z ∷ b) short fits = absurd (omega (arith, short))
 
 -- some bytes with others behind them are those of an identifier
