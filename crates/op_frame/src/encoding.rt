@@ -6,7 +6,8 @@ ghost use Rattle.op_frame.specs.Encoded.{Puts};
 use crate::protocol::{DELETE, SECTION, TEXT};
 use fugue_ids::{ElementId, LONGEST_TITLE, NoMemory, Op, Title};
 
-/// The longest frame, in bytes: that of a Section with its kind, its identifier, both origins, and the longest title behind its length.
+/// The longest frame, in bytes: that of a Section with its kind, its identifier, both origins, and the longest title
+/// behind its length.
 pub const LONGEST_FRAME: usize = 1 + 8 + 9 + 9 + 2 + LONGEST_TITLE;
 
 /// Appends the operation's frame.

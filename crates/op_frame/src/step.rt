@@ -13,8 +13,8 @@ use fugue_ids::Op;
 use outer_ports::Source;
 use std::alloc::Global;
 
-/// Takes the first operation off the unread bytes and the source, and answers its frame's length too. `room` is what the limit leaves from the first
-/// unread byte on.
+/// Takes the first operation off the unread bytes and the source, and answers its frame's length too. `room` is what the
+/// limit leaves from the first unread byte on.
 pub(crate) fn take_next<S: Source>(
     alloc: Global,
     unread: &mut Unread,
