@@ -18,5 +18,6 @@ pub mod MergeLemmas
 pub mod GivenLemmas
 pub mod SavesLemmas
 pub mod SyncLemmas
+pub mod GivingLemmas
 pub mod LawfulLemmas
 pub mod RunsLemmas

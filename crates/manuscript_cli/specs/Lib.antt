@@ -18,6 +18,8 @@ pub mod Take
 pub mod Merge
 pub mod Sync
 pub mod Edit
+pub mod Giving
+pub mod Savers
 pub mod Relay
 pub mod Bulk
 pub mod Run

@@ -37,16 +37,7 @@ abbrev pub ReplyGives : WireView → Replica → Finding Outcome → Type 0
 ReplyGives wire replica (Refuses why) = ReplyRefuses replica wire why
 ReplyGives wire replica (Does outcome) = (ops : List Op) × (cursor : ℕ) × AnswerComes replica wire ops (Ended cursor) × (outcome ≡ noted_in replica ops (Some cursor))
 
--- the reply to what a replica says: no call on the wire fails where it has room for that
-abbrev pub reply_to : (cursor : ℕ) → Replica → Change WireView → Giver
-reply_to cursor replica wire = record {
-  Gives = ReplyGives wire.old;
-  Told = (bytes : List ℕ) × (wire.old.left ≡ Some bytes);
-  Failed = Rose wire.old.faults wire.new.faults;
-  Sure = Fits (length (text_for cursor replica.held)) wire.old;
-}
-
--- the reply to what the replica of a file says
+-- the reply to what the replica of a file says: no call on the wire fails where it has room for that
 abbrev pub reply : (cursor : ℕ) → DiskView → Change WireView → Giver
 reply cursor home wire = record {
   Gives = ReplyGives wire.old;

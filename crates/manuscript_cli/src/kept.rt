@@ -52,6 +52,13 @@ impl Kept {
         }
     }
 
+    /// These stand in place of what was copied.
+    pub(crate) fn put(&mut self, ops: Vec<Op>)
+        ensures { self.new ≡ Some ops.items }
+    {
+        self.ops = Some(ops);
+    }
+
     /// Feeds the operation to the replica, and copies it where that keeps it.
     pub(crate) fn feed(
         &mut self,

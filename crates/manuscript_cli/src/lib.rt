@@ -6,6 +6,7 @@ mod command;
 mod counts;
 mod edit;
 mod file_out;
+mod giving;
 mod home_file;
 mod kept;
 mod laws;

@@ -7,15 +7,16 @@ ghost use Rattle.manuscript_cli.specs.declared.command.Command.TheVariants.{Show
 ghost use Rattle.manuscript_cli.specs.declared.status.Status.TheVariants.{Usage};
 
 use crate::bulk::bulk;
-use crate::edit::edit;
+use crate::edit::Script;
 use crate::file_out::{print_file, send_file};
-use crate::merge::merge;
+use crate::giving::save_given;
+use crate::merge::OtherFile;
 use crate::new_file::new_file;
 use crate::refusal::{Refusal, tell};
 use crate::relay::relay;
 use crate::show::show;
-use crate::sync_file::sync_file;
-use crate::take::take;
+use crate::sync_file::Reply;
+use crate::take::Stream;
 use crate::{Command, Status, read_words};
 use origin_model::order_by_set;
 use outer_ports::{Disk, Dock, Sink, Source, Wire};
@@ -76,15 +77,17 @@ pub fn run<S: Source, O: Sink, N: Sink, H: Disk, G: Disk, W: Wire, D: Dock, B: B
         None => tell(notes, Refusal::Words),
         Some(Command::Show(hold)) => show(alloc, hold, input, output, notes),
         Some(Command::New(replica, hold)) => new_file(replica, hold, home, notes),
-        Some(Command::Edit) => edit(alloc, home, input, notes),
+        Some(Command::Edit) => save_given(alloc, &Script, input, home, notes),
         Some(Command::Print) => print_file(alloc, home, output, notes),
-        Some(Command::Take) => take(alloc, home, input, notes),
+        Some(Command::Take) => save_given(alloc, &Stream, input, home, notes),
         Some(Command::Send) => send_file(alloc, home, output, notes),
-        Some(Command::Merge) => merge(alloc, home, guest, notes),
+        Some(Command::Merge) => save_given(alloc, &OtherFile, guest, home, notes),
         Some(Command::Relay(port, sessions)) => {
             relay(alloc, port, sessions, output, notes, dock, hasher)
         }
-        Some(Command::Sync(port, cursor)) => sync_file(alloc, port, cursor, home, wire, notes),
+        Some(Command::Sync(port, cursor)) => {
+            save_given(alloc, &Reply { port, cursor }, wire, home, notes)
+        }
         Some(Command::Bulk(seed, count)) => bulk(alloc, seed, count, output, notes),
     }
 }

@@ -1,4 +1,4 @@
-use Rattle.manuscript_cli.proofs.edit.note.Goals as goal
+use Rattle.manuscript_cli.proofs.edit.note_made.Goals as goal
 
 pub returns : goal.returns
 returns g c = record {

@@ -1,0 +1,14 @@
+use Rattle.std.specs.Prelude.{None}
+use Rattle.std.proofs.lemmas.Result.{err_from_is_err_and}
+use Rattle.manuscript_cli.specs.Touched.{change}
+use Rattle.manuscript_cli.proofs.EditLemmas.{script_gives, script_gives_none}
+use Rattle.manuscript_cli.proofs.edit.ScriptGives.give.Goals as goal
+
+pub returns-in_err-made-clause-gives : goal.returns-in_err-made-clause-gives
+returns-in_err-made-clause-gives g c home last holds =
+    let p = err_from_is_err_and c.from_residual.result c.from_residual.ensures.1 in
+    rw (p.1, p.2) (script_gives_none (change (g.S.Source.seen c.args.from.now) (g.S.Source.seen c.run_script.new.source)) _ _ None _ c.in_err-made.ensures.err c.in_err-made.ensures.count)
+
+pub returns-clause-gives : goal.returns-clause-gives
+returns-clause-gives g c home last holds =
+    script_gives (change (g.S.Source.seen c.args.from.now) (g.S.Source.seen c.run_script.new.source)) _ _ _ c.in_ok-made.ensures.ok c.requires.ready.stands c.requires.ready.settled _

@@ -1,0 +1,55 @@
+-- The commands that save, each with what gives, and how it leaves that.
+use Rattle.std.specs.Prelude.{◌≡◌, ℕ}
+use Rattle.manuscript_cli.specs.Crashes.{IsFinished}
+use Rattle.manuscript_cli.specs.Edit.{script}
+use Rattle.manuscript_cli.specs.Files.{KeepsFile}
+use Rattle.manuscript_cli.specs.Saving.{Giver, ReadsInput, SavesGiven}
+use Rattle.manuscript_cli.specs.Sync.{SpeaksFor, reply}
+use Rattle.manuscript_cli.specs.Take.{other_file, stream}
+use Rattle.manuscript_cli.specs.Touched.{Touched, change}
+use Rattle.manuscript_cli.specs.declared.status.Status.{Status}
+
+pub record Saver : Type 1 where
+  pub giver : Giver
+  -- the object that gives is left so, where the command ends so
+  pub Leaves : Status → Type 0
+  -- all objects as they were, but for the one that gives
+  pub others : Touched
+
+-- `edit`: the input gives by a script
+abbrev pub edit_saver : Touched → Touched → Saver
+edit_saver old new = record {
+  giver = script (change old.streams.input new.streams.input);
+  Leaves = ReadsInput old.streams.input new.streams.input;
+  others = record old { streams = record old.streams { input = new.streams.input } };
+}
+
+-- `take`: the input gives by a stream of operations
+abbrev pub take_saver : Touched → Touched → Saver
+take_saver old new = record {
+  giver = stream (change old.streams.input new.streams.input);
+  Leaves = ReadsInput old.streams.input new.streams.input;
+  others = record old { streams = record old.streams { input = new.streams.input } };
+}
+
+-- `merge`: another file gives what its replica holds
+abbrev pub merge_saver : Touched → Touched → Saver
+merge_saver old new = record {
+  giver = other_file (change old.guest new.guest);
+  Leaves = λ end. KeepsFile (change old.guest new.guest);
+  others = record old { guest = new.guest };
+}
+
+-- `sync`: the wire gives by a relay's reply
+abbrev pub sync_saver : (port cursor : ℕ) → Touched → Touched → Saver
+sync_saver port cursor old new = record {
+  giver = reply cursor old.home (change old.wire new.wire);
+  Leaves = λ end. SpeaksFor port cursor old.home (change old.wire new.wire) (IsFinished end);
+  others = record old { wire = new.wire };
+}
+
+-- a command that saves uses its home file, the notes, and the object that gives
+pub record RunsSaving (saver : Saver) (old new : Touched) (end : Status) : Type 0 where
+  pub others : new ≡ record saver.others { streams = record saver.others.streams { notes = new.streams.notes }; home = new.home }
+  pub does : SavesGiven saver.giver (change old.home new.home) (change old.streams.notes new.streams.notes) end
+  pub leaves : saver.Leaves end
