@@ -1,7 +1,7 @@
 //! An offline editor for a manuscript that several authors change on their own machines.
 #![tactic(auto)]
 
-use manuscript_cli::{Refusal, Status, files_of, read_words, run, tell};
+use manuscript_cli::{Refusal, Status, read_words, run, tell};
 use outer_ports::{FileDisk, Opening, StdSink, StdSource, TcpDock, TcpWire};
 use std::fs::{File, OpenFile, OpenOptions};
 use std::hash::RandomState;
@@ -22,7 +22,8 @@ fn words(rt: &(impl Env + AllocGlobal), names: usize) -> io::Result<Vec<String>>
 
 /// Takes the least numbers that are free for files: those of the standard streams that are closed, where some are.
 ///
-/// A file or a socket that is opened while these stand gets another number, so that no standard stream reads or writes it.
+/// A file or a socket that is opened while these stand gets another number, so that no standard stream reads or writes
+/// it.
 fn take_least_numbers(rt: &HostRuntime) -> [io::Result<File>; 3] {
     [open_root(rt), open_root(rt), open_root(rt)]
 }
@@ -31,19 +32,25 @@ fn open_root(rt: &HostRuntime) -> io::Result<File> {
     OpenOptions::new().read(true).open(rt, "/")
 }
 
-/// Opens the file that the words' command is about, for what the command does with it.
-fn open_home(rt: &HostRuntime, words: &[String]) -> FileDisk {
-    match (read_words(words), files_of(words)) {
-        (Some(command), (Some(path), _)) => FileDisk::open(rt, path, command.opening()),
-        _ => FileDisk::closed(),
+/// Opens the file, where there is one.
+fn open_file(rt: &HostRuntime, path: Option<&str>, opening: Opening) -> FileDisk {
+    match path {
+        Some(path) => FileDisk::open(rt, path, opening),
+        None => FileDisk::closed(),
     }
 }
 
-/// Opens the other file that the words' command reads.
-fn open_guest(rt: &HostRuntime, words: &[String]) -> FileDisk {
-    match files_of(words) {
-        (_, Some(path)) => FileDisk::open(rt, path, Opening::Reading),
-        _ => FileDisk::closed(),
+/// Opens the file that the words' command is about, for what the command does with it, and the other one that it reads.
+fn open_files(rt: &HostRuntime, words: &[String]) -> (FileDisk, FileDisk) {
+    match read_words(words) {
+        Some(command) => {
+            let (home, guest) = command.files(words);
+            (
+                open_file(rt, home, command.opening()),
+                open_file(rt, guest, Opening::Reading),
+            )
+        }
+        None => (FileDisk::closed(), FileDisk::closed()),
     }
 }
 
@@ -64,8 +71,7 @@ fn run_on_process(rt: &HostRuntime, names: usize) -> Status {
         return tell(&mut notes, Refusal::Outside);
     };
     let taken = take_least_numbers(rt);
-    let mut home = open_home(rt, &words);
-    let mut guest = open_guest(rt, &words);
+    let (mut home, mut guest) = open_files(rt, &words);
     let mut wire = TcpWire::new(*rt);
     let mut dock = TcpDock::new(*rt);
     let status = run(
