@@ -7,7 +7,8 @@ pub mod RelayLemmas
 pub mod BulkLemmas
 pub mod NewLemmas
 pub mod FoundLemmas
-pub mod FileOutLemmas
+pub mod TextOutLemmas
+pub mod ReportLemmas
 pub mod CrashLemmas
 pub mod HomeFileLemmas
 pub mod EditLemmas

@@ -11,7 +11,8 @@ pub mod Headline
 pub mod Findings
 pub mod Files
 pub mod Crashes
-pub mod FileOut
+pub mod TextOut
+pub mod Report
 pub mod New
 pub mod Saving
 pub mod Take

@@ -1,7 +1,9 @@
--- The commands that write what a file holds to the output, as a text of the replica's state.
+-- The commands that report: each writes a text of what a file's replica holds to the output.
 use Rattle.std.specs.Prelude.{◌≡◌, ◌≢◌, ◌⊎◌, ℕ, List, [], length}
 use Rattle.fugue_ids.specs.Causes.{Rose}
-use Rattle.fugue_ids.specs.Outs.{OutView, Took, TookFront}
+use Rattle.fugue_ids.specs.Outs.{OutView}
+use Rattle.origin_model.specs.frames.Frames.{frames}
+use Rattle.origin_model.specs.order.Printed.{manuscript}
 use Rattle.origin_model.specs.taking.Taking.{Held}
 use Rattle.outer_ports.specs.disk.Disks.{DiskView}
 use Rattle.outer_ports.specs.disk.Moments.{after}
@@ -11,8 +13,11 @@ use Rattle.replica_file.specs.declared.end.End.{End}
 use Rattle.manuscript_cli.specs.Crashes.{NeverTorn}
 use Rattle.manuscript_cli.specs.Files.{FileHolds, FileRefuses, KeepsFile}
 use Rattle.manuscript_cli.specs.Findings.{Finding, Refuses, Does, IsDecided}
-use Rattle.manuscript_cli.specs.Refusal.{line_of, status_of, Told}
-use Rattle.manuscript_cli.specs.Touched.{Change, DiskStaysCalm, HasDiskRoom, HasRoom, IsTold, StaysCalm, notes_room}
+use Rattle.manuscript_cli.specs.Printing.{NotesBlameless}
+use Rattle.manuscript_cli.specs.Refusal.{status_of}
+use Rattle.manuscript_cli.specs.Take.{ops_of}
+use Rattle.manuscript_cli.specs.TextOut.{TextFailed, WroteNothing, WroteText}
+use Rattle.manuscript_cli.specs.Touched.{Change, DiskBlameless, DiskStaysCalm, HasDiskRoom, HasRoom, IsTold, OutBlameless, StaysCalm, notes_room}
 use Rattle.manuscript_cli.specs.declared.refusal.Refusal.{Refusal}
 use Rattle.manuscript_cli.specs.declared.refusal.Refusal.TheVariants as refusal
 use Rattle.manuscript_cli.specs.declared.status.Status.{Status}
@@ -31,35 +36,6 @@ bytes_found (Does bytes) = bytes
 abbrev pub status_found : Finding (List ℕ) → Status
 status_found (Refuses why) = status_of why
 status_found (Does bytes) = status.Done
-
--- the text went out, and nothing was noted
-pub record WroteText (bytes : List ℕ) (output notes : Change OutView) : Type 0 where
-  pub wrote : Took output.old output.new bytes
-  pub noted : notes.new ≡ notes.old
-
--- the output failed: a front of the text went out
-pub record WroteFront (bytes : List ℕ) (output notes : Change OutView) : Type 0 where
-  pub wrote : TookFront output.old output.new bytes
-  pub rose : Rose output.old.faults output.new.faults
-  pub no_room : HasRoom (length bytes) output.old → ⊥
-  pub noted : Told notes.old notes.new (line_of refusal.Outside)
-
--- nothing went out, and the notes got the refusal's line
-pub record WroteNothing (output notes : Change OutView) (why : Refusal) : Type 0 where
-  pub wrote : output.new ≡ output.old
-  pub noted : Told notes.old notes.new (line_of why)
-
--- what came of writing a text
-abbrev pub TextMeets : (bytes : List ℕ) → (output notes : Change OutView) → Status → Type 0
-TextMeets bytes output notes status.Done = WroteText bytes output notes
-TextMeets bytes output notes status.OutsideFault = WroteFront bytes output notes
-TextMeets bytes output notes status.NoMemory = WroteNothing output notes refusal.NoMemory
-TextMeets bytes output notes _ = ⊥
-
-pub record WritesOut (bytes : List ℕ) (output notes : Change OutView) (end : Status) : Type 0 where
-  pub meets : TextMeets bytes output notes end
-  pub output_calm : StaysCalm (length bytes) output.old output.new
-  pub notes_calm : StaysCalm notes_room notes.old notes.new
 
 -- the file was loaded, which settles it, the text of what it holds was written, and this came of it
 pub record WroteHeld (text : Held → List ℕ) (file : Change DiskView) (Wrote : List ℕ → Type 0) : Type 0 where
@@ -82,25 +58,25 @@ pub record FileFailed (file : Change DiskView) (output notes : Change OutView) :
   pub nothing : WroteNothing output notes refusal.Outside
 
 -- what was done, for each way in which the command may end
-abbrev pub FileOutMeets : (text : Held → List ℕ) → Change DiskView → (output notes : Change OutView) → Status → Type 0
-FileOutMeets text file output notes status.Done = WroteHeld text file (λ bytes. WroteText bytes output notes)
-FileOutMeets text file output notes status.BadFile = FileRefused text file.old output notes status.BadFile
-FileOutMeets text file output notes status.Limit = FileRefused text file.old output notes status.Limit
-FileOutMeets text file output notes status.OutsideFault = FileFailed file output notes ⊎ WroteHeld text file (λ bytes. WroteFront bytes output notes)
-FileOutMeets text file output notes status.NoMemory = WroteNothing output notes refusal.NoMemory
-FileOutMeets text file output notes status.Usage = ⊥
-FileOutMeets text file output notes status.BadInput = ⊥
-FileOutMeets text file output notes status.Partial = ⊥
+abbrev pub ReportMeets : (text : Held → List ℕ) → Change DiskView → (output notes : Change OutView) → Status → Type 0
+ReportMeets text file output notes status.Done = WroteHeld text file (λ bytes. WroteText bytes output notes)
+ReportMeets text file output notes status.BadFile = FileRefused text file.old output notes status.BadFile
+ReportMeets text file output notes status.Limit = FileRefused text file.old output notes status.Limit
+ReportMeets text file output notes status.OutsideFault = FileFailed file output notes ⊎ WroteHeld text file (λ bytes. TextFailed bytes output notes)
+ReportMeets text file output notes status.NoMemory = WroteNothing output notes refusal.NoMemory
+ReportMeets text file output notes status.Usage = ⊥
+ReportMeets text file output notes status.BadInput = ⊥
+ReportMeets text file output notes status.Partial = ⊥
 
 -- sure objects with room count no fault, however the command ends
-pub record FileOutStaysCalm (text : Held → List ℕ) (file : Change DiskView) (output notes : Change OutView) : Type 0 where
+pub record ReportStaysCalm (text : Held → List ℕ) (file : Change DiskView) (output notes : Change OutView) : Type 0 where
   pub file_calm : DiskStaysCalm 1 file
   pub output_calm : IsTold file.old → (found : Finding (List ℕ)) → TextFound text file.old found → StaysCalm (length (bytes_found found)) output.old output.new
   pub notes_calm : StaysCalm notes_room notes.old notes.new
 
 -- and where all are sure and have room, no outside fault comes
-abbrev pub FileOutNeverOutside : (text : Held → List ℕ) → Change DiskView → (output notes : Change OutView) → Status → Type 0
-FileOutNeverOutside text file output notes end =
+abbrev pub ReportNeverOutside : (text : Held → List ℕ) → Change DiskView → (output notes : Change OutView) → Status → Type 0
+ReportNeverOutside text file output notes end =
     IsTold file.old → (found : Finding (List ℕ)) → TextFound text file.old found → HasDiskRoom 1 file.old → HasRoom (length (bytes_found found)) output.old
     → end ≢ status.OutsideFault
 
@@ -115,11 +91,22 @@ FileDecides text file output end =
     IsTold file.old → (found : Finding (List ℕ)) → TextFound text file.old found
     → IsDecided (status_found found) (SomeFails file output found) end
 
--- a command that writes a text of what a file holds
-pub record WritesFileOut (text : Held → List ℕ) (file : Change DiskView) (output notes : Change OutView) (end : Status) : Type 0 where
-  pub meets : FileOutMeets text file output notes end
+-- a command that reports
+pub record Reports (text : Held → List ℕ) (file : Change DiskView) (output notes : Change OutView) (end : Status) : Type 0 where
+  pub meets : ReportMeets text file output notes end
   pub keeps : KeepsFile file
   pub crash : NeverTorn (λ gave. gave ≡ []) file end
-  pub calm : FileOutStaysCalm text file output notes
-  pub never_outside : FileOutNeverOutside text file output notes end
+  pub calm : ReportStaysCalm text file output notes
+  pub never_outside : ReportNeverOutside text file output notes end
   pub decides : FileDecides text file output end
+  pub file_blameless : DiskBlameless file end
+  pub output_blameless : OutBlameless output end
+  pub notes_blameless : NotesBlameless notes end
+
+-- what `print` reports: the manuscript
+abbrev pub printed_of : Held → List ℕ
+printed_of held = manuscript held.history
+
+-- what `send` reports: the frames of all that is held
+abbrev pub frames_held : Held → List ℕ
+frames_held held = frames (ops_of held)
