@@ -1,5 +1,5 @@
 -- What `bulk` does, by what came of its text.
-use Rattle.std.proofs.Common.{◌≡◌, ℕ, List, refl, subst, inl, inr}
+use Rattle.std.proofs.Common.{ℕ, List, refl, subst, inl, inr}
 use Rattle.fugue_ids.specs.Causes.{Rose}
 use Rattle.fugue_ids.specs.Outs.{OutView}
 use Rattle.bulk_world.specs.Summary.{bulk_text}

@@ -16,7 +16,7 @@ use Rattle.manuscript_cli.specs.Files.{FileRefuses, IsLoaded, KeepsFile, LoadMee
 use Rattle.manuscript_cli.specs.Findings.{Finding, Refuses, Does}
 use Rattle.manuscript_cli.specs.Refusal.{Told, line_of, status_of}
 use Rattle.manuscript_cli.specs.TextOut.{TextMeets, WritesOut}
-use Rattle.manuscript_cli.specs.Touched.{Change, HasRoom, IsTold, StaysCalm, change, notes_room}
+use Rattle.manuscript_cli.specs.Touched.{Change, HasRoom, IsTold, StaysCalm, change}
 use Rattle.manuscript_cli.specs.declared.refusal.Refusal.{Refusal}
 use Rattle.manuscript_cli.specs.declared.refusal.Refusal.TheVariants as refusal
 use Rattle.manuscript_cli.specs.declared.status.Status.{Status}

@@ -6,7 +6,7 @@ use Rattle.fugue_ids.specs.Outs.{OutView, Took}
 use Rattle.origin_model.specs.operations.Verdict.{Lawful}
 use Rattle.origin_model.specs.order.Laws.{OrderBySet}
 use Rattle.origin_model.specs.order.Printed.{manuscript}
-use Rattle.origin_model.specs.taking.Taking.{Held, nothing}
+use Rattle.origin_model.specs.taking.Taking.{nothing}
 use Rattle.outer_ports.specs.disk.Disks.{DiskView}
 use Rattle.outer_ports.specs.disk.Moments.{History}
 use Rattle.replica_core.specs.State.{State as Replica}

@@ -1,5 +1,5 @@
 -- Commands on one safe file, one after another: what each of them leaves, and so what all of them do.
-use Rattle.std.proofs.Common.{◌≡◌, inl, inr, ℕ, ◌+◌, ◌-◌, ◌<◌, List, [], ◌∷◌, ◌++◌, length, get_or, refl, ap, sym, subst, ◌∙◌, arith, append_assoc, length-append}
+use Rattle.std.proofs.Common.{◌≡◌, inl, inr, ℕ, ◌+◌, ◌-◌, List, [], ◌∷◌, ◌++◌, length, get_or, refl, ap, sym, subst, ◌∙◌, arith, append_assoc, length-append}
 use Rattle.std.specs.Prelude.{◌⊎◌, All, Option, Some, None, IfSome}
 use Rattle.std.proofs.lemmas.Bool.{cases_lt}
 use Rattle.std.proofs.lemmas.List.{append-nil, get_or_append_left, get_or-append_right}
@@ -8,7 +8,7 @@ use Rattle.fugue_ids.specs.declared.op.Op.{Op}
 use Rattle.origin_model.specs.files.Image.{Content}
 use Rattle.outer_ports.specs.disk.Disks.{DiskView}
 use Rattle.outer_ports.specs.disk.Moments.{History, LeavesOnly, LeftSince, moment, moments}
-use Rattle.outer_ports.specs.disk.States.{State, IsHonest, IsImage, at_rest}
+use Rattle.outer_ports.specs.disk.States.{State, IsHonest, IsImage}
 use Rattle.outer_ports.proofs.SharedLemmas.{last_leaves, leaves_joins, leaves_none, leaves_weaker}
 use Rattle.replica_file.proofs.AppendLemmas.{same_content}
 use Rattle.manuscript_cli.proofs.CrashLemmas.{has_one, safe_at_rest}
@@ -16,7 +16,7 @@ use Rattle.manuscript_cli.specs.Crashes.{IsFinished, IsSafe, NeverTorn, StaysSaf
 use Rattle.manuscript_cli.specs.Files.{HasOps, HasOpsOr, Header}
 use Rattle.manuscript_cli.specs.Run.{Family, Inventing, Making, MeetsAs, NoCommand, Reporting, Saving, Serving, Showing, family}
 use Rattle.manuscript_cli.specs.Runs.{AllBrought, Brought, CommandRun, DidAll, EachFinishedIsIn, FollowEachOther, GaveAs, GaveBy, IsMeanwhile, LeadsFrom, StandsBehind}
-use Rattle.manuscript_cli.specs.Touched.{Change, Touched}
+use Rattle.manuscript_cli.specs.Touched.{Touched}
 use Rattle.manuscript_cli.specs.declared.status.Status.{Status}
 use Rattle.manuscript_cli.specs.declared.status.Status.TheVariants as status
 

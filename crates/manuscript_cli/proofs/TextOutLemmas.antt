@@ -1,5 +1,5 @@
 -- A text that goes to the output, by what the call that writes it does.
-use Rattle.std.proofs.Common.{◌≡◌, refl, inl, ℕ, ◌≤◌, List, length, arith}
+use Rattle.std.proofs.Common.{refl, inl, ℕ, List, length, arith}
 use Rattle.std.specs.Prelude.{Ok, Err}
 use Rattle.fugue_ids.specs.Outs.{OutView, WritesText}
 use Rattle.fugue_ids.specs.declared.failed.Failed.{Failed}

@@ -1,4 +1,3 @@
-use Rattle.std.proofs.Common.{◌≡◌}
 use Rattle.manuscript_cli.specs.declared.command.Command.TheVariants.{Print, Show}
 use Rattle.manuscript_cli.proofs.HeadlineLemmas.{decided, headline}
 use Rattle.manuscript_cli.proofs.RunLemmas.{meets_named, named_in_range, prints_by_set}
