@@ -1,4 +1,4 @@
-ghost use Rattle.std.specs.Prelude.{◌≡◌, ◌≤◌, List, ℕ, length};
+ghost use Rattle.std.specs.Prelude.{◌≤◌, List, ℕ, length};
 ghost use Rattle.fugue_ids.specs.Outs.{OutView, WritesText};
 ghost use Rattle.origin_model.specs.order.Printed.{manuscript};
 ghost use Rattle.manuscript_cli.specs.Counts.{counts_text, status_by};

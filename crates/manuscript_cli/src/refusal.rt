@@ -1,4 +1,4 @@
-ghost use Rattle.std.specs.Prelude.{◌≡◌, ◌≤◌, length, ◌∷◌, [], ◌++◌};
+ghost use Rattle.std.specs.Prelude.{◌≡◌, ◌≤◌, length};
 ghost use Rattle.fugue_ids.specs.Outs.{WritesText};
 ghost use Rattle.manuscript_cli.specs.Refusal.{append_refusal, create_refusal, feed_refusal, frame_refusal};
 ghost use Rattle.manuscript_cli.specs.Refusal.{load_refusal, script_refusal, serve_refusal, sync_refusal};
