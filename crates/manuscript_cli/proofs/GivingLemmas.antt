@@ -74,7 +74,7 @@ unfinished answer why end is may done = let ok = subst (λ (a : Result Note Refu
 
 -- an input from which nothing was taken
 pub input_idle : (input : SourceView) (end : Status) → (IsFinished end → ⊥) → ReadsInput input input end
-input_idle input end none = record { read = λ done. absurd (none done); calm = λ sure. refl }
+input_idle input end none = record { read = λ done. absurd (none done); calm = λ sure. refl; blameless = λ tells inside. refl }
 
 -- a note is of what was done
 note_finished : (n : Note) → IsFinished (note_status n)

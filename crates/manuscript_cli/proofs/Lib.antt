@@ -22,3 +22,4 @@ pub mod SyncLemmas
 pub mod GivingLemmas
 pub mod LawfulLemmas
 pub mod RunsLemmas
+pub mod BlameLemmas

@@ -1,10 +1,9 @@
 -- The commands that save, each with what gives, and how it leaves that.
 use Rattle.std.specs.Prelude.{◌≡◌, ℕ}
-use Rattle.manuscript_cli.specs.Crashes.{IsFinished}
 use Rattle.manuscript_cli.specs.Edit.{script}
-use Rattle.manuscript_cli.specs.Files.{KeepsFile}
-use Rattle.manuscript_cli.specs.Saving.{Giver, ReadsInput, SavesGiven}
-use Rattle.manuscript_cli.specs.Sync.{SpeaksFor, reply}
+use Rattle.manuscript_cli.specs.Files.{LeavesFile}
+use Rattle.manuscript_cli.specs.Saving.{Giver, ReadsInput, SavesGiven, SavingBlameless}
+use Rattle.manuscript_cli.specs.Sync.{LeavesWire, reply}
 use Rattle.manuscript_cli.specs.Take.{other_file, stream}
 use Rattle.manuscript_cli.specs.Touched.{Touched, change}
 use Rattle.manuscript_cli.specs.declared.status.Status.{Status}
@@ -36,7 +35,7 @@ take_saver old new = record {
 abbrev pub merge_saver : Touched → Touched → Saver
 merge_saver old new = record {
   giver = other_file (change old.guest new.guest);
-  Leaves = λ end. KeepsFile (change old.guest new.guest);
+  Leaves = LeavesFile (change old.guest new.guest);
   others = record old { guest = new.guest };
 }
 
@@ -44,7 +43,7 @@ merge_saver old new = record {
 abbrev pub sync_saver : (port cursor : ℕ) → Touched → Touched → Saver
 sync_saver port cursor old new = record {
   giver = reply cursor old.home (change old.wire new.wire);
-  Leaves = λ end. SpeaksFor port cursor old.home (change old.wire new.wire) (IsFinished end);
+  Leaves = LeavesWire port cursor old.home (change old.wire new.wire);
   others = record old { wire = new.wire };
 }
 
@@ -52,4 +51,5 @@ sync_saver port cursor old new = record {
 pub record RunsSaving (saver : Saver) (old new : Touched) (end : Status) : Type 0 where
   pub others : new ≡ record saver.others { streams = record saver.others.streams { notes = new.streams.notes }; home = new.home }
   pub does : SavesGiven saver.giver (change old.home new.home) (change old.streams.notes new.streams.notes) end
+  pub blameless : SavingBlameless (change old.home new.home) (change old.streams.notes new.streams.notes) end
   pub leaves : saver.Leaves end

@@ -16,8 +16,9 @@ use Rattle.replica_file.specs.declared.end.End.{End}
 use Rattle.manuscript_cli.specs.Crashes.{IsFinished, NeverTorn}
 use Rattle.manuscript_cli.specs.Files.{AppendFailed, FileHolds, FileRefuses, GainsAllOrNone, IsAppended, IsSaved, KeepsFile, LoadFailed}
 use Rattle.manuscript_cli.specs.Findings.{Finding, Refuses, Does, IsDecided}
+use Rattle.manuscript_cli.specs.Printing.{NotesBlameless}
 use Rattle.manuscript_cli.specs.Refusal.{line_of, status_of, Told, TookFronts}
-use Rattle.manuscript_cli.specs.Touched.{Change, DiskStaysCalm, HasDiskRoom, HasRoom, IsTold, StaysCalm, notes_room}
+use Rattle.manuscript_cli.specs.Touched.{Change, DiskBlameless, DiskStaysCalm, HasDiskRoom, HasRoom, IsTold, SourceBlameless, StaysCalm, change, notes_room}
 use Rattle.manuscript_cli.specs.declared.refusal.Refusal.{Refusal}
 use Rattle.manuscript_cli.specs.declared.refusal.Refusal.TheVariants as refusal
 use Rattle.manuscript_cli.specs.declared.status.Status.{Status}
@@ -209,7 +210,13 @@ pub record SavesGiven (giver : Giver) (file : Change DiskView) (notes : Change O
   pub decided : SavingIsDecided giver file notes end
   pub refused : FileIsRefused file end
 
+-- the file and the notes count no fault that is not told, where they tell
+pub record SavingBlameless (file : Change DiskView) (notes : Change OutView) (end : Status) : Type 0 where
+  pub file_blameless : DiskBlameless file end
+  pub notes_blameless : NotesBlameless notes end
+
 -- the input is left so by a command that takes from it: where all was done, it was read to its end
 pub record ReadsInput (old new : SourceView) (end : Status) : Type 0 where
   pub read : IsFinished end → IfSome new.left (λ bytes. bytes ≡ [])
   pub calm : old.sure ≡ true → new.faults ≡ old.faults
+  pub blameless : SourceBlameless (change old new) end

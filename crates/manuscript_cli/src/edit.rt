@@ -3,7 +3,7 @@ ghost use Rattle.std.specs.Prelude.{◌≤◌, length};
 ghost use Rattle.fugue_ids.specs.Outs.{WritesText};
 ghost use Rattle.manuscript_cli.specs.Counts.{made_line};
 ghost use Rattle.manuscript_cli.specs.Edit.{script};
-ghost use Rattle.manuscript_cli.specs.Printing.{NoteMeets};
+ghost use Rattle.manuscript_cli.specs.Printing.{NoteMeets, NotesBlameless};
 ghost use Rattle.manuscript_cli.specs.Saving.{ReadsInput};
 ghost use Rattle.manuscript_cli.specs.Touched.{change, StaysCalm, notes_room};
 ghost use Rattle.manuscript_cli.specs.declared.status.Status.TheVariants.{Done};
@@ -47,6 +47,7 @@ impl<S: Source> Gives<S> for Script {
 pub(crate) fn note_made<N: Sink>(made: u32, notes: &mut N) -> Status
     ensures meets { NoteMeets (made_line made) Done (N.seen notes.old) (N.seen notes.new) result }
     ensures calm { StaysCalm notes_room (N.seen notes.old) (N.seen notes.new) }
+    ensures blameless { NotesBlameless (change (N.seen notes.old) (N.seen notes.new)) result }
 {
     let written = write_made(notes, made);
     noted(written, Status::Done, notes)

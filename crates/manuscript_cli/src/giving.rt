@@ -1,15 +1,16 @@
 //! The commands that save: something is given to the replica of the home file, and what came of it is saved and noted.
-ghost use Rattle.std.specs.Prelude.{◌≡◌, [], drop, Some, IfSome};
-ghost use Rattle.outer_ports.specs.disk.Disks.{DiskView};
+ghost use Rattle.std.specs.Prelude.{◌≡◌, ◌≢◌, [], drop, Some, IfSome};
+ghost use Rattle.outer_ports.specs.disk.Disks.{DiskTells, DiskView};
 ghost use Rattle.replica_file.specs.declared.end.End.{End as FileEnd};
 ghost use Rattle.replica_file.specs.Ends.{EndsAt, Reaches};
 ghost use Rattle.replica_file.specs.Loading.{IsReady};
 ghost use Rattle.manuscript_cli.specs.Crashes.{IsFinished};
 ghost use Rattle.manuscript_cli.specs.Files.{FileHolds};
 ghost use Rattle.manuscript_cli.specs.Giving.{GivenNoted, GivesTo, MayEnd, SavesNoted, note_line, note_status, to_save as ops_to_save};
-ghost use Rattle.manuscript_cli.specs.Printing.{NoteMeets};
-ghost use Rattle.manuscript_cli.specs.Saving.{Giver, GivesOnce, SavesGiven};
+ghost use Rattle.manuscript_cli.specs.Printing.{NoteMeets, NotesBlameless};
+ghost use Rattle.manuscript_cli.specs.Saving.{Giver, GivesOnce, SavesGiven, SavingBlameless};
 ghost use Rattle.manuscript_cli.specs.Touched.{StaysCalm, change, notes_room};
+ghost use Rattle.manuscript_cli.specs.declared.refusal.Refusal.TheVariants.{Outside};
 ghost use Rattle.manuscript_cli.specs.declared.status.Status.{Status as AnyStatus};
 
 use crate::Status;
@@ -64,6 +65,7 @@ pub(crate) fn save_given<F, T: Gives<F>, H: Disk, N: Sink>(
 ) -> Status
     ensures saves { SavesGiven (T.giver giver.now (H.seen home.old) from.old from.new) (change (H.seen home.old) (H.seen home.new))
         (change (N.seen notes.old) (N.seen notes.new)) result }
+    ensures blameless { SavingBlameless (change (H.seen home.old) (H.seen home.new)) (change (N.seen notes.old) (N.seen notes.new)) result }
     ensures leaves { T.Leaves giver.now (H.seen home.old) from.old from.new result }
 {
     giver.laws();
@@ -81,6 +83,7 @@ fn load_and_save<F, T: Gives<F>, H: Disk>(
     home: &mut H,
 ) -> Result<Note, Refusal>
     ensures saves { SavesNoted (T.giver giver.now (H.seen home.old) from.old from.new) (change (H.seen home.old) (H.seen home.new)) result }
+    ensures told { DiskTells (H.seen home.old) → result ≢ Err Outside → (H.seen home.new).faults ≡ (H.seen home.old).faults }
     ensures leaves { (end : AnyStatus) → MayEnd result end → T.Leaves giver.now (H.seen home.old) from.old from.new end }
 {
     giver.laws();
@@ -107,6 +110,7 @@ fn give_and_save<F, T: Gives<F>, H: Disk>(
     requires none_kept { kept.old ≡ Some [] }
     ensures given { (file : DiskView) → FileHolds file replica.old end
         → GivenNoted (T.giver giver.now file from.old from.new) replica.old end (change (H.seen home.old) (H.seen home.new)) result }
+    ensures told { DiskTells (H.seen home.old) → result ≢ Err Outside → (H.seen home.new).faults ≡ (H.seen home.old).faults }
     ensures leaves { (file : DiskView) → FileHolds file replica.old end
         → (status : AnyStatus) → MayEnd result status → T.Leaves giver.now file from.old from.new status }
 {
@@ -140,6 +144,7 @@ fn behind(ops: &[Op], before: usize) -> &[Op]
 fn note_down<N: Sink>(note: &Note, notes: &mut N) -> Status
     ensures meets { NoteMeets (note_line note.now) (note_status note.now) (N.seen notes.old) (N.seen notes.new) result }
     ensures calm { StaysCalm notes_room (N.seen notes.old) (N.seen notes.new) }
+    ensures blameless { NotesBlameless (change (N.seen notes.old) (N.seen notes.new)) result }
 {
     match note {
         Note::Counted(counts) => note_counts(counts, notes),

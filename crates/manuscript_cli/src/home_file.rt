@@ -34,6 +34,7 @@ pub(crate) fn save<H: Disk>(
     requires reaches { Reaches end }
     requires ends { IfSome (H.seen file.old).past (λ h. EndsAt h.last end) }
     ensures meets { SaveMeets end ops.now (change (H.seen file.old) (H.seen file.new)) result }
+    ensures told { DiskTells (H.seen file.old) → result ≢ Err Outside → (H.seen file.new).faults ≡ (H.seen file.old).faults }
 {
     match append(alloc, file, end, ops) {
         Ok(_) => Ok(()),

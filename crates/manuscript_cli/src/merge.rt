@@ -5,7 +5,7 @@ ghost use Rattle.replica_core.specs.Keeping.{TakesIn, begun};
 ghost use Rattle.replica_core.specs.State.{Stands};
 ghost use Rattle.replica_core.specs.Told.{total};
 ghost use Rattle.replica_file.specs.Loading.{IsReady};
-ghost use Rattle.manuscript_cli.specs.Files.{KeepsFile};
+ghost use Rattle.manuscript_cli.specs.Files.{LeavesFile};
 ghost use Rattle.manuscript_cli.specs.Giving.{GivesTo};
 ghost use Rattle.manuscript_cli.specs.Merge.{FindNoPlace, MergesNot};
 ghost use Rattle.manuscript_cli.specs.Take.{all_of, ops_of, other_file};
@@ -28,7 +28,7 @@ pub(crate) struct OtherFile;
 impl<G: Disk> Gives<G> for OtherFile {
     ghost giver = { λ what home before after. other_file (change (G.seen before) (G.seen after)) };
 
-    ghost Leaves = { λ what home before after end. KeepsFile (change (G.seen before) (G.seen after)) };
+    ghost Leaves = { λ what home before after end. LeavesFile (change (G.seen before) (G.seen after)) end };
 
     fn give(
         &self,

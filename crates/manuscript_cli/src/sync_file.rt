@@ -1,6 +1,5 @@
 //! The command `sync`: a relay is told all that a file holds, and what it answers is taken in.
-ghost use Rattle.manuscript_cli.specs.Crashes.{IsFinished};
-ghost use Rattle.manuscript_cli.specs.Sync.{SpeaksFor, reply};
+ghost use Rattle.manuscript_cli.specs.Sync.{LeavesWire, reply};
 ghost use Rattle.manuscript_cli.specs.Touched.{change};
 
 use crate::counts::{Counts, Note};
@@ -23,7 +22,7 @@ pub(crate) struct Reply {
 impl<W: Wire> Gives<W> for Reply {
     ghost giver = { λ what home before after. reply what.cursor home (change (W.seen before) (W.seen after)) };
 
-    ghost Leaves = { λ what home before after end. SpeaksFor what.port what.cursor home (change (W.seen before) (W.seen after)) (IsFinished end) };
+    ghost Leaves = { λ what home before after end. LeavesWire what.port what.cursor home (change (W.seen before) (W.seen after)) end };
 
     fn give(
         &self,

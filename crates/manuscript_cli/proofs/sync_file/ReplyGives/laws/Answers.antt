@@ -7,4 +7,4 @@ pub returns-clause-once : goal.returns-clause-once
 returns-clause-once g c home before after = reply_once c.args.self.now.cursor home (change (g.W.Wire.seen before) (g.W.Wire.seen after))
 
 pub returns-clause-idle : goal.returns-clause-idle
-returns-clause-idle g c home from end none = inl (refl, none)
+returns-clause-idle g c home from end none = record { speaks = inl (refl, none); blameless = λ tells inside. refl }
