@@ -23,3 +23,4 @@ pub mod GivingLemmas
 pub mod LawfulLemmas
 pub mod RunsLemmas
 pub mod BlameLemmas
+pub mod RunBlameLemmas

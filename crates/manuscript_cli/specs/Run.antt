@@ -3,12 +3,13 @@ use Rattle.std.specs.Prelude.{◌≡◌, ℕ, List, Option, Some, None}
 use Rattle.origin_model.specs.taking.Taking.{Held}
 use Rattle.manuscript_cli.specs.Bulk.{Bulks}
 use Rattle.manuscript_cli.specs.New.{Creates}
+use Rattle.manuscript_cli.specs.Printing.{NotesBlameless}
 use Rattle.manuscript_cli.specs.Refusal.{line_of, Told}
 use Rattle.manuscript_cli.specs.Relay.{Relays}
 use Rattle.manuscript_cli.specs.Report.{Reports, frames_held, printed_of}
 use Rattle.manuscript_cli.specs.Savers.{RunsSaving, Saver, edit_saver, merge_saver, sync_saver, take_saver}
 use Rattle.manuscript_cli.specs.Show.{Shows}
-use Rattle.manuscript_cli.specs.Touched.{Touched, change}
+use Rattle.manuscript_cli.specs.Touched.{DiskBlameless, DockBlameless, OutBlameless, SourceBlameless, Touched, WireBlameless, change}
 use Rattle.manuscript_cli.specs.declared.command.Command.{Command}
 use Rattle.manuscript_cli.specs.declared.command.Command.TheVariants.{Show, New, Edit, Print, Take, Send, Merge, Relay, Sync, Bulk}
 use Rattle.manuscript_cli.specs.declared.refusal.Refusal.TheVariants.{Words}
@@ -81,3 +82,13 @@ MeetsAs (Inventing seed count) old new end = RunsBulk seed count old new end
 
 abbrev pub Meets : Option Command → Touched → Touched → Status → Type 0
 Meets command = MeetsAs (family command)
+
+-- No object that tells counts a fault that is not told: its count rises with an outside fault alone, or for a refusal that the notes did not take.
+pub record IsBlameless (old new : Touched) (end : Status) : Type 0 where
+  pub input : SourceBlameless (change old.streams.input new.streams.input) end
+  pub output : OutBlameless (change old.streams.output new.streams.output) end
+  pub notes : NotesBlameless (change old.streams.notes new.streams.notes) end
+  pub home : DiskBlameless (change old.home new.home) end
+  pub guest : DiskBlameless (change old.guest new.guest) end
+  pub wire : WireBlameless (change old.wire new.wire) end
+  pub dock : DockBlameless (change old.dock new.dock) end

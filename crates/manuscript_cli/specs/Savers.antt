@@ -1,11 +1,12 @@
 -- The commands that save, each with what gives, and how it leaves that.
 use Rattle.std.specs.Prelude.{◌≡◌, ℕ}
+use Rattle.outer_ports.specs.Sources.{SourceView}
 use Rattle.manuscript_cli.specs.Edit.{script}
 use Rattle.manuscript_cli.specs.Files.{LeavesFile}
 use Rattle.manuscript_cli.specs.Saving.{Giver, ReadsInput, SavesGiven, SavingBlameless}
 use Rattle.manuscript_cli.specs.Sync.{LeavesWire, reply}
 use Rattle.manuscript_cli.specs.Take.{other_file, stream}
-use Rattle.manuscript_cli.specs.Touched.{Touched, change}
+use Rattle.manuscript_cli.specs.Touched.{Change, Touched, change}
 use Rattle.manuscript_cli.specs.declared.status.Status.{Status}
 
 pub record Saver : Type 1 where
@@ -15,21 +16,21 @@ pub record Saver : Type 1 where
   -- all objects as they were, but for the one that gives
   pub others : Touched
 
--- `edit`: the input gives by a script
-abbrev pub edit_saver : Touched → Touched → Saver
-edit_saver old new = record {
-  giver = script (change old.streams.input new.streams.input);
+-- the input gives
+abbrev pub input_saver : (Change SourceView → Giver) → Touched → Touched → Saver
+input_saver giver old new = record {
+  giver = giver (change old.streams.input new.streams.input);
   Leaves = ReadsInput old.streams.input new.streams.input;
   others = record old { streams = record old.streams { input = new.streams.input } };
 }
 
--- `take`: the input gives by a stream of operations
+-- `edit`: by a script
+abbrev pub edit_saver : Touched → Touched → Saver
+edit_saver = input_saver script
+
+-- `take`: by a stream of operations
 abbrev pub take_saver : Touched → Touched → Saver
-take_saver old new = record {
-  giver = stream (change old.streams.input new.streams.input);
-  Leaves = ReadsInput old.streams.input new.streams.input;
-  others = record old { streams = record old.streams { input = new.streams.input } };
-}
+take_saver = input_saver stream
 
 -- `merge`: another file gives what its replica holds
 abbrev pub merge_saver : Touched → Touched → Saver

@@ -23,12 +23,12 @@ returns-clause-meets g c =
     elim c.match-command.branch [
       | in-Show w ↦ rw (w.in-Show.is, w.input-is, w.output-is, w.notes-is, w.home-is, w.guest-is, w.wire-is, w.dock-is, w.result-is) (record { others = refl; does = w.show.ensures })
       | in-New w ↦ rw (w.in-New.is, w.input-is, w.output-is, w.notes-is, w.home-is, w.guest-is, w.wire-is, w.dock-is, w.result-is) (record { others = refl; does = w.new_file.ensures })
-      | in-Edit w ↦ rw (w.in-Edit.is, w.input-is, w.output-is, w.notes-is, w.home-is, w.guest-is, w.wire-is, w.dock-is, w.result-is) (record { others = refl; does = w.save_given.ensures.saves; leaves = w.save_given.ensures.leaves })
+      | in-Edit w ↦ rw (w.in-Edit.is, w.input-is, w.output-is, w.notes-is, w.home-is, w.guest-is, w.wire-is, w.dock-is, w.result-is) (record { others = refl; does = w.save_given.ensures.saves; blameless = w.save_given.ensures.blameless; leaves = w.save_given.ensures.leaves })
       | in-Print w ↦ rw (w.in-Print.is, w.input-is, w.output-is, w.notes-is, w.home-is, w.guest-is, w.wire-is, w.dock-is, w.result-is) (record { others = refl; does = w.write_report.ensures })
-      | in-Take w ↦ rw (w.in-Take.is, w.input-is, w.output-is, w.notes-is, w.home-is, w.guest-is, w.wire-is, w.dock-is, w.result-is) (record { others = refl; does = w.save_given-in-Take.ensures.saves; leaves = w.save_given-in-Take.ensures.leaves })
+      | in-Take w ↦ rw (w.in-Take.is, w.input-is, w.output-is, w.notes-is, w.home-is, w.guest-is, w.wire-is, w.dock-is, w.result-is) (record { others = refl; does = w.save_given-in-Take.ensures.saves; blameless = w.save_given-in-Take.ensures.blameless; leaves = w.save_given-in-Take.ensures.leaves })
       | in-Send w ↦ rw (w.in-Send.is, w.input-is, w.output-is, w.notes-is, w.home-is, w.guest-is, w.wire-is, w.dock-is, w.result-is) (record { others = refl; does = w.write_report-in-Send.ensures })
-      | in-Merge w ↦ rw (w.in-Merge.is, w.input-is, w.output-is, w.notes-is, w.home-is, w.guest-is, w.wire-is, w.dock-is, w.result-is) (record { others = refl; does = w.save_given-in-Merge.ensures.saves; leaves = w.save_given-in-Merge.ensures.leaves })
+      | in-Merge w ↦ rw (w.in-Merge.is, w.input-is, w.output-is, w.notes-is, w.home-is, w.guest-is, w.wire-is, w.dock-is, w.result-is) (record { others = refl; does = w.save_given-in-Merge.ensures.saves; blameless = w.save_given-in-Merge.ensures.blameless; leaves = w.save_given-in-Merge.ensures.leaves })
       | in-Relay w ↦ rw (w.in-Relay.is, w.input-is, w.output-is, w.notes-is, w.home-is, w.guest-is, w.wire-is, w.dock-is, w.result-is) (record { others = refl; does = w.relay.ensures })
-      | in-Sync w ↦ rw (w.in-Sync.is, w.input-is, w.output-is, w.notes-is, w.home-is, w.guest-is, w.wire-is, w.dock-is, w.result-is) (record { others = refl; does = w.save_given-in-Sync.ensures.saves; leaves = w.save_given-in-Sync.ensures.leaves })
+      | in-Sync w ↦ rw (w.in-Sync.is, w.input-is, w.output-is, w.notes-is, w.home-is, w.guest-is, w.wire-is, w.dock-is, w.result-is) (record { others = refl; does = w.save_given-in-Sync.ensures.saves; blameless = w.save_given-in-Sync.ensures.blameless; leaves = w.save_given-in-Sync.ensures.leaves })
       | in-Bulk w ↦ rw (w.in-Bulk.is, w.input-is, w.output-is, w.notes-is, w.home-is, w.guest-is, w.wire-is, w.dock-is, w.result-is) (record { others = refl; does = w.bulk.ensures })
     ]

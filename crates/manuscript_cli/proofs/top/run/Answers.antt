@@ -1,5 +1,8 @@
+use Rattle.std.proofs.Common.{refl}
+use Rattle.std.specs.Prelude.{None, Some}
 use Rattle.manuscript_cli.specs.declared.command.Command.TheVariants.{Print, Show}
 use Rattle.manuscript_cli.proofs.HeadlineLemmas.{decided, headline}
+use Rattle.manuscript_cli.proofs.RunBlameLemmas.{meets_blameless}
 use Rattle.manuscript_cli.proofs.RunLemmas.{meets_named, named_in_range, prints_by_set}
 use Rattle.manuscript_cli.proofs.top.run.Goals as goal
 
@@ -15,6 +18,12 @@ returns-in-None-clause-headline g c hold named = cc (c.in-None.ensures.only (Sho
 
 pub returns-in-None-clause-by_set : goal.returns-in-None-clause-by_set
 returns-in-None-clause-by_set g c named = cc (c.in-None.ensures.only Print named)
+
+pub returns-in-None-clause-blameless : goal.returns-in-None-clause-blameless
+returns-in-None-clause-blameless g c = meets_blameless _ _ _ None (record { end_is = c.tell.ensures.status; others = refl; notes = c.tell.ensures.told })
+
+pub returns-in-Some-clause-blameless : goal.returns-in-Some-clause-blameless
+returns-in-Some-clause-blameless g c = meets_blameless _ _ _ (Some _) c.obey.ensures.meets
 
 -- The command that was read is the one that is named.
 pub returns-in-Some-clause-decided : goal.returns-in-Some-clause-decided
