@@ -1,5 +1,5 @@
 -- A count of faults that rises is told by an outside fault, where the object tells: what a giver's answer leads to.
-use Rattle.std.proofs.Common.{◌≡◌, ◌≢◌, List, [], ap, refl, subst, sym, ◌∙◌}
+use Rattle.std.proofs.Common.{◌≡◌, ◌≢◌, [], ap, refl, subst, sym, ◌∙◌}
 use Rattle.std.specs.Prelude.{Err, IfSome, IsErrOf, IsSome, None, Option, Result, Some}
 use Rattle.outer_ports.specs.Sources.{KeepsCount, SourceView}
 use Rattle.outer_ports.specs.disk.Moments.{History, after}

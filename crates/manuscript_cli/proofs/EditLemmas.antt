@@ -1,6 +1,6 @@
 -- What a script gives to a replica, by what its run comes to.
 use Rattle.std.proofs.Common.{◌≡◌, ◌≢◌, inl, inr, ℕ, List, [], ◌++◌, length, Option, Some, None, refl, sym, ap, subst, ◌∙◌, arith, append-nil, length-append, drop, drop_at}
-use Rattle.std.specs.Prelude.{IfSome, IsErrOf, Result, Ok, Err}
+use Rattle.std.specs.Prelude.{IfSome, IsErrOf, Ok, Err}
 use Rattle.std.specs.Io.KnownBytes.{prepend_known}
 use Rattle.std.proofs.lemmas.List.{append_cancel_left}
 use Rattle.fugue_ids.specs.declared.op.Op.{Op}

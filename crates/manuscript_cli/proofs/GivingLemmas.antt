@@ -14,7 +14,7 @@ use Rattle.manuscript_cli.specs.Files.{IsAppended, IsLoaded, SaveMeets}
 use Rattle.manuscript_cli.specs.Giving.{GivenNoted, GivesTo, MayEnd, SavesNoted, note_line, note_status, to_save}
 use Rattle.manuscript_cli.specs.Printing.{NoteMeets}
 use Rattle.manuscript_cli.specs.Refusal.{status_of}
-use Rattle.manuscript_cli.specs.Saving.{GivenMeets, Giver, GivesOnce, Outcome, ReadsInput, SavesGiven}
+use Rattle.manuscript_cli.specs.Saving.{GivenMeets, Giver, GivesOnce, ReadsInput, SavesGiven}
 use Rattle.manuscript_cli.specs.Touched.{Change, StaysCalm, change, notes_room}
 use Rattle.manuscript_cli.specs.declared.counts.Note.{Note}
 use Rattle.manuscript_cli.specs.declared.counts.Note.TheVariants as note

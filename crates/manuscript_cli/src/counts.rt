@@ -83,7 +83,8 @@ fn write_cursor<N: Out>(notes: &mut N, cursor: u32) -> Result<(), Failed>
 }
 
 fn write_tally<N: Out>(notes: &mut N, counts: &Counts) -> Result<(), Failed>
-    ensures text { WritesText (N.seen notes.old) (N.seen notes.new) result (counts_line counts.now.tally counts.now.waiting) }
+    ensures text { WritesText (N.seen notes.old) (N.seen notes.new) result
+        (counts_line counts.now.tally counts.now.waiting) }
     ensures short { length (counts_line counts.now.tally counts.now.waiting) + 18 ≤ notes_room }
 {
     let tally = &counts.tally;

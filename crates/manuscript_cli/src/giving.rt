@@ -6,7 +6,8 @@ ghost use Rattle.replica_file.specs.Ends.{EndsAt, Reaches};
 ghost use Rattle.replica_file.specs.Loading.{IsReady};
 ghost use Rattle.manuscript_cli.specs.Crashes.{IsFinished};
 ghost use Rattle.manuscript_cli.specs.Files.{FileHolds};
-ghost use Rattle.manuscript_cli.specs.Giving.{GivenNoted, GivesTo, MayEnd, SavesNoted, note_line, note_status, to_save as ops_to_save};
+ghost use Rattle.manuscript_cli.specs.Giving.{GivenNoted, GivesTo, MayEnd, SavesNoted};
+ghost use Rattle.manuscript_cli.specs.Giving.{note_line, note_status, to_save as ops_to_save};
 ghost use Rattle.manuscript_cli.specs.Printing.{NoteMeets, NotesBlameless};
 ghost use Rattle.manuscript_cli.specs.Saving.{Giver, GivesOnce, SavesGiven, SavingBlameless};
 ghost use Rattle.manuscript_cli.specs.Touched.{StaysCalm, change, notes_room};
@@ -52,7 +53,8 @@ pub(crate) trait Gives<F> {
     /// The laws of a giver: what is told gives one thing, and an object that is not used is left as it should be.
     fn laws(&self)
         ensures once { (home : DiskView) (before after : F) → GivesOnce (giver self.now home before after) }
-        ensures idle { (home : DiskView) (from : F) (end : AnyStatus) → (IsFinished end → ⊥) → Leaves self.now home from from end };
+        ensures idle { (home : DiskView) (from : F) (end : AnyStatus) → (IsFinished end → ⊥)
+            → Leaves self.now home from from end };
 }
 
 /// Loads the home file, lets the giver give to its replica, saves what came of it by one append, and notes it.
@@ -63,9 +65,10 @@ pub(crate) fn save_given<F, T: Gives<F>, H: Disk, N: Sink>(
     home: &mut H,
     notes: &mut N,
 ) -> Status
-    ensures saves { SavesGiven (T.giver giver.now (H.seen home.old) from.old from.new) (change (H.seen home.old) (H.seen home.new))
+    ensures saves { SavesGiven (T.giver giver.now (H.seen home.old) from.old from.new)
+        (change (H.seen home.old) (H.seen home.new)) (change (N.seen notes.old) (N.seen notes.new)) result }
+    ensures blameless { SavingBlameless (change (H.seen home.old) (H.seen home.new))
         (change (N.seen notes.old) (N.seen notes.new)) result }
-    ensures blameless { SavingBlameless (change (H.seen home.old) (H.seen home.new)) (change (N.seen notes.old) (N.seen notes.new)) result }
     ensures leaves { T.Leaves giver.now (H.seen home.old) from.old from.new result }
 {
     giver.laws();
@@ -82,9 +85,12 @@ fn load_and_save<F, T: Gives<F>, H: Disk>(
     from: &mut F,
     home: &mut H,
 ) -> Result<Note, Refusal>
-    ensures saves { SavesNoted (T.giver giver.now (H.seen home.old) from.old from.new) (change (H.seen home.old) (H.seen home.new)) result }
-    ensures told { DiskTells (H.seen home.old) → result ≢ Err Outside → (H.seen home.new).faults ≡ (H.seen home.old).faults }
-    ensures leaves { (end : AnyStatus) → MayEnd result end → T.Leaves giver.now (H.seen home.old) from.old from.new end }
+    ensures saves { SavesNoted (T.giver giver.now (H.seen home.old) from.old from.new)
+        (change (H.seen home.old) (H.seen home.new)) result }
+    ensures told { DiskTells (H.seen home.old) → result ≢ Err Outside
+        → (H.seen home.new).faults ≡ (H.seen home.old).faults }
+    ensures leaves { (end : AnyStatus) → MayEnd result end
+        → T.Leaves giver.now (H.seen home.old) from.old from.new end }
 {
     giver.laws();
     let (mut replica, end) = load_file(alloc, home)?;
@@ -109,8 +115,10 @@ fn give_and_save<F, T: Gives<F>, H: Disk>(
     requires ends { IfSome (H.seen home.old).past (λ h. EndsAt h.last end) }
     requires none_kept { kept.old ≡ Some [] }
     ensures given { (file : DiskView) → FileHolds file replica.old end
-        → GivenNoted (T.giver giver.now file from.old from.new) replica.old end (change (H.seen home.old) (H.seen home.new)) result }
-    ensures told { DiskTells (H.seen home.old) → result ≢ Err Outside → (H.seen home.new).faults ≡ (H.seen home.old).faults }
+        → GivenNoted (T.giver giver.now file from.old from.new) replica.old end
+        (change (H.seen home.old) (H.seen home.new)) result }
+    ensures told { DiskTells (H.seen home.old) → result ≢ Err Outside
+        → (H.seen home.new).faults ≡ (H.seen home.old).faults }
     ensures leaves { (file : DiskView) → FileHolds file replica.old end
         → (status : AnyStatus) → MayEnd result status → T.Leaves giver.now file from.old from.new status }
 {

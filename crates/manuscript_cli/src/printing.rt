@@ -35,8 +35,8 @@ pub(crate) fn print<O: Sink, N: Sink>(
 
 /// Writes the counts to the notes.
 pub(crate) fn note<N: Sink>(counts: &Counts, notes: &mut N) -> Status
-    ensures meets { NoteMeets (counts_text counts.now.tally counts.now.waiting counts.now.cursor) (status_by counts.now.tally counts.now.waiting)
-        (N.seen notes.old) (N.seen notes.new) result }
+    ensures meets { NoteMeets (counts_text counts.now.tally counts.now.waiting counts.now.cursor)
+        (status_by counts.now.tally counts.now.waiting) (N.seen notes.old) (N.seen notes.new) result }
     ensures calm { StaysCalm notes_room (N.seen notes.old) (N.seen notes.new) }
     ensures blameless { NotesBlameless (change (N.seen notes.old) (N.seen notes.new)) result }
 {
@@ -46,10 +46,10 @@ pub(crate) fn note<N: Sink>(counts: &Counts, notes: &mut N) -> Status
 
 /// The status, where the line of notes was written. Where it was not, that is told as a fault outside.
 pub(crate) fn noted<N: Sink>(written: Result<(), Failed>, status: Status, notes: &mut N) -> Status
-    ensures meets { (before : OutView) (line : List ℕ) → WritesText before (N.seen notes.old) written line → length line ≤ notes_room
-        → NoteMeets line status before (N.seen notes.new) result }
-    ensures calm { (before : OutView) (line : List ℕ) → WritesText before (N.seen notes.old) written line → length line ≤ notes_room
-        → StaysCalm notes_room before (N.seen notes.new) }
+    ensures meets { (before : OutView) (line : List ℕ) → WritesText before (N.seen notes.old) written line
+        → length line ≤ notes_room → NoteMeets line status before (N.seen notes.new) result }
+    ensures calm { (before : OutView) (line : List ℕ) → WritesText before (N.seen notes.old) written line
+        → length line ≤ notes_room → StaysCalm notes_room before (N.seen notes.new) }
     ensures blameless { (before : OutView) (line : List ℕ) → WritesText before (N.seen notes.old) written line
         → NotesBlameless (change before (N.seen notes.new)) result }
 {

@@ -22,7 +22,8 @@ pub(crate) struct Reply {
 impl<W: Wire> Gives<W> for Reply {
     ghost giver = { λ what home before after. reply what.cursor home (change (W.seen before) (W.seen after)) };
 
-    ghost Leaves = { λ what home before after end. LeavesWire what.port what.cursor home (change (W.seen before) (W.seen after)) end };
+    ghost Leaves = { λ what home before after end.
+        LeavesWire what.port what.cursor home (change (W.seen before) (W.seen after)) end };
 
     fn give(
         &self,
