@@ -1,7 +1,7 @@
 //! An offline editor for a manuscript that several authors change on their own machines.
 #![tactic(auto)]
 
-use manuscript_cli::{Refusal, Status, files_of, read_words, run, tell};
+use manuscript_cli::{Command, Refusal, Status, read_words, run, tell};
 use outer_ports::{FileDisk, Opening, StdSink, StdSource, TcpDock, TcpWire, tell_cause};
 use std::env;
 use std::fs::{self, File, OpenFile, OpenOptions};
@@ -25,7 +25,8 @@ fn words(rt: &(impl Env + AllocGlobal), names: usize) -> io::Result<Vec<String>>
 
 /// Takes the least numbers that are free for files: those of the standard streams that are closed, where some are.
 ///
-/// A file or a socket that is opened while these stand gets another number, so that no standard stream reads or writes it.
+/// A file or a socket that is opened while these stand gets another number, so that no standard stream reads or writes
+/// it.
 fn take_least_numbers(rt: &HostRuntime) -> [io::Result<File>; 3] {
     [open_root(rt), open_root(rt), open_root(rt)]
 }
@@ -50,22 +51,33 @@ fn open_file(rt: &HostRuntime, path: Option<&str>, opening: Opening) -> FileDisk
 
 /// Opens the file that the words' command is about, for what the command does with it, and the other one that it reads.
 /// Where the words are no command, it says how one is asked for.
-fn open_files(rt: &HostRuntime, words: &[String]) -> (FileDisk, FileDisk) {
-    let Some(command) = read_words(words) else {
+fn open_files(
+    rt: &HostRuntime,
+    command: Option<Command>,
+    words: &[String],
+) -> (FileDisk, FileDisk) {
+    let Some(command) = command else {
         let _ = rt.stderr().write_all(usage_of(words).as_bytes());
         return (FileDisk::closed(), FileDisk::closed());
     };
-    let (home, guest) = files_of(words);
+    let (home, guest) = command.files(words);
     let home = open_file(rt, home, command.opening());
     let guest = if home.is_open() { guest } else { None };
     (home, open_file(rt, guest, Opening::Reading))
 }
 
 /// Removes the file where the command made it and could not finish. It is locked until the program ends.
-fn drop_unfinished(rt: &HostRuntime, words: &[String], home: &FileDisk, status: Status) {
-    if let (Some(path), _) = files_of(words)
+fn remove_unfinished(
+    rt: &HostRuntime,
+    command: Option<Command>,
+    words: &[String],
+    home: &FileDisk,
+    status: Status,
+) {
+    if status != Status::Done
         && home.is_made()
-        && status != Status::Done
+        && let Some(command) = command
+        && let (Some(path), _) = command.files(words)
     {
         let _ = fs::remove_file(rt, path);
     }
@@ -88,7 +100,8 @@ fn run_on_process(rt: &HostRuntime, names: usize) -> Status {
         return tell(&mut notes, Refusal::Outside);
     };
     let taken = take_least_numbers(rt);
-    let (mut home, mut guest) = open_files(rt, &words);
+    let command = read_words(&words);
+    let (mut home, mut guest) = open_files(rt, command, &words);
     let mut wire = TcpWire::new(*rt, rt.stderr());
     let mut dock = TcpDock::new(*rt, rt.stderr());
     let status = run(
@@ -103,7 +116,7 @@ fn run_on_process(rt: &HostRuntime, names: usize) -> Status {
         &mut dock,
         hasher,
     );
-    drop_unfinished(rt, &words, &home, status);
+    remove_unfinished(rt, command, &words, &home, status);
     drop(taken);
     status
 }

@@ -1,12 +1,10 @@
 -- What a script gives to a replica, by what its run comes to.
-use Rattle.std.proofs.Common.{◌≡◌, ◌≢◌, inl, inr, ℕ, List, [], ◌++◌, length, Option, Some, None, refl, sym, ap, subst, ◌∙◌, arith, append-nil, length-append, take, drop, take_all, drop_at, ◌-◌}
-use Rattle.std.specs.Prelude.{IfSome, IsErrOf, Result, Ok, Err}
+use Rattle.std.proofs.Common.{◌≡◌, ◌≢◌, inl, inr, ℕ, List, [], ◌++◌, length, Option, Some, None, refl, sym, ap, subst, ◌∙◌, arith, append-nil, length-append, drop, drop_at}
+use Rattle.std.specs.Prelude.{IfSome, IsErrOf, Ok, Err}
 use Rattle.std.specs.Io.KnownBytes.{prepend_known}
 use Rattle.std.proofs.lemmas.List.{append_cancel_left}
-use Rattle.fugue_ids.specs.Outs.{OutView}
 use Rattle.fugue_ids.specs.declared.op.Op.{Op}
 use Rattle.outer_ports.specs.Sources.{KeepsCount, SourceView}
-use Rattle.outer_ports.specs.disk.Disks.{DiskView}
 use Rattle.origin_model.specs.operations.History.{accepted}
 use Rattle.origin_model.specs.taking.Taking.{IsSettled}
 use Rattle.origin_model.specs.edits.State.{State as Replica, Stands}
@@ -15,20 +13,15 @@ use Rattle.edit_script.proofs.TakenInLemmas.{all_find_place, scripts_are_taken_i
 use Rattle.edit_script.specs.Scripts.{Runs, RunsWhole, Stops}
 use Rattle.edit_script.specs.declared.fault.ScriptFault.TheVariants as script_fault
 use Rattle.edit_script.specs.declared.fault.ScriptFault.{ScriptFault}
-use Rattle.replica_file.specs.declared.end.End.{End}
-use Rattle.manuscript_cli.specs.Edit.{GivenMade, HasMade, RunsScript, SavesMade, ScriptGives, ScriptRefuses, made_line, made_outcome, script}
-use Rattle.manuscript_cli.specs.Files.{IsAppended, IsLoaded, SaveMeets}
+use Rattle.manuscript_cli.specs.Edit.{RunsScript, ScriptGives, ScriptRefuses, made_outcome, script}
 use Rattle.manuscript_cli.specs.Findings.{Refuses, Does}
-use Rattle.manuscript_cli.specs.Printing.{NoteMeets}
+use Rattle.manuscript_cli.specs.Giving.{GivesTo, IsNoted}
 use Rattle.manuscript_cli.specs.Refusal.{script_refusal}
-use Rattle.manuscript_cli.specs.Saving.{GivenMeets, Giver, Outcome, SavesGiven, Suffices}
-use Rattle.manuscript_cli.specs.Touched.{Change, StaysCalm, change, notes_room}
-use Rattle.manuscript_cli.proofs.SavesLemmas.{noted_saves}
-use Rattle.manuscript_cli.proofs.SavingLemmas.{given_comes, not_saved}
+use Rattle.manuscript_cli.specs.Counts.{made_line}
+use Rattle.manuscript_cli.specs.Saving.{GivesOnce, Outcome, Suffices}
+use Rattle.manuscript_cli.specs.Touched.{Change}
+use Rattle.manuscript_cli.specs.declared.counts.Note.TheVariants as note
 use Rattle.manuscript_cli.specs.declared.refusal.Refusal.{Refusal}
-use Rattle.manuscript_cli.specs.declared.status.Status.TheVariants as status
-use Rattle.manuscript_cli.specs.declared.status.Status.{Status}
-use Rattle.manuscript_cli.proofs.GivenLemmas.{GivesOnce}
 
 -- a script comes to one outcome
 one_outcome : (replica : Replica) (script : List ℕ) (a b : Outcome) → RunsScript replica script a → RunsScript replica script b → a ≡ b
@@ -93,17 +86,8 @@ module _ (replica last : Replica) (before after : SourceView) (n : ℕ) (run : R
       let taken = scripts_are_taken_in replica last run.0 n run.2.ops stands settled run.2 run.2.accepted_are in
       record { same_state = taken.state; place = all_find_place replica last run.2.ops settled taken }
 
-  pub has_made : HasMade n (made_outcome last run.2.ops)
-  has_made = record { line_is = ap made_line (sym run.2.count); status_is = refl }
-
-  -- its operations are those behind the ones that were accepted before
-  pub made_behind : (old new : List Op) → old ≡ accepted replica.held.history → new ≡ accepted last.held.history → take (length new - length old) (drop (length old) new) ≡ run.2.ops
-  made_behind old new old_is new_is =
-      let behind : drop (length old) new ≡ run.2.ops = ap (drop (length old)) (new_is ∙ run.2.accepted_are) ∙ drop_at (accepted replica.held.history) run.2.ops (length old) (sym (ap length old_is)) in
-      let many = ap length new_is in
-      let grown = ap length run.2.accepted_are in
-      let before_is = ap length old_is in
-      ap (take (length new - length old)) behind ∙ take_all (length new - length old) run.2.ops (omega (arith, many, grown, before_is, length-append (accepted replica.held.history) run.2.ops))
+  pub has_made : IsNoted (made_outcome last run.2.ops) (note.Made n)
+  has_made = record { line = ap made_line (sym run.2.count); status = refl }
 
 -- a script of which a front was read was left, with more behind it
 read_more : (front : List ℕ) (before after : Option (List ℕ)) → before ≡ prepend_known front after → (more : List ℕ) × IfSome before (λ b. b ≡ front ++ more)
@@ -124,42 +108,22 @@ gives_refusal replica last before after fault no_want no_fault stops = (
   inr (record { short = stops.1.short; fault = fault; why_is = refl; no_want = no_want; last = last; stops = stops.2 }),
 )
 
--- a script that stopped, and whose operations are not saved
-pub script_stops : (input : Change SourceView) (replica last : Replica) (end : End) (file : DiskView) (fault : ScriptFault) → Stops replica last input.old input.new fault
-    → KeepsCount input.old input.new (IsErrOf {T = ℕ} (Err fault) script_fault.ReadFault) → GivenMeets (script input) replica end (change file file) (Err (script_refusal fault))
-script_stops input replica last end file script_fault.ReadFault stops count = inl (count.rose refl, λ sure. count.succeeds sure refl, refl)
-script_stops input replica last end file script_fault.NoMemory stops count = refl
-script_stops input replica last end file fault stops count = (inl (gives_refusal replica last input.old input.new fault (λ is. cc is) (λ is. cc is) stops), refl)
+-- a script that ran gives what it made
+pub script_gives : (input : Change SourceView) (replica last : Replica) (n : ℕ) (run : Runs replica last input.old input.new n) → Stands replica → IsSettled replica.held → (kept : Option (List Op))
+    → GivesTo (script input) replica last kept (Ok (note.Made n))
+script_gives input replica last n run stands settled kept =
+    let made = has_made replica last input.old input.new n run in
+    record {
+      outcome = made_outcome last run.2.ops;
+      gives = gives_outcome replica last input.old input.new n run;
+      suffices = outcome_suffices replica last input.old input.new n run stands settled;
+      saved = ap (drop (length (accepted replica.held.history))) run.2.accepted_are ∙ drop_at (accepted replica.held.history) run.2.ops (length (accepted replica.held.history)) refl;
+      noted = made;
+    }
 
-module _ (input : Change SourceView) (replica last : Replica) (n : ℕ) (run : Runs replica last input.old input.new n) (end : End) (file : Change DiskView) (ops : List Op) (ops_are : ops ≡ run.2.ops) where
-  -- a script that ran, and whose operations were saved
-  pub script_saved : Stands replica → IsSettled replica.held → IsAppended end ops file → GivenMade (script input) replica end file (Ok n)
-  script_saved stands settled appended = (
-    made_outcome last run.2.ops,
-    has_made replica last input.old input.new n run,
-    (
-      gives_outcome replica last input.old input.new n run,
-      outcome_suffices replica last input.old input.new n run stands settled,
-      subst (λ (l : List Op). IsAppended end l file) ops_are appended,
-    ),
-  )
-
-  -- or were not
-  pub script_not_saved : (why : Refusal) → SaveMeets end ops file (Err why) → GivenMeets (script input) replica end file (Err why)
-  script_not_saved why meets =
-      not_saved (script input) replica end file (made_outcome last run.2.ops) (gives_outcome replica last input.old input.new n run) why (subst (λ (l : List Op). SaveMeets end l file (Err why)) ops_are meets)
-
--- what was given to the file that was loaded comes of both
-pub made_comes : (giver : Giver) (a b c : DiskView) (replica : Replica) (end : End) (result : Result ℕ Refusal) → IsLoaded (change a b) replica end → GivenMade giver replica end (change b c) result
-    → SavesMade giver (change a c) result
-made_comes giver a b c replica end (Ok count) loaded given = (given.0, given.1, given_comes giver a b c replica end loaded (Ok given.0) given.2)
-made_comes giver a b c replica end (Err why) loaded given = given_comes giver a b c replica end loaded (Err why) given
-
--- what was given and saved, and noted or not
-pub made_saves : (giver : Giver) → GivesOnce giver → (file : Change DiskView) (notes : Change OutView) (n : ℕ) (end : Status) → SavesMade giver file (Ok n)
-    → NoteMeets (made_line n) status.Done notes.old notes.new end → StaysCalm notes_room notes.old notes.new → SavesGiven giver file notes end
-made_saves giver once file notes n end saves noted calm =
-    let outcome : Outcome = saves.0 in
-    noted_saves giver once file notes calm outcome end saves.2 (inl saves.1.status_is)
-    (subst (λ (l : List ℕ). NoteMeets l outcome.status notes.old notes.new end) (sym saves.1.line_is)
-    (subst (λ (s : Status). NoteMeets (made_line n) s notes.old notes.new end) (sym saves.1.status_is) noted))
+-- one that stopped gives its refusal
+pub script_gives_none : (input : Change SourceView) (replica last : Replica) (kept : Option (List Op)) (fault : ScriptFault) → Stops replica last input.old input.new fault
+    → KeepsCount input.old input.new (IsErrOf {T = ℕ} (Err fault) script_fault.ReadFault) → GivesTo (script input) replica last kept (Err (script_refusal fault))
+script_gives_none input replica last kept script_fault.ReadFault stops count = (count.rose refl, λ sure. count.succeeds sure refl)
+script_gives_none input replica last kept script_fault.NoMemory stops count = tt
+script_gives_none input replica last kept fault stops count = gives_refusal replica last input.old input.new fault (λ is. cc is) (λ is. cc is) stops

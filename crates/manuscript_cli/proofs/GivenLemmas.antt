@@ -7,15 +7,11 @@ use Rattle.replica_file.specs.Append.{IsTooLong}
 use Rattle.replica_file.specs.declared.end.End.{End}
 use Rattle.manuscript_cli.specs.Files.{FileHolds, FileRefuses}
 use Rattle.manuscript_cli.specs.Findings.{Finding, Refuses, Does}
-use Rattle.manuscript_cli.specs.Saving.{Giver, Outcome, SavingFound}
+use Rattle.manuscript_cli.specs.Saving.{Giver, GivesOnce, Outcome, SavingFound}
 use Rattle.manuscript_cli.specs.Touched.{IsTold}
 use Rattle.manuscript_cli.specs.declared.refusal.Refusal.{Refusal}
 use Rattle.manuscript_cli.specs.declared.refusal.Refusal.TheVariants as refusal
 use Rattle.manuscript_cli.proofs.FoundLemmas.{holds_once, holds_or_refuses, refuses_once}
-
--- a giver that is told gives one thing
-abbrev pub GivesOnce : Giver → Type 0
-GivesOnce giver = giver.Told → (replica : Replica) (one two : Finding Outcome) → giver.Gives replica one → giver.Gives replica two → one ≡ two
 
 module _ (giver : Giver) (once : GivesOnce giver) (gave : giver.Told) where
   -- what is given to a replica whose file ends there

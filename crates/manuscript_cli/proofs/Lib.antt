@@ -7,7 +7,8 @@ pub mod RelayLemmas
 pub mod BulkLemmas
 pub mod NewLemmas
 pub mod FoundLemmas
-pub mod FileOutLemmas
+pub mod TextOutLemmas
+pub mod ReportLemmas
 pub mod CrashLemmas
 pub mod HomeFileLemmas
 pub mod EditLemmas
@@ -18,5 +19,8 @@ pub mod MergeLemmas
 pub mod GivenLemmas
 pub mod SavesLemmas
 pub mod SyncLemmas
+pub mod GivingLemmas
 pub mod LawfulLemmas
 pub mod RunsLemmas
+pub mod BlameLemmas
+pub mod RunBlameLemmas

@@ -1,6 +1,6 @@
 -- Taking in what another replica holds: one list of operations behind the other, and the first that finds no place.
 use Rattle.std.proofs.Common.{[], List, add-one, ap, append_assoc, drop, get_or, inl, inr, length, refl, subst, sym, take, ℕ, ◌+◌, ◌++◌, ◌<◌, ◌∙◌, ◌∷◌, ◌≡◌, ◌≢◌}
-use Rattle.std.specs.Prelude.{Err, None, Ok, Result}
+use Rattle.std.specs.Prelude.{Err, None, Ok, Option, Result, Some}
 use Rattle.std.proofs.Math.Seq.{take-suc}
 use Rattle.std.proofs.lemmas.List.{take-append-drop}
 use Rattle.std.proofs.lemmas.List.Elements.{All-cons, All-head, All-tail}
@@ -15,19 +15,21 @@ use Rattle.replica_core.specs.declared.feed_fault.FeedFault.TheVariants as feed_
 use Rattle.replica_core.proofs.KeepingLemmas.{takes_more}
 use Rattle.outer_ports.specs.disk.Disks.{DiskView}
 use Rattle.replica_file.specs.declared.end.End.{End}
-use Rattle.manuscript_cli.specs.Files.{FileHolds, FileRefuses, IsAppended}
+use Rattle.manuscript_cli.specs.Files.{FileHolds, FileRefuses}
 use Rattle.manuscript_cli.specs.Findings.{Does, Finding, Refuses}
 use Rattle.manuscript_cli.specs.Merge.{FindNoPlace, MergesNot}
 use Rattle.manuscript_cli.specs.Refusal.{feed_refusal}
-use Rattle.manuscript_cli.specs.Saving.{Outcome}
-use Rattle.manuscript_cli.specs.Take.{FileGives, GivenCounted, HolderGives, ReplicaGives, all_of, ops_of, other_file, taken_in}
+use Rattle.manuscript_cli.specs.Saving.{GivesOnce, Outcome}
+use Rattle.manuscript_cli.specs.Take.{FileGives, HolderGives, ReplicaGives, all_of, ops_of, other_file, taken_in}
 use Rattle.manuscript_cli.specs.Touched.{Change, IsTold}
 use Rattle.manuscript_cli.specs.declared.counts.Counts.{Counts}
 use Rattle.manuscript_cli.specs.declared.refusal.Refusal.{Refusal}
 use Rattle.manuscript_cli.specs.declared.refusal.Refusal.TheVariants as refusal
 use Rattle.manuscript_cli.proofs.FoundLemmas.{holds_once, holds_or_refuses, refuses_once}
-use Rattle.manuscript_cli.proofs.TakeLemmas.{taken_given}
-use Rattle.manuscript_cli.proofs.GivenLemmas.{GivesOnce}
+use Rattle.manuscript_cli.proofs.TakeLemmas.{taken_gives}
+use Rattle.manuscript_cli.specs.Giving.{GivesTo}
+use Rattle.manuscript_cli.specs.declared.counts.Note.{Note}
+use Rattle.manuscript_cli.specs.declared.counts.Note.TheVariants as note
 
 module _ (hold most : ℕ) where
   -- where all find their place, those at the front do, and those behind them
@@ -96,39 +98,27 @@ rest_finds_none (feed_fault.TooMany limit) start mid a b taken none =
     (none.0, λ places. none.1 (places-behind start.replica.hold start.replica.most start.replica.held a b places))
 rest_finds_none feed_fault.NoMemory start mid a b taken none = tt
 
-module _ (replica now other : State) (end : End) (file : Change DiskView) (tally : Tally) (kept kept_after : List Op) (none : kept ≡ [])
-    (taken : TakesIn (begun replica kept) (record { replica = now; counts = tally; kept = kept_after }) (ops_of other.held)) where
-  given : ReplicaGives other replica (Does (taken_in replica (ops_of other.held)))
-  given = (taken.has_place, refl)
-
-  kept_are : kept_after ≡ (taken_in replica (ops_of other.held)).saved
-  kept_are = taken.kept ∙ ap (λ (k : List Op). k ++ (taken_in replica (ops_of other.held)).saved) none
-
-  -- what the other replica holds was taken in, and what was kept was saved
-  pub merge_given : (counts : Counts) → IsSettled replica.held → counts ≡ record { tally = tally; waiting = length now.held.waiting; cursor = None } → IsAppended end kept_after file
-      → GivenCounted (all_of other) replica end file (Ok counts)
-  merge_given counts settled is appended =
-      taken_given (all_of other) replica end file (ops_of other.held) None given counts settled
-      (is ∙ (λ i. record { tally = taken.counts i; waiting = length (taken.replica i).held.waiting; cursor = None }))
-      (subst (λ (ops : List Op). IsAppended end ops file) kept_are appended)
+-- what the other replica holds was taken in
+pub merge_gives : (replica now other : State) (tally : Tally) (kept kept_after : List Op) → kept ≡ []
+    → TakesIn (begun replica kept) (record { replica = now; counts = tally; kept = kept_after }) (ops_of other.held)
+    → (counts : Counts) → IsSettled replica.held → counts ≡ record { tally = tally; waiting = length now.held.waiting; cursor = None }
+    → GivesTo (all_of other) replica now (Some kept_after) (Ok (note.Counted counts))
+merge_gives replica now other tally kept kept_after none taken counts settled is =
+    taken_gives (all_of other) replica now (ops_of other.held) None (taken.has_place, refl) settled (Some kept_after)
+    (taken.kept ∙ ap (λ (k : List Op). k ++ (taken_in replica (ops_of other.held)).saved) none) counts
+    (is ∙ (λ i. record { tally = taken.counts i; waiting = length (taken.replica i).held.waiting; cursor = None }))
 
 -- what the replica of the other file gives is what this file gives
-module _ (guest : Change DiskView) (other replica : State) (other_end end : End) (file : Change DiskView) (holds : FileHolds guest.old other other_end) where
+module _ (guest : Change DiskView) (other replica : State) (other_end : End) (holds : FileHolds guest.old other other_end) where
   by_holder : (finding : Finding Outcome) → ReplicaGives other replica finding → HolderGives guest.old replica finding
   by_holder finding gives = (other, other_end, holds, gives)
 
-  pub holder_gives : (result : Result Counts Refusal) → GivenCounted (all_of other) replica end file result → GivenCounted (other_file guest) replica end file result
-  holder_gives (Ok counts) did = (did.0, did.1, (by_holder (Does did.0) did.2.0, did.2.1, did.2.2))
-  holder_gives (Err refusal.Outside) stopped = elim stopped [
-    | inl failed ↦ absurd failed.0
-    | inr failed ↦ inr (failed.0, by_holder (Does failed.0) failed.1, failed.2)
-  ]
-  holder_gives (Err refusal.NoMemory) same = same
-  holder_gives (Err refusal.Words) never = never
-  holder_gives (Err why) stopped = elim stopped.0 [
-    | inl gives ↦ (inl (inr (by_holder (Refuses why) gives)), stopped.1)
-    | inr long ↦ (inr (long.0, long.1, by_holder (Does long.1) long.2, long.3), stopped.1)
-  ]
+  pub holder_gives : (now : State) (kept : Option (List Op)) (result : Result Note Refusal) → GivesTo (all_of other) replica now kept result → GivesTo (other_file guest) replica now kept result
+  holder_gives now kept (Ok n) did = record { outcome = did.outcome; gives = by_holder (Does did.outcome) did.gives; suffices = did.suffices; saved = did.saved; noted = did.noted }
+  holder_gives now kept (Err refusal.Outside) failed = absurd failed.0
+  holder_gives now kept (Err refusal.NoMemory) same = tt
+  holder_gives now kept (Err refusal.Words) never = never
+  holder_gives now kept (Err why) gives = inr (by_holder (Refuses why) gives)
 
 -- another file that is told gives one thing
 module _ (guest : Change DiskView) (told : IsTold guest.old) (replica : State) where

@@ -5,13 +5,14 @@ use Rattle.fugue_ids.specs.Causes.{Rose}
 use Rattle.fugue_ids.specs.Outs.{OutView}
 use Rattle.origin_model.specs.files.Image.{HasImage, Holds, new_file}
 use Rattle.outer_ports.proofs.SharedLemmas.{image_at_rest, leaves_none}
-use Rattle.outer_ports.specs.disk.Disks.{DiskView, RoomView}
+use Rattle.outer_ports.specs.disk.Disks.{DiskTells, DiskView, RoomView}
 use Rattle.outer_ports.specs.disk.Moments.{History, LeavesOnlyTo, MayHaveWritten, MayLeave, after}
 use Rattle.outer_ports.specs.disk.States.{State, at_rest, settled, wrote}
 use Rattle.replica_file.specs.Create.{LastsToCreate, nothing_yet}
 use Rattle.replica_file.specs.declared.create_fault.CreateFault.{CreateFault}
 use Rattle.replica_file.specs.declared.create_fault.CreateFault.TheVariants.{NotEmpty, DiskFault}
 use Rattle.manuscript_cli.proofs.CrashLemmas.{empty_never_torn, still_never_torn}
+use Rattle.manuscript_cli.proofs.TextLemmas.{told_blameless}
 use Rattle.manuscript_cli.specs.Crashes.{IsSafe}
 use Rattle.manuscript_cli.specs.Files.{bytes_of}
 use Rattle.manuscript_cli.specs.New.{Creates, KeepsFilled}
@@ -91,8 +92,8 @@ empty_stays (Some h) new empty = λ filled. absurd (filled empty)
 pub created : (replica hold : ℕ) (old new : DiskView) (notes : OutView) (x : Unit {0}) → Finds (Ok x) old.past
     → new.past ≡ after settled (after (wrote 0 (new_file replica hold)) old.past) → IfSome new.past (λ k. k.last ≡ at_rest (new_file replica hold))
     → HasImage (new_file replica hold) (Holds (nothing_yet replica hold)) → IfSome old.room (λ room. LastsToCreate room → new.faults ≡ old.faults)
-    → Creates replica hold (change old new) (change notes notes) status.Done
-created replica hold old new notes x found calls made holds calm = record {
+    → (DiskTells old → new.faults ≡ old.faults) → Creates replica hold (change old new) (change notes notes) status.Done
+created replica hold old new notes x found calls made holds calm exact = record {
   meets = record {
     empty = found_empty x old.past found;
     made = new_bytes replica hold old.past new.past calls made;
@@ -106,12 +107,14 @@ created replica hold old new notes x found calls made holds calm = record {
   home_calm = by_room (new.faults ≡ old.faults) old calm;
   notes_calm = λ has. refl;
   never_outside = λ has is. cc is;
+  home_blameless = λ tells not. exact tells;
+  notes_blameless = λ tells not. inl refl;
 }
 
 found_not_empty : (replica hold : ℕ) (old new : DiskView) (notes notes' : OutView) → Finds (Err NotEmpty) old.past → new.past ≡ old.past → Stays old.past new.past
-    → IfSome old.room (λ room. LastsToCreate room → new.faults ≡ old.faults) → Told notes notes' (line_of refusal.NotEmpty)
+    → IfSome old.room (λ room. LastsToCreate room → new.faults ≡ old.faults) → (DiskTells old → new.faults ≡ old.faults) → Told notes notes' (line_of refusal.NotEmpty)
     → Creates replica hold (change old new) (change notes notes') status.BadFile
-found_not_empty replica hold old new notes notes' found kept stays calm told = record {
+found_not_empty replica hold old new notes notes' found kept stays calm exact told = record {
   meets = record { found = found_filled old.past found; kept = kept; noted = told };
   decided = record { empty = λ is. absurd (same_bytes (λ b. b ≢ []) old.past [] (found_filled old.past found) is refl); not_empty = λ bytes is filled. inl refl };
   filled = keeps_filled old new stays;
@@ -119,6 +122,8 @@ found_not_empty replica hold old new notes notes' found kept stays calm told = r
   home_calm = by_room (new.faults ≡ old.faults) old calm;
   notes_calm = told.calm;
   never_outside = λ has is. cc is;
+  home_blameless = λ tells not. exact tells;
+  notes_blameless = told_blameless refusal.NotEmpty (change notes notes') told;
 }
 
 failed : (replica hold : ℕ) (old new : DiskView) (notes notes' : OutView) → MayHaveWritten 0 14 old.past new.past → Stays old.past new.past → Rose old.faults new.faults → IfSome old.room (λ room. LastsToCreate room → ⊥)
@@ -132,6 +137,8 @@ failed replica hold old new notes notes' torn stays rose sure calm told = record
   home_calm = by_room (new.faults ≡ old.faults) old calm;
   notes_calm = told.calm;
   never_outside = λ has is. by_room ⊥ old sure has;
+  home_blameless = λ tells not. absurd (not refl);
+  notes_blameless = λ tells not. absurd (not refl);
 }
 
 never_failed : (room : Option RoomView) (answer : Answer) → answer ≡ Err DiskFault → IfSome room (λ r. LastsToCreate r → answer ≢ Err DiskFault) → IfSome room (λ r. LastsToCreate r → ⊥)
@@ -142,9 +149,10 @@ never_failed (Some r) answer is sure = λ lasts. sure lasts is
 pub not_created : (replica hold : ℕ) (old new : DiskView) (notes notes' : OutView) (fault : CreateFault) (answer : Answer) → answer ≡ Err fault → Finds answer old.past
     → (answer ≡ Err NotEmpty → (new.past ≡ old.past) × (new.room ≡ old.room)) → Stays old.past new.past → MayHaveWritten 0 14 old.past new.past
     → (answer ≡ Err DiskFault → Rose old.faults new.faults) → IfSome old.room (λ room. LastsToCreate room → answer ≢ Err DiskFault)
-    → IfSome old.room (λ room. LastsToCreate room → new.faults ≡ old.faults) → Told notes notes' (line_of (create_refusal fault))
+    → IfSome old.room (λ room. LastsToCreate room → new.faults ≡ old.faults) → (DiskTells old → answer ≢ Err DiskFault → new.faults ≡ old.faults)
+    → Told notes notes' (line_of (create_refusal fault))
     → Creates replica hold (change old new) (change notes notes') (status_of (create_refusal fault))
-not_created replica hold old new notes notes' NotEmpty answer is found kept stays torn rose sure calm told =
-    found_not_empty replica hold old new notes notes' (subst (λ a. Finds a old.past) is found) (kept is).0 stays calm told
-not_created replica hold old new notes notes' DiskFault answer is found kept stays torn rose sure calm told =
+not_created replica hold old new notes notes' NotEmpty answer is found kept stays torn rose sure calm exact told =
+    found_not_empty replica hold old new notes notes' (subst (λ a. Finds a old.past) is found) (kept is).0 stays calm (λ tells. exact tells (λ failed. let other = sym is ∙ failed in cc other)) told
+not_created replica hold old new notes notes' DiskFault answer is found kept stays torn rose sure calm exact told =
     failed replica hold old new notes notes' torn stays (rose is) (never_failed old.room answer is sure) calm told

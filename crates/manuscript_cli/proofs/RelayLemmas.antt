@@ -1,20 +1,22 @@
 -- What `relay` does, by what listening, serving and noting do.
 use Rattle.std.proofs.Common.{◌≡◌, ◌≢◌, refl, ℕ, ◌<◌, ◌≤◌, List, length, ◌++◌, ap, sym, subst, ◌∙◌, inl, inr, arith}
-use Rattle.std.specs.Prelude.{Result, Ok, Err, is_some, option_map}
+use Rattle.std.specs.Prelude.{IsSome, Option, None, Some, Result, Ok, Err, is_some, option_map}
 use Rattle.std.specs.Io.KnownBytes.{append_known}
 use Rattle.fugue_ids.specs.Causes.{Rose}
 use Rattle.fugue_ids.specs.Outs.{OutView, Took, spent}
 use Rattle.origin_model.specs.relay.Relay.{Relay, new_relay}
-use Rattle.outer_ports.specs.dock.Docks.{DockView, out_to}
+use Rattle.outer_ports.specs.dock.Docks.{DockTells, DockView, out_to}
 use Rattle.outer_ports.specs.declared.dock.mem_step.MemStep.{MemStep}
 use Rattle.relay_core.specs.declared.relay.TheConstants.{MOST_LOGGED}
+use Rattle.relay_sync.specs.Sending.{DockRisesFor}
 use Rattle.relay_sync.specs.Serving.{BlamesDock, Comes, GaveSteps, Lasts, NoneAfter, Serves, ServesPartly, ServingStops, Spends, StopsInTurn, Suffices, Turn, closed_in, count_over, ended_in, ends_behind, sent_to, steps_of}
 use Rattle.relay_sync.specs.declared.serve_fault.ServeFault.{ServeFault}
 use Rattle.relay_sync.specs.declared.serve_fault.ServeFault.TheVariants as serve_fault
-use Rattle.manuscript_cli.specs.Printing.{NoteMeets}
+use Rattle.manuscript_cli.proofs.TextLemmas.{told_blameless}
+use Rattle.manuscript_cli.specs.Printing.{NoteMeets, NotesBlameless}
 use Rattle.manuscript_cli.specs.Refusal.{line_of, serve_refusal, status_of, Told}
-use Rattle.manuscript_cli.specs.Relay.{CallsAreSure, IsEnough, IsIdle, NeverBlamed, OpeningMeets, RelayMeets, Relays, ServingMeets, listening, log_line, most_steps, ready_line}
-use Rattle.manuscript_cli.specs.Touched.{Change, HasRoom, StaysCalm, notes_room}
+use Rattle.manuscript_cli.specs.Relay.{CallsAreSure, IsEnough, IsIdle, NeverBlamed, RelayMeets, Relays, RiseOutside, ServingMeets, listening, log_line, most_steps, ready_line}
+use Rattle.manuscript_cli.specs.Touched.{Change, HasRoom, StaysCalm, change, notes_room}
 use Rattle.manuscript_cli.specs.declared.refusal.Refusal.{Refusal}
 use Rattle.manuscript_cli.specs.declared.refusal.Refusal.TheVariants as refusal
 use Rattle.manuscript_cli.specs.declared.status.Status.{Status}
@@ -181,34 +183,74 @@ module _ (port sessions : ℕ) (output : Change OutView) (dock : Change DockView
       dock_fault serve_fault.TooLong is = absurd (cc is)
       dock_fault serve_fault.NoMemory is = absurd (cc is)
 
--- the port was not listened on, or that was not said
-pub closed_blameless : {T : Type 0} (port sessions : ℕ) (output : Change OutView) (dock : Change DockView) (why : Refusal) → OpeningMeets port output dock (Err why) → NeverBlamed {T = T} sessions output dock (Err why)
-closed_blameless port sessions output dock refusal.Outside (inl failed) =
-    record { calm = λ s. failed.idle.calm (is_sure sessions dock.old s); sure = λ s has is. failed.not_sure (is_sure sessions dock.old s) }
-closed_blameless port sessions output dock refusal.Outside (inr failed) =
-    record { calm = λ s. failed.idle.calm (is_sure sessions dock.old s); sure = λ s has is. failed.no_room has }
-closed_blameless port sessions output dock _ meets = absurd meets
+-- a dock that tells does so once it listens
+still_tells : (port : ℕ) (old new : DockView) → IsIdle (listening port old) new → DockTells old → DockTells new
+still_tells port old new idle tells = record {
+  port = subst IsSome (sym idle.port) (some_port old.port tells.port);
+  taken = subst IsSome (sym idle.nothing_taken.taken) tells.taken;
+  coming = subst IsSome (sym idle.nothing_taken.coming) tells.coming;
+  sent = λ session. subst IsSome (sym (idle.nothing_sent.sent session)) (tells.sent session);
+  ended = subst IsSome (sym idle.ended) tells.ended;
+  ended_at = subst IsSome (sym idle.ended_at) tells.ended_at;
+}
+  where
+    some_port : (before : Option (Option ℕ)) → IsSome before → IsSome (option_map (λ b. Some port) before)
+    some_port None some = some
+    some_port (Some b) some = some
+
+-- what rose while a port was listened on and served
+module _ (port : ℕ) (output : Change OutView) (dock : Change DockView) (second : DockView) (idle : IsIdle (listening port dock.old) second)
+    (opened : RiseOutside {T = Unit {0}} output (change dock.old second) (Ok tt)) where
+  pub served_told : (logged : ℕ) → DockRisesFor ⊥ second dock.new → RiseOutside output dock (Ok logged)
+  served_told logged rises = record {
+    of_output = λ tells not. opened.of_output tells (λ is. cc is);
+    of_dock = λ tells not. rises.calm_told (still_tells port dock.old second idle tells) (λ blamed. blamed) ∙ opened.of_dock tells (λ is. cc is);
+  }
+
+  pub stopped_told : (fault : ServeFault) → DockRisesFor (fault ≡ serve_fault.DockFault) second dock.new → RiseOutside {T = ℕ} output dock (Err (serve_refusal fault))
+  stopped_told fault rises = record {
+    of_output = λ tells not. opened.of_output tells (λ is. cc is);
+    of_dock = λ tells not. rises.calm_told (still_tells port dock.old second idle tells) (λ blamed. not (ap (λ f. Err (serve_refusal f)) blamed)) ∙ opened.of_dock tells (λ is. cc is);
+  }
 
 -- from what was served to the ends of the command
 module _ (port sessions : ℕ) (output notes : Change OutView) (dock : Change DockView) (output_calm : StaysCalm (length ready_line) output.old output.new)
     (notes_calm : StaysCalm notes_room notes.old notes.new) where
   ends_so : (end : Status) → RelayMeets port sessions output notes dock end → (IsEnough sessions dock.old → dock.new.faults ≡ dock.old.faults)
-      → (IsEnough sessions dock.old → HasRoom (length ready_line) output.old → HasRoom notes_room notes.old → end ≢ status.OutsideFault) → Relays port sessions output notes dock end
-  ends_so end meets calm never = record { meets = meets; output_calm = output_calm; notes_calm = notes_calm; dock_calm = calm; never_outside = never }
-
-  pub relay_noted : (logged : ℕ) (end : Status) → ServingMeets port sessions output dock (Ok logged) → NeverBlamed sessions output dock (Ok logged) → NoteMeets (log_line logged) status.Done notes.old notes.new end
+      → (IsEnough sessions dock.old → HasRoom (length ready_line) output.old → HasRoom notes_room notes.old → end ≢ status.OutsideFault)
+      → {T : Type 0} (result : Result T Refusal) → RiseOutside output dock result → (end ≢ status.OutsideFault → result ≢ Err refusal.Outside) → NotesBlameless notes end
       → Relays port sessions output notes dock end
-  relay_noted logged end served blameless (inl noted) =
+  ends_so end meets calm never result rise outside notes_blameless = record {
+    meets = meets;
+    output_calm = output_calm;
+    notes_calm = notes_calm;
+    dock_calm = calm;
+    never_outside = never;
+    output_blameless = λ tells not. rise.of_output tells (outside not);
+    notes_blameless = notes_blameless;
+    dock_blameless = λ tells not. rise.of_dock tells (outside not);
+  }
+
+  pub relay_noted : (logged : ℕ) (end : Status) → ServingMeets port sessions output dock (Ok logged) → NeverBlamed sessions output dock (Ok logged) → RiseOutside output dock (Ok logged)
+      → NoteMeets (log_line logged) status.Done notes.old notes.new end → NotesBlameless notes end → Relays port sessions output notes dock end
+  relay_noted logged end served blameless rise (inl noted) notes_blameless =
       subst (Relays port sessions output notes dock) (sym noted.end_is)
-      (ends_so status.Done (record { logged = logged; served = served; noted = noted.took }) blameless.calm (λ s has notes_have is. cc is))
-  relay_noted logged end served blameless (inr failed) =
+      (ends_so status.Done (record { logged = logged; served = served; noted = noted.took }) blameless.calm (λ s has notes_have is. cc is)
+      (Ok logged) rise (λ not is. cc is) (subst (NotesBlameless notes) noted.end_is notes_blameless))
+  relay_noted logged end served blameless rise (inr failed) notes_blameless =
       subst (Relays port sessions output notes dock) (sym failed.end_is)
       (ends_so status.OutsideFault (inr (record { logged = logged; served = served; noted = failed.took; rose = failed.rose; no_room = failed.no_room })) blameless.calm
-      (λ s has notes_have is. failed.no_room notes_have))
+      (λ s has notes_have is. failed.no_room notes_have) (Ok logged) rise (λ not is. cc is) (subst (NotesBlameless notes) failed.end_is notes_blameless))
 
-  pub relay_stopped : (why : Refusal) → ServingMeets port sessions output dock (Err why) → NeverBlamed {T = ℕ} sessions output dock (Err why) → Told notes.old notes.new (line_of why)
-      → Relays port sessions output notes dock (status_of why)
-  relay_stopped refusal.Outside stops blameless told = ends_so status.OutsideFault (inl (record { stops = stops; noted = told })) blameless.calm (λ s has notes_have is. blameless.sure s has refl)
-  relay_stopped refusal.TooLong stops blameless told = ends_so status.Limit (record { stops = stops; noted = told }) blameless.calm (λ s has notes_have is. cc is)
-  relay_stopped refusal.NoMemory stops blameless told = ends_so status.NoMemory (record { stops = stops; noted = told }) blameless.calm (λ s has notes_have is. cc is)
-  relay_stopped _ stops blameless told = absurd stops
+  pub relay_stopped : (why : Refusal) → ServingMeets port sessions output dock (Err why) → NeverBlamed {T = ℕ} sessions output dock (Err why) → RiseOutside {T = ℕ} output dock (Err why)
+      → Told notes.old notes.new (line_of why) → Relays port sessions output notes dock (status_of why)
+  relay_stopped refusal.Outside stops blameless rise told =
+      ends_so status.OutsideFault (inl (record { stops = stops; noted = told })) blameless.calm (λ s has notes_have is. blameless.sure s has refl)
+      (Err refusal.Outside) rise (λ not is. not refl) (told_blameless refusal.Outside notes told)
+  relay_stopped refusal.TooLong stops blameless rise told =
+      ends_so status.Limit (record { stops = stops; noted = told }) blameless.calm (λ s has notes_have is. cc is)
+      (Err refusal.TooLong) rise (λ not is. cc is) (told_blameless refusal.TooLong notes told)
+  relay_stopped refusal.NoMemory stops blameless rise told =
+      ends_so status.NoMemory (record { stops = stops; noted = told }) blameless.calm (λ s has notes_have is. cc is)
+      (Err refusal.NoMemory) rise (λ not is. cc is) (told_blameless refusal.NoMemory notes told)
+  relay_stopped _ stops blameless rise told = absurd stops

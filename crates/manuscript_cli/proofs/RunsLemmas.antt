@@ -1,5 +1,5 @@
 -- Commands on one safe file, one after another: what each of them leaves, and so what all of them do.
-use Rattle.std.proofs.Common.{◌≡◌, inl, inr, ℕ, ◌+◌, ◌-◌, ◌<◌, List, [], ◌∷◌, ◌++◌, length, get_or, refl, ap, sym, subst, ◌∙◌, arith, append_assoc, length-append}
+use Rattle.std.proofs.Common.{◌≡◌, inl, inr, ℕ, ◌+◌, ◌-◌, List, [], ◌∷◌, ◌++◌, length, get_or, refl, ap, sym, subst, ◌∙◌, arith, append_assoc, length-append}
 use Rattle.std.specs.Prelude.{◌⊎◌, All, Option, Some, None, IfSome}
 use Rattle.std.proofs.lemmas.Bool.{cases_lt}
 use Rattle.std.proofs.lemmas.List.{append-nil, get_or_append_left, get_or-append_right}
@@ -8,17 +8,15 @@ use Rattle.fugue_ids.specs.declared.op.Op.{Op}
 use Rattle.origin_model.specs.files.Image.{Content}
 use Rattle.outer_ports.specs.disk.Disks.{DiskView}
 use Rattle.outer_ports.specs.disk.Moments.{History, LeavesOnly, LeftSince, moment, moments}
-use Rattle.outer_ports.specs.disk.States.{State, IsHonest, IsImage, at_rest}
+use Rattle.outer_ports.specs.disk.States.{State, IsHonest, IsImage}
 use Rattle.outer_ports.proofs.SharedLemmas.{last_leaves, leaves_joins, leaves_none, leaves_weaker}
 use Rattle.replica_file.proofs.AppendLemmas.{same_content}
 use Rattle.manuscript_cli.proofs.CrashLemmas.{has_one, safe_at_rest}
 use Rattle.manuscript_cli.specs.Crashes.{IsFinished, IsSafe, NeverTorn, StaysSafe}
 use Rattle.manuscript_cli.specs.Files.{HasOps, HasOpsOr, Header}
-use Rattle.manuscript_cli.specs.Run.{Meets}
-use Rattle.manuscript_cli.specs.Runs.{AllBrought, Brought, CommandRun, DidAll, EachFinishedIsIn, FollowEachOther, GaveBy, IsMeanwhile, LeadsFrom, StandsBehind}
-use Rattle.manuscript_cli.specs.Touched.{Change, Touched}
-use Rattle.manuscript_cli.specs.declared.command.Command.{Command}
-use Rattle.manuscript_cli.specs.declared.command.Command.TheVariants.{Show, New, Edit, Print, Take, Send, Merge, Relay, Sync, Bulk}
+use Rattle.manuscript_cli.specs.Run.{Family, Inventing, Making, MeetsAs, NoCommand, Reporting, Saving, Serving, Showing, family}
+use Rattle.manuscript_cli.specs.Runs.{AllBrought, Brought, CommandRun, DidAll, EachFinishedIsIn, FollowEachOther, GaveAs, GaveBy, IsMeanwhile, LeadsFrom, StandsBehind}
+use Rattle.manuscript_cli.specs.Touched.{Touched}
 use Rattle.manuscript_cli.specs.declared.status.Status.{Status}
 use Rattle.manuscript_cli.specs.declared.status.Status.TheVariants as status
 
@@ -120,18 +118,14 @@ module _ (old new : Touched) (end : Status) (began stood : History) (began_is : 
       let stands : Some stood ≡ Some began = sym stood_is ∙ ap (λ (d : DiskView). d.past) same ∙ began_is in
       ([], refl, still_went header ops more began stood safe (IsFinished end) (cc stands))
 
-  goes : (command : Option Command) → Meets command old new end → Goes (GaveBy command old new end)
-  goes None meets = unused (ap (λ (t : Touched). t.home) meets.others)
-  goes (Some (Show hold)) meets = unused (ap (λ (t : Touched). t.home) meets.others)
-  goes (Some (New replica hold)) meets = used (λ gave. gave ≡ []) meets.does.crash
-  goes (Some Edit) meets = used _ meets.does.crash
-  goes (Some Print) meets = used (λ gave. gave ≡ []) meets.writes.does.crash
-  goes (Some Take) meets = used _ meets.does.crash
-  goes (Some Send) meets = used (λ gave. gave ≡ []) meets.does.crash
-  goes (Some Merge) meets = used _ meets.does.crash
-  goes (Some (Relay port sessions)) meets = unused (ap (λ (t : Touched). t.home) meets.others)
-  goes (Some (Sync port cursor)) meets = used _ meets.does.crash
-  goes (Some (Bulk seed count)) meets = unused (ap (λ (t : Touched). t.home) meets.others)
+  goes : (family : Family) → MeetsAs family old new end → Goes (GaveAs family old new end)
+  goes NoCommand meets = unused (ap (λ (t : Touched). t.home) meets.others)
+  goes (Showing hold) meets = unused (ap (λ (t : Touched). t.home) meets.others)
+  goes (Making replica hold) meets = used (λ gave. gave ≡ []) meets.does.crash
+  goes (Saving saver) meets = used _ meets.does.crash
+  goes (Reporting text) meets = used (λ gave. gave ≡ []) meets.does.crash
+  goes (Serving port sessions) meets = unused (ap (λ (t : Touched). t.home) meets.others)
+  goes (Inventing seed count) meets = unused (ap (λ (t : Touched). t.home) meets.others)
 
 -- the file behind a run is safe, and each list that it may have is one that it might have had with what the run brought
 record Next (header : Header) (run : CommandRun) (ops more : List Op) (s : State) : Type 0 where
@@ -212,7 +206,7 @@ meanwhile_safe header ops more s t (inr crash) safe = subst (IsSafe header ops m
 
 run_next : (header : Header) (ops more : List Op) (run : CommandRun) (s t : State) → IsSafe header ops more s → LeadsFrom run s t → Next header run ops more t
 run_next header ops more run s t safe leads =
-    let went = goes run.old run.new run.end leads.began leads.stood leads.began_is leads.stood_is header ops more (subst (IsSafe header ops more) (sym leads.begins) safe) run.command run.meets in
+    let went = goes run.old run.new run.end leads.began leads.stood leads.began_is leads.stood_is header ops more (subst (IsSafe header ops more) (sym leads.begins) safe) (family run.command) run.meets in
     next header run ops more went.0 went.1 t leads.began leads.stood went.2 run.crash refl leads.behind
 
 -- whatever is left of a safe file behind some runs has one of its lists, and then what they brought

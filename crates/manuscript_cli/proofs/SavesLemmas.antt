@@ -11,7 +11,7 @@ use Rattle.manuscript_cli.specs.Files.{FileRefuses, KeepsFile, LoadFailed}
 use Rattle.manuscript_cli.specs.Findings.{Finding, Refuses, Does, IsDecided}
 use Rattle.manuscript_cli.specs.Printing.{NoteMeets}
 use Rattle.manuscript_cli.specs.Refusal.{line_of, status_of, Told}
-use Rattle.manuscript_cli.specs.Saving.{ComesToSave, FileIsRefused, Gave, Giver, GivingFailed, IsDone, Outcome, SaveFailed, SavesGiven, SavingFound, SavingMeets, SomeFails, Stopped, StopsSaving, outcome_status, room_needed}
+use Rattle.manuscript_cli.specs.Saving.{ComesToSave, FileIsRefused, Gave, Giver, GivesOnce, GivingFailed, IsDone, Outcome, SaveFailed, SavesGiven, SavingFound, SavingMeets, SomeFails, Stopped, StopsSaving, outcome_status, room_needed}
 use Rattle.manuscript_cli.specs.Touched.{Change, DiskStaysCalm, HasDiskRoom, HasRoom, IsTold, StaysCalm, notes_room}
 use Rattle.manuscript_cli.specs.declared.refusal.Refusal.{Refusal}
 use Rattle.manuscript_cli.specs.declared.refusal.Refusal.TheVariants as refusal
@@ -19,7 +19,7 @@ use Rattle.manuscript_cli.specs.declared.status.Status.{Status}
 use Rattle.manuscript_cli.specs.declared.status.Status.TheVariants as status
 use Rattle.manuscript_cli.proofs.CrashLemmas.{failed_never_torn, saved_never_torn, stopped_never_torn}
 use Rattle.manuscript_cli.proofs.FoundLemmas.{holds_or_refuses, refuses_once}
-use Rattle.manuscript_cli.proofs.GivenLemmas.{GivesOnce, found_once}
+use Rattle.manuscript_cli.proofs.GivenLemmas.{found_once}
 use Rattle.manuscript_cli.proofs.SavedLemmas.{some_room}
 
 -- a command that did all ends in no outside fault

@@ -1,6 +1,6 @@
--- An exchange with a relay: what was said, what was given to a loaded file by the reply, and that a reply gives one thing.
-use Rattle.std.proofs.Common.{List, [], ap, false, true, arith, inl, inr, length, length-append, refl, subst, sym, ℕ, ◌+◌, ◌++◌, ◌<◌, ◌^◌, ◌∙◌, ◌∷◌, ◌≡◌, ◌≢◌, ◌≤◌}
-use Rattle.std.specs.Prelude.{Err, IfSome, None, Ok, Option, Result, Some, decimal}
+-- An exchange with a relay: what was said, what the reply gives, and that it gives one thing.
+use Rattle.std.proofs.Common.{List, [], ap, arith, inl, inr, length, length-append, refl, subst, sym, ℕ, ◌+◌, ◌++◌, ◌<◌, ◌^◌, ◌∙◌, ◌∷◌, ◌≡◌, ◌≢◌, ◌≤◌}
+use Rattle.std.specs.Prelude.{Err, IfSome, None, Ok, Option, Some, decimal}
 use Rattle.std.proofs.lemmas.Fmt.{length-decimal-le}
 use Rattle.fugue_ids.specs.Causes.{Rose}
 use Rattle.fugue_ids.specs.Outs.{Took}
@@ -19,18 +19,18 @@ use Rattle.replica_core.specs.Keeping.{TakesIn, Taking, begun}
 use Rattle.origin_model.specs.edits.State.{State as Replica}
 use Rattle.replica_file.specs.declared.end.End.{End}
 use Rattle.manuscript_cli.specs.Counts.{cursor_line}
-use Rattle.manuscript_cli.specs.Files.{FileHolds, IsAppended, SaveMeets}
+use Rattle.manuscript_cli.specs.Files.{FileHolds}
 use Rattle.manuscript_cli.specs.Findings.{Finding, Refuses, Does}
+use Rattle.manuscript_cli.specs.Giving.{GivesTo}
 use Rattle.manuscript_cli.specs.Refusal.{sync_refusal}
-use Rattle.manuscript_cli.specs.Saving.{GivenMeets, Outcome}
-use Rattle.manuscript_cli.specs.Sync.{AnswerComes, ReplyGives, Speaks, SpeaksFor, reply, reply_to}
-use Rattle.manuscript_cli.specs.Take.{GivenCounted, noted_in, taken_in}
+use Rattle.manuscript_cli.specs.Saving.{GivesOnce, Outcome}
+use Rattle.manuscript_cli.specs.Sync.{AnswerComes, ReplyGives, Speaks, reply}
+use Rattle.manuscript_cli.specs.Take.{noted_in, taken_in}
 use Rattle.manuscript_cli.specs.Touched.{Change, change, notes_room}
 use Rattle.manuscript_cli.specs.declared.counts.Counts.{Counts}
-use Rattle.manuscript_cli.specs.declared.refusal.Refusal.{Refusal}
+use Rattle.manuscript_cli.specs.declared.counts.Note.TheVariants as note
 use Rattle.manuscript_cli.specs.declared.refusal.Refusal.TheVariants as refusal
-use Rattle.manuscript_cli.proofs.GivenLemmas.{GivesOnce}
-use Rattle.manuscript_cli.proofs.TakeLemmas.{taken_given, taken_not_saved}
+use Rattle.manuscript_cli.proofs.TakeLemmas.{taken_gives}
 use Rattle.manuscript_cli.proofs.TextLemmas.{whole_front}
 
 cursor_short : (cursor : ℕ) → cursor < 2 ^ 32 → length (cursor_line cursor) ≤ 18
@@ -39,10 +39,6 @@ cursor_short cursor fits = omega (arith, length-decimal-le 10 cursor (omega arit
 -- the counts of an exchange fit the notes
 pub exchange_short : (line : List ℕ) (cursor : ℕ) → cursor < 2 ^ 32 → length line + 18 ≤ notes_room → length (line ++ cursor_line cursor) ≤ notes_room
 exchange_short line cursor fits short = omega (arith, short, cursor_short cursor fits, length-append line (cursor_line cursor))
-
--- an error is not ok
-pub never_ok : false ≡ true → ⊥
-never_ok is = cc is
 
 -- what was said stays said while a reply is heard
 still_said : (old asked new : WireView) (text : List ℕ) → Took (out_of old) (out_of asked) text → new.said ≡ asked.said → new.room ≡ asked.room → Took (out_of old) (out_of new) text
@@ -76,12 +72,6 @@ module _ (port cursor : ℕ) (old new : WireView) (before after : Taking) (done 
     calm = calm;
   }
 
--- what was said, where less is known to be done
-pub speaks_weaker : (port cursor : ℕ) (home : DiskView) (wire : Change WireView) (done less : Type 0) → (less → done) → SpeaksFor port cursor home wire done → SpeaksFor port cursor home wire less
-speaks_weaker port cursor home wire done less leads (inl still) = inl (still.0, λ l. still.1 (leads l))
-speaks_weaker port cursor home wire done less leads (inr (replica, end, holds, speaks)) =
-    inr (replica, end, holds, record { front = speaks.front; no_other = speaks.no_other; whole = λ l. speaks.whole (leads l); dialled = λ l. speaks.dialled (leads l); heard = λ l. speaks.heard (leads l); calm = speaks.calm })
-
 -- the operations of a reply that was heard to its end
 pub reply_ops : (told : Option (List ℕ)) (before after : Taking) (end : ReplyEnd) (ops : List Op) → TakesIn before after ops → HeardTo told before after end
     → (all : List Op) × IfSome told (λ bytes. ReplyComes before.replica.hold before.replica.most before.replica.held bytes all end) × TakesIn before after all
@@ -94,52 +84,31 @@ cause_ops : (told : Option (List ℕ)) (before after : Taking) (end : ReplyEnd) 
 cause_ops None before after end heard = ([], tt)
 cause_ops (Some bytes) before after end heard = (heard.ops, heard.comes)
 
--- an exchange stopped
-pub reply_stops : (fault : SyncFault) (port cursor : ℕ) (replica : Replica) (kept : List Op) (after last : Taking) (end : End) (file : DiskView) (wire : Change WireView)
-    → Fails fault wire.old wire.new (begun replica kept) after port cursor → HeardUpTo fault wire.old.left (begun replica kept) last
+-- an exchange that stopped gives its refusal
+pub reply_gives_none : (fault : SyncFault) (port cursor : ℕ) (replica now : Replica) (kept : List Op) (after last : Taking) (end : End) (home : DiskView) (wire : Change WireView) (kept_after : Option (List Op))
+    → FileHolds home replica end → Fails fault wire.old wire.new (begun replica kept) after port cursor → HeardUpTo fault wire.old.left (begun replica kept) last
     → (fault ≡ sync_fault.WireFault → Rose wire.old.faults wire.new.faults) → (Fits (length (text_for cursor replica.held)) wire.old → fault ≢ sync_fault.WireFault)
-    → GivenMeets (reply_to cursor replica wire) replica end (change file file) (Err (sync_refusal fault))
-reply_stops sync_fault.WireFault port cursor replica kept after last end file wire fails heard rose sure = inl (rose refl, λ fits. sure fits refl, refl)
-reply_stops (sync_fault.BadReply k) port cursor replica kept after last end file wire fails heard rose sure = (inl (cause_ops wire.old.left (begun replica kept) last (Bad k) heard), refl)
-reply_stops (sync_fault.RelayRefused code) port cursor replica kept after last end file wire fails heard rose sure =
-    (inl (cause_ops wire.old.left (begun replica kept) last (Refused code) heard), refl)
-reply_stops (sync_fault.CutShort k) port cursor replica kept after last end file wire fails heard rose sure = (inl (cause_ops wire.old.left (begun replica kept) last (Cut k) heard), refl)
-reply_stops sync_fault.TooLong port cursor replica kept after last end file wire fails heard rose sure = (inl (cause_ops wire.old.left (begun replica kept) last TooLong heard), refl)
-reply_stops (sync_fault.TooMany most) port cursor replica kept after last end file wire fails heard rose sure =
+    → GivesTo (reply cursor home wire) replica now kept_after (Err (sync_refusal fault))
+reply_gives_none sync_fault.WireFault port cursor replica now kept after last end home wire kept_after holds fails heard rose sure = (rose refl, λ fits. sure (fits replica end holds) refl)
+reply_gives_none (sync_fault.BadReply k) port cursor replica now kept after last end home wire kept_after holds fails heard rose sure = cause_ops wire.old.left (begun replica kept) last (Bad k) heard
+reply_gives_none (sync_fault.RelayRefused code) port cursor replica now kept after last end home wire kept_after holds fails heard rose sure =
+    cause_ops wire.old.left (begun replica kept) last (Refused code) heard
+reply_gives_none (sync_fault.CutShort k) port cursor replica now kept after last end home wire kept_after holds fails heard rose sure = cause_ops wire.old.left (begun replica kept) last (Cut k) heard
+reply_gives_none sync_fault.TooLong port cursor replica now kept after last end home wire kept_after holds fails heard rose sure = cause_ops wire.old.left (begun replica kept) last TooLong heard
+reply_gives_none (sync_fault.TooMany most) port cursor replica now kept after last end home wire kept_after holds fails heard rose sure =
     let cause = cause_ops wire.old.left (begun replica kept) last TooMany heard in
-    (inl (elim fails [ inl asks ↦ absurd asks.cause | inr hear ↦ hear.hears.stops.1 ∙ ap (λ (r : Replica). r.most) hear.hears.takes.replica ], cause.0, cause.1), refl)
-reply_stops sync_fault.NoMemory port cursor replica kept after last end file wire fails heard rose sure = refl
+    (elim fails [ inl asks ↦ absurd asks.cause | inr hear ↦ hear.hears.stops.1 ∙ ap (λ (r : Replica). r.most) hear.hears.takes.replica ], cause.0, cause.1)
+reply_gives_none sync_fault.NoMemory port cursor replica now kept after last end home wire kept_after holds fails heard rose sure = tt
 
-module _ (cursor : ℕ) (replica now : Replica) (end : End) (file : Change DiskView) (wire : Change WireView) (tally : Tally) (kept kept_after : List Op) (none : kept ≡ []) (count : ℕ) (ops : List Op)
-    (comes : AnswerComes replica wire.old ops (Ended count)) (taken : TakesIn (begun replica kept) (record { replica = now; counts = tally; kept = kept_after }) ops) where
-  given : ReplyGives wire.old replica (Does (noted_in replica ops (Some count)))
-  given = (ops, count, comes, refl)
-
-  kept_are : kept_after ≡ (taken_in replica ops).saved
-  kept_are = taken.kept ∙ ap (λ (k : List Op). k ++ (taken_in replica ops).saved) none
-
-  -- a reply was taken in, and what was kept was saved
-  pub sync_given : (counts : Counts) → IsSettled replica.held → counts ≡ record { tally = tally; waiting = length now.held.waiting; cursor = Some count } → IsAppended end kept_after file
-      → GivenCounted (reply_to cursor replica wire) replica end file (Ok counts)
-  sync_given counts settled is appended =
-      taken_given (reply_to cursor replica wire) replica end file ops (Some count) given counts settled
-      (is ∙ (λ i. record { tally = taken.counts i; waiting = length (taken.replica i).held.waiting; cursor = Some count }))
-      (subst (λ (o : List Op). IsAppended end o file) kept_are appended)
-
-  -- what was kept was not saved
-  pub sync_not_saved : (why : Refusal) (saved : List Op) → saved ≡ kept_after → SaveMeets end saved file (Err why) → GivenMeets (reply_to cursor replica wire) replica end file (Err why)
-  sync_not_saved why saved same meets =
-      taken_not_saved (reply_to cursor replica wire) replica end file ops (Some count) given why (subst (λ (o : List Op). SaveMeets end o file (Err why)) (same ∙ kept_are) meets)
-
--- the reply to what the file's replica said
-pub reply_by_file : (cursor : ℕ) (replica : Replica) (end : End) (home : DiskView) (wire : Change WireView) (file : Change DiskView) → FileHolds home replica end → (result : Result Counts Refusal)
-    → GivenCounted (reply_to cursor replica wire) replica end file result → GivenCounted (reply cursor home wire) replica end file result
-reply_by_file cursor replica end home wire file holds (Ok counts) did = did
-reply_by_file cursor replica end home wire file holds (Err refusal.Outside) stopped = elim stopped [
-  | inl failed ↦ inl (failed.0, λ sure. failed.1 (sure replica end holds), failed.2)
-  | inr failed ↦ inr failed
-]
-reply_by_file cursor replica end home wire file holds (Err _) stopped = stopped
+-- a reply that was taken in gives its outcome
+pub reply_gives : (cursor : ℕ) (home : DiskView) (wire : Change WireView) (replica now : Replica) (tally : Tally) (kept kept_after : List Op) → kept ≡ [] → (count : ℕ) (ops : List Op)
+    → AnswerComes replica wire.old ops (Ended count) → TakesIn (begun replica kept) (record { replica = now; counts = tally; kept = kept_after }) ops
+    → (counts : Counts) → IsSettled replica.held → counts ≡ record { tally = tally; waiting = length now.held.waiting; cursor = Some count }
+    → GivesTo (reply cursor home wire) replica now (Some kept_after) (Ok (note.Counted counts))
+reply_gives cursor home wire replica now tally kept kept_after none count ops comes taken counts settled is =
+    taken_gives (reply cursor home wire) replica now ops (Some count) (ops, count, comes, refl) settled (Some kept_after)
+    (taken.kept ∙ ap (λ (k : List Op). k ++ (taken_in replica ops).saved) none) counts
+    (is ∙ (λ i. record { tally = taken.counts i; waiting = length (taken.replica i).held.waiting; cursor = Some count }))
 
 -- what a reply gives that comes to an end
 abbrev reply_finding : Replica → List Op → ReplyEnd → Finding Outcome

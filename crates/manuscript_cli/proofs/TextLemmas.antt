@@ -1,13 +1,14 @@
 -- Lines that are written to the notes, and sure objects with room for them.
-use Rattle.std.proofs.Common.{◌≡◌, inr, ℕ, ◌≤◌, List, length, take, sym, subst, arith}
+use Rattle.std.proofs.Common.{◌≡◌, inl, inr, refl, ℕ, ◌≤◌, List, length, take, sym, subst, arith}
 use Rattle.std.specs.Prelude.{Result, Ok, Err, IfSome}
 use Rattle.std.proofs.lemmas.List.{take_all}
 use Rattle.fugue_ids.proofs.JoinLemmas.{took_joins}
 use Rattle.fugue_ids.specs.Outs.{OutView, IsSure, Took, TookFront, WritesText}
 use Rattle.fugue_ids.specs.declared.failed.Failed.{Failed}
-use Rattle.manuscript_cli.specs.Printing.{NoteMeets}
+use Rattle.manuscript_cli.specs.Printing.{NoteMeets, NotesBlameless}
 use Rattle.manuscript_cli.specs.Refusal.{Told, TookFronts, line_of, status_of}
-use Rattle.manuscript_cli.specs.Touched.{HasRoom, StaysCalm, notes_room}
+use Rattle.manuscript_cli.specs.Touched.{Change, HasRoom, StaysCalm, notes_room}
+use Rattle.manuscript_cli.specs.declared.refusal.Refusal.{Refusal}
 use Rattle.manuscript_cli.specs.declared.refusal.Refusal.TheVariants as refusal
 use Rattle.manuscript_cli.specs.declared.status.Status.{Status}
 
@@ -38,6 +39,7 @@ line_told (Ok x) old new line wrote short = record {
   front = whole_front old new line wrote.ok;
   sure = λ has. (text_stays_calm (Ok x) old new line (length line) wrote (omega arith) has, wrote.ok);
   calm = text_stays_calm (Ok x) old new line notes_room wrote short;
+  exact = λ tells. inl (wrote.calm_told tells);
 }
 line_told (Err e) old new line wrote short = record {
   later = wrote.cause.later;
@@ -45,7 +47,13 @@ line_told (Err e) old new line wrote short = record {
   front = wrote.err;
   sure = λ has. absurd (text_has_no_room e old new line (length line) wrote (omega arith) has);
   calm = text_stays_calm (Err e) old new line notes_room wrote short;
+  exact = λ tells. inr wrote.cause.failed;
 }
+
+-- the notes' count rose only where the refusal's line was not written
+pub told_blameless : (why : Refusal) (notes : Change OutView) → Told notes.old notes.new (line_of why) → NotesBlameless notes (status_of why)
+told_blameless why notes told tells not =
+    elim (told.exact tells) [ inl same ↦ inl same | inr rose ↦ inr (record { why = why; end_is = refl; front = told.front; rose = rose }) ]
 
 -- a line did not go out whole, and behind it another did or did not
 pub fronts_joined : (old mid new : OutView) (first second : List ℕ) → TookFront old mid first → TookFront mid new second → TookFronts old new first second

@@ -3,7 +3,7 @@ use Rattle.std.specs.Prelude.{◌≢◌, ℕ, length}
 use Rattle.fugue_ids.specs.Causes.{Rose}
 use Rattle.fugue_ids.specs.Outs.{OutView}
 use Rattle.bulk_world.specs.Summary.{bulk_text}
-use Rattle.manuscript_cli.specs.FileOut.{WritesOut}
+use Rattle.manuscript_cli.specs.TextOut.{WritesOut}
 use Rattle.manuscript_cli.specs.Findings.{IsDecided}
 use Rattle.manuscript_cli.specs.Touched.{Change, HasRoom}
 use Rattle.manuscript_cli.specs.declared.status.Status.{Status}

@@ -1,5 +1,5 @@
 -- Which words ask for which command. Words are lists of bytes.
-use Rattle.std.specs.Prelude.{◌≡◌, ◌≢◌, ◌⊎◌, ℕ, List, [], ◌∷◌, codes, Option, Some, None, IfSome}
+use Rattle.std.specs.Prelude.{◌≡◌, ◌≢◌, ◌⊎◌, ℕ, ◌≤◌, List, [], ◌∷◌, codes, Option, Some, None, IfSome}
 use Rattle.fugue_ids.specs.declared.limits.TheConstants.{GREATEST_HOLD}
 use Rattle.outer_ports.specs.declared.disk.file_disk.Opening.{Opening}
 use Rattle.outer_ports.specs.declared.disk.file_disk.Opening.TheVariants.{Reading, Writing, Creating}
@@ -77,6 +77,17 @@ Names words Merge = NamesMerge words
 Names words (Relay port sessions) = NamesRelay words port sessions
 Names words (Sync port cursor) = NamesSync words port cursor
 Names words (Bulk seed count) = NamesBulk words seed count
+
+-- a number of operations that may wait
+pub record IsHold (hold : ℕ) : Type 0 where
+  pub from : 1 ≤ hold
+  pub to : hold ≤ GREATEST_HOLD
+
+-- the numbers of a command that words ask for are in their ranges
+abbrev pub IsInRange : Command → Type 0
+IsInRange (Show hold) = IsHold hold
+IsInRange (New replica hold) = (1 ≤ replica) × IsHold hold
+IsInRange _ = Unit {0}
 
 -- the command that the words ask for: None, where they ask for none
 pub record IsCommand (words : List (List ℕ)) (command : Option Command) : Type 0 where

@@ -1,4 +1,4 @@
--- The line of notes that says what became of the operations, and the status that they lead to.
+-- The lines of notes that say what became of operations, and the status that they lead to.
 use Rattle.std.specs.Prelude.{ℕ, Bool, List, [], ◌∷◌, ◌++◌, Option, Some, None, flat_map, codes, decimal, nat_eq, ◌&&◌, if◌then◌else◌}
 use Rattle.origin_model.specs.declared.taking.tally.Tally.{Tally}
 use Rattle.manuscript_cli.specs.declared.status.Status.{Status}
@@ -23,6 +23,10 @@ cursor_line cursor = codes "cursor " ++ decimal cursor ++ 10 ∷ []
 abbrev pub counts_text : Tally → ℕ → Option ℕ → List ℕ
 counts_text tally waiting None = counts_line tally waiting
 counts_text tally waiting (Some cursor) = counts_line tally waiting ++ cursor_line cursor
+
+-- the line that says how many operations a script made
+abbrev pub made_line : ℕ → List ℕ
+made_line count = codes "made " ++ decimal count ++ 10 ∷ []
 
 -- nothing waits, and nothing was refused but repeats
 abbrev pub is_done : Tally → ℕ → Bool

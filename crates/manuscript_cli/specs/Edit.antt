@@ -1,5 +1,5 @@
 -- The command `edit`: a script is run on a file's replica, and what it made is saved.
-use Rattle.std.specs.Prelude.{◌≡◌, ◌≢◌, ◌⊎◌, ℕ, ◌<◌, ◌≤◌, List, [], ◌∷◌, ◌++◌, length, true, Some, IfSome, Result, Ok, Err, codes, decimal}
+use Rattle.std.specs.Prelude.{◌≡◌, ◌≢◌, ◌⊎◌, ℕ, ◌<◌, ◌≤◌, List, ◌++◌, length, true, Some, IfSome}
 use Rattle.fugue_ids.specs.Causes.{Rose}
 use Rattle.fugue_ids.specs.declared.op.Op.{Op}
 use Rattle.origin_model.specs.operations.History.{accepted}
@@ -8,20 +8,15 @@ use Rattle.edit_script.specs.declared.fault.ScriptFault.TheVariants as script_fa
 use Rattle.edit_script.specs.declared.script.TheConstants.{LONGEST_SCRIPT}
 use Rattle.edit_script.specs.Scripts.{RunsWhole, StopsAt}
 use Rattle.outer_ports.specs.Sources.{SourceView}
-use Rattle.outer_ports.specs.disk.Disks.{DiskView}
 use Rattle.origin_model.specs.edits.State.{State as Replica}
-use Rattle.replica_file.specs.declared.end.End.{End}
+use Rattle.manuscript_cli.specs.Counts.{made_line}
 use Rattle.manuscript_cli.specs.Findings.{Finding, Refuses, Does}
 use Rattle.manuscript_cli.specs.Refusal.{script_refusal}
-use Rattle.manuscript_cli.specs.Saving.{ComesToSave, GivenMeets, Giver, Outcome}
+use Rattle.manuscript_cli.specs.Saving.{Giver, Outcome}
 use Rattle.manuscript_cli.specs.Touched.{Change}
 use Rattle.manuscript_cli.specs.declared.refusal.Refusal.{Refusal}
 use Rattle.manuscript_cli.specs.declared.refusal.Refusal.TheVariants as refusal
 use Rattle.manuscript_cli.specs.declared.status.Status.TheVariants as status
-
--- the line of the notes that says how many operations a script made
-abbrev pub made_line : ℕ → List ℕ
-made_line count = codes "made " ++ decimal count ++ 10 ∷ []
 
 -- what comes of operations that a script made, by which it came to this replica
 abbrev pub made_outcome : Replica → List Op → Outcome
@@ -66,18 +61,3 @@ script input = record {
   Failed = Rose input.old.faults input.new.faults;
   Sure = input.old.sure ≡ true;
 }
-
--- the number of operations that a script made is that of its outcome
-pub record HasMade (count : ℕ) (outcome : Outcome) : Type 0 where
-  pub line_is : outcome.line ≡ made_line count
-  pub status_is : outcome.status ≡ status.Done
-
--- what was given to a file that is loaded, as the number tells it
-abbrev pub GivenMade : Giver → Replica → End → Change DiskView → Result ℕ Refusal → Type 0
-GivenMade giver replica end file (Ok count) = (outcome : Outcome) × HasMade count outcome × GivenMeets giver replica end file (Ok outcome)
-GivenMade giver replica end file (Err why) = GivenMeets giver replica end file (Err why)
-
--- what was given and saved, as the number tells it
-abbrev pub SavesMade : Giver → Change DiskView → Result ℕ Refusal → Type 0
-SavesMade giver file (Ok count) = (outcome : Outcome) × HasMade count outcome × ComesToSave giver file (Ok outcome)
-SavesMade giver file (Err why) = ComesToSave giver file (Err why)

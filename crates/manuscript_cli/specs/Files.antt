@@ -15,9 +15,10 @@ use Rattle.replica_file.specs.Load.{AnswerIs, Loads}
 use Rattle.replica_file.specs.Loading.{IsReady}
 use Rattle.replica_file.specs.declared.end.End.{End}
 use Rattle.replica_file.specs.declared.load_fault.LoadFault.TheVariants as load_fault
-use Rattle.manuscript_cli.specs.Touched.{Change, DiskStaysCalm, HasDiskRoom}
+use Rattle.manuscript_cli.specs.Touched.{Change, DiskBlameless, DiskStaysCalm, HasDiskRoom}
 use Rattle.manuscript_cli.specs.declared.refusal.Refusal.{Refusal}
 use Rattle.manuscript_cli.specs.declared.refusal.Refusal.TheVariants.{NotReplica, BadBatch, BatchTooLong, NoMemory, Outside, TooMany}
+use Rattle.manuscript_cli.specs.declared.status.Status.{Status}
 
 -- the file, where it is told, is loaded as this replica, and its meaning ends there
 abbrev pub FileHolds : DiskView → Replica → End → Type 0
@@ -40,6 +41,11 @@ pub record KeepsFile (file : Change DiskView) : Type 0 where
   pub past : (file.new.past ≡ after settled file.old.past) ⊎ (file.new.past ≡ file.old.past)
   pub moments : IfSome file.old.past (λ h. LeavesOnlyTo h file.new.past (MayLeave h))
   pub calm : DiskStaysCalm 1 file
+
+-- a file that was only read is left so
+pub record LeavesFile (file : Change DiskView) (end : Status) : Type 0 where
+  pub keeps : KeepsFile file
+  pub blameless : DiskBlameless file end
 
 -- the file was loaded, and a batch can be appended at the end of its meaning
 pub record IsLoaded (file : Change DiskView) (replica : Replica) (end : End) : Type 0 where

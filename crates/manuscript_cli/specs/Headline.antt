@@ -1,14 +1,19 @@
--- What `show` promises of a stream whose bytes are told.
+-- What `show` promises of a stream whose bytes are told, and `print` of a file that is.
 use Rattle.std.specs.Prelude.{◌≡◌, ◌≢◌, ◌⊎◌, ℕ, ◌≤◌, List, length, Some}
 use Rattle.fugue_ids.specs.Causes.{Rose}
+use Rattle.fugue_ids.specs.Outs.{OutView}
 use Rattle.fugue_ids.specs.declared.op.Op.{Op}
 use Rattle.origin_model.specs.frames.Frames.{Reads, Whole as EndsWhole}
 use Rattle.origin_model.specs.taking.Taking.{HasPlace, held, nothing}
 use Rattle.op_frame.specs.Courses.{Course, Whole, CutShort, BadFrame, TooLong, TooMany}
 use Rattle.fugue_ids.specs.declared.limits.TheConstants.{MOST_OPERATIONS, STREAM_LIMIT}
+use Rattle.outer_ports.specs.disk.Disks.{DiskView}
+use Rattle.origin_model.specs.edits.State.{State as Replica}
+use Rattle.replica_file.specs.declared.end.End.{End}
+use Rattle.manuscript_cli.specs.Files.{FileHolds}
 use Rattle.manuscript_cli.specs.Printing.{PrintedBySet}
 use Rattle.manuscript_cli.specs.Show.{ComesTo, Showed, status_after}
-use Rattle.manuscript_cli.specs.Touched.{Streams, change}
+use Rattle.manuscript_cli.specs.Touched.{Change, IsTold, Streams, change}
 use Rattle.manuscript_cli.specs.declared.status.Status.{Status}
 use Rattle.manuscript_cli.specs.declared.status.Status.TheVariants as status
 
@@ -50,3 +55,8 @@ abbrev pub IsDecided : (hold : ℕ) → Streams → Streams → Status → Type 
 IsDecided hold old new end =
     (bytes : List ℕ) (ops : List Op) (course : Course) → old.input.left ≡ Some bytes → ComesTo hold bytes ops course
     → (end ≡ status_for hold ops course) ⊎ (end ≡ status.NoMemory) ⊎ ((end ≡ status.OutsideFault) × MetFault old new course)
+
+-- what was printed of a file that is told is fixed by the set of the operations that its replica accepted
+abbrev pub PrintsBySet : DiskView → (output : Change OutView) → Status → Type 0
+PrintsBySet home output end =
+    end ≡ status.Done → IsTold home → (replica : Replica) (at : End) → FileHolds home replica at → PrintedBySet replica.held.history output

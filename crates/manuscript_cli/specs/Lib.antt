@@ -11,13 +11,16 @@ pub mod Headline
 pub mod Findings
 pub mod Files
 pub mod Crashes
-pub mod FileOut
+pub mod TextOut
+pub mod Report
 pub mod New
 pub mod Saving
 pub mod Take
 pub mod Merge
 pub mod Sync
 pub mod Edit
+pub mod Giving
+pub mod Savers
 pub mod Relay
 pub mod Bulk
 pub mod Run

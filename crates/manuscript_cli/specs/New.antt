@@ -8,8 +8,9 @@ use Rattle.outer_ports.specs.disk.Moments.{LeavesOnlyTo, MayHaveWritten, MayLeav
 use Rattle.outer_ports.specs.disk.States.{at_rest}
 use Rattle.manuscript_cli.specs.Crashes.{IsSafe, NeverTorn}
 use Rattle.manuscript_cli.specs.Files.{bytes_of}
+use Rattle.manuscript_cli.specs.Printing.{NotesBlameless}
 use Rattle.manuscript_cli.specs.Refusal.{line_of, Told}
-use Rattle.manuscript_cli.specs.Touched.{Change, DiskStaysCalm, HasDiskRoom, StaysCalm, notes_room}
+use Rattle.manuscript_cli.specs.Touched.{Change, DiskBlameless, DiskStaysCalm, HasDiskRoom, StaysCalm, notes_room}
 use Rattle.manuscript_cli.specs.declared.refusal.Refusal.TheVariants as refusal
 use Rattle.manuscript_cli.specs.declared.status.Status.{Status}
 use Rattle.manuscript_cli.specs.declared.status.Status.TheVariants as status
@@ -63,3 +64,5 @@ pub record Creates (replica hold : ℕ) (home : Change DiskView) (notes : Change
   pub home_calm : DiskStaysCalm 14 home
   pub notes_calm : StaysCalm notes_room notes.old notes.new
   pub never_outside : HasDiskRoom 14 home.old → end ≢ status.OutsideFault
+  pub home_blameless : DiskBlameless home end
+  pub notes_blameless : NotesBlameless notes end

@@ -1,7 +1,7 @@
 -- What printing does at each of its ends.
-use Rattle.std.specs.Prelude.{◌≡◌, ◌⊎◌, ℕ, List, length}
+use Rattle.std.specs.Prelude.{◌≡◌, ◌≢◌, ◌⊎◌, ℕ, List, length}
 use Rattle.fugue_ids.specs.Causes.{Rose}
-use Rattle.fugue_ids.specs.Outs.{OutView, Took, TookFront}
+use Rattle.fugue_ids.specs.Outs.{OutTells, OutView, Took, TookFront}
 use Rattle.fugue_ids.specs.declared.op.Op.{Op}
 use Rattle.origin_model.specs.operations.Verdict.{Lawful}
 use Rattle.origin_model.specs.order.Laws.{SameOps}
@@ -9,8 +9,9 @@ use Rattle.origin_model.specs.order.Printed.{manuscript}
 use Rattle.origin_model.specs.taking.Taking.{Held}
 use Rattle.origin_model.specs.declared.taking.tally.Tally.{Tally}
 use Rattle.manuscript_cli.specs.Counts.{counts_line, status_by}
-use Rattle.manuscript_cli.specs.Refusal.{line_of, Told, TookFronts}
+use Rattle.manuscript_cli.specs.Refusal.{line_of, status_of, Told, TookFronts}
 use Rattle.manuscript_cli.specs.Touched.{Change, HasRoom, notes_room}
+use Rattle.manuscript_cli.specs.declared.refusal.Refusal.{Refusal}
 use Rattle.manuscript_cli.specs.declared.refusal.Refusal.TheVariants as refusal
 use Rattle.manuscript_cli.specs.declared.status.Status.{Status}
 use Rattle.manuscript_cli.specs.declared.status.Status.TheVariants as status
@@ -30,6 +31,18 @@ pub record NotNoted (line : List ℕ) (old new : OutView) (end : Status) : Type 
 -- the line was written and the status answered, or the notes failed
 abbrev pub NoteMeets : (line : List ℕ) (status : Status) → OutView → OutView → Status → Type 0
 NoteMeets line status old new end = Noted line status old new end ⊎ NotNoted line old new end
+
+-- a refusal's line could not be written: the refusal keeps its status
+pub record NotTold (notes : Change OutView) (end : Status) : Type 0 where
+  pub why : Refusal
+  pub end_is : end ≡ status_of why
+  pub front : TookFront notes.old notes.new (line_of why)
+  pub rose : Rose notes.old.faults notes.new.faults
+
+-- the notes' count of faults rises with an outside fault alone, where they tell, and but for the line of a refusal
+abbrev pub NotesBlameless : Change OutView → Status → Type 0
+NotesBlameless notes end =
+    OutTells notes.old → end ≢ status.OutsideFault → (notes.new.faults ≡ notes.old.faults) ⊎ NotTold notes end
 
 -- the manuscript was written, and the counts noted or not
 pub record Printed (state : Held) (counts : Tally) (output output' notes notes' : OutView) (end : Status) : Type 0 where

@@ -1,7 +1,7 @@
 -- What a refusal answers, and the line that it writes to the notes.
-use Rattle.std.specs.Prelude.{◌≡◌, ℕ, ◌≤◌, List, [], ◌∷◌, ◌++◌, length, take, codes, Option, Some, None, decimal}
+use Rattle.std.specs.Prelude.{◌≡◌, ◌⊎◌, ℕ, ◌≤◌, List, [], ◌∷◌, ◌++◌, length, take, codes, Option, Some, None, decimal}
 use Rattle.fugue_ids.specs.Causes.{Rose}
-use Rattle.fugue_ids.specs.Outs.{OutView, Took, TookFront}
+use Rattle.fugue_ids.specs.Outs.{OutTells, OutView, Took, TookFront}
 use Rattle.op_frame.specs.declared.fault.FrameFault.{FrameFault}
 use Rattle.op_frame.specs.declared.fault.FrameFault.TheVariants as frame_fault
 use Rattle.replica_core.specs.declared.feed_fault.FeedFault.{FeedFault}
@@ -24,59 +24,44 @@ use Rattle.manuscript_cli.specs.declared.refusal.Refusal.TheVariants.{Words, Bad
 use Rattle.manuscript_cli.specs.declared.status.Status.{Status}
 use Rattle.manuscript_cli.specs.declared.status.Status.TheVariants as status
 
+-- what is told of a refusal: the status that it answers, and the words of its line with the number behind them, where there is one
+pub record Row : Type 0 where
+  pub status : Status
+  pub words : List ℕ
+  pub number : Option ℕ
+
+abbrev row : Status → List ℕ → Option ℕ → Row
+row status words number = record { status = status; words = words; number = number }
+
+-- the table of all refusals
+abbrev pub row_of : Refusal → Row
+row_of Words = row status.Usage (codes "words not understood") None
+row_of (BadFrame offset) = row status.BadInput (codes "bad frame at byte ") (Some offset)
+row_of (CutShort offset) = row status.BadInput (codes "cut short at byte ") (Some offset)
+row_of (BadLine line) = row status.BadInput (codes "bad line ") (Some line)
+row_of (NoSection line) = row status.BadInput (codes "no section at line ") (Some line)
+row_of (OutOfRange line) = row status.BadInput (codes "out of range at line ") (Some line)
+row_of NotReplica = row status.BadFile (codes "not a replica") None
+row_of (BadBatch slot) = row status.BadFile (codes "bad batch ") (Some slot)
+row_of NotEmpty = row status.BadFile (codes "not empty") None
+row_of (TooMany count) = row status.Limit (codes "too many: ") (Some count)
+row_of (IdsSpent count) = row status.Limit (codes "ids spent: ") (Some count)
+row_of TooLong = row status.Limit (codes "too long") None
+row_of BatchTooLong = row status.Limit (codes "batch too long") None
+row_of (BadReply offset) = row status.BadInput (codes "bad reply at byte ") (Some offset)
+row_of (RelayRefused code) = row status.BadInput (codes "relay refused ") (Some code)
+row_of (ReplyCutShort offset) = row status.BadInput (codes "reply cut short at byte ") (Some offset)
+row_of Outside = row status.OutsideFault (codes "outside fault") None
+row_of NoMemory = row status.NoMemory (codes "no memory") None
+
 abbrev pub status_of : Refusal → Status
-status_of Words = status.Usage
-status_of (BadFrame offset) = status.BadInput
-status_of (CutShort offset) = status.BadInput
-status_of (BadLine line) = status.BadInput
-status_of (NoSection line) = status.BadInput
-status_of (OutOfRange line) = status.BadInput
-status_of NotReplica = status.BadFile
-status_of (BadBatch slot) = status.BadFile
-status_of NotEmpty = status.BadFile
-status_of (TooMany count) = status.Limit
-status_of (IdsSpent count) = status.Limit
-status_of TooLong = status.Limit
-status_of BatchTooLong = status.Limit
-status_of (BadReply offset) = status.BadInput
-status_of (RelayRefused code) = status.BadInput
-status_of (ReplyCutShort offset) = status.BadInput
-status_of Outside = status.OutsideFault
-status_of NoMemory = status.NoMemory
+status_of refusal = (row_of refusal).status
 
 abbrev pub words_of : Refusal → List ℕ
-words_of Words = codes "words not understood"
-words_of (BadFrame offset) = codes "bad frame at byte "
-words_of (CutShort offset) = codes "cut short at byte "
-words_of (BadLine line) = codes "bad line "
-words_of (NoSection line) = codes "no section at line "
-words_of (OutOfRange line) = codes "out of range at line "
-words_of NotReplica = codes "not a replica"
-words_of (BadBatch slot) = codes "bad batch "
-words_of NotEmpty = codes "not empty"
-words_of (TooMany count) = codes "too many: "
-words_of (IdsSpent count) = codes "ids spent: "
-words_of TooLong = codes "too long"
-words_of BatchTooLong = codes "batch too long"
-words_of (BadReply offset) = codes "bad reply at byte "
-words_of (RelayRefused code) = codes "relay refused "
-words_of (ReplyCutShort offset) = codes "reply cut short at byte "
-words_of Outside = codes "outside fault"
-words_of NoMemory = codes "no memory"
+words_of refusal = (row_of refusal).words
 
 abbrev pub number_of : Refusal → Option ℕ
-number_of (BadFrame offset) = Some offset
-number_of (CutShort offset) = Some offset
-number_of (BadLine line) = Some line
-number_of (NoSection line) = Some line
-number_of (OutOfRange line) = Some line
-number_of (BadBatch slot) = Some slot
-number_of (TooMany count) = Some count
-number_of (IdsSpent count) = Some count
-number_of (BadReply offset) = Some offset
-number_of (RelayRefused code) = Some code
-number_of (ReplyCutShort offset) = Some offset
-number_of _ = None
+number_of refusal = (row_of refusal).number
 
 abbrev pub number_text : Option ℕ → List ℕ
 number_text None = []
@@ -150,6 +135,8 @@ pub record Told (old new : OutView) (line : List ℕ) : Type 0 where
   pub front : TookFront old new line
   pub sure : HasRoom (length line) old → (new.faults ≡ old.faults) × Took old new line
   pub calm : StaysCalm notes_room old new
+  -- an object that tells counts a fault only where the line is not whole
+  pub exact : OutTells old → (new.faults ≡ old.faults) ⊎ Rose old.faults new.faults
 
 -- a front of one line went out, behind it a front of another, and nothing else
 pub record TookFronts (old new : OutView) (first second : List ℕ) : Type 0 where

@@ -1,15 +1,16 @@
 -- The command `relay`: it listens on a port, and serves the sessions of others with a relay that is new.
 use Rattle.std.specs.Prelude.{◌≡◌, ◌≢◌, ◌⊎◌, ℕ, ◌<◌, ◌≤◌, List, [], ◌∷◌, ◌++◌, length, Some, Result, Ok, Err, is_some, true, codes, decimal, option_map}
 use Rattle.fugue_ids.specs.Causes.{Rose}
-use Rattle.fugue_ids.specs.Outs.{OutView, Took, TookFront}
+use Rattle.fugue_ids.specs.Outs.{OutTells, OutView, Took, TookFront}
 use Rattle.origin_model.specs.relay.Relay.{Relay, new_relay}
-use Rattle.outer_ports.specs.dock.Docks.{DockView, SendsNothing, TakesNothing}
+use Rattle.outer_ports.specs.dock.Docks.{DockTells, DockView, SendsNothing, TakesNothing}
 use Rattle.relay_core.specs.declared.relay.TheConstants.{MOST_LOGGED}
 use Rattle.relay_sync.specs.Serving.{NoneAfter, Serves, ServingStops, Suffices, Turn, count_over}
 use Rattle.relay_sync.specs.declared.serve_fault.ServeFault.{ServeFault}
 use Rattle.relay_sync.specs.declared.serve_fault.ServeFault.TheVariants as serve_fault
+use Rattle.manuscript_cli.specs.Printing.{NotesBlameless}
 use Rattle.manuscript_cli.specs.Refusal.{line_of, Told, TookFronts}
-use Rattle.manuscript_cli.specs.Touched.{Change, HasRoom, StaysCalm, notes_room}
+use Rattle.manuscript_cli.specs.Touched.{Change, DockBlameless, HasRoom, OutBlameless, StaysCalm, notes_room}
 use Rattle.manuscript_cli.specs.declared.refusal.Refusal.{Refusal}
 use Rattle.manuscript_cli.specs.declared.refusal.Refusal.TheVariants as refusal
 use Rattle.manuscript_cli.specs.declared.status.Status.{Status}
@@ -113,6 +114,11 @@ pub record NeverBlamed {T : Type 0} (sessions : ℕ) (output : Change OutView) (
   pub calm : IsEnough sessions dock.old → dock.new.faults ≡ dock.old.faults
   pub sure : IsEnough sessions dock.old → HasRoom (length ready_line) output.old → result ≢ Err refusal.Outside
 
+-- of an output and a dock that tell, the counts rise with an outside fault alone
+pub record RiseOutside {T : Type 0} (output : Change OutView) (dock : Change DockView) (result : Result T Refusal) : Type 0 where
+  pub of_output : OutTells output.old → result ≢ Err refusal.Outside → output.new.faults ≡ output.old.faults
+  pub of_dock : DockTells dock.old → result ≢ Err refusal.Outside → dock.new.faults ≡ dock.old.faults
+
 -- all was served, and noted
 pub record Finished (port sessions : ℕ) (output notes : Change OutView) (dock : Change DockView) : Type 0 where
   pub logged : ℕ
@@ -150,3 +156,6 @@ pub record Relays (port sessions : ℕ) (output notes : Change OutView) (dock : 
   pub dock_calm : IsEnough sessions dock.old → dock.new.faults ≡ dock.old.faults
   -- and where all are, no outside fault comes
   pub never_outside : IsEnough sessions dock.old → HasRoom (length ready_line) output.old → HasRoom notes_room notes.old → end ≢ status.OutsideFault
+  pub output_blameless : OutBlameless output end
+  pub notes_blameless : NotesBlameless notes end
+  pub dock_blameless : DockBlameless dock end

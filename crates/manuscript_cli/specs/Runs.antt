@@ -4,25 +4,22 @@ use Rattle.fugue_ids.specs.declared.op.Op.{Op}
 use Rattle.outer_ports.specs.disk.Moments.{History, LeftSince, moment}
 use Rattle.outer_ports.specs.disk.States.{State, IsHonest, IsImage, at_rest}
 use Rattle.manuscript_cli.specs.Crashes.{IsFinished}
-use Rattle.manuscript_cli.specs.Edit.{script}
 use Rattle.manuscript_cli.specs.Files.{HasOps}
-use Rattle.manuscript_cli.specs.Run.{Meets}
+use Rattle.manuscript_cli.specs.Run.{Family, Meets, Saving, family}
 use Rattle.manuscript_cli.specs.Saving.{Gave}
-use Rattle.manuscript_cli.specs.Sync.{reply}
-use Rattle.manuscript_cli.specs.Take.{other_file, stream}
-use Rattle.manuscript_cli.specs.Touched.{Touched, change}
+use Rattle.manuscript_cli.specs.Touched.{Touched}
 use Rattle.manuscript_cli.specs.declared.command.Command.{Command}
-use Rattle.manuscript_cli.specs.declared.command.Command.TheVariants.{New, Edit, Take, Merge, Sync}
+use Rattle.manuscript_cli.specs.declared.command.Command.TheVariants.{New}
 use Rattle.manuscript_cli.specs.declared.status.Status.{Status}
 use Rattle.manuscript_cli.specs.declared.status.Status.TheVariants.{Done}
 
--- what a command gave to be saved in its home file: but for those that save, nothing
+-- what a command gave to be saved in its home file: but for one that saves, nothing
+abbrev pub GaveAs : Family → Touched → Touched → Status → List Op → Type 0
+GaveAs (Saving saver) old new end ops = Gave (saver old new).giver old.home end ops
+GaveAs _ old new end ops = ops ≡ []
+
 abbrev pub GaveBy : Option Command → Touched → Touched → Status → List Op → Type 0
-GaveBy (Some Edit) old new end ops = Gave (script (change old.streams.input new.streams.input)) old.home end ops
-GaveBy (Some Take) old new end ops = Gave (stream (change old.streams.input new.streams.input)) old.home end ops
-GaveBy (Some Merge) old new end ops = Gave (other_file (change old.guest new.guest)) old.home end ops
-GaveBy (Some (Sync port cursor)) old new end ops = Gave (reply cursor old.home (change old.wire new.wire)) old.home end ops
-GaveBy _ old new end ops = ops ≡ []
+GaveBy command = GaveAs (family command)
 
 -- One run of the program, as `run` promises it: it ended with its status, or a crash came at one of its moments, and left these bytes in the home file.
 pub record CommandRun : Type 0 where

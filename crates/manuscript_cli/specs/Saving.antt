@@ -1,10 +1,11 @@
 -- The commands that load a file, take something in, and save what came of it in one batch.
-use Rattle.std.specs.Prelude.{◌≡◌, ◌≢◌, ◌⊎◌, ℕ, ◌+◌, List, [], ◌∷◌, length, Result, Ok, Err, IfSome}
+use Rattle.std.specs.Prelude.{◌≡◌, ◌≢◌, ◌⊎◌, ℕ, ◌+◌, List, [], ◌∷◌, length, true, Result, Ok, Err, IfSome}
 use Rattle.fugue_ids.specs.Causes.{Rose}
 use Rattle.fugue_ids.specs.Outs.{OutView, Took}
 use Rattle.fugue_ids.specs.declared.op.Op.{Op}
 use Rattle.origin_model.specs.frames.Frames.{frames}
 use Rattle.origin_model.specs.taking.Taking.{HasPlace, Held, held_from}
+use Rattle.outer_ports.specs.Sources.{SourceView}
 use Rattle.outer_ports.specs.disk.Disks.{DiskView}
 use Rattle.outer_ports.specs.disk.Moments.{after}
 use Rattle.outer_ports.specs.disk.States.{settled}
@@ -15,8 +16,9 @@ use Rattle.replica_file.specs.declared.end.End.{End}
 use Rattle.manuscript_cli.specs.Crashes.{IsFinished, NeverTorn}
 use Rattle.manuscript_cli.specs.Files.{AppendFailed, FileHolds, FileRefuses, GainsAllOrNone, IsAppended, IsSaved, KeepsFile, LoadFailed}
 use Rattle.manuscript_cli.specs.Findings.{Finding, Refuses, Does, IsDecided}
+use Rattle.manuscript_cli.specs.Printing.{NotesBlameless}
 use Rattle.manuscript_cli.specs.Refusal.{line_of, status_of, Told, TookFronts}
-use Rattle.manuscript_cli.specs.Touched.{Change, DiskStaysCalm, HasDiskRoom, HasRoom, IsTold, StaysCalm, notes_room}
+use Rattle.manuscript_cli.specs.Touched.{Change, DiskBlameless, DiskStaysCalm, HasDiskRoom, HasRoom, IsTold, SourceBlameless, StaysCalm, change, notes_room}
 use Rattle.manuscript_cli.specs.declared.refusal.Refusal.{Refusal}
 use Rattle.manuscript_cli.specs.declared.refusal.Refusal.TheVariants as refusal
 use Rattle.manuscript_cli.specs.declared.status.Status.{Status}
@@ -42,6 +44,10 @@ pub record Giver : Type 1 where
   pub Failed : Type 0
   -- no call on it fails
   pub Sure : Type 0
+
+-- a giver that is told gives one thing
+abbrev pub GivesOnce : Giver → Type 0
+GivesOnce giver = giver.Told → (replica : Replica) (one two : Finding Outcome) → giver.Gives replica one → giver.Gives replica two → one ≡ two
 
 -- what the file and the giver lead to: the file is refused, or what is given to it, or what is saved is no batch
 abbrev pub SavingFound : Giver → DiskView → Finding Outcome → Type 0
@@ -203,3 +209,14 @@ pub record SavesGiven (giver : Giver) (file : Change DiskView) (notes : Change O
   pub never_outside : SavingNeverOutside giver file notes end
   pub decided : SavingIsDecided giver file notes end
   pub refused : FileIsRefused file end
+
+-- the file and the notes count no fault that is not told, where they tell
+pub record SavingBlameless (file : Change DiskView) (notes : Change OutView) (end : Status) : Type 0 where
+  pub file_blameless : DiskBlameless file end
+  pub notes_blameless : NotesBlameless notes end
+
+-- the input is left so by a command that takes from it: where all was done, it was read to its end
+pub record ReadsInput (old new : SourceView) (end : Status) : Type 0 where
+  pub read : IsFinished end → IfSome new.left (λ bytes. bytes ≡ [])
+  pub calm : old.sure ≡ true → new.faults ≡ old.faults
+  pub blameless : SourceBlameless (change old new) end

@@ -9,8 +9,9 @@ use Rattle.origin_model.specs.edits.State.{State}
 use Rattle.manuscript_cli.specs.Counts.{counts_line, status_by}
 use Rattle.op_frame.specs.Courses.{Comes, Course, Whole, CutShort, BadFrame, TooLong, TooMany}
 use Rattle.fugue_ids.specs.declared.limits.TheConstants.{MOST_OPERATIONS, STREAM_LIMIT}
+use Rattle.manuscript_cli.specs.Printing.{NotesBlameless}
 use Rattle.manuscript_cli.specs.Refusal.{line_of, Told, TookFronts}
-use Rattle.manuscript_cli.specs.Touched.{Streams, HasRoom, StaysCalm, notes_room}
+use Rattle.manuscript_cli.specs.Touched.{HasRoom, OutBlameless, SourceBlameless, StaysCalm, Streams, change, notes_room}
 use Rattle.manuscript_cli.specs.declared.refusal.Refusal.{Refusal}
 use Rattle.manuscript_cli.specs.declared.refusal.Refusal.TheVariants as refusal
 use Rattle.manuscript_cli.specs.declared.status.Status.{Status}
@@ -118,3 +119,12 @@ abbrev pub NeverOutside : (hold : ℕ) → Streams → Status → Type 0
 NeverOutside hold old end =
     (bytes : List ℕ) (ops : List Op) (course : Course) → old.input.left ≡ Some bytes → ComesTo hold bytes ops course → old.input.sure ≡ true
     → HasRoom (length (brought hold ops course)) old.output → HasRoom notes_room old.notes → end ≢ status.OutsideFault
+
+-- the command `show`
+pub record Shows (hold : ℕ) (old new : Streams) (end : Status) : Type 0 where
+  pub meets : ShowMeets hold old new end
+  pub calm : ShowStaysCalm hold old new
+  pub never_outside : NeverOutside hold old end
+  pub input_blameless : SourceBlameless (change old.input new.input) end
+  pub output_blameless : OutBlameless (change old.output new.output) end
+  pub notes_blameless : NotesBlameless (change old.notes new.notes) end

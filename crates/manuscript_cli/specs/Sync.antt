@@ -11,13 +11,15 @@ use Rattle.relay_sync.specs.Saying.{SaysToNoOther, text_for}
 use Rattle.relay_sync.specs.Syncing.{Fits, HearsNoFurther}
 use Rattle.origin_model.specs.edits.State.{State as Replica}
 use Rattle.replica_file.specs.declared.end.End.{End}
+use Rattle.manuscript_cli.specs.Crashes.{IsFinished}
 use Rattle.manuscript_cli.specs.Files.{FileHolds}
 use Rattle.manuscript_cli.specs.Findings.{Finding, Refuses, Does}
 use Rattle.manuscript_cli.specs.Saving.{Giver, Outcome}
 use Rattle.manuscript_cli.specs.Take.{noted_in}
-use Rattle.manuscript_cli.specs.Touched.{Change}
+use Rattle.manuscript_cli.specs.Touched.{Change, WireBlameless}
 use Rattle.manuscript_cli.specs.declared.refusal.Refusal.{Refusal}
 use Rattle.manuscript_cli.specs.declared.refusal.Refusal.TheVariants as refusal
+use Rattle.manuscript_cli.specs.declared.status.Status.{Status}
 
 -- what the wire has left, where it is told, comes to this end when a replica takes it in
 abbrev pub AnswerComes : Replica → WireView → List Op → ReplyEnd → Type 0
@@ -37,16 +39,7 @@ abbrev pub ReplyGives : WireView → Replica → Finding Outcome → Type 0
 ReplyGives wire replica (Refuses why) = ReplyRefuses replica wire why
 ReplyGives wire replica (Does outcome) = (ops : List Op) × (cursor : ℕ) × AnswerComes replica wire ops (Ended cursor) × (outcome ≡ noted_in replica ops (Some cursor))
 
--- the reply to what a replica says: no call on the wire fails where it has room for that
-abbrev pub reply_to : (cursor : ℕ) → Replica → Change WireView → Giver
-reply_to cursor replica wire = record {
-  Gives = ReplyGives wire.old;
-  Told = (bytes : List ℕ) × (wire.old.left ≡ Some bytes);
-  Failed = Rose wire.old.faults wire.new.faults;
-  Sure = Fits (length (text_for cursor replica.held)) wire.old;
-}
-
--- the reply to what the replica of a file says
+-- the reply to what the replica of a file says: no call on the wire fails where it has room for that
 abbrev pub reply : (cursor : ℕ) → DiskView → Change WireView → Giver
 reply cursor home wire = record {
   Gives = ReplyGives wire.old;
@@ -68,3 +61,8 @@ pub record Speaks (port cursor : ℕ) (held : Held) (wire : Change WireView) (do
 abbrev pub SpeaksFor : (port cursor : ℕ) → DiskView → Change WireView → (done : Type 0) → Type 0
 SpeaksFor port cursor home wire done =
     ((wire.new ≡ wire.old) × (done → ⊥)) ⊎ ((replica : Replica) × (end : End) × FileHolds home replica end × Speaks port cursor replica.held wire done)
+
+-- the wire is left so by `sync`
+pub record LeavesWire (port cursor : ℕ) (home : DiskView) (wire : Change WireView) (end : Status) : Type 0 where
+  pub speaks : SpeaksFor port cursor home wire (IsFinished end)
+  pub blameless : WireBlameless wire end

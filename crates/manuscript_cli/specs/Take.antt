@@ -1,5 +1,5 @@
 -- The commands that take operations into a file: `take` those of the input, and `merge` those of another file.
-use Rattle.std.specs.Prelude.{◌≡◌, ◌⊎◌, ℕ, List, ◌++◌, length, true, Option, Some, None, Result, Ok, Err}
+use Rattle.std.specs.Prelude.{◌≡◌, ◌⊎◌, ℕ, List, ◌++◌, length, true, Option, Some, None}
 use Rattle.fugue_ids.specs.Causes.{Rose}
 use Rattle.fugue_ids.specs.declared.op.Op.{Op}
 use Rattle.origin_model.specs.operations.History.{accepted}
@@ -14,9 +14,8 @@ use Rattle.manuscript_cli.specs.Counts.{counts_text, status_by}
 use Rattle.manuscript_cli.specs.Files.{FileHolds, FileRefuses}
 use Rattle.manuscript_cli.specs.Findings.{Finding, Refuses, Does}
 use Rattle.manuscript_cli.specs.Intake.{SourceComes}
-use Rattle.manuscript_cli.specs.Saving.{ComesToSave, GivenMeets, Giver, Outcome}
+use Rattle.manuscript_cli.specs.Saving.{Giver, Outcome}
 use Rattle.manuscript_cli.specs.Touched.{Change, HasDiskRoom, IsTold}
-use Rattle.manuscript_cli.specs.declared.counts.Counts.{Counts}
 use Rattle.manuscript_cli.specs.declared.refusal.Refusal.{Refusal}
 use Rattle.manuscript_cli.specs.declared.refusal.Refusal.TheVariants as refusal
 
@@ -93,18 +92,3 @@ other_file guest = record {
   Failed = Rose guest.old.faults guest.new.faults;
   Sure = HasDiskRoom 1 guest.old;
 }
-
--- what counts note of an outcome, and the status that they lead to
-pub record IsNotedBy (outcome : Outcome) (counts : Counts) : Type 0 where
-  pub line : outcome.line ≡ counts_text counts.tally counts.waiting counts.cursor
-  pub status : outcome.status ≡ status_by counts.tally counts.waiting
-
--- what was given to a file that is loaded, as counts note it
-abbrev pub GivenCounted : Giver → Replica → End → Change DiskView → Result Counts Refusal → Type 0
-GivenCounted giver replica end file (Ok counts) = (outcome : Outcome) × IsNotedBy outcome counts × GivenMeets giver replica end file (Ok outcome)
-GivenCounted giver replica end file (Err why) = GivenMeets giver replica end file (Err why)
-
--- what was given and saved, as counts note it
-abbrev pub SavesCounted : Giver → Change DiskView → Result Counts Refusal → Type 0
-SavesCounted giver file (Ok counts) = (outcome : Outcome) × IsNotedBy outcome counts × ComesToSave giver file (Ok outcome)
-SavesCounted giver file (Err why) = ComesToSave giver file (Err why)

@@ -1,11 +1,13 @@
 -- All that a command may touch, as contracts see it.
-use Rattle.std.specs.Prelude.{◌≡◌, ℕ, ◌≤◌, Some}
-use Rattle.fugue_ids.specs.Outs.{OutView}
-use Rattle.outer_ports.specs.Sources.{SourceView}
-use Rattle.outer_ports.specs.disk.Disks.{DiskView, RoomView}
+use Rattle.std.specs.Prelude.{◌≡◌, ◌≢◌, ℕ, ◌≤◌, Some}
+use Rattle.fugue_ids.specs.Outs.{OutTells, OutView}
+use Rattle.outer_ports.specs.Sources.{SourceTells, SourceView}
+use Rattle.outer_ports.specs.disk.Disks.{DiskTells, DiskView, RoomView}
 use Rattle.outer_ports.specs.disk.Moments.{History}
-use Rattle.outer_ports.specs.dock.Docks.{DockView}
-use Rattle.outer_ports.specs.wire.Wires.{WireView}
+use Rattle.outer_ports.specs.dock.Docks.{DockTells, DockView}
+use Rattle.outer_ports.specs.wire.Wires.{WireTells, WireView}
+use Rattle.manuscript_cli.specs.declared.status.Status.{Status}
+use Rattle.manuscript_cli.specs.declared.status.Status.TheVariants.{OutsideFault}
 
 -- the streams of the process
 pub record Streams : Type 0 where
@@ -60,3 +62,20 @@ DiskStaysCalm count disk = HasDiskRoom count disk.old → disk.new.faults ≡ di
 -- what stands on the disk is told
 abbrev pub IsTold : DiskView → Type 0
 IsTold disk = (h : History) × (disk.past ≡ Some h)
+
+-- Each object's count of faults rises with an outside fault alone, where the object tells: no call that failed is made once
+-- more, and none is told as another fault.
+abbrev pub SourceBlameless : Change SourceView → Status → Type 0
+SourceBlameless source end = SourceTells source.old → end ≢ OutsideFault → source.new.faults ≡ source.old.faults
+
+abbrev pub OutBlameless : Change OutView → Status → Type 0
+OutBlameless out end = OutTells out.old → end ≢ OutsideFault → out.new.faults ≡ out.old.faults
+
+abbrev pub DiskBlameless : Change DiskView → Status → Type 0
+DiskBlameless disk end = DiskTells disk.old → end ≢ OutsideFault → disk.new.faults ≡ disk.old.faults
+
+abbrev pub WireBlameless : Change WireView → Status → Type 0
+WireBlameless wire end = WireTells wire.old → end ≢ OutsideFault → wire.new.faults ≡ wire.old.faults
+
+abbrev pub DockBlameless : Change DockView → Status → Type 0
+DockBlameless dock end = DockTells dock.old → end ≢ OutsideFault → dock.new.faults ≡ dock.old.faults

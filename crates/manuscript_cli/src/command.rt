@@ -1,5 +1,6 @@
-ghost use Rattle.std.specs.Prelude.{◌≡◌};
-ghost use Rattle.manuscript_cli.specs.Command.{opening_for};
+ghost use Rattle.std.specs.Prelude.{◌≡◌, map, string_bytes};
+ghost use Rattle.std.specs.Option.{option_copied};
+ghost use Rattle.manuscript_cli.specs.Command.{guest_word, home_word, opening_for};
 
 use outer_ports::Opening;
 
@@ -22,7 +23,8 @@ pub enum Command {
     Merge,
     /// Serve so many sessions at this port, with a relay that is new.
     Relay(u16, u32),
-    /// Tell the relay at this port what a file's replica holds, ask for its log from the cursor on, and save what was kept.
+    /// Tell the relay at this port what a file's replica holds, ask for its log from the cursor on, and save what was
+    /// kept.
     Sync(u16, u32),
     /// Make a large manuscript by the numbers of a seed in so many turns, and tell of it.
     Bulk(u32, u32),
@@ -42,6 +44,19 @@ impl Command {
             | Command::Send
             | Command::Relay(_, _)
             | Command::Bulk(_, _) => Opening::Reading,
+        }
+    }
+
+    /// The file that the command is about, and the other file that it reads, of the words that ask for it.
+    pub fn files(self, words: &[String]) -> (Option<&str>, Option<&str>)
+        ensures home { option_copied result.0 ≡ home_word self (map string_bytes words.now) }
+        ensures guest { option_copied result.1 ≡ guest_word self (map string_bytes words.now) }
+    {
+        match (self, words) {
+            (Command::Merge, [_, file, other, ..]) => (Some(file.as_str()), Some(other.as_str())),
+            (Command::Show(_) | Command::Relay(_, _) | Command::Bulk(_, _), _) => (None, None),
+            (_, [_, file, ..]) => (Some(file.as_str()), None),
+            _ => (None, None),
         }
     }
 }

@@ -41,6 +41,15 @@ impl Counts {
     }
 }
 
+/// What a command that saves notes.
+#[derive(Clone, Copy)]
+pub(crate) enum Note {
+    /// What became of the operations that it took in.
+    Counted(Counts),
+    /// How many operations a script made.
+    Made(u32),
+}
+
 /// Writes what became of the operations, how many wait at the end, and where the relay's log ended.
 pub(crate) fn write_counts<N: Out>(notes: &mut N, counts: &Counts) -> Result<(), Failed>
     ensures text { WritesText (N.seen notes.old) (N.seen notes.new) result
@@ -74,7 +83,8 @@ fn write_cursor<N: Out>(notes: &mut N, cursor: u32) -> Result<(), Failed>
 }
 
 fn write_tally<N: Out>(notes: &mut N, counts: &Counts) -> Result<(), Failed>
-    ensures text { WritesText (N.seen notes.old) (N.seen notes.new) result (counts_line counts.now.tally counts.now.waiting) }
+    ensures text { WritesText (N.seen notes.old) (N.seen notes.new) result
+        (counts_line counts.now.tally counts.now.waiting) }
     ensures short { length (counts_line counts.now.tally counts.now.waiting) + 18 ≤ notes_room }
 {
     let tally = &counts.tally;

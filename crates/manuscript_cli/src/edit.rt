@@ -1,81 +1,53 @@
-ghost use Rattle.std.specs.Prelude.{◌≡◌, ◌≤◌, [], true, length, IfSome, OnOk};
+//! The command `edit`: a script is run.
+ghost use Rattle.std.specs.Prelude.{◌≤◌, length};
 ghost use Rattle.fugue_ids.specs.Outs.{WritesText};
-ghost use Rattle.replica_file.specs.Ends.{EndsAt, Reaches};
-ghost use Rattle.replica_file.specs.Loading.{IsReady};
-ghost use Rattle.manuscript_cli.specs.Edit.{GivenMade, SavesMade, made_line, script};
-ghost use Rattle.manuscript_cli.specs.Printing.{NoteMeets};
-ghost use Rattle.manuscript_cli.specs.Run.{ReadsInput};
-ghost use Rattle.manuscript_cli.specs.Saving.{SavesGiven};
+ghost use Rattle.manuscript_cli.specs.Counts.{made_line};
+ghost use Rattle.manuscript_cli.specs.Edit.{script};
+ghost use Rattle.manuscript_cli.specs.Printing.{NoteMeets, NotesBlameless};
+ghost use Rattle.manuscript_cli.specs.Saving.{ReadsInput};
 ghost use Rattle.manuscript_cli.specs.Touched.{change, StaysCalm, notes_room};
 ghost use Rattle.manuscript_cli.specs.declared.status.Status.TheVariants.{Done};
 
 use crate::Status;
-use crate::home_file::{load_file, save};
+use crate::counts::Note;
+use crate::giving::Gives;
+use crate::kept::Kept;
 use crate::printing::noted;
-use crate::refusal::{Refusal, tell};
+use crate::refusal::Refusal;
 use edit_script::run_script;
 use fugue_ids::{Failed, Out, write_pieces};
 use itoa::Buffer;
-use outer_ports::{Disk, Sink, Source};
+use outer_ports::{Sink, Source};
 use replica_core::Replica;
-use replica_file::End;
 use std::alloc::Global;
 
-/// Runs the script on the input on a file's replica, and saves what it made.
-pub(crate) fn edit<S: Source, N: Sink, H: Disk>(
-    alloc: Global,
-    home: &mut H,
-    input: &mut S,
-    notes: &mut N,
-) -> Status
-    ensures saves { SavesGiven (script (change (S.seen input.old) (S.seen input.new))) (change (H.seen home.old) (H.seen home.new))
-        (change (N.seen notes.old) (N.seen notes.new)) result }
-    ensures reads { ReadsInput (S.seen input.old) (S.seen input.new) result }
-{
-    match edited(alloc, home, input) {
-        Ok(made) => note(made, notes),
-        Err(why) => tell(notes, why),
+/// The script on the input.
+pub(crate) struct Script;
+
+impl<S: Source> Gives<S> for Script {
+    ghost giver = { λ what home before after. script (change (S.seen before) (S.seen after)) };
+
+    ghost Leaves = { λ what home before after end. ReadsInput (S.seen before) (S.seen after) end };
+
+    fn give(
+        &self,
+        alloc: Global,
+        from: &mut S,
+        replica: &mut Replica,
+        _kept: &mut Kept,
+    ) -> Result<Note, Refusal> {
+        let made = run_script(alloc, replica, from)?;
+        Ok(Note::Made(made))
     }
+
+    fn laws(&self) {}
 }
 
-/// The answer is how many operations the script made.
-fn edited<S: Source, H: Disk>(alloc: Global, home: &mut H, input: &mut S) -> Result<u32, Refusal>
-    ensures saves { SavesMade (script (change (S.seen input.old) (S.seen input.new))) (change (H.seen home.old) (H.seen home.new)) result }
-    ensures read { OnOk result (IfSome (S.seen input.new).left (λ left. left ≡ [])) }
-    ensures calm { (S.seen input.old).sure ≡ true → (S.seen input.new).faults ≡ (S.seen input.old).faults }
-{
-    let (mut replica, end) = load_file(alloc, home)?;
-    let made = edit_by(alloc, &mut replica, end, home, input);
-    drop(replica);
-    made
-}
-
-/// The same, by the replica that the file holds.
-fn edit_by<S: Source, H: Disk>(
-    alloc: Global,
-    replica: &mut Replica,
-    end: End,
-    home: &mut H,
-    input: &mut S,
-) -> Result<u32, Refusal>
-    requires ready { IsReady replica.old }
-    requires reaches { Reaches end }
-    requires ends { IfSome (H.seen home.old).past (λ h. EndsAt h.last end) }
-    ensures given { GivenMade (script (change (S.seen input.old) (S.seen input.new))) replica.old end
-        (change (H.seen home.old) (H.seen home.new)) result }
-    ensures read { OnOk result (IfSome (S.seen input.new).left (λ left. left ≡ [])) }
-    ensures calm { (S.seen input.old).sure ≡ true → (S.seen input.new).faults ≡ (S.seen input.old).faults }
-{
-    let before = replica.accepted().len();
-    let made = run_script(alloc, replica, input)?;
-    save(alloc, home, end, &replica.accepted()[before..])?;
-    Ok(made)
-}
-
-/// Writes how many operations were made to the notes.
-fn note<N: Sink>(made: u32, notes: &mut N) -> Status
+/// Writes to the notes how many operations a script made.
+pub(crate) fn note_made<N: Sink>(made: u32, notes: &mut N) -> Status
     ensures meets { NoteMeets (made_line made) Done (N.seen notes.old) (N.seen notes.new) result }
     ensures calm { StaysCalm notes_room (N.seen notes.old) (N.seen notes.new) }
+    ensures blameless { NotesBlameless (change (N.seen notes.old) (N.seen notes.new)) result }
 {
     let written = write_made(notes, made);
     noted(written, Status::Done, notes)

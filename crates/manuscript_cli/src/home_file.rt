@@ -2,7 +2,9 @@
 ghost use Rattle.manuscript_cli.specs.Files.{LoadMeets, SaveMeets};
 ghost use Rattle.manuscript_cli.specs.Touched.{change};
 ghost use Rattle.replica_file.specs.Ends.{EndsAt, Reaches};
-ghost use Rattle.std.specs.Prelude.{IfSome};
+ghost use Rattle.manuscript_cli.specs.declared.refusal.Refusal.TheVariants.{Outside};
+ghost use Rattle.outer_ports.specs.disk.Disks.{DiskTells};
+ghost use Rattle.std.specs.Prelude.{◌≡◌, ◌≢◌, IfSome};
 
 use crate::Refusal;
 use fugue_ids::{MOST_OPERATIONS, Op};
@@ -14,6 +16,8 @@ use std::alloc::Global;
 /// Loads the replica that a file holds, and finds where the file's meaning ends.
 pub(crate) fn load_file<H: Disk>(alloc: Global, file: &mut H) -> Result<(Replica, End), Refusal>
     ensures meets { LoadMeets (change (H.seen file.old) (H.seen file.new)) result }
+    ensures told { DiskTells (H.seen file.old) → result ≢ Err Outside
+        → (H.seen file.new).faults ≡ (H.seen file.old).faults }
 {
     match load(alloc, file, MOST_OPERATIONS) {
         Ok(loaded) => Ok(loaded),
@@ -31,6 +35,8 @@ pub(crate) fn save<H: Disk>(
     requires reaches { Reaches end }
     requires ends { IfSome (H.seen file.old).past (λ h. EndsAt h.last end) }
     ensures meets { SaveMeets end ops.now (change (H.seen file.old) (H.seen file.new)) result }
+    ensures told { DiskTells (H.seen file.old) → result ≢ Err Outside
+        → (H.seen file.new).faults ≡ (H.seen file.old).faults }
 {
     match append(alloc, file, end, ops) {
         Ok(_) => Ok(()),

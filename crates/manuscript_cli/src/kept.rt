@@ -1,5 +1,6 @@
 ghost use Rattle.std.specs.Prelude.{◌≡◌, ◌≢◌, ◌+◌, ◌∷◌, [], length, Some, None, IfErr, OnOk, option_map};
-ghost use Rattle.origin_model.specs.taking.Taking.{IsSettled, TooMany as AnswersTooMany, answer, intake, intake_counted, kept_from};
+ghost use Rattle.origin_model.specs.taking.Taking.{IsSettled, TooMany as AnswersTooMany, answer};
+ghost use Rattle.origin_model.specs.taking.Taking.{intake, intake_counted, kept_from};
 ghost use Rattle.replica_core.specs.Told.{StaysBelow, total};
 ghost use Rattle.manuscript_cli.specs.Intake.{FeedsNot, copied, ops_in};
 
@@ -52,6 +53,13 @@ impl Kept {
         }
     }
 
+    /// These stand in place of what was copied.
+    pub(crate) fn put(&mut self, ops: Vec<Op>)
+        ensures { self.new ≡ Some ops.items }
+    {
+        self.ops = Some(ops);
+    }
+
     /// Feeds the operation to the replica, and copies it where that keeps it.
     pub(crate) fn feed(
         &mut self,
@@ -61,7 +69,8 @@ impl Kept {
     ) -> Result<(), FeedFault>
         requires settled { IsSettled replica.old.held }
         requires counts_rise { StaysBelow tally.old }
-        ensures has_place { OnOk result (answer replica.old.hold replica.old.most replica.old.held op ≢ AnswersTooMany) }
+        ensures has_place { OnOk result
+            (answer replica.old.hold replica.old.most replica.old.held op ≢ AnswersTooMany) }
         ensures replica { OnOk result (replica.new ≡ record replica.old {
           held = intake replica.old.hold replica.old.most replica.old.held op;
         }) }

@@ -1,13 +1,16 @@
 //! Laws of the commands.
 
 ghost use Rattle.std.specs.Prelude.{◌≡◌};
-ghost use Rattle.fugue_ids.specs.declared.limits.TheConstants.{GREATEST_HOLD, LONGEST_TITLE, MOST_OPERATIONS, STREAM_LIMIT};
+ghost use Rattle.fugue_ids.specs.declared.limits.TheConstants.{GREATEST_HOLD, LONGEST_TITLE};
+ghost use Rattle.fugue_ids.specs.declared.limits.TheConstants.{MOST_OPERATIONS, STREAM_LIMIT};
 ghost use Rattle.origin_model.specs.declared.files.TheConstants.{LONGEST_BATCH};
 ghost use Rattle.edit_script.specs.declared.script.TheConstants.{LONGEST_SCRIPT};
 ghost use Rattle.relay_core.specs.declared.relay.TheConstants.{MOST_LOGGED};
 ghost use Rattle.bulk_world.specs.declared.limits.TheConstants.{MOST_TURNS};
 ghost use Rattle.manuscript_cli.specs.Runs.{EachFinishedIsIn};
-ghost use Rattle.manuscript_cli.specs.declared.words.TheConstants.{GREATEST_CURSOR, GREATEST_PORT, GREATEST_REPLICA, GREATEST_SEED, MOST_SESSIONS, USUAL_HOLD};
+ghost use Rattle.manuscript_cli.specs.declared.words.TheConstants.{GREATEST_CURSOR, GREATEST_PORT};
+ghost use Rattle.manuscript_cli.specs.declared.words.TheConstants.{GREATEST_REPLICA, GREATEST_SEED};
+ghost use Rattle.manuscript_cli.specs.declared.words.TheConstants.{MOST_SESSIONS, USUAL_HOLD};
 
 /// Each limit, in numbers. The contracts name them, so that each stands once.
 pub fn limits_in_numbers()
@@ -27,10 +30,11 @@ pub fn limits_in_numbers()
     ensures turns { MOST_TURNS ≡ 1000000 }
 {}
 
-/// Whatever a crash leaves of a file, each command that ended with Done or Partial since it was made is in it, in order.
+/// Whatever a crash leaves of a file, each command that ended with Done or Partial since it was made is in it, in
+/// order.
 ///
-/// The law speaks of runs on one home file from a `new` that did all on, each as `run` promises it; a crash may come inside of
-/// each of them and between two.
+/// The law speaks of runs on one home file from a `new` that did all on, each as `run` promises it; a crash may come
+/// inside of each of them and between two.
 pub fn every_finished_command_is_in_the_file()
     ensures { EachFinishedIsIn }
 {}

@@ -1,114 +1,66 @@
-ghost use Rattle.std.specs.Prelude.{◌≡◌, ◌+◌, ◌<◌, ◌^◌, [], length, IfErr, IfOk, IfSome, OnOk};
+//! The command `merge`: what another file holds is taken in.
+ghost use Rattle.std.specs.Prelude.{◌≡◌, ◌+◌, ◌<◌, ◌^◌, length, IfErr, IfOk, OnOk};
 ghost use Rattle.origin_model.specs.taking.Taking.{IsSettled};
 ghost use Rattle.replica_core.specs.Keeping.{TakesIn, begun};
 ghost use Rattle.origin_model.specs.edits.State.{Stands};
 ghost use Rattle.replica_core.specs.Told.{total};
-ghost use Rattle.replica_file.specs.Ends.{EndsAt, Reaches};
 ghost use Rattle.replica_file.specs.Loading.{IsReady};
-ghost use Rattle.manuscript_cli.specs.Files.{KeepsFile};
+ghost use Rattle.manuscript_cli.specs.Files.{LeavesFile};
+ghost use Rattle.manuscript_cli.specs.Giving.{GivesTo};
 ghost use Rattle.manuscript_cli.specs.Merge.{FindNoPlace, MergesNot};
-ghost use Rattle.manuscript_cli.specs.Saving.{SavesGiven};
-ghost use Rattle.manuscript_cli.specs.Take.{GivenCounted, SavesCounted, all_of, ops_of, other_file};
-ghost use Rattle.manuscript_cli.specs.Touched.{DiskStaysCalm, change};
+ghost use Rattle.manuscript_cli.specs.Take.{all_of, ops_of, other_file};
+ghost use Rattle.manuscript_cli.specs.Touched.{change};
 
-use crate::Status;
-use crate::counts::Counts;
-use crate::home_file::{load_file, save};
-use crate::printing::note;
-use crate::refusal::{Refusal, tell};
+use crate::counts::{Counts, Note};
+use crate::giving::Gives;
+use crate::home_file::load_file;
+use crate::kept::Kept;
+use crate::refusal::Refusal;
 use fugue_ids::Op;
 use origin_model::Tally;
-use outer_ports::{Disk, Sink};
+use outer_ports::Disk;
 use replica_core::{FeedFault, Replica};
-use replica_file::End;
 use std::alloc::Global;
 
-/// Takes what another file's replica holds into a file's, and saves what was kept.
-pub(crate) fn merge<N: Sink, H: Disk, G: Disk>(
-    alloc: Global,
-    home: &mut H,
-    guest: &mut G,
-    notes: &mut N,
-) -> Status
-    ensures saves { SavesGiven (other_file (change (G.seen guest.old) (G.seen guest.new))) (change (H.seen home.old) (H.seen home.new))
-        (change (N.seen notes.old) (N.seen notes.new)) result }
-    ensures keeps { KeepsFile (change (G.seen guest.old) (G.seen guest.new)) }
-    ensures calm { DiskStaysCalm 1 (change (G.seen guest.old) (G.seen guest.new)) }
-{
-    match merged(alloc, home, guest) {
-        Ok(counts) => note(&counts, notes),
-        Err(why) => tell(notes, why),
+/// What the replica of another file holds.
+pub(crate) struct OtherFile;
+
+impl<G: Disk> Gives<G> for OtherFile {
+    ghost giver = { λ what home before after. other_file (change (G.seen before) (G.seen after)) };
+
+    ghost Leaves = { λ what home before after end. LeavesFile (change (G.seen before) (G.seen after)) end };
+
+    fn give(
+        &self,
+        alloc: Global,
+        from: &mut G,
+        replica: &mut Replica,
+        kept: &mut Kept,
+    ) -> Result<Note, Refusal> {
+        let (other, _) = load_file(alloc, from)?;
+        let given = give_all(alloc, &other, replica, kept);
+        drop(other);
+        given
     }
+
+    fn laws(&self) {}
 }
 
-/// The same, without notes.
-fn merged<H: Disk, G: Disk>(alloc: Global, home: &mut H, guest: &mut G) -> Result<Counts, Refusal>
-    ensures saves { SavesCounted (other_file (change (G.seen guest.old) (G.seen guest.new)))
-        (change (H.seen home.old) (H.seen home.new)) result }
-    ensures keeps { KeepsFile (change (G.seen guest.old) (G.seen guest.new)) }
-{
-    let (mut replica, end) = load_file(alloc, home)?;
-    let merged = merge_into(alloc, &mut replica, end, home, guest);
-    drop(replica);
-    merged
-}
-
-/// Takes what another file's replica holds into the replica of a loaded file, and saves what was kept.
-fn merge_into<H: Disk, G: Disk>(
+/// Gives all that another replica holds.
+fn give_all(
     alloc: Global,
-    replica: &mut Replica,
-    end: End,
-    home: &mut H,
-    guest: &mut G,
-) -> Result<Counts, Refusal>
-    requires ready { IsReady replica.old }
-    requires reaches { Reaches end }
-    requires ends { IfSome (H.seen home.old).past (λ h. EndsAt h.last end) }
-    ensures given { GivenCounted (other_file (change (G.seen guest.old) (G.seen guest.new))) replica.old end
-        (change (H.seen home.old) (H.seen home.new)) result }
-    ensures guest { KeepsFile (change (G.seen guest.old) (G.seen guest.new)) }
-{
-    let (other, _) = load_file(alloc, guest)?;
-    let merged = merge_from(alloc, replica, end, home, &other);
-    drop(other);
-    merged
-}
-
-fn merge_from<H: Disk>(
-    alloc: Global,
-    replica: &mut Replica,
-    end: End,
-    home: &mut H,
     other: &Replica,
-) -> Result<Counts, Refusal>
+    replica: &mut Replica,
+    kept: &mut Kept,
+) -> Result<Note, Refusal>
     requires ready { IsReady replica.old }
     requires other_stands { Stands other.now }
-    requires reaches { Reaches end }
-    requires ends { IfSome (H.seen home.old).past (λ h. EndsAt h.last end) }
-    ensures given { GivenCounted (all_of other.now) replica.old end (change (H.seen home.old) (H.seen home.new)) result }
+    ensures gives { GivesTo (all_of other.now) replica.old replica.new kept.new result }
 {
-    let mut kept = Vec::new(alloc);
-    merge_keeping(alloc, replica, end, home, other, &mut kept)
-}
-
-fn merge_keeping<H: Disk>(
-    alloc: Global,
-    replica: &mut Replica,
-    end: End,
-    home: &mut H,
-    other: &Replica,
-    kept: &mut Vec<Op>,
-) -> Result<Counts, Refusal>
-    requires ready { IsReady replica.old }
-    requires other_stands { Stands other.now }
-    requires reaches { Reaches end }
-    requires ends { IfSome (H.seen home.old).past (λ h. EndsAt h.last end) }
-    requires none_kept { kept.old.items ≡ [] }
-    ensures given { GivenCounted (all_of other.now) replica.old end (change (H.seen home.old) (H.seen home.new)) result }
-{
-    let tally = take_all(alloc, replica, other, kept)?;
-    save(alloc, home, end, kept)?;
-    Ok(Counts::of(replica, tally))
+    let mut ops = Vec::new(alloc);
+    let tally = take_all(alloc, replica, other, &mut ops)?;
+    kept.put(ops);
+    Ok(Note::Counted(Counts::of(replica, tally)))
 }
 
 /// Takes in all that another replica holds: the accepted operations, and then those that wait.

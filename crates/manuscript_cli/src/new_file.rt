@@ -18,7 +18,8 @@ pub(crate) fn new_file<N: Sink, H: Disk>(
     requires some_replica { 1 ≤ replica }
     requires from { 1 ≤ hold }
     requires to { hold ≤ greatest_hold }
-    ensures { Creates replica hold (change (H.seen home.old) (H.seen home.new)) (change (N.seen notes.old) (N.seen notes.new)) result }
+    ensures { Creates replica hold (change (H.seen home.old) (H.seen home.new))
+        (change (N.seen notes.old) (N.seen notes.new)) result }
 {
     match create(home, replica, hold) {
         Ok(()) => Status::Done,

@@ -1,6 +1,8 @@
-ghost use Rattle.std.specs.Prelude.{◌≡◌, ◌≤◌, length, ◌∷◌, [], ◌++◌};
+ghost use Rattle.std.specs.Prelude.{◌≡◌, ◌≤◌, length};
 ghost use Rattle.fugue_ids.specs.Outs.{WritesText};
-ghost use Rattle.manuscript_cli.specs.Refusal.{append_refusal, create_refusal, feed_refusal, frame_refusal, line_of, load_refusal, number_of as number_in, script_refusal, serve_refusal, status_of as status_for, sync_refusal, words_of as words_for, Told};
+ghost use Rattle.manuscript_cli.specs.Refusal.{append_refusal, create_refusal, feed_refusal, frame_refusal};
+ghost use Rattle.manuscript_cli.specs.Refusal.{load_refusal, script_refusal, serve_refusal, sync_refusal};
+ghost use Rattle.manuscript_cli.specs.Refusal.{line_of, number_of, status_of, words_of, Told};
 ghost use Rattle.manuscript_cli.specs.Touched.{notes_room};
 ghost use Rattle.manuscript_cli.specs.declared.refusal.Refusal.TheVariants.{NoMemory as NoMemoryFound};
 
@@ -52,69 +54,36 @@ pub enum Refusal {
     NoMemory,
 }
 
+/// The status that a refusal answers, and the words and the number of its line.
+#[derive(Clone, Copy)]
+struct Row(Status, &'static str, Option<u64>);
+
 impl Refusal {
-    fn status(self) -> Status
-        ensures { result ≡ status_for self }
+    /// The row of the refusal in the table of them all.
+    fn row(self) -> Row
+        ensures status { result.0 ≡ status_of self }
+        ensures words { result.1.now ≡ words_of self }
+        ensures number { result.2 ≡ number_of self }
     {
         match self {
-            Refusal::Words => Status::Usage,
-            Refusal::BadFrame(_)
-            | Refusal::CutShort(_)
-            | Refusal::BadLine(_)
-            | Refusal::NoSection(_)
-            | Refusal::OutOfRange(_)
-            | Refusal::BadReply(_)
-            | Refusal::RelayRefused(_)
-            | Refusal::ReplyCutShort(_) => Status::BadInput,
-            Refusal::NotReplica | Refusal::BadBatch(_) | Refusal::NotEmpty => Status::BadFile,
-            Refusal::TooMany(_) | Refusal::IdsSpent(_) | Refusal::TooLong | Refusal::BatchTooLong =>
-                { Status::Limit }
-            Refusal::Outside => Status::OutsideFault,
-            Refusal::NoMemory => Status::NoMemory,
-        }
-    }
-
-    fn words(self) -> &'static str
-        ensures { result.now ≡ words_for self }
-    {
-        match self {
-            Refusal::Words => "words not understood",
-            Refusal::BadFrame(_) => "bad frame at byte ",
-            Refusal::CutShort(_) => "cut short at byte ",
-            Refusal::BadLine(_) => "bad line ",
-            Refusal::NoSection(_) => "no section at line ",
-            Refusal::OutOfRange(_) => "out of range at line ",
-            Refusal::NotReplica => "not a replica",
-            Refusal::BadBatch(_) => "bad batch ",
-            Refusal::NotEmpty => "not empty",
-            Refusal::TooMany(_) => "too many: ",
-            Refusal::IdsSpent(_) => "ids spent: ",
-            Refusal::TooLong => "too long",
-            Refusal::BatchTooLong => "batch too long",
-            Refusal::BadReply(_) => "bad reply at byte ",
-            Refusal::RelayRefused(_) => "relay refused ",
-            Refusal::ReplyCutShort(_) => "reply cut short at byte ",
-            Refusal::Outside => "outside fault",
-            Refusal::NoMemory => "no memory",
-        }
-    }
-
-    fn number(self) -> Option<u64>
-        ensures { result ≡ number_in self }
-    {
-        match self {
-            Refusal::BadFrame(offset)
-            | Refusal::CutShort(offset)
-            | Refusal::BadReply(offset)
-            | Refusal::ReplyCutShort(offset) => Some(offset),
-            Refusal::RelayRefused(code) => Some(u64::from(code)),
-            Refusal::BadLine(number)
-            | Refusal::NoSection(number)
-            | Refusal::OutOfRange(number)
-            | Refusal::BadBatch(number)
-            | Refusal::TooMany(number)
-            | Refusal::IdsSpent(number) => Some(u64::from(number)),
-            _ => None,
+            Self::Words => Row(Status::Usage, "words not understood", None),
+            Self::BadFrame(at) => Row(Status::BadInput, "bad frame at byte ", Some(at)),
+            Self::CutShort(at) => Row(Status::BadInput, "cut short at byte ", Some(at)),
+            Self::BadLine(at) => Row(Status::BadInput, "bad line ", Some(at.into())),
+            Self::NoSection(at) => Row(Status::BadInput, "no section at line ", Some(at.into())),
+            Self::OutOfRange(at) => Row(Status::BadInput, "out of range at line ", Some(at.into())),
+            Self::NotReplica => Row(Status::BadFile, "not a replica", None),
+            Self::BadBatch(slot) => Row(Status::BadFile, "bad batch ", Some(slot.into())),
+            Self::NotEmpty => Row(Status::BadFile, "not empty", None),
+            Self::TooMany(count) => Row(Status::Limit, "too many: ", Some(count.into())),
+            Self::IdsSpent(count) => Row(Status::Limit, "ids spent: ", Some(count.into())),
+            Self::TooLong => Row(Status::Limit, "too long", None),
+            Self::BatchTooLong => Row(Status::Limit, "batch too long", None),
+            Self::BadReply(at) => Row(Status::BadInput, "bad reply at byte ", Some(at)),
+            Self::RelayRefused(code) => Row(Status::BadInput, "relay refused ", Some(code.into())),
+            Self::ReplyCutShort(at) => Row(Status::BadInput, "reply cut short at byte ", Some(at)),
+            Self::Outside => Row(Status::OutsideFault, "outside fault", None),
+            Self::NoMemory => Row(Status::NoMemory, "no memory", None),
         }
     }
 }
@@ -236,8 +205,9 @@ impl From<NoMemory> for Refusal {
 
 impl fmt::Display for Refusal {
     fn fmt<W: fmt::Write>(&self, f: &mut fmt::Formatter<W>) -> fmt::Result {
-        f.write_str(self.words())?;
-        match self.number() {
+        let Row(_, words, number) = self.row();
+        f.write_str(words)?;
+        match number {
             Some(number) => write!(f, "{number}"),
             None => Ok(()),
         }
@@ -246,24 +216,23 @@ impl fmt::Display for Refusal {
 
 /// Writes the refusal's line to the notes, as far as they take it, and answers its status.
 pub fn tell<N: Out>(notes: &mut N, refusal: Refusal) -> Status
-    ensures status { result ≡ status_for refusal }
+    ensures status { result ≡ status_of refusal }
     ensures told { Told (N.seen notes.old) (N.seen notes.new) (line_of refusal) }
 {
+    let Row(status, ..) = refusal.row();
     let _ = write_line(notes, refusal);
-    refusal.status()
+    status
 }
 
 fn write_line<N: Out>(notes: &mut N, refusal: Refusal) -> Result<(), Failed>
     ensures text { WritesText (N.seen notes.old) (N.seen notes.new) result (line_of refusal) }
     ensures short { length (line_of refusal) ≤ notes_room }
 {
+    let Row(_, words, number) = refusal.row();
     let mut buffer = Buffer::new();
-    let number = match refusal.number() {
+    let number = match number {
         Some(number) => buffer.format(number),
         None => "",
     };
-    write_pieces(
-        notes,
-        &[refusal.words().as_bytes(), number.as_bytes(), b"\n"],
-    )
+    write_pieces(notes, &[words.as_bytes(), number.as_bytes(), b"\n"])
 }

@@ -1,8 +1,9 @@
 ghost use Rattle.std.specs.Prelude.{◌≡◌, ◌≤◌, length};
 ghost use Rattle.fugue_ids.specs.Outs.{WritesText};
 ghost use Rattle.origin_model.specs.relay.Relay.{new_relay};
-ghost use Rattle.manuscript_cli.specs.Printing.{NoteMeets};
-ghost use Rattle.manuscript_cli.specs.Relay.{NeverBlamed, OpeningMeets, Relays, ServingMeets, log_line, ready_line};
+ghost use Rattle.manuscript_cli.specs.Printing.{NoteMeets, NotesBlameless};
+ghost use Rattle.manuscript_cli.specs.Relay.{NeverBlamed, OpeningMeets, Relays, RiseOutside, ServingMeets};
+ghost use Rattle.manuscript_cli.specs.Relay.{log_line, ready_line};
 ghost use Rattle.manuscript_cli.specs.Touched.{StaysCalm, change, notes_room};
 ghost use Rattle.manuscript_cli.specs.declared.status.Status.TheVariants.{Done};
 ghost use Rattle.relay_core.specs.declared.relay.TheConstants.{MOST_LOGGED as most_logged};
@@ -28,17 +29,17 @@ pub(crate) fn relay<O: Sink, N: Sink, D: Dock, B: BuildHasher + Drop>(
     dock: &mut D,
     hasher: B,
 ) -> Status
-    ensures { Relays port sessions (change (O.seen output.old) (O.seen output.new)) (change (N.seen notes.old) (N.seen notes.new))
-        (change (D.seen dock.old) (D.seen dock.new)) result }
+    ensures { Relays port sessions (change (O.seen output.old) (O.seen output.new))
+        (change (N.seen notes.old) (N.seen notes.new)) (change (D.seen dock.old) (D.seen dock.new)) result }
 {
-    match relayed(alloc, port, sessions, output, dock, hasher) {
+    match served(alloc, port, sessions, output, dock, hasher) {
         Ok(logged) => note(logged, notes),
         Err(why) => tell(notes, why),
     }
 }
 
-/// The same, without notes. The answer is how many frames the log has then.
-fn relayed<O: Sink, D: Dock, B: BuildHasher + Drop>(
+/// Listens and serves by a relay that is new. The answer is how many frames its log has then.
+fn served<O: Sink, D: Dock, B: BuildHasher + Drop>(
     alloc: Global,
     port: u16,
     sessions: u32,
@@ -46,18 +47,22 @@ fn relayed<O: Sink, D: Dock, B: BuildHasher + Drop>(
     dock: &mut D,
     hasher: B,
 ) -> Result<u32, Refusal>
-    ensures meets { ServingMeets port sessions (change (O.seen output.old) (O.seen output.new)) (change (D.seen dock.old) (D.seen dock.new)) result }
+    ensures meets { ServingMeets port sessions (change (O.seen output.old) (O.seen output.new))
+        (change (D.seen dock.old) (D.seen dock.new)) result }
     ensures calm { StaysCalm (length ready_line) (O.seen output.old) (O.seen output.new) }
-    ensures dock { NeverBlamed sessions (change (O.seen output.old) (O.seen output.new)) (change (D.seen dock.old) (D.seen dock.new)) result }
+    ensures dock { NeverBlamed sessions (change (O.seen output.old) (O.seen output.new))
+        (change (D.seen dock.old) (D.seen dock.new)) result }
+    ensures told { RiseOutside (change (O.seen output.old) (O.seen output.new))
+        (change (D.seen dock.old) (D.seen dock.new)) result }
 {
     let mut relay = Relay::new(alloc, hasher, MOST_LOGGED);
-    let logged = relay_by(alloc, port, sessions, output, dock, &mut relay);
+    let logged = serve_by(alloc, port, sessions, output, dock, &mut relay);
     drop(relay);
     logged
 }
 
-/// The same, with a relay to which nothing happened.
-fn relay_by<O: Sink, D: Dock, B: BuildHasher + Drop>(
+/// Listens and serves by this relay, to which nothing happened yet.
+fn serve_by<O: Sink, D: Dock, B: BuildHasher + Drop>(
     alloc: Global,
     port: u16,
     sessions: u32,
@@ -66,9 +71,13 @@ fn relay_by<O: Sink, D: Dock, B: BuildHasher + Drop>(
     relay: &mut Relay<B>,
 ) -> Result<u32, Refusal>
     requires { relay.old ≡ new_relay most_logged }
-    ensures meets { ServingMeets port sessions (change (O.seen output.old) (O.seen output.new)) (change (D.seen dock.old) (D.seen dock.new)) result }
+    ensures meets { ServingMeets port sessions (change (O.seen output.old) (O.seen output.new))
+        (change (D.seen dock.old) (D.seen dock.new)) result }
     ensures calm { StaysCalm (length ready_line) (O.seen output.old) (O.seen output.new) }
-    ensures dock { NeverBlamed sessions (change (O.seen output.old) (O.seen output.new)) (change (D.seen dock.old) (D.seen dock.new)) result }
+    ensures dock { NeverBlamed sessions (change (O.seen output.old) (O.seen output.new))
+        (change (D.seen dock.old) (D.seen dock.new)) result }
+    ensures told { RiseOutside (change (O.seen output.old) (O.seen output.new))
+        (change (D.seen dock.old) (D.seen dock.new)) result }
 {
     open(port, output, dock)?;
     match serve(alloc, relay, dock, sessions, u64::MAX) {
@@ -79,8 +88,11 @@ fn relay_by<O: Sink, D: Dock, B: BuildHasher + Drop>(
 
 /// Listens on the port, and says so.
 fn open<O: Sink, D: Dock>(port: u16, output: &mut O, dock: &mut D) -> Result<(), Refusal>
-    ensures meets { OpeningMeets port (change (O.seen output.old) (O.seen output.new)) (change (D.seen dock.old) (D.seen dock.new)) result }
+    ensures meets { OpeningMeets port (change (O.seen output.old) (O.seen output.new))
+        (change (D.seen dock.old) (D.seen dock.new)) result }
     ensures calm { StaysCalm (length ready_line) (O.seen output.old) (O.seen output.new) }
+    ensures told { RiseOutside (change (O.seen output.old) (O.seen output.new))
+        (change (D.seen dock.old) (D.seen dock.new)) result }
 {
     let Ok(()) = dock.listen(port) else {
         return Err(Refusal::Outside);
@@ -95,6 +107,7 @@ fn open<O: Sink, D: Dock>(port: u16, output: &mut O, dock: &mut D) -> Result<(),
 fn note<N: Sink>(logged: u32, notes: &mut N) -> Status
     ensures meets { NoteMeets (log_line logged) Done (N.seen notes.old) (N.seen notes.new) result }
     ensures calm { StaysCalm notes_room (N.seen notes.old) (N.seen notes.new) }
+    ensures blameless { NotesBlameless (change (N.seen notes.old) (N.seen notes.new)) result }
 {
     let written = write_logged(notes, logged);
     noted(written, Status::Done, notes)

@@ -1,6 +1,6 @@
 ghost use Rattle.std.specs.Prelude.{◌≡◌, ◌≤◌};
 ghost use Rattle.fugue_ids.specs.declared.limits.TheConstants.{GREATEST_HOLD as greatest_hold};
-ghost use Rattle.manuscript_cli.specs.Show.{reader, ShowMeets, ShowStaysCalm};
+ghost use Rattle.manuscript_cli.specs.Show.{reader, Shows};
 
 use crate::Status;
 use crate::kept::Kept;
@@ -25,12 +25,9 @@ pub(crate) fn show<S: Source, O: Sink, N: Sink>(
 ) -> Status
     requires from { 1 ≤ hold }
     requires to { hold ≤ greatest_hold }
-    ensures meets { ShowMeets hold
+    ensures { Shows hold
         (record { input = S.seen input.old; output = O.seen output.old; notes = N.seen notes.old })
         (record { input = S.seen input.new; output = O.seen output.new; notes = N.seen notes.new }) result }
-    ensures calm { ShowStaysCalm hold
-        (record { input = S.seen input.old; output = O.seen output.old; notes = N.seen notes.old })
-        (record { input = S.seen input.new; output = O.seen output.new; notes = N.seen notes.new }) }
 {
     let mut replica = new_reader(alloc, hold);
     let status = show_by(alloc, &mut replica, input, output, notes);
@@ -47,12 +44,9 @@ fn show_by<S: Source, O: Sink, N: Sink>(
     notes: &mut N,
 ) -> Status
     requires { replica.old ≡ reader replica.old.hold }
-    ensures meets { ShowMeets replica.old.hold
+    ensures { Shows replica.old.hold
         (record { input = S.seen input.old; output = O.seen output.old; notes = N.seen notes.old })
         (record { input = S.seen input.new; output = O.seen output.new; notes = N.seen notes.new }) result }
-    ensures calm { ShowStaysCalm replica.old.hold
-        (record { input = S.seen input.old; output = O.seen output.old; notes = N.seen notes.old })
-        (record { input = S.seen input.new; output = O.seen output.new; notes = N.seen notes.new }) }
 {
     let taken = take_in(alloc, replica, input, &mut Kept::forgotten());
     match taken {

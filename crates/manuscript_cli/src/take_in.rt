@@ -29,8 +29,10 @@ impl Intake {
         source: &mut S,
         kept: &mut Kept,
     ) -> Result<bool, Refusal>
-        requires { IsReady (record { reader = self.old.reader; replica = replica.old; counts = self.old.tally; kept = kept.old }) }
-        ensures steps { Steps (record { reader = self.old.reader; replica = replica.old; counts = self.old.tally; kept = kept.old })
+        requires { IsReady
+            (record { reader = self.old.reader; replica = replica.old; counts = self.old.tally; kept = kept.old }) }
+        ensures steps { Steps
+            (record { reader = self.old.reader; replica = replica.old; counts = self.old.tally; kept = kept.old })
             (record { reader = self.new.reader; replica = replica.new; counts = self.new.tally; kept = kept.new })
             (S.seen source.old) (S.seen source.new) result }
         ensures count { KeepsCount (S.seen source.old) (S.seen source.new) (IsErrOf result Outside) }
@@ -52,7 +54,8 @@ pub(crate) fn take_in<S: Source>(
 ) -> Result<Tally, Refusal>
     requires settled { IsSettled replica.old.held }
     requires few { length replica.old.held.waiting ≤ GREATEST_HOLD }
-    ensures ok { IfOk result (λ tally. TakesIn replica.old (S.seen source.old) (S.seen source.new) replica.new tally kept.old kept.new) }
+    ensures ok { IfOk result
+        (λ tally. TakesIn replica.old (S.seen source.old) (S.seen source.new) replica.new tally kept.old kept.new) }
     ensures err { IfErr result (λ why. StopsFor why replica.old (S.seen source.old)) }
     ensures count { KeepsCount (S.seen source.old) (S.seen source.new) (IsErrOf result Outside) }
 {

@@ -1,21 +1,25 @@
-ghost use Rattle.std.specs.Prelude.{◌≡◌, ◌↔◌, ℕ, Option, map, string_bytes};
-ghost use Rattle.manuscript_cli.specs.Command.{Names, IsCommand};
-ghost use Rattle.manuscript_cli.specs.Headline.{Headline, IsDecided};
-ghost use Rattle.manuscript_cli.specs.Run.{Meets};
+ghost use Rattle.std.specs.Prelude.{◌≡◌, ◌≢◌, ◌↔◌, ℕ, Option, Some, map, string_bytes};
+ghost use Rattle.manuscript_cli.specs.Command.{IsCommand, IsInRange, Names};
+ghost use Rattle.manuscript_cli.specs.Headline.{Headline, IsDecided, PrintsBySet};
+ghost use Rattle.manuscript_cli.specs.Run.{IsBlameless, Meets};
+ghost use Rattle.manuscript_cli.specs.Touched.{change};
 ghost use Rattle.manuscript_cli.specs.declared.command.Command.{Command as AnyCommand};
-ghost use Rattle.manuscript_cli.specs.declared.command.Command.TheVariants.{Show};
+ghost use Rattle.manuscript_cli.specs.declared.command.Command.TheVariants.{Print, Show};
 ghost use Rattle.manuscript_cli.specs.declared.status.Status.TheVariants.{Usage};
 
 use crate::bulk::bulk;
-use crate::edit::edit;
-use crate::file_out::{print_file, send_file};
-use crate::merge::merge;
+use crate::edit::Script;
+use crate::giving::save_given;
+use crate::merge::OtherFile;
 use crate::new_file::new_file;
+use crate::print::Manuscript;
 use crate::refusal::{Refusal, tell};
 use crate::relay::relay;
+use crate::report::write_report;
+use crate::send::Frames;
 use crate::show::show;
-use crate::sync_file::sync_file;
-use crate::take::take;
+use crate::sync_file::Reply;
+use crate::take::Stream;
 use crate::{Command, Status, read_words};
 use origin_model::order_by_set;
 use outer_ports::{Disk, Dock, Sink, Source, Wire};
@@ -24,9 +28,9 @@ use std::hash::BuildHasher;
 
 /// Does what the words ask for: the program's one call.
 ///
-/// Results go to `output`; what was done and why something was refused goes to `notes`, one line for each. The file that a
-/// command is about is `home`, and the other one that it reads is `guest`. A relay is asked over `wire`, and serves at
-/// `dock`, where `hasher` is for its log.
+/// Results go to `output`; what was done and why something was refused goes to `notes`, one line for each. The file
+/// that a command is about is `home`, and the other one that it reads is `guest`. A relay is asked over `wire`, and
+/// serves at `dock`, where `hasher` is for its log.
 pub fn run<S: Source, O: Sink, N: Sink, H: Disk, G: Disk, W: Wire, D: Dock, B: BuildHasher + Drop>(
     alloc: Global,
     words: &[String],
@@ -62,6 +66,23 @@ pub fn run<S: Source, O: Sink, N: Sink, H: Disk, G: Disk, W: Wire, D: Dock, B: B
           dock = D.seen dock.new;
         }) result }
 
+    // Where an object tells, a count of faults that rises is told by an outside fault.
+    ensures blameless { IsBlameless
+        (record {
+          streams = record { input = S.seen input.old; output = O.seen output.old; notes = N.seen notes.old };
+          home = H.seen home.old;
+          guest = G.seen guest.old;
+          wire = W.seen wire.old;
+          dock = D.seen dock.old;
+        })
+        (record {
+          streams = record { input = S.seen input.new; output = O.seen output.new; notes = N.seen notes.new };
+          home = H.seen home.new;
+          guest = G.seen guest.new;
+          wire = W.seen wire.new;
+          dock = D.seen dock.new;
+        }) result }
+
     // The stream decides the status of `show`, and a whole stream is shown.
     ensures decided { (hold : ℕ) → Names (map string_bytes words.now) (Show hold) → IsDecided hold
         (record { input = S.seen input.old; output = O.seen output.old; notes = N.seen notes.old })
@@ -69,22 +90,96 @@ pub fn run<S: Source, O: Sink, N: Sink, H: Disk, G: Disk, W: Wire, D: Dock, B: B
     ensures headline { (hold : ℕ) → Names (map string_bytes words.now) (Show hold) → Headline hold
         (record { input = S.seen input.old; output = O.seen output.old; notes = N.seen notes.old })
         (record { input = S.seen input.new; output = O.seen output.new; notes = N.seen notes.new }) result }
+
+    // The set of what a file's replica accepted decides what `print` writes.
+    ensures by_set { Names (map string_bytes words.now) Print
+        → PrintsBySet (H.seen home.old) (change (O.seen output.old) (O.seen output.new)) result }
 {
     // Replicas that accepted the same operations print the same by this law.
     order_by_set();
     match read_words(words) {
         None => tell(notes, Refusal::Words),
-        Some(Command::Show(hold)) => show(alloc, hold, input, output, notes),
-        Some(Command::New(replica, hold)) => new_file(replica, hold, home, notes),
-        Some(Command::Edit) => edit(alloc, home, input, notes),
-        Some(Command::Print) => print_file(alloc, home, output, notes),
-        Some(Command::Take) => take(alloc, home, input, notes),
-        Some(Command::Send) => send_file(alloc, home, output, notes),
-        Some(Command::Merge) => merge(alloc, home, guest, notes),
-        Some(Command::Relay(port, sessions)) => {
-            relay(alloc, port, sessions, output, notes, dock, hasher)
+        Some(command) => {
+            let objects = Objects {
+                input,
+                output,
+                notes,
+                home,
+                guest,
+                wire,
+                dock,
+            };
+            obey(alloc, command, objects, hasher)
         }
-        Some(Command::Sync(port, cursor)) => sync_file(alloc, port, cursor, home, wire, notes),
-        Some(Command::Bulk(seed, count)) => bulk(alloc, seed, count, output, notes),
+    }
+}
+
+/// The objects of the outside, of which each command uses some.
+struct Objects<'a, S, O, N, H, G, W, D> {
+    input: &'a mut S,
+    output: &'a mut O,
+    notes: &'a mut N,
+    home: &'a mut H,
+    guest: &'a mut G,
+    wire: &'a mut W,
+    dock: &'a mut D,
+}
+
+/// Does the command.
+fn obey<S: Source, O: Sink, N: Sink, H: Disk, G: Disk, W: Wire, D: Dock, B: BuildHasher + Drop>(
+    alloc: Global,
+    command: Command,
+    objects: Objects<'_, S, O, N, H, G, W, D>,
+    hasher: B,
+) -> Status
+    requires { IsInRange command }
+    // `exit` has what is left behind the references, in the order of the fields.
+    ensures meets { Meets (Some command)
+        (record {
+          streams = record {
+            input = S.seen objects.entry.input.now;
+            output = O.seen objects.entry.output.now;
+            notes = N.seen objects.entry.notes.now;
+          };
+          home = H.seen objects.entry.home.now;
+          guest = G.seen objects.entry.guest.now;
+          wire = W.seen objects.entry.wire.now;
+          dock = D.seen objects.entry.dock.now;
+        })
+        (record {
+          streams = record {
+            input = S.seen objects.exit.0.now;
+            output = O.seen objects.exit.1.0.now;
+            notes = N.seen objects.exit.1.1.0.now;
+          };
+          home = H.seen objects.exit.1.1.1.0.now;
+          guest = G.seen objects.exit.1.1.1.1.0.now;
+          wire = W.seen objects.exit.1.1.1.1.1.0.now;
+          dock = D.seen objects.exit.1.1.1.1.1.1.0.now;
+        }) result }
+    ensures used { result ≢ Usage }
+{
+    let Objects {
+        input,
+        output,
+        notes,
+        home,
+        guest,
+        wire,
+        dock,
+    } = objects;
+    match command {
+        Command::Show(hold) => show(alloc, hold, input, output, notes),
+        Command::New(replica, hold) => new_file(replica, hold, home, notes),
+        Command::Edit => save_given(alloc, &Script, input, home, notes),
+        Command::Print => write_report(alloc, &Manuscript, home, output, notes),
+        Command::Take => save_given(alloc, &Stream, input, home, notes),
+        Command::Send => write_report(alloc, &Frames, home, output, notes),
+        Command::Merge => save_given(alloc, &OtherFile, guest, home, notes),
+        Command::Relay(port, sessions) => relay(alloc, port, sessions, output, notes, dock, hasher),
+        Command::Sync(port, cursor) => {
+            save_given(alloc, &Reply { port, cursor }, wire, home, notes)
+        }
+        Command::Bulk(seed, count) => bulk(alloc, seed, count, output, notes),
     }
 }

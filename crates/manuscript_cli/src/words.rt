@@ -139,12 +139,8 @@ fn read_new(file: &str, number: &str, hold: &str) -> Option<Command>
 pub fn files_of(words: &[String]) -> (Option<&str>, Option<&str>)
     ensures { HasFiles (map string_bytes words.now) (option_copied result.0) (option_copied result.1) }
 {
-    match (read_words(words), words) {
-        (Some(Command::Merge), [_, file, other]) => (Some(file.as_str()), Some(other.as_str())),
-        (Some(Command::Show(_) | Command::Relay(_, _) | Command::Bulk(_, _)) | None, _) => {
-            (None, None)
-        }
-        (Some(_), [_, file, ..]) => (Some(file.as_str()), None),
-        _ => (None, None),
+    match read_words(words) {
+        Some(command) => command.files(words),
+        None => (None, None),
     }
 }

@@ -14,3 +14,9 @@ returns-in-Err-clause-meets g c before line wrote short = not_noted _ _ _ _ _ _ 
 
 pub returns-in-Err-clause-calm : goal.returns-in-Err-clause-calm
 returns-in-Err-clause-calm g c before line wrote short has = absurd (text_has_no_room _ _ _ _ _ (subst (λ w. WritesText before (g.N.Out.seen c.args.notes.now) w line) c.in-Err.is wrote) short has)
+
+pub returns-in-Ok-clause-blameless : goal.returns-in-Ok-clause-blameless
+returns-in-Ok-clause-blameless g c before line wrote tells not = inl ((subst (λ w. WritesText before (g.N.Out.seen c.args.notes.now) w line) c.in-Ok.is wrote).calm_told tells)
+
+pub returns-in-Err-clause-blameless : goal.returns-in-Err-clause-blameless
+returns-in-Err-clause-blameless g c before line wrote tells not = absurd (not c.tell.ensures.status)

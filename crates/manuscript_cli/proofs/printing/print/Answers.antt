@@ -19,3 +19,12 @@ returns-in-Err-clause-meets g c = inr (record {
 
 pub returns-in-Err-clause-output : goal.returns-in-Err-clause-output
 returns-in-Err-clause-output g c = text_stays_calm _ _ _ _ _ c.in-Err.ensures.text (omega arith)
+
+pub returns-in-Ok-clause-output_blameless : goal.returns-in-Ok-clause-output_blameless
+returns-in-Ok-clause-output_blameless g c tells not = c.in-Ok.ensures.text.calm_told tells
+
+pub returns-in-Err-clause-output_blameless : goal.returns-in-Err-clause-output_blameless
+returns-in-Err-clause-output_blameless g c tells not = absurd (not c.tell.ensures.status)
+
+pub returns-in-Err-clause-notes_blameless : goal.returns-in-Err-clause-notes_blameless
+returns-in-Err-clause-notes_blameless g c tells not = absurd (not c.tell.ensures.status)

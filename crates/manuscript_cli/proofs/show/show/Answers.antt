@@ -6,8 +6,5 @@ use Rattle.manuscript_cli.proofs.show.show.Goals as goal
 pub show_by-status-requires : goal.show_by-status-requires
 show_by-status-requires g c = c.new_reader-replica.ensures ∙ ap reader (sym (ap (λ (r : State). r.hold) c.new_reader-replica.ensures))
 
-pub returns-clause-meets : goal.returns-clause-meets
-returns-clause-meets g c = rw (ap (λ (r : State). r.hold) c.new_reader-replica.ensures) at c.show_by-status.ensures.meets
-
-pub returns-clause-calm : goal.returns-clause-calm
-returns-clause-calm g c = rw (ap (λ (r : State). r.hold) c.new_reader-replica.ensures) at c.show_by-status.ensures.calm
+pub returns : goal.returns
+returns g c = rw (ap (λ (r : State). r.hold) c.new_reader-replica.ensures) at c.show_by-status.ensures

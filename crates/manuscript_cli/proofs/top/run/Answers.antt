@@ -1,9 +1,13 @@
-use Rattle.std.proofs.Common.{◌≡◌, refl}
-use Rattle.std.specs.Prelude.{Some}
-use Rattle.manuscript_cli.specs.declared.command.Command.TheVariants.{Show}
+use Rattle.std.proofs.Common.{refl}
+use Rattle.std.specs.Prelude.{None, Some}
+use Rattle.manuscript_cli.specs.declared.command.Command.TheVariants.{Print, Show}
 use Rattle.manuscript_cli.proofs.HeadlineLemmas.{decided, headline}
-use Rattle.manuscript_cli.proofs.RunLemmas.{print_meets, show_meets}
+use Rattle.manuscript_cli.proofs.RunBlameLemmas.{meets_blameless}
+use Rattle.manuscript_cli.proofs.RunLemmas.{meets_named, named_in_range, prints_by_set}
 use Rattle.manuscript_cli.proofs.top.run.Goals as goal
+
+pub obey-requires : goal.obey-requires
+obey-requires g c = named_in_range _ _ c.in-Some.ensures.named
 
 -- Where no command was read, none is named.
 pub returns-in-None-clause-decided : goal.returns-in-None-clause-decided
@@ -12,21 +16,24 @@ returns-in-None-clause-decided g c hold named = cc (c.in-None.ensures.only (Show
 pub returns-in-None-clause-headline : goal.returns-in-None-clause-headline
 returns-in-None-clause-headline g c hold named = cc (c.in-None.ensures.only (Show hold) named)
 
-pub returns-in-Some-Show-clause-meets : goal.returns-in-Some-Show-clause-meets
-returns-in-Some-Show-clause-meets g c =
-    (Some c.in-Some-Show.field-0, c.in-Some-Show.ensures, show_meets _ _ _ _ _ c.in-Some-Show.field-0-is refl c.show.ensures.meets c.show.ensures.calm)
+pub returns-in-None-clause-by_set : goal.returns-in-None-clause-by_set
+returns-in-None-clause-by_set g c named = cc (c.in-None.ensures.only Print named)
+
+pub returns-in-None-clause-blameless : goal.returns-in-None-clause-blameless
+returns-in-None-clause-blameless g c = meets_blameless _ _ _ None (record { end_is = c.tell.ensures.status; others = refl; notes = c.tell.ensures.told })
+
+pub returns-in-Some-clause-blameless : goal.returns-in-Some-clause-blameless
+returns-in-Some-clause-blameless g c = meets_blameless _ _ _ (Some _) c.obey.ensures.meets
 
 -- The command that was read is the one that is named.
-pub returns-in-Some-Show-clause-decided : goal.returns-in-Some-Show-clause-decided
-returns-in-Some-Show-clause-decided g c hold named =
-    let same : c.in-Some-Show.hold ≡ hold = cc (c.in-Some-Show.field-0-is, c.in-Some-Show.ensures.only (Show hold) named) in
-    decided _ _ _ _ (rw same at c.show.ensures.meets)
+pub returns-in-Some-clause-decided : goal.returns-in-Some-clause-decided
+returns-in-Some-clause-decided g c hold named =
+    decided _ _ _ _ (meets_named _ (Show hold) _ _ _ (c.in-Some.ensures.only (Show hold) named) c.obey.ensures.meets).does.meets
 
-pub returns-in-Some-Show-clause-headline : goal.returns-in-Some-Show-clause-headline
-returns-in-Some-Show-clause-headline g c hold named =
-    let same : c.in-Some-Show.hold ≡ hold = cc (c.in-Some-Show.field-0-is, c.in-Some-Show.ensures.only (Show hold) named) in
-    headline c.order_by_set.ensures _ _ _ _ (rw same at c.show.ensures.meets)
+pub returns-in-Some-clause-headline : goal.returns-in-Some-clause-headline
+returns-in-Some-clause-headline g c hold named =
+    headline c.order_by_set.ensures _ _ _ _ (meets_named _ (Show hold) _ _ _ (c.in-Some.ensures.only (Show hold) named) c.obey.ensures.meets).does.meets
 
-pub returns-in-Some-Print-clause-meets : goal.returns-in-Some-Print-clause-meets
-returns-in-Some-Print-clause-meets g c =
-    (Some c.in-Some-Print.field-0, c.in-Some-Print.ensures, print_meets c.order_by_set.ensures _ _ _ _ c.in-Some-Print.field-0-is refl c.print_file.ensures)
+pub returns-in-Some-clause-by_set : goal.returns-in-Some-clause-by_set
+returns-in-Some-clause-by_set g c named =
+    prints_by_set c.order_by_set.ensures _ _ _ (meets_named _ Print _ _ _ (c.in-Some.ensures.only Print named) c.obey.ensures.meets)

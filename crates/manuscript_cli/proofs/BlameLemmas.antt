@@ -1,0 +1,38 @@
+-- A count of faults that rises is told by an outside fault, where the object tells: what a giver's answer leads to.
+use Rattle.std.proofs.Common.{◌≡◌, ◌≢◌, [], ap, refl, subst, sym, ◌∙◌}
+use Rattle.std.specs.Prelude.{Err, IfSome, IsErrOf, IsSome, None, Option, Result, Some}
+use Rattle.outer_ports.specs.Sources.{KeepsCount, SourceView}
+use Rattle.outer_ports.specs.disk.Moments.{History, after}
+use Rattle.outer_ports.specs.disk.States.{settled}
+use Rattle.manuscript_cli.specs.Crashes.{IsFinished}
+use Rattle.manuscript_cli.specs.Giving.{MayEnd}
+use Rattle.manuscript_cli.specs.Refusal.{status_of}
+use Rattle.manuscript_cli.specs.Saving.{ReadsInput}
+use Rattle.manuscript_cli.specs.Touched.{Change}
+use Rattle.manuscript_cli.specs.declared.counts.Note.{Note}
+use Rattle.manuscript_cli.specs.declared.refusal.Refusal.{Refusal}
+use Rattle.manuscript_cli.specs.declared.refusal.Refusal.TheVariants as refusal
+use Rattle.manuscript_cli.specs.declared.status.Status.{Status}
+use Rattle.manuscript_cli.specs.declared.status.Status.TheVariants as status
+
+-- a refusal that ends otherwise blames nothing outside
+pub not_blamed : {T : Type 0} (why : Refusal) → status_of why ≢ status.OutsideFault → IsErrOf {T = T} (Err why) refusal.Outside → ⊥
+not_blamed why inside is = let outside : why ≡ refusal.Outside = cc is in inside (ap status_of outside)
+
+-- the refusal of one answer is that of another
+pub still_not_blamed : {T U : Type 0} (why : Refusal) → (IsErrOf {T = T} (Err why) refusal.Outside → ⊥) → IsErrOf {T = U} (Err why) refusal.Outside → ⊥
+still_not_blamed why not is = let outside : why ≡ refusal.Outside = cc is in not (ap Err outside)
+
+-- a file that was settled tells as before
+pub settled_tells : (old new : Option History) → new ≡ after settled old → IsSome old → IsSome new
+settled_tells None new is some = cc some
+settled_tells (Some h) new is some = subst (λ (o : Option History). IsSome o) (sym is) refl
+
+-- a command whose giver blamed the outside ends with an outside fault
+pub ends_outside : (answer : Result Note Refusal) (given why : Refusal) (end : Status) → answer ≡ Err given → given ≡ why → MayEnd answer end → why ≡ refusal.Outside → end ≡ status.OutsideFault
+ends_outside answer given why end is from may outside = may.blames (is ∙ ap Err (from ∙ outside))
+
+-- an input that something was taken from
+pub input_read : (input : Change SourceView) (end : Status) (failed : Type 0) → KeepsCount input.old input.new failed → (IsFinished end → IfSome input.new.left (λ bytes. bytes ≡ []))
+    → (failed → end ≡ status.OutsideFault) → ReadsInput input.old input.new end
+input_read input end failed count ended blamed = record { read = ended; calm = count.calm; blameless = λ tells inside. count.calm_told tells (λ f. inside (blamed f)) }

@@ -1,0 +1,54 @@
+-- From what the commands promise of the objects that they use, that no object that tells counts a fault that is not told.
+use Rattle.std.proofs.Common.{◌≡◌, ℕ, List, refl, subst, sym}
+use Rattle.std.specs.Prelude.{None, Option, Some}
+use Rattle.fugue_ids.specs.Outs.{OutView}
+use Rattle.outer_ports.specs.Sources.{SourceView}
+use Rattle.origin_model.specs.taking.Taking.{Held}
+use Rattle.manuscript_cli.specs.Edit.{script}
+use Rattle.manuscript_cli.specs.Printing.{NotesBlameless}
+use Rattle.manuscript_cli.specs.Run.{IsBlameless, Meets, RunsReport, UsageMeets}
+use Rattle.manuscript_cli.specs.Savers.{RunsSaving, input_saver}
+use Rattle.manuscript_cli.specs.Saving.{Giver}
+use Rattle.manuscript_cli.specs.Take.{stream}
+use Rattle.manuscript_cli.specs.Touched.{Change, DiskBlameless, DockBlameless, OutBlameless, SourceBlameless, Touched, WireBlameless, change}
+use Rattle.manuscript_cli.specs.declared.command.Command.{Command}
+use Rattle.manuscript_cli.specs.declared.command.Command.TheVariants.{Show, New, Edit, Print, Take, Send, Merge, Relay, Sync, Bulk}
+use Rattle.manuscript_cli.specs.declared.refusal.Refusal.TheVariants.{Words}
+use Rattle.manuscript_cli.specs.declared.status.Status.{Status}
+use Rattle.manuscript_cli.proofs.TextLemmas.{told_blameless}
+
+-- the count of an object that is not used stays
+quiet : {P Q : Type 0} {count : ℕ} → P → Q → count ≡ count
+quiet tells inside = refl
+
+module _ (old new : Touched) (end : Status) where
+  -- the objects stand so at the end
+  all : (now : Touched) → new ≡ now → SourceBlameless (change old.streams.input now.streams.input) end → OutBlameless (change old.streams.output now.streams.output) end
+      → NotesBlameless (change old.streams.notes now.streams.notes) end → DiskBlameless (change old.home now.home) end → DiskBlameless (change old.guest now.guest) end
+      → WireBlameless (change old.wire now.wire) end → DockBlameless (change old.dock now.dock) end → IsBlameless old new end
+  all now is input output notes home guest wire dock =
+      subst (λ (t : Touched). IsBlameless old t end) (sym is) (record { input = input; output = output; notes = notes; home = home; guest = guest; wire = wire; dock = dock })
+
+  usage : UsageMeets old new end → IsBlameless old new end
+  usage meets =
+      let notes : Change OutView = change old.streams.notes new.streams.notes in
+      all _ meets.others quiet quiet (subst (NotesBlameless notes) (sym meets.end_is) (told_blameless Words notes meets.notes)) quiet quiet quiet quiet
+
+  takes_input : (giver : Change SourceView → Giver) → RunsSaving (input_saver giver old new) old new end → IsBlameless old new end
+  takes_input giver meets = all _ meets.others meets.leaves.blameless quiet meets.blameless.notes_blameless meets.blameless.file_blameless quiet quiet quiet
+
+  reports : (text : Held → List ℕ) → RunsReport text old new end → IsBlameless old new end
+  reports text meets = all _ meets.others quiet meets.does.output_blameless meets.does.notes_blameless meets.does.file_blameless quiet quiet quiet
+
+  pub meets_blameless : (command : Option Command) → Meets command old new end → IsBlameless old new end
+  meets_blameless None meets = usage meets
+  meets_blameless (Some (Show hold)) meets = all _ meets.others meets.does.input_blameless meets.does.output_blameless meets.does.notes_blameless quiet quiet quiet quiet
+  meets_blameless (Some (New replica hold)) meets = all _ meets.others quiet quiet meets.does.notes_blameless meets.does.home_blameless quiet quiet quiet
+  meets_blameless (Some Edit) meets = takes_input script meets
+  meets_blameless (Some Print) meets = reports _ meets
+  meets_blameless (Some Take) meets = takes_input stream meets
+  meets_blameless (Some Send) meets = reports _ meets
+  meets_blameless (Some Merge) meets = all _ meets.others quiet quiet meets.blameless.notes_blameless meets.blameless.file_blameless meets.leaves.blameless quiet quiet
+  meets_blameless (Some (Relay port sessions)) meets = all _ meets.others quiet meets.does.output_blameless meets.does.notes_blameless quiet quiet quiet meets.does.dock_blameless
+  meets_blameless (Some (Sync port cursor)) meets = all _ meets.others quiet quiet meets.blameless.notes_blameless meets.blameless.file_blameless quiet meets.leaves.blameless quiet
+  meets_blameless (Some (Bulk seed count)) meets = all _ meets.others quiet meets.does.writes.output_blameless meets.does.writes.notes_blameless quiet quiet quiet quiet

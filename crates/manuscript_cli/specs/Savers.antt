@@ -1,0 +1,56 @@
+-- The commands that save, each with what gives, and how it leaves that.
+use Rattle.std.specs.Prelude.{◌≡◌, ℕ}
+use Rattle.outer_ports.specs.Sources.{SourceView}
+use Rattle.manuscript_cli.specs.Edit.{script}
+use Rattle.manuscript_cli.specs.Files.{LeavesFile}
+use Rattle.manuscript_cli.specs.Saving.{Giver, ReadsInput, SavesGiven, SavingBlameless}
+use Rattle.manuscript_cli.specs.Sync.{LeavesWire, reply}
+use Rattle.manuscript_cli.specs.Take.{other_file, stream}
+use Rattle.manuscript_cli.specs.Touched.{Change, Touched, change}
+use Rattle.manuscript_cli.specs.declared.status.Status.{Status}
+
+pub record Saver : Type 1 where
+  pub giver : Giver
+  -- the object that gives is left so, where the command ends so
+  pub Leaves : Status → Type 0
+  -- all objects as they were, but for the one that gives
+  pub others : Touched
+
+-- the input gives
+abbrev pub input_saver : (Change SourceView → Giver) → Touched → Touched → Saver
+input_saver giver old new = record {
+  giver = giver (change old.streams.input new.streams.input);
+  Leaves = ReadsInput old.streams.input new.streams.input;
+  others = record old { streams = record old.streams { input = new.streams.input } };
+}
+
+-- `edit`: by a script
+abbrev pub edit_saver : Touched → Touched → Saver
+edit_saver = input_saver script
+
+-- `take`: by a stream of operations
+abbrev pub take_saver : Touched → Touched → Saver
+take_saver = input_saver stream
+
+-- `merge`: another file gives what its replica holds
+abbrev pub merge_saver : Touched → Touched → Saver
+merge_saver old new = record {
+  giver = other_file (change old.guest new.guest);
+  Leaves = LeavesFile (change old.guest new.guest);
+  others = record old { guest = new.guest };
+}
+
+-- `sync`: the wire gives by a relay's reply
+abbrev pub sync_saver : (port cursor : ℕ) → Touched → Touched → Saver
+sync_saver port cursor old new = record {
+  giver = reply cursor old.home (change old.wire new.wire);
+  Leaves = LeavesWire port cursor old.home (change old.wire new.wire);
+  others = record old { wire = new.wire };
+}
+
+-- a command that saves uses its home file, the notes, and the object that gives
+pub record RunsSaving (saver : Saver) (old new : Touched) (end : Status) : Type 0 where
+  pub others : new ≡ record saver.others { streams = record saver.others.streams { notes = new.streams.notes }; home = new.home }
+  pub does : SavesGiven saver.giver (change old.home new.home) (change old.streams.notes new.streams.notes) end
+  pub blameless : SavingBlameless (change old.home new.home) (change old.streams.notes new.streams.notes) end
+  pub leaves : saver.Leaves end

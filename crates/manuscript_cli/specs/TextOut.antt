@@ -1,0 +1,60 @@
+-- A text that goes to the output: what came of it, and how a command ends that writes no more than that.
+use Rattle.std.specs.Prelude.{◌≡◌, ◌≢◌, ℕ, List, length, Result, Ok, Err}
+use Rattle.fugue_ids.specs.Causes.{Rose}
+use Rattle.fugue_ids.specs.Outs.{OutTells, OutView, Took, TookFront}
+use Rattle.manuscript_cli.specs.Printing.{NotesBlameless}
+use Rattle.manuscript_cli.specs.Refusal.{line_of, Told}
+use Rattle.manuscript_cli.specs.Touched.{Change, HasRoom, OutBlameless, StaysCalm, notes_room}
+use Rattle.manuscript_cli.specs.declared.refusal.Refusal.{Refusal}
+use Rattle.manuscript_cli.specs.declared.refusal.Refusal.TheVariants as refusal
+use Rattle.manuscript_cli.specs.declared.status.Status.{Status}
+use Rattle.manuscript_cli.specs.declared.status.Status.TheVariants as status
+
+-- the output failed: a front of the text went out
+pub record WroteFront (bytes : List ℕ) (output : Change OutView) : Type 0 where
+  pub wrote : TookFront output.old output.new bytes
+  pub rose : Rose output.old.faults output.new.faults
+  pub no_room : HasRoom (length bytes) output.old → ⊥
+
+-- what came of a text: it went out, or the output failed, or memory was wanting, and nothing went out
+abbrev pub TextComes : (bytes : List ℕ) → Change OutView → Result (Unit {0}) Refusal → Type 0
+TextComes bytes output (Ok done) = Took output.old output.new bytes
+TextComes bytes output (Err refusal.Outside) = WroteFront bytes output
+TextComes bytes output (Err refusal.NoMemory) = output.new ≡ output.old
+TextComes bytes output (Err _) = ⊥
+
+-- the call that writes a text: a sure output that has room for it counts no fault, and one that tells none but where it failed
+pub record GoesOut (bytes : List ℕ) (output : Change OutView) (result : Result (Unit {0}) Refusal) : Type 0 where
+  pub comes : TextComes bytes output result
+  pub calm : StaysCalm (length bytes) output.old output.new
+  pub told : OutTells output.old → result ≢ Err refusal.Outside → output.new.faults ≡ output.old.faults
+
+-- the text went out, and nothing was noted
+pub record WroteText (bytes : List ℕ) (output notes : Change OutView) : Type 0 where
+  pub wrote : Took output.old output.new bytes
+  pub noted : notes.new ≡ notes.old
+
+-- the output failed, and that was told
+pub record TextFailed (bytes : List ℕ) (output notes : Change OutView) : Type 0 where
+  pub front : WroteFront bytes output
+  pub noted : Told notes.old notes.new (line_of refusal.Outside)
+
+-- nothing went out, and the notes got the refusal's line
+pub record WroteNothing (output notes : Change OutView) (why : Refusal) : Type 0 where
+  pub wrote : output.new ≡ output.old
+  pub noted : Told notes.old notes.new (line_of why)
+
+-- what was done, for each way in which a command may end that writes a text
+abbrev pub TextMeets : (bytes : List ℕ) → (output notes : Change OutView) → Status → Type 0
+TextMeets bytes output notes status.Done = WroteText bytes output notes
+TextMeets bytes output notes status.OutsideFault = TextFailed bytes output notes
+TextMeets bytes output notes status.NoMemory = WroteNothing output notes refusal.NoMemory
+TextMeets bytes output notes _ = ⊥
+
+-- a command that writes a text, and notes but why it did not
+pub record WritesOut (bytes : List ℕ) (output notes : Change OutView) (end : Status) : Type 0 where
+  pub meets : TextMeets bytes output notes end
+  pub output_calm : StaysCalm (length bytes) output.old output.new
+  pub notes_calm : StaysCalm notes_room notes.old notes.new
+  pub output_blameless : OutBlameless output end
+  pub notes_blameless : NotesBlameless notes end

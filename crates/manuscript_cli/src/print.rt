@@ -1,0 +1,24 @@
+ghost use Rattle.manuscript_cli.specs.Report.{printed_of};
+
+use crate::refusal::Refusal;
+use crate::report::Report;
+use crate::text_out::gone_out;
+use outer_ports::Sink;
+use replica_core::Replica;
+use std::alloc::Global;
+
+/// The manuscript.
+pub(crate) struct Manuscript;
+
+impl Report for Manuscript {
+    ghost text = { λ what. printed_of };
+
+    fn write<O: Sink>(
+        &self,
+        _alloc: Global,
+        replica: &Replica,
+        output: &mut O,
+    ) -> Result<(), Refusal> {
+        gone_out(replica.write_manuscript(output))
+    }
+}

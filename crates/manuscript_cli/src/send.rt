@@ -1,0 +1,39 @@
+ghost use Rattle.std.specs.Prelude.{◌≡◌, IfOk};
+ghost use Rattle.manuscript_cli.specs.Report.{frames_held};
+
+use crate::refusal::Refusal;
+use crate::report::Report;
+use crate::text_out::gone_out;
+use fugue_ids::{NoMemory, write_whole};
+use op_frame::encode_all;
+use outer_ports::Sink;
+use replica_core::Replica;
+use std::alloc::Global;
+
+/// The frames of all that is held.
+pub(crate) struct Frames;
+
+impl Report for Frames {
+    ghost text = { λ what. frames_held };
+
+    fn write<O: Sink>(
+        &self,
+        alloc: Global,
+        replica: &Replica,
+        output: &mut O,
+    ) -> Result<(), Refusal> {
+        let frames = frames_of(alloc, replica)?;
+        gone_out(write_whole(output, &frames))
+    }
+}
+
+/// The frames of all that a replica holds. They are made before any of them goes out, so that want of memory leaves the
+/// output as it was.
+fn frames_of(alloc: Global, replica: &Replica) -> Result<Vec<u8>, NoMemory>
+    ensures { IfOk result (λ frames. frames.items ≡ frames_held replica.now.held) }
+{
+    let mut frames = Vec::new(alloc);
+    encode_all(replica.accepted(), &mut frames)?;
+    encode_all(replica.waiting(), &mut frames)?;
+    Ok(frames)
+}
