@@ -1,4 +1,3 @@
-use Rattle.relay_sync.proofs.CountLemmas.{read_rises, wire_calm, wire_so, wire_went}
 use Rattle.std.proofs.Common.{[], arith, refl, rules, slice_index_or, ◌∷◌}
 use Rattle.relay_sync.proofs.HearingLemmas.{read_fails}
 use Rattle.relay_sync.proofs.hearing.next_byte.Goals as goal
@@ -12,15 +11,3 @@ returns-then-heard-eq-STREAM_LIMIT-clause-err g c = λ before front place. recor
 
 pub returns-in_default-clause-err : goal.returns-in_default-clause-err
 returns-in_default-clause-err g c = λ before front place. read_fails c.read.result c.in_default.field-0 _ _ _ _ before c.in_default.is c.read.ensures front
-
-pub returns-in_default-clause-told : goal.returns-in_default-clause-told
-returns-in_default-clause-told g c = wire_so _ _ _ _ (λ failed. refl) (read_rises _ _ _ _ c.read.ensures)
-
-pub returns-then-heard-eq-STREAM_LIMIT-clause-told : goal.returns-then-heard-eq-STREAM_LIMIT-clause-told
-returns-then-heard-eq-STREAM_LIMIT-clause-told g c = wire_calm _ _ _ (wire_went _ _ (read_rises _ _ _ _ c.in-Ok.ensures))
-
-pub returns-then-count-eq0-clause-told : goal.returns-then-count-eq0-clause-told
-returns-then-count-eq0-clause-told g c = wire_calm _ _ _ (wire_went _ _ (read_rises _ _ _ _ c.in-Ok.ensures))
-
-pub returns-clause-told : goal.returns-clause-told
-returns-clause-told g c = wire_went _ _ (read_rises _ _ _ _ c.in-Ok.ensures)

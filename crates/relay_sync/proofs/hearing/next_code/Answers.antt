@@ -1,4 +1,3 @@
-use Rattle.relay_sync.proofs.CountLemmas.{wire_calm}
 use Rattle.std.proofs.Common.{[], arith, refl, ◌∷◌}
 use Rattle.std.proofs.lemmas.Result.{err_from_is_err_and}
 use Rattle.relay_sync.specs.Replies.{IsCode}
@@ -22,14 +21,3 @@ returns-then-code-eq0-clause-err g c =
       hears = c.in_ok-code.ensures.ok;
       stops = (refl, broken_code c.in_ok-code.code none, omega (arith, c.requires.count, c.in_ok-code.ensures.count, c.in_ok-code.ensures.within));
     }
-
-pub returns-in_err-code-clause-told : goal.returns-in_err-code-clause-told
-returns-in_err-code-clause-told g c =
-    let p = err_from_is_err_and c.from_residual.result c.from_residual.ensures.1 in
-    rw (p.1, p.2) (c.in_err-code.ensures.told)
-
-pub returns-then-code-eq0-clause-told : goal.returns-then-code-eq0-clause-told
-returns-then-code-eq0-clause-told g c = wire_calm _ _ _ c.in_ok-code.ensures.told
-
-pub returns-clause-told : goal.returns-clause-told
-returns-clause-told g c = c.in_ok-code.ensures.told

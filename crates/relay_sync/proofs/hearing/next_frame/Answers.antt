@@ -1,4 +1,4 @@
-use Rattle.relay_sync.proofs.CountLemmas.{wire_calm, wire_on, wire_still}
+use Rattle.relay_sync.proofs.CountLemmas.{wire_on, wire_still}
 use Rattle.std.proofs.Common.{[], List, ap, arith, length-append, refl, subst, sym, ℕ, ◌++◌, ◌∙◌, ◌∷◌}
 use Rattle.std.proofs.lemmas.Result.{err_from_is_err_and}
 use Rattle.relay_sync.specs.Replies.{IsMessageFront}
@@ -51,14 +51,3 @@ bytes-preserved g c =
       within = c.in_ok-byte-in-Front.ensures.within;
       told = wire_on ⊥ _ _ _ kept.told c.in_ok-byte-in-Front.ensures.told;
     }
-
-pub returns-in_err-byte-in-Front-clause-told : goal.returns-in_err-byte-in-Front-clause-told
-returns-in_err-byte-in-Front-clause-told g c =
-    let p = err_from_is_err_and c.from_residual.result c.from_residual.ensures.1 in
-    rw (p.1, p.2) (wire_on _ _ _ _ c.bytes.invariant.told c.in_err-byte-in-Front.ensures.told)
-
-pub returns-in-Bad-clause-told : goal.returns-in-Bad-clause-told
-returns-in-Bad-clause-told g c = wire_calm _ _ _ c.bytes.invariant.told
-
-pub returns-in-Frame-clause-told : goal.returns-in-Frame-clause-told
-returns-in-Frame-clause-told g c = wire_calm _ _ _ c.bytes.invariant.told

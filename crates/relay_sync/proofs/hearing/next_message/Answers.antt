@@ -1,4 +1,3 @@
-use Rattle.relay_sync.proofs.CountLemmas.{wire_on}
 use Rattle.std.proofs.Common.{[], arith, subst, ℕ, ◌∷◌}
 use Rattle.std.proofs.lemmas.Result.{err_from_is_err_and}
 use Rattle.relay_sync.specs.Replies.{Hears}
@@ -22,17 +21,3 @@ returns-in-88-clause-err g c =
 
 pub returns-in_default-clause-err : goal.returns-in_default-clause-err
 returns-in_default-clause-err g c = err_behind c.next_frame.result _ _ _ _ [] (c.in_ok-first.first ∷ []) c.in_ok-first.ensures.ok c.next_frame.ensures.err
-
-pub returns-in_err-first-clause-told : goal.returns-in_err-first-clause-told
-returns-in_err-first-clause-told g c =
-    let p = err_from_is_err_and c.from_residual.result c.from_residual.ensures.1 in
-    rw (p.1, p.2) (c.in_err-first.ensures.told)
-
-pub returns-in-85-clause-told : goal.returns-in-85-clause-told
-returns-in-85-clause-told g c = wire_on _ _ _ _ c.in_ok-first.ensures.told c.next_number.ensures.told
-
-pub returns-in-88-clause-told : goal.returns-in-88-clause-told
-returns-in-88-clause-told g c = wire_on _ _ _ _ c.in_ok-first.ensures.told c.next_code.ensures.told
-
-pub returns-in_default-clause-told : goal.returns-in_default-clause-told
-returns-in_default-clause-told g c = wire_on _ _ _ _ c.in_ok-first.ensures.told c.next_frame.ensures.told

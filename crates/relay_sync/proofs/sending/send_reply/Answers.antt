@@ -1,4 +1,3 @@
-use Rattle.relay_sync.proofs.CountLemmas.{dock_on, dock_went, ends_rises, sends_rises}
 use Rattle.std.proofs.Common.{sym}
 use Rattle.std.proofs.lemmas.Result.{err_from_is_err_and}
 use Rattle.fugue_ids.specs.declared.failed.Failed.{Failed}
@@ -22,19 +21,3 @@ pub returns-in_err-send_whole-clause-err : goal.returns-in_err-send_whole-clause
 returns-in_err-send_whole-clause-err g c =
     let p = err_from_is_err_and c.from_residual.result c.from_residual.ensures.1 in
     rw p.1 (replied_front {E = Failed} {T = Unit {0}} c.in_err-send_whole.field-0.0 _ _ c.args.reply.now (rw (sym c.as_slice.ensures) c.in_err-send_whole.ensures))
-
-pub returns-in_err-send_whole-clause-told : goal.returns-in_err-send_whole-clause-told
-returns-in_err-send_whole-clause-told g c =
-    let p = err_from_is_err_and c.from_residual.result c.from_residual.ensures.1 in
-    rw p.1 (sends_rises _ _ _ _ _ c.in_err-send_whole.ensures)
-
-pub returns-in_err-end-clause-told : goal.returns-in_err-end-clause-told
-returns-in_err-end-clause-told g c =
-    let p = err_from_is_err_and c.from_residual-in_err-end.result c.from_residual-in_err-end.ensures.1 in
-    rw p.1 (dock_on _ _ _ _ (dock_went _ _ (sends_rises _ _ _ _ _ c.in_ok-send_whole.ensures)) (ends_rises _ _ _ _ c.in_err-end.ensures))
-
-pub returns-in_ok-end-clause-told : goal.returns-in_ok-end-clause-told
-returns-in_ok-end-clause-told g c = dock_on _ _ _ _ (dock_went _ _ (sends_rises _ _ _ _ _ c.in_ok-send_whole.ensures)) (ends_rises _ _ _ _ c.in_ok-end.ensures)
-
-pub returns-else-reply-clause-told : goal.returns-else-reply-clause-told
-returns-else-reply-clause-told g c = sends_rises _ _ _ _ _ c.in_ok-send_whole.ensures

@@ -1,4 +1,4 @@
-use Rattle.relay_sync.proofs.CountLemmas.{dock_calm, dock_on, dock_still}
+use Rattle.relay_sync.proofs.CountLemmas.{dock_on, dock_still}
 use Rattle.std.proofs.Common.{[], arith, length-append, ◌++◌, ◌∷◌}
 use Rattle.std.proofs.lemmas.Result.{err_from_is_err_and}
 use Rattle.relay_sync.specs.Serving.{over_after}
@@ -47,14 +47,3 @@ returns-in_err-serve_step-clause-dock g c =
 
 pub returns-clause-dock : goal.returns-clause-dock
 returns-clause-dock g c = let i = c.steps.invariant in served_blames _ _ _ _ _ _ i.turns i.serves i.none
-
-pub returns-then-left-eq0-clause-told : goal.returns-then-left-eq0-clause-told
-returns-then-left-eq0-clause-told g c = dock_calm _ _ _ c.steps.invariant.told
-
-pub returns-in_err-serve_step-clause-told : goal.returns-in_err-serve_step-clause-told
-returns-in_err-serve_step-clause-told g c =
-    let p = err_from_is_err_and c.from_residual.result c.from_residual.ensures.1 in
-    rw (p.1, p.2) (dock_on _ _ _ _ c.steps.invariant.told c.in_err-serve_step.ensures.told)
-
-pub returns-clause-told : goal.returns-clause-told
-returns-clause-told g c = c.steps.invariant.told

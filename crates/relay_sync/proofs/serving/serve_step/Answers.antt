@@ -1,4 +1,3 @@
-use Rattle.relay_sync.proofs.CountLemmas.{dock_calm, dock_on}
 use Rattle.std.proofs.Common.{arith, refl, subst, ◌∙◌}
 use Rattle.std.proofs.lemmas.Result.{err_from_is_err_and}
 use Rattle.origin_model.specs.relay.Relay.{Steps}
@@ -36,22 +35,3 @@ returns-clause-ok g c =
       turn_serves _ _ _ _ _ c.in_ok-step.step s.reply c.in_ok-step.ensures.ok c.in_ok-step.ensures.calm (subst (λ e. Steps c.args.relay.now e c.step.new.self s.reply) c.event_of.ensures s.steps) answered.0,
       λ sessions is. rw (c.gone_by-gone.ensures (with_closed sessions s.reply)) (c.in-Ok-note_gone.ensures (with_closed sessions s.reply) (answered.1 sessions is)),
     )
-
-pub returns-in_err-step-clause-told : goal.returns-in_err-step-clause-told
-returns-in_err-step-clause-told g c =
-    let p = err_from_is_err_and c.from_residual.result c.from_residual.ensures.1 in
-    rw (p.1, p.2) (c.in_err-step.ensures.told)
-
-pub returns-in_default-clause-told : goal.returns-in_default-clause-told
-returns-in_default-clause-told g c = dock_calm _ _ _ c.in_ok-step.ensures.told
-
-pub returns-in_err-answer-clause-told : goal.returns-in_err-answer-clause-told
-returns-in_err-answer-clause-told g c =
-    let p = err_from_is_err_and c.from_residual-in_err-answer.result c.from_residual-in_err-answer.ensures.1 in
-    rw (p.1, p.2) (dock_on _ _ _ _ c.in_ok-step.ensures.told c.in_err-answer.ensures.told)
-
-pub returns-in_default-note_gone-clause-told : goal.returns-in_default-note_gone-clause-told
-returns-in_default-note_gone-clause-told g c = dock_calm _ _ _ (dock_on ⊥ _ _ _ c.in_ok-step.ensures.told c.in_ok-answer.ensures.told)
-
-pub returns-clause-told : goal.returns-clause-told
-returns-clause-told g c = dock_on ⊥ _ _ _ c.in_ok-step.ensures.told c.in_ok-answer.ensures.told

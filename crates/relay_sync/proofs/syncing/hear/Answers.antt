@@ -17,11 +17,3 @@ pub messages-preserved : goal.messages-preserved
 messages-preserved g c =
     let one = is_more _ _ _ _ _ _ _ c.in_default.not-Some c.in_ok-cursor.ensures.ok in
     record { goes = goes_on _ _ _ _ _ _ _ c.messages.invariant.goes _ one; told = wire_on ⊥ _ _ _ c.messages.invariant.told c.in_ok-cursor.ensures.told; ready = one.ready }
-
-pub returns-in_err-cursor-clause-told : goal.returns-in_err-cursor-clause-told
-returns-in_err-cursor-clause-told g c =
-    let p = err_from_is_err_and c.from_residual.result c.from_residual.ensures.1 in
-    rw (p.1, p.2) (wire_on _ _ _ _ c.messages.invariant.told c.in_err-cursor.ensures.told)
-
-pub returns-in-Some-clause-told : goal.returns-in-Some-clause-told
-returns-in-Some-clause-told g c = wire_on ⊥ _ _ _ c.messages.invariant.told c.in_ok-cursor.ensures.told

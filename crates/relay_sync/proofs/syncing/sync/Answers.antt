@@ -1,10 +1,7 @@
-use Rattle.std.proofs.Common.{refl}
-use Rattle.relay_sync.proofs.CountLemmas.{wire_on, wire_so, wire_still, wire_went}
 use Rattle.std.proofs.Common.{inl, ◌∙◌}
 use Rattle.std.proofs.lemmas.Result.{IfErr-weaker, IfOk-weaker}
 use Rattle.origin_model.specs.taking.Taking.{no_counts}
-use Rattle.relay_sync.proofs.HeardLemmas.{heard_behind, hears_exactly, undecided_exactly, up_to_behind}
-use Rattle.relay_sync.specs.declared.sync_fault.SyncFault.TheVariants.{NoMemory, WireFault}
+use Rattle.relay_sync.proofs.HeardLemmas.{heard_behind, hears_exactly, up_to_behind}
 use Rattle.relay_sync.proofs.SyncingLemmas.{fails_at_once, fails_to_say}
 use Rattle.relay_sync.proofs.syncing.sync.Goals as goal
 
@@ -21,21 +18,6 @@ returns-clause-reply g c = IfOk-weaker c.hear.result _ _ (λ synced h. heard_beh
 pub returns-clause-up_to : goal.returns-clause-up_to
 returns-clause-up_to g c = IfErr-weaker c.hear.result _ _ (λ fault h. (h.0, up_to_behind fault (g.W.Wire.seen c.args.wire.now) (g.W.Wire.seen c.say.new.wire) _ _ _ c.say.ensures.says.left h.1)) c.hear.ensures.err
 
-pub returns-in_default-clause-exactly : goal.returns-in_default-clause-exactly
-returns-in_default-clause-exactly g c = undecided_exactly NoMemory _ (g.W.Wire.seen c.args.wire.now).left (λ by. by)
-
-pub returns-in_default-say-clause-exactly : goal.returns-in_default-say-clause-exactly
-returns-in_default-say-clause-exactly g c = undecided_exactly WireFault _ (g.W.Wire.seen c.args.wire.now).left (λ by. by)
-
 pub returns-clause-exactly : goal.returns-clause-exactly
 returns-clause-exactly g c =
     hears_exactly c.hear.result (g.W.Wire.seen c.args.wire.now) (g.W.Wire.seen c.say.new.wire) _ _ _ _ c.say.ensures.says.left c.hear.ensures.ok c.hear.ensures.err
-
-pub returns-in_default-clause-told : goal.returns-in_default-clause-told
-returns-in_default-clause-told g c = wire_still _ _
-
-pub returns-in_default-say-clause-told : goal.returns-in_default-say-clause-told
-returns-in_default-say-clause-told g c = wire_so _ _ _ _ (λ failed. refl) c.say.ensures.told
-
-pub returns-clause-told : goal.returns-clause-told
-returns-clause-told g c = wire_on _ _ _ _ (wire_went _ _ c.in-Ok-say.ensures.told) c.hear.ensures.told
