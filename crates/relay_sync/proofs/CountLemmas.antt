@@ -3,10 +3,9 @@ use Rattle.std.proofs.Common.{List, false, inl, inr, refl, subst, sym, true, ℕ
 use Rattle.std.specs.Prelude.{Err, IsErr, IsSome, Ok, Option, Result}
 use Rattle.std.proofs.lemmas.Bool.{cases_eq, false≢true}
 use Rattle.fugue_ids.proofs.JoinLemmas.{text_tells}
-use Rattle.outer_ports.proofs.SharedLemmas.{dial_tells, end_tells, take_tells, wire_read_tells, wire_write_tells}
-use Rattle.outer_ports.specs.declared.dock.dock_step.DockStep.{DockStep}
-use Rattle.outer_ports.specs.dock.Docks.{DockTells, DockView, Ends, Takes, out_to}
-use Rattle.outer_ports.specs.wire.Wires.{Dials, WireReads, WireView, WireWrites}
+use Rattle.outer_ports.proofs.SharedLemmas.{wire_write_tells}
+use Rattle.outer_ports.specs.dock.Docks.{DockTells, DockView, out_to}
+use Rattle.outer_ports.specs.wire.Wires.{WireView, WireWrites}
 use Rattle.relay_sync.specs.Replies.{WireRisesFor}
 use Rattle.relay_sync.specs.Sending.{DockRisesFor, SendsText}
 
@@ -29,9 +28,6 @@ dock_on Q u v w s t = dock_then ⊥ Q u v w (λ e. e) s t
 pub dock_calm : (Q : Type 0) (u v : DockView) → DockRisesFor ⊥ u v → DockRisesFor Q u v
 dock_calm Q u v s = dock_so ⊥ Q u v (λ e. absurd e) s
 
-pub dock_went : (u v : DockView) → DockRisesFor (false ≡ true) u v → DockRisesFor ⊥ u v
-dock_went u v s = dock_so (false ≡ true) ⊥ u v (λ e. false≢true e) s
-
 same_tells : {X : Type 0} {old new : Option X} → new ≡ old → IsSome old → IsSome new
 same_tells {X} same tells = subst (λ (o : Option X). IsSome o) (sym same) tells
 
@@ -48,21 +44,6 @@ sends_tell result u v session text s tells = record {
   ended_at = same_tells s.ended_at tells.ended_at;
 }
 
--- a text that was sent, or not
-pub sends_rises : {E T : Type 0} (result : Result T E) (u v : DockView) (session : ℕ) (text : List ℕ) → SendsText {E = E} {T = T} u v result session text → DockRisesFor (IsErr result) u v
-sends_rises {E} {T} (Ok x) u v session text s = record { tells = sends_tell (Ok x) u v session text s; calm_told = λ tells none. s.writes.calm_told (tells.sent session) }
-sends_rises {E} {T} (Err e) u v session text s = record { tells = sends_tell (Err e) u v session text s; calm_told = λ tells none. absurd (none refl) }
-
--- a session that was ended, or not
-pub ends_rises : {E T : Type 0} (result : Result T E) (u v : DockView) (session : ℕ) → Ends {E = E} {T = T} u v result session → DockRisesFor (IsErr result) u v
-ends_rises {E} {T} (Ok x) u v session s = record { tells = end_tells (Ok x) u v session s; calm_told = λ tells none. s.calm_told tells }
-ends_rises {E} {T} (Err e) u v session s = record { tells = end_tells (Err e) u v session s; calm_told = λ tells none. absurd (none refl) }
-
--- a step that was taken, or not
-pub takes_rises : {E : Type 0} (result : Result DockStep E) (u v : DockView) (buf : List ℕ) → Takes {E = E} u v result buf → DockRisesFor (IsErr result) u v
-takes_rises (Ok x) u v buf s = record { tells = take_tells (Ok x) u v buf s; calm_told = λ tells none. s.calm_told tells }
-takes_rises (Err e) u v buf s = record { tells = take_tells (Err e) u v buf s; calm_told = λ tells none. absurd (none refl) }
-
 -- the same of wires
 pub wire_still : (P : Type 0) (u : WireView) → WireRisesFor P u u
 wire_still P u = record { tells = λ t. t; calm_told = λ t none. refl }
@@ -77,20 +58,9 @@ wire_so P Q u v so s = record { tells = s.tells; calm_told = λ told none. s.cal
 pub wire_on : (Q : Type 0) (u v w : WireView) → WireRisesFor ⊥ u v → WireRisesFor Q v w → WireRisesFor Q u w
 wire_on Q u v w s t = wire_then ⊥ Q u v w (λ e. e) s t
 
-pub wire_calm : (Q : Type 0) (u v : WireView) → WireRisesFor ⊥ u v → WireRisesFor Q u v
-wire_calm Q u v s = wire_so ⊥ Q u v (λ e. absurd e) s
-
 pub wire_went : (u v : WireView) → WireRisesFor (false ≡ true) u v → WireRisesFor ⊥ u v
 wire_went u v s = wire_so (false ≡ true) ⊥ u v (λ e. false≢true e) s
-
--- a read, a write and a call for a connection
-pub read_rises : {E : Type 0} (result : Result ℕ E) (u v : WireView) (buf : List ℕ) → WireReads {E = E} u v result buf → WireRisesFor (IsErr result) u v
-read_rises result u v buf r = record { tells = wire_read_tells result u v buf r; calm_told = λ tells none. r.reads.count.calm_told tells.1 none }
 
 pub write_rises : {E : Type 0} (result : Result ℕ E) (u v : WireView) (piece : List ℕ) → WireWrites {E = E} u v result piece → WireRisesFor (IsErr result) u v
 write_rises (Ok n) u v piece r = record { tells = wire_write_tells (Ok n) u v piece r; calm_told = λ tells none. r.writes.calm_told tells.2 }
 write_rises (Err e) u v piece r = record { tells = wire_write_tells (Err e) u v piece r; calm_told = λ tells none. absurd (none refl) }
-
-pub dial_rises : {E T : Type 0} (result : Result T E) (u v : WireView) (port : ℕ) → Dials {E = E} {T = T} u v result port → WireRisesFor (IsErr result) u v
-dial_rises {E} {T} (Ok x) u v port d = record { tells = dial_tells (Ok x) u v port d; calm_told = λ tells none. d.calm_told tells.2 }
-dial_rises {E} {T} (Err e) u v port d = record { tells = dial_tells (Err e) u v port d; calm_told = λ tells none. absurd (none refl) }

@@ -1,5 +1,5 @@
 -- Messages of a reply, as they are heard byte by byte.
-use Rattle.std.proofs.Common.{[], List, ap, append_assoc, arith, get_or, length, refl, subst, sym, ℕ, ◌+◌, ◌++◌, ◌<◌, ◌≤◌, ◌∙◌, ◌∷◌, ◌≡◌, ◌≢◌}
+use Rattle.std.proofs.Common.{[], List, ap, append_assoc, arith, get_or, length, refl, subst, sym, ℕ, ◌++◌, ◌<◌, ◌≤◌, ◌∙◌, ◌∷◌, ◌≡◌, ◌≢◌}
 use Rattle.std.specs.Prelude.{is_some, IfErr, Ok, Err, Option, Result}
 use Rattle.std.specs.Int.{from_be_bytes, w32}
 use Rattle.std.specs.Io.KnownBytes.{prepend_known}
@@ -12,7 +12,7 @@ use Rattle.op_frame.specs.FrameFronts.{IsFrameOf, IsGrown}
 use Rattle.op_frame.specs.declared.grown.Grown.TheVariants.{Bad}
 use Rattle.op_frame.proofs.ToldLemmas.{prepend_none, prepend_twice}
 use Rattle.outer_ports.specs.wire.Wires.{WireReads, WireView}
-use Rattle.relay_sync.specs.Replies.{Hears, IsBroken, IsCode, IsMessage, IsMessageFront, Stops, StopsIn, Whole, ending}
+use Rattle.relay_sync.specs.Replies.{Hears, IsBroken, IsCode, IsMessage, IsMessageFront, Stops, StopsIn, ending}
 use Rattle.relay_sync.specs.declared.message.Message.{Message}
 use Rattle.relay_sync.specs.declared.message.Message.TheVariants.{End, Operation, Refusal}
 use Rattle.relay_sync.specs.declared.sync_fault.SyncFault.{SyncFault}
@@ -44,16 +44,6 @@ stops_behind fault u v w place before bytes s t = record {
   bytes = bytes ++ t.bytes;
   hears = hears-append u v w bytes t.bytes s t.hears;
   stops = subst (StopsIn fault u w place) (append_assoc before bytes t.bytes) (stops_in fault u v w place ((before ++ bytes) ++ t.bytes) s.later s.room t.stops);
-}
-
-pub whole_behind : (message : Message) (u v w : WireView) (place heard : ℕ) (before bytes : List ℕ) → Hears u v bytes → Whole message v w place heard (before ++ bytes)
-    → Whole message u w place heard before
-whole_behind message u v w place heard before bytes s t = record {
-  bytes = bytes ++ t.bytes;
-  hears = hears-append u v w bytes t.bytes s t.hears;
-  is_message = subst (IsMessage message) (append_assoc before bytes t.bytes) t.is_message;
-  count = t.count ∙ ap (λ b. place + length b) (append_assoc before bytes t.bytes);
-  within = t.within;
 }
 
 -- nothing is a front of the message that ends a reply

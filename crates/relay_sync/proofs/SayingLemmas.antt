@@ -1,25 +1,16 @@
 -- A text that goes out on a wire, piece by piece, behind the dialling.
-use Rattle.std.proofs.Common.{[], List, arith, drop, inl, inr, length, refl, take, ℕ, ◌+◌, ◌-◌, ◌<◌, ◌∙◌, ◌≡◌}
+use Rattle.std.proofs.Common.{[], List, arith, drop, length, take, ℕ, ◌+◌, ◌-◌, ◌∙◌, ◌≡◌}
 use Rattle.std.specs.Prelude.{Err, IfSome, None, Ok, OnOk, Option, Result, Some, option_map}
 use Rattle.fugue_ids.specs.Outs.{IsSure, WritesText}
-use Rattle.fugue_ids.proofs.JoinLemmas.{call_grows, call_stops, text_joins, text_none, took_none}
+use Rattle.fugue_ids.proofs.JoinLemmas.{call_grows, took_none}
 use Rattle.outer_ports.specs.wire.Wires.{Dials, WireView, WireWrites, out_of}
-use Rattle.relay_sync.specs.Saying.{SaysText, SaysTo}
-
--- nothing was said yet
-pub says_none : {E T : Type 0} (x : T) (wire : WireView) → SaysText {E = E} {T = T} wire wire (Ok x) []
-says_none {E} {T} x wire = record { writes = text_none {E = E} {T = T} x (out_of wire); port = refl; left = refl }
+use Rattle.relay_sync.specs.Saying.{SaysText}
 
 -- one call more
 pub says_grow : {E T : Type 0} (x : T) (u v w : WireView) (piece : List ℕ) (at n : ℕ) → SaysText {E = E} {T = T} u v (Ok x) (take at piece)
     → WireWrites {E = E} v w (Ok n) (take (length piece - at) (drop at piece)) → SaysText {E = E} {T = T} u w (Ok x) (take (at + n) piece)
 says_grow {E} {T} x u v w piece at n s t =
     record { writes = call_grows {E = E} {T = T} x (out_of u) (out_of v) (out_of w) piece at n s.writes t.writes; port = t.port ∙ s.port; left = t.left ∙ s.left }
-
-pub says_stop : {E T S : Type 0} (x : T) (e : E) (u v w : WireView) (piece : List ℕ) (at : ℕ) → at < length piece → SaysText {E = E} {T = T} u v (Ok x) (take at piece)
-    → WireWrites {E = E} v w (Err e) (take (length piece - at) (drop at piece)) → SaysText {E = E} {T = S} u w (Err e) piece
-says_stop {E} {T} {S} x e u v w piece at below s t =
-    record { writes = call_stops {E = E} {T = T} {S = S} x e (out_of u) (out_of v) (out_of w) piece at below s.writes t.writes; port = t.port ∙ s.port; left = t.left ∙ s.left }
 
 -- dialling says nothing
 sure_dialled : (E T : Type 0) (x : T) (room : Option ℕ) (before now : ℕ) → IfSome room (λ r. now ≡ before) → IfSome room (λ r. IsSure {E = E} {T = T} r 0 before now (Ok x))
@@ -43,28 +34,3 @@ dialled_stays : {E T : Type 0} (result : Result T E) (u v w : WireView) (port : 
     → OnOk result (w.port ≡ option_map (λ before. Some port) u.port)
 dialled_stays (Ok x) u v w port d s = s ∙ d
 dialled_stays (Err e) u v w port d s = tt
-
--- the text behind the dialling
-pub says_dialled : {E T : Type 0} (x : T) (result : Result T E) (u v w : WireView) (port : ℕ) (text : List ℕ) → Dials {E = E} {T = T} u v (Ok x) port → SaysText v w result text
-    → SaysTo u w result port text
-says_dialled {E} {T} x result u v w port text d s = record {
-  writes = text_joins {E = E} {T = T} {S = T} x result (out_of u) (out_of v) (out_of w) [] text (dialled_none {E = E} {T = T} x u v port d) s.writes;
-  dialled = dialled_stays result u v w port d.dialled s.port;
-  no_other = inl (s.port ∙ d.dialled);
-  left = s.left ∙ d.left;
-}
-
--- nobody was there
-pub says_refused : {E T S : Type 0} (e : E) (u v : WireView) (port : ℕ) (text : List ℕ) → Dials {E = E} {T = T} u v (Err e) port → SaysTo {E = E} {T = S} u v (Err e) port text
-says_refused {E} {T} {S} e u v port text d = record {
-  writes = record {
-    ok = tt;
-    err = record { count = 0; within = omega arith; took = took_none (out_of u) (out_of v) d.said d.room };
-    cause = record { later = d.count.cause.later; failed = d.count.cause.failed };
-    sure = sure_refused E S e u.room (length text) u.faults v.faults d.count.excused;
-    calm_told = λ tells. tt;
-  };
-  dialled = tt;
-  no_other = inr (d.kept, d.said);
-  left = d.left;
-}

@@ -1,10 +1,10 @@
 -- Sending a reply, whole and up to a fault.
-use Rattle.std.proofs.Common.{[], List, ap, arith, drop, false, length, nat_eq, refl, subst, sym, take, true, ℕ, Bool, ◌+◌, ◌++◌, ◌-◌, ◌<◌, ◌∙◌, ◌∷◌, ◌≤◌, ◌≡◌, ◌≢◌}
+use Rattle.std.proofs.Common.{[], List, ap, arith, drop, false, length, nat_eq, refl, subst, sym, take, true, ℕ, Bool, ◌+◌, ◌++◌, ◌-◌, ◌∙◌, ◌∷◌, ◌≤◌, ◌≡◌, ◌≢◌}
 use Rattle.std.specs.Prelude.{Err, IfSome, None, Ok, Option, Some, if◌then◌else◌, option_map}
 use Rattle.std.proofs.lemmas.Bool.{eqb-true, eq-eqb, true≢false}
 use Rattle.std.proofs.lemmas.List.{append-nil, take_all}
 use Rattle.fugue_ids.specs.Outs.{IsSure, OutView, Took, TookFront}
-use Rattle.fugue_ids.proofs.JoinLemmas.{call_grows, call_stops, text_none, took_none}
+use Rattle.fugue_ids.proofs.JoinLemmas.{call_grows, took_none}
 use Rattle.origin_model.specs.declared.relay.reply.Reply.{Reply}
 use Rattle.outer_ports.specs.declared.dock.dock_step.DockStep.{DockStep}
 use Rattle.outer_ports.specs.declared.dock.mem_step.MemStep.{MemStep}
@@ -19,28 +19,11 @@ pub takes_gives : {E : Type 0} (old new : DockView) (step : DockStep) (buf : Lis
 takes_gives old new step buf h =
     record { gave = record { taken = h.taken; comes = (new.coming, h.came, refl) }; nothing_sent = h.nothing_sent; ended = h.ended; ended_at = h.ended_at; ends = h.ends; port = h.port; later = h.count.cause.later }
 
--- nothing was sent yet
-pub sends_none : {E T : Type 0} (x : T) (dock : DockView) (session : ℕ) → SendsText {E = E} {T = T} dock dock (Ok x) session []
-sends_none {E} {T} x dock session =
-    record { writes = text_none {E = E} {T = T} x (out_to session dock); others = λ other apart. (refl, refl); nothing_taken = record { taken = refl; coming = refl }; port = refl; ended = refl; ended_at = refl; ends = refl }
-
 -- one call more
 pub sends_grow : {E T : Type 0} (x : T) (u v w : DockView) (session : ℕ) (piece : List ℕ) (at n : ℕ) → SendsText {E = E} {T = T} u v (Ok x) session (take at piece)
     → Sends {E = E} v w (Ok n) session (take (length piece - at) (drop at piece)) → SendsText {E = E} {T = T} u w (Ok x) session (take (at + n) piece)
 sends_grow {E} {T} x u v w session piece at n s t = record {
   writes = call_grows {E = E} {T = T} x (out_to session u) (out_to session v) (out_to session w) piece at n s.writes t.writes;
-  others = λ other apart. ((t.others other apart).0 ∙ (s.others other apart).0, (t.others other apart).1 ∙ (s.others other apart).1);
-  nothing_taken = record { taken = t.nothing_taken.taken ∙ s.nothing_taken.taken; coming = t.nothing_taken.coming ∙ s.nothing_taken.coming };
-  port = t.port ∙ s.port;
-  ended = t.ended ∙ s.ended;
-  ended_at = t.ended_at ∙ s.ended_at;
-  ends = t.ends ∙ s.ends;
-}
-
-pub sends_stop : {E T S : Type 0} (x : T) (e : E) (u v w : DockView) (session : ℕ) (piece : List ℕ) (at : ℕ) → at < length piece → SendsText {E = E} {T = T} u v (Ok x) session (take at piece)
-    → Sends {E = E} v w (Err e) session (take (length piece - at) (drop at piece)) → SendsText {E = E} {T = S} u w (Err e) session piece
-sends_stop {E} {T} {S} x e u v w session piece at below s t = record {
-  writes = call_stops {E = E} {T = T} {S = S} x e (out_to session u) (out_to session v) (out_to session w) piece at below s.writes t.writes;
   others = λ other apart. ((t.others other apart).0 ∙ (s.others other apart).0, (t.others other apart).1 ∙ (s.others other apart).1);
   nothing_taken = record { taken = t.nothing_taken.taken ∙ s.nothing_taken.taken; coming = t.nothing_taken.coming ∙ s.nothing_taken.coming };
   port = t.port ∙ s.port;
@@ -159,19 +142,6 @@ replied_open {E} {T} {F} {S} x f u v w reply s t closes = record {
         let none : h.ends.0 ≡ 0 = sure_is (λ (n : ℕ). n ≡ 0) v.ends h.ends.0 (s.ends ∙ h.ends.1) t.count.excused in
         let one : 1 ≤ h.ends.0 = subst (λ (b : Bool). length (if b then reply.session ∷ [] else []) ≤ h.ends.0) closes h.ends.2 in
         omega (arith, none, one)
-
--- nothing was to be sent
-pub replied_none : (dock : DockView) → Replied dock dock None
-replied_none dock = record {
-  sent = λ session. took_none (out_to session dock) (out_to session dock) refl refl;
-  ended = grows_none dock.ended;
-  ended_at = refl;
-  ends = ends_none dock.ends;
-  nothing_taken = record { taken = refl; coming = refl };
-  port = refl;
-  later = omega arith;
-  calm = λ h. refl;
-}
 
 -- a reply that was sent whole, seen as up to a fault
 pub replied_partly : (u v : DockView) (reply : Option Reply) → Replied u v reply → RepliedPartly NoMemory u v reply

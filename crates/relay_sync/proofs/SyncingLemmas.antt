@@ -3,7 +3,7 @@ use Rattle.std.proofs.Common.{[], List, ap, arith, inl, inr, length, length-appe
 use Rattle.std.specs.Prelude.{All, Err, Result, Option, Some, None}
 use Rattle.std.proofs.lemmas.Grind.{flat_map-append}
 use Rattle.std.proofs.lemmas.List.{append-nil}
-use Rattle.std.proofs.lemmas.List.Elements.{All-nil, All-push}
+use Rattle.std.proofs.lemmas.List.Elements.{All-push}
 use Rattle.fugue_ids.specs.declared.limits.TheConstants.{STREAM_LIMIT}
 use Rattle.fugue_ids.specs.declared.op.Op.{Op}
 use Rattle.fugue_ids.proofs.JoinLemmas.{took_none}
@@ -12,7 +12,7 @@ use Rattle.outer_ports.specs.wire.Wires.{WireView, out_of}
 use Rattle.replica_core.specs.Keeping.{LeavesUnkept, TakesIn, Taking}
 use Rattle.replica_core.specs.declared.feed_fault.FeedFault.{FeedFault}
 use Rattle.replica_core.specs.declared.feed_fault.FeedFault.TheVariants as feed_fault
-use Rattle.replica_core.proofs.KeepingLemmas.{same_taking, takes_more, takes_none}
+use Rattle.replica_core.proofs.KeepingLemmas.{same_taking, takes_more}
 use Rattle.relay_sync.specs.Replies.{Hears, Whole}
 use Rattle.relay_sync.specs.FeedFaults.{fault_of}
 use Rattle.relay_sync.specs.Saying.{SaysTo, text_for}
@@ -21,7 +21,7 @@ use Rattle.relay_sync.specs.declared.message.Message.{Message}
 use Rattle.relay_sync.specs.declared.message.Message.TheVariants.{End, Operation}
 use Rattle.relay_sync.specs.declared.sync_fault.SyncFault.{SyncFault}
 use Rattle.relay_sync.specs.declared.sync_fault.SyncFault.TheVariants.{BadReply, CutShort, NoMemory, RelayRefused, TooLong, TooMany, WireFault}
-use Rattle.relay_sync.proofs.HearingLemmas.{hears-append, hears_none, stops_in}
+use Rattle.relay_sync.proofs.HearingLemmas.{hears-append, stops_in}
 
 frames-one : (op : Op) → frames (op ∷ []) ≡ frame op
 frames-one op = append-nil (frame op)
@@ -34,9 +34,6 @@ pub record Goes (old new : WireView) (start now : Taking) (heard : ℕ) : Type 0
   pub takes : TakesIn start now ops
   pub count : heard ≡ length (frames ops)
   pub within : heard ≤ STREAM_LIMIT
-
-pub goes_none : (wire : WireView) (start : Taking) → Goes wire wire start start 0
-goes_none wire start = record { ops = []; have_frames = All-nil HasFrame; hears = hears_none wire; takes = takes_none start; count = refl; within = omega arith }
 
 module _ (u v w : WireView) (start now next : Taking) (heard : ℕ) (goes : Goes u v start now heard) where
   -- one operation more
