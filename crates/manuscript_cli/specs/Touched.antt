@@ -26,6 +26,16 @@ pub record Touched : Type 0 where
   -- where others ask a relay
   pub dock : DockView
 
+-- all objects, one by one
+abbrev pub touched : SourceView → (output notes : OutView) → (home guest : DiskView) → WireView → DockView → Touched
+touched input output notes home guest wire dock = record {
+  streams = record { input = input; output = output; notes = notes };
+  home = home;
+  guest = guest;
+  wire = wire;
+  dock = dock;
+}
+
 -- what a call did to an object: how contracts saw it before, and after
 pub record Change (V : Type 0) : Type 0 where
   pub old : V

@@ -25,9 +25,9 @@ use std::alloc::Global;
 pub(crate) struct Script;
 
 impl<S: Source> Gives<S> for Script {
-    ghost giver = { λ what home before after. script (change (S.seen before) (S.seen after)) };
-
     ghost Leaves = { λ what home before after end. ReadsInput (S.seen before) (S.seen after) end };
+
+    ghost giver = { λ what home before after. script (change (S.seen before) (S.seen after)) };
 
     fn give(
         &self,

@@ -71,12 +71,12 @@ fn serve_by<O: Sink, D: Dock, B: BuildHasher + Drop>(
     relay: &mut Relay<B>,
 ) -> Result<u32, Refusal>
     requires { relay.old ≡ new_relay most_logged }
-    ensures meets { ServingMeets port sessions (change (O.seen output.old) (O.seen output.new))
+    ensures told { RiseOutside (change (O.seen output.old) (O.seen output.new))
         (change (D.seen dock.old) (D.seen dock.new)) result }
-    ensures calm { StaysCalm (length ready_line) (O.seen output.old) (O.seen output.new) }
     ensures dock { NeverBlamed sessions (change (O.seen output.old) (O.seen output.new))
         (change (D.seen dock.old) (D.seen dock.new)) result }
-    ensures told { RiseOutside (change (O.seen output.old) (O.seen output.new))
+    ensures calm { StaysCalm (length ready_line) (O.seen output.old) (O.seen output.new) }
+    ensures meets { ServingMeets port sessions (change (O.seen output.old) (O.seen output.new))
         (change (D.seen dock.old) (D.seen dock.new)) result }
 {
     open(port, output, dock)?;

@@ -2,7 +2,7 @@ ghost use Rattle.std.specs.Prelude.{◌≡◌, ◌≢◌, ◌↔◌, ℕ, Option
 ghost use Rattle.manuscript_cli.specs.Command.{IsCommand, IsInRange, Names};
 ghost use Rattle.manuscript_cli.specs.Headline.{Headline, IsDecided, PrintsBySet};
 ghost use Rattle.manuscript_cli.specs.Run.{IsBlameless, Meets};
-ghost use Rattle.manuscript_cli.specs.Touched.{change};
+ghost use Rattle.manuscript_cli.specs.Touched.{change, touched};
 ghost use Rattle.manuscript_cli.specs.declared.command.Command.{Command as AnyCommand};
 ghost use Rattle.manuscript_cli.specs.declared.command.Command.TheVariants.{Print, Show};
 ghost use Rattle.manuscript_cli.specs.declared.status.Status.TheVariants.{Usage};
@@ -51,37 +51,17 @@ pub fn run<S: Source, O: Sink, N: Sink, H: Disk, G: Disk, W: Wire, D: Dock, B: B
 
     // There is a command that the words ask for, or none, and this is what it did.
     ensures meets { (command : Option AnyCommand) × IsCommand (map string_bytes words.now) command × Meets command
-        (record {
-          streams = record { input = S.seen input.old; output = O.seen output.old; notes = N.seen notes.old };
-          home = H.seen home.old;
-          guest = G.seen guest.old;
-          wire = W.seen wire.old;
-          dock = D.seen dock.old;
-        })
-        (record {
-          streams = record { input = S.seen input.new; output = O.seen output.new; notes = N.seen notes.new };
-          home = H.seen home.new;
-          guest = G.seen guest.new;
-          wire = W.seen wire.new;
-          dock = D.seen dock.new;
-        }) result }
+        (touched (S.seen input.old) (O.seen output.old) (N.seen notes.old) (H.seen home.old) (G.seen guest.old)
+        (W.seen wire.old) (D.seen dock.old))
+        (touched (S.seen input.new) (O.seen output.new) (N.seen notes.new) (H.seen home.new) (G.seen guest.new)
+        (W.seen wire.new) (D.seen dock.new)) result }
 
     // Where an object tells, a count of faults that rises is told by an outside fault.
     ensures blameless { IsBlameless
-        (record {
-          streams = record { input = S.seen input.old; output = O.seen output.old; notes = N.seen notes.old };
-          home = H.seen home.old;
-          guest = G.seen guest.old;
-          wire = W.seen wire.old;
-          dock = D.seen dock.old;
-        })
-        (record {
-          streams = record { input = S.seen input.new; output = O.seen output.new; notes = N.seen notes.new };
-          home = H.seen home.new;
-          guest = G.seen guest.new;
-          wire = W.seen wire.new;
-          dock = D.seen dock.new;
-        }) result }
+        (touched (S.seen input.old) (O.seen output.old) (N.seen notes.old) (H.seen home.old) (G.seen guest.old)
+        (W.seen wire.old) (D.seen dock.old))
+        (touched (S.seen input.new) (O.seen output.new) (N.seen notes.new) (H.seen home.new) (G.seen guest.new)
+        (W.seen wire.new) (D.seen dock.new)) result }
 
     // The stream decides the status of `show`, and a whole stream is shown.
     ensures decided { (hold : ℕ) → Names (map string_bytes words.now) (Show hold) → IsDecided hold
@@ -160,13 +140,13 @@ fn obey<S: Source, O: Sink, N: Sink, H: Disk, G: Disk, W: Wire, D: Dock, B: Buil
     ensures used { result ≢ Usage }
 {
     let Objects {
-        input,
-        output,
-        notes,
-        home,
-        guest,
-        wire,
         dock,
+        wire,
+        guest,
+        home,
+        notes,
+        output,
+        input,
     } = objects;
     match command {
         Command::Show(hold) => show(alloc, hold, input, output, notes),

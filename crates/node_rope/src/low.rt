@@ -119,8 +119,8 @@ pub(crate) fn first_low_node<T: Drop>(
     from: usize,
     most: u64,
 ) -> Option<Link>
-    requires sound { IsSound store.now root }
     requires fits { AreRanksFit (shapes_of store.now) }
+    requires sound { IsSound store.now root }
     ensures found { number_of result ≡ first_low (ranks (shapes_of store.now)) most (drop from (order store.now root)) }
     ensures made { AreMade store.now result }
 {

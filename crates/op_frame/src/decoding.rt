@@ -57,11 +57,11 @@ fn text(rest: &[u8]) -> Op
     let right = fields.origin();
     let ch = scalar(fields.rest);
     Op::Text {
+        ch,
         id,
         section,
         left,
         right,
-        ch,
     }
 }
 

@@ -22,11 +22,11 @@ pub record GivesSteps (old new : DockView) (steps : List MemStep) : Type 0 where
 pub record SendsText {E T : Type 0} (old new : DockView) (result : Result T E) (session : ℕ) (text : List ℕ) : Type 0 where
   pub writes : WritesText (out_to session old) (out_to session new) result text
   pub others : (other : ℕ) → other ≢ session → (new.sent other ≡ old.sent other) × (new.room other ≡ old.room other)
-  pub nothing_taken : TakesNothing old new
   pub port : new.port ≡ old.port
+  pub nothing_taken : TakesNothing old new
+  pub ends : new.ends ≡ old.ends
   pub ended : new.ended ≡ old.ended
   pub ended_at : new.ended_at ≡ old.ended_at
-  pub ends : new.ends ≡ old.ends
 
 -- the dock lasts for a reply
 abbrev pub LastsFor : DockView → Option Reply → Type 0

@@ -57,17 +57,17 @@ module _ (f : Identifier → List Identifier) where
 
 -- the tables of a lawful history
 module _ (p : Place) (h : List Op) (w : Lawful h) (children : Slot → List Identifier) (t : IsTable p h children) where
-  -- the comparison at a fork
-  abbrev F : Identifier → Identifier → Bool
-  F = fork_before (order p (older_of h)) h
+  -- the comparison of elements
+  abbrev R : Identifier → Identifier → Bool
+  R = before_at p h
 
   -- the comparison of siblings
   abbrev S : Identifier → Identifier → Bool
   S = sibling (order p (older_of h)) h
 
-  -- the comparison of elements
-  abbrev R : Identifier → Identifier → Bool
-  R = before_at p h
+  -- the comparison at a fork
+  abbrev F : Identifier → Identifier → Bool
+  F = fork_before (order p (older_of h)) h
 
   -- the walk below a slot
   abbrev below : ℕ → Slot → List Identifier

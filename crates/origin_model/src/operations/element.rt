@@ -16,29 +16,25 @@ pub fn element_of(op: &Op) -> Option<(Place, Node)>
             left,
             right,
             ..
-        } => {
-            let node = Node {
-                id: *id,
-                left: *left,
-                right: *right,
-            };
-            Some((Place::Catalogue, node))
-        }
+        } => Some((Place::Catalogue, node(id, left, right))),
         Op::Text {
             id,
             section,
             left,
             right,
             ..
-        } => {
-            let node = Node {
-                id: *id,
-                left: *left,
-                right: *right,
-            };
-            Some((Place::Section(*section), node))
-        }
+        } => Some((Place::Section(*section), node(id, left, right))),
         _ => None,
+    }
+}
+
+fn node(id: &ElementId, left: &Option<ElementId>, right: &Option<ElementId>) -> Node
+    ensures { result ≡ record { id = id.now; left = left.now; right = right.now } }
+{
+    Node {
+        id: *id,
+        left: *left,
+        right: *right,
     }
 }
 

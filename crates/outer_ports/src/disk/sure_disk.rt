@@ -49,11 +49,11 @@ impl SureDisk {
 
     /// One of the files that a crash may leave. No call on it is to fail. Both disks are honest.
     pub fn crash(&self, pick: Pick) -> Result<MemDisk, NoMemory>
+        ensures honest { IsHonest self.now.past.last }
+        ensures rests { IfOk result (λ d. IsHonest d.past.last) }
         ensures past { IfOk result (λ d. d.past ≡ untouched (picked pick self.now.past.last)) }
         ensures image { IsImage self.now.past.last (picked pick self.now.past.last) }
         ensures calls { IfOk result (λ d. d.calls ≡ record { made = 0; listed = []; faults = 0 }) }
-        ensures honest { IsHonest self.now.past.last }
-        ensures rests { IfOk result (λ d. IsHonest d.past.last) }
     {
         crashed(self.alloc, &self.kept, pick)
     }

@@ -126,7 +126,7 @@ fn rooms(alloc: Global, steps: &[MemStep], room: usize) -> Result<Logs, AllocErr
 }
 
 impl Dock for SureDock {
-    ghost seen = { λ d. record { port = Some d.port; taken = Some d.taken; coming = Some d.coming; sent = λ s. Some (sent_by d.logs s); ended = Some d.ended; ended_at = Some d.ended_at; faults = d.faults; room = λ s. Some (room_by d.logs s); ends = Some d.ends } };
+    ghost seen = { λ d. record { port = Some d.port; coming = Some d.coming; taken = Some d.taken; sent = λ s. Some (sent_by d.logs s); room = λ s. Some (room_by d.logs s); ends = Some d.ends; ended = Some d.ended; ended_at = Some d.ended_at; faults = d.faults } };
 
     fn listen(&mut self, port: u16) -> Result<(), Failed>
         ensures listens { Listens (⟦<SureDock as Dock>⟧.seen self.old) (⟦<SureDock as Dock>⟧.seen self.new) result port }

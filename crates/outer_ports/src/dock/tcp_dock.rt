@@ -170,7 +170,7 @@ fn limit_by<S: OpenStream>(clock: &impl Clock, watch: Option<Watch>, stream: &S)
 }
 
 impl<R: Net + Clock + AllocGlobal + Drop, E: Write + Drop> Dock for TcpDock<R, E> {
-    ghost seen = { λ d. record { port = None; taken = None; coming = None; sent = λ s. None; ended = None; ended_at = None; faults = d.faults; room = λ s. None; ends = None } };
+    ghost seen = { λ d. record { port = None; coming = None; taken = None; sent = λ s. None; room = λ s. None; ends = None; ended = None; ended_at = None; faults = d.faults } };
 
     fn listen(&mut self, port: u16) -> Result<(), Failed>
         ensures listens { Listens (⟦<TcpDock<R, E> as Dock>⟧.seen self.old) (⟦<TcpDock<R, E> as Dock>⟧.seen self.new)

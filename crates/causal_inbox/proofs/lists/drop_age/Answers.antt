@@ -28,10 +28,9 @@ drop_under-requires-in-names c =
 pub names-preserved : goal.names-preserved
 names-preserved c =
     let op = c.args.op.now in
-    let k = c.names.named-index in
     let named = c.as_slice-named-items.result.now in
-    let more = keys_next op named k c.named-item.result c.named_key.result (c.as_slice-named-items.ensures ∙ c.names_of-names.ensures) c.names-test.true c.named_key.ensures c.named-item.is in (
-      changed_more (λ l. dropped l c.args.age) (dropped_twice c.args.age) (keys_of op) (k + 1) c.named_key.result (ages_under c.args.lists.now) (ages_under c.names.lists) (ages_under c.drop_under-in-names.new.lists)
+    let more = keys_next op named c.names.named-index c.named-item.result c.named_key.result (c.as_slice-named-items.ensures ∙ c.names_of-names.ensures) c.names-test.true c.named_key.ensures c.named-item.is in (
+      changed_more (λ l. dropped l c.args.age) (dropped_twice c.args.age) (keys_of op) (c.names.named-index + 1) c.named_key.result (ages_under c.args.lists.now) (ages_under c.names.lists) (ages_under c.drop_under-in-names.new.lists)
           more c.names.invariant.0 c.drop_under-in-names.ensures.dropped,
       λ none. c.drop_under-in-names.ensures.no_empty (c.names.invariant.1 none),
     )
