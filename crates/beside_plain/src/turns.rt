@@ -106,18 +106,6 @@ fn edit_by_turns(
     }
     feed_from(rt, alloc, first, second, heard.0)?;
     feed_from(rt, alloc, second, first, heard.1)?;
-    Ok(())
-}
-
-/// They edit, and then compare what they show.
-fn edit_and_compare(
-    rt: &impl Abort,
-    alloc: Global,
-    first: &mut Replica,
-    second: &mut Replica,
-    seed: u64,
-) -> Result<(), Fail> {
-    edit_by_turns(rt, alloc, first, second, seed)?;
     compare_both(rt, alloc, first, second)
 }
 
@@ -125,7 +113,7 @@ fn edits_by_seed(rt: &impl Abort, alloc: Global, seed: u64) -> Result<(), Fail> 
     let mut first = Replica::new(alloc, 1, 100, 1000)?;
     let done = match Replica::new(alloc, 2, 100, 1000) {
         Ok(mut second) => {
-            let done = edit_and_compare(rt, alloc, &mut first, &mut second, seed);
+            let done = edit_by_turns(rt, alloc, &mut first, &mut second, seed);
             drop(second);
             done
         }

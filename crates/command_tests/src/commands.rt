@@ -42,19 +42,11 @@ fn run_line<S: Source, O: Sink, N: Sink, H: Disk, G: Disk, W: Wire, D: Dock>(
     wire: &mut W,
     dock: &mut D,
 ) -> Status {
+    let alloc = rt.alloc();
     let words = words_of(rt, line);
     let hasher: BuildHasherDefault<FoldHasher> = BuildHasherDefault::default();
     let status = run(
-        rt.alloc(),
-        &words,
-        input,
-        output,
-        notes,
-        home,
-        guest,
-        wire,
-        dock,
-        hasher,
+        alloc, &words, input, output, notes, home, guest, wire, dock, hasher,
     );
     drop(words);
     status

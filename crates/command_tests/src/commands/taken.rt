@@ -89,6 +89,15 @@ const NOTHING: Case = Case {
     printed: b"",
 };
 
+/// The section comes, and a letter that waits for another one.
+const ONE_WAITS: Case = Case {
+    line: "accepted 1, repeated 0, waiting 1, conflict 0, stray 0, full 0\n",
+    status: Status::Partial,
+    saved: &[S, BEHIND_A],
+    printed: b"# T\n\n",
+    ..NOTHING
+};
+
 const CASES: &[Case] = &[
     Case {
         words: "merge G F",
@@ -111,11 +120,7 @@ const CASES: &[Case] = &[
         words: "merge G F",
         home: (2, 16, &[]),
         guest: (1, 16, &[&[BEHIND_A], &[S]]),
-        line: "accepted 1, repeated 0, waiting 1, conflict 0, stray 0, full 0\n",
-        status: Status::Partial,
-        saved: &[S, BEHIND_A],
-        printed: b"# T\n\n",
-        ..NOTHING
+        ..ONE_WAITS
     },
     Case {
         home: (1, 16, &[&[S, LOWER_A]]),
@@ -171,11 +176,7 @@ const CASES: &[Case] = &[
     },
     Case {
         input: &[S, BEHIND_A],
-        line: "accepted 1, repeated 0, waiting 1, conflict 0, stray 0, full 0\n",
-        status: Status::Partial,
-        saved: &[S, BEHIND_A],
-        printed: b"# T\n\n",
-        ..NOTHING
+        ..ONE_WAITS
     },
     Case {
         input: &[BEHIND_A, LOWER_A, S],
