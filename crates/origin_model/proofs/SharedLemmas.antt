@@ -1,13 +1,13 @@
 -- The lemmas that proofs of other crates may cite.
 pub use Rattle.origin_model.proofs.operations.CauseLemmas.{becomes_ready, names_within, ready_absent}
 pub use Rattle.origin_model.proofs.operations.ElementLemmas.{element_id, element_own, element_stands, element_there, none_elsewhere, one_place, place_eq-true, place_stands, stands_element, stands_place}
-pub use Rattle.origin_model.proofs.operations.LookupLemmas.{cases_held, found, has-append, has-holder, holder-has, holder-other, holder-own, holder_owns, holds-cons, holds-older, holds-other, holds-own, missing-held, own_id, when_ready}
+pub use Rattle.origin_model.proofs.operations.LookupLemmas.{IsHeld, cases_held, found, has-append, has-holder, holder-has, holder-other, holder-own, holder_owns, holds-cons, holds-older, holds-other, holds-own, missing-held, own_id, right_at_held, right_by, when_ready}
 pub use Rattle.origin_model.proofs.operations.OneLookUpLemmas.{owns}
 pub use Rattle.origin_model.proofs.operations.OwnIdLemmas.{lawful_own, other_ids}
 pub use Rattle.origin_model.proofs.operations.FoundedLemmas.{no_text_before, not_hidden_before, ready_is_new, same_nodes_same_order, section_first, shown_can_go, target_is_shown}
 pub use Rattle.origin_model.proofs.order.OrderLawLemmas.{Within-part, hidden-has, order_total, parts_keep_order}
-pub use Rattle.origin_model.proofs.order.OrderLemmas.{order-none, order-some}
-pub use Rattle.origin_model.proofs.order.PositionLemmas.{index_end}
+pub use Rattle.origin_model.proofs.order.OrderLemmas.{IsIn-held, further, lefts-in, order-none, order-some, right_at_in, rights-in}
+pub use Rattle.origin_model.proofs.order.PositionLemmas.{index_end, origin_before}
 pub use Rattle.origin_model.proofs.order.PrintedLemmas.{section_joins}
 pub use Rattle.origin_model.proofs.sides.DetachedLemmas.{absent_stays, found_without, newest_taken_back, nodes_stay}
 pub use Rattle.origin_model.proofs.sides.HalvesLemmas.{passing_before, passing_behind}
@@ -31,3 +31,10 @@ pub use Rattle.origin_model.proofs.relay.OneOutcomeLemmas.{NoFront, SomeKind, al
 pub use Rattle.origin_model.proofs.relay.PartsLemmas.{InParts, in_parts}
 pub use Rattle.origin_model.proofs.relay.RunLemmas.{Follows, Path, after_piece, ends_at, follows_runs, open_stays, opened_steps, piece_steps, runs-append, state_after, step_runs, unknown_steps}
 pub use Rattle.origin_model.proofs.relay.TextLemmas.{closed_takes, closing_takes, frame_takes, front_of, front_takes, hello, hello_takes, partly, rest_takes, takes-append}
+pub use Rattle.origin_model.proofs.order.ChainPartLemmas.{common}
+pub use Rattle.origin_model.proofs.order.ChainOrderLemmas.{chain_before-fork, chain_before-irrefl, chain_before-same}
+pub use Rattle.origin_model.proofs.order.ChainLemmas.{beside_is, chain-ends, chain-held, chain-other, chain-own, chain_above, never_none, same_chain}
+pub use Rattle.origin_model.proofs.order.ChainFrontLemmas.{has_left-at, left_at-is, left_by, lefts-above, lefts-prefix, rights-prefix}
+pub use Rattle.origin_model.proofs.order.ListPartLemmas.{heads}
+pub use Rattle.origin_model.proofs.order.PartLemmas.{Lawful-append, Within, Within-append, before_at, before_at-older, fork-by, fork_by, left_origin_held, lefts-at, lefts-within, right_origin_held, rights-at, rights-within}
+pub use Rattle.origin_model.proofs.order.StrictOrderLemmas.{before_in-irrefl}

@@ -132,11 +132,11 @@ right_stands p h c w m =
     ]
 
 -- the comparison at a fork without positions: by the order itself, which is known for older elements
-abbrev fork_by : (Identifier → Identifier → Bool) → Option Identifier → Option Identifier → Identifier → Identifier → Bool
+abbrev pub fork_by : (Identifier → Identifier → Bool) → Option Identifier → Option Identifier → Identifier → Identifier → Bool
 fork_by R a b c d = origin_before R b a || (origin_eq b a && id_lt c d)
 
 -- positions compare at a fork as the order does
-fork-by : (p : Place) (h : List Op) (c d : Identifier) → Lawful h → IsIn p h c → IsIn p h d → fork_before (order p (older_of h)) h c d ≡ fork_by (before_at p (older_of h)) (right_at h c) (right_at h d) c d
+pub fork-by : (p : Place) (h : List Op) (c d : Identifier) → Lawful h → IsIn p h c → IsIn p h d → fork_before (order p (older_of h)) h c d ≡ fork_by (before_at p (older_of h)) (right_at h c) (right_at h d) c d
 fork-by p h c d w m n =
     let o : List Identifier = order p (older_of h) in
     let g : List Op = older_of h in
@@ -151,7 +151,7 @@ origin_before-same R S (Some x) None f = refl
 origin_before-same R S (Some x) (Some y) f = f x y refl refl
 
 -- older elements keep their comparison
-before_at-older : (p : Place) (h : List Op) (x y : Identifier) → Lawful h → IsHeld (older_of h) x → IsHeld (older_of h) y → before_at p h x y ≡ before_at p (older_of h) x y
+pub before_at-older : (p : Place) (h : List Op) (x y : Identifier) → Lawful h → IsHeld (older_of h) x → IsHeld (older_of h) y → before_at p h x y ≡ before_at p (older_of h) x y
 before_at-older p [] x y w k l = refl
 before_at-older p (op ∷ older) x y w k l = before_in-older p op older w x y k l
 
