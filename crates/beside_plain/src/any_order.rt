@@ -1,4 +1,5 @@
-//! Every stream of up to five operations of a small pool, taken in one after another, against the closure of its operations.
+//! Every stream of up to five operations of a small pool, taken in one after another, against the closure of its
+//! operations.
 
 use crate::assertions::{equal, holds_at};
 use crate::op_lines::Line::{Delete, Section, Text};

@@ -2,7 +2,7 @@
 
 ghost use Rattle.std.specs.Prelude.{◌≡◌, ◌∷◌, OnOk};
 ghost use Rattle.origin_model.specs.operations.Verdict.{verdict};
-ghost use Rattle.origin_model.specs.declared.operations.verdict.Verdict.TheVariants.{Ready};
+ghost use Rattle.origin_model.specs.declared.operations.Verdict.TheVariants.{Ready};
 ghost use Rattle.section_catalogue.specs.Manuscript.{StandsFor};
 
 use crate::op_lines::{Line, op};

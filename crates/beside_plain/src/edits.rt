@@ -38,7 +38,8 @@ pub fn make(
     }
 }
 
-/// The operations that come first, how many of them wait, edits with their answers, the manuscript that is shown then, and the operations that are accepted, where the row tells them.
+/// The operations that come first, how many of them wait, edits with their answers, the manuscript that is shown then,
+/// and the operations that are accepted, where the row tells them.
 #[derive(Clone, Copy)]
 struct Row {
     most: u32,

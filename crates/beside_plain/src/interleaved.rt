@@ -1,4 +1,5 @@
-//! Three replicas that edit without hearing of each other, and then hear of all operations in orders of their own, with repeats.
+//! Three replicas that edit without hearing of each other, and then hear of all operations in orders of their own, with
+//! repeats.
 
 use crate::assertions::equal;
 use crate::edits::Edit::{self, Add, Cut, Put};
@@ -27,7 +28,8 @@ const THIRD: &[Edit] = &[
     Put(1, 0, "end"),
 ];
 
-/// A replica's number, its edits, and the order in which it hears of the pool: which operation comes first, and how far behind each the next one stands.
+/// A replica's number, its edits, and the order in which it hears of the pool: which operation comes first, and how far
+/// behind each the next one stands.
 struct Author {
     number: u32,
     edits: &'static [Edit],

@@ -12,9 +12,9 @@ use Rattle.origin_model.proofs.edits.MadeLemmas.{join_at_end}
 use Rattle.origin_model.specs.edits.State.{State}
 use Rattle.list_spec.specs.Worlds.{Event, World, after_events, world}
 use Rattle.list_spec.proofs.WorldLemmas.{events_further}
-use Rattle.bulk_world.specs.declared.limits.TheConstants.{HOLD}
+use Rattle.bulk_world.specs.declared.making.TheConstants.{HOLD}
 use Rattle.fugue_ids.specs.declared.limits.TheConstants.{MOST_OPERATIONS}
-use Rattle.bulk_world.specs.Turns.{Leads, all_turns, among, authors, bulk_world, delivers, events, hearing, made_over, opened, opening, turns}
+use Rattle.bulk_world.specs.Turns.{TurnsLead, all_turns, among, authors, bulk_world, delivers, events, hearing, made_over, two_begin, opening, turns}
 use Rattle.bulk_world.specs.Summary.{summary, told_of}
 use Rattle.bulk_world.proofs.TurnLemmas.{IsTurned, numbered, turned}
 use Rattle.origin_model.proofs.SharedLemmas.{first_accepted}
@@ -26,7 +26,7 @@ the_section = Section (id_at 1 0) None None (codes "B")
 
 -- both have the section, and nothing else was made
 abbrev pub begun : World
-begun = among (the_section ∷ []) (opened 1) (opened 2)
+begun = among (the_section ∷ []) (two_begin 1) (two_begin 2)
 
 opens : world authors opening ≡ begun
 unfolding order verdict settle
@@ -53,8 +53,8 @@ module _ (seed count : ℕ) where
   abbrev pub made : ℕ → List Op
   made n = made_over n begun all
 
-  pub after : IsTurned (the_section ∷ []) (opened 1) (opened 2) all
-  after = turned count 1 seed (the_section ∷ []) (opened 1).held (opened 2).held
+  pub after : IsTurned (the_section ∷ []) (two_begin 1) (two_begin 2) all
+  after = turned count 1 seed (the_section ∷ []) (two_begin 1).held (two_begin 2).held
 
   abbrev pub one : Held
   one = after.one_after
@@ -105,15 +105,15 @@ record AreBehind (seed count : ℕ) (a b : State) : Type 0 where
   first : a ≡ numbered 1 (one seed count)
   second : b ≡ numbered 2 (two seed count)
 
-are_behind : (seed count : ℕ) (f s a b : State) → f ≡ opened 1 → s ≡ opened 2 → Leads count 1 seed f s a b → AreBehind seed count a b
+are_behind : (seed count : ℕ) (f s a b : State) → f ≡ two_begin 1 → s ≡ two_begin 2 → TurnsLead count 1 seed f s a b → AreBehind seed count a b
 are_behind seed count f s a b fe se leads =
     let t = after seed count in
-    let from : Leads count 1 seed (opened 1) (opened 2) a b = subst (λ o. Leads count 1 seed o (opened 2) a b) fe (subst (λ o. Leads count 1 seed f o a b) se leads) in
+    let from : TurnsLead count 1 seed (two_begin 1) (two_begin 2) a b = subst (λ o. TurnsLead count 1 seed o (two_begin 2) a b) fe (subst (λ o. TurnsLead count 1 seed f o a b) se leads) in
     let both : a ∷ b ∷ [] ≡ numbered 1 t.one_after ∷ numbered 2 t.two_after ∷ [] = sym (from (the_section ∷ [])) ∙ ap (λ (w : World). w.replicas) t.is in
     record { first = cc both; second = cc both }
 
 -- both accepted the section
-pub are_begun : (seed count : ℕ) (f s a b : State) → f ≡ opened 1 → s ≡ opened 2 → Leads count 1 seed f s a b → IsBegun a × IsBegun b
+pub are_begun : (seed count : ℕ) (f s a b : State) → f ≡ two_begin 1 → s ≡ two_begin 2 → TurnsLead count 1 seed f s a b → IsBegun a × IsBegun b
 are_begun seed count f s a b fe se leads =
     let k = are_behind seed count f s a b fe se leads in (
       omega (arith, ap (λ (x : State). length (accepted x.held.history)) k.first, ap length (one_accepted seed count)),
@@ -131,7 +131,7 @@ none_goes s heard ops e =
     omega (arith, ap (λ (x : State). length (accepted x.held.history)) e, ap length more.1, length-append (accepted s.held.history) more.0)
 
 -- the calls that make a bulk manuscript come to its world
-pub told_is : (seed count : ℕ) (f s a b a_heard b_heard : State) → f ≡ opened 1 → s ≡ opened 2 → Leads count 1 seed f s a b
+pub told_is : (seed count : ℕ) (f s a b a_heard b_heard : State) → f ≡ two_begin 1 → s ≡ two_begin 2 → TurnsLead count 1 seed f s a b
     → b_heard ≡ heard_by b (take (length (accepted a.held.history) - 1) (drop 1 (accepted a.held.history)))
     → a_heard ≡ heard_by a (take (length (accepted b.held.history) - 1) (drop 1 (accepted b_heard.held.history)))
     → told_of a_heard b_heard ≡ summary (bulk_world seed count)

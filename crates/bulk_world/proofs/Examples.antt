@@ -7,13 +7,13 @@ use Rattle.origin_model.specs.order.Printed.{manuscript}
 use Rattle.origin_model.specs.operations.Verdict.{verdict}
 use Rattle.origin_model.specs.taking.Taking.{settle}
 use Rattle.bulk_world.specs.Generator.{next, upper}
-use Rattle.bulk_world.specs.Turns.{bulk_world, first_text, replica_of}
+use Rattle.bulk_world.specs.Turns.{bulk_world, first_text, numbered_replica}
 use Rattle.bulk_world.specs.Summary.{summary}
 
 uppers : upper (next 7) ≡ 15648
 uppers = refl
 
-text_of_four : first_text (replica_of 2 (bulk_world 7 4).replicas) ≡ codes "zgvb"
+text_of_four : first_text (numbered_replica 2 (bulk_world 7 4).replicas) ≡ codes "zgvb"
 unfolding order chain verdict settle
 text_of_four = refl
 

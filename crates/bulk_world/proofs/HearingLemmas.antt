@@ -7,21 +7,21 @@ use Rattle.std.proofs.lemmas.List.Elements.{All-append, All-cons, All-head, All-
 use Rattle.fugue_ids.specs.Ops.{op_eq}
 use Rattle.fugue_ids.specs.declared.op.Op.{Op}
 use Rattle.fugue_ids.proofs.OpLemmas.{op_eq-refl}
-use Rattle.origin_model.specs.declared.operations.verdict.Verdict.{Verdict}
-use Rattle.origin_model.specs.declared.operations.verdict.Verdict.TheVariants.{Ready}
+use Rattle.origin_model.specs.declared.operations.Verdict.{Verdict}
+use Rattle.origin_model.specs.declared.operations.Verdict.TheVariants.{Ready}
 use Rattle.origin_model.specs.operations.History.{accepted, has_op}
 use Rattle.origin_model.specs.operations.Verdict.{verdict}
 use Rattle.origin_model.specs.taking.Taking.{Accepted, Answer, Held, IsSettled, TooMany, answer, held_from, intake, joined, settle, settled_within, taken}
 use Rattle.origin_model.proofs.SharedLemmas.{earliest_found, settle-settled, within-none, within-some, without}
 use Rattle.origin_model.specs.edits.State.{State}
 use Rattle.replica_core.specs.Told.{Leaves}
-use Rattle.origin_model.specs.declared.taking.tally.Tally.{Tally}
-use Rattle.replica_core.specs.declared.feed_fault.FeedFault.{FeedFault}
-use Rattle.replica_core.specs.declared.feed_fault.FeedFault.TheVariants as feed_fault
+use Rattle.origin_model.specs.declared.taking.Tally.{Tally}
+use Rattle.replica_core.specs.declared.keeping.FeedFault.{FeedFault}
+use Rattle.replica_core.specs.declared.keeping.FeedFault.TheVariants as feed_fault
 use Rattle.list_spec.specs.Worlds.{Deliver, Edit, Event, World, after_event, after_events, changed, delivered, made_at, pooled}
 use Rattle.list_spec.proofs.PoolLemmas.{pool_keeps}
 use Rattle.list_spec.proofs.WorldLemmas.{events_keep}
-use Rattle.bulk_world.specs.declared.limits.TheConstants.{HOLD}
+use Rattle.bulk_world.specs.declared.making.TheConstants.{HOLD}
 use Rattle.fugue_ids.specs.declared.limits.TheConstants.{MOST_OPERATIONS}
 use Rattle.bulk_world.specs.Turns.{among, delivers, made_in, made_over}
 use Rattle.bulk_world.proofs.TurnLemmas.{numbered}

@@ -8,12 +8,12 @@ use Rattle.fugue_ids.specs.Identifiers.{Identifier}
 use Rattle.fugue_ids.specs.declared.op.Op.{Op}
 use Rattle.fugue_ids.specs.declared.op.Op.TheVariants.{Delete, Text}
 use Rattle.fugue_ids.specs.declared.limits.TheConstants.{MOST_OPERATIONS}
-use Rattle.origin_model.specs.declared.operations.place.Place.TheVariants.{Catalogue as catalogue, Section as within}
-use Rattle.origin_model.specs.declared.operations.role.Role.{Role}
+use Rattle.origin_model.specs.declared.operations.Place.TheVariants.{Catalogue as catalogue, Section as within}
+use Rattle.origin_model.specs.declared.operations.Role.{Role}
 use Rattle.fugue_ids.specs.Ops.{id_of}
 use Rattle.origin_model.specs.declared.edit_fault.EditFault.TheVariants.{IdsSpent, TooMany}
 use Rattle.list_spec.proofs.PoolLemmas.{IsBy}
-use Rattle.origin_model.specs.declared.operations.verdict.Verdict.TheVariants.{Ready}
+use Rattle.origin_model.specs.declared.operations.Verdict.TheVariants.{Ready}
 use Rattle.origin_model.specs.operations.Counters.{counters, mentioned}
 use Rattle.origin_model.specs.operations.History.{holder, holds}
 use Rattle.origin_model.specs.operations.Verdict.{Lawful, first_missing, names, verdict}
@@ -26,11 +26,11 @@ use Rattle.origin_model.proofs.edits.FreshIdLemmas.{BelowAll, IsBelow, history_b
 use Rattle.origin_model.proofs.edits.MadeLemmas.{cut_made, put_made}
 use Rattle.origin_model.proofs.edits.PutLemmas.{put_lands}
 use Rattle.origin_model.specs.edits.State.{State}
-use Rattle.origin_model.specs.edits.Refusal.{held_count, in_range, in_section, next_of_own, refusal, refused_elements, refused_ops, shown_count}
+use Rattle.origin_model.specs.edits.Refusal.{held_count, in_range, in_section, next_of_own, refusal_message, refused_elements, refused_ops, shown_count}
 use Rattle.list_spec.specs.Worlds.{effect}
 use Rattle.list_spec.proofs.CallLemmas.{range_none}
 use Rattle.list_spec.proofs.EffectLemmas.{made_whole}
-use Rattle.bulk_world.specs.Generator.{command_of, cuts, letter}
+use Rattle.bulk_world.specs.Generator.{drawn_command, cuts, letter}
 use Rattle.bulk_world.specs.Turns.{first_text}
 use Rattle.bulk_world.proofs.MergeLemmas.{IsOf, quiet}
 use Rattle.bulk_world.proofs.TurnLemmas.{asked, numbered}
@@ -179,7 +179,7 @@ module _ (n : ℕ) (h : List Op) (s : IsSteady n h) where
     put_step at ch l =
         let c : ℕ = next_counter n h [] in
         let new : List ℕ = ch ∷ [] in
-        let allowed : refusal (quiet_author n h) (Put 0 at new) ≡ None =
+        let allowed : refusal_message (quiet_author n h) (Put 0 at new) ≡ None =
         ap (λ o. in_section o (λ x. in_range at (shown_count (quiet_author n h) (within x)) (refused_elements (quiet_author n h) 1))) there
         ∙ range_none at shown_scalars (refused_elements (quiet_author n h) 1) l elements_fit in
         let is : effect (quiet_author n h) (Put 0 at new) ≡ made n h [] (Put 0 at new) = made_whole (Put 0 at new) (quiet_author n h) allowed in
@@ -199,7 +199,7 @@ module _ (n : ℕ) (h : List Op) (s : IsSteady n h) where
     cut_step at l =
         let list : List Identifier = shown (within section_id) h in
         let d = drop_some list at l in
-        let allowed : refusal (quiet_author n h) (Cut 0 at 1) ≡ None =
+        let allowed : refusal_message (quiet_author n h) (Cut 0 at 1) ≡ None =
         ap (λ o. in_section o (λ x. in_range (at + 1) (shown_count (quiet_author n h) (within x)) (refused_ops (quiet_author n h) 1))) there
         ∙ range_none (at + 1) shown_scalars (refused_ops (quiet_author n h) 1) (omega (arith, l)) ops_fit in
         let is : effect (quiet_author n h) (Cut 0 at 1) ≡ made n h [] (Cut 0 at 1) = made_whole (Cut 0 at 1) (quiet_author n h) allowed in
@@ -210,7 +210,7 @@ module _ (n : ℕ) (h : List Op) (s : IsSteady n h) where
 
     -- whatever the number asks
     pub one_step : (y : ℕ) → IsOneStep n h (effect (quiet_author n h) (asked y (quiet_author n h)))
-    one_step y = subst (λ m. IsOneStep n h (effect (quiet_author n h) (command_of y m))) (sym text_is) (by_test (cuts y shown_scalars) refl)
+    one_step y = subst (λ m. IsOneStep n h (effect (quiet_author n h) (drawn_command y m))) (sym text_is) (by_test (cuts y shown_scalars) refl)
       where
         by_test : (b : Bool) → cuts y shown_scalars ≡ b → IsOneStep n h (effect (quiet_author n h) (if b then Cut 0 (y % shown_scalars) 1 else Put 0 (y % (shown_scalars + 1)) (letter y ∷ [])))
         by_test true t = cut_step (y % shown_scalars) (mod_below y shown_scalars (some_shown shown_scalars t))

@@ -11,7 +11,7 @@ use Rattle.origin_model.specs.edits.State.{State}
 use Rattle.origin_model.specs.edits.Refusal.{section_shown}
 use Rattle.bulk_world.specs.Summary.{are_same, sum_of, told_of}
 use Rattle.bulk_world.specs.Turns.{first_text}
-use Rattle.bulk_world.specs.declared.summary.Summary.{Summary}
+use Rattle.bulk_world.specs.declared.telling.Summary.{Summary}
 
 -- the bytes of the first section, where there is one
 abbrev bytes_of : State → Option Identifier → Option (List ℕ)

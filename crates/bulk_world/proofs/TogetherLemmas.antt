@@ -5,7 +5,7 @@ use Rattle.std.proofs.lemmas.List.Elements.{All-cons, All-nil}
 use lib.Pointwise.{bytes_decides}
 use Rattle.fugue_ids.specs.declared.op.Op.{Op}
 use Rattle.fugue_ids.specs.declared.limits.TheConstants.{MOST_OPERATIONS}
-use Rattle.origin_model.specs.declared.operations.verdict.Verdict.TheVariants.{Ready}
+use Rattle.origin_model.specs.declared.operations.Verdict.TheVariants.{Ready}
 use Rattle.origin_model.specs.operations.Verdict.{Lawful, verdict}
 use Rattle.origin_model.specs.order.Laws.{OrderBySet}
 use Rattle.origin_model.specs.order.Order.{order}
@@ -21,7 +21,7 @@ use Rattle.bulk_world.specs.Generator.{next}
 use Rattle.bulk_world.specs.Laws.{ComesTogether}
 use Rattle.bulk_world.specs.Summary.{summary, told_of}
 use Rattle.bulk_world.specs.Turns.{among, bulk_world, made_over, turns}
-use Rattle.bulk_world.specs.declared.limits.TheConstants.{HOLD, MOST_TURNS}
+use Rattle.bulk_world.specs.declared.making.TheConstants.{HOLD, MOST_TURNS}
 use Rattle.bulk_world.proofs.BulkLemmas.{after, heard, made, one_hears, the_section, two_hears}
 use Rattle.bulk_world.proofs.MergeLemmas.{IsOf, IsWritten, all_accepted, comes_behind, quiet, same_behind}
 use Rattle.bulk_world.proofs.SteadyLemmas.{IsOneStep, IsSteady, one_step, quiet_author}

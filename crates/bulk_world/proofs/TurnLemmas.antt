@@ -17,8 +17,8 @@ use Rattle.origin_model.specs.declared.edit_fault.EditFault.TheVariants.{NoMemor
 use Rattle.list_spec.specs.Calls.{IsEditCall}
 use Rattle.list_spec.specs.Worlds.{Edit, Event, World, after_event, after_events, edited, effect, pooled}
 use Rattle.list_spec.proofs.CallLemmas.{calls_are_edits}
-use Rattle.bulk_world.specs.Generator.{command_of, next}
-use Rattle.bulk_world.specs.Turns.{IsAuthor, Leads, among, author, first_text, made_over, replica_of, turn_of, turns}
+use Rattle.bulk_world.specs.Generator.{drawn_command, next}
+use Rattle.bulk_world.specs.Turns.{IsAuthor, TurnsLead, among, author, first_text, made_over, numbered_replica, turn_of, turns}
 
 -- where memory is not wanting, the edit is that of the world, refused or not
 edit_is : (command : Command) (old new : State) (result : Result ℕ EditFault) → result ≢ Err NoMemory → IsEditCall command old new result → new ≡ edited command old
@@ -49,11 +49,11 @@ numbered n held = record (author n) { held = held }
 
 -- the edit that the number x asks of a replica
 abbrev pub asked : ℕ → State → Command
-asked x s = command_of x (length (first_text s))
+asked x s = drawn_command x (length (first_text s))
 
 -- the turn of the replica with the number n
 abbrev pub turn_by : ℕ → World → ℕ → Event
-turn_by n w x = Edit n (asked x (replica_of n w.replicas))
+turn_by n w x = Edit n (asked x (numbered_replica n w.replicas))
 
 -- whose turn it is
 pub odd_turn : (i : ℕ) → nat_eq (i % 2) 1 ≡ true → turn_of i ≡ 1
@@ -71,18 +71,18 @@ LeadsBy n count i x one two one' two' =
 
 -- a turn of either, and then the others
 pub first_turn : (count i x : ℕ) (one two a b : State) → nat_eq (i % 2) 1 ≡ true → IsAuthor 1 one → IsAuthor 2 two
-    → Leads count (suc i) (next x) (edited (asked (next x) one) one) two a b → Leads (suc count) i x one two a b
+    → TurnsLead count (suc i) (next x) (edited (asked (next x) one) one) two a b → TurnsLead (suc count) i x one two a b
 first_turn count i x one two a b odd f s leads =
     subst (λ n. LeadsBy n count i (next x) one two a b) (sym (odd_turn i odd))
-    (subst (λ t. LeadsBy 1 count i (next x) one t a b) (sym s) (subst (λ o. Leads count (suc i) (next x) (edited (asked (next x) o) o) (numbered 2 two.held) a b → LeadsBy 1 count i (next x) o (numbered 2 two.held) a b) (sym f)
-    (λ l pool. l _) (subst (λ t. Leads count (suc i) (next x) (edited (asked (next x) one) one) t a b) s leads)))
+    (subst (λ t. LeadsBy 1 count i (next x) one t a b) (sym s) (subst (λ o. TurnsLead count (suc i) (next x) (edited (asked (next x) o) o) (numbered 2 two.held) a b → LeadsBy 1 count i (next x) o (numbered 2 two.held) a b) (sym f)
+    (λ l pool. l _) (subst (λ t. TurnsLead count (suc i) (next x) (edited (asked (next x) one) one) t a b) s leads)))
 
 pub second_turn : (count i x : ℕ) (one two a b : State) → nat_eq (i % 2) 1 ≡ false → IsAuthor 1 one → IsAuthor 2 two
-    → Leads count (suc i) (next x) one (edited (asked (next x) two) two) a b → Leads (suc count) i x one two a b
+    → TurnsLead count (suc i) (next x) one (edited (asked (next x) two) two) a b → TurnsLead (suc count) i x one two a b
 second_turn count i x one two a b even f s leads =
     subst (λ n. LeadsBy n count i (next x) one two a b) (sym (even_turn i even))
-    (subst (λ o. LeadsBy 2 count i (next x) o two a b) (sym f) (subst (λ t. Leads count (suc i) (next x) (numbered 1 one.held) (edited (asked (next x) t) t) a b → LeadsBy 2 count i (next x) (numbered 1 one.held) t a b) (sym s)
-    (λ l pool. l _) (subst (λ o. Leads count (suc i) (next x) o (edited (asked (next x) two) two) a b) f leads)))
+    (subst (λ o. LeadsBy 2 count i (next x) o two a b) (sym f) (subst (λ t. TurnsLead count (suc i) (next x) (numbered 1 one.held) (edited (asked (next x) t) t) a b → LeadsBy 2 count i (next x) (numbered 1 one.held) t a b) (sym s)
+    (λ l pool. l _) (subst (λ o. TurnsLead count (suc i) (next x) o (edited (asked (next x) two) two) a b) f leads)))
 
 -- an edit leaves an author an author
 pub still_author : (n : ℕ) (command : Command) (s : State) → IsAuthor n s → IsAuthor n (edited command s)
@@ -133,15 +133,15 @@ turned (suc count) i x pool h k =
     Turned n = let w : World = among pool one two in IsTurned pool one two (turn_by n w y ∷ turns (after_event w (turn_by n w y)) count (suc i) y)
 
 -- as many turns
-by_count : (m n i x : ℕ) (one two a b : State) → m ≡ n → Leads m i x one two a b → Leads n i x one two a b
-by_count m n i x one two a b e leads = subst (λ k. Leads k i x one two a b) e leads
+by_count : (m n i x : ℕ) (one two a b : State) → m ≡ n → TurnsLead m i x one two a b → TurnsLead n i x one two a b
+by_count m n i x one two a b e leads = subst (λ k. TurnsLead k i x one two a b) e leads
 
 -- what turns lead to
 abbrev Whole : (W : State → State → Type 0) → (count done x : ℕ) → (one two : State) → Type 0
-Whole W count done x one two = (a b : State) → Leads (count - done) (done + 1) x one two a b → W a b
+Whole W count done x one two = (a b : State) → TurnsLead (count - done) (done + 1) x one two a b → W a b
 
 -- before the first turn, all are left
-pub all_left : (count x : ℕ) (one two : State) → Whole (Leads count 1 x one two) count 0 x one two
+pub all_left : (count x : ℕ) (one two : State) → Whole (TurnsLead count 1 x one two) count 0 x one two
 all_left count x one two a b leads = by_count (count - 0) count 1 x one two a b (omega arith) leads
 
 -- behind the last, none is
@@ -153,8 +153,8 @@ pub first_on : (W : State → State → Type 0) (count done x y : ℕ) (one two 
     → y ≡ next x → new ≡ edited (asked y one) one → Whole W count done x one two → Whole W count (done + 1) y new two
 first_on W count done x y one two new l odd f s ny nn whole a b leads =
     let c : ℕ = count - (done + 1) in
-    let now : Leads c (suc (done + 1)) (next x) (edited (asked (next x) one) one) two a b =
-    subst (λ z. Leads c (suc (done + 1)) z (edited (asked z one) one) two a b) ny (subst (λ n. Leads c (suc (done + 1)) y n two a b) nn (subst (λ k. Leads c k y new two a b) (omega arith) leads)) in
+    let now : TurnsLead c (suc (done + 1)) (next x) (edited (asked (next x) one) one) two a b =
+    subst (λ z. TurnsLead c (suc (done + 1)) z (edited (asked z one) one) two a b) ny (subst (λ n. TurnsLead c (suc (done + 1)) y n two a b) nn (subst (λ k. TurnsLead c k y new two a b) (omega arith) leads)) in
     whole a b (by_count (suc c) (count - done) (done + 1) x one two a b (omega (arith, l)) (first_turn c (done + 1) x one two a b odd f s now))
 
 -- a turn of the second author
@@ -162,8 +162,8 @@ pub second_on : (W : State → State → Type 0) (count done x y : ℕ) (one two
     → y ≡ next x → new ≡ edited (asked y two) two → Whole W count done x one two → Whole W count (done + 1) y one new
 second_on W count done x y one two new l even f s ny nn whole a b leads =
     let c : ℕ = count - (done + 1) in
-    let now : Leads c (suc (done + 1)) (next x) one (edited (asked (next x) two) two) a b =
-    subst (λ z. Leads c (suc (done + 1)) z one (edited (asked z two) two) a b) ny (subst (λ n. Leads c (suc (done + 1)) y one n a b) nn (subst (λ k. Leads c k y one new a b) (omega arith) leads)) in
+    let now : TurnsLead c (suc (done + 1)) (next x) one (edited (asked (next x) two) two) a b =
+    subst (λ z. TurnsLead c (suc (done + 1)) z one (edited (asked z two) two) a b) ny (subst (λ n. TurnsLead c (suc (done + 1)) y one n a b) nn (subst (λ k. TurnsLead c k y one new a b) (omega arith) leads)) in
     whole a b (by_count (suc c) (count - done) (done + 1) x one two a b (omega (arith, l)) (second_turn c (done + 1) x one two a b even f s now))
 
 -- and it stays an author

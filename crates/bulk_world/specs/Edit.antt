@@ -2,8 +2,8 @@
 use Rattle.std.specs.Prelude.{[], ◌∷◌}
 use Rattle.origin_model.specs.edits.Edits.{Command}
 use Rattle.origin_model.specs.edits.Edits as edits
-use Rattle.bulk_world.specs.declared.edit.Edit.{Edit}
-use Rattle.bulk_world.specs.declared.edit.Edit.TheVariants.{Put, Cut}
+use Rattle.bulk_world.specs.declared.generator.Edit.{Edit}
+use Rattle.bulk_world.specs.declared.generator.Edit.TheVariants.{Put, Cut}
 
 -- the command that an edit is
 abbrev pub command_for : Edit → Command

@@ -19,5 +19,5 @@ abbrev pub letter : ℕ → ℕ
 letter x = 97 + upper x / 8 % 26
 
 -- the edit of the first section that x asks for, where so many scalars are shown of it
-abbrev pub command_of : (x shown : ℕ) → Command
-command_of x shown = if cuts x shown then Cut 0 (x % shown) 1 else Put 0 (x % (shown + 1)) (letter x ∷ [])
+abbrev pub drawn_command : (x shown : ℕ) → Command
+drawn_command x shown = if cuts x shown then Cut 0 (x % shown) 1 else Put 0 (x % (shown + 1)) (letter x ∷ [])

@@ -2,7 +2,7 @@
 use Rattle.std.specs.Prelude.{◌≡◌, ◌≤◌, ◌+◌, ℕ, true}
 use Rattle.bulk_world.specs.Summary.{summary}
 use Rattle.bulk_world.specs.Turns.{bulk_world}
-use Rattle.bulk_world.specs.declared.limits.TheConstants.{MOST_TURNS}
+use Rattle.bulk_world.specs.declared.making.TheConstants.{MOST_TURNS}
 
 -- the first author accepted the section and one operation of each turn, and both authors have the same manuscript
 pub record ComesTogether (seed count : ℕ) : Type 0 where

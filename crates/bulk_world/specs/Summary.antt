@@ -3,8 +3,8 @@ use Rattle.std.specs.Prelude.{◌+◌, ◌*◌, ◌%◌, ℕ, suc, Bool, nat_eq,
 use Rattle.origin_model.specs.order.Printed.{manuscript}
 use Rattle.origin_model.specs.edits.State.{State}
 use Rattle.list_spec.specs.Worlds.{World}
-use Rattle.bulk_world.specs.Turns.{bulk_world, first_text, replica_of}
-use Rattle.bulk_world.specs.declared.summary.Summary.{Summary}
+use Rattle.bulk_world.specs.Turns.{bulk_world, first_text, numbered_replica}
+use Rattle.bulk_world.specs.declared.telling.Summary.{Summary}
 use lib.Pointwise.{pointwise}
 
 -- each scalar times its place, where the first has the place k
@@ -32,7 +32,7 @@ told_of one two =
 
 -- the summary of a world with replicas 1 and 2
 abbrev pub summary : World → Summary
-summary w = told_of (replica_of 1 w.replicas) (replica_of 2 w.replicas)
+summary w = told_of (numbered_replica 1 w.replicas) (numbered_replica 2 w.replicas)
 
 -- the last word
 abbrev pub verdict_word : Bool → List ℕ

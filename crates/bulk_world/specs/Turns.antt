@@ -3,26 +3,26 @@ use Rattle.std.specs.Prelude.{◌≡◌, ◌%◌, ℕ, zero, suc, nat_eq, if◌t
 use Rattle.fugue_ids.specs.declared.op.Op.{Op}
 use Rattle.fugue_ids.specs.declared.op.Op.TheVariants.{Section}
 use Rattle.origin_model.specs.order.Printed.{text}
-use Rattle.origin_model.specs.taking.Taking.{nothing}
+use Rattle.origin_model.specs.taking.Taking.{nothing_held}
 use Rattle.origin_model.specs.edits.Edits.{Add, id_at}
 use Rattle.origin_model.specs.edits.State.{State}
 use Rattle.origin_model.specs.edits.Refusal.{section_shown}
 use Rattle.list_spec.specs.Worlds.{Deliver, Edit, Event, World, after_event, after_events, made_at, world}
-use Rattle.bulk_world.specs.Generator.{command_of, next}
-use Rattle.bulk_world.specs.declared.limits.TheConstants.{HOLD}
+use Rattle.bulk_world.specs.Generator.{drawn_command, next}
+use Rattle.bulk_world.specs.declared.making.TheConstants.{HOLD}
 use Rattle.fugue_ids.specs.declared.limits.TheConstants.{MOST_OPERATIONS}
 
 -- a replica that holds nothing
 abbrev pub author : ℕ → State
-author number = record { number = number; hold = HOLD; most = MOST_OPERATIONS; held = nothing }
+author number = record { number = number; hold = HOLD; most = MOST_OPERATIONS; held = nothing_held }
 
 abbrev pub authors : List State
 authors = author 1 ∷ author 2 ∷ []
 
 -- the replica with this number, as it is in a world
-abbrev pub replica_of : ℕ → List State → State
-replica_of n [] = author n
-replica_of n (s ∷ ss) = if nat_eq s.number n then s else replica_of n ss
+abbrev pub numbered_replica : ℕ → List State → State
+numbered_replica n [] = author n
+numbered_replica n (s ∷ ss) = if nat_eq s.number n then s else numbered_replica n ss
 
 -- the scalars that a replica shows of its first section
 abbrev pub first_text : State → List ℕ
@@ -42,11 +42,11 @@ abbrev pub delivers : ℕ → List Op → List Event
 delivers n ops = map (λ op. Deliver n op) ops
 
 -- replica 1 adds the section, and replica 2 hears of it
-abbrev pub adding : List Event
-adding = Edit 1 (Add 0 (codes "B")) ∷ []
+abbrev pub first_section : List Event
+first_section = Edit 1 (Add 0 (codes "B")) ∷ []
 
 abbrev pub opening : List Event
-opening = adding ++ delivers 2 (made_over 1 (world authors []) adding)
+opening = first_section ++ delivers 2 (made_over 1 (world authors []) first_section)
 
 -- whose turn i is: that of replica 1 where i is odd
 abbrev pub turn_of : ℕ → ℕ
@@ -54,7 +54,7 @@ turn_of i = if nat_eq (i % 2) 1 then 1 else 2
 
 -- the turn i, by the number x
 abbrev pub turn : World → (i x : ℕ) → Event
-turn w i x = Edit (turn_of i) (command_of x (length (first_text (replica_of (turn_of i) w.replicas))))
+turn w i x = Edit (turn_of i) (drawn_command x (length (first_text (numbered_replica (turn_of i) w.replicas))))
 
 -- so many turns from the turn i on, by the numbers behind x
 abbrev pub turns : World → (count i x : ℕ) → List Event
@@ -70,12 +70,12 @@ abbrev pub IsAuthor : ℕ → State → Type 0
 IsAuthor n s = s ≡ record (author n) { held = s.held }
 
 -- what both begin with
-abbrev pub opened : ℕ → State
-opened n = record (author n) { held = record { history = Section (id_at 1 0) None None (codes "B") ∷ []; waiting = [] } }
+abbrev pub two_begin : ℕ → State
+two_begin n = record (author n) { held = record { history = Section (id_at 1 0) None None (codes "B") ∷ []; waiting = [] } }
 
 -- so many turns from the turn i on, by the numbers behind x, lead from two replicas to two others
-abbrev pub Leads : (count i x : ℕ) → (one two one' two' : State) → Type 0
-Leads count i x one two one' two' =
+abbrev pub TurnsLead : (count i x : ℕ) → (one two one' two' : State) → Type 0
+TurnsLead count i x one two one' two' =
     (pool : List Op) → (after_events (among pool one two) (turns (among pool one two) count i x)).replicas ≡ one' ∷ two' ∷ []
 
 -- behind events, each replica hears what the other made in them

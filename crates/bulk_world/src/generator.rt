@@ -1,10 +1,10 @@
 //! The numbers by which the manuscript is made.
-
-ghost use Rattle.std.specs.Prelude.{◌≡◌};
+ghost use Rattle.std.specs.Prelude.{◌≡◌, ◌≢◌, Err, OnOk};
 ghost use Rattle.bulk_world.specs.Edit.{command_for};
-ghost use Rattle.bulk_world.specs.Generator.{command_of, letter as letter_of, next as behind};
+ghost use Rattle.bulk_world.specs.Generator.{drawn_command, letter as letter_of, next as behind};
 
-use crate::edit::Edit;
+use fugue_ids::NoMemory;
+use replica_core::EditFault;
 
 /// The number behind x.
 pub(crate) fn next(x: u32) -> u32
@@ -15,7 +15,7 @@ pub(crate) fn next(x: u32) -> u32
 
 /// The edit that x asks for, where so many scalars are shown.
 pub(crate) fn edit_of(x: u32, shown: usize) -> Edit
-    ensures { command_for result ≡ command_of x shown }
+    ensures { command_for result ≡ drawn_command x shown }
 {
     let place = x as usize;
     if shown != 0 && (x / 65_536) % 8 == 0 {
@@ -29,4 +29,27 @@ fn letter(x: u32) -> char
     ensures { result ≡ letter_of x }
 {
     char::from(b'a' + (x / 65_536 / 8 % 26) as u8)
+}
+
+/// An edit of the first section, by positions in what is shown.
+#[derive(Clone, Copy)]
+pub(crate) enum Edit {
+    /// Puts a letter.
+    Put(usize, char),
+    /// Cuts one scalar.
+    Cut(usize),
+}
+
+/// Whether memory was enough for an edit. One that is refused for another cause changes nothing.
+pub(crate) fn unless_memory_wants(made: &Result<u32, EditFault>) -> Result<(), NoMemory>
+    ensures { OnOk result (made.now ≢ Err EditFault.NoMemory) }
+{
+    match made {
+        Ok(_) => Ok(()),
+        Err(EditFault::NoSection) => Ok(()),
+        Err(EditFault::OutOfRange) => Ok(()),
+        Err(EditFault::IdsSpent(_)) => Ok(()),
+        Err(EditFault::TooMany(_)) => Ok(()),
+        Err(EditFault::NoMemory) => Err(NoMemory),
+    }
 }

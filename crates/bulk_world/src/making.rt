@@ -1,15 +1,23 @@
-ghost use Rattle.std.specs.Prelude.{◌≡◌, IfOk};
+ghost use Rattle.std.specs.Prelude.{◌≡◌, IfOk, ◌≢◌, codes, OnOk};
 ghost use Rattle.bulk_world.specs.Summary.{summary};
-ghost use Rattle.bulk_world.specs.Turns.{author, bulk_world};
+ghost use Rattle.bulk_world.specs.Turns.{author, bulk_world, two_begin};
+ghost use Rattle.origin_model.specs.taking.Taking.{IsSettled, held_from, intake};
+ghost use Rattle.bulk_world.specs.Laws.{MeetsNoLimit};
 
 use crate::Summary;
-use crate::hearing::hear;
-use crate::opening::{new_author, open};
+use crate::generator::unless_memory_wants;
 use crate::telling::tell_of;
 use crate::turn::take_turns;
-use fugue_ids::NoMemory;
-use replica_core::Replica;
+use fugue_ids::{MOST_OPERATIONS, NoMemory, Op, Title, TitleFault};
+use origin_model::order_by_set;
+use replica_core::{FeedFault, Replica, Tally};
 use std::alloc::Global;
+
+/// How many operations of each replica may wait.
+pub(crate) const HOLD: u32 = 65_536;
+
+/// The most turns that a manuscript is made in.
+pub const MOST_TURNS: u32 = 1_000_000;
 
 /// Makes the manuscript that the seed leads to in so many turns, and tells of it.
 pub fn bulk(alloc: Global, seed: u32, count: u32) -> Result<Summary, NoMemory>
@@ -50,4 +58,84 @@ fn bulk_among(
     hear(alloc, second, &first.accepted()[1..])?;
     hear(alloc, first, &second.accepted()[1..made])?;
     tell_of(alloc, first, second)
+}
+
+/// A replica that holds nothing.
+pub(crate) fn new_author(alloc: Global, number: u32) -> Replica
+    requires { number ≢ 0 }
+    ensures { result ≡ author number }
+{
+    match Replica::new(alloc, number, HOLD, MOST_OPERATIONS) {
+        Ok(replica) => replica,
+        Err(_) => unreachable!(),
+    }
+}
+
+/// The first author adds the section, and the second hears of it.
+pub(crate) fn open(alloc: Global, first: &mut Replica, second: &mut Replica) -> Result<(), NoMemory>
+    requires first { first.old ≡ author 1 }
+    requires second { second.old ≡ author 2 }
+    ensures first { OnOk result (first.new ≡ two_begin 1) }
+    ensures second { OnOk result (second.new ≡ two_begin 2) }
+{
+    add_section(alloc, first)?;
+    hear(alloc, second, first.accepted())
+}
+
+fn add_section(alloc: Global, first: &mut Replica) -> Result<(), NoMemory>
+    requires { first.old ≡ author 1 }
+    ensures { OnOk result (first.new ≡ two_begin 1) }
+{
+    let title = new_title(alloc)?;
+    unless_memory_wants(&first.add(0, title))
+}
+
+fn new_title(alloc: Global) -> Result<Title, NoMemory>
+    ensures { IfOk result (λ title. title ≡ codes "B") }
+{
+    match Title::read(alloc, "B") {
+        Ok(title) => Ok(title),
+        Err(TitleFault::NoMemory) => Err(NoMemory),
+        Err(TitleFault::Empty) => unreachable!(),
+        Err(TitleFault::TooLong) => unreachable!(),
+        Err(TitleFault::LineEnd) => unreachable!(),
+    }
+}
+
+/// A replica hears of the operations, one after another.
+pub(crate) fn hear(alloc: Global, replica: &mut Replica, ops: &[Op]) -> Result<(), NoMemory>
+    requires { IsSettled replica.old.held }
+    ensures heard { OnOk result (replica.new ≡ record replica.old {
+      held = held_from replica.old.hold replica.old.most replica.old.held ops.now;
+    }) }
+    ensures settled { OnOk result (IsSettled replica.new.held) }
+{
+    'heard: for op in ops {
+        hear_one(alloc, replica, op)?;
+    }
+    Ok(())
+}
+
+/// A refused operation changes nothing.
+fn hear_one(alloc: Global, replica: &mut Replica, op: &Op) -> Result<(), NoMemory>
+    requires { IsSettled replica.old.held }
+    ensures heard { OnOk result (replica.new ≡ record replica.old {
+      held = intake replica.old.hold replica.old.most replica.old.held op.now;
+    }) }
+    ensures settled { OnOk result (IsSettled replica.new.held) }
+{
+    let op = op.clone_in(alloc)?;
+    match replica.feed(op, &mut Tally::default()) {
+        Ok(_) => Ok(()),
+        Err(FeedFault::TooMany(_)) => Ok(()),
+        Err(FeedFault::NoMemory) => Err(NoMemory),
+    }
+}
+
+/// No limit is met: each turn makes one operation, each author accepts all that the other made, and both end with the
+/// same manuscript. It does nothing when it runs.
+pub fn bulk_comes_together()
+    ensures { MeetsNoLimit }
+{
+    order_by_set();
 }

@@ -1,17 +1,29 @@
 //! The summary of two replicas, and its text.
-
 ghost use Rattle.std.specs.Prelude.{◌≡◌, length, IfOk};
 ghost use Rattle.std.specs.Str.{chars};
-ghost use Rattle.fugue_ids.specs.Outs.{WritesText};
+ghost use Rattle.fugue_ids.specs.Outs.{WritesBytes};
 ghost use Rattle.origin_model.specs.order.Printed.{manuscript};
-ghost use Rattle.bulk_world.specs.Summary.{are_same, sum_of as sum_over, summary_text, told_of, verdict_word as word_of};
+ghost use Rattle.bulk_world.specs.Summary.{are_same, sum_of as sum_over, summary_text, told_of};
+ghost use Rattle.bulk_world.specs.Summary.{verdict_word as word_of};
 
-use crate::Summary;
 use fugue_ids::{Failed, NoMemory, Out, write_pieces};
 use itoa::Buffer;
 use outer_ports::MemSink;
 use replica_core::Replica;
 use std::alloc::Global;
+
+/// What is told of a bulk manuscript.
+#[derive(Clone, Copy, Debug, PartialEq, Eq)]
+pub struct Summary {
+    /// How many operations the first replica accepted.
+    pub operations: usize,
+    /// How many scalars it shows of the section.
+    pub scalars: usize,
+    /// The sum over them of the place, counted from 1, times the scalar.
+    pub sum: u32,
+    /// Whether both replicas have the same manuscript.
+    pub is_equal: bool,
+}
 
 /// What is told of two replicas.
 pub(crate) fn tell_of(alloc: Global, first: &Replica, second: &Replica) -> Result<Summary, NoMemory>
@@ -56,7 +68,8 @@ fn sum_of(text: &str) -> u32
 }
 
 fn have_same_manuscript(alloc: Global, first: &Replica, second: &Replica) -> Result<bool, NoMemory>
-    ensures { IfOk result (λ same. same ≡ are_same (manuscript first.now.held.history) (manuscript second.now.held.history)) }
+    ensures { IfOk result (λ same. same
+        ≡ are_same (manuscript first.now.held.history) (manuscript second.now.held.history)) }
 {
     let one = printed(alloc, first)?;
     let two = printed(alloc, second)?;
@@ -83,7 +96,7 @@ fn verdict_word(is_equal: bool) -> &'static [u8]
 
 /// Writes the four lines of a summary.
 pub fn write_summary<O: Out>(output: &mut O, summary: &Summary) -> Result<(), Failed>
-    ensures { WritesText (O.seen output.old) (O.seen output.new) result (summary_text summary.now) }
+    ensures { WritesBytes (O.seen output.old) (O.seen output.new) result (summary_text summary.now) }
 {
     let [mut operations, mut scalars, mut sum] = [Buffer::new(), Buffer::new(), Buffer::new()];
     write_pieces(

@@ -1,15 +1,13 @@
 //! The turns of two authors who do not hear of each other.
-
 ghost use Rattle.std.specs.Prelude.{◌≡◌, [], ◌∷◌, length, OnOk};
 ghost use Rattle.origin_model.specs.edits.Edits.{Put, Cut};
 ghost use Rattle.origin_model.specs.taking.Taking.{IsSettled};
 ghost use Rattle.list_spec.specs.Worlds.{edited};
 ghost use Rattle.bulk_world.specs.Edit.{command_for};
-ghost use Rattle.bulk_world.specs.Generator.{command_of};
-ghost use Rattle.bulk_world.specs.Turns.{IsAuthor, Leads, first_text};
+ghost use Rattle.bulk_world.specs.Generator.{drawn_command};
+ghost use Rattle.bulk_world.specs.Turns.{IsAuthor, TurnsLead, first_text};
 
-use crate::edit::{Edit, unless_memory_wants};
-use crate::generator::{edit_of, next};
+use crate::generator::{Edit, edit_of, next, unless_memory_wants};
 use fugue_ids::NoMemory;
 use replica_core::Replica;
 
@@ -24,7 +22,7 @@ pub(crate) fn take_turns(
     requires second { IsAuthor 2 second.old }
     requires first_settled { IsSettled first.old.held }
     requires second_settled { IsSettled second.old.held }
-    ensures leads { OnOk result (Leads count 1 seed first.old second.old first.new second.new) }
+    ensures leads { OnOk result (TurnsLead count 1 seed first.old second.old first.new second.new) }
     ensures first_settled { IsSettled first.new.held }
     ensures second_settled { IsSettled second.new.held }
 {
@@ -44,7 +42,7 @@ pub(crate) fn take_turns(
 /// One turn, by the number x.
 fn take_turn(replica: &mut Replica, x: u32) -> Result<(), NoMemory>
     requires { IsSettled replica.old.held }
-    ensures ok { OnOk result (replica.new ≡ edited (command_of x (length (first_text replica.old))) replica.old) }
+    ensures ok { OnOk result (replica.new ≡ edited (drawn_command x (length (first_text replica.old))) replica.old) }
     ensures settled { IsSettled replica.new.held }
 {
     let shown = replica.text_len(0).unwrap_or(0);

@@ -13,14 +13,14 @@ use Rattle.std.proofs.lemmas.List.Sorted.{searched}
 use Rattle.std.proofs.lemmas.List.Sums.{position_or_len_is}
 use Rattle.std.proofs.Math.Seq.{get_or-append_seam}
 use Rattle.fugue_ids.proofs.ListLemmas.{all_pairs_head, all_pairs_tail}
-use Rattle.causal_inbox.specs.Index.{added, dropped, is_last}
+use Rattle.causal_inbox.specs.Index.{with_age, dropped, is_last}
 
 -- what was put at the end is the last one
 pub last_put : {X : Type 0} (xs : List X) (x : X) → slice_get (xs ++ x ∷ []) (length xs) ≡ Some x
 last_put xs x = slice_get-get_or (xs ++ x ∷ []) (length xs) x (omega (arith, length-append xs (x ∷ []))) ∙ ap Some (get_or-append_seam xs x [] x)
 
 -- an age is added once
-pub added_twice : (a : ℕ) (ages : List ℕ) → added (added ages a) a ≡ added ages a
+pub added_twice : (a : ℕ) (ages : List ℕ) → with_age (with_age ages a) a ≡ with_age ages a
 added_twice a ages =
     let behind : length (ages ++ a ∷ []) - 1 ≡ length ages = omega (arith, length-append ages (a ∷ [])) in
     elim (cases_Bool (is_last ages a)) [ inl e ↦ rw (e, e) | inr e ↦ rw (e, behind, last_put ages a, eq-eqb a a refl) ]
@@ -51,7 +51,7 @@ pub dropped_own : (a : ℕ) → dropped (a ∷ []) a ≡ []
 dropped_own a = rw (eq-eqb a a refl)
 
 -- an age that is added above all others stands behind them
-pub added_above : (a : ℕ) (ages : List ℕ) → All (λ b. b < a) ages → added ages a ≡ ages ++ a ∷ []
+pub added_above : (a : ℕ) (ages : List ℕ) → All (λ b. b < a) ages → with_age ages a ≡ ages ++ a ∷ []
 added_above a [] above = refl
 added_above a (c ∷ ages) above =
     let within : length (c ∷ ages) - 1 < length (c ∷ ages) = omega arith in
@@ -59,7 +59,7 @@ added_above a (c ∷ ages) above =
     rw (slice_get-get_or (c ∷ ages) (length (c ∷ ages) - 1) 0 within, ne_eqb (get_or (c ∷ ages) (length (c ∷ ages) - 1) 0) a (λ same. omega (arith, last, same)))
 
 -- an age that was added goes again
-pub added_dropped : (a : ℕ) (ages : List ℕ) → All (λ b. b < a) ages → dropped (added ages a) a ≡ ages
+pub added_dropped : (a : ℕ) (ages : List ℕ) → All (λ b. b < a) ages → dropped (with_age ages a) a ≡ ages
 added_dropped a ages above =
     ap (λ l. dropped l a) (added_above a ages above) ∙ filter-append (λ b. not (nat_eq b a)) ages (a ∷ [])
     ∙ (λ i. dropped_above a ages above i ++ dropped_own a i) ∙ append-nil ages

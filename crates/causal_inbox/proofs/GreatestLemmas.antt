@@ -7,7 +7,7 @@ use Rattle.std.proofs.lemmas.Bool.{false≢true, eq-eqb, eqb-true, or_cases, or_
 use Rattle.std.proofs.lemmas.List.Folds.{Any-from_list_any, list_any-from_Any}
 use Rattle.std.proofs.lemmas.List.Elements.{Contains-append_left, Contains-append_right, Contains-append_cases}
 use Rattle.fugue_ids.specs.Identifiers.{Identifier, id_eq, origin_eq}
-use Rattle.causal_inbox.specs.Keyed.{HasNoEmpty, items_of}
+use Rattle.causal_inbox.specs.Keyed.{HasNoEmpty, waiting_items_of}
 use Rattle.fugue_ids.specs.Ops.{id_of}
 use Rattle.fugue_ids.specs.declared.op.Op.{Op}
 use Rattle.fugue_ids.specs.declared.op.Op.TheVariants.{Delete}
@@ -15,7 +15,7 @@ use Rattle.fugue_ids.proofs.IdentifierLemmas.{eq-id_eq, id_eq-refl, id_eq-true, 
 use Rattle.fugue_ids.proofs.ListLemmas.{all_from_contains, contains_cases, contains_filter, contains_filter_from, contains_here, contains_map, contains_map_from, contains_none}
 use Rattle.origin_model.specs.operations.Counters.{counters, mentioned, IsGreatest}
 use Rattle.origin_model.specs.operations.Verdict.{names}
-use Rattle.origin_model.specs.declared.operations.role.Role.{Role}
+use Rattle.origin_model.specs.declared.operations.Role.{Role}
 use Rattle.causal_inbox.specs.Index.{IsAgeIndex}
 use Rattle.causal_inbox.specs.Greatest.{IsGreatestUnder}
 use Rattle.causal_inbox.specs.Key.{has_key, has_kind, named, own}
@@ -80,7 +80,7 @@ entry_where m ops ages key none index =
     filled [] within = absurd (omega (arith, within))
     filled (a ∷ l) within = refl
 
-    by_entry : (o : Option (List ℕ)) → IfSome o (λ v. 0 < length v) → is_some o ≡ is_some (slice_get (items_of o) 0)
+    by_entry : (o : Option (List ℕ)) → IfSome o (λ v. 0 < length v) → is_some o ≡ is_some (slice_get (waiting_items_of o) 0)
     by_entry None f = refl
     by_entry (Some v) f = filled v f
 

@@ -14,7 +14,7 @@ use Rattle.std.proofs.lemmas.List.Quantifiers.{all_pairs_remove}
 use Rattle.std.proofs.Math.Seq.{drop-cons}
 use Rattle.fugue_ids.proofs.ListLemmas.{all_pairs_across, all_pairs_behind, all_pairs_head, all_pairs_nil, all_pairs_tail}
 use Rattle.fugue_ids.specs.declared.op.Op.{Op}
-use Rattle.causal_inbox.specs.Index.{IsAgeIndex, added, ages_with, dropped, positions_with}
+use Rattle.causal_inbox.specs.Index.{IsAgeIndex, with_age, ages_with, dropped, positions_with}
 use Rattle.causal_inbox.proofs.KeyLemmas.{AreKeys}
 use Rattle.causal_inbox.specs.Key.{has_key, is_among, key_eq}
 use Rattle.causal_inbox.specs.Lists.{AllRise, Changed, FrontAdded}
@@ -61,14 +61,14 @@ pushed_if false l a = sym (append-nil l)
 
 -- an index with one operation more
 pub index_added : (ops : List Op) (op : Op) (ages : List ℕ) (a : ℕ) (keys : List Key) (old new : Key → List ℕ) → All (λ b. b < a) ages → AreKeys keys op
-    → Changed (is_among keys) (λ l. added l a) old new → IsAgeIndex ops ages old → IsAgeIndex (ops ++ op ∷ []) (ages ++ a ∷ []) new
+    → Changed (is_among keys) (λ l. with_age l a) old new → IsAgeIndex ops ages old → IsAgeIndex (ops ++ op ∷ []) (ages ++ a ∷ []) new
 index_added ops op ages a keys old new above are changed index = record {
   one_each = omega (arith, length-append ages (a ∷ []), length-append ops (op ∷ []), index.one_each);
   rise = rises_push ages a index.rise above;
   listed = λ (key : Key).
       let all : All (λ b. b < a) (ages_with key ops ages) = ages_all (λ b. b < a) key ops ages above in
       changed key
-      ∙ (λ i. if are key i then added (index.listed key i) a else index.listed key i)
+      ∙ (λ i. if are key i then with_age (index.listed key i) a else index.listed key i)
       ∙ ap (λ l. if has_key key op then l else ages_with key ops ages) (added_above a (ages_with key ops ages) all)
       ∙ pushed_if (has_key key op) (ages_with key ops ages) a
       ∙ sym (ages-append key ops (op ∷ []) ages (a ∷ []) index.one_each);
@@ -86,7 +86,7 @@ front_rises ops ages a keys old mid above front index key =
     let all : All (λ b. b < a) (old key) = subst (All (λ b. b < a)) (sym (index.listed key)) (ages_all (λ b. b < a) key ops ages above) in
     let rises = index_rises ops ages old index key in
     subst (AllPairs ◌<◌) (sym (front.front key))
-    (cond_both (is_among (take front.count keys) key) (added (old key) a) (old key) (AllPairs ◌<◌)
+    (cond_both (is_among (take front.count keys) key) (with_age (old key) a) (old key) (AllPairs ◌<◌)
     (λ _. subst (AllPairs ◌<◌) (sym (added_above a (old key) all)) (rises_push (old key) a rises all)) (λ _. rises))
 
 -- an index is as before where what was added is dropped again
@@ -100,12 +100,12 @@ index_undone ops ages a keys old mid new above front changed index = record {
       elim (cases_Bool (is_among keys key)) [
         | inl e ↦
             changed key ∙ ap (λ b. if b then dropped (mid key) a else mid key) e ∙ ap (λ l. dropped l a) (front.front key)
-            ∙ cond_both (is_among (take front.count keys) key) (added (old key) a) (old key) (λ l. dropped l a ≡ old key)
+            ∙ cond_both (is_among (take front.count keys) key) (with_age (old key) a) (old key) (λ l. dropped l a ≡ old key)
             (λ _. added_dropped a (old key) all) (λ _. dropped_above a (old key) all)
             ∙ index.listed key
         | inr e ↦
             changed key ∙ ap (λ b. if b then dropped (mid key) a else mid key) e
-            ∙ front.front key ∙ ap (λ b. if b then added (old key) a else old key) (front_among key front.count keys e) ∙ index.listed key
+            ∙ front.front key ∙ ap (λ b. if b then with_age (old key) a else old key) (front_among key front.count keys e) ∙ index.listed key
       ];
 }
 

@@ -14,9 +14,9 @@ use Rattle.fugue_ids.specs.declared.op.Op.{Op}
 use Rattle.origin_model.specs.operations.History.{is_own}
 use Rattle.origin_model.specs.operations.Verdict.{names}
 use Rattle.origin_model.specs.order.Printed.{deletes}
-use Rattle.origin_model.specs.declared.operations.role.Role.{Role}
+use Rattle.origin_model.specs.declared.operations.Role.{Role}
 use Rattle.causal_inbox.specs.Key.{as_key, has_key, has_kind, is_among, key_eq, keys_of, kind_eq, main_key, name_key, named, own, target}
-use Rattle.causal_inbox.specs.Index.{added}
+use Rattle.causal_inbox.specs.Index.{with_age}
 use Rattle.causal_inbox.specs.Lists.{Changed, FrontAdded}
 use Rattle.fugue_ids.specs.Keyed.{IsReplaced}
 use Rattle.causal_inbox.specs.declared.key.Key.{Key}
@@ -80,7 +80,7 @@ changed_more change twice keys i x old mid new e before step key =
     ]
 
 -- want of memory at one key leaves the age under those before it
-pub front_added : (keys : List Key) (i a : ℕ) (x : Key) (old mid new : Key → List ℕ) → Changed (is_among (take i keys)) (λ l. added l a) old mid
+pub front_added : (keys : List Key) (i a : ℕ) (x : Key) (old mid new : Key → List ℕ) → Changed (is_among (take i keys)) (λ l. with_age l a) old mid
     → IsReplaced mid new x (mid x) → FrontAdded keys a old new
 front_added keys i a x old mid new before step = record { count = i; front = λ (key : Key). same key ∙ before key }
   where

@@ -18,8 +18,8 @@ abbrev pub is_last : List ℕ → ℕ → Bool
 is_last ages a = option_eq nat_eq (slice_get ages (length ages - 1)) (Some a)
 
 -- the list with the age at its end, but not there twice
-abbrev pub added : List ℕ → ℕ → List ℕ
-added ages a = if is_last ages a then ages else ages ++ a ∷ []
+abbrev pub with_age : List ℕ → ℕ → List ℕ
+with_age ages a = if is_last ages a then ages else ages ++ a ∷ []
 
 -- the list without the age
 abbrev pub dropped : List ℕ → ℕ → List ℕ

@@ -9,7 +9,7 @@ use Rattle.fugue_ids.specs.Ops.{key_of}
 use Rattle.origin_model.specs.operations.History.{is_own}
 use Rattle.origin_model.specs.operations.Verdict.{names}
 use Rattle.origin_model.specs.order.Printed.{deletes}
-use Rattle.origin_model.specs.declared.operations.role.Role.{Role}
+use Rattle.origin_model.specs.declared.operations.Role.{Role}
 use Rattle.causal_inbox.specs.Naming.{is_naming}
 use Rattle.causal_inbox.specs.declared.key.Key.{Key}
 use Rattle.causal_inbox.specs.declared.key.Kind.{Kind}

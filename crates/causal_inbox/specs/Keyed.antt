@@ -4,13 +4,13 @@ use Rattle.std.specs.BTreeMap.{BTreeMap, get}
 use Rattle.std.specs.declared.cmp.Ordering.{Ordering}
 
 -- the items of a list that may be there
-abbrev pub items_of : {V : Type 0} → Option (List V) → List V
-items_of None = []
-items_of (Some list) = list
+abbrev pub waiting_items_of : {V : Type 0} → Option (List V) → List V
+waiting_items_of None = []
+waiting_items_of (Some list) = list
 
 -- the list under a key: none where the map has no entry
 abbrev pub list_in : {K V : Type 0} → (K → K → Ordering) → BTreeMap K (List V) → K → List V
-list_in cmp m key = items_of (get cmp m key)
+list_in cmp m key = waiting_items_of (get cmp m key)
 
 -- no list that the map keeps is empty
 abbrev pub HasNoEmpty : {K V : Type 0} → (K → K → Ordering) → BTreeMap K (List V) → Type 0

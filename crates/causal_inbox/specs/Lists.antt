@@ -2,7 +2,7 @@
 use Rattle.std.specs.Prelude.{◌≡◌, ℕ, Bool, List, AllPairs, ◌<◌, if◌then◌else◌, take}
 use Rattle.std.specs.BTreeMap.{BTreeMap}
 use Rattle.std.specs.declared.cmp.Ordering.{Ordering}
-use Rattle.causal_inbox.specs.Index.{added}
+use Rattle.causal_inbox.specs.Index.{with_age}
 use Rattle.causal_inbox.specs.Key.{is_among}
 use Rattle.causal_inbox.specs.Keyed.{list_in}
 use Rattle.causal_inbox.specs.declared.key.Key.{Key}
@@ -23,7 +23,7 @@ Changed test change old new = (key : Key) → new key ≡ (if test key then chan
 -- the age was added under the first of the keys alone
 pub record FrontAdded (keys : List Key) (a : ℕ) (old new : Key → List ℕ) : Type 0 where
   pub count : ℕ
-  pub front : Changed (is_among (take count keys)) (λ ages. added ages a) old new
+  pub front : Changed (is_among (take count keys)) (λ ages. with_age ages a) old new
 
 -- the ages of each list rise
 abbrev pub AllRise : (Key → List ℕ) → Type 0

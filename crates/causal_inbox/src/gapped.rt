@@ -5,7 +5,8 @@ use crate::Queue;
 use std::marker::Model;
 use std::mem::replace;
 
-/// A queue whose items leave one after another: one that leaves beside the last one moves none but those between the two.
+/// A queue whose items leave one after another: one that leaves beside the last one moves none but those between the
+/// two.
 ///
 /// A gap lies where the last one left, and grows with each. The places before `gone` are gone, as in the queue.
 #[derive(Drop)]

@@ -1,20 +1,60 @@
-ghost use Rattle.std.specs.Prelude.{◌≡◌, ◌↔◌, ◌<◌, ◌≤◌, ◌++◌, ◌∷◌, [], true, false, length, position as first_position, remove as without, slice_get, OnOk, OnErr, IfErr};
+ghost use Rattle.std.specs.Prelude.{◌≡◌, ◌↔◌, ◌<◌, ◌≤◌, ◌++◌, ◌∷◌, [], true, false, length, position as first_position};
+ghost use Rattle.std.specs.Prelude.{remove as without, slice_get, OnOk, OnErr, IfErr, List};
 ghost use Rattle.fugue_ids.specs.Ops.{id_of};
 ghost use Rattle.origin_model.specs.operations.History.{has_op};
-ghost use Rattle.origin_model.specs.operations.Verdict.{id_held, verdict};
+ghost use Rattle.origin_model.specs.operations.Verdict.{id_held, verdict, verdict as verdict_on};
 ghost use Rattle.origin_model.specs.taking.Taking.{is_decided as decides};
 ghost use Rattle.origin_model.specs.operations.Counters.{counters, IsGreatest};
-ghost use Rattle.causal_inbox.specs.Faults.{refused};
+ghost use Rattle.causal_inbox.specs.Faults.{refused_op};
+ghost use Rattle.fugue_ids.specs.declared.op.Op.{Op as AnyOp};
 
 mod open_inbox;
 
 use crate::index::Index;
-use crate::{Facts, Found, PushFault, Queue};
+use crate::{Found, Queue};
 use fugue_ids::Op;
 pub use open_inbox::OpenInbox;
-use origin_model::Verdict;
+use origin_model::{PlainReplica, Verdict};
 use std::alloc::Global;
+use std::error::Error;
+use std::fmt;
 use std::marker::Model;
+
+/// What was accepted, as far as it decides over others.
+pub trait Facts {
+    /// The accepted operations, the newest first.
+    ghost history: { Self → List AnyOp };
+
+    fn verdict(&self, op: &Op) -> Verdict
+        ensures { result ≡ verdict_on (history self.now) op.now };
+}
+
+impl Facts for PlainReplica {
+    ghost history = { λ replica. replica };
+
+    fn verdict(&self, op: &Op) -> Verdict {
+        self.verdict(op)
+    }
+}
+
+/// Why an operation was not taken: it is handed back, and nothing was changed.
+#[derive(Debug, Drop)]
+pub enum PushFault {
+    /// As many wait as may.
+    Full(Op),
+    NoMemory(Op),
+}
+
+impl fmt::Display for PushFault {
+    fn fmt<W: fmt::Write>(&self, f: &mut fmt::Formatter<W>) -> fmt::Result {
+        match self {
+            PushFault::Full(_) => write!(f, "as many operations wait as may"),
+            PushFault::NoMemory(_) => write!(f, "out of memory"),
+        }
+    }
+}
+
+impl Error for PushFault {}
 
 /// The waiting operations, in the order in which they came, and how many may wait.
 #[derive(Drop)]
@@ -66,7 +106,7 @@ impl Inbox {
         ensures ok { OnOk result (self.new ≡ record self.old { ops = self.old.ops ++ op ∷ [] }) }
         ensures full { (result ≡ Err (PushFault.Full op)) ↔ (length self.old.ops ≡ self.old.hold) }
         ensures err { OnErr result (self.new ≡ self.old) }
-        ensures handed_back { IfErr result (λ fault. refused fault ≡ op) }
+        ensures handed_back { IfErr result (λ fault. refused_op fault ≡ op) }
         ensures within { length self.new.ops ≤ self.new.hold }
     {
         if self.ops.len() >= self.hold as usize {

@@ -1,6 +1,6 @@
 //! An index of the waiting operations.
-
-ghost use Rattle.std.specs.Prelude.{◌≡◌, ◌<◌, ◌++◌, ◌∷◌, [], List, Some, length, remove as without, slice_get, All, AllPairs, nat_eq, IfOk, OnOk, OnErr};
+ghost use Rattle.std.specs.Prelude.{◌≡◌, ◌<◌, ◌++◌, ◌∷◌, [], List, Some, length, remove as without, slice_get, All};
+ghost use Rattle.std.specs.Prelude.{AllPairs, nat_eq, IfOk, OnOk, OnErr, ◌^◌, IfSome, option_map};
 ghost use Rattle.fugue_ids.specs.declared.op.Op.{Op as AnyOp};
 ghost use Rattle.origin_model.specs.operations.History.{has_op};
 ghost use Rattle.origin_model.specs.operations.Verdict.{id_held};
@@ -9,17 +9,27 @@ ghost use Rattle.causal_inbox.specs.Keyed.{HasNoEmpty};
 ghost use Rattle.std.specs.List.{position_or_len};
 ghost use Rattle.causal_inbox.specs.Index.{IsAgeIndex, IsAgeIndexOfSome, is_equal_at, positions_with};
 ghost use Rattle.causal_inbox.specs.Lists.{ages_under, key_cmp};
+ghost use Rattle.causal_inbox.specs.Greatest.{IsGreatestUnder, IsLastKey};
 
 use crate::Queue;
-use crate::greatest::greatest_under;
 use crate::key::{Key, main_key, own_key};
 use crate::keyed_lists::list_under;
 use crate::lists::{Lists, add_age, drop_age, nth_age};
 use fugue_ids::{ElementId, NoMemory, Op};
 use std::alloc::Global;
 
-/// Where the operations of a list stand that have a key. Each of them has an age, greater than those before it, so that one that is
-/// removed changes no other.
+/// What waits already of an operation.
+#[derive(Clone, Copy, Debug, PartialEq, Eq)]
+pub enum Found {
+    /// An equal operation waits.
+    Same,
+    /// Another operation with its identifier waits: never of a `Delete`, which has none.
+    Clash,
+    Absent,
+}
+
+/// Where the operations of a list stand that have a key. Each of them has an age, greater than those before it, so that
+/// one that is removed changes no other.
 #[derive(Drop)]
 pub(crate) struct Index {
     pub ages: Queue<u64>,
@@ -42,7 +52,8 @@ impl Index {
     /// The position of the operation with the key that stands behind k others with it.
     pub fn nth(&self, key: &Key, k: usize) -> Option<usize>
         requires { AllPairs ◌<◌ self.now.ages }
-        ensures { (ops : List AnyOp) → IsAgeIndex ops self.now.ages (ages_under self.now.lists) → result ≡ slice_get (positions_with key.now ops) k }
+        ensures { (ops : List AnyOp) → IsAgeIndex ops self.now.ages (ages_under self.now.lists)
+            → result ≡ slice_get (positions_with key.now ops) k }
     {
         match nth_age(&self.lists, key, k) {
             Some(age) => Some(position(self.ages.as_slice(), age)),
@@ -79,7 +90,8 @@ impl Index {
     #[tactic(auto, using(crate::proofs::GreatestLemmas::greatest_mentioned))]
     pub fn greatest(&self, replica: u32) -> Option<u32>
         requires { HasNoEmpty key_cmp self.now.lists }
-        ensures { (ops : List AnyOp) → IsAgeIndex ops self.now.ages (ages_under self.now.lists) → IsGreatest (counters replica ops) result }
+        ensures { (ops : List AnyOp) → IsAgeIndex ops self.now.ages (ages_under self.now.lists)
+            → IsGreatest (counters replica ops) result }
     {
         greatest_under(&self.lists, replica)
     }
@@ -108,7 +120,8 @@ impl Index {
     pub fn remove(&mut self, op: &Op, position: usize)
         requires within { position < length self.old.ages }
         requires some { IsAgeIndexOfSome self.old.ages (ages_under self.old.lists) }
-        ensures index { (ops : List AnyOp) → IsAgeIndex ops self.old.ages (ages_under self.old.lists) → slice_get ops position ≡ Some op.now
+        ensures index { (ops : List AnyOp) → IsAgeIndex ops self.old.ages (ages_under self.old.lists)
+            → slice_get ops position ≡ Some op.now
             → IsAgeIndex (without ops position) self.new.ages (ages_under self.new.lists) }
         ensures no_empty { HasNoEmpty key_cmp self.old.lists → HasNoEmpty key_cmp self.new.lists }
     {
@@ -150,4 +163,45 @@ fn next_age(ages: &[u64]) -> Result<u64, NoMemory>
         return Err(NoMemory);
     }
     Ok(*last + 1)
+}
+
+/// The greatest counter of the replica among the identifiers of the keys that have a list.
+#[tactic(auto, using(crate::proofs::KeyOrderLemmas::greatest_last, crate::proofs::KeyOrderLemmas::greatest_none, crate::proofs::KeyOrderLemmas::greatest_other))]
+pub(crate) fn greatest_under(lists: &Lists, replica: u32) -> Option<u32>
+    ensures { IsGreatestUnder lists.now replica result }
+{
+    match last_key(lists, replica) {
+        Some(key) if key.id.replica == replica => Some(key.id.counter),
+        _ => None,
+    }
+}
+
+/// The last key that has a list, among those of this replica and of lesser ones.
+fn last_key(lists: &Lists, replica: u32) -> Option<Key>
+    ensures { IsLastKey lists.now replica result }
+{
+    match replica.checked_add(1) {
+        Some(replica) => {
+            let next = own_key(ElementId {
+                replica,
+                counter: 0,
+            });
+            key_of(lists.range(..next).next_back())
+        }
+        None => key_of(lists.last_key_value()),
+    }
+}
+
+/// The key of an entry that may be there.
+fn key_of(entry: Option<(&Key, &Queue<u64>)>) -> Option<Key>
+    ensures key { result ≡ option_map (λ e. e.0.now) entry.entry }
+    ensures fits { IfSome result (λ key. key.id.replica < 2 ^ 32) }
+{
+    match entry {
+        Some((key, _)) => {
+            let _replica = key.id.replica;
+            Some(*key)
+        }
+        None => None,
+    }
 }

@@ -32,8 +32,10 @@ pub(crate) fn push_under<K: Ord + Copy + Drop, V: Copy + Drop>(
     key: K,
     value: V,
 ) -> Result<(), NoMemory>
-    ensures ok { OnOk result (IsReplacedBy K.cmp (list_in K.cmp lists.old) (list_in K.cmp lists.new) key (list_in K.cmp lists.old key ++ value ∷ [])) }
-    ensures err { OnErr result (IsReplacedBy K.cmp (list_in K.cmp lists.old) (list_in K.cmp lists.new) key (list_in K.cmp lists.old key)) }
+    ensures ok { OnOk result (IsReplacedBy K.cmp (list_in K.cmp lists.old) (list_in K.cmp lists.new) key
+        (list_in K.cmp lists.old key ++ value ∷ [])) }
+    ensures err { OnErr result
+        (IsReplacedBy K.cmp (list_in K.cmp lists.old) (list_in K.cmp lists.new) key (list_in K.cmp lists.old key)) }
     ensures no_empty { HasNoEmpty K.cmp lists.old → HasNoEmpty K.cmp lists.new }
 {
     match lists.get_mut(&key) {
@@ -54,9 +56,11 @@ fn take_under<K: Ord + Copy + Drop, V: Copy + Drop>(
     at: usize,
 ) -> bool
     requires { at < length (list_in K.cmp lists.old key.now) }
-    ensures taken { IsReplacedBy K.cmp (list_in K.cmp lists.old) (list_in K.cmp lists.new) key.now (remove (list_in K.cmp lists.old key.now) at) }
+    ensures taken { IsReplacedBy K.cmp (list_in K.cmp lists.old) (list_in K.cmp lists.new) key.now
+        (remove (list_in K.cmp lists.old key.now) at) }
     ensures empty { result ≡ true → list_in K.cmp lists.new key.now ≡ [] }
-    ensures others { HasNoEmpty K.cmp lists.old → (k : K) → is_eq (K.cmp key.now k) ≡ false → IfSome (get K.cmp lists.new k) (λ list. 0 < length list) }
+    ensures others { HasNoEmpty K.cmp lists.old → (k : K) → is_eq (K.cmp key.now k) ≡ false
+        → IfSome (get K.cmp lists.new k) (λ list. 0 < length list) }
     ensures left { HasNoEmpty K.cmp lists.old → result ≡ false → HasNoEmpty K.cmp lists.new }
 {
     match lists.get_mut(key) {
@@ -76,7 +80,8 @@ pub(crate) fn remove_under<K: Ord + Copy + Drop, V: Copy + Drop>(
     at: usize,
 )
     requires { at < length (list_in K.cmp lists.old key) }
-    ensures taken { IsReplacedBy K.cmp (list_in K.cmp lists.old) (list_in K.cmp lists.new) key (remove (list_in K.cmp lists.old key) at) }
+    ensures taken { IsReplacedBy K.cmp (list_in K.cmp lists.old) (list_in K.cmp lists.new) key
+        (remove (list_in K.cmp lists.old key) at) }
     ensures no_empty { HasNoEmpty K.cmp lists.old → HasNoEmpty K.cmp lists.new }
 {
     if take_under(lists, &key, at) {

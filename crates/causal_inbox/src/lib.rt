@@ -1,21 +1,15 @@
 //! The operations that wait until those that they rest on are accepted.
 #![tactic(auto)]
 
-mod facts;
-mod found;
 mod gapped;
-mod greatest;
 mod inbox;
 mod index;
 mod key;
 mod keyed_lists;
 mod lists;
-mod push_fault;
 mod queue;
 
-pub use facts::Facts;
-pub use found::Found;
 pub use gapped::Gapped;
-pub use inbox::{Inbox, OpenInbox, is_decided};
-pub use push_fault::PushFault;
+pub use inbox::{Facts, Inbox, OpenInbox, PushFault, is_decided};
+pub use index::Found;
 pub use queue::Queue;

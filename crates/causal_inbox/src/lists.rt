@@ -1,7 +1,7 @@
 //! Lists of ages under keys.
 
 ghost use Rattle.std.specs.Prelude.{◌≡◌, slice_get, AllPairs, ◌<◌, OnOk, OnErr};
-ghost use Rattle.causal_inbox.specs.Index.{added, dropped};
+ghost use Rattle.causal_inbox.specs.Index.{with_age, dropped};
 ghost use Rattle.causal_inbox.specs.Key.{is_among, keys_of};
 ghost use Rattle.causal_inbox.specs.Lists.{AllRise, Changed, FrontAdded, ages_under, key_cmp};
 ghost use Rattle.causal_inbox.specs.Keyed.{HasNoEmpty};
@@ -25,8 +25,10 @@ pub(crate) fn nth_age(lists: &Lists, key: &Key, k: usize) -> Option<u64>
 
 /// The age at the end of the list under the key, once.
 fn add_under(lists: &mut Lists, alloc: Global, key: Key, age: u64) -> Result<(), NoMemory>
-    ensures ok { OnOk result (IsReplaced (ages_under lists.old) (ages_under lists.new) key (added (ages_under lists.old key) age)) }
-    ensures err { OnErr result (IsReplaced (ages_under lists.old) (ages_under lists.new) key (ages_under lists.old key)) }
+    ensures ok { OnOk result (IsReplaced (ages_under lists.old) (ages_under lists.new) key
+        (with_age (ages_under lists.old key) age)) }
+    ensures err { OnErr result
+        (IsReplaced (ages_under lists.old) (ages_under lists.new) key (ages_under lists.old key)) }
     ensures no_empty { HasNoEmpty key_cmp lists.old → HasNoEmpty key_cmp lists.new }
 {
     let ages = list_under(lists, &key);
@@ -39,7 +41,8 @@ fn add_under(lists: &mut Lists, alloc: Global, key: Key, age: u64) -> Result<(),
 /// The age under one key less.
 fn drop_under(lists: &mut Lists, key: Key, age: u64)
     requires { AllPairs ◌<◌ (ages_under lists.old key) }
-    ensures dropped { IsReplaced (ages_under lists.old) (ages_under lists.new) key (dropped (ages_under lists.old key) age) }
+    ensures dropped { IsReplaced (ages_under lists.old) (ages_under lists.new) key
+        (dropped (ages_under lists.old key) age) }
     ensures no_empty { HasNoEmpty key_cmp lists.old → HasNoEmpty key_cmp lists.new }
 {
     if let Ok(at) = list_under(lists, &key).binary_search(&age) {
@@ -49,7 +52,8 @@ fn drop_under(lists: &mut Lists, key: Key, age: u64)
 
 /// The age under each key of the operation, once. After want of memory it stands under some of them.
 pub(crate) fn add_age(lists: &mut Lists, alloc: Global, op: &Op, age: u64) -> Result<(), NoMemory>
-    ensures ok { OnOk result (Changed (is_among (keys_of op.now)) (λ ages. added ages age) (ages_under lists.old) (ages_under lists.new)) }
+    ensures ok { OnOk result (Changed (is_among (keys_of op.now)) (λ ages. with_age ages age) (ages_under lists.old)
+        (ages_under lists.new)) }
     ensures err { OnErr result (FrontAdded (keys_of op.now) age (ages_under lists.old) (ages_under lists.new)) }
     ensures no_empty { HasNoEmpty key_cmp lists.old → HasNoEmpty key_cmp lists.new }
 {
@@ -64,7 +68,8 @@ pub(crate) fn add_age(lists: &mut Lists, alloc: Global, op: &Op, age: u64) -> Re
 /// The age under no key of the operation.
 pub(crate) fn drop_age(lists: &mut Lists, op: &Op, age: u64)
     requires { AllRise (ages_under lists.old) }
-    ensures dropped { Changed (is_among (keys_of op.now)) (λ ages. dropped ages age) (ages_under lists.old) (ages_under lists.new) }
+    ensures dropped { Changed (is_among (keys_of op.now)) (λ ages. dropped ages age) (ages_under lists.old)
+        (ages_under lists.new) }
     ensures no_empty { HasNoEmpty key_cmp lists.old → HasNoEmpty key_cmp lists.new }
 {
     drop_under(lists, main_key(op), age);

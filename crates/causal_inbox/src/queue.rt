@@ -1,4 +1,5 @@
-ghost use Rattle.std.specs.Prelude.{◌≡◌, ◌<◌, ◌≤◌, ◌+◌, ◌-◌, ◌++◌, ◌∷◌, [], Some, drop, take, length, remove as without, set as with_item, slice_get, OnOk, OnErr, IfErr};
+ghost use Rattle.std.specs.Prelude.{◌≡◌, ◌<◌, ◌≤◌, ◌+◌, ◌-◌, ◌++◌, ◌∷◌, [], Some, drop, take, length};
+ghost use Rattle.std.specs.Prelude.{remove as without, set as with_item, slice_get, OnOk, OnErr, IfErr};
 
 use crate::gapped::Gapped;
 use std::alloc::{AllocFailed, Global};
@@ -7,8 +8,8 @@ use std::mem::replace;
 
 /// A list whose items leave in constant time on average at both ends, and which is one slice.
 ///
-/// One that leaves moves the shorter side. Before the first item lie places that are gone; where they are more than the items, they are
-/// dropped.
+/// One that leaves moves the shorter side. Before the first item lie places that are gone; where they are more than the
+/// items, they are dropped.
 #[derive(Drop)]
 pub struct Queue<T> {
     items: Vec<T>,

@@ -154,8 +154,8 @@ type Fails = [&'static [u32]; 3];
 
 const NONE: Fails = [&[], &[], &[]];
 
-/// What came out of a run: the status, whether the output and the notes are those of a whole run, and whether they are what
-/// a fault outside leaves of these.
+/// What came out of a run: the status, whether the output and the notes are those of a whole run, and whether they are
+/// what a fault outside leaves of these.
 type Seen = (Status, bool, bool);
 
 /// Runs on a stream that comes in pieces. The output takes three bytes at once, and the notes 64.
@@ -187,8 +187,8 @@ fn is_cut_off(notes: &[u8], line: &[u8]) -> bool {
     }
 }
 
-/// Runs on sure objects: the output takes so many bytes, and the notes 256. The answer is the status, and whether the text
-/// was written.
+/// Runs on sure objects: the output takes so many bytes, and the notes 256. The answer is the status, and whether the
+/// text was written.
 fn see_surely(
     rt: &(impl Abort + AllocGlobal),
     line: &str,

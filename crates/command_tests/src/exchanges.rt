@@ -46,7 +46,8 @@ fn served(
     (result, logged)
 }
 
-/// What comes at a dock, how many bytes a call it gives and takes, how many sessions and steps are served, and what is wanted.
+/// What comes at a dock, how many bytes a call it gives and takes, how many sessions and steps are served, and what is
+/// wanted.
 struct Serving {
     coming: &'static [Coming<'static>],
     piece: usize,
@@ -124,7 +125,8 @@ const BRINGS_BOTH: &[u8] = &[
     0, 9, 0, 0, 0, 0, 0, 0, 0, 1, 84, 0x44,
 ];
 
-/// A session that brings both frames is gone behind so many bytes, of which so many frames came whole, and is answered so.
+/// A session that brings both frames is gone behind so many bytes, of which so many frames came whole, and is answered
+/// so.
 fn serve_cut(rt: &(impl Abort + AllocGlobal), count: usize, logged: u32, sent: &[u8]) {
     let said = &BRINGS_BOTH[..count.min(BRINGS_BOTH.len())];
     let steps = steps(rt, &[Opens(0), Says(0, said), Goes(0)]);

@@ -1,6 +1,6 @@
 ghost use Rattle.std.specs.Prelude.{◌<◌, ◌≤◌, IfSome, IfOk};
 ghost use Rattle.fugue_ids.specs.declared.limits.TheConstants.{MOST_OPERATIONS as most_operations};
-ghost use Rattle.replica_file.specs.Ends.{EndsAt, Reaches};
+ghost use Rattle.replica_file.specs.Ends.{EndsAt, IsWithinReach};
 
 use crate::assertions::{equal, equal_at, holds_at};
 use crate::frames::{NEW, PRINTED, SAVED};
@@ -65,7 +65,7 @@ fn counted<H: Disk>(alloc: Global, disk: &mut H, most: u32) -> Result<(usize, En
     requires some { 0 < most }
     requires within { most ≤ most_operations }
     ensures ends { IfOk result (λ found. IfSome (H.seen disk.new).past (λ h. EndsAt h.last found.1)) }
-    ensures reaches { IfOk result (λ found. Reaches found.1) }
+    ensures reaches { IfOk result (λ found. IsWithinReach found.1) }
 {
     match load(alloc, disk, most) {
         Ok((replica, end)) => {
@@ -128,8 +128,8 @@ fn loads(rt: &(impl Abort + AllocGlobal), bytes: Vec<u8>, most: u32) -> Loaded {
     loaded
 }
 
-/// A length up to which `SAVED` is loaded, an offset with another byte, that byte, how many operations may be held, and what
-/// loading answers.
+/// A length up to which `SAVED` is loaded, an offset with another byte, that byte, how many operations may be held, and
+/// what loading answers.
 const LOADED: &[(usize, usize, u8, u32, Loaded)] = &[
     (13, 0, b'F', 9, Err(LoadFault::NotReplica)),
     (132, 0, 0, 9, Err(LoadFault::NotReplica)),

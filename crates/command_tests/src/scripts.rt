@@ -187,7 +187,8 @@ fn scripts_change_what_is_shown(rt: HostRuntime) {
     run_on_new(&rt, 3, &LIMIT);
 }
 
-/// A front, the length to which it is filled, and with which byte, the reads that fail, and the row. Nothing is shown then.
+/// A front, the length to which it is filled, and with which byte, the reads that fail, and the row. Nothing is shown
+/// then.
 const WHOLE: [(&[u8], usize, u8, &[u32], Row); 5] = [
     (b"", 1_048_576, b'\n', &[], ("limit", Ok(0), "")),
     (

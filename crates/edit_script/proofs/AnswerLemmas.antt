@@ -4,11 +4,11 @@ use Rattle.std.specs.Prelude.{IfSome, IfOk, IfErr, Result, Ok, Err}
 use Rattle.std.specs.Io.KnownBytes.{prepend_known}
 use Rattle.outer_ports.specs.Sources.{SourceView}
 use Rattle.origin_model.specs.edits.State.{State}
-use Rattle.edit_script.specs.declared.fault.ScriptFault.{ScriptFault}
-use Rattle.edit_script.specs.declared.fault.ScriptFault.TheVariants as fault
+use Rattle.edit_script.specs.declared.run.ScriptFault.{ScriptFault}
+use Rattle.edit_script.specs.declared.run.ScriptFault.TheVariants as fault
 use Rattle.edit_script.specs.declared.script.TheConstants.{LONGEST_SCRIPT}
-use Rattle.edit_script.specs.Answers.{AnswerIs, AnswersBy, EndsIn, EndsWith, IsByBytes}
-use Rattle.edit_script.specs.Scripts.{Runs, Stops, StopsAt, RunsWhole}
+use Rattle.edit_script.specs.Answers.{ScriptAnswerIs, ScriptAnswersBy, EndsIn, EndsWith, IsScriptByBytes}
+use Rattle.edit_script.specs.Scripts.{ScriptRuns, ScriptStops, StopsAt, RunsWhole}
 use Rattle.edit_script.specs.Sources.{IsLonger, IsScript, IsUnread}
 use Rattle.edit_script.proofs.OnceLemmas.{scripts_run_once}
 
@@ -18,7 +18,7 @@ data Kind (old : State) (bytes : List ℕ) (answer : Result ℕ ScriptFault) : T
   Long : answer ≡ Err fault.TooLong → LONGEST_SCRIPT < length bytes → Kind old bytes answer
   Faulty : (f : ScriptFault) → answer ≡ Err f → f ≢ fault.NoMemory → EndsIn old bytes f → Kind old bytes answer
 
-kind : (old : State) (bytes : List ℕ) (answer : Result ℕ ScriptFault) → IsByBytes answer → AnswerIs old bytes answer → Kind old bytes answer
+kind : (old : State) (bytes : List ℕ) (answer : Result ℕ ScriptFault) → IsScriptByBytes answer → ScriptAnswerIs old bytes answer → Kind old bytes answer
 kind old bytes (Ok n) by is = Whole n refl is
 kind old bytes (Err (fault.BadLine n)) by is = Faulty (fault.BadLine n) refl (λ e. cc e) is
 kind old bytes (Err (fault.NoSection n)) by is = Faulty (fault.NoSection n) refl (λ e. cc e) is
@@ -43,9 +43,9 @@ kinds_once old bytes a b (Faulty f is not x) (Long so y) = absurd (let short = x
 kinds_once old bytes a b (Faulty f is not x) (Faulty g so nor y) =
     let same = (scripts_run_once.stops old x.new y.new bytes f g not nor x.stops y.stops).1 in is ∙ ap (λ (h : ScriptFault). Err h) same ∙ sym so
 
-exact : (old : State) (bytes : List ℕ) (result : Result ℕ ScriptFault) → AnswerIs old bytes result → AnswersBy result old bytes
+exact : (old : State) (bytes : List ℕ) (result : Result ℕ ScriptFault) → ScriptAnswerIs old bytes result → ScriptAnswersBy result old bytes
 exact old bytes result cause by answer other = (
-  λ same. subst (AnswerIs old bytes) same cause,
+  λ same. subst (ScriptAnswerIs old bytes) same cause,
   λ is. kinds_once old bytes result answer (kind old bytes result by cause) (kind old bytes answer other is),
 )
 
@@ -71,7 +71,7 @@ module _ (old new : State) (bytes : List ℕ) (before after : SourceView) (told 
   ends_in : (f : ScriptFault) → ((script : List ℕ) × IsScript before after script × StopsAt old new script f) → EndsIn old bytes f
   ends_in f s = record { short = short s.0 s.1; new = new; stops = subst (λ (l : List ℕ). StopsAt old new l f) (script_is s.0 s.1) s.2 }
 
-  answer_is : (result : Result ℕ ScriptFault) → IfOk result (Runs old new before after) → IfErr result (Stops old new before after) → AnswerIs old bytes result
+  answer_is : (result : Result ℕ ScriptFault) → IfOk result (ScriptRuns old new before after) → IfErr result (ScriptStops old new before after) → ScriptAnswerIs old bytes result
   answer_is (Ok n) ok err =
       record { short = short ok.0 ok.1; new = new; runs = subst (λ (l : List ℕ). RunsWhole old new l n) (script_is ok.0 ok.1) ok.2 }
   answer_is (Err (fault.BadLine n)) ok err = ends_in (fault.BadLine n) err
@@ -84,16 +84,16 @@ module _ (old new : State) (bytes : List ℕ) (before after : SourceView) (told 
   answer_is (Err fault.NoMemory) ok err = tt
 
 -- where the source tells its bytes, these decide the answer
-pub answers_exactly : (old new : State) (before after : SourceView) (result : Result ℕ ScriptFault) → IfOk result (Runs old new before after) → IfErr result (Stops old new before after)
-    → IfSome before.left (AnswersBy result old)
+pub answers_exactly : (old new : State) (before after : SourceView) (result : Result ℕ ScriptFault) → IfOk result (ScriptRuns old new before after) → IfErr result (ScriptStops old new before after)
+    → IfSome before.left (ScriptAnswersBy result old)
 answers_exactly old new before after result ok err = by before.left refl
   where
-    by : (left : Option (List ℕ)) → before.left ≡ left → IfSome left (AnswersBy result old)
+    by : (left : Option (List ℕ)) → before.left ≡ left → IfSome left (ScriptAnswersBy result old)
     by None told = tt
     by (Some bytes) told = exact old bytes result (answer_is old new bytes before after told result ok err)
 
 -- a script that was not read stops so
-pub unread_stops : (s : State) (before after : SourceView) (f : ScriptFault) → IsUnread before after f → Stops s s before after f
+pub unread_stops : (s : State) (before after : SourceView) (f : ScriptFault) → IsUnread before after f → ScriptStops s s before after f
 unread_stops s before after (fault.BadLine n) unread = absurd unread
 unread_stops s before after (fault.NoSection n) unread = absurd unread
 unread_stops s before after (fault.OutOfRange n) unread = absurd unread
@@ -105,7 +105,7 @@ unread_stops s before after fault.NoMemory unread = inl (refl, unread)
 
 -- and its bytes, where they are told, are the cause
 pub unread_exactly : (s : State) (before after : SourceView) (f g : ScriptFault) (result : Result ℕ ScriptFault) → result ≡ Err g → g ≡ f → IsUnread before after f
-    → IfSome before.left (AnswersBy result s)
+    → IfSome before.left (ScriptAnswersBy result s)
 unread_exactly s before after f g result is same unread =
-    subst (λ (r : Result ℕ ScriptFault). IfSome before.left (AnswersBy r s)) (sym (is ∙ ap (λ (h : ScriptFault). Err h) same))
+    subst (λ (r : Result ℕ ScriptFault). IfSome before.left (ScriptAnswersBy r s)) (sym (is ∙ ap (λ (h : ScriptFault). Err h) same))
     (answers_exactly s s before after (Err f) tt (unread_stops s before after f unread))

@@ -13,13 +13,13 @@ use Rattle.origin_model.specs.edits.Refusal.{held_count, in_range, in_section, m
 use Rattle.origin_model.specs.edits.Effect.{Gains, with_ops}
 use Rattle.origin_model.specs.declared.edit_fault.EditFault.{EditFault}
 use Rattle.origin_model.specs.declared.edit_fault.EditFault.TheVariants as edit
-use Rattle.edit_script.specs.declared.fault.ScriptFault.{ScriptFault}
-use Rattle.edit_script.specs.declared.fault.ScriptFault.TheVariants as fault
-use Rattle.edit_script.specs.declared.line.LineFault.{LineFault}
-use Rattle.edit_script.specs.declared.line.LineFault.TheVariants as why
+use Rattle.edit_script.specs.declared.run.ScriptFault.{ScriptFault}
+use Rattle.edit_script.specs.declared.run.ScriptFault.TheVariants as fault
+use Rattle.edit_script.specs.declared.run.LineFault.{LineFault}
+use Rattle.edit_script.specs.declared.run.LineFault.TheVariants as why
 use Rattle.edit_script.specs.Grammar.{Asks, IsBad, IsNote, lines}
 use Rattle.edit_script.specs.Lines.{fault_at}
-use Rattle.edit_script.specs.Scripts.{Does, IsRefused, Leads, RunsUpTo, RunsWhole, StopsAt, by_scalars, line_refusal}
+use Rattle.edit_script.specs.Scripts.{Does, IsRefused, LinesLead, RunsUpTo, RunsWhole, StopsAt, by_scalars, line_refusal}
 use Rattle.edit_script.proofs.DecideLemmas.{line_is_one}
 use Rattle.edit_script.proofs.RunLemmas.{leads_grow}
 
@@ -90,7 +90,7 @@ line_course s line = by (line_is_one line)
 record DoneAll (s : State) (ls : List (List ℕ)) : Type 0 where
   new : State
   ops : List Op
-  leads : Leads s new ls ops
+  leads : LinesLead s new ls ops
 
 -- the lines in front of a faulty one are run
 record Halted (s : State) (ls : List (List ℕ)) : Type 0 where
@@ -100,7 +100,7 @@ record Halted (s : State) (ls : List (List ℕ)) : Type 0 where
   back : List (List ℕ)
   split : ls ≡ front ++ line ∷ back
   ops : List Op
-  leads : Leads s new front ops
+  leads : LinesLead s new front ops
   cause : LineFault
   faulty : IsFaulty new line cause
 

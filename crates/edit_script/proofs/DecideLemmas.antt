@@ -10,7 +10,7 @@ use lib.Utf8.{scalar}
 use Rattle.fugue_ids.specs.Titles.{IsTitleText, has_line_end}
 use Rattle.fugue_ids.specs.declared.limits.TheConstants.{LONGEST_TITLE}
 use Rattle.origin_model.specs.edits.Edits.{Command, Put, Cut, Add, DropSection}
-use Rattle.edit_script.specs.Grammar.{Asks, IsBad, IsNote, IsWritable, escaped, line_of}
+use Rattle.edit_script.specs.Grammar.{Asks, IsBad, IsNote, IsWritable, escaped, command_line}
 use Rattle.edit_script.proofs.EscapeLemmas.{escaped_some}
 
 -- it holds, or it does not
@@ -131,9 +131,9 @@ writable_decided (Cut k at n) = by (less_decided (k + 1) (2 ^ 32)) (less_decided
 writable_decided (DropSection k) = less_decided (k + 1) (2 ^ 32)
 
 asks_decided : (line : List ℕ) (command : Command) → Decided (Asks line command)
-asks_decided line command = by (writable_decided command) (same_decided line (line_of command))
+asks_decided line command = by (writable_decided command) (same_decided line (command_line command))
   where
-    by : Decided (IsWritable command) → Decided (line ≡ line_of command) → Decided (Asks line command)
+    by : Decided (IsWritable command) → Decided (line ≡ command_line command) → Decided (Asks line command)
     by (inl can) (inl is) = inl (record { writable = can; line_is = is })
     by (inl can) (inr never) = inr (λ asks. never asks.line_is)
     by (inr never) is = inr (λ asks. never asks.writable)

@@ -12,10 +12,10 @@ use Rattle.fugue_ids.specs.Titles.{IsTitleText, has_line_end}
 use Rattle.fugue_ids.specs.declared.limits.TheConstants.{LONGEST_TITLE}
 use Rattle.origin_model.specs.edits.Edits.{Command, Put, Cut, Add, DropSection}
 use Rattle.edit_script.proofs.EscapeLemmas.{other_head, Written, line_end, backslash, plain, written}
-use Rattle.edit_script.specs.Grammar.{Asks, IsWritable, escaped, line_of}
+use Rattle.edit_script.specs.Grammar.{Asks, IsWritable, escaped, command_line}
 use Rattle.edit_script.specs.Forms.{form_word}
-use Rattle.edit_script.specs.declared.form.Form.{Form}
-use Rattle.edit_script.specs.declared.form.Form.TheVariants as form
+use Rattle.edit_script.specs.declared.edit.Form.{Form}
+use Rattle.edit_script.specs.declared.edit.Form.TheVariants as form
 
 pub form_of : Command → Form
 form_of (Add at title) = form.Add
@@ -159,7 +159,7 @@ utf8_text (ch ∷ new) all =
     let parts = and_parts (scalar ch) (all_scalars new) all in
     IsUtf8-append (escaped ch) (flat_map escaped new) (utf8_written ch (written ch) parts.0) (utf8_text new parts.1)
 
-utf8_line : (command : Command) → IsWritable command → IsUtf8 (line_of command)
+utf8_line : (command : Command) → IsWritable command → IsUtf8 (command_line command)
 utf8_line (Add at title) can =
     utf8_behind (codes "add") _ (ascii_if (codes "add") refl) (utf8_behind (decimal (at + 1)) _ (IsAscii-decimal (at + 1) (omega (arith, can.0))) (title, (can.1, refl)))
 utf8_line (Put k at new) can =

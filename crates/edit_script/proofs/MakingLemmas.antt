@@ -9,11 +9,11 @@ use Rattle.fugue_ids.specs.Identifiers.{Identifier}
 use Rattle.origin_model.specs.operations.Verdict.{Lawful}
 use Rattle.origin_model.specs.order.Printed.{text}
 use Rattle.origin_model.specs.edits.Edits.{Command, Put, Cut, Add, DropSection}
-use Rattle.origin_model.specs.declared.operations.place.Place.TheVariants.{Section as within}
+use Rattle.origin_model.specs.declared.operations.Place.TheVariants.{Section as within}
 use Rattle.origin_model.proofs.edits.EditedTextLemmas.{text_length}
 use Rattle.cluster_text.specs.Clusters.{clusters, span}
 use Rattle.origin_model.specs.edits.State.{State}
-use Rattle.origin_model.specs.edits.Refusal.{section_shown, shown_count, in_section, in_range, refused_elements, refused_ops, refusal, made_by, RefusesExactly}
+use Rattle.origin_model.specs.edits.Refusal.{section_shown, shown_count, in_section, in_range, refused_elements, refused_ops, refusal_message, made_by, RefusesExactly}
 use Rattle.origin_model.specs.edits.Effect.{IsMade, LeavesUnmade, StopsPartly}
 use Rattle.origin_model.specs.declared.edit_fault.EditFault.{EditFault}
 use Rattle.origin_model.specs.declared.edit_fault.EditFault.TheVariants.{NoSection, OutOfRange, IdsSpent, TooMany, NoMemory}
@@ -40,7 +40,7 @@ never_section (Some x) cause never e = never x e
 never_more : (s : State) (n : ℕ) → refused_elements s n ≡ Some NoMemory → ⊥
 never_more s n = never_elements _ _ (refused_ops s n) (never_ops _ _)
 
-never_memory : (s : State) (command : Command) → refusal s command ≡ Some NoMemory → ⊥
+never_memory : (s : State) (command : Command) → refusal_message s command ≡ Some NoMemory → ⊥
 never_memory s (Put k at new) = never_section (section_shown s k) _ (λ x. never_range _ (refused_elements s (length new)) (never_more s (length new)))
 never_memory s (Cut k at n) = never_section (section_shown s k) _ (λ x. never_range _ (refused_ops s n) (never_ops _ _))
 never_memory s (Add at title) = never_range _ (refused_elements s 1) (never_more s 1)
@@ -50,10 +50,10 @@ ok_is_no_err : (n : ℕ) (fault : EditFault) → ◌≡◌ {A = Result ℕ EditF
 ok_is_no_err n fault e = cc
 
 -- what was made was not refused
-allowed : (s : State) (command : Command) (n : ℕ) → RefusesExactly s command (Ok n) → refusal s command ≡ None
-allowed s command n exact = of (refusal s command) refl
+allowed : (s : State) (command : Command) (n : ℕ) → RefusesExactly s command (Ok n) → refusal_message s command ≡ None
+allowed s command n exact = of (refusal_message s command) refl
   where
-    of : (cause : Option EditFault) → refusal s command ≡ cause → cause ≡ None
+    of : (cause : Option EditFault) → refusal_message s command ≡ cause → cause ≡ None
     of None e = refl
     of (Some NoSection) e = absurd (ok_is_no_err n NoSection ((exact NoSection (λ same. cc)).1 e))
     of (Some OutOfRange) e = absurd (ok_is_no_err n OutOfRange ((exact OutOfRange (λ same. cc)).1 e))
@@ -62,7 +62,7 @@ allowed s command n exact = of (refusal s command) refl
     of (Some NoMemory) e = absurd (never_memory s command e)
 
 -- an edit by scalars that was made is the edit by clusters
-pub made_in : (old new : State) (command by other : Command) (result : Result ℕ EditFault) → other ≡ command → by ≡ by_scalars old command → line_refusal old command ≡ refusal old by
+pub made_in : (old new : State) (command by other : Command) (result : Result ℕ EditFault) → other ≡ command → by ≡ by_scalars old command → line_refusal old command ≡ refusal_message old by
     → RefusesExactly old by result → IfOk result (IsMade old new by) → IfOk result (Made old new other)
 made_in old new command by other (Err fault) same is refusal_is exact made = tt
 made_in old new command by other (Ok n) same is refusal_is exact made =
@@ -73,7 +73,7 @@ made_in old new command by other (Ok n) same is refusal_is exact made =
     })
 
 -- and one that was not made is not
-pub unmade_in : (old new : State) (command by other : Command) (result : Result ℕ EditFault) → other ≡ command → by ≡ by_scalars old command → line_refusal old command ≡ refusal old by
+pub unmade_in : (old new : State) (command by other : Command) (result : Result ℕ EditFault) → other ≡ command → by ≡ by_scalars old command → line_refusal old command ≡ refusal_message old by
     → RefusesExactly old by result → IfErr result (LeavesUnmade old new by) → IfErr result (Unmade old new other)
 unmade_in old new command by other (Ok n) same is refusal_is exact left = tt
 unmade_in old new command by other (Err NoSection) same is refusal_is exact left =
@@ -97,7 +97,7 @@ put_is s k at new found spans =
     ap (λ (p : ℕ × ℕ). Put k p.0 new) spans.found_is
     ∙ sym (ap (λ (o : Option Identifier). elim o as (λ _. Command) [ None ↦ Put k at new | Some x ↦ in_scalars s x (Put k at new) ]) spans.shown)
 
-pub put_refusal : (s : State) (k at : ℕ) (new : List ℕ) (found : ℕ × ℕ) → IsSpan s k at 0 found → line_refusal s (Put k at new) ≡ refusal s (Put k found.0 new)
+pub put_refusal : (s : State) (k at : ℕ) (new : List ℕ) (found : ℕ × ℕ) → IsSpan s k at 0 found → line_refusal s (Put k at new) ≡ refusal_message s (Put k found.0 new)
 put_refusal s k at new found spans =
     let shown = spans.shown in
     rw shown (in_range_fits at (length (clusters_in s spans.section)) (refused_elements s (length new)) (omega (arith, spans.enough))
@@ -109,7 +109,7 @@ cut_is s k at n found spans =
     ap (λ (p : ℕ × ℕ). Cut k p.0 p.1) spans.found_is
     ∙ sym (ap (λ (o : Option Identifier). elim o as (λ _. Command) [ None ↦ Cut k at n | Some x ↦ in_scalars s x (Cut k at n) ]) spans.shown)
 
-pub cut_refusal : (s : State) (k at n : ℕ) (found : ℕ × ℕ) → IsSpan s k at n found → line_refusal s (Cut k at n) ≡ refusal s (Cut k found.0 found.1)
+pub cut_refusal : (s : State) (k at n : ℕ) (found : ℕ × ℕ) → IsSpan s k at n found → line_refusal s (Cut k at n) ≡ refusal_message s (Cut k found.0 found.1)
 cut_refusal s k at n found spans =
     let shown = spans.shown in
     rw shown (in_range_fits (at + n) (length (clusters_in s spans.section)) (refused_ops s (scalars_from s spans.section at n)) spans.enough

@@ -12,14 +12,14 @@ use Rattle.origin_model.specs.edits.Refusal.{made_by}
 use Rattle.origin_model.specs.edits.Effect.{with_ops}
 use Rattle.origin_model.specs.declared.edit_fault.EditFault.{EditFault}
 use Rattle.origin_model.specs.declared.edit_fault.EditFault.TheVariants as edit
-use Rattle.edit_script.specs.declared.fault.ScriptFault.{ScriptFault}
-use Rattle.edit_script.specs.declared.fault.ScriptFault.TheVariants as fault
-use Rattle.edit_script.specs.declared.line.LineFault.{LineFault}
-use Rattle.edit_script.specs.declared.line.LineFault.TheVariants as why
+use Rattle.edit_script.specs.declared.run.ScriptFault.{ScriptFault}
+use Rattle.edit_script.specs.declared.run.ScriptFault.TheVariants as fault
+use Rattle.edit_script.specs.declared.run.LineFault.{LineFault}
+use Rattle.edit_script.specs.declared.run.LineFault.TheVariants as why
 use Rattle.edit_script.specs.Grammar.{Asks, HasNoSpace, IsBad, IsNote, escaped, lines}
 use Rattle.edit_script.specs.Laws.{AsksOnce, RunsOnce}
 use Rattle.edit_script.specs.Lines.{fault_at}
-use Rattle.edit_script.specs.Scripts.{Does, IsRefused, Leads, RunsUpTo, RunsWhole, StopsAt, by_scalars, line_refusal}
+use Rattle.edit_script.specs.Scripts.{Does, IsRefused, LinesLead, RunsUpTo, RunsWhole, StopsAt, by_scalars, line_refusal}
 use Rattle.edit_script.proofs.CourseLemmas.{script_course}
 use Rattle.edit_script.proofs.DecideLemmas.{line_is_one}
 use Rattle.edit_script.proofs.EscapeLemmas.{all_read, other_head}
@@ -111,11 +111,11 @@ does_once s t u line ops others (inr a) (inr b) =
     let made = a.2.made ∙ ap (λ (c : Command). made_by s (by_scalars s c)) same ∙ sym b.2.made in
     (a.2.gained.others ∙ ap (with_ops s) made ∙ sym b.2.gained.others, made)
 
-leads_once : (s t u : State) (ls : List (List ℕ)) (ops others : List Op) → Leads s t ls ops → Leads s u ls others → (t ≡ u) × (ops ≡ others)
+leads_once : (s t u : State) (ls : List (List ℕ)) (ops others : List Op) → LinesLead s t ls ops → LinesLead s u ls others → (t ≡ u) × (ops ≡ others)
 leads_once s t u [] ops others a b = (a.0 ∙ sym b.0, a.1 ∙ sym b.1)
 leads_once s t u (line ∷ ls) ops others a b =
     let first = does_once s a.0 b.0 line a.1 b.1 a.3 b.3 in
-    let further = leads_once a.0 t u ls a.2 b.2 a.4 (subst (λ (m : State). Leads m u ls b.2) (sym first.0) b.4) in
+    let further = leads_once a.0 t u ls a.2 b.2 a.4 (subst (λ (m : State). LinesLead m u ls b.2) (sym first.0) b.4) in
     (further.0, a.5 ∙ ap₂ ◌++◌ first.1 further.1 ∙ sym b.5)
 
 -- a line that is not run, and why
@@ -141,7 +141,7 @@ parts_of : (x y : List ℕ) (xs ys : List (List ℕ)) → x ∷ xs ≡ y ∷ ys 
 parts_of x y xs ys e = (cc, cc)
 
 -- one line is the first faulty one
-first_once : (s m n : State) (front other back behind : List (List ℕ)) (line second : List ℕ) (ops others : List Op) (a b : LineFault) → Leads s m front ops → Leads s n other others
+first_once : (s m n : State) (front other back behind : List (List ℕ)) (line second : List ℕ) (ops others : List Op) (a b : LineFault) → LinesLead s m front ops → LinesLead s n other others
     → IsFaulty m line a → IsFaulty n second b → front ++ line ∷ back ≡ other ++ second ∷ behind → (m ≡ n) × (line ≡ second) × (length front ≡ length other)
 first_once s m n [] [] back behind line second ops others a b x y fx fy is = (x.0 ∙ sym y.0, (parts_of line second back behind is).0, refl)
 first_once s m n [] (l ∷ other) back behind line second ops others a b x y fx fy is =
@@ -153,16 +153,16 @@ first_once s m n (l ∷ front) [] back behind line second ops others a b x y fx 
 first_once s m n (k ∷ front) (l ∷ other) back behind line second ops others a b x y fx fy is =
     let parts = parts_of k l (front ++ line ∷ back) (other ++ second ∷ behind) is in
     let next = does_once s x.0 y.0 k x.1 y.1 x.3 (subst (λ (j : List ℕ). Does s y.0 j y.1) (sym parts.0) y.3) in
-    let further = first_once x.0 m n front other back behind line second x.2 y.2 a b x.4 (subst (λ (t : State). Leads t n other y.2) (sym next.0) y.4) fx fy parts.1 in
+    let further = first_once x.0 m n front other back behind line second x.2 y.2 a b x.4 (subst (λ (t : State). LinesLead t n other y.2) (sym next.0) y.4) fx fy parts.1 in
     (further.0, further.1, ap suc further.2)
 
 -- a script that is run to its end has no faulty line
-none_faulty : (s t m : State) (front back : List (List ℕ)) (line : List ℕ) (ops others : List Op) (cause : LineFault) → Leads s t (front ++ line ∷ back) ops → Leads s m front others
+none_faulty : (s t m : State) (front back : List (List ℕ)) (line : List ℕ) (ops others : List Op) (cause : LineFault) → LinesLead s t (front ++ line ∷ back) ops → LinesLead s m front others
     → IsFaulty m line cause → ⊥
 none_faulty s t m [] back line ops others cause x y faulty = faulty_does_not s x.0 line x.1 cause x.3 (subst (λ (n : State). IsFaulty n line cause) y.0 faulty)
 none_faulty s t m (l ∷ front) back line ops others cause x y faulty =
     let next = does_once s x.0 y.0 l x.1 y.1 x.3 y.3 in
-    none_faulty x.0 t m front back line x.2 y.2 cause x.4 (subst (λ (n : State). Leads n m front y.2) (sym next.0) y.4) faulty
+    none_faulty x.0 t m front back line x.2 y.2 cause x.4 (subst (λ (n : State). LinesLead n m front y.2) (sym next.0) y.4) faulty
 
 -- why a script stopped, told by its line
 record Stopped (old new : State) (script : List ℕ) (f : ScriptFault) : Type 0 where
@@ -196,7 +196,7 @@ stops_once old a b script f g not_f not_g at_f at_g =
 stops_or_runs : (old a b : State) (script : List ℕ) (n : ℕ) (f : ScriptFault) → f ≢ fault.NoMemory → RunsWhole old a script n → StopsAt old b script f → ⊥
 stops_or_runs old a b script n f not_f whole at_f =
     let x = stopped old b script f not_f at_f in
-    none_faulty old a b x.run.front x.run.back x.line whole.ops x.run.ops x.cause (subst (λ (ls : List (List ℕ)). Leads old a ls whole.ops) x.run.split whole.leads) x.run.leads x.faulty
+    none_faulty old a b x.run.front x.run.back x.line whole.ops x.run.ops x.cause (subst (λ (ls : List (List ℕ)). LinesLead old a ls whole.ops) x.run.split whole.leads) x.run.leads x.faulty
 
 whole_once : (old a b : State) (script : List ℕ) (m n : ℕ) → RunsWhole old a script m → RunsWhole old b script n → (a ≡ b) × (m ≡ n)
 whole_once old a b script m n x y =

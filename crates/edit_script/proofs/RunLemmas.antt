@@ -9,16 +9,16 @@ use Rattle.std.proofs.lemmas.List.Splits.{slice_split-cons_no, slice_split_first
 use Rattle.fugue_ids.specs.declared.op.Op.{Op}
 use Rattle.origin_model.specs.operations.History.{accepted}
 use Rattle.origin_model.specs.edits.State.{State}
-use Rattle.edit_script.specs.declared.line.LineFault.{LineFault}
-use Rattle.edit_script.specs.declared.line.LineFault.TheVariants as why
-use Rattle.edit_script.specs.declared.fault.ScriptFault.{ScriptFault}
-use Rattle.edit_script.specs.declared.fault.ScriptFault.TheVariants as fault
+use Rattle.edit_script.specs.declared.run.LineFault.{LineFault}
+use Rattle.edit_script.specs.declared.run.LineFault.TheVariants as why
+use Rattle.edit_script.specs.declared.run.ScriptFault.{ScriptFault}
+use Rattle.edit_script.specs.declared.run.ScriptFault.TheVariants as fault
 use Rattle.origin_model.specs.declared.edit_fault.EditFault.TheVariants as edit
 use Rattle.edit_script.specs.Grammar.{BeginsWith, lines}
-use Rattle.edit_script.specs.Scripts.{Does, Leads, Runs, RunsUpTo, RunsWhole, Stops, StopsAt}
+use Rattle.edit_script.specs.Scripts.{Does, LinesLead, ScriptRuns, RunsUpTo, RunsWhole, ScriptStops, StopsAt}
 use Rattle.edit_script.specs.Sources.{IsScript}
 use Rattle.outer_ports.specs.Sources.{SourceView}
-use Rattle.edit_script.specs.Lines.{Fails, IsRun, fault_at}
+use Rattle.edit_script.specs.Lines.{LineFails, IsRun, fault_at}
 
 -- what the lines make stands behind what was accepted
 does_grow : (old new : State) (line : List ℕ) (ops : List Op) → Does old new line ops → accepted new.held.history ≡ accepted old.held.history ++ ops
@@ -26,7 +26,7 @@ does_grow old new line ops (inl note) =
     ap (λ (s : State). accepted s.held.history) note.1 ∙ sym (append-nil (accepted old.held.history)) ∙ ap (λ (l : List Op). accepted old.held.history ++ l) (sym note.2)
 does_grow old new line ops (inr made) = made.2.gained.accepted_are
 
-pub leads_grow : (old new : State) (ls : List (List ℕ)) (ops : List Op) → Leads old new ls ops → accepted new.held.history ≡ accepted old.held.history ++ ops
+pub leads_grow : (old new : State) (ls : List (List ℕ)) (ops : List Op) → LinesLead old new ls ops → accepted new.held.history ≡ accepted old.held.history ++ ops
 leads_grow old new [] ops leads =
     ap (λ (s : State). accepted s.held.history) leads.0 ∙ sym (append-nil (accepted old.held.history)) ∙ ap (λ (l : List Op). accepted old.held.history ++ l) (sym leads.1)
 leads_grow old new (line ∷ ls) ops leads =
@@ -34,7 +34,7 @@ leads_grow old new (line ∷ ls) ops leads =
     ∙ append_assoc (accepted old.held.history) leads.1 leads.2 ∙ ap (λ (l : List Op). accepted old.held.history ++ l) (sym leads.5)
 
 -- one line more
-leads_next : (old mid new : State) (ls : List (List ℕ)) (line : List ℕ) (done first : List Op) → Leads old mid ls done → Does mid new line first → Leads old new (ls ++ line ∷ []) (done ++ first)
+leads_next : (old mid new : State) (ls : List (List ℕ)) (line : List ℕ) (done first : List Op) → LinesLead old mid ls done → Does mid new line first → LinesLead old new (ls ++ line ∷ []) (done ++ first)
 leads_next old mid new [] line done first leads does =
     (new, first, [], subst (λ (s : State). Does s new line first) leads.0 does, (refl, refl), ap (λ (l : List Op). l ++ first) leads.1 ∙ sym (append-nil first))
 leads_next old mid new (l ∷ ls) line done first leads does = (
@@ -62,7 +62,7 @@ pub record Walk (old now : State) (script : List ℕ) (rest : Option (List ℕ))
   pub number_is : number ≡ length front
   pub few : number + bytes_left rest ≤ length script + 1
   pub ops : List Op
-  pub leads : Leads old now front ops
+  pub leads : LinesLead old now front ops
 
 left_behind : (bytes line : List ℕ) (behind : Option (List ℕ)) → BeginsWith bytes line behind → (lines bytes ≡ line ∷ lines_left behind) × (bytes_left behind ≤ length bytes)
 left_behind bytes line None begins = (begins, omega arith)
@@ -102,7 +102,7 @@ walk_over old now script number n walk counted =
     let grown = leads_grow old now walk.front walk.ops walk.leads in
     record {
       ops = walk.ops;
-      leads = subst (λ (l : List (List ℕ)). Leads old now l walk.ops) (sym (walk.split ∙ append-nil walk.front)) walk.leads;
+      leads = subst (λ (l : List (List ℕ)). LinesLead old now l walk.ops) (sym (walk.split ∙ append-nil walk.front)) walk.leads;
       accepted_are = grown;
       count = omega (arith, counted, ap length grown, length-append (accepted old.held.history) walk.ops);
     }
@@ -126,7 +126,7 @@ less_at rest bytes line behind is begins =
     subst (λ (o : Option (Bor (List ℕ))). bytes_left behind < bytes_left (option_copied o)) (sym is) (less_left bytes.now line behind begins)
 
 -- the fault of a line is that of the script
-pub stops : (old mid new : State) (script line : List ℕ) (n : ℕ) (cause : LineFault) → RunsUpTo old mid script line n → Fails mid new line cause → StopsAt old new script (fault_at n cause)
+pub stops : (old mid new : State) (script line : List ℕ) (n : ℕ) (cause : LineFault) → RunsUpTo old mid script line n → LineFails mid new line cause → StopsAt old new script (fault_at n cause)
 stops old mid new script line n why.Bad run fails = (line, subst (λ (s : State). RunsUpTo old s script line n) (sym fails.0) run, fails.1)
 stops old mid new script line n (why.Edit edit.NoSection) run fails =
     subst (λ (s : State). StopsAt old s script (fault_at n (why.Edit edit.NoSection))) (sym fails.0) (line, run, fails.1)
@@ -176,7 +176,7 @@ last_line script is = no_break script (ltb-false _ _ (not_found _ _ is))
 
 -- a script that was read whole stops at a line
 pub stops_read : (old new : State) (before after : SourceView) (script : List ℕ) (result : Result ℕ ScriptFault) → IsScript before after script → IfErr result (StopsAt old new script)
-    → IfErr result (Stops old new before after)
+    → IfErr result (ScriptStops old new before after)
 stops_read old new before after script (Ok n) is stopped = tt
 stops_read old new before after script (Err (fault.BadLine n)) is stopped = (script, is, stopped)
 stops_read old new before after script (Err (fault.NoSection n)) is stopped = (script, is, stopped)
@@ -189,6 +189,6 @@ stops_read old new before after script (Err fault.NoMemory) is stopped = inr (sc
 
 -- and one that is run to its end
 pub runs_read : (old new : State) (before after : SourceView) (script : List ℕ) (result : Result ℕ ScriptFault) → IsScript before after script → IfOk result (RunsWhole old new script)
-    → IfOk result (Runs old new before after)
+    → IfOk result (ScriptRuns old new before after)
 runs_read old new before after script (Ok n) is whole = (script, is, whole)
 runs_read old new before after script (Err f) is whole = tt

@@ -17,7 +17,7 @@ use Rattle.origin_model.specs.order.Printed.{shown}
 use Rattle.origin_model.specs.taking.Taking.{Answer, Full, HasPlace, Held, IsSettled, TooMany, answers_from, held_from, kept_from}
 use Rattle.origin_model.specs.taking.Closure.{WithinLimits}
 use Rattle.std.proofs.lemmas.List.Elements.{All-weaker}
-use Rattle.origin_model.specs.declared.operations.place.Place.TheVariants.{Catalogue as catalogue, Section as within}
+use Rattle.origin_model.specs.declared.operations.Place.TheVariants.{Catalogue as catalogue, Section as within}
 use Rattle.origin_model.proofs.SharedLemmas.{held-append, kept-append, kept_suffice, stays_settled}
 use Rattle.origin_model.proofs.edits.CutLemmas.{cut_takes, drop_takes}
 use Rattle.origin_model.proofs.edits.EditIntakeLemmas.{edits_are_taken_in}
@@ -30,7 +30,7 @@ use Rattle.origin_model.specs.edits.Effect.{with_ops}
 use Rattle.origin_model.proofs.edits.RefusalLemmas.{elements_fit, ops_fit, position_within, section_there}
 use Rattle.edit_script.specs.Grammar.{lines}
 use Rattle.edit_script.specs.Laws.{AreTakenIn, ScriptsAreTakenIn}
-use Rattle.edit_script.specs.Scripts.{Does, Edits, Leads, by_scalars, clusters_in, in_scalars, line_refusal, scalars_from}
+use Rattle.edit_script.specs.Scripts.{Does, Edits, LinesLead, by_scalars, clusters_in, in_scalars, line_refusal, scalars_from}
 
 -- behind all that is shown there is no left origin
 none_in_front : (xs : List Identifier) (at : ℕ) → length xs < at → in_front xs at ≡ None
@@ -147,7 +147,7 @@ made-append old mid new first others a b =
     }
 
 -- the operations of lines
-made_lines : (old new : State) (ls : List (List ℕ)) (ops : List Op) → Lawful old.held.history → IsSettled old.held → Leads old new ls ops → Made old new ops
+made_lines : (old new : State) (ls : List (List ℕ)) (ops : List Op) → Lawful old.held.history → IsSettled old.held → LinesLead old new ls ops → Made old new ops
 made_lines old new [] ops lawful settled leads =
     subst (λ (s : State). Made old s ops) (sym leads.0) (subst (λ (l : List Op). Made old old l) (sym leads.1) (made_none old lawful settled))
 made_lines old new (line ∷ ls) ops lawful settled leads =

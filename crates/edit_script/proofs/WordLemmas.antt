@@ -7,8 +7,8 @@ use Rattle.std.proofs.lemmas.Bool.{cases_Bool, eqb-false}
 use Rattle.std.proofs.lemmas.List.Elements.{All-nil, All-cons, All-append}
 use Rattle.edit_script.specs.Grammar.{HasNoSpace}
 use Rattle.edit_script.specs.Forms.{form_word}
-use Rattle.edit_script.specs.declared.form.Form.{Form}
-use Rattle.edit_script.specs.declared.form.Form.TheVariants.{Add, Put, Cut, Drop}
+use Rattle.edit_script.specs.declared.edit.Form.{Form}
+use Rattle.edit_script.specs.declared.edit.Form.TheVariants.{Add, Put, Cut, Drop}
 
 before : (byte : ℕ) (rest : List ℕ) → (byte ≡ 32 → ⊥) → HasNoSpace rest → HasNoSpace (byte ∷ rest)
 before byte rest differs spaceless = All-cons (λ (b : ℕ). b ≡ 32 → ⊥) byte rest differs spaceless

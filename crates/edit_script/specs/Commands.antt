@@ -5,8 +5,8 @@ use Rattle.origin_model.specs.edits.Edits.{Command, Put, Cut, Add, DropSection}
 use Rattle.edit_script.specs.declared.edit.Edit.{Edit}
 use Rattle.edit_script.specs.declared.edit.Edit.TheVariants as edit
 
-abbrev pub command_of : Edit → Command
-command_of (edit.Add at title) = Add at title
-command_of (edit.Put section at text) = Put section at (chars (string_bytes text))
-command_of (edit.Cut section at count) = Cut section at count
-command_of (edit.DropSection section) = DropSection section
+abbrev pub replica_command : Edit → Command
+replica_command (edit.Add at title) = Add at title
+replica_command (edit.Put section at text) = Put section at (chars (string_bytes text))
+replica_command (edit.Cut section at count) = Cut section at count
+replica_command (edit.DropSection section) = DropSection section

@@ -1,7 +1,7 @@
 -- The first words of lines.
 use Rattle.std.specs.Prelude.{ℕ, List, codes}
-use Rattle.edit_script.specs.declared.form.Form.{Form}
-use Rattle.edit_script.specs.declared.form.Form.TheVariants.{Add, Put, Cut, Drop}
+use Rattle.edit_script.specs.declared.edit.Form.{Form}
+use Rattle.edit_script.specs.declared.edit.Form.TheVariants.{Add, Put, Cut, Drop}
 
 abbrev pub form_word : Form → List ℕ
 form_word Add = codes "add"

@@ -32,11 +32,11 @@ abbrev pub escaped : ℕ → List ℕ
 escaped ch = if ch == 10 then codes "\\n" else if ch == 92 then codes "\\\\" else encode_utf8 ch
 
 -- the line that asks for an edit by places in clusters. Sections count from 1 there, and so does the place of an add
-abbrev pub line_of : Command → List ℕ
-line_of (Add at title) = spaced (codes "add" ∷ decimal (at + 1) ∷ encode_utf8_all title ∷ [])
-line_of (Put k at new) = spaced (codes "put" ∷ decimal (k + 1) ∷ decimal at ∷ flat_map escaped new ∷ [])
-line_of (Cut k at n) = spaced (codes "cut" ∷ decimal (k + 1) ∷ decimal at ∷ decimal n ∷ [])
-line_of (DropSection k) = spaced (codes "drop" ∷ decimal (k + 1) ∷ [])
+abbrev pub command_line : Command → List ℕ
+command_line (Add at title) = spaced (codes "add" ∷ decimal (at + 1) ∷ encode_utf8_all title ∷ [])
+command_line (Put k at new) = spaced (codes "put" ∷ decimal (k + 1) ∷ decimal at ∷ flat_map escaped new ∷ [])
+command_line (Cut k at n) = spaced (codes "cut" ∷ decimal (k + 1) ∷ decimal at ∷ decimal n ∷ [])
+command_line (DropSection k) = spaced (codes "drop" ∷ decimal (k + 1) ∷ [])
 
 -- the edit can be written: its line's numbers are at most 4,294,967,295, its title is one, and its text has scalars, one at least
 abbrev pub IsWritable : Command → Type 0
@@ -48,7 +48,7 @@ IsWritable (DropSection k) = k + 1 < 2 ^ 32
 -- the line asks for the edit
 pub record Asks (line : List ℕ) (command : Command) : Type 0 where
   pub writable : IsWritable command
-  pub line_is : line ≡ line_of command
+  pub line_is : line ≡ command_line command
 
 -- the line is no note line, and asks for no edit
 pub record IsBad (line : List ℕ) : Type 0 where

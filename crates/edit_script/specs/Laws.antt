@@ -5,8 +5,8 @@ use Rattle.origin_model.specs.operations.History.{accepted}
 use Rattle.origin_model.specs.taking.Taking.{IsSettled, held_from, kept_from}
 use Rattle.origin_model.specs.edits.Edits.{Command}
 use Rattle.origin_model.specs.edits.State.{State, Stands}
-use Rattle.edit_script.specs.declared.fault.ScriptFault.{ScriptFault}
-use Rattle.edit_script.specs.declared.fault.ScriptFault.TheVariants.{NoMemory}
+use Rattle.edit_script.specs.declared.run.ScriptFault.{ScriptFault}
+use Rattle.edit_script.specs.declared.run.ScriptFault.TheVariants.{NoMemory}
 use Rattle.edit_script.specs.Grammar.{Asks, IsBad, IsNote}
 use Rattle.edit_script.specs.Scripts.{RunsWhole, StopsAt}
 

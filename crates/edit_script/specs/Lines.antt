@@ -2,7 +2,7 @@
 use Rattle.std.specs.Prelude.{◌≡◌, ◌⊎◌, ℕ, ◌+◌, ◌<◌, ◌≤◌, Option, Some, None, List, length}
 use Rattle.fugue_ids.specs.Identifiers.{Identifier}
 use Rattle.fugue_ids.specs.declared.op.Op.{Op}
-use Rattle.origin_model.specs.declared.operations.place.Place.TheVariants.{Section as within}
+use Rattle.origin_model.specs.declared.operations.Place.TheVariants.{Section as within}
 use Rattle.cluster_text.specs.Clusters.{span}
 use Rattle.origin_model.specs.edits.Edits.{Command}
 use Rattle.origin_model.specs.edits.State.{State}
@@ -11,18 +11,18 @@ use Rattle.origin_model.specs.edits.Effect.{StopsPartly}
 use Rattle.origin_model.specs.declared.edit_fault.EditFault.{EditFault}
 use Rattle.origin_model.specs.declared.edit_fault.EditFault.TheVariants as edit
 use Rattle.edit_script.specs.declared.edit.Edit.{Edit}
-use Rattle.edit_script.specs.declared.fault.ScriptFault.{ScriptFault}
-use Rattle.edit_script.specs.declared.fault.ScriptFault.TheVariants as script
-use Rattle.edit_script.specs.declared.line.LineFault.{LineFault}
-use Rattle.edit_script.specs.declared.line.LineFault.TheVariants as fault
-use Rattle.edit_script.specs.Commands.{command_of}
+use Rattle.edit_script.specs.declared.run.ScriptFault.{ScriptFault}
+use Rattle.edit_script.specs.declared.run.ScriptFault.TheVariants as script
+use Rattle.edit_script.specs.declared.run.LineFault.{LineFault}
+use Rattle.edit_script.specs.declared.run.LineFault.TheVariants as fault
+use Rattle.edit_script.specs.Commands.{replica_command}
 use Rattle.edit_script.specs.Grammar.{Asks, IsBad, IsNote}
 use Rattle.edit_script.specs.Scripts.{Does, Edits, IsPartly, IsRefused, by_scalars, clusters_in, line_refusal}
 
 -- the line was read: it asks for the edit, or for none
 abbrev pub Reads : List ℕ → Option Edit → Type 0
 Reads line None = IsNote line
-Reads line (Some edit) = Asks line (command_of edit)
+Reads line (Some edit) = Asks line (replica_command edit)
 
 -- a line that was not read asks for nothing that there is, or memory was wanting
 abbrev pub IsUnreadable : List ℕ → LineFault → Type 0
@@ -46,10 +46,10 @@ pub record IsRun (old new : State) (line : List ℕ) : Type 0 where
   pub does : Does old new line ops
 
 -- the line was not run
-abbrev pub Fails : (old new : State) → List ℕ → LineFault → Type 0
-Fails old new line fault.Bad = (new ≡ old) × IsBad line
-Fails old new line (fault.Edit edit.NoMemory) = IsPartly old new line
-Fails old new line (fault.Edit f) = (new ≡ old) × IsRefused old line f
+abbrev pub LineFails : (old new : State) → List ℕ → LineFault → Type 0
+LineFails old new line fault.Bad = (new ≡ old) × IsBad line
+LineFails old new line (fault.Edit edit.NoMemory) = IsPartly old new line
+LineFails old new line (fault.Edit f) = (new ≡ old) × IsRefused old line f
 
 -- the scalars of n clusters of a shown section, from the cluster `at` on: their place and their number
 pub record IsSpan (s : State) (k at n : ℕ) (found : ℕ × ℕ) : Type 0 where

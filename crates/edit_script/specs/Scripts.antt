@@ -8,12 +8,12 @@ use Rattle.origin_model.specs.edits.Edits.{Command, Put, Cut, Add, DropSection}
 use Rattle.outer_ports.specs.Sources.{SourceView}
 use Rattle.cluster_text.specs.Clusters.{clusters, scalars, span}
 use Rattle.origin_model.specs.edits.State.{State}
-use Rattle.origin_model.specs.edits.Refusal.{section_shown, in_section, in_range, refused_elements, refused_ops, refusal, made_by}
+use Rattle.origin_model.specs.edits.Refusal.{section_shown, in_section, in_range, refused_elements, refused_ops, refusal_message, made_by}
 use Rattle.origin_model.specs.edits.Effect.{Gains, StopsPartly}
 use Rattle.origin_model.specs.declared.edit_fault.EditFault.{EditFault}
 use Rattle.origin_model.specs.declared.edit_fault.EditFault.TheVariants as edit
-use Rattle.edit_script.specs.declared.fault.ScriptFault.{ScriptFault}
-use Rattle.edit_script.specs.declared.fault.ScriptFault.TheVariants.{BadLine, NoSection, OutOfRange, IdsSpent, TooMany, ReadFault, TooLong, NoMemory}
+use Rattle.edit_script.specs.declared.run.ScriptFault.{ScriptFault}
+use Rattle.edit_script.specs.declared.run.ScriptFault.TheVariants.{BadLine, NoSection, OutOfRange, IdsSpent, TooMany, ReadFault, TooLong, NoMemory}
 use Rattle.edit_script.specs.Grammar.{Asks, IsBad, IsNote, lines}
 use Rattle.edit_script.specs.Sources.{IsLonger, IsScript}
 
@@ -47,8 +47,8 @@ by_scalars s command = elim (section_of s command) [ None ↦ command | Some sec
 abbrev pub line_refusal : State → Command → Option EditFault
 line_refusal s (Put k at new) = in_section (section_shown s k) (λ x. in_range at (length (clusters_in s x)) (refused_elements s (length new)))
 line_refusal s (Cut k at n) = in_section (section_shown s k) (λ x. in_range (at + n) (length (clusters_in s x)) (refused_ops s (scalars_from s x at n)))
-line_refusal s (Add at title) = refusal s (Add at title)
-line_refusal s (DropSection k) = refusal s (DropSection k)
+line_refusal s (Add at title) = refusal_message s (Add at title)
+line_refusal s (DropSection k) = refusal_message s (DropSection k)
 
 -- an edit by clusters is made, of these operations
 pub record Edits (old new : State) (command : Command) (ops : List Op) : Type 0 where
@@ -61,15 +61,15 @@ abbrev pub Does : (old new : State) (line : List ℕ) (ops : List Op) → Type 0
 Does old new line ops = (IsNote line × (new ≡ old) × (ops ≡ [])) ⊎ ((command : Command) × Asks line command × Edits old new command ops)
 
 -- lines are run, one after another, and make these operations
-abbrev pub Leads : (old new : State) (lines : List (List ℕ)) (ops : List Op) → Type 0
-Leads old new [] ops = (new ≡ old) × (ops ≡ [])
-Leads old new (line ∷ lines) ops =
-    (mid : State) × (first : List Op) × (others : List Op) × Does old mid line first × Leads mid new lines others × (ops ≡ first ++ others)
+abbrev pub LinesLead : (old new : State) (lines : List (List ℕ)) (ops : List Op) → Type 0
+LinesLead old new [] ops = (new ≡ old) × (ops ≡ [])
+LinesLead old new (line ∷ lines) ops =
+    (mid : State) × (first : List Op) × (others : List Op) × Does old mid line first × LinesLead mid new lines others × (ops ≡ first ++ others)
 
 -- the script was run to its end, with n operations made
 pub record RunsWhole (old new : State) (script : List ℕ) (n : ℕ) : Type 0 where
   pub ops : List Op
-  pub leads : Leads old new (lines script) ops
+  pub leads : LinesLead old new (lines script) ops
   pub accepted_are : accepted new.held.history ≡ accepted old.held.history ++ ops
   pub count : n ≡ length ops
 
@@ -80,7 +80,7 @@ pub record RunsUpTo (old new : State) (script line : List ℕ) (number : ℕ) : 
   pub split : lines script ≡ front ++ line ∷ back
   pub number_is : number ≡ length front + 1
   pub ops : List Op
-  pub leads : Leads old new front ops
+  pub leads : LinesLead old new front ops
 
 -- the line asks for an edit that is refused
 abbrev pub IsRefused : State → List ℕ → EditFault → Type 0
@@ -102,12 +102,12 @@ StopsAt old new script ReadFault = ⊥
 StopsAt old new script TooLong = ⊥
 
 -- how a script that is read from a source stops: it is read whole before its first line is run
-abbrev pub Stops : (old new : State) (before after : SourceView) → ScriptFault → Type 0
-Stops old new before after ReadFault = new ≡ old
-Stops old new before after TooLong = (new ≡ old) × IsLonger before after
-Stops old new before after NoMemory = ((new ≡ old) × (after ≡ before)) ⊎ ((script : List ℕ) × IsScript before after script × StopsAt old new script NoMemory)
-Stops old new before after fault = (script : List ℕ) × IsScript before after script × StopsAt old new script fault
+abbrev pub ScriptStops : (old new : State) (before after : SourceView) → ScriptFault → Type 0
+ScriptStops old new before after ReadFault = new ≡ old
+ScriptStops old new before after TooLong = (new ≡ old) × IsLonger before after
+ScriptStops old new before after NoMemory = ((new ≡ old) × (after ≡ before)) ⊎ ((script : List ℕ) × IsScript before after script × StopsAt old new script NoMemory)
+ScriptStops old new before after fault = (script : List ℕ) × IsScript before after script × StopsAt old new script fault
 
 -- the script that the source had left was run to its end
-abbrev pub Runs : (old new : State) (before after : SourceView) (n : ℕ) → Type 0
-Runs old new before after n = (script : List ℕ) × IsScript before after script × RunsWhole old new script n
+abbrev pub ScriptRuns : (old new : State) (before after : SourceView) (n : ℕ) → Type 0
+ScriptRuns old new before after n = (script : List ℕ) × IsScript before after script × RunsWhole old new script n

@@ -1,11 +1,11 @@
-ghost use Rattle.std.specs.Prelude.{◌≡◌, ℕ, List, ◌++◌, ◌∷◌, ◌+◌, ◌<◌, ◌^◌, true, Some, IfOk, IfSome, IsNone, IsSomeAnd, option_map, codes, decimal, encode_utf8_all};
+ghost use Rattle.std.specs.Prelude.{◌≡◌, ℕ, List, ◌++◌, ◌∷◌, ◌+◌, ◌<◌, ◌^◌, true, Some, IfOk, IfSome, IsNone};
+ghost use Rattle.std.specs.Prelude.{IsSomeAnd, option_map, codes, decimal, encode_utf8_all};
 ghost use Rattle.std.specs.Str.{all_scalars};
 ghost use Rattle.fugue_ids.specs.Titles.{IsTitleText};
 ghost use Rattle.origin_model.specs.edits.Edits.{Command};
-ghost use Rattle.edit_script.specs.Grammar.{Asks};
-ghost use Rattle.edit_script.specs.Commands.{command_of};
+ghost use Rattle.edit_script.specs.Grammar.{Asks, HasNoSpace};
+ghost use Rattle.edit_script.specs.Commands.{replica_command};
 
-use crate::form::{Form, split_word};
 use crate::number::{read_decimal, read_ordinal};
 use crate::text::read_text;
 use fugue_ids::{NoMemory, Title, TitleFault};
@@ -22,9 +22,9 @@ pub(crate) enum Edit {
 
 /// Reads a line that asks for an edit. None is the answer where it asks for none.
 pub(crate) fn read_edit(alloc: Global, line: &str) -> Result<Option<Edit>, NoMemory>
-    ensures named { IfOk result (λ found. IfSome found (λ edit. Asks line.now (command_of edit))) }
+    ensures named { IfOk result (λ found. IfSome found (λ edit. Asks line.now (replica_command edit))) }
     ensures every { (command : Command) → Asks line.now command
-        → IfOk result (λ found. option_map command_of found ≡ Some command) }
+        → IfOk result (λ found. option_map replica_command found ≡ Some command) }
 {
     let Some((word, rest)) = split_word(line) else {
         return Ok(None);
@@ -40,9 +40,10 @@ pub(crate) fn read_edit(alloc: Global, line: &str) -> Result<Option<Edit>, NoMem
 
 /// Reads what stands behind `add `.
 fn read_add(alloc: Global, rest: &str) -> Result<Option<Edit>, NoMemory>
-    ensures named { IfOk result (λ found. IfSome found (λ edit. Asks (codes "add " ++ rest.now) (command_of edit))) }
+    ensures named { IfOk result
+        (λ found. IfSome found (λ edit. Asks (codes "add " ++ rest.now) (replica_command edit))) }
     ensures every { (command : Command) → Asks (codes "add " ++ rest.now) command
-        → IfOk result (λ found. option_map command_of found ≡ Some command) }
+        → IfOk result (λ found. option_map replica_command found ≡ Some command) }
 {
     let Some((at, title)) = split_ordinal(rest) else {
         return Ok(None);
@@ -68,9 +69,10 @@ fn read_title(alloc: Global, text: &str) -> Result<Option<Title>, NoMemory>
 
 /// Reads what stands behind `put `.
 fn read_put(alloc: Global, rest: &str) -> Result<Option<Edit>, NoMemory>
-    ensures named { IfOk result (λ found. IfSome found (λ edit. Asks (codes "put " ++ rest.now) (command_of edit))) }
+    ensures named { IfOk result
+        (λ found. IfSome found (λ edit. Asks (codes "put " ++ rest.now) (replica_command edit))) }
     ensures every { (command : Command) → Asks (codes "put " ++ rest.now) command
-        → IfOk result (λ found. option_map command_of found ≡ Some command) }
+        → IfOk result (λ found. option_map replica_command found ≡ Some command) }
 {
     let Some((section, at, text)) = split_place(rest) else {
         return Ok(None);
@@ -86,9 +88,9 @@ fn read_put(alloc: Global, rest: &str) -> Result<Option<Edit>, NoMemory>
 
 /// Reads what stands behind `cut `.
 fn read_cut(rest: &str) -> Option<Edit>
-    ensures named { IfSome result (λ edit. Asks (codes "cut " ++ rest.now) (command_of edit)) }
+    ensures named { IfSome result (λ edit. Asks (codes "cut " ++ rest.now) (replica_command edit)) }
     ensures every { (command : Command) → Asks (codes "cut " ++ rest.now) command
-        → option_map command_of result ≡ Some command }
+        → option_map replica_command result ≡ Some command }
 {
     let (section, at, count) = split_place(rest)?;
     let count = read_decimal(count)?;
@@ -97,9 +99,9 @@ fn read_cut(rest: &str) -> Option<Edit>
 
 /// Reads what stands behind `drop `.
 fn read_drop(rest: &str) -> Option<Edit>
-    ensures named { IfSome result (λ edit. Asks (codes "drop " ++ rest.now) (command_of edit)) }
+    ensures named { IfSome result (λ edit. Asks (codes "drop " ++ rest.now) (replica_command edit)) }
     ensures every { (command : Command) → Asks (codes "drop " ++ rest.now) command
-        → option_map command_of result ≡ Some command }
+        → option_map replica_command result ≡ Some command }
 {
     let section = read_ordinal(rest)?;
     Some(Edit::DropSection { section })
@@ -108,7 +110,8 @@ fn read_drop(rest: &str) -> Option<Edit>
 /// Splits off a section, counted from 0, and a place.
 fn split_place(text: &str) -> Option<(u32, u32, &str)>
     ensures parts { IfSome result (λ (section, at, rest).
-        (text.now ≡ decimal (section + 1) ++ 32 ∷ (decimal at ++ 32 ∷ rest.now)) × (section + 1 < 2 ^ 32) × (at < 2 ^ 32)) }
+        (text.now ≡ decimal (section + 1) ++ 32 ∷ (decimal at ++ 32 ∷ rest.now)) × (section + 1 < 2 ^ 32)
+        × (at < 2 ^ 32)) }
     ensures every { (k p : ℕ) (behind : List ℕ) → k + 1 < 2 ^ 32 → p < 2 ^ 32
         → text.now ≡ decimal (k + 1) ++ 32 ∷ (decimal p ++ 32 ∷ behind)
         → IsSomeAnd result (λ (section, at, rest). (section ≡ k) × (at ≡ p) × (rest.now ≡ behind)) }
@@ -126,4 +129,40 @@ fn split_ordinal(text: &str) -> Option<(u32, &str)>
 {
     let (number, rest) = split_word(text)?;
     Some((read_ordinal(number)?, rest))
+}
+
+/// The first word of a line, by which its form is known.
+#[derive(Clone, Copy)]
+pub(crate) enum Form {
+    Add,
+    Put,
+    Cut,
+    Drop,
+}
+
+impl Form {
+    ghost use Rattle.edit_script.specs.Forms.{form_word};
+
+    /// Reads a word. None is the answer where it begins no line.
+    pub(crate) fn read(word: &str) -> Option<Form>
+        ensures word { IfSome result (λ form. word.now ≡ form_word form) }
+        ensures every { (form : Form) → word.now ≡ form_word form → result ≡ Some form }
+    {
+        match word {
+            "add" => Some(Form::Add),
+            "put" => Some(Form::Put),
+            "cut" => Some(Form::Cut),
+            "drop" => Some(Form::Drop),
+            _ => None,
+        }
+    }
+}
+
+/// Splits a text at its first space.
+pub(crate) fn split_word(text: &str) -> Option<(&str, &str)>
+    ensures parts { IfSome result (λ (word, rest). text.now ≡ word.now ++ 32 ∷ rest.now) }
+    ensures every { (word rest : List ℕ) → HasNoSpace word → text.now ≡ word ++ 32 ∷ rest
+        → IsSomeAnd result (λ (first, behind). (first.now ≡ word) × (behind.now ≡ rest)) }
+{
+    text.split_once(' ')
 }

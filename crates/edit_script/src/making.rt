@@ -2,7 +2,7 @@ ghost use Rattle.std.specs.Prelude.{◌≡◌, IfOk, IfErr};
 ghost use Rattle.std.specs.Str.{chars};
 ghost use Rattle.origin_model.specs.edits.Edits.{Put, Cut};
 ghost use Rattle.origin_model.specs.taking.Taking.{IsSettled};
-ghost use Rattle.edit_script.specs.Commands.{command_of};
+ghost use Rattle.edit_script.specs.Commands.{replica_command};
 ghost use Rattle.edit_script.specs.Lines.{HasNoSpan, IsSpan, Made, Unmade};
 
 use crate::edit::Edit;
@@ -12,8 +12,8 @@ use replica_core::{EditFault, Replica};
 /// Makes an edit that a line asks for, and answers how many operations it has.
 pub(crate) fn make(replica: &mut Replica, edit: Edit) -> Result<u32, EditFault>
     requires { IsSettled replica.old.held }
-    ensures made { IfOk result (Made replica.old replica.new (command_of edit)) }
-    ensures unmade { IfErr result (Unmade replica.old replica.new (command_of edit)) }
+    ensures made { IfOk result (Made replica.old replica.new (replica_command edit)) }
+    ensures unmade { IfErr result (Unmade replica.old replica.new (replica_command edit)) }
     ensures settled { IsSettled replica.new.held }
 {
     match edit {

@@ -1,19 +1,47 @@
-ghost use Rattle.std.specs.Prelude.{◌≡◌, ◌≤◌, ◌==◌, length, IfOk, IfErr, IfSome, IsErrOf, position};
+ghost use Rattle.std.specs.Prelude.{◌≡◌, ◌≤◌, ◌==◌, length, IfOk, IfErr, IfSome, IsErrOf, position, ◌++◌, ◌⊎◌, ◌↔◌, ℕ};
+ghost use Rattle.std.specs.Prelude.{List, [], IsTrue, OnOk, codes};
 ghost use Rattle.std.specs.Option.{option_copied};
 ghost use Rattle.outer_ports.specs.Sources.{KeepsCount};
 ghost use Rattle.origin_model.specs.taking.Taking.{IsSettled};
 ghost use Rattle.edit_script.specs.declared.script.TheConstants.{LONGEST_SCRIPT};
-ghost use Rattle.edit_script.specs.Answers.{AnswersBy};
+ghost use Rattle.edit_script.specs.Answers.{ScriptAnswersBy};
 ghost use Rattle.edit_script.specs.Grammar.{BeginsWith};
-ghost use Rattle.edit_script.specs.Lines.{fault_at};
-ghost use Rattle.edit_script.specs.Scripts.{Runs, RunsWhole, Stops, StopsAt};
+ghost use Rattle.edit_script.specs.Lines.{fault_at, LineFails, IsRun, IsUnreadable, Reads};
+ghost use Rattle.edit_script.specs.Scripts.{ScriptRuns, RunsWhole, ScriptStops, StopsAt};
+ghost use Rattle.edit_script.specs.Laws.{AsksOnce, RunsOnce, ScriptsAreTakenIn};
 
-use crate::ScriptFault;
-use crate::line::{LineFault, run_line};
+use crate::edit::{Edit, read_edit};
+use crate::making::make;
 use crate::script::read_script;
 use outer_ports::Source;
 use replica_core::{EditFault, Replica};
 use std::alloc::Global;
+use thiserror::Error;
+
+/// Why a script stopped. The lines before a faulty one stand, each with its number from 1.
+#[derive(Clone, Copy, Debug, PartialEq, Eq, Error)]
+pub enum ScriptFault {
+    /// The line is no line of a script.
+    #[error("line {0} is none of a script's")]
+    BadLine(u32),
+    #[error("line {0} names a section that is not there")]
+    NoSection(u32),
+    #[error("line {0} names a place that is not there")]
+    OutOfRange(u32),
+    /// Identifiers are wanting: the greatest counter.
+    #[error("no counter is left behind {0}")]
+    IdsSpent(u32),
+    /// The replica would hold more than it may: the number that it holds.
+    #[error("{0} operations are accepted or wait")]
+    TooMany(u32),
+    #[error("the script was not read")]
+    ReadFault,
+    /// It has more than 1,048,576 bytes.
+    #[error("the script is too long")]
+    TooLong,
+    #[error("out of memory")]
+    NoMemory,
+}
 
 /// Runs the script that the source has left, and answers how many operations it made.
 pub fn run_script<S: Source>(
@@ -22,9 +50,9 @@ pub fn run_script<S: Source>(
     source: &mut S,
 ) -> Result<u32, ScriptFault>
     requires { IsSettled replica.old.held }
-    ensures ok { IfOk result (Runs replica.old replica.new (S.seen source.old) (S.seen source.new)) }
-    ensures err { IfErr result (Stops replica.old replica.new (S.seen source.old) (S.seen source.new)) }
-    ensures exactly { IfSome (S.seen source.old).left (AnswersBy result replica.old) }
+    ensures ok { IfOk result (ScriptRuns replica.old replica.new (S.seen source.old) (S.seen source.new)) }
+    ensures err { IfErr result (ScriptStops replica.old replica.new (S.seen source.old) (S.seen source.new)) }
+    ensures exactly { IfSome (S.seen source.old).left (ScriptAnswersBy result replica.old) }
     ensures count { KeepsCount (S.seen source.old) (S.seen source.new) (IsErrOf result ScriptFault.ReadFault) }
     ensures settled { IsSettled replica.new.held }
 {
@@ -81,5 +109,73 @@ fn at_line(fault: LineFault, number: u32) -> ScriptFault
         LineFault::Edit(EditFault::IdsSpent(greatest)) => ScriptFault::IdsSpent(greatest),
         LineFault::Edit(EditFault::TooMany(held)) => ScriptFault::TooMany(held),
         LineFault::Edit(EditFault::NoMemory) => ScriptFault::NoMemory,
+    }
+}
+
+/// Each line is a note line, or asks for exactly one edit, or is bad.
+pub fn lines_ask_once()
+    ensures { AsksOnce }
+{}
+
+/// From each state each script comes to its end, or to its first faulty line, and to one of these.
+pub fn scripts_run_once()
+    ensures { RunsOnce }
+{}
+
+/// What a script made on a settled replica, taken in by a copy of what that was, comes to what the script came to, and
+/// all of it is kept.
+pub fn scripts_are_taken_in()
+    ensures { ScriptsAreTakenIn }
+{}
+
+/// Why a line was not run.
+#[derive(Clone, Copy)]
+pub(crate) enum LineFault {
+    /// It is no line of a script.
+    Bad,
+    Edit(EditFault),
+}
+
+/// Runs a line.
+pub(crate) fn run_line(alloc: Global, replica: &mut Replica, line: &[u8]) -> Result<(), LineFault>
+    requires { IsSettled replica.old.held }
+    ensures runs { OnOk result (IsRun replica.old replica.new line.now) }
+    ensures fails { IfErr result (LineFails replica.old replica.new line.now) }
+    ensures settled { IsSettled replica.new.held }
+{
+    match read_line(alloc, line) {
+        Ok(Some(edit)) => match make(replica, edit) {
+            Ok(_) => Ok(()),
+            Err(fault) => Err(LineFault::Edit(fault)),
+        },
+        Ok(None) => Ok(()),
+        Err(fault) => Err(fault),
+    }
+}
+
+/// Reads a line. None is the answer for a note line.
+fn read_line(alloc: Global, line: &[u8]) -> Result<Option<Edit>, LineFault>
+    ensures reads { IfOk result (Reads line.now) }
+    ensures unreadable { IfErr result (IsUnreadable line.now) }
+{
+    let Ok(text) = str::from_utf8(line) else {
+        return Err(LineFault::Bad);
+    };
+    if is_note(text.as_bytes()) {
+        return Ok(None);
+    }
+    match read_edit(alloc, text) {
+        Ok(Some(edit)) => Ok(Some(edit)),
+        Ok(None) => Err(LineFault::Bad),
+        Err(_) => Err(LineFault::Edit(EditFault::NoMemory)),
+    }
+}
+
+fn is_note(line: &[u8]) -> bool
+    ensures { IsTrue result ↔ ((line.now ≡ []) ⊎ ((rest : List ℕ) × (line.now ≡ codes "#" ++ rest))) }
+{
+    match line {
+        [] => true,
+        [first, ..] => *first == b'#',
     }
 }

@@ -1,4 +1,5 @@
-ghost use Rattle.std.specs.Prelude.{◌≡◌, ◌≢◌, ℕ, List, ◌∷◌, ◌++◌, encode_utf8, IfOk, IfSome, IsNone, IsSomeAnd, MatchOption, string_bytes};
+ghost use Rattle.std.specs.Prelude.{◌≡◌, ◌≢◌, ℕ, List, ◌∷◌, ◌++◌, encode_utf8, IfOk, IfSome, IsNone, IsSomeAnd};
+ghost use Rattle.std.specs.Prelude.{MatchOption, string_bytes};
 ghost use Rattle.std.specs.List.{flat_map};
 ghost use Rattle.std.specs.Str.{chars, IsUtf8};
 ghost use Rattle.edit_script.specs.Grammar.{escaped};
@@ -8,7 +9,8 @@ use std::alloc::Global;
 
 /// Reads the text of a put. None is the answer where a backslash stands before anything but an `n` or a backslash.
 pub(crate) fn read_text(alloc: Global, text: &str) -> Result<Option<String>, NoMemory>
-    ensures named { IfOk result (λ found. IfSome found (λ new. text.now ≡ flat_map escaped (chars (string_bytes new)))) }
+    ensures named { IfOk result
+        (λ found. IfSome found (λ new. text.now ≡ flat_map escaped (chars (string_bytes new)))) }
     ensures every { (new : List ℕ) → text.now ≡ flat_map escaped new
         → IfOk result (λ found. IsSomeAnd found (λ read. chars (string_bytes read) ≡ new)) }
 {

@@ -2,9 +2,9 @@
 use Rattle.std.specs.Prelude.{◌≡◌, ℕ, suc, ◌+◌, ◌<◌, List, [], ◌++◌, length, take, drop, flat_map, Result, Ok, Err, refl, ◌-◌}
 use Rattle.std.proofs.Common.{ap, sym, subst, ◌∙◌, append_assoc, arith, length-append, get_or, add-one}
 use Rattle.std.proofs.lemmas.List.{append-nil, take-append-drop}
-use Rattle.fugue_ids.specs.Outs.{OutView, WritesText}
+use Rattle.fugue_ids.specs.Outs.{OutView, WritesBytes}
 use Rattle.fugue_ids.specs.Gathers.{Gathered, GathersText}
-use Rattle.fugue_ids.specs.declared.failed.Failed.{Failed}
+use Rattle.fugue_ids.specs.declared.out.Failed.{Failed}
 use Rattle.fugue_ids.specs.declared.limits.TheConstants.{BUFFER}
 use Rattle.fugue_ids.proofs.JoinLemmas.{front_grows, parts_split, parts_step, text_joins, text_none, text_stops}
 
@@ -25,9 +25,9 @@ gathered_joins u v w p q text more s t = record {
 
 -- what waited, and more, did not go out
 pub gathered_stops : {S : Type 0} (u v w : OutView) (p text more : List ℕ) → Gathered u v p text
-    → WritesText {E = Failed} {T = S} v w (Err (record {})) (p ++ more) → WritesText {E = Failed} {T = S} u w (Err (record {})) (text ++ more)
+    → WritesBytes {E = Failed} {T = S} v w (Err (record {})) (p ++ more) → WritesBytes {E = Failed} {T = S} u w (Err (record {})) (text ++ more)
 gathered_stops {S} u v w p text more s t =
-    subst (WritesText {E = Failed} {T = S} u w (Err (record {})))
+    subst (WritesBytes {E = Failed} {T = S} u w (Err (record {})))
     (sym (append_assoc s.gone p more) ∙ ap (λ (l : List ℕ). l ++ more) s.text_is)
     (text_joins {E = Failed} {T = Unit {0}} {S = S} tt (Err (record {})) u v w s.gone (p ++ more) s.wrote t)
 
@@ -39,7 +39,7 @@ gathers_none x v p = record { ok = subst (Gathered v v p) (sym (append-nil p)) (
 pub gathers_stop : {T S : Type 0} (u v : OutView) (p q a b : List ℕ) → GathersText {T = T} u v p q (Err (record {})) a → GathersText {T = S} u v p q (Err (record {})) (a ++ b)
 gathers_stop {T} {S} u v p q a b s = record {
   ok = tt;
-  err = subst (WritesText {E = Failed} {T = S} u v (Err (record {}))) (append_assoc p a b) (text_stops {E = Failed} {T = T} {S = S} (record {}) u v (p ++ a) b s.err);
+  err = subst (WritesBytes {E = Failed} {T = S} u v (Err (record {}))) (append_assoc p a b) (text_stops {E = Failed} {T = T} {S = S} (record {}) u v (p ++ a) b s.err);
   none = s.none;
 }
 
@@ -53,12 +53,12 @@ gathers_join {T} {S} x (Ok y) u v w p q r a b s t = record {
 }
 gathers_join {T} {S} x (Err e) u v w p q r a b s t = record {
   ok = tt;
-  err = subst (WritesText {E = Failed} {T = S} u w (Err (record {}))) (append_assoc p a b) (gathered_stops u v w q (p ++ a) b s.ok t.err);
+  err = subst (WritesBytes {E = Failed} {T = S} u w (Err (record {}))) (append_assoc p a b) (gathered_stops u v w q (p ++ a) b s.ok t.err);
   none = t.none;
 }
 
 -- the full array went out
-pub gathers_flushed : (v w : OutView) (p : List ℕ) → length p ≡ BUFFER → WritesText {E = Failed} {T = Unit {0}} v w (Ok tt) p
+pub gathers_flushed : (v w : OutView) (p : List ℕ) → length p ≡ BUFFER → WritesBytes {E = Failed} {T = Unit {0}} v w (Ok tt) p
     → GathersText {T = Unit {0}} v w p [] (Ok tt) []
 gathers_flushed v w p full t = record {
   ok = record { gone = p; arrays = 1; whole = omega (arith, full); text_is = refl; wrote = t };
@@ -67,7 +67,7 @@ gathers_flushed v w p full t = record {
 }
 
 -- or it did not
-pub flush_fails : (v w : OutView) (p q : List ℕ) → q ≡ [] → WritesText {E = Failed} {T = Unit {0}} v w (Err (record {})) p
+pub flush_fails : (v w : OutView) (p q : List ℕ) → q ≡ [] → WritesBytes {E = Failed} {T = Unit {0}} v w (Err (record {})) p
     → GathersText {T = Unit {0}} v w p q (Err (record {})) []
 flush_fails v w p q none t = record { ok = tt; err = text_stops {E = Failed} {T = Unit {0}} {S = Unit {0}} (record {}) v w p [] t; none = none }
 
@@ -108,12 +108,12 @@ gathers_parts_grow {X} {T} {S} f xs i d y x u v w p q r below s t =
 
 -- from nothing that waited, a text was gathered and then flushed: it was written
 pub flush_writes : {T S : Type 0} (x : T) (result : Result S Failed) (u v w : OutView) (p text : List ℕ) → GathersText {T = T} u v [] p (Ok x) text
-    → WritesText {E = Failed} {T = S} v w result p → WritesText {E = Failed} {T = S} u w result text
+    → WritesBytes {E = Failed} {T = S} v w result p → WritesBytes {E = Failed} {T = S} u w result text
 flush_writes {T} {S} x result u v w p text s t =
-    subst (WritesText {E = Failed} {T = S} u w result) s.ok.text_is
+    subst (WritesBytes {E = Failed} {T = S} u w result) s.ok.text_is
     (text_joins {E = Failed} {T = Unit {0}} {S = S} tt result u v w s.ok.gone p s.ok.wrote t)
 
 -- or it was not gathered, and a front of it is written
-pub stop_writes : {T S : Type 0} (u v : OutView) (p text : List ℕ) → GathersText {T = T} u v [] p (Err (record {})) text → WritesText {E = Failed} {T = S} u v (Err (record {})) text
+pub stop_writes : {T S : Type 0} (u v : OutView) (p text : List ℕ) → GathersText {T = T} u v [] p (Err (record {})) text → WritesBytes {E = Failed} {T = S} u v (Err (record {})) text
 stop_writes {T} {S} u v p text s =
-    subst (WritesText {E = Failed} {T = S} u v (Err (record {}))) (append-nil text) (text_stops {E = Failed} {T = T} {S = S} (record {}) u v text [] s.err)
+    subst (WritesBytes {E = Failed} {T = S} u v (Err (record {}))) (append-nil text) (text_stops {E = Failed} {T = T} {S = S} (record {}) u v text [] s.err)

@@ -4,7 +4,7 @@ use Rattle.std.proofs.Common.{ap, sym, subst, ◌∙◌, append_assoc, arith, le
 use Rattle.std.proofs.lemmas.List.{append-nil, take-append-le, take_all, take-append-drop, length-take-le}
 use Rattle.std.proofs.Math.Seq.{take-append-add, take-add}
 use Rattle.std.specs.Io.KnownBytes.{append_known}
-use Rattle.fugue_ids.specs.Outs.{OutView, OutTells, spent, Took, TookFront, IsSure, WritesSome, WritesText}
+use Rattle.fugue_ids.specs.Outs.{OutView, OutTells, spent, Took, TookFront, IsSure, WritesSome, WritesBytes}
 
 append_known-nil : (w : Option (List ℕ)) → append_known w [] ≡ w
 append_known-nil None = refl
@@ -73,7 +73,7 @@ sure_joins x (Err e) (Some r) (Some q) m n f0 f1 f2 is s t =
     record { fits = λ fit. t.fits (omega (arith, left, fit)); within = tt; calm = tt }
 
 -- nothing was to go out
-pub text_none : {E T : Type 0} (x : T) (v : OutView) → WritesText {E = E} {T = T} v v (Ok x) []
+pub text_none : {E T : Type 0} (x : T) (v : OutView) → WritesBytes {E = E} {T = T} v v (Ok x) []
 text_none {E} {T} x v = record { ok = took_none v v refl refl; err = tt; cause = record { later = omega arith; failed = tt }; sure = sure_none v.room v.faults; calm_told = λ tells. refl }
   where
     sure_none : (room : Option ℕ) (faults : ℕ) → IfSome room (λ r. IsSure {E = E} {T = T} r 0 faults faults (Ok x))
@@ -81,7 +81,7 @@ text_none {E} {T} x v = record { ok = took_none v v refl refl; err = tt; cause =
     sure_none (Some r) faults = record { fits = λ fit. tt; within = omega arith; calm = refl }
 
 -- the first of two texts failed
-pub text_stops : {E T S : Type 0} (e : E) (u v : OutView) (a b : List ℕ) → WritesText {E = E} {T = T} u v (Err e) a → WritesText {E = E} {T = S} u v (Err e) (a ++ b)
+pub text_stops : {E T S : Type 0} (e : E) (u v : OutView) (a b : List ℕ) → WritesBytes {E = E} {T = T} u v (Err e) a → WritesBytes {E = E} {T = S} u v (Err e) (a ++ b)
 text_stops {E} {T} {S} e u v a b s = record {
   ok = tt;
   err = front_longer u v a b s.err;
@@ -92,7 +92,7 @@ text_stops {E} {T} {S} e u v a b s = record {
 
 -- the first of two texts went out, and the second did or didn't
 pub text_joins : {E T S : Type 0} (x : T) (result : Result S E) (u v w : OutView) (a b : List ℕ)
-    → WritesText {E = E} {T = T} u v (Ok x) a → WritesText {E = E} {T = S} v w result b → WritesText {E = E} {T = S} u w result (a ++ b)
+    → WritesBytes {E = E} {T = T} u v (Ok x) a → WritesBytes {E = E} {T = S} v w result b → WritesBytes {E = E} {T = S} u w result (a ++ b)
 text_joins {E} {T} {S} x (Ok y) u v w a b s t = record {
   ok = took_joins u v w a b s.ok t.ok;
   err = tt;
@@ -126,7 +126,7 @@ sure_call E T x None n m before now is within calm = tt
 sure_call E T x (Some r) n m before now is within calm = record { fits = λ fit. tt; within = omega (arith, is, within); calm = calm }
 
 -- a call that took a front of the piece
-call_wrote : {E T : Type 0} (x : T) (v w : OutView) (piece : List ℕ) (n : ℕ) → WritesSome {E = E} v w (Ok n) piece → WritesText {E = E} {T = T} v w (Ok x) (take n piece)
+call_wrote : {E T : Type 0} (x : T) (v w : OutView) (piece : List ℕ) (n : ℕ) → WritesSome {E = E} v w (Ok n) piece → WritesBytes {E = E} {T = T} v w (Ok x) (take n piece)
 call_wrote {E} {T} x v w piece n t = record {
   ok = t.took;
   err = tt;
@@ -141,7 +141,7 @@ sure_full E S e None n before now full = tt
 sure_full E S e (Some r) n before now full = record { fits = λ fit. omega (arith, full.0, full.1, fit); within = tt; calm = tt }
 
 -- a call that failed
-call_failed : {E S : Type 0} (e : E) (v w : OutView) (piece : List ℕ) → WritesSome {E = E} v w (Err e) piece → WritesText {E = E} {T = S} v w (Err e) piece
+call_failed : {E S : Type 0} (e : E) (v w : OutView) (piece : List ℕ) → WritesSome {E = E} v w (Err e) piece → WritesBytes {E = E} {T = S} v w (Err e) piece
 call_failed {E} {S} e v w piece t = record {
   ok = tt;
   err = record { count = 0; within = omega arith; took = t.none };
@@ -151,7 +151,7 @@ call_failed {E} {S} e v w piece t = record {
 }
 
 -- what takes a text goes on telling
-pub text_tells : {E T : Type 0} (result : Result T E) (v w : OutView) (text : List ℕ) → WritesText {E = E} {T = T} v w result text → OutTells v → OutTells w
+pub text_tells : {E T : Type 0} (result : Result T E) (v w : OutView) (text : List ℕ) → WritesBytes {E = E} {T = T} v w result text → OutTells v → OutTells w
 text_tells (Ok x) v w text t = took_tells v w text t.ok
 text_tells (Err e) v w text t = took_tells v w (take t.err.count text) t.err.took
 
@@ -178,35 +178,35 @@ parts_step f (x ∷ xs) (suc i) d below =
 
 -- a text of parts, of which one did not go out
 pub parts_stop : {X E T S : Type 0} (f : X → List ℕ) (xs : List X) (i : ℕ) (d : X) (e : E) (x : T) (u v w : OutView) → i < length xs
-    → WritesText {E = E} {T = T} u v (Ok x) (flat_map f (take i xs)) → WritesText {E = E} {T = S} v w (Err e) (f (get_or xs i d))
-    → WritesText {E = E} {T = S} u w (Err e) (flat_map f xs)
+    → WritesBytes {E = E} {T = T} u v (Ok x) (flat_map f (take i xs)) → WritesBytes {E = E} {T = S} v w (Err e) (f (get_or xs i d))
+    → WritesBytes {E = E} {T = S} u w (Err e) (flat_map f xs)
 parts_stop {X} {E} {T} {S} f xs i d e x u v w below s t =
-    subst (WritesText {E = E} {T = S} u w (Err e)) (sym (parts_split f xs i d below))
+    subst (WritesBytes {E = E} {T = S} u w (Err e)) (sym (parts_split f xs i d below))
     (text_joins {E = E} {T = T} {S = S} x (Err e) u v w (flat_map f (take i xs)) (f (get_or xs i d) ++ flat_map f (drop (suc i) xs)) s
     (text_stops {E = E} {T = S} {S = S} e v w (f (get_or xs i d)) (flat_map f (drop (suc i) xs)) t))
 
 -- one part more went out
 pub parts_grow : {X E T S : Type 0} (f : X → List ℕ) (xs : List X) (i : ℕ) (d : X) (y : S) (x : T) (u v w : OutView) → i < length xs
-    → WritesText {E = E} {T = T} u v (Ok x) (flat_map f (take i xs)) → WritesText {E = E} {T = S} v w (Ok y) (f (get_or xs i d))
-    → WritesText {E = E} {T = S} u w (Ok y) (flat_map f (take (i + 1) xs))
+    → WritesBytes {E = E} {T = T} u v (Ok x) (flat_map f (take i xs)) → WritesBytes {E = E} {T = S} v w (Ok y) (f (get_or xs i d))
+    → WritesBytes {E = E} {T = S} u w (Ok y) (flat_map f (take (i + 1) xs))
 parts_grow {X} {E} {T} {S} f xs i d y x u v w below s t =
-    subst (WritesText {E = E} {T = S} u w (Ok y)) (sym (ap (λ (k : ℕ). flat_map f (take k xs)) (add-one i) ∙ parts_step f xs i d below))
+    subst (WritesBytes {E = E} {T = S} u w (Ok y)) (sym (ap (λ (k : ℕ). flat_map f (take k xs)) (add-one i) ∙ parts_step f xs i d below))
     (text_joins {E = E} {T = T} {S = S} x (Ok y) u v w (flat_map f (take i xs)) (f (get_or xs i d)) s t)
 
 -- one call more, behind a front of the piece that went out
 pub call_grows : {E T : Type 0} (x : T) (u v w : OutView) (piece : List ℕ) (at n : ℕ)
-    → WritesText {E = E} {T = T} u v (Ok x) (take at piece) → WritesSome {E = E} v w (Ok n) (take (length piece - at) (drop at piece))
-    → WritesText {E = E} {T = T} u w (Ok x) (take (at + n) piece)
+    → WritesBytes {E = E} {T = T} u v (Ok x) (take at piece) → WritesSome {E = E} v w (Ok n) (take (length piece - at) (drop at piece))
+    → WritesBytes {E = E} {T = T} u w (Ok x) (take (at + n) piece)
 call_grows {E} {T} x u v w piece at n s t =
-    subst (WritesText {E = E} {T = T} u w (Ok x)) (front_grows at n piece)
+    subst (WritesBytes {E = E} {T = T} u w (Ok x)) (front_grows at n piece)
     (text_joins {E = E} {T = T} {S = T} x (Ok x) u v w (take at piece) (take n (take (length piece - at) (drop at piece))) s
     (call_wrote {E = E} {T = T} x v w (take (length piece - at) (drop at piece)) n t))
 
 -- a call that failed, behind a front of the piece that went out
 pub call_stops : {E T S : Type 0} (x : T) (e : E) (u v w : OutView) (piece : List ℕ) (at : ℕ) → at < length piece
-    → WritesText {E = E} {T = T} u v (Ok x) (take at piece) → WritesSome {E = E} v w (Err e) (take (length piece - at) (drop at piece))
-    → WritesText {E = E} {T = S} u w (Err e) piece
+    → WritesBytes {E = E} {T = T} u v (Ok x) (take at piece) → WritesSome {E = E} v w (Err e) (take (length piece - at) (drop at piece))
+    → WritesBytes {E = E} {T = S} u w (Err e) piece
 call_stops {E} {T} {S} x e u v w piece at below s t =
-    subst (WritesText {E = E} {T = S} u w (Err e)) (take_front_rest at piece)
+    subst (WritesBytes {E = E} {T = S} u w (Err e)) (take_front_rest at piece)
     (text_joins {E = E} {T = T} {S = S} x (Err e) u v w (take at piece) (take (length piece - at) (drop at piece)) s
     (call_failed {E = E} {S = S} e v w (take (length piece - at) (drop at piece)) t))

@@ -52,7 +52,7 @@ pub record WritesSome {E : Type 0} (old new : OutView) (result : Result ℕ E) (
 
 -- A whole text: it goes out, or an error comes with a front of it gone out. Where the object tells, the count rises only
 -- with an error: no call that failed is made once more.
-pub record WritesText {E T : Type 0} (old new : OutView) (result : Result T E) (text : List ℕ) : Type 0 where
+pub record WritesBytes {E T : Type 0} (old new : OutView) (result : Result T E) (text : List ℕ) : Type 0 where
   pub ok : OnOk result (Took old new text)
   pub err : OnErr result (TookFront old new text)
   pub cause : HasCause old.faults new.faults result

@@ -1,12 +1,13 @@
 ghost use Rattle.std.specs.Prelude.{◌≡◌, ◌<◌, ◌≤◌, ◌+◌, [], ◌∷◌, ◌++◌, codes, flat_map, length, take, OnOk};
 ghost use Rattle.std.specs.Char.{encode_utf8};
 ghost use Rattle.fugue_ids.specs.Gathers.{GathersText};
-ghost use Rattle.fugue_ids.specs.Outs.{WritesText};
+ghost use Rattle.fugue_ids.specs.Outs.{WritesBytes};
 
 use crate::{BUFFER, Failed, Out, write_whole};
 use std::marker::Model;
 
-/// Bytes that wait to go out, so that small pieces leave in few writes. It is seen as the bytes that wait, and takes no memory.
+/// Bytes that wait to go out, so that small pieces leave in few writes. It is seen as the bytes that wait, and takes no
+/// memory.
 ///
 /// What still waits when the last piece was put goes out by `flush`.
 #[derive(Drop)]
@@ -52,7 +53,7 @@ impl Gather {
 
     /// Writes what waits. Nothing waits then, also where that failed.
     pub fn flush<O: Out>(&mut self, out: &mut O) -> Result<(), Failed>
-        ensures text { WritesText (O.seen out.old) (O.seen out.new) result self.old }
+        ensures text { WritesBytes (O.seen out.old) (O.seen out.new) result self.old }
         ensures empty { self.new ≡ [] }
     {
         let len = self.len;
@@ -85,7 +86,8 @@ impl Gather {
 
     /// Puts the pieces, one behind the other.
     pub fn put_pieces<O: Out>(&mut self, out: &mut O, pieces: &[&[u8]]) -> Result<(), Failed>
-        ensures { GathersText (O.seen out.old) (O.seen out.new) self.old self.new result (flat_map (λ piece. piece.now) pieces.now) }
+        ensures { GathersText (O.seen out.old) (O.seen out.new) self.old self.new result
+            (flat_map (λ piece. piece.now) pieces.now) }
     {
         for piece in pieces {
             self.put(out, piece)?;
@@ -104,7 +106,8 @@ impl Gather {
 
     /// Puts the line that heads a section.
     pub fn put_heading<O: Out>(&mut self, out: &mut O, title: &str) -> Result<(), Failed>
-        ensures { GathersText (O.seen out.old) (O.seen out.new) self.old self.new result (codes "# " ++ title.now ++ 10 ∷ []) }
+        ensures { GathersText (O.seen out.old) (O.seen out.new) self.old self.new result
+            (codes "# " ++ title.now ++ 10 ∷ []) }
     {
         self.put_pieces(out, &[b"# ", title.as_bytes(), b"\n"])
     }

@@ -1,15 +1,19 @@
 ghost use Rattle.std.specs.Prelude.{◌≡◌, ◌≢◌, ◌↔◌, All, AllPairs, Contains, IfSome, IsNone, List, [], nat_lt};
 ghost use Rattle.fugue_ids.specs.Identifiers.{Identifier};
-ghost use Rattle.fugue_ids.specs.Keys.{HasKey, IsFit, Keyed, between, first_id, first_low as first_low_in, front_of, ids, last_id, last_low as last_low_in, rest_of};
+ghost use Rattle.fugue_ids.specs.Keys.{HasKey, IsFit, Keyed, between, first_id, first_low as first_low_in, front_of};
+ghost use Rattle.fugue_ids.specs.Keys.{ids, last_id, last_low as last_low_in, rest_of};
 ghost use Rattle.fugue_ids.specs.Listed.{index_of, HoldsOrigin};
 
 use crate::{ElementId, Key};
 
-/// An order of distinct identifiers, each with a key that is fixed when it comes. Where there is one to ask for, `key` tells that they are distinct.
+/// An order of distinct identifiers, each with a key that is fixed when it comes. Where there is one to ask for, `key`
+/// tells that they are distinct.
 ///
-/// The searches are those that find a gap of a sided tree. A balanced tree that keeps the least key of each subtree answers each in logarithmic time.
+/// The searches are those that find a gap of a sided tree. A balanced tree that keeps the least key of each subtree
+/// answers each in logarithmic time.
 ///
-/// Keys are numbers of 32 bits. Two of the calls tell that they fit, so that a caller may search for the greatest key of a depth.
+/// Keys are numbers of 32 bits. Two of the calls tell that they fit, so that a caller may search for the greatest key
+/// of a depth.
 pub trait OrderOf {
     /// The identifiers with their keys, in order.
     ghost listed: { Self → List Keyed };
@@ -27,7 +31,8 @@ pub trait OrderOf {
         ensures distinct { AllPairs (λ x y. x ≢ y) (ids (listed self.now)) }
         ensures fit { All IsFit (listed self.now) };
 
-    /// The element directly behind this one; the first one behind the beginning. None comes back for one that is not listed or stands last.
+    /// The element directly behind this one; the first one behind the beginning. None comes back for one that is not
+    /// listed or stands last.
     fn behind(&self, id: Option<ElementId>) -> Option<ElementId>
         ensures { result ≡ first_id (rest_of id (listed self.now)) };
 
@@ -47,7 +52,8 @@ pub trait OrderOf {
         ensures found { result ≡ last_low_in most (front_of id (listed self.now)) }
         ensures fit { All IsFit (listed self.now) };
 
-    /// An element between the two, where there is one. A search by halves asks for it: the nearer to the middle, the fewer turns it takes.
+    /// An element between the two, where there is one. A search by halves asks for it: the nearer to the middle, the
+    /// fewer turns it takes.
     fn middle(&self, from: Option<ElementId>, to: Option<ElementId>) -> Option<ElementId>
         requires held { HoldsOrigin (ids (listed self.now)) from }
         requires behind { HoldsOrigin (ids (rest_of from (listed self.now))) to }

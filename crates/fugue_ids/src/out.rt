@@ -1,8 +1,22 @@
 ghost use Rattle.std.specs.Prelude.{[], ◌∷◌, ◌++◌, codes, flat_map};
 ghost use Rattle.std.specs.Char.{encode_utf8};
-ghost use Rattle.fugue_ids.specs.Outs.{OutView, WritesSome, WritesText};
+ghost use Rattle.fugue_ids.specs.Outs.{OutView, WritesSome, WritesBytes};
 
-use crate::{Failed, Gather};
+use crate::Gather;
+use std::error::Error;
+use std::fmt;
+
+/// A call on an object of the outside did not do what was asked. The object's count of faults rose.
+#[derive(Clone, Copy, Debug, PartialEq, Eq)]
+pub struct Failed;
+
+impl fmt::Display for Failed {
+    fn fmt<W: fmt::Write>(&self, f: &mut fmt::Formatter<W>) -> fmt::Result {
+        write!(f, "a read or a write failed")
+    }
+}
+
+impl Error for Failed {}
 
 /// Where bytes go out.
 pub trait Out {
@@ -16,7 +30,7 @@ pub trait Out {
 
 /// Writes the whole piece, or fails with a front of it written.
 pub fn write_whole<O: Out>(out: &mut O, piece: &[u8]) -> Result<(), Failed>
-    ensures { WritesText (O.seen out.old) (O.seen out.new) result piece.now }
+    ensures { WritesBytes (O.seen out.old) (O.seen out.new) result piece.now }
 {
     let mut at = 0;
     while at < piece.len() {
@@ -25,10 +39,10 @@ pub fn write_whole<O: Out>(out: &mut O, piece: &[u8]) -> Result<(), Failed>
     Ok(())
 }
 
-/// Writes the pieces, one behind the other, or fails with a front of them written. Pieces that fit into an array go out as
-/// one, so that the lines of two programs on one terminal do not mix.
+/// Writes the pieces, one behind the other, or fails with a front of them written. Pieces that fit into an array go out
+/// as one, so that the lines of two programs on one terminal do not mix.
 pub fn write_pieces<O: Out>(out: &mut O, pieces: &[&[u8]]) -> Result<(), Failed>
-    ensures { WritesText (O.seen out.old) (O.seen out.new) result (flat_map (λ piece. piece.now) pieces.now) }
+    ensures { WritesBytes (O.seen out.old) (O.seen out.new) result (flat_map (λ piece. piece.now) pieces.now) }
 {
     let mut gather = Gather::new();
     gather.put_pieces(out, pieces)?;
@@ -37,7 +51,7 @@ pub fn write_pieces<O: Out>(out: &mut O, pieces: &[&[u8]]) -> Result<(), Failed>
 
 /// Writes a scalar in UTF-8.
 pub fn write_scalar<O: Out>(out: &mut O, ch: char) -> Result<(), Failed>
-    ensures { WritesText (O.seen out.old) (O.seen out.new) result (encode_utf8 ch) }
+    ensures { WritesBytes (O.seen out.old) (O.seen out.new) result (encode_utf8 ch) }
 {
     let mut buffer = [0u8; 4];
     let text = ch.encode_utf8(&mut buffer);
@@ -46,7 +60,7 @@ pub fn write_scalar<O: Out>(out: &mut O, ch: char) -> Result<(), Failed>
 
 /// Writes the line that heads a section.
 pub fn write_heading<O: Out>(out: &mut O, title: &str) -> Result<(), Failed>
-    ensures { WritesText (O.seen out.old) (O.seen out.new) result (codes "# " ++ title.now ++ 10 ∷ []) }
+    ensures { WritesBytes (O.seen out.old) (O.seen out.new) result (codes "# " ++ title.now ++ 10 ∷ []) }
 {
     write_pieces(out, &[b"# ", title.as_bytes(), b"\n"])
 }

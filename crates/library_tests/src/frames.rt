@@ -82,7 +82,8 @@ fn operations_are_appended_one_behind_the_other(rt: HostRuntime) -> Result<(), F
     Ok(())
 }
 
-/// Whether the operation is written as this frame behind what stands there, whose fronts begin one, and which with a byte behind it is this operation's.
+/// Whether the operation is written as this frame behind what stands there, whose fronts begin one, and which with a
+/// byte behind it is this operation's.
 fn is_framed(rt: &HostRuntime, op: &Op, frame: &[u8]) -> Result<bool, Fail> {
     for len in 0..frame.len() {
         if !matches!(first_frame(rt.alloc(), &frame[..len])?, First::Prefix) {

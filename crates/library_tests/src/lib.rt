@@ -1,12 +1,11 @@
-//! The libraries below a replica, called as other crates call them: worked rows, and slow plain programs beside the fast ones.
+//! The libraries below a replica, called as other crates call them: worked rows, and slow plain programs beside the
+//! fast ones.
 //!
 //! There are tests here alone. Within its library each would be proved together with all of the library, once more.
 #![tactic(auto)]
 
 #[cfg(test)]
 mod assertions;
-#[cfg(test)]
-mod catalogue;
 #[cfg(test)]
 mod clusters;
 #[cfg(test)]

@@ -164,8 +164,8 @@ fn each_session_is_answered_as_its_text_asks_while_the_log_has_room(
     Ok(())
 }
 
-/// What four sessions say: a section and a text, with a byte behind the closing one; the text again, with more; a cursor
-/// that may come too early; and a surrogate at the end.
+/// What four sessions say: a section and a text, with a byte behind the closing one; the text again, with more; a
+/// cursor that may come too early; and a surrogate at the end.
 const TEXTS: [&[u8]; 4] = [
     &[
         72, 0, 0, 0, 0, 1, 0, 0, 0, 9, 0, 0, 0, 0, 0, 0, 0, 1, 84, 2, 0, 0, 0, 1, 0, 0, 0, 0, 0, 0,

@@ -1,7 +1,6 @@
 //! A store beside a plain list of cells, and worked rows.
 
 mod compared;
-mod guarded;
 mod plain;
 
 use crate::assertions::{equal, holds_at};
@@ -9,8 +8,7 @@ use crate::dice::Dice;
 use crate::ids::id;
 use compared::compare;
 use fugue_ids::{ElementId, Gap, NoMemory};
-use guarded::{hide, insert};
-use plain::{gap_position, id_at, is_continuing, new_key, position};
+use plain::{gap_position, hide, id_at, insert, is_continuing, new_key, position};
 use run_store::{Cell, RunStore};
 use std::alloc::Global;
 use std::mem::replace;

@@ -5,6 +5,7 @@ use crate::assertions::equal;
 use crate::ids::id;
 use fugue_ids::{ElementId, NoMemory};
 use outer_ports::MemSink;
+use section_catalogue::Manuscript;
 use section_list::SectionList;
 use std::alloc::Global;
 use std::process::Abort;
@@ -75,4 +76,18 @@ fn letters_stand_by_their_origins_and_are_found_among_all_and_among_the_visible(
     equal(&rt, list.after(Some(hidden)), Some(last));
     equal(&rt, list.after(Some(last)), None);
     drop(list);
+}
+
+#[test]
+fn a_new_manuscript_shows_nothing(rt: HostRuntime) {
+    let manuscript = Manuscript::new(rt.alloc());
+    equal(&rt, manuscript.section_count(), 0);
+    equal(&rt, manuscript.section_at(0), None);
+    equal(&rt, manuscript.place_of(id(1, 0)), None);
+    equal(&rt, manuscript.section(id(1, 0)).is_none(), true);
+    equal(&rt, manuscript.catalogue().len(), 0);
+    let mut output = MemSink::new(rt.alloc(), 16, Vec::new(rt.alloc()));
+    equal(&rt, manuscript.write_all(&mut output).is_ok(), true);
+    equal(&rt, output.written().len(), 0);
+    drop(manuscript);
 }

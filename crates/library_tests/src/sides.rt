@@ -1,7 +1,6 @@
-//! The public calls on a place of one element, and how often an order is asked in longer places. The crates above try places beside the plain
-//! replica.
+//! The public calls on a place of one element, and how often an order is asked in longer places. The crates above try
+//! places beside the plain replica.
 
-mod entry;
 mod place;
 mod plain_order;
 mod searches;

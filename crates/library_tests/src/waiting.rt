@@ -1,13 +1,11 @@
 //! What waits, beside plain vectors.
-
-mod gapped_beside_vector;
-mod queue_beside_vector;
-
 ghost use Rattle.std.specs.Prelude.{◌<◌};
+
+mod queue_beside_vector;
 
 use crate::assertions::{equal, equal_at, holds_at};
 use crate::ids::id;
-use causal_inbox::{Found, Inbox, PushFault};
+use causal_inbox::{Found, Inbox, PushFault, Queue};
 use fugue_ids::{ElementId, NoMemory, Op, Title};
 use origin_model::{PlainReplica, Verdict};
 use std::alloc::Global;
@@ -224,4 +222,41 @@ fn those_that_leave_in_reverse_leave_the_others_in_order(rt: HostRuntime) -> Res
     equal(&rt, first_naming(&mut inbox, id(2, 50)), Some(0));
     drop(inbox);
     Ok(filled?)
+}
+
+const ITEMS: [u64; 12] = [0, 1, 2, 3, 4, 5, 6, 7, 8, 9, 10, 11];
+
+/// Items leave an open queue at the positions, one after another, and leave a vector alike.
+fn leave_alike(rt: &impl Abort, alloc: Global, positions: &[usize]) -> Result<(), Fail> {
+    let mut vector = Vec::from_slice(alloc, &ITEMS)?;
+    let mut queue = Queue::new(alloc);
+    for item in ITEMS {
+        holds_at(rt, &item, queue.push(item).is_ok());
+    }
+    let mut open = queue.open();
+    for position in positions {
+        let position = *position;
+        if position < open.len() && position < vector.len() {
+            equal(rt, *open.get(position), vector[position]);
+            equal(rt, open.remove(position, 99), vector.remove(position));
+        } else {
+            holds_at(rt, &position, false);
+        }
+    }
+    equal(rt, open.close().as_slice(), vector.as_slice());
+    Ok(())
+}
+
+#[test]
+fn items_leave_around_a_gap_as_from_a_vector(rt: HostRuntime) -> Result<(), Fail> {
+    for positions in [
+        &[][..],
+        &[5, 4, 3, 2, 1, 0],
+        &[6, 6, 6, 6],
+        &[2, 7, 1, 8, 0],
+        &[11, 10, 3, 8],
+    ] {
+        leave_alike(&rt, rt.alloc(), positions)?;
+    }
+    Ok(())
 }

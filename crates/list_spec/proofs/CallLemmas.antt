@@ -5,12 +5,12 @@ use Rattle.std.proofs.lemmas.Bool.{le-ltb, ltb-false}
 use Rattle.std.proofs.lemmas.Bool.Decides.{nat_tests}
 use Rattle.std.proofs.lemmas.List.{length-take, take_all}
 use Rattle.fugue_ids.specs.Identifiers.{Identifier}
-use Rattle.origin_model.specs.declared.operations.place.Place.TheVariants.{Catalogue as catalogue, Section as within}
+use Rattle.origin_model.specs.declared.operations.Place.TheVariants.{Catalogue as catalogue, Section as within}
 use Rattle.origin_model.specs.order.Printed.{shown}
 use Rattle.origin_model.specs.edits.Edits.{Add, Command, Cut, DropSection, Put, put_in}
 use Rattle.origin_model.proofs.edits.MadeLemmas.{cut_front, drop_made, put_front}
 use Rattle.origin_model.specs.edits.State.{State}
-use Rattle.origin_model.specs.edits.Refusal.{held_count, in_range, in_section, made_by, next_of_own, refusal, refused_elements, refused_ops, section_shown, shown_count}
+use Rattle.origin_model.specs.edits.Refusal.{held_count, in_range, in_section, made_by, next_of_own, refusal_message, refused_elements, refused_ops, section_shown, shown_count}
 use Rattle.origin_model.specs.edits.Effect.{LeavesUnmade, StopsPartly, with_ops}
 use Rattle.origin_model.specs.declared.edit_fault.EditFault.{EditFault}
 use Rattle.origin_model.specs.declared.edit_fault.EditFault.TheVariants.{IdsSpent, NoMemory, NoSection, OutOfRange, TooMany}
@@ -40,7 +40,7 @@ named_section : (o : Option Identifier) (cause : Identifier → Option EditFault
 named_section None cause m e = cc e
 named_section (Some x) cause m e = m x e
 
-named : (command : Command) (s : State) → IsNamed (refusal s command)
+named : (command : Command) (s : State) → IsNamed (refusal_message s command)
 named (Put k at new) s =
     named_section (section_shown s k) (λ x. in_range at (shown_count s (within x)) (refused_elements s (length new)))
     (λ x. named_range at (shown_count s (within x)) (refused_elements s (length new)) (named_elements s (length new)))
@@ -68,7 +68,7 @@ pub range_none : (position count : ℕ) (rest : Option EditFault) → position �
 range_none position count rest l e = ap (λ b. if b then Some OutOfRange else rest) (le-ltb count position l) ∙ e
 
 -- a smaller put, and a smaller cut, are not refused either
-smaller_put : (s : State) (k at j : ℕ) (new : List ℕ) → refusal s (Put k at new) ≡ None → refusal s (Put k at (take j new)) ≡ None
+smaller_put : (s : State) (k at j : ℕ) (new : List ℕ) → refusal_message s (Put k at new) ≡ None → refusal_message s (Put k at (take j new)) ≡ None
 smaller_put s k at j new e =
     let x = section_there (section_shown s k) (λ x. in_range at (shown_count s (within x)) (refused_elements s (length new))) e in
     let r = position_within at (shown_count s (within x.0)) (refused_elements s (length new)) x.2 in
@@ -76,7 +76,7 @@ smaller_put s k at j new e =
     ap (λ o. in_section o (λ x. in_range at (shown_count s (within x)) (refused_elements s n))) x.1
     ∙ range_none at (shown_count s (within x.0)) (refused_elements s n) r.0 (fewer_elements s n (length new) (omega (arith, length-take j new)) r.1)
 
-smaller_cut : (s : State) (k at j n : ℕ) → j ≤ n → refusal s (Cut k at n) ≡ None → refusal s (Cut k at j) ≡ None
+smaller_cut : (s : State) (k at j n : ℕ) → j ≤ n → refusal_message s (Cut k at n) ≡ None → refusal_message s (Cut k at j) ≡ None
 smaller_cut s k at j n l e =
     let x = section_there (section_shown s k) (λ x. in_range (at + n) (shown_count s (within x)) (refused_ops s n)) e in
     let r = position_within (at + n) (shown_count s (within x.0)) (refused_ops s n) x.2 in
@@ -89,9 +89,9 @@ nothing_made s =
     elim (slice_get (shown catalogue s.held.history) 0) as (λ z. elim z [ None ↦ [] | Some x ↦ put_in s.number s.held.history s.held.waiting x 0 [] ] ≡ []) [ None ↦ refl | Some x ↦ refl ]
 
 makes_nothing : (s : State) → effect s (Put 0 0 []) ≡ []
-makes_nothing s = by_refusal (refusal s (Put 0 0 [])) refl
+makes_nothing s = by_refusal (refusal_message s (Put 0 0 [])) refl
   where
-    by_refusal : (o : Option EditFault) → refusal s (Put 0 0 []) ≡ o → effect s (Put 0 0 []) ≡ []
+    by_refusal : (o : Option EditFault) → refusal_message s (Put 0 0 []) ≡ o → effect s (Put 0 0 []) ≡ []
     by_refusal None e = made_whole (Put 0 0 []) s e ∙ nothing_made s
     by_refusal (Some fault) e = made_none (Put 0 0 []) s fault e
 
@@ -104,10 +104,10 @@ no_part : (command : Command) (s : State) (j : ℕ) → j ≡ 0 → IsPart comma
 no_part command s j e = (Put 0 0 [], makes_nothing s ∙ ap (λ n. take n (effect s command)) (sym e))
 
 -- the first ones, by those of the edit that is not refused
-part_by : (command done : Command) (s : State) (j : ℕ) → refusal s command ≡ None → refusal s done ≡ None → take j (made_by s command) ≡ made_by s done → IsPart command s j
+part_by : (command done : Command) (s : State) (j : ℕ) → refusal_message s command ≡ None → refusal_message s done ≡ None → take j (made_by s command) ≡ made_by s done → IsPart command s j
 part_by command done s j e f is = (done, made_whole done s f ∙ sym is ∙ ap (take j) (sym (made_whole command s e)))
 
-smaller : (command : Command) (s : State) (j : ℕ) → refusal s command ≡ None → j < length (made_by s command) → IsPart command s j
+smaller : (command : Command) (s : State) (j : ℕ) → refusal_message s command ≡ None → j < length (made_by s command) → IsPart command s j
 smaller (Put k at new) s j e l =
     part_by (Put k at new) (Put k at (take j new)) s j e (smaller_put s k at j new e) (put_front s.number s.held.history s.held.waiting k j at new)
 smaller (Cut k at n) s j e l =
@@ -132,10 +132,10 @@ same_unmade command old new NoMemory n l = absurd (n refl)
 same_unmade command old new _ n l = l
 
 -- what was not refused for another cause is not refused
-not_refused : (command : Command) (old : State) → ((fault : EditFault) → refusal old command ≡ Some fault → ⊥) → refusal old command ≡ None
-not_refused command old f = by_refusal (refusal old command) refl
+not_refused : (command : Command) (old : State) → ((fault : EditFault) → refusal_message old command ≡ Some fault → ⊥) → refusal_message old command ≡ None
+not_refused command old f = by_refusal (refusal_message old command) refl
   where
-    by_refusal : (o : Option EditFault) → refusal old command ≡ o → refusal old command ≡ None
+    by_refusal : (o : Option EditFault) → refusal_message old command ≡ o → refusal_message old command ≡ None
     by_refusal None e = e
     by_refusal (Some fault) e = absurd (f fault e)
 
@@ -154,7 +154,7 @@ refused_is command old new fault other call =
 -- one that memory was wanting for
 stopped_is : (command : Command) (old new : State) → IsEditCall command old new (Err NoMemory) → IsEdit command old new (Err NoMemory)
 stopped_is command old new call =
-    let e : refusal old command ≡ None = not_refused command old other in
+    let e : refusal_message old command ≡ None = not_refused command old other in
     let stop : StopsPartly old new (made_by old command) = call.unmade in
     let part = smaller command old stop.count e stop.fewer in
     record {
@@ -165,7 +165,7 @@ stopped_is command old new call =
       whole = λ n. absurd (n refl);
     }
   where
-    other : (fault : EditFault) → refusal old command ≡ Some fault → ⊥
+    other : (fault : EditFault) → refusal_message old command ≡ Some fault → ⊥
     other fault k =
         let named_one : fault ≢ NoMemory = λ d. named command old (k ∙ ap Some d) in
         let same : Err NoMemory ≡ Err fault = (call.refused fault named_one).1 k in
@@ -174,7 +174,7 @@ stopped_is command old new call =
 -- one that made its edit
 made_is : (command : Command) (old new : State) (n : ℕ) → IsEditCall command old new (Ok n) → IsEdit command old new (Ok n)
 made_is command old new n call =
-    let e : refusal old command ≡ None = not_refused command old other in
+    let e : refusal_message old command ≡ None = not_refused command old other in
     record {
       done = command;
       is = call.made.gained.others ∙ sym (ap (with_ops old) (made_whole command old e));
@@ -183,7 +183,7 @@ made_is command old new n call =
       whole = λ m. refl;
     }
   where
-    other : (fault : EditFault) → refusal old command ≡ Some fault → ⊥
+    other : (fault : EditFault) → refusal_message old command ≡ Some fault → ⊥
     other fault k = cc ((call.refused fault (λ d. named command old (k ∙ ap Some d))).1 k)
 
 -- every call that edits is an edit of the world

@@ -6,12 +6,12 @@ use Rattle.fugue_ids.specs.Identifiers.{Identifier}
 use Rattle.fugue_ids.specs.declared.op.Op.{Op}
 use Rattle.fugue_ids.specs.declared.op.Op.TheVariants.{Delete, Text}
 use Rattle.fugue_ids.proofs.ListLemmas.{all_from_contains}
-use Rattle.origin_model.specs.declared.operations.place.Place.TheVariants.{Catalogue as catalogue, Section as within}
+use Rattle.origin_model.specs.declared.operations.Place.TheVariants.{Catalogue as catalogue, Section as within}
 use Rattle.origin_model.specs.operations.Verdict.{Lawful}
 use Rattle.origin_model.specs.order.Printed.{shown}
-use Rattle.origin_model.specs.edits.Edits.{Add, Command, Cut, DropSection, Put, ReadyInTurn, added, cut_in, deletes_of, id_at, left_for, made, next_counter, put_in, right_for, typed}
+use Rattle.origin_model.specs.edits.Edits.{Add, Command, Cut, DropSection, Put, ReadyInTurn, op_of_add, cut_in, deletes_of, id_at, left_for, made, next_counter, put_in, right_for, typed}
 use Rattle.origin_model.specs.edits.State.{State}
-use Rattle.origin_model.specs.edits.Refusal.{made_by, refusal}
+use Rattle.origin_model.specs.edits.Refusal.{made_by, refusal_message}
 use Rattle.origin_model.specs.edits.Effect.{Lands, with_ops}
 use Rattle.origin_model.specs.declared.edit_fault.EditFault.{EditFault}
 use Rattle.origin_model.proofs.edits.RefusalLemmas.{edit_lands, made_ready}
@@ -19,11 +19,11 @@ use Rattle.list_spec.specs.Worlds.{edited, effect}
 use Rattle.list_spec.proofs.PoolLemmas.{IsBy}
 
 -- an edit that is not refused makes its operations
-pub made_whole : (command : Command) (s : State) → refusal s command ≡ None → effect s command ≡ made_by s command
+pub made_whole : (command : Command) (s : State) → refusal_message s command ≡ None → effect s command ≡ made_by s command
 made_whole command s e = ap (λ o. elim o [ None ↦ made_by s command | Some fault ↦ [] ]) e
 
 -- one that is refused makes nothing
-pub made_none : (command : Command) (s : State) (fault : EditFault) → refusal s command ≡ Some fault → effect s command ≡ []
+pub made_none : (command : Command) (s : State) (fault : EditFault) → refusal_message s command ≡ Some fault → effect s command ≡ []
 made_none command s fault e = ap (λ o. elim o [ None ↦ made_by s command | Some fault ↦ [] ]) e
 
 -- the operations are by their replica
@@ -45,7 +45,7 @@ made_are_by r h w (Cut k at n) =
       | None ↦ All-nil (IsBy r)
       | Some s ↦ deletes_by r (take n (drop at (shown (within s) h)))
     ]
-made_are_by r h w (Add at title) = All-cons (IsBy r) (added r h w at title) [] refl (All-nil (IsBy r))
+made_are_by r h w (Add at title) = All-cons (IsBy r) (op_of_add r h w at title) [] refl (All-nil (IsBy r))
 made_are_by r h w (DropSection k) =
     elim (slice_get (shown catalogue h) k) as (λ z. All (IsBy r) (elim z [ None ↦ [] | Some s ↦ Delete s ∷ [] ])) [
       | None ↦ All-nil (IsBy r)
@@ -58,13 +58,13 @@ pub record IsEffect (s : State) (ops : List Op) : Type 0 where
   pub by : All (IsBy s.number) ops
 
 pub effect_is : (command : Command) (s : State) → Lawful s.held.history → IsEffect s (effect s command)
-effect_is command s w = by_refusal (refusal s command) refl
+effect_is command s w = by_refusal (refusal_message s command) refl
   where
-    by_refusal : (o : Option EditFault) → refusal s command ≡ o → IsEffect s (effect s command)
+    by_refusal : (o : Option EditFault) → refusal_message s command ≡ o → IsEffect s (effect s command)
     by_refusal None e =
         subst (IsEffect s) (sym (made_whole command s e)) (record { ready = made_ready command s w e; by = made_are_by s.number s.held.history s.held.waiting command })
     by_refusal (Some fault) e = subst (IsEffect s) (sym (made_none command s fault e)) (record { ready = tt; by = All-nil (IsBy s.number) })
 
 -- an edit that is not refused lands where it was asked
-pub lands : (command : Command) (s : State) → Lawful s.held.history → refusal s command ≡ None → Lands s (edited command s) command
+pub lands : (command : Command) (s : State) → Lawful s.held.history → refusal_message s command ≡ None → Lands s (edited command s) command
 lands command s w e = edit_lands command s (edited command s) w e (ap (with_ops s) (made_whole command s e))

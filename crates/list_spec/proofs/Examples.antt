@@ -4,17 +4,17 @@ use Rattle.std.specs.Prelude.{None, Option, Some, codes}
 use Rattle.fugue_ids.specs.Identifiers.{Identifier}
 use Rattle.fugue_ids.specs.declared.op.Op.{Op}
 use Rattle.fugue_ids.specs.declared.op.Op.TheVariants.{Delete, Section, Text}
-use Rattle.origin_model.specs.declared.operations.verdict.Verdict.TheVariants.{Conflict, Ready}
+use Rattle.origin_model.specs.declared.operations.Verdict.TheVariants.{Conflict, Ready}
 use Rattle.origin_model.specs.operations.Verdict.{Lawful, verdict}
 use Rattle.origin_model.specs.order.Order.{chain, order}
 use Rattle.origin_model.specs.order.Printed.{text}
-use Rattle.origin_model.specs.taking.Taking.{nothing, settle}
+use Rattle.origin_model.specs.taking.Taking.{nothing_held, settle}
 use Rattle.origin_model.specs.edits.Edits.{Add, Cut, Put, id_at}
 use Rattle.origin_model.specs.edits.State.{State}
 use Rattle.list_spec.specs.Worlds.{Deliver, Edit, Event, World, world}
 
 abbrev replica : ℕ → State
-replica n = record { number = n; hold = 10; most = 100; held = nothing }
+replica n = record { number = n; hold = 10; most = 100; held = nothing_held }
 
 abbrev both : List State
 both = replica 1 ∷ replica 2 ∷ []
@@ -82,7 +82,7 @@ never_made = refl
 
 -- two replicas with one number, of which one has little room: both give one identifier to different texts, and the pool is not lawful
 abbrev one_number : List State
-one_number = record { number = 1; hold = 10; most = 2; held = nothing } ∷ replica 1 ∷ []
+one_number = record { number = 1; hold = 10; most = 2; held = nothing_held } ∷ replica 1 ∷ []
 
 number_shared : Lawful (world one_number (Edit 1 (Add 0 (codes "T")) ∷ Edit 1 (Put 0 0 (codes "ab")) ∷ Edit 1 (Put 0 0 (codes "c")) ∷ [])).pool → ⊥
 unfolding order chain verdict

@@ -8,7 +8,7 @@ use Rattle.origin_model.specs.order.Laws.{IsPartOf}
 use Rattle.origin_model.specs.order.Printed.{is_hidden}
 use Rattle.origin_model.proofs.SharedLemmas.{lawful_own, parts_keep_order}
 use Rattle.origin_model.specs.edits.State.{State}
-use Rattle.origin_model.specs.edits.Refusal.{refusal}
+use Rattle.origin_model.specs.edits.Refusal.{refusal_message}
 use Rattle.origin_model.specs.edits.Effect.{Lands}
 use Rattle.list_spec.specs.StrongList.{EditsLand, IsOneList, IsView, StrongList}
 use Rattle.list_spec.specs.Worlds.{World, after_events, edited, world}
@@ -44,4 +44,4 @@ strong_list replicas earlier later new =
 pub edits_land : EditsLand
 edits_land replicas events command new =
     let w : World = world replicas events in
-    All-weaker (IsMember w.pool) (λ (s : State). refusal s command ≡ None → Lands s (edited command s) command) (λ s m e. lands command s m.lawful e) w.replicas (world_sound replicas events new).members
+    All-weaker (IsMember w.pool) (λ (s : State). refusal_message s command ≡ None → Lands s (edited command s) command) (λ s m e. lands command s m.lawful e) w.replicas (world_sound replicas events new).members

@@ -7,7 +7,7 @@ use Rattle.fugue_ids.specs.Identifiers.{Identifier}
 use Rattle.fugue_ids.specs.Ops.{id_of, op_eq}
 use Rattle.fugue_ids.specs.declared.op.Op.{Op}
 use Rattle.fugue_ids.proofs.OpLemmas.{op_eq-refl}
-use Rattle.origin_model.specs.declared.operations.verdict.Verdict.TheVariants.{Ready}
+use Rattle.origin_model.specs.declared.operations.Verdict.TheVariants.{Ready}
 use Rattle.origin_model.specs.operations.History.{has_op, holds, is_own}
 use Rattle.origin_model.specs.operations.Verdict.{Lawful, id_held, names, verdict}
 use Rattle.origin_model.specs.order.Laws.{IsPartOf}

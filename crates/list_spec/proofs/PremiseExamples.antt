@@ -9,10 +9,10 @@ use Rattle.fugue_ids.specs.Identifiers.{Identifier, id_eq}
 use Rattle.fugue_ids.specs.declared.op.Op.{Op}
 use Rattle.fugue_ids.specs.declared.op.Op.TheVariants.{Section}
 use Rattle.origin_model.specs.order.Order.{chain, order}
-use Rattle.origin_model.specs.taking.Taking.{nothing}
+use Rattle.origin_model.specs.taking.Taking.{nothing_held}
 use Rattle.origin_model.specs.edits.Edits.{Add, Command, id_at}
 use Rattle.origin_model.specs.edits.State.{State}
-use Rattle.origin_model.specs.edits.Refusal.{RefusesExactly, refusal}
+use Rattle.origin_model.specs.edits.Refusal.{RefusesExactly, refusal_message}
 use Rattle.origin_model.specs.edits.Effect.{IsMade, Lands, LeavesUnmade}
 use Rattle.origin_model.specs.declared.edit_fault.EditFault.{EditFault}
 use Rattle.origin_model.specs.declared.edit_fault.EditFault.TheVariants.{NoMemory, NoSection}
@@ -32,7 +32,7 @@ one_number : (s : State) → AllPairs (λ m n. m ≢ n) (numbers (s ∷ []))
 one_number s = AllPairs-cons (λ m n. m ≢ n) s.number [] (All-nil (λ n. s.number ≢ n)) (all_pairs_nil (λ m n. m ≢ n))
 
 alone : AreNew (new_one ∷ [])
-alone = record { distinct = one_number new_one; empty = All-cons (λ (s : State). s.held ≡ nothing) new_one [] refl (All-nil (λ (s : State). s.held ≡ nothing)) }
+alone = record { distinct = one_number new_one; empty = All-cons (λ (s : State). s.held ≡ nothing_held) new_one [] refl (All-nil (λ (s : State). s.held ≡ nothing_held)) }
 
 abbrev the_section : Op
 the_section = Section (id_at 1 0) None None (codes "T")
@@ -55,11 +55,11 @@ second_is_it xs = elim (slice_get xs 1) [ None ↦ false | Some x ↦ id_eq x (i
 
 edits_land_empty :
     ((replicas : List State) (events : List Event) (command : Command) → AllPairs (λ m n. m ≢ n) (numbers replicas)
-    → All (λ (s : State). refusal s command ≡ None → Lands s (edited command s) command) (world replicas events).replicas) → ⊥
+    → All (λ (s : State). refusal_message s command ≡ None → Lands s (edited command s) command) (world replicas events).replicas) → ⊥
 unfolding order chain
 edits_land_empty law =
     let add : Command = Add 1 (codes "U") in
-    let lands : Lands twice (edited add twice) add = All-head (λ (s : State). refusal s add ≡ None → Lands s (edited add s) add) twice [] (law (twice ∷ []) [] add (one_number twice)) refl in
+    let lands : Lands twice (edited add twice) add = All-head (λ (s : State). refusal_message s add ≡ None → Lands s (edited add s) add) twice [] (law (twice ∷ []) [] add (one_number twice)) refl in
     true≢false (ap second_is_it lands.splices.here)
 
 -- a refused edit does not land: there is no such position

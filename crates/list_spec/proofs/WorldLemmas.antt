@@ -10,7 +10,7 @@ use Rattle.fugue_ids.proofs.ListLemmas.{all_before, all_behind, all_from_map, al
 use Rattle.origin_model.specs.operations.History.{has_op}
 use Rattle.origin_model.specs.operations.Verdict.{Lawful}
 use Rattle.origin_model.specs.order.Laws.{IsPartOf}
-use Rattle.origin_model.specs.taking.Taking.{Held, nothing}
+use Rattle.origin_model.specs.taking.Taking.{Held, nothing_held}
 use Rattle.origin_model.specs.edits.Edits.{Command, id_at}
 use Rattle.origin_model.proofs.edits.MadeLemmas.{ready_lawful}
 use Rattle.origin_model.specs.edits.State.{State}
@@ -195,7 +195,7 @@ events_sound w [] g = g
 events_sound w (event ∷ events) g = events_sound (after_event w event) events (event_sound w event g)
 
 -- a replica that holds nothing
-empty_member : (s : State) → s.held ≡ nothing → IsMember [] s
+empty_member : (s : State) → s.held ≡ nothing_held → IsMember [] s
 empty_member s e =
     subst (λ (x : Held). IsMember [] (record s { held = x })) (sym e)
     (record { lawful = tt; history_part = λ x k. k; waiting_part = λ x k. k; own = λ c k. absurd (false≢true k) })
@@ -204,7 +204,7 @@ empty_member s e =
 pub world_sound : (replicas : List State) (events : List Event) → AreNew replicas → IsSound (world replicas events)
 world_sound replicas events new =
     events_sound (record { replicas = replicas; pool = [] }) events
-    (record { lawful = tt; distinct = new.distinct; members = All-weaker (λ (s : State). s.held ≡ nothing) (IsMember []) (λ s e. empty_member s e) replicas new.empty })
+    (record { lawful = tt; distinct = new.distinct; members = All-weaker (λ (s : State). s.held ≡ nothing_held) (IsMember []) (λ s e. empty_member s e) replicas new.empty })
 
 -- no event takes from the pool
 event_keeps : (w : World) (event : Event) → IsPartOf w.pool (after_event w event).pool

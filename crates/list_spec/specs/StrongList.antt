@@ -1,7 +1,7 @@
 -- The strong list specification (Attiya and others, "Specification and Complexity of Collaborative Text Editing"): one order over all elements that were ever inserted, and every list that any replica shows at any moment is in it, with exactly the elements that the replica accepted and that no Delete it accepted names; and an edit lands where it was asked.
 use Rattle.std.specs.Prelude.{◌≡◌, None, not, List, ◌++◌, filter, All, AllPairs}
 use Rattle.fugue_ids.specs.declared.op.Op.{Op}
-use Rattle.origin_model.specs.declared.operations.place.Place.{Place}
+use Rattle.origin_model.specs.declared.operations.Place.{Place}
 use Rattle.origin_model.specs.operations.History.{holds}
 use Rattle.origin_model.specs.operations.Verdict.{Lawful}
 use Rattle.origin_model.specs.order.Laws.{IsPartOf}
@@ -10,7 +10,7 @@ use Rattle.origin_model.specs.order.Printed.{is_hidden, shown}
 use Rattle.origin_model.specs.edits.Edits.{Command}
 use Rattle.origin_model.specs.operations.History.{HaveOtherIds}
 use Rattle.origin_model.specs.edits.State.{State}
-use Rattle.origin_model.specs.edits.Refusal.{refusal}
+use Rattle.origin_model.specs.edits.Refusal.{refusal_message}
 use Rattle.origin_model.specs.edits.Effect.{Lands}
 use Rattle.list_spec.specs.Worlds.{AreNew, Event, edited, world}
 
@@ -35,4 +35,4 @@ StrongList = (replicas : List State) (earlier later : List Event) → AreNew rep
 abbrev pub EditsLand : Type 0
 EditsLand =
     (replicas : List State) (events : List Event) (command : Command) → AreNew replicas
-    → All (λ (s : State). refusal s command ≡ None → Lands s (edited command s) command) (world replicas events).replicas
+    → All (λ (s : State). refusal_message s command ≡ None → Lands s (edited command s) command) (world replicas events).replicas

@@ -3,10 +3,10 @@
 use Rattle.std.specs.Prelude.{◌≡◌, ◌≢◌, ℕ, nat_eq, if◌then◌else◌, Some, None, List, [], ◌∷◌, map, flat_map, All, AllPairs}
 use Rattle.fugue_ids.specs.declared.op.Op.{Op}
 use Rattle.origin_model.specs.operations.History.{has_op}
-use Rattle.origin_model.specs.taking.Taking.{intake, nothing}
+use Rattle.origin_model.specs.taking.Taking.{intake, nothing_held}
 use Rattle.origin_model.specs.edits.Edits.{Command}
 use Rattle.origin_model.specs.edits.State.{State}
-use Rattle.origin_model.specs.edits.Refusal.{made_by, refusal}
+use Rattle.origin_model.specs.edits.Refusal.{made_by, refusal_message}
 use Rattle.origin_model.specs.edits.Effect.{with_ops}
 
 -- what happens in a world, one at a time
@@ -27,11 +27,11 @@ numbers replicas = map (λ (s : State). s.number) replicas
 -- replicas with distinct numbers that hold nothing yet
 pub record AreNew (replicas : List State) : Type 0 where
   pub distinct : AllPairs (λ m n. m ≢ n) (numbers replicas)
-  pub empty : All (λ (s : State). s.held ≡ nothing) replicas
+  pub empty : All (λ (s : State). s.held ≡ nothing_held) replicas
 
 -- the operations of an edit: none where it is refused
 abbrev pub effect : State → Command → List Op
-effect s command = elim (refusal s command) [ None ↦ made_by s command | Some fault ↦ [] ]
+effect s command = elim (refusal_message s command) [ None ↦ made_by s command | Some fault ↦ [] ]
 
 -- the replica behind an edit
 abbrev pub edited : Command → State → State

@@ -4,7 +4,9 @@ ghost use Rattle.origin_model.specs.edits.Passages.{BeforeRight, ByIdentifier, N
 ghost use Rattle.list_spec.specs.Calls.{CallsAreEdits};
 ghost use Rattle.list_spec.specs.StrongList.{EditsLand, StrongList};
 
-/// Over every list of edits and deliveries there is one order of all elements ever inserted, and every replica shows its elements in it at every moment; an edit that is not refused lands where it was asked. This is the strong list specification.
+/// Over every list of edits and deliveries there is one order of all elements ever inserted, and every replica shows
+/// its elements in it at every moment; an edit that is not refused lands where it was asked. This is the strong list
+/// specification.
 ///
 /// The replicas begin with nothing and have distinct numbers. It is not promised that anything is ever delivered.
 pub fn strong_list()
@@ -13,12 +15,14 @@ pub fn strong_list()
     ensures calls { CallsAreEdits }
 {}
 
-/// An element and all elements whose chains of left origins pass it stand without a gap, the element first, in every lawful history, whoever made it.
+/// An element and all elements whose chains of left origins pass it stand without a gap, the element first, in every
+/// lawful history, whoever made it.
 pub fn together()
     ensures { Together }
 {}
 
-/// The other elements with an element's left origin whose chains of right origins pass it, and all whose chains of left origins pass one of those, stand without a gap directly before it.
+/// The other elements with an element's left origin whose chains of right origins pass it, and all whose chains of left
+/// origins pass one of those, stand without a gap directly before it.
 pub fn before_right()
     ensures { BeforeRight }
 {}
@@ -28,7 +32,8 @@ pub fn by_identifier()
     ensures { ByIdentifier }
 {}
 
-/// Two passages that were begun at one place are never mixed: all of one stands before all of the other, whether each was written forwards or backwards.
+/// Two passages that were begun at one place are never mixed: all of one stands before all of the other, whether each
+/// was written forwards or backwards.
 pub fn never_mixed()
     ensures { NeverMixed }
 {}

@@ -1,4 +1,5 @@
-//! Every interleaving: what is so of all replicas of one manuscript, however edits and deliveries follow one another, and how concurrent insertions stand in every lawful history.
+//! Every interleaving: what is so of all replicas of one manuscript, however edits and deliveries follow one another,
+//! and how concurrent insertions stand in every lawful history.
 #![tactic(auto)]
 
 mod laws;

@@ -114,8 +114,8 @@ const WRITING: &[Step] = &[
     (Author::Ben, "edit F", "add 1 U\n", "", "made 1\n"),
 ];
 
-/// Both exchange their files with the relay: the first author twice, the second time from the cursor on that was noted, so
-/// that nothing comes again.
+/// Both exchange their files with the relay: the first author twice, the second time from the cursor on that was noted,
+/// so that nothing comes again.
 const MEETING: &[Step] = &[
     (
         Author::Ann,

@@ -3,7 +3,7 @@ use Rattle.std.proofs.Common.{◌≡◌, ◌≢◌, [], ap, refl, subst, sym, �
 use Rattle.std.specs.Prelude.{Err, IfSome, IsErrOf, IsSome, None, Option, Result, Some}
 use Rattle.outer_ports.specs.Sources.{KeepsCount, SourceView}
 use Rattle.outer_ports.specs.disk.Moments.{History, after}
-use Rattle.outer_ports.specs.disk.States.{settled}
+use Rattle.outer_ports.specs.disk.States.{durable}
 use Rattle.manuscript_cli.specs.Crashes.{IsFinished}
 use Rattle.manuscript_cli.specs.Giving.{MayEnd}
 use Rattle.manuscript_cli.specs.Refusal.{status_of}
@@ -24,7 +24,7 @@ pub still_not_blamed : {T U : Type 0} (why : Refusal) → (IsErrOf {T = T} (Err 
 still_not_blamed why not is = let outside : why ≡ refusal.Outside = cc is in not (ap Err outside)
 
 -- a file that was settled tells as before
-pub settled_tells : (old new : Option History) → new ≡ after settled old → IsSome old → IsSome new
+pub settled_tells : (old new : Option History) → new ≡ after durable old → IsSome old → IsSome new
 settled_tells None new is some = cc some
 settled_tells (Some h) new is some = subst (λ (o : Option History). IsSome o) (sym is) refl
 

@@ -6,11 +6,11 @@ use Rattle.fugue_ids.specs.declared.op.Op.{Op}
 use Rattle.origin_model.specs.files.Image.{has_header}
 use Rattle.outer_ports.specs.disk.Disks.{DiskView}
 use Rattle.outer_ports.specs.disk.Moments.{History, LeavesOnly, LeavesOnlyTo, after, moments, stepped}
-use Rattle.outer_ports.specs.disk.States.{IsHonest, at_rest, settled}
+use Rattle.outer_ports.specs.disk.States.{IsHonest, at_rest, durable}
 use Rattle.outer_ports.proofs.SharedLemmas.{honest_at_rest, image_at_rest, last_leaves, leaves_more, leaves_none}
 use Rattle.replica_file.proofs.AppendLemmas.{same_content}
 use Rattle.manuscript_cli.specs.Crashes.{IsFinished, IsSafe, NeverTorn, StaysSafe}
-use Rattle.manuscript_cli.specs.Files.{GainsAllOrNone, HasOps, HasOpsOr, Header, IsSaved, KeepsFile, header_of}
+use Rattle.manuscript_cli.specs.Files.{GainsAllOrNone, HasOps, HasOpsOr, Header, IsSaved, KeepsFile, new_file_header}
 use Rattle.manuscript_cli.specs.Touched.{Change}
 use Rattle.manuscript_cli.specs.declared.status.Status.{Status}
 
@@ -30,8 +30,8 @@ module _ (header : Header) (ops more : List Op) (h : History) (safe : IsSafe hea
   pub safe_filled : h.last.seen ≢ []
   safe_filled none = let header_there = subst (λ bytes. has_header bytes ≡ true) none has_one.1.holds.0 in cc header_there
 
-  pub settling_leaves : LeavesOnly h (stepped settled h) (HasOpsOr header ops more)
-  settling_leaves = leaves_more (HasOpsOr header ops more) h h settled (leaves_none (HasOpsOr header ops more) h)
+  pub settling_leaves : LeavesOnly h (stepped durable h) (HasOpsOr header ops more)
+  settling_leaves = leaves_more (HasOpsOr header ops more) h h durable (leaves_none (HasOpsOr header ops more) h)
       (λ image is. subst (HasOpsOr header ops more) (sym (image_at_rest h.last.seen image is)) (safe.leaves h.last.seen safe.honest))
 
   -- the file alone, at rest
@@ -39,19 +39,19 @@ module _ (header : Header) (ops more : List Op) (h : History) (safe : IsSafe hea
   settled_safe = subst (λ l. IsSafe header l [] (at_rest h.last.seen)) (sym (append-nil has_one.0)) (safe_at_rest header has_one.0 [] h.last.seen (inl has_one.1))
 
   -- nothing was given to be saved, and the file was loaded
-  kept_settled : (end : Status) → StaysSafe header ops more [] h (Some (stepped settled h)) end
+  kept_settled : (end : Status) → StaysSafe header ops more [] h (Some (stepped durable h)) end
   kept_settled end = record {
     had = has_one.0;
     has = has_one.1;
-    loaded = stepped settled h;
+    loaded = stepped durable h;
     loads = settling_leaves;
-    saves = leaves_none (HasOpsOr header has_one.0 []) (stepped settled h);
+    saves = leaves_none (HasOpsOr header has_one.0 []) (stepped durable h);
     finished = λ done. settled_safe;
     again = (has_one.0, [], safe_at_rest header has_one.0 [] h.last.seen (inl has_one.1));
   }
 
   -- it was not loaded
-  kept_still : (end : Status) → (IsFinished end → Some h ≡ Some (stepped settled h)) → StaysSafe header ops more [] h (Some h) end
+  kept_still : (end : Status) → (IsFinished end → Some h ≡ Some (stepped durable h)) → StaysSafe header ops more [] h (Some h) end
   kept_still end settled_so = record {
     had = has_one.0;
     has = has_one.1;
@@ -62,15 +62,15 @@ module _ (header : Header) (ops more : List Op) (h : History) (safe : IsSafe hea
     again = (ops, more, safe);
   }
 
-  kept_safe : (past : Option History) (end : Status) → (past ≡ Some (stepped settled h)) ⊎ (past ≡ Some h) → (IsFinished end → past ≡ Some (stepped settled h))
+  kept_safe : (past : Option History) (end : Status) → (past ≡ Some (stepped durable h)) ⊎ (past ≡ Some h) → (IsFinished end → past ≡ Some (stepped durable h))
       → StaysSafe header ops more [] h past end
   kept_safe past end (inl is) settled_so = subst (λ p. StaysSafe header ops more [] h p end) (sym is) (kept_settled end)
   kept_safe past end (inr is) settled_so = subst (λ p. StaysSafe header ops more [] h p end) (sym is) (kept_still end (λ done. sym is ∙ settled_so done))
 
 -- a file that is kept is not torn: where the command did all, it was loaded
-pub kept_never_torn : (file : Change DiskView) (end : Status) → KeepsFile file → (IsFinished end → file.new.past ≡ after settled file.old.past) → NeverTorn (λ gave. gave ≡ []) file end
+pub kept_never_torn : (file : Change DiskView) (end : Status) → KeepsFile file → (IsFinished end → file.new.past ≡ after durable file.old.past) → NeverTorn (λ gave. gave ≡ []) file end
 kept_never_torn file end keeps settled_so header ops more h is safe =
-    let loaded : after settled file.old.past ≡ Some (stepped settled h) = ap (after settled) is in (
+    let loaded : after durable file.old.past ≡ Some (stepped durable h) = ap (after durable) is in (
       [],
       refl,
       kept_safe header ops more h safe file.new.past end
@@ -93,15 +93,15 @@ module _ (header : Header) (ops more : List Op) (h : History) (safe : IsSafe hea
   had = gains.content.ops
 
   -- the content is the one that the file had
-  same_header : header_of gains.content ≡ header
+  same_header : new_file_header gains.content ≡ header
   same_header =
       let one = (has_one header ops more h safe).1 in
-      ap header_of (same_content h.last.seen gains.content one.content gains.holds one.holds) ∙ one.header_is
+      ap new_file_header (same_content h.last.seen gains.content one.content gains.holds one.holds) ∙ one.header_is
 
   has_had : HasOps header had h.last.seen
   has_had = record { content = gains.content; holds = gains.holds; header_is = same_header; ops_are = refl }
 
-  safe_last : (past : Option History) → LeavesOnlyTo (stepped settled h) past (HasOpsOr header had gave) → IfSome past (λ k. IsHonest k.last)
+  safe_last : (past : Option History) → LeavesOnlyTo (stepped durable h) past (HasOpsOr header had gave) → IfSome past (λ k. IsHonest k.last)
       → IfSome past (λ k. (first : List Op) × (second : List Op) × IsSafe header first second k.last)
   safe_last None leaves honest = tt
   safe_last (Some k) leaves honest = (
@@ -109,18 +109,18 @@ module _ (header : Header) (ops more : List Op) (h : History) (safe : IsSafe hea
     gave,
     record {
       honest = honest;
-      leaves = last_leaves (HasOpsOr header had gave) (stepped settled h) k leaves (λ image is. inl (subst (HasOps header had) (sym (image_at_rest h.last.seen image is)) has_had));
+      leaves = last_leaves (HasOpsOr header had gave) (stepped durable h) k leaves (λ image is. inl (subst (HasOps header had) (sym (image_at_rest h.last.seen image is)) has_had));
     },
   )
 
   -- all of what was given, or none
   gains_safe : (end : Status) → (IsFinished end → IfSome new (λ k. IsSafe header (had ++ gave) [] k.last)) → StaysSafe header ops more gave h new end
   gains_safe end finished =
-      let leaves = subst (λ f. LeavesOnlyTo (stepped settled h) new (HasOpsOr f had gave)) same_header gains.gains in
+      let leaves = subst (λ f. LeavesOnlyTo (stepped durable h) new (HasOpsOr f had gave)) same_header gains.gains in
       record {
         had = had;
         has = has_had;
-        loaded = stepped settled h;
+        loaded = stepped durable h;
         loads = settling_leaves header ops more h safe;
         saves = leaves;
         finished = finished;
@@ -128,10 +128,10 @@ module _ (header : Header) (ops more : List Op) (h : History) (safe : IsSafe hea
       }
 
   -- and all of it, once it is saved
-  all_safe : IfSome new (λ k. HasOps (header_of gains.content) (had ++ gave) k.last.seen) → IfSome new (λ k. k.last ≡ at_rest k.last.seen) → IfSome new (λ k. IsSafe header (had ++ gave) [] k.last)
+  all_safe : IfSome new (λ k. HasOps (new_file_header gains.content) (had ++ gave) k.last.seen) → IfSome new (λ k. k.last ≡ at_rest k.last.seen) → IfSome new (λ k. IsSafe header (had ++ gave) [] k.last)
   all_safe has rests = by_past new has rests
     where
-      by_past : (past : Option History) → IfSome past (λ k. HasOps (header_of gains.content) (had ++ gave) k.last.seen) → IfSome past (λ k. k.last ≡ at_rest k.last.seen)
+      by_past : (past : Option History) → IfSome past (λ k. HasOps (new_file_header gains.content) (had ++ gave) k.last.seen) → IfSome past (λ k. k.last ≡ at_rest k.last.seen)
           → IfSome past (λ k. IsSafe header (had ++ gave) [] k.last)
       by_past None has rests = tt
       by_past (Some k) has rests =

@@ -10,9 +10,9 @@ use Rattle.origin_model.specs.taking.Taking.{IsSettled}
 use Rattle.origin_model.specs.edits.State.{State as Replica, Stands}
 use Rattle.edit_script.proofs.OnceLemmas.{scripts_run_once}
 use Rattle.edit_script.proofs.TakenInLemmas.{all_find_place, scripts_are_taken_in}
-use Rattle.edit_script.specs.Scripts.{Runs, RunsWhole, Stops}
-use Rattle.edit_script.specs.declared.fault.ScriptFault.TheVariants as script_fault
-use Rattle.edit_script.specs.declared.fault.ScriptFault.{ScriptFault}
+use Rattle.edit_script.specs.Scripts.{ScriptRuns, RunsWhole, ScriptStops}
+use Rattle.edit_script.specs.declared.run.ScriptFault.TheVariants as script_fault
+use Rattle.edit_script.specs.declared.run.ScriptFault.{ScriptFault}
 use Rattle.manuscript_cli.specs.Edit.{RunsScript, ScriptGives, ScriptRefuses, made_outcome, script}
 use Rattle.manuscript_cli.specs.Findings.{Refuses, Does}
 use Rattle.manuscript_cli.specs.Giving.{GivesTo, IsNoted}
@@ -64,7 +64,7 @@ read_whole script before None is ended = subst (λ (l : Option (List ℕ)). IfSo
 read_whole script before (Some left) is ended =
     subst (λ (l : Option (List ℕ)). IfSome l (λ b. b ≡ script)) (sym is) (ap (λ (l : List ℕ). script ++ l) ended ∙ append-nil script)
 
-module _ (replica last : Replica) (before after : SourceView) (n : ℕ) (run : Runs replica last before after n) where
+module _ (replica last : Replica) (before after : SourceView) (n : ℕ) (run : ScriptRuns replica last before after n) where
   -- a script that ran gives its outcome
   pub gives_outcome : ScriptGives before replica (Does (made_outcome last run.2.ops))
   gives_outcome = (
@@ -96,7 +96,7 @@ read_more front before (Some left) is = (left, subst (λ (l : Option (List ℕ))
 
 -- a script that stopped gives its refusal
 pub gives_refusal : (replica last : Replica) (before after : SourceView) (fault : ScriptFault) → fault ≢ script_fault.NoMemory → fault ≢ script_fault.ReadFault
-    → Stops replica last before after fault → ScriptGives before replica (Refuses (script_refusal fault))
+    → ScriptStops replica last before after fault → ScriptGives before replica (Refuses (script_refusal fault))
 gives_refusal replica last before after script_fault.ReadFault no_want no_fault stops = absurd (no_fault refl)
 gives_refusal replica last before after script_fault.NoMemory no_want no_fault stops = absurd (no_want refl)
 gives_refusal replica last before after script_fault.TooLong no_want no_fault stops =
@@ -109,7 +109,7 @@ gives_refusal replica last before after fault no_want no_fault stops = (
 )
 
 -- a script that ran gives what it made
-pub script_gives : (input : Change SourceView) (replica last : Replica) (n : ℕ) (run : Runs replica last input.old input.new n) → Stands replica → IsSettled replica.held → (kept : Option (List Op))
+pub script_gives : (input : Change SourceView) (replica last : Replica) (n : ℕ) (run : ScriptRuns replica last input.old input.new n) → Stands replica → IsSettled replica.held → (kept : Option (List Op))
     → GivesTo (script input) replica last kept (Ok (note.Made n))
 script_gives input replica last n run stands settled kept =
     let made = has_made replica last input.old input.new n run in
@@ -122,7 +122,7 @@ script_gives input replica last n run stands settled kept =
     }
 
 -- one that stopped gives its refusal
-pub script_gives_none : (input : Change SourceView) (replica last : Replica) (kept : Option (List Op)) (fault : ScriptFault) → Stops replica last input.old input.new fault
+pub script_gives_none : (input : Change SourceView) (replica last : Replica) (kept : Option (List Op)) (fault : ScriptFault) → ScriptStops replica last input.old input.new fault
     → KeepsCount input.old input.new (IsErrOf {T = ℕ} (Err fault) script_fault.ReadFault) → GivesTo (script input) replica last kept (Err (script_refusal fault))
 script_gives_none input replica last kept script_fault.ReadFault stops count = (count.rose refl, λ sure. count.succeeds sure refl)
 script_gives_none input replica last kept script_fault.NoMemory stops count = tt

@@ -6,10 +6,10 @@ use Rattle.outer_ports.specs.disk.Disks.{DiskView}
 use Rattle.outer_ports.specs.disk.Moments.{History}
 use Rattle.origin_model.specs.edits.State.{State as Replica}
 use Rattle.replica_file.proofs.OnceLemmas.{answers_once}
-use Rattle.replica_file.specs.Load.{AnswerIs, IsByBytes}
-use Rattle.replica_file.specs.declared.end.End.{End}
-use Rattle.replica_file.specs.declared.load_fault.LoadFault.{LoadFault}
-use Rattle.replica_file.specs.declared.load_fault.LoadFault.TheVariants as load_fault
+use Rattle.replica_file.specs.Load.{LoadAnswerIs, IsLoadByBytes}
+use Rattle.replica_file.specs.declared.load_file.End.{End}
+use Rattle.replica_file.specs.declared.load_file.LoadFault.{LoadFault}
+use Rattle.replica_file.specs.declared.load_file.LoadFault.TheVariants as load_fault
 use Rattle.manuscript_cli.specs.Files.{FileHolds, FileRefuses}
 use Rattle.manuscript_cli.specs.Refusal.{load_refusal}
 use Rattle.manuscript_cli.specs.Touched.{IsTold}
@@ -21,11 +21,11 @@ Answer = Result (Replica × End) LoadFault
 
 -- the answer of a load that the file, where it is told, leads to
 record LeadsTo (disk : DiskView) (answer : Answer) : Type 0 where
-  by_bytes : IsByBytes answer
-  is : IfSome disk.past (λ h. AnswerIs MOST_OPERATIONS h.last.seen answer)
+  by_bytes : IsLoadByBytes answer
+  is : IfSome disk.past (λ h. LoadAnswerIs MOST_OPERATIONS h.last.seen answer)
 
-by_the_bytes : (disk : DiskView) (answer : Answer) (told : IsTold disk) → LeadsTo disk answer → AnswerIs MOST_OPERATIONS told.0.last.seen answer
-by_the_bytes disk answer told leads = subst (λ o. IfSome o (λ (h : History). AnswerIs MOST_OPERATIONS h.last.seen answer)) told.1 leads.is
+by_the_bytes : (disk : DiskView) (answer : Answer) (told : IsTold disk) → LeadsTo disk answer → LoadAnswerIs MOST_OPERATIONS told.0.last.seen answer
+by_the_bytes disk answer told leads = subst (λ o. IfSome o (λ (h : History). LoadAnswerIs MOST_OPERATIONS h.last.seen answer)) told.1 leads.is
 
 leads_once : (disk : DiskView) (a b : Answer) → IsTold disk → LeadsTo disk a → LeadsTo disk b → a ≡ b
 leads_once disk a b told one other =

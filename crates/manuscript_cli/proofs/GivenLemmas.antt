@@ -4,7 +4,7 @@ use Rattle.std.specs.Prelude.{◌⊎◌}
 use Rattle.outer_ports.specs.disk.Disks.{DiskView}
 use Rattle.origin_model.specs.edits.State.{State as Replica}
 use Rattle.replica_file.specs.Append.{IsTooLong}
-use Rattle.replica_file.specs.declared.end.End.{End}
+use Rattle.replica_file.specs.declared.load_file.End.{End}
 use Rattle.manuscript_cli.specs.Files.{FileHolds, FileRefuses}
 use Rattle.manuscript_cli.specs.Findings.{Finding, Refuses, Does}
 use Rattle.manuscript_cli.specs.Saving.{Giver, GivesOnce, Outcome, SavingFound}

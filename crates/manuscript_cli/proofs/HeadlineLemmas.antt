@@ -4,12 +4,12 @@ use Rattle.std.specs.Prelude.{Some}
 use Rattle.fugue_ids.specs.declared.op.Op.{Op}
 use Rattle.origin_model.specs.frames.Frames.{Reads, Whole as EndsWhole}
 use Rattle.origin_model.specs.order.Laws.{OrderBySet}
-use Rattle.origin_model.specs.taking.Taking.{HasPlace, held, nothing}
-use Rattle.op_frame.specs.Courses.{Course, Whole, CutShort, BadFrame, TooLong, TooMany}
+use Rattle.origin_model.specs.taking.Taking.{HasPlace, held, nothing_held}
+use Rattle.op_frame.specs.Courses.{IntakeCourse, Whole, CutShort, BadFrame, TooLong, TooMany}
 use Rattle.manuscript_cli.proofs.LawfulLemmas.{held_lawful, printed_by_set}
 use Rattle.manuscript_cli.specs.Headline.{Headline, IsCalm, IsDecided, status_for}
 use Rattle.fugue_ids.specs.declared.limits.TheConstants.{MOST_OPERATIONS, STREAM_LIMIT}
-use Rattle.manuscript_cli.specs.Show.{ComesTo, Showed, Finished, StreamRefused, ShowMeets}
+use Rattle.manuscript_cli.specs.Show.{ShowEndsAs, Showed, Finished, StreamRefused, ShowMeets}
 use Rattle.manuscript_cli.specs.Touched.{Streams, change}
 use Rattle.manuscript_cli.specs.declared.refusal.Refusal.{Refusal}
 use Rattle.manuscript_cli.specs.declared.refusal.Refusal.TheVariants as refusal
@@ -17,16 +17,16 @@ use Rattle.manuscript_cli.specs.declared.status.Status.{Status}
 use Rattle.manuscript_cli.specs.declared.status.Status.TheVariants as status
 use Rattle.manuscript_cli.proofs.ShowLemmas.{same_input}
 
-module _ (hold : ℕ) (old new : Streams) (bytes : List ℕ) (ops : List Op) (course : Course) (is : old.input.left ≡ Some bytes) (comes : ComesTo hold bytes ops course) where
-  finished_so : (end : Status) → Finished hold old new end → Showed hold nothing ops old new end × (course ≡ Whole)
+module _ (hold : ℕ) (old new : Streams) (bytes : List ℕ) (ops : List Op) (course : IntakeCourse) (is : old.input.left ≡ Some bytes) (comes : ShowEndsAs hold bytes ops course) where
+  finished_so : (end : Status) → Finished hold old new end → Showed hold nothing_held ops old new end × (course ≡ Whole)
   finished_so end done =
       let same = same_input hold old.input.left bytes done.ops ops Whole course is done.came comes in
-      (subst (λ o. Showed hold nothing o old new end) same.0 done.showed, sym same.1)
+      (subst (λ o. Showed hold nothing_held o old new end) same.0 done.showed, sym same.1)
 
   decided_so : (end : Status) → Finished hold old new end → end ≡ status_for hold ops course
   decided_so end done = let so = finished_so end done in so.0.end_is ∙ ap (status_for hold ops) (sym so.1)
 
-  refused_so : (other : Course) (why : Refusal) → StreamRefused hold old new other why → other ≡ course
+  refused_so : (other : IntakeCourse) (why : Refusal) → StreamRefused hold old new other why → other ≡ course
   refused_so other why refused = (same_input hold old.input.left bytes refused.ops ops other course is refused.came comes).1
 
 pub decided : (hold : ℕ) (old new : Streams) (end : Status) → ShowMeets hold old new end → IsDecided hold old new end
@@ -51,12 +51,12 @@ decided hold old new status.NoMemory meets bytes ops course is comes = inr (inl 
 decided hold old new status.Usage meets bytes ops course is comes = absurd meets
 decided hold old new status.BadFile meets bytes ops course is comes = absurd meets
 
-whole : (hold : ℕ) (bytes : List ℕ) (ops : List Op) → Reads bytes ops EndsWhole → length bytes ≤ STREAM_LIMIT → HasPlace hold MOST_OPERATIONS nothing ops → ComesTo hold bytes ops Whole
+whole : (hold : ℕ) (bytes : List ℕ) (ops : List Op) → Reads bytes ops EndsWhole → length bytes ≤ STREAM_LIMIT → HasPlace hold MOST_OPERATIONS nothing_held ops → ShowEndsAs hold bytes ops Whole
 whole hold bytes ops reads short place = record { has_place = place; ends = (short, reads) }
 
 -- where no object failed and no limit was met, the stream was shown
 whole_showed : (hold : ℕ) (old new : Streams) (end : Status) (bytes : List ℕ) (ops : List Op) → ShowMeets hold old new end → old.input.left ≡ Some bytes → Reads bytes ops EndsWhole → length bytes ≤ STREAM_LIMIT
-    → HasPlace hold MOST_OPERATIONS nothing ops → IsCalm old new → end ≢ status.NoMemory → Showed hold nothing ops old new end
+    → HasPlace hold MOST_OPERATIONS nothing_held ops → IsCalm old new → end ≢ status.NoMemory → Showed hold nothing_held ops old new end
 whole_showed hold old new status.Done bytes ops meets is reads short place calm memory =
     (finished_so hold old new bytes ops Whole is (whole hold bytes ops reads short place) status.Done meets).0
 whole_showed hold old new status.Partial bytes ops meets is reads short place calm memory =
@@ -84,5 +84,5 @@ headline order hold old new end meets bytes ops is reads short place calm memory
     let showed = whole_showed hold old new end bytes ops meets is reads short place calm memory in
     record {
       showed = showed;
-      by_set = printed_by_set order (held hold MOST_OPERATIONS ops).history (change old.output new.output) (held_lawful hold MOST_OPERATIONS nothing ops tt) showed.output;
+      by_set = printed_by_set order (held hold MOST_OPERATIONS ops).history (change old.output new.output) (held_lawful hold MOST_OPERATIONS nothing_held ops tt) showed.output;
     }

@@ -6,18 +6,18 @@ use Rattle.fugue_ids.specs.declared.limits.TheConstants.{MOST_OPERATIONS}
 use Rattle.fugue_ids.specs.declared.op.Op.{Op}
 use Rattle.outer_ports.specs.disk.Disks.{DiskView, RoomView, spent}
 use Rattle.outer_ports.specs.disk.Moments.{History, LeavesOnlyTo, MayLeave, after}
-use Rattle.outer_ports.specs.disk.States.{IsHonest, settled}
+use Rattle.outer_ports.specs.disk.States.{IsHonest, durable}
 use Rattle.origin_model.specs.files.Image.{Content}
 use Rattle.origin_model.specs.edits.State.{State as Replica}
 use Rattle.replica_file.specs.Append.{HasBatch, HoldsEither, IsTooLong, behind_gate}
-use Rattle.replica_file.specs.declared.append_fault.AppendFault.{AppendFault}
-use Rattle.replica_file.specs.declared.append_fault.AppendFault.TheVariants as append_fault
-use Rattle.replica_file.specs.declared.end.End.{End}
-use Rattle.replica_file.specs.declared.load_fault.LoadFault.{LoadFault}
-use Rattle.replica_file.specs.declared.load_fault.LoadFault.TheVariants as load_fault
-use Rattle.replica_file.specs.Ends.{EndsAt, Means, Reaches}
-use Rattle.replica_file.specs.Gates.{LastsFor, opened}
-use Rattle.replica_file.specs.Load.{AnswerIs, AnswersBy, IsByBytes, LastsToLoad}
+use Rattle.replica_file.specs.declared.appending.AppendFault.{AppendFault}
+use Rattle.replica_file.specs.declared.appending.AppendFault.TheVariants as append_fault
+use Rattle.replica_file.specs.declared.load_file.End.{End}
+use Rattle.replica_file.specs.declared.load_file.LoadFault.{LoadFault}
+use Rattle.replica_file.specs.declared.load_file.LoadFault.TheVariants as load_fault
+use Rattle.replica_file.specs.Ends.{EndsAt, Means, IsWithinReach}
+use Rattle.replica_file.specs.Gates.{LastsFor, gate_opened}
+use Rattle.replica_file.specs.Load.{LoadAnswerIs, LoadAnswersBy, IsLoadByBytes, LastsToLoad}
 use Rattle.replica_file.specs.Loading.{IsReady}
 use Rattle.manuscript_cli.specs.Files.{IsAppended, IsLoaded, KeepsFile, LoadMeets, SaveMeets, bytes_of}
 use Rattle.manuscript_cli.specs.Refusal.{append_refusal, load_refusal}
@@ -31,7 +31,7 @@ abbrev failed : LoadFault → Answer
 failed fault = Err fault
 
 -- an answer that the bytes decide comes by its cause
-by_cause : (result : Answer) → IsByBytes result → (past : Option History) → IfSome past (λ h. AnswersBy result MOST_OPERATIONS h.last.seen) → IfSome past (λ h. AnswerIs MOST_OPERATIONS h.last.seen result)
+by_cause : (result : Answer) → IsLoadByBytes result → (past : Option History) → IfSome past (λ h. LoadAnswersBy result MOST_OPERATIONS h.last.seen) → IfSome past (λ h. LoadAnswerIs MOST_OPERATIONS h.last.seen result)
 by_cause result by None exactly = tt
 by_cause result by (Some h) exactly = (exactly by result by).0 refl
 
@@ -40,11 +40,11 @@ pub one_call : (P : Type 0) (disk : DiskView) → IfSome disk.room (λ room. Las
 one_call P disk if has = let now = subst (λ o. IfSome o (λ (room : RoomView). LastsToLoad room → P)) has.is if in now has.calls_fit
 
 -- a sync leaves what a read gives
-settled_bytes : (old : Option History) → bytes_of (after settled old) ≡ bytes_of old
+settled_bytes : (old : Option History) → bytes_of (after durable old) ≡ bytes_of old
 settled_bytes None = refl
 settled_bytes (Some h) = refl
 
-module _ (result : Answer) (old new : DiskView) (synced : (new.past ≡ after settled old.past) ⊎ ((result ≡ Err load_fault.DiskFault) × (new.past ≡ old.past)))
+module _ (result : Answer) (old new : DiskView) (synced : (new.past ≡ after durable old.past) ⊎ ((result ≡ Err load_fault.DiskFault) × (new.past ≡ old.past)))
     (moments : IfSome old.past (λ h. LeavesOnlyTo h new.past (MayLeave h))) (calm : IfSome old.room (λ room. LastsToLoad room → new.faults ≡ old.faults)) where
   keeps_file : KeepsFile (change old new)
   keeps_file = record {
@@ -54,8 +54,8 @@ module _ (result : Answer) (old new : DiskView) (synced : (new.past ≡ after se
     calm = one_call (new.faults ≡ old.faults) old calm;
   }
 
-module _ (loaded : Replica × End) (old new : DiskView) (exactly : IfSome old.past (λ h. AnswersBy (Ok loaded) MOST_OPERATIONS h.last.seen)) (ready : IsReady loaded.0) (reaches : Reaches loaded.1)
-    (ends : IfSome new.past (λ h. EndsAt h.last loaded.1)) (synced : (new.past ≡ after settled old.past) ⊎ ((Ok loaded ≡ Err load_fault.DiskFault) × (new.past ≡ old.past)))
+module _ (loaded : Replica × End) (old new : DiskView) (exactly : IfSome old.past (λ h. LoadAnswersBy (Ok loaded) MOST_OPERATIONS h.last.seen)) (ready : IsReady loaded.0) (reaches : IsWithinReach loaded.1)
+    (ends : IfSome new.past (λ h. EndsAt h.last loaded.1)) (synced : (new.past ≡ after durable old.past) ⊎ ((Ok loaded ≡ Err load_fault.DiskFault) × (new.past ≡ old.past)))
     (moments : IfSome old.past (λ h. LeavesOnlyTo h new.past (MayLeave h))) (room : (new.room ≡ spent 0 old.room) ⊎ ((Ok loaded ≡ Err load_fault.DiskFault) × (new.room ≡ old.room)))
     (later : old.faults ≤ new.faults) (calm : IfSome old.room (λ room. LastsToLoad room → new.faults ≡ old.faults)) where
   -- the file was loaded
@@ -72,14 +72,14 @@ module _ (loaded : Replica × End) (old new : DiskView) (exactly : IfSome old.pa
   }
 
 -- it was not
-pub not_loaded_so : (fault : LoadFault) (why : Refusal) (old new : DiskView) → why ≡ load_refusal fault → IfSome old.past (λ h. AnswersBy (Err fault) MOST_OPERATIONS h.last.seen)
-    → (new.past ≡ after settled old.past) ⊎ ((failed fault ≡ failed load_fault.DiskFault) × (new.past ≡ old.past)) → IfSome old.past (λ h. LeavesOnlyTo h new.past (MayLeave h))
+pub not_loaded_so : (fault : LoadFault) (why : Refusal) (old new : DiskView) → why ≡ load_refusal fault → IfSome old.past (λ h. LoadAnswersBy (Err fault) MOST_OPERATIONS h.last.seen)
+    → (new.past ≡ after durable old.past) ⊎ ((failed fault ≡ failed load_fault.DiskFault) × (new.past ≡ old.past)) → IfSome old.past (λ h. LeavesOnlyTo h new.past (MayLeave h))
     → (failed fault ≡ failed load_fault.DiskFault → Rose old.faults new.faults) → IfSome old.room (λ room. LastsToLoad room → failed fault ≢ failed load_fault.DiskFault)
     → IfSome old.room (λ room. LastsToLoad room → new.faults ≡ old.faults) → LoadMeets (change old new) (Err why)
 not_loaded_so fault why old new is exactly synced moments cause sure calm = subst (λ w. LoadMeets (change old new) (Err w)) (sym is) (by_fault fault exactly synced cause sure)
   where
-    by_fault : (fault : LoadFault) → IfSome old.past (λ h. AnswersBy (Err fault) MOST_OPERATIONS h.last.seen)
-        → (new.past ≡ after settled old.past) ⊎ ((failed fault ≡ failed load_fault.DiskFault) × (new.past ≡ old.past))
+    by_fault : (fault : LoadFault) → IfSome old.past (λ h. LoadAnswersBy (Err fault) MOST_OPERATIONS h.last.seen)
+        → (new.past ≡ after durable old.past) ⊎ ((failed fault ≡ failed load_fault.DiskFault) × (new.past ≡ old.past))
         → (failed fault ≡ failed load_fault.DiskFault → Rose old.faults new.faults) → IfSome old.room (λ room. LastsToLoad room → failed fault ≢ failed load_fault.DiskFault)
         → LoadMeets (change old new) (Err (load_refusal fault))
     by_fault load_fault.NotReplica exactly synced cause sure = (by_cause (Err load_fault.NotReplica) tt old.past exactly, keeps_file (Err load_fault.NotReplica) old new synced moments calm)
@@ -108,7 +108,7 @@ Leaves ops old new = IfSome old (λ h. (content : Content) → Means h.last cont
 module _ (end : End) (ops : List Op) (old new : DiskView) (moments : Leaves ops old.past new.past) where
   module _ (behind : End) (none : ops ≡ [] → (ended behind ≡ ended end) × (new ≡ old))
       (too_long : ended behind ≢ stopped append_fault.NoMemory → (ended behind ≡ stopped append_fault.BatchTooLong) ↔ IsTooLong end ops)
-      (calls : ops ≢ [] → new.past ≡ opened end.at (behind_gate ops) old.past)
+      (calls : ops ≢ [] → new.past ≡ gate_opened end.at (behind_gate ops) old.past)
       (appended : ops ≢ [] → IfSome old.past (λ h. (content : Content) → Means h.last content → IfSome new.past (λ k. HasBatch content end ops k.last)))
       (calm : IfSome old.room (λ room. LastsFor (behind_gate ops) room → new.faults ≡ old.faults)) where
     -- the operations were appended

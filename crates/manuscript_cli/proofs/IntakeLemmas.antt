@@ -4,28 +4,28 @@ use Rattle.std.specs.Prelude.{Option, Some, None, Bool, true, false, Ok, Err, If
 use Rattle.std.proofs.lemmas.List.{append-nil}
 use Rattle.fugue_ids.specs.declared.op.Op.{Op}
 use Rattle.outer_ports.specs.Sources.{SourceView}
-use Rattle.origin_model.specs.declared.taking.tally.Tally.{Tally}
+use Rattle.origin_model.specs.declared.taking.Tally.{Tally}
 use Rattle.origin_model.specs.taking.Taking.{HasPlace, Held, TooMany as AnswersTooMany, answer, held_from, intake, intake_counted, kept_from, no_counts, tally_from}
 use Rattle.origin_model.proofs.SharedLemmas.{held-append, kept-append, places-append, places-none, places-one, tally-append}
-use Rattle.op_frame.specs.Courses.{Comes, Course, Whole, CutShort as IsCutShort, BadFrame as HasBadFrame, TooLong as IsTooLong, TooMany as HasTooMany}
+use Rattle.op_frame.specs.Courses.{Comes, IntakeCourse, Whole, CutShort as IsCutShort, BadFrame as HasBadFrame, TooLong as IsTooLong, TooMany as HasTooMany}
 use Rattle.op_frame.specs.Readers.{Gave}
 use Rattle.op_frame.proofs.StreamLemmas.{follows, gave_none}
 use Rattle.op_frame.proofs.CourseLemmas.{Fed, fed_whole, fed_cut, fed_bad, fed_long, fed_many}
 use Rattle.origin_model.specs.edits.State.{State}
 use Rattle.fugue_ids.specs.declared.limits.TheConstants.{STREAM_LIMIT}
-use Rattle.manuscript_cli.specs.Intake.{Taking, TakesOne, Steps, SourceComes, TakesIn, StopsFor, copied}
+use Rattle.manuscript_cli.specs.Intake.{StreamTaking, TakesOne, IntakeSteps, SourceComes, TakesIn, IntakeStopsFor, copied}
 use Rattle.manuscript_cli.specs.declared.refusal.Refusal.{Refusal}
 use Rattle.manuscript_cli.specs.declared.refusal.Refusal.TheVariants as refusal
 
 -- a step that took an operation in, and one that came to the end
-pub step_took : (more : Bool) (old new : Taking) (before after : SourceView) → more ≡ true → Steps old new before after (Ok more) → TakesOne old new before after
-step_took more old new before after is steps = subst (λ b. Steps old new before after (Ok b)) is steps
+pub step_took : (more : Bool) (old new : StreamTaking) (before after : SourceView) → more ≡ true → IntakeSteps old new before after (Ok more) → TakesOne old new before after
+step_took more old new before after is steps = subst (λ b. IntakeSteps old new before after (Ok b)) is steps
 
-abbrev pub Ended : Taking → Taking → SourceView → SourceView → Type 0
-Ended old new before after = Steps old new before after (Ok false)
+abbrev pub Ended : StreamTaking → StreamTaking → SourceView → SourceView → Type 0
+Ended old new before after = IntakeSteps old new before after (Ok false)
 
-pub step_ended : (more : Bool) (old new : Taking) (before after : SourceView) → more ≡ false → Steps old new before after (Ok more) → Ended old new before after
-step_ended more old new before after is steps = subst (λ b. Steps old new before after (Ok b)) is steps
+pub step_ended : (more : Bool) (old new : StreamTaking) (before after : SourceView) → more ≡ false → IntakeSteps old new before after (Ok more) → Ended old new before after
+step_ended more old new before after is steps = subst (λ b. IntakeSteps old new before after (Ok b)) is steps
 
 -- counts that are all 0
 pub fresh_counts : (t : Tally) → (t.accepted ≡ 0) × ((t.repeated ≡ 0) × ((t.conflict ≡ 0) × ((t.stray ≡ 0) × (t.full ≡ 0)))) → t ≡ no_counts
@@ -41,7 +41,7 @@ copied-append None a b = refl
 copied-append (Some ops) a b = ap Some (append_assoc ops a b)
 
 -- of the bytes that were told, the reader gave operations, which were taken in from a start
-pub record FedFrom (start : State) (kept : Option (List Op)) (told : Option (List ℕ)) (now : Taking) (left : Option (List ℕ)) : Type 0 where
+pub record FedFrom (start : State) (kept : Option (List Op)) (told : Option (List ℕ)) (now : StreamTaking) (left : Option (List ℕ)) : Type 0 where
   pub ops : List Op
   pub gave : Gave told ops now.reader left
   pub has_place : HasPlace start.hold start.most start.held ops
@@ -50,7 +50,7 @@ pub record FedFrom (start : State) (kept : Option (List Op)) (told : Option (Lis
   pub kept_are : now.kept ≡ copied kept (kept_from start.hold start.most start.held ops)
 
 -- nothing was read yet
-pub fed_nothing : (start : State) (told : Option (List ℕ)) (now : Taking) → now.reader.unread ≡ [] → now.reader.offset ≡ 0 → now.replica ≡ start → now.counts ≡ no_counts
+pub fed_nothing : (start : State) (told : Option (List ℕ)) (now : StreamTaking) → now.reader.unread ≡ [] → now.reader.offset ≡ 0 → now.replica ≡ start → now.counts ≡ no_counts
     → FedFrom start now.kept told now told
 fed_nothing start told now none at same counts = record {
   ops = [];
@@ -61,7 +61,7 @@ fed_nothing start told now none at same counts = record {
   kept_are = sym (copied-nil now.kept);
 }
 
-module _ (start : State) (kept : Option (List Op)) (told : Option (List ℕ)) (old new : Taking) (before after : SourceView) (fed : FedFrom start kept told old before.left) where
+module _ (start : State) (kept : Option (List Op)) (told : Option (List ℕ)) (old new : StreamTaking) (before after : SourceView) (fed : FedFrom start kept told old before.left) where
   reached : Held
   reached = held_from start.hold start.most start.held fed.ops
 
@@ -89,7 +89,7 @@ module _ (start : State) (kept : Option (List Op)) (told : Option (List ℕ)) (o
   abbrev counted : Fed start.hold start.most start.held told old.reader before.left old.replica.held old.counts
   counted = record { ops = fed.ops; gave = fed.gave; has_place = fed.has_place; state_is = ap (λ (r : State). r.held) fed.replica_is; counts_are = fed.counts_are }
 
-  at_limit : (course : Course) → old.reader.limit ≡ STREAM_LIMIT → IfSome told (λ bytes. Comes start.hold start.most start.held old.reader.limit bytes fed.ops course)
+  at_limit : (course : IntakeCourse) → old.reader.limit ≡ STREAM_LIMIT → IfSome told (λ bytes. Comes start.hold start.most start.held old.reader.limit bytes fed.ops course)
       → IfSome told (λ bytes. Comes start.hold start.most start.held STREAM_LIMIT bytes fed.ops course)
   at_limit course is came = subst (λ n. IfSome told (λ bytes. Comes start.hold start.most start.held n bytes fed.ops course)) is came
 
@@ -107,13 +107,13 @@ module _ (start : State) (kept : Option (List Op)) (told : Option (List ℕ)) (o
   }
 
   -- a step met the cause to stop
-  pub fed_stops : (why : Refusal) (source : SourceView) → source.left ≡ told → old.reader.limit ≡ STREAM_LIMIT → Steps old new before after (Err why) → StopsFor why start source
+  pub fed_stops : (why : Refusal) (source : SourceView) → source.left ≡ told → old.reader.limit ≡ STREAM_LIMIT → IntakeSteps old new before after (Err why) → IntakeStopsFor why start source
   fed_stops why source same limit steps = by_cause why steps
     where
-      came : (course : Course) → IfSome told (λ bytes. Comes start.hold start.most start.held old.reader.limit bytes fed.ops course) → (ops : List Op) × SourceComes start source ops course
+      came : (course : IntakeCourse) → IfSome told (λ bytes. Comes start.hold start.most start.held old.reader.limit bytes fed.ops course) → (ops : List Op) × SourceComes start source ops course
       came course is = (fed.ops, subst (λ o. IfSome o (λ bytes. Comes start.hold start.most start.held STREAM_LIMIT bytes fed.ops course)) (sym same) (at_limit course limit is))
 
-      by_cause : (why : Refusal) → Steps old new before after (Err why) → StopsFor why start source
+      by_cause : (why : Refusal) → IntakeSteps old new before after (Err why) → IntakeStopsFor why start source
       by_cause (refusal.BadFrame k) steps =
           came (HasBadFrame k) (fed_bad start.hold start.most start.held told old.reader new.reader before after old.replica.held old.counts counted k steps)
       by_cause (refusal.CutShort k) steps =

@@ -4,8 +4,8 @@ use Rattle.std.specs.Prelude.{if◌then◌else◌}
 use Rattle.fugue_ids.specs.Outs.{OutView, Took}
 use Rattle.fugue_ids.specs.declared.op.Op.{Op}
 use Rattle.origin_model.proofs.SharedLemmas.{earliest_found, within-none, within-some, without}
-use Rattle.origin_model.specs.declared.operations.verdict.Verdict.{Verdict}
-use Rattle.origin_model.specs.declared.operations.verdict.Verdict.TheVariants.{Ready, Stray}
+use Rattle.origin_model.specs.declared.operations.Verdict.{Verdict}
+use Rattle.origin_model.specs.declared.operations.Verdict.TheVariants.{Ready, Stray}
 use Rattle.origin_model.specs.operations.Verdict.{Lawful, verdict}
 use Rattle.origin_model.specs.order.Laws.{OrderBySet}
 use Rattle.origin_model.specs.order.Printed.{manuscript}

@@ -5,22 +5,22 @@ use Rattle.std.proofs.Math.Seq.{take-suc}
 use Rattle.std.proofs.lemmas.List.{take-append-drop}
 use Rattle.std.proofs.lemmas.List.Elements.{All-cons, All-head, All-tail}
 use Rattle.fugue_ids.specs.declared.op.Op.{Op}
-use Rattle.origin_model.specs.declared.taking.tally.Tally.{Tally}
+use Rattle.origin_model.specs.declared.taking.Tally.{Tally}
 use Rattle.origin_model.specs.taking.Taking.{Answer, HasPlace, Held, IsSettled, TooMany, answer, answers_from, held_from, intake, kept_from, tally_from}
 use Rattle.origin_model.proofs.SharedLemmas.{held-append, kept-append, no_place_left, places-append, places-none, tally-append}
-use Rattle.replica_core.specs.Keeping.{LeavesUnkept, TakesIn, TakesInKeeping, Taking, begun}
+use Rattle.replica_core.specs.Keeping.{LeavesUnkept, TakesIn, TakesInKeeping, OpsTaking, taking_begun}
 use Rattle.origin_model.specs.edits.State.{State}
-use Rattle.replica_core.specs.declared.feed_fault.FeedFault.{FeedFault}
-use Rattle.replica_core.specs.declared.feed_fault.FeedFault.TheVariants as feed_fault
+use Rattle.replica_core.specs.declared.keeping.FeedFault.{FeedFault}
+use Rattle.replica_core.specs.declared.keeping.FeedFault.TheVariants as feed_fault
 use Rattle.replica_core.proofs.KeepingLemmas.{takes_more}
 use Rattle.outer_ports.specs.disk.Disks.{DiskView}
-use Rattle.replica_file.specs.declared.end.End.{End}
+use Rattle.replica_file.specs.declared.load_file.End.{End}
 use Rattle.manuscript_cli.specs.Files.{FileHolds, FileRefuses}
 use Rattle.manuscript_cli.specs.Findings.{Does, Finding, Refuses}
 use Rattle.manuscript_cli.specs.Merge.{FindNoPlace, MergesNot}
 use Rattle.manuscript_cli.specs.Refusal.{feed_refusal}
 use Rattle.manuscript_cli.specs.Saving.{GivesOnce, Outcome}
-use Rattle.manuscript_cli.specs.Take.{FileGives, HolderGives, ReplicaGives, all_of, ops_of, other_file, taken_in}
+use Rattle.manuscript_cli.specs.Take.{FileGives, HolderGives, ReplicaGives, all_held_by, ops_of, other_file, taken_in}
 use Rattle.manuscript_cli.specs.Touched.{Change, IsTold}
 use Rattle.manuscript_cli.specs.declared.counts.Counts.{Counts}
 use Rattle.manuscript_cli.specs.declared.refusal.Refusal.{Refusal}
@@ -47,7 +47,7 @@ module _ (hold most : ℕ) where
       places-behind (intake hold most s op) a b (All-tail (λ x. x ≢ TooMany) (answer hold most s op) (answers_from hold most (intake hold most s op) (a ++ b)) p)
 
 -- what was taken in one behind the other was taken in as one list
-pub takes-append : (start mid end : Taking) (a b : List Op) → TakesIn start mid a → TakesIn mid end b → TakesIn start end (a ++ b)
+pub takes-append : (start mid end : OpsTaking) (a b : List Op) → TakesIn start mid a → TakesIn mid end b → TakesIn start end (a ++ b)
 takes-append start mid end a b s t =
     let hold : ℕ = start.replica.hold in
     let most : ℕ = start.replica.most in
@@ -68,12 +68,12 @@ module _ (ops : List Op) (i : ℕ) (op : Op) (below : i < length ops) (is : op �
   one_more = ap (λ (o : Op). take i ops ++ o ∷ []) is ∙ sym (take-suc ops i op below) ∙ sym (ap (λ (n : ℕ). take n ops) (add-one i))
 
   -- the next operation of a list was taken in
-  pub takes_next : (start now next : Taking) → TakesIn start now (take i ops) → answer now.replica.hold now.replica.most now.replica.held op ≢ TooMany
+  pub takes_next : (start now next : OpsTaking) → TakesIn start now (take i ops) → answer now.replica.hold now.replica.most now.replica.held op ≢ TooMany
       → TakesInKeeping now.replica next.replica op now.counts next.counts now.kept next.kept → TakesIn start next (take (i + 1) ops)
   takes_next start now next taken place takes = subst (TakesIn start next) one_more (takes_more start now next (take i ops) op taken place takes)
 
   -- the next one found no place
-  pub finds_no_place : (fault : FeedFault) (start now : Taking) (next : State) (counts : Tally) → TakesIn start now (take i ops) → LeavesUnkept now.replica next op now.counts counts fault
+  pub finds_no_place : (fault : FeedFault) (start now : OpsTaking) (next : State) (counts : Tally) → TakesIn start now (take i ops) → LeavesUnkept now.replica next op now.counts counts fault
       → FindNoPlace fault start.replica ops
   finds_no_place (feed_fault.TooMany limit) start now next counts taken left = (
     left.0 ∙ ap (λ (r : State). r.most) taken.replica,
@@ -91,7 +91,7 @@ pub front_finds_none : (fault : FeedFault) (start : State) (a b : List Op) → F
 front_finds_none (feed_fault.TooMany limit) start a b none = (none.0, λ places. none.1 (places-front start.hold start.most start.held a b places))
 front_finds_none feed_fault.NoMemory start a b none = tt
 
-pub rest_finds_none : (fault : FeedFault) (start mid : Taking) (a b : List Op) → TakesIn start mid a → FindNoPlace fault mid.replica b → MergesNot (feed_refusal fault) start.replica (a ++ b)
+pub rest_finds_none : (fault : FeedFault) (start mid : OpsTaking) (a b : List Op) → TakesIn start mid a → FindNoPlace fault mid.replica b → MergesNot (feed_refusal fault) start.replica (a ++ b)
 rest_finds_none (feed_fault.TooMany limit) start mid a b taken none =
     let none : FindNoPlace (feed_fault.TooMany limit) (record start.replica { held = held_from start.replica.hold start.replica.most start.replica.held a }) b =
     subst (λ (r : State). FindNoPlace (feed_fault.TooMany limit) r b) taken.replica none in
@@ -100,11 +100,11 @@ rest_finds_none feed_fault.NoMemory start mid a b taken none = tt
 
 -- what the other replica holds was taken in
 pub merge_gives : (replica now other : State) (tally : Tally) (kept kept_after : List Op) → kept ≡ []
-    → TakesIn (begun replica kept) (record { replica = now; counts = tally; kept = kept_after }) (ops_of other.held)
+    → TakesIn (taking_begun replica kept) (record { replica = now; counts = tally; kept = kept_after }) (ops_of other.held)
     → (counts : Counts) → IsSettled replica.held → counts ≡ record { tally = tally; waiting = length now.held.waiting; cursor = None }
-    → GivesTo (all_of other) replica now (Some kept_after) (Ok (note.Counted counts))
+    → GivesTo (all_held_by other) replica now (Some kept_after) (Ok (note.Counted counts))
 merge_gives replica now other tally kept kept_after none taken counts settled is =
-    taken_gives (all_of other) replica now (ops_of other.held) None (taken.has_place, refl) settled (Some kept_after)
+    taken_gives (all_held_by other) replica now (ops_of other.held) None (taken.has_place, refl) settled (Some kept_after)
     (taken.kept ∙ ap (λ (k : List Op). k ++ (taken_in replica (ops_of other.held)).saved) none) counts
     (is ∙ (λ i. record { tally = taken.counts i; waiting = length (taken.replica i).held.waiting; cursor = None }))
 
@@ -113,7 +113,7 @@ module _ (guest : Change DiskView) (other replica : State) (other_end : End) (ho
   by_holder : (finding : Finding Outcome) → ReplicaGives other replica finding → HolderGives guest.old replica finding
   by_holder finding gives = (other, other_end, holds, gives)
 
-  pub holder_gives : (now : State) (kept : Option (List Op)) (result : Result Note Refusal) → GivesTo (all_of other) replica now kept result → GivesTo (other_file guest) replica now kept result
+  pub holder_gives : (now : State) (kept : Option (List Op)) (result : Result Note Refusal) → GivesTo (all_held_by other) replica now kept result → GivesTo (other_file guest) replica now kept result
   holder_gives now kept (Ok n) did = record { outcome = did.outcome; gives = by_holder (Does did.outcome) did.gives; suffices = did.suffices; saved = did.saved; noted = did.noted }
   holder_gives now kept (Err refusal.Outside) failed = absurd failed.0
   holder_gives now kept (Err refusal.NoMemory) same = tt

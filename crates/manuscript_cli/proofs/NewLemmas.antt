@@ -7,16 +7,16 @@ use Rattle.origin_model.specs.files.Image.{HasImage, Holds, new_file}
 use Rattle.outer_ports.proofs.SharedLemmas.{image_at_rest, leaves_none}
 use Rattle.outer_ports.specs.disk.Disks.{DiskTells, DiskView, RoomView}
 use Rattle.outer_ports.specs.disk.Moments.{History, LeavesOnlyTo, MayHaveWritten, MayLeave, after}
-use Rattle.outer_ports.specs.disk.States.{State, at_rest, settled, wrote}
+use Rattle.outer_ports.specs.disk.States.{State, at_rest, durable, wrote}
 use Rattle.replica_file.specs.Create.{LastsToCreate, nothing_yet}
-use Rattle.replica_file.specs.declared.create_fault.CreateFault.{CreateFault}
-use Rattle.replica_file.specs.declared.create_fault.CreateFault.TheVariants.{NotEmpty, DiskFault}
+use Rattle.replica_file.specs.declared.creating.CreateFault.{CreateFault}
+use Rattle.replica_file.specs.declared.creating.CreateFault.TheVariants.{NotEmpty, DiskFault}
 use Rattle.manuscript_cli.proofs.CrashLemmas.{empty_never_torn, still_never_torn}
 use Rattle.manuscript_cli.proofs.TextLemmas.{told_blameless}
 use Rattle.manuscript_cli.specs.Crashes.{IsSafe}
 use Rattle.manuscript_cli.specs.Files.{bytes_of}
 use Rattle.manuscript_cli.specs.New.{Creates, KeepsFilled}
-use Rattle.manuscript_cli.specs.Refusal.{create_refusal, line_of, status_of, Told}
+use Rattle.manuscript_cli.specs.Refusal.{create_refusal, refusal_line, status_of, Told}
 use Rattle.manuscript_cli.specs.Touched.{HasDiskRoom, change}
 use Rattle.manuscript_cli.specs.declared.refusal.Refusal.TheVariants as refusal
 use Rattle.manuscript_cli.specs.declared.status.Status.TheVariants as status
@@ -44,7 +44,7 @@ same_bytes : (P : List ℕ → Type 0) (past : Option History) (bytes : List ℕ
 same_bytes P None bytes has is = cc is
 same_bytes P (Some h) bytes has is = subst P (cc is) has
 
-new_bytes : (replica hold : ℕ) (old new : Option History) → new ≡ after settled (after (wrote 0 (new_file replica hold)) old) → IfSome new (λ k. k.last ≡ at_rest (new_file replica hold))
+new_bytes : (replica hold : ℕ) (old new : Option History) → new ≡ after durable (after (wrote 0 (new_file replica hold)) old) → IfSome new (λ k. k.last ≡ at_rest (new_file replica hold))
     → bytes_of new ≡ option_map (λ bytes. new_file replica hold) (bytes_of old)
 new_bytes replica hold None new calls made = ap bytes_of calls
 new_bytes replica hold (Some h) new calls made =
@@ -90,7 +90,7 @@ empty_stays None new empty = tt
 empty_stays (Some h) new empty = λ filled. absurd (filled empty)
 
 pub created : (replica hold : ℕ) (old new : DiskView) (notes : OutView) (x : Unit {0}) → Finds (Ok x) old.past
-    → new.past ≡ after settled (after (wrote 0 (new_file replica hold)) old.past) → IfSome new.past (λ k. k.last ≡ at_rest (new_file replica hold))
+    → new.past ≡ after durable (after (wrote 0 (new_file replica hold)) old.past) → IfSome new.past (λ k. k.last ≡ at_rest (new_file replica hold))
     → HasImage (new_file replica hold) (Holds (nothing_yet replica hold)) → IfSome old.room (λ room. LastsToCreate room → new.faults ≡ old.faults)
     → (DiskTells old → new.faults ≡ old.faults) → Creates replica hold (change old new) (change notes notes) status.Done
 created replica hold old new notes x found calls made holds calm exact = record {
@@ -112,7 +112,7 @@ created replica hold old new notes x found calls made holds calm exact = record 
 }
 
 found_not_empty : (replica hold : ℕ) (old new : DiskView) (notes notes' : OutView) → Finds (Err NotEmpty) old.past → new.past ≡ old.past → Stays old.past new.past
-    → IfSome old.room (λ room. LastsToCreate room → new.faults ≡ old.faults) → (DiskTells old → new.faults ≡ old.faults) → Told notes notes' (line_of refusal.NotEmpty)
+    → IfSome old.room (λ room. LastsToCreate room → new.faults ≡ old.faults) → (DiskTells old → new.faults ≡ old.faults) → Told notes notes' (refusal_line refusal.NotEmpty)
     → Creates replica hold (change old new) (change notes notes') status.BadFile
 found_not_empty replica hold old new notes notes' found kept stays calm exact told = record {
   meets = record { found = found_filled old.past found; kept = kept; noted = told };
@@ -127,7 +127,7 @@ found_not_empty replica hold old new notes notes' found kept stays calm exact to
 }
 
 failed : (replica hold : ℕ) (old new : DiskView) (notes notes' : OutView) → MayHaveWritten 0 14 old.past new.past → Stays old.past new.past → Rose old.faults new.faults → IfSome old.room (λ room. LastsToCreate room → ⊥)
-    → IfSome old.room (λ room. LastsToCreate room → new.faults ≡ old.faults) → Told notes notes' (line_of refusal.Outside)
+    → IfSome old.room (λ room. LastsToCreate room → new.faults ≡ old.faults) → Told notes notes' (refusal_line refusal.Outside)
     → Creates replica hold (change old new) (change notes notes') status.OutsideFault
 failed replica hold old new notes notes' torn stays rose sure calm told = record {
   meets = record { torn = torn; rose = rose; no_room = by_room ⊥ old sure; noted = told };
@@ -150,7 +150,7 @@ pub not_created : (replica hold : ℕ) (old new : DiskView) (notes notes' : OutV
     → (answer ≡ Err NotEmpty → (new.past ≡ old.past) × (new.room ≡ old.room)) → Stays old.past new.past → MayHaveWritten 0 14 old.past new.past
     → (answer ≡ Err DiskFault → Rose old.faults new.faults) → IfSome old.room (λ room. LastsToCreate room → answer ≢ Err DiskFault)
     → IfSome old.room (λ room. LastsToCreate room → new.faults ≡ old.faults) → (DiskTells old → answer ≢ Err DiskFault → new.faults ≡ old.faults)
-    → Told notes notes' (line_of (create_refusal fault))
+    → Told notes notes' (refusal_line (create_refusal fault))
     → Creates replica hold (change old new) (change notes notes') (status_of (create_refusal fault))
 not_created replica hold old new notes notes' NotEmpty answer is found kept stays torn rose sure calm exact told =
     found_not_empty replica hold old new notes notes' (subst (λ a. Finds a old.past) is found) (kept is).0 stays calm (λ tells. exact tells (λ failed. let other = sym is ∙ failed in cc other)) told

@@ -6,15 +6,15 @@ use Rattle.fugue_ids.specs.Causes.{Rose}
 use Rattle.fugue_ids.specs.Outs.{OutView, Took, spent}
 use Rattle.origin_model.specs.relay.Relay.{Relay, new_relay}
 use Rattle.outer_ports.specs.dock.Docks.{DockTells, DockView, out_to}
-use Rattle.outer_ports.specs.declared.dock.mem_step.MemStep.{MemStep}
+use Rattle.outer_ports.specs.declared.dock.mem_dock.MemStep.{MemStep}
 use Rattle.relay_core.specs.declared.relay.TheConstants.{MOST_LOGGED}
 use Rattle.relay_sync.specs.Sending.{DockRisesFor}
 use Rattle.relay_sync.specs.Serving.{BlamesDock, Comes, GaveSteps, Lasts, NoneAfter, Serves, ServesPartly, ServingStops, Spends, StopsInTurn, Suffices, Turn, closed_in, count_over, ended_in, ends_behind, sent_to, steps_of}
-use Rattle.relay_sync.specs.declared.serve_fault.ServeFault.{ServeFault}
-use Rattle.relay_sync.specs.declared.serve_fault.ServeFault.TheVariants as serve_fault
+use Rattle.relay_sync.specs.declared.serving.ServeFault.{ServeFault}
+use Rattle.relay_sync.specs.declared.serving.ServeFault.TheVariants as serve_fault
 use Rattle.manuscript_cli.proofs.TextLemmas.{told_blameless}
 use Rattle.manuscript_cli.specs.Printing.{NoteMeets, NotesBlameless}
-use Rattle.manuscript_cli.specs.Refusal.{line_of, serve_refusal, status_of, Told}
+use Rattle.manuscript_cli.specs.Refusal.{refusal_line, serve_refusal, status_of, Told}
 use Rattle.manuscript_cli.specs.Relay.{CallsAreSure, IsEnough, IsIdle, NeverBlamed, RelayMeets, Relays, RiseOutside, ServingMeets, listening, log_line, most_steps, ready_line}
 use Rattle.manuscript_cli.specs.Touched.{Change, HasRoom, StaysCalm, change, notes_room}
 use Rattle.manuscript_cli.specs.declared.refusal.Refusal.{Refusal}
@@ -243,7 +243,7 @@ module _ (port sessions : ℕ) (output notes : Change OutView) (dock : Change Do
       (λ s has notes_have is. failed.no_room notes_have) (Ok logged) rise (λ not is. cc is) (subst (NotesBlameless notes) failed.end_is notes_blameless))
 
   pub relay_stopped : (why : Refusal) → ServingMeets port sessions output dock (Err why) → NeverBlamed {T = ℕ} sessions output dock (Err why) → RiseOutside {T = ℕ} output dock (Err why)
-      → Told notes.old notes.new (line_of why) → Relays port sessions output notes dock (status_of why)
+      → Told notes.old notes.new (refusal_line why) → Relays port sessions output notes dock (status_of why)
   relay_stopped refusal.Outside stops blameless rise told =
       ends_so status.OutsideFault (inl (record { stops = stops; noted = told })) blameless.calm (λ s has notes_have is. blameless.sure s has refl)
       (Err refusal.Outside) rise (λ not is. not refl) (told_blameless refusal.Outside notes told)

@@ -6,7 +6,7 @@ use Rattle.fugue_ids.specs.Outs.{OutView}
 use Rattle.origin_model.specs.taking.Taking.{Held}
 use Rattle.outer_ports.specs.disk.Disks.{DiskTells, DiskView}
 use Rattle.origin_model.specs.edits.State.{State as Replica}
-use Rattle.replica_file.specs.declared.end.End.{End}
+use Rattle.replica_file.specs.declared.load_file.End.{End}
 use Rattle.manuscript_cli.proofs.CrashLemmas.{kept_never_torn}
 use Rattle.manuscript_cli.proofs.FoundLemmas.{holds_once, holds_or_refuses, refuses_once}
 use Rattle.manuscript_cli.proofs.TextLemmas.{told_blameless}
@@ -14,7 +14,7 @@ use Rattle.manuscript_cli.specs.Crashes.{IsFinished}
 use Rattle.manuscript_cli.specs.Report.{FileDecides, ReportMeets, ReportNeverOutside, Reports, SomeFails, TextFound, bytes_found, status_found}
 use Rattle.manuscript_cli.specs.Files.{FileRefuses, IsLoaded, KeepsFile, LoadMeets}
 use Rattle.manuscript_cli.specs.Findings.{Finding, Refuses, Does}
-use Rattle.manuscript_cli.specs.Refusal.{Told, line_of, status_of}
+use Rattle.manuscript_cli.specs.Refusal.{Told, refusal_line, status_of}
 use Rattle.manuscript_cli.specs.TextOut.{TextMeets, WritesOut}
 use Rattle.manuscript_cli.specs.Touched.{Change, HasRoom, IsTold, StaysCalm, change}
 use Rattle.manuscript_cli.specs.declared.refusal.Refusal.{Refusal}
@@ -74,7 +74,7 @@ module _ (text : Held → List ℕ) (file : Change DiskView) (replica : Replica)
 -- nothing was written, and why was told
 module _ (text : Held → List ℕ) (file : Change DiskView) (out : OutView) (notes : Change OutView) where
   ended : (why : Refusal) → (IsFinished (status_of why) → ⊥) → KeepsFile file → (DiskTells file.old → status_of why ≢ status.OutsideFault → file.new.faults ≡ file.old.faults)
-      → Told notes.old notes.new (line_of why) → ReportMeets text file (change out out) notes (status_of why) → ReportNeverOutside text file (change out out) notes (status_of why)
+      → Told notes.old notes.new (refusal_line why) → ReportMeets text file (change out out) notes (status_of why) → ReportNeverOutside text file (change out out) notes (status_of why)
       → FileDecides text file (change out out) (status_of why) → Reports text file (change out out) notes (status_of why)
   ended why unfinished keeps exact told meets never decides = record {
     meets = meets;
@@ -96,7 +96,7 @@ module _ (text : Held → List ℕ) (file : Change DiskView) (out : OutView) (no
   load_failed (Does written) rose = inl rose
 
   pub load_refused : (why : Refusal) → LoadMeets file (Err why) → (DiskTells file.old → status_of why ≢ status.OutsideFault → file.new.faults ≡ file.old.faults)
-      → Told notes.old notes.new (line_of why) → Reports text file (change out out) notes (status_of why)
+      → Told notes.old notes.new (refusal_line why) → Reports text file (change out out) notes (status_of why)
   load_refused refusal.Outside failed exact told = ended refusal.Outside (λ done. elim done [ inl is ↦ cc is | inr is ↦ cc is ]) failed.keeps exact told
       (inl (record { rose = failed.rose; no_room = failed.no_room; nothing = record { wrote = refl; noted = told } }))
       (λ is other found room has outside. failed.no_room room) (λ is other found. inr (inr (refl, load_failed other failed.rose)))

@@ -6,12 +6,12 @@ use Rattle.fugue_ids.specs.Outs.{OutView, Took}
 use Rattle.origin_model.specs.operations.Verdict.{Lawful}
 use Rattle.origin_model.specs.order.Laws.{OrderBySet}
 use Rattle.origin_model.specs.order.Printed.{manuscript}
-use Rattle.origin_model.specs.taking.Taking.{nothing}
+use Rattle.origin_model.specs.taking.Taking.{nothing_held}
 use Rattle.outer_ports.specs.disk.Disks.{DiskView}
 use Rattle.outer_ports.specs.disk.Moments.{History}
 use Rattle.origin_model.specs.edits.State.{State as Replica}
 use Rattle.replica_file.specs.Load.{Loads}
-use Rattle.replica_file.specs.declared.end.End.{End}
+use Rattle.replica_file.specs.declared.load_file.End.{End}
 use Rattle.manuscript_cli.proofs.FoundLemmas.{holds_once}
 use Rattle.manuscript_cli.proofs.LawfulLemmas.{held_lawful, printed_by_set}
 use Rattle.manuscript_cli.specs.Files.{FileHolds}
@@ -44,7 +44,7 @@ meets_named command named old new end same meets = subst (λ c. Meets c old new 
 loaded_lawful : (disk : DiskView) → IsTold disk → (replica : Replica) (at : End) → FileHolds disk replica at → Lawful replica.held.history
 loaded_lawful disk told replica at holds =
     let loads : Loads MOST_OPERATIONS told.0.last.seen replica at = subst (λ o. IfSome o (λ (h : History). Loads MOST_OPERATIONS h.last.seen replica at)) told.1 holds in
-    subst (λ (r : Replica). Lawful r.held.history) (sym loads.replica_is) (held_lawful loads.content.hold MOST_OPERATIONS nothing loads.content.ops tt)
+    subst (λ (r : Replica). Lawful r.held.history) (sym loads.replica_is) (held_lawful loads.content.hold MOST_OPERATIONS nothing_held loads.content.ops tt)
 
 -- what `print` wrote of a file is fixed by the set of what was accepted
 file_by_set : OrderBySet → (file : Change DiskView) (output notes : Change OutView) → ReportMeets printed_of file output notes status.Done → IsTold file.old

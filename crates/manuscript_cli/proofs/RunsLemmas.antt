@@ -8,7 +8,7 @@ use Rattle.fugue_ids.specs.declared.op.Op.{Op}
 use Rattle.origin_model.specs.files.Image.{Content}
 use Rattle.outer_ports.specs.disk.Disks.{DiskView}
 use Rattle.outer_ports.specs.disk.Moments.{History, LeavesOnly, LeftSince, moment, moments}
-use Rattle.outer_ports.specs.disk.States.{State, IsHonest, IsImage}
+use Rattle.outer_ports.specs.disk.States.{State, IsHonest, IsCrashImage}
 use Rattle.outer_ports.proofs.SharedLemmas.{last_leaves, leaves_joins, leaves_none, leaves_weaker}
 use Rattle.replica_file.proofs.AppendLemmas.{same_content}
 use Rattle.manuscript_cli.proofs.CrashLemmas.{has_one, safe_at_rest}
@@ -21,18 +21,18 @@ use Rattle.manuscript_cli.specs.declared.status.Status.{Status}
 use Rattle.manuscript_cli.specs.declared.status.Status.TheVariants as status
 
 -- what was left since a moment was left then, or by a state that came since
-left_since : (old new : History) (P : List ℕ → Type 0) → LeavesOnly old new P → ((image : List ℕ) → IsImage old.last image → P image) → (image : List ℕ) → LeftSince new (moment old) image → P image
+left_since : (old new : History) (P : List ℕ → Type 0) → LeavesOnly old new P → ((image : List ℕ) → IsCrashImage old.last image → P image) → (image : List ℕ) → LeftSince new (moment old) image → P image
 left_since old new P leaves first image left =
     let long : length (moments new) ≡ length leaves.recent + length (moments old) = ap length leaves.grows ∙ length-append leaves.recent (moments old) in
     let grown = ap (λ (l : List State). get_or l (moment new - left.m) new.last) leaves.grows in
     elim (cases_lt (moment new - left.m) (length leaves.recent)) [
       | inl below ↦
           let is = grown ∙ get_or_append_left leaves.recent (moments old) new.last (moment new - left.m) below in
-          leaves.each (moment new - left.m) new.last below image (subst (λ s. IsImage s image) is left.left)
+          leaves.each (moment new - left.m) new.last below image (subst (λ s. IsCrashImage s image) is left.left)
       | inr at ↦
           let none : moment new - left.m - length leaves.recent ≡ 0 = omega (arith, long, left.since, left.until) in
           let is = grown ∙ get_or-append_right leaves.recent (moments old) (length leaves.recent) (moment new - left.m) new.last refl at ∙ ap (λ (k : ℕ). get_or (moments old) k new.last) none in
-          first image (subst (λ s. IsImage s image) is left.left)
+          first image (subst (λ s. IsCrashImage s image) is left.left)
     ]
 
 -- one of the lists that a safe file may have
@@ -70,7 +70,7 @@ module _ (header : Header) (ops more gave : List Op) (h k : History) (end : Stat
   last_safe = by_recent stays.saves.recent stays.saves.grows stays.saves.each
     where
       HasOnly : List Op → List Op → State → Type 0
-      HasOnly first second s = (image : List ℕ) → IsImage s image → HasOpsOr header first second image
+      HasOnly first second s = (image : List ℕ) → IsCrashImage s image → HasOpsOr header first second image
 
       by_recent : (recent : List State) → moments k ≡ recent ++ moments stays.loaded → All (HasOnly stays.had gave) recent → IsSafe header ops more k.last ⊎ IsSafe header stays.had gave k.last
       by_recent [] grows each =
@@ -219,7 +219,7 @@ record HasAll (header : Header) (runs : List CommandRun) (ops more : List Op) (i
 
 record EachHasAll (header : Header) (runs : List CommandRun) (ops more : List Op) (s : State) : Type 0 where
   honest : IsHonest s
-  leaves : (image : List ℕ) → IsImage s image → HasAll header runs ops more image
+  leaves : (image : List ℕ) → IsCrashImage s image → HasAll header runs ops more image
 
 no_more_runs : (header : Header) (ops more : List Op) (image : List ℕ) → HasOpsOr header ops more image → HasAll header [] ops more image
 no_more_runs header ops more image (inl has) = record { base = ops; one = inl refl; brought = []; all = refl; has = subst (λ l. HasOps header l image) (sym (append-nil ops)) has }

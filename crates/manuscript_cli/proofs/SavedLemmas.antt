@@ -6,30 +6,30 @@ use Rattle.fugue_ids.specs.declared.limits.TheConstants.{MOST_OPERATIONS}
 use Rattle.fugue_ids.specs.declared.op.Op.{Op}
 use Rattle.outer_ports.specs.disk.Disks.{DiskView, RoomView, spent}
 use Rattle.outer_ports.specs.disk.Moments.{History, LeavesOnlyTo, MayLeave, after, stepped}
-use Rattle.outer_ports.specs.disk.States.{IsHonest, at_rest, settled}
+use Rattle.outer_ports.specs.disk.States.{IsHonest, at_rest, durable}
 use Rattle.outer_ports.proofs.SharedLemmas.{honest_at_rest, leaves_weaker}
 use Rattle.origin_model.specs.files.Image.{Content, HasImage, Holds, state}
 use Rattle.origin_model.specs.frames.Frames.{frames}
-use Rattle.origin_model.specs.taking.Taking.{HasPlace, held, nothing}
+use Rattle.origin_model.specs.taking.Taking.{HasPlace, held, nothing_held}
 use Rattle.origin_model.proofs.SharedLemmas.{held-append, places-append}
 use Rattle.origin_model.specs.edits.State.{State as Replica}
-use Rattle.replica_file.specs.Append.{HasBatch, HoldsEither, behind_gate, with_ops}
-use Rattle.replica_file.specs.declared.end.End.{End}
+use Rattle.replica_file.specs.Append.{HasBatch, HoldsEither, behind_gate, content_with_ops}
+use Rattle.replica_file.specs.declared.load_file.End.{End}
 use Rattle.replica_file.specs.Ends.{Means}
-use Rattle.replica_file.specs.Gates.{LastsFor, opened}
-use Rattle.replica_file.specs.Load.{Loads, replica_of}
-use Rattle.manuscript_cli.specs.Files.{GainsAllOrNone, HasOps, HasOpsOr, IsSaved, header_of}
+use Rattle.replica_file.specs.Gates.{LastsFor, gate_opened}
+use Rattle.replica_file.specs.Load.{Loads, content_replica}
+use Rattle.manuscript_cli.specs.Files.{GainsAllOrNone, HasOps, HasOpsOr, IsSaved, new_file_header}
 use Rattle.manuscript_cli.specs.Saving.{Outcome, Suffices, room_to_save}
 use Rattle.manuscript_cli.specs.Touched.{DiskStaysCalm, HasDiskRoom, change}
 
 -- an image that holds a content has its operations
-has_ops : (content : Content) (bytes : List ℕ) → HasImage bytes (Holds content) → HasOps (header_of content) content.ops bytes
+has_ops : (content : Content) (bytes : List ℕ) → HasImage bytes (Holds content) → HasOps (new_file_header content) content.ops bytes
 has_ops content bytes holds = record { content = content; holds = holds; header_is = refl; ops_are = refl }
 
-has_more : (content : Content) (ops : List Op) (bytes : List ℕ) → HasImage bytes (Holds (with_ops content ops)) → HasOps (header_of content) (content.ops ++ ops) bytes
-has_more content ops bytes holds = record { content = with_ops content ops; holds = holds; header_is = refl; ops_are = refl }
+has_more : (content : Content) (ops : List Op) (bytes : List ℕ) → HasImage bytes (Holds (content_with_ops content ops)) → HasOps (new_file_header content) (content.ops ++ ops) bytes
+has_more content ops bytes holds = record { content = content_with_ops content ops; holds = holds; header_is = refl; ops_are = refl }
 
-has_either : (content : Content) (ops : List Op) (bytes : List ℕ) → HoldsEither content ops bytes → HasOpsOr (header_of content) content.ops ops bytes
+has_either : (content : Content) (ops : List Op) (bytes : List ℕ) → HoldsEither content ops bytes → HasOpsOr (new_file_header content) content.ops ops bytes
 has_either content ops bytes (inl holds) = inl (has_ops content bytes holds)
 has_either content ops bytes (inr holds) = inr (has_more content ops bytes holds)
 
@@ -49,14 +49,14 @@ module _ (replica : Replica) (end : End) (ops : List Op) where
   Loaded past = IfSome past (λ h. Loads MOST_OPERATIONS h.last.seen replica end)
 
   -- all of them or none, from the load on
-  pub gains_so : (old mid new : Option History) → Loaded old → mid ≡ after settled old → IfSome old (λ h. LeavesOnlyTo h mid (MayLeave h)) → Leaves ops mid new
+  pub gains_so : (old mid new : Option History) → Loaded old → mid ≡ after durable old → IfSome old (λ h. LeavesOnlyTo h mid (MayLeave h)) → Leaves ops mid new
       → IfSome new (λ k. IsHonest k.last) → Gains ops old new
   gains_so None mid new loads synced moments leaves honest = tt
   gains_so (Some h) mid new loads synced moments leaves honest = record {
     content = loads.content;
     holds = loads.holds;
     loads = subst (λ m. LeavesOnlyTo h m (MayLeave h)) synced moments;
-    gains = weaker_to (HoldsEither loads.content ops) (HasOpsOr (header_of loads.content) loads.content.ops ops) (has_either loads.content ops) (stepped settled h) new
+    gains = weaker_to (HoldsEither loads.content ops) (HasOpsOr (new_file_header loads.content) loads.content.ops ops) (has_either loads.content ops) (stepped durable h) new
         (subst (λ m. Leaves ops m new) synced leaves loads.content loads.holds);
     honest = honest;
   }
@@ -71,9 +71,9 @@ module _ (replica : Replica) (end : End) (ops : List Op) where
 
 -- what stands at the end, where no operations were saved and where some were
 abbrev AtEnd : List Op → Content → Option History → Type 0
-AtEnd ops content new = IfSome new (λ k. HasOps (header_of content) (content.ops ++ ops) k.last.seen) × IfSome new (λ k. k.last ≡ at_rest k.last.seen)
+AtEnd ops content new = IfSome new (λ k. HasOps (new_file_header content) (content.ops ++ ops) k.last.seen) × IfSome new (λ k. k.last ≡ at_rest k.last.seen)
 
-still_at_end : (h : History) (content : Content) (new : Option History) → HasImage h.last.seen (Holds content) → new ≡ Some (stepped settled h) → AtEnd [] content new
+still_at_end : (h : History) (content : Content) (new : Option History) → HasImage h.last.seen (Holds content) → new ≡ Some (stepped durable h) → AtEnd [] content new
 still_at_end h content new holds is = subst (AtEnd [] content) (sym is) (record { content = content; holds = holds; header_is = refl; ops_are = sym (append-nil content.ops) }, refl)
 
 batch_at_end : (content : Content) (end : End) (ops : List Op) (new : Option History) → IfSome new (λ k. HasBatch content end ops k.last) → AtEnd ops content new
@@ -83,14 +83,14 @@ batch_at_end content end ops (Some k) has = (has_more content ops k.last.seen ha
 abbrev Batched : List Op → End → Option History → Option History → Type 0
 Batched ops end mid new = IfSome mid (λ h. (content : Content) → Means h.last content → IfSome new (λ k. HasBatch content end ops k.last))
 
-at_end : (replica : Replica) (end : End) (ops : List Op) (h : History) (mid new : Option History) (loads : Loads MOST_OPERATIONS h.last.seen replica end) → mid ≡ Some (stepped settled h)
+at_end : (replica : Replica) (end : End) (ops : List Op) (h : History) (mid new : Option History) (loads : Loads MOST_OPERATIONS h.last.seen replica end) → mid ≡ Some (stepped durable h)
     → (ops ≡ [] → new ≡ mid) → (ops ≢ [] → Batched ops end mid new) → AtEnd ops loads.content new
 at_end replica end [] h mid new loads synced none appended = still_at_end h loads.content new loads.holds (none refl ∙ synced)
 at_end replica end (op ∷ ops) h mid new loads synced none appended =
     batch_at_end loads.content end (op ∷ ops) new (subst (λ m. Batched (op ∷ ops) end m new) synced (appended (λ e. cc e)) loads.content loads.holds)
 
 -- the operations were saved
-pub saved_so : (replica : Replica) (end : End) (ops : List Op) (old mid new : Option History) → IfSome old (λ h. Loads MOST_OPERATIONS h.last.seen replica end) → mid ≡ after settled old
+pub saved_so : (replica : Replica) (end : End) (ops : List Op) (old mid new : Option History) → IfSome old (λ h. Loads MOST_OPERATIONS h.last.seen replica end) → mid ≡ after durable old
     → IfSome old (λ h. LeavesOnlyTo h mid (MayLeave h)) → Leaves ops mid new → (ops ≡ [] → new ≡ mid) → (ops ≢ [] → Batched ops end mid new) → IfSome old (λ h. IsSaved ops h new)
 unfolding gains_so
 saved_so replica end ops None mid new loads synced moments leaves none appended = tt
@@ -107,19 +107,19 @@ module _ (bytes bytes' : List ℕ) (replica : Replica) (end : End) (outcome : Ou
   abbrev content : Content
   content = loads.content
 
-  enough : Suffices (replica_of content MOST_OPERATIONS) outcome
+  enough : Suffices (content_replica content MOST_OPERATIONS) outcome
   enough = subst (λ r. Suffices r outcome) loads.replica_is suffices
 
   same_state : state content' ≡ outcome.held
-  same_state = (λ i. held (hold i) MOST_OPERATIONS (ops i)) ∙ sym (held-append content.hold MOST_OPERATIONS nothing content.ops outcome.saved) ∙ enough.same_state
+  same_state = (λ i. held (hold i) MOST_OPERATIONS (ops i)) ∙ sym (held-append content.hold MOST_OPERATIONS nothing_held content.ops outcome.saved) ∙ enough.same_state
 
   -- a file with the outcome's operations is loaded as its state
   loads_more : Loads MOST_OPERATIONS bytes' (record replica { held = outcome.held }) (record { at = content'.at; slots = content'.slots })
   loads_more = record {
     content = content';
     holds = holds;
-    place = subst (λ n. HasPlace n MOST_OPERATIONS nothing content'.ops) (sym hold) (subst (HasPlace content.hold MOST_OPERATIONS nothing) (sym ops)
-        (places-append content.hold MOST_OPERATIONS nothing content.ops outcome.saved loads.place enough.place));
+    place = subst (λ n. HasPlace n MOST_OPERATIONS nothing_held content'.ops) (sym hold) (subst (HasPlace content.hold MOST_OPERATIONS nothing_held) (sym ops)
+        (places-append content.hold MOST_OPERATIONS nothing_held content.ops outcome.saved loads.place enough.place));
     replica_is = ap (λ (r : Replica). record r { held = outcome.held }) loads.replica_is
         ∙ (λ i. record { number = sym number i; hold = sym hold i; most = MOST_OPERATIONS; held = sym same_state i });
     end_is = refl;
@@ -132,26 +132,26 @@ batch_loads : (bytes : List ℕ) (replica : Replica) (end : End) (outcome : Outc
     → IfSome new (λ k. HasBatch loads.content end outcome.saved k.last) → LoadsAs (record replica { held = outcome.held }) new
 batch_loads bytes replica end outcome loads suffices None has = (end, tt)
 batch_loads bytes replica end outcome loads suffices (Some k) has =
-    let more : Content = with_ops loads.content outcome.saved in
+    let more : Content = content_with_ops loads.content outcome.saved in
     (record { at = more.at; slots = more.slots }, loads_more bytes k.last.seen replica end outcome loads suffices more has.means refl refl refl)
 
 still_loads : (replica : Replica) (end : End) (outcome : Outcome) (h : History) (new : Option History) → Loads MOST_OPERATIONS h.last.seen replica end → Suffices replica outcome → [] ≡ outcome.saved
-    → new ≡ Some (stepped settled h) → LoadsAs (record replica { held = outcome.held }) new
-still_loads replica end outcome h new loads suffices nothing is =
+    → new ≡ Some (stepped durable h) → LoadsAs (record replica { held = outcome.held }) new
+still_loads replica end outcome h new loads suffices nothing_held is =
     subst (LoadsAs (record replica { held = outcome.held })) (sym is) (
       record { at = loads.content.at; slots = loads.content.slots },
       loads_more h.last.seen h.last.seen replica end outcome loads suffices loads.content loads.holds refl refl
-          (sym (append-nil loads.content.ops) ∙ ap (λ l. loads.content.ops ++ l) nothing),
+          (sym (append-nil loads.content.ops) ∙ ap (λ l. loads.content.ops ++ l) nothing_held),
     )
 
 -- where nothing is told at first, nothing is told then
-untold : (end : End) (ops : List Op) (mid new : Option History) → mid ≡ None → (ops ≡ [] → new ≡ mid) → (ops ≢ [] → new ≡ opened end.at (behind_gate ops) mid) → new ≡ None
+untold : (end : End) (ops : List Op) (mid new : Option History) → mid ≡ None → (ops ≡ [] → new ≡ mid) → (ops ≢ [] → new ≡ gate_opened end.at (behind_gate ops) mid) → new ≡ None
 untold end [] mid new is none calls = none refl ∙ is
-untold end (op ∷ ops) mid new is none calls = calls (λ e. cc e) ∙ ap (opened end.at (behind_gate (op ∷ ops))) is
+untold end (op ∷ ops) mid new is none calls = calls (λ e. cc e) ∙ ap (gate_opened end.at (behind_gate (op ∷ ops))) is
 
 -- a later load comes to the outcome's state
 pub later_so : (replica : Replica) (end : End) (outcome : Outcome) (old mid new : Option History) → IfSome old (λ h. Loads MOST_OPERATIONS h.last.seen replica end) → Suffices replica outcome
-    → mid ≡ after settled old → (outcome.saved ≡ [] → new ≡ mid) → (outcome.saved ≢ [] → new ≡ opened end.at (behind_gate outcome.saved) mid) → (outcome.saved ≢ [] → Batched outcome.saved end mid new)
+    → mid ≡ after durable old → (outcome.saved ≡ [] → new ≡ mid) → (outcome.saved ≢ [] → new ≡ gate_opened end.at (behind_gate outcome.saved) mid) → (outcome.saved ≢ [] → Batched outcome.saved end mid new)
     → LoadsAs (record replica { held = outcome.held }) new
 later_so replica end outcome None mid new loads suffices synced none calls appended =
     (end, subst (λ o. IfSome o (λ k. Loads MOST_OPERATIONS k.last.seen (record replica { held = outcome.held }) end)) (sym (untold end outcome.saved mid new synced none calls)) tt)

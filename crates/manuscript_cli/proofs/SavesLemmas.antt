@@ -5,12 +5,12 @@ use Rattle.fugue_ids.specs.Causes.{Rose}
 use Rattle.fugue_ids.specs.Outs.{OutView}
 use Rattle.outer_ports.specs.disk.Disks.{DiskView}
 use Rattle.outer_ports.specs.disk.Moments.{after}
-use Rattle.outer_ports.specs.disk.States.{settled}
+use Rattle.outer_ports.specs.disk.States.{durable}
 use Rattle.manuscript_cli.specs.Crashes.{IsFinished, NeverTorn}
 use Rattle.manuscript_cli.specs.Files.{FileRefuses, KeepsFile, LoadFailed}
 use Rattle.manuscript_cli.specs.Findings.{Finding, Refuses, Does, IsDecided}
 use Rattle.manuscript_cli.specs.Printing.{NoteMeets}
-use Rattle.manuscript_cli.specs.Refusal.{line_of, status_of, Told}
+use Rattle.manuscript_cli.specs.Refusal.{refusal_line, status_of, Told}
 use Rattle.manuscript_cli.specs.Saving.{ComesToSave, FileIsRefused, Gave, Giver, GivesOnce, GivingFailed, IsDone, Outcome, SaveFailed, SavesGiven, SavingFound, SavingMeets, SomeFails, Stopped, StopsSaving, outcome_status, room_needed}
 use Rattle.manuscript_cli.specs.Touched.{Change, DiskStaysCalm, HasDiskRoom, HasRoom, IsTold, StaysCalm, notes_room}
 use Rattle.manuscript_cli.specs.declared.refusal.Refusal.{Refusal}
@@ -55,7 +55,7 @@ module _ (giver : Giver) (once : GivesOnce giver) (file : Change DiskView) where
   abbrev Causes : Refusal → Type 0
   Causes why = ((why ≡ refusal.Outside) × SomeFailed) ⊎ ((why ≡ refusal.NoMemory) × KeepsFile file) ⊎ IsFound why
 
-  found_so : (why : Refusal) → SavingFound giver file.old (Refuses why) × KeepsFile file × (FileRefuses file.old why ⊎ (file.new.past ≡ after settled file.old.past)) → status_of why ≢ status.OutsideFault → (IsFinished (status_of why) → ⊥) → Causes why
+  found_so : (why : Refusal) → SavingFound giver file.old (Refuses why) × KeepsFile file × (FileRefuses file.old why ⊎ (file.new.past ≡ after durable file.old.past)) → status_of why ≢ status.OutsideFault → (IsFinished (status_of why) → ⊥) → Causes why
   found_so why stops inside not_done = inr (inr (record { found = stops.0; keeps = stops.1; inside = inside; not_done = not_done }))
 
   -- a status that is neither Done nor Partial
@@ -161,11 +161,11 @@ module _ (giver : Giver) (once : GivesOnce giver) (file : Change DiskView) where
       refused = λ told why cause. absurd (holds_or_refuses file.old told (done.replica, done.end) why done.holds cause);
     }
 
-    module _ (why : Refusal) (stops : StopsSaving giver file why) (told_so : Told notes.old notes.new (line_of why)) where
+    module _ (why : Refusal) (stops : StopsSaving giver file why) (told_so : Told notes.old notes.new (refusal_line why)) where
       abbrev stopped : (end : Status) → end ≡ status_of why → Stopped giver file notes end
       stopped end is = record { why = why; stops = stops; noted = told_so; end_is = is }
 
-    stopped_meets : (why : Refusal) → StopsSaving giver file why → Told notes.old notes.new (line_of why) → SavingMeets giver file notes (status_of why)
+    stopped_meets : (why : Refusal) → StopsSaving giver file why → Told notes.old notes.new (refusal_line why) → SavingMeets giver file notes (status_of why)
     stopped_meets refusal.Words stops noted = absurd stops
     stopped_meets (refusal.BadFrame offset) stops noted = stopped (refusal.BadFrame offset) stops noted status.BadInput refl
     stopped_meets (refusal.CutShort offset) stops noted = stopped (refusal.CutShort offset) stops noted status.BadInput refl
@@ -239,7 +239,7 @@ module _ (giver : Giver) (once : GivesOnce giver) (file : Change DiskView) where
     follows why (inr (inr is)) = found_follows why is
 
     -- it stopped, and the notes were told why
-    pub told_saves : (why : Refusal) → ComesToSave giver file (Err why) → Told notes.old notes.new (line_of why) → SavesGiven giver file notes (status_of why)
+    pub told_saves : (why : Refusal) → ComesToSave giver file (Err why) → Told notes.old notes.new (refusal_line why) → SavesGiven giver file notes (status_of why)
     told_saves why stops noted =
         let rest = follows why (causes why stops) in
         record {

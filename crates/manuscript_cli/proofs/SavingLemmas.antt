@@ -3,12 +3,12 @@ use Rattle.std.proofs.Common.{◌≡◌, inl, inr, refl, ap, sym, subst, arith, 
 use Rattle.std.specs.Prelude.{◌⊎◌, Result, Ok, Err}
 use Rattle.outer_ports.specs.disk.Disks.{DiskView}
 use Rattle.outer_ports.specs.disk.Moments.{after}
-use Rattle.outer_ports.specs.disk.States.{settled}
+use Rattle.outer_ports.specs.disk.States.{durable}
 use Rattle.origin_model.specs.edits.State.{State as Replica}
 use Rattle.replica_file.proofs.HonestLemmas.{settled_honest}
 use Rattle.replica_file.specs.Append.{IsTooLong, behind_gate}
-use Rattle.replica_file.specs.Gates.{opened}
-use Rattle.replica_file.specs.declared.end.End.{End}
+use Rattle.replica_file.specs.Gates.{gate_opened}
+use Rattle.replica_file.specs.declared.load_file.End.{End}
 use Rattle.manuscript_cli.specs.Files.{AppendFailed, FileRefuses, IsAppended, IsLoaded, KeepsFile, LoadMeets, SaveMeets}
 use Rattle.manuscript_cli.specs.Findings.{Refuses, Does}
 use Rattle.manuscript_cli.specs.Saving.{ComesToSave, GivenMeets, Giver, IsDone, Outcome, SaveFailed, SavingFound, StopsSaving, Suffices}
@@ -31,7 +31,7 @@ module _ (giver : Giver) (a b c : DiskView) (replica : Replica) (end : End) (loa
     saves = saved_so replica end outcome.saved a.past b.past c.past loaded.holds loaded.synced loaded.keeps.moments saves.moments (λ is. ap (λ (d : DiskView). d.past) (saves.none is)) saves.appended;
     later = later_so replica end outcome a.past b.past c.past loaded.holds suffices loaded.synced (λ is. ap (λ (d : DiskView). d.past) (saves.none is)) saves.calls saves.appended;
     none = λ is. same_past (saves.none is) ∙ loaded.synced;
-    batch = λ some. saves.calls some ∙ ap (opened end.at (behind_gate outcome.saved)) loaded.synced;
+    batch = λ some. saves.calls some ∙ ap (gate_opened end.at (behind_gate outcome.saved)) loaded.synced;
     calm = calm_so outcome.saved a b c loaded.keeps.calm loaded.room saves.none saves.calm;
   }
 
@@ -55,7 +55,7 @@ module _ (giver : Giver) (a b c : DiskView) (replica : Replica) (end : End) (loa
   abbrev IsGiven : Refusal → Type 0
   IsGiven why = giver.Gives replica (Refuses why) ⊎ ((why ≡ refusal.BatchTooLong) × (outcome : Outcome) × giver.Gives replica (Does outcome) × IsTooLong end outcome.saved)
 
-  refused_so : (why : Refusal) → IsGiven why × (c ≡ b) → SavingFound giver a (Refuses why) × KeepsFile (change a c) × (FileRefuses a why ⊎ (c.past ≡ after settled a.past))
+  refused_so : (why : Refusal) → IsGiven why × (c ≡ b) → SavingFound giver a (Refuses why) × KeepsFile (change a c) × (FileRefuses a why ⊎ (c.past ≡ after durable a.past))
   refused_so why given = (inr (replica, end, loaded.holds, given.0), still_kept given.1, inr (same_past given.1 ∙ loaded.synced))
 
   stops_so : (why : Refusal) → GivenMeets giver replica end (change b c) (Err why) → StopsSaving giver (change a c) why

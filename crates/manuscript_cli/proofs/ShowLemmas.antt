@@ -6,17 +6,17 @@ use Rattle.fugue_ids.specs.Outs.{OutView}
 use Rattle.fugue_ids.specs.declared.op.Op.{Op}
 use Rattle.outer_ports.specs.Sources.{SourceView}
 use Rattle.origin_model.specs.order.Printed.{manuscript}
-use Rattle.origin_model.specs.taking.Taking.{Held, nothing, held, tally}
-use Rattle.origin_model.specs.declared.taking.tally.Tally.{Tally}
-use Rattle.op_frame.specs.Courses.{Course, Whole}
+use Rattle.origin_model.specs.taking.Taking.{Held, nothing_held, held, tally}
+use Rattle.origin_model.specs.declared.taking.Tally.{Tally}
+use Rattle.op_frame.specs.Courses.{IntakeCourse, Whole}
 use Rattle.op_frame.proofs.CourseLemmas.{comes_once}
 use Rattle.origin_model.specs.edits.State.{State}
 use Rattle.manuscript_cli.specs.Counts.{is_done}
 use Rattle.fugue_ids.specs.declared.limits.TheConstants.{MOST_OPERATIONS, STREAM_LIMIT}
 use Rattle.manuscript_cli.specs.Printing.{PrintMeets}
-use Rattle.manuscript_cli.specs.Refusal.{line_of, Told, status_of}
-use Rattle.manuscript_cli.specs.Show.{reader, ComesTo, Finished, ShowMeets, NeverOutside, brought, printed}
-use Rattle.manuscript_cli.specs.Intake.{TakesIn, StopsFor}
+use Rattle.manuscript_cli.specs.Refusal.{refusal_line, Told, status_of}
+use Rattle.manuscript_cli.specs.Show.{reader, ShowEndsAs, Finished, ShowMeets, NeverOutside, brought, shown_output}
+use Rattle.manuscript_cli.specs.Intake.{TakesIn, IntakeStopsFor}
 use Rattle.manuscript_cli.specs.Touched.{Streams, HasRoom, StaysCalm}
 use Rattle.manuscript_cli.specs.declared.refusal.Refusal.{Refusal}
 use Rattle.manuscript_cli.specs.declared.refusal.Refusal.TheVariants as refusal
@@ -71,16 +71,16 @@ printed_meets hold old new replica counts kept kept_after end taken prints =
     })))
 
 -- the stream was refused
-pub refused_meets : (why : Refusal) (hold : ℕ) (old new : Streams) → StopsFor why (reader hold) old.input
+pub refused_meets : (why : Refusal) (hold : ℕ) (old new : Streams) → IntakeStopsFor why (reader hold) old.input
     → (why ≡ refusal.Outside → Rose old.input.faults new.input.faults) → (old.input.sure ≡ true → why ≢ refusal.Outside)
-    → new.output ≡ old.output → Told old.notes new.notes (line_of why) → ShowMeets hold old new (status_of why)
+    → new.output ≡ old.output → Told old.notes new.notes (refusal_line why) → ShowMeets hold old new (status_of why)
 refused_meets (refusal.BadFrame k) hold old new stops rose sure same told = (k, inl (record { ops = stops.0; came = stops.1; refused = record { output = same; notes = told } }))
 refused_meets (refusal.CutShort k) hold old new stops rose sure same told = (k, inr (record { ops = stops.0; came = stops.1; refused = record { output = same; notes = told } }))
 refused_meets refusal.TooLong hold old new stops rose sure same told = inl (record { ops = stops.0; came = stops.1; refused = record { output = same; notes = told } })
 refused_meets (refusal.TooMany count) hold old new stops rose sure same told = inr (record {
   ops = stops.1;
   came = stops.2;
-  refused = record { output = same; notes = subst (λ n. Told old.notes new.notes (line_of (refusal.TooMany n))) stops.0 told };
+  refused = record { output = same; notes = subst (λ n. Told old.notes new.notes (refusal_line (refusal.TooMany n))) stops.0 told };
 })
 refused_meets refusal.Outside hold old new stops rose sure same told =
     inl (record { rose = rose refl; not_sure = λ is. sure is refl; refused = record { output = same; notes = told } })
@@ -88,19 +88,19 @@ refused_meets refusal.NoMemory hold old new stops rose sure same told = record {
 refused_meets _ hold old new stops rose sure same told = absurd stops
 
 -- what the input came to is what its bytes come to
-pub same_input : (hold : ℕ) (left : Option (List ℕ)) (bytes : List ℕ) (ops others : List Op) (course other : Course) → left ≡ Some bytes
-    → IfSome left (λ b. ComesTo hold b ops course) → ComesTo hold bytes others other → (ops ≡ others) × (course ≡ other)
+pub same_input : (hold : ℕ) (left : Option (List ℕ)) (bytes : List ℕ) (ops others : List Op) (course other : IntakeCourse) → left ≡ Some bytes
+    → IfSome left (λ b. ShowEndsAs hold b ops course) → ShowEndsAs hold bytes others other → (ops ≡ others) × (course ≡ other)
 same_input hold left bytes ops others course other is came comes =
-    comes_once hold MOST_OPERATIONS nothing STREAM_LIMIT bytes ops others course other (subst (λ l. IfSome l (λ b. ComesTo hold b ops course)) is came) comes
+    comes_once hold MOST_OPERATIONS nothing_held STREAM_LIMIT bytes ops others course other (subst (λ l. IfSome l (λ b. ShowEndsAs hold b ops course)) is came) comes
 
 -- of a whole input its manuscript is brought
-brought_of : (hold : ℕ) (ops others : List Op) (course : Course) → (ops ≡ others) × (Whole ≡ course) → brought hold others course ≡ printed hold nothing ops
+brought_of : (hold : ℕ) (ops others : List Op) (course : IntakeCourse) → (ops ≡ others) × (Whole ≡ course) → brought hold others course ≡ shown_output hold nothing_held ops
 brought_of hold ops others course same = λ i. brought hold (sym same.0 i) (sym same.1 i)
 
 -- where the manuscript has room, the output stays calm
 pub output_calm : (hold : ℕ) (input input' : SourceView) (output output' : OutView) (replica : State) (counts : Tally) (kept kept_after : Option (List Op))
-    → TakesIn (reader hold) input input' replica counts kept kept_after → StaysCalm (length (manuscript replica.held.history)) output output' → (bytes : List ℕ) (ops : List Op) (course : Course) → input.left ≡ Some bytes
-    → ComesTo hold bytes ops course → StaysCalm (length (brought hold ops course)) output output'
+    → TakesIn (reader hold) input input' replica counts kept kept_after → StaysCalm (length (manuscript replica.held.history)) output output' → (bytes : List ℕ) (ops : List Op) (course : IntakeCourse) → input.left ≡ Some bytes
+    → ShowEndsAs hold bytes ops course → StaysCalm (length (brought hold ops course)) output output'
 output_calm hold input input' output output' replica counts kept kept_after taken calm bytes ops course is comes has =
     let same = brought_of hold taken.ops ops course (same_input hold input.left bytes taken.ops ops Whole course is taken.came comes) in
     calm (subst (λ text. HasRoom (length text) output) (same ∙ ap (λ (r : State). manuscript r.held.history) (sym taken.replica_is)) has)

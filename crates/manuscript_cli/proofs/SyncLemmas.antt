@@ -5,19 +5,19 @@ use Rattle.std.proofs.lemmas.Fmt.{length-decimal-le}
 use Rattle.fugue_ids.specs.Causes.{Rose}
 use Rattle.fugue_ids.specs.Outs.{Took}
 use Rattle.fugue_ids.specs.declared.op.Op.{Op}
-use Rattle.origin_model.specs.declared.taking.tally.Tally.{Tally}
+use Rattle.origin_model.specs.declared.taking.Tally.{Tally}
 use Rattle.origin_model.specs.taking.Taking.{IsSettled}
 use Rattle.outer_ports.specs.disk.Disks.{DiskView}
 use Rattle.outer_ports.specs.wire.Wires.{WireView, out_of}
 use Rattle.relay_sync.specs.Outcomes.{Bad, Cut, Ended, HeardTo, HeardUpTo, Refused, ReplyComes, ReplyEnd, TooLong, TooMany}
-use Rattle.relay_sync.specs.Saying.{text_for}
-use Rattle.relay_sync.specs.Syncing.{Fails, Fits, Syncs}
-use Rattle.relay_sync.specs.declared.sync_fault.SyncFault.{SyncFault}
-use Rattle.relay_sync.specs.declared.sync_fault.SyncFault.TheVariants as sync_fault
+use Rattle.relay_sync.specs.Saying.{request_for}
+use Rattle.relay_sync.specs.Syncing.{SyncFails, Fits, Syncs}
+use Rattle.relay_sync.specs.declared.syncing.SyncFault.{SyncFault}
+use Rattle.relay_sync.specs.declared.syncing.SyncFault.TheVariants as sync_fault
 use Rattle.relay_sync.proofs.OutcomeLemmas.{reply_comes_once}
-use Rattle.replica_core.specs.Keeping.{TakesIn, Taking, begun}
+use Rattle.replica_core.specs.Keeping.{TakesIn, OpsTaking, taking_begun}
 use Rattle.origin_model.specs.edits.State.{State as Replica}
-use Rattle.replica_file.specs.declared.end.End.{End}
+use Rattle.replica_file.specs.declared.load_file.End.{End}
 use Rattle.manuscript_cli.specs.Counts.{cursor_line}
 use Rattle.manuscript_cli.specs.Files.{FileHolds}
 use Rattle.manuscript_cli.specs.Findings.{Finding, Refuses, Does}
@@ -44,14 +44,14 @@ exchange_short line cursor fits short = omega (arith, short, cursor_short cursor
 still_said : (old asked new : WireView) (text : List ℕ) → Took (out_of old) (out_of asked) text → new.said ≡ asked.said → new.room ≡ asked.room → Took (out_of old) (out_of new) text
 still_said old asked new text took said room = record { written = said ∙ took.written; room = room ∙ took.room }
 
-module _ (port cursor : ℕ) (old new : WireView) (before after : Taking) (done : Type 0)
-    (calm : Fits (length (text_for cursor before.replica.held)) old → new.faults ≡ old.faults) where
+module _ (port cursor : ℕ) (old new : WireView) (before after : OpsTaking) (done : Type 0)
+    (calm : Fits (length (request_for cursor before.replica.held)) old → new.faults ≡ old.faults) where
   -- the replica spoke and heard the reply
   pub speaks_whole : (count : ℕ) → Syncs old new before after port cursor count → Speaks port cursor before.replica.held (change old new) done
   speaks_whole count s =
-      let took = still_said old s.asked new (text_for cursor before.replica.held) s.asks.said s.hears.hears.said s.hears.hears.room in
+      let took = still_said old s.asked new (request_for cursor before.replica.held) s.asks.said s.hears.hears.said s.hears.hears.room in
       record {
-        front = whole_front (out_of old) (out_of new) (text_for cursor before.replica.held) took;
+        front = whole_front (out_of old) (out_of new) (request_for cursor before.replica.held) took;
         no_other = inl (s.hears.hears.port ∙ s.asks.dialled);
         whole = λ d. took;
         dialled = λ d. s.hears.hears.port ∙ s.asks.dialled;
@@ -60,11 +60,11 @@ module _ (port cursor : ℕ) (old new : WireView) (before after : Taking) (done 
       }
 
   -- it spoke up to a fault, or heard the reply up to one
-  pub speaks_front : (fault : SyncFault) → Fails fault old new before after port cursor → (done → ⊥) → Speaks port cursor before.replica.held (change old new) done
+  pub speaks_front : (fault : SyncFault) → SyncFails fault old new before after port cursor → (done → ⊥) → Speaks port cursor before.replica.held (change old new) done
   speaks_front fault (inl asks) not_done = record { front = asks.said; no_other = asks.no_other; whole = λ d. absurd (not_done d); dialled = λ d. absurd (not_done d); heard = λ d. absurd (not_done d); calm = calm }
   speaks_front fault (inr hear) not_done = record {
-    front = whole_front (out_of old) (out_of new) (text_for cursor before.replica.held)
-        (still_said old hear.asked new (text_for cursor before.replica.held) hear.asks.said hear.hears.hears.said hear.hears.hears.room);
+    front = whole_front (out_of old) (out_of new) (request_for cursor before.replica.held)
+        (still_said old hear.asked new (request_for cursor before.replica.held) hear.asks.said hear.hears.hears.said hear.hears.hears.room);
     no_other = inl (hear.hears.hears.port ∙ hear.asks.dialled);
     whole = λ d. absurd (not_done d);
     dialled = λ d. absurd (not_done d);
@@ -73,36 +73,36 @@ module _ (port cursor : ℕ) (old new : WireView) (before after : Taking) (done 
   }
 
 -- the operations of a reply that was heard to its end
-pub reply_ops : (told : Option (List ℕ)) (before after : Taking) (end : ReplyEnd) (ops : List Op) → TakesIn before after ops → HeardTo told before after end
+pub reply_ops : (told : Option (List ℕ)) (before after : OpsTaking) (end : ReplyEnd) (ops : List Op) → TakesIn before after ops → HeardTo told before after end
     → (all : List Op) × IfSome told (λ bytes. ReplyComes before.replica.hold before.replica.most before.replica.held bytes all end) × TakesIn before after all
 reply_ops None before after end ops takes heard = (ops, tt, takes)
 reply_ops (Some bytes) before after end ops takes heard = (heard.ops, heard.comes, heard.takes)
 
 -- those that were taken in before a fault
-cause_ops : (told : Option (List ℕ)) (before after : Taking) (end : ReplyEnd) → HeardTo told before after end
+cause_ops : (told : Option (List ℕ)) (before after : OpsTaking) (end : ReplyEnd) → HeardTo told before after end
     → (all : List Op) × IfSome told (λ bytes. ReplyComes before.replica.hold before.replica.most before.replica.held bytes all end)
 cause_ops None before after end heard = ([], tt)
 cause_ops (Some bytes) before after end heard = (heard.ops, heard.comes)
 
 -- an exchange that stopped gives its refusal
-pub reply_gives_none : (fault : SyncFault) (port cursor : ℕ) (replica now : Replica) (kept : List Op) (after last : Taking) (end : End) (home : DiskView) (wire : Change WireView) (kept_after : Option (List Op))
-    → FileHolds home replica end → Fails fault wire.old wire.new (begun replica kept) after port cursor → HeardUpTo fault wire.old.left (begun replica kept) last
-    → (fault ≡ sync_fault.WireFault → Rose wire.old.faults wire.new.faults) → (Fits (length (text_for cursor replica.held)) wire.old → fault ≢ sync_fault.WireFault)
+pub reply_gives_none : (fault : SyncFault) (port cursor : ℕ) (replica now : Replica) (kept : List Op) (after last : OpsTaking) (end : End) (home : DiskView) (wire : Change WireView) (kept_after : Option (List Op))
+    → FileHolds home replica end → SyncFails fault wire.old wire.new (taking_begun replica kept) after port cursor → HeardUpTo fault wire.old.left (taking_begun replica kept) last
+    → (fault ≡ sync_fault.WireFault → Rose wire.old.faults wire.new.faults) → (Fits (length (request_for cursor replica.held)) wire.old → fault ≢ sync_fault.WireFault)
     → GivesTo (reply cursor home wire) replica now kept_after (Err (sync_refusal fault))
 reply_gives_none sync_fault.WireFault port cursor replica now kept after last end home wire kept_after holds fails heard rose sure = (rose refl, λ fits. sure (fits replica end holds) refl)
-reply_gives_none (sync_fault.BadReply k) port cursor replica now kept after last end home wire kept_after holds fails heard rose sure = cause_ops wire.old.left (begun replica kept) last (Bad k) heard
+reply_gives_none (sync_fault.BadReply k) port cursor replica now kept after last end home wire kept_after holds fails heard rose sure = cause_ops wire.old.left (taking_begun replica kept) last (Bad k) heard
 reply_gives_none (sync_fault.RelayRefused code) port cursor replica now kept after last end home wire kept_after holds fails heard rose sure =
-    cause_ops wire.old.left (begun replica kept) last (Refused code) heard
-reply_gives_none (sync_fault.CutShort k) port cursor replica now kept after last end home wire kept_after holds fails heard rose sure = cause_ops wire.old.left (begun replica kept) last (Cut k) heard
-reply_gives_none sync_fault.TooLong port cursor replica now kept after last end home wire kept_after holds fails heard rose sure = cause_ops wire.old.left (begun replica kept) last TooLong heard
+    cause_ops wire.old.left (taking_begun replica kept) last (Refused code) heard
+reply_gives_none (sync_fault.CutShort k) port cursor replica now kept after last end home wire kept_after holds fails heard rose sure = cause_ops wire.old.left (taking_begun replica kept) last (Cut k) heard
+reply_gives_none sync_fault.TooLong port cursor replica now kept after last end home wire kept_after holds fails heard rose sure = cause_ops wire.old.left (taking_begun replica kept) last TooLong heard
 reply_gives_none (sync_fault.TooMany most) port cursor replica now kept after last end home wire kept_after holds fails heard rose sure =
-    let cause = cause_ops wire.old.left (begun replica kept) last TooMany heard in
+    let cause = cause_ops wire.old.left (taking_begun replica kept) last TooMany heard in
     (elim fails [ inl asks ↦ absurd asks.cause | inr hear ↦ hear.hears.stops.1 ∙ ap (λ (r : Replica). r.most) hear.hears.takes.replica ], cause.0, cause.1)
 reply_gives_none sync_fault.NoMemory port cursor replica now kept after last end home wire kept_after holds fails heard rose sure = tt
 
 -- a reply that was taken in gives its outcome
 pub reply_gives : (cursor : ℕ) (home : DiskView) (wire : Change WireView) (replica now : Replica) (tally : Tally) (kept kept_after : List Op) → kept ≡ [] → (count : ℕ) (ops : List Op)
-    → AnswerComes replica wire.old ops (Ended count) → TakesIn (begun replica kept) (record { replica = now; counts = tally; kept = kept_after }) ops
+    → AnswerComes replica wire.old ops (Ended count) → TakesIn (taking_begun replica kept) (record { replica = now; counts = tally; kept = kept_after }) ops
     → (counts : Counts) → IsSettled replica.held → counts ≡ record { tally = tally; waiting = length now.held.waiting; cursor = Some count }
     → GivesTo (reply cursor home wire) replica now (Some kept_after) (Ok (note.Counted counts))
 reply_gives cursor home wire replica now tally kept kept_after none count ops comes taken counts settled is =

@@ -4,11 +4,11 @@ use Rattle.std.specs.Prelude.{Option, Some, None, IfSome, Ok}
 use Rattle.std.proofs.lemmas.List.Elements.{All-weaker}
 use Rattle.fugue_ids.specs.declared.limits.TheConstants.{STREAM_LIMIT}
 use Rattle.fugue_ids.specs.declared.op.Op.{Op}
-use Rattle.origin_model.specs.declared.taking.tally.Tally.{Tally}
+use Rattle.origin_model.specs.declared.taking.Tally.{Tally}
 use Rattle.origin_model.specs.taking.Taking.{Answer, Full, IsSettled, TooMany as AnswersTooMany, answers_from, kept_from}
 use Rattle.origin_model.proofs.SharedLemmas.{kept_suffice}
 use Rattle.outer_ports.specs.Sources.{SourceView}
-use Rattle.op_frame.specs.Courses.{BadFrame, Comes, Course, CutShort, TooLong, TooMany, Whole}
+use Rattle.op_frame.specs.Courses.{BadFrame, Comes, IntakeCourse, CutShort, TooLong, TooMany, Whole}
 use Rattle.op_frame.proofs.CourseLemmas.{comes_once}
 use Rattle.origin_model.specs.edits.State.{State as Replica}
 use Rattle.manuscript_cli.specs.Findings.{Finding, Refuses, Does}
@@ -45,7 +45,7 @@ taken_gives giver replica now ops cursor gives settled kept kept_are counts is =
 }
 
 -- what a stream gives that comes to an end
-abbrev stream_finding : Replica → List Op → Course → Finding Outcome
+abbrev stream_finding : Replica → List Op → IntakeCourse → Finding Outcome
 stream_finding replica ops Whole = Does (taken_in replica ops)
 stream_finding replica ops (CutShort k) = Refuses (refusal.CutShort k)
 stream_finding replica ops (BadFrame k) = Refuses (refusal.BadFrame k)
@@ -55,7 +55,7 @@ stream_finding replica ops TooMany = Refuses (refusal.TooMany replica.most)
 -- the end to which a stream came
 record ComesTo (input : SourceView) (replica : Replica) (finding : Finding Outcome) : Type 0 where
   ops : List Op
-  course : Course
+  course : IntakeCourse
   came : SourceComes replica input ops course
   finding_is : finding ≡ stream_finding replica ops course
 
@@ -76,7 +76,7 @@ stream_once input told replica one two gives others =
     let same = comes_once replica.hold replica.most replica.held STREAM_LIMIT told.0 a.ops b.ops a.course b.course (by_bytes a.ops a.course a.came) (by_bytes b.ops b.course b.came) in
     a.finding_is ∙ (λ i. stream_finding replica (same.0 i) (same.1 i)) ∙ sym b.finding_is
   where
-    by_bytes : (ops : List Op) (course : Course) → SourceComes replica input.old ops course → Comes replica.hold replica.most replica.held STREAM_LIMIT told.0 ops course
+    by_bytes : (ops : List Op) (course : IntakeCourse) → SourceComes replica input.old ops course → Comes replica.hold replica.most replica.held STREAM_LIMIT told.0 ops course
     by_bytes ops course came = subst (λ o. IfSome o (λ bytes. Comes replica.hold replica.most replica.held STREAM_LIMIT bytes ops course)) told.1 came
 
 -- a stream that was taken in gives its outcome

@@ -3,28 +3,28 @@ use Rattle.std.proofs.Common.{◌≡◌, inl, inr, refl, ℕ, ◌≤◌, List, l
 use Rattle.std.specs.Prelude.{Result, Ok, Err, IfSome}
 use Rattle.std.proofs.lemmas.List.{take_all}
 use Rattle.fugue_ids.proofs.JoinLemmas.{took_joins}
-use Rattle.fugue_ids.specs.Outs.{OutView, IsSure, Took, TookFront, WritesText}
-use Rattle.fugue_ids.specs.declared.failed.Failed.{Failed}
+use Rattle.fugue_ids.specs.Outs.{OutView, IsSure, Took, TookFront, WritesBytes}
+use Rattle.fugue_ids.specs.declared.out.Failed.{Failed}
 use Rattle.manuscript_cli.specs.Printing.{NoteMeets, NotesBlameless}
-use Rattle.manuscript_cli.specs.Refusal.{Told, TookFronts, line_of, status_of}
+use Rattle.manuscript_cli.specs.Refusal.{Told, TookFronts, refusal_line, status_of}
 use Rattle.manuscript_cli.specs.Touched.{Change, HasRoom, StaysCalm, notes_room}
 use Rattle.manuscript_cli.specs.declared.refusal.Refusal.{Refusal}
 use Rattle.manuscript_cli.specs.declared.refusal.Refusal.TheVariants as refusal
 use Rattle.manuscript_cli.specs.declared.status.Status.{Status}
 
 -- a text for which there is room goes out, and no fault is counted
-sure_of : (result : Result (Unit {0}) Failed) (old new : OutView) (text : List ℕ) → WritesText old new result text → (has : HasRoom (length text) old)
+sure_of : (result : Result (Unit {0}) Failed) (old new : OutView) (text : List ℕ) → WritesBytes old new result text → (has : HasRoom (length text) old)
     → IsSure has.room (length text) old.faults new.faults result
 sure_of result old new text wrote has = subst (λ o. IfSome o (λ room. IsSure room (length text) old.faults new.faults result)) has.is wrote.sure
 
 less_room : (fewer bytes : ℕ) (out : OutView) → fewer ≤ bytes → HasRoom bytes out → HasRoom fewer out
 less_room fewer bytes out le has = record { room = has.room; is = has.is; fits = omega (arith, le, has.fits) }
 
-pub text_has_no_room : (e : Failed) (old new : OutView) (text : List ℕ) (bytes : ℕ) → WritesText {E = Failed} {T = Unit {0}} old new (Err e) text → length text ≤ bytes → HasRoom bytes old → ⊥
+pub text_has_no_room : (e : Failed) (old new : OutView) (text : List ℕ) (bytes : ℕ) → WritesBytes {E = Failed} {T = Unit {0}} old new (Err e) text → length text ≤ bytes → HasRoom bytes old → ⊥
 text_has_no_room e old new text bytes wrote short has =
     let fits = less_room (length text) bytes old short has in (sure_of (Err e) old new text wrote fits).fits fits.fits
 
-pub text_stays_calm : (result : Result (Unit {0}) Failed) (old new : OutView) (text : List ℕ) (bytes : ℕ) → WritesText old new result text → length text ≤ bytes → StaysCalm bytes old new
+pub text_stays_calm : (result : Result (Unit {0}) Failed) (old new : OutView) (text : List ℕ) (bytes : ℕ) → WritesBytes old new result text → length text ≤ bytes → StaysCalm bytes old new
 text_stays_calm (Ok x) old new text bytes wrote short has = (sure_of (Ok x) old new text wrote (less_room (length text) bytes old short has)).calm
 text_stays_calm (Err e) old new text bytes wrote short has = absurd (text_has_no_room e old new text bytes wrote short has)
 
@@ -32,7 +32,7 @@ pub whole_front : (old new : OutView) (text : List ℕ) → Took old new text �
 whole_front old new text took = record { count = length text; within = omega arith; took = subst (Took old new) (sym (take_all (length text) text (omega arith))) took }
 
 -- a line was written, as far as the notes took it
-pub line_told : (result : Result (Unit {0}) Failed) (old new : OutView) (line : List ℕ) → WritesText old new result line → length line ≤ notes_room → Told old new line
+pub line_told : (result : Result (Unit {0}) Failed) (old new : OutView) (line : List ℕ) → WritesBytes old new result line → length line ≤ notes_room → Told old new line
 line_told (Ok x) old new line wrote short = record {
   later = wrote.cause.later;
   whole = λ calm. wrote.ok;
@@ -51,7 +51,7 @@ line_told (Err e) old new line wrote short = record {
 }
 
 -- the notes' count rose only where the refusal's line was not written
-pub told_blameless : (why : Refusal) (notes : Change OutView) → Told notes.old notes.new (line_of why) → NotesBlameless notes (status_of why)
+pub told_blameless : (why : Refusal) (notes : Change OutView) → Told notes.old notes.new (refusal_line why) → NotesBlameless notes (status_of why)
 told_blameless why notes told tells not =
     elim (told.exact tells) [ inl same ↦ inl same | inr rose ↦ inr (record { why = why; end_is = refl; front = told.front; rose = rose }) ]
 
@@ -66,10 +66,10 @@ fronts_joined old mid new first second a b = record {
 }
 
 -- a line of notes did not go out whole, and the fault was told
-pub not_noted : (e : Failed) (old mid new : OutView) (line : List ℕ) (status end : Status) → WritesText {E = Failed} {T = Unit {0}} old mid (Err e) line → length line ≤ notes_room
-    → Told mid new (line_of refusal.Outside) → end ≡ status_of refusal.Outside → NoteMeets line status old new end
+pub not_noted : (e : Failed) (old mid new : OutView) (line : List ℕ) (status end : Status) → WritesBytes {E = Failed} {T = Unit {0}} old mid (Err e) line → length line ≤ notes_room
+    → Told mid new (refusal_line refusal.Outside) → end ≡ status_of refusal.Outside → NoteMeets line status old new end
 not_noted e old mid new line status end wrote short told is = inr (record {
-  took = fronts_joined old mid new line (line_of refusal.Outside) wrote.err told.front;
+  took = fronts_joined old mid new line (refusal_line refusal.Outside) wrote.err told.front;
   rose = omega (arith, wrote.cause.failed, told.later);
   no_room = text_has_no_room e old mid line notes_room wrote short;
   end_is = is;

@@ -1,10 +1,10 @@
 -- A text that goes to the output, by what the call that writes it does.
 use Rattle.std.proofs.Common.{refl, inl, ℕ, List, length, arith}
 use Rattle.std.specs.Prelude.{Ok, Err}
-use Rattle.fugue_ids.specs.Outs.{OutView, WritesText}
-use Rattle.fugue_ids.specs.declared.failed.Failed.{Failed}
+use Rattle.fugue_ids.specs.Outs.{OutView, WritesBytes}
+use Rattle.fugue_ids.specs.declared.out.Failed.{Failed}
 use Rattle.manuscript_cli.proofs.TextLemmas.{text_has_no_room, text_stays_calm, told_blameless}
-use Rattle.manuscript_cli.specs.Refusal.{line_of, status_of, Told}
+use Rattle.manuscript_cli.specs.Refusal.{refusal_line, status_of, Told}
 use Rattle.manuscript_cli.specs.TextOut.{GoesOut, WritesOut}
 use Rattle.manuscript_cli.specs.Touched.{Change, change}
 use Rattle.manuscript_cli.specs.declared.refusal.Refusal.{Refusal}
@@ -12,10 +12,10 @@ use Rattle.manuscript_cli.specs.declared.refusal.Refusal.TheVariants as refusal
 use Rattle.manuscript_cli.specs.declared.status.Status.TheVariants as status
 
 module _ (old new : OutView) (text : List ℕ) where
-  pub went_out : (x : Unit {0}) → WritesText {E = Failed} old new (Ok x) text → GoesOut text (change old new) (Ok x)
+  pub went_out : (x : Unit {0}) → WritesBytes {E = Failed} old new (Ok x) text → GoesOut text (change old new) (Ok x)
   went_out x wrote = record { comes = wrote.ok; calm = text_stays_calm (Ok x) old new text (length text) wrote (omega arith); told = λ tells not. wrote.calm_told tells }
 
-  pub failed_to_go : (e : Failed) → WritesText {T = Unit {0}} old new (Err e) text → GoesOut text (change old new) (Err refusal.Outside)
+  pub failed_to_go : (e : Failed) → WritesBytes {T = Unit {0}} old new (Err e) text → GoesOut text (change old new) (Err refusal.Outside)
   failed_to_go e wrote = record {
     comes = record { wrote = wrote.err; rose = wrote.cause.failed; no_room = text_has_no_room e old new text (length text) wrote (omega arith) };
     calm = text_stays_calm (Err e) old new text (length text) wrote (omega arith);
@@ -33,7 +33,7 @@ all_out bytes output notes x goes = record {
 }
 
 -- it did not, and why was told
-pub not_all_out : (bytes : List ℕ) (output notes : Change OutView) (why : Refusal) → GoesOut bytes output (Err why) → Told notes.old notes.new (line_of why) → WritesOut bytes output notes (status_of why)
+pub not_all_out : (bytes : List ℕ) (output notes : Change OutView) (why : Refusal) → GoesOut bytes output (Err why) → Told notes.old notes.new (refusal_line why) → WritesOut bytes output notes (status_of why)
 not_all_out bytes output notes refusal.Outside goes told = record {
   meets = record { front = goes.comes; noted = told };
   output_calm = goes.calm;

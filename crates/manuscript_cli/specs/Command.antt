@@ -3,7 +3,7 @@ use Rattle.std.specs.Prelude.{◌≡◌, ◌≢◌, ◌⊎◌, ℕ, ◌≤◌, L
 use Rattle.fugue_ids.specs.declared.limits.TheConstants.{GREATEST_HOLD}
 use Rattle.outer_ports.specs.declared.disk.file_disk.Opening.{Opening}
 use Rattle.outer_ports.specs.declared.disk.file_disk.Opening.TheVariants.{Reading, Writing, Creating}
-use Rattle.bulk_world.specs.declared.limits.TheConstants.{MOST_TURNS}
+use Rattle.bulk_world.specs.declared.making.TheConstants.{MOST_TURNS}
 use Rattle.manuscript_cli.specs.Number.{IsNumber}
 use Rattle.manuscript_cli.specs.declared.command.Command.{Command}
 use Rattle.manuscript_cli.specs.declared.command.Command.TheVariants.{Show, New, Edit, Print, Take, Send, Merge, Relay, Sync, Bulk}

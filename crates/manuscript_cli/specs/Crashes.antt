@@ -3,7 +3,7 @@ use Rattle.std.specs.Prelude.{◌≡◌, ◌⊎◌, ℕ, List, [], ◌++◌, Opt
 use Rattle.fugue_ids.specs.declared.op.Op.{Op}
 use Rattle.outer_ports.specs.disk.Disks.{DiskView}
 use Rattle.outer_ports.specs.disk.Moments.{History, LeavesOnly, LeavesOnlyTo}
-use Rattle.outer_ports.specs.disk.States.{State, IsHonest, IsImage}
+use Rattle.outer_ports.specs.disk.States.{State, IsHonest, IsCrashImage}
 use Rattle.manuscript_cli.specs.Files.{HasOps, HasOpsOr, Header}
 use Rattle.manuscript_cli.specs.Touched.{Change}
 use Rattle.manuscript_cli.specs.declared.status.Status.{Status}
@@ -16,7 +16,7 @@ IsFinished end = (end ≡ Done) ⊎ (end ≡ Partial)
 -- whatever a crash leaves, it has this header, and one list of operations or this with another behind it; a read gives such a one too
 pub record IsSafe (header : Header) (ops more : List Op) (s : State) : Type 0 where
   pub honest : IsHonest s
-  pub leaves : (image : List ℕ) → IsImage s image → HasOpsOr header ops more image
+  pub leaves : (image : List ℕ) → IsCrashImage s image → HasOpsOr header ops more image
 
 -- a safe file, while a command ran that gave these operations to be saved, and at its end
 pub record StaysSafe (header : Header) (ops more gave : List Op) (h : History) (new : Option History) (end : Status) : Type 0 where

@@ -3,8 +3,8 @@ use Rattle.std.specs.Prelude.{◌≡◌, ◌≢◌, ◌⊎◌, ℕ, ◌<◌, ◌
 use Rattle.fugue_ids.specs.Causes.{Rose}
 use Rattle.fugue_ids.specs.declared.op.Op.{Op}
 use Rattle.origin_model.specs.operations.History.{accepted}
-use Rattle.edit_script.specs.declared.fault.ScriptFault.{ScriptFault}
-use Rattle.edit_script.specs.declared.fault.ScriptFault.TheVariants as script_fault
+use Rattle.edit_script.specs.declared.run.ScriptFault.{ScriptFault}
+use Rattle.edit_script.specs.declared.run.ScriptFault.TheVariants as script_fault
 use Rattle.edit_script.specs.declared.script.TheConstants.{LONGEST_SCRIPT}
 use Rattle.edit_script.specs.Scripts.{RunsWhole, StopsAt}
 use Rattle.outer_ports.specs.Sources.{SourceView}

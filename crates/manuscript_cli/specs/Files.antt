@@ -6,15 +6,15 @@ use Rattle.fugue_ids.specs.declared.op.Op.{Op}
 use Rattle.origin_model.specs.files.Image.{Content, HasImage, Holds}
 use Rattle.outer_ports.specs.disk.Disks.{DiskView, spent}
 use Rattle.outer_ports.specs.disk.Moments.{History, LeavesOnly, LeavesOnlyTo, MayLeave, after, stepped}
-use Rattle.outer_ports.specs.disk.States.{IsHonest, at_rest, settled}
+use Rattle.outer_ports.specs.disk.States.{IsHonest, at_rest, durable}
 use Rattle.origin_model.specs.edits.State.{State as Replica}
 use Rattle.replica_file.specs.Append.{HasBatch, HoldsEither, IsTooLong, behind_gate}
-use Rattle.replica_file.specs.Ends.{EndsAt, Means, Reaches}
-use Rattle.replica_file.specs.Gates.{LastsFor, opened}
-use Rattle.replica_file.specs.Load.{AnswerIs, Loads}
+use Rattle.replica_file.specs.Ends.{EndsAt, Means, IsWithinReach}
+use Rattle.replica_file.specs.Gates.{LastsFor, gate_opened}
+use Rattle.replica_file.specs.Load.{LoadAnswerIs, Loads}
 use Rattle.replica_file.specs.Loading.{IsReady}
-use Rattle.replica_file.specs.declared.end.End.{End}
-use Rattle.replica_file.specs.declared.load_fault.LoadFault.TheVariants as load_fault
+use Rattle.replica_file.specs.declared.load_file.End.{End}
+use Rattle.replica_file.specs.declared.load_file.LoadFault.TheVariants as load_fault
 use Rattle.manuscript_cli.specs.Touched.{Change, DiskBlameless, DiskStaysCalm, HasDiskRoom}
 use Rattle.manuscript_cli.specs.declared.refusal.Refusal.{Refusal}
 use Rattle.manuscript_cli.specs.declared.refusal.Refusal.TheVariants.{NotReplica, BadBatch, BatchTooLong, NoMemory, Outside, TooMany}
@@ -26,9 +26,9 @@ FileHolds disk replica end = IfSome disk.past (λ h. Loads MOST_OPERATIONS h.las
 
 -- the file, where it is told, is the cause of this refusal
 abbrev pub FileRefuses : DiskView → Refusal → Type 0
-FileRefuses disk NotReplica = IfSome disk.past (λ h. AnswerIs MOST_OPERATIONS h.last.seen (Err load_fault.NotReplica))
-FileRefuses disk (BadBatch slot) = IfSome disk.past (λ h. AnswerIs MOST_OPERATIONS h.last.seen (Err (load_fault.BadBatch slot)))
-FileRefuses disk (TooMany count) = IfSome disk.past (λ h. AnswerIs MOST_OPERATIONS h.last.seen (Err (load_fault.TooMany count)))
+FileRefuses disk NotReplica = IfSome disk.past (λ h. LoadAnswerIs MOST_OPERATIONS h.last.seen (Err load_fault.NotReplica))
+FileRefuses disk (BadBatch slot) = IfSome disk.past (λ h. LoadAnswerIs MOST_OPERATIONS h.last.seen (Err (load_fault.BadBatch slot)))
+FileRefuses disk (TooMany count) = IfSome disk.past (λ h. LoadAnswerIs MOST_OPERATIONS h.last.seen (Err (load_fault.TooMany count)))
 FileRefuses disk _ = ⊥
 
 -- what stands in the file, where it is told
@@ -38,7 +38,7 @@ bytes_of past = option_map (λ (h : History). h.last.seen) past
 -- The bytes are as at entry, a crash leaves nothing but what it could leave then, and a sure file that has room for a sync counts no fault.
 pub record KeepsFile (file : Change DiskView) : Type 0 where
   pub bytes : bytes_of file.new.past ≡ bytes_of file.old.past
-  pub past : (file.new.past ≡ after settled file.old.past) ⊎ (file.new.past ≡ file.old.past)
+  pub past : (file.new.past ≡ after durable file.old.past) ⊎ (file.new.past ≡ file.old.past)
   pub moments : IfSome file.old.past (λ h. LeavesOnlyTo h file.new.past (MayLeave h))
   pub calm : DiskStaysCalm 1 file
 
@@ -51,9 +51,9 @@ pub record LeavesFile (file : Change DiskView) (end : Status) : Type 0 where
 pub record IsLoaded (file : Change DiskView) (replica : Replica) (end : End) : Type 0 where
   pub holds : FileHolds file.old replica end
   pub ready : IsReady replica
-  pub reaches : Reaches end
+  pub reaches : IsWithinReach end
   pub ends : IfSome file.new.past (λ h. EndsAt h.last end)
-  pub synced : file.new.past ≡ after settled file.old.past
+  pub synced : file.new.past ≡ after durable file.old.past
   pub keeps : KeepsFile file
   pub room : file.new.room ≡ spent 0 file.old.room
   pub later : file.old.faults ≤ file.new.faults
@@ -75,7 +75,7 @@ LoadMeets file (Err why) = FileRefuses file.old why × KeepsFile file
 pub record IsAppended (end : End) (ops : List Op) (file : Change DiskView) : Type 0 where
   pub fits : IsTooLong end ops → ⊥
   pub none : ops ≡ [] → file.new ≡ file.old
-  pub calls : ops ≢ [] → file.new.past ≡ opened end.at (behind_gate ops) file.old.past
+  pub calls : ops ≢ [] → file.new.past ≡ gate_opened end.at (behind_gate ops) file.old.past
   pub moments : IfSome file.old.past (λ h. (content : Content) → Means h.last content → LeavesOnlyTo h file.new.past (HoldsEither content ops))
   pub appended : ops ≢ [] → IfSome file.old.past (λ h. (content : Content) → Means h.last content → IfSome file.new.past (λ k. HasBatch content end ops k.last))
   pub calm : IfSome file.old.room (λ room. LastsFor (behind_gate ops) room → file.new.faults ≡ file.old.faults)
@@ -102,14 +102,14 @@ pub record Header : Type 0 where
   pub replica : ℕ
   pub hold : ℕ
 
-abbrev pub header_of : Content → Header
-header_of content = record { replica = content.replica; hold = content.hold }
+abbrev pub new_file_header : Content → Header
+new_file_header content = record { replica = content.replica; hold = content.hold }
 
 -- the bytes are a file with this header and these operations, in whatever batches
 pub record HasOps (header : Header) (ops : List Op) (bytes : List ℕ) : Type 0 where
   pub content : Content
   pub holds : HasImage bytes (Holds content)
-  pub header_is : header_of content ≡ header
+  pub header_is : new_file_header content ≡ header
   pub ops_are : content.ops ≡ ops
 
 -- the operations, or these with more behind them
@@ -120,12 +120,12 @@ HasOpsOr header ops more bytes = HasOps header ops bytes ⊎ HasOps header (ops 
 pub record GainsAllOrNone (ops : List Op) (h : History) (new : Option History) : Type 0 where
   pub content : Content
   pub holds : HasImage h.last.seen (Holds content)
-  pub loads : LeavesOnly h (stepped settled h) (MayLeave h)
-  pub gains : LeavesOnlyTo (stepped settled h) new (HasOpsOr (header_of content) content.ops ops)
+  pub loads : LeavesOnly h (stepped durable h) (MayLeave h)
+  pub gains : LeavesOnlyTo (stepped durable h) new (HasOpsOr (new_file_header content) content.ops ops)
   pub honest : IfSome new (λ k. IsHonest k.last)
 
 -- The operations were saved behind those of the file: a read gives all of them, and a crash leaves nothing else.
 pub record IsSaved (ops : List Op) (h : History) (new : Option History) : Type 0 where
   pub moments : GainsAllOrNone ops h new
-  pub has : IfSome new (λ k. HasOps (header_of moments.content) (moments.content.ops ++ ops) k.last.seen)
+  pub has : IfSome new (λ k. HasOps (new_file_header moments.content) (moments.content.ops ++ ops) k.last.seen)
   pub rests : IfSome new (λ k. k.last ≡ at_rest k.last.seen)

@@ -4,7 +4,7 @@ use Rattle.fugue_ids.specs.declared.op.Op.{Op}
 use Rattle.origin_model.specs.operations.History.{accepted}
 use Rattle.outer_ports.specs.disk.Disks.{DiskView}
 use Rattle.origin_model.specs.edits.State.{State as Replica}
-use Rattle.replica_file.specs.declared.end.End.{End}
+use Rattle.replica_file.specs.declared.load_file.End.{End}
 use Rattle.manuscript_cli.specs.Counts.{counts_text, made_line, status_by}
 use Rattle.manuscript_cli.specs.Crashes.{IsFinished}
 use Rattle.manuscript_cli.specs.Findings.{Refuses, Does}

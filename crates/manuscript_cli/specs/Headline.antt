@@ -4,15 +4,15 @@ use Rattle.fugue_ids.specs.Causes.{Rose}
 use Rattle.fugue_ids.specs.Outs.{OutView}
 use Rattle.fugue_ids.specs.declared.op.Op.{Op}
 use Rattle.origin_model.specs.frames.Frames.{Reads, Whole as EndsWhole}
-use Rattle.origin_model.specs.taking.Taking.{HasPlace, held, nothing}
-use Rattle.op_frame.specs.Courses.{Course, Whole, CutShort, BadFrame, TooLong, TooMany}
+use Rattle.origin_model.specs.taking.Taking.{HasPlace, held, nothing_held}
+use Rattle.op_frame.specs.Courses.{IntakeCourse, Whole, CutShort, BadFrame, TooLong, TooMany}
 use Rattle.fugue_ids.specs.declared.limits.TheConstants.{MOST_OPERATIONS, STREAM_LIMIT}
 use Rattle.outer_ports.specs.disk.Disks.{DiskView}
 use Rattle.origin_model.specs.edits.State.{State as Replica}
-use Rattle.replica_file.specs.declared.end.End.{End}
+use Rattle.replica_file.specs.declared.load_file.End.{End}
 use Rattle.manuscript_cli.specs.Files.{FileHolds}
 use Rattle.manuscript_cli.specs.Printing.{PrintedBySet}
-use Rattle.manuscript_cli.specs.Show.{ComesTo, Showed, status_after}
+use Rattle.manuscript_cli.specs.Show.{ShowEndsAs, Showed, status_after}
 use Rattle.manuscript_cli.specs.Touched.{Change, IsTold, Streams, change}
 use Rattle.manuscript_cli.specs.declared.status.Status.{Status}
 use Rattle.manuscript_cli.specs.declared.status.Status.TheVariants as status
@@ -25,7 +25,7 @@ pub record IsCalm (old new : Streams) : Type 0 where
 
 -- all was shown, and the set of the accepted operations alone fixes what was printed
 pub record ShowedBySet (hold : ℕ) (ops : List Op) (old new : Streams) (end : Status) : Type 0 where
-  pub showed : Showed hold nothing ops old new end
+  pub showed : Showed hold nothing_held ops old new end
   pub by_set : PrintedBySet (held hold MOST_OPERATIONS ops).history (change old.output new.output)
 
 -- For every stream of framed operations, however ordered, cut or repeated, the manuscript printed is the visible part of one total order fixed
@@ -33,19 +33,19 @@ pub record ShowedBySet (hold : ℕ) (ops : List Op) (old new : Streams) (end : S
 -- otherwise it waits within the stated capacity or is refused by name; so replicas that accepted the same set print equal bytes.
 abbrev pub Headline : (hold : ℕ) → Streams → Streams → Status → Type 0
 Headline hold old new end =
-    (bytes : List ℕ) (ops : List Op) → old.input.left ≡ Some bytes → Reads bytes ops EndsWhole → length bytes ≤ STREAM_LIMIT → HasPlace hold MOST_OPERATIONS nothing ops
+    (bytes : List ℕ) (ops : List Op) → old.input.left ≡ Some bytes → Reads bytes ops EndsWhole → length bytes ≤ STREAM_LIMIT → HasPlace hold MOST_OPERATIONS nothing_held ops
     → IsCalm old new → end ≢ status.NoMemory → ShowedBySet hold ops old new end
 
 -- the status to which a stream leads
-abbrev pub status_for : (hold : ℕ) → List Op → Course → Status
-status_for hold ops Whole = status_after hold nothing ops
+abbrev pub status_for : (hold : ℕ) → List Op → IntakeCourse → Status
+status_for hold ops Whole = status_after hold nothing_held ops
 status_for hold ops (CutShort offset) = status.BadInput
 status_for hold ops (BadFrame offset) = status.BadInput
 status_for hold ops TooLong = status.Limit
 status_for hold ops TooMany = status.Limit
 
 -- what justifies an outside fault of `show`: the input failed, or where all was read what is written
-abbrev pub MetFault : Streams → Streams → Course → Type 0
+abbrev pub MetFault : Streams → Streams → IntakeCourse → Type 0
 MetFault old new course =
     Rose old.input.faults new.input.faults
     ⊎ ((course ≡ Whole) × (Rose old.output.faults new.output.faults ⊎ Rose old.notes.faults new.notes.faults))
@@ -53,7 +53,7 @@ MetFault old new course =
 -- the stream decides the status, but for want of memory and faults
 abbrev pub IsDecided : (hold : ℕ) → Streams → Streams → Status → Type 0
 IsDecided hold old new end =
-    (bytes : List ℕ) (ops : List Op) (course : Course) → old.input.left ≡ Some bytes → ComesTo hold bytes ops course
+    (bytes : List ℕ) (ops : List Op) (course : IntakeCourse) → old.input.left ≡ Some bytes → ShowEndsAs hold bytes ops course
     → (end ≡ status_for hold ops course) ⊎ (end ≡ status.NoMemory) ⊎ ((end ≡ status.OutsideFault) × MetFault old new course)
 
 -- what was printed of a file that is told is fixed by the set of the operations that its replica accepted

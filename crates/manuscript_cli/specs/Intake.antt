@@ -3,12 +3,12 @@ use Rattle.std.specs.Prelude.{◌≡◌, ◌≢◌, ◌+◌, ◌*◌, ◌≤◌,
 use Rattle.fugue_ids.specs.declared.op.Op.{Op}
 use Rattle.outer_ports.specs.Sources.{SourceView}
 use Rattle.origin_model.specs.taking.Taking.{TooMany as AnswersTooMany, IsSettled, answer, intake, intake_counted, held_from, kept_from, tally_from, no_counts}
-use Rattle.origin_model.specs.declared.taking.tally.Tally.{Tally}
-use Rattle.op_frame.specs.Courses.{Comes, Course, Whole, CutShort as IsCutShort, BadFrame as HasBadFrame, TooLong as IsTooLong, TooMany as HasTooMany}
-use Rattle.op_frame.specs.Readers.{Reading, Nexts}
+use Rattle.origin_model.specs.declared.taking.Tally.{Tally}
+use Rattle.op_frame.specs.Courses.{Comes, IntakeCourse, Whole, CutShort as IsCutShort, BadFrame as HasBadFrame, TooLong as IsTooLong, TooMany as HasTooMany}
+use Rattle.op_frame.specs.Readers.{FrameReading, Nexts}
 use Rattle.op_frame.specs.declared.fault.FrameFault.TheVariants as frame_fault
-use Rattle.replica_core.specs.declared.feed_fault.FeedFault.{FeedFault}
-use Rattle.replica_core.specs.declared.feed_fault.FeedFault.TheVariants as feed_fault
+use Rattle.replica_core.specs.declared.keeping.FeedFault.{FeedFault}
+use Rattle.replica_core.specs.declared.keeping.FeedFault.TheVariants as feed_fault
 use Rattle.origin_model.specs.edits.State.{State}
 use Rattle.replica_core.specs.Told.{total}
 use Rattle.fugue_ids.specs.declared.limits.TheConstants.{GREATEST_HOLD, STREAM_LIMIT}
@@ -29,14 +29,14 @@ FeedsNot (feed_fault.TooMany limit) replica op = (limit ≡ replica.most) × (an
 FeedsNot feed_fault.NoMemory replica op = Unit {0}
 
 -- a stream on its way: the reader, the replica, what became of the operations so far, and copies of those that were kept
-pub record Taking : Type 0 where
-  pub reader : Reading
+pub record StreamTaking : Type 0 where
+  pub reader : FrameReading
   pub replica : State
   pub counts : Tally
   pub kept : Option (List Op)
 
 -- one operation more can be read and counted
-pub record IsReady (now : Taking) : Type 0 where
+pub record IsReady (now : StreamTaking) : Type 0 where
   pub no_fault : now.reader.fault ≡ None
   pub limit : now.reader.limit ≡ STREAM_LIMIT
   pub settled : IsSettled now.replica.held
@@ -44,7 +44,7 @@ pub record IsReady (now : Taking) : Type 0 where
   pub few : 2 * (total now.counts + length now.replica.held.waiting) ≤ now.reader.offset + 2 * GREATEST_HOLD
 
 -- the next operation was read and taken in
-pub record TakesOne (old new : Taking) (before after : SourceView) : Type 0 where
+pub record TakesOne (old new : StreamTaking) (before after : SourceView) : Type 0 where
   pub op : Op
   pub nexts : Nexts old.reader new.reader before after (Ok (Some op))
   pub has_place : answer old.replica.hold old.replica.most old.replica.held op ≢ AnswersTooMany
@@ -54,25 +54,25 @@ pub record TakesOne (old new : Taking) (before after : SourceView) : Type 0 wher
   pub ready : IsReady new
 
 -- the next operation was read, and found no place
-pub record FindsNoPlace (old new : Taking) (before after : SourceView) : Type 0 where
+pub record FindsNoPlace (old new : StreamTaking) (before after : SourceView) : Type 0 where
   pub op : Op
   pub nexts : Nexts old.reader new.reader before after (Ok (Some op))
   pub refused : answer old.replica.hold old.replica.most old.replica.held op ≡ AnswersTooMany
 
 -- one step, by its answer: whether there was an operation
-abbrev pub Steps : Taking → Taking → SourceView → SourceView → Result Bool Refusal → Type 0
-Steps old new before after (Ok true) = TakesOne old new before after
-Steps old new before after (Ok false) = Nexts old.reader new.reader before after (Ok None) × (new.replica ≡ old.replica) × (new.counts ≡ old.counts) × (new.kept ≡ old.kept)
-Steps old new before after (Err (BadFrame offset)) = Nexts old.reader new.reader before after (Err (frame_fault.BadFrame offset))
-Steps old new before after (Err (CutShort offset)) = Nexts old.reader new.reader before after (Err (frame_fault.CutShort offset))
-Steps old new before after (Err TooLong) = Nexts old.reader new.reader before after (Err frame_fault.TooLong)
-Steps old new before after (Err (TooMany count)) = (count ≡ old.replica.most) × FindsNoPlace old new before after
-Steps old new before after (Err Outside) = Unit {0}
-Steps old new before after (Err NoMemory) = Unit {0}
-Steps old new before after (Err _) = ⊥
+abbrev pub IntakeSteps : StreamTaking → StreamTaking → SourceView → SourceView → Result Bool Refusal → Type 0
+IntakeSteps old new before after (Ok true) = TakesOne old new before after
+IntakeSteps old new before after (Ok false) = Nexts old.reader new.reader before after (Ok None) × (new.replica ≡ old.replica) × (new.counts ≡ old.counts) × (new.kept ≡ old.kept)
+IntakeSteps old new before after (Err (BadFrame offset)) = Nexts old.reader new.reader before after (Err (frame_fault.BadFrame offset))
+IntakeSteps old new before after (Err (CutShort offset)) = Nexts old.reader new.reader before after (Err (frame_fault.CutShort offset))
+IntakeSteps old new before after (Err TooLong) = Nexts old.reader new.reader before after (Err frame_fault.TooLong)
+IntakeSteps old new before after (Err (TooMany count)) = (count ≡ old.replica.most) × FindsNoPlace old new before after
+IntakeSteps old new before after (Err Outside) = Unit {0}
+IntakeSteps old new before after (Err NoMemory) = Unit {0}
+IntakeSteps old new before after (Err _) = ⊥
 
 -- the source, where it is told, comes to this end
-abbrev pub SourceComes : State → SourceView → List Op → Course → Type 0
+abbrev pub SourceComes : State → SourceView → List Op → IntakeCourse → Type 0
 SourceComes start old ops course = IfSome old.left (λ bytes. Comes start.hold start.most start.held STREAM_LIMIT bytes ops course)
 
 -- the source came to its end, and the replica took its operations in
@@ -85,11 +85,11 @@ pub record TakesIn (start : State) (old new : SourceView) (replica : State) (cou
   pub kept_are : kept_after ≡ copied kept (kept_from start.hold start.most start.held ops)
 
 -- the cause of a refusal of the stream
-abbrev pub StopsFor : Refusal → State → SourceView → Type 0
-StopsFor (BadFrame offset) start old = (ops : List Op) × SourceComes start old ops (HasBadFrame offset)
-StopsFor (CutShort offset) start old = (ops : List Op) × SourceComes start old ops (IsCutShort offset)
-StopsFor TooLong start old = (ops : List Op) × SourceComes start old ops IsTooLong
-StopsFor (TooMany count) start old = (count ≡ start.most) × (ops : List Op) × SourceComes start old ops HasTooMany
-StopsFor Outside start old = Unit {0}
-StopsFor NoMemory start old = Unit {0}
-StopsFor _ start old = ⊥
+abbrev pub IntakeStopsFor : Refusal → State → SourceView → Type 0
+IntakeStopsFor (BadFrame offset) start old = (ops : List Op) × SourceComes start old ops (HasBadFrame offset)
+IntakeStopsFor (CutShort offset) start old = (ops : List Op) × SourceComes start old ops (IsCutShort offset)
+IntakeStopsFor TooLong start old = (ops : List Op) × SourceComes start old ops IsTooLong
+IntakeStopsFor (TooMany count) start old = (count ≡ start.most) × (ops : List Op) × SourceComes start old ops HasTooMany
+IntakeStopsFor Outside start old = Unit {0}
+IntakeStopsFor NoMemory start old = Unit {0}
+IntakeStopsFor _ start old = ⊥

@@ -1,8 +1,8 @@
 -- Taking in what another replica holds, and why it stops.
 use Rattle.std.specs.Prelude.{◌≡◌, List}
 use Rattle.fugue_ids.specs.declared.op.Op.{Op}
-use Rattle.replica_core.specs.declared.feed_fault.FeedFault.{FeedFault}
-use Rattle.replica_core.specs.declared.feed_fault.FeedFault.TheVariants as feed_fault
+use Rattle.replica_core.specs.declared.keeping.FeedFault.{FeedFault}
+use Rattle.replica_core.specs.declared.keeping.FeedFault.TheVariants as feed_fault
 use Rattle.origin_model.specs.edits.State.{State}
 use Rattle.manuscript_cli.specs.Take.{IsOneTooMany}
 use Rattle.manuscript_cli.specs.declared.refusal.Refusal.{Refusal}

@@ -9,7 +9,7 @@ use Rattle.outer_ports.specs.disk.States.{at_rest}
 use Rattle.manuscript_cli.specs.Crashes.{IsSafe, NeverTorn}
 use Rattle.manuscript_cli.specs.Files.{bytes_of}
 use Rattle.manuscript_cli.specs.Printing.{NotesBlameless}
-use Rattle.manuscript_cli.specs.Refusal.{line_of, Told}
+use Rattle.manuscript_cli.specs.Refusal.{refusal_line, Told}
 use Rattle.manuscript_cli.specs.Touched.{Change, DiskBlameless, DiskStaysCalm, HasDiskRoom, StaysCalm, notes_room}
 use Rattle.manuscript_cli.specs.declared.refusal.Refusal.TheVariants as refusal
 use Rattle.manuscript_cli.specs.declared.status.Status.{Status}
@@ -27,14 +27,14 @@ pub record Created (replica hold : ℕ) (home : Change DiskView) (notes : Change
 pub record FoundNotEmpty (home : Change DiskView) (notes : Change OutView) : Type 0 where
   pub found : IfSome home.old.past (λ h. h.last.seen ≢ [])
   pub kept : home.new.past ≡ home.old.past
-  pub noted : Told notes.old notes.new (line_of refusal.NotEmpty)
+  pub noted : Told notes.old notes.new (refusal_line refusal.NotEmpty)
 
 -- a call failed: nothing was written, or the range of the 14 bytes may hold anything
 pub record NotCreated (home : Change DiskView) (notes : Change OutView) : Type 0 where
   pub torn : MayHaveWritten 0 14 home.old.past home.new.past
   pub rose : Rose home.old.faults home.new.faults
   pub no_room : HasDiskRoom 14 home.old → ⊥
-  pub noted : Told notes.old notes.new (line_of refusal.Outside)
+  pub noted : Told notes.old notes.new (refusal_line refusal.Outside)
 
 -- what was done, for each way in which the command may end: it takes no memory
 abbrev pub NewMeets : (replica hold : ℕ) → Change DiskView → Change OutView → Status → Type 0

@@ -7,9 +7,9 @@ use Rattle.origin_model.specs.operations.Verdict.{Lawful}
 use Rattle.origin_model.specs.order.Laws.{SameOps}
 use Rattle.origin_model.specs.order.Printed.{manuscript}
 use Rattle.origin_model.specs.taking.Taking.{Held}
-use Rattle.origin_model.specs.declared.taking.tally.Tally.{Tally}
+use Rattle.origin_model.specs.declared.taking.Tally.{Tally}
 use Rattle.manuscript_cli.specs.Counts.{counts_line, status_by}
-use Rattle.manuscript_cli.specs.Refusal.{line_of, status_of, Told, TookFronts}
+use Rattle.manuscript_cli.specs.Refusal.{refusal_line, status_of, Told, TookFronts}
 use Rattle.manuscript_cli.specs.Touched.{Change, HasRoom, notes_room}
 use Rattle.manuscript_cli.specs.declared.refusal.Refusal.{Refusal}
 use Rattle.manuscript_cli.specs.declared.refusal.Refusal.TheVariants as refusal
@@ -23,7 +23,7 @@ pub record Noted (line : List ℕ) (status : Status) (old new : OutView) (end : 
 
 -- the notes failed: they hold a front of the line, and then one of the fault's line
 pub record NotNoted (line : List ℕ) (old new : OutView) (end : Status) : Type 0 where
-  pub took : TookFronts old new line (line_of refusal.Outside)
+  pub took : TookFronts old new line (refusal_line refusal.Outside)
   pub rose : Rose old.faults new.faults
   pub no_room : HasRoom notes_room old → ⊥
   pub end_is : end ≡ status.OutsideFault
@@ -36,7 +36,7 @@ NoteMeets line status old new end = Noted line status old new end ⊎ NotNoted l
 pub record NotTold (notes : Change OutView) (end : Status) : Type 0 where
   pub why : Refusal
   pub end_is : end ≡ status_of why
-  pub front : TookFront notes.old notes.new (line_of why)
+  pub front : TookFront notes.old notes.new (refusal_line why)
   pub rose : Rose notes.old.faults notes.new.faults
 
 -- the notes' count of faults rises with an outside fault alone, where they tell, and but for the line of a refusal
@@ -54,7 +54,7 @@ pub record NotPrinted (state : Held) (output output' notes notes' : OutView) (en
   pub printed : TookFront output output' (manuscript state.history)
   pub rose : Rose output.faults output'.faults
   pub no_room : HasRoom (length (manuscript state.history)) output → ⊥
-  pub told : Told notes notes' (line_of refusal.Outside)
+  pub told : Told notes notes' (refusal_line refusal.Outside)
   pub end_is : end ≡ status.OutsideFault
 
 abbrev pub PrintMeets : Held → Tally → OutView → OutView → OutView → OutView → Status → Type 0

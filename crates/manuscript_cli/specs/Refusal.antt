@@ -4,20 +4,20 @@ use Rattle.fugue_ids.specs.Causes.{Rose}
 use Rattle.fugue_ids.specs.Outs.{OutTells, OutView, Took, TookFront}
 use Rattle.op_frame.specs.declared.fault.FrameFault.{FrameFault}
 use Rattle.op_frame.specs.declared.fault.FrameFault.TheVariants as frame_fault
-use Rattle.replica_core.specs.declared.feed_fault.FeedFault.{FeedFault}
-use Rattle.replica_core.specs.declared.feed_fault.FeedFault.TheVariants as feed_fault
-use Rattle.edit_script.specs.declared.fault.ScriptFault.{ScriptFault}
-use Rattle.edit_script.specs.declared.fault.ScriptFault.TheVariants as script_fault
-use Rattle.relay_sync.specs.declared.sync_fault.SyncFault.{SyncFault}
-use Rattle.relay_sync.specs.declared.sync_fault.SyncFault.TheVariants as sync_fault
-use Rattle.relay_sync.specs.declared.serve_fault.ServeFault.{ServeFault}
-use Rattle.relay_sync.specs.declared.serve_fault.ServeFault.TheVariants as serve_fault
-use Rattle.replica_file.specs.declared.append_fault.AppendFault.{AppendFault}
-use Rattle.replica_file.specs.declared.append_fault.AppendFault.TheVariants as append_fault
-use Rattle.replica_file.specs.declared.create_fault.CreateFault.{CreateFault}
-use Rattle.replica_file.specs.declared.create_fault.CreateFault.TheVariants as create_fault
-use Rattle.replica_file.specs.declared.load_fault.LoadFault.{LoadFault}
-use Rattle.replica_file.specs.declared.load_fault.LoadFault.TheVariants as load_fault
+use Rattle.replica_core.specs.declared.keeping.FeedFault.{FeedFault}
+use Rattle.replica_core.specs.declared.keeping.FeedFault.TheVariants as feed_fault
+use Rattle.edit_script.specs.declared.run.ScriptFault.{ScriptFault}
+use Rattle.edit_script.specs.declared.run.ScriptFault.TheVariants as script_fault
+use Rattle.relay_sync.specs.declared.syncing.SyncFault.{SyncFault}
+use Rattle.relay_sync.specs.declared.syncing.SyncFault.TheVariants as sync_fault
+use Rattle.relay_sync.specs.declared.serving.ServeFault.{ServeFault}
+use Rattle.relay_sync.specs.declared.serving.ServeFault.TheVariants as serve_fault
+use Rattle.replica_file.specs.declared.appending.AppendFault.{AppendFault}
+use Rattle.replica_file.specs.declared.appending.AppendFault.TheVariants as append_fault
+use Rattle.replica_file.specs.declared.creating.CreateFault.{CreateFault}
+use Rattle.replica_file.specs.declared.creating.CreateFault.TheVariants as create_fault
+use Rattle.replica_file.specs.declared.load_file.LoadFault.{LoadFault}
+use Rattle.replica_file.specs.declared.load_file.LoadFault.TheVariants as load_fault
 use Rattle.manuscript_cli.specs.Touched.{HasRoom, StaysCalm, notes_room}
 use Rattle.manuscript_cli.specs.declared.refusal.Refusal.{Refusal}
 use Rattle.manuscript_cli.specs.declared.refusal.Refusal.TheVariants.{Words, BadFrame, CutShort, BadLine, NoSection, OutOfRange, NotReplica, BadBatch, NotEmpty, TooMany, IdsSpent, TooLong, BatchTooLong, BadReply, RelayRefused, ReplyCutShort, Outside, NoMemory}
@@ -60,16 +60,16 @@ status_of refusal = (row_of refusal).status
 abbrev pub words_of : Refusal → List ℕ
 words_of refusal = (row_of refusal).words
 
-abbrev pub number_of : Refusal → Option ℕ
-number_of refusal = (row_of refusal).number
+abbrev pub refusal_number : Refusal → Option ℕ
+refusal_number refusal = (row_of refusal).number
 
 abbrev pub number_text : Option ℕ → List ℕ
 number_text None = []
 number_text (Some n) = decimal n
 
 -- the words, the number where there is one, LF
-abbrev pub line_of : Refusal → List ℕ
-line_of refusal = words_of refusal ++ number_text (number_of refusal) ++ 10 ∷ []
+abbrev pub refusal_line : Refusal → List ℕ
+refusal_line refusal = words_of refusal ++ number_text (refusal_number refusal) ++ 10 ∷ []
 
 -- a reader's fault as a refusal
 abbrev pub frame_refusal : FrameFault → Refusal

@@ -6,10 +6,10 @@ use Rattle.origin_model.specs.relay.Relay.{Relay, new_relay}
 use Rattle.outer_ports.specs.dock.Docks.{DockTells, DockView, SendsNothing, TakesNothing}
 use Rattle.relay_core.specs.declared.relay.TheConstants.{MOST_LOGGED}
 use Rattle.relay_sync.specs.Serving.{NoneAfter, Serves, ServingStops, Suffices, Turn, count_over}
-use Rattle.relay_sync.specs.declared.serve_fault.ServeFault.{ServeFault}
-use Rattle.relay_sync.specs.declared.serve_fault.ServeFault.TheVariants as serve_fault
+use Rattle.relay_sync.specs.declared.serving.ServeFault.{ServeFault}
+use Rattle.relay_sync.specs.declared.serving.ServeFault.TheVariants as serve_fault
 use Rattle.manuscript_cli.specs.Printing.{NotesBlameless}
-use Rattle.manuscript_cli.specs.Refusal.{line_of, Told, TookFronts}
+use Rattle.manuscript_cli.specs.Refusal.{refusal_line, Told, TookFronts}
 use Rattle.manuscript_cli.specs.Touched.{Change, DockBlameless, HasRoom, OutBlameless, StaysCalm, notes_room}
 use Rattle.manuscript_cli.specs.declared.refusal.Refusal.{Refusal}
 use Rattle.manuscript_cli.specs.declared.refusal.Refusal.TheVariants as refusal
@@ -129,14 +129,14 @@ pub record Finished (port sessions : ℕ) (output notes : Change OutView) (dock 
 pub record NotesFailed (port sessions : ℕ) (output notes : Change OutView) (dock : Change DockView) : Type 0 where
   pub logged : ℕ
   pub served : ServingMeets port sessions output dock (Ok logged)
-  pub noted : TookFronts notes.old notes.new (log_line logged) (line_of refusal.Outside)
+  pub noted : TookFronts notes.old notes.new (log_line logged) (refusal_line refusal.Outside)
   pub rose : Rose notes.old.faults notes.new.faults
   pub no_room : HasRoom notes_room notes.old → ⊥
 
 -- it stopped, and the notes got the refusal's line
 pub record Stopped (port sessions : ℕ) (output notes : Change OutView) (dock : Change DockView) (why : Refusal) : Type 0 where
   pub stops : ServingMeets port sessions output dock (Err why)
-  pub noted : Told notes.old notes.new (line_of why)
+  pub noted : Told notes.old notes.new (refusal_line why)
 
 -- what was done, for each way in which the command may end
 abbrev pub RelayMeets : (port sessions : ℕ) → (output notes : Change OutView) → Change DockView → Status → Type 0

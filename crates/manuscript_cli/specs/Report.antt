@@ -7,9 +7,9 @@ use Rattle.origin_model.specs.order.Printed.{manuscript}
 use Rattle.origin_model.specs.taking.Taking.{Held}
 use Rattle.outer_ports.specs.disk.Disks.{DiskView}
 use Rattle.outer_ports.specs.disk.Moments.{after}
-use Rattle.outer_ports.specs.disk.States.{settled}
+use Rattle.outer_ports.specs.disk.States.{durable}
 use Rattle.origin_model.specs.edits.State.{State as Replica}
-use Rattle.replica_file.specs.declared.end.End.{End}
+use Rattle.replica_file.specs.declared.load_file.End.{End}
 use Rattle.manuscript_cli.specs.Crashes.{NeverTorn}
 use Rattle.manuscript_cli.specs.Files.{FileHolds, FileRefuses, KeepsFile}
 use Rattle.manuscript_cli.specs.Findings.{Finding, Refuses, Does, IsDecided}
@@ -41,7 +41,7 @@ status_found (Does bytes) = status.Done
 pub record WroteHeld (text : Held → List ℕ) (file : Change DiskView) (Wrote : List ℕ → Type 0) : Type 0 where
   pub bytes : List ℕ
   pub found : TextFound text file.old (Does bytes)
-  pub synced : file.new.past ≡ after settled file.old.past
+  pub synced : file.new.past ≡ after durable file.old.past
   pub came : Wrote bytes
 
 -- the file was refused

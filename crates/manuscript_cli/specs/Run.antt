@@ -4,7 +4,7 @@ use Rattle.origin_model.specs.taking.Taking.{Held}
 use Rattle.manuscript_cli.specs.Bulk.{Bulks}
 use Rattle.manuscript_cli.specs.New.{Creates}
 use Rattle.manuscript_cli.specs.Printing.{NotesBlameless}
-use Rattle.manuscript_cli.specs.Refusal.{line_of, Told}
+use Rattle.manuscript_cli.specs.Refusal.{refusal_line, Told}
 use Rattle.manuscript_cli.specs.Relay.{Relays}
 use Rattle.manuscript_cli.specs.Report.{Reports, frames_held, printed_of}
 use Rattle.manuscript_cli.specs.Savers.{RunsSaving, Saver, edit_saver, merge_saver, sync_saver, take_saver}
@@ -20,7 +20,7 @@ use Rattle.manuscript_cli.specs.declared.status.Status.TheVariants.{Usage}
 pub record UsageMeets (old new : Touched) (end : Status) : Type 0 where
   pub end_is : end ≡ Usage
   pub others : new ≡ record old { streams = record old.streams { notes = new.streams.notes } }
-  pub notes : Told old.streams.notes new.streams.notes (line_of Words)
+  pub notes : Told old.streams.notes new.streams.notes (refusal_line Words)
 
 -- `show` uses the streams
 pub record RunsShow (hold : ℕ) (old new : Touched) (end : Status) : Type 0 where

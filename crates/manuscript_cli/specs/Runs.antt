@@ -2,7 +2,7 @@
 use Rattle.std.specs.Prelude.{◌≡◌, ◌⊎◌, ℕ, List, [], ◌∷◌, ◌++◌, Option, Some, None}
 use Rattle.fugue_ids.specs.declared.op.Op.{Op}
 use Rattle.outer_ports.specs.disk.Moments.{History, LeftSince, moment}
-use Rattle.outer_ports.specs.disk.States.{State, IsHonest, IsImage, at_rest}
+use Rattle.outer_ports.specs.disk.States.{State, IsHonest, IsCrashImage, at_rest}
 use Rattle.manuscript_cli.specs.Crashes.{IsFinished}
 use Rattle.manuscript_cli.specs.Files.{HasOps}
 use Rattle.manuscript_cli.specs.Run.{Family, Meets, Saving, family}
@@ -61,7 +61,7 @@ pub record LeadsFrom (run : CommandRun) (s t : State) : Type 0 where
 
 -- between two runs nothing happens to the file, or a crash
 abbrev pub IsMeanwhile : State → State → Type 0
-IsMeanwhile s t = (t ≡ s) ⊎ ((image : List ℕ) × IsImage s image × (t ≡ at_rest image))
+IsMeanwhile s t = (t ≡ s) ⊎ ((image : List ℕ) × IsCrashImage s image × (t ≡ at_rest image))
 
 -- runs one after another lead the file from one state to another, and nobody else writes it
 abbrev pub FollowEachOther : List CommandRun → State → State → Type 0
@@ -74,4 +74,4 @@ abbrev pub EachFinishedIsIn : Type 0
 EachFinishedIsIn =
     (replica hold : ℕ) (old new : Touched) (made : History) (runs : List CommandRun) (last : State)
     → Meets (Some (New replica hold)) old new Done → new.home.past ≡ Some made → FollowEachOther runs made.last last
-    → IsHonest last × ((image : List ℕ) → IsImage last image → (ops : List Op) × AllBrought runs ops × HasOps (record { replica = replica; hold = hold }) ops image)
+    → IsHonest last × ((image : List ℕ) → IsCrashImage last image → (ops : List Op) × AllBrought runs ops × HasOps (record { replica = replica; hold = hold }) ops image)

@@ -8,16 +8,16 @@ use Rattle.origin_model.specs.taking.Taking.{HasPlace, Held, held_from}
 use Rattle.outer_ports.specs.Sources.{SourceView}
 use Rattle.outer_ports.specs.disk.Disks.{DiskView}
 use Rattle.outer_ports.specs.disk.Moments.{after}
-use Rattle.outer_ports.specs.disk.States.{settled}
+use Rattle.outer_ports.specs.disk.States.{durable}
 use Rattle.origin_model.specs.edits.State.{State as Replica}
 use Rattle.replica_file.specs.Append.{IsTooLong, behind_gate}
-use Rattle.replica_file.specs.Gates.{opened}
-use Rattle.replica_file.specs.declared.end.End.{End}
+use Rattle.replica_file.specs.Gates.{gate_opened}
+use Rattle.replica_file.specs.declared.load_file.End.{End}
 use Rattle.manuscript_cli.specs.Crashes.{IsFinished, NeverTorn}
 use Rattle.manuscript_cli.specs.Files.{AppendFailed, FileHolds, FileRefuses, GainsAllOrNone, IsAppended, IsSaved, KeepsFile, LoadFailed}
 use Rattle.manuscript_cli.specs.Findings.{Finding, Refuses, Does, IsDecided}
 use Rattle.manuscript_cli.specs.Printing.{NotesBlameless}
-use Rattle.manuscript_cli.specs.Refusal.{line_of, status_of, Told, TookFronts}
+use Rattle.manuscript_cli.specs.Refusal.{refusal_line, status_of, Told, TookFronts}
 use Rattle.manuscript_cli.specs.Touched.{Change, DiskBlameless, DiskStaysCalm, HasDiskRoom, HasRoom, IsTold, SourceBlameless, StaysCalm, change, notes_room}
 use Rattle.manuscript_cli.specs.declared.refusal.Refusal.{Refusal}
 use Rattle.manuscript_cli.specs.declared.refusal.Refusal.TheVariants as refusal
@@ -81,8 +81,8 @@ pub record IsDone (giver : Giver) (file : Change DiskView) (outcome : Outcome) :
   pub fits : IsTooLong end outcome.saved → ⊥
   pub saves : IfSome file.old.past (λ h. IsSaved outcome.saved h file.new.past)
   -- the file was settled, and then one batch was appended where its meaning ends, or none
-  pub none : outcome.saved ≡ [] → file.new.past ≡ after settled file.old.past
-  pub batch : outcome.saved ≢ [] → file.new.past ≡ opened end.at (behind_gate outcome.saved) (after settled file.old.past)
+  pub none : outcome.saved ≡ [] → file.new.past ≡ after durable file.old.past
+  pub batch : outcome.saved ≢ [] → file.new.past ≡ gate_opened end.at (behind_gate outcome.saved) (after durable file.old.past)
   pub later : (last : End) × FileHolds file.new (record replica { held = outcome.held }) last
   pub calm : DiskStaysCalm (room_to_save outcome.saved) file
 
@@ -103,7 +103,7 @@ pub record GivingFailed (giver : Giver) (file : Change DiskView) : Type 0 where
   pub replica : Replica
   pub end : End
   pub holds : FileHolds file.old replica end
-  pub synced : file.new.past ≡ after settled file.old.past
+  pub synced : file.new.past ≡ after durable file.old.past
   pub failed : giver.Failed
   pub not_sure : giver.Sure → ⊥
   pub keeps : KeepsFile file
@@ -114,7 +114,7 @@ StopsSaving giver file refusal.Outside = LoadFailed file ⊎ GivingFailed giver 
 StopsSaving giver file refusal.NoMemory = KeepsFile file
 StopsSaving giver file refusal.Words = ⊥
 StopsSaving giver file why =
-    SavingFound giver file.old (Refuses why) × KeepsFile file × (FileRefuses file.old why ⊎ (file.new.past ≡ after settled file.old.past))
+    SavingFound giver file.old (Refuses why) × KeepsFile file × (FileRefuses file.old why ⊎ (file.new.past ≡ after durable file.old.past))
 
 -- the outcome, or why it did not come
 abbrev pub ComesToSave : Giver → Change DiskView → Result Outcome Refusal → Type 0
@@ -149,7 +149,7 @@ pub record Finished (giver : Giver) (file : Change DiskView) (notes : Change Out
 pub record NotesFailed (giver : Giver) (file : Change DiskView) (notes : Change OutView) : Type 0 where
   pub outcome : Outcome
   pub done : IsDone giver file outcome
-  pub noted : TookFronts notes.old notes.new outcome.line (line_of refusal.Outside)
+  pub noted : TookFronts notes.old notes.new outcome.line (refusal_line refusal.Outside)
   pub rose : Rose notes.old.faults notes.new.faults
   pub no_room : HasRoom notes_room notes.old → ⊥
 
@@ -157,7 +157,7 @@ pub record NotesFailed (giver : Giver) (file : Change DiskView) (notes : Change 
 pub record Stopped (giver : Giver) (file : Change DiskView) (notes : Change OutView) (end : Status) : Type 0 where
   pub why : Refusal
   pub stops : StopsSaving giver file why
-  pub noted : Told notes.old notes.new (line_of why)
+  pub noted : Told notes.old notes.new (refusal_line why)
   pub end_is : end ≡ status_of why
 
 -- what was done, for each way in which the command may end

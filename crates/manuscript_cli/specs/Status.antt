@@ -3,12 +3,12 @@ use Rattle.std.specs.Prelude.{ℕ}
 use Rattle.manuscript_cli.specs.declared.status.Status.{Status}
 use Rattle.manuscript_cli.specs.declared.status.Status.TheVariants.{Done, Usage, BadInput, Partial, OutsideFault, NoMemory, BadFile, Limit}
 
-abbrev pub code_of : Status → ℕ
-code_of Done = 0
-code_of Usage = 1
-code_of BadInput = 2
-code_of Partial = 3
-code_of OutsideFault = 4
-code_of NoMemory = 5
-code_of BadFile = 6
-code_of Limit = 7
+abbrev pub exit_code : Status → ℕ
+exit_code Done = 0
+exit_code Usage = 1
+exit_code BadInput = 2
+exit_code Partial = 3
+exit_code OutsideFault = 4
+exit_code NoMemory = 5
+exit_code BadFile = 6
+exit_code Limit = 7

@@ -7,10 +7,10 @@ use Rattle.origin_model.specs.taking.Taking.{Held}
 use Rattle.outer_ports.specs.disk.Disks.{DiskView}
 use Rattle.outer_ports.specs.wire.Wires.{WireView, out_of}
 use Rattle.relay_sync.specs.Outcomes.{Bad, Cut, Ended, Refused, ReplyComes, ReplyEnd, TooLong, TooMany}
-use Rattle.relay_sync.specs.Saying.{SaysToNoOther, text_for}
+use Rattle.relay_sync.specs.Saying.{SaysToNoOther, request_for}
 use Rattle.relay_sync.specs.Syncing.{Fits, HearsNoFurther}
 use Rattle.origin_model.specs.edits.State.{State as Replica}
-use Rattle.replica_file.specs.declared.end.End.{End}
+use Rattle.replica_file.specs.declared.load_file.End.{End}
 use Rattle.manuscript_cli.specs.Crashes.{IsFinished}
 use Rattle.manuscript_cli.specs.Files.{FileHolds}
 use Rattle.manuscript_cli.specs.Findings.{Finding, Refuses, Does}
@@ -45,17 +45,17 @@ reply cursor home wire = record {
   Gives = ReplyGives wire.old;
   Told = (bytes : List ℕ) × (wire.old.left ≡ Some bytes);
   Failed = Rose wire.old.faults wire.new.faults;
-  Sure = (replica : Replica) (end : End) → FileHolds home replica end → Fits (length (text_for cursor replica.held)) wire.old;
+  Sure = (replica : Replica) (end : End) → FileHolds home replica end → Fits (length (request_for cursor replica.held)) wire.old;
 }
 
 -- A front of what is held was said, to nobody but the port; all of it, to the port, where all was done, and then the reply was heard and nothing behind it. A sure wire that has room for it counts no fault.
 pub record Speaks (port cursor : ℕ) (held : Held) (wire : Change WireView) (done : Type 0) : Type 0 where
-  pub front : TookFront (out_of wire.old) (out_of wire.new) (text_for cursor held)
+  pub front : TookFront (out_of wire.old) (out_of wire.new) (request_for cursor held)
   pub no_other : SaysToNoOther wire.old wire.new port
-  pub whole : done → Took (out_of wire.old) (out_of wire.new) (text_for cursor held)
+  pub whole : done → Took (out_of wire.old) (out_of wire.new) (request_for cursor held)
   pub dialled : done → wire.new.port ≡ option_map (λ before. Some port) wire.old.port
   pub heard : done → HearsNoFurther wire.old.left wire.new.left
-  pub calm : Fits (length (text_for cursor held)) wire.old → wire.new.faults ≡ wire.old.faults
+  pub calm : Fits (length (request_for cursor held)) wire.old → wire.new.faults ≡ wire.old.faults
 
 -- the replica of the file spoke, or nothing was said at all
 abbrev pub SpeaksFor : (port cursor : ℕ) → DiskView → Change WireView → (done : Type 0) → Type 0

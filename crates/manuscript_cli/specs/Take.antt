@@ -4,12 +4,12 @@ use Rattle.fugue_ids.specs.Causes.{Rose}
 use Rattle.fugue_ids.specs.declared.op.Op.{Op}
 use Rattle.origin_model.specs.operations.History.{accepted}
 use Rattle.origin_model.specs.taking.Taking.{HasPlace, Held, held_from, kept_from, no_counts, tally_from}
-use Rattle.origin_model.specs.declared.taking.tally.Tally.{Tally}
+use Rattle.origin_model.specs.declared.taking.Tally.{Tally}
 use Rattle.op_frame.specs.Courses.{Whole, CutShort, BadFrame, TooLong, TooMany}
 use Rattle.outer_ports.specs.Sources.{SourceView}
 use Rattle.outer_ports.specs.disk.Disks.{DiskView}
 use Rattle.origin_model.specs.edits.State.{State as Replica}
-use Rattle.replica_file.specs.declared.end.End.{End}
+use Rattle.replica_file.specs.declared.load_file.End.{End}
 use Rattle.manuscript_cli.specs.Counts.{counts_text, status_by}
 use Rattle.manuscript_cli.specs.Files.{FileHolds, FileRefuses}
 use Rattle.manuscript_cli.specs.Findings.{Finding, Refuses, Does}
@@ -82,8 +82,8 @@ FileGives guest replica (Refuses why) = FileRefuses guest why ⊎ HolderGives gu
 FileGives guest replica (Does outcome) = HolderGives guest replica (Does outcome)
 
 -- the other replica alone, which is no object of the outside
-abbrev pub all_of : (other : Replica) → Giver
-all_of other = record { Gives = ReplicaGives other; Told = Unit {0}; Failed = ⊥; Sure = Unit {0} }
+abbrev pub all_held_by : (other : Replica) → Giver
+all_held_by other = record { Gives = ReplicaGives other; Told = Unit {0}; Failed = ⊥; Sure = Unit {0} }
 
 abbrev pub other_file : Change DiskView → Giver
 other_file guest = record {

@@ -3,7 +3,7 @@ use Rattle.std.specs.Prelude.{◌≡◌, ◌≢◌, ℕ, List, length, Result, O
 use Rattle.fugue_ids.specs.Causes.{Rose}
 use Rattle.fugue_ids.specs.Outs.{OutTells, OutView, Took, TookFront}
 use Rattle.manuscript_cli.specs.Printing.{NotesBlameless}
-use Rattle.manuscript_cli.specs.Refusal.{line_of, Told}
+use Rattle.manuscript_cli.specs.Refusal.{refusal_line, Told}
 use Rattle.manuscript_cli.specs.Touched.{Change, HasRoom, OutBlameless, StaysCalm, notes_room}
 use Rattle.manuscript_cli.specs.declared.refusal.Refusal.{Refusal}
 use Rattle.manuscript_cli.specs.declared.refusal.Refusal.TheVariants as refusal
@@ -37,12 +37,12 @@ pub record WroteText (bytes : List ℕ) (output notes : Change OutView) : Type 0
 -- the output failed, and that was told
 pub record TextFailed (bytes : List ℕ) (output notes : Change OutView) : Type 0 where
   pub front : WroteFront bytes output
-  pub noted : Told notes.old notes.new (line_of refusal.Outside)
+  pub noted : Told notes.old notes.new (refusal_line refusal.Outside)
 
 -- nothing went out, and the notes got the refusal's line
 pub record WroteNothing (output notes : Change OutView) (why : Refusal) : Type 0 where
   pub wrote : output.new ≡ output.old
-  pub noted : Told notes.old notes.new (line_of why)
+  pub noted : Told notes.old notes.new (refusal_line why)
 
 -- what was done, for each way in which a command may end that writes a text
 abbrev pub TextMeets : (bytes : List ℕ) → (output notes : Change OutView) → Status → Type 0

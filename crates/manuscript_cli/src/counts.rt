@@ -1,5 +1,5 @@
 ghost use Rattle.std.specs.Prelude.{◌≡◌, ◌≤◌, ◌+◌, ◌++◌, length, None, Some};
-ghost use Rattle.fugue_ids.specs.Outs.{WritesText};
+ghost use Rattle.fugue_ids.specs.Outs.{WritesBytes};
 ghost use Rattle.manuscript_cli.specs.Counts.{counts_line, counts_text, cursor_line, status_by};
 ghost use Rattle.manuscript_cli.specs.Touched.{notes_room};
 
@@ -52,7 +52,7 @@ pub(crate) enum Note {
 
 /// Writes what became of the operations, how many wait at the end, and where the relay's log ended.
 pub(crate) fn write_counts<N: Out>(notes: &mut N, counts: &Counts) -> Result<(), Failed>
-    ensures text { WritesText (N.seen notes.old) (N.seen notes.new) result
+    ensures text { WritesBytes (N.seen notes.old) (N.seen notes.new) result
         (counts_text counts.now.tally counts.now.waiting counts.now.cursor) }
     ensures short { length (counts_text counts.now.tally counts.now.waiting counts.now.cursor) ≤ notes_room }
 {
@@ -63,7 +63,7 @@ pub(crate) fn write_counts<N: Out>(notes: &mut N, counts: &Counts) -> Result<(),
 }
 
 fn write_exchange<N: Out>(notes: &mut N, counts: &Counts, cursor: u32) -> Result<(), Failed>
-    ensures text { WritesText (N.seen notes.old) (N.seen notes.new) result
+    ensures text { WritesBytes (N.seen notes.old) (N.seen notes.new) result
         (counts_line counts.now.tally counts.now.waiting ++ cursor_line cursor) }
     ensures short { length (counts_line counts.now.tally counts.now.waiting ++ cursor_line cursor) ≤ notes_room }
 {
@@ -72,7 +72,7 @@ fn write_exchange<N: Out>(notes: &mut N, counts: &Counts, cursor: u32) -> Result
 }
 
 fn write_cursor<N: Out>(notes: &mut N, cursor: u32) -> Result<(), Failed>
-    ensures text { WritesText (N.seen notes.old) (N.seen notes.new) result (cursor_line cursor) }
+    ensures text { WritesBytes (N.seen notes.old) (N.seen notes.new) result (cursor_line cursor) }
     ensures short { length (cursor_line cursor) ≤ 18 }
 {
     let mut number = Buffer::new();
@@ -83,7 +83,7 @@ fn write_cursor<N: Out>(notes: &mut N, cursor: u32) -> Result<(), Failed>
 }
 
 fn write_tally<N: Out>(notes: &mut N, counts: &Counts) -> Result<(), Failed>
-    ensures text { WritesText (N.seen notes.old) (N.seen notes.new) result
+    ensures text { WritesBytes (N.seen notes.old) (N.seen notes.new) result
         (counts_line counts.now.tally counts.now.waiting) }
     ensures short { length (counts_line counts.now.tally counts.now.waiting) + 18 ≤ notes_room }
 {

@@ -1,6 +1,6 @@
 //! The command `edit`: a script is run.
 ghost use Rattle.std.specs.Prelude.{◌≤◌, length};
-ghost use Rattle.fugue_ids.specs.Outs.{WritesText};
+ghost use Rattle.fugue_ids.specs.Outs.{WritesBytes};
 ghost use Rattle.manuscript_cli.specs.Counts.{made_line};
 ghost use Rattle.manuscript_cli.specs.Edit.{script};
 ghost use Rattle.manuscript_cli.specs.Printing.{NoteMeets, NotesBlameless};
@@ -54,7 +54,7 @@ pub(crate) fn note_made<N: Sink>(made: u32, notes: &mut N) -> Status
 }
 
 fn write_made<N: Out>(notes: &mut N, made: u32) -> Result<(), Failed>
-    ensures text { WritesText (N.seen notes.old) (N.seen notes.new) result (made_line made) }
+    ensures text { WritesBytes (N.seen notes.old) (N.seen notes.new) result (made_line made) }
     ensures short { length (made_line made) ≤ notes_room }
 {
     let mut number = Buffer::new();

@@ -1,8 +1,8 @@
 //! The commands that save: something is given to the replica of the home file, and what came of it is saved and noted.
 ghost use Rattle.std.specs.Prelude.{◌≡◌, ◌≢◌, [], drop, Some, IfSome};
 ghost use Rattle.outer_ports.specs.disk.Disks.{DiskTells, DiskView};
-ghost use Rattle.replica_file.specs.declared.end.End.{End as FileEnd};
-ghost use Rattle.replica_file.specs.Ends.{EndsAt, Reaches};
+ghost use Rattle.replica_file.specs.declared.load_file.End.{End as FileEnd};
+ghost use Rattle.replica_file.specs.Ends.{EndsAt, IsWithinReach};
 ghost use Rattle.replica_file.specs.Loading.{IsReady};
 ghost use Rattle.manuscript_cli.specs.Crashes.{IsFinished};
 ghost use Rattle.manuscript_cli.specs.Files.{FileHolds};
@@ -111,7 +111,7 @@ fn give_and_save<F, T: Gives<F>, H: Disk>(
     kept: &mut Kept,
 ) -> Result<Note, Refusal>
     requires ready { IsReady replica.old }
-    requires reaches { Reaches end }
+    requires reaches { IsWithinReach end }
     requires ends { IfSome (H.seen home.old).past (λ h. EndsAt h.last end) }
     requires none_kept { kept.old ≡ Some [] }
     ensures given { (file : DiskView) → FileHolds file replica.old end

@@ -1,7 +1,7 @@
 //! The file of a replica: loaded, and appended to, with refusals for faults.
 ghost use Rattle.manuscript_cli.specs.Files.{LoadMeets, SaveMeets};
 ghost use Rattle.manuscript_cli.specs.Touched.{change};
-ghost use Rattle.replica_file.specs.Ends.{EndsAt, Reaches};
+ghost use Rattle.replica_file.specs.Ends.{EndsAt, IsWithinReach};
 ghost use Rattle.manuscript_cli.specs.declared.refusal.Refusal.TheVariants.{Outside};
 ghost use Rattle.outer_ports.specs.disk.Disks.{DiskTells};
 ghost use Rattle.std.specs.Prelude.{◌≡◌, ◌≢◌, IfSome};
@@ -32,7 +32,7 @@ pub(crate) fn save<H: Disk>(
     end: End,
     ops: &[Op],
 ) -> Result<(), Refusal>
-    requires reaches { Reaches end }
+    requires reaches { IsWithinReach end }
     requires ends { IfSome (H.seen file.old).past (λ h. EndsAt h.last end) }
     ensures meets { SaveMeets end ops.now (change (H.seen file.old) (H.seen file.new)) result }
     ensures told { DiskTells (H.seen file.old) → result ≢ Err Outside

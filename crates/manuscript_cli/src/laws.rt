@@ -6,7 +6,7 @@ ghost use Rattle.fugue_ids.specs.declared.limits.TheConstants.{MOST_OPERATIONS, 
 ghost use Rattle.origin_model.specs.declared.files.TheConstants.{LONGEST_BATCH};
 ghost use Rattle.edit_script.specs.declared.script.TheConstants.{LONGEST_SCRIPT};
 ghost use Rattle.relay_core.specs.declared.relay.TheConstants.{MOST_LOGGED};
-ghost use Rattle.bulk_world.specs.declared.limits.TheConstants.{MOST_TURNS};
+ghost use Rattle.bulk_world.specs.declared.making.TheConstants.{MOST_TURNS};
 ghost use Rattle.manuscript_cli.specs.Runs.{EachFinishedIsIn};
 ghost use Rattle.manuscript_cli.specs.declared.words.TheConstants.{GREATEST_CURSOR, GREATEST_PORT};
 ghost use Rattle.manuscript_cli.specs.declared.words.TheConstants.{GREATEST_REPLICA, GREATEST_SEED};

@@ -1,14 +1,14 @@
 //! The command `merge`: what another file holds is taken in.
 ghost use Rattle.std.specs.Prelude.{◌≡◌, ◌+◌, ◌<◌, ◌^◌, length, IfErr, IfOk, OnOk};
 ghost use Rattle.origin_model.specs.taking.Taking.{IsSettled};
-ghost use Rattle.replica_core.specs.Keeping.{TakesIn, begun};
+ghost use Rattle.replica_core.specs.Keeping.{TakesIn, taking_begun};
 ghost use Rattle.origin_model.specs.edits.State.{Stands};
 ghost use Rattle.replica_core.specs.Told.{total};
 ghost use Rattle.replica_file.specs.Loading.{IsReady};
 ghost use Rattle.manuscript_cli.specs.Files.{LeavesFile};
 ghost use Rattle.manuscript_cli.specs.Giving.{GivesTo};
 ghost use Rattle.manuscript_cli.specs.Merge.{FindNoPlace, MergesNot};
-ghost use Rattle.manuscript_cli.specs.Take.{all_of, ops_of, other_file};
+ghost use Rattle.manuscript_cli.specs.Take.{all_held_by, ops_of, other_file};
 ghost use Rattle.manuscript_cli.specs.Touched.{change};
 
 use crate::counts::{Counts, Note};
@@ -55,7 +55,7 @@ fn give_all(
 ) -> Result<Note, Refusal>
     requires ready { IsReady replica.old }
     requires other_stands { Stands other.now }
-    ensures gives { GivesTo (all_of other.now) replica.old replica.new kept.new result }
+    ensures gives { GivesTo (all_held_by other.now) replica.old replica.new kept.new result }
 {
     let mut ops = Vec::new(alloc);
     let tally = take_all(alloc, replica, other, &mut ops)?;
@@ -73,7 +73,7 @@ fn take_all(
     requires settled { IsSettled replica.old.held }
     requires stands { Stands replica.old }
     requires other_stands { Stands other.now }
-    ensures ok { IfOk result (λ tally. TakesIn (begun replica.old kept.old.items)
+    ensures ok { IfOk result (λ tally. TakesIn (taking_begun replica.old kept.old.items)
         (record { replica = replica.new; counts = tally; kept = kept.new.items }) (ops_of other.now.held)) }
     ensures err { IfErr result (λ why. MergesNot why replica.old (ops_of other.now.held)) }
 {

@@ -1,5 +1,5 @@
 ghost use Rattle.std.specs.Prelude.{◌≤◌, List, ℕ, length};
-ghost use Rattle.fugue_ids.specs.Outs.{OutView, WritesText};
+ghost use Rattle.fugue_ids.specs.Outs.{OutView, WritesBytes};
 ghost use Rattle.origin_model.specs.order.Printed.{manuscript};
 ghost use Rattle.manuscript_cli.specs.Counts.{counts_text, status_by};
 ghost use Rattle.manuscript_cli.specs.Printing.{NoteMeets, NotesBlameless, PrintMeets};
@@ -46,11 +46,11 @@ pub(crate) fn note<N: Sink>(counts: &Counts, notes: &mut N) -> Status
 
 /// The status, where the line of notes was written. Where it was not, that is told as a fault outside.
 pub(crate) fn noted<N: Sink>(written: Result<(), Failed>, status: Status, notes: &mut N) -> Status
-    ensures meets { (before : OutView) (line : List ℕ) → WritesText before (N.seen notes.old) written line
+    ensures meets { (before : OutView) (line : List ℕ) → WritesBytes before (N.seen notes.old) written line
         → length line ≤ notes_room → NoteMeets line status before (N.seen notes.new) result }
-    ensures calm { (before : OutView) (line : List ℕ) → WritesText before (N.seen notes.old) written line
+    ensures calm { (before : OutView) (line : List ℕ) → WritesBytes before (N.seen notes.old) written line
         → length line ≤ notes_room → StaysCalm notes_room before (N.seen notes.new) }
-    ensures blameless { (before : OutView) (line : List ℕ) → WritesText before (N.seen notes.old) written line
+    ensures blameless { (before : OutView) (line : List ℕ) → WritesBytes before (N.seen notes.old) written line
         → NotesBlameless (change before (N.seen notes.new)) result }
 {
     match written {

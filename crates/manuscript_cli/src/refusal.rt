@@ -1,8 +1,8 @@
 ghost use Rattle.std.specs.Prelude.{◌≡◌, ◌≤◌, length};
-ghost use Rattle.fugue_ids.specs.Outs.{WritesText};
+ghost use Rattle.fugue_ids.specs.Outs.{WritesBytes};
 ghost use Rattle.manuscript_cli.specs.Refusal.{append_refusal, create_refusal, feed_refusal, frame_refusal};
 ghost use Rattle.manuscript_cli.specs.Refusal.{load_refusal, script_refusal, serve_refusal, sync_refusal};
-ghost use Rattle.manuscript_cli.specs.Refusal.{line_of, number_of, status_of, words_of, Told};
+ghost use Rattle.manuscript_cli.specs.Refusal.{refusal_line, refusal_number, status_of, words_of, Told};
 ghost use Rattle.manuscript_cli.specs.Touched.{notes_room};
 ghost use Rattle.manuscript_cli.specs.declared.refusal.Refusal.TheVariants.{NoMemory as NoMemoryFound};
 
@@ -63,7 +63,7 @@ impl Refusal {
     fn row(self) -> Row
         ensures status { result.0 ≡ status_of self }
         ensures words { result.1.now ≡ words_of self }
-        ensures number { result.2 ≡ number_of self }
+        ensures number { result.2 ≡ refusal_number self }
     {
         match self {
             Self::Words => Row(Status::Usage, "words not understood", None),
@@ -217,7 +217,7 @@ impl fmt::Display for Refusal {
 /// Writes the refusal's line to the notes, as far as they take it, and answers its status.
 pub fn tell<N: Out>(notes: &mut N, refusal: Refusal) -> Status
     ensures status { result ≡ status_of refusal }
-    ensures told { Told (N.seen notes.old) (N.seen notes.new) (line_of refusal) }
+    ensures told { Told (N.seen notes.old) (N.seen notes.new) (refusal_line refusal) }
 {
     let Row(status, ..) = refusal.row();
     let _ = write_line(notes, refusal);
@@ -225,8 +225,8 @@ pub fn tell<N: Out>(notes: &mut N, refusal: Refusal) -> Status
 }
 
 fn write_line<N: Out>(notes: &mut N, refusal: Refusal) -> Result<(), Failed>
-    ensures text { WritesText (N.seen notes.old) (N.seen notes.new) result (line_of refusal) }
-    ensures short { length (line_of refusal) ≤ notes_room }
+    ensures text { WritesBytes (N.seen notes.old) (N.seen notes.new) result (refusal_line refusal) }
+    ensures short { length (refusal_line refusal) ≤ notes_room }
 {
     let Row(_, words, number) = refusal.row();
     let mut buffer = Buffer::new();

@@ -1,5 +1,5 @@
 ghost use Rattle.std.specs.Prelude.{◌≡◌, ◌≤◌, length};
-ghost use Rattle.fugue_ids.specs.Outs.{WritesText};
+ghost use Rattle.fugue_ids.specs.Outs.{WritesBytes};
 ghost use Rattle.origin_model.specs.relay.Relay.{new_relay};
 ghost use Rattle.manuscript_cli.specs.Printing.{NoteMeets, NotesBlameless};
 ghost use Rattle.manuscript_cli.specs.Relay.{NeverBlamed, OpeningMeets, Relays, RiseOutside, ServingMeets};
@@ -114,7 +114,7 @@ fn note<N: Sink>(logged: u32, notes: &mut N) -> Status
 }
 
 fn write_logged<N: Out>(notes: &mut N, logged: u32) -> Result<(), Failed>
-    ensures text { WritesText (N.seen notes.old) (N.seen notes.new) result (log_line logged) }
+    ensures text { WritesBytes (N.seen notes.old) (N.seen notes.new) result (log_line logged) }
     ensures short { length (log_line logged) ≤ notes_room }
 {
     let mut number = Buffer::new();

@@ -2,7 +2,7 @@ ghost use Rattle.std.specs.Prelude.{◌≡◌, ◌≤◌, length, IfOk, IfErr, I
 ghost use Rattle.fugue_ids.specs.declared.limits.TheConstants.{GREATEST_HOLD};
 ghost use Rattle.outer_ports.specs.Sources.{KeepsCount};
 ghost use Rattle.origin_model.specs.taking.Taking.{IsSettled};
-ghost use Rattle.manuscript_cli.specs.Intake.{IsReady, Steps, TakesIn, StopsFor};
+ghost use Rattle.manuscript_cli.specs.Intake.{IsReady, IntakeSteps, TakesIn, IntakeStopsFor};
 ghost use Rattle.manuscript_cli.specs.declared.refusal.Refusal.TheVariants.{Outside};
 
 use crate::kept::Kept;
@@ -31,7 +31,7 @@ impl Intake {
     ) -> Result<bool, Refusal>
         requires { IsReady
             (record { reader = self.old.reader; replica = replica.old; counts = self.old.tally; kept = kept.old }) }
-        ensures steps { Steps
+        ensures steps { IntakeSteps
             (record { reader = self.old.reader; replica = replica.old; counts = self.old.tally; kept = kept.old })
             (record { reader = self.new.reader; replica = replica.new; counts = self.new.tally; kept = kept.new })
             (S.seen source.old) (S.seen source.new) result }
@@ -56,7 +56,7 @@ pub(crate) fn take_in<S: Source>(
     requires few { length replica.old.held.waiting ≤ GREATEST_HOLD }
     ensures ok { IfOk result
         (λ tally. TakesIn replica.old (S.seen source.old) (S.seen source.new) replica.new tally kept.old kept.new) }
-    ensures err { IfErr result (λ why. StopsFor why replica.old (S.seen source.old)) }
+    ensures err { IfErr result (λ why. IntakeStopsFor why replica.old (S.seen source.old)) }
     ensures count { KeepsCount (S.seen source.old) (S.seen source.new) (IsErrOf result Outside) }
 {
     let mut intake = Intake {

@@ -1,6 +1,6 @@
 //! A text that goes to the output, and how a command ends that writes no more than that.
 ghost use Rattle.std.specs.Prelude.{List, ℕ};
-ghost use Rattle.fugue_ids.specs.Outs.{OutView, WritesText};
+ghost use Rattle.fugue_ids.specs.Outs.{OutView, WritesBytes};
 ghost use Rattle.manuscript_cli.specs.TextOut.{GoesOut, WritesOut};
 ghost use Rattle.manuscript_cli.specs.Touched.{Change, change};
 
@@ -11,7 +11,7 @@ use outer_ports::Sink;
 
 /// The answer of a call that wrote a text, with the refusal that a failure is.
 pub(crate) fn gone_out(written: Result<(), Failed>) -> Result<(), Refusal>
-    ensures { (old new : OutView) (text : List ℕ) → WritesText old new written text
+    ensures { (old new : OutView) (text : List ℕ) → WritesBytes old new written text
         → GoesOut text (change old new) result }
 {
     match written {

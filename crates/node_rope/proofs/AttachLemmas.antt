@@ -3,7 +3,7 @@ use Rattle.std.proofs.Common.{◌≡◌, ℕ, zero, suc, ◌≤◌, ◌≢◌, i
 use Rattle.std.proofs.lemmas.Bool.Decides.{eqb_tells}
 use Rattle.std.proofs.lemmas.List.{append_assoc}
 use Rattle.std.proofs.lemmas.List.Concat.{flat_map-append}
-use Rattle.node_rope.specs.Walk.{Tree, count_of, whole, IsCounted, IsAttached, before, after, mirror}
+use Rattle.node_rope.specs.Walk.{Tree, count_of, whole, HasCounts, IsAttached, before, after, mirror}
 use Rattle.node_rope.proofs.WalkLemmas.{whole-node}
 use Rattle.node_rope.proofs.TurnLemmas.{same-or-not}
 
@@ -19,7 +19,7 @@ before-other y n x h = elim (eqb_tells x y) as (λ _. before y n x ≡ x ∷ [])
   | inr e ↦ ap (λ b. cond b (n ∷ y ∷ []) (x ∷ [])) e.0
 ]
 
-module _ (t u : Tree) (ct : IsCounted t) (cu : IsCounted u) (y n : ℕ) (a : IsAttached t u y n) where
+module _ (t u : Tree) (ct : HasCounts t) (cu : HasCounts u) (y n : ℕ) (a : IsAttached t u y n) where
   pub attached-walk : (k : ℕ) (o : Option ℕ) → count_of t o ≤ k → (o ≡ Some n → ⊥) → whole u o ≡ flat_map (before y n) (whole t o)
   attached-walk k None h f = refl
   attached-walk zero (Some x) h f = absurd (omega (arith, ct x))
@@ -56,7 +56,7 @@ after-other y n x h = elim (eqb_tells x y) as (λ _. after y n x ≡ x ∷ []) [
 ]
 
 -- the same with the sides exchanged
-module _ (t u : Tree) (ct : IsCounted t) (cu : IsCounted u) (y n : ℕ) (a : IsAttached (mirror t) (mirror u) y n) where
+module _ (t u : Tree) (ct : HasCounts t) (cu : HasCounts u) (y n : ℕ) (a : IsAttached (mirror t) (mirror u) y n) where
   pub attached-walk-after : (k : ℕ) (o : Option ℕ) → count_of t o ≤ k → (o ≡ Some n → ⊥) → whole u o ≡ flat_map (after y n) (whole t o)
   attached-walk-after k None h f = refl
   attached-walk-after zero (Some x) h f = absurd (omega (arith, ct x))

@@ -8,12 +8,12 @@ use Rattle.node_rope.specs.declared.store.Store.{Store}
 use Rattle.node_rope.specs.declared.cells.Link.{Link}
 use Rattle.node_rope.specs.declared.cells.Own.{Own}
 use Rattle.node_rope.specs.Made.{IsMade, made_count, shapes_of}
-use Rattle.node_rope.specs.Shapes.{IsSound, shape_at, number_of, tree_of, order}
+use Rattle.node_rope.specs.Shapes.{HasRightLinks, shape_at, link_number, tree_of, order}
 use Rattle.node_rope.specs.Walk.{Tree, whole}
 use Rattle.node_rope.specs.Found.{IsFollowed}
 use Rattle.node_rope.proofs.WalkLemmas.{whole-node, length-whole}
 use Rattle.node_rope.proofs.ShapeLemmas.{made-below, higher}
-use Rattle.node_rope.specs.Items.{IsRope, items_of}
+use Rattle.node_rope.specs.Items.{IsRope, rope_items_of}
 use Rattle.node_rope.specs.Places.{StandsAt}
 use Rattle.node_rope.proofs.KeyLemmas.{link-or-none}
 use Rattle.node_rope.proofs.SeenLemmas.{stands, key-seen, order-length}
@@ -42,7 +42,7 @@ part-right xs L p W f b e = record {
   split = e ∙ ap (λ ys. f ++ ys) (append_assoc L (p ∷ W) b) ∙ sym (append_assoc f L (p ∷ (W ++ b))) ∙ sym (append_assoc (f ++ L) (p ∷ []) (W ++ b));
 }
 
-module _ {T : Type 0} (s : Store T) (root : Option Link) (sound : IsSound s root) where
+module _ {T : Type 0} (s : Store T) (root : Option Link) (sound : HasRightLinks s root) where
   abbrev t : Tree
   t = tree_of (shapes_of s)
 
@@ -52,7 +52,7 @@ module _ {T : Type 0} (s : Store T) (root : Option Link) (sound : IsSound s root
     | inl e ↦ record { front = []; back = []; split = ap (whole t) (sound.top i b e) ∙ sym (append-nil (whole t (Some i))) }
     | inr e ↦ (
         let p = e.0.number in
-        let up = ap number_of e.1 in
+        let up = ap link_number e.1 in
         let high : t.count i < t.count p = higher s root sound i e.0 e.1 in
         let above = parts k p (omega (arith, h, high)) (made-below s e.0 (sound.made_parent i e.0 e.1)) in
         let node : order s root ≡ above.front ++ ((whole t (t.left p) ++ p ∷ whole t (t.right p)) ++ above.back) = above.split ∙ ap (λ ys. above.front ++ (ys ++ above.back)) (whole-node t sound.counted p) in
@@ -116,14 +116,14 @@ module _ {T : Type 0} (s : Store T) (root : Option Link) (sound : IsSound s root
 
 -- ---- the item behind the one of a node
 module _ {T : Type 0} (wt : T → Own) (s : Store T) (root : Option Link) (m : BTreeMap Identifier Link) (r : IsRope wt s root m) (k : Identifier) (l : Link) (at : get id_cmp m k ≡ Some l) where
-  pub item-stands : (o : Option ℕ) (f : IsFollowed (order s root) l.number o) → StandsAt (items_of s root) (length f.front) k
+  pub item-stands : (o : Option ℕ) (f : IsFollowed (order s root) l.number o) → StandsAt (rope_items_of s root) (length f.front) k
   item-stands o f =
       let inside : length f.front < length (order s root) = omega (arith, ap length f.split, length-append f.front (l.number ∷ f.back)) in
       stands wt s root m r k l at (length f.front) inside (ap (λ xs. get_or xs (length f.front) 0) f.split ∙ get_or-append_seam f.front l.number f.back 0)
 
-  pub item-behind : (n : Link) (f : IsFollowed (order s root) l.number (Some n.number)) → StandsAt (items_of s root) (length f.front + 1) (shape_at (shapes_of s) n.number).key
+  pub item-behind : (n : Link) (f : IsFollowed (order s root) l.number (Some n.number)) → StandsAt (rope_items_of s root) (length f.front + 1) (shape_at (shapes_of s) n.number).key
   item-behind n f = by f.back f.split f.next where
-    by : (back : List ℕ) → order s root ≡ f.front ++ l.number ∷ back → Some n.number ≡ slice_get back 0 → StandsAt (items_of s root) (length f.front + 1) (shape_at (shapes_of s) n.number).key
+    by : (back : List ℕ) → order s root ≡ f.front ++ l.number ∷ back → Some n.number ≡ slice_get back 0 → StandsAt (rope_items_of s root) (length f.front + 1) (shape_at (shapes_of s) n.number).key
     by [] e next = absurd (cc)
     by (b ∷ rest) e next =
         let is : n.number ≡ b = cc in
@@ -132,8 +132,8 @@ module _ {T : Type 0} (wt : T → Own) (s : Store T) (root : Option Link) (m : B
         let inside : length f.front + 1 < length (order s root) = omega (arith, place, ap length split, length-append (f.front ++ l.number ∷ []) (b ∷ rest)) in
         key-seen wt s root m r (length f.front + 1) n inside (ap (λ xs. get_or xs (length f.front + 1) 0) split ∙ ap (λ (i : ℕ). get_or ((f.front ++ l.number ∷ []) ++ b ∷ rest) i 0) (sym place) ∙ get_or-append_seam (f.front ++ l.number ∷ []) b rest 0 ∙ sym is)
 
-  pub item-last : (f : IsFollowed (order s root) l.number None) → length (items_of s root) ≡ length f.front + 1
+  pub item-last : (f : IsFollowed (order s root) l.number None) → length (rope_items_of s root) ≡ length f.front + 1
   item-last f = by f.back f.split f.next where
-    by : (back : List ℕ) → order s root ≡ f.front ++ l.number ∷ back → None ≡ slice_get back 0 → length (items_of s root) ≡ length f.front + 1
+    by : (back : List ℕ) → order s root ≡ f.front ++ l.number ∷ back → None ≡ slice_get back 0 → length (rope_items_of s root) ≡ length f.front + 1
     by (b ∷ rest) e next = absurd (cc)
     by [] e next = omega (arith, order-length wt s root m r, ap length e, length-append f.front (l.number ∷ []))

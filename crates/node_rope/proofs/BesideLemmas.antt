@@ -2,15 +2,15 @@
 use Rattle.std.proofs.Common.{◌≡◌, ℕ, ◌+◌, ◌^◌, min, ◌<◌, ◌≤◌, List, [], ◌∷◌, ◌++◌, length, map, flat_map, Option, None, Some, refl, sym, ap, ◌∙◌, subst, arith}
 use Rattle.std.proofs.lemmas.List.{map-append, map-set}
 use Rattle.fugue_ids.specs.Identifiers.{Identifier}
-use Rattle.node_rope.specs.declared.side.Side.{Side}
-use Rattle.node_rope.specs.declared.side.Side.TheVariants.{Left, Right}
+use Rattle.node_rope.specs.declared.turn.Side.{Side}
+use Rattle.node_rope.specs.declared.turn.Side.TheVariants.{Left, Right}
 use Rattle.node_rope.specs.declared.store.Store.{Store}
 use Rattle.node_rope.specs.declared.cells.Shape.{Shape}
 use Rattle.node_rope.specs.declared.cells.Link.{Link}
 use Rattle.node_rope.specs.declared.cells.Own.{Own}
 use Rattle.node_rope.specs.Made.{IsMade, IsKept, made_count, shapes_of, values_of}
-use Rattle.node_rope.specs.Shapes.{IsSound, shape_at, tree_of, order, IsWeighed, IsRanked, weight_at, least_at}
-use Rattle.node_rope.specs.Walk.{IsCounted}
+use Rattle.node_rope.specs.Shapes.{HasRightLinks, shape_at, tree_of, order, IsWeighed, IsRanked, weight_at, least_at}
+use Rattle.node_rope.specs.Walk.{HasCounts}
 use Rattle.node_rope.specs.Sums.{no_rank}
 use Rattle.node_rope.specs.Joined.{IsJoined}
 use Rattle.node_rope.specs.Grown.{with_parent, new_beside, joined_beside, IsGrown}
@@ -33,7 +33,7 @@ flip-new ss at key w =
     let node : Option Link → ℕ → ℕ → ℕ → Shape = λ o n v r. record { key = key; left = o; right = None; parent = Some at; count = n + 1; weight = v + w.weight; least = min r w.rank; own = w } in
     let fs = map flipped ss in
     let o = (flipped (shape_at ss at.number)).left in
-    (λ i. node o (sym (flip-count ss o) i) (sym (flip-weight ss o) i) (sym (flip-least ss o) i)) ∙ ap (λ (h : Shape). node h.left (Rattle.node_rope.specs.Turned.count_at fs h.left) (weight_at fs h.left) (least_at fs h.left)) (sym (flip-at ss at.number))
+    (λ i. node o (sym (flip-count ss o) i) (sym (flip-weight ss o) i) (sym (flip-least ss o) i)) ∙ ap (λ (h : Shape). node h.left (Rattle.node_rope.specs.Turned.tree_count_at fs h.left) (weight_at fs h.left) (least_at fs h.left)) (sym (flip-at ss at.number))
 
 -- u is s with the new node l at the side of at, and the sums above it not yet raised
 pub record IsBeside {T : Type 0} (d : Side) (s u : Store T) (at l : Link) (key : Identifier) (w : Own) : Type 0 where
@@ -42,7 +42,7 @@ pub record IsBeside {T : Type 0} (d : Side) (s u : Store T) (at l : Link) (key :
   pub key_here : (shape_at (shapes_of u) l.number).key ≡ key
   pub own_here : (shape_at (shapes_of u) l.number).own ≡ w
 
-module _ {T : Type 0} (s u : Store T) (root : Option Link) (at l : Link) (key : Identifier) (w : Own) (so : IsSound s root) (made : IsMade s at) (fits : w.rank ≤ no_rank) (number : l.number ≡ made_count s) where
+module _ {T : Type 0} (s u : Store T) (root : Option Link) (at l : Link) (key : Identifier) (w : Own) (so : HasRightLinks s root) (made : IsMade s at) (fits : w.rank ≤ no_rank) (number : l.number ≡ made_count s) where
   abbrev ss : List Shape
   ss = shapes_of s
 
@@ -72,7 +72,7 @@ flip-beside s u at l key w b = record {
   to_u : ◌≡◌ {A = ℕ → Shape} (shape_at (shapes_of (mirrored u))) (λ i. flipped (shape_at (shapes_of u) i))
   to_u = λ k i. (there u).at i k
 
-is-beside : {T : Type 0} (d : Side) (s u : Store T) (root : Option Link) (at l : Link) (key : Identifier) (w : Own) → IsSound s root → IsMade s at → w.rank ≤ no_rank → l.number ≡ made_count s → shapes_of u ≡ joined_beside d (shapes_of s) at l (new_beside d (shapes_of s) at key w)
+is-beside : {T : Type 0} (d : Side) (s u : Store T) (root : Option Link) (at l : Link) (key : Identifier) (w : Own) → HasRightLinks s root → IsMade s at → w.rank ≤ no_rank → l.number ≡ made_count s → shapes_of u ≡ joined_beside d (shapes_of s) at l (new_beside d (shapes_of s) at key w)
     → IsBeside d s u at l key w
 is-beside Left s u root at l key w so made fits number is = beside-left s u root at l key w so made fits number is
 is-beside Right s u root at l key w so made fits number is = flip-beside s u at l key w (beside-left (mirrored s) (mirrored u) root at l key w (mirror-sound s (mirrored s) root (there s) so) made fits (number ∙ sym (there s).count)
@@ -80,7 +80,7 @@ is-beside Right s u root at l key w so made fits number is = flip-beside s u at 
     ∙ ap (λ (hs : List Shape). joined_beside Left hs at l (new_beside Left hs at key w)) (sym (shapes-mirrored s))))
 
 -- ---- u has a new node l of the shape h at the side of at
-module _ {T : Type 0} (d : Side) (s u : Store T) (root : Option Link) (at l : Link) (key : Identifier) (w : Own) (h : Shape) (new : h ≡ new_beside d (shapes_of s) at key w) (sound : IsSound s root) (made_at : IsMade s at) (fits : w.rank ≤ no_rank)
+module _ {T : Type 0} (d : Side) (s u : Store T) (root : Option Link) (at l : Link) (key : Identifier) (w : Own) (h : Shape) (new : h ≡ new_beside d (shapes_of s) at key w) (sound : HasRightLinks s root) (made_at : IsMade s at) (fits : w.rank ≤ no_rank)
     (is : shapes_of u ≡ joined_beside d (shapes_of s) at l h) (number : l.number ≡ made_count s) (made : IsMade u l) (count : made_count u ≡ made_count s + 1) (kept : IsKept s u) where
   b : IsBeside d s u at l key w
   b = is-beside d s u root at l key w sound made_at fits number (is ∙ ap (joined_beside d (shapes_of s) at l) new)
@@ -92,7 +92,7 @@ module _ {T : Type 0} (d : Side) (s u : Store T) (root : Option Link) (at l : Li
   beside-small = small s u root at l w sound b.entered kept number made made_at count
 
   -- the sums are raised
-  module _ (v : Store T) (cv : IsCounted (tree_of (shapes_of v))) (wv : IsWeighed (shapes_of v)) (rv : IsRanked (shapes_of v)) (links : SameLinks (shapes_of u) (shapes_of v)) (raised : IsRaised (shapes_of u) (shapes_of v) w None)
+  module _ (v : Store T) (cv : HasCounts (tree_of (shapes_of v))) (wv : IsWeighed (shapes_of v)) (rv : IsRanked (shapes_of v)) (links : SameLinks (shapes_of u) (shapes_of v)) (raised : IsRaised (shapes_of u) (shapes_of v) w None)
       (kept' : IsKept u v) (count' : made_count v ≡ made_count u) where
     pub beside-grown : (value : T) → values_of v ≡ values_of s ++ value ∷ [] → IsGrown s v root key w value l
     beside-grown value values = grown s u root at l w sound b.entered kept number made made_at count v cv wv rv links raised kept' count' key value values b.key_here b.own_here

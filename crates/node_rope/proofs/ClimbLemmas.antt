@@ -4,29 +4,29 @@ use Rattle.node_rope.specs.declared.store.Store.{Store}
 use Rattle.node_rope.specs.declared.cells.Shape.{Shape}
 use Rattle.node_rope.specs.declared.cells.Link.{Link}
 use Rattle.node_rope.specs.Made.{IsMade, made_count, shapes_of}
-use Rattle.node_rope.specs.Walk.{Tree, count_of, whole, IsCounted}
-use Rattle.node_rope.specs.Sums.{adding, sum_of}
-use Rattle.node_rope.specs.Shapes.{IsSound, shape_at, number_of, tree_of, order, weigh, weight_at, owns, weights, IsWeighed}
+use Rattle.node_rope.specs.Walk.{Tree, count_of, whole, HasCounts}
+use Rattle.node_rope.specs.Sums.{sum_measure, sum_of}
+use Rattle.node_rope.specs.Shapes.{HasRightLinks, shape_at, link_number, tree_of, order, weigh, weight_at, owns, weights, IsWeighed}
 use Rattle.node_rope.proofs.ShapeLemmas.{made-below, weight-sum, up_made, is_left, nearer}
 use Rattle.node_rope.proofs.WalkLemmas.{at-self, at-left, at-right, length-whole}
 use Rattle.node_rope.proofs.SumLemmas.{adding-lawful, fold-append, sum-is, first-self, first-left, first-right}
 
-module _ (ss : List Shape) (ct : IsCounted (tree_of ss)) (wt : IsWeighed ss) where
-  pub weight-is : (o : Option ℕ) → sum_of adding (weights ss) o ≡ weigh ss (whole (tree_of ss) o)
-  weight-is o = sum-is adding adding-lawful (tree_of ss) ct (owns ss) (weights ss) wt o
+module _ (ss : List Shape) (ct : HasCounts (tree_of ss)) (wt : IsWeighed ss) where
+  pub weight-is : (o : Option ℕ) → sum_of sum_measure (weights ss) o ≡ weigh ss (whole (tree_of ss) o)
+  weight-is o = sum-is sum_measure adding-lawful (tree_of ss) ct (owns ss) (weights ss) wt o
 
-  weigh-self : (x i : ℕ) → i ≡ count_of (tree_of ss) (number_of (shape_at ss x).left) → weight_at ss (shape_at ss x).left ≡ weigh ss (take i (whole (tree_of ss) (Some x)))
-  weigh-self x i e = weight-sum ss (shape_at ss x).left ∙ weight-is (number_of (shape_at ss x).left) ∙ ap (weigh ss) (sym (first-self (tree_of ss) ct x i e))
+  weigh-self : (x i : ℕ) → i ≡ count_of (tree_of ss) (link_number (shape_at ss x).left) → weight_at ss (shape_at ss x).left ≡ weigh ss (take i (whole (tree_of ss) (Some x)))
+  weigh-self x i e = weight-sum ss (shape_at ss x).left ∙ weight-is (link_number (shape_at ss x).left) ∙ ap (weigh ss) (sym (first-self (tree_of ss) ct x i e))
 
-  weigh-left : (p c i w : ℕ) → number_of (shape_at ss p).left ≡ Some c → i ≤ (shape_at ss c).count → w ≡ weigh ss (take i (whole (tree_of ss) (Some c))) → w ≡ weigh ss (take i (whole (tree_of ss) (Some p)))
+  weigh-left : (p c i w : ℕ) → link_number (shape_at ss p).left ≡ Some c → i ≤ (shape_at ss c).count → w ≡ weigh ss (take i (whole (tree_of ss) (Some c))) → w ≡ weigh ss (take i (whole (tree_of ss) (Some p)))
   weigh-left p c i w e h f = f ∙ ap (weigh ss) (sym (first-left (tree_of ss) ct p c i e h))
 
-  weigh-right : (p c i j w : ℕ) → number_of (shape_at ss p).right ≡ Some c → j ≡ count_of (tree_of ss) (number_of (shape_at ss p).left) + suc i → w ≡ weigh ss (take i (whole (tree_of ss) (Some c)))
+  weigh-right : (p c i j w : ℕ) → link_number (shape_at ss p).right ≡ Some c → j ≡ count_of (tree_of ss) (link_number (shape_at ss p).left) + suc i → w ≡ weigh ss (take i (whole (tree_of ss) (Some c)))
       → weight_at ss (shape_at ss p).left + ((shape_at ss p).own.weight + w) ≡ weigh ss (take j (whole (tree_of ss) (Some p)))
   weigh-right p c i j w e f h =
-      let l = weight-sum ss (shape_at ss p).left ∙ weight-is (number_of (shape_at ss p).left) in
-      ap (λ a. a + ((shape_at ss p).own.weight + w)) l ∙ ap (λ a. weigh ss (whole (tree_of ss) (number_of (shape_at ss p).left)) + ((shape_at ss p).own.weight + a)) h
-      ∙ sym (fold-append adding adding-lawful (owns ss) (whole (tree_of ss) (number_of (shape_at ss p).left)) (p ∷ take i (whole (tree_of ss) (Some c))))
+      let l = weight-sum ss (shape_at ss p).left ∙ weight-is (link_number (shape_at ss p).left) in
+      ap (λ a. a + ((shape_at ss p).own.weight + w)) l ∙ ap (λ a. weigh ss (whole (tree_of ss) (link_number (shape_at ss p).left)) + ((shape_at ss p).own.weight + a)) h
+      ∙ sym (fold-append sum_measure adding-lawful (owns ss) (whole (tree_of ss) (link_number (shape_at ss p).left)) (p ∷ take i (whole (tree_of ss) (Some c))))
       ∙ ap (weigh ss) (sym (first-right (tree_of ss) ct p c i j e f))
 
 -- ---- of the nodes below cur, whose shape is h, count ones stand before the node i, and their weight is this
@@ -38,12 +38,12 @@ pub record IsClimbing {T : Type 0} (s : Store T) (i : ℕ) (cur : Link) (h : Sha
   pub here : get_or (whole (tree_of (shapes_of s)) (Some cur.number)) count 0 ≡ i
   pub weighs : weight ≡ weigh (shapes_of s) (take count (whole (tree_of (shapes_of s)) (Some cur.number)))
 
-pub climb-starts : {T : Type 0} (s : Store T) (root : Option Link) → IsSound s root → (at : Link) → IsMade s at → (h : Shape) → h ≡ shape_at (shapes_of s) at.number → (count weight : ℕ) → count ≡ count_of (tree_of (shapes_of s)) (number_of h.left) → weight ≡ weight_at (shapes_of s) h.left
+pub climb-starts : {T : Type 0} (s : Store T) (root : Option Link) → HasRightLinks s root → (at : Link) → IsMade s at → (h : Shape) → h ≡ shape_at (shapes_of s) at.number → (count weight : ℕ) → count ≡ count_of (tree_of (shapes_of s)) (link_number h.left) → weight ≡ weight_at (shapes_of s) h.left
     → IsClimbing s at.number at h count weight
 climb-starts s root so at made h read count weight is_count is_weight =
     let ss = shapes_of s in
     let i = at.number in
-    let c : count ≡ count_of (tree_of ss) (number_of (shape_at ss i).left) = is_count ∙ ap (λ (g : Shape). count_of (tree_of ss) (number_of g.left)) read in
+    let c : count ≡ count_of (tree_of ss) (link_number (shape_at ss i).left) = is_count ∙ ap (λ (g : Shape). count_of (tree_of ss) (link_number g.left)) read in
     let w : weight ≡ weight_at ss (shape_at ss i).left = is_weight ∙ ap (λ (g : Shape). weight_at ss g.left) read in record {
       made = made;
       read = read;
@@ -53,7 +53,7 @@ climb-starts s root so at made h read count weight is_count is_weight =
       weighs = w ∙ weigh-self ss so.counted so.weighed i count c;
     }
 
-module _ {T : Type 0} (s : Store T) (root : Option Link) (so : IsSound s root) (i : ℕ) (cur : Link) (h : Shape) (count weight : ℕ) (inv : IsClimbing s i cur h count weight) where
+module _ {T : Type 0} (s : Store T) (root : Option Link) (so : HasRightLinks s root) (i : ℕ) (cur : Link) (h : Shape) (count weight : ℕ) (inv : IsClimbing s i cur h count weight) where
   abbrev hs : List Shape
   hs = shapes_of s
 
@@ -74,29 +74,29 @@ module _ {T : Type 0} (s : Store T) (root : Option Link) (so : IsSound s root) (
     pub climb-nearer : suc (made_count s) - g.count < suc (made_count s) - h.count
     climb-nearer = rw (inv.read, read) (nearer s root so k up parent (suc (made_count s)) refl)
 
-    pub climb-right : number_of g.right ≡ Some k → (below light : ℕ) → below ≡ count_of t (number_of g.left) → light ≡ weight_at hs g.left → IsClimbing s i up g (below + 1 + count) (light + (g.own.weight + weight))
+    pub climb-right : link_number g.right ≡ Some k → (below light : ℕ) → below ≡ count_of t (link_number g.left) → light ≡ weight_at hs g.left → IsClimbing s i up g (below + 1 + count) (light + (g.own.weight + weight))
     climb-right side below light is_below is_light =
-        let right : t.right p ≡ Some k = ap (λ (f : Shape). number_of f.right) (sym read) ∙ side in
-        let b : below ≡ count_of t (t.left p) = is_below ∙ ap (λ (f : Shape). count_of t (number_of f.left)) read in
+        let right : t.right p ≡ Some k = ap (λ (f : Shape). link_number f.right) (sym read) ∙ side in
+        let b : below ≡ count_of t (t.left p) = is_below ∙ ap (λ (f : Shape). count_of t (link_number f.left)) read in
         let l : light ≡ weight_at hs (shape_at hs p).left = is_light ∙ ap (λ (f : Shape). weight_at hs f.left) read in
         let j : below + 1 + count ≡ count_of t (t.left p) + suc count = omega (arith, b) in
         let w : light + (g.own.weight + weight) ≡ weight_at hs (shape_at hs p).left + ((shape_at hs p).own.weight + weight) = omega (arith, l, ap (λ (f : Shape). f.own.weight) read) in record {
           made = up_made s root so k up parent;
           read = read;
           inside = omega (arith, b, so.counted p, inv.inside, ap (λ (f : Shape). f.count) inv.read, ap (λ (f : Shape). f.count) read, ap (count_of t) right);
-          lighter = omega (arith, w, so.weighed p, weight-sum hs (shape_at hs p).left, inv.lighter, ap (λ (f : Shape). f.weight) inv.read, ap (λ (f : Shape). f.weight) read, ap (sum_of adding (weights hs)) right);
+          lighter = omega (arith, w, so.weighed p, weight-sum hs (shape_at hs p).left, inv.lighter, ap (λ (f : Shape). f.weight) inv.read, ap (λ (f : Shape). f.weight) read, ap (sum_of sum_measure (weights hs)) right);
           here = at-right t so.counted p k count (below + 1 + count) right j ∙ inv.here;
           weighs = w ∙ weigh-right hs so.counted so.weighed p k count (below + 1 + count) weight right j inv.weighs;
         }
 
-    pub climb-left : (number_of g.right ≡ Some k → ⊥) → IsClimbing s i up g count weight
+    pub climb-left : (link_number g.right ≡ Some k → ⊥) → IsClimbing s i up g count weight
     climb-left other =
-        let left : t.left p ≡ Some k = is_left s root so k up parent (λ e. other (ap (λ (f : Shape). number_of f.right) read ∙ e)) in
+        let left : t.left p ≡ Some k = is_left s root so k up parent (λ e. other (ap (λ (f : Shape). link_number f.right) read ∙ e)) in
         let inside : count < (shape_at hs k).count = omega (arith, inv.inside, ap (λ (f : Shape). f.count) inv.read) in record {
           made = up_made s root so k up parent;
           read = read;
           inside = omega (arith, inside, so.counted p, ap (λ (f : Shape). f.count) read, ap (count_of t) left);
-          lighter = omega (arith, so.weighed p, inv.lighter, ap (λ (f : Shape). f.weight) inv.read, ap (λ (f : Shape). f.weight) read, ap (sum_of adding (weights hs)) left);
+          lighter = omega (arith, so.weighed p, inv.lighter, ap (λ (f : Shape). f.weight) inv.read, ap (λ (f : Shape). f.weight) read, ap (sum_of sum_measure (weights hs)) left);
           here = at-left t so.counted p k count left inside ∙ inv.here;
           weighs = weigh-left hs so.counted so.weighed p k count weight left (omega (arith, inside)) inv.weighs;
         }
@@ -105,7 +105,7 @@ module _ {T : Type 0} (s : Store T) (root : Option Link) (so : IsSound s root) (
   pub climbed : h.parent ≡ None → (count < length (order s root)) × (get_or (order s root) count 0 ≡ i) × (weight ≡ weigh hs (take count (order s root)))
   climbed none =
       let top = so.top k (made-below s cur inv.made) (ap (λ (f : Shape). f.parent) (sym inv.read) ∙ none) in (
-        omega (arith, inv.inside, ap (λ (f : Shape). f.count) inv.read, length-whole t so.counted (number_of root), ap (count_of t) top),
+        omega (arith, inv.inside, ap (λ (f : Shape). f.count) inv.read, length-whole t so.counted (link_number root), ap (count_of t) top),
         subst (λ (o : Option ℕ). get_or (whole t o) count 0 ≡ i) (sym top) inv.here,
         subst (λ (o : Option ℕ). weight ≡ weigh hs (take count (whole t o))) (sym top) inv.weighs,
       )

@@ -7,19 +7,19 @@ use Rattle.std.proofs.lemmas.List.Concat.{flat_map-append}
 use Rattle.std.specs.Prelude.{eqb}
 use Rattle.fugue_ids.specs.Identifiers.{Identifier, id_eq}
 use Rattle.node_rope.specs.Beside.{new_then, then_new, placed_before, placed_after, placed_beside}
-use Rattle.node_rope.specs.declared.side.Side.{Side}
-use Rattle.node_rope.specs.declared.side.Side.TheVariants.{Left, Right}
+use Rattle.node_rope.specs.declared.turn.Side.{Side}
+use Rattle.node_rope.specs.declared.turn.Side.TheVariants.{Left, Right}
 use Rattle.node_rope.specs.Sides.{beside}
 use Rattle.node_rope.specs.declared.store.Store.{Store}
 use Rattle.node_rope.specs.declared.cells.Shape.{Shape}
 use Rattle.node_rope.specs.declared.cells.Link.{Link}
 use Rattle.node_rope.specs.declared.cells.Own.{Own}
 use Rattle.node_rope.specs.declared.cells.Node.{Node}
-use Rattle.node_rope.specs.Shaped.{shape_of, value_of}
+use Rattle.node_rope.specs.Shaped.{shape_of, node_value}
 use Rattle.node_rope.specs.Made.{made_count, shapes_of, values_of}
-use Rattle.node_rope.specs.Shapes.{IsSound, shape_at, number_of, tree_of, order}
+use Rattle.node_rope.specs.Shapes.{HasRightLinks, shape_at, link_number, tree_of, order}
 use Rattle.node_rope.specs.Walk.{count_of, whole, before, after}
-use Rattle.node_rope.specs.Items.{item_at, items_of}
+use Rattle.node_rope.specs.Items.{item_at, rope_items_of}
 use Rattle.node_rope.specs.Grown.{IsGrown}
 use Rattle.node_rope.proofs.WalkLemmas.{whole-node}
 use Rattle.node_rope.proofs.ShapeLemmas.{length-shapes}
@@ -57,14 +57,14 @@ pub item-is : {T : Type 0} (s : Store T) (i : ℕ) (v : T) → i < made_count s 
 item-is {T} s i v h e =
     let n = some-of s.pile.values i h in
     let key : slice_get (shapes_of s) i ≡ Some n.0.shape = got-of shape_of s.pile.values i ∙ ap (option_map shape_of) n.1 in
-    let value : Some n.0.value ≡ Some v = sym (got-of value_of s.pile.values i ∙ ap (option_map value_of) n.1) ∙ e in
+    let value : Some n.0.value ≡ Some v = sym (got-of node_value s.pile.values i ∙ ap (option_map node_value) n.1) ∙ e in
     let is : n.0.value ≡ v = cc in
     let k : n.0.shape ≡ shape_at (shapes_of s) i = read-of (shapes_of s) i n.0.shape key in
     let pair : Node T → Identifier × T = λ m. (m.shape.key, m.value) in
     ap (λ o. option_to_list (option_map pair o)) n.1 ∙ ap (λ (q : Shape). (q.key, n.0.value) ∷ []) k ∙ ap (λ (w : T). ((shape_at (shapes_of s) i).key, w) ∷ []) is
 
 -- ---- a list function of the nodes, through one of single nodes
-module _ {T A B : Type 0} (s : Store T) (root : Option Link) (sound : IsSound s root) (I : A → List B) (f : ℕ → List A) (G : ℕ → List B) (each : (x : ℕ) → x < made_count s → flat_map I (f x) ≡ G x) where
+module _ {T A B : Type 0} (s : Store T) (root : Option Link) (sound : HasRightLinks s root) (I : A → List B) (f : ℕ → List A) (G : ℕ → List B) (each : (x : ℕ) → x < made_count s → flat_map I (f x) ≡ G x) where
   through-below : (k : ℕ) (o : Option ℕ) → count_of (tree_of (shapes_of s)) o ≤ k → ((x : ℕ) → o ≡ Some x → x < made_count s) → flat_map I (flat_map f (whole (tree_of (shapes_of s)) o)) ≡ flat_map G (whole (tree_of (shapes_of s)) o)
   through-below k None h b = refl
   through-below zero (Some x) h b = absurd (omega (arith, sound.counted x))
@@ -80,11 +80,11 @@ module _ {T A B : Type 0} (s : Store T) (root : Option Link) (sound : IsSound s 
       ∙ sym (flat_map-append G L (x ∷ R)) ∙ ap (flat_map G) (sym (whole-node t sound.counted x))
 
   through : flat_map I (flat_map f (order s root)) ≡ flat_map G (order s root)
-  through = through-below (count_of (tree_of (shapes_of s)) (number_of root)) (number_of root) (omega arith) (root-below s root sound root sound.made_root)
+  through = through-below (count_of (tree_of (shapes_of s)) (link_number root)) (link_number root) (omega arith) (root-below s root sound root sound.made_root)
 
-module _ {T : Type 0} (s u : Store T) (root top : Option Link) (sound : IsSound s root) (key : Identifier) (w : Own) (value : T) (l : Link) (g : IsGrown s u top key w value l) where
+module _ {T : Type 0} (s u : Store T) (root top : Option Link) (sound : HasRightLinks s root) (key : Identifier) (w : Own) (value : T) (l : Link) (g : IsGrown s u top key w value l) where
   length-values : length (values_of s) ≡ made_count s
-  length-values = Rattle.std.proofs.lemmas.List.length-map s.pile.values value_of
+  length-values = Rattle.std.proofs.lemmas.List.length-map s.pile.values node_value
 
   pub new-item : item_at u l.number ≡ (key, value) ∷ []
   new-item =
@@ -109,7 +109,7 @@ module _ {T : Type 0} (s u : Store T) (root top : Option Link) (sound : IsSound 
   ]
 
   -- the list of an insert before the node y
-  pub items-before : (y : ℕ) → order u top ≡ flat_map (before y l.number) (order s root) → items_of u top ≡ flat_map (beside_before y) (order s root)
+  pub items-before : (y : ℕ) → order u top ≡ flat_map (before y l.number) (order s root) → rope_items_of u top ≡ flat_map (beside_before y) (order s root)
   items-before y e = ap (flat_map (item_at u)) e ∙ through s root sound (item_at u) (before y l.number) (beside_before y) (each-before y)
 
   abbrev pub beside_after : ℕ → ℕ → List (Identifier × T)
@@ -123,7 +123,7 @@ module _ {T : Type 0} (s u : Store T) (root top : Option Link) (sound : IsSound 
   ]
 
   -- the list of an insert behind the node y
-  pub items-after : (y : ℕ) → order u top ≡ flat_map (after y l.number) (order s root) → items_of u top ≡ flat_map (beside_after y) (order s root)
+  pub items-after : (y : ℕ) → order u top ≡ flat_map (after y l.number) (order s root) → rope_items_of u top ≡ flat_map (beside_after y) (order s root)
   items-after y e = ap (flat_map (item_at u)) e ∙ through s root sound (item_at u) (after y l.number) (beside_after y) (each-after y)
 
   -- the same by keys, where the key `at` is that of the node y alone
@@ -135,7 +135,7 @@ module _ {T : Type 0} (s u : Store T) (root top : Option Link) (sound : IsSound 
         let it : Identifier × T = ((shape_at (shapes_of s) x).key, v.0) in
         ap (flat_map (new_then at (key, value))) is ∙ append-nil (new_then at (key, value) it) ∙ ap (λ b. cond b ((key, value) ∷ it ∷ []) (it ∷ [])) (alone x h) ∙ ap (λ (ys : List (Identifier × T)). cond (eqb x y) ((key, value) ∷ ys) ys) (sym is)
 
-    list-before : order u top ≡ flat_map (before y l.number) (order s root) → items_of u top ≡ placed_before at (key, value) (items_of s root)
+    list-before : order u top ≡ flat_map (before y l.number) (order s root) → rope_items_of u top ≡ placed_before at (key, value) (rope_items_of s root)
     list-before e = items-before y e ∙ sym (through s root sound (new_then at (key, value)) (item_at s) (beside_before y) keyed-before)
 
     keyed-after : (x : ℕ) → x < made_count s → flat_map (then_new at (key, value)) (item_at s x) ≡ beside_after y x
@@ -145,9 +145,9 @@ module _ {T : Type 0} (s u : Store T) (root top : Option Link) (sound : IsSound 
         let it : Identifier × T = ((shape_at (shapes_of s) x).key, v.0) in
         ap (flat_map (then_new at (key, value))) is ∙ append-nil (then_new at (key, value) it) ∙ ap (λ b. cond b (it ∷ (key, value) ∷ []) (it ∷ [])) (alone x h) ∙ ap (λ (ys : List (Identifier × T)). cond (eqb x y) (ys ++ (key, value) ∷ []) ys) (sym is)
 
-    list-after : order u top ≡ flat_map (after y l.number) (order s root) → items_of u top ≡ placed_after at (key, value) (items_of s root)
+    list-after : order u top ≡ flat_map (after y l.number) (order s root) → rope_items_of u top ≡ placed_after at (key, value) (rope_items_of s root)
     list-after e = items-after y e ∙ sym (through s root sound (then_new at (key, value)) (item_at s) (beside_after y) keyed-after)
 
-    pub list-beside : (d : Side) → order u top ≡ flat_map (beside d y l.number) (order s root) → items_of u top ≡ placed_beside d at (key, value) (items_of s root)
+    pub list-beside : (d : Side) → order u top ≡ flat_map (beside d y l.number) (order s root) → rope_items_of u top ≡ placed_beside d at (key, value) (rope_items_of s root)
     list-beside Left e = list-before e
     list-beside Right e = list-after e

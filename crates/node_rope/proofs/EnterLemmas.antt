@@ -1,13 +1,13 @@
 -- What a store's tree is once a node has joined, and once the sums above it are raised.
 use Rattle.std.proofs.Common.{◌≡◌, ℕ, ◌+◌, min, ◌<◌, ◌≤◌, ◌≢◌, ◌⊎◌, inl, inr, List, length, Option, None, Some, refl, sym, ap, ◌∙◌, subst, arith}
 use Rattle.fugue_ids.specs.Identifiers.{Identifier}
-use Rattle.node_rope.specs.declared.side.Side.TheVariants.{Left}
+use Rattle.node_rope.specs.declared.turn.Side.TheVariants.{Left}
 use Rattle.node_rope.specs.declared.cells.Shape.{Shape}
 use Rattle.node_rope.specs.declared.cells.Link.{Link}
 use Rattle.node_rope.specs.declared.cells.Own.{Own}
-use Rattle.node_rope.specs.Shapes.{shape_at, number_of, tree_of, weights, owns, leasts, ranks, IsWeighed, IsRanked}
-use Rattle.node_rope.specs.Walk.{IsCounted, IsLinked, mirror}
-use Rattle.node_rope.specs.Sums.{adding, lesser, no_rank}
+use Rattle.node_rope.specs.Shapes.{shape_at, link_number, tree_of, weights, owns, leasts, ranks, IsWeighed, IsRanked}
+use Rattle.node_rope.specs.Walk.{HasCounts, IsLinked, mirror}
+use Rattle.node_rope.specs.Sums.{sum_measure, lesser, no_rank}
 use Rattle.node_rope.specs.Joined.{IsJoined, IsSummedBut, IsBelow}
 use Rattle.node_rope.specs.Grown.{new_beside, joined_beside}
 use Rattle.node_rope.specs.Sides.{flipped}
@@ -25,14 +25,14 @@ Came f at l m = (m ≡ l) ⊎ ((m ≡ at) ⊎ ((j : ℕ) × (((f j).left ≡ Som
 
 -- the shapes g are f and a new node, with the sums above it not yet raised
 pub record IsEntered (f g : ℕ → Shape) (at l : Link) (w : Own) : Type 0 where
-  pub counts : IsSummedBut adding (tree_by g) (λ _. 1) (λ i. (g i).count) 1 (Some at.number)
-  pub weighs : IsSummedBut adding (tree_by g) (λ i. (g i).own.weight) (λ i. (g i).weight) w.weight (Some at.number)
+  pub counts : IsSummedBut sum_measure (tree_by g) (λ _. 1) (λ i. (g i).count) 1 (Some at.number)
+  pub weighs : IsSummedBut sum_measure (tree_by g) (λ i. (g i).own.weight) (λ i. (g i).weight) w.weight (Some at.number)
   pub lowest : IsSummedBut lesser (tree_by g) (λ i. (g i).own.rank) (λ i. (g i).least) w.rank (Some at.number)
   pub linked : IsLinked (tree_by g)
   pub below : IsBelow (tree_by g)
-  pub proper : (i : ℕ) → number_of (g i).parent ≡ Some i → ⊥
-  pub top : (i : ℕ) → number_of (g i).parent ≡ None → (i ≢ l.number) × (number_of (f i).parent ≡ None)
-  pub crown : (i : ℕ) → i ≢ l.number → number_of (f i).parent ≡ None → number_of (g i).parent ≡ None
+  pub proper : (i : ℕ) → link_number (g i).parent ≡ Some i → ⊥
+  pub top : (i : ℕ) → link_number (g i).parent ≡ None → (i ≢ l.number) × (link_number (f i).parent ≡ None)
+  pub crown : (i : ℕ) → i ≢ l.number → link_number (f i).parent ≡ None → link_number (g i).parent ≡ None
   pub count_same : (i : ℕ) → i ≢ l.number → (g i).count ≡ (f i).count
   pub weight_same : (i : ℕ) → i ≢ l.number → (g i).weight ≡ (f i).weight
   pub key_same : (i : ℕ) → i ≢ l.number → (g i).key ≡ (f i).key
@@ -53,8 +53,8 @@ flip-came f at l m (inr (inr (j, inr (inr e)))) = inr (inr (j, inr (inr e)))
 
 pub flip-entered : (f g : ℕ → Shape) (at l : Link) (w : Own) → IsEntered (λ i. flipped (f i)) (λ i. flipped (g i)) at l w → IsEntered f g at l w
 flip-entered f g at l w e = record {
-  counts = mirror-but adding adding-commutes (tree_by g) (λ _. 1) (λ i. (g i).count) 1 (Some at.number) e.counts;
-  weighs = mirror-but adding adding-commutes (tree_by g) (λ i. (g i).own.weight) (λ i. (g i).weight) w.weight (Some at.number) e.weighs;
+  counts = mirror-but sum_measure adding-commutes (tree_by g) (λ _. 1) (λ i. (g i).count) 1 (Some at.number) e.counts;
+  weighs = mirror-but sum_measure adding-commutes (tree_by g) (λ i. (g i).own.weight) (λ i. (g i).weight) w.weight (Some at.number) e.weighs;
   lowest = mirror-but lesser lesser-commutes (tree_by g) (λ i. (g i).own.rank) (λ i. (g i).least) w.rank (Some at.number) e.lowest;
   linked = mirror-linked (mirror (tree_by g)) e.linked;
   below = mirror-below (mirror (tree_by g)) e.below;
@@ -78,7 +78,7 @@ link-same l m e = cc
 no-link : (m : Link) → None ≡ Some m → ⊥
 no-link m e = cc
 
-module _ (ss : List Shape) (at l : Link) (key : Identifier) (w : Own) (ct : IsCounted (tree_of ss)) (wt : IsWeighed ss) (rt : IsRanked ss) (fits : w.rank ≤ no_rank) (linked : IsLinked (tree_of ss)) (below : IsBelow (tree_of ss))
+module _ (ss : List Shape) (at l : Link) (key : Identifier) (w : Own) (ct : HasCounts (tree_of ss)) (wt : IsWeighed ss) (rt : IsRanked ss) (fits : w.rank ≤ no_rank) (linked : IsLinked (tree_of ss)) (below : IsBelow (tree_of ss))
     (within : AreWithin ss) (in_y : at.number < length ss) (number : l.number ≡ length ss) where
   abbrev h_before : Shape
   h_before = new_beside Left ss at key w
@@ -113,7 +113,7 @@ module _ (ss : List Shape) (at l : Link) (key : Identifier) (w : Own) (ct : IsCo
   entered_parents_before : (i : ℕ) (m : Link) → (shape_at us_before i).parent ≡ Some m → Came (shape_at ss) at l m
   entered_parents_before i m e = elim (same-or-not i l.number) as (λ _. Came (shape_at ss) at l m) [
     | inl g ↦ inr (inl (link-same at m (sym (ap (λ s. s.parent) new_before_is) ∙ ap (λ (j : ℕ). (shape_at us_before j).parent) (sym g) ∙ e)))
-    | inr g ↦ elim (some-or-not (number_of (shape_at ss at.number).left) i) as (λ _. Came (shape_at ss) at l m) [
+    | inr g ↦ elim (some-or-not (link_number (shape_at ss at.number).left) i) as (λ _. Came (shape_at ss) at l m) [
       | inl f ↦ inl (link-same l m (sym (ap (λ s. s.parent) (joining.at_m-before ss at l h_before ct within in_y number refl refl refl i f)) ∙ e))
       | inr f ↦ inr (inr (i, inr (inr (sym (joining.parents-before ss at l h_before ct within in_y number refl refl refl i g f) ∙ e))))
     ]
@@ -125,17 +125,17 @@ module _ (ss : List Shape) (at l : Link) (key : Identifier) (w : Own) (ct : IsCo
       let u = (tree_of us_before) in
       let c = ct in
       let j = joins_before in
-      let cs = joined-sums t u c linked below at.number l.number j adding adding-commutes (λ _. 1) (λ _. 1) (tree_of ss).count (tree_of us_before).count (counted-summed t c) (λ x e. refl)
-      (λ x e. same_before (λ s. s.count) (λ s q. refl) (λ s q. refl) x e) (omega (arith, ap (λ s. s.count) new_before_is, count-sum (tree_of ss) (number_of (shape_at ss at.number).left))) (omega arith) in
+      let cs = joined-sums t u c linked below at.number l.number j sum_measure adding-commutes (λ _. 1) (λ _. 1) (tree_of ss).count (tree_of us_before).count (counted-summed t c) (λ x e. refl)
+      (λ x e. same_before (λ s. s.count) (λ s q. refl) (λ s q. refl) x e) (omega (arith, ap (λ s. s.count) new_before_is, count-sum (tree_of ss) (link_number (shape_at ss at.number).left))) (omega arith) in
       let own_new : (shape_at us_before l.number).own ≡ w = ap (λ s. s.own) new_before_is in
-      let ws = joined-sums t u c linked below at.number l.number j adding adding-commutes (owns ss) (owns us_before) (weights ss) (weights us_before) wt
+      let ws = joined-sums t u c linked below at.number l.number j sum_measure adding-commutes (owns ss) (owns us_before) (weights ss) (weights us_before) wt
       (λ x e. same_before (λ s. s.own.weight) (λ s q. refl) (λ s q. refl) x e) (λ x e. same_before (λ s. s.weight) (λ s q. refl) (λ s q. refl) x e) (omega (arith, ap (λ s. s.weight) new_before_is, ap (λ o. o.weight) own_new, weight-sum ss (shape_at ss at.number).left)) (omega arith) in
       let rank_new = ap (λ o. o.rank) own_new in
       let ls = joined-sums t u c linked below at.number l.number j lesser lesser-commutes (ranks ss) (ranks us_before) (leasts ss) (leasts us_before) rt
       (λ x e. same_before (λ s. s.own.rank) (λ s q. refl) (λ s q. refl) x e) (λ x e. same_before (λ s. s.least) (λ s q. refl) (λ s q. refl) x e) (ap (λ s. s.least) new_before_is ∙ (λ i. min (least-sum ss (shape_at ss at.number).left i) (sym rank_new i))) (omega (arith, rank_new, fits)) in
       record {
         counts = cs;
-        weighs = subst (λ (d : ℕ). IsSummedBut adding u (owns us_before) (weights us_before) d (Some at.number)) (ap (λ o. o.weight) own_new) ws;
+        weighs = subst (λ (d : ℕ). IsSummedBut sum_measure u (owns us_before) (weights us_before) d (Some at.number)) (ap (λ o. o.weight) own_new) ws;
         lowest = subst (λ (d : ℕ). IsSummedBut lesser u (ranks us_before) (leasts us_before) d (Some at.number)) rank_new ls;
         linked = joined-linked t u c linked below at.number l.number j;
         below = joined-below t u c linked below at.number l.number j;

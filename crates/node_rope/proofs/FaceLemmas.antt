@@ -2,24 +2,24 @@
 use Rattle.std.proofs.Common.{◌≡◌, ℕ, zero, suc, inl, inr, ◌⊎◌, cond, List, [], ◌∷◌, map, slice_get, slice_set, Option, None, Some, refl, sym, ap, ◌∙◌, subst, arith}
 use Rattle.std.specs.Prelude.{reverse}
 use Rattle.std.proofs.lemmas.List.{length-map, map-set}
-use Rattle.node_rope.specs.declared.side.Side.{Side}
-use Rattle.node_rope.specs.declared.side.Side.TheVariants.{Left, Right}
+use Rattle.node_rope.specs.declared.turn.Side.{Side}
+use Rattle.node_rope.specs.declared.turn.Side.TheVariants.{Left, Right}
 use Rattle.node_rope.specs.declared.store.Store.{Store}
 use Rattle.node_rope.specs.declared.cells.Shape.{Shape}
 use Rattle.node_rope.specs.declared.cells.Link.{Link}
 use Rattle.node_rope.specs.declared.cells.Node.{Node}
 use Rattle.node_rope.specs.declared.pile.Spot.{Spot}
 use Rattle.node_rope.specs.Heaps.{Mooring}
-use Rattle.node_rope.specs.Filed.{Leads, IsFiled}
-use Rattle.node_rope.specs.Shaped.{shape_of, value_of}
+use Rattle.node_rope.specs.Filed.{MooringsLead, IsFiled}
+use Rattle.node_rope.specs.Shaped.{shape_of, node_value}
 use Rattle.node_rope.specs.Made.{IsKept, made_count, shapes_of, values_of}
-use Rattle.node_rope.specs.Shapes.{IsSound, shape_at, number_of, tree_of, order, weight_at, least_at}
-use Rattle.node_rope.specs.Walk.{Tree, whole, IsCounted, IsLinked}
-use Rattle.node_rope.specs.Sums.{adding, lesser, IsSummed}
+use Rattle.node_rope.specs.Shapes.{HasRightLinks, shape_at, link_number, tree_of, order, weight_at, least_at}
+use Rattle.node_rope.specs.Walk.{Tree, whole, HasCounts, IsLinked}
+use Rattle.node_rope.specs.Sums.{sum_measure, lesser, IsSummed}
 use Rattle.node_rope.specs.Joined.{IsBelow}
 use Rattle.node_rope.specs.Grown.{with_parent}
 use Rattle.node_rope.specs.Sides.{flipped, faced}
-use Rattle.node_rope.specs.Turned.{count_at, side_of, swapped, with_child}
+use Rattle.node_rope.specs.Turned.{tree_count_at, side_of, swapped, with_child}
 use Rattle.node_rope.proofs.FilingLemmas.{filed-had}
 use Rattle.node_rope.proofs.LiftLemmas.{leads-tells}
 use Rattle.node_rope.proofs.JoinLemmas.{adding-commutes, lesser-commutes}
@@ -39,7 +39,7 @@ pub flip-with_child : (ss : List Shape) (o : Option Link) (p : ℕ) (c : Link) �
 flip-with_child ss None p c = refl
 flip-with_child ss (Some g) p c = map-set flipped ss g.number (swapped (shape_at ss g.number) p c) ∙ ap (λ (h : Shape). slice_set (map flipped ss) g.number (swapped h p c)) (sym (flip-at ss g.number))
 
-pub flip-count : (ss : List Shape) (o : Option Link) → count_at (map flipped ss) o ≡ count_at ss o
+pub flip-count : (ss : List Shape) (o : Option Link) → tree_count_at (map flipped ss) o ≡ tree_count_at ss o
 flip-count ss None = refl
 flip-count ss (Some l) = ap (λ (h : Shape). h.count) (flip-at ss l.number)
 
@@ -62,8 +62,8 @@ from-map f (x ∷ xs) (suc i) y e = from-map f xs i y e
 
 pub flip-filed : {T Z : Type 0} (s : Spot) (ns : List (Node T)) (ms : List (Mooring Z)) → IsFiled s ns ms → IsFiled s (map flip_node ns) ms
 flip-filed {T} s ns ms f = record {
-  last = subst (λ (n : ℕ). Leads ms s n) (sym (length-map ns flip_node)) f.last;
-  each = λ i n e. let q = from-map flip_node ns i n e in subst (λ (k : Node T). Leads ms k.older i) q.2 (f.each i q.0 q.1);
+  last = subst (λ (n : ℕ). MooringsLead ms s n) (sym (length-map ns flip_node)) f.last;
+  each = λ i n e. let q = from-map flip_node ns i n e in subst (λ (k : Node T). MooringsLead ms k.older i) q.2 (f.each i q.0 q.1);
 }
 
 abbrev pub mirrored : {T : Type 0} → Store T → Store T
@@ -83,7 +83,7 @@ shapes-flip (n ∷ ns) = ap (λ hs. flipped n.shape ∷ hs) (shapes-flip ns)
 pub shapes-mirrored : {T : Type 0} (s : Store T) → shapes_of (mirrored s) ≡ map flipped (shapes_of s)
 shapes-mirrored s = shapes-flip s.pile.values
 
-values-flip : {T : Type 0} (ns : List (Node T)) → map value_of (map flip_node ns) ≡ map value_of ns
+values-flip : {T : Type 0} (ns : List (Node T)) → map node_value (map flip_node ns) ≡ map node_value ns
 values-flip [] = refl
 values-flip (n ∷ ns) = ap (λ vs. n.value ∷ vs) (values-flip ns)
 
@@ -103,7 +103,7 @@ pub back : {T : Type 0} (s : Store T) → IsFacing (mirrored s) s
 back s = record { at = λ i. ap flipped (sym ((there s).at i)); count = sym (length-map s.pile.values flip_node); kept = λ l m. m }
 
 abbrev pub tree_by : (ℕ → Shape) → Tree
-tree_by f = record { left = λ i. number_of (f i).left; right = λ i. number_of (f i).right; parent = λ i. number_of (f i).parent; count = λ i. (f i).count }
+tree_by f = record { left = λ i. link_number (f i).left; right = λ i. link_number (f i).right; parent = λ i. link_number (f i).parent; count = λ i. (f i).count }
 
 module _ {T : Type 0} (s v : Store T) (root : Option Link) (facing : IsFacing s v) where
   abbrev f : ℕ → Shape
@@ -112,10 +112,10 @@ module _ {T : Type 0} (s v : Store T) (root : Option Link) (facing : IsFacing s 
   abbrev same : ◌≡◌ {A = ℕ → Shape} (λ i. flipped (f i)) (shape_at (shapes_of v))
   same = λ k i. sym (facing.at i) k
 
-  pub mirror-sound : IsSound s root → IsSound v root
+  pub mirror-sound : HasRightLinks s root → HasRightLinks v root
   mirror-sound r = record {
-    counted = subst (λ (g : ℕ → Shape). IsCounted (tree_by g)) same (mirror-counted (tree_of (shapes_of s)) r.counted);
-    weighed = subst (λ (g : ℕ → Shape). IsSummed adding (tree_by g) (λ i. (g i).own.weight) (λ i. (g i).weight)) same (mirror-summed adding adding-commutes (tree_of (shapes_of s)) (λ i. (f i).own.weight) (λ i. (f i).weight) r.weighed);
+    counted = subst (λ (g : ℕ → Shape). HasCounts (tree_by g)) same (mirror-counted (tree_of (shapes_of s)) r.counted);
+    weighed = subst (λ (g : ℕ → Shape). IsSummed sum_measure (tree_by g) (λ i. (g i).own.weight) (λ i. (g i).weight)) same (mirror-summed sum_measure adding-commutes (tree_of (shapes_of s)) (λ i. (f i).own.weight) (λ i. (f i).weight) r.weighed);
     ranked = subst (λ (g : ℕ → Shape). IsSummed lesser (tree_by g) (λ i. (g i).own.rank) (λ i. (g i).least)) same (mirror-summed lesser lesser-commutes (tree_of (shapes_of s)) (λ i. (f i).own.rank) (λ i. (f i).least) r.ranked);
     linked = subst (λ (g : ℕ → Shape). IsLinked (tree_by g)) same (mirror-linked (tree_of (shapes_of s)) r.linked);
     top = λ i h e. r.top i (omega (arith, h, facing.count)) (sym (ap (λ (h : Shape). h.parent) (facing.at i)) ∙ e);
@@ -129,20 +129,20 @@ module _ {T : Type 0} (s v : Store T) (root : Option Link) (facing : IsFacing s 
   }
 
   pub mirror-order : order v root ≡ reverse (order s root)
-  mirror-order = ap (λ (g : ℕ → Shape). whole (tree_by g) (number_of root)) (sym same) ∙ whole-mirrored (tree_of (shapes_of s)) (number_of root)
+  mirror-order = ap (λ (g : ℕ → Shape). whole (tree_by g) (link_number root)) (sym same) ∙ whole-mirrored (tree_of (shapes_of s)) (link_number root)
 
 -- ---- a node from a side
 pub faced-field : {X : Type 0} (f : Shape → X) → ((h : Shape) → f (flipped h) ≡ f h) → (d : Side) (h : Shape) → f (faced d h) ≡ f h
 faced-field f e Left h = refl
 faced-field f e Right h = e h
 
-pub faced-parent : (ss : List Shape) → IsLinked (tree_of ss) → (d : Side) (i : ℕ) (m : Link) → (faced d (shape_at ss i)).right ≡ Some m → number_of (shape_at ss m.number).parent ≡ Some i
-faced-parent ss linked Left i m e = linked.from_right i m.number (ap number_of e)
-faced-parent ss linked Right i m e = linked.from_left i m.number (ap number_of e)
+pub faced-parent : (ss : List Shape) → IsLinked (tree_of ss) → (d : Side) (i : ℕ) (m : Link) → (faced d (shape_at ss i)).right ≡ Some m → link_number (shape_at ss m.number).parent ≡ Some i
+faced-parent ss linked Left i m e = linked.from_right i m.number (ap link_number e)
+faced-parent ss linked Right i m e = linked.from_left i m.number (ap link_number e)
 
 -- a child stands at its side
-pub side-faces : (h : Shape) (c : ℕ) → (number_of h.left ≡ Some c) ⊎ (number_of h.right ≡ Some c) → number_of (faced (side_of h.left c) h).left ≡ Some c
-side-faces h c has = elim (leads-tells h.left c) as (λ _. number_of (faced (side_of h.left c) h).left ≡ Some c) [
-  | inl e ↦ ap (λ b. number_of (faced (cond b Left Right) h).left) e.0 ∙ e.1
-  | inr e ↦ ap (λ b. number_of (faced (cond b Left Right) h).left) e.0 ∙ elim has as (λ _. number_of h.right ≡ Some c) [ inl f ↦ absurd (e.1 f) | inr f ↦ f ]
+pub side-faces : (h : Shape) (c : ℕ) → (link_number h.left ≡ Some c) ⊎ (link_number h.right ≡ Some c) → link_number (faced (side_of h.left c) h).left ≡ Some c
+side-faces h c has = elim (leads-tells h.left c) as (λ _. link_number (faced (side_of h.left c) h).left ≡ Some c) [
+  | inl e ↦ ap (λ b. link_number (faced (cond b Left Right) h).left) e.0 ∙ e.1
+  | inr e ↦ ap (λ b. link_number (faced (cond b Left Right) h).left) e.0 ∙ elim has as (λ _. link_number h.right ≡ Some c) [ inl f ↦ absurd (e.1 f) | inr f ↦ f ]
 ]

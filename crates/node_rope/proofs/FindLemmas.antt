@@ -6,8 +6,8 @@ use Rattle.node_rope.specs.declared.store.Store.{Store}
 use Rattle.node_rope.specs.declared.cells.Shape.{Shape}
 use Rattle.node_rope.specs.declared.cells.Link.{Link}
 use Rattle.node_rope.specs.Made.{shapes_of}
-use Rattle.node_rope.specs.Shapes.{IsSound, AreMade, shape_at, number_of, tree_of, weigh, weight_at, owns, order}
-use Rattle.node_rope.specs.Sums.{adding}
+use Rattle.node_rope.specs.Shapes.{HasRightLinks, AreMade, shape_at, link_number, tree_of, weigh, weight_at, owns, order}
+use Rattle.node_rope.specs.Sums.{sum_measure}
 use Rattle.node_rope.specs.Walk.{count_of, whole}
 use Rattle.node_rope.specs.Found.{IsFound, IsReached}
 use Rattle.node_rope.proofs.WalkLemmas.{whole-node, length-whole}
@@ -22,7 +22,7 @@ pub record IsSize (size : List ℕ → ℕ) (own : ℕ → ℕ) : Type 0 where
   pub both : (xs ys : List ℕ) → size (xs ++ ys) ≡ size xs + size ys
 
 pub weighing : (ss : List Shape) → IsSize (weigh ss) (owns ss)
-weighing ss = record { none = refl; one = λ x xs. refl; both = fold-append adding adding-lawful (owns ss) }
+weighing ss = record { none = refl; one = λ x xs. refl; both = fold-append sum_measure adding-lawful (owns ss) }
 
 pub counting : IsSize length (λ _. 1)
 counting = record { none = refl; one = λ x xs. omega arith; both = λ xs ys. length-append xs ys }
@@ -36,8 +36,8 @@ record StandsIn (size : List ℕ → ℕ) (own : ℕ → ℕ) (xs : List ℕ) (w
   inside : r < own x
 
 -- the loop reads the node l, and what is left of it
-module _ {T : Type 0} (size : List ℕ → ℕ) (own : ℕ → ℕ) (S : IsSize size own) (s : Store T) (root : Option Link) (sound : IsSound s root) (w : ℕ) (o : Option Link) (r : ℕ) (reached : IsReached size s (order s root) w o r) (l : Link) (is_l : o ≡ Some l)
-    (h : Shape) (read : h ≡ shape_at (shapes_of s) l.number) (left : ℕ) (is_left : left ≡ size (whole (tree_of (shapes_of s)) (number_of h.left))) where
+module _ {T : Type 0} (size : List ℕ → ℕ) (own : ℕ → ℕ) (S : IsSize size own) (s : Store T) (root : Option Link) (sound : HasRightLinks s root) (w : ℕ) (o : Option Link) (r : ℕ) (reached : IsReached size s (order s root) w o r) (l : Link) (is_l : o ≡ Some l)
+    (h : Shape) (read : h ≡ shape_at (shapes_of s) l.number) (left : ℕ) (is_left : left ≡ size (whole (tree_of (shapes_of s)) (link_number h.left))) where
   abbrev x : ℕ
   x = l.number
 
@@ -45,13 +45,13 @@ module _ {T : Type 0} (size : List ℕ → ℕ) (own : ℕ → ℕ) (S : IsSize 
   at = subst (λ (q : Option Link). IsReached size s (order s root) w q r) is_l reached
 
   abbrev L : List ℕ
-  L = whole (tree_of (shapes_of s)) (number_of h.left)
+  L = whole (tree_of (shapes_of s)) (link_number h.left)
 
   abbrev R : List ℕ
-  R = whole (tree_of (shapes_of s)) (number_of h.right)
+  R = whole (tree_of (shapes_of s)) (link_number h.right)
 
   node : whole (tree_of (shapes_of s)) (Some x) ≡ L ++ x ∷ R
-  node = whole-node (tree_of (shapes_of s)) sound.counted x ∙ ap (λ (g : Shape). whole (tree_of (shapes_of s)) (number_of g.left) ++ x ∷ whole (tree_of (shapes_of s)) (number_of g.right)) (sym read)
+  node = whole-node (tree_of (shapes_of s)) sound.counted x ∙ ap (λ (g : Shape). whole (tree_of (shapes_of s)) (link_number g.left) ++ x ∷ whole (tree_of (shapes_of s)) (link_number g.right)) (sym read)
 
   all : size (whole (tree_of (shapes_of s)) (Some x)) ≡ size L + (own x + size R)
   all = ap size node ∙ S.both L (x ∷ R) ∙ ap (λ n. size L + n) (S.one x R)
@@ -79,13 +79,13 @@ module _ {T : Type 0} (size : List ℕ → ℕ) (own : ℕ → ℕ) (S : IsSize 
   }
 
 -- ---- by weight
-module _ {T : Type 0} (s : Store T) (root : Option Link) (sound : IsSound s root) (w : ℕ) (o : Option Link) (r : ℕ) (reached : IsReached (weigh (shapes_of s)) s (order s root) w o r) (l : Link) (is_l : o ≡ Some l)
+module _ {T : Type 0} (s : Store T) (root : Option Link) (sound : HasRightLinks s root) (w : ℕ) (o : Option Link) (r : ℕ) (reached : IsReached (weigh (shapes_of s)) s (order s root) w o r) (l : Link) (is_l : o ≡ Some l)
     (h : Shape) (read : h ≡ shape_at (shapes_of s) l.number) (left : ℕ) (is_left : left ≡ weight_at (shapes_of s) h.left) where
   abbrev ss : List Shape
   ss = shapes_of s
 
-  sum : left ≡ weigh ss (whole (tree_of ss) (number_of h.left))
-  sum = is_left ∙ weight-sum ss h.left ∙ weight-is ss sound.counted sound.weighed (number_of h.left)
+  sum : left ≡ weigh ss (whole (tree_of ss) (link_number h.left))
+  sum = is_left ∙ weight-sum ss h.left ∙ weight-is ss sound.counted sound.weighed (link_number h.left)
 
   own : h.own.weight ≡ owns ss l.number
   own = ap (λ (g : Shape). g.own.weight) read
@@ -102,10 +102,10 @@ module _ {T : Type 0} (s : Store T) (root : Option Link) (sound : IsSound s root
   find-right k j = rw own (goes-right (weigh ss) (owns ss) (weighing ss) s root sound w o r reached l is_l h read left sum k (omega (arith, own, j)))
 
 -- ---- by place
-module _ {T : Type 0} (s : Store T) (root : Option Link) (sound : IsSound s root) (w : ℕ) (o : Option Link) (r : ℕ) (reached : IsReached length s (order s root) w o r) (l : Link) (is_l : o ≡ Some l)
-    (h : Shape) (read : h ≡ shape_at (shapes_of s) l.number) (left : ℕ) (is_left : left ≡ count_of (tree_of (shapes_of s)) (number_of h.left)) where
-  size : left ≡ length (whole (tree_of (shapes_of s)) (number_of h.left))
-  size = is_left ∙ sym (length-whole (tree_of (shapes_of s)) sound.counted (number_of h.left))
+module _ {T : Type 0} (s : Store T) (root : Option Link) (sound : HasRightLinks s root) (w : ℕ) (o : Option Link) (r : ℕ) (reached : IsReached length s (order s root) w o r) (l : Link) (is_l : o ≡ Some l)
+    (h : Shape) (read : h ≡ shape_at (shapes_of s) l.number) (left : ℕ) (is_left : left ≡ count_of (tree_of (shapes_of s)) (link_number h.left)) where
+  size : left ≡ length (whole (tree_of (shapes_of s)) (link_number h.left))
+  size = is_left ∙ sym (length-whole (tree_of (shapes_of s)) sound.counted (link_number h.left))
 
   pub place-left : r < left → IsReached length s (order s root) w h.left r
   place-left = goes-left length (λ _. 1) counting s root sound w o r reached l is_l h read left size
@@ -122,5 +122,5 @@ module _ {T : Type 0} (s : Store T) (root : Option Link) (sound : IsSound s root
   place-right k = goes-right length (λ _. 1) counting s root sound w o r reached l is_l h read left size (omega (arith, k)) (omega (arith, k))
 
 -- ---- the start
-pub starts : {T : Type 0} (size : List ℕ → ℕ) (own : ℕ → ℕ) → IsSize size own → (s : Store T) (root : Option Link) (sound : IsSound s root) (w : ℕ) → IsReached size s (order s root) w root w
+pub starts : {T : Type 0} (size : List ℕ → ℕ) (own : ℕ → ℕ) → IsSize size own → (s : Store T) (root : Option Link) (sound : HasRightLinks s root) (w : ℕ) → IsReached size s (order s root) w root w
 starts size own S s root sound w = record { front = []; back = []; split = sym (append-nil (order s root)); before = omega (arith, S.none); here = inr refl; made = sound.made_root }

@@ -5,8 +5,8 @@ use Rattle.node_rope.specs.declared.store.Store.{Store}
 use Rattle.node_rope.specs.declared.cells.Link.{Link}
 use Rattle.node_rope.specs.declared.cells.Own.{Own}
 use Rattle.node_rope.specs.Made.{IsMade, IsKept, made_count, shapes_of, values_of}
-use Rattle.node_rope.specs.Shapes.{IsSound, AreMade, shape_at, number_of, tree_of, order, IsWeighed, IsRanked}
-use Rattle.node_rope.specs.Walk.{count_of, IsCounted, before, after, mirror}
+use Rattle.node_rope.specs.Shapes.{HasRightLinks, AreMade, shape_at, link_number, tree_of, order, IsWeighed, IsRanked}
+use Rattle.node_rope.specs.Walk.{count_of, HasCounts, before, after, mirror}
 use Rattle.node_rope.specs.Joined.{IsJoined}
 use Rattle.node_rope.specs.Grown.{IsGrown}
 use Rattle.node_rope.specs.Rising.{IsRising, IsRaised, SameLinks, AreSmall}
@@ -20,22 +20,22 @@ use Rattle.node_rope.proofs.JoinWriteLemmas.{AreWithin}
 use Rattle.node_rope.proofs.EnterLemmas.{Came, IsEntered}
 use Rattle.node_rope.proofs.AttachLemmas.{attached-walk, attached-walk-after}
 
-pub unnumbered : (o : Option Link) → number_of o ≡ None → o ≡ None
+pub unnumbered : (o : Option Link) → link_number o ≡ None → o ≡ None
 unnumbered None e = refl
 unnumbered (Some l) e = absurd (cc)
 
-numbered : {T : Type 0} (s : Store T) (o : Option Link) (m : ℕ) → AreMade s o → number_of o ≡ Some m → m < length (shapes_of s)
+numbered : {T : Type 0} (s : Store T) (o : Option Link) (m : ℕ) → AreMade s o → link_number o ≡ Some m → m < length (shapes_of s)
 numbered s None m made e = absurd (cc)
 numbered s (Some l) m made e = let h = made-below s l (made l refl) in let k = some-same l.number m e in omega (arith, length-shapes s)
 
-pub are-within : {T : Type 0} (s : Store T) (root : Option Link) → IsSound s root → AreWithin (shapes_of s)
+pub are-within : {T : Type 0} (s : Store T) (root : Option Link) → HasRightLinks s root → AreWithin (shapes_of s)
 are-within s root sound = record {
   lefts = λ x m e. numbered s (shape_at (shapes_of s) x).left m (sound.made_left x) e;
   rights = λ x m e. numbered s (shape_at (shapes_of s) x).right m (sound.made_right x) e;
   parents = λ x m e. numbered s (shape_at (shapes_of s) x).parent m (sound.made_parent x) e;
 }
 
-module _ {T : Type 0} (s u : Store T) (root : Option Link) (at l : Link) (w : Own) (sound : IsSound s root) (e : IsEntered (shape_at (shapes_of s)) (shape_at (shapes_of u)) at l w)
+module _ {T : Type 0} (s u : Store T) (root : Option Link) (at l : Link) (w : Own) (sound : HasRightLinks s root) (e : IsEntered (shape_at (shapes_of s)) (shape_at (shapes_of u)) at l w)
     (kept : IsKept s u) (number : l.number ≡ made_count s) (made_l : IsMade u l) (made_at : IsMade s at) (count : made_count u ≡ made_count s + 1) where
   came-made : (m : Link) → Came (shape_at (shapes_of s)) at l m → IsMade u m
   came-made m (inl f) = subst (λ (k : Link). IsMade u k) (sym f) made_l
@@ -68,7 +68,7 @@ module _ {T : Type 0} (s u : Store T) (root : Option Link) (at l : Link) (w : Ow
     ];
   }
 
-  module _ (v : Store T) (cv : IsCounted (tree_of (shapes_of v))) (wv : IsWeighed (shapes_of v)) (rv : IsRanked (shapes_of v)) (links : SameLinks (shapes_of u) (shapes_of v)) (raised : IsRaised (shapes_of u) (shapes_of v) w None)
+  module _ (v : Store T) (cv : HasCounts (tree_of (shapes_of v))) (wv : IsWeighed (shapes_of v)) (rv : IsRanked (shapes_of v)) (links : SameLinks (shapes_of u) (shapes_of v)) (raised : IsRaised (shapes_of u) (shapes_of v) w None)
       (kept' : IsKept u v) (count' : made_count v ≡ made_count u) where
     small-count : (i : ℕ) → (shape_at (shapes_of v) i).count ≤ suc (made_count v)
     small-count i =
@@ -81,22 +81,22 @@ module _ {T : Type 0} (s u : Store T) (root : Option Link) (at l : Link) (w : Ow
           | inr f ↦ omega (arith, ap (λ h. h.count) f.0, k, count, count')
         ]
 
-    root-old : number_of root ≡ Some l.number → ⊥
+    root-old : link_number root ≡ Some l.number → ⊥
     root-old f = let h = numbered s root l.number sound.made_root f in omega (arith, h, number, length-shapes s)
 
-    pub sound-again : IsSound v root
+    pub sound-again : HasRightLinks v root
     sound-again = record {
       counted = cv;
       weighed = wv;
       ranked = rv;
       linked = linked-along (shapes_of u) (shapes_of v) links e.linked;
       top = λ i h f. (
-          let t = e.top i (ap number_of (sym (links i).parent ∙ f)) in
+          let t = e.top i (ap link_number (sym (links i).parent ∙ f)) in
           let ne = t.0 in
           sound.top i (omega (arith, h, count, count', number, ne)) (unnumbered (shape_at (shapes_of s) i).parent t.1));
       crown = λ i f. (
           let ne : i ≢ l.number = λ g. root-old (f ∙ ap Some g) in
-          unnumbered (shape_at (shapes_of v) i).parent (ap number_of (links i).parent ∙ e.crown i ne (ap number_of (sound.crown i f))));
+          unnumbered (shape_at (shapes_of v) i).parent (ap link_number (links i).parent ∙ e.crown i ne (ap link_number (sound.crown i f))));
       below = below-along (shapes_of u) (shapes_of v) links e.below;
       made_left = λ i m f. kept' m (came-made m (e.lefts i m (sym (links i).left ∙ f)));
       made_right = λ i m f. kept' m (came-made m (e.rights i m (sym (links i).right ∙ f)));
@@ -107,14 +107,14 @@ module _ {T : Type 0} (s u : Store T) (root : Option Link) (at l : Link) (w : Ow
 
     pub grown-walk-before : IsJoined (tree_of (shapes_of s)) (tree_of (shapes_of u)) at.number l.number → order v root ≡ flat_map (before at.number l.number) (order s root)
     grown-walk-before j = attached-walk (tree_of (shapes_of s)) (tree_of (shapes_of v)) sound.counted cv at.number l.number
-        (joined-attached (tree_of (shapes_of s)) (tree_of (shapes_of u)) sound.counted sound.linked sound.below at.number l.number j (tree_of (shapes_of v)) (λ i. ap number_of (links i).left) (λ i. ap number_of (links i).right))
-        (count_of (tree_of (shapes_of s)) (number_of root)) (number_of root) (omega arith) root-old
+        (joined-attached (tree_of (shapes_of s)) (tree_of (shapes_of u)) sound.counted sound.linked sound.below at.number l.number j (tree_of (shapes_of v)) (λ i. ap link_number (links i).left) (λ i. ap link_number (links i).right))
+        (count_of (tree_of (shapes_of s)) (link_number root)) (link_number root) (omega arith) root-old
 
     pub grown-walk-after : IsJoined (mirror (tree_of (shapes_of s))) (mirror (tree_of (shapes_of u))) at.number l.number → order v root ≡ flat_map (after at.number l.number) (order s root)
     grown-walk-after j = attached-walk-after (tree_of (shapes_of s)) (tree_of (shapes_of v)) sound.counted cv at.number l.number
         (joined-attached (mirror (tree_of (shapes_of s))) (mirror (tree_of (shapes_of u))) (mirror-counted (tree_of (shapes_of s)) sound.counted) (mirror-linked (tree_of (shapes_of s)) sound.linked) (mirror-below (tree_of (shapes_of s)) sound.below)
-        at.number l.number j (mirror (tree_of (shapes_of v))) (λ i. ap number_of (links i).right) (λ i. ap number_of (links i).left))
-        (count_of (tree_of (shapes_of s)) (number_of root)) (number_of root) (omega arith) root-old
+        at.number l.number j (mirror (tree_of (shapes_of v))) (λ i. ap link_number (links i).right) (λ i. ap link_number (links i).left))
+        (count_of (tree_of (shapes_of s)) (link_number root)) (link_number root) (omega arith) root-old
 
     pub grown : (key : Identifier) (value : T) → values_of v ≡ values_of s ++ value ∷ [] → (shape_at (shapes_of u) l.number).key ≡ key → (shape_at (shapes_of u) l.number).own ≡ w → IsGrown s v root key w value l
     grown key value values k o = record {

@@ -6,9 +6,9 @@ use Rattle.fugue_ids.specs.Identifiers.{Identifier}
 use Rattle.node_rope.specs.declared.store.Store.{Store}
 use Rattle.node_rope.specs.declared.cells.Link.{Link}
 use Rattle.node_rope.specs.Made.{made_count, shapes_of}
-use Rattle.node_rope.specs.Shapes.{IsSound, AreMade, number_of, tree_of, order}
+use Rattle.node_rope.specs.Shapes.{HasRightLinks, AreMade, link_number, tree_of, order}
 use Rattle.node_rope.specs.Walk.{Tree, count_of, whole}
-use Rattle.node_rope.specs.Items.{item_at, items_of}
+use Rattle.node_rope.specs.Items.{item_at, rope_items_of}
 use Rattle.node_rope.proofs.WalkLemmas.{whole-node, length-whole, some-same}
 use Rattle.node_rope.proofs.ShapeLemmas.{length-shapes, made-below}
 use Rattle.node_rope.proofs.GrowthLemmas.{are-within}
@@ -18,7 +18,7 @@ one-each f [] i h = absurd (omega arith)
 one-each f (x ∷ xs) zero h = refl
 one-each f (x ∷ xs) (suc i) h = one-each f xs i (omega arith)
 
-module _ {T : Type 0} (s : Store T) (root : Option Link) (sound : IsSound s root) where
+module _ {T : Type 0} (s : Store T) (root : Option Link) (sound : HasRightLinks s root) where
   abbrev t : Tree
   t = tree_of (shapes_of s)
 
@@ -35,12 +35,12 @@ module _ {T : Type 0} (s : Store T) (root : Option Link) (sound : IsSound s root
       ap (λ xs. length (F xs)) (whole-node t sound.counted x) ∙ ap length (flat_map-append (item_at s) L (x ∷ R))
       ∙ omega (arith, length-append (F L) (item_at s x ++ F R), length-append (item_at s x) (F R), one, l, r, sound.counted x)
 
-  pub root-below : (o : Option Link) → AreMade s o → (x : ℕ) → number_of o ≡ Some x → x < made_count s
+  pub root-below : (o : Option Link) → AreMade s o → (x : ℕ) → link_number o ≡ Some x → x < made_count s
   root-below None made x e = absurd (cc)
   root-below (Some l) made x e = let h = made-below s l (made l refl) in let q = some-same l.number x e in omega arith
 
-  pub length-items : length (items_of s root) ≡ count_of t (number_of root)
-  length-items = items-below (count_of t (number_of root)) (number_of root) (omega arith) (root-below root sound.made_root)
+  pub length-items : length (rope_items_of s root) ≡ count_of t (link_number root)
+  length-items = items-below (count_of t (link_number root)) (link_number root) (omega arith) (root-below root sound.made_root)
 
-  pub length-order : length (order s root) ≡ length (items_of s root)
-  length-order = length-whole t sound.counted (number_of root) ∙ sym length-items
+  pub length-order : length (order s root) ≡ length (rope_items_of s root)
+  length-order = length-whole t sound.counted (link_number root) ∙ sym length-items

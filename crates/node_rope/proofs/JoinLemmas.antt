@@ -1,7 +1,7 @@
 -- A tree that a node has joined.
 use Rattle.std.proofs.Common.{◌≡◌, ℕ, ◌≢◌, ◌⊎◌, inl, inr, Option, None, Some, refl, sym, ap, ◌∙◌, subst, arith}
-use Rattle.node_rope.specs.Walk.{Tree, count_of, IsCounted, IsLinked, IsAttached}
-use Rattle.node_rope.specs.Sums.{Measure, IsCommutative, adding, lesser, sum_of, IsSummed}
+use Rattle.node_rope.specs.Walk.{Tree, count_of, HasCounts, IsLinked, IsAttached}
+use Rattle.node_rope.specs.Sums.{Measure, IsCommutative, sum_measure, lesser, sum_of, IsSummed}
 use Rattle.node_rope.specs.Joined.{IsJoined, IsSummedBut, IsBelow}
 use Rattle.node_rope.proofs.WalkLemmas.{below-left, below-right, some-same, none-some}
 use Rattle.node_rope.proofs.TurnLemmas.{same-or-not}
@@ -10,17 +10,17 @@ pub some-or-not : (o : Option ℕ) (i : ℕ) → (o ≡ Some i) ⊎ (o ≡ Some 
 some-or-not None i = inr (λ e. none-some i e)
 some-or-not (Some x) i = elim (same-or-not x i) as (λ _. (Some x ≡ Some i) ⊎ (Some x ≡ Some i → ⊥)) [ inl e ↦ inl (ap Some e) | inr e ↦ inr (λ f. e (some-same x i f)) ]
 
-pub count-sum : (t : Tree) (o : Option ℕ) → count_of t o ≡ sum_of adding t.count o
+pub count-sum : (t : Tree) (o : Option ℕ) → count_of t o ≡ sum_of sum_measure t.count o
 count-sum t None = refl
 count-sum t (Some x) = refl
 
-pub counted-summed : (t : Tree) → IsCounted t → IsSummed adding t (λ _. 1) t.count
+pub counted-summed : (t : Tree) → HasCounts t → IsSummed sum_measure t (λ _. 1) t.count
 counted-summed t c x = omega (arith, c x, count-sum t (t.left x), count-sum t (t.right x))
 
-pub summed-counted : (t : Tree) → IsSummed adding t (λ _. 1) t.count → IsCounted t
+pub summed-counted : (t : Tree) → IsSummed sum_measure t (λ _. 1) t.count → HasCounts t
 summed-counted t s x = omega (arith, s x, count-sum t (t.left x), count-sum t (t.right x))
 
-pub adding-commutes : IsCommutative adding
+pub adding-commutes : IsCommutative sum_measure
 adding-commutes = record { assoc = λ a b c. omega arith; comm = λ a b. omega arith }
 
 pub lesser-commutes : IsCommutative lesser
@@ -41,7 +41,7 @@ module _ {M : Type 0} (m : Measure M) (C : IsCommutative m) where
   pub turn-round : (l o r : M) → m.both l (m.both o r) ≡ m.both r (m.both o l)
   turn-round l o r = C.comm l (m.both o r) ∙ ap (λ x. m.both x l) (C.comm o r) ∙ C.assoc r o l
 
-module _ (t u : Tree) (ct : IsCounted t) (linked : IsLinked t) (below : IsBelow t) (y n : ℕ) (j : IsJoined t u y n) where
+module _ (t u : Tree) (ct : HasCounts t) (linked : IsLinked t) (below : IsBelow t) (y n : ℕ) (j : IsJoined t u y n) where
   module _ {M : Type 0} (m : Measure M) (C : IsCommutative m) (own own' s s' : ℕ → M) (summed : IsSummed m t own s) (eo : (x : ℕ) → x ≢ n → own' x ≡ own x) (es : (x : ℕ) → x ≢ n → s' x ≡ s x)
       (en : s' n ≡ m.both (sum_of m s (t.left y)) (own' n)) (alone : m.both (own' n) m.none ≡ own' n) where
     -- a sum of a child is as it was

@@ -11,12 +11,12 @@ use Rattle.node_rope.specs.declared.store.Store.{Store}
 use Rattle.node_rope.specs.declared.cells.Shape.{Shape}
 use Rattle.node_rope.specs.declared.cells.Link.{Link}
 use Rattle.node_rope.specs.declared.cells.Own.{Own}
-use Rattle.node_rope.specs.Shaped.{value_of}
+use Rattle.node_rope.specs.Shaped.{node_value}
 use Rattle.node_rope.specs.Made.{IsMade, IsKept, made_count, shapes_of, values_of}
-use Rattle.node_rope.specs.Shapes.{IsSound, shape_at, number_of, tree_of, order}
+use Rattle.node_rope.specs.Shapes.{HasRightLinks, shape_at, link_number, tree_of, order}
 use Rattle.node_rope.specs.Walk.{Tree, count_of, whole}
-use Rattle.node_rope.specs.Items.{IsRope, item_at, items_of, value_under}
-use Rattle.node_rope.specs.Linked.{IsSet, IsSame}
+use Rattle.node_rope.specs.Items.{IsRope, item_at, rope_items_of, value_under}
+use Rattle.node_rope.specs.Linked.{IsSet, HasSameLinks}
 use Rattle.node_rope.specs.Sums.{no_rank}
 use Rattle.node_rope.specs.Grown.{IsGrown}
 use Rattle.node_rope.specs.Turned.{IsRearranged}
@@ -52,7 +52,7 @@ pub link-or-none : (o : Option Link) → (o ≡ None) ⊎ ((l : Link) × (o ≡ 
 link-or-none None = inl refl
 link-or-none (Some l) = inr (l, refl)
 
-module _ {T : Type 0} (s : Store T) (root : Option Link) (sound : IsSound s root) where
+module _ {T : Type 0} (s : Store T) (root : Option Link) (sound : HasRightLinks s root) where
   abbrev t : Tree
   t = tree_of (shapes_of s)
 
@@ -69,7 +69,7 @@ module _ {T : Type 0} (s : Store T) (root : Option Link) (sound : IsSound s root
   climbs (suc k) x i h b a = elim (link-or-none (shape_at (shapes_of s) i).parent) as (λ _. Among x (order s root)) [
     | inl e ↦ subst (λ (o : Option ℕ). Among x (whole t o)) (sym (sound.top i b e)) a
     | inr e ↦ (
-        let up = ap number_of e.1 in
+        let up = ap link_number e.1 in
         let high : t.count i < t.count e.0.number = higher s root sound i e.0 e.1 in
         climbs k x e.0.number (omega (arith, h, high)) (made-below s e.0 (sound.made_parent i e.0 e.1))
         (elim (sound.below i e.0.number up) as (λ _. Among x (whole t (Some e.0.number))) [ inl f ↦ over-left x i e.0.number f a | inr f ↦ over-right x i e.0.number f a ]))
@@ -91,14 +91,14 @@ module _ {T : Type 0} (s : Store T) (root : Option Link) (sound : IsSound s root
 
   -- and no other number does
   pub all-made : (x : ℕ) → Among x (order s root) → x < made_count s
-  all-made x a = made-under (count_of t (number_of root)) (number_of root) (omega arith) (root-below s root sound root sound.made_root) x a
+  all-made x a = made-under (count_of t (link_number root)) (link_number root) (omega arith) (root-below s root sound root sound.made_root) x a
 
 none-of : {X : Type 0} (o : Option X) → is_some o ≡ false → o ≡ None
 none-of None e = refl
 none-of (Some x) e = absurd (cc)
 
 pub length-values : {T : Type 0} (s : Store T) → length (values_of s) ≡ made_count s
-length-values s = length-map s.pile.values value_of
+length-values s = length-map s.pile.values node_value
 
 pub value-made : {T : Type 0} (s : Store T) (x : ℕ) → x < made_count s → (v : T) × (slice_get (values_of s) x ≡ Some v)
 value-made s x h = some-of (values_of s) x (omega (arith, h, length-values s))
@@ -156,25 +156,25 @@ module _ {T : Type 0} (wt : T → Own) (s : Store T) (root : Option Link) (m : B
         f.1 (sym at.1 ∙ ap (λ (q : Link). q.number) link))) ∙ sym f.0
   ]
 
-  pub held : (k : Identifier) (l : Link) → get id_cmp m k ≡ Some l → (v : T) → slice_get (values_of s) l.number ≡ Some v → value_under k (items_of s root) ≡ Some v
+  pub held : (k : Identifier) (l : Link) → get id_cmp m k ≡ Some l → (v : T) → slice_get (values_of s) l.number ≡ Some v → value_under k (rope_items_of s root) ≡ Some v
   held k l e v is = value-among s k l.number v (alone k l e) is (order s root) (all-made s root r.sound) (in-order s root r.sound l.number (made-below s l (r.mapped k l e)))
 
   -- the value of a node stands under its key
-  pub node-holds : (l : Link) → IsMade s l → (d : T) → d ≡ get_or (values_of s) l.number d → value_under (shape_at (shapes_of s) l.number).key (items_of s root) ≡ Some d
+  pub node-holds : (l : Link) → IsMade s l → (d : T) → d ≡ get_or (values_of s) l.number d → value_under (shape_at (shapes_of s) l.number).key (rope_items_of s root) ≡ Some d
   node-holds l made d read =
       let below = made-below s l made in
       let v = value-made s l.number below in
       let at = r.listed l.number below in
       held (shape_at (shapes_of s) l.number).key at.0 at.2 v.0 (ap (slice_get (values_of s)) at.1 ∙ v.1) ∙ ap Some (sym (value-read s l.number d v.0 read v.1))
 
-  pub not-held : (k : Identifier) → get id_cmp m k ≡ None → value_under k (items_of s root) ≡ None
+  pub not-held : (k : Identifier) → get id_cmp m k ≡ None → value_under k (rope_items_of s root) ≡ None
   not-held k e = value-none s k (λ x h. false_from_ne_true _ (λ g. (
       let is : (shape_at (shapes_of s) x).key ≡ k = id_eq-true (shape_at (shapes_of s) x).key k g in
       let at = r.listed x h in
       let same : Some at.0 ≡ None = sym at.2 ∙ ap (get id_cmp m) is ∙ e in
       cc))) (order s root) (all-made s root r.sound)
 
-  pub free : (k : Identifier) → value_under k (items_of s root) ≡ None → get id_cmp m k ≡ None
+  pub free : (k : Identifier) → value_under k (rope_items_of s root) ≡ None → get id_cmp m k ≡ None
   free k e = elim (link-or-none (get id_cmp m k)) as (λ _. get id_cmp m k ≡ None) [
     | inl f ↦ f
     | inr f ↦ (
@@ -184,10 +184,10 @@ module _ {T : Type 0} (wt : T → Own) (s : Store T) (root : Option Link) (m : B
         cc)
   ]
 
-  pub fresh : (k : Identifier) (xs : List (Identifier × T)) → items_of s root ≡ xs → is_some (value_under k xs) ≡ false → get id_cmp m k ≡ None
-  fresh k xs e f = free k (none-of (value_under k (items_of s root)) (ap (λ (ys : List (Identifier × T)). is_some (value_under k ys)) e ∙ f))
+  pub fresh : (k : Identifier) (xs : List (Identifier × T)) → rope_items_of s root ≡ xs → is_some (value_under k xs) ≡ false → get id_cmp m k ≡ None
+  fresh k xs e f = free k (none-of (value_under k (rope_items_of s root)) (ap (λ (ys : List (Identifier × T)). is_some (value_under k ys)) e ∙ f))
 
-  pub same-roped : (n : BTreeMap Identifier Link) → IsSame m n → IsRope wt s root n
+  pub same-roped : (n : BTreeMap Identifier Link) → HasSameLinks m n → IsRope wt s root n
   same-roped n h = record {
     sound = r.sound;
     few = r.few;
@@ -200,7 +200,7 @@ module _ {T : Type 0} (wt : T → Own) (s : Store T) (root : Option Link) (m : B
   }
 
   -- a key that came and went
-  pub same-again : (n p : BTreeMap Identifier Link) (key : Identifier) (l : Link) → get id_cmp m key ≡ None → IsSet m n key (Some l) → IsSet n p key None → IsSame m p
+  pub same-again : (n p : BTreeMap Identifier Link) (key : Identifier) (l : Link) → get id_cmp m key ≡ None → IsSet m n key (Some l) → IsSet n p key None → HasSameLinks m p
   same-again n p key l none a b q = elim (Rattle.fugue_ids.proofs.IdentifierLemmas.cases_id q key) as (λ _. get id_cmp p q ≡ get id_cmp m q) [
     | inl e ↦ ap (get id_cmp p) e ∙ b.0 ∙ sym none ∙ ap (get id_cmp m) (sym e)
     | inr e ↦ b.1 q e ∙ a.1 q e
@@ -321,10 +321,10 @@ module _ {T : Type 0} (s v : Store T) (root : Option Link) (key : Identifier) (w
     owns = λ i ne. ap (λ (h : Shape). h.own) (same-there i ne);
   }
 
-  pub first-list : IsSound s root → items_of v (Some l) ≡ (key, value) ∷ []
+  pub first-list : HasRightLinks s root → rope_items_of v (Some l) ≡ (key, value) ∷ []
   first-list sound =
       let t = tree_of (shapes_of v) in
-      let none-left = ap (λ (h : Shape). whole t (number_of h.left)) here-there in
-      let none-right = ap (λ (h : Shape). whole t (number_of h.right)) here-there in
+      let none-left = ap (λ (h : Shape). whole t (link_number h.left)) here-there in
+      let none-right = ap (λ (h : Shape). whole t (link_number h.right)) here-there in
       let walk = whole-node t first-grown.sound.counted l.number ∙ ap (λ xs. xs ++ l.number ∷ whole t (t.right l.number)) none-left ∙ ap (λ xs. l.number ∷ xs) none-right in
       ap (flat_map (item_at v)) walk ∙ append-nil (item_at v l.number) ∙ new-item s v root (Some l) sound key w value l first-grown

@@ -4,7 +4,7 @@ use lib.ListN.{length-set, length-append}
 use Rattle.node_rope.specs.Heaps.{Mooring, LiesAt}
 use Rattle.node_rope.specs.declared.pile.Spot.{Spot}
 use Rattle.node_rope.specs.declared.cells.Node.{Node}
-use Rattle.node_rope.specs.Filed.{Leads, IsFiled}
+use Rattle.node_rope.specs.Filed.{MooringsLead, IsFiled}
 use Rattle.node_rope.proofs.BoxLemmas.{lies-longer, lies-shorter, lies-last}
 
 module _ {X Y : Type 0} (f : X → Y) where
@@ -32,12 +32,12 @@ older-same (x ∷ ns) (suc i) (suc j) w r e h n g = older-same ns i j w r e h n 
 
 pub filed-set : {T Z : Type 0} (s : Spot) (ns : List (Node T)) (ms : List (Mooring Z)) (i : ℕ) (w r : Node T) → r ≡ get_or ns i r → w.older ≡ r.older → IsFiled s ns ms → IsFiled s (slice_set ns i w) ms
 filed-set s ns ms i w r e h f = record {
-  last = subst (λ (k : ℕ). Leads ms s k) (sym (length-set ns i w)) f.last;
-  each = λ j n g. let m = older-same ns i j w r e h n g in subst (λ (q : Spot). Leads ms q j) m.2 (f.each j m.0 m.1);
+  last = subst (λ (k : ℕ). MooringsLead ms s k) (sym (length-set ns i w)) f.last;
+  each = λ j n g. let m = older-same ns i j w r e h n g in subst (λ (q : Spot). MooringsLead ms q j) m.2 (f.each j m.0 m.1);
 }
 
 -- one more node
-pub leads-longer : {Z : Type 0} (ms ks : List (Mooring Z)) (s : Spot) (n : ℕ) → Leads ms s n → Leads (ms ++ ks) s n
+pub leads-longer : {Z : Type 0} (ms ks : List (Mooring Z)) (s : Spot) (n : ℕ) → MooringsLead ms s n → MooringsLead (ms ++ ks) s n
 leads-longer ms ks s zero e = e
 leads-longer ms ks s (suc n) e = lies-longer ms ks n s.address e
 
@@ -52,15 +52,15 @@ pub filed-more : {T Z : Type 0} (s : Spot) (ns : List (Node T)) (ms : List (Moor
 filed-more s ns ms w t m pair f h a = record {
   last =
       let longer : suc (length ns) ≡ length (ns ++ w ∷ []) = omega (arith, length-append ns (w ∷ [])) in
-      subst (λ (n : ℕ). Leads (ms ++ m ∷ []) t n) longer (subst (λ (p : denote.RawPtr.Ptr). LiesAt (ms ++ m ∷ []) (length ns) p) (sym a) (lies-last ms m (length ns) pair));
-  each = λ i n g. elim (got-last ns w i n g) as (λ _. Leads (ms ++ m ∷ []) n.older i) [
+      subst (λ (n : ℕ). MooringsLead (ms ++ m ∷ []) t n) longer (subst (λ (p : denote.RawPtr.Ptr). LiesAt (ms ++ m ∷ []) (length ns) p) (sym a) (lies-last ms m (length ns) pair));
+  each = λ i n g. elim (got-last ns w i n g) as (λ _. MooringsLead (ms ++ m ∷ []) n.older i) [
     | inl k ↦ leads-longer ms (m ∷ []) n.older i (f.each i n k)
-    | inr k ↦ leads-longer ms (m ∷ []) n.older i (subst (λ (q : Spot). Leads ms q i) (sym h ∙ ap (λ y. y.older) k.1) (subst (λ (j : ℕ). Leads ms s j) (sym k.0) f.last))
+    | inr k ↦ leads-longer ms (m ∷ []) n.older i (subst (λ (q : Spot). MooringsLead ms q i) (sym h ∙ ap (λ y. y.older) k.1) (subst (λ (j : ℕ). MooringsLead ms s j) (sym k.0) f.last))
   ];
 }
 
 -- one node less
-leads-shorter : {Z : Type 0} (ms ks : List (Mooring Z)) (s : Spot) (n : ℕ) → n ≤ length ms → Leads (ms ++ ks) s n → Leads ms s n
+leads-shorter : {Z : Type 0} (ms ks : List (Mooring Z)) (s : Spot) (n : ℕ) → n ≤ length ms → MooringsLead (ms ++ ks) s n → MooringsLead ms s n
 leads-shorter ms ks s zero h e = e
 leads-shorter ms ks s (suc n) h e = lies-shorter ms ks n s.address (omega arith) e
 

@@ -3,16 +3,16 @@ use Rattle.std.proofs.Common.{◌≡◌, ℕ, zero, suc, ◌-◌, ◌<◌, ◌�
 use Rattle.std.specs.Prelude.{nat_le, is_some, reverse}
 use Rattle.std.proofs.lemmas.Bool.Decides.{nat_tests}
 use Rattle.std.proofs.lemmas.List.{reverse-append, length-reverse, length-drop, take-append-drop}
-use Rattle.node_rope.specs.declared.side.Side.{Side}
-use Rattle.node_rope.specs.declared.side.Side.TheVariants.{Left, Right}
+use Rattle.node_rope.specs.declared.turn.Side.{Side}
+use Rattle.node_rope.specs.declared.turn.Side.TheVariants.{Left, Right}
 use Rattle.node_rope.specs.declared.store.Store.{Store}
 use Rattle.node_rope.specs.declared.cells.Shape.{Shape}
 use Rattle.node_rope.specs.declared.cells.Link.{Link}
 use Rattle.node_rope.specs.Made.{shapes_of}
-use Rattle.node_rope.specs.Walk.{Tree, count_of, whole, IsCounted}
+use Rattle.node_rope.specs.Walk.{Tree, count_of, whole, HasCounts}
 use Rattle.node_rope.specs.Sums.{lesser, no_rank, sum_of, IsSummed}
 use Rattle.node_rope.specs.Sides.{faced, seen}
-use Rattle.node_rope.specs.Shapes.{AreMade, AreRanksFit, IsSound, order, shape_at, number_of, tree_of, ranks, leasts}
+use Rattle.node_rope.specs.Shapes.{AreMade, AreRanksFit, HasRightLinks, order, shape_at, link_number, tree_of, ranks, leasts}
 use Rattle.node_rope.specs.Low.{or_else, if_low, first_low, last_low, low_at, low_below, low_from, seen_order}
 use Rattle.node_rope.proofs.WalkLemmas.{whole-node, length-whole}
 use Rattle.node_rope.proofs.MirrorLemmas.{mirror-counted, mirror-summed, whole-mirrored}
@@ -72,7 +72,7 @@ le-min : (a b most : ℕ) → (nat_le a most || nat_le b most) ≡ nat_le (min a
 le-min a b most = grind (arith, nat_tests)
 
 -- ---- a tree as it is seen from a side
-seen-counted : (d : Side) (t : Tree) → IsCounted t → IsCounted (seen d t)
+seen-counted : (d : Side) (t : Tree) → HasCounts t → HasCounts (seen d t)
 seen-counted Left t ct = ct
 seen-counted Right t ct = mirror-counted t ct
 
@@ -85,15 +85,15 @@ seen-count Left t o = refl
 seen-count Right t None = refl
 seen-count Right t (Some x) = refl
 
-seen-left : (d : Side) (ss : List Shape) (x : ℕ) → (seen d (tree_of ss)).left x ≡ number_of (faced d (shape_at ss x)).left
+seen-left : (d : Side) (ss : List Shape) (x : ℕ) → (seen d (tree_of ss)).left x ≡ link_number (faced d (shape_at ss x)).left
 seen-left Left ss x = refl
 seen-left Right ss x = refl
 
-seen-right : (d : Side) (ss : List Shape) (x : ℕ) → (seen d (tree_of ss)).right x ≡ number_of (faced d (shape_at ss x)).right
+seen-right : (d : Side) (ss : List Shape) (x : ℕ) → (seen d (tree_of ss)).right x ≡ link_number (faced d (shape_at ss x)).right
 seen-right Left ss x = refl
 seen-right Right ss x = refl
 
-module _ {T : Type 0} (s : Store T) (root : Option Link) (so : IsSound s root) where
+module _ {T : Type 0} (s : Store T) (root : Option Link) (so : HasRightLinks s root) where
   left-made : (d : Side) (x : ℕ) → AreMade s (faced d (shape_at (shapes_of s) x)).left
   left-made Left x = so.made_left x
   left-made Right x = so.made_right x
@@ -102,7 +102,7 @@ module _ {T : Type 0} (s : Store T) (root : Option Link) (so : IsSound s root) w
   right-made Left x = so.made_right x
   right-made Right x = so.made_left x
 
-module _ {T : Type 0} (s : Store T) (root : Option Link) (so : IsSound s root) (fits : AreRanksFit (shapes_of s)) (most : ℕ) (d : Side) where
+module _ {T : Type 0} (s : Store T) (root : Option Link) (so : HasRightLinks s root) (fits : AreRanksFit (shapes_of s)) (most : ℕ) (d : Side) where
   abbrev ss : List Shape
   ss = shapes_of s
 
@@ -112,7 +112,7 @@ module _ {T : Type 0} (s : Store T) (root : Option Link) (so : IsSound s root) (
   abbrev rank : ℕ → ℕ
   rank = ranks ss
 
-  ct : IsCounted t
+  ct : HasCounts t
   ct = seen-counted d (tree_of ss) so.counted
 
   rt : IsSummed lesser t rank (leasts ss)
@@ -143,13 +143,13 @@ module _ {T : Type 0} (s : Store T) (root : Option Link) (so : IsSound s root) (
       ap is_some (first-node x) ∙ is_some-or L (or_else (if_low rank most x) R) ∙ (λ i. l i || is_some-or (if_low rank most x) R i) ∙ (λ i. low (t.left x) || (if-low rank most x i || r i))
       ∙ low-node (t.left x) (t.right x) (rank x) (leasts ss x) (fits x) (rt x)
 
-  low-is : (o : Option Link) → low (number_of o) ≡ low_at ss most o
+  low-is : (o : Option Link) → low (link_number o) ≡ low_at ss most o
   low-is None = refl
   low-is (Some l) = refl
 
   -- what the test of a subtree tells
   told : (o : Option Link) → is_some (low_below ss most d o) ≡ low_at ss most o
-  told o = has-low (count_of t (number_of o)) (number_of o) (omega arith) ∙ low-is o
+  told o = has-low (count_of t (link_number o)) (link_number o) (omega arith) ∙ low-is o
 
   -- ---- one step down, from a node l, whose shape as seen from the side is h
   module _ (l : Link) (h : Shape) (is : h ≡ faced d (shape_at ss l.number)) where
@@ -162,11 +162,11 @@ module _ {T : Type 0} (s : Store T) (root : Option Link) (so : IsSound s root) (
     pub far-made : AreMade s h.right
     far-made m e = right-made s root so d x m (sym (ap (λ (g : Shape). g.right) is) ∙ e)
 
-    left-is : t.left x ≡ number_of h.left
-    left-is = seen-left d ss x ∙ ap (λ (g : Shape). number_of g.left) (sym is)
+    left-is : t.left x ≡ link_number h.left
+    left-is = seen-left d ss x ∙ ap (λ (g : Shape). link_number g.left) (sym is)
 
-    right-is : t.right x ≡ number_of h.right
-    right-is = seen-right d ss x ∙ ap (λ (g : Shape). number_of g.right) (sym is)
+    right-is : t.right x ≡ link_number h.right
+    right-is = seen-right d ss x ∙ ap (λ (g : Shape). link_number g.right) (sym is)
 
     rank-is : h.own.rank ≡ rank x
     rank-is = ap (λ (g : Shape). g.own.rank) is ∙ faced-field (λ g. g.own.rank) (λ g. refl) d (shape_at ss x)
@@ -204,22 +204,22 @@ module _ {T : Type 0} (s : Store T) (root : Option Link) (so : IsSound s root) (
     -- ---- a place among the nodes below
     module _ (rest : ℕ) where
       abbrev L : List ℕ
-      L = whole t (number_of h.left)
+      L = whole t (link_number h.left)
 
       abbrev R : List ℕ
-      R = whole t (number_of h.right)
+      R = whole t (link_number h.right)
 
       split : whole t (Some x) ≡ L ++ x ∷ R
       split = whole-node t ct x ∙ (λ i. whole t (left-is i) ++ x ∷ whole t (right-is i))
 
-      left-length : length L ≡ count_of (tree_of ss) (number_of h.left)
-      left-length = length-whole t ct (number_of h.left) ∙ seen-count d (tree_of ss) (number_of h.left)
+      left-length : length L ≡ count_of (tree_of ss) (link_number h.left)
+      left-length = length-whole t ct (link_number h.left) ∙ seen-count d (tree_of ss) (link_number h.left)
 
-      pub place-near : rest ≤ count_of (tree_of ss) (number_of h.left) → first_low rank most (drop rest (whole t (Some x))) ≡ or_else (first_low rank most (drop rest L)) (low_from ss most d (Some l))
+      pub place-near : rest ≤ count_of (tree_of ss) (link_number h.left) → first_low rank most (drop rest (whole t (Some x))) ≡ or_else (first_low rank most (drop rest L)) (low_from ss most d (Some l))
       place-near e = ap (λ xs. first_low rank most (drop rest xs)) split ∙ ap (first_low rank most) (drop-first L (x ∷ R) rest (omega (arith, e, left-length))) ∙ first-append rank most (drop rest L) (x ∷ R) ∙ ap (or_else (first_low rank most (drop rest L))) (sym from-is)
 
-      pub place-far : count_of (tree_of ss) (number_of h.left) < rest → drop rest (whole t (Some x)) ≡ drop (rest - count_of (tree_of ss) (number_of h.left) - 1) R
-      place-far e = ap (drop rest) split ∙ drop-past L x R (rest - count_of (tree_of ss) (number_of h.left) - 1) rest (omega (arith, e, left-length))
+      pub place-far : count_of (tree_of ss) (link_number h.left) < rest → drop rest (whole t (Some x)) ≡ drop (rest - count_of (tree_of ss) (link_number h.left) - 1) R
+      place-far e = ap (drop rest) split ∙ drop-past L x R (rest - count_of (tree_of ss) (link_number h.left) - 1) rest (omega (arith, e, left-length))
 
 -- ---- from the end
 drop-all : (xs ys : List ℕ) → drop (length xs) (xs ++ ys) ≡ ys
@@ -232,8 +232,8 @@ drop-reversed xs i =
     let size : length xs - i ≡ length (reverse (drop i xs)) = sym (length-reverse (drop i xs) ∙ length-drop i xs) in
     (λ j. drop (size j) (whole j)) ∙ drop-all (reverse (drop i xs)) (reverse (take i xs))
 
-pub last-seen-right : {T : Type 0} (s : Store T) (root : Option Link) → IsSound s root → (most to : ℕ) → first_low (ranks (shapes_of s)) most (drop (count_of (tree_of (shapes_of s)) (number_of root) - to) (seen_order Right s root)) ≡ last_low (ranks (shapes_of s)) most (take to (order s root))
+pub last-seen-right : {T : Type 0} (s : Store T) (root : Option Link) → HasRightLinks s root → (most to : ℕ) → first_low (ranks (shapes_of s)) most (drop (count_of (tree_of (shapes_of s)) (link_number root) - to) (seen_order Right s root)) ≡ last_low (ranks (shapes_of s)) most (take to (order s root))
 last-seen-right s root so most to =
     let xs = order s root in
-    let n = length-whole (tree_of (shapes_of s)) so.counted (number_of root) in
-    ap (first_low (ranks (shapes_of s)) most) ((λ j. drop (sym n j - to) (whole-mirrored (tree_of (shapes_of s)) (number_of root) j)) ∙ drop-reversed xs to) ∙ first-reversed (ranks (shapes_of s)) most (take to xs)
+    let n = length-whole (tree_of (shapes_of s)) so.counted (link_number root) in
+    ap (first_low (ranks (shapes_of s)) most) ((λ j. drop (sym n j - to) (whole-mirrored (tree_of (shapes_of s)) (link_number root) j)) ∙ drop-reversed xs to) ∙ first-reversed (ranks (shapes_of s)) most (take to xs)

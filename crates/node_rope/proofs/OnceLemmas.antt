@@ -8,9 +8,9 @@ use Rattle.node_rope.specs.declared.store.Store.{Store}
 use Rattle.node_rope.specs.declared.cells.Link.{Link}
 use Rattle.node_rope.specs.declared.cells.Own.{Own}
 use Rattle.node_rope.specs.Made.{shapes_of}
-use Rattle.node_rope.specs.Shapes.{IsSound, shape_at, number_of, tree_of, order}
+use Rattle.node_rope.specs.Shapes.{HasRightLinks, shape_at, link_number, tree_of, order}
 use Rattle.node_rope.specs.Walk.{Tree, count_of, whole}
-use Rattle.node_rope.specs.Items.{IsRope, items_of}
+use Rattle.node_rope.specs.Items.{IsRope, rope_items_of}
 use Rattle.node_rope.specs.Places.{StandsAt}
 use Rattle.node_rope.proofs.WalkLemmas.{whole-node, some-same, below-left, below-right}
 use Rattle.node_rope.proofs.KeyLemmas.{Among, among-parts, among-right, over-left, over-right, all-made, got-below}
@@ -28,7 +28,7 @@ number-or-none : (o : Option ℕ) → (o ≡ None) ⊎ ((a : ℕ) × (o ≡ Some
 number-or-none None = inl refl
 number-or-none (Some a) = inr (a, refl)
 
-module _ {T : Type 0} (s : Store T) (root : Option Link) (sound : IsSound s root) where
+module _ {T : Type 0} (s : Store T) (root : Option Link) (sound : HasRightLinks s root) where
   abbrev t : Tree
   t = tree_of (shapes_of s)
 
@@ -130,7 +130,7 @@ module _ {T : Type 0} (s : Store T) (root : Option Link) (sound : IsSound s root
       subst NoRepeat (sym (whole-node t sound.counted x)) (once-append L (x ∷ R) l (x-right, r) both)
 
   pub order-once : NoRepeat (order s root)
-  order-once = once-below (count_of t (number_of root)) (number_of root) (omega arith)
+  order-once = once-below (count_of t (link_number root)) (link_number root) (omega arith)
 
 among-at : (xs : List ℕ) (i : ℕ) → i < length xs → Among (get_or xs i 0) xs
 among-at [] i h = absurd (omega (arith, h))
@@ -145,13 +145,13 @@ once-index (x ∷ xs) n (suc i) zero h k e = absurd (n.0 (subst (λ (y : ℕ). A
 once-index (x ∷ xs) n (suc i) (suc j) h k e = ap suc (once-index xs n.1 i j (omega (arith, h)) (omega (arith, k)) e)
 
 -- a key stands at one place
-pub keys-once : {T : Type 0} (wt : T → Own) (s : Store T) (root : Option Link) (m : BTreeMap Identifier Link) → IsRope wt s root m → (i j : ℕ) (k : Identifier) → StandsAt (items_of s root) i k → StandsAt (items_of s root) j k → i ≡ j
+pub keys-once : {T : Type 0} (wt : T → Own) (s : Store T) (root : Option Link) (m : BTreeMap Identifier Link) → IsRope wt s root m → (i j : ℕ) (k : Identifier) → StandsAt (rope_items_of s root) i k → StandsAt (rope_items_of s root) j k → i ≡ j
 keys-once {T} wt s root m r i j k a b =
     let xs = order s root in
     let nodes = all-made s root r.sound in
-    let long : length (keys_of (items_of s root)) ≡ length xs = length-map (items_of s root) (λ (e : Identifier × T). e.0) ∙ order-length wt s root m r in
-    let hi = got-below (keys_of (items_of s root)) i k a in
-    let hj = got-below (keys_of (items_of s root)) j k b in
+    let long : length (keys_of (rope_items_of s root)) ≡ length xs = length-map (rope_items_of s root) (λ (e : Identifier × T). e.0) ∙ order-length wt s root m r in
+    let hi = got-below (keys_of (rope_items_of s root)) i k a in
+    let hj = got-below (keys_of (rope_items_of s root)) j k b in
     let li : i < length xs = omega (arith, hi, long) in
     let lj : j < length xs = omega (arith, hj, long) in
     let ki : Some (shape_at (shapes_of s) (get_or xs i 0)).key ≡ Some k = sym (items-key s xs nodes i li) ∙ a in

@@ -10,9 +10,9 @@ use Rattle.node_rope.specs.declared.cells.Shape.{Shape}
 use Rattle.node_rope.specs.declared.cells.Link.{Link}
 use Rattle.node_rope.specs.declared.cells.Own.{Own}
 use Rattle.node_rope.specs.Made.{IsKept, made_count, shapes_of, values_of}
-use Rattle.node_rope.specs.Shapes.{IsSound, shape_at, order, IsWeighed, IsRanked}
+use Rattle.node_rope.specs.Shapes.{HasRightLinks, shape_at, order, IsWeighed, IsRanked}
 use Rattle.node_rope.specs.Sums.{no_rank}
-use Rattle.node_rope.specs.Items.{IsRope, item_at, items_of}
+use Rattle.node_rope.specs.Items.{IsRope, item_at, rope_items_of}
 use Rattle.node_rope.specs.Beside.{put_under}
 use Rattle.node_rope.specs.Reweighed.{AreStill, IsStill}
 use Rattle.node_rope.proofs.TurnLemmas.{same-or-not}
@@ -43,14 +43,14 @@ set-there (z ∷ xs) zero y (suc i) ne = refl
 set-there (z ∷ xs) (suc n) y zero ne = refl
 set-there (z ∷ xs) (suc n) y (suc i) ne = set-there xs n y i (λ e. ne (ap suc e))
 
-module _ {T : Type 0} (s u : Store T) (root : Option Link) (l : Link) (value : T) (sound : IsSound s root) (shapes : shapes_of u ≡ shapes_of s) (values : values_of u ≡ slice_set (values_of s) l.number value) (kept : IsKept s u) where
+module _ {T : Type 0} (s u : Store T) (root : Option Link) (l : Link) (value : T) (sound : HasRightLinks s root) (shapes : shapes_of u ≡ shapes_of s) (values : values_of u ≡ slice_set (values_of s) l.number value) (kept : IsKept s u) where
   pub valued-count : made_count u ≡ made_count s
   valued-count = sym (length-values u) ∙ ap length values ∙ length-set (values_of s) l.number value ∙ length-values s
 
   pub valued-still : AreStill (shapes_of s) (shapes_of u)
   valued-still i = subst (λ (xs : List Shape). IsStill (shape_at (shapes_of s) i) (shape_at xs i)) (sym shapes) (still (shape_at (shapes_of s) i))
 
-  pub valued-sound : IsSound u root
+  pub valued-sound : HasRightLinks u root
   valued-sound =
       tree-along s u root (placed (shapes_of s) (shapes_of u) valued-still) valued-count kept sound
       (subst (λ (xs : List Shape). IsWeighed xs) (sym shapes) sound.weighed)
@@ -58,7 +58,7 @@ module _ {T : Type 0} (s u : Store T) (root : Option Link) (l : Link) (value : T
 
 -- s with another value in the node l, and its weight
 module _ {T : Type 0} (wt : T → Own) (s v : Store T) (root : Option Link) (m : BTreeMap Identifier Link) (key : Identifier) (l : Link) (w : Own) (value : T) (r : IsRope wt s root m) (at : get id_cmp m key ≡ Some l)
-    (sound : IsSound v root) (same : AreStill (shapes_of s) (shapes_of v)) (here : (shape_at (shapes_of v) l.number).own ≡ w) (others : (i : ℕ) → i ≢ l.number → (shape_at (shapes_of v) i).own ≡ (shape_at (shapes_of s) i).own)
+    (sound : HasRightLinks v root) (same : AreStill (shapes_of s) (shapes_of v)) (here : (shape_at (shapes_of v) l.number).own ≡ w) (others : (i : ℕ) → i ≢ l.number → (shape_at (shapes_of v) i).own ≡ (shape_at (shapes_of s) i).own)
     (values : values_of v ≡ slice_set (values_of s) l.number value) (kept : IsKept s v) (small : w.weight < 4194305) (fits : w.rank ≤ no_rank) (is : w ≡ wt value) where
   put-count : made_count v ≡ made_count s
   put-count = sym (length-values v) ∙ ap length values ∙ length-set (values_of s) l.number value ∙ length-values s
@@ -94,5 +94,5 @@ module _ {T : Type 0} (wt : T → Own) (s v : Store T) (root : Option Link) (m :
       item-is v x (cond (eqb x l.number) value a) (omega (arith, h, put-count)) read ∙ ap (λ (k : Identifier). (k, cond (eqb x l.number) value a) ∷ []) (same x).key
       ∙ ap (λ (b : Bool). ((shape_at (shapes_of s) x).key, cond b value a) ∷ []) (sym (alone wt s root m r key l at x h))
 
-  pub put-list : items_of v root ≡ put_under key value (items_of s root)
+  pub put-list : rope_items_of v root ≡ put_under key value (rope_items_of s root)
   put-list = ap (flat_map (item_at v)) (order-still s v root (placed (shapes_of s) (shapes_of v) same)) ∙ mapped-items s v (λ x. (x.0, cond (id_eq x.0 key) value x.1)) put-item (order s root) (all-made s root r.sound)

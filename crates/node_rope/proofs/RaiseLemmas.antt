@@ -6,9 +6,9 @@ use Rattle.node_rope.specs.declared.cells.Shape.{Shape}
 use Rattle.node_rope.specs.declared.cells.Link.{Link}
 use Rattle.node_rope.specs.declared.cells.Own.{Own}
 use Rattle.node_rope.specs.Made.{IsMade, IsKept, shapes_of}
-use Rattle.node_rope.specs.Shapes.{shape_at, lone, number_of, tree_of, owns, weights, ranks, leasts}
+use Rattle.node_rope.specs.Shapes.{shape_at, lone, link_number, tree_of, owns, weights, ranks, leasts}
 use Rattle.node_rope.specs.Walk.{Tree, IsLinked}
-use Rattle.node_rope.specs.Sums.{Measure, adding, lesser, sum_of}
+use Rattle.node_rope.specs.Sums.{Measure, sum_measure, lesser, sum_of}
 use Rattle.node_rope.specs.Joined.{IsSummedBut, IsBelow}
 use Rattle.node_rope.specs.Rising.{IsLikewise, IsRising, IsRaised, SameLinks, left_to_rise, AreSmall, more}
 use Rattle.node_rope.proofs.WalkLemmas.{some-same}
@@ -38,15 +38,15 @@ links-trans ss us ws f g i = let a = f i in let b = g i in record { left = b.lef
 
 pub linked-along : (ss us : List Shape) → SameLinks ss us → IsLinked (tree_of ss) → IsLinked (tree_of us)
 linked-along ss us same linked = record {
-  from_left = λ x m e. ap number_of (same m).parent ∙ linked.from_left x m (sym (ap number_of (same x).left) ∙ e);
-  from_right = λ x m e. ap number_of (same m).parent ∙ linked.from_right x m (sym (ap number_of (same x).right) ∙ e);
-  apart = λ x m e f. linked.apart x m (sym (ap number_of (same x).left) ∙ e) (sym (ap number_of (same x).right) ∙ f);
+  from_left = λ x m e. ap link_number (same m).parent ∙ linked.from_left x m (sym (ap link_number (same x).left) ∙ e);
+  from_right = λ x m e. ap link_number (same m).parent ∙ linked.from_right x m (sym (ap link_number (same x).right) ∙ e);
+  apart = λ x m e f. linked.apart x m (sym (ap link_number (same x).left) ∙ e) (sym (ap link_number (same x).right) ∙ f);
 }
 
 pub below-along : (ss us : List Shape) → SameLinks ss us → IsBelow (tree_of ss) → IsBelow (tree_of us)
-below-along ss us same below i p e = elim (below i p (sym (ap number_of (same i).parent) ∙ e)) as (λ _. (number_of (shape_at us p).left ≡ Some i) ⊎ (number_of (shape_at us p).right ≡ Some i)) [
-  | inl f ↦ inl (ap number_of (same p).left ∙ f)
-  | inr f ↦ inr (ap number_of (same p).right ∙ f)
+below-along ss us same below i p e = elim (below i p (sym (ap link_number (same i).parent) ∙ e)) as (λ _. (link_number (shape_at us p).left ≡ Some i) ⊎ (link_number (shape_at us p).right ≡ Some i)) [
+  | inl f ↦ inl (ap link_number (same p).left ∙ f)
+  | inr f ↦ inr (ap link_number (same p).right ∙ f)
 ]
 
 module _ {T : Type 0} (s u : Store T) (w : Own) (l : Link) (rising : IsRising s w (Some l)) (kept : IsKept s u) (is : shapes_of u ≡ slice_set (shapes_of s) l.number (more w (shape_at (shapes_of s) l.number))) where
@@ -76,8 +76,8 @@ module _ {T : Type 0} (s u : Store T) (w : Own) (l : Link) (rising : IsRising s 
 
   higher : (z : ℕ) → (tree_of ss).parent x ≡ Some z → (shape_at ss x).count + 1 ≤ (shape_at ss z).count
   higher z e = elim (rising.below x z e) as (λ _. (shape_at ss x).count + 1 ≤ (shape_at ss z).count) [
-    | inl f ↦ omega (arith, rising.counts.rest z (λ g. own z e (some-same z x (sym g))), ap (sum_of adding (tree_of ss).count) f)
-    | inr f ↦ omega (arith, rising.counts.rest z (λ g. own z e (some-same z x (sym g))), ap (sum_of adding (tree_of ss).count) f)
+    | inl f ↦ omega (arith, rising.counts.rest z (λ g. own z e (some-same z x (sym g))), ap (sum_of sum_measure (tree_of ss).count) f)
+    | inr f ↦ omega (arith, rising.counts.rest z (λ g. own z e (some-same z x (sym g))), ap (sum_of sum_measure (tree_of ss).count) f)
   ]
 
   -- the same with single values that are equal
@@ -89,33 +89,33 @@ module _ {T : Type 0} (s u : Store T) (w : Own) (l : Link) (rising : IsRising s 
 
   step-rising : IsRising u w (shape_at ss x).parent
   step-rising = record {
-    counts = raised-once adding adding-commutes (tree_of ss) (tree_of us) rising.linked rising.below (λ _. 1) (tree_of ss).count (tree_of us).count 1 x (λ i. ap number_of (step-links i).left) (λ i. ap number_of (step-links i).right)
+    counts = raised-once sum_measure adding-commutes (tree_of ss) (tree_of us) rising.linked rising.below (λ _. 1) (tree_of ss).count (tree_of us).count 1 x (λ i. ap link_number (step-links i).left) (λ i. ap link_number (step-links i).right)
         (ap (λ h. h.count) here) (λ i e. ap (λ h. h.count) (elsewhere i e)) (rising.proper x) rising.counts;
-    weighs = with-owns adding (owns ss) (owns us) (weights us) (tree_of us) w.weight (number_of (shape_at ss x).parent) (λ i. ap (λ o. o.weight) (step-links i).own)
-        (raised-once adding adding-commutes (tree_of ss) (tree_of us) rising.linked rising.below (owns ss) (weights ss) (weights us) w.weight x (λ i. ap number_of (step-links i).left) (λ i. ap number_of (step-links i).right)
+    weighs = with-owns sum_measure (owns ss) (owns us) (weights us) (tree_of us) w.weight (link_number (shape_at ss x).parent) (λ i. ap (λ o. o.weight) (step-links i).own)
+        (raised-once sum_measure adding-commutes (tree_of ss) (tree_of us) rising.linked rising.below (owns ss) (weights ss) (weights us) w.weight x (λ i. ap link_number (step-links i).left) (λ i. ap link_number (step-links i).right)
         (ap (λ h. h.weight) here) (λ i e. ap (λ h. h.weight) (elsewhere i e)) (rising.proper x) rising.weighs);
-    lowest = with-owns lesser (ranks ss) (ranks us) (leasts us) (tree_of us) w.rank (number_of (shape_at ss x).parent) (λ i. ap (λ o. o.rank) (step-links i).own)
-        (raised-once lesser lesser-commutes (tree_of ss) (tree_of us) rising.linked rising.below (ranks ss) (leasts ss) (leasts us) w.rank x (λ i. ap number_of (step-links i).left) (λ i. ap number_of (step-links i).right)
+    lowest = with-owns lesser (ranks ss) (ranks us) (leasts us) (tree_of us) w.rank (link_number (shape_at ss x).parent) (λ i. ap (λ o. o.rank) (step-links i).own)
+        (raised-once lesser lesser-commutes (tree_of ss) (tree_of us) rising.linked rising.below (ranks ss) (leasts ss) (leasts us) w.rank x (λ i. ap link_number (step-links i).left) (λ i. ap link_number (step-links i).right)
         (ap (λ h. h.least) here) (λ i e. ap (λ h. h.least) (elsewhere i e)) (rising.proper x) rising.lowest);
     linked = linked-along ss us step-links rising.linked;
     below = below-along ss us step-links rising.below;
-    proper = λ i e. rising.proper i (sym (ap number_of (step-links i).parent) ∙ e);
+    proper = λ i e. rising.proper i (sym (ap link_number (step-links i).parent) ∙ e);
     made_here = λ m e. kept m (rising.made_parent x m e);
     made_parent = λ i m e. kept m (rising.made_parent i m (sym (step-links i).parent ∙ e));
   }
 
   module _ (ss₀ : List Shape) (raised : IsRaised ss₀ ss w (Some l)) where
-    up_kept : (z : ℕ) → number_of (shape_at ss x).parent ≡ Some z → shape_at us z ≡ shape_at ss z
+    up_kept : (z : ℕ) → link_number (shape_at ss x).parent ≡ Some z → shape_at us z ≡ shape_at ss z
     up_kept z e = elsewhere z (own z e)
 
     step-raised : IsRaised ss₀ us w (shape_at ss x).parent
     step-raised = record {
-      each = λ i. elim (same-or-not i x) as (λ _. (shape_at us i ≡ shape_at ss₀ i) ⊎ ((shape_at us i ≡ more w (shape_at ss₀ i)) × ((z : ℕ) → number_of (shape_at ss x).parent ≡ Some z → (shape_at us i).count ≤ (shape_at us z).count))) [
+      each = λ i. elim (same-or-not i x) as (λ _. (shape_at us i ≡ shape_at ss₀ i) ⊎ ((shape_at us i ≡ more w (shape_at ss₀ i)) × ((z : ℕ) → link_number (shape_at ss x).parent ≡ Some z → (shape_at us i).count ≤ (shape_at us z).count))) [
         | inl e ↦ inr (
           ap (shape_at us) e ∙ here ∙ ap (more w) (raised.at x refl ∙ ap (shape_at ss₀) (sym e)),
           λ z f. omega (arith, ap (λ h. h.count) here, higher z f, ap (λ h. h.count) (up_kept z f), ap (λ (j : ℕ). (shape_at us j).count) e),
         )
-        | inr e ↦ elim (raised.each i) as (λ _. (shape_at us i ≡ shape_at ss₀ i) ⊎ ((shape_at us i ≡ more w (shape_at ss₀ i)) × ((z : ℕ) → number_of (shape_at ss x).parent ≡ Some z → (shape_at us i).count ≤ (shape_at us z).count))) [
+        | inr e ↦ elim (raised.each i) as (λ _. (shape_at us i ≡ shape_at ss₀ i) ⊎ ((shape_at us i ≡ more w (shape_at ss₀ i)) × ((z : ℕ) → link_number (shape_at ss x).parent ≡ Some z → (shape_at us i).count ≤ (shape_at us z).count))) [
           | inl f ↦ inl (elsewhere i e ∙ f)
           | inr f ↦ inr (elsewhere i e ∙ f.0, λ z g. omega (arith, ap (λ h. h.count) (elsewhere i e), f.1 x refl, higher z g, ap (λ h. h.count) (up_kept z g)))
         ]
@@ -130,7 +130,7 @@ module _ {T : Type 0} (s u : Store T) (w : Own) (l : Link) (rising : IsRising s 
     step-smaller small = by (shape_at ss x).parent refl where
       by : (o : Option Link) → (shape_at ss x).parent ≡ o → left_to_rise us o < left_to_rise ss (Some l)
       by None e = omega arith
-      by (Some z) e = let f = ap number_of e in omega (arith, ap (λ h. h.count) (up_kept z.number f), higher z.number f, small.counts x, ap (λ h. h.count) (raised.at x refl))
+      by (Some z) e = let f = ap link_number e in omega (arith, ap (λ h. h.count) (up_kept z.number f), higher z.number f, small.counts x, ap (λ h. h.count) (raised.at x refl))
 
 -- ---- one step of the loop: q is the next node
 pub record IsRaisedOnce {T : Type 0} (s u : Store T) (w : Own) (o q : Option Link) : Type 0 where

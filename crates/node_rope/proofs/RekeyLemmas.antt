@@ -11,9 +11,9 @@ use Rattle.node_rope.specs.declared.cells.Shape.{Shape}
 use Rattle.node_rope.specs.declared.cells.Link.{Link}
 use Rattle.node_rope.specs.declared.cells.Own.{Own}
 use Rattle.node_rope.specs.Made.{IsMade, IsKept, made_count, shapes_of, values_of}
-use Rattle.node_rope.specs.Shapes.{IsSound, shape_at, number_of, tree_of, order, weights, owns, leasts, ranks}
-use Rattle.node_rope.specs.Sums.{adding, lesser}
-use Rattle.node_rope.specs.Items.{IsRope, item_at, items_of, value_under}
+use Rattle.node_rope.specs.Shapes.{HasRightLinks, shape_at, link_number, tree_of, order, weights, owns, leasts, ranks}
+use Rattle.node_rope.specs.Sums.{sum_measure, lesser}
+use Rattle.node_rope.specs.Items.{IsRope, item_at, rope_items_of, value_under}
 use Rattle.node_rope.specs.Beside.{put_under, renamed, rekeyed}
 use Rattle.node_rope.specs.Linked.{IsSet}
 use Rattle.node_rope.specs.Reweighed.{ArePlaced}
@@ -26,7 +26,7 @@ use Rattle.node_rope.proofs.KeyLemmas.{all-made, mapped-items, alone}
 use Rattle.node_rope.proofs.ReweighLemmas.{tree-along, order-still}
 
 -- s with another key in the node l
-module _ {T : Type 0} (s v : Store T) (root : Option Link) (l : Link) (other : Identifier) (sound : IsSound s root) (made : IsMade s l) (is : shapes_of v ≡ slice_set (shapes_of s) l.number (record (shape_at (shapes_of s) l.number) { key = other }))
+module _ {T : Type 0} (s v : Store T) (root : Option Link) (l : Link) (other : Identifier) (sound : HasRightLinks s root) (made : IsMade s l) (is : shapes_of v ≡ slice_set (shapes_of s) l.number (record (shape_at (shapes_of s) l.number) { key = other }))
     (count : made_count v ≡ made_count s) (kept : IsKept s v) where
   abbrev ss : List Shape
   ss = shapes_of s
@@ -59,13 +59,13 @@ module _ {T : Type 0} (s v : Store T) (root : Option Link) (l : Link) (other : I
   pub renamed-placed : ArePlaced ss us
   renamed-placed i = record { left = field (λ h. h.left) (λ h k. refl) i; right = field (λ h. h.right) (λ h k. refl) i; parent = field (λ h. h.parent) (λ h k. refl) i; count = field (λ h. h.count) (λ h k. refl) i }
 
-  pub renamed-sound : IsSound v root
+  pub renamed-sound : HasRightLinks v root
   renamed-sound =
       let p = renamed-placed in
-      let lefts = λ (i : ℕ). ap number_of (p i).left in
-      let rights = λ (i : ℕ). ap number_of (p i).right in
+      let lefts = λ (i : ℕ). ap link_number (p i).left in
+      let rights = λ (i : ℕ). ap link_number (p i).right in
       tree-along s v root p count kept sound
-      (summed-along adding (tree_of ss) (tree_of us) (owns ss) (owns us) (weights ss) (weights us) lefts rights (field (λ h. h.own.weight) (λ h k. refl)) (field (λ h. h.weight) (λ h k. refl)) sound.weighed)
+      (summed-along sum_measure (tree_of ss) (tree_of us) (owns ss) (owns us) (weights ss) (weights us) lefts rights (field (λ h. h.own.weight) (λ h k. refl)) (field (λ h. h.weight) (λ h k. refl)) sound.weighed)
       (summed-along lesser (tree_of ss) (tree_of us) (ranks ss) (ranks us) (leasts ss) (leasts us) lefts rights (field (λ h. h.own.rank) (λ h k. refl)) (field (λ h. h.least) (λ h k. refl)) sound.ranked)
 
 -- and in the map
@@ -130,7 +130,7 @@ module _ {T : Type 0} (wt : T → Own) (s v : Store T) (root : Option Link) (m n
     | inr f ↦ key-elsewhere s v root l other r.sound there is count kept x f.1 ∙ ap (λ (b : Bool). cond b other (shape_at (shapes_of s) x).key) (sym (alone wt s root m r key l at x h ∙ f.0))
   ]
 
-  pub renamed-list : items_of v root ≡ renamed key other (items_of s root)
+  pub renamed-list : rope_items_of v root ≡ renamed key other (rope_items_of s root)
   renamed-list =
       ap (flat_map (item_at v)) (order-still s v root (renamed-placed s v root l other r.sound there is count kept))
       ∙ mapped-items s v (λ x. (cond (id_eq x.0 key) other x.0, x.1)) (λ x h a e. item-is v x a (omega (arith, h, count)) (ap (λ xs. slice_get xs x) values ∙ e) ∙ ap (λ (k : Identifier). (k, a) ∷ []) (key-is x h)) (order s root) (all-made s root r.sound)

@@ -5,8 +5,8 @@ use Rattle.node_rope.specs.declared.cells.Shape.{Shape}
 use Rattle.node_rope.specs.declared.cells.Link.{Link}
 use Rattle.node_rope.specs.declared.cells.Own.{Own}
 use Rattle.node_rope.specs.Made.{IsMade, IsKept, made_count, shapes_of}
-use Rattle.node_rope.specs.Shapes.{IsSound, IsTree, shape_at, number_of, tree_of, weight_at, weigh, least_at, order}
-use Rattle.node_rope.specs.Walk.{Tree, count_of, walk, whole}
+use Rattle.node_rope.specs.Shapes.{HasRightLinks, IsTree, shape_at, link_number, tree_of, weight_at, weigh, least_at, order}
+use Rattle.node_rope.specs.Walk.{Tree, count_of, tree_walk, whole}
 use Rattle.node_rope.specs.Sums.{lesser, sum_of}
 use Rattle.node_rope.specs.Shapes.{leasts}
 use Rattle.node_rope.specs.Reweighed.{summed, IsStill, AreStill, ArePlaced, SameOwns, IsSoundBut}
@@ -33,15 +33,15 @@ tree-along s u root same count kept r weighed ranked = record {
   weighed = weighed;
   ranked = ranked;
   linked = record {
-    from_left = λ x m e. ap number_of (same m).parent ∙ r.linked.from_left x m (sym (ap number_of (same x).left) ∙ e);
-    from_right = λ x m e. ap number_of (same m).parent ∙ r.linked.from_right x m (sym (ap number_of (same x).right) ∙ e);
-    apart = λ x m e f. r.linked.apart x m (sym (ap number_of (same x).left) ∙ e) (sym (ap number_of (same x).right) ∙ f);
+    from_left = λ x m e. ap link_number (same m).parent ∙ r.linked.from_left x m (sym (ap link_number (same x).left) ∙ e);
+    from_right = λ x m e. ap link_number (same m).parent ∙ r.linked.from_right x m (sym (ap link_number (same x).right) ∙ e);
+    apart = λ x m e f. r.linked.apart x m (sym (ap link_number (same x).left) ∙ e) (sym (ap link_number (same x).right) ∙ f);
   };
   top = λ i h e. r.top i (omega (arith, h, count)) (sym (same i).parent ∙ e);
   crown = λ i e. (same i).parent ∙ r.crown i e;
-  below = λ i p e. elim (r.below i p (sym (ap number_of (same i).parent) ∙ e)) as (λ _. (number_of (shape_at (shapes_of u) p).left ≡ Some i) ⊎ (number_of (shape_at (shapes_of u) p).right ≡ Some i)) [
-    | inl f ↦ inl (ap number_of (same p).left ∙ f)
-    | inr f ↦ inr (ap number_of (same p).right ∙ f)
+  below = λ i p e. elim (r.below i p (sym (ap link_number (same i).parent) ∙ e)) as (λ _. (link_number (shape_at (shapes_of u) p).left ≡ Some i) ⊎ (link_number (shape_at (shapes_of u) p).right ≡ Some i)) [
+    | inl f ↦ inl (ap link_number (same p).left ∙ f)
+    | inr f ↦ inr (ap link_number (same p).right ∙ f)
   ];
   made_left = λ i m e. kept m (r.made_left i m (sym (same i).left ∙ e));
   made_right = λ i m e. kept m (r.made_right i m (sym (same i).right ∙ e));
@@ -53,13 +53,13 @@ tree-along s u root same count kept r weighed ranked = record {
   counts None = refl
   counts (Some x) = (same x).count
 
-  lefts : (x : ℕ) → count_of (tree_of (shapes_of u)) (number_of (shape_at (shapes_of u) x).left) ≡ count_of (tree_of (shapes_of s)) (number_of (shape_at (shapes_of s) x).left)
-  lefts x = counts (number_of (shape_at (shapes_of u) x).left) ∙ ap (λ o. count_of (tree_of (shapes_of s)) (number_of o)) (same x).left
+  lefts : (x : ℕ) → count_of (tree_of (shapes_of u)) (link_number (shape_at (shapes_of u) x).left) ≡ count_of (tree_of (shapes_of s)) (link_number (shape_at (shapes_of s) x).left)
+  lefts x = counts (link_number (shape_at (shapes_of u) x).left) ∙ ap (λ o. count_of (tree_of (shapes_of s)) (link_number o)) (same x).left
 
-  rights : (x : ℕ) → count_of (tree_of (shapes_of u)) (number_of (shape_at (shapes_of u) x).right) ≡ count_of (tree_of (shapes_of s)) (number_of (shape_at (shapes_of s) x).right)
-  rights x = counts (number_of (shape_at (shapes_of u) x).right) ∙ ap (λ o. count_of (tree_of (shapes_of s)) (number_of o)) (same x).right
+  rights : (x : ℕ) → count_of (tree_of (shapes_of u)) (link_number (shape_at (shapes_of u) x).right) ≡ count_of (tree_of (shapes_of s)) (link_number (shape_at (shapes_of s) x).right)
+  rights x = counts (link_number (shape_at (shapes_of u) x).right) ∙ ap (λ o. count_of (tree_of (shapes_of s)) (link_number o)) (same x).right
 
-pub but-none : {T : Type 0} (s : Store T) (root : Option Link) → IsSoundBut s root None → IsSound s root
+pub but-none : {T : Type 0} (s : Store T) (root : Option Link) → IsSoundBut s root None → HasRightLinks s root
 but-none s root b = tree-along s s root (λ i. record { left = refl; right = refl; parent = refl; count = refl }) refl (λ l m. m) b.tree
     (λ x. omega (arith, b.tree.weighed x (λ e. no x e), weight-sum (shapes_of s) (shape_at (shapes_of s) x).left, weight-sum (shapes_of s) (shape_at (shapes_of s) x).right))
     (λ x. b.tree.ranked x (λ e. no x e) ∙ (λ j. min (least-sum (shapes_of s) (shape_at (shapes_of s) x).left j) (min (shape_at (shapes_of s) x).own.rank (least-sum (shapes_of s) (shape_at (shapes_of s) x).right j))))
@@ -67,11 +67,11 @@ but-none s root b = tree-along s s root (λ i. record { left = refl; right = ref
     no : (x : ℕ) → None ≡ Some x → ⊥
     no x e = cc
 
-pub heavy : (ss : List Shape) → ((i : ℕ) → (shape_at ss i).weight ≤ 4194304 * (shape_at ss i).count) → (o : Option Link) → weight_at ss o ≤ 4194304 * count_of (tree_of ss) (number_of o)
+pub heavy : (ss : List Shape) → ((i : ℕ) → (shape_at ss i).weight ≤ 4194304 * (shape_at ss i).count) → (o : Option Link) → weight_at ss o ≤ 4194304 * count_of (tree_of ss) (link_number o)
 heavy ss b None = omega arith
 heavy ss b (Some l) = b l.number
 
-pub sound-bound : {T : Type 0} (s : Store T) (root : Option Link) → IsSound s root → ((i : ℕ) → (shape_at (shapes_of s) i).own.weight < 4194305) → (i : ℕ) → (shape_at (shapes_of s) i).weight ≤ 4194304 * (shape_at (shapes_of s) i).count
+pub sound-bound : {T : Type 0} (s : Store T) (root : Option Link) → HasRightLinks s root → ((i : ℕ) → (shape_at (shapes_of s) i).own.weight < 4194305) → (i : ℕ) → (shape_at (shapes_of s) i).weight ≤ 4194304 * (shape_at (shapes_of s) i).count
 sound-bound s root r light i =
     let b = bounded (shapes_of s) light (whole (tree_of (shapes_of s)) (Some i)) in
     let l : length (whole (tree_of (shapes_of s)) (Some i)) ≡ (shape_at (shapes_of s) i).count = length-whole (tree_of (shapes_of s)) r.counted (Some i) in
@@ -79,7 +79,7 @@ sound-bound s root r light i =
     omega (arith, b, l, w)
 
 -- the weights at other nodes, where one is written
-weight-other : (ss us : List Shape) (x : ℕ) → ((i : ℕ) → i ≢ x → (shape_at us i).weight ≡ (shape_at ss i).weight) → (o : Option Link) → (number_of o ≡ Some x → ⊥) → weight_at us o ≡ weight_at ss o
+weight-other : (ss us : List Shape) (x : ℕ) → ((i : ℕ) → i ≢ x → (shape_at us i).weight ≡ (shape_at ss i).weight) → (o : Option Link) → (link_number o ≡ Some x → ⊥) → weight_at us o ≡ weight_at ss o
 weight-other ss us x h None ne = refl
 weight-other ss us x h (Some l) ne = h l.number (λ e. ne (ap Some e))
 
@@ -115,20 +115,20 @@ module _ {T : Type 0} (s u : Store T) (root : Option Link) (l : Link) (b : IsSou
     | inr e ↦ ap (λ (h : Shape). h.own) (elsewhere i e)
   ]
 
-  other-least : (o : Option Link) → (number_of o ≡ Some x → ⊥) → least_at us o ≡ least_at ss o
+  other-least : (o : Option Link) → (link_number o ≡ Some x → ⊥) → least_at us o ≡ least_at ss o
   other-least None h = refl
   other-least (Some k) h = ap (λ (g : Shape). g.least) (elsewhere k.number (λ e. h (ap Some e)))
 
-  other : (o : Option Link) → (number_of o ≡ Some x → ⊥) → weight_at us o ≡ weight_at ss o
+  other : (o : Option Link) → (link_number o ≡ Some x → ⊥) → weight_at us o ≡ weight_at ss o
   other = weight-other ss us x (λ i e. ap (λ (h : Shape). h.weight) (elsewhere i e))
 
-  not-own-left : number_of (shape_at ss x).left ≡ Some x → ⊥
+  not-own-left : link_number (shape_at ss x).left ≡ Some x → ⊥
   not-own-left e = let h = below-left (tree_of ss) b.tree.counted x x e in omega (arith, h)
 
-  not-own-right : number_of (shape_at ss x).right ≡ Some x → ⊥
+  not-own-right : link_number (shape_at ss x).right ≡ Some x → ⊥
   not-own-right e = let h = below-right (tree_of ss) b.tree.counted x x e in omega (arith, h)
 
-  step-rest : (i : ℕ) → (number_of (shape_at ss x).parent ≡ Some i → ⊥) → (shape_at us i).weight ≡ weight_at us (shape_at us i).left + ((shape_at us i).own.weight + weight_at us (shape_at us i).right)
+  step-rest : (i : ℕ) → (link_number (shape_at ss x).parent ≡ Some i → ⊥) → (shape_at us i).weight ≡ weight_at us (shape_at us i).left + ((shape_at us i).own.weight + weight_at us (shape_at us i).right)
   step-rest i ne = elim (same-or-not i x) as (λ _. (shape_at us i).weight ≡ weight_at us (shape_at us i).left + ((shape_at us i).own.weight + weight_at us (shape_at us i).right)) [
     | inl e ↦ subst (λ (j : ℕ). (shape_at us j).weight ≡ weight_at us (shape_at us j).left + ((shape_at us j).own.weight + weight_at us (shape_at us j).right)) (sym e)
         (omega (arith, ap (λ (h : Shape). h.weight) here, ap (λ (h : Shape). h.own.weight) here, ap (λ (h : Shape). weight_at us h.left) here, ap (λ (h : Shape). weight_at us h.right) here, other (shape_at ss x).left not-own-left, other (shape_at ss x).right not-own-right))
@@ -152,13 +152,13 @@ module _ {T : Type 0} (s u : Store T) (root : Option Link) (l : Link) (b : IsSou
       let right : least_at ss (shape_at ss x).right ≡ least_at us (shape_at us x).right = sym (ap (λ (h : Shape). least_at us h.right) here ∙ other-least (shape_at ss x).right not-own-right) in
       ap (λ (h : Shape). h.least) here ∙ (λ j. min (left j) (min (sym (ap (λ (h : Shape). h.own.rank) here) j) (right j)))
 
-  low-other : (i : ℕ) → i ≢ x → (number_of (shape_at ss x).parent ≡ Some i → ⊥) → IsLow i
+  low-other : (i : ℕ) → i ≢ x → (link_number (shape_at ss x).parent ≡ Some i → ⊥) → IsLow i
   low-other i e ne =
       let left : least_at ss (shape_at ss i).left ≡ least_at us (shape_at us i).left = sym (ap (λ (h : Shape). least_at us h.left) (elsewhere i e) ∙ other-least (shape_at ss i).left (λ f. ne (b.tree.linked.from_left i x f))) in
       let right : least_at ss (shape_at ss i).right ≡ least_at us (shape_at us i).right = sym (ap (λ (h : Shape). least_at us h.right) (elsewhere i e) ∙ other-least (shape_at ss i).right (λ f. ne (b.tree.linked.from_right i x f))) in
       ap (λ (h : Shape). h.least) (elsewhere i e) ∙ b.tree.ranked i (λ f. e (sym (some-same x i f))) ∙ (λ j. min (left j) (min (sym (ap (λ (h : Shape). h.own.rank) (elsewhere i e)) j) (right j)))
 
-  step-low : (i : ℕ) → (number_of (shape_at ss x).parent ≡ Some i → ⊥) → IsLow i
+  step-low : (i : ℕ) → (link_number (shape_at ss x).parent ≡ Some i → ⊥) → IsLow i
   step-low i ne = elim (same-or-not i x) as (λ _. IsLow i) [ inl e ↦ subst IsLow (sym e) low-here | inr e ↦ low-other i e ne ]
 
   fits : sum ≤ 4194304 * (shape_at ss x).count
@@ -190,7 +190,7 @@ left_to_sum n hs (Some l) = suc (suc n - (shape_at hs l.number).count)
 sums-nearer : {T : Type 0} (s u : Store T) (root : Option Link) (l : Link) (n : ℕ) → IsSoundBut s root (Some l) → AreStill (shapes_of s) (shapes_of u) → n ≡ made_count s → (o : Option Link) → (shape_at (shapes_of s) l.number).parent ≡ o → left_to_sum n (shapes_of u) o < left_to_sum n (shapes_of s) (Some l)
 sums-nearer s u root l n b same e None f = omega arith
 sums-nearer s u root l n b same e (Some p) f =
-    let up : (shape_at (shapes_of s) l.number).count < (shape_at (shapes_of s) p.number).count = elim (b.tree.below l.number p.number (ap number_of f)) as (λ _. (shape_at (shapes_of s) l.number).count < (shape_at (shapes_of s) p.number).count) [
+    let up : (shape_at (shapes_of s) l.number).count < (shape_at (shapes_of s) p.number).count = elim (b.tree.below l.number p.number (ap link_number f)) as (λ _. (shape_at (shapes_of s) l.number).count < (shape_at (shapes_of s) p.number).count) [
       | inl h ↦ below-left (tree_of (shapes_of s)) b.tree.counted p.number l.number h
       | inr h ↦ below-right (tree_of (shapes_of s)) b.tree.counted p.number l.number h
     ] in
@@ -223,20 +223,20 @@ summed-step s u root o l is_l but h g read sums count kept is = subst (λ o. IsS
     smaller = subst (λ (n : ℕ). left_to_sum (made_count u) (shapes_of u) (shape_at (shapes_of s) l.number).parent < left_to_sum n (shapes_of s) (Some l)) count (sums-nearer s u root l (made_count u) b same count (shape_at (shapes_of s) l.number).parent refl);
   }
 
-walk-same : (t u : Tree) → ((x : ℕ) → u.left x ≡ t.left x) → ((x : ℕ) → u.right x ≡ t.right x) → (f : ℕ) (o : Option ℕ) → walk u f o ≡ walk t f o
+walk-same : (t u : Tree) → ((x : ℕ) → u.left x ≡ t.left x) → ((x : ℕ) → u.right x ≡ t.right x) → (f : ℕ) (o : Option ℕ) → tree_walk u f o ≡ tree_walk t f o
 walk-same t u l r f None = refl
 walk-same t u l r zero (Some x) = refl
 walk-same t u l r (suc f) (Some x) =
-    ap (λ xs. xs ++ x ∷ walk u f (u.right x)) (ap (walk u f) (l x) ∙ walk-same t u l r f (t.left x)) ∙ ap (λ xs. walk t f (t.left x) ++ x ∷ xs) (ap (walk u f) (r x) ∙ walk-same t u l r f (t.right x))
+    ap (λ xs. xs ++ x ∷ tree_walk u f (u.right x)) (ap (tree_walk u f) (l x) ∙ walk-same t u l r f (t.left x)) ∙ ap (λ xs. tree_walk t f (t.left x) ++ x ∷ xs) (ap (tree_walk u f) (r x) ∙ walk-same t u l r f (t.right x))
 
 pub order-still : {T : Type 0} (s u : Store T) (root : Option Link) → ArePlaced (shapes_of s) (shapes_of u) → order u root ≡ order s root
-order-still s u root same = by (number_of root) where
+order-still s u root same = by (link_number root) where
   by : (o : Option ℕ) → whole (tree_of (shapes_of u)) o ≡ whole (tree_of (shapes_of s)) o
   by None = refl
-  by (Some x) = ap (λ f. walk (tree_of (shapes_of u)) f (Some x)) (same x).count ∙ walk-same (tree_of (shapes_of s)) (tree_of (shapes_of u)) (λ i. ap number_of (same i).left) (λ i. ap number_of (same i).right) (shape_at (shapes_of s) x).count (Some x)
+  by (Some x) = ap (λ f. tree_walk (tree_of (shapes_of u)) f (Some x)) (same x).count ∙ walk-same (tree_of (shapes_of s)) (tree_of (shapes_of u)) (λ i. ap link_number (same i).left) (λ i. ap link_number (same i).right) (shape_at (shapes_of s) x).count (Some x)
 
 -- ---- a new weight of one node's own value
-module _ {T : Type 0} (s u : Store T) (root : Option Link) (at : Link) (w : Own) (sound : IsSound s root) (made : IsMade s at) (count : made_count u ≡ made_count s) (kept : IsKept s u)
+module _ {T : Type 0} (s u : Store T) (root : Option Link) (at : Link) (w : Own) (sound : HasRightLinks s root) (made : IsMade s at) (count : made_count u ≡ made_count s) (kept : IsKept s u)
     (h : Shape) (read : h ≡ shape_at (shapes_of s) at.number) (is : shapes_of u ≡ slice_set (shapes_of s) at.number (record h { own = w })) where
   writes : shapes_of u ≡ slice_set (shapes_of s) at.number (record (shape_at (shapes_of s) at.number) { own = w })
   writes = is ∙ ap (λ (g : Shape). slice_set (shapes_of s) at.number (record g { own = w })) read
@@ -276,9 +276,9 @@ module _ {T : Type 0} (s u : Store T) (root : Option Link) (at : Link) (w : Own)
   own-low : (i : ℕ) → i ≢ at.number → (shape_at (shapes_of u) i).least ≡ min (least_at (shapes_of u) (shape_at (shapes_of u) i).left) (min (shape_at (shapes_of u) i).own.rank (least_at (shapes_of u) (shape_at (shapes_of u) i).right))
   own-low i ne =
       let e = own-elsewhere i ne in
-      let left : sum_of lesser (leasts (shapes_of s)) (number_of (shape_at (shapes_of s) i).left) ≡ least_at (shapes_of u) (shape_at (shapes_of u) i).left =
+      let left : sum_of lesser (leasts (shapes_of s)) (link_number (shape_at (shapes_of s) i).left) ≡ least_at (shapes_of u) (shape_at (shapes_of u) i).left =
       sym (ap (λ (h : Shape). least_at (shapes_of u) h.left) e ∙ own-least-at (shape_at (shapes_of s) i).left ∙ least-sum (shapes_of s) (shape_at (shapes_of s) i).left) in
-      let right : sum_of lesser (leasts (shapes_of s)) (number_of (shape_at (shapes_of s) i).right) ≡ least_at (shapes_of u) (shape_at (shapes_of u) i).right =
+      let right : sum_of lesser (leasts (shapes_of s)) (link_number (shape_at (shapes_of s) i).right) ≡ least_at (shapes_of u) (shape_at (shapes_of u) i).right =
       sym (ap (λ (h : Shape). least_at (shapes_of u) h.right) e ∙ own-least-at (shape_at (shapes_of s) i).right ∙ least-sum (shapes_of s) (shape_at (shapes_of s) i).right) in
       own-least i ∙ sound.ranked i ∙ (λ j. min (left j) (min (sym (ap (λ (h : Shape). h.own.rank) e) j) (right j)))
 

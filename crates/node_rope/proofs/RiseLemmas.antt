@@ -2,13 +2,13 @@
 use Rattle.std.proofs.Common.{◌≡◌, ℕ, ◌+◌, ◌-◌, min, List, map, Option, None, Some, refl, sym, ap, ◌∙◌, subst, arith}
 use Rattle.std.specs.Prelude.{reverse}
 use Rattle.std.proofs.lemmas.List.{map-set}
-use Rattle.node_rope.specs.declared.side.Side.{Side}
-use Rattle.node_rope.specs.declared.side.Side.TheVariants.{Left, Right}
+use Rattle.node_rope.specs.declared.turn.Side.{Side}
+use Rattle.node_rope.specs.declared.turn.Side.TheVariants.{Left, Right}
 use Rattle.node_rope.specs.declared.store.Store.{Store}
 use Rattle.node_rope.specs.declared.cells.Shape.{Shape}
 use Rattle.node_rope.specs.declared.cells.Link.{Link}
 use Rattle.node_rope.specs.Made.{IsMade, IsKept, made_count, shapes_of, values_of}
-use Rattle.node_rope.specs.Shapes.{IsSound, AreMade, shape_at, number_of, least_at}
+use Rattle.node_rope.specs.Shapes.{HasRightLinks, AreMade, shape_at, link_number, least_at}
 use Rattle.node_rope.specs.Walk.{moved}
 use Rattle.node_rope.specs.Grown.{with_parent}
 use Rattle.node_rope.specs.Sides.{flipped, faced}
@@ -48,19 +48,19 @@ flip-turned s v p c is =
     ∙ ap (λ (h : Shape). with_child (lifted Left fs p c (shape_at fs p.number) h) (shape_at fs p.number).parent p.number c) (sym (flip-at (shapes_of s) c.number))
     ∙ ap (λ (hs : List Shape). with_child (lifted Left hs p c (shape_at hs p.number) (shape_at hs c.number)) (shape_at hs p.number).parent p.number c) (sym (shapes-mirrored s))
 
-risen : {T : Type 0} (d : Side) (s v : Store T) (root root' : Option Link) (p c : Link) → IsSound s root → IsMade s p → IsMade s c → number_of (faced d (shape_at (shapes_of s) p.number)).left ≡ Some c.number
+risen : {T : Type 0} (d : Side) (s v : Store T) (root root' : Option Link) (p c : Link) → HasRightLinks s root → IsMade s p → IsMade s c → link_number (faced d (shape_at (shapes_of s) p.number)).left ≡ Some c.number
     → shapes_of v ≡ with_child (lifted d (shapes_of s) p c (faced d (shape_at (shapes_of s) p.number)) (faced d (shape_at (shapes_of s) c.number))) (shape_at (shapes_of s) p.number).parent p.number c
-    → IsKept s v → made_count v ≡ made_count s → number_of root' ≡ moved p.number c.number (number_of root) → AreMade v root' → IsLifted s v root root' p c
+    → IsKept s v → made_count v ≡ made_count s → link_number root' ≡ moved p.number c.number (link_number root) → AreMade v root' → IsLifted s v root root' p c
 risen Left s v root root' p c sound made_p made_c was is kept count moves made = risen-left s v root root' p c sound made_p made_c was is kept count moves made
 risen Right s v root root' p c sound made_p made_c was is kept count moves made = mirror-risen s v root root' p c (risen-left (mirrored s) (mirrored v) root root' p c (mirror-sound s (mirrored s) root (there s) sound) made_p made_c
-    (ap (λ (h : Shape). number_of h.left) ((there s).at p.number) ∙ was) (flip-turned s v p c is) kept ((there v).count ∙ count ∙ sym (there s).count) moves made)
+    (ap (λ (h : Shape). link_number h.left) ((there s).at p.number) ∙ was) (flip-turned s v p c is) kept ((there v).count ∙ count ∙ sym (there s).count) moves made)
 
 -- what a rotation reads, and the store u without the new child of the node over p
-module _ {T : Type 0} (s u v : Store T) (root : Option Link) (p c : Link) (sound : IsSound s root) (made_p : IsMade s p) (made_c : IsMade s c) (child : number_of (shape_at (shapes_of s) c.number).parent ≡ Some p.number)
+module _ {T : Type 0} (s u v : Store T) (root : Option Link) (p c : Link) (sound : HasRightLinks s root) (made_p : IsMade s p) (made_c : IsMade s c) (child : link_number (shape_at (shapes_of s) c.number).parent ≡ Some p.number)
     (d : Side) (h k above below : Shape) (is_h : h ≡ shape_at (shapes_of s) p.number) (is_k : k ≡ shape_at (shapes_of s) c.number) (side : d ≡ side_of h.left c.number) (faced_h : above ≡ faced d h) (faced_k : below ≡ faced d k)
     (lifts : shapes_of u ≡ lifted d (shapes_of s) p c above below) (is : shapes_of v ≡ with_child (shapes_of u) above.parent p.number c)
     (kept : IsKept s v) (count : made_count v ≡ made_count s) (values : values_of v ≡ values_of s) where
-  faces : number_of (faced d (shape_at (shapes_of s) p.number)).left ≡ Some c.number
+  faces : link_number (faced d (shape_at (shapes_of s) p.number)).left ≡ Some c.number
   faces = rw (side, is_h) (side-faces (shape_at (shapes_of s) p.number) c.number (sound.below c.number p.number child))
 
   is_above : above ≡ faced d (shape_at (shapes_of s) p.number)
@@ -72,7 +72,7 @@ module _ {T : Type 0} (s u v : Store T) (root : Option Link) (p c : Link) (sound
   over : above.parent ≡ (shape_at (shapes_of s) p.number).parent
   over = ap (λ (h : Shape). h.parent) is_above ∙ faced-field (λ h. h.parent) (λ h. refl) d (shape_at (shapes_of s) p.number)
 
-  lifted-to : (top : Option Link) → number_of top ≡ moved p.number c.number (number_of root) → AreMade v top → IsLifted s v root top p c
+  lifted-to : (top : Option Link) → link_number top ≡ moved p.number c.number (link_number root) → AreMade v top → IsLifted s v root top p c
   lifted-to top moves made = risen d s v root top p c sound made_p made_c faces (is ∙ (λ i. with_child (lifts i) above.parent p.number c) ∙ (λ i. with_child (lifted d (shapes_of s) p c (is_above i) (is_below i)) (over i) p.number c)) kept count moves made
 
   risen-so : (top : Option Link) → IsLifted s v root top p c → IsRisen s v root top p c
@@ -85,8 +85,8 @@ module _ {T : Type 0} (s u v : Store T) (root : Option Link) (p c : Link) (sound
 
   -- below another node the top stays
   pub risen-under : (g : Link) → above.parent ≡ Some g → IsRisen s v root root p c
-  risen-under g up = risen-so root (lifted-to root (sym (moved-other p.number c.number (number_of root) not-top)) (λ m e. kept m (sound.made_root m e))) where
-    not-top : number_of root ≡ Some p.number → ⊥
+  risen-under g up = risen-so root (lifted-to root (sym (moved-other p.number c.number (link_number root) not-top)) (λ m e. kept m (sound.made_root m e))) where
+    not-top : link_number root ≡ Some p.number → ⊥
     not-top e = let none = sound.crown p.number e in let some = sym over ∙ up in cc
 
   pub risen-top : above.parent ≡ None → IsRisen s v root (Some c) p c

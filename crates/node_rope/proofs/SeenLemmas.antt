@@ -10,10 +10,10 @@ use Rattle.node_rope.specs.declared.store.Store.{Store}
 use Rattle.node_rope.specs.declared.cells.Link.{Link}
 use Rattle.node_rope.specs.declared.cells.Own.{Own}
 use Rattle.node_rope.specs.Made.{made_count, shapes_of, values_of}
-use Rattle.node_rope.specs.Shapes.{IsSound, shape_at, number_of, tree_of, order, weigh}
+use Rattle.node_rope.specs.Shapes.{HasRightLinks, shape_at, link_number, tree_of, order, weigh}
 use Rattle.node_rope.specs.Walk.{count_of}
 use Rattle.node_rope.proofs.ItemLemmas.{length-items}
-use Rattle.node_rope.specs.Items.{IsRope, item_at, items_of, value_under}
+use Rattle.node_rope.specs.Items.{IsRope, item_at, rope_items_of, value_under}
 use Rattle.node_rope.specs.Linked.{IsFloorKey}
 use Rattle.node_rope.specs.Places.{StandsAt, weight_sum, IsUnit, IsFloor}
 use Rattle.node_rope.specs.Found.{IsFound}
@@ -76,29 +76,29 @@ module _ {T : Type 0} (s : Store T) where
       let cons = sum_by-cons (λ (y : Identifier × T). (wt y.1).weight) p (flat_map (item_at s) xs) in
       ap (λ (ys : List (Identifier × T)). weight_sum (λ x. (wt x).weight) (ys ++ flat_map (item_at s) xs)) it.2 ∙ omega (arith, rest, here, cons)
 
-pub few-nodes : {T : Type 0} (s : Store T) (root : Option Link) → IsSound s root → made_count s < 4194305 → length (items_of s root) < 4194306
-few-nodes s root sound few = elim (link-or-none root) as (λ _. length (items_of s root) < 4194306) [
-  | inl e ↦ omega (arith, length-items s root sound, ap (λ (o : Option Link). count_of (tree_of (shapes_of s)) (number_of o)) e)
-  | inr e ↦ omega (arith, length-items s root sound, ap (λ (o : Option Link). count_of (tree_of (shapes_of s)) (number_of o)) e.1, sound.small e.0.number, few)
+pub few-nodes : {T : Type 0} (s : Store T) (root : Option Link) → HasRightLinks s root → made_count s < 4194305 → length (rope_items_of s root) < 4194306
+few-nodes s root sound few = elim (link-or-none root) as (λ _. length (rope_items_of s root) < 4194306) [
+  | inl e ↦ omega (arith, length-items s root sound, ap (λ (o : Option Link). count_of (tree_of (shapes_of s)) (link_number o)) e)
+  | inr e ↦ omega (arith, length-items s root sound, ap (λ (o : Option Link). count_of (tree_of (shapes_of s)) (link_number o)) e.1, sound.small e.0.number, few)
 ]
 
 module _ {T : Type 0} (wt : T → Own) (s : Store T) (root : Option Link) (m : BTreeMap Identifier Link) (r : IsRope wt s root m) where
   nodes : (x : ℕ) → Among x (order s root) → x < made_count s
   nodes = all-made s root r.sound
 
-  pub order-length : length (items_of s root) ≡ length (order s root)
+  pub order-length : length (rope_items_of s root) ≡ length (order s root)
   order-length = items-length s (order s root) nodes
 
-  pub stands : (k : Identifier) (l : Link) → get id_cmp m k ≡ Some l → (i : ℕ) → i < length (order s root) → get_or (order s root) i 0 ≡ l.number → StandsAt (items_of s root) i k
+  pub stands : (k : Identifier) (l : Link) → get id_cmp m k ≡ Some l → (i : ℕ) → i < length (order s root) → get_or (order s root) i 0 ≡ l.number → StandsAt (rope_items_of s root) i k
   stands k l e i h at = items-key s (order s root) nodes i h ∙ ap (λ (x : ℕ). Some (shape_at (shapes_of s) x).key) at ∙ ap Some (r.keyed k l e)
 
-  pub weighs-to : (i w : ℕ) → w ≡ weigh (shapes_of s) (take i (order s root)) → w ≡ weight_sum (λ x. (wt x).weight) (take i (items_of s root))
+  pub weighs-to : (i w : ℕ) → w ≡ weigh (shapes_of s) (take i (order s root)) → w ≡ weight_sum (λ x. (wt x).weight) (take i (rope_items_of s root))
   weighs-to i w e = e ∙ sym (items-weigh s wt r.weighs (take i (order s root)) (λ x a. nodes x (among-take x i (order s root) a))) ∙ ap (weight_sum (λ x. (wt x).weight)) (sym (items-take s (order s root) nodes i))
 
-  pub weighs-all : weight_sum (λ x. (wt x).weight) (items_of s root) ≡ weigh (shapes_of s) (order s root)
+  pub weighs-all : weight_sum (λ x. (wt x).weight) (rope_items_of s root) ≡ weigh (shapes_of s) (order s root)
   weighs-all = items-weigh s wt r.weighs (order s root) nodes
 
-  pub unit : (w : ℕ) (l : Link) (u : ℕ) → IsFound (shapes_of s) (order s root) w l u → IsUnit (λ x. (wt x).weight) (items_of s root) w (shape_at (shapes_of s) l.number).key u
+  pub unit : (w : ℕ) (l : Link) (u : ℕ) → IsFound (shapes_of s) (order s root) w l u → IsUnit (λ x. (wt x).weight) (rope_items_of s root) w (shape_at (shapes_of s) l.number).key u
   unit w l u f =
       let front-nodes : AreNodes s f.front = λ x a. nodes x (subst (Among x) (sym f.split) (among-left x f.front (l.number ∷ f.back) a)) in
       let here : l.number < made_count s = nodes l.number (subst (Among l.number) (sym f.split) (among-right l.number f.front (l.number ∷ f.back) (inl refl))) in
@@ -112,8 +112,8 @@ module _ {T : Type 0} (wt : T → Own) (s : Store T) (root : Option Link) (m : B
         inside = subst (λ n. u < n) (ap (λ o. o.weight) (r.weighs l.number it.0 it.1)) f.inside;
       }
 
-  some-held : (q : Identifier) → IsSome (get id_cmp m q) → IsSome (value_under q (items_of s root))
-  some-held q h = elim (link-or-none (get id_cmp m q)) as (λ _. IsSome (value_under q (items_of s root))) [
+  some-held : (q : Identifier) → IsSome (get id_cmp m q) → IsSome (value_under q (rope_items_of s root))
+  some-held q h = elim (link-or-none (get id_cmp m q)) as (λ _. IsSome (value_under q (rope_items_of s root))) [
     | inl e ↦ absurd (not-some (get id_cmp m q) e h)
     | inr e ↦ (let v = value-made s e.0.number (made-below s e.0 (r.mapped q e.0 e.1)) in ap is_some (held wt s root m r q e.0 e.1 v.0 v.1))
   ] where
@@ -121,37 +121,37 @@ module _ {T : Type 0} (wt : T → Own) (s : Store T) (root : Option Link) (m : B
     not-some None e h = cc
     not-some (Some l) e h = cc
 
-  held-some : (q : Identifier) → IsSome (value_under q (items_of s root)) → IsSome (get id_cmp m q)
+  held-some : (q : Identifier) → IsSome (value_under q (rope_items_of s root)) → IsSome (get id_cmp m q)
   held-some q h = elim (link-or-none (get id_cmp m q)) as (λ _. IsSome (get id_cmp m q)) [
     | inl e ↦ (let no : false ≡ true = ap is_some (sym (not-held wt s root m r q e)) ∙ h in absurd (cc))
     | inr e ↦ ap is_some e.1
   ]
 
-  pub floor-seen : (key : Identifier) (o : Option Identifier) → IsFloorKey m key o → IsFloor (items_of s root) key o
+  pub floor-seen : (key : Identifier) (o : Option Identifier) → IsFloorKey m key o → IsFloor (rope_items_of s root) key o
   floor-seen key None f = λ q le. not-held wt s root m r q (f q le)
   floor-seen key (Some k) f = (some-held k f.0, f.1, λ q le h. f.2 q le (held-some q h))
 
-  pub key-seen : (i : ℕ) (l : Link) → i < length (order s root) → get_or (order s root) i 0 ≡ l.number → slice_get (keys_of (items_of s root)) i ≡ Some (shape_at (shapes_of s) l.number).key
+  pub key-seen : (i : ℕ) (l : Link) → i < length (order s root) → get_or (order s root) i 0 ≡ l.number → slice_get (keys_of (rope_items_of s root)) i ≡ Some (shape_at (shapes_of s) l.number).key
   key-seen i l h at = items-key s (order s root) nodes i h ∙ ap (λ (x : ℕ). Some (shape_at (shapes_of s) x).key) at
 
-  pub key-past : (i : ℕ) → length (order s root) ≤ i → slice_get (keys_of (items_of s root)) i ≡ None
-  key-past i h = past (items_of s root) i (omega (arith, h, order-length)) where
+  pub key-past : (i : ℕ) → length (order s root) ≤ i → slice_get (keys_of (rope_items_of s root)) i ≡ None
+  key-past i h = past (rope_items_of s root) i (omega (arith, h, order-length)) where
     past : (xs : List (Identifier × T)) (i : ℕ) → length xs ≤ i → slice_get (keys_of xs) i ≡ None
     past [] i h = refl
     past (x ∷ xs) zero h = absurd (omega (arith, h))
     past (x ∷ xs) (suc i) h = past xs i (omega (arith, h))
 
-  pub value-seen : (i : ℕ) (l : Link) (v : T) → i < length (order s root) → get_or (order s root) i 0 ≡ l.number → slice_get (values_of s) l.number ≡ Some v → option_map (λ x. x.1) (slice_get (items_of s root) i) ≡ Some v
+  pub value-seen : (i : ℕ) (l : Link) (v : T) → i < length (order s root) → get_or (order s root) i 0 ≡ l.number → slice_get (values_of s) l.number ≡ Some v → option_map (λ x. x.1) (slice_get (rope_items_of s root) i) ≡ Some v
   value-seen i l v h at is = ap (option_map (λ (x : Identifier × T). x.1)) (items-item s (order s root) nodes i v h (ap (slice_get (values_of s)) at ∙ is))
 
-  pub value-past : (i : ℕ) → length (order s root) ≤ i → option_map (λ x. x.1) (slice_get (items_of s root) i) ≡ None
-  value-past i h = past (items_of s root) i (omega (arith, h, order-length)) where
+  pub value-past : (i : ℕ) → length (order s root) ≤ i → option_map (λ x. x.1) (slice_get (rope_items_of s root) i) ≡ None
+  value-past i h = past (rope_items_of s root) i (omega (arith, h, order-length)) where
     past : (xs : List (Identifier × T)) (i : ℕ) → length xs ≤ i → option_map (λ x. x.1) (slice_get xs i) ≡ None
     past [] i h = refl
     past (x ∷ xs) zero h = absurd (omega (arith, h))
     past (x ∷ xs) (suc i) h = past xs i (omega (arith, h))
 
-  pub few-items : length (items_of s root) < 4194306
+  pub few-items : length (rope_items_of s root) < 4194306
   few-items = few-nodes s root r.sound r.few
 
 pub no-more : {T : Type 0} (xs : List (Identifier × T)) (i : ℕ) → slice_get (keys_of xs) i ≡ None → length xs ≤ i

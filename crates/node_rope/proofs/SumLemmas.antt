@@ -1,10 +1,10 @@
 -- A subtree's sum is the sum of its nodes in order.
 use Rattle.std.proofs.Common.{◌≡◌, ℕ, zero, suc, ◌+◌, ◌≤◌, List, [], ◌∷◌, ◌++◌, length, take, drop, Option, None, Some, refl, sym, ap, ◌∙◌, arith}
-use Rattle.node_rope.specs.Walk.{Tree, count_of, whole, IsCounted}
-use Rattle.node_rope.specs.Sums.{Measure, IsLawful, adding, sum_of, IsSummed, fold}
+use Rattle.node_rope.specs.Walk.{Tree, count_of, whole, HasCounts}
+use Rattle.node_rope.specs.Sums.{Measure, IsLawful, sum_measure, sum_of, IsSummed, fold}
 use Rattle.node_rope.proofs.WalkLemmas.{whole-node, length-whole}
 
-pub adding-lawful : IsLawful adding
+pub adding-lawful : IsLawful sum_measure
 adding-lawful = record { before = λ a. omega arith; assoc = λ a b c. omega arith }
 
 module _ {M : Type 0} (m : Measure M) (L : IsLawful m) where
@@ -12,7 +12,7 @@ module _ {M : Type 0} (m : Measure M) (L : IsLawful m) where
   fold-append own [] ys = sym (L.before (fold m own ys))
   fold-append own (x ∷ xs) ys = ap (m.both (own x)) (fold-append own xs ys) ∙ sym (L.assoc (own x) (fold m own xs) (fold m own ys))
 
-  module _ (t : Tree) (ct : IsCounted t) (own s : ℕ → M) (summed : IsSummed m t own s) where
+  module _ (t : Tree) (ct : HasCounts t) (own s : ℕ → M) (summed : IsSummed m t own s) where
     sums : (k : ℕ) (o : Option ℕ) → count_of t o ≤ k → sum_of m s o ≡ fold m own (whole t o)
     sums k None h = refl
     sums zero (Some x) h = absurd (omega (arith, ct x))
@@ -66,7 +66,7 @@ take-all (x ∷ xs) zero e = absurd (omega arith)
 take-all (x ∷ xs) (suc i) e = ap (λ zs. x ∷ zs) (take-all xs i (omega arith))
 
 -- ---- the nodes before a place
-module _ (t : Tree) (ct : IsCounted t) where
+module _ (t : Tree) (ct : HasCounts t) where
   pub first-self : (x i : ℕ) → i ≡ count_of t (t.left x) → take i (whole t (Some x)) ≡ whole t (t.left x)
   first-self x i e = let l = length-whole t ct (t.left x) in
       ap (take i) (whole-node t ct x) ∙ take-first (whole t (t.left x)) (x ∷ whole t (t.right x)) i (omega (arith, l, e)) ∙ take-all (whole t (t.left x)) i (omega (arith, l, e))

@@ -1,7 +1,7 @@
 -- A rotated tree is counted and linked as before.
 use Rattle.std.proofs.Common.{◌≡◌, ℕ, ◌+◌, ◌<◌, ◌≢◌, ◌⊎◌, inl, inr, Option, None, Some, refl, sym, ap, ◌∙◌, subst, arith}
 use Rattle.std.proofs.lemmas.Bool.Decides.{eqb_tells}
-use Rattle.node_rope.specs.Walk.{Tree, count_of, IsCounted, IsLinked, moved, IsTurned}
+use Rattle.node_rope.specs.Walk.{Tree, count_of, HasCounts, IsLinked, moved, IsTurned}
 use Rattle.node_rope.specs.Sums.{Measure, sum_of, IsSummed}
 use Rattle.node_rope.proofs.WalkLemmas.{below-left, below-right, moved-other, moved-here, some-same, none-some}
 
@@ -21,7 +21,7 @@ moved-cases p c (Some x) m e = elim (same-or-not x p) as (λ _. ((Some x ≡ Som
       inr (is, λ g. f (some-same x m is ∙ g)))
 ]
 
-module _ (t u : Tree) (ct : IsCounted t) (linked : IsLinked t) (p c : ℕ) (n : IsTurned t u p c) where
+module _ (t u : Tree) (ct : HasCounts t) (linked : IsLinked t) (p c : ℕ) (n : IsTurned t u p c) where
   open n use {rotated}
 
   low : t.count c < t.count p
@@ -48,7 +48,7 @@ module _ (t u : Tree) (ct : IsCounted t) (linked : IsLinked t) (p c : ℕ) (n : 
     | inr e ↦ ap (count_of u) (moved-other p c (Some m) (λ f. e (some-same m p f))) ∙ n.count_others m e (λ f. differs (some-same x p (sym (back m refl) ∙ ap t.parent f ∙ linked.from_left p c rotated.was)))
   ]
 
-  pub turned-counted : IsCounted u
+  pub turned-counted : HasCounts u
   turned-counted i = elim (same-or-not i c) as (λ _. u.count i ≡ count_of u (u.left i) + (count_of u (u.right i) + 1)) [
     | inl e ↦ subst (λ (j : ℕ). u.count j ≡ count_of u (u.left j) + (count_of u (u.right j) + 1)) (sym e)
         (omega (arith, n.count_c, n.count_p, ct p, ct c, ap (count_of t) rotated.was, ap (count_of u) rotated.c_left, ap (count_of u) rotated.c_right, under-c (t.left c) (below-left t ct c)))

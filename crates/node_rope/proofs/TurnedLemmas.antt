@@ -1,13 +1,13 @@
 -- A store's tree is sound again after a rotation, and its order is the same.
 use Rattle.std.proofs.Common.{◌≡◌, ℕ, suc, ◌+◌, ◌-◌, min, ◌<◌, ◌≤◌, ◌≢◌, ◌⊎◌, inl, inr, List, length, Option, None, Some, refl, sym, ap, ◌∙◌, subst, arith}
 use Rattle.node_rope.specs.declared.store.Store.{Store}
-use Rattle.node_rope.specs.declared.side.Side.TheVariants.{Left}
+use Rattle.node_rope.specs.declared.turn.Side.TheVariants.{Left}
 use Rattle.node_rope.specs.declared.cells.Shape.{Shape}
 use Rattle.node_rope.specs.declared.cells.Link.{Link}
 use Rattle.node_rope.specs.Made.{IsMade, IsKept, made_count, shapes_of}
-use Rattle.node_rope.specs.Shapes.{IsSound, AreMade, shape_at, number_of, tree_of, weights, owns, leasts, ranks, order, weight_at, least_at, IsWeighed, IsRanked}
-use Rattle.node_rope.specs.Walk.{Tree, count_of, whole, IsCounted, IsLinked, IsTurned, moved}
-use Rattle.node_rope.specs.Sums.{adding, lesser, sum_of}
+use Rattle.node_rope.specs.Shapes.{HasRightLinks, AreMade, shape_at, link_number, tree_of, weights, owns, leasts, ranks, order, weight_at, least_at, IsWeighed, IsRanked}
+use Rattle.node_rope.specs.Walk.{Tree, count_of, whole, HasCounts, IsLinked, IsTurned, moved}
+use Rattle.node_rope.specs.Sums.{sum_measure, lesser, sum_of}
 use Rattle.node_rope.specs.Turned.{swapped, with_child, lifted, SameItems}
 use Rattle.node_rope.proofs.WalkLemmas.{none-some, rotated-walk}
 use Rattle.node_rope.proofs.TurnLemmas.{same-or-not, turned-counted, turned-linked, turned-sums, turned-below, turned-top, turned-crown}
@@ -19,16 +19,16 @@ use Rattle.node_rope.proofs.LiftedLemmas as lifts
 
 -- c stands above p in the place of p, and the order is the same
 pub record IsLifted {T : Type 0} (s v : Store T) (root root' : Option Link) (p c : Link) : Type 0 where
-  pub sound : IsSound v root'
+  pub sound : HasRightLinks v root'
   pub same_order : order v root' ≡ order s root
   pub items : SameItems (shapes_of s) (shapes_of v)
   pub taller : (shape_at (shapes_of v) c.number).count ≡ (shape_at (shapes_of s) p.number).count
   pub lower : (shape_at (shapes_of v) p.number).count < (shape_at (shapes_of s) p.number).count
   pub above : (shape_at (shapes_of v) c.number).parent ≡ (shape_at (shapes_of s) p.number).parent
 
-module _ {T : Type 0} (s v : Store T) (root root' : Option Link) (p c : Link) (sound : IsSound s root) (made_p : IsMade s p) (made_c : IsMade s c) (was : number_of (shape_at (shapes_of s) p.number).left ≡ Some c.number)
+module _ {T : Type 0} (s v : Store T) (root root' : Option Link) (p c : Link) (sound : HasRightLinks s root) (made_p : IsMade s p) (made_c : IsMade s c) (was : link_number (shape_at (shapes_of s) p.number).left ≡ Some c.number)
     (is : shapes_of v ≡ with_child (lifted Left (shapes_of s) p c (shape_at (shapes_of s) p.number) (shape_at (shapes_of s) c.number)) (shape_at (shapes_of s) p.number).parent p.number c)
-    (kept : IsKept s v) (count : made_count v ≡ made_count s) (moves : number_of root' ≡ moved p.number c.number (number_of root)) (made_root' : AreMade v root') where
+    (kept : IsKept s v) (count : made_count v ≡ made_count s) (moves : link_number root' ≡ moved p.number c.number (link_number root)) (made_root' : AreMade v root') where
   abbrev ss : List Shape
   ss = shapes_of s
 
@@ -47,19 +47,19 @@ module _ {T : Type 0} (s v : Store T) (root root' : Option Link) (p c : Link) (s
   in_c : c.number < length ss
   in_c = let h = made-below s c made_c in omega (arith, h, length-shapes s)
 
-  in_middle : (m : ℕ) → number_of (shape_at ss c.number).right ≡ Some m → m < length ss
+  in_middle : (m : ℕ) → link_number (shape_at ss c.number).right ≡ Some m → m < length ss
   in_middle m e = (are-within s root sound).rights c.number m e
 
-  in_top : (g : ℕ) → number_of (shape_at ss p.number).parent ≡ Some g → g < length ss
+  in_top : (g : ℕ) → link_number (shape_at ss p.number).parent ≡ Some g → g < length ss
   in_top g e = (are-within s root sound).parents p.number g e
 
-  over : (g : ℕ) → number_of (shape_at ss p.number).parent ≡ Some g → (number_of (shape_at ss g).left ≡ Some p.number) ⊎ (number_of (shape_at ss g).right ≡ Some p.number)
+  over : (g : ℕ) → link_number (shape_at ss p.number).parent ≡ Some g → (link_number (shape_at ss g).left ≡ Some p.number) ⊎ (link_number (shape_at ss g).right ≡ Some p.number)
   over g e = sound.below p.number g e
 
   n : IsTurned t u p.number c.number
   n = lifts.turned ss p c sound.counted sound.linked was in_p in_c in_middle in_top over
 
-  pub turned_p : shape_at vs p.number ≡ record (shape_at ss p.number) { left = (shape_at ss c.number).right; parent = Some c; count = ((shape_at ss p.number).count - (shape_at ss c.number).count) + count_of t (number_of (shape_at ss c.number).right); weight = ((shape_at ss p.number).weight - (shape_at ss c.number).weight) + weight_at ss (shape_at ss c.number).right; least = min (least_at ss (shape_at ss c.number).right) (min (shape_at ss p.number).own.rank (least_at ss (shape_at ss p.number).right)) }
+  pub turned_p : shape_at vs p.number ≡ record (shape_at ss p.number) { left = (shape_at ss c.number).right; parent = Some c; count = ((shape_at ss p.number).count - (shape_at ss c.number).count) + count_of t (link_number (shape_at ss c.number).right); weight = ((shape_at ss p.number).weight - (shape_at ss c.number).weight) + weight_at ss (shape_at ss c.number).right; least = min (least_at ss (shape_at ss c.number).right) (min (shape_at ss p.number).own.rank (least_at ss (shape_at ss p.number).right)) }
   turned_p = lifts.all_p ss p c sound.counted sound.linked was in_p in_c in_middle in_top over
 
   pub turned_c : shape_at vs c.number ≡ record (shape_at ss c.number) { right = Some p; parent = (shape_at ss p.number).parent; count = (shape_at ss p.number).count; weight = (shape_at ss p.number).weight; least = (shape_at ss p.number).least }
@@ -84,7 +84,7 @@ module _ {T : Type 0} (s v : Store T) (root root' : Option Link) (p c : Link) (s
   pub key-kept : (i : ℕ) → (shape_at vs i).key ≡ (shape_at ss i).key
   key-kept = every (λ h. h.key) (ap (λ h. h.key) turned_p) (ap (λ h. h.key) turned_c) (rest (λ h. h.key) (λ h q. refl) (λ h q. refl) (λ h q. refl))
 
-  counted-now : IsCounted u
+  counted-now : HasCounts u
   counted-now = turned-counted t u sound.counted sound.linked p.number c.number n
 
   linked-now : IsLinked u
@@ -93,9 +93,9 @@ module _ {T : Type 0} (s v : Store T) (root root' : Option Link) (p c : Link) (s
   weighed-now : IsWeighed vs
   weighed-now i =
       let below_right = weight-sum ss (shape_at ss c.number).right in
-      let at_p : (shape_at vs p.number).weight ≡ sum_of adding (weights ss) (t.right c.number) + ((shape_at ss p.number).own.weight + sum_of adding (weights ss) (t.right p.number)) =
-      omega (arith, ap (λ h. h.weight) turned_p, sound.weighed p.number, ap (sum_of adding (weights ss)) was, below_right) in
-      let all = (turned-sums t u sound.counted sound.linked p.number c.number n adding adding-commutes.assoc (owns ss) (weights ss) (weights vs) sound.weighed
+      let at_p : (shape_at vs p.number).weight ≡ sum_of sum_measure (weights ss) (t.right c.number) + ((shape_at ss p.number).own.weight + sum_of sum_measure (weights ss) (t.right p.number)) =
+      omega (arith, ap (λ h. h.weight) turned_p, sound.weighed p.number, ap (sum_of sum_measure (weights ss)) was, below_right) in
+      let all = (turned-sums t u sound.counted sound.linked p.number c.number n sum_measure adding-commutes.assoc (owns ss) (weights ss) (weights vs) sound.weighed
       (ap (λ h. h.weight) turned_c) at_p (rest (λ h. h.weight) (λ h q. refl) (λ h q. refl) (λ h q. refl))) in
       omega (arith, all i, ap (λ o. o.weight) (own-kept i))
 
@@ -121,7 +121,7 @@ module _ {T : Type 0} (s v : Store T) (root root' : Option Link) (p c : Link) (s
       → ((i : ℕ) → AreMade s (f (shape_at ss i))) → (i : ℕ) → i ≢ p.number → i ≢ c.number → AreMade v (f (shape_at vs i))
   elsewhere-made f w q old i ip ic m e =
       let was_made : (k : Link) → f (shape_at ss i) ≡ Some k → IsMade v k = λ k x. kept k (old i k x) in
-      elim (some-or-not (number_of (shape_at ss p.number).parent) i) as (λ _. IsMade v m) [
+      elim (some-or-not (link_number (shape_at ss p.number).parent) i) as (λ _. IsMade v m) [
         | inl g ↦ elim (w (shape_at ss i) m (sym (ap f (lifts.at_top ss p c sound.counted sound.linked was in_p in_c in_middle in_top over i ip ic g)) ∙ e)) as (λ _. IsMade v m) [
           | inl y ↦ subst (λ (k : Link). IsMade v k) (sym y) (kept c made_c)
           | inr y ↦ was_made m y
@@ -165,14 +165,14 @@ module _ {T : Type 0} (s v : Store T) (root root' : Option Link) (p c : Link) (s
     ]
   ]
 
-  pub sound-turned : IsSound v root'
+  pub sound-turned : HasRightLinks v root'
   sound-turned = record {
-    counted = subst (λ (xs : List Shape). IsCounted (tree_of xs)) (sym is) counted-now;
+    counted = subst (λ (xs : List Shape). HasCounts (tree_of xs)) (sym is) counted-now;
     weighed = subst (λ (xs : List Shape). IsWeighed xs) (sym is) weighed-now;
     ranked = subst (λ (xs : List Shape). IsRanked xs) (sym is) ranked-now;
     linked = subst (λ (xs : List Shape). IsLinked (tree_of xs)) (sym is) linked-now;
-    top = λ i h f. moves ∙ turned-top t u sound.counted sound.linked p.number c.number n (λ (k : ℕ). k < made_count s) (made-below s p made_p) (number_of root) (λ k hk e. sound.top k hk (unnumbered (shape_at ss k).parent e)) i (omega (arith, h, count)) (ap number_of (sym (ap (λ (xs : List Shape). (shape_at xs i).parent) is) ∙ f));
-    crown = λ i f. ap (λ (xs : List Shape). (shape_at xs i).parent) is ∙ unnumbered (shape_at vs i).parent (turned-crown t u sound.counted sound.linked p.number c.number n (number_of root) (λ k e. ap number_of (sound.crown k e)) i (sym moves ∙ f));
+    top = λ i h f. moves ∙ turned-top t u sound.counted sound.linked p.number c.number n (λ (k : ℕ). k < made_count s) (made-below s p made_p) (link_number root) (λ k hk e. sound.top k hk (unnumbered (shape_at ss k).parent e)) i (omega (arith, h, count)) (ap link_number (sym (ap (λ (xs : List Shape). (shape_at xs i).parent) is) ∙ f));
+    crown = λ i f. ap (λ (xs : List Shape). (shape_at xs i).parent) is ∙ unnumbered (shape_at vs i).parent (turned-crown t u sound.counted sound.linked p.number c.number n (link_number root) (λ k e. ap link_number (sound.crown k e)) i (sym moves ∙ f));
     below = subst (λ (xs : List Shape). (i q : ℕ) → (tree_of xs).parent i ≡ Some q → ((tree_of xs).left q ≡ Some i) ⊎ ((tree_of xs).right q ≡ Some i)) (sym is) below-now;
     made_left = λ i m f. lefts-now i m (sym (ap (λ (xs : List Shape). (shape_at xs i).left) is) ∙ f);
     made_right = λ i m f. rights-now i m (sym (ap (λ (xs : List Shape). (shape_at xs i).right) is) ∙ f);
@@ -181,11 +181,11 @@ module _ {T : Type 0} (s v : Store T) (root root' : Option Link) (p c : Link) (s
     small = λ i. subst (λ (xs : List Shape). (shape_at xs i).count ≤ suc (made_count v)) (sym is) (small-now i);
   }
 
-  root-not-c : number_of root ≡ Some c.number → ⊥
-  root-not-c e = none-some p.number (sym (ap number_of (sound.crown c.number e)) ∙ sound.linked.from_left p.number c.number was)
+  root-not-c : link_number root ≡ Some c.number → ⊥
+  root-not-c e = none-some p.number (sym (ap link_number (sound.crown c.number e)) ∙ sound.linked.from_left p.number c.number was)
 
   pub order-turned : order v root' ≡ order s root
-  order-turned = ap (λ xs. whole (tree_of xs) (number_of root')) is ∙ ap (whole u) moves ∙ rotated-walk t u sound.counted counted-now sound.linked p.number c.number n.rotated (count_of t (number_of root)) (number_of root) (omega arith) root-not-c
+  order-turned = ap (λ xs. whole (tree_of xs) (link_number root')) is ∙ ap (whole u) moves ∙ rotated-walk t u sound.counted counted-now sound.linked p.number c.number n.rotated (count_of t (link_number root)) (link_number root) (omega arith) root-not-c
 
   pub risen-left : IsLifted s v root root' p c
   risen-left = record {

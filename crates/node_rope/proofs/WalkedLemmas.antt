@@ -8,9 +8,9 @@ use Rattle.fugue_ids.specs.Identifiers.{Identifier}
 use Rattle.node_rope.specs.declared.store.Store.{Store}
 use Rattle.node_rope.specs.declared.cells.Link.{Link}
 use Rattle.node_rope.specs.Made.{made_count, values_of}
-use Rattle.node_rope.specs.Shapes.{AreMade, IsSound, number_of, order}
+use Rattle.node_rope.specs.Shapes.{AreMade, HasRightLinks, link_number, order}
 use Rattle.node_rope.specs.Found.{IsFollowed}
-use Rattle.node_rope.specs.Items.{items_of}
+use Rattle.node_rope.specs.Items.{rope_items_of}
 use Rattle.node_rope.specs.Walked.{IsNext}
 use Rattle.node_rope.proofs.ItemLemmas.{length-order}
 use Rattle.node_rope.proofs.KeyLemmas.{all-made}
@@ -41,10 +41,10 @@ drop-next xs i = let one : i + 1 ≡ suc i = omega arith in ap (λ n. drop n xs)
 
 module _ {T : Type 0} (s : Store T) (root : Option Link) where
   -- the first node
-  pub next-first : IsSound s root → made_count s < 4194305 → (l : Link) → AreMade s (Some l) → 0 < length (order s root) → get_or (order s root) 0 0 ≡ l.number → IsNext s root 0 (Some l)
+  pub next-first : HasRightLinks s root → made_count s < 4194305 → (l : Link) → AreMade s (Some l) → 0 < length (order s root) → get_or (order s root) 0 0 ≡ l.number → IsNext s root 0 (Some l)
   next-first sound few l made h at = record { sound = sound; few = few; made = made; is = ap Some (sym at) ∙ sym (slice_get-get_or (order s root) 0 0 h) }
 
-  pub next-none : IsSound s root → made_count s < 4194305 → length (order s root) ≤ 0 → IsNext s root 0 None
+  pub next-none : HasRightLinks s root → made_count s < 4194305 → length (order s root) ≤ 0 → IsNext s root 0 None
   next-none sound few h = record { sound = sound; few = few; made = λ l e. cc; is = sym (slice_get_past (order s root) 0 h) }
 
   module _ (passed : ℕ) (l : Link) (n : IsNext s root passed (Some l)) where
@@ -58,7 +58,7 @@ module _ {T : Type 0} (s : Store T) (root : Option Link) where
     few-passed = omega (arith, inside, length-order s root n.sound, few-nodes s root n.sound n.few)
 
     -- the node behind the next one
-    pub next-behind : (o : Option Link) → AreMade s o → IsFollowed (order s root) l.number (number_of o) → IsNext s root (passed + 1) o
+    pub next-behind : (o : Option Link) → AreMade s o → IsFollowed (order s root) l.number (link_number o) → IsNext s root (passed + 1) o
     next-behind o made f =
         let long : length f.front < length (order s root) = omega (arith, ap length f.split, length-append f.front (l.number ∷ f.back)) in
         let there : get_or (order s root) (length f.front) 0 ≡ l.number = ap (λ xs. get_or xs (length f.front) 0) f.split ∙ get_or-append_seam f.front l.number f.back 0 in
@@ -71,10 +71,10 @@ module _ {T : Type 0} (s : Store T) (root : Option Link) where
           is = f.next ∙ sym (behind-front f.front l.number f.back) ∙ sym (ap (λ xs. slice_get xs (suc (length f.front))) f.split) ∙ sym (ap (slice_get (order s root)) one);
         }
 
-    pub next-value : (v : T) → slice_get (values_of s) l.number ≡ Some v → option_map (λ x. x.1) (slice_get (drop passed (items_of s root)) 0) ≡ Some v
+    pub next-value : (v : T) → slice_get (values_of s) l.number ≡ Some v → option_map (λ x. x.1) (slice_get (drop passed (rope_items_of s root)) 0) ≡ Some v
     next-value v is =
-        ap (option_map (λ (x : Identifier × T). x.1)) (first-left (items_of s root) passed ∙ items-item s (order s root) (all-made s root n.sound) passed v inside (ap (slice_get (values_of s)) at ∙ is))
+        ap (option_map (λ (x : Identifier × T). x.1)) (first-left (rope_items_of s root) passed ∙ items-item s (order s root) (all-made s root n.sound) passed v inside (ap (slice_get (values_of s)) at ∙ is))
 
   -- nothing is left
-  pub none-left : (passed : ℕ) → IsNext s root passed None → drop passed (items_of s root) ≡ []
-  none-left passed n = drop_all passed (items_of s root) (omega (arith, past-end (order s root) passed n.is, length-order s root n.sound))
+  pub none-left : (passed : ℕ) → IsNext s root passed None → drop passed (rope_items_of s root) ≡ []
+  none-left passed n = drop_all passed (rope_items_of s root) (omega (arith, past-end (order s root) passed n.is, length-order s root n.sound))

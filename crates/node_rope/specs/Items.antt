@@ -7,7 +7,7 @@ use Rattle.node_rope.specs.declared.store.Store.{Store}
 use Rattle.node_rope.specs.declared.cells.Link.{Link}
 use Rattle.node_rope.specs.declared.cells.Own.{Own}
 use Rattle.node_rope.specs.Made.{IsMade, made_count, shapes_of, values_of}
-use Rattle.node_rope.specs.Shapes.{AreRanksFit, IsSound, order, shape_at}
+use Rattle.node_rope.specs.Shapes.{AreRanksFit, HasRightLinks, order, shape_at}
 
 -- the value of the item with the key k
 abbrev pub value_under : {T : Type 0} → Identifier → List (Identifier × T) → Option T
@@ -16,8 +16,8 @@ value_under k = lookup (λ q. id_eq q k)
 abbrev pub item_at : {T : Type 0} → Store T → ℕ → List (Identifier × T)
 item_at s i = option_to_list (option_map (λ n. (n.shape.key, n.value)) (slice_get s.pile.values i))
 
-abbrev pub items_of : {T : Type 0} → Store T → Option Link → List (Identifier × T)
-items_of s root = flat_map (item_at s) (order s root)
+abbrev pub rope_items_of : {T : Type 0} → Store T → Option Link → List (Identifier × T)
+rope_items_of s root = flat_map (item_at s) (order s root)
 
 -- what a value counts for
 abbrev pub own_of : {T : Type 0} → (T → ℕ) → (T → ℕ) → T → Own
@@ -25,7 +25,7 @@ own_of weight_of rank_of v = record { weight = weight_of v; rank = rank_of v }
 
 -- the store's tree is sound and light, each node tells what its value counts for, and the map has each node under its key and no other
 pub record IsRope {T : Type 0} (counts_for : T → Own) (s : Store T) (root : Option Link) (m : BTreeMap Identifier Link) : Type 0 where
-  pub sound : IsSound s root
+  pub sound : HasRightLinks s root
   pub few : made_count s < 4194305
   pub light : (i : ℕ) → (shape_at (shapes_of s) i).own.weight < 4194305
   pub fits : AreRanksFit (shapes_of s)

@@ -15,8 +15,8 @@ abbrev pub IsSet : BTreeMap Identifier Link → BTreeMap Identifier Link → Ide
 IsSet m n k w = (get id_cmp n k ≡ w) × ((q : Identifier) → q ≢ k → get id_cmp n q ≡ get id_cmp m q)
 
 -- n has what m has
-abbrev pub IsSame : BTreeMap Identifier Link → BTreeMap Identifier Link → Type 0
-IsSame m n = (q : Identifier) → get id_cmp n q ≡ get id_cmp m q
+abbrev pub HasSameLinks : BTreeMap Identifier Link → BTreeMap Identifier Link → Type 0
+HasSameLinks m n = (q : Identifier) → get id_cmp n q ≡ get id_cmp m q
 
 -- the greatest key of m that is not above this one
 abbrev pub IsFloorKey : BTreeMap Identifier Link → Identifier → Option Identifier → Type 0

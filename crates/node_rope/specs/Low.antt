@@ -1,13 +1,13 @@
 -- The first and the last of a list that is low: whose rank is at most a number.
 use Rattle.std.specs.Prelude.{ℕ, Bool, false, cond, nat_le, List, [], ◌∷◌, Option, None, Some}
-use Rattle.node_rope.specs.declared.side.Side.{Side}
+use Rattle.node_rope.specs.declared.turn.Side.{Side}
 use Rattle.node_rope.specs.declared.store.Store.{Store}
 use Rattle.node_rope.specs.declared.cells.Shape.{Shape}
 use Rattle.node_rope.specs.declared.cells.Link.{Link}
 use Rattle.node_rope.specs.Made.{shapes_of}
 use Rattle.node_rope.specs.Walk.{whole}
 use Rattle.node_rope.specs.Sides.{seen, faced}
-use Rattle.node_rope.specs.Shapes.{shape_at, number_of, tree_of, ranks}
+use Rattle.node_rope.specs.Shapes.{shape_at, link_number, tree_of, ranks}
 
 -- the one, or where there is none, the other
 abbrev pub or_else : {X : Type 0} → Option X → Option X → Option X
@@ -35,7 +35,7 @@ module _ (ss : List Shape) (most : ℕ) where
 
   -- the first low one of the nodes below o, as they are seen from the side
   abbrev pub low_below : Side → Option Link → Option ℕ
-  low_below d o = first_low (ranks ss) most (whole (seen d (tree_of ss)) (number_of o))
+  low_below d o = first_low (ranks ss) most (whole (seen d (tree_of ss)) (link_number o))
 
   -- the first low one of a node and what is below its other side
   abbrev pub low_from : Side → Option Link → Option ℕ
@@ -44,4 +44,4 @@ module _ (ss : List Shape) (most : ℕ) where
 
 -- the nodes in order, as they are seen from the side
 abbrev pub seen_order : {T : Type 0} → Side → Store T → Option Link → List ℕ
-seen_order d s root = whole (seen d (tree_of (shapes_of s))) (number_of root)
+seen_order d s root = whole (seen d (tree_of (shapes_of s))) (link_number root)

@@ -4,7 +4,7 @@ use Rattle.node_rope.specs.declared.store.Store.{Store}
 use Rattle.node_rope.specs.declared.cells.Shape.{Shape}
 use Rattle.node_rope.specs.declared.cells.Link.{Link}
 use Rattle.node_rope.specs.Made.{made_count, shapes_of}
-use Rattle.node_rope.specs.Shapes.{shape_at, number_of, weight_at, least_at, AreMade, IsTree}
+use Rattle.node_rope.specs.Shapes.{shape_at, link_number, weight_at, least_at, AreMade, IsTree}
 
 -- the links and the count are the same
 pub record IsPlaced (g h : Shape) : Type 0 where
@@ -32,10 +32,10 @@ SameOwns ss us = (i : ℕ) → (shape_at us i).own ≡ (shape_at ss i).own
 
 -- the weights, and the least ranks, are right but at o
 abbrev pub IsWeighedBut : List Shape → Option Link → Type 0
-IsWeighedBut ss o = (i : ℕ) → (number_of o ≡ Some i → ⊥) → (shape_at ss i).weight ≡ weight_at ss (shape_at ss i).left + ((shape_at ss i).own.weight + weight_at ss (shape_at ss i).right)
+IsWeighedBut ss o = (i : ℕ) → (link_number o ≡ Some i → ⊥) → (shape_at ss i).weight ≡ weight_at ss (shape_at ss i).left + ((shape_at ss i).own.weight + weight_at ss (shape_at ss i).right)
 
 abbrev pub IsRankedBut : List Shape → Option Link → Type 0
-IsRankedBut ss o = (i : ℕ) → (number_of o ≡ Some i → ⊥) → (shape_at ss i).least ≡ min (least_at ss (shape_at ss i).left) (min (shape_at ss i).own.rank (least_at ss (shape_at ss i).right))
+IsRankedBut ss o = (i : ℕ) → (link_number o ≡ Some i → ⊥) → (shape_at ss i).least ≡ min (least_at ss (shape_at ss i).left) (min (shape_at ss i).own.rank (least_at ss (shape_at ss i).right))
 
 -- the nodes make one tree below root, and its weights and least ranks are right but at o
 pub record IsSoundBut {T : Type 0} (s : Store T) (root o : Option Link) : Type 0 where

@@ -4,8 +4,8 @@ use Rattle.node_rope.specs.declared.store.Store.{Store}
 use Rattle.node_rope.specs.declared.cells.Shape.{Shape}
 use Rattle.node_rope.specs.declared.cells.Link.{Link}
 use Rattle.node_rope.specs.Made.{IsMade, shapes_of, made_count}
-use Rattle.node_rope.specs.Walk.{Tree, whole, IsCounted, IsLinked}
-use Rattle.node_rope.specs.Sums.{adding, lesser, no_rank, IsSummed, fold}
+use Rattle.node_rope.specs.Walk.{Tree, whole, HasCounts, IsLinked}
+use Rattle.node_rope.specs.Sums.{sum_measure, lesser, no_rank, IsSummed, fold}
 
 -- what stands for a number past the last: a node alone
 abbrev pub lone : Shape
@@ -14,11 +14,11 @@ lone = record { key = record { replica = 0; counter = 0 }; left = None; right = 
 abbrev pub shape_at : List Shape → ℕ → Shape
 shape_at ss i = slice_index_or ss i lone
 
-abbrev pub number_of : Option Link → Option ℕ
-number_of = option_map (λ l. l.number)
+abbrev pub link_number : Option Link → Option ℕ
+link_number = option_map (λ l. l.number)
 
 abbrev pub tree_of : List Shape → Tree
-tree_of ss = record { left = λ i. number_of (shape_at ss i).left; right = λ i. number_of (shape_at ss i).right; parent = λ i. number_of (shape_at ss i).parent; count = λ i. (shape_at ss i).count }
+tree_of ss = record { left = λ i. link_number (shape_at ss i).left; right = λ i. link_number (shape_at ss i).right; parent = λ i. link_number (shape_at ss i).parent; count = λ i. (shape_at ss i).count }
 
 -- the weights of subtrees, and of single values
 abbrev pub weights : List Shape → ℕ → ℕ
@@ -48,10 +48,10 @@ least_at ss (Some l) = (shape_at ss l.number).least
 
 -- the weight of nodes
 abbrev pub weigh : List Shape → List ℕ → ℕ
-weigh ss = fold adding (owns ss)
+weigh ss = fold sum_measure (owns ss)
 
 abbrev pub IsWeighed : List Shape → Type 0
-IsWeighed ss = IsSummed adding (tree_of ss) (owns ss) (weights ss)
+IsWeighed ss = IsSummed sum_measure (tree_of ss) (owns ss) (weights ss)
 
 abbrev pub IsRanked : List Shape → Type 0
 IsRanked ss = IsSummed lesser (tree_of ss) (ranks ss) (leasts ss)
@@ -61,13 +61,13 @@ AreMade s o = (l : Link) → o ≡ Some l → IsMade s l
 
 -- the store's nodes make one tree below root, of whose weights and least ranks this holds
 pub record IsTree {T : Type 0} (s : Store T) (root : Option Link) (OfWeights OfRanks : Type 0) : Type 0 where
-  pub counted : IsCounted (tree_of (shapes_of s))
+  pub counted : HasCounts (tree_of (shapes_of s))
   pub weighed : OfWeights
   pub ranked : OfRanks
   pub linked : IsLinked (tree_of (shapes_of s))
-  pub top : (i : ℕ) → i < made_count s → (shape_at (shapes_of s) i).parent ≡ None → number_of root ≡ Some i
-  pub crown : (i : ℕ) → number_of root ≡ Some i → (shape_at (shapes_of s) i).parent ≡ None
-  pub below : (i p : ℕ) → number_of (shape_at (shapes_of s) i).parent ≡ Some p → (number_of (shape_at (shapes_of s) p).left ≡ Some i) ⊎ (number_of (shape_at (shapes_of s) p).right ≡ Some i)
+  pub top : (i : ℕ) → i < made_count s → (shape_at (shapes_of s) i).parent ≡ None → link_number root ≡ Some i
+  pub crown : (i : ℕ) → link_number root ≡ Some i → (shape_at (shapes_of s) i).parent ≡ None
+  pub below : (i p : ℕ) → link_number (shape_at (shapes_of s) i).parent ≡ Some p → (link_number (shape_at (shapes_of s) p).left ≡ Some i) ⊎ (link_number (shape_at (shapes_of s) p).right ≡ Some i)
   pub made_left : (i : ℕ) → AreMade s (shape_at (shapes_of s) i).left
   pub made_right : (i : ℕ) → AreMade s (shape_at (shapes_of s) i).right
   pub made_parent : (i : ℕ) → AreMade s (shape_at (shapes_of s) i).parent
@@ -75,9 +75,9 @@ pub record IsTree {T : Type 0} (s : Store T) (root : Option Link) (OfWeights OfR
   pub small : (i : ℕ) → (shape_at (shapes_of s) i).count ≤ suc (made_count s)
 
 -- and they are right
-abbrev pub IsSound : {T : Type 0} → Store T → Option Link → Type 0
-IsSound s root = IsTree s root (IsWeighed (shapes_of s)) (IsRanked (shapes_of s))
+abbrev pub HasRightLinks : {T : Type 0} → Store T → Option Link → Type 0
+HasRightLinks s root = IsTree s root (IsWeighed (shapes_of s)) (IsRanked (shapes_of s))
 
 -- the numbers of the nodes in order
 abbrev pub order : {T : Type 0} → Store T → Option Link → List ℕ
-order s root = whole (tree_of (shapes_of s)) (number_of root)
+order s root = whole (tree_of (shapes_of s)) (link_number root)

@@ -1,6 +1,6 @@
 -- A node and a tree as they are seen from a side.
-use Rattle.node_rope.specs.declared.side.Side.{Side}
-use Rattle.node_rope.specs.declared.side.Side.TheVariants.{Left, Right}
+use Rattle.node_rope.specs.declared.turn.Side.{Side}
+use Rattle.node_rope.specs.declared.turn.Side.TheVariants.{Left, Right}
 use Rattle.std.specs.Prelude.{ℕ, List}
 use Rattle.node_rope.specs.declared.cells.Shape.{Shape}
 use Rattle.node_rope.specs.Walk.{Tree, before, after, mirror}

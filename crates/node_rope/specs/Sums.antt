@@ -15,8 +15,8 @@ pub record IsCommutative {M : Type 0} (m : Measure M) : Type 0 where
   pub assoc : (a b c : M) → m.both (m.both a b) c ≡ m.both a (m.both b c)
   pub comm : (a b : M) → m.both a b ≡ m.both b a
 
-abbrev pub adding : Measure ℕ
-adding = record { none = 0; both = λ a b. a + b }
+abbrev pub sum_measure : Measure ℕ
+sum_measure = record { none = 0; both = λ a b. a + b }
 
 -- the greatest number of 64 bits stands for the rank of nothing
 abbrev pub no_rank : ℕ

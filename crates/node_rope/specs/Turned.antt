@@ -1,18 +1,18 @@
 -- What a rotation writes.
 use Rattle.std.specs.Prelude.{◌≡◌, ℕ, ◌+◌, ◌-◌, ◌<◌, min, Bool, false, cond, eqb, List, slice_set, Option, None, Some}
-use Rattle.node_rope.specs.declared.side.Side.{Side}
-use Rattle.node_rope.specs.declared.side.Side.TheVariants.{Left, Right}
+use Rattle.node_rope.specs.declared.turn.Side.{Side}
+use Rattle.node_rope.specs.declared.turn.Side.TheVariants.{Left, Right}
 use Rattle.node_rope.specs.declared.cells.Shape.{Shape}
 use Rattle.node_rope.specs.declared.cells.Link.{Link}
 use Rattle.node_rope.specs.declared.store.Store.{Store}
 use Rattle.node_rope.specs.Made.{IsKept, made_count, shapes_of, values_of}
-use Rattle.node_rope.specs.Shapes.{IsSound, shape_at, number_of, tree_of, weight_at, least_at, order}
+use Rattle.node_rope.specs.Shapes.{HasRightLinks, shape_at, link_number, tree_of, weight_at, least_at, order}
 use Rattle.node_rope.specs.Sides.{faced}
 use Rattle.node_rope.specs.Grown.{with_parent}
 use Rattle.node_rope.specs.Walk.{count_of}
 
-abbrev pub count_at : List Shape → Option Link → ℕ
-count_at ss o = count_of (tree_of ss) (number_of o)
+abbrev pub tree_count_at : List Shape → Option Link → ℕ
+tree_count_at ss o = count_of (tree_of ss) (link_number o)
 
 abbrev pub leads : Option Link → ℕ → Bool
 leads None i = false
@@ -36,7 +36,7 @@ with_child ss (Some g) p c = slice_set ss g.number (swapped (shape_at ss g.numbe
 -- the shapes with c, the child of p at the side, above it, and the node over p left as it was. Both are given as seen from there
 unfoldable pub lifted : Side → List Shape → Link → Link → Shape → Shape → List Shape
 lifted d ss p c above below =
-    slice_set (slice_set (with_parent ss below.right (Some p)) p.number (faced d (record above { left = below.right; parent = Some c; count = (above.count - below.count) + count_at ss below.right; weight = (above.weight - below.weight) + weight_at ss below.right; least = min (least_at ss below.right) (min above.own.rank (least_at ss above.right)) })))
+    slice_set (slice_set (with_parent ss below.right (Some p)) p.number (faced d (record above { left = below.right; parent = Some c; count = (above.count - below.count) + tree_count_at ss below.right; weight = (above.weight - below.weight) + weight_at ss below.right; least = min (least_at ss below.right) (min above.own.rank (least_at ss above.right)) })))
     c.number (faced d (record below { right = Some p; parent = above.parent; count = above.count; weight = above.weight; least = above.least }))
 
 -- each node keeps its key and what its value counts for
@@ -45,7 +45,7 @@ SameItems ss us = (i : ℕ) → ((shape_at us i).key ≡ (shape_at ss i).key) ×
 
 -- u has one sound tree below top, with the items and values of s in the order of s below root, and its links are good
 pub record IsRearranged {T : Type 0} (s u : Store T) (root top : Option Link) : Type 0 where
-  pub sound : IsSound u top
+  pub sound : HasRightLinks u top
   pub same_order : order u top ≡ order s root
   pub items : SameItems (shapes_of s) (shapes_of u)
   pub values : values_of u ≡ values_of s

@@ -1,17 +1,16 @@
 // A new node beside another.
 ghost use Rattle.std.specs.Prelude.{◌≡◌, ◌+◌, ◌-◌, ◌^◌, ◌<◌, ◌≤◌, [], ◌∷◌, ◌++◌, flat_map, IfOk, IfErr, Some};
 ghost use Rattle.node_rope.specs.Made.{IsMade, IsKept, made_count, shapes_of, values_of};
-ghost use Rattle.node_rope.specs.Shapes.{IsSound, AreMade, shape_at, order};
+ghost use Rattle.node_rope.specs.Shapes.{HasRightLinks, AreMade, shape_at, order};
 ghost use Rattle.node_rope.specs.Sides.{faced, beside};
 ghost use Rattle.node_rope.specs.Rising.{AreSmall};
 ghost use Rattle.node_rope.specs.Grown.{with_parent, new_beside, joined_beside, IsGrown};
 
-use crate::back::Back;
 use crate::cells::{Link, Own, Shape};
-use crate::climb::{count_below, least_below, weight_below};
-use crate::raise::raise;
-use crate::side::{Side, facing};
+use crate::climb::{count_below, least_below, raise, weight_below};
+use crate::rope::Back;
 use crate::store::Store;
+use crate::turn::{Side, facing};
 use fugue_ids::ElementId;
 
 pub(crate) fn set_parent<T: Drop>(store: &mut Store<T>, link: Option<Link>, parent: Option<Link>)
@@ -59,7 +58,10 @@ fn join<T: Drop>(
     requires made { IsMade store.old at }
     requires near { AreMade store.old (faced side (shape_at (shapes_of store.old) at.number)).left }
     requires few { made_count store.old < 2 ^ 32 - 1 }
-    ensures joined { IfOk result (λ l. (shapes_of store.new ≡ joined_beside side (shapes_of store.old) at l shape) × (values_of store.new ≡ values_of store.old ++ (value ∷ [])) × (l.number ≡ made_count store.old) × IsMade store.new l × (made_count store.new ≡ made_count store.old + 1)) }
+    ensures joined { IfOk result
+        (λ l. (shapes_of store.new ≡ joined_beside side (shapes_of store.old) at l shape)
+        × (values_of store.new ≡ values_of store.old ++ (value ∷ [])) × (l.number ≡ made_count store.old)
+        × IsMade store.new l × (made_count store.new ≡ made_count store.old + 1)) }
     ensures refused { IfErr result (λ b. (b.value ≡ value) × (store.new ≡ store.old)) }
     ensures kept { IsKept store.old store.new }
 {
@@ -85,12 +87,13 @@ pub(crate) fn attach<T: Drop>(
     value: T,
 ) -> Result<Link, Back<T>>
     requires made { IsMade store.old at }
-    requires sound { IsSound store.old root }
+    requires sound { HasRightLinks store.old root }
     requires few { made_count store.old < 2 ^ 32 - 1 }
     requires fits { own.rank < 2 ^ 64 }
     requires small { AreSmall (shapes_of store.old) (own.weight + own.weight) }
     ensures grown { IfOk result (λ l. IsGrown store.old store.new root key own value l) }
-    ensures walk { IfOk result (λ l. order store.new root ≡ flat_map (beside side at.number l.number) (order store.old root)) }
+    ensures walk { IfOk result
+        (λ l. order store.new root ≡ flat_map (beside side at.number l.number) (order store.old root)) }
     ensures refused { IfErr result (λ b. (b.value ≡ value) × (store.new ≡ store.old)) }
     ensures kept { IsKept store.old store.new }
 {

@@ -1,15 +1,17 @@
-// Balance by weight: no child weighs more than three times its sibling, where a subtree weighs its count and one more. A child that comes to weigh more rises, or its inner child does where that weighs at least twice the outer one. With three and two this restores the balance after one node more (Hirai and Yamamoto, Balancing weight-balanced trees). No proof rests on the choice.
+// Balance by weight: no child weighs more than three times its sibling, where a subtree weighs its count and one more.
+// A child that comes to weigh more rises, or its inner child does where that weighs at least twice the outer one. With
+// three and two this restores the balance after one node more (Hirai and Yamamoto, Balancing weight-balanced trees). No
+// proof rests on the choice.
 ghost use Rattle.std.specs.Prelude.{◌≡◌, ◌⊎◌, ◌<◌, IfSome, Some};
 ghost use Rattle.node_rope.specs.Made.{IsMade, shapes_of};
-ghost use Rattle.node_rope.specs.Shapes.{IsSound, AreMade, shape_at, number_of, tree_of};
+ghost use Rattle.node_rope.specs.Shapes.{HasRightLinks, AreMade, shape_at, link_number, tree_of};
 ghost use Rattle.node_rope.specs.Turned.{IsRearranged};
 ghost use Rattle.node_rope.specs.Walk.{IsLinked};
 
 use crate::cells::{Link, Shape};
 use crate::climb::count_below;
-use crate::side::{Side, facing, side_of};
 use crate::store::Store;
-use crate::turn::rise;
+use crate::turn::{Side, facing, rise, side_of};
 
 // A child of the node.
 fn child_of(shape: Shape) -> Option<Link>
@@ -23,7 +25,7 @@ fn child_of(shape: Shape) -> Option<Link>
 
 // Lets a new node sink below all that it took over from its neighbour. The answer is the top.
 fn sink<T: Drop>(store: &mut Store<T>, root: Option<Link>, node: Link) -> Option<Link>
-    requires sound { IsSound store.old root }
+    requires sound { HasRightLinks store.old root }
     requires made { IsMade store.old node }
     ensures { IsRearranged store.old store.new root result }
 {
@@ -64,7 +66,7 @@ fn heavy_inner<T: Drop>(store: &Store<T>, side: Side, c: Link) -> Option<Link>
     requires linked { IsLinked (tree_of (shapes_of store.now)) }
     requires left { AreMade store.now (shape_at (shapes_of store.now) c.number).left }
     requires right { AreMade store.now (shape_at (shapes_of store.now) c.number).right }
-    ensures child { IfSome result (λ m. number_of (shape_at (shapes_of store.now) m.number).parent ≡ Some c.number) }
+    ensures child { IfSome result (λ m. link_number (shape_at (shapes_of store.now) m.number).parent ≡ Some c.number) }
     ensures made { IfSome result (λ m. IsMade store.now m) }
 {
     let below = facing(store.shape(c), side);
@@ -80,13 +82,14 @@ struct Stage {
 
 // Brings `p` in balance, whose child `c` has grown. The climb goes on from the node that stands in its place.
 fn restore<T: Drop>(store: &mut Store<T>, root: Option<Link>, p: Link, c: Link) -> Stage
-    requires sound { IsSound store.old root }
+    requires sound { HasRightLinks store.old root }
     requires made_p { IsMade store.old p }
     requires made_c { IsMade store.old c }
-    requires child { number_of (shape_at (shapes_of store.old) c.number).parent ≡ Some p.number }
+    requires child { link_number (shape_at (shapes_of store.old) c.number).parent ≡ Some p.number }
     ensures same { IsRearranged store.old store.new root result.top }
     ensures made { IsMade store.new result.at }
-    ensures higher { (shape_at (shapes_of store.old) c.number).count < (shape_at (shapes_of store.new) result.at.number).count }
+    ensures higher { (shape_at (shapes_of store.old) c.number).count <
+        (shape_at (shapes_of store.new) result.at.number).count }
 {
     let shape = store.shape(p);
     let side = side_of(shape.left, c);
@@ -109,7 +112,7 @@ fn restore<T: Drop>(store: &mut Store<T>, root: Option<Link>, p: Link, c: Link) 
 
 // Brings each node above a new leaf in balance. The answer is the top.
 fn restore_above<T: Drop>(store: &mut Store<T>, root: Option<Link>, leaf: Link) -> Option<Link>
-    requires sound { IsSound store.old root }
+    requires sound { HasRightLinks store.old root }
     requires made { IsMade store.old leaf }
     ensures { IsRearranged store.old store.new root result }
 {
@@ -126,8 +129,12 @@ fn restore_above<T: Drop>(store: &mut Store<T>, root: Option<Link>, leaf: Link) 
 }
 
 // Brings the tree in balance around a new node. The answer is the top.
-pub(crate) fn settle<T: Drop>(store: &mut Store<T>, root: Option<Link>, node: Link) -> Option<Link>
-    requires sound { IsSound store.old root }
+pub(crate) fn rebalance<T: Drop>(
+    store: &mut Store<T>,
+    root: Option<Link>,
+    node: Link,
+) -> Option<Link>
+    requires sound { HasRightLinks store.old root }
     requires made { IsMade store.old node }
     ensures { IsRearranged store.old store.new root result }
 {

@@ -1,7 +1,25 @@
 // The nodes of a rope, as the list of them in the order made.
+ghost use Rattle.std.specs.Prelude.{◌≡◌, ◌≤◌, ℕ};
+
 use crate::packed::Packed;
 use crate::pile::Spot;
-use fugue_ids::ElementId;
+use fugue_ids::{ElementId, MOST_OPERATIONS};
+
+/// What a value of the rope counts for.
+pub trait Weigh: Drop {
+    ghost weight_of: { Self → ℕ };
+
+    ghost rank_of: { Self → ℕ };
+
+    /// How many units it holds.
+    fn weight(&self) -> u64
+        ensures value { result ≡ weight_of self.now }
+        ensures most { result ≤ MOST_OPERATIONS };
+
+    /// The number by which it is found as low enough.
+    fn rank(&self) -> u64
+        ensures { result ≡ rank_of self.now };
+}
 
 /// A node of one store: where it lies, and its number.
 #[derive(Clone, Copy)]
@@ -17,7 +35,8 @@ pub struct Own {
     pub(crate) rank: u64,
 }
 
-/// A node but for its value. `own` is what its value counts for; `count`, `weight` and `least`, the least rank, are those of its subtree.
+/// A node but for its value. `own` is what its value counts for; `count`, `weight` and `least`, the least rank, are
+/// those of its subtree.
 #[derive(Clone, Copy)]
 pub struct Shape {
     pub(crate) key: ElementId,

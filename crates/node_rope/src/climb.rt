@@ -1,15 +1,19 @@
 // Where a node stands, found by climbing from it.
-ghost use Rattle.std.specs.Prelude.{◌≡◌, ◌+◌, ◌-◌, ◌^◌, ◌<◌, ◌≤◌, length, take, slice_index_or, IsTrue, ◌↔◌, Some, None};
+ghost use Rattle.std.specs.Prelude.{◌≡◌, ◌+◌, ◌-◌, ◌^◌, ◌<◌, ◌≤◌, length, take, slice_index_or, IsTrue, ◌↔◌, Some};
+ghost use Rattle.std.specs.Prelude.{None, ◌≢◌, ℕ};
 ghost use Rattle.node_rope.specs.Made.{IsMade, IsKept, made_count, shapes_of, values_of};
-ghost use Rattle.node_rope.specs.Shapes.{IsSound, AreMade, shape_at, number_of, tree_of, order, weigh, weight_at, least_at};
-ghost use Rattle.node_rope.specs.Walk.{count_of};
+ghost use Rattle.node_rope.specs.Shapes.{HasRightLinks, AreMade, shape_at, link_number, tree_of, order, weigh};
+ghost use Rattle.node_rope.specs.Shapes.{weight_at, least_at, IsWeighed, IsRanked};
+ghost use Rattle.node_rope.specs.Walk.{count_of, HasCounts};
+ghost use Rattle.node_rope.specs.Rising.{IsRising, IsRaised, SameLinks, AreSmall};
+ghost use Rattle.node_rope.specs.Reweighed.{IsSoundBut, AreStill, SameOwns, summed};
 
-use crate::cells::{Link, Shape};
+use crate::cells::{Link, Own, Shape};
 use crate::store::Store;
 
 pub(crate) fn count_below<T: Drop>(store: &Store<T>, link: Option<Link>) -> u32
     requires { AreMade store.now link }
-    ensures { result ≡ count_of (tree_of (shapes_of store.now)) (number_of link) }
+    ensures { result ≡ count_of (tree_of (shapes_of store.now)) (link_number link) }
 {
     match link {
         Some(l) => store.shape(l).count,
@@ -38,7 +42,7 @@ pub(crate) fn least_below<T: Drop>(store: &Store<T>, link: Option<Link>) -> u64
 }
 
 pub(crate) fn leads_to(link: Option<Link>, to: Link) -> bool
-    ensures { IsTrue result ↔ (number_of link ≡ Some to.number) }
+    ensures { IsTrue result ↔ (link_number link ≡ Some to.number) }
 {
     match link {
         Some(l) => l.number == to.number,
@@ -55,7 +59,7 @@ pub(crate) struct Standing {
 
 pub(crate) fn before<T: Drop>(store: &Store<T>, root: Option<Link>, at: Link) -> Standing
     requires made { IsMade store.now at }
-    requires sound { IsSound store.now root }
+    requires sound { HasRightLinks store.now root }
     requires few { made_count store.now < 2 ^ 62 }
     ensures inside { result.count < length (order store.now root) }
     ensures at { slice_index_or (order store.now root) result.count 0 ≡ at.number }
@@ -75,4 +79,94 @@ pub(crate) fn before<T: Drop>(store: &Store<T>, root: Option<Link>, at: Link) ->
         shape = above;
     }
     Standing { count, weight }
+}
+
+// The sums above a new node.
+
+// Adds one node, which counts for `own`, to the sums of each node from `from` up to the top.
+pub(crate) fn raise<T: Drop>(store: &mut Store<T>, from: Option<Link>, own: Own)
+    requires rising { IsRising store.old own from }
+    requires small { AreSmall (shapes_of store.old) own.weight }
+    ensures counted { HasCounts (tree_of (shapes_of store.new)) }
+    ensures weighed { IsWeighed (shapes_of store.new) }
+    ensures ranked { IsRanked (shapes_of store.new) }
+    ensures links { SameLinks (shapes_of store.old) (shapes_of store.new) }
+    ensures raised { IsRaised (shapes_of store.old) (shapes_of store.new) own None }
+    ensures values { values_of store.new ≡ values_of store.old }
+    ensures count { made_count store.new ≡ made_count store.old }
+    ensures kept { IsKept store.old store.new }
+{
+    let mut cur = from;
+    'up: while let Some(l) = cur {
+        let shape = store.shape(l);
+        store.set_shape(
+            l,
+            Shape {
+                count: shape.count + 1,
+                weight: shape.weight + own.weight as u64,
+                least: shape.least.min(own.rank),
+                ..shape
+            },
+        );
+        cur = shape.parent;
+    }
+}
+
+// What a node's value counts for is set anew.
+
+// The node with the weight and the least rank of what is below it.
+fn with_sums<T: Drop>(store: &Store<T>, shape: Shape) -> Shape
+    requires left { AreMade store.now shape.left }
+    requires right { AreMade store.now shape.right }
+    requires fits { weight_at (shapes_of store.now) shape.left +
+        (shape.own.weight + weight_at (shapes_of store.now) shape.right) < 2 ^ 64 }
+    ensures { result ≡ summed (shapes_of store.now) shape }
+{
+    let Own { weight, rank } = shape.own;
+    Shape {
+        weight: weight_below(store, shape.left)
+            + (weight as u64 + weight_below(store, shape.right)),
+        least: least_below(store, shape.left).min(rank.min(least_below(store, shape.right))),
+        ..shape
+    }
+}
+
+// Sums the weights and the least ranks anew of each node from `from` up to the top.
+fn sum_up<T: Drop>(store: &mut Store<T>, root: Option<Link>, from: Option<Link>)
+    requires { IsSoundBut store.old root from }
+    ensures sound { HasRightLinks store.new root }
+    ensures still { AreStill (shapes_of store.old) (shapes_of store.new) }
+    ensures owns { SameOwns (shapes_of store.old) (shapes_of store.new) }
+    ensures values { values_of store.new ≡ values_of store.old }
+    ensures count { made_count store.new ≡ made_count store.old }
+    ensures kept { IsKept store.old store.new }
+{
+    let _ = root;
+    let mut cur = from;
+    'up: while let Some(l) = cur {
+        let shape = store.shape(l);
+        let up = shape.parent;
+        store.set_shape(l, with_sums(store, shape));
+        cur = up;
+    }
+}
+
+pub(crate) fn set_own<T: Drop>(store: &mut Store<T>, root: Option<Link>, at: Link, own: Own)
+    requires made { IsMade store.old at }
+    requires sound { HasRightLinks store.old root }
+    requires few { made_count store.old < 4194305 }
+    requires light { (i : ℕ) → (shape_at (shapes_of store.old) i).own.weight < 4194305 }
+    requires own { own.weight < 4194305 }
+    ensures sound { HasRightLinks store.new root }
+    ensures still { AreStill (shapes_of store.old) (shapes_of store.new) }
+    ensures here { (shape_at (shapes_of store.new) at.number).own ≡ own }
+    ensures others { (i : ℕ) → i ≢ at.number
+        → (shape_at (shapes_of store.new) i).own ≡ (shape_at (shapes_of store.old) i).own }
+    ensures values { values_of store.new ≡ values_of store.old }
+    ensures count { made_count store.new ≡ made_count store.old }
+    ensures kept { IsKept store.old store.new }
+{
+    let shape = store.shape(at);
+    store.set_shape(at, Shape { own, ..shape });
+    sum_up(store, root, Some(at));
 }

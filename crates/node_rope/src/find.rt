@@ -1,11 +1,12 @@
 // The node that holds a unit of weight, and the one at a place, found by descending from the top.
-ghost use Rattle.std.specs.Prelude.{◌≡◌, ◌≤◌, ◌<◌, length, slice_index_or, IfSome, IfNone};
+ghost use Rattle.std.specs.Prelude.{◌≡◌, ◌≤◌, ◌<◌, length, slice_index_or, IfSome, IfNone, None, Some, slice_get};
 ghost use Rattle.node_rope.specs.Made.{IsMade, shapes_of};
-ghost use Rattle.node_rope.specs.Shapes.{IsSound, order, weigh};
-ghost use Rattle.node_rope.specs.Found.{IsFound};
+ghost use Rattle.node_rope.specs.Shapes.{HasRightLinks, order, weigh, AreMade, link_number, shape_at, tree_of};
+ghost use Rattle.node_rope.specs.Found.{IsFound, IsFollowed};
+ghost use Rattle.node_rope.specs.Walk.{whole};
 
 use crate::cells::Link;
-use crate::climb::{count_below, weight_below};
+use crate::climb::{count_below, leads_to, weight_below};
 use crate::store::Store;
 
 // A node, and how many of its units stand before the one that was asked for.
@@ -16,7 +17,7 @@ pub(crate) struct Unit {
 }
 
 pub(crate) fn find_weight<T: Drop>(store: &Store<T>, root: Option<Link>, w: u64) -> Option<Unit>
-    requires { IsSound store.now root }
+    requires { HasRightLinks store.now root }
     ensures found { IfSome result (λ u. IsFound (shapes_of store.now) (order store.now root) w u.link u.inside) }
     ensures made { IfSome result (λ u. IsMade store.now u.link) }
     ensures none { IfNone result (weigh (shapes_of store.now) (order store.now root) ≤ w) }
@@ -42,7 +43,7 @@ pub(crate) fn find_weight<T: Drop>(store: &Store<T>, root: Option<Link>, w: u64)
 }
 
 pub(crate) fn node_at<T: Drop>(store: &Store<T>, root: Option<Link>, place: usize) -> Option<Link>
-    requires { IsSound store.now root }
+    requires { HasRightLinks store.now root }
     ensures inside { IfSome result (λ l. place < length (order store.now root)) }
     ensures found { IfSome result (λ l. slice_index_or (order store.now root) place 0 ≡ l.number) }
     ensures made { IfSome result (λ l. IsMade store.now l) }
@@ -63,4 +64,58 @@ pub(crate) fn node_at<T: Drop>(store: &Store<T>, root: Option<Link>, place: usiz
         }
     }
     None
+}
+
+// The node behind another one, found from that one: no descent from the top.
+
+/// The first node of a subtree.
+fn first_node<T: Drop>(store: &Store<T>, root: Option<Link>, from: Link) -> Link
+    requires sound { HasRightLinks store.now root }
+    requires made { IsMade store.now from }
+    ensures first { slice_get (whole (tree_of (shapes_of store.now)) (Some from.number)) 0 ≡ Some result.number }
+    ensures made { IsMade store.now result }
+{
+    let _ = root;
+    let mut cur = from;
+    let mut shape = store.shape(from);
+    'down: while let Some(left) = shape.left {
+        cur = left;
+        shape = store.shape(left);
+    }
+    cur
+}
+
+/// The first node above that has this one to its left. With nothing to the right of this one, it stands behind it.
+fn node_above<T: Drop>(store: &Store<T>, root: Option<Link>, at: Link) -> Option<Link>
+    requires sound { HasRightLinks store.now root }
+    requires made { IsMade store.now at }
+    requires last { (shape_at (shapes_of store.now) at.number).right ≡ None }
+    ensures behind { IsFollowed (order store.now root) at.number (link_number result) }
+    ensures made { AreMade store.now result }
+{
+    let _ = root;
+    let mut cur = at;
+    let mut shape = store.shape(at);
+    'up: while let Some(up) = shape.parent {
+        let above = store.shape(up);
+        if leads_to(above.left, cur) {
+            return Some(up);
+        }
+        cur = up;
+        shape = above;
+    }
+    None
+}
+
+/// The node behind this one.
+pub(crate) fn node_behind<T: Drop>(store: &Store<T>, root: Option<Link>, at: Link) -> Option<Link>
+    requires sound { HasRightLinks store.now root }
+    requires made { IsMade store.now at }
+    ensures behind { IsFollowed (order store.now root) at.number (link_number result) }
+    ensures made { AreMade store.now result }
+{
+    match store.shape(at).right {
+        Some(right) => Some(first_node(store, root, right)),
+        None => node_above(store, root, at),
+    }
 }

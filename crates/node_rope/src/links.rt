@@ -2,7 +2,7 @@
 ghost use Rattle.std.specs.Prelude.{◌≡◌, None, Some, IfSome, IsTrue, IsFalse, option_map};
 ghost use Rattle.std.specs.BTreeMap.{get};
 ghost use Rattle.fugue_ids.specs.Identifiers.{id_cmp};
-ghost use Rattle.node_rope.specs.Linked.{IsEmpty, IsSet, IsSame, IsFloorKey};
+ghost use Rattle.node_rope.specs.Linked.{IsEmpty, IsSet, HasSameLinks, IsFloorKey};
 
 use crate::cells::Link;
 use crate::pile;
@@ -69,7 +69,7 @@ pub(crate) fn keep_at_hand(map: &mut KeyMap, key: ElementId, link: Link)
 // False for want of memory, which only a new key can meet.
 pub(crate) fn set_link(map: &mut KeyMap, key: ElementId, link: Link) -> bool
     ensures set { IsTrue result → IsSet map.old.links map.new.links key (Some link) }
-    ensures refused { IsFalse result → IsSame map.old.links map.new.links }
+    ensures refused { IsFalse result → HasSameLinks map.old.links map.new.links }
     ensures absent { IsFalse result → get id_cmp map.old.links key ≡ None }
 {
     match map.links.insert(key, link) {

@@ -1,16 +1,17 @@
 // Look-ups of a rope. None of them takes memory.
-ghost use Rattle.std.specs.Prelude.{◌≡◌, ◌<◌, ◌+◌, ◌≤◌, ℕ, IfSome, IsSome, IfNone, None, Some, drop, length, take, option_copied, option_map, slice_get};
+ghost use Rattle.std.specs.Prelude.{◌≡◌, ◌<◌, ◌+◌, ◌≤◌, ℕ, IfSome, IsSome, IfNone, None, Some, drop, length, take};
+ghost use Rattle.std.specs.Prelude.{option_copied, option_map, slice_get};
 ghost use Rattle.std.specs.Map.{keys_of};
-ghost use Rattle.node_rope.specs.Places.{StandsAt, AreKeysDistinct, weight_sum, IsUnit, IsFloor, first_low_key, last_low_key};
+ghost use Rattle.node_rope.specs.Places.{StandsAt, AreKeysDistinct, weight_sum, IsUnit, IsFloor, first_low_key};
+ghost use Rattle.node_rope.specs.Places.{last_low_key};
 ghost use Rattle.node_rope.specs.Items.{value_under};
 
-use crate::behind::node_behind;
+use crate::cells::Weigh;
 use crate::climb::{before, weight_below};
-use crate::find::{find_weight, node_at};
-use crate::links::{find_link, floor_key, floor_link};
+use crate::find::{find_weight, node_at, node_behind};
+use crate::links::{find_link, floor_key, floor_link, keep_at_hand, recent_key};
 use crate::low::{first_low_node, last_low_node};
 use crate::rope::Rope;
-use crate::weigh::Weigh;
 use fugue_ids::ElementId;
 
 impl<T: Weigh> Rope<T> {
@@ -78,7 +79,8 @@ impl<T: Weigh> Rope<T> {
     pub fn next_item(&self, key: ElementId) -> Option<(ElementId, &T)>
         ensures some { IfSome result (λ n. (i : ℕ) × StandsAt self.now i key × StandsAt self.now (i + 1) n.0) }
         ensures value { IfSome result (λ n. value_under n.0 self.now ≡ Some n.1.now) }
-        ensures none { IfNone result (IsSome (value_under key self.now) → (i : ℕ) × StandsAt self.now i key × (length self.now ≡ i + 1)) }
+        ensures none { IfNone result
+            (IsSome (value_under key self.now) → (i : ℕ) × StandsAt self.now i key × (length self.now ≡ i + 1)) }
     {
         let link = match find_link(&self.map, key) {
             Some(link) => link,
@@ -93,7 +95,8 @@ impl<T: Weigh> Rope<T> {
     /// The key of the item behind the one with this key.
     pub fn next(&self, key: ElementId) -> Option<ElementId>
         ensures some { IfSome result (λ n. (i : ℕ) × StandsAt self.now i key × StandsAt self.now (i + 1) n) }
-        ensures none { IfNone result (IsSome (value_under key self.now) → (i : ℕ) × StandsAt self.now i key × (length self.now ≡ i + 1)) }
+        ensures none { IfNone result
+            (IsSome (value_under key self.now) → (i : ℕ) × StandsAt self.now i key × (length self.now ≡ i + 1)) }
     {
         match self.next_item(key) {
             Some(item) => Some(item.0),
@@ -104,7 +107,8 @@ impl<T: Weigh> Rope<T> {
     /// The weight of all items before the one with this key.
     pub fn weight_before(&self, key: ElementId) -> Option<u64>
         ensures none { IfNone result (value_under key self.now ≡ None) }
-        ensures some { IfSome result (λ w. (i : ℕ) × StandsAt self.now i key × (w ≡ weight_sum T.weight_of (take i self.now))) }
+        ensures some { IfSome result
+            (λ w. (i : ℕ) × StandsAt self.now i key × (w ≡ weight_sum T.weight_of (take i self.now))) }
     {
         match find_link(&self.map, key) {
             Some(link) => Some(before(&self.store, self.root, link).weight),
@@ -186,5 +190,27 @@ impl<T: Weigh> Rope<T> {
     {
         let (found, link) = floor_link(&self.map, key)?;
         Some((found, self.store.value(link)))
+    }
+}
+
+impl<T: Weigh> Rope<T> {
+    /// The key of the item that was used last, while that is at hand: it is found with no search.
+    pub fn at_hand(&self) -> Option<ElementId>
+        ensures { IfSome result (λ key. IsSome (value_under key self.now)) }
+    {
+        let key = recent_key(&self.map)?;
+        match self.get(key) {
+            Some(_) => Some(key),
+            None => None,
+        }
+    }
+
+    /// The item under the key comes at hand, or else the one under the greatest key below it.
+    pub fn keep_at_hand(&mut self, key: ElementId)
+        ensures { self.new ≡ self.old }
+    {
+        if let Some(floor) = floor_link(&self.map, key) {
+            keep_at_hand(&mut self.map, floor.0, floor.1);
+        }
     }
 }

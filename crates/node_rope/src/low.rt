@@ -1,13 +1,14 @@
-// The first node behind a place, and the last one before it, whose rank is low. The least rank of a subtree tells whether it has one. Both are one search: the last one is the first as seen from the right.
+// The first node behind a place, and the last one before it, whose rank is low. The least rank of a subtree tells
+// whether it has one. Both are one search: the last one is the first as seen from the right.
 ghost use Rattle.std.specs.Prelude.{◌≡◌, Some, drop, take};
 ghost use Rattle.node_rope.specs.Made.{IsMade, shapes_of};
-ghost use Rattle.node_rope.specs.Shapes.{AreMade, AreRanksFit, IsSound, number_of, order, ranks};
+ghost use Rattle.node_rope.specs.Shapes.{AreMade, AreRanksFit, HasRightLinks, link_number, order, ranks};
 ghost use Rattle.node_rope.specs.Low.{first_low, last_low, low_at, low_below, low_from, or_else, seen_order};
 
 use crate::cells::Link;
 use crate::climb::count_below;
-use crate::side::{Side, facing};
 use crate::store::Store;
+use crate::turn::{Side, facing};
 
 /// Whether a node below the link is low.
 fn is_low<T: Drop>(store: &Store<T>, link: Option<Link>, most: u64) -> bool
@@ -28,10 +29,10 @@ fn nearest_below<T: Drop>(
     from: Option<Link>,
     most: u64,
 ) -> Option<Link>
-    requires sound { IsSound store.now root }
+    requires sound { HasRightLinks store.now root }
     requires fits { AreRanksFit (shapes_of store.now) }
     requires made { AreMade store.now from }
-    ensures found { number_of result ≡ low_below (shapes_of store.now) most side from }
+    ensures found { link_number result ≡ low_below (shapes_of store.now) most side from }
     ensures made { AreMade store.now result }
 {
     let _ = root;
@@ -58,11 +59,13 @@ fn low_from_or<T: Drop>(
     most: u64,
     other: Option<Link>,
 ) -> Option<Link>
-    requires sound { IsSound store.now root }
+    requires sound { HasRightLinks store.now root }
     requires fits { AreRanksFit (shapes_of store.now) }
     requires made { IsMade store.now link }
     requires made_other { AreMade store.now other }
-    ensures found { low_from (shapes_of store.now) most side result ≡ or_else (low_from (shapes_of store.now) most side (Some link)) (low_from (shapes_of store.now) most side other) }
+    ensures found { low_from (shapes_of store.now) most side result
+        ≡ or_else (low_from (shapes_of store.now) most side (Some link))
+        (low_from (shapes_of store.now) most side other) }
     ensures made { AreMade store.now result }
 {
     let _ = root;
@@ -84,9 +87,10 @@ fn low_node<T: Drop>(
     from: usize,
     most: u64,
 ) -> Option<Link>
-    requires sound { IsSound store.now root }
+    requires sound { HasRightLinks store.now root }
     requires fits { AreRanksFit (shapes_of store.now) }
-    ensures found { number_of result ≡ first_low (ranks (shapes_of store.now)) most (drop from (seen_order side store.now root)) }
+    ensures found { link_number result
+        ≡ first_low (ranks (shapes_of store.now)) most (drop from (seen_order side store.now root)) }
     ensures made { AreMade store.now result }
 {
     let mut near = None;
@@ -120,8 +124,9 @@ pub(crate) fn first_low_node<T: Drop>(
     most: u64,
 ) -> Option<Link>
     requires fits { AreRanksFit (shapes_of store.now) }
-    requires sound { IsSound store.now root }
-    ensures found { number_of result ≡ first_low (ranks (shapes_of store.now)) most (drop from (order store.now root)) }
+    requires sound { HasRightLinks store.now root }
+    ensures found { link_number result
+        ≡ first_low (ranks (shapes_of store.now)) most (drop from (order store.now root)) }
     ensures made { AreMade store.now result }
 {
     low_node(store, root, Side::Left, from, most)
@@ -134,9 +139,9 @@ pub(crate) fn last_low_node<T: Drop>(
     to: usize,
     most: u64,
 ) -> Option<Link>
-    requires sound { IsSound store.now root }
+    requires sound { HasRightLinks store.now root }
     requires fits { AreRanksFit (shapes_of store.now) }
-    ensures found { number_of result ≡ last_low (ranks (shapes_of store.now)) most (take to (order store.now root)) }
+    ensures found { link_number result ≡ last_low (ranks (shapes_of store.now)) most (take to (order store.now root)) }
     ensures made { AreMade store.now result }
 {
     let behind = (count_below(store, root) as usize).saturating_sub(to);

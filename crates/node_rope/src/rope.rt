@@ -1,19 +1,24 @@
-ghost use Rattle.std.specs.Prelude.{◌≡◌, ◌<◌, ◌≤◌, ◌^◌, [], ◌∷◌, OnOk, IfErr, IsSome, IsNone, Some, length};
+ghost use Rattle.std.specs.Prelude.{◌≡◌, ◌<◌, ◌≤◌, ◌^◌, [], ◌∷◌, OnOk, IfErr, IsSome, IsNone, Some, length, IfOk};
+ghost use Rattle.std.specs.Prelude.{IsFalse, IsTrue};
 ghost use Rattle.node_rope.specs.Items.{value_under, own_of as counts_for};
-ghost use Rattle.node_rope.specs.Beside.{placed_before, placed_after, placed_beside, put_under};
+ghost use Rattle.node_rope.specs.Beside.{placed_before, placed_after, placed_beside, put_under, renamed, rekeyed};
 
 use crate::attach::attach;
-use crate::back::Back;
-use crate::balance::settle;
-use crate::cells::{Link, Own, Shape};
+use crate::balance::rebalance;
+use crate::cells::{Link, Own, Shape, Weigh};
+use crate::climb::set_own;
 use crate::links::{KeyMap, drop_link, find_link, keep_at_hand, no_links, nowhere, set_link};
-use crate::reweigh::set_own;
-use crate::side::Side;
 use crate::store::Store;
-use crate::weigh::Weigh;
+use crate::turn::Side;
 use fugue_ids::{ElementId, MOST_OPERATIONS};
 use std::alloc::Global;
 use std::marker::Model;
+
+/// Want of memory, with the value handed back.
+#[derive(Drop)]
+pub struct Back<T> {
+    pub value: T,
+}
 
 /// Values in an order, each under a key of its own.
 #[derive(Drop)]
@@ -29,9 +34,9 @@ impl<T: Weigh> Model for Rope<T> {
 
     ghost Value = { List (Identifier × T) };
 
-    ghost use Rattle.node_rope.specs.Items.{items_of, own_of, IsRope};
+    ghost use Rattle.node_rope.specs.Items.{rope_items_of, own_of, IsRope};
 
-    ghost view = { λ r. items_of r.store r.root };
+    ghost view = { λ r. rope_items_of r.store r.root };
 
     ghost invariant = { λ r. IsRope (own_of T.weight_of T.rank_of) r.store r.root r.map.links };
 }
@@ -84,7 +89,7 @@ impl<T: Weigh> Rope<T> {
         }
         match attach(&mut self.store, self.root, side, link, key, own, value) {
             Ok(node) => {
-                self.root = settle(&mut self.store, self.root, node);
+                self.root = rebalance(&mut self.store, self.root, node);
                 set_link(&mut self.map, key, node);
                 Ok(())
             }
@@ -166,5 +171,52 @@ impl<T: Weigh> Rope<T> {
         let old = self.store.set_value(link, value);
         set_own(&mut self.store, self.root, link, own);
         old
+    }
+}
+
+// A new item in the place of another.
+
+impl<T: Weigh> Rope<T> {
+    // Another key for an item. The new one is entered first, which alone can want memory: then the answer is false, and
+    // the rope as before.
+    fn rename(&mut self, key: ElementId, new_key: ElementId) -> bool
+        requires held { IsSome (value_under key self.old) }
+        requires fresh { IsNone (value_under new_key self.old) }
+        ensures renamed { IsTrue result → self.new ≡ renamed key new_key self.old }
+        ensures refused { IsFalse result → self.new ≡ self.old }
+    {
+        let link = match find_link(&self.map, key) {
+            Some(link) => link,
+            // The key is held: no call comes here.
+            None => return false,
+        };
+        if !set_link(&mut self.map, new_key, link) {
+            return false;
+        }
+        let shape = self.store.shape(link);
+        self.store.set_shape(
+            link,
+            Shape {
+                key: new_key,
+                ..shape
+            },
+        );
+        drop_link(&mut self.map, key);
+        keep_at_hand(&mut self.map, new_key, link);
+        true
+    }
+
+    /// Another value in place of one, under another key, which no item has. After want of memory the rope is as before.
+    pub fn rekey(&mut self, key: ElementId, new_key: ElementId, value: T) -> Result<T, Back<T>>
+        requires held { IsSome (value_under key self.old) }
+        requires fresh { IsNone (value_under new_key self.old) }
+        ensures old { IfOk result (λ old. value_under key self.old ≡ Some old) }
+        ensures rekeyed { OnOk result (self.new ≡ rekeyed key (new_key, value) self.old) }
+        ensures refused { IfErr result (λ b. (b.value ≡ value) × (self.new ≡ self.old)) }
+    {
+        if !self.rename(key, new_key) {
+            return Err(Back { value });
+        }
+        Ok(self.put(new_key, value))
     }
 }

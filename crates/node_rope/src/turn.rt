@@ -1,13 +1,13 @@
 // Rotations.
 ghost use Rattle.std.specs.Prelude.{◌≡◌, ◌+◌, ◌-◌, ◌^◌, ◌<◌, ◌≤◌, Some};
 ghost use Rattle.node_rope.specs.Made.{IsMade, IsKept, made_count, shapes_of, values_of};
-ghost use Rattle.node_rope.specs.Shapes.{IsSound, AreMade, shape_at, number_of, weight_at};
-ghost use Rattle.node_rope.specs.Turned.{count_at, relinked, with_child, lifted, IsRisen};
+ghost use Rattle.node_rope.specs.Shapes.{HasRightLinks, AreMade, shape_at, link_number, weight_at};
+ghost use Rattle.node_rope.specs.Turned.{tree_count_at, relinked, with_child, lifted, IsRisen, side_of as side_at};
+ghost use Rattle.node_rope.specs.Sides.{faced};
 
 use crate::attach::set_parent;
 use crate::cells::{Link, Shape};
-use crate::climb::{count_below, least_below, weight_below};
-use crate::side::{Side, facing, side_of};
+use crate::climb::{count_below, leads_to, least_below, weight_below};
 use crate::store::Store;
 
 // `above` is the shape of `p`, and `below` that of its child `c`, as seen from the side of the child.
@@ -17,7 +17,7 @@ fn lift<T: Drop>(store: &mut Store<T>, side: Side, p: Link, c: Link, above: Shap
     requires made_right { AreMade store.old below.right }
     requires made_other { AreMade store.old above.right }
     requires counts { below.count ≤ above.count }
-    requires small { above.count - below.count + count_at (shapes_of store.old) below.right < 2 ^ 32 }
+    requires small { above.count - below.count + tree_count_at (shapes_of store.old) below.right < 2 ^ 32 }
     requires weights { below.weight ≤ above.weight }
     requires light { above.weight - below.weight + weight_at (shapes_of store.old) below.right < 2 ^ 64 }
     ensures shapes { shapes_of store.new ≡ lifted side (shapes_of store.old) p c above below }
@@ -90,10 +90,10 @@ pub(crate) fn rise<T: Drop>(
     p: Link,
     c: Link,
 ) -> Option<Link>
-    requires sound { IsSound store.old root }
+    requires sound { HasRightLinks store.old root }
     requires made_p { IsMade store.old p }
     requires made_c { IsMade store.old c }
-    requires child { number_of (shape_at (shapes_of store.old) c.number).parent ≡ Some p.number }
+    requires child { link_number (shape_at (shapes_of store.old) c.number).parent ≡ Some p.number }
     ensures { IsRisen store.old store.new root result p c }
 {
     let shape = store.shape(p);
@@ -106,5 +106,39 @@ pub(crate) fn rise<T: Drop>(
     match over {
         Some(_g) => root,
         None => Some(c),
+    }
+}
+
+// What is the same on both sides is written once, for the left: a node is faced from its side.
+
+/// A side of a node, and of an item.
+#[derive(Clone, Copy)]
+pub enum Side {
+    Left,
+    Right,
+}
+
+// The node as it is seen from the side: what stands there is at its left.
+pub(crate) fn facing(shape: Shape, side: Side) -> Shape
+    ensures { result ≡ faced side shape }
+{
+    match side {
+        Side::Left => shape,
+        Side::Right => Shape {
+            left: shape.right,
+            right: shape.left,
+            ..shape
+        },
+    }
+}
+
+// The side of a node at which its child stands, by what stands at its left.
+pub(crate) fn side_of(left: Option<Link>, child: Link) -> Side
+    ensures { result ≡ side_at left child.number }
+{
+    if leads_to(left, child) {
+        Side::Left
+    } else {
+        Side::Right
     }
 }

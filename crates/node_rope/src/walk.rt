@@ -1,12 +1,10 @@
 //! A walk along the items, each found from the one before: no descent from the top.
 ghost use Rattle.std.specs.Prelude.{◌≡◌, drop, option_copied, option_map, slice_get};
 
-use crate::behind::node_behind;
-use crate::cells::Link;
-use crate::find::node_at;
+use crate::cells::{Link, Weigh};
+use crate::find::{node_at, node_behind};
 use crate::rope::Rope;
 use crate::store::Store;
-use crate::weigh::Weigh;
 use std::marker::Model;
 
 /// The items that are still to come.
@@ -21,12 +19,12 @@ pub struct Walk<'a, T: Weigh> {
 impl<'a, T: Weigh> Model for Walk<'a, T> {
     ghost use Rattle.std.specs.Prelude.{List, drop};
     ghost use Rattle.fugue_ids.specs.Identifiers.{Identifier};
-    ghost use Rattle.node_rope.specs.Items.{items_of};
+    ghost use Rattle.node_rope.specs.Items.{rope_items_of};
     ghost use Rattle.node_rope.specs.Walked.{IsNext};
 
     ghost Value = { List (Identifier × T) };
 
-    ghost view = { λ w. drop w.passed (items_of w.store.now w.root) };
+    ghost view = { λ w. drop w.passed (rope_items_of w.store.now w.root) };
 
     ghost invariant = { λ w. IsNext w.store.now w.root w.passed w.next };
 }

@@ -6,7 +6,7 @@ use Rattle.fugue_ids.specs.declared.op.Op.{Op}
 use Rattle.origin_model.specs.frames.Frames.{frame, IsPartial, IsBad}
 use Rattle.op_frame.specs.declared.fault.FrameFault.{FrameFault}
 use Rattle.op_frame.specs.declared.fault.FrameFault.TheVariants.{BadFrame, CutShort, ReadFault, TooLong, NoMemory}
-use Rattle.op_frame.specs.Readers.{AnswerIs, AnswersBy, IsByBytes, StartsWithin}
+use Rattle.op_frame.specs.Readers.{ReadingAnswerIs, AnswersBy, IsReadByBytes, StartsWithin}
 use Rattle.origin_model.proofs.SharedLemmas.{framed_is, framed_of}
 use Rattle.op_frame.proofs.OperationLemmas.{operation_code}
 use Rattle.op_frame.proofs.StreamLemmas.{begins_not_partial, no_bytes_are_partial, frame_some}
@@ -40,8 +40,8 @@ not_longer room bytes none long = omega (arith, ap length none, long)
 same_given : (a b : Op) (room : ℕ) (bytes : List ℕ) → StartsWithin a room bytes → StartsWithin b room bytes → a ≡ b
 same_given a b room bytes p q = (operation_code.once a b p.rest q.rest p.has_frame q.has_frame (sym p.split ∙ q.split)).0
 
-one_answer : (a b : Result (Option Op) FrameFault) (offset room : ℕ) (bytes : List ℕ) → IsByBytes a → IsByBytes b
-    → AnswerIs a offset room bytes → AnswerIs b offset room bytes → a ≡ b
+one_answer : (a b : Result (Option Op) FrameFault) (offset room : ℕ) (bytes : List ℕ) → IsReadByBytes a → IsReadByBytes b
+    → ReadingAnswerIs a offset room bytes → ReadingAnswerIs b offset room bytes → a ≡ b
 one_answer (Ok (Some a)) (Ok (Some b)) offset room bytes _ _ p q = ap (λ (op : Op). Ok (Some op)) (same_given a b room bytes p q)
 one_answer (Ok (Some a)) (Ok None) offset room bytes _ _ p q = absurd (not_empty a room bytes p q)
 one_answer (Ok (Some a)) (Err (BadFrame k)) offset room bytes _ _ p q = absurd (not_bad a room bytes p q.1)
@@ -73,8 +73,8 @@ one_answer a (Err ReadFault) offset room bytes _ h p q = absurd h
 one_answer a (Err NoMemory) offset room bytes _ h p q = absurd h
 
 -- an answer comes exactly where the bytes to give say so
-pub answers_by : (result : Result (Option Op) FrameFault) (offset room : ℕ) (bytes : List ℕ) → AnswerIs result offset room bytes → AnswersBy result offset room bytes
+pub answers_by : (result : Result (Option Op) FrameFault) (offset room : ℕ) (bytes : List ℕ) → ReadingAnswerIs result offset room bytes → AnswersBy result offset room bytes
 answers_by result offset room bytes is = record {
-  exactly = λ by answer by'. ((λ same. subst (λ r. AnswerIs r offset room bytes) same is), λ other. one_answer result answer offset room bytes by by' is other);
-  memory = λ same. subst (λ r. AnswerIs r offset room bytes) same is;
+  exactly = λ by answer by'. ((λ same. subst (λ r. ReadingAnswerIs r offset room bytes) same is), λ other. one_answer result answer offset room bytes by by' is other);
+  memory = λ same. subst (λ r. ReadingAnswerIs r offset room bytes) same is;
 }

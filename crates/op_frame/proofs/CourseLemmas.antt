@@ -10,17 +10,17 @@ use Rattle.fugue_ids.specs.declared.op.Op.{Op}
 use Rattle.outer_ports.specs.Sources.{SourceView}
 use Rattle.origin_model.specs.frames.Frames.{frame, End, Whole as EndsWhole, CutShort as EndsCutShort, BadFrame as EndsInBadFrame, Framed, IsFrame, Reads}
 use Rattle.origin_model.specs.taking.Taking.{Held, HasPlace, TooMany as AnswersTooMany, intake, answer, held_from, intake_counted, tally_from, no_counts}
-use Rattle.origin_model.specs.declared.taking.tally.Tally.{Tally}
+use Rattle.origin_model.specs.declared.taking.Tally.{Tally}
 use Rattle.origin_model.proofs.SharedLemmas.{Refused, framed_is, framed_of, held-append, no_place_left, places-append, places-none, places-one, same_refused, taken_or_refused, tally-append}
 use Rattle.op_frame.specs.declared.fault.FrameFault.{FrameFault}
 use Rattle.op_frame.specs.declared.fault.FrameFault.TheVariants as frame_fault
-use Rattle.op_frame.specs.Readers.{Reading, to_give, Follows, Gave, Nexts}
-use Rattle.op_frame.specs.Courses.{Course, Whole, CutShort, BadFrame, TooLong, TooMany, MeetsTooMany, Ends, Comes}
+use Rattle.op_frame.specs.Readers.{FrameReading, to_give, Follows, Gave, Nexts}
+use Rattle.op_frame.specs.Courses.{IntakeCourse, Whole, CutShort, BadFrame, TooLong, TooMany, MeetsTooMany, Ends, Comes}
 use Rattle.op_frame.proofs.StreamLemmas.{bytes_of, ops_of, frame_some, reads_once, reads_some, starts_first, starts_more, gave_none, follows}
 use Rattle.op_frame.proofs.ToldLemmas.{prepend_twice, shows, take_past}
 
 -- the course of a stream whose bytes up to the limit end so, by whether it is longer
-abbrev course_by : {limit n : ℕ} → End → (n ≤ limit) ⊎ (limit < n) → Course
+abbrev course_by : {limit n : ℕ} → End → (n ≤ limit) ⊎ (limit < n) → IntakeCourse
 course_by (EndsInBadFrame k) long = BadFrame k
 course_by EndsWhole (inl short) = Whole
 course_by (EndsCutShort k) (inl short) = CutShort k
@@ -92,7 +92,7 @@ module _ (hold most : ℕ) (start : Held) (limit : ℕ) (bytes : List ℕ) where
   fits_or_not n = elim (cases_order n limit) [ inl same ↦ inl (omega (arith, same)) | inr (inl less) ↦ inl (omega (arith, less)) | inr (inr more) ↦ inr more ]
 
   -- a stream comes to some end
-  pub comes_some : (ops : List Op) × (course : Course) × Comes hold most start limit bytes ops course
+  pub comes_some : (ops : List Op) × (course : IntakeCourse) × Comes hold most start limit bytes ops course
   comes_some =
       let r = reads_some (take limit bytes) in
       elim (met_or_not hold most start r.2.found r.2.rest r.2.are_frames) [
@@ -101,7 +101,7 @@ module _ (hold most : ℕ) (start : Held) (limit : ℕ) (bytes : List ℕ) where
       ]
     where
       by_end : {ops : List Op} (end : End) → HasPlace hold most start ops → Reads (take limit bytes) ops end → (length bytes ≤ limit) ⊎ (limit < length bytes)
-          → (ops : List Op) × (course : Course) × Comes hold most start limit bytes ops course
+          → (ops : List Op) × (course : IntakeCourse) × Comes hold most start limit bytes ops course
       by_end {ops} EndsWhole places reads (inl fits) =
           (ops, Whole, record { has_place = places; ends = (fits, subst (λ (b : List ℕ). Reads b ops EndsWhole) (take_all limit bytes fits) reads) })
       by_end {ops} EndsWhole places reads (inr longer) = (ops, TooLong, record { has_place = places; ends = (longer, (EndsWhole, reads, inl refl)) })
@@ -111,10 +111,10 @@ module _ (hold most : ℕ) (start : Held) (limit : ℕ) (bytes : List ℕ) where
       by_end {ops} (EndsInBadFrame k) places reads fits = (ops, BadFrame k, record { has_place = places; ends = reads })
 
   -- what an end says of the reading of the bytes up to the limit
-  abbrev IsPlain : (all : List Op) (end : End) → List Op → Course → Type 0
+  abbrev IsPlain : (all : List Op) (end : End) → List Op → IntakeCourse → Type 0
   IsPlain all end ops course = HasPlace hold most start all × (ops ≡ all) × (course ≡ course_by end (fits_or_not (length bytes)))
 
-  abbrev IsRefused : (all : List Op) → List Op → Course → Type 0
+  abbrev IsRefused : (all : List Op) → List Op → IntakeCourse → Type 0
   IsRefused all ops course = (r : Refused hold most start all) × (r.front ≡ ops) × (course ≡ TooMany)
 
   refused_of : (all : List Op) (end : End) (ops : List Op) → HasPlace hold most start ops → Reads (take limit bytes) all end → MeetsTooMany hold most start (take limit bytes) ops
@@ -137,7 +137,7 @@ module _ (hold most : ℕ) (start : Held) (limit : ℕ) (bytes : List ℕ) where
       regroup : (a b : List Op) (x : Op) (c d : List Op) → (a ++ (b ++ x ∷ c)) ++ d ≡ (a ++ b) ++ x ∷ (c ++ d)
       regroup a b x c d = simp append_assoc
 
-  short_course : (end : End) (course : Course) (d : (length bytes ≤ limit) ⊎ (limit < length bytes)) → ((fits : length bytes ≤ limit) → course ≡ course_by end (inl fits)) → length bytes ≤ limit
+  short_course : (end : End) (course : IntakeCourse) (d : (length bytes ≤ limit) ⊎ (limit < length bytes)) → ((fits : length bytes ≤ limit) → course ≡ course_by end (inl fits)) → length bytes ≤ limit
       → course ≡ course_by end d
   short_course end course (inl fits) is short = is fits
   short_course end course (inr longer) is short = absurd (omega (arith, longer, short))
@@ -148,13 +148,13 @@ module _ (hold most : ℕ) (start : Held) (limit : ℕ) (bytes : List ℕ) where
   long_course end (inr longer) (inl whole) long = ap (λ (e : End). course_by e (inr longer)) (sym whole)
   long_course end (inr longer) (inr cut) long = ap (λ (e : End). course_by e (inr longer)) (sym cut.1)
 
-  plain : (all : List Op) (end : End) (ops : List Op) (course : Course) (own : End) → HasPlace hold most start ops → Reads (take limit bytes) all end
+  plain : (all : List Op) (end : End) (ops : List Op) (course : IntakeCourse) (own : End) → HasPlace hold most start ops → Reads (take limit bytes) all end
       → Reads (take limit bytes) ops own → course ≡ course_by own (fits_or_not (length bytes)) → IsPlain all end ops course ⊎ IsRefused all ops course
   plain all end ops course own places reads came is =
       let same = reads_once (take limit bytes) ops all own end came reads in
       inl (subst (HasPlace hold most start) same.0 places, same.0, subst (λ (e : End). course ≡ course_by e (fits_or_not (length bytes))) same.1 is)
 
-  plain_or_refused : (all : List Op) (end : End) (ops : List Op) (course : Course) → Reads (take limit bytes) all end → Comes hold most start limit bytes ops course
+  plain_or_refused : (all : List Op) (end : End) (ops : List Op) (course : IntakeCourse) → Reads (take limit bytes) all end → Comes hold most start limit bytes ops course
       → IsPlain all end ops course ⊎ IsRefused all ops course
   plain_or_refused all end ops Whole reads c =
       plain all end ops Whole EndsWhole c.has_place reads (subst (λ (b : List ℕ). Reads b ops EndsWhole) (sym (take_all limit bytes c.ends.0)) c.ends.1) (short_course EndsWhole Whole (fits_or_not (length bytes)) (λ d. refl) c.ends.0)
@@ -165,7 +165,7 @@ module _ (hold most : ℕ) (start : Held) (limit : ℕ) (bytes : List ℕ) where
   plain_or_refused all end ops TooMany reads c = inr (refused_of all end ops c.has_place reads c.ends)
 
   -- a stream comes to one end
-  pub comes_once : (ops others : List Op) (course other : Course) → Comes hold most start limit bytes ops course → Comes hold most start limit bytes others other
+  pub comes_once : (ops others : List Op) (course other : IntakeCourse) → Comes hold most start limit bytes ops course → Comes hold most start limit bytes others other
       → (ops ≡ others) × (course ≡ other)
   comes_once ops others course other p q =
       let r = reads_some (take limit bytes) in
@@ -182,7 +182,7 @@ module _ (hold most : ℕ) (start : Held) (limit : ℕ) (bytes : List ℕ) where
       both all end (inr a) (inr b) = (sym a.1 ∙ same_refused hold most start all a.0 b.0 ∙ b.1, a.2 ∙ sym b.2)
 
 -- of the bytes that were told, the reader gave operations which all found their place: what they left, and their counts
-pub record Fed (hold most : ℕ) (start : Held) (told : Option (List ℕ)) (reader : Reading) (left : Option (List ℕ)) (state : Held) (counts : Tally) : Type 0 where
+pub record Fed (hold most : ℕ) (start : Held) (told : Option (List ℕ)) (reader : FrameReading) (left : Option (List ℕ)) (state : Held) (counts : Tally) : Type 0 where
   pub ops : List Op
   pub gave : Gave told ops reader left
   pub has_place : HasPlace hold most start ops
@@ -191,7 +191,7 @@ pub record Fed (hold most : ℕ) (start : Held) (told : Option (List ℕ)) (read
 
 module _ (hold most : ℕ) (start : Held) where
   -- a fresh reader
-  pub fed_none : (reader : Reading) (left : Option (List ℕ)) → reader.unread ≡ [] → reader.offset ≡ 0 → Fed hold most start left reader left start no_counts
+  pub fed_none : (reader : FrameReading) (left : Option (List ℕ)) → reader.unread ≡ [] → reader.offset ≡ 0 → Fed hold most start left reader left start no_counts
   fed_none reader left none at = record {
     ops = [];
     gave = gave_none reader left none at;
@@ -200,7 +200,7 @@ module _ (hold most : ℕ) (start : Held) where
     counts_are = refl;
   }
 
-  module _ (told : Option (List ℕ)) (old new : Reading) (before after : SourceView) (state : Held) (counts : Tally) (fed : Fed hold most start told old before.left state counts) where
+  module _ (told : Option (List ℕ)) (old new : FrameReading) (before after : SourceView) (state : Held) (counts : Tally) (fed : Fed hold most start told old before.left state counts) where
     after_it : (result : Result (Option Op) FrameFault) → Nexts old new before after result → Follows told fed.ops old new after result
     after_it result nexts = follows told fed.ops old new before after fed.gave result nexts
 
@@ -216,7 +216,7 @@ module _ (hold most : ℕ) (start : Held) where
       counts_are = (λ i. intake_counted hold most (fed.state_is i) op (fed.counts_are i)) ∙ tally-append hold most start fed.ops (op ∷ []) no_counts;
     }
 
-    came : (course : Course) (P : List ℕ → Type 0) → ((bytes : List ℕ) → P bytes → Ends hold most start old.limit bytes fed.ops course) → IfSome told P
+    came : (course : IntakeCourse) (P : List ℕ → Type 0) → ((bytes : List ℕ) → P bytes → Ends hold most start old.limit bytes fed.ops course) → IfSome told P
         → IfSome told (λ bytes. Comes hold most start old.limit bytes fed.ops course)
     came course P ends is = IfSome_then told is (λ bytes p. record { has_place = fed.has_place; ends = ends bytes p })
 
@@ -268,5 +268,5 @@ module _ (hold most : ℕ) (start : Held) where
         })
 
 -- a frame has at least one byte
-pub offset_grows : (op : Op) (old new : Reading) (before after : SourceView) → Nexts old new before after (Ok (Some op)) → old.offset < new.offset
+pub offset_grows : (op : Op) (old new : FrameReading) (before after : SourceView) → Nexts old new before after (Ok (Some op)) → old.offset < new.offset
 offset_grows op old new before after nexts = omega (arith, nexts.advances.offset, frame_some op)

@@ -5,7 +5,7 @@ use Rattle.std.specs.Int.{to_be_bytes, w32, byte_at}
 use Rattle.std.proofs.lemmas.List.{get_or-drop}
 use Rattle.fugue_ids.specs.Identifiers.{Identifier}
 use Rattle.origin_model.specs.frames.Frames.{IsIdentifier, id_bytes, scalar_bytes}
-use Rattle.op_frame.specs.FrameFronts.{code_of}
+use Rattle.op_frame.specs.FrameFronts.{scalar_of_bytes}
 
 abbrev pub AreBytes : List ℕ → Type 0
 AreBytes b = (i : ℕ) → get_or b i 0 < 256
@@ -103,11 +103,11 @@ id_there b n is some small long fits =
     (four_there (drop 4 b) (omega (arith, long, length-drop 4 b)) (behind_four b fits))
 
 -- the bytes of a number of three bytes
-pub bytes_of_code : (h m l : ℕ) → h < 256 → m < 256 → l < 256 → scalar_bytes (code_of h m l) ≡ h ∷ m ∷ l ∷ []
+pub bytes_of_code : (h m l : ℕ) → h < 256 → m < 256 → l < 256 → scalar_bytes (scalar_of_bytes h m l) ≡ h ∷ m ∷ l ∷ []
 bytes_of_code h m l p q r =
-    let e2 : byte_at 2 (code_of h m l) ≡ h = omega arith in
-    let e1 : byte_at 1 (code_of h m l) ≡ m = omega arith in
-    let e0 : byte_at 0 (code_of h m l) ≡ l = omega arith in
+    let e2 : byte_at 2 (scalar_of_bytes h m l) ≡ h = omega arith in
+    let e1 : byte_at 1 (scalar_of_bytes h m l) ≡ m = omega arith in
+    let e0 : byte_at 0 (scalar_of_bytes h m l) ≡ l = omega arith in
     λ i. e2 i ∷ e1 i ∷ e0 i ∷ []
 
 pub some_holds : {T : Type 0} (o : Option T) (P : Type 0) (v : T) → SomeIff o P v → is_some o ≡ true → P

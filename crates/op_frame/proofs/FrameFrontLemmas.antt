@@ -16,7 +16,7 @@ use Rattle.fugue_ids.specs.declared.limits.TheConstants.{LONGEST_TITLE}
 use Rattle.fugue_ids.specs.declared.op.Op.{Op}
 use Rattle.fugue_ids.specs.declared.op.Op.TheVariants.{Delete, Section, Text as TextOp}
 use Rattle.origin_model.specs.frames.Frames.{Begins, Framed, HasFrame, IsBad, IsFrame, IsIdentifier, IsPartial, frame, id_bytes, origin_bytes, scalar_bytes, title_bytes}
-use Rattle.op_frame.specs.FrameFronts.{Awaits, Completes, IsDueFront, IsFrameOf, IsGrown, IsIdentifierBytes, IsJudged, IsLast, IsOriginBytes, IsSound, IsSoundLast, IsTitleEnd, LeavesDue, NeverCompletes, Several, Then, code_of, field_size, grown_by, text_due}
+use Rattle.op_frame.specs.FrameFronts.{Awaits, Completes, IsDueFront, IsFrameOf, IsGrown, IsIdentifierBytes, IsJudged, IsLast, IsOriginBytes, IsSoundDue, IsSoundLast, IsTitleEnd, LeavesDue, NeverCompletes, Several, Then, scalar_of_bytes, field_size, grown_by, text_due}
 use Rattle.op_frame.specs.declared.due.Due.{Due}
 use Rattle.op_frame.specs.declared.due.Due.TheVariants.{Fields, Kind}
 use Rattle.op_frame.specs.declared.due.Judged.TheVariants.{Front}
@@ -65,7 +65,7 @@ first_id = record { replica = 1; counter = 0 }
 first_is_one : IsIdentifier first_id
 first_is_one = record { some_replica = omega arith; replica_fits = omega arith; counter_fits = omega arith }
 
-sample : (due : Due) → IsSound due → Sample due
+sample : (due : Due) → IsSoundDue due → Sample due
 sample Kind s = record { bytes = frame (Delete first_id); completes = (Delete first_id, first_is_one, refl); ends = inr (refl, omega arith) }
 sample (Fields (suc i) o last) s =
     let p = sample (Fields i o last) s in
@@ -75,7 +75,7 @@ sample (Fields zero (suc o) last) s =
 sample (Fields zero zero last) s = last_sample last s
 
 -- an identifier
-pub identifier_done : (i o : ℕ) (last : Last) (bytes : List ℕ) → 0 < i → IsSound (Fields i o last) → IdentifierWith bytes [] → LeavesDue bytes (Fields i o last) (Fields (i - 1) o last)
+pub identifier_done : (i o : ℕ) (last : Last) (bytes : List ℕ) → 0 < i → IsSoundDue (Fields i o last) → IdentifierWith bytes [] → LeavesDue bytes (Fields i o last) (Fields (i - 1) o last)
 identifier_done zero o last bytes some s p = absurd (omega (arith, some))
 identifier_done (suc i) o last bytes some s p =
     let one : suc i - 1 ≡ i = omega arith in
@@ -84,7 +84,7 @@ identifier_done (suc i) o last bytes some s p =
       sound = s;
     })
 
-pub identifier_front : (i o : ℕ) (last : Last) (bytes : List ℕ) → 0 < i → IsSound (Fields i o last) → length bytes < 8 → IdentifierFront bytes → IsJudged Front (Fields i o last) bytes
+pub identifier_front : (i o : ℕ) (last : Last) (bytes : List ℕ) → 0 < i → IsSoundDue (Fields i o last) → length bytes < 8 → IdentifierFront bytes → IsJudged Front (Fields i o last) bytes
 identifier_front zero o last bytes some s short p = absurd (omega (arith, some))
 identifier_front (suc i) o last bytes some s short p =
     let behind = sample (Fields i o last) s in (
@@ -103,7 +103,7 @@ identifier_front (suc i) o last bytes some s short p =
     )
 
 -- the first byte of an origin
-pub start_done : (o : ℕ) (last : Last) → 0 < o → IsSound (Fields 0 o last) → LeavesDue (0 ∷ []) (Fields 0 o last) (Fields 0 (o - 1) last)
+pub start_done : (o : ℕ) (last : Last) → 0 < o → IsSoundDue (Fields 0 o last) → LeavesDue (0 ∷ []) (Fields 0 o last) (Fields 0 (o - 1) last)
 start_done zero last some s = absurd (omega (arith, some))
 start_done (suc o) last some s =
     let one : suc o - 1 ≡ o = omega arith in
@@ -116,7 +116,7 @@ start_done (suc o) last some s =
     first field rest more (None, valid, is) r e = subst (Several o IsOriginBytes (IsLast last)) (sym (cc (e ∙ ap (λ f. f ++ rest) is))) r
     first field rest more (Some id, valid, is) r e = absurd (cc (e ∙ ap (λ f. f ++ rest) is))
 
-pub tag_done : (o : ℕ) (last : Last) → 0 < o → IsSound (Fields 0 o last) → LeavesDue (1 ∷ []) (Fields 0 o last) (Fields 1 (o - 1) last)
+pub tag_done : (o : ℕ) (last : Last) → 0 < o → IsSoundDue (Fields 0 o last) → LeavesDue (1 ∷ []) (Fields 0 o last) (Fields 1 (o - 1) last)
 tag_done zero last some s = absurd (omega (arith, some))
 tag_done (suc o) last some s =
     let one : suc o - 1 ≡ o = omega arith in
@@ -134,12 +134,12 @@ tag_done (suc o) last some s =
     first field rest more (Some id, valid, is) r e = (id_bytes id, rest, (id, valid, refl), r, cc (e ∙ ap (λ f. f ++ rest) is))
 
 -- a scalar
-pub scalar_front : (bytes : List ℕ) → 0 < length bytes → length bytes < 3 → AreBytes bytes → IsScalar (code_of (get_or bytes 0 0) (get_or bytes 1 0) (get_or bytes 2 0)) → IsDueFront (Fields 0 0 Scalar) bytes
+pub scalar_front : (bytes : List ℕ) → 0 < length bytes → length bytes < 3 → AreBytes bytes → IsScalar (scalar_of_bytes (get_or bytes 0 0) (get_or bytes 1 0) (get_or bytes 2 0)) → IsDueFront (Fields 0 0 Scalar) bytes
 scalar_front [] some short fits is = absurd (omega (arith, some))
 scalar_front (h ∷ []) some short fits is =
-    record { more = 0 ∷ 0 ∷ []; lacks = omega arith; completes = (code_of h 0 0, is, sym (bytes_of_code h 0 0 (fits 0) (omega arith) (omega arith))) }
+    record { more = 0 ∷ 0 ∷ []; lacks = omega arith; completes = (scalar_of_bytes h 0 0, is, sym (bytes_of_code h 0 0 (fits 0) (omega arith) (omega arith))) }
 scalar_front (h ∷ m ∷ []) some short fits is =
-    record { more = 0 ∷ []; lacks = omega arith; completes = (code_of h m 0, is, sym (bytes_of_code h m 0 (fits 0) (fits 1) (omega arith))) }
+    record { more = 0 ∷ []; lacks = omega arith; completes = (scalar_of_bytes h m 0, is, sym (bytes_of_code h m 0 (fits 0) (fits 1) (omega arith))) }
 scalar_front (h ∷ m ∷ l ∷ b) some short fits is = absurd (omega (arith, short))
 
 -- a title's length
@@ -190,7 +190,7 @@ text_is : (len : ℕ) (more : List ℕ) → IsTitleEnd len more ↔ Completes (t
 text_is zero more = (λ e. none_long more e.2, λ none. subst (IsTitleEnd 0) (sym none) (IsUtf8-nil, refl, refl))
 text_is (suc len) more = (λ e. e, λ e. e)
 
-sound_text : (len : ℕ) → len ≤ LONGEST_TITLE → IsSound (text_due len)
+sound_text : (len : ℕ) → len ≤ LONGEST_TITLE → IsSoundDue (text_due len)
 sound_text zero short = tt
 sound_text (suc len) short = (omega arith, short)
 
@@ -309,7 +309,7 @@ module _ (due : Due) (before : List ℕ) (rest : (more : List ℕ) → IsFrameOf
     λ p. none p.more ((rest (bytes ++ p.more)).0 (p.framed.ops, subst (λ b. IsFrame (record { bytes = b; ops = p.framed.ops })) (p.front ∙ append_assoc before bytes p.more) p.is_frame)),
   )
 
-  pub is_grown : (grown : Grown) → grown ≡ grown_by due → IsSound due → IsGrown grown before
+  pub is_grown : (grown : Grown) → grown ≡ grown_by due → IsSoundDue due → IsGrown grown before
   is_grown grown e s =
       let p = sample due s in
       elim p.ends [
@@ -394,7 +394,7 @@ awaits_all = record {
   sound = tt;
 }
 
-size_some : (due : Due) → IsSound due → 0 < field_size due
+size_some : (due : Due) → IsSoundDue due → 0 < field_size due
 size_some Kind s = omega arith
 size_some (Fields (suc i) o last) s = omega arith
 size_some (Fields zero (suc o) last) s = omega arith

@@ -8,7 +8,7 @@ use Rattle.outer_ports.specs.Sources.{SourceView, KeepsCount}
 use Rattle.origin_model.specs.frames.Frames.{HasFrame, IsBad, IsPartial, frame}
 use Rattle.op_frame.specs.declared.fault.FrameFault.{FrameFault}
 use Rattle.op_frame.specs.declared.fault.FrameFault.TheVariants.{BadFrame, CutShort, ReadFault, TooLong, NoMemory}
-use Rattle.op_frame.specs.Readers.{AnswerIs, AnswersBy, CarriesOffset, Moves, given_length}
+use Rattle.op_frame.specs.Readers.{ReadingAnswerIs, AnswersBy, CarriesOffset, Moves, given_length}
 use Rattle.op_frame.specs.Refills.{Refills, Drops}
 use Rattle.op_frame.specs.Steps.{Takes, TakesFrame, only_op}
 use Rattle.op_frame.proofs.FrameLemmas.{bad_goes_on}
@@ -28,12 +28,12 @@ first_stays [] rest x is = absurd (cc is)
 first_stays (y ∷ b) rest x is = is
 
 module _ (old unread : List ℕ) (before now : SourceView) (offset room : ℕ) (s : Stands old unread before now room) where
-  answer : (result : Result (Option Op) FrameFault) → ((rest : List ℕ) → now.left ≡ Some rest → AnswerIs result offset room (unread ++ rest))
+  answer : (result : Result (Option Op) FrameFault) → ((rest : List ℕ) → now.left ≡ Some rest → ReadingAnswerIs result offset room (unread ++ rest))
       → IfSome (prepend_known old before.left) (AnswersBy result offset room)
   answer result is = shows (AnswersBy result offset room) unread now.left (prepend_known old before.left) s.told (λ rest left. answers_by result offset room (unread ++ rest) (is rest left))
 
   -- an answer that is no fault of the source, by the bytes told so far
-  ends_so : (new : List ℕ) (result : Result (Option Op) FrameFault) → ((rest : List ℕ) → now.left ≡ Some rest → AnswerIs result offset room (unread ++ rest)) → CarriesOffset result offset
+  ends_so : (new : List ℕ) (result : Result (Option Op) FrameFault) → ((rest : List ℕ) → now.left ≡ Some rest → ReadingAnswerIs result offset room (unread ++ rest)) → CarriesOffset result offset
       → Moves result old new before.left now.left → length new + given_length result ≤ room → (IsErrOf result TooLong → ⊥) → (IsErrOf result ReadFault → ⊥) → IfOk result (λ given. IfSome given HasFrame)
       → Takes old new before now offset room result
   ends_so new result is at moves within short no_fault has = record {
@@ -85,7 +85,7 @@ module _ (old unread : List ℕ) (before now : SourceView) (offset room : ℕ) (
   over (Ok (Some found)) front none is cut = absurd (cc is.0)
   over (Err e) front none is cut = subst (λ (fault : FrameFault). Takes old unread before now offset room (Err fault)) (sym cut.0) (ends_so unread (Err (CutShort offset)) (λ rest left.
       let all : unread ≡ unread ++ rest = sym (append-nil unread) ∙ ap (λ (l : List ℕ). unread ++ l) (sym (some_is (λ (l : List ℕ). l ≡ []) now.left rest none left)) in
-      subst (AnswerIs (Err (CutShort offset)) offset room) all (refl, cut.1, s.inside, front)) refl (s.told, none) (omega (arith, s.inside)) (λ is. cc is) (λ is. cc is) tt)
+      subst (ReadingAnswerIs (Err (CutShort offset)) offset room) all (refl, cut.1, s.inside, front)) refl (s.told, none) (omega (arith, s.inside)) (λ is. cc is) (λ is. cc is) tt)
 
   more_there : (left : Option (List ℕ)) (rest : List ℕ) (byte : ℕ) → Some rest ≡ prepend_known (byte ∷ []) left → 0 < length rest
   more_there None rest byte is = absurd (cc is)

@@ -9,7 +9,7 @@ use Rattle.outer_ports.specs.Sources.{SourceView}
 use Rattle.origin_model.specs.frames.Frames.{frame, Framed, IsFrame, Begins, IsPartial, IsBad, End, Whole, CutShort as EndsCut, BadFrame as EndsBad, EndsSo, Reads, Starts}
 use Rattle.op_frame.specs.declared.fault.FrameFault.TheVariants.{BadFrame, CutShort, ReadFault, TooLong, NoMemory}
 use Rattle.op_frame.specs.declared.fault.FrameFault.{FrameFault}
-use Rattle.op_frame.specs.Readers.{Reading, to_give, AnswerIs, AreFirst, Chains, EndsBy, Follows, Gave, IsByBytes, Nexts, given_with}
+use Rattle.op_frame.specs.Readers.{FrameReading, to_give, ReadingAnswerIs, AreFirst, Chains, EndsBy, Follows, Gave, IsReadByBytes, Nexts, given_with}
 use Rattle.fugue_ids.specs.declared.op.Op.TheVariants.{Delete, Section, Text}
 use Rattle.op_frame.proofs.OperationLemmas.{operation_code}
 use Rattle.origin_model.proofs.SharedLemmas.{framed_is, framed_of}
@@ -186,7 +186,7 @@ reads_some b =
     )
 
 -- nothing was given yet
-pub gave_none : (reader : Reading) (left : Option (List ℕ)) → reader.unread ≡ [] → reader.offset ≡ 0 → Gave left [] reader left
+pub gave_none : (reader : FrameReading) (left : Option (List ℕ)) → reader.unread ≡ [] → reader.offset ≡ 0 → Gave left [] reader left
 gave_none reader left none start = record {
   found = [];
   are_frames = All-nil IsFrame;
@@ -200,7 +200,7 @@ anything None = tt
 anything (Some bytes) = tt
 
 -- one operation more was given
-gave_more : (told : Option (List ℕ)) (ops : List Op) (op : Op) (old new : Reading) (before after : SourceView) → Gave told ops old before.left
+gave_more : (told : Option (List ℕ)) (ops : List Op) (op : Op) (old new : FrameReading) (before after : SourceView) → Gave told ops old before.left
     → Nexts old new before after (Ok (Some op)) → Gave told (ops ++ op ∷ []) new after.left
 gave_more told ops op old new before after so step =
     let bytes : bytes_of so.found ++ frame op ≡ bytes_of (so.found ++ framed_of op ∷ []) = flat_map_more (λ framed. framed.bytes) [] so.found (framed_of op) in
@@ -214,7 +214,7 @@ gave_more told ops op old new before after so step =
     }
 
 -- the operations given, the rest behind them, and how it ends
-gave_reads : (told : Option (List ℕ)) (ops : List Op) (reader : Reading) (left : Option (List ℕ)) (so : Gave told ops reader left) (rest : List ℕ) (end : End)
+gave_reads : (told : Option (List ℕ)) (ops : List Op) (reader : FrameReading) (left : Option (List ℕ)) (so : Gave told ops reader left) (rest : List ℕ) (end : End)
     → EndsSo rest reader.offset end → Reads (bytes_of so.found ++ rest) ops end
 gave_reads told ops reader left so rest end ends = record {
   found = so.found;
@@ -226,7 +226,7 @@ gave_reads told ops reader left so rest end ends = record {
 }
 
 -- frames that stand at the front are those of the reading
-gave_first : (told : Option (List ℕ)) (ops : List Op) (reader : Reading) (left : Option (List ℕ)) → Gave told ops reader left → IfSome told (AreFirst ops)
+gave_first : (told : Option (List ℕ)) (ops : List Op) (reader : FrameReading) (left : Option (List ℕ)) → Gave told ops reader left → IfSome told (AreFirst ops)
 gave_first told ops reader left so = shows (AreFirst ops) (bytes_of so.found) (to_give reader left) told so.split
     (λ rest is all end reads. starts_first (bytes_of so.found ++ rest) ops rest all end
     (record { found = so.found; are_frames = so.are_frames; ops_are = so.ops_are; split = refl }) reads)
@@ -236,7 +236,7 @@ partial_end : (rest : List ℕ) (k : ℕ) → IsPartial rest → (end : End) × 
 partial_end [] k partial = (Whole, refl, inl refl)
 partial_end (x ∷ rest) k partial = (EndsCut k, (refl, (λ none. cc none), partial), inr (k, refl))
 
-module _ (told : Option (List ℕ)) (ops : List Op) (old new : Reading) (before after : SourceView) (so : Gave told ops old before.left) where
+module _ (told : Option (List ℕ)) (ops : List Op) (old new : FrameReading) (before after : SourceView) (so : Gave told ops old before.left) where
   -- where the answer does not move the reader
   gave_on : old.offset ≡ new.offset → to_give old before.left ≡ to_give new after.left → Gave told ops new after.left
   gave_on at same = record {
@@ -248,8 +248,8 @@ module _ (told : Option (List ℕ)) (ops : List Op) (old new : Reading) (before 
   }
 
   -- what an answer of the reader says of the whole stream
-  whole : (result : Result (Option Op) FrameFault) (by : IsByBytes result) → Nexts old new before after result
-      → ((rest : List ℕ) → AnswerIs result old.offset (old.limit - old.offset) rest → EndsBy old.limit ops result (bytes_of so.found ++ rest)) → IfSome told (EndsBy old.limit ops result)
+  whole : (result : Result (Option Op) FrameFault) (by : IsReadByBytes result) → Nexts old new before after result
+      → ((rest : List ℕ) → ReadingAnswerIs result old.offset (old.limit - old.offset) rest → EndsBy old.limit ops result (bytes_of so.found ++ rest)) → IfSome told (EndsBy old.limit ops result)
   whole result by step ends = shows (EndsBy old.limit ops result) (bytes_of so.found) (to_give old before.left) told so.split
       (λ rest is. ends rest (((some_is _ (to_give old before.left) rest step.answer is).exactly by result by).0 refl))
 
@@ -299,5 +299,5 @@ module _ (told : Option (List ℕ)) (ops : List Op) (old new : Reading) (before 
   follows result step = record { gave = gave_with result step; first = first_with result step; ends = ends_by result step }
 
 -- the chain of a reader's answers
-pub chains : (old new : Reading) (before after : SourceView) (result : Result (Option Op) FrameFault) → Nexts old new before after result → Chains old new before after result
+pub chains : (old new : FrameReading) (before after : SourceView) (result : Result (Option Op) FrameFault) → Nexts old new before after result → Chains old new before after result
 chains old new before after result step told ops so = follows told ops old new before after so result step

@@ -5,14 +5,14 @@ use Rattle.origin_model.specs.frames.Frames.{End, Whole as EndsWhole, CutShort a
 use Rattle.origin_model.specs.taking.Taking.{Held, HasPlace, TooMany as AnswersTooMany, held_from, answer}
 
 -- how taking in a stream ends
-pub data Course : Type 0 where
-  Whole : Course
-  CutShort : ℕ → Course
-  BadFrame : ℕ → Course
+pub data IntakeCourse : Type 0 where
+  Whole : IntakeCourse
+  CutShort : ℕ → IntakeCourse
+  BadFrame : ℕ → IntakeCourse
   -- the stream goes on past its limit, and up to there it has no fault
-  TooLong : Course
+  TooLong : IntakeCourse
   -- one operation more came than can be held
-  TooMany : Course
+  TooMany : IntakeCourse
 
 -- the stream's frames end where it ends, or inside of one more
 abbrev pub EndsWell : List ℕ → List Op → Type 0
@@ -37,13 +37,13 @@ pub record MeetsTooMany (hold most : ℕ) (start : Held) (bytes : List ℕ) (ops
   pub refused : answer hold most (held_from hold most start ops) op ≡ AnswersTooMany
 
 -- the bytes come to this end, and the operations were taken in before it
-abbrev pub Ends : (hold most : ℕ) (start : Held) (limit : ℕ) → List ℕ → List Op → Course → Type 0
+abbrev pub Ends : (hold most : ℕ) (start : Held) (limit : ℕ) → List ℕ → List Op → IntakeCourse → Type 0
 Ends hold most start limit bytes ops Whole = (length bytes ≤ limit) × Reads bytes ops EndsWhole
 Ends hold most start limit bytes ops (CutShort offset) = (length bytes ≤ limit) × Reads bytes ops (EndsCutShort offset)
 Ends hold most start limit bytes ops (BadFrame offset) = Reads (take limit bytes) ops (EndsInBadFrame offset)
 Ends hold most start limit bytes ops TooLong = (limit < length bytes) × EndsWell (take limit bytes) ops
 Ends hold most start limit bytes ops TooMany = MeetsTooMany hold most start (take limit bytes) ops
 
-pub record Comes (hold most : ℕ) (start : Held) (limit : ℕ) (bytes : List ℕ) (ops : List Op) (course : Course) : Type 0 where
+pub record Comes (hold most : ℕ) (start : Held) (limit : ℕ) (bytes : List ℕ) (ops : List Op) (course : IntakeCourse) : Type 0 where
   pub has_place : HasPlace hold most start ops
   pub ends : Ends hold most start limit bytes ops course

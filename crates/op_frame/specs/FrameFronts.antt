@@ -62,9 +62,9 @@ abbrev pub IsSoundLast : Last → Type 0
 IsSoundLast (Text len) = (0 < len) × (len ≤ LONGEST_TITLE)
 IsSoundLast last = Unit {0}
 
-abbrev pub IsSound : Due → Type 0
-IsSound Kind = Unit {0}
-IsSound (Fields identifiers origins last) = IsSoundLast last
+abbrev pub IsSoundDue : Due → Type 0
+IsSoundDue Kind = Unit {0}
+IsSoundDue (Fields identifiers origins last) = IsSoundLast last
 
 -- how many bytes the field has that is due, or its first part
 abbrev pub last_size : Last → ℕ
@@ -82,7 +82,7 @@ field_size (Fields zero zero last) = last_size last
 -- what is due behind some bytes of what was due
 pub record LeavesDue (bytes : List ℕ) (due next : Due) : Type 0 where
   pub rest : (more : List ℕ) → Completes due (bytes ++ more) ↔ Completes next more
-  pub sound : IsSound next
+  pub sound : IsSoundDue next
 
 -- some more bytes are what is due
 pub record IsDueFront (due : Due) (bytes : List ℕ) : Type 0 where
@@ -101,8 +101,8 @@ IsJudged Front due bytes = (length bytes < field_size due) × IsDueFront due byt
 IsJudged Bad due bytes = NeverCompletes due bytes
 
 -- the number of three bytes
-abbrev pub code_of : (high middle low : ℕ) → ℕ
-code_of high middle low = high * 65536 + middle * 256 + low
+abbrev pub scalar_of_bytes : (high middle low : ℕ) → ℕ
+scalar_of_bytes high middle low = high * 65536 + middle * 256 + low
 
 -- how many bytes a character has that begins with this byte and is not ASCII
 abbrev pub width_of : ℕ → ℕ
@@ -117,7 +117,7 @@ text_due (suc len) = Fields 0 0 (Text (suc len))
 pub record Awaits (due : Due) (before : List ℕ) (came : ℕ) : Type 0 where
   pub rest : (more : List ℕ) → IsFrameOf (before ++ more) ↔ Completes due more
   pub short : came < field_size due
-  pub sound : IsSound due
+  pub sound : IsSoundDue due
 
 -- nothing is due behind a frame
 abbrev pub grown_by : Due → Grown

@@ -3,7 +3,7 @@ use Rattle.std.specs.Prelude.{◌≡◌, All, List, ℕ, ◌++◌, []}
 use Rattle.fugue_ids.specs.declared.op.Op.{Op}
 use Rattle.origin_model.specs.frames.Frames.{End, Whole, Reads, frame, frames, HasFrame}
 use Rattle.origin_model.specs.taking.Taking.{Held}
-use Rattle.op_frame.specs.Courses.{Course, Comes}
+use Rattle.op_frame.specs.Courses.{IntakeCourse, Comes}
 
 -- one operation has one frame, and no frame is a proper front of another
 pub record OneFrame : Type 0 where
@@ -19,6 +19,6 @@ pub record ReadsOnce : Type 0 where
 
 -- each stream comes to exactly one end
 pub record ComesOnce : Type 0 where
-  pub one : (hold most : ℕ) (start : Held) (limit : ℕ) (bytes : List ℕ) (ops others : List Op) (course other : Course)
+  pub one : (hold most : ℕ) (start : Held) (limit : ℕ) (bytes : List ℕ) (ops others : List Op) (course other : IntakeCourse)
       → Comes hold most start limit bytes ops course → Comes hold most start limit bytes others other → (ops ≡ others) × (course ≡ other)
-  pub some : (hold most : ℕ) (start : Held) (limit : ℕ) (bytes : List ℕ) → (ops : List Op) × (course : Course) × Comes hold most start limit bytes ops course
+  pub some : (hold most : ℕ) (start : Held) (limit : ℕ) (bytes : List ℕ) → (ops : List Op) × (course : IntakeCourse) × Comes hold most start limit bytes ops course

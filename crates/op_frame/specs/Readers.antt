@@ -8,7 +8,7 @@ use Rattle.op_frame.specs.declared.fault.FrameFault.{FrameFault}
 use Rattle.op_frame.specs.declared.fault.FrameFault.TheVariants.{BadFrame, CutShort, ReadFault, TooLong, NoMemory}
 use Rattle.op_frame.specs.Courses.{EndsWell}
 
-pub record Reading : Type 0 where
+pub record FrameReading : Type 0 where
   -- how many bytes the reader takes of its source in all
   pub limit : ℕ
   -- the bytes taken and not yet given
@@ -21,7 +21,7 @@ pub record Reading : Type 0 where
   pub fault : Option FrameFault
 
 -- the bytes that are still to be given, where they are told
-abbrev pub to_give : Reading → Option (List ℕ) → Option (List ℕ)
+abbrev pub to_give : FrameReading → Option (List ℕ) → Option (List ℕ)
 to_give r left = prepend_known r.unread left
 
 -- an operation's frame is a front of the bytes, whole within the first `room`
@@ -38,24 +38,24 @@ given_length (Ok None) = 0
 given_length (Err e) = 0
 
 -- where which answer comes, by the offset of the first unread byte, what the limit leaves from there on, and the bytes to give
-abbrev pub AnswerIs : Result (Option Op) FrameFault → (offset room : ℕ) → List ℕ → Type 0
-AnswerIs (Ok (Some op)) offset room bytes = StartsWithin op room bytes
-AnswerIs (Ok None) offset room bytes = bytes ≡ []
-AnswerIs (Err (BadFrame k)) offset room bytes = (k ≡ offset) × IsBad (take room bytes)
-AnswerIs (Err (CutShort k)) offset room bytes = (k ≡ offset) × (bytes ≢ []) × (length bytes ≤ room) × IsPartial bytes
-AnswerIs (Err TooLong) offset room bytes = (room < length bytes) × IsPartial (take room bytes)
-AnswerIs (Err ReadFault) offset room bytes = Unit {0}
-AnswerIs (Err NoMemory) offset room bytes = slice_get bytes 0 ≡ Some 1
+abbrev pub ReadingAnswerIs : Result (Option Op) FrameFault → (offset room : ℕ) → List ℕ → Type 0
+ReadingAnswerIs (Ok (Some op)) offset room bytes = StartsWithin op room bytes
+ReadingAnswerIs (Ok None) offset room bytes = bytes ≡ []
+ReadingAnswerIs (Err (BadFrame k)) offset room bytes = (k ≡ offset) × IsBad (take room bytes)
+ReadingAnswerIs (Err (CutShort k)) offset room bytes = (k ≡ offset) × (bytes ≢ []) × (length bytes ≤ room) × IsPartial bytes
+ReadingAnswerIs (Err TooLong) offset room bytes = (room < length bytes) × IsPartial (take room bytes)
+ReadingAnswerIs (Err ReadFault) offset room bytes = Unit {0}
+ReadingAnswerIs (Err NoMemory) offset room bytes = slice_get bytes 0 ≡ Some 1
 
 -- the bytes decide such an answer: it is no fault of the source, and no want of memory
-abbrev pub IsByBytes : Result (Option Op) FrameFault → Type 0
-IsByBytes (Err ReadFault) = ⊥
-IsByBytes (Err NoMemory) = ⊥
-IsByBytes result = Unit {0}
+abbrev pub IsReadByBytes : Result (Option Op) FrameFault → Type 0
+IsReadByBytes (Err ReadFault) = ⊥
+IsReadByBytes (Err NoMemory) = ⊥
+IsReadByBytes result = Unit {0}
 
 -- each answer comes exactly where the bytes to give say so, but for a fault of the source and want of memory
 pub record AnswersBy (result : Result (Option Op) FrameFault) (offset room : ℕ) (bytes : List ℕ) : Type 0 where
-  pub exactly : IsByBytes result → (answer : Result (Option Op) FrameFault) → IsByBytes answer → (result ≡ answer) ↔ AnswerIs answer offset room bytes
+  pub exactly : IsReadByBytes result → (answer : Result (Option Op) FrameFault) → IsReadByBytes answer → (result ≡ answer) ↔ ReadingAnswerIs answer offset room bytes
   pub memory : IsErrOf result NoMemory → slice_get bytes 0 ≡ Some 1
 
 -- the offset that a fault carries
@@ -81,7 +81,7 @@ Moves (Err TooLong) old new before after = (byte : ℕ) × (prepend_known old be
 Moves (Err e) old new before after = prepend_known old before ≡ prepend_known new after
 
 -- the offset of the frame that was last given
-abbrev pub last_after : Reading → Result (Option Op) FrameFault → ℕ
+abbrev pub last_after : FrameReading → Result (Option Op) FrameFault → ℕ
 last_after old (Ok (Some op)) = old.offset
 last_after old (Ok None) = old.last
 last_after old (Err e) = old.last
@@ -92,7 +92,7 @@ fault_after (Ok given) = None
 fault_after (Err e) = kept_fault e
 
 -- what a call of `next` did to the reader, where no fault was kept
-pub record Advances (old new : Reading) (result : Result (Option Op) FrameFault) : Type 0 where
+pub record Advances (old new : FrameReading) (result : Result (Option Op) FrameFault) : Type 0 where
   pub offset : new.offset ≡ old.offset + given_length result
   pub last : new.last ≡ last_after old result
   pub limit : new.limit ≡ old.limit
@@ -102,7 +102,7 @@ pub record Advances (old new : Reading) (result : Result (Option Op) FrameFault)
   pub fault : new.fault ≡ fault_after result
 
 -- one call of `next` where no fault was kept
-pub record Nexts (old new : Reading) (before after : SourceView) (result : Result (Option Op) FrameFault) : Type 0 where
+pub record Nexts (old new : FrameReading) (before after : SourceView) (result : Result (Option Op) FrameFault) : Type 0 where
   pub answer : IfSome (to_give old before.left) (AnswersBy result old.offset (old.limit - old.offset))
   pub at : CarriesOffset result old.offset
   pub moves : Moves result old.unread new.unread before.left after.left
@@ -110,7 +110,7 @@ pub record Nexts (old new : Reading) (before after : SourceView) (result : Resul
   pub advances : Advances old new result
 
 -- of the bytes that were told the reader gave these operations, those of the frames at the front, and it stands behind these frames
-pub record Gave (told : Option (List ℕ)) (ops : List Op) (reader : Reading) (left : Option (List ℕ)) : Type 0 where
+pub record Gave (told : Option (List ℕ)) (ops : List Op) (reader : FrameReading) (left : Option (List ℕ)) : Type 0 where
   pub found : List Framed
   pub are_frames : All IsFrame found
   pub ops_are : ops ≡ flat_map (λ framed. framed.ops) found
@@ -135,11 +135,11 @@ EndsBy limit ops (Err TooLong) bytes = (limit < length bytes) × EndsWell (take 
 EndsBy limit ops result bytes = Unit {0}
 
 -- what an answer adds, behind operations that were given of the bytes that were told
-pub record Follows (told : Option (List ℕ)) (ops : List Op) (old new : Reading) (after : SourceView) (result : Result (Option Op) FrameFault) : Type 0 where
+pub record Follows (told : Option (List ℕ)) (ops : List Op) (old new : FrameReading) (after : SourceView) (result : Result (Option Op) FrameFault) : Type 0 where
   pub gave : (IsErrOf result TooLong → ⊥) → Gave told (given_with ops result) new after.left
   pub first : IfSome told (AreFirst (given_with ops result))
   pub ends : IfSome told (EndsBy old.limit ops result)
 
 -- the chain of a reader's answers
-abbrev pub Chains : (old new : Reading) (before after : SourceView) → Result (Option Op) FrameFault → Type 0
+abbrev pub Chains : (old new : FrameReading) (before after : SourceView) → Result (Option Op) FrameFault → Type 0
 Chains old new before after result = (told : Option (List ℕ)) (ops : List Op) → Gave told ops old before.left → Follows told ops old new after result

@@ -1,10 +1,12 @@
 ghost use Rattle.std.specs.Prelude.{◌≡◌, ◌++◌, [], ◌∷◌, slice_get, IfOk, IsErr, Some};
 ghost use Rattle.std.specs.Char.{IsScalar};
-ghost use Rattle.origin_model.specs.frames.Frames.{IsFrame, IsIdentifier, IsOrigin, IsTitle, id_bytes, origin_bytes, scalar_bytes, title_bytes};
+ghost use Rattle.origin_model.specs.frames.Frames.{IsFrame, IsIdentifier, IsOrigin, IsTitle, id_bytes, origin_bytes};
+ghost use Rattle.origin_model.specs.frames.Frames.{scalar_bytes, title_bytes};
 ghost use Rattle.op_frame.specs.Firsts.{IsFrameBehind, StartsWith};
 ghost use Rattle.op_frame.specs.FrameFronts.{Completes, IsFrameOf, IsIdentifierBytes, IsLast, IsOriginBytes};
 ghost use Rattle.op_frame.specs.declared.due.Due.TheVariants.{Fields as FieldsDue};
-ghost use Rattle.op_frame.specs.declared.due.Last.TheVariants.{Nothing as NothingLast, Scalar as ScalarLast, Title as TitleLast};
+ghost use Rattle.op_frame.specs.declared.due.Last.TheVariants.{Nothing as NothingLast, Scalar as ScalarLast};
+ghost use Rattle.op_frame.specs.declared.due.Last.TheVariants.{Title as TitleLast};
 
 use crate::number::{number, scalar_of};
 use crate::protocol::{DELETE, SECTION, TEXT};

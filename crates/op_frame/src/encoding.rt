@@ -1,6 +1,7 @@
 ghost use Rattle.std.specs.Prelude.{◌≡◌, ◌≤◌, ◌+◌, ◌++◌, length, vec_len, vec_capacity, OnOk, OnErr};
 ghost use Rattle.std.specs.Char.{IsScalar};
-ghost use Rattle.origin_model.specs.frames.Frames.{HasFrame, IsIdentifier, IsOrigin, IsTitle, frame, id_bytes, origin_bytes, title_bytes, scalar_bytes};
+ghost use Rattle.origin_model.specs.frames.Frames.{HasFrame, IsIdentifier, IsOrigin, IsTitle, frame, id_bytes};
+ghost use Rattle.origin_model.specs.frames.Frames.{origin_bytes, title_bytes, scalar_bytes};
 ghost use Rattle.op_frame.specs.Encoded.{Puts};
 
 use crate::protocol::{DELETE, SECTION, TEXT};

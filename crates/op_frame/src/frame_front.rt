@@ -28,7 +28,8 @@ impl Model for FrameFront {
 
     ghost view = { λ f. take f.len f.bytes };
 
-    ghost invariant = { λ f. (f.field ≤ f.len) × (f.len ≤ LONGEST_FRAME) × Awaits f.due (take f.field f.bytes) (f.len - f.field) };
+    ghost invariant = { λ f. (f.field ≤ f.len) × (f.len ≤ LONGEST_FRAME)
+        × Awaits f.due (take f.field f.bytes) (f.len - f.field) };
 }
 
 impl FrameFront {

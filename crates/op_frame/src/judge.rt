@@ -1,5 +1,6 @@
 ghost use Rattle.std.specs.Prelude.{◌≡◌, ◌≤◌, ◌<◌, length, [], ◌∷◌, true, false};
-ghost use Rattle.op_frame.specs.FrameFronts.{IsJudged, IsSound, field_size as due_size, grown_by as by_due, last_size as due_last_size};
+ghost use Rattle.op_frame.specs.FrameFronts.{IsJudged, IsSoundDue, field_size as due_size, grown_by as by_due};
+ghost use Rattle.op_frame.specs.FrameFronts.{last_size as due_last_size};
 ghost use Rattle.op_frame.specs.declared.due.Due.TheVariants.{Fields as FieldsDue, Kind as KindDue};
 ghost use Rattle.op_frame.specs.declared.due.Last.TheVariants.{Scalar as ScalarLast};
 ghost use Rattle.op_frame.specs.declared.grown.Grown.TheVariants.{Frame as WholeGrown, Front as FrontGrown};
@@ -65,7 +66,7 @@ pub(crate) fn grown_by(due: Due) -> Grown
 pub(crate) fn judge(due: Due, bytes: &[u8]) -> Judged
     requires some { 0 < length bytes.now }
     requires short { length bytes.now ≤ due_size due }
-    requires sound { IsSound due }
+    requires sound { IsSoundDue due }
     ensures { IsJudged result due bytes.now }
 {
     match due {
@@ -98,7 +99,7 @@ fn judge_kind(kind: u8) -> Judged
 fn judge_identifier(identifiers: u8, origins: u8, last: Last, bytes: &[u8]) -> Judged
     requires some { 0 < identifiers }
     requires short { length bytes.now ≤ 8 }
-    requires sound { IsSound (FieldsDue identifiers origins last) }
+    requires sound { IsSoundDue (FieldsDue identifiers origins last) }
     ensures { IsJudged result (FieldsDue identifiers origins last) bytes.now }
 {
     if bytes.len() < 4 {
@@ -116,7 +117,7 @@ fn judge_identifier(identifiers: u8, origins: u8, last: Last, bytes: &[u8]) -> J
 /// The first byte of an origin says whether an identifier follows.
 fn judge_tag(origins: u8, last: Last, tag: u8) -> Judged
     requires some { 0 < origins }
-    requires sound { IsSound (FieldsDue 0 origins last) }
+    requires sound { IsSoundDue (FieldsDue 0 origins last) }
     ensures { IsJudged result (FieldsDue 0 origins last) (tag ∷ []) }
 {
     match tag {
@@ -129,7 +130,7 @@ fn judge_tag(origins: u8, last: Last, tag: u8) -> Judged
 fn judge_last(last: Last, bytes: &[u8]) -> Judged
     requires some { 0 < length bytes.now }
     requires short { length bytes.now ≤ due_last_size last }
-    requires sound { IsSound (FieldsDue 0 0 last) }
+    requires sound { IsSoundDue (FieldsDue 0 0 last) }
     ensures { IsJudged result (FieldsDue 0 0 last) bytes.now }
 {
     match last {

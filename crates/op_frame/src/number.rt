@@ -1,7 +1,7 @@
 ghost use Rattle.std.specs.Prelude.{◌≡◌, ◌≤◌, ◌++◌, length, drop, get_or, SomeIff};
 ghost use Rattle.std.specs.Int.{to_be_bytes, w32};
 ghost use Rattle.std.specs.Char.{IsScalar};
-ghost use Rattle.op_frame.specs.FrameFronts.{code_of};
+ghost use Rattle.op_frame.specs.FrameFronts.{scalar_of_bytes};
 
 /// The number in the first four bytes.
 pub(crate) fn number(bytes: &[u8]) -> u32
@@ -16,7 +16,7 @@ pub(crate) fn number(bytes: &[u8]) -> u32
 
 /// The scalar that has these three bytes.
 pub(crate) fn scalar_of(high: u8, middle: u8, low: u8) -> Option<char>
-    ensures { let code = code_of high middle low in SomeIff result (IsScalar code) code }
+    ensures { let code = scalar_of_bytes high middle low in SomeIff result (IsScalar code) code }
 {
     char::from_u32(u32::from_be_bytes([0, high, middle, low]))
 }

@@ -24,19 +24,27 @@ pub struct FrameReader {
 
 impl Model for FrameReader {
     ghost use Rattle.std.specs.Prelude.{◌≡◌, ◌≤◌, ◌+◌, length, IfSome, Some};
-    ghost use Rattle.op_frame.specs.Readers.{Reading, kept_fault};
+    ghost use Rattle.op_frame.specs.Readers.{FrameReading, kept_fault};
 
-    ghost Value = { Reading };
+    ghost Value = { FrameReading };
 
-    ghost view = { λ r. record { limit = r.limit; unread = r.unread.bytes; offset = r.offset; last = r.last; fault = r.fault } };
+    ghost view = { λ r. record {
+      limit = r.limit;
+      unread = r.unread.bytes;
+      offset = r.offset;
+      last = r.last;
+      fault = r.fault;
+    } };
 
-    ghost invariant = { λ r. (r.offset + length r.unread.bytes ≤ r.limit) × IfSome r.fault (λ f. kept_fault f ≡ Some f) };
+    ghost invariant = { λ r. (r.offset + length r.unread.bytes ≤ r.limit)
+        × IfSome r.fault (λ f. kept_fault f ≡ Some f) };
 }
 
 impl FrameReader {
     /// A reader that gives the frames of a stream of at most `limit` bytes. It takes an array of 4,096 bytes.
     pub fn new(alloc: Global, limit: u64) -> Result<FrameReader, NoMemory>
-        ensures fresh { IfOk result (λ reader. reader ≡ record { limit = limit; unread = []; offset = 0; last = 0; fault = None }) }
+        ensures fresh { IfOk result
+            (λ reader. reader ≡ record { limit = limit; unread = []; offset = 0; last = 0; fault = None }) }
         ensures gave_none { IfOk result (λ reader. (left : Option (List ℕ)) → Gave left [] reader left) }
     {
         Ok(FrameReader {
@@ -59,9 +67,12 @@ impl FrameReader {
     /// The next operation. None comes at the end of the stream.
     pub fn next<S: Source>(&mut self, source: &mut S) -> Result<Option<Op>, FrameFault>
         ensures nexts { self.old.fault ≡ None → Nexts self.old self.new (S.seen source.old) (S.seen source.new) result }
-        ensures chains { self.old.fault ≡ None → Chains self.old self.new (S.seen source.old) (S.seen source.new) result }
-        ensures repeats { IfSome self.old.fault (λ fault. (result ≡ Err fault) × (self.new ≡ self.old) × (source.new ≡ source.old)) }
-        ensures count { KeepsCount (S.seen source.old) (S.seen source.new) ((self.old.fault ≡ None) × IsErrOf result ReadFault) }
+        ensures chains { self.old.fault ≡ None
+            → Chains self.old self.new (S.seen source.old) (S.seen source.new) result }
+        ensures repeats { IfSome self.old.fault
+            (λ fault. (result ≡ Err fault) × (self.new ≡ self.old) × (source.new ≡ source.old)) }
+        ensures count { KeepsCount (S.seen source.old) (S.seen source.new)
+            ((self.old.fault ≡ None) × IsErrOf result ReadFault) }
     {
         match self.fault {
             Some(fault) => Err(fault),

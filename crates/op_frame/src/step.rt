@@ -13,8 +13,8 @@ use fugue_ids::Op;
 use outer_ports::Source;
 use std::alloc::Global;
 
-/// Takes the first operation off the unread bytes and the source, and answers its frame's length too. `room` is what the
-/// limit leaves from the first unread byte on.
+/// Takes the first operation off the unread bytes and the source, and answers its frame's length too. `room` is what
+/// the limit leaves from the first unread byte on.
 pub(crate) fn take_next<S: Source>(
     alloc: Global,
     unread: &mut Unread,
@@ -23,7 +23,8 @@ pub(crate) fn take_next<S: Source>(
     source: &mut S,
 ) -> Result<Option<(Op, usize)>, FrameFault>
     requires { length unread.old.bytes ≤ room }
-    ensures takes { Takes unread.old.bytes unread.new.bytes (S.seen source.old) (S.seen source.new) offset room (only_op result) }
+    ensures takes { Takes unread.old.bytes unread.new.bytes (S.seen source.old) (S.seen source.new) offset room
+        (only_op result) }
     ensures len { IfOk result (λ given. IfSome given (λ found. found.1 ≡ length (frame found.0))) }
 {
     'reads: loop {
@@ -47,7 +48,8 @@ fn take_frame(
     requires within { len ≤ length unread.old.bytes }
     requires frame { IsFrameOf (take len unread.old.bytes) }
     ensures ok { IfOk result (λ given. TakesFrame given unread.old.bytes unread.new.bytes len) }
-    ensures err { IfErr result (λ e. (e ≡ WantsMemory) × (unread.new.bytes ≡ unread.old.bytes) × (slice_get unread.old.bytes 0 ≡ Some 1)) }
+    ensures err { IfErr result
+        (λ e. (e ≡ WantsMemory) × (unread.new.bytes ≡ unread.old.bytes) × (slice_get unread.old.bytes 0 ≡ Some 1)) }
 {
     let Ok(op) = decode(alloc, &unread.as_slice()[..len]) else {
         return Err(FrameFault::NoMemory);

@@ -21,7 +21,10 @@ impl Model for Unread {
 
     ghost Value = { Window };
 
-    ghost view = { λ u. record { bytes = take (u.end - u.start) (drop u.start u.buffer.items); free = BUFFER - u.end } };
+    ghost view = { λ u. record {
+      bytes = take (u.end - u.start) (drop u.start u.buffer.items);
+      free = BUFFER - u.end;
+    } };
 
     ghost invariant = { λ u. (vec_len u.buffer ≡ BUFFER) × (u.start ≤ u.end) × (u.end ≤ BUFFER) };
 }

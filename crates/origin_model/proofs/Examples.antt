@@ -3,7 +3,7 @@ use Rattle.origin_model.proofs.Words.{Delete, Identifier, Lawful, List, None, Op
 use lib.Utf8.{encode}
 use Rattle.origin_model.specs.taking.Closure.{answers}
 use Rattle.origin_model.specs.taking.Taking.{Again, Stray, TooMany, Accepted, Full, Waits, closure, held, settle, tally}
-use Rattle.origin_model.specs.declared.taking.tally.Tally.{Tally}
+use Rattle.origin_model.specs.declared.taking.Tally.{Tally}
 
 abbrev id : ℕ → ℕ → Identifier
 id replica counter = record { replica = replica; counter = counter }

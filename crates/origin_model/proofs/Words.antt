@@ -20,9 +20,9 @@ unfoldable pub use Rattle.origin_model.specs.order.Order.{before, chain, order}
 pub use Rattle.origin_model.specs.order.Printed.{deletes, is_hidden, printed_section, scalar_of, shown, text, title_of}
 unfoldable pub use Rattle.origin_model.specs.order.Printed.{manuscript}
 pub use Rattle.origin_model.specs.order.Laws.{IsIn, IsPartOf, SameOps}
-pub use Rattle.origin_model.specs.declared.operations.place.Place.{Place}
-pub use Rattle.origin_model.specs.declared.operations.place.Place.TheVariants.{Catalogue, Catalogue as catalogue, Section as within}
-pub use Rattle.origin_model.specs.declared.operations.role.Role.{Role}
-pub use Rattle.origin_model.specs.declared.operations.role.Role.TheVariants.{Section as SectionRole, TextOf}
-pub use Rattle.origin_model.specs.declared.operations.verdict.Verdict.{Verdict}
-pub use Rattle.origin_model.specs.declared.operations.verdict.Verdict.TheVariants.{Again, Conflict, Missing, Ready, Stray}
+pub use Rattle.origin_model.specs.declared.operations.Place.{Place}
+pub use Rattle.origin_model.specs.declared.operations.Place.TheVariants.{Catalogue, Catalogue as catalogue, Section as within}
+pub use Rattle.origin_model.specs.declared.operations.Role.{Role}
+pub use Rattle.origin_model.specs.declared.operations.Role.TheVariants.{Section as SectionRole, TextOf}
+pub use Rattle.origin_model.specs.declared.operations.Verdict.{Verdict}
+pub use Rattle.origin_model.specs.declared.operations.Verdict.TheVariants.{Again, Conflict, Missing, Ready, Stray}

@@ -1,9 +1,12 @@
 //! Laws of the definitions: each function takes and answers nothing, and its clauses are the law.
 
-ghost use Rattle.origin_model.specs.taking.Closure.{ClosureOfSet, ClosureIsClosed, ClosureBySet, SameSetConverges, ClosureOfUnion, ClosureOfMerge, KeptSuffice, SettlingEnds, StaysSettled, PartsAsOne, SavedSuffice, SelfNamedNeverAccepted};
+ghost use Rattle.origin_model.specs.taking.Closure.{ClosureOfSet, ClosureIsClosed, ClosureBySet, SameSetConverges};
+ghost use Rattle.origin_model.specs.taking.Closure.{ClosureOfUnion, ClosureOfMerge, KeptSuffice, SettlingEnds};
+ghost use Rattle.origin_model.specs.taking.Closure.{StaysSettled, PartsAsOne, SavedSuffice, SelfNamedNeverAccepted};
 ghost use Rattle.origin_model.specs.edits.Landing.{LandsBehind, LandsBehindOrigin};
 ghost use Rattle.origin_model.specs.order.Laws.{OrderTotal, LaterOpsKeepOrder, PartsKeepOrder, OrderBySet};
-ghost use Rattle.origin_model.specs.sides.KeyLaws.{BlockEndByKeys, BlockStartByKeys, GapByKeys, KeyBound, KeysStay, NewKey, RunKey, SiblingsByKeys};
+ghost use Rattle.origin_model.specs.sides.KeyLaws.{BlockEndByKeys, BlockStartByKeys, GapByKeys, KeyBound, KeysStay};
+ghost use Rattle.origin_model.specs.sides.KeyLaws.{NewKey, RunKey, SiblingsByKeys};
 ghost use Rattle.origin_model.specs.sides.Walk.{WalkIsOrder, WalkIsWhole};
 
 /// The elements of a place are in a total order, which `order` lists.
@@ -19,7 +22,8 @@ pub fn later_ops_keep_order()
 
 /// An element whose right origin stands directly behind its left origin lands between them, whoever made it.
 ///
-/// The start and the end count as the two ends of the order. The law speaks of every lawful history, and not only of those that edits make.
+/// The start and the end count as the two ends of the order. The law speaks of every lawful history, and not only of
+/// those that edits make.
 pub fn lands_behind()
     ensures between { LandsBehind }
     ensures by_origin { LandsBehindOrigin }
@@ -27,7 +31,8 @@ pub fn lands_behind()
 
 /// The order of a place is the walk of the tree of sides: left children, the node, right children.
 ///
-/// The definitions tell the order by chains of origins, and the walk is told by the tree alone, so this is one order told twice.
+/// The definitions tell the order by chains of origins, and the walk is told by the tree alone, so this is one order
+/// told twice.
 pub fn walk_is_order()
     ensures order { WalkIsOrder }
     ensures whole { WalkIsWhole }
@@ -41,8 +46,8 @@ pub fn keys_are_fixed()
     ensures bound { KeyBound }
 {}
 
-/// The tree of sides is read off the order by keys, where they fit their numbers: the ends of a block, the children of a slot, and so the gap of a
-/// new element.
+/// The tree of sides is read off the order by keys, where they fit their numbers: the ends of a block, the children of
+/// a slot, and so the gap of a new element.
 pub fn gap_by_keys()
     ensures end { BlockEndByKeys }
     ensures start { BlockStartByKeys }
@@ -57,7 +62,8 @@ pub fn order_by_set()
 
 /// In whatever order, grouping and repetition operations are taken in, what is accepted is the closure of their set.
 ///
-/// The law speaks of lists in which no two different operations have one identifier, taken in without the answers Full and TooMany.
+/// The law speaks of lists in which no two different operations have one identifier, taken in without the answers Full
+/// and TooMany.
 pub fn closure_of_set()
     ensures closure { ClosureOfSet }
     ensures closed { ClosureIsClosed }

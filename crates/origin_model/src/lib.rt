@@ -1,4 +1,5 @@
-//! The model of a manuscript: what operations are to one another, the order of a place, what is printed, and the bytes of operations.
+//! The model of a manuscript: what operations are to one another, the order of a place, what is printed, and the bytes
+//! of operations.
 #![tactic(auto)]
 
 mod edit_fault;

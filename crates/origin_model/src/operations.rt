@@ -1,22 +1,59 @@
 //! Operations, looked up among the accepted ones, and what one is to them.
 
 pub(crate) mod element;
-pub(crate) mod found;
 pub(crate) mod lookup;
-pub(crate) mod name_faults;
 pub(crate) mod named;
 pub(crate) mod names;
-mod no_memory_for;
 mod node;
-mod place;
-mod role;
-mod verdict;
 
+use fugue_ids::{ElementId, Op};
 pub use lookup::Lookup;
 pub use named::verdict_in;
 pub use names::{Named, Names, names_of};
-pub use no_memory_for::NoMemoryFor;
 pub use node::Node;
-pub use place::Place;
-pub use role::Role;
-pub use verdict::Verdict;
+use std::error::Error;
+use std::fmt;
+
+/// Want of memory for an operation, which comes back.
+#[derive(Debug, Drop)]
+pub struct NoMemoryFor {
+    pub op: Op,
+}
+
+impl fmt::Display for NoMemoryFor {
+    fn fmt<W: fmt::Write>(&self, f: &mut fmt::Formatter<W>) -> fmt::Result {
+        write!(f, "out of memory")
+    }
+}
+
+impl Error for NoMemoryFor {}
+
+/// What an operation is against the accepted ones. The first that applies decides, in this order.
+#[derive(Clone, Copy, Debug, PartialEq, Eq)]
+pub enum Verdict {
+    /// It is accepted already.
+    Again,
+    /// Another accepted operation has its identifier.
+    Conflict,
+    /// The first identifier that it names and that is held as an element which does not fit.
+    Stray(ElementId),
+    /// The first identifier that it names and that is not held.
+    Missing(ElementId),
+    Ready,
+}
+
+/// What a named identifier has to be held as.
+#[derive(Clone, Copy, Debug, PartialEq, Eq)]
+pub enum Role {
+    Any,
+    Section,
+    /// A Text of this section.
+    TextOf(ElementId),
+}
+
+/// Where elements stand: sections in the catalogue, and text in its section.
+#[derive(Clone, Copy, Debug, PartialEq, Eq)]
+pub enum Place {
+    Catalogue,
+    Section(ElementId),
+}

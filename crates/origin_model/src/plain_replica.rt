@@ -1,6 +1,6 @@
 ghost use Rattle.std.specs.Prelude.{◌≡◌, ◌∷◌, [], OnOk, OnErr, IfErr, IfOk};
-ghost use Rattle.fugue_ids.specs.Outs.{WritesText};
-ghost use Rattle.origin_model.specs.declared.operations.verdict.Verdict.TheVariants.{Ready};
+ghost use Rattle.fugue_ids.specs.Outs.{WritesBytes};
+ghost use Rattle.origin_model.specs.declared.operations.Verdict.TheVariants.{Ready};
 ghost use Rattle.origin_model.specs.operations.History.{accepted};
 ghost use Rattle.origin_model.specs.operations.Verdict.{verdict as verdict_on, Lawful};
 ghost use Rattle.origin_model.specs.order.Order.{order};
@@ -8,10 +8,8 @@ ghost use Rattle.origin_model.specs.order.Printed.{shown as shown_on, manuscript
 
 use crate::operations::lookup::{Lookup, contains_op, find_holder};
 use crate::operations::named::verdict_in;
-use crate::order::listed::Listed;
-use crate::order::listing::{elements_in, list_newest};
-use crate::order::printing::write_manuscript;
-use crate::order::shown::shown_in;
+use crate::order::listing::{Listed, elements_in, list_newest};
+use crate::order::printing::{shown_in, write_manuscript};
 use crate::{NoMemoryFor, Place, Verdict};
 use fugue_ids::{ElementId, Failed, NoMemory, Op, Out};
 use std::alloc::Global;
@@ -118,7 +116,7 @@ impl PlainReplica {
 
     /// Writes the manuscript: what is shown of each shown section, in the order of the catalogue. It takes no memory.
     pub fn print_into<O: Out>(&self, output: &mut O) -> Result<(), Failed>
-        ensures { WritesText (O.seen output.old) (O.seen output.new) result (manuscript self.now) }
+        ensures { WritesBytes (O.seen output.old) (O.seen output.new) result (manuscript self.now) }
     {
         write_manuscript(output, &self.ops, &self.listed)
     }

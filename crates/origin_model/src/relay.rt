@@ -1,5 +1,17 @@
-mod event;
-mod reply;
+use fugue_ids::ByteList;
 
-pub use event::Event;
-pub use reply::Reply;
+/// The bytes that a session is sent, and whether it is closed by them.
+#[derive(Debug, Drop)]
+pub struct Reply {
+    pub session: u32,
+    pub bytes: ByteList,
+    pub closes: bool,
+}
+
+/// What happens to a session of a relay, by the session's number.
+#[derive(Debug, Drop)]
+pub enum Event {
+    Opened(u32),
+    Piece(u32, ByteList),
+    Gone(u32),
+}

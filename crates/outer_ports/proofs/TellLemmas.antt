@@ -9,8 +9,8 @@ use Rattle.outer_ports.specs.disk.Disks.{DiskView, DiskTells, Looks, WritesAt, S
 use Rattle.outer_ports.specs.wire.Wires.{WireView, WireTells, out_of, Dials, WireReads, WireWrites}
 use Rattle.outer_ports.specs.dock.Steps.{GivesSome}
 use Rattle.outer_ports.specs.dock.Docks.{DockView, DockTells, ended_behind, out_to, Listens, Takes, Sends, Ends}
-use Rattle.outer_ports.specs.declared.dock.dock_step.DockStep.{DockStep}
-use Rattle.outer_ports.specs.declared.dock.mem_step.MemStep.{MemStep}
+use Rattle.outer_ports.specs.declared.dock.DockStep.{DockStep}
+use Rattle.outer_ports.specs.declared.dock.mem_dock.MemStep.{MemStep}
 use Rattle.std.proofs.lemmas.Bool.{cases_eq}
 use Rattle.fugue_ids.proofs.JoinLemmas.{write_tells}
 

@@ -1,3 +1,3 @@
 -- What the proofs of several functions of src/dock/ use.
 pub mod StepsLemmas
-pub mod LogsLemmas
+pub mod TranscriptsLemmas

@@ -3,5 +3,5 @@ pub mod Steps
 pub mod Docks
 pub mod Streams
 pub mod Arrivals
-pub mod Logs
+pub mod Transcripts
 pub mod Forms

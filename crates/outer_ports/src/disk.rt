@@ -1,21 +1,16 @@
 ghost use Rattle.std.specs.Prelude.{◌≤◌, length, IfSome};
 ghost use Rattle.outer_ports.specs.disk.Disks.{DiskView, Sizes, ReadsAt, WritesAt, Syncs};
+ghost use Rattle.outer_ports.specs.disk.Laws.{ReadsStayHonest, RestIsHonest, SinceNow, SizesStayHonest, SpansJoin};
+ghost use Rattle.outer_ports.specs.disk.Laws.{SyncBringsNone, SyncsStayHonest, WritesStayHonest};
 
 mod file_disk;
-mod fill;
 mod kept;
-mod laws;
 mod mem_disk;
-mod overwrite;
-mod pick;
-mod step;
 mod sure_disk;
 
 pub use file_disk::{FileDisk, Opening};
 use fugue_ids::Failed;
-pub use laws::{disks_stay_honest, spans_join, sync_brings_none};
-pub use mem_disk::MemDisk;
-pub use pick::Pick;
+pub use mem_disk::{MemDisk, Pick};
 pub use sure_disk::SureDisk;
 
 /// A file on a disk.
@@ -41,3 +36,24 @@ pub trait Disk {
     fn sync(&mut self) -> Result<(), Failed>
         ensures { Syncs (seen self.old) (seen self.new) result };
 }
+
+/// What a crash may have left since a moment is what it may have left until a later moment, and since that one.
+pub fn spans_join()
+    ensures joins { SpansJoin }
+    ensures now { SinceNow }
+{}
+
+/// A sync brings no image that could not be left before it.
+pub fn sync_brings_none()
+    ensures { SyncBringsNone }
+{}
+
+/// Bytes at rest are honest, and each call keeps a disk honest, whatever it answers: what a read gives is always one of
+/// the files that a crash may leave.
+pub fn disks_stay_honest()
+    ensures rest { RestIsHonest }
+    ensures sizes { SizesStayHonest }
+    ensures reads { ReadsStayHonest }
+    ensures writes { WritesStayHonest }
+    ensures syncs { SyncsStayHonest }
+{}

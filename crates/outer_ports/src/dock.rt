@@ -2,26 +2,30 @@ ghost use Rattle.std.specs.Prelude.{◌<◌, length};
 ghost use Rattle.outer_ports.specs.dock.Docks.{DockView, Listens, Takes, Sends, Ends};
 
 mod arrivals;
-mod dock_step;
-mod log;
-mod logs;
 mod mem_dock;
-mod mem_step;
-mod part;
 mod sure_dock;
 mod tcp_dock;
+mod transcripts;
 
-pub use dock_step::DockStep;
 use fugue_ids::Failed;
-pub use mem_dock::MemDock;
-pub use mem_step::MemStep;
+pub use mem_dock::{MemDock, MemStep};
 pub use sure_dock::SureDock;
 pub use tcp_dock::TcpDock;
 
+/// What came in at a dock, with the number of its session.
+#[derive(Clone, Copy, Debug, PartialEq, Eq)]
+pub enum DockStep {
+    Opened(u32),
+    /// So many bytes came. They stand in the buffer.
+    Bytes(u32, usize),
+    Gone(u32),
+}
+
 /// Where others ask, in sessions that bear numbers.
 pub trait Dock {
-    /// The port listened on, the steps taken and to come, what was sent to each session, the sessions ended and what they
-    /// had been sent by then, the count of faults, and the room that is left: each form says what of these it tells.
+    /// The port listened on, the steps taken and to come, what was sent to each session, the sessions ended and what
+    /// they had been sent by then, the count of faults, and the room that is left: each form says what of these it
+    /// tells.
     ghost seen: { Self → DockView };
 
     /// Listens on this port.

@@ -1,9 +1,9 @@
-ghost use Rattle.std.specs.Prelude.{◌≡◌, ◌↔◌, ◌≤◌, IsErr, IfOk};
+ghost use Rattle.std.specs.Prelude.{◌≡◌, ◌↔◌, ◌≤◌, IsErr, IfOk, ◌⊎◌, ◌<◌, length};
 ghost use Rattle.outer_ports.specs.Counts.{CountsFaults};
+ghost use Rattle.outer_ports.specs.Calls.{risen};
 
-use crate::raise::raise;
 use fugue_ids::Failed;
-use std::io;
+use std::io::{self, ErrorKind};
 use std::marker::Model;
 
 /// How often the system failed: nothing but an error that it gave raises the count.
@@ -41,5 +41,24 @@ impl Faults {
                 Err(Failed)
             }
         }
+    }
+}
+
+/// A count at its last value stays there.
+pub(crate) fn raise(count: &mut u64)
+    ensures risen { count.new ≡ risen count.old }
+    ensures later { count.old ≤ count.new }
+{
+    *count = count.saturating_add(1);
+}
+
+/// A stream that takes nothing of a piece that is not empty has failed.
+pub(crate) fn taken(given: io::Result<usize>, piece: &[u8]) -> io::Result<usize>
+    ensures fails { IsErr result ↔ (IsErr given ⊎ ((given ≡ Ok 0) × (0 < length piece.now))) }
+    ensures gives { IfOk result (λ count. given ≡ Ok count) }
+{
+    match given {
+        Ok(0) if !piece.is_empty() => Err(io::Error::from(ErrorKind::WriteZero)),
+        given => given,
     }
 }

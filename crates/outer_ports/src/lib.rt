@@ -10,15 +10,12 @@ mod dock;
 mod faults;
 mod mem_sink;
 mod mem_source;
-mod raise;
 mod reserved;
-mod sink;
-mod source;
 mod std_sink;
 mod std_source;
+mod streams;
 mod sure_sink;
 mod sure_source;
-mod taken;
 mod watch;
 mod wire;
 
@@ -30,10 +27,9 @@ pub use disk::{
 pub use dock::{Dock, DockStep, MemDock, MemStep, SureDock, TcpDock};
 pub use mem_sink::MemSink;
 pub use mem_source::MemSource;
-pub use sink::Sink;
-pub use source::Source;
 pub use std_sink::StdSink;
 pub use std_source::StdSource;
+pub use streams::{Sink, Source};
 pub use sure_sink::SureSink;
 pub use sure_source::SureSource;
 pub use wire::{MemWire, SureWire, TcpWire, Wire};

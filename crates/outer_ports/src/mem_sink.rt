@@ -23,7 +23,12 @@ impl Model for MemSink {
 
     ghost Value = { MemSinkView };
 
-    ghost view = { λ s. record { written = s.bytes.items; piece = s.piece; spare = vec_capacity s.bytes - vec_len s.bytes; calls = s.calls } };
+    ghost view = { λ s. record {
+      written = s.bytes.items;
+      piece = s.piece;
+      spare = vec_capacity s.bytes - vec_len s.bytes;
+      calls = s.calls;
+    } };
 
     ghost invariant = { λ s. 1 ≤ s.piece };
 }

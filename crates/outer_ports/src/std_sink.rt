@@ -3,8 +3,7 @@ ghost use Rattle.std.specs.Io.KnownBytes.{WriteAppends};
 ghost use Rattle.fugue_ids.specs.Outs.{WritesSome};
 ghost use Rattle.outer_ports.specs.Calls.{risen};
 
-use crate::faults::Faults;
-use crate::taken::taken;
+use crate::faults::{Faults, taken};
 use crate::{Sink, again};
 use fugue_ids::{Failed, Out};
 use std::io::Write;

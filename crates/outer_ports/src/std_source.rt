@@ -8,7 +8,8 @@ use crate::{Source, again};
 use fugue_ids::Failed;
 use std::io::Read;
 
-/// Reads from a stream of the system. It does not tell what is left there. A read that a signal interrupts is made again.
+/// Reads from a stream of the system. It does not tell what is left there. A read that a signal interrupts is made
+/// again.
 #[derive(Drop)]
 pub struct StdSource<R: Read + Drop> {
     reader: R,

@@ -3,7 +3,7 @@ ghost use Rattle.fugue_ids.specs.Outs.{WritesSome};
 ghost use Rattle.outer_ports.specs.Forms.{SureWrites};
 
 use crate::Sink;
-use crate::raise::raise;
+use crate::faults::raise;
 use fugue_ids::{Failed, NoMemory, Out};
 use std::alloc::Global;
 use std::marker::Model;

@@ -25,8 +25,8 @@ impl Watch {
         })
     }
 
-    /// Lets the next call on the stream wait for a minute, or for what is left of the session. Where nothing is left, the
-    /// time is over.
+    /// Lets the next call on the stream wait for a minute, or for what is left of the session. Where nothing is left,
+    /// the time is over.
     pub(crate) fn limit<S: OpenStream>(&self, clock: &impl Clock, stream: &S) -> io::Result<()> {
         let passed = Instant::now(clock)?.saturating_duration_since(self.begun);
         let left = Duration::from_secs(SESSION).saturating_sub(passed);

@@ -1,7 +1,6 @@
 ghost use Rattle.outer_ports.specs.wire.Wires.{WireView, Dials, WireReads, WireWrites};
 
 mod ahead;
-mod buffered;
 mod mem_wire;
 mod sure_wire;
 mod tcp_wire;

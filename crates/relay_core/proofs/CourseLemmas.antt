@@ -6,11 +6,11 @@ use Rattle.std.proofs.lemmas.Bool.{eq-eqb, eqb-true, le-ltb, lt-ltb, ltb-false, 
 use Rattle.std.proofs.lemmas.List.Elements.{All-nil}
 use Rattle.fugue_ids.specs.declared.op.Op.{Op}
 use Rattle.origin_model.specs.frames.Frames.{HasFrame, frames}
-use Rattle.origin_model.specs.relay.Session.{Goes, Reading, Taken, TakesAll, at_cursor, goes_on, greeting, refusal, refused, unread}
+use Rattle.origin_model.specs.relay.Session.{Goes, SessionReading, Taken, TakesAll, at_cursor, session_goes_on, greeting, refusal_message, session_refused, unread}
 use Rattle.origin_model.proofs.SharedLemmas.{closed_takes, takes-append}
 use Rattle.op_frame.proofs.StreamLemmas.{no_bytes_are_partial}
 use Rattle.relay_core.specs.Sessions.{becomes}
-use Rattle.relay_core.specs.Texts.{Beyond, Course, Greets, IsCourse, IsGreetingFront, NoGreeting, Says, Speaks, answer_to, log_behind, with_frames}
+use Rattle.relay_core.specs.Texts.{Beyond, SessionText, Greets, IsCourse, IsGreetingFront, NoGreeting, Says, Speaks, reply_to_text, log_behind, with_frames}
 use Rattle.relay_core.proofs.TextLemmas.{Reads, behind, frames_take, outcome, reads, rest_takes}
 
 -- the first bytes of a greeting
@@ -43,22 +43,22 @@ greeting_takes limit log (a ∷ b ∷ c ∷ d ∷ e ∷ more) four = absurd (ome
 
 -- by whether its cursor is beyond the log
 abbrev compared : List (List ℕ) → ℕ → Bool → Taken
-compared log cursor b = if b then refused log 3 else goes_on log cursor
+compared log cursor b = if b then session_refused log 3 else session_goes_on log cursor
 
-within_log : (log : List (List ℕ)) (cursor : ℕ) → cursor ≤ length log → at_cursor log cursor ≡ goes_on log cursor
+within_log : (log : List (List ℕ)) (cursor : ℕ) → cursor ≤ length log → at_cursor log cursor ≡ session_goes_on log cursor
 within_log log cursor within = ap (compared log cursor) (le-ltb (length log) cursor within)
 
-beyond_log : (log : List (List ℕ)) (cursor : ℕ) → length log < cursor → at_cursor log cursor ≡ refused log 3
+beyond_log : (log : List (List ℕ)) (cursor : ℕ) → length log < cursor → at_cursor log cursor ≡ session_refused log 3
 beyond_log log cursor beyond = ap (compared log cursor) (lt-ltb (length log) cursor beyond)
 
 -- how far a text was read that goes on
-abbrev pub reading_by : Course → List ℕ → Reading
+abbrev pub reading_by : SessionText → List ℕ → SessionReading
 reading_by (Speaks cursor new rest follows) text = record { cursor = Some cursor; rest = rest }
 reading_by course text = record { cursor = None; rest = text }
 
 -- what a session of this course comes to
-abbrev pub taken_by : Course → List (List ℕ) → List ℕ → Taken
-taken_by course log text = record { log = log_behind course log; next = becomes (answer_to course log) (reading_by course text) }
+abbrev pub taken_by : SessionText → List (List ℕ) → List ℕ → Taken
+taken_by course log text = record { log = log_behind course log; next = becomes (reply_to_text course log) (reading_by course text) }
 
 -- the greeting of a text, and what it says behind it
 says_takes : (limit : ℕ) (log : List (List ℕ)) (text : List ℕ) (cursor : ℕ) (new : List Op) (rest : List ℕ) (after : Taken) → (says : Says text cursor new rest)
@@ -69,19 +69,19 @@ says_takes limit log text cursor new rest after says h =
     (subst (λ (c : ℕ). TakesAll limit (greeting ∷ says.number) (record { log = log; next = Goes unread }) (at_cursor log c)) (sym says.cursor_is) (greeting_takes limit log says.number says.four_bytes)) h)
 
 -- the session of a whole text comes to what its course says
-pub course_takes : (course : Course) (limit : ℕ) (log : List (List ℕ)) (text : List ℕ) → IsCourse course limit log [] text → TakesAll limit text (record { log = log; next = Goes unread }) (taken_by course log text)
+pub course_takes : (course : SessionText) (limit : ℕ) (log : List (List ℕ)) (text : List ℕ) → IsCourse course limit log [] text → TakesAll limit text (record { log = log; next = Goes unread }) (taken_by course log text)
 course_takes Greets limit log text is = greeting_goes limit log text is
 course_takes NoGreeting limit log text is =
     let other : nat_eq is.0 greeting ≡ false = none (nat_eq is.0 greeting) refl in
-    let wrong : (b : Bool) → Taken = λ b. if b then record { log = log; next = Goes (record { cursor = None; rest = is.0 ∷ [] }) } else refused log 1 in
-    subst (λ (bytes : List ℕ). TakesAll limit bytes (record { log = log; next = Goes unread }) (refused log 1)) (sym is.3) (refused log 1, sym (ap wrong other), closed_takes limit is.1 log (refusal 1))
+    let wrong : (b : Bool) → Taken = λ b. if b then record { log = log; next = Goes (record { cursor = None; rest = is.0 ∷ [] }) } else session_refused log 1 in
+    subst (λ (bytes : List ℕ). TakesAll limit bytes (record { log = log; next = Goes unread }) (session_refused log 1)) (sym is.3) (session_refused log 1, sym (ap wrong other), closed_takes limit is.1 log (refusal_message 1))
   where
     none : (b : Bool) → nat_eq is.0 greeting ≡ b → nat_eq is.0 greeting ≡ false
     none true e = absurd (is.2 (eqb-true is.0 greeting e))
     none false e = e
 course_takes Beyond limit log text is =
-    says_takes limit log text is.0 [] is.1 (refused log 3) is.2
-    (subst (λ (t : Taken). TakesAll limit is.1 t (refused log 3)) (sym (beyond_log log is.0 is.3)) (closed_takes limit is.1 log (refusal 3)))
+    says_takes limit log text is.0 [] is.1 (session_refused log 3) is.2
+    (subst (λ (t : Taken). TakesAll limit is.1 t (session_refused log 3)) (sym (beyond_log log is.0 is.3)) (closed_takes limit is.1 log (refusal_message 3)))
 course_takes (Speaks cursor new rest follows) limit log text is =
     let after : Taken = outcome follows cursor (with_frames log new) rest in
     says_takes limit log text cursor new rest after is.0
@@ -89,12 +89,12 @@ course_takes (Speaks cursor new rest follows) limit log text is =
     (frames_take limit cursor new log rest after is.0.have_frames is.2 (rest_takes follows limit cursor (with_frames log new) rest is.3)))
 
 -- a text is of some course
-pub course_found : (limit : ℕ) (log : List (List ℕ)) (text : List ℕ) (after : Taken) → length log ≤ limit → TakesAll limit text (record { log = log; next = Goes unread }) after → (course : Course) × IsCourse course limit log [] text
+pub course_found : (limit : ℕ) (log : List (List ℕ)) (text : List ℕ) (after : Taken) → length log ≤ limit → TakesAll limit text (record { log = log; next = Goes unread }) after → (course : SessionText) × IsCourse course limit log [] text
 course_found limit log [] after room h = (Greets, tt)
 course_found limit log (first ∷ number) after room h = by_first (nat_eq first greeting) refl
   where
     by_cursor : (number more : List ℕ) → length number ≡ 4 → first ≡ greeting → TakesAll limit (first ∷ number ++ more) (record { log = log; next = Goes unread }) after → (b : Bool)
-        → nat_lt (length log) (from_be_bytes w32 number) ≡ b → (course : Course) × IsCourse course limit log [] (first ∷ number ++ more)
+        → nat_lt (length log) (from_be_bytes w32 number) ≡ b → (course : SessionText) × IsCourse course limit log [] (first ∷ number ++ more)
     by_cursor number more four is h true beyond =
         (Beyond, (from_be_bytes w32 number, more, record { number = number; four_bytes = four; cursor_is = refl; have_frames = All-nil HasFrame; text_is = ap (λ x. x ∷ number ++ more) is }, ltb-true (length log) (from_be_bytes w32 number) beyond))
     by_cursor number more four is h false beyond =
@@ -102,7 +102,7 @@ course_found limit log (first ∷ number) after room h = by_first (nat_eq first 
         let within : cursor ≤ length log = ltb-false (length log) cursor beyond in
         let start : Taken = record { log = log; next = Goes unread } in
         let whole : TakesAll limit (greeting ∷ number ++ more) start after = subst (λ (x : ℕ). TakesAll limit (x ∷ number ++ more) start after) is h in
-        let rest : TakesAll limit more (goes_on log cursor) after
+        let rest : TakesAll limit more (session_goes_on log cursor) after
         = subst (λ (t : Taken). TakesAll limit more t after) (within_log log cursor within) (behind limit (greeting ∷ number) more start (at_cursor log cursor) after whole (greeting_takes limit log number four)) in
         let r : Reads limit cursor log more after = reads limit cursor after more log [] room no_bytes_are_partial rest in (
           Speaks cursor r.new r.rest r.follows,
@@ -120,13 +120,13 @@ course_found limit log (first ∷ number) after room h = by_first (nat_eq first 
           ),
         )
 
-    by_number : (number : List ℕ) → first ≡ greeting → TakesAll limit (first ∷ number) (record { log = log; next = Goes unread }) after → (course : Course) × IsCourse course limit log [] (first ∷ number)
+    by_number : (number : List ℕ) → first ≡ greeting → TakesAll limit (first ∷ number) (record { log = log; next = Goes unread }) after → (course : SessionText) × IsCourse course limit log [] (first ∷ number)
     by_number [] is h = (Greets, (is, omega arith))
     by_number (a ∷ []) is h = (Greets, (is, omega arith))
     by_number (a ∷ b ∷ []) is h = (Greets, (is, omega arith))
     by_number (a ∷ b ∷ c ∷ []) is h = (Greets, (is, omega arith))
     by_number (a ∷ b ∷ c ∷ d ∷ more) is h = by_cursor (a ∷ b ∷ c ∷ d ∷ []) more refl is h (nat_lt (length log) (from_be_bytes w32 (a ∷ b ∷ c ∷ d ∷ []))) refl
 
-    by_first : (b : Bool) → nat_eq first greeting ≡ b → (course : Course) × IsCourse course limit log [] (first ∷ number)
+    by_first : (b : Bool) → nat_eq first greeting ≡ b → (course : SessionText) × IsCourse course limit log [] (first ∷ number)
     by_first false other = (NoGreeting, (first, number, (λ same. true≢false (sym (eq-eqb first greeting same) ∙ other)), refl))
     by_first true same = by_number number (eqb-true first greeting same) h

@@ -9,7 +9,7 @@ use Rattle.std.specs.declared.vec.Vec.{Vec}
 use Rattle.std.proofs.lemmas.List.{drop-map, length-map, map-append, take-append-le, take-map, take_all}
 use Rattle.std.proofs.lemmas.List.Folds.{flat_map-map}
 use Rattle.indexmap.specs.IndexSet.{insert_key}
-use Rattle.relay_core.specs.Logs.{Grows}
+use Rattle.relay_core.specs.Logs.{LogGrows}
 use Rattle.origin_model.specs.relay.Session.{reply_from, is_logged}
 
 -- a vector is among others where its bytes are among theirs
@@ -36,7 +36,7 @@ joined ks cursor n a b c number ea eb ec en el =
     ec ∙ ap (λ t. t ++ number) (eb ∙ ap (λ t. t ++ 0x55 ∷ []) (ea ∙ from-cursor ks cursor)) ∙ append_assoc frames (0x55 ∷ []) number ∙ ap (λ t. frames ++ 0x55 ∷ t) count
 
 -- what a log that grew is, cut to its old length
-pub cut_back : (old new cut : List (Vec ℕ Global)) (count : ℕ) → Grows (map (λ k. k.items) old) (map (λ k. k.items) new) → cut ≡ take count new → count ≡ length old
+pub cut_back : (old new cut : List (Vec ℕ Global)) (count : ℕ) → LogGrows (map (λ k. k.items) old) (map (λ k. k.items) new) → cut ≡ take count new → count ≡ length old
     → map (λ k. k.items) cut ≡ map (λ k. k.items) old
 cut_back old new cut count g e c =
     let items : List (Vec ℕ Global) → List (List ℕ) = map (λ (k : Vec ℕ Global). k.items) in

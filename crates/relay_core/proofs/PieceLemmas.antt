@@ -2,23 +2,23 @@
 use Rattle.std.proofs.Common.{List, ap, refl, sym, ℕ, ◌∙◌, ◌≡◌}
 use Rattle.std.specs.Prelude.{None, Option, Some}
 use Rattle.std.specs.FinMap as finite
-use Rattle.origin_model.specs.declared.relay.reply.Reply.{Reply}
+use Rattle.origin_model.specs.declared.relay.Reply.{Reply}
 use Rattle.origin_model.specs.relay.Relay.{Relay, Sessions, StepsPiece, reply_of, sessions_after}
 use Rattle.origin_model.specs.relay.Session.{Closes, Goes, Next, Taken, TakesAll}
-use Rattle.relay_core.specs.Sessions.{ComesTo, Keeps, listed, reading_of, settled}
-use Rattle.relay_core.specs.declared.session.Session.{Session}
+use Rattle.relay_core.specs.Sessions.{SessionBecomes, KeepsSession, listed, reading_of, session_kept}
+use Rattle.relay_core.specs.declared.sessions.Session.{Session}
 
 -- the session is settled
-is_settled : (n : ℕ) (next : Next) (kept : Option Session) (sessions : Sessions) → Keeps kept next → settled n sessions kept ≡ sessions_after n sessions next
+is_settled : (n : ℕ) (next : Next) (kept : Option Session) (sessions : Sessions) → KeepsSession kept next → session_kept n sessions kept ≡ sessions_after n sessions next
 is_settled n (Goes reading) None sessions h = absurd (cc h)
 is_settled n (Goes reading) (Some session) sessions h = let same : reading_of session ≡ reading = cc h in ap (finite.insert sessions n) same
-is_settled n (Closes bytes) kept sessions h = ap (settled n sessions) h
+is_settled n (Closes bytes) kept sessions h = ap (session_kept n sessions) h
 
 -- a piece of an open session
 pub piece_steps : (limit n : ℕ) (log : List (List ℕ)) (sessions : Sessions) (session : Session) (piece : List ℕ) (new_log : List (List ℕ)) (new_sessions : Sessions) (kept : Option Session) (replies : List Reply)
     → Some (reading_of session) ≡ finite.get sessions n
-    → ((after : Taken) × TakesAll limit piece (record { log = log; next = Goes (reading_of session) }) after × (new_log ≡ after.log) × ComesTo n after.next kept replies)
-    → new_sessions ≡ settled n sessions kept
+    → ((after : Taken) × TakesAll limit piece (record { log = log; next = Goes (reading_of session) }) after × (new_log ≡ after.log) × SessionBecomes n after.next kept replies)
+    → new_sessions ≡ session_kept n sessions kept
     → (reply : Option Reply) × (replies ≡ listed reply)
     × StepsPiece (record { limit = limit; log = log; sessions = sessions }) n (finite.get sessions n) piece (record { limit = limit; log = new_log; sessions = new_sessions }) reply
 piece_steps limit n log sessions session piece new_log new_sessions kept replies found h settles =

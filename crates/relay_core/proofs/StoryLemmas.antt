@@ -7,10 +7,10 @@ use Rattle.std.proofs.lemmas.List.{append-nil, append_cancel_left}
 use Rattle.std.proofs.lemmas.List.Elements.{All-append, All-tail}
 use Rattle.fugue_ids.specs.declared.op.Op.{Op}
 use Rattle.origin_model.specs.frames.Frames.{HasFrame, IsPartial, frame, frames}
-use Rattle.origin_model.specs.relay.Session.{Closes, Goes, Next, Reading, Taken, TakesAll, goes_on, greeting, unread}
+use Rattle.origin_model.specs.relay.Session.{Closes, Goes, Next, SessionReading, Taken, TakesAll, session_goes_on, greeting, unread}
 use Rattle.origin_model.proofs.SharedLemmas.{all_once, partly, takes-append}
 use Rattle.op_frame.proofs.CodeLemmas.{same_fronts}
-use Rattle.relay_core.specs.Texts.{Beyond, Closed, Course, Foreign, Greets, HasCome, IsCourse, IsGreetingFront, NoGreeting, OneTooMany, Says, Speaks, Unfinished, answer_to, log_behind, with_frames}
+use Rattle.relay_core.specs.Texts.{Beyond, Closed, SessionText, Foreign, Greets, HasCome, IsCourse, IsGreetingFront, NoGreeting, OneTooMany, Says, Speaks, Unfinished, reply_to_text, log_behind, with_frames}
 use Rattle.relay_core.proofs.CourseLemmas.{course_found, course_takes, greeting_goes, reading_by, taken_by}
 use Rattle.op_frame.proofs.OperationLemmas.{no_front}
 use Rattle.relay_core.proofs.TextLemmas.{Reads, behind, frames_take, front_goes, grown, outcome, reads, rest_takes}
@@ -59,15 +59,15 @@ one_rest : (a b : List Op) (r s : List ℕ) → All HasFrame a → All HasFrame 
 unfolding rest_of
 one_rest a b r s have has p q is =
     let limit : ℕ = length (with_frames [] a) + length (with_frames [] b) in
-    let x : TakesAll limit (frames b ++ s) (goes_on [] 0) (partly (with_frames [] a) 0 r)
-    = subst (λ (t : List ℕ). TakesAll limit t (goes_on [] 0) (partly (with_frames [] a) 0 r)) is
+    let x : TakesAll limit (frames b ++ s) (session_goes_on [] 0) (partly (with_frames [] a) 0 r)
+    = subst (λ (t : List ℕ). TakesAll limit t (session_goes_on [] 0) (partly (with_frames [] a) 0 r)) is
     (frames_take limit 0 a [] r (partly (with_frames [] a) 0 r) have (omega arith) (front_goes limit 0 (with_frames [] a) r p)) in
-    let y : TakesAll limit (frames b ++ s) (goes_on [] 0) (partly (with_frames [] b) 0 s)
+    let y : TakesAll limit (frames b ++ s) (session_goes_on [] 0) (partly (with_frames [] b) 0 s)
     = frames_take limit 0 b [] s (partly (with_frames [] b) 0 s) has (omega arith) (front_goes limit 0 (with_frames [] b) s q) in
-    ap (λ (t : Taken). rest_of t.next) (all_once no_front limit (frames b ++ s) (goes_on [] 0) (partly (with_frames [] a) 0 r) (partly (with_frames [] b) 0 s) x y)
+    ap (λ (t : Taken). rest_of t.next) (all_once no_front limit (frames b ++ s) (session_goes_on [] 0) (partly (with_frames [] a) 0 r) (partly (with_frames [] b) 0 s) x y)
 
 -- how far an open session was read is what its text says
-pub record Spoken (log : List (List ℕ)) (text : List ℕ) (reading : Reading) : Type 0 where
+pub record Spoken (log : List (List ℕ)) (text : List ℕ) (reading : SessionReading) : Type 0 where
   pub cursor : ℕ
   pub ops : List Op
   pub rest : List ℕ
@@ -76,7 +76,7 @@ pub record Spoken (log : List (List ℕ)) (text : List ℕ) (reading : Reading) 
   pub within : cursor ≤ length log
   pub reading_is : reading ≡ record { cursor = Some cursor; rest = rest }
 
-abbrev pub ReadSo : List (List ℕ) → List ℕ → Reading → Type 0
+abbrev pub ReadSo : List (List ℕ) → List ℕ → SessionReading → Type 0
 ReadSo log text reading = (IsGreetingFront text × (reading ≡ record { cursor = None; rest = text })) ⊎ Spoken log text reading
 
 -- a text with a whole greeting is no front of one
@@ -94,17 +94,17 @@ front_not_said text cursor ops rest says front =
 pub record Read (limit : ℕ) (log : List (List ℕ)) (text bytes : List ℕ) (after : Taken) : Type 0 where
   pub before : List Op
   pub has_come : HasCome text before
-  pub course : Course
+  pub course : SessionText
   pub is_course : IsCourse course limit log before (text ++ bytes)
   pub after_is : after ≡ taken_by course log (text ++ bytes)
 
-pub read_on : (limit : ℕ) (log : List (List ℕ)) (text bytes : List ℕ) (reading : Reading) (after : Taken) → length log ≤ limit → ReadSo log text reading
+pub read_on : (limit : ℕ) (log : List (List ℕ)) (text bytes : List ℕ) (reading : SessionReading) (after : Taken) → length log ≤ limit → ReadSo log text reading
     → TakesAll limit bytes (record { log = log; next = Goes reading }) after → Read limit log text bytes after
 read_on limit log text bytes reading after room (inl front) h =
     let start : Taken = record { log = log; next = Goes unread } in
     let before : Taken = record { log = log; next = Goes (record { cursor = None; rest = text }) } in
     let whole : TakesAll limit (text ++ bytes) start after
-    = takes-append limit text bytes start before after (greeting_goes limit log text front.0) (subst (λ (r : Reading). TakesAll limit bytes (record { log = log; next = Goes r }) after) front.1 h) in
+    = takes-append limit text bytes start before after (greeting_goes limit log text front.0) (subst (λ (r : SessionReading). TakesAll limit bytes (record { log = log; next = Goes r }) after) front.1 h) in
     let found = course_found limit log (text ++ bytes) after room whole in
     record {
       before = [];
@@ -115,7 +115,7 @@ read_on limit log text bytes reading after room (inl front) h =
     }
 read_on limit log text bytes reading after room (inr s) h =
     let r : Reads limit s.cursor log (s.rest ++ bytes) after
-    = reads limit s.cursor after bytes log s.rest room s.partial (subst (λ (r : Reading). TakesAll limit bytes (record { log = log; next = Goes r }) after) s.reading_is h) in
+    = reads limit s.cursor after bytes log s.rest room s.partial (subst (λ (r : SessionReading). TakesAll limit bytes (record { log = log; next = Goes r }) after) s.reading_is h) in
     record {
       before = s.ops;
       has_come = inr (s.cursor, s.rest, s.says, s.partial);
@@ -125,7 +125,7 @@ read_on limit log text bytes reading after room (inr s) h =
     }
 
 -- the machine comes to what the course says
-spoken_takes : (course : Course) (limit : ℕ) (log : List (List ℕ)) (text bytes : List ℕ) (reading : Reading) (before : List Op) (rest : List ℕ) (cursor : ℕ) → Spoken log text reading → Says text cursor before rest → IsPartial rest
+spoken_takes : (course : SessionText) (limit : ℕ) (log : List (List ℕ)) (text bytes : List ℕ) (reading : SessionReading) (before : List Op) (rest : List ℕ) (cursor : ℕ) → Spoken log text reading → Says text cursor before rest → IsPartial rest
     → IsCourse course limit log before (text ++ bytes) → TakesAll limit bytes (record { log = log; next = Goes reading }) (taken_by course log (text ++ bytes))
 spoken_takes Greets limit log text bytes reading before rest cursor s says partial is = absurd (not_both text bytes cursor before rest says is)
 spoken_takes NoGreeting limit log text bytes reading before rest cursor s says partial is =
@@ -140,22 +140,22 @@ spoken_takes (Speaks other new next follows) limit log text bytes reading before
     let rests : rest ≡ s.rest = one_rest before s.ops rest s.rest says.have_frames s.says.have_frames partial s.partial (sym one.behind_is ∙ append-nil (frames s.ops ++ s.rest)) in
     let split : s.rest ++ bytes ≡ frames new ++ next = ap (λ (t : List ℕ). t ++ bytes) (sym rests) ∙ says_new text bytes cursor other before new rest next says is.0 in
     let after : Taken = outcome follows other (with_frames log new) next in
-    let all : TakesAll limit (s.rest ++ bytes) (goes_on log other) after
-    = subst (λ (t : List ℕ). TakesAll limit t (goes_on log other) after) (sym split)
+    let all : TakesAll limit (s.rest ++ bytes) (session_goes_on log other) after
+    = subst (λ (t : List ℕ). TakesAll limit t (session_goes_on log other) after) (sym split)
     (frames_take limit other new log next after (new_frames before new is.0.have_frames) is.2 (rest_takes follows limit other (with_frames log new) next is.3)) in
-    subst (λ (r : Reading). TakesAll limit bytes (record { log = log; next = Goes r }) after) (ap (λ c. record { cursor = Some c; rest = s.rest }) same.cursor_is ∙ sym s.reading_is)
-    (behind limit s.rest bytes (goes_on log other) (partly log other s.rest) after all (front_goes limit other log s.rest s.partial))
+    subst (λ (r : SessionReading). TakesAll limit bytes (record { log = log; next = Goes r }) after) (ap (λ c. record { cursor = Some c; rest = s.rest }) same.cursor_is ∙ sym s.reading_is)
+    (behind limit s.rest bytes (session_goes_on log other) (partly log other s.rest) after all (front_goes limit other log s.rest s.partial))
   where
     new_frames : (before new : List Op) → All HasFrame (before ++ new) → All HasFrame new
     new_frames [] new have = have
     new_frames (op ∷ before) new have = new_frames before new (All-tail HasFrame op (before ++ new) have)
 
-pub read_takes : (limit : ℕ) (log : List (List ℕ)) (text bytes : List ℕ) (reading : Reading) (before : List Op) (course : Course) → ReadSo log text reading → HasCome text before
+pub read_takes : (limit : ℕ) (log : List (List ℕ)) (text bytes : List ℕ) (reading : SessionReading) (before : List Op) (course : SessionText) → ReadSo log text reading → HasCome text before
     → IsCourse course limit log before (text ++ bytes) → TakesAll limit bytes (record { log = log; next = Goes reading }) (taken_by course log (text ++ bytes))
 read_takes limit log text bytes reading before course (inl front) (inl come) is =
     let start : Taken = record { log = log; next = Goes unread } in
     let is : IsCourse course limit log [] (text ++ bytes) = subst (λ (b : List Op). IsCourse course limit log b (text ++ bytes)) come.1 is in
-    subst (λ (r : Reading). TakesAll limit bytes (record { log = log; next = Goes r }) (taken_by course log (text ++ bytes))) (sym front.1)
+    subst (λ (r : SessionReading). TakesAll limit bytes (record { log = log; next = Goes r }) (taken_by course log (text ++ bytes))) (sym front.1)
     (behind limit text bytes start (record { log = log; next = Goes (record { cursor = None; rest = text }) }) (taken_by course log (text ++ bytes))
     (course_takes course limit log (text ++ bytes) is) (greeting_goes limit log text front.0))
 read_takes limit log text bytes reading before course (inl front) (inr said) is = absurd (front_not_said text said.0 before said.1 said.2 front.0)
@@ -163,7 +163,7 @@ read_takes limit log text bytes reading before course (inr s) (inl come) is = ab
 read_takes limit log text bytes reading before course (inr s) (inr said) is = spoken_takes course limit log text bytes reading before said.1 said.0 s said.2 said.3 is
 
 -- a session that goes on was read so
-pub still_read : (course : Course) (limit : ℕ) (log : List (List ℕ)) (before : List Op) (text : List ℕ) → IsCourse course limit log before text → answer_to course log ≡ None → ReadSo (log_behind course log) text (reading_by course text)
+pub still_read : (course : SessionText) (limit : ℕ) (log : List (List ℕ)) (before : List Op) (text : List ℕ) → IsCourse course limit log before text → reply_to_text course log ≡ None → ReadSo (log_behind course log) text (reading_by course text)
 still_read Greets limit log before text is none = inl (is, refl)
 still_read NoGreeting limit log before text is none = absurd (cc none)
 still_read Beyond limit log before text is none = absurd (cc none)

@@ -6,21 +6,21 @@ use Rattle.std.specs.FinMap as finite
 use Rattle.std.specs.FinMap.{get-empty, get-insert, get-remove}
 use Rattle.std.specs.Ordering.{nat_cmp}
 use Rattle.fugue_ids.specs.declared.op.Op.{Op}
-use Rattle.origin_model.specs.declared.relay.event.Event.{Event}
-use Rattle.origin_model.specs.declared.relay.event.Event.TheVariants.{Gone, Opened, Piece}
-use Rattle.origin_model.specs.declared.relay.reply.Reply.{Reply}
-use Rattle.origin_model.specs.relay.Relay.{Relay, Runs, Sessions, Steps, StepsPiece, opened, reply_of, sessions_after}
-use Rattle.origin_model.specs.relay.Session.{Reading, Taken, unread}
+use Rattle.origin_model.specs.declared.relay.Event.{Event}
+use Rattle.origin_model.specs.declared.relay.Event.TheVariants.{Gone, Opened, Piece}
+use Rattle.origin_model.specs.declared.relay.Reply.{Reply}
+use Rattle.origin_model.specs.relay.Relay.{Relay, RelayRuns, Sessions, RelaySteps, StepsPiece, session_opened, reply_of, sessions_after}
+use Rattle.origin_model.specs.relay.Session.{SessionReading, Taken, unread}
 use Rattle.origin_model.proofs.SharedLemmas.{after_piece, piece_steps, unknown_steps}
 use Rattle.relay_core.specs.Laws.{SessionsByWholeTexts}
 use Rattle.relay_core.specs.Sessions.{becomes}
-use Rattle.relay_core.specs.Texts.{Beyond, Course, Greets, HasCome, IsCourse, NoGreeting, Speaks, Tells, TellsAll, TellsTo, Texts, Told, answer_to, log_behind, reply_with, texts_behind, with_text}
+use Rattle.relay_core.specs.Texts.{Beyond, SessionText, Greets, HasCome, IsCourse, NoGreeting, Speaks, Tells, TellsAll, TellsTo, Texts, Told, reply_to_text, log_behind, reply_with, texts_behind, text_opened}
 use Rattle.relay_core.proofs.CourseLemmas.{reading_by, taken_by}
 use Rattle.relay_core.proofs.StoryLemmas.{Read, ReadSo, read_on, read_takes, still_read}
 use Rattle.relay_core.proofs.TextLemmas.{grown}
 
 -- a session is open in both, and was read as its text says, or in neither
-abbrev Alike : List (List ℕ) → Option (List ℕ) → Option Reading → Type 0
+abbrev Alike : List (List ℕ) → Option (List ℕ) → Option SessionReading → Type 0
 Alike log None None = Unit {0}
 Alike log (Some text) (Some reading) = ReadSo log text reading
 Alike log text reading = ⊥
@@ -30,28 +30,28 @@ record Agrees (limit : ℕ) (log : List (List ℕ)) (sessions : Sessions) (texts
   each : (n : ℕ) → Alike log (finite.get texts n) (finite.get sessions n)
 
 -- a log that grows
-read_later : (log now : List (List ℕ)) (text : List ℕ) (reading : Reading) → length log ≤ length now → ReadSo log text reading → ReadSo now text reading
+read_later : (log now : List (List ℕ)) (text : List ℕ) (reading : SessionReading) → length log ≤ length now → ReadSo log text reading → ReadSo now text reading
 read_later log now text reading more (inl front) = inl front
 read_later log now text reading more (inr s) =
     inr (record { cursor = s.cursor; ops = s.ops; rest = s.rest; says = s.says; partial = s.partial; within = omega (arith, s.within, more); reading_is = s.reading_is })
 
-alike_later : (log now : List (List ℕ)) (text : Option (List ℕ)) (reading : Option Reading) → length log ≤ length now → Alike log text reading → Alike now text reading
+alike_later : (log now : List (List ℕ)) (text : Option (List ℕ)) (reading : Option SessionReading) → length log ≤ length now → Alike log text reading → Alike now text reading
 alike_later log now None None more a = tt
 alike_later log now None (Some reading) more a = absurd a
 alike_later log now (Some text) None more a = absurd a
 alike_later log now (Some text) (Some reading) more a = read_later log now text reading more a
 
 -- one session set or removed
-alike_by : (log : List (List ℕ)) (here : Bool) (x before : Option (List ℕ)) (y past : Option Reading) (text : Option (List ℕ)) (reading : Option Reading) → text ≡ cond here x before → reading ≡ cond here y past
+alike_by : (log : List (List ℕ)) (here : Bool) (x before : Option (List ℕ)) (y past : Option SessionReading) (text : Option (List ℕ)) (reading : Option SessionReading) → text ≡ cond here x before → reading ≡ cond here y past
     → Alike log x y → Alike log before past → Alike log text reading
-alike_by log true x before y past text reading p q a b = subst (λ (o : Option Reading). Alike log text o) (sym q) (subst (λ (o : Option (List ℕ)). Alike log o y) (sym p) a)
-alike_by log false x before y past text reading p q a b = subst (λ (o : Option Reading). Alike log text o) (sym q) (subst (λ (o : Option (List ℕ)). Alike log o past) (sym p) b)
+alike_by log true x before y past text reading p q a b = subst (λ (o : Option SessionReading). Alike log text o) (sym q) (subst (λ (o : Option (List ℕ)). Alike log o y) (sym p) a)
+alike_by log false x before y past text reading p q a b = subst (λ (o : Option SessionReading). Alike log text o) (sym q) (subst (λ (o : Option (List ℕ)). Alike log o past) (sym p) b)
 
 module _ (limit : ℕ) (log now : List (List ℕ)) (sessions : Sessions) (texts : Texts) (agrees : Agrees limit log sessions texts) (more : length log ≤ length now) (room : length now ≤ limit) (n : ℕ) where
   later : (q : ℕ) → Alike now (finite.get texts q) (finite.get sessions q)
   later q = alike_later log now (finite.get texts q) (finite.get sessions q) more (agrees.each q)
 
-  set_agrees : (text : List ℕ) (reading : Reading) → ReadSo now text reading → Agrees limit now (finite.insert sessions n reading) (finite.insert texts n text)
+  set_agrees : (text : List ℕ) (reading : SessionReading) → ReadSo now text reading → Agrees limit now (finite.insert sessions n reading) (finite.insert texts n text)
   set_agrees text reading so = record {
     room = room;
     each = λ q. alike_by now _ (Some text) (finite.get texts q) (Some reading) (finite.get sessions q) (finite.get (finite.insert texts n text) q) (finite.get (finite.insert sessions n reading) q)
@@ -66,12 +66,12 @@ module _ (limit : ℕ) (log now : List (List ℕ)) (sessions : Sessions) (texts 
   }
 
   -- behind a piece
-  piece_agrees : (answer : Option (List ℕ)) (text : List ℕ) (reading : Reading) → (answer ≡ None → ReadSo now text reading) → Agrees limit now (sessions_after n sessions (becomes answer reading)) (texts_behind n texts text answer)
+  piece_agrees : (answer : Option (List ℕ)) (text : List ℕ) (reading : SessionReading) → (answer ≡ None → ReadSo now text reading) → Agrees limit now (sessions_after n sessions (becomes answer reading)) (texts_behind n texts text answer)
   piece_agrees None text reading so = set_agrees text reading (so refl)
   piece_agrees (Some bytes) text reading so = removed_agrees
 
 -- one session opened
-opened_by : (limit : ℕ) (log : List (List ℕ)) (sessions : Sessions) (texts : Texts) (n : ℕ) → Agrees limit log sessions texts → (text : Option (List ℕ)) (reading : Option Reading) → Alike log text reading
+opened_by : (limit : ℕ) (log : List (List ℕ)) (sessions : Sessions) (texts : Texts) (n : ℕ) → Agrees limit log sessions texts → (text : Option (List ℕ)) (reading : Option SessionReading) → Alike log text reading
     → Agrees limit log (if is_some reading then sessions else finite.insert sessions n unread) (if is_some text then texts else finite.insert texts n [])
 opened_by limit log sessions texts n agrees None None a = set_agrees limit log log sessions texts agrees (omega arith) agrees.room n [] unread (inl (tt, refl))
 opened_by limit log sessions texts n agrees None (Some reading) a = absurd a
@@ -79,20 +79,20 @@ opened_by limit log sessions texts n agrees (Some text) None a = absurd a
 opened_by limit log sessions texts n agrees (Some text) (Some reading) a = agrees
 
 -- the log behind a course
-course_grows : (course : Course) (log : List (List ℕ)) → length log ≤ length (log_behind course log)
+course_grows : (course : SessionText) (log : List (List ℕ)) → length log ≤ length (log_behind course log)
 course_grows Greets log = omega arith
 course_grows NoGreeting log = omega arith
 course_grows Beyond log = omega arith
 course_grows (Speaks cursor new rest follows) log = grown log new
 
-course_room : (course : Course) (limit : ℕ) (log : List (List ℕ)) (before : List Op) (text : List ℕ) → length log ≤ limit → IsCourse course limit log before text → length (log_behind course log) ≤ limit
+course_room : (course : SessionText) (limit : ℕ) (log : List (List ℕ)) (before : List Op) (text : List ℕ) → length log ≤ limit → IsCourse course limit log before text → length (log_behind course log) ≤ limit
 course_room Greets limit log before text room is = room
 course_room NoGreeting limit log before text room is = room
 course_room Beyond limit log before text room is = room
 course_room (Speaks cursor new rest follows) limit log before text room is = is.2
 
 -- the reply to what the course says
-replies_same : (n : ℕ) (answer : Option (List ℕ)) (reading : Reading) → reply_of n (becomes answer reading) ≡ reply_with n answer
+replies_same : (n : ℕ) (answer : Option (List ℕ)) (reading : SessionReading) → reply_of n (becomes answer reading) ≡ reply_with n answer
 replies_same n None reading = refl
 replies_same n (Some bytes) reading = refl
 
@@ -107,7 +107,7 @@ record Both (limit : ℕ) (log : List (List ℕ)) (sessions : Sessions) (texts :
   log_now : List (List ℕ)
   sessions_now : Sessions
   texts_now : Texts
-  steps : Steps (relay_of limit log sessions) event (relay_of limit log_now sessions_now) reply
+  steps : RelaySteps (relay_of limit log sessions) event (relay_of limit log_now sessions_now) reply
   tells : Tells limit (told_of log texts) event (told_of log_now texts_now) reply
   agree : Agrees limit log_now sessions_now texts_now
 
@@ -115,8 +115,8 @@ module _ (limit : ℕ) (log : List (List ℕ)) (sessions : Sessions) (texts : Te
   abbrev open_both : (n : ℕ) → Both limit log sessions texts (Opened n) None
   open_both n = record {
     log_now = log;
-    sessions_now = opened n sessions;
-    texts_now = with_text n texts;
+    sessions_now = session_opened n sessions;
+    texts_now = text_opened n texts;
     steps = (refl, refl);
     tells = (refl, refl);
     agree = opened_by limit log sessions texts n agrees (finite.get texts n) (finite.get sessions n) (agrees.each n);
@@ -142,10 +142,10 @@ module _ (limit : ℕ) (log : List (List ℕ)) (sessions : Sessions) (texts : Te
     agree = agrees;
   }
 
-  abbrev piece_both : (n : ℕ) (bytes text : List ℕ) (reading : Reading) (before : List Op) (course : Course) → finite.get texts n ≡ Some text → finite.get sessions n ≡ Some reading → ReadSo log text reading
-      → (come : HasCome text before) → IsCourse course limit log before (text ++ bytes) → Both limit log sessions texts (Piece n bytes) (reply_with n (answer_to course log))
+  abbrev piece_both : (n : ℕ) (bytes text : List ℕ) (reading : SessionReading) (before : List Op) (course : SessionText) → finite.get texts n ≡ Some text → finite.get sessions n ≡ Some reading → ReadSo log text reading
+      → (come : HasCome text before) → IsCourse course limit log before (text ++ bytes) → Both limit log sessions texts (Piece n bytes) (reply_with n (reply_to_text course log))
   piece_both n bytes text reading before course some found so come is =
-      let answer : Option (List ℕ) = answer_to course log in
+      let answer : Option (List ℕ) = reply_to_text course log in
       let whole : List ℕ = text ++ bytes in
       let taken : Taken = taken_by course log whole in
       let now : List (List ℕ) = log_behind course log in
@@ -153,7 +153,7 @@ module _ (limit : ℕ) (log : List (List ℕ)) (sessions : Sessions) (texts : Te
         log_now = now;
         sessions_now = sessions_after n sessions taken.next;
         texts_now = texts_behind n texts whole answer;
-        steps = subst (Steps (relay_of limit log sessions) (Piece n bytes) (after_piece (relay_of limit log sessions) n taken)) (replies_same n answer (reading_by course whole))
+        steps = subst (RelaySteps (relay_of limit log sessions) (Piece n bytes) (after_piece (relay_of limit log sessions) n taken)) (replies_same n answer (reading_by course whole))
             (piece_steps (relay_of limit log sessions) n reading bytes taken found (read_takes limit log text bytes reading before course so come is));
         tells = subst (λ (o : Option (List ℕ)). TellsTo limit (told_of log texts) n o bytes (told_of now (texts_behind n texts whole answer)) (reply_with n answer)) (sym some) (record {
           answer = answer;
@@ -172,20 +172,20 @@ record StepTold (limit : ℕ) (log : List (List ℕ)) (sessions : Sessions) (tex
   reply_is : reply ≡ same_reply
   new_is : new ≡ relay_of limit both.log_now both.sessions_now
 
-step_told : (limit : ℕ) (log : List (List ℕ)) (sessions : Sessions) (texts : Texts) → Agrees limit log sessions texts → (event : Event) (new : Relay) (reply : Option Reply) → Steps (relay_of limit log sessions) event new reply
+step_told : (limit : ℕ) (log : List (List ℕ)) (sessions : Sessions) (texts : Texts) → Agrees limit log sessions texts → (event : Event) (new : Relay) (reply : Option Reply) → RelaySteps (relay_of limit log sessions) event new reply
     → StepTold limit log sessions texts event new reply
 step_told limit log sessions texts agrees (Opened n) new reply h = record { same_reply = None; both = open_both limit log sessions texts agrees n; reply_is = h.1; new_is = h.0 }
 step_told limit log sessions texts agrees (Gone n) new reply h = record { same_reply = None; both = gone_both limit log sessions texts agrees n; reply_is = h.1; new_is = h.0 }
 step_told limit log sessions texts agrees (Piece n bytes) new reply h = by (finite.get texts n) (finite.get sessions n) refl refl (agrees.each n) h
   where
-    by : (text : Option (List ℕ)) (reading : Option Reading) → finite.get texts n ≡ text → finite.get sessions n ≡ reading → Alike log text reading
+    by : (text : Option (List ℕ)) (reading : Option SessionReading) → finite.get texts n ≡ text → finite.get sessions n ≡ reading → Alike log text reading
         → StepsPiece (relay_of limit log sessions) n reading bytes new reply → StepTold limit log sessions texts (Piece n bytes) new reply
     by None None absent none a h = record { same_reply = None; both = unknown_both limit log sessions texts agrees n bytes absent none; reply_is = h.1; new_is = h.0 }
     by None (Some reading) absent none a h = absurd a
     by (Some text) None absent none a h = absurd a
     by (Some text) (Some reading) some found a h =
         let r : Read limit log text bytes h.taken = read_on limit log text bytes reading h.taken agrees.room a h.takes in
-        let answer : Option (List ℕ) = answer_to r.course log in
+        let answer : Option (List ℕ) = reply_to_text r.course log in
         record {
           same_reply = reply_with n answer;
           both = piece_both limit log sessions texts agrees n bytes text reading r.before r.course some found a r.has_come r.is_course;
@@ -206,37 +206,37 @@ told_step limit log sessions texts agrees (Opened n) new reply h = record { same
 told_step limit log sessions texts agrees (Gone n) new reply h = record { same_reply = None; both = gone_both limit log sessions texts agrees n; reply_is = h.1; new_is = h.0 }
 told_step limit log sessions texts agrees (Piece n bytes) new reply h = by (finite.get texts n) (finite.get sessions n) refl refl (agrees.each n) h
   where
-    by : (text : Option (List ℕ)) (reading : Option Reading) → finite.get texts n ≡ text → finite.get sessions n ≡ reading → Alike log text reading
+    by : (text : Option (List ℕ)) (reading : Option SessionReading) → finite.get texts n ≡ text → finite.get sessions n ≡ reading → Alike log text reading
         → TellsTo limit (told_of log texts) n text bytes new reply → ToldStep limit log sessions texts (Piece n bytes) new reply
     by None None absent none a h = record { same_reply = None; both = unknown_both limit log sessions texts agrees n bytes absent none; reply_is = h.1; new_is = h.0 }
     by None (Some reading) absent none a h = absurd a
     by (Some text) None absent none a h = absurd a
     by (Some text) (Some reading) some found a h = record {
-      same_reply = reply_with n (answer_to h.comes.course log);
+      same_reply = reply_with n (reply_to_text h.comes.course log);
       both = piece_both limit log sessions texts agrees n bytes text reading h.comes.before h.comes.course some found a h.comes.has_come h.comes.is_course;
       reply_is = h.reply_is ∙ ap (reply_with n) h.comes.answer_is;
       new_is = λ i. record { log = h.comes.log_is i; texts = (h.texts_are ∙ ap (texts_behind n texts (text ++ bytes)) h.comes.answer_is) i };
     }
 
 -- a run of a relay is told
-told_run : (limit : ℕ) (log : List (List ℕ)) (sessions : Sessions) (texts : Texts) → Agrees limit log sessions texts → (events : List Event) (new : Relay) (replies : List (Option Reply)) → Runs (relay_of limit log sessions) events new replies
+told_run : (limit : ℕ) (log : List (List ℕ)) (sessions : Sessions) (texts : Texts) → Agrees limit log sessions texts → (events : List Event) (new : Relay) (replies : List (Option Reply)) → RelayRuns (relay_of limit log sessions) events new replies
     → (told : Told) × TellsAll limit (told_of log texts) events told replies × (told.log ≡ new.log)
 told_run limit log sessions texts agrees [] new replies h = (told_of log texts, (refl, h.1), sym (ap (λ (r : Relay). r.log) h.0))
 told_run limit log sessions texts agrees (event ∷ events) new replies h =
     let s = step_told limit log sessions texts agrees event h.0 h.1 h.3 in
     let b = s.both in
-    let rest = told_run limit b.log_now b.sessions_now b.texts_now b.agree events new h.2 (subst (λ (r : Relay). Runs r events new h.2) s.new_is h.4) in
+    let rest = told_run limit b.log_now b.sessions_now b.texts_now b.agree events new h.2 (subst (λ (r : Relay). RelayRuns r events new h.2) s.new_is h.4) in
     (rest.0, (told_of b.log_now b.texts_now, h.1, h.2, subst (Tells limit (told_of log texts) event (told_of b.log_now b.texts_now)) (sym s.reply_is) b.tells, rest.1, h.5), rest.2)
 
 -- and what is told is a run
 run_told : (limit : ℕ) (log : List (List ℕ)) (sessions : Sessions) (texts : Texts) → Agrees limit log sessions texts → (events : List Event) (told : Told) (replies : List (Option Reply))
-    → TellsAll limit (told_of log texts) events told replies → (new : Relay) × Runs (relay_of limit log sessions) events new replies × (new.log ≡ told.log)
+    → TellsAll limit (told_of log texts) events told replies → (new : Relay) × RelayRuns (relay_of limit log sessions) events new replies × (new.log ≡ told.log)
 run_told limit log sessions texts agrees [] told replies h = (relay_of limit log sessions, (refl, h.1), sym (ap (λ (t : Told). t.log) h.0))
 run_told limit log sessions texts agrees (event ∷ events) told replies h =
     let s = told_step limit log sessions texts agrees event h.0 h.1 h.3 in
     let b = s.both in
     let rest = run_told limit b.log_now b.sessions_now b.texts_now b.agree events told h.2 (subst (λ (t : Told). TellsAll limit t events told h.2) s.new_is h.4) in
-    (rest.0, (relay_of limit b.log_now b.sessions_now, h.1, h.2, subst (Steps (relay_of limit log sessions) event (relay_of limit b.log_now b.sessions_now)) (sym s.reply_is) b.steps, rest.1, h.5), rest.2)
+    (rest.0, (relay_of limit b.log_now b.sessions_now, h.1, h.2, subst (RelaySteps (relay_of limit log sessions) event (relay_of limit b.log_now b.sessions_now)) (sym s.reply_is) b.steps, rest.1, h.5), rest.2)
 
 -- before any event
 none_told : (limit : ℕ) → Agrees limit [] finite.empty finite.empty

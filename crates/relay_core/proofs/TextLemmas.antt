@@ -6,7 +6,7 @@ use Rattle.std.proofs.lemmas.List.{append-nil}
 use Rattle.std.proofs.lemmas.List.Elements.{All-cons, All-head, All-nil, All-tail}
 use Rattle.fugue_ids.specs.declared.op.Op.{Op}
 use Rattle.origin_model.specs.frames.Frames.{HasFrame, IsPartial, frame, frames}
-use Rattle.origin_model.specs.relay.Session.{Closing, Frame, Front, IsKind, Kind, Neither, Taken, TakesAll, closing, goes_on, is_logged, logged, refusal, refused, reply_from, told}
+use Rattle.origin_model.specs.relay.Session.{Closing, Frame, Front, IsKind, Kind, Neither, Taken, TakesAll, closing, session_goes_on, is_logged, logged, refusal_message, session_refused, reply_from, told}
 use Rattle.origin_model.proofs.SharedLemmas.{all_once, closed_takes, closing_takes, frame_takes, front_takes, partly, takes-append}
 use Rattle.op_frame.proofs.StreamLemmas.{no_bytes_are_partial}
 use Rattle.relay_core.specs.Sessions.{becomes}
@@ -23,7 +23,7 @@ behind limit (x ∷ xs) ys start middle after h i =
 
 -- a frame for which there is room
 room_for : (limit cursor : ℕ) (log : List (List ℕ)) (bytes : List ℕ) (p q : Bool) → nat_eq (length log) limit ≡ q → length (if p then log else log ++ bytes ∷ []) ≤ limit
-    → by_tests log cursor bytes p q ≡ goes_on (if p then log else log ++ bytes ∷ []) cursor
+    → by_tests log cursor bytes p q ≡ session_goes_on (if p then log else log ++ bytes ∷ []) cursor
 room_for limit cursor log bytes true q is room = refl
 room_for limit cursor log bytes false true is room = absurd (omega (arith, room, eqb-true (length log) limit is, length-append log (bytes ∷ [])))
 room_for limit cursor log bytes false false is room = refl
@@ -39,22 +39,22 @@ grown log (op ∷ ops) = omega (arith, longer (is_logged log (frame op)) log (fr
 
 -- frames that come behind a whole message
 pub frames_take : (limit cursor : ℕ) (ops : List Op) (log : List (List ℕ)) (rest : List ℕ) (after : Taken) → All HasFrame ops → length (with_frames log ops) ≤ limit
-    → TakesAll limit rest (goes_on (with_frames log ops) cursor) after → TakesAll limit (frames ops ++ rest) (goes_on log cursor) after
+    → TakesAll limit rest (session_goes_on (with_frames log ops) cursor) after → TakesAll limit (frames ops ++ rest) (session_goes_on log cursor) after
 frames_take limit cursor [] log rest after have room h = h
 frames_take limit cursor (op ∷ ops) log rest after have room h =
-    let more : TakesAll limit (frames ops ++ rest) (goes_on (with_frame log op) cursor) after
+    let more : TakesAll limit (frames ops ++ rest) (session_goes_on (with_frame log op) cursor) after
     = frames_take limit cursor ops (with_frame log op) rest after (All-tail HasFrame op ops have) room h in
-    let is : logged limit log cursor (frame op) ≡ goes_on (with_frame log op) cursor
+    let is : logged limit log cursor (frame op) ≡ session_goes_on (with_frame log op) cursor
     = room_for limit cursor log (frame op) (is_logged log (frame op)) (nat_eq (length log) limit) refl (omega (arith, room, grown (with_frame log op) ops)) in
-    subst (λ (bytes : List ℕ). TakesAll limit bytes (goes_on log cursor) after) (sym (append_assoc (frame op) (frames ops) rest))
-    (takes-append limit (frame op) (frames ops ++ rest) (goes_on log cursor) (logged limit log cursor (frame op)) after (frame_takes limit cursor log op (All-head HasFrame op ops have))
+    subst (λ (bytes : List ℕ). TakesAll limit bytes (session_goes_on log cursor) after) (sym (append_assoc (frame op) (frames ops) rest))
+    (takes-append limit (frame op) (frames ops ++ rest) (session_goes_on log cursor) (logged limit log cursor (frame op)) after (frame_takes limit cursor log op (All-head HasFrame op ops have))
     (subst (λ (t : Taken). TakesAll limit (frames ops ++ rest) t after) (sym is) more))
 
 -- a front of a frame
-pub front_goes : (limit cursor : ℕ) (log : List (List ℕ)) (rest : List ℕ) → IsPartial rest → TakesAll limit rest (goes_on log cursor) (partly log cursor rest)
+pub front_goes : (limit cursor : ℕ) (log : List (List ℕ)) (rest : List ℕ) → IsPartial rest → TakesAll limit rest (session_goes_on log cursor) (partly log cursor rest)
 front_goes limit cursor log rest p = by p.more p.lacks (sym p.is_frame.bytes_are ∙ p.front)
   where
-    by : (more : List ℕ) → 0 < length more → frame p.is_frame.op ≡ rest ++ more → TakesAll limit rest (goes_on log cursor) (partly log cursor rest)
+    by : (more : List ℕ) → 0 < length more → frame p.is_frame.op ≡ rest ++ more → TakesAll limit rest (session_goes_on log cursor) (partly log cursor rest)
     by [] lacks e = absurd (omega (arith, lacks))
     by (z ∷ zs) lacks e = front_takes limit cursor log p.is_frame.op p.is_frame.has_frame [] rest z zs e
 
@@ -63,28 +63,28 @@ abbrev pub outcome : Follows → (cursor : ℕ) → List (List ℕ) → (rest : 
 outcome follows cursor log rest = record { log = log; next = becomes (closing_of follows log cursor) (record { cursor = Some cursor; rest = rest }) }
 
 -- what follows the frames of a text
-pub rest_takes : (follows : Follows) (limit cursor : ℕ) (log : List (List ℕ)) (rest : List ℕ) → Stands follows limit log rest → TakesAll limit rest (goes_on log cursor) (outcome follows cursor log rest)
+pub rest_takes : (follows : Follows) (limit cursor : ℕ) (log : List (List ℕ)) (rest : List ℕ) → Stands follows limit log rest → TakesAll limit rest (session_goes_on log cursor) (outcome follows cursor log rest)
 rest_takes Unfinished limit cursor log rest s = front_goes limit cursor log rest s
 rest_takes Closed limit cursor log rest s =
     let after : Taken = outcome Closed cursor log rest in
-    subst (λ (bytes : List ℕ). TakesAll limit bytes (goes_on log cursor) after) (sym s.1)
-    (takes-append limit closing s.0 (goes_on log cursor) after after (closing_takes limit cursor log) (closed_takes limit s.0 log (reply_from log cursor)))
+    subst (λ (bytes : List ℕ). TakesAll limit bytes (session_goes_on log cursor) after) (sym s.1)
+    (takes-append limit closing s.0 (session_goes_on log cursor) after after (closing_takes limit cursor log) (closed_takes limit s.0 log (reply_from log cursor)))
 rest_takes Foreign limit cursor log rest s =
-    let after : Taken = refused log 1 in
+    let after : Taken = session_refused log 1 in
     let f : IsForeign s.0 = s.2 in
-    let shown : TakesAll limit s.0 (goes_on log cursor) after
-    = subst (λ (bytes : List ℕ). TakesAll limit bytes (goes_on log cursor) after) (sym f.bytes_are)
-    (takes-append limit f.before (f.byte ∷ []) (goes_on log cursor) (partly log cursor f.before) after (front_goes limit cursor log f.before f.was_front)
+    let shown : TakesAll limit s.0 (session_goes_on log cursor) after
+    = subst (λ (bytes : List ℕ). TakesAll limit bytes (session_goes_on log cursor) after) (sym f.bytes_are)
+    (takes-append limit f.before (f.byte ∷ []) (session_goes_on log cursor) (partly log cursor f.before) after (front_goes limit cursor log f.before f.was_front)
     (after, (Neither, subst (IsKind Neither) f.bytes_are f.is_none, refl), refl)) in
-    subst (λ (bytes : List ℕ). TakesAll limit bytes (goes_on log cursor) after) (sym s.3)
-    (takes-append limit s.0 s.1 (goes_on log cursor) after after shown (closed_takes limit s.1 log (refusal 1)))
+    subst (λ (bytes : List ℕ). TakesAll limit bytes (session_goes_on log cursor) after) (sym s.3)
+    (takes-append limit s.0 s.1 (session_goes_on log cursor) after after shown (closed_takes limit s.1 log (refusal_message 1)))
 rest_takes OneTooMany limit cursor log rest s =
-    let after : Taken = refused log 2 in
+    let after : Taken = session_refused log 2 in
     let full : nat_eq (length log) limit ≡ true = eq-eqb (length log) limit s.5 in
     let is : logged limit log cursor (frame s.0) ≡ after = (λ i. by_tests log cursor (frame s.0) (s.4 i) (full i)) in
-    subst (λ (bytes : List ℕ). TakesAll limit bytes (goes_on log cursor) after) (sym s.3)
-    (takes-append limit (frame s.0) s.1 (goes_on log cursor) after after (subst (TakesAll limit (frame s.0) (goes_on log cursor)) is (frame_takes limit cursor log s.0 s.2))
-    (closed_takes limit s.1 log (refusal 2)))
+    subst (λ (bytes : List ℕ). TakesAll limit bytes (session_goes_on log cursor) after) (sym s.3)
+    (takes-append limit (frame s.0) s.1 (session_goes_on log cursor) after after (subst (TakesAll limit (frame s.0) (session_goes_on log cursor)) is (frame_takes limit cursor log s.0 s.2))
+    (closed_takes limit s.1 log (refusal_message 2)))
 
 -- bytes behind a whole message, as they were read
 pub record Reads (limit cursor : ℕ) (log : List (List ℕ)) (bytes : List ℕ) (after : Taken) : Type 0 where
@@ -135,7 +135,7 @@ module _ (limit cursor : ℕ) (after : Taken) where
       reads_frame log log op bytes has (ap (λ (b : Bool). if b then log else log ++ frame op ∷ []) (sym is)) (further log [] room no_bytes_are_partial h)
   frame_reads log op bytes has room further false true is full h =
       reads_none log (frame op ++ bytes) OneTooMany room (op, bytes, has, refl, is, eqb-true (length log) limit full)
-      (all_once no_front limit bytes (refused log 2) after (refused log 2) h (closed_takes limit bytes log (refusal 2)))
+      (all_once no_front limit bytes (session_refused log 2) after (session_refused log 2) h (closed_takes limit bytes log (refusal_message 2)))
   frame_reads log op bytes has room further false false is full h =
       let other : length log ≢ limit = λ e. true≢false (sym (eq-eqb (length log) limit e) ∙ full) in
       reads_frame log (log ++ frame op ∷ []) op bytes has (ap (λ (b : Bool). if b then log else log ++ frame op ∷ []) (sym is))
@@ -157,7 +157,7 @@ module _ (limit cursor : ℕ) (after : Taken) where
   kind_reads log rest byte bytes room partial further Neither f h =
       reads_none log ((rest ++ byte ∷ []) ++ bytes) Foreign room
       (rest ++ byte ∷ [], bytes, record { before = rest; byte = byte; bytes_are = refl; was_front = partial; is_none = f }, refl)
-      (all_once no_front limit bytes (refused log 1) after (refused log 1) h (closed_takes limit bytes log (refusal 1)))
+      (all_once no_front limit bytes (session_refused log 1) after (session_refused log 1) h (closed_takes limit bytes log (refusal_message 1)))
 
 -- bytes behind a whole message and a front of the next one
 pub reads : (limit cursor : ℕ) (after : Taken) (bytes : List ℕ) (log : List (List ℕ)) (rest : List ℕ) → length log ≤ limit → IsPartial rest → TakesAll limit bytes (partly log cursor rest) after

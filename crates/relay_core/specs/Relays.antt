@@ -3,13 +3,13 @@ use Rattle.std.specs.Prelude.{◌≡◌, ℕ, Option, List}
 use Rattle.std.specs.Coded.{Coded, code_by, coded_list, coded_option, coded×, coded_ℕ}
 use Rattle.std.specs.FinMap as finite
 use Rattle.std.proofs.Common.{refl}
-use Rattle.origin_model.specs.declared.relay.event.Event.{Event}
-use Rattle.origin_model.specs.declared.relay.reply.Reply.{Reply}
-use Rattle.origin_model.specs.relay.Relay.{Relay, Sessions, Steps}
-use Rattle.origin_model.specs.relay.Session.{Reading}
+use Rattle.origin_model.specs.declared.relay.Event.{Event}
+use Rattle.origin_model.specs.declared.relay.Reply.{Reply}
+use Rattle.origin_model.specs.relay.Relay.{Relay, Sessions, RelaySteps}
+use Rattle.origin_model.specs.relay.Session.{SessionReading}
 use Rattle.relay_core.specs.Sessions.{listed}
 
-abbrev pub coded_reading : Coded Reading
+abbrev pub coded_reading : Coded SessionReading
 coded_reading =
     code_by (Option ℕ × List ℕ) (coded× (coded_option coded_ℕ) (coded_list coded_ℕ)) (λ r. (r.cursor, r.rest)) (λ p. record { cursor = p.0; rest = p.1 }) (λ _. refl)
 
@@ -21,5 +21,5 @@ coded_relay =
 -- the event took the relay from old to new, and these are the replies
 pub record Stepped (old : Relay) (event : Event) (new : Relay) (replies : List Reply) : Type 0 where
   pub reply : Option Reply
-  pub steps : Steps old event new reply
+  pub steps : RelaySteps old event new reply
   pub replies_are : replies ≡ listed reply

@@ -4,11 +4,11 @@ use Rattle.std.specs.FinMap as finite
 use Rattle.std.specs.Int.{from_be_bytes, w32}
 use Rattle.std.specs.Ordering.{nat_cmp}
 use Rattle.fugue_ids.specs.declared.op.Op.{Op}
-use Rattle.origin_model.specs.declared.relay.event.Event.{Event}
-use Rattle.origin_model.specs.declared.relay.event.Event.TheVariants.{Gone, Opened, Piece}
-use Rattle.origin_model.specs.declared.relay.reply.Reply.{Reply}
+use Rattle.origin_model.specs.declared.relay.Event.{Event}
+use Rattle.origin_model.specs.declared.relay.Event.TheVariants.{Gone, Opened, Piece}
+use Rattle.origin_model.specs.declared.relay.Reply.{Reply}
 use Rattle.origin_model.specs.frames.Frames.{HasFrame, IsPartial, frame, frames}
-use Rattle.origin_model.specs.relay.Session.{IsKind, Neither, closing, greeting, is_logged, refusal, reply_from}
+use Rattle.origin_model.specs.relay.Session.{IsKind, Neither, closing, greeting, is_logged, refusal_message, reply_from}
 
 -- the log with the frame of an operation, where it lacks that one
 abbrev pub with_frame : List (List ℕ) → Op → List (List ℕ)
@@ -56,14 +56,14 @@ Stands OneTooMany limit log rest =
     (op : Op) × (behind : List ℕ) × HasFrame op × (rest ≡ frame op ++ behind) × (is_logged log (frame op) ≡ false) × (length log ≡ limit)
 
 -- what the text of a session is: a front of its greeting, one that does not begin with 48, one whose cursor is beyond the log, or one that says operations
-pub data Course : Type 0 where
-  Greets : Course
-  NoGreeting : Course
-  Beyond : Course
-  Speaks : (cursor : ℕ) → (new : List Op) → (rest : List ℕ) → Follows → Course
+pub data SessionText : Type 0 where
+  Greets : SessionText
+  NoGreeting : SessionText
+  Beyond : SessionText
+  Speaks : (cursor : ℕ) → (new : List Op) → (rest : List ℕ) → Follows → SessionText
 
 -- The text has the frames of the operations before, and those of new ones that came to this log. Its cursor was compared with the log as its fourth byte came.
-abbrev pub IsCourse : Course → (limit : ℕ) → (log : List (List ℕ)) → (before : List Op) → (text : List ℕ) → Type 0
+abbrev pub IsCourse : SessionText → (limit : ℕ) → (log : List (List ℕ)) → (before : List Op) → (text : List ℕ) → Type 0
 IsCourse Greets limit log before text = IsGreetingFront text
 IsCourse NoGreeting limit log before text = (first : ℕ) × (behind : List ℕ) × (first ≢ greeting) × (text ≡ first ∷ behind)
 IsCourse Beyond limit log before text = (cursor : ℕ) × (behind : List ℕ) × Says text cursor [] behind × (length log < cursor)
@@ -71,7 +71,7 @@ IsCourse (Speaks cursor new rest follows) limit log before text =
     Says text cursor (before ++ new) rest × (cursor ≤ length log) × (length (with_frames log new) ≤ limit) × Stands follows limit (with_frames log new) rest
 
 -- the log gains the new frames
-abbrev pub log_behind : Course → List (List ℕ) → List (List ℕ)
+abbrev pub log_behind : SessionText → List (List ℕ) → List (List ℕ)
 log_behind (Speaks cursor new rest follows) log = with_frames log new
 log_behind course log = log
 
@@ -79,14 +79,14 @@ log_behind course log = log
 abbrev pub closing_of : Follows → List (List ℕ) → (cursor : ℕ) → Option (List ℕ)
 closing_of Unfinished log cursor = None
 closing_of Closed log cursor = Some (reply_from log cursor)
-closing_of Foreign log cursor = Some (refusal 1)
-closing_of OneTooMany log cursor = Some (refusal 2)
+closing_of Foreign log cursor = Some (refusal_message 1)
+closing_of OneTooMany log cursor = Some (refusal_message 2)
 
-abbrev pub answer_to : Course → List (List ℕ) → Option (List ℕ)
-answer_to Greets log = None
-answer_to NoGreeting log = Some (refusal 1)
-answer_to Beyond log = Some (refusal 3)
-answer_to (Speaks cursor new rest follows) log = closing_of follows (with_frames log new) cursor
+abbrev pub reply_to_text : SessionText → List (List ℕ) → Option (List ℕ)
+reply_to_text Greets log = None
+reply_to_text NoGreeting log = Some (refusal_message 1)
+reply_to_text Beyond log = Some (refusal_message 3)
+reply_to_text (Speaks cursor new rest follows) log = closing_of follows (with_frames log new) cursor
 
 -- the text of an open session, and the operations whose frames it has
 abbrev pub HasCome : (text : List ℕ) → List Op → Type 0
@@ -96,10 +96,10 @@ HasCome text before = (IsGreetingFront text × (before ≡ [])) ⊎ ((cursor : �
 pub record Comes (limit : ℕ) (log : List (List ℕ)) (text bytes : List ℕ) (new_log : List (List ℕ)) (answer : Option (List ℕ)) : Type 0 where
   pub before : List Op
   pub has_come : HasCome text before
-  pub course : Course
+  pub course : SessionText
   pub is_course : IsCourse course limit log before (text ++ bytes)
   pub log_is : new_log ≡ log_behind course log
-  pub answer_is : answer ≡ answer_to course log
+  pub answer_is : answer ≡ reply_to_text course log
 
 -- the texts of the open sessions by their numbers
 abbrev pub Texts : Type 0
@@ -115,8 +115,8 @@ abbrev pub nothing_told : Told
 nothing_told = record { log = []; texts = finite.empty }
 
 -- an open session stays as it is; any other begins an empty text
-abbrev pub with_text : ℕ → Texts → Texts
-with_text n texts = if finite.contains_key texts n then texts else finite.insert texts n []
+abbrev pub text_opened : ℕ → Texts → Texts
+text_opened n texts = if finite.contains_key texts n then texts else finite.insert texts n []
 
 -- the texts behind a piece: the one that goes on has its bytes, and the one that is closed is gone
 abbrev pub texts_behind : ℕ → Texts → (text : List ℕ) → Option (List ℕ) → Texts
@@ -141,7 +141,7 @@ TellsTo limit old n (Some text) bytes new reply = TellsPiece limit old n text by
 
 -- what an event does to the log and the texts, and the reply to it
 abbrev pub Tells : (limit : ℕ) → (old : Told) → Event → (new : Told) → Option Reply → Type 0
-Tells limit old (Opened n) new reply = (new ≡ record { log = old.log; texts = with_text n old.texts }) × (reply ≡ None)
+Tells limit old (Opened n) new reply = (new ≡ record { log = old.log; texts = text_opened n old.texts }) × (reply ≡ None)
 Tells limit old (Piece n bytes) new reply = TellsTo limit old n (finite.get old.texts n) bytes new reply
 Tells limit old (Gone n) new reply = (new ≡ record { log = old.log; texts = finite.remove old.texts n }) × (reply ≡ None)
 

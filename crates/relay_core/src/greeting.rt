@@ -57,7 +57,8 @@ impl Greeting {
 
     /// One byte more, where the greeting is not whole then.
     pub(crate) fn push(&mut self, byte: u8) -> Greeted
-        ensures is { (log : List (List ℕ)) → greeted_as log (self.old ++ byte ∷ []) ≡ greets log (self.old ++ byte ∷ []) result }
+        ensures is { (log : List (List ℕ))
+            → greeted_as log (self.old ++ byte ∷ []) ≡ greets log (self.old ++ byte ∷ []) result }
         ensures bytes { result ≡ Partly → self.new ≡ self.old ++ byte ∷ [] }
     {
         self.bytes[self.len] = byte;

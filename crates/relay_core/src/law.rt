@@ -5,8 +5,8 @@ pub fn events_come_once()
     ensures { EventsComeOnce }
 {}
 
-/// A relay is told by the whole texts of its sessions: the bytes of a session's pieces joined say what joins the log and
-/// what the session is answered.
+/// A relay is told by the whole texts of its sessions: the bytes of a session's pieces joined say what joins the log
+/// and what the session is answered.
 pub fn sessions_by_whole_texts()
     ensures { SessionsByWholeTexts }
 {}

@@ -4,14 +4,11 @@
 mod greeting;
 mod law;
 mod log;
-mod no_memory_for;
 mod piece;
 mod relay;
-mod session;
 mod sessions;
 mod taking;
 
 pub use law::{events_come_once, sessions_by_whole_texts};
-pub use no_memory_for::NoMemoryFor;
 pub use origin_model::{Event, Reply};
-pub use relay::{MOST_LOGGED, Relay};
+pub use relay::{MOST_LOGGED, NoMemoryFor, Relay};

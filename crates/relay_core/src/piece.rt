@@ -1,14 +1,13 @@
 ghost use Rattle.std.specs.Prelude.{◌≡◌, ◌≤◌, ◌<◌, ◌^◌, IfOk, OnErr, length, Option as Maybe};
 ghost use Rattle.std.specs.FinMap as finite;
-ghost use Rattle.origin_model.specs.declared.relay.reply.Reply.{Reply as AnyReply};
+ghost use Rattle.origin_model.specs.declared.relay.Reply.{Reply as AnyReply};
 ghost use Rattle.origin_model.specs.relay.Relay.{StepsPiece};
 ghost use Rattle.origin_model.specs.relay.Session.{Goes, Taken, TakesAll};
-ghost use Rattle.relay_core.specs.Logs.{Grows, frames_in};
-ghost use Rattle.relay_core.specs.Sessions.{ComesTo, becomes, listed, reading_of, sessions_in};
+ghost use Rattle.relay_core.specs.Logs.{LogGrows, frames_in};
+ghost use Rattle.relay_core.specs.Sessions.{SessionBecomes, becomes, listed, reading_of, sessions_in};
 
 use crate::log::Log;
-use crate::session::Session;
-use crate::sessions::{Sessions, copy_of, settle};
+use crate::sessions::{Session, Sessions, copy_of, keep_or_close};
 use crate::taking::take_all;
 use fugue_ids::{ByteList, NoMemory};
 use origin_model::Reply;
@@ -22,7 +21,7 @@ fn comes_to(
     session: Session,
     reply: Option<ByteList>,
 ) -> Result<(Option<Session>, Vec<Reply>), NoMemory>
-    ensures { IfOk result (λ r. ComesTo n (becomes reply (reading_of session)) r.0 r.1.items) }
+    ensures { IfOk result (λ r. SessionBecomes n (becomes reply (reading_of session)) r.0 r.1.items) }
 {
     let mut replies = Vec::new(alloc);
     let Some(bytes) = reply else {
@@ -47,9 +46,10 @@ fn take<B: BuildHasher>(
 ) -> Result<(Option<Session>, Vec<Reply>), NoMemory>
     requires room { length (frames_in log.old) ≤ limit }
     requires small { limit < 2 ^ 32 }
-    ensures ok { IfOk result (λ r. (after : Taken) × TakesAll limit piece.now (record { log = frames_in log.old; next = Goes (reading_of session) }) after
-        × (frames_in log.new ≡ after.log) × ComesTo n after.next r.0 r.1.items) }
-    ensures grows { Grows (frames_in log.old) (frames_in log.new) }
+    ensures ok { IfOk result (λ r. (after : Taken)
+        × TakesAll limit piece.now (record { log = frames_in log.old; next = Goes (reading_of session) }) after
+        × (frames_in log.new ≡ after.log) × SessionBecomes n after.next r.0 r.1.items) }
+    ensures grows { LogGrows (frames_in log.old) (frames_in log.new) }
     ensures within { length (frames_in log.new) ≤ limit }
 {
     let reply = take_all(alloc, limit, log, &mut session, piece)?;
@@ -68,9 +68,11 @@ pub(crate) fn take_piece<B: BuildHasher>(
     requires room { length (frames_in log.old) ≤ limit }
     requires small { limit < 2 ^ 32 }
     ensures ok { IfOk result (λ replies. (reply : Maybe AnyReply) × (replies.items ≡ listed reply)
-        × StepsPiece (record { limit = limit; log = frames_in log.old; sessions = sessions_in sessions.old }) n (finite.get (sessions_in sessions.old) n) piece.now
+        × StepsPiece (record { limit = limit; log = frames_in log.old; sessions = sessions_in sessions.old }) n
+        (finite.get (sessions_in sessions.old) n) piece.now
         (record { limit = limit; log = frames_in log.new; sessions = sessions_in sessions.new }) reply) }
-    ensures err { OnErr result ((frames_in log.new ≡ frames_in log.old) × (sessions_in sessions.new ≡ sessions_in sessions.old)) }
+    ensures err { OnErr result
+        ((frames_in log.new ≡ frames_in log.old) × (sessions_in sessions.new ≡ sessions_in sessions.old)) }
     ensures within { length (frames_in log.new) ≤ limit }
 {
     let Some(session) = copy_of(sessions, n) else {
@@ -79,7 +81,7 @@ pub(crate) fn take_piece<B: BuildHasher>(
     let count = log.len();
     match take(alloc, limit, log, n, session, piece) {
         Ok((kept, replies)) => {
-            settle(sessions, n, kept);
+            keep_or_close(sessions, n, kept);
             Ok(replies)
         }
         Err(_) => {

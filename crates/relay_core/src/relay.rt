@@ -1,10 +1,9 @@
 ghost use Rattle.std.specs.Prelude.{◌≡◌, ◌<◌, ◌≤◌, ◌∷◌, ◌++◌, [], length, List, IfErr, IfOk, OnErr, OnOk};
-ghost use Rattle.origin_model.specs.declared.relay.event.Event.{Event as AnyEvent};
+ghost use Rattle.origin_model.specs.declared.relay.Event.{Event as AnyEvent};
 ghost use Rattle.origin_model.specs.relay.Relay.{IsRelayState, new_relay};
 ghost use Rattle.relay_core.specs.Relays.{Stepped};
 
 use crate::log::Log;
-use crate::no_memory_for::NoMemoryFor;
 use crate::piece::take_piece;
 use crate::sessions::{Sessions, close, open};
 use indexmap::IndexSet;
@@ -13,6 +12,12 @@ use std::alloc::Global;
 use std::collections::BTreeMap;
 use std::hash::BuildHasher;
 use std::marker::Model;
+
+/// Want of memory, with the event handed back.
+#[derive(Debug, Drop)]
+pub struct NoMemoryFor {
+    pub event: Event,
+}
 
 /// The most frames that a log may be asked to take.
 pub const MOST_LOGGED: u32 = 1_048_576;
@@ -70,7 +75,9 @@ impl<B: BuildHasher> Relay<B> {
     /// What the event does, and the reply to it. After want of memory the relay is unchanged, and the event comes back.
     pub fn step(&mut self, event: Event) -> Result<Vec<Reply>, NoMemoryFor>
         ensures ok { IfOk result (λ replies. Stepped self.old event self.new replies.items) }
-        ensures state { OnOk result ((events : List AnyEvent) → IsRelayState self.old.limit events self.old → IsRelayState self.old.limit (events ++ event ∷ []) self.new) }
+        ensures state { OnOk result
+            ((events : List AnyEvent) → IsRelayState self.old.limit events self.old
+            → IsRelayState self.old.limit (events ++ event ∷ []) self.new) }
         ensures unchanged { OnErr result (self.new ≡ self.old) }
         ensures back { IfErr result (λ fault. fault.event ≡ event) }
     {

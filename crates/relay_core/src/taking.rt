@@ -1,11 +1,13 @@
-ghost use Rattle.std.specs.Prelude.{◌≡◌, ◌≢◌, ◌≤◌, ◌<◌, ◌^◌, ◌++◌, ◌∷◌, [], IfOk, List, OnErr, Some, false, length, true, ℕ};
-ghost use Rattle.origin_model.specs.relay.Session.{Goes, TakesAll, TakesByte, TakesOne, at_cursor, closing, logged as logged_by, refusal as refusal_of};
-ghost use Rattle.relay_core.specs.Logs.{Grows, frames_in};
+ghost use Rattle.std.specs.Prelude.{◌≡◌, ◌≢◌, ◌≤◌, ◌<◌, ◌^◌, ◌++◌, ◌∷◌, [], IfOk, List, OnErr, Some, false, length};
+ghost use Rattle.std.specs.Prelude.{true, ℕ};
+ghost use Rattle.origin_model.specs.relay.Session.{Goes, TakesAll, TakesByte, TakesOne, at_cursor, closing};
+ghost use Rattle.origin_model.specs.relay.Session.{logged as logged_by, refusal_message as refusal_of};
+ghost use Rattle.relay_core.specs.Logs.{LogGrows, frames_in};
 ghost use Rattle.relay_core.specs.Sessions.{becomes, behind, reading_of};
 
 use crate::greeting::Greeted;
 use crate::log::{Log, add, answer, has_frame};
-use crate::session::Session;
+use crate::sessions::Session;
 use fugue_ids::{ByteList, NoMemory};
 use op_frame::{CLOSING, FrameFront, Grown, REFUSAL};
 use std::alloc::Global;
@@ -43,7 +45,8 @@ fn take_frame<B: BuildHasher>(
     frame: &[u8],
 ) -> Result<Option<ByteList>, NoMemory>
     ensures ok { IfOk result (λ reply. (cursor : ℕ)
-        → logged_by limit (frames_in log.old) cursor frame.now ≡ record { log = frames_in log.new; next = becomes reply (behind cursor) }) }
+        → logged_by limit (frames_in log.old) cursor frame.now
+        ≡ record { log = frames_in log.new; next = becomes reply (behind cursor) }) }
     ensures err { OnErr result (frames_in log.new ≡ frames_in log.old) }
 {
     if has_frame(log, frame) {
@@ -75,7 +78,10 @@ fn take_message<B: BuildHasher>(
 ) -> Result<Option<ByteList>, NoMemory>
     requires { length (frames_in log.old) < 2 ^ 32 }
     ensures ok { IfOk result (λ reply. TakesByte limit (frames_in log.old) (Some cursor) (front.old ++ byte ∷ [])
-        (record { log = frames_in log.new; next = becomes reply (record { cursor = Some cursor; rest = front.new }) })) }
+        (record {
+          log = frames_in log.new;
+          next = becomes reply (record { cursor = Some cursor; rest = front.new });
+        })) }
     ensures err { OnErr result (frames_in log.new ≡ frames_in log.old) }
 {
     if is_closing(front.as_slice(), byte) {
@@ -115,7 +121,8 @@ fn take_byte<B: BuildHasher>(
     }
 }
 
-/// The bytes of a piece, one after another, up to the one that closes the session. After want of memory the log may have some of the frames that came.
+/// The bytes of a piece, one after another, up to the one that closes the session. After want of memory the log may
+/// have some of the frames that came.
 pub(crate) fn take_all<B: BuildHasher>(
     alloc: Global,
     limit: u32,
@@ -125,9 +132,10 @@ pub(crate) fn take_all<B: BuildHasher>(
 ) -> Result<Option<ByteList>, NoMemory>
     requires room { length (frames_in log.old) ≤ limit }
     requires small { limit < 2 ^ 32 }
-    ensures ok { IfOk result (λ reply. TakesAll limit piece.now (record { log = frames_in log.old; next = Goes (reading_of session.old) })
+    ensures ok { IfOk result (λ reply. TakesAll limit piece.now
+        (record { log = frames_in log.old; next = Goes (reading_of session.old) })
         (record { log = frames_in log.new; next = becomes reply (reading_of session.new) })) }
-    ensures grows { Grows (frames_in log.old) (frames_in log.new) }
+    ensures grows { LogGrows (frames_in log.old) (frames_in log.new) }
     ensures within { length (frames_in log.new) ≤ limit }
 {
     for byte in piece {

@@ -9,18 +9,18 @@ use Rattle.origin_model.specs.taking.Taking.{Held, TooMany as AnswersTooMany, an
 use Rattle.op_frame.proofs.FormatLemmas.{FallsShort, Reaches, two_fronts}
 use Rattle.op_frame.proofs.ToldLemmas.{shows, some_is, take_past}
 use Rattle.outer_ports.specs.wire.Wires.{WireView}
-use Rattle.replica_core.specs.Keeping.{TakesIn, Taking}
+use Rattle.replica_core.specs.Keeping.{TakesIn, OpsTaking}
 use Rattle.origin_model.specs.edits.State.{State}
 use Rattle.replica_core.proofs.KeepingLemmas.{same_taking}
-use Rattle.relay_sync.specs.Outcomes.{AnswerIs, AnswersByReply, IsByReply, answer_to, end_of, BeginsWith, EndsReply, HeardTo, HeardUpTo, HearsTo, IsNoMessage, ReplyEnd, Ended, Refused as EndsRefused, Bad, Cut, TooLong as EndsTooLong, TooMany as EndsTooMany}
+use Rattle.relay_sync.specs.Outcomes.{AnswerIs, AnswersByReply, IsByReply, sync_answer, reply_end_of, BeginsWith, EndsReply, HeardTo, HeardUpTo, HearsTo, IsNoMessage, ReplyEnd, Ended, Refused as EndsRefused, Bad, Cut, TooLong as EndsTooLong, TooMany as EndsTooMany}
 use Rattle.relay_sync.specs.Replies.{IsBroken, IsMessage, IsMessageFront}
-use Rattle.relay_sync.specs.Syncing.{HearsPartly, HearsReply, StopsFor}
-use Rattle.relay_sync.specs.declared.synced.Synced.{Synced}
-use Rattle.origin_model.specs.declared.taking.tally.Tally.{Tally}
-use Rattle.relay_sync.specs.declared.message.Message.{Message}
-use Rattle.relay_sync.specs.declared.message.Message.TheVariants.{End, Operation, Refusal}
-use Rattle.relay_sync.specs.declared.sync_fault.SyncFault.{SyncFault}
-use Rattle.relay_sync.specs.declared.sync_fault.SyncFault.TheVariants.{BadReply, CutShort, NoMemory, RelayRefused, TooLong, TooMany, WireFault}
+use Rattle.relay_sync.specs.Syncing.{HearsPartly, HearsReply, ReplyStopsFor}
+use Rattle.relay_sync.specs.declared.syncing.Synced.{Synced}
+use Rattle.origin_model.specs.declared.taking.Tally.{Tally}
+use Rattle.relay_sync.specs.declared.hearing.Message.{Message}
+use Rattle.relay_sync.specs.declared.hearing.Message.TheVariants.{End, Operation, Refusal}
+use Rattle.relay_sync.specs.declared.syncing.SyncFault.{SyncFault}
+use Rattle.relay_sync.specs.declared.syncing.SyncFault.TheVariants.{BadReply, CutShort, NoMemory, RelayRefused, TooLong, TooMany, WireFault}
 use Rattle.relay_sync.proofs.OutcomeLemmas.{begins_no_front, reply_comes_once}
 
 -- bytes that broke off a message are none, however they go on
@@ -64,7 +64,7 @@ broken_is_none bytes behind b = record { none_begins = λ message p. by_fronts m
     by_fronts message p (inl r) = reached message p.whole r.between p.is_message r.is
     by_fronts message p (inr f) = gone_past message p.whole f.between p.is_message f.some f.is
 
-module _ (before middle after : Taking) (ops : List Op) (have : All HasFrame ops) (takes : TakesIn before middle ops) (same : after ≡ middle) where
+module _ (before middle after : OpsTaking) (ops : List Op) (have : All HasFrame ops) (takes : TakesIn before middle ops) (same : after ≡ middle) where
   abbrev now : Held
   now = held_from before.replica.hold before.replica.most before.replica.held ops
 
@@ -74,7 +74,7 @@ module _ (before middle after : Taking) (ops : List Op) (have : All HasFrame ops
   comes_to bytes rest end split ends = record {
     ops = ops;
     comes = record { have_frames = have; has_place = takes.has_place; rest = rest; split = split; ends = ends };
-    takes = subst (λ (t : Taking). TakesIn before t ops) (sym same) takes;
+    takes = subst (λ (t : OpsTaking). TakesIn before t ops) (sym same) takes;
   }
 
   module _ (bytes more : List ℕ) (within : length (frames ops) + length bytes ≤ STREAM_LIMIT) where
@@ -122,18 +122,18 @@ module _ (before middle after : Taking) (ops : List Op) (have : All HasFrame ops
       regroup : (a b : List ℕ) (x : ℕ) (c : List ℕ) → (a ++ (b ++ x ∷ [])) ++ c ≡ (a ++ b) ++ x ∷ c
       regroup a b x c = simp append_assoc
 
-pub reply_heard : (old new : WireView) (before after : Taking) (count : ℕ) → HearsReply old new before after count → HeardTo old.left before after (Ended count)
+pub reply_heard : (old new : WireView) (before after : OpsTaking) (count : ℕ) → HearsReply old new before after count → HeardTo old.left before after (Ended count)
 reply_heard old new before after count h =
     shows (λ (bytes : List ℕ). HearsTo bytes before after (Ended count)) (frames h.ops ++ h.last) new.left old.left h.hears.heard
     (λ more is. comes_to_end before after after h.ops h.have_frames h.takes refl h.last more (omega (arith, h.within, length-append (frames h.ops) h.last)) count h.ends)
 
-pub reply_up_to : (fault : SyncFault) (old new : WireView) (before after : Taking) → HearsPartly fault old new before after → HeardUpTo fault old.left before after
+pub reply_up_to : (fault : SyncFault) (old new : WireView) (before after : OpsTaking) → HearsPartly fault old new before after → HeardUpTo fault old.left before after
 reply_up_to fault old new before after h = by_fault fault h.stops
   where
     told : (end : ReplyEnd) → ((more : List ℕ) → new.left ≡ Some more → HearsTo ((frames h.ops ++ h.bytes) ++ more) before after end) → HeardTo old.left before after end
     told end comes = shows (λ (bytes : List ℕ). HearsTo bytes before after end) (frames h.ops ++ h.bytes) new.left old.left h.hears.heard comes
 
-    by_fault : (fault : SyncFault) → StopsFor fault old new h.middle after (length (frames h.ops)) h.bytes → HeardUpTo fault old.left before after
+    by_fault : (fault : SyncFault) → ReplyStopsFor fault old new h.middle after (length (frames h.ops)) h.bytes → HeardUpTo fault old.left before after
     by_fault WireFault s = tt
     by_fault NoMemory s = tt
     by_fault (RelayRefused code) s =
@@ -147,7 +147,7 @@ reply_up_to fault old new before after h = by_fault fault h.stops
     by_fault TooLong s =
         told EndsTooLong (λ more is. comes_to_long before h.middle after h.ops h.have_frames h.takes s.0 h.bytes more s.1.0 s.1.1 s.1.2 s.1.3 s.1.4)
 
-pub reply_same : (bytes : List ℕ) (before after others : Taking) (end other : ReplyEnd) → HearsTo bytes before after end → HearsTo bytes before others other
+pub reply_same : (bytes : List ℕ) (before after others : OpsTaking) (end other : ReplyEnd) → HearsTo bytes before after end → HearsTo bytes before others other
     → (after ≡ others) × (end ≡ other)
 reply_same bytes before after others end other p q =
     let s : State = before.replica in
@@ -159,25 +159,25 @@ reply_same bytes before after others end other p q =
     )
 
 -- the same behind what was said
-pub heard_behind : (said old new : WireView) (before after : Taking) (count : ℕ) → old.left ≡ said.left → HearsReply old new before after count → HeardTo said.left before after (Ended count)
+pub heard_behind : (said old new : WireView) (before after : OpsTaking) (count : ℕ) → old.left ≡ said.left → HearsReply old new before after count → HeardTo said.left before after (Ended count)
 heard_behind said old new before after count same h =
     subst (λ (told : Option (List ℕ)). HeardTo told before after (Ended count)) same (reply_heard old new before after count h)
 
-pub up_to_behind : (fault : SyncFault) (said old new : WireView) (before after : Taking) → old.left ≡ said.left → HearsPartly fault old new before after → HeardUpTo fault said.left before after
+pub up_to_behind : (fault : SyncFault) (said old new : WireView) (before after : OpsTaking) → old.left ≡ said.left → HearsPartly fault old new before after → HeardUpTo fault said.left before after
 up_to_behind fault said old new before after same h =
     subst (λ (told : Option (List ℕ)). HeardUpTo fault told before after) same (reply_up_to fault old new before after h)
 
 -- an answer that the bytes tell comes exactly where they do
-told_exactly : (before : Taking) (bytes : List ℕ) (result : Result Synced SyncFault) → AnswerIs before bytes result → AnswersByReply result before bytes
+told_exactly : (before : OpsTaking) (bytes : List ℕ) (result : Result Synced SyncFault) → AnswerIs before bytes result → AnswersByReply result before bytes
 told_exactly before bytes result p by answer is = (
   λ same. subst (AnswerIs before bytes) same p,
   λ q.
       let same = reply_same bytes before p.after q.after p.end q.end p.comes q.comes in
-      p.answer_is ∙ (λ i. answer_to (same.0 i) (same.1 i)) ∙ sym q.answer_is,
+      p.answer_is ∙ (λ i. sync_answer (same.0 i) (same.1 i)) ∙ sym q.answer_is,
 )
 
 -- where the bytes decide nothing
-pub undecided_exactly : (fault : SyncFault) (before : Taking) (told : Option (List ℕ)) → (IsByReply (Err fault) → ⊥) → IfSome told (AnswersByReply (Err fault) before)
+pub undecided_exactly : (fault : SyncFault) (before : OpsTaking) (told : Option (List ℕ)) → (IsByReply (Err fault) → ⊥) → IfSome told (AnswersByReply (Err fault) before)
 undecided_exactly fault before None none = tt
 undecided_exactly fault before (Some bytes) none = λ by. absurd (none by)
 
@@ -185,34 +185,34 @@ same_end : {x y : ReplyEnd} → Some x ≡ Some y → x ≡ y
 same_end e = cc e
 
 -- the answer to what was heard up to a fault
-fault_is : (fault : SyncFault) (end : ReplyEnd) (old new : WireView) (middle after : Taking) (place : ℕ) (bytes : List ℕ) → end_of fault ≡ Some end → StopsFor fault old new middle after place bytes → Err fault ≡ answer_to after end
+fault_is : (fault : SyncFault) (end : ReplyEnd) (old new : WireView) (middle after : OpsTaking) (place : ℕ) (bytes : List ℕ) → reply_end_of fault ≡ Some end → ReplyStopsFor fault old new middle after place bytes → Err fault ≡ sync_answer after end
 fault_is WireFault end old new middle after place bytes is s = absurd (cc is)
 fault_is NoMemory end old new middle after place bytes is s = absurd (cc is)
-fault_is (RelayRefused code) end old new middle after place bytes is s = ap (answer_to after) (same_end is)
+fault_is (RelayRefused code) end old new middle after place bytes is s = ap (sync_answer after) (same_end is)
 fault_is (TooMany most) end old new middle after place bytes is s =
-    ap (λ (n : ℕ). Err (TooMany n)) (s.1 ∙ ap (λ (t : Taking). t.replica.most) (sym s.0)) ∙ ap (answer_to after) (same_end is)
-fault_is (BadReply at) end old new middle after place bytes is s = ap (answer_to after) (same_end is)
-fault_is (CutShort at) end old new middle after place bytes is s = ap (answer_to after) (same_end is)
-fault_is TooLong end old new middle after place bytes is s = ap (answer_to after) (same_end is)
+    ap (λ (n : ℕ). Err (TooMany n)) (s.1 ∙ ap (λ (t : OpsTaking). t.replica.most) (sym s.0)) ∙ ap (sync_answer after) (same_end is)
+fault_is (BadReply at) end old new middle after place bytes is s = ap (sync_answer after) (same_end is)
+fault_is (CutShort at) end old new middle after place bytes is s = ap (sync_answer after) (same_end is)
+fault_is TooLong end old new middle after place bytes is s = ap (sync_answer after) (same_end is)
 
-heard_exactly : (told : Option (List ℕ)) (before after : Taking) (count : ℕ) → HeardTo told before after (Ended count) → IfSome told (AnswersByReply (Ok (record { tally = after.counts; cursor = count })) before)
+heard_exactly : (told : Option (List ℕ)) (before after : OpsTaking) (count : ℕ) → HeardTo told before after (Ended count) → IfSome told (AnswersByReply (Ok (record { tally = after.counts; cursor = count })) before)
 heard_exactly None before after count h = tt
 heard_exactly (Some bytes) before after count h =
     told_exactly before bytes (Ok (record { tally = after.counts; cursor = count })) (record { after = after; end = Ended count; comes = h; answer_is = refl })
 
-up_to_exactly : (told : Option (List ℕ)) (fault : SyncFault) (before after : Taking) → HeardUpTo fault told before after → ((end : ReplyEnd) → end_of fault ≡ Some end → Err fault ≡ answer_to after end)
-    → (end_of fault ≡ None → IsByReply (Err fault) → ⊥) → IfSome told (AnswersByReply (Err fault) before)
-up_to_exactly told fault before after h is none = by (end_of fault) refl h
+up_to_exactly : (told : Option (List ℕ)) (fault : SyncFault) (before after : OpsTaking) → HeardUpTo fault told before after → ((end : ReplyEnd) → reply_end_of fault ≡ Some end → Err fault ≡ sync_answer after end)
+    → (reply_end_of fault ≡ None → IsByReply (Err fault) → ⊥) → IfSome told (AnswersByReply (Err fault) before)
+up_to_exactly told fault before after h is none = by (reply_end_of fault) refl h
   where
-    told_end : (told : Option (List ℕ)) (end : ReplyEnd) → end_of fault ≡ Some end → HeardTo told before after end → IfSome told (AnswersByReply (Err fault) before)
+    told_end : (told : Option (List ℕ)) (end : ReplyEnd) → reply_end_of fault ≡ Some end → HeardTo told before after end → IfSome told (AnswersByReply (Err fault) before)
     told_end None end so h = tt
     told_end (Some bytes) end so h = told_exactly before bytes (Err fault) (record { after = after; end = end; comes = h; answer_is = is end so })
 
-    by : (end : Option ReplyEnd) → end_of fault ≡ end → IfSome end (HeardTo told before after) → IfSome told (AnswersByReply (Err fault) before)
+    by : (end : Option ReplyEnd) → reply_end_of fault ≡ end → IfSome end (HeardTo told before after) → IfSome told (AnswersByReply (Err fault) before)
     by None so h = undecided_exactly fault before told (none so)
     by (Some end) so h = told_end told end so h
 
-decides : (fault : SyncFault) → end_of fault ≡ None → IsByReply (Err fault) → ⊥
+decides : (fault : SyncFault) → reply_end_of fault ≡ None → IsByReply (Err fault) → ⊥
 decides WireFault is by = by
 decides NoMemory is by = by
 decides (RelayRefused code) is by = cc is
@@ -222,7 +222,7 @@ decides (CutShort at) is by = cc is
 decides TooLong is by = cc is
 
 -- what was heard is answered exactly so
-pub hears_exactly : (result : Result Synced SyncFault) (said old new : WireView) (before : Taking) (replica : State) (kept : List Op) → old.left ≡ said.left
+pub hears_exactly : (result : Result Synced SyncFault) (said old new : WireView) (before : OpsTaking) (replica : State) (kept : List Op) → old.left ≡ said.left
     → IfOk result (λ synced. HearsReply old new before (record { replica = replica; counts = synced.tally; kept = kept }) synced.cursor)
     → IfErr result (λ fault. (counts : Tally) × HearsPartly fault old new before (record { replica = replica; counts = counts; kept = kept }))
     → IfSome said.left (AnswersByReply result before)
@@ -230,7 +230,7 @@ hears_exactly (Ok synced) said old new before replica kept same ok err =
     heard_exactly said.left before (record { replica = replica; counts = synced.tally; kept = kept }) synced.cursor
     (heard_behind said old new before (record { replica = replica; counts = synced.tally; kept = kept }) synced.cursor same ok)
 hears_exactly (Err fault) said old new before replica kept same ok err =
-    let after : Taking = record { replica = replica; counts = err.0; kept = kept } in
+    let after : OpsTaking = record { replica = replica; counts = err.0; kept = kept } in
     let h : HearsPartly fault old new before after = err.1 in
     up_to_exactly said.left fault before after (up_to_behind fault said old new before after same h)
     (λ end is. fault_is fault end old new h.middle after (length (frames h.ops)) h.bytes is h.stops) (decides fault)

@@ -7,16 +7,16 @@ use Rattle.std.proofs.lemmas.List.{append-nil}
 use Rattle.fugue_ids.specs.declared.op.Op.{Op}
 use Rattle.fugue_ids.specs.declared.op.Op.TheVariants.{Delete, Section, Text}
 use Rattle.origin_model.specs.frames.Frames.{IsFrame, IsPartial, frame}
-use Rattle.origin_model.specs.relay.Session.{refusal}
+use Rattle.origin_model.specs.relay.Session.{refusal_message}
 use Rattle.op_frame.specs.FrameFronts.{IsFrameOf, IsGrown}
 use Rattle.op_frame.specs.declared.grown.Grown.TheVariants.{Bad}
 use Rattle.op_frame.proofs.ToldLemmas.{prepend_none, prepend_twice}
 use Rattle.outer_ports.specs.wire.Wires.{WireReads, WireView}
 use Rattle.relay_sync.specs.Replies.{Hears, IsBroken, IsCode, IsMessage, IsMessageFront, Stops, StopsIn, ending}
-use Rattle.relay_sync.specs.declared.message.Message.{Message}
-use Rattle.relay_sync.specs.declared.message.Message.TheVariants.{End, Operation, Refusal}
-use Rattle.relay_sync.specs.declared.sync_fault.SyncFault.{SyncFault}
-use Rattle.relay_sync.specs.declared.sync_fault.SyncFault.TheVariants.{BadReply, CutShort, NoMemory, RelayRefused, TooLong, TooMany, WireFault}
+use Rattle.relay_sync.specs.declared.hearing.Message.{Message}
+use Rattle.relay_sync.specs.declared.hearing.Message.TheVariants.{End, Operation, Refusal}
+use Rattle.relay_sync.specs.declared.syncing.SyncFault.{SyncFault}
+use Rattle.relay_sync.specs.declared.syncing.SyncFault.TheVariants.{BadReply, CutShort, NoMemory, RelayRefused, TooLong, TooMany, WireFault}
 
 -- bytes behind bytes
 pub hears-append : (u v w : WireView) (a b : List ℕ) → Hears u v a → Hears v w b → Hears u w (a ++ b)
@@ -55,7 +55,7 @@ pub no_bytes : IsMessageFront []
 no_bytes = record { message = End (from_be_bytes w32 (0 ∷ 0 ∷ 0 ∷ 0 ∷ [])); whole = ending ∷ 0 ∷ 0 ∷ 0 ∷ 0 ∷ []; is_message = (0 ∷ 0 ∷ 0 ∷ 0 ∷ [], refl, refl, refl); more = ending ∷ 0 ∷ 0 ∷ 0 ∷ 0 ∷ []; lacks = omega arith; front = refl }
 
 pub refusal_front : IsMessageFront (0x58 ∷ [])
-refusal_front = record { message = Refusal 1; whole = refusal 1; is_message = ((omega arith, omega arith), refl); more = 1 ∷ []; lacks = omega arith; front = refl }
+refusal_front = record { message = Refusal 1; whole = refusal_message 1; is_message = ((omega arith, omega arith), refl); more = 1 ∷ []; lacks = omega arith; front = refl }
 
 pub frame_front : (bytes : List ℕ) → IsPartial bytes → IsMessageFront bytes
 frame_front bytes p = record {

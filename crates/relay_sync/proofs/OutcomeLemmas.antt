@@ -8,7 +8,7 @@ use Rattle.std.proofs.lemmas.List.Elements.{All-cons, All-head, All-nil, All-tai
 use Rattle.fugue_ids.specs.declared.limits.TheConstants.{STREAM_LIMIT}
 use Rattle.fugue_ids.specs.declared.op.Op.{Op}
 use Rattle.origin_model.specs.frames.Frames.{HasFrame, frame, frames}
-use Rattle.origin_model.specs.relay.Session.{refusal}
+use Rattle.origin_model.specs.relay.Session.{refusal_message}
 use Rattle.origin_model.specs.taking.Taking.{Answer, HasPlace, Held, TooMany as AnswersTooMany, answer, answers_from, held_from, intake}
 use Rattle.origin_model.proofs.SharedLemmas.{Refused, framed_is, no_place_left, places-append, places-none, taken_or_refused}
 use Rattle.op_frame.proofs.CodeLemmas.{same_fronts}
@@ -18,8 +18,8 @@ use Rattle.op_frame.proofs.SearchLemmas.{Decided, both_decided, decided_by, equa
 use Rattle.op_frame.proofs.StreamLemmas.{frame_some, same_front}
 use Rattle.relay_sync.specs.Outcomes.{BeginsWith, IsNoMessage, EndsReply, ReplyComes, ReplyEnd, Ended, Refused as EndsRefused, Bad, Cut, TooLong, TooMany}
 use Rattle.relay_sync.specs.Replies.{IsCode, IsMessage, IsMessageFront, ending}
-use Rattle.relay_sync.specs.declared.message.Message.{Message}
-use Rattle.relay_sync.specs.declared.message.Message.TheVariants.{End, Operation, Refusal}
+use Rattle.relay_sync.specs.declared.hearing.Message.{Message}
+use Rattle.relay_sync.specs.declared.hearing.Message.TheVariants.{End, Operation, Refusal}
 use Rattle.relay_sync.proofs.HearingLemmas.{IsLead, code_behind, frame_front, leads, no_bytes, number_front, other_is_frame, refusal_front}
 
 -- at one place stands one message
@@ -82,7 +82,7 @@ refusal_stand [] = front_there refusal_front
 refusal_stand (code ∷ more) = by_code (decided_by (both_decided (less_decided 0 code) (less_decided code 4)) (λ p. (omega (arith, p.0), omega (arith, p.1))) (λ p. (omega (arith, p.0), omega (arith, p.1))))
   where
     by_code : Decided (IsCode code) → Stand (0x58 ∷ code ∷ more)
-    by_code (inl is) = message_there (Refusal code) (record { whole = refusal code; is_message = (is, refl); behind = more; split = refl })
+    by_code (inl is) = message_there (Refusal code) (record { whole = refusal_message code; is_message = (is, refl); behind = more; split = refl })
     by_code (inr none) = none_there (record {
       none_begins = λ message p. none (code_behind message p.whole p.behind code more p.is_message p.split);
       no_front = λ p. none (code_behind p.message p.whole [] code (more ++ p.more) p.is_message (sym p.front ∙ sym (append-nil p.whole)));

@@ -1,7 +1,7 @@
 -- A text that goes out on a wire, piece by piece, behind the dialling.
 use Rattle.std.proofs.Common.{[], List, arith, drop, length, take, ℕ, ◌+◌, ◌-◌, ◌∙◌, ◌≡◌}
 use Rattle.std.specs.Prelude.{Err, IfSome, None, Ok, OnOk, Option, Result, Some, option_map}
-use Rattle.fugue_ids.specs.Outs.{IsSure, WritesText}
+use Rattle.fugue_ids.specs.Outs.{IsSure, WritesBytes}
 use Rattle.fugue_ids.proofs.JoinLemmas.{call_grows, took_none}
 use Rattle.outer_ports.specs.wire.Wires.{Dials, WireView, WireWrites, out_of}
 use Rattle.relay_sync.specs.Saying.{SaysText}
@@ -21,7 +21,7 @@ sure_refused : (E T : Type 0) (e : E) (room : Option ℕ) (n before now : ℕ) �
 sure_refused E T e None n before now succeeds = tt
 sure_refused E T e (Some r) n before now succeeds = absurd succeeds
 
-dialled_none : {E T : Type 0} (x : T) (u v : WireView) (port : ℕ) → Dials {E = E} {T = T} u v (Ok x) port → WritesText {E = E} {T = T} (out_of u) (out_of v) (Ok x) []
+dialled_none : {E T : Type 0} (x : T) (u v : WireView) (port : ℕ) → Dials {E = E} {T = T} u v (Ok x) port → WritesBytes {E = E} {T = T} (out_of u) (out_of v) (Ok x) []
 dialled_none {E} {T} x u v port d = record {
   ok = took_none (out_of u) (out_of v) d.said d.room;
   err = tt;

@@ -5,14 +5,14 @@ use Rattle.std.proofs.lemmas.Bool.{eqb-true, eq-eqb, true≢false}
 use Rattle.std.proofs.lemmas.List.{append-nil, take_all}
 use Rattle.fugue_ids.specs.Outs.{IsSure, OutView, Took, TookFront}
 use Rattle.fugue_ids.proofs.JoinLemmas.{call_grows, took_none}
-use Rattle.origin_model.specs.declared.relay.reply.Reply.{Reply}
-use Rattle.outer_ports.specs.declared.dock.dock_step.DockStep.{DockStep}
-use Rattle.outer_ports.specs.declared.dock.mem_step.MemStep.{MemStep}
+use Rattle.origin_model.specs.declared.relay.Reply.{Reply}
+use Rattle.outer_ports.specs.declared.dock.DockStep.{DockStep}
+use Rattle.outer_ports.specs.declared.dock.mem_dock.MemStep.{MemStep}
 use Rattle.outer_ports.specs.dock.Docks.{DockView, Ends, Sends, Takes, ended_behind, out_to}
 use Rattle.outer_ports.specs.dock.Steps.{with_bytes}
 use Rattle.relay_sync.specs.Sending.{GivesSteps, LastsFor, Replied, RepliedPartly, SendsText}
 use Rattle.relay_sync.specs.Serving.{bytes_to, closed_by, ends_behind, Spends}
-use Rattle.relay_sync.specs.declared.serve_fault.ServeFault.TheVariants.{DockFault, NoMemory}
+use Rattle.relay_sync.specs.declared.serving.ServeFault.TheVariants.{DockFault, NoMemory}
 
 -- a step that was taken
 pub takes_gives : {E : Type 0} (old new : DockView) (step : DockStep) (buf : List ℕ) → Takes {E = E} old new (Ok step) buf → GivesSteps old new (with_bytes step buf ∷ [])

@@ -8,15 +8,15 @@ use Rattle.std.proofs.lemmas.List.{append-nil, map-append, take-append-le, take_
 use Rattle.std.proofs.lemmas.List.Concat.{flat_map-append}
 use Rattle.fugue_ids.specs.Outs.{OutView, spent, Took, TookFront}
 use Rattle.fugue_ids.proofs.JoinLemmas.{took_joins, took_none}
-use Rattle.origin_model.specs.declared.relay.reply.Reply.{Reply}
-use Rattle.origin_model.specs.relay.Relay.{Relay, Runs, Steps}
+use Rattle.origin_model.specs.declared.relay.Reply.{Reply}
+use Rattle.origin_model.specs.relay.Relay.{Relay, RelayRuns, RelaySteps}
 use Rattle.origin_model.proofs.SharedLemmas.{runs-append, step_runs}
 use Rattle.outer_ports.specs.dock.Docks.{DockView, SendsNothing, TakesNothing, out_to}
-use Rattle.outer_ports.specs.declared.dock.mem_step.MemStep.{MemStep}
+use Rattle.outer_ports.specs.declared.dock.mem_dock.MemStep.{MemStep}
 use Rattle.relay_sync.specs.Sending.{GivesSteps, LastsFor, Replied, RepliedPartly}
 use Rattle.relay_sync.specs.Serving.{Comes, ended_in, ended_with, GaveSteps, HasRoomFor, Lasts, NoneAfter, Serves, ServesPartly, ServingStops, Spends, ends_behind, Turn, TurnStops, bytes_to, closed_by, closed_in, count_over, event_of, over_after, replies_of, sent_to, steps_of}
-use Rattle.relay_sync.specs.declared.serve_fault.ServeFault.{ServeFault}
-use Rattle.relay_sync.specs.declared.serve_fault.ServeFault.TheVariants.{DockFault, NoMemory, TooLong}
+use Rattle.relay_sync.specs.declared.serving.ServeFault.{ServeFault}
+use Rattle.relay_sync.specs.declared.serving.ServeFault.TheVariants.{DockFault, NoMemory, TooLong}
 use Rattle.relay_sync.proofs.SendingLemmas.{ends_none, sure_is}
 
 -- a known list that grows twice
@@ -55,8 +55,8 @@ sent_after a b h session = took_none (out_to session a) (out_to session b) (h.se
 turns-append : (xs ys : List Turn) → steps_of (xs ++ ys) ≡ steps_of xs ++ steps_of ys
 turns-append xs ys = map-append (λ (t : Turn). t.step) xs ys
 
-runs-turns : (a b c : Relay) (xs ys : List Turn) → Runs a (map event_of (steps_of xs)) b (replies_of xs) → Runs b (map event_of (steps_of ys)) c (replies_of ys)
-    → Runs a (map event_of (steps_of (xs ++ ys))) c (replies_of (xs ++ ys))
+runs-turns : (a b c : Relay) (xs ys : List Turn) → RelayRuns a (map event_of (steps_of xs)) b (replies_of xs) → RelayRuns b (map event_of (steps_of ys)) c (replies_of ys)
+    → RelayRuns a (map event_of (steps_of (xs ++ ys))) c (replies_of (xs ++ ys))
 runs-turns a b c xs ys h i =
     rw (turns-append xs ys, map-append event_of (steps_of xs) (steps_of ys), map-append (λ (t : Turn). t.reply) xs ys)
     (runs-append (map event_of (steps_of xs)) (map event_of (steps_of ys)) a b c (replies_of xs) (replies_of ys) h i)
@@ -217,7 +217,7 @@ unheard_partly fault a b x y steps same h few spent = record {
 }
 
 -- a step whose reply was sent
-pub turn_serves : (a b : Relay) (x y z : DockView) (step : MemStep) (reply : Option Reply) → GivesSteps x y (step ∷ []) → IfSome x.ends (λ ends. y.faults ≡ x.faults) → Steps a (event_of step) b reply → Replied y z reply
+pub turn_serves : (a b : Relay) (x y z : DockView) (step : MemStep) (reply : Option Reply) → GivesSteps x y (step ∷ []) → IfSome x.ends (λ ends. y.faults ≡ x.faults) → RelaySteps a (event_of step) b reply → Replied y z reply
     → Serves a b x z (record { step = step; reply = reply } ∷ [])
 turn_serves a b x y z step reply g sure s r = record {
   runs = step_runs (event_of step) a b reply s;
@@ -235,7 +235,7 @@ turn_serves a b x y z step reply g sure s r = record {
 
 -- or up to a fault
 abbrev turn_partly : (fault : ServeFault) (a b : Relay) (x y z : DockView) (step : MemStep) (reply : Option Reply) → GivesSteps x y (step ∷ []) → IfSome x.ends (λ ends. y.faults ≡ x.faults)
-    → Steps a (event_of step) b reply → RepliedPartly fault y z reply → ServesPartly fault a b x z (record { step = step; reply = reply } ∷ [])
+    → RelaySteps a (event_of step) b reply → RepliedPartly fault y z reply → ServesPartly fault a b x z (record { step = step; reply = reply } ∷ [])
 turn_partly fault a b x y z step reply g sure s r = record {
   more = [];
   few = omega arith;
@@ -259,7 +259,7 @@ unheard_stops fault a b x y steps same h few spent =
 
 -- as the reply was sent
 pub reply_stops : (fault : ServeFault) (a b : Relay) (x y z : DockView) (step : MemStep) (reply : Option Reply) → GivesSteps x y (step ∷ []) → IfSome x.ends (λ ends. y.faults ≡ x.faults)
-    → Steps a (event_of step) b reply → RepliedPartly fault y z reply → TurnStops fault a b x z
+    → RelaySteps a (event_of step) b reply → RepliedPartly fault y z reply → TurnStops fault a b x z
 reply_stops fault a b x y z step reply g sure s r = record {
   turns = record { step = step; reply = reply } ∷ [];
   partly = turn_partly fault a b x y z step reply g sure s r;

@@ -9,25 +9,25 @@ use Rattle.fugue_ids.specs.declared.op.Op.{Op}
 use Rattle.fugue_ids.proofs.JoinLemmas.{took_none}
 use Rattle.origin_model.specs.frames.Frames.{HasFrame, IsFrame, frame, frames}
 use Rattle.outer_ports.specs.wire.Wires.{WireView, out_of}
-use Rattle.replica_core.specs.Keeping.{LeavesUnkept, TakesIn, Taking}
-use Rattle.replica_core.specs.declared.feed_fault.FeedFault.{FeedFault}
-use Rattle.replica_core.specs.declared.feed_fault.FeedFault.TheVariants as feed_fault
+use Rattle.replica_core.specs.Keeping.{LeavesUnkept, TakesIn, OpsTaking}
+use Rattle.replica_core.specs.declared.keeping.FeedFault.{FeedFault}
+use Rattle.replica_core.specs.declared.keeping.FeedFault.TheVariants as feed_fault
 use Rattle.replica_core.proofs.KeepingLemmas.{same_taking, takes_more}
 use Rattle.relay_sync.specs.Replies.{Hears, Whole}
 use Rattle.relay_sync.specs.FeedFaults.{fault_of}
-use Rattle.relay_sync.specs.Saying.{SaysTo, text_for}
-use Rattle.relay_sync.specs.Syncing.{FailsToAsk, HearsOne, HearsPartly, HearsReply, StopsAt, StopsFor, TakesOne}
-use Rattle.relay_sync.specs.declared.message.Message.{Message}
-use Rattle.relay_sync.specs.declared.message.Message.TheVariants.{End, Operation}
-use Rattle.relay_sync.specs.declared.sync_fault.SyncFault.{SyncFault}
-use Rattle.relay_sync.specs.declared.sync_fault.SyncFault.TheVariants.{BadReply, CutShort, NoMemory, RelayRefused, TooLong, TooMany, WireFault}
+use Rattle.relay_sync.specs.Saying.{SaysTo, request_for}
+use Rattle.relay_sync.specs.Syncing.{FailsToAsk, HearsOne, HearsPartly, HearsReply, StopsAt, ReplyStopsFor, TakesOne}
+use Rattle.relay_sync.specs.declared.hearing.Message.{Message}
+use Rattle.relay_sync.specs.declared.hearing.Message.TheVariants.{End, Operation}
+use Rattle.relay_sync.specs.declared.syncing.SyncFault.{SyncFault}
+use Rattle.relay_sync.specs.declared.syncing.SyncFault.TheVariants.{BadReply, CutShort, NoMemory, RelayRefused, TooLong, TooMany, WireFault}
 use Rattle.relay_sync.proofs.HearingLemmas.{hears-append, stops_in}
 
 frames-one : (op : Op) → frames (op ∷ []) ≡ frame op
 frames-one op = append-nil (frame op)
 
 -- frames were heard, and their operations were taken in
-pub record Goes (old new : WireView) (start now : Taking) (heard : ℕ) : Type 0 where
+pub record Goes (old new : WireView) (start now : OpsTaking) (heard : ℕ) : Type 0 where
   pub ops : List Op
   pub have_frames : All HasFrame ops
   pub hears : Hears old new (frames ops)
@@ -35,7 +35,7 @@ pub record Goes (old new : WireView) (start now : Taking) (heard : ℕ) : Type 0
   pub count : heard ≡ length (frames ops)
   pub within : heard ≤ STREAM_LIMIT
 
-module _ (u v w : WireView) (start now next : Taking) (heard : ℕ) (goes : Goes u v start now heard) where
+module _ (u v w : WireView) (start now next : OpsTaking) (heard : ℕ) (goes : Goes u v start now heard) where
   -- one operation more
   pub goes_on : (last : ℕ) → TakesOne v w now next heard last → Goes u w start next last
   goes_on last one =
@@ -64,11 +64,11 @@ module _ (u v w : WireView) (start now next : Taking) (heard : ℕ) (goes : Goes
     ends = whole.is_message;
     hears = hears-append u v w (frames goes.ops) whole.bytes goes.hears whole.hears;
     within = omega (arith, whole.count, whole.within, goes.count, length-append (frames goes.ops) whole.bytes);
-    takes = subst (λ (t : Taking). TakesIn start t goes.ops) (sym same) goes.takes;
+    takes = subst (λ (t : OpsTaking). TakesIn start t goes.ops) (sym same) goes.takes;
   }
 
   -- a fault
-  stops_for : (fault : SyncFault) (bytes : List ℕ) → StopsFor fault v w now next heard bytes → StopsFor fault u w now next heard bytes
+  stops_for : (fault : SyncFault) (bytes : List ℕ) → ReplyStopsFor fault v w now next heard bytes → ReplyStopsFor fault u w now next heard bytes
   stops_for WireFault bytes s = (s.0, stops_in WireFault u v w heard bytes goes.hears.later goes.hears.room s.1)
   stops_for (BadReply at) bytes s = s
   stops_for (CutShort at) bytes s = s
@@ -85,24 +85,24 @@ module _ (u v w : WireView) (start now next : Taking) (heard : ℕ) (goes : Goes
     hears = hears-append u v w (frames goes.ops) stops.bytes goes.hears stops.hears;
     middle = now;
     takes = goes.takes;
-    stops = subst (λ (n : ℕ). StopsFor fault u w now next n stops.bytes) goes.count (stops_for fault stops.bytes stops.stops);
+    stops = subst (λ (n : ℕ). ReplyStopsFor fault u w now next n stops.bytes) goes.count (stops_for fault stops.bytes stops.stops);
   }
 
 -- what a message is, by the answer that says so
 pub is_operation : (message : Message) (u v : WireView) (place heard : ℕ) (op : Op) → message ≡ Operation op → Whole message u v place heard [] → Whole (Operation op) u v place heard []
 is_operation message u v place heard op is whole = subst (λ (m : Message). Whole m u v place heard []) is whole
 
-pub is_end : (answer : Option ℕ) (u v : WireView) (before after : Taking) (place heard count : ℕ) → answer ≡ Some count → HearsOne u v before after place heard answer
+pub is_end : (answer : Option ℕ) (u v : WireView) (before after : OpsTaking) (place heard count : ℕ) → answer ≡ Some count → HearsOne u v before after place heard answer
     → Whole (End count) u v place heard [] × (after ≡ before)
 is_end answer u v before after place heard count is one = subst (HearsOne u v before after place heard) is one
 
-pub is_more : (answer : Option ℕ) (u v : WireView) (before after : Taking) (place heard : ℕ) → ((count : ℕ) → answer ≡ Some count → ⊥) → HearsOne u v before after place heard answer
+pub is_more : (answer : Option ℕ) (u v : WireView) (before after : OpsTaking) (place heard : ℕ) → ((count : ℕ) → answer ≡ Some count → ⊥) → HearsOne u v before after place heard answer
     → TakesOne u v before after place heard
 is_more None u v before after place heard none one = one
 is_more (Some count) u v before after place heard none one = absurd (none count refl)
 
 -- an operation that was heard and not taken in to the end
-pub feed_fails : (u v : WireView) (before after : Taking) (place heard : ℕ) (op : Op) (fault : FeedFault) → Whole (Operation op) u v place heard []
+pub feed_fails : (u v : WireView) (before after : OpsTaking) (place heard : ℕ) (op : Op) (fault : FeedFault) → Whole (Operation op) u v place heard []
     → LeavesUnkept before.replica after.replica op before.counts after.counts fault → after.kept ≡ before.kept → StopsAt (fault_of fault) u v before after place
 feed_fails u v before after place heard op (feed_fault.TooMany most) whole left kept = record {
   bytes = whole.bytes;
@@ -123,7 +123,7 @@ feed_fails u v before after place heard op feed_fault.NoMemory whole left kept =
 }
 
 -- nothing was said for want of memory
-pub fails_at_once : (wire : WireView) (start : Taking) (port cursor : ℕ) → FailsToAsk NoMemory wire wire start start port cursor
+pub fails_at_once : (wire : WireView) (start : OpsTaking) (port cursor : ℕ) → FailsToAsk NoMemory wire wire start start port cursor
 fails_at_once wire start port cursor = record {
   said = record { count = 0; within = omega arith; took = took_none (out_of wire) (out_of wire) refl refl };
   no_other = inr (refl, refl);
@@ -133,8 +133,8 @@ fails_at_once wire start port cursor = record {
 }
 
 -- or not all of it was
-pub fails_to_say : {E T : Type 0} (result : Result T E) (e : E) (u v : WireView) (start : Taking) (port cursor : ℕ) (text : List ℕ) → result ≡ Err e → text ≡ text_for cursor start.replica.held
+pub fails_to_say : {E T : Type 0} (result : Result T E) (e : E) (u v : WireView) (start : OpsTaking) (port cursor : ℕ) (text : List ℕ) → result ≡ Err e → text ≡ request_for cursor start.replica.held
     → SaysTo u v result port text → FailsToAsk WireFault u v start start port cursor
 fails_to_say {E} {T} result e u v start port cursor text is text_is says =
-    let said : SaysTo u v (Err e) port (text_for cursor start.replica.held) = subst (SaysTo u v (Err e) port) text_is (subst (λ (r : Result T E). SaysTo u v r port text) is says) in
+    let said : SaysTo u v (Err e) port (request_for cursor start.replica.held) = subst (SaysTo u v (Err e) port) text_is (subst (λ (r : Result T E). SaysTo u v r port text) is says) in
     record { said = said.writes.err; no_other = said.no_other; left = said.left; cause = said.writes.cause.failed; same = refl }

@@ -3,55 +3,55 @@ use Rattle.std.proofs.Common.{[], List, ap, append_assoc, arith, drop, false, in
 use Rattle.std.specs.Prelude.{Err, IfSome, None, Ok, Option, Some, if◌then◌else◌, map, nat_lt}
 use Rattle.std.proofs.lemmas.List.{append-nil, take-append-drop, take_all}
 use Rattle.std.proofs.lemmas.Bool.{ltb-false}
-use Rattle.origin_model.specs.declared.relay.event.Event.TheVariants.{Piece}
-use Rattle.origin_model.specs.declared.relay.reply.Reply.{Reply}
-use Rattle.origin_model.specs.relay.Relay.{Relay, Runs, Steps}
+use Rattle.origin_model.specs.declared.relay.Event.TheVariants.{Piece}
+use Rattle.origin_model.specs.declared.relay.Reply.{Reply}
+use Rattle.origin_model.specs.relay.Relay.{Relay, RelayRuns, RelaySteps}
 use Rattle.origin_model.proofs.SharedLemmas.{InParts, in_parts, step_once}
 use Rattle.op_frame.proofs.OperationLemmas.{no_front}
 use Rattle.outer_ports.specs.dock.Docks.{DockView}
 use Rattle.outer_ports.specs.dock.Steps.{Gives, GivesSome, part_of, rest_of}
-use Rattle.outer_ports.specs.declared.dock.mem_step.MemStep.{MemStep}
-use Rattle.outer_ports.specs.declared.dock.mem_step.MemStep.TheVariants.{Opened, Bytes, Gone}
+use Rattle.outer_ports.specs.declared.dock.mem_dock.MemStep.{MemStep}
+use Rattle.outer_ports.specs.declared.dock.mem_dock.MemStep.TheVariants.{Opened, Bytes, Gone}
 use Rattle.relay_sync.specs.Serving.{BlamesDock, Comes, Lasts, NoneAfter, Serves, SameTurns, ServingStops, Spends, Suffices, Turn, bytes_to, closed_by, closed_in, count_over, event_of, over_after, replies_of, sent_to, steps_of, with_closed}
-use Rattle.relay_sync.specs.declared.serve_fault.ServeFault.{ServeFault}
-use Rattle.relay_sync.specs.declared.serve_fault.ServeFault.TheVariants.{DockFault, NoMemory, TooLong}
+use Rattle.relay_sync.specs.declared.serving.ServeFault.{ServeFault}
+use Rattle.relay_sync.specs.declared.serving.ServeFault.TheVariants.{DockFault, NoMemory, TooLong}
 use Rattle.relay_sync.proofs.ServingLemmas.{room_first}
 
 -- a turn, and the relay behind it
 record Begun (old last : Relay) (turn : Turn) (turns : List Turn) : Type 0 where
   middle : Relay
-  steps : Steps old (event_of turn.step) middle turn.reply
-  runs : Runs middle (map event_of (steps_of turns)) last (replies_of turns)
+  steps : RelaySteps old (event_of turn.step) middle turn.reply
+  runs : RelayRuns middle (map event_of (steps_of turns)) last (replies_of turns)
 
-begun : (old last : Relay) (turn : Turn) (turns : List Turn) → Runs old (map event_of (steps_of (turn ∷ turns))) last (replies_of (turn ∷ turns)) → Begun old last turn turns
+begun : (old last : Relay) (turn : Turn) (turns : List Turn) → RelayRuns old (map event_of (steps_of (turn ∷ turns))) last (replies_of (turn ∷ turns)) → Begun old last turn turns
 begun old last turn turns h =
     let reply : h.1 ≡ turn.reply = cc (h.5) in
     let rest : h.2 ≡ replies_of turns = cc (h.5) in
     record {
       middle = h.0;
-      steps = subst (λ (r : Option Reply). Steps old (event_of turn.step) h.0 r) reply h.3;
-      runs = subst (λ rs. Runs h.0 (map event_of (steps_of turns)) last rs) rest h.4;
+      steps = subst (λ (r : Option Reply). RelaySteps old (event_of turn.step) h.0 r) reply h.3;
+      runs = subst (λ rs. RelayRuns h.0 (map event_of (steps_of turns)) last rs) rest h.4;
     }
 
 -- turns over the steps as they stand, one of which was given, or a part of it: those that are left, with the same replies
 record Left (relay last : Relay) (turn : Turn) (whole : List Turn) (left behind : List MemStep) : Type 0 where
   rest : List Turn
   left_is : left ≡ steps_of rest ++ behind
-  runs : Runs relay (map event_of (steps_of rest)) last (replies_of rest)
+  runs : RelayRuns relay (map event_of (steps_of rest)) last (replies_of rest)
   sent : (session : ℕ) → sent_to session whole ≡ sent_to session (turn ∷ rest)
   closed : closed_in whole ≡ closed_in (turn ∷ rest)
   over : (over : List ℕ) → over_after over whole ≡ over_after over (turn ∷ rest)
 
 -- the step was given whole
 gives_whole : (old new last : Relay) (turn first : Turn) (whole : List Turn) (left behind : List MemStep) → turn.step ≡ first.step → left ≡ steps_of whole ++ behind
-    → Steps old (event_of turn.step) new turn.reply → Begun old last first whole → Left new last turn (first ∷ whole) left behind
+    → RelaySteps old (event_of turn.step) new turn.reply → Begun old last first whole → Left new last turn (first ∷ whole) left behind
 gives_whole old new last turn first whole left behind same is steps h =
-    let once = step_once no_front old (event_of first.step) new h.middle turn.reply first.reply (subst (λ s. Steps old (event_of s) new turn.reply) same steps) h.steps in
+    let once = step_once no_front old (event_of first.step) new h.middle turn.reply first.reply (subst (λ s. RelaySteps old (event_of s) new turn.reply) same steps) h.steps in
     let turns : first ≡ turn = λ i. record { step = sym same i; reply = sym once.1 i } in
     record {
       rest = whole;
       left_is = is;
-      runs = subst (λ (r : Relay). Runs r (map event_of (steps_of whole)) last (replies_of whole)) (sym once.0) h.runs;
+      runs = subst (λ (r : Relay). RelayRuns r (map event_of (steps_of whole)) last (replies_of whole)) (sym once.0) h.runs;
       sent = λ session. ap (λ (t : Turn). sent_to session (t ∷ whole)) turns;
       closed = ap (λ (t : Turn). closed_in (t ∷ whole)) turns;
       over = λ over. ap (λ (t : Turn). over_after over (t ∷ whole)) turns;
@@ -70,16 +70,16 @@ one_closed over reply first second (inr p) = rw (p.0, p.1) refl
 
 -- so many bytes of a step were given
 gives_part : (old new last : Relay) (n count : ℕ) (bytes : List ℕ) (reply given : Option Reply) (whole : List Turn) (left behind : List MemStep)
-    → left ≡ Bytes n (drop count bytes) ∷ (steps_of whole ++ behind) → Steps old (Piece n (take count bytes)) new given → Begun old last (record { step = Bytes n bytes; reply = reply }) whole
+    → left ≡ Bytes n (drop count bytes) ∷ (steps_of whole ++ behind) → RelaySteps old (Piece n (take count bytes)) new given → Begun old last (record { step = Bytes n bytes; reply = reply }) whole
     → Left new last (record { step = Bytes n (take count bytes); reply = given }) (record { step = Bytes n bytes; reply = reply } ∷ whole) left behind
 gives_part old new last n count bytes reply given whole left behind is steps h =
     let parts : InParts old n (take count bytes) (drop count bytes) h.middle reply
-    = in_parts old n (take count bytes) (drop count bytes) h.middle reply (subst (λ b. Steps old (Piece n b) h.middle reply) (sym (take-append-drop count bytes)) h.steps) in
+    = in_parts old n (take count bytes) (drop count bytes) h.middle reply (subst (λ b. RelaySteps old (Piece n b) h.middle reply) (sym (take-append-drop count bytes)) h.steps) in
     let once = step_once no_front old (Piece n (take count bytes)) new parts.middle given parts.first steps parts.begins in
     record {
       rest = record { step = Bytes n (drop count bytes); reply = parts.second } ∷ whole;
       left_is = is;
-      runs = (h.middle, parts.second, replies_of whole, subst (λ (r : Relay). Steps r (Piece n (drop count bytes)) h.middle parts.second) (sym once.0) parts.goes_on, h.runs, refl);
+      runs = (h.middle, parts.second, replies_of whole, subst (λ (r : Relay). RelaySteps r (Piece n (drop count bytes)) h.middle parts.second) (sym once.0) parts.goes_on, h.runs, refl);
       sent = λ session. rw (once.1) (one_reply (bytes_to session) (sent_to session whole) reply parts.first parts.second refl parts.one);
       closed = rw (once.1) (one_reply closed_by (closed_in whole) reply parts.first parts.second refl parts.one);
       over = λ over. rw (once.1) (ap (λ o. over_after o whole) (one_closed over reply parts.first parts.second parts.one));
@@ -87,7 +87,7 @@ gives_part old new last n count bytes reply given whole left behind is steps h =
 
 -- a step was given, whole or in part
 gives_some : (old new last : Relay) (most : ℕ) (step given : MemStep) (reply answer : Option Reply) (whole : List Turn) (left behind : List MemStep) → given ≡ part_of most step
-    → left ≡ rest_of most step ++ (steps_of whole ++ behind) → Steps old (event_of given) new answer → Begun old last (record { step = step; reply = reply }) whole
+    → left ≡ rest_of most step ++ (steps_of whole ++ behind) → RelaySteps old (event_of given) new answer → Begun old last (record { step = step; reply = reply }) whole
     → Left new last (record { step = given; reply = answer }) (record { step = step; reply = reply } ∷ whole) left behind
 gives_some old new last most (Opened n) given reply answer whole left behind part is steps h =
     gives_whole old new last (record { step = given; reply = answer }) (record { step = Opened n; reply = reply }) whole left behind part is steps h
@@ -101,14 +101,14 @@ gives_some old new last most (Bytes n bytes) given reply answer whole left behin
     by : (test : Bool) → nat_lt most (length bytes) ≡ test → left ≡ (if test then Bytes n (drop most bytes) ∷ [] else []) ++ (steps_of whole ++ behind) → Goal
     by true passes is =
         subst (λ (s : MemStep). Left new last (record { step = s; reply = answer }) (record { step = Bytes n bytes; reply = reply } ∷ whole) left behind) (sym part)
-        (gives_part old new last n most bytes reply answer whole left behind is (subst (λ (s : MemStep). Steps old (event_of s) new answer) part steps) h)
+        (gives_part old new last n most bytes reply answer whole left behind is (subst (λ (s : MemStep). RelaySteps old (event_of s) new answer) part steps) h)
     by false fails is =
         gives_whole old new last (record { step = given; reply = answer }) (record { step = Bytes n bytes; reply = reply }) whole left behind
         (part ∙ ap (Bytes n) (take_all most bytes (ltb-false most (length bytes) fails))) is steps h
 
 -- the same of the steps to come
 takes_turn : (old new last : Relay) (turn first : Turn) (whole : List Turn) (coming left behind : List MemStep) → GivesSome (Some coming) (Some left) turn.step → coming ≡ steps_of (first ∷ whole) ++ behind
-    → Steps old (event_of turn.step) new turn.reply → Runs old (map event_of (steps_of (first ∷ whole))) last (replies_of (first ∷ whole)) → Left new last turn (first ∷ whole) left behind
+    → RelaySteps old (event_of turn.step) new turn.reply → RelayRuns old (map event_of (steps_of (first ∷ whole))) last (replies_of (first ∷ whole)) → Left new last turn (first ∷ whole) left behind
 takes_turn old new last turn first whole coming left behind some is steps runs =
     let gives : Gives some.0 coming left turn.step = some.2 in
     let same : gives.first ≡ first.step = cc (gives.came, is) in
@@ -120,7 +120,7 @@ takes_turn old new last turn first whole coming left behind some is steps runs =
 record Behind (relay last : Relay) (taken whole : List Turn) (left behind : List MemStep) : Type 0 where
   rest : List Turn
   left_is : left ≡ steps_of rest ++ behind
-  runs : Runs relay (map event_of (steps_of rest)) last (replies_of rest)
+  runs : RelayRuns relay (map event_of (steps_of rest)) last (replies_of rest)
   sent : (session : ℕ) → sent_to session whole ≡ sent_to session taken ++ sent_to session rest
   closed : closed_in whole ≡ closed_in taken ++ closed_in rest
   over : (over : List ℕ) → over_after over whole ≡ over_after over (taken ++ rest)
@@ -152,15 +152,15 @@ gives_of_none : (coming : List MemStep) (after : Option (List MemStep)) (step : 
 gives_of_none coming None step some none = some
 gives_of_none coming (Some left) step some none = let gives : Gives some.0 coming left step = some.2 in cc (gives.came, none)
 
-takes_turns : (last end : Relay) (behind : List MemStep) (taken : List Turn) (old : Relay) (whole : List Turn) (coming left : List MemStep) → Runs old (map event_of (steps_of whole)) last (replies_of whole)
-    → coming ≡ steps_of whole ++ behind → Comes (Some coming) (steps_of taken) (Some left) → Runs old (map event_of (steps_of taken)) end (replies_of taken)
+takes_turns : (last end : Relay) (behind : List MemStep) (taken : List Turn) (old : Relay) (whole : List Turn) (coming left : List MemStep) → RelayRuns old (map event_of (steps_of whole)) last (replies_of whole)
+    → coming ≡ steps_of whole ++ behind → Comes (Some coming) (steps_of taken) (Some left) → RelayRuns old (map event_of (steps_of taken)) end (replies_of taken)
     → Behind end last taken whole left behind ⊎ UsedUp taken whole behind
 takes_turns last end behind [] old whole coming left runs is comes given =
     let same : left ≡ coming = cc comes in
     inl (record {
       rest = whole;
       left_is = same ∙ is;
-      runs = subst (λ (r : Relay). Runs r (map event_of (steps_of whole)) last (replies_of whole)) (sym given.0) runs;
+      runs = subst (λ (r : Relay). RelayRuns r (map event_of (steps_of whole)) last (replies_of whole)) (sym given.0) runs;
       sent = λ session. refl;
       closed = refl;
       over = λ over. refl;
@@ -185,15 +185,15 @@ no_turns [] more e = refl
 no_turns (turn ∷ turns) more e = absurd (cc e)
 
 -- steps that are given in parts, to the last, are served as the steps whole
-pub parts_joined : (start one other : Relay) (whole parts : List Turn) → Comes (Some (steps_of whole)) (steps_of parts) (Some []) → Runs start (map event_of (steps_of whole)) one (replies_of whole)
-    → Runs start (map event_of (steps_of parts)) other (replies_of parts) → (one ≡ other) × SameTurns whole parts
+pub parts_joined : (start one other : Relay) (whole parts : List Turn) → Comes (Some (steps_of whole)) (steps_of parts) (Some []) → RelayRuns start (map event_of (steps_of whole)) one (replies_of whole)
+    → RelayRuns start (map event_of (steps_of parts)) other (replies_of parts) → (one ≡ other) × SameTurns whole parts
 parts_joined start one other whole parts comes runs given =
     by (takes_turns one other [] parts start whole (steps_of whole) [] runs (sym (append-nil (steps_of whole))) comes given)
   where
     by : Behind other one parts whole [] [] ⊎ UsedUp parts whole [] → (one ≡ other) × SameTurns whole parts
     by (inl b) =
         let none : b.rest ≡ [] = no_turns b.rest [] (sym b.left_is) in
-        let at_end = subst (λ rest. Runs other (map event_of (steps_of rest)) one (replies_of rest)) none b.runs in (
+        let at_end = subst (λ rest. RelayRuns other (map event_of (steps_of rest)) one (replies_of rest)) none b.runs in (
           at_end.0,
           record {
             sent = λ session. b.sent session ∙ ap (λ rest. sent_to session parts ++ sent_to session rest) none ∙ append-nil (sent_to session parts);
@@ -219,7 +219,7 @@ stays_told coming (step ∷ steps) after h = by h.0 h.1 h.2 (λ m. stays_told m 
 
 -- turns at a dock that suffices, and what is left of the steps to come
 module _ (sessions : ℕ) (a : Relay) (x : DockView) (s : Suffices sessions a x) (b : Relay) (turns : List Turn) (after : Option (List MemStep)) (comes : Comes x.coming (steps_of turns) after)
-    (runs : Runs a (map event_of (steps_of turns)) b (replies_of turns)) (none : NoneAfter sessions turns) where
+    (runs : RelayRuns a (map event_of (steps_of turns)) b (replies_of turns)) (none : NoneAfter sessions turns) where
   abbrev coming : List MemStep
   coming = steps_of s.turns ++ s.behind
 

@@ -5,14 +5,14 @@ use Rattle.fugue_ids.specs.declared.op.Op.{Op}
 use Rattle.origin_model.specs.frames.Frames.{HasFrame, frames}
 use Rattle.origin_model.specs.taking.Taking.{Held, HasPlace, TooMany as AnswersTooMany, answer, held_from}
 use Rattle.outer_ports.specs.wire.Wires.{WireView}
-use Rattle.replica_core.specs.Keeping.{TakesIn, Taking}
+use Rattle.replica_core.specs.Keeping.{TakesIn, OpsTaking}
 use Rattle.relay_sync.specs.Replies.{IsMessage, IsMessageFront}
 use Rattle.relay_sync.specs.Syncing.{HearsPartly, HearsReply}
-use Rattle.relay_sync.specs.declared.message.Message.{Message}
-use Rattle.relay_sync.specs.declared.message.Message.TheVariants.{End, Operation, Refusal}
-use Rattle.relay_sync.specs.declared.sync_fault.SyncFault.{SyncFault}
-use Rattle.relay_sync.specs.declared.synced.Synced.{Synced}
-use Rattle.relay_sync.specs.declared.sync_fault.SyncFault.TheVariants as sync_fault
+use Rattle.relay_sync.specs.declared.hearing.Message.{Message}
+use Rattle.relay_sync.specs.declared.hearing.Message.TheVariants.{End, Operation, Refusal}
+use Rattle.relay_sync.specs.declared.syncing.SyncFault.{SyncFault}
+use Rattle.relay_sync.specs.declared.syncing.Synced.{Synced}
+use Rattle.relay_sync.specs.declared.syncing.SyncFault.TheVariants as sync_fault
 
 -- how a reply ends
 pub data ReplyEnd : Type 0 where
@@ -59,37 +59,37 @@ pub record ReplyComes (hold most : ℕ) (start : Held) (bytes : List ℕ) (ops :
   pub ends : EndsReply hold most (held_from hold most start ops) (length bytes) (length (frames ops)) rest end
 
 -- the same, and what a replica that takes the operations in comes to
-pub record HearsTo (bytes : List ℕ) (before after : Taking) (end : ReplyEnd) : Type 0 where
+pub record HearsTo (bytes : List ℕ) (before after : OpsTaking) (end : ReplyEnd) : Type 0 where
   pub ops : List Op
   pub comes : ReplyComes before.replica.hold before.replica.most before.replica.held bytes ops end
   pub takes : TakesIn before after ops
 
 -- the end that a fault tells, where the bytes decide it
-abbrev pub end_of : SyncFault → Option ReplyEnd
-end_of (sync_fault.BadReply at) = Some (Bad at)
-end_of (sync_fault.CutShort at) = Some (Cut at)
-end_of (sync_fault.RelayRefused code) = Some (Refused code)
-end_of sync_fault.TooLong = Some TooLong
-end_of (sync_fault.TooMany most) = Some TooMany
-end_of sync_fault.WireFault = None
-end_of sync_fault.NoMemory = None
+abbrev pub reply_end_of : SyncFault → Option ReplyEnd
+reply_end_of (sync_fault.BadReply at) = Some (Bad at)
+reply_end_of (sync_fault.CutShort at) = Some (Cut at)
+reply_end_of (sync_fault.RelayRefused code) = Some (Refused code)
+reply_end_of sync_fault.TooLong = Some TooLong
+reply_end_of (sync_fault.TooMany most) = Some TooMany
+reply_end_of sync_fault.WireFault = None
+reply_end_of sync_fault.NoMemory = None
 
 -- what was heard of bytes that are told
-abbrev pub HeardTo : Option (List ℕ) → (before after : Taking) → ReplyEnd → Type 0
+abbrev pub HeardTo : Option (List ℕ) → (before after : OpsTaking) → ReplyEnd → Type 0
 HeardTo told before after end = IfSome told (λ bytes. HearsTo bytes before after end)
 
 -- the same up to a fault
-abbrev pub HeardUpTo : SyncFault → Option (List ℕ) → (before after : Taking) → Type 0
-HeardUpTo fault told before after = IfSome (end_of fault) (HeardTo told before after)
+abbrev pub HeardUpTo : SyncFault → Option (List ℕ) → (before after : OpsTaking) → Type 0
+HeardUpTo fault told before after = IfSome (reply_end_of fault) (HeardTo told before after)
 
 -- the answer of an exchange whose reply comes to an end, with what was taken in until then
-abbrev pub answer_to : (after : Taking) → ReplyEnd → Result Synced SyncFault
-answer_to after (Ended count) = Ok (record { tally = after.counts; cursor = count })
-answer_to after (Refused code) = Err (sync_fault.RelayRefused code)
-answer_to after (Bad at) = Err (sync_fault.BadReply at)
-answer_to after (Cut at) = Err (sync_fault.CutShort at)
-answer_to after TooLong = Err sync_fault.TooLong
-answer_to after TooMany = Err (sync_fault.TooMany after.replica.most)
+abbrev pub sync_answer : (after : OpsTaking) → ReplyEnd → Result Synced SyncFault
+sync_answer after (Ended count) = Ok (record { tally = after.counts; cursor = count })
+sync_answer after (Refused code) = Err (sync_fault.RelayRefused code)
+sync_answer after (Bad at) = Err (sync_fault.BadReply at)
+sync_answer after (Cut at) = Err (sync_fault.CutShort at)
+sync_answer after TooLong = Err sync_fault.TooLong
+sync_answer after TooMany = Err (sync_fault.TooMany after.replica.most)
 
 -- the reply's bytes decide such an answer: it is no fault of the wire, and no want of memory
 abbrev pub IsByReply : Result Synced SyncFault → Type 0
@@ -98,14 +98,14 @@ IsByReply (Err sync_fault.NoMemory) = ⊥
 IsByReply result = Unit {0}
 
 -- the bytes come to the end that is answered so
-pub record AnswerIs (before : Taking) (bytes : List ℕ) (answer : Result Synced SyncFault) : Type 0 where
-  pub after : Taking
+pub record AnswerIs (before : OpsTaking) (bytes : List ℕ) (answer : Result Synced SyncFault) : Type 0 where
+  pub after : OpsTaking
   pub end : ReplyEnd
   pub comes : HearsTo bytes before after end
-  pub answer_is : answer ≡ answer_to after end
+  pub answer_is : answer ≡ sync_answer after end
 
 -- each answer comes exactly where the bytes of the reply say so, but for a fault of the wire and want of memory
-abbrev pub AnswersByReply : Result Synced SyncFault → (before : Taking) → List ℕ → Type 0
+abbrev pub AnswersByReply : Result Synced SyncFault → (before : OpsTaking) → List ℕ → Type 0
 AnswersByReply result before bytes = IsByReply result → (answer : Result Synced SyncFault) → IsByReply answer → (result ≡ answer) ↔ AnswerIs before bytes answer
 
 -- all bytes come to exactly one end, and what is heard of them is what they come to
@@ -113,7 +113,7 @@ pub record RepliesComeOnce : Type 0 where
   pub one : (hold most : ℕ) (start : Held) (bytes : List ℕ) (ops others : List Op) (end other : ReplyEnd)
       → ReplyComes hold most start bytes ops end → ReplyComes hold most start bytes others other → (ops ≡ others) × (end ≡ other)
   pub some : (hold most : ℕ) (start : Held) (bytes : List ℕ) → (ops : List Op) × (end : ReplyEnd) × ReplyComes hold most start bytes ops end
-  pub heard : (old new : WireView) (before after : Taking) (count : ℕ) → HearsReply old new before after count → HeardTo old.left before after (Ended count)
-  pub up_to : (fault : SyncFault) (old new : WireView) (before after : Taking) → HearsPartly fault old new before after → HeardUpTo fault old.left before after
-  pub same : (bytes : List ℕ) (before after others : Taking) (end other : ReplyEnd) → HearsTo bytes before after end → HearsTo bytes before others other
+  pub heard : (old new : WireView) (before after : OpsTaking) (count : ℕ) → HearsReply old new before after count → HeardTo old.left before after (Ended count)
+  pub up_to : (fault : SyncFault) (old new : WireView) (before after : OpsTaking) → HearsPartly fault old new before after → HeardUpTo fault old.left before after
+  pub same : (bytes : List ℕ) (before after others : OpsTaking) (end other : ReplyEnd) → HearsTo bytes before after end → HearsTo bytes before others other
       → (after ≡ others) × (end ≡ other)

@@ -5,8 +5,8 @@ use Rattle.std.specs.List.{list_any}
 use Rattle.std.specs.Ordering.{nat_cmp}
 
 -- each number once, in the order in which the sessions came to be over
-abbrev pub noted : List ℕ → ℕ → List ℕ
-noted over session = if list_any (nat_eq session) over then over else over ++ session ∷ []
+abbrev pub over_once : List ℕ → ℕ → List ℕ
+over_once over session = if list_any (nat_eq session) over then over else over ++ session ∷ []
 
 -- the set has these numbers
 pub record IsOver (set : BTreeSet ℕ) (over : List ℕ) : Type 0 where

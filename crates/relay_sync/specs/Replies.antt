@@ -6,12 +6,12 @@ use Rattle.fugue_ids.specs.Causes.{Rose}
 use Rattle.fugue_ids.specs.declared.limits.TheConstants.{STREAM_LIMIT}
 use Rattle.fugue_ids.specs.declared.op.Op.{Op}
 use Rattle.origin_model.specs.frames.Frames.{IsFrame}
-use Rattle.origin_model.specs.relay.Session.{refusal}
+use Rattle.origin_model.specs.relay.Session.{refusal_message}
 use Rattle.outer_ports.specs.wire.Wires.{WireTells, WireView}
-use Rattle.relay_sync.specs.declared.message.Message.{Message}
-use Rattle.relay_sync.specs.declared.message.Message.TheVariants.{End, Operation, Refusal}
-use Rattle.relay_sync.specs.declared.sync_fault.SyncFault.{SyncFault}
-use Rattle.relay_sync.specs.declared.sync_fault.SyncFault.TheVariants.{BadReply, CutShort, NoMemory, RelayRefused, TooLong, TooMany, WireFault}
+use Rattle.relay_sync.specs.declared.hearing.Message.{Message}
+use Rattle.relay_sync.specs.declared.hearing.Message.TheVariants.{End, Operation, Refusal}
+use Rattle.relay_sync.specs.declared.syncing.SyncFault.{SyncFault}
+use Rattle.relay_sync.specs.declared.syncing.SyncFault.TheVariants.{BadReply, CutShort, NoMemory, RelayRefused, TooLong, TooMany, WireFault}
 
 -- the first byte of the message that ends a reply
 abbrev pub ending : ℕ
@@ -25,7 +25,7 @@ IsCode code = (1 ≤ code) × (code ≤ 3)
 abbrev pub IsMessage : Message → List ℕ → Type 0
 IsMessage (Operation op) bytes = IsFrame (record { bytes = bytes; ops = op ∷ [] })
 IsMessage (End count) bytes = (number : List ℕ) × (length number ≡ 4) × (count ≡ from_be_bytes w32 number) × (bytes ≡ ending ∷ number)
-IsMessage (Refusal code) bytes = IsCode code × (bytes ≡ refusal code)
+IsMessage (Refusal code) bytes = IsCode code × (bytes ≡ refusal_message code)
 
 -- the bytes are a proper front of a message, as no bytes are
 pub record IsMessageFront (bytes : List ℕ) : Type 0 where

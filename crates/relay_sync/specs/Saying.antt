@@ -1,7 +1,7 @@
 -- What a replica says to a relay.
 use Rattle.std.specs.Prelude.{◌≡◌, ◌⊎◌, ℕ, List, ◌∷◌, ◌++◌, Some, Result, OnOk, option_map}
 use Rattle.std.specs.Int.{to_be_bytes, w32}
-use Rattle.fugue_ids.specs.Outs.{WritesText}
+use Rattle.fugue_ids.specs.Outs.{WritesBytes}
 use Rattle.origin_model.specs.frames.Frames.{frames}
 use Rattle.origin_model.specs.operations.History.{accepted}
 use Rattle.origin_model.specs.relay.Session.{closing, greeting}
@@ -9,12 +9,12 @@ use Rattle.origin_model.specs.taking.Taking.{Held}
 use Rattle.outer_ports.specs.wire.Wires.{WireView, out_of}
 
 -- a greeting with the cursor, the accepted operations in their order, the waiting ones, and the closing byte
-abbrev pub text_for : ℕ → Held → List ℕ
-text_for cursor held = greeting ∷ to_be_bytes w32 cursor ++ frames (accepted held.history) ++ frames held.waiting ++ closing
+abbrev pub request_for : ℕ → Held → List ℕ
+request_for cursor held = greeting ∷ to_be_bytes w32 cursor ++ frames (accepted held.history) ++ frames held.waiting ++ closing
 
 -- a text went out on the wire, whole or up to a fault
 pub record SaysText {E T : Type 0} (old new : WireView) (result : Result T E) (text : List ℕ) : Type 0 where
-  pub writes : WritesText (out_of old) (out_of new) result text
+  pub writes : WritesBytes (out_of old) (out_of new) result text
   pub port : new.port ≡ old.port
   pub left : new.left ≡ old.left
 
@@ -24,7 +24,7 @@ SaysToNoOther old new port = (new.port ≡ option_map (λ before. Some port) old
 
 -- the same to whoever listens on the port, who is dialled first
 pub record SaysTo {E T : Type 0} (old new : WireView) (result : Result T E) (port : ℕ) (text : List ℕ) : Type 0 where
-  pub writes : WritesText (out_of old) (out_of new) result text
+  pub writes : WritesBytes (out_of old) (out_of new) result text
   pub dialled : OnOk result (new.port ≡ option_map (λ before. Some port) old.port)
   pub no_other : SaysToNoOther old new port
   pub left : new.left ≡ old.left

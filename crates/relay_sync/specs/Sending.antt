@@ -1,12 +1,12 @@
 -- What one step of serving does to a dock: a step is taken, and a reply is sent.
 use Rattle.std.specs.Prelude.{◌≡◌, ◌≢◌, ℕ, ◌≤◌, List, Result, Ok, Err, Option, option_map, ◌++◌}
-use Rattle.fugue_ids.specs.Outs.{Took, TookFront, WritesText}
-use Rattle.origin_model.specs.declared.relay.reply.Reply.{Reply}
+use Rattle.fugue_ids.specs.Outs.{Took, TookFront, WritesBytes}
+use Rattle.origin_model.specs.declared.relay.Reply.{Reply}
 use Rattle.outer_ports.specs.dock.Docks.{DockTells, DockView, SendsNothing, TakesNothing, out_to}
-use Rattle.outer_ports.specs.declared.dock.mem_step.MemStep.{MemStep}
+use Rattle.outer_ports.specs.declared.dock.mem_dock.MemStep.{MemStep}
 use Rattle.relay_sync.specs.Serving.{EndedFront, GaveSteps, HasRoomFor, bytes_to, closed_by, ended_with, ends_behind}
-use Rattle.relay_sync.specs.declared.serve_fault.ServeFault.{ServeFault}
-use Rattle.relay_sync.specs.declared.serve_fault.ServeFault.TheVariants.{DockFault}
+use Rattle.relay_sync.specs.declared.serving.ServeFault.{ServeFault}
+use Rattle.relay_sync.specs.declared.serving.ServeFault.TheVariants.{DockFault}
 
 -- the dock gave these steps, and nothing else happened to it
 pub record GivesSteps (old new : DockView) (steps : List MemStep) : Type 0 where
@@ -20,7 +20,7 @@ pub record GivesSteps (old new : DockView) (steps : List MemStep) : Type 0 where
 
 -- a text goes out to one session, whole or up to a fault
 pub record SendsText {E T : Type 0} (old new : DockView) (result : Result T E) (session : ℕ) (text : List ℕ) : Type 0 where
-  pub writes : WritesText (out_to session old) (out_to session new) result text
+  pub writes : WritesBytes (out_to session old) (out_to session new) result text
   pub others : (other : ℕ) → other ≢ session → (new.sent other ≡ old.sent other) × (new.room other ≡ old.room other)
   pub port : new.port ≡ old.port
   pub nothing_taken : TakesNothing old new

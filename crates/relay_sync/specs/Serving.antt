@@ -2,17 +2,17 @@
 use Rattle.std.specs.Prelude.{◌≡◌, ◌≢◌, Result, Err, ℕ, ◌+◌, ◌<◌, ◌≤◌, List, [], ◌∷◌, ◌++◌, length, take, flat_map, map, nat_eq, if◌then◌else◌, Option, Some, None, IfSome, option_map, ◌-◌}
 use Rattle.std.specs.Io.KnownBytes.{append_known}
 use Rattle.fugue_ids.specs.Outs.{Took, TookFront}
-use Rattle.origin_model.specs.declared.relay.event.Event.{Event}
-use Rattle.origin_model.specs.declared.relay.event.Event.TheVariants as event
-use Rattle.origin_model.specs.declared.relay.reply.Reply.{Reply}
-use Rattle.origin_model.specs.relay.Relay.{Relay, Runs}
+use Rattle.origin_model.specs.declared.relay.Event.{Event}
+use Rattle.origin_model.specs.declared.relay.Event.TheVariants as event
+use Rattle.origin_model.specs.declared.relay.Reply.{Reply}
+use Rattle.origin_model.specs.relay.Relay.{Relay, RelayRuns}
 use Rattle.outer_ports.specs.dock.Docks.{DockView, ended_behind, out_to}
 use Rattle.outer_ports.specs.dock.Steps.{GivesSome}
-use Rattle.outer_ports.specs.declared.dock.mem_step.MemStep.{MemStep}
-use Rattle.outer_ports.specs.declared.dock.mem_step.MemStep.TheVariants.{Opened, Bytes, Gone}
-use Rattle.relay_sync.specs.Over.{noted}
-use Rattle.relay_sync.specs.declared.serve_fault.ServeFault.{ServeFault}
-use Rattle.relay_sync.specs.declared.serve_fault.ServeFault.TheVariants.{DockFault}
+use Rattle.outer_ports.specs.declared.dock.mem_dock.MemStep.{MemStep}
+use Rattle.outer_ports.specs.declared.dock.mem_dock.MemStep.TheVariants.{Opened, Bytes, Gone}
+use Rattle.relay_sync.specs.Over.{over_once}
+use Rattle.relay_sync.specs.declared.serving.ServeFault.{ServeFault}
+use Rattle.relay_sync.specs.declared.serving.ServeFault.TheVariants.{DockFault}
 
 -- a step, as an event of the relay
 abbrev pub event_of : MemStep → Event
@@ -51,18 +51,18 @@ closed_in turns = flat_map (λ turn. closed_by turn.reply) turns
 -- the sessions that are over, with those that the reply closes
 abbrev pub with_closed : List ℕ → Option Reply → List ℕ
 with_closed over None = over
-with_closed over (Some reply) = if reply.closes then noted over reply.session else over
+with_closed over (Some reply) = if reply.closes then over_once over reply.session else over
 
 -- and with the one that is gone
 abbrev pub with_gone : List ℕ → MemStep → List ℕ
 with_gone over (Opened session) = over
 with_gone over (Bytes session bytes) = over
-with_gone over (Gone session) = noted over session
+with_gone over (Gone session) = over_once over session
 
 -- the same by the number that is gone
 abbrev pub with_number : List ℕ → Option ℕ → List ℕ
 with_number over None = over
-with_number over (Some session) = noted over session
+with_number over (Some session) = over_once over session
 
 abbrev pub over_after : List ℕ → List Turn → List ℕ
 over_after over [] = over
@@ -114,7 +114,7 @@ Spends fault more old new = new.faults ≡ old.faults
 
 -- each step was given to the relay, and each reply was sent whole, to its session alone; those that close theirs ended it
 pub record Serves (old_relay new_relay : Relay) (old new : DockView) (turns : List Turn) : Type 0 where
-  pub runs : Runs old_relay (map event_of (steps_of turns)) new_relay (replies_of turns)
+  pub runs : RelayRuns old_relay (map event_of (steps_of turns)) new_relay (replies_of turns)
   pub gave : GaveSteps old new (steps_of turns)
   pub sent : (session : ℕ) → Took (out_to session old) (out_to session new) (sent_to session turns)
   pub ended : new.ended ≡ option_map (λ ended. ended ++ closed_in turns) old.ended
@@ -136,7 +136,7 @@ pub record ServesPartly (fault : ServeFault) (old_relay new_relay : Relay) (old 
   -- the step that the relay was not given, where there is one
   pub more : List MemStep
   pub few : length more ≤ 1
-  pub runs : Runs old_relay (map event_of (steps_of turns)) new_relay (replies_of turns)
+  pub runs : RelayRuns old_relay (map event_of (steps_of turns)) new_relay (replies_of turns)
   pub gave : GaveSteps old new (steps_of turns ++ more)
   pub sent : (session : ℕ) → TookFront (out_to session old) (out_to session new) (sent_to session turns)
   pub ended : EndedFront old new (closed_in turns)
@@ -181,7 +181,7 @@ pub record Suffices (sessions : ℕ) (relay : Relay) (dock : DockView) : Type 0 
   pub behind : List MemStep
   pub coming : dock.coming ≡ Some (steps_of turns ++ behind)
   pub last : Relay
-  pub runs : Runs relay (map event_of (steps_of turns)) last (replies_of turns)
+  pub runs : RelayRuns relay (map event_of (steps_of turns)) last (replies_of turns)
   pub over : sessions ≤ count_over turns
   pub lasts : Lasts dock turns
 
@@ -200,5 +200,5 @@ pub record SameTurns (a b : List Turn) : Type 0 where
 -- those up to there, with that part for the piece.
 pub record PartsCountAsJoined : Type 0 where
   pub same : (start one other : Relay) (whole parts : List Turn) → Comes (Some (steps_of whole)) (steps_of parts) (Some [])
-      → Runs start (map event_of (steps_of whole)) one (replies_of whole) → Runs start (map event_of (steps_of parts)) other (replies_of parts)
+      → RelayRuns start (map event_of (steps_of whole)) one (replies_of whole) → RelayRuns start (map event_of (steps_of parts)) other (replies_of parts)
       → (one ≡ other) × SameTurns whole parts

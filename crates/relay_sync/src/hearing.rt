@@ -3,15 +3,25 @@ ghost use Rattle.fugue_ids.specs.declared.op.Op.{Op as AnyOp};
 ghost use Rattle.origin_model.specs.frames.Frames.{IsFrame};
 ghost use Rattle.op_frame.specs.FrameFronts.{IsFrameOf};
 ghost use Rattle.relay_sync.specs.Replies.{Hears, IsMessageFront, IsWireFault, Stops, Whole, WireRisesFor};
-ghost use Rattle.relay_sync.specs.declared.message.Message.TheVariants.{Operation};
-ghost use Rattle.relay_sync.specs.declared.sync_fault.SyncFault.TheVariants.{NoMemory as WantsMemory};
+ghost use Rattle.relay_sync.specs.declared.hearing.Message.TheVariants.{Operation};
+ghost use Rattle.relay_sync.specs.declared.syncing.SyncFault.TheVariants.{NoMemory as WantsMemory};
 
-use crate::message::Message;
-use crate::sync_fault::SyncFault;
-use fugue_ids::STREAM_LIMIT;
+use crate::syncing::SyncFault;
+use fugue_ids::{Op, STREAM_LIMIT};
 use op_frame::{END, FrameFront, Grown, REFUSAL, decode};
 use outer_ports::Wire;
 use std::alloc::Global;
+
+/// A message of a relay's reply.
+#[derive(Drop)]
+pub(crate) enum Message {
+    /// A frame of the log.
+    Operation(Op),
+    /// The reply is over: the length of the log.
+    End(u32),
+    /// The relay refused, with this code.
+    Refusal(u8),
+}
 
 /// Hears the next message of a reply, byte by byte, so that nothing behind it is heard.
 pub(crate) fn next_message<W: Wire>(
@@ -39,7 +49,9 @@ fn next_byte<W: Wire>(wire: &mut W, heard: &mut u64, place: u64) -> Result<u8, S
     ensures ok { IfOk result (λ byte. Hears (W.seen wire.old) (W.seen wire.new) (byte ∷ [])) }
     ensures count { IfOk result (λ byte. heard.new ≡ heard.old + 1) }
     ensures within { IfOk result (λ byte. heard.new ≤ STREAM_LIMIT) }
-    ensures err { IfErr result (λ fault. (before : List ℕ) → IsMessageFront before → place + length before ≡ heard.old → Stops fault (W.seen wire.old) (W.seen wire.new) place before) }
+    ensures err { IfErr result
+        (λ fault. (before : List ℕ) → IsMessageFront before → place + length before ≡ heard.old
+        → Stops fault (W.seen wire.old) (W.seen wire.new) place before) }
     ensures told { WireRisesFor (IsWireFault result) (W.seen wire.old) (W.seen wire.new) }
 {
     let mut buffer = [0];
@@ -78,7 +90,8 @@ fn next_number<W: Wire>(wire: &mut W, heard: &mut u64, place: u64) -> Result<Mes
 fn next_code<W: Wire>(wire: &mut W, heard: &mut u64, place: u64) -> Result<Message, SyncFault>
     requires within { heard.old ≤ STREAM_LIMIT }
     requires count { heard.old ≡ place + 1 }
-    ensures ok { IfOk result (λ message. Whole message (W.seen wire.old) (W.seen wire.new) place heard.new (REFUSAL ∷ [])) }
+    ensures ok { IfOk result (λ message. Whole message (W.seen wire.old) (W.seen wire.new) place heard.new
+        (REFUSAL ∷ [])) }
     ensures err { IfErr result (λ fault. Stops fault (W.seen wire.old) (W.seen wire.new) place (REFUSAL ∷ [])) }
     ensures told { WireRisesFor (IsWireFault result) (W.seen wire.old) (W.seen wire.new) }
 {
@@ -101,7 +114,8 @@ fn next_frame<W: Wire>(
     requires count { heard.old ≡ place + 1 }
     requires no_end { first ≢ END }
     requires no_refusal { first ≢ REFUSAL }
-    ensures ok { IfOk result (λ message. Whole message (W.seen wire.old) (W.seen wire.new) place heard.new (first ∷ [])) }
+    ensures ok { IfOk result (λ message. Whole message (W.seen wire.old) (W.seen wire.new) place heard.new
+        (first ∷ [])) }
     ensures err { IfErr result (λ fault. Stops fault (W.seen wire.old) (W.seen wire.new) place (first ∷ [])) }
     ensures told { WireRisesFor (IsWireFault result) (W.seen wire.old) (W.seen wire.new) }
 {
@@ -119,7 +133,8 @@ fn next_frame<W: Wire>(
 /// The operation of a frame.
 fn operation_of(alloc: Global, frame: &[u8]) -> Result<Message, SyncFault>
     requires { IsFrameOf frame.now }
-    ensures ok { IfOk result (λ message. (op : AnyOp) × (message ≡ Operation op) × IsFrame (record { bytes = frame.now; ops = op ∷ [] })) }
+    ensures ok { IfOk result (λ message. (op : AnyOp) × (message ≡ Operation op)
+        × IsFrame (record { bytes = frame.now; ops = op ∷ [] })) }
     ensures err { IfErr result (λ fault. fault ≡ WantsMemory) }
 {
     let Ok(op) = decode(alloc, frame) else {

@@ -1,11 +1,11 @@
 ghost use Rattle.std.specs.Prelude.{◌≡◌, ◌≢◌, ◌≤◌, ◌∷◌, [], Err, IfErr, IfOk, IfSome, List, OnOk, length};
 ghost use Rattle.fugue_ids.specs.Causes.{Rose};
-ghost use Rattle.outer_ports.specs.declared.dock.mem_step.MemStep.{MemStep as AnyStep};
+ghost use Rattle.outer_ports.specs.declared.dock.mem_dock.MemStep.{MemStep as AnyStep};
 ghost use Rattle.relay_sync.specs.Sending.{DockRisesFor, GivesSteps, IsDockFault};
 ghost use Rattle.relay_sync.specs.Serving.{Spends};
-ghost use Rattle.relay_sync.specs.declared.serve_fault.ServeFault.TheVariants.{DockFault, TooLong};
+ghost use Rattle.relay_sync.specs.declared.serving.ServeFault.TheVariants.{DockFault, TooLong};
 
-use crate::serve_fault::ServeFault;
+use crate::serving::ServeFault;
 use fugue_ids::{BUFFER, ByteList, NoMemory};
 use outer_ports::{Dock, DockStep, MemStep};
 use std::alloc::Global;
@@ -13,9 +13,11 @@ use std::alloc::Global;
 /// Takes the next step of the dock, with its bytes. After want of memory the step is lost.
 pub(crate) fn next_step<D: Dock>(alloc: Global, dock: &mut D) -> Result<MemStep, ServeFault>
     ensures ok { IfOk result (λ step. GivesSteps (D.seen dock.old) (D.seen dock.new) (step ∷ [])) }
-    ensures err { IfErr result (λ fault. (steps : List AnyStep) × GivesSteps (D.seen dock.old) (D.seen dock.new) steps × (length steps ≤ 1)
+    ensures err { IfErr result
+        (λ fault. (steps : List AnyStep) × GivesSteps (D.seen dock.old) (D.seen dock.new) steps × (length steps ≤ 1)
         × IfSome (D.seen dock.old).ends (λ ends. Spends fault steps (D.seen dock.old) (D.seen dock.new))) }
-    ensures calm { IfSome (D.seen dock.old).ends (λ ends. OnOk result ((D.seen dock.new).faults ≡ (D.seen dock.old).faults)) }
+    ensures calm { IfSome (D.seen dock.old).ends
+        (λ ends. OnOk result ((D.seen dock.new).faults ≡ (D.seen dock.old).faults)) }
     ensures dock_fault { result ≡ Err DockFault → Rose (D.seen dock.old).faults (D.seen dock.new).faults }
     ensures told { DockRisesFor (IsDockFault result) (D.seen dock.old) (D.seen dock.new) }
     ensures not_long { result ≢ Err TooLong }

@@ -1,7 +1,7 @@
 ghost use Rattle.std.specs.Prelude.{◌≡◌, IfOk, IsErr};
 ghost use Rattle.origin_model.specs.edits.State.{Stands};
 ghost use Rattle.relay_sync.specs.Replies.{WireRisesFor};
-ghost use Rattle.relay_sync.specs.Saying.{SaysText, SaysTo, text_for};
+ghost use Rattle.relay_sync.specs.Saying.{SaysText, SaysTo, request_for};
 
 use fugue_ids::{Failed, NoMemory};
 use op_frame::{CLOSING, GREETING, encode_all};
@@ -10,8 +10,8 @@ use replica_core::Replica;
 use std::alloc::Global;
 
 /// What the replica says: all that it holds, and from where on it asks for the log.
-pub(crate) fn text_of(alloc: Global, replica: &Replica, cursor: u32) -> Result<Vec<u8>, NoMemory>
-    ensures text { IfOk result (λ text. text.items ≡ text_for cursor replica.now.held) }
+pub(crate) fn request_of(alloc: Global, replica: &Replica, cursor: u32) -> Result<Vec<u8>, NoMemory>
+    ensures text { IfOk result (λ text. text.items ≡ request_for cursor replica.now.held) }
     ensures stands { Stands replica.now }
 {
     let accepted = replica.accepted();

@@ -1,24 +1,49 @@
-ghost use Rattle.std.specs.Prelude.{◌≡◌, ◌≢◌, ◌<◌, ◌≤◌, ◌∷◌, [], Err, IfErr, List, OnOk, length, ℕ};
-ghost use Rattle.fugue_ids.specs.Causes.{Rose};
+ghost use Rattle.std.specs.Prelude.{◌≡◌, ◌≢◌, ◌<◌, ◌≤◌, ◌∷◌, [], Err, IfErr, List, OnOk, length, ℕ, Option as Maybe};
+ghost use Rattle.std.specs.Prelude.{OnErr, IsErr, Some};
+ghost use Rattle.fugue_ids.specs.Causes.{Rose, HasCause};
 ghost use Rattle.relay_core.specs.Sessions.{listed};
-ghost use Rattle.origin_model.specs.declared.relay.reply.Reply.{Reply as AnyReply};
-ghost use Rattle.std.specs.Prelude.{Option as Maybe};
-ghost use Rattle.relay_sync.specs.Over.{IsOver};
-ghost use Rattle.relay_sync.specs.Sending.{DockRisesFor, IsDockFault, Replied, RepliedPartly};
-ghost use Rattle.relay_sync.specs.Serving.{BlamesDock, NoneAfter, Serves, ServingStops, Turn, TurnStops, count_over, event_of as event_by, over_after, with_closed, with_gone, with_number};
-ghost use Rattle.relay_sync.specs.declared.serve_fault.ServeFault.TheVariants.{DockFault as AtDock, TooLong as TakesTooLong};
+ghost use Rattle.origin_model.specs.declared.relay.Reply.{Reply as AnyReply};
+ghost use Rattle.relay_sync.specs.Over.{IsOver, over_once};
+ghost use Rattle.relay_sync.specs.Sending.{DockRisesFor, IsDockFault, Replied, RepliedPartly, SendsText};
+ghost use Rattle.relay_sync.specs.Serving.{BlamesDock, NoneAfter, Serves, ServingStops, Turn, TurnStops, count_over};
+ghost use Rattle.relay_sync.specs.Serving.{event_of as event_by, over_after, with_closed, with_gone, with_number};
+ghost use Rattle.relay_sync.specs.declared.serving.ServeFault.TheVariants.{DockFault as AtDock};
+ghost use Rattle.relay_sync.specs.declared.serving.ServeFault.TheVariants.{TooLong as TakesTooLong};
 
 use crate::next_step::next_step;
-use crate::over::{note, note_gone};
-use crate::sending::send_reply;
-use crate::serve_fault::ServeFault;
+use fugue_ids::{Failed, NoMemory};
 use outer_ports::{Dock, MemStep};
 use relay_core::{Event, Relay, Reply};
 use std::alloc::Global;
 use std::collections::BTreeSet;
+use std::error::Error;
+use std::fmt;
 use std::hash::BuildHasher;
 
-/// Gives the dock's steps to the relay and sends its replies, until so many sessions are closed or gone; a number counts once.
+/// Why a relay served no further.
+#[derive(Clone, Copy, Debug, PartialEq, Eq)]
+pub enum ServeFault {
+    /// A call on the dock failed.
+    DockFault,
+    /// All steps that were allowed were taken, and fewer sessions are over than were to be served.
+    TooLong,
+    NoMemory,
+}
+
+impl fmt::Display for ServeFault {
+    fn fmt<W: fmt::Write>(&self, f: &mut fmt::Formatter<W>) -> fmt::Result {
+        match self {
+            ServeFault::DockFault => write!(f, "a call on the dock failed"),
+            ServeFault::TooLong => write!(f, "the sessions took too many steps"),
+            ServeFault::NoMemory => write!(f, "out of memory"),
+        }
+    }
+}
+
+impl Error for ServeFault {}
+
+/// Gives the dock's steps to the relay and sends its replies, until so many sessions are closed or gone; a number
+/// counts once.
 ///
 /// After a fault the relay stands after a front of the steps.
 pub fn serve<B: BuildHasher, D: Dock>(
@@ -30,9 +55,11 @@ pub fn serve<B: BuildHasher, D: Dock>(
 ) -> Result<(), ServeFault>
     ensures ok { OnOk result ((turns : List Turn) × Serves relay.old relay.new (D.seen dock.old) (D.seen dock.new) turns
         × (sessions ≤ count_over turns) × NoneAfter sessions turns × (length turns ≤ steps)) }
-    ensures too_long { result ≡ Err TakesTooLong → (turns : List Turn) × Serves relay.old relay.new (D.seen dock.old) (D.seen dock.new) turns
+    ensures too_long { result ≡ Err TakesTooLong → (turns : List Turn)
+        × Serves relay.old relay.new (D.seen dock.old) (D.seen dock.new) turns
         × (count_over turns < sessions) × NoneAfter sessions turns × (length turns ≡ steps) }
-    ensures partly { IfErr result (λ fault. ServingStops sessions steps fault relay.old relay.new (D.seen dock.old) (D.seen dock.new)) }
+    ensures partly { IfErr result
+        (λ fault. ServingStops sessions steps fault relay.old relay.new (D.seen dock.old) (D.seen dock.new)) }
     ensures dock_fault { result ≡ Err AtDock → Rose (D.seen dock.old).faults (D.seen dock.new).faults }
     ensures told { DockRisesFor (IsDockFault result) (D.seen dock.old) (D.seen dock.new) }
     ensures dock { BlamesDock sessions relay.old (D.seen dock.old) (D.seen dock.new) result }
@@ -81,9 +108,11 @@ fn answer<D: Dock>(
     over: &mut BTreeSet<u32>,
     replies: &[Reply],
 ) -> Result<(), ServeFault>
-    ensures ok { (reply : Maybe AnyReply) → replies.now ≡ listed reply → OnOk result (Replied (D.seen dock.old) (D.seen dock.new) reply
+    ensures ok { (reply : Maybe AnyReply) → replies.now ≡ listed reply
+        → OnOk result (Replied (D.seen dock.old) (D.seen dock.new) reply
         × ((sessions : List ℕ) → IsOver over.old sessions → IsOver over.new (with_closed sessions reply))) }
-    ensures partly { (reply : Maybe AnyReply) → replies.now ≡ listed reply → IfErr result (λ fault. RepliedPartly fault (D.seen dock.old) (D.seen dock.new) reply) }
+    ensures partly { (reply : Maybe AnyReply) → replies.now ≡ listed reply
+        → IfErr result (λ fault. RepliedPartly fault (D.seen dock.old) (D.seen dock.new) reply) }
     ensures dock_fault { result ≡ Err AtDock → Rose (D.seen dock.old).faults (D.seen dock.new).faults }
     ensures told { DockRisesFor (IsDockFault result) (D.seen dock.old) (D.seen dock.new) }
     ensures not_long { result ≢ Err TakesTooLong }
@@ -120,4 +149,49 @@ fn event_of(step: MemStep) -> Event
         MemStep::Bytes(session, bytes) => Event::Piece(session, bytes),
         MemStep::Gone(session) => Event::Gone(session),
     }
+}
+
+/// Notes that the session is over. Its number counts once.
+pub(crate) fn note(over: &mut BTreeSet<u32>, session: u32) -> Result<(), NoMemory>
+    ensures { OnOk result ((sessions : List ℕ) → IsOver over.old sessions
+        → IsOver over.new (over_once sessions session)) }
+{
+    over.insert(session)?;
+    Ok(())
+}
+
+/// Notes that the session that is gone, where there is one, is over.
+pub(crate) fn note_gone(over: &mut BTreeSet<u32>, gone: Option<u32>) -> Result<(), NoMemory>
+    ensures { OnOk result ((sessions : List ℕ) → IsOver over.old sessions
+        → IsOver over.new (with_number sessions gone)) }
+{
+    match gone {
+        Some(session) => note(over, session),
+        None => Ok(()),
+    }
+}
+
+/// Sends the reply whole, and ends its session where it closes it.
+pub(crate) fn send_reply<D: Dock>(dock: &mut D, reply: &Reply) -> Result<(), Failed>
+    ensures ok { OnOk result (Replied (D.seen dock.old) (D.seen dock.new) (Some reply.now)) }
+    ensures err { OnErr result (RepliedPartly AtDock (D.seen dock.old) (D.seen dock.new) (Some reply.now)) }
+    ensures told { DockRisesFor (IsErr result) (D.seen dock.old) (D.seen dock.new) }
+    ensures cause { HasCause (D.seen dock.old).faults (D.seen dock.new).faults result }
+{
+    send_whole(dock, reply.session, reply.bytes.as_slice())?;
+    if reply.closes {
+        dock.end(reply.session)?;
+    }
+    Ok(())
+}
+
+/// Sends the whole piece to the session, or fails with a front of it sent.
+fn send_whole<D: Dock>(dock: &mut D, session: u32, piece: &[u8]) -> Result<(), Failed>
+    ensures { SendsText (D.seen dock.old) (D.seen dock.new) result session piece.now }
+{
+    let mut at = 0;
+    while at < piece.len() {
+        at += dock.send(session, &piece[at..])?;
+    }
+    Ok(())
 }

@@ -1,23 +1,70 @@
 ghost use Rattle.std.specs.Prelude.{◌≡◌, ◌≤◌, IfErr, IfOk, IfSome, OnOk, length};
 ghost use Rattle.fugue_ids.specs.declared.limits.TheConstants.{GREATEST_HOLD};
-ghost use Rattle.origin_model.specs.declared.taking.tally.Tally.{Tally as AnyTally};
+ghost use Rattle.origin_model.specs.declared.taking.Tally.{Tally as AnyTally};
 ghost use Rattle.origin_model.specs.taking.Taking.{IsSettled};
-ghost use Rattle.replica_core.specs.Keeping.{begun};
+ghost use Rattle.replica_core.specs.Keeping.{taking_begun};
 ghost use Rattle.relay_sync.specs.Outcomes.{AnswersByReply, Ended, HeardTo, HeardUpTo};
 ghost use Rattle.relay_sync.specs.Replies.{IsWireFault, WireRisesFor};
-ghost use Rattle.relay_sync.specs.Saying.{text_for};
-ghost use Rattle.relay_sync.specs.Syncing.{BlamesWire, Fails, HearsOne, HearsPartly, HearsReply, IsReady, StopsAt, Syncs};
+ghost use Rattle.relay_sync.specs.Saying.{request_for};
+ghost use Rattle.relay_sync.specs.Syncing.{BlamesWire, SyncFails, HearsOne, HearsPartly, HearsReply, IsReady, StopsAt};
+ghost use Rattle.relay_sync.specs.Syncing.{Syncs};
 
-use crate::hearing::next_message;
-use crate::message::Message;
-use crate::saying::{say, text_of};
-use crate::sync_fault::SyncFault;
-use crate::synced::Synced;
+use crate::hearing::{Message, next_message};
+use crate::saying::{request_of, say};
 use fugue_ids::{Op, STREAM_LIMIT};
 use origin_model::Tally;
 use outer_ports::Wire;
-use replica_core::Replica;
+use replica_core::{FeedFault, Replica};
 use std::alloc::Global;
+use thiserror::Error;
+
+/// Why a replica was not brought together with a relay.
+#[derive(Clone, Copy, Debug, PartialEq, Eq, Error)]
+pub enum SyncFault {
+    /// A call on the wire failed.
+    #[error("outside fault")]
+    WireFault,
+    /// No message of a reply stands at the offset, and the bytes there begin none.
+    #[error("bad reply at byte {0}")]
+    BadReply(u64),
+    /// The reply is a refusal, with this code.
+    #[error("relay refused {0}")]
+    RelayRefused(u8),
+    /// The wire ended in the place of the message at the offset, or inside of it.
+    #[error("reply cut short at byte {0}")]
+    CutShort(u64),
+    /// The reply goes on past its limit.
+    #[error("too long")]
+    TooLong,
+    /// As many operations are held as may be: the number.
+    #[error("too many: {0}")]
+    TooMany(u32),
+    #[error("no memory")]
+    NoMemory,
+}
+
+impl From<FeedFault> for SyncFault {
+    ghost use Rattle.std.specs.Prelude.{◌≡◌};
+    ghost use Rattle.relay_sync.specs.FeedFaults.{fault_of};
+
+    ghost from_gives = { λ fault made. made ≡ fault_of fault };
+
+    fn from(fault: FeedFault) -> SyncFault {
+        match fault {
+            FeedFault::TooMany(most) => SyncFault::TooMany(most),
+            FeedFault::NoMemory => SyncFault::NoMemory,
+        }
+    }
+}
+
+/// What an exchange with a relay came to.
+#[derive(Clone, Copy, Debug, PartialEq, Eq)]
+pub struct Synced {
+    /// What became of the operations of the reply.
+    pub tally: Tally,
+    /// The length of the relay's log, from which the next exchange may begin.
+    pub cursor: u32,
+}
 
 /// Tells a relay all that the replica holds, and takes in what it answers.
 ///
@@ -32,20 +79,26 @@ pub fn sync<W: Wire>(
     kept: &mut Vec<Op>,
 ) -> Result<Synced, SyncFault>
     requires { IsSettled replica.old.held }
-    ensures ok { IfOk result (λ synced. Syncs (W.seen wire.old) (W.seen wire.new) (begun replica.old kept.old.items)
+    ensures ok { IfOk result (λ synced. Syncs (W.seen wire.old) (W.seen wire.new)
+        (taking_begun replica.old kept.old.items)
         (record { replica = replica.new; counts = synced.tally; kept = kept.new.items }) port cursor synced.cursor) }
     ensures settled { OnOk result (IsSettled replica.new.held) }
-    ensures err { IfErr result (λ fault. (counts : AnyTally) × Fails fault (W.seen wire.old) (W.seen wire.new) (begun replica.old kept.old.items)
+    ensures err { IfErr result
+        (λ fault. (counts : AnyTally)
+        × SyncFails fault (W.seen wire.old) (W.seen wire.new) (taking_begun replica.old kept.old.items)
         (record { replica = replica.new; counts = counts; kept = kept.new.items }) port cursor) }
-    ensures reply { IfOk result (λ synced. HeardTo (W.seen wire.old).left (begun replica.old kept.old.items)
+    ensures reply { IfOk result (λ synced. HeardTo (W.seen wire.old).left (taking_begun replica.old kept.old.items)
         (record { replica = replica.new; counts = synced.tally; kept = kept.new.items }) (Ended synced.cursor)) }
-    ensures up_to { IfErr result (λ fault. (counts : AnyTally) × HeardUpTo fault (W.seen wire.old).left (begun replica.old kept.old.items)
+    ensures up_to { IfErr result
+        (λ fault. (counts : AnyTally) × HeardUpTo fault (W.seen wire.old).left (taking_begun replica.old kept.old.items)
         (record { replica = replica.new; counts = counts; kept = kept.new.items })) }
-    ensures exactly { IfSome (W.seen wire.old).left (λ bytes. AnswersByReply result (begun replica.old kept.old.items) bytes) }
+    ensures exactly { IfSome (W.seen wire.old).left
+        (λ bytes. AnswersByReply result (taking_begun replica.old kept.old.items) bytes) }
     ensures told { WireRisesFor (IsWireFault result) (W.seen wire.old) (W.seen wire.new) }
-    ensures wire { BlamesWire (length (text_for cursor replica.old.held)) (W.seen wire.old) (W.seen wire.new) result }
+    ensures wire { BlamesWire (length (request_for cursor replica.old.held)) (W.seen wire.old)
+        (W.seen wire.new) result }
 {
-    let Ok(text) = text_of(alloc, replica, cursor) else {
+    let Ok(text) = request_of(alloc, replica, cursor) else {
         return Err(SyncFault::NoMemory);
     };
     let Ok(()) = say(wire, port, text.as_slice()) else {
@@ -63,10 +116,13 @@ fn hear<W: Wire>(
 ) -> Result<Synced, SyncFault>
     requires settled { IsSettled replica.old.held }
     requires few { length replica.old.held.waiting ≤ GREATEST_HOLD }
-    ensures ok { IfOk result (λ synced. HearsReply (W.seen wire.old) (W.seen wire.new) (begun replica.old kept.old.items)
+    ensures ok { IfOk result (λ synced. HearsReply (W.seen wire.old) (W.seen wire.new)
+        (taking_begun replica.old kept.old.items)
         (record { replica = replica.new; counts = synced.tally; kept = kept.new.items }) synced.cursor) }
     ensures settled { OnOk result (IsSettled replica.new.held) }
-    ensures err { IfErr result (λ fault. (counts : AnyTally) × HearsPartly fault (W.seen wire.old) (W.seen wire.new) (begun replica.old kept.old.items)
+    ensures err { IfErr result
+        (λ fault. (counts : AnyTally)
+        × HearsPartly fault (W.seen wire.old) (W.seen wire.new) (taking_begun replica.old kept.old.items)
         (record { replica = replica.new; counts = counts; kept = kept.new.items })) }
     ensures told { WireRisesFor (IsWireFault result) (W.seen wire.old) (W.seen wire.new) }
 {

@@ -3,13 +3,13 @@ use Rattle.std.proofs.Common.{◌≡◌, refl, sym, ◌∙◌, ap, subst, ℕ, s
 use Rattle.std.specs.Prelude.{Option, Some}
 use Rattle.fugue_ids.specs.declared.op.Op.{Op}
 use Rattle.fugue_ids.specs.declared.limits.TheConstants.{GREATEST_HOLD}
-use Rattle.origin_model.specs.declared.taking.tally.Tally.{Tally}
+use Rattle.origin_model.specs.declared.taking.Tally.{Tally}
 use Rattle.origin_model.specs.taking.Taking.{Held, settle_step, count_joined, count_dropped, settling_counted}
 use Rattle.origin_model.specs.edits.State.{State, Stands}
-use Rattle.replica_core.specs.Settling.{Reaches, Here, Step}
-use Rattle.replica_core.specs.Told.{IsCounted, Settles, SettlesOn}
-use Rattle.replica_core.specs.declared.settled.Settled.{Settled}
-use Rattle.replica_core.specs.declared.settled.Settled.TheVariants.{Accepted as SettledAccepted, DroppedStray}
+use Rattle.replica_core.specs.Settling.{SettlesTo, Here, Step}
+use Rattle.replica_core.specs.Told.{IsTallied, Settles, SettlesOn}
+use Rattle.replica_core.specs.declared.replica.Settled.{Settled}
+use Rattle.replica_core.specs.declared.replica.Settled.TheVariants.{Accepted as SettledAccepted, DroppedStray}
 use Rattle.replica_core.proofs.StepLemmas.{step_moves, reaches_then}
 
 -- two tallies agree
@@ -40,7 +40,7 @@ pub record Grew (s t : Held) : Type 0 where
   pub together : length t.history + length t.waiting ≤ length s.history + length s.waiting
 
 -- steps never shorten the history, and each operation that joins it has waited
-pub reaches_grew : (s t : Held) → Reaches s t → Grew s t
+pub reaches_grew : (s t : Held) → SettlesTo s t → Grew s t
 reaches_grew _ _ (Here s) = record { later = omega arith; together = omega arith }
 reaches_grew _ _ (Step s a t e r) =
     let m = step_moves s a e in
@@ -51,7 +51,7 @@ reaches_grew _ _ (Step s a t e r) =
     ]
 
 -- steps and one step more are counted together
-pub counted_more : (s t u : Held) (x : Tally) → Reaches s t → settle_step t ≡ Some u → settling_counted t u (settling_counted s t x) ≡ settling_counted s u x
+pub counted_more : (s t u : Held) (x : Tally) → SettlesTo s t → settle_step t ≡ Some u → settling_counted t u (settling_counted s t x) ≡ settling_counted s u x
 counted_more s t u x r e =
     let g = reaches_grew s t r in
     let m = step_moves t u e in
@@ -87,7 +87,7 @@ settling_starts s t stands accepted stray = record {
 }
 
 -- one step more is counted in its turn
-pub settling_more : (start now next : State) (before after then : Tally) → IsSettling start now before after → IsCounted now.held next.held after then true
+pub settling_more : (start now next : State) (before after then : Tally) → IsSettling start now before after → IsTallied now.held next.held after then true
     → next ≡ record now { held = next.held } → Stands next → IsSettling start next before then
 settling_more start now next before after then so step others stands = record {
   way = record {

@@ -6,14 +6,14 @@ use Rattle.std.specs.Prelude.{if◌then◌else◌, Option, Some, None, ◌↔◌
 use Rattle.fugue_ids.specs.Identifiers.{Identifier}
 use Rattle.fugue_ids.specs.Ops.{id_of}
 use Rattle.fugue_ids.specs.declared.op.Op.{Op}
-use Rattle.causal_inbox.specs.declared.found.Found.{Found}
-use Rattle.causal_inbox.specs.declared.found.Found.TheVariants.{Same, Clash, Absent}
+use Rattle.causal_inbox.specs.declared.index.Found.{Found}
+use Rattle.causal_inbox.specs.declared.index.Found.TheVariants.{Same, Clash, Absent}
 use Rattle.origin_model.specs.operations.History.{has_op, accepted}
 use Rattle.origin_model.specs.operations.Verdict.{verdict, first_line, first_stray, first_missing, names, id_held}
-use Rattle.origin_model.specs.declared.operations.verdict.Verdict.{Verdict}
-use Rattle.origin_model.specs.declared.operations.verdict.Verdict.TheVariants.{Again as AgainOnHistory, Conflict as ConflictOnHistory, Stray as StrayOnHistory, Missing as MissingOnHistory, Ready as ReadyOnHistory}
+use Rattle.origin_model.specs.declared.operations.Verdict.{Verdict}
+use Rattle.origin_model.specs.declared.operations.Verdict.TheVariants.{Again as AgainOnHistory, Conflict as ConflictOnHistory, Stray as StrayOnHistory, Missing as MissingOnHistory, Ready as ReadyOnHistory}
 use Rattle.origin_model.specs.taking.Taking.{Held, Answer, Again, Conflict, Full, Waits, answer, answer_by, is_again, is_kept, is_taken, is_decided}
-use Rattle.replica_core.specs.declared.decision.Decision.{Decision}
+use Rattle.replica_core.specs.declared.replica.Decision.{Decision}
 use Rattle.replica_core.specs.Decision.{decided, answer_by_decision}
 
 -- what is found, by the two look-ups

@@ -4,7 +4,7 @@ use Rattle.std.specs.Prelude.{None}
 use Rattle.fugue_ids.specs.declared.op.Op.{Op}
 use Rattle.origin_model.specs.taking.Taking.{IsSettled}
 use Rattle.origin_model.specs.edits.Edits.{Command}
-use Rattle.origin_model.specs.edits.Refusal.{made_by, refusal}
+use Rattle.origin_model.specs.edits.Refusal.{made_by, refusal_message}
 use Rattle.origin_model.specs.edits.State.{State, Stands}
 use Rattle.origin_model.proofs.edits.EditIntakeLemmas.{Comes, made_comes}
 use Rattle.origin_model.proofs.edits.RefusalLemmas.{made_fits, made_ready}
@@ -14,7 +14,7 @@ come_in_turn : (ops h w : List Op) → Comes w h ops → ComeInTurn w h ops
 come_in_turn [] h w c = tt
 come_in_turn (op ∷ ops) h w c = (c.0, c.1, c.2, come_in_turn ops (op ∷ h) w c.3)
 
-pub made_can_join : (s : State) (command : Command) → Stands s → IsSettled s.held → refusal s command ≡ None → CanJoin s (made_by s command)
+pub made_can_join : (s : State) (command : Command) → Stands s → IsSettled s.held → refusal_message s command ≡ None → CanJoin s (made_by s command)
 made_can_join s command stands settled e =
     record {
       settled = settled;

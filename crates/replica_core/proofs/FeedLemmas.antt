@@ -3,12 +3,12 @@ use Rattle.std.proofs.Common.{◌≡◌, sym, ◌∙◌, ap, subst, ℕ, ◌+◌
 use Rattle.std.proofs.lemmas.List.Elements.{All-push}
 use Rattle.fugue_ids.specs.declared.op.Op.{Op}
 use Rattle.origin_model.specs.operations.Verdict.{verdict}
-use Rattle.origin_model.specs.declared.taking.tally.Tally.{Tally}
+use Rattle.origin_model.specs.declared.taking.Tally.{Tally}
 use Rattle.origin_model.specs.taking.Taking.{Held, Answer, Accepted, Waits, answer, taken, is_decided, is_kept, settle, intake, answer_counted, settling_counted, intake_counted, IsSettled}
-use Rattle.replica_core.specs.Settling.{Reaches}
+use Rattle.replica_core.specs.Settling.{SettlesTo}
 use Rattle.replica_core.specs.Told.{JoinsNext, StandsPartly, SettlesOn, Leaves, total}
 use Rattle.origin_model.specs.edits.State.{State}
-use Rattle.replica_core.specs.declared.feed_fault.FeedFault.TheVariants.{NoMemory as FedNoMemory}
+use Rattle.replica_core.specs.declared.keeping.FeedFault.TheVariants.{NoMemory as FedNoMemory}
 use Rattle.replica_core.proofs.DecisionLemmas.{may_wait, waits_undecided}
 use Rattle.origin_model.proofs.SharedLemmas.{settle-settled}
 use Rattle.replica_core.proofs.StepLemmas.{settle-reaches, reaches-settled}
@@ -32,7 +32,7 @@ fed_quietly hold most s op a t e settled =
     }
 
 -- an accepted operation, and the settling behind it
-pub fed_settled : (hold most : ℕ) (s u : Held) (op : Op) (t : Tally) → answer hold most s op ≡ Accepted → Reaches (taken Accepted s op) u → IsSettled u
+pub fed_settled : (hold most : ℕ) (s u : Held) (op : Op) (t : Tally) → answer hold most s op ≡ Accepted → SettlesTo (taken Accepted s op) u → IsSettled u
     → IsFed hold most s op t u (settling_counted (taken Accepted s op) u (answer_counted Accepted t))
 fed_settled hold most s u op t e r settled =
     let end : u ≡ settle (taken Accepted s op) = reaches-settled (taken Accepted s op) u r settled in
@@ -43,10 +43,10 @@ fed_settled hold most s u op t e r settled =
     }
 
 -- an accepted operation, and some of the settling behind it
-pub fed_partly : (hold most : ℕ) (s u : Held) (op : Op) (t : Tally) → answer hold most s op ≡ Accepted → Reaches (taken Accepted s op) u → JoinsNext u
+pub fed_partly : (hold most : ℕ) (s u : Held) (op : Op) (t : Tally) → answer hold most s op ≡ Accepted → SettlesTo (taken Accepted s op) u → JoinsNext u
     → StandsPartly hold most s u op t (settling_counted (taken Accepted s op) u (answer_counted Accepted t))
 fed_partly hold most s u op t e r stopped = record {
-  steps = subst (λ b. Reaches (taken b s op) u) (sym e) r;
+  steps = subst (λ b. SettlesTo (taken b s op) u) (sym e) r;
   counted = sym (ap (λ (b : Answer). settling_counted (taken b s op) u (answer_counted b t)) e);
   stopped = stopped;
   goes_on = settle-reaches (taken Accepted s op) u r ∙ sym (ap (λ (b : Answer). settle (taken b s op)) e);
@@ -96,7 +96,7 @@ accepted_mid : (s mid : State) (op : Op) → answer s.hold s.most s.held op ≡ 
 accepted_mid s mid op e is = is ∙ ap (λ (b : Answer). record s { held = taken b s.held op }) e
 
 -- steps keep the number of those that are counted or wait
-counted_once : (s u : Held) (t : Tally) → Reaches s u → total (settling_counted s u t) + length u.waiting ≡ total t + length s.waiting
+counted_once : (s u : Held) (t : Tally) → SettlesTo s u → total (settling_counted s u t) + length u.waiting ≡ total t + length s.waiting
 counted_once s u t r = let g = reaches_grew s u r in omega (arith, g.later, g.together)
 
 -- an accepted operation, and all of the settling behind it
@@ -106,7 +106,7 @@ pub accepted_fed : (s mid new : State) (op : Op) (before after : Tally) → answ
 accepted_fed s mid new op before after e is so settled =
     let mid_is = accepted_mid s mid op e is in
     let held_is : mid.held ≡ taken Accepted s.held op = ap (λ (x : State). x.held) mid_is in
-    let fed = fed_settled s.hold s.most s.held new.held op before e (subst (λ (h : Held). Reaches h new.held) held_is so.steps) settled in
+    let fed = fed_settled s.hold s.most s.held new.held op before e (subst (λ (h : Held). SettlesTo h new.held) held_is so.steps) settled in
     record {
       held = so.others ∙ ap (λ (x : State). record x { held = new.held }) mid_is ∙ ap (λ (h : Held). record s { held = h }) fed.held;
       counted = so.counted ∙ ap (λ (h : Held). settling_counted h new.held (answer_counted Accepted before)) held_is ∙ fed.counted;
@@ -123,7 +123,7 @@ pub accepted_partly : (s mid new : State) (op : Op) (before after : Tally) → a
 accepted_partly s mid new op before after e is so stopped =
     let mid_is = accepted_mid s mid op e is in
     let held_is : mid.held ≡ taken Accepted s.held op = ap (λ (x : State). x.held) mid_is in
-    let partly = fed_partly s.hold s.most s.held new.held op before e (subst (λ (h : Held). Reaches h new.held) held_is so.steps) stopped in
+    let partly = fed_partly s.hold s.most s.held new.held op before e (subst (λ (h : Held). SettlesTo h new.held) held_is so.steps) stopped in
     let counted : after ≡ settling_counted (taken Accepted s.held op) new.held (answer_counted Accepted before) =
     so.counted ∙ ap (λ (h : Held). settling_counted h new.held (answer_counted Accepted before)) held_is in (
       ap is_kept e,

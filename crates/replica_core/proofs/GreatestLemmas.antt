@@ -13,13 +13,13 @@ use Rattle.origin_model.specs.edits.Edits.{id_at}
 use Rattle.origin_model.specs.operations.Counters.{counters, mentioned, IsGreatest}
 use Rattle.origin_model.specs.operations.History.{holder, holds, is_own}
 use Rattle.origin_model.specs.operations.Verdict.{Lawful, first_missing, names, verdict}
-use Rattle.origin_model.specs.declared.operations.role.Role.{Role}
-use Rattle.origin_model.specs.declared.operations.verdict.Verdict.TheVariants.{Ready}
+use Rattle.origin_model.specs.declared.operations.Role.{Role}
+use Rattle.origin_model.specs.declared.operations.Verdict.TheVariants.{Ready}
 use Rattle.origin_model.proofs.SharedLemmas.{cases_held, holds-other, holds-own, missing-held, own_id, when_ready}
 use Rattle.replica_core.specs.Index.{IsIndex, position_of}
 use Rattle.std.specs.FinMap.{FinMap, get}
 use Rattle.stretch_map.specs.Rules.{IsGreatestIn}
-use Rattle.stretch_map.specs.declared.position.Position.{Position}
+use Rattle.stretch_map.specs.declared.follows.Position.{Position}
 use Rattle.replica_core.proofs.IndexLemmas.{has_position, is_some-as}
 
 -- where none is missing, each name is held

@@ -15,13 +15,13 @@ use Rattle.fugue_ids.specs.declared.op.OpKey.TheVariants.{Own, Target}
 use Rattle.origin_model.specs.operations.History.{has_op, holder, holds, is_own}
 use Rattle.origin_model.specs.operations.Verdict.{id_held, verdict}
 use Rattle.origin_model.specs.order.Printed.{deletes, is_hidden}
-use Rattle.origin_model.specs.declared.operations.verdict.Verdict.TheVariants.{Ready}
+use Rattle.origin_model.specs.declared.operations.Verdict.TheVariants.{Ready}
 use Rattle.origin_model.proofs.SharedLemmas.{hidden-has, holder-other, holder-own, holds-other, holds-own, ready_absent, when_ready}
 use Rattle.section_catalogue.proofs.ConditionLemmas.{target_delete}
 use Rattle.replica_core.specs.Index.{ArePositions, IsFree, IsIndex, IsUnnoted, as_position, position_of}
 use Rattle.stretch_map.specs.Ahead.{ahead}
 use Rattle.stretch_map.specs.Rules.{IsFollowed, later}
-use Rattle.stretch_map.specs.declared.position.Position.{Position}
+use Rattle.stretch_map.specs.declared.follows.Position.{Position}
 use Rattle.stretch_map.proofs.OrderLemmas.{id_cmp_total}
 
 -- a Ready operation is not there, and neither is its identifier

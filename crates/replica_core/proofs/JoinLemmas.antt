@@ -15,7 +15,7 @@ use Rattle.replica_core.specs.Due.{due_marks}
 use Rattle.origin_model.specs.edits.Effect.{Gains, StopsPartly, with_ops}
 use Rattle.replica_core.specs.Edits.{CanJoin, typed_at}
 use Rattle.origin_model.specs.edits.State.{State, Stands}
-use Rattle.replica_core.specs.declared.edits.text_spot.TextSpot.{TextSpot}
+use Rattle.replica_core.specs.declared.edits.planning.TextSpot.{TextSpot}
 use Rattle.origin_model.proofs.edits.EditIntakeLemmas.{accepts}
 use Rattle.replica_core.proofs.StandingLemmas.{stands_by_accept}
 

@@ -4,21 +4,21 @@ use Rattle.std.specs.Prelude.{if◌then◌else◌}
 use Rattle.std.proofs.lemmas.Bool.{eq-eqb, ne_eqb, true≢false}
 use Rattle.std.proofs.lemmas.List.{append-nil}
 use Rattle.fugue_ids.specs.declared.op.Op.{Op}
-use Rattle.origin_model.specs.declared.taking.tally.Tally.{Tally}
+use Rattle.origin_model.specs.declared.taking.Tally.{Tally}
 use Rattle.origin_model.specs.operations.Verdict.{verdict}
-use Rattle.origin_model.specs.declared.operations.verdict.Verdict.{Verdict}
-use Rattle.origin_model.specs.declared.operations.verdict.Verdict.TheVariants.{Again as VerdictAgain, Conflict as VerdictConflict, Missing as VerdictMissing, Ready as VerdictReady, Stray as VerdictStray}
+use Rattle.origin_model.specs.declared.operations.Verdict.{Verdict}
+use Rattle.origin_model.specs.declared.operations.Verdict.TheVariants.{Again as VerdictAgain, Conflict as VerdictConflict, Missing as VerdictMissing, Ready as VerdictReady, Stray as VerdictStray}
 use Rattle.origin_model.specs.taking.Taking.{Again, Answer, Conflict, Held, TooMany, answer, answer_by, held_from, intake_counted, is_again, is_kept, is_taken, kept_from}
 use Rattle.origin_model.proofs.SharedLemmas.{held-append, kept-append, places-append, places-none, places-one, tally-append}
-use Rattle.replica_core.specs.Keeping.{TakesIn, TakesInKeeping, Taking}
+use Rattle.replica_core.specs.Keeping.{TakesIn, TakesInKeeping, OpsTaking}
 use Rattle.origin_model.specs.edits.State.{State}
 
 -- nothing was taken in yet
-pub takes_none : (start : Taking) → TakesIn start start []
+pub takes_none : (start : OpsTaking) → TakesIn start start []
 takes_none start = record { has_place = places-none start.replica.hold start.replica.most start.replica.held; replica = refl; counts = refl; kept = sym (append-nil start.kept) }
 
 -- one operation more
-pub takes_more : (start now next : Taking) (ops : List Op) (op : Op) → TakesIn start now ops → answer now.replica.hold now.replica.most now.replica.held op ≢ TooMany
+pub takes_more : (start now next : OpsTaking) (ops : List Op) (op : Op) → TakesIn start now ops → answer now.replica.hold now.replica.most now.replica.held op ≢ TooMany
     → TakesInKeeping now.replica next.replica op now.counts next.counts now.kept next.kept → TakesIn start next (ops ++ op ∷ [])
 takes_more start now next ops op s place t =
     let hold : ℕ = start.replica.hold in
@@ -38,7 +38,7 @@ takes_more start now next ops op s place t =
     }
 
 -- what is equal in each part is equal
-pub same_taking : (a b : Taking) → a.replica ≡ b.replica → a.counts ≡ b.counts → a.kept ≡ b.kept → a ≡ b
+pub same_taking : (a b : OpsTaking) → a.replica ≡ b.replica → a.counts ≡ b.counts → a.kept ≡ b.kept → a ≡ b
 same_taking a b p q r = λ i. record { replica = p i; counts = q i; kept = r i }
 
 -- where as many are held as may be, nothing more is kept

@@ -15,7 +15,7 @@ use Rattle.fugue_ids.specs.declared.op.Op.{Op}
 use Rattle.origin_model.proofs.SharedLemmas.{holds-cons}
 use Rattle.origin_model.specs.operations.History.{has_op, holds, is_own}
 use Rattle.origin_model.specs.operations.Verdict.{verdict, first_line, first_stray, first_missing, names, id_held}
-use Rattle.origin_model.specs.declared.operations.verdict.Verdict.TheVariants.{Ready}
+use Rattle.origin_model.specs.declared.operations.Verdict.TheVariants.{Ready}
 use Rattle.origin_model.specs.taking.Taking.{Held, answer, is_kept, Accepted, Full, Waits}
 use Rattle.origin_model.specs.operations.History.{HaveOtherIds}
 use Rattle.origin_model.specs.edits.State.{State, Stands, IsOpen}

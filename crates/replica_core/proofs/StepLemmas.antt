@@ -4,13 +4,13 @@ use Rattle.std.specs.Prelude.{Option, Some, None, position, remove, slice_get}
 use Rattle.std.proofs.lemmas.List.{nil_from_length}
 use Rattle.fugue_ids.specs.declared.op.Op.{Op}
 use Rattle.origin_model.specs.operations.Verdict.{verdict}
-use Rattle.origin_model.specs.declared.operations.verdict.Verdict.{Verdict}
-use Rattle.origin_model.specs.declared.operations.verdict.Verdict.TheVariants.{Again, Conflict, Stray, Missing, Ready}
+use Rattle.origin_model.specs.declared.operations.Verdict.{Verdict}
+use Rattle.origin_model.specs.declared.operations.Verdict.TheVariants.{Again, Conflict, Stray, Missing, Ready}
 use Rattle.origin_model.specs.taking.Taking.{Held, earliest, joined, settle_step, settled_within, settle, decided_on, IsSettled}
 use Rattle.origin_model.proofs.SharedLemmas.{earliest_found, settle-settled}
 use Rattle.std.proofs.lemmas.Option.{none-some}
 use Rattle.replica_core.proofs.EarliestLemmas.{earliest_at, earliest_settled}
-use Rattle.replica_core.specs.Settling.{Reaches, Here, Step}
+use Rattle.replica_core.specs.Settling.{SettlesTo, Here, Step}
 use Rattle.replica_core.proofs.PositionLemmas.{none_passes}
 
 -- what is left after the earliest decided operation
@@ -59,7 +59,7 @@ none_left s None is other = none_passes (decided_on s.history) s.waiting (sym is
 none_left s (Some k) is other = absurd (other k refl)
 
 -- one step more
-pub reaches_then : (s t u : Held) → Reaches s t → settle_step t ≡ Some u → Reaches s u
+pub reaches_then : (s t u : Held) → SettlesTo s t → settle_step t ≡ Some u → SettlesTo s u
 reaches_then _ _ u (Here s) e = Step s u u e (Here u)
 reaches_then _ _ u (Step s a t e r) f = Step s a u e (reaches_then a t u r f)
 
@@ -147,10 +147,10 @@ unfolding settle
 settle-step s t e = settle-at s.waiting s t refl e
 
 -- settling goes on from any state that it reaches to where it would have come
-pub settle-reaches : (s t : Held) → Reaches s t → settle t ≡ settle s
+pub settle-reaches : (s t : Held) → SettlesTo s t → settle t ≡ settle s
 settle-reaches _ _ (Here s) = refl
 settle-reaches _ _ (Step s a t e r) = settle-reaches a t r ∙ sym (settle-step s a e)
 
 -- a settled state that is reached is where settling ends
-pub reaches-settled : (s t : Held) → Reaches s t → IsSettled t → t ≡ settle s
+pub reaches-settled : (s t : Held) → SettlesTo s t → IsSettled t → t ≡ settle s
 reaches-settled s t r settled = sym (settle-settled t settled) ∙ settle-reaches s t r

@@ -4,13 +4,13 @@ use Rattle.std.specs.Prelude.{Some, position, remove, slice_get}
 use Rattle.std.proofs.lemmas.Option.{slice_get_within}
 use Rattle.fugue_ids.specs.declared.op.Op.{Op}
 use Rattle.origin_model.specs.operations.Verdict.{verdict}
-use Rattle.origin_model.specs.declared.operations.verdict.Verdict.TheVariants.{Ready}
+use Rattle.origin_model.specs.declared.operations.Verdict.TheVariants.{Ready}
 use Rattle.origin_model.specs.taking.Taking.{Held, decided_on}
 use Rattle.causal_inbox.specs.Waiting.{Waiting}
 use Rattle.origin_model.specs.edits.State.{State, Stands}
 use Rattle.replica_core.specs.Told.{JoinsNext, Settles}
-use Rattle.replica_core.specs.declared.settled.Settled.{Settled}
-use Rattle.replica_core.specs.declared.settled.Settled.TheVariants.{Accepted, DroppedStray}
+use Rattle.replica_core.specs.declared.replica.Settled.{Settled}
+use Rattle.replica_core.specs.declared.replica.Settled.TheVariants.{Accepted, DroppedStray}
 use Rattle.replica_core.proofs.EarliestLemmas.{earliest_at}
 use Rattle.replica_core.proofs.StandingLemmas.{stands_dropped, stands_joined}
 use Rattle.replica_core.proofs.StepLemmas.{step_joined, step_dropped}

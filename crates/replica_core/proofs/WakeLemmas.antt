@@ -11,7 +11,7 @@ use Rattle.fugue_ids.specs.declared.op.Op.{Op}
 use Rattle.origin_model.proofs.SharedLemmas.{holder-other, holds-cons}
 use Rattle.origin_model.specs.operations.History.{has_op, holder, is_own}
 use Rattle.origin_model.specs.operations.Verdict.{verdict, first_line, first_stray, first_missing, fits, names, id_held}
-use Rattle.origin_model.specs.declared.operations.role.Role.{Role}
+use Rattle.origin_model.specs.declared.operations.Role.{Role}
 use Rattle.origin_model.specs.taking.Taking.{is_decided, decided_on}
 use Rattle.causal_inbox.specs.Naming.{is_naming, naming}
 use Rattle.causal_inbox.specs.Positions.{positions_from}

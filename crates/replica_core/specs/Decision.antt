@@ -1,12 +1,12 @@
 -- What is decided of an operation by what waits, its verdict, and whether as many are there as may.
 use Rattle.std.specs.Prelude.{Bool, true, false, if◌then◌else◌}
-use Rattle.causal_inbox.specs.declared.found.Found.{Found}
-use Rattle.causal_inbox.specs.declared.found.Found.TheVariants.{Same, Clash, Absent}
-use Rattle.origin_model.specs.declared.operations.verdict.Verdict.{Verdict}
-use Rattle.origin_model.specs.declared.operations.verdict.Verdict.TheVariants.{Again as AgainOnHistory, Conflict as ConflictOnHistory, Stray as StrayOnHistory, Missing as MissingOnHistory, Ready as ReadyOnHistory}
+use Rattle.causal_inbox.specs.declared.index.Found.{Found}
+use Rattle.causal_inbox.specs.declared.index.Found.TheVariants.{Same, Clash, Absent}
+use Rattle.origin_model.specs.declared.operations.Verdict.{Verdict}
+use Rattle.origin_model.specs.declared.operations.Verdict.TheVariants.{Again as AgainOnHistory, Conflict as ConflictOnHistory, Stray as StrayOnHistory, Missing as MissingOnHistory, Ready as ReadyOnHistory}
 use Rattle.origin_model.specs.taking.Taking.{Answer, Again, Conflict, Stray, TooMany, Accepted, Full, Waits}
-use Rattle.replica_core.specs.declared.decision.Decision.{Decision}
-use Rattle.replica_core.specs.declared.decision.Decision.TheVariants.{Again as DecidedAgain, Conflict as DecidedConflict, Stray as DecidedStray, TooMany as DecidedTooMany, Ready as DecidedReady, Missing as DecidedMissing}
+use Rattle.replica_core.specs.declared.replica.Decision.{Decision}
+use Rattle.replica_core.specs.declared.replica.Decision.TheVariants.{Again as DecidedAgain, Conflict as DecidedConflict, Stray as DecidedStray, TooMany as DecidedTooMany, Ready as DecidedReady, Missing as DecidedMissing}
 
 -- the first line that applies
 abbrev pub decided : Found → Verdict → (at_most : Bool) → Decision

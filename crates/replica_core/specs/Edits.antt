@@ -5,17 +5,17 @@ use Rattle.fugue_ids.specs.declared.op.Op.{Op}
 use Rattle.origin_model.specs.operations.Verdict.{id_held, verdict}
 use Rattle.origin_model.specs.taking.Taking.{IsSettled}
 use Rattle.origin_model.specs.edits.Edits.{Command, typed}
-use Rattle.origin_model.specs.edits.Refusal.{held_count, made_by, refusal}
+use Rattle.origin_model.specs.edits.Refusal.{held_count, made_by, refusal_message}
 use Rattle.origin_model.specs.edits.State.{State}
 use Rattle.origin_model.specs.declared.edit_fault.EditFault.{EditFault}
 use Rattle.origin_model.specs.declared.edit_fault.EditFault.TheVariants.{NoMemory}
-use Rattle.origin_model.specs.declared.operations.verdict.Verdict.TheVariants.{Ready}
-use Rattle.replica_core.specs.declared.edits.text_spot.TextSpot.{TextSpot}
+use Rattle.origin_model.specs.declared.operations.Verdict.TheVariants.{Ready}
+use Rattle.replica_core.specs.declared.edits.planning.TextSpot.{TextSpot}
 
 -- a cause for which an edit is not made
 abbrev pub IsCauseOf : EditFault → State → Command → Type 0
-IsCauseOf NoMemory s command = (refusal s command ≡ None) × (0 < length (made_by s command))
-IsCauseOf fault s command = refusal s command ≡ Some fault
+IsCauseOf NoMemory s command = (refusal_message s command ≡ None) × (0 < length (made_by s command))
+IsCauseOf fault s command = refusal_message s command ≡ Some fault
 
 -- texts that are typed at a spot
 abbrev pub typed_at : ℕ → TextSpot → List ℕ → List Op

@@ -8,7 +8,7 @@ use Rattle.fugue_ids.specs.declared.op.OpKey.{OpKey}
 use Rattle.fugue_ids.specs.declared.op.OpKey.TheVariants.{Own, Target}
 use Rattle.origin_model.specs.operations.History.{is_own}
 use Rattle.origin_model.specs.order.Printed.{deletes}
-use Rattle.stretch_map.specs.declared.position.Position.{Position}
+use Rattle.stretch_map.specs.declared.follows.Position.{Position}
 
 -- the position of the newest operation that passes the test: how many are older
 abbrev pub position_of : (Op → Bool) → List Op → Option ℕ

@@ -1,10 +1,10 @@
 -- Taking in operations, with a copy of each that is kept.
 use Rattle.std.specs.Prelude.{◌≡◌, ◌≢◌, ◌⊎◌, ◌+◌, ◌++◌, ◌∷◌, [], List, length}
 use Rattle.fugue_ids.specs.declared.op.Op.{Op}
-use Rattle.origin_model.specs.declared.taking.tally.Tally.{Tally}
+use Rattle.origin_model.specs.declared.taking.Tally.{Tally}
 use Rattle.origin_model.specs.taking.Taking.{HasPlace, TooMany, IsSettled, answer, held_from, intake, intake_counted, kept_from, no_counts, tally_from}
-use Rattle.replica_core.specs.declared.feed_fault.FeedFault.{FeedFault}
-use Rattle.replica_core.specs.declared.feed_fault.FeedFault.TheVariants.{TooMany as FedTooMany, NoMemory}
+use Rattle.replica_core.specs.declared.keeping.FeedFault.{FeedFault}
+use Rattle.replica_core.specs.declared.keeping.FeedFault.TheVariants.{TooMany as FedTooMany, NoMemory}
 use Rattle.origin_model.specs.edits.State.{State}
 use Rattle.replica_core.specs.Told.{StandsPartly, total}
 
@@ -25,24 +25,24 @@ LeavesUnkept old new op before after NoMemory =
     × (answer old.hold old.most old.held op ≢ TooMany)
 
 -- a replica that takes operations in, what became of them so far, and copies of those that were kept
-pub record Taking : Type 0 where
+pub record OpsTaking : Type 0 where
   pub replica : State
   pub counts : Tally
   pub kept : List Op
 
 -- nothing was counted yet
-abbrev pub begun : State → List Op → Taking
-begun replica kept = record { replica = replica; counts = no_counts; kept = kept }
+abbrev pub taking_begun : State → List Op → OpsTaking
+taking_begun replica kept = record { replica = replica; counts = no_counts; kept = kept }
 
 -- the operations were taken in one after another, and each found its place
-pub record TakesIn (old new : Taking) (ops : List Op) : Type 0 where
+pub record TakesIn (old new : OpsTaking) (ops : List Op) : Type 0 where
   pub has_place : HasPlace old.replica.hold old.replica.most old.replica.held ops
   pub replica : new.replica ≡ record old.replica { held = held_from old.replica.hold old.replica.most old.replica.held ops }
   pub counts : new.counts ≡ tally_from old.replica.hold old.replica.most old.replica.held ops old.counts
   pub kept : new.kept ≡ old.kept ++ kept_from old.replica.hold old.replica.most old.replica.held ops
 
 -- memory was wanting while the operation, which stands already, settled others
-pub record TakesPartly (old new : Taking) (op : Op) : Type 0 where
+pub record TakesPartly (old new : OpsTaking) (op : Op) : Type 0 where
   pub replica : new.replica ≡ record old.replica { held = new.replica.held }
   pub stands : StandsPartly old.replica.hold old.replica.most old.replica.held new.replica.held op old.counts new.counts
   pub kept : new.kept ≡ old.kept

@@ -6,8 +6,8 @@ use Rattle.replica_core.specs.Due.{due_marks}
 use Rattle.origin_model.specs.edits.State.{State, Stands}
 
 -- a replica of this number, with these limits, accepted operations and waiting ones
-abbrev pub state_of : (number hold most : ℕ) → List Op → Waiting → State
-state_of number hold most history inbox = record { number = number; hold = hold; most = most; held = record { history = history; waiting = inbox.ops } }
+abbrev pub replica_state : (number hold most : ℕ) → List Op → Waiting → State
+replica_state number hold most history inbox = record { number = number; hold = hold; most = most; held = record { history = history; waiting = inbox.ops } }
 
 -- as many may wait as the replica tells, and the marks are those of the operations that can leave
 pub record IsKept (s : State) (inbox : Waiting) (due : List Bool) : Type 0 where

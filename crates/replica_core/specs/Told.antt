@@ -2,18 +2,18 @@
 use Rattle.std.specs.Prelude.{◌≡◌, ℕ, ◌<◌, ◌+◌, ◌^◌, ◌∷◌, Bool, true, false, ◌⊎◌, List, Option, Some, None, Result, Ok, Err, OnOk, OnErr}
 use Rattle.fugue_ids.specs.declared.op.Op.{Op}
 use Rattle.origin_model.specs.operations.Verdict.{verdict}
-use Rattle.origin_model.specs.declared.operations.verdict.Verdict.TheVariants.{Ready}
-use Rattle.origin_model.specs.declared.taking.tally.Tally.{Tally}
+use Rattle.origin_model.specs.declared.operations.Verdict.TheVariants.{Ready}
+use Rattle.origin_model.specs.declared.taking.Tally.{Tally}
 use Rattle.origin_model.specs.taking.Taking.{Held, Answer, Again, Conflict, Stray, TooMany, Accepted, Full, Waits, answer, taken, is_kept, settle_step, earliest, settle, intake, answer_counted, settling_counted, IsSettled}
-use Rattle.replica_core.specs.declared.taken.Taken.{Taken}
-use Rattle.replica_core.specs.declared.taken.Taken.TheVariants.{Accepted as TakenAccepted, Waits as TakenWaits, Again as TakenAgain}
-use Rattle.replica_core.specs.declared.settled.Settled.{Settled}
-use Rattle.replica_core.specs.declared.settled.Settled.TheVariants.{Accepted as SettledAccepted, DroppedStray}
-use Rattle.replica_core.specs.declared.deliver_fault.DeliverFault.{DeliverFault}
-use Rattle.replica_core.specs.declared.deliver_fault.DeliverFault.TheVariants.{Conflict as RefusedConflict, Stray as RefusedStray, Full as RefusedFull, TooMany as RefusedTooMany, NoMemory}
-use Rattle.replica_core.specs.declared.feed_fault.FeedFault.{FeedFault}
-use Rattle.replica_core.specs.declared.feed_fault.FeedFault.TheVariants.{TooMany as FedTooMany, NoMemory as FedNoMemory}
-use Rattle.replica_core.specs.Settling.{Reaches}
+use Rattle.replica_core.specs.declared.replica.Taken.{Taken}
+use Rattle.replica_core.specs.declared.replica.Taken.TheVariants.{Accepted as TakenAccepted, Waits as TakenWaits, Again as TakenAgain}
+use Rattle.replica_core.specs.declared.replica.Settled.{Settled}
+use Rattle.replica_core.specs.declared.replica.Settled.TheVariants.{Accepted as SettledAccepted, DroppedStray}
+use Rattle.replica_core.specs.declared.replica.DeliverFault.{DeliverFault}
+use Rattle.replica_core.specs.declared.replica.DeliverFault.TheVariants.{Conflict as RefusedConflict, Stray as RefusedStray, Full as RefusedFull, TooMany as RefusedTooMany, NoMemory}
+use Rattle.replica_core.specs.declared.keeping.FeedFault.{FeedFault}
+use Rattle.replica_core.specs.declared.keeping.FeedFault.TheVariants.{TooMany as FedTooMany, NoMemory as FedNoMemory}
+use Rattle.replica_core.specs.Settling.{SettlesTo}
 use Rattle.origin_model.specs.edits.State.{State}
 
 -- a delivery tells its answer, and a refusal hands the operation back: want of memory comes only where it would be kept
@@ -56,7 +56,7 @@ total tally = tally.accepted + tally.repeated + tally.conflict + tally.stray + t
 
 -- the operation stands and settling stopped on its way, before a waiting operation that joins: the tally counts what stands, and what is left of settling ends where all of it would have ended
 pub record StandsPartly (hold most : ℕ) (old new : Held) (op : Op) (before after : Tally) : Type 0 where
-  pub steps : Reaches (taken (answer hold most old op) old op) new
+  pub steps : SettlesTo (taken (answer hold most old op) old op) new
   pub counted : after ≡ settling_counted (taken (answer hold most old op) old op) new (answer_counted (answer hold most old op) before)
   pub stopped : JoinsNext new
   pub goes_on : settle new ≡ intake hold most old op
@@ -68,13 +68,13 @@ Leaves old new op before after FedNoMemory =
     (is_kept (answer old.hold old.most old.held op) ≡ true) × (new ≡ record old { held = new.held }) × (((new ≡ old) × (after ≡ before)) ⊎ StandsPartly old.hold old.most old.held new.held op before after)
 
 -- a step that is counted, or there was none
-abbrev pub IsCounted : (old new : Held) → (before after : Tally) → Bool → Type 0
-IsCounted old new before after true = (settle_step old ≡ Some new) × (after ≡ settling_counted old new before)
-IsCounted old new before after false = IsSettled old × (new ≡ old) × (after ≡ before)
+abbrev pub IsTallied : (old new : Held) → (before after : Tally) → Bool → Type 0
+IsTallied old new before after true = (settle_step old ≡ Some new) × (after ≡ settling_counted old new before)
+IsTallied old new before after false = IsSettled old × (new ≡ old) × (after ≡ before)
 
 -- settling has come from one state to another, and the tally counts its steps
 pub record SettlesOn (old new : State) (before after : Tally) : Type 0 where
-  pub steps : Reaches old.held new.held
+  pub steps : SettlesTo old.held new.held
   pub counted : after ≡ settling_counted old.held new.held before
   pub others : new ≡ record old { held = new.held }
 

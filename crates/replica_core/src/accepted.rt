@@ -1,16 +1,16 @@
 ghost use Rattle.std.specs.Prelude.{◌≡◌, ◌<◌, ◌∷◌, [], length, option_map, slice_get, IfErr, IfSome, OnErr, OnOk};
-ghost use Rattle.fugue_ids.specs.Outs.{WritesText};
+ghost use Rattle.fugue_ids.specs.Outs.{WritesBytes};
 ghost use Rattle.origin_model.specs.operations.History.{accepted as accepted_list, holds as holds_on};
 ghost use Rattle.origin_model.specs.operations.Counters.{counters, IsGreatest};
 ghost use Rattle.origin_model.specs.order.Printed.{manuscript as manuscript_on, shown};
 ghost use Rattle.origin_model.specs.operations.Verdict.{verdict as verdict_on, Lawful};
-ghost use Rattle.origin_model.specs.declared.operations.place.Place.TheVariants.{Catalogue as catalogue};
-ghost use Rattle.origin_model.specs.declared.operations.verdict.Verdict.TheVariants.{Ready};
+ghost use Rattle.origin_model.specs.declared.operations.Place.TheVariants.{Catalogue as catalogue};
+ghost use Rattle.origin_model.specs.declared.operations.Verdict.TheVariants.{Ready};
 ghost use Rattle.section_catalogue.specs.Contents.{place_count};
-ghost use Rattle.section_catalogue.specs.Manuscript.{Grows, IsPlaceOf, IsReadyOn, IsTextOf, StandsFor, Stays};
+ghost use Rattle.section_catalogue.specs.Manuscript.{GrowsBy, IsPlaceOf, IsReadyOn, IsTextOf, StandsFor, Stays};
 
 use crate::history::History;
-use crate::shown_section::ShownSection;
+use crate::look_ups::ShownSection;
 use fugue_ids::{ElementId, Failed, MOST_OPERATIONS, NoMemory, Op, OpKey};
 use origin_model::{Lookup, NoMemoryFor, Verdict, verdict_in};
 use outer_ports::Sink;
@@ -42,7 +42,7 @@ impl Model for Accepted {
 fn take_in(manuscript: &mut Manuscript, op: &Op) -> Result<(), NoMemory>
     requires ready { IsReadyOn manuscript.old op.now }
     requires room { place_count manuscript.old op.now < MOST_OPERATIONS }
-    ensures ok { OnOk result (Grows manuscript.old manuscript.new op.now) }
+    ensures ok { OnOk result (GrowsBy manuscript.old manuscript.new op.now) }
     ensures err { OnErr result (Stays manuscript.old manuscript.new) }
 {
     match op.key() {
@@ -137,7 +137,7 @@ impl Accepted {
 
     /// Writes the sections that are shown, each with its title and its text.
     pub fn write_manuscript<O: Sink>(&self, output: &mut O) -> Result<(), Failed>
-        ensures { WritesText (O.seen output.old) (O.seen output.new) result (manuscript_on self.now) }
+        ensures { WritesBytes (O.seen output.old) (O.seen output.new) result (manuscript_on self.now) }
     {
         self.manuscript.write_all(output)
     }

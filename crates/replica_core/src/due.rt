@@ -1,4 +1,6 @@
-ghost use Rattle.std.specs.Prelude.{◌≡◌, ◌<◌, ◌≤◌, ◌↔◌, ◌-◌, ◌++◌, ◌∷◌, [], false, if◌then◌else◌, count_by, length, position as first_position, set as with_mark, remove, min, OnOk, OnErr, IsTrue, All};
+ghost use Rattle.std.specs.Prelude.{◌≡◌, ◌<◌, ◌≤◌, ◌↔◌, ◌-◌, ◌++◌, ◌∷◌, [], false, if◌then◌else◌, count_by, length};
+ghost use Rattle.std.specs.Prelude.{position as first_position, set as with_mark, remove, min, OnOk, OnErr, IsTrue};
+ghost use Rattle.std.specs.Prelude.{All};
 ghost use Rattle.replica_core.specs.Due.{IsClearBefore};
 
 use causal_inbox::Queue;

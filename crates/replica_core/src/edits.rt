@@ -10,23 +10,22 @@ ghost use Rattle.origin_model.specs.edits.State.{Stands};
 
 mod joining;
 mod limits;
-mod origins;
 mod planning;
-mod targets;
-mod text_spot;
 
 use crate::Replica;
 use fugue_ids::Title;
 use origin_model::EditFault;
 
 impl Replica {
-    /// Puts a text into a section, before the shown element at the position or behind all of them. The answer is how many operations were made.
+    /// Puts a text into a section, before the shown element at the position or behind all of them. The answer is how
+    /// many operations were made.
     pub fn put(&mut self, section: usize, at: usize, text: &str) -> Result<u32, EditFault>
         requires { IsSettled self.old.held }
         ensures made { IfOk result (λ n. IsMade self.old self.new (Put section at (chars text.now)) n) }
         ensures lands { OnOk result (Lands self.old self.new (Put section at (chars text.now))) }
         ensures refused { RefusesExactly self.old (Put section at (chars text.now)) result }
-        ensures unmade { IfErr result (λ fault. LeavesUnmade self.old self.new (Put section at (chars text.now)) fault) }
+        ensures unmade { IfErr result
+            (λ fault. LeavesUnmade self.old self.new (Put section at (chars text.now)) fault) }
         ensures settled { IsSettled self.new.held }
         ensures stands { Stands self.new }
     {

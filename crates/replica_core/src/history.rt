@@ -2,7 +2,7 @@ ghost use Rattle.std.specs.Prelude.{◌≡◌, ◌≢◌, ◌<◌, ◌∷◌, []
 ghost use Rattle.origin_model.specs.operations.History.{accepted};
 ghost use Rattle.origin_model.specs.operations.Counters.{counters, IsGreatest};
 ghost use Rattle.origin_model.specs.operations.Verdict.{verdict, Lawful};
-ghost use Rattle.origin_model.specs.declared.operations.verdict.Verdict.TheVariants.{Ready};
+ghost use Rattle.origin_model.specs.declared.operations.Verdict.TheVariants.{Ready};
 
 use crate::index::Index;
 use fugue_ids::{ElementId, Op};
@@ -92,7 +92,8 @@ impl History {
         }
     }
 
-    /// The greatest counter of the replica among the identifiers that the operations have or name. What one names is another's own.
+    /// The greatest counter of the replica among the identifiers that the operations have or name. What one names is
+    /// another's own.
     pub fn greatest(&self, replica: u32) -> Option<u32>
         requires { 0 < replica }
         ensures { IsGreatest (counters replica self.now) result }

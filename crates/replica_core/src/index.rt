@@ -2,7 +2,7 @@ ghost use Rattle.std.specs.Prelude.{◌≡◌, ◌<◌, ◌∷◌, [], List, is_
 ghost use Rattle.std.specs.FinMap.{get};
 ghost use Rattle.fugue_ids.specs.declared.op.Op.{Op as AnyOp};
 ghost use Rattle.origin_model.specs.operations.Verdict.{verdict};
-ghost use Rattle.origin_model.specs.declared.operations.verdict.Verdict.TheVariants.{Ready};
+ghost use Rattle.origin_model.specs.declared.operations.Verdict.TheVariants.{Ready};
 ghost use Rattle.replica_core.specs.Index.{IsIndex, IsUnnoted};
 ghost use Rattle.stretch_map.specs.Rules.{IsGreatestIn};
 
@@ -55,7 +55,8 @@ impl Index {
     /// One operation more, at that position. After want of memory all is as before.
     pub fn note(&mut self, op: &Op, position: usize) -> Result<(), NoMemory>
         requires { IsUnnoted self.old.positions.values self.old.targets.values op.now }
-        ensures ok { OnOk result ((h : List AnyOp) → IsIndex self.old.positions.values self.old.targets.values h → length h ≡ position
+        ensures ok { OnOk result ((h : List AnyOp) → IsIndex self.old.positions.values self.old.targets.values h
+            → length h ≡ position
             → IsIndex self.new.positions.values self.new.targets.values (op.now ∷ h)) }
         ensures err { OnErr result (self.new ≡ self.old) }
     {
@@ -68,7 +69,8 @@ impl Index {
 
     /// The newest operation less. This wants no memory, since no other one has the position behind it.
     pub fn forget(&mut self, op: &Op)
-        ensures { (h : List AnyOp) → IsIndex self.old.positions.values self.old.targets.values (op.now ∷ h) → verdict h op.now ≡ Ready
+        ensures { (h : List AnyOp) → IsIndex self.old.positions.values self.old.targets.values (op.now ∷ h)
+            → verdict h op.now ≡ Ready
             → IsIndex self.new.positions.values self.new.targets.values h }
     {
         let _sure = match op.key() {

@@ -5,15 +5,48 @@ ghost use Rattle.origin_model.specs.edits.State.{Stands};
 ghost use Rattle.replica_core.specs.Told.{StaysBelow};
 ghost use Rattle.replica_core.specs.Keeping.{TakesInKeeping, LeavesUnkept};
 
-use crate::{FeedFault, Replica};
+use crate::Replica;
 use fugue_ids::{NoMemory, Op};
 use origin_model::Tally;
+use std::error::Error;
+use std::fmt;
+
+/// Why an operation was not taken in to the end.
+#[derive(Clone, Copy, Debug, PartialEq, Eq)]
+pub enum FeedFault {
+    /// As many are accepted or wait as may: the number. Nothing was changed.
+    TooMany(u32),
+    /// Either nothing was changed, or the operation stands and settling stopped on its way: `settle_one` goes on.
+    NoMemory,
+}
+
+impl fmt::Display for FeedFault {
+    fn fmt<W: fmt::Write>(&self, f: &mut fmt::Formatter<W>) -> fmt::Result {
+        match self {
+            FeedFault::TooMany(most) => write!(f, "{most} operations are accepted or wait"),
+            FeedFault::NoMemory => write!(f, "{}", NoMemory),
+        }
+    }
+}
+
+impl Error for FeedFault {}
+
+impl From<NoMemory> for FeedFault {
+    ghost use Rattle.std.specs.Prelude.{◌≡◌};
+    ghost use Rattle.replica_core.specs.declared.keeping.FeedFault.TheVariants.{NoMemory as NoMemoryFound};
+
+    ghost from_gives = { λ _ fault. fault ≡ NoMemoryFound };
+
+    fn from(_: NoMemory) -> FeedFault {
+        FeedFault::NoMemory
+    }
+}
 
 impl Replica {
     /// Feeds the operation, and appends a copy of it to `kept` where it was accepted or waits.
     ///
-    /// The memory for the copy is taken first, but for where as many are held as may be: then nothing more is kept, and one
-    /// that is too many is told as that and not as want of memory. After a fault `kept` is as before.
+    /// The memory for the copy is taken first, but for where as many are held as may be: then nothing more is kept, and
+    /// one that is too many is told as that and not as want of memory. After a fault `kept` is as before.
     #[tactic(auto, using(crate::proofs::KeepingLemmas::full_keeps_none, crate::proofs::KeepingLemmas::room_for_one, crate::proofs::KeepingLemmas::kept_has_place))]
     pub fn feed_keeping(
         &mut self,
@@ -24,7 +57,8 @@ impl Replica {
         requires settled { IsSettled self.old.held }
         requires counts_rise { StaysBelow tally.old }
         ensures ok { OnOk result (TakesInKeeping self.old self.new op tally.old tally.new kept.old.items kept.new.items) }
-        ensures too_many { (result ≡ Err (FeedFault.TooMany self.old.most)) ↔ (answer self.old.hold self.old.most self.old.held op ≡ TooMany) }
+        ensures too_many { (result ≡ Err (FeedFault.TooMany self.old.most))
+            ↔ (answer self.old.hold self.old.most self.old.held op ≡ TooMany) }
         ensures err { IfErr result (λ fault. LeavesUnkept self.old self.new op tally.old tally.new fault) }
         ensures unkept { OnErr result (kept.new.items ≡ kept.old.items) }
         ensures stands { Stands self.new }

@@ -1,21 +1,26 @@
 //! What a replica shows, and what it holds.
-
 ghost use Rattle.std.specs.Prelude.{◌≡◌, length, option_map, string_bytes, IfOk, IfSome};
 ghost use Rattle.std.specs.Str.{encode_utf8_all};
 ghost use Rattle.origin_model.specs.operations.History.{holds as holds_on};
 ghost use Rattle.origin_model.specs.order.Printed.{shown, text as text_on};
-ghost use Rattle.origin_model.specs.declared.operations.place.Place.TheVariants.{Catalogue as catalogue};
-ghost use Rattle.section_list.specs.Cells.{text as text_in};
+ghost use Rattle.origin_model.specs.declared.operations.Place.TheVariants.{Catalogue as catalogue};
+ghost use Rattle.section_list.specs.Cells.{section_text as text_in};
 ghost use Rattle.section_catalogue.specs.Manuscript.{IsPlaceOf, IsTextOf};
 ghost use Rattle.origin_model.specs.edits.Refusal.{section_shown};
 ghost use Rattle.origin_model.specs.edits.State.{Stands};
 
 use crate::Replica;
-use crate::shown_section::ShownSection;
 use fugue_ids::{ElementId, NoMemory};
 use outer_ports::MemSink;
 use section_list::SectionList;
 use std::alloc::Global;
+
+/// A section that is shown, with its elements.
+#[derive(Drop)]
+pub(crate) struct ShownSection<'a> {
+    pub id: ElementId,
+    pub text: &'a SectionList,
+}
 
 impl Replica {
     /// The sections, hidden ones too.
@@ -53,7 +58,8 @@ impl Replica {
 
     /// How many scalars are shown of the section with so many shown ones before it.
     pub fn text_len(&self, section: usize) -> Option<usize>
-        ensures len { result ≡ option_map (λ s. length (text_on self.now.held.history s)) (section_shown self.now section) }
+        ensures len { result ≡ option_map (λ s. length (text_on self.now.held.history s))
+            (section_shown self.now section) }
         ensures stands { Stands self.now }
     {
         match self.shown_section(section) {

@@ -1,32 +1,105 @@
-ghost use Rattle.std.specs.Prelude.{◌≡◌, ◌≢◌, ◌↔◌, ◌<◌, ◌≤◌, ◌+◌, ◌-◌, ◌^◌, ◌==◌, ◌∷◌, [], length, IsTrue, IfOk, OnOk, OnErr, IfErr, All};
-ghost use Rattle.fugue_ids.specs.Outs.{WritesText};
+ghost use Rattle.std.specs.Prelude.{◌≡◌, ◌≢◌, ◌↔◌, ◌<◌, ◌≤◌, ◌+◌, ◌-◌, ◌^◌, ◌==◌, ◌∷◌, [], length, IsTrue, IfOk, OnOk};
+ghost use Rattle.std.specs.Prelude.{OnErr, IfErr, All, List, ℕ, ◌++◌};
+ghost use Rattle.fugue_ids.specs.Outs.{WritesBytes};
 ghost use Rattle.origin_model.specs.operations.History.{accepted as accepted_list};
 ghost use Rattle.origin_model.specs.operations.Verdict.{verdict as verdict_on};
 ghost use Rattle.origin_model.specs.order.Printed.{manuscript};
-ghost use Rattle.origin_model.specs.taking.Taking.{nothing, answer, taken, TooMany, intake, intake_counted, is_kept, IsSettled};
+ghost use Rattle.origin_model.specs.taking.Taking.{nothing_held, answer, taken, TooMany, intake, intake_counted};
+ghost use Rattle.origin_model.specs.taking.Taking.{is_kept, IsSettled};
 ghost use Rattle.origin_model.specs.operations.Counters.{counters, IsGreatest};
 ghost use Rattle.origin_model.specs.edits.State.{all_ops, IsOpen, IsOutside, IsWithin, Stands};
 ghost use Rattle.origin_model.specs.edits.Refusal.{held_count};
 ghost use Rattle.origin_model.specs.edits.Effect.{with_ops};
 ghost use Rattle.replica_core.specs.Edits.{CanJoin};
-ghost use Rattle.replica_core.specs.Decision.{answer_by_decision};
+ghost use Rattle.replica_core.specs.Decision.{answer_by_decision, decided};
 ghost use Rattle.replica_core.specs.Told.{Answers, JoinsNext, Leaves, Settles, SettlesOrStops, StaysBelow, total};
 
 mod settling;
 
+use crate::FeedFault;
 use crate::accepted::Accepted;
-use crate::decision::{Decision, decide};
 use crate::due::Due;
-use crate::greatest::greater;
 use crate::waking::{open_and_wake, wait};
-use crate::{DeliverFault, FeedFault, NewFault, Settled, Taken};
-use causal_inbox::{Inbox, PushFault};
-use fugue_ids::{Failed, GREATEST_HOLD, MOST_OPERATIONS, NoMemory, Op};
+use causal_inbox::{Found, Inbox, PushFault};
+use fugue_ids::{ElementId, Failed, GREATEST_HOLD, MOST_OPERATIONS, NoMemory, Op};
 use origin_model::{Tally, Verdict};
 use outer_ports::Sink;
 use std::alloc::Global;
+use std::error::Error;
+use std::fmt;
 use std::marker::Model;
 use std::mem::replace;
+
+/// What became of an operation that was delivered and not refused.
+#[derive(Clone, Copy, Debug, PartialEq, Eq)]
+pub enum Taken {
+    Accepted,
+    /// It waits until what it rests on is accepted.
+    Waits,
+    /// An equal one is accepted or waits already.
+    Again,
+}
+
+/// Why an operation was refused: it is handed back, and nothing was changed.
+#[derive(Debug, Drop)]
+pub enum DeliverFault {
+    /// Another accepted or waiting operation has its identifier.
+    Conflict(Op),
+    /// It names this accepted element, which does not fit.
+    Stray(Op, ElementId),
+    /// It would wait, and as many wait as may: the number.
+    Full(Op, u32),
+    /// As many are accepted or wait as may: the number.
+    TooMany(Op, u32),
+    NoMemory(Op),
+}
+
+impl fmt::Display for DeliverFault {
+    fn fmt<W: fmt::Write>(&self, f: &mut fmt::Formatter<W>) -> fmt::Result {
+        match self {
+            DeliverFault::Conflict(_op) => write!(f, "another operation has the identifier"),
+            DeliverFault::Stray(_op, _id) => write!(f, "an element that is named does not fit"),
+            DeliverFault::Full(_op, hold) => write!(f, "{hold} operations wait"),
+            DeliverFault::TooMany(_op, most) => write!(f, "{most} operations are accepted or wait"),
+            DeliverFault::NoMemory(_op) => write!(f, "{}", NoMemory),
+        }
+    }
+}
+
+impl Error for DeliverFault {}
+
+/// Why there is no such replica, in the order in which the causes are looked for.
+#[derive(Clone, Copy, Debug, PartialEq, Eq)]
+pub enum NewFault {
+    ZeroReplica,
+    /// The greatest number of waiting operations is not from 1 to `GREATEST_HOLD`.
+    BadHold,
+    /// The greatest number of accepted and waiting operations is not from 1 to `MOST_OPERATIONS`.
+    BadMost,
+}
+
+impl fmt::Display for NewFault {
+    fn fmt<W: fmt::Write>(&self, f: &mut fmt::Formatter<W>) -> fmt::Result {
+        match self {
+            NewFault::ZeroReplica => write!(f, "a replica has a number from 1 on"),
+            NewFault::BadHold => write!(f, "from 1 to {GREATEST_HOLD} operations may wait"),
+            NewFault::BadMost => write!(
+                f,
+                "from 1 to {MOST_OPERATIONS} operations may be accepted or wait"
+            ),
+        }
+    }
+}
+
+impl Error for NewFault {}
+
+/// What became of the operation that left the waiting ones.
+#[derive(Debug, Drop)]
+pub enum Settled {
+    Accepted(Op),
+    /// It names an accepted element that does not fit, and was dropped.
+    DroppedStray(Op),
+}
 
 /// One author's replica of the manuscript: the accepted operations, and those that wait for others.
 #[derive(Drop)]
@@ -42,20 +115,22 @@ pub struct Replica {
 
 impl Model for Replica {
     ghost use Rattle.origin_model.specs.edits.State.{State};
-    ghost use Rattle.replica_core.specs.Replica.{IsKept, state_of};
+    ghost use Rattle.replica_core.specs.Replica.{IsKept, replica_state};
 
     ghost Value = { State };
 
-    ghost view = { λ replica. state_of replica.number replica.hold replica.most replica.accepted replica.inbox };
+    ghost view = { λ replica. replica_state replica.number replica.hold replica.most replica.accepted replica.inbox };
 
     ghost invariant = { λ replica.
-        IsKept (state_of replica.number replica.hold replica.most replica.accepted replica.inbox) replica.inbox replica.due };
+        IsKept (replica_state replica.number replica.hold replica.most replica.accepted replica.inbox) replica.inbox
+        replica.due };
 }
 
 impl Replica {
     /// A replica that holds nothing. It takes no memory.
     pub fn new(alloc: Global, replica: u32, hold: u32, most: u32) -> Result<Replica, NewFault>
-        ensures ok { IfOk result (λ made. made ≡ record { number = replica; hold = hold; most = most; held = nothing }) }
+        ensures ok { IfOk result (λ made. made
+            ≡ record { number = replica; hold = hold; most = most; held = nothing_held }) }
         ensures stands { IfOk result Stands }
         ensures zero_replica { (result ≡ Err NewFault.ZeroReplica) ↔ (replica ≡ 0) }
         ensures bad_hold { (result ≡ Err NewFault.BadHold) ↔ ((replica ≢ 0) × IsOutside GREATEST_HOLD hold) }
@@ -133,13 +208,14 @@ impl Replica {
 
     /// Writes the sections that are shown, each with its title and its text.
     pub fn write_manuscript<O: Sink>(&self, output: &mut O) -> Result<(), Failed>
-        ensures text { WritesText (O.seen output.old) (O.seen output.new) result (manuscript self.now.held.history) }
+        ensures text { WritesBytes (O.seen output.old) (O.seen output.new) result (manuscript self.now.held.history) }
         ensures stands { Stands self.now }
     {
         self.accepted.write_manuscript(output)
     }
 
-    /// The greatest counter of the replica's own number among the identifiers that accepted and waiting operations have or name.
+    /// The greatest counter of the replica's own number among the identifiers that accepted and waiting operations have
+    /// or name.
     pub fn greatest_counter(&self) -> Option<u32>
         ensures greatest { IsGreatest (counters self.now.number (all_ops self.now.held)) result }
         ensures stands { Stands self.now }
@@ -184,7 +260,8 @@ impl Replica {
     /// Takes one operation in and settles nothing. A refusal changes nothing and hands it back.
     pub fn deliver(&mut self, op: Op) -> Result<Taken, DeliverFault>
         requires { IsSettled self.old.held }
-        ensures answer { Answers self.old.hold self.old.most op (answer self.old.hold self.old.most self.old.held op) result }
+        ensures answer { Answers self.old.hold self.old.most op
+            (answer self.old.hold self.old.most self.old.held op) result }
         ensures ok { OnOk result (self.new ≡ record self.old {
           held = taken (answer self.old.hold self.old.most self.old.held op) self.old.held op;
         }) }
@@ -211,8 +288,8 @@ impl Replica {
         }
     }
 
-    /// Lets the earliest waiting operation that can be accepted or is stray leave: None is the answer where there is none.
-    /// After want of memory, which comes only before one that is accepted, all is as before.
+    /// Lets the earliest waiting operation that can be accepted or is stray leave: None is the answer where there is
+    /// none. After want of memory, which comes only before one that is accepted, all is as before.
     pub fn settle_one(&mut self) -> Result<Option<Settled>, NoMemory>
         ensures step { IfOk result (λ settled. Settles self.old.held self.new.held settled) }
         ensures others { self.new ≡ record self.old { held = self.new.held } }
@@ -292,5 +369,44 @@ impl Replica {
         let result = settling.settle(tally);
         drop(replace(self, settling.close()));
         result
+    }
+}
+
+/// The greatest of two lists together, by those of each.
+#[tactic(auto, using(crate::proofs::GreatestLemmas::greatest_both, crate::proofs::GreatestLemmas::greatest_first, crate::proofs::GreatestLemmas::greatest_none))]
+pub(crate) fn greater(first: Option<u32>, second: Option<u32>) -> Option<u32>
+    ensures { (some others : List ℕ) → IsGreatest some first → IsGreatest others second
+        → IsGreatest (some ++ others) result }
+{
+    match (first, second) {
+        (Some(first), Some(second)) => Some(first.max(second)),
+        (Some(first), None) => Some(first),
+        (None, second) => second,
+    }
+}
+
+/// What becomes of an operation, before it is looked whether one more may wait.
+#[derive(Clone, Copy)]
+pub(crate) enum Decision {
+    Again,
+    Conflict,
+    Stray(ElementId),
+    TooMany,
+    Ready,
+    Missing,
+}
+
+pub(crate) fn decide(found: Found, verdict: Verdict, at_most: bool) -> Decision
+    ensures { result ≡ decided found verdict at_most }
+{
+    match (found, verdict) {
+        (Found::Same, _) => Decision::Again,
+        (_, Verdict::Again) => Decision::Again,
+        (Found::Clash, _) => Decision::Conflict,
+        (_, Verdict::Conflict) => Decision::Conflict,
+        (_, Verdict::Stray(id)) => Decision::Stray(id),
+        _ if at_most => Decision::TooMany,
+        (_, Verdict::Ready) => Decision::Ready,
+        (_, Verdict::Missing(_)) => Decision::Missing,
     }
 }

@@ -1,7 +1,8 @@
 //! What a change of the accepted or of the waiting operations does to the marks.
 
-ghost use Rattle.std.specs.Prelude.{◌≡◌, ◌≢◌, ◌<◌, ◌≤◌, ◌↔◌, ◌++◌, ◌∷◌, [], Some, false, drop, length, remove, slice_get, AllPairs, OnOk, OnErr, IfErr};
-ghost use Rattle.causal_inbox.specs.Faults.{refused};
+ghost use Rattle.std.specs.Prelude.{◌≡◌, ◌≢◌, ◌<◌, ◌≤◌, ◌↔◌, ◌++◌, ◌∷◌, [], Some, false, drop, length, remove};
+ghost use Rattle.std.specs.Prelude.{slice_get, AllPairs, OnOk, OnErr, IfErr};
+ghost use Rattle.causal_inbox.specs.Faults.{refused_op};
 ghost use Rattle.origin_model.specs.operations.History.{HaveOtherIds};
 ghost use Rattle.replica_core.specs.Due.{due_marks, newest_id as newest_id_of};
 
@@ -60,7 +61,7 @@ pub(crate) fn wait(inbox: &mut Inbox, due: &mut Due, op: Op) -> Result<(), PushF
     ensures full { (result ≡ Err (PushFault.Full op)) ↔ (length inbox.old.ops ≡ inbox.old.hold) }
     ensures err { OnErr result (inbox.new ≡ inbox.old) }
     ensures marks { OnErr result (due.new ≡ due.old) }
-    ensures handed_back { IfErr result (λ fault. refused fault ≡ op) }
+    ensures handed_back { IfErr result (λ fault. refused_op fault ≡ op) }
     ensures within { length inbox.new.ops ≤ inbox.new.hold }
 {
     match inbox.push(op) {

@@ -6,7 +6,7 @@ use Rattle.std.proofs.lemmas.Bool.{cases_eq}
 use Rattle.std.proofs.lemmas.Option.{get_or_from_slice_get}
 use Rattle.std.specs.Prelude.{All, Some, None, Option, IfSome}
 use Rattle.fugue_ids.specs.declared.op.Op.{Op}
-use Rattle.outer_ports.specs.disk.States.{State, IsImage}
+use Rattle.outer_ports.specs.disk.States.{State, IsCrashImage}
 use Rattle.outer_ports.specs.disk.Moments.{History, LeavesOnly, LeavesOnlyTo}
 use Rattle.outer_ports.proofs.SharedLemmas.{image_at_rest, leaves_none}
 use Rattle.origin_model.specs.declared.files.TheConstants.{LONGEST_BATCH}
@@ -14,8 +14,8 @@ use Rattle.origin_model.specs.files.Image.{Content, HasImage, Holds, last_slot, 
 use Rattle.origin_model.specs.frames.Frames.{HasFrame, Whole, frames}
 use Rattle.origin_model.proofs.SharedLemmas.{Parts, ReadOnce, batch_appended, batch_of, from_parts, image_once, same_to_gate, to_parts, with_batch}
 use Rattle.op_frame.proofs.StreamLemmas.{reads_once}
-use Rattle.replica_file.specs.declared.end.End.{End}
-use Rattle.replica_file.specs.Append.{HasBatch, HoldsEither, behind_gate, next_end, with_ops}
+use Rattle.replica_file.specs.declared.load_file.End.{End}
+use Rattle.replica_file.specs.Append.{HasBatch, HoldsEither, behind_gate, next_end, content_with_ops}
 use Rattle.replica_file.specs.Ends.{EndsAt, Means}
 use Rattle.replica_file.specs.Gates.{BeforeOrWritten, IsOpened, IsWritten, OpenedTo}
 
@@ -64,7 +64,7 @@ other_gate before image content h inside front shut =
 module _ (before : List ℕ) (content : Content) (ops : List Op) (h : HasImage before (Holds content)) (have : All HasFrame ops) (short : length (frames ops) ≤ LONGEST_BATCH)
     (few : content.slots < last_slot) where
   -- the bytes of one more batch, opened
-  pub with_open_gate : (image : List ℕ) → IsWritten before content.at (behind_gate ops) image → get_or image content.at 0 ≡ 1 → HasImage image (Holds (with_ops content ops))
+  pub with_open_gate : (image : List ℕ) → IsWritten before content.at (behind_gate ops) image → get_or image content.at 0 ≡ 1 → HasImage image (Holds (content_with_ops content ops))
   with_open_gate image written open_now =
       let more : List ℕ = drop (length (behind_gate ops)) (drop (content.at + 1) image) in
       let behind : drop (content.at + 1) image ≡ behind_gate ops ++ more = sym (take-append-drop (length (behind_gate ops)) (drop (content.at + 1) image)) ∙ ap (λ (z : List ℕ). z ++ more) written.behind in
@@ -72,9 +72,9 @@ module _ (before : List ℕ) (content : Content) (ops : List Op) (h : HasImage b
       at_offset image content.at 1 written.inside open_now ∙ (λ i. written.front i ++ 1 ∷ behind i)
       ∙ ap (λ (z : List ℕ). take content.at before ++ 1 ∷ z) (append_assoc ((batch_of ops).number ++ frames ops) (0 ∷ []) more) in
       let long : length (open_slot (batch_of ops)) ≡ length (behind_gate ops) = omega (arith, length-append ((batch_of ops).number ++ frames ops) (0 ∷ [])) in
-      let same : with_batch content ops ≡ with_ops content ops =
+      let same : with_batch content ops ≡ content_with_ops content ops =
       ap (λ (n : ℕ). record { replica = content.replica; hold = content.hold; ops = content.ops ++ ops; at = content.at + n; slots = content.slots + 1 }) long in
-      subst (λ (z : List ℕ). HasImage z (Holds (with_ops content ops))) (sym bytes)
+      subst (λ (z : List ℕ). HasImage z (Holds (content_with_ops content ops))) (sym bytes)
       (subst (λ (c : Content). HasImage (take content.at before ++ (open_slot (batch_of ops) ++ 0 ∷ more)) (Holds c)) same
       (batch_appended before content ops 0 more h have short few (λ e. omega (arith, e))))
 
@@ -100,7 +100,7 @@ leaves_either h k content ops means have short few inside leaves = record {
 has_batch : (before : List ℕ) (s : State) (content : Content) (end : End) (ops : List Op) → HasImage before (Holds content) → content.at ≡ end.at → content.slots ≡ end.slots → All HasFrame ops
     → length (frames ops) ≤ LONGEST_BATCH → content.slots < last_slot → IsOpened before content.at (behind_gate ops) s → HasBatch content end ops s
 has_batch before s content end ops h at slots have short few is =
-    let means : Means s (with_ops content ops) =
+    let means : Means s (content_with_ops content ops) =
     with_open_gate before content ops h have short few s.seen is.written (get_or_from_slice_get s.seen content.at 1 0 is.opened) in
     let reach : content.at + 1 + length (behind_gate ops) ≤ length s.seen =
     omega (arith, ap length is.written.behind, length-take (length (behind_gate ops)) (drop (content.at + 1) s.seen), length-drop (content.at + 1) s.seen, is.written.inside) in
@@ -108,13 +108,13 @@ has_batch before s content end ops h at slots have short few is =
       means = means;
       settled = is.settled;
       ends = record {
-        content = with_ops content ops;
+        content = content_with_ops content ops;
         means = means;
         at = ap (λ (n : ℕ). n + length (behind_gate ops)) at;
         slots = ap (λ (n : ℕ). n + 1) slots;
         agrees = record {
           inside = omega (arith, reach, at);
-          each = λ image left. ap (take ((next_end end ops).at + 1)) (image_at_rest s.seen image (subst (λ (t : State). IsImage t image) is.settled left));
+          each = λ image left. ap (take ((next_end end ops).at + 1)) (image_at_rest s.seen image (subst (λ (t : State). IsCrashImage t image) is.settled left));
         };
       };
     }

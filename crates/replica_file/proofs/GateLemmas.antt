@@ -5,19 +5,19 @@ use Rattle.std.proofs.lemmas.List.Elements.{All-nil}
 use Rattle.std.proofs.lemmas.Bool.{cases_lt}
 use Rattle.std.proofs.lemmas.Option.{slice_get-get_or}
 use Rattle.std.specs.Prelude.{Some}
-use Rattle.outer_ports.specs.disk.States.{State, IsImage, at_rest, overwritten, torn, SameOutside}
+use Rattle.outer_ports.specs.disk.States.{State, IsCrashImage, at_rest, overwritten, torn, SameOutside}
 use Rattle.outer_ports.proofs.SharedLemmas.{free_more, same_byte, same_outside}
 use Rattle.replica_file.specs.Ends.{Agrees}
 use Rattle.replica_file.specs.Gates.{IsWritten, IsOpened}
 
-base_image : (s : State) → IsImage s s.base
+base_image : (s : State) → IsCrashImage s s.base
 base_image s = record { no_shorter = omega arith; no_longer = omega arith; same = λ i below free. refl }
 
 base_long : (s : State) (n : ℕ) → Agrees s n → n ≤ length s.base
 base_long s n agrees = omega (arith, ap length (agrees.each s.base (base_image s)), length-take n s.base, length-take n s.seen, agrees.inside)
 
 -- a write behind what agrees leaves that
-pub agrees_before : (s : State) (n at k : ℕ) (seen image : List ℕ) → Agrees s n → n ≤ at → IsImage (torn at k seen s) image → take n image ≡ take n s.seen
+pub agrees_before : (s : State) (n at k : ℕ) (seen image : List ℕ) → Agrees s n → n ≤ at → IsCrashImage (torn at k seen s) image → take n image ≡ take n s.seen
 agrees_before s n at k seen image agrees le is =
     let based : n ≤ length s.base = base_long s n agrees in
     let long : n ≤ length image = omega (arith, based, is.no_shorter) in
@@ -89,7 +89,7 @@ module _ (before : List ℕ) (gate : ℕ) (bytes : List ℕ) (inside : gate + 1 
   }
 
   -- while the gate is opened
-  pub while_opened : (seen image : List ℕ) → IsImage (torn gate 1 seen (at_rest behind)) image → IsWritten before gate bytes image
+  pub while_opened : (seen image : List ℕ) → IsCrashImage (torn gate 1 seen (at_rest behind)) image → IsWritten before gate bytes image
   while_opened seen image is =
       but_for_gate image is.no_shorter (λ i below outside. is.same i below (free_more [] (gate, 1) i (All-nil (λ (range : ℕ × ℕ). (i < range.0) ⊎ (range.0 + range.1 ≤ i))) outside))
 

@@ -1,8 +1,8 @@
 -- What a read gives stays one of the images while bytes are written behind a gate.
 use Rattle.std.proofs.Common.{◌≡◌, inl, inr, ℕ, ◌+◌, ◌≤◌, List, [], ◌∷◌, length, subst, sym, ◌∙◌, ap, arith}
 use Rattle.std.specs.Prelude.{Option, Some, None, IfSome, Result, Ok, Err, OnOk, OnErr}
-use Rattle.fugue_ids.specs.declared.failed.Failed.{Failed}
-use Rattle.outer_ports.specs.disk.States.{IsHonest, settled, wrote}
+use Rattle.fugue_ids.specs.declared.out.Failed.{Failed}
+use Rattle.outer_ports.specs.disk.States.{IsHonest, durable, wrote}
 use Rattle.outer_ports.specs.disk.Moments.{History, MayHaveWritten, after}
 use Rattle.outer_ports.proofs.SharedLemmas.{honest_at_rest, honest_torn, honest_wrote, same_outside}
 use Rattle.replica_file.specs.Ends.{Agrees}
@@ -12,7 +12,7 @@ abbrev pub AreHonest : Option History → Type 0
 AreHonest past = IfSome past (λ h. IsHonest h.last)
 
 -- a sync leaves a disk honest
-pub settled_honest : (p q : Option History) → q ≡ after settled p → AreHonest q
+pub settled_honest : (p q : Option History) → q ≡ after durable p → AreHonest q
 settled_honest None q is = subst AreHonest (sym is) tt
 settled_honest (Some h) q is = subst AreHonest (sym is) (honest_at_rest h.last.seen)
 
@@ -31,10 +31,10 @@ module _ (gate : ℕ) (bytes : List ℕ) (old p : Option History) (agrees : IfSo
   behind_gate (Some h) a = a.inside
 
   -- at the gate of what was written behind it and settled
-  at_gate : (past q r : Option History) → IfSome past (λ h. gate + 1 ≤ length h.last.seen) → q ≡ after (wrote (gate + 1) bytes) past → r ≡ after settled q → IfSome r (λ h. gate ≤ length h.last.seen)
-  at_gate None q r inside wrote_so settled_so = subst (λ o. IfSome o (λ h. gate ≤ length h.last.seen)) (sym (settled_so ∙ ap (after settled) wrote_so)) tt
+  at_gate : (past q r : Option History) → IfSome past (λ h. gate + 1 ≤ length h.last.seen) → q ≡ after (wrote (gate + 1) bytes) past → r ≡ after durable q → IfSome r (λ h. gate ≤ length h.last.seen)
+  at_gate None q r inside wrote_so settled_so = subst (λ o. IfSome o (λ h. gate ≤ length h.last.seen)) (sym (settled_so ∙ ap (after durable) wrote_so)) tt
   at_gate (Some h) q r inside wrote_so settled_so =
-      subst (λ o. IfSome o (λ h. gate ≤ length h.last.seen)) (sym (settled_so ∙ ap (after settled) wrote_so))
+      subst (λ o. IfSome o (λ h. gate ≤ length h.last.seen)) (sym (settled_so ∙ ap (after durable) wrote_so))
       (let same = same_outside (gate + 1) bytes h.last.seen inside in omega (arith, same.no_shorter, inside))
 
   pub honest_at_write : MayHaveWritten (gate + 1) (length bytes) old p → AreHonest old → AreHonest p
@@ -44,11 +44,11 @@ module _ (gate : ℕ) (bytes : List ℕ) (old p : Option History) (agrees : IfSo
     pub honest_at_sync : (q : Option History) → q ≡ p → AreHonest old → AreHonest q
     honest_at_sync q stays honest = subst AreHonest (sym stays) (wrote_honest (gate + 1) bytes old p (behind_gate old agrees) wrote_so honest)
 
-    module _ (q : Option History) (settled_so : q ≡ after settled p) where
+    module _ (q : Option History) (settled_so : q ≡ after durable p) where
       pub honest_at_open : (r : Option History) → MayHaveWritten gate 1 q r → AreHonest old → AreHonest r
       honest_at_open r may honest = may_honest gate 1 q r may (settled_honest p q settled_so)
 
-      pub honest_at_end : (r t : Option History) (result : Result (Unit {0}) Failed) → r ≡ after (wrote gate (1 ∷ [])) q → OnOk result (t ≡ after settled r) → OnErr result (t ≡ r) → AreHonest old → AreHonest t
+      pub honest_at_end : (r t : Option History) (result : Result (Unit {0}) Failed) → r ≡ after (wrote gate (1 ∷ [])) q → OnOk result (t ≡ after durable r) → OnErr result (t ≡ r) → AreHonest old → AreHonest t
       honest_at_end r t (Ok x) opened_so ends stays honest = settled_honest r t ends
       honest_at_end r t (Err e) opened_so ends stays honest =
           subst AreHonest (sym stays) (wrote_honest gate (1 ∷ []) q r (at_gate old p q (behind_gate old agrees) wrote_so settled_so) opened_so (settled_honest p q settled_so))

@@ -7,17 +7,17 @@ use Rattle.std.proofs.lemmas.List.Elements.{Contains-append_left, Contains-appen
 use Rattle.fugue_ids.specs.declared.op.Op.{Op}
 use Rattle.fugue_ids.specs.declared.limits.TheConstants.{MOST_OPERATIONS}
 use Rattle.origin_model.specs.operations.Verdict.{verdict}
-use Rattle.origin_model.specs.declared.operations.verdict.Verdict.{Verdict}
-use Rattle.origin_model.specs.declared.operations.verdict.Verdict.TheVariants as verdict_is
-use Rattle.origin_model.specs.taking.Taking.{Again, Conflict, Held, Answer, TooMany as AnswersTooMany, answer, answer_by, answers_from, held, intake, is_again, is_kept, is_taken, nothing, taken, settle}
+use Rattle.origin_model.specs.declared.operations.Verdict.{Verdict}
+use Rattle.origin_model.specs.declared.operations.Verdict.TheVariants as verdict_is
+use Rattle.origin_model.specs.taking.Taking.{Again, Conflict, Held, Answer, TooMany as AnswersTooMany, answer, answer_by, answers_from, held, intake, is_again, is_kept, is_taken, nothing_held, taken, settle}
 use Rattle.origin_model.proofs.SharedLemmas.{answers-append, held-append, places-append, places-one}
 use Rattle.origin_model.specs.edits.State.{State, Stands}
 use Rattle.replica_core.specs.Told.{Leaves}
-use Rattle.replica_core.specs.declared.feed_fault.FeedFault.{FeedFault}
-use Rattle.replica_core.specs.declared.feed_fault.FeedFault.TheVariants.{TooMany as FedTooMany, NoMemory as FedNoMemory}
-use Rattle.origin_model.specs.declared.taking.tally.Tally.{Tally}
+use Rattle.replica_core.specs.declared.keeping.FeedFault.{FeedFault}
+use Rattle.replica_core.specs.declared.keeping.FeedFault.TheVariants.{TooMany as FedTooMany, NoMemory as FedNoMemory}
+use Rattle.origin_model.specs.declared.taking.Tally.{Tally}
 use Rattle.replica_file.specs.Load.{AreTooMany, FindPlace}
-use Rattle.replica_file.specs.Loading.{AreIn, Fed, Feeds, IsSame}
+use Rattle.replica_file.specs.Loading.{AreIn, Fed, Feeds, IsSameButHeld}
 
 -- the answer by the two tests that come first
 abbrev by_tests : (again known at_most at_hold : Bool) → Verdict → Answer
@@ -62,18 +62,18 @@ are_more : (r : State) (op : Op) (ops : List Op) → Stands r → answer r.hold 
 are_more r op ops stands other are =
     let same : answer r.hold r.most r.held op ≡ answer r.hold MOST_OPERATIONS r.held op = same_answer r.hold r.most r.held op stands.few stands.most_within.1 other in
     record {
-      place = places-append r.hold r.most nothing ops (op ∷ []) are.place
+      place = places-append r.hold r.most nothing_held ops (op ∷ []) are.place
           (places-one r.hold r.most (held r.hold r.most ops) op (λ many. other (ap (λ (s : Held). answer r.hold r.most s op) are.held_is ∙ many)));
-      held_is = ap (λ (s : Held). intake r.hold r.most s op) are.held_is ∙ held-append r.hold r.most nothing ops (op ∷ []);
+      held_is = ap (λ (s : Held). intake r.hold r.most s op) are.held_is ∙ held-append r.hold r.most nothing_held ops (op ∷ []);
       same = ap (λ (a : Answer). settle (taken a r.held op)) same ∙ ap (λ (s : Held). intake r.hold MOST_OPERATIONS s op) are.same
-          ∙ held-append r.hold MOST_OPERATIONS nothing ops (op ∷ []);
+          ∙ held-append r.hold MOST_OPERATIONS nothing_held ops (op ∷ []);
     }
 
 -- one too many stays one too many
 pub still_many : (hold most : ℕ) (ops more : List Op) → AreTooMany hold most ops → AreTooMany hold most (ops ++ more)
 still_many hold most ops more many =
-    subst (λ (l : List Answer). Contains l AnswersTooMany) (sym (answers-append hold most nothing ops more))
-    (Contains-append_left (answers_from hold most nothing ops) (answers_from hold most (held hold most ops) more) AnswersTooMany many)
+    subst (λ (l : List Answer). Contains l AnswersTooMany) (sym (answers-append hold most nothing_held ops more))
+    (Contains-append_left (answers_from hold most nothing_held ops) (answers_from hold most (held hold most ops) more) AnswersTooMany many)
 
 -- none of those that find their place is one too many
 pub never_both : (hold most : ℕ) (ops : List Op) → FindPlace hold most ops → AreTooMany hold most ops → ⊥
@@ -81,8 +81,8 @@ never_both hold most ops place many = place many.0 AnswersTooMany many.1 many.2
 
 are_many : (r : State) (op : Op) (ops : List Op) → answer r.hold r.most r.held op ≡ AnswersTooMany → AreIn r ops → AreTooMany r.hold r.most (ops ++ op ∷ [])
 are_many r op ops many are =
-    subst (λ (l : List Answer). Contains l AnswersTooMany) (sym (answers-append r.hold r.most nothing ops (op ∷ [])))
-    (Contains-append_right (answers_from r.hold r.most nothing ops) (answer r.hold r.most (held r.hold r.most ops) op ∷ []) AnswersTooMany
+    subst (λ (l : List Answer). Contains l AnswersTooMany) (sym (answers-append r.hold r.most nothing_held ops (op ∷ [])))
+    (Contains-append_right (answers_from r.hold r.most nothing_held ops) (answer r.hold r.most (held r.hold r.most ops) op ∷ []) AnswersTooMany
     (0, omega arith, ap (λ (s : Held). answer r.hold r.most s op) (sym are.held_is) ∙ many))
 
 pub feeds_dropped : (was : Bool) (r : State) (op : Op) → was ≡ false → Feeds was r was r (op ∷ [])
@@ -121,5 +121,5 @@ pub wanted_kept : (old new : State) (op : Op) (before after : Tally) (fault : Fe
     → is_kept (answer old.hold old.most old.held op) ≡ true
 wanted_kept old new op before after fault is leaves = (subst (Leaves old new op before after) is leaves).0
 
-pub same_then : (a b c : State) → IsSame a b → IsSame b c → IsSame a c
+pub same_then : (a b c : State) → IsSameButHeld a b → IsSameButHeld b c → IsSameButHeld a c
 same_then a b c one two = cc (one, two)

@@ -11,10 +11,10 @@ use Rattle.origin_model.specs.files.Image.{BadBatch, Batch, Content, Holds, IsBa
 use Rattle.origin_model.specs.frames.Frames.{Reads, Whole}
 use Rattle.origin_model.proofs.SharedLemmas.{Bad, Closed, Ends, image_once, no_open_slot, same_batch, slots_not_empty}
 use Rattle.origin_model.specs.edits.State.{State}
-use Rattle.replica_file.specs.declared.end.End.{End}
-use Rattle.replica_file.specs.declared.load_fault.LoadFault.{LoadFault}
-use Rattle.replica_file.specs.declared.load_fault.LoadFault.TheVariants as fault_is
-use Rattle.replica_file.specs.Load.{AnswerIs, AnswersBy, AreTooMany, FindPlace, FindsBadBatch, FindsTooMany, IsByBytes, Loads, hold_of}
+use Rattle.replica_file.specs.declared.load_file.End.{End}
+use Rattle.replica_file.specs.declared.load_file.LoadFault.{LoadFault}
+use Rattle.replica_file.specs.declared.load_file.LoadFault.TheVariants as fault_is
+use Rattle.replica_file.specs.Load.{LoadAnswerIs, LoadAnswersBy, AreTooMany, FindPlace, FindsBadBatch, FindsTooMany, IsLoadByBytes, Loads, hold_of}
 use Rattle.replica_file.proofs.AppendLemmas.{read_once, same_content}
 use Rattle.replica_file.proofs.LoadingLemmas.{never_both, still_many}
 
@@ -51,7 +51,7 @@ bad_or_many most bytes slot b many =
     no_place bytes most (length b.ends.batches) many b.ends.batches (1 ∷ b.ends.rest) b.ends.found refl (Bad b.ends.rest refl (subst (λ (n : ℕ). IsNoBatch n b.ends.rest) b.ends.number b.ends.bad)) b.place
 
 -- two answers that the bytes decide are one
-pub answers_once : (most : ℕ) (bytes : List ℕ) (a b : Result (State × End) LoadFault) → IsByBytes a → IsByBytes b → AnswerIs most bytes a → AnswerIs most bytes b → a ≡ b
+pub answers_once : (most : ℕ) (bytes : List ℕ) (a b : Result (State × End) LoadFault) → IsLoadByBytes a → IsLoadByBytes b → LoadAnswerIs most bytes a → LoadAnswerIs most bytes b → a ≡ b
 answers_once most bytes (Ok x) (Ok y) p q l k =
     let same = same_content bytes l.content k.content l.holds k.holds in
     let held = l.replica_is ∙ ap (λ (c : Content). record { number = c.replica; hold = c.hold; most = most; held = state c }) same ∙ sym k.replica_is in
@@ -89,14 +89,14 @@ answers_once most bytes (Err fault_is.DiskFault) b p q l k = absurd p
 answers_once most bytes (Err fault_is.NoMemory) b p q l k = absurd p
 
 -- an answer with its cause comes exactly where the bytes say so
-exact : (most : ℕ) (bytes : List ℕ) (result : Result (State × End) LoadFault) → AnswerIs most bytes result → AnswersBy result most bytes
+exact : (most : ℕ) (bytes : List ℕ) (result : Result (State × End) LoadFault) → LoadAnswerIs most bytes result → LoadAnswersBy result most bytes
 exact most bytes result cause by answer other = (
-  λ same. subst (AnswerIs most bytes) same cause,
+  λ same. subst (LoadAnswerIs most bytes) same cause,
   λ is. answers_once most bytes result answer by other cause is,
 )
 
 pub answers_exactly : (most : ℕ) (o : Option History) (result : Result (State × End) LoadFault) → IfOk result (λ loaded. IfSome o (λ h. Loads most h.last.seen loaded.0 loaded.1))
-    → IfErr result (λ fault. IfSome o (λ h. AnswerIs most h.last.seen (Err fault))) → IfSome o (λ h. AnswersBy result most h.last.seen)
+    → IfErr result (λ fault. IfSome o (λ h. LoadAnswerIs most h.last.seen (Err fault))) → IfSome o (λ h. LoadAnswersBy result most h.last.seen)
 answers_exactly most None result ok err = tt
 answers_exactly most (Some h) (Ok x) ok err = exact most h.last.seen (Ok x) ok
 answers_exactly most (Some h) (Err e) ok err = exact most h.last.seen (Err e) err

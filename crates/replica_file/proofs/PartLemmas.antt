@@ -11,7 +11,7 @@ use Rattle.origin_model.specs.frames.Frames.{CutShort, BadFrame, Framed, IsBad, 
 use Rattle.op_frame.proofs.FrameLemmas.{bad_goes_on}
 use Rattle.op_frame.proofs.StreamLemmas.{reads_once}
 use Rattle.origin_model.specs.edits.State.{State}
-use Rattle.replica_file.specs.Loading.{IsSame}
+use Rattle.replica_file.specs.Loading.{IsSameButHeld}
 use Rattle.replica_file.specs.Pieces.{AreBad, Lacks, TakesPiece}
 use Rattle.replica_file.specs.Slots.{EndsOff, HasNoFrames, TakesFrames, TakesSome}
 use Rattle.replica_file.specs.Wanting.{ArePieces, AreWhole, BeginsPiece, ForOperation, ForTitle, IsWanting, part_of}
@@ -192,7 +192,7 @@ module _ (bytes : List ℕ) (at len taken : ℕ) (within : taken ≤ len) where
       })
 
   -- memory was wanting in what is left
-  pub frames_lacks : (a b : Bool) (r s : State) → IsSame r s → TakesSome bytes at len taken a r b s → Pieces bytes at len taken
+  pub frames_lacks : (a b : Bool) (r s : State) → IsSameButHeld r s → TakesSome bytes at len taken a r b s → Pieces bytes at len taken
       → Lacks (λ rest. rest ≡ part_of bytes (at + taken) (len - taken)) (part_of bytes (at + taken) (len - taken)) b s → Lacks (BeginsPiece bytes at len) (part_of bytes at len) a r
   frames_lacks a b r s same one pieces lacks =
       record {

@@ -10,11 +10,11 @@ use Rattle.fugue_ids.specs.declared.op.Op.{Op}
 use Rattle.outer_ports.specs.Sources.{SourceView}
 use Rattle.origin_model.specs.frames.Frames.{Framed, HasFrame, IsFrame, IsPartial, Reads, Starts, Whole, frame}
 use Rattle.origin_model.specs.taking.Taking.{answer, is_kept}
-use Rattle.op_frame.specs.Readers.{AnswersBy, Chains, Nexts, Reading, StartsWithin, to_give}
+use Rattle.op_frame.specs.Readers.{AnswersBy, Chains, Nexts, FrameReading, StartsWithin, to_give}
 use Rattle.op_frame.specs.declared.fault.FrameFault.TheVariants as frame_fault
 use Rattle.origin_model.specs.edits.State.{State}
-use Rattle.replica_file.specs.Loading.{Feeds, IsSame}
-use Rattle.replica_file.specs.Pieces.{AreBad, IsReading, Lacks, Steps, TakesPiece}
+use Rattle.replica_file.specs.Loading.{Feeds, IsSameButHeld}
+use Rattle.replica_file.specs.Pieces.{AreBad, IsReading, Lacks, PieceSteps, TakesPiece}
 use Rattle.replica_file.specs.Wanting.{AreWhole, ForOperation, ForTitle, IsWanting}
 use Rattle.replica_file.proofs.LoadingLemmas.{feeds_none}
 use Rattle.replica_file.specs.declared.stop.Stop.{Stop}
@@ -31,7 +31,7 @@ one_frame op bytes rest has split =
       split = split ∙ ap (λ (l : List ℕ). l ++ rest) (sym (append-nil (frame op)));
     }
 
-module _ (bytes : List ℕ) (ops : List Op) (old new : Reading) (before after : SourceView) (reading : IsReading bytes ops old before) where
+module _ (bytes : List ℕ) (ops : List Op) (old new : FrameReading) (before after : SourceView) (reading : IsReading bytes ops old before) where
   -- the piece is over
   pub over : Chains old new before after (Ok None) → (len : ℕ) → len ≡ length bytes → AreWhole bytes len ops
   over chains len is =
@@ -138,21 +138,21 @@ lacks_none Begins bytes was old begins = record {
 }
 
 -- a step that answers so
-pub steps_wanting : (bytes : List ℕ) (ops : List Op) (was now : Bool) (old new : State) (reader : Reading) (source : SourceView) (result : Result (Option ℕ) Stop) (stop : Stop) → result ≡ Err stop
-    → stop ≡ stop_is.NoMemory → ((rest : List ℕ) × Starts bytes ops rest × IsWanting old.hold old.most old.held (was ≡ true) rest) → Steps bytes ops was old now new reader source result
+pub steps_wanting : (bytes : List ℕ) (ops : List Op) (was now : Bool) (old new : State) (reader : FrameReading) (source : SourceView) (result : Result (Option ℕ) Stop) (stop : Stop) → result ≡ Err stop
+    → stop ≡ stop_is.NoMemory → ((rest : List ℕ) × Starts bytes ops rest × IsWanting old.hold old.most old.held (was ≡ true) rest) → PieceSteps bytes ops was old now new reader source result
 steps_wanting bytes ops was now old new reader source result stop is same wanting =
-    subst (Steps bytes ops was old now new reader source) (sym (is ∙ ap (λ (s : Stop). Err s) same)) wanting
+    subst (PieceSteps bytes ops was old now new reader source) (sym (is ∙ ap (λ (s : Stop). Err s) same)) wanting
 
 -- a step for which memory was wanting
-pub steps_lacks : (bytes : List ℕ) (ops : List Op) (first was now : Bool) (begin old new : State) (reader : Reading) (source : SourceView) (stop : Stop)
-    → Feeds first begin was old ops → IsSame begin old → Steps bytes ops was old now new reader source (Err stop) → stop ≡ stop_is.NoMemory → Lacks (λ rest. rest ≡ bytes) bytes first begin
+pub steps_lacks : (bytes : List ℕ) (ops : List Op) (first was now : Bool) (begin old new : State) (reader : FrameReading) (source : SourceView) (stop : Stop)
+    → Feeds first begin was old ops → IsSameButHeld begin old → PieceSteps bytes ops was old now new reader source (Err stop) → stop ≡ stop_is.NoMemory → Lacks (λ rest. rest ≡ bytes) bytes first begin
 steps_lacks bytes ops first was now begin old new reader source stop feeds same steps is =
-    let lacks = subst (λ s. Steps bytes ops was old now new reader source (Err s)) is steps in
+    let lacks = subst (λ s. PieceSteps bytes ops was old now new reader source (Err s)) is steps in
     record { ops = ops; rest = lacks.0; starts = lacks.1; now = was; new = old; feeds = feeds; same = same; wants = inr lacks.2 }
 
 -- a step that comes to bad bytes
-pub steps_bad : (bytes : List ℕ) (ops : List Op) (was now : Bool) (old new : State) (reader : Reading) (source : SourceView) (stop : Stop) → Steps bytes ops was old now new reader source (Err stop) → stop ≡ stop_is.Bad → AreBad bytes
-steps_bad bytes ops was now old new reader source stop steps is = subst (λ s. Steps bytes ops was old now new reader source (Err s)) is steps
+pub steps_bad : (bytes : List ℕ) (ops : List Op) (was now : Bool) (old new : State) (reader : FrameReading) (source : SourceView) (stop : Stop) → PieceSteps bytes ops was old now new reader source (Err stop) → stop ≡ stop_is.Bad → AreBad bytes
+steps_bad bytes ops was now old new reader source stop steps is = subst (λ s. PieceSteps bytes ops was old now new reader source (Err s)) is steps
 
 -- the last step
 pub takes_piece : (bytes : List ℕ) (ops : List Op) (first was now : Bool) (begin old new : State) (len : ℕ) → Feeds first begin was old ops

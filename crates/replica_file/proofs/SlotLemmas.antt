@@ -11,7 +11,7 @@ use Rattle.origin_model.specs.edits.State.{State}
 use Rattle.replica_file.specs.Pieces.{Lacks}
 use Rattle.replica_file.specs.Slots.{HasNoFrames, IsGate, LacksInSlot, TakesFrames, TakesSlot}
 use Rattle.replica_file.specs.Wanting.{BeginsPiece, part_of}
-use Rattle.replica_file.specs.declared.gate_place.Gate.{Gate}
+use Rattle.replica_file.specs.declared.gate.Gate.{Gate}
 use Rattle.replica_file.proofs.PartLemmas.{never_whole}
 use Rattle.replica_file.proofs.ReadingLemmas.{drop_twice}
 

@@ -7,13 +7,13 @@ use Rattle.std.proofs.lemmas.List.Elements.{All-append, All-cons, All-nil}
 use Rattle.std.proofs.lemmas.Option.{get_or_from_slice_get, slice_get_within}
 use Rattle.fugue_ids.specs.declared.op.Op.{Op}
 use Rattle.origin_model.specs.files.Image.{Batch, IsBatch, IsNoBatch, OpenSlots, batch_ops, content_of, has_header, header_of, last_slot, number_at, open_slot, open_slots, slots_of}
-use Rattle.origin_model.specs.taking.Taking.{Answer, Held, TooMany as AnswersTooMany, answer, held, is_kept, nothing}
+use Rattle.origin_model.specs.taking.Taking.{Answer, Held, TooMany as AnswersTooMany, answer, held, is_kept, nothing_held}
 use Rattle.fugue_ids.specs.declared.limits.TheConstants.{MOST_OPERATIONS}
 use Rattle.origin_model.specs.edits.State.{State}
-use Rattle.replica_file.specs.declared.end.End.{End}
-use Rattle.replica_file.specs.declared.gate_place.Gate.{Gate}
+use Rattle.replica_file.specs.declared.load_file.End.{End}
+use Rattle.replica_file.specs.declared.gate.Gate.{Gate}
 use Rattle.replica_file.specs.Load.{AreTooMany, FindPlace, FindsBadBatch, FindsTooMany, LacksMemory, Loads, hold_of}
-use Rattle.replica_file.specs.Loading.{AreIn, Fed, IsSame}
+use Rattle.replica_file.specs.Loading.{AreIn, Fed, IsSameButHeld}
 use Rattle.replica_file.specs.Slots.{IsGate, LacksInSlot, TakesSlot, Walked, WalksOut}
 use Rattle.replica_file.specs.Wanting.{BeginsPiece, ForOperation, ForTitle, IsWanting}
 
@@ -86,7 +86,7 @@ module _ (bytes : List ℕ) (slots : ℕ) (gate : Gate) (r : State) (w : Walked 
         wants = by_wants slot.lacks.wants;
       }
 
-    module _ (next : Gate) (was now : Bool) (s : State) (was_so : was ≡ true) (few : slots < last_slot) (same : IsSame r s) (took : TakesSlot bytes gate.at next was r now s) where
+    module _ (next : Gate) (was now : Bool) (s : State) (was_so : was ≡ true) (few : slots < last_slot) (same : IsSameButHeld r s) (took : TakesSlot bytes gate.at next was r now s) where
       abbrev all : List Batch
       all = w.batches ++ took.batch ∷ []
 
@@ -169,7 +169,7 @@ walk_out bytes most end r limit out =
 
 -- the walk begins with no slot
 pub walk_begin : (bytes : List ℕ) (first : Gate) (r : State) → has_header bytes ≡ true → first.at ≡ 13 → IsGate bytes first → r.number ≡ number_at 5 (header_of bytes) → r.hold ≡ number_at 9 (header_of bytes)
-    → r.held ≡ nothing → Walked bytes 0 first r
+    → r.held ≡ nothing_held → Walked bytes 0 first r
 walk_begin bytes first r header at gate number hold none = record {
   header = header;
   batches = [];

@@ -6,7 +6,7 @@ use Rattle.outer_ports.specs.disk.States.{State, at_rest}
 use Rattle.origin_model.specs.declared.files.TheConstants.{LONGEST_BATCH}
 use Rattle.origin_model.specs.files.Image.{Content, HasImage, Holds, last_slot}
 use Rattle.origin_model.specs.frames.Frames.{frames}
-use Rattle.replica_file.specs.declared.end.End.{End}
+use Rattle.replica_file.specs.declared.load_file.End.{End}
 use Rattle.replica_file.specs.Ends.{EndsAt, Means}
 
 -- what is written behind a slot's gate: the length, the frames, and the next gate, which is closed
@@ -22,8 +22,8 @@ abbrev pub next_end : End → List Op → End
 next_end end ops = record { at = end.at + length (behind_gate ops); slots = end.slots + 1 }
 
 -- what a file holds with one more batch
-abbrev pub with_ops : Content → List Op → Content
-with_ops content ops = record {
+abbrev pub content_with_ops : Content → List Op → Content
+content_with_ops content ops = record {
   replica = content.replica;
   hold = content.hold;
   ops = content.ops ++ ops;
@@ -33,10 +33,10 @@ with_ops content ops = record {
 
 -- the bytes hold this content, or this with one more batch
 abbrev pub HoldsEither : Content → List Op → List ℕ → Type 0
-HoldsEither content ops bytes = HasImage bytes (Holds content) ⊎ HasImage bytes (Holds (with_ops content ops))
+HoldsEither content ops bytes = HasImage bytes (Holds content) ⊎ HasImage bytes (Holds (content_with_ops content ops))
 
 -- the file has the batch, a crash leaves nothing else, and the next batch can be appended
 pub record HasBatch (content : Content) (end : End) (ops : List Op) (s : State) : Type 0 where
-  pub means : Means s (with_ops content ops)
+  pub means : Means s (content_with_ops content ops)
   pub settled : s ≡ at_rest s.seen
   pub ends : EndsAt s (next_end end ops)

@@ -1,17 +1,17 @@
 -- Where the meaning of a file ends, and disks that keep the file up to there whatever happens.
 use Rattle.std.specs.Prelude.{◌≡◌, ℕ, ◌+◌, ◌*◌, ◌≤◌, List, length, take}
-use Rattle.outer_ports.specs.disk.States.{State, IsImage}
+use Rattle.outer_ports.specs.disk.States.{State, IsCrashImage}
 use Rattle.origin_model.specs.files.Image.{Content, HasImage, Holds}
-use Rattle.replica_file.specs.declared.end.End.{End}
+use Rattle.replica_file.specs.declared.load_file.End.{End}
 
 -- how far the slots before an end reach: a header, and for each slot a gate, a length and at most the longest batch
-abbrev pub Reaches : End → Type 0
-Reaches end = end.at ≤ 13 + 268435461 * end.slots
+abbrev pub IsWithinReach : End → Type 0
+IsWithinReach end = end.at ≤ 13 + 268435461 * end.slots
 
 -- whatever a crash leaves, it begins with the same n bytes
 pub record Agrees (s : State) (n : ℕ) : Type 0 where
   pub inside : n ≤ length s.seen
-  pub each : (image : List ℕ) → IsImage s image → take n image ≡ take n s.seen
+  pub each : (image : List ℕ) → IsCrashImage s image → take n image ≡ take n s.seen
 
 -- what a read gives holds this content
 abbrev pub Means : State → Content → Type 0

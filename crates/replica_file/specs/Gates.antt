@@ -1,6 +1,6 @@
 -- Bytes that are written behind a closed gate, which is opened then.
 use Rattle.std.specs.Prelude.{◌≡◌, ◌⊎◌, ℕ, ◌+◌, ◌<◌, ◌≤◌, List, [], ◌∷◌, length, take, drop, slice_get, Option, Some, None}
-use Rattle.outer_ports.specs.disk.States.{State, at_rest, wrote, settled}
+use Rattle.outer_ports.specs.disk.States.{State, at_rest, wrote, durable}
 use Rattle.outer_ports.specs.disk.Moments.{History, after}
 use Rattle.outer_ports.specs.disk.Disks.{RoomView, spent}
 
@@ -26,8 +26,8 @@ OpenedTo before gate bytes None = ⊥
 OpenedTo before gate bytes (Some h) = IsOpened before gate bytes h.last
 
 -- the bytes are written behind the gate and settled, and then the gate is opened and that is settled
-abbrev pub opened : ℕ → List ℕ → Option History → Option History
-opened gate bytes past = after settled (after (wrote gate (1 ∷ [])) (after settled (after (wrote (gate + 1) bytes) past)))
+abbrev pub gate_opened : ℕ → List ℕ → Option History → Option History
+gate_opened gate bytes past = after durable (after (wrote gate (1 ∷ [])) (after durable (after (wrote (gate + 1) bytes) past)))
 
 -- the same of the room
 abbrev pub spent_opening : List ℕ → Option RoomView → Option RoomView

@@ -5,12 +5,12 @@ use Rattle.outer_ports.specs.disk.Disks.{RoomView}
 use Rattle.origin_model.specs.declared.files.TheConstants.{LONGEST_BATCH}
 use Rattle.origin_model.specs.frames.Frames.{Starts}
 use Rattle.origin_model.specs.files.Image.{Batch, Content, EndsBadly, HasImage, Holds, OpenSlots, batch_ops, has_header, header_of, last_slot, number_at, open_slots, slots_of, state}
-use Rattle.origin_model.specs.taking.Taking.{HasPlace, TooMany as AnswersTooMany, answers_from, held, nothing}
+use Rattle.origin_model.specs.taking.Taking.{HasPlace, TooMany as AnswersTooMany, answers_from, held, nothing_held}
 use Rattle.origin_model.specs.edits.State.{State}
 use Rattle.replica_file.specs.Wanting.{BeginsPiece, IsWanting, part_of}
-use Rattle.replica_file.specs.declared.end.End.{End}
-use Rattle.replica_file.specs.declared.load_fault.LoadFault.{LoadFault}
-use Rattle.replica_file.specs.declared.load_fault.LoadFault.TheVariants.{NotReplica, BadBatch, DiskFault, TooMany, NoMemory}
+use Rattle.replica_file.specs.declared.load_file.End.{End}
+use Rattle.replica_file.specs.declared.load_file.LoadFault.{LoadFault}
+use Rattle.replica_file.specs.declared.load_file.LoadFault.TheVariants.{NotReplica, BadBatch, DiskFault, TooMany, NoMemory}
 
 -- the hold that a file's header says
 abbrev pub hold_of : List ℕ → ℕ
@@ -18,22 +18,22 @@ hold_of bytes = number_at 9 (header_of bytes)
 
 -- all of the operations can be taken in by a replica that holds nothing
 abbrev pub FindPlace : (hold most : ℕ) → List Op → Type 0
-FindPlace hold most ops = HasPlace hold most nothing ops
+FindPlace hold most ops = HasPlace hold most nothing_held ops
 
 -- one of them is one too many
 abbrev pub AreTooMany : (hold most : ℕ) → List Op → Type 0
-AreTooMany hold most ops = Contains (answers_from hold most nothing ops) AnswersTooMany
+AreTooMany hold most ops = Contains (answers_from hold most nothing_held ops) AnswersTooMany
 
 -- the replica that took a file's content in
-abbrev pub replica_of : Content → (most : ℕ) → State
-replica_of content most = record { number = content.replica; hold = content.hold; most = most; held = state content }
+abbrev pub content_replica : Content → (most : ℕ) → State
+content_replica content most = record { number = content.replica; hold = content.hold; most = most; held = state content }
 
 -- the file holds a content that can all be taken in
 pub record Loads (most : ℕ) (bytes : List ℕ) (replica : State) (end : End) : Type 0 where
   pub content : Content
   pub holds : HasImage bytes (Holds content)
   pub place : FindPlace content.hold most content.ops
-  pub replica_is : replica ≡ replica_of content most
+  pub replica_is : replica ≡ content_replica content most
   pub end_is : end ≡ record { at = content.at; slots = content.slots }
 
 -- the open slot of this number has no batch, and the operations of the slots before it can all be taken in
@@ -71,23 +71,23 @@ pub record LacksMemory (most : ℕ) (bytes : List ℕ) : Type 0 where
       ⊎ IsWanting (hold_of bytes) most (held (hold_of bytes) most (batch_ops earlier ++ ops)) (FindPlace (hold_of bytes) most (batch_ops earlier ++ ops)) rest
 
 -- the bytes decide such an answer: it is no fault of the disk, and no want of memory
-abbrev pub IsByBytes : Result (State × End) LoadFault → Type 0
-IsByBytes (Err DiskFault) = ⊥
-IsByBytes (Err NoMemory) = ⊥
-IsByBytes result = Unit {0}
+abbrev pub IsLoadByBytes : Result (State × End) LoadFault → Type 0
+IsLoadByBytes (Err DiskFault) = ⊥
+IsLoadByBytes (Err NoMemory) = ⊥
+IsLoadByBytes result = Unit {0}
 
 -- where which answer comes
-abbrev pub AnswerIs : (most : ℕ) → List ℕ → Result (State × End) LoadFault → Type 0
-AnswerIs most bytes (Ok loaded) = Loads most bytes loaded.0 loaded.1
-AnswerIs most bytes (Err NotReplica) = has_header bytes ≡ false
-AnswerIs most bytes (Err (BadBatch slot)) = FindsBadBatch most bytes slot
-AnswerIs most bytes (Err (TooMany count)) = (count ≡ most) × FindsTooMany most bytes
-AnswerIs most bytes (Err DiskFault) = Unit {0}
-AnswerIs most bytes (Err NoMemory) = LacksMemory most bytes
+abbrev pub LoadAnswerIs : (most : ℕ) → List ℕ → Result (State × End) LoadFault → Type 0
+LoadAnswerIs most bytes (Ok loaded) = Loads most bytes loaded.0 loaded.1
+LoadAnswerIs most bytes (Err NotReplica) = has_header bytes ≡ false
+LoadAnswerIs most bytes (Err (BadBatch slot)) = FindsBadBatch most bytes slot
+LoadAnswerIs most bytes (Err (TooMany count)) = (count ≡ most) × FindsTooMany most bytes
+LoadAnswerIs most bytes (Err DiskFault) = Unit {0}
+LoadAnswerIs most bytes (Err NoMemory) = LacksMemory most bytes
 
 -- each answer comes exactly where the bytes say so, but for a fault of the disk and want of memory
-abbrev pub AnswersBy : Result (State × End) LoadFault → (most : ℕ) → List ℕ → Type 0
-AnswersBy result most bytes = IsByBytes result → (answer : Result (State × End) LoadFault) → IsByBytes answer → (result ≡ answer) ↔ AnswerIs most bytes answer
+abbrev pub LoadAnswersBy : Result (State × End) LoadFault → (most : ℕ) → List ℕ → Type 0
+LoadAnswersBy result most bytes = IsLoadByBytes result → (answer : Result (State × End) LoadFault) → IsLoadByBytes answer → (result ≡ answer) ↔ LoadAnswerIs most bytes answer
 
 -- the room lasts for the sync
 abbrev pub LastsToLoad : RoomView → Type 0

@@ -28,5 +28,5 @@ pub record Feeds (was : Bool) (old : State) (now : Bool) (new : State) (ops : Li
   pub behind : (before : List Op) → Fed was old before → Fed now new (before ++ ops)
 
 -- the replica differs in what it holds alone
-abbrev pub IsSame : State → State → Type 0
-IsSame old new = new ≡ record old { held = new.held }
+abbrev pub IsSameButHeld : State → State → Type 0
+IsSameButHeld old new = new ≡ record old { held = new.held }

@@ -3,15 +3,15 @@ use Rattle.std.specs.Prelude.{◌≡◌, ◌⊎◌, ℕ, ◌≤◌, List, [], �
 use Rattle.fugue_ids.specs.declared.op.Op.{Op}
 use Rattle.outer_ports.specs.Sources.{SourceView}
 use Rattle.origin_model.specs.frames.Frames.{Starts, IsBad, IsPartial}
-use Rattle.op_frame.specs.Readers.{Gave, Reading}
+use Rattle.op_frame.specs.Readers.{Gave, FrameReading}
 use Rattle.origin_model.specs.edits.State.{State}
-use Rattle.replica_file.specs.Loading.{Feeds, IsSame}
+use Rattle.replica_file.specs.Loading.{Feeds, IsSameButHeld}
 use Rattle.replica_file.specs.Wanting.{AreWhole, IsWanting}
 use Rattle.replica_file.specs.declared.stop.Stop.{Stop}
 use Rattle.replica_file.specs.declared.stop.Stop.TheVariants.{Bad, Disk, NoMemory}
 
 -- the reader gave these operations of a piece that is in memory, and no fault yet
-pub record IsReading (bytes : List ℕ) (ops : List Op) (reader : Reading) (source : SourceView) : Type 0 where
+pub record IsReading (bytes : List ℕ) (ops : List Op) (reader : FrameReading) (source : SourceView) : Type 0 where
   pub gave : Gave (Some bytes) ops reader source.left
   pub no_fault : reader.fault ≡ None
   pub fits : length bytes ≡ reader.limit
@@ -25,12 +25,12 @@ pub record AreBad (bytes : List ℕ) : Type 0 where
   pub bad : IsBad rest
 
 -- one step over a piece: an operation more was taken in, or the whole frames are over, or what follows is bad, or memory was wanting for it
-abbrev pub Steps : List ℕ → List Op → (was : Bool) (old : State) (now : Bool) (new : State) → Reading → SourceView → Result (Option ℕ) Stop → Type 0
-Steps bytes ops was old now new reader source (Ok None) = (op : Op) × IsReading bytes (ops ++ op ∷ []) reader source × Feeds was old now new (op ∷ [])
-Steps bytes ops was old now new reader source (Ok (Some len)) = AreWhole bytes len ops × (now ≡ was) × (new ≡ old)
-Steps bytes ops was old now new reader source (Err Bad) = AreBad bytes
-Steps bytes ops was old now new reader source (Err Disk) = ⊥
-Steps bytes ops was old now new reader source (Err NoMemory) = (rest : List ℕ) × Starts bytes ops rest × IsWanting old.hold old.most old.held (was ≡ true) rest
+abbrev pub PieceSteps : List ℕ → List Op → (was : Bool) (old : State) (now : Bool) (new : State) → FrameReading → SourceView → Result (Option ℕ) Stop → Type 0
+PieceSteps bytes ops was old now new reader source (Ok None) = (op : Op) × IsReading bytes (ops ++ op ∷ []) reader source × Feeds was old now new (op ∷ [])
+PieceSteps bytes ops was old now new reader source (Ok (Some len)) = AreWhole bytes len ops × (now ≡ was) × (new ≡ old)
+PieceSteps bytes ops was old now new reader source (Err Bad) = AreBad bytes
+PieceSteps bytes ops was old now new reader source (Err Disk) = ⊥
+PieceSteps bytes ops was old now new reader source (Err NoMemory) = (rest : List ℕ) × Starts bytes ops rest × IsWanting old.hold old.most old.held (was ≡ true) rest
 
 -- the whole frames at the front of a piece were taken in
 pub record TakesPiece (bytes : List ℕ) (len : ℕ) (was : Bool) (old : State) (now : Bool) (new : State) : Type 0 where
@@ -47,5 +47,5 @@ pub record Lacks (Begins : List ℕ → Type 0) (bytes : List ℕ) (was : Bool) 
   pub now : Bool
   pub new : State
   pub feeds : Feeds was old now new ops
-  pub same : IsSame old new
+  pub same : IsSameButHeld old new
   pub wants : Begins rest ⊎ IsWanting new.hold new.most new.held (now ≡ true) rest

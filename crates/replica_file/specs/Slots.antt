@@ -5,14 +5,14 @@ use Rattle.origin_model.specs.declared.files.TheConstants.{LONGEST_BATCH}
 use Rattle.origin_model.specs.files.Image.{Batch, IsBatch, OpenSlots, batch_ops, has_header, header_of, is_header, number_at, open_slots, slots_of}
 use Rattle.origin_model.specs.frames.Frames.{IsBad, IsPartial, Reads, Starts, Whole}
 use Rattle.origin_model.specs.edits.State.{State}
-use Rattle.replica_file.specs.Load.{AnswerIs}
+use Rattle.replica_file.specs.Load.{LoadAnswerIs}
 use Rattle.replica_file.specs.Loading.{AreIn, Feeds}
 use Rattle.replica_file.specs.Pieces.{Lacks}
 use Rattle.replica_file.specs.Wanting.{BeginsPiece, part_of}
-use Rattle.replica_file.specs.declared.end.End.{End}
+use Rattle.replica_file.specs.declared.load_file.End.{End}
 use Rattle.replica_file.specs.declared.header.Header.{Header}
-use Rattle.replica_file.specs.declared.load_fault.LoadFault.{LoadFault}
-use Rattle.replica_file.specs.declared.gate_place.Gate.{Gate}
+use Rattle.replica_file.specs.declared.load_file.LoadFault.{LoadFault}
+use Rattle.replica_file.specs.declared.gate.Gate.{Gate}
 
 -- frames of the operations are the first so many bytes of a part, and they were taken in
 pub record TakesSome (bytes : List ℕ) (at len taken : ℕ) (was : Bool) (old : State) (now : Bool) (new : State) : Type 0 where
@@ -80,8 +80,8 @@ pub record WalksOut (bytes : List ℕ) (end : End) (replica : State) : Type 0 wh
   pub at : end.at ≡ gate.at
 
 -- the bytes are the cause of a fault
-abbrev pub StopsFor : (most : ℕ) → List ℕ → LoadFault → Type 0
-StopsFor most bytes fault = AnswerIs most bytes (Err fault)
+abbrev pub SlotStopsFor : (most : ℕ) → List ℕ → LoadFault → Type 0
+SlotStopsFor most bytes fault = LoadAnswerIs most bytes (Err fault)
 
 -- what a file's header says
 pub record IsHeader (bytes : List ℕ) (header : Header) : Type 0 where

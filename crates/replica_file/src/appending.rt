@@ -5,15 +5,52 @@ ghost use Rattle.outer_ports.specs.disk.Moments.{LeavesOnlyTo};
 ghost use Rattle.outer_ports.specs.disk.States.{IsHonest};
 ghost use Rattle.replica_file.specs.Append.{HasBatch, HoldsEither, IsTooLong, behind_gate, next_end};
 ghost use Rattle.origin_model.specs.files.Image.{Content};
-ghost use Rattle.replica_file.specs.Ends.{EndsAt, Means, Reaches};
-ghost use Rattle.replica_file.specs.Gates.{LastsFor, opened, spent_opening};
+ghost use Rattle.replica_file.specs.Ends.{EndsAt, Means, IsWithinReach};
+ghost use Rattle.replica_file.specs.Gates.{LastsFor, gate_opened, spent_opening};
 
+use crate::End;
 use crate::batch::bytes_behind_gate;
 use crate::gate::write_behind;
-use crate::{AppendFault, End};
-use fugue_ids::Op;
+use fugue_ids::{Failed, NoMemory, Op};
 use outer_ports::Disk;
 use std::alloc::Global;
+use thiserror::Error;
+
+/// Why a batch was not appended.
+#[derive(Clone, Copy, Debug, PartialEq, Eq, Error)]
+pub enum AppendFault {
+    /// Nothing was written.
+    #[error("the batch is too long")]
+    BatchTooLong,
+    /// The file has all of the batch or none, and has to be loaded again.
+    #[error("the disk failed")]
+    DiskFault,
+    /// Nothing was written.
+    #[error("out of memory")]
+    NoMemory,
+}
+
+impl From<Failed> for AppendFault {
+    ghost use Rattle.std.specs.Prelude.{◌≡◌};
+    ghost use Rattle.replica_file.specs.declared.appending.AppendFault.TheVariants.{DiskFault};
+
+    ghost from_gives = { λ _ fault. fault ≡ DiskFault };
+
+    fn from(_: Failed) -> AppendFault {
+        AppendFault::DiskFault
+    }
+}
+
+impl From<NoMemory> for AppendFault {
+    ghost use Rattle.std.specs.Prelude.{◌≡◌};
+    ghost use Rattle.replica_file.specs.declared.appending.AppendFault.TheVariants.{NoMemory as NoMemoryFound};
+
+    ghost from_gives = { λ _ fault. fault ≡ NoMemoryFound };
+
+    fn from(_: NoMemory) -> AppendFault {
+        AppendFault::NoMemory
+    }
+}
 
 /// Appends the operations as one batch, and answers where the file's meaning ends then. At every moment a crash leaves
 /// all of the batch or none. No operations are no batch: then the file is left as it is.
@@ -23,22 +60,23 @@ pub fn append<H: Disk>(
     end: End,
     ops: &[Op],
 ) -> Result<End, AppendFault>
-    requires reaches { Reaches end }
+    requires reaches { IsWithinReach end }
     requires ends { IfSome (H.seen disk.old).past (λ h. EndsAt h.last end) }
     ensures none { ops.now ≡ [] → (result ≡ Ok end) × (H.seen disk.new ≡ H.seen disk.old) }
     ensures too_long { result ≢ Err AppendFault.NoMemory
         → (result ≡ Err AppendFault.BatchTooLong) ↔ IsTooLong end ops.now }
     ensures untouched { (result ≡ Err AppendFault.BatchTooLong) ⊎ (result ≡ Err AppendFault.NoMemory)
         → H.seen disk.new ≡ H.seen disk.old }
-    ensures reaches { IfOk result Reaches }
+    ensures reaches { IfOk result IsWithinReach }
     ensures end { ops.now ≢ [] → IfOk result (λ behind. behind ≡ next_end end ops.now) }
     ensures calls { ops.now ≢ [] → OnOk result ((H.seen disk.new).past
-        ≡ opened end.at (behind_gate ops.now) (H.seen disk.old).past) }
+        ≡ gate_opened end.at (behind_gate ops.now) (H.seen disk.old).past) }
     ensures room { ops.now ≢ [] → OnOk result ((H.seen disk.new).room
         ≡ spent_opening (behind_gate ops.now) (H.seen disk.old).room) }
     ensures moments { IfSome (H.seen disk.old).past (λ h. (content : Content) → Means h.last content
         → LeavesOnlyTo h (H.seen disk.new).past (HoldsEither content ops.now)) }
-    ensures honest { IfSome (H.seen disk.old).past (λ h. IsHonest h.last) → IfSome (H.seen disk.new).past (λ k. IsHonest k.last) }
+    ensures honest { IfSome (H.seen disk.old).past (λ h. IsHonest h.last)
+        → IfSome (H.seen disk.new).past (λ k. IsHonest k.last) }
     ensures appended { ops.now ≢ [] → OnOk result (IfSome (H.seen disk.old).past (λ h. (content : Content)
         → Means h.last content → IfSome (H.seen disk.new).past (λ k. HasBatch content end ops.now k.last))) }
     ensures later { (H.seen disk.old).faults ≤ (H.seen disk.new).faults }

@@ -4,12 +4,33 @@ ghost use Rattle.fugue_ids.specs.declared.limits.TheConstants.{GREATEST_HOLD};
 ghost use Rattle.origin_model.specs.files.Image.{HasImage, Holds, new_file as new_file_of};
 ghost use Rattle.outer_ports.specs.disk.Disks.{DiskTells, spent};
 ghost use Rattle.outer_ports.specs.disk.Moments.{MayHaveWritten, after};
-ghost use Rattle.outer_ports.specs.disk.States.{at_rest, wrote, settled};
+ghost use Rattle.outer_ports.specs.disk.States.{at_rest, wrote, durable};
 ghost use Rattle.replica_file.specs.Create.{LastsToCreate, nothing_yet};
 
-use crate::CreateFault;
 use crate::header::new_file;
+use fugue_ids::Failed;
 use outer_ports::Disk;
+use thiserror::Error;
+
+/// Why a file was not made.
+#[derive(Clone, Copy, Debug, PartialEq, Eq, Error)]
+pub enum CreateFault {
+    #[error("the file is not empty")]
+    NotEmpty,
+    #[error("the disk failed")]
+    DiskFault,
+}
+
+impl From<Failed> for CreateFault {
+    ghost use Rattle.std.specs.Prelude.{◌≡◌};
+    ghost use Rattle.replica_file.specs.declared.creating.CreateFault.TheVariants.{DiskFault};
+
+    ghost from_gives = { λ _ fault. fault ≡ DiskFault };
+
+    fn from(_: Failed) -> CreateFault {
+        CreateFault::DiskFault
+    }
+}
 
 /// Makes the file of a replica that holds nothing. It takes no memory. A file that has bytes stays as it is, whatever
 /// the answer.
@@ -24,7 +45,7 @@ pub fn create<H: Disk>(disk: &mut H, replica: u32, hold: u32) -> Result<(), Crea
     ensures overwrites_none { IfSome (H.seen disk.old).past (λ h.
         h.last.seen ≢ [] → (H.seen disk.new).past ≡ (H.seen disk.old).past) }
     ensures calls { OnOk result ((H.seen disk.new).past
-        ≡ after settled (after (wrote 0 (new_file_of replica hold)) (H.seen disk.old).past)) }
+        ≡ after durable (after (wrote 0 (new_file_of replica hold)) (H.seen disk.old).past)) }
     ensures made { OnOk result (IfSome (H.seen disk.new).past (λ h. h.last ≡ at_rest (new_file_of replica hold))) }
     ensures holds { OnOk result (HasImage (new_file_of replica hold) (Holds (nothing_yet replica hold))) }
     ensures torn { OnErr result (MayHaveWritten 0 14 (H.seen disk.old).past (H.seen disk.new).past) }

@@ -1,6 +1,6 @@
 ghost use Rattle.std.specs.Prelude.{◌≡◌, ◌+◌, ◌<◌, ◌≤◌, ◌^◌, min, List, IfSome, IfOk, OnOk};
 ghost use Rattle.fugue_ids.specs.declared.op.Op.{Op};
-ghost use Rattle.replica_file.specs.Loading.{IsReady, IsSame};
+ghost use Rattle.replica_file.specs.Loading.{IsReady, IsSameButHeld};
 ghost use Rattle.replica_file.specs.Looks.{LooksOnly};
 ghost use Rattle.replica_file.specs.Pieces.{Lacks};
 ghost use Rattle.replica_file.specs.Wanting.{AreWhole, BeginsPiece, part_of};
@@ -28,9 +28,10 @@ pub(crate) fn take_frames<H: Disk>(
         loading.old.finds_place loading.old.replica loading.new.finds_place loading.new.replica)) }
     ensures bad { result ≡ Err Stop.Bad → IfSome (H.seen disk.old).past (λ h. HasNoFrames h.last.seen at len) }
     ensures memory { result ≡ Err Stop.NoMemory → IfSome (H.seen disk.old).past (λ h.
-        Lacks (BeginsPiece h.last.seen at len) (part_of h.last.seen at len) loading.old.finds_place loading.old.replica) }
+        Lacks (BeginsPiece h.last.seen at len)
+        (part_of h.last.seen at len) loading.old.finds_place loading.old.replica) }
     ensures ready { OnOk result (IsReady loading.new.replica) }
-    ensures same { OnOk result (IsSame loading.old.replica loading.new.replica) }
+    ensures same { OnOk result (IsSameButHeld loading.old.replica loading.new.replica) }
     ensures looks { LooksOnly (H.seen disk.old) (H.seen disk.new) (result ≡ Err Stop.Disk) }
 {
     let mut taken = 0;
@@ -61,7 +62,7 @@ fn take_some<H: Disk>(
     ensures whole { IfOk result (λ len. IfSome (H.seen disk.old).past (λ h. (ops : List Op)
         × AreWhole (part_of h.last.seen at (min left 65536)) len ops)) }
     ensures ready { OnOk result (IsReady loading.new.replica) }
-    ensures same { OnOk result (IsSame loading.old.replica loading.new.replica) }
+    ensures same { OnOk result (IsSameButHeld loading.old.replica loading.new.replica) }
     ensures looks { LooksOnly (H.seen disk.old) (H.seen disk.new) (result ≡ Err Stop.Disk) }
 {
     let size = left.min(PIECE as u64) as usize;

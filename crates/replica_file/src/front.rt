@@ -2,10 +2,10 @@ ghost use Rattle.std.specs.Prelude.{◌≡◌, ◌≢◌, ◌<◌, ◌≤◌, fa
 ghost use Rattle.origin_model.specs.files.Image.{has_header};
 ghost use Rattle.fugue_ids.specs.declared.limits.TheConstants.{GREATEST_HOLD};
 ghost use Rattle.replica_file.specs.Looks.{LooksOnly};
-ghost use Rattle.replica_file.specs.Slots.{IsFront, StopsFor};
+ghost use Rattle.replica_file.specs.Slots.{IsFront, SlotStopsFor};
 
 use crate::LoadFault;
-use crate::gate_place::Gate;
+use crate::gate::Gate;
 use crate::header::{HEADER, Header, read_header};
 use crate::slot::read_gate;
 use crate::stop::Stop;
@@ -20,12 +20,13 @@ pub(crate) struct Front {
 
 /// The front of a file.
 pub(crate) fn read_front<H: Disk>(disk: &mut H) -> Result<Front, LoadFault>
-    ensures told { IfOk result (λ front. IfSome (H.seen disk.old).past (λ h. IsFront h.last.seen front.header front.gate)) }
+    ensures told { IfOk result
+        (λ front. IfSome (H.seen disk.old).past (λ h. IsFront h.last.seen front.header front.gate)) }
     ensures at { IfOk result (λ front. front.gate.at ≡ 13) }
     ensures within { IfOk result (λ front.
         (0 < front.header.replica) × (0 < front.header.hold) × (front.header.hold ≤ GREATEST_HOLD)) }
     ensures stops { IfErr result (λ fault. IfSome (H.seen disk.old).past (λ h.
-        (most : ℕ) → StopsFor most h.last.seen fault)) }
+        (most : ℕ) → SlotStopsFor most h.last.seen fault)) }
     ensures looks { LooksOnly (H.seen disk.old) (H.seen disk.new) (result ≡ Err LoadFault.DiskFault) }
 {
     match read_both(disk) {
@@ -37,7 +38,8 @@ pub(crate) fn read_front<H: Disk>(disk: &mut H) -> Result<Front, LoadFault>
 }
 
 fn read_both<H: Disk>(disk: &mut H) -> Result<Front, Stop>
-    ensures told { IfOk result (λ front. IfSome (H.seen disk.old).past (λ h. IsFront h.last.seen front.header front.gate)) }
+    ensures told { IfOk result
+        (λ front. IfSome (H.seen disk.old).past (λ h. IsFront h.last.seen front.header front.gate)) }
     ensures at { IfOk result (λ front. front.gate.at ≡ 13) }
     ensures within { IfOk result (λ front.
         (0 < front.header.replica) × (0 < front.header.hold) × (front.header.hold ≤ GREATEST_HOLD)) }

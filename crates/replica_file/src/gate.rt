@@ -4,10 +4,17 @@ ghost use Rattle.outer_ports.specs.disk.Disks.{DiskTells};
 ghost use Rattle.outer_ports.specs.disk.Moments.{LeavesOnlyTo};
 ghost use Rattle.outer_ports.specs.disk.States.{IsHonest};
 ghost use Rattle.replica_file.specs.Ends.{Agrees};
-ghost use Rattle.replica_file.specs.Gates.{BeforeOrWritten, OpenedTo, LastsFor, opened, spent_opening};
+ghost use Rattle.replica_file.specs.Gates.{BeforeOrWritten, OpenedTo, LastsFor, gate_opened, spent_opening};
 
 use fugue_ids::Failed;
 use outer_ports::Disk;
+
+/// A gate of a file.
+#[derive(Clone, Copy)]
+pub(crate) struct Gate {
+    pub(crate) at: u64,
+    pub(crate) open: bool,
+}
 
 /// The first byte of a slot that counts.
 pub(crate) const OPEN: u8 = 1;
@@ -23,8 +30,9 @@ pub(crate) fn write_behind<H: Disk>(disk: &mut H, gate: u64, bytes: &[u8]) -> Re
         LeavesOnlyTo h (H.seen disk.new).past (BeforeOrWritten h.last.seen gate bytes.now)) }
     ensures opened { OnOk result (IfSome (H.seen disk.old).past (λ h.
         OpenedTo h.last.seen gate bytes.now (H.seen disk.new).past)) }
-    ensures past { OnOk result ((H.seen disk.new).past ≡ opened gate bytes.now (H.seen disk.old).past) }
-    ensures honest { IfSome (H.seen disk.old).past (λ h. IsHonest h.last) → IfSome (H.seen disk.new).past (λ k. IsHonest k.last) }
+    ensures past { OnOk result ((H.seen disk.new).past ≡ gate_opened gate bytes.now (H.seen disk.old).past) }
+    ensures honest { IfSome (H.seen disk.old).past (λ h. IsHonest h.last)
+        → IfSome (H.seen disk.new).past (λ k. IsHonest k.last) }
     ensures room { OnOk result ((H.seen disk.new).room ≡ spent_opening bytes.now (H.seen disk.old).room) }
     ensures cause { HasCause (H.seen disk.old).faults (H.seen disk.new).faults result }
     ensures sure { IfSome (H.seen disk.old).room (λ room. LastsFor bytes.now room → OnErr result ⊥) }

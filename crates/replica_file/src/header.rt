@@ -57,8 +57,10 @@ pub(crate) fn read_header<H: Disk>(disk: &mut H) -> Result<Header, Stop>
 fn parse(bytes: &[u8]) -> Option<Header>
     requires { length bytes.now ≡ 13 }
     ensures some { IsSome result ↔ (is_header bytes.now ≡ true) }
-    ensures value { IfSome result (λ header. (header.replica ≡ number_at 5 bytes.now) × (header.hold ≡ number_at 9 bytes.now)) }
-    ensures within { IfSome result (λ header. (0 < header.replica) × (0 < header.hold) × (header.hold ≤ GREATEST_HOLD)) }
+    ensures value { IfSome result
+        (λ header. (header.replica ≡ number_at 5 bytes.now) × (header.hold ≡ number_at 9 bytes.now)) }
+    ensures within { IfSome result
+        (λ header. (0 < header.replica) × (0 < header.hold) × (header.hold ≤ GREATEST_HOLD)) }
 {
     let replica = number(bytes, 5);
     let hold = number(bytes, 9);

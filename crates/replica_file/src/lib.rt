@@ -1,19 +1,13 @@
 //! Replica files: made, loaded and appended to, so that a crash leaves all of a batch or none of it.
 #![tactic(auto)]
 
-mod append_fault;
 mod appending;
 mod batch;
-mod create_fault;
 mod creating;
-mod end;
 mod frames;
 mod front;
 mod gate;
-mod gate_place;
 mod header;
-mod law;
-mod load_fault;
 mod load_file;
 mod loading;
 mod piece;
@@ -22,11 +16,6 @@ mod slot;
 mod slots;
 mod stop;
 
-pub use append_fault::AppendFault;
-pub use appending::append;
-pub use create_fault::CreateFault;
-pub use creating::create;
-pub use end::End;
-pub use law::one_image;
-pub use load_fault::LoadFault;
-pub use load_file::load;
+pub use appending::{AppendFault, append};
+pub use creating::{CreateFault, create};
+pub use load_file::{End, LoadFault, load, one_image};

@@ -3,32 +3,83 @@ ghost use Rattle.fugue_ids.specs.Causes.{Rose};
 ghost use Rattle.fugue_ids.specs.declared.limits.TheConstants.{MOST_OPERATIONS};
 ghost use Rattle.outer_ports.specs.disk.Disks.{DiskTells, spent};
 ghost use Rattle.outer_ports.specs.disk.Moments.{LeavesOnlyTo, MayLeave, after};
-ghost use Rattle.outer_ports.specs.disk.States.{settled};
-ghost use Rattle.replica_file.specs.Ends.{EndsAt, Reaches};
-ghost use Rattle.replica_file.specs.Load.{AnswersBy, LacksMemory, LastsToLoad, Loads};
+ghost use Rattle.outer_ports.specs.disk.States.{durable};
+ghost use Rattle.replica_file.specs.Ends.{EndsAt, IsWithinReach};
+ghost use Rattle.replica_file.specs.Load.{LoadAnswersBy, LacksMemory, LastsToLoad, Loads};
 ghost use Rattle.replica_file.specs.Loading.{IsReady};
 ghost use Rattle.replica_file.specs.Looks.{LooksOnly};
-ghost use Rattle.replica_file.specs.Slots.{StopsFor};
+ghost use Rattle.replica_file.specs.Slots.{SlotStopsFor};
+ghost use Rattle.replica_file.specs.Laws.{OneImage};
 
 use crate::front::read_front;
 use crate::loading::Loading;
 use crate::slots::take_slots;
-use crate::{End, LoadFault};
+use fugue_ids::{Failed, NoMemory};
 use outer_ports::Disk;
 use replica_core::Replica;
 use std::alloc::Global;
+use thiserror::Error;
+
+/// Where the meaning of a replica's file ends.
+#[derive(Clone, Copy, Debug, PartialEq, Eq)]
+pub struct End {
+    /// The offset of the gate that ends it.
+    pub at: u64,
+    /// How many open slots stand before it.
+    pub slots: u32,
+}
+
+/// Why a file was not loaded.
+#[derive(Clone, Copy, Debug, PartialEq, Eq, Error)]
+pub enum LoadFault {
+    #[error("no replica's file")]
+    NotReplica,
+    /// The open slot of this number has no batch, or no byte stands behind it.
+    #[error("bad batch in slot {0}")]
+    BadBatch(u32),
+    #[error("the disk failed")]
+    DiskFault,
+    /// So many operations are held, and one more came.
+    #[error("{0} operations are accepted or wait")]
+    TooMany(u32),
+    #[error("out of memory")]
+    NoMemory,
+}
+
+impl From<Failed> for LoadFault {
+    ghost use Rattle.std.specs.Prelude.{◌≡◌};
+    ghost use Rattle.replica_file.specs.declared.load_file.LoadFault.TheVariants.{DiskFault};
+
+    ghost from_gives = { λ _ fault. fault ≡ DiskFault };
+
+    fn from(_: Failed) -> LoadFault {
+        LoadFault::DiskFault
+    }
+}
+
+impl From<NoMemory> for LoadFault {
+    ghost use Rattle.std.specs.Prelude.{◌≡◌};
+    ghost use Rattle.replica_file.specs.declared.load_file.LoadFault.TheVariants.{NoMemory as NoMemoryFound};
+
+    ghost from_gives = { λ _ fault. fault ≡ NoMemoryFound };
+
+    fn from(_: NoMemory) -> LoadFault {
+        LoadFault::NoMemory
+    }
+}
 
 /// Loads the replica that a file holds, which may have `most` operations, and finds where the file's meaning ends.
 /// Operations that are refused change nothing and are no fault.
 pub fn load<H: Disk>(alloc: Global, disk: &mut H, most: u32) -> Result<(Replica, End), LoadFault>
     requires some { 0 < most }
     requires within { most ≤ MOST_OPERATIONS }
-    ensures exactly { IfSome (H.seen disk.old).past (λ h. AnswersBy result most h.last.seen) }
-    ensures memory { result ≡ Err LoadFault.NoMemory → IfSome (H.seen disk.old).past (λ h. LacksMemory most h.last.seen) }
+    ensures exactly { IfSome (H.seen disk.old).past (λ h. LoadAnswersBy result most h.last.seen) }
+    ensures memory { result ≡ Err LoadFault.NoMemory
+        → IfSome (H.seen disk.old).past (λ h. LacksMemory most h.last.seen) }
     ensures ready { IfOk result (λ loaded. IsReady loaded.0) }
     ensures ends { IfOk result (λ loaded. IfSome (H.seen disk.new).past (λ h. EndsAt h.last loaded.1)) }
-    ensures reaches { IfOk result (λ loaded. Reaches loaded.1) }
-    ensures synced { ((H.seen disk.new).past ≡ after settled (H.seen disk.old).past)
+    ensures reaches { IfOk result (λ loaded. IsWithinReach loaded.1) }
+    ensures synced { ((H.seen disk.new).past ≡ after durable (H.seen disk.old).past)
         ⊎ ((result ≡ Err LoadFault.DiskFault) × ((H.seen disk.new).past ≡ (H.seen disk.old).past)) }
     ensures moments { IfSome (H.seen disk.old).past (λ h. LeavesOnlyTo h (H.seen disk.new).past (MayLeave h)) }
     ensures room { ((H.seen disk.new).room ≡ spent 0 (H.seen disk.old).room)
@@ -49,10 +100,11 @@ pub fn load<H: Disk>(alloc: Global, disk: &mut H, most: u32) -> Result<(Replica,
 fn read_all<H: Disk>(alloc: Global, disk: &mut H, most: u32) -> Result<(Replica, End), LoadFault>
     requires some { 0 < most }
     requires within { most ≤ MOST_OPERATIONS }
-    ensures loads { IfOk result (λ loaded. IfSome (H.seen disk.old).past (λ h. Loads most h.last.seen loaded.0 loaded.1)) }
-    ensures stops { IfErr result (λ fault. IfSome (H.seen disk.old).past (λ h. StopsFor most h.last.seen fault)) }
+    ensures loads { IfOk result
+        (λ loaded. IfSome (H.seen disk.old).past (λ h. Loads most h.last.seen loaded.0 loaded.1)) }
+    ensures stops { IfErr result (λ fault. IfSome (H.seen disk.old).past (λ h. SlotStopsFor most h.last.seen fault)) }
     ensures ready { IfOk result (λ loaded. IsReady loaded.0) }
-    ensures reaches { IfOk result (λ loaded. Reaches loaded.1) }
+    ensures reaches { IfOk result (λ loaded. IsWithinReach loaded.1) }
     ensures looks { LooksOnly (H.seen disk.old) (H.seen disk.new) (result ≡ Err LoadFault.DiskFault) }
 {
     let front = read_front(disk)?;
@@ -65,3 +117,8 @@ fn read_all<H: Disk>(alloc: Global, disk: &mut H, most: u32) -> Result<(Replica,
         }
     }
 }
+
+/// All bytes mean exactly one thing as a replica's file.
+pub fn one_image()
+    ensures { OneImage }
+{}

@@ -1,8 +1,8 @@
 ghost use Rattle.std.specs.Prelude.{◌≡◌, ◌<◌, ◌≤◌, ◌∷◌, [], true, OnOk, OnErr};
 ghost use Rattle.fugue_ids.specs.declared.limits.TheConstants.{GREATEST_HOLD, MOST_OPERATIONS};
-ghost use Rattle.origin_model.specs.taking.Taking.{answer, is_kept, nothing};
+ghost use Rattle.origin_model.specs.taking.Taking.{answer, is_kept, nothing_held};
 ghost use Rattle.origin_model.specs.edits.State.{Stands};
-ghost use Rattle.replica_file.specs.Loading.{Feeds, IsReady, IsSame};
+ghost use Rattle.replica_file.specs.Loading.{Feeds, IsReady, IsSameButHeld};
 
 use crate::header::Header;
 use fugue_ids::{NoMemory, Op};
@@ -26,7 +26,8 @@ impl Loading {
         requires hold_within { header.hold ≤ GREATEST_HOLD }
         requires some_most { 0 < most }
         requires most_within { most ≤ MOST_OPERATIONS }
-        ensures replica { result.replica ≡ record { number = header.replica; hold = header.hold; most = most; held = nothing } }
+        ensures replica { result.replica
+            ≡ record { number = header.replica; hold = header.hold; most = most; held = nothing_held } }
         ensures ready { IsReady result.replica }
         ensures finds_place { result.finds_place ≡ true }
     {
@@ -50,7 +51,7 @@ impl Loading {
         ensures memory { OnErr result ((self.old.finds_place ≡ true)
             × (is_kept (answer self.old.replica.hold self.old.replica.most self.old.replica.held op) ≡ true)) }
         ensures ready { OnOk result (IsReady self.new.replica) }
-        ensures same { OnOk result (IsSame self.old.replica self.new.replica) }
+        ensures same { OnOk result (IsSameButHeld self.old.replica self.new.replica) }
     {
         if !self.finds_place {
             return Ok(());
@@ -73,7 +74,12 @@ fn new_replica(alloc: Global, header: Header, most: u32) -> Replica
     requires hold_within { header.hold ≤ GREATEST_HOLD }
     requires some_most { 0 < most }
     requires most_within { most ≤ MOST_OPERATIONS }
-    ensures replica { result ≡ record { number = header.replica; hold = header.hold; most = most; held = nothing } }
+    ensures replica { result ≡ record {
+      number = header.replica;
+      hold = header.hold;
+      most = most;
+      held = nothing_held;
+    } }
     ensures stands { Stands result }
 {
     match Replica::new(alloc, header.replica, header.hold, most) {

@@ -1,7 +1,7 @@
 ghost use Rattle.std.specs.Prelude.{◌≡◌, ◌≢◌, ◌<◌, ◌≤◌, ◌+◌, [], None, length, List, ℕ, IfOk, OnOk};
 ghost use Rattle.fugue_ids.specs.declared.op.Op.{Op};
-ghost use Rattle.replica_file.specs.Loading.{IsReady, IsSame};
-ghost use Rattle.replica_file.specs.Pieces.{AreBad, IsReading, Lacks, Steps, TakesPiece};
+ghost use Rattle.replica_file.specs.Loading.{IsReady, IsSameButHeld};
+ghost use Rattle.replica_file.specs.Pieces.{AreBad, IsReading, Lacks, PieceSteps, TakesPiece};
 
 use crate::loading::Loading;
 use crate::stop::Stop;
@@ -43,7 +43,8 @@ impl Piece {
         ensures steps { (bytes : List ℕ) (ops : List Op)
             → IsReading bytes ops self.old.reader (⟦<SureSource as Source>⟧.seen self.old.source)
             → self.old.len ≡ length bytes
-            → Steps bytes ops loading.old.finds_place loading.old.replica loading.new.finds_place loading.new.replica
+            → PieceSteps bytes ops loading.old.finds_place loading.old.replica loading.new.finds_place
+            loading.new.replica
             self.new.reader (⟦<SureSource as Source>⟧.seen self.new.source) result }
         ensures goes_on { result ≡ Ok None
             → (self.new.reader.fault ≡ None) × (self.old.reader.offset < self.new.reader.offset) }
@@ -51,7 +52,7 @@ impl Piece {
         ensures limit { self.new.reader.limit ≡ self.old.reader.limit }
         ensures len { self.new.len ≡ self.old.len }
         ensures ready { OnOk result (IsReady loading.new.replica) }
-        ensures same { OnOk result (IsSame loading.old.replica loading.new.replica) }
+        ensures same { OnOk result (IsSameButHeld loading.old.replica loading.new.replica) }
         ensures not_disk { result ≢ Err Stop.Disk }
     {
         match self.reader.next(&mut self.source) {
@@ -79,7 +80,7 @@ pub(crate) fn take_piece(alloc: Global, bytes: Vec<u8>, loading: &mut Loading) -
     ensures memory { result ≡ Err Stop.NoMemory
         → Lacks (λ rest. rest ≡ bytes.items) bytes.items loading.old.finds_place loading.old.replica }
     ensures ready { OnOk result (IsReady loading.new.replica) }
-    ensures same { OnOk result (IsSame loading.old.replica loading.new.replica) }
+    ensures same { OnOk result (IsSameButHeld loading.old.replica loading.new.replica) }
     ensures not_disk { result ≢ Err Stop.Disk }
 {
     let mut piece = Piece::new(alloc, bytes)?;

@@ -1,14 +1,13 @@
 ghost use Rattle.std.specs.Prelude.{◌≡◌, ◌≢◌, ◌⊎◌, ◌+◌, ◌<◌, ◌≤◌, ◌^◌, ℕ, length, drop, IfSome, IfOk, OnOk};
 ghost use Rattle.origin_model.specs.declared.files.TheConstants.{LONGEST_BATCH};
 ghost use Rattle.origin_model.specs.files.Image.{IsNoBatch, number_at};
-ghost use Rattle.replica_file.specs.Loading.{IsReady, IsSame};
+ghost use Rattle.replica_file.specs.Loading.{IsReady, IsSameButHeld};
 ghost use Rattle.replica_file.specs.Looks.{LooksOnly};
 ghost use Rattle.replica_file.specs.Slots.{IsGate, LacksInSlot, TakesSlot};
 
 use crate::batch::LENGTH;
 use crate::frames::take_frames;
-use crate::gate::{CLOSED, OPEN};
-use crate::gate_place::Gate;
+use crate::gate::{CLOSED, Gate, OPEN};
 use crate::loading::Loading;
 use crate::reading::read_from;
 use crate::stop::Stop;
@@ -33,7 +32,7 @@ pub(crate) fn take_slot<H: Disk>(
         LacksInSlot h.last.seen at loading.old.finds_place loading.old.replica) }
     ensures reach { IfOk result (λ next. next.at ≤ at + 268435461) }
     ensures ready { OnOk result (IsReady loading.new.replica) }
-    ensures same { OnOk result (IsSame loading.old.replica loading.new.replica) }
+    ensures same { OnOk result (IsSameButHeld loading.old.replica loading.new.replica) }
     ensures looks { LooksOnly (H.seen disk.old) (H.seen disk.new) (result ≡ Err Stop.Disk) }
 {
     let len = read_length(disk, at + 1)?;

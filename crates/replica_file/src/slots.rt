@@ -1,10 +1,10 @@
 ghost use Rattle.std.specs.Prelude.{◌≡◌, ◌+◌, ◌*◌, ◌<◌, ◌≤◌, true, IfSome, IfOk, IfErr, OnOk};
-ghost use Rattle.replica_file.specs.Ends.{Reaches};
-ghost use Rattle.replica_file.specs.Loading.{IsReady, IsSame};
+ghost use Rattle.replica_file.specs.Ends.{IsWithinReach};
+ghost use Rattle.replica_file.specs.Loading.{IsReady, IsSameButHeld};
 ghost use Rattle.replica_file.specs.Looks.{LooksOnly};
-ghost use Rattle.replica_file.specs.Slots.{StopsFor, Walked, WalksOut};
+ghost use Rattle.replica_file.specs.Slots.{SlotStopsFor, Walked, WalksOut};
 
-use crate::gate_place::Gate;
+use crate::gate::Gate;
 use crate::loading::Loading;
 use crate::slot::take_slot;
 use crate::stop::Stop;
@@ -25,12 +25,13 @@ pub(crate) fn take_slots<H: Disk>(
     requires ready { IsReady loading.old.replica }
     requires finds_place { loading.old.finds_place ≡ true }
     requires most { loading.old.replica.most ≡ most }
-    ensures ends { IfOk result (λ end. IfSome (H.seen disk.old).past (λ h. WalksOut h.last.seen end loading.new.replica)) }
+    ensures ends { IfOk result
+        (λ end. IfSome (H.seen disk.old).past (λ h. WalksOut h.last.seen end loading.new.replica)) }
     ensures stops { IfErr result (λ fault. IfSome (H.seen disk.old).past (λ h.
-        StopsFor most h.last.seen fault)) }
-    ensures reaches { IfOk result Reaches }
+        SlotStopsFor most h.last.seen fault)) }
+    ensures reaches { IfOk result IsWithinReach }
     ensures ready { OnOk result (IsReady loading.new.replica) }
-    ensures same { OnOk result (IsSame loading.old.replica loading.new.replica) }
+    ensures same { OnOk result (IsSameButHeld loading.old.replica loading.new.replica) }
     ensures looks { LooksOnly (H.seen disk.old) (H.seen disk.new) (result ≡ Err LoadFault.DiskFault) }
 {
     let mut gate = first;
@@ -60,12 +61,12 @@ fn next_gate<H: Disk>(
     ensures walked { IfOk result (λ next. IfSome (H.seen disk.old).past (λ h.
         Walked h.last.seen (slots + 1) next loading.new.replica)) }
     ensures stops { IfErr result (λ fault. IfSome (H.seen disk.old).past (λ h.
-        StopsFor most h.last.seen fault)) }
+        SlotStopsFor most h.last.seen fault)) }
     ensures more { OnOk result (slots < 4294967295) }
     ensures reaches { IfOk result (λ next. next.at ≤ 13 + 268435461 * (slots + 1)) }
     ensures finds_place { OnOk result (loading.new.finds_place ≡ true) }
     ensures ready { OnOk result (IsReady loading.new.replica) }
-    ensures same { OnOk result (IsSame loading.old.replica loading.new.replica) }
+    ensures same { OnOk result (IsSameButHeld loading.old.replica loading.new.replica) }
     ensures looks { LooksOnly (H.seen disk.old) (H.seen disk.new) (result ≡ Err LoadFault.DiskFault) }
 {
     if slots == u32::MAX {

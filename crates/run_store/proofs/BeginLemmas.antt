@@ -7,15 +7,15 @@ use Rattle.std.proofs.Math.Seq.{take-append_seam}
 use Rattle.fugue_ids.proofs.ListLemmas.{all_before, all_behind}
 use Rattle.node_rope.specs.Beside.{placed_after, placed_before}
 use Rattle.node_rope.specs.Items.{value_under}
-use Rattle.run_store.specs.Beginning.{CanBegin, begun, placed_at}
+use Rattle.run_store.specs.Beginning.{CanBegin, begun_run, placed_at}
 use Rattle.run_store.specs.Growth.{AreGrown, IsNew}
 use Rattle.run_store.specs.Heads.{lettered}
 use Rattle.run_store.specs.Runs.{AreRuns, IsRun, all_cells, cells_in, cells_of}
-use Rattle.run_store.specs.declared.beginning.Beginning.{Beginning}
-use Rattle.run_store.specs.declared.beginning.Beginning.TheVariants.{Before, Behind, First}
-use Rattle.run_store.specs.declared.head.Head.{Head}
+use Rattle.run_store.specs.declared.insert.Beginning.{Beginning}
+use Rattle.run_store.specs.declared.insert.Beginning.TheVariants.{Before, Behind, First}
+use Rattle.run_store.specs.declared.cell.Head.{Head}
 use Rattle.run_store.specs.declared.run.Run.{Run}
-use Rattle.run_store.specs.declared.runs.Runs.{Runs}
+use Rattle.run_store.specs.declared.run.Runs.{Runs}
 use Rattle.run_store.proofs.CellLemmas.{insert-at}
 use Rattle.run_store.proofs.EitherLemmas.{value-of}
 use Rattle.run_store.proofs.GrowLemmas.{grown-cells, grown-runs, grown-set}
@@ -49,7 +49,7 @@ module _ (r : Runs) (s : AreRuns r) (h : Head) (ch : ℕ) (new : IsNew (cells_in
   -- what the runs are once the new one begins there
   pub record IsBegun (at : Beginning) : Type 0 where
     pub sound : AreRuns (begun_runs at)
-    pub cells : cells_in (begun_runs at) ≡ begun at (lettered h ch) (cells_in r)
+    pub cells : cells_in (begun_runs at) ≡ begun_run at (lettered h ch) (cells_in r)
     pub longer : length (placed_at at new_item r.rope) ≡ length r.rope + 1
 
   abbrev P : Item → Type 0
@@ -101,7 +101,7 @@ module _ (r : Runs) (s : AreRuns r) (h : Head) (ch : ℕ) (new : IsNew (cells_in
         (between-cells ∙ sym (insert-at (all_cells r.letters front) (lettered h ch) (all_cells r.letters back)) ∙ ap (λ cs. insert cs k (lettered h ch)) (sym old)) refl (begun-letters r s h ch new)
 
     begun-between : (at : Beginning) → placed_at at new_item r.rope ≡ between
-        → all_cells r.letters front ++ lettered h ch ∷ all_cells r.letters back ≡ begun at (lettered h ch) (cells_in r) → IsBegun at
+        → all_cells r.letters front ++ lettered h ch ∷ all_cells r.letters back ≡ begun_run at (lettered h ch) (cells_in r) → IsBegun at
     begun-between at put cells = record {
       sound = subst (λ xs. AreRuns (with_rope xs)) (sym put) between-sound;
       cells = ap (all_cells new_letters) put ∙ between-cells ∙ cells;

@@ -11,14 +11,14 @@ use Rattle.fugue_ids.proofs.ListLemmas.{all_before, all_behind}
 use Rattle.node_rope.specs.Beside.{put_under, rekeyed}
 use Rattle.node_rope.specs.Items.{value_under}
 use Rattle.node_rope.specs.Places.{StandsAt}
-use Rattle.run_store.specs.Borders.{IsBorder, IsHiding, IsMove, IsTakenFirst, IsTakenLast, goes_on, last_shown, shifted, together}
-use Rattle.run_store.specs.Cells.{hiding}
-use Rattle.run_store.specs.Growth.{last_id}
-use Rattle.run_store.specs.Heads.{head_behind, id_behind, lettered, typed}
+use Rattle.run_store.specs.Borders.{IsBorder, IsHiding, IsMove, IsTakenFirst, IsTakenLast, run_continues, last_shown, shifted, together}
+use Rattle.run_store.specs.Cells.{cell_hiding}
+use Rattle.run_store.specs.Growth.{last_id_of_run}
+use Rattle.run_store.specs.Heads.{head_behind, id_behind, lettered, typed_cells}
 use Rattle.run_store.specs.Runs.{AreRuns, IsRun, all_cells, cells_in, first_of, run_from, run_to}
 use Rattle.run_store.specs.declared.cell.Cell.{Cell}
 use Rattle.run_store.specs.declared.run.Run.{Run}
-use Rattle.run_store.specs.declared.runs.Runs.{Runs}
+use Rattle.run_store.specs.declared.run.Runs.{Runs}
 use Rattle.run_store.proofs.ContinueLemmas.{continued-is}
 use Rattle.run_store.proofs.CutLemmas.{back-part, front-part, rest-fresh}
 use Rattle.run_store.proofs.HeadLemmas.{behind-depth, behind-id, behind-marked, behind-other, behind-right, next-behind, typed-append}
@@ -29,7 +29,7 @@ use Rattle.run_store.proofs.RopeLemmas.{OtherKeys, put-at, rekeyed-at, value-at}
 use Rattle.run_store.proofs.RunsLemmas.{Item, cells-append, kept-run, keys-apart}
 
 -- a run that goes on from another one is the rest of both
-passage-is : (a b : Run) → 0 < a.len → goes_on a b ≡ true → b ≡ run_from a.len (together a b)
+passage-is : (a b : Run) → 0 < a.len → run_continues a b ≡ true → b ≡ run_from a.len (together a b)
 passage-is a b some t =
     let k = a.len - 1 in
     let n : suc k ≡ a.len = omega (arith, some) in
@@ -65,7 +65,7 @@ passage-is a b some t =
 
 -- the next run of a rope, where it goes on from the one before it
 pub border-found : (r : Runs) → AreRuns r → (a b : Run) (k : Identifier) → value_under a.id r.rope ≡ Some a → (i : ℕ) × StandsAt r.rope i a.id × StandsAt r.rope (i + 1) k
-    → value_under k r.rope ≡ Some b → goes_on a b ≡ true → IsBorder r.rope a b
+    → value_under k r.rope ≡ Some b → run_continues a b ≡ true → IsBorder r.rope a b
 border-found r s a b k held next v t =
     let i = next.0 in
     let n : i + 1 ≡ suc i = omega arith in
@@ -212,13 +212,13 @@ module _ (r : Runs) (s : AreRuns r) (a b : Run) (border : IsBorder r.rope a b) w
     letter = get_or letters (a.start + m) 0
 
     abbrev front_cells : List Cell
-    front_cells = all_cells r.letters border.before ++ typed (first_of a) (take m (drop a.start letters))
+    front_cells = all_cells r.letters border.before ++ typed_cells (first_of a) (take m (drop a.start letters))
 
     abbrev back_letters : List ℕ
     back_letters = take (whole.len - suc m) (drop (a.start + suc m) letters)
 
     abbrev back_cells : List Cell
-    back_cells = typed (head_behind (suc m) (first_of whole)) back_letters ++ all_cells r.letters border.behind
+    back_cells = typed_cells (head_behind (suc m) (first_of whole)) back_letters ++ all_cells r.letters border.behind
 
     abbrev front_cell : Cell
     front_cell = lettered (head_behind m (first_of a)) letter
@@ -231,7 +231,7 @@ module _ (r : Runs) (s : AreRuns r) (a b : Run) (border : IsBorder r.rope a b) w
 
     cells-before : all_cells r.letters (items m) ≡ front_cells ++ back_cell ∷ back_cells
     cells-before =
-        let t = typed (first_of a) (take m (drop a.start letters)) in
+        let t = typed_cells (first_of a) (take m (drop a.start letters)) in
         let B = all_cells r.letters border.behind in
         let k : whole.len - m ≡ suc (whole.len - suc m) = omega (arith, inside) in
         let j : suc (a.start + m) ≡ a.start + suc m = omega arith in
@@ -239,17 +239,17 @@ module _ (r : Runs) (s : AreRuns r) (a b : Run) (border : IsBorder r.rope a b) w
         ap (λ n. take n (drop (a.start + m) letters)) k ∙ part-first 0 (a.start + m) (whole.len - suc m) letters there
         ∙ ap (λ n. letter ∷ take (whole.len - suc m) (drop n letters)) j in
         cells-append r.letters border.before ((a.id, run_to m a) ∷ ((rest m).id, rest m) ∷ border.behind)
-        ∙ ap (λ ls. all_cells r.letters border.before ++ (t ++ (typed (head_behind m (first_of whole)) ls ++ B))) e
-        ∙ ap (λ h. all_cells r.letters border.before ++ (t ++ (back_cell ∷ (typed h back_letters ++ B)))) (next-behind m (first_of whole))
+        ∙ ap (λ ls. all_cells r.letters border.before ++ (t ++ (typed_cells (head_behind m (first_of whole)) ls ++ B))) e
+        ∙ ap (λ h. all_cells r.letters border.before ++ (t ++ (back_cell ∷ (typed_cells h back_letters ++ B)))) (next-behind m (first_of whole))
         ∙ sym (append_assoc (all_cells r.letters border.before) t (back_cell ∷ back_cells))
 
     cells-behind : all_cells r.letters (items (suc m)) ≡ front_cells ++ front_cell ∷ back_cells
     cells-behind =
         let ls = take m (drop a.start letters) in
-        let t = typed (first_of a) ls in
+        let t = typed_cells (first_of a) ls in
         let n : length ls ≡ m = length-take-le m (drop a.start letters) (omega (arith, there, length-drop a.start letters)) in
-        let e : typed (first_of a) (take (suc m) (drop a.start letters)) ≡ t ++ front_cell ∷ [] =
-        ap (typed (first_of a)) (part-more 0 a.start m letters there) ∙ typed-append (first_of a) ls (letter ∷ [])
+        let e : typed_cells (first_of a) (take (suc m) (drop a.start letters)) ≡ t ++ front_cell ∷ [] =
+        ap (typed_cells (first_of a)) (part-more 0 a.start m letters there) ∙ typed-append (first_of a) ls (letter ∷ [])
         ∙ ap (λ k. t ++ lettered (head_behind k (first_of a)) letter ∷ []) n in
         cells-append r.letters border.before ((a.id, run_to (suc m) a) ∷ ((rest (suc m)).id, rest (suc m)) ∷ border.behind)
         ∙ ap (λ cs. all_cells r.letters border.before ++ (cs ++ back_cells)) e
@@ -263,30 +263,30 @@ module _ (r : Runs) (s : AreRuns r) (a b : Run) (border : IsBorder r.rope a b) w
     marked-back : b.hidden ≡ true → back_cell ≡ record front_cell { hidden = true }
     marked-back h = ap (λ k. lettered k letter) (behind-marked m (first_of a) b.hidden) ∙ ap (λ t. record front_cell { hidden = t }) h
 
-    pub takes-back : r.rope ≡ items m → a.hidden ≡ true → all_cells r.letters (items (suc m)) ≡ map (hiding back_cell.id) (cells_in r)
+    pub takes-back : r.rope ≡ items m → a.hidden ≡ true → all_cells r.letters (items (suc m)) ≡ map (cell_hiding back_cell.id) (cells_in r)
     takes-back e h =
         cells-behind ∙ ap (λ c. front_cells ++ c ∷ back_cells) (marked-front h)
         ∙ sym (hides-one (cells_in r) s.distinct front_cells back_cell back_cells (ap (all_cells r.letters) e ∙ cells-before))
 
-    pub takes-front : r.rope ≡ items (suc m) → b.hidden ≡ true → all_cells r.letters (items m) ≡ map (hiding front_cell.id) (cells_in r)
+    pub takes-front : r.rope ≡ items (suc m) → b.hidden ≡ true → all_cells r.letters (items m) ≡ map (cell_hiding front_cell.id) (cells_in r)
     takes-front e h =
         cells-before ∙ ap (λ c. front_cells ++ c ∷ back_cells) (marked-back h)
         ∙ sym (hides-one (cells_in r) s.distinct front_cells front_cell back_cells (ap (all_cells r.letters) e ∙ cells-behind))
 
   module _ (x : Identifier) (n : ℕ) (move : IsMove a b n) where
-    first-hidden : IsTakenFirst x a b n → all_cells r.letters (items n) ≡ map (hiding x) (cells_in r)
+    first-hidden : IsTakenFirst x a b n → all_cells r.letters (items n) ≡ map (cell_hiding x) (cells_in r)
     first-hidden t =
         let i : a.len < a.len + b.len = omega (arith, back-is.some) in
         let e : (head_behind a.len (first_of whole)).id ≡ x = sym (ap (λ (z : Run). z.id) border.passage) ∙ sym t.is in
-        ap (λ k. all_cells r.letters (items k)) t.at ∙ takes-back a.len i items-now t.hidden ∙ ap (λ k. map (hiding k) (cells_in r)) e
+        ap (λ k. all_cells r.letters (items k)) t.at ∙ takes-back a.len i items-now t.hidden ∙ ap (λ k. map (cell_hiding k) (cells_in r)) e
 
-    last-hidden : IsTakenLast x a b n → all_cells r.letters (items n) ≡ map (hiding x) (cells_in r)
+    last-hidden : IsTakenLast x a b n → all_cells r.letters (items n) ≡ map (cell_hiding x) (cells_in r)
     last-hidden t =
         let k : a.len - 1 ≡ n = omega (arith, t.at) in
         let e : (head_behind n (first_of a)).id ≡ x = ap (λ j. (head_behind j (first_of a)).id) (sym k) ∙ sym t.is in
-        takes-front n move.rest (items-now ∙ ap items (sym t.at)) t.hidden ∙ ap (λ k. map (hiding k) (cells_in r)) e
+        takes-front n move.rest (items-now ∙ ap items (sym t.at)) t.hidden ∙ ap (λ k. map (cell_hiding k) (cells_in r)) e
 
-    pub taken-cells : IsTakenFirst x a b n ⊎ IsTakenLast x a b n → all_cells r.letters (shifted n a b r.rope) ≡ map (hiding x) (cells_in r)
+    pub taken-cells : IsTakenFirst x a b n ⊎ IsTakenLast x a b n → all_cells r.letters (shifted n a b r.rope) ≡ map (cell_hiding x) (cells_in r)
     taken-cells taken = ap (all_cells r.letters) (shifted-is n move) ∙ elim taken [
       | inl t ↦ first-hidden t
       | inr t ↦ last-hidden t
@@ -307,7 +307,7 @@ module _ (r : Runs) (s : AreRuns r) (a b : Run) (border : IsBorder r.rope a b) w
         taken = inl (record { hidden = h; at = omega (arith, at); is = sym same });
       }
 
-  pub hides-last : (n : ℕ) → 1 < a.len → b.hidden ≡ true → n ≡ a.len - 1 → IsHiding r.rope (last_id a) a b n
+  pub hides-last : (n : ℕ) → 1 < a.len → b.hidden ≡ true → n ≡ a.len - 1 → IsHiding r.rope (last_id_of_run a) a b n
   hides-last n more h at = record {
     border = border;
     move = record { some = omega (arith, at, more); rest = omega (arith, at, more); other = λ o. omega (arith, at, o, more) };

@@ -5,14 +5,14 @@ use Rattle.std.proofs.lemmas.Bool.{and_parts, eqb-true}
 use Rattle.fugue_ids.proofs.IdentifierLemmas.{origin_eq-refl, origin_eq-true}
 use Rattle.node_rope.specs.Items.{value_under}
 use Rattle.std.specs.List.{Contains}
-use Rattle.run_store.specs.Cells.{cell_of_origin, ids}
+use Rattle.run_store.specs.Cells.{cell_of_origin, cell_ids}
 use Rattle.run_store.specs.Growth.{IsNew}
 use Rattle.run_store.specs.Heads.{head_behind, id_behind, lettered}
-use Rattle.run_store.specs.NewCells.{depth_of, forest_beside, has_right, is_continued, shares_right}
+use Rattle.run_store.specs.NewCells.{cell_depth, forest_beside, has_right, is_continued, shares_right}
 use Rattle.run_store.specs.Runs.{AreRuns, cells_in, first_of}
-use Rattle.run_store.specs.declared.head.Head.{Head}
+use Rattle.run_store.specs.declared.cell.Head.{Head}
 use Rattle.run_store.specs.declared.run.Run.{Run}
-use Rattle.run_store.specs.declared.runs.Runs.{Runs}
+use Rattle.run_store.specs.declared.run.Runs.{Runs}
 use Rattle.run_store.proofs.FindLemmas.{cell-found, spot-held}
 use Rattle.run_store.proofs.HeadLemmas.{behind-depth, behind-hidden, behind-id, behind-right}
 use Rattle.run_store.proofs.RunsLemmas.{cell_there}
@@ -61,7 +61,7 @@ module _ (r : Runs) (s : AreRuns r) (run : Run) (o : ℕ) (v : value_under run.i
   -- it stands behind the last cell of the run
   pub next-last : suc o ≡ run.len
   next-last = elim (cases_less (suc o) run.len) [
-    | inl more ↦ absurd (new.fresh (subst (Contains (ids (cells_in r))) (sym id-is)
+    | inl more ↦ absurd (new.fresh (subst (Contains (cell_ids (cells_in r))) (sym id-is)
         (spot-held r s (id_behind (suc o) run.id) run (suc o) (record { held = v; inside = more; is = refl }))))
     | inr none ↦ omega (arith, l, none)
   ]
@@ -73,7 +73,7 @@ module _ (r : Runs) (s : AreRuns r) (run : Run) (o : ℕ) (v : value_under run.i
   left-cell = ap (cell_of_origin (cells_in r)) n.left ∙ cell-found r s last.id run o (record { held = v; inside = l; is = refl })
 
   depth-is : h.key.depth ≡ run.key.depth + suc o
-  depth-is = omega (arith, ap (λ k. k.depth) new.key, ap depth_of left-cell, behind-depth o (first_of run))
+  depth-is = omega (arith, ap (λ k. k.depth) new.key, ap cell_depth left-cell, behind-depth o (first_of run))
 
   shares : shares_right (cells_in r) h.left h.right ≡ true
   shares = (λ i. has_right (left-cell i) (n.right i)) ∙ origin_eq-refl last.right

@@ -8,12 +8,12 @@ use Rattle.fugue_ids.specs.declared.limits.TheConstants.{MOST_OPERATIONS}
 use Rattle.fugue_ids.proofs.IdentifierLemmas.{ne-id_eq}
 use Rattle.node_rope.specs.Beside.{placed_after, put_under}
 use Rattle.node_rope.specs.Items.{value_under}
-use Rattle.run_store.specs.Cells.{ids}
-use Rattle.run_store.specs.Heads.{head_behind, typed}
+use Rattle.run_store.specs.Cells.{cell_ids}
+use Rattle.run_store.specs.Heads.{head_behind, typed_cells}
 use Rattle.run_store.specs.Runs.{AreRuns, IsRun, all_cells, cells_in, cells_of, first_of, parted, run_from, run_to}
 use Rattle.run_store.specs.Stored.{IsRaised}
 use Rattle.run_store.specs.declared.run.Run.{Run}
-use Rattle.run_store.specs.declared.runs.Runs.{Runs}
+use Rattle.run_store.specs.declared.run.Runs.{Runs}
 use Rattle.run_store.proofs.EitherLemmas.{either, kept-raised, one-raised, where-ok}
 use Rattle.run_store.proofs.HeadLemmas.{behind-depth, behind-forest, behind-id, behind-other, typed-append}
 use Rattle.run_store.proofs.PartLemmas.{all-between, part-parts}
@@ -113,9 +113,9 @@ module _ (r : Runs) (s : AreRuns r) (run : Run) (at : ℕ) (v : value_under run.
   same-cells =
       let xs = slice_index_or r.letters run.stretch [] in
       let l : length (take at (drop run.start xs)) ≡ at = length-letters r.letters r.count (run.id, run_to at run) front-run in
-      ap (typed (first_of run)) (part-parts run.start at run.len xs (omega (arith, before)))
+      ap (typed_cells (first_of run)) (part-parts run.start at run.len xs (omega (arith, before)))
       ∙ typed-append (first_of run) (take at (drop run.start xs)) (take (run.len - at) (drop (run.start + at) xs))
-      ∙ ap (λ n. typed (first_of run) (take at (drop run.start xs)) ++ typed (head_behind n (first_of run)) (take (run.len - at) (drop (run.start + at) xs))) l
+      ∙ ap (λ n. typed_cells (first_of run) (take at (drop run.start xs)) ++ typed_cells (head_behind n (first_of run)) (take (run.len - at) (drop (run.start + at) xs))) l
 
   pub cut-cells : all_cells r.letters cut_rope ≡ cells_in r
   cut-cells =
@@ -138,7 +138,7 @@ module _ (r : Runs) (s : AreRuns r) (run : Run) (at : ℕ) (v : value_under run.
         each = subst (All P) (sym (parted-is p.front p.back p.is))
             (all-between P p.front (run.id, run) ((run.id, run_to at run) ∷ (rest_id, run_from at run) ∷ []) p.back (subst (All P) p.is s.each)
             (All-cons P (run.id, run_to at run) back_items front-run (All-cons P (rest_id, run_from at run) [] back-run (All-nil P))));
-        distinct = subst (λ cs. AllPairs (λ x y. x ≢ y) (ids cs)) (sym cut-cells) s.distinct;
+        distinct = subst (λ cs. AllPairs (λ x y. x ≢ y) (cell_ids cs)) (sym cut-cells) s.distinct;
         counted = s.counted ∙ ap length (sym cut-cells);
         few = s.few;
         letters = s.letters;

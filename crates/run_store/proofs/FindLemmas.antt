@@ -7,12 +7,12 @@ use Rattle.fugue_ids.proofs.ListLemmas.{contains_middle}
 use Rattle.node_rope.specs.Items.{value_under}
 use Rattle.node_rope.specs.Places.{IsFloor}
 use Rattle.std.proofs.lemmas.List.{map-append}
-use Rattle.run_store.specs.Cells.{cell_of, ids}
+use Rattle.run_store.specs.Cells.{cell_of, cell_ids}
 use Rattle.run_store.specs.Heads.{head_behind, id_behind}
 use Rattle.run_store.specs.Runs.{AreRuns, IsSpot, cells_in, first_of}
 use Rattle.run_store.specs.declared.cell.Cell.{Cell}
 use Rattle.run_store.specs.declared.run.Run.{Run}
-use Rattle.run_store.specs.declared.runs.Runs.{Runs}
+use Rattle.run_store.specs.declared.run.Runs.{Runs}
 use Rattle.run_store.proofs.CellLemmas.{cell-at, cell-none, others-absent}
 use Rattle.run_store.proofs.FloorLemmas.{contains-run, floor-is, gt-parts}
 use Rattle.run_store.proofs.HeadLemmas.{behind-depth, behind-id}
@@ -23,7 +23,7 @@ none-some : {X : Type 0} (x : X) → None ≡ Some x → ⊥
 none-some x e = cc
 
 module _ (r : Runs) (s : AreRuns r) (x : Identifier) where
-  pub no-floor : IsFloor r.rope x None → Contains (ids (cells_in r)) x → ⊥
+  pub no-floor : IsFloor r.rope x None → Contains (cell_ids (cells_in r)) x → ⊥
   no-floor f c = let p = contains-run r.letters r.count r.rope x s.each c in none-some p.run.id (floor-is r s x None f p).0
 
   -- a cell whose identifier is one of those of a run
@@ -38,7 +38,7 @@ module _ (r : Runs) (s : AreRuns r) (x : Identifier) where
       }
 
   module _ (k : Identifier) (f : IsFloor r.rope x (Some k)) where
-    pub not-there : (run : Run) → value_under k r.rope ≡ Some run → (k.replica ≡ x.replica → run.len ≤ x.counter - k.counter) → Contains (ids (cells_in r)) x → ⊥
+    pub not-there : (run : Run) → value_under k r.rope ≡ Some run → (k.replica ≡ x.replica → run.len ≤ x.counter - k.counter) → Contains (cell_ids (cells_in r)) x → ⊥
     not-there run v far c =
         let p = contains-run r.letters r.count r.rope x s.each c in
         let q = floor-is r s x (Some k) f p in
@@ -61,16 +61,16 @@ module _ (r : Runs) (s : AreRuns r) (x : Identifier) where
       ∙ ap (cell_of (cells_before r.letters l.front run o ++ cell_there r.letters run o ∷ cells_behind r.letters run (suc o) l.back)) (spot.is)
       ∙ cell-at (head_behind o (first_of run)).id (cells_before r.letters l.front run o) (cell_there r.letters run o) (cells_behind r.letters run (suc o) l.back) l.place.before refl
 
-  pub cell-missing : (Contains (ids (cells_in r)) x → ⊥) → cell_of (cells_in r) x ≡ None
+  pub cell-missing : (Contains (cell_ids (cells_in r)) x → ⊥) → cell_of (cells_in r) x ≡ None
   cell-missing n = cell-none x (cells_in r) (others-absent x (cells_in r) n)
 
-  pub spot-held : (run : Run) (o : ℕ) → IsSpot r.rope x run o → Contains (ids (cells_in r)) x
+  pub spot-held : (run : Run) (o : ℕ) → IsSpot r.rope x run o → Contains (cell_ids (cells_in r)) x
   spot-held run o spot =
       let l = located r s run o spot.held spot.inside in
       let as_ids = map-append (λ (z : Cell). z.id) (cells_before r.letters l.front run o) (cell_there r.letters run o ∷ cells_behind r.letters run (suc o) l.back) in
-      subst (Contains (ids (cells_in r))) (sym spot.is)
-      (subst (λ is. Contains is (head_behind o (first_of run)).id) (sym (ap ids l.place.cells_is ∙ as_ids))
-      (contains_middle (ids (cells_before r.letters l.front run o)) (head_behind o (first_of run)).id (ids (cells_behind r.letters run (suc o) l.back))))
+      subst (Contains (cell_ids (cells_in r))) (sym spot.is)
+      (subst (λ is. Contains is (head_behind o (first_of run)).id) (sym (ap cell_ids l.place.cells_is ∙ as_ids))
+      (contains_middle (cell_ids (cells_before r.letters l.front run o)) (head_behind o (first_of run)).id (cell_ids (cells_behind r.letters run (suc o) l.back))))
 
   -- the numbers of the cell at a spot
   pub spot-depth : (run : Run) (o : ℕ) → IsSpot r.rope x run o → (head_behind o (first_of run)).key.depth ≤ length (cells_in r)

@@ -12,21 +12,21 @@ use Rattle.fugue_ids.proofs.IdentifierLemmas.{cases_id, ne-id_eq}
 use Rattle.fugue_ids.proofs.ListLemmas.{contains_cases, contains_none}
 use Rattle.node_rope.specs.Items.{value_under}
 use Rattle.node_rope.specs.Places.{IsFloor}
-use Rattle.run_store.specs.Cells.{ids}
-use Rattle.run_store.specs.Heads.{head_behind, id_behind, next_head, typed}
+use Rattle.run_store.specs.Cells.{cell_ids}
+use Rattle.run_store.specs.Heads.{head_behind, id_behind, next_head, typed_cells}
 use Rattle.run_store.specs.Runs.{AreRuns, IsRun, all_cells, cells_of, first_of, letters_of}
 use Rattle.run_store.specs.declared.cell.Cell.{Cell}
-use Rattle.run_store.specs.declared.head.Head.{Head}
+use Rattle.run_store.specs.declared.cell.Head.{Head}
 use Rattle.run_store.specs.declared.run.Run.{Run}
-use Rattle.run_store.specs.declared.runs.Runs.{Runs}
+use Rattle.run_store.specs.declared.run.Runs.{Runs}
 use Rattle.run_store.proofs.HeadLemmas.{behind-id, behind-next}
 use Rattle.run_store.proofs.RunsLemmas.{Item, keys-apart, length-letters}
 use Rattle.run_store.proofs.RopeLemmas.{OtherKeys, keys-append, value-at, value-none}
 
 -- the place of an identifier in a run
-contains-typed : (h : Head) (ls : List ℕ) (x : Identifier) → Contains (ids (typed h ls)) x → (o : ℕ) × (o < length ls) × (x ≡ (head_behind o h).id)
+contains-typed : (h : Head) (ls : List ℕ) (x : Identifier) → Contains (cell_ids (typed_cells h ls)) x → (o : ℕ) × (o < length ls) × (x ≡ (head_behind o h).id)
 contains-typed h [] x c = absurd (contains_none x c)
-contains-typed h (l ∷ ls) x c = elim (contains_cases h.id (ids (typed (next_head h) ls)) x c) [
+contains-typed h (l ∷ ls) x c = elim (contains_cases h.id (cell_ids (typed_cells (next_head h) ls)) x c) [
   | inl e ↦ (0, omega arith, sym e)
   | inr r ↦
       let p = contains-typed (next_head h) ls x r in
@@ -43,12 +43,12 @@ pub record IsCellOf (L : List (List ℕ)) (xs : List Item) (x : Identifier) : Ty
   pub inside : offset < run.len
   pub named : x ≡ (head_behind offset (first_of run)).id
 
-pub contains-run : (L : List (List ℕ)) (n : ℕ) (xs : List Item) (x : Identifier) → All (IsRun L n) xs → Contains (ids (all_cells L xs)) x → IsCellOf L xs x
+pub contains-run : (L : List (List ℕ)) (n : ℕ) (xs : List Item) (x : Identifier) → All (IsRun L n) xs → Contains (cell_ids (all_cells L xs)) x → IsCellOf L xs x
 contains-run L n [] x a c = absurd (contains_none x c)
 contains-run L n (i ∷ xs) x a c =
     let r = All-head (IsRun L n) i xs a in
     let d = subst (λ ys. Contains ys x) (map-append (λ (z : Cell). z.id) (cells_of L i.1) (all_cells L xs)) c in
-    elim (Contains-append_cases (ids (cells_of L i.1)) (ids (all_cells L xs)) x d) [
+    elim (Contains-append_cases (cell_ids (cells_of L i.1)) (cell_ids (all_cells L xs)) x d) [
       | inl here ↦
           let p = contains-typed (first_of i.1) (letters_of L i.1) x here in
           record { front = []; back = xs; run = i.1; offset = p.0; is = λ j. (r.named j, i.1) ∷ xs; inside = omega (arith, p.1, length-letters L n i r); named = p.2 }

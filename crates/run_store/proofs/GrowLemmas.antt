@@ -5,7 +5,7 @@ use Rattle.std.specs.List.{All}
 use Rattle.std.proofs.lemmas.List.{drop-append-le, length-set, length-take-le, take_all}
 use Rattle.std.proofs.lemmas.List.Elements.{All-head, All-tail, All-cons, All-nil}
 use Rattle.run_store.specs.Growth.{AreGrown, IsLonger}
-use Rattle.run_store.specs.Heads.{typed}
+use Rattle.run_store.specs.Heads.{typed_cells}
 use Rattle.run_store.specs.Runs.{IsRun, all_cells, first_of, letters_of}
 use Rattle.run_store.specs.declared.run.Run.{Run}
 use Rattle.run_store.proofs.PartLemmas.{part-front}
@@ -78,7 +78,7 @@ module _ (L M : List (List ℕ)) (g : AreGrown L M) (n m : ℕ) (le : n ≤ m) w
   pub grown-cells : (xs : List Item) → All (IsRun L n) xs → all_cells M xs ≡ all_cells L xs
   grown-cells [] a = refl
   grown-cells (x ∷ xs) a =
-      λ i. typed (first_of x.1) (grown-letters x (All-head (IsRun L n) x xs a) i) ++ grown-cells xs (All-tail (IsRun L n) x xs a) i
+      λ i. typed_cells (first_of x.1) (grown-letters x (All-head (IsRun L n) x xs a) i) ++ grown-cells xs (All-tail (IsRun L n) x xs a) i
 
 -- a part of a list whose end is the part's, with more behind
 pub part-longer : {X : Type 0} (start n : ℕ) (xs : List X) (x : X) → start + n ≡ length xs → take (suc n) (drop start (xs ++ x ∷ [])) ≡ take n (drop start xs) ++ x ∷ []

@@ -2,8 +2,8 @@
 use Rattle.std.proofs.Common.{◌≡◌, ◌≢◌, ℕ, zero, suc, ◌+◌, ◌<◌, List, [], ◌∷◌, ◌++◌, ap, arith, get_or, length, refl, sym, take, drop, ◌∙◌}
 use Rattle.std.specs.Prelude.{Bool, Some}
 use Rattle.fugue_ids.specs.Identifiers.{Identifier}
-use Rattle.run_store.specs.Heads.{head_behind, id_behind, lettered, next_head, typed}
-use Rattle.run_store.specs.declared.head.Head.{Head}
+use Rattle.run_store.specs.Heads.{head_behind, id_behind, lettered, next_head, typed_cells}
+use Rattle.run_store.specs.declared.cell.Head.{Head}
 
 pub behind-none : (x : Identifier) → id_behind 0 x ≡ x
 behind-none x = let e : x.counter + 0 ≡ x.counter = omega arith in λ i. record { replica = x.replica; counter = e i }
@@ -48,25 +48,25 @@ pub behind-depth : (n : ℕ) (h : Head) → (head_behind n h).key.depth ≡ h.ke
 behind-depth zero h = omega arith
 behind-depth (suc n) h = refl
 
-pub typed-append : (h : Head) (xs ys : List ℕ) → typed h (xs ++ ys) ≡ typed h xs ++ typed (head_behind (length xs) h) ys
+pub typed-append : (h : Head) (xs ys : List ℕ) → typed_cells h (xs ++ ys) ≡ typed_cells h xs ++ typed_cells (head_behind (length xs) h) ys
 typed-append h [] ys = refl
 typed-append h (x ∷ xs) ys =
-    ap (λ cs. lettered h x ∷ cs) (typed-append (next_head h) xs ys ∙ ap (λ k. typed (next_head h) xs ++ typed k ys) (behind-next (length xs) h))
+    ap (λ cs. lettered h x ∷ cs) (typed-append (next_head h) xs ys ∙ ap (λ k. typed_cells (next_head h) xs ++ typed_cells k ys) (behind-next (length xs) h))
 
-pub length-typed : (h : Head) (xs : List ℕ) → length (typed h xs) ≡ length xs
+pub length-typed : (h : Head) (xs : List ℕ) → length (typed_cells h xs) ≡ length xs
 length-typed h [] = refl
 length-typed h (x ∷ xs) = ap suc (length-typed (next_head h) xs)
 
 -- the cell at a place of a run
 pub typed-at : (h : Head) (o : ℕ) (xs : List ℕ) → o < length xs
-    → typed h xs ≡ typed h (take o xs) ++ lettered (head_behind o h) (get_or xs o 0) ∷ typed (head_behind (suc o) h) (drop (suc o) xs)
+    → typed_cells h xs ≡ typed_cells h (take o xs) ++ lettered (head_behind o h) (get_or xs o 0) ∷ typed_cells (head_behind (suc o) h) (drop (suc o) xs)
 typed-at h o [] l = absurd (omega (arith, l))
-typed-at h zero (x ∷ xs) l = ap (λ k. lettered h x ∷ typed k xs) (behind-next 0 h)
+typed-at h zero (x ∷ xs) l = ap (λ k. lettered h x ∷ typed_cells k xs) (behind-next 0 h)
 typed-at h (suc o) (x ∷ xs) l =
     let r : o < length xs = omega (arith, l) in
     ap (λ cs. lettered h x ∷ cs)
     (typed-at (next_head h) o xs r
-    ∙ (λ i. typed (next_head h) (take o xs) ++ lettered (behind-next o h i) (get_or xs o 0) ∷ typed (behind-next (suc o) h i) (drop (suc o) xs)))
+    ∙ (λ i. typed_cells (next_head h) (take o xs) ++ lettered (behind-next o h i) (get_or xs o 0) ∷ typed_cells (behind-next (suc o) h i) (drop (suc o) xs)))
 
 pub behind-forest : (n : ℕ) (h : Head) → 0 < n → (head_behind n h).key.forest ≡ 0
 behind-forest zero h l = absurd (omega (arith, l))

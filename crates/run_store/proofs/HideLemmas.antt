@@ -7,12 +7,12 @@ use Rattle.std.proofs.lemmas.List.Elements.{All-cons, All-nil}
 use Rattle.fugue_ids.specs.Identifiers.{Identifier, id_eq}
 use Rattle.node_rope.specs.Beside.{put_under}
 use Rattle.node_rope.specs.Items.{value_under}
-use Rattle.run_store.specs.Cells.{hiding, ids, is_hidden}
-use Rattle.run_store.specs.Heads.{head_behind, typed}
+use Rattle.run_store.specs.Cells.{cell_hiding, cell_ids, is_hidden_cell}
+use Rattle.run_store.specs.Heads.{head_behind, typed_cells}
 use Rattle.run_store.specs.Runs.{AreLetters, AreRuns, IsRun, IsSpot, all_cells, cells_in, first_of, letters_of}
 use Rattle.run_store.specs.declared.cell.Cell.{Cell}
 use Rattle.run_store.specs.declared.run.Run.{Run}
-use Rattle.run_store.specs.declared.runs.Runs.{Runs}
+use Rattle.run_store.specs.declared.run.Runs.{Runs}
 use Rattle.run_store.proofs.CellLemmas.{hidden-at, hiding-at, others-back, others-front}
 use Rattle.run_store.proofs.HeadLemmas.{behind-hidden}
 use Rattle.run_store.proofs.PartLemmas.{all-between}
@@ -20,30 +20,30 @@ use Rattle.run_store.proofs.RopeLemmas.{found, put-at}
 use Rattle.run_store.proofs.RunsLemmas.{Item, cell_there, cells-around, cells_before, cells_behind, kept-run, keys-apart, length-letters, located, placed}
 
 -- the identifiers stay
-same_id : (x : Identifier) (c : Cell) → (hiding x c).id ≡ c.id
+same_id : (x : Identifier) (c : Cell) → (cell_hiding x c).id ≡ c.id
 same_id x c = elim (id_eq c.id x) as (λ b. ◌≡◌ {A = Identifier} ((if b then record c { hidden = true } else c).id) c.id) [ true ↦ refl | false ↦ refl ]
 
-ids-hiding : (x : Identifier) (cs : List Cell) → ids (map (hiding x) cs) ≡ ids cs
+ids-hiding : (x : Identifier) (cs : List Cell) → cell_ids (map (cell_hiding x) cs) ≡ cell_ids cs
 ids-hiding x [] = refl
 ids-hiding x (c ∷ cs) = λ i. same_id x c i ∷ ids-hiding x cs i
 
 -- a store whose cells are those of another one with a cell hidden
 pub marked-sound : (r : Runs) → AreRuns r → (x : Identifier) (now : Runs) → now.count ≡ r.count → now.letters ≡ r.letters → All (IsRun now.letters now.count) now.rope
-    → cells_in now ≡ map (hiding x) (cells_in r) → AreRuns now
+    → cells_in now ≡ map (cell_hiding x) (cells_in r) → AreRuns now
 marked-sound r s x now count letters each cells = record {
   each = each;
-  distinct = subst (AllPairs (λ y z. y ≢ z)) (sym (ap ids cells ∙ ids-hiding x (cells_in r))) s.distinct;
-  counted = count ∙ s.counted ∙ sym (ap length cells ∙ length-map (cells_in r) (hiding x));
+  distinct = subst (AllPairs (λ y z. y ≢ z)) (sym (ap cell_ids cells ∙ ids-hiding x (cells_in r))) s.distinct;
+  counted = count ∙ s.counted ∙ sym (ap length cells ∙ length-map (cells_in r) (cell_hiding x));
   few = omega (arith, s.few, count);
   letters = subst (AreLetters now.letters) (sym count) (subst (λ L. AreLetters L r.count) (sym letters) s.letters);
 }
 
 -- a cell with those around it, once it is hidden
-pub hides-one : (cs : List Cell) → AllPairs (λ x y. x ≢ y) (ids cs) → (front : List Cell) (c : Cell) (back : List Cell) → cs ≡ front ++ c ∷ back
-    → map (hiding c.id) cs ≡ front ++ record c { hidden = true } ∷ back
+pub hides-one : (cs : List Cell) → AllPairs (λ x y. x ≢ y) (cell_ids cs) → (front : List Cell) (c : Cell) (back : List Cell) → cs ≡ front ++ c ∷ back
+    → map (cell_hiding c.id) cs ≡ front ++ record c { hidden = true } ∷ back
 hides-one cs d front c back e =
-    let apart = subst (λ zs. AllPairs (λ x y. x ≢ y) (ids zs)) e d in
-    ap (map (hiding c.id)) e ∙ hiding-at c.id front c back (others-front front c back apart) (others-back front c back apart) refl
+    let apart = subst (λ zs. AllPairs (λ x y. x ≢ y) (cell_ids zs)) e d in
+    ap (map (cell_hiding c.id)) e ∙ hiding-at c.id front c back (others-front front c back apart) (others-back front c back apart) refl
 
 -- the numbers of a run do not hang on its mark
 pub marked-run : (L : List (List ℕ)) (n : ℕ) (k : Identifier) (run : Run) (m : Bool) → IsRun L n (k, run) → IsRun L n (k, record run { hidden = m })
@@ -60,17 +60,17 @@ marked-run L n k run m this = record {
 
 -- the mark of the cell at a spot is that of its run
 module _ (r : Runs) (s : AreRuns r) (x : Identifier) (run : Run) (o : ℕ) (spot : IsSpot r.rope x run o) where
-  pub spot-hidden : is_hidden (cells_in r) x ≡ run.hidden
+  pub spot-hidden : is_hidden_cell (cells_in r) x ≡ run.hidden
   spot-hidden =
       let l = located r s run o spot.held spot.inside in
       let F = cells_before r.letters l.front run o in
       let B = cells_behind r.letters run (suc o) l.back in
-      (λ i. is_hidden (l.place.cells_is i) (spot.is i))
+      (λ i. is_hidden_cell (l.place.cells_is i) (spot.is i))
       ∙ hidden-at (head_behind o (first_of run)).id F (cell_there r.letters run o) B l.place.before l.place.behind refl
       ∙ behind-hidden o (first_of run)
 
   -- a hidden one that is hidden again stays
-  pub hidden-again : run.hidden ≡ true → cells_in r ≡ map (hiding x) (cells_in r)
+  pub hidden-again : run.hidden ≡ true → cells_in r ≡ map (cell_hiding x) (cells_in r)
   hidden-again h =
       let l = located r s run o spot.held spot.inside in
       let F = cells_before r.letters l.front run o in
@@ -80,7 +80,7 @@ module _ (r : Runs) (s : AreRuns r) (x : Identifier) (run : Run) (o : ℕ) (spot
       l.place.cells_is
       ∙ (λ i. F ++ record c { hidden = t i } ∷ B)
       ∙ sym (hiding-at (head_behind o (first_of run)).id F c B l.place.before l.place.behind refl)
-      ∙ sym (λ i. map (hiding (spot.is i)) (l.place.cells_is i))
+      ∙ sym (λ i. map (cell_hiding (spot.is i)) (l.place.cells_is i))
 
 -- a run of one cell, hidden
 module _ (r : Runs) (s : AreRuns r) (run : Run) (v : value_under run.id r.rope ≡ Some run) (one : run.len ≡ 1) where
@@ -113,10 +113,10 @@ module _ (r : Runs) (s : AreRuns r) (run : Run) (v : value_under run.id r.rope �
 
     same-behind : cells_behind r.letters run 1 back ≡ cells_behind r.letters hidden_run 1 back
     same-behind =
-        (λ i. typed (head_behind 1 (first_of run)) (no-more i) ++ all_cells r.letters back)
-        ∙ sym (λ i. typed (head_behind 1 (first_of hidden_run)) (no-more i) ++ all_cells r.letters back)
+        (λ i. typed_cells (head_behind 1 (first_of run)) (no-more i) ++ all_cells r.letters back)
+        ∙ sym (λ i. typed_cells (head_behind 1 (first_of hidden_run)) (no-more i) ++ all_cells r.letters back)
 
-    cells-hidden : cells_in hidden_runs ≡ map (hiding run.id) (cells_in r)
+    cells-hidden : cells_in hidden_runs ≡ map (cell_hiding run.id) (cells_in r)
     cells-hidden =
         let p = placed r s front run 0 back is this.some in
         let F = cells_before r.letters front run 0 in
@@ -125,9 +125,9 @@ module _ (r : Runs) (s : AreRuns r) (run : Run) (v : value_under run.id r.rope �
         ∙ cells-around r.letters front hidden_run 0 back r.count hidden-run this.some
         ∙ ap (λ cs. F ++ record c { hidden = true } ∷ cs) (sym same-behind)
         ∙ sym (hiding-at run.id F c (cells_behind r.letters run 1 back) p.before p.behind refl)
-        ∙ ap (map (hiding run.id)) (sym p.cells_is)
+        ∙ ap (map (cell_hiding run.id)) (sym p.cells_is)
 
-  pub hiding-cells : cells_in hidden_runs ≡ map (hiding run.id) (cells_in r)
+  pub hiding-cells : cells_in hidden_runs ≡ map (cell_hiding run.id) (cells_in r)
   hiding-cells = let p = found run.id run r.rope v in cells-hidden p.front p.back p.is
 
   pub hiding-sound : AreRuns hidden_runs

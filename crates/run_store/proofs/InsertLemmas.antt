@@ -5,28 +5,28 @@ use Rattle.std.specs.List.{All, AllPairs, Contains, insert}
 use Rattle.std.proofs.lemmas.List.{length-set, length-take-le, take-append-drop}
 use Rattle.fugue_ids.specs.Listed.{index_of}
 use Rattle.fugue_ids.proofs.ListLemmas.{all_before, all_behind, all_from_contains, all_pairs_insert}
-use Rattle.run_store.specs.Cells.{ids}
+use Rattle.run_store.specs.Cells.{cell_ids}
 use Rattle.run_store.specs.Growth.{IsNew}
-use Rattle.run_store.specs.Heads.{head_behind, lettered, typed}
+use Rattle.run_store.specs.Heads.{head_behind, lettered, typed_cells}
 use Rattle.run_store.specs.Runs.{AreLetters, AreRuns, IsRun, all_cells, cells_in, cells_of, first_of, letters_of}
 use Rattle.run_store.specs.declared.cell.Cell.{Cell}
-use Rattle.run_store.specs.declared.head.Head.{Head}
+use Rattle.run_store.specs.declared.cell.Head.{Head}
 use Rattle.run_store.specs.declared.run.Run.{Run}
-use Rattle.run_store.specs.declared.runs.Runs.{Runs}
+use Rattle.run_store.specs.declared.run.Runs.{Runs}
 use Rattle.run_store.proofs.CellLemmas.{index-at}
 use Rattle.run_store.proofs.GrowLemmas.{part-longer, set-stretch}
 use Rattle.run_store.proofs.HeadLemmas.{length-typed}
 use Rattle.run_store.proofs.RunsLemmas.{IsPlaced, Item, cell_there, cells_before, cells_behind, length-letters}
 
-ids-insert : (cs : List Cell) (k : ℕ) (c : Cell) → ids (insert cs k c) ≡ insert (ids cs) k c.id
+ids-insert : (cs : List Cell) (k : ℕ) (c : Cell) → cell_ids (insert cs k c) ≡ insert (cell_ids cs) k c.id
 ids-insert cs zero c = refl
 ids-insert [] (suc k) c = refl
 ids-insert (d ∷ cs) (suc k) c = ap (λ xs. d.id ∷ xs) (ids-insert cs k c)
 
 -- distinct cells with a new one
-pub distinct-insert : (cs : List Cell) (k : ℕ) (c : Cell) → AllPairs (λ x y. x ≢ y) (ids cs) → (Contains (ids cs) c.id → ⊥) → AllPairs (λ x y. x ≢ y) (ids (insert cs k c))
+pub distinct-insert : (cs : List Cell) (k : ℕ) (c : Cell) → AllPairs (λ x y. x ≢ y) (cell_ids cs) → (Contains (cell_ids cs) c.id → ⊥) → AllPairs (λ x y. x ≢ y) (cell_ids (insert cs k c))
 distinct-insert cs k c d fresh =
-    let xs = ids cs in
+    let xs = cell_ids cs in
     let e = sym (take-append-drop k xs) in
     let left : All (λ y. y ≢ c.id) xs = all_from_contains (λ y. y ≢ c.id) xs (λ y m s. fresh (subst (Contains xs) s m)) in
     let right : All (λ y. c.id ≢ y) xs = all_from_contains (λ y. c.id ≢ y) xs (λ y m s. fresh (subst (Contains xs) (sym s) m)) in
@@ -42,15 +42,15 @@ length-insert (y ∷ xs) (suc k) x l = ap suc (length-insert xs k x (omega (arit
 
 -- the place of the cell at a place of a run
 pub index-placed : (r : Runs) (front : List Item) (run : Run) (o : ℕ) (back : List Item) → IsPlaced r front run o back → o < run.len
-    → index_of (ids (cells_in r)) (head_behind o (first_of run)).id ≡ length (all_cells r.letters front) + o
+    → index_of (cell_ids (cells_in r)) (head_behind o (first_of run)).id ≡ length (all_cells r.letters front) + o
 index-placed r front run o back p l =
     let x = (head_behind o (first_of run)).id in
     let F = cells_before r.letters front run o in
     let ls = letters_of r.letters run in
     let k : length (take o ls) ≡ o = length-take-le o ls (omega (arith, l, length-letters r.letters r.count (run.id, run) p.is_run)) in
-    ap (λ cs. index_of (ids cs) x) p.cells_is
+    ap (λ cs. index_of (cell_ids cs) x) p.cells_is
     ∙ index-at x F (cell_there r.letters run o) (cells_behind r.letters run (suc o) back) p.before refl
-    ∙ omega (arith, k, length-append (all_cells r.letters front) (typed (first_of run) (take o ls)), length-typed (first_of run) (take o ls))
+    ∙ omega (arith, k, length-append (all_cells r.letters front) (typed_cells (first_of run) (take o ls)), length-typed (first_of run) (take o ls))
 
 -- a new store whose cells are the old ones with a new one
 module _ (r : Runs) (s : AreRuns r) (h : Head) (ch : ℕ) (new : IsNew (cells_in r) h) where
@@ -63,7 +63,7 @@ module _ (r : Runs) (s : AreRuns r) (h : Head) (ch : ℕ) (new : IsNew (cells_in
       let n = ap length cells ∙ length-insert (cells_in r) k new_cell within in
       record {
         each = each;
-        distinct = subst (λ cs. AllPairs (λ x y. x ≢ y) (ids cs)) (sym cells) (distinct-insert (cells_in r) k new_cell s.distinct new.fresh);
+        distinct = subst (λ cs. AllPairs (λ x y. x ≢ y) (cell_ids cs)) (sym cells) (distinct-insert (cells_in r) k new_cell s.distinct new.fresh);
         counted = omega (arith, n, s.counted, count);
         few = omega (arith, s.counted, new.room, count);
         letters = letters;
@@ -106,5 +106,5 @@ module _ (r : Runs) (s : AreRuns r) (h : Head) (ch : ℕ) (new : IsNew (cells_in
 
   pub alone-cells : cells_of letters_begun alone_run ≡ new_cell ∷ []
   alone-cells =
-      ap (λ xs. typed h (take 1 (drop (length first_letters) xs))) first-begun
-      ∙ ap (typed h) (part-longer (length first_letters) 0 first_letters ch (omega arith))
+      ap (λ xs. typed_cells h (take 1 (drop (length first_letters) xs))) first-begun
+      ∙ ap (typed_cells h) (part-longer (length first_letters) 0 first_letters ch (omega arith))

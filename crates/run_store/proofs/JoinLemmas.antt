@@ -9,14 +9,14 @@ use Rattle.fugue_ids.specs.Listed.{index_of}
 use Rattle.fugue_ids.proofs.ListLemmas.{all_before, all_behind}
 use Rattle.node_rope.specs.Beside.{put_under}
 use Rattle.node_rope.specs.Items.{value_under}
-use Rattle.run_store.specs.Cells.{ids}
-use Rattle.run_store.specs.Growth.{IsLonger, IsNew, inserted_before, inserted_behind, last_id}
-use Rattle.run_store.specs.Heads.{head_behind, lettered, typed}
+use Rattle.run_store.specs.Cells.{cell_ids}
+use Rattle.run_store.specs.Growth.{IsLonger, IsNew, cell_inserted_before, cell_inserted_behind, last_id_of_run}
+use Rattle.run_store.specs.Heads.{head_behind, lettered, typed_cells}
 use Rattle.run_store.specs.Runs.{AreRuns, IsRun, all_cells, cells_in, cells_of, first_of, letters_of}
 use Rattle.run_store.specs.declared.cell.Cell.{Cell}
-use Rattle.run_store.specs.declared.head.Head.{Head}
+use Rattle.run_store.specs.declared.cell.Head.{Head}
 use Rattle.run_store.specs.declared.run.Run.{Run}
-use Rattle.run_store.specs.declared.runs.Runs.{Runs}
+use Rattle.run_store.specs.declared.run.Runs.{Runs}
 use Rattle.run_store.proofs.CellLemmas.{insert-at, others-absent}
 use Rattle.run_store.proofs.GrowLemmas.{grown-cells, grown-runs}
 use Rattle.run_store.proofs.HeadLemmas.{behind-id, length-typed, typed-append}
@@ -45,25 +45,25 @@ module _ (r : Runs) (s : AreRuns r) where
           length-letters r.letters r.count (run.id, run) this,
         )
 
-    index-last : suc (index_of (ids (cells_in r)) (last_id run)) ≡ length to_run
+    index-last : suc (index_of (cell_ids (cells_in r)) (last_id_of_run run)) ≡ length to_run
     index-last =
         let l : run.len - 1 < run.len = omega (arith, this.some) in
         omega (arith, length-to, index-placed r front run (run.len - 1) back (placed r s front run (run.len - 1) back is l) l, this.some)
 
-    pub behind-within : suc (index_of (ids (cells_in r)) (last_id run)) ≤ length (cells_in r)
+    pub behind-within : suc (index_of (cell_ids (cells_in r)) (last_id_of_run run)) ≤ length (cells_in r)
     behind-within = omega (arith, index-last, ap length cells-there, length-append to_run (all_cells r.letters back))
 
     -- a cell behind the run
-    pub behind-run : (c : Cell) → to_run ++ c ∷ all_cells r.letters back ≡ inserted_behind (last_id run) c (cells_in r)
+    pub behind-run : (c : Cell) → to_run ++ c ∷ all_cells r.letters back ≡ cell_inserted_behind (last_id_of_run run) c (cells_in r)
     behind-run c =
         sym (insert-at to_run c (all_cells r.letters back))
         ∙ (λ i. insert (sym cells-there i) (sym index-last i) c)
 
-    index-first : index_of (ids (cells_in r)) run.id ≡ length (all_cells r.letters front)
+    index-first : index_of (cell_ids (cells_in r)) run.id ≡ length (all_cells r.letters front)
     index-first = omega (arith, index-placed r front run 0 back (placed r s front run 0 back is this.some) this.some)
 
     -- and before it
-    pub before-run : (c : Cell) → all_cells r.letters front ++ c ∷ (cells_of r.letters run ++ all_cells r.letters back) ≡ inserted_before run.id c (cells_in r)
+    pub before-run : (c : Cell) → all_cells r.letters front ++ c ∷ (cells_of r.letters run ++ all_cells r.letters back) ≡ cell_inserted_before run.id c (cells_in r)
     before-run c =
         let rest = cells_of r.letters run ++ all_cells r.letters back in
         let e = cells-there ∙ append_assoc (all_cells r.letters front) (cells_of r.letters run) (all_cells r.letters back) in
@@ -112,9 +112,9 @@ module _ (r : Runs) (s : AreRuns r) where
       longer-cells : cells_of M longer ≡ cells_of r.letters run ++ lettered h ch ∷ []
       longer-cells =
           let ls = letters_of r.letters run in
-          (λ i. typed (first_of (il.same i)) (il.letters i))
+          (λ i. typed_cells (first_of (il.same i)) (il.letters i))
           ∙ typed-append (first_of run) ls (ch ∷ [])
-          ∙ ap (λ k. typed (first_of run) ls ++ lettered k ch ∷ []) (ap (λ n. head_behind n (first_of run)) (length-letters r.letters r.count (run.id, run) this) ∙ sym next)
+          ∙ ap (λ k. typed_cells (first_of run) ls ++ lettered k ch ∷ []) (ap (λ n. head_behind n (first_of run)) (length-letters r.letters r.count (run.id, run) this) ∙ sym next)
 
       module _ (front back : List Item) (is : r.rope ≡ front ++ (run.id, run) ∷ back) where
         put-is : put_under run.id longer r.rope ≡ front ++ (run.id, longer) ∷ back
@@ -125,7 +125,7 @@ module _ (r : Runs) (s : AreRuns r) where
         runs : All (IsRun r.letters r.count) (front ++ (run.id, run) ∷ back)
         runs = subst (All (IsRun r.letters r.count)) is s.each
 
-        extended-is : cells_in extended ≡ inserted_behind (last_id run) (lettered h ch) (cells_in r)
+        extended-is : cells_in extended ≡ cell_inserted_behind (last_id_of_run run) (lettered h ch) (cells_in r)
         extended-is =
             let P = IsRun r.letters r.count in
             let f = grown-cells r.letters M il.grown r.count (r.count + 1) more front (all_before P front ((run.id, run) ∷ back) runs) in
@@ -147,13 +147,13 @@ module _ (r : Runs) (s : AreRuns r) where
             (all-between P front (run.id, run) ((run.id, longer) ∷ []) back
             (grown-runs r.letters M il.grown r.count (r.count + 1) more (front ++ (run.id, run) ∷ back) runs) (All-cons P (run.id, longer) [] longer-run (All-nil P)))
 
-      pub extended-cells : cells_in extended ≡ inserted_behind (last_id run) (lettered h ch) (cells_in r)
+      pub extended-cells : cells_in extended ≡ cell_inserted_behind (last_id_of_run run) (lettered h ch) (cells_in r)
       extended-cells = let p = found run.id run r.rope v in extended-is p.front p.back p.is
 
       pub extended-sound : AreRuns extended
       extended-sound =
           let p = found run.id run r.rope v in
-          joined-sound r s h ch new extended (suc (index_of (ids (cells_in r)) (last_id run))) (behind-within run p.front p.back p.is this) (extended-each p.front p.back p.is)
+          joined-sound r s h ch new extended (suc (index_of (cell_ids (cells_in r)) (last_id_of_run run))) (behind-within run p.front p.back p.is this) (extended-each p.front p.back p.is)
           extended-cells refl (il.few r.count this.ends s.letters)
 
       pub extended-length : length extended.rope ≡ length r.rope

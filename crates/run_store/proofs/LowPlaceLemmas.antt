@@ -9,11 +9,11 @@ use Rattle.fugue_ids.specs.declared.key.Key.{Key}
 use Rattle.node_rope.specs.Items.{value_under}
 use Rattle.node_rope.specs.Low.{last_low as last_run}
 use Rattle.node_rope.specs.Places.{last_low_key}
-use Rattle.run_store.specs.Cells.{keyed}
-use Rattle.run_store.specs.Heads.{head_behind, rank_of, typed}
+use Rattle.run_store.specs.Cells.{keyed_cells}
+use Rattle.run_store.specs.Heads.{head_behind, rank_of, typed_cells}
 use Rattle.run_store.specs.Runs.{AreRuns, IsRun, IsSpot, all_cells, cells_in, cells_of, first_of, letters_of}
 use Rattle.run_store.specs.declared.run.Run.{Run}
-use Rattle.run_store.specs.declared.runs.Runs.{Runs}
+use Rattle.run_store.specs.declared.run.Runs.{Runs}
 use Rattle.run_store.proofs.LowLemmas.{all-take, first-front, first-past, last-back, last-none-back, last-run-low, last-runs, last_in, run_rank}
 use Rattle.run_store.proofs.PlaceLemmas.{placed-at, value-there}
 use Rattle.run_store.proofs.RunsLemmas.{Item, kept-run, length-letters, located}
@@ -53,13 +53,13 @@ module _ (r : Runs) (s : AreRuns r) (k : Key) (fits : k.forest < 2 ^ 32) where
     told-is : told ≡ option_map (λ (x : Item). x.0) found
     told-is = ap (λ j. last_low_key (λ (z : Run). rank_of z.key) j (take n r.rope)) rank
 
-    pub none-told : None ≡ told → last_low k (keyed (all_cells r.letters (take n r.rope))) ≡ None
+    pub none-told : None ≡ told → last_low k (keyed_cells (all_cells r.letters (take n r.rope))) ≡ None
     none-told e =
         last-runs k r.letters r.count fits few (take n r.rope) fronts
         ∙ ap (last_in k r.letters r.count fits few) (keyed-none found (e ∙ told-is))
 
     module _ (y : Identifier) (e : Some y ≡ told) where
-      pub run-told : (run : Run) × (value_under y r.rope ≡ Some run) × (last_low k (keyed (all_cells r.letters (take n r.rope))) ≡ last_low k (keyed (cells_of r.letters run)))
+      pub run-told : (run : Run) × (value_under y r.rope ≡ Some run) × (last_low k (keyed_cells (all_cells r.letters (take n r.rope))) ≡ last_low k (keyed_cells (cells_of r.letters run)))
       run-told =
           let p = keyed-some found y (e ∙ told-is) in
           let x : Item = p.0 in
@@ -71,12 +71,12 @@ module _ (r : Runs) (s : AreRuns r) (k : Key) (fits : k.forest < 2 ^ 32) where
           )
 
       -- it is the run under that key
-      pub low-told : (run : Run) → Some run ≡ value_under y r.rope → last_low k (keyed (all_cells r.letters (take n r.rope))) ≡ last_low k (keyed (cells_of r.letters run))
+      pub low-told : (run : Run) → Some run ≡ value_under y r.rope → last_low k (keyed_cells (all_cells r.letters (take n r.rope))) ≡ last_low k (keyed_cells (cells_of r.letters run))
       low-told run v =
           let p = run-told in
           let w : Some run ≡ Some p.0 = v ∙ p.1 in
           let d : run ≡ p.0 = cc in
-          p.2 ∙ ap (λ z. last_low k (keyed (cells_of r.letters z))) (sym d)
+          p.2 ∙ ap (λ z. last_low k (keyed_cells (cells_of r.letters z))) (sym d)
 
   -- the cell at a spot
   module _ (x : Identifier) (run : Run) (o : ℕ) (spot : IsSpot r.rope x run o) where
@@ -93,29 +93,29 @@ module _ (r : Runs) (s : AreRuns r) (k : Key) (fits : k.forest < 2 ^ 32) where
     front-len = length-take-le o letters (omega (arith, letters-len, spot.inside))
 
     -- the first low cell behind it
-    pub first-inside : (n : ℕ) → n ≡ suc o → (y : Identifier) → Some y ≡ first_low k (keyed (typed (head_behind n (first_of run)) (drop n letters))) → Some y ≡ first_low k (rest_of (Some x) (keyed (cells_in r)))
+    pub first-inside : (n : ℕ) → n ≡ suc o → (y : Identifier) → Some y ≡ first_low k (keyed_cells (typed_cells (head_behind n (first_of run)) (drop n letters))) → Some y ≡ first_low k (rest_of (Some x) (keyed_cells (cells_in r)))
     first-inside n i y e =
         let l = located r s run o spot.held spot.inside in
-        let f : first_low k (keyed (typed (head_behind (suc o) (first_of run)) (drop (suc o) letters))) ≡ Some y = ap (λ j. first_low k (keyed (typed (head_behind j (first_of run)) (drop j letters)))) (sym i) ∙ sym e in
+        let f : first_low k (keyed_cells (typed_cells (head_behind (suc o) (first_of run)) (drop (suc o) letters))) ≡ Some y = ap (λ j. first_low k (keyed_cells (typed_cells (head_behind j (first_of run)) (drop j letters)))) (sym i) ∙ sym e in
         sym (ap (first_low k) (rest-spot r s x run o spot l.front l.back l.place)
-        ∙ first-front k (typed (head_behind (suc o) (first_of run)) (drop (suc o) letters)) (all_cells r.letters l.back) y f)
+        ∙ first-front k (typed_cells (head_behind (suc o) (first_of run)) (drop (suc o) letters)) (all_cells r.letters l.back) y f)
 
-    pub first-outside : (n : ℕ) → n ≡ suc o → None ≡ first_low k (keyed (typed (head_behind n (first_of run)) (drop n letters))) → (i j : ℕ) → slice_get r.rope i ≡ Some (run.id, run) → j ≡ suc i
-        → first_low k (keyed (all_cells r.letters (drop j r.rope))) ≡ first_low k (rest_of (Some x) (keyed (cells_in r)))
+    pub first-outside : (n : ℕ) → n ≡ suc o → None ≡ first_low k (keyed_cells (typed_cells (head_behind n (first_of run)) (drop n letters))) → (i j : ℕ) → slice_get r.rope i ≡ Some (run.id, run) → j ≡ suc i
+        → first_low k (keyed_cells (all_cells r.letters (drop j r.rope))) ≡ first_low k (rest_of (Some x) (keyed_cells (cells_in r)))
     first-outside n e none i j at d =
-        let f : first_low k (keyed (typed (head_behind (suc o) (first_of run)) (drop (suc o) letters))) ≡ None = ap (λ j. first_low k (keyed (typed (head_behind j (first_of run)) (drop j letters)))) (sym e) ∙ sym none in
-        ap (λ z. first_low k (keyed (all_cells r.letters (drop z r.rope)))) d
+        let f : first_low k (keyed_cells (typed_cells (head_behind (suc o) (first_of run)) (drop (suc o) letters))) ≡ None = ap (λ j. first_low k (keyed_cells (typed_cells (head_behind j (first_of run)) (drop j letters)))) (sym e) ∙ sym none in
+        ap (λ z. first_low k (keyed_cells (all_cells r.letters (drop z r.rope)))) d
         ∙ sym (ap (first_low k) (rest-spot r s x run o spot (take i r.rope) (drop (suc i) r.rope) (placed-at r s i run o at spot.inside))
-        ∙ first-past k (typed (head_behind (suc o) (first_of run)) (drop (suc o) letters)) (all_cells r.letters (drop (suc i) r.rope)) f)
+        ∙ first-past k (typed_cells (head_behind (suc o) (first_of run)) (drop (suc o) letters)) (all_cells r.letters (drop (suc i) r.rope)) f)
 
     -- the last low cell before it
-    pub last-inside : (y : Identifier) → Some y ≡ last_low k (keyed (typed (first_of run) (take o letters))) → Some y ≡ last_low k (front_of (Some x) (keyed (cells_in r)))
+    pub last-inside : (y : Identifier) → Some y ≡ last_low k (keyed_cells (typed_cells (first_of run) (take o letters))) → Some y ≡ last_low k (front_of (Some x) (keyed_cells (cells_in r)))
     last-inside y e =
         let l = located r s run o spot.held spot.inside in
-        sym (ap (last_low k) (front-spot r s x run o spot l.front l.back l.place) ∙ last-back k (all_cells r.letters l.front) (typed (first_of run) (take o letters)) y (sym e))
+        sym (ap (last_low k) (front-spot r s x run o spot l.front l.back l.place) ∙ last-back k (all_cells r.letters l.front) (typed_cells (first_of run) (take o letters)) y (sym e))
 
-    pub last-outside : None ≡ last_low k (keyed (typed (first_of run) (take o letters))) → (i : ℕ) → slice_get r.rope i ≡ Some (run.id, run)
-        → last_low k (keyed (all_cells r.letters (take i r.rope))) ≡ last_low k (front_of (Some x) (keyed (cells_in r)))
+    pub last-outside : None ≡ last_low k (keyed_cells (typed_cells (first_of run) (take o letters))) → (i : ℕ) → slice_get r.rope i ≡ Some (run.id, run)
+        → last_low k (keyed_cells (all_cells r.letters (take i r.rope))) ≡ last_low k (front_of (Some x) (keyed_cells (cells_in r)))
     last-outside none i at =
         sym (ap (last_low k) (front-spot r s x run o spot (take i r.rope) (drop (suc i) r.rope) (placed-at r s i run o at spot.inside))
-        ∙ last-none-back k (all_cells r.letters (take i r.rope)) (typed (first_of run) (take o letters)) (sym none))
+        ∙ last-none-back k (all_cells r.letters (take i r.rope)) (typed_cells (first_of run) (take o letters)) (sym none))

@@ -7,17 +7,17 @@ use Rattle.fugue_ids.specs.Keys.{Keyed, between, first_id, front_of, ids as ids_
 use Rattle.fugue_ids.specs.Listed.{HoldsOrigin, index_of}
 use Rattle.fugue_ids.proofs.IdentifierLemmas.{cases_id, eq-id_eq, index_of-here, index_of-there, ne-id_eq}
 use Rattle.fugue_ids.proofs.ListLemmas.{contains_cases, contains_here, contains_none, contains_there}
-use Rattle.run_store.specs.Cells.{ids, keyed}
+use Rattle.run_store.specs.Cells.{cell_ids, keyed_cells}
 use Rattle.run_store.specs.Heads.{head_behind}
 use Rattle.run_store.specs.Runs.{AreRuns, cells_in, first_of}
 use Rattle.run_store.specs.Standings.{IsBefore, IsBehind}
 use Rattle.run_store.specs.declared.cell.Cell.{Cell}
 use Rattle.run_store.specs.declared.run.Run.{Run}
-use Rattle.run_store.specs.declared.runs.Runs.{Runs}
+use Rattle.run_store.specs.declared.run.Runs.{Runs}
 use Rattle.run_store.proofs.FindLemmas.{spot-held}
 use Rattle.run_store.proofs.PlaceLemmas.{value-there}
 
-pub ids-keyed : (cs : List Cell) → ids_of (keyed cs) ≡ ids cs
+pub ids-keyed : (cs : List Cell) → ids_of (keyed_cells cs) ≡ cell_ids cs
 ids-keyed [] = refl
 ids-keyed (c ∷ cs) = ap (λ t. c.id ∷ t) (ids-keyed cs)
 
@@ -45,24 +45,24 @@ pub some-member : (es : List Keyed) (x : Identifier) → Contains (ids_of es) x 
 some-member es x m e = contains_none x (subst (λ t. Contains (ids_of t) x) e m)
 
 -- a member that stands before another is in front of it
-front-member : (cs : List Cell) (y m : Identifier) → Contains (ids cs) m → index_of (ids cs) m < index_of (ids cs) y → Contains (ids_of (front_of (Some y) (keyed cs))) m
+front-member : (cs : List Cell) (y m : Identifier) → Contains (cell_ids cs) m → index_of (cell_ids cs) m < index_of (cell_ids cs) y → Contains (ids_of (front_of (Some y) (keyed_cells cs))) m
 front-member [] y m c l = absurd (contains_none m c)
 front-member (a ∷ cs) y m c l =
     elim (cases_id a.id y) [
-      | inl d ↦ absurd (omega (arith, l, index_of-here a.id (ids cs) y (sym d)))
+      | inl d ↦ absurd (omega (arith, l, index_of-here a.id (cell_ids cs) y (sym d)))
       | inr n ↦
-          subst (λ b. Contains (ids_of (if b then [] else record { id = a.id; key = a.key } ∷ front_of (Some y) (keyed cs))) m) (sym (ne-id_eq a.id y n))
+          subst (λ b. Contains (ids_of (if b then [] else record { id = a.id; key = a.key } ∷ front_of (Some y) (keyed_cells cs))) m) (sym (ne-id_eq a.id y n))
           (elim (cases_id m a.id) [
-            | inl e ↦ subst (Contains (a.id ∷ ids_of (front_of (Some y) (keyed cs)))) (sym e) (contains_here a.id (ids_of (front_of (Some y) (keyed cs))))
+            | inl e ↦ subst (Contains (a.id ∷ ids_of (front_of (Some y) (keyed_cells cs)))) (sym e) (contains_here a.id (ids_of (front_of (Some y) (keyed_cells cs))))
             | inr o ↦
-                let j : Contains (ids cs) m = elim (contains_cases a.id (ids cs) m c) [ inl e ↦ absurd (o (sym e)) | inr i ↦ i ] in
-                contains_there a.id (ids_of (front_of (Some y) (keyed cs))) m
-                (front-member cs y m j (omega (arith, l, index_of-there a.id (ids cs) m o, index_of-there a.id (ids cs) y (λ e. n (sym e)))))
+                let j : Contains (cell_ids cs) m = elim (contains_cases a.id (cell_ids cs) m c) [ inl e ↦ absurd (o (sym e)) | inr i ↦ i ] in
+                contains_there a.id (ids_of (front_of (Some y) (keyed_cells cs))) m
+                (front-member cs y m j (omega (arith, l, index_of-there a.id (cell_ids cs) m o, index_of-there a.id (cell_ids cs) y (λ e. n (sym e)))))
           ])
     ]
 
 -- what stands before an origin in a list
-before-member : (cs : List Cell) (to : Option Identifier) (m : Identifier) → Contains (ids cs) m → IsBefore (ids cs) m to → Contains (ids_of (front_of to (keyed cs))) m
+before-member : (cs : List Cell) (to : Option Identifier) (m : Identifier) → Contains (cell_ids cs) m → IsBefore (cell_ids cs) m to → Contains (ids_of (front_of to (keyed_cells cs))) m
 before-member cs None m c l = subst (λ t. Contains t m) (sym (ids-keyed cs)) c
 before-member cs (Some y) m c l = front-member cs y m c l
 
@@ -76,40 +76,40 @@ shifted a xs m (Some y) o l =
     ]
 
 -- a member that stands behind one origin and before another is between them
-behind-member : (cs : List Cell) (x : Identifier) (to : Option Identifier) (m : Identifier) → Contains (ids cs) m → index_of (ids cs) x < index_of (ids cs) m → IsBefore (ids cs) m to
-    → Contains (ids_of (front_of to (rest_of (Some x) (keyed cs)))) m
+behind-member : (cs : List Cell) (x : Identifier) (to : Option Identifier) (m : Identifier) → Contains (cell_ids cs) m → index_of (cell_ids cs) x < index_of (cell_ids cs) m → IsBefore (cell_ids cs) m to
+    → Contains (ids_of (front_of to (rest_of (Some x) (keyed_cells cs)))) m
 behind-member [] x to m c l b = absurd (contains_none m c)
 behind-member (a ∷ cs) x to m c l b =
-    let o : m ≢ a.id = λ e. omega (arith, l, index_of-here a.id (ids cs) m e) in
-    let j : Contains (ids cs) m = elim (contains_cases a.id (ids cs) m c) [ inl e ↦ absurd (o (sym e)) | inr i ↦ i ] in
-    let s : IsBefore (ids cs) m to = shifted a.id (ids cs) m to o b in
+    let o : m ≢ a.id = λ e. omega (arith, l, index_of-here a.id (cell_ids cs) m e) in
+    let j : Contains (cell_ids cs) m = elim (contains_cases a.id (cell_ids cs) m c) [ inl e ↦ absurd (o (sym e)) | inr i ↦ i ] in
+    let s : IsBefore (cell_ids cs) m to = shifted a.id (cell_ids cs) m to o b in
     elim (cases_id a.id x) [
-      | inl d ↦ subst (λ t. Contains (ids_of (front_of to (if t then keyed cs else rest_of (Some x) (keyed cs)))) m) (sym (eq-id_eq a.id x d)) (before-member cs to m j s)
-      | inr n ↦ subst (λ t. Contains (ids_of (front_of to (if t then keyed cs else rest_of (Some x) (keyed cs)))) m) (sym (ne-id_eq a.id x n))
-          (behind-member cs x to m j (omega (arith, l, index_of-there a.id (ids cs) m o, index_of-there a.id (ids cs) x (λ e. n (sym e)))) s)
+      | inl d ↦ subst (λ t. Contains (ids_of (front_of to (if t then keyed_cells cs else rest_of (Some x) (keyed_cells cs)))) m) (sym (eq-id_eq a.id x d)) (before-member cs to m j s)
+      | inr n ↦ subst (λ t. Contains (ids_of (front_of to (if t then keyed_cells cs else rest_of (Some x) (keyed_cells cs)))) m) (sym (ne-id_eq a.id x n))
+          (behind-member cs x to m j (omega (arith, l, index_of-there a.id (cell_ids cs) m o, index_of-there a.id (cell_ids cs) x (λ e. n (sym e)))) s)
     ]
 
-pub between-member : (cs : List Cell) (from to : Option Identifier) (m : Identifier) → Contains (ids cs) m → IsBehind (ids cs) from m → IsBefore (ids cs) m to
-    → Contains (ids_of (between from to (keyed cs))) m
+pub between-member : (cs : List Cell) (from to : Option Identifier) (m : Identifier) → Contains (cell_ids cs) m → IsBehind (cell_ids cs) from m → IsBefore (cell_ids cs) m to
+    → Contains (ids_of (between from to (keyed_cells cs))) m
 between-member cs None to m c l b = before-member cs to m c b
 between-member cs (Some x) to m c l b = behind-member cs x to m c l b
 
 -- what stands behind an origin is in the list
-rest-member : (cs : List Cell) (x y : Identifier) → Contains (ids_of (rest_of (Some x) (keyed cs))) y → Contains (ids cs) y
+rest-member : (cs : List Cell) (x y : Identifier) → Contains (ids_of (rest_of (Some x) (keyed_cells cs))) y → Contains (cell_ids cs) y
 rest-member [] x y m = absurd (contains_none y m)
 rest-member (a ∷ cs) x y m =
-    (elim (id_eq a.id x) as (λ b. Contains (ids_of (if b then keyed cs else rest_of (Some x) (keyed cs))) y → Contains (a.id ∷ ids cs) y) [
-      | true ↦ (λ n. contains_there a.id (ids cs) y (subst (λ t. Contains t y) (ids-keyed cs) n))
-      | false ↦ (λ n. contains_there a.id (ids cs) y (rest-member cs x y n))
+    (elim (id_eq a.id x) as (λ b. Contains (ids_of (if b then keyed_cells cs else rest_of (Some x) (keyed_cells cs))) y → Contains (a.id ∷ cell_ids cs) y) [
+      | true ↦ (λ n. contains_there a.id (cell_ids cs) y (subst (λ t. Contains t y) (ids-keyed cs) n))
+      | false ↦ (λ n. contains_there a.id (cell_ids cs) y (rest-member cs x y n))
     ]) m
 
-pub rest-origin : (cs : List Cell) (from to : Option Identifier) → HoldsOrigin (ids_of (rest_of from (keyed cs))) to → HoldsOrigin (ids cs) to
+pub rest-origin : (cs : List Cell) (from to : Option Identifier) → HoldsOrigin (ids_of (rest_of from (keyed_cells cs))) to → HoldsOrigin (cell_ids cs) to
 rest-origin cs from None m = tt
 rest-origin cs None (Some y) m = subst (λ t. Contains t y) (ids-keyed cs) m
 rest-origin cs (Some x) (Some y) m = rest-member cs x y m
 
 -- a cell of a run at a place is one of the cells
-pub cell-inside : (r : Runs) → AreRuns r → (run : Run) (i : ℕ) → slice_get r.rope i ≡ Some (run.id, run) → (o : ℕ) → o < run.len → Contains (ids (cells_in r)) (head_behind o (first_of run)).id
+pub cell-inside : (r : Runs) → AreRuns r → (run : Run) (i : ℕ) → slice_get r.rope i ≡ Some (run.id, run) → (o : ℕ) → o < run.len → Contains (cell_ids (cells_in r)) (head_behind o (first_of run)).id
 cell-inside r s run i at o l =
     let x : Identifier = (head_behind o (first_of run)).id in
     spot-held r s x run o (record { held = value-there r s i run.id run at; inside = l; is = refl })

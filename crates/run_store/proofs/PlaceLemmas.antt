@@ -9,13 +9,13 @@ use Rattle.fugue_ids.specs.Keys.{first_id, last_id}
 use Rattle.fugue_ids.proofs.ListLemmas.{all_behind}
 use Rattle.node_rope.specs.Items.{value_under}
 use Rattle.node_rope.specs.Places.{StandsAt}
-use Rattle.run_store.specs.Cells.{keyed}
-use Rattle.run_store.specs.Heads.{head_behind, lettered, next_head, typed}
+use Rattle.run_store.specs.Cells.{keyed_cells}
+use Rattle.run_store.specs.Heads.{head_behind, lettered, next_head, typed_cells}
 use Rattle.run_store.specs.Runs.{AreRuns, IsRun, all_cells, first_of, letters_of}
 use Rattle.run_store.specs.declared.cell.Cell.{Cell}
-use Rattle.run_store.specs.declared.head.Head.{Head}
+use Rattle.run_store.specs.declared.cell.Head.{Head}
 use Rattle.run_store.specs.declared.run.Run.{Run}
-use Rattle.run_store.specs.declared.runs.Runs.{Runs}
+use Rattle.run_store.specs.declared.run.Runs.{Runs}
 use Rattle.run_store.proofs.HeadLemmas.{behind-next}
 use Rattle.run_store.proofs.RopeLemmas.{value-at}
 use Rattle.run_store.proofs.RunsLemmas.{IsPlaced, Item, cell_there, cells-around, cells_before, cells_behind, keys-apart, length-letters, placed}
@@ -96,11 +96,11 @@ module _ (r : Runs) (s : AreRuns r) where
           at ∙ (λ j. Some ((run-at i x.0 run at).named j, run))
 
 -- the first and the last cell
-pub first-typed : (h : Head) (ls : List ℕ) (cs : List Cell) → 0 < length ls → first_id (keyed (typed h ls ++ cs)) ≡ Some h.id
+pub first-typed : (h : Head) (ls : List ℕ) (cs : List Cell) → 0 < length ls → first_id (keyed_cells (typed_cells h ls ++ cs)) ≡ Some h.id
 first-typed h [] cs l = absurd (omega (arith, l))
 first-typed h (x ∷ ls) cs l = refl
 
-pub last-keyed : (cs : List Cell) (c : Cell) → last_id (keyed (cs ++ c ∷ [])) ≡ Some c.id
+pub last-keyed : (cs : List Cell) (c : Cell) → last_id (keyed_cells (cs ++ c ∷ [])) ≡ Some c.id
 last-keyed [] c = refl
 last-keyed (d ∷ []) c = refl
 last-keyed (d ∷ e ∷ cs) c = last-keyed (e ∷ cs) c
@@ -112,7 +112,7 @@ drop-all (suc k) [] l = refl
 drop-all (suc k) (x ∷ xs) l = drop-all k xs (omega (arith, l))
 
 module _ (L : List (List ℕ)) (n : ℕ) where
-  pub first-cells : (xs : List Item) → All (IsRun L n) xs → first_id (keyed (all_cells L xs)) ≡ slice_get (keys_of xs) 0
+  pub first-cells : (xs : List Item) → All (IsRun L n) xs → first_id (keyed_cells (all_cells L xs)) ≡ slice_get (keys_of xs) 0
   first-cells [] a = refl
   first-cells (x ∷ xs) a =
       let r = All-head (IsRun L n) x xs a in
@@ -121,7 +121,7 @@ module _ (L : List (List ℕ)) (n : ℕ) where
   -- nothing of a run stands behind its last cell
   pub behind-all : (run : Run) (back : List Item) → IsRun L n (run.id, run) → (o : ℕ) → run.len ≤ o → cells_behind L run o back ≡ all_cells L back
   behind-all run back r o l =
-      ap (λ ls. typed (head_behind o (first_of run)) ls ++ all_cells L back) (drop-all o (letters_of L run) (omega (arith, l, length-letters L n (run.id, run) r)))
+      ap (λ ls. typed_cells (head_behind o (first_of run)) ls ++ all_cells L back) (drop-all o (letters_of L run) (omega (arith, l, length-letters L n (run.id, run) r)))
 
   -- the cells up to the last one of a run
   pub cells-to : (front : List Item) (run : Run) → IsRun L n (run.id, run)
@@ -138,11 +138,11 @@ module _ (L : List (List ℕ)) (n : ℕ) where
       let ls = letters_of L run in
       let m : o < length ls = omega (arith, l, length-letters L n (run.id, run) r) in
       ap (λ cs. all_cells L front ++ cs) (more (first_of run) o ls m)
-      ∙ sym (append_assoc (all_cells L front) (typed (first_of run) (take o ls)) (cell_there L run o ∷ []))
+      ∙ sym (append_assoc (all_cells L front) (typed_cells (first_of run) (take o ls)) (cell_there L run o ∷ []))
     where
-      more : (h : Head) (k : ℕ) (xs : List ℕ) → k < length xs → typed h (take (suc k) xs) ≡ typed h (take k xs) ++ lettered (head_behind k h) (get_or xs k 0) ∷ []
+      more : (h : Head) (k : ℕ) (xs : List ℕ) → k < length xs → typed_cells h (take (suc k) xs) ≡ typed_cells h (take k xs) ++ lettered (head_behind k h) (get_or xs k 0) ∷ []
       more h k [] m = absurd (omega (arith, m))
       more h zero (x ∷ xs) m = refl
       more h (suc k) (x ∷ xs) m =
           ap (λ cs. lettered h x ∷ cs)
-          (more (next_head h) k xs (omega (arith, m)) ∙ (λ i. typed (next_head h) (take k xs) ++ lettered (behind-next k h i) (get_or xs k 0) ∷ []))
+          (more (next_head h) k xs (omega (arith, m)) ∙ (λ i. typed_cells (next_head h) (take k xs) ++ lettered (behind-next k h i) (get_or xs k 0) ∷ []))

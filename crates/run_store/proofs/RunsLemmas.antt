@@ -8,12 +8,12 @@ use Rattle.std.proofs.lemmas.List.Elements.{All-head, All-tail}
 use Rattle.fugue_ids.specs.Identifiers.{Identifier, id_eq}
 use Rattle.fugue_ids.proofs.ListLemmas.{all_behind, all_before}
 use Rattle.node_rope.specs.Items.{value_under}
-use Rattle.run_store.specs.Cells.{ids}
-use Rattle.run_store.specs.Heads.{head_behind, lettered, typed}
+use Rattle.run_store.specs.Cells.{cell_ids}
+use Rattle.run_store.specs.Heads.{head_behind, lettered, typed_cells}
 use Rattle.run_store.specs.Runs.{AreRuns, IsRun, all_cells, cells_in, cells_of, first_of, letters_of}
 use Rattle.run_store.specs.declared.cell.Cell.{Cell}
 use Rattle.run_store.specs.declared.run.Run.{Run}
-use Rattle.run_store.specs.declared.runs.Runs.{Runs}
+use Rattle.run_store.specs.declared.run.Runs.{Runs}
 use Rattle.run_store.proofs.HeadLemmas.{length-typed, typed-at}
 use Rattle.run_store.proofs.CellLemmas.{Others, others-back, others-front}
 use Rattle.run_store.proofs.RopeLemmas.{OtherKeys, found}
@@ -40,7 +40,7 @@ module _ (L : List (List ℕ)) where
   first-other : (n : ℕ) (k : Identifier) (x : Item) → IsRun L n x → Others k (cells_of L x.1) → id_eq x.0 k ≡ false
   first-other n k x r o = by_letters (letters_of L x.1) (length-letters n x r) o
     where
-      by_letters : (ls : List ℕ) → length ls ≡ x.1.len → Others k (typed (first_of x.1) ls) → id_eq x.0 k ≡ false
+      by_letters : (ls : List ℕ) → length ls ≡ x.1.len → Others k (typed_cells (first_of x.1) ls) → id_eq x.0 k ≡ false
       by_letters [] e p = absurd (omega (arith, e, r.some))
       by_letters (c ∷ cs) e p = ap (λ i. id_eq i k) r.named ∙ p.0
 
@@ -57,10 +57,10 @@ module _ (L : List (List ℕ)) where
 
   -- the cells around the one at a place of a run
   abbrev pub cells_before : List Item → Run → ℕ → List Cell
-  cells_before front run o = all_cells L front ++ typed (first_of run) (take o (letters_of L run))
+  cells_before front run o = all_cells L front ++ typed_cells (first_of run) (take o (letters_of L run))
 
   abbrev pub cells_behind : Run → ℕ → List Item → List Cell
-  cells_behind run o back = typed (head_behind o (first_of run)) (drop o (letters_of L run)) ++ all_cells L back
+  cells_behind run o back = typed_cells (head_behind o (first_of run)) (drop o (letters_of L run)) ++ all_cells L back
 
   abbrev pub cell_there : Run → ℕ → Cell
   cell_there run o = lettered (head_behind o (first_of run)) (get_or (letters_of L run) o 0)
@@ -69,8 +69,8 @@ module _ (L : List (List ℕ)) where
       → all_cells L (front ++ (run.id, run) ∷ back) ≡ cells_before front run o ++ cell_there run o ∷ cells_behind run (suc o) back
   cells-around front run o back n r l =
       let ls = letters_of L run in
-      let t = typed (first_of run) (take o ls) in
-      let u = typed (head_behind (suc o) (first_of run)) (drop (suc o) ls) in
+      let t = typed_cells (first_of run) (take o ls) in
+      let u = typed_cells (head_behind (suc o) (first_of run)) (drop (suc o) ls) in
       cells-append front ((run.id, run) ∷ back)
       ∙ ap (λ cs. all_cells L front ++ (cs ++ all_cells L back)) (typed-at (first_of run) o ls (omega (arith, l, length-letters n (run.id, run) r)))
       ∙ ap (λ cs. all_cells L front ++ cs) (append_assoc t (cell_there run o ∷ u) (all_cells L back))
@@ -89,7 +89,7 @@ placed r s front run o back is l =
     let runs : All (IsRun r.letters r.count) (front ++ (run.id, run) ∷ back) = subst (All (IsRun r.letters r.count)) is s.each in
     let this = All-head (IsRun r.letters r.count) (run.id, run) back (all_behind (IsRun r.letters r.count) front ((run.id, run) ∷ back) runs) in
     let e = ap (all_cells r.letters) is ∙ cells-around r.letters front run o back r.count this l in
-    let d = subst (λ cs. AllPairs (λ x y. x ≢ y) (ids cs)) e s.distinct in
+    let d = subst (λ cs. AllPairs (λ x y. x ≢ y) (cell_ids cs)) e s.distinct in
     record {
       rope_is = is;
       is_run = this;
@@ -107,9 +107,9 @@ keys-apart r s front run o back is l =
     let runs : All (IsRun r.letters r.count) (front ++ (run.id, run) ∷ back) = subst (All (IsRun r.letters r.count)) is s.each in
     let behind = All-tail (IsRun r.letters r.count) (run.id, run) back (all_behind (IsRun r.letters r.count) front ((run.id, run) ∷ back) runs) in (
       keys-other r.letters r.count x front (all_before (IsRun r.letters r.count) front ((run.id, run) ∷ back) runs)
-          (others-head r.letters x (all_cells r.letters front) (typed (first_of run) (take o (letters_of r.letters run))) p.before),
+          (others-head r.letters x (all_cells r.letters front) (typed_cells (first_of run) (take o (letters_of r.letters run))) p.before),
       keys-other r.letters r.count x back behind
-          (others-tail r.letters x (typed (head_behind (suc o) (first_of run)) (drop (suc o) (letters_of r.letters run))) (all_cells r.letters back) p.behind),
+          (others-tail r.letters x (typed_cells (head_behind (suc o) (first_of run)) (drop (suc o) (letters_of r.letters run))) (all_cells r.letters back) p.behind),
     )
 
 pub record IsLocated (r : Runs) (run : Run) (o : ℕ) : Type 0 where

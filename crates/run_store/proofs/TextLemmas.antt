@@ -6,13 +6,13 @@ use Rattle.std.proofs.lemmas.List.{map-append}
 use lib.Utf8.{encode}
 use Rattle.fugue_ids.specs.Gathers.{GathersText}
 use Rattle.fugue_ids.specs.Outs.{OutView}
-use Rattle.run_store.specs.Cells.{text, visible_cells}
-use Rattle.run_store.specs.Heads.{lettered, next_head, typed}
+use Rattle.run_store.specs.Cells.{cell_text, cells_shown}
+use Rattle.run_store.specs.Heads.{lettered, next_head, typed_cells}
 use Rattle.run_store.specs.Runs.{AreRuns, all_cells, cells_of}
 use Rattle.run_store.specs.declared.cell.Cell.{Cell}
-use Rattle.run_store.specs.declared.head.Head.{Head}
+use Rattle.run_store.specs.declared.cell.Head.{Head}
 use Rattle.run_store.specs.declared.run.Run.{Run}
-use Rattle.run_store.specs.declared.runs.Runs.{Runs}
+use Rattle.run_store.specs.declared.run.Runs.{Runs}
 use Rattle.run_store.proofs.PlaceLemmas.{drop-first, run-named}
 use Rattle.run_store.proofs.RunsLemmas.{Item}
 use Rattle.run_store.proofs.VisibleLemmas.{visible-append}
@@ -26,31 +26,31 @@ encode-append : (xs ys : List ℕ) → encode_utf8_all (xs ++ ys) ≡ encode_utf
 encode-append [] ys = refl
 encode-append (x ∷ xs) ys = ap (λ zs. encode x ++ zs) (encode-append xs ys) ∙ sym (append_assoc (encode x) (encode_utf8_all xs) (encode_utf8_all ys))
 
-text-append : (xs ys : List Cell) → text (xs ++ ys) ≡ text xs ++ text ys
-text-append xs ys = ap (map (λ (c : Cell). c.ch)) (visible-append xs ys) ∙ map-append (λ (c : Cell). c.ch) (visible_cells xs) (visible_cells ys)
+text-append : (xs ys : List Cell) → cell_text (xs ++ ys) ≡ cell_text xs ++ cell_text ys
+text-append xs ys = ap (map (λ (c : Cell). c.ch)) (visible-append xs ys) ∙ map-append (λ (c : Cell). c.ch) (cells_shown xs) (cells_shown ys)
 
 -- what a run adds to the text
 abbrev pub run_text : List (List ℕ) → Item → List ℕ
-run_text L x = encode_utf8_all (text (cells_of L x.1))
+run_text L x = encode_utf8_all (cell_text (cells_of L x.1))
 
-pub text-runs : (L : List (List ℕ)) (xs : List Item) → flat_map (run_text L) xs ≡ encode_utf8_all (text (all_cells L xs))
+pub text-runs : (L : List (List ℕ)) (xs : List Item) → flat_map (run_text L) xs ≡ encode_utf8_all (cell_text (all_cells L xs))
 text-runs L [] = refl
 text-runs L (x ∷ xs) =
     ap (λ ys. run_text L x ++ ys) (text-runs L xs)
-    ∙ sym (encode-append (text (cells_of L x.1)) (text (all_cells L xs)))
+    ∙ sym (encode-append (cell_text (cells_of L x.1)) (cell_text (all_cells L xs)))
     ∙ ap encode_utf8_all (sym (text-append (cells_of L x.1) (all_cells L xs)))
 
 -- a run that is shown has its letters as its text, and one that is hidden none
-pub text-shown : (h : Head) (ls : List ℕ) → h.hidden ≡ false → text (typed h ls) ≡ ls
+pub text-shown : (h : Head) (ls : List ℕ) → h.hidden ≡ false → cell_text (typed_cells h ls) ≡ ls
 text-shown h [] e = refl
 text-shown h (l ∷ ls) e =
-    ap (λ b. map (λ (c : Cell). c.ch) (if not b then lettered h l ∷ visible_cells (typed (next_head h) ls) else visible_cells (typed (next_head h) ls))) e
+    ap (λ b. map (λ (c : Cell). c.ch) (if not b then lettered h l ∷ cells_shown (typed_cells (next_head h) ls) else cells_shown (typed_cells (next_head h) ls))) e
     ∙ ap (λ zs. l ∷ zs) (text-shown (next_head h) ls e)
 
-pub text-hidden : (h : Head) (ls : List ℕ) → h.hidden ≡ true → text (typed h ls) ≡ []
+pub text-hidden : (h : Head) (ls : List ℕ) → h.hidden ≡ true → cell_text (typed_cells h ls) ≡ []
 text-hidden h [] e = refl
 text-hidden h (l ∷ ls) e =
-    ap (λ b. map (λ (c : Cell). c.ch) (if not b then lettered h l ∷ visible_cells (typed (next_head h) ls) else visible_cells (typed (next_head h) ls))) e
+    ap (λ b. map (λ (c : Cell). c.ch) (if not b then lettered h l ∷ cells_shown (typed_cells (next_head h) ls) else cells_shown (typed_cells (next_head h) ls))) e
     ∙ text-hidden (next_head h) ls e
 
 -- the first runs were gathered, and a walk has the others

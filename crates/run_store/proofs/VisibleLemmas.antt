@@ -12,15 +12,15 @@ use Rattle.fugue_ids.specs.declared.limits.TheConstants.{MOST_OPERATIONS}
 use Rattle.fugue_ids.proofs.ListLemmas.{all_before, all_behind}
 use Rattle.node_rope.specs.Items.{value_under}
 use Rattle.node_rope.specs.Places.{IsUnit, weight_sum}
-use Rattle.run_store.specs.Cells.{ids, visible_cells}
-use Rattle.run_store.specs.Heads.{head_behind, lettered, next_head, typed}
+use Rattle.run_store.specs.Cells.{cell_ids, cells_shown}
+use Rattle.run_store.specs.Heads.{head_behind, lettered, next_head, typed_cells}
 use Rattle.run_store.specs.Runs.{AreRuns, IsRun, all_cells, cells_in, cells_of, first_of, letters_of}
 use Rattle.run_store.specs.Shown.{IsInHand}
 use Rattle.run_store.specs.declared.cell.Cell.{Cell}
 use Rattle.run_store.specs.declared.find.Spot.{Spot}
-use Rattle.run_store.specs.declared.head.Head.{Head}
+use Rattle.run_store.specs.declared.cell.Head.{Head}
 use Rattle.run_store.specs.declared.run.Run.{Run}
-use Rattle.run_store.specs.declared.runs.Runs.{Runs}
+use Rattle.run_store.specs.declared.run.Runs.{Runs}
 use Rattle.run_store.proofs.HeadLemmas.{behind-next, length-typed}
 use Rattle.run_store.proofs.RopeLemmas.{value-at}
 use Rattle.run_store.proofs.RunsLemmas.{Item, cells-append, kept-run, keys-apart, length-letters}
@@ -29,21 +29,21 @@ use Rattle.run_store.proofs.RunsLemmas.{Item, cells-append, kept-run, keys-apart
 abbrev pub weight_of : Run → ℕ
 weight_of r = if r.hidden then 0 else min r.len MOST_OPERATIONS
 
-pub visible-append : (xs ys : List Cell) → visible_cells (xs ++ ys) ≡ visible_cells xs ++ visible_cells ys
+pub visible-append : (xs ys : List Cell) → cells_shown (xs ++ ys) ≡ cells_shown xs ++ cells_shown ys
 visible-append = filter-append (λ c. not c.hidden)
 
-visible-typed : (h : Head) (ls : List ℕ) → h.hidden ≡ false → visible_cells (typed h ls) ≡ typed h ls
+visible-typed : (h : Head) (ls : List ℕ) → h.hidden ≡ false → cells_shown (typed_cells h ls) ≡ typed_cells h ls
 visible-typed h [] e = refl
 visible-typed h (l ∷ ls) e =
-    ap (λ b. if not b then lettered h l ∷ visible_cells (typed (next_head h) ls) else visible_cells (typed (next_head h) ls)) e
+    ap (λ b. if not b then lettered h l ∷ cells_shown (typed_cells (next_head h) ls) else cells_shown (typed_cells (next_head h) ls)) e
     ∙ ap (λ cs. lettered h l ∷ cs) (visible-typed (next_head h) ls e)
 
-hidden-typed : (h : Head) (ls : List ℕ) → h.hidden ≡ true → visible_cells (typed h ls) ≡ []
+hidden-typed : (h : Head) (ls : List ℕ) → h.hidden ≡ true → cells_shown (typed_cells h ls) ≡ []
 hidden-typed h [] e = refl
 hidden-typed h (l ∷ ls) e =
-    ap (λ b. if not b then lettered h l ∷ visible_cells (typed (next_head h) ls) else visible_cells (typed (next_head h) ls)) e ∙ hidden-typed (next_head h) ls e
+    ap (λ b. if not b then lettered h l ∷ cells_shown (typed_cells (next_head h) ls) else cells_shown (typed_cells (next_head h) ls)) e ∙ hidden-typed (next_head h) ls e
 
-pub get-typed : (h : Head) (ls : List ℕ) (o : ℕ) (cs : List Cell) → o < length ls → slice_get (ids (typed h ls ++ cs)) o ≡ Some (head_behind o h).id
+pub get-typed : (h : Head) (ls : List ℕ) (o : ℕ) (cs : List Cell) → o < length ls → slice_get (cell_ids (typed_cells h ls ++ cs)) o ≡ Some (head_behind o h).id
 get-typed h [] o cs l = absurd (omega (arith, l))
 get-typed h (x ∷ ls) zero cs l = refl
 get-typed h (x ∷ ls) (suc o) cs l = get-typed (next_head h) ls o cs (omega (arith, l)) ∙ ap (λ (k : Head). Some k.id) (behind-next o h)
@@ -53,7 +53,7 @@ get-behind [] ys o = let e : 0 + o ≡ o = omega arith in ap (slice_get ys) e
 get-behind (x ∷ xs) ys o = let e : suc (length xs) + o ≡ suc (length xs + o) = omega arith in ap (slice_get (x ∷ (xs ++ ys))) e ∙ get-behind xs ys o
 
 module _ (L : List (List ℕ)) (n : ℕ) (few : n ≤ MOST_OPERATIONS) where
-  visible-run : (x : Item) → IsRun L n x → length (visible_cells (cells_of L x.1)) ≡ weight_of x.1
+  visible-run : (x : Item) → IsRun L n x → length (cells_shown (cells_of L x.1)) ≡ weight_of x.1
   visible-run x r = elim (cases_Bool x.1.hidden) [
     | inl t ↦ ap length (hidden-typed (first_of x.1) (letters_of L x.1) t) ∙ ap (λ b. if b then 0 else min x.1.len MOST_OPERATIONS) (sym t)
     | inr f ↦
@@ -63,14 +63,14 @@ module _ (L : List (List ℕ)) (n : ℕ) (few : n ≤ MOST_OPERATIONS) where
   ]
 
   -- the visible cells of runs are as many as their weight
-  pub visible-weight : (xs : List Item) → All (IsRun L n) xs → length (visible_cells (all_cells L xs)) ≡ weight_sum weight_of xs
+  pub visible-weight : (xs : List Item) → All (IsRun L n) xs → length (cells_shown (all_cells L xs)) ≡ weight_sum weight_of xs
   visible-weight [] a = refl
   visible-weight (x ∷ xs) a =
       let e = ap length (visible-append (cells_of L x.1) (all_cells L xs)) in
       omega (
         arith,
         e,
-        length-append (visible_cells (cells_of L x.1)) (visible_cells (all_cells L xs)),
+        length-append (cells_shown (cells_of L x.1)) (cells_shown (all_cells L xs)),
         visible-run x (All-head (IsRun L n) x xs a),
         visible-weight xs (All-tail (IsRun L n) x xs a),
         sum_by-cons (λ (z : Item). weight_of z.1) x xs,
@@ -83,36 +83,36 @@ is-shown false m v l = (refl, omega (arith, l))
 
 -- the visible cell of a unit of weight
 module _ (r : Runs) (s : AreRuns r) where
-  pub visible-all : length (visible_cells (cells_in r)) ≡ weight_sum weight_of r.rope
+  pub visible-all : length (cells_shown (cells_in r)) ≡ weight_sum weight_of r.rope
   visible-all = visible-weight r.letters r.count s.few r.rope s.each
 
-  pub no-unit : (w : ℕ) → weight_sum weight_of r.rope ≤ w → slice_get (ids (visible_cells (cells_in r))) w ≡ None
+  pub no-unit : (w : ℕ) → weight_sum weight_of r.rope ≤ w → slice_get (cell_ids (cells_shown (cells_in r))) w ≡ None
   no-unit w l =
-      slice_get_past (ids (visible_cells (cells_in r))) w
-      (omega (arith, l, visible-all, length-map (visible_cells (cells_in r)) (λ (z : Cell). z.id)))
+      slice_get_past (cell_ids (cells_shown (cells_in r))) w
+      (omega (arith, l, visible-all, length-map (cells_shown (cells_in r)) (λ (z : Cell). z.id)))
 
   pub unit-cell : (w : ℕ) (k : Identifier) (u : ℕ) (p : IsUnit weight_of r.rope w k u)
-      → (u < p.value.len) × (slice_get (ids (visible_cells (cells_in r))) w ≡ Some (head_behind u (first_of p.value)).id)
+      → (u < p.value.len) × (slice_get (cell_ids (cells_shown (cells_in r))) w ≡ Some (head_behind u (first_of p.value)).id)
   unit-cell w k u p =
       let P = IsRun r.letters r.count in
       let L = r.letters in
       let runs = subst (All P) p.split s.each in
       let this = All-head P (k, p.value) p.back (all_behind P p.front ((k, p.value) ∷ p.back) runs) in
       let shown = is-shown p.value.hidden p.value.len u p.inside in
-      let V = visible_cells (all_cells L p.front) in
-      let B = visible_cells (all_cells L p.back) in
+      let V = cells_shown (all_cells L p.front) in
+      let B = cells_shown (all_cells L p.back) in
       let ls = letters_of L p.value in
-      let cells : visible_cells (cells_in r) ≡ V ++ (typed (first_of p.value) ls ++ B) =
-      ap (λ xs. visible_cells (all_cells L xs)) p.split
-      ∙ ap visible_cells (cells-append L p.front ((k, p.value) ∷ p.back))
+      let cells : cells_shown (cells_in r) ≡ V ++ (typed_cells (first_of p.value) ls ++ B) =
+      ap (λ xs. cells_shown (all_cells L xs)) p.split
+      ∙ ap cells_shown (cells-append L p.front ((k, p.value) ∷ p.back))
       ∙ visible-append (all_cells L p.front) (cells_of L p.value ++ all_cells L p.back)
       ∙ ap (λ cs. V ++ cs) (visible-append (cells_of L p.value) (all_cells L p.back) ∙ ap (λ cs. cs ++ B) (visible-typed (first_of p.value) ls shown.0)) in
       let front = visible-weight L r.count s.few p.front (all_before P p.front ((k, p.value) ∷ p.back) runs) in
-      let at : w ≡ length (ids V) + u = omega (arith, p.before, front, length-map V (λ (z : Cell). z.id)) in (
+      let at : w ≡ length (cell_ids V) + u = omega (arith, p.before, front, length-map V (λ (z : Cell). z.id)) in (
         shown.1,
-        (λ i. slice_get (ids (cells i)) (at i))
-            ∙ ap (λ is. slice_get is (length (ids V) + u)) (map-append (λ (z : Cell). z.id) V (typed (first_of p.value) ls ++ B))
-            ∙ get-behind (ids V) (ids (typed (first_of p.value) ls ++ B)) u
+        (λ i. slice_get (cell_ids (cells i)) (at i))
+            ∙ ap (λ is. slice_get is (length (cell_ids V) + u)) (map-append (λ (z : Cell). z.id) V (typed_cells (first_of p.value) ls ++ B))
+            ∙ get-behind (cell_ids V) (cell_ids (typed_cells (first_of p.value) ls ++ B)) u
             ∙ get-typed (first_of p.value) ls u B (omega (arith, shown.1, length-letters L r.count (k, p.value) this)),
       )
 
@@ -126,15 +126,15 @@ module _ (r : Runs) (s : AreRuns r) where
       ∙ value-at p.value.id p.value p.front p.back (keys-apart r s p.front p.value 0 p.back is this.some).0
 
   pub unit-run : (w : ℕ) (k : Identifier) (u : ℕ) → IsUnit weight_of r.rope w k u → (run : Run) → value_under k r.rope ≡ Some run
-      → (u < run.len) × (slice_get (ids (visible_cells (cells_in r))) w ≡ Some (head_behind u (first_of run)).id)
+      → (u < run.len) × (slice_get (cell_ids (cells_shown (cells_in r))) w ≡ Some (head_behind u (first_of run)).id)
   unit-run w k u p run v =
       let e : Some p.value ≡ Some run = sym (unit-held w k u p) ∙ v in
       let same : p.value ≡ run = cc in
-      subst (λ (z : Run). (u < z.len) × (slice_get (ids (visible_cells (cells_in r))) w ≡ Some (head_behind u (first_of z)).id)) same (unit-cell w k u p)
+      subst (λ (z : Run). (u < z.len) × (slice_get (cell_ids (cells_shown (cells_in r))) w ≡ Some (head_behind u (first_of z)).id)) same (unit-cell w k u p)
 
   -- the run with the cells behind it
   pub unit-hand : (w : ℕ) (k : Identifier) (u : ℕ) → IsUnit weight_of r.rope w k u → (run : Run) → value_under k r.rope ≡ Some run
-      → IsInHand (ids (visible_cells (cells_in r))) w run u
+      → IsInHand (cell_ids (cells_shown (cells_in r))) w run u
   unit-hand w k u p run v =
       let this = kept-run r s k run v in
       let held : Some p.value ≡ Some run = sym (unit-held w k u p) ∙ v in

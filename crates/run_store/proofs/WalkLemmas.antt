@@ -11,11 +11,11 @@ use Rattle.fugue_ids.specs.Keys.{first_id, front_of, last_id, rest_of}
 use Rattle.fugue_ids.proofs.ListLemmas.{all_behind}
 use Rattle.node_rope.specs.Items.{value_under}
 use Rattle.node_rope.specs.Places.{StandsAt}
-use Rattle.run_store.specs.Cells.{keyed}
+use Rattle.run_store.specs.Cells.{keyed_cells}
 use Rattle.run_store.specs.Heads.{head_behind}
 use Rattle.run_store.specs.Runs.{AreRuns, IsRun, IsSpot, all_cells, cells_in, first_of, letters_of}
 use Rattle.run_store.specs.declared.run.Run.{Run}
-use Rattle.run_store.specs.declared.runs.Runs.{Runs}
+use Rattle.run_store.specs.declared.run.Runs.{Runs}
 use Rattle.run_store.proofs.CellLemmas.{front-at, rest-at}
 use Rattle.run_store.proofs.PlaceLemmas.{before-more, behind-all, cells-to, drop-first, first-cells, first-typed, keys-get, last-keyed, placed-at, run-at, stands-run}
 use Rattle.run_store.proofs.RunsLemmas.{IsPlaced, Item, cell_there, cells_before, cells_behind, length-letters, located}
@@ -26,12 +26,12 @@ module _ (r : Runs) (s : AreRuns r) where
 
   -- the last cell of the runs up to one
   pub last-of : (i : ℕ) (run : Run) → slice_get r.rope i ≡ Some (run.id, run)
-      → last_id (keyed (all_cells r.letters (take (suc i) r.rope))) ≡ Some (head_behind (run.len - 1) (first_of run)).id
+      → last_id (keyed_cells (all_cells r.letters (take (suc i) r.rope))) ≡ Some (head_behind (run.len - 1) (first_of run)).id
   last-of i run e =
       let p = run-at r s i run.id run e in
       let t : take (suc i) r.rope ≡ take i r.rope ++ (run.id, run) ∷ [] = take-more r.rope i (run.id, run) e in
-      ap (λ xs. last_id (keyed (all_cells r.letters xs))) t
-      ∙ ap (λ cs. last_id (keyed cs)) (cells-to r.letters r.count (take i r.rope) run p)
+      ap (λ xs. last_id (keyed_cells (all_cells r.letters xs))) t
+      ∙ ap (λ cs. last_id (keyed_cells cs)) (cells-to r.letters r.count (take i r.rope) run p)
       ∙ last-keyed (cells_before r.letters (take i r.rope) run (run.len - 1)) (cell_there r.letters run (run.len - 1))
     where
       take-more : (xs : List Item) (k : ℕ) (x : Item) → slice_get xs k ≡ Some x → take (suc k) xs ≡ take k xs ++ x ∷ []
@@ -41,18 +41,18 @@ module _ (r : Runs) (s : AreRuns r) where
 
   module _ (x : Identifier) (run : Run) (o : ℕ) (spot : IsSpot r.rope x run o) where
     -- what stands before the cell at a spot, and behind it
-    pub front-spot : (front back : List Item) → IsPlaced r front run o back → front_of (Some x) (keyed (cells_in r)) ≡ keyed (cells_before r.letters front run o)
+    pub front-spot : (front back : List Item) → IsPlaced r front run o back → front_of (Some x) (keyed_cells (cells_in r)) ≡ keyed_cells (cells_before r.letters front run o)
     front-spot front back p =
-        (λ i. front_of (Some (spot.is i)) (keyed (p.cells_is i)))
+        (λ i. front_of (Some (spot.is i)) (keyed_cells (p.cells_is i)))
         ∙ front-at (head_behind o (first_of run)).id (cells_before r.letters front run o) (cell_there r.letters run o) (cells_behind r.letters run (suc o) back) p.before refl
 
-    pub rest-spot : (front back : List Item) → IsPlaced r front run o back → rest_of (Some x) (keyed (cells_in r)) ≡ keyed (cells_behind r.letters run (suc o) back)
+    pub rest-spot : (front back : List Item) → IsPlaced r front run o back → rest_of (Some x) (keyed_cells (cells_in r)) ≡ keyed_cells (cells_behind r.letters run (suc o) back)
     rest-spot front back p =
-        (λ i. rest_of (Some (spot.is i)) (keyed (p.cells_is i)))
+        (λ i. rest_of (Some (spot.is i)) (keyed_cells (p.cells_is i)))
         ∙ rest-at (head_behind o (first_of run)).id (cells_before r.letters front run o) (cell_there r.letters run o) (cells_behind r.letters run (suc o) back) p.before refl
 
     -- the next cell of the run
-    pub behind-inside : suc o < run.len → first_id (rest_of (Some x) (keyed (cells_in r))) ≡ Some (head_behind (suc o) (first_of run)).id
+    pub behind-inside : suc o < run.len → first_id (rest_of (Some x) (keyed_cells (cells_in r))) ≡ Some (head_behind (suc o) (first_of run)).id
     behind-inside l =
         let p = located r s run o spot.held spot.inside in
         let ls = letters_of r.letters run in
@@ -62,39 +62,39 @@ module _ (r : Runs) (s : AreRuns r) where
 
     -- the first cell of the next run
     pub behind-run-end : run.len ≤ suc o → (i : ℕ) → slice_get r.rope i ≡ Some (run.id, run)
-        → first_id (rest_of (Some x) (keyed (cells_in r))) ≡ slice_get (keys_of r.rope) (suc i)
+        → first_id (rest_of (Some x) (keyed_cells (cells_in r))) ≡ slice_get (keys_of r.rope) (suc i)
     behind-run-end l i e =
         let p = placed-at r s i run o e spot.inside in
         let back = drop (suc i) r.rope in
         let runs = subst (All P) p.rope_is s.each in
         ap first_id (rest-spot (take i r.rope) back p)
-        ∙ ap (λ cs. first_id (keyed cs)) (behind-all r.letters r.count run back p.is_run (suc o) l)
+        ∙ ap (λ cs. first_id (keyed_cells cs)) (behind-all r.letters r.count run back p.is_run (suc o) l)
         ∙ first-cells r.letters r.count back (All-tail P (run.id, run) back (all_behind P (take i r.rope) ((run.id, run) ∷ back) runs))
         ∙ keys-get back 0 ∙ ap (option_map (λ (z : Item). z.0)) (drop-first r.rope (suc i)) ∙ sym (keys-get r.rope (suc i))
 
     -- the cell before it in the run
-    pub before-inside : 0 < o → last_id (front_of (Some x) (keyed (cells_in r))) ≡ Some (head_behind (o - 1) (first_of run)).id
+    pub before-inside : 0 < o → last_id (front_of (Some x) (keyed_cells (cells_in r))) ≡ Some (head_behind (o - 1) (first_of run)).id
     before-inside l =
         let p = located r s run o spot.held spot.inside in
         let e : o ≡ suc (o - 1) = omega (arith, l) in
         ap last_id (front-spot p.front p.back p.place)
-        ∙ ap (λ n. last_id (keyed (cells_before r.letters p.front run n))) e
-        ∙ ap (λ cs. last_id (keyed cs)) (before-more r.letters r.count p.front run (o - 1) p.place.is_run (omega (arith, l, spot.inside)))
+        ∙ ap (λ n. last_id (keyed_cells (cells_before r.letters p.front run n))) e
+        ∙ ap (λ cs. last_id (keyed_cells cs)) (before-more r.letters r.count p.front run (o - 1) p.place.is_run (omega (arith, l, spot.inside)))
         ∙ last-keyed (cells_before r.letters p.front run (o - 1)) (cell_there r.letters run (o - 1))
 
     -- the cells before the first one of a run
     pub before-start : o ≡ 0 → (i : ℕ) → slice_get r.rope i ≡ Some (run.id, run)
-        → front_of (Some x) (keyed (cells_in r)) ≡ keyed (all_cells r.letters (take i r.rope))
+        → front_of (Some x) (keyed_cells (cells_in r)) ≡ keyed_cells (all_cells r.letters (take i r.rope))
     before-start z i e =
         let p = placed-at r s i run o e spot.inside in
         front-spot (take i r.rope) (drop (suc i) r.rope) p
-        ∙ ap (λ n. keyed (cells_before r.letters (take i r.rope) run n)) z
-        ∙ ap keyed (append-nil (all_cells r.letters (take i r.rope)))
+        ∙ ap (λ n. keyed_cells (cells_before r.letters (take i r.rope) run n)) z
+        ∙ ap keyed_cells (append-nil (all_cells r.letters (take i r.rope)))
 
     -- what the rope gives as the next key
     pub next-is : (n : Option Identifier) → IfSome n (λ k. (i : ℕ) × StandsAt r.rope i run.id × StandsAt r.rope (i + 1) k)
         → IfNone n (IsSome (value_under run.id r.rope) → (i : ℕ) × StandsAt r.rope i run.id × (length r.rope ≡ i + 1)) → run.len ≤ suc o
-        → n ≡ first_id (rest_of (Some x) (keyed (cells_in r)))
+        → n ≡ first_id (rest_of (Some x) (keyed_cells (cells_in r)))
     next-is None some none l =
         let p = none (ap is_some spot.held) in
         let past : slice_get (keys_of r.rope) (suc p.0) ≡ None = slice_get_past (keys_of r.rope) (suc p.0) (omega (arith, p.2, length-map r.rope (λ (z : Item). z.0))) in

@@ -3,9 +3,9 @@ use Rattle.std.specs.Prelude.{◌≡◌, List, [], ◌∷◌, Some, IsSome}
 use Rattle.fugue_ids.specs.Identifiers.{Identifier}
 use Rattle.node_rope.specs.Beside.{placed_after, placed_before}
 use Rattle.node_rope.specs.Items.{value_under}
-use Rattle.run_store.specs.Growth.{inserted_before, inserted_behind, last_id}
-use Rattle.run_store.specs.declared.beginning.Beginning.{Beginning}
-use Rattle.run_store.specs.declared.beginning.Beginning.TheVariants.{Before, Behind, First}
+use Rattle.run_store.specs.Growth.{cell_inserted_before, cell_inserted_behind, last_id_of_run}
+use Rattle.run_store.specs.declared.insert.Beginning.{Beginning}
+use Rattle.run_store.specs.declared.insert.Beginning.TheVariants.{Before, Behind, First}
 use Rattle.run_store.specs.declared.cell.Cell.{Cell}
 use Rattle.run_store.specs.declared.run.Run.{Run}
 
@@ -22,7 +22,7 @@ placed_at (Before key) new rope = placed_before key new rope
 placed_at (Behind run) new rope = placed_after run.id new rope
 
 -- the cells with the new one of a run that begins there
-abbrev pub begun : Beginning → Cell → List Cell → List Cell
-begun First c cells = c ∷ []
-begun (Before key) c cells = inserted_before key c cells
-begun (Behind run) c cells = inserted_behind (last_id run) c cells
+abbrev pub begun_run : Beginning → Cell → List Cell → List Cell
+begun_run First c cells = c ∷ []
+begun_run (Before key) c cells = cell_inserted_before key c cells
+begun_run (Behind run) c cells = cell_inserted_behind (last_id_of_run run) c cells

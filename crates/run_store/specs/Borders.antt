@@ -2,11 +2,11 @@
 use Rattle.std.specs.Prelude.{◌≡◌, ◌≢◌, ◌⊎◌, ◌<◌, Bool, true, false, ◌&&◌, nat_eq, ℕ, suc, ◌+◌, ◌-◌, List, ◌∷◌, ◌++◌, Some}
 use Rattle.fugue_ids.specs.Identifiers.{Identifier}
 use Rattle.node_rope.specs.Beside.{put_under, rekeyed}
-use Rattle.run_store.specs.Growth.{last_id}
+use Rattle.run_store.specs.Growth.{last_id_of_run}
 use Rattle.run_store.specs.Heads.{head_behind, lettered}
 use Rattle.run_store.specs.NewCells.{is_continued}
 use Rattle.run_store.specs.Runs.{first_of, run_from, run_to}
-use Rattle.run_store.specs.declared.head.Head.{Head}
+use Rattle.run_store.specs.declared.cell.Head.{Head}
 use Rattle.run_store.specs.declared.run.Run.{Run}
 
 -- the cells of both as one run, with the mark of the second
@@ -18,8 +18,8 @@ abbrev pub last_shown : Run → Head
 last_shown a = record (head_behind (a.len - 1) (first_of a)) { hidden = false }
 
 -- the first cell of b continues a, whatever the marks, and so do the letters
-abbrev pub goes_on : Run → Run → Bool
-goes_on a b =
+abbrev pub run_continues : Run → Run → Bool
+run_continues a b =
     is_continued (Some (lettered (last_shown a) 0)) b.id b.left b.right
     && (nat_eq b.key.depth ((last_shown a).key.depth + 1) && (nat_eq b.key.forest 0 && (nat_eq b.stretch a.stretch && nat_eq b.start (a.start + a.len))))
 
@@ -50,7 +50,7 @@ pub record IsTakenFirst (x : Identifier) (a b : Run) (n : ℕ) : Type 0 where
 pub record IsTakenLast (x : Identifier) (a b : Run) (n : ℕ) : Type 0 where
   pub hidden : b.hidden ≡ true
   pub at : suc n ≡ a.len
-  pub is : x ≡ last_id a
+  pub is : x ≡ last_id_of_run a
 
 -- a border that hides the cell of x as it comes to the place n
 pub record IsHiding (rope : List (Identifier × Run)) (x : Identifier) (a b : Run) (n : ℕ) : Type 0 where

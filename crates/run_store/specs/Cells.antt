@@ -6,20 +6,20 @@ use Rattle.fugue_ids.specs.Keys.{Keyed}
 use Rattle.run_store.specs.declared.cell.Cell.{Cell}
 
 -- the identifiers of the cells
-abbrev pub ids : List Cell → List Identifier
-ids cells = map (λ c. c.id) cells
+abbrev pub cell_ids : List Cell → List Identifier
+cell_ids cells = map (λ c. c.id) cells
 
 -- the cells as elements of an order, each with its key
-abbrev pub keyed : List Cell → List Keyed
-keyed cells = map (λ c. record { id = c.id; key = c.key }) cells
+abbrev pub keyed_cells : List Cell → List Keyed
+keyed_cells cells = map (λ c. record { id = c.id; key = c.key }) cells
 
 -- the cells that are not hidden
-abbrev pub visible_cells : List Cell → List Cell
-visible_cells cells = filter (λ c. not c.hidden) cells
+abbrev pub cells_shown : List Cell → List Cell
+cells_shown cells = filter (λ c. not c.hidden) cells
 
 -- the scalars that are not hidden
-abbrev pub text : List Cell → List ℕ
-text cells = map (λ c. c.ch) (visible_cells cells)
+abbrev pub cell_text : List Cell → List ℕ
+cell_text cells = map (λ c. c.ch) (cells_shown cells)
 
 -- the cell of x
 abbrev pub cell_of : List Cell → Identifier → Option Cell
@@ -36,9 +36,9 @@ abbrev pub origins_of : List Cell → Identifier → Option (Option Identifier �
 origins_of cells x = option_map (λ c. (c.left, c.right)) (cell_of cells x)
 
 -- a cell of x is hidden
-abbrev pub is_hidden : List Cell → Identifier → Bool
-is_hidden cells x = list_any (λ c. id_eq c.id x && c.hidden) cells
+abbrev pub is_hidden_cell : List Cell → Identifier → Bool
+is_hidden_cell cells x = list_any (λ c. id_eq c.id x && c.hidden) cells
 
 -- the cell as it is once x is hidden
-abbrev pub hiding : Identifier → Cell → Cell
-hiding x c = if id_eq c.id x then record c { hidden = true } else c
+abbrev pub cell_hiding : Identifier → Cell → Cell
+cell_hiding x c = if id_eq c.id x then record c { hidden = true } else c

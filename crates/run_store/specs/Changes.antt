@@ -3,7 +3,7 @@ use Rattle.std.specs.Prelude.{◌≡◌, List, Result, OnErr, OnOk, length}
 use Rattle.run_store.specs.Runs.{AreRuns, cells_in}
 use Rattle.run_store.specs.Stored.{IsRaised}
 use Rattle.run_store.specs.declared.cell.Cell.{Cell}
-use Rattle.run_store.specs.declared.runs.Runs.{Runs}
+use Rattle.run_store.specs.declared.run.Runs.{Runs}
 
 -- the cells come to be these, or stay as they are for want of memory; either way a run may have been parted
 pub record MakesCells {T E : Type 0} (result : Result T E) (old new : Runs) (cells : List Cell) : Type 0 where

@@ -4,12 +4,12 @@ use Rattle.std.specs.List.{insert}
 use Rattle.fugue_ids.specs.Identifiers.{Identifier}
 use Rattle.fugue_ids.specs.Listed.{index_of}
 use Rattle.fugue_ids.specs.declared.limits.TheConstants.{MOST_OPERATIONS}
-use Rattle.run_store.specs.Cells.{ids}
+use Rattle.run_store.specs.Cells.{cell_ids}
 use Rattle.run_store.specs.Heads.{head_behind}
-use Rattle.run_store.specs.NewCells.{new_key}
+use Rattle.run_store.specs.NewCells.{new_cell_key}
 use Rattle.run_store.specs.Runs.{AreLetters, first_of, letters_of}
 use Rattle.run_store.specs.declared.cell.Cell.{Cell}
-use Rattle.run_store.specs.declared.head.Head.{Head}
+use Rattle.run_store.specs.declared.cell.Head.{Head}
 use Rattle.run_store.specs.declared.run.Run.{Run}
 
 -- the stretches of letters, each as it was or with more letters behind, and perhaps others
@@ -27,21 +27,21 @@ pub record IsLonger (old new : List (List ℕ)) (run : Run) (ch : ℕ) (longer :
 
 -- a cell that may come to these
 pub record IsNew (cells : List Cell) (h : Head) : Type 0 where
-  pub fresh : Contains (ids cells) h.id → ⊥
+  pub fresh : Contains (cell_ids cells) h.id → ⊥
   pub room : length cells < MOST_OPERATIONS
   pub shown : h.hidden ≡ false
-  pub key : h.key ≡ new_key cells h.left h.right
+  pub key : h.key ≡ new_cell_key cells h.left h.right
   pub counter : h.id.counter < 2 ^ 32
   pub depths : h.key.depth ≤ suc (length cells)
   pub forests : h.key.forest ≤ suc (length cells)
 
 -- the identifier of the last cell of a run
-abbrev pub last_id : Run → Identifier
-last_id run = (head_behind (run.len - 1) (first_of run)).id
+abbrev pub last_id_of_run : Run → Identifier
+last_id_of_run run = (head_behind (run.len - 1) (first_of run)).id
 
 -- the cells with a new one directly behind that of x, and directly before it
-abbrev pub inserted_behind : Identifier → Cell → List Cell → List Cell
-inserted_behind x c cells = insert cells (suc (index_of (ids cells) x)) c
+abbrev pub cell_inserted_behind : Identifier → Cell → List Cell → List Cell
+cell_inserted_behind x c cells = insert cells (suc (index_of (cell_ids cells) x)) c
 
-abbrev pub inserted_before : Identifier → Cell → List Cell → List Cell
-inserted_before x c cells = insert cells (index_of (ids cells) x) c
+abbrev pub cell_inserted_before : Identifier → Cell → List Cell → List Cell
+cell_inserted_before x c cells = insert cells (index_of (cell_ids cells) x) c

@@ -3,7 +3,7 @@ use Rattle.std.specs.Prelude.{ℕ, zero, suc, ◌+◌, ◌*◌, List, [], ◌∷
 use Rattle.fugue_ids.specs.Identifiers.{Identifier}
 use Rattle.fugue_ids.specs.declared.key.Key.{Key}
 use Rattle.run_store.specs.declared.cell.Cell.{Cell}
-use Rattle.run_store.specs.declared.head.Head.{Head}
+use Rattle.run_store.specs.declared.cell.Head.{Head}
 
 -- the identifier n behind another one of the same replica
 abbrev pub id_behind : ℕ → Identifier → Identifier
@@ -23,13 +23,13 @@ head_behind (suc n) h =
 abbrev pub lettered : Head → ℕ → Cell
 lettered h ch = record { id = h.id; left = h.left; right = h.right; ch = ch; hidden = h.hidden; key = h.key }
 
-abbrev pub head_of : Cell → Head
-head_of c = record { id = c.id; left = c.left; right = c.right; hidden = c.hidden; key = c.key }
+abbrev pub run_head_of : Cell → Head
+run_head_of c = record { id = c.id; left = c.left; right = c.right; hidden = c.hidden; key = c.key }
 
 -- the cells of letters of which each stands behind the one before it
-abbrev pub typed : Head → List ℕ → List Cell
-typed h [] = []
-typed h (ch ∷ chs) = lettered h ch ∷ typed (next_head h) chs
+abbrev pub typed_cells : Head → List ℕ → List Cell
+typed_cells h [] = []
+typed_cells h (ch ∷ chs) = lettered h ch ∷ typed_cells (next_head h) chs
 
 -- a key as one number: comparing the numbers is comparing the keys
 abbrev pub rank_of : Key → ℕ

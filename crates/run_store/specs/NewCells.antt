@@ -1,19 +1,19 @@
 -- A new cell: its key, where it goes in, and whether it continues a run.
 use Rattle.std.specs.Prelude.{Bool, false, not, if◌then◌else◌, ◌&&◌, nat_eq, List, Option, Some, None, slice_get, ℕ, zero, suc}
 use Rattle.fugue_ids.specs.Identifiers.{Identifier, origin_eq}
-use Rattle.fugue_ids.specs.declared.gap.Gap.{Gap}
+use Rattle.fugue_ids.specs.declared.key.Gap.{Gap}
 use Rattle.origin_model.specs.sides.KeyedGap.{gap_index}
 use Rattle.fugue_ids.specs.declared.key.Key.{Key}
-use Rattle.run_store.specs.Cells.{ids, cell_of_origin}
+use Rattle.run_store.specs.Cells.{cell_ids, cell_of_origin}
 use Rattle.run_store.specs.declared.cell.Cell.{Cell}
 
 -- the depth of a cell: 0 where it is not held
-abbrev pub depth_of : Option Cell → ℕ
-depth_of None = 0
-depth_of (Some c) = c.key.depth
+abbrev pub cell_depth : Option Cell → ℕ
+cell_depth None = 0
+cell_depth (Some c) = c.key.depth
 
 abbrev pub depth_under : List Cell → Option Identifier → ℕ
-depth_under cells left = depth_of (cell_of_origin cells left)
+depth_under cells left = cell_depth (cell_of_origin cells left)
 
 -- the cell is held and has this right origin
 abbrev pub has_right : Option Cell → Option Identifier → Bool
@@ -25,24 +25,24 @@ abbrev pub shares_right : List Cell → Option Identifier → Option Identifier 
 shares_right cells left right = has_right (cell_of_origin cells left) right
 
 -- one more than the cell's forest, where it is held and has this left origin; otherwise 0
-abbrev pub forest_of : Option Cell → Option Identifier → ℕ
-forest_of None left = 0
-forest_of (Some c) left = if origin_eq c.left left then suc c.key.forest else 0
+abbrev pub cell_forest : Option Cell → Option Identifier → ℕ
+cell_forest None left = 0
+cell_forest (Some c) left = if origin_eq c.left left then suc c.key.forest else 0
 
 abbrev pub forest_beside : List Cell → Option Identifier → Option Identifier → ℕ
-forest_beside cells left right = forest_of (cell_of_origin cells right) left
+forest_beside cells left right = cell_forest (cell_of_origin cells right) left
 
 -- The key of a new cell: one deeper than its left origin, and its forest is one more than that of its right origin, where that has the same left origin.
 -- Where the left origin has the right origin itself, the forest is 0. (An element whose origins are older than itself is not both left and right of another.)
-abbrev pub new_key : List Cell → Option Identifier → Option Identifier → Key
-new_key cells left right = record {
+abbrev pub new_cell_key : List Cell → Option Identifier → Option Identifier → Key
+new_cell_key cells left right = record {
   depth = suc (depth_under cells left);
   forest = if shares_right cells left right then 0 else forest_beside cells left right;
 }
 
 -- a new cell, which is not hidden
 abbrev pub new_cell : List Cell → Identifier → Option Identifier → Option Identifier → ℕ → Cell
-new_cell cells id left right ch = record { id = id; left = left; right = right; ch = ch; hidden = false; key = new_key cells left right }
+new_cell cells id left right ch = record { id = id; left = left; right = right; ch = ch; hidden = false; key = new_cell_key cells left right }
 
 -- the cell directly before the place i
 abbrev pub cell_before : List Cell → ℕ → Option Cell
@@ -60,4 +60,4 @@ is_continued (Some c) id left right = origin_eq left (Some c.id) && (is_next c.i
 
 -- a new cell in the gap continues a run
 abbrev pub continues : List Cell → Gap → Identifier → Option Identifier → Option Identifier → Bool
-continues cells gap id left right = is_continued (cell_before cells (gap_index gap (ids cells))) id left right
+continues cells gap id left right = is_continued (cell_before cells (gap_index gap (cell_ids cells))) id left right

@@ -1,7 +1,7 @@
 -- An origin as two numbers.
 use Rattle.std.specs.Prelude.{◌≡◌, ℕ, zero, suc, Option, None, Some}
 use Rattle.fugue_ids.specs.Identifiers.{Identifier}
-use Rattle.run_store.specs.declared.origin.Origin.TheInside.{Inside}
+use Rattle.run_store.specs.declared.run.Origin.TheInside.{Inside}
 
 -- the identifier of these numbers, if the first is that of a replica
 abbrev pub id_if : ℕ → ℕ → Option Identifier

@@ -4,12 +4,12 @@ use Rattle.fugue_ids.specs.Identifiers.{Identifier}
 use Rattle.fugue_ids.specs.declared.limits.TheConstants.{MOST_OPERATIONS}
 use Rattle.node_rope.specs.Beside.{placed_after, put_under}
 use Rattle.node_rope.specs.Items.{value_under}
-use Rattle.run_store.specs.Cells.{ids}
-use Rattle.run_store.specs.Heads.{head_behind, typed}
+use Rattle.run_store.specs.Cells.{cell_ids}
+use Rattle.run_store.specs.Heads.{head_behind, typed_cells}
 use Rattle.run_store.specs.declared.cell.Cell.{Cell}
-use Rattle.run_store.specs.declared.head.Head.{Head}
+use Rattle.run_store.specs.declared.cell.Head.{Head}
 use Rattle.run_store.specs.declared.run.Run.{Run}
-use Rattle.run_store.specs.declared.runs.Runs.{Runs}
+use Rattle.run_store.specs.declared.run.Runs.{Runs}
 
 -- the first cell of a run
 abbrev pub first_of : Run → Head
@@ -20,7 +20,7 @@ abbrev pub letters_of : List (List ℕ) → Run → List ℕ
 letters_of letters r = take r.len (drop r.start (slice_index_or letters r.stretch []))
 
 abbrev pub cells_of : List (List ℕ) → Run → List Cell
-cells_of letters r = typed (first_of r) (letters_of letters r)
+cells_of letters r = typed_cells (first_of r) (letters_of letters r)
 
 -- the cells of all runs of a rope, in order
 abbrev pub all_cells : List (List ℕ) → List (Identifier × Run) → List Cell
@@ -49,7 +49,7 @@ pub record AreLetters (letters : List (List ℕ)) (count : ℕ) : Type 0 where
 -- the runs keep distinct cells, and the count is theirs
 pub record AreRuns (r : Runs) : Type 0 where
   pub each : All (IsRun r.letters r.count) r.rope
-  pub distinct : AllPairs (λ x y. x ≢ y) (ids (cells_in r))
+  pub distinct : AllPairs (λ x y. x ≢ y) (cell_ids (cells_in r))
   pub counted : r.count ≡ length (cells_in r)
   pub few : r.count ≤ MOST_OPERATIONS
   pub letters : AreLetters r.letters r.count

@@ -1,7 +1,7 @@
 -- A store as contracts see it.
 use Rattle.std.specs.Prelude.{◌≡◌, ◌↔◌, ◌≤◌, ◌+◌, ℕ, List, []}
-use Rattle.fugue_ids.specs.declared.gap.Gap.{Gap}
-use Rattle.fugue_ids.specs.declared.gap.Gap.TheVariants.{Alone}
+use Rattle.fugue_ids.specs.declared.key.Gap.{Gap}
+use Rattle.fugue_ids.specs.declared.key.Gap.TheVariants.{Alone}
 use Rattle.run_store.specs.declared.cell.Cell.{Cell}
 
 pub record Stored : Type 0 where

@@ -1,17 +1,17 @@
 // The border between a hidden run and its neighbour moves over a cell, which is so hidden without a run of its own.
 ghost use Rattle.std.specs.Prelude.{◌≡◌, ◌<◌, ◌≤◌, ◌+◌, ◌^◌, IfSome, Some, OnErr, OnOk};
 ghost use Rattle.node_rope.specs.Items.{value_under};
-ghost use Rattle.run_store.specs.Borders.{IsBorder, IsHiding, IsMove, goes_on as continues, shifted, together as both};
-ghost use Rattle.run_store.specs.Growth.{last_id};
+ghost use Rattle.run_store.specs.Borders.{IsBorder, IsHiding, IsMove, run_continues as continues, shifted};
+ghost use Rattle.run_store.specs.Borders.{together as both};
+ghost use Rattle.run_store.specs.Growth.{last_id_of_run};
 ghost use Rattle.run_store.specs.Heads.{head_behind};
 ghost use Rattle.run_store.specs.Runs.{AreRuns, first_of};
 
+use crate::cell::Head;
 use crate::find::Spot;
-use crate::head::Head;
 use crate::new_cells::is_continued;
 use crate::parts::{cell_at, first_cell, key_of, run_from, run_to};
-use crate::run::Run;
-use crate::runs::Runs;
+use crate::run::{Run, Runs};
 use fugue_ids::NoMemory;
 
 /// Two runs that are one passage, but for their marks, and how many cells of it the first one is to have.
@@ -107,7 +107,7 @@ impl Runs {
         requires sound { AreRuns self.now }
         requires held { value_under run.now.id self.now.rope ≡ Some run.now }
         requires more { 1 < run.now.len }
-        ensures { IfSome result (λ b. IsHiding self.now.rope (last_id run.now) b.front b.back b.at) }
+        ensures { IfSome result (λ b. IsHiding self.now.rope (last_id_of_run run.now) b.front b.back b.at) }
     {
         let back = self.continuation(run)?;
         if !back.hidden {
@@ -120,12 +120,14 @@ impl Runs {
         })
     }
 
-    /// The border over which the cell at the spot comes to a hidden run: it stands at an end of its own run, and not alone.
+    /// The border over which the cell at the spot comes to a hidden run: it stands at an end of its own run, and not
+    /// alone.
     pub(crate) fn border(&self, spot: &Spot) -> Option<Border>
         requires sound { AreRuns self.now }
         requires held { value_under spot.now.run.id self.now.rope ≡ Some spot.now.run }
         requires inside { spot.now.offset < spot.now.run.len }
-        ensures { IfSome result (λ b. IsHiding self.now.rope (head_behind spot.now.offset (first_of spot.now.run)).id b.front b.back b.at) }
+        ensures { IfSome result (λ b. IsHiding self.now.rope
+            (head_behind spot.now.offset (first_of spot.now.run)).id b.front b.back b.at) }
     {
         if spot.run.len == 1 {
             return None;
@@ -144,7 +146,12 @@ impl Runs {
         requires sound { AreRuns self.old }
         requires beside { IsBorder self.old.rope border.now.front border.now.back }
         requires to { IsMove border.now.front border.now.back border.now.at }
-        ensures ok { OnOk result (self.new ≡ record { rope = shifted border.now.at border.now.front border.now.back self.old.rope; letters = self.old.letters; count = self.old.count }) }
+        ensures ok { OnOk result (self.new
+            ≡ record {
+              rope = shifted border.now.at border.now.front border.now.back self.old.rope;
+              letters = self.old.letters;
+              count = self.old.count;
+            }) }
         ensures err { OnErr result (self.new ≡ self.old) }
     {
         let rest = run_from(&together(&border.front, &border.back), border.at);

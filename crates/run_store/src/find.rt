@@ -1,15 +1,15 @@
 // Where a cell is kept.
-ghost use Rattle.std.specs.Prelude.{◌≡◌, ◌<◌, ◌≤◌, ◌+◌, ◌-◌, Contains, IfNone, IfSome, Some, length, option_map, slice_get};
+ghost use Rattle.std.specs.Prelude.{◌≡◌, ◌<◌, ◌≤◌, ◌+◌, ◌-◌, Contains, IfNone, IfSome, Some, length, option_map};
+ghost use Rattle.std.specs.Prelude.{slice_get};
 ghost use Rattle.fugue_ids.specs.Identifiers.{Identifier};
 ghost use Rattle.node_rope.specs.Items.{value_under};
-ghost use Rattle.run_store.specs.Cells.{cell_of, ids};
-ghost use Rattle.run_store.specs.Heads.{head_of};
+ghost use Rattle.run_store.specs.Cells.{cell_of, cell_ids};
+ghost use Rattle.run_store.specs.Heads.{run_head_of};
 ghost use Rattle.run_store.specs.Runs.{AreRuns, IsSpot, cells_in};
 
-use crate::head::Head;
+use crate::cell::Head;
 use crate::parts::cell_at;
-use crate::run::Run;
-use crate::runs::Runs;
+use crate::run::{Run, Runs};
 use fugue_ids::ElementId;
 
 /// A run, and how many of its cells stand before the one that was asked for.
@@ -24,7 +24,8 @@ fn offset_in(key: ElementId, run: &Run, id: ElementId) -> Option<u32>
     ensures same { IfSome result (λ offset. key.replica ≡ id.replica) }
     ensures behind { IfSome result (λ offset. id.counter ≡ key.counter + offset) }
     ensures inside { IfSome result (λ offset. offset < run.now.len) }
-    ensures none { IfNone result (key.replica ≡ id.replica → key.counter ≤ id.counter → run.now.len ≤ id.counter - key.counter) }
+    ensures none { IfNone result
+        (key.replica ≡ id.replica → key.counter ≤ id.counter → run.now.len ≤ id.counter - key.counter) }
 {
     if key.replica != id.replica || id.counter < key.counter {
         return None;
@@ -75,7 +76,7 @@ impl Runs {
     pub(crate) fn find(&self, id: ElementId) -> Option<Spot>
         requires { AreRuns self.now }
         ensures some { IfSome result (λ s. IsSpot self.now.rope id s.run s.offset) }
-        ensures none { IfNone result (Contains (ids (cells_in self.now)) id → ⊥) }
+        ensures none { IfNone result (Contains (cell_ids (cells_in self.now)) id → ⊥) }
     {
         match self.find_near(id) {
             Some(spot) => Some(spot),
@@ -97,7 +98,7 @@ impl Runs {
     fn find_by_key(&self, id: ElementId) -> Option<Spot>
         requires { AreRuns self.now }
         ensures some { IfSome result (λ s. IsSpot self.now.rope id s.run s.offset) }
-        ensures none { IfNone result (Contains (ids (cells_in self.now)) id → ⊥) }
+        ensures none { IfNone result (Contains (cell_ids (cells_in self.now)) id → ⊥) }
     {
         match self.rope.floor_item(id) {
             Some(floor) => {
@@ -114,7 +115,7 @@ impl Runs {
     /// What the cell of this identifier says of itself.
     pub(crate) fn head(&self, id: ElementId) -> Option<Head>
         requires { AreRuns self.now }
-        ensures is { result ≡ option_map head_of (cell_of (cells_in self.now) id) }
+        ensures is { result ≡ option_map run_head_of (cell_of (cells_in self.now) id) }
         ensures depths { IfSome result (λ h. h.key.depth ≤ length (cells_in self.now)) }
         ensures forests { IfSome result (λ h. h.key.forest ≤ length (cells_in self.now)) }
     {

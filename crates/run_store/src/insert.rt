@@ -1,27 +1,36 @@
 // A new cell goes in: into the run behind which it was typed, or into one of its own.
-ghost use Rattle.std.specs.Prelude.{◌≡◌, ◌<◌, ◌≤◌, ◌+◌, ◌^◌, [], Some, IsNone, Contains, IfOk, length, suc, true, false, slice_index_or, OnErr, OnOk};
+ghost use Rattle.std.specs.Prelude.{◌≡◌, ◌<◌, ◌≤◌, ◌+◌, ◌^◌, [], Some, IsNone, Contains, IfOk, length, suc, true};
+ghost use Rattle.std.specs.Prelude.{false, slice_index_or, OnErr, OnOk};
 ghost use Rattle.fugue_ids.specs.Listed.{index_of};
 ghost use Rattle.node_rope.specs.Items.{value_under};
-ghost use Rattle.run_store.specs.Beginning.{CanBegin, begun, placed_at};
+ghost use Rattle.run_store.specs.Beginning.{CanBegin, begun_run, placed_at};
 ghost use Rattle.run_store.specs.Changes.{MakesCells};
-ghost use Rattle.run_store.specs.Cells.{cell_of, ids};
-ghost use Rattle.run_store.specs.Growth.{IsLonger, IsNew, inserted_before, inserted_behind, last_id};
+ghost use Rattle.run_store.specs.Cells.{cell_of, cell_ids};
+ghost use Rattle.run_store.specs.Growth.{IsLonger, IsNew, cell_inserted_before, cell_inserted_behind, last_id_of_run};
 ghost use Rattle.run_store.specs.Heads.{head_behind, lettered};
 ghost use Rattle.run_store.specs.NewCells.{cell_before, is_continued as continues};
 ghost use Rattle.run_store.specs.Runs.{AreRuns, IsSpot, cells_in, first_of};
 ghost use Rattle.run_store.specs.Stored.{IsRaised};
 
-use crate::beginning::Beginning;
+use crate::cell::Head;
 use crate::find::Spot;
-use crate::head::Head;
 use crate::letters::Letters;
 use crate::new_cells::is_continued;
-use crate::origin::Origin;
 use crate::parts::{cell_at, run_to};
-use crate::run::Run;
-use crate::runs::Runs;
+use crate::run::{Origin, Run, Runs};
 use fugue_ids::{ElementId, MOST_OPERATIONS, NoMemory};
 use node_rope::{Back, Rope};
+
+/// Where a run begins among the others.
+#[derive(Clone, Copy)]
+pub(crate) enum Beginning {
+    /// There is no other run.
+    First,
+    /// Directly before the run with this key.
+    Before(ElementId),
+    /// Directly behind this run.
+    Behind(Run),
+}
 
 /// The run with one letter more, which has its letters there.
 fn longer_at(run: &Run, stretch: u32, start: u32) -> Run
@@ -36,7 +45,8 @@ fn longer_at(run: &Run, stretch: u32, start: u32) -> Run
     }
 }
 
-/// One letter more behind those of the run. Where another stands there, which is another run's, the run's letters are copied.
+/// One letter more behind those of the run. Where another stands there, which is another run's, the run's letters are
+/// copied.
 fn lengthened(letters: &mut Letters, run: &Run, ch: char) -> Result<Run, NoMemory>
     requires some { 0 < run.now.len }
     requires few { run.now.start + run.now.len < 2 ^ 31 }
@@ -57,7 +67,16 @@ fn lengthened(letters: &mut Letters, run: &Run, ch: char) -> Result<Run, NoMemor
 
 /// A run of one cell, whose letter stands there in the first stretch.
 fn alone(head: &Head, start: u32) -> Run
-    ensures { result ≡ record { id = head.now.id; left = head.now.left; right = head.now.right; hidden = head.now.hidden; key = head.now.key; stretch = 0; start = start; len = 1 } }
+    ensures { result ≡ record {
+      id = head.now.id;
+      left = head.now.left;
+      right = head.now.right;
+      hidden = head.now.hidden;
+      key = head.now.key;
+      stretch = 0;
+      start = start;
+      len = 1;
+    } }
 {
     Run {
         id: head.id,
@@ -94,7 +113,8 @@ impl Runs {
         requires new { IsNew (cells_in self.old) head.now }
         requires next { head.now ≡ head_behind run.now.len (first_of run.now) }
         ensures sound { AreRuns self.new }
-        ensures ok { OnOk result (cells_in self.new ≡ inserted_behind (last_id run.now) (lettered head.now ch) (cells_in self.old)) }
+        ensures ok { OnOk result (cells_in self.new
+            ≡ cell_inserted_behind (last_id_of_run run.now) (lettered head.now ch) (cells_in self.old)) }
         ensures kept { OnOk result (length self.new.rope ≡ length self.old.rope) }
         ensures err { OnErr result (self.new ≡ self.old) }
     {
@@ -111,7 +131,7 @@ impl Runs {
         requires held { CanBegin at self.old.rope }
         requires new { IsNew (cells_in self.old) head.now }
         ensures sound { AreRuns self.new }
-        ensures ok { OnOk result (cells_in self.new ≡ begun at (lettered head.now ch) (cells_in self.old)) }
+        ensures ok { OnOk result (cells_in self.new ≡ begun_run at (lettered head.now ch) (cells_in self.old)) }
         ensures raised { OnOk result (length self.new.rope ≡ length self.old.rope + 1) }
         ensures err { OnErr result (self.new ≡ self.old) }
     {
@@ -134,7 +154,9 @@ impl Runs {
         requires held { value_under spot.now.run.id self.old.rope ≡ Some spot.now.run }
         requires inside { spot.now.offset < spot.now.run.len }
         requires new { IsNew (cells_in self.old) head.now }
-        ensures { MakesCells result self.old self.new (inserted_behind (head_behind spot.now.offset (first_of spot.now.run)).id (lettered head.now ch) (cells_in self.old)) }
+        ensures { MakesCells result self.old self.new
+            (cell_inserted_behind (head_behind spot.now.offset (first_of spot.now.run)).id (lettered head.now ch)
+            (cells_in self.old)) }
     {
         let end = spot.offset + 1;
         self.cut_behind(&spot.run, end)?;
@@ -147,8 +169,13 @@ impl Runs {
         requires held { value_under spot.now.run.id self.old.rope ≡ Some spot.now.run }
         requires inside { spot.now.offset < spot.now.run.len }
         requires new { IsNew (cells_in self.old) head.now }
-        ensures makes { MakesCells result self.old self.new (inserted_behind (head_behind spot.now.offset (first_of spot.now.run)).id (lettered head.now ch) (cells_in self.old)) }
-        ensures continued { OnOk result (continues (Some (lettered (head_behind spot.now.offset (first_of spot.now.run)) 0)) head.now.id head.now.left head.now.right ≡ true → length self.new.rope ≡ length self.old.rope) }
+        ensures makes { MakesCells result self.old self.new
+            (cell_inserted_behind (head_behind spot.now.offset (first_of spot.now.run)).id (lettered head.now ch)
+            (cells_in self.old)) }
+        ensures continued { OnOk result
+            (continues (Some (lettered
+            (head_behind spot.now.offset (first_of spot.now.run)) 0)) head.now.id head.now.left head.now.right ≡ true
+            → length self.new.rope ≡ length self.old.rope) }
     {
         if is_continued(&cell_at(&spot.run, spot.offset), head) {
             self.extend(&spot.run, head, ch)
@@ -165,10 +192,13 @@ impl Runs {
         ch: char,
     ) -> Result<(), NoMemory>
         requires sound { AreRuns self.old }
-        requires held { Contains (ids (cells_in self.old)) at }
+        requires held { Contains (cell_ids (cells_in self.old)) at }
         requires new { IsNew (cells_in self.old) head.now }
-        ensures makes { MakesCells result self.old self.new (inserted_behind at (lettered head.now ch) (cells_in self.old)) }
-        ensures continued { OnOk result (continues (cell_of (cells_in self.old) at) head.now.id head.now.left head.now.right ≡ true → length self.new.rope ≡ length self.old.rope) }
+        ensures makes { MakesCells result self.old self.new
+            (cell_inserted_behind at (lettered head.now ch) (cells_in self.old)) }
+        ensures continued { OnOk result
+            (continues (cell_of (cells_in self.old) at) head.now.id head.now.left head.now.right ≡ true
+            → length self.new.rope ≡ length self.old.rope) }
     {
         match self.find(at) {
             Some(spot) => self.insert_at(&spot, head, ch),
@@ -184,10 +214,14 @@ impl Runs {
         ch: char,
     ) -> Result<(), NoMemory>
         requires sound { AreRuns self.old }
-        requires held { Contains (ids (cells_in self.old)) next }
+        requires held { Contains (cell_ids (cells_in self.old)) next }
         requires new { IsNew (cells_in self.old) head.now }
-        ensures makes { MakesCells result self.old self.new (inserted_before next (lettered head.now ch) (cells_in self.old)) }
-        ensures continued { OnOk result (continues (cell_before (cells_in self.old) (index_of (ids (cells_in self.old)) next)) head.now.id head.now.left head.now.right ≡ true → length self.new.rope ≡ length self.old.rope) }
+        ensures makes { MakesCells result self.old self.new
+            (cell_inserted_before next (lettered head.now ch) (cells_in self.old)) }
+        ensures continued { OnOk result
+            (continues (cell_before (cells_in self.old)
+            (index_of (cell_ids (cells_in self.old)) next)) head.now.id head.now.left head.now.right ≡ true
+            → length self.new.rope ≡ length self.old.rope) }
     {
         match self.before(Some(next)) {
             Some(behind) => self.insert_behind(behind, head, ch),

@@ -1,13 +1,15 @@
-ghost use Rattle.std.specs.Prelude.{◌≡◌, ◌<◌, ◌≤◌, ◌-◌, ◌+◌, ◌^◌, [], ◌∷◌, ◌++◌, drop, length, map, take, slice_index_or, slice_set, OnErr, OnOk, IfOk};
+ghost use Rattle.std.specs.Prelude.{◌≡◌, ◌<◌, ◌≤◌, ◌-◌, ◌+◌, ◌^◌, [], ◌∷◌, ◌++◌, drop, length, map, take};
+ghost use Rattle.std.specs.Prelude.{slice_index_or, slice_set, OnErr, OnOk, IfOk};
 
 use fugue_ids::NoMemory;
 use std::alloc::Global;
 use std::marker::Model;
 
-/// Stretches of letters, each in the order of arrival. A letter is never moved or changed, so runs share a stretch by ranges of it.
+/// Stretches of letters, each in the order of arrival. A letter is never moved or changed, so runs share a stretch by
+/// ranges of it.
 ///
-/// Each run begins in the first stretch, so that a run of one letter costs no more than that letter. One that is typed on behind the letters of
-/// another is copied into a stretch of its own, once.
+/// Each run begins in the first stretch, so that a run of one letter costs no more than that letter. One that is typed
+/// on behind the letters of another is copied into a stretch of its own, once.
 #[derive(Drop)]
 pub struct Letters {
     first: Vec<char>,
@@ -50,7 +52,8 @@ impl Letters {
     /// A letter behind those of the first stretch. The answer is where it stands there.
     pub(crate) fn begin(&mut self, ch: char) -> Result<u32, NoMemory>
         requires { length (slice_index_or self.old 0 []) < 2 ^ 32 }
-        ensures ok { IfOk result (λ start. (start ≡ length (slice_index_or self.old 0 [])) × (self.new ≡ slice_set self.old 0 (slice_index_or self.old 0 [] ++ ch ∷ []))) }
+        ensures ok { IfOk result (λ start. (start ≡ length (slice_index_or self.old 0 []))
+            × (self.new ≡ slice_set self.old 0 (slice_index_or self.old 0 [] ++ ch ∷ []))) }
         ensures err { OnErr result (self.new ≡ self.old) }
     {
         let start = self.first.len() as u32;
@@ -68,7 +71,8 @@ impl Letters {
     ) -> Result<u32, NoMemory>
         requires within { start + len ≤ length (slice_index_or self.old stretch []) }
         requires few { length self.old < 2 ^ 32 }
-        ensures ok { IfOk result (λ n. (n ≡ length self.old) × (self.new ≡ self.old ++ (take len (drop start (slice_index_or self.old stretch [])) ++ ch ∷ []) ∷ [])) }
+        ensures ok { IfOk result (λ n. (n ≡ length self.old)
+            × (self.new ≡ self.old ++ (take len (drop start (slice_index_or self.old stretch [])) ++ ch ∷ []) ∷ [])) }
         ensures err { OnErr result (self.new ≡ self.old) }
     {
         let start = start as usize;
@@ -82,7 +86,8 @@ impl Letters {
     /// One letter more in a stretch.
     pub(crate) fn push(&mut self, stretch: u32, ch: char) -> Result<(), NoMemory>
         requires { stretch < length self.old }
-        ensures ok { OnOk result (self.new ≡ slice_set self.old stretch (slice_index_or self.old stretch [] ++ ch ∷ [])) }
+        ensures ok { OnOk result (self.new
+            ≡ slice_set self.old stretch (slice_index_or self.old stretch [] ++ ch ∷ [])) }
         ensures err { OnErr result (self.new ≡ self.old) }
     {
         if stretch == 0 {
@@ -94,7 +99,8 @@ impl Letters {
 
     /// Takes the last letter of the first stretch back.
     pub(crate) fn take_back(&mut self)
-        ensures { self.new ≡ slice_set self.old 0 (take (length (slice_index_or self.old 0 []) - 1) (slice_index_or self.old 0 [])) }
+        ensures { self.new ≡ slice_set self.old 0
+            (take (length (slice_index_or self.old 0 []) - 1) (slice_index_or self.old 0 [])) }
     {
         let _ = self.first.pop();
     }
@@ -112,7 +118,9 @@ fn followed(alloc: Global, front: &[char], ch: char) -> Result<Vec<char>, NoMemo
 
 fn push_letter(stretches: &mut [Vec<char>], stretch: usize, ch: char) -> Result<(), NoMemory>
     requires { stretch < length stretches.old }
-    ensures ok { OnOk result (map (λ v. v.items) stretches.new ≡ slice_set (map (λ v. v.items) stretches.old) stretch (slice_index_or (map (λ v. v.items) stretches.old) stretch [] ++ ch ∷ [])) }
+    ensures ok { OnOk result (map (λ v. v.items) stretches.new
+        ≡ slice_set (map (λ v. v.items) stretches.old) stretch
+        (slice_index_or (map (λ v. v.items) stretches.old) stretch [] ++ ch ∷ [])) }
     ensures err { OnErr result (map (λ v. v.items) stretches.new ≡ map (λ v. v.items) stretches.old) }
 {
     let letters = &mut stretches[stretch];

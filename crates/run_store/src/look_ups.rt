@@ -1,10 +1,11 @@
 // Look-ups of a store. None of them takes memory.
-ghost use Rattle.std.specs.Prelude.{◌≡◌, ◌≢◌, ◌↔◌, ◌≤◌, AllPairs, Contains, IfNone, IfSome, IsTrue, None, drop, length, slice_get};
+ghost use Rattle.std.specs.Prelude.{◌≡◌, ◌≢◌, ◌↔◌, ◌≤◌, AllPairs, Contains, IfNone, IfSome, IsTrue, None, drop, length};
+ghost use Rattle.std.specs.Prelude.{slice_get};
 ghost use Rattle.std.specs.Str.{encode_utf8_all};
 ghost use Rattle.fugue_ids.specs.Gathers.{GathersText};
-ghost use Rattle.fugue_ids.specs.Outs.{WritesText};
+ghost use Rattle.fugue_ids.specs.Outs.{WritesBytes};
 ghost use Rattle.origin_model.specs.edits.Landing.{following};
-ghost use Rattle.run_store.specs.Cells.{ids, is_hidden as hidden_in, origins_of, text, visible_cells};
+ghost use Rattle.run_store.specs.Cells.{cell_ids, is_hidden_cell as hidden_in, origins_of, cell_text, cells_shown};
 ghost use Rattle.run_store.specs.Shown.{IsInHand};
 
 use crate::find::Spot;
@@ -17,7 +18,7 @@ impl RunStore {
     /// How many cells there are, hidden ones too.
     pub fn len(&self) -> usize
         ensures len { result ≡ length self.now.cells }
-        ensures distinct { AllPairs (λ x y. x ≢ y) (ids self.now.cells) }
+        ensures distinct { AllPairs (λ x y. x ≢ y) (cell_ids self.now.cells) }
         ensures few { length self.now.cells ≤ MOST_OPERATIONS }
     {
         self.runs.count
@@ -32,14 +33,14 @@ impl RunStore {
 
     /// How many cells are not hidden.
     pub fn visible_count(&self) -> usize
-        ensures { result ≡ length (visible_cells self.now.cells) }
+        ensures { result ≡ length (cells_shown self.now.cells) }
     {
         self.runs.visible_count()
     }
 
     /// Whether the cell is held, hidden or not.
     pub fn holds(&self, id: ElementId) -> bool
-        ensures { IsTrue result ↔ Contains (ids self.now.cells) id }
+        ensures { IsTrue result ↔ Contains (cell_ids self.now.cells) id }
     {
         match self.runs.find(id) {
             Some(_) => true,
@@ -69,43 +70,45 @@ impl RunStore {
 
     /// The cell with i visible ones before it that is visible itself.
     pub fn nth_visible(&self, i: usize) -> Option<ElementId>
-        ensures { result ≡ slice_get (ids (visible_cells self.now.cells)) i }
+        ensures { result ≡ slice_get (cell_ids (cells_shown self.now.cells)) i }
     {
         self.runs.nth_visible(i)
     }
 
     /// Where that cell is.
     pub(crate) fn visible_spot(&self, i: usize) -> Option<Spot>
-        ensures some { IfSome result (λ s. IsInHand (ids (visible_cells self.now.cells)) i s.run s.offset) }
-        ensures none { IfNone result (slice_get (ids (visible_cells self.now.cells)) i ≡ None) }
+        ensures some { IfSome result (λ s. IsInHand (cell_ids (cells_shown self.now.cells)) i s.run s.offset) }
+        ensures none { IfNone result (slice_get (cell_ids (cells_shown self.now.cells)) i ≡ None) }
     {
         self.runs.visible_spot(i)
     }
 
-    /// The cell behind this one, hidden or not; the first one for None. None comes back for one that is not held or stands last.
+    /// The cell behind this one, hidden or not; the first one for None. None comes back for one that is not held or
+    /// stands last.
     pub fn after(&self, id: Option<ElementId>) -> Option<ElementId>
-        ensures { result ≡ following (ids self.now.cells) id }
+        ensures { result ≡ following (cell_ids self.now.cells) id }
     {
         self.behind(id)
     }
 
     /// A walk along the visible cells, in order.
     pub fn shown(&self) -> Shown<'_>
-        ensures { result ≡ ids (visible_cells self.now.cells) }
+        ensures { result ≡ cell_ids (cells_shown self.now.cells) }
     {
         self.shown_from(0)
     }
 
     /// The same walk from the visible cell behind this many others on.
     pub fn shown_from(&self, at: usize) -> Shown<'_>
-        ensures { result ≡ drop at (ids (visible_cells self.now.cells)) }
+        ensures { result ≡ drop at (cell_ids (cells_shown self.now.cells)) }
     {
         Shown::new(self, at)
     }
 
     /// Writes the scalars of the visible cells, in order.
     pub fn write_text<O: Sink>(&self, output: &mut O) -> Result<(), Failed>
-        ensures { WritesText (O.seen output.old) (O.seen output.new) result (encode_utf8_all (text self.now.cells)) }
+        ensures { WritesBytes (O.seen output.old) (O.seen output.new) result
+            (encode_utf8_all (cell_text self.now.cells)) }
     {
         let mut gather = Gather::new();
         self.put_text(&mut gather, output)?;
@@ -114,7 +117,8 @@ impl RunStore {
 
     /// Puts the text behind what waits to go out.
     pub fn put_text<O: Out>(&self, gather: &mut Gather, output: &mut O) -> Result<(), Failed>
-        ensures { GathersText (O.seen output.old) (O.seen output.new) gather.old gather.new result (encode_utf8_all (text self.now.cells)) }
+        ensures { GathersText (O.seen output.old) (O.seen output.new) gather.old gather.new result
+            (encode_utf8_all (cell_text self.now.cells)) }
     {
         self.runs.put_text(gather, output)
     }

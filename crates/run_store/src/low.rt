@@ -2,13 +2,12 @@
 ghost use Rattle.std.specs.Prelude.{◌≡◌, ◌<◌, ◌≤◌, ◌+◌, ◌^◌, List, ℕ, drop, length, not, take};
 ghost use Rattle.fugue_ids.specs.Keys.{first_low as first_low_in, front_of, key_lt, last_low as last_low_in, rest_of};
 ghost use Rattle.fugue_ids.specs.Listed.{HoldsOrigin};
-ghost use Rattle.run_store.specs.Cells.{ids, keyed};
-ghost use Rattle.run_store.specs.Heads.{head_behind, typed};
+ghost use Rattle.run_store.specs.Cells.{cell_ids, keyed_cells};
+ghost use Rattle.run_store.specs.Heads.{head_behind, typed_cells};
 ghost use Rattle.run_store.specs.Runs.{AreRuns, all_cells, cells_in, first_of};
 
 use crate::parts::cell_at;
-use crate::run::{Run, rank_of};
-use crate::runs::Runs;
+use crate::run::{Run, Runs, rank_of};
 use fugue_ids::{ElementId, Key};
 
 /// Whether a key is at most another.
@@ -23,7 +22,8 @@ fn last_low_of(run: &Run, len: u32, most: Key) -> Option<ElementId>
     requires within { len ≤ run.now.len }
     requires counters { run.now.id.counter + run.now.len ≤ 2 ^ 32 }
     requires depths { run.now.key.depth + run.now.len ≤ 2 ^ 32 }
-    ensures { (letters : List ℕ) → length letters ≡ len → result ≡ last_low_in most (keyed (typed (first_of run.now) letters)) }
+    ensures { (letters : List ℕ) → length letters ≡ len
+        → result ≡ last_low_in most (keyed_cells (typed_cells (first_of run.now) letters)) }
 {
     if len == 0 {
         return None;
@@ -45,7 +45,8 @@ fn first_low_of(run: &Run, from: u32, most: Key) -> Option<ElementId>
     requires counters { run.now.id.counter + run.now.len ≤ 2 ^ 32 }
     requires depths { run.now.key.depth + run.now.len ≤ 2 ^ 32 }
     ensures { (letters : List ℕ) → length letters ≡ run.now.len
-        → result ≡ first_low_in most (keyed (typed (head_behind from (first_of run.now)) (drop from letters))) }
+        → result ≡ first_low_in most
+        (keyed_cells (typed_cells (head_behind from (first_of run.now)) (drop from letters))) }
 {
     if from >= run.len {
         return None;
@@ -61,7 +62,7 @@ impl Runs {
     /// The first low cell of the runs behind this many.
     fn first_low_from(&self, runs: usize, most: Key) -> Option<ElementId>
         requires sound { AreRuns self.now }
-        ensures { result ≡ first_low_in most (keyed (all_cells self.now.letters (drop runs self.now.rope))) }
+        ensures { result ≡ first_low_in most (keyed_cells (all_cells self.now.letters (drop runs self.now.rope))) }
     {
         self.rope.first_low(runs, rank_of(most))
     }
@@ -69,7 +70,7 @@ impl Runs {
     /// The last low cell of this many runs.
     fn last_low_to(&self, runs: usize, most: Key) -> Option<ElementId>
         requires sound { AreRuns self.now }
-        ensures { result ≡ last_low_in most (keyed (all_cells self.now.letters (take runs self.now.rope))) }
+        ensures { result ≡ last_low_in most (keyed_cells (all_cells self.now.letters (take runs self.now.rope))) }
     {
         match self.rope.last_low_item(runs, rank_of(most)) {
             Some(item) => last_low_of(item.1, item.1.len, most),
@@ -80,8 +81,8 @@ impl Runs {
     /// The first low cell behind this one, or behind the beginning.
     pub(crate) fn first_low(&self, id: Option<ElementId>, most: Key) -> Option<ElementId>
         requires sound { AreRuns self.now }
-        requires held { HoldsOrigin (ids (cells_in self.now)) id }
-        ensures { result ≡ first_low_in most (rest_of id (keyed (cells_in self.now))) }
+        requires held { HoldsOrigin (cell_ids (cells_in self.now)) id }
+        ensures { result ≡ first_low_in most (rest_of id (keyed_cells (cells_in self.now))) }
     {
         let id = match id {
             Some(id) => id,
@@ -97,8 +98,8 @@ impl Runs {
     /// The last low cell before this one, or before the end.
     pub(crate) fn last_low(&self, id: Option<ElementId>, most: Key) -> Option<ElementId>
         requires sound { AreRuns self.now }
-        requires held { HoldsOrigin (ids (cells_in self.now)) id }
-        ensures { result ≡ last_low_in most (front_of id (keyed (cells_in self.now))) }
+        requires held { HoldsOrigin (cell_ids (cells_in self.now)) id }
+        ensures { result ≡ last_low_in most (front_of id (keyed_cells (cells_in self.now))) }
     {
         let id = match id {
             Some(id) => id,

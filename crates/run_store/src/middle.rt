@@ -2,12 +2,12 @@
 ghost use Rattle.std.specs.Prelude.{◌≡◌, ◌↔◌, Contains, IfSome, IsNone, IsTrue, []};
 ghost use Rattle.fugue_ids.specs.Keys.{between, rest_of, ids as ids_of};
 ghost use Rattle.fugue_ids.specs.Listed.{HoldsOrigin};
-ghost use Rattle.run_store.specs.Cells.{ids, keyed};
+ghost use Rattle.run_store.specs.Cells.{cell_ids, keyed_cells};
 ghost use Rattle.run_store.specs.Standings.{IsBefore, IsBehind};
 ghost use Rattle.run_store.specs.Runs.{AreRuns, cells_in};
 
 use crate::parts::cell_at;
-use crate::runs::Runs;
+use crate::run::Runs;
 use fugue_ids::ElementId;
 
 /// Where a cell stands: in the run behind this many others, behind this many of its cells.
@@ -66,7 +66,7 @@ impl Runs {
     /// A cell of the run at the place, in the middle between two offsets.
     fn middle_of_run(&self, place: usize, from: u32, to: u32) -> Option<ElementId>
         requires sound { AreRuns self.now }
-        ensures { IfSome result (λ m. Contains (ids (cells_in self.now)) m) }
+        ensures { IfSome result (λ m. Contains (cell_ids (cells_in self.now)) m) }
     {
         let run = self.run_at(place)?;
         let to = to.min(run.len);
@@ -77,10 +77,11 @@ impl Runs {
         }
     }
 
-    /// A cell near the middle between the two, mostly: the first one of a run in the middle, or one in the middle of a run.
+    /// A cell near the middle between the two, mostly: the first one of a run in the middle, or one in the middle of a
+    /// run.
     fn near_middle(&self, ends: &Ends) -> Option<ElementId>
         requires sound { AreRuns self.now }
-        ensures { IfSome result (λ m. Contains (ids (cells_in self.now)) m) }
+        ensures { IfSome result (λ m. Contains (cell_ids (cells_in self.now)) m) }
     {
         let begin = self.begin_of(ends.from)?;
         let end = self.end_of(ends.to)?;
@@ -100,11 +101,11 @@ impl Runs {
     /// Whether a cell stands between the two.
     fn is_inside(&self, ends: &Ends, id: ElementId) -> bool
         requires sound { AreRuns self.now }
-        requires from { HoldsOrigin (ids (cells_in self.now)) ends.now.from }
-        requires to { HoldsOrigin (ids (cells_in self.now)) ends.now.to }
-        requires member { Contains (ids (cells_in self.now)) id }
-        ensures behind { IsTrue result → IsBehind (ids (cells_in self.now)) ends.now.from id }
-        ensures before { IsTrue result → IsBefore (ids (cells_in self.now)) id ends.now.to }
+        requires from { HoldsOrigin (cell_ids (cells_in self.now)) ends.now.from }
+        requires to { HoldsOrigin (cell_ids (cells_in self.now)) ends.now.to }
+        requires member { Contains (cell_ids (cells_in self.now)) id }
+        ensures behind { IsTrue result → IsBehind (cell_ids (cells_in self.now)) ends.now.from id }
+        ensures before { IsTrue result → IsBefore (cell_ids (cells_in self.now)) id ends.now.to }
     {
         self.is_behind(ends.from, id) && self.is_before(id, ends.to)
     }
@@ -112,9 +113,9 @@ impl Runs {
     /// Whether a cell stands behind another, or behind the beginning.
     fn is_behind(&self, from: Option<ElementId>, id: ElementId) -> bool
         requires sound { AreRuns self.now }
-        requires held { HoldsOrigin (ids (cells_in self.now)) from }
-        requires member { Contains (ids (cells_in self.now)) id }
-        ensures { IsTrue result → IsBehind (ids (cells_in self.now)) from id }
+        requires held { HoldsOrigin (cell_ids (cells_in self.now)) from }
+        requires member { Contains (cell_ids (cells_in self.now)) id }
+        ensures { IsTrue result → IsBehind (cell_ids (cells_in self.now)) from id }
     {
         match from {
             Some(x) => self.earlier(x, id),
@@ -125,9 +126,9 @@ impl Runs {
     /// Whether a cell stands before another, or before the end.
     fn is_before(&self, id: ElementId, to: Option<ElementId>) -> bool
         requires sound { AreRuns self.now }
-        requires held { HoldsOrigin (ids (cells_in self.now)) to }
-        requires member { Contains (ids (cells_in self.now)) id }
-        ensures { IsTrue result → IsBefore (ids (cells_in self.now)) id to }
+        requires held { HoldsOrigin (cell_ids (cells_in self.now)) to }
+        requires member { Contains (cell_ids (cells_in self.now)) id }
+        ensures { IsTrue result → IsBefore (cell_ids (cells_in self.now)) id to }
     {
         match to {
             Some(y) => self.earlier(id, y),
@@ -138,10 +139,10 @@ impl Runs {
     /// A cell that stands between the two.
     pub(crate) fn middle(&self, from: Option<ElementId>, to: Option<ElementId>) -> Option<ElementId>
         requires sound { AreRuns self.now }
-        requires held { HoldsOrigin (ids (cells_in self.now)) from }
-        requires behind { HoldsOrigin (ids_of (rest_of from (keyed (cells_in self.now)))) to }
-        ensures none { IsNone result ↔ (between from to (keyed (cells_in self.now)) ≡ []) }
-        ensures some { IfSome result (λ m. Contains (ids_of (between from to (keyed (cells_in self.now)))) m) }
+        requires held { HoldsOrigin (cell_ids (cells_in self.now)) from }
+        requires behind { HoldsOrigin (ids_of (rest_of from (keyed_cells (cells_in self.now)))) to }
+        ensures none { IsNone result ↔ (between from to (keyed_cells (cells_in self.now)) ≡ []) }
+        ensures some { IfSome result (λ m. Contains (ids_of (between from to (keyed_cells (cells_in self.now)))) m) }
     {
         let ends = Ends { from, to };
         let next = self.behind(ends.from)?;

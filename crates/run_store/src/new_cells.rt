@@ -1,13 +1,14 @@
 // What a new cell is: its key, and whether it continues a run.
 ghost use Rattle.std.specs.Prelude.{◌≡◌, ◌<◌, ◌≤◌, ◌^◌, ℕ, Contains, IfSome, Some, length, option_map, suc};
-ghost use Rattle.run_store.specs.Cells.{cell_of_origin, ids};
+ghost use Rattle.run_store.specs.Cells.{cell_of_origin, cell_ids};
 ghost use Rattle.run_store.specs.Growth.{IsNew};
-ghost use Rattle.run_store.specs.Heads.{head_of, lettered};
-ghost use Rattle.run_store.specs.NewCells.{depth_under, forest_beside as forest_by, is_continued as continues, is_next as follows, new_cell, shares_right};
+ghost use Rattle.run_store.specs.Heads.{run_head_of, lettered};
+ghost use Rattle.run_store.specs.NewCells.{depth_under, forest_beside as forest_by, is_continued as continues};
+ghost use Rattle.run_store.specs.NewCells.{is_next as follows, new_cell, shares_right};
 ghost use Rattle.run_store.specs.Runs.{AreRuns, cells_in};
 
-use crate::head::Head;
-use crate::runs::Runs;
+use crate::cell::Head;
+use crate::run::Runs;
 use fugue_ids::{ElementId, Key, MOST_OPERATIONS};
 
 /// Whether an identifier is the next one of the same replica.
@@ -42,7 +43,7 @@ impl Runs {
     /// What the cell of an origin says of itself.
     fn origin(&self, origin: &Option<ElementId>) -> Option<Head>
         requires { AreRuns self.now }
-        ensures is { result ≡ option_map head_of (cell_of_origin (cells_in self.now) origin.now) }
+        ensures is { result ≡ option_map run_head_of (cell_of_origin (cells_in self.now) origin.now) }
         ensures depths { IfSome result (λ h. h.key.depth ≤ length (cells_in self.now)) }
         ensures forests { IfSome result (λ h. h.key.forest ≤ length (cells_in self.now)) }
     {
@@ -93,7 +94,7 @@ impl Runs {
     ) -> Head
         requires sound { AreRuns self.now }
         requires room { length (cells_in self.now) < MOST_OPERATIONS }
-        requires fresh { Contains (ids (cells_in self.now)) id → ⊥ }
+        requires fresh { Contains (cell_ids (cells_in self.now)) id → ⊥ }
         ensures new { IsNew (cells_in self.now) result }
         ensures cell { (ch : ℕ) → lettered result ch ≡ new_cell (cells_in self.now) id left right ch }
     {

@@ -3,9 +3,8 @@ ghost use Rattle.std.specs.Prelude.{◌≡◌, ◌+◌, ◌<◌, ◌≤◌, ◌^
 ghost use Rattle.run_store.specs.Heads.{head_behind, id_behind as id_by};
 ghost use Rattle.run_store.specs.Runs.{first_of, run_from as rest_by, run_to as front_by};
 
-use crate::head::Head;
-use crate::origin::Origin;
-use crate::run::Run;
+use crate::cell::Head;
+use crate::run::{Origin, Run};
 use fugue_ids::{ElementId, Key};
 
 /// The identifier n behind another one of the same replica.

@@ -1,12 +1,68 @@
 ghost use Rattle.std.specs.Prelude.{◌≡◌};
 ghost use Rattle.run_store.specs.Heads.{rank_of as number_of};
 
-use crate::origin::Origin;
+use crate::letters::Letters;
 use fugue_ids::{ElementId, Key, MOST_OPERATIONS};
-use node_rope::Weigh;
+use node_rope::{Rope, Weigh};
+use std::marker::Model;
 use std::mem::size_of;
 
-/// Cells that stand next to each other: each but the first is the letter behind the one before it. What it says of cells is said of the first one. Their letters are a part of one stretch.
+/// An origin in 8 bytes, where an `Option<ElementId>` takes 12: no replica has the number 0, which stands for none.
+#[derive(Clone, Copy)]
+pub struct Origin {
+    replica: u32,
+    counter: u32,
+}
+
+impl Model for Origin {
+    ghost use Rattle.std.specs.Prelude.{Option};
+    ghost use Rattle.fugue_ids.specs.Identifiers.{Identifier};
+    ghost use Rattle.run_store.specs.Origins.{IsExact, id_if, parts_of};
+
+    ghost Value = { Option Identifier };
+
+    ghost view = { λ o. id_if o.replica o.counter };
+
+    ghost invariant = { IsExact };
+
+    ghost inverse = { parts_of };
+
+    ghost inverse_ok = { λ o exact. exact };
+}
+
+impl Origin {
+    pub(crate) fn new(id: Option<ElementId>) -> Origin
+        ensures { result ≡ id }
+    {
+        match id {
+            Some(id) => Origin {
+                replica: id.replica,
+                counter: id.counter,
+            },
+            None => Origin {
+                replica: 0,
+                counter: 0,
+            },
+        }
+    }
+
+    pub(crate) fn id(self) -> Option<ElementId>
+        ensures { result ≡ self }
+    {
+        ElementId::new(self.replica, self.counter)
+    }
+}
+
+/// Runs of cells, each under its first identifier, with their letters and a count of all cells.
+#[derive(Drop)]
+pub struct Runs {
+    pub(crate) rope: Rope<Run>,
+    pub(crate) letters: Letters,
+    pub(crate) count: usize,
+}
+
+/// Cells that stand next to each other: each but the first is the letter behind the one before it. What it says of
+/// cells is said of the first one. Their letters are a part of one stretch.
 #[derive(Clone, Copy)]
 pub struct Run {
     pub(crate) id: ElementId,

@@ -1,5 +1,5 @@
 ghost use Rattle.std.specs.Prelude.{◌≡◌, ◌<◌, ◌^◌, IfNone, IfSome, None, drop, slice_get, suc};
-ghost use Rattle.run_store.specs.Cells.{ids, visible_cells};
+ghost use Rattle.run_store.specs.Cells.{cell_ids, cells_shown};
 ghost use Rattle.run_store.specs.Shown.{IsInHand};
 
 use crate::find::Spot;
@@ -8,7 +8,8 @@ use crate::store::RunStore;
 use fugue_ids::ElementId;
 use std::marker::Model;
 
-/// A walk along the visible cells of a store, seen as those that are still to come. Within a run a step costs no search.
+/// A walk along the visible cells of a store, seen as those that are still to come. Within a run a step costs no
+/// search.
 #[derive(Drop)]
 pub struct Shown<'a> {
     store: &'a RunStore,
@@ -19,21 +20,22 @@ pub struct Shown<'a> {
 impl<'a> Model for Shown<'a> {
     ghost use Rattle.std.specs.Prelude.{IfSome, List, drop};
     ghost use Rattle.fugue_ids.specs.Identifiers.{Identifier};
-    ghost use Rattle.run_store.specs.Cells.{ids, visible_cells};
+    ghost use Rattle.run_store.specs.Cells.{cell_ids, cells_shown};
     ghost use Rattle.run_store.specs.Shown.{IsInHand};
 
     ghost Value = { List Identifier };
 
-    ghost view = { λ s. drop s.passed (ids (visible_cells s.store.now.cells)) };
+    ghost view = { λ s. drop s.passed (cell_ids (cells_shown s.store.now.cells)) };
 
-    ghost invariant = { λ s. IfSome s.hand (λ h. IsInHand (ids (visible_cells s.store.now.cells)) s.passed h.run h.offset) };
+    ghost invariant = { λ s. IfSome s.hand
+        (λ h. IsInHand (cell_ids (cells_shown s.store.now.cells)) s.passed h.run h.offset) };
 }
 
 /// Where the next cell is: it is in hand, or looked for.
 fn next_spot(store: &RunStore, passed: usize, hand: Option<Spot>) -> Option<Spot>
-    requires { IfSome hand (λ h. IsInHand (ids (visible_cells store.now.cells)) passed h.run h.offset) }
-    ensures some { IfSome result (λ h. IsInHand (ids (visible_cells store.now.cells)) passed h.run h.offset) }
-    ensures none { IfNone result (slice_get (ids (visible_cells store.now.cells)) passed ≡ None) }
+    requires { IfSome hand (λ h. IsInHand (cell_ids (cells_shown store.now.cells)) passed h.run h.offset) }
+    ensures some { IfSome result (λ h. IsInHand (cell_ids (cells_shown store.now.cells)) passed h.run h.offset) }
+    ensures none { IfNone result (slice_get (cell_ids (cells_shown store.now.cells)) passed ≡ None) }
 {
     match hand {
         Some(spot) => Some(spot),
@@ -45,7 +47,8 @@ fn next_spot(store: &RunStore, passed: usize, hand: Option<Spot>) -> Option<Spot
 fn behind(spot: &Spot) -> Option<Spot>
     requires inside { spot.now.offset < spot.now.run.len }
     requires fits { spot.now.run.len < 2 ^ 32 }
-    ensures { IfSome result (λ h. (h.run ≡ spot.now.run) × (h.offset ≡ suc spot.now.offset) × (suc spot.now.offset < spot.now.run.len)) }
+    ensures { IfSome result (λ h. (h.run ≡ spot.now.run) × (h.offset ≡ suc spot.now.offset)
+        × (suc spot.now.offset < spot.now.run.len)) }
 {
     let offset = spot.offset + 1;
     if offset < spot.run.len {
@@ -61,7 +64,7 @@ fn behind(spot: &Spot) -> Option<Spot>
 impl<'a> Shown<'a> {
     /// A walk that has passed this many.
     pub(crate) fn new(store: &'a RunStore, passed: usize) -> Shown<'a>
-        ensures { result ≡ drop passed (ids (visible_cells store.now.cells)) }
+        ensures { result ≡ drop passed (cell_ids (cells_shown store.now.cells)) }
     {
         Shown {
             store,

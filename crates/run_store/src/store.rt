@@ -1,20 +1,22 @@
-ghost use Rattle.std.specs.Prelude.{◌≡◌, ◌≢◌, ◌↔◌, ◌<◌, ◌≤◌, [], AllPairs, Contains, IsTrue, length, map, true, OnErr, OnOk, slice_get};
+ghost use Rattle.std.specs.Prelude.{◌≡◌, ◌≢◌, ◌↔◌, ◌<◌, ◌≤◌, [], AllPairs, Contains, IsTrue, length, map, true, OnErr};
+ghost use Rattle.std.specs.Prelude.{OnOk, slice_get};
 ghost use Rattle.std.specs.List.{insert};
 ghost use Rattle.std.specs.Str.{encode_utf8_all};
 ghost use Rattle.fugue_ids.specs.Gathers.{GathersText};
-ghost use Rattle.fugue_ids.specs.Outs.{WritesText};
+ghost use Rattle.fugue_ids.specs.Outs.{WritesBytes};
 ghost use Rattle.origin_model.specs.sides.Slot.{IsBeside};
 ghost use Rattle.origin_model.specs.sides.KeyedGap.{gap_index};
 ghost use Rattle.origin_model.specs.edits.Landing.{following};
-ghost use Rattle.run_store.specs.Cells.{hiding, ids, is_hidden as hidden_in, keyed, origins_of, text, visible_cells};
+ghost use Rattle.run_store.specs.Cells.{cell_hiding, cell_ids, is_hidden_cell as hidden_in, keyed_cells, origins_of};
+ghost use Rattle.run_store.specs.Cells.{cell_text, cells_shown};
 ghost use Rattle.run_store.specs.NewCells.{continues, new_cell};
 ghost use Rattle.run_store.specs.Stored.{IsAloneWhereEmpty, IsRaised};
 
-use crate::beginning::Beginning;
+use crate::insert::Beginning;
 use crate::letters::Letters;
-use crate::runs::Runs;
+use crate::run::Runs;
 use crate::shown::Shown;
-use fugue_ids::{ElementId, Failed, Gap, Gather, MOST_OPERATIONS, NoMemory, Out};
+use fugue_ids::{ElementId, Failed, Gap, Gather, Key, MOST_OPERATIONS, NoMemory, OrderOf, Out};
 use node_rope::Rope;
 use outer_ports::Sink;
 use std::alloc::Global;
@@ -69,13 +71,16 @@ impl RunStore {
         right: Option<ElementId>,
         ch: char,
     ) -> Result<(), NoMemory>
-        requires fresh { Contains (ids self.old.cells) id → ⊥ }
-        requires beside { IsBeside gap (ids self.old.cells) }
+        requires fresh { Contains (cell_ids self.old.cells) id → ⊥ }
+        requires beside { IsBeside gap (cell_ids self.old.cells) }
         requires alone { IsAloneWhereEmpty gap self.old.cells }
         requires room { length self.old.cells < MOST_OPERATIONS }
-        ensures ok { OnOk result (self.new.cells ≡ insert self.old.cells (gap_index gap (ids self.old.cells)) (new_cell self.old.cells id left right ch)) }
+        ensures ok { OnOk result (self.new.cells
+            ≡ insert self.old.cells (gap_index gap (cell_ids self.old.cells))
+            (new_cell self.old.cells id left right ch)) }
         ensures err { OnErr result (self.new.cells ≡ self.old.cells) }
-        ensures continued { OnOk result (continues self.old.cells gap id left right ≡ true → self.new.runs ≡ self.old.runs) }
+        ensures continued { OnOk result
+            (continues self.old.cells gap id left right ≡ true → self.new.runs ≡ self.old.runs) }
         ensures raised { OnOk result (IsRaised 2 self.old.runs self.new.runs) }
         ensures refused { OnErr result (IsRaised 1 self.old.runs self.new.runs) }
     {
@@ -89,13 +94,55 @@ impl RunStore {
 
     /// Hides a cell, which may part its run. A hidden cell stays as it is.
     pub fn hide(&mut self, id: ElementId) -> Result<(), NoMemory>
-        requires held { Contains (ids self.old.cells) id }
-        ensures ok { OnOk result (self.new.cells ≡ map (hiding id) self.old.cells) }
+        requires held { Contains (cell_ids self.old.cells) id }
+        ensures ok { OnOk result (self.new.cells ≡ map (cell_hiding id) self.old.cells) }
         ensures err { OnErr result (self.new.cells ≡ self.old.cells) }
         ensures raised { OnOk result (IsRaised 2 self.old.runs self.new.runs) }
         ensures refused { OnErr result (IsRaised 1 self.old.runs self.new.runs) }
         ensures again { hidden_in self.old.cells id ≡ true → self.new ≡ self.old }
     {
         self.runs.hide(id)
+    }
+}
+
+// The cells as an order that is searched by keys.
+
+impl OrderOf for RunStore {
+    ghost use Rattle.run_store.specs.Cells.{keyed_cells};
+
+    ghost listed = { λ store. keyed_cells store.cells };
+
+    fn earlier(&self, a: ElementId, b: ElementId) -> bool {
+        self.runs.earlier(a, b)
+    }
+
+    fn key(&self, id: ElementId) -> Key {
+        match self.runs.head(id) {
+            Some(head) => head.key,
+            None => Key {
+                depth: 0,
+                forest: 0,
+            },
+        }
+    }
+
+    fn behind(&self, id: Option<ElementId>) -> Option<ElementId> {
+        self.runs.behind(id)
+    }
+
+    fn before(&self, id: Option<ElementId>) -> Option<ElementId> {
+        self.runs.before(id)
+    }
+
+    fn first_low(&self, id: Option<ElementId>, most: Key) -> Option<ElementId> {
+        self.runs.first_low(id, most)
+    }
+
+    fn last_low(&self, id: Option<ElementId>, most: Key) -> Option<ElementId> {
+        self.runs.last_low(id, most)
+    }
+
+    fn middle(&self, from: Option<ElementId>, to: Option<ElementId>) -> Option<ElementId> {
+        self.runs.middle(from, to)
     }
 }

@@ -1,18 +1,22 @@
 // The letters that are not hidden.
-ghost use Rattle.std.specs.Prelude.{◌<◌, ◌≤◌, ◌+◌, ◌^◌, [], length, slice_index_or};
+ghost use Rattle.std.specs.Prelude.{◌<◌, ◌≤◌, ◌+◌, ◌^◌, [], length, slice_index_or, ◌≡◌, IfNone, IfSome, None};
+ghost use Rattle.std.specs.Prelude.{slice_get};
 ghost use Rattle.std.specs.Str.{encode_utf8_all};
 ghost use Rattle.fugue_ids.specs.Gathers.{GathersText};
-ghost use Rattle.run_store.specs.Cells.{text};
+ghost use Rattle.run_store.specs.Cells.{cell_text, cell_ids, cells_shown};
 ghost use Rattle.run_store.specs.Runs.{AreRuns, cells_in, cells_of};
+ghost use Rattle.run_store.specs.Shown.{IsInHand};
 
+use crate::find::Spot;
 use crate::letters::Letters;
-use crate::run::Run;
-use crate::runs::Runs;
-use fugue_ids::{Failed, Gather, Out};
+use crate::parts::cell_at;
+use crate::run::{Run, Runs};
+use fugue_ids::{ElementId, Failed, Gather, Out};
 
 /// Puts the letters, in order.
 fn put_letters<O: Out>(letters: &[char], gather: &mut Gather, output: &mut O) -> Result<(), Failed>
-    ensures { GathersText (O.seen output.old) (O.seen output.new) gather.old gather.new result (encode_utf8_all letters.now) }
+    ensures { GathersText (O.seen output.old) (O.seen output.new) gather.old gather.new result
+        (encode_utf8_all letters.now) }
 {
     'letters: for ch in letters {
         gather.put_scalar(output, *ch)?;
@@ -29,7 +33,8 @@ fn put_run<O: Out>(
 ) -> Result<(), Failed>
     requires few { run.now.start + run.now.len < 2 ^ 31 }
     requires within { run.now.start + run.now.len ≤ length (slice_index_or letters.now run.now.stretch []) }
-    ensures { GathersText (O.seen output.old) (O.seen output.new) gather.old gather.new result (encode_utf8_all (text (cells_of letters.now run.now))) }
+    ensures { GathersText (O.seen output.old) (O.seen output.new) gather.old gather.new result
+        (encode_utf8_all (cell_text (cells_of letters.now run.now))) }
 {
     if run.hidden {
         return Ok(());
@@ -43,12 +48,47 @@ impl Runs {
     /// Puts the letters of all runs that are not hidden.
     pub(crate) fn put_text<O: Out>(&self, gather: &mut Gather, output: &mut O) -> Result<(), Failed>
         requires { AreRuns self.now }
-        ensures { GathersText (O.seen output.old) (O.seen output.new) gather.old gather.new result (encode_utf8_all (text (cells_in self.now))) }
+        ensures { GathersText (O.seen output.old) (O.seen output.new) gather.old gather.new result
+            (encode_utf8_all (cell_text (cells_in self.now))) }
     {
         let mut walk = self.rope.walk();
         'runs: while let Some(run) = walk.step() {
             put_run(&self.letters, run, gather, output)?;
         }
         Ok(())
+    }
+}
+
+// Cells by their places among those that are not hidden.
+
+impl Runs {
+    pub(crate) fn visible_count(&self) -> usize
+        requires { AreRuns self.now }
+        ensures { result ≡ length (cells_shown (cells_in self.now)) }
+    {
+        self.rope.total() as usize
+    }
+
+    /// Where the visible cell behind i others is.
+    pub(crate) fn visible_spot(&self, i: usize) -> Option<Spot>
+        requires { AreRuns self.now }
+        ensures some { IfSome result (λ s. IsInHand (cell_ids (cells_shown (cells_in self.now))) i s.run s.offset) }
+        ensures none { IfNone result (slice_get (cell_ids (cells_shown (cells_in self.now))) i ≡ None) }
+    {
+        match self.rope.find_weight_item(i as u64) {
+            Some(unit) => Some(Spot {
+                run: *unit.1,
+                offset: unit.2 as u32,
+            }),
+            None => None,
+        }
+    }
+
+    pub(crate) fn nth_visible(&self, i: usize) -> Option<ElementId>
+        requires { AreRuns self.now }
+        ensures { result ≡ slice_get (cell_ids (cells_shown (cells_in self.now))) i }
+    {
+        let spot = self.visible_spot(i)?;
+        Some(cell_at(&spot.run, spot.offset).id)
     }
 }

@@ -2,11 +2,11 @@
 ghost use Rattle.std.specs.Prelude.{◌≡◌, ◌≤◌, ◌&&◌, ◌||◌, Contains, length, nat_eq, nat_lt, take};
 ghost use Rattle.fugue_ids.specs.Keys.{first_id, front_of, last_id, rest_of};
 ghost use Rattle.fugue_ids.specs.Listed.{HoldsOrigin, index_of};
-ghost use Rattle.run_store.specs.Cells.{ids, keyed};
+ghost use Rattle.run_store.specs.Cells.{cell_ids, keyed_cells};
 ghost use Rattle.run_store.specs.Runs.{AreRuns, all_cells, cells_in};
 
 use crate::parts::cell_at;
-use crate::runs::Runs;
+use crate::run::Runs;
 use fugue_ids::ElementId;
 
 /// Whether a place of a run comes before another one.
@@ -20,7 +20,7 @@ impl Runs {
     /// The cell behind this one.
     fn behind_cell(&self, id: ElementId) -> Option<ElementId>
         requires { AreRuns self.now }
-        ensures { result ≡ first_id (rest_of (Some id) (keyed (cells_in self.now))) }
+        ensures { result ≡ first_id (rest_of (Some id) (keyed_cells (cells_in self.now))) }
     {
         let spot = self.find(id)?;
         if spot.offset + 1 < spot.run.len {
@@ -33,7 +33,7 @@ impl Runs {
     /// The cell behind this one; the first one behind the beginning.
     pub(crate) fn behind(&self, id: Option<ElementId>) -> Option<ElementId>
         requires { AreRuns self.now }
-        ensures { result ≡ first_id (rest_of id (keyed (cells_in self.now))) }
+        ensures { result ≡ first_id (rest_of id (keyed_cells (cells_in self.now))) }
     {
         match id {
             Some(id) => self.behind_cell(id),
@@ -45,7 +45,7 @@ impl Runs {
     fn last_of(&self, runs: usize) -> Option<ElementId>
         requires sound { AreRuns self.now }
         requires within { runs ≤ length self.now.rope }
-        ensures { result ≡ last_id (keyed (all_cells self.now.letters (take runs self.now.rope))) }
+        ensures { result ≡ last_id (keyed_cells (all_cells self.now.letters (take runs self.now.rope))) }
     {
         if runs == 0 {
             return None;
@@ -57,8 +57,8 @@ impl Runs {
     /// The cell before this one.
     fn before_cell(&self, id: ElementId) -> Option<ElementId>
         requires sound { AreRuns self.now }
-        requires held { Contains (ids (cells_in self.now)) id }
-        ensures { result ≡ last_id (front_of (Some id) (keyed (cells_in self.now))) }
+        requires held { Contains (cell_ids (cells_in self.now)) id }
+        ensures { result ≡ last_id (front_of (Some id) (keyed_cells (cells_in self.now))) }
     {
         let spot = self.find(id)?;
         if spot.offset > 0 {
@@ -71,8 +71,8 @@ impl Runs {
     /// The cell before this one; the last one before the end.
     pub(crate) fn before(&self, id: Option<ElementId>) -> Option<ElementId>
         requires sound { AreRuns self.now }
-        requires held { HoldsOrigin (ids (cells_in self.now)) id }
-        ensures { result ≡ last_id (front_of id (keyed (cells_in self.now))) }
+        requires held { HoldsOrigin (cell_ids (cells_in self.now)) id }
+        ensures { result ≡ last_id (front_of id (keyed_cells (cells_in self.now))) }
     {
         match id {
             Some(id) => self.before_cell(id),
@@ -83,9 +83,10 @@ impl Runs {
     /// Whether a stands before b.
     pub(crate) fn earlier(&self, a: ElementId, b: ElementId) -> bool
         requires sound { AreRuns self.now }
-        requires first { Contains (ids (cells_in self.now)) a }
-        requires second { Contains (ids (cells_in self.now)) b }
-        ensures { result ≡ nat_lt (index_of (ids (cells_in self.now)) a) (index_of (ids (cells_in self.now)) b) }
+        requires first { Contains (cell_ids (cells_in self.now)) a }
+        requires second { Contains (cell_ids (cells_in self.now)) b }
+        ensures { result ≡ nat_lt (index_of (cell_ids (cells_in self.now)) a)
+            (index_of (cell_ids (cells_in self.now)) b) }
     {
         match (self.find(a), self.find(b)) {
             (Some(x), Some(y)) => {

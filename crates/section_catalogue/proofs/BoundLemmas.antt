@@ -9,11 +9,11 @@ use Rattle.fugue_ids.proofs.IdentifierLemmas.{cases_origin}
 use Rattle.fugue_ids.specs.declared.op.Op.{Op}
 use Rattle.origin_model.specs.operations.History.{element_of, place}
 use Rattle.origin_model.specs.order.Order.{before_in, order}
-use Rattle.origin_model.specs.declared.operations.place.Place.{Place}
-use Rattle.origin_model.specs.declared.operations.place.Place.TheVariants.{Catalogue as catalogue, Section as within}
+use Rattle.origin_model.specs.declared.operations.Place.{Place}
+use Rattle.origin_model.specs.declared.operations.Place.TheVariants.{Catalogue as catalogue, Section as within}
 use Rattle.section_list.specs.SectionList.{Listing}
-use Rattle.section_catalogue.specs.declared.section.Section.{Section as Titled}
-use Rattle.section_catalogue.specs.Contents.{Contents, count_at, listed_count, place_count, section_at}
+use Rattle.section_catalogue.specs.declared.tables.Section.{Section as Titled}
+use Rattle.section_catalogue.specs.Contents.{Contents, section_count_at, listed_count, place_count, section_at}
 use Rattle.section_catalogue.specs.Place.{Lists, cell_in}
 use Rattle.origin_model.proofs.SharedLemmas.{order-none, order-some}
 use Rattle.section_catalogue.specs.Manuscript.{StandsFor}
@@ -45,7 +45,7 @@ text_bounded s h (Some e) l = listed_bounded (within s) h e.text l
 pub places_bounded : (m : Contents) (h : List Op) (op : Op) → StandsFor m h → place_count m op ≤ length h
 places_bounded m h op s = by_place (place op)
   where
-    by_place : (o : Option Place) → (elim o [ None ↦ 0 | Some p ↦ count_at m p ]) ≤ length h
+    by_place : (o : Option Place) → (elim o [ None ↦ 0 | Some p ↦ section_count_at m p ]) ≤ length h
     by_place None = omega arith
     by_place (Some catalogue) = listed_bounded catalogue h m.catalogue s.sections
     by_place (Some (within x)) = text_bounded x h (section_at m x) (s.texts x)

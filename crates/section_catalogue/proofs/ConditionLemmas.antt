@@ -12,11 +12,11 @@ use Rattle.origin_model.specs.order.Laws.{IsIn}
 use Rattle.origin_model.specs.sides.Node.{IsNew, has_node, nodes}
 use Rattle.origin_model.specs.operations.History.{holder, holds, is_own, place}
 use Rattle.origin_model.specs.operations.Verdict.{Lawful, verdict}
-use Rattle.origin_model.specs.declared.operations.place.Place.{Place}
-use Rattle.origin_model.specs.declared.operations.place.Place.TheVariants.{Catalogue as catalogue, Section as within}
-use Rattle.origin_model.specs.declared.operations.verdict.Verdict.TheVariants.{Ready}
+use Rattle.origin_model.specs.declared.operations.Place.{Place}
+use Rattle.origin_model.specs.declared.operations.Place.TheVariants.{Catalogue as catalogue, Section as within}
+use Rattle.origin_model.specs.declared.operations.Verdict.TheVariants.{Ready}
 use Rattle.section_list.specs.SectionList.{Listing}
-use Rattle.section_catalogue.specs.declared.section.Section.{Section as Titled}
+use Rattle.section_catalogue.specs.declared.tables.Section.{Section as Titled}
 use Rattle.section_catalogue.specs.Changes.{HoldsAt}
 use Rattle.section_catalogue.specs.Contents.{Contents, place_at, section_at}
 use Rattle.section_catalogue.specs.Place.{Lists, place_held, title_held}

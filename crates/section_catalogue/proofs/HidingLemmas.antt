@@ -11,11 +11,11 @@ use Rattle.origin_model.specs.operations.History.{holder, holds, place}
 use Rattle.origin_model.specs.order.Order.{order}
 use Rattle.origin_model.specs.order.Printed.{is_hidden}
 use Rattle.origin_model.specs.operations.Verdict.{Lawful}
-use Rattle.origin_model.specs.declared.operations.place.Place.{Place}
-use Rattle.origin_model.specs.declared.operations.place.Place.TheVariants.{Catalogue as catalogue, Section as within}
-use Rattle.section_list.specs.Cells.{hiding}
+use Rattle.origin_model.specs.declared.operations.Place.{Place}
+use Rattle.origin_model.specs.declared.operations.Place.TheVariants.{Catalogue as catalogue, Section as within}
+use Rattle.section_list.specs.Cells.{section_hiding}
 use Rattle.section_list.specs.SectionList.{Listing, with_hidden}
-use Rattle.section_catalogue.specs.declared.section.Section.{Section as Titled}
+use Rattle.section_catalogue.specs.declared.tables.Section.{Section as Titled}
 use Rattle.section_catalogue.specs.Changes.{HidesAt, HidesSection, HidesText}
 use Rattle.section_catalogue.specs.Contents.{Contents, place_at, section_at}
 use Rattle.section_catalogue.specs.Place.{Lists, cell_in, place_held, scalar_held, title_held}
@@ -81,7 +81,7 @@ module _ (x : Identifier) (h now : List Op) (k : IsHiding x h now) where
       }
 
   -- each cell, and the one of x hidden
-  cell-hidden : (y : Identifier) → hiding x (cell_in h y) ≡ cell_in now y
+  cell-hidden : (y : Identifier) → section_hiding x (cell_in h y) ≡ cell_in now y
   cell-hidden y =
       elim (cases_id y x) [
         | inl d ↦ ap (λ b. if b then record (cell_in h y) { hidden = true } else cell_in h y) (eq-id_eq y x d)

@@ -13,7 +13,7 @@ use Rattle.origin_model.specs.sides.Node.{nodes}
 use Rattle.origin_model.specs.operations.History.{element_of, holder, place, stands_at}
 use Rattle.origin_model.specs.order.Order.{order}
 use Rattle.origin_model.specs.order.Printed.{is_hidden}
-use Rattle.origin_model.specs.declared.operations.place.Place.{Place}
+use Rattle.origin_model.specs.declared.operations.Place.{Place}
 use Rattle.origin_model.proofs.SharedLemmas.{element_stands, holder-other, holder-own, holder_owns, nodes-none, order-none, stands_element, stands_place}
 use Rattle.section_catalogue.specs.Place.{cell_in, place_held, scalar_held}
 

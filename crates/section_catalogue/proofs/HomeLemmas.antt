@@ -6,9 +6,9 @@ use Rattle.std.specs.Ordering.{is_eq}
 use Rattle.fugue_ids.specs.Identifiers.{Identifier, id_cmp}
 use Rattle.fugue_ids.specs.Keyed.{IsReplaced}
 use Rattle.fugue_ids.proofs.IdentifierLemmas.{id_at-other, id_at-same}
-use Rattle.origin_model.specs.declared.operations.place.Place.{Place}
+use Rattle.origin_model.specs.declared.operations.Place.{Place}
 use Rattle.section_catalogue.specs.Contents.{entry_at, places_of}
-use Rattle.section_catalogue.specs.declared.home.Home.{Home}
+use Rattle.section_catalogue.specs.declared.homes.Home.{Home}
 use Rattle.stretch_map.proofs.OrderLemmas.{id_cmp_total}
 
 by_test : (b : Bool) (h : Home) (o : Option Place) (p : Option Home) → o ≡ option_map (λ k. k.place) p → cond b (Some h.place) o ≡ option_map (λ k. k.place) (cond b (Some h) p)

@@ -15,9 +15,9 @@ use Rattle.origin_model.specs.operations.History.{element_of, holder, holds, lef
 use Rattle.origin_model.specs.order.Order.{before_in, order}
 use Rattle.origin_model.specs.operations.Verdict.{Lawful}
 use Rattle.origin_model.specs.declared.operations.node.Node.{Node}
-use Rattle.origin_model.specs.declared.operations.place.Place.{Place}
+use Rattle.origin_model.specs.declared.operations.Place.{Place}
 use Rattle.origin_model.proofs.SharedLemmas.{order-some, order_by_nodes, order_total, same_nodes_same_order}
-use Rattle.section_list.specs.Cells.{Cell, ids, hiding}
+use Rattle.section_list.specs.Cells.{Cell, section_cell_ids, section_hiding}
 use Rattle.section_list.specs.SectionList.{Listing, with_element, with_hidden}
 use Rattle.section_catalogue.specs.Place.{Lists, cell_in, place_held}
 use Rattle.section_catalogue.proofs.HolderLemmas.{in_place}
@@ -35,16 +35,16 @@ map-insert f [] (suc k) x = refl
 map-insert f (y ∷ ys) (suc k) x = ap (λ t. f y ∷ t) (map-insert f ys k x)
 
 -- the cells have the identifiers that they were made for
-pub ids-cells : (h : List Op) (xs : List Identifier) → ids (map (cell_in h) xs) ≡ xs
+pub ids-cells : (h : List Op) (xs : List Identifier) → section_cell_ids (map (cell_in h) xs) ≡ xs
 ids-cells h [] = refl
 ids-cells h (x ∷ xs) = ap (λ t. x ∷ t) (ids-cells h xs)
 
 -- cells of the place's elements are in order
 in_order_by : (p : Place) (h : List Op) (ns : List Node) (cs : List Cell) → Lawful h → AreNodes ns → ((x : Identifier) → find_node ns x ≡ find_node (nodes p h) x)
-    → cs ≡ map (cell_in h) (order p h) → ids cs ≡ node_order ns
+    → cs ≡ map (cell_in h) (order p h) → section_cell_ids cs ≡ node_order ns
 in_order_by p h ns cs w are f e =
     let b = order_by_nodes p h w in
-    ap ids e ∙ ids-cells h (order p h) ∙ b.same_order ∙ sym (same_nodes_same_order ns (nodes p h) are b.are_nodes f)
+    ap section_cell_ids e ∙ ids-cells h (order p h) ∙ b.same_order ∙ sym (same_nodes_same_order ns (nodes p h) are b.are_nodes f)
 
 -- nodes that are found alike
 module _ (ns ms : List Node) (f : (x : Identifier) → find_node ns x ≡ find_node ms x) where
@@ -120,18 +120,18 @@ unmoved q h now x s w l apart en eo others =
 
 -- one element hidden
 pub hidden : (p : Place) (h now : List Op) (x : Identifier) (s : Listing) → Lists p h s → nodes p now ≡ nodes p h → order p now ≡ order p h
-    → ((y : Identifier) → hiding x (cell_in h y) ≡ cell_in now y) → Lists p now (with_hidden x s)
+    → ((y : Identifier) → section_hiding x (cell_in h y) ≡ cell_in now y) → Lists p now (with_hidden x s)
 hidden p h now x s l en eo cell =
-    let cells : map (hiding x) s.cells ≡ map (cell_in now) (order p h) = ap (map (hiding x)) l.cells ∙ fused (order p h) in
+    let cells : map (section_hiding x) s.cells ≡ map (cell_in now) (order p h) = ap (map (section_hiding x)) l.cells ∙ fused (order p h) in
     record {
       in_order = record {
         are_nodes = l.in_order.are_nodes;
-        in_order = ap ids cells ∙ ids-cells now (order p h) ∙ sym (ids-cells h (order p h)) ∙ ap ids (sym l.cells) ∙ l.in_order.in_order;
+        in_order = ap section_cell_ids cells ∙ ids-cells now (order p h) ∙ sym (ids-cells h (order p h)) ∙ ap section_cell_ids (sym l.cells) ∙ l.in_order.in_order;
       };
       same_nodes = λ y. l.same_nodes y ∙ ap (λ ns. find_node ns y) (sym en);
       cells = cells ∙ ap (map (cell_in now)) (sym eo);
     }
   where
-    fused : (xs : List Identifier) → map (hiding x) (map (cell_in h) xs) ≡ map (cell_in now) xs
+    fused : (xs : List Identifier) → map (section_hiding x) (map (cell_in h) xs) ≡ map (cell_in now) xs
     fused [] = refl
     fused (y ∷ ys) = λ i. cell y i ∷ fused ys i

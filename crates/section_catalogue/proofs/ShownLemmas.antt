@@ -14,13 +14,13 @@ use Rattle.origin_model.specs.operations.History.{element_of, holder}
 use Rattle.origin_model.specs.order.Order.{order}
 use Rattle.origin_model.specs.order.Printed.{is_hidden, manuscript, printed_section, scalar_of, shown, text as text_on, title_of}
 use Rattle.origin_model.specs.operations.Verdict.{Lawful}
-use Rattle.origin_model.specs.declared.operations.place.Place.{Place}
-use Rattle.origin_model.specs.declared.operations.place.Place.TheVariants.{Catalogue as catalogue, Section as within}
+use Rattle.origin_model.specs.declared.operations.Place.{Place}
+use Rattle.origin_model.specs.declared.operations.Place.TheVariants.{Catalogue as catalogue, Section as within}
 use Rattle.origin_model.proofs.SharedLemmas.{holder_owns, order_total}
 use Rattle.origin_model.specs.edits.Landing.{following}
-use Rattle.section_list.specs.Cells.{Cell, ids, is_hidden as hidden_in, text, visible_cells}
+use Rattle.section_list.specs.Cells.{Cell, section_cell_ids, is_hidden_in_section as hidden_in, section_text, section_cells_shown}
 use Rattle.section_list.specs.SectionList.{Listing}
-use Rattle.section_catalogue.specs.declared.section.Section.{Section as Titled}
+use Rattle.section_catalogue.specs.declared.tables.Section.{Section as Titled}
 use Rattle.section_catalogue.specs.Contents.{Contents, section_at}
 use Rattle.section_catalogue.specs.Section.{printed_at, printed_entry}
 use Rattle.section_catalogue.specs.Place.{Lists, cell_in, place_held, scalar_held, title_held}
@@ -33,21 +33,21 @@ module _ (h : List Op) where
   kept xs = filter (λ x. not (is_hidden h x)) xs
 
   -- the visible cells are those of the shown elements
-  shown_cells : (xs : List Identifier) → ids (visible_cells (map (cell_in h) xs)) ≡ kept xs
+  shown_cells : (xs : List Identifier) → section_cell_ids (section_cells_shown (map (cell_in h) xs)) ≡ kept xs
   shown_cells [] = refl
   shown_cells (x ∷ xs) =
-      elim (is_hidden h x) as (λ b. ids (cond (not b) (cell_in h x ∷ visible_cells (map (cell_in h) xs)) (visible_cells (map (cell_in h) xs))) ≡ cond (not b) (x ∷ kept xs) (kept xs)) [
+      elim (is_hidden h x) as (λ b. section_cell_ids (cond (not b) (cell_in h x ∷ section_cells_shown (map (cell_in h) xs)) (section_cells_shown (map (cell_in h) xs))) ≡ cond (not b) (x ∷ kept xs) (kept xs)) [
         | true ↦ shown_cells xs
         | false ↦ ap (λ t. x ∷ t) (shown_cells xs)
       ]
 
   -- the text of cells that have scalars
   shown_text : (xs : List Identifier) → ((x : Identifier) → Contains xs x → scalar_of (holder h x) ≡ scalar_held (holder h x) ∷ [])
-      → text (map (cell_in h) xs) ≡ flat_map (λ x. scalar_of (holder h x)) (kept xs)
+      → section_text (map (cell_in h) xs) ≡ flat_map (λ x. scalar_of (holder h x)) (kept xs)
   shown_text [] k = refl
   shown_text (x ∷ xs) k =
       let rest = shown_text xs (λ y m. k y (contains_there x xs y m)) in
-      elim (is_hidden h x) as (λ b. map (λ (c : Cell). c.ch) (cond (not b) (cell_in h x ∷ visible_cells (map (cell_in h) xs)) (visible_cells (map (cell_in h) xs)))
+      elim (is_hidden h x) as (λ b. map (λ (c : Cell). c.ch) (cond (not b) (cell_in h x ∷ section_cells_shown (map (cell_in h) xs)) (section_cells_shown (map (cell_in h) xs)))
       ≡ flat_map (λ y. scalar_of (holder h y)) (cond (not b) (x ∷ kept xs) (kept xs))) [
         | true ↦ rest
         | false ↦ ap (λ t. scalar_held (holder h x) ∷ t) rest ∙ ap (λ t. t ++ flat_map (λ y. scalar_of (holder h y)) (kept xs)) (sym (k x (contains_here x xs)))
@@ -78,10 +78,10 @@ module _ (h : List Op) where
   -- what a place lists is the order of the definitions
   is_place_of : (p : Place) (s : Listing) → Lawful h → Lists p h s → IsPlaceOf p h s
   is_place_of p s w l =
-      let all : ids s.cells ≡ order p h = ap ids l.cells ∙ ids-cells h (order p h) in
+      let all : section_cell_ids s.cells ≡ order p h = ap section_cell_ids l.cells ∙ ids-cells h (order p h) in
       record {
         all = all;
-        visible = ap (λ cs. ids (visible_cells cs)) l.cells ∙ shown_cells (order p h);
+        visible = ap (λ cs. section_cell_ids (section_cells_shown cs)) l.cells ∙ shown_cells (order p h);
         hidden = λ x i. ap (λ cs. hidden_in cs x) l.cells ∙ hidden_cell (order p h) x (((order_total p h w).lists x).0 i);
         after = λ x. ap (λ xs. following xs x) all;
       }
@@ -92,12 +92,12 @@ flat_map-alike f g [] k = refl
 flat_map-alike f g (x ∷ xs) k = λ i. k x (contains_here x xs) i ++ flat_map-alike f g xs (λ y m. k y (contains_there x xs y m)) i
 
 -- the shown sections
-pub catalogue_shown : (m : Contents) (h : List Op) → StandsFor m h → ids (visible_cells m.catalogue.cells) ≡ shown catalogue h
+pub catalogue_shown : (m : Contents) (h : List Op) → StandsFor m h → section_cell_ids (section_cells_shown m.catalogue.cells) ≡ shown catalogue h
 catalogue_shown m h s = (is_place_of h catalogue m.catalogue s.lawful s.sections).visible
 
 -- how many there are
-pub count_shown : (m : Contents) (h : List Op) → StandsFor m h → length (visible_cells m.catalogue.cells) ≡ length (shown catalogue h)
-count_shown m h s = sym (length-map (visible_cells m.catalogue.cells) (λ (c : Cell). c.id)) ∙ ap length (catalogue_shown m h s)
+pub count_shown : (m : Contents) (h : List Op) → StandsFor m h → length (section_cells_shown m.catalogue.cells) ≡ length (shown catalogue h)
+count_shown m h s = sym (length-map (section_cells_shown m.catalogue.cells) (λ (c : Cell). c.id)) ∙ ap length (catalogue_shown m h s)
 
 -- an element of a section has a scalar
 one_scalar : (s : Identifier) (o : Option Op) → place_held o ≡ Some (within s) → scalar_of o ≡ scalar_held o ∷ []
@@ -105,9 +105,9 @@ one_scalar s (Some (Text id section left right ch)) e = refl
 one_scalar s _ e = cc
 
 -- the text of a section
-text_shown : (m : Contents) (h : List Op) (s : Identifier) (cs : List Cell) → StandsFor m h → cs ≡ map (cell_in h) (order (within s) h) → text cs ≡ text_on h s
+text_shown : (m : Contents) (h : List Op) (s : Identifier) (cs : List Cell) → StandsFor m h → cs ≡ map (cell_in h) (order (within s) h) → section_text cs ≡ text_on h s
 text_shown m h s cs k e =
-    ap text e ∙ shown_text h (order (within s) h) (λ x i. one_scalar s (holder h x) (in_place (within s) h x ((((order_total (within s) h k.lawful).lists x).1) i)))
+    ap section_text e ∙ shown_text h (order (within s) h) (λ x i. one_scalar s (holder h x) (in_place (within s) h x ((((order_total (within s) h k.lawful).lists x).1) i)))
 
 -- an element of the catalogue has a title
 pub titled : (op : Op) (s : Identifier) → element_of catalogue op ≡ Some s → (t : List ℕ) × (title_held (Some op) ≡ Some t) × (title_of (Some op) ≡ t)
@@ -125,12 +125,12 @@ section_printed m h s k i =
     let n = titled i.op s i.place in
     let e = entry_there (section_at m s) n.0 (λ (t : Titled). Lists (within s) h t.text) (k.titles s ∙ ap title_held i.held ∙ n.1) (k.texts s) in
     let title : e.0.title ≡ title_of (holder h s) = e.2 ∙ sym n.2 ∙ ap title_of (sym i.held) in
-    let body : text e.0.text.cells ≡ text_on h s = text_shown m h s e.0.text.cells k e.3.cells in
+    let body : section_text e.0.text.cells ≡ text_on h s = text_shown m h s e.0.text.cells k e.3.cells in
     ap printed_entry e.1
     ∙ (λ j. codes "# " ++ encode_utf8_all (title j) ++ 10 ∷ encode_utf8_all (body j) ++ 10 ∷ [])
 
 -- what the shown sections add is the manuscript
-pub manuscript_parts : (m : Contents) (h : List Op) → StandsFor m h → flat_map (printed_at m.sections) (ids (visible_cells m.catalogue.cells)) ≡ manuscript h
+pub manuscript_parts : (m : Contents) (h : List Op) → StandsFor m h → flat_map (printed_at m.sections) (section_cell_ids (section_cells_shown m.catalogue.cells)) ≡ manuscript h
 unfolding manuscript
 manuscript_parts m h k =
     ap (flat_map (printed_at m.sections)) (catalogue_shown m h k)

@@ -4,8 +4,8 @@ use Rattle.std.specs.Prelude.{IfSome, None, Option, Some, option_map}
 use Rattle.fugue_ids.specs.Identifiers.{Identifier}
 use Rattle.fugue_ids.proofs.IdentifierLemmas.{cases_id}
 use Rattle.fugue_ids.specs.Keyed.{IsReplaced}
-use Rattle.section_catalogue.specs.declared.section.Section.{Section as Titled}
-use Rattle.section_catalogue.specs.Changes.{IsSame}
+use Rattle.section_catalogue.specs.declared.tables.Section.{Section as Titled}
+use Rattle.section_catalogue.specs.Changes.{AnswersSame}
 use Rattle.section_catalogue.specs.Contents.{entry_at}
 
 -- what holds of a value that may be there
@@ -30,7 +30,7 @@ module _ (m n : List (Identifier × Titled)) (s : Identifier) (e w : Titled) (wa
   changed f d = record { here = here ∙ ap Some d ∙ ap (option_map f) was; others = others }
 
   -- the section was written back as it was
-  pub kept : w ≡ e → IsSame (entry_at m) (entry_at n)
+  pub kept : w ≡ e → AnswersSame (entry_at m) (entry_at n)
   kept d y =
       elim (cases_id y s) [
         | inl k ↦ ap (entry_at n) k ∙ here ∙ ap Some d ∙ was ∙ ap (entry_at m) (sym k)

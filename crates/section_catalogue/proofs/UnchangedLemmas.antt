@@ -2,8 +2,8 @@
 use Rattle.std.proofs.Common.{List, ap, subst, sym, ◌∙◌}
 use Rattle.std.specs.Prelude.{Err, IfSome, Ok, OnErr, OnOk, Result, option_map}
 use Rattle.fugue_ids.specs.declared.op.Op.{Op}
-use Rattle.origin_model.specs.declared.operations.place.Place.TheVariants.{Catalogue as catalogue, Section as within}
-use Rattle.section_catalogue.specs.declared.section.Section.{Section as Titled}
+use Rattle.origin_model.specs.declared.operations.Place.TheVariants.{Catalogue as catalogue, Section as within}
+use Rattle.section_catalogue.specs.declared.tables.Section.{Section as Titled}
 use Rattle.section_catalogue.specs.Changes.{IsUnchanged}
 use Rattle.section_catalogue.specs.Contents.{Contents}
 use Rattle.section_catalogue.specs.Place.{Lists}

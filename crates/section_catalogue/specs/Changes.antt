@@ -4,23 +4,23 @@ use Rattle.fugue_ids.specs.Identifiers.{Identifier}
 use Rattle.fugue_ids.specs.Keyed.{IsReplaced}
 use Rattle.origin_model.specs.sides.Node.{has_node}
 use Rattle.origin_model.specs.declared.operations.node.Node.{Node}
-use Rattle.origin_model.specs.declared.operations.place.Place.{Place}
-use Rattle.origin_model.specs.declared.operations.place.Place.TheVariants.{Catalogue as catalogue, Section as within}
-use Rattle.section_list.specs.SectionList.{nothing as no_elements, with_element, with_hidden}
-use Rattle.section_catalogue.specs.declared.section.Section.{Section as Titled}
+use Rattle.origin_model.specs.declared.operations.Place.{Place}
+use Rattle.origin_model.specs.declared.operations.Place.TheVariants.{Catalogue as catalogue, Section as within}
+use Rattle.section_list.specs.SectionList.{empty_listing as no_elements, with_element, with_hidden}
+use Rattle.section_catalogue.specs.declared.tables.Section.{Section as Titled}
 use Rattle.section_catalogue.specs.Contents.{Contents, section_at, place_at}
 
 -- each answer is as before
-abbrev pub IsSame : {X : Type 0} → (Identifier → X) → (Identifier → X) → Type 0
-IsSame old new = (y : Identifier) → new y ≡ old y
+abbrev pub AnswersSame : {X : Type 0} → (Identifier → X) → (Identifier → X) → Type 0
+AnswersSame old new = (y : Identifier) → new y ≡ old y
 
 -- a section without text
 abbrev pub new_section : List ℕ → Option Titled
 new_section title = Some (record { title = title; text = no_elements })
 
 -- the section with one element more
-abbrev pub with_text : Node → ℕ → Option Titled → Option Titled
-with_text n ch e = option_map (λ (t : Titled). record t { text = with_element n ch t.text }) e
+abbrev pub section_with_text : Node → ℕ → Option Titled → Option Titled
+section_with_text n ch e = option_map (λ (t : Titled). record t { text = with_element n ch t.text }) e
 
 -- the section with the element x hidden
 abbrev pub with_hidden_text : Identifier → Option Titled → Option Titled
@@ -35,20 +35,20 @@ pub record AddsSection (old new : Contents) (n : Node) (title : List ℕ) : Type
 -- an element of the section s came
 pub record AddsText (old new : Contents) (s : Identifier) (n : Node) (ch : ℕ) : Type 0 where
   pub listed : new.catalogue ≡ old.catalogue
-  pub sections : IsReplaced (section_at old) (section_at new) s (with_text n ch (section_at old s))
+  pub sections : IsReplaced (section_at old) (section_at new) s (section_with_text n ch (section_at old s))
   pub places : IsReplaced (place_at old) (place_at new) n.id (Some (within s))
 
 -- the element x was hidden in the catalogue
 pub record HidesSection (old new : Contents) (x : Identifier) : Type 0 where
   pub listed : new.catalogue ≡ with_hidden x old.catalogue
-  pub sections : IsSame (section_at old) (section_at new)
-  pub places : IsSame (place_at old) (place_at new)
+  pub sections : AnswersSame (section_at old) (section_at new)
+  pub places : AnswersSame (place_at old) (place_at new)
 
 -- the element x was hidden in the section s
 pub record HidesText (old new : Contents) (s x : Identifier) : Type 0 where
   pub listed : new.catalogue ≡ old.catalogue
   pub sections : IsReplaced (section_at old) (section_at new) s (with_hidden_text x (section_at old s))
-  pub places : IsSame (place_at old) (place_at new)
+  pub places : AnswersSame (place_at old) (place_at new)
 
 -- the section is there, and x is an element of its text
 pub record HoldsText (e : Option Titled) (x : Identifier) : Type 0 where
@@ -68,5 +68,5 @@ HidesAt old new (within s) x = HidesText old new s x
 -- every look-up is as before
 pub record IsUnchanged (old new : Contents) : Type 0 where
   pub listed : new.catalogue ≡ old.catalogue
-  pub sections : IsSame (section_at old) (section_at new)
-  pub places : IsSame (place_at old) (place_at new)
+  pub sections : AnswersSame (section_at old) (section_at new)
+  pub places : AnswersSame (place_at old) (place_at new)

@@ -6,11 +6,11 @@ use Rattle.std.specs.Map.{lookup}
 use Rattle.fugue_ids.specs.Identifiers.{Identifier, id_cmp}
 use Rattle.fugue_ids.specs.declared.op.Op.{Op}
 use Rattle.origin_model.specs.operations.History.{place}
-use Rattle.origin_model.specs.declared.operations.place.Place.{Place}
-use Rattle.origin_model.specs.declared.operations.place.Place.TheVariants.{Catalogue as catalogue, Section as within}
+use Rattle.origin_model.specs.declared.operations.Place.{Place}
+use Rattle.origin_model.specs.declared.operations.Place.TheVariants.{Catalogue as catalogue, Section as within}
 use Rattle.section_list.specs.SectionList.{Listing}
-use Rattle.section_catalogue.specs.declared.home.Home.{Home}
-use Rattle.section_catalogue.specs.declared.section.Section.{Section as Titled}
+use Rattle.section_catalogue.specs.declared.homes.Home.{Home}
+use Rattle.section_catalogue.specs.declared.tables.Section.{Section as Titled}
 use Rattle.section_catalogue.specs.declared.tables.Tables.{Tables}
 
 pub record Contents : Type 0 where
@@ -51,10 +51,10 @@ listed_count None = 0
 listed_count (Some s) = length s.cells
 
 -- how many elements a place has, hidden ones too
-abbrev pub count_at : Contents → Place → ℕ
-count_at m catalogue = length m.catalogue.cells
-count_at m (within s) = listed_count (text_at m s)
+abbrev pub section_count_at : Contents → Place → ℕ
+section_count_at m catalogue = length m.catalogue.cells
+section_count_at m (within s) = listed_count (text_at m s)
 
 -- how many elements the place of an operation's element has
 abbrev pub place_count : Contents → Op → ℕ
-place_count m op = elim (place op) [ None ↦ 0 | Some p ↦ count_at m p ]
+place_count m op = elim (place op) [ None ↦ 0 | Some p ↦ section_count_at m p ]

@@ -8,13 +8,13 @@ use Rattle.origin_model.specs.operations.Verdict.{Lawful, verdict}
 use Rattle.origin_model.specs.order.Laws.{IsIn}
 use Rattle.origin_model.specs.order.Order.{order}
 use Rattle.origin_model.specs.order.Printed.{is_hidden, shown, text}
-use Rattle.origin_model.specs.declared.operations.place.Place.{Place}
-use Rattle.origin_model.specs.declared.operations.place.Place.TheVariants.{Catalogue as catalogue, Section as within}
-use Rattle.origin_model.specs.declared.operations.verdict.Verdict.TheVariants.{Ready}
+use Rattle.origin_model.specs.declared.operations.Place.{Place}
+use Rattle.origin_model.specs.declared.operations.Place.TheVariants.{Catalogue as catalogue, Section as within}
+use Rattle.origin_model.specs.declared.operations.Verdict.TheVariants.{Ready}
 use Rattle.origin_model.specs.edits.Landing.{following}
-use Rattle.section_list.specs.Cells.{ids, is_hidden as hidden_in, text as text_in, visible_cells}
-use Rattle.section_list.specs.SectionList.{Listing, nothing as no_elements}
-use Rattle.section_catalogue.specs.declared.section.Section.{Section as Titled}
+use Rattle.section_list.specs.Cells.{section_cell_ids, is_hidden_in_section as hidden_in, section_text as text_in, section_cells_shown}
+use Rattle.section_list.specs.SectionList.{Listing, empty_listing as no_elements}
+use Rattle.section_catalogue.specs.declared.tables.Section.{Section as Titled}
 use Rattle.section_catalogue.specs.Contents.{Contents, section_at, place_at, text_at}
 use Rattle.section_catalogue.specs.Place.{Lists, place_held, title_held}
 
@@ -42,8 +42,8 @@ pub record IsReadyOn (m : Contents) (op : Op) : Type 0 where
   pub ready : verdict history op ≡ Ready
 
 -- the operation came to each history on which it was Ready
-abbrev pub Grows : Contents → Contents → Op → Type 0
-Grows old new op = (h : List Op) → StandsFor old h → verdict h op ≡ Ready → StandsFor new (op ∷ h)
+abbrev pub GrowsBy : Contents → Contents → Op → Type 0
+GrowsBy old new op = (h : List Op) → StandsFor old h → verdict h op ≡ Ready → StandsFor new (op ∷ h)
 
 -- the history with a Delete of x, where none names it yet
 abbrev pub once_hidden : Identifier → List Op → List Op
@@ -57,15 +57,15 @@ Hides old new x = (h : List Op) → StandsFor old h → StandsFor new (once_hidd
 abbrev pub Stays : Contents → Contents → Type 0
 Stays old new = (h : List Op) → StandsFor old h ↔ StandsFor new h
 
-abbrev pub nothing : Contents
-nothing = record { catalogue = no_elements; sections = []; places = [] }
+abbrev pub empty_contents : Contents
+empty_contents = record { catalogue = no_elements; sections = []; places = [] }
 
 -- what a place lists is the order of the definitions, so its visible elements are those that are shown, and what follows an element is the next one there
 pub record IsPlaceOf (p : Place) (h : List Op) (s : Listing) : Type 0 where
-  pub all : ids s.cells ≡ order p h
-  pub visible : ids (visible_cells s.cells) ≡ shown p h
+  pub all : section_cell_ids s.cells ≡ order p h
+  pub visible : section_cell_ids (section_cells_shown s.cells) ≡ shown p h
   pub hidden : (x : Identifier) → IsIn p h x → hidden_in s.cells x ≡ is_hidden h x
-  pub after : (x : Option Identifier) → following (ids s.cells) x ≡ following (order p h) x
+  pub after : (x : Option Identifier) → following (section_cell_ids s.cells) x ≡ following (order p h) x
 
 -- and the text of a section is what is shown of it
 pub record IsTextOf (s : Identifier) (h : List Op) (l : Listing) : Type 0 where

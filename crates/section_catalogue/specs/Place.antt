@@ -7,7 +7,7 @@ use Rattle.origin_model.specs.sides.Node.{find_node, nodes}
 use Rattle.origin_model.specs.operations.History.{holder, place}
 use Rattle.origin_model.specs.order.Order.{order}
 use Rattle.origin_model.specs.order.Printed.{is_hidden}
-use Rattle.origin_model.specs.declared.operations.place.Place.{Place}
+use Rattle.origin_model.specs.declared.operations.Place.{Place}
 use Rattle.section_list.specs.Cells.{Cell}
 use Rattle.section_list.specs.SectionList.{IsInOrder, Listing}
 

@@ -1,19 +1,18 @@
 //! One element more.
-
-ghost use Rattle.std.specs.Prelude.{◌≡◌, ◌<◌, None, IfSome, IsSome, OnErr, OnOk, length};
-ghost use Rattle.origin_model.specs.sides.Node.{IsNew};
-ghost use Rattle.section_catalogue.specs.Changes.{AddsSection, AddsText, IsUnchanged};
+ghost use Rattle.std.specs.Prelude.{◌≡◌, ◌<◌, None, IfSome, IsSome, OnErr, OnOk, length, Some, true};
+ghost use Rattle.origin_model.specs.sides.Node.{IsNew, has_node};
+ghost use Rattle.section_catalogue.specs.Changes.{AddsSection, AddsText, IsUnchanged, AnswersSame, section_with_text};
+ghost use Rattle.section_catalogue.specs.Changes.{with_hidden_text};
 ghost use Rattle.section_catalogue.specs.Contents.{contents_of, entry_at, place_at};
+ghost use Rattle.fugue_ids.specs.Keyed.{IsReplaced};
 
-use crate::homes::{settle, unsettle};
-use crate::maps::{clear, put};
-use crate::section::Section;
-use crate::sections::insert_text;
-use crate::tables::Tables;
+use crate::homes::{forget_home, note_home};
+use crate::tables::{Section, Tables};
 use fugue_ids::{ElementId, MOST_OPERATIONS, NoMemory, Title};
 use origin_model::{Node, Place};
 use section_list::SectionList;
 use std::alloc::Global;
+use std::collections::BTreeMap;
 
 /// A new section. The maps come first, since they give back what they took after want of memory.
 pub(crate) fn add_section(
@@ -34,14 +33,14 @@ pub(crate) fn add_section(
         text: SectionList::new(alloc),
     };
     put(&mut tables.sections, node.id, entry)?;
-    if let Err(refused) = settle(&mut tables.places, node.id, Place::Catalogue) {
+    if let Err(refused) = note_home(&mut tables.places, node.id, Place::Catalogue) {
         clear(&mut tables.sections, &node.id);
         return Err(refused);
     }
     match tables.catalogue.insert(node.id, node.left, node.right, ' ') {
         Ok(()) => Ok(()),
         Err(refused) => {
-            unsettle(&mut tables.places, node.id);
+            forget_home(&mut tables.places, node.id);
             clear(&mut tables.sections, &node.id);
             Err(refused)
         }
@@ -57,17 +56,76 @@ pub(crate) fn add_text(
 ) -> Result<(), NoMemory>
     requires there { IsSome (entry_at tables.old.sections.entries section.now) }
     requires new { IfSome (entry_at tables.old.sections.entries section.now) (λ e. IsNew e.text.nodes node.now) }
-    requires room { IfSome (entry_at tables.old.sections.entries section.now) (λ e. length e.text.cells < MOST_OPERATIONS) }
+    requires room { IfSome (entry_at tables.old.sections.entries section.now)
+        (λ e. length e.text.cells < MOST_OPERATIONS) }
     requires unplaced { place_at (contents_of tables.old) node.now.id ≡ None }
     ensures ok { OnOk result (AddsText (contents_of tables.old) (contents_of tables.new) section.now node.now ch) }
     ensures err { OnErr result (IsUnchanged (contents_of tables.old) (contents_of tables.new)) }
 {
-    settle(&mut tables.places, node.id, Place::Section(*section))?;
+    note_home(&mut tables.places, node.id, Place::Section(*section))?;
     match insert_text(&mut tables.sections, section, node, ch) {
         Ok(()) => Ok(()),
         Err(refused) => {
-            unsettle(&mut tables.places, node.id);
+            forget_home(&mut tables.places, node.id);
             Err(refused)
         }
+    }
+}
+
+/// The value stands at the identifier now. After want of memory the map answers as before.
+pub(crate) fn put<V: Drop>(
+    map: &mut BTreeMap<ElementId, V>,
+    id: ElementId,
+    value: V,
+) -> Result<(), NoMemory>
+    ensures ok { OnOk result (IsReplaced (entry_at map.old.entries) (entry_at map.new.entries) id (Some value)) }
+    ensures err { OnErr result (AnswersSame (entry_at map.old.entries) (entry_at map.new.entries)) }
+{
+    map.insert(id, value)?;
+    Ok(())
+}
+
+/// Nothing stands at the identifier any more.
+pub(crate) fn clear<V: Drop>(map: &mut BTreeMap<ElementId, V>, id: &ElementId)
+    ensures { IsReplaced (entry_at map.old.entries) (entry_at map.new.entries) id.now None }
+{
+    map.remove(id);
+}
+
+/// One element more in the text of a section. After want of memory all is as before.
+pub(crate) fn insert_text(
+    sections: &mut BTreeMap<ElementId, Section>,
+    section: &ElementId,
+    node: &Node,
+    ch: char,
+) -> Result<(), NoMemory>
+    requires there { IsSome (entry_at sections.old.entries section.now) }
+    requires new { IfSome (entry_at sections.old.entries section.now) (λ e. IsNew e.text.nodes node.now) }
+    requires room { IfSome (entry_at sections.old.entries section.now) (λ e. length e.text.cells < MOST_OPERATIONS) }
+    ensures ok { OnOk result (IsReplaced (entry_at sections.old.entries) (entry_at sections.new.entries) section.now
+        (section_with_text node.now ch (entry_at sections.old.entries section.now))) }
+    ensures err { OnErr result (AnswersSame (entry_at sections.old.entries) (entry_at sections.new.entries)) }
+{
+    match sections.get_mut(section) {
+        Some(entry) => entry.text.insert(node.id, node.left, node.right, ch),
+        None => Ok(()),
+    }
+}
+
+/// Hides an element in the text of a section.
+pub(crate) fn hide_text(
+    sections: &mut BTreeMap<ElementId, Section>,
+    section: &ElementId,
+    id: ElementId,
+) -> Result<(), NoMemory>
+    requires there { IsSome (entry_at sections.old.entries section.now) }
+    requires held { IfSome (entry_at sections.old.entries section.now) (λ e. has_node e.text.nodes id ≡ true) }
+    ensures ok { OnOk result (IsReplaced (entry_at sections.old.entries) (entry_at sections.new.entries) section.now
+        (with_hidden_text id (entry_at sections.old.entries section.now))) }
+    ensures err { OnErr result (AnswersSame (entry_at sections.old.entries) (entry_at sections.new.entries)) }
+{
+    match sections.get_mut(section) {
+        Some(entry) => entry.text.hide(id),
+        None => Ok(()),
     }
 }

@@ -1,22 +1,53 @@
 //! The places of elements.
-
-ghost use Rattle.std.specs.Prelude.{◌≡◌, None, Some, OnErr, OnOk};
+ghost use Rattle.std.specs.Prelude.{◌≡◌, None, Some, OnErr, OnOk, ℕ, refl};
 ghost use Rattle.fugue_ids.specs.Keyed.{IsReplaced};
 ghost use Rattle.section_catalogue.specs.Contents.{entry_at, places_of};
 
-use crate::home::Home;
 use fugue_ids::{ElementId, NoMemory};
 use origin_model::Place;
-use stretch_map::StretchMap;
+use stretch_map::{Follows, StretchMap};
+
+/// The place of an element. The elements that follow one mostly have the same.
+#[derive(Clone, Copy)]
+pub(crate) struct Home {
+    pub place: Place,
+}
+
+impl Follows for Home {
+    ghost nth = { λ first home k. home };
+
+    ghost reaches = { λ first home k. Unit {0} };
+
+    fn nth(&self, first: ElementId, steps: u32) -> Home {
+        let _ = (first, steps);
+        *self
+    }
+
+    fn leads_to(&self, first: ElementId, steps: u32, value: &Home) -> bool {
+        let _ = (first, steps);
+        self.place == value.place
+    }
+
+    ghost at_start = { λ first home. refl };
+
+    ghost starts = { λ first home. tt };
+
+    ghost joins = { λ first home j h k. tt };
+
+    ghost adds = { λ first home j k. refl };
+
+    ghost goes_on = { λ first home j k h. tt };
+}
 
 /// The place of a new element.
-pub(crate) fn settle(
+pub(crate) fn note_home(
     homes: &mut StretchMap<Home>,
     id: ElementId,
     place: Place,
 ) -> Result<(), NoMemory>
     requires { entry_at (places_of homes.old.values) id ≡ None }
-    ensures ok { OnOk result (IsReplaced (entry_at (places_of homes.old.values)) (entry_at (places_of homes.new.values)) id (Some place)) }
+    ensures ok { OnOk result (IsReplaced (entry_at (places_of homes.old.values))
+        (entry_at (places_of homes.new.values)) id (Some place)) }
     ensures newest { OnOk result (homes.new.newest ≡ Some id) }
     ensures err { OnErr result (homes.new ≡ homes.old) }
 {
@@ -24,7 +55,7 @@ pub(crate) fn settle(
 }
 
 /// The place of the element that came last goes. This wants no memory.
-pub(crate) fn unsettle(homes: &mut StretchMap<Home>, id: ElementId)
+pub(crate) fn forget_home(homes: &mut StretchMap<Home>, id: ElementId)
     requires { homes.old.newest ≡ Some id }
     ensures { IsReplaced (entry_at (places_of homes.old.values)) (entry_at (places_of homes.new.values)) id None }
 {

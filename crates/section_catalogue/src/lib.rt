@@ -2,17 +2,10 @@
 #![tactic(auto)]
 
 mod growth;
-mod hiding;
-mod home;
 mod homes;
-mod laws;
 mod manuscript;
-mod maps;
 mod printing;
-mod section;
-mod sections;
 mod tables;
 
-pub use laws::look_ups_are_the_definitions;
-pub use manuscript::Manuscript;
+pub use manuscript::{Manuscript, look_ups_are_the_definitions};
 pub use origin_model::Place;

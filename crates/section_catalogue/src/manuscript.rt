@@ -1,13 +1,14 @@
 ghost use Rattle.std.specs.Prelude.{◌≡◌, ◌<◌, [], length, slice_get, option_map, IsSome, OnErr, OnOk};
-ghost use Rattle.fugue_ids.specs.Outs.{WritesText};
+ghost use Rattle.fugue_ids.specs.Outs.{WritesBytes};
 ghost use Rattle.origin_model.specs.operations.History.{place};
 ghost use Rattle.origin_model.specs.order.Printed.{manuscript as manuscript_on, shown};
-ghost use Rattle.origin_model.specs.declared.operations.place.Place.TheVariants.{Catalogue as catalogue};
-ghost use Rattle.section_catalogue.specs.Contents.{place_at, place_count, text_at};
-ghost use Rattle.section_catalogue.specs.Manuscript.{Grows, HasHistory, Hides, IsReadyOn, OnEach, StandsFor, Stays, nothing};
+ghost use Rattle.origin_model.specs.declared.operations.Place.TheVariants.{Catalogue as catalogue};
+ghost use Rattle.section_catalogue.specs.Contents.{place_at, place_count, text_at, contents_of};
+ghost use Rattle.section_catalogue.specs.Manuscript.{GrowsBy, HasHistory, Hides, IsReadyOn, OnEach, StandsFor, Stays};
+ghost use Rattle.section_catalogue.specs.Manuscript.{empty_contents, LookUpsAreDefinitions};
+ghost use Rattle.section_catalogue.specs.Changes.{HidesAt, HoldsAt, IsUnchanged};
 
-use crate::growth::{add_section, add_text};
-use crate::hiding::hide_at;
+use crate::growth::{add_section, add_text, hide_text};
 use crate::homes::home_of;
 use crate::printing::put_sections;
 use crate::tables::Tables;
@@ -20,8 +21,9 @@ use std::marker::Model;
 
 /// All places of a manuscript.
 ///
-/// It is seen by its look-ups, and it stands for each history whose elements it has, listed in their order, with their titles, scalars and
-/// hidden marks: for more than one, since equal sets of operations come in many orders. Only `insert` and `hide` take memory.
+/// It is seen by its look-ups, and it stands for each history whose elements it has, listed in their order, with their
+/// titles, scalars and hidden marks: for more than one, since equal sets of operations come in many orders. Only
+/// `insert` and `hide` take memory.
 #[derive(Drop)]
 pub struct Manuscript {
     alloc: Global,
@@ -42,7 +44,7 @@ impl Model for Manuscript {
 impl Manuscript {
     /// A manuscript without elements. It takes no memory.
     pub fn new(alloc: Global) -> Manuscript
-        ensures nothing { result ≡ nothing }
+        ensures nothing { result ≡ empty_contents }
         ensures stands { StandsFor result [] }
         ensures has_history { HasHistory result }
     {
@@ -100,7 +102,7 @@ impl Manuscript {
         requires ready { IsReadyOn self.old op.now }
         requires placed { IsSome (place op.now) }
         requires room { place_count self.old op.now < MOST_OPERATIONS }
-        ensures ok { OnOk result (Grows self.old self.new op.now) }
+        ensures ok { OnOk result (GrowsBy self.old self.new op.now) }
         ensures err { OnErr result (Stays self.old self.new) }
         ensures has_history { HasHistory self.new }
     {
@@ -143,15 +145,35 @@ impl Manuscript {
         }
     }
 
-    /// Writes the manuscript: what is shown of each shown section, in the order of the catalogue. It goes out by whole arrays, and after a failure a
-    /// front of it is written. It takes no memory.
+    /// Writes the manuscript: what is shown of each shown section, in the order of the catalogue. It goes out by whole
+    /// arrays, and after a failure a front of it is written. It takes no memory.
     pub fn write_all<O: Sink>(&self, output: &mut O) -> Result<(), Failed>
-        ensures text { OnEach self.now (λ h. WritesText (O.seen output.old) (O.seen output.new) result (manuscript_on h)) }
+        ensures text { OnEach self.now
+            (λ h. WritesBytes (O.seen output.old) (O.seen output.new) result (manuscript_on h)) }
         ensures has_history { HasHistory self.now }
     {
         let mut gather = Gather::new();
         let tables = &self.tables;
         put_sections(&mut gather, output, &tables.sections, &tables.catalogue)?;
         gather.flush(output)
+    }
+}
+
+/// The look-ups of a manuscript tell what the definitions say of each history that it stands for, at every place: what
+/// is visible there is what is shown, the text is the text that is shown, and what follows an element, hidden ones
+/// counted, is the next one of the order.
+pub fn look_ups_are_the_definitions()
+    ensures { LookUpsAreDefinitions }
+{}
+
+/// Hides an element of the place.
+pub(crate) fn hide_at(tables: &mut Tables, place: &Place, id: ElementId) -> Result<(), NoMemory>
+    requires { HoldsAt (contents_of tables.old) place.now id }
+    ensures ok { OnOk result (HidesAt (contents_of tables.old) (contents_of tables.new) place.now id) }
+    ensures err { OnErr result (IsUnchanged (contents_of tables.old) (contents_of tables.new)) }
+{
+    match place {
+        Place::Catalogue => tables.catalogue.hide(id),
+        Place::Section(section) => hide_text(&mut tables.sections, section, id),
     }
 }

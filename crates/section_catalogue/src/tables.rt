@@ -1,14 +1,20 @@
 ghost use Rattle.std.specs.Prelude.{◌≡◌};
 ghost use Rattle.section_catalogue.specs.Contents.{contents_of};
-ghost use Rattle.section_catalogue.specs.Manuscript.{nothing};
+ghost use Rattle.section_catalogue.specs.Manuscript.{empty_contents};
 
-use crate::home::Home;
-use crate::section::Section;
-use fugue_ids::ElementId;
+use crate::homes::Home;
+use fugue_ids::{ElementId, Title};
 use section_list::SectionList;
 use std::alloc::Global;
 use std::collections::BTreeMap;
 use stretch_map::StretchMap;
+
+/// A section's title and text.
+#[derive(Drop)]
+pub(crate) struct Section {
+    pub title: Title,
+    pub text: SectionList,
+}
 
 /// What a manuscript keeps.
 #[derive(Drop)]
@@ -23,7 +29,7 @@ pub(crate) struct Tables {
 impl Tables {
     /// It takes no memory.
     pub fn new(alloc: Global) -> Tables
-        ensures { contents_of result ≡ nothing }
+        ensures { contents_of result ≡ empty_contents }
     {
         Tables {
             catalogue: SectionList::new(alloc),

@@ -10,8 +10,8 @@ use Rattle.fugue_ids.specs.Keys.{ids as keyed_ids}
 use Rattle.fugue_ids.specs.Listed.{index_of}
 use Rattle.fugue_ids.proofs.IdentifierLemmas.{eq-id_eq, index_of-insert}
 use Rattle.fugue_ids.proofs.ListLemmas.{contains_none}
-use Rattle.fugue_ids.specs.declared.gap.Gap.{Gap}
-use Rattle.fugue_ids.specs.declared.gap.Gap.TheVariants.{Alone}
+use Rattle.fugue_ids.specs.declared.key.Gap.{Gap}
+use Rattle.fugue_ids.specs.declared.key.Gap.TheVariants.{Alone}
 use Rattle.origin_model.specs.order.Order.{order}
 use Rattle.origin_model.specs.sides.Detached.{NoOrigin, without}
 use Rattle.origin_model.specs.sides.KeyedGap.{gap_index}
@@ -19,7 +19,7 @@ use Rattle.origin_model.specs.sides.Node.{IsNew, find_node, has_node, node_order
 use Rattle.origin_model.specs.sides.Slot.{IsBeside, at_gap}
 use Rattle.origin_model.specs.declared.operations.node.Node.{Node}
 use Rattle.origin_model.proofs.SharedLemmas.{gap_at, gap_within, newest_taken_back, nodes_listed}
-use Rattle.run_store.specs.Cells.{ids as stored_ids, keyed}
+use Rattle.run_store.specs.Cells.{cell_ids as stored_ids, keyed_cells}
 use Rattle.run_store.specs.NewCells.{new_cell}
 use Rattle.run_store.specs.Stored.{IsAloneWhereEmpty}
 use Rattle.run_store.specs.declared.cell.Cell.{Cell as StoredCell}
@@ -38,7 +38,7 @@ pub seen_in_order : (ns : List Node) (cs : List StoredCell) → KeepsNodes ns cs
 seen_in_order ns cs k = record { are_nodes = k.are_nodes; in_order = plain_ids cs ∙ k.in_order }
 
 -- the identifiers of the cells with their keys
-pub keyed_of : (cs : List StoredCell) → keyed_ids (keyed cs) ≡ stored_ids cs
+pub keyed_of : (cs : List StoredCell) → keyed_ids (keyed_cells cs) ≡ stored_ids cs
 keyed_of [] = refl
 keyed_of (c ∷ cs) = ap (λ t. c.id ∷ t) (keyed_of cs)
 
@@ -74,7 +74,7 @@ module _ (ns : List Node) (cs : List StoredCell) (k : KeepsNodes ns cs) where
           own m ms = ap (λ b. is_some (if b then Some m else find_node ms m.id)) (eq-id_eq m.id m.id refl)
 
   -- the gap is one of the store
-  pub gap_beside : (gap : Gap) → IsBeside gap (keyed_ids (keyed cs)) → IsBeside gap (stored_ids cs)
+  pub gap_beside : (gap : Gap) → IsBeside gap (keyed_ids (keyed_cells cs)) → IsBeside gap (stored_ids cs)
   gap_beside gap b = subst (IsBeside gap) (keyed_of cs) b
 
   -- a new node
@@ -92,7 +92,7 @@ module _ (ns : List Node) (cs : List StoredCell) (k : KeepsNodes ns cs) where
     is_back longer shorter l s = s ∙ ap (without n.id) l ∙ (newest_taken_back ns n (new, k.are_nodes)).1
 
     -- its gap
-    module _ (gap : Gap) (beside : IsBeside gap (keyed_ids (keyed cs))) (place : node_order (n ∷ ns) ≡ at_gap gap n.id (keyed_ids (keyed cs))) where
+    module _ (gap : Gap) (beside : IsBeside gap (keyed_ids (keyed_cells cs))) (place : node_order (n ∷ ns) ≡ at_gap gap n.id (keyed_ids (keyed_cells cs))) where
       -- how many cells stand before it
       abbrev index : ℕ
       index = gap_index gap (stored_ids cs)

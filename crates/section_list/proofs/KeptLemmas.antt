@@ -12,17 +12,17 @@ use Rattle.fugue_ids.proofs.ListLemmas.{all_from_contains, all_insert, contains_
 use Rattle.fugue_ids.specs.Keys.{Keyed}
 use Rattle.origin_model.specs.operations.History.{holder, left_of}
 use Rattle.origin_model.specs.order.Order.{has_left, right_beside}
-use Rattle.origin_model.specs.sides.Keys.{depth_above, forest_above, key_of, keyed as keyed_in, keyed_order, new_key}
+use Rattle.origin_model.specs.sides.Keys.{depth_above, forest_above, search_key_of, keyed as keyed_in, keyed_order, new_key}
 use Rattle.origin_model.specs.sides.Node.{IsNew, as_op, as_ops, find_node, has_node, has_origin, node_order}
 use Rattle.origin_model.specs.declared.operations.node.Node.{Node}
 use Rattle.origin_model.proofs.SharedLemmas.{holder-nodes, key-other, never_both, newest_key, nodes-lawful, nodes_listed, op_of}
-use Rattle.run_store.specs.Cells.{cell_of, hiding, ids, keyed}
-use Rattle.run_store.specs.NewCells.{depth_of, depth_under, forest_beside, forest_of as forest_held, has_right, new_cell, new_key as stored_key, shares_right}
+use Rattle.run_store.specs.Cells.{cell_of, cell_hiding, cell_ids, keyed_cells}
+use Rattle.run_store.specs.NewCells.{cell_depth, depth_under, forest_beside, cell_forest as forest_held, has_right, new_cell, new_cell_key as stored_key, shares_right}
 use Rattle.run_store.specs.declared.cell.Cell.{Cell as StoredCell}
 use Rattle.section_list.specs.Kept.{IsOfNode, KeepsNodes, node_of}
 
 -- the keys of cells that have those of their nodes
-keyed-each : (ns : List Node) (cs : List StoredCell) → All (IsOfNode ns) cs → keyed cs ≡ keyed_in (as_ops ns) (ids cs)
+keyed-each : (ns : List Node) (cs : List StoredCell) → All (IsOfNode ns) cs → keyed_cells cs ≡ keyed_in (as_ops ns) (cell_ids cs)
 keyed-each ns [] a = refl
 keyed-each ns (c ∷ cs) a =
     let e = (All-head (IsOfNode ns) c cs a).key in
@@ -30,7 +30,7 @@ keyed-each ns (c ∷ cs) a =
     λ i. record { id = c.id; key = e i } ∷ r i
 
 -- the store lists the nodes with their keys
-pub keyed_kept : (ns : List Node) (cs : List StoredCell) → KeepsNodes ns cs → keyed cs ≡ keyed_order ns
+pub keyed_kept : (ns : List Node) (cs : List StoredCell) → KeepsNodes ns cs → keyed_cells cs ≡ keyed_order ns
 keyed_kept ns cs k = keyed-each ns cs k.each ∙ ap (keyed_in (as_ops ns)) k.in_order
 
 -- the first cell of an identifier
@@ -41,13 +41,13 @@ pub record Found (cs : List StoredCell) (x : Identifier) : Type 0 where
   pub member : Contains cs cell
 
 -- a member has one
-find_cell : (cs : List StoredCell) (x : Identifier) → Contains (ids cs) x → Found cs x
+find_cell : (cs : List StoredCell) (x : Identifier) → Contains (cell_ids cs) x → Found cs x
 find_cell [] x m = absurd (contains_none x m)
 find_cell (c ∷ cs) x m =
     elim (cases_id c.id x) [
       | inl d ↦ record { cell = c; found = ap (λ b. if b then Some c else cell_of cs x) (eq-id_eq c.id x d); own = d; member = contains_here c cs }
       | inr n ↦
-          let r = find_cell cs x (elim (contains_cases c.id (ids cs) x m) [ inl d ↦ absurd (n d) | inr j ↦ j ]) in
+          let r = find_cell cs x (elim (contains_cases c.id (cell_ids cs) x m) [ inl d ↦ absurd (n d) | inr j ↦ j ]) in
           record { cell = r.cell; found = ap (λ b. if b then Some c else cell_of cs x) (ne-id_eq c.id x n) ∙ r.found; own = r.own; member = contains_there c cs r.cell r.member }
     ]
 
@@ -68,13 +68,13 @@ module _ (ns : List Node) (cs : List StoredCell) (k : KeepsNodes ns cs) where
       holder-nodes ns x ∙ ap op_of (ap (find_node ns) (sym f.own) ∙ o.node)
 
   -- and the node's key
-  key_at : (x : Identifier) (f : Found cs x) → f.cell.key ≡ key_of h x
-  key_at x f = (All-contains (IsOfNode ns) cs f.cell k.each f.member).key ∙ ap (key_of h) f.own
+  key_at : (x : Identifier) (f : Found cs x) → f.cell.key ≡ search_key_of h x
+  key_at x f = (All-contains (IsOfNode ns) cs f.cell k.each f.member).key ∙ ap (search_key_of h) f.own
 
   -- a new cell is deeper by one than its left origin
   depth_kept : (l : Option Identifier) → has_origin ns l ≡ true → depth_under cs l ≡ depth_above h l
   depth_kept None o = refl
-  depth_kept (Some l) o = let f = cell_at l o in ap depth_of f.found ∙ ap (λ (z : Key). z.depth) (key_at l f)
+  depth_kept (Some l) o = let f = cell_at l o in ap cell_depth f.found ∙ ap (λ (z : Key). z.depth) (key_at l f)
 
   -- what has this left origin
   left_kept : (r : Identifier) (l : Option Identifier) (f : Found cs r) → has_left h r l ≡ origin_eq f.cell.left l
@@ -139,13 +139,13 @@ module _ (ns : List Node) (cs : List StoredCell) (k : KeepsNodes ns cs) where
     }
 
     -- the identifiers with one more
-    ids-insert : (cells : List StoredCell) (i : ℕ) (c : StoredCell) → ids (insert cells i c) ≡ insert (ids cells) i c.id
+    ids-insert : (cells : List StoredCell) (i : ℕ) (c : StoredCell) → cell_ids (insert cells i c) ≡ insert (cell_ids cells) i c.id
     ids-insert cells zero c = refl
     ids-insert [] (suc i) c = refl
     ids-insert (d ∷ cells) (suc i) c = ap (λ t. d.id ∷ t) (ids-insert cells i c)
 
     -- the store with the new cell has the longer list of nodes
-    pub keeps_more : (i ch : ℕ) → node_order (n ∷ ns) ≡ insert (ids cs) i n.id → KeepsNodes (n ∷ ns) (insert cs i (new_cell cs n.id n.left n.right ch))
+    pub keeps_more : (i ch : ℕ) → node_order (n ∷ ns) ≡ insert (cell_ids cs) i n.id → KeepsNodes (n ∷ ns) (insert cs i (new_cell cs n.id n.left n.right ch))
     keeps_more i ch e =
         let c : StoredCell = new_cell cs n.id n.left n.right ch in
         record {
@@ -155,22 +155,22 @@ module _ (ns : List Node) (cs : List StoredCell) (k : KeepsNodes ns cs) where
         }
 
   -- a hidden cell keeps its node
-  hides : (x : Identifier) (c : StoredCell) → IsOfNode ns c → IsOfNode ns (hiding x c)
+  hides : (x : Identifier) (c : StoredCell) → IsOfNode ns c → IsOfNode ns (cell_hiding x c)
   hides x c o = elim (id_eq c.id x) as (λ b. IsOfNode ns (if b then record c { hidden = true } else c)) [ true ↦ record { node = o.node; key = o.key } | false ↦ o ]
 
   -- the identifiers stay
-  ids-hiding : (x : Identifier) (cells : List StoredCell) → ids (map (hiding x) cells) ≡ ids cells
+  ids-hiding : (x : Identifier) (cells : List StoredCell) → cell_ids (map (cell_hiding x) cells) ≡ cell_ids cells
   ids-hiding x [] = refl
   ids-hiding x (c ∷ cells) =
-      let e : (hiding x c).id ≡ c.id = elim (id_eq c.id x) as (λ b. (if b then record c { hidden = true } else c).id ≡ c.id) [ true ↦ refl | false ↦ refl ] in
+      let e : (cell_hiding x c).id ≡ c.id = elim (id_eq c.id x) as (λ b. (if b then record c { hidden = true } else c).id ≡ c.id) [ true ↦ refl | false ↦ refl ] in
       λ i. e i ∷ ids-hiding x cells i
 
   -- so the store keeps the nodes
-  pub keeps_hidden : (x : Identifier) → KeepsNodes ns (map (hiding x) cs)
+  pub keeps_hidden : (x : Identifier) → KeepsNodes ns (map (cell_hiding x) cs)
   keeps_hidden x = record {
     are_nodes = k.are_nodes;
     in_order = ids-hiding x cs ∙ k.in_order;
-    each = All-map (IsOfNode ns) (hiding x) cs (all_from_contains (λ c. IsOfNode ns (hiding x c)) cs (λ c m. hides x c (All-contains (IsOfNode ns) cs c k.each m)));
+    each = All-map (IsOfNode ns) (cell_hiding x) cs (all_from_contains (λ c. IsOfNode ns (cell_hiding x c)) cs (λ c m. hides x c (All-contains (IsOfNode ns) cs c k.each m)));
   }
 
 -- what follows where there is a value
@@ -184,6 +184,6 @@ on_err (Ok v) f k = k
 on_err (Err e) f k = f k
 
 -- whether or not the cell was hidden, the store keeps the nodes
-pub kept_hidden : {T E : Type 0} (ns : List Node) (cs after : List StoredCell) (x : Identifier) → KeepsNodes ns cs → (r : Result T E) → OnOk r (after ≡ map (hiding x) cs) → OnErr r (after ≡ cs) → KeepsNodes ns after
+pub kept_hidden : {T E : Type 0} (ns : List Node) (cs after : List StoredCell) (x : Identifier) → KeepsNodes ns cs → (r : Result T E) → OnOk r (after ≡ map (cell_hiding x) cs) → OnErr r (after ≡ cs) → KeepsNodes ns after
 kept_hidden ns cs after x k (Ok v) ok err = subst (KeepsNodes ns) (sym ok) (keeps_hidden ns cs k x)
 kept_hidden ns cs after x k (Err e) ok err = subst (KeepsNodes ns) (sym err) k

@@ -4,28 +4,28 @@ use Rattle.std.specs.Prelude.{cond, if◌then◌else◌, map}
 use Rattle.std.specs.List.{insert}
 use Rattle.std.proofs.lemmas.List.{length-map}
 use Rattle.fugue_ids.specs.Identifiers.{Identifier, id_eq}
-use Rattle.run_store.specs.Cells.{ids as stored_ids, is_hidden as stored_hidden, hiding as stored_hiding, text as stored_text, visible_cells as stored_visible}
+use Rattle.run_store.specs.Cells.{cell_ids as stored_ids, is_hidden_cell as stored_hidden, cell_hiding as stored_hiding, cell_text as stored_text, cells_shown as stored_visible}
 use Rattle.run_store.specs.declared.cell.Cell.{Cell as StoredCell}
-use Rattle.section_list.specs.Cells.{Cell, hiding, ids, is_hidden, text, visible_cells}
+use Rattle.section_list.specs.Cells.{Cell, section_hiding, section_cell_ids, is_hidden_in_section, section_text, section_cells_shown}
 use Rattle.section_list.specs.Kept.{plain}
 
 -- their identifiers
-pub plain_ids : (cs : List StoredCell) → ids (map plain cs) ≡ stored_ids cs
+pub plain_ids : (cs : List StoredCell) → section_cell_ids (map plain cs) ≡ stored_ids cs
 plain_ids [] = refl
 plain_ids (c ∷ cs) = ap (λ t. c.id ∷ t) (plain_ids cs)
 
 -- those that are visible
-pub plain_visible : (cs : List StoredCell) → visible_cells (map plain cs) ≡ map plain (stored_visible cs)
+pub plain_visible : (cs : List StoredCell) → section_cells_shown (map plain cs) ≡ map plain (stored_visible cs)
 plain_visible [] = refl
 plain_visible (c ∷ cs) =
-    elim (c.hidden) as (λ b. cond (not b) (plain c ∷ visible_cells (map plain cs)) (visible_cells (map plain cs)) ≡ map plain (cond (not b) (c ∷ stored_visible cs) (stored_visible cs))) [
+    elim (c.hidden) as (λ b. cond (not b) (plain c ∷ section_cells_shown (map plain cs)) (section_cells_shown (map plain cs)) ≡ map plain (cond (not b) (c ∷ stored_visible cs) (stored_visible cs))) [
       | true ↦ plain_visible cs
       | false ↦ ap (λ t. plain c ∷ t) (plain_visible cs)
     ]
 
 -- the identifiers of those
-pub plain_shown : (cs : List StoredCell) → ids (visible_cells (map plain cs)) ≡ stored_ids (stored_visible cs)
-plain_shown cs = ap ids (plain_visible cs) ∙ plain_ids (stored_visible cs)
+pub plain_shown : (cs : List StoredCell) → section_cell_ids (section_cells_shown (map plain cs)) ≡ stored_ids (stored_visible cs)
+plain_shown cs = ap section_cell_ids (plain_visible cs) ∙ plain_ids (stored_visible cs)
 
 -- their scalars
 plain_scalars : (cs : List StoredCell) → map (λ (c : Cell). c.ch) (map plain cs) ≡ map (λ c. c.ch) cs
@@ -33,11 +33,11 @@ plain_scalars [] = refl
 plain_scalars (c ∷ cs) = ap (λ t. c.ch ∷ t) (plain_scalars cs)
 
 -- the text
-pub plain_text : (cs : List StoredCell) → text (map plain cs) ≡ stored_text cs
+pub plain_text : (cs : List StoredCell) → section_text (map plain cs) ≡ stored_text cs
 plain_text cs = ap (map (λ (c : Cell). c.ch)) (plain_visible cs) ∙ plain_scalars (stored_visible cs)
 
 -- hidden marks
-pub plain_hidden : (cs : List StoredCell) (x : Identifier) → is_hidden (map plain cs) x ≡ stored_hidden cs x
+pub plain_hidden : (cs : List StoredCell) (x : Identifier) → is_hidden_in_section (map plain cs) x ≡ stored_hidden cs x
 plain_hidden [] x = refl
 plain_hidden (c ∷ cs) x = ap (λ b. (id_eq c.id x && c.hidden) || b) (plain_hidden cs x)
 
@@ -48,13 +48,13 @@ plain_insert [] (suc i) c = refl
 plain_insert (d ∷ cs) (suc i) c = ap (λ t. plain d ∷ t) (plain_insert cs i c)
 
 -- one hidden
-plain_hides : (x : Identifier) (c : StoredCell) → plain (stored_hiding x c) ≡ hiding x (plain c)
+plain_hides : (x : Identifier) (c : StoredCell) → plain (stored_hiding x c) ≡ section_hiding x (plain c)
 plain_hides x c = elim (id_eq c.id x) as (λ b. plain (if b then record c { hidden = true } else c) ≡ (if b then record (plain c) { hidden = true } else plain c)) [ true ↦ refl | false ↦ refl ]
 
-pub plain_hiding : (x : Identifier) (cs : List StoredCell) → map plain (map (stored_hiding x) cs) ≡ map (hiding x) (map plain cs)
+pub plain_hiding : (x : Identifier) (cs : List StoredCell) → map plain (map (stored_hiding x) cs) ≡ map (section_hiding x) (map plain cs)
 plain_hiding x [] = refl
 plain_hiding x (c ∷ cs) = λ i. plain_hides x c i ∷ plain_hiding x cs i
 
 -- how many are visible
-pub plain_count : (cs : List StoredCell) → length (visible_cells (map plain cs)) ≡ length (stored_visible cs)
+pub plain_count : (cs : List StoredCell) → length (section_cells_shown (map plain cs)) ≡ length (stored_visible cs)
 plain_count cs = ap length (plain_visible cs) ∙ length-map (stored_visible cs) plain

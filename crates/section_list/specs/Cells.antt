@@ -9,21 +9,21 @@ pub record Cell : Type 0 where
   pub hidden : Bool
 
 -- the identifiers of the cells
-abbrev pub ids : List Cell → List Identifier
-ids cells = map (λ c. c.id) cells
+abbrev pub section_cell_ids : List Cell → List Identifier
+section_cell_ids cells = map (λ c. c.id) cells
 
 -- the cells that are not hidden
-abbrev pub visible_cells : List Cell → List Cell
-visible_cells cells = filter (λ c. not c.hidden) cells
+abbrev pub section_cells_shown : List Cell → List Cell
+section_cells_shown cells = filter (λ c. not c.hidden) cells
 
 -- the scalars that are not hidden
-abbrev pub text : List Cell → List ℕ
-text cells = map (λ c. c.ch) (visible_cells cells)
+abbrev pub section_text : List Cell → List ℕ
+section_text cells = map (λ c. c.ch) (section_cells_shown cells)
 
 -- a cell of x is hidden
-abbrev pub is_hidden : List Cell → Identifier → Bool
-is_hidden cells x = list_any (λ c. id_eq c.id x && c.hidden) cells
+abbrev pub is_hidden_in_section : List Cell → Identifier → Bool
+is_hidden_in_section cells x = list_any (λ c. id_eq c.id x && c.hidden) cells
 
 -- the cell as it is once x is hidden
-abbrev pub hiding : Identifier → Cell → Cell
-hiding x c = if id_eq c.id x then record c { hidden = true } else c
+abbrev pub section_hiding : Identifier → Cell → Cell
+section_hiding x c = if id_eq c.id x then record c { hidden = true } else c

@@ -5,7 +5,7 @@ use Rattle.fugue_ids.specs.Identifiers.{Identifier}
 use Rattle.fugue_ids.specs.Listed.{index_of}
 use Rattle.origin_model.specs.sides.Node.{AreNodes, node_order}
 use Rattle.origin_model.specs.declared.operations.node.Node.{Node}
-use Rattle.section_list.specs.Cells.{Cell, ids, hiding}
+use Rattle.section_list.specs.Cells.{Cell, section_cell_ids, section_hiding}
 
 pub record Listing : Type 0 where
   -- the elements with their origins, the newest first
@@ -16,10 +16,10 @@ pub record Listing : Type 0 where
 -- the cells are the nodes in order
 pub record IsInOrder (s : Listing) : Type 0 where
   pub are_nodes : AreNodes s.nodes
-  pub in_order : ids s.cells ≡ node_order s.nodes
+  pub in_order : section_cell_ids s.cells ≡ node_order s.nodes
 
-abbrev pub nothing : Listing
-nothing = record { nodes = []; cells = [] }
+abbrev pub empty_listing : Listing
+empty_listing = record { nodes = []; cells = [] }
 
 -- one element more, not hidden, where the order of the nodes has it
 abbrev pub with_element : Node → ℕ → Listing → Listing
@@ -29,4 +29,4 @@ with_element n ch s =
 
 -- the element x hidden
 abbrev pub with_hidden : Identifier → Listing → Listing
-with_hidden x s = record { nodes = s.nodes; cells = map (hiding x) s.cells }
+with_hidden x s = record { nodes = s.nodes; cells = map (section_hiding x) s.cells }

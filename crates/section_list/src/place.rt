@@ -1,19 +1,20 @@
 ghost use Rattle.std.specs.Prelude.{◌≡◌, ◌<◌, ◌∷◌, false, true, drop, length, slice_get, OnErr, OnOk};
 ghost use Rattle.std.specs.Str.{encode_utf8_all};
 ghost use Rattle.fugue_ids.specs.Gathers.{GathersText};
-ghost use Rattle.fugue_ids.specs.Outs.{WritesText};
+ghost use Rattle.fugue_ids.specs.Outs.{WritesBytes};
 ghost use Rattle.origin_model.specs.sides.Node.{has_node, has_origin};
 ghost use Rattle.origin_model.specs.edits.Landing.{following};
 ghost use Rattle.std.specs.List.{insert};
 ghost use Rattle.origin_model.specs.sides.KeyedGap.{gap_index};
 ghost use Rattle.origin_model.specs.sides.Node.{IsNew};
 ghost use Rattle.origin_model.specs.sides.Slot.{IsBeside};
-ghost use Rattle.run_store.specs.Cells.{ids as stored_ids};
+ghost use Rattle.run_store.specs.Cells.{cell_ids as stored_ids};
 ghost use Rattle.run_store.specs.NewCells.{new_cell};
 ghost use Rattle.run_store.specs.Stored.{IsAloneWhereEmpty};
-ghost use Rattle.section_list.specs.Cells.{ids, is_hidden as hidden_in, text, visible_cells};
+ghost use Rattle.section_list.specs.Cells.{section_cell_ids, is_hidden_in_section as hidden_in, section_text};
+ghost use Rattle.section_list.specs.Cells.{section_cells_shown};
 ghost use Rattle.section_list.specs.Kept.{KeepsNodes};
-ghost use Rattle.section_list.specs.SectionList.{IsInOrder, nothing, with_element, with_hidden};
+ghost use Rattle.section_list.specs.SectionList.{IsInOrder, empty_listing, with_element, with_hidden};
 
 use fugue_ids::{ElementId, Failed, Gap, Gather, MOST_OPERATIONS, NoMemory, Out};
 use origin_model::Node;
@@ -51,7 +52,8 @@ fn look_at(store: &mut RunStore, id: &Option<ElementId>)
     }
 }
 
-/// The node joins the tree, and its cell goes into the gap of the store. After want of memory the nodes and the cells are as before.
+/// The node joins the tree, and its cell goes into the gap of the store. After want of memory the nodes and the cells
+/// are as before.
 fn put_in(
     tree: &mut SidedTree,
     store: &mut RunStore,
@@ -66,7 +68,8 @@ fn put_in(
     requires room { length store.old.cells < MOST_OPERATIONS }
     ensures tree_ok { OnOk result (tree.new ≡ node.now ∷ tree.old) }
     ensures tree_err { OnErr result (tree.new ≡ tree.old) }
-    ensures store_ok { OnOk result (store.new.cells ≡ insert store.old.cells (gap_index gap (stored_ids store.old.cells))
+    ensures store_ok { OnOk result
+        (store.new.cells ≡ insert store.old.cells (gap_index gap (stored_ids store.old.cells))
         (new_cell store.old.cells node.now.id node.now.left node.now.right ch)) }
     ensures store_err { OnErr result (store.new.cells ≡ store.old.cells) }
 {
@@ -84,7 +87,7 @@ fn put_in(
 impl SectionList {
     /// A place without elements. It takes no memory.
     pub fn new(alloc: Global) -> SectionList
-        ensures nothing { result ≡ nothing }
+        ensures nothing { result ≡ empty_listing }
         ensures in_order { IsInOrder result }
     {
         SectionList {
@@ -103,7 +106,7 @@ impl SectionList {
 
     /// How many elements are visible.
     pub fn visible_count(&self) -> usize
-        ensures { result ≡ length (visible_cells self.now.cells) }
+        ensures { result ≡ length (section_cells_shown self.now.cells) }
     {
         self.store.visible_count()
     }
@@ -124,28 +127,29 @@ impl SectionList {
 
     /// The element with i visible ones before it that is visible itself.
     pub fn nth_visible(&self, i: usize) -> Option<ElementId>
-        ensures { result ≡ slice_get (ids (visible_cells self.now.cells)) i }
+        ensures { result ≡ slice_get (section_cell_ids (section_cells_shown self.now.cells)) i }
     {
         self.store.nth_visible(i)
     }
 
     /// A walk along the visible elements, in order.
     pub fn shown(&self) -> Shown<'_>
-        ensures { result ≡ ids (visible_cells self.now.cells) }
+        ensures { result ≡ section_cell_ids (section_cells_shown self.now.cells) }
     {
         self.store.shown()
     }
 
     /// A walk along those that have `at` visible ones before them: none of these is passed.
     pub fn shown_from(&self, at: usize) -> Shown<'_>
-        ensures { result ≡ drop at (ids (visible_cells self.now.cells)) }
+        ensures { result ≡ drop at (section_cell_ids (section_cells_shown self.now.cells)) }
     {
         self.store.shown_from(at)
     }
 
-    /// The element behind this one, hidden or not; the first one for None. None comes back for one that is not held or stands last.
+    /// The element behind this one, hidden or not; the first one for None. None comes back for one that is not held or
+    /// stands last.
     pub fn after(&self, id: Option<ElementId>) -> Option<ElementId>
-        ensures { result ≡ following (ids self.now.cells) id }
+        ensures { result ≡ following (section_cell_ids self.now.cells) id }
     {
         self.store.after(id)
     }
@@ -162,7 +166,8 @@ impl SectionList {
         requires left { has_origin self.old.nodes left ≡ true }
         requires right { has_origin self.old.nodes right ≡ true }
         requires room { length self.old.cells < MOST_OPERATIONS }
-        ensures ok { OnOk result (self.new ≡ with_element (record { id = id; left = left; right = right }) ch self.old) }
+        ensures ok { OnOk result (self.new
+            ≡ with_element (record { id = id; left = left; right = right }) ch self.old) }
         ensures err { OnErr result (self.new ≡ self.old) }
         ensures in_order { IsInOrder self.new }
     {
@@ -185,16 +190,19 @@ impl SectionList {
         self.store.hide(id)
     }
 
-    /// Writes the text: the scalars of the visible elements, in order. They go out by whole arrays, and it takes no memory.
+    /// Writes the text: the scalars of the visible elements, in order. They go out by whole arrays, and it takes no
+    /// memory.
     pub fn write_text<O: Sink>(&self, output: &mut O) -> Result<(), Failed>
-        ensures { WritesText (O.seen output.old) (O.seen output.new) result (encode_utf8_all (text self.now.cells)) }
+        ensures { WritesBytes (O.seen output.old) (O.seen output.new) result
+            (encode_utf8_all (section_text self.now.cells)) }
     {
         self.store.write_text(output)
     }
 
     /// Puts the text behind what waits to go out.
     pub fn put_text<O: Out>(&self, gather: &mut Gather, output: &mut O) -> Result<(), Failed>
-        ensures { GathersText (O.seen output.old) (O.seen output.new) gather.old gather.new result (encode_utf8_all (text self.now.cells)) }
+        ensures { GathersText (O.seen output.old) (O.seen output.new) gather.old gather.new result
+            (encode_utf8_all (section_text self.now.cells)) }
     {
         self.store.put_text(gather, output)
     }

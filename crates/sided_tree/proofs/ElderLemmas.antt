@@ -9,7 +9,7 @@ use Rattle.fugue_ids.specs.Keys.{Keyed, between, ids, is_low, last_id, last_low,
 use Rattle.fugue_ids.specs.Listed.{HoldsOrigin}
 use Rattle.fugue_ids.specs.declared.key.Key.{Key}
 use Rattle.fugue_ids.proofs.ListLemmas.{all_pairs_before, all_pairs_behind, all_pairs_tail}
-use Rattle.origin_model.specs.edits.Landing.{end_of}
+use Rattle.origin_model.specs.edits.Landing.{last_before}
 use Rattle.origin_model.specs.sides.KeyedGap.{Falls, last_passing, low_ids}
 use Rattle.origin_model.proofs.SharedLemmas.{passing_before, passing_behind}
 use Rattle.sided_tree.specs.Elders.{BeginsLow, EndsLow, siblings_in}
@@ -24,11 +24,11 @@ or_else None o = o
 or_else (Some x) o = Some x
 
 -- the last of a list with a first one
-end_behind : (v : Identifier) (xs : List Identifier) → end_of (v ∷ xs) ≡ or_else (end_of xs) (Some v)
+end_behind : (v : Identifier) (xs : List Identifier) → last_before (v ∷ xs) ≡ or_else (last_before xs) (Some v)
 end_behind v [] = refl
 end_behind v (x ∷ xs) = some x xs (Some v)
   where
-    some : (x : Identifier) (xs : List Identifier) (o : Option Identifier) → end_of (x ∷ xs) ≡ or_else (end_of (x ∷ xs)) o
+    some : (x : Identifier) (xs : List Identifier) (o : Option Identifier) → last_before (x ∷ xs) ≡ or_else (last_before (x ∷ xs)) o
     some x [] o = refl
     some x (y ∷ ys) o = some y ys o
 
@@ -46,7 +46,7 @@ module _ (G : Identifier → Bool) where
   pub seen_behind : (all xs ys : List Identifier) (s : Identifier) (elder : Option Identifier) → all ≡ xs ++ s ∷ ys → G s ≡ true
       → or_else (last_passing G all) elder ≡ or_else (last_passing G ys) (Some s)
   seen_behind all xs ys s elder is t =
-      ap (λ o. or_else o elder) (ap (last_passing G) is ∙ passing_behind G xs ys s t ∙ ap end_of (ap (λ b. if b then s ∷ filter G ys else filter G ys) t) ∙ end_behind s (filter G ys))
+      ap (λ o. or_else o elder) (ap (last_passing G) is ∙ passing_behind G xs ys s t ∙ ap last_before (ap (λ b. if b then s ∷ filter G ys else filter G ys) t) ∙ end_behind s (filter G ys))
       ∙ twice (last_passing G ys)
     where
       twice : (o : Option Identifier) → or_else (or_else o (Some s)) elder ≡ or_else o (Some s)
@@ -125,7 +125,7 @@ module _ (G : Identifier → Bool) (k : Key) (es : List Keyed) where
   pub last_passes : (x : Identifier) → last_low k es ≡ Some x → G x ≡ true → last_passing G (low_ids k es) ≡ Some x
   last_passes x e t =
       let r = ends_in (lows k es) x e in
-      ap (last_passing G) r.1 ∙ passing_behind G r.0 [] x t ∙ ap end_of (ap (λ b. if b then x ∷ [] else []) t)
+      ap (last_passing G) r.1 ∙ passing_behind G r.0 [] x t ∙ ap last_before (ap (λ b. if b then x ∷ [] else []) t)
 
 -- the siblings in front of the last one, where that fails
 module _ (G : Identifier → Bool) (es : List Keyed) (part : Part) (apart : Apart es) (f : BeginsLow es part) (t : EndsLow es part) (s : Identifier)

@@ -11,7 +11,7 @@ use Rattle.origin_model.specs.declared.operations.node.Node.{Node}
 use Rattle.origin_model.proofs.SharedLemmas.{found_without}
 use Rattle.stretch_map.specs.Ahead.{ahead}
 use Rattle.stretch_map.specs.Rules.{IsFollowed, typed_behind}
-use Rattle.stretch_map.specs.declared.typed.Typed.{Typed}
+use Rattle.stretch_map.specs.declared.follows.Typed.{Typed}
 use Rattle.stretch_map.proofs.OrderLemmas.{id_cmp_total}
 use Rattle.sided_tree.specs.Nodes.{IsNodeMap, node_with}
 

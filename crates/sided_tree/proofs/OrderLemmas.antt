@@ -3,8 +3,8 @@ use Rattle.std.proofs.Common.{List, [], ap, refl, subst, sym, true, ◌∙◌, �
 use Rattle.std.specs.List.{AllPairs, Contains}
 use Rattle.std.specs.Prelude.{Some, if◌then◌else◌, is_some, ◌↔◌}
 use Rattle.fugue_ids.specs.Keys.{Keyed, ids}
-use Rattle.fugue_ids.specs.declared.gap.Gap.{Gap}
-use Rattle.fugue_ids.specs.declared.gap.Gap.TheVariants.{Alone}
+use Rattle.fugue_ids.specs.declared.key.Gap.{Gap}
+use Rattle.fugue_ids.specs.declared.key.Gap.TheVariants.{Alone}
 use Rattle.fugue_ids.proofs.IdentifierLemmas.{eq-id_eq}
 use Rattle.fugue_ids.proofs.ListLemmas.{contains_none}
 use Rattle.origin_model.specs.order.Order.{order}

@@ -5,7 +5,7 @@ use Rattle.std.proofs.lemmas.Bool.{true≢false}
 use Rattle.std.proofs.lemmas.List.{length-map}
 use Rattle.fugue_ids.specs.Keys.{Keyed, ids}
 use Rattle.fugue_ids.specs.Listed.{index_of}
-use Rattle.fugue_ids.specs.declared.gap.Gap.{Gap}
+use Rattle.fugue_ids.specs.declared.key.Gap.{Gap}
 use Rattle.fugue_ids.specs.declared.key.Key.{Key}
 use Rattle.fugue_ids.proofs.IdentifierLemmas.{index_of-insert}
 use Rattle.origin_model.specs.sides.KeyedGap.{gap_index}

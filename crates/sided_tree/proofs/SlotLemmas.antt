@@ -9,15 +9,15 @@ use Rattle.fugue_ids.specs.Keys.{IsFit, Keyed, between, front_of, ids, is_low, k
 use Rattle.fugue_ids.specs.Listed.{HoldsOrigin}
 use Rattle.fugue_ids.specs.declared.key.Key.{Key}
 use Rattle.fugue_ids.proofs.ListLemmas.{contains_filter_from, contains_here, contains_there}
-use Rattle.origin_model.specs.edits.Landing.{end_of}
+use Rattle.origin_model.specs.edits.Landing.{last_before}
 use Rattle.origin_model.specs.sides.KeyLaws.{HoldsElement}
 use Rattle.origin_model.specs.sides.KeyedGap.{Falls, child_key, gap_behind, gap_by_keys, last_passing, low_ids, part_from, part_to, siblings, slot_key, slot_part}
 use Rattle.origin_model.specs.sides.Keys.{keyed_order}
 use Rattle.origin_model.specs.sides.Node.{AreNodes, as_ops, node_order}
 use Rattle.origin_model.specs.sides.Slot.{slot_by}
 use Rattle.origin_model.specs.declared.operations.node.Node.{Node}
-use Rattle.origin_model.specs.declared.sides.slot.Slot.{Slot}
-use Rattle.origin_model.specs.declared.sides.slot.Slot.TheVariants.{LeftOf, RightOf}
+use Rattle.origin_model.specs.declared.sides.Slot.{Slot}
+use Rattle.origin_model.specs.declared.sides.Slot.TheVariants.{LeftOf, RightOf}
 use Rattle.origin_model.proofs.SharedLemmas.{key_found, keyed_ids, part_bounds, part_least, siblings_fall, slot_held}
 use Rattle.sided_tree.specs.Elders.{is_elder}
 use Rattle.sided_tree.specs.SlotKeys.{IsSlotKey}
@@ -62,7 +62,7 @@ no_low k (e ∷ es) g f l =
 passing_in : (G : Identifier → Bool) (xs : List Identifier) (e : Identifier) → last_passing G xs ≡ Some e → Contains xs e
 passing_in G xs e is = (contains_filter_from G xs e (end_in (filter G xs) e is)).0
   where
-    end_in : (xs : List Identifier) (e : Identifier) → end_of xs ≡ Some e → Contains xs e
+    end_in : (xs : List Identifier) (e : Identifier) → last_before xs ≡ Some e → Contains xs e
     end_in [] e is = cc
     end_in (x ∷ []) e is = let d : x ≡ e = cc in subst (Contains (x ∷ [])) d (contains_here x [])
     end_in (x ∷ y ∷ xs) e is = contains_there x (y ∷ xs) e (end_in (y ∷ xs) e is)

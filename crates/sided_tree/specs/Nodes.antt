@@ -5,7 +5,7 @@ use Rattle.fugue_ids.specs.Identifiers.{Identifier, id_cmp}
 use Rattle.origin_model.specs.sides.Node.{find_node}
 use Rattle.origin_model.specs.declared.operations.node.Node.{Node}
 use Rattle.stretch_map.specs.Ahead.{ahead}
-use Rattle.stretch_map.specs.declared.typed.Typed.{Typed}
+use Rattle.stretch_map.specs.declared.follows.Typed.{Typed}
 
 -- the node of an identifier with these origins
 abbrev pub node_with : Identifier → Typed → Node

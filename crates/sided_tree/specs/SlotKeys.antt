@@ -2,8 +2,8 @@
 use Rattle.std.specs.Prelude.{◌≡◌, Some, None, List}
 use Rattle.fugue_ids.specs.Keys.{HasKey, Keyed}
 use Rattle.fugue_ids.specs.declared.key.Key.{Key}
-use Rattle.origin_model.specs.declared.sides.slot.Slot.{Slot}
-use Rattle.origin_model.specs.declared.sides.slot.Slot.TheVariants.{LeftOf, RightOf}
+use Rattle.origin_model.specs.declared.sides.Slot.{Slot}
+use Rattle.origin_model.specs.declared.sides.Slot.TheVariants.{LeftOf, RightOf}
 
 -- the element of the slot has the key; the start has the least one
 abbrev pub IsSlotKey : List Keyed → Slot → Key → Type 0

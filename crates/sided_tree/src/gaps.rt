@@ -1,16 +1,17 @@
-ghost use Rattle.std.specs.Prelude.{◌≡◌, ◌↔◌, ◌∷◌, All, true};
+ghost use Rattle.std.specs.Prelude.{◌≡◌, ◌↔◌, ◌∷◌, All, true, Contains};
 ghost use Rattle.fugue_ids.specs.Keys.{IsFit, first_id, ids, rest_of};
 ghost use Rattle.origin_model.specs.sides.KeyLaws.{HoldsElement};
-ghost use Rattle.origin_model.specs.sides.KeyedGap.{before_all as before_all_in, gap_between as gap_between_in, gap_by_keys as gap_by_keys_in, no_elder_gap as no_elder_gap_in, slot_key as slot_key_of};
+ghost use Rattle.origin_model.specs.sides.KeyedGap.{before_all as before_all_in, gap_between as gap_between_in};
+ghost use Rattle.origin_model.specs.sides.KeyedGap.{gap_by_keys as gap_by_keys_in, no_elder_gap as no_elder_gap_in};
+ghost use Rattle.origin_model.specs.sides.KeyedGap.{slot_key as slot_key_of, block_end as block_end_in};
+ghost use Rattle.origin_model.specs.sides.KeyedGap.{block_start as block_start_in, widest as widest_of};
 ghost use Rattle.origin_model.specs.sides.Keys.{keyed_order};
 ghost use Rattle.origin_model.specs.sides.Node.{AreNodes, as_ops};
 ghost use Rattle.origin_model.specs.sides.Slot.{slot_by};
 ghost use Rattle.sided_tree.specs.Elders.{is_elder};
 
-use crate::blocks::{block_end, block_start};
-use crate::elders::last_elder;
 use crate::nodes::Nodes;
-use crate::slots::{slot_key, slot_part};
+use crate::slots::{last_elder, slot_key, slot_part};
 use fugue_ids::{ElementId, Gap, Key, OrderOf};
 use origin_model::{Node, Slot};
 
@@ -19,7 +20,8 @@ pub(crate) fn gap_by_keys<F: OrderOf>(nodes: &Nodes, order: &F, node: &Node) -> 
     requires new { AreNodes (node.now ∷ nodes.now) }
     requires list { F.listed order.now ≡ keyed_order nodes.now }
     ensures gap { result ≡ gap_by_keys_in (F.listed order.now) (slot_by (as_ops nodes.now) node.now.left node.now.right)
-        (slot_key_of (as_ops nodes.now) (slot_by (as_ops nodes.now) node.now.left node.now.right)) (is_elder nodes.now node.now) }
+        (slot_key_of (as_ops nodes.now) (slot_by (as_ops nodes.now) node.now.left node.now.right))
+        (is_elder nodes.now node.now) }
     ensures fit { All IsFit (F.listed order.now) }
 {
     let slot = nodes.slot(node.left, node.right);
@@ -70,4 +72,32 @@ pub(crate) fn gap_between(node: &Node) -> Gap
         Some(left) => Gap::After(left),
         None => before_all(node.right),
     }
+}
+
+/// The greatest key of a depth: the keys up to it are those of elements that are no deeper.
+pub(crate) fn widest(depth: u32) -> Key
+    ensures { result ≡ widest_of depth }
+{
+    Key {
+        depth,
+        forest: u32::MAX,
+    }
+}
+
+/// The last element of the block of this one, which has the depth.
+pub(crate) fn block_end<F: OrderOf>(order: &F, depth: u32, id: ElementId) -> ElementId
+    requires { Contains (ids (F.listed order.now)) id }
+    ensures { result ≡ block_end_in (F.listed order.now) depth id }
+{
+    let behind = order.first_low(Some(id), widest(depth));
+    order.before(behind).unwrap_or(id)
+}
+
+/// The first element of the block of this one, which has the key.
+pub(crate) fn block_start<F: OrderOf>(order: &F, key: Key, id: ElementId) -> ElementId
+    requires { Contains (ids (F.listed order.now)) id }
+    ensures { result ≡ block_start_in (F.listed order.now) key id }
+{
+    let before = order.last_low(Some(id), key);
+    order.first_low(before, widest(key.depth)).unwrap_or(id)
 }

@@ -1,13 +1,10 @@
-//! The sided tree of one place: it finds where a new element stands by the sides of its origins and by keys, and not by their chains.
+//! The sided tree of one place: it finds where a new element stands by the sides of its origins and by keys, and not by
+//! their chains.
 #![tactic(auto)]
 
-mod ages;
-mod blocks;
-mod elders;
 mod gaps;
 mod nodes;
 mod part;
-mod siblings;
 mod slots;
 mod tree;
 

@@ -1,5 +1,6 @@
 ghost use Rattle.std.specs.Prelude.{◌≡◌, ◌≢◌, ◌↔◌, All, AllPairs, Contains, IfSome, IsNone, []};
-ghost use Rattle.fugue_ids.specs.Keys.{IsFit, between, first_low as first_low_in, ids, last_low as last_low_in, rest_of};
+ghost use Rattle.fugue_ids.specs.Keys.{IsFit, between, first_low as first_low_in, ids, last_low as last_low_in};
+ghost use Rattle.fugue_ids.specs.Keys.{rest_of};
 ghost use Rattle.fugue_ids.specs.Listed.{HoldsOrigin};
 ghost use Rattle.origin_model.specs.sides.KeyedGap.{low_ids};
 
@@ -44,8 +45,10 @@ impl Part {
         requires distinct { AllPairs (λ x y. x ≢ y) (ids (F.listed order.now)) }
         requires from { HoldsOrigin (low_ids self.now.key (F.listed order.now)) self.now.from }
         requires to { HoldsOrigin (low_ids self.now.key (rest_of self.now.from (F.listed order.now))) self.now.to }
-        ensures none { IsNone result ↔ (low_ids self.now.key (between self.now.from self.now.to (F.listed order.now)) ≡ []) }
-        ensures some { IfSome result (Contains (low_ids self.now.key (between self.now.from self.now.to (F.listed order.now)))) }
+        ensures none { IsNone result
+            ↔ (low_ids self.now.key (between self.now.from self.now.to (F.listed order.now)) ≡ []) }
+        ensures some { IfSome result
+            (Contains (low_ids self.now.key (between self.now.from self.now.to (F.listed order.now)))) }
     {
         let middle = order.middle(self.from, self.to)?;
         let front = Part {

@@ -1,14 +1,18 @@
-ghost use Rattle.std.specs.Prelude.{◌≡◌, ◌↔◌, ◌⊎◌, ◌≤◌, ◌^◌, ◌≢◌, All, IfSome, IsNone, None};
+ghost use Rattle.std.specs.Prelude.{◌≡◌, ◌↔◌, ◌⊎◌, ◌≤◌, ◌^◌, ◌≢◌, All, IfSome, IsNone, None, ◌∷◌};
 ghost use Rattle.fugue_ids.specs.Keys.{IsFit, ids};
-ghost use Rattle.origin_model.specs.declared.sides.slot.Slot.TheVariants.{RightOf};
+ghost use Rattle.origin_model.specs.declared.sides.Slot.TheVariants.{RightOf};
 ghost use Rattle.origin_model.specs.sides.KeyLaws.{HoldsElement};
-ghost use Rattle.origin_model.specs.sides.KeyedGap.{child_key as child_key_of, part_from, part_to};
+ghost use Rattle.origin_model.specs.sides.KeyedGap.{child_key as child_key_of, part_from, part_to, Falls, last_passing};
 ghost use Rattle.sided_tree.specs.SlotKeys.{IsSlotKey};
+ghost use Rattle.origin_model.specs.sides.Keys.{keyed_order};
+ghost use Rattle.origin_model.specs.sides.Node.{AreNodes};
+ghost use Rattle.sided_tree.specs.Elders.{BeginsLow, EndsLow, is_elder, siblings_in};
 
-use crate::blocks::widest;
+use crate::gaps::widest;
+use crate::nodes::Nodes;
 use crate::part::Part;
 use fugue_ids::{ElementId, Key, OrderOf};
-use origin_model::Slot;
+use origin_model::{Node, Slot};
 
 /// The key of the element of the slot; the start has the least one.
 pub(crate) fn slot_key<F: OrderOf>(order: &F, slot: &Slot) -> Key
@@ -25,10 +29,12 @@ pub(crate) fn slot_key<F: OrderOf>(order: &F, slot: &Slot) -> Key
     }
 }
 
-/// The key of the children of the slot, whose element has this one; None where it is too great for a key, so that there are none.
+/// The key of the children of the slot, whose element has this one; None where it is too great for a key, so that there
+/// are none.
 fn child_key(slot: &Slot, key: Key) -> Option<Key>
     ensures some { IfSome result (λ child. child ≡ child_key_of slot.now key) }
-    ensures none { IsNone result ↔ ((2 ^ 32 ≤ (child_key_of slot.now key).depth) ⊎ (2 ^ 32 ≤ (child_key_of slot.now key).forest)) }
+    ensures none { IsNone result
+        ↔ ((2 ^ 32 ≤ (child_key_of slot.now key).depth) ⊎ (2 ^ 32 ≤ (child_key_of slot.now key).forest)) }
 {
     match slot {
         Slot::RightOf(_) => Some(Key {
@@ -42,13 +48,16 @@ fn child_key(slot: &Slot, key: Key) -> Option<Key>
     }
 }
 
-/// The part of the order in which the children of the slot stand, whose element has this key; None where their key is too great, so that there
-/// are none.
+/// The part of the order in which the children of the slot stand, whose element has this key; None where their key is
+/// too great, so that there are none.
 pub(crate) fn slot_part<F: OrderOf>(order: &F, slot: &Slot, key: Key) -> Option<Part>
     requires held { HoldsElement (ids (F.listed order.now)) slot.now }
-    ensures some { IfSome result (λ part. (part.from ≡ part_from (F.listed order.now) slot.now key) × (part.to ≡ part_to (F.listed order.now) slot.now key)
+    ensures some { IfSome result
+        (λ part. (part.from ≡ part_from (F.listed order.now) slot.now key)
+        × (part.to ≡ part_to (F.listed order.now) slot.now key)
         × (part.key ≡ child_key_of slot.now key)) }
-    ensures none { IsNone result ↔ ((2 ^ 32 ≤ (child_key_of slot.now key).depth) ⊎ (2 ^ 32 ≤ (child_key_of slot.now key).forest)) }
+    ensures none { IsNone result
+        ↔ ((2 ^ 32 ≤ (child_key_of slot.now key).depth) ⊎ (2 ^ 32 ≤ (child_key_of slot.now key).forest)) }
 {
     let child = child_key(slot, key)?;
     let (from, to) = slot_ends(order, slot, key);
@@ -70,4 +79,60 @@ fn slot_ends<F: OrderOf>(order: &F, slot: &Slot, key: Key) -> (Option<ElementId>
         Slot::RightOf(Some(left)) => (Some(*left), order.first_low(Some(*left), widest(key.depth))),
         Slot::LeftOf(right) => (order.last_low(Some(*right), key), Some(*right)),
     }
+}
+
+/// The last of the siblings in a part that goes before a new node. Those that do stand first.
+///
+/// The last sibling is looked at first: where there is none, or where all go before, that is all.
+pub(crate) fn last_elder<F: OrderOf>(
+    nodes: &Nodes,
+    order: &F,
+    node: &Node,
+    part: &Part,
+) -> Option<ElementId>
+    requires new { AreNodes (node.now ∷ nodes.now) }
+    requires list { F.listed order.now ≡ keyed_order nodes.now }
+    requires from { BeginsLow (F.listed order.now) part.now }
+    requires to { EndsLow (F.listed order.now) part.now }
+    requires falls { All IsFit (F.listed order.now)
+        → Falls (is_elder nodes.now node.now) (siblings_in (F.listed order.now) part.now) }
+    ensures elder { result ≡ last_passing (is_elder nodes.now node.now) (siblings_in (F.listed order.now) part.now) }
+    ensures fit { All IsFit (F.listed order.now) }
+{
+    let last = part.last(order)?;
+    if nodes.goes_before(order, last, node) {
+        return Some(last);
+    }
+    let front = Part {
+        to: Some(last),
+        ..*part
+    };
+    elder_by_halves(nodes, order, node, front)
+}
+
+/// The same, by halves: the rest shrinks round the answer, which is the last elder that was seen where no sibling is
+/// left.
+fn elder_by_halves<F: OrderOf>(
+    nodes: &Nodes,
+    order: &F,
+    node: &Node,
+    mut rest: Part,
+) -> Option<ElementId>
+    requires new { AreNodes (node.now ∷ nodes.now) }
+    requires list { F.listed order.now ≡ keyed_order nodes.now }
+    requires from { BeginsLow (F.listed order.now) rest }
+    requires to { EndsLow (F.listed order.now) rest }
+    requires falls { Falls (is_elder nodes.now node.now) (siblings_in (F.listed order.now) rest) }
+    ensures { result ≡ last_passing (is_elder nodes.now node.now) (siblings_in (F.listed order.now) rest) }
+{
+    let mut elder = None;
+    'halve: while let Some(sibling) = rest.near_middle(order) {
+        if nodes.goes_before(order, sibling, node) {
+            elder = Some(sibling);
+            rest.from = Some(sibling);
+        } else {
+            rest.to = Some(sibling);
+        }
+    }
+    elder
 }

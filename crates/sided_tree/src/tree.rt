@@ -1,7 +1,7 @@
 ghost use Rattle.std.specs.Prelude.{◌≡◌, ◌↔◌, ◌∷◌, [], false, true, IsOk, OnErr, OnOk};
 ghost use Rattle.fugue_ids.specs.Keys.{ids};
-ghost use Rattle.fugue_ids.specs.declared.gap.Gap.TheVariants.{Alone};
-ghost use Rattle.fugue_ids.specs.declared.side.Side.TheVariants.{Left};
+ghost use Rattle.fugue_ids.specs.declared.key.Gap.TheVariants.{Alone};
+ghost use Rattle.fugue_ids.specs.declared.key.Side.TheVariants.{Left};
 ghost use Rattle.origin_model.specs.sides.Detached.{NoOrigin, without};
 ghost use Rattle.origin_model.specs.sides.Keys.{keyed_order};
 ghost use Rattle.origin_model.specs.sides.Node.{AreNodes, has_node, has_origin, node_order};
@@ -18,11 +18,12 @@ use std::marker::Model;
 
 /// The sided tree of one place, seen as the list of its nodes, the newest first: each node's origins are older than it.
 ///
-/// A node hangs as a left child of its right origin where the two have the same left origin, and as a right child of its left origin otherwise.
-/// There is no table of children: the keys of the elements tell where in the order those of a slot stand. A gap is found by searches in the order,
-/// whose number grows with the logarithm of the number of elements in the slot's part, and by none where the right origin directly follows the left
-/// one, as in all typing. Nodes that were typed in one go are one entry, and a look-up costs a number of steps that grows with the logarithm of the
-/// number of entries; a letter that is typed on makes none.
+/// A node hangs as a left child of its right origin where the two have the same left origin, and as a right child of
+/// its left origin otherwise. There is no table of children: the keys of the elements tell where in the order those of
+/// a slot stand. A gap is found by searches in the order, whose number grows with the logarithm of the number of
+/// elements in the slot's part, and by none where the right origin directly follows the left one, as in all typing.
+/// Nodes that were typed in one go are one entry, and a look-up costs a number of steps that grows with the logarithm
+/// of the number of entries; a letter that is typed on makes none.
 #[derive(Drop)]
 pub struct SidedTree {
     nodes: Nodes,
@@ -83,7 +84,8 @@ impl SidedTree {
         requires left { has_origin self.now left ≡ true }
         requires right { has_origin self.now right ≡ true }
         requires list { F.listed order.now ≡ keyed_order self.now }
-        ensures place { node_order (record { id = id; left = left; right = right } ∷ self.now) ≡ at_gap result id (ids (F.listed order.now)) }
+        ensures place { node_order (record { id = id; left = left; right = right } ∷ self.now)
+            ≡ at_gap result id (ids (F.listed order.now)) }
         ensures beside { IsBeside result (ids (F.listed order.now)) }
         ensures alone { (result ≡ Alone) ↔ (self.now ≡ []) }
         ensures are_nodes { AreNodes self.now }
@@ -96,8 +98,8 @@ impl SidedTree {
         gap_by_keys(nodes, order, &node)
     }
 
-    /// One node more. After want of memory the tree is as before. Of all calls, this one alone takes memory, and none for a node that was typed
-    /// behind the one before it.
+    /// One node more. After want of memory the tree is as before. Of all calls, this one alone takes memory, and none
+    /// for a node that was typed behind the one before it.
     ///
     /// The order is not looked at: where the node stands is told by its key.
     pub fn attach<F: OrderOf>(

@@ -15,9 +15,9 @@ use Rattle.fugue_ids.proofs.ListLemmas.{contains_cases, contains_here, contains_
 use Rattle.fugue_ids.specs.Identifiers.{Identifier, id_cmp}
 use Rattle.fugue_ids.proofs.IdentifierLemmas.{cases_id, id_at-other, id_at-same}
 use Rattle.stretch_map.specs.Ahead.{ahead}
-use Rattle.stretch_map.specs.Contents.{Entry, Layout, all_of, run, spread, value_in}
-use Rattle.stretch_map.specs.Stretches.{AreStretches, Covers, Has, IsReadIn, Keeps, kept_at}
-use Rattle.stretch_map.specs.declared.stretch.Stretch.{Stretch}
+use Rattle.stretch_map.specs.Contents.{Entry, Layout, entries_with, run, spread, value_in}
+use Rattle.stretch_map.specs.Stretches.{AreStretches, Covers, Has, IsReadIn, KeepsEntry, kept_at}
+use Rattle.stretch_map.specs.declared.stretches.Stretch.{Stretch}
 use Rattle.stretch_map.proofs.OrderLemmas.{id_cmp_total}
 
 -- what is found where the first entry is the one that is looked for
@@ -110,11 +110,11 @@ kept_in f s (x ∷ xs) e =
     ]
 
 -- an entry is found by a look-up
-in_kept : {V : Type 0} (es : List (Entry V)) → IsStrictlySortedBy id_cmp (keys_of es) → (e : Entry V) → Contains es e → Keeps es e
+in_kept : {V : Type 0} (es : List (Entry V)) → IsStrictlySortedBy id_cmp (keys_of es) → (e : Entry V) → Contains es e → KeepsEntry es e
 in_kept es ordered e i = lookup-from_Contains (eq_by_cmp_equiv id_cmp_total) e.0 e.1 es (IsDistinct-from_sorted id_cmp (keys_of es) ordered) i
 
 -- one stretch is kept under an identifier
-pub same_kept : {V : Type 0} (es : List (Entry V)) (e f : Entry V) → Keeps es e → Keeps es f → e.0 ≡ f.0 → e.1 ≡ f.1
+pub same_kept : {V : Type 0} (es : List (Entry V)) (e f : Entry V) → KeepsEntry es e → KeepsEntry es f → e.0 ≡ f.0 → e.1 ≡ f.1
 same_kept es e f k l d = let both : Some e.1 ≡ Some f.1 = sym k ∙ ap (kept_at es) d ∙ l in cc
 
 -- one stretch has a first identifier
@@ -133,18 +133,18 @@ same_has {V} reaches l are e f h k d =
           ]
     ]
   where
-    not_both : (x y : Entry V) → l.0 ≡ Some x → Keeps l.1 y → x.0 ≡ y.0 → ⊥
+    not_both : (x y : Entry V) → l.0 ≡ Some x → KeepsEntry l.1 y → x.0 ≡ y.0 → ⊥
     not_both x y a b d =
         let none : kept_at l.1 x.0 ≡ None = subst (λ (o : Option (Entry V)). IfSome o (λ z. kept_at l.1 z.0 ≡ None)) a are.alone in
         let both : None ≡ Some y.1 = sym none ∙ ap (kept_at l.1) d ∙ b in
         cc
 
 -- a member of all stretches is one of them
-has_from_in : {V : Type 0} (o : Option (Entry V)) (es : List (Entry V)) → IsStrictlySortedBy id_cmp (keys_of es) → (e : Entry V) → Contains (all_of o es) e → Has (o, es) e
+has_from_in : {V : Type 0} (o : Option (Entry V)) (es : List (Entry V)) → IsStrictlySortedBy id_cmp (keys_of es) → (e : Entry V) → Contains (entries_with o es) e → Has (o, es) e
 has_from_in None es ordered e i = inr (in_kept es ordered e i)
 has_from_in (Some r) es ordered e i = elim (contains_cases r es e i) [ inl d ↦ inl (ap Some d) | inr k ↦ inr (in_kept es ordered e k) ]
 
-in_from_has : {V : Type 0} (o : Option (Entry V)) (es : List (Entry V)) (e : Entry V) → Has (o, es) e → Contains (all_of o es) e
+in_from_has : {V : Type 0} (o : Option (Entry V)) (es : List (Entry V)) (e : Entry V) → Has (o, es) e → Contains (entries_with o es) e
 in_from_has None es e h = elim h [ inl a ↦ absurd (let no : None ≡ Some e = a in cc) | inr k ↦ kept_in e.0 e.1 es k ]
 in_from_has (Some r) es e h = elim h [ inl a ↦ let same : r ≡ e = cc in subst (Contains (r ∷ es)) same (contains_here r es) | inr k ↦ contains_there r es e (kept_in e.0 e.1 es k) ]
 
@@ -154,7 +154,7 @@ module _ {V : Type 0} (nth : Identifier → V → ℕ → V) (reaches : Identifi
       → ((value_in nth l q ≡ None) × ((e : Entry V) → Has l e → Covers e q → ⊥))
       ⊎ ((e : Entry V) × Has l e × Covers e q × (value_in nth l q ≡ Some (nth e.0 e.1.value (q.counter - e.0.counter))))
   found q =
-      elim (found_in nth q (all_of l.0 l.1)) [
+      elim (found_in nth q (entries_with l.0 l.1)) [
         | inl w ↦ inl (w.0, λ e k c. w.1 e (in_from_has l.0 l.1 e k) c)
         | inr w ↦ inr (w.0, has_from_in l.0 l.1 are.ordered w.0 w.1, w.2, w.3)
       ]

@@ -13,8 +13,8 @@ use Rattle.std.proofs.lemmas.Bool.Decides.{nat_tests}
 use Rattle.fugue_ids.specs.Identifiers.{Identifier, id_cmp}
 use Rattle.stretch_map.specs.Contents.{Entry, Layout, value_in}
 use Rattle.stretch_map.specs.Rules.{IsGreatestIn, greater_of}
-use Rattle.stretch_map.specs.Stretches.{AreStretches, Has, IsGreatestOf, IsLastOf, Keeps}
-use Rattle.stretch_map.specs.declared.stretch.Stretch.{Stretch}
+use Rattle.stretch_map.specs.Stretches.{AreStretches, Has, IsGreatestOf, IsLastOf, KeepsEntry}
+use Rattle.stretch_map.specs.declared.stretches.Stretch.{Stretch}
 use Rattle.stretch_map.proofs.FoundLemmas.{cases_le, covered, found, same_kept}
 
 -- the identifier of the replica with a counter
@@ -48,7 +48,7 @@ module _ {V : Type 0} {A : Type 0} (entry : A → Entry V) (r : ℕ) (m : BTreeM
 
   -- the last of a part that has all stretches of the replica is its last one, or it has none
   abbrev IsLastIn : Option (Entry V) → Type 0
-  IsLastIn o = IfNone o ((e : Entry V) → Keeps m.entries e → e.0.replica ≡ r → ⊥) × IfSome o (IsLastOf (Keeps m.entries) r)
+  IsLastIn o = IfNone o ((e : Entry V) → KeepsEntry m.entries e → e.0.replica ≡ r → ⊥) × IfSome o (IsLastOf (KeepsEntry m.entries) r)
 
   last_in : (lo hi : Bound Identifier) (last : Option A) → IsRangeOf id_cmp lo hi m es → IsLast last → ((n : ℕ) → IsInRange id_cmp lo hi (id_at r n))
       → IfSome last (λ a. IsInRange id_cmp lo hi (entry a).0 → (entry a).0.replica ≡ r) → IsLastIn (option_map entry last)
@@ -56,7 +56,7 @@ module _ {V : Type 0} {A : Type 0} (entry : A → Entry V) (r : ℕ) (m : BTreeM
     (λ e kept mine.
         let here : e.0 ≡ id_at r e.0.counter = λ i. record { replica = mine i; counter = e.0.counter } in
         let none = part.5 steps.0 (id_at r e.0.counter) (inside e.0.counter) in
-        let there : Keeps m.entries (id_at r e.0.counter, e.1) = subst (λ (x : Identifier). Keeps m.entries (x, e.1)) here kept in
+        let there : KeepsEntry m.entries (id_at r e.0.counter, e.1) = subst (λ (x : Identifier). KeepsEntry m.entries (x, e.1)) here kept in
         let both : None ≡ Some e.1 = sym none ∙ there in
         cc),
     tt,
@@ -70,7 +70,7 @@ module _ {V : Type 0} {A : Type 0} (entry : A → Entry V) (r : ℕ) (m : BTreeM
           own = mine;
           last = λ f kept same.
               let at : f.0 ≡ id_at r f.0.counter = λ i. record { replica = same i; counter = f.0.counter } in
-              let there : Keeps m.entries (id_at r f.0.counter, f.1) = subst (λ (x : Identifier). Keeps m.entries (x, f.1)) at kept in
+              let there : KeepsEntry m.entries (id_at r f.0.counter, f.1) = subst (λ (x : Identifier). KeepsEntry m.entries (x, f.1)) at kept in
               counter_le (entry a).0.replica r (entry a).0.counter f.0.counter mine (part.4 (entry a) rest steps (id_at r f.0.counter) (inside f.0.counter) (ap is_some there));
         },
       )
@@ -95,7 +95,7 @@ module _ {V : Type 0} {A : Type 0} (entry : A → Entry V) (r : ℕ) (m : BTreeM
 
 module _ {V : Type 0} (nth : Identifier → V → ℕ → V) (reaches : Identifier → V → ℕ → Type 0) (l : Layout V) (are : AreStretches reaches l) (r : ℕ) where
   -- the last kept stretch of the replica has the greatest counter of them
-  pub greatest_by_last : (e : Entry V) → IsLastOf (Keeps l.1) r e → IsGreatestOf (Keeps l.1) r (Some e.1.last)
+  pub greatest_by_last : (e : Entry V) → IsLastOf (KeepsEntry l.1) r e → IsGreatestOf (KeepsEntry l.1) r (Some e.1.last)
   greatest_by_last e is =
       record {
         none = tt;
@@ -139,7 +139,7 @@ module _ {V : Type 0} (nth : Identifier → V → ℕ → V) (reaches : Identifi
       }
 
   -- that of the stretch at hand and of the kept ones, the greater
-  pub greatest_both : (n m : ℕ) → IsGreatestOf (λ e. l.0 ≡ Some e) r (Some n) → IsGreatestOf (Keeps l.1) r (Some m) → IsGreatestIn (value_in nth l) r (Some (max n m))
+  pub greatest_both : (n m : ℕ) → IsGreatestOf (λ e. l.0 ≡ Some e) r (Some n) → IsGreatestOf (KeepsEntry l.1) r (Some m) → IsGreatestIn (value_in nth l) r (Some (max n m))
   greatest_both n m a b =
       in_all (Some (max n m)) (record {
         none = tt;
@@ -158,14 +158,14 @@ module _ {V : Type 0} (nth : Identifier → V → ℕ → V) (reaches : Identifi
       max_one : (n m : ℕ) → (max n m ≡ n) ⊎ (max n m ≡ m)
       max_one n m = grind arith
 
-  pub greatest_first : (n : ℕ) → IsGreatestOf (λ e. l.0 ≡ Some e) r (Some n) → IsGreatestOf (Keeps l.1) r None → IsGreatestIn (value_in nth l) r (Some n)
+  pub greatest_first : (n : ℕ) → IsGreatestOf (λ e. l.0 ≡ Some e) r (Some n) → IsGreatestOf (KeepsEntry l.1) r None → IsGreatestIn (value_in nth l) r (Some n)
   greatest_first n a b =
       in_all (Some n) (record {
         none = tt;
         some = ((a.some.0.0, inl a.some.0.1, a.some.0.2, a.some.0.3), λ f h mine. elim h [ inl x ↦ a.some.1 f x mine | inr x ↦ absurd (b.none f x mine) ]);
       })
 
-  pub greatest_other : (o : Option ℕ) → IsGreatestOf (λ e. l.0 ≡ Some e) r None → IsGreatestOf (Keeps l.1) r o → IsGreatestIn (value_in nth l) r o
+  pub greatest_other : (o : Option ℕ) → IsGreatestOf (λ e. l.0 ≡ Some e) r None → IsGreatestOf (KeepsEntry l.1) r o → IsGreatestIn (value_in nth l) r o
   greatest_other None a b = in_all None (record { none = λ e h mine. elim h [ inl x ↦ a.none e x mine | inr x ↦ b.none e x mine ]; some = tt })
   greatest_other (Some m) a b =
       in_all (Some m) (record {
@@ -174,14 +174,14 @@ module _ {V : Type 0} (nth : Identifier → V → ℕ → V) (reaches : Identifi
       })
 
   -- the greater of both
-  pub greatest_all : (a b : Option ℕ) → IsGreatestOf (λ e. l.0 ≡ Some e) r a → IsGreatestOf (Keeps l.1) r b → IsGreatestIn (value_in nth l) r (greater_of a b)
+  pub greatest_all : (a b : Option ℕ) → IsGreatestOf (λ e. l.0 ≡ Some e) r a → IsGreatestOf (KeepsEntry l.1) r b → IsGreatestIn (value_in nth l) r (greater_of a b)
   greatest_all None b x y = greatest_other b x y
   greatest_all (Some n) None x y = greatest_first n x y
   greatest_all (Some n) (Some m) x y = greatest_both n m x y
 
   -- the last kept stretch of the replica, if there is one
-  pub greatest_by : (o : Option (Entry V)) → IfNone o ((e : Entry V) → Keeps l.1 e → e.0.replica ≡ r → ⊥) → IfSome o (IsLastOf (Keeps l.1) r)
-      → IsGreatestOf (Keeps l.1) r (option_map (λ (e : Entry V). e.1.last) o)
+  pub greatest_by : (o : Option (Entry V)) → IfNone o ((e : Entry V) → KeepsEntry l.1 e → e.0.replica ≡ r → ⊥) → IfSome o (IsLastOf (KeepsEntry l.1) r)
+      → IsGreatestOf (KeepsEntry l.1) r (option_map (λ (e : Entry V). e.1.last) o)
   greatest_by None none some = record { none = none; some = tt }
   greatest_by (Some e) none some = greatest_by_last e some
 

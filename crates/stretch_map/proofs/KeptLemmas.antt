@@ -7,8 +7,8 @@ use Rattle.std.specs.Map.{keys_of}
 use Rattle.fugue_ids.specs.Identifiers.{Identifier, id_cmp}
 use Rattle.fugue_ids.proofs.IdentifierLemmas.{cases_id, id_at-other}
 use Rattle.stretch_map.specs.Contents.{Entry, Layout, value_in}
-use Rattle.stretch_map.specs.Stretches.{AreStretches, Has, IsSame, Keeps, kept_at}
-use Rattle.stretch_map.specs.declared.stretch.Stretch.{Stretch}
+use Rattle.stretch_map.specs.Stretches.{AreStretches, Has, IsSame, KeepsEntry, kept_at}
+use Rattle.stretch_map.specs.declared.stretches.Stretch.{Stretch}
 use Rattle.stretch_map.proofs.FoundLemmas.{not_covered}
 use Rattle.stretch_map.proofs.SetLemmas.{Sets, value_stays}
 
@@ -34,7 +34,7 @@ module _ {V : Type 0} (nth : Identifier → V → ℕ → V) (reaches : Identifi
   not_kept e a = subst (λ (o : Option (Entry V)). IfSome o (λ z. kept_at l.1 z.0 ≡ None)) a are.alone
 
   -- a kept one begins elsewhere
-  pub begins_elsewhere : (e x : Entry V) → l.0 ≡ Some e → Keeps l.1 x → x.0 ≢ e.0
+  pub begins_elsewhere : (e x : Entry V) → l.0 ≡ Some e → KeepsEntry l.1 x → x.0 ≢ e.0
   begins_elsewhere e x a h d = let both : None ≡ Some x.1 = sym (not_kept e a) ∙ ap (kept_at l.1) (sym d) ∙ h in cc
 
   -- the stretch at hand goes among the kept ones
@@ -55,7 +55,7 @@ module _ {V : Type 0} (nth : Identifier → V → ℕ → V) (reaches : Identifi
       ])
       (λ x h.
       elim h [
-        | inl a ↦ let same : e ≡ x = let both : Some e ≡ Some x = sym old ∙ a in cc in inr (subst (λ (z : Entry V). Keeps k.1 z) same here)
+        | inl a ↦ let same : e ≡ x = let both : Some e ≡ Some x = sym old ∙ a in cc in inr (subst (λ (z : Entry V). KeepsEntry k.1 z) same here)
         | inr a ↦ inr (others x.0 (begins_elsewhere e x old a) ∙ a)
       ])
       (subst (λ (o : Option (Entry V)). IfSome o (λ z. kept_at k.1 z.0 ≡ None)) (sym none) tt) ordered
@@ -68,19 +68,19 @@ module _ {V : Type 0} (nth : Identifier → V → ℕ → V) (reaches : Identifi
         cases = λ x h.
             elim h [
               | inl a ↦ inl (let both : Some f ≡ Some x = sym new ∙ a in let same : f ≡ x = cc in sym same)
-              | inr a ↦ let b : Keeps l.1 x = subst (λ es. Keeps es x) rest a in inr (λ d. begins_elsewhere e x old b (d ∙ sym first), inr b)
+              | inr a ↦ let b : KeepsEntry l.1 x = subst (λ es. KeepsEntry es x) rest a in inr (λ d. begins_elsewhere e x old b (d ∙ sym first), inr b)
             ];
         stays = λ x d h.
             elim h [
               | inl a ↦ let same : e ≡ x = let both : Some e ≡ Some x = sym old ∙ a in cc in absurd (d (ap (λ (z : Entry V). z.0) (sym same) ∙ first))
-              | inr a ↦ inr (subst (λ es. Keeps es x) (sym rest) a)
+              | inr a ↦ inr (subst (λ es. KeepsEntry es x) (sym rest) a)
             ];
         alone = subst (λ (o : Option (Entry V)). IfSome o (λ z. kept_at k.1 z.0 ≡ None)) (sym new) (ap (λ es. kept_at es f.0) rest ∙ ap (kept_at l.1) (sym first) ∙ not_kept e old);
         ordered = subst (λ (es : List (Entry V)). IsStrictlySortedBy id_cmp (keys_of es)) (sym rest) are.ordered;
       }
 
   -- a kept stretch grows
-  pub sets_kept : (e f : Entry V) → e.0 ≡ f.0 → Keeps l.1 e → k.0 ≡ l.0 → (m n : BTreeMap Identifier (Stretch V)) → m.entries ≡ l.1 → n.entries ≡ k.1
+  pub sets_kept : (e f : Entry V) → e.0 ≡ f.0 → KeepsEntry l.1 e → k.0 ≡ l.0 → (m n : BTreeMap Identifier (Stretch V)) → m.entries ≡ l.1 → n.entries ≡ k.1
       → UpdatesBy id_cmp (id_cmp e.0) m n (Some f.1) → IsOrdered id_cmp n → Sets l k f
   sets_kept e f first old recent m n me ne u ordered =
       let here : kept_at k.1 f.0 ≡ Some f.1 = ap (kept_at k.1) (sym first) ∙ ap (λ es. kept_at es e.0) (sym ne) ∙ u.1 in
@@ -127,12 +127,12 @@ module _ {V : Type 0} (nth : Identifier → V → ℕ → V) (reaches : Identifi
         cases = λ x h.
             elim h [
               | inl a ↦ inl (let both : Some f ≡ Some x = sym new ∙ a in let same : f ≡ x = cc in sym same)
-              | inr a ↦ let b : Keeps l.1 x = subst (λ es. Keeps es x) rest a in inr (λ d. (let both : None ≡ Some x.1 = sym none ∙ ap (kept_at l.1) (sym d) ∙ b in cc), inr b)
+              | inr a ↦ let b : KeepsEntry l.1 x = subst (λ es. KeepsEntry es x) rest a in inr (λ d. (let both : None ≡ Some x.1 = sym none ∙ ap (kept_at l.1) (sym d) ∙ b in cc), inr b)
             ];
         stays = λ x d h.
             elim h [
               | inl a ↦ let no : None ≡ Some x = sym old ∙ a in cc
-              | inr a ↦ inr (subst (λ es. Keeps es x) (sym rest) a)
+              | inr a ↦ inr (subst (λ es. KeepsEntry es x) (sym rest) a)
             ];
         alone = subst (λ (o : Option (Entry V)). IfSome o (λ z. kept_at k.1 z.0 ≡ None)) (sym new) (ap (λ es. kept_at es f.0) rest ∙ none);
         ordered = subst (λ (es : List (Entry V)). IsStrictlySortedBy id_cmp (keys_of es)) (sym rest) are.ordered;

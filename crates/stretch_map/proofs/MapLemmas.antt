@@ -8,7 +8,7 @@ use Rattle.std.specs.Map.{keys_of, lookup}
 use Rattle.std.specs.Ordering.{is_eq}
 use Rattle.fugue_ids.specs.Identifiers.{Identifier, id_cmp}
 use Rattle.stretch_map.specs.Ahead.{ahead}
-use Rattle.stretch_map.specs.Contents.{Entry, Layout, all_of, contents, spread, value_in}
+use Rattle.stretch_map.specs.Contents.{Entry, Layout, entries_with, contents, spread, value_in}
 use Rattle.stretch_map.specs.Rules.{IsFollowed}
 use Rattle.stretch_map.specs.Stretches.{Adds, AreStretches, EndsAt, Has, IsSame, Loses}
 use Rattle.stretch_map.proofs.FoundLemmas.{cases_le, covered}
@@ -17,11 +17,11 @@ use Rattle.stretch_map.proofs.OrderLemmas.{id_cmp-IsAntisymmetric, id_cmp_total}
 module _ {V : Type 0} (nth : Identifier → V → ℕ → V) where
   -- a value of the finite map is the one that is found in the entries
   pub get-contents : (l : Layout V) (q : Identifier) → get (contents nth l) q ≡ value_in nth l q
-  get-contents l q = get-from_entries id_cmp_total (spread nth (all_of l.0 l.1)) q
+  get-contents l q = get-from_entries id_cmp_total (spread nth (entries_with l.0 l.1)) q
 
   -- no stretches stand for the empty map
   pub contents-none : (l : Layout V) → l.0 ≡ None → l.1 ≡ [] → contents nth l ≡ empty
-  contents-none l none gone = λ i. from_entries {R = id_cmp} (spread nth (all_of (none i) (gone i)))
+  contents-none l none gone = λ i. from_entries {R = id_cmp} (spread nth (entries_with (none i) (gone i)))
 
   -- equal values make equal maps
   pub contents-same : (l k : Layout V) → ((q : Identifier) → value_in nth k q ≡ value_in nth l q) → contents nth k ≡ contents nth l

@@ -7,8 +7,8 @@ use Rattle.fugue_ids.specs.Identifiers.{Identifier, id_cmp}
 use Rattle.stretch_map.specs.Ahead.{ahead}
 use Rattle.stretch_map.specs.Contents.{Entry, Layout, value_in}
 use Rattle.stretch_map.specs.Rules.{IsNext}
-use Rattle.stretch_map.specs.Stretches.{Adds, AreStretches, GoesOn, Grows, Has, IsFloor, IsSame, Keeps, up_to}
-use Rattle.stretch_map.specs.declared.stretch.Stretch.{Stretch}
+use Rattle.stretch_map.specs.Stretches.{Adds, AreStretches, GoesOn, Grows, Has, IsFloor, IsSame, KeepsEntry, up_to}
+use Rattle.stretch_map.specs.declared.stretches.Stretch.{Stretch}
 use Rattle.stretch_map.proofs.FoundLemmas.{cases_le, found, not_covered}
 use Rattle.stretch_map.proofs.GrownLemmas.{added, joined}
 use Rattle.stretch_map.proofs.KeptLemmas.{sets_first, sets_kept, sets_recent}
@@ -25,7 +25,7 @@ module _ {V : Type 0} (nth : Identifier → V → ℕ → V) (reaches : Identifi
   -- a kept stretch goes on
   pub kept_grew : (m n : BTreeMap Identifier (Stretch V)) → m.entries ≡ l.1 → Grows nth reaches m n key value → Adds nth reaches l (l.0, n.entries) key value
   kept_grew m n is grows =
-      let old : Keeps l.1 grows.stretch = subst (λ es. Keeps es grows.stretch) is grows.kept in
+      let old : KeepsEntry l.1 grows.stretch = subst (λ es. KeepsEntry es grows.stretch) is grows.kept in
       joined nth reaches l (l.0, n.entries) are key value fresh grows.stretch (inr old) grows.goes_on
       (sets_kept nth reaches l (l.0, n.entries) are grows.stretch (up_to grows.stretch key.counter) refl old refl m n is refl grows.updates grows.ordered)
 
@@ -74,7 +74,7 @@ module _ {V : Type 0} (nth : Identifier → V → ℕ → V) (reaches : Identifi
       ]
 
   -- a kept stretch that goes on with the key is the floor of the key
-  floor_goes : (e : Entry V) → Keeps l.1 e → GoesOn nth reaches e key value → IsFloor l.1 key e
+  floor_goes : (e : Entry V) → KeepsEntry l.1 e → GoesOn nth reaches e key value → IsFloor l.1 key e
   floor_goes e kept goes =
       let begun : e.0.counter ≤ e.1.last = are.begun e (inr kept) in
       let next : e.1.last + 1 ≡ key.counter = goes.next in
@@ -109,6 +109,6 @@ module _ {V : Type 0} (nth : Identifier → V → ℕ → V) (reaches : Identifi
 
 -- the map as the longer stretch is written
 pub map_grew : {V : Type 0} (nth : Identifier → V → ℕ → V) (reaches : Identifier → V → ℕ → Type 0) (m n : BTreeMap Identifier (Stretch V)) (key : Identifier) (value : V) (e : Entry V)
-    → Keeps m.entries e → GoesOn nth reaches e key value → (s : Stretch V) → s ≡ (up_to e key.counter).1 → UpdatesBy id_cmp (id_cmp e.0) m n (Some s) → IsOrdered id_cmp n → Grows nth reaches m n key value
+    → KeepsEntry m.entries e → GoesOn nth reaches e key value → (s : Stretch V) → s ≡ (up_to e key.counter).1 → UpdatesBy id_cmp (id_cmp e.0) m n (Some s) → IsOrdered id_cmp n → Grows nth reaches m n key value
 map_grew nth reaches m n key value e kept goes s is u ordered =
     record { stretch = e; kept = kept; goes_on = goes; updates = subst (λ t. UpdatesBy id_cmp (id_cmp e.0) m n (Some t)) is u; ordered = ordered }

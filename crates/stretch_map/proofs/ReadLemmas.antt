@@ -4,7 +4,7 @@ use Rattle.std.specs.Prelude.{IfNone, IfSome, None, Option, Some}
 use Rattle.fugue_ids.specs.Identifiers.{Identifier}
 use Rattle.stretch_map.specs.Contents.{Entry, Layout, value_in}
 use Rattle.stretch_map.specs.Order.{IsAtMost}
-use Rattle.stretch_map.specs.Stretches.{AreStretches, Covers, IsFloor, IsReadIn, Keeps, NoneUpTo}
+use Rattle.stretch_map.specs.Stretches.{AreStretches, Covers, IsFloor, IsReadIn, KeepsEntry, NoneUpTo}
 use Rattle.stretch_map.proofs.FoundLemmas.{cases_le, read, same_kept}
 
 -- what a stretch has at the key
@@ -24,7 +24,7 @@ read_recent nth o key e is (Some a) v = record { none = tt; some = (e, is, v.1.0
 
 -- only the floor of a key may have it
 pub floor_covers : {V : Type 0} (reaches : Identifier → V → ℕ → Type 0) (l : Layout V) → AreStretches reaches l → (key : Identifier) (e : Entry V) → IsFloor l.1 key e → (f : Entry V)
-    → Keeps l.1 f → Covers f key → Covers e key
+    → KeepsEntry l.1 f → Covers f key → Covers e key
 floor_covers {V} reaches l are key e floor f k c =
     let r : f.0.replica ≡ key.replica = c.replica in
     let a : f.0.counter ≤ key.counter = c.from in
@@ -48,12 +48,12 @@ floor_covers {V} reaches l are key e floor f k c =
     ]
 
 -- where none begins at the key or before, none has it
-pub none_kept : {V : Type 0} (nth : Identifier → V → ℕ → V) (es : List (Entry V)) (key : Identifier) → NoneUpTo es key → IsReadIn nth (Keeps es) key None
+pub none_kept : {V : Type 0} (nth : Identifier → V → ℕ → V) (es : List (Entry V)) (key : Identifier) → NoneUpTo es key → IsReadIn nth (KeepsEntry es) key None
 none_kept nth es key none = record { none = λ e k c. none e k (inr (c.replica, c.from)); some = tt }
 
 -- what the floor has
 pub read_kept : {V : Type 0} (nth : Identifier → V → ℕ → V) (reaches : Identifier → V → ℕ → Type 0) (l : Layout V) → AreStretches reaches l → (key : Identifier) (e : Entry V) → IsFloor l.1 key e
-    → (r : Option V) → IsValueIn nth e key r → IsReadIn nth (Keeps l.1) key r
+    → (r : Option V) → IsValueIn nth e key r → IsReadIn nth (KeepsEntry l.1) key r
 read_kept nth reaches l are key e floor None v = record { none = λ f k c. v.0 (floor_covers reaches l are key e floor f k c); some = tt }
 read_kept nth reaches l are key e floor (Some a) v = record { none = tt; some = (e, floor.kept, v.1.0, v.1.1) }
 
@@ -64,7 +64,7 @@ value_recent nth reaches l are key v is = read nth reaches l are key (Some v) (r
 
 -- and else that of a kept one
 pub value_kept : {V : Type 0} (nth : Identifier → V → ℕ → V) (reaches : Identifier → V → ℕ → Type 0) (l : Layout V) → AreStretches reaches l → (key : Identifier) (r : Option V)
-    → IsReadIn nth (λ e. l.0 ≡ Some e) key None → IsReadIn nth (Keeps l.1) key r → r ≡ value_in nth l key
+    → IsReadIn nth (λ e. l.0 ≡ Some e) key None → IsReadIn nth (KeepsEntry l.1) key r → r ≡ value_in nth l key
 value_kept nth reaches l are key None none is =
     read nth reaches l are key None (record { none = λ e h c. elim h [ inl a ↦ none.none e a c | inr a ↦ is.none e a c ]; some = tt })
 value_kept nth reaches l are key (Some v) none is = read nth reaches l are key (Some v) (record { none = tt; some = (is.some.0, inr is.some.1, is.some.2, is.some.3) })

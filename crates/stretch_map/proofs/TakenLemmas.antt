@@ -7,8 +7,8 @@ use Rattle.fugue_ids.specs.Identifiers.{Identifier, id_cmp}
 use Rattle.fugue_ids.proofs.IdentifierLemmas.{cases_id, id_at-other}
 use Rattle.stretch_map.specs.Ahead.{ahead}
 use Rattle.stretch_map.specs.Contents.{Entry, Layout}
-use Rattle.stretch_map.specs.Stretches.{AreStretches, Covers, IsCut, IsFloor, IsParted, IsReadIn, IsSame, IsShorter, IsTakenFrom, Keeps, Loses, kept_at, rest_behind, up_to}
-use Rattle.stretch_map.specs.declared.stretch.Stretch.{Stretch}
+use Rattle.stretch_map.specs.Stretches.{AreStretches, Covers, IsCut, IsFloor, IsParted, IsReadIn, IsSame, IsShorter, IsTakenFrom, KeepsEntry, Loses, kept_at, rest_behind, up_to}
+use Rattle.stretch_map.specs.declared.stretches.Stretch.{Stretch}
 use Rattle.stretch_map.proofs.FoundLemmas.{one_covers, same_kept}
 use Rattle.stretch_map.proofs.KeptLemmas.{begins_elsewhere, not_kept, sets_kept, sets_recent}
 use Rattle.stretch_map.proofs.LessenedLemmas.{Splits, dropped, loses_none, shortened}
@@ -51,7 +51,7 @@ module _ {V : Type 0} (nth : Identifier → V → ℕ → V) (reaches : Identifi
       (sets_recent nth reaches l (Some (up_to e (e.1.last - 1)), l.1) are e (up_to e (e.1.last - 1)) refl old refl refl))
 
   -- a kept stretch is without its last identifier
-  pub shorter_kept : (e : Entry V) → Keeps l.1 e → Covers e key → e.1.last ≡ key.counter → (m n : BTreeMap Identifier (Stretch V)) → m.entries ≡ l.1 → IsTakenFrom m n e
+  pub shorter_kept : (e : Entry V) → KeepsEntry l.1 e → Covers e key → e.1.last ≡ key.counter → (m n : BTreeMap Identifier (Stretch V)) → m.entries ≡ l.1 → IsTakenFrom m n e
       → Loses nth reaches l (l.0, n.entries) key
   shorter_kept e old cover ends m n is taken = by_rest taken.left taken.shorter taken.updates
     where
@@ -83,7 +83,7 @@ module _ {V : Type 0} (nth : Identifier → V → ℕ → V) (reaches : Identifi
           (subst (λ (z : Entry V). UpdatesBy id_cmp (id_cmp e.0) m n (Some z.1)) short.1.1 u) taken.ordered)
 
   -- a stretch that ends with the key already
-  pub parted_there : (e : Entry V) → Keeps l.1 e → Covers e key → e.1.last ≤ key.counter → IsParted nth reaches l l e key
+  pub parted_there : (e : Entry V) → KeepsEntry l.1 e → Covers e key → e.1.last ≤ key.counter → IsParted nth reaches l l e key
   parted_there e kept cover low =
       let to : key.counter ≤ e.1.last = cover.to in
       let same : e.1.last ≡ key.counter = omega arith in
@@ -92,7 +92,7 @@ module _ {V : Type 0} (nth : Identifier → V → ℕ → V) (reaches : Identifi
   -- a kept stretch cut in two
   pub parted_kept : ((first : Identifier) (value : V) (j k : ℕ) → nth (ahead first j) (nth first value j) k ≡ nth first value (j + k))
       → ((first : Identifier) (value : V) (j k : ℕ) → reaches first value (j + k) → reaches (ahead first j) (nth first value j) k)
-      → (e : Entry V) → Keeps l.1 e → Covers e key → key.counter < e.1.last → (m n : BTreeMap Identifier (Stretch V)) → m.entries ≡ l.1 → IsCut nth m n e key
+      → (e : Entry V) → KeepsEntry l.1 e → Covers e key → key.counter < e.1.last → (m n : BTreeMap Identifier (Stretch V)) → m.entries ≡ l.1 → IsCut nth m n e key
       → IsParted nth reaches l (l.0, n.entries) e key
   parted_kept adds goes_on e old cover inside m n is cut =
       record {
@@ -126,7 +126,7 @@ module _ {V : Type 0} (nth : Identifier → V → ℕ → V) (reaches : Identifi
       splits : Splits l (l.0, n.entries) (up_to e (e.0.counter + (key.counter - e.0.counter + 1) - 1)) (rest_behind nth e (key.counter - e.0.counter + 1))
       splits =
           record {
-            head = inr (subst (λ (z : Entry V). Keeps n.entries z) same_head cut.head);
+            head = inr (subst (λ (z : Entry V). KeepsEntry n.entries z) same_head cut.head);
             tail = inr cut.tail;
             cases = λ x h. elim h [
               | inl a ↦ inr (inr ((λ d. begins_elsewhere nth reaches l l are x e a old (sym d)), not_rest x a, inl a))
@@ -152,12 +152,12 @@ module _ {V : Type 0} (nth : Identifier → V → ℕ → V) (reaches : Identifi
   loses_same k t same lost = record { are = lost.are; found = λ q. lost.found q ∙ ap (cond (is_eq (id_cmp q key)) None) (same.found q) }
 
   -- where no stretch has the key, nothing is lost
-  pub none_to_lose : ((e : Entry V) → l.0 ≡ Some e → Covers e key → ⊥) → IsReadIn nth (Keeps l.1) key None → Loses nth reaches l l key
+  pub none_to_lose : ((e : Entry V) → l.0 ≡ Some e → Covers e key → ⊥) → IsReadIn nth (KeepsEntry l.1) key None → Loses nth reaches l l key
   none_to_lose apart none =
       loses_none nth reaches l l are key (sym (value_kept nth reaches l are key None (record { none = apart; some = tt }) none))
 
   -- nor where the floor does not have it
-  pub none_by_floor : (e : Entry V) → IsFloor l.1 key e → (Covers e key → ⊥) → IsReadIn nth (Keeps l.1) key None
+  pub none_by_floor : (e : Entry V) → IsFloor l.1 key e → (Covers e key → ⊥) → IsReadIn nth (KeepsEntry l.1) key None
   none_by_floor e floor not = record { none = λ f h c. not (floor_covers reaches l are key e floor f h c); some = tt }
 
 -- a kept stretch cut in two, and then its last value taken

@@ -5,7 +5,7 @@ use Rattle.std.specs.FinMap.{FinMap, code, find, from_entries}
 use Rattle.std.proofs.Common.{refl}
 use Rattle.fugue_ids.specs.Identifiers.{Identifier, id_cmp}
 use Rattle.stretch_map.specs.Ahead.{ahead}
-use Rattle.stretch_map.specs.declared.stretch.Stretch.{Stretch}
+use Rattle.stretch_map.specs.declared.stretches.Stretch.{Stretch}
 use Rattle.stretch_map.specs.declared.stretches.Stretches.{Stretches}
 
 -- the values of identifiers, and the identifier that came last, if none was removed since
@@ -45,18 +45,18 @@ abbrev pub layout : {V : Type 0} → Stretches V → Layout V
 layout s = (s.recent, s.kept.entries)
 
 -- all stretches
-abbrev pub all_of : {V : Type 0} → Option (Entry V) → List (Entry V) → List (Entry V)
-all_of None es = es
-all_of (Some e) es = e ∷ es
+abbrev pub entries_with : {V : Type 0} → Option (Entry V) → List (Entry V) → List (Entry V)
+entries_with None es = es
+entries_with (Some e) es = e ∷ es
 
 -- the value that stretches have at an identifier
 abbrev pub value_in : {V : Type 0} → (Identifier → V → ℕ → V) → Layout V → Identifier → Option V
-value_in nth l q = find id_cmp q (spread nth (all_of l.0 l.1))
+value_in nth l q = find id_cmp q (spread nth (entries_with l.0 l.1))
 
 -- and those of a map
-abbrev pub value_of : {V : Type 0} → (Identifier → V → ℕ → V) → Stretches V → Identifier → Option V
-value_of nth s = value_in nth (layout s)
+abbrev pub value_at_id : {V : Type 0} → (Identifier → V → ℕ → V) → Stretches V → Identifier → Option V
+value_at_id nth s = value_in nth (layout s)
 
 -- what stretches stand for
 abbrev pub contents : {V : Type 0} → (Identifier → V → ℕ → V) → Layout V → FinMap id_cmp V
-contents nth l = from_entries (spread nth (all_of l.0 l.1))
+contents nth l = from_entries (spread nth (entries_with l.0 l.1))

@@ -4,8 +4,8 @@ use Rattle.std.proofs.Common.{ap, arith, sym, ◌∙◌}
 use Rattle.fugue_ids.specs.Identifiers.{Identifier}
 use Rattle.stretch_map.specs.Ahead.{ahead}
 use Rattle.stretch_map.specs.Rules.{CanBeLater, later, typed_behind}
-use Rattle.stretch_map.specs.declared.position.Position.{Position}
-use Rattle.stretch_map.specs.declared.typed.Typed.{Typed}
+use Rattle.stretch_map.specs.declared.follows.Position.{Position}
+use Rattle.stretch_map.specs.declared.follows.Typed.{Typed}
 
 -- a position is there without a step
 pub at_once : (p : Position) → CanBeLater p 0

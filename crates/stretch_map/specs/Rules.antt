@@ -2,8 +2,8 @@
 use Rattle.std.specs.Prelude.{◌≡◌, ℕ, zero, suc, ◌+◌, ◌<◌, ◌≤◌, ◌^◌, IfSome, IsNone, IsSome, None, Option, Some, max}
 use Rattle.fugue_ids.specs.Identifiers.{Identifier}
 use Rattle.stretch_map.specs.Ahead.{ahead}
-use Rattle.stretch_map.specs.declared.position.Position.{Position}
-use Rattle.stretch_map.specs.declared.typed.Typed.{Typed}
+use Rattle.stretch_map.specs.declared.follows.Position.{Position}
+use Rattle.stretch_map.specs.declared.follows.Typed.{Typed}
 
 -- the position so many steps behind
 abbrev pub later : Position → ℕ → Position

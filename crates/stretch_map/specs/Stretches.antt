@@ -8,19 +8,19 @@ use Rattle.fugue_ids.specs.Identifiers.{Identifier, id_cmp}
 use Rattle.stretch_map.specs.Ahead.{ahead}
 use Rattle.stretch_map.specs.Contents.{Entry, Layout, value_in}
 use Rattle.stretch_map.specs.Order.{IsAtMost}
-use Rattle.stretch_map.specs.declared.stretch.Stretch.{Stretch}
+use Rattle.stretch_map.specs.declared.stretches.Stretch.{Stretch}
 
 -- the stretch that is kept under an identifier
 abbrev pub kept_at : {V : Type 0} → List (Entry V) → Identifier → Option (Stretch V)
 kept_at es q = lookup (is_at (id_cmp q)) es
 
 -- the stretch is kept
-abbrev pub Keeps : {V : Type 0} → List (Entry V) → Entry V → Type 0
-Keeps es e = kept_at es e.0 ≡ Some e.1
+abbrev pub KeepsEntry : {V : Type 0} → List (Entry V) → Entry V → Type 0
+KeepsEntry es e = kept_at es e.0 ≡ Some e.1
 
 -- the stretch is kept, or is the one at hand
 abbrev pub Has : {V : Type 0} → Layout V → Entry V → Type 0
-Has l e = (l.0 ≡ Some e) ⊎ Keeps l.1 e
+Has l e = (l.0 ≡ Some e) ⊎ KeepsEntry l.1 e
 
 -- q is one of the identifiers of a stretch
 pub record Covers {V : Type 0} (e : Entry V) (q : Identifier) : Type 0 where
@@ -51,13 +51,13 @@ pub record IsReadIn {V : Type 0} (nth : Identifier → V → ℕ → V) (P : Ent
 
 -- no stretch begins at the key or before
 abbrev pub NoneUpTo : {V : Type 0} → List (Entry V) → Identifier → Type 0
-NoneUpTo {V} es key = (e : Entry V) → Keeps es e → IsAtMost e.0 key → ⊥
+NoneUpTo {V} es key = (e : Entry V) → KeepsEntry es e → IsAtMost e.0 key → ⊥
 
 -- the last stretch that begins at the key or before
 pub record IsFloor {V : Type 0} (es : List (Entry V)) (key : Identifier) (e : Entry V) : Type 0 where
-  pub kept : Keeps es e
+  pub kept : KeepsEntry es e
   pub up_to : IsAtMost e.0 key
-  pub last : (f : Entry V) → Keeps es f → IsAtMost f.0 key → IsAtMost f.0 e.0
+  pub last : (f : Entry V) → KeepsEntry es f → IsAtMost f.0 key → IsAtMost f.0 e.0
 
 -- the stretch ends right before the key, and the rule leads from it to the value
 pub record GoesOn {V : Type 0} (nth : Identifier → V → ℕ → V) (reaches : Identifier → V → ℕ → Type 0) (e : Entry V) (key : Identifier) (value : V) : Type 0 where
@@ -73,7 +73,7 @@ up_to e last = (e.0, record { value = e.1.value; last = last })
 -- the map n is m, but that one stretch goes on with the value at the key, and has it
 pub record Grows {V : Type 0} (nth : Identifier → V → ℕ → V) (reaches : Identifier → V → ℕ → Type 0) (m n : BTreeMap Identifier (Stretch V)) (key : Identifier) (value : V) : Type 0 where
   pub stretch : Entry V
-  pub kept : Keeps m.entries stretch
+  pub kept : KeepsEntry m.entries stretch
   pub goes_on : GoesOn nth reaches stretch key value
   pub updates : UpdatesBy id_cmp (id_cmp stretch.0) m n (Some (up_to stretch key.counter).1)
   pub ordered : IsOrdered id_cmp n
@@ -112,8 +112,8 @@ rest_behind nth e j = (ahead e.0 j, record { value = nth e.0 e.1.value j; last =
 
 -- n is m, but that this stretch ends with the key, and what was behind is another one
 pub record IsCut {V : Type 0} (nth : Identifier → V → ℕ → V) (m n : BTreeMap Identifier (Stretch V)) (e : Entry V) (key : Identifier) : Type 0 where
-  pub head : Keeps n.entries (up_to e key.counter)
-  pub tail : Keeps n.entries (rest_behind nth e (key.counter - e.0.counter + 1))
+  pub head : KeepsEntry n.entries (up_to e key.counter)
+  pub tail : KeepsEntry n.entries (rest_behind nth e (key.counter - e.0.counter + 1))
   pub others : (q : Identifier) → q ≢ e.0 → q ≢ ahead e.0 (key.counter - e.0.counter + 1) → kept_at n.entries q ≡ kept_at m.entries q
   pub ordered : IsOrdered id_cmp n
 
@@ -121,7 +121,7 @@ pub record IsCut {V : Type 0} (nth : Identifier → V → ℕ → V) (m n : BTre
 pub record IsParted {V : Type 0} (nth : Identifier → V → ℕ → V) (reaches : Identifier → V → ℕ → Type 0) (l k : Layout V) (e : Entry V) (key : Identifier) : Type 0 where
   pub are : AreStretches reaches k
   pub found : (q : Identifier) → value_in nth k q ≡ value_in nth l q
-  pub head : Keeps k.1 (up_to e key.counter)
+  pub head : KeepsEntry k.1 (up_to e key.counter)
 
 -- P holds for no stretch of the replica
 abbrev pub NoneOf : {V : Type 0} → (Entry V → Type 0) → ℕ → Type 0

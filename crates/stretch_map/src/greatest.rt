@@ -1,14 +1,12 @@
 //! The greatest counter of a replica.
-
 ghost use Rattle.std.specs.Prelude.{◌≡◌, ◌<◌, ◌^◌, IfNone, IfSome, Some, option_map};
-ghost use Rattle.stretch_map.specs.Contents.{layout, value_of};
+ghost use Rattle.stretch_map.specs.Contents.{layout, value_at_id};
 ghost use Rattle.stretch_map.specs.Rules.{IsGreatestIn, greater_of};
-ghost use Rattle.stretch_map.specs.Stretches.{AreStretches, Has, IsGreatestOf, IsLastOf, Keeps, NoneOf};
+ghost use Rattle.stretch_map.specs.Stretches.{AreStretches, Has, IsGreatestOf, IsLastOf, KeepsEntry, NoneOf};
 
 use crate::follows::Follows;
 use crate::read::at_hand;
-use crate::stretch::Stretch;
-use crate::stretches::Stretches;
+use crate::stretches::{Stretch, Stretches};
 use fugue_ids::ElementId;
 use std::collections::BTreeMap;
 
@@ -33,8 +31,8 @@ fn last_kept<V: Copy>(
     replica: u32,
 ) -> Option<(ElementId, Stretch<V>)>
     requires { 0 < replica }
-    ensures none { IfNone result (NoneOf (Keeps kept.now.entries) replica) }
-    ensures some { IfSome result (IsLastOf (Keeps kept.now.entries) replica) }
+    ensures none { IfNone result (NoneOf (KeepsEntry kept.now.entries) replica) }
+    ensures some { IfSome result (IsLastOf (KeepsEntry kept.now.entries) replica) }
 {
     let first = ElementId {
         replica,
@@ -77,7 +75,7 @@ fn greater(a: Option<u32>, b: Option<u32>) -> Option<u32>
 fn greatest_kept<V: Follows>(stretches: &Stretches<V>, replica: u32) -> Option<u32>
     requires positive { 0 < replica }
     requires are { AreStretches V.reaches (layout stretches.now) }
-    ensures { IsGreatestOf (Keeps stretches.now.kept.entries) replica result }
+    ensures { IsGreatestOf (KeepsEntry stretches.now.kept.entries) replica result }
 {
     last_counter(last_kept(&stretches.kept, replica))
 }
@@ -100,7 +98,7 @@ fn greatest_recent<V: Follows>(stretches: &Stretches<V>, replica: u32) -> Option
 pub(crate) fn greatest<V: Follows>(stretches: &Stretches<V>, replica: u32) -> Option<u32>
     requires positive { 0 < replica }
     requires are { AreStretches V.reaches (layout stretches.now) }
-    ensures { IsGreatestIn (value_of V.nth stretches.now) replica result }
+    ensures { IsGreatestIn (value_at_id V.nth stretches.now) replica result }
 {
     greater(
         greatest_recent(stretches, replica),

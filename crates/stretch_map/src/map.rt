@@ -15,8 +15,8 @@ use std::marker::Model;
 
 /// A map from identifiers to values. A stretch of identifiers is one entry, where the rule gives its values.
 ///
-/// A stretch grows at its end alone: identifiers that come in falling order are an entry each. The stretch that was begun last grows with no
-/// look-up in the map.
+/// A stretch grows at its end alone: identifiers that come in falling order are an entry each. The stretch that was
+/// begun last grows with no look-up in the map.
 #[derive(Drop)]
 pub struct StretchMap<V: Follows> {
     stretches: Stretches<V>,
@@ -78,10 +78,12 @@ impl<V: Follows> StretchMap<V> {
         greatest(&self.stretches, replica)
     }
 
-    /// A value for an identifier that has none. No memory is wanted where the value follows that of the identifier before.
+    /// A value for an identifier that has none. No memory is wanted where the value follows that of the identifier
+    /// before.
     pub fn insert(&mut self, key: ElementId, value: V) -> Result<(), NoMemory>
         requires { map.get self.old.values key ≡ None }
-        ensures ok { OnOk result (self.new ≡ record { values = map.insert self.old.values key value; newest = Some key }) }
+        ensures ok { OnOk result (self.new
+            ≡ record { values = map.insert self.old.values key value; newest = Some key }) }
         ensures err { OnErr result (self.new ≡ self.old) }
         ensures sure { IsNext V.nth V.reaches (map.get self.old.values) key value → IsOk result }
     {
@@ -90,13 +92,14 @@ impl<V: Follows> StretchMap<V> {
         Ok(())
     }
 
-    /// The value of the identifier, which has none then. No memory is wanted for the one that came last, nor where the next identifier
-    /// has not the value that follows.
+    /// The value of the identifier, which has none then. No memory is wanted for the one that came last, nor where the
+    /// next identifier has not the value that follows.
     pub fn remove(&mut self, key: ElementId) -> Result<Option<V>, NoMemory>
         ensures value { IfOk result (λ value. value ≡ map.get self.old.values key) }
         ensures ok { OnOk result (self.new ≡ record { values = map.remove self.old.values key; newest = None }) }
         ensures err { OnErr result (self.new ≡ self.old) }
-        ensures sure { (self.old.newest ≡ Some key) ⊎ (IsFollowed V.nth (map.get self.old.values) key → ⊥) → IsOk result }
+        ensures sure { (self.old.newest ≡ Some key)
+            ⊎ (IsFollowed V.nth (map.get self.old.values) key → ⊥) → IsOk result }
     {
         let value = take_out(&mut self.stretches, key)?;
         self.newest = None;

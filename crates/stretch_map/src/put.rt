@@ -1,16 +1,13 @@
 //! One value more.
-
 ghost use Rattle.std.specs.Prelude.{◌≡◌, ◌≤◌, None, Some, IfNone, IfSome, IsFalse, IsOk, IsTrue, OnErr, OnOk};
 ghost use Rattle.std.specs.BTreeMap.{IsUnchanged};
-ghost use Rattle.stretch_map.specs.Contents.{Entry, layout, value_of};
+ghost use Rattle.stretch_map.specs.Contents.{Entry, layout, value_at_id};
 ghost use Rattle.stretch_map.specs.Rules.{IsNext};
-ghost use Rattle.stretch_map.specs.Stretches.{Adds, AreStretches, GoesOn, Grows, IsFloor, IsSame, Keeps, up_to};
+ghost use Rattle.stretch_map.specs.Stretches.{Adds, AreStretches, GoesOn, Grows, IsFloor, IsSame, KeepsEntry, up_to};
 
-use crate::floor::floor;
 use crate::follows::Follows;
 use crate::read::at_hand;
-use crate::stretch::Stretch;
-use crate::stretches::Stretches;
+use crate::stretches::{Stretch, Stretches, floor};
 use fugue_ids::{ElementId, NoMemory};
 use std::collections::BTreeMap;
 
@@ -23,7 +20,9 @@ fn longer<V: Follows>(
 ) -> Option<Stretch<V>>
     requires { first.counter ≤ stretch.now.last }
     ensures none { IfNone result (GoesOn V.nth V.reaches (first, stretch.now) key value.now → ⊥) }
-    ensures some { IfSome result (λ s. GoesOn V.nth V.reaches (first, stretch.now) key value.now × (s ≡ (up_to (first, stretch.now) key.counter).1)) }
+    ensures some { IfSome result
+        (λ s. GoesOn V.nth V.reaches (first, stretch.now) key value.now
+        × (s ≡ (up_to (first, stretch.now) key.counter).1)) }
 {
     if first.replica != key.replica
         || key.counter <= stretch.last
@@ -43,10 +42,11 @@ fn longer<V: Follows>(
 /// Whether the stretch at hand went on with the value at the key, and has it now.
 fn extend_recent<V: Follows>(stretches: &mut Stretches<V>, key: ElementId, value: &V) -> bool
     requires are { AreStretches V.reaches (layout stretches.old) }
-    requires fresh { value_of V.nth stretches.old key ≡ None }
+    requires fresh { value_at_id V.nth stretches.old key ≡ None }
     ensures on { IsTrue result → Adds V.nth V.reaches (layout stretches.old) (layout stretches.new) key value.now }
     ensures off { IsFalse result → layout stretches.new ≡ layout stretches.old }
-    ensures goes_not { IsFalse result → (e : Entry V) → stretches.old.recent ≡ Some e → GoesOn V.nth V.reaches e key value.now → ⊥ }
+    ensures goes_not { IsFalse result → (e : Entry V) → stretches.old.recent ≡ Some e
+        → GoesOn V.nth V.reaches e key value.now → ⊥ }
 {
     let Some((first, stretch)) = at_hand(stretches) else {
         return false;
@@ -64,10 +64,11 @@ fn extend_kept<V: Follows>(
     key: ElementId,
     value: &V,
 ) -> bool
-    requires { (e : Entry V) → Keeps kept.old.entries e → e.0.counter ≤ e.1.last }
+    requires { (e : Entry V) → KeepsEntry kept.old.entries e → e.0.counter ≤ e.1.last }
     ensures on { IsTrue result → Grows V.nth V.reaches kept.old kept.new key value.now }
     ensures off { IsFalse result → IsUnchanged kept.old kept.new }
-    ensures goes_not { IsFalse result → (e : Entry V) → IsFloor kept.old.entries key e → GoesOn V.nth V.reaches e key value.now → ⊥ }
+    ensures goes_not { IsFalse result → (e : Entry V) → IsFloor kept.old.entries key e
+        → GoesOn V.nth V.reaches e key value.now → ⊥ }
 {
     let Some((first, stretch)) = floor(kept, key) else {
         return false;
@@ -99,7 +100,7 @@ pub(crate) fn shelve<V: Follows>(stretches: &mut Stretches<V>) -> Result<(), NoM
 /// A stretch that begins with the key. After want of memory all is as before.
 fn begin<V: Follows>(stretches: &mut Stretches<V>, key: ElementId, value: V) -> Result<(), NoMemory>
     requires are { AreStretches V.reaches (layout stretches.old) }
-    requires fresh { value_of V.nth stretches.old key ≡ None }
+    requires fresh { value_at_id V.nth stretches.old key ≡ None }
     ensures ok { OnOk result (Adds V.nth V.reaches (layout stretches.old) (layout stretches.new) key value) }
     ensures err { OnErr result (layout stretches.new ≡ layout stretches.old) }
 {
@@ -116,10 +117,10 @@ pub(crate) fn put<V: Follows>(
     value: V,
 ) -> Result<(), NoMemory>
     requires are { AreStretches V.reaches (layout stretches.old) }
-    requires fresh { value_of V.nth stretches.old key ≡ None }
+    requires fresh { value_at_id V.nth stretches.old key ≡ None }
     ensures ok { OnOk result (Adds V.nth V.reaches (layout stretches.old) (layout stretches.new) key value) }
     ensures err { OnErr result (layout stretches.new ≡ layout stretches.old) }
-    ensures sure { IsNext V.nth V.reaches (value_of V.nth stretches.old) key value → IsOk result }
+    ensures sure { IsNext V.nth V.reaches (value_at_id V.nth stretches.old) key value → IsOk result }
 {
     if extend_recent(stretches, key, &value) {
         return Ok(());

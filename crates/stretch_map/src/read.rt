@@ -1,20 +1,19 @@
 //! The value of an identifier.
-
 ghost use Rattle.std.specs.Prelude.{◌≡◌, ◌-◌, IfNone, IfSome, None, Some};
-ghost use Rattle.stretch_map.specs.Contents.{Entry, layout, value_of};
-ghost use Rattle.stretch_map.specs.Stretches.{AreStretches, Covers, IsReached, IsReadIn, Keeps};
+ghost use Rattle.stretch_map.specs.Contents.{Entry, layout, value_at_id};
+ghost use Rattle.stretch_map.specs.Stretches.{AreStretches, Covers, IsReached, IsReadIn, KeepsEntry};
 
-use crate::floor::floor;
 use crate::follows::Follows;
-use crate::stretch::Stretch;
-use crate::stretches::Stretches;
+use crate::stretches::{Stretch, Stretches, floor};
 use fugue_ids::ElementId;
 
 /// The value that the stretch has at the key.
 fn value_in<V: Follows>(first: ElementId, stretch: &Stretch<V>, key: ElementId) -> Option<V>
     requires { IsReached V.reaches (first, stretch.now) }
     ensures none { IfNone result (Covers (first, stretch.now) key → ⊥) }
-    ensures some { IfSome result (λ value. Covers (first, stretch.now) key × (value ≡ V.nth first stretch.now.value (key.counter - first.counter))) }
+    ensures some { IfSome result
+        (λ value. Covers (first, stretch.now) key
+        × (value ≡ V.nth first stretch.now.value (key.counter - first.counter))) }
 {
     if first.replica != key.replica || key.counter < first.counter || stretch.last < key.counter {
         return None;
@@ -47,7 +46,7 @@ pub(crate) fn recent_value<V: Follows>(stretches: &Stretches<V>, key: ElementId)
 /// The value that one of the other stretches has at the key.
 pub(crate) fn kept_value<V: Follows>(stretches: &Stretches<V>, key: ElementId) -> Option<V>
     requires { AreStretches V.reaches (layout stretches.now) }
-    ensures { IsReadIn V.nth (Keeps stretches.now.kept.entries) key result }
+    ensures { IsReadIn V.nth (KeepsEntry stretches.now.kept.entries) key result }
 {
     let Some((first, stretch)) = floor(&stretches.kept, key) else {
         return None;
@@ -58,7 +57,7 @@ pub(crate) fn kept_value<V: Follows>(stretches: &Stretches<V>, key: ElementId) -
 /// The value at the key.
 pub(crate) fn value_at<V: Follows>(stretches: &Stretches<V>, key: ElementId) -> Option<V>
     requires { AreStretches V.reaches (layout stretches.now) }
-    ensures { result ≡ value_of V.nth stretches.now key }
+    ensures { result ≡ value_at_id V.nth stretches.now key }
 {
     match recent_value(stretches, key) {
         Some(value) => Some(value),

@@ -1,16 +1,15 @@
 //! One value less.
-
-ghost use Rattle.std.specs.Prelude.{◌≡◌, ◌+◌, ◌<◌, ◌≤◌, None, Some, IfNone, IfOk, IfSome, IsFalse, IsOk, IsTrue, OnErr, OnOk};
+ghost use Rattle.std.specs.Prelude.{◌≡◌, ◌+◌, ◌<◌, ◌≤◌, None, Some, IfNone, IfOk, IfSome, IsFalse, IsOk, IsTrue, OnErr};
+ghost use Rattle.std.specs.Prelude.{OnOk};
 ghost use Rattle.std.specs.BTreeMap.{IsUnchanged};
-ghost use Rattle.stretch_map.specs.Contents.{Entry, layout, value_of};
-ghost use Rattle.stretch_map.specs.Stretches.{AreStretches, Covers, EndsAt, IsCut, IsParted, IsReached, IsSame, IsShorter, IsTakenFrom, Keeps, Loses, up_to};
+ghost use Rattle.stretch_map.specs.Contents.{Entry, layout, value_at_id};
+ghost use Rattle.stretch_map.specs.Stretches.{AreStretches, Covers, EndsAt, IsCut, IsParted, IsReached, IsSame};
+ghost use Rattle.stretch_map.specs.Stretches.{IsShorter, IsTakenFrom, KeepsEntry, Loses, up_to};
 
-use crate::floor::floor;
 use crate::follows::Follows;
 use crate::put::shelve;
 use crate::read::{at_hand, value_at};
-use crate::stretch::Stretch;
-use crate::stretches::Stretches;
+use crate::stretches::{Stretch, Stretches, floor};
 use fugue_ids::{ElementId, NoMemory};
 use std::collections::BTreeMap;
 
@@ -39,7 +38,8 @@ fn shorten_recent<V: Follows>(stretches: &mut Stretches<V>, key: ElementId) -> b
     requires { AreStretches V.reaches (layout stretches.old) }
     ensures on { IsTrue result → Loses V.nth V.reaches (layout stretches.old) (layout stretches.new) key }
     ensures off { IsFalse result → layout stretches.new ≡ layout stretches.old }
-    ensures goes_on { IsFalse result → (e : Entry V) → stretches.old.recent ≡ Some e → Covers e key → key.counter < e.1.last }
+    ensures goes_on { IsFalse result → (e : Entry V) → stretches.old.recent ≡ Some e → Covers e key
+        → key.counter < e.1.last }
 {
     let Some((first, stretch)) = at_hand(stretches) else {
         return false;
@@ -75,7 +75,7 @@ fn shorten_kept<V: Follows>(
     stretch: &Stretch<V>,
 )
     requires begun { first.counter ≤ stretch.now.last }
-    requires there { Keeps kept.old.entries (first, stretch.now) }
+    requires there { KeepsEntry kept.old.entries (first, stretch.now) }
     ensures { IsTakenFrom kept.old kept.new (first, stretch.now) }
 {
     match shorter(first, stretch) {
@@ -98,7 +98,7 @@ fn cut_behind<V: Follows>(
     last: u32,
     key: ElementId,
 ) -> Result<(), NoMemory>
-    requires there { Keeps kept.old.entries (first, record { value = value; last = last }) }
+    requires there { KeepsEntry kept.old.entries (first, record { value = value; last = last }) }
     requires reached { IsReached V.reaches (first, record { value = value; last = last }) }
     requires covers { Covers {V = V} (first, record { value = value; last = last }) key }
     requires inside { key.counter < last }
@@ -130,9 +130,10 @@ fn end_at<V: Follows>(
     key: ElementId,
 ) -> Result<(), NoMemory>
     requires are { AreStretches V.reaches (layout stretches.old) }
-    requires there { Keeps stretches.old.kept.entries (first, stretch.now) }
+    requires there { KeepsEntry stretches.old.kept.entries (first, stretch.now) }
     requires covers { Covers (first, stretch.now) key }
-    ensures ok { OnOk result (IsParted V.nth V.reaches (layout stretches.old) (layout stretches.new) (first, stretch.now) key) }
+    ensures ok { OnOk result (IsParted V.nth V.reaches (layout stretches.old) (layout stretches.new)
+        (first, stretch.now) key) }
     ensures err { OnErr result (layout stretches.new ≡ layout stretches.old) }
     ensures sure { stretch.now.last ≤ key.counter → IsOk result }
 {
@@ -166,14 +167,14 @@ fn take_kept<V: Follows>(stretches: &mut Stretches<V>, key: ElementId) -> Result
     Ok(())
 }
 
-/// The value of the key, which has none then. After want of memory the values are as before; none is wanted where a stretch ends with
-/// the key.
+/// The value of the key, which has none then. After want of memory the values are as before; none is wanted where a
+/// stretch ends with the key.
 pub(crate) fn take_out<V: Follows>(
     stretches: &mut Stretches<V>,
     key: ElementId,
 ) -> Result<Option<V>, NoMemory>
     requires { AreStretches V.reaches (layout stretches.old) }
-    ensures value { IfOk result (λ value. value ≡ value_of V.nth stretches.old key) }
+    ensures value { IfOk result (λ value. value ≡ value_at_id V.nth stretches.old key) }
     ensures ok { OnOk result (Loses V.nth V.reaches (layout stretches.old) (layout stretches.new) key) }
     ensures err { OnErr result (IsSame V.nth V.reaches (layout stretches.old) (layout stretches.new)) }
     ensures sure { EndsAt (layout stretches.old) key → IsOk result }

@@ -15,7 +15,8 @@ enum Turn {
 
 /// Left children by identifier; right children by later right origin first, and then by identifier.
 ///
-/// An element is a left child of its right origin where the two have one left origin, and else a right child of its left origin.
+/// An element is a left child of its right origin where the two have one left origin, and else a right child of its
+/// left origin.
 fn children(
     alloc: Global,
     nodes: &[Node],
@@ -69,7 +70,8 @@ fn walk(alloc: Global, nodes: &[Node], finished: &[Name]) -> Result<Vec<Name>, A
     Ok(list)
 }
 
-/// The order of the nodes, which came in this order: right origins are compared in the order of the nodes that came before.
+/// The order of the nodes, which came in this order: right origins are compared in the order of the nodes that came
+/// before.
 pub fn by_sides(alloc: Global, nodes: &[Node]) -> Result<Vec<Name>, AllocError> {
     let mut finished = Vec::new(alloc);
     for count in 0..nodes.len() {

@@ -10,7 +10,8 @@ use fugue_ids::{ElementId, Op};
 use std::marker::Model;
 use std::mem::replace;
 
-/// An inbox that operations leave one after another: one that leaves beside the last one moves none but those between the two.
+/// An inbox that operations leave one after another: one that leaves beside the last one moves none but those between
+/// the two.
 #[derive(Drop)]
 pub struct OpenInbox {
     ops: Gapped<Op>,
@@ -29,7 +30,8 @@ impl Model for OpenInbox {
 }
 
 impl Inbox {
-    /// The same operations, to leave one after another. An empty inbox with the same hold stays behind; it takes no memory.
+    /// The same operations, to leave one after another. An empty inbox with the same hold stays behind; it takes no
+    /// memory.
     pub fn open(&mut self) -> OpenInbox
         ensures open { result ≡ self.old }
         ensures emptied { self.new ≡ record self.old { ops = [] } }

@@ -122,8 +122,8 @@ fn is_edited(rt: &(impl Abort + AllocGlobal), home: &mut MemDisk) -> bool {
     ends_on(rt, "edit F", SCRIPT, (b"", b"made 5\n", Status::Done), home)
 }
 
-/// Whether a crash leaves the file with the script's operations, as it must where they are saved, or without them; then the
-/// script goes through.
+/// Whether a crash leaves the file with the script's operations, as it must where they are saved, or without them; then
+/// the script goes through.
 fn is_whole_behind(
     rt: &(impl Abort + AllocGlobal),
     home: &MemDisk,
@@ -159,8 +159,8 @@ fn crash_at(rt: &(impl Abort + AllocGlobal), call: u32, is_saved: bool) {
     drop(home);
 }
 
-/// Runs the script on a new file, where calls of the script and of the notes fail. The answer is the status, and whether this
-/// line is noted, nothing is written and the file has these bytes.
+/// Runs the script on a new file, where calls of the script and of the notes fail. The answer is the status, and
+/// whether this line is noted, nothing is written and the file has these bytes.
 fn edits_new(
     rt: &(impl Abort + AllocGlobal),
     fails: [&[u32]; 2],
@@ -180,8 +180,8 @@ fn edits_new(
     (status, is_noted && is_left)
 }
 
-/// The calls of the notes that fail, what is noted then, and the status. The line goes out in one piece, and so does the
-/// fault's.
+/// The calls of the notes that fail, what is noted then, and the status. The line goes out in one piece, and so does
+/// the fault's.
 const NOTED: &[(&[u32], &[u8], Status)] = &[
     (&[], b"made 5\n", Status::Done),
     (&[0], b"outside fault\n", Status::OutsideFault),

@@ -119,8 +119,8 @@ fn a_changed_byte_is_found_before_anything_is_printed(rt: HostRuntime) {
     }
 }
 
-/// Runs on a file where calls on it, the output and the notes fail. The answer is the status, whether a front of the text was
-/// written, and whether the fault alone was noted.
+/// Runs on a file where calls on it, the output and the notes fail. The answer is the status, whether a front of the
+/// text was written, and whether the fault alone was noted.
 fn see_of(
     rt: &(impl Abort + AllocGlobal),
     words: &str,
@@ -181,8 +181,8 @@ fn see_without(
     see_of(rt, words, SAVED, [&[], &[output], &[notes]], text)
 }
 
-/// Of this command on the saved file, which writes this text in so many calls, each call may fail, and its fault is told
-/// where a note can be made.
+/// Of this command on the saved file, which writes this text in so many calls, each call may fail, and its fault is
+/// told where a note can be made.
 fn each_may_fail(rt: &(impl Abort + AllocGlobal), words: &str, text: &[u8], calls: u32) {
     let fault = Status::OutsideFault;
     for call in 0..calls {

@@ -60,9 +60,9 @@ fn runs_so(
     is_so
 }
 
-/// Runs at a dock that gives and takes so many bytes a call, and of which the first calls fail. The answer is whether the run
-/// ends so; whether both sessions were sent all that they asked for, at the port, and ended in the order in which they asked;
-/// and whether the dock's next step is still the first one.
+/// Runs at a dock that gives and takes so many bytes a call, and of which the first calls fail. The answer is whether
+/// the run ends so; whether both sessions were sent all that they asked for, at the port, and ended in the order in
+/// which they asked; and whether the dock's next step is still the first one.
 fn see(
     rt: &(impl Abort + AllocGlobal),
     words: &str,
@@ -93,8 +93,8 @@ fn a_relay_says_that_it_is_ready_and_answers_each_session(rt: HostRuntime) {
     }
 }
 
-/// The words, the calls that fail, the ends, whether the sessions are answered, and whether no step was taken. At the dock
-/// there are: listening, eight steps, and for each of two sessions a send and its end.
+/// The words, the calls that fail, the ends, whether the sessions are answered, and whether no step was taken. At the
+/// dock there are: listening, eight steps, and for each of two sessions a send and its end.
 type Row = (&'static str, Fails, Ends, bool, bool);
 
 const LISTENING_FAILED: Ends = (b"", b"outside fault\n", Status::OutsideFault);

@@ -212,7 +212,8 @@ const PLACES: &[(usize, usize)] = &[
     (172, 173),
 ];
 
-/// The stream, cut at each byte of a frame, is whole where the frame begins, and is told to be cut short there elsewhere.
+/// The stream, cut at each byte of a frame, is whole where the frame begins, and is told to be cut short there
+/// elsewhere.
 fn compare_cut(rt: &(impl Abort + AllocGlobal), begin: usize, end: usize) {
     let line = format!(in rt.alloc(); "cut short at byte {begin}\n").expect(rt, "memory");
     for length in begin..end {

@@ -195,8 +195,8 @@ fn a_file_speaks_with_a_relay(rt: HostRuntime) {
     }
 }
 
-/// What a run left of which calls failed: the status, whether the fault was noted as it should be, whether the file is as it
-/// was, and whether it holds all that came, or nothing.
+/// What a run left of which calls failed: the status, whether the fault was noted as it should be, whether the file is
+/// as it was, and whether it holds all that came, or nothing.
 type Left = (Status, bool, bool, bool);
 
 /// Runs where these calls on the wire, the notes and the file fail.

@@ -1,8 +1,7 @@
 //! A store compared with its cells in a vector.
-
-use super::guarded::is_listed;
 use super::plain::{id_at, position};
 use crate::assertions::{equal, holds_at};
+use crate::runs::plain::is_listed;
 use fugue_ids::{ElementId, Key, OrderOf};
 use outer_ports::MemSink;
 use run_store::{Cell, RunStore};
@@ -10,7 +9,8 @@ use std::alloc::Global;
 use std::process::Abort;
 use std::test::Fail;
 
-/// Each cell is found, with its neighbours. There is an element before it exactly where it isn't the first, and so with those behind it.
+/// Each cell is found, with its neighbours. There is an element before it exactly where it isn't the first, and so with
+/// those behind it.
 fn compare_cells(rt: &impl Abort, store: &RunStore, cells: &[Cell]) {
     let mut last = None;
     for (i, cell) in cells.iter().enumerate() {
@@ -75,7 +75,8 @@ fn last_among(cells: &[Cell], most: Key) -> Option<ElementId> {
     last
 }
 
-/// Each cell beside another: which of the two stands first, and the searches for the other's key from it on and from it back.
+/// Each cell beside another: which of the two stands first, and the searches for the other's key from it on and from it
+/// back.
 fn compare_beside(rt: &impl Abort, store: &RunStore, cells: &[Cell], j: usize, other: &Cell) {
     let most = other.key;
     equal(rt, store.first_low(None, most), first_among(cells, most));

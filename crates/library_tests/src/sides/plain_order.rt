@@ -3,7 +3,6 @@ ghost use Rattle.std.specs.List.{insert};
 ghost use Rattle.fugue_ids.specs.Keys.{ids};
 ghost use Rattle.fugue_ids.specs.Listed.{index_of};
 
-use super::entry::Entry;
 use super::searches::{
     first_id, first_low, front_of, key_of, last_id, last_low, middle_id, position, rest_of,
 };
@@ -12,6 +11,23 @@ use sided_tree::OrderOf;
 use std::alloc::Global;
 use std::cell::Cell;
 use std::marker::Model;
+
+/// An element with its key.
+#[derive(Clone, Copy)]
+pub struct Entry {
+    pub id: ElementId,
+    pub key: Key,
+}
+
+impl Model for Entry {
+    ghost use Rattle.fugue_ids.specs.Keys.{Keyed};
+
+    ghost Value = { Keyed };
+
+    ghost view = { λ e. record { id = e.id; key = e.key } };
+
+    ghost inverse = { λ e. record { id = e.id; key = e.key } };
+}
 
 /// An order in a vector, which counts how often it is searched.
 #[derive(Drop)]

@@ -1,10 +1,11 @@
 //! The searches of an order, one element after another.
-
 ghost use Rattle.std.specs.Prelude.{◌≡◌, ◌↔◌, Contains, IfSome, IsNone, Some, []};
-ghost use Rattle.fugue_ids.specs.Keys.{HasKey, first_id as first_id_in, first_low as first_low_in, front_of as front_of_in, ids, is_low as is_low_in, last_id as last_id_in, last_low as last_low_in, rest_of as rest_of_in};
+ghost use Rattle.fugue_ids.specs.Keys.{HasKey, first_id as first_id_in, first_low as first_low_in};
+ghost use Rattle.fugue_ids.specs.Keys.{front_of as front_of_in, ids, is_low as is_low_in, last_id as last_id_in};
+ghost use Rattle.fugue_ids.specs.Keys.{last_low as last_low_in, rest_of as rest_of_in};
 ghost use Rattle.fugue_ids.specs.Listed.{index_of};
 
-use super::entry::Entry;
+use crate::sides::plain_order::Entry;
 use fugue_ids::{ElementId, Key};
 
 /// What stands behind the element.

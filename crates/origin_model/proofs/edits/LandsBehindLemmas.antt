@@ -1,12 +1,12 @@
 -- Where an element lands whose origins stand next to each other.
 use Rattle.origin_model.proofs.Words.{All, All-contains, All-head, All-tail, Bool, Contains, Contains-append_cases, Contains-append_left, Contains-append_right, Identifier, IsIn, IsOrderedBy, Lawful, List, None, Op, Option, Place, Some, [], all_from_contains, all_pairs_before, all_pairs_behind, ap, append-nil, append_assoc, arith, before_in, cases_Bool, cases_origin, chain_before, contains_here, contains_middle, element_of, false, false_from_ne_true, false≢true, fork_before, has_left, holder, if◌then◌else◌, inl, inr, is_own, is_some, left_at, left_of, lefts, length, next_left, next_right, order, origin_eq, placed, refl, right_beside, right_of, rights, same_from_push, sibling, slice_index_or, subst, suc, sym, true, true≢false, zero, ℕ, ◌++◌, ◌<◌, ◌∙◌, ◌∷◌, ◌≡◌, ◌≢◌, ◌⊎◌}
 use Rattle.std.specs.Prelude.{IfSome}
-use Rattle.origin_model.specs.declared.sides.slot.Slot.TheVariants.{RightOf}
+use Rattle.origin_model.specs.declared.sides.Slot.TheVariants.{RightOf}
 use Rattle.origin_model.proofs.order.{IsIn-held, before_in-irrefl, before_in-trans, chain-ends, chain-other, chain-own, chain_above, chain_before-fork, chain_before-same, common, first_of, front_before, has_left-at, has_left_by, last_of, left_by, lefts-above, lefts-in, lefts-prefix, never_none, no_member, order-has, order-in, order-ordered, order-some, order_total, parts, placed-behind, placed-first, same_chain, stay_ordered}
 use Rattle.origin_model.proofs.operations.LookupLemmas.{IsHeld, held_not_own, left_named, when_ready}
 use Rattle.origin_model.proofs.operations.ElementLemmas.{element_own}
 use Rattle.origin_model.proofs.sides.SlotLemmas.{IsThere, left_from, there}
-use Rattle.origin_model.specs.edits.Landing.{LandsBehind, LandsBehindOrigin, end_of, following, head_of}
+use Rattle.origin_model.specs.edits.Landing.{LandsBehind, LandsBehindOrigin, last_before, following, first_after}
 use Rattle.origin_model.proofs.edits.SplitLemmas.{Distinct, end_none, end_push, end_split, following_end, head_none, head_split}
 use Rattle.fugue_ids.proofs.IdentifierLemmas.{origin_eq-refl}
 
@@ -26,7 +26,7 @@ nonempty F [] n = absurd (n refl)
 nonempty F (x ∷ xs) n = refl
 
 module _ (p : Place) (op : Op) (older : List Op) (x : Identifier) (front back : List Identifier) (w : Lawful (op ∷ older)) (at : element_of p op ≡ Some x)
-    (whole : order p older ≡ front ++ back) (at_end : left_of op ≡ end_of front) (at_head : right_of op ≡ head_of back) where
+    (whole : order p older ≡ front ++ back) (at_end : left_of op ≡ last_before front) (at_head : right_of op ≡ first_after back) where
   abbrev h : List Op
   h = op ∷ older
 
@@ -197,7 +197,7 @@ record CutBehind (o : List Identifier) (l : Option Identifier) : Type 0 where
   front : List Identifier
   back : List Identifier
   whole : o ≡ front ++ back
-  ends : end_of front ≡ l
+  ends : last_before front ≡ l
 
 -- behind a member
 pub cut_member : (o : List Identifier) (x : Identifier) (k : ℕ) → k < length o → slice_index_or o k x ≡ x → (f : List Identifier) × (b : List Identifier) × (o ≡ f ++ x ∷ b)
@@ -216,7 +216,7 @@ cut_behind o (Some x) m =
 pub lands_behind_origin : LandsBehindOrigin
 lands_behind_origin p op older x w at l r =
     let c = cut_behind (order p older) (left_of op) l in
-    let e : left_of op ≡ end_of c.front = sym c.ends in
-    let head : right_of op ≡ head_of c.back =
+    let e : left_of op ≡ last_before c.front = sym c.ends in
+    let head : right_of op ≡ first_after c.back =
     r ∙ (λ i. following (c.whole i) (e i)) ∙ following_end c.front c.back (subst Distinct c.whole (order_total p older w.1).once) in
     record { front = c.front; back = c.back; was = c.whole; origin = c.ends; is = lands_behind p op older x c.front c.back w at c.whole e head ∙ sym (append_assoc c.front (x ∷ []) c.back) }

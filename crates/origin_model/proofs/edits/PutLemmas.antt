@@ -6,7 +6,7 @@ use Rattle.origin_model.proofs.operations.ElementLemmas.{element_fits, none_else
 use Rattle.origin_model.proofs.operations.FoundedLemmas.{not_hidden_before}
 use Rattle.origin_model.proofs.order.{IsIn-older, Stands, order-member, order-none, order_total}
 use Rattle.origin_model.specs.edits.Edits.{Add, IsEdit, Put, ReadyInTurn, extended, id_at, left_for, made, next_counter, put_in, right_for, typed, typed_ids}
-use Rattle.origin_model.specs.edits.Landing.{StandsBehind, end_of, following, head_of}
+use Rattle.origin_model.specs.edits.Landing.{StandsBehind, last_before, following, first_after}
 use Rattle.origin_model.proofs.edits.FreshIdLemmas.{NoneFrom, history_below, none_from}
 use Rattle.origin_model.proofs.edits.LandsBehindLemmas.{lands_behind}
 use Rattle.origin_model.proofs.edits.SplitLemmas.{is_shown, Split, end_push, end_stands, filter_all, following_end, get_in, head_stands, split, split_origin}
@@ -60,7 +60,7 @@ none_next r c h op e none n k =
 
 -- texts that are typed land in their order
 typing : (chs : List ℕ) (r c : ℕ) (s : Identifier) (h : List Op) (left right : Option Identifier) (front back : List Identifier)
-    → Lawful h → IsIn catalogue h s → NoneFrom r c h → order (within s) h ≡ front ++ back → left ≡ end_of front → right ≡ head_of back
+    → Lawful h → IsIn catalogue h s → NoneFrom r c h → order (within s) h ≡ front ++ back → left ≡ last_before front → right ≡ first_after back
     → Landed (within s) h (typed r c s left right chs) (typed_ids r c chs) front back
 typing [] r c s h left right front back w m none o a b = record { ready = tt; lawful = w; after = o ∙ ap (λ f. f ++ back) (sym (append-nil front)); hidden = λ x. refl; elsewhere = λ q n. refl }
 typing (ch ∷ chs) r c s h left right front back w m none o a b =
@@ -115,9 +115,9 @@ inserted p h ops at ids s each l =
     )
 
 -- the right origin is the first behind the gap
-right_is : (p : Place) (h : List Op) (at : ℕ) (s : Split (is_shown h) (order p h) at) → Lawful h → right_for p h at ≡ head_of s.back
+right_is : (p : Place) (h : List Op) (at : ℕ) (s : Split (is_shown h) (order p h) at) → Lawful h → right_for p h at ≡ first_after s.back
 right_is p h at s w =
-    let o : left_for p h at ≡ end_of s.front = sym (split_origin (is_shown h) (order p h) at s) in
+    let o : left_for p h at ≡ last_before s.front = sym (split_origin (is_shown h) (order p h) at s) in
     (λ i. following (s.whole i) (o i))
     ∙ following_end s.front s.back (subst (AllPairs (λ x y. x ≢ y)) s.whole (order_total p h w).once)
 
@@ -161,8 +161,8 @@ add_lands r h w at title v l =
     let left : Option Identifier = left_for catalogue h at in
     let right : Option Identifier = right_for catalogue h at in
     let op : Op = Section x left right title in
-    let a : left ≡ end_of z.front = sym (split_origin (is_shown h) (order catalogue h) at z) in
-    let b : right ≡ head_of z.back = right_is catalogue h at z v in
+    let a : left ≡ last_before z.front = sym (split_origin (is_shown h) (order catalogue h) at z) in
+    let b : right ≡ first_after z.back = right_is catalogue h at z v in
     let sl : Stands left (order catalogue h) = subst (Stands left) (sym z.whole) (subst (λ o. Stands o (z.front ++ z.back)) (sym a) (end_stands z.front z.back)) in
     let sr : Stands right (order catalogue h) = subst (Stands right) (sym z.whole) (subst (λ o. Stands o (z.front ++ z.back)) (sym b) (head_stands z.front z.back)) in
     let fresh : holds h x ≡ false = none c (omega arith) in

@@ -4,7 +4,7 @@ use Rattle.std.specs.Prelude.{nat_lt}
 use Rattle.std.proofs.lemmas.Bool.{ltb-false}
 use Rattle.origin_model.specs.edits.Edits.{Command, Put, Cut, Add, DropSection, IsEdit, ReadyInTurn, extended, left_for}
 use Rattle.origin_model.specs.edits.Landing.{StandsBehind}
-use Rattle.origin_model.specs.edits.Refusal.{added_ids, held_count, in_range, in_section, made_by, put_ids, refusal, refused_elements, refused_ops, section_shown, shown_count}
+use Rattle.origin_model.specs.edits.Refusal.{added_ids, held_count, in_range, in_section, made_by, put_ids, refusal_message, refused_elements, refused_ops, section_shown, shown_count}
 use Rattle.origin_model.specs.edits.Effect.{IsErased, IsInserted, IsSpliced, Lands, with_ops}
 use Rattle.origin_model.specs.edits.State.{State}
 use Rattle.origin_model.specs.declared.edit_fault.EditFault.{EditFault}
@@ -47,33 +47,33 @@ record MayPut (s : State) (k at n : ℕ) : Type 0 where
   pub within_shown : at ≤ shown_count s (within section)
   pub room : held_count s + n ≤ s.most
 
-may_put : (s : State) (k at : ℕ) (new : List ℕ) → refusal s (Put k at new) ≡ None → MayPut s k at (length new)
+may_put : (s : State) (k at : ℕ) (new : List ℕ) → refusal_message s (Put k at new) ≡ None → MayPut s k at (length new)
 may_put s k at new e =
     let x = section_there (section_shown s k) (λ x. in_range at (shown_count s (within x)) (refused_elements s (length new))) e in
     let r = position_within at (shown_count s (within x.0)) (refused_elements s (length new)) x.2 in
     record { section = x.0; there = x.1; within_shown = r.0; room = elements_fit s (length new) r.1 }
 
 -- a cut that is not refused
-may_cut : (s : State) (k at n : ℕ) → refusal s (Cut k at n) ≡ None → MayPut s k (at + n) n
+may_cut : (s : State) (k at n : ℕ) → refusal_message s (Cut k at n) ≡ None → MayPut s k (at + n) n
 may_cut s k at n e =
     let x = section_there (section_shown s k) (λ x. in_range (at + n) (shown_count s (within x)) (refused_ops s n)) e in
     let r = position_within (at + n) (shown_count s (within x.0)) (refused_ops s n) x.2 in
     record { section = x.0; there = x.1; within_shown = r.0; room = ops_fit s n r.1 }
 
 -- an add that is not refused
-may_add : (s : State) (at : ℕ) (title : List ℕ) → refusal s (Add at title) ≡ None → (at ≤ shown_count s catalogue) × (held_count s + 1 ≤ s.most)
+may_add : (s : State) (at : ℕ) (title : List ℕ) → refusal_message s (Add at title) ≡ None → (at ≤ shown_count s catalogue) × (held_count s + 1 ≤ s.most)
 may_add s at title e = let r = position_within at (shown_count s catalogue) (refused_elements s 1) e in (r.0, elements_fit s 1 r.1)
 
 -- a drop that is not refused
-may_drop : (s : State) (k : ℕ) → refusal s (DropSection k) ≡ None → (x : Identifier) × (section_shown s k ≡ Some x) × (held_count s + 1 ≤ s.most)
+may_drop : (s : State) (k : ℕ) → refusal_message s (DropSection k) ≡ None → (x : Identifier) × (section_shown s k ≡ Some x) × (held_count s + 1 ≤ s.most)
 may_drop s k e = let x = section_there (section_shown s k) (λ x. refused_ops s 1) e in (x.0, x.1, ops_fit s 1 x.2)
 
 -- how many operations a put makes
-pub put_count : (s : State) (k at : ℕ) (new : List ℕ) → refusal s (Put k at new) ≡ None → length (made_by s (Put k at new)) ≡ length new
+pub put_count : (s : State) (k at : ℕ) (new : List ℕ) → refusal_message s (Put k at new) ≡ None → length (made_by s (Put k at new)) ≡ length new
 put_count s k at new e = let m = may_put s k at new e in put_counted s.number s.held.history s.held.waiting k m.section at new m.there
 
 -- how many a cut makes
-pub cut_count : (s : State) (k at n : ℕ) → refusal s (Cut k at n) ≡ None → length (made_by s (Cut k at n)) ≡ n
+pub cut_count : (s : State) (k at n : ℕ) → refusal_message s (Cut k at n) ≡ None → length (made_by s (Cut k at n)) ≡ n
 cut_count s k at n e = let m = may_cut s k at n e in cut_counted s.number s.held.history s.held.waiting k m.section at n m.there m.within_shown
 
 -- what is shown after an edit
@@ -97,7 +97,7 @@ erases p old new ops at n is takes =
     }
 
 -- an edit that is not refused lands where it was asked
-pub edit_lands : (command : Command) (old new : State) → Lawful old.held.history → refusal old command ≡ None → new ≡ with_ops old (made_by old command) → Lands old new command
+pub edit_lands : (command : Command) (old new : State) → Lawful old.held.history → refusal_message old command ≡ None → new ≡ with_ops old (made_by old command) → Lands old new command
 edit_lands (Put k at text) old new w e is =
     let m = may_put old k at text e in (
       m.section,
@@ -120,7 +120,7 @@ edit_lands (DropSection k) old new w e is =
     erases catalogue old new (made_by old (DropSection k)) k 1 is (drop_takes old.number old.held.history old.held.waiting k x.0 w x.1)
 
 -- its operations are Ready in turn
-pub made_ready : (command : Command) (s : State) → Lawful s.held.history → refusal s command ≡ None → ReadyInTurn s.held.history (made_by s command)
+pub made_ready : (command : Command) (s : State) → Lawful s.held.history → refusal_message s command ≡ None → ReadyInTurn s.held.history (made_by s command)
 made_ready (Put k at text) s w e =
     let m = may_put s k at text e in
     (put_lands s.number s.held.history s.held.waiting k at text m.section w m.there m.within_shown).0.ready
@@ -133,7 +133,7 @@ made_ready (DropSection k) s w e =
     (drop_takes s.number s.held.history s.held.waiting k x.0 w x.1).0.ready
 
 -- they are not too many
-pub made_fits : (command : Command) (s : State) → refusal s command ≡ None → held_count s + length (made_by s command) ≤ s.most
+pub made_fits : (command : Command) (s : State) → refusal_message s command ≡ None → held_count s + length (made_by s command) ≤ s.most
 made_fits (Put k at text) s e = omega (arith, (may_put s k at text e).room, put_count s k at text e)
 made_fits (Cut k at n) s e = omega (arith, (may_cut s k at n e).room, cut_count s k at n e)
 made_fits (Add at title) s e = (may_add s at title e).1

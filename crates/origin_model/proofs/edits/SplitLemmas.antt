@@ -1,33 +1,33 @@
 -- A list cut in two at a place of what is kept of it.
 use Rattle.origin_model.proofs.Words.{All, All-contains, All-head, All-tail, AllPairs, Bool, Contains, Contains-append_left, Identifier, List, None, Op, Option, Some, [], all_pairs_head, all_pairs_tail, ap, arith, cases_Bool, cases_origin, contains_here, contains_middle, contains_there, drop, false, filter, id_eq, id_eq-refl, if◌then◌else◌, inl, inr, is_hidden, length, ne-id_eq, not, refl, slice_get, subst, suc, sym, take, true, zero, ℕ, ◌++◌, ◌∙◌, ◌∷◌, ◌≡◌, ◌≢◌, ◌≤◌}
 use Rattle.origin_model.proofs.order.{Stands, filter_no, filter_yes, no_member, not_nil}
-use Rattle.origin_model.specs.edits.Landing.{end_of, following, head_of}
+use Rattle.origin_model.specs.edits.Landing.{last_before, following, first_after}
 use Rattle.origin_model.specs.edits.Edits.{in_front}
 
 -- a list's end and its head
-pub end_split : (xs : List Identifier) (l : Identifier) → end_of xs ≡ Some l → (f : List Identifier) × (xs ≡ f ++ l ∷ [])
+pub end_split : (xs : List Identifier) (l : Identifier) → last_before xs ≡ Some l → (f : List Identifier) × (xs ≡ f ++ l ∷ [])
 end_split [] l e = cc
 end_split (x ∷ []) l e = let d : x ≡ l = cc in ([], λ i. d i ∷ [])
 end_split (x ∷ y ∷ ys) l e = let r = end_split (y ∷ ys) l e in (x ∷ r.0, λ i. x ∷ r.1 i)
 
 -- a list without a last member is empty
-pub end_none : (xs : List Identifier) → end_of xs ≡ None → xs ≡ []
+pub end_none : (xs : List Identifier) → last_before xs ≡ None → xs ≡ []
 end_none [] e = refl
 end_none (x ∷ []) e = cc
 end_none (x ∷ y ∷ ys) e = absurd (not_nil [] y ys (sym (end_none (y ∷ ys) e)))
 
 -- a list, by its first member
-pub head_split : (xs : List Identifier) (r : Identifier) → head_of xs ≡ Some r → (f : List Identifier) × (xs ≡ r ∷ f)
+pub head_split : (xs : List Identifier) (r : Identifier) → first_after xs ≡ Some r → (f : List Identifier) × (xs ≡ r ∷ f)
 head_split [] r e = cc
 head_split (x ∷ xs) r e = let d : x ≡ r = cc in (xs, λ i. d i ∷ xs)
 
 -- a list without a first member is empty
-pub head_none : (xs : List Identifier) → head_of xs ≡ None → xs ≡ []
+pub head_none : (xs : List Identifier) → first_after xs ≡ None → xs ≡ []
 head_none [] e = refl
 head_none (x ∷ xs) e = cc
 
 -- the last of a list that has it at its end
-pub end_push : (f : List Identifier) (l : Identifier) → end_of (f ++ l ∷ []) ≡ Some l
+pub end_push : (f : List Identifier) (l : Identifier) → last_before (f ++ l ∷ []) ≡ Some l
 end_push [] l = refl
 end_push (e ∷ []) l = refl
 end_push (e ∷ g ∷ f) l = end_push (g ∷ f) l
@@ -38,9 +38,9 @@ EndsAt front kept zero = front ≡ []
 EndsAt front kept (suc k) = (f : List Identifier) × (l : Identifier) × (front ≡ f ++ l ∷ []) × (slice_get kept k ≡ Some l)
 
 -- so it ends in the left origin
-ends_origin : (front kept : List Identifier) (at : ℕ) → EndsAt front kept at → end_of front ≡ in_front kept at
-ends_origin front kept zero e = ap end_of e
-ends_origin front kept (suc k) e = ap end_of e.2 ∙ end_push e.0 e.1 ∙ sym e.3
+ends_origin : (front kept : List Identifier) (at : ℕ) → EndsAt front kept at → last_before front ≡ in_front kept at
+ends_origin front kept zero e = ap last_before e
+ends_origin front kept (suc k) e = ap last_before e.2 ∙ end_push e.0 e.1 ∙ sym e.3
 
 pub record Split (keep : Identifier → Bool) (o : List Identifier) (at : ℕ) : Type 0 where
   pub front : List Identifier
@@ -87,7 +87,7 @@ split keep (e ∷ es) (suc k) l =
     ]
 
 -- the front ends in the left origin
-pub split_origin : (keep : Identifier → Bool) (o : List Identifier) (at : ℕ) (s : Split keep o at) → end_of s.front ≡ in_front (filter keep o) at
+pub split_origin : (keep : Identifier → Bool) (o : List Identifier) (at : ℕ) (s : Split keep o at) → last_before s.front ≡ in_front (filter keep o) at
 split_origin keep o at s = ends_origin s.front (filter keep o) at s.ends
 
 -- what follows the last of the front is the first behind it, in a list of distinct members
@@ -100,24 +100,24 @@ not_yes true e = sym e
 not_yes false e = refl
 
 -- behind the first member
-follow-own : (e : Identifier) (es : List Identifier) → following (e ∷ es) (Some e) ≡ head_of es
-follow-own e es = ap (λ b. if b then head_of es else following es (Some e)) (id_eq-refl e)
+follow-own : (e : Identifier) (es : List Identifier) → following (e ∷ es) (Some e) ≡ first_after es
+follow-own e es = ap (λ b. if b then first_after es else following es (Some e)) (id_eq-refl e)
 
 -- behind a later member
 follow-other : (e l : Identifier) (es : List Identifier) → id_eq e l ≡ false → following (e ∷ es) (Some l) ≡ following es (Some l)
-follow-other e l es k = ap (λ b. if b then head_of es else following es (Some l)) k
+follow-other e l es k = ap (λ b. if b then first_after es else following es (Some l)) k
 
 -- the last member is a member
-end_in : (xs : List Identifier) (l : Identifier) → end_of xs ≡ Some l → Contains xs l
+end_in : (xs : List Identifier) (l : Identifier) → last_before xs ≡ Some l → Contains xs l
 end_in xs l e = let s = end_split xs l e in subst (λ c. Contains c l) (sym s.1) (contains_middle s.0 l [])
 
 -- what follows the end of the front is the first of the rest
-pub following_end : (front back : List Identifier) → Distinct (front ++ back) → following (front ++ back) (end_of front) ≡ head_of back
+pub following_end : (front back : List Identifier) → Distinct (front ++ back) → following (front ++ back) (last_before front) ≡ first_after back
 following_end [] back d = refl
 following_end (e ∷ []) back d = follow-own e back
 following_end (e ∷ f ∷ es) back d =
     let rest : List Identifier = f ∷ es in
-    elim (cases_origin (end_of rest)) [
+    elim (cases_origin (last_before rest)) [
       | inl n ↦ absurd (no_member rest f (end_none rest n) (contains_here f es))
       | inr m ↦
           let apart : e ≢ m.0 = All-contains (λ y. e ≢ y) (rest ++ back) m.0 (all_pairs_head (λ x y. x ≢ y) e (rest ++ back) d) (Contains-append_left rest back m.0 (end_in rest m.0 m.1)) in
@@ -130,16 +130,16 @@ stands_cons e xs None s = tt
 stands_cons e xs (Some x) s = contains_there e xs x s
 
 -- the end of a front stands in the list
-pub end_stands : (front back : List Identifier) → Stands (end_of front) (front ++ back)
+pub end_stands : (front back : List Identifier) → Stands (last_before front) (front ++ back)
 end_stands [] back = tt
 end_stands (e ∷ []) back = contains_here e back
-end_stands (e ∷ f ∷ es) back = stands_cons e (f ∷ es ++ back) (end_of (f ∷ es)) (end_stands (f ∷ es) back)
+end_stands (e ∷ f ∷ es) back = stands_cons e (f ∷ es ++ back) (last_before (f ∷ es)) (end_stands (f ∷ es) back)
 
 -- the first of a rest stands in the list
-pub head_stands : (front back : List Identifier) → Stands (head_of back) (front ++ back)
+pub head_stands : (front back : List Identifier) → Stands (first_after back) (front ++ back)
 head_stands [] [] = tt
 head_stands [] (b ∷ back) = contains_here b back
-head_stands (e ∷ es) back = stands_cons e (es ++ back) (head_of back) (head_stands es back)
+head_stands (e ∷ es) back = stands_cons e (es ++ back) (first_after back) (head_stands es back)
 
 -- a member at a place is a member
 pub get_in : (xs : List Identifier) (k : ℕ) (x : Identifier) → slice_get xs k ≡ Some x → Contains xs x

@@ -3,7 +3,7 @@ use Rattle.origin_model.proofs.Words.{All, All-head, is_some, Delete, Identifier
 use Rattle.origin_model.specs.operations.History.{place}
 use Rattle.origin_model.specs.sides.Node.{AreNodes, as_ops, find_node, node_order, nodes}
 use Rattle.origin_model.specs.declared.operations.node.Node.{Node}
-use Rattle.origin_model.specs.declared.operations.role.Role.TheVariants.{Any}
+use Rattle.origin_model.specs.declared.operations.Role.TheVariants.{Any}
 use Rattle.origin_model.proofs.operations.CauseLemmas.{becomes_ready, ready_absent}
 use Rattle.origin_model.proofs.operations.LookupLemmas.{Fits, IsHeld, element_ready, found, holder_owns, holds-older, missing-held, own_id, ready_fits, stray-fits, when_ready}
 use Rattle.origin_model.proofs.operations.ElementLemmas.{element_stands, element_there, fits_element, home_names}

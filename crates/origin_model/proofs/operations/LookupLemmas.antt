@@ -3,7 +3,7 @@ use Rattle.origin_model.proofs.Words.{All, All-cons, All-head, All-nil, All-tail
 use Rattle.origin_model.specs.declared.operations.node.Node.{Node}
 use Rattle.origin_model.specs.operations.History.{element, place}
 use Rattle.origin_model.proofs.operations.ElementLemmas.{element_names, home_names, role_in}
-use Rattle.origin_model.specs.declared.operations.role.Role.TheVariants.{Any}
+use Rattle.origin_model.specs.declared.operations.Role.TheVariants.{Any}
 use Rattle.std.specs.Option.{option_or}
 
 -- an identifier that is the operation's own, as an equation

@@ -2,7 +2,7 @@
 use Rattle.origin_model.proofs.Words.{Bool, Identifier, List, [], chain_before, drop, drop_more, false, id_eq, if◌then◌else◌, length, refl, true, ℕ, ◌<◌, ◌∷◌, ◌≡◌, ◌≤◌}
 use Rattle.std.proofs.lemmas.List.{drop_all}
 use Rattle.origin_model.specs.order.Fork.{fork_of, by_fork}
-use Rattle.origin_model.specs.declared.order.fork.Fork.TheVariants.{FirstEnds, SecondEnds, At}
+use Rattle.origin_model.specs.declared.order.comparison.Fork.TheVariants.{FirstEnds, SecondEnds, At}
 
 abbrev none : Identifier
 none = record { replica = 0; counter = 0 }

@@ -5,7 +5,7 @@ use Rattle.origin_model.specs.declared.operations.node.Node.{Node}
 use Rattle.origin_model.specs.operations.History.{element, stands_at}
 use Rattle.origin_model.proofs.operations.ElementLemmas.{element_id, place_eq-true}
 use Rattle.origin_model.specs.order.Listed.{elements_at, ListsAll}
-use Rattle.origin_model.specs.declared.order.listed.Listed.{Listed}
+use Rattle.origin_model.specs.declared.order.listing.Listed.{Listed}
 use Rattle.origin_model.proofs.order.OrderLemmas.{order-none, order-some}
 use Rattle.std.proofs.lemmas.List.Sums.{count_by-le-length}
 

@@ -2,7 +2,7 @@
 use Rattle.origin_model.proofs.Words.{Bool, Identifier, List, Op, Place, [], ap, append_assoc, catalogue, codes, cond, false, filter, flat_map, holder, if◌then◌else◌, is_hidden, manuscript, not, place_eq, printed_section, refl, scalar_of, shown, sym, text, true, within, ℕ, ◌&&◌, ◌++◌, ◌∙◌, ◌∷◌, ◌≡◌}
 use Rattle.std.specs.Str.{encode_utf8_all}
 use lib.Utf8.{encode}
-use Rattle.origin_model.specs.declared.order.listed.Listed.{Listed}
+use Rattle.origin_model.specs.declared.order.listing.Listed.{Listed}
 use Rattle.origin_model.specs.order.Listed.{elements_at, ListsAll, part, scalar_bytes_of, shows}
 
 module _ (bytes_of : Identifier → List ℕ) (h : List Op) (p : Place) where

@@ -1,12 +1,12 @@
 -- The definitions leave nothing open: bytes are of one kind, and so events leave a relay in one state, with the same replies; where bytes are of some kind, events leave it in some state.
 use Rattle.origin_model.proofs.Words.{Delete, List, None, Op, Option, Section, Some, Text, [], ap, arith, get_or, length, refl, subst, sym, ℕ, ◌++◌, ◌<◌, ◌∙◌, ◌∷◌, ◌≡◌}
 use Rattle.std.specs.FinMap as finite
-use Rattle.origin_model.specs.declared.relay.event.Event.{Event}
-use Rattle.origin_model.specs.declared.relay.event.Event.TheVariants.{Gone, Opened, Piece}
-use Rattle.origin_model.specs.declared.relay.reply.Reply.{Reply}
+use Rattle.origin_model.specs.declared.relay.Event.{Event}
+use Rattle.origin_model.specs.declared.relay.Event.TheVariants.{Gone, Opened, Piece}
+use Rattle.origin_model.specs.declared.relay.Reply.{Reply}
 use Rattle.origin_model.specs.frames.Frames.{HasFrame, IsPartial, frame}
-use Rattle.origin_model.specs.relay.Relay.{Relay, Runs, Steps, StepsPiece, opened, reply_of, sessions_after}
-use Rattle.origin_model.specs.relay.Session.{Closes, Closing, Frame, Front, Goes, IsKind, Kind, Neither, Next, Reading, Taken, TakesAll, TakesByte, TakesOne, closing, greeted, told}
+use Rattle.origin_model.specs.relay.Relay.{Relay, RelayRuns, RelaySteps, StepsPiece, session_opened, reply_of, sessions_after}
+use Rattle.origin_model.specs.relay.Session.{Closes, Closing, Frame, Front, Goes, IsKind, Kind, Neither, Next, SessionReading, Taken, TakesAll, TakesByte, TakesOne, closing, greeted, told}
 
 -- no frame is a proper front of another
 abbrev pub NoFront : Type 0
@@ -81,7 +81,7 @@ all_once one limit (byte ∷ bytes) start a b h i =
     all_once one limit bytes i.0 a b (subst (λ (t : Taken). TakesAll limit bytes t a) middle h.2) i.2
 
 -- a piece has one outcome
-piece_once : NoFront → (old : Relay) (n : ℕ) (found : Option Reading) (bytes : List ℕ) (a b : Relay) (x y : Option Reply) → StepsPiece old n found bytes a x → StepsPiece old n found bytes b y → (a ≡ b) × (x ≡ y)
+piece_once : NoFront → (old : Relay) (n : ℕ) (found : Option SessionReading) (bytes : List ℕ) (a b : Relay) (x y : Option Reply) → StepsPiece old n found bytes a x → StepsPiece old n found bytes b y → (a ≡ b) × (x ≡ y)
 piece_once one old n None bytes a b x y h i = (h.0 ∙ sym i.0, h.1 ∙ sym i.1)
 piece_once one old n (Some reading) bytes a b x y h i =
     let same : h.taken ≡ i.taken = all_once one old.limit bytes (record { log = old.log; next = Goes reading }) h.taken i.taken h.takes i.takes in (
@@ -90,17 +90,17 @@ piece_once one old n (Some reading) bytes a b x y h i =
     )
 
 -- an event has one outcome
-pub step_once : NoFront → (old : Relay) (event : Event) (a b : Relay) (x y : Option Reply) → Steps old event a x → Steps old event b y → (a ≡ b) × (x ≡ y)
+pub step_once : NoFront → (old : Relay) (event : Event) (a b : Relay) (x y : Option Reply) → RelaySteps old event a x → RelaySteps old event b y → (a ≡ b) × (x ≡ y)
 step_once one old (Opened n) a b x y h i = (h.0 ∙ sym i.0, h.1 ∙ sym i.1)
 step_once one old (Piece n bytes) a b x y h i = piece_once one old n (finite.get old.sessions n) bytes a b x y h i
 step_once one old (Gone n) a b x y h i = (h.0 ∙ sym i.0, h.1 ∙ sym i.1)
 
 -- a run of events ends in one state, with the same replies
-pub run_once : NoFront → (events : List Event) (start a b : Relay) (as' bs : List (Option Reply)) → Runs start events a as' → Runs start events b bs → (a ≡ b) × (as' ≡ bs)
+pub run_once : NoFront → (events : List Event) (start a b : Relay) (as' bs : List (Option Reply)) → RelayRuns start events a as' → RelayRuns start events b bs → (a ≡ b) × (as' ≡ bs)
 run_once one [] start a b as' bs h i = (h.0 ∙ sym i.0, h.1 ∙ sym i.1)
 run_once one (event ∷ events) start a b as' bs h i =
     let both = step_once one start event h.0 i.0 h.1 i.1 h.3 i.3 in
-    let rest = run_once one events i.0 a b h.2 i.2 (subst (λ (s : Relay). Runs s events a h.2) both.0 h.4) i.4 in
+    let rest = run_once one events i.0 a b h.2 i.2 (subst (λ (s : Relay). RelayRuns s events a h.2) both.0 h.4) i.4 in
     (rest.0, h.5 ∙ (λ j. both.1 j ∷ rest.1 j) ∙ sym i.5)
 
 -- bytes are of some kind
@@ -126,20 +126,20 @@ all_some some limit (byte ∷ bytes) start =
     (rest.0, (middle.0, middle.1, rest.1))
 
 -- a piece has an outcome
-piece_some : SomeKind → (old : Relay) (n : ℕ) (found : Option Reading) (bytes : List ℕ) → (new : Relay) × (reply : Option Reply) × StepsPiece old n found bytes new reply
+piece_some : SomeKind → (old : Relay) (n : ℕ) (found : Option SessionReading) (bytes : List ℕ) → (new : Relay) × (reply : Option Reply) × StepsPiece old n found bytes new reply
 piece_some some old n None bytes = (old, None, (refl, refl))
 piece_some some old n (Some reading) bytes =
     let t = all_some some old.limit bytes (record { log = old.log; next = Goes reading }) in
     (record { limit = old.limit; log = t.0.log; sessions = sessions_after n old.sessions t.0.next }, reply_of n t.0.next, record { taken = t.0; takes = t.1; new_is = refl; reply_is = refl })
 
 -- an event has an outcome
-pub step_some : SomeKind → (old : Relay) (event : Event) → (new : Relay) × (reply : Option Reply) × Steps old event new reply
-step_some some old (Opened n) = (record { limit = old.limit; log = old.log; sessions = opened n old.sessions }, None, (refl, refl))
+pub step_some : SomeKind → (old : Relay) (event : Event) → (new : Relay) × (reply : Option Reply) × RelaySteps old event new reply
+step_some some old (Opened n) = (record { limit = old.limit; log = old.log; sessions = session_opened n old.sessions }, None, (refl, refl))
 step_some some old (Piece n bytes) = piece_some some old n (finite.get old.sessions n) bytes
 step_some some old (Gone n) = (record { limit = old.limit; log = old.log; sessions = finite.remove old.sessions n }, None, (refl, refl))
 
 -- a run of events ends in some state
-pub run_some : SomeKind → (events : List Event) (start : Relay) → (end : Relay) × (replies : List (Option Reply)) × Runs start events end replies
+pub run_some : SomeKind → (events : List Event) (start : Relay) → (end : Relay) × (replies : List (Option Reply)) × RelayRuns start events end replies
 run_some some [] start = (start, [], (refl, refl))
 run_some some (event ∷ events) start =
     let first = step_some some start event in

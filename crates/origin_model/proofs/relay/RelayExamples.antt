@@ -6,12 +6,12 @@ use lib.Utf8.{encode}
 use Rattle.std.specs.FinMap as finite
 use Rattle.std.specs.FinMap.{gets}
 use Rattle.std.proofs.lemmas.Nat.{from_be_bytes-to_be_bytes_4}
-use Rattle.origin_model.specs.declared.relay.event.Event.{Event}
-use Rattle.origin_model.specs.declared.relay.event.Event.TheVariants.{Gone, Opened, Piece}
-use Rattle.origin_model.specs.declared.relay.reply.Reply.{Reply}
+use Rattle.origin_model.specs.declared.relay.Event.{Event}
+use Rattle.origin_model.specs.declared.relay.Event.TheVariants.{Gone, Opened, Piece}
+use Rattle.origin_model.specs.declared.relay.Reply.{Reply}
 use Rattle.origin_model.specs.frames.Frames.{HasFrame, frame}
-use Rattle.origin_model.specs.relay.Relay.{Relay, Runs, Sessions, Steps, new_relay, reply_of}
-use Rattle.origin_model.specs.relay.Session.{reply_from, Closes, Goes, Reading, IsKind, Neither, Taken, TakesAll, closing, goes_on, greeted, refusal, refused, unread}
+use Rattle.origin_model.specs.relay.Relay.{Relay, RelayRuns, Sessions, RelaySteps, new_relay, reply_of}
+use Rattle.origin_model.specs.relay.Session.{reply_from, Closes, Goes, SessionReading, IsKind, Neither, Taken, TakesAll, closing, session_goes_on, greeted, refusal_message, session_refused, unread}
 use Rattle.origin_model.proofs.relay.OneOutcomeLemmas.{begins_low, first}
 use Rattle.origin_model.proofs.relay.RunLemmas.{after_piece, open_stays, opened_steps, unknown_steps, piece_steps, follows_runs}
 use Rattle.origin_model.proofs.relay.TextLemmas.{closing_takes, hello, hello_takes, closed_takes, frame_takes, front_takes, partly, takes-append}
@@ -61,7 +61,7 @@ all_frames = frame A ++ frame S ++ 0x55 ∷ 0 ∷ 0 ∷ 0 ∷ 2 ∷ []
 abbrev many : ℕ
 many = 1048576
 
-abbrev behind : ℕ → Reading
+abbrev behind : ℕ → SessionReading
 behind cursor = record { cursor = Some cursor; rest = [] }
 
 abbrev relay : List (List ℕ) → Sessions → Relay
@@ -74,7 +74,7 @@ both_closed =
     finite.remove (finite.remove (finite.insert (finite.insert (finite.insert open_two 0 (behind 0)) 1 (behind 0)) 0 (behind 0)) 1) 0
 
 -- the log has both frames, in the order in which they came, and each session is answered both
-two_sessions_run : Runs (new_relay many) two_sessions (relay both both_closed) (None ∷ None ∷ None ∷ None ∷ None ∷ reply 1 all_frames ∷ reply 0 all_frames ∷ [])
+two_sessions_run : RelayRuns (new_relay many) two_sessions (relay both both_closed) (None ∷ None ∷ None ∷ None ∷ None ∷ reply 1 all_frames ∷ reply 0 all_frames ∷ [])
 unfolding encode
 two_sessions_run =
     let a : Sessions = finite.insert finite.empty 0 unread in
@@ -84,13 +84,13 @@ two_sessions_run =
     let e : Sessions = finite.insert d 0 (behind 0) in
     let f : Sessions = finite.remove e 1 in
     let hello_0 = hello_takes many [] 0 (omega arith) in
-    let hello_1 = takes-append many (hello 0) (frame A) (record { log = []; next = Goes unread }) (goes_on [] 0) (goes_on (frame A ∷ []) 0) hello_0 (frame_takes many 0 [] A A_has) in
+    let hello_1 = takes-append many (hello 0) (frame A) (record { log = []; next = Goes unread }) (session_goes_on [] 0) (session_goes_on (frame A ∷ []) 0) hello_0 (frame_takes many 0 [] A A_has) in
     let closes : Taken = record { log = both; next = Closes (reply_from both 0) } in
     let s = opened_steps (new_relay many) 0 (simp gets refl) in
     let t = opened_steps (relay [] a) 1 (simp gets refl) in
-    let u = piece_steps (relay [] b) 0 unread (hello 0) (goes_on [] 0) (simp gets refl) hello_0 in
-    let v = piece_steps (relay [] c) 1 unread (hello 0 ++ frame A) (goes_on (frame A ∷ []) 0) (simp gets refl) hello_1 in
-    let w = piece_steps (relay (frame A ∷ []) d) 0 (behind 0) (frame S) (goes_on both 0) (simp gets refl) (frame_takes many 0 (frame A ∷ []) S S_has) in
+    let u = piece_steps (relay [] b) 0 unread (hello 0) (session_goes_on [] 0) (simp gets refl) hello_0 in
+    let v = piece_steps (relay [] c) 1 unread (hello 0 ++ frame A) (session_goes_on (frame A ∷ []) 0) (simp gets refl) hello_1 in
+    let w = piece_steps (relay (frame A ∷ []) d) 0 (behind 0) (frame S) (session_goes_on both 0) (simp gets refl) (frame_takes many 0 (frame A ∷ []) S S_has) in
     let x = piece_steps (relay both e) 1 (behind 0) closing closes (simp gets refl) (closing_takes many 0 both) in
     let y = piece_steps (relay both f) 0 (behind 0) closing closes (simp gets refl) (closing_takes many 0 both) in
     follows_runs (new_relay many)
@@ -103,7 +103,7 @@ abbrev byte_by_byte : List Event
 byte_by_byte = Piece 2 (0x48 ∷ []) ∷ Piece 2 (0 ∷ []) ∷ Piece 2 (0 ∷ []) ∷ Piece 2 (0 ∷ []) ∷ Piece 2 (1 ∷ []) ∷ Piece 2 (0x44 ∷ []) ∷ []
 
 -- how far its greeting was read
-abbrev greets : List ℕ → Reading
+abbrev greets : List ℕ → SessionReading
 greets bytes = record { cursor = None; rest = bytes }
 
 abbrev second_frame : List ℕ
@@ -121,7 +121,7 @@ module _ (others : Sessions) where
   abbrev closed_2 : Sessions
   closed_2 = finite.remove (finite.insert greeted_2 2 (behind 1)) 2
 
-  byte_by_byte_run : finite.get others 2 ≡ Some unread → Runs (relay both others) byte_by_byte (relay both closed_2) (None ∷ None ∷ None ∷ None ∷ None ∷ reply 2 second_frame ∷ [])
+  byte_by_byte_run : finite.get others 2 ≡ Some unread → RelayRuns (relay both others) byte_by_byte (relay both closed_2) (None ∷ None ∷ None ∷ None ∷ None ∷ reply 2 second_frame ∷ [])
   unfolding encode
   byte_by_byte_run found =
       let a : Sessions = finite.insert others 2 (greets (0x48 ∷ [])) in
@@ -129,7 +129,7 @@ module _ (others : Sessions) where
       let c : Sessions = finite.insert b 2 (greets (0x48 ∷ 0 ∷ 0 ∷ [])) in
       let d : Sessions = finite.insert c 2 (greets (0x48 ∷ 0 ∷ 0 ∷ 0 ∷ [])) in
       let e : Sessions = finite.insert d 2 (behind 1) in
-      let more : (old : Sessions) (bytes : List ℕ) (byte : ℕ) → finite.get old 2 ≡ Some (greets bytes) → Steps (relay both old) (Piece 2 (byte ∷ [])) (after_piece (relay both old) 2 (greeted both (bytes ++ byte ∷ []))) (reply_of 2 (greeted both (bytes ++ byte ∷ [])).next) = λ old bytes byte g.
+      let more : (old : Sessions) (bytes : List ℕ) (byte : ℕ) → finite.get old 2 ≡ Some (greets bytes) → RelaySteps (relay both old) (Piece 2 (byte ∷ [])) (after_piece (relay both old) 2 (greeted both (bytes ++ byte ∷ []))) (reply_of 2 (greeted both (bytes ++ byte ∷ [])).next) = λ old bytes byte g.
       piece_steps (relay both old) 2 (greets bytes) (byte ∷ []) (greeted both (bytes ++ byte ∷ [])) g (greeted both (bytes ++ byte ∷ []), refl, refl) in
       let s = more others [] 0x48 found in
       let t = more a (0x48 ∷ []) 0 (simp gets refl) in
@@ -147,22 +147,22 @@ unfolding encode
 answers_have_41_and_19_bytes = (refl, refl)
 
 -- a cursor of 3 is beyond a log of two frames: the session is refused at the fourth byte of the cursor, and what the piece brings behind it counts for nothing
-cursor_beyond : TakesAll many (hello 3 ++ frame A) (record { log = both; next = Goes unread }) (refused both 3)
-cursor_beyond = takes-append many (hello 3) (frame A) (record { log = both; next = Goes unread }) (refused both 3) (refused both 3) (hello_takes many both 3 (omega arith)) (closed_takes many (frame A) both (refusal 3))
+cursor_beyond : TakesAll many (hello 3 ++ frame A) (record { log = both; next = Goes unread }) (session_refused both 3)
+cursor_beyond = takes-append many (hello 3) (frame A) (record { log = both; next = Goes unread }) (session_refused both 3) (session_refused both 3) (hello_takes many both 3 (omega arith)) (closed_takes many (frame A) both (refusal_message 3))
 
 -- a log of one frame that may have no more takes that frame again, and refuses another at its last byte; the log stays
-full_log : TakesAll 1 (hello 0 ++ (frame S ++ (frame S ++ (frame A ++ closing)))) (record { log = []; next = Goes unread }) (refused (frame S ∷ []) 2)
+full_log : TakesAll 1 (hello 0 ++ (frame S ++ (frame S ++ (frame A ++ closing)))) (record { log = []; next = Goes unread }) (session_refused (frame S ∷ []) 2)
 unfolding encode
 full_log =
-    takes-append 1 (hello 0) (frame S ++ (frame S ++ (frame A ++ closing))) (record { log = []; next = Goes unread }) (goes_on [] 0) (refused (frame S ∷ []) 2) (hello_takes 1 [] 0 (omega arith))
-    (takes-append 1 (frame S) (frame S ++ (frame A ++ closing)) (goes_on [] 0) (goes_on (frame S ∷ []) 0) (refused (frame S ∷ []) 2) (frame_takes 1 0 [] S S_has)
-    (takes-append 1 (frame S) (frame A ++ closing) (goes_on (frame S ∷ []) 0) (goes_on (frame S ∷ []) 0) (refused (frame S ∷ []) 2) (frame_takes 1 0 (frame S ∷ []) S S_has)
-    (takes-append 1 (frame A) closing (goes_on (frame S ∷ []) 0) (refused (frame S ∷ []) 2) (refused (frame S ∷ []) 2) (frame_takes 1 0 (frame S ∷ []) A A_has)
-    (closed_takes 1 closing (frame S ∷ []) (refusal 2)))))
+    takes-append 1 (hello 0) (frame S ++ (frame S ++ (frame A ++ closing))) (record { log = []; next = Goes unread }) (session_goes_on [] 0) (session_refused (frame S ∷ []) 2) (hello_takes 1 [] 0 (omega arith))
+    (takes-append 1 (frame S) (frame S ++ (frame A ++ closing)) (session_goes_on [] 0) (session_goes_on (frame S ∷ []) 0) (session_refused (frame S ∷ []) 2) (frame_takes 1 0 [] S S_has)
+    (takes-append 1 (frame S) (frame A ++ closing) (session_goes_on (frame S ∷ []) 0) (session_goes_on (frame S ∷ []) 0) (session_refused (frame S ∷ []) 2) (frame_takes 1 0 (frame S ∷ []) S S_has)
+    (takes-append 1 (frame A) closing (session_goes_on (frame S ∷ []) 0) (session_refused (frame S ∷ []) 2) (session_refused (frame S ∷ []) 2) (frame_takes 1 0 (frame S ∷ []) A A_has)
+    (closed_takes 1 closing (frame S ∷ []) (refusal_message 2)))))
 
 -- a text that does not begin with 48 is refused at its first byte, also one that begins with the closing byte
-no_greeting : TakesAll many (0x47 ∷ 0x48 ∷ []) (record { log = []; next = Goes unread }) (refused [] 1) × TakesAll many (0x44 ∷ 0x48 ∷ []) (record { log = []; next = Goes unread }) (refused [] 1)
-no_greeting = ((refused [] 1, refl, closed_takes many (0x48 ∷ []) [] (refusal 1)), (refused [] 1, refl, closed_takes many (0x48 ∷ []) [] (refusal 1)))
+no_greeting : TakesAll many (0x47 ∷ 0x48 ∷ []) (record { log = []; next = Goes unread }) (session_refused [] 1) × TakesAll many (0x44 ∷ 0x48 ∷ []) (record { log = []; next = Goes unread }) (session_refused [] 1)
+no_greeting = ((session_refused [] 1, refl, closed_takes many (0x48 ∷ []) [] (refusal_message 1)), (session_refused [] 1, refl, closed_takes many (0x48 ∷ []) [] (refusal_message 1)))
 
 -- the four bytes behind the first
 next_four : List ℕ → List ℕ
@@ -190,16 +190,16 @@ no_message bytes none apart = (
 )
 
 -- a byte that begins no message is refused, and what the piece brings behind it counts for nothing
-no_such_message : TakesAll many (5 ∷ closing) (goes_on both 0) (refused both 1)
+no_such_message : TakesAll many (5 ∷ closing) (session_goes_on both 0) (session_refused both 1)
 no_such_message =
-    (refused both 1, (Neither, no_message (5 ∷ []) (λ op more h e. no_frame_with_5 op more e) (λ e. cc e), refl), closed_takes many closing both (refusal 1))
+    (session_refused both 1, (Neither, no_message (5 ∷ []) (λ op more h e. no_frame_with_5 op more e) (λ e. cc e), refl), closed_takes many closing both (refusal_message 1))
 
 -- a text of replica 0 is refused at the fourth byte of the replica
-replica_0 : TakesAll many ((2 ∷ 0 ∷ 0 ∷ 0 ∷ []) ++ 0 ∷ closing) (goes_on both 0) (refused both 1)
+replica_0 : TakesAll many ((2 ∷ 0 ∷ 0 ∷ 0 ∷ []) ++ 0 ∷ closing) (session_goes_on both 0) (session_refused both 1)
 replica_0 =
-    takes-append many (2 ∷ 0 ∷ 0 ∷ 0 ∷ []) (0 ∷ closing) (goes_on both 0) (partly both 0 (2 ∷ 0 ∷ 0 ∷ 0 ∷ [])) (refused both 1)
+    takes-append many (2 ∷ 0 ∷ 0 ∷ 0 ∷ []) (0 ∷ closing) (session_goes_on both 0) (partly both 0 (2 ∷ 0 ∷ 0 ∷ 0 ∷ [])) (session_refused both 1)
     (front_takes many 0 both A A_has [] (2 ∷ 0 ∷ 0 ∷ 0 ∷ []) 1 (drop 5 (frame A)) refl)
-    (refused both 1, (Neither, no_message (2 ∷ 0 ∷ 0 ∷ 0 ∷ 0 ∷ []) no_replica_0 (λ e. cc e), refl), closed_takes many closing both (refusal 1))
+    (session_refused both 1, (Neither, no_message (2 ∷ 0 ∷ 0 ∷ 0 ∷ 0 ∷ []) no_replica_0 (λ e. cc e), refl), closed_takes many closing both (refusal_message 1))
 
 -- a number that is opened while it is open goes on; one that is gone is unknown; one that is opened again begins an empty text
 abbrev reopened : List Event
@@ -210,13 +210,13 @@ opened_anew =
     let gone = finite.remove (finite.insert (finite.insert (finite.insert finite.empty 1 unread) 1 (greets (0x48 ∷ []))) 1 (greets (0x48 ∷ 0 ∷ []))) 1 in
     finite.insert (finite.remove gone 1) 1 unread
 
-reopened_run : Runs (new_relay many) reopened (relay [] (finite.remove opened_anew 1)) (None ∷ None ∷ None ∷ None ∷ None ∷ None ∷ None ∷ None ∷ reply 1 (refusal 1) ∷ [])
+reopened_run : RelayRuns (new_relay many) reopened (relay [] (finite.remove opened_anew 1)) (None ∷ None ∷ None ∷ None ∷ None ∷ None ∷ None ∷ None ∷ reply 1 (refusal_message 1) ∷ [])
 reopened_run =
     let a : Sessions = finite.insert finite.empty 1 unread in
     let b : Sessions = finite.insert a 1 (greets (0x48 ∷ [])) in
     let c : Sessions = finite.insert b 1 (greets (0x48 ∷ 0 ∷ [])) in
     let gone : Sessions = finite.remove c 1 in
-    let more : (old : Sessions) (bytes : List ℕ) (byte : ℕ) → finite.get old 1 ≡ Some (greets bytes) → Steps (relay [] old) (Piece 1 (byte ∷ [])) (after_piece (relay [] old) 1 (greeted [] (bytes ++ byte ∷ []))) (reply_of 1 (greeted [] (bytes ++ byte ∷ [])).next) = λ old bytes byte g.
+    let more : (old : Sessions) (bytes : List ℕ) (byte : ℕ) → finite.get old 1 ≡ Some (greets bytes) → RelaySteps (relay [] old) (Piece 1 (byte ∷ [])) (after_piece (relay [] old) 1 (greeted [] (bytes ++ byte ∷ []))) (reply_of 1 (greeted [] (bytes ++ byte ∷ [])).next) = λ old bytes byte g.
     piece_steps (relay [] old) 1 (greets bytes) (byte ∷ []) (greeted [] (bytes ++ byte ∷ [])) g (greeted [] (bytes ++ byte ∷ []), refl, refl) in
     let n = opened_steps (new_relay many) 1 (simp gets refl) in
     let o = more a [] 0x48 (simp gets refl) in
@@ -224,8 +224,8 @@ reopened_run =
     let q = more b (0x48 ∷ []) 0 (simp gets refl) in
     let r = unknown_steps (relay [] gone) 1 (5 ∷ []) (simp gets refl) in
     let s = opened_steps (relay [] (finite.remove gone 1)) 1 (simp gets refl) in
-    let t = piece_steps (relay [] opened_anew) 1 unread (0 ∷ 0x48 ∷ []) (refused [] 1) (simp gets refl) (refused [] 1, refl, closed_takes many (0x48 ∷ []) [] (refusal 1)) in
+    let t = piece_steps (relay [] opened_anew) 1 unread (0 ∷ 0x48 ∷ []) (session_refused [] 1) (simp gets refl) (session_refused [] 1, refl, closed_takes many (0x48 ∷ []) [] (refusal_message 1)) in
     follows_runs (new_relay many)
     ((Opened 1, relay [] a, None) ∷ (Piece 1 (0x48 ∷ []), relay [] b, None) ∷ (Opened 1, relay [] b, None) ∷ (Piece 1 (0 ∷ []), relay [] c, None) ∷ (Gone 1, relay [] gone, None) ∷ (Piece 1 (5 ∷ []), relay [] gone, None)
-    ∷ (Gone 1, relay [] (finite.remove gone 1), None) ∷ (Opened 1, relay [] opened_anew, None) ∷ (Piece 1 (0 ∷ 0x48 ∷ []), relay [] (finite.remove opened_anew 1), reply 1 (refusal 1)) ∷ [])
+    ∷ (Gone 1, relay [] (finite.remove gone 1), None) ∷ (Opened 1, relay [] opened_anew, None) ∷ (Piece 1 (0 ∷ 0x48 ∷ []), relay [] (finite.remove opened_anew 1), reply 1 (refusal_message 1)) ∷ [])
     (n, (o, (p, (q, ((refl, refl), (r, ((refl, refl), (s, (t, tt)))))))))

@@ -3,8 +3,8 @@ use Rattle.origin_model.proofs.Words.{All-contains, Bool, Contains, Identifier, 
 use Rattle.std.proofs.lemmas.Bool.Decides.{nat_tests}
 use Rattle.fugue_ids.specs.Keys.{key_lt}
 use Rattle.fugue_ids.specs.declared.key.Key.{Key}
-use Rattle.origin_model.specs.declared.sides.slot.Slot.TheVariants.{RightOf}
-use Rattle.origin_model.specs.sides.Keys.{depth_of, forest_of, key_of, keyed_as}
+use Rattle.origin_model.specs.declared.sides.Slot.TheVariants.{RightOf}
+use Rattle.origin_model.specs.sides.Keys.{depth_of, forest_of, search_key_of, keyed_as}
 use Rattle.origin_model.proofs.operations.LookupLemmas.{IsHeld}
 use Rattle.origin_model.proofs.order.{IsIn-held, before_at, before_in-irrefl, before_in-trans, chain-ends, chain_above, chain_before-fork, common, lefts-above, lefts-in, lefts-prefix, order-has, parts, parts_late, rights-in, rights-prefix, same_chain, sibling-irrefl, sibling-trans}
 use Rattle.origin_model.proofs.sides.ChainLengthLemmas.{cut, forest-rights, len, len-append, more, same_front}
@@ -58,7 +58,7 @@ module _ (p : Place) (h : List Op) (w : Lawful h) where
     pub member : Contains (order p h) middle
     pub behind : R e middle ≡ true
     pub before : R middle y ≡ true
-    pub low : key_lt k (key_of h middle) ≡ false
+    pub low : key_lt k (search_key_of h middle) ≡ false
 
   -- s, and the last element of its block
   module _ (s y : Identifier) (ms : IsIn p h s) (l : IsLastIn p h s y) where
@@ -153,7 +153,7 @@ module _ (p : Place) (h : List Op) (w : Lawful h) where
     flat_y = let d : depth_of h y ≡ depth_of h q = depth_like y f.same_left in grind (arith, nat_tests)
 
     -- what stands in the forest below q has a greater key
-    over_forest : (e : Identifier) (m : List Identifier) → IsHeld h e → lefts h e ≡ A ++ e ∷ [] → rights h e ≡ rights h q ++ m → e ≢ q → key_lt (key_of h q) (key_of h e) ≡ true
+    over_forest : (e : Identifier) (m : List Identifier) → IsHeld h e → lefts h e ≡ A ++ e ∷ [] → rights h e ≡ rights h q ++ m → e ≢ q → key_lt (search_key_of h q) (search_key_of h e) ≡ true
     over_forest e [] k i j n = absurd (n (same_chain next_right h e q k held_q (j ∙ append-nil (rights h q))))
     over_forest e (x ∷ xs) k i j n =
         let d : depth_of h e ≡ depth_of h q = depth_like e i in
@@ -199,14 +199,14 @@ module _ (p : Place) (h : List Op) (w : Lawful h) where
             inl (omega arith)
 
     -- what stands from the first on and before q has a greater key
-    pub over_block : (e : Identifier) → IsIn p h e → To y e → R e q ≡ true → key_lt (key_of h q) (key_of h e) ≡ true
+    pub over_block : (e : Identifier) → IsIn p h e → To y e → R e q ≡ true → key_lt (search_key_of h q) (search_key_of h e) ≡ true
     over_block e m k j =
         elim (in_forest e m k j) [
           | inl lt ↦ over_deep e lt
           | inr c ↦ over_forest e c.1.0 (IsIn-held p h e m) c.0 c.1.1 (λ i. true≢false (sym j ∙ ap (λ z. R z q) i ∙ irrefl q))
         ]
       where
-        over_deep : (e : Identifier) → depth_of h q < depth_of h e → key_lt (key_of h q) (key_of h e) ≡ true
+        over_deep : (e : Identifier) → depth_of h q < depth_of h e → key_lt (search_key_of h q) (search_key_of h e) ≡ true
         over_deep e lt = grind (arith, nat_tests)
 
     -- the left origin of q is in the place
@@ -218,10 +218,10 @@ module _ (p : Place) (h : List Op) (w : Lawful h) where
 
     -- what stands before the block and not behind the left origin of q stands before that left origin
     below_left : (e : Identifier) → R e y ≡ true → ((zs : List Identifier) → chain_before true S (lefts h e) (A ++ zs) ≡ chain_before true S (lefts h e) A)
-        → (o : Option Identifier) → left_at h q ≡ o → Lower (key_of h q) e y
+        → (o : Option Identifier) → left_at h q ≡ o → Lower (search_key_of h q) e y
     below_left e k g o i =
         let ea : chain_before true S (lefts h e) A ≡ true = sym (g (y ∷ [])) ∙ ap (chain_before true S (lefts h e)) (sym f.same_left) ∙ k in
-        (elim o as (λ o. left_at h q ≡ o → Lower (key_of h q) e y) [
+        (elim o as (λ o. left_at h q ≡ o → Lower (search_key_of h q) e y) [
           | None ↦ (λ i. absurd (false≢true (sym (never_before (lefts h e)) ∙ ap (λ o. chain_before true S (lefts h e) (chain_above next_left h o)) (sym i) ∙ ea)))
           | Some l ↦ (λ i.
               let ml = left_in l i in
@@ -244,7 +244,7 @@ module _ (p : Place) (h : List Op) (w : Lawful h) where
 
     -- an element with the left origin of q that stands before the block: the one of its chain of right origins that is as long as that of q
     beside_own : (e : Identifier) → IsIn p h e → R e y ≡ true → lefts h e ≡ A ++ e ∷ [] → forest_of h q < forest_of h e
-        → Lower (key_of h q) e y
+        → Lower (search_key_of h q) e y
     beside_own e m k le lt =
         let he : IsHeld h e = IsIn-held p h e m in
         let n : ℕ = forest_of h q in
@@ -288,8 +288,8 @@ module _ (p : Place) (h : List Op) (w : Lawful h) where
         }
 
     -- the same for what stands behind the left origin of q
-    beside : (e : Identifier) → IsIn p h e → R e y ≡ true → is_deep (depth_of h q) (keyed_as h e) ≡ false → key_lt (key_of h q) (key_of h e) ≡ true
-        → (o : List Identifier) → lefts h e ≡ A ++ o → Lower (key_of h q) e y
+    beside : (e : Identifier) → IsIn p h e → R e y ≡ true → is_deep (depth_of h q) (keyed_as h e) ≡ false → key_lt (search_key_of h q) (search_key_of h e) ≡ true
+        → (o : List Identifier) → lefts h e ≡ A ++ o → Lower (search_key_of h q) e y
     beside e m k j v [] i =
         let b : len (lefts h e) ≡ len A = ap len (i ∙ append-nil A) in
         let dq = depth_q in
@@ -308,8 +308,8 @@ module _ (p : Place) (h : List Op) (w : Lawful h) where
         absurd (grind (arith, nat_tests))
 
     -- what stands before the first is no deeper than q only where an element between them has no greater key
-    pub lower_block : (e : Identifier) → IsIn p h e → R e y ≡ true → is_deep (depth_of h q) (keyed_as h e) ≡ false → key_lt (key_of h q) (key_of h e) ≡ true
-        → Lower (key_of h q) e y
+    pub lower_block : (e : Identifier) → IsIn p h e → R e y ≡ true → is_deep (depth_of h q) (keyed_as h e) ≡ false → key_lt (search_key_of h q) (search_key_of h e) ≡ true
+        → Lower (search_key_of h q) e y
     lower_block e m k j o =
         elim (parts_late true S A (lefts h e)) [
           | inr g ↦ below_left e k g (left_at h q) refl

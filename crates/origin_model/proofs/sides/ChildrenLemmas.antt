@@ -11,8 +11,8 @@ use Rattle.origin_model.proofs.sides.SlotLemmas.{child-in}
 use Rattle.std.proofs.lemmas.Bool.Decides.{nat_tests}
 use Rattle.std.proofs.lemmas.List.Kept.{AllPairs-cons, AllPairs-filter}
 use Rattle.fugue_ids.proofs.ListLemmas.{contains_filter, contains_insert, contains_insert_cases, contains_inserted}
-use Rattle.origin_model.specs.declared.sides.slot.Slot.{Slot}
-use Rattle.origin_model.specs.declared.sides.slot.Slot.TheVariants.{LeftOf, RightOf}
+use Rattle.origin_model.specs.declared.sides.Slot.{Slot}
+use Rattle.origin_model.specs.declared.sides.Slot.TheVariants.{LeftOf, RightOf}
 use Rattle.origin_model.specs.sides.Slot.{IsChild, IsTable, slot_of}
 use Rattle.origin_model.specs.sides.Walk.{child_before, children_of, elements, hangs, hangs_by, slot_eq, sorted}
 

@@ -2,13 +2,13 @@
 use Rattle.std.specs.Prelude.{◌≡◌, ℕ, Option, Some, None, List, [], ◌∷◌, refl}
 use Rattle.fugue_ids.specs.Identifiers.{Identifier}
 use Rattle.fugue_ids.specs.Keys.{Keyed}
-use Rattle.fugue_ids.specs.declared.gap.Gap.{Gap}
-use Rattle.fugue_ids.specs.declared.gap.Gap.TheVariants.{After, Alone, Before}
+use Rattle.fugue_ids.specs.declared.key.Gap.{Gap}
+use Rattle.fugue_ids.specs.declared.key.Gap.TheVariants.{After, Alone, Before}
 use Rattle.origin_model.specs.declared.operations.node.Node.{Node}
-use Rattle.origin_model.specs.declared.sides.slot.Slot.{Slot}
+use Rattle.origin_model.specs.declared.sides.Slot.{Slot}
 use Rattle.origin_model.specs.order.Order.{chain, order}
 use Rattle.origin_model.specs.sides.KeyedGap.{block_end, block_start, gap_by_keys, slot_key}
-use Rattle.origin_model.specs.sides.Keys.{key_of, keyed_order}
+use Rattle.origin_model.specs.sides.Keys.{search_key_of, keyed_order}
 use Rattle.origin_model.specs.sides.Node.{as_op, as_ops, node_order}
 use Rattle.origin_model.specs.sides.Slot.{goes_before, slot_by}
 
@@ -63,6 +63,6 @@ apart = node (id 2 0) None None ∷ node (id 1 1) (at 1 0) None ∷ node (id 1 0
 
 apart_blocks :
     (keyed_order apart ≡ keyed_by (id 1 0) 1 0 ∷ keyed_by (id 1 1) 2 0 ∷ keyed_by (id 2 0) 1 0 ∷ [])
-    × (block_start (keyed_order apart) (key_of (as_ops apart) (id 2 0)) (id 2 0) ≡ id 2 0) × (block_end (keyed_order apart) 1 (id 1 0) ≡ id 1 1)
+    × (block_start (keyed_order apart) (search_key_of (as_ops apart) (id 2 0)) (id 2 0) ≡ id 2 0) × (block_end (keyed_order apart) 1 (id 1 0) ≡ id 1 1)
 unfolding chain order
 apart_blocks = (refl, refl, refl)

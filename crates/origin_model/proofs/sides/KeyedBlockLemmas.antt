@@ -5,10 +5,10 @@ use Rattle.std.proofs.lemmas.List.{map-append}
 use Rattle.fugue_ids.proofs.ListLemmas.{all_from_map}
 use Rattle.fugue_ids.specs.Keys.{IsFit, Keyed, first_low, front_of, is_low, key_lt, last_id, last_low, rest_of}
 use Rattle.fugue_ids.specs.declared.key.Key.{Key}
-use Rattle.origin_model.specs.edits.Landing.{end_of, head_of}
+use Rattle.origin_model.specs.edits.Landing.{last_before, first_after}
 use Rattle.origin_model.specs.sides.KeyLaws.{AllFit}
 use Rattle.origin_model.specs.sides.KeyedGap.{block_end, block_start, widest}
-use Rattle.origin_model.specs.sides.Keys.{depth_of, key_of, keyed, keyed_as}
+use Rattle.origin_model.specs.sides.Keys.{depth_of, search_key_of, keyed, keyed_as}
 use Rattle.origin_model.proofs.edits.LandsBehindLemmas.{cut_member}
 use Rattle.origin_model.proofs.order.{before_at, first_before, first_of, front_before, last_of, order-has, order-member, order-ordered}
 use Rattle.origin_model.proofs.sides.BlockLemmas.{To, deep_block, flat_y, from_s, irrefl, loop, lower_block, next_block, no_turn, over_block, to_q}
@@ -143,7 +143,7 @@ module _ (p : Place) (h : List Op) (w : Lawful h) where
     fits_at x m = All-contains (λ z. IsFit (keyed_as h z)) o x (all_from_map (keyed_as h) IsFit o fit) m
 
     -- what stands behind s and no deeper begins behind its block
-    pub end_low : (s y : Identifier) (ms : IsIn p h s) (l : IsLastIn p h s y) (r : EndParts s y) → first_low (widest (depth_of h s)) (rest_of (Some s) (keyed h o)) ≡ head_of r.after
+    pub end_low : (s y : Identifier) (ms : IsIn p h s) (l : IsLastIn p h s y) (r : EndParts s y) → first_low (widest (depth_of h s)) (rest_of (Some s) (keyed h o)) ≡ first_after r.after
     end_low s y ms l r =
         let whole : o ≡ r.front ++ (s ∷ (r.back ++ r.after)) = r.whole ∙ append_assoc r.front (s ∷ r.back) r.after in
         ap (first_low (widest (depth_of h s))) (ap (λ t. rest_of (Some s) (keyed h t)) whole ∙ rest_ids h (before_at p h) (irrefl p h w) r.front (r.back ++ r.after) s (subst (IsOrderedBy (before_at p h)) whole sorted))
@@ -157,24 +157,24 @@ module _ (p : Place) (h : List Op) (w : Lawful h) where
         let r = end_parts s y ms l in
         let Z : List Identifier = r.front ++ s ∷ r.back in
         ap (λ t. unwrap_or (last_id (front_of t (keyed h o))) s) (end_low s y ms l r)
-        ∙ ap (λ t. unwrap_or (last_id t) s) (ap (λ t. front_of (head_of r.after) (keyed h t)) r.whole ∙ front_head h (before_at p h) (irrefl p h w) Z r.after (subst (IsOrderedBy (before_at p h)) r.whole sorted))
+        ∙ ap (λ t. unwrap_or (last_id t) s) (ap (λ t. front_of (first_after r.after) (keyed h t)) r.whole ∙ front_head h (before_at p h) (irrefl p h w) Z r.after (subst (IsOrderedBy (before_at p h)) r.whole sorted))
         ∙ ap (λ t. unwrap_or (last_id t) s) (ap (keyed h) r.last.1 ∙ map-append (keyed_as h) r.last.0 (y ∷ []))
         ∙ ap (λ t. unwrap_or t s) (last_push (keyed h r.last.0) (keyed_as h y))
 
     -- q, and the first of its block
-    module _ (q y : Identifier) (mq : IsIn p h q) (f : IsFirstIn p h q y) (r : StartParts q y) (b : PartedLow h (key_of h q) r.front) where
+    module _ (q y : Identifier) (mq : IsIn p h q) (f : IsFirstIn p h q y) (r : StartParts q y) (b : PartedLow h (search_key_of h q) r.front) where
       abbrev k : Key
-      k = key_of h q
+      k = search_key_of h q
 
       -- what stands in the block before q has a greater key
-      pub inner_over : (e : Identifier) → Contains r.inner e → key_lt k (key_of h e) ≡ true
+      pub inner_over : (e : Identifier) → Contains r.inner e → key_lt k (search_key_of h e) ≡ true
       inner_over e m =
           let i = r.inside e m in
           let n : Contains o e = subst (λ t. Contains t e) (sym r.whole) (Contains-append_left (r.front ++ r.inner) (q ∷ r.back) e (Contains-append_right r.front r.inner e m)) in
           over_block p h w q y mq f e (order-member p h e w n) i.0 i.1
 
       -- the last before q whose key is no greater
-      pub start_low : last_low k (front_of (Some q) (keyed h o)) ≡ end_of b.front
+      pub start_low : last_low k (front_of (Some q) (keyed h o)) ≡ last_before b.front
       start_low =
           ap (last_low k) (ap (λ t. front_of (Some q) (keyed h t)) r.whole ∙ front_ids h (before_at p h) (irrefl p h w) (r.front ++ r.inner) r.back q (subst (IsOrderedBy (before_at p h)) r.whole sorted))
           ∙ last_high h k r.front r.inner (λ e m. over_high k (keyed_as h e) (inner_over e m))
@@ -192,7 +192,7 @@ module _ (p : Place) (h : List Op) (w : Lawful h) where
       pub start_rest : rest_of (last_low k (front_of (Some q) (keyed h o))) (keyed h o) ≡ keyed h ((b.back ++ r.inner) ++ q ∷ r.back)
       start_rest =
           ap (λ t. rest_of t (keyed h o)) start_low
-          ∙ ap (λ t. rest_of (end_of b.front) (keyed h t)) start_whole
+          ∙ ap (λ t. rest_of (last_before b.front) (keyed h t)) start_whole
           ∙ rest_end h (before_at p h) (irrefl p h w) b.front ((b.back ++ r.inner) ++ q ∷ r.back) (subst (IsOrderedBy (before_at p h)) start_whole sorted)
 
       -- what stands between it and the block is deeper than q
@@ -227,5 +227,5 @@ module _ (p : Place) (h : List Op) (w : Lawful h) where
           (λ x m. deep_high k.depth (keyed_as h x) (deep_between x m))
           (λ c cs e. let d : y ≡ c = cc in subst (λ z. is_low (widest k.depth) (keyed_as h z) ≡ true) d (flat_low k.depth (keyed_as h y) (fits_at y (order-has p h y f.member)) (flat_y p h w q y mq f))))
 
-    pub start_found : (q y : Identifier) → IsIn p h q → IsFirstIn p h q y → block_start (keyed h o) (key_of h q) q ≡ y
-    start_found q y mq f = let r = start_parts q y mq f in start_at q y mq f r (parted_low h (key_of h q) r.front)
+    pub start_found : (q y : Identifier) → IsIn p h q → IsFirstIn p h q y → block_start (keyed h o) (search_key_of h q) q ≡ y
+    start_found q y mq f = let r = start_parts q y mq f in start_at q y mq f r (parted_low h (search_key_of h q) r.front)

@@ -2,10 +2,10 @@
 use Rattle.origin_model.proofs.Words.{Bool, Contains, Contains-append_left, Identifier, IsIn, IsOrderedBy, Lawful, List, None, Op, Place, Some, [], ap, cases_id, cases_origin, chain_before, contains_cases, contains_here, contains_middle, element_of, false, fork_before, index_of_origin, inl, inr, left_at, left_of, lefts, next_left, older_of, order, refl, right_at, right_of, rights, sibling, subst, sym, true, ◌++◌, ◌∙◌, ◌∷◌, ◌≡◌, ◌≢◌, ◌⊎◌}
 use Rattle.fugue_ids.proofs.ListLemmas.{all_pairs_weaker}
 use Rattle.fugue_ids.specs.Keys.{Keyed, first_id}
-use Rattle.fugue_ids.specs.declared.gap.Gap.{Gap}
-use Rattle.origin_model.specs.declared.sides.slot.Slot.{Slot}
-use Rattle.origin_model.specs.declared.sides.slot.Slot.TheVariants.{LeftOf, RightOf}
-use Rattle.origin_model.specs.edits.Landing.{end_of}
+use Rattle.fugue_ids.specs.declared.key.Gap.{Gap}
+use Rattle.origin_model.specs.declared.sides.Slot.{Slot}
+use Rattle.origin_model.specs.declared.sides.Slot.TheVariants.{LeftOf, RightOf}
+use Rattle.origin_model.specs.edits.Landing.{last_before}
 use Rattle.origin_model.specs.sides.KeyLaws.{AllFit, BlockEndByKeys, BlockStartByKeys, EndsBlock, GapByKeys, StandsAt}
 use Rattle.origin_model.specs.sides.KeyedGap.{Falls, before_all, block_end, gap_behind, gap_by_keys, no_elder_gap, siblings, slot_key}
 use Rattle.origin_model.specs.sides.Keys.{keyed}
@@ -126,9 +126,9 @@ module _ (p : Place) (h : List Op) (w : Lawful h) (fit : AllFit p h) where
   with_elders s (z ∷ zs) ys front e g i k = k
 
   -- the gap, by the last elder sibling
-  gap_by : (s : Slot) → StandsAt p h s → (es ys : List Identifier) → children s ≡ es ++ ys → IsGap children s es ys (gap_behind keys s (slot_key h s) (end_of es))
+  gap_by : (s : Slot) → StandsAt p h s → (es ys : List Identifier) → children s ≡ es ++ ys → IsGap children s es ys (gap_behind keys s (slot_key h s) (last_before es))
   gap_by s m es ys c =
-      elim (cases_origin (end_of es)) [
+      elim (cases_origin (last_before es)) [
         | inl l ↦
             let none : es ≡ [] = end_none es l in
             let g : Gap = no_elder_gap keys s (slot_key h s) in

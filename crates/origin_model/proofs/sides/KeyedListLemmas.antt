@@ -6,7 +6,7 @@ use Rattle.std.proofs.lemmas.List.Elements.{All-map}
 use Rattle.std.proofs.lemmas.Bool.Decides.{nat_tests}
 use Rattle.fugue_ids.specs.Keys.{IsFit, Keyed, first_id, first_low, front_of, ids, is_low, last_id, last_low, rest_of}
 use Rattle.fugue_ids.specs.declared.key.Key.{Key}
-use Rattle.origin_model.specs.edits.Landing.{end_of, head_of}
+use Rattle.origin_model.specs.edits.Landing.{last_before, first_after}
 use Rattle.origin_model.specs.sides.KeyedGap.{low_ids, widest}
 use Rattle.origin_model.specs.sides.Keys.{keyed, keyed_as}
 use Rattle.origin_model.proofs.edits.SplitLemmas.{end_none, end_push, end_split}
@@ -134,16 +134,16 @@ module _ (h : List Op) where
       ]
 
   -- the last whose key is at most k is the last of the front
-  pub last_parted : (k : Key) (xs : List Identifier) (r : PartedLow k xs) → last_low k (keyed h xs) ≡ end_of r.front
+  pub last_parted : (k : Key) (xs : List Identifier) (r : PartedLow k xs) → last_low k (keyed h xs) ≡ last_before r.front
   last_parted k xs r =
       ap (λ t. last_low k (keyed h t)) r.whole ∙ last_high k r.front r.back r.high ∙ elim r.low [
-        | inl n ↦ ap (λ t. last_low k (keyed h t)) n ∙ ap end_of (sym n)
-        | inr n ↦ ap (λ t. last_low k (keyed h t)) n.2 ∙ last_at k n.0 n.1 n.3 ∙ sym (ap end_of n.2 ∙ end_push n.0 n.1)
+        | inl n ↦ ap (λ t. last_low k (keyed h t)) n ∙ ap last_before (sym n)
+        | inr n ↦ ap (λ t. last_low k (keyed h t)) n.2 ∙ last_at k n.0 n.1 n.3 ∙ sym (ap last_before n.2 ∙ end_push n.0 n.1)
       ]
 
   -- the first whose key is at most k is the first of a rest that begins with such a one
   pub first_head : (k : Key) (xs ys : List Identifier) → ((x : Identifier) → Contains xs x → is_low k (keyed_as h x) ≡ false)
-      → ((c : Identifier) (cs : List Identifier) → ys ≡ c ∷ cs → is_low k (keyed_as h c) ≡ true) → first_low k (keyed h (xs ++ ys)) ≡ head_of ys
+      → ((c : Identifier) (cs : List Identifier) → ys ≡ c ∷ cs → is_low k (keyed_as h c) ≡ true) → first_low k (keyed h (xs ++ ys)) ≡ first_after ys
   first_head k xs [] f g =
       ap (λ t. first_low k (keyed h t)) (append-nil xs) ∙ first_none k (keyed h xs) (all_keyed h (λ z. is_low k z ≡ false) xs f)
   first_head k xs (y ∷ ys) f g =
@@ -165,14 +165,14 @@ module _ (h : List Op) where
     front_ids xs ys x o = ap (front_of (Some x)) (map-append (keyed_as h) xs (x ∷ ys)) ∙ front_at (keyed h xs) (keyed h ys) (keyed_as h x) (other xs ys x o)
 
     -- what stands before the first of a rest
-    pub front_head : (xs ys : List Identifier) → IsOrderedBy R (xs ++ ys) → front_of (head_of ys) (keyed h (xs ++ ys)) ≡ keyed h xs
+    pub front_head : (xs ys : List Identifier) → IsOrderedBy R (xs ++ ys) → front_of (first_after ys) (keyed h (xs ++ ys)) ≡ keyed h xs
     front_head xs [] o = ap (keyed h) (append-nil xs)
     front_head xs (y ∷ ys) o = front_ids xs ys y o
 
     -- what stands behind the last of a front
-    pub rest_end : (xs ys : List Identifier) → IsOrderedBy R (xs ++ ys) → rest_of (end_of xs) (keyed h (xs ++ ys)) ≡ keyed h ys
+    pub rest_end : (xs ys : List Identifier) → IsOrderedBy R (xs ++ ys) → rest_of (last_before xs) (keyed h (xs ++ ys)) ≡ keyed h ys
     rest_end xs ys o =
-        elim (cases_origin (end_of xs)) [
+        elim (cases_origin (last_before xs)) [
           | inl n ↦
               let none : xs ≡ [] = end_none xs n in
               ap (λ e. rest_of e (keyed h (xs ++ ys))) n ∙ ap (λ t. keyed h (t ++ ys)) none

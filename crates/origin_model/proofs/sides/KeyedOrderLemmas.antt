@@ -4,17 +4,17 @@ use Rattle.std.specs.Prelude.{IfSome}
 use Rattle.std.proofs.lemmas.List.Sums.{count_by-le-length}
 use Rattle.fugue_ids.specs.Keys.{HasKey, IsFit, first_id, ids, key_lt, rest_of}
 use Rattle.fugue_ids.specs.Listed.{HoldsOrigin, index_of}
-use Rattle.fugue_ids.specs.declared.gap.Gap.{Gap}
-use Rattle.fugue_ids.specs.declared.gap.Gap.TheVariants.{After, Alone, Before}
+use Rattle.fugue_ids.specs.declared.key.Gap.{Gap}
+use Rattle.fugue_ids.specs.declared.key.Gap.TheVariants.{After, Alone, Before}
 use Rattle.fugue_ids.specs.declared.key.Key.{Key}
 use Rattle.fugue_ids.proofs.IdentifierLemmas.{contains-below, index_of-here, index_of-insert, index_of-there, index_of-within}
 use Rattle.origin_model.specs.declared.operations.node.Node.{Node}
-use Rattle.origin_model.specs.declared.sides.slot.Slot.{Slot}
-use Rattle.origin_model.specs.declared.sides.slot.Slot.TheVariants.{LeftOf, RightOf}
-use Rattle.origin_model.specs.edits.Landing.{StandsBehind, following, head_of}
+use Rattle.origin_model.specs.declared.sides.Slot.{Slot}
+use Rattle.origin_model.specs.declared.sides.Slot.TheVariants.{LeftOf, RightOf}
+use Rattle.origin_model.specs.edits.Landing.{StandsBehind, following, first_after}
 use Rattle.origin_model.specs.sides.KeyLaws.{HoldsSlot, StandsAt}
 use Rattle.origin_model.specs.sides.KeyedGap.{Falls, before_all, child_key, gap_between, gap_by_keys, gap_index, low_ids, part_from, part_to, siblings, slot_key, slot_part}
-use Rattle.origin_model.specs.sides.Keys.{key_of, keyed, keyed_as, keyed_order, new_key, new_keyed}
+use Rattle.origin_model.specs.sides.Keys.{search_key_of, keyed, keyed_as, keyed_order, new_key, new_keyed}
 use Rattle.origin_model.specs.sides.Node.{AreNodes, as_op, as_ops, has_node, has_origin, node_order}
 use Rattle.origin_model.specs.sides.Slot.{IsBeside, IsPlace, at_gap, goes_before, inserted_before, inserted_behind, slot_by}
 use Rattle.origin_model.proofs.edits.LandsBehindLemmas.{lands_behind_origin}
@@ -40,31 +40,31 @@ pub keyed_once : (ns : List Node) → AreNodes ns → AllPairs (λ x y. x ≢ y)
 keyed_once ns a = subst (AllPairs (λ x y. x ≢ y)) (sym (keyed_ids ns)) (order_once ns a)
 
 -- the key of a member
-key_in : (h : List Op) (xs : List Identifier) (x : Identifier) → Contains xs x → HasKey (keyed h xs) x (key_of h x)
+key_in : (h : List Op) (xs : List Identifier) (x : Identifier) → Contains xs x → HasKey (keyed h xs) x (search_key_of h x)
 key_in h [] x m = absurd (contains_none x m)
 key_in h (e ∷ es) x m =
-    let Has : Bool → Type 0 = λ b. elim b [ true ↦ key_of h e ≡ key_of h x | false ↦ HasKey (keyed h es) x (key_of h x) ] in
+    let Has : Bool → Type 0 = λ b. elim b [ true ↦ search_key_of h e ≡ search_key_of h x | false ↦ HasKey (keyed h es) x (search_key_of h x) ] in
     elim (cases_id e x) [
-      | inl d ↦ subst Has (sym (eq-id_eq e x d)) (ap (key_of h) d)
+      | inl d ↦ subst Has (sym (eq-id_eq e x d)) (ap (search_key_of h) d)
       | inr n ↦ subst Has (sym (ne-id_eq e x n)) (key_in h es x (elim (contains_cases e es x m) [ inl d ↦ absurd (n d) | inr j ↦ j ]))
     ]
 
 -- it has no other
-key_of_member : (h : List Op) (xs : List Identifier) (x : Identifier) (k : Key) → HasKey (keyed h xs) x k → k ≡ key_of h x
+key_of_member : (h : List Op) (xs : List Identifier) (x : Identifier) (k : Key) → HasKey (keyed h xs) x k → k ≡ search_key_of h x
 key_of_member h [] x k m = absurd m
 key_of_member h (e ∷ es) x k m =
-    let Has : Bool → Type 0 = λ b. elim b [ true ↦ key_of h e ≡ k | false ↦ HasKey (keyed h es) x k ] in
+    let Has : Bool → Type 0 = λ b. elim b [ true ↦ search_key_of h e ≡ k | false ↦ HasKey (keyed h es) x k ] in
     elim (cases_id e x) [
-      | inl d ↦ sym (subst Has (eq-id_eq e x d) m) ∙ ap (key_of h) d
+      | inl d ↦ sym (subst Has (eq-id_eq e x d) m) ∙ ap (search_key_of h) d
       | inr n ↦ key_of_member h es x k (subst Has (ne-id_eq e x n) m)
     ]
 
 -- a node's key stands in the order
-pub key_held : (ns : List Node) (x : Identifier) → AreNodes ns → has_node ns x ≡ true → HasKey (keyed_order ns) x (key_of (as_ops ns) x)
+pub key_held : (ns : List Node) (x : Identifier) → AreNodes ns → has_node ns x ≡ true → HasKey (keyed_order ns) x (search_key_of (as_ops ns) x)
 key_held ns x a k = key_in (as_ops ns) (node_order ns) x ((nodes_listed ns a x).0 k)
 
 -- and what stands there is its key
-pub key_found : (ns : List Node) (x : Identifier) (k : Key) → HasKey (keyed_order ns) x k → k ≡ key_of (as_ops ns) x
+pub key_found : (ns : List Node) (x : Identifier) (k : Key) → HasKey (keyed_order ns) x k → k ≡ search_key_of (as_ops ns) x
 key_found ns x k m = key_of_member (as_ops ns) (node_order ns) x k m
 
 -- as many operations as nodes
@@ -215,7 +215,7 @@ module _ (n : Node) (ns : List Node) (a : AreNodes (n ∷ ns)) where
   follows (e ∷ es) None = refl
   follows [] (Some l) = refl
   follows (e ∷ es) (Some l) =
-      elim (id_eq e l) as (λ b. first_id (if b then keyed h es else rest_of (Some l) (keyed h es)) ≡ (if b then head_of es else following es (Some l))) [
+      elim (id_eq e l) as (λ b. first_id (if b then keyed h es else rest_of (Some l) (keyed h es)) ≡ (if b then first_after es else following es (Some l))) [
         | true ↦ follows es None
         | false ↦ follows es (Some l)
       ]
@@ -229,7 +229,7 @@ module _ (n : Node) (ns : List Node) (a : AreNodes (n ∷ ns)) where
       ∙ ap (λ t. e ∷ t) (behind_once l x front back (all_pairs_tail (λ x y. x ≢ y) e (front ++ l ∷ back) d))
 
   -- before all
-  head_place : (x : Identifier) (xs longer : List Identifier) → longer ≡ x ∷ xs → IsPlace (before_all (head_of xs)) x xs longer
+  head_place : (x : Identifier) (xs longer : List Identifier) → longer ≡ x ∷ xs → IsPlace (before_all (first_after xs)) x xs longer
   head_place x [] longer e = record { place = e; beside = tt; alone = ((λ d. refl), (λ d. refl)) }
   head_place x (y ∷ ys) longer e = record {
     place = e ∙ ap (λ b. if b then x ∷ y ∷ ys else y ∷ inserted_before y x ys) (sym (eq-id_eq y y refl));
@@ -266,7 +266,7 @@ module _ (n : Node) (ns : List Node) (a : AreNodes (n ∷ ns)) where
           let none : r.front ≡ [] = end_none r.front (r.origin ∙ d) in
           let was : node_order ns ≡ r.back = r.was ∙ ap (λ t. t ++ r.back) none in
           let is : node_order (n ∷ ns) ≡ n.id ∷ node_order ns = r.is ∙ ap (λ t. (t ++ n.id ∷ []) ++ r.back) none ∙ ap (λ t. n.id ∷ t) (sym was) in
-          let head : head_of (node_order ns) ≡ n.right = sym (right ∙ ap (following (node_order ns)) d) in
+          let head : first_after (node_order ns) ≡ n.right = sym (right ∙ ap (following (node_order ns)) d) in
           subst (λ l. IsPlace (gap_between l n.right) n.id (node_order ns) (node_order (n ∷ ns))) (sym d)
           (subst (λ q. IsPlace (before_all q) n.id (node_order ns) (node_order (n ∷ ns))) head (head_place n.id (node_order ns) (node_order (n ∷ ns)) is))
       by r (inr d) right =

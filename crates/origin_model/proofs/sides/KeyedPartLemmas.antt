@@ -6,12 +6,12 @@ use Rattle.fugue_ids.proofs.ListLemmas.{contains_filter}
 use Rattle.fugue_ids.specs.Keys.{Keyed, front_of, is_low, key_lt, rest_of}
 use Rattle.fugue_ids.specs.Listed.{HoldsOrigin}
 use Rattle.fugue_ids.specs.declared.key.Key.{Key}
-use Rattle.origin_model.specs.declared.sides.slot.Slot.{Slot}
-use Rattle.origin_model.specs.declared.sides.slot.Slot.TheVariants.{LeftOf, RightOf}
-use Rattle.origin_model.specs.edits.Landing.{end_of, head_of}
+use Rattle.origin_model.specs.declared.sides.Slot.{Slot}
+use Rattle.origin_model.specs.declared.sides.Slot.TheVariants.{LeftOf, RightOf}
+use Rattle.origin_model.specs.edits.Landing.{last_before, first_after}
 use Rattle.origin_model.specs.sides.KeyLaws.{AllFit, SiblingsByKeys, StandsAt}
 use Rattle.origin_model.specs.sides.KeyedGap.{child_key, low_ids, part_from, part_to, siblings, slot_key, slot_part}
-use Rattle.origin_model.specs.sides.Keys.{depth_of, forest_of, key_of, keyed, keyed_as}
+use Rattle.origin_model.specs.sides.Keys.{depth_of, forest_of, search_key_of, keyed, keyed_as}
 use Rattle.origin_model.specs.sides.Slot.{IsChild}
 use Rattle.origin_model.proofs.edits.SplitLemmas.{end_push}
 use Rattle.origin_model.proofs.order.{IsIn-held, before_at, chain-ends, chain_above, chain_before-fork, common, first_before, fork-irrefl, fork-trans, front_before, lefts-above, order-has, order-member}
@@ -139,7 +139,7 @@ module _ (p : Place) (h : List Op) (w : Lawful h) (fit : AllFit p h) where
     pub is_part : slot_part (keyed h o) s (slot_key h s) ≡ keyed h part
     pub in_order : IsOrderedBy (before_at p h) part
     pub inside : (v : Identifier) → Contains part v → Contains o v
-    pub least : (v : Identifier) → Contains part v → key_lt (key_of h v) (ck s) ≡ false
+    pub least : (v : Identifier) → Contains part v → key_lt (search_key_of h v) (ck s) ≡ false
     pub is_child : (v : Identifier) → Contains part v → is_low (ck s) (keyed_as h v) ≡ true → IsChild p h s v
     pub full : (v : Identifier) → IsChild p h s v → Contains part v
     pub from : HoldsOrigin (low_ids (ck s) (keyed h o)) (part_from (keyed h o) s (slot_key h s))
@@ -183,7 +183,7 @@ module _ (p : Place) (h : List Op) (w : Lawful h) (fit : AllFit p h) where
       let lo : IsOrderedBy (before_at p h) (l ∷ (r.back ++ r.after)) = all_pairs_behind T front (l ∷ (r.back ++ r.after)) so in
       let bo : IsOrderedBy (before_at p h) (r.back ++ r.after) = all_pairs_behind T (l ∷ []) (r.back ++ r.after) lo in
       let rest : rest_of (Some l) (keyed h o) ≡ keyed h (r.back ++ r.after) = ap (λ t. rest_of (Some l) (keyed h t)) whole ∙ rest_ids h (before_at p h) (irrefl p h w) front (r.back ++ r.after) l so in
-      let to : part_to (keyed h o) s (slot_key h s) ≡ head_of r.after = end_low p h w fit l b.0 m b.1 r in
+      let to : part_to (keyed h o) s (slot_key h s) ≡ first_after r.after = end_low p h w fit l b.0 m b.1 r in
       let in_back : (v : Identifier) → Contains r.back v → Contains o v = λ v n.
       subst (λ t. Contains t v) (sym r.whole) (Contains-append_left (front ++ l ∷ r.back) r.after v (Contains-append_right front (l ∷ r.back) v (contains_there l r.back v n))) in
       let deep : (v : Identifier) → Contains r.back v → is_deep (depth_of h l) (keyed_as h v) ≡ true = λ v n. let i = r.inside v n in deep_block p h w l b.0 m b.1 v i.0 i.1 in (
@@ -217,13 +217,13 @@ module _ (p : Place) (h : List Op) (w : Lawful h) (fit : AllFit p h) where
               ];
           from = low_in (ck s) o l (order-has p h l m) (flat_next (depth_of h l) (keyed_as h l) (not_deep (depth_of h l) (keyed_as h l) refl));
           to = subst (HoldsOrigin (low_ids (ck s) (rest_of (Some l) (keyed h o)))) (sym to) (
-              subst (λ t. HoldsOrigin (low_ids (ck s) t) (head_of r.after)) (sym rest)
+              subst (λ t. HoldsOrigin (low_ids (ck s) t) (first_after r.after)) (sym rest)
               (head_low r.back r.after (λ c cs e. flat_next (depth_of h l) (keyed_as h c) (r.stop c cs e))));
         },
       )
     where
       head_low : (xs ys : List Identifier) → ((c : Identifier) (cs : List Identifier) → ys ≡ c ∷ cs → is_low (ck (RightOf (Some l))) (keyed_as h c) ≡ true)
-          → HoldsOrigin (low_ids (ck (RightOf (Some l))) (keyed h (xs ++ ys))) (head_of ys)
+          → HoldsOrigin (low_ids (ck (RightOf (Some l))) (keyed h (xs ++ ys))) (first_after ys)
       head_low xs [] f = tt
       head_low xs (c ∷ cs) f = low_in (ck (RightOf (Some l))) (xs ++ c ∷ cs) c (contains_middle xs c cs) (f c cs refl)
 
@@ -232,7 +232,7 @@ module _ (p : Place) (h : List Op) (w : Lawful h) (fit : AllFit p h) where
   left_part q m =
       let b = first_of_block q m in
       let r = start_parts p h w q b.0 m b.1 in
-      let z = parted_low h (key_of h q) r.front in
+      let z = parted_low h (search_key_of h q) r.front in
       let s : Slot = LeftOf q in
       let part : List Identifier = z.back ++ r.inner in
       let whole : o ≡ z.front ++ (part ++ q ∷ r.back) = start_whole p h w fit q b.0 m b.1 r z in
@@ -241,9 +241,9 @@ module _ (p : Place) (h : List Op) (w : Lawful h) (fit : AllFit p h) where
       let rest : rest_of (part_from (keyed h o) s (slot_key h s)) (keyed h o) ≡ keyed h (part ++ q ∷ r.back) = start_rest p h w fit q b.0 m b.1 r z in
       let in_part : (v : Identifier) → Contains part v → Contains o v = λ v n.
       subst (λ t. Contains t v) (sym whole) (Contains-append_right z.front (part ++ q ∷ r.back) v (Contains-append_left part (q ∷ r.back) v n)) in
-      let least : (v : Identifier) → Contains part v → key_lt (key_of h v) (ck s) ≡ false = λ v n. elim (Contains-append_cases z.back r.inner v n) [
+      let least : (v : Identifier) → Contains part v → key_lt (search_key_of h v) (ck s) ≡ false = λ v n. elim (Contains-append_cases z.back r.inner v n) [
         | inl i ↦ deep_not_less (depth_of h q) (suc (forest_of h q)) (keyed_as h v) (deep_between p h w fit q b.0 m b.1 r z v i)
-        | inr i ↦ over_least (key_of h q) (keyed_as h v) (inner_over p h w fit q b.0 m b.1 r z v i)
+        | inr i ↦ over_least (search_key_of h q) (keyed_as h v) (inner_over p h w fit q b.0 m b.1 r z v i)
       ] in (
         part,
         record {
@@ -292,13 +292,13 @@ module _ (p : Place) (h : List Op) (w : Lawful h) (fit : AllFit p h) where
                 ]
               ];
           from = subst (HoldsOrigin (low_ids (ck s) (keyed h o))) (sym (start_low p h w fit q b.0 m b.1 r z)) (elim z.low [
-            | inl n ↦ subst (λ t. HoldsOrigin (low_ids (ck s) (keyed h o)) (end_of t)) (sym n) tt
-            | inr n ↦ subst (HoldsOrigin (low_ids (ck s) (keyed h o))) (sym (ap end_of n.2 ∙ end_push n.0 n.1))
+            | inl n ↦ subst (λ t. HoldsOrigin (low_ids (ck s) (keyed h o)) (last_before t)) (sym n) tt
+            | inr n ↦ subst (HoldsOrigin (low_ids (ck s) (keyed h o))) (sym (ap last_before n.2 ∙ end_push n.0 n.1))
                 (low_in (ck s) o n.1 (subst (λ t. Contains t n.1) (sym whole) (Contains-append_left z.front (part ++ q ∷ r.back) n.1 (subst (λ t. Contains t n.1) (sym n.2) (contains_middle n.0 n.1 []))))
-                (low_next (key_of h q) (keyed_as h n.1) n.3))
+                (low_next (search_key_of h q) (keyed_as h n.1) n.3))
           ]);
           to = subst (λ t. Contains (low_ids (ck s) t) q) (sym rest)
-              (low_in (ck s) (part ++ q ∷ r.back) q (contains_middle part q r.back) (low_next (key_of h q) (keyed_as h q) (is_low_by (key_of h q) (keyed_as h q) refl refl)));
+              (low_in (ck s) (part ++ q ∷ r.back) q (contains_middle part q r.back) (low_next (search_key_of h q) (keyed_as h q) (is_low_by (search_key_of h q) (keyed_as h q) refl refl)));
         },
       )
 

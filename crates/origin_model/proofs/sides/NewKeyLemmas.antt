@@ -1,9 +1,9 @@
 -- The key of a new element, and that later ones leave it.
 use Rattle.origin_model.proofs.Words.{All, All-head, All-tail, Identifier, Lawful, List, None, Op, Option, Some, [], ap, arith, cases_Bool, cases_origin, false, false≢true, has_left, holder, if◌then◌else◌, inl, inr, is_own, is_some, left_at, left_of, lefts, next_left, next_right, order, refl, right_of, rights, suc, sym, true, true≢false, ◌++◌, ◌-◌, ◌∙◌, ◌∷◌, ◌≡◌}
 use Rattle.origin_model.specs.sides.KeyLaws.{KeyBound, KeysStay, NewKey, RunKey}
-use Rattle.origin_model.specs.declared.sides.slot.Slot.TheVariants.{RightOf}
+use Rattle.origin_model.specs.declared.sides.Slot.TheVariants.{RightOf}
 use Rattle.origin_model.specs.sides.KeyedGap.{child_key, slot_key}
-use Rattle.origin_model.specs.sides.Keys.{depth_above, depth_of, forest_above, forest_of, key_of, keyed, keyed_as, new_key}
+use Rattle.origin_model.specs.sides.Keys.{depth_above, depth_of, forest_above, forest_of, search_key_of, keyed, keyed_as, new_key}
 use Rattle.origin_model.specs.sides.Slot.{slot_by}
 use Rattle.origin_model.proofs.operations.LookupLemmas.{IsHeld, found, held_not_own, holder-other, holder-own, right_named, when_ready}
 use Rattle.origin_model.proofs.operations.ElementLemmas.{element_own}
@@ -33,7 +33,7 @@ forest-above h None f = refl
 forest-above h (Some r) f = forest-rights h r (f r refl)
 
 -- the key of the newest element, by its origins
-pub newest_key : (op : Op) (older : List Op) (x : Identifier) → is_own x op ≡ true → key_of (op ∷ older) x ≡ new_key older (left_of op) (right_of op)
+pub newest_key : (op : Op) (older : List Op) (x : Identifier) → is_own x op ≡ true → search_key_of (op ∷ older) x ≡ new_key older (left_of op) (right_of op)
 newest_key op older x own =
     let h : List Op = op ∷ older in
     let l : len (lefts h x) ≡ suc (len (chain_above next_left older (left_of op))) = ap len (chain-own next_left op older x own) ∙ more (chain_above next_left older (left_of op)) x in

@@ -3,8 +3,8 @@ use Rattle.origin_model.proofs.Words.{Bool, Contains, Identifier, IsIn, IsOrdere
 use Rattle.std.proofs.lemmas.List.Kept.{AllPairs-filter}
 use Rattle.fugue_ids.proofs.IdentifierLemmas.{origin_eq-refl}
 use Rattle.fugue_ids.proofs.ListLemmas.{contains_filter}
-use Rattle.origin_model.specs.declared.sides.slot.Slot.{Slot}
-use Rattle.origin_model.specs.declared.sides.slot.Slot.TheVariants.{LeftOf, RightOf}
+use Rattle.origin_model.specs.declared.sides.Slot.{Slot}
+use Rattle.origin_model.specs.declared.sides.Slot.TheVariants.{LeftOf, RightOf}
 use Rattle.origin_model.specs.sides.KeyLaws.{EndsBlock}
 use Rattle.origin_model.specs.sides.Slot.{BeforeBlock, IsChild, IsTable, slot_of}
 use Rattle.origin_model.specs.sides.Walk.{hangs, hangs_by, slot_eq}

@@ -1,8 +1,8 @@
 -- Slots of the sided tree: the chains of the children of a slot, and which slot an element of a chain hangs in.
 use Rattle.origin_model.proofs.Words.{All-contains, Contains, Identifier, IsIn, Lawful, List, None, Op, Option, Place, Some, [], ap, cases_Bool, contains_middle, false, has_left, holder, if◌then◌else◌, inl, inr, is_some, left_at, left_of, lefts, next_left, next_right, refl, right_beside, right_of, rights, same_from_push, subst, sym, true, ◌++◌, ◌∙◌, ◌∷◌, ◌≡◌}
 use Rattle.origin_model.specs.sides.Slot.{IsChild, slot_by, slot_of}
-use Rattle.origin_model.specs.declared.sides.slot.Slot.{Slot}
-use Rattle.origin_model.specs.declared.sides.slot.Slot.TheVariants.{LeftOf, RightOf}
+use Rattle.origin_model.specs.declared.sides.Slot.{Slot}
+use Rattle.origin_model.specs.declared.sides.Slot.TheVariants.{LeftOf, RightOf}
 use Rattle.origin_model.proofs.order.{IsIn-held, chain-ends, chain_above, has_left-at, left_at-is, left_origin_held, lefts-above, lefts-at, lefts-in, lefts-prefix, never_none, only_one, right_origin_held, rights-at, rights-in, rights-prefix, same_chain}
 use Rattle.origin_model.proofs.operations.LookupLemmas.{IsHeld, found}
 

@@ -1,8 +1,8 @@
 -- The first and the last node below a node, found by first left and by last right children, are the first and the last by the order.
 use Rattle.origin_model.proofs.Words.{Bool, Contains, Identifier, IsIn, IsOrderedBy, Lawful, List, Op, Passes, Place, Some, [], ap, append-nil, append_assoc, append_cancel_left, cases_id, chain_before, contains_here, contains_middle, false, fork_before, inl, inr, left_at, lefts, next_left, next_right, older_of, order, rights, sibling, subst, sym, true, ◌++◌, ◌∙◌, ◌∷◌, ◌≡◌, ◌≢◌, ◌⊎◌}
 use Rattle.origin_model.specs.sides.Slot.{FirstBelow, IsChild, IsTable, LastBelow}
-use Rattle.origin_model.specs.declared.sides.slot.Slot.{Slot}
-use Rattle.origin_model.specs.declared.sides.slot.Slot.TheVariants.{LeftOf, RightOf}
+use Rattle.origin_model.specs.declared.sides.Slot.{Slot}
+use Rattle.origin_model.specs.declared.sides.Slot.TheVariants.{LeftOf, RightOf}
 use Rattle.origin_model.proofs.order.{IsIn-held, before_at, chain_above, chain_before-fork, chain_before-same, common, first_of, fork_moved, heads, last_of, lefts-above, longer, no_member, not_longer, same_chain}
 use Rattle.origin_model.proofs.operations.LookupLemmas.{IsHeld}
 use Rattle.origin_model.proofs.sides.SlotLemmas.{child-in, child-left, child-lefts, child-rights, child_under, left_there, rooted, under_left}

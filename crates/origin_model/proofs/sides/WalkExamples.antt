@@ -3,8 +3,8 @@ use Rattle.std.specs.Prelude.{◌≡◌, ℕ, Option, Some, None, List, [], ◌�
 use Rattle.fugue_ids.specs.Identifiers.{Identifier}
 use Rattle.fugue_ids.specs.declared.op.Op.{Op}
 use Rattle.fugue_ids.specs.declared.op.Op.TheVariants.{Section}
-use Rattle.origin_model.specs.declared.operations.place.Place.TheVariants.{Catalogue as catalogue}
-use Rattle.origin_model.specs.declared.sides.slot.Slot.TheVariants.{LeftOf, RightOf}
+use Rattle.origin_model.specs.declared.operations.Place.TheVariants.{Catalogue as catalogue}
+use Rattle.origin_model.specs.declared.sides.Slot.TheVariants.{LeftOf, RightOf}
 use Rattle.origin_model.specs.sides.Walk.{children_of, walk}
 
 abbrev id : ℕ → ℕ → Identifier

@@ -10,8 +10,8 @@ use Rattle.origin_model.proofs.sides.KeyedGapLemmas.{slot_stands_by}
 use Rattle.origin_model.proofs.sides.ChildrenLemmas.{children-table}
 use Rattle.std.proofs.lemmas.List.Kept.{AllPairs-cons}
 use Rattle.fugue_ids.proofs.ListLemmas.{all_pairs_append}
-use Rattle.origin_model.specs.declared.sides.slot.Slot.{Slot}
-use Rattle.origin_model.specs.declared.sides.slot.Slot.TheVariants.{LeftOf, RightOf}
+use Rattle.origin_model.specs.declared.sides.Slot.{Slot}
+use Rattle.origin_model.specs.declared.sides.Slot.TheVariants.{LeftOf, RightOf}
 use Rattle.origin_model.specs.sides.KeyLaws.{StandsAt}
 use Rattle.origin_model.specs.sides.Slot.{IsChild, IsTable, slot_of}
 use Rattle.origin_model.specs.sides.Walk.{WalkIsOrder, WalkIsWhole, children_of, walk, walk_below, walk_to}

@@ -1,7 +1,7 @@
 -- The accepted set does not depend on the order of arrival: it is the closure of what was taken in, and replicas that exchange what they kept come to the same.
 use Rattle.origin_model.proofs.Words.{All-append, IsPartOf, List, Op, SameOps, [], accepted, ap, append-nil, cases_Bool, false, false_from_ne_true, false≢true, has_op, inl, inr, or_cases, or_left, or_parts, or_right, subst, sym, true, true≢false, ℕ, ◌++◌, ◌||◌, ◌∙◌, ◌∷◌, ◌≡◌, ◌≢◌}
-use Rattle.origin_model.specs.taking.Closure.{IsClosed, answers, ClosureBySet, ClosureOfMerge, ClosureOfSet, ClosureOfUnion, Consistent, WithinLimits, SameSetConverges, Taker, given_by, given_by_all, kept_by, kept_by_all, state_of}
-use Rattle.origin_model.specs.taking.Taking.{Full, Held, IsSettled, TooMany, answers_from, closure, held, held_from, is_decided, is_again, nothing}
+use Rattle.origin_model.specs.taking.Closure.{IsClosed, answers, ClosureBySet, ClosureOfMerge, ClosureOfSet, ClosureOfUnion, Consistent, WithinLimits, SameSetConverges, Taker, given_by, given_by_all, kept_by, kept_by_all, taker_state}
+use Rattle.origin_model.specs.taking.Taking.{Full, Held, IsSettled, TooMany, answers_from, closure, held, held_from, is_decided, is_again, nothing_held}
 use Rattle.origin_model.proofs.operations.LookupLemmas.{has-append, has-reverse, when_ready}
 use Rattle.origin_model.proofs.order.{Within-part, order_by_set, same-part}
 use Rattle.origin_model.proofs.operations.CauseLemmas.{Dead, dead_within}
@@ -11,14 +11,14 @@ use Rattle.origin_model.proofs.taking.TakingLemmas.{Covers, fold_covers}
 use Rattle.origin_model.proofs.taking.KeptLemmas.{answers-append, held-append, kept_suffice, nothing_settled, stays_settled}
 
 -- nothing is held at first
-nothing_covers : Covers [] nothing
+nothing_covers : Covers [] nothing_held
 nothing_covers = record { lawful = tt; history_part = λ x m. m; waiting_part = λ x m. m; decided = λ x m. absurd (false≢true m) }
 
 -- where no limit is met, the state covers the whole list
 held_covers : (hold most : ℕ) (ops : List Op) → Consistent ops → WithinLimits (answers hold most ops) → Covers ops (held hold most ops)
 held_covers hold most ops k n =
     subst (λ l. Covers l (held hold most ops)) (append-nil ops)
-    (fold_covers hold most ops ops [] nothing k (λ x m. subst (λ l. has_op l x ≡ true) (append-nil ops) m) nothing_covers n)
+    (fold_covers hold most ops ops [] nothing_held k (λ x m. subst (λ l. has_op l x ≡ true) (append-nil ops) m) nothing_covers n)
 
 -- a settled state that covers a list is closed
 covered_closed : (ops : List Op) (s : Held) → Covers ops s → IsSettled s → IsClosed ops s.history
@@ -35,7 +35,7 @@ covered_closed ops s c z =
 -- where no limit is met, what is accepted is closed
 held_closed : (hold most : ℕ) (ops : List Op) → Consistent ops → WithinLimits (answers hold most ops) → IsClosed ops (held hold most ops).history
 held_closed hold most ops k n =
-    covered_closed ops (held hold most ops) (held_covers hold most ops k n) (stays_settled hold most nothing ops nothing_settled)
+    covered_closed ops (held hold most ops) (held_covers hold most ops k n) (stays_settled hold most nothing_held ops nothing_settled)
 
 -- so it has the operations of the closure
 pub closure_of_set : ClosureOfSet
@@ -61,17 +61,17 @@ same_set_converges hold most hold' most' a b k s n m =
     record { same_ops = same; same_text = order_by_set x y c.lawful d.lawful same }
 
 -- what a replica accepts that then takes in more is closed in what it kept and those
-more_closed : (r : Taker) (ops : List Op) → Consistent (kept_by r ++ ops) → WithinLimits (answers_from r.hold r.most (state_of r) ops)
-    → IsClosed (kept_by r ++ ops) (held_from r.hold r.most (state_of r) ops).history
+more_closed : (r : Taker) (ops : List Op) → Consistent (kept_by r ++ ops) → WithinLimits (answers_from r.hold r.most (taker_state r) ops)
+    → IsClosed (kept_by r ++ ops) (held_from r.hold r.most (taker_state r) ops).history
 more_closed r ops k n =
     let mine : List Op = kept_by r in
-    let alone = kept_suffice r.hold r.most nothing r.ops nothing_settled in
-    let after : held_from r.hold r.most (held r.hold r.most mine) ops ≡ held_from r.hold r.most (state_of r) ops = ap (λ s. held_from r.hold r.most s ops) alone.same_state in
+    let alone = kept_suffice r.hold r.most nothing_held r.ops nothing_settled in
+    let after : held_from r.hold r.most (held r.hold r.most mine) ops ≡ held_from r.hold r.most (taker_state r) ops = ap (λ s. held_from r.hold r.most s ops) alone.same_state in
     let later : WithinLimits (answers_from r.hold r.most (held r.hold r.most mine) ops) =
     subst (λ s. WithinLimits (answers_from r.hold r.most s ops)) (sym alone.same_state) n in
     let both : WithinLimits (answers r.hold r.most (mine ++ ops)) =
-    subst WithinLimits (sym (answers-append r.hold r.most nothing mine ops)) (All-append (λ a. (a ≢ Full) × (a ≢ TooMany)) (answers r.hold r.most mine) (answers_from r.hold r.most (held r.hold r.most mine) ops) alone.within_limits later) in
-    subst (λ (s : Held). IsClosed (mine ++ ops) s.history) (sym (held-append r.hold r.most nothing mine ops) ∙ after) (held_closed r.hold r.most (mine ++ ops) k both)
+    subst WithinLimits (sym (answers-append r.hold r.most nothing_held mine ops)) (All-append (λ a. (a ≢ Full) × (a ≢ TooMany)) (answers r.hold r.most mine) (answers_from r.hold r.most (held r.hold r.most mine) ops) alone.within_limits later) in
+    subst (λ (s : Held). IsClosed (mine ++ ops) s.history) (sym (held-append r.hold r.most nothing_held mine ops) ∙ after) (held_closed r.hold r.most (mine ++ ops) k both)
 
 -- a front of two lists, the second of which is part of another
 part_behind : (front a b : List Op) → IsPartOf a b → IsPartOf (front ++ a) (front ++ b)
@@ -90,21 +90,21 @@ part_at_end : (a b : List Op) → IsPartOf b (a ++ b)
 part_at_end a b x m = has-append a b x ∙ or_right (has_op a x) (has_op b x) m
 
 -- an operation that a replica gives is accepted or waits
-has-given : (r : Taker) (x : Op) → has_op (given_by r) x ≡ is_again (state_of r) x
+has-given : (r : Taker) (x : Op) → has_op (given_by r) x ≡ is_again (taker_state r) x
 has-given r x =
-    let s : Held = state_of r in
+    let s : Held = taker_state r in
     has-append (accepted s.history) s.waiting x ∙ ap (λ t. t || has_op s.waiting x) (has-reverse s.history x)
 
 -- the state of a replica covers what it kept
-state_covers : (r : Taker) → Consistent (kept_by r) → Covers (kept_by r) (state_of r)
+state_covers : (r : Taker) → Consistent (kept_by r) → Covers (kept_by r) (taker_state r)
 state_covers r k =
-    let alone = kept_suffice r.hold r.most nothing r.ops nothing_settled in
+    let alone = kept_suffice r.hold r.most nothing_held r.ops nothing_settled in
     subst (Covers (kept_by r)) alone.same_state (held_covers r.hold r.most (kept_by r) k alone.within_limits)
 
 -- what a replica gives is part of what it kept
 given_part : (r : Taker) → Consistent (kept_by r) → IsPartOf (given_by r) (kept_by r)
 given_part r k x m =
-    let s : Held = state_of r in
+    let s : Held = taker_state r in
     let c : Covers (kept_by r) s = state_covers r k in
     elim (or_cases (has_op s.history x) (has_op s.waiting x) (sym (has-given r x) ∙ m)) [ inl j ↦ c.history_part x j | inr j ↦ c.waiting_part x j ]
 
@@ -140,7 +140,7 @@ find_keeper (r ∷ replicas) x m =
 not_given : (r : Taker) (ops h : List Op) (x : Op) → Consistent (kept_by r) → Consistent ops → IsPartOf (given_by r) ops → IsClosed ops h
     → has_op (kept_by r) x ≡ true → has_op (given_by r) x ≡ false → Dead h x
 not_given r ops h x k l f d m n =
-    let s : Held = state_of r in
+    let s : Held = taker_state r in
     let c : Covers (kept_by r) s = state_covers r k in
     let has : IsPartOf s.history ops = λ y j. f y (has-given r y ∙ or_left (has_op s.history y) (has_op s.waiting y) j) in
     let within : IsPartOf s.history h = maximal s.history h ops c.lawful d.lawful has d.part l d.saturated in
@@ -176,7 +176,7 @@ given_suffices front ops h replicas f g k d =
 pub closure_of_union : ClosureOfUnion
 closure_of_union r others ops f g k n =
     let all : List Op = kept_by r ++ kept_by_all others in
-    let end : List Op = (held_from r.hold r.most (state_of r) ops).history in
+    let end : List Op = (held_from r.hold r.most (taker_state r) ops).history in
     let part : IsPartOf (kept_by r ++ ops) all = part_behind (kept_by r) ops (kept_by_all others) g in
     let c : IsClosed (kept_by r ++ ops) end = more_closed r ops (consistent_part (kept_by r ++ ops) all part k) n in
     same_closed all end (closure all) k (given_suffices (kept_by r) ops end others f g k c) (closure_is all)
@@ -186,7 +186,7 @@ pub closure_of_merge : ClosureOfMerge
 closure_of_merge r other k n =
     let theirs : List Op = kept_by other in
     let alone : kept_by_all (other ∷ []) ≡ theirs = append-nil theirs in
-    let end : List Op = (held_from r.hold r.most (state_of r) (given_by other)).history in
+    let end : List Op = (held_from r.hold r.most (taker_state r) (given_by other)).history in
     let part : IsPartOf (given_by other) theirs = given_part other (consistent_part theirs (kept_by r ++ theirs) (part_at_end (kept_by r) theirs) k) in
     subst (λ l. SameOps end (closure (kept_by r ++ l))) alone
     (closure_of_union r (other ∷ []) (given_by other)

@@ -1,8 +1,8 @@
 -- The kept operations of a list stand for all of it: what is refused changes nothing, and what is kept is kept again.
 use Rattle.origin_model.proofs.Words.{All, All-append, All-cons, All-nil, All-weaker, List, Op, [], ap, cases_Bool, false, inl, inr, refl, subst, sym, true, true≢false, ℕ, ◌++◌, ◌∙◌, ◌∷◌, ◌≡◌, ◌≢◌}
 use Rattle.origin_model.specs.taking.Closure.{answers, KeptSuffice, PartsAsOne, SavedSuffice, StaysSettled}
-use Rattle.origin_model.specs.taking.Taking.{Held, IsSettled, Answer, Accepted, Full, TooMany, Waits, answer, answers_from, decided_on, held, held_from, intake, intake_counted, is_kept, kept_from, nothing, settle, taken, tally_from}
-use Rattle.origin_model.specs.declared.taking.tally.Tally.{Tally}
+use Rattle.origin_model.specs.taking.Taking.{Held, IsSettled, Answer, Accepted, Full, TooMany, Waits, answer, answers_from, decided_on, held, held_from, intake, intake_counted, is_kept, kept_from, nothing_held, settle, taken, tally_from}
+use Rattle.origin_model.specs.declared.taking.Tally.{Tally}
 use Rattle.origin_model.proofs.taking.SettlingLemmas.{settle-settled, settles}
 
 -- an answer by which nothing is kept changes nothing
@@ -97,20 +97,20 @@ kept_suffice hold most s ops z =
     }
 
 -- where nothing is held, nothing waits
-pub nothing_settled : IsSettled nothing
+pub nothing_settled : IsSettled nothing_held
 nothing_settled = All-nil (λ op. decided_on [] op ≡ false)
 
 -- a file that gains the kept operations of a list comes to what the list led to, and meets no limit that it did not meet before
 pub saved_suffice : SavedSuffice
 saved_suffice hold most file ops =
     let before : Held = held hold most file in
-    let leads = kept_suffice hold most before ops (stays_settled hold most nothing file nothing_settled) in
+    let leads = kept_suffice hold most before ops (stays_settled hold most nothing_held file nothing_settled) in
     let more : List Op = kept_from hold most before ops in
     let still : (Q : Answer → Type 0) → ((a : Answer) → is_kept a ≡ true → Q a) → All Q (answers hold most file) → All Q (answers hold most (file ++ more)) = λ Q f n.
-    subst (All Q) (sym (answers-append hold most nothing file more))
+    subst (All Q) (sym (answers-append hold most nothing_held file more))
     (All-append Q (answers hold most file) (answers_from hold most before more) n (All-weaker (λ a. is_kept a ≡ true) Q f (answers_from hold most before more) leads.kept_again)) in
     record {
-      same_state = sym (held-append hold most nothing file more) ∙ leads.same_state;
+      same_state = sym (held-append hold most nothing_held file more) ∙ leads.same_state;
       within_limits = still (λ a. (a ≢ Full) × (a ≢ TooMany)) kept_within;
       has_place = still (λ a. a ≢ TooMany) (λ a k. (kept_within a k).1);
     }

@@ -7,9 +7,9 @@ use Rattle.origin_model.specs.operations.Counters.{counters}
 use Rattle.origin_model.specs.order.Order.{order}
 use Rattle.origin_model.specs.order.Printed.{shown}
 use Rattle.origin_model.specs.operations.Verdict.{verdict, Lawful}
-use Rattle.origin_model.specs.declared.operations.place.Place.{Place}
-use Rattle.origin_model.specs.declared.operations.place.Place.TheVariants.{Catalogue as catalogue, Section as within}
-use Rattle.origin_model.specs.declared.operations.verdict.Verdict.TheVariants.{Ready}
+use Rattle.origin_model.specs.declared.operations.Place.{Place}
+use Rattle.origin_model.specs.declared.operations.Place.TheVariants.{Catalogue as catalogue, Section as within}
+use Rattle.origin_model.specs.declared.operations.Verdict.TheVariants.{Ready}
 use Rattle.origin_model.specs.edits.Landing.{following}
 
 -- the first `at` members, then the new ones, then the members from at + n on
@@ -78,8 +78,8 @@ abbrev pub cut_in : List Op → Identifier → (at n : ℕ) → List Op
 cut_in history s at n = deletes_of (take n (drop at (shown (within s) history)))
 
 -- the operation of an add
-abbrev pub added : (replica : ℕ) → (history waiting : List Op) → (at : ℕ) → List ℕ → Op
-added replica history waiting at title =
+abbrev pub op_of_add : (replica : ℕ) → (history waiting : List Op) → (at : ℕ) → List ℕ → Op
+op_of_add replica history waiting at title =
     Section (id_at replica (next_counter replica history waiting)) (left_for catalogue history at) (right_for catalogue history at) title
 
 -- the operations of an edit, in the order in which they are made; none where there is no such section
@@ -88,7 +88,7 @@ made replica history waiting (Put k at new) =
     elim (slice_get (shown catalogue history) k) [ None ↦ [] | Some s ↦ put_in replica history waiting s at new ]
 made replica history waiting (Cut k at n) =
     elim (slice_get (shown catalogue history) k) [ None ↦ [] | Some s ↦ cut_in history s at n ]
-made replica history waiting (Add at title) = added replica history waiting at title ∷ []
+made replica history waiting (Add at title) = op_of_add replica history waiting at title ∷ []
 made replica history waiting (DropSection k) =
     elim (slice_get (shown catalogue history) k) [ None ↦ [] | Some s ↦ Delete s ∷ [] ]
 

@@ -5,30 +5,30 @@ use Rattle.fugue_ids.specs.declared.op.Op.{Op}
 use Rattle.origin_model.specs.operations.History.{left_of, right_of, element_of}
 use Rattle.origin_model.specs.order.Order.{order}
 use Rattle.origin_model.specs.operations.Verdict.{Lawful}
-use Rattle.origin_model.specs.declared.operations.place.Place.{Place}
+use Rattle.origin_model.specs.declared.operations.Place.{Place}
 
 -- the last of the elements so far: the start, where there is none
-abbrev pub end_of : List Identifier → Option Identifier
-end_of [] = None
-end_of (e ∷ []) = Some e
-end_of (e ∷ f ∷ es) = end_of (f ∷ es)
+abbrev pub last_before : List Identifier → Option Identifier
+last_before [] = None
+last_before (e ∷ []) = Some e
+last_before (e ∷ f ∷ es) = last_before (f ∷ es)
 
 -- the first of the elements that follow: the end, where there is none
-abbrev pub head_of : List Identifier → Option Identifier
-head_of [] = None
-head_of (e ∷ es) = Some e
+abbrev pub first_after : List Identifier → Option Identifier
+first_after [] = None
+first_after (e ∷ es) = Some e
 
 -- the element that follows an origin: the first for the start, the end where none follows
 abbrev pub following : List Identifier → Option Identifier → Option Identifier
-following es None = head_of es
+following es None = first_after es
 following [] (Some l) = None
-following (e ∷ es) (Some l) = if id_eq e l then head_of es else following es (Some l)
+following (e ∷ es) (Some l) = if id_eq e l then first_after es else following es (Some l)
 
 -- an element whose right origin stands directly behind its left origin lands between them
 abbrev pub LandsBehind : Type 0
 LandsBehind =
     (p : Place) (op : Op) (older : List Op) (x : Identifier) (front back : List Identifier) → Lawful (op ∷ older) → element_of p op ≡ Some x
-    → order p older ≡ front ++ back → left_of op ≡ end_of front → right_of op ≡ head_of back
+    → order p older ≡ front ++ back → left_of op ≡ last_before front → right_of op ≡ first_after back
     → order p (op ∷ older) ≡ front ++ x ∷ back
 
 -- new elements stand directly behind a left origin, in their order, and the others as before
@@ -36,7 +36,7 @@ pub record StandsBehind (left : Option Identifier) (new before after : List Iden
   pub front : List Identifier
   pub back : List Identifier
   pub was : before ≡ front ++ back
-  pub origin : end_of front ≡ left
+  pub origin : last_before front ≡ left
   pub is : after ≡ front ++ new ++ back
 
 -- the same law by the element that follows the left origin, which is the start or an element of the place

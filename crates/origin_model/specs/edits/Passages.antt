@@ -5,7 +5,7 @@ use Rattle.fugue_ids.specs.declared.op.Op.{Op}
 use Rattle.origin_model.specs.order.Laws.{IsIn}
 use Rattle.origin_model.specs.order.Order.{Passes, before, left_at, lefts, right_at, rights}
 use Rattle.origin_model.specs.operations.Verdict.{Lawful}
-use Rattle.origin_model.specs.declared.operations.place.Place.{Place}
+use Rattle.origin_model.specs.declared.operations.Place.{Place}
 
 -- an element and all whose chains of left origins pass it stand without a gap, the element first
 pub record StandsTogether (p : Place) (h : List Op) (x : Identifier) : Type 0 where

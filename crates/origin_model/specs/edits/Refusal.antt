@@ -7,8 +7,8 @@ use Rattle.origin_model.specs.edits.Edits.{Command, Put, Cut, Add, DropSection, 
 use Rattle.origin_model.specs.edits.State.{State}
 use Rattle.origin_model.specs.declared.edit_fault.EditFault.{EditFault}
 use Rattle.origin_model.specs.declared.edit_fault.EditFault.TheVariants.{NoSection, OutOfRange, IdsSpent, TooMany, NoMemory}
-use Rattle.origin_model.specs.declared.operations.place.Place.{Place}
-use Rattle.origin_model.specs.declared.operations.place.Place.TheVariants.{Catalogue as catalogue, Section as within}
+use Rattle.origin_model.specs.declared.operations.Place.{Place}
+use Rattle.origin_model.specs.declared.operations.Place.TheVariants.{Catalogue as catalogue, Section as within}
 
 -- the section behind k others among those that are shown
 abbrev pub section_shown : State → ℕ → Option Identifier
@@ -56,12 +56,12 @@ abbrev pub in_range : (position count : ℕ) → Option EditFault → Option Edi
 in_range position count cause = if nat_lt count position then Some OutOfRange else cause
 
 -- why an edit is refused, by the first cause that there is
-abbrev pub refusal : State → Command → Option EditFault
-refusal s (Put k at new) = in_section (section_shown s k) (λ x. in_range at (shown_count s (within x)) (refused_elements s (length new)))
-refusal s (Cut k at n) = in_section (section_shown s k) (λ x. in_range (at + n) (shown_count s (within x)) (refused_ops s n))
-refusal s (Add at title) = in_range at (shown_count s catalogue) (refused_elements s 1)
-refusal s (DropSection k) = in_section (section_shown s k) (λ x. refused_ops s 1)
+abbrev pub refusal_message : State → Command → Option EditFault
+refusal_message s (Put k at new) = in_section (section_shown s k) (λ x. in_range at (shown_count s (within x)) (refused_elements s (length new)))
+refusal_message s (Cut k at n) = in_section (section_shown s k) (λ x. in_range (at + n) (shown_count s (within x)) (refused_ops s n))
+refusal_message s (Add at title) = in_range at (shown_count s catalogue) (refused_elements s 1)
+refusal_message s (DropSection k) = in_section (section_shown s k) (λ x. refused_ops s 1)
 
 -- each refusal comes exactly where its cause is the first
 abbrev pub RefusesExactly : State → Command → Result ℕ EditFault → Type 0
-RefusesExactly s command result = (fault : EditFault) → fault ≢ NoMemory → (result ≡ Err fault) ↔ (refusal s command ≡ Some fault)
+RefusesExactly s command result = (fault : EditFault) → fault ≢ NoMemory → (result ≡ Err fault) ↔ (refusal_message s command ≡ Some fault)

@@ -5,13 +5,13 @@ use Rattle.fugue_ids.specs.Ops.{id_of}
 use Rattle.fugue_ids.specs.declared.op.Op.{Op}
 use Rattle.fugue_ids.specs.declared.op.Op.TheVariants.{Section, Text, Delete}
 use Rattle.origin_model.specs.operations.History.{holder, holds, has_op, stands_at}
-use Rattle.origin_model.specs.declared.operations.found.Found.{Found}
-use Rattle.origin_model.specs.declared.operations.found.Found.TheVariants.{Same, Clash, Absent}
-use Rattle.origin_model.specs.declared.operations.place.Place.TheVariants.{Catalogue as catalogue, Section as within}
-use Rattle.origin_model.specs.declared.operations.role.Role.{Role}
-use Rattle.origin_model.specs.declared.operations.role.Role.TheVariants.{Any, Section as SectionRole, TextOf}
-use Rattle.origin_model.specs.declared.operations.verdict.Verdict.{Verdict}
-use Rattle.origin_model.specs.declared.operations.verdict.Verdict.TheVariants.{Again, Conflict, Stray, Missing, Ready}
+use Rattle.origin_model.specs.declared.operations.named.Found.{Found}
+use Rattle.origin_model.specs.declared.operations.named.Found.TheVariants.{Same, Clash, Absent}
+use Rattle.origin_model.specs.declared.operations.Place.TheVariants.{Catalogue as catalogue, Section as within}
+use Rattle.origin_model.specs.declared.operations.Role.{Role}
+use Rattle.origin_model.specs.declared.operations.Role.TheVariants.{Any, Section as SectionRole, TextOf}
+use Rattle.origin_model.specs.declared.operations.Verdict.{Verdict}
+use Rattle.origin_model.specs.declared.operations.Verdict.TheVariants.{Again, Conflict, Stray, Missing, Ready}
 
 -- the operation fits the role
 abbrev pub fits : Role → Op → Bool

@@ -2,8 +2,8 @@
 use Rattle.std.specs.Prelude.{Option, List}
 use Rattle.fugue_ids.specs.Identifiers.{Identifier}
 use Rattle.fugue_ids.specs.declared.op.Op.{Op}
-use Rattle.origin_model.specs.declared.order.chain.Chain.{Chain}
-use Rattle.origin_model.specs.declared.order.chain.Chain.TheVariants.{Lefts, Rights}
+use Rattle.origin_model.specs.declared.order.comparison.Chain.{Chain}
+use Rattle.origin_model.specs.declared.order.comparison.Chain.TheVariants.{Lefts, Rights}
 use Rattle.origin_model.specs.order.Order.{next_left, next_right}
 
 abbrev pub next_of : Chain → List Op → Op → Option Identifier

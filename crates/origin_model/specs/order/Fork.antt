@@ -1,8 +1,8 @@
 -- Where two chains part.
 use Rattle.std.specs.Prelude.{Bool, false, if◌then◌else◌, not, List, [], ◌∷◌}
 use Rattle.fugue_ids.specs.Identifiers.{Identifier, id_eq}
-use Rattle.origin_model.specs.declared.order.fork.Fork.{Fork}
-use Rattle.origin_model.specs.declared.order.fork.Fork.TheVariants.{Same, FirstEnds, SecondEnds, At}
+use Rattle.origin_model.specs.declared.order.comparison.Fork.{Fork}
+use Rattle.origin_model.specs.declared.order.comparison.Fork.TheVariants.{Same, FirstEnds, SecondEnds, At}
 
 -- the first place where two chains differ
 abbrev pub fork_of : List Identifier → List Identifier → Fork

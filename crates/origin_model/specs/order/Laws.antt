@@ -3,7 +3,7 @@ use Rattle.std.specs.Prelude.{◌≡◌, ◌≢◌, ◌↔◌, Some, true, false
 use Rattle.std.specs.List.{AllPairs, Contains}
 use Rattle.fugue_ids.specs.Identifiers.{Identifier}
 use Rattle.fugue_ids.specs.declared.op.Op.{Op}
-use Rattle.origin_model.specs.declared.operations.place.Place.{Place}
+use Rattle.origin_model.specs.declared.operations.Place.{Place}
 use Rattle.origin_model.specs.operations.History.{holder, holds, has_op, element_of}
 use Rattle.origin_model.specs.operations.Verdict.{Lawful}
 use Rattle.origin_model.specs.order.Order.{IsOrderedBy, order, before}

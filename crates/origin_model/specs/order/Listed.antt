@@ -3,8 +3,8 @@ use Rattle.std.specs.Prelude.{◌≡◌, Bool, if◌then◌else◌, not, ◌&&�
 use Rattle.std.specs.Str.{encode_utf8_all}
 use Rattle.fugue_ids.specs.Identifiers.{Identifier}
 use Rattle.fugue_ids.specs.declared.op.Op.{Op}
-use Rattle.origin_model.specs.declared.operations.place.Place.{Place}
-use Rattle.origin_model.specs.declared.order.listed.Listed.{Listed}
+use Rattle.origin_model.specs.declared.operations.Place.{Place}
+use Rattle.origin_model.specs.declared.order.listing.Listed.{Listed}
 use Rattle.origin_model.specs.operations.History.{place_eq, holder}
 use Rattle.origin_model.specs.order.Order.{order}
 use Rattle.origin_model.specs.order.Printed.{is_hidden, scalar_of}

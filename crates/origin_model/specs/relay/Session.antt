@@ -14,17 +14,17 @@ abbrev pub closing : List ℕ
 closing = 0x44 ∷ []
 
 -- how far the text of a session was read: its cursor, where that was read, and the bytes since its last whole message
-pub record Reading : Type 0 where
+pub record SessionReading : Type 0 where
   pub cursor : Option ℕ
   pub rest : List ℕ
 
 -- a text of which nothing came
-abbrev pub unread : Reading
+abbrev pub unread : SessionReading
 unread = record { cursor = None; rest = [] }
 
 -- the session goes on, or is closed with these bytes as its reply
 pub data Next : Type 0 where
-  Goes : Reading → Next
+  Goes : SessionReading → Next
   Closes : List ℕ → Next
 
 -- the log after some bytes, and what becomes of the session
@@ -33,15 +33,15 @@ pub record Taken : Type 0 where
   pub next : Next
 
 -- the session goes on behind a whole message
-abbrev pub goes_on : List (List ℕ) → (cursor : ℕ) → Taken
-goes_on log cursor = record { log = log; next = Goes (record { cursor = Some cursor; rest = [] }) }
+abbrev pub session_goes_on : List (List ℕ) → (cursor : ℕ) → Taken
+session_goes_on log cursor = record { log = log; next = Goes (record { cursor = Some cursor; rest = [] }) }
 
 -- 58 and a code: 1 for a message outside the grammar, 2 for a frame that a full log lacks, 3 for a cursor beyond the log
-abbrev pub refusal : ℕ → List ℕ
-refusal code = 0x58 ∷ code ∷ []
+abbrev pub refusal_message : ℕ → List ℕ
+refusal_message code = 0x58 ∷ code ∷ []
 
-abbrev pub refused : List (List ℕ) → (code : ℕ) → Taken
-refused log code = record { log = log; next = Closes (refusal code) }
+abbrev pub session_refused : List (List ℕ) → (code : ℕ) → Taken
+session_refused log code = record { log = log; next = Closes (refusal_message code) }
 
 -- the frames of the log from the cursor on, then 55 and the log's length
 abbrev pub reply_from : List (List ℕ) → (cursor : ℕ) → List ℕ
@@ -53,7 +53,7 @@ is_logged log frame = list_any (pointwise nat_eq frame) log
 
 -- the cursor is compared as its last byte comes
 abbrev pub at_cursor : List (List ℕ) → (cursor : ℕ) → Taken
-at_cursor log cursor = if nat_lt (length log) cursor then refused log 3 else goes_on log cursor
+at_cursor log cursor = if nat_lt (length log) cursor then session_refused log 3 else session_goes_on log cursor
 
 -- the first bytes of a text
 abbrev pub greeted : List (List ℕ) → List ℕ → Taken
@@ -61,12 +61,12 @@ greeted log [] = record { log = log; next = Goes unread }
 greeted log (first ∷ number) =
     if nat_eq first greeting
     then if nat_lt (length number) 4 then record { log = log; next = Goes (record { cursor = None; rest = first ∷ number }) } else at_cursor log (from_be_bytes w32 number)
-    else refused log 1
+    else session_refused log 1
 
 -- a frame joins the log once, and none joins a full one
 abbrev pub logged : (limit : ℕ) → List (List ℕ) → (cursor : ℕ) → List ℕ → Taken
 logged limit log cursor frame =
-    if is_logged log frame then goes_on log cursor else if nat_eq (length log) limit then refused log 2 else goes_on (log ++ frame ∷ []) cursor
+    if is_logged log frame then session_goes_on log cursor else if nat_eq (length log) limit then session_refused log 2 else session_goes_on (log ++ frame ∷ []) cursor
 
 -- what the bytes since the last whole message are: a frame, the closing byte, a proper front of a frame, or none of them
 pub data Kind : Type 0 where
@@ -86,7 +86,7 @@ abbrev pub told : Kind → (limit : ℕ) → List (List ℕ) → (cursor : ℕ) 
 told Frame limit log cursor bytes = logged limit log cursor bytes
 told Closing limit log cursor bytes = record { log = log; next = Closes (reply_from log cursor) }
 told Front limit log cursor bytes = record { log = log; next = Goes (record { cursor = Some cursor; rest = bytes }) }
-told Neither limit log cursor bytes = refused log 1
+told Neither limit log cursor bytes = session_refused log 1
 
 -- the bytes since the last whole message, with one that came
 abbrev pub TakesByte : (limit : ℕ) → List (List ℕ) → (cursor : Option ℕ) → List ℕ → Taken → Type 0

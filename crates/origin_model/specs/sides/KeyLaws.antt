@@ -5,15 +5,15 @@ use Rattle.fugue_ids.specs.Identifiers.{Identifier}
 use Rattle.fugue_ids.specs.Keys.{IsFit}
 use Rattle.fugue_ids.specs.Listed.{HoldsOrigin}
 use Rattle.fugue_ids.specs.declared.op.Op.{Op}
-use Rattle.origin_model.specs.declared.operations.place.Place.{Place}
-use Rattle.origin_model.specs.declared.sides.slot.Slot.{Slot}
-use Rattle.origin_model.specs.declared.sides.slot.Slot.TheVariants.{LeftOf, RightOf}
+use Rattle.origin_model.specs.declared.operations.Place.{Place}
+use Rattle.origin_model.specs.declared.sides.Slot.{Slot}
+use Rattle.origin_model.specs.declared.sides.Slot.TheVariants.{LeftOf, RightOf}
 use Rattle.origin_model.specs.operations.History.{element_of, holder, holds, left_of, right_of}
 use Rattle.origin_model.specs.operations.Verdict.{Lawful}
 use Rattle.origin_model.specs.order.Laws.{IsIn}
 use Rattle.origin_model.specs.order.Order.{order}
 use Rattle.origin_model.specs.sides.KeyedGap.{block_end, block_start, gap_by_keys, siblings, slot_key}
-use Rattle.origin_model.specs.sides.Keys.{depth_of, forest_of, key_of, keyed, new_key}
+use Rattle.origin_model.specs.sides.Keys.{depth_of, forest_of, search_key_of, keyed, new_key}
 use Rattle.origin_model.specs.sides.Node.{node_order}
 use Rattle.origin_model.specs.declared.operations.node.Node.{Node}
 use Rattle.origin_model.specs.sides.Slot.{BeforeBlock, IsPlace, IsTable, LastBelow, goes_before, slot_of}
@@ -52,7 +52,7 @@ BlockEndByKeys =
 abbrev pub BlockStartByKeys : Type 0
 BlockStartByKeys =
     (p : Place) (h : List Op) (children : Slot → List Identifier) (q : Identifier) → Lawful h → AllFit p h → IsTable p h children → IsIn p h q
-    → BeforeBlock children q (block_start (keyed h (order p h)) (key_of h q) q)
+    → BeforeBlock children q (block_start (keyed h (order p h)) (search_key_of h q) q)
 
 -- the siblings found by keys are the children of the slot, in order
 abbrev pub SiblingsByKeys : Type 0
@@ -71,7 +71,7 @@ GapByKeys =
 abbrev pub NewKey : Type 0
 NewKey =
     (p : Place) (op : Op) (older : List Op) (x : Identifier) → Lawful (op ∷ older) → element_of p op ≡ Some x
-    → key_of (op ∷ older) x ≡ new_key older (left_of op) (right_of op)
+    → search_key_of (op ∷ older) x ≡ new_key older (left_of op) (right_of op)
 
 -- a later operation leaves the keys of what is there
 abbrev pub KeysStay : Type 0

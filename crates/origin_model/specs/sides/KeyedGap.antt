@@ -5,14 +5,14 @@ use Rattle.std.specs.List.{AllPairs}
 use Rattle.fugue_ids.specs.Identifiers.{Identifier}
 use Rattle.fugue_ids.specs.Keys.{Keyed, between, first_id, first_low, front_of, ids, is_low, last_id, last_low, rest_of}
 use Rattle.fugue_ids.specs.Listed.{index_of}
-use Rattle.fugue_ids.specs.declared.gap.Gap.{Gap}
-use Rattle.fugue_ids.specs.declared.gap.Gap.TheVariants.{Alone, Before, After}
+use Rattle.fugue_ids.specs.declared.key.Gap.{Gap}
+use Rattle.fugue_ids.specs.declared.key.Gap.TheVariants.{Alone, Before, After}
 use Rattle.fugue_ids.specs.declared.key.Key.{Key}
 use Rattle.fugue_ids.specs.declared.op.Op.{Op}
-use Rattle.origin_model.specs.declared.sides.slot.Slot.{Slot}
-use Rattle.origin_model.specs.declared.sides.slot.Slot.TheVariants.{LeftOf, RightOf}
-use Rattle.origin_model.specs.edits.Landing.{end_of}
-use Rattle.origin_model.specs.sides.Keys.{key_of}
+use Rattle.origin_model.specs.declared.sides.Slot.{Slot}
+use Rattle.origin_model.specs.declared.sides.Slot.TheVariants.{LeftOf, RightOf}
+use Rattle.origin_model.specs.edits.Landing.{last_before}
+use Rattle.origin_model.specs.sides.Keys.{search_key_of}
 
 -- the greatest key of a depth that fits its numbers: a key is at most that where its depth is at most d
 abbrev pub widest : ℕ → Key
@@ -30,8 +30,8 @@ block_start es k q = unwrap_or (first_low (widest k.depth) (rest_of (last_low k 
 -- the key of the element of a slot, and of the start
 abbrev pub slot_key : List Op → Slot → Key
 slot_key h (RightOf None) = record { depth = 0; forest = 0 }
-slot_key h (RightOf (Some l)) = key_of h l
-slot_key h (LeftOf q) = key_of h q
+slot_key h (RightOf (Some l)) = search_key_of h l
+slot_key h (LeftOf q) = search_key_of h q
 
 -- the key of the children of a slot, whose element has key k
 abbrev pub child_key : Slot → Key → Key
@@ -64,7 +64,7 @@ siblings es s k = low_ids (child_key s k) (slot_part es s k)
 
 -- the last one that passes
 abbrev pub last_passing : (Identifier → Bool) → List Identifier → Option Identifier
-last_passing g xs = end_of (filter g xs)
+last_passing g xs = last_before (filter g xs)
 
 -- of any two, the first passes where the second does
 abbrev pub Falls : (Identifier → Bool) → List Identifier → Type 0

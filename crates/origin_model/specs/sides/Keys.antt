@@ -16,12 +16,12 @@ depth_of h x = length (lefts h x)
 abbrev pub forest_of : List Op → Identifier → ℕ
 forest_of h x = length (rights h x) - 1
 
-abbrev pub key_of : List Op → Identifier → Key
-key_of h x = record { depth = depth_of h x; forest = forest_of h x }
+abbrev pub search_key_of : List Op → Identifier → Key
+search_key_of h x = record { depth = depth_of h x; forest = forest_of h x }
 
 -- an element with its key
 abbrev pub keyed_as : List Op → Identifier → Keyed
-keyed_as h x = record { id = x; key = key_of h x }
+keyed_as h x = record { id = x; key = search_key_of h x }
 
 -- elements with their keys
 abbrev pub keyed : List Op → List Identifier → List Keyed

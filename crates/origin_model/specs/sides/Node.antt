@@ -5,8 +5,8 @@ use Rattle.fugue_ids.specs.declared.op.Op.{Op}
 use Rattle.fugue_ids.specs.declared.op.Op.TheVariants.{Section}
 use Rattle.origin_model.specs.operations.History.{left_of, right_of, element_of}
 use Rattle.origin_model.specs.order.Order.{order}
-use Rattle.origin_model.specs.declared.operations.place.Place.{Place}
-use Rattle.origin_model.specs.declared.operations.place.Place.TheVariants.{Catalogue as catalogue}
+use Rattle.origin_model.specs.declared.operations.Place.{Place}
+use Rattle.origin_model.specs.declared.operations.Place.TheVariants.{Catalogue as catalogue}
 use Rattle.origin_model.specs.declared.operations.node.Node.{Node}
 
 -- one more node, where the operation is an element

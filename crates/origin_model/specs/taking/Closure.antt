@@ -5,9 +5,9 @@ use Rattle.fugue_ids.specs.Ops.{id_of}
 use Rattle.fugue_ids.specs.declared.op.Op.{Op}
 use Rattle.origin_model.specs.operations.History.{has_op, accepted}
 use Rattle.origin_model.specs.order.Laws.{IsPartOf, SameOps, IsSameText}
-use Rattle.origin_model.specs.taking.Taking.{Held, HasPlace, nothing, Answer, TooMany, Full, held, held_from, kept, kept_from, answers_from, is_kept, IsSettled, settle, closure}
+use Rattle.origin_model.specs.taking.Taking.{Held, HasPlace, nothing_held, Answer, TooMany, Full, held, held_from, kept, kept_from, answers_from, is_kept, IsSettled, settle, closure}
 use Rattle.origin_model.specs.operations.Verdict.{names, verdict, Lawful}
-use Rattle.origin_model.specs.declared.operations.verdict.Verdict.TheVariants.{Ready}
+use Rattle.origin_model.specs.declared.operations.Verdict.TheVariants.{Ready}
 
 -- no two different operations have one identifier
 abbrev pub Consistent : List Op → Type 0
@@ -15,7 +15,7 @@ Consistent ops = (a b : Op) (i : Identifier) → has_op ops a ≡ true → has_o
 
 -- the answers to operations taken in one after another from nothing
 abbrev pub answers : (hold most : ℕ) → List Op → List Answer
-answers hold most ops = answers_from hold most nothing ops
+answers hold most ops = answers_from hold most nothing_held ops
 
 -- no limit was met: no answer is Full or TooMany
 abbrev pub WithinLimits : List Answer → Type 0
@@ -63,15 +63,15 @@ pub record Taker : Type 0 where
   pub most : ℕ
   pub ops : List Op
 
-abbrev pub state_of : Taker → Held
-state_of r = held r.hold r.most r.ops
+abbrev pub taker_state : Taker → Held
+taker_state r = held r.hold r.most r.ops
 
 abbrev pub kept_by : Taker → List Op
 kept_by r = kept r.hold r.most r.ops
 
 -- what a replica gives to others: its accepted operations, and then those that wait
 abbrev pub given_by : Taker → List Op
-given_by r = accepted (state_of r).history ++ (state_of r).waiting
+given_by r = accepted (taker_state r).history ++ (taker_state r).waiting
 
 abbrev pub kept_by_all : List Taker → List Op
 kept_by_all replicas = flat_map kept_by replicas
@@ -83,14 +83,14 @@ given_by_all replicas = flat_map given_by replicas
 abbrev pub ClosureOfUnion : Type 0
 ClosureOfUnion =
     (r : Taker) (others : List Taker) (ops : List Op) → IsPartOf (given_by_all others) ops → IsPartOf ops (kept_by_all others)
-    → Consistent (kept_by r ++ kept_by_all others) → WithinLimits (answers_from r.hold r.most (state_of r) ops)
-    → SameOps (held_from r.hold r.most (state_of r) ops).history (closure (kept_by r ++ kept_by_all others))
+    → Consistent (kept_by r ++ kept_by_all others) → WithinLimits (answers_from r.hold r.most (taker_state r) ops)
+    → SameOps (held_from r.hold r.most (taker_state r) ops).history (closure (kept_by r ++ kept_by_all others))
 
 -- so does one that takes in what one other gives, as it stands
 abbrev pub ClosureOfMerge : Type 0
 ClosureOfMerge =
-    (r other : Taker) → Consistent (kept_by r ++ kept_by other) → WithinLimits (answers_from r.hold r.most (state_of r) (given_by other))
-    → SameOps (held_from r.hold r.most (state_of r) (given_by other)).history (closure (kept_by r ++ kept_by other))
+    (r other : Taker) → Consistent (kept_by r ++ kept_by other) → WithinLimits (answers_from r.hold r.most (taker_state r) (given_by other))
+    → SameOps (held_from r.hold r.most (taker_state r) (given_by other)).history (closure (kept_by r ++ kept_by other))
 
 -- parts that are taken in one after the other are taken in as one list
 abbrev pub PartsAsOne : Type 0
@@ -121,7 +121,7 @@ StaysSettled = (hold most : ℕ) (s : Held) (ops : List Op) → IsSettled s → 
 pub record IsSaved (hold most : ℕ) (file ops : List Op) : Type 0 where
   pub same_state : held hold most (file ++ kept_from hold most (held hold most file) ops) ≡ held_from hold most (held hold most file) ops
   pub within_limits : WithinLimits (answers hold most file) → WithinLimits (answers hold most (file ++ kept_from hold most (held hold most file) ops))
-  pub has_place : HasPlace hold most nothing file → HasPlace hold most nothing (file ++ kept_from hold most (held hold most file) ops)
+  pub has_place : HasPlace hold most nothing_held file → HasPlace hold most nothing_held (file ++ kept_from hold most (held hold most file) ops)
 
 -- saving the kept operations behind those of the file saves the state, and the file meets no limit that it did not meet before;
 -- where nothing was refused for want of a place, nothing is, even if something was Full

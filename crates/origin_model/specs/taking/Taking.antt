@@ -5,17 +5,17 @@ use Rattle.fugue_ids.specs.Ops.{id_of}
 use Rattle.fugue_ids.specs.declared.op.Op.{Op}
 use Rattle.origin_model.specs.operations.History.{has_op}
 use Rattle.origin_model.specs.operations.Verdict.{verdict, id_held}
-use Rattle.origin_model.specs.declared.taking.tally.Tally.{Tally}
-use Rattle.origin_model.specs.declared.operations.verdict.Verdict.{Verdict}
-use Rattle.origin_model.specs.declared.operations.verdict.Verdict.TheVariants.{Stray as StrayOnHistory, Ready}
+use Rattle.origin_model.specs.declared.taking.Tally.{Tally}
+use Rattle.origin_model.specs.declared.operations.Verdict.{Verdict}
+use Rattle.origin_model.specs.declared.operations.Verdict.TheVariants.{Stray as StrayOnHistory, Ready}
 
 -- the accepted and the waiting operations
 pub record Held : Type 0 where
   pub history : List Op
   pub waiting : List Op
 
-abbrev pub nothing : Held
-nothing = record { history = []; waiting = [] }
+abbrev pub nothing_held : Held
+nothing_held = record { history = []; waiting = [] }
 
 -- the answer to an operation that is taken in
 pub data Answer : Type 0 where
@@ -107,7 +107,7 @@ held_from hold most s [] = s
 held_from hold most s (op ∷ ops) = held_from hold most (intake hold most s op) ops
 
 abbrev pub held : (hold most : ℕ) → List Op → Held
-held hold most ops = held_from hold most nothing ops
+held hold most ops = held_from hold most nothing_held ops
 
 -- the answers, in order
 abbrev pub answers_from : (hold most : ℕ) → Held → List Op → List Answer
@@ -131,7 +131,7 @@ kept_from hold most s (op ∷ ops) =
     if is_kept (answer hold most s op) then op ∷ rest else rest
 
 abbrev pub kept : (hold most : ℕ) → List Op → List Op
-kept hold most ops = kept_from hold most nothing ops
+kept hold most ops = kept_from hold most nothing_held ops
 
 -- how many operations joined the history between two states
 abbrev pub count_joined : Held → Held → ℕ
@@ -169,7 +169,7 @@ abbrev pub no_counts : Tally
 no_counts = record { accepted = 0; repeated = 0; conflict = 0; stray = 0; full = 0 }
 
 abbrev pub tally : (hold most : ℕ) → List Op → Tally
-tally hold most ops = tally_from hold most nothing ops no_counts
+tally hold most ops = tally_from hold most nothing_held ops no_counts
 
 -- the earliest Ready operation
 abbrev pub first_ready : List Op → List Op → Option Op

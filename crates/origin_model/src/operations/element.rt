@@ -1,7 +1,8 @@
 //! The elements that operations make, each with its place and its origins.
 
 ghost use Rattle.std.specs.Prelude.{◌≡◌};
-ghost use Rattle.origin_model.specs.operations.History.{element, left_of as left_origin, right_of as right_origin, stands_at as stands_in};
+ghost use Rattle.origin_model.specs.operations.History.{element, left_of as left_origin, right_of as right_origin};
+ghost use Rattle.origin_model.specs.operations.History.{stands_at as stands_in};
 
 use crate::{Node, Place};
 use fugue_ids::{ElementId, Op};

@@ -1,17 +1,56 @@
 //! What an operation is against the accepted operations.
-
-ghost use Rattle.std.specs.Prelude.{◌≡◌, ◌∷◌, [], true};
+ghost use Rattle.std.specs.Prelude.{◌≡◌, ◌∷◌, [], true, None};
 ghost use Rattle.fugue_ids.specs.Ops.{id_of, op_eq};
 ghost use Rattle.origin_model.specs.operations.History.{has_op};
-ghost use Rattle.origin_model.specs.operations.Verdict.{names, fits as fits_role, first_stray, first_missing, found_as, id_held, verdict as verdict_on};
+ghost use Rattle.origin_model.specs.operations.Verdict.{names, fits as fits_role, first_stray, first_missing, found_as};
+ghost use Rattle.origin_model.specs.operations.Verdict.{id_held, verdict as verdict_on};
+ghost use Rattle.std.specs.Option.{option_or};
 
 use crate::operations::element::stands_at;
-use crate::operations::found::Found;
 use crate::operations::lookup::Lookup;
-use crate::operations::name_faults::NameFaults;
 use crate::operations::names::{Named, names_of};
 use crate::{Place, Role, Verdict};
-use fugue_ids::{Op, OpKey};
+use fugue_ids::{ElementId, Op, OpKey};
+
+/// What is wrong with names: the first that is held and does not fit, and the first that is not held.
+#[derive(Clone, Copy, Debug, PartialEq, Eq)]
+pub struct NameFaults {
+    pub stray: Option<ElementId>,
+    pub missing: Option<ElementId>,
+}
+
+impl NameFaults {
+    pub fn none() -> NameFaults
+        ensures stray { result.stray ≡ None }
+        ensures missing { result.missing ≡ None }
+    {
+        NameFaults {
+            stray: None,
+            missing: None,
+        }
+    }
+
+    /// Those of names before others.
+    pub fn or(self, others: NameFaults) -> NameFaults
+        ensures stray { result.stray ≡ option_or self.stray others.stray }
+        ensures missing { result.missing ≡ option_or self.missing others.missing }
+    {
+        NameFaults {
+            stray: self.stray.or(others.stray),
+            missing: self.missing.or(others.missing),
+        }
+    }
+}
+
+/// What is there of an operation.
+#[derive(Clone, Copy, Debug, PartialEq, Eq)]
+pub enum Found {
+    /// An equal one.
+    Same,
+    /// Another one with its identifier.
+    Clash,
+    Absent,
+}
 
 fn fits(role: Role, op: &Op) -> bool
     ensures { result ≡ fits_role role op.now }

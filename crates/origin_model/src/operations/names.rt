@@ -24,7 +24,7 @@ impl Model for Names {
     ghost use Rattle.std.specs.Prelude.{◌≤◌, List, take};
     ghost use Rattle.fugue_ids.specs.Identifiers.{Identifier};
     ghost use Rattle.origin_model.specs.declared.operations.names.TheConstants.{MOST_NAMES};
-    ghost use Rattle.origin_model.specs.declared.operations.role.Role.{Role};
+    ghost use Rattle.origin_model.specs.declared.operations.Role.{Role};
 
     ghost Value = { List (Identifier × Role) };
 

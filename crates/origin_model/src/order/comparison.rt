@@ -1,17 +1,32 @@
 //! Chains of origins, and the comparison of two elements by them.
-
 ghost use Rattle.std.specs.Prelude.{◌≡◌, reverse, IfOk, true, false};
 ghost use Rattle.fugue_ids.specs.Listed.{index_of as member_index};
-ghost use Rattle.origin_model.specs.order.Order.{chain as chain_by, lefts, rights, has_left as has_left_on, index_of_origin as origin_index, right_at as right_origin, fork_before, sibling, chain_before};
+ghost use Rattle.origin_model.specs.order.Order.{chain as chain_by, lefts, rights, has_left as has_left_on};
+ghost use Rattle.origin_model.specs.order.Order.{index_of_origin as origin_index, right_at as right_origin};
+ghost use Rattle.origin_model.specs.order.Order.{fork_before, sibling, chain_before};
 ghost use Rattle.origin_model.specs.order.Chain.{next_of};
 ghost use Rattle.origin_model.specs.order.Fork.{fork_of, by_fork};
 
 use crate::operations::element::{left_of, right_of};
 use crate::operations::lookup::find_holder;
-use crate::order::chain::Chain;
-use crate::order::fork::Fork;
 use fugue_ids::{ElementId, Op};
 use std::alloc::{AllocError, Global};
+
+/// Where two chains part.
+#[derive(Clone, Copy, Debug, PartialEq, Eq)]
+pub enum Fork {
+    Same,
+    FirstEnds,
+    SecondEnds,
+    At(ElementId, ElementId),
+}
+
+/// Which origins a chain follows.
+#[derive(Clone, Copy, Debug, PartialEq, Eq)]
+pub enum Chain {
+    Lefts,
+    Rights,
+}
 
 fn has_left(ops: &[Op], r: ElementId, origin: Option<ElementId>) -> bool
     ensures { result ≡ has_left_on (reverse ops.now) r origin }
@@ -196,7 +211,8 @@ pub fn is_before(
     x: ElementId,
     chain: &[ElementId],
 ) -> Result<bool, AllocError>
-    ensures { IfOk result (λ first. first ≡ chain_before true (sibling finished.now (reverse ops.now)) (lefts (reverse ops.now) x) chain.now) }
+    ensures { IfOk result (λ first. first
+        ≡ chain_before true (sibling finished.now (reverse ops.now)) (lefts (reverse ops.now) x) chain.now) }
 {
     let own = lefts_of(alloc, ops, x)?;
     before_at(alloc, finished, ops, first_fork(own.as_slice(), chain))

@@ -1,5 +1,4 @@
 //! The elements of all places in one list, and one more element in it.
-
 ghost use Rattle.std.specs.Prelude.{◌≡◌, ◌≤◌, reverse, IfOk, OnOk, OnErr, length, take, min, count_by};
 ghost use Rattle.origin_model.specs.operations.History.{place_eq};
 ghost use Rattle.origin_model.specs.operations.Verdict.{Lawful};
@@ -9,9 +8,15 @@ ghost use Rattle.origin_model.specs.order.Listed.{elements_at, ListsAll};
 use crate::Place;
 use crate::operations::element::element_of;
 use crate::order::comparison::{is_before, lefts_of};
-use crate::order::listed::Listed;
 use fugue_ids::{ElementId, Op};
 use std::alloc::{AllocError, Global};
+
+/// An element with its place.
+#[derive(Clone, Copy, Debug, PartialEq, Eq)]
+pub struct Listed {
+    pub place: Place,
+    pub id: ElementId,
+}
 
 pub fn is_at(e: &Listed, place: &Place) -> bool
     ensures { result ≡ place_eq e.now.place place.now }
@@ -64,7 +69,8 @@ fn count_before(
 #[tactic(auto, using(crate::proofs::order::ListingLemmas::end_steps))]
 fn end_of(listed: &[Listed], place: &Place, count: usize) -> usize
     ensures within { result ≤ length listed.now }
-    ensures cut { length (elements_at place.now (take result listed.now)) ≡ min count (length (elements_at place.now listed.now)) }
+    ensures cut { length (elements_at place.now (take result listed.now))
+        ≡ min count (length (elements_at place.now listed.now)) }
 {
     let mut seen = 0;
     let mut i = 0;

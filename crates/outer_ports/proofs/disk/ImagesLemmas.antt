@@ -5,11 +5,11 @@ use Rattle.std.proofs.Math.Seq.{get_or-append_seam}
 use Rattle.std.proofs.lemmas.List.Elements.{All-nil, All-cons, All-append, All-head, All-tail}
 use Rattle.std.proofs.lemmas.Bool.{cases_lt}
 use Rattle.std.specs.Prelude.{min, replicate}
-use Rattle.outer_ports.specs.disk.States.{State, IsFree, IsImage, IsHonest, at_rest, overwritten, torn, wrote, tried, SameOutside}
+use Rattle.outer_ports.specs.disk.States.{State, IsFree, IsCrashImage, IsHonest, at_rest, overwritten, torn, wrote, tried, SameOutside}
 use Rattle.outer_ports.specs.disk.Laws.{SyncBringsNone}
 use Rattle.outer_ports.specs.disk.Picks.{range_filled, filled, padded, picked}
-use Rattle.outer_ports.specs.declared.disk.pick.Pick.{Pick}
-use Rattle.outer_ports.specs.declared.disk.pick.Pick.TheVariants.{Old, New, Fill}
+use Rattle.outer_ports.specs.declared.disk.mem_disk.Pick.{Pick}
+use Rattle.outer_ports.specs.declared.disk.mem_disk.Pick.TheVariants.{Old, New, Fill}
 
 -- an offset lies outside a range
 abbrev IsOutside : ℕ → ℕ × ℕ → Type 0
@@ -72,13 +72,13 @@ pub honest_at_rest : (bytes : List ℕ) → IsHonest (at_rest bytes)
 honest_at_rest bytes = record { no_shorter = omega arith; no_longer = omega arith; same = λ i below free. refl }
 
 -- at rest, a crash leaves what a read gives
-pub image_at_rest : (bytes image : List ℕ) → IsImage (at_rest bytes) image → image ≡ bytes
+pub image_at_rest : (bytes image : List ℕ) → IsCrashImage (at_rest bytes) image → image ≡ bytes
 image_at_rest bytes image is = ext_get_or 0 image bytes (omega (arith, is.no_shorter, is.no_longer))
     (λ i below. is.same i (omega (arith, below, is.no_longer)) (All-nil (IsOutside i)))
 
 -- a sync brings no image
 pub sync_brings_none : SyncBringsNone
-sync_brings_none s image honest is = subst (IsImage s) (sym (image_at_rest s.seen image is)) honest
+sync_brings_none s image honest is = subst (IsCrashImage s) (sym (image_at_rest s.seen image is)) honest
 
 -- an offset outside of a range is outside of what the range has of so many bytes
 outside_within : (at n i long : ℕ) → (i < at) ⊎ (at + n ≤ i) → (i < min at long) ⊎ (min at long + min n (long - at) ≤ i)
@@ -107,7 +107,7 @@ pub padded_long : (long byte : ℕ) (bytes : List ℕ) → length bytes ≤ long
 padded_long long byte bytes le = omega (arith, le, length-append bytes (replicate (long - length bytes) byte), length-replicate (long - length bytes) byte)
 
 -- what is picked is an image
-pub picked_image : (pick : Pick) (s : State) → IsHonest s → length s.base ≤ s.longest → IsImage s (picked pick s)
+pub picked_image : (pick : Pick) (s : State) → IsHonest s → length s.base ≤ s.longest → IsCrashImage s (picked pick s)
 picked_image Old s honest fits = record { no_shorter = omega arith; no_longer = omega (arith, honest.no_shorter, honest.no_longer); same = λ i below free. refl }
 picked_image New s honest fits =
     let long : length (padded s.longest 0 s.seen) ≡ s.longest = padded_long s.longest 0 s.seen (omega (arith, honest.no_longer, fits)) in

@@ -4,7 +4,7 @@ use Rattle.std.proofs.lemmas.List.{get_or_append_left}
 use Rattle.std.proofs.lemmas.List.Elements.{All-nil, All-cons, All-append, All-head}
 use Rattle.std.proofs.lemmas.Bool.{cases_lt}
 use Rattle.std.specs.Prelude.{All}
-use Rattle.outer_ports.specs.disk.States.{State, IsImage}
+use Rattle.outer_ports.specs.disk.States.{State, IsCrashImage}
 use Rattle.outer_ports.specs.disk.Moments.{History, moments, moment, state_at, stepped, LeftSince, LeavesOnly}
 use Rattle.outer_ports.specs.disk.Laws.{SpansJoin, SinceNow}
 
@@ -27,8 +27,8 @@ state_now h m le = ap (λ (k : ℕ). get_or (moments h) k h.last) {y = 0} (omega
 -- since the moment that stands, a crash leaves what it may leave now
 pub since_now : SinceNow
 since_now h image = (
-  λ left. subst (λ s. IsImage s image) (state_now h left.m left.since) left.left,
-  λ now. record { m = moment h; since = omega arith; until = omega arith; left = subst (λ s. IsImage s image) (sym (state_now h (moment h) (omega arith))) now },
+  λ left. subst (λ s. IsCrashImage s image) (state_now h left.m left.since) left.left,
+  λ now. record { m = moment h; since = omega arith; until = omega arith; left = subst (λ s. IsCrashImage s image) (sym (state_now h (moment h) (omega arith))) now },
 )
 
 -- an image of the moments that came has P
@@ -38,7 +38,7 @@ since_leaves_only old new P image leaves left =
     let below : moment new - left.m < length leaves.recent = omega (arith, long, left.since, left.until) in
     let is : state_at new left.m ≡ get_or leaves.recent (moment new - left.m) new.last
     = ap (λ (l : List State). get_or l (moment new - left.m) new.last) leaves.grows ∙ get_or_append_left leaves.recent (moments old) new.last (moment new - left.m) below in
-    leaves.each (moment new - left.m) new.last below image (subst (λ s. IsImage s image) is left.left)
+    leaves.each (moment new - left.m) new.last below image (subst (λ s. IsCrashImage s image) is left.left)
 
 -- what has P leaves nothing but what has Q
 pub leaves_weaker : (P Q : List ℕ → Type 0) → ((image : List ℕ) → P image → Q image) → (old new : History) → LeavesOnly old new P → LeavesOnly old new Q
@@ -51,13 +51,13 @@ leaves_weaker P Q more old new leaves = record {
 module _ (P : List ℕ → Type 0) where
   -- each image of a state has P
   abbrev HasOnly : State → Type 0
-  HasOnly s = (image : List ℕ) → IsImage s image → P image
+  HasOnly s = (image : List ℕ) → IsCrashImage s image → P image
 
   pub leaves_none : (h : History) → LeavesOnly h h P
   leaves_none h = record { recent = []; grows = refl; each = All-nil HasOnly }
 
   pub leaves_more : (old new : History) (f : State → State) → LeavesOnly old new P
-      → ((image : List ℕ) → IsImage (f new.last) image → P image) → LeavesOnly old (stepped f new) P
+      → ((image : List ℕ) → IsCrashImage (f new.last) image → P image) → LeavesOnly old (stepped f new) P
   leaves_more old new f leaves step = record {
     recent = f new.last ∷ leaves.recent;
     grows = ap (λ (l : List State). f new.last ∷ l) leaves.grows;
@@ -73,7 +73,7 @@ module _ (P : List ℕ → Type 0) where
   }
 
   -- the state that stands leaves nothing but what has P, if each that came does, and the one before them did
-  pub last_leaves : (old new : History) → LeavesOnly old new P → ((image : List ℕ) → IsImage old.last image → P image) → (image : List ℕ) → IsImage new.last image → P image
+  pub last_leaves : (old new : History) → LeavesOnly old new P → ((image : List ℕ) → IsCrashImage old.last image → P image) → (image : List ℕ) → IsCrashImage new.last image → P image
   last_leaves old new leaves first = by_recent leaves.recent leaves.grows leaves.each
     where
       by_recent : (recent : List State) → moments new ≡ recent ++ moments old → All HasOnly recent → HasOnly new.last

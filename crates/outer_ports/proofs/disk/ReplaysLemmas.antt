@@ -2,10 +2,10 @@
 use Rattle.std.proofs.Common.{◌≡◌, ℕ, ◌+◌, ◌<◌, ◌≤◌, max, Bool, true, false, List, [], ◌∷◌, ◌++◌, length, take, drop, refl, ap, ◌∙◌, arith, length-drop}
 use Rattle.std.proofs.lemmas.List.{take-append-le, drop-append-le, take_all}
 use Rattle.std.specs.Prelude.{if◌then◌else◌}
-use Rattle.outer_ports.specs.disk.States.{at_rest, overwritten, wrote, tried, settled}
+use Rattle.outer_ports.specs.disk.States.{at_rest, overwritten, wrote, tried, durable}
 use Rattle.outer_ports.specs.disk.Moments.{History, stepped}
 use Rattle.outer_ports.specs.disk.Kept.{written_by, written_by_all, step_of, replayed, past_of}
-use Rattle.outer_ports.specs.declared.disk.step.Step.{Step}
+use Rattle.outer_ports.specs.declared.disk.kept.Step.{Step}
 
 pub written_more : (steps : List Step) (step : Step) → written_by_all (steps ++ step ∷ []) ≡ written_by_all steps + written_by step
 written_more [] step = omega arith
@@ -54,7 +54,7 @@ module _ (fresh : Bool) (calls : ℕ) (none : fresh ≡ true → calls ≡ 0) (s
 
   pub settled_is : (old base new_base : List ℕ) (ranges new_ranges : List (ℕ × ℕ)) (longest new_longest : ℕ)
       → new_base ≡ old → new_ranges ≡ [] → new_longest ≡ length old
-      → settled (record { seen = old; base = if fresh then old else base; ranges = ranges; longest = longest })
+      → durable (record { seen = old; base = if fresh then old else base; ranges = ranges; longest = longest })
       ≡ record { seen = old; base = if fresh then old else new_base; ranges = new_ranges; longest = new_longest }
   settled_is old base new_base ranges new_ranges longest new_longest e f g =
       let kept : fresh ≡ false = not_fresh fresh calls none some in

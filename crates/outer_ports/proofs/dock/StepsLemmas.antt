@@ -9,9 +9,9 @@ use Rattle.std.specs.Prelude.{All, nat_lt}
 use Rattle.std.proofs.Common.{inl, inr}
 use Rattle.outer_ports.specs.dock.Steps.{HasBytes, Gives, calls_for, calls_for_all, part_of, rest_of}
 use Rattle.outer_ports.specs.dock.Arrivals.{from, from_first, step_at, coming_of, taken_of}
-use Rattle.outer_ports.specs.declared.dock.part.Part.{Part}
-use Rattle.outer_ports.specs.declared.dock.mem_step.MemStep.{MemStep}
-use Rattle.outer_ports.specs.declared.dock.mem_step.MemStep.TheVariants.{Opened, Bytes, Gone}
+use Rattle.outer_ports.specs.declared.dock.arrivals.Part.{Part}
+use Rattle.outer_ports.specs.declared.dock.mem_dock.MemStep.{MemStep}
+use Rattle.outer_ports.specs.declared.dock.mem_dock.MemStep.TheVariants.{Opened, Bytes, Gone}
 
 pub from_none : (steps : List MemStep) → from_first 0 steps ≡ steps
 from_none [] = refl

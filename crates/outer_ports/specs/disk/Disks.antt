@@ -2,7 +2,7 @@
 use Rattle.std.specs.Prelude.{◌≡◌, ℕ, ◌-◌, ◌<◌, ◌≤◌, List, length, take, drop, Option, Some, None, Result, IfSome, IfOk, IsSome, OnOk, OnErr}
 use Rattle.fugue_ids.specs.Causes.{HasCause}
 use Rattle.outer_ports.specs.Counts.{FailsOnlyFor}
-use Rattle.outer_ports.specs.disk.States.{IsHonest, wrote, settled}
+use Rattle.outer_ports.specs.disk.States.{IsHonest, wrote, durable}
 use Rattle.outer_ports.specs.disk.Moments.{History, after, MayHaveWritten}
 
 -- what all later calls together may use
@@ -73,7 +73,7 @@ pub record WritesAt {E T : Type 0} (old new : DiskView) (result : Result T E) (a
 -- what a read gives was one of the images, and is now the only one
 pub record Syncs {E T : Type 0} (old new : DiskView) (result : Result T E) : Type 0 where
   pub honest : OnOk result (IfSome old.past (λ h. IsHonest h.last))
-  pub settled : OnOk result (new.past ≡ after settled old.past)
+  pub settled : OnOk result (new.past ≡ after durable old.past)
   pub past : OnErr result (new.past ≡ old.past)
   pub room : OnOk result (new.room ≡ spent 0 old.room)
   pub same_room : OnErr result (new.room ≡ old.room)

@@ -1,7 +1,7 @@
 -- The disks in memory, as contracts see them, and what a call does to each.
 use Rattle.std.specs.Prelude.{◌≡◌, ◌⊎◌, ◌↔◌, ℕ, ◌-◌, ◌<◌, ◌≤◌, List, [], length, Result, IsErr, IsOk, OnOk, OnErr}
 use Rattle.outer_ports.specs.Calls.{CallsView, FailsNext, passed, failed, risen}
-use Rattle.outer_ports.specs.disk.States.{at_rest, wrote, tried, settled}
+use Rattle.outer_ports.specs.disk.States.{at_rest, wrote, tried, durable}
 use Rattle.outer_ports.specs.disk.Moments.{History, stepped}
 use Rattle.outer_ports.specs.disk.Disks.{RoomView}
 
@@ -46,7 +46,7 @@ pub record MemDiskWrites {E T : Type 0} (old new : MemDiskView) (result : Result
 
 -- a sync that fails does nothing
 pub record MemSyncs {E T : Type 0} (old new : MemDiskView) (result : Result T E) : Type 0 where
-  pub steps : MemSteps 0 (stepped settled old.past) old new result
+  pub steps : MemSteps 0 (stepped durable old.past) old new result
   pub failed : OnErr result (new ≡ record old { calls = failed old.calls })
 
 -- a write or a sync of n bytes fails exactly where the bytes, or the call, have no room

@@ -1,9 +1,9 @@
 -- The past of a file in memory, from what it was at first and the steps since.
 use Rattle.std.specs.Prelude.{ℕ, ◌+◌, List, [], ◌∷◌, take, drop}
-use Rattle.outer_ports.specs.disk.States.{State, at_rest, wrote, tried, settled}
+use Rattle.outer_ports.specs.disk.States.{State, at_rest, wrote, tried, durable}
 use Rattle.outer_ports.specs.disk.Moments.{History, stepped}
-use Rattle.outer_ports.specs.declared.disk.step.Step.{Step}
-use Rattle.outer_ports.specs.declared.disk.step.Step.TheVariants.{Wrote, Tried, Synced}
+use Rattle.outer_ports.specs.declared.disk.kept.Step.{Step}
+use Rattle.outer_ports.specs.declared.disk.kept.Step.TheVariants.{Wrote, Tried, Synced}
 
 pub record KeptView : Type 0 where
   pub past : History
@@ -26,7 +26,7 @@ written_by_all (step ∷ steps) = written_by step + written_by_all steps
 abbrev pub step_of : Step → List ℕ → State → State
 step_of (Wrote at n) bytes s = wrote at bytes s
 step_of (Tried at n) bytes s = tried at n s
-step_of Synced bytes s = settled s
+step_of Synced bytes s = durable s
 
 -- the steps, the oldest first, with all bytes that they wrote one behind the other
 abbrev pub replayed : List Step → List ℕ → History → History

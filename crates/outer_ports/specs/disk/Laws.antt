@@ -1,7 +1,7 @@
 -- The laws of what a crash may leave.
 use Rattle.std.specs.Prelude.{◌⊎◌, ◌↔◌, ℕ, ◌≤◌, List, length, Result, IfSome}
-use Rattle.fugue_ids.specs.declared.failed.Failed.{Failed}
-use Rattle.outer_ports.specs.disk.States.{State, IsImage, IsHonest, at_rest, settled}
+use Rattle.fugue_ids.specs.declared.out.Failed.{Failed}
+use Rattle.outer_ports.specs.disk.States.{State, IsCrashImage, IsHonest, at_rest, durable}
 use Rattle.outer_ports.specs.disk.Moments.{History, moment, MayLeave, LeftSince, LeftBetween}
 use Rattle.outer_ports.specs.disk.Disks.{DiskView, ReadsAt, Sizes, Syncs, WritesAt}
 
@@ -15,7 +15,7 @@ SinceNow = (h : History) (image : List ℕ) → LeftSince h (moment h) image ↔
 
 -- A sync that answers Ok brings no image.
 abbrev pub SyncBringsNone : Type 0
-SyncBringsNone = (s : State) (image : List ℕ) → IsHonest s → IsImage (settled s) image → IsImage s image
+SyncBringsNone = (s : State) (image : List ℕ) → IsHonest s → IsCrashImage (durable s) image → IsCrashImage s image
 
 -- where the disk tells its states, what a read gives is one of the images
 abbrev pub IsHonestDisk : DiskView → Type 0

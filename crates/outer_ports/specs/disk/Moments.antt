@@ -1,6 +1,6 @@
 -- The moments of a file on a disk, and what a crash may have left at them.
 use Rattle.std.specs.Prelude.{◌≡◌, ◌⊎◌, ℕ, ◌-◌, ◌<◌, ◌≤◌, List, ◌∷◌, ◌++◌, length, Option, Some, None, IfSome, All, slice_index_or}
-use Rattle.outer_ports.specs.disk.States.{State, IsImage, torn, SameOutside}
+use Rattle.outer_ports.specs.disk.States.{State, IsCrashImage, torn, SameOutside}
 
 -- the state that stands, and those before it, the newest first
 pub record History : Type 0 where
@@ -28,14 +28,14 @@ after f (Some h) = Some (stepped f h)
 
 -- a crash may leave it now
 abbrev pub MayLeave : History → List ℕ → Type 0
-MayLeave h image = IsImage h.last image
+MayLeave h image = IsCrashImage h.last image
 
 -- a crash at moment t, or at one since, may have left it
 pub record LeftSince (h : History) (t : ℕ) (image : List ℕ) : Type 0 where
   pub m : ℕ
   pub since : t ≤ m
   pub until : m ≤ moment h
-  pub left : IsImage (state_at h m) image
+  pub left : IsCrashImage (state_at h m) image
 
 -- a crash at moment t, or at one since and before u, may have left it
 pub record LeftBetween (h : History) (t u : ℕ) (image : List ℕ) : Type 0 where
@@ -43,14 +43,14 @@ pub record LeftBetween (h : History) (t u : ℕ) (image : List ℕ) : Type 0 whe
   pub since : t ≤ m
   pub below : m < u
   pub until : m ≤ moment h
-  pub left : IsImage (state_at h m) image
+  pub left : IsCrashImage (state_at h m) image
 
 -- From an earlier history to a later one, each image of each state that came has P.
 pub record LeavesOnly (old new : History) (P : List ℕ → Type 0) : Type 0 where
   -- the states that came, the newest first
   pub recent : List State
   pub grows : moments new ≡ recent ++ moments old
-  pub each : All (λ s. (image : List ℕ) → IsImage s image → P image) recent
+  pub each : All (λ s. (image : List ℕ) → IsCrashImage s image → P image) recent
 
 -- the same, to a later history where one is told
 abbrev pub LeavesOnlyTo : History → Option History → (List ℕ → Type 0) → Type 0

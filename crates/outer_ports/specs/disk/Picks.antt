@@ -1,8 +1,8 @@
 -- The image that is picked of those that a crash may leave.
 use Rattle.std.specs.Prelude.{ℕ, ◌-◌, min, List, [], ◌∷◌, ◌++◌, length, replicate}
 use Rattle.outer_ports.specs.disk.States.{State, overwritten}
-use Rattle.outer_ports.specs.declared.disk.pick.Pick.{Pick}
-use Rattle.outer_ports.specs.declared.disk.pick.Pick.TheVariants.{Old, New, Fill}
+use Rattle.outer_ports.specs.declared.disk.mem_disk.Pick.{Pick}
+use Rattle.outer_ports.specs.declared.disk.mem_disk.Pick.TheVariants.{Old, New, Fill}
 
 -- this byte in what a range has of some bytes
 abbrev pub range_filled : ℕ → ℕ → ℕ → List ℕ → List ℕ

@@ -16,14 +16,14 @@ abbrev pub IsFree : List (ℕ × ℕ) → ℕ → Type 0
 IsFree ranges i = All (λ range. (i < range.0) ⊎ (range.0 + range.1 ≤ i)) ranges
 
 -- what a crash may leave: any bytes in the ranges and past the old end, an end between the old one and the longest
-pub record IsImage (s : State) (image : List ℕ) : Type 0 where
+pub record IsCrashImage (s : State) (image : List ℕ) : Type 0 where
   pub no_shorter : length s.base ≤ length image
   pub no_longer : length image ≤ max (length s.base) s.longest
   pub same : (i : ℕ) → i < length s.base → IsFree s.ranges i → slice_index image i ≡ slice_index s.base i
 
 -- what a read gives is one of the images
 abbrev pub IsHonest : State → Type 0
-IsHonest s = IsImage s s.seen
+IsHonest s = IsCrashImage s s.seen
 
 -- these bytes stand, and a crash leaves nothing else
 abbrev pub at_rest : List ℕ → State
@@ -44,8 +44,8 @@ wrote at bytes s = torn at (length bytes) (overwritten s.seen at bytes) s
 abbrev pub tried : ℕ → ℕ → State → State
 tried at n s = torn at n s.seen s
 
-abbrev pub settled : State → State
-settled s = at_rest s.seen
+abbrev pub durable : State → State
+durable s = at_rest s.seen
 
 -- nothing but n bytes from an offset on differs, and the end is the old one or at most where these bytes end
 pub record SameOutside (at n : ℕ) (old new : List ℕ) : Type 0 where

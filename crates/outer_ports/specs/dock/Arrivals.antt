@@ -1,9 +1,9 @@
 -- The steps of a dock in memory, by what was taken of them.
 use Rattle.std.specs.Prelude.{ℕ, List, [], ◌∷◌, drop, map, slice_index_or}
 use Rattle.outer_ports.specs.dock.Steps.{part_of}
-use Rattle.outer_ports.specs.declared.dock.part.Part.{Part}
-use Rattle.outer_ports.specs.declared.dock.mem_step.MemStep.{MemStep}
-use Rattle.outer_ports.specs.declared.dock.mem_step.MemStep.TheVariants.{Opened, Bytes, Gone}
+use Rattle.outer_ports.specs.declared.dock.arrivals.Part.{Part}
+use Rattle.outer_ports.specs.declared.dock.mem_dock.MemStep.{MemStep}
+use Rattle.outer_ports.specs.declared.dock.mem_dock.MemStep.TheVariants.{Opened, Bytes, Gone}
 
 pub record ArrivalsView : Type 0 where
   pub taken : List MemStep

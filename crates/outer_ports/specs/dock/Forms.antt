@@ -2,9 +2,9 @@
 use Rattle.std.specs.Prelude.{◌≡◌, ◌⊎◌, ◌↔◌, ℕ, ◌-◌, ◌<◌, min, if◌then◌else◌, List, [], ◌∷◌, ◌++◌, length, take, Option, Some, Result, IsErr, IfOk, OnOk, OnErr}
 use Rattle.outer_ports.specs.Calls.{CallsView, FailsNext, passed, failed, risen}
 use Rattle.outer_ports.specs.dock.Steps.{Gives, with_bytes, opens}
-use Rattle.outer_ports.specs.dock.Logs.{LogView, sent_by, room_by}
-use Rattle.outer_ports.specs.declared.dock.dock_step.DockStep.{DockStep}
-use Rattle.outer_ports.specs.declared.dock.mem_step.MemStep.{MemStep}
+use Rattle.outer_ports.specs.dock.Transcripts.{TranscriptView, sent_by, room_by}
+use Rattle.outer_ports.specs.declared.dock.DockStep.{DockStep}
+use Rattle.outer_ports.specs.declared.dock.mem_dock.MemStep.{MemStep}
 
 pub record MemDockView : Type 0 where
   -- the port last listened on
@@ -13,7 +13,7 @@ pub record MemDockView : Type 0 where
   pub coming : List MemStep
   -- how many further steps it gives with no further memory
   pub spare_steps : ℕ
-  pub logs : List LogView
+  pub transcripts : List TranscriptView
   pub ended : List ℕ
   -- how many bytes each of them had been sent as it was ended
   pub ended_at : List ℕ
@@ -29,7 +29,7 @@ pub record SureDockView : Type 0 where
   pub taken : List MemStep
   pub coming : List MemStep
   pub faults : ℕ
-  pub logs : List LogView
+  pub transcripts : List TranscriptView
   -- how many further sessions can be ended
   pub ends : ℕ
   pub ended : List ℕ
@@ -39,9 +39,9 @@ pub record SureDockView : Type 0 where
   pub piece : ℕ
 
 -- nothing was sent, and each session that one of the steps opens has this room
-pub record HasRooms (steps : List MemStep) (room : ℕ) (logs : List LogView) : Type 0 where
-  pub sent : (session : ℕ) → sent_by logs session ≡ []
-  pub fits : (session : ℕ) → room_by logs session ≡ if opens steps session then room else 0
+pub record HasRooms (steps : List MemStep) (room : ℕ) (transcripts : List TranscriptView) : Type 0 where
+  pub sent : (session : ℕ) → sent_by transcripts session ≡ []
+  pub fits : (session : ℕ) → room_by transcripts session ≡ if opens steps session then room else 0
 
 -- listening fails exactly where it is to fail
 pub record MemListens {E T : Type 0} (old new : MemDockView) (result : Result T E) (port : ℕ) : Type 0 where
@@ -62,18 +62,18 @@ pub record MemTakes {E : Type 0} (old new : MemDockView) (result : Result DockSt
 -- allows.
 pub record MemSends {E : Type 0} (old new : MemDockView) (result : Result ℕ E) (session : ℕ) (bytes : List ℕ) : Type 0 where
   pub fails : FailsNext old.calls → IsErr result
-  pub wanting : OnErr result (FailsNext old.calls ⊎ (room_by old.logs session < min old.piece (length bytes)))
+  pub wanting : OnErr result (FailsNext old.calls ⊎ (room_by old.transcripts session < min old.piece (length bytes)))
   pub refused : OnErr result (new ≡ record old { calls = failed old.calls })
   pub takes : IfOk result (λ n. n ≡ min old.piece (length bytes))
-  pub sent : IfOk result (λ n. sent_by new.logs session ≡ sent_by old.logs session ++ take n bytes)
-  pub others : OnOk result (new ≡ record old { logs = new.logs; calls = passed old.calls })
+  pub sent : IfOk result (λ n. sent_by new.transcripts session ≡ sent_by old.transcripts session ++ take n bytes)
+  pub others : OnOk result (new ≡ record old { transcripts = new.transcripts; calls = passed old.calls })
 
 -- a call fails where it is to fail, and else only where it needs further memory
 pub record MemEnds {E T : Type 0} (old new : MemDockView) (result : Result T E) (session : ℕ) : Type 0 where
   pub fails : FailsNext old.calls → IsErr result
   pub wanting : OnErr result (FailsNext old.calls ⊎ (old.spare_ends ≡ 0))
   pub refused : OnErr result (new ≡ record old { spare_ends = new.spare_ends; calls = failed old.calls })
-  pub ended : OnOk result (new ≡ record old { ended = old.ended ++ session ∷ []; ended_at = old.ended_at ++ length (sent_by old.logs session) ∷ []; spare_ends = new.spare_ends; calls = passed old.calls })
+  pub ended : OnOk result (new ≡ record old { ended = old.ended ++ session ∷ []; ended_at = old.ended_at ++ length (sent_by old.transcripts session) ∷ []; spare_ends = new.spare_ends; calls = passed old.calls })
 
 -- A call fails exactly where no step is left. Otherwise it gives all of the next step that the piece and the buffer allow.
 pub record SureTakes {E : Type 0} (old new : SureDockView) (result : Result DockStep E) (buf : List ℕ) : Type 0 where
@@ -84,15 +84,15 @@ pub record SureTakes {E : Type 0} (old new : SureDockView) (result : Result Dock
 
 -- A call fails exactly where the session has no room left for it. Otherwise it takes all that the piece and the room allow.
 pub record SureSends {E : Type 0} (old new : SureDockView) (result : Result ℕ E) (session : ℕ) (bytes : List ℕ) : Type 0 where
-  pub fails : IsErr result ↔ ((0 < length bytes) × (room_by old.logs session ≡ 0))
+  pub fails : IsErr result ↔ ((0 < length bytes) × (room_by old.transcripts session ≡ 0))
   pub refused : OnErr result (new ≡ record old { faults = risen old.faults })
-  pub takes : IfOk result (λ n. n ≡ min (min old.piece (length bytes)) (room_by old.logs session))
-  pub sent : IfOk result (λ n. sent_by new.logs session ≡ sent_by old.logs session ++ take n bytes)
-  pub room : IfOk result (λ n. room_by new.logs session ≡ room_by old.logs session - n)
-  pub others : OnOk result (new ≡ record old { logs = new.logs })
+  pub takes : IfOk result (λ n. n ≡ min (min old.piece (length bytes)) (room_by old.transcripts session))
+  pub sent : IfOk result (λ n. sent_by new.transcripts session ≡ sent_by old.transcripts session ++ take n bytes)
+  pub room : IfOk result (λ n. room_by new.transcripts session ≡ room_by old.transcripts session - n)
+  pub others : OnOk result (new ≡ record old { transcripts = new.transcripts })
 
 -- a call fails exactly where no further session can be ended
 pub record SureEnds {E T : Type 0} (old new : SureDockView) (result : Result T E) (session : ℕ) : Type 0 where
   pub fails : IsErr result ↔ (old.ends ≡ 0)
   pub refused : OnErr result (new ≡ record old { faults = risen old.faults })
-  pub ended : OnOk result (new ≡ record old { ended = old.ended ++ session ∷ []; ended_at = old.ended_at ++ length (sent_by old.logs session) ∷ []; ends = old.ends - 1 })
+  pub ended : OnOk result (new ≡ record old { ended = old.ended ++ session ∷ []; ended_at = old.ended_at ++ length (sent_by old.transcripts session) ∷ []; ends = old.ends - 1 })

@@ -1,10 +1,10 @@
 -- The steps of a dock: what a call gave, and what is left of the steps to come.
 use Rattle.std.specs.Prelude.{◌≡◌, ℕ, ◌+◌, ◌-◌, ◌^◌, ◌<◌, ◌≤◌, min, Bool, true, false, List, [], ◌∷◌, ◌++◌, length, take, drop, nat_eq, nat_lt, if◌then◌else◌, Option, Some, None, ⊤}
 use Rattle.std.specs.List.{list_any, sum_by}
-use Rattle.outer_ports.specs.declared.dock.dock_step.DockStep.{DockStep}
-use Rattle.outer_ports.specs.declared.dock.dock_step.DockStep.TheVariants as given
-use Rattle.outer_ports.specs.declared.dock.mem_step.MemStep.{MemStep}
-use Rattle.outer_ports.specs.declared.dock.mem_step.MemStep.TheVariants.{Opened, Bytes, Gone}
+use Rattle.outer_ports.specs.declared.dock.DockStep.{DockStep}
+use Rattle.outer_ports.specs.declared.dock.DockStep.TheVariants as given
+use Rattle.outer_ports.specs.declared.dock.mem_dock.MemStep.{MemStep}
+use Rattle.outer_ports.specs.declared.dock.mem_dock.MemStep.TheVariants.{Opened, Bytes, Gone}
 
 -- bytes come, at most as many as the buffer has room for
 abbrev pub Fits : DockStep → ℕ → Type 0

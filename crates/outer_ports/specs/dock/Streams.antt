@@ -3,8 +3,8 @@ use Rattle.std.specs.Prelude.{◌≡◌, ◌⊎◌, ℕ, List, length, take, Opt
 use Rattle.std.specs.Io.KnownBytes.{Consumes, IsAtEnd}
 use Rattle.outer_ports.specs.Calls.{risen}
 use Rattle.outer_ports.specs.wire.Streams.{Says}
-use Rattle.outer_ports.specs.declared.dock.dock_step.DockStep.{DockStep}
-use Rattle.outer_ports.specs.declared.dock.dock_step.DockStep.TheVariants as given
+use Rattle.outer_ports.specs.declared.dock.DockStep.{DockStep}
+use Rattle.outer_ports.specs.declared.dock.DockStep.TheVariants as given
 
 -- there is a connection, or it was lost by a fault
 abbrev pub Accepts : {S : Type 0} → Option S → ℕ → ℕ → Type 0

@@ -39,7 +39,8 @@ impl FileDisk {
         path: &str,
         opening: Opening,
     ) -> io::Result<FileDisk>
-        ensures seen { IfOk result (λ disk. ⟦<FileDisk as Disk>⟧.seen disk ≡ record { past = None; faults = 0; room = None }) }
+        ensures seen { IfOk result
+            (λ disk. ⟦<FileDisk as Disk>⟧.seen disk ≡ record { past = None; faults = 0; room = None }) }
         ensures made { IfOk result (λ disk. IsTrue disk.is_made → opening ≡ Creating) }
     {
         let (file, is_made) = match opening {

@@ -1,17 +1,25 @@
-ghost use Rattle.std.specs.Prelude.{◌⊎◌, ◌≡◌, ◌≤◌, ◌<◌, ◌+◌, ◌-◌, ◌^◌, [], length, min, IfOk, OnOk, OnErr};
-ghost use Rattle.outer_ports.specs.disk.States.{at_rest, wrote, tried, settled, IsHonest, IsImage};
+ghost use Rattle.std.specs.Prelude.{◌⊎◌, ◌≡◌, ◌≤◌, ◌<◌, ◌+◌, ◌-◌, ◌^◌, [], length, min, IfOk, OnOk, OnErr, vec_len};
+ghost use Rattle.std.specs.Prelude.{vec_capacity};
+ghost use Rattle.outer_ports.specs.disk.States.{at_rest, wrote, tried, durable, IsHonest, IsCrashImage, overwritten};
 ghost use Rattle.outer_ports.specs.disk.Moments.{stepped};
 ghost use Rattle.outer_ports.specs.disk.Disks.{GivesAt};
 ghost use Rattle.outer_ports.specs.disk.Kept.{KeptView};
-ghost use Rattle.outer_ports.specs.disk.Picks.{padded, picked};
+ghost use Rattle.outer_ports.specs.disk.Picks.{padded, picked, range_filled, filled};
 
-use super::fill::fill;
-use super::overwrite::overwrite;
-use super::step::Step;
 use crate::Pick;
 use crate::reserved::{add, append};
 use std::alloc::{AllocError, Global};
 use std::marker::Model;
+
+/// What was done to a file in memory.
+#[derive(Drop)]
+pub(crate) enum Step {
+    /// A write, by its offset and length.
+    Wrote(u64, u64),
+    /// A write that failed, by its offset and length.
+    Tried(u64, u64),
+    Synced,
+}
 
 /// A file in memory, with what is needed to tell its past.
 #[derive(Drop)]
@@ -36,12 +44,27 @@ impl Model for Kept {
 
     ghost Value = { KeptView };
 
-    ghost view = { λ k. record { past = past_of (if k.fresh then k.bytes.items else k.first.items) k.steps.items k.written.items; room = k.room; calls = k.calls } };
+    ghost view = { λ k. record {
+      past = past_of
+          (if k.fresh then k.bytes.items else k.first.items) k.steps.items k.written.items;
+      room = k.room;
+      calls = k.calls;
+    } };
 
     ghost invariant = { λ k.
         ((past_of (if k.fresh then k.bytes.items else k.first.items) k.steps.items k.written.items).last
-        ≡ record { seen = k.bytes.items; base = if k.fresh then k.bytes.items else k.base.items; ranges = k.ranges.items; longest = k.longest })
-        × IsHonest (record { seen = k.bytes.items; base = if k.fresh then k.bytes.items else k.base.items; ranges = k.ranges.items; longest = k.longest })
+        ≡ record {
+          seen = k.bytes.items;
+          base = if k.fresh then k.bytes.items else k.base.items;
+          ranges = k.ranges.items;
+          longest = k.longest;
+        })
+        × IsHonest (record {
+          seen = k.bytes.items;
+          base = if k.fresh then k.bytes.items else k.base.items;
+          ranges = k.ranges.items;
+          longest = k.longest;
+        })
         × (written_by_all k.steps.items ≡ length k.written.items)
         × (k.fresh ≡ true → k.calls ≡ 0)
         × (vec_len k.bytes + k.room ≤ vec_capacity k.bytes)
@@ -131,7 +154,11 @@ impl Kept {
         requires inside { at ≤ length self.old.past.last.seen }
         requires room { length bytes.now ≤ self.old.room }
         requires calls { 0 < self.old.calls }
-        ensures { self.new ≡ record { past = stepped (wrote at bytes.now) self.old.past; room = self.old.room - length bytes.now; calls = self.old.calls - 1 } }
+        ensures { self.new ≡ record {
+          past = stepped (wrote at bytes.now) self.old.past;
+          room = self.old.room - length bytes.now;
+          calls = self.old.calls - 1;
+        } }
     {
         let length = bytes.len() as u64;
         overwrite(&mut self.bytes, at as usize, bytes);
@@ -148,7 +175,11 @@ impl Kept {
         requires inside { at ≤ length self.old.past.last.seen }
         requires small { count < 2 ^ 63 }
         requires calls { 0 < self.old.calls }
-        ensures { self.new ≡ record { past = stepped (tried at count) self.old.past; room = self.old.room; calls = self.old.calls - 1 } }
+        ensures { self.new ≡ record {
+          past = stepped (tried at count) self.old.past;
+          room = self.old.room;
+          calls = self.old.calls - 1;
+        } }
     {
         add(&mut self.steps, Step::Tried(at, count));
         add(&mut self.ranges, (at, count));
@@ -157,9 +188,10 @@ impl Kept {
     }
 
     /// What stands is settled.
-    pub(crate) fn settle(&mut self)
+    pub(crate) fn make_durable(&mut self)
         requires calls { 0 < self.old.calls }
-        ensures stepped { self.new ≡ record { past = stepped settled self.old.past; room = self.old.room; calls = self.old.calls - 1 } }
+        ensures stepped { self.new
+            ≡ record { past = stepped durable self.old.past; room = self.old.room; calls = self.old.calls - 1 } }
         ensures honest { IsHonest self.old.past.last }
     {
         self.base.clear();
@@ -185,7 +217,7 @@ impl Kept {
     /// What a crash may leave.
     pub(crate) fn crash(&self, alloc: Global, pick: Pick) -> Result<Vec<u8>, AllocError>
         ensures bytes { IfOk result (λ bytes. bytes.items ≡ picked pick self.now.past.last) }
-        ensures image { IsImage self.now.past.last (picked pick self.now.past.last) }
+        ensures image { IsCrashImage self.now.past.last (picked pick self.now.past.last) }
         ensures honest { IsHonest self.now.past.last }
     {
         match pick {
@@ -208,4 +240,33 @@ fn pad(alloc: Global, bytes: &[u8], long: u64, byte: u8) -> Result<Vec<u8>, Allo
     let mut copy = bytes.to_vec(alloc)?;
     copy.resize(long as usize, byte)?;
     Ok(copy)
+}
+
+/// Writes over what is there, and past the end, in room that is there.
+pub(crate) fn overwrite(old: &mut Vec<u8>, at: usize, bytes: &[u8])
+    requires inside { at ≤ vec_len old.old }
+    requires room { vec_len old.old + length bytes.now ≤ vec_capacity old.old }
+    ensures items { old.new.items ≡ overwritten old.old.items at bytes.now }
+    ensures capacity { vec_capacity old.old ≤ vec_capacity old.new }
+{
+    let inner = bytes.len().min(old.len() - at);
+    old[at..at + inner].copy_from_slice(&bytes[..inner]);
+    append(old, &bytes[inner..]);
+}
+
+/// Puts this byte wherever one of the ranges is.
+pub(crate) fn fill(bytes: &mut [u8], ranges: &[(u64, u64)], byte: u8)
+    ensures { bytes.new ≡ filled ranges.now byte bytes.old }
+{
+    for (at, count) in ranges {
+        fill_range(bytes, *at, *count, byte);
+    }
+}
+
+fn fill_range(bytes: &mut [u8], at: u64, count: u64, byte: u8)
+    ensures { bytes.new ≡ range_filled at count byte bytes.old }
+{
+    let offset = at.min(bytes.len() as u64) as usize;
+    let inner = count.min((bytes.len() - offset) as u64) as usize;
+    bytes[offset..offset + inner].fill(byte);
 }

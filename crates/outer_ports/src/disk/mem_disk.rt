@@ -1,15 +1,26 @@
 ghost use Rattle.std.specs.Prelude.{◌≡◌, ◌≤◌, ◌-◌, [], length, min, Some, None, IfOk};
-ghost use Rattle.outer_ports.specs.disk.States.{IsHonest, IsImage};
+ghost use Rattle.outer_ports.specs.disk.States.{IsHonest, IsCrashImage};
 ghost use Rattle.outer_ports.specs.disk.Disks.{Sizes, ReadsAt, WritesAt, Syncs};
 ghost use Rattle.outer_ports.specs.disk.Picks.{picked};
 ghost use Rattle.outer_ports.specs.disk.Forms.{untouched, MemLooks, MemDiskWrites, MemSyncs};
 
 use super::kept::Kept;
+use crate::Disk;
 use crate::calls::Calls;
-use crate::{Disk, Pick};
 use fugue_ids::{Failed, NoMemory};
 use std::alloc::Global;
 use std::marker::Model;
+
+/// Which of the images a crash leaves.
+#[derive(Clone, Copy, Debug, PartialEq, Eq)]
+pub enum Pick {
+    /// What stood at the last sync.
+    Old,
+    /// What a read gives, with bytes of 0 up to the longest length since the last sync.
+    New,
+    /// This byte wherever a crash may leave any.
+    Fill(u8),
+}
 
 /// A file in memory. It fails at the calls that it is told to, and where memory is wanting.
 #[derive(Drop)]
@@ -53,7 +64,7 @@ impl MemDisk {
     /// One of the files that a crash may leave. No call on it is to fail. Both disks are honest.
     pub fn crash(&self, pick: Pick) -> Result<MemDisk, NoMemory>
         ensures past { IfOk result (λ d. d.past ≡ untouched (picked pick self.now.past.last)) }
-        ensures image { IsImage self.now.past.last (picked pick self.now.past.last) }
+        ensures image { IsCrashImage self.now.past.last (picked pick self.now.past.last) }
         ensures calls { IfOk result (λ d. d.calls ≡ record { made = 0; listed = []; faults = 0 }) }
         ensures honest { IsHonest self.now.past.last }
         ensures rests { IfOk result (λ d. IsHonest d.past.last) }
@@ -115,7 +126,7 @@ impl Disk for MemDisk {
         if self.kept.prepare(self.alloc, 0, self.ahead).is_err() {
             return Err(self.calls.fail());
         }
-        self.kept.settle();
+        self.kept.make_durable();
         Ok(())
     }
 }
@@ -124,7 +135,7 @@ impl Disk for MemDisk {
 pub(crate) fn crashed(alloc: Global, kept: &Kept, pick: Pick) -> Result<MemDisk, NoMemory>
     ensures disk { IfOk result (λ d. (d.past ≡ untouched (picked pick kept.now.past.last))
         × (d.calls ≡ record { made = 0; listed = []; faults = 0 })) }
-    ensures image { IsImage kept.now.past.last (picked pick kept.now.past.last) }
+    ensures image { IsCrashImage kept.now.past.last (picked pick kept.now.past.last) }
     ensures honest { IsHonest kept.now.past.last }
     ensures rests { IfOk result (λ d. IsHonest d.past.last) }
 {

@@ -1,5 +1,5 @@
 ghost use Rattle.std.specs.Prelude.{◌≡◌, ◌≤◌, ◌-◌, [], length, min, Ok, Some, IfOk};
-ghost use Rattle.outer_ports.specs.disk.States.{IsHonest, IsImage, wrote, settled};
+ghost use Rattle.outer_ports.specs.disk.States.{IsHonest, IsCrashImage, wrote, durable};
 ghost use Rattle.outer_ports.specs.disk.Moments.{stepped};
 ghost use Rattle.outer_ports.specs.disk.Disks.{Sizes, ReadsAt, WritesAt, Syncs};
 ghost use Rattle.outer_ports.specs.disk.Picks.{picked};
@@ -7,7 +7,7 @@ ghost use Rattle.outer_ports.specs.disk.Forms.{untouched, SureSteps};
 
 use super::kept::Kept;
 use super::mem_disk::crashed;
-use crate::raise::raise;
+use crate::faults::raise;
 use crate::{Disk, MemDisk, Pick};
 use fugue_ids::{Failed, NoMemory};
 use std::alloc::Global;
@@ -26,7 +26,11 @@ impl Model for SureDisk {
 
     ghost Value = { SureDiskView };
 
-    ghost view = { λ d. record { past = d.kept.past; room = record { bytes = d.kept.room; calls = d.kept.calls }; faults = d.faults } };
+    ghost view = { λ d. record {
+      past = d.kept.past;
+      room = record { bytes = d.kept.room; calls = d.kept.calls };
+      faults = d.faults;
+    } };
 }
 
 impl SureDisk {
@@ -35,7 +39,11 @@ impl SureDisk {
     /// syncs are at most `room` calls.
     pub fn new(alloc: Global, bytes: Vec<u8>, room: usize) -> Result<SureDisk, NoMemory>
         ensures seen { IfOk result (λ d. ⟦<SureDisk as Disk>⟧.seen d
-            ≡ record { past = Some (untouched bytes.items); faults = 0; room = Some (record { bytes = room; calls = room }) }) }
+            ≡ record {
+              past = Some (untouched bytes.items);
+              faults = 0;
+              room = Some (record { bytes = room; calls = room });
+            }) }
         ensures honest { IfOk result (λ d. IsHonest d.past.last) }
     {
         let mut kept = Kept::new(alloc, bytes);
@@ -52,7 +60,7 @@ impl SureDisk {
         ensures honest { IsHonest self.now.past.last }
         ensures rests { IfOk result (λ d. IsHonest d.past.last) }
         ensures past { IfOk result (λ d. d.past ≡ untouched (picked pick self.now.past.last)) }
-        ensures image { IsImage self.now.past.last (picked pick self.now.past.last) }
+        ensures image { IsCrashImage self.now.past.last (picked pick self.now.past.last) }
         ensures calls { IfOk result (λ d. d.calls ≡ record { made = 0; listed = []; faults = 0 }) }
     {
         crashed(self.alloc, &self.kept, pick)
@@ -83,7 +91,8 @@ impl Disk for SureDisk {
         requires inside { at ≤ length self.old.past.last.seen }
         ensures writes { WritesAt (⟦<SureDisk as Disk>⟧.seen self.old) (⟦<SureDisk as Disk>⟧.seen self.new)
             result at bytes.now }
-        ensures form { SureSteps (length bytes.now) (stepped (wrote at bytes.now) self.old.past) self.old self.new result }
+        ensures form { SureSteps (length bytes.now)
+            (stepped (wrote at bytes.now) self.old.past) self.old self.new result }
     {
         if bytes.len() > self.kept.room() || self.kept.calls() == 0 {
             raise(&mut self.faults);
@@ -95,13 +104,13 @@ impl Disk for SureDisk {
 
     fn sync(&mut self) -> Result<(), Failed>
         ensures syncs { Syncs (⟦<SureDisk as Disk>⟧.seen self.old) (⟦<SureDisk as Disk>⟧.seen self.new) result }
-        ensures form { SureSteps 0 (stepped settled self.old.past) self.old self.new result }
+        ensures form { SureSteps 0 (stepped durable self.old.past) self.old self.new result }
     {
         if self.kept.calls() == 0 {
             raise(&mut self.faults);
             return Err(Failed);
         }
-        self.kept.settle();
+        self.kept.make_durable();
         Ok(())
     }
 }

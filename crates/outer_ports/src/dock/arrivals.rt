@@ -1,12 +1,20 @@
-ghost use Rattle.std.specs.Prelude.{◌≡◌, ◌≤◌, ◌<◌, ◌+◌, ◌-◌, ◌^◌, ◌∷◌, ◌++◌, ◌↔◌, [], length, false, IsTrue, IfSome, OnOk, OnErr, All};
+ghost use Rattle.std.specs.Prelude.{◌≡◌, ◌≤◌, ◌<◌, ◌+◌, ◌-◌, ◌^◌, ◌∷◌, ◌++◌, ◌↔◌, [], length, false, IsTrue, IfSome};
+ghost use Rattle.std.specs.Prelude.{OnOk, OnErr, All};
 ghost use Rattle.outer_ports.specs.dock.Steps.{Fits, HasBytes, Gives, with_bytes, part_of, calls_for, calls_for_all};
 ghost use Rattle.outer_ports.specs.dock.Arrivals.{from};
 
-use super::part::Part;
 use crate::reserved::add;
 use crate::{DockStep, MemStep};
 use std::alloc::{AllocError, Global};
 use std::marker::Model;
+
+/// What a call gave of the step with this number: at most so many bytes, from an offset on.
+#[derive(Clone, Copy)]
+pub(super) struct Part {
+    pub(super) step: usize,
+    pub(super) offset: usize,
+    pub(super) most: usize,
+}
 
 /// Steps that come in turn, with what is needed to tell those that were taken.
 #[derive(Drop)]
@@ -27,7 +35,12 @@ impl Model for Arrivals {
 
     ghost Value = { ArrivalsView };
 
-    ghost view = { λ a. record { taken = taken_of a.steps.items a.parts.items; coming = coming_of a.steps.items a.at a.offset; ready = a.ready; spare = vec_capacity a.parts - vec_len a.parts } };
+    ghost view = { λ a. record {
+      taken = taken_of a.steps.items a.parts.items;
+      coming = coming_of a.steps.items a.at a.offset;
+      ready = a.ready;
+      spare = vec_capacity a.parts - vec_len a.parts;
+    } };
 
     ghost invariant = { λ a. (a.at ≤ vec_len a.steps)
         × All HasBytes a.steps.items

@@ -1,17 +1,25 @@
 ghost use Rattle.std.specs.Prelude.{◌≡◌, ◌≤◌, ◌<◌, [], length, All, Some, None};
 ghost use Rattle.outer_ports.specs.dock.Steps.{HasBytes};
-ghost use Rattle.outer_ports.specs.dock.Logs.{sent_by};
+ghost use Rattle.outer_ports.specs.dock.Transcripts.{sent_by};
 ghost use Rattle.outer_ports.specs.dock.Docks.{Listens, Takes, Sends, Ends};
 ghost use Rattle.outer_ports.specs.dock.Forms.{MemListens, MemTakes, MemSends, MemEnds};
 
 use super::arrivals::Arrivals;
-use super::logs::Logs;
+use super::transcripts::Transcripts;
 use crate::calls::Calls;
 use crate::reserved::add;
-use crate::{Dock, DockStep, MemStep};
-use fugue_ids::Failed;
+use crate::{Dock, DockStep};
+use fugue_ids::{ByteList, Failed};
 use std::alloc::Global;
 use std::marker::Model;
+
+/// What is to come in at a dock in memory, with the number of its session.
+#[derive(Debug, Drop)]
+pub enum MemStep {
+    Opened(u32),
+    Bytes(u32, ByteList),
+    Gone(u32),
+}
 
 /// Gives steps from memory and keeps what is sent, as much in each call as its piece allows. It fails at the calls that
 /// it is told to, where no step is left, and where memory is wanting.
@@ -20,7 +28,7 @@ pub struct MemDock {
     alloc: Global,
     port: Option<u16>,
     arrivals: Arrivals,
-    logs: Logs,
+    transcripts: Transcripts,
     ended: Vec<u32>,
     /// How many bytes each of these had been sent as it was ended.
     ended_at: Vec<usize>,
@@ -34,7 +42,18 @@ impl Model for MemDock {
 
     ghost Value = { MemDockView };
 
-    ghost view = { λ d. record { port = d.port; taken = d.arrivals.taken; coming = d.arrivals.coming; spare_steps = d.arrivals.spare; logs = d.logs; ended = d.ended.items; ended_at = d.ended_at.items; spare_ends = min (vec_capacity d.ended - vec_len d.ended) (vec_capacity d.ended_at - vec_len d.ended_at); piece = d.piece; calls = d.calls } };
+    ghost view = { λ d. record {
+      port = d.port;
+      taken = d.arrivals.taken;
+      coming = d.arrivals.coming;
+      spare_steps = d.arrivals.spare;
+      transcripts = d.transcripts;
+      ended = d.ended.items;
+      ended_at = d.ended_at.items;
+      spare_ends = min (vec_capacity d.ended - vec_len d.ended) (vec_capacity d.ended_at - vec_len d.ended_at);
+      piece = d.piece;
+      calls = d.calls;
+    } };
 
     ghost invariant = { λ d. 1 ≤ d.piece };
 }
@@ -62,7 +81,7 @@ impl MemDock {
             alloc,
             port: None,
             arrivals: Arrivals::new(alloc, steps),
-            logs: Logs::new(alloc),
+            transcripts: Transcripts::new(alloc),
             ended: Vec::new(alloc),
             ended_at: Vec::new(alloc),
             piece,
@@ -72,9 +91,9 @@ impl MemDock {
 
     /// All that was sent to the session: nothing to one that was sent nothing.
     pub fn sent(&self, session: u32) -> &[u8]
-        ensures { result.now ≡ sent_by self.now.logs session }
+        ensures { result.now ≡ sent_by self.now.transcripts session }
     {
-        self.logs.sent(session)
+        self.transcripts.sent(session)
     }
 
     /// The port last listened on.
@@ -93,7 +112,17 @@ impl MemDock {
 }
 
 impl Dock for MemDock {
-    ghost seen = { λ d. record { port = Some d.port; taken = Some d.taken; coming = Some d.coming; sent = λ s. Some (sent_by d.logs s); ended = Some d.ended; ended_at = Some d.ended_at; faults = d.calls.faults; room = λ s. None; ends = None } };
+    ghost seen = { λ d. record {
+      port = Some d.port;
+      taken = Some d.taken;
+      coming = Some d.coming;
+      sent = λ s. Some (sent_by d.transcripts s);
+      ended = Some d.ended;
+      ended_at = Some d.ended_at;
+      faults = d.calls.faults;
+      room = λ s. None;
+      ends = None;
+    } };
 
     fn listen(&mut self, port: u16) -> Result<(), Failed>
         ensures listens { Listens (⟦<MemDock as Dock>⟧.seen self.old) (⟦<MemDock as Dock>⟧.seen self.new) result port }
@@ -124,10 +153,10 @@ impl Dock for MemDock {
     {
         self.calls.begin()?;
         let count = self.piece.min(piece.len());
-        if self.logs.ensure(self.alloc, session, count).is_err() {
+        if self.transcripts.ensure(self.alloc, session, count).is_err() {
             return Err(self.calls.fail());
         }
-        self.logs.append(session, &piece[..count]);
+        self.transcripts.append(session, &piece[..count]);
         Ok(count)
     }
 
@@ -140,7 +169,7 @@ impl Dock for MemDock {
             return Err(self.calls.fail());
         }
         add(&mut self.ended, session);
-        add(&mut self.ended_at, self.logs.sent(session).len());
+        add(&mut self.ended_at, self.transcripts.sent(session).len());
         Ok(())
     }
 }

@@ -1,12 +1,12 @@
 ghost use Rattle.std.specs.Prelude.{ℕ, ◌≡◌, ◌≤◌, ◌<◌, [], length, if◌then◌else◌, All, Ok, Some, None, IfOk};
 ghost use Rattle.outer_ports.specs.dock.Steps.{HasBytes, opens};
-ghost use Rattle.outer_ports.specs.dock.Logs.{sent_by, room_by};
+ghost use Rattle.outer_ports.specs.dock.Transcripts.{sent_by, room_by};
 ghost use Rattle.outer_ports.specs.dock.Docks.{Listens, Takes, Sends, Ends};
 ghost use Rattle.outer_ports.specs.dock.Forms.{HasRooms, SureTakes, SureSends, SureEnds};
 
 use super::arrivals::{Arrivals, most_calls_of};
-use super::logs::Logs;
-use crate::raise::raise;
+use super::transcripts::Transcripts;
+use crate::faults::raise;
 use crate::reserved::add;
 use crate::{Dock, DockStep, MemStep};
 use fugue_ids::{Failed, NoMemory};
@@ -19,7 +19,7 @@ use std::marker::Model;
 pub struct SureDock {
     port: Option<u16>,
     arrivals: Arrivals,
-    logs: Logs,
+    transcripts: Transcripts,
     ended: Vec<u32>,
     /// How many bytes each of these had been sent as it was ended.
     ended_at: Vec<usize>,
@@ -35,7 +35,17 @@ impl Model for SureDock {
 
     ghost Value = { SureDockView };
 
-    ghost view = { λ d. record { port = d.port; taken = d.arrivals.taken; coming = d.arrivals.coming; logs = d.logs; ended = d.ended.items; ended_at = d.ended_at.items; piece = d.piece; ends = d.ends; faults = d.faults } };
+    ghost view = { λ d. record {
+      port = d.port;
+      taken = d.arrivals.taken;
+      coming = d.arrivals.coming;
+      transcripts = d.transcripts;
+      ended = d.ended.items;
+      ended_at = d.ended_at.items;
+      piece = d.piece;
+      ends = d.ends;
+      faults = d.faults;
+    } };
 
     ghost invariant = { λ d. (1 ≤ d.piece)
         × (calls_for_all d.arrivals.coming ≤ d.arrivals.ready)
@@ -44,8 +54,8 @@ impl Model for SureDock {
 }
 
 impl SureDock {
-    /// A call gives or takes at most `piece` bytes. Each session that a step opens has room for `room` bytes, and as many
-    /// sessions can be ended as there are steps.
+    /// A call gives or takes at most `piece` bytes. Each session that a step opens has room for `room` bytes, and as
+    /// many sessions can be ended as there are steps.
     pub fn new(
         alloc: Global,
         steps: Vec<MemStep>,
@@ -58,7 +68,7 @@ impl SureDock {
           port = None;
           taken = [];
           coming = steps.items;
-          logs = d.logs;
+          transcripts = d.transcripts;
           ended = [];
           ended_at = [];
           piece = piece;
@@ -69,7 +79,7 @@ impl SureDock {
         ensures room { IfOk result (λ d. (s : ℕ) → (⟦<SureDock as Dock>⟧.seen d).room s
             ≡ Some (if opens steps.items s then room else 0)) }
     {
-        let logs = rooms(alloc, &steps, room)?;
+        let transcripts = rooms(alloc, &steps, room)?;
         let ends = steps.len();
         let ended = Vec::with_capacity(alloc, ends)?;
         let ended_at = Vec::with_capacity(alloc, ends)?;
@@ -81,7 +91,7 @@ impl SureDock {
         Ok(SureDock {
             port: None,
             arrivals,
-            logs,
+            transcripts,
             ended,
             ended_at,
             ends,
@@ -99,9 +109,9 @@ impl SureDock {
 
     /// All that was sent to the session: nothing to one that was sent nothing.
     pub fn sent(&self, session: u32) -> &[u8]
-        ensures { result.now ≡ sent_by self.now.logs session }
+        ensures { result.now ≡ sent_by self.now.transcripts session }
     {
-        self.logs.sent(session)
+        self.transcripts.sent(session)
     }
 
     /// The sessions that were ended, in order.
@@ -113,23 +123,34 @@ impl SureDock {
 }
 
 /// Room for so many bytes for each session that one of the steps opens.
-fn rooms(alloc: Global, steps: &[MemStep], room: usize) -> Result<Logs, AllocError>
-    ensures { IfOk result (λ logs. HasRooms steps.now room logs) }
+fn rooms(alloc: Global, steps: &[MemStep], room: usize) -> Result<Transcripts, AllocError>
+    ensures { IfOk result (λ transcripts. HasRooms steps.now room transcripts) }
 {
-    let mut logs = Logs::new(alloc);
+    let mut transcripts = Transcripts::new(alloc);
     for step in steps {
         if let MemStep::Opened(session) = step {
-            logs.prepare(alloc, *session, room)?;
+            transcripts.prepare(alloc, *session, room)?;
         }
     }
-    Ok(logs)
+    Ok(transcripts)
 }
 
 impl Dock for SureDock {
-    ghost seen = { λ d. record { port = Some d.port; coming = Some d.coming; taken = Some d.taken; sent = λ s. Some (sent_by d.logs s); room = λ s. Some (room_by d.logs s); ends = Some d.ends; ended = Some d.ended; ended_at = Some d.ended_at; faults = d.faults } };
+    ghost seen = { λ d. record {
+      port = Some d.port;
+      coming = Some d.coming;
+      taken = Some d.taken;
+      sent = λ s. Some (sent_by d.transcripts s);
+      room = λ s. Some (room_by d.transcripts s);
+      ends = Some d.ends;
+      ended = Some d.ended;
+      ended_at = Some d.ended_at;
+      faults = d.faults;
+    } };
 
     fn listen(&mut self, port: u16) -> Result<(), Failed>
-        ensures listens { Listens (⟦<SureDock as Dock>⟧.seen self.old) (⟦<SureDock as Dock>⟧.seen self.new) result port }
+        ensures listens { Listens (⟦<SureDock as Dock>⟧.seen self.old)
+            (⟦<SureDock as Dock>⟧.seen self.new) result port }
         ensures form { self.new ≡ record self.old { port = Some port } }
     {
         self.port = Some(port);
@@ -154,13 +175,13 @@ impl Dock for SureDock {
             result session piece.now }
         ensures form { SureSends self.old self.new result session piece.now }
     {
-        let room = self.logs.room(session);
+        let room = self.transcripts.room(session);
         if room == 0 && !piece.is_empty() {
             raise(&mut self.faults);
             return Err(Failed);
         }
         let count = self.piece.min(piece.len()).min(room);
-        self.logs.append(session, &piece[..count]);
+        self.transcripts.append(session, &piece[..count]);
         Ok(count)
     }
 
@@ -173,7 +194,7 @@ impl Dock for SureDock {
             return Err(Failed);
         }
         add(&mut self.ended, session);
-        add(&mut self.ended_at, self.logs.sent(session).len());
+        add(&mut self.ended_at, self.transcripts.sent(session).len());
         self.ends -= 1;
         Ok(())
     }

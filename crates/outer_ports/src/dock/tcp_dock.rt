@@ -1,4 +1,5 @@
-ghost use Rattle.std.specs.Prelude.{◌≡◌, ◌≢◌, ◌<◌, ◌*◌, length, true, false, Ok, None, IsErr, IsOk, IsSome, IfOk, OnOk, OnErr};
+ghost use Rattle.std.specs.Prelude.{◌≡◌, ◌≢◌, ◌<◌, ◌*◌, length, true, false, Ok, None, IsErr, IsOk, IsSome, IfOk, OnOk};
+ghost use Rattle.std.specs.Prelude.{OnErr};
 ghost use Rattle.std.specs.Io.{ReadsAtMost, WritesAtMost};
 ghost use Rattle.std.specs.Io.KnownBytes.{ReadConsumes, WriteAppends};
 ghost use Rattle.fugue_ids.specs.Causes.{HasCause};
@@ -10,8 +11,7 @@ ghost use Rattle.outer_ports.specs.dock.Streams.{Accepts, Brings, GoesNowhere, R
 
 use crate::again::MOST_CALLS;
 use crate::causes::tell_port;
-use crate::faults::Faults;
-use crate::taken::taken;
+use crate::faults::{Faults, taken};
 use crate::watch::Watch;
 use crate::{Dock, DockStep, again};
 use fugue_ids::Failed;
@@ -23,15 +23,15 @@ use std::time::{Clock, Duration};
 const PAUSE: u64 = 100;
 
 /// Numbers of the system's errors that accept gives for one connection, or while something is wanting (accept(2)): no
-/// descriptor is left to the system (23) or to the process (24), there is no memory (12, 105), or the network had an error
-/// (64, 71, 92, 95, 100, 101, 112, 113).
+/// descriptor is left to the system (23) or to the process (24), there is no memory (12, 105), or the network had an
+/// error (64, 71, 92, 95, 100, 101, 112, 113).
 const PASSING: [i32; 12] = [12, 23, 24, 64, 71, 92, 95, 100, 101, 105, 112, 113];
 
 /// Listens on 127.0.0.1, and brings one connection after another, numbered from 0. It does not tell what passes.
 ///
-/// A peer that is lost (it resets, is silent for a minute, or takes nothing for as long), or whose session has lasted for
-/// ten minutes, is Gone at the next step. What is sent to a session that is not there, or that was ended, goes nowhere.
-/// Only the listening socket makes a call fail. Why it could not listen goes to `errors`, in a line.
+/// A peer that is lost (it resets, is silent for a minute, or takes nothing for as long), or whose session has lasted
+/// for ten minutes, is Gone at the next step. What is sent to a session that is not there, or that was ended, goes
+/// nowhere. Only the listening socket makes a call fail. Why it could not listen goes to `errors`, in a line.
 #[derive(Drop)]
 pub struct TcpDock<R: Net + Clock + AllocGlobal + Drop, E: Write + Drop> {
     net: R,
@@ -83,7 +83,8 @@ impl<R: Net + Clock + AllocGlobal + Drop, E: Write + Drop> TcpDock<R, E> {
     fn open(&mut self) -> Result<DockStep, Failed>
         requires closed { self.old.is_open ≡ false }
         ensures opened { IfOk result (λ step. step ≡ DockStep.Opened self.old.session) }
-        ensures turn { OnOk result ((self.new.is_open ≡ true) × (self.new.is_ended ≡ false) × (self.new.session ≡ self.old.session)) }
+        ensures turn { OnOk result
+            ((self.new.is_open ≡ true) × (self.new.is_ended ≡ false) × (self.new.session ≡ self.old.session)) }
         ensures stream { OnOk result (Accepts self.new.stream self.old.faults self.new.faults) }
         ensures missing { self.old.listener ≡ None → IsErr result }
         ensures listener { self.new.listener ≡ self.old.listener }
@@ -170,7 +171,17 @@ fn limit_by<S: OpenStream>(clock: &impl Clock, watch: Option<Watch>, stream: &S)
 }
 
 impl<R: Net + Clock + AllocGlobal + Drop, E: Write + Drop> Dock for TcpDock<R, E> {
-    ghost seen = { λ d. record { port = None; coming = None; taken = None; sent = λ s. None; room = λ s. None; ends = None; ended = None; ended_at = None; faults = d.faults } };
+    ghost seen = { λ d. record {
+      port = None;
+      coming = None;
+      taken = None;
+      sent = λ s. None;
+      room = λ s. None;
+      ends = None;
+      ended = None;
+      ended_at = None;
+      faults = d.faults;
+    } };
 
     fn listen(&mut self, port: u16) -> Result<(), Failed>
         ensures listens { Listens (⟦<TcpDock<R, E> as Dock>⟧.seen self.old) (⟦<TcpDock<R, E> as Dock>⟧.seen self.new)
@@ -178,7 +189,8 @@ impl<R: Net + Clock + AllocGlobal + Drop, E: Write + Drop> Dock for TcpDock<R, E
         ensures faults { CountsFaults self.old.faults self.new.faults result }
         ensures bound { OnOk result (IsSome self.new.listener) }
         ensures kept { OnErr result (self.new.listener ≡ self.old.listener) }
-        ensures others { self.new ≡ record self.old { listener = self.new.listener; errors = self.new.errors; faults = self.new.faults } }
+        ensures others { self.new
+            ≡ record self.old { listener = self.new.listener; errors = self.new.errors; faults = self.new.faults } }
     {
         let given = TcpListener::bind(&self.net, ("127.0.0.1", port));
         if let Err(error) = &given {
@@ -256,7 +268,8 @@ impl<R: Net + Clock + AllocGlobal + Drop, E: Write + Drop> Dock for TcpDock<R, E
             → Stays self.old.stream self.new.stream self.old.faults self.new.faults }
         ensures ended { session ≡ self.old.session → self.new.is_ended ≡ true }
         ensures elsewhere { session ≢ self.old.session → self.new ≡ self.old }
-        ensures others { self.new ≡ record self.old { stream = self.new.stream; is_ended = self.new.is_ended; faults = self.new.faults } }
+        ensures others { self.new
+            ≡ record self.old { stream = self.new.stream; is_ended = self.new.is_ended; faults = self.new.faults } }
     {
         if session != self.session {
             return Ok(());

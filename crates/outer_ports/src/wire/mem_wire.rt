@@ -25,7 +25,14 @@ impl Model for MemWire {
 
     ghost Value = { MemWireView };
 
-    ghost view = { λ w. record { port = w.port; left = w.reply.left; said = w.said.items; piece = w.piece; spare = vec_capacity w.said - vec_len w.said; calls = w.calls } };
+    ghost view = { λ w. record {
+      port = w.port;
+      left = w.reply.left;
+      said = w.said.items;
+      piece = w.piece;
+      spare = vec_capacity w.said - vec_len w.said;
+      calls = w.calls;
+    } };
 
     ghost invariant = { λ w. (1 ≤ w.piece) × (w.reply.piece ≡ w.piece) };
 }
@@ -64,7 +71,13 @@ impl MemWire {
 }
 
 impl Wire for MemWire {
-    ghost seen = { λ w. record { port = Some w.port; left = Some w.left; said = Some w.said; faults = w.calls.faults; room = None } };
+    ghost seen = { λ w. record {
+      port = Some w.port;
+      left = Some w.left;
+      said = Some w.said;
+      faults = w.calls.faults;
+      room = None;
+    } };
 
     fn dial(&mut self, port: u16) -> Result<(), Failed>
         ensures dials { Dials (⟦<MemWire as Wire>⟧.seen self.old) (⟦<MemWire as Wire>⟧.seen self.new) result port }

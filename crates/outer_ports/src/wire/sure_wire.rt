@@ -22,7 +22,14 @@ impl Model for SureWire {
 
     ghost Value = { SureWireView };
 
-    ghost view = { λ w. record { port = w.port; left = w.reply.left; said = w.said.written; piece = w.said.piece; room = w.said.room; faults = w.said.faults } };
+    ghost view = { λ w. record {
+      port = w.port;
+      left = w.reply.left;
+      said = w.said.written;
+      piece = w.said.piece;
+      room = w.said.room;
+      faults = w.said.faults;
+    } };
 
     ghost invariant = { λ w. w.reply.piece ≡ w.said.piece };
 }
@@ -64,7 +71,13 @@ impl SureWire {
 }
 
 impl Wire for SureWire {
-    ghost seen = { λ w. record { port = Some w.port; left = Some w.left; said = Some w.said; faults = w.faults; room = Some w.room } };
+    ghost seen = { λ w. record {
+      port = Some w.port;
+      left = Some w.left;
+      said = Some w.said;
+      faults = w.faults;
+      room = Some w.room;
+    } };
 
     fn dial(&mut self, port: u16) -> Result<(), Failed>
         ensures dials { Dials (⟦<SureWire as Wire>⟧.seen self.old) (⟦<SureWire as Wire>⟧.seen self.new) result port }

@@ -1,18 +1,62 @@
-ghost use Rattle.std.specs.Prelude.{◌≡◌, ◌<◌, length, None, IsErr, IsSome, IfOk, OnOk, OnErr};
+ghost use Rattle.std.specs.Prelude.{◌≡◌, ◌<◌, length, None, IsErr, IsSome, IfOk, OnOk, OnErr, []};
 ghost use Rattle.std.specs.Io.{ReadsAtMost, WritesAtMost};
 ghost use Rattle.outer_ports.specs.Counts.{CountsFaults};
 ghost use Rattle.outer_ports.specs.wire.Streams.{Hears, Says};
 ghost use Rattle.outer_ports.specs.wire.Wires.{Dials, WireReads, WireWrites};
+ghost use Rattle.std.specs.Io.KnownBytes.{prepend_known};
 
 use crate::causes::tell_port;
-use crate::faults::Faults;
-use crate::taken::taken;
+use crate::faults::{Faults, taken};
 use crate::watch::{limit, patience};
-use crate::wire::buffered::Buffered;
+use crate::wire::ahead::Ahead;
 use crate::{Wire, again};
 use fugue_ids::Failed;
 use std::io::{self, ErrorKind, Read, Write};
 use std::net::{Ipv4Addr, Net, OpenStream, SocketAddr, SocketAddrV4, TcpStream};
+
+/// A stream that is read in pieces of up to 4,096 bytes, so that bytes asked for one by one cost few calls of the
+/// system. What is written goes out at once. It takes no memory.
+#[derive(Drop)]
+pub(crate) struct Buffered<S: Drop> {
+    stream: S,
+    ahead: Ahead,
+}
+
+impl<S: Drop> Buffered<S> {
+    /// Nothing is read yet.
+    pub(crate) fn new(stream: S) -> Buffered<S>
+        ensures stream { result.stream ≡ stream }
+        ensures ahead { result.ahead ≡ [] }
+    {
+        Buffered {
+            stream,
+            ahead: Ahead::none(),
+        }
+    }
+}
+
+impl<S: Read + Drop> Read for Buffered<S> {
+    ghost remaining = { λ b. prepend_known b.ahead (S.remaining b.stream) };
+
+    fn read(&mut self, buf: &mut [u8]) -> io::Result<usize> {
+        if self.ahead.is_empty() {
+            self.ahead.fill(&mut self.stream)?;
+        }
+        self.ahead.give(buf)
+    }
+}
+
+impl<S: Write + Drop> Write for Buffered<S> {
+    ghost contents = { λ b. S.contents b.stream };
+
+    fn write(&mut self, piece: &[u8]) -> io::Result<usize> {
+        self.stream.write(piece)
+    }
+
+    fn flush(&mut self) -> io::Result<()> {
+        self.stream.flush()
+    }
+}
 
 /// A connection to a port of 127.0.0.1. It does not tell what passes. It may read ahead of what is asked for.
 ///
@@ -65,7 +109,8 @@ impl<R: Net + AllocGlobal + Drop, E: Write + Drop> Wire for TcpWire<R, E> {
             result buf.new }
         ensures faults { CountsFaults self.old.faults self.new.faults result }
         ensures missing { self.old.stream ≡ None → IsErr result }
-        ensures stream { Hears (⟦<Buffered<R::Stream> as Read>⟧.remaining) self.old.stream self.new.stream result buf.new }
+        ensures stream { Hears (⟦<Buffered<R::Stream> as Read>⟧.remaining) self.old.stream self.new.stream result
+            buf.new }
     {
         self.faults.pass(hear(&mut self.stream, buf))
     }
@@ -75,7 +120,8 @@ impl<R: Net + AllocGlobal + Drop, E: Write + Drop> Wire for TcpWire<R, E> {
             result piece.now }
         ensures faults { CountsFaults self.old.faults self.new.faults result }
         ensures missing { self.old.stream ≡ None → IsErr result }
-        ensures stream { Says (⟦<Buffered<R::Stream> as Write>⟧.contents) self.old.stream self.new.stream result piece.now }
+        ensures stream { Says (⟦<Buffered<R::Stream> as Write>⟧.contents) self.old.stream self.new.stream result
+            piece.now }
     {
         self.faults.pass(say(&mut self.stream, piece))
     }

@@ -1,5 +1,4 @@
 //! Operations of an edit, accepted one after another as far as memory lasts.
-
 ghost use Rattle.std.specs.Prelude.{◌≡◌, ◌<◌, ◌≤◌, ◌+◌, ◌^◌, length, IfOk, OnErr, OnOk};
 ghost use Rattle.std.specs.Str.{chars};
 ghost use Rattle.origin_model.specs.edits.Edits.{deletes_of, id_at};
@@ -8,8 +7,8 @@ ghost use Rattle.origin_model.specs.edits.Effect.{Gains, StopsPartly};
 ghost use Rattle.replica_core.specs.Edits.{CanJoin, typed_at};
 ghost use Rattle.origin_model.specs.edits.State.{Stands};
 
-use super::text_spot::TextSpot;
 use crate::Replica;
+use crate::edits::planning::TextSpot;
 use fugue_ids::{ElementId, NoMemory, Op};
 
 impl Replica {

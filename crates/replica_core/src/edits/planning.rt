@@ -1,17 +1,29 @@
 //! What an edit makes, decided before it changes anything.
-
-ghost use Rattle.std.specs.Prelude.{◌≡◌, ◌∷◌, [], None, IfErr, IfOk, OnOk, length, ◌≤◌, ◌+◌, ◌^◌};
+ghost use Rattle.std.specs.Prelude.{◌≡◌, ◌∷◌, [], None, IfErr, IfOk, OnOk, length, ◌≤◌, ◌+◌, ◌^◌, ◌<◌, drop, take};
+ghost use Rattle.std.specs.Prelude.{vec_len, IsTrue, OnErr, ◌↔◌, IfSome};
 ghost use Rattle.std.specs.Str.{chars};
-ghost use Rattle.origin_model.specs.edits.Edits.{Put, Cut, Add, DropSection, deletes_of};
-ghost use Rattle.origin_model.specs.edits.Refusal.{made_by, refusal};
+ghost use Rattle.origin_model.specs.edits.Edits.{Put, Cut, Add, DropSection, deletes_of, in_front};
+ghost use Rattle.origin_model.specs.edits.Refusal.{made_by, refusal_message};
 ghost use Rattle.replica_core.specs.Edits.{IsCauseOf, typed_at};
 ghost use Rattle.origin_model.specs.edits.State.{Stands};
+ghost use Rattle.section_list.specs.Cells.{section_cell_ids, section_cells_shown};
+ghost use Rattle.origin_model.specs.edits.Landing.{following};
 
-use super::origins::origins_at;
-use super::targets::{has_part, shown_part};
-use super::text_spot::TextSpot;
 use crate::{EditFault, Replica};
-use fugue_ids::{ElementId, Op, Title};
+use fugue_ids::{ElementId, NoMemory, Op, Title};
+use section_list::{SectionList, Shown};
+use std::alloc::Global;
+
+/// Where a text comes in: the section, the origins of its first element, the counter of that, and how many
+/// elements there are.
+#[derive(Clone, Copy)]
+pub(crate) struct TextSpot {
+    pub section: ElementId,
+    pub left: Option<ElementId>,
+    pub right: Option<ElementId>,
+    pub counter: u64,
+    pub count: u32,
+}
 
 /// How many scalars a text has.
 fn scalar_count(text: &str) -> usize
@@ -28,10 +40,11 @@ impl Replica {
         at: usize,
         text: &str,
     ) -> Result<TextSpot, EditFault>
-        ensures ok { IfOk result (λ spot. made_by self.now (Put section at (chars text.now)) ≡ typed_at self.now.number spot (chars text.now)) }
+        ensures ok { IfOk result (λ spot. made_by self.now (Put section at (chars text.now))
+            ≡ typed_at self.now.number spot (chars text.now)) }
         ensures counters { IfOk result (λ spot. spot.counter + length (chars text.now) ≤ 2 ^ 32) }
         ensures count { IfOk result (λ spot. spot.count ≡ length (chars text.now)) }
-        ensures may { OnOk result (refusal self.now (Put section at (chars text.now)) ≡ None) }
+        ensures may { OnOk result (refusal_message self.now (Put section at (chars text.now)) ≡ None) }
         ensures err { IfErr result (λ fault. IsCauseOf fault self.now (Put section at (chars text.now))) }
         ensures stands { Stands self.now }
     {
@@ -60,7 +73,7 @@ impl Replica {
         n: usize,
     ) -> Result<Vec<ElementId>, EditFault>
         ensures ok { IfOk result (λ targets. made_by self.now (Cut section at n) ≡ deletes_of targets.items) }
-        ensures may { OnOk result (refusal self.now (Cut section at n) ≡ None) }
+        ensures may { OnOk result (refusal_message self.now (Cut section at n) ≡ None) }
         ensures err { IfErr result (λ fault. IsCauseOf fault self.now (Cut section at n)) }
         ensures stands { Stands self.now }
     {
@@ -77,7 +90,7 @@ impl Replica {
     /// The new section.
     pub(crate) fn section_op(&self, at: usize, title: Title) -> Result<Op, EditFault>
         ensures ok { IfOk result (λ op. made_by self.now (Add at title) ≡ op ∷ []) }
-        ensures may { OnOk result (refusal self.now (Add at title) ≡ None) }
+        ensures may { OnOk result (refusal_message self.now (Add at title) ≡ None) }
         ensures err { IfErr result (λ fault. IsCauseOf fault self.now (Add at title)) }
         ensures stands { Stands self.now }
     {
@@ -96,7 +109,7 @@ impl Replica {
     /// The Delete of a section.
     pub(crate) fn drop_op(&self, section: usize) -> Result<Op, EditFault>
         ensures ok { IfOk result (λ op. made_by self.now (DropSection section) ≡ op ∷ []) }
-        ensures may { OnOk result (refusal self.now (DropSection section) ≡ None) }
+        ensures may { OnOk result (refusal_message self.now (DropSection section) ≡ None) }
         ensures err { IfErr result (λ fault. IsCauseOf fault self.now (DropSection section)) }
         ensures stands { Stands self.now }
     {
@@ -106,4 +119,82 @@ impl Replica {
         self.check_room(1)?;
         Ok(Op::Delete { target: section.id })
     }
+}
+
+/// Whether there are so many from the position on.
+pub(crate) fn has_part(count: usize, at: usize, n: usize) -> bool
+    ensures { IsTrue result ↔ (at + n ≤ count) }
+{
+    match count.checked_sub(at) {
+        Some(rest) => n <= rest,
+        None => false,
+    }
+}
+
+/// So many of the shown elements from the position on.
+pub(crate) fn shown_part(
+    alloc: Global,
+    place: &SectionList,
+    at: usize,
+    n: usize,
+) -> Result<Vec<ElementId>, NoMemory>
+    requires { at + n ≤ length (section_cells_shown place.now.cells) }
+    ensures part { IfOk result
+        (λ part. part.items ≡ take n (drop at (section_cell_ids (section_cells_shown place.now.cells)))) }
+    ensures some { OnErr result (0 < n) }
+{
+    gather(alloc, &mut place.shown_from(at), n)
+}
+
+/// The next ones, so many.
+fn gather(alloc: Global, walk: &mut Shown, count: usize) -> Result<Vec<ElementId>, NoMemory>
+    requires { count ≤ length walk.old }
+    ensures part { IfOk result (λ part. part.items ≡ take count walk.old) }
+    ensures some { OnErr result (0 < count) }
+{
+    let mut part = Vec::new(alloc);
+    'taken: for _ in 0..count {
+        part.push(walk.step().unwrap())?;
+    }
+    Ok(part)
+}
+
+/// Where an element comes in: behind the left one and before the right one.
+#[derive(Clone, Copy)]
+pub(crate) struct Origins {
+    pub left: Option<ElementId>,
+    pub right: Option<ElementId>,
+}
+
+/// The origins of an element that comes before the shown one at the position, or behind all of them: the right one is
+/// the next of all elements, hidden or not. There are none for a position behind the end.
+pub(crate) fn origins_at(place: &SectionList, at: usize) -> Option<Origins>
+    ensures behind { result ≡ None → length (section_cells_shown place.now.cells) < at }
+    ensures inside { IfSome result (λ o. at ≤ length (section_cells_shown place.now.cells)) }
+    ensures left { IfSome result (λ o. o.left ≡ in_front (section_cell_ids (section_cells_shown place.now.cells)) at) }
+    ensures right { IfSome result (λ o. o.right ≡ following (section_cell_ids place.now.cells) o.left) }
+{
+    if at > place.visible_count() {
+        return None;
+    }
+    let left = left_of(place, at);
+    let right = right_of(place, &left);
+    Some(Origins { left, right })
+}
+
+/// The shown element in front of the position.
+fn left_of(place: &SectionList, at: usize) -> Option<ElementId>
+    ensures { result ≡ in_front (section_cell_ids (section_cells_shown place.now.cells)) at }
+{
+    match at.checked_sub(1) {
+        Some(last) => place.nth_visible(last),
+        None => None,
+    }
+}
+
+/// The element behind the left origin.
+fn right_of(place: &SectionList, left: &Option<ElementId>) -> Option<ElementId>
+    ensures { result ≡ following (section_cell_ids place.now.cells) left.now }
+{
+    place.after(*left)
 }

@@ -1,6 +1,6 @@
 ghost use Rattle.std.specs.Prelude.{◌≡◌, ◌<◌, ◌≤◌, ◌-◌, ◌^◌, IfOk, OnErr};
 ghost use Rattle.origin_model.specs.edits.State.{Stands};
-ghost use Rattle.replica_core.specs.Told.{IsCounted, JoinsNext, Settles, SettlesOrStops};
+ghost use Rattle.replica_core.specs.Told.{IsTallied, JoinsNext, Settles, SettlesOrStops};
 
 use super::Replica;
 use crate::Settled;
@@ -28,14 +28,16 @@ pub(crate) struct Settling {
 
 impl Model for Settling {
     ghost use Rattle.origin_model.specs.edits.State.{State};
-    ghost use Rattle.replica_core.specs.Replica.{IsKept, state_of};
+    ghost use Rattle.replica_core.specs.Replica.{IsKept, replica_state};
 
     ghost Value = { State };
 
-    ghost view = { λ settling. state_of settling.number settling.hold settling.most settling.accepted settling.inbox };
+    ghost view = { λ settling. replica_state settling.number settling.hold settling.most settling.accepted
+        settling.inbox };
 
     ghost invariant = { λ settling.
-        IsKept (state_of settling.number settling.hold settling.most settling.accepted settling.inbox) settling.inbox settling.due };
+        IsKept (replica_state settling.number settling.hold settling.most settling.accepted settling.inbox)
+        settling.inbox settling.due };
 }
 
 impl Replica {
@@ -70,8 +72,8 @@ impl Settling {
         }
     }
 
-    /// Lets the earliest waiting operation that can be accepted or is stray leave: None is the answer where there is none.
-    /// After want of memory, which comes only before one that is accepted, all is as before.
+    /// Lets the earliest waiting operation that can be accepted or is stray leave: None is the answer where there is
+    /// none. After want of memory, which comes only before one that is accepted, all is as before.
     pub fn step(&mut self) -> Result<Option<Settled>, NoMemory>
         ensures step { IfOk result (λ settled. Settles self.old.held self.new.held settled) }
         ensures others { self.new ≡ record self.old { held = self.new.held } }
@@ -116,7 +118,7 @@ impl Settling {
     fn settle_counted(&mut self, tally: &mut Tally) -> Result<bool, NoMemory>
         requires accepted { tally.old.accepted < 2 ^ 32 - 1 }
         requires stray { tally.old.stray < 2 ^ 32 - 1 }
-        ensures step { IfOk result (λ more. IsCounted self.old.held self.new.held tally.old tally.new more) }
+        ensures step { IfOk result (λ more. IsTallied self.old.held self.new.held tally.old tally.new more) }
         ensures others { self.new ≡ record self.old { held = self.new.held } }
         ensures err { OnErr result ((self.new ≡ self.old) × (tally.new ≡ tally.old)) }
         ensures stopped { OnErr result (JoinsNext self.new.held) }

@@ -3,7 +3,7 @@ use Rattle.std.proofs.lemmas.List.{length-reverse}
 use Rattle.std.proofs.lemmas.Result.{on_ok_weaker}
 use Rattle.fugue_ids.specs.Ops.{own_in}
 use Rattle.origin_model.specs.operations.Verdict.{verdict}
-use Rattle.origin_model.specs.declared.operations.verdict.Verdict.TheVariants.{Ready}
+use Rattle.origin_model.specs.declared.operations.Verdict.TheVariants.{Ready}
 use Rattle.section_catalogue.proofs.BoundLemmas.{places_bounded}
 use Rattle.section_catalogue.proofs.ConditionLemmas.{has_place, target_delete, target_has_place}
 use Rattle.section_catalogue.specs.Manuscript.{StandsFor}

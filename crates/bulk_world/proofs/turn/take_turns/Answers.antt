@@ -1,4 +1,4 @@
-use Rattle.bulk_world.specs.Turns.{Leads}
+use Rattle.bulk_world.specs.Turns.{TurnsLead}
 use Rattle.bulk_world.proofs.TurnLemmas.{all_left, first_goes_on, none_left, second_goes_on}
 use Rattle.bulk_world.proofs.turn.take_turns.Goals.{then-turn-eq1+in_ok-take_turn, else-turn-eq1+in_ok-take_turn-2}
 use Rattle.bulk_world.proofs.turn.take_turns.Goals as goal
@@ -15,7 +15,7 @@ turns-init c =
 
 pub turns-preserved : goal.turns-preserved
 turns-preserved c =
-    let W = Leads c.args.count 1 c.args.seed c.args.first.now c.args.second.now in
+    let W = TurnsLead c.args.count 1 c.args.seed c.args.first.now c.args.second.now in
     elim c.if-turn-eq1.branch [
       | then-turn-eq1+in_ok-take_turn w ↦
           rw (w.first-is, w.second-is) (first_goes_on W c.args.count c.turns.done c.turns.x c.next-x.result c.turns.first c.turns.second w.take_turn.new.replica
@@ -27,4 +27,4 @@ turns-preserved c =
 
 pub returns-clause-leads : goal.returns-clause-leads
 returns-clause-leads c =
-    none_left (Leads c.args.count 1 c.args.seed c.args.first.now c.args.second.now) c.args.count c.turns.done c.turns.x c.turns.first c.turns.second c.turns-test.false c.turns.invariant.leads
+    none_left (TurnsLead c.args.count 1 c.args.seed c.args.first.now c.args.second.now) c.args.count c.turns.done c.turns.x c.turns.first c.turns.second c.turns-test.false c.turns.invariant.leads

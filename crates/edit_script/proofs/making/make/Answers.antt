@@ -1,23 +1,23 @@
 use Rattle.std.proofs.Common.{ap, refl}
 use Rattle.origin_model.specs.edits.Edits.{Add, DropSection}
-use Rattle.edit_script.specs.Commands.{command_of}
+use Rattle.edit_script.specs.Commands.{replica_command}
 use Rattle.edit_script.proofs.MakingLemmas.{made_in, unmade_in}
 use Rattle.edit_script.proofs.making.make.Goals as goal
 
 pub returns-in-Add-clause-made : goal.returns-in-Add-clause-made
 returns-in-Add-clause-made c =
-    made_in _ _ (Add c.in-Add.at c.in-Add.title) (Add c.in-Add.at c.in-Add.title) _ c.add.result (ap command_of c.in-Add.is) refl refl c.add.ensures.refused c.add.ensures.made
+    made_in _ _ (Add c.in-Add.at c.in-Add.title) (Add c.in-Add.at c.in-Add.title) _ c.add.result (ap replica_command c.in-Add.is) refl refl c.add.ensures.refused c.add.ensures.made
 
 pub returns-in-Add-clause-unmade : goal.returns-in-Add-clause-unmade
 returns-in-Add-clause-unmade c =
-    unmade_in _ _ (Add c.in-Add.at c.in-Add.title) (Add c.in-Add.at c.in-Add.title) _ c.add.result (ap command_of c.in-Add.is) refl refl c.add.ensures.refused c.add.ensures.unmade
+    unmade_in _ _ (Add c.in-Add.at c.in-Add.title) (Add c.in-Add.at c.in-Add.title) _ c.add.result (ap replica_command c.in-Add.is) refl refl c.add.ensures.refused c.add.ensures.unmade
 
 pub returns-in-DropSection-clause-made : goal.returns-in-DropSection-clause-made
 returns-in-DropSection-clause-made c =
-    made_in _ _ (DropSection c.in-DropSection.section) (DropSection c.in-DropSection.section) _ c.drop_section.result (ap command_of c.in-DropSection.is) refl refl
+    made_in _ _ (DropSection c.in-DropSection.section) (DropSection c.in-DropSection.section) _ c.drop_section.result (ap replica_command c.in-DropSection.is) refl refl
     c.drop_section.ensures.refused c.drop_section.ensures.made
 
 pub returns-in-DropSection-clause-unmade : goal.returns-in-DropSection-clause-unmade
 returns-in-DropSection-clause-unmade c =
-    unmade_in _ _ (DropSection c.in-DropSection.section) (DropSection c.in-DropSection.section) _ c.drop_section.result (ap command_of c.in-DropSection.is) refl refl
+    unmade_in _ _ (DropSection c.in-DropSection.section) (DropSection c.in-DropSection.section) _ c.drop_section.result (ap replica_command c.in-DropSection.is) refl refl
     c.drop_section.ensures.refused c.drop_section.ensures.unmade

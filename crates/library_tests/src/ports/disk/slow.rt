@@ -66,7 +66,8 @@ impl SlowDisk {
         true
     }
 
-    /// The byte at an offset. An image goes on where a byte was settled, or, but for Old, up to the last that was touched.
+    /// The byte at an offset. An image goes on where a byte was settled, or, but for Old, up to the last that was
+    /// touched.
     fn left_at(&self, offset: usize, pick: Pick) -> Option<u8> {
         let old = self.base[offset & 15];
         let new = self.seen[offset & 15].or(old);

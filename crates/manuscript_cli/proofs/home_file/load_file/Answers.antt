@@ -1,6 +1,6 @@
 use Rattle.std.proofs.Common.{◌≡◌, ap, ◌∙◌}
 use Rattle.std.specs.Prelude.{Err}
-use Rattle.replica_file.specs.declared.load_fault.LoadFault.TheVariants.{DiskFault}
+use Rattle.replica_file.specs.declared.load_file.LoadFault.TheVariants.{DiskFault}
 use Rattle.manuscript_cli.proofs.HomeFileLemmas.{loaded_so, not_loaded_so}
 use Rattle.manuscript_cli.specs.Refusal.{load_refusal}
 use Rattle.manuscript_cli.proofs.home_file.load_file.Goals as goal

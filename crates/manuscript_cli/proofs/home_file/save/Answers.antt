@@ -1,6 +1,6 @@
 use Rattle.std.proofs.Common.{◌≡◌, ap, ◌∙◌}
 use Rattle.std.specs.Prelude.{Err}
-use Rattle.replica_file.specs.declared.append_fault.AppendFault.TheVariants.{DiskFault}
+use Rattle.replica_file.specs.declared.appending.AppendFault.TheVariants.{DiskFault}
 use Rattle.manuscript_cli.proofs.HomeFileLemmas.{appended_so, not_appended_so}
 use Rattle.manuscript_cli.specs.Refusal.{append_refusal}
 use Rattle.manuscript_cli.proofs.home_file.save.Goals as goal

@@ -1,6 +1,6 @@
 use Rattle.std.proofs.Common.{ap, arith, refl, ◌∙◌}
 use Rattle.std.proofs.lemmas.Result.{err_from_is_err_and}
-use Rattle.op_frame.specs.Readers.{Reading}
+use Rattle.op_frame.specs.Readers.{FrameReading}
 use Rattle.manuscript_cli.proofs.IntakeLemmas.{fresh_counts, step_took, step_ended, fed_nothing, fed_one, fed_over, fed_stops}
 use Rattle.manuscript_cli.proofs.take_in.take_in.Goals as goal
 
@@ -8,10 +8,10 @@ pub frames-init : goal.frames-init
 frames-init g c =
     let fresh = c.in_ok-new.ensures.fresh in
     record {
-      fed = fed_nothing _ _ _ (ap (λ (r : Reading). r.unread) fresh) (ap (λ (r : Reading). r.offset) fresh) refl (fresh_counts _ c.default.ensures);
+      fed = fed_nothing _ _ _ (ap (λ (r : FrameReading). r.unread) fresh) (ap (λ (r : FrameReading). r.offset) fresh) refl (fresh_counts _ c.default.ensures);
       ready = record {
-        no_fault = ap (λ (r : Reading). r.fault) fresh;
-        limit = ap (λ (r : Reading). r.limit) fresh;
+        no_fault = ap (λ (r : FrameReading). r.fault) fresh;
+        limit = ap (λ (r : FrameReading). r.limit) fresh;
         settled = c.requires.settled;
         few = omega (arith, c.requires.few);
       };

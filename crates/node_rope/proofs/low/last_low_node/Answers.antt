@@ -1,5 +1,5 @@
 use Rattle.std.proofs.Common.{◌-◌, drop, ap, ◌∙◌}
-use Rattle.node_rope.specs.declared.side.Side.TheVariants.{Right}
+use Rattle.node_rope.specs.declared.turn.Side.TheVariants.{Right}
 use Rattle.node_rope.specs.Made.{shapes_of}
 use Rattle.node_rope.specs.Shapes.{ranks}
 use Rattle.node_rope.specs.Low.{first_low, seen_order}

@@ -1,6 +1,6 @@
 use Rattle.std.proofs.Common.{◌≡◌, drop}
 use Rattle.node_rope.specs.Made.{shapes_of}
-use Rattle.node_rope.specs.Shapes.{AreMade, number_of, ranks, tree_of}
+use Rattle.node_rope.specs.Shapes.{AreMade, link_number, ranks, tree_of}
 use Rattle.node_rope.specs.Walk.{count_of}
 use Rattle.node_rope.specs.Low.{first_low, low_from, or_else, seen_order}
 use Rattle.node_rope.proofs.low.low_node.Given as goal
@@ -13,4 +13,4 @@ invariant-down g l = record {
 }
 
 abbrev pub decreases-down : goal.decreases-down
-decreases-down g l = count_of (tree_of (shapes_of l.store)) (number_of l.cur)
+decreases-down g l = count_of (tree_of (shapes_of l.store)) (link_number l.cur)

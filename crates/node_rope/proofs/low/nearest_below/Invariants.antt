@@ -1,6 +1,6 @@
 use Rattle.std.proofs.Common.{◌≡◌}
 use Rattle.node_rope.specs.Made.{shapes_of}
-use Rattle.node_rope.specs.Shapes.{AreMade, number_of, tree_of}
+use Rattle.node_rope.specs.Shapes.{AreMade, link_number, tree_of}
 use Rattle.node_rope.specs.Walk.{count_of}
 use Rattle.node_rope.specs.Low.{low_below}
 use Rattle.node_rope.proofs.low.nearest_below.Given as goal
@@ -12,4 +12,4 @@ invariant-down g l = record {
 }
 
 abbrev pub decreases-down : goal.decreases-down
-decreases-down g l = count_of (tree_of (shapes_of l.store)) (number_of l.cur)
+decreases-down g l = count_of (tree_of (shapes_of l.store)) (link_number l.cur)

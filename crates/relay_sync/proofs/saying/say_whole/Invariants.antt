@@ -1,6 +1,6 @@
 use Rattle.std.proofs.Common.{◌-◌, ◌≤◌, length, take}
 use Rattle.std.specs.Prelude.{Ok}
-use Rattle.fugue_ids.specs.declared.failed.Failed.{Failed}
+use Rattle.fugue_ids.specs.declared.out.Failed.{Failed}
 use Rattle.relay_sync.specs.Replies.{WireRisesFor}
 use Rattle.relay_sync.specs.Saying.{SaysText}
 use Rattle.relay_sync.proofs.saying.say_whole.Given as goal

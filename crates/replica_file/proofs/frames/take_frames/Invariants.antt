@@ -1,6 +1,6 @@
 use Rattle.std.proofs.Common.{◌-◌, ◌≤◌}
 use Rattle.std.specs.Prelude.{IfSome}
-use Rattle.replica_file.specs.Loading.{IsReady, IsSame}
+use Rattle.replica_file.specs.Loading.{IsReady, IsSameButHeld}
 use Rattle.replica_file.specs.Looks.{LooksOnly}
 use Rattle.replica_file.specs.Slots.{TakesSome}
 use Rattle.replica_file.proofs.PartLemmas.{Pieces}
@@ -12,7 +12,7 @@ invariant-pieces g l = record {
   took : IfSome (g.H.Disk.seen l.fn.disk).past (λ h. TakesSome h.last.seen l.at l.len l.taken l.fn.loading.finds_place l.fn.loading.replica l.loading.finds_place l.loading.replica);
   pieces : IfSome (g.H.Disk.seen l.fn.disk).past (λ h. Pieces h.last.seen l.at l.len l.taken);
   ready : IsReady l.loading.replica;
-  same : IsSame l.fn.loading.replica l.loading.replica;
+  same : IsSameButHeld l.fn.loading.replica l.loading.replica;
   looks : LooksOnly (g.H.Disk.seen l.fn.disk) (g.H.Disk.seen l.disk) ⊥;
 }
 

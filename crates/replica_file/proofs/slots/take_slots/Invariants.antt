@@ -1,6 +1,6 @@
 use Rattle.std.proofs.Common.{◌≡◌, ◌-◌, ◌+◌, ◌*◌, ◌≤◌}
 use Rattle.std.specs.Prelude.{IfSome, true}
-use Rattle.replica_file.specs.Loading.{IsReady, IsSame}
+use Rattle.replica_file.specs.Loading.{IsReady, IsSameButHeld}
 use Rattle.replica_file.specs.Looks.{LooksOnly}
 use Rattle.replica_file.specs.Slots.{Walked}
 use Rattle.replica_file.proofs.slots.take_slots.Given as goal
@@ -12,7 +12,7 @@ invariant-slots g l = record {
   few : l.slots ≤ 4294967295;
   finds_place : l.loading.finds_place ≡ true;
   ready : IsReady l.loading.replica;
-  same : IsSame l.fn.loading.replica l.loading.replica;
+  same : IsSameButHeld l.fn.loading.replica l.loading.replica;
   looks : LooksOnly (g.H.Disk.seen l.fn.disk) (g.H.Disk.seen l.disk) ⊥;
 }
 

@@ -1,7 +1,7 @@
 use Rattle.std.proofs.Common.{ap, arith, sym, ◌∙◌}
 use Rattle.std.specs.Prelude.{Some}
 use Rattle.run_store.specs.Runs.{first_of}
-use Rattle.run_store.specs.declared.head.Head.{Head}
+use Rattle.run_store.specs.declared.cell.Head.{Head}
 use Rattle.run_store.proofs.LowLemmas.{first-from, none-from, past-end}
 use Rattle.run_store.proofs.low.first_low_of.Goals as goal
 

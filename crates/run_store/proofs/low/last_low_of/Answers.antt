@@ -1,7 +1,7 @@
 use Rattle.std.proofs.Common.{ap, arith, sym, ◌∙◌}
 use Rattle.std.specs.Prelude.{Some}
 use Rattle.run_store.specs.Runs.{first_of}
-use Rattle.run_store.specs.declared.head.Head.{Head}
+use Rattle.run_store.specs.declared.cell.Head.{Head}
 use Rattle.run_store.proofs.LowLemmas.{last-empty, last-first, last-high, last-offset}
 use Rattle.run_store.proofs.low.last_low_of.Goals as goal
 

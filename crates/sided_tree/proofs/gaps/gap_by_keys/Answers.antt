@@ -2,7 +2,7 @@ use Rattle.std.proofs.Common.{ap, refl, subst, sym, ◌∙◌}
 use Rattle.std.specs.Prelude.{None, Some}
 use Rattle.fugue_ids.specs.Keys.{between, rest_of}
 use Rattle.fugue_ids.specs.Listed.{HoldsOrigin}
-use Rattle.fugue_ids.specs.declared.gap.Gap.TheVariants.{After}
+use Rattle.fugue_ids.specs.declared.key.Gap.TheVariants.{After}
 use Rattle.origin_model.specs.sides.KeyedGap.{Falls, block_end, low_ids}
 use Rattle.sided_tree.specs.Elders.{is_elder}
 use Rattle.sided_tree.proofs.SlotLemmas.{bounds, by_elder, elder_held, element_held, fall, no_sibling, same_siblings}

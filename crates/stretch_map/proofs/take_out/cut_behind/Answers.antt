@@ -6,7 +6,7 @@ use Rattle.fugue_ids.proofs.IdentifierLemmas.{id_at-other}
 use Rattle.stretch_map.specs.Ahead.{ahead}
 use Rattle.stretch_map.specs.Contents.{Entry}
 use Rattle.stretch_map.specs.Stretches.{IsCut, kept_at, rest_behind}
-use Rattle.stretch_map.specs.declared.stretch.Stretch.{Stretch}
+use Rattle.stretch_map.specs.declared.stretches.Stretch.{Stretch}
 use Rattle.stretch_map.proofs.TakenLemmas.{cut_by}
 use Rattle.stretch_map.proofs.take_out.cut_behind.Goals as goal
 

@@ -2,7 +2,7 @@ use Rattle.std.proofs.Common.{◌≡◌, ap}
 use Rattle.std.specs.Prelude.{None}
 use Rattle.std.proofs.lemmas.Result.{err_from_is_err_and}
 use Rattle.manuscript_cli.specs.Touched.{change}
-use Rattle.edit_script.specs.declared.fault.ScriptFault.TheVariants.{ReadFault}
+use Rattle.edit_script.specs.declared.run.ScriptFault.TheVariants.{ReadFault}
 use Rattle.manuscript_cli.specs.Refusal.{script_refusal}
 use Rattle.manuscript_cli.proofs.BlameLemmas.{ends_outside, input_read}
 use Rattle.manuscript_cli.proofs.GivingLemmas.{unfinished}

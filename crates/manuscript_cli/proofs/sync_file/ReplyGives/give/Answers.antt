@@ -1,7 +1,7 @@
 use Rattle.std.proofs.Common.{ap, inr}
 use Rattle.std.specs.Prelude.{Err, None}
 use Rattle.std.proofs.lemmas.Result.{err_from_is_err_and}
-use Rattle.replica_core.specs.Keeping.{begun}
+use Rattle.replica_core.specs.Keeping.{taking_begun}
 use Rattle.manuscript_cli.specs.Touched.{change}
 use Rattle.manuscript_cli.specs.Refusal.{sync_refusal}
 use Rattle.manuscript_cli.proofs.BlameLemmas.{ends_outside}
@@ -25,7 +25,7 @@ returns-in_err-answered-clause-leaves g c home last holds end may =
         _,
         last,
         holds,
-        speaks_front c.args.self.now.port c.args.self.now.cursor (g.W.Wire.seen c.args.from.now) (g.W.Wire.seen c.sync.new.wire) (begun c.args.replica.now c.new-ops.result.items) _ _ e.wire.calm
+        speaks_front c.args.self.now.port c.args.self.now.cursor (g.W.Wire.seen c.args.from.now) (g.W.Wire.seen c.sync.new.wire) (taking_begun c.args.replica.now c.new-ops.result.items) _ _ e.wire.calm
             c.in_err-answered.field-0.0 e.err.1 (unfinished _ _ end p.1 may),
       );
       blameless = λ tells inside. e.told.calm_told tells (λ blamed. inside (ends_outside _ _ _ end p.1 p.2 may (ap sync_refusal blamed)));
@@ -34,7 +34,7 @@ returns-in_err-answered-clause-leaves g c home last holds end may =
 pub returns-clause-gives : goal.returns-clause-gives
 returns-clause-gives g c home last holds =
     let e = c.in_ok-answered.ensures in
-    let ops = reply_ops _ (begun c.args.replica.now c.new-ops.result.items) _ _ _ e.ok.hears.takes e.reply in
+    let ops = reply_ops _ (taking_begun c.args.replica.now c.new-ops.result.items) _ _ _ e.ok.hears.takes e.reply in
     rw c.put.ensures (reply_gives c.args.self.now.cursor home (change (g.W.Wire.seen c.args.from.now) (g.W.Wire.seen c.sync.new.wire)) c.args.replica.now _ _ _ _ c.new-ops.ensures.items
     c.in_ok-answered.answered.cursor ops.0 ops.1 ops.2 c.of_exchange.result c.requires.ready.settled c.of_exchange.ensures)
 
@@ -42,6 +42,6 @@ pub returns-clause-leaves : goal.returns-clause-leaves
 returns-clause-leaves g c home last holds end may =
     let e = c.in_ok-answered.ensures in
     record {
-      speaks = inr (_, last, holds, speaks_whole c.args.self.now.port c.args.self.now.cursor (g.W.Wire.seen c.args.from.now) (g.W.Wire.seen c.sync.new.wire) (begun c.args.replica.now c.new-ops.result.items) _ _ e.wire.calm _ e.ok);
+      speaks = inr (_, last, holds, speaks_whole c.args.self.now.port c.args.self.now.cursor (g.W.Wire.seen c.args.from.now) (g.W.Wire.seen c.sync.new.wire) (taking_begun c.args.replica.now c.new-ops.result.items) _ _ e.wire.calm _ e.ok);
       blameless = λ tells inside. e.told.calm_told tells (λ never. never);
     }

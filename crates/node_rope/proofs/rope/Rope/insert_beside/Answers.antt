@@ -24,9 +24,9 @@ attach-requires-clause-small g c =
 pub invariant_of-self-in-Ok : goal.invariant_of-self-in-Ok
 invariant_of-self-in-Ok g c =
     let i = c.self.inside in
-    let e = c.settle-self-inside.ensures in
-    let v = c.settle-self-inside.new.store in
-    let top = c.settle-self-inside.result in
+    let e = c.rebalance-self-inside.ensures in
+    let v = c.rebalance-self-inside.new.store in
+    let top = c.rebalance-self-inside.result in
     let node = c.in-Ok.node in
     let wt = own_of g.T.Weigh.weight_of g.T.Weigh.rank_of in
     let grown = regrown i.store c.attach.new.store v i.root top c.args.key c.own_of-own.result c.args.value node c.in-Ok.ensures.grown e in
@@ -46,9 +46,9 @@ pub returns-in-Ok-clause-placed : goal.returns-in-Ok-clause-placed
 returns-in-Ok-clause-placed g c =
     let i = c.self.inside in
     let r = c.self.invariant in
-    let e = c.settle-self-inside.ensures in
-    let v = c.settle-self-inside.new.store in
-    let top = c.settle-self-inside.result in
+    let e = c.rebalance-self-inside.ensures in
+    let v = c.rebalance-self-inside.new.store in
+    let top = c.rebalance-self-inside.result in
     let node = c.in-Ok.node in
     let wt = own_of g.T.Weigh.weight_of g.T.Weigh.rank_of in
     let link = c.in-Some.link in

@@ -1,6 +1,6 @@
 use Rattle.std.proofs.Common.{length, ap, arith, subst}
 use Rattle.node_rope.specs.Made.{shapes_of}
-use Rattle.node_rope.specs.Shapes.{number_of, tree_of}
+use Rattle.node_rope.specs.Shapes.{link_number, tree_of}
 use Rattle.node_rope.specs.Walk.{count_of}
 use Rattle.node_rope.specs.Items.{own_of}
 use Rattle.node_rope.proofs.ItemLemmas.{length-items}
@@ -12,7 +12,7 @@ pub returns-in-Some-clause-length : goal.returns-in-Some-clause-length
 returns-in-Some-clause-length g c =
     let i = c.self.inside in
     let items = length-items i.store i.root c.self.invariant.sound in
-    let root = ap (λ o. count_of (tree_of (shapes_of i.store)) (number_of o)) c.in-Some.is in
+    let root = ap (λ o. count_of (tree_of (shapes_of i.store)) (link_number o)) c.in-Some.is in
     omega (arith, items, root, ap length c.self.view_is, ap (λ h. h.count) c.shape.ensures)
 
 pub returns-in-Some-clause-distinct : goal.returns-in-Some-clause-distinct

@@ -1,7 +1,7 @@
 use Rattle.std.proofs.Common.{refl, ap, ◌∙◌, map, [], ◌∷◌, ◌++◌, length, arith}
 use Rattle.std.proofs.lemmas.List.{map-append}
 use Rattle.node_rope.specs.declared.cells.Node.{Node}
-use Rattle.node_rope.specs.Shaped.{shape_of, value_of}
+use Rattle.node_rope.specs.Shaped.{shape_of, node_value}
 use Rattle.node_rope.proofs.BoxLemmas.{lies-longer, lies-last}
 use Rattle.node_rope.proofs.FilingLemmas.{filed-had}
 use Rattle.node_rope.proofs.ListedLemmas.{filed-more}
@@ -25,7 +25,7 @@ returns-clause-made g c =
     let values = c.add.ensures.values ∙ ap (λ n. vs ++ n ∷ []) c.in-Ok.ensures.ok in
     let pair = s.pile.paired in
     let at = lies-last s.pile.moorings (c.add.result.address, c.in-Ok.boxed.alloc) s.count (omega (arith, s.counted, pair)) in
-    (ap (map shape_of) values ∙ map-append shape_of vs (w ∷ []) ∙ ap (λ h. map shape_of vs ++ h ∷ []) c.new.ensures, ap (map value_of) values ∙ map-append value_of vs (w ∷ []), s.counted, rw c.add.ensures.moorings at, ap length values ∙ lib.ListN.length-append vs (w ∷ []))
+    (ap (map shape_of) values ∙ map-append shape_of vs (w ∷ []) ∙ ap (λ h. map shape_of vs ++ h ∷ []) c.new.ensures, ap (map node_value) values ∙ map-append node_value vs (w ∷ []), s.counted, rw c.add.ensures.moorings at, ap length values ∙ lib.ListN.length-append vs (w ∷ []))
 
 pub returns-clause-kept : goal.returns-clause-kept
 returns-clause-kept g c l at = rw c.add.ensures.moorings (lies-longer c.args.self.now.pile.moorings _ l.number l.spot.address at)

@@ -1,6 +1,6 @@
 use Rattle.std.proofs.Common.{◌≡◌, ℕ, ◌-◌, suc, sym, ap, [], ◌∷◌, ◌++◌, length, subst, arith}
 use lib.ListN.{length-append}
-use Rattle.node_rope.specs.Filed.{Leads, IsFiled}
+use Rattle.node_rope.specs.Filed.{MooringsLead, IsFiled}
 use Rattle.node_rope.proofs.BoxLemmas.{end-of}
 use Rattle.node_rope.proofs.ListedLemmas.{filed-less}
 use Rattle.node_rope.proofs.store.steps.free_all.Goals as goal
@@ -11,7 +11,7 @@ take-node-requires g c =
     let pair = p.paired in
     let i = c.nodes.invariant in
     let full : length p.values ≡ suc (length p.moorings - 1) = omega (arith, pair, i.counted) in
-    let at = subst (λ (n : ℕ). Leads p.moorings c.nodes.newest n) full i.filed.last in
+    let at = subst (λ (n : ℕ). MooringsLead p.moorings c.nodes.newest n) full i.filed.last in
     let e = end-of p.moorings (length p.moorings - 1) c.nodes.newest.address (omega (arith, pair, full)) at in
     e.1
 

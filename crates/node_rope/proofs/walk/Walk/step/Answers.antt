@@ -1,7 +1,7 @@
 use Rattle.std.proofs.Common.{Option, Some, ap, arith, drop, slice_get, subst, sym, ◌∙◌}
 use Rattle.std.specs.Prelude.{option_copied, option_map}
 use Rattle.node_rope.specs.declared.cells.Link.{Link}
-use Rattle.node_rope.specs.Items.{items_of}
+use Rattle.node_rope.specs.Items.{rope_items_of}
 use Rattle.node_rope.specs.Walked.{IsNext}
 use Rattle.node_rope.proofs.ShapeLemmas.{made-below}
 use Rattle.node_rope.proofs.KeyLemmas.{value-made, value-read}
@@ -42,4 +42,4 @@ returns-clause-first g c =
 pub returns-clause-rest : goal.returns-clause-rest
 returns-clause-rest g c =
     let i = c.self.inside in
-    drop-next (items_of i.store.now i.root) i.passed ∙ ap (drop 1) c.self.view_is
+    drop-next (rope_items_of i.store.now i.root) i.passed ∙ ap (drop 1) c.self.view_is

@@ -1,5 +1,5 @@
 use Rattle.origin_model.proofs.Words.{ap, arith, place_eq, sym, ◌∙◌}
-use Rattle.origin_model.specs.declared.order.listed.Listed.{Listed}
+use Rattle.origin_model.specs.declared.order.listing.Listed.{Listed}
 use Rattle.origin_model.proofs.order.ListingLemmas.{taken_yes, taken_no, left_yes, left_no}
 use Rattle.origin_model.proofs.order.listing.end_of.Goals as goal
 use Rattle.origin_model.proofs.order.listing.end_of.Goals.{then-is_at, else-is_at}

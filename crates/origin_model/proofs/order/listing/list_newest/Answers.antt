@@ -1,5 +1,5 @@
 use Rattle.origin_model.proofs.Words.{Identifier, IsOrderedBy, List, ap, before_in, length, min, reverse, subst, sym, take, ◌∙◌, ◌≡◌}
-use Rattle.origin_model.specs.declared.order.listed.Listed.{Listed}
+use Rattle.origin_model.specs.declared.order.listing.Listed.{Listed}
 use Rattle.origin_model.specs.order.Listed.{elements_at}
 use Rattle.origin_model.proofs.order.OrderLemmas.{older-ordered}
 use Rattle.origin_model.proofs.order.ListingLemmas.{listed-kept, listed-found}

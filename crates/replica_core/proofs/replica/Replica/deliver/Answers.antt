@@ -3,7 +3,7 @@ use Rattle.fugue_ids.specs.declared.op.Op.{Op}
 use Rattle.causal_inbox.specs.Waiting.{Waiting}
 use Rattle.origin_model.specs.taking.Taking.{answer, Accepted, Full, Waits}
 use Rattle.origin_model.specs.edits.State.{State, Stands}
-use Rattle.replica_core.specs.Replica.{state_of}
+use Rattle.replica_core.specs.Replica.{replica_state}
 use Rattle.replica_core.specs.Due.{due_marks}
 use Rattle.replica_core.proofs.DecisionLemmas.{may_wait, may_wait-decided, waits_undecided}
 use Rattle.replica_core.proofs.MarkLemmas.{marks_pushed}
@@ -54,12 +54,12 @@ record Waited (s : State) (inbox : Waiting) (marks : List Bool) : Type 0 where
   marks_right : marks ≡ due_marks s.held.history inbox.ops
 
 waited : (c : goal.Joined-wait) → Waited
-    (state_of c.self.inside.number c.self.inside.hold c.self.inside.most c.self.inside.accepted c.self.inside.inbox)
+    (replica_state c.self.inside.number c.self.inside.hold c.self.inside.most c.self.inside.accepted c.self.inside.inbox)
     c.wait.new.inbox c.wait.new.due
 waited c =
     let h : List Op = c.self.inside.accepted in
     let w : List Op = c.self.inside.inbox.ops in
-    let s : State = state_of c.self.inside.number c.self.inside.hold c.self.inside.most h c.self.inside.inbox in
+    let s : State = replica_state c.self.inside.number c.self.inside.hold c.self.inside.most h c.self.inside.inbox in
     let Comes : State → Type 0 = λ x. answer x.hold x.most x.held c.args.op ≡ (if nat_eq (length x.held.waiting) x.hold then Full else Waits) in
     let comes : Comes s = subst Comes (sym c.self.view_is) c.in-Missing.ensures in
     let hold_of : Waiting → ℕ = λ i. i.hold in

@@ -1,5 +1,5 @@
 use Rattle.std.proofs.Common.{refl, subst, sym, ◌∙◌}
-use Rattle.origin_model.specs.declared.taking.tally.Tally.{Tally}
+use Rattle.origin_model.specs.declared.taking.Tally.{Tally}
 use Rattle.origin_model.specs.edits.State.{State}
 use Rattle.replica_core.specs.Told.{SettlesOrStops}
 use Rattle.replica_core.proofs.CountLemmas.{settles_here}

@@ -1,9 +1,9 @@
 use Rattle.std.proofs.Common.{ap, arith, drop, length, sym, ◌∙◌, ◌≤◌}
 use Rattle.std.specs.Prelude.{Some, slice_get}
 use Rattle.std.proofs.lemmas.List.{length-map}
-use Rattle.run_store.specs.Cells.{ids, visible_cells}
+use Rattle.run_store.specs.Cells.{cell_ids, cells_shown}
 use Rattle.run_store.specs.declared.cell.Cell.{Cell}
-use Rattle.run_store.specs.declared.head.Head.{Head}
+use Rattle.run_store.specs.declared.cell.Head.{Head}
 use Rattle.run_store.proofs.PartLemmas.{drop-drop}
 use Rattle.run_store.proofs.PlaceLemmas.{drop-all, drop-first}
 use Rattle.run_store.proofs.VisibleLemmas.{hand-behind, hand-first}
@@ -14,9 +14,9 @@ overflow_add-self c = omega (arith, c.if-self-visible_count.false, c.visible_cou
 
 pub returns-then-self-visible_count : goal.returns-then-self-visible_count
 returns-then-self-visible_count c =
-    let xs = ids (visible_cells c.self.inside.store.now.cells) in
+    let xs = cell_ids (cells_shown c.self.inside.store.now.cells) in
     let l : length xs ≤ c.self.inside.passed =
-    omega (arith, c.if-self-visible_count.true, c.visible_count.ensures, length-map (visible_cells c.self.inside.store.now.cells) (λ (z : Cell). z.id)) in
+    omega (arith, c.if-self-visible_count.true, c.visible_count.ensures, length-map (cells_shown c.self.inside.store.now.cells) (λ (z : Cell). z.id)) in
     let none = drop-all c.self.inside.passed xs l in
     record {
       first = sym (ap (λ ys. slice_get ys 0) (sym c.self.view_is ∙ none));
@@ -25,13 +25,13 @@ returns-then-self-visible_count c =
 
 pub invariant_of-self : goal.invariant_of-self
 invariant_of-self c =
-    let xs = ids (visible_cells c.self.inside.store.now.cells) in
+    let xs = cell_ids (cells_shown c.self.inside.store.now.cells) in
     let spot = c.in_ok-spot.spot in
     hand-behind xs c.self.inside.passed spot.run spot.offset c.in_ok-spot.ensures.some c.behind-self-inside.result c.behind-self-inside.ensures
 
 pub returns : goal.returns
 returns c =
-    let xs = ids (visible_cells c.self.inside.store.now.cells) in
+    let xs = cell_ids (cells_shown c.self.inside.store.now.cells) in
     let spot = c.in_ok-spot.spot in
     record {
       first =

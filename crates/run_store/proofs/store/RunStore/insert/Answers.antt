@@ -3,16 +3,16 @@ use Rattle.std.specs.Prelude.{OnOk, Option}
 use Rattle.std.specs.List.{insert}
 use Rattle.fugue_ids.specs.Listed.{index_of}
 use Rattle.fugue_ids.specs.Identifiers.{Identifier}
-use Rattle.fugue_ids.specs.declared.gap.Gap.{Gap}
-use Rattle.fugue_ids.specs.declared.gap.Gap.TheVariants.{After, Alone, Before}
+use Rattle.fugue_ids.specs.declared.key.Gap.{Gap}
+use Rattle.fugue_ids.specs.declared.key.Gap.TheVariants.{After, Alone, Before}
 use Rattle.origin_model.specs.sides.KeyedGap.{gap_index}
-use Rattle.run_store.specs.Cells.{cell_of, ids}
+use Rattle.run_store.specs.Cells.{cell_of, cell_ids}
 use Rattle.run_store.specs.Heads.{lettered}
 use Rattle.run_store.specs.NewCells.{cell_before, continues, is_continued, new_cell}
 use Rattle.run_store.specs.Runs.{cells_in}
 use Rattle.run_store.specs.Stored.{Stored}
 use Rattle.run_store.specs.declared.cell.Cell.{Cell}
-use Rattle.run_store.specs.declared.head.Head.{Head}
+use Rattle.run_store.specs.declared.cell.Head.{Head}
 use Rattle.run_store.proofs.BeginLemmas.{no-runs}
 use Rattle.run_store.proofs.CellLemmas.{cell-get}
 use Rattle.run_store.proofs.EitherLemmas.{on-ok}
@@ -20,9 +20,9 @@ use Rattle.run_store.proofs.store.RunStore.insert.Goals as goal
 
 -- the cells with a new one, by the cells and the gap as the caller sees them
 joined : (cs now : List Cell) (i : Gap → List Identifier → ℕ) (g gap : Gap) (id : Identifier) (left right : Option Identifier) (ch : ℕ) (c : Cell)
-    → cs ≡ now → gap ≡ g → c ≡ new_cell cs id left right ch → insert cs (i g (ids cs)) c ≡ insert now (i gap (ids now)) (new_cell now id left right ch)
+    → cs ≡ now → gap ≡ g → c ≡ new_cell cs id left right ch → insert cs (i g (cell_ids cs)) c ≡ insert now (i gap (cell_ids now)) (new_cell now id left right ch)
 joined cs now i g gap id left right ch c e f is =
-    ap (insert cs (i g (ids cs))) is ∙ (λ j. insert (e j) (i (sym f j) (ids (e j))) (new_cell (e j) id left right ch))
+    ap (insert cs (i g (cell_ids cs))) is ∙ (λ j. insert (e j) (i (sym f j) (cell_ids (e j))) (new_cell (e j) id left right ch))
 
 pub begin-requires-clause-held : goal.begin-requires-clause-held
 begin-requires-clause-held c =
@@ -58,10 +58,10 @@ returns-in-After-clause-ok c =
 
 -- whether a run is continued, by the same
 told : (cs now : List Cell) (g gap : Gap) (h : Head) (id : Identifier) (left right : Option Identifier) → cs ≡ now → gap ≡ g → lettered h 0 ≡ new_cell cs id left right 0
-    → continues now gap id left right ≡ is_continued (cell_before cs (gap_index g (ids cs))) h.id h.left h.right
+    → continues now gap id left right ≡ is_continued (cell_before cs (gap_index g (cell_ids cs))) h.id h.left h.right
 told cs now g gap h id left right e f is =
-    (λ j. is_continued (cell_before (sym e j) (gap_index (f j) (ids (sym e j)))) id left right)
-    ∙ (λ j. is_continued (cell_before cs (gap_index g (ids cs))) ((sym is j).id) ((sym is j).left) ((sym is j).right))
+    (λ j. is_continued (cell_before (sym e j) (gap_index (f j) (cell_ids (sym e j)))) id left right)
+    ∙ (λ j. is_continued (cell_before cs (gap_index g (cell_ids cs))) ((sym is j).id) ((sym is j).left) ((sym is j).right))
 
 pub returns-in-Before-clause-continued : goal.returns-in-Before-clause-continued
 returns-in-Before-clause-continued c =
@@ -70,7 +70,7 @@ returns-in-Before-clause-continued c =
     let h = c.new_head-head.result in
     let t = told C c.args.self.now.cells (Before c.in-Before.at) c.args.gap h c.args.id c.args.left c.args.right e c.in-Before.is (c.new_head-head.ensures.cell 0) in
     on-ok c.insert_before.result
-    (is_continued (cell_before C (index_of (ids C) c.in-Before.at)) h.id h.left h.right ≡ true → length c.insert_before.new.self.rope ≡ length c.self.inside.runs.rope)
+    (is_continued (cell_before C (index_of (cell_ids C) c.in-Before.at)) h.id h.left h.right ≡ true → length c.insert_before.new.self.rope ≡ length c.self.inside.runs.rope)
     (continues c.args.self.now.cells c.args.gap c.args.id c.args.left c.args.right ≡ true → length c.insert_before.new.self.rope ≡ c.args.self.now.runs)
     (λ f so. f (sym t ∙ so) ∙ ap (λ (s : Stored). s.runs) c.self.view_is) c.insert_before.ensures.continued
 

@@ -2,12 +2,12 @@ use Rattle.std.proofs.Common.{refl, rules, subst, sym, ◌∷◌}
 use Rattle.std.proofs.lemmas.Result.{on_err_weaker, on_ok_weaker}
 use Rattle.fugue_ids.specs.declared.op.Op.TheVariants.{Section, Text}
 use Rattle.origin_model.specs.sides.Node.{IsNew}
-use Rattle.origin_model.specs.declared.operations.place.Place.TheVariants.{Catalogue as catalogue, Section as within}
-use Rattle.section_catalogue.specs.declared.section.Section.{Section as Titled}
+use Rattle.origin_model.specs.declared.operations.Place.TheVariants.{Catalogue as catalogue, Section as within}
+use Rattle.section_catalogue.specs.declared.tables.Section.{Section as Titled}
 use Rattle.section_catalogue.specs.Changes.{AddsSection, AddsText, IsUnchanged}
 use Rattle.section_catalogue.specs.Contents.{contents_of, section_at}
 use Rattle.section_catalogue.specs.Place.{Lists}
-use Rattle.section_catalogue.specs.Manuscript.{Grows, HasHistory, Stays}
+use Rattle.section_catalogue.specs.Manuscript.{GrowsBy, HasHistory, Stays}
 use Rattle.section_catalogue.proofs.ConditionLemmas.{new_in, no_entry, no_place, ready_here, section_of}
 use Rattle.section_catalogue.proofs.GrowthLemmas.{section_stands, text_stands}
 use Rattle.section_catalogue.proofs.TextLemmas.{if_some}
@@ -44,7 +44,7 @@ returns-in-Section-clause-ok c =
     let m = contents_of c.self.inside.tables in
     let new = contents_of c.add_section.new.tables in
     on_ok_weaker c.add_section.result
-    (λ k. subst (λ z. Grows z new c.args.op.now) c.self.view_is (subst (Grows m new) (sym c.in-Section.is) (λ h s r. section_stands m new h c.in-Section.id c.in-Section.left c.in-Section.right c.in-Section.title s r k))) c.add_section.ensures.ok
+    (λ k. subst (λ z. GrowsBy z new c.args.op.now) c.self.view_is (subst (GrowsBy m new) (sym c.in-Section.is) (λ h s r. section_stands m new h c.in-Section.id c.in-Section.left c.in-Section.right c.in-Section.title s r k))) c.add_section.ensures.ok
 
 pub returns-in-Section-clause-err : goal.returns-in-Section-clause-err
 returns-in-Section-clause-err c =
@@ -82,7 +82,7 @@ returns-in-Text-clause-ok c =
     let m = contents_of c.self.inside.tables in
     let new = contents_of c.add_text.new.tables in
     on_ok_weaker c.add_text.result
-    (λ k. subst (λ z. Grows z new c.args.op.now) c.self.view_is (subst (Grows m new) (sym c.in-Text.is) (λ h s r. text_stands m new h c.in-Text.id c.in-Text.section c.in-Text.left c.in-Text.right c.in-Text.ch s r k))) c.add_text.ensures.ok
+    (λ k. subst (λ z. GrowsBy z new c.args.op.now) c.self.view_is (subst (GrowsBy m new) (sym c.in-Text.is) (λ h s r. text_stands m new h c.in-Text.id c.in-Text.section c.in-Text.left c.in-Text.right c.in-Text.ch s r k))) c.add_text.ensures.ok
 
 pub returns-in-Text-clause-err : goal.returns-in-Text-clause-err
 returns-in-Text-clause-err c =

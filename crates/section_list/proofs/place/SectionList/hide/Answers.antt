@@ -1,6 +1,6 @@
 use Rattle.std.proofs.Common.{ap, sym, ◌∙◌}
 use Rattle.origin_model.specs.sides.Node.{has_node}
-use Rattle.section_list.specs.Cells.{is_hidden}
+use Rattle.section_list.specs.Cells.{is_hidden_in_section}
 use Rattle.section_list.specs.SectionList.{with_hidden}
 use Rattle.section_list.proofs.GrowthLemmas.{cell_held, seen, seen_in_order}
 use Rattle.section_list.proofs.KeptLemmas.{kept_hidden, on_ok}
@@ -19,7 +19,7 @@ returns-clause-ok c =
 
 pub returns-clause-again : goal.returns-clause-again
 returns-clause-again c again =
-    let e = c.hide.ensures.again (sym (plain_hidden c.self.inside.store.cells c.args.id) ∙ ap (λ s. is_hidden s.cells c.args.id) c.self.view_is ∙ again) in
+    let e = c.hide.ensures.again (sym (plain_hidden c.self.inside.store.cells c.args.id) ∙ ap (λ s. is_hidden_in_section s.cells c.args.id) c.self.view_is ∙ again) in
     ap (λ t. seen c.self.inside.tree t.cells) e ∙ c.self.view_is
 
 pub returns-clause-in_order : goal.returns-clause-in_order

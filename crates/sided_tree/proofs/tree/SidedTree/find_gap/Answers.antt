@@ -1,6 +1,6 @@
 use Rattle.std.proofs.Common.{ap, subst, sym, ◌∙◌, ◌∷◌, ◌≡◌, List}
 use Rattle.fugue_ids.specs.Keys.{IsFit, Keyed, first_id, rest_of}
-use Rattle.fugue_ids.specs.declared.gap.Gap.{Gap}
+use Rattle.fugue_ids.specs.declared.key.Gap.{Gap}
 use Rattle.origin_model.specs.sides.Keys.{keyed_order}
 use Rattle.origin_model.specs.sides.Node.{AreNodes, node_order, as_ops}
 use Rattle.origin_model.specs.sides.KeyedGap.{gap_by_keys, slot_key}

@@ -1,12 +1,12 @@
 use Rattle.std.proofs.Common.{◌≡◌, ◌≤◌, ap, sym, length, subst, ◌∙◌}
-use Rattle.outer_ports.specs.disk.States.{State, IsImage, IsHonest}
+use Rattle.outer_ports.specs.disk.States.{State, IsCrashImage, IsHonest}
 use Rattle.outer_ports.specs.disk.Picks.{picked}
-use Rattle.outer_ports.specs.declared.disk.pick.Pick.{Pick}
+use Rattle.outer_ports.specs.declared.disk.mem_disk.Pick.{Pick}
 use Rattle.outer_ports.proofs.disk.ImagesLemmas.{picked_image}
 use Rattle.outer_ports.proofs.disk.kept.Kept.crash.Goals as goal
 
-image_of : (pick : Pick) (inside shown : State) → inside ≡ shown → IsHonest inside → length inside.base ≤ inside.longest → IsImage shown (picked pick shown)
-image_of pick inside shown is honest long = subst (λ s. IsImage s (picked pick s)) is (picked_image pick inside honest long)
+image_of : (pick : Pick) (inside shown : State) → inside ≡ shown → IsHonest inside → length inside.base ≤ inside.longest → IsCrashImage shown (picked pick shown)
+image_of pick inside shown is honest long = subst (λ s. IsCrashImage s (picked pick s)) is (picked_image pick inside honest long)
 
 -- what stands in memory is honest, and so is what is seen of it
 honest_of : (inside shown : State) → inside ≡ shown → IsHonest inside → IsHonest shown

@@ -3,7 +3,7 @@ use Rattle.std.proofs.lemmas.List.{append-nil}
 use Rattle.outer_ports.specs.disk.States.{State, IsHonest, tried}
 use Rattle.outer_ports.specs.disk.Moments.{History, stepped}
 use Rattle.outer_ports.specs.disk.Kept.{written_by_all}
-use Rattle.outer_ports.specs.declared.disk.step.Step.TheVariants.{Tried}
+use Rattle.outer_ports.specs.declared.disk.kept.Step.TheVariants.{Tried}
 use Rattle.outer_ports.proofs.disk.ImagesLemmas.{honest_tried}
 use Rattle.outer_ports.proofs.disk.ReplaysLemmas.{written_more, next_past, tried_is}
 use Rattle.outer_ports.proofs.disk.kept.Kept.tear.Goals as goal

@@ -2,7 +2,7 @@ use Rattle.std.proofs.Common.{◌≤◌, ◌<◌, ◌+◌, ◌-◌, [], ◌∷�
 use Rattle.outer_ports.specs.disk.States.{State, IsHonest, wrote}
 use Rattle.outer_ports.specs.disk.Moments.{History, stepped}
 use Rattle.outer_ports.specs.disk.Kept.{written_by_all}
-use Rattle.outer_ports.specs.declared.disk.step.Step.TheVariants.{Wrote}
+use Rattle.outer_ports.specs.declared.disk.kept.Step.TheVariants.{Wrote}
 use Rattle.outer_ports.proofs.disk.ImagesLemmas.{same_outside, honest_wrote}
 use Rattle.outer_ports.proofs.disk.ReplaysLemmas.{written_more, next_past, wrote_is}
 use Rattle.outer_ports.proofs.disk.kept.Kept.write.Goals as goal

@@ -1,7 +1,7 @@
 use Rattle.std.proofs.Common.{◌≡◌, ◌<◌, length, ap, sym, ◌∙◌, arith}
 use Rattle.outer_ports.specs.dock.Steps.{with_bytes, part_of, calls_for, calls_for_all}
 use Rattle.outer_ports.specs.dock.Arrivals.{from, step_at, coming_of}
-use Rattle.outer_ports.specs.declared.dock.mem_step.MemStep.{MemStep}
+use Rattle.outer_ports.specs.declared.dock.mem_dock.MemStep.{MemStep}
 use Rattle.outer_ports.proofs.dock.StepsLemmas.{coming_long, step_is, gives_next, fewer_calls}
 use Rattle.outer_ports.proofs.dock.arrivals.Arrivals.take.Goals as goal
 

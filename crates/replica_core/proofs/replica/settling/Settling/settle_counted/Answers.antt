@@ -1,6 +1,6 @@
 use Rattle.std.proofs.Common.{◌∙◌, ap}
 use Rattle.std.specs.Prelude.{Some}
-use Rattle.replica_core.specs.declared.settled.Settled.{Settled}
+use Rattle.replica_core.specs.declared.replica.Settled.{Settled}
 use Rattle.replica_core.proofs.CountLemmas.{told_joined, told_dropped}
 use Rattle.replica_core.proofs.replica.settling.Settling.settle_counted.Goals as goal
 

@@ -4,9 +4,9 @@ use Rattle.fugue_ids.specs.declared.op.Op.{Op}
 use Rattle.causal_inbox.specs.Waiting.{Waiting}
 use Rattle.origin_model.specs.taking.Taking.{Held, IsSettled}
 use Rattle.origin_model.specs.edits.State.{State}
-use Rattle.replica_core.specs.Replica.{state_of}
+use Rattle.replica_core.specs.Replica.{replica_state}
 use Rattle.replica_core.specs.Told.{JoinsNext, Settles}
-use Rattle.replica_core.specs.declared.settled.Settled.TheVariants.{Accepted, DroppedStray}
+use Rattle.replica_core.specs.declared.replica.Settled.TheVariants.{Accepted, DroppedStray}
 use Rattle.replica_core.proofs.MarkLemmas.{first_due, due_position, marks_left}
 use Rattle.replica_core.proofs.StepLemmas.{none_left}
 use Rattle.replica_core.proofs.StepStandingLemmas.{IsStep, accepted_step, dropped_step, joins_next}
@@ -47,12 +47,12 @@ returns-in_default-accept-clause-wanting c =
 
 -- the step of an operation that was Ready, before the others are woken
 joins : (c : goal.After-wake-arg-in-Ready-2-1) → IsStep
-    (state_of c.self.inside.number c.self.inside.hold c.self.inside.most c.self.inside.accepted c.self.inside.inbox)
+    (replica_state c.self.inside.number c.self.inside.hold c.self.inside.most c.self.inside.accepted c.self.inside.inbox)
     (record { history = c.accept.new.self; waiting = c.leave-op.new.inbox.ops }) (Accepted c.leave-op.result)
 joins c =
     let h : List Op = c.self.inside.accepted in
     let w : List Op = c.self.inside.inbox.ops in
-    let s : State = state_of c.self.inside.number c.self.inside.hold c.self.inside.most h c.self.inside.inbox in
+    let s : State = replica_state c.self.inside.number c.self.inside.hold c.self.inside.most h c.self.inside.inbox in
     accepted_step s c.self.inside.inbox c.leave-op.new.inbox c.in-Some.position c.op_at-op.result.now c.leave-op.result c.accept.new.self
     refl (due_position h w c.self.inside.due c.first.result c.in-Some.position c.self.invariant.marks c.first.ensures.first c.in-Some.is) c.op_at-op.ensures
     (sym c.verdict.ensures ∙ c.in-Ready.is)
@@ -71,10 +71,10 @@ wake-requires-clause-own_ids c = (joins c).stands.own_ids
 
 -- the step of an operation that was Ready
 joined : (c : goal.After-wake) → IsStep
-    (state_of c.self.inside.number c.self.inside.hold c.self.inside.most c.self.inside.accepted c.self.inside.inbox)
+    (replica_state c.self.inside.number c.self.inside.hold c.self.inside.most c.self.inside.accepted c.self.inside.inbox)
     (record { history = c.accept.new.self; waiting = c.leave-op.new.inbox.ops }) (Accepted c.leave-op.result)
 joined c =
-    let s : State = state_of c.self.inside.number c.self.inside.hold c.self.inside.most c.self.inside.accepted c.self.inside.inbox in
+    let s : State = replica_state c.self.inside.number c.self.inside.hold c.self.inside.most c.self.inside.accepted c.self.inside.inbox in
     let position = due_position c.self.inside.accepted c.self.inside.inbox.ops c.self.inside.due c.first.result c.in-Some.position c.self.invariant.marks c.first.ensures.first c.in-Some.is in
     accepted_step s c.self.inside.inbox c.leave-op.new.inbox c.in-Some.position c.op_at-op.result.now c.leave-op.result c.accept.new.self
     refl position c.op_at-op.ensures
@@ -98,12 +98,12 @@ returns-in-Ok-clause-stands c = (joined c).stands
 
 -- the step of an operation that was stray
 dropped : (c : goal.After-leave-op-in_default-verdict) → IsStep
-    (state_of c.self.inside.number c.self.inside.hold c.self.inside.most c.self.inside.accepted c.self.inside.inbox)
+    (replica_state c.self.inside.number c.self.inside.hold c.self.inside.most c.self.inside.accepted c.self.inside.inbox)
     (record { history = c.self.inside.accepted; waiting = c.leave-op-in_default-verdict.new.inbox.ops }) (DroppedStray c.leave-op-in_default-verdict.result)
 dropped c =
     let h : List Op = c.self.inside.accepted in
     let w : List Op = c.self.inside.inbox.ops in
-    let s : State = state_of c.self.inside.number c.self.inside.hold c.self.inside.most h c.self.inside.inbox in
+    let s : State = replica_state c.self.inside.number c.self.inside.hold c.self.inside.most h c.self.inside.inbox in
     dropped_step s c.self.inside.inbox c.leave-op-in_default-verdict.new.inbox c.in-Some.position c.op_at-op.result.now c.leave-op-in_default-verdict.result
     refl (due_position h w c.self.inside.due c.first.result c.in-Some.position c.self.invariant.marks c.first.ensures.first c.in-Some.is) c.op_at-op.ensures
     (λ ready. c.in_default-verdict.not-Ready (c.verdict.ensures ∙ ready))

@@ -1,5 +1,0 @@
-use Rattle.node_rope.proofs.RiseLemmas.{rearranged-trans}
-use Rattle.node_rope.proofs.balance.settle.Goals as goal
-
-pub returns : goal.returns
-returns g c = rearranged-trans c.sink-top.ensures c.restore_above.ensures

@@ -1,5 +1,0 @@
-/// Want of memory, with the value handed back.
-#[derive(Drop)]
-pub struct Back<T> {
-    pub value: T,
-}

@@ -1,5 +1,0 @@
-use Rattle.outer_ports.proofs.disk.ImagesLemmas.{sync_brings_none}
-use Rattle.outer_ports.proofs.disk.laws.sync_brings_none.Goals as goal
-
-pub returns : goal.returns
-returns c = sync_brings_none

@@ -1,4 +1,0 @@
-use fugue_ids::Out;
-
-/// Where a program's bytes go to.
-pub trait Sink: Out {}

@@ -1,5 +1,0 @@
-use Rattle.replica_file.proofs.ImageLemmas.{has_one_image}
-use Rattle.replica_file.proofs.law.one_image.Goals as goal
-
-pub returns : goal.returns
-returns c = has_one_image
