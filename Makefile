@@ -11,11 +11,9 @@ run: bin/manuscript
 	bin/manuscript show < samples/two_authors.frames
 	folder=$$(mktemp -d) && cd "$$folder" && PATH="$(CURDIR)/bin:$$PATH" sh -ev "$(CURDIR)/samples/two_authors.sh" && rm -r "$$folder"
 
-# The program proves as it is built; an empty stream prints nothing.
+# The program is proved as it is built.
 bin/manuscript: $(SOURCES)
 	RT="$(RT)" .ci/build
-	mkdir -p bin
-	install -m 755 crates/manuscript/out/manuscript $@
 
 # The gate: every proof, every edit that must fail, every test and every program.
 test:
