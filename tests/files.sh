@@ -141,6 +141,8 @@ try 'a folder' nothing 4 '' "$outside" print "$work"
 because "manuscript: $work: a directory, and no file"
 try 'the other file is not there' nothing 4 '' "$outside" merge "$f" "$work/none"
 because "manuscript: $work/none: no such file (manuscript new makes one)"
+try 'a folder that is not there' nothing 4 '' "$outside" new "$work/no/file" 1 16
+because "manuscript: $work/no/file: not a directory"
 mkfifo "$work/pipe"
 for command in print send edit take; do
     timeout 10 "$program" "$command" "$work/pipe" <"$work/nothing" >"$work/output" 2>"$work/notes"

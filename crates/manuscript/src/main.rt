@@ -6,7 +6,7 @@ use outer_ports::{FileDisk, Opening, StdSink, StdSource, TcpDock, TcpWire, tell_
 use std::env;
 use std::fs::{self, File, OpenFile, OpenOptions};
 use std::hash::RandomState;
-use std::io::{self, Write};
+use std::io::{self, ErrorKind, Write};
 use std::process::ExitCode;
 use std::rt::Env;
 use usage::usage_of;
@@ -35,6 +35,15 @@ fn open_root(rt: &HostRuntime) -> io::Result<File> {
     OpenOptions::new().read(true).open(rt, "/")
 }
 
+/// Where a new file is made and none is found, its folder is wanting.
+fn cause_of(error: io::Error, opening: Opening) -> io::Error {
+    if opening == Opening::Creating && error.kind() == ErrorKind::NotFound {
+        io::Error::from(ErrorKind::NotADirectory)
+    } else {
+        error
+    }
+}
+
 /// Opens the file, where there is one. Where the system refuses, it says why.
 fn open_file(rt: &HostRuntime, path: Option<&str>, opening: Opening) -> FileDisk {
     let Some(path) = path else {
@@ -43,7 +52,12 @@ fn open_file(rt: &HostRuntime, path: Option<&str>, opening: Opening) -> FileDisk
     match FileDisk::open(rt, path, opening) {
         Ok(disk) => disk,
         Err(error) => {
-            tell_cause(rt.alloc(), &mut rt.stderr(), path, &error);
+            tell_cause(
+                rt.alloc(),
+                &mut rt.stderr(),
+                path,
+                &cause_of(error, opening),
+            );
             FileDisk::closed()
         }
     }
@@ -90,7 +104,7 @@ fn run_on_process(rt: &HostRuntime, names: usize) -> Status {
     let mut notes = StdSink::new(rt.stderr());
     let words = match words(rt, names) {
         Ok(words) => words,
-        Err(error) if error.kind() == io::ErrorKind::OutOfMemory => {
+        Err(error) if error.kind() == ErrorKind::OutOfMemory => {
             return tell(&mut notes, Refusal::NoMemory);
         }
         // A word that is not UTF-8: no command has such words.
