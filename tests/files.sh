@@ -154,12 +154,13 @@ compare 'a pipe as the other file' $? 4 '' "$outside"
 because "manuscript: $work/pipe: no regular file"
 timeout 10 "$program" new "$work/pipe" 1 16 </dev/null >"$work/output" 2>"$work/notes"
 compare 'a pipe is not made a file' $? 4 '' "$outside"
+# Where no file may grow, the notes cannot be written either.
 bash -c 'trap "" XFSZ; ulimit -f 0; exec "$0" new "$1" 1 16' "$program" "$work/unfinished" </dev/null >"$work/output" 2>"$work/notes"
-compare 'a file that cannot be written' $? 4 '' "$outside"
+compare 'a file that cannot be written' $? 4 '' ''
 check 'is not left behind' [ ! -e "$work/unfinished" ]
 : >"$work/unfinished"
 bash -c 'trap "" XFSZ; ulimit -f 0; exec "$0" new "$1" 1 16' "$program" "$work/unfinished" </dev/null >"$work/output" 2>"$work/notes"
-compare 'an empty file that was there' $? 4 '' "$outside"
+compare 'an empty file that was there' $? 4 '' ''
 check 'stays' [ -e "$work/unfinished" ]
 try 'the greatest replica' nothing 0 '' '' new "$work/greatest" 4294967295 1048576
 
