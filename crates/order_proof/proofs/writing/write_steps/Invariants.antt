@@ -1,0 +1,9 @@
+use Rattle.std.proofs.Common.{take}
+use Rattle.std.specs.Prelude.{Ok, flat_map}
+use Rattle.fugue_ids.specs.Outs.{WritesBytes}
+use Rattle.fugue_ids.specs.declared.out.Failed.{Failed}
+use Rattle.order_proof.specs.Texts.{step_text}
+use Rattle.order_proof.proofs.writing.write_steps.Given as goal
+
+abbrev pub invariant-steps : goal.invariant-steps
+invariant-steps g l = WritesBytes {E = Failed} {T = Unit {0}} (g.O.Out.seen l.initial.out) (g.O.Out.seen l.out) (Ok tt) (flat_map step_text (take l.step-index l.steps))

@@ -1,0 +1,6 @@
+pub mod Certificates
+pub mod Laws
+pub mod Texts
+pub mod Chains
+pub mod Checks
+pub mod Making

@@ -1,0 +1,89 @@
+-- The text of a certificate, in lines of a word and identifiers.
+use Rattle.std.specs.Prelude.{◌≡◌, ℕ, ◌<◌, ◌^◌, List, [], ◌∷◌, ◌++◌, All, map, flat_map, codes, decimal}
+use Rattle.fugue_ids.specs.Identifiers.{Identifier}
+use Rattle.order_proof.specs.declared.step.Reason.{Reason}
+use Rattle.order_proof.specs.declared.step.Reason.TheVariants.{Prefix, Inner, End, Later, Tie}
+use Rattle.order_proof.specs.declared.step.Step.{Step}
+use Rattle.order_proof.specs.Certificates.{Certificate}
+
+-- the words with which lines begin
+pub data Word : Type 0 where
+  claim : Word
+  down : Word
+  right : Word
+  prefix : Word
+  inner : Word
+  end : Word
+  later : Word
+  tie : Word
+
+abbrev pub word_text : Word → List ℕ
+word_text claim = codes "claim"
+word_text down = codes "down"
+word_text right = codes "right"
+word_text prefix = codes "prefix"
+word_text inner = codes "inner"
+word_text end = codes "end"
+word_text later = codes "later"
+word_text tie = codes "tie"
+
+pub record Line : Type 0 where
+  pub word : Word
+  pub ids : List Identifier
+
+-- replica, a dot, counter
+abbrev pub id_text : Identifier → List ℕ
+id_text id = decimal id.replica ++ 46 ∷ decimal id.counter
+
+-- a word, each identifier behind a space, LF
+abbrev pub worded : List ℕ → List Identifier → List ℕ
+worded word ids = word ++ (flat_map (λ id. 32 ∷ id_text id) ids ++ 10 ∷ [])
+
+abbrev pub line_text : Line → List ℕ
+line_text l = worded (word_text l.word) l.ids
+
+abbrev pub line : Word → List Identifier → Line
+line word ids = record { word = word; ids = ids }
+
+abbrev pub reason_line : Reason → Line
+reason_line Prefix = line prefix []
+reason_line Inner = line inner []
+reason_line End = line end []
+reason_line (Later p q) = line later (p ∷ q ∷ [])
+reason_line Tie = line tie []
+
+-- the lines of a step before its reason: its claim, and the chains that show it; a step by Prefix has one
+abbrev pub chain_lines : Step → Reason → List Line
+chain_lines s Prefix = line claim (s.x ∷ s.y ∷ []) ∷ line down s.down_y ∷ []
+chain_lines s reason =
+    line claim (s.x ∷ s.y ∷ []) ∷ line down s.down_x ∷ line down s.down_y ∷ line right s.right_x ∷ line right s.right_y ∷ []
+
+abbrev pub step_lines : Step → List Line
+step_lines s = chain_lines s s.reason ++ reason_line s.reason ∷ []
+
+abbrev pub lines : Certificate → List Line
+lines [] = []
+lines (s ∷ more) = step_lines s ++ lines more
+
+-- the text of a step, as it is written: its reason goes last
+abbrev pub step_text : Step → List ℕ
+step_text s = flat_map line_text (chain_lines s s.reason) ++ line_text (reason_line s.reason)
+
+abbrev pub proof_text : Certificate → List ℕ
+proof_text c = flat_map line_text (lines c)
+
+-- a step without the chains that its text leaves out
+abbrev pub told_by : Step → Reason → Step
+told_by s Prefix = record { x = s.x; y = s.y; down_x = []; down_y = s.down_y; right_x = []; right_y = []; reason = Prefix }
+told_by s reason = s
+
+abbrev pub told : Step → Step
+told s = told_by s s.reason
+
+-- both numbers are of 32 bits
+abbrev pub IsNarrow : Identifier → Type 0
+IsNarrow id = (id.replica < 2 ^ 32) × (id.counter < 2 ^ 32)
+
+-- all numbers that the text tells are of 32 bits
+abbrev pub AllNarrow : Certificate → Type 0
+AllNarrow c = All (λ (l : Line). All IsNarrow l.ids) (lines c)
