@@ -2,7 +2,8 @@
 
 ghost use Rattle.std.specs.Prelude.{◌≡◌, reverse, IfOk, None};
 ghost use Rattle.origin_model.specs.order.Order.{chain as chain_by, lefts, rights};
-ghost use Rattle.order_proof.specs.Chains.{ends_with, is_down as is_down_in, links, next_of, right_above as right_above_in};
+ghost use Rattle.order_proof.specs.Chains.{next_of, ends_with, is_down as is_down_in};
+ghost use Rattle.order_proof.specs.Chains.{links, right_above as right_above_in};
 
 use crate::look_ups::{has_left, left_at, left_of, right_at, right_of};
 use fugue_ids::{ElementId, Op};

@@ -98,13 +98,13 @@ fn prefix_step(
 ) -> Result<Step, AllocError>
     ensures { IfOk result (λ step. step
         ≡ record {
-            x = x;
-            y = y;
-            down_x = [];
-            down_y = x ∷ rest.now;
-            right_x = [];
-            right_y = [];
-            reason = Prefix;
+          x = x;
+          y = y;
+          down_x = [];
+          down_y = x ∷ rest.now;
+          right_x = [];
+          right_y = [];
+          reason = Prefix;
         }) }
 {
     Ok(Step {
@@ -128,14 +128,14 @@ fn sibling_step(
 ) -> Result<Step, AllocError>
     ensures { IfOk result (λ step. step
         ≡ record {
-            x = claim.0;
-            y = claim.1;
-            down_x = downs.0;
-            down_y = downs.1;
-            right_x = rights (reverse ops.now) siblings.0;
-            right_y = rights (reverse ops.now) siblings.1;
-            reason = reason_between_in (reverse ops.now)
-                (rights (reverse ops.now) siblings.0) (rights (reverse ops.now) siblings.1);
+          x = claim.0;
+          y = claim.1;
+          down_x = downs.0;
+          down_y = downs.1;
+          right_x = rights (reverse ops.now) siblings.0;
+          right_y = rights (reverse ops.now) siblings.1;
+          reason = reason_between_in (reverse ops.now)
+              (rights (reverse ops.now) siblings.0) (rights (reverse ops.now) siblings.1);
         }) }
 {
     let (x, y) = claim;

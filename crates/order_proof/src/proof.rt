@@ -3,8 +3,8 @@ ghost use Rattle.std.specs.Prelude.{◌≡◌, ◌≢◌, []};
 use crate::Step;
 use std::marker::Model;
 
-/// A certificate that one element stands before another. It is seen as the list of its steps: there is at least one, and
-/// the first one's claim is what the certificate is for.
+/// A certificate that one element stands before another. It is seen as the list of its steps. There is at least one,
+/// and the first claims what the certificate is for.
 #[derive(Debug, Drop)]
 pub struct Proof {
     steps: Vec<Step>,

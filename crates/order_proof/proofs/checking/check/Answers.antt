@@ -7,4 +7,4 @@ use Rattle.order_proof.proofs.checking.check.Goals as goal
 pub returns : goal.returns
 returns c =
     let h = reverse c.args.ops.now in
-    subst (λ b. (b ≡ true) ↔ IsValid h c.args.proof.now) (sym (c.passes.ensures ∙ ap (test h) c.as_slice.ensures)) (tested h c.requires.lawful c.args.proof.now)
+    record { valid = subst (λ b. (b ≡ true) ↔ IsValid h c.args.proof.now) (sym (c.passes.ensures ∙ ap (test h) c.as_slice.ensures)) (tested h c.requires.lawful c.args.proof.now) }
