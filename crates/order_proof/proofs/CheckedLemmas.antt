@@ -6,14 +6,11 @@ use Rattle.std.proofs.lemmas.Bool.{and_from, and_parts, cases_Bool, false≢true
 use Rattle.std.proofs.lemmas.List.{append-nil, same_from_push}
 use Rattle.std.proofs.lemmas.List.Elements.{All-contains}
 use Rattle.fugue_ids.specs.Identifiers.{Identifier, id_eq, id_lt, origin_eq}
-use Rattle.fugue_ids.specs.Ops.{id_of}
 use Rattle.fugue_ids.specs.declared.op.Op.{Op}
-use Rattle.fugue_ids.specs.declared.op.Op.TheVariants.{Delete, Section, Text}
 use Rattle.fugue_ids.proofs.IdentifierLemmas.{id_eq-false, id_eq-refl, id_eq-true, ne-id_eq, not_some, origin_eq-refl, origin_eq-true}
 use Rattle.fugue_ids.proofs.ListLemmas.{contains_middle}
 use Rattle.origin_model.specs.declared.operations.Place.{Place}
-use Rattle.origin_model.specs.declared.operations.Place.TheVariants.{Catalogue as catalogue, Section as within}
-use Rattle.origin_model.specs.operations.History.{element_of, holder, place, place_eq}
+use Rattle.origin_model.specs.operations.History.{holder, place, place_eq}
 use Rattle.origin_model.specs.operations.Verdict.{Lawful}
 use Rattle.origin_model.specs.order.Laws.{IsIn}
 use Rattle.origin_model.specs.order.Order.{left_at, lefts, next_left, next_right, right_at, right_beside, rights}

@@ -1,5 +1,5 @@
 -- Elements that stand one before the other in the order of a place.
-use Rattle.std.proofs.Common.{arith, get_or, length, ℕ, ◌<◌}
+use Rattle.std.proofs.Common.{List, arith, get_or, length, ℕ, ◌<◌}
 use Rattle.std.proofs.lemmas.List.Elements.{Contains-get_or}
 use Rattle.fugue_ids.specs.Identifiers.{Identifier}
 use Rattle.fugue_ids.specs.declared.op.Op.{Op}

@@ -1,5 +1,5 @@
 -- The text of a certificate, in lines of a word and identifiers.
-use Rattle.std.specs.Prelude.{◌≡◌, ℕ, ◌<◌, ◌^◌, List, [], ◌∷◌, ◌++◌, All, map, flat_map, codes, decimal}
+use Rattle.std.specs.Prelude.{ℕ, ◌<◌, ◌^◌, List, [], ◌∷◌, ◌++◌, All, flat_map, codes, decimal}
 use Rattle.fugue_ids.specs.Identifiers.{Identifier}
 use Rattle.order_proof.specs.declared.step.Reason.{Reason}
 use Rattle.order_proof.specs.declared.step.Reason.TheVariants.{Prefix, Inner, End, Later, Tie}

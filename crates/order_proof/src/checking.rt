@@ -32,7 +32,7 @@ fn by_origins(ops: &[Op], c: ElementId, d: ElementId, reason: Reason) -> bool
     let other = right_at(ops, d);
     match reason {
         Reason::End => one.is_none() && other.is_some(),
-        Reason::Later(p, q) => one == Some(p) && (other == Some(q) && p != q),
+        Reason::Later(p, q) => one == Some(p) && other == Some(q) && p != q,
         Reason::Tie => one == other && c < d,
         Reason::Prefix | Reason::Inner => false,
     }
@@ -78,8 +78,9 @@ fn are_siblings(
     match (down_x.first(), down_y.first()) {
         (Some(a), Some(b)) => {
             *a != *b
-                && (left_at(ops, *a) == left_at(ops, *b)
-                    && (is_rights(ops, *a, right_x) && is_rights(ops, *b, right_y)))
+                && left_at(ops, *a) == left_at(ops, *b)
+                && is_rights(ops, *a, right_x)
+                && is_rights(ops, *b, right_y)
         }
         _ => false,
     }
@@ -91,8 +92,9 @@ fn holds_at_siblings(ops: &[Op], step: &Step) -> bool
     let (down_x, down_y) = (step.down_x.as_slice(), step.down_y.as_slice());
     let (right_x, right_y) = (step.right_x.as_slice(), step.right_y.as_slice());
     are_siblings(ops, down_x, down_y, right_x, right_y)
-        && (is_down(ops, step.x, down_x)
-            && (is_down(ops, step.y, down_y) && by_chains(ops, step.reason, right_x, right_y)))
+        && is_down(ops, step.x, down_x)
+        && is_down(ops, step.y, down_y)
+        && by_chains(ops, step.reason, right_x, right_y)
 }
 
 fn begins_with(x: ElementId, chain: &[ElementId]) -> bool
@@ -106,9 +108,10 @@ fn holds_by_prefix(ops: &[Op], step: &Step) -> bool
 {
     let down_y = step.down_y.as_slice();
     begins_with(step.x, down_y)
-        && (is_down(ops, step.y, down_y)
-            && (step.down_x.as_slice().is_empty()
-                && (step.right_x.as_slice().is_empty() && step.right_y.as_slice().is_empty())))
+        && is_down(ops, step.y, down_y)
+        && step.down_x.as_slice().is_empty()
+        && step.right_x.as_slice().is_empty()
+        && step.right_y.as_slice().is_empty()
 }
 
 fn holds(ops: &[Op], step: &Step) -> bool

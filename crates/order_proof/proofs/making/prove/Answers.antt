@@ -1,5 +1,4 @@
-use Rattle.std.proofs.Common.{[], reverse, subst, sym, ◌≡◌, ◌∙◌}
-use Rattle.origin_model.specs.operations.Verdict.{Lawful}
+use Rattle.std.proofs.Common.{reverse, subst, sym, ◌∙◌}
 use Rattle.order_proof.specs.Certificates.{Claims, IsValid}
 use Rattle.order_proof.proofs.MadeLemmas.{made_before}
 use Rattle.order_proof.proofs.making.prove.Goals as goal
