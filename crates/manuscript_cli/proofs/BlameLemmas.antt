@@ -1,9 +1,7 @@
 -- A count of faults that rises is told by an outside fault, where the object tells: what a giver's answer leads to.
-use Rattle.std.proofs.Common.{◌≡◌, ◌≢◌, [], ap, refl, subst, sym, ◌∙◌}
-use Rattle.std.specs.Prelude.{Err, IfSome, IsErrOf, IsSome, None, Option, Result, Some}
+use Rattle.std.proofs.Common.{◌≡◌, ◌≢◌, [], ap, ◌∙◌}
+use Rattle.std.specs.Prelude.{Err, IfSome, IsErrOf, Result}
 use Rattle.outer_ports.specs.Sources.{KeepsCount, SourceView}
-use Rattle.outer_ports.specs.disk.Moments.{History, after}
-use Rattle.outer_ports.specs.disk.States.{durable}
 use Rattle.manuscript_cli.specs.Crashes.{IsFinished}
 use Rattle.manuscript_cli.specs.Giving.{MayEnd}
 use Rattle.manuscript_cli.specs.Refusal.{status_of}
@@ -18,15 +16,6 @@ use Rattle.manuscript_cli.specs.declared.status.Status.TheVariants as status
 -- a refusal that ends otherwise blames nothing outside
 pub not_blamed : {T : Type 0} (why : Refusal) → status_of why ≢ status.OutsideFault → IsErrOf {T = T} (Err why) refusal.Outside → ⊥
 not_blamed why inside is = let outside : why ≡ refusal.Outside = cc is in inside (ap status_of outside)
-
--- the refusal of one answer is that of another
-pub still_not_blamed : {T U : Type 0} (why : Refusal) → (IsErrOf {T = T} (Err why) refusal.Outside → ⊥) → IsErrOf {T = U} (Err why) refusal.Outside → ⊥
-still_not_blamed why not is = let outside : why ≡ refusal.Outside = cc is in not (ap Err outside)
-
--- a file that was settled tells as before
-pub settled_tells : (old new : Option History) → new ≡ after durable old → IsSome old → IsSome new
-settled_tells None new is some = cc some
-settled_tells (Some h) new is some = subst (λ (o : Option History). IsSome o) (sym is) refl
 
 -- a command whose giver blamed the outside ends with an outside fault
 pub ends_outside : (answer : Result Note Refusal) (given why : Refusal) (end : Status) → answer ≡ Err given → given ≡ why → MayEnd answer end → why ≡ refusal.Outside → end ≡ status.OutsideFault

@@ -201,12 +201,6 @@ still_tells port old new idle tells = record {
 -- what rose while a port was listened on and served
 module _ (port : ℕ) (output : Change OutView) (dock : Change DockView) (second : DockView) (idle : IsIdle (listening port dock.old) second)
     (opened : RiseOutside {T = Unit {0}} output (change dock.old second) (Ok tt)) where
-  pub served_told : (logged : ℕ) → DockRisesFor ⊥ second dock.new → RiseOutside output dock (Ok logged)
-  served_told logged rises = record {
-    of_output = λ tells not. opened.of_output tells (λ is. cc is);
-    of_dock = λ tells not. rises.calm_told (still_tells port dock.old second idle tells) (λ blamed. blamed) ∙ opened.of_dock tells (λ is. cc is);
-  }
-
   pub stopped_told : (fault : ServeFault) → DockRisesFor (fault ≡ serve_fault.DockFault) second dock.new → RiseOutside {T = ℕ} output dock (Err (serve_refusal fault))
   stopped_told fault rises = record {
     of_output = λ tells not. opened.of_output tells (λ is. cc is);

@@ -1,5 +1,5 @@
 -- From what a load and what was given come to, to what a command that saves comes to.
-use Rattle.std.proofs.Common.{◌≡◌, inl, inr, refl, ap, sym, subst, arith, ◌∙◌}
+use Rattle.std.proofs.Common.{◌≡◌, inl, inr, ap, sym, subst, arith, ◌∙◌}
 use Rattle.std.specs.Prelude.{◌⊎◌, Result, Ok, Err}
 use Rattle.outer_ports.specs.disk.Disks.{DiskView}
 use Rattle.outer_ports.specs.disk.Moments.{after}
@@ -9,10 +9,10 @@ use Rattle.replica_file.proofs.HonestLemmas.{settled_honest}
 use Rattle.replica_file.specs.Append.{IsTooLong, behind_gate}
 use Rattle.replica_file.specs.Gates.{gate_opened}
 use Rattle.replica_file.specs.declared.load_file.End.{End}
-use Rattle.manuscript_cli.specs.Files.{AppendFailed, FileRefuses, IsAppended, IsLoaded, KeepsFile, LoadMeets, SaveMeets}
+use Rattle.manuscript_cli.specs.Files.{AppendFailed, FileRefuses, IsAppended, IsLoaded, KeepsFile}
 use Rattle.manuscript_cli.specs.Findings.{Refuses, Does}
 use Rattle.manuscript_cli.specs.Saving.{ComesToSave, GivenMeets, Giver, IsDone, Outcome, SaveFailed, SavingFound, StopsSaving, Suffices}
-use Rattle.manuscript_cli.specs.Touched.{Change, change}
+use Rattle.manuscript_cli.specs.Touched.{change}
 use Rattle.manuscript_cli.specs.declared.refusal.Refusal.{Refusal}
 use Rattle.manuscript_cli.specs.declared.refusal.Refusal.TheVariants as refusal
 use Rattle.manuscript_cli.proofs.SavedLemmas.{calm_so, gains_so, later_so, saved_so, with_room}
@@ -83,32 +83,3 @@ module _ (giver : Giver) (a b c : DiskView) (replica : Replica) (end : End) (loa
   pub given_comes : (result : Result Outcome Refusal) → GivenMeets giver replica end (change b c) result → ComesToSave giver (change a c) result
   given_comes (Ok outcome) given = done_so outcome given.0 given.1 given.2
   given_comes (Err why) given = stops_so why given
-
--- an outcome that was not saved
-pub not_saved : (giver : Giver) (replica : Replica) (end : End) (file : Change DiskView) (outcome : Outcome) → giver.Gives replica (Does outcome) → (why : Refusal) → SaveMeets end outcome.saved file (Err why)
-    → GivenMeets giver replica end file (Err why)
-not_saved giver replica end file outcome gives refusal.Outside fails = inr (outcome, gives, fails)
-not_saved giver replica end file outcome gives refusal.NoMemory same = same
-not_saved giver replica end file outcome gives refusal.BatchTooLong meets = (inr (refl, outcome, gives, meets.0), meets.1)
-not_saved giver replica end file outcome gives _ meets = absurd meets
-
--- the file was not loaded
-pub load_stops : (giver : Giver) (file : Change DiskView) (why : Refusal) → LoadMeets file (Err why) → ComesToSave giver file (Err why)
-load_stops giver file refusal.Outside fails = inl fails
-load_stops giver file refusal.NoMemory keeps = keeps
-load_stops giver file refusal.Words stops = stops.0
-load_stops giver file (refusal.BadFrame offset) stops = absurd stops.0
-load_stops giver file (refusal.CutShort offset) stops = absurd stops.0
-load_stops giver file (refusal.BadLine line) stops = absurd stops.0
-load_stops giver file (refusal.NoSection line) stops = absurd stops.0
-load_stops giver file (refusal.OutOfRange line) stops = absurd stops.0
-load_stops giver file refusal.NotReplica stops = (inl stops.0, stops.1, inl stops.0)
-load_stops giver file (refusal.BadBatch slot) stops = (inl stops.0, stops.1, inl stops.0)
-load_stops giver file refusal.NotEmpty stops = absurd stops.0
-load_stops giver file (refusal.TooMany count) stops = (inl stops.0, stops.1, inl stops.0)
-load_stops giver file (refusal.IdsSpent count) stops = absurd stops.0
-load_stops giver file refusal.TooLong stops = absurd stops.0
-load_stops giver file refusal.BatchTooLong stops = absurd stops.0
-load_stops giver file (refusal.BadReply offset) stops = absurd stops.0
-load_stops giver file (refusal.RelayRefused code) stops = absurd stops.0
-load_stops giver file (refusal.ReplyCutShort offset) stops = absurd stops.0

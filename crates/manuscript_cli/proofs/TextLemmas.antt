@@ -1,13 +1,13 @@
 -- Lines that are written to the notes, and sure objects with room for them.
 use Rattle.std.proofs.Common.{◌≡◌, inl, inr, refl, ℕ, ◌≤◌, List, length, take, sym, subst, arith}
-use Rattle.std.specs.Prelude.{Result, Ok, Err, IfSome}
+use Rattle.std.specs.Prelude.{Result, Err, IfSome}
 use Rattle.std.proofs.lemmas.List.{take_all}
 use Rattle.fugue_ids.proofs.JoinLemmas.{took_joins}
 use Rattle.fugue_ids.specs.Outs.{OutView, IsSure, Took, TookFront, WritesBytes}
 use Rattle.fugue_ids.specs.declared.out.Failed.{Failed}
 use Rattle.manuscript_cli.specs.Printing.{NoteMeets, NotesBlameless}
 use Rattle.manuscript_cli.specs.Refusal.{Told, TookFronts, refusal_line, status_of}
-use Rattle.manuscript_cli.specs.Touched.{Change, HasRoom, StaysCalm, notes_room}
+use Rattle.manuscript_cli.specs.Touched.{Change, HasRoom, notes_room}
 use Rattle.manuscript_cli.specs.declared.refusal.Refusal.{Refusal}
 use Rattle.manuscript_cli.specs.declared.refusal.Refusal.TheVariants as refusal
 use Rattle.manuscript_cli.specs.declared.status.Status.{Status}
@@ -24,31 +24,8 @@ pub text_has_no_room : (e : Failed) (old new : OutView) (text : List ℕ) (bytes
 text_has_no_room e old new text bytes wrote short has =
     let fits = less_room (length text) bytes old short has in (sure_of (Err e) old new text wrote fits).fits fits.fits
 
-pub text_stays_calm : (result : Result (Unit {0}) Failed) (old new : OutView) (text : List ℕ) (bytes : ℕ) → WritesBytes old new result text → length text ≤ bytes → StaysCalm bytes old new
-text_stays_calm (Ok x) old new text bytes wrote short has = (sure_of (Ok x) old new text wrote (less_room (length text) bytes old short has)).calm
-text_stays_calm (Err e) old new text bytes wrote short has = absurd (text_has_no_room e old new text bytes wrote short has)
-
 pub whole_front : (old new : OutView) (text : List ℕ) → Took old new text → TookFront old new text
 whole_front old new text took = record { count = length text; within = omega arith; took = subst (Took old new) (sym (take_all (length text) text (omega arith))) took }
-
--- a line was written, as far as the notes took it
-pub line_told : (result : Result (Unit {0}) Failed) (old new : OutView) (line : List ℕ) → WritesBytes old new result line → length line ≤ notes_room → Told old new line
-line_told (Ok x) old new line wrote short = record {
-  later = wrote.cause.later;
-  whole = λ calm. wrote.ok;
-  front = whole_front old new line wrote.ok;
-  sure = λ has. (text_stays_calm (Ok x) old new line (length line) wrote (omega arith) has, wrote.ok);
-  calm = text_stays_calm (Ok x) old new line notes_room wrote short;
-  exact = λ tells. inl (wrote.calm_told tells);
-}
-line_told (Err e) old new line wrote short = record {
-  later = wrote.cause.later;
-  whole = λ calm. absurd (calm wrote.cause.failed);
-  front = wrote.err;
-  sure = λ has. absurd (text_has_no_room e old new line (length line) wrote (omega arith) has);
-  calm = text_stays_calm (Err e) old new line notes_room wrote short;
-  exact = λ tells. inr wrote.cause.failed;
-}
 
 -- the notes' count rose only where the refusal's line was not written
 pub told_blameless : (why : Refusal) (notes : Change OutView) → Told notes.old notes.new (refusal_line why) → NotesBlameless notes (status_of why)

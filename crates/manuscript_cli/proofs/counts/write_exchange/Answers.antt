@@ -14,6 +14,3 @@ returns-in_err-write_tally-clause-short g c = exchange_short (counts_line c.args
 
 pub returns-clause-text : goal.returns-clause-text
 returns-clause-text g c = text_joins c.in_ok-write_tally.field-0 _ _ _ _ _ _ c.in_ok-write_tally.ensures.text c.write_cursor.ensures.text
-
-pub returns-clause-short : goal.returns-clause-short
-returns-clause-short g c = exchange_short (counts_line c.args.counts.now.tally c.args.counts.now.waiting) c.args.cursor c.ranges.cursor.fits c.write_tally.ensures.short

@@ -1,6 +1,6 @@
 use Rattle.manuscript_cli.specs.Touched.{change}
 use Rattle.manuscript_cli.proofs.BlameLemmas.{not_blamed}
-use Rattle.manuscript_cli.proofs.GivingLemmas.{note_saves, noted_may_end, told_may_end}
+use Rattle.manuscript_cli.proofs.GivingLemmas.{note_saves}
 use Rattle.manuscript_cli.proofs.SavesLemmas.{told_saves}
 use Rattle.manuscript_cli.proofs.TextLemmas.{told_blameless}
 use Rattle.manuscript_cli.proofs.giving.save_given.Goals as goal
@@ -9,12 +9,6 @@ pub returns-in-Ok-clause-saves : goal.returns-in-Ok-clause-saves
 returns-in-Ok-clause-saves g c =
     note_saves (g.T.Gives.giver c.args.giver.now (g.H.Disk.seen c.args.home.now) c.args.from.now c.load_and_save.new.from) (c.laws.ensures.once _ _ _) _
     (change (g.N.Out.seen c.args.notes.now) (g.N.Out.seen c.note_down.new.notes)) _ _ c.in-Ok.ensures.saves c.note_down.ensures.meets c.note_down.ensures.calm
-
-pub returns-in-Ok-clause-blameless : goal.returns-in-Ok-clause-blameless
-returns-in-Ok-clause-blameless g c = record { file_blameless = λ tells inside. c.in-Ok.ensures.told tells (λ is. cc is); notes_blameless = c.note_down.ensures.blameless }
-
-pub returns-in-Ok-clause-leaves : goal.returns-in-Ok-clause-leaves
-returns-in-Ok-clause-leaves g c = c.in-Ok.ensures.leaves _ (noted_may_end _ _)
 
 pub returns-in-Err-clause-saves : goal.returns-in-Err-clause-saves
 returns-in-Err-clause-saves g c =
@@ -27,6 +21,3 @@ returns-in-Err-clause-blameless g c =
       file_blameless = λ tells inside. c.in-Err.ensures.told tells (not_blamed c.in-Err.why inside);
       notes_blameless = told_blameless c.in-Err.why (change (g.N.Out.seen c.args.notes.now) (g.N.Out.seen c.tell.new.notes)) c.tell.ensures.told;
     })
-
-pub returns-in-Err-clause-leaves : goal.returns-in-Err-clause-leaves
-returns-in-Err-clause-leaves g c = rw c.tell.ensures.status (c.in-Err.ensures.leaves _ (told_may_end c.in-Err.why))

@@ -1,5 +1,5 @@
 use Rattle.std.proofs.Common.{refl}
-use Rattle.manuscript_cli.proofs.RelayLemmas.{all_served, not_all_served, served_blameless, served_told, stopped_blameless, stopped_told}
+use Rattle.manuscript_cli.proofs.RelayLemmas.{all_served, not_all_served, served_blameless, stopped_blameless, stopped_told}
 use Rattle.manuscript_cli.proofs.relay.serve_by.Goals as goal
 
 pub returns-in-Ok-clause-meets : goal.returns-in-Ok-clause-meets
@@ -22,9 +22,6 @@ pub returns-in-Err-clause-dock : goal.returns-in-Err-clause-dock
 returns-in-Err-clause-dock g c =
     let opened = c.in_ok-open.ensures.meets in
     rw c.from.ensures (stopped_blameless _ _ _ _ _ opened.0 opened.1 opened.2 c.serve.new.relay c.in-Err.fault (rw c.requires at c.in-Err.ensures.dock))
-
-pub returns-in-Ok-clause-told : goal.returns-in-Ok-clause-told
-returns-in-Ok-clause-told g c = let opened = c.in_ok-open.ensures in served_told _ _ _ _ opened.meets.1 opened.told _ c.in-Ok.ensures.told
 
 pub returns-in-Err-clause-told : goal.returns-in-Err-clause-told
 returns-in-Err-clause-told g c =

@@ -1,10 +1,7 @@
 use Rattle.std.proofs.Common.{subst}
-use Rattle.manuscript_cli.proofs.TextOutLemmas.{all_out, not_all_out}
+use Rattle.manuscript_cli.proofs.TextOutLemmas.{not_all_out}
 use Rattle.manuscript_cli.specs.TextOut.{GoesOut}
 use Rattle.manuscript_cli.proofs.text_out.ended.Goals as goal
-
-pub returns-in-Ok : goal.returns-in-Ok
-returns-in-Ok g c bytes output goes = all_out bytes output _ _ (subst (GoesOut bytes output) c.in-Ok.is goes)
 
 pub returns-in-Err : goal.returns-in-Err
 returns-in-Err g c bytes output goes =

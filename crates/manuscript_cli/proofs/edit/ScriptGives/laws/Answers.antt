@@ -1,10 +1,6 @@
 use Rattle.manuscript_cli.specs.Touched.{change}
 use Rattle.manuscript_cli.proofs.EditLemmas.{script_once}
-use Rattle.manuscript_cli.proofs.GivingLemmas.{input_idle}
 use Rattle.manuscript_cli.proofs.edit.ScriptGives.laws.Goals as goal
 
 pub returns-clause-once : goal.returns-clause-once
 returns-clause-once g c home before after = script_once (change (g.S.Source.seen before) (g.S.Source.seen after))
-
-pub returns-clause-idle : goal.returns-clause-idle
-returns-clause-idle g c home from end none = input_idle (g.S.Source.seen from) end none

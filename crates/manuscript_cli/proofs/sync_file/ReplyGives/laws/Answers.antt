@@ -1,10 +1,6 @@
-use Rattle.std.proofs.Common.{inl, refl}
 use Rattle.manuscript_cli.specs.Touched.{change}
 use Rattle.manuscript_cli.proofs.SyncLemmas.{reply_once}
 use Rattle.manuscript_cli.proofs.sync_file.ReplyGives.laws.Goals as goal
 
 pub returns-clause-once : goal.returns-clause-once
 returns-clause-once g c home before after = reply_once c.args.self.now.cursor home (change (g.W.Wire.seen before) (g.W.Wire.seen after))
-
-pub returns-clause-idle : goal.returns-clause-idle
-returns-clause-idle g c home from end none = record { speaks = inl (refl, none); blameless = λ tells inside. refl }
