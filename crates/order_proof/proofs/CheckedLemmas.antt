@@ -20,7 +20,7 @@ use Rattle.order_proof.specs.declared.step.Reason.{Reason}
 use Rattle.order_proof.specs.declared.step.Reason.TheVariants.{End, Inner, Later, Prefix, Tie}
 use Rattle.order_proof.specs.declared.step.Step.{Step}
 use Rattle.order_proof.specs.Certificates.{ByRightChains, ByRightOrigins, Certificate, Chain, HoldsBy, IsFork, IsPrefixStep, IsSiblingStep, IsStep, IsValid, OfOnePlace, is_later}
-use Rattle.order_proof.specs.Checks.{chains_decide, ends, goes_on, in_one_place, is_inner, origins_decide, place_at, prefix_test, reason_test, rests_test, same_place, sibling_test, siblings_at, step_test, test}
+use Rattle.order_proof.specs.Checks.{chains_decide, ends, goes_on, in_one_place, is_inner, origins_decide, place_holding, prefix_test, reason_test, rests_test, same_place, sibling_test, siblings_at, step_test, test}
 use Rattle.order_proof.specs.Chains.{is_down, is_empty, links, right_above}
 use Rattle.order_proof.proofs.WalkLemmas.{walked}
 
@@ -348,19 +348,19 @@ both_from (Some p) (Some q) e = (p, refl, ap Some (sym (place_eq-true p q e)))
 abbrev place_by : Option Op → Option Place
 place_by o = elim o [ None ↦ None | Some op ↦ place op ]
 
-in_from : (h : List Op) (p : Place) (x : Identifier) → place_at h x ≡ Some p → IsIn p h x
+in_from : (h : List Op) (p : Place) (x : Identifier) → place_holding h x ≡ Some p → IsIn p h x
 in_from h p x e =
     elim (cases_held (holder h x)) [
       | inl k ↦ let d : None ≡ Some p = sym (ap place_by k) ∙ e in cc (d)
       | inr k ↦ record { op = k.0; held = k.1; place = stands_element p k.0 (sym (ap place_by k.1) ∙ e) ∙ own_id k.0 x (holder_owns h x k.0 k.1) }
     ]
 
-in_to : (h : List Op) (p : Place) (x : Identifier) → IsIn p h x → place_at h x ≡ Some p
+in_to : (h : List Op) (p : Place) (x : Identifier) → IsIn p h x → place_holding h x ≡ Some p
 in_to h p x m = ap place_by m.held ∙ (element_stands p m.op x m.place).0
 
 place_from : (h : List Op) (x y : Identifier) → in_one_place h x y ≡ true → OfOnePlace h x y
 place_from h x y e =
-    let b = both_from (place_at h x) (place_at h y) e in
+    let b = both_from (place_holding h x) (place_holding h y) e in
     (b.0, in_from h b.0 x b.1, in_from h b.0 y b.2)
 
 place_to : (h : List Op) (x y : Identifier) → OfOnePlace h x y → in_one_place h x y ≡ true

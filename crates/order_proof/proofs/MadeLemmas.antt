@@ -15,7 +15,7 @@ use Rattle.order_proof.specs.declared.step.Reason.{Reason}
 use Rattle.order_proof.specs.declared.step.Reason.TheVariants.{End, Inner, Later, Prefix, Tie}
 use Rattle.order_proof.specs.declared.step.Step.{Step}
 use Rattle.order_proof.specs.Certificates.{ByRightChains, ByRightOrigins, Certificate, Chain, Claims, HoldsBy, IsFork, IsProperPrefix, IsSiblingStep, IsStep, IsValid, PartsAt, StandsBefore, is_later}
-use Rattle.order_proof.specs.Making.{common_count, made, made_at, reason_at, reason_between, reason_of, rests_on}
+use Rattle.order_proof.specs.Making.{common_count, certificate_made, certificate_made_at, reason_at, reason_between, reason_of, rests_on}
 unfoldable use Rattle.order_proof.specs.Making.{certificate}
 use Rattle.order_proof.proofs.BeforeLemmas.{prefix_of}
 use Rattle.order_proof.proofs.FoundLemmas.{Open, extended, first_step}
@@ -25,7 +25,7 @@ abbrev pub below : List Op → Option (Identifier × Identifier) → Certificate
 below older o = elim o [ None ↦ [] | Some claim ↦ certificate older claim.0 claim.1 ]
 
 -- the first step, and what it rests on
-pub certificate-cons : (op : Op) (older : List Op) (x y : Identifier) → certificate (op ∷ older) x y ≡ made (op ∷ older) x y ∷ below older (rests_on ((made (op ∷ older) x y).reason))
+pub certificate-cons : (op : Op) (older : List Op) (x y : Identifier) → certificate (op ∷ older) x y ≡ certificate_made (op ∷ older) x y ∷ below older (rests_on ((certificate_made (op ∷ older) x y).reason))
 unfolding certificate
 certificate-cons op older x y = refl
 
@@ -43,17 +43,17 @@ reversed-take ops n l k =
     ap (λ m. reverse (take m ops)) on ∙ ap reverse (take_more ops (n - 1) none (omega (arith, l, k))) ∙ reverse-append (take (n - 1) ops) (get_or ops (n - 1) none ∷ [])
 
 turn : (ops : List Op) (n : ℕ) (x y : Identifier) → 0 < n → n ≤ length ops
-    → certificate (reverse (take n ops)) x y ≡ made (reverse (take n ops)) x y ∷ below (reverse (take (n - 1) ops)) (rests_on ((made (reverse (take n ops)) x y).reason))
+    → certificate (reverse (take n ops)) x y ≡ certificate_made (reverse (take n ops)) x y ∷ below (reverse (take (n - 1) ops)) (rests_on ((certificate_made (reverse (take n ops)) x y).reason))
 turn ops n x y l k =
     let older : List Op = reverse (take (n - 1) ops) in
     let e : reverse (take n ops) ≡ get_or ops (n - 1) none ∷ older = reversed-take ops n l k in
     ap (λ h. certificate h x y) e
     ∙ certificate-cons (get_or ops (n - 1) none) older x y
-    ∙ (λ i. made (sym e i) x y ∷ below older (rests_on ((made (sym e i) x y).reason)))
+    ∙ (λ i. certificate_made (sym e i) x y ∷ below older (rests_on ((certificate_made (sym e i) x y).reason)))
 
 -- a turn of the loop
 module _ (ops : List Op) (n : ℕ) (x y : Identifier) (items all : Certificate) (s : Step) (b : Option (Identifier × Identifier)) (l : 0 < n) (k : n ≤ length ops)
-    (rest : items ++ certificate (reverse (take n ops)) x y ≡ all) (is : s ≡ made (reverse (take n ops)) x y) (at : b ≡ rests_on s.reason) where
+    (rest : items ++ certificate (reverse (take n ops)) x y ≡ all) (is : s ≡ certificate_made (reverse (take n ops)) x y) (at : b ≡ rests_on s.reason) where
   after_any : (items ++ s ∷ []) ++ below (reverse (take (n - 1) ops)) b ≡ all
   after_any =
       append_assoc items (s ∷ []) (below (reverse (take (n - 1) ops)) b)
@@ -138,18 +138,18 @@ chains_give h xs ys Inner t = let k = rests-longer xs ys t in λ i. reason_at h 
 chains_give h xs ys r t = fork_gives h xs ys r t
 
 -- a step at siblings is the one that is made
-made_sibling : (h : List Op) (s : Step) (r : Reason) → s.reason ≡ r → IsSiblingStep h s r → made h s.x s.y ≡ s
+made_sibling : (h : List Op) (s : Step) (r : Reason) → s.reason ≡ r → IsSiblingStep h s r → certificate_made h s.x s.y ≡ s
 made_sibling h s r e t =
     let m = rests-parted (lefts h s.x) (lefts h s.y) s.down_x s.down_y t.a t.b t.parts in
     let reason : reason_between h (rights h t.a) (rights h t.b) ≡ s.reason = (λ i. reason_between h (sym t.right_x i) (sym t.right_y i)) ∙ chains_give h s.right_x s.right_y r t.decides ∙ sym e in
-    (λ i. made_at h s.x s.y (m.0 i) (m.1 i))
+    (λ i. certificate_made_at h s.x s.y (m.0 i) (m.1 i))
     ∙ (λ i. record { x = s.x; y = s.y; down_x = sym t.parts.first i; down_y = sym t.parts.second i; right_x = sym t.right_x i; right_y = sym t.right_y i; reason = reason i })
 
 -- a step that holds is the one that is made
-made_is : (h : List Op) → Lawful h → (s : Step) → IsHeld h s.y → (r : Reason) → s.reason ≡ r → HoldsBy h s r → made h s.x s.y ≡ s
+made_is : (h : List Op) → Lawful h → (s : Step) → IsHeld h s.y → (r : Reason) → s.reason ≡ r → HoldsBy h s r → certificate_made h s.x s.y ≡ s
 made_is h w s k Prefix e t =
     let m = rests-shorter (lefts h s.x) (lefts h s.y) (prefix_of h s w k t) in
-    (λ i. made_at h s.x s.y (m.0 i) (m.1 i))
+    (λ i. certificate_made_at h s.x s.y (m.0 i) (m.1 i))
     ∙ (λ i. record { x = s.x; y = s.y; down_x = sym t.no_down_x i; down_y = sym t.from_x i; right_x = sym t.no_right_x i; right_y = sym t.no_right_y i; reason = sym e i })
 made_is h w s k r e t = made_sibling h s r e t
 
@@ -175,7 +175,7 @@ made_valid p (op ∷ older) w x y m n k =
     let h : List Op = op ∷ older in
     let f = first_step p h w x y m n k in
     let held : IsHeld h f.step.y = subst (IsHeld h) (sym f.is_y) (IsIn-held p h y n) in
-    let is : made h x y ≡ f.step = (λ i. made h (sym f.is_x i) (sym f.is_y i)) ∙ made_is h w f.step held f.step.reason refl f.holds.holds in
+    let is : certificate_made h x y ≡ f.step = (λ i. certificate_made h (sym f.is_x i) (sym f.is_y i)) ∙ made_is h w f.step held f.step.reason refl f.holds.holds in
     let all : certificate h x y ≡ f.step ∷ below older (rests_on f.step.reason) = certificate-cons op older x y ∙ ap (λ (s : Step). s ∷ below older (rests_on s.reason)) is in
     let j = made_joined p op older w f.step f.holds f.step.reason refl f.rests (λ v u a b d. made_valid p older w.1 v u a b d) in
     subst (IsMade h x y) (sym all)

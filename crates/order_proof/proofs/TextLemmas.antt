@@ -14,7 +14,7 @@ use Rattle.fugue_ids.specs.declared.op.Op.{Op}
 use Rattle.order_proof.specs.declared.step.Step.{Step}
 use Rattle.order_proof.specs.Certificates.{Certificate, HoldsBy, IsValid}
 use Rattle.order_proof.specs.Laws.{ReadsUniquely, ValidReadsUniquely}
-use Rattle.order_proof.specs.Texts.{IsNarrow, Line, Word, chain_lines, reason_line, claim, down, end, id_text, inner, later, line_text, lines, prefix, right, tie, told, told_by, word_text}
+use Rattle.order_proof.specs.Texts.{IsNarrow, Line, Word, chain_lines, reason_line, claim, down, end, id_text, inner, later, line_text, proof_lines, prefix, right, tie, told_step, told_by, word_text}
 
 -- the mark k is not among the bytes
 abbrev IsFree : ℕ → List ℕ → Type 0
@@ -245,26 +245,26 @@ some_lines s Prefix more e = cc
 some_lines s r more e = cc
 
 -- lines tell the certificate
-lines_tell : (c d : Certificate) → lines c ≡ lines d → map told c ≡ map told d
+lines_tell : (c d : Certificate) → proof_lines c ≡ proof_lines d → map told_step c ≡ map told_step d
 lines_tell [] [] e = refl
-lines_tell [] (t ∷ d) e = absurd (some_lines t t.reason (lines d) e)
-lines_tell (s ∷ c) [] e = absurd (some_lines s s.reason (lines c) (sym e))
+lines_tell [] (t ∷ d) e = absurd (some_lines t t.reason (proof_lines d) e)
+lines_tell (s ∷ c) [] e = absurd (some_lines s s.reason (proof_lines c) (sym e))
 lines_tell (s ∷ c) (t ∷ d) e =
-    let p : (told_with s s.reason, lines c) ≡ (told_with t t.reason, lines d) =
-    sym (step_read s s.reason (lines c)) ∙ ap read_step e ∙ step_read t t.reason (lines d) in
+    let p : (told_with s s.reason, proof_lines c) ≡ (told_with t t.reason, proof_lines d) =
+    sym (step_read s s.reason (proof_lines c)) ∙ ap read_step e ∙ step_read t t.reason (proof_lines d) in
     let q = lines_tell c d (ap (λ (z : Step × List Line). z.1) p) in
-    let r : told s ≡ told t = sym (told-same s s.reason refl) ∙ ap (λ (z : Step × List Line). z.0) p ∙ told-same t t.reason refl in
+    let r : told_step s ≡ told_step t = sym (told-same s s.reason refl) ∙ ap (λ (z : Step × List Line). z.0) p ∙ told-same t t.reason refl in
     λ i. r i ∷ q i
 
 pub reads_uniquely : ReadsUniquely
-reads_uniquely c d m n e = lines_tell c d (lines_once (lines c) (lines d) m n e)
+reads_uniquely c d m n e = lines_tell c d (lines_once (proof_lines c) (proof_lines d) m n e)
 
 -- a step that holds has no chain that its text leaves out
 told-holds : (h : List Op) (s : Step) (r : Reason) → r ≡ s.reason → HoldsBy h s r → told_by s r ≡ s
 told-holds h s Prefix e t = λ i. record { x = s.x; y = s.y; down_x = sym t.no_down_x i; down_y = s.down_y; right_x = sym t.no_right_x i; right_y = sym t.no_right_y i; reason = e i }
 told-holds h s r e t = refl
 
-told-valid : (h : List Op) (c : Certificate) → IsValid h c → map told c ≡ c
+told-valid : (h : List Op) (c : Certificate) → IsValid h c → map told_step c ≡ c
 told-valid h [] v = absurd v
 told-valid h (s ∷ []) v = ap (λ z. z ∷ []) (told-holds h s s.reason refl v.0.holds)
 told-valid h (s ∷ t ∷ more) v =

@@ -9,9 +9,9 @@ use Rattle.order_proof.specs.declared.chains.Origins.TheVariants.{Lefts, Rights}
 use Rattle.order_proof.specs.Certificates.{Chain}
 
 -- what a chain goes on with
-abbrev pub next_of : Origins → List Op → Op → Option Identifier
-next_of Lefts h op = next_left h op
-next_of Rights h op = next_right h op
+abbrev pub next_link : Origins → List Op → Op → Option Identifier
+next_link Lefts h op = next_left h op
+next_link Rights h op = next_right h op
 
 abbrev pub is_empty : Chain → Bool
 is_empty [] = true

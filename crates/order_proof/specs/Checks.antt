@@ -17,11 +17,11 @@ same_place (Some p) (Some q) = place_eq p q
 same_place _ _ = false
 
 -- where the element of an identifier stands
-abbrev pub place_at : List Op → Identifier → Option Place
-place_at h x = elim (holder h x) [ None ↦ None | Some op ↦ place op ]
+abbrev pub place_holding : List Op → Identifier → Option Place
+place_holding h x = elim (holder h x) [ None ↦ None | Some op ↦ place op ]
 
 abbrev pub in_one_place : List Op → Identifier → Identifier → Bool
-in_one_place h x y = same_place (place_at h x) (place_at h y)
+in_one_place h x y = same_place (place_holding h x) (place_holding h y)
 
 -- the right origins of c and d decide so
 abbrev pub origins_decide : Option Identifier → Option Identifier → Identifier → Identifier → Reason → Bool

@@ -31,14 +31,14 @@ abbrev pub reason_between : List Op → Chain → Chain → Reason
 reason_between h xs ys = reason_at h (drop (common_count xs ys) xs) (drop (common_count xs ys) ys)
 
 -- the step of two elements, by their chains of left origins from where these part
-abbrev pub made_at : List Op → (x y : Identifier) → Chain → Chain → Step
-made_at h x y (a ∷ as') (b ∷ bs) =
+abbrev pub certificate_made_at : List Op → (x y : Identifier) → Chain → Chain → Step
+certificate_made_at h x y (a ∷ as') (b ∷ bs) =
     record { x = x; y = y; down_x = a ∷ as'; down_y = b ∷ bs; right_x = rights h a; right_y = rights h b; reason = reason_between h (rights h a) (rights h b) }
-made_at h x y _ bs = record { x = x; y = y; down_x = []; down_y = x ∷ bs; right_x = []; right_y = []; reason = Prefix }
+certificate_made_at h x y _ bs = record { x = x; y = y; down_x = []; down_y = x ∷ bs; right_x = []; right_y = []; reason = Prefix }
 
 -- the step of two elements
-abbrev pub made : List Op → (x y : Identifier) → Step
-made h x y = made_at h x y (drop (common_count (lefts h x) (lefts h y)) (lefts h x)) (drop (common_count (lefts h x) (lefts h y)) (lefts h y))
+abbrev pub certificate_made : List Op → (x y : Identifier) → Step
+certificate_made h x y = certificate_made_at h x y (drop (common_count (lefts h x) (lefts h y)) (lefts h x)) (drop (common_count (lefts h x) (lefts h y)) (lefts h y))
 
 -- the claim on which a step rests: q before p
 abbrev pub rests_on : Reason → Option (Identifier × Identifier)
@@ -49,4 +49,4 @@ rests_on _ = None
 unfoldable pub certificate : List Op → (x y : Identifier) → Certificate
 certificate [] x y = []
 certificate (op ∷ older) x y =
-    made (op ∷ older) x y ∷ elim (rests_on ((made (op ∷ older) x y).reason)) [ None ↦ [] | Some claim ↦ certificate older claim.0 claim.1 ]
+    certificate_made (op ∷ older) x y ∷ elim (rests_on ((certificate_made (op ∷ older) x y).reason)) [ None ↦ [] | Some claim ↦ certificate older claim.0 claim.1 ]

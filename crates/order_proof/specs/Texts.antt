@@ -61,24 +61,24 @@ chain_lines s reason =
 abbrev pub step_lines : Step → List Line
 step_lines s = chain_lines s s.reason ++ reason_line s.reason ∷ []
 
-abbrev pub lines : Certificate → List Line
-lines [] = []
-lines (s ∷ more) = step_lines s ++ lines more
+abbrev pub proof_lines : Certificate → List Line
+proof_lines [] = []
+proof_lines (s ∷ more) = step_lines s ++ proof_lines more
 
 -- the text of a step, as it is written: its reason goes last
 abbrev pub step_text : Step → List ℕ
 step_text s = flat_map line_text (chain_lines s s.reason) ++ line_text (reason_line s.reason)
 
 abbrev pub proof_text : Certificate → List ℕ
-proof_text c = flat_map line_text (lines c)
+proof_text c = flat_map line_text (proof_lines c)
 
 -- a step without the chains that its text leaves out
 abbrev pub told_by : Step → Reason → Step
 told_by s Prefix = record { x = s.x; y = s.y; down_x = []; down_y = s.down_y; right_x = []; right_y = []; reason = Prefix }
 told_by s reason = s
 
-abbrev pub told : Step → Step
-told s = told_by s s.reason
+abbrev pub told_step : Step → Step
+told_step s = told_by s s.reason
 
 -- both numbers are of 32 bits
 abbrev pub IsNarrow : Identifier → Type 0
@@ -86,4 +86,4 @@ IsNarrow id = (id.replica < 2 ^ 32) × (id.counter < 2 ^ 32)
 
 -- all numbers that the text tells are of 32 bits
 abbrev pub AllNarrow : Certificate → Type 0
-AllNarrow c = All (λ (l : Line). All IsNarrow l.ids) (lines c)
+AllNarrow c = All (λ (l : Line). All IsNarrow l.ids) (proof_lines c)

@@ -2,7 +2,7 @@
 
 ghost use Rattle.std.specs.Prelude.{◌≡◌, reverse, IfOk, None};
 ghost use Rattle.origin_model.specs.order.Order.{chain as chain_by, lefts, rights};
-ghost use Rattle.order_proof.specs.Chains.{next_of, ends_with, is_down as is_down_in};
+ghost use Rattle.order_proof.specs.Chains.{next_link, ends_with, is_down as is_down_in};
 ghost use Rattle.order_proof.specs.Chains.{links, right_above as right_above_in};
 
 use crate::look_ups::{has_left, left_at, left_of, right_at, right_of};
@@ -18,7 +18,7 @@ pub enum Origins {
 
 /// The origin of the operation that the chain goes on with, where there is one.
 fn next_in(origins: Origins, ops: &[Op], op: &Op) -> Option<ElementId>
-    ensures { result ≡ next_of origins (reverse ops.now) op.now }
+    ensures { result ≡ next_link origins (reverse ops.now) op.now }
 {
     match origins {
         Origins::Lefts => left_of(op),
@@ -34,7 +34,7 @@ fn climb(
     ops: &[Op],
     x: ElementId,
 ) -> Result<Vec<ElementId>, AllocError>
-    ensures { IfOk result (λ found. reverse found.items ≡ chain_by (next_of origins) (reverse ops.now) x) }
+    ensures { IfOk result (λ found. reverse found.items ≡ chain_by (next_link origins) (reverse ops.now) x) }
 {
     let mut found = Vec::new(alloc);
     let mut current = x;
@@ -60,7 +60,7 @@ fn chain_down(
     ops: &[Op],
     x: ElementId,
 ) -> Result<Vec<ElementId>, AllocError>
-    ensures { IfOk result (λ found. found.items ≡ chain_by (next_of origins) (reverse ops.now) x) }
+    ensures { IfOk result (λ found. found.items ≡ chain_by (next_link origins) (reverse ops.now) x) }
 {
     let mut found = climb(alloc, origins, ops, x)?;
     found.reverse();

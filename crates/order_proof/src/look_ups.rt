@@ -5,7 +5,7 @@ ghost use Rattle.origin_model.specs.operations.History.{element, holder, place};
 ghost use Rattle.origin_model.specs.operations.History.{left_of as left_origin_of, right_of as right_origin_of};
 ghost use Rattle.origin_model.specs.order.Order.{left_at as left_origin, right_at as right_origin};
 ghost use Rattle.origin_model.specs.order.Order.{has_left as has_left_on};
-ghost use Rattle.order_proof.specs.Checks.{place_at as place_in};
+ghost use Rattle.order_proof.specs.Checks.{place_holding as place_in};
 
 use fugue_ids::{ElementId, Op};
 use origin_model::{Node, Place};

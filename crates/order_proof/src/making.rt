@@ -7,7 +7,7 @@ ghost use Rattle.order_proof.specs.declared.step.Reason.TheVariants.{Prefix};
 ghost use Rattle.order_proof.specs.Certificates.{IsValid, Claims, StandsBefore};
 ghost use Rattle.order_proof.specs.Making.{common_count as common_in, reason_of as reason_by};
 ghost use Rattle.order_proof.specs.Making.{reason_at as reason_at_in, reason_between as reason_between_in};
-ghost use Rattle.order_proof.specs.Making.{made, made_at, rests_on, certificate};
+ghost use Rattle.order_proof.specs.Making.{certificate_made, certificate_made_at, rests_on, certificate};
 
 use crate::chains::{lefts_of, rights_of};
 use crate::look_ups::right_at;
@@ -163,7 +163,7 @@ fn step_at(
     down_x: &[ElementId],
     down_y: &[ElementId],
 ) -> Result<Step, AllocError>
-    ensures { IfOk result (λ step. step ≡ made_at (reverse ops.now) x y down_x.now down_y.now) }
+    ensures { IfOk result (λ step. step ≡ certificate_made_at (reverse ops.now) x y down_x.now down_y.now) }
 {
     match (down_x.first(), down_y.first()) {
         (Some(a), Some(b)) => {
@@ -175,7 +175,7 @@ fn step_at(
 }
 
 fn make_step(alloc: Global, ops: &[Op], x: ElementId, y: ElementId) -> Result<Step, AllocError>
-    ensures { IfOk result (λ step. step ≡ made (reverse ops.now) x y) }
+    ensures { IfOk result (λ step. step ≡ certificate_made (reverse ops.now) x y) }
 {
     let xs = lefts_of(alloc, ops, x)?;
     let ys = lefts_of(alloc, ops, y)?;
