@@ -1,2 +1,3 @@
 -- The bytes of operations.
 pub mod Frames
+pub mod Framings

@@ -4,6 +4,7 @@
 
 mod edit_fault;
 mod files;
+mod grammar;
 mod laws;
 mod operations;
 mod order;
@@ -14,6 +15,7 @@ mod taking;
 
 pub use edit_fault::EditFault;
 pub use files::LONGEST_BATCH;
+pub use grammar::Grammar;
 pub use laws::{
     closure_of_set, gap_by_keys, kept_suffice, keys_are_fixed, lands_behind, later_ops_keep_order,
     order_by_set, order_total, self_named_never_accepted, walk_is_order,

@@ -1,5 +1,5 @@
 -- The bytes of operations, and the reading of a stream of them. Numbers are big-endian.
-use Rattle.std.specs.Prelude.{◌≡◌, ◌≢◌, ℕ, ◌<◌, ◌^◌, Option, Some, None, All, List, [], ◌∷◌, ◌++◌, length, drop, flat_map}
+use Rattle.std.specs.Prelude.{◌≡◌, ◌≢◌, ℕ, ◌+◌, ◌<◌, ◌≤◌, ◌^◌, Option, Some, None, All, List, [], ◌∷◌, ◌++◌, length, drop, flat_map}
 use Rattle.std.specs.Int.{to_be_bytes, w16, w32}
 use Rattle.std.specs.Char.{IsScalar}
 use Rattle.std.specs.Str.{encode_utf8_all}
@@ -7,6 +7,8 @@ use Rattle.fugue_ids.specs.Identifiers.{Identifier}
 use Rattle.fugue_ids.specs.Titles.{IsTitleText}
 use Rattle.fugue_ids.specs.declared.op.Op.{Op}
 use Rattle.fugue_ids.specs.declared.op.Op.TheVariants.{Section, Text, Delete}
+use Rattle.origin_model.specs.declared.grammar.Grammar.{Grammar}
+use Rattle.origin_model.specs.declared.grammar.Grammar.TheVariants.{Version1, Version2}
 
 -- replica and counter
 abbrev pub id_bytes : Identifier → List ℕ
@@ -25,15 +27,43 @@ title_bytes title = to_be_bytes w16 (length (encode_utf8_all title)) ++ encode_u
 abbrev pub scalar_bytes : ℕ → List ℕ
 scalar_bytes ch = drop 1 (to_be_bytes w32 ch)
 
--- the bytes of one operation
+-- the bytes of one operation's own frame
 abbrev pub frame : Op → List ℕ
 frame (Section id left right title) = 1 ∷ [] ++ id_bytes id ++ origin_bytes left ++ origin_bytes right ++ title_bytes title
 frame (Text id section left right ch) = 2 ∷ [] ++ id_bytes id ++ id_bytes section ++ origin_bytes left ++ origin_bytes right ++ scalar_bytes ch
 frame (Delete target) = 3 ∷ [] ++ id_bytes target
 
--- the bytes of operations, one behind the other
-abbrev pub frames : List Op → List ℕ
-frames ops = flat_map frame ops
+-- the operations' own frames, one behind the other
+abbrev pub single_frames : List Op → List ℕ
+single_frames ops = flat_map frame ops
+
+-- Texts that were typed in a row: what the first one says, and the scalars of all
+pub record Run : Type 0 where
+  pub id : Identifier
+  pub section : Identifier
+  pub left : Option Identifier
+  pub right : Option Identifier
+  pub text : List ℕ
+
+-- the identifier that its replica gives next
+abbrev pub next_id : Identifier → Identifier
+next_id id = record { replica = id.replica; counter = id.counter + 1 }
+
+-- one Text for each scalar: each has the next identifier, and stands behind the one before
+abbrev pub typed : (id section : Identifier) (left right : Option Identifier) → List ℕ → List Op
+typed id section left right [] = []
+typed id section left right (ch ∷ text) = Text id section left right ch ∷ typed (next_id id) section (Some id) right text
+
+abbrev pub run_ops : Run → List Op
+run_ops run = typed run.id run.section run.left run.right run.text
+
+-- how many scalars there are in two bytes, and the scalars
+abbrev pub text_bytes : List ℕ → List ℕ
+text_bytes text = to_be_bytes w16 (length text) ++ flat_map scalar_bytes text
+
+-- the bytes of a run
+abbrev pub run_frame : Run → List ℕ
+run_frame run = 4 ∷ [] ++ id_bytes run.id ++ id_bytes run.section ++ origin_bytes run.left ++ origin_bytes run.right ++ text_bytes run.text
 
 -- the replica is not 0, and both numbers have 32 bits
 pub record IsIdentifier (id : Identifier) : Type 0 where
@@ -56,35 +86,70 @@ HasFrame (Section id left right title) = IsIdentifier id × IsOrigin left × IsO
 HasFrame (Text id section left right ch) = IsIdentifier id × IsIdentifier section × IsOrigin left × IsOrigin right × IsScalar ch
 HasFrame (Delete target) = IsIdentifier target
 
+-- 2 to 1,024 scalars
+pub record IsRunText (text : List ℕ) : Type 0 where
+  pub some : 2 ≤ length text
+  pub short : length text ≤ 1024
+  pub scalars : All IsScalar text
+
+-- the run is one that a frame can stand for
+pub record HasRunFrame (run : Run) : Type 0 where
+  pub id : IsIdentifier run.id
+  pub section : IsIdentifier run.section
+  pub left : IsOrigin run.left
+  pub right : IsOrigin run.right
+  pub text : IsRunText run.text
+  -- the last counter has 32 bits too
+  pub counters_fit : run.id.counter + length run.text ≤ 2 ^ 32
+
+-- what one frame stands for: an operation alone, or a run
+pub data Item : Type 0 where
+  Single : Op → Item
+  Typed : Run → Item
+
+abbrev pub item_bytes : Item → List ℕ
+item_bytes (Single op) = frame op
+item_bytes (Typed run) = run_frame run
+
+abbrev pub item_ops : Item → List Op
+item_ops (Single op) = op ∷ []
+item_ops (Typed run) = run_ops run
+
+-- the grammar has a frame for it: version 1 has none for a run
+abbrev pub IsItem : Grammar → Item → Type 0
+IsItem grammar (Single op) = HasFrame op
+IsItem Version1 (Typed run) = ⊥
+IsItem Version2 (Typed run) = HasRunFrame run
+
 -- some bytes, and the operations that they stand for
 pub record Framed : Type 0 where
   pub bytes : List ℕ
   pub ops : List Op
 
 -- a frame with the operations that it stands for
-pub record IsFrame (framed : Framed) : Type 0 where
-  pub op : Op
-  pub has_frame : HasFrame op
-  pub bytes_are : framed.bytes ≡ frame op
-  pub ops_are : framed.ops ≡ op ∷ []
+pub record IsFrame (grammar : Grammar) (framed : Framed) : Type 0 where
+  pub item : Item
+  pub is_item : IsItem grammar item
+  pub bytes_are : framed.bytes ≡ item_bytes item
+  pub ops_are : framed.ops ≡ item_ops item
 
--- a frame is a front of the bytes
-pub record Begins (bytes : List ℕ) (framed : Framed) (rest : List ℕ) : Type 0 where
-  pub is_frame : IsFrame framed
+-- a frame is a prefix of the bytes
+pub record Begins (grammar : Grammar) (bytes : List ℕ) (framed : Framed) (rest : List ℕ) : Type 0 where
+  pub is_frame : IsFrame grammar framed
   pub split : bytes ≡ framed.bytes ++ rest
 
--- the bytes are a proper front of some frame
-pub record IsPartial (bytes : List ℕ) : Type 0 where
+-- the bytes are a proper prefix of some frame
+pub record IsPartial (grammar : Grammar) (bytes : List ℕ) : Type 0 where
   pub framed : Framed
-  pub is_frame : IsFrame framed
+  pub is_frame : IsFrame grammar framed
   pub more : List ℕ
   pub lacks : 0 < length more
   pub front : framed.bytes ≡ bytes ++ more
 
--- no frame is a front of the bytes, and they are no front of a frame
-pub record IsBad (bytes : List ℕ) : Type 0 where
-  pub no_frame : (framed : Framed) (rest : List ℕ) → Begins bytes framed rest → ⊥
-  pub no_front : IsPartial bytes → ⊥
+-- no frame is a prefix of the bytes, and they are no prefix of a frame
+pub record IsBad (grammar : Grammar) (bytes : List ℕ) : Type 0 where
+  pub no_frame : (framed : Framed) (rest : List ℕ) → Begins grammar bytes framed rest → ⊥
+  pub no_front : IsPartial grammar bytes → ⊥
 
 -- how a stream ends, with the offset of what is no frame
 pub data End : Type 0 where
@@ -93,23 +158,23 @@ pub data End : Type 0 where
   BadFrame : ℕ → End
 
 -- how the rest behind the frames ends the stream
-abbrev pub EndsSo : List ℕ → ℕ → End → Type 0
-EndsSo rest offset Whole = rest ≡ []
-EndsSo rest offset (CutShort k) = (k ≡ offset) × (rest ≢ []) × IsPartial rest
-EndsSo rest offset (BadFrame k) = (k ≡ offset) × IsBad rest
+abbrev pub EndsSo : Grammar → List ℕ → ℕ → End → Type 0
+EndsSo grammar rest offset Whole = rest ≡ []
+EndsSo grammar rest offset (CutShort k) = (k ≡ offset) × (rest ≢ []) × IsPartial grammar rest
+EndsSo grammar rest offset (BadFrame k) = (k ≡ offset) × IsBad grammar rest
 
 -- the operations of the bytes, and how the bytes end
-pub record Reads (bytes : List ℕ) (ops : List Op) (end : End) : Type 0 where
+pub record Reads (grammar : Grammar) (bytes : List ℕ) (ops : List Op) (end : End) : Type 0 where
   pub found : List Framed
-  pub are_frames : All IsFrame found
+  pub are_frames : All (IsFrame grammar) found
   pub ops_are : ops ≡ flat_map (λ framed. framed.ops) found
   pub rest : List ℕ
   pub split : bytes ≡ flat_map (λ framed. framed.bytes) found ++ rest
-  pub ends : EndsSo rest (length (flat_map (λ framed. framed.bytes) found)) end
+  pub ends : EndsSo grammar rest (length (flat_map (λ framed. framed.bytes) found)) end
 
 -- frames of the operations stand at the front of the bytes, and then the rest
-pub record Starts (bytes : List ℕ) (ops : List Op) (rest : List ℕ) : Type 0 where
+pub record Starts (grammar : Grammar) (bytes : List ℕ) (ops : List Op) (rest : List ℕ) : Type 0 where
   pub found : List Framed
-  pub are_frames : All IsFrame found
+  pub are_frames : All (IsFrame grammar) found
   pub ops_are : ops ≡ flat_map (λ framed. framed.ops) found
   pub split : bytes ≡ flat_map (λ framed. framed.bytes) found ++ rest
