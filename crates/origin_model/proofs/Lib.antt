@@ -1,4 +1,5 @@
 mod Examples
 mod Words
+mod frames
 pub mod SharedLemmas
 pub mod edits

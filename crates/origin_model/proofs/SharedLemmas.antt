@@ -24,7 +24,8 @@ pub use Rattle.origin_model.proofs.taking.SettlingLemmas.{IsEarliest, earliest-n
 pub use Rattle.origin_model.proofs.taking.TakingLemmas.{accepted_is_ready}
 pub use Rattle.origin_model.proofs.edits.NextCounterLemmas.{counters-append}
 pub use Rattle.origin_model.proofs.files.AppendLemmas.{Parts, batch_appended, from_parts, new_file_holds, same_to_gate, to_parts, with_batch}
-pub use Rattle.origin_model.proofs.files.BatchLemmas.{batch_of, behind_number, framed_is, framed_of, frames_read, is_batch, number_is, same_batch}
+pub use Rattle.origin_model.proofs.files.BatchLemmas.{batch_of, behind_number, is_batch, number_is, same_batch}
+pub use Rattle.origin_model.proofs.frames.SingleLemmas.{IsSingle, framed_is, framed_of, single_of, singles_read}
 pub use Rattle.origin_model.proofs.files.ImageLemmas.{Bad, Closed, Ends, ReadOnce, image_once, no_open_slot, slots_not_empty}
 pub use Rattle.origin_model.proofs.files.WalkLemmas.{ReadSome, image_some}
 pub use Rattle.origin_model.proofs.relay.OneOutcomeLemmas.{NoFront, SomeKind, all_once, all_some, one_kind, run_once, run_some, step_once, step_some}

@@ -7,7 +7,7 @@ use Rattle.std.proofs.lemmas.Nat.{from_be_bytes-to_be_bytes_4}
 use Rattle.fugue_ids.specs.declared.limits.TheConstants.{GREATEST_HOLD}
 use Rattle.origin_model.specs.declared.files.TheConstants.{LONGEST_BATCH}
 use Rattle.origin_model.specs.files.Image.{Batch, Content, HasImage, Holds, IsBatch, batch_ops, content_of, header, header_of, is_header, last_slot, new_file, open_slot, open_slots, slots_of}
-use Rattle.origin_model.specs.frames.Frames.{HasFrame, frames}
+use Rattle.origin_model.specs.frames.Frames.{HasFrame, single_frames}
 use Rattle.origin_model.proofs.files.BatchLemmas.{batch_of, is_batch, ops-append, slots-append}
 
 -- a header, open slots, another gate than 1, and any bytes
@@ -104,7 +104,7 @@ with_batch content ops =
 
 -- a batch that is written in the place of the gate, open, with another gate than 1 behind it, is the file's last
 pub batch_appended : (bytes : List ℕ) (content : Content) (ops : List Op) (gate : ℕ) (rest : List ℕ) → HasImage bytes (Holds content) → All HasFrame ops
-    → length (frames ops) ≤ LONGEST_BATCH → content.slots < last_slot → gate ≢ 1
+    → length (single_frames ops) ≤ LONGEST_BATCH → content.slots < last_slot → gate ≢ 1
     → HasImage (take content.at bytes ++ (open_slot (batch_of ops) ++ gate ∷ rest)) (Holds (with_batch content ops))
 batch_appended bytes content ops gate rest h f short few closed =
     let p = to_parts bytes content h in

@@ -3,12 +3,13 @@ use Rattle.origin_model.proofs.Words.{AllByRecursion, List, Op, [], ap, append_a
 use Rattle.std.proofs.Math.Seq.{take-append_seam}
 use Rattle.std.proofs.lemmas.List.Elements.{recursion_from_All}
 use Rattle.origin_model.specs.files.Image.{BadBatch, Batch, Content, CutShort, EndsBadly, EndsWell, HasImage, Holds, Image, IsBatch, IsNoBatch, LastSlot, NoFrames, NoGate, NoLength, NotReplica, OpenSlots, TooLong, content_of, header_of, last_slot, number_at, open_slot, open_slots, slots_of}
+use Rattle.origin_model.specs.declared.grammar.Grammar.TheVariants.{Version1}
 use Rattle.origin_model.specs.frames.Frames.{Reads, Whole}
 use Rattle.origin_model.proofs.files.BatchLemmas.{behind_number, number_is, same_batch}
 
 -- bytes are read in one way
 abbrev pub ReadOnce : Type 0
-ReadOnce = (bytes : List ℕ) (ops others : List Op) → Reads bytes ops Whole → Reads bytes others Whole → ops ≡ others
+ReadOnce = (bytes : List ℕ) (ops others : List Op) → Reads Version1 bytes ops Whole → Reads Version1 bytes others Whole → ops ≡ others
 
 -- a list as long as none is empty
 empty : (xs : List ℕ) → length xs ≡ 0 → xs ≡ []
@@ -28,7 +29,7 @@ no_fault slot b more bytes h n l e (CutShort k) = omega (arith, k, ap (number_at
 no_fault slot b more bytes h n l e (NoFrames f) =
     let whole : take (number_at 0 bytes) (drop 4 bytes) ≡ b.bytes =
     (λ i. take ((ap (number_at 0) e ∙ number_is b (b.bytes ++ more) h) i) ((ap (drop 4) e ∙ behind_number b (b.bytes ++ more) h) i)) ∙ take-append_seam b.bytes more in
-    f b.ops (subst (λ z. Reads z b.ops Whole) (sym whole) h.reads)
+    f b.ops (subst (λ z. Reads Version1 z b.ops Whole) (sym whole) h.reads)
 no_fault slot b more bytes h n l e (NoGate k) = n (empty more (omega (arith, k, ap (number_at 0) e ∙ number_is b (b.bytes ++ more) h, ap length (ap (drop 4) e ∙ behind_number b (b.bytes ++ more) h), length-append b.bytes more)))
 no_fault slot b more bytes h n l e (LastSlot k) = omega (arith, k, l)
 

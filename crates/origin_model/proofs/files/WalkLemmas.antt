@@ -5,12 +5,13 @@ use Rattle.std.proofs.lemmas.List.{length-drop}
 use Rattle.std.specs.Prelude.{nat_le}
 use Rattle.origin_model.specs.declared.files.TheConstants.{LONGEST_BATCH}
 use Rattle.origin_model.specs.files.Image.{BadBatch, Batch, CutShort, HasImage, Holds, Image, IsBatch, IsNoBatch, LastSlot, NoFrames, NoGate, NoLength, NotReplica, TooLong, content_of, has_header, header_of, is_header, last_slot, number_at, open_slot, open_slots, slots_of}
+use Rattle.origin_model.specs.declared.grammar.Grammar.TheVariants.{Version1}
 use Rattle.origin_model.specs.frames.Frames.{Reads, Whole}
 use Rattle.origin_model.proofs.files.ImageLemmas.{Bad, Closed, Ends}
 
 -- bytes are whole frames of some operations, or of none
 abbrev pub ReadSome : Type 0
-ReadSome = (bytes : List ℕ) → ((ops : List Op) × Reads bytes ops Whole) ⊎ ((ops : List Op) → Reads bytes ops Whole → ⊥)
+ReadSome = (bytes : List ℕ) → ((ops : List Op) × Reads Version1 bytes ops Whole) ⊎ ((ops : List Op) → Reads Version1 bytes ops Whole → ⊥)
 
 -- a batch with bytes behind it stands in front
 record Stands (slot : ℕ) (bytes : List ℕ) : Type 0 where

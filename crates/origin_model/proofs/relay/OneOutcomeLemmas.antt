@@ -4,8 +4,10 @@ use Rattle.std.specs.FinMap as finite
 use Rattle.origin_model.specs.declared.relay.Event.{Event}
 use Rattle.origin_model.specs.declared.relay.Event.TheVariants.{Gone, Opened, Piece}
 use Rattle.origin_model.specs.declared.relay.Reply.{Reply}
+use Rattle.origin_model.specs.declared.grammar.Grammar.TheVariants.{Version1}
 use Rattle.origin_model.specs.frames.Frames.{HasFrame, IsPartial, frame}
 use Rattle.origin_model.specs.relay.Relay.{Relay, RelayRuns, RelaySteps, StepsPiece, session_opened, reply_of, sessions_after}
+use Rattle.origin_model.proofs.frames.SingleLemmas.{single_of}
 use Rattle.origin_model.specs.relay.Session.{Closes, Closing, Frame, Front, Goes, IsKind, Kind, Neither, Next, SessionReading, Taken, TakesAll, TakesByte, TakesOne, closing, greeted, told}
 
 -- no frame is a proper front of another
@@ -29,16 +31,18 @@ no_closing op more e = let l : 0x44 < 4 = begins_low op 0x44 more e in omega (ar
 
 -- a frame is not the closing byte
 frame_not_closing : (bytes : List ℕ) → IsKind Frame bytes → bytes ≡ closing → ⊥
-frame_not_closing bytes f e = no_closing f.1.op [] (sym f.1.bytes_are ∙ e)
+frame_not_closing bytes f e = let s = single_of _ f.1 in no_closing s.op [] (sym s.bytes_are ∙ e)
 
 -- nor does one begin with it
-front_not_closing : (bytes : List ℕ) → IsPartial bytes → bytes ≡ closing → ⊥
-front_not_closing bytes p e = no_closing p.is_frame.op p.more (sym p.is_frame.bytes_are ∙ p.front ∙ ap (λ t. t ++ p.more) e)
+front_not_closing : (bytes : List ℕ) → IsPartial Version1 bytes → bytes ≡ closing → ⊥
+front_not_closing bytes p e = let s = single_of p.framed p.is_frame in no_closing s.op p.more (sym s.bytes_are ∙ p.front ∙ ap (λ t. t ++ p.more) e)
 
 -- a frame is no proper front of one
-frame_not_front : NoFront → (bytes : List ℕ) → IsKind Frame bytes → IsPartial bytes → ⊥
+frame_not_front : NoFront → (bytes : List ℕ) → IsKind Frame bytes → IsPartial Version1 bytes → ⊥
 frame_not_front one bytes f p =
-    let none = one f.1.op p.is_frame.op p.more f.1.has_frame p.is_frame.has_frame (sym p.is_frame.bytes_are ∙ p.front ∙ ap (λ t. t ++ p.more) f.1.bytes_are) in
+    let s = single_of _ f.1 in
+    let t = single_of p.framed p.is_frame in
+    let none = one s.op t.op p.more s.has_frame t.has_frame (sym t.bytes_are ∙ p.front ∙ ap (λ z. z ++ p.more) s.bytes_are) in
     let long : length p.more ≡ 0 = ap length none in
     let lacks : 0 < length p.more = p.lacks in
     absurd (omega arith)

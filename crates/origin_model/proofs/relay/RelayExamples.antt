@@ -10,6 +10,7 @@ use Rattle.origin_model.specs.declared.relay.Event.{Event}
 use Rattle.origin_model.specs.declared.relay.Event.TheVariants.{Gone, Opened, Piece}
 use Rattle.origin_model.specs.declared.relay.Reply.{Reply}
 use Rattle.origin_model.specs.frames.Frames.{HasFrame, frame}
+use Rattle.origin_model.proofs.frames.SingleLemmas.{single_of}
 use Rattle.origin_model.specs.relay.Relay.{Relay, RelayRuns, Sessions, RelaySteps, new_relay, reply_of}
 use Rattle.origin_model.specs.relay.Session.{reply_from, Closes, Goes, SessionReading, IsKind, Neither, Taken, TakesAll, closing, session_goes_on, greeted, refusal_message, session_refused, unread}
 use Rattle.origin_model.proofs.relay.OneOutcomeLemmas.{begins_low, first}
@@ -184,8 +185,8 @@ no_replica_0 (Delete target) more h e = let d : 3 ≡ 2 = ap first e in omega (a
 -- bytes behind a whole message that no frame begins with are none of a message
 no_message : (bytes : List ℕ) → ((op : Op) (more : List ℕ) → HasFrame op → frame op ≡ bytes ++ more → ⊥) → bytes ≢ closing → IsKind Neither bytes
 no_message bytes none apart = (
-  λ ops f. none f.op [] f.has_frame (sym f.bytes_are ∙ sym (append-nil bytes)),
-  λ p. none p.is_frame.op p.more p.is_frame.has_frame (sym p.is_frame.bytes_are ∙ p.front),
+  λ ops f. let s = single_of _ f in none s.op [] s.has_frame (sym s.bytes_are ∙ sym (append-nil bytes)),
+  λ p. let s = single_of p.framed p.is_frame in none s.op p.more s.has_frame (sym s.bytes_are ∙ p.front),
   apart,
 )
 

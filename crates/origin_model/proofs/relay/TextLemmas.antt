@@ -2,9 +2,10 @@
 use Rattle.origin_model.proofs.Words.{Delete, List, Op, Section, Some, Text, [], ap, append-nil, append_assoc, arith, refl, subst, sym, ℕ, ◌++◌, ◌<◌, ◌^◌, ◌∙◌, ◌∷◌, ◌≡◌}
 use Rattle.std.proofs.lemmas.Nat.{from_be_bytes-to_be_bytes_4}
 use Rattle.std.specs.Int.{byte_at, to_be_bytes, w32}
-use Rattle.origin_model.specs.frames.Frames.{HasFrame, IsPartial, frame}
+use Rattle.origin_model.specs.declared.grammar.Grammar.TheVariants.{Version1}
+use Rattle.origin_model.specs.frames.Frames.{HasFrame, IsPartial, Single, frame}
 use Rattle.origin_model.specs.relay.Session.{Closes, Closing, Frame, Front, Goes, Taken, TakesAll, reply_from, at_cursor, closing, greeted, greeting, logged, unread}
-use Rattle.origin_model.proofs.files.BatchLemmas.{framed_is, framed_of}
+use Rattle.origin_model.proofs.frames.SingleLemmas.{framed_is, framed_of}
 
 -- bytes that come one after the other are read as the bytes joined
 pub takes-append : (limit : ℕ) (xs ys : List ℕ) (a b c : Taken) → TakesAll limit xs a b → TakesAll limit ys b c → TakesAll limit (xs ++ ys) a c
@@ -21,9 +22,9 @@ abbrev pub partly : List (List ℕ) → ℕ → List ℕ → Taken
 partly log cursor rest = record { log = log; next = Goes (record { cursor = Some cursor; rest = rest }) }
 
 -- bytes with more behind them in a frame
-pub front_of : (op : Op) → HasFrame op → (xs : List ℕ) (y : ℕ) (ys : List ℕ) → frame op ≡ xs ++ y ∷ ys → IsPartial xs
+pub front_of : (op : Op) → HasFrame op → (xs : List ℕ) (y : ℕ) (ys : List ℕ) → frame op ≡ xs ++ y ∷ ys → IsPartial Version1 xs
 front_of op has xs y ys e =
-    record { framed = framed_of op; is_frame = framed_is op has; more = y ∷ ys; lacks = omega arith; front = e }
+    record { framed = framed_of op; is_frame = framed_is Version1 op has; more = y ∷ ys; lacks = omega arith; front = e }
 
 -- bytes within a frame change nothing yet
 pub front_takes : (limit cursor : ℕ) (log : List (List ℕ)) (op : Op) → HasFrame op → (xs ys : List ℕ) (z : ℕ) (zs : List ℕ) → frame op ≡ xs ++ (ys ++ z ∷ zs)
@@ -36,7 +37,7 @@ front_takes limit cursor log op has xs (y ∷ ys) z zs e =
       subst (λ r. TakesAll limit ys (partly log cursor (xs ++ y ∷ [])) (partly log cursor r)) (append_assoc xs (y ∷ []) ys) (front_takes limit cursor log op has (xs ++ y ∷ []) ys z zs split),
     )
   where
-    next_front : (xs ys : List ℕ) (z : ℕ) (zs : List ℕ) → frame op ≡ xs ++ (ys ++ z ∷ zs) → IsPartial xs
+    next_front : (xs ys : List ℕ) (z : ℕ) (zs : List ℕ) → frame op ≡ xs ++ (ys ++ z ∷ zs) → IsPartial Version1 xs
     next_front xs [] z zs e = front_of op has xs z zs e
     next_front xs (y ∷ ys) z zs e = front_of op has xs y (ys ++ z ∷ zs) e
 
@@ -44,7 +45,7 @@ front_takes limit cursor log op has xs (y ∷ ys) z zs e =
 pub rest_takes : (limit cursor : ℕ) (log : List (List ℕ)) (op : Op) → HasFrame op → (ys xs : List ℕ) (y : ℕ) → frame op ≡ xs ++ y ∷ ys
     → TakesAll limit (y ∷ ys) (partly log cursor xs) (logged limit log cursor (frame op))
 rest_takes limit cursor log op has [] xs y e =
-    (logged limit log cursor (frame op), (Frame, (op ∷ [], record { op = op; has_frame = has; bytes_are = sym e; ops_are = refl }), ap (logged limit log cursor) e), refl)
+    (logged limit log cursor (frame op), (Frame, (op ∷ [], record { item = Single op; is_item = has; bytes_are = sym e; ops_are = refl }), ap (logged limit log cursor) e), refl)
 rest_takes limit cursor log op has (z ∷ zs) xs y e =
     let split : frame op ≡ (xs ++ y ∷ []) ++ z ∷ zs = e ∙ sym (append_assoc xs (y ∷ []) (z ∷ zs)) in
     (partly log cursor (xs ++ y ∷ []), (Front, front_of op has (xs ++ y ∷ []) z zs split, refl), rest_takes limit cursor log op has zs (xs ++ y ∷ []) z split)

@@ -5,6 +5,7 @@ use Rattle.std.specs.Int.{from_be_bytes, to_be_bytes, w32}
 use Rattle.fugue_ids.specs.declared.limits.TheConstants.{GREATEST_HOLD, MOST_OPERATIONS}
 use Rattle.fugue_ids.specs.declared.op.Op.{Op}
 use Rattle.origin_model.specs.declared.files.TheConstants.{LONGEST_BATCH}
+use Rattle.origin_model.specs.declared.grammar.Grammar.TheVariants.{Version1}
 use Rattle.origin_model.specs.frames.Frames.{Reads, Whole}
 use Rattle.origin_model.specs.taking.Taking.{Held, held}
 
@@ -48,7 +49,7 @@ pub record IsBatch (batch : Batch) : Type 0 where
   pub four_bytes : length batch.number ≡ 4
   pub counts : from_be_bytes w32 batch.number ≡ length batch.bytes
   pub short : length batch.bytes ≤ LONGEST_BATCH
-  pub reads : Reads batch.bytes batch.ops Whole
+  pub reads : Reads Version1 batch.bytes batch.ops Whole
 
 -- the bytes of an open slot
 abbrev pub open_slot : Batch → List ℕ
@@ -79,7 +80,7 @@ pub data IsNoBatch (slot : ℕ) (bytes : List ℕ) : Type 0 where
   TooLong : LONGEST_BATCH < number_at 0 bytes → IsNoBatch slot bytes
   CutShort : length (drop 4 bytes) < number_at 0 bytes → IsNoBatch slot bytes
   -- the bytes are not whole frames
-  NoFrames : ((ops : List Op) → Reads (take (number_at 0 bytes) (drop 4 bytes)) ops Whole → ⊥) → IsNoBatch slot bytes
+  NoFrames : ((ops : List Op) → Reads Version1 (take (number_at 0 bytes) (drop 4 bytes)) ops Whole → ⊥) → IsNoBatch slot bytes
   -- no byte stands behind the bytes of the slot
   NoGate : length (drop 4 bytes) ≡ number_at 0 bytes → IsNoBatch slot bytes
   -- the slot has the last number

@@ -4,6 +4,7 @@ use Rattle.std.specs.List.{list_any}
 use Rattle.std.specs.Cmp.Lexicographic.{pointwise}
 use Rattle.std.specs.Int.{from_be_bytes, to_be_bytes, w32}
 use Rattle.fugue_ids.specs.declared.op.Op.{Op}
+use Rattle.origin_model.specs.declared.grammar.Grammar.TheVariants.{Version1}
 use Rattle.origin_model.specs.frames.Frames.{IsFrame, IsPartial}
 
 -- the message that begins a text, with a cursor behind it, and the one that ends it
@@ -76,10 +77,10 @@ pub data Kind : Type 0 where
   Neither : Kind
 
 abbrev pub IsKind : Kind → List ℕ → Type 0
-IsKind Frame bytes = (ops : List Op) × IsFrame (record { bytes = bytes; ops = ops })
+IsKind Frame bytes = (ops : List Op) × IsFrame Version1 (record { bytes = bytes; ops = ops })
 IsKind Closing bytes = bytes ≡ closing
-IsKind Front bytes = IsPartial bytes
-IsKind Neither bytes = ((ops : List Op) → IsFrame (record { bytes = bytes; ops = ops }) → ⊥) × (IsPartial bytes → ⊥) × (bytes ≢ closing)
+IsKind Front bytes = IsPartial Version1 bytes
+IsKind Neither bytes = ((ops : List Op) → IsFrame Version1 (record { bytes = bytes; ops = ops }) → ⊥) × (IsPartial Version1 bytes → ⊥) × (bytes ≢ closing)
 
 -- and what they do
 abbrev pub told : Kind → (limit : ℕ) → List (List ℕ) → (cursor : ℕ) → List ℕ → Taken

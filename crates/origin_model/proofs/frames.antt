@@ -1,0 +1,2 @@
+-- On frames.
+pub mod SingleLemmas
