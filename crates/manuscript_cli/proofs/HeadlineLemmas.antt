@@ -2,6 +2,7 @@
 use Rattle.std.proofs.Common.{◌≡◌, ◌≢◌, ℕ, ◌≤◌, List, length, refl, ap, sym, subst, ◌∙◌, inl, inr}
 use Rattle.std.specs.Prelude.{Some}
 use Rattle.fugue_ids.specs.declared.op.Op.{Op}
+use Rattle.origin_model.specs.declared.grammar.Grammar.TheVariants.{Version2}
 use Rattle.origin_model.specs.frames.Frames.{Reads, Whole as EndsWhole}
 use Rattle.origin_model.specs.order.Laws.{OrderBySet}
 use Rattle.origin_model.specs.taking.Taking.{HasPlace, held, nothing_held}
@@ -51,11 +52,11 @@ decided hold old new status.NoMemory meets bytes ops course is comes = inr (inl 
 decided hold old new status.Usage meets bytes ops course is comes = absurd meets
 decided hold old new status.BadFile meets bytes ops course is comes = absurd meets
 
-whole : (hold : ℕ) (bytes : List ℕ) (ops : List Op) → Reads bytes ops EndsWhole → length bytes ≤ STREAM_LIMIT → HasPlace hold MOST_OPERATIONS nothing_held ops → ShowEndsAs hold bytes ops Whole
+whole : (hold : ℕ) (bytes : List ℕ) (ops : List Op) → Reads Version2 bytes ops EndsWhole → length bytes ≤ STREAM_LIMIT → HasPlace hold MOST_OPERATIONS nothing_held ops → ShowEndsAs hold bytes ops Whole
 whole hold bytes ops reads short place = record { has_place = place; ends = (short, reads) }
 
 -- where no object failed and no limit was met, the stream was shown
-whole_showed : (hold : ℕ) (old new : Streams) (end : Status) (bytes : List ℕ) (ops : List Op) → ShowMeets hold old new end → old.input.left ≡ Some bytes → Reads bytes ops EndsWhole → length bytes ≤ STREAM_LIMIT
+whole_showed : (hold : ℕ) (old new : Streams) (end : Status) (bytes : List ℕ) (ops : List Op) → ShowMeets hold old new end → old.input.left ≡ Some bytes → Reads Version2 bytes ops EndsWhole → length bytes ≤ STREAM_LIMIT
     → HasPlace hold MOST_OPERATIONS nothing_held ops → IsCalm old new → end ≢ status.NoMemory → Showed hold nothing_held ops old new end
 whole_showed hold old new status.Done bytes ops meets is reads short place calm memory =
     (finished_so hold old new bytes ops Whole is (whole hold bytes ops reads short place) status.Done meets).0

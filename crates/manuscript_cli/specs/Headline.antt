@@ -3,6 +3,7 @@ use Rattle.std.specs.Prelude.{◌≡◌, ◌≢◌, ◌⊎◌, ℕ, ◌≤◌, L
 use Rattle.fugue_ids.specs.Causes.{Rose}
 use Rattle.fugue_ids.specs.Outs.{OutView}
 use Rattle.fugue_ids.specs.declared.op.Op.{Op}
+use Rattle.origin_model.specs.declared.grammar.Grammar.TheVariants.{Version2}
 use Rattle.origin_model.specs.frames.Frames.{Reads, Whole as EndsWhole}
 use Rattle.origin_model.specs.taking.Taking.{HasPlace, held, nothing_held}
 use Rattle.op_frame.specs.Courses.{IntakeCourse, Whole, CutShort, BadFrame, TooLong, TooMany}
@@ -33,7 +34,7 @@ pub record ShowedBySet (hold : ℕ) (ops : List Op) (old new : Streams) (end : S
 -- otherwise it waits within the stated capacity or is refused by name; so replicas that accepted the same set print equal bytes.
 abbrev pub Headline : (hold : ℕ) → Streams → Streams → Status → Type 0
 Headline hold old new end =
-    (bytes : List ℕ) (ops : List Op) → old.input.left ≡ Some bytes → Reads bytes ops EndsWhole → length bytes ≤ STREAM_LIMIT → HasPlace hold MOST_OPERATIONS nothing_held ops
+    (bytes : List ℕ) (ops : List Op) → old.input.left ≡ Some bytes → Reads Version2 bytes ops EndsWhole → length bytes ≤ STREAM_LIMIT → HasPlace hold MOST_OPERATIONS nothing_held ops
     → IsCalm old new → end ≢ status.NoMemory → ShowedBySet hold ops old new end
 
 -- the status to which a stream leads

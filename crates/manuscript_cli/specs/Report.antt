@@ -2,7 +2,7 @@
 use Rattle.std.specs.Prelude.{◌≡◌, ◌≢◌, ◌⊎◌, ℕ, List, [], length}
 use Rattle.fugue_ids.specs.Causes.{Rose}
 use Rattle.fugue_ids.specs.Outs.{OutView}
-use Rattle.origin_model.specs.frames.Frames.{frames}
+use Rattle.origin_model.specs.frames.Frames.{single_frames}
 use Rattle.origin_model.specs.order.Printed.{manuscript}
 use Rattle.origin_model.specs.taking.Taking.{Held}
 use Rattle.outer_ports.specs.disk.Disks.{DiskView}
@@ -109,4 +109,4 @@ printed_of held = manuscript held.history
 
 -- what `send` reports: the frames of all that is held
 abbrev pub frames_held : Held → List ℕ
-frames_held held = frames (ops_of held)
+frames_held held = single_frames (ops_of held)

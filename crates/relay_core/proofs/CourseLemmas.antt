@@ -5,7 +5,7 @@ use Rattle.std.specs.Int.{from_be_bytes, w32}
 use Rattle.std.proofs.lemmas.Bool.{eq-eqb, eqb-true, le-ltb, lt-ltb, ltb-false, ltb-true, true≢false}
 use Rattle.std.proofs.lemmas.List.Elements.{All-nil}
 use Rattle.fugue_ids.specs.declared.op.Op.{Op}
-use Rattle.origin_model.specs.frames.Frames.{HasFrame, frames}
+use Rattle.origin_model.specs.frames.Frames.{HasFrame, single_frames}
 use Rattle.origin_model.specs.relay.Session.{Goes, SessionReading, Taken, TakesAll, at_cursor, session_goes_on, greeting, refusal_message, session_refused, unread}
 use Rattle.origin_model.proofs.SharedLemmas.{closed_takes, takes-append}
 use Rattle.op_frame.proofs.StreamLemmas.{no_bytes_are_partial}
@@ -62,10 +62,10 @@ taken_by course log text = record { log = log_behind course log; next = becomes 
 
 -- the greeting of a text, and what it says behind it
 says_takes : (limit : ℕ) (log : List (List ℕ)) (text : List ℕ) (cursor : ℕ) (new : List Op) (rest : List ℕ) (after : Taken) → (says : Says text cursor new rest)
-    → TakesAll limit (frames new ++ rest) (at_cursor log cursor) after → TakesAll limit text (record { log = log; next = Goes unread }) after
+    → TakesAll limit (single_frames new ++ rest) (at_cursor log cursor) after → TakesAll limit text (record { log = log; next = Goes unread }) after
 says_takes limit log text cursor new rest after says h =
     subst (λ (bytes : List ℕ). TakesAll limit bytes (record { log = log; next = Goes unread }) after) (sym says.text_is)
-    (takes-append limit (greeting ∷ says.number) (frames new ++ rest) (record { log = log; next = Goes unread }) (at_cursor log cursor) after
+    (takes-append limit (greeting ∷ says.number) (single_frames new ++ rest) (record { log = log; next = Goes unread }) (at_cursor log cursor) after
     (subst (λ (c : ℕ). TakesAll limit (greeting ∷ says.number) (record { log = log; next = Goes unread }) (at_cursor log c)) (sym says.cursor_is) (greeting_takes limit log says.number says.four_bytes)) h)
 
 -- the session of a whole text comes to what its course says
@@ -85,7 +85,7 @@ course_takes Beyond limit log text is =
 course_takes (Speaks cursor new rest follows) limit log text is =
     let after : Taken = outcome follows cursor (with_frames log new) rest in
     says_takes limit log text cursor new rest after is.0
-    (subst (λ (t : Taken). TakesAll limit (frames new ++ rest) t after) (sym (within_log log cursor is.1))
+    (subst (λ (t : Taken). TakesAll limit (single_frames new ++ rest) t after) (sym (within_log log cursor is.1))
     (frames_take limit cursor new log rest after is.0.have_frames is.2 (rest_takes follows limit cursor (with_frames log new) rest is.3)))
 
 -- a text is of some course

@@ -2,9 +2,10 @@
 use Rattle.std.proofs.Common.{[], List, ap, append_assoc, inl, inr, sym, ℕ, ◌++◌, ◌∙◌, ◌∷◌, ◌≡◌}
 use Rattle.std.proofs.lemmas.List.{append-nil}
 use Rattle.fugue_ids.specs.declared.op.Op.{Op}
+use Rattle.origin_model.specs.declared.grammar.Grammar.TheVariants.{Version1}
 use Rattle.origin_model.specs.frames.Frames.{Framed, Begins, IsFrame, IsPartial, frame}
 use Rattle.origin_model.specs.relay.Session.{Closing, Frame, Front, IsKind, Kind, Neither, closing}
-use Rattle.origin_model.proofs.SharedLemmas.{SomeKind, run_once, run_some, step_once, step_some}
+use Rattle.origin_model.proofs.SharedLemmas.{SomeKind, run_once, run_some, single_of, step_once, step_some}
 use Rattle.op_frame.proofs.FrontLemmas.{Front as Found, bad_there, front_of, frame_there, front_there}
 use Rattle.op_frame.proofs.OperationLemmas.{no_front}
 use Rattle.op_frame.proofs.SearchLemmas.{Decided, equal_decided}
@@ -20,7 +21,7 @@ closing_decided (x ∷ []) = elim (equal_decided x 0x44) [
 closing_decided (x ∷ y ∷ more) = inr (λ e. cc e)
 
 -- bytes that are neither a frame nor a front of one
-none_of : (bytes : List ℕ) → ((ops : List Op) → IsFrame (record { bytes = bytes; ops = ops }) → ⊥) → (IsPartial bytes → ⊥) → (kind : Kind) × IsKind kind bytes
+none_of : (bytes : List ℕ) → ((ops : List Op) → IsFrame Version1 (record { bytes = bytes; ops = ops }) → ⊥) → (IsPartial Version1 bytes → ⊥) → (kind : Kind) × IsKind kind bytes
 none_of bytes none apart = elim (closing_decided bytes) [
   | inl same ↦ (Closing, same)
   | inr other ↦ (Neither, (none, apart, other))
@@ -30,16 +31,15 @@ none_of bytes none apart = elim (closing_decided bytes) [
 pub some_kind : SomeKind
 some_kind bytes = by (front_of bytes)
   where
-    begins : (framed : Framed) (rest : List ℕ) → Begins bytes framed rest → (kind : Kind) × IsKind kind bytes
+    begins : (framed : Framed) (rest : List ℕ) → Begins Version1 bytes framed rest → (kind : Kind) × IsKind kind bytes
     begins framed [] b =
-        let op : Op = b.is_frame.op in
-        (Frame, (framed.ops, record { op = op; has_frame = b.is_frame.has_frame; bytes_are = b.split ∙ append-nil framed.bytes ∙ b.is_frame.bytes_are; ops_are = b.is_frame.ops_are }))
+        (Frame, (framed.ops, record { item = b.is_frame.item; is_item = b.is_frame.is_item; bytes_are = b.split ∙ append-nil framed.bytes ∙ b.is_frame.bytes_are; ops_are = b.is_frame.ops_are }))
     begins framed (z ∷ zs) b =
-        let op : Op = b.is_frame.op in
-        let split : bytes ≡ frame op ++ z ∷ zs = b.split ∙ ap (λ t. t ++ z ∷ zs) b.is_frame.bytes_are in
-        none_of bytes (λ ops f. absurd (cc (no_front op f.op (z ∷ zs) b.is_frame.has_frame f.has_frame (sym f.bytes_are ∙ split))))
-        (λ p. absurd (cc (no_front op p.is_frame.op (z ∷ zs ++ p.more) b.is_frame.has_frame p.is_frame.has_frame
-        (sym p.is_frame.bytes_are ∙ p.front ∙ ap (λ t. t ++ p.more) split ∙ append_assoc (frame op) (z ∷ zs) p.more))))
+        let s = single_of framed b.is_frame in
+        let split : bytes ≡ frame s.op ++ z ∷ zs = b.split ∙ ap (λ t. t ++ z ∷ zs) s.bytes_are in
+        none_of bytes (λ ops f. let t = single_of _ f in absurd (cc (no_front s.op t.op (z ∷ zs) s.has_frame t.has_frame (sym t.bytes_are ∙ split))))
+        (λ p. let t = single_of p.framed p.is_frame in absurd (cc (no_front s.op t.op (z ∷ zs ++ p.more) s.has_frame t.has_frame
+        (sym t.bytes_are ∙ p.front ∙ ap (λ x. x ++ p.more) split ∙ append_assoc (frame s.op) (z ∷ zs) p.more))))
 
     by : Found bytes → (kind : Kind) × IsKind kind bytes
     by (frame_there framed rest b) = begins framed rest b

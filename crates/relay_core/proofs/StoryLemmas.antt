@@ -6,7 +6,8 @@ use Rattle.std.proofs.lemmas.Grind.{flat_map-append}
 use Rattle.std.proofs.lemmas.List.{append-nil, append_cancel_left}
 use Rattle.std.proofs.lemmas.List.Elements.{All-append, All-tail}
 use Rattle.fugue_ids.specs.declared.op.Op.{Op}
-use Rattle.origin_model.specs.frames.Frames.{HasFrame, IsPartial, frame, frames}
+use Rattle.origin_model.specs.declared.grammar.Grammar.TheVariants.{Version1}
+use Rattle.origin_model.specs.frames.Frames.{HasFrame, IsPartial, frame, single_frames}
 use Rattle.origin_model.specs.relay.Session.{Closes, Goes, Next, SessionReading, Taken, TakesAll, session_goes_on, greeting, unread}
 use Rattle.origin_model.proofs.SharedLemmas.{all_once, partly, takes-append}
 use Rattle.op_frame.proofs.CodeLemmas.{same_fronts}
@@ -16,7 +17,7 @@ use Rattle.op_frame.proofs.OperationLemmas.{no_front}
 use Rattle.relay_core.proofs.TextLemmas.{Reads, behind, frames_take, front_goes, grown, outcome, reads, rest_takes}
 
 -- a text goes on with frames
-says_more : (text bytes : List ℕ) (cursor : ℕ) (before new : List Op) (rest next : List ℕ) → Says text cursor before rest → All HasFrame new → rest ++ bytes ≡ frames new ++ next
+says_more : (text bytes : List ℕ) (cursor : ℕ) (before new : List Op) (rest next : List ℕ) → Says text cursor before rest → All HasFrame new → rest ++ bytes ≡ single_frames new ++ next
     → Says (text ++ bytes) cursor (before ++ new) next
 says_more text bytes cursor before new rest next says have split = record {
   number = says.number;
@@ -24,8 +25,8 @@ says_more text bytes cursor before new rest next says have split = record {
   cursor_is = says.cursor_is;
   have_frames = All-append HasFrame before new says.have_frames have;
   text_is = ap (λ (t : List ℕ). t ++ bytes) says.text_is ∙ ap (λ t. greeting ∷ t)
-      (append_assoc says.number (frames before ++ rest) bytes ∙ ap (λ (t : List ℕ). says.number ++ t)
-      (append_assoc (frames before) rest bytes ∙ ap (λ (t : List ℕ). frames before ++ t) split ∙ sym (append_assoc (frames before) (frames new) next)
+      (append_assoc says.number (single_frames before ++ rest) bytes ∙ ap (λ (t : List ℕ). says.number ++ t)
+      (append_assoc (single_frames before) rest bytes ∙ ap (λ (t : List ℕ). single_frames before ++ t) split ∙ sym (append_assoc (single_frames before) (single_frames new) next)
       ∙ ap (λ (t : List ℕ). t ++ next) (sym (flat_map-append frame before new))));
 }
 
@@ -35,36 +36,36 @@ record SameGreeting (cursor other : ℕ) (behind next : List ℕ) : Type 0 where
   behind_is : behind ≡ next
 
 same_greeting : (text bytes : List ℕ) (cursor other : ℕ) (before all : List Op) (rest next : List ℕ) → Says text cursor before rest → Says (text ++ bytes) other all next
-    → SameGreeting cursor other (frames before ++ rest ++ bytes) (frames all ++ next)
+    → SameGreeting cursor other (single_frames before ++ rest ++ bytes) (single_frames all ++ next)
 same_greeting text bytes cursor other before all rest next a b =
-    let whole : greeting ∷ (a.number ++ (frames before ++ rest ++ bytes)) ≡ greeting ∷ (b.number ++ (frames all ++ next))
-    = ap (λ t. greeting ∷ t) (sym (append_assoc a.number (frames before ++ rest) bytes)) ∙ ap (λ (t : List ℕ). t ++ bytes) (sym a.text_is) ∙ b.text_is in
-    let tails : a.number ++ (frames before ++ rest ++ bytes) ≡ b.number ++ (frames all ++ next) = cc whole in
-    let both = same_fronts a.number b.number (frames before ++ rest ++ bytes) (frames all ++ next) (a.four_bytes ∙ sym b.four_bytes) tails in
+    let whole : greeting ∷ (a.number ++ (single_frames before ++ rest ++ bytes)) ≡ greeting ∷ (b.number ++ (single_frames all ++ next))
+    = ap (λ t. greeting ∷ t) (sym (append_assoc a.number (single_frames before ++ rest) bytes)) ∙ ap (λ (t : List ℕ). t ++ bytes) (sym a.text_is) ∙ b.text_is in
+    let tails : a.number ++ (single_frames before ++ rest ++ bytes) ≡ b.number ++ (single_frames all ++ next) = cc whole in
+    let both = same_fronts a.number b.number (single_frames before ++ rest ++ bytes) (single_frames all ++ next) (a.four_bytes ∙ sym b.four_bytes) tails in
     record { cursor_is = b.cursor_is ∙ ap (from_be_bytes w32) (sym both.0) ∙ sym a.cursor_is; behind_is = both.1 }
 
 -- and what was not said before is new
-says_new : (text bytes : List ℕ) (cursor other : ℕ) (before new : List Op) (rest next : List ℕ) → Says text cursor before rest → Says (text ++ bytes) other (before ++ new) next → rest ++ bytes ≡ frames new ++ next
+says_new : (text bytes : List ℕ) (cursor other : ℕ) (before new : List Op) (rest next : List ℕ) → Says text cursor before rest → Says (text ++ bytes) other (before ++ new) next → rest ++ bytes ≡ single_frames new ++ next
 says_new text bytes cursor other before new rest next a b =
     let same = same_greeting text bytes cursor other before (before ++ new) rest next a b in
-    append_cancel_left (frames before) (rest ++ bytes) (frames new ++ next)
-    (sym (append_assoc (frames before) rest bytes) ∙ same.behind_is ∙ ap (λ (t : List ℕ). t ++ next) (flat_map-append frame before new) ∙ append_assoc (frames before) (frames new) next)
+    append_cancel_left (single_frames before) (rest ++ bytes) (single_frames new ++ next)
+    (sym (append_assoc (single_frames before) rest bytes) ∙ same.behind_is ∙ ap (λ (t : List ℕ). t ++ next) (flat_map-append frame before new) ∙ append_assoc (single_frames before) (single_frames new) next)
 
 -- the bytes behind the last whole message
 unfoldable rest_of : Next → List ℕ
 rest_of (Goes reading) = reading.rest
 rest_of (Closes reply) = reply
 
-one_rest : (a b : List Op) (r s : List ℕ) → All HasFrame a → All HasFrame b → IsPartial r → IsPartial s → frames a ++ r ≡ frames b ++ s → r ≡ s
+one_rest : (a b : List Op) (r s : List ℕ) → All HasFrame a → All HasFrame b → IsPartial Version1 r → IsPartial Version1 s → single_frames a ++ r ≡ single_frames b ++ s → r ≡ s
 unfolding rest_of
 one_rest a b r s have has p q is =
     let limit : ℕ = length (with_frames [] a) + length (with_frames [] b) in
-    let x : TakesAll limit (frames b ++ s) (session_goes_on [] 0) (partly (with_frames [] a) 0 r)
+    let x : TakesAll limit (single_frames b ++ s) (session_goes_on [] 0) (partly (with_frames [] a) 0 r)
     = subst (λ (t : List ℕ). TakesAll limit t (session_goes_on [] 0) (partly (with_frames [] a) 0 r)) is
     (frames_take limit 0 a [] r (partly (with_frames [] a) 0 r) have (omega arith) (front_goes limit 0 (with_frames [] a) r p)) in
-    let y : TakesAll limit (frames b ++ s) (session_goes_on [] 0) (partly (with_frames [] b) 0 s)
+    let y : TakesAll limit (single_frames b ++ s) (session_goes_on [] 0) (partly (with_frames [] b) 0 s)
     = frames_take limit 0 b [] s (partly (with_frames [] b) 0 s) has (omega arith) (front_goes limit 0 (with_frames [] b) s q) in
-    ap (λ (t : Taken). rest_of t.next) (all_once no_front limit (frames b ++ s) (session_goes_on [] 0) (partly (with_frames [] a) 0 r) (partly (with_frames [] b) 0 s) x y)
+    ap (λ (t : Taken). rest_of t.next) (all_once no_front limit (single_frames b ++ s) (session_goes_on [] 0) (partly (with_frames [] a) 0 r) (partly (with_frames [] b) 0 s) x y)
 
 -- how far an open session was read is what its text says
 pub record Spoken (log : List (List ℕ)) (text : List ℕ) (reading : SessionReading) : Type 0 where
@@ -72,7 +73,7 @@ pub record Spoken (log : List (List ℕ)) (text : List ℕ) (reading : SessionRe
   pub ops : List Op
   pub rest : List ℕ
   pub says : Says text cursor ops rest
-  pub partial : IsPartial rest
+  pub partial : IsPartial Version1 rest
   pub within : cursor ≤ length log
   pub reading_is : reading ≡ record { cursor = Some cursor; rest = rest }
 
@@ -82,13 +83,13 @@ ReadSo log text reading = (IsGreetingFront text × (reading ≡ record { cursor 
 -- a text with a whole greeting is no front of one
 not_both : (text bytes : List ℕ) (cursor : ℕ) (ops : List Op) (rest : List ℕ) → Says text cursor ops rest → IsGreetingFront (text ++ bytes) → ⊥
 not_both text bytes cursor ops rest says front =
-    let few : length (says.number ++ (frames ops ++ rest) ++ bytes) < 4 = (subst (λ (t : List ℕ). IsGreetingFront (t ++ bytes)) says.text_is front).1 in
-    omega (arith, few, says.four_bytes, length-append says.number (frames ops ++ rest), length-append (says.number ++ (frames ops ++ rest)) bytes)
+    let few : length (says.number ++ (single_frames ops ++ rest) ++ bytes) < 4 = (subst (λ (t : List ℕ). IsGreetingFront (t ++ bytes)) says.text_is front).1 in
+    omega (arith, few, says.four_bytes, length-append says.number (single_frames ops ++ rest), length-append (says.number ++ (single_frames ops ++ rest)) bytes)
 
 front_not_said : (text : List ℕ) (cursor : ℕ) (ops : List Op) (rest : List ℕ) → Says text cursor ops rest → IsGreetingFront text → ⊥
 front_not_said text cursor ops rest says front =
-    let few : length (says.number ++ (frames ops ++ rest)) < 4 = (subst IsGreetingFront says.text_is front).1 in
-    omega (arith, few, says.four_bytes, length-append says.number (frames ops ++ rest))
+    let few : length (says.number ++ (single_frames ops ++ rest)) < 4 = (subst IsGreetingFront says.text_is front).1 in
+    omega (arith, few, says.four_bytes, length-append says.number (single_frames ops ++ rest))
 
 -- bytes that came to an open session, by the text before and with them
 pub record Read (limit : ℕ) (log : List (List ℕ)) (text bytes : List ℕ) (after : Taken) : Type 0 where
@@ -125,11 +126,11 @@ read_on limit log text bytes reading after room (inr s) h =
     }
 
 -- the machine comes to what the course says
-spoken_takes : (course : SessionText) (limit : ℕ) (log : List (List ℕ)) (text bytes : List ℕ) (reading : SessionReading) (before : List Op) (rest : List ℕ) (cursor : ℕ) → Spoken log text reading → Says text cursor before rest → IsPartial rest
+spoken_takes : (course : SessionText) (limit : ℕ) (log : List (List ℕ)) (text bytes : List ℕ) (reading : SessionReading) (before : List Op) (rest : List ℕ) (cursor : ℕ) → Spoken log text reading → Says text cursor before rest → IsPartial Version1 rest
     → IsCourse course limit log before (text ++ bytes) → TakesAll limit bytes (record { log = log; next = Goes reading }) (taken_by course log (text ++ bytes))
 spoken_takes Greets limit log text bytes reading before rest cursor s says partial is = absurd (not_both text bytes cursor before rest says is)
 spoken_takes NoGreeting limit log text bytes reading before rest cursor s says partial is =
-    let first : greeting ∷ (says.number ++ (frames before ++ rest) ++ bytes) ≡ is.0 ∷ is.1 = ap (λ (t : List ℕ). t ++ bytes) (sym says.text_is) ∙ is.3 in
+    let first : greeting ∷ (says.number ++ (single_frames before ++ rest) ++ bytes) ≡ is.0 ∷ is.1 = ap (λ (t : List ℕ). t ++ bytes) (sym says.text_is) ∙ is.3 in
     absurd (is.2 (sym (cc first)))
 spoken_takes Beyond limit log text bytes reading before rest cursor s says partial is =
     let same = same_greeting text bytes s.cursor is.0 s.ops [] s.rest is.1 s.says is.2 in
@@ -137,8 +138,8 @@ spoken_takes Beyond limit log text bytes reading before rest cursor s says parti
 spoken_takes (Speaks other new next follows) limit log text bytes reading before rest cursor s says partial is =
     let same = same_greeting text bytes s.cursor other s.ops (before ++ new) s.rest next s.says is.0 in
     let one = same_greeting text [] s.cursor cursor s.ops before s.rest rest s.says (subst (λ (t : List ℕ). Says t cursor before rest) (sym (append-nil text)) says) in
-    let rests : rest ≡ s.rest = one_rest before s.ops rest s.rest says.have_frames s.says.have_frames partial s.partial (sym one.behind_is ∙ append-nil (frames s.ops ++ s.rest)) in
-    let split : s.rest ++ bytes ≡ frames new ++ next = ap (λ (t : List ℕ). t ++ bytes) (sym rests) ∙ says_new text bytes cursor other before new rest next says is.0 in
+    let rests : rest ≡ s.rest = one_rest before s.ops rest s.rest says.have_frames s.says.have_frames partial s.partial (sym one.behind_is ∙ append-nil (single_frames s.ops ++ s.rest)) in
+    let split : s.rest ++ bytes ≡ single_frames new ++ next = ap (λ (t : List ℕ). t ++ bytes) (sym rests) ∙ says_new text bytes cursor other before new rest next says is.0 in
     let after : Taken = outcome follows other (with_frames log new) next in
     let all : TakesAll limit (s.rest ++ bytes) (session_goes_on log other) after
     = subst (λ (t : List ℕ). TakesAll limit t (session_goes_on log other) after) (sym split)

@@ -5,9 +5,10 @@ use Rattle.std.proofs.lemmas.Bool.{eq-eqb, eqb-true, true≢false}
 use Rattle.std.proofs.lemmas.List.{append-nil}
 use Rattle.std.proofs.lemmas.List.Elements.{All-cons, All-head, All-nil, All-tail}
 use Rattle.fugue_ids.specs.declared.op.Op.{Op}
-use Rattle.origin_model.specs.frames.Frames.{HasFrame, IsPartial, frame, frames}
+use Rattle.origin_model.specs.declared.grammar.Grammar.TheVariants.{Version1}
+use Rattle.origin_model.specs.frames.Frames.{HasFrame, IsPartial, frame, single_frames}
 use Rattle.origin_model.specs.relay.Session.{Closing, Frame, Front, IsKind, Kind, Neither, Taken, TakesAll, closing, session_goes_on, is_logged, logged, refusal_message, session_refused, reply_from, told}
-use Rattle.origin_model.proofs.SharedLemmas.{all_once, closed_takes, closing_takes, frame_takes, front_takes, partly, takes-append}
+use Rattle.origin_model.proofs.SharedLemmas.{all_once, closed_takes, closing_takes, frame_takes, front_takes, partly, single_of, takes-append}
 use Rattle.op_frame.proofs.StreamLemmas.{no_bytes_are_partial}
 use Rattle.relay_core.specs.Sessions.{becomes}
 use Rattle.relay_core.specs.Texts.{Closed, Follows, Foreign, IsForeign, OneTooMany, Stands, Unfinished, closing_of, with_frame, with_frames}
@@ -39,24 +40,26 @@ grown log (op ∷ ops) = omega (arith, longer (is_logged log (frame op)) log (fr
 
 -- frames that come behind a whole message
 pub frames_take : (limit cursor : ℕ) (ops : List Op) (log : List (List ℕ)) (rest : List ℕ) (after : Taken) → All HasFrame ops → length (with_frames log ops) ≤ limit
-    → TakesAll limit rest (session_goes_on (with_frames log ops) cursor) after → TakesAll limit (frames ops ++ rest) (session_goes_on log cursor) after
+    → TakesAll limit rest (session_goes_on (with_frames log ops) cursor) after → TakesAll limit (single_frames ops ++ rest) (session_goes_on log cursor) after
 frames_take limit cursor [] log rest after have room h = h
 frames_take limit cursor (op ∷ ops) log rest after have room h =
-    let more : TakesAll limit (frames ops ++ rest) (session_goes_on (with_frame log op) cursor) after
+    let more : TakesAll limit (single_frames ops ++ rest) (session_goes_on (with_frame log op) cursor) after
     = frames_take limit cursor ops (with_frame log op) rest after (All-tail HasFrame op ops have) room h in
     let is : logged limit log cursor (frame op) ≡ session_goes_on (with_frame log op) cursor
     = room_for limit cursor log (frame op) (is_logged log (frame op)) (nat_eq (length log) limit) refl (omega (arith, room, grown (with_frame log op) ops)) in
-    subst (λ (bytes : List ℕ). TakesAll limit bytes (session_goes_on log cursor) after) (sym (append_assoc (frame op) (frames ops) rest))
-    (takes-append limit (frame op) (frames ops ++ rest) (session_goes_on log cursor) (logged limit log cursor (frame op)) after (frame_takes limit cursor log op (All-head HasFrame op ops have))
-    (subst (λ (t : Taken). TakesAll limit (frames ops ++ rest) t after) (sym is) more))
+    subst (λ (bytes : List ℕ). TakesAll limit bytes (session_goes_on log cursor) after) (sym (append_assoc (frame op) (single_frames ops) rest))
+    (takes-append limit (frame op) (single_frames ops ++ rest) (session_goes_on log cursor) (logged limit log cursor (frame op)) after (frame_takes limit cursor log op (All-head HasFrame op ops have))
+    (subst (λ (t : Taken). TakesAll limit (single_frames ops ++ rest) t after) (sym is) more))
 
 -- a front of a frame
-pub front_goes : (limit cursor : ℕ) (log : List (List ℕ)) (rest : List ℕ) → IsPartial rest → TakesAll limit rest (session_goes_on log cursor) (partly log cursor rest)
-front_goes limit cursor log rest p = by p.more p.lacks (sym p.is_frame.bytes_are ∙ p.front)
+pub front_goes : (limit cursor : ℕ) (log : List (List ℕ)) (rest : List ℕ) → IsPartial Version1 rest → TakesAll limit rest (session_goes_on log cursor) (partly log cursor rest)
+front_goes limit cursor log rest p = by p.more p.lacks (sym single.bytes_are ∙ p.front)
   where
-    by : (more : List ℕ) → 0 < length more → frame p.is_frame.op ≡ rest ++ more → TakesAll limit rest (session_goes_on log cursor) (partly log cursor rest)
+    single = single_of p.framed p.is_frame
+
+    by : (more : List ℕ) → 0 < length more → frame single.op ≡ rest ++ more → TakesAll limit rest (session_goes_on log cursor) (partly log cursor rest)
     by [] lacks e = absurd (omega (arith, lacks))
-    by (z ∷ zs) lacks e = front_takes limit cursor log p.is_frame.op p.is_frame.has_frame [] rest z zs e
+    by (z ∷ zs) lacks e = front_takes limit cursor log single.op single.has_frame [] rest z zs e
 
 -- what the log is, and what becomes of the session, behind the frames of a text
 abbrev pub outcome : Follows → (cursor : ℕ) → List (List ℕ) → (rest : List ℕ) → Taken
@@ -92,7 +95,7 @@ pub record Reads (limit cursor : ℕ) (log : List (List ℕ)) (bytes : List ℕ)
   pub have_frames : All HasFrame new
   pub rest : List ℕ
   pub follows : Follows
-  pub split : bytes ≡ frames new ++ rest
+  pub split : bytes ≡ single_frames new ++ rest
   pub room : length (with_frames log new) ≤ limit
   pub stands : Stands follows limit (with_frames log new) rest
   pub after_is : after ≡ outcome follows cursor (with_frames log new) rest
@@ -118,7 +121,7 @@ module _ (limit cursor : ℕ) (after : Taken) where
     have_frames = All-cons HasFrame op r.new has r.have_frames;
     rest = r.rest;
     follows = r.follows;
-    split = ap (λ (b : List ℕ). frame op ++ b) r.split ∙ sym (append_assoc (frame op) (frames r.new) r.rest);
+    split = ap (λ (b : List ℕ). frame op ++ b) r.split ∙ sym (append_assoc (frame op) (single_frames r.new) r.rest);
     room = subst (λ (l : List (List ℕ)). length (with_frames l r.new) ≤ limit) is r.room;
     stands = subst (λ (l : List (List ℕ)). Stands r.follows limit (with_frames l r.new) r.rest) is r.stands;
     after_is = r.after_is ∙ ap (λ (l : List (List ℕ)). outcome r.follows cursor (with_frames l r.new) r.rest) is;
@@ -126,7 +129,7 @@ module _ (limit cursor : ℕ) (after : Taken) where
 
   -- the log a byte further
   abbrev Further : List ℕ → Type 0
-  Further bytes = (log : List (List ℕ)) (rest : List ℕ) → length log ≤ limit → IsPartial rest → TakesAll limit bytes (partly log cursor rest) after → Reads limit cursor log (rest ++ bytes) after
+  Further bytes = (log : List (List ℕ)) (rest : List ℕ) → length log ≤ limit → IsPartial Version1 rest → TakesAll limit bytes (partly log cursor rest) after → Reads limit cursor log (rest ++ bytes) after
 
   -- a frame is whole
   frame_reads : (log : List (List ℕ)) (op : Op) (bytes : List ℕ) → HasFrame op → length log ≤ limit → Further bytes → (p q : Bool) → is_logged log (frame op) ≡ p → nat_eq (length log) limit ≡ q
@@ -142,13 +145,14 @@ module _ (limit cursor : ℕ) (after : Taken) where
       (further (log ++ frame op ∷ []) [] (omega (arith, room, other, length-append log (frame op ∷ []))) no_bytes_are_partial h)
 
   -- one byte more
-  kind_reads : (log : List (List ℕ)) (rest : List ℕ) (byte : ℕ) (bytes : List ℕ) → length log ≤ limit → IsPartial rest → Further bytes → (kind : Kind) → IsKind kind (rest ++ byte ∷ [])
+  kind_reads : (log : List (List ℕ)) (rest : List ℕ) (byte : ℕ) (bytes : List ℕ) → length log ≤ limit → IsPartial Version1 rest → Further bytes → (kind : Kind) → IsKind kind (rest ++ byte ∷ [])
       → TakesAll limit bytes (told kind limit log cursor (rest ++ byte ∷ [])) after → Reads limit cursor log ((rest ++ byte ∷ []) ++ bytes) after
   kind_reads log rest byte bytes room partial further Frame f h =
-      let op : Op = f.1.op in
-      let is : rest ++ byte ∷ [] ≡ frame op = f.1.bytes_are in
+      let s = single_of _ f.1 in
+      let op : Op = s.op in
+      let is : rest ++ byte ∷ [] ≡ frame op = s.bytes_are in
       subst (λ (b : List ℕ). Reads limit cursor log (b ++ bytes) after) (sym is)
-      (frame_reads log op bytes f.1.has_frame room further (is_logged log (frame op)) (nat_eq (length log) limit) refl refl
+      (frame_reads log op bytes s.has_frame room further (is_logged log (frame op)) (nat_eq (length log) limit) refl refl
       (subst (λ (b : List ℕ). TakesAll limit bytes (logged limit log cursor b) after) is h))
   kind_reads log rest byte bytes room partial further Closing f h =
       reads_none log ((rest ++ byte ∷ []) ++ bytes) Closed room (bytes, ap (λ (b : List ℕ). b ++ bytes) f)
@@ -160,7 +164,7 @@ module _ (limit cursor : ℕ) (after : Taken) where
       (all_once no_front limit bytes (session_refused log 1) after (session_refused log 1) h (closed_takes limit bytes log (refusal_message 1)))
 
 -- bytes behind a whole message and a front of the next one
-pub reads : (limit cursor : ℕ) (after : Taken) (bytes : List ℕ) (log : List (List ℕ)) (rest : List ℕ) → length log ≤ limit → IsPartial rest → TakesAll limit bytes (partly log cursor rest) after
+pub reads : (limit cursor : ℕ) (after : Taken) (bytes : List ℕ) (log : List (List ℕ)) (rest : List ℕ) → length log ≤ limit → IsPartial Version1 rest → TakesAll limit bytes (partly log cursor rest) after
     → Reads limit cursor log (rest ++ bytes) after
 reads limit cursor after [] log rest room partial h =
     subst (λ (b : List ℕ). Reads limit cursor log b after) (sym (append-nil rest)) (reads_none limit cursor after log rest Unfinished room partial h)

@@ -7,7 +7,8 @@ use Rattle.fugue_ids.specs.declared.op.Op.{Op}
 use Rattle.origin_model.specs.declared.relay.Event.{Event}
 use Rattle.origin_model.specs.declared.relay.Event.TheVariants.{Gone, Opened, Piece}
 use Rattle.origin_model.specs.declared.relay.Reply.{Reply}
-use Rattle.origin_model.specs.frames.Frames.{HasFrame, IsPartial, frame, frames}
+use Rattle.origin_model.specs.declared.grammar.Grammar.TheVariants.{Version1}
+use Rattle.origin_model.specs.frames.Frames.{HasFrame, IsPartial, frame, single_frames}
 use Rattle.origin_model.specs.relay.Session.{IsKind, Neither, closing, greeting, is_logged, refusal_message, reply_from}
 
 -- the log with the frame of an operation, where it lacks that one
@@ -25,7 +26,7 @@ pub record Says (text : List ℕ) (cursor : ℕ) (ops : List Op) (rest : List �
   pub four_bytes : length number ≡ 4
   pub cursor_is : cursor ≡ from_be_bytes w32 number
   pub have_frames : All HasFrame ops
-  pub text_is : text ≡ greeting ∷ number ++ (frames ops ++ rest)
+  pub text_is : text ≡ greeting ∷ number ++ (single_frames ops ++ rest)
 
 -- the text is nothing yet, or 48 and some bytes of a cursor
 abbrev pub IsGreetingFront : List ℕ → Type 0
@@ -37,7 +38,7 @@ pub record IsForeign (bytes : List ℕ) : Type 0 where
   pub before : List ℕ
   pub byte : ℕ
   pub bytes_are : bytes ≡ before ++ byte ∷ []
-  pub was_front : IsPartial before
+  pub was_front : IsPartial Version1 before
   pub is_none : IsKind Neither bytes
 
 -- what follows the frames of a text: nothing or a proper front of a frame, the closing byte, bytes that are no message and begin none, or a frame that the full log lacks
@@ -49,7 +50,7 @@ pub data Follows : Type 0 where
 
 -- what stands behind the byte that shows it counts for nothing
 abbrev pub Stands : Follows → (limit : ℕ) → List (List ℕ) → List ℕ → Type 0
-Stands Unfinished limit log rest = IsPartial rest
+Stands Unfinished limit log rest = IsPartial Version1 rest
 Stands Closed limit log rest = (behind : List ℕ) × (rest ≡ closing ++ behind)
 Stands Foreign limit log rest = (shown : List ℕ) × (behind : List ℕ) × IsForeign shown × (rest ≡ shown ++ behind)
 Stands OneTooMany limit log rest =
@@ -90,7 +91,7 @@ reply_to_text (Speaks cursor new rest follows) log = closing_of follows (with_fr
 
 -- the text of an open session, and the operations whose frames it has
 abbrev pub HasCome : (text : List ℕ) → List Op → Type 0
-HasCome text before = (IsGreetingFront text × (before ≡ [])) ⊎ ((cursor : ℕ) × (rest : List ℕ) × Says text cursor before rest × IsPartial rest)
+HasCome text before = (IsGreetingFront text × (before ≡ [])) ⊎ ((cursor : ℕ) × (rest : List ℕ) × Says text cursor before rest × IsPartial Version1 rest)
 
 -- bytes come to the text of an open session: the log behind them, and the bytes with which the session is closed, where it is
 pub record Comes (limit : ℕ) (log : List (List ℕ)) (text bytes : List ℕ) (new_log : List (List ℕ)) (answer : Option (List ℕ)) : Type 0 where

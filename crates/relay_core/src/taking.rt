@@ -10,6 +10,7 @@ use crate::log::{Log, add, answer, has_frame};
 use crate::sessions::Session;
 use fugue_ids::{ByteList, NoMemory};
 use op_frame::{CLOSING, FrameFront, Grown, REFUSAL};
+use origin_model::Grammar;
 use std::alloc::Global;
 use std::hash::BuildHasher;
 
@@ -33,7 +34,7 @@ fn begin(
     if count < cursor as usize {
         return refuse(alloc, 3);
     }
-    *session = Session::Messages(cursor, FrameFront::new());
+    *session = Session::Messages(cursor, FrameFront::new(Grammar::Version1));
     Ok(None)
 }
 

@@ -4,7 +4,7 @@ use Rattle.std.specs.Prelude.{All, Err, IfErr, IfOk, IfSome, None, Ok, Option, R
 use Rattle.std.proofs.lemmas.List.{append-nil, take_all, take_at}
 use Rattle.fugue_ids.specs.declared.limits.TheConstants.{STREAM_LIMIT}
 use Rattle.fugue_ids.specs.declared.op.Op.{Op}
-use Rattle.origin_model.specs.frames.Frames.{HasFrame, frames}
+use Rattle.origin_model.specs.frames.Frames.{HasFrame, single_frames}
 use Rattle.origin_model.specs.taking.Taking.{Held, TooMany as AnswersTooMany, answer, held_from, kept_from, tally_from}
 use Rattle.op_frame.proofs.FormatLemmas.{FallsShort, Reaches, two_fronts}
 use Rattle.op_frame.proofs.ToldLemmas.{shows, some_is, take_past}
@@ -69,71 +69,71 @@ module _ (before middle after : OpsTaking) (ops : List Op) (have : All HasFrame 
   now = held_from before.replica.hold before.replica.most before.replica.held ops
 
   -- an end behind the operations
-  comes_to : (bytes rest : List ℕ) (end : ReplyEnd) → take STREAM_LIMIT bytes ≡ frames ops ++ rest
-      → EndsReply before.replica.hold before.replica.most now (length bytes) (length (frames ops)) rest end → HearsTo bytes before after end
+  comes_to : (bytes rest : List ℕ) (end : ReplyEnd) → take STREAM_LIMIT bytes ≡ single_frames ops ++ rest
+      → EndsReply before.replica.hold before.replica.most now (length bytes) (length (single_frames ops)) rest end → HearsTo bytes before after end
   comes_to bytes rest end split ends = record {
     ops = ops;
     comes = record { have_frames = have; has_place = takes.has_place; rest = rest; split = split; ends = ends };
     takes = subst (λ (t : OpsTaking). TakesIn before t ops) (sym same) takes;
   }
 
-  module _ (bytes more : List ℕ) (within : length (frames ops) + length bytes ≤ STREAM_LIMIT) where
+  module _ (bytes more : List ℕ) (within : length (single_frames ops) + length bytes ≤ STREAM_LIMIT) where
     -- the bytes with what stands behind them up to the limit
     abbrev on : List ℕ
-    on = take (STREAM_LIMIT - length (frames ops ++ bytes)) more
+    on = take (STREAM_LIMIT - length (single_frames ops ++ bytes)) more
 
-    split_on : take STREAM_LIMIT ((frames ops ++ bytes) ++ more) ≡ frames ops ++ (bytes ++ on)
+    split_on : take STREAM_LIMIT ((single_frames ops ++ bytes) ++ more) ≡ single_frames ops ++ (bytes ++ on)
     split_on =
-        take_past (frames ops ++ bytes) more STREAM_LIMIT (length (frames ops ++ bytes)) refl (omega (arith, within, length-append (frames ops) bytes))
-        ∙ append_assoc (frames ops) bytes on
+        take_past (single_frames ops ++ bytes) more STREAM_LIMIT (length (single_frames ops ++ bytes)) refl (omega (arith, within, length-append (single_frames ops) bytes))
+        ∙ append_assoc (single_frames ops) bytes on
 
     begins_on : (message : Message) → IsMessage message bytes → BeginsWith message (bytes ++ on)
     begins_on message is = record { whole = bytes; is_message = is; behind = on; split = refl }
 
-    pub comes_to_end : (count : ℕ) → IsMessage (End count) bytes → HearsTo ((frames ops ++ bytes) ++ more) before after (Ended count)
-    comes_to_end count is = comes_to ((frames ops ++ bytes) ++ more) (bytes ++ on) (Ended count) split_on (begins_on (End count) is)
+    pub comes_to_end : (count : ℕ) → IsMessage (End count) bytes → HearsTo ((single_frames ops ++ bytes) ++ more) before after (Ended count)
+    comes_to_end count is = comes_to ((single_frames ops ++ bytes) ++ more) (bytes ++ on) (Ended count) split_on (begins_on (End count) is)
 
-    comes_to_refusal : (code : ℕ) → IsMessage (Refusal code) bytes → HearsTo ((frames ops ++ bytes) ++ more) before after (EndsRefused code)
-    comes_to_refusal code is = comes_to ((frames ops ++ bytes) ++ more) (bytes ++ on) (EndsRefused code) split_on (begins_on (Refusal code) is)
+    comes_to_refusal : (code : ℕ) → IsMessage (Refusal code) bytes → HearsTo ((single_frames ops ++ bytes) ++ more) before after (EndsRefused code)
+    comes_to_refusal code is = comes_to ((single_frames ops ++ bytes) ++ more) (bytes ++ on) (EndsRefused code) split_on (begins_on (Refusal code) is)
 
-    comes_to_none : (at : ℕ) → at ≡ length (frames ops) → IsBroken bytes → HearsTo ((frames ops ++ bytes) ++ more) before after (Bad at)
-    comes_to_none at is broken = comes_to ((frames ops ++ bytes) ++ more) (bytes ++ on) (Bad at) split_on (is, broken_is_none bytes on broken)
+    comes_to_none : (at : ℕ) → at ≡ length (single_frames ops) → IsBroken bytes → HearsTo ((single_frames ops ++ bytes) ++ more) before after (Bad at)
+    comes_to_none at is broken = comes_to ((single_frames ops ++ bytes) ++ more) (bytes ++ on) (Bad at) split_on (is, broken_is_none bytes on broken)
 
     comes_to_many : (op : Op) → IsMessage (Operation op) bytes → answer middle.replica.hold middle.replica.most middle.replica.held op ≡ AnswersTooMany
-        → HearsTo ((frames ops ++ bytes) ++ more) before after EndsTooMany
+        → HearsTo ((single_frames ops ++ bytes) ++ more) before after EndsTooMany
     comes_to_many op is many =
-        comes_to ((frames ops ++ bytes) ++ more) (bytes ++ on) EndsTooMany split_on
+        comes_to ((single_frames ops ++ bytes) ++ more) (bytes ++ on) EndsTooMany split_on
         (op, begins_on (Operation op) is, ap (λ (s : State). answer s.hold s.most s.held op) (sym takes.replica) ∙ many)
 
-    comes_to_cut : (at : ℕ) → at ≡ length (frames ops) → IsMessageFront bytes → more ≡ [] → HearsTo ((frames ops ++ bytes) ++ more) before after (Cut at)
+    comes_to_cut : (at : ℕ) → at ≡ length (single_frames ops) → IsMessageFront bytes → more ≡ [] → HearsTo ((single_frames ops ++ bytes) ++ more) before after (Cut at)
     comes_to_cut at is front none =
-        let size : length ((frames ops ++ bytes) ++ more) ≤ STREAM_LIMIT = omega (arith, within, ap length none, length-append (frames ops ++ bytes) more, length-append (frames ops) bytes) in
-        let all : (frames ops ++ bytes) ++ more ≡ frames ops ++ bytes = ap (λ (l : List ℕ). (frames ops ++ bytes) ++ l) none ∙ append-nil (frames ops ++ bytes) in
-        comes_to ((frames ops ++ bytes) ++ more) bytes (Cut at) (take_all STREAM_LIMIT ((frames ops ++ bytes) ++ more) size ∙ all) (is, size, front)
+        let size : length ((single_frames ops ++ bytes) ++ more) ≤ STREAM_LIMIT = omega (arith, within, ap length none, length-append (single_frames ops ++ bytes) more, length-append (single_frames ops) bytes) in
+        let all : (single_frames ops ++ bytes) ++ more ≡ single_frames ops ++ bytes = ap (λ (l : List ℕ). (single_frames ops ++ bytes) ++ l) none ∙ append-nil (single_frames ops ++ bytes) in
+        comes_to ((single_frames ops ++ bytes) ++ more) bytes (Cut at) (take_all STREAM_LIMIT ((single_frames ops ++ bytes) ++ more) size ∙ all) (is, size, front)
 
-  comes_to_long : (bytes more front : List ℕ) (byte : ℕ) → bytes ≡ front ++ byte ∷ [] → IsMessageFront front → length (frames ops) + length front ≡ STREAM_LIMIT
-      → HearsTo ((frames ops ++ bytes) ++ more) before after EndsTooLong
+  comes_to_long : (bytes more front : List ℕ) (byte : ℕ) → bytes ≡ front ++ byte ∷ [] → IsMessageFront front → length (single_frames ops) + length front ≡ STREAM_LIMIT
+      → HearsTo ((single_frames ops ++ bytes) ++ more) before after EndsTooLong
   comes_to_long bytes more front byte is partial full =
-      let all : (frames ops ++ bytes) ++ more ≡ (frames ops ++ front) ++ byte ∷ more = ap (λ (l : List ℕ). (frames ops ++ l) ++ more) is ∙ regroup (frames ops) front byte more in
-      let size : length (frames ops ++ front) ≡ STREAM_LIMIT = length-append (frames ops) front ∙ full in
-      comes_to ((frames ops ++ bytes) ++ more) front EndsTooLong (ap (take STREAM_LIMIT) all ∙ take_at (frames ops ++ front) (byte ∷ more) STREAM_LIMIT size)
-      (omega (arith, ap length all, size, length-append (frames ops ++ front) (byte ∷ more)), partial)
+      let all : (single_frames ops ++ bytes) ++ more ≡ (single_frames ops ++ front) ++ byte ∷ more = ap (λ (l : List ℕ). (single_frames ops ++ l) ++ more) is ∙ regroup (single_frames ops) front byte more in
+      let size : length (single_frames ops ++ front) ≡ STREAM_LIMIT = length-append (single_frames ops) front ∙ full in
+      comes_to ((single_frames ops ++ bytes) ++ more) front EndsTooLong (ap (take STREAM_LIMIT) all ∙ take_at (single_frames ops ++ front) (byte ∷ more) STREAM_LIMIT size)
+      (omega (arith, ap length all, size, length-append (single_frames ops ++ front) (byte ∷ more)), partial)
     where
       regroup : (a b : List ℕ) (x : ℕ) (c : List ℕ) → (a ++ (b ++ x ∷ [])) ++ c ≡ (a ++ b) ++ x ∷ c
       regroup a b x c = simp append_assoc
 
 pub reply_heard : (old new : WireView) (before after : OpsTaking) (count : ℕ) → HearsReply old new before after count → HeardTo old.left before after (Ended count)
 reply_heard old new before after count h =
-    shows (λ (bytes : List ℕ). HearsTo bytes before after (Ended count)) (frames h.ops ++ h.last) new.left old.left h.hears.heard
-    (λ more is. comes_to_end before after after h.ops h.have_frames h.takes refl h.last more (omega (arith, h.within, length-append (frames h.ops) h.last)) count h.ends)
+    shows (λ (bytes : List ℕ). HearsTo bytes before after (Ended count)) (single_frames h.ops ++ h.last) new.left old.left h.hears.heard
+    (λ more is. comes_to_end before after after h.ops h.have_frames h.takes refl h.last more (omega (arith, h.within, length-append (single_frames h.ops) h.last)) count h.ends)
 
 pub reply_up_to : (fault : SyncFault) (old new : WireView) (before after : OpsTaking) → HearsPartly fault old new before after → HeardUpTo fault old.left before after
 reply_up_to fault old new before after h = by_fault fault h.stops
   where
-    told : (end : ReplyEnd) → ((more : List ℕ) → new.left ≡ Some more → HearsTo ((frames h.ops ++ h.bytes) ++ more) before after end) → HeardTo old.left before after end
-    told end comes = shows (λ (bytes : List ℕ). HearsTo bytes before after end) (frames h.ops ++ h.bytes) new.left old.left h.hears.heard comes
+    told : (end : ReplyEnd) → ((more : List ℕ) → new.left ≡ Some more → HearsTo ((single_frames h.ops ++ h.bytes) ++ more) before after end) → HeardTo old.left before after end
+    told end comes = shows (λ (bytes : List ℕ). HearsTo bytes before after end) (single_frames h.ops ++ h.bytes) new.left old.left h.hears.heard comes
 
-    by_fault : (fault : SyncFault) → ReplyStopsFor fault old new h.middle after (length (frames h.ops)) h.bytes → HeardUpTo fault old.left before after
+    by_fault : (fault : SyncFault) → ReplyStopsFor fault old new h.middle after (length (single_frames h.ops)) h.bytes → HeardUpTo fault old.left before after
     by_fault WireFault s = tt
     by_fault NoMemory s = tt
     by_fault (RelayRefused code) s =
@@ -233,4 +233,4 @@ hears_exactly (Err fault) said old new before replica kept same ok err =
     let after : OpsTaking = record { replica = replica; counts = err.0; kept = kept } in
     let h : HearsPartly fault old new before after = err.1 in
     up_to_exactly said.left fault before after (up_to_behind fault said old new before after same h)
-    (λ end is. fault_is fault end old new h.middle after (length (frames h.ops)) h.bytes is h.stops) (decides fault)
+    (λ end is. fault_is fault end old new h.middle after (length (single_frames h.ops)) h.bytes is h.stops) (decides fault)

@@ -6,8 +6,10 @@ use Rattle.std.specs.Io.KnownBytes.{prepend_known}
 use Rattle.std.proofs.lemmas.List.{append-nil}
 use Rattle.fugue_ids.specs.declared.op.Op.{Op}
 use Rattle.fugue_ids.specs.declared.op.Op.TheVariants.{Delete, Section, Text}
-use Rattle.origin_model.specs.frames.Frames.{IsFrame, IsPartial, frame}
+use Rattle.origin_model.specs.declared.grammar.Grammar.TheVariants.{Version1}
+use Rattle.origin_model.specs.frames.Frames.{HasFrame, IsFrame, IsPartial, Single, frame}
 use Rattle.origin_model.specs.relay.Session.{refusal_message}
+use Rattle.origin_model.proofs.SharedLemmas.{single_of}
 use Rattle.op_frame.specs.FrameFronts.{IsFrameOf, IsGrown}
 use Rattle.op_frame.specs.declared.grown.Grown.TheVariants.{Bad}
 use Rattle.op_frame.proofs.ToldLemmas.{prepend_none, prepend_twice}
@@ -57,11 +59,11 @@ no_bytes = record { message = End (from_be_bytes w32 (0 ∷ 0 ∷ 0 ∷ 0 ∷ []
 pub refusal_front : IsMessageFront (0x58 ∷ [])
 refusal_front = record { message = Refusal 1; whole = refusal_message 1; is_message = ((omega arith, omega arith), refl); more = 1 ∷ []; lacks = omega arith; front = refl }
 
-pub frame_front : (bytes : List ℕ) → IsPartial bytes → IsMessageFront bytes
-frame_front bytes p = record {
-  message = Operation p.is_frame.op;
+pub frame_front : (bytes : List ℕ) → IsPartial Version1 bytes → IsMessageFront bytes
+frame_front bytes p = let single = single_of p.framed p.is_frame in record {
+  message = Operation single.op;
   whole = p.framed.bytes;
-  is_message = record { op = p.is_frame.op; has_frame = p.is_frame.has_frame; bytes_are = p.is_frame.bytes_are; ops_are = refl };
+  is_message = (single.has_frame, single.bytes_are);
   more = p.more;
   lacks = p.lacks;
   front = p.front;
@@ -77,7 +79,7 @@ IsLead (End count) x = x ≡ 0x55
 IsLead (Refusal code) x = x ≡ 0x58
 
 pub leads : (message : Message) (whole behind : List ℕ) → IsMessage message whole → IsLead message (get_or (whole ++ behind) 0 0)
-leads (Operation op) whole behind is = subst (λ (w : List ℕ). get_or (w ++ behind) 0 0 < 4) (sym is.bytes_are) (by_op is.op)
+leads (Operation op) whole behind is = subst (λ (w : List ℕ). get_or (w ++ behind) 0 0 < 4) (sym is.1) (by_op op)
   where
     by_op : (op : Op) → get_or (frame op ++ behind) 0 0 < 4
     by_op (Section id l r t) = omega arith
@@ -96,13 +98,17 @@ code_behind message whole behind code more is split = by_kind message is (subst 
     by_kind (Refusal other) is lead = subst IsCode (sym (ap (λ (l : List ℕ). get_or l 1 0) (split ∙ ap (λ (l : List ℕ). l ++ behind) is.1))) is.0
 
 pub other_is_frame : (message : Message) (whole behind : List ℕ) (x : ℕ) (xs : List ℕ) → x ≢ 0x55 → x ≢ 0x58 → IsMessage message whole → x ∷ xs ≡ whole ++ behind
-    → (op : Op) × IsFrame (record { bytes = whole; ops = op ∷ [] })
+    → (op : Op) × HasFrame op × (whole ≡ frame op)
 other_is_frame message whole behind x xs no_end no_refusal is split = by_kind message is (subst (λ (l : List ℕ). IsLead message (get_or l 0 0)) (sym split) (leads message whole behind is))
   where
-    by_kind : (message : Message) → IsMessage message whole → IsLead message x → (op : Op) × IsFrame (record { bytes = whole; ops = op ∷ [] })
+    by_kind : (message : Message) → IsMessage message whole → IsLead message x → (op : Op) × HasFrame op × (whole ≡ frame op)
     by_kind (Operation op) is lead = (op, is)
     by_kind (End count) is lead = absurd (no_end lead)
     by_kind (Refusal code) is lead = absurd (no_refusal lead)
+
+-- the message of an operation is a frame of it
+pub frame_message : (op : Op) (whole : List ℕ) → HasFrame op × (whole ≡ frame op) → IsFrame Version1 (record { bytes = whole; ops = op ∷ [] })
+frame_message op whole is = record { item = Single op; is_item = is.0; bytes_are = is.1; ops_are = refl }
 
 -- a code out of range
 pub broken_code : (code : ℕ) → (IsCode code → ⊥) → IsBroken (0x58 ∷ code ∷ [])
@@ -116,7 +122,7 @@ broken_code code none = record {
 }
 
 -- a byte with which no frame begins or goes on
-pub broken_frame : (first byte : ℕ) (front bytes : List ℕ) → first ≢ 0x55 → first ≢ 0x58 → front ++ byte ∷ [] ≡ first ∷ bytes → IsMessageFront front → IsGrown Bad (front ++ byte ∷ [])
+pub broken_frame : (first byte : ℕ) (front bytes : List ℕ) → first ≢ 0x55 → first ≢ 0x58 → front ++ byte ∷ [] ≡ first ∷ bytes → IsMessageFront front → IsGrown Version1 Bad (front ++ byte ∷ [])
     → IsBroken (first ∷ bytes)
 broken_frame first byte front bytes a b are was grown = record {
   before = front;
@@ -125,10 +131,10 @@ broken_frame first byte front bytes a b are was grown = record {
   was_front = was;
   no_message = λ message is.
       let f = other_is_frame message (first ∷ bytes) [] first bytes a b is (sym (append-nil (first ∷ bytes))) in
-      grown.0 (subst IsFrameOf (sym are) (f.0 ∷ [], f.1));
+      grown.0 (subst (IsFrameOf Version1) (sym are) (f.0 ∷ [], frame_message f.0 (first ∷ bytes) f.1));
   no_front = λ p.
       let f = other_is_frame p.message p.whole [] first (bytes ++ p.more) a b p.is_message (sym p.front ∙ sym (append-nil p.whole)) in
-      grown.1 (subst IsPartial (sym are) (record { framed = record { bytes = p.whole; ops = f.0 ∷ [] }; is_frame = f.1; more = p.more; lacks = p.lacks; front = p.front }));
+      grown.1 (subst (IsPartial Version1) (sym are) (record { framed = record { bytes = p.whole; ops = f.0 ∷ [] }; is_frame = frame_message f.0 p.whole f.1; more = p.more; lacks = p.lacks; front = p.front }));
 }
 
 -- the same fault behind bytes that were heard, whatever the answer

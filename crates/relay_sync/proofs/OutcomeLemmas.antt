@@ -7,20 +7,20 @@ use Rattle.std.proofs.lemmas.List.{append-nil}
 use Rattle.std.proofs.lemmas.List.Elements.{All-cons, All-head, All-nil, All-tail}
 use Rattle.fugue_ids.specs.declared.limits.TheConstants.{STREAM_LIMIT}
 use Rattle.fugue_ids.specs.declared.op.Op.{Op}
-use Rattle.origin_model.specs.frames.Frames.{HasFrame, frame, frames}
+use Rattle.origin_model.specs.frames.Frames.{HasFrame, frame, single_frames}
 use Rattle.origin_model.specs.relay.Session.{refusal_message}
 use Rattle.origin_model.specs.taking.Taking.{Answer, HasPlace, Held, TooMany as AnswersTooMany, answer, answers_from, held_from, intake}
-use Rattle.origin_model.proofs.SharedLemmas.{Refused, framed_is, no_place_left, places-append, places-none, taken_or_refused}
+use Rattle.origin_model.proofs.SharedLemmas.{Refused, no_place_left, places-append, places-none, single_of, taken_or_refused}
 use Rattle.op_frame.proofs.CodeLemmas.{same_fronts}
 use Rattle.op_frame.proofs.FrontLemmas.{Front, bad_there, front_of, front_there as part_there, frame_there}
 use Rattle.op_frame.proofs.OperationLemmas.{operation_code}
 use Rattle.op_frame.proofs.SearchLemmas.{Decided, both_decided, decided_by, equal_decided, less_decided}
-use Rattle.op_frame.proofs.StreamLemmas.{frame_some, same_front}
+use Rattle.op_frame.proofs.StreamLemmas.{frame_some}
 use Rattle.relay_sync.specs.Outcomes.{BeginsWith, IsNoMessage, EndsReply, ReplyComes, ReplyEnd, Ended, Refused as EndsRefused, Bad, Cut, TooLong, TooMany}
 use Rattle.relay_sync.specs.Replies.{IsCode, IsMessage, IsMessageFront, ending}
 use Rattle.relay_sync.specs.declared.hearing.Message.{Message}
 use Rattle.relay_sync.specs.declared.hearing.Message.TheVariants.{End, Operation, Refusal}
-use Rattle.relay_sync.proofs.HearingLemmas.{IsLead, code_behind, frame_front, leads, no_bytes, number_front, other_is_frame, refusal_front}
+use Rattle.relay_sync.proofs.HearingLemmas.{IsLead, code_behind, frame_front, frame_message, leads, no_bytes, number_front, other_is_frame, refusal_front}
 
 -- at one place stands one message
 record SameMessage (m n : Message) (r s : List ℕ) : Type 0 where
@@ -32,9 +32,9 @@ same_message m n a b r s p q is = by_kind m n p q (leads m a r p) (subst (λ (l 
   where
     by_kind : (m n : Message) → IsMessage m a → IsMessage n b → IsLead m (get_or (a ++ r) 0 0) → IsLead n (get_or (a ++ r) 0 0) → SameMessage m n r s
     by_kind (Operation op) (Operation other) p q f g =
-        let same = same_front (record { bytes = a; ops = op ∷ [] }) (record { bytes = b; ops = other ∷ [] }) r s p q is in
-        let one : op ≡ other = cc same.ops in
-        record { message = ap Operation one; behind = same.rest }
+        let whole : frame op ++ r ≡ frame other ++ s = ap (λ (l : List ℕ). l ++ r) (sym p.1) ∙ is ∙ ap (λ (l : List ℕ). l ++ s) q.1 in
+        let same = operation_code.once op other r s p.0 q.0 whole in
+        record { message = ap Operation same.0; behind = same.1 }
     by_kind (End count) (End number) p q f g =
         let whole : ending ∷ (p.0 ++ r) ≡ ending ∷ (q.0 ++ s) = ap (λ (l : List ℕ). l ++ r) (sym p.3) ∙ is ∙ ap (λ (l : List ℕ). l ++ s) q.3 in
         let tails : p.0 ++ r ≡ q.0 ++ s = cc whole in
@@ -92,9 +92,9 @@ frame_stand : (x : ℕ) (xs : List ℕ) → x ≢ 0x55 → x ≢ 0x58 → Stand 
 frame_stand x xs no_end no_refusal = by_front (front_of (x ∷ xs))
   where
     by_front : Front (x ∷ xs) → Stand (x ∷ xs)
-    by_front (frame_there framed rest begins) = message_there (Operation begins.is_frame.op) (record {
+    by_front (frame_there framed rest begins) = let single = single_of framed begins.is_frame in message_there (Operation single.op) (record {
       whole = framed.bytes;
-      is_message = record { op = begins.is_frame.op; has_frame = begins.is_frame.has_frame; bytes_are = begins.is_frame.bytes_are; ops_are = refl };
+      is_message = (single.has_frame, single.bytes_are);
       behind = rest;
       split = begins.split;
     })
@@ -102,10 +102,10 @@ frame_stand x xs no_end no_refusal = by_front (front_of (x ∷ xs))
     by_front (bad_there bad) = none_there (record {
       none_begins = λ message p.
           let f = other_is_frame message p.whole p.behind x xs no_end no_refusal p.is_message p.split in
-          bad.no_frame (record { bytes = p.whole; ops = f.0 ∷ [] }) p.behind (record { is_frame = f.1; split = p.split });
+          bad.no_frame (record { bytes = p.whole; ops = f.0 ∷ [] }) p.behind (record { is_frame = frame_message f.0 p.whole f.1; split = p.split });
       no_front = λ p.
           let f = other_is_frame p.message p.whole [] x (xs ++ p.more) no_end no_refusal p.is_message (sym p.front ∙ sym (append-nil p.whole)) in
-          bad.no_front (record { framed = record { bytes = p.whole; ops = f.0 ∷ [] }; is_frame = f.1; more = p.more; lacks = p.lacks; front = p.front });
+          bad.no_front (record { framed = record { bytes = p.whole; ops = f.0 ∷ [] }; is_frame = frame_message f.0 p.whole f.1; more = p.more; lacks = p.lacks; front = p.front });
     })
 
 pub stand_of : (bytes : List ℕ) → Stand bytes
@@ -189,14 +189,14 @@ module _ (hold most : ℕ) where
   places-tail : (start : Held) (op : Op) (ops : List Op) → HasPlace hold most start (op ∷ ops) → HasPlace hold most (intake hold most start op) ops
   places-tail start op ops places = All-tail (λ (x : Answer). x ≢ AnswersTooMany) (answer hold most start op) (answers_from hold most (intake hold most start op) ops) places
 
-  first_there : (op : Op) (ops : List Op) (rest : List ℕ) → HasFrame op → BeginsWith (Operation op) (frames (op ∷ ops) ++ rest)
-  first_there op ops rest has = record { whole = frame op; is_message = framed_is op has; behind = frames ops ++ rest; split = append_assoc (frame op) (frames ops) rest }
+  first_there : (op : Op) (ops : List Op) (rest : List ℕ) → HasFrame op → BeginsWith (Operation op) (single_frames (op ∷ ops) ++ rest)
+  first_there op ops rest has = record { whole = frame op; is_message = (has, refl); behind = single_frames ops ++ rest; split = append_assoc (frame op) (single_frames ops) rest }
 
   -- the operations up to an end are the same
   same_ops : (start : Held) (size p q : ℕ) (ops others : List Op) (r s : List ℕ) (end other : ReplyEnd) → All HasFrame ops → All HasFrame others
       → HasPlace hold most start ops → HasPlace hold most start others
       → EndsReply hold most (held_from hold most start ops) size p r end → EndsReply hold most (held_from hold most start others) size q s other
-      → frames ops ++ r ≡ frames others ++ s → (ops ≡ others) × (r ≡ s)
+      → single_frames ops ++ r ≡ single_frames others ++ s → (ops ≡ others) × (r ≡ s)
   same_ops start size p q [] [] r s end other have too places fit e f is = (refl, is)
   same_ops start size p q [] (o ∷ others) r s end other have too places fit e f is =
       absurd (not_ended start size p r end o e (subst (BeginsWith (Operation o)) (sym is) (first_there o others s (All-head HasFrame o others too)))
@@ -205,8 +205,8 @@ module _ (hold most : ℕ) where
       absurd (not_ended start size q s other o f (subst (BeginsWith (Operation o)) is (first_there o ops r (All-head HasFrame o ops have)))
       (no_place_left hold most start [] ops o places))
   same_ops start size p q (o ∷ ops) (u ∷ others) r s end other have too places fit e f is =
-      let both = operation_code.once o u (frames ops ++ r) (frames others ++ s) (All-head HasFrame o ops have) (All-head HasFrame u others too)
-      (sym (append_assoc (frame o) (frames ops) r) ∙ is ∙ append_assoc (frame u) (frames others) s) in
+      let both = operation_code.once o u (single_frames ops ++ r) (single_frames others ++ s) (All-head HasFrame o ops have) (All-head HasFrame u others too)
+      (sym (append_assoc (frame o) (single_frames ops) r) ∙ is ∙ append_assoc (frame u) (single_frames others) s) in
       let behind = same_ops (intake hold most start o) size p q ops others r s end other (All-tail HasFrame o ops have) (All-tail HasFrame u others too)
       (places-tail start o ops places) (subst (λ (x : Op). HasPlace hold most (intake hold most start x) others) (sym both.0) (places-tail start u others fit))
       e (subst (λ (x : Op). EndsReply hold most (held_from hold most (intake hold most start x) others) size q s other) (sym both.0) f) both.1 in
@@ -216,15 +216,15 @@ module _ (hold most : ℕ) where
   pub reply_comes_once : (start : Held) (bytes : List ℕ) (ops others : List Op) (end other : ReplyEnd) → ReplyComes hold most start bytes ops end
       → ReplyComes hold most start bytes others other → (ops ≡ others) × (end ≡ other)
   reply_comes_once start bytes ops others end other p q =
-      let same = same_ops start (length bytes) (length (frames ops)) (length (frames others)) ops others p.rest q.rest end other p.have_frames q.have_frames p.has_place q.has_place
+      let same = same_ops start (length bytes) (length (single_frames ops)) (length (single_frames others)) ops others p.rest q.rest end other p.have_frames q.have_frames p.has_place q.has_place
       p.ends q.ends (sym p.split ∙ q.split) in
       let fits = fits_or_not (length bytes) STREAM_LIMIT in
       let stand = stand_of q.rest in
-      let moved = subst (λ (x : List Op). EndsReply hold most (held_from hold most start x) (length bytes) (length (frames x)) q.rest end) same.0
-      (subst (λ (x : List ℕ). EndsReply hold most (held_from hold most start ops) (length bytes) (length (frames ops)) x end) same.1 p.ends) in (
+      let moved = subst (λ (x : List Op). EndsReply hold most (held_from hold most start x) (length bytes) (length (single_frames x)) q.rest end) same.0
+      (subst (λ (x : List ℕ). EndsReply hold most (held_from hold most start ops) (length bytes) (length (single_frames ops)) x end) same.1 p.ends) in (
         same.0,
-        end_is (held_from hold most start others) (length bytes) (length (frames others)) q.rest end fits stand moved
-            ∙ sym (end_is (held_from hold most start others) (length bytes) (length (frames others)) q.rest other fits stand q.ends),
+        end_is (held_from hold most start others) (length bytes) (length (single_frames others)) q.rest end fits stand moved
+            ∙ sym (end_is (held_from hold most start others) (length bytes) (length (single_frames others)) q.rest other fits stand q.ends),
       )
 
   -- operations up to an end, from a place on
@@ -233,9 +233,9 @@ module _ (hold most : ℕ) where
     have_frames : All HasFrame ops
     has_place : HasPlace hold most start ops
     rest : List ℕ
-    split : bytes ≡ frames ops ++ rest
+    split : bytes ≡ single_frames ops ++ rest
     end : ReplyEnd
-    ends : EndsReply hold most (held_from hold most start ops) size (place + length (frames ops)) rest end
+    ends : EndsReply hold most (held_from hold most start ops) size (place + length (single_frames ops)) rest end
 
   ends_here : (start : Held) (size place : ℕ) (bytes : List ℕ) (end : ReplyEnd) → EndsReply hold most start size place bytes end → EndsBehind start size place bytes
   ends_here start size place bytes end ends = record {
@@ -255,9 +255,9 @@ module _ (hold most : ℕ) where
     have_frames = All-cons HasFrame op e.ops has e.have_frames;
     has_place = places-append hold most start (op ∷ []) e.ops places e.has_place;
     rest = e.rest;
-    split = split ∙ ap (λ (l : List ℕ). frame op ++ l) e.split ∙ sym (append_assoc (frame op) (frames e.ops) e.rest);
+    split = split ∙ ap (λ (l : List ℕ). frame op ++ l) e.split ∙ sym (append_assoc (frame op) (single_frames e.ops) e.rest);
     end = e.end;
-    ends = subst (λ (n : ℕ). EndsReply hold most (held_from hold most (intake hold most start op) e.ops) size n e.rest e.end) (omega (arith, length-append (frame op) (frames e.ops))) e.ends;
+    ends = subst (λ (n : ℕ). EndsReply hold most (held_from hold most (intake hold most start op) e.ops) size n e.rest e.end) (omega (arith, length-append (frame op) (single_frames e.ops))) e.ends;
   }
 
   refused_one : (start : Held) (op other : Op) (front more : List Op) → op ∷ [] ≡ front ++ other ∷ more → answer hold most (held_from hold most start front) other ≡ AnswersTooMany
@@ -270,9 +270,8 @@ module _ (hold most : ℕ) where
   module _ (start : Held) (size place : ℕ) (bytes : List ℕ) (later : (op : Op) (behind : List ℕ) → length behind < length bytes → EndsBehind (intake hold most start op) size (place + length (frame op)) behind) where
     behind_one : (op : Op) → BeginsWith (Operation op) bytes → HasPlace hold most start (op ∷ []) → EndsBehind start size place bytes
     behind_one op p places =
-        let same : p.is_message.op ≡ op = cc p.is_message.ops_are in
-        let whole : p.whole ≡ frame op = p.is_message.bytes_are ∙ ap frame same in
-        ends_later start size place bytes p.behind op (subst HasFrame same p.is_message.has_frame) places (p.split ∙ ap (λ (l : List ℕ). l ++ p.behind) whole)
+        let whole : p.whole ≡ frame op = p.is_message.1 in
+        ends_later start size place bytes p.behind op p.is_message.0 places (p.split ∙ ap (λ (l : List ℕ). l ++ p.behind) whole)
         (later op p.behind (omega (arith, ap length p.split, length-append p.whole p.behind, ap length whole, frame_some op)))
 
     by_place : (op : Op) → BeginsWith (Operation op) bytes → HasPlace hold most start (op ∷ []) ⊎ Refused hold most start (op ∷ []) → EndsBehind start size place bytes

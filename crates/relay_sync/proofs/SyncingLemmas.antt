@@ -7,7 +7,7 @@ use Rattle.std.proofs.lemmas.List.Elements.{All-push}
 use Rattle.fugue_ids.specs.declared.limits.TheConstants.{STREAM_LIMIT}
 use Rattle.fugue_ids.specs.declared.op.Op.{Op}
 use Rattle.fugue_ids.proofs.JoinLemmas.{took_none}
-use Rattle.origin_model.specs.frames.Frames.{HasFrame, IsFrame, frame, frames}
+use Rattle.origin_model.specs.frames.Frames.{HasFrame, frame, single_frames}
 use Rattle.outer_ports.specs.wire.Wires.{WireView, out_of}
 use Rattle.replica_core.specs.Keeping.{LeavesUnkept, TakesIn, OpsTaking}
 use Rattle.replica_core.specs.declared.keeping.FeedFault.{FeedFault}
@@ -23,16 +23,16 @@ use Rattle.relay_sync.specs.declared.syncing.SyncFault.{SyncFault}
 use Rattle.relay_sync.specs.declared.syncing.SyncFault.TheVariants.{BadReply, CutShort, NoMemory, RelayRefused, TooLong, TooMany, WireFault}
 use Rattle.relay_sync.proofs.HearingLemmas.{hears-append, stops_in}
 
-frames-one : (op : Op) → frames (op ∷ []) ≡ frame op
+frames-one : (op : Op) → single_frames (op ∷ []) ≡ frame op
 frames-one op = append-nil (frame op)
 
 -- frames were heard, and their operations were taken in
 pub record Goes (old new : WireView) (start now : OpsTaking) (heard : ℕ) : Type 0 where
   pub ops : List Op
   pub have_frames : All HasFrame ops
-  pub hears : Hears old new (frames ops)
+  pub hears : Hears old new (single_frames ops)
   pub takes : TakesIn start now ops
-  pub count : heard ≡ length (frames ops)
+  pub count : heard ≡ length (single_frames ops)
   pub within : heard ≤ STREAM_LIMIT
 
 module _ (u v w : WireView) (start now next : OpsTaking) (heard : ℕ) (goes : Goes u v start now heard) where
@@ -42,16 +42,15 @@ module _ (u v w : WireView) (start now next : OpsTaking) (heard : ℕ) (goes : G
       let ops : List Op = goes.ops in
       let op : Op = one.op in
       let bytes : List ℕ = one.hears.bytes in
-      let is : IsFrame (record { bytes = bytes; ops = op ∷ [] }) = one.hears.is_message in
-      let same : is.op ≡ op = cc is.ops_are in
-      let bytes_are : bytes ≡ frames (op ∷ []) = is.bytes_are ∙ ap frame same ∙ sym (frames-one op) in
-      let joined : frames ops ++ bytes ≡ frames (ops ++ op ∷ []) = ap (λ (b : List ℕ). frames ops ++ b) bytes_are ∙ sym (flat_map-append frame ops (op ∷ [])) in
+      let is : HasFrame op × (bytes ≡ frame op) = one.hears.is_message in
+      let bytes_are : bytes ≡ single_frames (op ∷ []) = is.1 ∙ sym (frames-one op) in
+      let joined : single_frames ops ++ bytes ≡ single_frames (ops ++ op ∷ []) = ap (λ (b : List ℕ). single_frames ops ++ b) bytes_are ∙ sym (flat_map-append frame ops (op ∷ [])) in
       record {
         ops = ops ++ op ∷ [];
-        have_frames = All-push HasFrame ops op goes.have_frames (subst HasFrame same is.has_frame);
-        hears = subst (Hears u w) joined (hears-append u v w (frames ops) bytes goes.hears one.hears.hears);
+        have_frames = All-push HasFrame ops op goes.have_frames is.0;
+        hears = subst (Hears u w) joined (hears-append u v w (single_frames ops) bytes goes.hears one.hears.hears);
         takes = takes_more start now next ops op goes.takes one.has_place one.takes;
-        count = omega (arith, one.hears.count, goes.count, ap length joined, length-append (frames ops) bytes);
+        count = omega (arith, one.hears.count, goes.count, ap length joined, length-append (single_frames ops) bytes);
         within = one.hears.within;
       }
 
@@ -62,8 +61,8 @@ module _ (u v w : WireView) (start now next : OpsTaking) (heard : ℕ) (goes : G
     have_frames = goes.have_frames;
     last = whole.bytes;
     ends = whole.is_message;
-    hears = hears-append u v w (frames goes.ops) whole.bytes goes.hears whole.hears;
-    within = omega (arith, whole.count, whole.within, goes.count, length-append (frames goes.ops) whole.bytes);
+    hears = hears-append u v w (single_frames goes.ops) whole.bytes goes.hears whole.hears;
+    within = omega (arith, whole.count, whole.within, goes.count, length-append (single_frames goes.ops) whole.bytes);
     takes = subst (λ (t : OpsTaking). TakesIn start t goes.ops) (sym same) goes.takes;
   }
 
@@ -82,7 +81,7 @@ module _ (u v w : WireView) (start now next : OpsTaking) (heard : ℕ) (goes : G
     ops = goes.ops;
     have_frames = goes.have_frames;
     bytes = stops.bytes;
-    hears = hears-append u v w (frames goes.ops) stops.bytes goes.hears stops.hears;
+    hears = hears-append u v w (single_frames goes.ops) stops.bytes goes.hears stops.hears;
     middle = now;
     takes = goes.takes;
     stops = subst (λ (n : ℕ). ReplyStopsFor fault u w now next n stops.bytes) goes.count (stops_for fault stops.bytes stops.stops);

@@ -2,7 +2,7 @@
 use Rattle.std.specs.Prelude.{◌≡◌, ◌↔◌, ℕ, ◌<◌, ◌≤◌, All, IfSome, List, ◌++◌, length, take, Option, Some, None, Result, Ok, Err}
 use Rattle.fugue_ids.specs.declared.limits.TheConstants.{STREAM_LIMIT}
 use Rattle.fugue_ids.specs.declared.op.Op.{Op}
-use Rattle.origin_model.specs.frames.Frames.{HasFrame, frames}
+use Rattle.origin_model.specs.frames.Frames.{HasFrame, single_frames}
 use Rattle.origin_model.specs.taking.Taking.{Held, HasPlace, TooMany as AnswersTooMany, answer, held_from}
 use Rattle.outer_ports.specs.wire.Wires.{WireView}
 use Rattle.replica_core.specs.Keeping.{TakesIn, OpsTaking}
@@ -55,8 +55,8 @@ pub record ReplyComes (hold most : ℕ) (start : Held) (bytes : List ℕ) (ops :
   pub have_frames : All HasFrame ops
   pub has_place : HasPlace hold most start ops
   pub rest : List ℕ
-  pub split : take STREAM_LIMIT bytes ≡ frames ops ++ rest
-  pub ends : EndsReply hold most (held_from hold most start ops) (length bytes) (length (frames ops)) rest end
+  pub split : take STREAM_LIMIT bytes ≡ single_frames ops ++ rest
+  pub ends : EndsReply hold most (held_from hold most start ops) (length bytes) (length (single_frames ops)) rest end
 
 -- the same, and what a replica that takes the operations in comes to
 pub record HearsTo (bytes : List ℕ) (before after : OpsTaking) (end : ReplyEnd) : Type 0 where

@@ -5,7 +5,7 @@ use Rattle.std.specs.Io.KnownBytes.{prepend_known}
 use Rattle.fugue_ids.specs.Causes.{Rose}
 use Rattle.fugue_ids.specs.declared.limits.TheConstants.{STREAM_LIMIT}
 use Rattle.fugue_ids.specs.declared.op.Op.{Op}
-use Rattle.origin_model.specs.frames.Frames.{IsFrame}
+use Rattle.origin_model.specs.frames.Frames.{HasFrame, frame}
 use Rattle.origin_model.specs.relay.Session.{refusal_message}
 use Rattle.outer_ports.specs.wire.Wires.{WireTells, WireView}
 use Rattle.relay_sync.specs.declared.hearing.Message.{Message}
@@ -21,9 +21,9 @@ ending = 0x55
 abbrev pub IsCode : ℕ → Type 0
 IsCode code = (1 ≤ code) × (code ≤ 3)
 
--- a frame; or 55 and a number; or 58 and a code
+-- the own frame of an operation; or 55 and a number; or 58 and a code
 abbrev pub IsMessage : Message → List ℕ → Type 0
-IsMessage (Operation op) bytes = IsFrame (record { bytes = bytes; ops = op ∷ [] })
+IsMessage (Operation op) bytes = HasFrame op × (bytes ≡ frame op)
 IsMessage (End count) bytes = (number : List ℕ) × (length number ≡ 4) × (count ≡ from_be_bytes w32 number) × (bytes ≡ ending ∷ number)
 IsMessage (Refusal code) bytes = IsCode code × (bytes ≡ refusal_message code)
 

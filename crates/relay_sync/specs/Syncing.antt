@@ -5,7 +5,7 @@ use Rattle.fugue_ids.specs.Causes.{Rose}
 use Rattle.fugue_ids.specs.Outs.{Took, TookFront}
 use Rattle.fugue_ids.specs.declared.limits.TheConstants.{GREATEST_HOLD, STREAM_LIMIT}
 use Rattle.fugue_ids.specs.declared.op.Op.{Op}
-use Rattle.origin_model.specs.frames.Frames.{HasFrame, frames}
+use Rattle.origin_model.specs.frames.Frames.{HasFrame, single_frames}
 use Rattle.origin_model.specs.taking.Taking.{Held, IsSettled, TooMany as AnswersTooMany, answer}
 use Rattle.outer_ports.specs.wire.Wires.{WireView, out_of}
 use Rattle.replica_core.specs.Keeping.{TakesIn, TakesInKeeping, TakesPartly, OpsTaking}
@@ -28,8 +28,8 @@ pub record HearsReply (old new : WireView) (before after : OpsTaking) (count : �
   pub have_frames : All HasFrame ops
   pub last : List ℕ
   pub ends : IsMessage (End count) last
-  pub hears : Hears old new (frames ops ++ last)
-  pub within : length (frames ops ++ last) ≤ STREAM_LIMIT
+  pub hears : Hears old new (single_frames ops ++ last)
+  pub within : length (single_frames ops ++ last) ≤ STREAM_LIMIT
   pub takes : TakesIn before after ops
 
 -- why no more was heard, behind the frames of what was taken in: the bytes there decide
@@ -46,10 +46,10 @@ pub record HearsPartly (fault : SyncFault) (old new : WireView) (before after : 
   pub ops : List Op
   pub have_frames : All HasFrame ops
   pub bytes : List ℕ
-  pub hears : Hears old new (frames ops ++ bytes)
+  pub hears : Hears old new (single_frames ops ++ bytes)
   pub middle : OpsTaking
   pub takes : TakesIn before middle ops
-  pub stops : ReplyStopsFor fault old new middle after (length (frames ops)) bytes
+  pub stops : ReplyStopsFor fault old new middle after (length (single_frames ops)) bytes
 
 -- of these bytes a reply was heard up to the message that ends it, and nothing behind it
 pub record HearsNoFurther (old new : Option (List ℕ)) : Type 0 where
@@ -57,7 +57,7 @@ pub record HearsNoFurther (old new : Option (List ℕ)) : Type 0 where
   pub count : ℕ
   pub last : List ℕ
   pub ends : IsMessage (End count) last
-  pub heard : old ≡ prepend_known (frames ops ++ last) new
+  pub heard : old ≡ prepend_known (single_frames ops ++ last) new
 
 -- all that the replica holds was said to the port
 pub record Asks (old new : WireView) (port cursor : ℕ) (held : Held) : Type 0 where

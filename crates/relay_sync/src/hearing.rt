@@ -1,6 +1,7 @@
 ghost use Rattle.std.specs.Prelude.{◌≡◌, ◌≢◌, ◌+◌, ◌≤◌, ◌∷◌, [], IfErr, IfOk, List, length, ℕ};
 ghost use Rattle.fugue_ids.specs.declared.op.Op.{Op as AnyOp};
-ghost use Rattle.origin_model.specs.frames.Frames.{IsFrame};
+ghost use Rattle.origin_model.specs.declared.grammar.Grammar.TheVariants.{Version1};
+ghost use Rattle.origin_model.specs.frames.Frames.{HasFrame, frame as frame_of};
 ghost use Rattle.op_frame.specs.FrameFronts.{IsFrameOf};
 ghost use Rattle.relay_sync.specs.Replies.{Hears, IsMessageFront, IsWireFault, Stops, Whole, WireRisesFor};
 ghost use Rattle.relay_sync.specs.declared.hearing.Message.TheVariants.{Operation};
@@ -9,6 +10,7 @@ ghost use Rattle.relay_sync.specs.declared.syncing.SyncFault.TheVariants.{NoMemo
 use crate::syncing::SyncFault;
 use fugue_ids::{Op, STREAM_LIMIT};
 use op_frame::{END, FrameFront, Grown, REFUSAL, decode};
+use origin_model::Grammar;
 use outer_ports::Wire;
 use std::alloc::Global;
 
@@ -119,7 +121,7 @@ fn next_frame<W: Wire>(
     ensures err { IfErr result (λ fault. Stops fault (W.seen wire.old) (W.seen wire.new) place (first ∷ [])) }
     ensures told { WireRisesFor (IsWireFault result) (W.seen wire.old) (W.seen wire.new) }
 {
-    let mut front = FrameFront::new();
+    let mut front = FrameFront::new(Grammar::Version1);
     let mut byte = first;
     'bytes: loop {
         match front.push(byte) {
@@ -132,9 +134,9 @@ fn next_frame<W: Wire>(
 
 /// The operation of a frame.
 fn operation_of(alloc: Global, frame: &[u8]) -> Result<Message, SyncFault>
-    requires { IsFrameOf frame.now }
+    requires { IsFrameOf Version1 frame.now }
     ensures ok { IfOk result (λ message. (op : AnyOp) × (message ≡ Operation op)
-        × IsFrame (record { bytes = frame.now; ops = op ∷ [] })) }
+        × HasFrame op × (frame.now ≡ frame_of op)) }
     ensures err { IfErr result (λ fault. fault ≡ WantsMemory) }
 {
     let Ok(op) = decode(alloc, frame) else {

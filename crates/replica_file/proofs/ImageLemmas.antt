@@ -1,6 +1,7 @@
 -- Each list of bytes has one image.
 use Rattle.std.proofs.Common.{◌≡◌, ◌⊎◌, inl, inr, ℕ, List}
 use Rattle.fugue_ids.specs.declared.op.Op.{Op}
+use Rattle.origin_model.specs.declared.grammar.Grammar.TheVariants.{Version1}
 use Rattle.origin_model.specs.frames.Frames.{BadFrame, CutShort, End, Reads, Whole}
 use Rattle.origin_model.proofs.SharedLemmas.{ReadSome, image_once, image_some}
 use Rattle.op_frame.proofs.StreamLemmas.{reads_once, reads_some}
@@ -8,10 +9,10 @@ use Rattle.replica_file.specs.Laws.{OneImage}
 use Rattle.replica_file.proofs.AppendLemmas.{read_once}
 
 -- a reading that ends otherwise is none of whole frames
-other_end : (bytes : List ℕ) (ops : List Op) (end : End) → (Whole ≡ end → ⊥) → Reads bytes ops end → (others : List Op) → Reads bytes others Whole → ⊥
+other_end : (bytes : List ℕ) (ops : List Op) (end : End) → (Whole ≡ end → ⊥) → Reads Version1 bytes ops end → (others : List Op) → Reads Version1 bytes others Whole → ⊥
 other_end bytes ops end differs reads others whole = differs ((reads_once bytes others ops Whole end whole reads).1)
 
-by_end : (bytes : List ℕ) (ops : List Op) (end : End) → Reads bytes ops end → ((found : List Op) × Reads bytes found Whole) ⊎ ((found : List Op) → Reads bytes found Whole → ⊥)
+by_end : (bytes : List ℕ) (ops : List Op) (end : End) → Reads Version1 bytes ops end → ((found : List Op) × Reads Version1 bytes found Whole) ⊎ ((found : List Op) → Reads Version1 bytes found Whole → ⊥)
 by_end bytes ops Whole reads = inl (ops, reads)
 by_end bytes ops (CutShort k) reads = inr (other_end bytes ops (CutShort k) (λ e. cc e) reads)
 by_end bytes ops (BadFrame k) reads = inr (other_end bytes ops (BadFrame k) (λ e. cc e) reads)

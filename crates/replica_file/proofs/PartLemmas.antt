@@ -7,6 +7,7 @@ use Rattle.std.proofs.lemmas.List.Elements.{All-append, All-nil}
 use Rattle.std.proofs.lemmas.List.{length-take, drop-append-le, drop-take}
 use Rattle.fugue_ids.specs.declared.op.Op.{Op}
 use Rattle.outer_ports.specs.disk.Moments.{History}
+use Rattle.origin_model.specs.declared.grammar.Grammar.TheVariants.{Version1}
 use Rattle.origin_model.specs.frames.Frames.{CutShort, BadFrame, Framed, IsBad, IsFrame, IsPartial, Reads, Starts, Whole}
 use Rattle.op_frame.proofs.FrameLemmas.{bad_goes_on}
 use Rattle.op_frame.proofs.StreamLemmas.{reads_once}
@@ -29,21 +30,21 @@ first_stays : (rest more : List ℕ) (byte : ℕ) → slice_get rest 0 ≡ Some 
 first_stays [] more byte is = absurd (cc is)
 first_stays (b ∷ rest) more byte is = is
 
-starts_none : (bytes : List ℕ) → Starts bytes [] bytes
-starts_none bytes = record { found = []; are_frames = All-nil IsFrame; ops_are = refl; split = refl }
+starts_none : (bytes : List ℕ) → Starts Version1 bytes [] bytes
+starts_none bytes = record { found = []; are_frames = All-nil (IsFrame Version1); ops_are = refl; split = refl }
 
 -- frames, and frames behind them
-starts_then : (bytes rest last : List ℕ) (ops more : List Op) → Starts bytes ops rest → Starts rest more last → Starts bytes (ops ++ more) last
+starts_then : (bytes rest last : List ℕ) (ops more : List Op) → Starts Version1 bytes ops rest → Starts Version1 rest more last → Starts Version1 bytes (ops ++ more) last
 starts_then bytes rest last ops more one two = record {
   found = one.found ++ two.found;
-  are_frames = All-append IsFrame one.found two.found one.are_frames two.are_frames;
+  are_frames = All-append (IsFrame Version1) one.found two.found one.are_frames two.are_frames;
   ops_are = (λ i. one.ops_are i ++ two.ops_are i) ∙ sym (flat_map-append (λ (framed : Framed). framed.ops) one.found two.found);
   split = one.split ∙ ap (λ (r : List ℕ). bytes_of one.found ++ r) two.split ∙ sym (append_assoc (bytes_of one.found) (bytes_of two.found) last)
       ∙ ap (λ (l : List ℕ). l ++ last) (sym (flat_map-append (λ (framed : Framed). framed.bytes) one.found two.found));
 }
 
 -- the same frames where more bytes follow
-starts_further : (bytes rest more : List ℕ) (ops : List Op) → Starts bytes ops rest → Starts (bytes ++ more) ops (rest ++ more)
+starts_further : (bytes rest more : List ℕ) (ops : List Op) → Starts Version1 bytes ops rest → Starts Version1 (bytes ++ more) ops (rest ++ more)
 starts_further bytes rest more ops one = record {
   found = one.found;
   are_frames = one.are_frames;
@@ -52,10 +53,10 @@ starts_further bytes rest more ops one = record {
 }
 
 -- bytes that end off are no whole frames
-pub never_whole : (bytes : List ℕ) → EndsOff bytes → (all : List Op) → Reads bytes all Whole → ⊥
+pub never_whole : (bytes : List ℕ) → EndsOff bytes → (all : List Op) → Reads Version1 bytes all Whole → ⊥
 never_whole bytes off all whole = by_end off.ends
   where
-    by_end : ((off.rest ≢ []) × IsPartial off.rest) ⊎ IsBad off.rest → ⊥
+    by_end : ((off.rest ≢ []) × IsPartial Version1 off.rest) ⊎ IsBad Version1 off.rest → ⊥
     by_end (inl partial) =
         let same = (reads_once bytes off.ops all (CutShort (length (bytes_of off.starts.found))) Whole (record {
           found = off.starts.found;
@@ -104,7 +105,7 @@ module _ (bytes : List ℕ) (at left size : ℕ) (piece : List ℕ) (is : piece 
   pub piece_none : (ops : List Op) → AreWhole piece 0 ops → size ≤ length piece → 0 < size → size ≡ min left 65536 → EndsOff (part_of bytes at left)
   piece_none ops whole long some smaller = by_ends whole.ends
     where
-      by_ends : (drop 0 piece ≡ []) ⊎ IsPartial (drop 0 piece) → EndsOff (part_of bytes at left)
+      by_ends : (drop 0 piece ≡ []) ⊎ IsPartial Version1 (drop 0 piece) → EndsOff (part_of bytes at left)
       by_ends (inl none) = absurd (omega (arith, ap length none, long, some))
       by_ends (inr partial) =
           let short : length piece < 4096 = front_short piece partial in
@@ -121,8 +122,8 @@ module _ (bytes : List ℕ) (at left size : ℕ) (piece : List ℕ) (is : piece 
   piece_took len was now old new took = record {
     ops = took.ops;
     inside = omega (arith, took.whole.inside, ap length part_is, length-append piece more);
-    starts = subst (λ (l : List ℕ). Starts l took.ops (drop len l)) (sym part_is)
-        (subst (Starts (piece ++ more) took.ops) (sym (drop-append-le len piece more took.whole.inside)) (starts_further piece (drop len piece) more took.ops took.whole.starts));
+    starts = subst (λ (l : List ℕ). Starts Version1 l took.ops (drop len l)) (sym part_is)
+        (subst (Starts Version1 (piece ++ more) took.ops) (sym (drop-append-le len piece more took.whole.inside)) (starts_further piece (drop len piece) more took.ops took.whole.starts));
     feeds = took.feeds;
   }
 
@@ -131,7 +132,7 @@ module _ (bytes : List ℕ) (at left size : ℕ) (piece : List ℕ) (is : piece 
   piece_lacks was old lacks = record {
     ops = lacks.ops;
     rest = lacks.rest ++ more;
-    starts = subst (λ (l : List ℕ). Starts l lacks.ops (lacks.rest ++ more)) (sym part_is) (starts_further piece lacks.rest more lacks.ops lacks.starts);
+    starts = subst (λ (l : List ℕ). Starts Version1 l lacks.ops (lacks.rest ++ more)) (sym part_is) (starts_further piece lacks.rest more lacks.ops lacks.starts);
     now = lacks.now;
     new = lacks.new;
     feeds = lacks.feeds;
@@ -171,12 +172,12 @@ module _ (bytes : List ℕ) (at len taken : ℕ) (within : taken ≤ len) where
 
   pub frames_more : (l : ℕ) (a b c : Bool) (r s t : State) → TakesSome bytes at len taken a r b s → TakesSome bytes (at + taken) (len - taken) l b s c t → TakesSome bytes at len (taken + l) a r c t
   frames_more l a b c r s t one two =
-      let behind : Starts (drop taken (part_of bytes at len)) two.ops (drop l (drop taken (part_of bytes at len))) = subst (λ (x : List ℕ). Starts x two.ops (drop l x)) left_is two.starts in
+      let behind : Starts Version1 (drop taken (part_of bytes at len)) two.ops (drop l (drop taken (part_of bytes at len))) = subst (λ (x : List ℕ). Starts Version1 x two.ops (drop l x)) left_is two.starts in
       record {
         ops = one.ops ++ two.ops;
         inside = omega (arith, one.inside, two.inside, ap length left_is, length-drop taken (part_of bytes at len));
         starts = starts_then (part_of bytes at len) (drop taken (part_of bytes at len)) (drop (taken + l) (part_of bytes at len)) one.ops two.ops one.starts
-            (subst (Starts (drop taken (part_of bytes at len)) two.ops) (drop_twice l taken (part_of bytes at len)) behind);
+            (subst (Starts Version1 (drop taken (part_of bytes at len)) two.ops) (drop_twice l taken (part_of bytes at len)) behind);
         feeds = feeds_then a b c r s t one.ops two.ops one.feeds two.feeds;
       }
 
@@ -198,7 +199,7 @@ module _ (bytes : List ℕ) (at len taken : ℕ) (within : taken ≤ len) where
       record {
         ops = one.ops ++ lacks.ops;
         rest = lacks.rest;
-        starts = starts_then (part_of bytes at len) (drop taken (part_of bytes at len)) lacks.rest one.ops lacks.ops one.starts (subst (λ (l : List ℕ). Starts l lacks.ops lacks.rest) left_is lacks.starts);
+        starts = starts_then (part_of bytes at len) (drop taken (part_of bytes at len)) lacks.rest one.ops lacks.ops one.starts (subst (λ (l : List ℕ). Starts Version1 l lacks.ops lacks.rest) left_is lacks.starts);
         now = lacks.now;
         new = lacks.new;
         feeds = feeds_then a b lacks.now r s lacks.new one.ops lacks.ops one.feeds lacks.feeds;

@@ -8,7 +8,9 @@ use Rattle.std.proofs.lemmas.Option.{same_Some}
 use Rattle.std.proofs.Math.Seq.{drop-append_seam}
 use Rattle.fugue_ids.specs.declared.op.Op.{Op}
 use Rattle.outer_ports.specs.Sources.{SourceView}
+use Rattle.origin_model.specs.declared.grammar.Grammar.TheVariants.{Version1}
 use Rattle.origin_model.specs.frames.Frames.{Framed, HasFrame, IsFrame, IsPartial, Reads, Starts, Whole, frame}
+use Rattle.origin_model.proofs.SharedLemmas.{framed_is}
 use Rattle.origin_model.specs.taking.Taking.{answer, is_kept}
 use Rattle.op_frame.specs.Readers.{AnswersBy, Chains, Nexts, FrameReading, StartsWithin, to_give}
 use Rattle.op_frame.specs.declared.fault.FrameFault.TheVariants as frame_fault
@@ -21,12 +23,12 @@ use Rattle.replica_file.specs.declared.stop.Stop.{Stop}
 use Rattle.replica_file.specs.declared.stop.Stop.TheVariants as stop_is
 
 -- the frame of an operation at the front
-one_frame : (op : Op) (bytes rest : List ℕ) → HasFrame op → bytes ≡ frame op ++ rest → Starts bytes (op ∷ []) rest
+one_frame : (op : Op) (bytes rest : List ℕ) → HasFrame op → bytes ≡ frame op ++ rest → Starts Version1 bytes (op ∷ []) rest
 one_frame op bytes rest has split =
     let framed : Framed = record { bytes = frame op; ops = op ∷ [] } in
     record {
       found = framed ∷ [];
-      are_frames = All-cons IsFrame framed [] (record { op = op; has_frame = has; bytes_are = refl; ops_are = refl }) (All-nil IsFrame);
+      are_frames = All-cons (IsFrame Version1) framed [] (framed_is Version1 op has) (All-nil (IsFrame Version1));
       ops_are = refl;
       split = split ∙ ap (λ (l : List ℕ). l ++ rest) (sym (append-nil (frame op)));
     }
@@ -44,7 +46,7 @@ module _ (bytes : List ℕ) (ops : List Op) (old new : FrameReading) (before aft
         ends = inl none;
       }
     where
-      bytes_before : Reads bytes ops Whole → List ℕ
+      bytes_before : Reads Version1 bytes ops Whole → List ℕ
       bytes_before r = flat_map (λ framed. framed.bytes) r.found
 
       drop_all_of : (l : List ℕ) → drop (length l) l ≡ []
@@ -62,7 +64,7 @@ module _ (bytes : List ℕ) (ops : List Op) (old new : FrameReading) (before aft
       record {
         inside = omega (arith, at, ap length reads.split, length-append front reads.rest);
         starts = record { found = reads.found; are_frames = reads.are_frames; ops_are = reads.ops_are; split = reads.split ∙ ap (λ (r : List ℕ). front ++ r) (sym behind) };
-        ends = inr (subst IsPartial (sym behind) reads.ends.2);
+        ends = inr (subst (IsPartial Version1) (sym behind) reads.ends.2);
       }
 
   -- no frame stands there
@@ -97,11 +99,11 @@ module _ (bytes : List ℕ) (ops : List Op) (old new : FrameReading) (before aft
 
   -- memory was wanting for the title of the next frame
   pub title : (r : State) (was : Bool) → Nexts old new before after (Err frame_fault.NoMemory)
-      → (rest : List ℕ) × Starts bytes ops rest × IsWanting r.hold r.most r.held (was ≡ true) rest
+      → (rest : List ℕ) × Starts Version1 bytes ops rest × IsWanting r.hold r.most r.held (was ≡ true) rest
   title r was nexts = by (to_give old before.left) reading.gave.split nexts.answer
     where
       by : (left : Option (List ℕ)) → Some bytes ≡ prepend_known (flat_map (λ framed. framed.bytes) reading.gave.found) left
-          → IfSome left (AnswersBy (Err frame_fault.NoMemory) old.offset (old.limit - old.offset)) → (rest : List ℕ) × Starts bytes ops rest × IsWanting r.hold r.most r.held (was ≡ true) rest
+          → IfSome left (AnswersBy (Err frame_fault.NoMemory) old.offset (old.limit - old.offset)) → (rest : List ℕ) × Starts Version1 bytes ops rest × IsWanting r.hold r.most r.held (was ≡ true) rest
       by None told answer = absurd (let no : Some bytes ≡ None = told in cc no)
       by (Some rest) told answer = (
         rest,
@@ -111,11 +113,11 @@ module _ (bytes : List ℕ) (ops : List Op) (old new : FrameReading) (before aft
 
   -- memory was wanting for the operation that was given
   pub operation : (r : State) (was : Bool) (op : Op) → Nexts old new before after (Ok (Some op)) → (was ≡ true) × (is_kept (answer r.hold r.most r.held op) ≡ true)
-      → (rest : List ℕ) × Starts bytes ops rest × IsWanting r.hold r.most r.held (was ≡ true) rest
+      → (rest : List ℕ) × Starts Version1 bytes ops rest × IsWanting r.hold r.most r.held (was ≡ true) rest
   operation r was op nexts kept = by (to_give old before.left) reading.gave.split nexts.answer
     where
       by : (left : Option (List ℕ)) → Some bytes ≡ prepend_known (flat_map (λ framed. framed.bytes) reading.gave.found) left
-          → IfSome left (AnswersBy (Ok (Some op)) old.offset (old.limit - old.offset)) → (rest : List ℕ) × Starts bytes ops rest × IsWanting r.hold r.most r.held (was ≡ true) rest
+          → IfSome left (AnswersBy (Ok (Some op)) old.offset (old.limit - old.offset)) → (rest : List ℕ) × Starts Version1 bytes ops rest × IsWanting r.hold r.most r.held (was ≡ true) rest
       by None told answer = absurd (let no : Some bytes ≡ None = told in cc no)
       by (Some rest) told answer =
           let first : StartsWithin op (old.limit - old.offset) rest = (answer.exactly tt (Ok (Some op)) tt).0 refl in (
@@ -129,7 +131,7 @@ pub lacks_none : (Begins : List ℕ → Type 0) (bytes : List ℕ) (was : Bool) 
 lacks_none Begins bytes was old begins = record {
   ops = [];
   rest = bytes;
-  starts = record { found = []; are_frames = All-nil IsFrame; ops_are = refl; split = refl };
+  starts = record { found = []; are_frames = All-nil (IsFrame Version1); ops_are = refl; split = refl };
   now = was;
   new = old;
   feeds = feeds_none was old;
@@ -139,7 +141,7 @@ lacks_none Begins bytes was old begins = record {
 
 -- a step that answers so
 pub steps_wanting : (bytes : List ℕ) (ops : List Op) (was now : Bool) (old new : State) (reader : FrameReading) (source : SourceView) (result : Result (Option ℕ) Stop) (stop : Stop) → result ≡ Err stop
-    → stop ≡ stop_is.NoMemory → ((rest : List ℕ) × Starts bytes ops rest × IsWanting old.hold old.most old.held (was ≡ true) rest) → PieceSteps bytes ops was old now new reader source result
+    → stop ≡ stop_is.NoMemory → ((rest : List ℕ) × Starts Version1 bytes ops rest × IsWanting old.hold old.most old.held (was ≡ true) rest) → PieceSteps bytes ops was old now new reader source result
 steps_wanting bytes ops was now old new reader source result stop is same wanting =
     subst (PieceSteps bytes ops was old now new reader source) (sym (is ∙ ap (λ (s : Stop). Err s) same)) wanting
 

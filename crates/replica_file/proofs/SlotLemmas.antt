@@ -6,6 +6,7 @@ use Rattle.replica_file.specs.declared.stop.Stop.{Stop}
 use Rattle.std.proofs.lemmas.List.{length-take, length-take-le, take-append-drop}
 use Rattle.origin_model.specs.declared.files.TheConstants.{LONGEST_BATCH}
 use Rattle.origin_model.specs.files.Image.{CutShort, IsNoBatch, NoFrames, NoGate, NoLength, TooLong, number_at}
+use Rattle.origin_model.specs.declared.grammar.Grammar.TheVariants.{Version1}
 use Rattle.origin_model.specs.frames.Frames.{Reads, Whole}
 use Rattle.origin_model.specs.edits.State.{State}
 use Rattle.replica_file.specs.Pieces.{Lacks}
@@ -33,7 +34,7 @@ module _ (bytes : List ℕ) (at : ℕ) where
     pub bad_frames : HasNoFrames bytes (at + 5) len → (slot : ℕ) → IsNoBatch slot behind
     bad_frames (inl short) slot = CutShort (omega (arith, ap length frames_behind, short, is))
     bad_frames (inr off) slot = NoFrames (λ ops reads. never_whole (part_of bytes (at + 5) len) off ops
-        (subst (λ (l : List ℕ). Reads l ops Whole) ((λ i. take (sym is i) (frames_behind i))) reads))
+        (subst (λ (l : List ℕ). Reads Version1 l ops Whole) ((λ i. take (sym is i) (frames_behind i))) reads))
 
     -- memory was wanting for the frames
     pub slot_lacks : (was : Bool) (old : State) → len ≤ LONGEST_BATCH → Lacks (BeginsPiece bytes (at + 5) len) (part_of bytes (at + 5) len) was old → LacksInSlot bytes at was old

@@ -3,6 +3,7 @@ use Rattle.std.specs.Prelude.{◌≡◌, ◌⊎◌, ◌↔◌, ℕ, ◌+◌, ◌
 use Rattle.fugue_ids.specs.declared.op.Op.{Op}
 use Rattle.outer_ports.specs.disk.Disks.{RoomView}
 use Rattle.origin_model.specs.declared.files.TheConstants.{LONGEST_BATCH}
+use Rattle.origin_model.specs.declared.grammar.Grammar.TheVariants.{Version1}
 use Rattle.origin_model.specs.frames.Frames.{Starts}
 use Rattle.origin_model.specs.files.Image.{Batch, Content, EndsBadly, HasImage, Holds, OpenSlots, batch_ops, has_header, header_of, last_slot, number_at, open_slots, slots_of, state}
 use Rattle.origin_model.specs.taking.Taking.{HasPlace, TooMany as AnswersTooMany, answers_from, held, nothing_held}
@@ -66,7 +67,7 @@ pub record LacksMemory (most : ℕ) (bytes : List ℕ) : Type 0 where
   -- the operations of the slot's frames in front, and what stands behind these frames
   pub ops : List Op
   pub rest : List ℕ
-  pub starts : Starts (part_of bytes (at + 5) (number_at (at + 1) bytes)) ops rest
+  pub starts : Starts Version1 (part_of bytes (at + 5) (number_at (at + 1) bytes)) ops rest
   pub wants : BeginsPiece bytes (at + 5) (number_at (at + 1) bytes) rest
       ⊎ IsWanting (hold_of bytes) most (held (hold_of bytes) most (batch_ops earlier ++ ops)) (FindPlace (hold_of bytes) most (batch_ops earlier ++ ops)) rest
 

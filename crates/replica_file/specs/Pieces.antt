@@ -2,6 +2,7 @@
 use Rattle.std.specs.Prelude.{◌≡◌, ◌⊎◌, ℕ, ◌≤◌, List, [], ◌∷◌, ◌++◌, length, drop, Option, Some, None, Bool, true, Result, Ok, Err}
 use Rattle.fugue_ids.specs.declared.op.Op.{Op}
 use Rattle.outer_ports.specs.Sources.{SourceView}
+use Rattle.origin_model.specs.declared.grammar.Grammar.TheVariants.{Version1}
 use Rattle.origin_model.specs.frames.Frames.{Starts, IsBad, IsPartial}
 use Rattle.op_frame.specs.Readers.{Gave, FrameReading}
 use Rattle.origin_model.specs.edits.State.{State}
@@ -21,8 +22,8 @@ pub record IsReading (bytes : List ℕ) (ops : List Op) (reader : FrameReading) 
 pub record AreBad (bytes : List ℕ) : Type 0 where
   pub ops : List Op
   pub rest : List ℕ
-  pub starts : Starts bytes ops rest
-  pub bad : IsBad rest
+  pub starts : Starts Version1 bytes ops rest
+  pub bad : IsBad Version1 rest
 
 -- one step over a piece: an operation more was taken in, or the whole frames are over, or what follows is bad, or memory was wanting for it
 abbrev pub PieceSteps : List ℕ → List Op → (was : Bool) (old : State) (now : Bool) (new : State) → FrameReading → SourceView → Result (Option ℕ) Stop → Type 0
@@ -30,7 +31,7 @@ PieceSteps bytes ops was old now new reader source (Ok None) = (op : Op) × IsRe
 PieceSteps bytes ops was old now new reader source (Ok (Some len)) = AreWhole bytes len ops × (now ≡ was) × (new ≡ old)
 PieceSteps bytes ops was old now new reader source (Err Bad) = AreBad bytes
 PieceSteps bytes ops was old now new reader source (Err Disk) = ⊥
-PieceSteps bytes ops was old now new reader source (Err NoMemory) = (rest : List ℕ) × Starts bytes ops rest × IsWanting old.hold old.most old.held (was ≡ true) rest
+PieceSteps bytes ops was old now new reader source (Err NoMemory) = (rest : List ℕ) × Starts Version1 bytes ops rest × IsWanting old.hold old.most old.held (was ≡ true) rest
 
 -- the whole frames at the front of a piece were taken in
 pub record TakesPiece (bytes : List ℕ) (len : ℕ) (was : Bool) (old : State) (now : Bool) (new : State) : Type 0 where
@@ -43,7 +44,7 @@ pub record TakesPiece (bytes : List ℕ) (len : ℕ) (was : Bool) (old : State) 
 pub record Lacks (Begins : List ℕ → Type 0) (bytes : List ℕ) (was : Bool) (old : State) : Type 0 where
   pub ops : List Op
   pub rest : List ℕ
-  pub starts : Starts bytes ops rest
+  pub starts : Starts Version1 bytes ops rest
   pub now : Bool
   pub new : State
   pub feeds : Feeds was old now new ops

@@ -3,6 +3,7 @@ use Rattle.std.specs.Prelude.{◌≡◌, ◌≢◌, ◌⊎◌, ℕ, ◌+◌, ◌
 use Rattle.fugue_ids.specs.declared.op.Op.{Op}
 use Rattle.origin_model.specs.declared.files.TheConstants.{LONGEST_BATCH}
 use Rattle.origin_model.specs.files.Image.{Batch, IsBatch, OpenSlots, batch_ops, has_header, header_of, is_header, number_at, open_slots, slots_of}
+use Rattle.origin_model.specs.declared.grammar.Grammar.TheVariants.{Version1}
 use Rattle.origin_model.specs.frames.Frames.{IsBad, IsPartial, Reads, Starts, Whole}
 use Rattle.origin_model.specs.edits.State.{State}
 use Rattle.replica_file.specs.Load.{LoadAnswerIs}
@@ -18,22 +19,22 @@ use Rattle.replica_file.specs.declared.gate.Gate.{Gate}
 pub record TakesSome (bytes : List ℕ) (at len taken : ℕ) (was : Bool) (old : State) (now : Bool) (new : State) : Type 0 where
   pub ops : List Op
   pub inside : taken ≤ length (part_of bytes at len)
-  pub starts : Starts (part_of bytes at len) ops (drop taken (part_of bytes at len))
+  pub starts : Starts Version1 (part_of bytes at len) ops (drop taken (part_of bytes at len))
   pub feeds : Feeds was old now new ops
 
 -- the part is all there and whole frames, and they were taken in
 pub record TakesFrames (bytes : List ℕ) (at len : ℕ) (was : Bool) (old : State) (now : Bool) (new : State) : Type 0 where
   pub ops : List Op
   pub long : length (part_of bytes at len) ≡ len
-  pub reads : Reads (part_of bytes at len) ops Whole
+  pub reads : Reads Version1 (part_of bytes at len) ops Whole
   pub feeds : Feeds was old now new ops
 
 -- behind some frames stand bytes that are no whole frame and begin none
 pub record EndsOff (bytes : List ℕ) : Type 0 where
   pub ops : List Op
   pub rest : List ℕ
-  pub starts : Starts bytes ops rest
-  pub ends : ((rest ≢ []) × IsPartial rest) ⊎ IsBad rest
+  pub starts : Starts Version1 bytes ops rest
+  pub ends : ((rest ≢ []) × IsPartial Version1 rest) ⊎ IsBad Version1 rest
 
 -- the part is not all there, or it is not whole frames
 abbrev pub HasNoFrames : List ℕ → (at len : ℕ) → Type 0

@@ -1,6 +1,7 @@
 -- Where memory may be wanting while the frames of a batch are read.
 use Rattle.std.specs.Prelude.{◌≡◌, ◌⊎◌, ℕ, ◌+◌, ◌-◌, ◌≤◌, min, List, [], ◌∷◌, length, take, drop, Some, slice_get, true}
 use Rattle.fugue_ids.specs.declared.op.Op.{Op}
+use Rattle.origin_model.specs.declared.grammar.Grammar.TheVariants.{Version1}
 use Rattle.origin_model.specs.frames.Frames.{IsPartial, Starts}
 use Rattle.origin_model.specs.taking.Taking.{Held, answer, is_kept}
 
@@ -11,8 +12,8 @@ part_of bytes at len = take len (drop at bytes)
 -- frames of the operations are the first so many bytes, and behind them there is at most the front of one more
 pub record AreWhole (bytes : List ℕ) (len : ℕ) (ops : List Op) : Type 0 where
   pub inside : len ≤ length bytes
-  pub starts : Starts bytes ops (drop len bytes)
-  pub ends : (drop len bytes ≡ []) ⊎ IsPartial (drop len bytes)
+  pub starts : Starts Version1 bytes ops (drop len bytes)
+  pub ends : (drop len bytes ≡ []) ⊎ IsPartial Version1 (drop len bytes)
 
 -- So many bytes of a part of a file are those of the whole frames of its pieces, the newest of which comes first.
 -- A piece has up to 65,536 bytes, and begins where the whole frames of the one before it end.
@@ -33,4 +34,4 @@ pub data IsWanting (hold most : ℕ) (s : Held) (places : Type 0) (rest : List �
   -- it is a section's, which has a title
   ForTitle : slice_get rest 0 ≡ Some 1 → IsWanting hold most s places rest
   -- all operations before it found their place, and its own would be kept
-  ForOperation : (op : Op) (behind : List ℕ) → Starts rest (op ∷ []) behind → places → is_kept (answer hold most s op) ≡ true → IsWanting hold most s places rest
+  ForOperation : (op : Op) (behind : List ℕ) → Starts Version1 rest (op ∷ []) behind → places → is_kept (answer hold most s op) ≡ true → IsWanting hold most s places rest

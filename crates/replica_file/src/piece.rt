@@ -29,7 +29,7 @@ impl Piece {
     {
         let len = bytes.len() as u64;
         Ok(Piece {
-            reader: FrameReader::new(alloc, len)?,
+            reader: FrameReader::old(alloc, len)?,
             source: SureSource::new(bytes, PIECE),
             len,
         })
