@@ -1,8 +1,10 @@
 -- Fields that some bytes are, begin, or are not.
-use Rattle.std.proofs.Common.{◌≡◌, ℕ, ◌+◌, ◌*◌, ◌<◌, List, [], ◌∷◌, ◌++◌, length, drop, refl, ap, sym, ◌∙◌, arith, append_assoc, get_or, length-append, length-drop}
-use Rattle.std.specs.Prelude.{Option, Some, None, SomeIff, is_some, true, ◌^◌}
-use Rattle.std.specs.Int.{to_be_bytes, w32, byte_at}
+use Rattle.std.proofs.Common.{◌≡◌, ℕ, suc, zero, ◌+◌, ◌*◌, ◌<◌, ◌≤◌, List, [], ◌∷◌, ◌++◌, length, drop, refl, ap, sym, ◌∙◌, arith, append_assoc, get_or, length-append, length-drop}
+use Rattle.std.specs.Prelude.{All, Option, Some, None, SomeIff, is_some, true, ◌^◌}
+use Rattle.std.specs.Char.{IsScalar}
+use Rattle.std.specs.Int.{to_be_bytes, w16, w32, byte_at}
 use Rattle.std.proofs.lemmas.List.{get_or-drop}
+use Rattle.std.proofs.lemmas.List.Elements.{All-cons, All-nil}
 use Rattle.fugue_ids.specs.Identifiers.{Identifier}
 use Rattle.origin_model.specs.frames.Frames.{IsIdentifier, id_bytes, scalar_bytes}
 use Rattle.op_frame.specs.FrameFronts.{scalar_of_bytes}
@@ -37,15 +39,16 @@ four_there (w ∷ x ∷ []) long fits = absurd (omega (arith, long))
 four_there (w ∷ x ∷ y ∷ []) long fits = absurd (omega (arith, long))
 four_there (w ∷ x ∷ y ∷ z ∷ v ∷ b) long fits = absurd (omega (arith, long))
 
--- fewer than four bytes are a front of a number that is not 0
+-- fewer than four bytes are a front of a number that is not 0, and has one behind it
 pub record NumberFront (b : List ℕ) : Type 0 where
   pub more : List ℕ
   pub lacks : 0 < length more
   pub whole : NumberWith b more
   pub some : 0 < whole.number
+  pub early : whole.number + 2 ≤ 2 ^ 32
 
 with_one : (b more : List ℕ) (w x y : ℕ) → b ++ more ≡ w ∷ x ∷ y ∷ 1 ∷ [] → 0 < length more → w < 256 → x < 256 → y < 256 → NumberFront b
-with_one b more w x y is lacks p q r = record { more = more; lacks = lacks; whole = four_bytes b more w x y 1 is p q r (omega arith); some = omega arith }
+with_one b more w x y is lacks p q r = record { more = more; lacks = lacks; whole = four_bytes b more w x y 1 is p q r (omega arith); some = omega arith; early = omega arith }
 
 pub short_number : (b : List ℕ) → length b < 4 → AreBytes b → NumberFront b
 short_number [] short fits = with_one [] (1 ∷ 1 ∷ 1 ∷ 1 ∷ []) 1 1 1 refl (omega arith) (omega arith) (omega arith) (omega arith)
@@ -72,13 +75,15 @@ id_with b more r behind n some small is p = record {
 pub behind_four : (b : List ℕ) → AreBytes b → AreBytes (drop 4 b)
 behind_four b fits i = omega (arith, fits (4 + i), get_or-drop 4 b i 0)
 
--- an identifier of which a byte lacks at least
+-- an identifier of which a byte lacks at least, and of which there is a next one
 pub record IdentifierFront (b : List ℕ) : Type 0 where
   pub more : List ℕ
   pub lacks : 0 < length more
   pub whole : IdentifierWith b more
+  pub early : whole.id.counter + 2 ≤ 2 ^ 32
 
 pub replica_cut : (b : List ℕ) → length b < 4 → AreBytes b → IdentifierFront b
+unfolding id_with
 replica_cut b short fits =
     let p = short_number b short fits in
     record {
@@ -86,15 +91,18 @@ replica_cut b short fits =
       lacks = omega (arith, length-append p.more (to_be_bytes w32 0), p.lacks);
       whole = id_with b (p.more ++ to_be_bytes w32 0) (to_be_bytes w32 0) [] p.whole.number p.some p.whole.small
           (sym (append_assoc b p.more (to_be_bytes w32 0)) ∙ ap (λ c. c ++ to_be_bytes w32 0) p.whole.is) (record { number = 0; small = omega arith; is = refl });
+      early = omega arith;
     }
 
 pub counter_cut : (b : List ℕ) (n : ℕ) → b ≡ to_be_bytes w32 n ++ drop 4 b → 0 < n → n < 2 ^ 32 → length b < 8 → AreBytes b → IdentifierFront b
+unfolding id_with
 counter_cut b n is some small short fits =
     let p = short_number (drop 4 b) (omega (arith, short, length-drop 4 b)) (behind_four b fits) in
     record {
       more = p.more;
       lacks = p.lacks;
       whole = id_with b p.more (drop 4 b) p.more n some small (ap (λ c. c ++ p.more) is ∙ append_assoc (to_be_bytes w32 n) (drop 4 b) p.more) p.whole;
+      early = p.early;
     }
 
 pub id_there : (b : List ℕ) (n : ℕ) → b ≡ to_be_bytes w32 n ++ drop 4 b → 0 < n → n < 2 ^ 32 → length b ≡ 8 → AreBytes b → IdentifierWith b []
@@ -113,3 +121,41 @@ bytes_of_code h m l p q r =
 pub some_holds : {T : Type 0} (o : Option T) (P : Type 0) (v : T) → SomeIff o P v → is_some o ≡ true → P
 some_holds None P v is some = absurd (cc some)
 some_holds (Some x) P v is some = is.0
+
+-- the two bytes of a count
+pub bytes_of_count : (high low : ℕ) → high < 256 → low < 256 → to_be_bytes w16 (high * 256 + low) ≡ high ∷ low ∷ []
+bytes_of_count high low p q =
+    let e1 : byte_at 1 (high * 256 + low) ≡ high = omega arith in
+    let e0 : byte_at 0 (high * 256 + low) ≡ low = omega arith in
+    λ i. e1 i ∷ e0 i ∷ []
+
+-- a count of 2 to so many, of which the second byte lacks
+pub record CountFront (most high : ℕ) : Type 0 where
+  pub low : ℕ
+  pub some : 2 ≤ high * 256 + low
+  pub few : high * 256 + low ≤ most
+  pub is : to_be_bytes w16 (high * 256 + low) ≡ high ∷ low ∷ []
+
+pub count_front : (most high : ℕ) → 2 ≤ most → high < 256 → high * 256 ≤ most → CountFront most high
+count_front most zero some small few = record { low = 2; some = omega arith; few = some; is = bytes_of_count 0 2 (omega arith) (omega arith) }
+count_front most (suc high) some small few =
+    record { low = 0; some = omega arith; few = omega (arith, few); is = bytes_of_count (suc high) 0 small (omega arith) }
+
+-- the first byte is not too large
+pub count_high : (most n high low : ℕ) → n ≤ most → most < 65536 → to_be_bytes w16 n ≡ high ∷ low ∷ [] → high * 256 ≤ most
+count_high most n high low few small is =
+    let e1 : byte_at 1 n ≡ high = cc is in
+    omega (arith, e1, few, small)
+
+-- so many scalars 0
+abbrev pub zeros : ℕ → List ℕ
+zeros zero = []
+zeros (suc n) = 0 ∷ zeros n
+
+pub zeros_long : (n : ℕ) → length (zeros n) ≡ n
+zeros_long zero = refl
+zeros_long (suc n) = ap suc (zeros_long n)
+
+pub zeros_scalars : (n : ℕ) → All IsScalar (zeros n)
+zeros_scalars zero = All-nil IsScalar
+zeros_scalars (suc n) = All-cons IsScalar 0 (zeros n) refl (zeros_scalars n)

@@ -1,5 +1,5 @@
--- What stands at the front of any bytes: a frame, a proper front of one, or neither.
-use Rattle.std.proofs.Common.{◌≡◌, ℕ, ◌<◌, List, [], ◌∷◌, ◌++◌, length, refl, ap, sym, subst, ◌∙◌, arith, inl, inr}
+-- What stands at the front of any bytes, by a grammar: a frame, a proper front of one, or neither.
+use Rattle.std.proofs.Common.{◌≡◌, ℕ, ◌+◌, ◌<◌, List, [], ◌∷◌, ◌++◌, length, refl, ap, sym, subst, ◌∙◌, arith, inl, inr}
 use Rattle.std.specs.Prelude.{◌^◌, Option, Some, None}
 use Rattle.std.specs.Char.{IsScalar}
 use Rattle.std.specs.Str.{encode_utf8_all}
@@ -9,10 +9,12 @@ use Rattle.fugue_ids.specs.Identifiers.{Identifier}
 use Rattle.fugue_ids.specs.Titles.{IsTitleText, has_line_end}
 use Rattle.fugue_ids.specs.declared.op.Op.{Op}
 use Rattle.fugue_ids.specs.declared.op.Op.TheVariants.{Section, Text, Delete}
-use Rattle.origin_model.specs.frames.Frames.{frame, HasFrame, IsIdentifier, IsOrigin, IsTitle, Framed, Begins, IsPartial, IsBad}
+use Rattle.origin_model.specs.declared.grammar.Grammar.{Grammar}
+use Rattle.origin_model.specs.declared.grammar.Grammar.TheVariants.{Version1, Version2}
+use Rattle.origin_model.specs.frames.Frames.{Begins, Framed, HasFrame, HasRunFrame, IsBad, IsIdentifier, IsItem, IsOrigin, IsPartial, IsRunText, IsTitle, Item, Single, Typed, item_bytes}
 use Rattle.op_frame.proofs.CodeLemmas.{scalar_below}
 use Rattle.op_frame.proofs.OperationLemmas.{section_fields, text_fields, section_of, text_of}
-use Rattle.origin_model.proofs.SharedLemmas.{framed_is, framed_of}
+use Rattle.op_frame.proofs.ItemLemmas.{fields_of, fields_valid, item_framed, item_is_framed, run_fields, run_of}
 use Rattle.op_frame.proofs.SearchLemmas.{Decided, decided_by, both_decided, is_true_decided, is_false_decided, equal_decided, less_decided, Found, IsSearched, below, narrowed, mapped, paired, listed}
 
 identifiers : IsSearched IsIdentifier
@@ -53,7 +55,7 @@ sections = paired _ identifiers _ (paired _ origins _ (paired _ origins _ titles
 texts : IsSearched text_fields.valid
 texts = paired _ identifiers _ (paired _ identifiers _ (paired _ origins _ (paired _ origins _ scalars)))
 
-pub operations : IsSearched HasFrame
+operations : IsSearched HasFrame
 operations property test =
     by_kind (sections (λ f. property (section_of f)) (λ f. test (section_of f))) (texts (λ f. property (text_of f)) (λ f. test (text_of f)))
     (identifiers (λ i. property (Delete i)) (λ i. test (Delete i)))
@@ -72,6 +74,42 @@ operations property test =
     by_kind (inr no_section) (inr no_text) (inl f) = inl (record { value = Delete f.value; member = f.member; holds = f.holds })
     by_kind (inr no_section) (inr no_text) (inr no_delete) = inr (λ f. none_there no_section no_text no_delete f.value f.member f.holds)
 
+run_texts : IsSearched IsRunText
+run_texts =
+    mapped _ (narrowed _ (listed _ scalars 1024) (λ t. 1 < length t) (λ t. less_decided 1 (length t))) (λ t. t) (λ t. t) IsRunText
+    (λ t is. record { some = omega (arith, is.1); short = is.0.0; scalars = All-from_recursion IsScalar t is.0.1 })
+    (λ t is. (((is.short, recursion_from_All IsScalar t is.scalars), omega (arith, is.some)), refl))
+
+runs : IsSearched HasRunFrame
+runs =
+    mapped _ (narrowed _ fields (λ v. v.0.counter + length v.1.1.1.1 < 2 ^ 32 + 1) (λ v. less_decided (v.0.counter + length v.1.1.1.1) (2 ^ 32 + 1))) run_of fields_of HasRunFrame
+    (λ v is. record { id = is.0.0; section = is.0.1.0; left = is.0.1.1.0; right = is.0.1.1.1.0; text = is.0.1.1.1.1; counters_fit = omega (arith, is.1) })
+    (λ run has. ((fields_valid run has, omega (arith, has.counters_fit)), refl))
+  where
+    fields : IsSearched run_fields.valid
+    fields = paired _ identifiers _ (paired _ identifiers _ (paired _ origins _ (paired _ origins _ run_texts)))
+
+items : (g : Grammar) → IsSearched (IsItem g)
+items Version1 property test = by_single (operations (λ op. property (Single op)) (λ op. test (Single op)))
+  where
+    none_there : (Found HasFrame (λ op. property (Single op)) → ⊥) → (i : Item) → IsItem Version1 i → property i → ⊥
+    none_there none (Single op) is p = none (record { value = op; member = is; holds = p })
+    none_there none (Typed run) is p = absurd is
+
+    by_single : Decided (Found HasFrame (λ op. property (Single op))) → Decided (Found (IsItem Version1) property)
+    by_single (inl f) = inl (record { value = Single f.value; member = f.member; holds = f.holds })
+    by_single (inr none) = inr (λ f. none_there none f.value f.member f.holds)
+items Version2 property test = by_single (operations (λ op. property (Single op)) (λ op. test (Single op))) (runs (λ run. property (Typed run)) (λ run. test (Typed run)))
+  where
+    none_there : (Found HasFrame (λ op. property (Single op)) → ⊥) → (Found HasRunFrame (λ run. property (Typed run)) → ⊥) → (i : Item) → IsItem Version2 i → property i → ⊥
+    none_there none other (Single op) is p = none (record { value = op; member = is; holds = p })
+    none_there none other (Typed run) is p = other (record { value = run; member = is; holds = p })
+
+    by_single : Decided (Found HasFrame (λ op. property (Single op))) → Decided (Found HasRunFrame (λ run. property (Typed run))) → Decided (Found (IsItem Version2) property)
+    by_single (inl f) other = inl (record { value = Single f.value; member = f.member; holds = f.holds })
+    by_single (inr none) (inl f) = inl (record { value = Typed f.value; member = f.member; holds = f.holds })
+    by_single (inr none) (inr other) = inr (λ f. none_there none other f.value f.member f.holds)
+
 -- some bytes begin others, and what follows has a property
 abbrev Continues : (List ℕ → Type 0) → (front bytes : List ℕ) → Type 0
 Continues property front bytes = (rest : List ℕ) × property rest × (bytes ≡ front ++ rest)
@@ -84,22 +122,22 @@ continues_decided property test (x ∷ front) (y ∷ bytes) =
     (λ p. (p.1.0, p.1.1, λ i. p.0 i ∷ p.1.2 i)) (λ c. (cc c.2, (c.0, c.1, cc c.2)))
 
 -- what stands at the front
-pub data Front (b : List ℕ) : Type 0 where
-  frame_there : (framed : Framed) (rest : List ℕ) → Begins b framed rest → Front b
-  front_there : IsPartial b → Front b
-  bad_there : IsBad b → Front b
+pub data Front (g : Grammar) (b : List ℕ) : Type 0 where
+  frame_there : (framed : Framed) (rest : List ℕ) → Begins g b framed rest → Front g b
+  front_there : IsPartial g b → Front g b
+  bad_there : IsBad g b → Front g b
 
-pub front_of : (b : List ℕ) → Front b
-front_of b =
-    by_search (operations (λ op. Continues (λ rest. Unit {0}) (frame op) b) (λ op. continues_decided (λ rest. Unit {0}) (λ rest. inl tt) (frame op) b))
-    (operations (λ op. Continues (λ rest. 0 < length rest) b (frame op)) (λ op. continues_decided (λ rest. 0 < length rest) (λ rest. less_decided 0 (length rest)) b (frame op)))
+pub front_of : (g : Grammar) (b : List ℕ) → Front g b
+front_of g b =
+    by_search (items g (λ i. Continues (λ rest. Unit {0}) (item_bytes i) b) (λ i. continues_decided (λ rest. Unit {0}) (λ rest. inl tt) (item_bytes i) b))
+    (items g (λ i. Continues (λ rest. 0 < length rest) b (item_bytes i)) (λ i. continues_decided (λ rest. 0 < length rest) (λ rest. less_decided 0 (length rest)) b (item_bytes i)))
   where
-    by_search : Decided (Found HasFrame (λ op. Continues (λ rest. Unit {0}) (frame op) b)) → Decided (Found HasFrame (λ op. Continues (λ rest. 0 < length rest) b (frame op)))
-        → Front b
-    by_search (inl f) other = frame_there (framed_of f.value) f.holds.0 (record { is_frame = framed_is f.value f.member; split = f.holds.2 })
+    by_search : Decided (Found (IsItem g) (λ i. Continues (λ rest. Unit {0}) (item_bytes i) b)) → Decided (Found (IsItem g) (λ i. Continues (λ rest. 0 < length rest) b (item_bytes i)))
+        → Front g b
+    by_search (inl f) other = frame_there (item_framed f.value) f.holds.0 (record { is_frame = item_is_framed g f.value f.member; split = f.holds.2 })
     by_search (inr none) (inl f) =
-        front_there (record { framed = framed_of f.value; is_frame = framed_is f.value f.member; more = f.holds.0; lacks = f.holds.1; front = f.holds.2 })
+        front_there (record { framed = item_framed f.value; is_frame = item_is_framed g f.value f.member; more = f.holds.0; lacks = f.holds.1; front = f.holds.2 })
     by_search (inr none) (inr neither) = bad_there (record {
-      no_frame = λ framed rest p. none (record { value = p.is_frame.op; member = p.is_frame.has_frame; holds = (rest, tt, p.split ∙ ap (λ (l : List ℕ). l ++ rest) p.is_frame.bytes_are) });
-      no_front = λ p. neither (record { value = p.is_frame.op; member = p.is_frame.has_frame; holds = (p.more, p.lacks, sym p.is_frame.bytes_are ∙ p.front) });
+      no_frame = λ framed rest p. none (record { value = p.is_frame.item; member = p.is_frame.is_item; holds = (rest, tt, p.split ∙ ap (λ (l : List ℕ). l ++ rest) p.is_frame.bytes_are) });
+      no_front = λ p. neither (record { value = p.is_frame.item; member = p.is_frame.is_item; holds = (p.more, p.lacks, sym p.is_frame.bytes_are ∙ p.front) });
     })

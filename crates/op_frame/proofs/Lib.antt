@@ -6,7 +6,9 @@ pub mod CharacterLemmas
 pub mod TitleLemmas
 pub mod FrameLemmas
 pub mod SearchLemmas
+pub mod ItemLemmas
 pub mod FrontLemmas
+pub mod ReadingLemmas
 pub mod ToldLemmas
 pub mod WindowLemmas
 pub mod StepLemmas

@@ -25,7 +25,7 @@ text_fields = join identifier (join identifier (join origin (join origin scalar)
 regroup4 : (a b c d : List ℕ) → ((a ++ b) ++ c) ++ d ≡ a ++ (b ++ (c ++ d))
 regroup4 a b c d = simp append_assoc
 
-regroup5 : (a b c d e : List ℕ) → (((a ++ b) ++ c) ++ d) ++ e ≡ a ++ (b ++ (c ++ (d ++ e)))
+pub regroup5 : (a b c d e : List ℕ) → (((a ++ b) ++ c) ++ d) ++ e ≡ a ++ (b ++ (c ++ (d ++ e)))
 regroup5 a b c d e = simp append_assoc
 
 abbrev pub section_of : SectionFields → Op
