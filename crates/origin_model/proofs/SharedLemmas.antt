@@ -26,6 +26,11 @@ pub use Rattle.origin_model.proofs.edits.NextCounterLemmas.{counters-append}
 pub use Rattle.origin_model.proofs.files.AppendLemmas.{Parts, batch_appended, from_parts, new_file_holds, same_to_gate, to_parts, with_batch}
 pub use Rattle.origin_model.proofs.files.BatchLemmas.{batch_of, behind_number, is_batch, number_is, same_batch}
 pub use Rattle.origin_model.proofs.frames.SingleLemmas.{IsSingle, framed_is, framed_of, single_of, singles_read}
+pub use Rattle.origin_model.proofs.frames.ItemLemmas.{bytes_of, item_framed, item_is_framed, ops_of, same_parts}
+pub use Rattle.origin_model.proofs.frames.TypedLemmas.{length-run, length-typed, typed_more, typed_scalars}
+pub use Rattle.origin_model.proofs.frames.FramingLemmas.{framing_read, one_text, written, written_framing, written_once}
+pub use Rattle.origin_model.proofs.frames.LengthLemmas.{frame_wide, framing_short, length-scalars, origin_short, run_long}
+pub use Rattle.origin_model.proofs.frames.VersionLemmas.{read_too}
 pub use Rattle.origin_model.proofs.files.ImageLemmas.{Bad, Closed, Ends, ReadOnce, image_once, no_open_slot, slots_not_empty}
 pub use Rattle.origin_model.proofs.files.WalkLemmas.{ReadSome, image_some}
 pub use Rattle.origin_model.proofs.relay.OneOutcomeLemmas.{NoFront, SomeKind, all_once, all_some, one_kind, run_once, run_some, step_once, step_some}

@@ -1,2 +1,7 @@
 -- On frames.
 pub mod SingleLemmas
+pub mod ItemLemmas
+pub mod TypedLemmas
+pub mod FramingLemmas
+pub mod LengthLemmas
+pub mod VersionLemmas
