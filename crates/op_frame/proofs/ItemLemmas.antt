@@ -1,22 +1,16 @@
 -- Equal bytes begin with one frame of a grammar.
-use Rattle.std.proofs.Common.{◌≡◌, ℕ, List, ◌++◌, drop, refl, ap, sym, ◌∙◌}
+use Rattle.std.proofs.Common.{◌≡◌, ℕ, List, ◌++◌, drop, ap, sym, ◌∙◌}
 use Rattle.std.specs.Prelude.{Option}
 use Rattle.fugue_ids.specs.Identifiers.{Identifier}
 use Rattle.fugue_ids.specs.declared.op.Op.{Op}
 use Rattle.fugue_ids.specs.declared.op.Op.TheVariants.{Section, Text, Delete}
 use Rattle.origin_model.specs.declared.grammar.Grammar.{Grammar}
 use Rattle.origin_model.specs.declared.grammar.Grammar.TheVariants.{Version1, Version2}
-use Rattle.origin_model.specs.frames.Frames.{Framed, HasRunFrame, IsFrame, IsItem, Item, Run, Single, Typed, frame, id_bytes, item_bytes, item_ops, origin_bytes, run_frame, text_bytes}
+use Rattle.origin_model.specs.frames.Frames.{HasRunFrame, IsItem, Item, Run, Single, Typed, frame, id_bytes, item_bytes, origin_bytes, run_frame, text_bytes}
+pub use Rattle.origin_model.proofs.SharedLemmas.{item_framed, item_is_framed}
 use Rattle.op_frame.proofs.FormatLemmas.{Format, IsCode, code_join, identifier, item, join, origin, run_text}
 use Rattle.op_frame.proofs.CodeLemmas.{identifier_code, origin_code, run_text_code}
 use Rattle.op_frame.proofs.OperationLemmas.{operation_code, regroup5}
-
--- an item with its frame
-abbrev pub item_framed : Item → Framed
-item_framed i = record { bytes = item_bytes i; ops = item_ops i }
-
-pub item_is_framed : (g : Grammar) (i : Item) → IsItem g i → IsFrame g (item_framed i)
-item_is_framed g i is = record { item = i; is_item = is; bytes_are = refl; ops_are = refl }
 
 abbrev pub RunFields : Type 0
 RunFields = Identifier × (Identifier × (Option Identifier × (Option Identifier × List ℕ)))

@@ -9,6 +9,8 @@ pub mod SearchLemmas
 pub mod ItemLemmas
 pub mod FrontLemmas
 pub mod ReadingLemmas
+pub mod StretchLemmas
+pub mod EncodingLemmas
 pub mod ToldLemmas
 pub mod WindowLemmas
 pub mod StepLemmas

@@ -1,5 +1,5 @@
 -- Streams of frames by a grammar, and how they are read.
-use Rattle.std.specs.Prelude.{◌≡◌, ℕ, zero, suc, ◌+◌, ◌<◌, ◌≤◌, All, List, [], ◌∷◌, ◌++◌, length, flat_map, ◌⊎◌, refl}
+use Rattle.std.specs.Prelude.{◌≡◌, ℕ, zero, suc, ◌+◌, ◌<◌, ◌≤◌, All, List, [], ◌∷◌, ◌++◌, length, ◌⊎◌, refl}
 use Rattle.std.proofs.Common.{ap, sym, subst, ◌∙◌, arith, append_assoc, inl, inr, length-append}
 use Rattle.std.proofs.lemmas.List.{append-nil, flat_map_more}
 use Rattle.std.proofs.lemmas.List.Elements.{All-cons, All-head, All-nil, All-push, All-tail}
@@ -7,15 +7,10 @@ use Rattle.fugue_ids.specs.Identifiers.{Identifier}
 use Rattle.fugue_ids.specs.declared.op.Op.{Op}
 use Rattle.fugue_ids.specs.declared.op.Op.TheVariants.{Delete, Section, Text}
 use Rattle.origin_model.specs.declared.grammar.Grammar.{Grammar}
-use Rattle.origin_model.specs.frames.Frames.{Begins, End, Whole, CutShort as EndsCut, BadFrame as EndsBad, EndsSo, Framed, IsBad, IsFrame, IsIdentifier, IsPartial, Item, Reads, Single, Starts, Typed, frame, item_bytes, item_ops}
+use Rattle.origin_model.specs.frames.Frames.{Begins, End, Whole, CutShort as EndsCut, BadFrame as EndsBad, EndsSo, Framed, IsFrame, IsIdentifier, IsPartial, Item, Reads, Single, Starts, Typed, frame, item_bytes, item_ops}
+pub use Rattle.origin_model.proofs.SharedLemmas.{bytes_of, ops_of}
 use Rattle.op_frame.proofs.FrontLemmas.{Front, bad_there, frame_there, front_of, front_there}
 use Rattle.op_frame.proofs.ItemLemmas.{item_code, item_framed, item_is_framed}
-
-abbrev pub bytes_of : List Framed → List ℕ
-bytes_of found = flat_map (λ framed. framed.bytes) found
-
-abbrev pub ops_of : List Framed → List Op
-ops_of found = flat_map (λ framed. framed.ops) found
 
 -- replica 1 and counter 0
 abbrev pub first_id : Identifier

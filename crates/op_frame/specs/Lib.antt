@@ -1,5 +1,6 @@
 pub mod Firsts
 pub mod Encoded
+pub mod Stretches
 pub mod Laws
 pub mod Windows
 pub mod Refills

@@ -1,23 +1,36 @@
-ghost use Rattle.std.specs.Prelude.{◌≡◌, ◌≤◌, ◌+◌, ◌++◌, length, vec_len, vec_capacity, OnOk, OnErr};
-ghost use Rattle.std.specs.Char.{IsScalar};
-ghost use Rattle.origin_model.specs.frames.Frames.{HasFrame, IsIdentifier, IsOrigin, IsTitle, frame, id_bytes};
-ghost use Rattle.origin_model.specs.frames.Frames.{origin_bytes, title_bytes, scalar_bytes};
+ghost use Rattle.std.specs.Prelude.{◌≡◌, ◌≤◌, ◌+◌, ◌*◌, ◌++◌, All, length, map, flat_map};
+ghost use Rattle.std.specs.Prelude.{vec_len, vec_capacity, OnOk, OnErr};
+ghost use Rattle.origin_model.specs.frames.Frames.{HasFrame, frame, id_bytes, origin_bytes, title_bytes, scalar_bytes};
+ghost use Rattle.origin_model.specs.frames.Framings.{scalar_of};
 ghost use Rattle.op_frame.specs.Encoded.{Puts};
+ghost use Rattle.op_frame.specs.Stretches.{AreTyped, WritesRun};
 
-use crate::protocol::{DELETE, SECTION, TEXT};
+use crate::framed::has_frame;
+use crate::protocol::{DELETE, RUN, SECTION, TEXT};
 use fugue_ids::{ElementId, LONGEST_TITLE, NoMemory, Op, Title};
 
-/// The longest frame, in bytes: that of a Section with its kind, its identifier, both origins, and the longest title
-/// behind its length.
-pub const LONGEST_FRAME: usize = 1 + 8 + 9 + 9 + 2 + LONGEST_TITLE;
+/// The most Texts of a run.
+pub(crate) const LONGEST_RUN: usize = 1_024;
 
-/// Appends the operation's frame.
+/// The longest part of a run's frame before its scalars: its kind, two identifiers, both origins, and the number of the
+/// scalars.
+const LONGEST_HEAD: usize = 1 + 8 + 8 + 9 + 9 + 2;
+
+/// The longest frame, in bytes: that of the most Texts.
+pub const LONGEST_FRAME: usize = LONGEST_HEAD + 3 * LONGEST_RUN;
+
+/// The longest frame of one operation: that of a Section with its kind, its identifier, both origins, and the longest
+/// title behind its length.
+const LONGEST_SINGLE: usize = 1 + 8 + 9 + 9 + 2 + LONGEST_TITLE;
+
+/// Appends the operation's own frame.
 pub fn encode(op: &Op, out: &mut Vec<u8>) -> Result<(), NoMemory>
     ensures has_frame { OnOk result (HasFrame op.now) }
     ensures ok { OnOk result (out.new.items ≡ out.old.items ++ frame op.now) }
     ensures err { OnErr result (out.new.items ≡ out.old.items) }
 {
-    out.reserve(LONGEST_FRAME)?;
+    has_frame(op);
+    out.reserve(LONGEST_SINGLE)?;
     match op {
         Op::Section {
             id,
@@ -53,6 +66,34 @@ pub fn encode(op: &Op, out: &mut Vec<u8>) -> Result<(), NoMemory>
     Ok(())
 }
 
+/// Appends the frame of the run that has these operations.
+pub(crate) fn encode_run(ops: &[Op], out: &mut Vec<u8>) -> Result<(), NoMemory>
+    requires { AreTyped ops.now }
+    ensures have_frames { OnOk result (All HasFrame ops.now) }
+    ensures ok { OnOk result (WritesRun out.old.items out.new.items ops.now) }
+    ensures err { OnErr result (out.new.items ≡ out.old.items) }
+{
+    let Op::Text {
+        id,
+        section,
+        left,
+        right,
+        ..
+    } = &ops[0]
+    else {
+        unreachable!()
+    };
+    out.reserve(LONGEST_HEAD + 3 * ops.len())?;
+    put(out, &[RUN]);
+    put_id(out, *id);
+    put_id(out, *section);
+    put_origin(out, *left);
+    put_origin(out, *right);
+    put(out, &(ops.len() as u16).to_be_bytes());
+    put_scalars(out, ops);
+    Ok(())
+}
+
 /// Appends bytes for which there is room.
 fn put(out: &mut Vec<u8>, bytes: &[u8])
     requires { vec_len out.old + length bytes.now ≤ vec_capacity out.old }
@@ -65,8 +106,7 @@ fn put(out: &mut Vec<u8>, bytes: &[u8])
 
 fn put_id(out: &mut Vec<u8>, id: ElementId)
     requires { vec_len out.old + 8 ≤ vec_capacity out.old }
-    ensures puts { Puts out.old out.new (id_bytes id) }
-    ensures is_identifier { IsIdentifier id }
+    ensures { Puts out.old out.new (id_bytes id) }
 {
     put(out, &id.replica.to_be_bytes());
     put(out, &id.counter.to_be_bytes());
@@ -74,8 +114,7 @@ fn put_id(out: &mut Vec<u8>, id: ElementId)
 
 fn put_origin(out: &mut Vec<u8>, origin: Option<ElementId>)
     requires { vec_len out.old + 9 ≤ vec_capacity out.old }
-    ensures puts { Puts out.old out.new (origin_bytes origin) }
-    ensures is_origin { IsOrigin origin }
+    ensures { Puts out.old out.new (origin_bytes origin) }
 {
     match origin {
         None => put(out, &[0]),
@@ -88,8 +127,7 @@ fn put_origin(out: &mut Vec<u8>, origin: Option<ElementId>)
 
 fn put_title(out: &mut Vec<u8>, title: &Title)
     requires { vec_len out.old + 2 + LONGEST_TITLE ≤ vec_capacity out.old }
-    ensures puts { Puts out.old out.new (title_bytes title.now) }
-    ensures is_title { IsTitle title.now }
+    ensures { Puts out.old out.new (title_bytes title.now) }
 {
     let text = title.as_str();
     put(out, &(text.len() as u16).to_be_bytes());
@@ -98,8 +136,27 @@ fn put_title(out: &mut Vec<u8>, title: &Title)
 
 fn put_scalar(out: &mut Vec<u8>, ch: char)
     requires { vec_len out.old + 3 ≤ vec_capacity out.old }
-    ensures puts { Puts out.old out.new (scalar_bytes ch) }
-    ensures is_scalar { IsScalar ch }
+    ensures { Puts out.old out.new (scalar_bytes ch) }
 {
     put(out, &(ch as u32).to_be_bytes()[1..]);
+}
+
+fn put_scalars(out: &mut Vec<u8>, ops: &[Op])
+    requires { vec_len out.old + 3 * length ops.now ≤ vec_capacity out.old }
+    ensures puts { Puts out.old out.new (flat_map scalar_bytes (map scalar_of ops.now)) }
+    ensures have_frames { All HasFrame ops.now }
+{
+    for op in ops {
+        has_frame(op);
+        put_scalar(out, scalar(op));
+    }
+}
+
+fn scalar(op: &Op) -> char
+    ensures { result ≡ scalar_of op.now }
+{
+    match op {
+        Op::Text { ch, .. } => *ch,
+        _ => '\0',
+    }
 }

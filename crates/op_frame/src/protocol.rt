@@ -1,9 +1,11 @@
-/// The first bytes of the frames of the three kinds.
+/// The first bytes of the frames of the four kinds.
 pub(crate) const SECTION: u8 = 1;
 
 pub(crate) const TEXT: u8 = 2;
 
 pub(crate) const DELETE: u8 = 3;
+
+pub(crate) const RUN: u8 = 4;
 
 /// What begins a session's text, with a cursor behind it.
 pub const GREETING: u8 = 0x48;
