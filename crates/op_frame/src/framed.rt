@@ -9,10 +9,10 @@ pub(crate) fn has_frame(op: &Op)
 {
     match op {
         Op::Section {
-            title,
-            id,
             left,
             right,
+            id,
+            title,
         } => {
             identifier(*id);
             origin(*left);
@@ -20,11 +20,11 @@ pub(crate) fn has_frame(op: &Op)
             named(title);
         }
         Op::Text {
-            ch,
-            id,
             section,
+            id,
             left,
             right,
+            ch,
         } => {
             identifier(*id);
             identifier(*section);
