@@ -23,6 +23,8 @@ mod ports;
 #[cfg(test)]
 mod rope;
 #[cfg(test)]
+mod run_frames;
+#[cfg(test)]
 mod runs;
 #[cfg(test)]
 mod section;

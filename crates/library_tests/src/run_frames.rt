@@ -1,0 +1,168 @@
+use crate::assertions::{equal, equal_at, holds_at};
+use crate::ids::id;
+use crate::run_frames::plain::plain_frames;
+use fugue_ids::{ElementId, NoMemory, Op, Title};
+use op_frame::encode_all;
+use std::test::Fail;
+
+mod plain;
+
+/// A Text of replica 1 in the section (9, 0).
+fn typed(counter: u32, left: Option<ElementId>, ch: char) -> Op {
+    Op::Text {
+        id: id(1, counter),
+        section: id(9, 0),
+        left,
+        right: None,
+        ch,
+    }
+}
+
+/// So many Texts typed in a row, from this counter on, at the start of their section.
+fn typed_row(rt: &HostRuntime, first: u32, count: u32) -> Result<Vec<Op>, NoMemory> {
+    let mut ops = Vec::new(rt.alloc());
+    let mut left = None;
+    for k in 0..count {
+        let counter = first.wrapping_add(k);
+        ops.push(typed(counter, left, 'A'))?;
+        left = Some(id(1, counter));
+    }
+    Ok(ops)
+}
+
+fn encoded(rt: &HostRuntime, ops: &[Op]) -> Result<Vec<u8>, NoMemory> {
+    let mut bytes = Vec::new(rt.alloc());
+    encode_all(ops, &mut bytes)?;
+    Ok(bytes)
+}
+
+#[test]
+fn a_section_and_a_run_are_written_byte_for_byte(rt: HostRuntime) -> Result<(), Fail> {
+    let section = id(1, 0);
+    let mut ops = vec![in rt.alloc();
+        Op::Section {
+            id: section,
+            left: None,
+            right: None,
+            title: Title::read(rt.alloc(), "T")?,
+        },
+    ]?;
+    for (counter, left, ch) in [
+        (1, None, 'A'),
+        (2, Some(id(1, 1)), 'B'),
+        (3, Some(id(1, 2)), 'C'),
+    ] {
+        ops.push(Op::Text {
+            id: id(1, counter),
+            section,
+            left,
+            right: None,
+            ch,
+        })?;
+    }
+    let wanted: [u8; 44] = [
+        1, 0, 0, 0, 1, 0, 0, 0, 0, 0, 0, 0, 1, 84, 4, 0, 0, 0, 1, 0, 0, 0, 1, 0, 0, 0, 1, 0, 0, 0,
+        0, 0, 0, 0, 3, 0, 0, 65, 0, 0, 66, 0, 0, 67,
+    ];
+    equal(&rt, encoded(&rt, &ops)?.as_slice(), wanted.as_slice());
+    Ok(())
+}
+
+/// The two Texts of the greatest counters, and the greatest scalar.
+#[test]
+fn a_run_ends_at_the_greatest_counter(rt: HostRuntime) -> Result<(), Fail> {
+    let own = id(1, 4_294_967_294);
+    let ops = vec![in rt.alloc();
+        typed(4_294_967_294, Some(id(2, 7)), 'A'),
+        typed(4_294_967_295, Some(own), '\u{10FFFF}'),
+    ]?;
+    let wanted: [u8; 35] = [
+        4, 0, 0, 0, 1, 255, 255, 255, 254, 0, 0, 0, 9, 0, 0, 0, 0, 1, 0, 0, 0, 2, 0, 0, 0, 7, 0, 0,
+        2, 0, 0, 65, 16, 255, 255,
+    ];
+    equal(&rt, encoded(&rt, &ops)?.as_slice(), wanted.as_slice());
+    Ok(())
+}
+
+/// Behind 1,024 Texts a frame ends, and one that is left over has its own.
+#[test]
+fn long_rows_are_cut(rt: HostRuntime) -> Result<(), Fail> {
+    for (count, len) in [
+        (0, 0),
+        (1, 22),
+        (2, 27),
+        (1_023, 3_090),
+        (1_024, 3_093),
+        (1_025, 3_123),
+        (1_026, 3_128),
+        (2_049, 6_224),
+    ] {
+        let ops = typed_row(&rt, 0, count)?;
+        let bytes = encoded(&rt, &ops)?;
+        equal_at(&rt, &count, bytes.len(), len);
+        holds_at(&rt, &count, bytes == plain_frames(&rt, &ops)?);
+    }
+    Ok(())
+}
+
+/// One of nine operations, of which some go on with one another.
+fn kind(rt: &HostRuntime, number: usize) -> Result<Op, Fail> {
+    let (first, second) = (id(1, 1), id(1, 2));
+    Ok(match number {
+        0 => typed(1, None, 'a'),
+        1 => typed(2, Some(first), 'b'),
+        2 => typed(3, Some(second), 'c'),
+        3 => typed(2, None, 'd'),
+        4 => Op::Text {
+            id: second,
+            section: id(9, 1),
+            left: Some(first),
+            right: None,
+            ch: 'e',
+        },
+        5 => Op::Text {
+            id: second,
+            section: id(9, 0),
+            left: Some(first),
+            right: Some(id(2, 0)),
+            ch: 'f',
+        },
+        6 => Op::Text {
+            id: id(2, 2),
+            section: id(9, 0),
+            left: Some(first),
+            right: None,
+            ch: 'g',
+        },
+        7 => Op::Section {
+            id: id(1, 2),
+            left: Some(first),
+            right: None,
+            title: Title::read(rt.alloc(), "T")?,
+        },
+        _ => Op::Delete { target: second },
+    })
+}
+
+/// The operations that the digits of a number name.
+fn list(rt: &HostRuntime, len: u32, number: usize) -> Result<Vec<Op>, Fail> {
+    let mut ops = Vec::new(rt.alloc());
+    let mut rest = number;
+    for _ in 0..len {
+        ops.push(kind(rt, rest % 9)?)?;
+        rest /= 9;
+    }
+    Ok(ops)
+}
+
+#[test]
+fn each_short_list_is_written_as_a_plain_encoder_does(rt: HostRuntime) -> Result<(), Fail> {
+    for (len, lists) in [(0, 1), (1, 9), (2, 81), (3, 729), (4, 6_561)] {
+        for number in 0..lists {
+            let ops = list(&rt, len, number)?;
+            let same = encoded(&rt, &ops)? == plain_frames(&rt, &ops)?;
+            holds_at(&rt, &(len, number), same);
+        }
+    }
+    Ok(())
+}
