@@ -1,5 +1,5 @@
 -- Equal bytes begin with one value, for each field.
-use Rattle.std.proofs.Common.{◌≡◌, ℕ, ◌<◌, ◌≤◌, List, [], ◌∷◌, ◌++◌, length, refl, ap, sym, ◌∙◌, append_assoc, arith}
+use Rattle.std.proofs.Common.{◌≡◌, ℕ, ◌<◌, List, [], ◌∷◌, ◌++◌, length, refl, ap, sym, ◌∙◌, append_assoc, arith}
 use Rattle.std.specs.Prelude.{All, Option, Some, None, flat_map}
 use Rattle.std.specs.Int.{to_be_bytes, from_be_bytes, w16, w32, byte_at}
 use Rattle.std.specs.Str.{encode_utf8_all}
@@ -10,7 +10,7 @@ use Rattle.std.proofs.lemmas.Bool.Decides.{nat_tests}
 use Rattle.std.proofs.lemmas.List.Elements.{All-head, All-tail}
 use Rattle.fugue_ids.specs.Identifiers.{Identifier}
 use Rattle.origin_model.specs.frames.Frames.{id_bytes, scalar_bytes}
-use Rattle.op_frame.proofs.FormatLemmas.{IsCode, code_join, first_identifier, identifier, number, origin, replica, run_text, scalar, scalars_of, text_count, title, title_length}
+use Rattle.op_frame.proofs.FormatLemmas.{IsCode, code_join, identifier, number, origin, replica, run_length, run_text, scalar, title, title_length}
 
 -- fronts of one length are the same
 pub same_fronts : {X : Type 0} (xs ys r s : List X) → length xs ≡ length ys → xs ++ r ≡ ys ++ s → (xs ≡ ys) × (r ≡ s)
@@ -84,18 +84,15 @@ title_code = record {
       (encodes_same v w texts.0, texts.1);
 }
 
-pub first_identifier_code : IsCode first_identifier
-first_identifier_code = record { once = λ v w r s p q same. identifier_code.once v w r s p.0 q.0 same }
-
-pub count_code : (most : ℕ) → most ≤ 1024 → IsCode (text_count most)
-count_code most short = record {
+run_length_code : IsCode run_length
+run_length_code = record {
   once = λ v w r s p q same.
       let both = same_fronts (to_be_bytes w16 v) (to_be_bytes w16 w) r s refl same in
-      (sym (from_be_bytes-to_be_bytes_2 v (omega (arith, p.1, short))) ∙ ap (from_be_bytes w16) both.0 ∙ from_be_bytes-to_be_bytes_2 w (omega (arith, q.1, short)), both.1);
+      (sym (from_be_bytes-to_be_bytes_2 v (omega (arith, p.1))) ∙ ap (from_be_bytes w16) both.0 ∙ from_be_bytes-to_be_bytes_2 w (omega (arith, q.1)), both.1);
 }
 
 -- as many scalars
-pub scalars_once : (v w : List ℕ) (r s : List ℕ) → length v ≡ length w → All IsScalar v → All IsScalar w → flat_map scalar_bytes v ++ r ≡ flat_map scalar_bytes w ++ s → (v ≡ w) × (r ≡ s)
+scalars_once : (v w : List ℕ) (r s : List ℕ) → length v ≡ length w → All IsScalar v → All IsScalar w → flat_map scalar_bytes v ++ r ≡ flat_map scalar_bytes w ++ s → (v ≡ w) × (r ≡ s)
 scalars_once [] [] r s long p q same = (refl, same)
 scalars_once [] (d ∷ w) r s long p q same = absurd (omega (arith, long))
 scalars_once (c ∷ v) [] r s long p q same = absurd (omega (arith, long))
@@ -105,13 +102,10 @@ scalars_once (c ∷ v) (d ∷ w) r s long p q same =
     let behind = scalars_once v w r s (omega (arith, long)) (All-tail IsScalar c v p) (All-tail IsScalar d w q) first.1 in
     ((λ i. first.0 i ∷ behind.0 i), behind.1)
 
-pub scalars_code : (n : ℕ) → IsCode (scalars_of n)
-scalars_code n = record { once = λ v w r s p q same. scalars_once v w r s (p.0 ∙ sym q.0) p.1 q.1 same }
-
 pub run_text_code : IsCode run_text
 run_text_code = record {
   once = λ v w r s p q same.
       let flat = sym (append_assoc (to_be_bytes w16 (length v)) (flat_map scalar_bytes v) r) ∙ same ∙ append_assoc (to_be_bytes w16 (length w)) (flat_map scalar_bytes w) s in
-      let heads = (count_code 1024 (omega arith)).once (length v) (length w) (flat_map scalar_bytes v ++ r) (flat_map scalar_bytes w ++ s) (p.some, p.short) (q.some, q.short) flat in
+      let heads = run_length_code.once (length v) (length w) (flat_map scalar_bytes v ++ r) (flat_map scalar_bytes w ++ s) (p.some, p.short) (q.some, q.short) flat in
       scalars_once v w r s heads.0 p.scalars q.scalars heads.1;
 }

@@ -28,9 +28,9 @@ first_text run ops op d same some first = of_text run.id run.section run.left ru
     of_text i s l r (c ∷ u) same some = (c, first ∙ ap (λ (o : List Op). get_or o 0 d) (sym same))
 
 -- the run is known by its first operation and all scalars
-pub run_is : (run : Run) (ops : List Op) (id section : Identifier) (left right : Option Identifier) (ch : ℕ) (d : Op) → run_ops run ≡ ops → 1 ≤ length run.text
+pub run_known : (run : Run) (ops : List Op) (id section : Identifier) (left right : Option Identifier) (ch : ℕ) (d : Op) → run_ops run ≡ ops → 1 ≤ length run.text
     → Text id section left right ch ≡ get_or ops 0 d → run ≡ record { id = id; section = section; left = left; right = right; text = map scalar_of ops }
-run_is run ops id section left right ch d same some first =
+run_known run ops id section left right ch d same some first =
     let p = first_text run ops (Text id section left right ch) d same some first in
     let e0 : run.id ≡ id = cc p.1 in
     let e1 : run.section ≡ section = cc p.1 in

@@ -1,10 +1,8 @@
 -- Fields that some bytes are, begin, or are not.
 use Rattle.std.proofs.Common.{◌≡◌, ℕ, suc, zero, ◌+◌, ◌*◌, ◌<◌, ◌≤◌, List, [], ◌∷◌, ◌++◌, length, drop, refl, ap, sym, ◌∙◌, arith, append_assoc, get_or, length-append, length-drop}
-use Rattle.std.specs.Prelude.{All, Option, Some, None, SomeIff, is_some, true, ◌^◌}
-use Rattle.std.specs.Char.{IsScalar}
+use Rattle.std.specs.Prelude.{Option, Some, None, SomeIff, is_some, true, ◌^◌}
 use Rattle.std.specs.Int.{to_be_bytes, w16, w32, byte_at}
 use Rattle.std.proofs.lemmas.List.{get_or-drop}
-use Rattle.std.proofs.lemmas.List.Elements.{All-cons, All-nil}
 use Rattle.fugue_ids.specs.Identifiers.{Identifier}
 use Rattle.origin_model.specs.frames.Frames.{IsIdentifier, id_bytes, scalar_bytes}
 use Rattle.op_frame.specs.FrameFronts.{scalar_of_bytes}
@@ -123,7 +121,7 @@ some_holds None P v is some = absurd (cc some)
 some_holds (Some x) P v is some = is.0
 
 -- the two bytes of a count
-pub bytes_of_count : (high low : ℕ) → high < 256 → low < 256 → to_be_bytes w16 (high * 256 + low) ≡ high ∷ low ∷ []
+bytes_of_count : (high low : ℕ) → high < 256 → low < 256 → to_be_bytes w16 (high * 256 + low) ≡ high ∷ low ∷ []
 bytes_of_count high low p q =
     let e1 : byte_at 1 (high * 256 + low) ≡ high = omega arith in
     let e0 : byte_at 0 (high * 256 + low) ≡ low = omega arith in
@@ -140,22 +138,3 @@ pub count_front : (most high : ℕ) → 2 ≤ most → high < 256 → high * 256
 count_front most zero some small few = record { low = 2; some = omega arith; few = some; is = bytes_of_count 0 2 (omega arith) (omega arith) }
 count_front most (suc high) some small few =
     record { low = 0; some = omega arith; few = omega (arith, few); is = bytes_of_count (suc high) 0 small (omega arith) }
-
--- the first byte is not too large
-pub count_high : (most n high low : ℕ) → n ≤ most → most < 65536 → to_be_bytes w16 n ≡ high ∷ low ∷ [] → high * 256 ≤ most
-count_high most n high low few small is =
-    let e1 : byte_at 1 n ≡ high = cc is in
-    omega (arith, e1, few, small)
-
--- so many scalars 0
-abbrev pub zeros : ℕ → List ℕ
-zeros zero = []
-zeros (suc n) = 0 ∷ zeros n
-
-pub zeros_long : (n : ℕ) → length (zeros n) ≡ n
-zeros_long zero = refl
-zeros_long (suc n) = ap suc (zeros_long n)
-
-pub zeros_scalars : (n : ℕ) → All IsScalar (zeros n)
-zeros_scalars zero = All-nil IsScalar
-zeros_scalars (suc n) = All-cons IsScalar 0 (zeros n) refl (zeros_scalars n)

@@ -1,13 +1,13 @@
 -- Formats of fields: which values a field may have, and how each is spelled.
-use Rattle.std.proofs.Common.{◌≡◌, ℕ, ◌+◌, ◌<◌, ◌≤◌, List, [], ◌∷◌, ◌++◌, length, refl, ap, sym, subst, ◌∙◌, ◌⊎◌, inl, inr, append_assoc, arith}
-use Rattle.std.specs.Prelude.{◌↔◌, ◌^◌, All, Option, flat_map}
+use Rattle.std.proofs.Common.{◌≡◌, ℕ, ◌<◌, ◌≤◌, List, [], ◌∷◌, ◌++◌, length, refl, ap, sym, subst, ◌∙◌, ◌⊎◌, inl, inr, append_assoc, arith}
+use Rattle.std.specs.Prelude.{◌↔◌, ◌^◌, Option}
 use Rattle.std.specs.Char.{IsScalar}
 use Rattle.std.specs.Int.{to_be_bytes, w16, w32}
 use Rattle.fugue_ids.specs.Identifiers.{Identifier}
 use Rattle.fugue_ids.specs.declared.limits.TheConstants.{LONGEST_TITLE}
 use Rattle.fugue_ids.specs.declared.op.Op.{Op}
 use Rattle.origin_model.specs.declared.grammar.Grammar.{Grammar}
-use Rattle.origin_model.specs.frames.Frames.{id_bytes, origin_bytes, title_bytes, scalar_bytes, text_bytes, frame, item_bytes, run_frame, HasFrame, HasRunFrame, IsIdentifier, IsItem, IsOrigin, IsRunText, IsTitle, Item, Run}
+use Rattle.origin_model.specs.frames.Frames.{id_bytes, origin_bytes, title_bytes, scalar_bytes, text_bytes, frame, item_bytes, HasFrame, IsIdentifier, IsItem, IsOrigin, IsRunText, IsTitle, Item}
 use Rattle.op_frame.specs.FrameFronts.{Then}
 
 pub record Format (T : Type 0) : Type 1 where
@@ -35,26 +35,15 @@ title_length = record { valid = λ n. (0 < n) × (n ≤ LONGEST_TITLE); spelling
 abbrev pub title : Format (List ℕ)
 title = record { valid = IsTitle; spelling = title_bytes }
 
--- an identifier of which there is a next one
-abbrev pub first_identifier : Format Identifier
-first_identifier = record { valid = λ id. IsIdentifier id × (id.counter + 2 ≤ 2 ^ 32); spelling = id_bytes }
-
--- how many Texts a run has: 2 to so many
-abbrev pub text_count : ℕ → Format ℕ
-text_count most = record { valid = λ n. (2 ≤ n) × (n ≤ most); spelling = to_be_bytes w16 }
-
--- so many scalars
-abbrev pub scalars_of : ℕ → Format (List ℕ)
-scalars_of n = record { valid = λ text. (length text ≡ n) × All IsScalar text; spelling = flat_map scalar_bytes }
+-- how many Texts a run has
+abbrev pub run_length : Format ℕ
+run_length = record { valid = λ n. (2 ≤ n) × (n ≤ 1024); spelling = to_be_bytes w16 }
 
 abbrev pub run_text : Format (List ℕ)
 run_text = record { valid = IsRunText; spelling = text_bytes }
 
 abbrev pub operation : Format Op
 operation = record { valid = HasFrame; spelling = frame }
-
-abbrev pub run : Format Run
-run = record { valid = HasRunFrame; spelling = run_frame }
 
 -- what a frame of the grammar stands for
 abbrev pub item : Grammar → Format Item

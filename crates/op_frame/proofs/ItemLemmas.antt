@@ -35,7 +35,7 @@ run_is run = regroup5 (id_bytes run.id) (id_bytes run.section) (origin_bytes run
 pub fields_valid : (run : Run) → HasRunFrame run → run_fields.valid (fields_of run)
 fields_valid run has = (has.id, (has.section, (has.left, (has.right, has.text))))
 
-pub run_once : (v w : Run) (r s : List ℕ) → HasRunFrame v → HasRunFrame w → run_frame v ++ r ≡ run_frame w ++ s → (v ≡ w) × (r ≡ s)
+run_once : (v w : Run) (r s : List ℕ) → HasRunFrame v → HasRunFrame w → run_frame v ++ r ≡ run_frame w ++ s → (v ≡ w) × (r ≡ s)
 run_once v w r s p q same =
     let behind : drop 1 (run_frame v) ++ r ≡ drop 1 (run_frame w) ++ s = cc same in
     let both = run_code.once (fields_of v) (fields_of w) r s (fields_valid v p) (fields_valid w q)
@@ -43,7 +43,7 @@ run_once v w r s p q same =
     (ap run_of both.0, both.1)
 
 -- the first byte tells a run from an operation alone
-pub not_both : (op : Op) (run : Run) (r s : List ℕ) → frame op ++ r ≡ run_frame run ++ s → ⊥
+not_both : (op : Op) (run : Run) (r s : List ℕ) → frame op ++ r ≡ run_frame run ++ s → ⊥
 not_both (Section i l r t) run x y same = cc same
 not_both (Text i k l r t) run x y same = cc same
 not_both (Delete i) run x y same = cc same
