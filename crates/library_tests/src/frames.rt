@@ -3,7 +3,7 @@ ghost use Rattle.std.specs.Prelude.{◌<◌};
 use crate::assertions::{equal, equal_at, holds_at};
 use crate::ids::id;
 use fugue_ids::{ElementId, NoMemory, Op, Title};
-use op_frame::{First, FrameFault, FrameFront, FrameReader, encode, encode_all, first_frame};
+use op_frame::{First, FrameFault, FrameReader, encode, encode_all, first_frame};
 use outer_ports::{MemSource, Source, SureSource};
 use std::test::Fail;
 
@@ -116,8 +116,9 @@ const SECTION: &[u8] = &[1, 0, 0, 0, 9, 0, 0, 0, 0];
 const TEXT: &[u8] = &[2, 0, 0, 0, 1, 0, 0, 0, 0, 0, 0, 0, 9, 0, 0, 0, 0];
 
 /// Bytes that begin a frame, and bytes behind them of which the last is wrong.
-const WRONG: [(&[u8], &[u8]); 9] = [
-    (&[], &[4]),
+const WRONG: [(&[u8], &[u8]); 10] = [
+    (&[], &[0]),
+    (&[], &[5]),
     (&[3], &[0, 0, 0, 0]),
     (SECTION, &[1, 0, 0, 0, 0]),
     (SECTION, &[0, 0, 0, 0]),

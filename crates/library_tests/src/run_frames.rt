@@ -2,7 +2,8 @@ use crate::assertions::{equal, equal_at, holds_at};
 use crate::ids::id;
 use crate::run_frames::plain::plain_frames;
 use fugue_ids::{ElementId, NoMemory, Op, Title};
-use op_frame::encode_all;
+use op_frame::{First, FrameReader, encode_all, first_frame};
+use outer_ports::SureSource;
 use std::test::Fail;
 
 mod plain;
@@ -34,6 +35,44 @@ fn encoded(rt: &HostRuntime, ops: &[Op]) -> Result<Vec<u8>, NoMemory> {
     let mut bytes = Vec::new(rt.alloc());
     encode_all(ops, &mut bytes)?;
     Ok(bytes)
+}
+
+/// The operations of the frames, and whether these are all of the bytes.
+fn read_frames(rt: &HostRuntime, bytes: &[u8]) -> Result<(Vec<Op>, bool), Fail> {
+    let mut ops = Vec::new(rt.alloc());
+    let mut rest = bytes;
+    for _ in 0..bytes.len() {
+        let First::Whole(found, len) = first_frame(rt.alloc(), rest)? else {
+            break;
+        };
+        for op in found {
+            ops.push(op)?;
+        }
+        rest = rest.get(len..).ok_or("the frame is too long")?;
+    }
+    Ok((ops, rest.is_empty()))
+}
+
+/// What a reader gives of the bytes, which come three at a time.
+fn read_stream(rt: &HostRuntime, bytes: Vec<u8>) -> Result<Vec<Op>, Fail> {
+    let len = bytes.len();
+    let mut source = SureSource::new(bytes, 3);
+    let mut reader = FrameReader::new(rt.alloc(), len as u64)?;
+    let mut ops = Vec::new(rt.alloc());
+    for _ in 0..len {
+        match reader.next(&mut source)? {
+            Some(op) => ops.push(op)?,
+            None => break,
+        }
+    }
+    Ok(ops)
+}
+
+/// Whether the operations are read back from their bytes, by both.
+fn is_read_back(rt: &HostRuntime, ops: Vec<Op>) -> Result<bool, Fail> {
+    let bytes = encoded(rt, &ops)?;
+    let (found, whole) = read_frames(rt, &bytes)?;
+    Ok(whole && found == ops && read_stream(rt, bytes)? == ops)
 }
 
 #[test]
@@ -101,6 +140,45 @@ fn long_rows_are_cut(rt: HostRuntime) -> Result<(), Fail> {
         let bytes = encoded(&rt, &ops)?;
         equal_at(&rt, &count, bytes.len(), len);
         holds_at(&rt, &count, bytes == plain_frames(&rt, &ops)?);
+        holds_at(&rt, &count, is_read_back(&rt, ops)?);
+    }
+    Ok(())
+}
+
+/// The frame of so many Texts from a counter on, each an A, whether there is one or not.
+fn frame(rt: &HostRuntime, counter: u32, count: u16) -> Result<Vec<u8>, NoMemory> {
+    let mut bytes = Vec::from_slice(rt.alloc(), &[4, 0, 0, 0, 1])?;
+    bytes.extend_from_slice(&counter.to_be_bytes())?;
+    bytes.extend_from_slice(&[0, 0, 0, 9, 0, 0, 0, 0, 0, 0])?;
+    bytes.extend_from_slice(&count.to_be_bytes())?;
+    for _ in 0..count {
+        bytes.extend_from_slice(&[0, 0, 65])?;
+    }
+    Ok(bytes)
+}
+
+/// The greatest counter is 4,294,967,295.
+#[test]
+fn a_run_has_2_to_1024_texts_with_counters_of_32_bits(rt: HostRuntime) -> Result<(), Fail> {
+    for (counter, count, there) in [
+        (1, 0, false),
+        (1, 1, false),
+        (1, 2, true),
+        (1, 1_024, true),
+        (1, 1_025, false),
+        (4_294_966_272, 1_024, true),
+        (4_294_966_273, 1_024, false),
+        (4_294_967_294, 2, true),
+        (4_294_967_294, 3, false),
+        (4_294_967_295, 2, false),
+    ] {
+        let bytes = frame(&rt, counter, count)?;
+        let (ops, whole) = read_frames(&rt, &bytes)?;
+        equal_at(&rt, &(counter, count), whole, there);
+        if there {
+            let same = ops == typed_row(&rt, counter, count as u32)?;
+            holds_at(&rt, &(counter, count), same);
+        }
     }
     Ok(())
 }
@@ -156,12 +234,14 @@ fn list(rt: &HostRuntime, len: u32, number: usize) -> Result<Vec<Op>, Fail> {
 }
 
 #[test]
-fn each_short_list_is_written_as_a_plain_encoder_does(rt: HostRuntime) -> Result<(), Fail> {
+fn each_short_list_is_written_as_a_plain_encoder_does_and_read_back(
+    rt: HostRuntime,
+) -> Result<(), Fail> {
     for (len, lists) in [(0, 1), (1, 9), (2, 81), (3, 729), (4, 6_561)] {
         for number in 0..lists {
             let ops = list(&rt, len, number)?;
             let same = encoded(&rt, &ops)? == plain_frames(&rt, &ops)?;
-            holds_at(&rt, &(len, number), same);
+            holds_at(&rt, &(len, number), same && is_read_back(&rt, ops)?);
         }
     }
     Ok(())
