@@ -1,23 +1,25 @@
 -- What a stream comes to: exactly one end, and by which end a reader's answers and those of taking in show it.
 use Rattle.std.proofs.Common.{◌≡◌, ◌≢◌, ℕ, ◌-◌, ◌<◌, ◌≤◌, List, [], ◌∷◌, ◌++◌, length, take, refl, ap, sym, subst, ◌∙◌, arith, append_assoc, length-append, inl, inr}
 use Rattle.std.specs.Prelude.{◌⊎◌, All, Option, Some, None, IfSome, Result, Ok, Err}
-use Rattle.std.specs.Io.KnownBytes.{prepend_known}
-use Rattle.std.proofs.lemmas.List.{take_all, append-nil}
+use Rattle.std.proofs.lemmas.List.{take_all}
+use Rattle.std.proofs.lemmas.Grind.{flat_map-append}
 use Rattle.std.proofs.lemmas.List.Elements.{All-cons, All-head, All-nil, All-tail}
 use Rattle.std.proofs.lemmas.Bool.{cases_order}
 use Rattle.std.proofs.lemmas.Option.{IfSome_then}
 use Rattle.fugue_ids.specs.declared.op.Op.{Op}
 use Rattle.outer_ports.specs.Sources.{SourceView}
-use Rattle.origin_model.specs.frames.Frames.{frame, End, Whole as EndsWhole, CutShort as EndsCutShort, BadFrame as EndsInBadFrame, Framed, IsFrame, Reads}
+use Rattle.origin_model.specs.declared.grammar.Grammar.{Grammar}
+use Rattle.origin_model.specs.frames.Frames.{End, Whole as EndsWhole, CutShort as EndsCutShort, BadFrame as EndsInBadFrame, Framed, IsFrame, Reads}
 use Rattle.origin_model.specs.taking.Taking.{Held, HasPlace, TooMany as AnswersTooMany, intake, answer, held_from, intake_counted, tally_from, no_counts}
 use Rattle.origin_model.specs.declared.taking.Tally.{Tally}
-use Rattle.origin_model.proofs.SharedLemmas.{Refused, framed_is, framed_of, held-append, no_place_left, places-append, places-none, places-one, same_refused, taken_or_refused, tally-append}
+use Rattle.origin_model.proofs.SharedLemmas.{Refused, held-append, no_place_left, places-append, places-none, places-one, same_refused, taken_or_refused, tally-append}
 use Rattle.op_frame.specs.declared.fault.FrameFault.{FrameFault}
 use Rattle.op_frame.specs.declared.fault.FrameFault.TheVariants as frame_fault
 use Rattle.op_frame.specs.Readers.{FrameReading, to_give, Follows, Gave, Nexts}
 use Rattle.op_frame.specs.Courses.{IntakeCourse, Whole, CutShort, BadFrame, TooLong, TooMany, MeetsTooMany, Ends, Comes}
-use Rattle.op_frame.proofs.StreamLemmas.{bytes_of, ops_of, frame_some, reads_once, reads_some, starts_first, starts_more, gave_none, follows}
-use Rattle.op_frame.proofs.ToldLemmas.{prepend_twice, shows, take_past}
+use Rattle.op_frame.proofs.ReadingLemmas.{bytes_of, ops_of, reads_once, reads_some, starts_first, starts_more}
+use Rattle.op_frame.proofs.StreamLemmas.{follows, gave_more, gave_none}
+use Rattle.op_frame.proofs.ToldLemmas.{shows, take_past}
 
 -- the course of a stream whose bytes up to the limit end so, by whether it is longer
 abbrev course_by : {limit n : ℕ} → End → (n ≤ limit) ⊎ (limit < n) → IntakeCourse
@@ -26,13 +28,13 @@ course_by EndsWhole (inl short) = Whole
 course_by (EndsCutShort k) (inl short) = CutShort k
 course_by end (inr long) = TooLong
 
-module _ (hold most : ℕ) where
+module _ (g : Grammar) (hold most : ℕ) where
   -- an operation of the first frame, or of a later one, finds no place
-  meets_here : (start : Held) (f : Framed) (b : List ℕ) → IsFrame f → (r : Refused hold most start f.ops) → MeetsTooMany hold most start (f.bytes ++ b) r.front
+  meets_here : (start : Held) (f : Framed) (b : List ℕ) → IsFrame g f → (r : Refused hold most start f.ops) → MeetsTooMany g hold most start (f.bytes ++ b) r.front
   meets_here start f b is r = record {
     earlier = [];
     rest = f.bytes ++ b;
-    starts = record { found = []; are_frames = All-nil IsFrame; ops_are = refl; split = refl };
+    starts = record { found = []; are_frames = All-nil (IsFrame g); ops_are = refl; split = refl };
     framed = f;
     behind = b;
     begins = record { is_frame = is; split = refl };
@@ -44,14 +46,14 @@ module _ (hold most : ℕ) where
     refused = r.refused;
   }
 
-  meets_later : (start : Held) (f : Framed) (b : List ℕ) (ops : List Op) → IsFrame f → MeetsTooMany hold most (held_from hold most start f.ops) b ops
-      → MeetsTooMany hold most start (f.bytes ++ b) (f.ops ++ ops)
+  meets_later : (start : Held) (f : Framed) (b : List ℕ) (ops : List Op) → IsFrame g f → MeetsTooMany g hold most (held_from hold most start f.ops) b ops
+      → MeetsTooMany g hold most start (f.bytes ++ b) (f.ops ++ ops)
   meets_later start f b ops is m = record {
     earlier = f.ops ++ m.earlier;
     rest = m.rest;
     starts = record {
       found = f ∷ m.starts.found;
-      are_frames = All-cons IsFrame f m.starts.found is m.starts.are_frames;
+      are_frames = All-cons (IsFrame g) f m.starts.found is m.starts.are_frames;
       ops_are = ap (λ (l : List Op). f.ops ++ l) m.starts.ops_are;
       split = ap (λ (l : List ℕ). f.bytes ++ l) m.starts.split ∙ sym (append_assoc f.bytes (bytes_of m.starts.found) m.rest);
     };
@@ -67,46 +69,46 @@ module _ (hold most : ℕ) where
   }
 
   -- the operations of frames all find their place, or a frame brings the first that finds none
-  met_or_not : (start : Held) (found : List Framed) (rest : List ℕ) → All IsFrame found
-      → HasPlace hold most start (ops_of found) ⊎ ((ops : List Op) × HasPlace hold most start ops × MeetsTooMany hold most start (bytes_of found ++ rest) ops)
+  met_or_not : (start : Held) (found : List Framed) (rest : List ℕ) → All (IsFrame g) found
+      → HasPlace hold most start (ops_of found) ⊎ ((ops : List Op) × HasPlace hold most start ops × MeetsTooMany g hold most start (bytes_of found ++ rest) ops)
   met_or_not start [] rest are = inl (places-none hold most start)
   met_or_not start (f ∷ found) rest are = elim (taken_or_refused hold most start f.ops) [
     | inr r ↦ inr (
       r.front,
       r.has_place,
-      subst (λ (b : List ℕ). MeetsTooMany hold most start b r.front) (sym (append_assoc f.bytes (bytes_of found) rest)) (meets_here start f (bytes_of found ++ rest) (All-head IsFrame f found are) r),
+      subst (λ (b : List ℕ). MeetsTooMany g hold most start b r.front) (sym (append_assoc f.bytes (bytes_of found) rest)) (meets_here start f (bytes_of found ++ rest) (All-head (IsFrame g) f found are) r),
     )
-    | inl places ↦ elim (met_or_not (held_from hold most start f.ops) found rest (All-tail IsFrame f found are)) [
+    | inl places ↦ elim (met_or_not (held_from hold most start f.ops) found rest (All-tail (IsFrame g) f found are)) [
       | inl others ↦ inl (places-append hold most start f.ops (ops_of found) places others)
       | inr m ↦ inr (
         f.ops ++ m.0,
         places-append hold most start f.ops m.0 places m.1,
-        subst (λ (b : List ℕ). MeetsTooMany hold most start b (f.ops ++ m.0)) (sym (append_assoc f.bytes (bytes_of found) rest))
-            (meets_later start f (bytes_of found ++ rest) m.0 (All-head IsFrame f found are) m.2),
+        subst (λ (b : List ℕ). MeetsTooMany g hold most start b (f.ops ++ m.0)) (sym (append_assoc f.bytes (bytes_of found) rest))
+            (meets_later start f (bytes_of found ++ rest) m.0 (All-head (IsFrame g) f found are) m.2),
       )
     ]
   ]
 
-module _ (hold most : ℕ) (start : Held) (limit : ℕ) (bytes : List ℕ) where
+module _ (g : Grammar) (hold most : ℕ) (start : Held) (limit : ℕ) (bytes : List ℕ) where
   fits_or_not : (n : ℕ) → (n ≤ limit) ⊎ (limit < n)
   fits_or_not n = elim (cases_order n limit) [ inl same ↦ inl (omega (arith, same)) | inr (inl less) ↦ inl (omega (arith, less)) | inr (inr more) ↦ inr more ]
 
   -- a stream comes to some end
-  pub comes_some : (ops : List Op) × (course : IntakeCourse) × Comes hold most start limit bytes ops course
+  pub comes_some : (ops : List Op) × (course : IntakeCourse) × Comes g hold most start limit bytes ops course
   comes_some =
-      let r = reads_some (take limit bytes) in
-      elim (met_or_not hold most start r.2.found r.2.rest r.2.are_frames) [
+      let r = reads_some g (take limit bytes) in
+      elim (met_or_not g hold most start r.2.found r.2.rest r.2.are_frames) [
         | inl places ↦ by_end r.1 (subst (HasPlace hold most start) (sym r.2.ops_are) places) r.2 (fits_or_not (length bytes))
-        | inr m ↦ (m.0, TooMany, record { has_place = m.1; ends = subst (λ (b : List ℕ). MeetsTooMany hold most start b m.0) (sym r.2.split) m.2 })
+        | inr m ↦ (m.0, TooMany, record { has_place = m.1; ends = subst (λ (b : List ℕ). MeetsTooMany g hold most start b m.0) (sym r.2.split) m.2 })
       ]
     where
-      by_end : {ops : List Op} (end : End) → HasPlace hold most start ops → Reads (take limit bytes) ops end → (length bytes ≤ limit) ⊎ (limit < length bytes)
-          → (ops : List Op) × (course : IntakeCourse) × Comes hold most start limit bytes ops course
+      by_end : {ops : List Op} (end : End) → HasPlace hold most start ops → Reads g (take limit bytes) ops end → (length bytes ≤ limit) ⊎ (limit < length bytes)
+          → (ops : List Op) × (course : IntakeCourse) × Comes g hold most start limit bytes ops course
       by_end {ops} EndsWhole places reads (inl fits) =
-          (ops, Whole, record { has_place = places; ends = (fits, subst (λ (b : List ℕ). Reads b ops EndsWhole) (take_all limit bytes fits) reads) })
+          (ops, Whole, record { has_place = places; ends = (fits, subst (λ (b : List ℕ). Reads g b ops EndsWhole) (take_all limit bytes fits) reads) })
       by_end {ops} EndsWhole places reads (inr longer) = (ops, TooLong, record { has_place = places; ends = (longer, (EndsWhole, reads, inl refl)) })
       by_end {ops} (EndsCutShort k) places reads (inl fits) =
-          (ops, CutShort k, record { has_place = places; ends = (fits, subst (λ (b : List ℕ). Reads b ops (EndsCutShort k)) (take_all limit bytes fits) reads) })
+          (ops, CutShort k, record { has_place = places; ends = (fits, subst (λ (b : List ℕ). Reads g b ops (EndsCutShort k)) (take_all limit bytes fits) reads) })
       by_end {ops} (EndsCutShort k) places reads (inr longer) = (ops, TooLong, record { has_place = places; ends = (longer, (EndsCutShort k, reads, inr (k, refl))) })
       by_end {ops} (EndsInBadFrame k) places reads fits = (ops, BadFrame k, record { has_place = places; ends = reads })
 
@@ -117,10 +119,10 @@ module _ (hold most : ℕ) (start : Held) (limit : ℕ) (bytes : List ℕ) where
   abbrev IsRefused : (all : List Op) → List Op → IntakeCourse → Type 0
   IsRefused all ops course = (r : Refused hold most start all) × (r.front ≡ ops) × (course ≡ TooMany)
 
-  refused_of : (all : List Op) (end : End) (ops : List Op) → HasPlace hold most start ops → Reads (take limit bytes) all end → MeetsTooMany hold most start (take limit bytes) ops
+  refused_of : (all : List Op) (end : End) (ops : List Op) → HasPlace hold most start ops → Reads g (take limit bytes) all end → MeetsTooMany g hold most start (take limit bytes) ops
       → IsRefused all ops TooMany
   refused_of all end ops places reads m =
-      let first = starts_first (take limit bytes) (m.earlier ++ m.framed.ops) m.behind all end (starts_more (take limit bytes) m.earlier m.rest m.framed m.behind m.starts m.begins) reads in (
+      let first = starts_first g (take limit bytes) (m.earlier ++ m.framed.ops) m.behind all end (starts_more g (take limit bytes) m.earlier m.rest m.framed m.behind m.starts m.begins) reads in (
         record {
           front = ops;
           op = m.op;
@@ -148,27 +150,27 @@ module _ (hold most : ℕ) (start : Held) (limit : ℕ) (bytes : List ℕ) where
   long_course end (inr longer) (inl whole) long = ap (λ (e : End). course_by e (inr longer)) (sym whole)
   long_course end (inr longer) (inr cut) long = ap (λ (e : End). course_by e (inr longer)) (sym cut.1)
 
-  plain : (all : List Op) (end : End) (ops : List Op) (course : IntakeCourse) (own : End) → HasPlace hold most start ops → Reads (take limit bytes) all end
-      → Reads (take limit bytes) ops own → course ≡ course_by own (fits_or_not (length bytes)) → IsPlain all end ops course ⊎ IsRefused all ops course
+  plain : (all : List Op) (end : End) (ops : List Op) (course : IntakeCourse) (own : End) → HasPlace hold most start ops → Reads g (take limit bytes) all end
+      → Reads g (take limit bytes) ops own → course ≡ course_by own (fits_or_not (length bytes)) → IsPlain all end ops course ⊎ IsRefused all ops course
   plain all end ops course own places reads came is =
-      let same = reads_once (take limit bytes) ops all own end came reads in
+      let same = reads_once g (take limit bytes) ops all own end came reads in
       inl (subst (HasPlace hold most start) same.0 places, same.0, subst (λ (e : End). course ≡ course_by e (fits_or_not (length bytes))) same.1 is)
 
-  plain_or_refused : (all : List Op) (end : End) (ops : List Op) (course : IntakeCourse) → Reads (take limit bytes) all end → Comes hold most start limit bytes ops course
+  plain_or_refused : (all : List Op) (end : End) (ops : List Op) (course : IntakeCourse) → Reads g (take limit bytes) all end → Comes g hold most start limit bytes ops course
       → IsPlain all end ops course ⊎ IsRefused all ops course
   plain_or_refused all end ops Whole reads c =
-      plain all end ops Whole EndsWhole c.has_place reads (subst (λ (b : List ℕ). Reads b ops EndsWhole) (sym (take_all limit bytes c.ends.0)) c.ends.1) (short_course EndsWhole Whole (fits_or_not (length bytes)) (λ d. refl) c.ends.0)
+      plain all end ops Whole EndsWhole c.has_place reads (subst (λ (b : List ℕ). Reads g b ops EndsWhole) (sym (take_all limit bytes c.ends.0)) c.ends.1) (short_course EndsWhole Whole (fits_or_not (length bytes)) (λ d. refl) c.ends.0)
   plain_or_refused all end ops (CutShort k) reads c =
-      plain all end ops (CutShort k) (EndsCutShort k) c.has_place reads (subst (λ (b : List ℕ). Reads b ops (EndsCutShort k)) (sym (take_all limit bytes c.ends.0)) c.ends.1) (short_course (EndsCutShort k) (CutShort k) (fits_or_not (length bytes)) (λ d. refl) c.ends.0)
+      plain all end ops (CutShort k) (EndsCutShort k) c.has_place reads (subst (λ (b : List ℕ). Reads g b ops (EndsCutShort k)) (sym (take_all limit bytes c.ends.0)) c.ends.1) (short_course (EndsCutShort k) (CutShort k) (fits_or_not (length bytes)) (λ d. refl) c.ends.0)
   plain_or_refused all end ops (BadFrame k) reads c = plain all end ops (BadFrame k) (EndsInBadFrame k) c.has_place reads c.ends refl
   plain_or_refused all end ops TooLong reads c = plain all end ops TooLong c.ends.1.0 c.has_place reads c.ends.1.1 (long_course c.ends.1.0 (fits_or_not (length bytes)) c.ends.1.2 c.ends.0)
   plain_or_refused all end ops TooMany reads c = inr (refused_of all end ops c.has_place reads c.ends)
 
   -- a stream comes to one end
-  pub comes_once : (ops others : List Op) (course other : IntakeCourse) → Comes hold most start limit bytes ops course → Comes hold most start limit bytes others other
+  pub comes_once : (ops others : List Op) (course other : IntakeCourse) → Comes g hold most start limit bytes ops course → Comes g hold most start limit bytes others other
       → (ops ≡ others) × (course ≡ other)
   comes_once ops others course other p q =
-      let r = reads_some (take limit bytes) in
+      let r = reads_some g (take limit bytes) in
       both r.0 r.1 (plain_or_refused r.0 r.1 ops course r.2 p) (plain_or_refused r.0 r.1 others other r.2 q)
     where
       not_both : (all : List Op) → HasPlace hold most start all → Refused hold most start all → ⊥
@@ -181,6 +183,65 @@ module _ (hold most : ℕ) (start : Held) (limit : ℕ) (bytes : List ℕ) where
       both all end (inr a) (inl b) = absurd (not_both all b.0 a.0)
       both all end (inr a) (inr b) = (sym a.1 ∙ same_refused hold most start all a.0 b.0 ∙ b.1, a.2 ∙ sym b.2)
 
+-- an operation among those of frames: the frame that brings it
+record Within (g : Grammar) (found : List Framed) (xs : List Op) (op : Op) : Type 0 where
+  before : List Framed
+  framed : Framed
+  after : List Framed
+  found_are : found ≡ before ++ framed ∷ after
+  are_before : All (IsFrame g) before
+  is_frame : IsFrame g framed
+  -- its operations before this one, and behind it
+  front : List Op
+  more : List Op
+  brings : framed.ops ≡ front ++ op ∷ more
+  taken : xs ≡ ops_of before ++ front
+
+parted : (op : Op) (xs ys zs ws : List Op) → xs ++ op ∷ ys ≡ zs ++ ws
+    → ((more : List Op) × (zs ≡ xs ++ op ∷ more)) ⊎ ((between : List Op) × (xs ≡ zs ++ between) × (between ++ op ∷ ys ≡ ws))
+parted op xs ys [] ws same = inr (xs, refl, same)
+parted op [] ys (z ∷ zs) ws same = let first : z ≡ op = sym (cc same) in inl (zs, λ i. first i ∷ zs)
+parted op (x ∷ xs) ys (z ∷ zs) ws same =
+    let first : x ≡ z = cc same in
+    let others : xs ++ op ∷ ys ≡ zs ++ ws = cc same in
+    elim (parted op xs ys zs ws others) [
+      | inl p ↦ inl (p.0, λ i. sym first i ∷ p.1 i)
+      | inr p ↦ inr (p.0, (λ i. first i ∷ p.1 i), p.2)
+    ]
+
+within : (g : Grammar) (found : List Framed) → All (IsFrame g) found → (xs : List Op) (op : Op) (ys : List Op) → xs ++ op ∷ ys ≡ ops_of found → Within g found xs op
+within g [] are xs op ys same = absurd (omega (arith, ap length same, length-append xs (op ∷ ys)))
+within g (f ∷ found) are xs op ys same = by_part (parted op xs ys f.ops (ops_of found) same) (λ between later. within g found (All-tail (IsFrame g) f found are) between op ys later)
+  where
+    by_part : ((more : List Op) × (f.ops ≡ xs ++ op ∷ more)) ⊎ ((between : List Op) × (xs ≡ f.ops ++ between) × (between ++ op ∷ ys ≡ ops_of found))
+        → ((between : List Op) → between ++ op ∷ ys ≡ ops_of found → Within g found between op) → Within g (f ∷ found) xs op
+    by_part (inl p) later = record {
+      before = [];
+      framed = f;
+      after = found;
+      found_are = refl;
+      are_before = All-nil (IsFrame g);
+      is_frame = All-head (IsFrame g) f found are;
+      front = xs;
+      more = p.0;
+      brings = p.1;
+      taken = refl;
+    }
+    by_part (inr p) later =
+        let w = later p.0 p.2 in
+        record {
+          before = f ∷ w.before;
+          framed = w.framed;
+          after = w.after;
+          found_are = ap (λ (fs : List Framed). f ∷ fs) w.found_are;
+          are_before = All-cons (IsFrame g) f w.before (All-head (IsFrame g) f found are) w.are_before;
+          is_frame = w.is_frame;
+          front = w.front;
+          more = w.more;
+          brings = w.brings;
+          taken = p.1 ∙ ap (λ (l : List Op). f.ops ++ l) w.taken ∙ sym (append_assoc f.ops (ops_of w.before) w.front);
+        }
+
 -- of the bytes that were told, the reader gave operations which all found their place: what they left, and their counts
 pub record Fed (hold most : ℕ) (start : Held) (told : Option (List ℕ)) (reader : FrameReading) (left : Option (List ℕ)) (state : Held) (counts : Tally) : Type 0 where
   pub ops : List Op
@@ -191,10 +252,10 @@ pub record Fed (hold most : ℕ) (start : Held) (told : Option (List ℕ)) (read
 
 module _ (hold most : ℕ) (start : Held) where
   -- a fresh reader
-  pub fed_none : (reader : FrameReading) (left : Option (List ℕ)) → reader.unread ≡ [] → reader.offset ≡ 0 → Fed hold most start left reader left start no_counts
-  fed_none reader left none at = record {
+  pub fed_none : (reader : FrameReading) (left : Option (List ℕ)) → reader.todo ≡ [] → reader.unread ≡ [] → reader.offset ≡ 0 → Fed hold most start left reader left start no_counts
+  fed_none reader left todo none at = record {
     ops = [];
-    gave = gave_none reader left none at;
+    gave = gave_none reader left todo none at;
     has_place = places-none hold most start;
     state_is = refl;
     counts_are = refl;
@@ -216,57 +277,60 @@ module _ (hold most : ℕ) (start : Held) where
       counts_are = (λ i. intake_counted hold most (fed.state_is i) op (fed.counts_are i)) ∙ tally-append hold most start fed.ops (op ∷ []) no_counts;
     }
 
-    came : (course : IntakeCourse) (P : List ℕ → Type 0) → ((bytes : List ℕ) → P bytes → Ends hold most start old.limit bytes fed.ops course) → IfSome told P
-        → IfSome told (λ bytes. Comes hold most start old.limit bytes fed.ops course)
+    came : (course : IntakeCourse) (P : List ℕ → Type 0) → ((bytes : List ℕ) → P bytes → Ends old.grammar hold most start old.limit bytes fed.ops course) → IfSome told P
+        → IfSome told (λ bytes. Comes old.grammar hold most start old.limit bytes fed.ops course)
     came course P ends is = IfSome_then told is (λ bytes p. record { has_place = fed.has_place; ends = ends bytes p })
 
     -- the stream is over
-    pub fed_whole : Nexts old new before after (Ok None) → IfSome told (λ bytes. Comes hold most start old.limit bytes fed.ops Whole)
+    pub fed_whole : Nexts old new before after (Ok None) → IfSome told (λ bytes. Comes old.grammar hold most start old.limit bytes fed.ops Whole)
     fed_whole nexts = came Whole _ (λ bytes is. is) (after_it (Ok None) nexts).ends
 
     -- the stream ends inside of a frame
-    pub fed_cut : (k : ℕ) → Nexts old new before after (Err (frame_fault.CutShort k)) → IfSome told (λ bytes. Comes hold most start old.limit bytes fed.ops (CutShort k))
+    pub fed_cut : (k : ℕ) → Nexts old new before after (Err (frame_fault.CutShort k)) → IfSome told (λ bytes. Comes old.grammar hold most start old.limit bytes fed.ops (CutShort k))
     fed_cut k nexts = came (CutShort k) _ (λ bytes is. is) (after_it (Err (frame_fault.CutShort k)) nexts).ends
 
     -- no frame stands in the stream, up to its limit
-    pub fed_bad : (k : ℕ) → Nexts old new before after (Err (frame_fault.BadFrame k)) → IfSome told (λ bytes. Comes hold most start old.limit bytes fed.ops (BadFrame k))
+    pub fed_bad : (k : ℕ) → Nexts old new before after (Err (frame_fault.BadFrame k)) → IfSome told (λ bytes. Comes old.grammar hold most start old.limit bytes fed.ops (BadFrame k))
     fed_bad k nexts = came (BadFrame k) _ (λ bytes is. is.0) (after_it (Err (frame_fault.BadFrame k)) nexts).ends
 
     -- the stream goes on behind its limit, up to which it has no fault
-    pub fed_long : Nexts old new before after (Err frame_fault.TooLong) → IfSome told (λ bytes. Comes hold most start old.limit bytes fed.ops TooLong)
+    pub fed_long : Nexts old new before after (Err frame_fault.TooLong) → IfSome told (λ bytes. Comes old.grammar hold most start old.limit bytes fed.ops TooLong)
     fed_long nexts = came TooLong _ (λ bytes is. is) (after_it (Err frame_fault.TooLong) nexts).ends
 
     -- the operation that was given finds no place
     pub fed_many : (op : Op) → Nexts old new before after (Ok (Some op)) → answer hold most state op ≡ AnswersTooMany
-        → IfSome told (λ bytes. Comes hold most start old.limit bytes fed.ops TooMany)
+        → IfSome told (λ bytes. Comes old.grammar hold most start old.limit bytes fed.ops TooMany)
     fed_many op nexts many =
-        shows (λ bytes. Comes hold most start old.limit bytes fed.ops TooMany) (bytes_of fed.gave.found ++ frame op) (to_give new after.left) told
-        (fed.gave.split ∙ ap (prepend_known (bytes_of fed.gave.found)) nexts.moves ∙ prepend_twice (bytes_of fed.gave.found) (frame op) (to_give new after.left))
-        (λ rest _. record {
+        let g : Grammar = old.grammar in
+        let gave = gave_more told fed.ops op old new before.left after.left nexts.advances.grammar fed.gave nexts.gives in
+        let are : All (IsFrame g) gave.found = subst (λ (h : Grammar). All (IsFrame h) gave.found) nexts.advances.grammar gave.are_frames in
+        let w = within g gave.found are fed.ops op new.todo (sym (append_assoc fed.ops (op ∷ []) new.todo) ∙ gave.ops_are) in
+        shows (λ bytes. Comes g hold most start old.limit bytes fed.ops TooMany) (bytes_of gave.found) (to_give new after.left) told gave.split (λ rest _.
+        let left : List ℕ = take (old.limit - new.offset) rest in
+        record {
           has_place = fed.has_place;
           ends = record {
-            earlier = fed.ops;
-            rest = frame op ++ take (old.limit - new.offset) rest;
+            earlier = ops_of w.before;
+            rest = w.framed.bytes ++ (bytes_of w.after ++ left);
             starts = record {
-              found = fed.gave.found;
-              are_frames = fed.gave.are_frames;
-              ops_are = fed.gave.ops_are;
-              split = take_past (bytes_of fed.gave.found ++ frame op) rest old.limit new.offset
-                  (omega (arith, nexts.advances.offset, fed.gave.offset, length-append (bytes_of fed.gave.found) (frame op))) (omega (arith, nexts.advances.within, nexts.advances.limit))
-                  ∙ append_assoc (bytes_of fed.gave.found) (frame op) (take (old.limit - new.offset) rest);
+              found = w.before;
+              are_frames = w.are_before;
+              ops_are = refl;
+              split = take_past (bytes_of gave.found) rest old.limit new.offset gave.offset (omega (arith, nexts.advances.within, nexts.advances.limit))
+                  ∙ ap (λ (l : List ℕ). l ++ left) (ap bytes_of w.found_are ∙ flat_map-append (λ (f : Framed). f.bytes) w.before (w.framed ∷ w.after))
+                  ∙ regroup (bytes_of w.before) w.framed.bytes (bytes_of w.after) left;
             };
-            framed = framed_of op;
-            behind = take (old.limit - new.offset) rest;
-            begins = record { is_frame = framed_is op nexts.has_frame; split = refl };
-            front = [];
+            framed = w.framed;
+            behind = bytes_of w.after ++ left;
+            begins = record { is_frame = w.is_frame; split = refl };
+            front = w.front;
             op = op;
-            more = [];
-            brings = refl;
-            taken = sym (append-nil fed.ops);
+            more = w.more;
+            brings = w.brings;
+            taken = w.taken;
             refused = ap (λ (s : Held). answer hold most s op) (sym fed.state_is) ∙ many;
           };
         })
-
--- a frame has at least one byte
-pub offset_grows : (op : Op) (old new : FrameReading) (before after : SourceView) → Nexts old new before after (Ok (Some op)) → old.offset < new.offset
-offset_grows op old new before after nexts = omega (arith, nexts.advances.offset, frame_some op)
+      where
+        regroup : (a b c d : List ℕ) → (a ++ (b ++ c)) ++ d ≡ a ++ (b ++ (c ++ d))
+        regroup a b c d = simp append_assoc

@@ -2,34 +2,67 @@
 use Rattle.std.proofs.Common.{◌≡◌, ℕ, suc, ◌-◌, ◌≤◌, List, [], ◌∷◌, ◌++◌, length, take, drop, get_or, refl, ap, sym, subst, ◌∙◌, arith}
 use Rattle.std.specs.Prelude.{Option, Some, None}
 use Rattle.std.specs.Str.{encode_utf8_all}
+use Rattle.std.specs.Int.{byte_at}
+use Rattle.std.specs.Char.{IsScalar}
 use Rattle.std.proofs.lemmas.List.{take_all}
 use Rattle.std.proofs.lemmas.Str.{encodes_same}
 use Rattle.fugue_ids.specs.Identifiers.{Identifier}
 use Rattle.fugue_ids.specs.declared.op.Op.{Op}
 use Rattle.fugue_ids.specs.declared.op.Op.TheVariants.{Delete, Section, Text as TextOp}
-use Rattle.origin_model.specs.frames.Frames.{IsOrigin, IsTitle, frame, id_bytes, origin_bytes, title_bytes}
-use Rattle.op_frame.specs.Firsts.{StartsWith}
-use Rattle.op_frame.specs.FrameFronts.{Completes, IsFrameOf, IsIdentifierBytes, IsLast, IsOriginBytes, LeavesDue}
+use Rattle.origin_model.specs.declared.grammar.Grammar.{Grammar}
+use Rattle.origin_model.specs.declared.grammar.Grammar.TheVariants.{Version1, Version2}
+use Rattle.origin_model.specs.frames.Frames.{IsFrame, IsItem, IsOrigin, IsTitle, Item, Single, Typed, id_bytes, item_bytes, item_ops, origin_bytes, title_bytes}
+use Rattle.op_frame.specs.Firsts.{IsFrameBehind, StartsWith}
+use Rattle.op_frame.specs.FrameFronts.{Completes, IsFrameOf, IsIdentifierBytes, IsLast, IsOriginBytes, LeavesDue, scalar_of_bytes}
 use Rattle.op_frame.specs.declared.due.Due.{Due}
 use Rattle.op_frame.specs.declared.due.Due.TheVariants.{Kind}
 use Rattle.op_frame.specs.declared.due.Last.TheVariants.{Title}
+use Rattle.op_frame.proofs.CodeLemmas.{scalar_below}
+use Rattle.op_frame.proofs.ItemLemmas.{has_run_frame, item_code}
 
 -- the first byte, and those behind it
-head_is : (b : List ℕ) (x : ℕ) → 1 ≤ length b → get_or b 0 0 ≡ x → b ≡ x ∷ take (length b - 1) (drop 1 b)
+pub head_is : (b : List ℕ) (x : ℕ) → 1 ≤ length b → get_or b 0 0 ≡ x → b ≡ x ∷ take (length b - 1) (drop 1 b)
 head_is [] x some is = absurd (omega (arith, some))
 head_is (y ∷ b) x some is = λ i. is i ∷ sym (take_all (suc (length b) - 1) b (omega arith)) i
 
 -- behind the first byte of a frame its fields follow
-pub fields_there : (kind : ℕ) (next : Due) (bytes : List ℕ) → LeavesDue (kind ∷ []) Kind next → IsFrameOf bytes → 1 ≤ length bytes → get_or bytes 0 0 ≡ kind → Completes next (take (length bytes - 1) (drop 1 bytes))
-fields_there kind next bytes p f some is = (p.rest (take (length bytes - 1) (drop 1 bytes))).0 (f.1.op, f.1.has_frame, sym (head_is bytes kind some is) ∙ f.1.bytes_are)
+pub fields_there : (g : Grammar) (kind : ℕ) (next : Due) (bytes : List ℕ) → LeavesDue (kind ∷ []) (Kind g) next → IsFrameOf g bytes → 1 ≤ length bytes → get_or bytes 0 0 ≡ kind
+    → Completes next (take (length bytes - 1) (drop 1 bytes))
+fields_there g kind next bytes p f some is = (p.rest (take (length bytes - 1) (drop 1 bytes))).0 (f.1.item, f.1.is_item, sym (head_is bytes kind some is) ∙ f.1.bytes_are)
 
-pub third_kind : (bytes : List ℕ) → IsFrameOf bytes → (get_or bytes 0 0 ≡ 1 → ⊥) → (get_or bytes 0 0 ≡ 2 → ⊥) → get_or bytes 0 0 ≡ 3
-third_kind bytes f a b = by_op f.1.op f.1.bytes_are
+pub third_kind : (bytes : List ℕ) → IsFrameOf Version1 bytes → (get_or bytes 0 0 ≡ 1 → ⊥) → (get_or bytes 0 0 ≡ 2 → ⊥) → get_or bytes 0 0 ≡ 3
+third_kind bytes f a b = by_item f.1.item f.1.is_item f.1.bytes_are
   where
-    by_op : (op : Op) → bytes ≡ frame op → get_or bytes 0 0 ≡ 3
-    by_op (Section id l r t) is = absurd (a (ap (λ (x : List ℕ). get_or x 0 0) is))
-    by_op (TextOp id s l r ch) is = absurd (b (ap (λ (x : List ℕ). get_or x 0 0) is))
-    by_op (Delete id) is = ap (λ (x : List ℕ). get_or x 0 0) is
+    by_item : (item : Item) → IsItem Version1 item → bytes ≡ item_bytes item → get_or bytes 0 0 ≡ 3
+    by_item (Single (Section id l r t)) has is = absurd (a (ap (λ (x : List ℕ). get_or x 0 0) is))
+    by_item (Single (TextOp id s l r ch)) has is = absurd (b (ap (λ (x : List ℕ). get_or x 0 0) is))
+    by_item (Single (Delete id)) has is = ap (λ (x : List ℕ). get_or x 0 0) is
+    by_item (Typed run) has is = absurd has
+
+-- version 1 has each frame of version 2 but those of runs
+pub no_runs : (bytes : List ℕ) → IsFrameOf Version2 bytes → (get_or bytes 0 0 ≡ 4 → ⊥) → IsFrameOf Version1 bytes
+no_runs bytes f other = (f.0, record { item = f.1.item; is_item = by_item f.1.item f.1.is_item f.1.bytes_are; bytes_are = f.1.bytes_are; ops_are = f.1.ops_are })
+  where
+    by_item : (item : Item) → IsItem Version2 item → bytes ≡ item_bytes item → IsItem Version1 item
+    by_item (Single op) has is = has
+    by_item (Typed run) has is = absurd (other (ap (λ (x : List ℕ). get_or x 0 0) is))
+
+pub wider : (g : Grammar) (item : Item) → IsItem g item → IsItem Version2 item
+wider g (Single op) has = has
+wider g (Typed run) has = has_run_frame g run has
+
+-- a frame has one meaning, by both grammars
+pub same_meaning : (g : Grammar) (bytes : List ℕ) (ops : List Op) → IsFrameOf g bytes → IsFrame Version2 (record { bytes = bytes; ops = ops }) → IsFrame g (record { bytes = bytes; ops = ops })
+same_meaning g bytes ops f is =
+    let same : f.1.item ≡ is.item = ((item_code Version2).once f.1.item is.item [] [] (wider g f.1.item f.1.is_item) is.is_item (ap (λ (b : List ℕ). b ++ []) (sym f.1.bytes_are ∙ is.bytes_are))).0 in
+    record { item = f.1.item; is_item = f.1.is_item; bytes_are = f.1.bytes_are; ops_are = is.ops_are ∙ ap item_ops (sym same) }
+
+pub frame_wider : (g : Grammar) (bytes : List ℕ) → IsFrameOf g bytes → IsFrameOf Version2 bytes
+frame_wider g bytes f = (f.0, record { item = f.1.item; is_item = wider g f.1.item f.1.is_item; bytes_are = f.1.bytes_are; ops_are = f.1.ops_are })
+
+-- the operation of the fields behind the first byte
+pub behind_is : (kind : ℕ) (op : Op) (bytes : List ℕ) → 1 ≤ length bytes → get_or bytes 0 0 ≡ kind → IsFrameBehind kind op (take (length bytes - 1) (drop 1 bytes)) → IsFrame Version1 (record { bytes = bytes; ops = op ∷ [] })
+behind_is kind op bytes some is f = record { item = Single op; is_item = f.0; bytes_are = head_is bytes kind some is ∙ f.1; ops_are = refl }
 
 -- an origin that is not the start or the end
 pub tagged : (bytes : List ℕ) → StartsWith IsOriginBytes bytes → (get_or bytes 0 0 ≡ 0 → ⊥) → StartsWith IsIdentifierBytes (take (length bytes - 1) (drop 1 bytes))
@@ -47,3 +80,7 @@ text_there bytes t = ap (λ (x : List ℕ). take (length x - 2) (drop 2 x)) t.2 
 pub title_there : (bytes title text : List ℕ) → IsLast Title bytes → encode_utf8_all title ≡ text → text ≡ take (length bytes - 2) (drop 2 bytes) → IsTitle title × (bytes ≡ title_bytes title)
 title_there bytes title text t is there =
     let same : t.0 ≡ title = encodes_same t.0 title (sym (is ∙ there ∙ text_there bytes t)) in subst (λ (x : List ℕ). IsTitle x × (bytes ≡ title_bytes x)) same (t.1, t.2)
+
+-- the number of a scalar's three bytes
+pub code_is : (c : ℕ) → IsScalar c → scalar_of_bytes (byte_at 2 c) (byte_at 1 c) (byte_at 0 c) ≡ c
+code_is c is = omega (arith, scalar_below c is)

@@ -18,5 +18,8 @@ pub mod StreamLemmas
 pub mod FirstLemmas
 pub mod AnswerLemmas
 pub mod CourseLemmas
+pub mod DueLemmas
 pub mod FrameFrontLemmas
 pub mod DecodingLemmas
+pub mod HeadLemmas
+pub mod ReaderLemmas

@@ -1,21 +1,26 @@
--- One step of the reader: what the unread bytes show of those that are to be given.
-use Rattle.std.proofs.Common.{◌≡◌, ◌≢◌, ℕ, ◌+◌, ◌-◌, ◌<◌, ◌≤◌, Bool, false, List, [], ◌∷◌, ◌++◌, length, take, refl, ap, sym, subst, ◌∙◌, ◌⊎◌, inl, inr, arith, append_assoc, length-append}
+-- One step of the reader: what the unread bytes show of those that are to be read.
+use Rattle.std.proofs.Common.{◌≡◌, ◌≢◌, ℕ, ◌+◌, ◌-◌, ◌<◌, ◌≤◌, Bool, false, List, [], ◌∷◌, ◌++◌, length, take, drop, refl, ap, sym, subst, ◌∙◌, ◌⊎◌, inl, inr, arith, append_assoc, length-append, length-drop}
 use Rattle.std.specs.Prelude.{Option, Some, None, Result, Ok, Err, IfSome, IfOk, IfErr, IsErrOf, slice_get}
 use Rattle.std.specs.Io.KnownBytes.{prepend_known}
-use Rattle.std.proofs.lemmas.List.{take_at, append-nil}
+use Rattle.std.proofs.lemmas.List.{take_at, take-append-drop, length-take-le, append-nil}
 use Rattle.fugue_ids.specs.declared.op.Op.{Op}
 use Rattle.outer_ports.specs.Sources.{SourceView, KeepsCount}
-use Rattle.origin_model.specs.frames.Frames.{HasFrame, IsBad, IsPartial, frame}
+use Rattle.outer_ports.proofs.CountLemmas.{count_so, count_then}
+use Rattle.origin_model.specs.declared.grammar.Grammar.{Grammar}
+use Rattle.origin_model.specs.frames.Frames.{Framed, IsBad, IsPartial}
+use Rattle.op_frame.specs.FrameFronts.{IsFrameOf}
+use Rattle.op_frame.specs.Heads.{behind_held, held_ops}
+use Rattle.op_frame.specs.Readers.{ReadingAnswerIs, AnswersBy, CarriesOffset, Moves}
+use Rattle.op_frame.specs.Refills.{Refills, Drops}
+use Rattle.op_frame.specs.Steps.{Takes, TakesFirst, TakesFrame, TakesOff, only_op, taken_held, taken_length}
 use Rattle.op_frame.specs.declared.fault.FrameFault.{FrameFault}
 use Rattle.op_frame.specs.declared.fault.FrameFault.TheVariants.{BadFrame, CutShort, ReadFault, TooLong, NoMemory}
-use Rattle.op_frame.specs.Readers.{ReadingAnswerIs, AnswersBy, CarriesOffset, Moves, given_length}
-use Rattle.op_frame.specs.Refills.{Refills, Drops}
-use Rattle.op_frame.specs.Steps.{Takes, TakesFrame, only_op}
-use Rattle.op_frame.proofs.FrameLemmas.{bad_goes_on}
-use Rattle.op_frame.proofs.FrameFrontLemmas.{frame_short}
-use Rattle.outer_ports.proofs.CountLemmas.{count_so, count_then}
-use Rattle.op_frame.proofs.ToldLemmas.{prepend_twice, shows, some_is, take_past}
+use Rattle.op_frame.specs.declared.step.Taken.{Taken}
 use Rattle.op_frame.proofs.AnswerLemmas.{answers_by}
+use Rattle.op_frame.proofs.DecodingLemmas.{same_meaning}
+use Rattle.op_frame.proofs.FrameFrontLemmas.{frame_short}
+use Rattle.op_frame.proofs.FrameLemmas.{bad_goes_on}
+use Rattle.op_frame.proofs.ToldLemmas.{prepend_twice, shows, some_is, take_past}
 
 -- where the reader stands within a call: nothing that was to be given is lost
 pub record Stands (old unread : List ℕ) (before now : SourceView) (room : ℕ) : Type 0 where
@@ -23,69 +28,87 @@ pub record Stands (old unread : List ℕ) (before now : SourceView) (room : ℕ)
   pub inside : length unread ≤ room
   pub count : KeepsCount before now ⊥
 
-first_stays : (b rest : List ℕ) (x : ℕ) → slice_get b 0 ≡ Some x → slice_get (b ++ rest) 0 ≡ Some x
+pub first_stays : (b rest : List ℕ) (x : ℕ) → slice_get b 0 ≡ Some x → slice_get (b ++ rest) 0 ≡ Some x
 first_stays [] rest x is = absurd (cc is)
 first_stays (y ∷ b) rest x is = is
 
-module _ (old unread : List ℕ) (before now : SourceView) (offset room : ℕ) (s : Stands old unread before now room) where
-  answer : (result : Result (Option Op) FrameFault) → ((rest : List ℕ) → now.left ≡ Some rest → ReadingAnswerIs result offset room (unread ++ rest))
-      → IfSome (prepend_known old before.left) (AnswersBy result offset room)
-  answer result is = shows (AnswersBy result offset room) unread now.left (prepend_known old before.left) s.told (λ rest left. answers_by result offset room (unread ++ rest) (is rest left))
+module _ (g : Grammar) (old unread : List ℕ) (before now : SourceView) (offset room : ℕ) (s : Stands old unread before now room) where
+  answer : (result : Result (Option Op) FrameFault) → ((rest : List ℕ) → now.left ≡ Some rest → ReadingAnswerIs g result offset room (unread ++ rest))
+      → IfSome (prepend_known old before.left) (AnswersBy g result offset room)
+  answer result is = shows (AnswersBy g result offset room) unread now.left (prepend_known old before.left) s.told (λ rest left. answers_by g result offset room (unread ++ rest) (is rest left))
 
   -- an answer that is no fault of the source, by the bytes told so far
-  ends_so : (new : List ℕ) (result : Result (Option Op) FrameFault) → ((rest : List ℕ) → now.left ≡ Some rest → ReadingAnswerIs result offset room (unread ++ rest)) → CarriesOffset result offset
-      → Moves result old new before.left now.left → length new + given_length result ≤ room → (IsErrOf result TooLong → ⊥) → (IsErrOf result ReadFault → ⊥) → IfOk result (λ given. IfSome given HasFrame)
-      → Takes old new before now offset room result
-  ends_so new result is at moves within short no_fault has = record {
-    answer = answer result is;
+  ends_so : (new : List ℕ) (result : Result (Option Taken) FrameFault) → ((rest : List ℕ) → now.left ≡ Some rest → ReadingAnswerIs g (only_op result) offset room (unread ++ rest))
+      → CarriesOffset (only_op result) offset → IfOk result (λ given. IfSome given (λ taken. TakesFirst g taken old new before.left now.left)) → Moves (only_op result) old new before.left now.left
+      → length (behind_held (taken_held result) new) + taken_length result ≤ room → (IsErrOf result TooLong → ⊥) → (IsErrOf result ReadFault → ⊥) → Takes g old new before now offset room result
+  ends_so new result is at first moves within short no_fault = record {
+    answer = answer (only_op result) is;
     at = at;
+    first = first;
     moves = moves;
     within = within;
     full = λ long. absurd (short long);
-    has_frame = has;
     count = count_so ⊥ _ s.count no_fault (λ none. absurd none);
   }
 
   -- a frame stands at the front of the unread bytes
-  gives : (new : List ℕ) (found : Option (Op × ℕ)) (n : ℕ) → TakesFrame found unread new n → Takes old new before now offset room (only_op (Ok found))
-  gives new None n p = absurd p
-  gives new (Some found) n p =
-      let op : Op = found.0 in
-      let within : length new + length (frame op) ≤ room = omega (arith, s.inside, ap length p.3, length-append (frame op) new) in
-      ends_so new (Ok (Some op)) (λ rest is. record {
-        has_frame = p.0;
-        within = omega (arith, within);
-        rest = new ++ rest;
-        split = ap (λ (l : List ℕ). l ++ rest) p.3 ∙ append_assoc (frame op) new rest;
-      }) tt (s.told ∙ ap (λ (l : List ℕ). prepend_known l now.left) p.3 ∙ sym (prepend_twice (frame op) new now.left)) within (λ is. cc is) (λ is. cc is) p.0
+  gives : (new : List ℕ) (taken : Taken) (n : ℕ) → n ≤ length unread → IsFrameOf g (take n unread) → TakesOff taken unread new n → Takes g old new before now offset room (Ok (Some taken))
+  gives new taken n whole f p =
+      let framed : Framed = record { bytes = take n unread; ops = taken.op ∷ held_ops taken.held new } in
+      let is = same_meaning g (take n unread) framed.ops f p.is_frame in
+      let split : unread ≡ take n unread ++ drop n unread = sym (take-append-drop n unread) in
+      let long : length (take n unread) ≡ n = length-take-le n unread whole in
+      ends_so new (Ok (Some taken)) (λ rest left. record {
+        framed = framed;
+        is_frame = is;
+        others = held_ops taken.held new;
+        first = refl;
+        within = omega (arith, long, whole, s.inside);
+        rest = drop n unread ++ rest;
+        split = ap (λ (l : List ℕ). l ++ rest) split ∙ append_assoc (take n unread) (drop n unread) rest;
+      }) tt (record {
+        framed = framed;
+        is_frame = is;
+        ops_are = refl;
+        len = p.len ∙ sym long;
+        told = s.told ∙ ap (λ (l : List ℕ). prepend_known l now.left) split ∙ sym (prepend_twice (take n unread) (drop n unread) now.left)
+            ∙ ap (λ (l : List ℕ). prepend_known (take n unread) (prepend_known l now.left)) p.rest;
+        held = p.held;
+      }) tt (omega (arith, ap length p.rest, length-drop n unread, p.len, whole, s.inside)) (λ is. cc is) (λ is. cc is)
 
   -- no frame stands there, whatever follows
-  pub refuses : IsBad unread → Takes old unread before now offset room (Err (BadFrame offset))
+  pub refuses : IsBad g unread → Takes g old unread before now offset room (Err (BadFrame offset))
   refuses bad = ends_so unread (Err (BadFrame offset)) (λ rest is. (
     refl,
-    subst IsBad (sym (take_past unread rest room (length unread) refl s.inside)) (bad_goes_on unread (take (room - length unread) rest) bad),
-  )) refl s.told (omega (arith, s.inside)) (λ is. cc is) (λ is. cc is) tt
+    subst (IsBad g) (sym (take_past unread rest room (length unread) refl s.inside)) (bad_goes_on g unread (take (room - length unread) rest) bad),
+  )) refl tt s.told (omega (arith, s.inside)) (λ is. cc is) (λ is. cc is)
 
   -- a Section's title found no memory
-  wants : (new : List ℕ) → new ≡ unread → slice_get unread 0 ≡ Some 1 → Takes old new before now offset room (Err NoMemory)
-  wants new same first = ends_so new (Err NoMemory) (λ rest is. first_stays unread rest 1 first) tt (s.told ∙ ap (λ (l : List ℕ). prepend_known l now.left) (sym same)) (omega (arith, s.inside, ap length same))
-      (λ is. cc is) (λ is. cc is) tt
+  wants : (new : List ℕ) → new ≡ unread → slice_get unread 0 ≡ Some 1 → Takes g old new before now offset room (Err NoMemory)
+  wants new same first =
+      ends_so new (Err NoMemory) (λ rest is. first_stays unread rest 1 first) tt tt (s.told ∙ ap (λ (l : List ℕ). prepend_known l now.left) (sym same)) (omega (arith, s.inside, ap length same))
+      (λ is. cc is) (λ is. cc is)
 
   -- the frame at the front was taken off, or found no memory
-  pub takes_frame : (new : List ℕ) (n : ℕ) (result : Result (Option (Op × ℕ)) FrameFault) → IfOk result (λ given. TakesFrame given unread new n)
-      → IfErr result (λ e. (e ≡ NoMemory) × (new ≡ unread) × (slice_get unread 0 ≡ Some 1)) → Takes old new before now offset room (only_op result)
-  takes_frame new n (Ok found) ok err = gives new found n ok
-  takes_frame new n (Err e) ok err = subst (λ (fault : FrameFault). Takes old new before now offset room (Err fault)) (sym err.0) (wants new err.1 err.2)
+  pub takes_frame : (new : List ℕ) (n : ℕ) (result : Result (Option Taken) FrameFault) → n ≤ length unread → IsFrameOf g (take n unread) → TakesFrame unread new n result
+      → Takes g old new before now offset room result
+  takes_frame new n (Ok (Some taken)) whole f p = gives new taken n whole f p
+  takes_frame new n (Ok None) whole f p = absurd p
+  takes_frame new n (Err NoMemory) whole f p = wants new p.0 p.1
+  takes_frame new n (Err (BadFrame k)) whole f p = absurd p
+  takes_frame new n (Err (CutShort k)) whole f p = absurd p
+  takes_frame new n (Err ReadFault) whole f p = absurd p
+  takes_frame new n (Err TooLong) whole f p = absurd p
 
   -- the stream is over, and so are its frames, or it is over within one
-  pub over : (result : Result (Option (Op × ℕ)) FrameFault) → IsPartial unread → IfSome now.left (λ left. left ≡ [])
-      → IfOk result (λ given. (given ≡ None) × (unread ≡ [])) → IfErr result (λ e. (e ≡ CutShort offset) × (unread ≢ [])) → Takes old unread before now offset room (only_op result)
+  pub over : (result : Result (Option Taken) FrameFault) → IsPartial g unread → IfSome now.left (λ left. left ≡ []) → IfOk result (λ given. (given ≡ None) × (unread ≡ []))
+      → IfErr result (λ e. (e ≡ CutShort offset) × (unread ≢ [])) → Takes g old unread before now offset room result
   over (Ok None) front none is cut =
-      ends_so unread (Ok None) (λ rest left. (λ i. is.1 i ++ some_is (λ (l : List ℕ). l ≡ []) now.left rest none left i)) tt (is.1, none, s.told) (omega (arith, s.inside)) (λ is. cc is) (λ is. cc is) tt
-  over (Ok (Some found)) front none is cut = absurd (cc is.0)
-  over (Err e) front none is cut = subst (λ (fault : FrameFault). Takes old unread before now offset room (Err fault)) (sym cut.0) (ends_so unread (Err (CutShort offset)) (λ rest left.
+      ends_so unread (Ok None) (λ rest left. (λ i. is.1 i ++ some_is (λ (l : List ℕ). l ≡ []) now.left rest none left i)) tt tt (is.1, none, s.told) (omega (arith, s.inside)) (λ is. cc is) (λ is. cc is)
+  over (Ok (Some taken)) front none is cut = absurd (cc is.0)
+  over (Err e) front none is cut = subst (λ (fault : FrameFault). Takes g old unread before now offset room (Err fault)) (sym cut.0) (ends_so unread (Err (CutShort offset)) (λ rest left.
       let all : unread ≡ unread ++ rest = sym (append-nil unread) ∙ ap (λ (l : List ℕ). unread ++ l) (sym (some_is (λ (l : List ℕ). l ≡ []) now.left rest none left)) in
-      subst (ReadingAnswerIs (Err (CutShort offset)) offset room) all (refl, cut.1, s.inside, front)) refl (s.told, none) (omega (arith, s.inside)) (λ is. cc is) (λ is. cc is) tt)
+      subst (ReadingAnswerIs g (Err (CutShort offset)) offset room) all (refl, cut.1, s.inside, front)) refl tt (s.told, none) (omega (arith, s.inside)) (λ is. cc is) (λ is. cc is))
 
   more_there : (left : Option (List ℕ)) (rest : List ℕ) (byte : ℕ) → Some rest ≡ prepend_known (byte ∷ []) left → 0 < length rest
   more_there None rest byte is = absurd (cc is)
@@ -95,35 +118,35 @@ module _ (old unread : List ℕ) (before now : SourceView) (offset room : ℕ) (
   read_is_long e is long = cc (is, long)
 
   -- the source failed, or has more than the limit takes
-  pub stops : (new : List ℕ) (after : SourceView) (e : FrameFault) → IsPartial unread → Refills unread new now after (room - length unread) (Err e)
-      → Takes old new before after offset room (Err e)
+  pub stops : (new : List ℕ) (after : SourceView) (e : FrameFault) → IsPartial g unread → Refills unread new now after (room - length unread) (Err e)
+      → Takes g old new before after offset room (Err e)
   stops new after e front r = by_fault r.faults
     where
-      by_fault : (e ≡ ReadFault) × (after.left ≡ now.left) ⊎ (e ≡ TooLong) × (room - length unread ≡ 0) × Drops now.left after.left → Takes old new before after offset room (Err e)
-      by_fault (inl f) = subst (λ (fault : FrameFault). Takes old new before after offset room (Err fault)) (sym f.0) (record {
+      by_fault : (e ≡ ReadFault) × (after.left ≡ now.left) ⊎ (e ≡ TooLong) × (room - length unread ≡ 0) × Drops now.left after.left → Takes g old new before after offset room (Err e)
+      by_fault (inl f) = subst (λ (fault : FrameFault). Takes g old new before after offset room (Err fault)) (sym f.0) (record {
         answer = answer (Err ReadFault) (λ rest is. tt);
         at = tt;
+        first = tt;
         moves = s.told ∙ (λ i. prepend_known (sym r.kept i) (sym f.1 i));
         within = omega (arith, s.inside, ap length r.kept);
         full = λ is. absurd (cc is);
-        has_frame = tt;
         count = count_then _ s.count (count_so _ _ r.count (λ is. ap Err f.0) (λ is. refl));
       })
       by_fault (inr f) =
           let here : length unread ≡ room = omega (arith, s.inside, f.1) in
-          subst (λ (fault : FrameFault). Takes old new before after offset room (Err fault)) (sym f.0) (record {
+          subst (λ (fault : FrameFault). Takes g old new before after offset room (Err fault)) (sym f.0) (record {
             answer = answer (Err TooLong) (λ rest is. (
               omega (arith, here, more_there after.left rest f.2.byte (sym is ∙ f.2.dropped), length-append unread rest),
-              subst IsPartial (sym (take_at unread rest room here)) (front),
+              subst (IsPartial g) (sym (take_at unread rest room here)) (front),
             ));
             at = tt;
+            first = tt;
             moves = (
               f.2.byte,
               s.told ∙ ap (prepend_known unread) f.2.dropped ∙ prepend_twice unread (f.2.byte ∷ []) after.left ∙ ap (λ (l : List ℕ). prepend_known (l ++ f.2.byte ∷ []) after.left) (sym r.kept),
             );
             within = omega (arith, s.inside, ap length r.kept);
             full = λ is. omega (arith, here, ap length r.kept);
-            has_frame = tt;
             count = count_then _ s.count (count_so _ _ r.count (λ is. absurd (cc is)) (λ is. absurd (read_is_long e is f.0)));
           })
 
@@ -135,5 +158,5 @@ module _ (old unread : List ℕ) (before now : SourceView) (offset room : ℕ) (
     count = count_then ⊥ s.count (count_so _ ⊥ r.count (λ none. absurd none) (λ is. cc is));
   }
 
-pub front_short : (b : List ℕ) → IsPartial b → length b < 4096
-front_short b p = omega (arith, frame_short p.is_frame.op p.is_frame.has_frame, ap length p.is_frame.bytes_are, ap length p.front, length-append b p.more)
+pub front_short : (g : Grammar) (b : List ℕ) → IsPartial g b → length b < 4096
+front_short g b p = omega (arith, frame_short g p.framed p.is_frame, ap length p.front, length-append b p.more)

@@ -1,6 +1,7 @@
 -- What a stream comes to whose operations are taken in, from a state and within limits: how it ends, and what was taken in until then.
 use Rattle.std.specs.Prelude.{◌≡◌, ◌⊎◌, ℕ, ◌<◌, ◌≤◌, List, ◌∷◌, ◌++◌, length, take}
 use Rattle.fugue_ids.specs.declared.op.Op.{Op}
+use Rattle.origin_model.specs.declared.grammar.Grammar.{Grammar}
 use Rattle.origin_model.specs.frames.Frames.{End, Whole as EndsWhole, CutShort as EndsCutShort, BadFrame as EndsInBadFrame, Framed, Begins, Starts, Reads}
 use Rattle.origin_model.specs.taking.Taking.{Held, HasPlace, TooMany as AnswersTooMany, held_from, answer}
 
@@ -15,19 +16,19 @@ pub data IntakeCourse : Type 0 where
   TooMany : IntakeCourse
 
 -- the stream's frames end where it ends, or inside of one more
-abbrev pub EndsWell : List ℕ → List Op → Type 0
-EndsWell bytes ops = (end : End) × Reads bytes ops end × ((end ≡ EndsWhole) ⊎ ((offset : ℕ) × (end ≡ EndsCutShort offset)))
+abbrev pub EndsWell : Grammar → List ℕ → List Op → Type 0
+EndsWell grammar bytes ops = (end : End) × Reads grammar bytes ops end × ((end ≡ EndsWhole) ⊎ ((offset : ℕ) × (end ≡ EndsCutShort offset)))
 
 -- the next frame brings operations of which one finds no place; those before it in this frame are taken in
-pub record MeetsTooMany (hold most : ℕ) (start : Held) (bytes : List ℕ) (ops : List Op) : Type 0 where
+pub record MeetsTooMany (grammar : Grammar) (hold most : ℕ) (start : Held) (bytes : List ℕ) (ops : List Op) : Type 0 where
   -- the operations of the frames before
   pub earlier : List Op
   pub rest : List ℕ
-  pub starts : Starts bytes earlier rest
+  pub starts : Starts grammar bytes earlier rest
   -- the frame
   pub framed : Framed
   pub behind : List ℕ
-  pub begins : Begins rest framed behind
+  pub begins : Begins grammar rest framed behind
   -- its operations: those taken in, the one that finds no place, and those behind it
   pub front : List Op
   pub op : Op
@@ -37,13 +38,13 @@ pub record MeetsTooMany (hold most : ℕ) (start : Held) (bytes : List ℕ) (ops
   pub refused : answer hold most (held_from hold most start ops) op ≡ AnswersTooMany
 
 -- the bytes come to this end, and the operations were taken in before it
-abbrev pub Ends : (hold most : ℕ) (start : Held) (limit : ℕ) → List ℕ → List Op → IntakeCourse → Type 0
-Ends hold most start limit bytes ops Whole = (length bytes ≤ limit) × Reads bytes ops EndsWhole
-Ends hold most start limit bytes ops (CutShort offset) = (length bytes ≤ limit) × Reads bytes ops (EndsCutShort offset)
-Ends hold most start limit bytes ops (BadFrame offset) = Reads (take limit bytes) ops (EndsInBadFrame offset)
-Ends hold most start limit bytes ops TooLong = (limit < length bytes) × EndsWell (take limit bytes) ops
-Ends hold most start limit bytes ops TooMany = MeetsTooMany hold most start (take limit bytes) ops
+abbrev pub Ends : Grammar → (hold most : ℕ) (start : Held) (limit : ℕ) → List ℕ → List Op → IntakeCourse → Type 0
+Ends grammar hold most start limit bytes ops Whole = (length bytes ≤ limit) × Reads grammar bytes ops EndsWhole
+Ends grammar hold most start limit bytes ops (CutShort offset) = (length bytes ≤ limit) × Reads grammar bytes ops (EndsCutShort offset)
+Ends grammar hold most start limit bytes ops (BadFrame offset) = Reads grammar (take limit bytes) ops (EndsInBadFrame offset)
+Ends grammar hold most start limit bytes ops TooLong = (limit < length bytes) × EndsWell grammar (take limit bytes) ops
+Ends grammar hold most start limit bytes ops TooMany = MeetsTooMany grammar hold most start (take limit bytes) ops
 
-pub record Comes (hold most : ℕ) (start : Held) (limit : ℕ) (bytes : List ℕ) (ops : List Op) (course : IntakeCourse) : Type 0 where
+pub record Comes (grammar : Grammar) (hold most : ℕ) (start : Held) (limit : ℕ) (bytes : List ℕ) (ops : List Op) (course : IntakeCourse) : Type 0 where
   pub has_place : HasPlace hold most start ops
-  pub ends : Ends hold most start limit bytes ops course
+  pub ends : Ends grammar hold most start limit bytes ops course

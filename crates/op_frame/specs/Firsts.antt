@@ -1,6 +1,8 @@
 -- What the first frame of some bytes is, and what a whole frame says.
 use Rattle.std.specs.Prelude.{◌≡◌, ◌↔◌, ℕ, ◌≤◌, List, ◌∷◌, length, take, drop}
 use Rattle.fugue_ids.specs.declared.op.Op.{Op}
+use Rattle.origin_model.specs.declared.grammar.Grammar.{Grammar}
+use Rattle.origin_model.specs.declared.grammar.Grammar.TheVariants.{Version2}
 use Rattle.origin_model.specs.frames.Frames.{frame, Begins, HasFrame, IsBad, IsPartial}
 use Rattle.op_frame.specs.FrameFronts.{IsFrameOf, Then}
 use Rattle.op_frame.specs.declared.first.First.{First}
@@ -15,19 +17,19 @@ Carries first them n = ⊥
 
 -- a frame of n bytes with these operations is a front of the bytes
 abbrev pub FrameOf : List Op → ℕ → List ℕ → Type 0
-FrameOf ops n bytes = (n ≤ length bytes) × Begins bytes (record { bytes = take n bytes; ops = ops }) (drop n bytes)
+FrameOf ops n bytes = (n ≤ length bytes) × Begins Version2 bytes (record { bytes = take n bytes; ops = ops }) (drop n bytes)
 
 -- what stands at the front of the bytes: exactly one of the three
 pub record FirstIs (first : First) (bytes : List ℕ) : Type 0 where
   pub whole : (ops : List Op) (n : ℕ) → Carries first ops n ↔ FrameOf ops n bytes
-  pub partial : (first ≡ Prefix) ↔ IsPartial bytes
-  pub bad : (first ≡ Bad) ↔ IsBad bytes
+  pub partial : (first ≡ Prefix) ↔ IsPartial Version2 bytes
+  pub bad : (first ≡ Bad) ↔ IsBad Version2 bytes
 
 -- what stands there, before anything is read of it
-abbrev pub FrontIs : Front → List ℕ → Type 0
-FrontIs (FrameThere len) bytes = (len ≤ length bytes) × IsFrameOf (take len bytes)
-FrontIs PrefixThere bytes = IsPartial bytes
-FrontIs NoneThere bytes = IsBad bytes
+abbrev pub FrontIs : Front → Grammar → List ℕ → Type 0
+FrontIs (FrameThere len) grammar bytes = (len ≤ length bytes) × IsFrameOf grammar (take len bytes)
+FrontIs PrefixThere grammar bytes = IsPartial grammar bytes
+FrontIs NoneThere grammar bytes = IsBad grammar bytes
 
 -- a field, with anything behind it
 abbrev pub StartsWith : (List ℕ → Type 0) → List ℕ → Type 0

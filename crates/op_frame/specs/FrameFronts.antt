@@ -1,30 +1,38 @@
 -- What a frame still lacks behind some of its bytes.
-use Rattle.std.specs.Prelude.{◌≡◌, ◌↔◌, ℕ, zero, suc, ◌+◌, ◌*◌, ◌<◌, ◌≤◌, nat_lt, if◌then◌else◌, List, [], ◌∷◌, ◌++◌, length, false, Option}
+use Rattle.std.specs.Prelude.{◌≡◌, ◌↔◌, ℕ, zero, suc, ◌+◌, ◌-◌, ◌*◌, ◌^◌, ◌<◌, ◌≤◌, min, nat_lt, if◌then◌else◌, List, [], ◌∷◌, ◌++◌, length, false, Option}
 use Rattle.std.specs.Char.{IsScalar}
+use Rattle.std.specs.Int.{to_be_bytes, w16}
 use Rattle.std.specs.Str.{IsUtf8}
 use Rattle.fugue_ids.specs.Identifiers.{Identifier}
 use Rattle.fugue_ids.specs.Titles.{has_line_end}
 use Rattle.fugue_ids.specs.declared.limits.TheConstants.{LONGEST_TITLE}
 use Rattle.fugue_ids.specs.declared.op.Op.{Op}
-use Rattle.origin_model.specs.frames.Frames.{frame, id_bytes, origin_bytes, scalar_bytes, title_bytes, HasFrame, IsFrame, IsIdentifier, IsOrigin, IsPartial, IsTitle}
+use Rattle.origin_model.specs.declared.grammar.Grammar.{Grammar}
+use Rattle.origin_model.specs.frames.Frames.{id_bytes, item_bytes, origin_bytes, scalar_bytes, title_bytes, IsFrame, IsIdentifier, IsItem, IsOrigin, IsPartial, IsTitle, Item}
 use Rattle.op_frame.specs.declared.due.Due.{Due}
-use Rattle.op_frame.specs.declared.due.Due.TheVariants.{Kind, Fields}
+use Rattle.op_frame.specs.declared.due.Due.TheVariants.{Kind, Run, Fields}
 use Rattle.op_frame.specs.declared.due.Judged.{Judged}
 use Rattle.op_frame.specs.declared.due.Judged.TheVariants.{Done, Front, Bad}
 use Rattle.op_frame.specs.declared.due.Last.{Last}
-use Rattle.op_frame.specs.declared.due.Last.TheVariants.{Nothing, Scalar, Title, Text}
+use Rattle.op_frame.specs.declared.due.Last.TheVariants.{Nothing, Scalars, Count, Title, Text}
+use Rattle.op_frame.specs.declared.encoding.TheConstants.{LONGEST_RUN}
 use Rattle.op_frame.specs.declared.grown.Grown.{Grown}
 use Rattle.op_frame.specs.declared.grown.Grown.TheVariants.{Frame as IsWhole, Front as IsFront, Bad as IsNeither}
 
 -- the bytes are a frame
-abbrev pub IsFrameOf : List ℕ → Type 0
-IsFrameOf bytes = (ops : List Op) × IsFrame (record { bytes = bytes; ops = ops })
+abbrev pub IsFrameOf : Grammar → List ℕ → Type 0
+IsFrameOf grammar bytes = (ops : List Op) × IsFrame grammar (record { bytes = bytes; ops = ops })
 
 -- what the bytes are: a frame, a proper front of one, or neither
-abbrev pub IsGrown : Grown → List ℕ → Type 0
-IsGrown IsWhole bytes = IsFrameOf bytes
-IsGrown IsFront bytes = IsPartial bytes
-IsGrown IsNeither bytes = (IsFrameOf bytes → ⊥) × (IsPartial bytes → ⊥)
+abbrev pub IsGrown : Grown → Grammar → List ℕ → Type 0
+IsGrown IsWhole grammar bytes = IsFrameOf grammar bytes
+IsGrown IsFront grammar bytes = IsPartial grammar bytes
+IsGrown IsNeither grammar bytes = (IsFrameOf grammar bytes → ⊥) × (IsPartial grammar bytes → ⊥)
+
+-- the first bytes of a frame of a grammar
+pub record FrontBytes : Type 0 where
+  pub grammar : Grammar
+  pub bytes : List ℕ
 
 -- the bytes are those of a field, and then of what follows it
 abbrev pub Then : (List ℕ → Type 0) → (List ℕ → Type 0) → List ℕ → Type 0
@@ -36,45 +44,83 @@ IsIdentifierBytes bytes = (id : Identifier) × IsIdentifier id × (bytes ≡ id_
 abbrev pub IsOriginBytes : List ℕ → Type 0
 IsOriginBytes bytes = (origin : Option Identifier) × IsOrigin origin × (bytes ≡ origin_bytes origin)
 
+abbrev pub IsScalarBytes : List ℕ → Type 0
+IsScalarBytes bytes = (ch : ℕ) × IsScalar ch × (bytes ≡ scalar_bytes ch)
+
+abbrev pub IsNothing : List ℕ → Type 0
+IsNothing bytes = bytes ≡ []
+
 -- the text of a title, from one of its characters on
 abbrev pub IsTitleEnd : ℕ → List ℕ → Type 0
 IsTitleEnd len bytes = IsUtf8 bytes × (has_line_end bytes ≡ false) × (length bytes ≡ len)
-
--- the bytes of the last field
-abbrev pub IsLast : Last → List ℕ → Type 0
-IsLast Nothing bytes = bytes ≡ []
-IsLast Scalar bytes = (ch : ℕ) × IsScalar ch × (bytes ≡ scalar_bytes ch)
-IsLast Title bytes = (title : List ℕ) × IsTitle title × (bytes ≡ title_bytes title)
-IsLast (Text len) bytes = IsTitleEnd len bytes
 
 -- so many fields of one kind, and then what follows them
 abbrev pub Several : ℕ → (List ℕ → Type 0) → (List ℕ → Type 0) → List ℕ → Type 0
 Several zero Field Rest = Rest
 Several (suc n) Field Rest = Then Field (Several n Field Rest)
 
+-- how many scalars there are, at least two and at most so many, and these
+pub record IsCounted (most : ℕ) (bytes : List ℕ) : Type 0 where
+  pub count : ℕ
+  pub some : 2 ≤ count
+  pub few : count ≤ most
+  pub scalars : List ℕ
+  pub are_scalars : Several count IsScalarBytes IsNothing scalars
+  pub split : bytes ≡ to_be_bytes w16 count ++ scalars
+
+-- the bytes of the last field
+abbrev pub IsLast : Last → List ℕ → Type 0
+IsLast Nothing bytes = IsNothing bytes
+IsLast (Scalars n) bytes = Several n IsScalarBytes IsNothing bytes
+IsLast (Count most) bytes = IsCounted most bytes
+IsLast Title bytes = (title : List ℕ) × IsTitle title × (bytes ≡ title_bytes title)
+IsLast (Text len) bytes = IsTitleEnd len bytes
+
+abbrev pub AreFields : (identifiers origins : ℕ) → Last → List ℕ → Type 0
+AreFields identifiers origins last bytes = Several identifiers IsIdentifierBytes (Several origins IsOriginBytes (IsLast last)) bytes
+
+-- how many Texts a run can have that begins with this counter
+abbrev pub most_from : ℕ → ℕ
+most_from counter = min LONGEST_RUN (2 ^ 32 - counter)
+
+-- a run behind its first byte: its first identifier bounds how many Texts it has
+pub record IsRunBehind (bytes : List ℕ) : Type 0 where
+  pub id : Identifier
+  pub is_identifier : IsIdentifier id
+  pub rest : List ℕ
+  pub fields : AreFields 1 2 (Count (most_from id.counter)) rest
+  pub split : bytes ≡ id_bytes id ++ rest
+
 -- the bytes are what is due
 abbrev pub Completes : Due → List ℕ → Type 0
-Completes Kind bytes = (op : Op) × HasFrame op × (bytes ≡ frame op)
-Completes (Fields identifiers origins last) bytes = Several identifiers IsIdentifierBytes (Several origins IsOriginBytes (IsLast last)) bytes
+Completes (Kind grammar) bytes = (item : Item) × IsItem grammar item × (bytes ≡ item_bytes item)
+Completes Run bytes = IsRunBehind bytes
+Completes (Fields identifiers origins last) bytes = AreFields identifiers origins last bytes
 
--- a title's text that is due is not empty, and not too long
+-- there is something that the last field can be: a title's text is not empty and not too long, and there are some scalars and not too many
 abbrev pub IsSoundLast : Last → Type 0
 IsSoundLast (Text len) = (0 < len) × (len ≤ LONGEST_TITLE)
-IsSoundLast last = Unit {0}
+IsSoundLast (Scalars n) = 0 < n
+IsSoundLast (Count most) = (2 ≤ most) × (most ≤ LONGEST_RUN)
+IsSoundLast Title = Unit {0}
+IsSoundLast Nothing = Unit {0}
 
 abbrev pub IsSoundDue : Due → Type 0
-IsSoundDue Kind = Unit {0}
+IsSoundDue (Kind grammar) = Unit {0}
+IsSoundDue Run = Unit {0}
 IsSoundDue (Fields identifiers origins last) = IsSoundLast last
 
 -- how many bytes the field has that is due, or its first part
 abbrev pub last_size : Last → ℕ
 last_size Nothing = 1
-last_size Scalar = 3
+last_size (Scalars n) = 3
+last_size (Count most) = 2
 last_size Title = 2
 last_size (Text len) = len
 
 abbrev pub field_size : Due → ℕ
-field_size Kind = 1
+field_size (Kind grammar) = 1
+field_size Run = 8
 field_size (Fields (suc identifiers) origins last) = 8
 field_size (Fields zero (suc origins) last) = 1
 field_size (Fields zero zero last) = last_size last
@@ -113,9 +159,14 @@ abbrev pub text_due : ℕ → Due
 text_due zero = Fields 0 0 Nothing
 text_due (suc len) = Fields 0 0 (Text (suc len))
 
+-- so many scalars, or nothing
+abbrev pub scalars_due : ℕ → Due
+scalars_due zero = Fields 0 0 Nothing
+scalars_due (suc n) = Fields 0 0 (Scalars (suc n))
+
 -- behind these bytes, and so many of the field that is due, this makes a frame
-pub record Awaits (due : Due) (before : List ℕ) (came : ℕ) : Type 0 where
-  pub rest : (more : List ℕ) → IsFrameOf (before ++ more) ↔ Completes due more
+pub record Awaits (grammar : Grammar) (due : Due) (before : List ℕ) (came : ℕ) : Type 0 where
+  pub rest : (more : List ℕ) → IsFrameOf grammar (before ++ more) ↔ Completes due more
   pub short : came < field_size due
   pub sound : IsSoundDue due
 

@@ -34,7 +34,7 @@ pub record FramesAre : Type 0 where
   pub version_1 : (bytes : List ℕ) (ops : List Op) (end : End) → ((offset : ℕ) → end ≢ BadFrame offset) → Reads Version1 bytes ops end → Reads Version2 bytes ops end
 
 -- each stream comes to exactly one end
-pub record ComesOnce : Type 0 where
+pub record ComesOnce (grammar : Grammar) : Type 0 where
   pub one : (hold most : ℕ) (start : Held) (limit : ℕ) (bytes : List ℕ) (ops others : List Op) (course other : IntakeCourse)
-      → Comes hold most start limit bytes ops course → Comes hold most start limit bytes others other → (ops ≡ others) × (course ≡ other)
-  pub some : (hold most : ℕ) (start : Held) (limit : ℕ) (bytes : List ℕ) → (ops : List Op) × (course : IntakeCourse) × Comes hold most start limit bytes ops course
+      → Comes grammar hold most start limit bytes ops course → Comes grammar hold most start limit bytes others other → (ops ≡ others) × (course ≡ other)
+  pub some : (hold most : ℕ) (start : Held) (limit : ℕ) (bytes : List ℕ) → (ops : List Op) × (course : IntakeCourse) × Comes grammar hold most start limit bytes ops course

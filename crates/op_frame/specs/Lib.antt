@@ -8,3 +8,5 @@ pub mod Readers
 pub mod Steps
 pub mod Courses
 pub mod FrameFronts
+pub mod Heads
+pub mod Decoded

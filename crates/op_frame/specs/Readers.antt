@@ -1,51 +1,57 @@
 -- What a reader of frames holds, and what its answers mean.
-use Rattle.std.specs.Prelude.{◌≡◌, ◌≢◌, ◌↔◌, ℕ, ◌+◌, ◌-◌, ◌<◌, ◌≤◌, All, List, [], ◌∷◌, ◌++◌, length, take, flat_map, slice_get, Option, Some, None, Result, Ok, Err, IfSome, IfOk, IsErrOf}
+use Rattle.std.specs.Prelude.{◌≡◌, ◌≢◌, ◌↔◌, ℕ, ◌+◌, ◌-◌, ◌*◌, ◌<◌, ◌≤◌, All, List, [], ◌∷◌, ◌++◌, length, take, flat_map, slice_get, Option, Some, None, Result, Ok, Err, IfSome, IfOk, IsErrOf}
 use Rattle.std.specs.Io.KnownBytes.{prepend_known}
 use Rattle.fugue_ids.specs.declared.op.Op.{Op}
 use Rattle.outer_ports.specs.Sources.{SourceView}
-use Rattle.origin_model.specs.frames.Frames.{frame, HasFrame, Framed, IsFrame, IsPartial, IsBad, End, Whole, CutShort as EndsCutShort, BadFrame as EndsInBadFrame, Reads}
+use Rattle.origin_model.specs.declared.grammar.Grammar.{Grammar}
+use Rattle.origin_model.specs.frames.Frames.{Framed, IsFrame, IsPartial, IsBad, End, Whole, CutShort as EndsCutShort, BadFrame as EndsInBadFrame, Reads}
 use Rattle.op_frame.specs.declared.fault.FrameFault.{FrameFault}
 use Rattle.op_frame.specs.declared.fault.FrameFault.TheVariants.{BadFrame, CutShort, ReadFault, TooLong, NoMemory}
 use Rattle.op_frame.specs.Courses.{EndsWell}
 
 pub record FrameReading : Type 0 where
+  -- by which frames it reads
+  pub grammar : Grammar
   -- how many bytes the reader takes of its source in all
   pub limit : ℕ
-  -- the bytes taken and not yet given
+  -- the operations not yet given of the frame that was last read
+  pub todo : List Op
+  -- the bytes taken and not yet read
   pub unread : List ℕ
   -- the offset of the first of them
   pub offset : ℕ
-  -- the offset of the frame that was last given
+  -- the offset of the frame whose operation was last given
   pub last : ℕ
   -- the fault that is answered for good
   pub fault : Option FrameFault
 
--- the bytes that are still to be given, where they are told
+-- a reader that took nothing yet
+abbrev pub fresh_reading : Grammar → ℕ → FrameReading
+fresh_reading grammar limit = record { grammar = grammar; limit = limit; todo = []; unread = []; offset = 0; last = 0; fault = None }
+
+-- the bytes that are still to be read, where they are told
 abbrev pub to_give : FrameReading → Option (List ℕ) → Option (List ℕ)
 to_give r left = prepend_known r.unread left
 
--- an operation's frame is a front of the bytes, whole within the first `room`
-pub record StartsWithin (op : Op) (room : ℕ) (bytes : List ℕ) : Type 0 where
-  pub has_frame : HasFrame op
-  pub within : length (frame op) ≤ room
+-- a frame is a front of the bytes, whole within the first `room`, and this is its first operation
+pub record StartsWithin (grammar : Grammar) (op : Op) (room : ℕ) (bytes : List ℕ) : Type 0 where
+  pub framed : Framed
+  pub is_frame : IsFrame grammar framed
+  pub others : List Op
+  pub first : framed.ops ≡ op ∷ others
+  pub within : length framed.bytes ≤ room
   pub rest : List ℕ
-  pub split : bytes ≡ frame op ++ rest
+  pub split : bytes ≡ framed.bytes ++ rest
 
--- the length of the frame that an answer takes
-abbrev pub given_length : Result (Option Op) FrameFault → ℕ
-given_length (Ok (Some op)) = length (frame op)
-given_length (Ok None) = 0
-given_length (Err e) = 0
-
--- where which answer comes, by the offset of the first unread byte, what the limit leaves from there on, and the bytes to give
-abbrev pub ReadingAnswerIs : Result (Option Op) FrameFault → (offset room : ℕ) → List ℕ → Type 0
-ReadingAnswerIs (Ok (Some op)) offset room bytes = StartsWithin op room bytes
-ReadingAnswerIs (Ok None) offset room bytes = bytes ≡ []
-ReadingAnswerIs (Err (BadFrame k)) offset room bytes = (k ≡ offset) × IsBad (take room bytes)
-ReadingAnswerIs (Err (CutShort k)) offset room bytes = (k ≡ offset) × (bytes ≢ []) × (length bytes ≤ room) × IsPartial bytes
-ReadingAnswerIs (Err TooLong) offset room bytes = (room < length bytes) × IsPartial (take room bytes)
-ReadingAnswerIs (Err ReadFault) offset room bytes = Unit {0}
-ReadingAnswerIs (Err NoMemory) offset room bytes = slice_get bytes 0 ≡ Some 1
+-- where which answer comes with no operation held back, by the offset of the first unread byte, what the limit leaves from there on, and the bytes to read
+abbrev pub ReadingAnswerIs : Grammar → Result (Option Op) FrameFault → (offset room : ℕ) → List ℕ → Type 0
+ReadingAnswerIs grammar (Ok (Some op)) offset room bytes = StartsWithin grammar op room bytes
+ReadingAnswerIs grammar (Ok None) offset room bytes = bytes ≡ []
+ReadingAnswerIs grammar (Err (BadFrame k)) offset room bytes = (k ≡ offset) × IsBad grammar (take room bytes)
+ReadingAnswerIs grammar (Err (CutShort k)) offset room bytes = (k ≡ offset) × (bytes ≢ []) × (length bytes ≤ room) × IsPartial grammar bytes
+ReadingAnswerIs grammar (Err TooLong) offset room bytes = (room < length bytes) × IsPartial grammar (take room bytes)
+ReadingAnswerIs grammar (Err ReadFault) offset room bytes = Unit {0}
+ReadingAnswerIs grammar (Err NoMemory) offset room bytes = slice_get bytes 0 ≡ Some 1
 
 -- the bytes decide such an answer: it is no fault of the source, and no want of memory
 abbrev pub IsReadByBytes : Result (Option Op) FrameFault → Type 0
@@ -53,9 +59,9 @@ IsReadByBytes (Err ReadFault) = ⊥
 IsReadByBytes (Err NoMemory) = ⊥
 IsReadByBytes result = Unit {0}
 
--- each answer comes exactly where the bytes to give say so, but for a fault of the source and want of memory
-pub record AnswersBy (result : Result (Option Op) FrameFault) (offset room : ℕ) (bytes : List ℕ) : Type 0 where
-  pub exactly : IsReadByBytes result → (answer : Result (Option Op) FrameFault) → IsReadByBytes answer → (result ≡ answer) ↔ ReadingAnswerIs answer offset room bytes
+-- each answer comes exactly where the bytes to read say so, but for a fault of the source and want of memory
+pub record AnswersBy (grammar : Grammar) (result : Result (Option Op) FrameFault) (offset room : ℕ) (bytes : List ℕ) : Type 0 where
+  pub exactly : IsReadByBytes result → (answer : Result (Option Op) FrameFault) → IsReadByBytes answer → (result ≡ answer) ↔ ReadingAnswerIs grammar answer offset room bytes
   pub memory : IsErrOf result NoMemory → slice_get bytes 0 ≡ Some 1
 
 -- the offset that a fault carries
@@ -72,19 +78,33 @@ kept_fault (CutShort k) = Some (CutShort k)
 kept_fault ReadFault = Some ReadFault
 kept_fault TooLong = Some TooLong
 
--- what an answer did to the unread bytes and to those that the source has left
+-- what an answer that is no operation did to the unread bytes and to those that the source has left
 abbrev pub Moves : Result (Option Op) FrameFault → (old new : List ℕ) → (before after : Option (List ℕ)) → Type 0
-Moves (Ok (Some op)) old new before after = prepend_known old before ≡ prepend_known (frame op) (prepend_known new after)
+Moves (Ok (Some op)) old new before after = Unit {0}
 Moves (Ok None) old new before after = (new ≡ []) × IfSome after (λ left. left ≡ []) × (prepend_known old before ≡ prepend_known new after)
 Moves (Err (CutShort k)) old new before after = (prepend_known old before ≡ prepend_known new after) × IfSome after (λ left. left ≡ [])
 Moves (Err TooLong) old new before after = (byte : ℕ) × (prepend_known old before ≡ prepend_known (new ++ byte ∷ []) after)
 Moves (Err e) old new before after = prepend_known old before ≡ prepend_known new after
 
--- the offset of the frame that was last given
-abbrev pub last_after : FrameReading → Result (Option Op) FrameFault → ℕ
-last_after old (Ok (Some op)) = old.offset
-last_after old (Ok None) = old.last
-last_after old (Err e) = old.last
+-- An operation is given: the first of those held back, or the first of the frame that is read, whose others are held
+-- back from then on.
+pub data Gives (op : Op) (old new : FrameReading) (before after : Option (List ℕ)) : Type 0 where
+  held : old.todo ≡ op ∷ new.todo → new.unread ≡ old.unread → new.offset ≡ old.offset → new.last ≡ old.last → after ≡ before → Gives op old new before after
+  read : old.todo ≡ [] → (framed : Framed) → IsFrame old.grammar framed → framed.ops ≡ op ∷ new.todo → to_give old before ≡ prepend_known framed.bytes (to_give new after)
+      → new.offset ≡ old.offset + length framed.bytes → new.last ≡ old.offset → Gives op old new before after
+
+-- no operation is held back, and the reader stands where it stood
+pub record Stays (old new : FrameReading) : Type 0 where
+  pub none_before : old.todo ≡ []
+  pub none_after : new.todo ≡ []
+  pub offset : new.offset ≡ old.offset
+  pub last : new.last ≡ old.last
+
+-- an answer that is no operation comes with none held back, and leaves the reader where it stood
+abbrev pub StaysWith : Result (Option Op) FrameFault → (old new : FrameReading) → Type 0
+StaysWith (Ok (Some op)) old new = Unit {0}
+StaysWith (Ok None) old new = Stays old new
+StaysWith (Err e) old new = Stays old new
 
 -- the fault that is kept
 abbrev pub fault_after : Result (Option Op) FrameFault → Option FrameFault
@@ -93,27 +113,76 @@ fault_after (Err e) = kept_fault e
 
 -- what a call of `next` did to the reader, where no fault was kept
 pub record Advances (old new : FrameReading) (result : Result (Option Op) FrameFault) : Type 0 where
-  pub offset : new.offset ≡ old.offset + given_length result
-  pub last : new.last ≡ last_after old result
+  pub grammar : new.grammar ≡ old.grammar
   pub limit : new.limit ≡ old.limit
   pub inside : old.offset + length old.unread ≤ old.limit
   pub within : new.offset + length new.unread ≤ new.limit
   pub full : IsErrOf result TooLong → new.offset + length new.unread ≡ new.limit
+  pub stays : StaysWith result old new
   pub fault : new.fault ≡ fault_after result
+
+-- the place, less three for each operation held back, rises by three at least
+abbrev pub Rises : FrameReading → FrameReading → Type 0
+Rises old new = old.offset + 3 * length new.todo + 3 ≤ new.offset + 3 * length old.todo
 
 -- one call of `next` where no fault was kept
 pub record Nexts (old new : FrameReading) (before after : SourceView) (result : Result (Option Op) FrameFault) : Type 0 where
-  pub answer : IfSome (to_give old before.left) (AnswersBy result old.offset (old.limit - old.offset))
+  pub answer : old.todo ≡ [] → IfSome (to_give old before.left) (AnswersBy old.grammar result old.offset (old.limit - old.offset))
   pub at : CarriesOffset result old.offset
+  pub gives : IfOk result (λ given. IfSome given (λ op. Gives op old new before.left after.left))
   pub moves : Moves result old.unread new.unread before.left after.left
-  pub has_frame : IfOk result (λ given. IfSome given HasFrame)
   pub advances : Advances old new result
 
--- of the bytes that were told the reader gave these operations, those of the frames at the front, and it stands behind these frames
+-- the end of bytes behind a front of so many
+abbrev pub raised : ℕ → End → End
+raised n Whole = Whole
+raised n (EndsCutShort k) = EndsCutShort (n + k)
+raised n (EndsInBadFrame k) = EndsInBadFrame (n + k)
+
+-- of these bytes to read, the operations still to be given are these, those held back first, and the bytes end so
+pub record HasTodo (r : FrameReading) (bytes : List ℕ) (todo : List Op) (end : End) : Type 0 where
+  pub behind : List Op
+  pub reads : Reads r.grammar bytes behind end
+  pub todo_is : todo ≡ r.todo ++ behind
+
+-- The operation was the first still to be given. Afterwards the rest are, and the end is the same, but for the bytes
+-- that were read.
+pub record GaveFirst (op : Op) (old new : FrameReading) (left : Option (List ℕ)) (bytes : List ℕ) : Type 0 where
+  -- the bytes that were read, and those behind them
+  pub front : List ℕ
+  pub rest : List ℕ
+  pub split : bytes ≡ front ++ rest
+  pub to_give_is : to_give new left ≡ Some rest
+  pub first : (todo : List Op) (end : End) → HasTodo old bytes todo end → (later : List Op) (ends : End) → HasTodo new rest later ends → (todo ≡ op ∷ later) × (end ≡ raised (length front) ends)
+
+-- the answer by the operations still to be given and the end of the bytes, at a place
+abbrev pub answer_at : ℕ → List Op → End → Result (Option Op) FrameFault
+answer_at offset (op ∷ later) end = Ok (Some op)
+answer_at offset [] Whole = Ok None
+answer_at offset [] (EndsCutShort k) = Err (CutShort (offset + k))
+answer_at offset [] (EndsInBadFrame k) = Err (BadFrame (offset + k))
+
+-- the reading decides such an answer: it is no fault of the source, no want of memory, and within the limit
+abbrev pub IsByReading : Result (Option Op) FrameFault → Type 0
+IsByReading (Err ReadFault) = ⊥
+IsByReading (Err NoMemory) = ⊥
+IsByReading (Err TooLong) = ⊥
+IsByReading result = Unit {0}
+
+-- what one call of `next`, where no fault was kept, says of all that is still to be given
+pub record GivesInOrder (old new : FrameReading) (before after : SourceView) (result : Result (Option Op) FrameFault) : Type 0 where
+  pub first : IfOk result (λ given. IfSome given (λ op. IfSome (to_give old before.left) (GaveFirst op old new after.left)))
+  pub rises : IfOk result (λ given. IfSome given (λ op. Rises old new))
+  pub exactly : IsByReading result → IfSome (to_give old before.left) (λ bytes. (todo : List Op) (end : End) → HasTodo old bytes todo end → result ≡ answer_at old.offset todo end)
+  pub over : result ≡ Ok None → IfSome after.left (λ left. left ≡ [])
+  pub memory : IsErrOf result NoMemory → (old.todo ≡ []) × IfSome (to_give old before.left) (λ bytes. slice_get bytes 0 ≡ Some 1)
+
+-- Of the bytes that were told the reader gave these operations. With those held back they are those of the frames at
+-- the front, and it stands behind these frames.
 pub record Gave (told : Option (List ℕ)) (ops : List Op) (reader : FrameReading) (left : Option (List ℕ)) : Type 0 where
   pub found : List Framed
-  pub are_frames : All IsFrame found
-  pub ops_are : ops ≡ flat_map (λ framed. framed.ops) found
+  pub are_frames : All (IsFrame reader.grammar) found
+  pub ops_are : ops ++ reader.todo ≡ flat_map (λ framed. framed.ops) found
   pub split : told ≡ prepend_known (flat_map (λ framed. framed.bytes) found) (to_give reader left)
   pub offset : reader.offset ≡ length (flat_map (λ framed. framed.bytes) found)
 
@@ -123,22 +192,22 @@ given_with ops (Ok (Some op)) = ops ++ op ∷ []
 given_with ops result = ops
 
 -- the operations are the first ones of the bytes' reading
-abbrev pub AreFirst : List Op → List ℕ → Type 0
-AreFirst ops bytes = (all : List Op) (end : End) → Reads bytes all end → (more : List Op) × (all ≡ ops ++ more)
+abbrev pub AreFirst : Grammar → List Op → List ℕ → Type 0
+AreFirst grammar ops bytes = (all : List Op) (end : End) → Reads grammar bytes all end → (more : List Op) × (all ≡ ops ++ more)
 
 -- how the bytes are read whose operations were given, by the answer behind these
-abbrev pub EndsBy : (limit : ℕ) (ops : List Op) → Result (Option Op) FrameFault → List ℕ → Type 0
-EndsBy limit ops (Ok None) bytes = (length bytes ≤ limit) × Reads bytes ops Whole
-EndsBy limit ops (Err (CutShort k)) bytes = (length bytes ≤ limit) × Reads bytes ops (EndsCutShort k)
-EndsBy limit ops (Err (BadFrame k)) bytes = Reads (take limit bytes) ops (EndsInBadFrame k) × Reads bytes ops (EndsInBadFrame k)
-EndsBy limit ops (Err TooLong) bytes = (limit < length bytes) × EndsWell (take limit bytes) ops
-EndsBy limit ops result bytes = Unit {0}
+abbrev pub EndsBy : Grammar → (limit : ℕ) (ops : List Op) → Result (Option Op) FrameFault → List ℕ → Type 0
+EndsBy grammar limit ops (Ok None) bytes = (length bytes ≤ limit) × Reads grammar bytes ops Whole
+EndsBy grammar limit ops (Err (CutShort k)) bytes = (length bytes ≤ limit) × Reads grammar bytes ops (EndsCutShort k)
+EndsBy grammar limit ops (Err (BadFrame k)) bytes = Reads grammar (take limit bytes) ops (EndsInBadFrame k) × Reads grammar bytes ops (EndsInBadFrame k)
+EndsBy grammar limit ops (Err TooLong) bytes = (limit < length bytes) × EndsWell grammar (take limit bytes) ops
+EndsBy grammar limit ops result bytes = Unit {0}
 
 -- what an answer adds, behind operations that were given of the bytes that were told
 pub record Follows (told : Option (List ℕ)) (ops : List Op) (old new : FrameReading) (after : SourceView) (result : Result (Option Op) FrameFault) : Type 0 where
   pub gave : (IsErrOf result TooLong → ⊥) → Gave told (given_with ops result) new after.left
-  pub first : IfSome told (AreFirst (given_with ops result))
-  pub ends : IfSome told (EndsBy old.limit ops result)
+  pub first : IfSome told (AreFirst old.grammar (given_with ops result))
+  pub ends : IfSome told (EndsBy old.grammar old.limit ops result)
 
 -- the chain of a reader's answers
 abbrev pub Chains : (old new : FrameReading) (before after : SourceView) → Result (Option Op) FrameFault → Type 0

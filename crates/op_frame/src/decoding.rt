@@ -1,23 +1,22 @@
-ghost use Rattle.std.specs.Prelude.{◌≡◌, ◌++◌, [], ◌∷◌, slice_get, IfOk, IsErr, Some};
-ghost use Rattle.std.specs.Char.{IsScalar};
-ghost use Rattle.origin_model.specs.frames.Frames.{IsFrame, IsIdentifier, IsOrigin, IsTitle, id_bytes, origin_bytes};
-ghost use Rattle.origin_model.specs.frames.Frames.{scalar_bytes, title_bytes};
-ghost use Rattle.op_frame.specs.Firsts.{IsFrameBehind, StartsWith};
-ghost use Rattle.op_frame.specs.FrameFronts.{Completes, IsFrameOf, IsIdentifierBytes, IsLast, IsOriginBytes};
+ghost use Rattle.std.specs.Prelude.{◌≡◌, ◌∷◌, [], slice_get, IfOk, IsErr, Some};
+ghost use Rattle.origin_model.specs.frames.Frames.{IsFrame, IsTitle, title_bytes};
+ghost use Rattle.origin_model.specs.declared.grammar.Grammar.TheVariants.{Version1 as Singles};
+ghost use Rattle.op_frame.specs.Firsts.{IsFrameBehind};
+ghost use Rattle.op_frame.specs.FrameFronts.{Completes, IsFrameOf, IsLast};
 ghost use Rattle.op_frame.specs.declared.due.Due.TheVariants.{Fields as FieldsDue};
-ghost use Rattle.op_frame.specs.declared.due.Last.TheVariants.{Nothing as NothingLast, Scalar as ScalarLast};
+ghost use Rattle.op_frame.specs.declared.due.Last.TheVariants.{Nothing as NothingLast, Scalars as ScalarsLast};
 ghost use Rattle.op_frame.specs.declared.due.Last.TheVariants.{Title as TitleLast};
 
-use crate::number::{number, scalar_of};
+use crate::fields::{Fields, first_scalar};
 use crate::protocol::{DELETE, SECTION, TEXT};
-use fugue_ids::{ElementId, NoMemory, Op, Title, TitleFault};
+use fugue_ids::{NoMemory, Op, Title, TitleFault};
 use std::alloc::Global;
 use std::str;
 
-/// The operation of a whole frame. Memory goes to a title alone.
+/// The operation of a whole frame that is no run's. Memory goes to a title alone.
 pub fn decode(alloc: Global, frame: &[u8]) -> Result<Op, NoMemory>
-    requires { IsFrameOf frame.now }
-    ensures ok { IfOk result (λ op. IsFrame (record { bytes = frame.now; ops = op ∷ [] })) }
+    requires { IsFrameOf Singles frame.now }
+    ensures ok { IfOk result (λ op. IsFrame Singles (record { bytes = frame.now; ops = op ∷ [] })) }
     ensures err { IsErr result → slice_get frame.now 0 ≡ Some SECTION }
 {
     let rest = &frame[1..];
@@ -49,7 +48,7 @@ fn section(alloc: Global, rest: &[u8]) -> Result<Op, NoMemory>
 }
 
 fn text(rest: &[u8]) -> Op
-    requires { Completes (FieldsDue 2 2 ScalarLast) rest.now }
+    requires { Completes (FieldsDue 2 2 (ScalarsLast 1)) rest.now }
     ensures { IsFrameBehind TEXT result rest.now }
 {
     let mut fields = Fields { rest };
@@ -57,7 +56,7 @@ fn text(rest: &[u8]) -> Op
     let section = fields.identifier();
     let left = fields.origin();
     let right = fields.origin();
-    let ch = scalar(fields.rest);
+    let ch = first_scalar(fields.rest);
     Op::Text {
         ch,
         id,
@@ -75,50 +74,6 @@ fn delete(rest: &[u8]) -> Op
     Op::Delete {
         target: fields.identifier(),
     }
-}
-
-/// Takes fields that are there off the front of bytes.
-#[derive(Drop)]
-struct Fields<'a> {
-    rest: &'a [u8],
-}
-
-impl<'a> Fields<'a> {
-    fn identifier(&mut self) -> ElementId
-        requires { StartsWith IsIdentifierBytes self.old.rest.now }
-        ensures split { self.old.rest.now ≡ id_bytes result ++ self.new.rest.now }
-        ensures is { IsIdentifier result }
-    {
-        let replica = number(self.rest);
-        let counter = number(&self.rest[4..]);
-        self.rest = &self.rest[8..];
-        ElementId { replica, counter }
-    }
-
-    fn origin(&mut self) -> Option<ElementId>
-        requires { StartsWith IsOriginBytes self.old.rest.now }
-        ensures split { self.old.rest.now ≡ origin_bytes result ++ self.new.rest.now }
-        ensures is { IsOrigin result }
-    {
-        let tag = self.rest[0];
-        self.rest = &self.rest[1..];
-        if tag == 0 {
-            return None;
-        }
-        Some(self.identifier())
-    }
-}
-
-/// The scalar in these three bytes.
-fn scalar(bytes: &[u8]) -> char
-    requires { IsLast ScalarLast bytes.now }
-    ensures split { bytes.now ≡ scalar_bytes result }
-    ensures is { IsScalar result }
-{
-    let Some(ch) = scalar_of(bytes[0], bytes[1], bytes[2]) else {
-        unreachable!()
-    };
-    ch
 }
 
 /// The title whose text stands behind the first two bytes.

@@ -1,7 +1,11 @@
-/// What a frame still lacks: all of it, or so many identifiers, then so many origins, and then its last field.
+use origin_model::Grammar;
+
+/// What a frame still lacks: all of it, a run behind its first byte, or so many identifiers, then so many origins, and
+/// then its last field.
 #[derive(Clone, Copy)]
 pub(crate) enum Due {
-    Kind,
+    Kind(Grammar),
+    Run,
     Fields(u8, u8, Last),
 }
 
@@ -9,7 +13,10 @@ pub(crate) enum Due {
 #[derive(Clone, Copy)]
 pub(crate) enum Last {
     Nothing,
-    Scalar,
+    /// So many scalars.
+    Scalars(usize),
+    /// How many scalars, at most so many, and these.
+    Count(usize),
     Title,
     /// The text of a title, of which so many bytes are due.
     Text(usize),

@@ -1,9 +1,13 @@
 ghost use Rattle.std.specs.Prelude.{IfOk};
+ghost use Rattle.origin_model.specs.frames.Frames.{IsFrame};
+ghost use Rattle.origin_model.specs.declared.grammar.Grammar.TheVariants.{Version2 as WithRuns};
 ghost use Rattle.op_frame.specs.Firsts.{FirstIs};
+ghost use Rattle.op_frame.specs.FrameFronts.{IsFrameOf};
 
-use crate::decoding::decode;
+use crate::frame_ops::FrameOps;
 use crate::front::{Front, front_of};
 use fugue_ids::{NoMemory, Op};
+use origin_model::Grammar;
 use std::alloc::Global;
 
 /// What stands at the front of some bytes.
@@ -21,13 +25,22 @@ pub enum First {
 pub fn first_frame(alloc: Global, bytes: &[u8]) -> Result<First, NoMemory>
     ensures { IfOk result (λ first. FirstIs first bytes.now) }
 {
-    match front_of(bytes) {
-        Front::Frame(len) => {
-            let mut ops = Vec::new(alloc);
-            ops.push(decode(alloc, &bytes[..len])?)?;
-            Ok(First::Whole(ops, len))
-        }
+    match front_of(Grammar::Version2, bytes) {
+        Front::Frame(len) => Ok(First::Whole(all_ops(alloc, &bytes[..len])?, len)),
         Front::Prefix => Ok(First::Prefix),
         Front::Bad => Ok(First::Bad),
     }
+}
+
+/// The operations of a whole frame.
+fn all_ops(alloc: Global, frame: &[u8]) -> Result<Vec<Op>, NoMemory>
+    requires { IsFrameOf WithRuns frame.now }
+    ensures { IfOk result (λ ops. IsFrame WithRuns (record { bytes = frame.now; ops = ops.items })) }
+{
+    let mut rest = FrameOps::new(alloc, frame)?;
+    let mut ops = Vec::new(alloc);
+    'ops: while let Some(op) = rest.next() {
+        ops.push(op)?;
+    }
+    Ok(ops)
 }

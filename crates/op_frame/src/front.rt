@@ -2,6 +2,7 @@ ghost use Rattle.op_frame.specs.Firsts.{FrontIs};
 
 use crate::due::{Due, Judged};
 use crate::judge::{field_size, is_whole, judge};
+use origin_model::Grammar;
 
 /// What stands at the front of some bytes.
 #[derive(Clone, Copy)]
@@ -15,10 +16,10 @@ pub(crate) enum Front {
 }
 
 /// What stands at the front of the bytes, which are looked at field by field.
-pub(crate) fn front_of(bytes: &[u8]) -> Front
-    ensures { FrontIs result bytes.now }
+pub(crate) fn front_of(grammar: Grammar, bytes: &[u8]) -> Front
+    ensures { FrontIs result grammar bytes.now }
 {
-    let mut due = Due::Kind;
+    let mut due = Due::Kind(grammar);
     let mut at = 0;
     'fields: loop {
         if is_whole(due) {

@@ -2,21 +2,23 @@ ghost use Rattle.std.specs.Prelude.{◌≡◌, ◌≤◌, ◌<◌, length, [], �
 ghost use Rattle.op_frame.specs.FrameFronts.{IsJudged, IsSoundDue, field_size as due_size, grown_by as by_due};
 ghost use Rattle.op_frame.specs.FrameFronts.{last_size as due_last_size};
 ghost use Rattle.op_frame.specs.declared.due.Due.TheVariants.{Fields as FieldsDue, Kind as KindDue};
-ghost use Rattle.op_frame.specs.declared.due.Last.TheVariants.{Scalar as ScalarLast};
 ghost use Rattle.op_frame.specs.declared.grown.Grown.TheVariants.{Frame as WholeGrown, Front as FrontGrown};
 
 use crate::due::{Due, Judged, Last};
 use crate::grown::Grown;
-use crate::number::{byte_or_0, number, scalar_of};
-use crate::protocol::{DELETE, SECTION, TEXT};
+use crate::number::number;
+use crate::protocol::{DELETE, RUN, SECTION, TEXT};
+use crate::run_fields::{judge_count, judge_first, judge_scalar};
 use crate::title::{judge_text, judge_title};
+use origin_model::Grammar;
 
 /// How many bytes the field has that is due, or its first part.
 pub(crate) fn field_size(due: Due) -> usize
     ensures { result ≡ due_size due }
 {
     match due {
-        Due::Kind => 1,
+        Due::Kind(_) => 1,
+        Due::Run => 8,
         Due::Fields(identifiers, origins, last) => {
             if identifiers > 0 {
                 return 8;
@@ -34,7 +36,8 @@ fn last_size(last: Last) -> usize
 {
     match last {
         Last::Nothing => 1,
-        Last::Scalar => 3,
+        Last::Scalars(_) => 3,
+        Last::Count(_) => 2,
         Last::Title => 2,
         Last::Text(len) => len,
     }
@@ -70,7 +73,8 @@ pub(crate) fn judge(due: Due, bytes: &[u8]) -> Judged
     ensures { IsJudged result due bytes.now }
 {
     match due {
-        Due::Kind => judge_kind(bytes[0]),
+        Due::Kind(grammar) => judge_kind(grammar, bytes[0]),
+        Due::Run => judge_first(bytes),
         Due::Fields(identifiers, origins, last) => {
             if identifiers > 0 {
                 return judge_identifier(identifiers, origins, last, bytes);
@@ -84,13 +88,17 @@ pub(crate) fn judge(due: Due, bytes: &[u8]) -> Judged
 }
 
 /// The fields of a frame, by its first byte.
-fn judge_kind(kind: u8) -> Judged
-    ensures { IsJudged result KindDue (kind ∷ []) }
+fn judge_kind(grammar: Grammar, kind: u8) -> Judged
+    ensures { IsJudged result (KindDue grammar) (kind ∷ []) }
 {
     match kind {
         SECTION => Judged::Done(Due::Fields(1, 2, Last::Title)),
-        TEXT => Judged::Done(Due::Fields(2, 2, Last::Scalar)),
+        TEXT => Judged::Done(Due::Fields(2, 2, Last::Scalars(1))),
         DELETE => Judged::Done(Due::Fields(1, 0, Last::Nothing)),
+        RUN => match grammar {
+            Grammar::Version1 => Judged::Bad,
+            Grammar::Version2 => Judged::Done(Due::Run),
+        },
         _ => Judged::Bad,
     }
 }
@@ -135,23 +143,9 @@ fn judge_last(last: Last, bytes: &[u8]) -> Judged
 {
     match last {
         Last::Nothing => Judged::Bad,
-        Last::Scalar => judge_scalar(bytes),
+        Last::Scalars(count) => judge_scalar(count, bytes),
+        Last::Count(most) => judge_count(most, bytes),
         Last::Title => judge_title(bytes),
         Last::Text(len) => judge_text(len, bytes),
     }
-}
-
-/// Fewer than three bytes begin a scalar exactly where they do so with zeros behind them.
-fn judge_scalar(bytes: &[u8]) -> Judged
-    requires some { 0 < length bytes.now }
-    requires short { length bytes.now ≤ 3 }
-    ensures { IsJudged result (FieldsDue 0 0 ScalarLast) bytes.now }
-{
-    if scalar_of(bytes[0], byte_or_0(bytes, 1), byte_or_0(bytes, 2)).is_none() {
-        return Judged::Bad;
-    }
-    if bytes.len() < 3 {
-        return Judged::Front;
-    }
-    Judged::Done(Due::Fields(0, 0, Last::Nothing))
 }

@@ -20,5 +20,6 @@ pub fn frames_are()
 
 /// Each stream comes to exactly one end, from any state and within any limits.
 pub fn comes_once()
-    ensures { ComesOnce }
+    ensures version_1 { ComesOnce Version1 }
+    ensures version_2 { ComesOnce Version2 }
 {}

@@ -1,5 +1,5 @@
-ghost use Rattle.std.specs.Prelude.{◌≡◌, ◌≤◌, ◌++◌, length, drop, get_or, SomeIff};
-ghost use Rattle.std.specs.Int.{to_be_bytes, w32};
+ghost use Rattle.std.specs.Prelude.{◌≡◌, ◌≤◌, ◌<◌, ◌++◌, ◌∷◌, [], length, drop, get_or, SomeIff};
+ghost use Rattle.std.specs.Int.{to_be_bytes, w16, w32};
 ghost use Rattle.std.specs.Char.{IsScalar};
 ghost use Rattle.op_frame.specs.FrameFronts.{scalar_of_bytes};
 
@@ -12,6 +12,14 @@ pub(crate) fn number(bytes: &[u8]) -> u32
         [a, b, c, d, ..] => u32::from_be_bytes([*a, *b, *c, *d]),
         _ => unreachable!(),
     }
+}
+
+/// The number in these two bytes.
+pub(crate) fn short_number(high: u8, low: u8) -> usize
+    ensures bytes { to_be_bytes w16 result ≡ high ∷ low ∷ [] }
+    ensures small { result < 65536 }
+{
+    u16::from_be_bytes([high, low]) as usize
 }
 
 /// The scalar that has these three bytes.

@@ -1,34 +1,44 @@
-ghost use Rattle.std.specs.Prelude.{◌≡◌, ◌≤◌, ◌<◌, ◌≢◌, length, take, [], None, Some, slice_get, IfOk, IfErr, IfSome};
-ghost use Rattle.origin_model.specs.frames.Frames.{frame};
+ghost use Rattle.std.specs.Prelude.{◌≡◌, ◌≤◌, ◌≢◌, length, take, [], None, Some, slice_get, IfOk, IfErr, IsErr};
+ghost use Rattle.origin_model.specs.declared.grammar.Grammar.TheVariants.{Version2 as WithRuns};
 ghost use Rattle.op_frame.specs.FrameFronts.{IsFrameOf};
-ghost use Rattle.op_frame.specs.Steps.{Takes, TakesFrame, only_op};
-ghost use Rattle.op_frame.specs.declared.fault.FrameFault.TheVariants.{CutShort, NoMemory as WantsMemory};
+ghost use Rattle.op_frame.specs.Heads.{GivesHeld, IsHeld};
+ghost use Rattle.op_frame.specs.Steps.{Takes, TakesFrame};
+ghost use Rattle.op_frame.specs.declared.fault.FrameFault.TheVariants.{CutShort};
 
 use crate::FrameFault;
-use crate::decoding::decode;
+use crate::frame_ops::{Decoded, decode_frame};
 use crate::front::{Front, front_of};
+use crate::head::Head;
 use crate::refill::refill;
 use crate::unread::Unread;
-use fugue_ids::Op;
+use fugue_ids::{NoMemory, Op};
+use origin_model::Grammar;
 use outer_ports::Source;
 use std::alloc::Global;
 
-/// Takes the first operation off the unread bytes and the source, and answers its frame's length too. `room` is what
-/// the limit leaves from the first unread byte on.
+/// The first operation of a frame that was read, what is held back of it, and the frame's length.
+#[derive(Drop)]
+pub(crate) struct Taken {
+    pub(crate) op: Op,
+    pub(crate) held: Option<Head>,
+    pub(crate) len: usize,
+}
+
+/// Takes the first frame off the unread bytes and the source, but for scalars, as `take_frame` does. `room` is what the limit leaves from the first unread byte on.
 pub(crate) fn take_next<S: Source>(
     alloc: Global,
+    grammar: Grammar,
     unread: &mut Unread,
     offset: u64,
     room: u64,
     source: &mut S,
-) -> Result<Option<(Op, usize)>, FrameFault>
+) -> Result<Option<Taken>, FrameFault>
     requires { length unread.old.bytes ≤ room }
-    ensures takes { Takes unread.old.bytes unread.new.bytes (S.seen source.old) (S.seen source.new) offset room
-        (only_op result) }
-    ensures len { IfOk result (λ given. IfSome given (λ found. found.1 ≡ length (frame found.0))) }
+    ensures { Takes grammar unread.old.bytes unread.new.bytes (S.seen source.old) (S.seen source.new) offset room
+        result }
 {
     'reads: loop {
-        match front_of(unread.as_slice()) {
+        match front_of(grammar, unread.as_slice()) {
             Front::Frame(len) => return take_frame(alloc, unread, len),
             Front::Bad => return Err(FrameFault::BadFrame(offset)),
             Front::Prefix => {}
@@ -39,27 +49,42 @@ pub(crate) fn take_next<S: Source>(
     }
 }
 
-/// The operation of the frame in the first `len` bytes, which are taken off.
-fn take_frame(
-    alloc: Global,
-    unread: &mut Unread,
-    len: usize,
-) -> Result<Option<(Op, usize)>, FrameFault>
+/// Takes the frame in the first `len` bytes off them, but for the scalars of the operations that are held back.
+fn take_frame(alloc: Global, unread: &mut Unread, len: usize) -> Result<Option<Taken>, FrameFault>
     requires within { len ≤ length unread.old.bytes }
-    requires frame { IsFrameOf (take len unread.old.bytes) }
-    ensures ok { IfOk result (λ given. TakesFrame given unread.old.bytes unread.new.bytes len) }
-    ensures err { IfErr result
-        (λ e. (e ≡ WantsMemory) × (unread.new.bytes ≡ unread.old.bytes) × (slice_get unread.old.bytes 0 ≡ Some 1)) }
+    requires frame { IsFrameOf WithRuns (take len unread.old.bytes) }
+    ensures { TakesFrame unread.old.bytes unread.new.bytes len result }
 {
-    let Ok(op) = decode(alloc, &unread.as_slice()[..len]) else {
-        return Err(FrameFault::NoMemory);
-    };
-    unread.skip(len);
-    Ok(Some((op, len)))
+    match decode_frame(alloc, &unread.as_slice()[..len]) {
+        Err(NoMemory) => Err(FrameFault::NoMemory),
+        Ok(Decoded::Single(op)) => {
+            unread.skip(len);
+            Ok(Some(Taken {
+                op,
+                held: None,
+                len,
+            }))
+        }
+        Ok(Decoded::Run(head)) => {
+            unread.skip(len - 3 * head.count);
+            let (op, held) = take_held(head, unread);
+            Ok(Some(Taken { op, held, len }))
+        }
+    }
+}
+
+/// Gives the first operation that is held back, and takes its scalar off the bytes.
+pub(crate) fn take_held(head: Head, unread: &mut Unread) -> (Op, Option<Head>)
+    requires { IsHeld unread.old.bytes head }
+    ensures { GivesHeld head result.0 result.1 unread.old.bytes unread.new.bytes }
+{
+    let given = head.first(unread.as_slice());
+    unread.skip(3);
+    given
 }
 
 /// What the bytes before the end of the stream are, where they begin a frame and have none.
-fn at_end(unread: &Unread, offset: u64) -> Result<Option<(Op, usize)>, FrameFault>
+fn at_end(unread: &Unread, offset: u64) -> Result<Option<Taken>, FrameFault>
     ensures none { IfOk result (λ given. (given ≡ None) × (unread.now.bytes ≡ [])) }
     ensures cut { IfErr result (λ e. (e ≡ CutShort offset) × (unread.now.bytes ≢ [])) }
 {

@@ -1,10 +1,10 @@
 ghost use Rattle.std.specs.Prelude.{◌≡◌, ◌≤◌, ◌<◌, ◌∷◌, [], length};
-ghost use Rattle.std.specs.Int.{to_be_bytes, w16};
 ghost use Rattle.op_frame.specs.FrameFronts.{IsJudged, text_due as due_text, width_of};
 ghost use Rattle.op_frame.specs.declared.due.Due.TheVariants.{Fields as FieldsDue};
 ghost use Rattle.op_frame.specs.declared.due.Last.TheVariants.{Text as TextLast, Title as TitleLast};
 
 use crate::due::{Due, Judged, Last};
+use crate::number::short_number;
 use fugue_ids::{LONGEST_TITLE, has_line_end};
 use std::str;
 
@@ -17,7 +17,7 @@ pub(crate) fn judge_title(bytes: &[u8]) -> Judged
     if bytes.len() == 1 {
         return judge_high(bytes[0]);
     }
-    let len = length_of(bytes[0], bytes[1]);
+    let len = short_number(bytes[0], bytes[1]);
     if len == 0 || len > LONGEST_TITLE {
         return Judged::Bad;
     }
@@ -29,13 +29,6 @@ fn judge_high(high: u8) -> Judged
     ensures { IsJudged result (FieldsDue 0 0 TitleLast) (high ∷ []) }
 {
     if high > 1 { Judged::Bad } else { Judged::Front }
-}
-
-fn length_of(high: u8, low: u8) -> usize
-    ensures bytes { to_be_bytes w16 result ≡ high ∷ low ∷ [] }
-    ensures small { result < 65536 }
-{
-    u16::from_be_bytes([high, low]) as usize
 }
 
 /// Behind whole characters less text is due.

@@ -6,23 +6,23 @@ use Rattle.op_frame.proofs.FrameFrontLemmas.{awaits_all, awaits_next, is_front, 
 use Rattle.op_frame.proofs.front.front_of.Goals as goal
 
 pub fields-init : goal.fields-init
-fields-init c = (omega arith, awaits_all)
+fields-init c = (omega arith, awaits_all c.args.grammar)
 
 pub returns-then-is_whole : goal.returns-then-is_whole
 returns-then-is_whole c =
     let a = c.fields.invariant.1 in
-    (c.fields.invariant.0, is_grown c.fields.due (take c.fields.at c.args.bytes.now) a.rest Frame (sym (c.is_whole.ensures.yes c.if-is_whole.true)) a.sound)
+    (c.fields.invariant.0, is_grown c.args.grammar c.fields.due (take c.fields.at c.args.bytes.now) a.rest Frame (sym (c.is_whole.ensures.yes c.if-is_whole.true)) a.sound)
 
 pub returns-then-end-at : goal.returns-then-end-at
 returns-then-end-at c =
     let a = c.fields.invariant.1 in
     let over : length c.args.bytes.now ≤ c.fields.at = omega (arith, a.short, c.min-end.ensures, c.if-end-at.true, c.field_size.ensures) in
-    subst IsPartial (take_all c.fields.at c.args.bytes.now over) (is_grown c.fields.due (take c.fields.at c.args.bytes.now) a.rest Front (sym (c.is_whole.ensures.no c.if-is_whole.false)) a.sound)
+    subst (IsPartial c.args.grammar) (take_all c.fields.at c.args.bytes.now over) (is_grown c.args.grammar c.fields.due (take c.fields.at c.args.bytes.now) a.rest Front (sym (c.is_whole.ensures.no c.if-is_whole.false)) a.sound)
 
 pub fields-preserved : goal.fields-preserved
 fields-preserved c = (
   omega (arith, c.min-end.ensures),
-  awaits_next c.fields.due c.in-Done.next (take c.fields.at c.args.bytes.now) _ _ 0 0 c.fields.invariant.1 c.in-Done.ensures
+  awaits_next c.args.grammar c.fields.due c.in-Done.next (take c.fields.at c.args.bytes.now) _ _ 0 0 c.fields.invariant.1 c.in-Done.ensures
       (next_field c.args.bytes.now c.fields.at c.min-end.result (omega (arith, c.min-end.ensures, c.fields.invariant.0))) refl,
 )
 
@@ -33,8 +33,8 @@ returns-in-Front c =
     let end : ℕ = c.min-end.result in
     let le : at ≤ end = omega (arith, c.min-end.ensures, c.fields.invariant.0) in
     let long : length (take (end - at) (drop at bytes)) ≡ end - at = length-take-le (end - at) (drop at bytes) (omega (arith, c.min-end.ensures, length-drop at bytes)) in
-    subst IsPartial (next_field bytes at end le ∙ take_all end bytes (omega (arith, c.min-end.ensures, c.in-Front.ensures.0, long, c.field_size.ensures)))
-    (is_front c.fields.due (take at bytes) c.fields.invariant.1.rest _ c.in-Front.ensures.1)
+    subst (IsPartial c.args.grammar) (next_field bytes at end le ∙ take_all end bytes (omega (arith, c.min-end.ensures, c.in-Front.ensures.0, long, c.field_size.ensures)))
+    (is_front c.args.grammar c.fields.due (take at bytes) c.fields.invariant.1.rest _ c.in-Front.ensures.1)
 
 pub returns-in-Bad : goal.returns-in-Bad
 returns-in-Bad c =
@@ -43,5 +43,5 @@ returns-in-Bad c =
     let end : ℕ = c.min-end.result in
     let le : at ≤ end = omega (arith, c.min-end.ensures, c.fields.invariant.0) in
     let long : length (take (end - at) (drop at bytes)) ≡ end - at = length-take-le (end - at) (drop at bytes) (omega (arith, c.min-end.ensures, length-drop at bytes)) in
-    subst IsBad (ap (λ (l : List ℕ). l ++ drop end bytes) (next_field bytes at end le) ∙ take-append-drop end bytes)
-    (none_begins c.fields.due (take at bytes) _ (drop end bytes) c.fields.invariant.1 (c.is_whole.ensures.no c.if-is_whole.false) (omega (arith, long, c.min-end.ensures, c.field_size.ensures)) c.in-Bad.ensures)
+    subst (IsBad c.args.grammar) (ap (λ (l : List ℕ). l ++ drop end bytes) (next_field bytes at end le) ∙ take-append-drop end bytes)
+    (none_begins c.args.grammar c.fields.due (take at bytes) _ (drop end bytes) c.fields.invariant.1 (c.is_whole.ensures.no c.if-is_whole.false) (omega (arith, long, c.min-end.ensures, c.field_size.ensures)) c.in-Bad.ensures)

@@ -1,7 +1,7 @@
 use Rattle.std.proofs.Common.{arith}
 use Rattle.std.proofs.Math.Facts.{Fits-lt-pow}
 use Rattle.op_frame.proofs.FieldLemmas.{counter_cut, id_there, replica_cut}
-use Rattle.op_frame.proofs.FrameFrontLemmas.{identifier_done, identifier_front}
+use Rattle.op_frame.proofs.DueLemmas.{identifier_done, identifier_front}
 use Rattle.op_frame.proofs.judge.judge_identifier.Goals as goal
 
 pub returns-then-bytes-lt4 : goal.returns-then-bytes-lt4

@@ -1,4 +1,4 @@
-use Rattle.op_frame.proofs.FrameFrontLemmas.{nothing_due}
+use Rattle.op_frame.proofs.DueLemmas.{nothing_due}
 use Rattle.op_frame.proofs.judge.judge_last.Goals as goal
 
 pub returns-in-Nothing : goal.returns-in-Nothing

@@ -1,4 +1,4 @@
-use Rattle.op_frame.proofs.FrameFrontLemmas.{start_done, tag_done}
+use Rattle.op_frame.proofs.DueLemmas.{start_done, tag_done}
 use Rattle.op_frame.proofs.judge.judge_tag.Goals as goal
 
 pub returns-in-0 : goal.returns-in-0

@@ -1,5 +1,5 @@
 use Rattle.std.proofs.Common.{arith}
-use Rattle.op_frame.proofs.FrameFrontLemmas.{high_front}
+use Rattle.op_frame.proofs.DueLemmas.{high_front}
 use Rattle.op_frame.proofs.title.judge_high.Goals as goal
 
 pub returns-else-high-gt1 : goal.returns-else-high-gt1

@@ -1,6 +1,6 @@
 use Rattle.std.proofs.Common.{ap, arith, sym, ◌∙◌}
 use Rattle.std.specs.Prelude.{is_some}
-use Rattle.op_frame.proofs.FrameFrontLemmas.{text_done}
+use Rattle.op_frame.proofs.DueLemmas.{text_done}
 use Rattle.op_frame.proofs.TitleLemmas.{cut_front, fault_none, last_none, wide_none}
 use Rattle.op_frame.proofs.title.judge_text.Goals.{then-bytes-len-via-then-bytes-len, then-bytes-len-via-else-bytes-len+then-is_some}
 use Rattle.op_frame.proofs.title.judge_text.Goals as goal

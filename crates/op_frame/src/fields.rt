@@ -1,0 +1,52 @@
+ghost use Rattle.std.specs.Prelude.{◌≡◌, ◌++◌, drop};
+ghost use Rattle.std.specs.Char.{IsScalar};
+ghost use Rattle.origin_model.specs.frames.Frames.{IsIdentifier, IsOrigin, id_bytes, origin_bytes, scalar_bytes};
+ghost use Rattle.op_frame.specs.Firsts.{StartsWith};
+ghost use Rattle.op_frame.specs.FrameFronts.{IsIdentifierBytes, IsOriginBytes, IsScalarBytes};
+
+use crate::number::{number, scalar_of};
+use fugue_ids::ElementId;
+
+/// Takes fields that are there off the front of bytes.
+#[derive(Drop)]
+pub(crate) struct Fields<'a> {
+    pub(crate) rest: &'a [u8],
+}
+
+impl<'a> Fields<'a> {
+    pub(crate) fn identifier(&mut self) -> ElementId
+        requires { StartsWith IsIdentifierBytes self.old.rest.now }
+        ensures split { self.old.rest.now ≡ id_bytes result ++ self.new.rest.now }
+        ensures is { IsIdentifier result }
+    {
+        let replica = number(self.rest);
+        let counter = number(&self.rest[4..]);
+        self.rest = &self.rest[8..];
+        ElementId { replica, counter }
+    }
+
+    pub(crate) fn origin(&mut self) -> Option<ElementId>
+        requires { StartsWith IsOriginBytes self.old.rest.now }
+        ensures split { self.old.rest.now ≡ origin_bytes result ++ self.new.rest.now }
+        ensures is { IsOrigin result }
+    {
+        let tag = self.rest[0];
+        self.rest = &self.rest[1..];
+        if tag == 0 {
+            return None;
+        }
+        Some(self.identifier())
+    }
+}
+
+/// The scalar in the first three bytes.
+pub(crate) fn first_scalar(bytes: &[u8]) -> char
+    requires { StartsWith IsScalarBytes bytes.now }
+    ensures split { bytes.now ≡ scalar_bytes result ++ drop 3 bytes.now }
+    ensures is { IsScalar result }
+{
+    let Some(ch) = scalar_of(bytes[0], bytes[1], bytes[2]) else {
+        unreachable!()
+    };
+    ch
+}

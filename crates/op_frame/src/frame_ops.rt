@@ -1,0 +1,92 @@
+ghost use Rattle.std.specs.Prelude.{◌≡◌, IfOk, IsErr, IfSome, Some, slice_get};
+ghost use Rattle.origin_model.specs.frames.Frames.{IsFrame};
+ghost use Rattle.origin_model.specs.declared.grammar.Grammar.TheVariants.{Version2 as WithRuns};
+ghost use Rattle.op_frame.specs.Decoded.{IsDecoded, IsGiven};
+ghost use Rattle.op_frame.specs.FrameFronts.{IsFrameOf};
+
+use crate::decoding::decode;
+use crate::head::Head;
+use crate::protocol::RUN;
+use fugue_ids::{NoMemory, Op};
+use std::alloc::Global;
+use std::marker::Model;
+
+/// What a frame stands for: an operation alone, or a run, whose scalars are left where they are.
+#[derive(Drop)]
+pub(crate) enum Decoded {
+    Single(Op),
+    Run(Head),
+}
+
+/// What a whole frame stands for. Memory goes to a title alone.
+pub(crate) fn decode_frame(alloc: Global, frame: &[u8]) -> Result<Decoded, NoMemory>
+    requires { IsFrameOf WithRuns frame.now }
+    ensures ok { IfOk result (λ decoded. IsDecoded decoded frame.now) }
+    ensures err { IsErr result → slice_get frame.now 0 ≡ Some 1 }
+{
+    if frame[0] == RUN {
+        return Ok(Decoded::Run(Head::read(&frame[1..])));
+    }
+    Ok(Decoded::Single(decode(alloc, frame)?))
+}
+
+/// The operations of a whole frame, one by one, over its bytes. It is seen as those that are not yet given.
+#[derive(Drop)]
+pub struct FrameOps<'a> {
+    single: Option<Op>,
+    run: Option<Head>,
+    scalars: &'a [u8],
+}
+
+impl<'a> Model for FrameOps<'a> {
+    ghost use Rattle.std.specs.Prelude.{◌++◌, IfSome, List};
+    ghost use Rattle.fugue_ids.specs.declared.op.Op.{Op as AnOp};
+    ghost use Rattle.op_frame.specs.Decoded.{single_ops};
+    ghost use Rattle.op_frame.specs.Heads.{IsHeld, held_ops};
+
+    ghost Value = { List AnOp };
+
+    ghost view = { λ f. held_ops f.run f.scalars.now ++ single_ops f.single };
+
+    ghost invariant = { λ f. IfSome f.run (IsHeld f.scalars.now) };
+}
+
+impl<'a> FrameOps<'a> {
+    /// The operations of this frame. Memory goes to a title alone.
+    pub fn new(alloc: Global, frame: &'a [u8]) -> Result<FrameOps<'a>, NoMemory>
+        requires { IsFrameOf WithRuns frame.now }
+        ensures ok { IfOk result (λ ops. IsFrame WithRuns (record { bytes = frame.now; ops = ops })) }
+        ensures err { IsErr result → slice_get frame.now 0 ≡ Some 1 }
+    {
+        match decode_frame(alloc, frame)? {
+            Decoded::Single(op) => Ok(FrameOps {
+                single: Some(op),
+                run: None,
+                scalars: frame,
+            }),
+            Decoded::Run(head) => {
+                let start = frame.len() - 3 * head.count;
+                Ok(FrameOps {
+                    single: None,
+                    run: Some(head),
+                    scalars: &frame[start..],
+                })
+            }
+        }
+    }
+
+    /// The next operation.
+    pub fn next(&mut self) -> Option<Op>
+        ensures { IsGiven result self.old self.new }
+    {
+        match self.run {
+            None => self.single.take(),
+            Some(head) => {
+                let (op, next) = head.first(self.scalars);
+                self.run = next;
+                self.scalars = &self.scalars[3..];
+                Some(op)
+            }
+        }
+    }
+}
