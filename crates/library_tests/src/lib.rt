@@ -25,6 +25,8 @@ mod rope;
 #[cfg(test)]
 mod run_frames;
 #[cfg(test)]
+mod run_readings;
+#[cfg(test)]
 mod runs;
 #[cfg(test)]
 mod section;
