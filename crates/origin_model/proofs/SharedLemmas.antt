@@ -24,7 +24,7 @@ pub use Rattle.origin_model.proofs.taking.SettlingLemmas.{IsEarliest, earliest-n
 pub use Rattle.origin_model.proofs.taking.TakingLemmas.{accepted_is_ready}
 pub use Rattle.origin_model.proofs.edits.NextCounterLemmas.{counters-append}
 pub use Rattle.origin_model.proofs.files.AppendLemmas.{Parts, batch_appended, from_parts, new_file_holds, same_to_gate, to_parts, with_batch}
-pub use Rattle.origin_model.proofs.files.BatchLemmas.{batch_of, behind_number, is_batch, number_is, same_batch}
+pub use Rattle.origin_model.proofs.files.BatchLemmas.{batch_of, behind_word, is_batch, length_is, one_grammar, same_batch, word_is}
 pub use Rattle.origin_model.proofs.frames.SingleLemmas.{IsSingle, framed_is, framed_of, single_of, singles_read}
 pub use Rattle.origin_model.proofs.frames.ItemLemmas.{bytes_of, item_framed, item_is_framed, ops_of, same_parts}
 pub use Rattle.origin_model.proofs.frames.TypedLemmas.{length-run, length-typed, typed_more, typed_scalars}

@@ -14,7 +14,7 @@ mod sides;
 mod taking;
 
 pub use edit_fault::EditFault;
-pub use files::LONGEST_BATCH;
+pub use files::{LONGEST_BATCH, TAG_UNIT};
 pub use grammar::Grammar;
 pub use laws::{
     closure_of_set, gap_by_keys, kept_suffice, keys_are_fixed, lands_behind, later_ops_keep_order,

@@ -5,10 +5,8 @@ use Rattle.std.proofs.Math.Seq.{drop-append_seam, take-append-add, take-append_s
 use Rattle.std.proofs.lemmas.Bool.{and_from, and_parts, le-leb, leb-true}
 use Rattle.std.proofs.lemmas.Nat.{from_be_bytes-to_be_bytes_4}
 use Rattle.fugue_ids.specs.declared.limits.TheConstants.{GREATEST_HOLD}
-use Rattle.origin_model.specs.declared.files.TheConstants.{LONGEST_BATCH}
 use Rattle.origin_model.specs.files.Image.{Batch, Content, HasImage, Holds, IsBatch, batch_ops, content_of, header, header_of, is_header, last_slot, new_file, open_slot, open_slots, slots_of}
-use Rattle.origin_model.specs.frames.Frames.{HasFrame, single_frames}
-use Rattle.origin_model.proofs.files.BatchLemmas.{batch_of, is_batch, ops-append, slots-append}
+use Rattle.origin_model.proofs.files.BatchLemmas.{ops-append, slots-append}
 
 -- a header, open slots, another gate than 1, and any bytes
 pub record Parts (bytes : List ℕ) (content : Content) : Type 0 where
@@ -98,32 +96,30 @@ same_to_gate bytes other content h e =
     })
 
 -- what a file holds with one more batch
-abbrev pub with_batch : Content → List Op → Content
-with_batch content ops =
-    record { replica = content.replica; hold = content.hold; ops = content.ops ++ ops; at = content.at + length (open_slot (batch_of ops)); slots = content.slots + 1 }
+abbrev pub with_batch : Content → Batch → Content
+with_batch content batch =
+    record { replica = content.replica; hold = content.hold; ops = content.ops ++ batch.ops; at = content.at + length (open_slot batch); slots = content.slots + 1 }
 
 -- a batch that is written in the place of the gate, open, with another gate than 1 behind it, is the file's last
-pub batch_appended : (bytes : List ℕ) (content : Content) (ops : List Op) (gate : ℕ) (rest : List ℕ) → HasImage bytes (Holds content) → All HasFrame ops
-    → length (single_frames ops) ≤ LONGEST_BATCH → content.slots < last_slot → gate ≢ 1
-    → HasImage (take content.at bytes ++ (open_slot (batch_of ops) ++ gate ∷ rest)) (Holds (with_batch content ops))
-batch_appended bytes content ops gate rest h f short few closed =
+pub batch_appended : (bytes : List ℕ) (content : Content) (new : Batch) (gate : ℕ) (rest : List ℕ) → HasImage bytes (Holds content) → IsBatch new
+    → content.slots < last_slot → gate ≢ 1 → HasImage (take content.at bytes ++ (open_slot new ++ gate ∷ rest)) (Holds (with_batch content new))
+batch_appended bytes content new gate rest h is few closed =
     let p = to_parts bytes content h in
-    let new : Batch = batch_of ops in
     let batches : List Batch = p.batches ++ new ∷ [] in
     let slots : open_slots batches ≡ open_slots p.batches ++ open_slot new = slots-append p.batches (new ∷ []) ∙ ap (λ z. open_slots p.batches ++ z) (append-nil (open_slot new)) in
     let count : length batches ≡ length p.batches + 1 = length-append p.batches (new ∷ []) in
     let slots_before : content.slots ≡ length p.batches = ap (λ z. z.slots) p.content_is in
     let at : content.at + length (open_slot new) ≡ 13 + length (open_slots batches) =
     omega (arith, ap (λ z. z.at) p.content_is, ap length slots, length-append (open_slots p.batches) (open_slot new)) in
-    let all_ops : content.ops ++ ops ≡ batch_ops batches = ap (λ z. z.ops ++ ops) p.content_is ∙ ap (λ z. batch_ops p.batches ++ z) (sym (append-nil ops)) ∙ sym (ops-append p.batches (new ∷ [])) in
-    from_parts (take content.at bytes ++ (open_slot new ++ gate ∷ rest)) (with_batch content ops) (record {
+    let all_ops : content.ops ++ new.ops ≡ batch_ops batches = ap (λ z. z.ops ++ new.ops) p.content_is ∙ ap (λ z. batch_ops p.batches ++ z) (sym (append-nil new.ops)) ∙ sym (ops-append p.batches (new ∷ [])) in
+    from_parts (take content.at bytes ++ (open_slot new ++ gate ∷ rest)) (with_batch content new) (record {
       head = p.head;
       batches = batches;
       gate = gate;
       rest = rest;
       long = p.long;
       is_head = p.is_head;
-      batches_are = All-append IsBatch p.batches (new ∷ []) p.batches_are (All-cons IsBatch new [] (is_batch ops f short) (All-nil IsBatch));
+      batches_are = All-append IsBatch p.batches (new ∷ []) p.batches_are (All-cons IsBatch new [] is (All-nil IsBatch));
       few = omega (arith, count, slots_before, few);
       closed = closed;
       split =

@@ -2,14 +2,14 @@
 use Rattle.origin_model.proofs.Words.{AllByRecursion, List, Op, [], ap, append_assoc, arith, drop, false≢true, length, length-append, refl, subst, suc, sym, take, ℕ, ◌++◌, ◌+◌, ◌<◌, ◌∙◌, ◌∷◌, ◌≡◌, ◌≢◌, ◌≤◌}
 use Rattle.std.proofs.Math.Seq.{take-append_seam}
 use Rattle.std.proofs.lemmas.List.Elements.{recursion_from_All}
-use Rattle.origin_model.specs.files.Image.{BadBatch, Batch, Content, CutShort, EndsBadly, EndsWell, HasImage, Holds, Image, IsBatch, IsNoBatch, LastSlot, NoFrames, NoGate, NoLength, NotReplica, OpenSlots, TooLong, content_of, header_of, last_slot, number_at, open_slot, open_slots, slots_of}
-use Rattle.origin_model.specs.declared.grammar.Grammar.TheVariants.{Version1}
+use Rattle.origin_model.specs.files.Image.{BadBatch, Batch, Content, CutShort, EndsBadly, EndsWell, HasImage, Holds, Image, IsBatch, IsNoBatch, LastSlot, NoFrames, NoGate, NoTag, NoWord, NotReplica, OpenSlots, TooLong, content_of, header_of, last_slot, length_at, number_at, open_slot, open_slots, slots_of, tag_of, word_tag}
+use Rattle.origin_model.specs.declared.grammar.Grammar.{Grammar}
 use Rattle.origin_model.specs.frames.Frames.{Reads, Whole}
-use Rattle.origin_model.proofs.files.BatchLemmas.{behind_number, number_is, same_batch}
+use Rattle.origin_model.proofs.files.BatchLemmas.{behind_word, length_is, one_grammar, same_batch, word_is}
 
 -- bytes are read in one way
 abbrev pub ReadOnce : Type 0
-ReadOnce = (bytes : List ℕ) (ops others : List Op) → Reads Version1 bytes ops Whole → Reads Version1 bytes others Whole → ops ≡ others
+ReadOnce = (grammar : Grammar) (bytes : List ℕ) (ops others : List Op) → Reads grammar bytes ops Whole → Reads grammar bytes others Whole → ops ≡ others
 
 -- a list as long as none is empty
 empty : (xs : List ℕ) → length xs ≡ 0 → xs ≡ []
@@ -22,23 +22,25 @@ pub data Ends (slot : ℕ) (rest : List ℕ) : Type 0 where
   Bad : (more : List ℕ) → rest ≡ 1 ∷ more → IsNoBatch slot more → Ends slot rest
 
 -- a batch with a byte behind it is no fault
-no_fault : (slot : ℕ) (b : Batch) (more bytes : List ℕ) → IsBatch b → more ≢ [] → slot < last_slot → bytes ≡ b.number ++ (b.bytes ++ more) → IsNoBatch slot bytes → ⊥
-no_fault slot b more bytes h n l e (NoLength k) = omega (arith, k, ap length e, length-append b.number (b.bytes ++ more), h.four_bytes)
-no_fault slot b more bytes h n l e (TooLong k) = omega (arith, k, h.short, ap (number_at 0) e ∙ number_is b (b.bytes ++ more) h)
-no_fault slot b more bytes h n l e (CutShort k) = omega (arith, k, ap (number_at 0) e ∙ number_is b (b.bytes ++ more) h, ap length (ap (drop 4) e ∙ behind_number b (b.bytes ++ more) h), length-append b.bytes more)
-no_fault slot b more bytes h n l e (NoFrames f) =
-    let whole : take (number_at 0 bytes) (drop 4 bytes) ≡ b.bytes =
-    (λ i. take ((ap (number_at 0) e ∙ number_is b (b.bytes ++ more) h) i) ((ap (drop 4) e ∙ behind_number b (b.bytes ++ more) h) i)) ∙ take-append_seam b.bytes more in
-    f b.ops (subst (λ z. Reads Version1 z b.ops Whole) (sym whole) h.reads)
-no_fault slot b more bytes h n l e (NoGate k) = n (empty more (omega (arith, k, ap (number_at 0) e ∙ number_is b (b.bytes ++ more) h, ap length (ap (drop 4) e ∙ behind_number b (b.bytes ++ more) h), length-append b.bytes more)))
+no_fault : (slot : ℕ) (b : Batch) (more bytes : List ℕ) → IsBatch b → more ≢ [] → slot < last_slot → bytes ≡ b.word ++ (b.bytes ++ more) → IsNoBatch slot bytes → ⊥
+no_fault slot b more bytes h n l e (NoWord k) = omega (arith, k, ap length e, length-append b.word (b.bytes ++ more), h.four_bytes)
+no_fault slot b more bytes h n l e (NoTag none) = none b.grammar (ap (λ z. word_tag (number_at 0 z)) e ∙ ap word_tag (word_is b (b.bytes ++ more) h) ∙ h.tagged)
+no_fault slot b more bytes h n l e (TooLong k) = omega (arith, k, h.short, ap (length_at 0) e ∙ length_is b (b.bytes ++ more) h)
+no_fault slot b more bytes h n l e (CutShort k) = omega (arith, k, ap (length_at 0) e ∙ length_is b (b.bytes ++ more) h, ap length (ap (drop 4) e ∙ behind_word b (b.bytes ++ more) h), length-append b.bytes more)
+no_fault slot b more bytes h n l e (NoFrames grammar tagged none) =
+    let whole : take (length_at 0 bytes) (drop 4 bytes) ≡ b.bytes =
+    (λ i. take ((ap (length_at 0) e ∙ length_is b (b.bytes ++ more) h) i) ((ap (drop 4) e ∙ behind_word b (b.bytes ++ more) h) i)) ∙ take-append_seam b.bytes more in
+    let same : b.grammar ≡ grammar = one_grammar b.grammar grammar (sym h.tagged ∙ sym (ap word_tag (word_is b (b.bytes ++ more) h)) ∙ sym (ap (λ z. word_tag (number_at 0 z)) e) ∙ tagged) in
+    none b.ops (subst (λ g. Reads g (take (length_at 0 bytes) (drop 4 bytes)) b.ops Whole) same (subst (λ z. Reads b.grammar z b.ops Whole) (sym whole) h.reads))
+no_fault slot b more bytes h n l e (NoGate k) = n (empty more (omega (arith, k, ap (length_at 0) e ∙ length_is b (b.bytes ++ more) h, ap length (ap (drop 4) e ∙ behind_word b (b.bytes ++ more) h), length-append b.bytes more)))
 no_fault slot b more bytes h n l e (LastSlot k) = omega (arith, k, l)
 
 -- no open slot with a byte behind it stands where the open slots end
 pub no_open_slot : (slot : ℕ) (b : Batch) (more rest : List ℕ) → IsBatch b → more ≢ [] → slot < last_slot → rest ≡ open_slot b ++ more → Ends slot rest → ⊥
 no_open_slot slot b more rest h n l e (Closed gate others d closed) = let one : gate ≡ 1 = cc (sym d ∙ e) in closed one
 no_open_slot slot b more rest h n l e (Bad others d bad) =
-    let behind : others ≡ (b.number ++ b.bytes) ++ more = cc (sym d ∙ e) in
-    no_fault slot b more others h n l (behind ∙ append_assoc b.number b.bytes more) bad
+    let behind : others ≡ (b.word ++ b.bytes) ++ more = cc (sym d ∙ e) in
+    no_fault slot b more others h n l (behind ∙ append_assoc b.word b.bytes more) bad
 
 -- a byte stands behind open slots
 pub slots_not_empty : (bs : List Batch) (rest : List ℕ) → rest ≢ [] → open_slots bs ++ rest ≢ []
@@ -58,8 +60,8 @@ same_slots once k m n [] (c ∷ cs) r q a b e mk nk ml nl x y f g =
 same_slots once k m n (c ∷ cs) [] r q a b e mk nk ml nl x y f g =
     absurd (no_open_slot n c (open_slots cs ++ r) q a.0 (slots_not_empty cs r f) (omega (arith, mk, nk, ml)) (sym e ∙ first_slot c cs r) y)
 same_slots once k m n (b ∷ bs) (c ∷ cs) r q x y e mk nk ml nl u v f g =
-    let d : (b.number ++ b.bytes) ++ (open_slots bs ++ r) ≡ (c.number ++ c.bytes) ++ (open_slots cs ++ q) = cc (sym (first_slot b bs r) ∙ e ∙ first_slot c cs q) in
-    let s = same_batch once b c (open_slots bs ++ r) (open_slots cs ++ q) x.0 y.0 (sym (append_assoc b.number b.bytes (open_slots bs ++ r)) ∙ d ∙ append_assoc c.number c.bytes (open_slots cs ++ q)) in
+    let d : (b.word ++ b.bytes) ++ (open_slots bs ++ r) ≡ (c.word ++ c.bytes) ++ (open_slots cs ++ q) = cc (sym (first_slot b bs r) ∙ e ∙ first_slot c cs q) in
+    let s = same_batch once b c (open_slots bs ++ r) (open_slots cs ++ q) x.0 y.0 (sym (append_assoc b.word b.bytes (open_slots bs ++ r)) ∙ d ∙ append_assoc c.word c.bytes (open_slots cs ++ q)) in
     let rest = same_slots once (suc k) m n bs cs r q x.1 y.1 s.1 (omega (arith, mk)) (omega (arith, nk)) ml nl u v f g in
     ((λ i. s.0 i ∷ rest.0 i), rest.1)
 

@@ -4,51 +4,69 @@ use Rattle.std.proofs.lemmas.Bool.{and_parts, cases_eq, cases_lt, leb-true}
 use Rattle.std.proofs.lemmas.List.{length-drop}
 use Rattle.std.specs.Prelude.{nat_le}
 use Rattle.origin_model.specs.declared.files.TheConstants.{LONGEST_BATCH}
-use Rattle.origin_model.specs.files.Image.{BadBatch, Batch, CutShort, HasImage, Holds, Image, IsBatch, IsNoBatch, LastSlot, NoFrames, NoGate, NoLength, NotReplica, TooLong, content_of, has_header, header_of, is_header, last_slot, number_at, open_slot, open_slots, slots_of}
-use Rattle.origin_model.specs.declared.grammar.Grammar.TheVariants.{Version1}
+use Rattle.origin_model.specs.files.Image.{BadBatch, Batch, CutShort, HasImage, Holds, Image, IsBatch, IsNoBatch, LastSlot, NoFrames, NoGate, NoTag, NoWord, NotReplica, TooLong, content_of, has_header, header_of, is_header, last_slot, length_at, number_at, open_slot, open_slots, slots_of, tag_of, word_tag}
+use Rattle.origin_model.specs.declared.grammar.Grammar.{Grammar}
+use Rattle.origin_model.specs.declared.grammar.Grammar.TheVariants.{Version1, Version2}
 use Rattle.origin_model.specs.frames.Frames.{Reads, Whole}
 use Rattle.origin_model.proofs.files.ImageLemmas.{Bad, Closed, Ends}
 
 -- bytes are whole frames of some operations, or of none
 abbrev pub ReadSome : Type 0
-ReadSome = (bytes : List ℕ) → ((ops : List Op) × Reads Version1 bytes ops Whole) ⊎ ((ops : List Op) → Reads Version1 bytes ops Whole → ⊥)
+ReadSome = (grammar : Grammar) (bytes : List ℕ) → ((ops : List Op) × Reads grammar bytes ops Whole) ⊎ ((ops : List Op) → Reads grammar bytes ops Whole → ⊥)
+
+-- a tag is that of a grammar, or of none
+tag_decided : (tag : ℕ) → ((grammar : Grammar) × (tag ≡ tag_of grammar)) ⊎ ((grammar : Grammar) → tag ≢ tag_of grammar)
+tag_decided tag = elim (cases_eq tag 0) [
+  | inl none ↦ inl (Version1, none)
+  | inr more ↦ elim (cases_eq tag 1) [
+    | inl one ↦ inl (Version2, one)
+    | inr much ↦ inr (λ grammar. other more much grammar)
+  ]
+]
+  where
+    other : tag ≢ 0 → tag ≢ 1 → (grammar : Grammar) → tag ≢ tag_of grammar
+    other more much Version1 = more
+    other more much Version2 = much
 
 -- a batch with bytes behind it stands in front
 record Stands (slot : ℕ) (bytes : List ℕ) : Type 0 where
   batch : Batch
   behind : List ℕ
   is_batch : IsBatch batch
-  split : bytes ≡ (batch.number ++ batch.bytes) ++ behind
+  split : bytes ≡ (batch.word ++ batch.bytes) ++ behind
   gate : behind ≢ []
   few : slot < last_slot
 
 -- behind the gate of an open slot stands a batch with bytes behind it, or none
 opened : ReadSome → (slot : ℕ) (bytes : List ℕ) → slot ≤ last_slot → IsNoBatch slot bytes ⊎ Stands slot bytes
 opened some slot bytes l =
-    let n : ℕ = number_at 0 bytes in
+    let n : ℕ = length_at 0 bytes in
     let rest : List ℕ = drop 4 bytes in
     elim (cases_eq slot last_slot) [
       | inl last ↦ inl (LastSlot last)
       | inr more ↦ elim (cases_lt (length bytes) 4) [
-        | inl short ↦ inl (NoLength short)
-        | inr four ↦ elim (cases_lt LONGEST_BATCH n) [
-          | inl long ↦ inl (TooLong long)
-          | inr within ↦ elim (cases_lt (length rest) n) [
-            | inl cut ↦ inl (CutShort cut)
-            | inr there ↦ elim (cases_eq (length rest) n) [
-              | inl end ↦ inl (NoGate end)
-              | inr gate ↦ elim (some (take n rest)) [
-                | inr none ↦ inl (NoFrames none)
-                | inl read ↦
-                    let size : length (take n rest) ≡ n = length-take-le n rest there in
-                    inr (record {
-                      batch = record { number = take 4 bytes; bytes = take n rest; ops = read.0 };
-                      behind = drop n rest;
-                      is_batch = record { four_bytes = length-take-le 4 bytes four; counts = sym size; short = omega (arith, size, within); reads = read.1 };
-                      split = sym (append_assoc (take 4 bytes) (take n rest) (drop n rest) ∙ ap (λ z. take 4 bytes ++ z) (take-append-drop n rest) ∙ take-append-drop 4 bytes);
-                      gate = λ e. gate (omega (arith, ap length e, length-drop n rest, there));
-                      few = omega (arith, l, more);
-                    })
+        | inl short ↦ inl (NoWord short)
+        | inr four ↦ elim (tag_decided (word_tag (number_at 0 bytes))) [
+          | inr none ↦ inl (NoTag none)
+          | inl tagged ↦ elim (cases_lt LONGEST_BATCH n) [
+            | inl long ↦ inl (TooLong long)
+            | inr within ↦ elim (cases_lt (length rest) n) [
+              | inl cut ↦ inl (CutShort cut)
+              | inr there ↦ elim (cases_eq (length rest) n) [
+                | inl end ↦ inl (NoGate end)
+                | inr gate ↦ elim (some tagged.0 (take n rest)) [
+                  | inr none ↦ inl (NoFrames tagged.0 tagged.1 none)
+                  | inl read ↦
+                      let size : length (take n rest) ≡ n = length-take-le n rest there in
+                      inr (record {
+                        batch = record { word = take 4 bytes; bytes = take n rest; grammar = tagged.0; ops = read.0 };
+                        behind = drop n rest;
+                        is_batch = record { four_bytes = length-take-le 4 bytes four; tagged = tagged.1; counts = sym size; short = omega (arith, size, within); reads = read.1 };
+                        split = sym (append_assoc (take 4 bytes) (take n rest) (drop n rest) ∙ ap (λ z. take 4 bytes ++ z) (take-append-drop n rest) ∙ take-append-drop 4 bytes);
+                        gate = λ e. gate (omega (arith, ap length e, length-drop n rest, there));
+                        few = omega (arith, l, more);
+                      })
+                ]
               ]
             ]
           ]
@@ -79,7 +97,7 @@ walk some (suc n) slot (gate ∷ bytes) l e f =
       | inl one ↦ elim (opened some slot bytes f) [
         | inl bad ↦ stop (Bad bytes (ap (λ g. g ∷ bytes) one) bad)
         | inr s ↦
-            let less : length s.behind ≤ n = omega (arith, l, ap length s.split, length-append (s.batch.number ++ s.batch.bytes) s.behind) in
+            let less : length s.behind ≤ n = omega (arith, l, ap length s.split, length-append (s.batch.word ++ s.batch.bytes) s.behind) in
             let r = walk some n (suc slot) s.behind less s.gate (omega (arith, s.few)) in
             record {
               batches = s.batch ∷ r.batches;

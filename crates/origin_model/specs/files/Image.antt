@@ -1,17 +1,18 @@
 -- What the bytes of a file mean: a header, and then slots, numbered from 0, each of which begins with its gate. A slot whose gate is 1 is open; any other gate ends the meaning. Numbers are big-endian.
-use Rattle.std.specs.Prelude.{◌≡◌, ◌≢◌, ℕ, ◌+◌, ◌<◌, ◌≤◌, nat_le, nat_eq, Bool, true, false, ◌&&◌, List, [], ◌∷◌, ◌++◌, length, take, drop, slice_index_or, flat_map, All, codes}
+use Rattle.std.specs.Prelude.{◌≡◌, ◌≢◌, ℕ, ◌+◌, ◌*◌, ◌/◌, ◌%◌, ◌<◌, ◌≤◌, nat_le, nat_eq, Bool, true, false, ◌&&◌, List, [], ◌∷◌, ◌++◌, length, take, drop, slice_index_or, flat_map, All, codes}
 use Rattle.std.specs.Cmp.Lexicographic.{pointwise}
 use Rattle.std.specs.Int.{from_be_bytes, to_be_bytes, w32}
 use Rattle.fugue_ids.specs.declared.limits.TheConstants.{GREATEST_HOLD, MOST_OPERATIONS}
 use Rattle.fugue_ids.specs.declared.op.Op.{Op}
-use Rattle.origin_model.specs.declared.files.TheConstants.{LONGEST_BATCH}
-use Rattle.origin_model.specs.declared.grammar.Grammar.TheVariants.{Version1}
+use Rattle.origin_model.specs.declared.files.TheConstants.{LONGEST_BATCH, TAG_UNIT}
+use Rattle.origin_model.specs.declared.grammar.Grammar.{Grammar}
+use Rattle.origin_model.specs.declared.grammar.Grammar.TheVariants.{Version1, Version2}
 use Rattle.origin_model.specs.frames.Frames.{Reads, Whole}
 use Rattle.origin_model.specs.taking.Taking.{Held, held}
 
--- the mark, the version, the replica and its hold
+-- the mark, version 2, the replica and its hold
 abbrev pub header : (replica hold : ℕ) → List ℕ
-header replica hold = codes "FGMX" ++ 1 ∷ to_be_bytes w32 replica ++ to_be_bytes w32 hold
+header replica hold = codes "FGMX" ++ 2 ∷ to_be_bytes w32 replica ++ to_be_bytes w32 hold
 
 -- a header, and a closed gate
 abbrev pub new_file : (replica hold : ℕ) → List ℕ
@@ -21,10 +22,30 @@ new_file replica hold = header replica hold ++ 0 ∷ []
 abbrev pub number_at : ℕ → List ℕ → ℕ
 number_at offset bytes = from_be_bytes w32 (take 4 (drop offset bytes))
 
--- 13 bytes are a header: the mark, a version that is allowed, a replica other than 0, and a hold within its limits
+-- a word has a tag in its upper three bits, and in the others the length of the slot's bytes
+abbrev pub word_tag : ℕ → ℕ
+word_tag word = word / TAG_UNIT
+
+abbrev pub word_length : ℕ → ℕ
+word_length word = word % TAG_UNIT
+
+-- which tag says by which grammar the slot's bytes are read
+abbrev pub tag_of : Grammar → ℕ
+tag_of Version1 = 0
+tag_of Version2 = 1
+
+-- the word of so many bytes that are read by the grammar
+abbrev pub word_of : Grammar → ℕ → ℕ
+word_of grammar length = tag_of grammar * TAG_UNIT + length
+
+-- the length in the word that stands at an offset
+abbrev pub length_at : ℕ → List ℕ → ℕ
+length_at offset bytes = word_length (number_at offset bytes)
+
+-- 13 bytes are a header: the mark, version 1 or 2, a replica other than 0, and a hold within its limits
 abbrev pub is_header : List ℕ → Bool
 is_header bytes =
-    pointwise nat_eq (take 4 bytes) (codes "FGMX") && nat_eq (slice_index_or bytes 4 0) 1 && nat_le 1 (number_at 5 bytes)
+    pointwise nat_eq (take 4 bytes) (codes "FGMX") && nat_le 1 (slice_index_or bytes 4 0) && nat_le (slice_index_or bytes 4 0) 2 && nat_le 1 (number_at 5 bytes)
     && nat_le 1 (number_at 9 bytes) && nat_le (number_at 9 bytes) GREATEST_HOLD
 
 -- the first 13 bytes, and those behind them
@@ -38,22 +59,24 @@ slots_of bytes = drop 13 bytes
 abbrev pub has_header : List ℕ → Bool
 has_header bytes = nat_le 14 (length bytes) && is_header (header_of bytes)
 
--- a batch: the four bytes of its length, its bytes, and the operations that these stand for
+-- a batch: the four bytes of its word, its bytes, the grammar by which they are read, and the operations that they stand for
 pub record Batch : Type 0 where
-  pub number : List ℕ
+  pub word : List ℕ
   pub bytes : List ℕ
+  pub grammar : Grammar
   pub ops : List Op
 
--- the length is the length, and the bytes are whole frames
+-- the word has the tag and the length, and the bytes are whole frames
 pub record IsBatch (batch : Batch) : Type 0 where
-  pub four_bytes : length batch.number ≡ 4
-  pub counts : from_be_bytes w32 batch.number ≡ length batch.bytes
+  pub four_bytes : length batch.word ≡ 4
+  pub tagged : word_tag (from_be_bytes w32 batch.word) ≡ tag_of batch.grammar
+  pub counts : word_length (from_be_bytes w32 batch.word) ≡ length batch.bytes
   pub short : length batch.bytes ≤ LONGEST_BATCH
-  pub reads : Reads Version1 batch.bytes batch.ops Whole
+  pub reads : Reads batch.grammar batch.bytes batch.ops Whole
 
 -- the bytes of an open slot
 abbrev pub open_slot : Batch → List ℕ
-open_slot batch = 1 ∷ batch.number ++ batch.bytes
+open_slot batch = 1 ∷ batch.word ++ batch.bytes
 
 abbrev pub open_slots : List Batch → List ℕ
 open_slots batches = flat_map open_slot batches
@@ -74,15 +97,17 @@ pub record OpenSlots (slots : List ℕ) (batches : List Batch) (rest : List ℕ)
 
 -- why the bytes behind the gate of an open slot are no batch with a byte behind it
 pub data IsNoBatch (slot : ℕ) (bytes : List ℕ) : Type 0 where
-  -- the four bytes of the length are not all there
-  NoLength : length bytes < 4 → IsNoBatch slot bytes
+  -- the four bytes of the word are not all there
+  NoWord : length bytes < 4 → IsNoBatch slot bytes
+  -- the tag is that of no grammar
+  NoTag : ((grammar : Grammar) → word_tag (number_at 0 bytes) ≢ tag_of grammar) → IsNoBatch slot bytes
   -- the length is above the limit, or more than the bytes that follow
-  TooLong : LONGEST_BATCH < number_at 0 bytes → IsNoBatch slot bytes
-  CutShort : length (drop 4 bytes) < number_at 0 bytes → IsNoBatch slot bytes
-  -- the bytes are not whole frames
-  NoFrames : ((ops : List Op) → Reads Version1 (take (number_at 0 bytes) (drop 4 bytes)) ops Whole → ⊥) → IsNoBatch slot bytes
+  TooLong : LONGEST_BATCH < length_at 0 bytes → IsNoBatch slot bytes
+  CutShort : length (drop 4 bytes) < length_at 0 bytes → IsNoBatch slot bytes
+  -- the bytes are not whole frames of the tag's grammar
+  NoFrames : (grammar : Grammar) → word_tag (number_at 0 bytes) ≡ tag_of grammar → ((ops : List Op) → Reads grammar (take (length_at 0 bytes) (drop 4 bytes)) ops Whole → ⊥) → IsNoBatch slot bytes
   -- no byte stands behind the bytes of the slot
-  NoGate : length (drop 4 bytes) ≡ number_at 0 bytes → IsNoBatch slot bytes
+  NoGate : length (drop 4 bytes) ≡ length_at 0 bytes → IsNoBatch slot bytes
   -- the slot has the last number
   LastSlot : slot ≡ last_slot → IsNoBatch slot bytes
 
