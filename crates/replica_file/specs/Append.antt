@@ -4,18 +4,19 @@ use Rattle.std.specs.Int.{to_be_bytes, w32}
 use Rattle.fugue_ids.specs.declared.op.Op.{Op}
 use Rattle.outer_ports.specs.disk.States.{State, at_rest}
 use Rattle.origin_model.specs.declared.files.TheConstants.{LONGEST_BATCH}
-use Rattle.origin_model.specs.files.Image.{Content, HasImage, Holds, last_slot}
-use Rattle.origin_model.specs.frames.Frames.{single_frames}
+use Rattle.origin_model.specs.declared.grammar.Grammar.TheVariants.{Version2}
+use Rattle.origin_model.specs.files.Image.{Content, HasImage, Holds, last_slot, word_of}
+use Rattle.origin_model.specs.frames.Framings.{frames}
 use Rattle.replica_file.specs.declared.load_file.End.{End}
 use Rattle.replica_file.specs.Ends.{EndsAt, Means}
 
--- what is written behind a slot's gate: the length, the frames, and the next gate, which is closed
+-- what is written behind a slot's gate: the word, the frames, and the next gate, which is closed
 abbrev pub behind_gate : List Op → List ℕ
-behind_gate ops = to_be_bytes w32 (length (single_frames ops)) ++ single_frames ops ++ 0 ∷ []
+behind_gate ops = to_be_bytes w32 (word_of Version2 (length (frames ops))) ++ frames ops ++ 0 ∷ []
 
 -- the frames are too long for one batch, or there is no slot for them
 abbrev pub IsTooLong : End → List Op → Type 0
-IsTooLong end ops = (LONGEST_BATCH < length (single_frames ops)) ⊎ ((ops ≢ []) × (end.slots ≡ last_slot))
+IsTooLong end ops = (LONGEST_BATCH < length (frames ops)) ⊎ ((ops ≢ []) × (end.slots ≡ last_slot))
 
 -- the end behind one more slot
 abbrev pub next_end : End → List Op → End

@@ -4,7 +4,7 @@ use Rattle.outer_ports.specs.disk.States.{State, IsCrashImage}
 use Rattle.origin_model.specs.files.Image.{Content, HasImage, Holds}
 use Rattle.replica_file.specs.declared.load_file.End.{End}
 
--- how far the slots before an end reach: a header, and for each slot a gate, a length and at most the longest batch
+-- how far the slots before an end reach: a header, and for each slot a gate, a word and at most the longest batch
 abbrev pub IsWithinReach : End → Type 0
 IsWithinReach end = end.at ≤ 13 + 268435461 * end.slots
 

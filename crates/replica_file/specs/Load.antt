@@ -3,9 +3,8 @@ use Rattle.std.specs.Prelude.{◌≡◌, ◌⊎◌, ◌↔◌, ℕ, ◌+◌, ◌
 use Rattle.fugue_ids.specs.declared.op.Op.{Op}
 use Rattle.outer_ports.specs.disk.Disks.{RoomView}
 use Rattle.origin_model.specs.declared.files.TheConstants.{LONGEST_BATCH}
-use Rattle.origin_model.specs.declared.grammar.Grammar.TheVariants.{Version1}
-use Rattle.origin_model.specs.frames.Frames.{Starts}
-use Rattle.origin_model.specs.files.Image.{Batch, Content, EndsBadly, HasImage, Holds, OpenSlots, batch_ops, has_header, header_of, last_slot, number_at, open_slots, slots_of, state}
+use Rattle.origin_model.specs.declared.grammar.Grammar.{Grammar}
+use Rattle.origin_model.specs.files.Image.{Batch, Content, EndsBadly, HasImage, Holds, OpenSlots, batch_ops, has_header, header_of, last_slot, length_at, number_at, open_slots, slots_of, state, tag_of, word_tag}
 use Rattle.origin_model.specs.taking.Taking.{HasPlace, TooMany as AnswersTooMany, answers_from, held, nothing_held}
 use Rattle.origin_model.specs.edits.State.{State}
 use Rattle.replica_file.specs.Wanting.{BeginsPiece, IsWanting, part_of}
@@ -53,7 +52,7 @@ pub record FindsTooMany (most : ℕ) (bytes : List ℕ) : Type 0 where
   pub place : FindPlace (hold_of bytes) most (batch_ops earlier)
   pub refused : AreTooMany (hold_of bytes) most (batch_ops (earlier ++ batch ∷ []))
 
--- Memory was wanting in an open slot, where a piece of its batch was to be read, or for the frame that comes next.
+-- Memory was wanting in an open slot, where a piece of its batch was to be read, or for the operation that comes next.
 -- No byte in front of that place is at fault, and the operations of the slots before it can all be taken in.
 pub record LacksMemory (most : ℕ) (bytes : List ℕ) : Type 0 where
   pub header : has_header bytes ≡ true
@@ -63,13 +62,13 @@ pub record LacksMemory (most : ℕ) (bytes : List ℕ) : Type 0 where
   pub found : OpenSlots (slots_of bytes) earlier (1 ∷ drop (at + 1) bytes)
   pub few : length earlier < last_slot
   pub place : FindPlace (hold_of bytes) most (batch_ops earlier)
-  pub short : number_at (at + 1) bytes ≤ LONGEST_BATCH
-  -- the operations of the slot's frames in front, and what stands behind these frames
+  pub grammar : Grammar
+  pub tagged : word_tag (number_at (at + 1) bytes) ≡ tag_of grammar
+  pub short : length_at (at + 1) bytes ≤ LONGEST_BATCH
+  -- the operations of the slot that were taken in
   pub ops : List Op
-  pub rest : List ℕ
-  pub starts : Starts Version1 (part_of bytes (at + 5) (number_at (at + 1) bytes)) ops rest
-  pub wants : BeginsPiece bytes (at + 5) (number_at (at + 1) bytes) rest
-      ⊎ IsWanting (hold_of bytes) most (held (hold_of bytes) most (batch_ops earlier ++ ops)) (FindPlace (hold_of bytes) most (batch_ops earlier ++ ops)) rest
+  pub wants : IsWanting grammar (BeginsPiece grammar bytes (at + 5) (length_at (at + 1) bytes)) (part_of bytes (at + 5) (length_at (at + 1) bytes)) ops (hold_of bytes) most
+      (held (hold_of bytes) most (batch_ops earlier ++ ops)) (FindPlace (hold_of bytes) most (batch_ops earlier ++ ops))
 
 -- the bytes decide such an answer: it is no fault of the disk, and no want of memory
 abbrev pub IsLoadByBytes : Result (State × End) LoadFault → Type 0

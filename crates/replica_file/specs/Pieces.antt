@@ -1,8 +1,8 @@
 -- The frames of a piece of a file.
-use Rattle.std.specs.Prelude.{◌≡◌, ◌⊎◌, ℕ, ◌≤◌, List, [], ◌∷◌, ◌++◌, length, drop, Option, Some, None, Bool, true, Result, Ok, Err}
+use Rattle.std.specs.Prelude.{◌≡◌, ℕ, ◌≤◌, List, [], ◌∷◌, ◌++◌, length, drop, Option, Some, None, Bool, true, Result, Ok, Err}
 use Rattle.fugue_ids.specs.declared.op.Op.{Op}
 use Rattle.outer_ports.specs.Sources.{SourceView}
-use Rattle.origin_model.specs.declared.grammar.Grammar.TheVariants.{Version1}
+use Rattle.origin_model.specs.declared.grammar.Grammar.{Grammar}
 use Rattle.origin_model.specs.frames.Frames.{Starts, IsBad, IsPartial}
 use Rattle.op_frame.specs.Readers.{Gave, FrameReading}
 use Rattle.origin_model.specs.edits.State.{State}
@@ -12,41 +12,40 @@ use Rattle.replica_file.specs.declared.stop.Stop.{Stop}
 use Rattle.replica_file.specs.declared.stop.Stop.TheVariants.{Bad, Disk, NoMemory}
 
 -- the reader gave these operations of a piece that is in memory, and no fault yet
-pub record IsReading (bytes : List ℕ) (ops : List Op) (reader : FrameReading) (source : SourceView) : Type 0 where
+pub record IsReading (grammar : Grammar) (bytes : List ℕ) (ops : List Op) (reader : FrameReading) (source : SourceView) : Type 0 where
   pub gave : Gave (Some bytes) ops reader source.left
+  pub by_grammar : reader.grammar ≡ grammar
   pub no_fault : reader.fault ≡ None
   pub fits : length bytes ≡ reader.limit
   pub sure : source.sure ≡ true
 
 -- behind some frames stands none, and nothing that begins one
-pub record AreBad (bytes : List ℕ) : Type 0 where
+pub record AreBad (grammar : Grammar) (bytes : List ℕ) : Type 0 where
   pub ops : List Op
   pub rest : List ℕ
-  pub starts : Starts Version1 bytes ops rest
-  pub bad : IsBad Version1 rest
+  pub starts : Starts grammar bytes ops rest
+  pub bad : IsBad grammar rest
 
 -- one step over a piece: an operation more was taken in, or the whole frames are over, or what follows is bad, or memory was wanting for it
-abbrev pub PieceSteps : List ℕ → List Op → (was : Bool) (old : State) (now : Bool) (new : State) → FrameReading → SourceView → Result (Option ℕ) Stop → Type 0
-PieceSteps bytes ops was old now new reader source (Ok None) = (op : Op) × IsReading bytes (ops ++ op ∷ []) reader source × Feeds was old now new (op ∷ [])
-PieceSteps bytes ops was old now new reader source (Ok (Some len)) = AreWhole bytes len ops × (now ≡ was) × (new ≡ old)
-PieceSteps bytes ops was old now new reader source (Err Bad) = AreBad bytes
-PieceSteps bytes ops was old now new reader source (Err Disk) = ⊥
-PieceSteps bytes ops was old now new reader source (Err NoMemory) = (rest : List ℕ) × Starts Version1 bytes ops rest × IsWanting old.hold old.most old.held (was ≡ true) rest
+abbrev pub PieceSteps : Grammar → List ℕ → List Op → (was : Bool) (old : State) (now : Bool) (new : State) → FrameReading → SourceView → Result (Option ℕ) Stop → Type 0
+PieceSteps grammar bytes ops was old now new reader source (Ok None) = (op : Op) × IsReading grammar bytes (ops ++ op ∷ []) reader source × Feeds was old now new (op ∷ [])
+PieceSteps grammar bytes ops was old now new reader source (Ok (Some len)) = AreWhole grammar bytes len ops × (now ≡ was) × (new ≡ old)
+PieceSteps grammar bytes ops was old now new reader source (Err Bad) = AreBad grammar bytes
+PieceSteps grammar bytes ops was old now new reader source (Err Disk) = ⊥
+PieceSteps grammar bytes ops was old now new reader source (Err NoMemory) = IsWanting grammar (λ rest. rest ≡ bytes) bytes ops old.hold old.most old.held (was ≡ true)
 
 -- the whole frames at the front of a piece were taken in
-pub record TakesPiece (bytes : List ℕ) (len : ℕ) (was : Bool) (old : State) (now : Bool) (new : State) : Type 0 where
+pub record TakesPiece (grammar : Grammar) (bytes : List ℕ) (len : ℕ) (was : Bool) (old : State) (now : Bool) (new : State) : Type 0 where
   pub ops : List Op
-  pub whole : AreWhole bytes len ops
+  pub whole : AreWhole grammar bytes len ops
   pub feeds : Feeds was old now new ops
 
 -- The operations at the front of the bytes were taken in, and memory was wanting for what stands behind them: to read
--- on, or for the next frame.
-pub record Lacks (Begins : List ℕ → Type 0) (bytes : List ℕ) (was : Bool) (old : State) : Type 0 where
+-- on, or for the next operation.
+pub record Lacks (grammar : Grammar) (Begins : List ℕ → Type 0) (bytes : List ℕ) (was : Bool) (old : State) : Type 0 where
   pub ops : List Op
-  pub rest : List ℕ
-  pub starts : Starts Version1 bytes ops rest
   pub now : Bool
   pub new : State
   pub feeds : Feeds was old now new ops
   pub same : IsSameButHeld old new
-  pub wants : Begins rest ⊎ IsWanting new.hold new.most new.held (now ≡ true) rest
+  pub wants : IsWanting grammar Begins bytes ops new.hold new.most new.held (now ≡ true)

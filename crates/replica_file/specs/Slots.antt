@@ -2,8 +2,8 @@
 use Rattle.std.specs.Prelude.{◌≡◌, ◌≢◌, ◌⊎◌, ℕ, ◌+◌, ◌<◌, ◌≤◌, List, [], ◌++◌, length, take, drop, Some, slice_get, Err, Bool, true, false}
 use Rattle.fugue_ids.specs.declared.op.Op.{Op}
 use Rattle.origin_model.specs.declared.files.TheConstants.{LONGEST_BATCH}
-use Rattle.origin_model.specs.files.Image.{Batch, IsBatch, OpenSlots, batch_ops, has_header, header_of, is_header, number_at, open_slots, slots_of}
-use Rattle.origin_model.specs.declared.grammar.Grammar.TheVariants.{Version1}
+use Rattle.origin_model.specs.files.Image.{Batch, IsBatch, OpenSlots, batch_ops, has_header, header_of, is_header, length_at, number_at, open_slots, slots_of, tag_of, word_tag}
+use Rattle.origin_model.specs.declared.grammar.Grammar.{Grammar}
 use Rattle.origin_model.specs.frames.Frames.{IsBad, IsPartial, Reads, Starts, Whole}
 use Rattle.origin_model.specs.edits.State.{State}
 use Rattle.replica_file.specs.Load.{LoadAnswerIs}
@@ -14,36 +14,49 @@ use Rattle.replica_file.specs.declared.load_file.End.{End}
 use Rattle.replica_file.specs.declared.header.Header.{Header}
 use Rattle.replica_file.specs.declared.load_file.LoadFault.{LoadFault}
 use Rattle.replica_file.specs.declared.gate.Gate.{Gate}
+use Rattle.replica_file.specs.declared.slot.Word.{Word}
 
 -- frames of the operations are the first so many bytes of a part, and they were taken in
-pub record TakesSome (bytes : List ℕ) (at len taken : ℕ) (was : Bool) (old : State) (now : Bool) (new : State) : Type 0 where
+pub record TakesSome (grammar : Grammar) (bytes : List ℕ) (at len taken : ℕ) (was : Bool) (old : State) (now : Bool) (new : State) : Type 0 where
   pub ops : List Op
   pub inside : taken ≤ length (part_of bytes at len)
-  pub starts : Starts Version1 (part_of bytes at len) ops (drop taken (part_of bytes at len))
+  pub starts : Starts grammar (part_of bytes at len) ops (drop taken (part_of bytes at len))
   pub feeds : Feeds was old now new ops
 
 -- the part is all there and whole frames, and they were taken in
-pub record TakesFrames (bytes : List ℕ) (at len : ℕ) (was : Bool) (old : State) (now : Bool) (new : State) : Type 0 where
+pub record TakesFrames (grammar : Grammar) (bytes : List ℕ) (at len : ℕ) (was : Bool) (old : State) (now : Bool) (new : State) : Type 0 where
   pub ops : List Op
   pub long : length (part_of bytes at len) ≡ len
-  pub reads : Reads Version1 (part_of bytes at len) ops Whole
+  pub reads : Reads grammar (part_of bytes at len) ops Whole
   pub feeds : Feeds was old now new ops
 
 -- behind some frames stand bytes that are no whole frame and begin none
-pub record EndsOff (bytes : List ℕ) : Type 0 where
+pub record EndsOff (grammar : Grammar) (bytes : List ℕ) : Type 0 where
   pub ops : List Op
   pub rest : List ℕ
-  pub starts : Starts Version1 bytes ops rest
-  pub ends : ((rest ≢ []) × IsPartial Version1 rest) ⊎ IsBad Version1 rest
+  pub starts : Starts grammar bytes ops rest
+  pub ends : ((rest ≢ []) × IsPartial grammar rest) ⊎ IsBad grammar rest
 
 -- the part is not all there, or it is not whole frames
-abbrev pub HasNoFrames : List ℕ → (at len : ℕ) → Type 0
-HasNoFrames bytes at len = (length (drop at bytes) < len) ⊎ EndsOff (part_of bytes at len)
+abbrev pub HasNoFrames : Grammar → List ℕ → (at len : ℕ) → Type 0
+HasNoFrames grammar bytes at len = (length (drop at bytes) < len) ⊎ EndsOff grammar (part_of bytes at len)
 
--- the length of the batch behind a gate was read, and memory was wanting for its frames
+-- the word of the batch behind a gate was read, and memory was wanting for its frames
 pub record LacksInSlot (bytes : List ℕ) (at : ℕ) (was : Bool) (old : State) : Type 0 where
-  pub short : number_at (at + 1) bytes ≤ LONGEST_BATCH
-  pub lacks : Lacks (BeginsPiece bytes (at + 5) (number_at (at + 1) bytes)) (part_of bytes (at + 5) (number_at (at + 1) bytes)) was old
+  pub grammar : Grammar
+  pub tagged : word_tag (number_at (at + 1) bytes) ≡ tag_of grammar
+  pub short : length_at (at + 1) bytes ≤ LONGEST_BATCH
+  pub lacks : Lacks grammar (BeginsPiece grammar bytes (at + 5) (length_at (at + 1) bytes)) (part_of bytes (at + 5) (length_at (at + 1) bytes)) was old
+
+-- the four bytes at an offset are a slot's word
+pub record IsWord (bytes : List ℕ) (at : ℕ) (word : Word) : Type 0 where
+  pub there : 4 ≤ length (drop at bytes)
+  pub tagged : word_tag (number_at at bytes) ≡ tag_of word.grammar
+  pub len_is : word.len ≡ length_at at bytes
+
+-- the four bytes are not there, or their tag is that of no grammar, or their length is above the limit
+abbrev pub HasNoWord : List ℕ → (at : ℕ) → Type 0
+HasNoWord bytes at = (length (drop at bytes) < 4) ⊎ ((grammar : Grammar) → word_tag (number_at at bytes) ≢ tag_of grammar) ⊎ (LONGEST_BATCH < length_at at bytes)
 
 -- a gate is open or not, as the byte at its place says
 pub record IsGate (bytes : List ℕ) (gate : Gate) : Type 0 where
@@ -56,7 +69,7 @@ pub record IsGate (bytes : List ℕ) (gate : Gate) : Type 0 where
 pub record TakesSlot (bytes : List ℕ) (at : ℕ) (next : Gate) (was : Bool) (old : State) (now : Bool) (new : State) : Type 0 where
   pub batch : Batch
   pub is_batch : IsBatch batch
-  pub split : drop (at + 1) bytes ≡ (batch.number ++ batch.bytes) ++ drop next.at bytes
+  pub split : drop (at + 1) bytes ≡ (batch.word ++ batch.bytes) ++ drop next.at bytes
   pub next_at : next.at ≡ at + 5 + length batch.bytes
   pub gate : IsGate bytes next
   pub feeds : Feeds was old now new batch.ops

@@ -9,6 +9,7 @@ ghost use Rattle.replica_file.specs.Slots.{HasNoFrames, TakesFrames, TakesSome};
 use crate::loading::Loading;
 use crate::piece::{PIECE, take_piece};
 use crate::reading::read_piece;
+use crate::slot::Word;
 use crate::stop::Stop;
 use outer_ports::Disk;
 use std::alloc::Global;
@@ -19,24 +20,29 @@ pub(crate) fn take_frames<H: Disk>(
     alloc: Global,
     disk: &mut H,
     at: u64,
-    len: u64,
+    word: Word,
     loading: &mut Loading,
 ) -> Result<(), Stop>
-    requires small { at + len < 2 ^ 64 }
+    requires small { at + word.len < 2 ^ 64 }
     requires ready { IsReady loading.old.replica }
-    ensures took { OnOk result (IfSome (H.seen disk.old).past (λ h. TakesFrames h.last.seen at len
+    ensures took { OnOk result (IfSome (H.seen disk.old).past (λ h. TakesFrames word.grammar h.last.seen at word.len
         loading.old.finds_place loading.old.replica loading.new.finds_place loading.new.replica)) }
-    ensures bad { result ≡ Err Stop.Bad → IfSome (H.seen disk.old).past (λ h. HasNoFrames h.last.seen at len) }
+    ensures bad { result ≡ Err Stop.Bad → IfSome (H.seen disk.old).past (λ h.
+        HasNoFrames word.grammar h.last.seen at word.len) }
     ensures memory { result ≡ Err Stop.NoMemory → IfSome (H.seen disk.old).past (λ h.
-        Lacks (BeginsPiece h.last.seen at len)
-        (part_of h.last.seen at len) loading.old.finds_place loading.old.replica) }
+        Lacks word.grammar (BeginsPiece word.grammar h.last.seen at word.len) (part_of h.last.seen at word.len)
+        loading.old.finds_place loading.old.replica) }
     ensures ready { OnOk result (IsReady loading.new.replica) }
     ensures same { OnOk result (IsSameButHeld loading.old.replica loading.new.replica) }
     ensures looks { LooksOnly (H.seen disk.old) (H.seen disk.new) (result ≡ Err Stop.Disk) }
 {
     let mut taken = 0;
-    'pieces: while taken < len {
-        taken += take_some(alloc, disk, at + taken, len - taken, loading)?;
+    'pieces: while taken < word.len {
+        let left = Word {
+            len: word.len - taken,
+            ..word
+        };
+        taken += take_some(alloc, disk, at + taken, left, loading)?;
     }
     Ok(())
 }
@@ -46,31 +52,32 @@ fn take_some<H: Disk>(
     alloc: Global,
     disk: &mut H,
     at: u64,
-    left: u64,
+    left: Word,
     loading: &mut Loading,
 ) -> Result<u64, Stop>
-    requires small { at + left < 2 ^ 64 }
-    requires some { 0 < left }
+    requires small { at + left.len < 2 ^ 64 }
+    requires some { 0 < left.len }
     requires ready { IsReady loading.old.replica }
-    ensures within { IfOk result (λ len. (0 < len) × (len ≤ left)) }
-    ensures took { IfOk result (λ len. IfSome (H.seen disk.old).past (λ h. TakesSome h.last.seen at left len
+    ensures within { IfOk result (λ len. (0 < len) × (len ≤ left.len)) }
+    ensures took { IfOk result (λ len. IfSome (H.seen disk.old).past (λ h. TakesSome left.grammar h.last.seen at left.len len
         loading.old.finds_place loading.old.replica loading.new.finds_place loading.new.replica)) }
-    ensures bad { result ≡ Err Stop.Bad → IfSome (H.seen disk.old).past (λ h. HasNoFrames h.last.seen at left) }
-    ensures memory { result ≡ Err Stop.NoMemory → IfSome (H.seen disk.old).past (λ h. Lacks
-        (λ rest. rest ≡ part_of h.last.seen at left) (part_of h.last.seen at left)
+    ensures bad { result ≡ Err Stop.Bad → IfSome (H.seen disk.old).past (λ h.
+        HasNoFrames left.grammar h.last.seen at left.len) }
+    ensures memory { result ≡ Err Stop.NoMemory → IfSome (H.seen disk.old).past (λ h. Lacks left.grammar
+        (λ rest. rest ≡ part_of h.last.seen at left.len) (part_of h.last.seen at left.len)
         loading.old.finds_place loading.old.replica) }
     ensures whole { IfOk result (λ len. IfSome (H.seen disk.old).past (λ h. (ops : List Op)
-        × AreWhole (part_of h.last.seen at (min left 65536)) len ops)) }
+        × AreWhole left.grammar (part_of h.last.seen at (min left.len 65536)) len ops)) }
     ensures ready { OnOk result (IsReady loading.new.replica) }
     ensures same { OnOk result (IsSameButHeld loading.old.replica loading.new.replica) }
     ensures looks { LooksOnly (H.seen disk.old) (H.seen disk.new) (result ≡ Err Stop.Disk) }
 {
-    let size = left.min(PIECE as u64) as usize;
+    let size = left.len.min(PIECE as u64) as usize;
     let piece = read_piece(alloc, disk, at, size)?;
     if piece.len() < size {
         return Err(Stop::Bad);
     }
-    let len = take_piece(alloc, piece, loading)?;
+    let len = take_piece(alloc, piece, left.grammar, loading)?;
     if len == 0 {
         return Err(Stop::Bad);
     }

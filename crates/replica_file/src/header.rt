@@ -15,7 +15,8 @@ pub(crate) const HEADER: usize = 13;
 
 const MARK: [u8; 4] = *b"FGMX";
 
-const VERSION: u8 = 1;
+/// The version of new files. Those of version 1 are read too.
+const VERSION: u8 = 2;
 
 /// What stands in front of the slots.
 #[derive(Clone, Copy)]
@@ -64,7 +65,7 @@ fn parse(bytes: &[u8]) -> Option<Header>
 {
     let replica = number(bytes, 5);
     let hold = number(bytes, 9);
-    if !bytes.starts_with(&MARK) || bytes[4] != VERSION {
+    if !bytes.starts_with(&MARK) || bytes[4] == 0 || bytes[4] > VERSION {
         return None;
     }
     if replica == 0 || hold == 0 || hold > GREATEST_HOLD {

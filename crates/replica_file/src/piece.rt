@@ -7,6 +7,7 @@ use crate::loading::Loading;
 use crate::stop::Stop;
 use fugue_ids::NoMemory;
 use op_frame::{FrameFault, FrameReader};
+use origin_model::Grammar;
 use outer_ports::{Source, SureSource};
 use std::alloc::Global;
 
@@ -22,14 +23,18 @@ struct Piece {
 }
 
 impl Piece {
-    fn new(alloc: Global, bytes: Vec<u8>) -> Result<Piece, NoMemory>
+    fn new(alloc: Global, bytes: Vec<u8>, grammar: Grammar) -> Result<Piece, NoMemory>
         ensures reading { IfOk result (λ piece.
-            IsReading bytes.items [] piece.reader (⟦<SureSource as Source>⟧.seen piece.source)) }
+            IsReading grammar bytes.items [] piece.reader (⟦<SureSource as Source>⟧.seen piece.source)) }
         ensures len { IfOk result (λ piece. piece.len ≡ length bytes.items) }
     {
         let len = bytes.len() as u64;
+        let reader = match grammar {
+            Grammar::Version1 => FrameReader::old(alloc, len)?,
+            Grammar::Version2 => FrameReader::new(alloc, len)?,
+        };
         Ok(Piece {
-            reader: FrameReader::old(alloc, len)?,
+            reader,
             source: SureSource::new(bytes, PIECE),
             len,
         })
@@ -41,15 +46,17 @@ impl Piece {
         requires no_fault { self.old.reader.fault ≡ None }
         requires ready { IsReady loading.old.replica }
         ensures steps { (bytes : List ℕ) (ops : List Op)
-            → IsReading bytes ops self.old.reader (⟦<SureSource as Source>⟧.seen self.old.source)
+            → IsReading self.old.reader.grammar bytes ops self.old.reader (⟦<SureSource as Source>⟧.seen self.old.source)
             → self.old.len ≡ length bytes
-            → PieceSteps bytes ops loading.old.finds_place loading.old.replica loading.new.finds_place
+            → PieceSteps self.old.reader.grammar bytes ops loading.old.finds_place loading.old.replica loading.new.finds_place
             loading.new.replica
             self.new.reader (⟦<SureSource as Source>⟧.seen self.new.source) result }
-        ensures goes_on { result ≡ Ok None
-            → (self.new.reader.fault ≡ None) × (self.old.reader.offset < self.new.reader.offset) }
+        ensures no_fault { result ≡ Ok None → self.new.reader.fault ≡ None }
+        ensures goes_on { result ≡ Ok None → self.old.reader.offset + 3 * length self.new.reader.todo
+            < self.new.reader.offset + 3 * length self.old.reader.todo }
         ensures within { self.new.reader.offset ≤ self.new.reader.limit }
         ensures limit { self.new.reader.limit ≡ self.old.reader.limit }
+        ensures grammar { self.new.reader.grammar ≡ self.old.reader.grammar }
         ensures len { self.new.len ≡ self.old.len }
         ensures ready { OnOk result (IsReady loading.new.replica) }
         ensures same { OnOk result (IsSameButHeld loading.old.replica loading.new.replica) }
@@ -72,18 +79,23 @@ impl Piece {
 }
 
 /// Takes the whole frames at the front of a piece in, and answers how many bytes they have.
-pub(crate) fn take_piece(alloc: Global, bytes: Vec<u8>, loading: &mut Loading) -> Result<u64, Stop>
+pub(crate) fn take_piece(
+    alloc: Global,
+    bytes: Vec<u8>,
+    grammar: Grammar,
+    loading: &mut Loading,
+) -> Result<u64, Stop>
     requires { IsReady loading.old.replica }
-    ensures took { IfOk result (λ len. TakesPiece bytes.items len loading.old.finds_place loading.old.replica
+    ensures took { IfOk result (λ len. TakesPiece grammar bytes.items len loading.old.finds_place loading.old.replica
         loading.new.finds_place loading.new.replica) }
-    ensures bad { result ≡ Err Stop.Bad → AreBad bytes.items }
+    ensures bad { result ≡ Err Stop.Bad → AreBad grammar bytes.items }
     ensures memory { result ≡ Err Stop.NoMemory
-        → Lacks (λ rest. rest ≡ bytes.items) bytes.items loading.old.finds_place loading.old.replica }
+        → Lacks grammar (λ rest. rest ≡ bytes.items) bytes.items loading.old.finds_place loading.old.replica }
     ensures ready { OnOk result (IsReady loading.new.replica) }
     ensures same { OnOk result (IsSameButHeld loading.old.replica loading.new.replica) }
     ensures not_disk { result ≢ Err Stop.Disk }
 {
-    let mut piece = Piece::new(alloc, bytes)?;
+    let mut piece = Piece::new(alloc, bytes, grammar)?;
     'frames: loop {
         match piece.take_next(loading) {
             Ok(None) => {}

@@ -1,17 +1,18 @@
-ghost use Rattle.std.specs.Prelude.{◌≡◌, ◌≢◌, ◌⊎◌, ◌+◌, ◌<◌, ◌≤◌, ◌^◌, ℕ, length, drop, IfSome, IfOk, OnOk};
+ghost use Rattle.std.specs.Prelude.{◌≡◌, ◌≢◌, ◌⊎◌, ◌↔◌, ◌+◌, ◌<◌, ◌≤◌, ◌^◌, ℕ, length, drop, IfSome, IfOk, OnOk, None};
 ghost use Rattle.origin_model.specs.declared.files.TheConstants.{LONGEST_BATCH};
-ghost use Rattle.origin_model.specs.files.Image.{IsNoBatch, number_at};
+ghost use Rattle.origin_model.specs.declared.grammar.Grammar.{Grammar as AnyGrammar};
+ghost use Rattle.origin_model.specs.files.Image.{IsNoBatch, tag_of};
 ghost use Rattle.replica_file.specs.Loading.{IsReady, IsSameButHeld};
 ghost use Rattle.replica_file.specs.Looks.{LooksOnly};
-ghost use Rattle.replica_file.specs.Slots.{IsGate, LacksInSlot, TakesSlot};
+ghost use Rattle.replica_file.specs.Slots.{HasNoWord, IsGate, IsWord, LacksInSlot, TakesSlot};
 
-use crate::batch::LENGTH;
+use crate::batch::WORD;
 use crate::frames::take_frames;
 use crate::gate::{CLOSED, Gate, OPEN};
 use crate::loading::Loading;
 use crate::reading::read_from;
 use crate::stop::Stop;
-use origin_model::LONGEST_BATCH;
+use origin_model::{Grammar, LONGEST_BATCH, TAG_UNIT};
 use outer_ports::Disk;
 use std::alloc::Global;
 
@@ -35,31 +36,52 @@ pub(crate) fn take_slot<H: Disk>(
     ensures same { OnOk result (IsSameButHeld loading.old.replica loading.new.replica) }
     ensures looks { LooksOnly (H.seen disk.old) (H.seen disk.new) (result ≡ Err Stop.Disk) }
 {
-    let len = read_length(disk, at + 1)?;
-    take_frames(alloc, disk, at + 5, len, loading)?;
-    read_gate(disk, at + 5 + len)
+    let word = read_word(disk, at + 1)?;
+    take_frames(alloc, disk, at + 5, word, loading)?;
+    read_gate(disk, at + 5 + word.len)
 }
 
-/// The length of a batch.
-fn read_length<H: Disk>(disk: &mut H, at: u64) -> Result<u64, Stop>
+/// What a slot's word says: by which grammar its bytes are read, and how many they are.
+#[derive(Clone, Copy)]
+pub(crate) struct Word {
+    pub(crate) grammar: Grammar,
+    pub(crate) len: u64,
+}
+
+/// The word of a slot.
+fn read_word<H: Disk>(disk: &mut H, at: u64) -> Result<Word, Stop>
     requires { at + 4 < 2 ^ 64 }
-    ensures told { IfOk result (λ len. IfSome (H.seen disk.old).past (λ h.
-        (len ≡ number_at at h.last.seen) × (4 ≤ length (drop at h.last.seen)))) }
-    ensures short { IfOk result (λ len. len ≤ LONGEST_BATCH) }
-    ensures bad { result ≡ Err Stop.Bad → IfSome (H.seen disk.old).past (λ h.
-        (length (drop at h.last.seen) < 4) ⊎ (LONGEST_BATCH < number_at at h.last.seen)) }
+    ensures told { IfOk result (λ word. IfSome (H.seen disk.old).past (λ h. IsWord h.last.seen at word)) }
+    ensures short { IfOk result (λ word. word.len ≤ LONGEST_BATCH) }
+    ensures bad { result ≡ Err Stop.Bad → IfSome (H.seen disk.old).past (λ h. HasNoWord h.last.seen at) }
     ensures no_memory { result ≢ Err Stop.NoMemory }
     ensures looks { LooksOnly (H.seen disk.old) (H.seen disk.new) (result ≡ Err Stop.Disk) }
 {
-    let mut number = [0; LENGTH];
-    if read_from(disk, at, &mut number)? < LENGTH {
+    let mut bytes = [0; WORD];
+    if read_from(disk, at, &mut bytes)? < WORD {
         return Err(Stop::Bad);
     }
-    let len = u32::from_be_bytes(number);
-    if len > LONGEST_BATCH {
-        return Err(Stop::Bad);
+    let word = u32::from_be_bytes(bytes);
+    let len = word % TAG_UNIT;
+    match grammar_of(word / TAG_UNIT) {
+        Some(grammar) if len <= LONGEST_BATCH => Ok(Word {
+            grammar,
+            len: u64::from(len),
+        }),
+        _ => Err(Stop::Bad),
     }
-    Ok(u64::from(len))
+}
+
+/// The grammar of the tag.
+fn grammar_of(tag: u32) -> Option<Grammar>
+    ensures some { IfSome result (λ grammar. tag ≡ tag_of grammar) }
+    ensures none { result ≡ None → (grammar : AnyGrammar) → tag ≢ tag_of grammar }
+{
+    match tag {
+        0 => Some(Grammar::Version1),
+        1 => Some(Grammar::Version2),
+        _ => None,
+    }
 }
 
 /// The gate at this offset.
