@@ -11,16 +11,17 @@ use Rattle.outer_ports.specs.disk.Moments.{History, LeavesOnly, LeavesOnlyTo}
 use Rattle.outer_ports.proofs.SharedLemmas.{image_at_rest, leaves_none}
 use Rattle.origin_model.specs.declared.files.TheConstants.{LONGEST_BATCH}
 use Rattle.origin_model.specs.files.Image.{Content, HasImage, Holds, last_slot, open_slot, open_slots}
-use Rattle.origin_model.specs.frames.Frames.{HasFrame, Whole, single_frames}
-use Rattle.origin_model.proofs.SharedLemmas.{Parts, ReadOnce, batch_appended, batch_of, from_parts, image_once, same_to_gate, to_parts, with_batch}
-use Rattle.op_frame.proofs.StreamLemmas.{reads_once}
+use Rattle.origin_model.specs.frames.Frames.{HasFrame, Whole}
+use Rattle.origin_model.specs.frames.Framings.{frames}
+use Rattle.origin_model.proofs.SharedLemmas.{Parts, ReadOnce, batch_appended, batch_of, framing_read, from_parts, image_once, is_batch, same_to_gate, to_parts, with_batch, written_framing}
+use Rattle.op_frame.proofs.ReadingLemmas.{reads_once}
 use Rattle.replica_file.specs.declared.load_file.End.{End}
 use Rattle.replica_file.specs.Append.{HasBatch, HoldsEither, behind_gate, next_end, content_with_ops}
 use Rattle.replica_file.specs.Ends.{EndsAt, Means}
 use Rattle.replica_file.specs.Gates.{BeforeOrWritten, IsOpened, IsWritten, OpenedTo}
 
 pub read_once : ReadOnce
-read_once bytes ops others p q = (reads_once bytes ops others Whole Whole p q).0
+read_once grammar bytes ops others p q = (reads_once grammar bytes ops others Whole Whole p q).0
 
 -- a file has one content at most
 pub same_content : (bytes : List ℕ) (a b : Content) → HasImage bytes (Holds a) → HasImage bytes (Holds b) → a ≡ b
@@ -61,7 +62,7 @@ other_gate before image content h inside front shut =
       content_is = p.content_is;
     })
 
-module _ (before : List ℕ) (content : Content) (ops : List Op) (h : HasImage before (Holds content)) (have : All HasFrame ops) (short : length (single_frames ops) ≤ LONGEST_BATCH)
+module _ (before : List ℕ) (content : Content) (ops : List Op) (h : HasImage before (Holds content)) (have : All HasFrame ops) (short : length (frames ops) ≤ LONGEST_BATCH)
     (few : content.slots < last_slot) where
   -- the bytes of one more batch, opened
   pub with_open_gate : (image : List ℕ) → IsWritten before content.at (behind_gate ops) image → get_or image content.at 0 ≡ 1 → HasImage image (Holds (content_with_ops content ops))
@@ -70,13 +71,13 @@ module _ (before : List ℕ) (content : Content) (ops : List Op) (h : HasImage b
       let behind : drop (content.at + 1) image ≡ behind_gate ops ++ more = sym (take-append-drop (length (behind_gate ops)) (drop (content.at + 1) image)) ∙ ap (λ (z : List ℕ). z ++ more) written.behind in
       let bytes : image ≡ take content.at before ++ (open_slot (batch_of ops) ++ 0 ∷ more) =
       at_offset image content.at 1 written.inside open_now ∙ (λ i. written.front i ++ 1 ∷ behind i)
-      ∙ ap (λ (z : List ℕ). take content.at before ++ 1 ∷ z) (append_assoc ((batch_of ops).number ++ single_frames ops) (0 ∷ []) more) in
-      let long : length (open_slot (batch_of ops)) ≡ length (behind_gate ops) = omega (arith, length-append ((batch_of ops).number ++ single_frames ops) (0 ∷ [])) in
-      let same : with_batch content ops ≡ content_with_ops content ops =
+      ∙ ap (λ (z : List ℕ). take content.at before ++ 1 ∷ z) (append_assoc ((batch_of ops).word ++ frames ops) (0 ∷ []) more) in
+      let long : length (open_slot (batch_of ops)) ≡ length (behind_gate ops) = omega (arith, length-append ((batch_of ops).word ++ frames ops) (0 ∷ [])) in
+      let same : with_batch content (batch_of ops) ≡ content_with_ops content ops =
       ap (λ (n : ℕ). record { replica = content.replica; hold = content.hold; ops = content.ops ++ ops; at = content.at + n; slots = content.slots + 1 }) long in
       subst (λ (z : List ℕ). HasImage z (Holds (content_with_ops content ops))) (sym bytes)
       (subst (λ (c : Content). HasImage (take content.at before ++ (open_slot (batch_of ops) ++ 0 ∷ more)) (Holds c)) same
-      (batch_appended before content ops 0 more h have short few (λ e. omega (arith, e))))
+      (batch_appended before content (batch_of ops) 0 more h (is_batch ops (framing_read ops (frames ops) (written_framing ops have)) short) few (λ e. omega (arith, e))))
 
   -- what a crash leaves holds what the file held, or that with the batch
   pub holds_either : (image : List ℕ) → content.at + 1 ≤ length before → BeforeOrWritten before content.at (behind_gate ops) image → HoldsEither content ops image
@@ -88,7 +89,7 @@ module _ (before : List ℕ) (content : Content) (ops : List Op) (h : HasImage b
   ]
 
 -- the same of all states that came
-pub leaves_either : (h k : History) (content : Content) (ops : List Op) → Means h.last content → All HasFrame ops → length (single_frames ops) ≤ LONGEST_BATCH → content.slots < last_slot
+pub leaves_either : (h k : History) (content : Content) (ops : List Op) → Means h.last content → All HasFrame ops → length (frames ops) ≤ LONGEST_BATCH → content.slots < last_slot
     → content.at + 1 ≤ length h.last.seen → LeavesOnly h k (BeforeOrWritten h.last.seen content.at (behind_gate ops)) → LeavesOnly h k (HoldsEither content ops)
 leaves_either h k content ops means have short few inside leaves = record {
   recent = leaves.recent;
@@ -98,7 +99,7 @@ leaves_either h k content ops means have short few inside leaves = record {
 
 -- the next batch can be appended behind the one that was opened
 has_batch : (before : List ℕ) (s : State) (content : Content) (end : End) (ops : List Op) → HasImage before (Holds content) → content.at ≡ end.at → content.slots ≡ end.slots → All HasFrame ops
-    → length (single_frames ops) ≤ LONGEST_BATCH → content.slots < last_slot → IsOpened before content.at (behind_gate ops) s → HasBatch content end ops s
+    → length (frames ops) ≤ LONGEST_BATCH → content.slots < last_slot → IsOpened before content.at (behind_gate ops) s → HasBatch content end ops s
 has_batch before s content end ops h at slots have short few is =
     let means : Means s (content_with_ops content ops) =
     with_open_gate before content ops h have short few s.seen is.written (get_or_from_slice_get s.seen content.at 1 0 is.opened) in
@@ -128,7 +129,7 @@ pub at_rest_still : (ops : List Op) (old p : Option History) → p ≡ old → I
 at_rest_still ops None p same = tt
 at_rest_still ops (Some h) p same = λ content means. subst (λ o. LeavesOnlyTo h o (HoldsEither content ops)) (sym same) (leaves_none (HoldsEither content ops) h)
 
-module _ (end : End) (ops : List Op) (have : All HasFrame ops) (short : length (single_frames ops) ≤ LONGEST_BATCH) (few : end.slots < last_slot) (bytes : List ℕ) (is : bytes ≡ behind_gate ops) where
+module _ (end : End) (ops : List Op) (have : All HasFrame ops) (short : length (frames ops) ≤ LONGEST_BATCH) (few : end.slots < last_slot) (bytes : List ℕ) (is : bytes ≡ behind_gate ops) where
   -- the batch was written
   pub at_moments : (old p : Option History) → IfSome old (λ h. EndsAt h.last end) → IfSome old (λ h. LeavesOnlyTo h p (BeforeOrWritten h.last.seen end.at bytes)) → IfSome old (λ h. Leaves ops h p)
   at_moments None p ends leaves = tt

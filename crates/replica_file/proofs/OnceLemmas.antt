@@ -25,8 +25,8 @@ first_ones k m [] cs r q a b e mk few f y = (cs, refl)
 first_ones k m (b ∷ bs) [] r q a c e mk few f y =
     absurd (no_open_slot m b (open_slots bs ++ r) q a.0 (slots_not_empty bs r f) (omega (arith, mk, few)) (sym e ∙ append_assoc (open_slot b) (open_slots bs) r) y)
 first_ones k m (b ∷ bs) (c ∷ cs) r q x y e mk few f ends =
-    let d : (b.number ++ b.bytes) ++ (open_slots bs ++ r) ≡ (c.number ++ c.bytes) ++ (open_slots cs ++ q) = cc (sym (append_assoc (open_slot b) (open_slots bs) r) ∙ e ∙ append_assoc (open_slot c) (open_slots cs) q) in
-    let s = same_batch read_once b c (open_slots bs ++ r) (open_slots cs ++ q) x.0 y.0 (sym (append_assoc b.number b.bytes (open_slots bs ++ r)) ∙ d ∙ append_assoc c.number c.bytes (open_slots cs ++ q)) in
+    let d : (b.word ++ b.bytes) ++ (open_slots bs ++ r) ≡ (c.word ++ c.bytes) ++ (open_slots cs ++ q) = cc (sym (append_assoc (open_slot b) (open_slots bs) r) ∙ e ∙ append_assoc (open_slot c) (open_slots cs) q) in
+    let s = same_batch read_once b c (open_slots bs ++ r) (open_slots cs ++ q) x.0 y.0 (sym (append_assoc b.word b.bytes (open_slots bs ++ r)) ∙ d ∙ append_assoc c.word c.bytes (open_slots cs ++ q)) in
     let rest = first_ones (k + 1) m bs cs r q x.1 y.1 s.1 (omega (arith, mk)) (omega (arith, few)) f ends in
     (rest.0, λ i. sym s.0 i ∷ rest.1 i)
 

@@ -6,7 +6,7 @@ use Rattle.std.proofs.lemmas.List.{append-nil}
 use Rattle.std.proofs.lemmas.List.Elements.{All-append, All-cons, All-nil}
 use Rattle.std.proofs.lemmas.Option.{get_or_from_slice_get, slice_get_within}
 use Rattle.fugue_ids.specs.declared.op.Op.{Op}
-use Rattle.origin_model.specs.files.Image.{Batch, IsBatch, IsNoBatch, OpenSlots, batch_ops, content_of, has_header, header_of, last_slot, number_at, open_slot, open_slots, slots_of}
+use Rattle.origin_model.specs.files.Image.{Batch, IsBatch, IsNoBatch, OpenSlots, batch_ops, content_of, has_header, header_of, last_slot, length_at, number_at, open_slot, open_slots, slots_of}
 use Rattle.origin_model.specs.taking.Taking.{Answer, Held, TooMany as AnswersTooMany, answer, held, is_kept, nothing_held}
 use Rattle.fugue_ids.specs.declared.limits.TheConstants.{MOST_OPERATIONS}
 use Rattle.origin_model.specs.edits.State.{State}
@@ -15,7 +15,7 @@ use Rattle.replica_file.specs.declared.gate.Gate.{Gate}
 use Rattle.replica_file.specs.Load.{AreTooMany, FindPlace, FindsBadBatch, FindsTooMany, LacksMemory, Loads, hold_of}
 use Rattle.replica_file.specs.Loading.{AreIn, Fed, IsSameButHeld}
 use Rattle.replica_file.specs.Slots.{IsGate, LacksInSlot, TakesSlot, Walked, WalksOut}
-use Rattle.replica_file.specs.Wanting.{BeginsPiece, ForOperation, ForTitle, IsWanting}
+use Rattle.replica_file.specs.Wanting.{BeginsPiece, ForOperation, ForPiece, ForTitle, IsWanting, part_of}
 
 -- a gate, and what stands behind it
 gate_behind : (bytes : List ℕ) (at byte : ℕ) → slice_get bytes at ≡ Some byte → drop at bytes ≡ byte ∷ drop (at + 1) bytes
@@ -59,16 +59,20 @@ module _ (bytes : List ℕ) (slots : ℕ) (gate : Gate) (r : State) (w : Walked 
           let same = slot.lacks.same in
           subst (P (hold_of bytes)) (ap (λ (t : State). t.most) same ∙ limit) (subst (λ (h : ℕ). P h slot.lacks.new.most) (ap (λ (t : State). t.hold) same ∙ w.hold_is) is)
 
-      by_wants : BeginsPiece bytes (gate.at + 5) (number_at (gate.at + 1) bytes) slot.lacks.rest
-          ⊎ IsWanting slot.lacks.new.hold slot.lacks.new.most slot.lacks.new.held (slot.lacks.now ≡ true) slot.lacks.rest
-          → BeginsPiece bytes (gate.at + 5) (number_at (gate.at + 1) bytes) slot.lacks.rest
-          ⊎ IsWanting (hold_of bytes) most (held (hold_of bytes) most reached) (FindPlace (hold_of bytes) most reached) slot.lacks.rest
-      by_wants (inl begins) = inl begins
-      by_wants (inr (ForTitle first)) = inr (ForTitle first)
-      by_wants (inr (ForOperation op behind starts found kept)) =
+      abbrev begins : List ℕ → Type 0
+      begins = BeginsPiece slot.grammar bytes (gate.at + 5) (length_at (gate.at + 1) bytes)
+
+      abbrev part : List ℕ
+      part = part_of bytes (gate.at + 5) (length_at (gate.at + 1) bytes)
+
+      by_wants : IsWanting slot.grammar begins part slot.lacks.ops slot.lacks.new.hold slot.lacks.new.most slot.lacks.new.held (slot.lacks.now ≡ true)
+          → IsWanting slot.grammar begins part slot.lacks.ops (hold_of bytes) most (held (hold_of bytes) most reached) (FindPlace (hold_of bytes) most reached)
+      by_wants (ForPiece rest starts begin) = ForPiece rest starts begin
+      by_wants (ForTitle rest starts first) = ForTitle rest starts first
+      by_wants (ForOperation op later behind starts found kept) =
           let are : AreIn slot.lacks.new reached = subst (λ (b : Bool). Fed b slot.lacks.new reached) found fed_so_far in
-          inr (ForOperation op behind starts (by_limits (λ h m. FindPlace h m reached) are.place)
-          (by_limits (λ h m. is_kept (answer h m (held h m reached) op) ≡ true) (subst (λ (s : Held). is_kept (answer slot.lacks.new.hold slot.lacks.new.most s op) ≡ true) are.held_is kept)))
+          ForOperation op later behind starts (by_limits (λ h m. FindPlace h m reached) are.place)
+          (by_limits (λ h m. is_kept (answer h m (held h m reached) op) ≡ true) (subst (λ (s : Held). is_kept (answer slot.lacks.new.hold slot.lacks.new.most s op) ≡ true) are.held_is kept))
 
       pub walk_lacks : LacksMemory most bytes
       walk_lacks = record {
@@ -79,10 +83,10 @@ module _ (bytes : List ℕ) (slots : ℕ) (gate : Gate) (r : State) (w : Walked 
         found = subst (OpenSlots (slots_of bytes) w.batches) open_gate w.found;
         few = omega (arith, few, w.number);
         place = subst (λ (h : ℕ). FindPlace h most (batch_ops w.batches)) w.hold_is (subst (λ (m : ℕ). FindPlace r.hold m (batch_ops w.batches)) limit w.fed.place);
+        grammar = slot.grammar;
+        tagged = slot.tagged;
         short = slot.short;
         ops = slot.lacks.ops;
-        rest = slot.lacks.rest;
-        starts = slot.lacks.starts;
         wants = by_wants slot.lacks.wants;
       }
 
@@ -118,7 +122,7 @@ module _ (bytes : List ℕ) (slots : ℕ) (gate : Gate) (r : State) (w : Walked 
           w.at,
           ap length (flat_map-append open_slot w.batches (took.batch ∷ []) ∙ ap (λ (l : List ℕ). open_slots w.batches ++ l) (append-nil (open_slot took.batch))),
           length-append (open_slots w.batches) (open_slot took.batch),
-          length-append took.batch.number took.batch.bytes,
+          length-append took.batch.word took.batch.bytes,
           took.is_batch.four_bytes,
         );
         is_gate = took.gate;

@@ -3,7 +3,7 @@ use Rattle.std.specs.Prelude.{◌≡◌, ℕ, ◌≤◌, List, [], ◌∷◌, �
 use Rattle.fugue_ids.specs.declared.op.Op.{Op}
 use Rattle.outer_ports.specs.Sources.{SourceView}
 use Rattle.origin_model.specs.declared.grammar.Grammar.{Grammar}
-use Rattle.origin_model.specs.frames.Frames.{Starts, IsBad, IsPartial}
+use Rattle.origin_model.specs.frames.Frames.{IsBad, Starts}
 use Rattle.op_frame.specs.Readers.{Gave, FrameReading}
 use Rattle.origin_model.specs.edits.State.{State}
 use Rattle.replica_file.specs.Loading.{Feeds, IsSameButHeld}
@@ -12,9 +12,8 @@ use Rattle.replica_file.specs.declared.stop.Stop.{Stop}
 use Rattle.replica_file.specs.declared.stop.Stop.TheVariants.{Bad, Disk, NoMemory}
 
 -- the reader gave these operations of a piece that is in memory, and no fault yet
-pub record IsReading (grammar : Grammar) (bytes : List ℕ) (ops : List Op) (reader : FrameReading) (source : SourceView) : Type 0 where
+pub record IsReading (bytes : List ℕ) (ops : List Op) (reader : FrameReading) (source : SourceView) : Type 0 where
   pub gave : Gave (Some bytes) ops reader source.left
-  pub by_grammar : reader.grammar ≡ grammar
   pub no_fault : reader.fault ≡ None
   pub fits : length bytes ≡ reader.limit
   pub sure : source.sure ≡ true
@@ -28,7 +27,7 @@ pub record AreBad (grammar : Grammar) (bytes : List ℕ) : Type 0 where
 
 -- one step over a piece: an operation more was taken in, or the whole frames are over, or what follows is bad, or memory was wanting for it
 abbrev pub PieceSteps : Grammar → List ℕ → List Op → (was : Bool) (old : State) (now : Bool) (new : State) → FrameReading → SourceView → Result (Option ℕ) Stop → Type 0
-PieceSteps grammar bytes ops was old now new reader source (Ok None) = (op : Op) × IsReading grammar bytes (ops ++ op ∷ []) reader source × Feeds was old now new (op ∷ [])
+PieceSteps grammar bytes ops was old now new reader source (Ok None) = (op : Op) × IsReading bytes (ops ++ op ∷ []) reader source × Feeds was old now new (op ∷ [])
 PieceSteps grammar bytes ops was old now new reader source (Ok (Some len)) = AreWhole grammar bytes len ops × (now ≡ was) × (new ≡ old)
 PieceSteps grammar bytes ops was old now new reader source (Err Bad) = AreBad grammar bytes
 PieceSteps grammar bytes ops was old now new reader source (Err Disk) = ⊥

@@ -25,7 +25,8 @@ struct Piece {
 impl Piece {
     fn new(alloc: Global, bytes: Vec<u8>, grammar: Grammar) -> Result<Piece, NoMemory>
         ensures reading { IfOk result (λ piece.
-            IsReading grammar bytes.items [] piece.reader (⟦<SureSource as Source>⟧.seen piece.source)) }
+            IsReading bytes.items [] piece.reader (⟦<SureSource as Source>⟧.seen piece.source)) }
+        ensures grammar { IfOk result (λ piece. piece.reader.grammar ≡ grammar) }
         ensures len { IfOk result (λ piece. piece.len ≡ length bytes.items) }
     {
         let len = bytes.len() as u64;
@@ -46,7 +47,7 @@ impl Piece {
         requires no_fault { self.old.reader.fault ≡ None }
         requires ready { IsReady loading.old.replica }
         ensures steps { (bytes : List ℕ) (ops : List Op)
-            → IsReading self.old.reader.grammar bytes ops self.old.reader (⟦<SureSource as Source>⟧.seen self.old.source)
+            → IsReading bytes ops self.old.reader (⟦<SureSource as Source>⟧.seen self.old.source)
             → self.old.len ≡ length bytes
             → PieceSteps self.old.reader.grammar bytes ops loading.old.finds_place loading.old.replica loading.new.finds_place
             loading.new.replica

@@ -8,13 +8,13 @@ use Rattle.replica_file.proofs.frames.take_frames.Given as goal
 
 abbrev pub invariant-pieces : goal.invariant-pieces
 invariant-pieces g l = record {
-  within : l.taken ≤ l.len;
-  took : IfSome (g.H.Disk.seen l.fn.disk).past (λ h. TakesSome h.last.seen l.at l.len l.taken l.fn.loading.finds_place l.fn.loading.replica l.loading.finds_place l.loading.replica);
-  pieces : IfSome (g.H.Disk.seen l.fn.disk).past (λ h. Pieces h.last.seen l.at l.len l.taken);
+  within : l.taken ≤ l.word.len;
+  took : IfSome (g.H.Disk.seen l.fn.disk).past (λ h. TakesSome l.word.grammar h.last.seen l.at l.word.len l.taken l.fn.loading.finds_place l.fn.loading.replica l.loading.finds_place l.loading.replica);
+  pieces : IfSome (g.H.Disk.seen l.fn.disk).past (λ h. Pieces l.word.grammar h.last.seen l.at l.word.len l.taken);
   ready : IsReady l.loading.replica;
   same : IsSameButHeld l.fn.loading.replica l.loading.replica;
   looks : LooksOnly (g.H.Disk.seen l.fn.disk) (g.H.Disk.seen l.disk) ⊥;
 }
 
 abbrev pub decreases-pieces : goal.decreases-pieces
-decreases-pieces g l = l.len - l.taken
+decreases-pieces g l = l.word.len - l.taken

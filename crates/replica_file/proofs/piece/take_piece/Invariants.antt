@@ -1,4 +1,4 @@
-use Rattle.std.proofs.Common.{◌≡◌, ◌-◌, List, length}
+use Rattle.std.proofs.Common.{◌≡◌, ◌+◌, ◌-◌, ◌*◌, List, length}
 use Rattle.std.specs.Prelude.{Some, true}
 use Rattle.fugue_ids.specs.declared.op.Op.{Op}
 use Rattle.replica_file.specs.Loading.{Feeds, IsReady, IsSameButHeld}
@@ -12,8 +12,9 @@ invariant-frames l = record {
   feeds : Feeds l.fn.loading.finds_place l.fn.loading.replica l.loading.finds_place l.loading.replica ops;
   ready : IsReady l.loading.replica;
   same : IsSameButHeld l.fn.loading.replica l.loading.replica;
+  by_grammar : l.piece.reader.grammar ≡ l.fn.grammar;
   len : l.piece.len ≡ length l.fn.bytes.items;
 }
 
 abbrev pub decreases-frames : goal.decreases-frames
-decreases-frames l = l.piece.reader.limit - l.piece.reader.offset
+decreases-frames l = l.piece.reader.limit + 3 * length l.piece.reader.todo - l.piece.reader.offset

@@ -19,7 +19,7 @@ returns-in-Err-NoMemory-clause-steps c bytes ops reading len =
 pub returns-in_err-take-in-Ok-Some-clause-steps : goal.returns-in_err-take-in-Ok-Some-clause-steps
 returns-in_err-take-in-Ok-Some-clause-steps c bytes ops reading len =
     let p = err_from_is_err_and c.from_residual.result c.from_residual.ensures.1 in
-    steps_wanting bytes ops c.args.loading.now.finds_place c.take.new.self.finds_place c.args.loading.now.replica c.take.new.self.replica c.next.new.self
+    steps_wanting c.args.self.now.reader.grammar bytes ops c.args.loading.now.finds_place c.take.new.self.finds_place c.args.loading.now.replica c.take.new.self.replica c.next.new.self
     (record { left = Some c.next.new.source.left; faults = 0; sure = true }) c.from_residual.result p.0 p.1 p.2
     (operation bytes ops _ _ _ _ reading c.args.loading.now.replica c.args.loading.now.finds_place c.in-Ok-Some.op
-    (rw c.in-Ok-Some.field-0-is at (c.in-Ok-Some.ensures.nexts c.requires.no_fault)) c.in_err-take-in-Ok-Some.ensures.memory)
+    (rw c.in-Ok-Some.field-0-is at (c.in-Ok-Some.ensures.chains c.requires.no_fault)) (c.in-Ok-Some.ensures.nexts c.requires.no_fault).advances.grammar c.in_err-take-in-Ok-Some.ensures.memory)
