@@ -9,7 +9,7 @@ use Rattle.outer_ports.specs.disk.Moments.{History, LeavesOnlyTo, MayLeave, afte
 use Rattle.outer_ports.specs.disk.States.{IsHonest, at_rest, durable}
 use Rattle.outer_ports.proofs.SharedLemmas.{honest_at_rest, leaves_weaker}
 use Rattle.origin_model.specs.files.Image.{Content, HasImage, Holds, state}
-use Rattle.origin_model.specs.frames.Frames.{single_frames}
+use Rattle.origin_model.specs.frames.Framings.{frames}
 use Rattle.origin_model.specs.taking.Taking.{HasPlace, held, nothing_held}
 use Rattle.origin_model.proofs.SharedLemmas.{held-append, places-append}
 use Rattle.origin_model.specs.edits.State.{State as Replica}
@@ -163,8 +163,8 @@ later_so replica end outcome (Some h) mid new loads suffices synced none calls a
         (subst (λ m. Batched outcome.saved end m new) synced (appended (λ e. let not = is ∙ e in cc not)) loads.content loads.holds)
 
 -- a slot's bytes behind its gate
-gate_long : (ops : List Op) → length (behind_gate ops) ≡ length (single_frames ops) + 5
-gate_long ops = omega (arith, length-append (single_frames ops) (0 ∷ []))
+gate_long : (ops : List Op) → length (behind_gate ops) ≡ length (frames ops) + 5
+gate_long ops = omega (arith, length-append (frames ops) (0 ∷ []))
 
 -- what needs the room that is left behind the sync comes
 pub with_room : (P : Type 0) (ops : List Op) (a b : DiskView) → ops ≢ [] → b.room ≡ spent 0 a.room → HasDiskRoom (room_to_save ops) a

@@ -2,7 +2,8 @@
 use Rattle.std.specs.Prelude.{◌≡◌, ◌≢◌, ◌⊎◌, ℕ, List, [], length}
 use Rattle.fugue_ids.specs.Causes.{Rose}
 use Rattle.fugue_ids.specs.Outs.{OutView}
-use Rattle.origin_model.specs.frames.Frames.{single_frames}
+use Rattle.origin_model.specs.frames.Framings.{frames}
+use Rattle.origin_model.specs.operations.History.{accepted}
 use Rattle.origin_model.specs.order.Printed.{manuscript}
 use Rattle.origin_model.specs.taking.Taking.{Held}
 use Rattle.outer_ports.specs.disk.Disks.{DiskView}
@@ -107,6 +108,6 @@ pub record Reports (text : Held → List ℕ) (file : Change DiskView) (output n
 abbrev pub printed_of : Held → List ℕ
 printed_of held = manuscript held.history
 
--- what `send` reports: the frames of all that is held
+-- what `send` reports: the frames of the accepted operations, and those of the waiting ones
 abbrev pub frames_held : Held → List ℕ
-frames_held held = single_frames (ops_of held)
+frames_held held = frames (accepted held.history) ++ frames held.waiting

@@ -3,7 +3,7 @@ use Rattle.std.specs.Prelude.{◌≡◌, ◌≢◌, ◌⊎◌, ℕ, ◌+◌, Lis
 use Rattle.fugue_ids.specs.Causes.{Rose}
 use Rattle.fugue_ids.specs.Outs.{OutView, Took}
 use Rattle.fugue_ids.specs.declared.op.Op.{Op}
-use Rattle.origin_model.specs.frames.Frames.{single_frames}
+use Rattle.origin_model.specs.frames.Framings.{frames}
 use Rattle.origin_model.specs.taking.Taking.{HasPlace, Held, held_from}
 use Rattle.outer_ports.specs.Sources.{SourceView}
 use Rattle.outer_ports.specs.disk.Disks.{DiskView}
@@ -66,7 +66,7 @@ outcome_status (Does outcome) = outcome.status
 -- the room of a file that is loaded, and gains these operations
 abbrev pub room_to_save : List Op → ℕ
 room_to_save [] = 1
-room_to_save (op ∷ ops) = length (single_frames (op ∷ ops)) + 6
+room_to_save (op ∷ ops) = length (frames (op ∷ ops)) + 6
 
 abbrev pub room_needed : Finding Outcome → ℕ
 room_needed (Refuses why) = 1

@@ -5,7 +5,7 @@ use crate::refusal::Refusal;
 use crate::report::Report;
 use crate::text_out::gone_out;
 use fugue_ids::{NoMemory, write_whole};
-use op_frame::encode_singles;
+use op_frame::encode_all;
 use outer_ports::Sink;
 use replica_core::Replica;
 use std::alloc::Global;
@@ -33,7 +33,7 @@ fn frames_of(alloc: Global, replica: &Replica) -> Result<Vec<u8>, NoMemory>
     ensures { IfOk result (λ frames. frames.items ≡ frames_held replica.now.held) }
 {
     let mut frames = Vec::new(alloc);
-    encode_singles(replica.accepted(), &mut frames)?;
-    encode_singles(replica.waiting(), &mut frames)?;
+    encode_all(replica.accepted(), &mut frames)?;
+    encode_all(replica.waiting(), &mut frames)?;
     Ok(frames)
 }

@@ -2,15 +2,15 @@
 use Rattle.std.specs.Prelude.{◌≡◌, ◌⊎◌, ℕ, List, ◌∷◌, ◌++◌, Some, Result, OnOk, option_map}
 use Rattle.std.specs.Int.{to_be_bytes, w32}
 use Rattle.fugue_ids.specs.Outs.{WritesBytes}
-use Rattle.origin_model.specs.frames.Frames.{single_frames}
+use Rattle.origin_model.specs.frames.Framings.{frames}
 use Rattle.origin_model.specs.operations.History.{accepted}
 use Rattle.origin_model.specs.relay.Session.{closing, greeting}
 use Rattle.origin_model.specs.taking.Taking.{Held}
 use Rattle.outer_ports.specs.wire.Wires.{WireView, out_of}
 
--- a greeting with the cursor, the accepted operations in their order, the waiting ones, and the closing byte
+-- a greeting with the cursor, the frames of the accepted operations in their order, those of the waiting ones, and the closing byte
 abbrev pub request_for : ℕ → Held → List ℕ
-request_for cursor held = greeting ∷ to_be_bytes w32 cursor ++ single_frames (accepted held.history) ++ single_frames held.waiting ++ closing
+request_for cursor held = greeting ∷ to_be_bytes w32 cursor ++ frames (accepted held.history) ++ frames held.waiting ++ closing
 
 -- a text went out on the wire, whole or up to a fault
 pub record SaysText {E T : Type 0} (old new : WireView) (result : Result T E) (text : List ℕ) : Type 0 where

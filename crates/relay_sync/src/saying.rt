@@ -4,7 +4,7 @@ ghost use Rattle.relay_sync.specs.Replies.{WireRisesFor};
 ghost use Rattle.relay_sync.specs.Saying.{SaysText, SaysTo, request_for};
 
 use fugue_ids::{Failed, NoMemory};
-use op_frame::{CLOSING, GREETING, encode_singles};
+use op_frame::{CLOSING, GREETING, encode_all};
 use outer_ports::Wire;
 use replica_core::Replica;
 use std::alloc::Global;
@@ -18,8 +18,8 @@ pub(crate) fn request_of(alloc: Global, replica: &Replica, cursor: u32) -> Resul
     let mut text = Vec::new(alloc);
     text.push(GREETING)?;
     text.extend_from_slice(&cursor.to_be_bytes())?;
-    encode_singles(accepted, &mut text)?;
-    encode_singles(replica.waiting(), &mut text)?;
+    encode_all(accepted, &mut text)?;
+    encode_all(replica.waiting(), &mut text)?;
     text.push(CLOSING)?;
     Ok(text)
 }
