@@ -1,5 +1,5 @@
 -- A relay by the whole texts of its sessions. The text of a session is the bytes of its pieces joined, from its opening until a reply closes it or it is gone.
-use Rattle.std.specs.Prelude.{◌≡◌, ◌≢◌, ◌⊎◌, ℕ, ◌<◌, ◌≤◌, false, true, All, List, [], ◌∷◌, ◌++◌, length, Option, Some, None, if◌then◌else◌, option_map}
+use Rattle.std.specs.Prelude.{◌≡◌, ◌≢◌, ◌⊎◌, ℕ, ◌<◌, ◌≤◌, false, true, List, [], ◌∷◌, ◌++◌, length, Option, Some, None, if◌then◌else◌, option_map}
 use Rattle.std.specs.FinMap as finite
 use Rattle.std.specs.Int.{from_be_bytes, w32}
 use Rattle.std.specs.Ordering.{nat_cmp}
@@ -7,26 +7,27 @@ use Rattle.fugue_ids.specs.declared.op.Op.{Op}
 use Rattle.origin_model.specs.declared.relay.Event.{Event}
 use Rattle.origin_model.specs.declared.relay.Event.TheVariants.{Gone, Opened, Piece}
 use Rattle.origin_model.specs.declared.relay.Reply.{Reply}
-use Rattle.origin_model.specs.declared.grammar.Grammar.TheVariants.{Version1}
-use Rattle.origin_model.specs.frames.Frames.{HasFrame, IsPartial, frame, single_frames}
+use Rattle.origin_model.specs.declared.grammar.Grammar.TheVariants.{Version2}
+use Rattle.origin_model.specs.frames.Frames.{IsFrame, IsPartial, Starts, frame}
 use Rattle.origin_model.specs.relay.Session.{IsKind, Neither, closing, greeting, is_logged, refusal_message, reply_from}
 
--- the log with the frame of an operation, where it lacks that one
-abbrev pub with_frame : List (List ℕ) → Op → List (List ℕ)
-with_frame log op = if is_logged log (frame op) then log else log ++ frame op ∷ []
+-- the log with an operation, where it lacks that one
+abbrev pub with_op : List (List ℕ) → Op → List (List ℕ)
+with_op log op = if is_logged log (frame op) then log else log ++ frame op ∷ []
 
--- the log with the distinct new frames of operations, in order of arrival
-abbrev pub with_frames : List (List ℕ) → List Op → List (List ℕ)
-with_frames log [] = log
-with_frames log (op ∷ ops) = with_frames (with_frame log op) ops
+-- the log with the distinct new ones of the operations, in order of arrival
+abbrev pub with_ops : List (List ℕ) → List Op → List (List ℕ)
+with_ops log [] = log
+with_ops log (op ∷ ops) = with_ops (with_op log op) ops
 
--- the text is 48 and a cursor, then the frames of operations, and then the rest
+-- the text is 48 and a cursor, then frames of the operations, and then the rest
 pub record Says (text : List ℕ) (cursor : ℕ) (ops : List Op) (rest : List ℕ) : Type 0 where
   pub number : List ℕ
   pub four_bytes : length number ≡ 4
   pub cursor_is : cursor ≡ from_be_bytes w32 number
-  pub have_frames : All HasFrame ops
-  pub text_is : text ≡ greeting ∷ number ++ (single_frames ops ++ rest)
+  pub messages : List ℕ
+  pub starts : Starts Version2 messages ops rest
+  pub text_is : text ≡ greeting ∷ number ++ messages
 
 -- the text is nothing yet, or 48 and some bytes of a cursor
 abbrev pub IsGreetingFront : List ℕ → Type 0
@@ -38,23 +39,24 @@ pub record IsForeign (bytes : List ℕ) : Type 0 where
   pub before : List ℕ
   pub byte : ℕ
   pub bytes_are : bytes ≡ before ++ byte ∷ []
-  pub was_front : IsPartial Version1 before
+  pub was_front : IsPartial Version2 before
   pub is_none : IsKind Neither bytes
 
--- what follows the frames of a text: nothing or a proper front of a frame, the closing byte, bytes that are no message and begin none, or a frame that the full log lacks
+-- what follows the frames of a text: nothing or a proper front of a frame, the closing byte, bytes that are no message and begin none, or a frame of which these operations joined, and the next one was one too many
 pub data Follows : Type 0 where
   Unfinished : Follows
   Closed : Follows
   Foreign : Follows
-  OneTooMany : Follows
+  OneTooMany : (joined : List Op) → Follows
 
 -- what stands behind the byte that shows it counts for nothing
 abbrev pub Stands : Follows → (limit : ℕ) → List (List ℕ) → List ℕ → Type 0
-Stands Unfinished limit log rest = IsPartial Version1 rest
+Stands Unfinished limit log rest = IsPartial Version2 rest
 Stands Closed limit log rest = (behind : List ℕ) × (rest ≡ closing ++ behind)
 Stands Foreign limit log rest = (shown : List ℕ) × (behind : List ℕ) × IsForeign shown × (rest ≡ shown ++ behind)
-Stands OneTooMany limit log rest =
-    (op : Op) × (behind : List ℕ) × HasFrame op × (rest ≡ frame op ++ behind) × (is_logged log (frame op) ≡ false) × (length log ≡ limit)
+Stands (OneTooMany joined) limit log rest =
+    (op : Op) × (later : List Op) × (bytes : List ℕ) × (behind : List ℕ) × IsFrame Version2 (record { bytes = bytes; ops = joined ++ op ∷ later }) × (rest ≡ bytes ++ behind)
+    × (is_logged (with_ops log joined) (frame op) ≡ false) × (length (with_ops log joined) ≡ limit)
 
 -- what the text of a session is: a front of its greeting, one that does not begin with 48, one whose cursor is beyond the log, or one that says operations
 pub data SessionText : Type 0 where
@@ -63,17 +65,22 @@ pub data SessionText : Type 0 where
   Beyond : SessionText
   Speaks : (cursor : ℕ) → (new : List Op) → (rest : List ℕ) → Follows → SessionText
 
--- The text has the frames of the operations before, and those of new ones that came to this log. Its cursor was compared with the log as its fourth byte came.
+-- The text has frames of the operations before, and of new ones that came to this log. Its cursor was compared with the log as its fourth byte came.
 abbrev pub IsCourse : SessionText → (limit : ℕ) → (log : List (List ℕ)) → (before : List Op) → (text : List ℕ) → Type 0
 IsCourse Greets limit log before text = IsGreetingFront text
 IsCourse NoGreeting limit log before text = (first : ℕ) × (behind : List ℕ) × (first ≢ greeting) × (text ≡ first ∷ behind)
 IsCourse Beyond limit log before text = (cursor : ℕ) × (behind : List ℕ) × Says text cursor [] behind × (length log < cursor)
 IsCourse (Speaks cursor new rest follows) limit log before text =
-    Says text cursor (before ++ new) rest × (cursor ≤ length log) × (length (with_frames log new) ≤ limit) × Stands follows limit (with_frames log new) rest
+    Says text cursor (before ++ new) rest × (cursor ≤ length log) × (length (with_ops log new) ≤ limit) × Stands follows limit (with_ops log new) rest
 
--- the log gains the new frames
+-- what joined of the frame with an operation too many stays
+abbrev pub joined_behind : Follows → List Op
+joined_behind (OneTooMany joined) = joined
+joined_behind follows = []
+
+-- the log gains the new operations
 abbrev pub log_behind : SessionText → List (List ℕ) → List (List ℕ)
-log_behind (Speaks cursor new rest follows) log = with_frames log new
+log_behind (Speaks cursor new rest follows) log = with_ops (with_ops log new) (joined_behind follows)
 log_behind course log = log
 
 -- the bytes with which a reply closes the session, where one does
@@ -81,17 +88,17 @@ abbrev pub closing_of : Follows → List (List ℕ) → (cursor : ℕ) → Optio
 closing_of Unfinished log cursor = None
 closing_of Closed log cursor = Some (reply_from log cursor)
 closing_of Foreign log cursor = Some (refusal_message 1)
-closing_of OneTooMany log cursor = Some (refusal_message 2)
+closing_of (OneTooMany joined) log cursor = Some (refusal_message 2)
 
 abbrev pub reply_to_text : SessionText → List (List ℕ) → Option (List ℕ)
 reply_to_text Greets log = None
 reply_to_text NoGreeting log = Some (refusal_message 1)
 reply_to_text Beyond log = Some (refusal_message 3)
-reply_to_text (Speaks cursor new rest follows) log = closing_of follows (with_frames log new) cursor
+reply_to_text (Speaks cursor new rest follows) log = closing_of follows (with_ops log new) cursor
 
--- the text of an open session, and the operations whose frames it has
+-- the text of an open session, and the operations that its frames stand for
 abbrev pub HasCome : (text : List ℕ) → List Op → Type 0
-HasCome text before = (IsGreetingFront text × (before ≡ [])) ⊎ ((cursor : ℕ) × (rest : List ℕ) × Says text cursor before rest × IsPartial Version1 rest)
+HasCome text before = (IsGreetingFront text × (before ≡ [])) ⊎ ((cursor : ℕ) × (rest : List ℕ) × Says text cursor before rest × IsPartial Version2 rest)
 
 -- bytes come to the text of an open session: the log behind them, and the bytes with which the session is closed, where it is
 pub record Comes (limit : ℕ) (log : List (List ℕ)) (text bytes : List ℕ) (new_log : List (List ℕ)) (answer : Option (List ℕ)) : Type 0 where

@@ -11,7 +11,7 @@ use Rattle.origin_model.specs.relay.Session.{Closes, Goes, Next, SessionReading,
 abbrev pub Sessions : Type 0
 Sessions = finite.FinMap nat_cmp SessionReading
 
--- how many frames the log takes, the log, and the open sessions
+-- how many operations the log takes, the log, and the open sessions
 pub record Relay : Type 0 where
   pub limit : ℕ
   pub log : List (List ℕ)

@@ -4,8 +4,8 @@ use Rattle.std.specs.List.{list_any}
 use Rattle.std.specs.Cmp.Lexicographic.{pointwise}
 use Rattle.std.specs.Int.{from_be_bytes, to_be_bytes, w32}
 use Rattle.fugue_ids.specs.declared.op.Op.{Op}
-use Rattle.origin_model.specs.declared.grammar.Grammar.TheVariants.{Version1}
-use Rattle.origin_model.specs.frames.Frames.{IsFrame, IsPartial}
+use Rattle.origin_model.specs.declared.grammar.Grammar.TheVariants.{Version2}
+use Rattle.origin_model.specs.frames.Frames.{IsFrame, IsPartial, frame}
 
 -- the message that begins a text, with a cursor behind it, and the one that ends it
 abbrev pub greeting : ℕ
@@ -28,7 +28,7 @@ pub data Next : Type 0 where
   Goes : SessionReading → Next
   Closes : List ℕ → Next
 
--- the log after some bytes, and what becomes of the session
+-- the log after some bytes, which has the own frame of each of its operations, and what becomes of the session
 pub record Taken : Type 0 where
   pub log : List (List ℕ)
   pub next : Next
@@ -37,7 +37,7 @@ pub record Taken : Type 0 where
 abbrev pub session_goes_on : List (List ℕ) → (cursor : ℕ) → Taken
 session_goes_on log cursor = record { log = log; next = Goes (record { cursor = Some cursor; rest = [] }) }
 
--- 58 and a code: 1 for a message outside the grammar, 2 for a frame that a full log lacks, 3 for a cursor beyond the log
+-- 58 and a code: 1 for a message outside the grammar, 2 for an operation that a full log lacks, 3 for a cursor beyond the log
 abbrev pub refusal_message : ℕ → List ℕ
 refusal_message code = 0x58 ∷ code ∷ []
 
@@ -64,27 +64,28 @@ greeted log (first ∷ number) =
     then if nat_lt (length number) 4 then record { log = log; next = Goes (record { cursor = None; rest = first ∷ number }) } else at_cursor log (from_be_bytes w32 number)
     else session_refused log 1
 
--- a frame joins the log once, and none joins a full one
-abbrev pub logged : (limit : ℕ) → List (List ℕ) → (cursor : ℕ) → List ℕ → Taken
-logged limit log cursor frame =
-    if is_logged log frame then session_goes_on log cursor else if nat_eq (length log) limit then session_refused log 2 else session_goes_on (log ++ frame ∷ []) cursor
+-- operations join the log in order, each once; at the first one that the log lacks and is too full for the session is refused
+abbrev pub joined : (limit : ℕ) → List (List ℕ) → (cursor : ℕ) → List Op → Taken
+joined limit log cursor [] = session_goes_on log cursor
+joined limit log cursor (op ∷ ops) =
+    if is_logged log (frame op) then joined limit log cursor ops else if nat_eq (length log) limit then session_refused log 2 else joined limit (log ++ frame op ∷ []) cursor ops
 
--- what the bytes since the last whole message are: a frame, the closing byte, a proper front of a frame, or none of them
+-- what the bytes since the last whole message are: a frame of these operations, the closing byte, a proper front of a frame, or none of them
 pub data Kind : Type 0 where
-  Frame : Kind
+  Frame : List Op → Kind
   Closing : Kind
   Front : Kind
   Neither : Kind
 
 abbrev pub IsKind : Kind → List ℕ → Type 0
-IsKind Frame bytes = (ops : List Op) × IsFrame Version1 (record { bytes = bytes; ops = ops })
+IsKind (Frame ops) bytes = IsFrame Version2 (record { bytes = bytes; ops = ops })
 IsKind Closing bytes = bytes ≡ closing
-IsKind Front bytes = IsPartial Version1 bytes
-IsKind Neither bytes = ((ops : List Op) → IsFrame Version1 (record { bytes = bytes; ops = ops }) → ⊥) × (IsPartial Version1 bytes → ⊥) × (bytes ≢ closing)
+IsKind Front bytes = IsPartial Version2 bytes
+IsKind Neither bytes = ((ops : List Op) → IsFrame Version2 (record { bytes = bytes; ops = ops }) → ⊥) × (IsPartial Version2 bytes → ⊥) × (bytes ≢ closing)
 
 -- and what they do
 abbrev pub told : Kind → (limit : ℕ) → List (List ℕ) → (cursor : ℕ) → List ℕ → Taken
-told Frame limit log cursor bytes = logged limit log cursor bytes
+told (Frame ops) limit log cursor bytes = joined limit log cursor ops
 told Closing limit log cursor bytes = record { log = log; next = Closes (reply_from log cursor) }
 told Front limit log cursor bytes = record { log = log; next = Goes (record { cursor = Some cursor; rest = bytes }) }
 told Neither limit log cursor bytes = session_refused log 1
