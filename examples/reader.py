@@ -14,7 +14,10 @@ from dataclasses import dataclass, field
 
 USUAL_HOLD = 65_536
 LONGEST_BATCH = 268_435_456
+TAG_UNIT = 536_870_912
 LAST_SLOT = 4_294_967_295
+GREATEST_COUNTER = 4_294_967_295
+LONGEST_RUN = 1_024
 
 # Where elements stand that are sections.
 CATALOGUE = "catalogue"
@@ -117,16 +120,33 @@ class Cursor:
 
         return chr(self.number(3, is_front))
 
-    def frame(self):
+    def frame(self, runs):
+        """The operations of a frame; of a run only where there may be runs."""
         kind = self.byte()
         if kind == 1:
-            return Op("Section", self.identifier(), None, self.origin(), self.origin(), self.title())
+            return [Op("Section", self.identifier(), None, self.origin(), self.origin(), self.title())]
         if kind == 2:
             identifier, section = self.identifier(), self.identifier()
-            return Op("Text", identifier, section, self.origin(), self.origin(), self.scalar())
+            return [Op("Text", identifier, section, self.origin(), self.origin(), self.scalar())]
         if kind == 3:
-            return Op("Delete", None, target=self.identifier())
+            return [Op("Delete", None, target=self.identifier())]
+        if kind == 4 and runs:
+            return self.run()
         raise Bad
+
+    def run(self):
+        """The Texts of a run. Each but the first has the one before as its left origin."""
+        replica, counter = self.identifier()
+        most = min(LONGEST_RUN, GREATEST_COUNTER - counter + 1)
+        if most < 2:
+            raise Bad
+        section, left, right = self.identifier(), self.origin(), self.origin()
+        count = self.number(2, lambda so_far, left: so_far <= most >> 8 if left else 2 <= so_far <= most)
+        texts = []
+        for behind in range(count):
+            texts.append(Op("Text", (replica, counter + behind), section, left, right, self.scalar()))
+            left = texts[-1].id
+        return texts
 
 
 def utf8_size(first):
@@ -134,35 +154,94 @@ def utf8_size(first):
     return 2 if first < 0xE0 else 3 if first < 0xF0 else 4
 
 
-def read_stream(data):
-    """Each operation of a stream with the bytes of its frame. It ends as the stream does."""
+def read_stream(data, runs=True):
+    """Each operation of a stream, where there may be runs or single frames alone. It ends as the stream does."""
     at = 0
     while at < len(data):
         cursor = Cursor(data, at)
         try:
-            op = cursor.frame()
+            ops = cursor.frame(runs)
         except Short:
             raise Refused(f"cut short at byte {at}", 2) from None
         except Bad:
             raise Refused(f"bad frame at byte {at}", 2) from None
-        yield op, data[at : cursor.at]
+        yield from ops
         at = cursor.at
+
+
+def number_bytes(number, size):
+    return number.to_bytes(size, "big")
+
+
+def id_bytes(identifier):
+    return number_bytes(identifier[0], 4) + number_bytes(identifier[1], 4)
+
+
+def origin_bytes(origin):
+    return b"\1" + id_bytes(origin) if origin else b"\0"
+
+
+def scalars(texts):
+    return b"".join(number_bytes(ord(text.text), 3) for text in texts)
+
+
+def single_frame(op):
+    if op.kind == "Delete":
+        return b"\3" + id_bytes(op.target)
+    origins = origin_bytes(op.left) + origin_bytes(op.right)
+    if op.kind == "Text":
+        return b"\2" + id_bytes(op.id) + id_bytes(op.section) + origins + scalars([op])
+    title = op.text.encode()
+    return b"\1" + id_bytes(op.id) + origins + number_bytes(len(title), 2) + title
+
+
+def run_frame(texts):
+    first = texts[0]
+    origins = origin_bytes(first.left) + origin_bytes(first.right)
+    head = b"\4" + id_bytes(first.id) + id_bytes(first.section) + origins
+    return head + number_bytes(len(texts), 2) + scalars(texts)
+
+
+def is_typed_behind(before, op):
+    """Whether the second of two operations is the Text that a run with the first one goes on with."""
+    return (
+        before.kind == op.kind == "Text"
+        and op.id == (before.id[0], before.id[1] + 1)
+        and op.left == before.id
+        and (op.section, op.right) == (before.section, before.right)
+    )
+
+
+def frames(ops):
+    """The frames of operations: from the front each stands for as many as one can."""
+    stretch = []
+    for op in ops:
+        if stretch and (len(stretch) == LONGEST_RUN or not is_typed_behind(stretch[-1], op)):
+            yield frame_of(stretch)
+            stretch = []
+        stretch.append(op)
+    if stretch:
+        yield frame_of(stretch)
+
+
+def frame_of(stretch):
+    return single_frame(stretch[0]) if len(stretch) == 1 else run_frame(stretch)
 
 
 def read_file(data):
     """The replica's HOLD and the operations of a file."""
     hold = int.from_bytes(data[9:13], "big")
-    is_replica = len(data) >= 14 and data[:5] == b"FGMX\1" and any(data[5:9])
+    is_replica = len(data) >= 14 and data[:4] == b"FGMX" and data[4] in (1, 2) and any(data[5:9])
     if not is_replica or not 1 <= hold <= 1_048_576:
         raise Refused("not a replica", 6)
     ops, at, slot = [], 13, 0
     while data[at] == 1:
-        size = int.from_bytes(data[at + 1 : at + 5], "big")
+        tag, size = divmod(int.from_bytes(data[at + 1 : at + 5], "big"), TAG_UNIT)
         end = at + 5 + size
-        if size > LONGEST_BATCH or end >= len(data) or slot == LAST_SLOT:
+        if tag > 1 or size > LONGEST_BATCH or end >= len(data) or slot == LAST_SLOT:
             raise Refused(f"bad batch {slot}", 6)
         try:
-            ops.extend(op for op, _ in read_stream(data[at + 5 : end]))
+            ops.extend(read_stream(data[at + 5 : end], runs=tag == 1))
         except Refused:
             raise Refused(f"bad batch {slot}", 6) from None
         at, slot = end, slot + 1
@@ -305,13 +384,13 @@ def tell(op):
 
 
 def list_stream(data):
-    for op, _ in read_stream(data):
+    for op in read_stream(data):
         print(tell(op))
     return 0
 
 
 def show(data):
-    replica = taken_in(USUAL_HOLD, [op for op, _ in read_stream(data)])
+    replica = taken_in(USUAL_HOLD, list(read_stream(data)))
     print(replica.manuscript(), end="")
     print(replica.tally(), file=sys.stderr)
     counts = replica.counts
@@ -324,20 +403,11 @@ def print_file(data):
 
 
 def send_file(data):
-    """The frames of what is accepted and then of what waits, as they stood in the file."""
+    """The frames of what is accepted, and then of what waits."""
     replica = taken_in(*read_file(data))
-    frames = {op: frame for op, frame in frames_of_file(data)}
     sys.stdout.flush()
-    sys.stdout.buffer.write(b"".join(frames[op] for op in replica.accepted + replica.waiting))
+    sys.stdout.buffer.write(b"".join([*frames(replica.accepted), *frames(replica.waiting)]))
     return 0
-
-
-def frames_of_file(data):
-    at = 13
-    while data[at] == 1:
-        end = at + 5 + int.from_bytes(data[at + 1 : at + 5], "big")
-        yield from read_stream(data[at + 5 : end])
-        at = end
 
 
 COMMANDS = {"list": list_stream, "show": show, "print": print_file, "send": send_file}
