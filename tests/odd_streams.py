@@ -18,7 +18,7 @@ sys.dont_write_bytecode = True
 import reader
 
 # Bytes at which some field of a frame begins to be wrong, or just is not.
-TELLING = [0, 1, 2, 3, 4, 10, 13, 0x10, 0x11, 0xD7, 0xD8, 0xDF, 0xE0, 0xC1, 0xC3, 0xED, 0xF4, 0xF5, 0xFF]
+TELLING = [0, 1, 2, 3, 4, 5, 10, 13, 0x10, 0x11, 0xD7, 0xD8, 0xDF, 0xE0, 0xC1, 0xC3, 0xED, 0xF4, 0xF5, 0xFF]
 TITLES = ["T", "Sea", "\u00e9", "\U0001f3a9x", "a b", "t" * 480]
 SECTION = bytes.fromhex("01 00000001 00000000 00 00 0001 54")
 
@@ -35,19 +35,33 @@ class Odd:
     def origin(self):
         return b"\0" if self.random.random() < 0.4 else b"\1" + self.identifier()
 
-    def frame(self):
+    def scalar(self):
+        return ord(self.random.choice("abc\u00e9\U0001f3a9")).to_bytes(3, "big")
+
+    def section(self):
+        return SECTION[1:9] if self.random.random() < 0.6 else self.identifier()
+
+    def run(self):
+        """A run, of which the count may be wrong or more than the counter leaves."""
+        last = 0xFFFFFFFF - self.random.randrange(4)
+        first = self.identifier() if self.random.random() < 0.9 else b"\0\0\0\1" + last.to_bytes(4, "big")
+        count = self.random.choice([2, 3, 4, 2, 3, 4, 2, 3, 4, 0, 1, 1024, 1025])
+        scalars = b"".join(self.scalar() for _ in range(count))
+        return b"\4" + first + self.section() + self.origin() + self.origin() + count.to_bytes(2, "big") + scalars
+
+    def frame(self, runs):
         kind = self.random.random()
+        if runs and kind > 0.7 and kind < 0.9:
+            return self.run()
         if kind < 0.2:
             title = self.random.choice(TITLES).encode()
             return b"\1" + self.identifier() + self.origin() + self.origin() + len(title).to_bytes(2, "big") + title
         if kind < 0.85:
-            section = SECTION[1:9] if self.random.random() < 0.6 else self.identifier()
-            scalar = ord(self.random.choice("abc\u00e9\U0001f3a9"))
-            return b"\2" + self.identifier() + section + self.origin() + self.origin() + scalar.to_bytes(3, "big")
+            return b"\2" + self.identifier() + self.section() + self.origin() + self.origin() + self.scalar()
         return b"\3" + self.identifier()
 
-    def frames(self, most):
-        return b"".join(self.frame() for _ in range(self.random.randrange(most)))
+    def frames(self, most, runs=True):
+        return b"".join(self.frame(runs) for _ in range(self.random.randrange(most)))
 
     def stream(self):
         """Frames, of which some bytes may be others, or the end may lack."""
@@ -61,11 +75,14 @@ class Odd:
     def file(self):
         """A header and slots, of which each part may be wrong."""
         hold = self.random.choice([1, 2, 16, 1_048_576] * 3 + [0, 1_048_577])
-        file = b"FGMX\1" + self.random.randrange(5).to_bytes(4, "big") + hold.to_bytes(4, "big")
+        version = self.random.choice([1, 2] * 8 + [0, 3]).to_bytes(1, "big")
+        file = b"FGMX" + version + self.random.randrange(5).to_bytes(4, "big") + hold.to_bytes(4, "big")
         for _ in range(self.random.randrange(4)):
-            batch = self.stream() if self.random.random() < 0.2 else self.frames(12)
+            tag = self.random.choice([0, 1] * 8 + [2, 7])
+            has_runs = tag == 1 or self.random.random() < 0.1
+            batch = self.stream() if self.random.random() < 0.2 else self.frames(12, has_runs)
             size = len(batch) + self.random.choice([0] * 20 + [1, -1, 300_000_000])
-            file += b"\1" + max(size, 0).to_bytes(4, "big") + batch
+            file += b"\1" + (tag * reader.TAG_UNIT + max(size, 0)).to_bytes(4, "big") + batch
         file += self.random.choice([b"\0", b"\0", b"\0", b"\7", b"\0more", b""])
         return file[: self.random.randrange(len(file) + 1)] if self.random.random() < 0.1 else file
 
