@@ -44,8 +44,8 @@ class Odd:
     def run(self):
         """A run, of which the count may be wrong or more than the counter leaves."""
         last = 0xFFFFFFFF - self.random.randrange(4)
-        first = self.identifier() if self.random.random() < 0.9 else b"\0\0\0\1" + last.to_bytes(4, "big")
-        count = self.random.choice([2, 3, 4, 2, 3, 4, 2, 3, 4, 0, 1, 1024, 1025])
+        first = self.identifier() if self.random.random() < 0.98 else b"\0\0\0\1" + last.to_bytes(4, "big")
+        count = self.random.choice([2, 3, 4] * 40 + [1024, 1024, 0, 1, 1025])
         scalars = b"".join(self.scalar() for _ in range(count))
         return b"\4" + first + self.section() + self.origin() + self.origin() + count.to_bytes(2, "big") + scalars
 
@@ -75,11 +75,11 @@ class Odd:
     def file(self):
         """A header and slots, of which each part may be wrong."""
         hold = self.random.choice([1, 2, 16, 1_048_576] * 3 + [0, 1_048_577])
-        version = self.random.choice([1, 2] * 8 + [0, 3]).to_bytes(1, "big")
+        version = self.random.choice([1, 2] * 20 + [0, 3]).to_bytes(1, "big")
         file = b"FGMX" + version + self.random.randrange(5).to_bytes(4, "big") + hold.to_bytes(4, "big")
         for _ in range(self.random.randrange(4)):
-            tag = self.random.choice([0, 1] * 8 + [2, 7])
-            has_runs = tag == 1 or self.random.random() < 0.1
+            tag = self.random.choice([0, 1] * 30 + [2, 7])
+            has_runs = tag == 1 or self.random.random() < 0.05
             batch = self.stream() if self.random.random() < 0.2 else self.frames(12, has_runs)
             size = len(batch) + self.random.choice([0] * 20 + [1, -1, 300_000_000])
             file += b"\1" + (tag * reader.TAG_UNIT + max(size, 0)).to_bytes(4, "big") + batch
