@@ -33,7 +33,7 @@ pub use Rattle.origin_model.proofs.frames.LengthLemmas.{frame_wide, framing_shor
 pub use Rattle.origin_model.proofs.frames.VersionLemmas.{read_too}
 pub use Rattle.origin_model.proofs.files.ImageLemmas.{Bad, Closed, Ends, ReadOnce, image_once, no_open_slot, slots_not_empty}
 pub use Rattle.origin_model.proofs.files.WalkLemmas.{ReadSome, image_some}
-pub use Rattle.origin_model.proofs.relay.OneOutcomeLemmas.{NoFront, SomeKind, all_once, all_some, one_kind, run_once, run_some, step_once, step_some}
+pub use Rattle.origin_model.proofs.relay.OneOutcomeLemmas.{FramesOnce, SomeKind, all_once, all_some, one_kind, run_once, run_some, step_once, step_some}
 pub use Rattle.origin_model.proofs.relay.PartsLemmas.{InParts, in_parts}
 pub use Rattle.origin_model.proofs.relay.RunLemmas.{Follows, Path, after_piece, ends_at, follows_runs, open_stays, opened_steps, piece_steps, runs-append, state_after, step_runs, unknown_steps}
 pub use Rattle.origin_model.proofs.relay.TextLemmas.{closed_takes, closing_takes, frame_takes, front_of, front_takes, hello, hello_takes, partly, rest_takes, takes-append}

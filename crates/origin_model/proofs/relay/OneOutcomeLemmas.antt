@@ -1,91 +1,89 @@
 -- The definitions leave nothing open: bytes are of one kind, and so events leave a relay in one state, with the same replies; where bytes are of some kind, events leave it in some state.
-use Rattle.origin_model.proofs.Words.{Delete, List, None, Op, Option, Section, Some, Text, [], ap, arith, get_or, length, refl, subst, sym, ℕ, ◌++◌, ◌<◌, ◌∙◌, ◌∷◌, ◌≡◌}
+use Rattle.origin_model.proofs.Words.{Delete, List, None, Op, Option, Section, Some, Text, [], ap, append-nil, arith, get_or, length, refl, subst, sym, ℕ, ◌++◌, ◌<◌, ◌∙◌, ◌∷◌, ◌≡◌}
 use Rattle.std.specs.FinMap as finite
 use Rattle.origin_model.specs.declared.relay.Event.{Event}
 use Rattle.origin_model.specs.declared.relay.Event.TheVariants.{Gone, Opened, Piece}
 use Rattle.origin_model.specs.declared.relay.Reply.{Reply}
-use Rattle.origin_model.specs.declared.grammar.Grammar.TheVariants.{Version1}
-use Rattle.origin_model.specs.frames.Frames.{HasFrame, IsPartial, frame}
+use Rattle.origin_model.specs.declared.grammar.Grammar.TheVariants.{Version2}
+use Rattle.origin_model.specs.frames.Frames.{Framed, IsFrame, IsPartial, Item, Single, Typed, item_bytes}
 use Rattle.origin_model.specs.relay.Relay.{Relay, RelayRuns, RelaySteps, StepsPiece, session_opened, reply_of, sessions_after}
-use Rattle.origin_model.proofs.frames.SingleLemmas.{single_of}
 use Rattle.origin_model.specs.relay.Session.{Closes, Closing, Frame, Front, Goes, IsKind, Kind, Neither, Next, SessionReading, Taken, TakesAll, TakesByte, TakesOne, closing, greeted, told}
 
--- no frame is a proper front of another
-abbrev pub NoFront : Type 0
-NoFront = (a b : Op) (more : List ℕ) → HasFrame a → HasFrame b → frame b ≡ frame a ++ more → more ≡ []
+-- of frames at the front of the same bytes there is one
+abbrev pub FramesOnce : Type 0
+FramesOnce = (a b : Framed) (r s : List ℕ) → IsFrame Version2 a → IsFrame Version2 b → a.bytes ++ r ≡ b.bytes ++ s → (a.ops ≡ b.ops) × (r ≡ s)
 
 -- the first byte
 unfoldable pub first : List ℕ → ℕ
 first bytes = get_or bytes 0 0
 
--- a frame begins with 1, 2 or 3
-pub begins_low : (op : Op) (byte : ℕ) (more : List ℕ) → frame op ≡ byte ∷ more → byte < 4
+-- a frame begins with 1, 2, 3 or 4
+pub begins_low : (item : Item) (byte : ℕ) (more : List ℕ) → item_bytes item ≡ byte ∷ more → byte < 5
 unfolding first
-begins_low (Section id left right title) byte more e = let d : 1 ≡ byte = ap first e in omega (arith, d)
-begins_low (Text id section left right ch) byte more e = let d : 2 ≡ byte = ap first e in omega (arith, d)
-begins_low (Delete target) byte more e = let d : 3 ≡ byte = ap first e in omega (arith, d)
+begins_low (Single (Section id left right title)) byte more e = let d : 1 ≡ byte = ap first e in omega (arith, d)
+begins_low (Single (Text id section left right ch)) byte more e = let d : 2 ≡ byte = ap first e in omega (arith, d)
+begins_low (Single (Delete target)) byte more e = let d : 3 ≡ byte = ap first e in omega (arith, d)
+begins_low (Typed run) byte more e = let d : 4 ≡ byte = ap first e in omega (arith, d)
 
 -- so none begins with the closing byte
-no_closing : (op : Op) (more : List ℕ) → frame op ≡ closing ++ more → ⊥
-no_closing op more e = let l : 0x44 < 4 = begins_low op 0x44 more e in omega (arith, l)
+no_closing : (item : Item) (more : List ℕ) → item_bytes item ≡ closing ++ more → ⊥
+no_closing item more e = let l : 0x44 < 5 = begins_low item 0x44 more e in omega (arith, l)
 
 -- a frame is not the closing byte
-frame_not_closing : (bytes : List ℕ) → IsKind Frame bytes → bytes ≡ closing → ⊥
-frame_not_closing bytes f e = let s = single_of _ f.1 in no_closing s.op [] (sym s.bytes_are ∙ e)
+frame_not_closing : (bytes : List ℕ) (ops : List Op) → IsKind (Frame ops) bytes → bytes ≡ closing → ⊥
+frame_not_closing bytes ops f e = no_closing f.item [] (sym f.bytes_are ∙ e)
 
 -- nor does one begin with it
-front_not_closing : (bytes : List ℕ) → IsPartial Version1 bytes → bytes ≡ closing → ⊥
-front_not_closing bytes p e = let s = single_of p.framed p.is_frame in no_closing s.op p.more (sym s.bytes_are ∙ p.front ∙ ap (λ t. t ++ p.more) e)
+front_not_closing : (bytes : List ℕ) → IsPartial Version2 bytes → bytes ≡ closing → ⊥
+front_not_closing bytes p e = no_closing p.is_frame.item p.more (sym p.is_frame.bytes_are ∙ p.front ∙ ap (λ t. t ++ p.more) e)
 
--- a frame is no proper front of one
-frame_not_front : NoFront → (bytes : List ℕ) → IsKind Frame bytes → IsPartial Version1 bytes → ⊥
-frame_not_front one bytes f p =
-    let s = single_of _ f.1 in
-    let t = single_of p.framed p.is_frame in
-    let none = one s.op t.op p.more s.has_frame t.has_frame (sym t.bytes_are ∙ p.front ∙ ap (λ z. z ++ p.more) s.bytes_are) in
+-- a frame is no proper prefix of one
+frame_not_front : FramesOnce → (bytes : List ℕ) (ops : List Op) → IsKind (Frame ops) bytes → IsPartial Version2 bytes → ⊥
+frame_not_front one bytes ops f p =
+    let none : p.more ≡ [] = (one (record { bytes = bytes; ops = ops }) p.framed p.more [] f p.is_frame (sym p.front ∙ sym (append-nil p.framed.bytes))).1 in
     let long : length p.more ≡ 0 = ap length none in
     let lacks : 0 < length p.more = p.lacks in
     absurd (omega arith)
 
 -- bytes are of one kind
-pub one_kind : NoFront → (bytes : List ℕ) (j k : Kind) → IsKind j bytes → IsKind k bytes → j ≡ k
-one_kind one bytes Frame Frame h i = refl
-one_kind one bytes Frame Closing h i = absurd (frame_not_closing bytes h i)
-one_kind one bytes Frame Front h i = absurd (frame_not_front one bytes h i)
-one_kind one bytes Frame Neither h i = absurd (i.0 h.0 h.1)
-one_kind one bytes Closing Frame h i = absurd (frame_not_closing bytes i h)
+pub one_kind : FramesOnce → (bytes : List ℕ) (j k : Kind) → IsKind j bytes → IsKind k bytes → j ≡ k
+one_kind one bytes (Frame ops) (Frame others) h i = ap Frame (one (record { bytes = bytes; ops = ops }) (record { bytes = bytes; ops = others }) [] [] h i refl).0
+one_kind one bytes (Frame ops) Closing h i = absurd (frame_not_closing bytes ops h i)
+one_kind one bytes (Frame ops) Front h i = absurd (frame_not_front one bytes ops h i)
+one_kind one bytes (Frame ops) Neither h i = absurd (i.0 ops h)
+one_kind one bytes Closing (Frame ops) h i = absurd (frame_not_closing bytes ops i h)
 one_kind one bytes Closing Closing h i = refl
 one_kind one bytes Closing Front h i = absurd (front_not_closing bytes i h)
 one_kind one bytes Closing Neither h i = absurd (i.2 h)
-one_kind one bytes Front Frame h i = absurd (frame_not_front one bytes i h)
+one_kind one bytes Front (Frame ops) h i = absurd (frame_not_front one bytes ops i h)
 one_kind one bytes Front Closing h i = absurd (front_not_closing bytes h i)
 one_kind one bytes Front Front h i = refl
 one_kind one bytes Front Neither h i = absurd (i.1 h)
-one_kind one bytes Neither Frame h i = absurd (h.0 i.0 i.1)
+one_kind one bytes Neither (Frame ops) h i = absurd (h.0 ops i)
 one_kind one bytes Neither Closing h i = absurd (h.2 i)
 one_kind one bytes Neither Front h i = absurd (h.1 i)
 one_kind one bytes Neither Neither h i = refl
 
 -- one byte has one outcome
-byte_once : NoFront → (limit : ℕ) (log : List (List ℕ)) (cursor : Option ℕ) (bytes : List ℕ) (a b : Taken) → TakesByte limit log cursor bytes a → TakesByte limit log cursor bytes b → a ≡ b
+byte_once : FramesOnce → (limit : ℕ) (log : List (List ℕ)) (cursor : Option ℕ) (bytes : List ℕ) (a b : Taken) → TakesByte limit log cursor bytes a → TakesByte limit log cursor bytes b → a ≡ b
 byte_once one limit log None bytes a b h i = h ∙ sym i
 byte_once one limit log (Some cursor) bytes a b h i =
     h.2 ∙ ap (λ (k : Kind). told k limit log cursor bytes) (one_kind one bytes h.0 i.0 h.1 i.1) ∙ sym i.2
 
 -- also where the session is closed
-one_once : NoFront → (limit byte : ℕ) (log : List (List ℕ)) (next : Next) (a b : Taken) → TakesOne limit byte log next a → TakesOne limit byte log next b → a ≡ b
+one_once : FramesOnce → (limit byte : ℕ) (log : List (List ℕ)) (next : Next) (a b : Taken) → TakesOne limit byte log next a → TakesOne limit byte log next b → a ≡ b
 one_once one limit byte log (Goes reading) a b h i = byte_once one limit log reading.cursor (reading.rest ++ byte ∷ []) a b h i
 one_once one limit byte log (Closes reply) a b h i = h ∙ sym i
 
 -- bytes have one outcome
-pub all_once : NoFront → (limit : ℕ) (bytes : List ℕ) (start a b : Taken) → TakesAll limit bytes start a → TakesAll limit bytes start b → a ≡ b
+pub all_once : FramesOnce → (limit : ℕ) (bytes : List ℕ) (start a b : Taken) → TakesAll limit bytes start a → TakesAll limit bytes start b → a ≡ b
 all_once one limit [] start a b h i = h ∙ sym i
 all_once one limit (byte ∷ bytes) start a b h i =
     let middle : h.0 ≡ i.0 = one_once one limit byte start.log start.next h.0 i.0 h.1 i.1 in
     all_once one limit bytes i.0 a b (subst (λ (t : Taken). TakesAll limit bytes t a) middle h.2) i.2
 
 -- a piece has one outcome
-piece_once : NoFront → (old : Relay) (n : ℕ) (found : Option SessionReading) (bytes : List ℕ) (a b : Relay) (x y : Option Reply) → StepsPiece old n found bytes a x → StepsPiece old n found bytes b y → (a ≡ b) × (x ≡ y)
+piece_once : FramesOnce → (old : Relay) (n : ℕ) (found : Option SessionReading) (bytes : List ℕ) (a b : Relay) (x y : Option Reply) → StepsPiece old n found bytes a x → StepsPiece old n found bytes b y → (a ≡ b) × (x ≡ y)
 piece_once one old n None bytes a b x y h i = (h.0 ∙ sym i.0, h.1 ∙ sym i.1)
 piece_once one old n (Some reading) bytes a b x y h i =
     let same : h.taken ≡ i.taken = all_once one old.limit bytes (record { log = old.log; next = Goes reading }) h.taken i.taken h.takes i.takes in (
@@ -94,13 +92,13 @@ piece_once one old n (Some reading) bytes a b x y h i =
     )
 
 -- an event has one outcome
-pub step_once : NoFront → (old : Relay) (event : Event) (a b : Relay) (x y : Option Reply) → RelaySteps old event a x → RelaySteps old event b y → (a ≡ b) × (x ≡ y)
+pub step_once : FramesOnce → (old : Relay) (event : Event) (a b : Relay) (x y : Option Reply) → RelaySteps old event a x → RelaySteps old event b y → (a ≡ b) × (x ≡ y)
 step_once one old (Opened n) a b x y h i = (h.0 ∙ sym i.0, h.1 ∙ sym i.1)
 step_once one old (Piece n bytes) a b x y h i = piece_once one old n (finite.get old.sessions n) bytes a b x y h i
 step_once one old (Gone n) a b x y h i = (h.0 ∙ sym i.0, h.1 ∙ sym i.1)
 
 -- a run of events ends in one state, with the same replies
-pub run_once : NoFront → (events : List Event) (start a b : Relay) (as' bs : List (Option Reply)) → RelayRuns start events a as' → RelayRuns start events b bs → (a ≡ b) × (as' ≡ bs)
+pub run_once : FramesOnce → (events : List Event) (start a b : Relay) (as' bs : List (Option Reply)) → RelayRuns start events a as' → RelayRuns start events b bs → (a ≡ b) × (as' ≡ bs)
 run_once one [] start a b as' bs h i = (h.0 ∙ sym i.0, h.1 ∙ sym i.1)
 run_once one (event ∷ events) start a b as' bs h i =
     let both = step_once one start event h.0 i.0 h.1 i.1 h.3 i.3 in

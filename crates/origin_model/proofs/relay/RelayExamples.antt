@@ -9,8 +9,9 @@ use Rattle.std.proofs.lemmas.Nat.{from_be_bytes-to_be_bytes_4}
 use Rattle.origin_model.specs.declared.relay.Event.{Event}
 use Rattle.origin_model.specs.declared.relay.Event.TheVariants.{Gone, Opened, Piece}
 use Rattle.origin_model.specs.declared.relay.Reply.{Reply}
-use Rattle.origin_model.specs.frames.Frames.{HasFrame, frame}
-use Rattle.origin_model.proofs.frames.SingleLemmas.{single_of}
+use Rattle.origin_model.specs.declared.grammar.Grammar.TheVariants.{Version2}
+use Rattle.origin_model.specs.frames.Frames.{Framed, HasFrame, IsFrame, IsItem, Item, Run, Single, Typed, frame, item_bytes, run_frame, run_ops}
+use Rattle.origin_model.proofs.frames.SingleLemmas.{framed_is, framed_of}
 use Rattle.origin_model.specs.relay.Relay.{Relay, RelayRuns, Sessions, RelaySteps, new_relay, reply_of}
 use Rattle.origin_model.specs.relay.Session.{reply_from, Closes, Goes, SessionReading, IsKind, Neither, Taken, TakesAll, closing, session_goes_on, greeted, refusal_message, session_refused, unread}
 use Rattle.origin_model.proofs.relay.OneOutcomeLemmas.{begins_low, first}
@@ -85,13 +86,13 @@ two_sessions_run =
     let e : Sessions = finite.insert d 0 (behind 0) in
     let f : Sessions = finite.remove e 1 in
     let hello_0 = hello_takes many [] 0 (omega arith) in
-    let hello_1 = takes-append many (hello 0) (frame A) (record { log = []; next = Goes unread }) (session_goes_on [] 0) (session_goes_on (frame A ∷ []) 0) hello_0 (frame_takes many 0 [] A A_has) in
+    let hello_1 = takes-append many (hello 0) (frame A) (record { log = []; next = Goes unread }) (session_goes_on [] 0) (session_goes_on (frame A ∷ []) 0) hello_0 (frame_takes (framed_of A) (framed_is Version2 A A_has) many 0 []) in
     let closes : Taken = record { log = both; next = Closes (reply_from both 0) } in
     let s = opened_steps (new_relay many) 0 (simp gets refl) in
     let t = opened_steps (relay [] a) 1 (simp gets refl) in
     let u = piece_steps (relay [] b) 0 unread (hello 0) (session_goes_on [] 0) (simp gets refl) hello_0 in
     let v = piece_steps (relay [] c) 1 unread (hello 0 ++ frame A) (session_goes_on (frame A ∷ []) 0) (simp gets refl) hello_1 in
-    let w = piece_steps (relay (frame A ∷ []) d) 0 (behind 0) (frame S) (session_goes_on both 0) (simp gets refl) (frame_takes many 0 (frame A ∷ []) S S_has) in
+    let w = piece_steps (relay (frame A ∷ []) d) 0 (behind 0) (frame S) (session_goes_on both 0) (simp gets refl) (frame_takes (framed_of S) (framed_is Version2 S S_has) many 0 (frame A ∷ [])) in
     let x = piece_steps (relay both e) 1 (behind 0) closing closes (simp gets refl) (closing_takes many 0 both) in
     let y = piece_steps (relay both f) 0 (behind 0) closing closes (simp gets refl) (closing_takes many 0 both) in
     follows_runs (new_relay many)
@@ -156,10 +157,42 @@ full_log : TakesAll 1 (hello 0 ++ (frame S ++ (frame S ++ (frame A ++ closing)))
 unfolding encode
 full_log =
     takes-append 1 (hello 0) (frame S ++ (frame S ++ (frame A ++ closing))) (record { log = []; next = Goes unread }) (session_goes_on [] 0) (session_refused (frame S ∷ []) 2) (hello_takes 1 [] 0 (omega arith))
-    (takes-append 1 (frame S) (frame S ++ (frame A ++ closing)) (session_goes_on [] 0) (session_goes_on (frame S ∷ []) 0) (session_refused (frame S ∷ []) 2) (frame_takes 1 0 [] S S_has)
-    (takes-append 1 (frame S) (frame A ++ closing) (session_goes_on (frame S ∷ []) 0) (session_goes_on (frame S ∷ []) 0) (session_refused (frame S ∷ []) 2) (frame_takes 1 0 (frame S ∷ []) S S_has)
-    (takes-append 1 (frame A) closing (session_goes_on (frame S ∷ []) 0) (session_refused (frame S ∷ []) 2) (session_refused (frame S ∷ []) 2) (frame_takes 1 0 (frame S ∷ []) A A_has)
+    (takes-append 1 (frame S) (frame S ++ (frame A ++ closing)) (session_goes_on [] 0) (session_goes_on (frame S ∷ []) 0) (session_refused (frame S ∷ []) 2) (frame_takes (framed_of S) (framed_is Version2 S S_has) 1 0 [])
+    (takes-append 1 (frame S) (frame A ++ closing) (session_goes_on (frame S ∷ []) 0) (session_goes_on (frame S ∷ []) 0) (session_refused (frame S ∷ []) 2) (frame_takes (framed_of S) (framed_is Version2 S S_has) 1 0 (frame S ∷ []))
+    (takes-append 1 (frame A) closing (session_goes_on (frame S ∷ []) 0) (session_refused (frame S ∷ []) 2) (session_refused (frame S ∷ []) 2) (frame_takes (framed_of A) (framed_is Version2 A A_has) 1 0 (frame S ∷ []))
     (closed_takes 1 closing (frame S ∷ []) (refusal_message 2)))))
+
+-- three letters typed in a row, as a run
+abbrev abc : Run
+abc = record { id = id 1 0; section = id 9 0; left = None; right = None; text = 97 ∷ 98 ∷ 99 ∷ [] }
+
+abbrev abc_framed : Framed
+abc_framed = record { bytes = run_frame abc; ops = run_ops abc }
+
+abc_is : IsFrame Version2 abc_framed
+abc_is = record {
+  item = Typed abc;
+  is_item = record {
+    id = A_has.0;
+    section = A_has.1;
+    left = tt;
+    right = tt;
+    text = record { some = omega arith; short = omega arith; scalars = All-cons IsScalar 97 (98 ∷ 99 ∷ []) refl (All-cons IsScalar 98 (99 ∷ []) refl (All-cons IsScalar 99 [] refl (All-nil IsScalar))) };
+    counters_fit = omega arith;
+  };
+  bytes_are = refl;
+  ops_are = refl;
+}
+
+-- of a run that finds the log full at its second letter the first one stays
+run_in_full_log : TakesAll 2 (hello 0 ++ (frame S ++ (run_frame abc ++ closing))) (record { log = []; next = Goes unread }) (session_refused (frame S ∷ frame A ∷ []) 2)
+unfolding encode
+run_in_full_log =
+    takes-append 2 (hello 0) (frame S ++ (run_frame abc ++ closing)) (record { log = []; next = Goes unread }) (session_goes_on [] 0) (session_refused (frame S ∷ frame A ∷ []) 2) (hello_takes 2 [] 0 (omega arith))
+    (takes-append 2 (frame S) (run_frame abc ++ closing) (session_goes_on [] 0) (session_goes_on (frame S ∷ []) 0) (session_refused (frame S ∷ frame A ∷ []) 2)
+    (frame_takes (framed_of S) (framed_is Version2 S S_has) 2 0 [])
+    (takes-append 2 (run_frame abc) closing (session_goes_on (frame S ∷ []) 0) (session_refused (frame S ∷ frame A ∷ []) 2) (session_refused (frame S ∷ frame A ∷ []) 2)
+    (frame_takes abc_framed abc_is 2 0 (frame S ∷ [])) (closed_takes 2 closing (frame S ∷ frame A ∷ []) (refusal_message 2))))
 
 -- a text that does not begin with 48 is refused at its first byte, also one that begins with the closing byte
 no_greeting : TakesAll many (0x47 ∷ 0x48 ∷ []) (record { log = []; next = Goes unread }) (session_refused [] 1) × TakesAll many (0x44 ∷ 0x48 ∷ []) (record { log = []; next = Goes unread }) (session_refused [] 1)
@@ -170,36 +203,37 @@ next_four : List ℕ → List ℕ
 next_four bytes = take 4 (drop 1 bytes)
 
 -- no frame begins with 5
-no_frame_with_5 : (op : Op) (more : List ℕ) → frame op ≡ 5 ∷ more → ⊥
-no_frame_with_5 op more e = let l : 5 < 4 = begins_low op 5 more e in omega (arith, l)
+no_frame_with_5 : (item : Item) (more : List ℕ) → item_bytes item ≡ 5 ∷ more → ⊥
+no_frame_with_5 item more e = let l : 5 < 5 = begins_low item 5 more e in omega (arith, l)
 
--- nor has one the replica 0
-no_replica_0 : (op : Op) (more : List ℕ) → HasFrame op → frame op ≡ 2 ∷ 0 ∷ 0 ∷ 0 ∷ 0 ∷ more → ⊥
+-- nor has a text the replica 0
+no_replica_0 : (item : Item) (more : List ℕ) → IsItem Version2 item → item_bytes item ≡ 2 ∷ 0 ∷ 0 ∷ 0 ∷ 0 ∷ more → ⊥
 unfolding first next_four
-no_replica_0 (Section id left right title) more h e = let d : 1 ≡ 2 = ap first e in omega (arith, d)
-no_replica_0 (Text id section left right ch) more h e =
+no_replica_0 (Single (Section id left right title)) more h e = let d : 1 ≡ 2 = ap first e in omega (arith, d)
+no_replica_0 (Single (Text id section left right ch)) more h e =
     let zero : id.replica ≡ 0 = sym (from_be_bytes-to_be_bytes_4 id.replica h.0.replica_fits) ∙ ap (from_be_bytes w32) (ap next_four e) in
     omega (arith, zero, h.0.some_replica)
-no_replica_0 (Delete target) more h e = let d : 3 ≡ 2 = ap first e in omega (arith, d)
+no_replica_0 (Single (Delete target)) more h e = let d : 3 ≡ 2 = ap first e in omega (arith, d)
+no_replica_0 (Typed run) more h e = let d : 4 ≡ 2 = ap first e in omega (arith, d)
 
 -- bytes behind a whole message that no frame begins with are none of a message
-no_message : (bytes : List ℕ) → ((op : Op) (more : List ℕ) → HasFrame op → frame op ≡ bytes ++ more → ⊥) → bytes ≢ closing → IsKind Neither bytes
+no_message : (bytes : List ℕ) → ((item : Item) (more : List ℕ) → IsItem Version2 item → item_bytes item ≡ bytes ++ more → ⊥) → bytes ≢ closing → IsKind Neither bytes
 no_message bytes none apart = (
-  λ ops f. let s = single_of _ f in none s.op [] s.has_frame (sym s.bytes_are ∙ sym (append-nil bytes)),
-  λ p. let s = single_of p.framed p.is_frame in none s.op p.more s.has_frame (sym s.bytes_are ∙ p.front),
+  λ ops f. none f.item [] f.is_item (sym f.bytes_are ∙ sym (append-nil bytes)),
+  λ p. none p.is_frame.item p.more p.is_frame.is_item (sym p.is_frame.bytes_are ∙ p.front),
   apart,
 )
 
 -- a byte that begins no message is refused, and what the piece brings behind it counts for nothing
 no_such_message : TakesAll many (5 ∷ closing) (session_goes_on both 0) (session_refused both 1)
 no_such_message =
-    (session_refused both 1, (Neither, no_message (5 ∷ []) (λ op more h e. no_frame_with_5 op more e) (λ e. cc e), refl), closed_takes many closing both (refusal_message 1))
+    (session_refused both 1, (Neither, no_message (5 ∷ []) (λ item more h e. no_frame_with_5 item more e) (λ e. cc e), refl), closed_takes many closing both (refusal_message 1))
 
 -- a text of replica 0 is refused at the fourth byte of the replica
 replica_0 : TakesAll many ((2 ∷ 0 ∷ 0 ∷ 0 ∷ []) ++ 0 ∷ closing) (session_goes_on both 0) (session_refused both 1)
 replica_0 =
     takes-append many (2 ∷ 0 ∷ 0 ∷ 0 ∷ []) (0 ∷ closing) (session_goes_on both 0) (partly both 0 (2 ∷ 0 ∷ 0 ∷ 0 ∷ [])) (session_refused both 1)
-    (front_takes many 0 both A A_has [] (2 ∷ 0 ∷ 0 ∷ 0 ∷ []) 1 (drop 5 (frame A)) refl)
+    (front_takes (framed_of A) (framed_is Version2 A A_has) many 0 both [] (2 ∷ 0 ∷ 0 ∷ 0 ∷ []) 1 (drop 5 (frame A)) refl)
     (session_refused both 1, (Neither, no_message (2 ∷ 0 ∷ 0 ∷ 0 ∷ 0 ∷ []) no_replica_0 (λ e. cc e), refl), closed_takes many closing both (refusal_message 1))
 
 -- a number that is opened while it is open goes on; one that is gone is unknown; one that is opened again begins an empty text

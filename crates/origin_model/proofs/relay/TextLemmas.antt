@@ -1,11 +1,11 @@
 -- Texts: pieces are read as their bytes joined, a frame is taken at its last byte, and bytes behind the one that closes a session count for nothing.
-use Rattle.origin_model.proofs.Words.{Delete, List, Op, Section, Some, Text, [], ap, append-nil, append_assoc, arith, refl, subst, sym, ℕ, ◌++◌, ◌<◌, ◌^◌, ◌∙◌, ◌∷◌, ◌≡◌}
+use Rattle.origin_model.proofs.Words.{Delete, List, Op, Section, Some, Text, [], ap, append-nil, append_assoc, arith, length, refl, subst, sym, ℕ, ◌++◌, ◌<◌, ◌^◌, ◌∙◌, ◌∷◌, ◌≡◌}
 use Rattle.std.proofs.lemmas.Nat.{from_be_bytes-to_be_bytes_4}
 use Rattle.std.specs.Int.{byte_at, to_be_bytes, w32}
-use Rattle.origin_model.specs.declared.grammar.Grammar.TheVariants.{Version1}
-use Rattle.origin_model.specs.frames.Frames.{HasFrame, IsPartial, Single, frame}
-use Rattle.origin_model.specs.relay.Session.{Closes, Closing, Frame, Front, Goes, Taken, TakesAll, reply_from, at_cursor, closing, greeted, greeting, logged, unread}
-use Rattle.origin_model.proofs.frames.SingleLemmas.{framed_is, framed_of}
+use Rattle.origin_model.specs.declared.grammar.Grammar.TheVariants.{Version2}
+use Rattle.origin_model.specs.frames.Frames.{Framed, IsFrame, IsPartial}
+use Rattle.origin_model.specs.relay.Session.{Closes, Closing, Frame, Front, Goes, Taken, TakesAll, reply_from, at_cursor, closing, greeted, greeting, joined, unread}
+use Rattle.origin_model.proofs.frames.LengthLemmas.{frame_wide}
 
 -- bytes that come one after the other are read as the bytes joined
 pub takes-append : (limit : ℕ) (xs ys : List ℕ) (a b c : Taken) → TakesAll limit xs a b → TakesAll limit ys b c → TakesAll limit (xs ++ ys) a c
@@ -21,40 +21,41 @@ closed_takes limit (byte ∷ bytes) log reply = (record { log = log; next = Clos
 abbrev pub partly : List (List ℕ) → ℕ → List ℕ → Taken
 partly log cursor rest = record { log = log; next = Goes (record { cursor = Some cursor; rest = rest }) }
 
--- bytes with more behind them in a frame
-pub front_of : (op : Op) → HasFrame op → (xs : List ℕ) (y : ℕ) (ys : List ℕ) → frame op ≡ xs ++ y ∷ ys → IsPartial Version1 xs
-front_of op has xs y ys e =
-    record { framed = framed_of op; is_frame = framed_is Version1 op has; more = y ∷ ys; lacks = omega arith; front = e }
+module _ (framed : Framed) (is : IsFrame Version2 framed) where
+  -- bytes with more behind them in a frame
+  pub front_of : (xs : List ℕ) (y : ℕ) (ys : List ℕ) → framed.bytes ≡ xs ++ y ∷ ys → IsPartial Version2 xs
+  front_of xs y ys e = record { framed = framed; is_frame = is; more = y ∷ ys; lacks = omega arith; front = e }
 
--- bytes within a frame change nothing yet
-pub front_takes : (limit cursor : ℕ) (log : List (List ℕ)) (op : Op) → HasFrame op → (xs ys : List ℕ) (z : ℕ) (zs : List ℕ) → frame op ≡ xs ++ (ys ++ z ∷ zs)
-    → TakesAll limit ys (partly log cursor xs) (partly log cursor (xs ++ ys))
-front_takes limit cursor log op has xs [] z zs e = ap (partly log cursor) (append-nil xs)
-front_takes limit cursor log op has xs (y ∷ ys) z zs e =
-    let split : frame op ≡ (xs ++ y ∷ []) ++ (ys ++ z ∷ zs) = e ∙ sym (append_assoc xs (y ∷ []) (ys ++ z ∷ zs)) in (
-      partly log cursor (xs ++ y ∷ []),
-      (Front, next_front (xs ++ y ∷ []) ys z zs split, refl),
-      subst (λ r. TakesAll limit ys (partly log cursor (xs ++ y ∷ [])) (partly log cursor r)) (append_assoc xs (y ∷ []) ys) (front_takes limit cursor log op has (xs ++ y ∷ []) ys z zs split),
-    )
-  where
-    next_front : (xs ys : List ℕ) (z : ℕ) (zs : List ℕ) → frame op ≡ xs ++ (ys ++ z ∷ zs) → IsPartial Version1 xs
-    next_front xs [] z zs e = front_of op has xs z zs e
-    next_front xs (y ∷ ys) z zs e = front_of op has xs y (ys ++ z ∷ zs) e
+  module _ (limit cursor : ℕ) (log : List (List ℕ)) where
+    -- bytes within a frame change nothing yet
+    pub front_takes : (xs ys : List ℕ) (z : ℕ) (zs : List ℕ) → framed.bytes ≡ xs ++ (ys ++ z ∷ zs) → TakesAll limit ys (partly log cursor xs) (partly log cursor (xs ++ ys))
+    front_takes xs [] z zs e = ap (partly log cursor) (append-nil xs)
+    front_takes xs (y ∷ ys) z zs e =
+        let split : framed.bytes ≡ (xs ++ y ∷ []) ++ (ys ++ z ∷ zs) = e ∙ sym (append_assoc xs (y ∷ []) (ys ++ z ∷ zs)) in (
+          partly log cursor (xs ++ y ∷ []),
+          (Front, next_front (xs ++ y ∷ []) ys z zs split, refl),
+          subst (λ r. TakesAll limit ys (partly log cursor (xs ++ y ∷ [])) (partly log cursor r)) (append_assoc xs (y ∷ []) ys) (front_takes (xs ++ y ∷ []) ys z zs split),
+        )
+      where
+        next_front : (xs ys : List ℕ) (z : ℕ) (zs : List ℕ) → framed.bytes ≡ xs ++ (ys ++ z ∷ zs) → IsPartial Version2 xs
+        next_front xs [] z zs e = front_of xs z zs e
+        next_front xs (y ∷ ys) z zs e = front_of xs y (ys ++ z ∷ zs) e
 
--- the bytes y and ys, behind the bytes xs of a frame, end it
-pub rest_takes : (limit cursor : ℕ) (log : List (List ℕ)) (op : Op) → HasFrame op → (ys xs : List ℕ) (y : ℕ) → frame op ≡ xs ++ y ∷ ys
-    → TakesAll limit (y ∷ ys) (partly log cursor xs) (logged limit log cursor (frame op))
-rest_takes limit cursor log op has [] xs y e =
-    (logged limit log cursor (frame op), (Frame, (op ∷ [], record { item = Single op; is_item = has; bytes_are = sym e; ops_are = refl }), ap (logged limit log cursor) e), refl)
-rest_takes limit cursor log op has (z ∷ zs) xs y e =
-    let split : frame op ≡ (xs ++ y ∷ []) ++ z ∷ zs = e ∙ sym (append_assoc xs (y ∷ []) (z ∷ zs)) in
-    (partly log cursor (xs ++ y ∷ []), (Front, front_of op has (xs ++ y ∷ []) z zs split, refl), rest_takes limit cursor log op has zs (xs ++ y ∷ []) z split)
+    -- the bytes y and ys, behind the bytes xs of a frame, end it
+    pub rest_takes : (ys xs : List ℕ) (y : ℕ) → framed.bytes ≡ xs ++ y ∷ ys → TakesAll limit (y ∷ ys) (partly log cursor xs) (joined limit log cursor framed.ops)
+    rest_takes [] xs y e =
+        (joined limit log cursor framed.ops, (Frame framed.ops, record { item = is.item; is_item = is.is_item; bytes_are = sym e ∙ is.bytes_are; ops_are = is.ops_are }, refl), refl)
+    rest_takes (z ∷ zs) xs y e =
+        let split : framed.bytes ≡ (xs ++ y ∷ []) ++ z ∷ zs = e ∙ sym (append_assoc xs (y ∷ []) (z ∷ zs)) in
+        (partly log cursor (xs ++ y ∷ []), (Front, front_of (xs ++ y ∷ []) z zs split, refl), rest_takes zs (xs ++ y ∷ []) z split)
 
--- a frame that comes behind a whole message is taken at its last byte
-pub frame_takes : (limit cursor : ℕ) (log : List (List ℕ)) (op : Op) → HasFrame op → TakesAll limit (frame op) (partly log cursor []) (logged limit log cursor (frame op))
-frame_takes limit cursor log (Section id left right title) has = rest_takes limit cursor log (Section id left right title) has _ [] 1 refl
-frame_takes limit cursor log (Text id section left right ch) has = rest_takes limit cursor log (Text id section left right ch) has _ [] 2 refl
-frame_takes limit cursor log (Delete target) has = rest_takes limit cursor log (Delete target) has _ [] 3 refl
+    -- a frame that comes behind a whole message is taken at its last byte
+    pub frame_takes : TakesAll limit framed.bytes (partly log cursor []) (joined limit log cursor framed.ops)
+    frame_takes = by framed.bytes refl
+      where
+        by : (bytes : List ℕ) → framed.bytes ≡ bytes → TakesAll limit bytes (partly log cursor []) (joined limit log cursor framed.ops)
+        by [] none = absurd (omega (arith, ap length none, frame_wide Version2 framed is))
+        by (y ∷ ys) e = rest_takes ys [] y e
 
 -- 48 and a cursor
 abbrev pub hello : ℕ → List ℕ
