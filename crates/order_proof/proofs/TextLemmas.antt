@@ -1,5 +1,5 @@
 -- The text of a certificate tells its lines, and these tell the certificate.
-use Rattle.std.proofs.Common.{Bool, List, false, inl, inr, true, [], ap, append_assoc, arith, refl, sym, ℕ, ◌++◌, ◌<◌, ◌^◌, ◌∙◌, ◌∷◌, ◌≡◌, ◌≢◌, nat_eq}
+use Rattle.std.proofs.Common.{Bool, List, false, inl, inr, true, [], ap, append_assoc, arith, refl, sym, ℕ, ◌++◌, ◌<◌, ◌^◌, ◌∙◌, ◌∷◌, ◌≡◌, nat_eq}
 use Rattle.std.specs.Prelude.{All, decimal, flat_map, if◌then◌else◌, map}
 use Rattle.std.proofs.lemmas.Bool.{cases_Bool, eq-eqb, false≢true, true≢false}
 use Rattle.std.proofs.lemmas.List.{append-nil}
@@ -14,19 +14,15 @@ use Rattle.fugue_ids.specs.declared.op.Op.{Op}
 use Rattle.order_proof.specs.declared.step.Step.{Step}
 use Rattle.order_proof.specs.Certificates.{Certificate, HoldsBy, IsValid}
 use Rattle.order_proof.specs.Laws.{ReadsUniquely, ValidReadsUniquely}
-use Rattle.order_proof.specs.Texts.{IsNarrow, Line, Word, chain_lines, reason_line, claim, down, end, id_text, inner, later, line_text, proof_lines, prefix, right, tie, told_step, told_by, word_text}
+use Rattle.order_proof.specs.Readings.{HasNoByte}
+use Rattle.order_proof.specs.Texts.{IsNarrow, Line, Word, chain_lines, reason_line, claim, down, end, id_text, ids_text, inner, later, line_text, proof_lines, prefix, right, tie, told_step, told_by, word_text}
 
--- the mark k is not among the bytes
-abbrev IsFree : ℕ → List ℕ → Type 0
-IsFree k [] = Unit {0}
-IsFree k (c ∷ cs) = (c ≢ k) × IsFree k cs
-
-free-append : (k : ℕ) (a b : List ℕ) → IsFree k a → IsFree k b → IsFree k (a ++ b)
+pub free-append : (k : ℕ) (a b : List ℕ) → HasNoByte k a → HasNoByte k b → HasNoByte k (a ++ b)
 free-append k [] b f g = g
 free-append k (c ∷ a) b f g = (f.0, free-append k a b f.1 g)
 
 -- what stands before the first mark
-split_at : (k : ℕ) (a b r s : List ℕ) → IsFree k a → IsFree k b → a ++ k ∷ r ≡ b ++ k ∷ s → (a ≡ b) × (r ≡ s)
+pub split_at : (k : ℕ) (a b r s : List ℕ) → HasNoByte k a → HasNoByte k b → a ++ k ∷ r ≡ b ++ k ∷ s → (a ≡ b) × (r ≡ s)
 split_at k [] [] r s f g e = let t : r ≡ s = cc in (refl, t)
 split_at k [] (c ∷ b) r s f g e = let t : c ≡ k = cc in absurd (g.0 t)
 split_at k (c ∷ a) [] r s f g e = let t : c ≡ k = cc in absurd (f.0 t)
@@ -40,9 +36,9 @@ split_at k (c ∷ a) (d ∷ b) r s f g e =
 abbrev marked : ℕ → List (List ℕ) → List ℕ
 marked k xs = flat_map (λ x. x ++ k ∷ []) xs
 
-abbrev AreFree : ℕ → List (List ℕ) → Type 0
-AreFree k [] = Unit {0}
-AreFree k (x ∷ xs) = IsFree k x × AreFree k xs
+abbrev HaveNoByte : ℕ → List (List ℕ) → Type 0
+HaveNoByte k [] = Unit {0}
+HaveNoByte k (x ∷ xs) = HasNoByte k x × HaveNoByte k xs
 
 -- no piece is empty of its mark
 some_piece : (k : ℕ) (x r : List ℕ) → [] ≡ (x ++ k ∷ []) ++ r → ⊥
@@ -50,7 +46,7 @@ some_piece k [] r e = cc
 some_piece k (c ∷ x) r e = cc
 
 -- the pieces are told by their text
-pieces_once : (k : ℕ) (xs ys : List (List ℕ)) → AreFree k xs → AreFree k ys → marked k xs ≡ marked k ys → xs ≡ ys
+pieces_once : (k : ℕ) (xs ys : List (List ℕ)) → HaveNoByte k xs → HaveNoByte k ys → marked k xs ≡ marked k ys → xs ≡ ys
 pieces_once k [] [] f g e = refl
 pieces_once k [] (y ∷ ys) f g e = absurd (some_piece k y (marked k ys) e)
 pieces_once k (x ∷ xs) [] f g e = absurd (some_piece k x (marked k xs) (sym e))
@@ -60,15 +56,15 @@ pieces_once k (x ∷ xs) (y ∷ ys) f g e =
     λ i. p.0 i ∷ q i
 
 -- digits are no marks
-digits_free : (k : ℕ) (ds : List ℕ) → k < 48 → AllDigits 10 ds → IsFree k ds
+digits_free : (k : ℕ) (ds : List ℕ) → k < 48 → AllDigits 10 ds → HasNoByte k ds
 digits_free k [] l d = tt
 digits_free k (c ∷ cs) l d = ((λ e. omega (arith, digit_from_value c d.0, e, l)), digits_free k cs l d.1)
 
-decimal_free : (k n : ℕ) → k < 48 → n < 2 ^ 32 → IsFree k (decimal n)
+pub decimal_free : (k n : ℕ) → k < 48 → n < 2 ^ 32 → HasNoByte k (decimal n)
 decimal_free k n l h = digits_free k (decimal n) l (decimal_is_IsNumeral n (omega (arith, h))).0.1
 
 -- an identifier is told by its text
-id_free : (k : ℕ) (id : Identifier) → k < 46 → IsNarrow id → IsFree k (id_text id)
+pub id_free : (k : ℕ) (id : Identifier) → k < 46 → IsNarrow id → HasNoByte k (id_text id)
 id_free k id l n =
     free-append k (decimal id.replica) (46 ∷ decimal id.counter) (decimal_free k id.replica (omega (arith, l)) n.0)
     ((λ e. omega (arith, e, l)), decimal_free k id.counter (omega (arith, l)) n.1)
@@ -119,7 +115,7 @@ abbrev free_test : ℕ → List ℕ → Bool
 free_test k [] = true
 free_test k (c ∷ cs) = if nat_eq c k then false else free_test k cs
 
-free_from : (k : ℕ) (cs : List ℕ) → free_test k cs ≡ true → IsFree k cs
+free_from : (k : ℕ) (cs : List ℕ) → free_test k cs ≡ true → HasNoByte k cs
 free_from k [] e = tt
 free_from k (c ∷ cs) e =
     elim (cases_Bool (nat_eq c k)) [
@@ -141,12 +137,12 @@ word_test tie = (refl, refl)
 abbrev body : Line → List ℕ
 body l = word_text l.word ++ flat_map (λ id. 32 ∷ id_text id) l.ids
 
-ids_free : (ids : List Identifier) → All IsNarrow ids → IsFree 10 (flat_map (λ id. 32 ∷ id_text id) ids)
+pub ids_free : (ids : List Identifier) → All IsNarrow ids → HasNoByte 10 (ids_text ids)
 ids_free [] n = tt
 ids_free (i ∷ ids) n =
     free-append 10 (32 ∷ id_text i) (flat_map (λ id. 32 ∷ id_text id) ids) ((λ e. omega (arith, e)), id_free 10 i (omega arith) (All-head IsNarrow i ids n)) (ids_free ids (All-tail IsNarrow i ids n))
 
-body_free : (l : Line) → All IsNarrow l.ids → IsFree 10 (body l)
+body_free : (l : Line) → All IsNarrow l.ids → HasNoByte 10 (body l)
 body_free l n = free-append 10 (word_text l.word) (flat_map (λ id. 32 ∷ id_text id) l.ids) (free_from 10 (word_text l.word) (word_test l.word).0) (ids_free l.ids n)
 
 -- a line with a space in place of its end, as pieces
@@ -158,7 +154,7 @@ ids_marked w (i ∷ ids) =
     ∙ sym (append_assoc w (32 ∷ []) ((id_text i ++ more) ++ 32 ∷ []))
     ∙ ap (λ z. (w ++ 32 ∷ []) ++ z) (ids_marked (id_text i) ids)
 
-pieces_free : (ids : List Identifier) → All IsNarrow ids → AreFree 32 (map id_text ids)
+pieces_free : (ids : List Identifier) → All IsNarrow ids → HaveNoByte 32 (map id_text ids)
 pieces_free [] n = tt
 pieces_free (i ∷ ids) n = (id_free 32 i (omega arith) (All-head IsNarrow i ids n), pieces_free ids (All-tail IsNarrow i ids n))
 
@@ -179,7 +175,7 @@ lines_marked : (ls : List Line) → flat_map line_text ls ≡ marked 10 (map bod
 lines_marked [] = refl
 lines_marked (l ∷ ls) = λ i. sym (append_assoc (word_text l.word) (flat_map (λ id. 32 ∷ id_text id) l.ids) (10 ∷ [])) i ++ lines_marked ls i
 
-bodies_free : (ls : List Line) → All (λ (l : Line). All IsNarrow l.ids) ls → AreFree 10 (map body ls)
+bodies_free : (ls : List Line) → All (λ (l : Line). All IsNarrow l.ids) ls → HaveNoByte 10 (map body ls)
 bodies_free [] n = tt
 bodies_free (l ∷ ls) n = (body_free l (All-head (λ (l : Line). All IsNarrow l.ids) l ls n), bodies_free ls (All-tail (λ (l : Line). All IsNarrow l.ids) l ls n))
 

@@ -1,6 +1,7 @@
 pub mod Certificates
 pub mod Laws
 pub mod Texts
+pub mod Readings
 pub mod Chains
 pub mod Checks
 pub mod Making

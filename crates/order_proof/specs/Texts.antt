@@ -35,9 +35,13 @@ pub record Line : Type 0 where
 abbrev pub id_text : Identifier → List ℕ
 id_text id = decimal id.replica ++ 46 ∷ decimal id.counter
 
+-- each identifier behind a space
+abbrev pub ids_text : List Identifier → List ℕ
+ids_text ids = flat_map (λ id. 32 ∷ id_text id) ids
+
 -- a word, each identifier behind a space, LF
 abbrev pub worded : List ℕ → List Identifier → List ℕ
-worded word ids = word ++ (flat_map (λ id. 32 ∷ id_text id) ids ++ 10 ∷ [])
+worded word ids = word ++ (ids_text ids ++ 10 ∷ [])
 
 abbrev pub line_text : Line → List ℕ
 line_text l = worded (word_text l.word) l.ids

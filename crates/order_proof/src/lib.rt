@@ -7,7 +7,9 @@ mod laws;
 mod look_ups;
 mod making;
 mod proof;
+mod reading;
 mod step;
+mod text_parts;
 mod writing;
 
 pub use checking::check;

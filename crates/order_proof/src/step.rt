@@ -1,8 +1,10 @@
 //! The steps of certificates, with the chains that they show.
 
-ghost use Rattle.std.specs.Prelude.{◌≡◌};
+ghost use Rattle.std.specs.Prelude.{◌≡◌, []};
+ghost use Rattle.order_proof.specs.declared.step.Reason.TheVariants.{Prefix};
 
 use fugue_ids::ElementId;
+use std::alloc::Global;
 use std::marker::Model;
 
 /// Members of a chain of origins, from above down. It is seen as the list of them.
@@ -63,4 +65,30 @@ pub struct Step {
     pub right_x: Chain,
     pub right_y: Chain,
     pub reason: Reason,
+}
+
+impl Step {
+    /// The step that x stands before y, whose chain of left origins goes down through x.
+    pub(crate) fn by_prefix(alloc: Global, x: ElementId, y: ElementId, down_y: Chain) -> Step
+        ensures { result
+            ≡ record {
+              x = x;
+              y = y;
+              down_x = [];
+              down_y = down_y;
+              right_x = [];
+              right_y = [];
+              reason = Prefix;
+            } }
+    {
+        Step {
+            x,
+            y,
+            down_x: Chain::new(Vec::new(alloc)),
+            down_y,
+            right_x: Chain::new(Vec::new(alloc)),
+            right_y: Chain::new(Vec::new(alloc)),
+            reason: Reason::Prefix,
+        }
+    }
 }
