@@ -20,9 +20,12 @@ pub use laws::{
     closure_of_set, gap_by_keys, kept_suffice, keys_are_fixed, lands_behind, later_ops_keep_order,
     order_by_set, order_total, self_named_never_accepted, walk_is_order,
 };
+pub use operations::element::{element_of, left_of, right_of};
+pub use operations::lookup::find_holder;
 pub use operations::{
     Lookup, Named, Names, NoMemoryFor, Node, Place, Role, Verdict, names_of, verdict_in,
 };
+pub use order::comparison::{lefts_of, right_at};
 pub use plain_replica::PlainReplica;
 pub use relay::{Event, Reply};
 pub use sides::Slot;

@@ -145,7 +145,8 @@ fn index_of_origin(finished: &[ElementId], origin: Option<ElementId>) -> usize
     }
 }
 
-fn right_at(ops: &[Op], x: ElementId) -> Option<ElementId>
+/// The right origin of an element.
+pub fn right_at(ops: &[Op], x: ElementId) -> Option<ElementId>
     ensures { result ≡ right_origin (reverse ops.now) x }
 {
     match find_holder(ops, x) {
