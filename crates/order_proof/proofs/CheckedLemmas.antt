@@ -21,7 +21,8 @@ use Rattle.order_proof.specs.declared.step.Reason.TheVariants.{End, Inner, Later
 use Rattle.order_proof.specs.declared.step.Step.{Step}
 use Rattle.order_proof.specs.Certificates.{ByRightChains, ByRightOrigins, Certificate, Chain, HoldsBy, IsFork, IsPrefixStep, IsSiblingStep, IsStep, IsValid, OfOnePlace, is_later}
 use Rattle.order_proof.specs.Checks.{chains_decide, ends, goes_on, in_one_place, is_inner, origins_decide, place_holding, prefix_test, reason_test, rests_test, same_place, sibling_test, siblings_at, step_test, test}
-use Rattle.order_proof.specs.Chains.{is_down, is_empty, links, right_above}
+use Rattle.order_proof.specs.Chains.{is_down, is_empty, is_rights}
+use Rattle.order_proof.proofs.BesideLemmas.{rights_from, rights_to}
 use Rattle.order_proof.proofs.WalkLemmas.{walked}
 
 -- two tests, the second behind the first
@@ -46,76 +47,22 @@ some_from : (o : Option Identifier) → o ≢ None → is_some o ≡ true
 some_from None n = absurd (n refl)
 some_from (Some x) n = refl
 
--- chains, link by link
-module _ (next : List Op → Op → Option Identifier) (h : List Op) (up : Identifier → Option Identifier)
-    (at : (x : Identifier) → IsHeld h x → chain next h x ≡ chain_above next h (up x) ++ x ∷ [])
-    (front : (e u : Identifier) (c more : Chain) → IsHeld h e → chain next h e ≡ c ++ u ∷ more → chain next h u ≡ c ++ u ∷ [])
-    (up_held : (x y : Identifier) → IsHeld h x → up x ≡ Some y → IsHeld h y) where
-  -- an origin is held, where there is one
-  abbrev HeldOrigin : Option Identifier → Type 0
-  HeldOrigin o = (y : Identifier) → o ≡ Some y → IsHeld h y
+-- an origin is held, where there is one
+abbrev HeldOrigin : List Op → Option Identifier → Type 0
+HeldOrigin h o = (y : Identifier) → o ≡ Some y → IsHeld h y
 
-  -- the chain above tells what it belongs to
-  above_once : (o q : Option Identifier) → HeldOrigin o → HeldOrigin q → chain_above next h o ≡ chain_above next h q → o ≡ q
-  above_once None None a b e = refl
-  above_once None (Some y) a b e = absurd (never_none next h y (b y refl) (sym e))
-  above_once (Some x) None a b e = absurd (never_none next h x (a x refl) e)
-  above_once (Some x) (Some y) a b e = ap Some (same_chain next h x y (a x refl) (b y refl) e)
-
-  -- the first member of linked ones is held where the last is
-  links_held : (m : Identifier) (ms : Chain) (last : Identifier) → IsHeld h last → links up (Some m) ms last ≡ true → IsHeld h m
-  links_held m [] last k e = subst (IsHeld h) (sym (id_eq-true m last e)) k
-  links_held m (n ∷ ms) last k e =
-      let p = if_parts (origin_eq (up n) (Some m)) (links up (Some n) ms last) e in
-      up_held n m (links_held n ms last k p.1) (origin_eq-true (up n) (Some m) p.0)
-
-  -- linked members go on as the chain of the last
-  links_from : (o : Option Identifier) (ms : Chain) (last : Identifier) → IsHeld h last → links up o ms last ≡ true → chain next h last ≡ chain_above next h o ++ ms
-  links_from o [] last k e =
-      ap (chain_above next h) (sym (origin_eq-true o (Some last) e)) ∙ sym (append-nil (chain_above next h o))
-  links_from o (m ∷ ms) last k e =
-      let p = if_parts (origin_eq (up m) o) (links up (Some m) ms last) e in
-      links_from (Some m) ms last k p.1
-      ∙ ap (λ l. l ++ ms) (at m (links_held m ms last k p.1) ∙ ap (λ z. chain_above next h z ++ m ∷ []) (origin_eq-true (up m) o p.0))
-      ∙ append_assoc (chain_above next h o) (m ∷ []) ms
-
-  -- and what goes on as the chain of the last is linked
-  links_to : (o : Option Identifier) (ms : Chain) (last : Identifier) → HeldOrigin o → IsHeld h last → chain next h last ≡ chain_above next h o ++ ms → links up o ms last ≡ true
-  links_to o [] last a k e =
-      let d : o ≡ Some last = above_once o (Some last) a (λ y q. let c : last ≡ y = cc in subst (IsHeld h) c k) (sym (e ∙ append-nil (chain_above next h o))) in
-      ap (λ z. origin_eq z (Some last)) d ∙ id_eq-refl last
-  links_to o (m ∷ ms) last a k e =
-      let f : chain next h m ≡ chain_above next h o ++ m ∷ [] = front last m (chain_above next h o) ms k e in
-      let held : IsHeld h m = All-contains (IsHeld h) (chain next h last) m (chain-held next h last) (subst (λ l. Contains l m) (sym e) (contains_middle (chain_above next h o) m ms)) in
-      let g : chain_above next h (up m) ≡ chain_above next h o = (same_from_push (chain_above next h (up m)) (chain_above next h o) m m (sym (at m held) ∙ f)).0 in
-      let d : up m ≡ o = above_once (up m) o (λ y q. up_held m y held q) a g in
-      if_both (origin_eq (up m) o) (links up (Some m) ms last) (ap (λ z. origin_eq z o) d ∙ origin_eq-refl o)
-      (links_to (Some m) ms last (λ y q. let c : m ≡ y = cc in subst (IsHeld h) c held) k
-      (e ∙ sym (append_assoc (chain_above next h o) (m ∷ []) ms) ∙ ap (λ l. l ++ ms) (sym f)))
+-- the chain above tells what it belongs to
+above_once : (next : List Op → Op → Option Identifier) (h : List Op) (o q : Option Identifier) → HeldOrigin h o → HeldOrigin h q → chain_above next h o ≡ chain_above next h q → o ≡ q
+above_once next h None None a b e = refl
+above_once next h None (Some y) a b e = absurd (never_none next h y (b y refl) (sym e))
+above_once next h (Some x) None a b e = absurd (never_none next h x (a x refl) e)
+above_once next h (Some x) (Some y) a b e = ap Some (same_chain next h x y (a x refl) (b y refl) e)
 
 -- in a lawful history
 module _ (h : List Op) (w : Lawful h) where
   -- what is above a held element is held
   left_up : (x y : Identifier) → IsHeld h x → left_at h x ≡ Some y → IsHeld h y
   left_up x y k e = let o = found (holder h x) k in left_origin_held h x o.0 y w o.1 (sym (left_at-is h x o.0 o.1) ∙ e)
-
-  right_up : (x y : Identifier) → IsHeld h x → right_above h x ≡ Some y → IsHeld h y
-  right_up x y k e =
-      let o = found (holder h x) k in
-      right_origin_held h x o.0 y w o.1 (sym (ap right_by o.1) ∙ (beside_is h (left_at h x) (right_at h x) y e).0)
-
-  -- the chain of right origins, by what is above
-  rights-above : (x : Identifier) → IsHeld h x → rights h x ≡ chain_above next_right h (right_above h x) ++ x ∷ []
-  rights-above x k =
-      let o = found (holder h x) k in
-      rights-at h x o.0 w o.1 ∙ (λ i. chain_above next_right h (right_beside h (sym (left_at-is h x o.0 o.1) i) (sym (ap right_by o.1) i)) ++ x ∷ [])
-
-  -- links of right origins, from the first
-  rights_from : (ms : Chain) (last : Identifier) → IsHeld h last → links (right_above h) None ms last ≡ true → rights h last ≡ ms
-  rights_from = links_from next_right h (right_above h) rights-above (λ e u c more k q. (rights-prefix h e u c more w k q).0) right_up None
-
-  rights_to : (ms : Chain) (last : Identifier) → IsHeld h last → rights h last ≡ ms → links (right_above h) None ms last ≡ true
-  rights_to ms last = links_to next_right h (right_above h) rights-above (λ e u c more k q. (rights-prefix h e u c more w k q).0) right_up None ms last (λ y q. absurd (not_some y (sym q)))
 
   -- the chain from a member on, and what is above it
   down_front : (x a : Identifier) (c more : Chain) → IsHeld h x → lefts h x ≡ c ++ a ∷ more → IsHeld h a × (c ≡ chain_above next_left h (left_at h a))
@@ -235,9 +182,9 @@ module _ (h : List Op) (w : Lawful h) where
   siblings_from x y [] down_y right_x right_y r q k l e f g j = absurd (false≢true e)
   siblings_from x y (a ∷ m) [] right_x right_y r q k l e f g j = absurd (false≢true e)
   siblings_from x y (a ∷ m) (b ∷ n) right_x right_y r q k l e f g j =
-      let s = and_parts (not (id_eq a b)) (origin_eq (left_at h a) (left_at h b) && (links (right_above h) None right_x a && links (right_above h) None right_y b)) e in
-      let t = and_parts (origin_eq (left_at h a) (left_at h b)) (links (right_above h) None right_x a && links (right_above h) None right_y b) s.1 in
-      let u = and_parts (links (right_above h) None right_x a) (links (right_above h) None right_y b) t.1 in
+      let s = and_parts (not (id_eq a b)) (origin_eq (left_at h a) (left_at h b) && (is_rights h a right_x && is_rights h b right_y)) e in
+      let t = and_parts (origin_eq (left_at h a) (left_at h b)) (is_rights h a right_x && is_rights h b right_y) s.1 in
+      let u = and_parts (is_rights h a right_x) (is_rights h b right_y) t.1 in
       let v : lefts h x ≡ chain_above next_left h (left_at h a) ++ a ∷ m = down_from x a m k f in
       let z : lefts h y ≡ chain_above next_left h (left_at h b) ++ b ∷ n = down_from y b n l g in
       let held_a = down_front x a (chain_above next_left h (left_at h a)) m k v in
@@ -255,8 +202,8 @@ module _ (h : List Op) (w : Lawful h) where
           whole_y = z ∙ ap (λ o. chain_above next_left h o ++ b ∷ n) (sym (origin_eq-true (left_at h a) (left_at h b) t.0));
           differ = id_eq-false a b (not_true (id_eq a b) s.0);
         };
-        right_x = sym (rights_from right_x a held_a.0 u.0);
-        right_y = sym (rights_from right_y b held_b.0 u.1);
+        right_x = sym (rights_from h a right_x u.0);
+        right_y = sym (rights_from h b right_y u.1);
         decides = chains_from r right_x right_y j;
       }
 
@@ -273,7 +220,7 @@ module _ (h : List Op) (w : Lawful h) where
   one_origin x y a b c m n k l e f =
       let p = down_front x a c m k e in
       let q = down_front y b c n l f in
-      above_once next_left h (left_at h) (λ x k. lefts-above h x w k) (λ e u c more k q. lefts-prefix h e u c more w k q) left_up
+      above_once next_left h
       (left_at h a) (left_at h b) (λ z g. left_up a z p.0 g) (λ z g. left_up b z q.0 g) (sym p.1 ∙ q.1)
 
   sibling_to : (s : Step) (r : Reason) → IsHeld h s.x → IsHeld h s.y → IsSiblingStep h s r → sibling_test h s r ≡ true
@@ -287,7 +234,7 @@ module _ (h : List Op) (w : Lawful h) where
       and_from _ _
       ((λ i. siblings_at h (p.first i) (p.second i) s.right_x s.right_y)
       ∙ and_from _ _ (ap not (ne-id_eq t.a t.b p.differ)) (and_from _ _ (ap (λ o. origin_eq o (left_at h t.b)) d ∙ origin_eq-refl (left_at h t.b))
-      (and_from _ _ (rights_to s.right_x t.a a.0 (sym t.right_x)) (rights_to s.right_y t.b b.0 (sym t.right_y)))))
+      (and_from _ _ (rights_to h t.a s.right_x (sym t.right_x)) (rights_to h t.b s.right_y (sym t.right_y)))))
       (and_from _ _ (down_to s.x p.common s.down_x t.a p.more_x k p.whole_x p.first)
       (and_from _ _ (down_to s.y p.common s.down_y t.b p.more_y l p.whole_y p.second) (chains_to r s.right_x s.right_y t.decides)))
 

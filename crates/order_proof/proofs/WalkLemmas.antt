@@ -99,12 +99,12 @@ walked h x down = (
 )
 
 -- the last of the first n, first of the reversed
-reversed-take : {X : Type 0} (xs : List X) (n : ℕ) (d : X) → 0 < n → n ≤ length xs → reverse (take n xs) ≡ get_or xs (n - 1) d ∷ reverse (take (n - 1) xs)
+pub reversed-take : {X : Type 0} (xs : List X) (n : ℕ) (d : X) → 0 < n → n ≤ length xs → reverse (take n xs) ≡ get_or xs (n - 1) d ∷ reverse (take (n - 1) xs)
 reversed-take xs n d l k =
     let on : n ≡ n - 1 + 1 = omega (arith, l) in
     ap (λ m. reverse (take m xs)) on ∙ ap reverse (take_more xs (n - 1) d (omega (arith, l, k))) ∙ reverse-append (take (n - 1) xs) (get_or xs (n - 1) d ∷ [])
 
-abbrev none : Identifier
+abbrev pub none : Identifier
 none = record { replica = 0; counter = 0 }
 
 -- another operation is passed

@@ -2,16 +2,9 @@
 use Rattle.std.specs.Prelude.{Option, Some, None, Bool, true, false, if◌then◌else◌, List, [], ◌∷◌, reverse}
 use Rattle.fugue_ids.specs.Identifiers.{Identifier, id_eq, origin_eq}
 use Rattle.fugue_ids.specs.declared.op.Op.{Op}
-use Rattle.origin_model.specs.operations.History.{is_own, left_of}
-use Rattle.origin_model.specs.order.Order.{left_at, next_left, next_right, right_at, right_beside}
-use Rattle.order_proof.specs.declared.chains.Origins.{Origins}
-use Rattle.order_proof.specs.declared.chains.Origins.TheVariants.{Lefts, Rights}
+use Rattle.origin_model.specs.operations.History.{is_own, left_of, right_of}
+use Rattle.origin_model.specs.order.Order.{left_at}
 use Rattle.order_proof.specs.Certificates.{Chain}
-
--- what a chain goes on with
-abbrev pub next_link : Origins → List Op → Op → Option Identifier
-next_link Lefts h op = next_left h op
-next_link Rights h op = next_right h op
 
 abbrev pub is_empty : Chain → Bool
 is_empty [] = true
@@ -29,11 +22,22 @@ abbrev pub is_down : List Op → Identifier → Chain → Bool
 is_down h x [] = false
 is_down h x (a ∷ more) = ends_with h x (reverse (a ∷ more))
 
--- the member above m in its chain of right origins
-abbrev pub right_above : List Op → Identifier → Option Identifier
-right_above h m = right_beside h (left_at h m) (right_at h m)
+-- the chain of right origins from x up, as long as elements have this left origin
+unfoldable pub beside_up : List Op → (left : Option Identifier) → Identifier → Chain
+beside_up [] left x = []
+beside_up (op ∷ older) left x =
+    elim (is_own x op) [
+      | true ↦ elim (origin_eq (left_of op) left) [ true ↦ x ∷ elim (right_of op) [ None ↦ [] | Some r ↦ beside_up older left r ] | false ↦ [] ]
+      | false ↦ beside_up older left x
+    ]
 
--- the chain goes on below `from`, or begins, and goes down to `last`: each member stands below the one that is above it
-abbrev pub links : (above : Identifier → Option Identifier) → (from : Option Identifier) → Chain → (last : Identifier) → Bool
-links above from [] last = origin_eq from (Some last)
-links above from (m ∷ ms) last = if origin_eq (above m) from then links above (Some m) ms last else false
+-- two chains are the same
+abbrev pub chain_eq : Chain → Chain → Bool
+chain_eq [] [] = true
+chain_eq [] (y ∷ ys) = false
+chain_eq (x ∷ xs) [] = false
+chain_eq (x ∷ xs) (y ∷ ys) = if id_eq x y then chain_eq xs ys else false
+
+-- the chain of right origins of x is this one
+abbrev pub is_rights : List Op → Identifier → Chain → Bool
+is_rights h x c = chain_eq (beside_up h (left_at h x) x) (reverse c)

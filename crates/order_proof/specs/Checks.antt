@@ -9,7 +9,7 @@ use Rattle.order_proof.specs.declared.step.Reason.{Reason}
 use Rattle.order_proof.specs.declared.step.Reason.TheVariants.{Prefix, Inner, End, Later, Tie}
 use Rattle.order_proof.specs.declared.step.Step.{Step}
 use Rattle.order_proof.specs.Certificates.{Certificate, Chain, is_later}
-use Rattle.order_proof.specs.Chains.{is_down, is_empty, links, right_above}
+use Rattle.order_proof.specs.Chains.{is_down, is_empty, is_rights}
 
 -- the places that two operations have
 abbrev pub same_place : Option Place → Option Place → Bool
@@ -43,7 +43,7 @@ chains_decide h r (c ∷ cs) (d ∷ ds) = if id_eq c d then chains_decide h r cs
 -- two chains begin with distinct siblings, which have these chains of right origins
 abbrev pub siblings_at : List Op → (down_x down_y right_x right_y : Chain) → Bool
 siblings_at h (a ∷ as') (b ∷ bs) right_x right_y =
-    not (id_eq a b) && (origin_eq (left_at h a) (left_at h b) && (links (right_above h) None right_x a && links (right_above h) None right_y b))
+    not (id_eq a b) && (origin_eq (left_at h a) (left_at h b) && (is_rights h a right_x && is_rights h b right_y))
 siblings_at h _ _ right_x right_y = false
 
 -- a step at siblings

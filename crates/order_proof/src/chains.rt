@@ -1,40 +1,24 @@
-//! Chains of origins: made, and compared with those that a step shows.
+//! Chains of origins, each by one walk over the operations.
 
-ghost use Rattle.std.specs.Prelude.{◌≡◌, reverse, IfOk, None};
-ghost use Rattle.origin_model.specs.order.Order.{chain as chain_by, lefts, rights};
-ghost use Rattle.order_proof.specs.Chains.{next_link, ends_with, is_down as is_down_in};
-ghost use Rattle.order_proof.specs.Chains.{links, right_above as right_above_in};
+ghost use Rattle.std.specs.Prelude.{◌≡◌, reverse, IfOk};
+ghost use Rattle.origin_model.specs.order.Order.{rights};
+ghost use Rattle.order_proof.specs.Chains.{beside_up, chain_eq, ends_with};
+ghost use Rattle.order_proof.specs.Chains.{is_down as is_down_in, is_rights as is_rights_in};
 
-use crate::look_ups::{has_left, left_at, left_of, right_at, right_of};
+use crate::look_ups::left_at;
 use fugue_ids::{ElementId, Op};
+use origin_model::{left_of, right_of};
 use std::alloc::{AllocError, Global};
 
-/// Which origins a chain follows.
-#[derive(Clone, Copy, Debug, PartialEq, Eq)]
-pub enum Origins {
-    Lefts,
-    Rights,
-}
-
-/// The origin of the operation that the chain goes on with, where there is one.
-fn next_in(origins: Origins, ops: &[Op], op: &Op) -> Option<ElementId>
-    ensures { result ≡ next_link origins (reverse ops.now) op.now }
-{
-    match origins {
-        Origins::Lefts => left_of(op),
-        Origins::Rights => right_of(op).filter(|r| has_left(ops, *r, left_of(op))),
-    }
-}
-
-/// The chain from x on.
-#[tactic(auto, unfolding(origin_model::specs::order::Order::chain))]
+/// The chain of right origins from x up, as long as elements have this left origin.
+#[tactic(auto, unfolding(crate::specs::Chains::beside_up))]
 fn climb(
     alloc: Global,
-    origins: Origins,
     ops: &[Op],
+    left: Option<ElementId>,
     x: ElementId,
 ) -> Result<Vec<ElementId>, AllocError>
-    ensures { IfOk result (λ found. reverse found.items ≡ chain_by (next_link origins) (reverse ops.now) x) }
+    ensures { IfOk result (λ found. found.items ≡ beside_up (reverse ops.now) left x) }
 {
     let mut found = Vec::new(alloc);
     let mut current = x;
@@ -43,8 +27,11 @@ fn climb(
         i -= 1;
         let op = &ops[i];
         if op.id() == Some(current) {
+            if left_of(op) != left {
+                return Ok(found);
+            }
             found.push(current)?;
-            match next_in(origins, &ops[..i], op) {
+            match right_of(op) {
                 Some(next) => current = next,
                 None => return Ok(found),
             }
@@ -53,32 +40,13 @@ fn climb(
     Ok(found)
 }
 
-/// The chain down to x.
-fn chain_down(
-    alloc: Global,
-    origins: Origins,
-    ops: &[Op],
-    x: ElementId,
-) -> Result<Vec<ElementId>, AllocError>
-    ensures { IfOk result (λ found. found.items ≡ chain_by (next_link origins) (reverse ops.now) x) }
-{
-    let mut found = climb(alloc, origins, ops, x)?;
-    found.reverse();
-    Ok(found)
-}
-
-/// The chain of left origins down to x.
-pub fn lefts_of(alloc: Global, ops: &[Op], x: ElementId) -> Result<Vec<ElementId>, AllocError>
-    ensures { IfOk result (λ found. found.items ≡ lefts (reverse ops.now) x) }
-{
-    chain_down(alloc, Origins::Lefts, ops, x)
-}
-
 /// The chain of right origins within one left origin, down to x.
 pub fn rights_of(alloc: Global, ops: &[Op], x: ElementId) -> Result<Vec<ElementId>, AllocError>
     ensures { IfOk result (λ found. found.items ≡ rights (reverse ops.now) x) }
 {
-    chain_down(alloc, Origins::Rights, ops, x)
+    let mut found = climb(alloc, ops, left_at(ops, x), x)?;
+    found.reverse();
+    Ok(found)
 }
 
 /// Whether the chain of left origins of x ends with this one: one walk over the operations, and no memory.
@@ -114,23 +82,38 @@ pub fn is_down(ops: &[Op], x: ElementId, down: &[ElementId]) -> bool
     }
 }
 
-/// The member above m in its chain of right origins.
-fn right_above(ops: &[Op], m: ElementId) -> Option<ElementId>
-    ensures { result ≡ right_above_in (reverse ops.now) m }
+/// Whether the chain of right origins from x up, as long as elements have this left origin, is this one, which is
+/// given down to x.
+#[tactic(auto, unfolding(crate::specs::Chains::beside_up))]
+fn goes_up(ops: &[Op], left: Option<ElementId>, x: ElementId, chain: &[ElementId]) -> bool
+    ensures { result ≡ chain_eq (beside_up (reverse ops.now) left x) (reverse chain.now) }
 {
-    right_at(ops, m).filter(|r| has_left(ops, *r, left_at(ops, m)))
+    let mut current = x;
+    let mut i = ops.len();
+    let mut k = chain.len();
+    'scan: while i > 0 {
+        i -= 1;
+        let op = &ops[i];
+        if op.id() == Some(current) {
+            if left_of(op) != left {
+                return k == 0;
+            }
+            if k == 0 || chain[k - 1] != current {
+                return false;
+            }
+            k -= 1;
+            match right_of(op) {
+                Some(next) => current = next,
+                None => return k == 0,
+            }
+        }
+    }
+    k == 0
 }
 
-/// Whether this is the chain of right origins of x, link by link.
+/// Whether this is the chain of right origins of x.
 pub fn is_rights(ops: &[Op], x: ElementId, chain: &[ElementId]) -> bool
-    ensures { result ≡ links (right_above_in (reverse ops.now)) None chain.now x }
+    ensures { result ≡ is_rights_in (reverse ops.now) x chain.now }
 {
-    let mut current = None;
-    'scan: for m in chain {
-        if right_above(ops, *m) != current {
-            return false;
-        }
-        current = Some(*m);
-    }
-    current == Some(x)
+    goes_up(ops, left_at(ops, x), x, chain)
 }

@@ -9,10 +9,10 @@ ghost use Rattle.order_proof.specs.Checks.{sibling_test, goes_on, is_inner as is
 ghost use Rattle.order_proof.specs.Checks.{reason_test, step_test, rests_test, test};
 
 use crate::chains::{is_down, is_rights};
-use crate::look_ups::{left_at, place_at, right_at};
+use crate::look_ups::{left_at, place_at};
 use crate::{Proof, Reason, Step};
 use fugue_ids::{ElementId, Op};
-use origin_model::Place;
+use origin_model::{Place, right_at};
 
 fn same_place(one: Option<Place>, other: Option<Place>) -> bool
     ensures { result ≡ places_same one other }

@@ -1,18 +1,17 @@
 //! The certificate of two elements is made from their chains.
 
-ghost use Rattle.std.specs.Prelude.{◌≡◌, reverse, IfOk, drop, ◌∷◌, [], Some};
+ghost use Rattle.std.specs.Prelude.{◌≡◌, reverse, IfOk, drop, ◌∷◌, Some};
 ghost use Rattle.origin_model.specs.operations.Verdict.{Lawful};
 ghost use Rattle.origin_model.specs.order.Order.{rights};
-ghost use Rattle.order_proof.specs.declared.step.Reason.TheVariants.{Prefix};
 ghost use Rattle.order_proof.specs.Certificates.{IsValid, Claims, StandsBefore};
 ghost use Rattle.order_proof.specs.Making.{common_count as common_in, reason_of as reason_by};
 ghost use Rattle.order_proof.specs.Making.{reason_at as reason_at_in, reason_between as reason_between_in};
 ghost use Rattle.order_proof.specs.Making.{certificate_made, certificate_made_at, rests_on, certificate};
 
-use crate::chains::{lefts_of, rights_of};
-use crate::look_ups::right_at;
+use crate::chains::rights_of;
 use crate::{Chain, Proof, Reason, Step};
 use fugue_ids::{ElementId, NoMemory, Op};
+use origin_model::{lefts_of, right_at};
 use std::alloc::{AllocError, Global};
 
 /// How many members two chains have in common at their beginning.
@@ -90,34 +89,6 @@ fn headed(alloc: Global, x: ElementId, chain: &[ElementId]) -> Result<Chain, All
     Ok(Chain::new(all))
 }
 
-fn prefix_step(
-    alloc: Global,
-    x: ElementId,
-    y: ElementId,
-    rest: &[ElementId],
-) -> Result<Step, AllocError>
-    ensures { IfOk result (λ step. step
-        ≡ record {
-          x = x;
-          y = y;
-          down_x = [];
-          down_y = x ∷ rest.now;
-          right_x = [];
-          right_y = [];
-          reason = Prefix;
-        }) }
-{
-    Ok(Step {
-        x,
-        y,
-        down_x: Chain::new(Vec::new(alloc)),
-        down_y: headed(alloc, x, rest)?,
-        right_x: Chain::new(Vec::new(alloc)),
-        right_y: Chain::new(Vec::new(alloc)),
-        reason: Reason::Prefix,
-    })
-}
-
 /// The step of x and y whose chains of left origins part at the siblings a and b.
 fn sibling_step(
     alloc: Global,
@@ -170,7 +141,7 @@ fn step_at(
             let downs = (chain_of(alloc, down_x)?, chain_of(alloc, down_y)?);
             sibling_step(alloc, ops, (x, y), (*a, *b), downs)
         }
-        _ => prefix_step(alloc, x, y, down_y),
+        _ => Ok(Step::by_prefix(alloc, x, y, headed(alloc, x, down_y)?)),
     }
 }
 
