@@ -1,9 +1,9 @@
 //! What a replica shows, and what it holds.
-ghost use Rattle.std.specs.Prelude.{◌≡◌, length, option_map, string_bytes, IfOk, IfSome};
+ghost use Rattle.std.specs.Prelude.{◌≡◌, length, option_and_then, option_map, slice_get, string_bytes, IfOk, IfSome};
 ghost use Rattle.std.specs.Str.{encode_utf8_all};
 ghost use Rattle.origin_model.specs.operations.History.{holds as holds_on};
 ghost use Rattle.origin_model.specs.order.Printed.{shown, text as text_on};
-ghost use Rattle.origin_model.specs.declared.operations.Place.TheVariants.{Catalogue as catalogue};
+ghost use Rattle.origin_model.specs.declared.operations.Place.TheVariants.{Catalogue as catalogue, Section as within};
 ghost use Rattle.section_list.specs.Cells.{section_text as text_in};
 ghost use Rattle.section_catalogue.specs.Manuscript.{IsPlaceOf, IsTextOf};
 ghost use Rattle.origin_model.specs.edits.Refusal.{section_shown};
@@ -64,6 +64,18 @@ impl Replica {
     {
         match self.shown_section(section) {
             Some(section) => Some(section.text.visible_count()),
+            None => None,
+        }
+    }
+
+    /// The element of the scalar with so many shown ones before it, in the section with so many shown ones before it.
+    pub fn scalar_at(&self, section: usize, at: usize) -> Option<ElementId>
+        ensures scalar { result ≡ option_and_then (λ s. slice_get (shown (within s) self.now.held.history) at)
+            (section_shown self.now section) }
+        ensures stands { Stands self.now }
+    {
+        match self.shown_section(section) {
+            Some(section) => section.text.nth_visible(at),
             None => None,
         }
     }
