@@ -41,7 +41,8 @@ pub(crate) fn wake(inbox: &OpenInbox, accepted: &Accepted, due: &mut Due)
     }
 }
 
-/// The same over an inbox that is not open: nothing leaves it, so it closes as it was.
+/// Tries anew those in an inbox that is not open: nothing leaves it, so it closes as it was. Where nothing waits it is
+/// not opened.
 pub(crate) fn open_and_wake(inbox: &mut Inbox, accepted: &Accepted, due: &mut Due)
     requires marks { due.old ≡ due_marks (drop 1 accepted.now) inbox.old.ops }
     requires once { AllPairs (λ a b. a ≢ b) (accepted.now ++ inbox.old.ops) }
@@ -49,6 +50,9 @@ pub(crate) fn open_and_wake(inbox: &mut Inbox, accepted: &Accepted, due: &mut Du
     ensures marks { due.new ≡ due_marks accepted.now inbox.old.ops }
     ensures inbox { inbox.new ≡ inbox.old }
 {
+    if inbox.ops().is_empty() {
+        return;
+    }
     let open = inbox.open();
     wake(&open, accepted, due);
     *inbox = open.close();
