@@ -16,7 +16,6 @@ use Rattle.manuscript_cli.specs.Files.{FileHolds, FileRefuses, KeepsFile}
 use Rattle.manuscript_cli.specs.Findings.{Finding, Refuses, Does, IsDecided}
 use Rattle.manuscript_cli.specs.Printing.{NotesBlameless}
 use Rattle.manuscript_cli.specs.Refusal.{status_of}
-
 use Rattle.manuscript_cli.specs.TextOut.{TextFailed, WroteNothing, WroteText}
 use Rattle.manuscript_cli.specs.Touched.{Change, DiskBlameless, DiskStaysCalm, HasDiskRoom, HasRoom, IsTold, OutBlameless, StaysCalm, notes_room}
 use Rattle.manuscript_cli.specs.declared.refusal.Refusal.{Refusal}

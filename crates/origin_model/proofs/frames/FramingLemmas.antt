@@ -72,11 +72,11 @@ not_longer : (run other : Run) (op : Op) (rest behind : List Op) → IsBegun run
 not_longer run other op rest behind begun is none same = elim (cases_lt (length run.text) (length other.text)) [
   | inr le ↦ le
   | inl less ↦
-    let next : op ≡ next_text run (scalar_of op) = goes_on run other op rest behind begun.some less same in
-    let room : length run.text < 1024 = omega (arith, less, is.text.short) in
-    absurd (if_none (nat_lt (length run.text) 1024 && op_eq op (next_text run (scalar_of op))) (Typed (run_more run (scalar_of op))) none
-    (and_from (nat_lt (length run.text) 1024) (op_eq op (next_text run (scalar_of op))) (lt-ltb (length run.text) 1024 room)
-    (subst (λ (o : Op). op_eq op o ≡ true) next (op_eq-refl op))))
+      let next : op ≡ next_text run (scalar_of op) = goes_on run other op rest behind begun.some less same in
+      let room : length run.text < 1024 = omega (arith, less, is.text.short) in
+      absurd (if_none (nat_lt (length run.text) 1024 && op_eq op (next_text run (scalar_of op))) (Typed (run_more run (scalar_of op))) none
+      (and_from (nat_lt (length run.text) 1024) (op_eq op (next_text run (scalar_of op))) (lt-ltb (length run.text) 1024 room)
+      (subst (λ (o : Op). op_eq op o ≡ true) next (op_eq-refl op))))
 ]
 
 -- the first of a run's operations is a Text
@@ -134,7 +134,7 @@ from_are begun (op ∷ ops) is all =
   where
     by_case : (o : Option Item) → extended begun op ≡ o → ((more : Item) → IsItem Version2 more → AreItems (map item_framed (items_from more ops)) (item_ops more ++ ops))
         → AreItems (map item_framed (items_from (Single op) ops)) (op ∷ ops)
-        → AreItems (map item_framed (elim o [ | Some more ↦ items_from more ops | None ↦ begun ∷ items_from (Single op) ops ])) (item_ops begun ++ op ∷ ops)
+        → AreItems (map item_framed (elim o [ Some more ↦ items_from more ops | None ↦ begun ∷ items_from (Single op) ops ])) (item_ops begun ++ op ∷ ops)
     by_case (Some more) e grown single =
         let p = extends begun op more is (All-head HasFrame op ops all) e in
         subst (AreItems (map item_framed (items_from more ops))) (ap (λ (l : List Op). l ++ ops) p.ops ∙ append_assoc (item_ops begun) (op ∷ []) ops) (grown more p.is_item)

@@ -39,8 +39,13 @@ run_short : (id s : Identifier) (l r : Option Identifier) (text : List ℕ) → 
     → length (run_frame (record { id = id; section = s; left = l; right = r; text = text })) ≤ length (single_frames (typed id s l r text))
 run_short id s l r [] some = absurd (omega (arith, some))
 run_short id s l r (c ∷ text) some =
-    omega (arith, run_long id s l r (c ∷ text), first_long id s l r c, typed_long (next_id id) s id r text,
-    length-append (frame (Text id s l r c)) (single_frames (typed (next_id id) s (Some id) r text)))
+    omega (
+      arith,
+      run_long id s l r (c ∷ text),
+      first_long id s l r c,
+      typed_long (next_id id) s id r text,
+      length-append (frame (Text id s l r c)) (single_frames (typed (next_id id) s (Some id) r text)),
+    )
 
 item_short : (i : Item) → IsItem Version2 i → length (item_bytes i) ≤ length (single_frames (item_ops i))
 item_short (Single op) is = omega (arith, length-append (frame op) [])
@@ -53,8 +58,14 @@ frame_short f is = omega (arith, ap length is.bytes_are, item_short is.item is.i
 pub framing_short : (found : List Framed) → All (IsFrame Version2) found → length (bytes_of found) ≤ length (single_frames (ops_of found))
 framing_short [] are = omega arith
 framing_short (f ∷ found) are =
-    omega (arith, frame_short f (All-head (IsFrame Version2) f found are), framing_short found (All-tail (IsFrame Version2) f found are),
-    length-append f.bytes (bytes_of found), ap length (flat_map-append frame f.ops (ops_of found)), length-append (single_frames f.ops) (single_frames (ops_of found)))
+    omega (
+      arith,
+      frame_short f (All-head (IsFrame Version2) f found are),
+      framing_short found (All-tail (IsFrame Version2) f found are),
+      length-append f.bytes (bytes_of found),
+      ap length (flat_map-append frame f.ops (ops_of found)),
+      length-append (single_frames f.ops) (single_frames (ops_of found)),
+    )
 
 -- a frame has at least three bytes for each operation, and six more
 single_wide : (op : Op) → 9 ≤ length (frame op)
