@@ -1,12 +1,10 @@
 -- Equal bytes begin with one operation's frame.
 use Rattle.std.proofs.Common.{◌≡◌, ℕ, List, [], ◌++◌, drop, ap, sym, ◌∙◌, append_assoc}
 use Rattle.std.specs.Prelude.{Option}
-use Rattle.std.proofs.lemmas.List.{append-nil}
 use Rattle.fugue_ids.specs.Identifiers.{Identifier}
 use Rattle.fugue_ids.specs.declared.op.Op.{Op}
 use Rattle.fugue_ids.specs.declared.op.Op.TheVariants.{Section, Text, Delete}
 use Rattle.origin_model.specs.frames.Frames.{frame, HasFrame, id_bytes, origin_bytes, scalar_bytes, title_bytes}
-use Rattle.origin_model.proofs.SharedLemmas.{NoFront}
 use Rattle.op_frame.proofs.FormatLemmas.{Format, IsCode, code_join, identifier, join, operation, origin, scalar, title}
 use Rattle.op_frame.proofs.CodeLemmas.{identifier_code, origin_code, scalar_code, title_code}
 
@@ -76,7 +74,3 @@ code_of_kind (Delete i) (Delete j) x y p q same =
 -- equal bytes begin with one frame
 pub operation_code : IsCode operation
 operation_code = record { once = code_of_kind }
-
--- no frame is a proper front of another
-pub no_front : NoFront
-no_front a b more p q same = sym (operation_code.once b a [] more q p (append-nil (frame b) ∙ same)).1

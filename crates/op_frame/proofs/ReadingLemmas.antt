@@ -7,6 +7,8 @@ use Rattle.fugue_ids.specs.Identifiers.{Identifier}
 use Rattle.fugue_ids.specs.declared.op.Op.{Op}
 use Rattle.fugue_ids.specs.declared.op.Op.TheVariants.{Delete, Section, Text}
 use Rattle.origin_model.specs.declared.grammar.Grammar.{Grammar}
+use Rattle.origin_model.specs.declared.grammar.Grammar.TheVariants.{Version2}
+use Rattle.origin_model.proofs.SharedLemmas.{FramesOnce}
 use Rattle.origin_model.specs.frames.Frames.{Begins, End, Whole, CutShort as EndsCut, BadFrame as EndsBad, EndsSo, Framed, IsFrame, IsIdentifier, IsPartial, Item, Reads, Single, Starts, Typed, frame, item_bytes, item_ops}
 pub use Rattle.origin_model.proofs.SharedLemmas.{bytes_of, ops_of}
 use Rattle.op_frame.proofs.FrontLemmas.{Front, bad_there, frame_there, front_of, front_there}
@@ -188,3 +190,7 @@ module _ (g : Grammar) where
   pub partial_end : (rest : List ℕ) (k : ℕ) → IsPartial g rest → (end : End) × EndsSo g rest k end × ((end ≡ Whole) ⊎ ((offset : ℕ) × (end ≡ EndsCut offset)))
   partial_end [] k partial = (Whole, refl, inl refl)
   partial_end (x ∷ rest) k partial = (EndsCut k, (refl, (λ none. cc none), partial), inr (k, refl))
+
+-- of frames at the front of the same bytes there is one
+pub frames_once : FramesOnce
+frames_once f h r s p q is = let same = same_front Version2 f h r s p q is in (same.ops, same.rest)

@@ -15,6 +15,7 @@ use Rattle.order_proof.specs.declared.step.Reason.TheVariants.{End, Inner, Later
 use Rattle.order_proof.specs.declared.step.Step.{Step}
 use Rattle.order_proof.specs.Certificates.{IsValid}
 use Rattle.order_proof.specs.Checks.{test}
+unfoldable use Rattle.order_proof.specs.Chains.{beside_up}
 unfoldable use Rattle.order_proof.specs.Making.{certificate}
 use Rattle.order_proof.proofs.CheckedLemmas.{tested}
 
@@ -65,7 +66,7 @@ first = record {
 small_certificates :
     (test concurrent (first ∷ second Inner ∷ []) ≡ true) × (test concurrent (first ∷ second End ∷ []) ≡ false) × (test concurrent (first ∷ []) ≡ false)
     × (certificate concurrent (id 3 0) (id 2 1) ≡ first ∷ second Inner ∷ [])
-unfolding certificate chain
+unfolding certificate chain beside_up
 small_certificates = (refl, refl, refl, refl)
 
 small_is_valid : IsValid concurrent (first ∷ second Inner ∷ [])

@@ -7,7 +7,7 @@ use Rattle.origin_model.specs.declared.relay.Event.TheVariants.{Piece}
 use Rattle.origin_model.specs.declared.relay.Reply.{Reply}
 use Rattle.origin_model.specs.relay.Relay.{Relay, RelayRuns, RelaySteps}
 use Rattle.origin_model.proofs.SharedLemmas.{InParts, in_parts, step_once}
-use Rattle.op_frame.proofs.OperationLemmas.{no_front}
+use Rattle.op_frame.proofs.ReadingLemmas.{frames_once}
 use Rattle.outer_ports.specs.dock.Docks.{DockView}
 use Rattle.outer_ports.specs.dock.Steps.{Gives, GivesSome, part_of, rest_of}
 use Rattle.outer_ports.specs.declared.dock.mem_dock.MemStep.{MemStep}
@@ -46,7 +46,7 @@ record Left (relay last : Relay) (turn : Turn) (whole : List Turn) (left behind 
 gives_whole : (old new last : Relay) (turn first : Turn) (whole : List Turn) (left behind : List MemStep) → turn.step ≡ first.step → left ≡ steps_of whole ++ behind
     → RelaySteps old (event_of turn.step) new turn.reply → Begun old last first whole → Left new last turn (first ∷ whole) left behind
 gives_whole old new last turn first whole left behind same is steps h =
-    let once = step_once no_front old (event_of first.step) new h.middle turn.reply first.reply (subst (λ s. RelaySteps old (event_of s) new turn.reply) same steps) h.steps in
+    let once = step_once frames_once old (event_of first.step) new h.middle turn.reply first.reply (subst (λ s. RelaySteps old (event_of s) new turn.reply) same steps) h.steps in
     let turns : first ≡ turn = λ i. record { step = sym same i; reply = sym once.1 i } in
     record {
       rest = whole;
@@ -75,7 +75,7 @@ gives_part : (old new last : Relay) (n count : ℕ) (bytes : List ℕ) (reply gi
 gives_part old new last n count bytes reply given whole left behind is steps h =
     let parts : InParts old n (take count bytes) (drop count bytes) h.middle reply
     = in_parts old n (take count bytes) (drop count bytes) h.middle reply (subst (λ b. RelaySteps old (Piece n b) h.middle reply) (sym (take-append-drop count bytes)) h.steps) in
-    let once = step_once no_front old (Piece n (take count bytes)) new parts.middle given parts.first steps parts.begins in
+    let once = step_once frames_once old (Piece n (take count bytes)) new parts.middle given parts.first steps parts.begins in
     record {
       rest = record { step = Bytes n (drop count bytes); reply = parts.second } ∷ whole;
       left_is = is;
