@@ -93,6 +93,7 @@ module _ (bytes : List ℕ) (ops : List Op) (old new : FrameReading) (before aft
   pub title : (r : State) (was : Bool) → Nexts old new before after (Err frame_fault.NoMemory) → wants r was
   title r was nexts = by (to_give old before.left) reading.gave.split (nexts.answer none)
     where
+      none : old.todo ≡ []
       none = nexts.advances.stays.none_before
 
       ops_are : ops ≡ ops_of reading.gave.found
@@ -136,6 +137,11 @@ module _ (grammar : Grammar) (bytes : List ℕ) (ops : List Op) (was now : Bool)
   pub steps_wanting : (result : Result (Option ℕ) Stop) (stop : Stop) → result ≡ Err stop → stop ≡ stop_is.NoMemory
       → IsWanting grammar (λ rest. rest ≡ bytes) bytes ops old.hold old.most old.held (was ≡ true) → PieceSteps grammar bytes ops was old now new reader source result
   steps_wanting result stop is same wanting = subst (PieceSteps grammar bytes ops was old now new reader source) (sym (is ∙ ap (λ (s : Stop). Err s) same)) wanting
+
+  -- the same step by a grammar that is the same
+  pub steps_by : (other : Grammar) (result : Result (Option ℕ) Stop) → other ≡ grammar → PieceSteps other bytes ops was old now new reader source result
+      → PieceSteps grammar bytes ops was old now new reader source result
+  steps_by other result same steps = subst (λ (g : Grammar). PieceSteps g bytes ops was old now new reader source result) same steps
 
   -- a step for which memory was wanting
   pub steps_lacks : (first : Bool) (begin : State) (stop : Stop) → Feeds first begin was old ops → IsSameButHeld begin old → PieceSteps grammar bytes ops was old now new reader source (Err stop)

@@ -1,4 +1,4 @@
-ghost use Rattle.std.specs.Prelude.{◌≡◌, ◌≢◌, ◌<◌, ◌≤◌, ◌+◌, [], None, length, List, ℕ, IfOk, OnOk};
+ghost use Rattle.std.specs.Prelude.{◌≡◌, ◌≢◌, ◌<◌, ◌≤◌, ◌+◌, ◌*◌, [], None, length, List, ℕ, IfOk, OnOk};
 ghost use Rattle.fugue_ids.specs.declared.op.Op.{Op};
 ghost use Rattle.replica_file.specs.Loading.{IsReady, IsSameButHeld};
 ghost use Rattle.replica_file.specs.Pieces.{AreBad, IsReading, Lacks, PieceSteps, TakesPiece};

@@ -1,7 +1,7 @@
 use Rattle.std.proofs.Common.{◌++◌, ◌∷◌, [], refl, ◌∙◌}
-use Rattle.std.specs.Prelude.{Some, true}
+use Rattle.std.specs.Prelude.{Err, Some, true}
 use Rattle.replica_file.proofs.LoadingLemmas.{feeds_then, same_then}
-use Rattle.replica_file.proofs.PieceLemmas.{lacks_none, steps_bad, steps_lacks, takes_piece}
+use Rattle.replica_file.proofs.PieceLemmas.{lacks_none, steps_bad, steps_by, steps_lacks, takes_piece}
 use Rattle.replica_file.proofs.piece.take_piece.Goals as goal
 
 pub frames-preserved : goal.frames-preserved
@@ -29,7 +29,9 @@ returns-in-Err-clause-bad c is =
     let kept = c.frames.invariant in
     steps_bad c.args.grammar c.args.bytes.items kept.ops c.frames.loading.finds_place c.take_next.new.loading.finds_place c.frames.loading.replica c.take_next.new.loading.replica
     c.take_next.new.self.reader (record { left = Some c.take_next.new.self.source.left; faults = 0; sure = true }) c.in-Err.stop
-    (rw kept.by_grammar at (c.in-Err.ensures.steps c.args.bytes.items kept.ops kept.reading kept.len)) (cc is)
+    (steps_by c.args.grammar c.args.bytes.items kept.ops c.frames.loading.finds_place c.take_next.new.loading.finds_place c.frames.loading.replica c.take_next.new.loading.replica
+    c.take_next.new.self.reader (record { left = Some c.take_next.new.self.source.left; faults = 0; sure = true }) c.frames.piece.reader.grammar (Err c.in-Err.stop) kept.by_grammar
+    (c.in-Err.ensures.steps c.args.bytes.items kept.ops kept.reading kept.len)) (cc is)
 
 pub returns-in_err-piece-clause-memory : goal.returns-in_err-piece-clause-memory
 returns-in_err-piece-clause-memory c is = lacks_none c.args.grammar _ _ c.args.loading.now.finds_place c.args.loading.now.replica refl
@@ -39,4 +41,6 @@ returns-in-Err-clause-memory c is =
     let kept = c.frames.invariant in
     steps_lacks c.args.grammar c.args.bytes.items kept.ops c.frames.loading.finds_place c.take_next.new.loading.finds_place c.frames.loading.replica c.take_next.new.loading.replica
     c.take_next.new.self.reader (record { left = Some c.take_next.new.self.source.left; faults = 0; sure = true }) _ _ c.in-Err.stop kept.feeds kept.same
-    (rw kept.by_grammar at (c.in-Err.ensures.steps c.args.bytes.items kept.ops kept.reading kept.len)) (cc is)
+    (steps_by c.args.grammar c.args.bytes.items kept.ops c.frames.loading.finds_place c.take_next.new.loading.finds_place c.frames.loading.replica c.take_next.new.loading.replica
+    c.take_next.new.self.reader (record { left = Some c.take_next.new.self.source.left; faults = 0; sure = true }) c.frames.piece.reader.grammar (Err c.in-Err.stop) kept.by_grammar
+    (c.in-Err.ensures.steps c.args.bytes.items kept.ops kept.reading kept.len)) (cc is)
