@@ -4,6 +4,8 @@ use Rattle.std.specs.Prelude.{Option, Some, None, Bool, true, false, Ok, Err, If
 use Rattle.std.proofs.lemmas.List.{append-nil}
 use Rattle.fugue_ids.specs.declared.op.Op.{Op}
 use Rattle.outer_ports.specs.Sources.{SourceView}
+use Rattle.origin_model.specs.declared.grammar.Grammar.{Grammar}
+use Rattle.origin_model.specs.declared.grammar.Grammar.TheVariants.{Version2}
 use Rattle.origin_model.specs.declared.taking.Tally.{Tally}
 use Rattle.origin_model.specs.taking.Taking.{HasPlace, Held, TooMany as AnswersTooMany, answer, held_from, intake, intake_counted, kept_from, no_counts, tally_from}
 use Rattle.origin_model.proofs.SharedLemmas.{held-append, kept-append, places-append, places-none, places-one, tally-append}
@@ -50,11 +52,11 @@ pub record FedFrom (start : State) (kept : Option (List Op)) (told : Option (Lis
   pub kept_are : now.kept ≡ copied kept (kept_from start.hold start.most start.held ops)
 
 -- nothing was read yet
-pub fed_nothing : (start : State) (told : Option (List ℕ)) (now : StreamTaking) → now.reader.unread ≡ [] → now.reader.offset ≡ 0 → now.replica ≡ start → now.counts ≡ no_counts
+pub fed_nothing : (start : State) (told : Option (List ℕ)) (now : StreamTaking) → now.reader.todo ≡ [] → now.reader.unread ≡ [] → now.reader.offset ≡ 0 → now.replica ≡ start → now.counts ≡ no_counts
     → FedFrom start now.kept told now told
-fed_nothing start told now none at same counts = record {
+fed_nothing start told now todo none at same counts = record {
   ops = [];
-  gave = gave_none now.reader told none at;
+  gave = gave_none now.reader told todo none at;
   has_place = places-none start.hold start.most start.held;
   replica_is = same;
   counts_are = counts;
@@ -89,17 +91,20 @@ module _ (start : State) (kept : Option (List Op)) (told : Option (List ℕ)) (o
   abbrev counted : Fed start.hold start.most start.held told old.reader before.left old.replica.held old.counts
   counted = record { ops = fed.ops; gave = fed.gave; has_place = fed.has_place; state_is = ap (λ (r : State). r.held) fed.replica_is; counts_are = fed.counts_are }
 
-  at_limit : (course : IntakeCourse) → old.reader.limit ≡ STREAM_LIMIT → IfSome told (λ bytes. Comes start.hold start.most start.held old.reader.limit bytes fed.ops course)
-      → IfSome told (λ bytes. Comes start.hold start.most start.held STREAM_LIMIT bytes fed.ops course)
-  at_limit course is came = subst (λ n. IfSome told (λ bytes. Comes start.hold start.most start.held n bytes fed.ops course)) is came
+  at_limit : (course : IntakeCourse) → old.reader.limit ≡ STREAM_LIMIT → old.reader.grammar ≡ Version2
+      → IfSome told (λ bytes. Comes old.reader.grammar start.hold start.most start.held old.reader.limit bytes fed.ops course)
+      → IfSome told (λ bytes. Comes Version2 start.hold start.most start.held STREAM_LIMIT bytes fed.ops course)
+  at_limit course is runs came =
+      subst (λ (g : Grammar). IfSome told (λ bytes. Comes g start.hold start.most start.held STREAM_LIMIT bytes fed.ops course)) runs
+      (subst (λ n. IfSome told (λ bytes. Comes old.reader.grammar start.hold start.most start.held n bytes fed.ops course)) is came)
 
   -- the end was reached
-  pub fed_over : (source last : SourceView) → source.left ≡ told → last.left ≡ after.left → old.reader.limit ≡ STREAM_LIMIT → Ended old new before after
+  pub fed_over : (source last : SourceView) → source.left ≡ told → last.left ≡ after.left → old.reader.limit ≡ STREAM_LIMIT → old.reader.grammar ≡ Version2 → Ended old new before after
       → TakesIn start source last new.replica new.counts kept new.kept
-  fed_over source last same same_last limit ended = record {
+  fed_over source last same same_last limit runs ended = record {
     ops = fed.ops;
-    came = subst (λ o. IfSome o (λ bytes. Comes start.hold start.most start.held STREAM_LIMIT bytes fed.ops Whole)) (sym same)
-        (at_limit Whole limit (fed_whole start.hold start.most start.held told old.reader new.reader before after old.replica.held old.counts counted ended.0));
+    came = subst (λ o. IfSome o (λ bytes. Comes Version2 start.hold start.most start.held STREAM_LIMIT bytes fed.ops Whole)) (sym same)
+        (at_limit Whole limit runs (fed_whole start.hold start.most start.held told old.reader new.reader before after old.replica.held old.counts counted ended.0));
     read = subst (λ o. IfSome o (λ bytes. bytes ≡ [])) (sym same_last) ended.0.moves.1;
     replica_is = ended.1 ∙ fed.replica_is;
     counts_are = ended.2 ∙ fed.counts_are;
@@ -107,11 +112,11 @@ module _ (start : State) (kept : Option (List Op)) (told : Option (List ℕ)) (o
   }
 
   -- a step met the cause to stop
-  pub fed_stops : (why : Refusal) (source : SourceView) → source.left ≡ told → old.reader.limit ≡ STREAM_LIMIT → IntakeSteps old new before after (Err why) → IntakeStopsFor why start source
-  fed_stops why source same limit steps = by_cause why steps
+  pub fed_stops : (why : Refusal) (source : SourceView) → source.left ≡ told → old.reader.limit ≡ STREAM_LIMIT → old.reader.grammar ≡ Version2 → IntakeSteps old new before after (Err why) → IntakeStopsFor why start source
+  fed_stops why source same limit runs steps = by_cause why steps
     where
-      came : (course : IntakeCourse) → IfSome told (λ bytes. Comes start.hold start.most start.held old.reader.limit bytes fed.ops course) → (ops : List Op) × SourceComes start source ops course
-      came course is = (fed.ops, subst (λ o. IfSome o (λ bytes. Comes start.hold start.most start.held STREAM_LIMIT bytes fed.ops course)) (sym same) (at_limit course limit is))
+      came : (course : IntakeCourse) → IfSome told (λ bytes. Comes old.reader.grammar start.hold start.most start.held old.reader.limit bytes fed.ops course) → (ops : List Op) × SourceComes start source ops course
+      came course is = (fed.ops, subst (λ o. IfSome o (λ bytes. Comes Version2 start.hold start.most start.held STREAM_LIMIT bytes fed.ops course)) (sym same) (at_limit course limit runs is))
 
       by_cause : (why : Refusal) → IntakeSteps old new before after (Err why) → IntakeStopsFor why start source
       by_cause (refusal.BadFrame k) steps =

@@ -5,6 +5,7 @@ use Rattle.fugue_ids.specs.Causes.{Rose}
 use Rattle.fugue_ids.specs.Outs.{OutView}
 use Rattle.fugue_ids.specs.declared.op.Op.{Op}
 use Rattle.outer_ports.specs.Sources.{SourceView}
+use Rattle.origin_model.specs.declared.grammar.Grammar.TheVariants.{Version2}
 use Rattle.origin_model.specs.order.Printed.{manuscript}
 use Rattle.origin_model.specs.taking.Taking.{Held, nothing_held, held, tally}
 use Rattle.origin_model.specs.declared.taking.Tally.{Tally}
@@ -91,7 +92,7 @@ refused_meets _ hold old new stops rose sure same told = absurd stops
 pub same_input : (hold : ℕ) (left : Option (List ℕ)) (bytes : List ℕ) (ops others : List Op) (course other : IntakeCourse) → left ≡ Some bytes
     → IfSome left (λ b. ShowEndsAs hold b ops course) → ShowEndsAs hold bytes others other → (ops ≡ others) × (course ≡ other)
 same_input hold left bytes ops others course other is came comes =
-    comes_once hold MOST_OPERATIONS nothing_held STREAM_LIMIT bytes ops others course other (subst (λ l. IfSome l (λ b. ShowEndsAs hold b ops course)) is came) comes
+    comes_once Version2 hold MOST_OPERATIONS nothing_held STREAM_LIMIT bytes ops others course other (subst (λ l. IfSome l (λ b. ShowEndsAs hold b ops course)) is came) comes
 
 -- of a whole input its manuscript is brought
 brought_of : (hold : ℕ) (ops others : List Op) (course : IntakeCourse) → (ops ≡ others) × (Whole ≡ course) → brought hold others course ≡ shown_output hold nothing_held ops

@@ -4,6 +4,7 @@ use Rattle.std.specs.Prelude.{Option, Some, None, IfSome, Ok}
 use Rattle.std.proofs.lemmas.List.Elements.{All-weaker}
 use Rattle.fugue_ids.specs.declared.limits.TheConstants.{STREAM_LIMIT}
 use Rattle.fugue_ids.specs.declared.op.Op.{Op}
+use Rattle.origin_model.specs.declared.grammar.Grammar.TheVariants.{Version2}
 use Rattle.origin_model.specs.declared.taking.Tally.{Tally}
 use Rattle.origin_model.specs.taking.Taking.{Answer, Full, IsSettled, TooMany as AnswersTooMany, answers_from, kept_from}
 use Rattle.origin_model.proofs.SharedLemmas.{kept_suffice}
@@ -73,11 +74,11 @@ pub stream_once : (input : Change SourceView) → GivesOnce (stream input)
 stream_once input told replica one two gives others =
     let a = comes_to input.old replica one gives in
     let b = comes_to input.old replica two others in
-    let same = comes_once replica.hold replica.most replica.held STREAM_LIMIT told.0 a.ops b.ops a.course b.course (by_bytes a.ops a.course a.came) (by_bytes b.ops b.course b.came) in
+    let same = comes_once Version2 replica.hold replica.most replica.held STREAM_LIMIT told.0 a.ops b.ops a.course b.course (by_bytes a.ops a.course a.came) (by_bytes b.ops b.course b.came) in
     a.finding_is ∙ (λ i. stream_finding replica (same.0 i) (same.1 i)) ∙ sym b.finding_is
   where
-    by_bytes : (ops : List Op) (course : IntakeCourse) → SourceComes replica input.old ops course → Comes replica.hold replica.most replica.held STREAM_LIMIT told.0 ops course
-    by_bytes ops course came = subst (λ o. IfSome o (λ bytes. Comes replica.hold replica.most replica.held STREAM_LIMIT bytes ops course)) told.1 came
+    by_bytes : (ops : List Op) (course : IntakeCourse) → SourceComes replica input.old ops course → Comes Version2 replica.hold replica.most replica.held STREAM_LIMIT told.0 ops course
+    by_bytes ops course came = subst (λ o. IfSome o (λ bytes. Comes Version2 replica.hold replica.most replica.held STREAM_LIMIT bytes ops course)) told.1 came
 
 -- a stream that was taken in gives its outcome
 pub stream_gives : (input : Change SourceView) (replica now : Replica) (tally : Tally) (kept kept_after : Option (List Op)) → kept ≡ Some [] → TakesIn replica input.old input.new now tally kept kept_after

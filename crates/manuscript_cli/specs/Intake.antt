@@ -2,6 +2,7 @@
 use Rattle.std.specs.Prelude.{◌≡◌, ◌≢◌, ◌+◌, ◌*◌, ◌≤◌, List, [], ◌∷◌, ◌++◌, length, Option, Some, None, option_map, Bool, true, false, Result, Ok, Err, IfSome}
 use Rattle.fugue_ids.specs.declared.op.Op.{Op}
 use Rattle.outer_ports.specs.Sources.{SourceView}
+use Rattle.origin_model.specs.declared.grammar.Grammar.TheVariants.{Version2}
 use Rattle.origin_model.specs.taking.Taking.{TooMany as AnswersTooMany, IsSettled, answer, intake, intake_counted, held_from, kept_from, tally_from, no_counts}
 use Rattle.origin_model.specs.declared.taking.Tally.{Tally}
 use Rattle.op_frame.specs.Courses.{Comes, IntakeCourse, Whole, CutShort as IsCutShort, BadFrame as HasBadFrame, TooLong as IsTooLong, TooMany as HasTooMany}
@@ -39,9 +40,10 @@ pub record StreamTaking : Type 0 where
 pub record IsReady (now : StreamTaking) : Type 0 where
   pub no_fault : now.reader.fault ≡ None
   pub limit : now.reader.limit ≡ STREAM_LIMIT
+  pub by_grammar : now.reader.grammar ≡ Version2
   pub settled : IsSettled now.replica.held
-  -- a frame has more than one byte
-  pub few : 2 * (total now.counts + length now.replica.held.waiting) ≤ now.reader.offset + 2 * GREATEST_HOLD
+  -- a frame has at least three bytes for each operation
+  pub few : 3 * (total now.counts + length now.replica.held.waiting) + 3 * length now.reader.todo ≤ now.reader.offset + 3 * GREATEST_HOLD
 
 -- the next operation was read and taken in
 pub record TakesOne (old new : StreamTaking) (before after : SourceView) : Type 0 where
@@ -73,7 +75,7 @@ IntakeSteps old new before after (Err _) = ⊥
 
 -- the source, where it is told, comes to this end
 abbrev pub SourceComes : State → SourceView → List Op → IntakeCourse → Type 0
-SourceComes start old ops course = IfSome old.left (λ bytes. Comes start.hold start.most start.held STREAM_LIMIT bytes ops course)
+SourceComes start old ops course = IfSome old.left (λ bytes. Comes Version2 start.hold start.most start.held STREAM_LIMIT bytes ops course)
 
 -- the source came to its end, and the replica took its operations in
 pub record TakesIn (start : State) (old new : SourceView) (replica : State) (counts : Tally) (kept kept_after : Option (List Op)) : Type 0 where

@@ -3,6 +3,7 @@ use Rattle.std.specs.Prelude.{◌≡◌, ◌≢◌, ◌⊎◌, ℕ, List, [], le
 use Rattle.fugue_ids.specs.Causes.{Rose}
 use Rattle.fugue_ids.specs.Outs.{Took, TookFront}
 use Rattle.fugue_ids.specs.declared.op.Op.{Op}
+use Rattle.origin_model.specs.declared.grammar.Grammar.TheVariants.{Version2}
 use Rattle.origin_model.specs.order.Printed.{manuscript}
 use Rattle.origin_model.specs.taking.Taking.{Held, nothing_held, held_from, tally_from, no_counts}
 use Rattle.origin_model.specs.edits.State.{State}
@@ -33,7 +34,7 @@ status_after hold start ops = status_by (tally_from hold MOST_OPERATIONS start o
 
 -- a stream that is taken in from nothing comes to this end
 abbrev pub ShowEndsAs : (hold : ℕ) → List ℕ → List Op → IntakeCourse → Type 0
-ShowEndsAs hold bytes ops course = Comes hold MOST_OPERATIONS nothing_held STREAM_LIMIT bytes ops course
+ShowEndsAs hold bytes ops course = Comes Version2 hold MOST_OPERATIONS nothing_held STREAM_LIMIT bytes ops course
 
 -- the input, where it is told, comes to this end
 abbrev pub InputComes : (hold : ℕ) → Streams → List Op → IntakeCourse → Type 0

@@ -1,4 +1,4 @@
-use Rattle.std.proofs.Common.{◌-◌}
+use Rattle.std.proofs.Common.{length, ◌*◌, ◌+◌, ◌-◌}
 use Rattle.outer_ports.specs.Sources.{KeepsCount}
 use Rattle.fugue_ids.specs.declared.limits.TheConstants.{STREAM_LIMIT}
 use Rattle.manuscript_cli.specs.Intake.{IsReady}
@@ -14,4 +14,4 @@ invariant-frames g l = record {
 }
 
 abbrev pub decreases-frames : goal.decreases-frames
-decreases-frames g l = STREAM_LIMIT - l.intake.reader.offset
+decreases-frames g l = STREAM_LIMIT + 3 * length l.intake.reader.todo - l.intake.reader.offset
