@@ -3,7 +3,7 @@ ghost use Rattle.fugue_ids.specs.declared.limits.TheConstants.{MOST_OPERATIONS a
 ghost use Rattle.replica_file.specs.Ends.{EndsAt, IsWithinReach};
 
 use crate::assertions::{equal, equal_at, holds_at};
-use crate::frames::{NEW, PRINTED, SAVED};
+use crate::frames::{NEW, OLD, PRINTED, SAVED};
 use crate::memory::{list, sure_disk};
 use fugue_ids::{ElementId, MOST_OPERATIONS, Op, Title};
 use outer_ports::{Disk, MemDisk, MemSink, Pick};
@@ -102,7 +102,7 @@ fn shows<H: Disk>(alloc: Global, disk: &mut H, text: &[u8]) -> bool {
 fn files_have_these_bytes(rt: HostRuntime) {
     let ops = operations(&rt, 0);
     let mut disk = sure_disk(&rt, Vec::new(rt.alloc()), 200);
-    let end = End { at: 131, slots: 1 };
+    let end = SAVED_END;
     equal(&rt, create(&mut disk, 1, 16), Ok(()));
     equal(&rt, has_bytes(&mut disk, NEW), true);
     equal(&rt, create(&mut disk, 1, 16), Err(CreateFault::NotEmpty));
@@ -128,28 +128,44 @@ fn loads(rt: &(impl Abort + AllocGlobal), bytes: Vec<u8>, most: u32) -> Loaded {
     loaded
 }
 
-/// A length up to which `SAVED` is loaded, an offset with another byte, that byte, how many operations may be held, and
-/// what loading answers.
-const LOADED: &[(usize, usize, u8, u32, Loaded)] = &[
-    (13, 0, b'F', 9, Err(LoadFault::NotReplica)),
-    (132, 0, 0, 9, Err(LoadFault::NotReplica)),
-    (132, 4, 2, 9, Err(LoadFault::NotReplica)),
-    (132, 8, 0, 9, Err(LoadFault::NotReplica)),
-    (132, 12, 0, 9, Err(LoadFault::NotReplica)),
-    (132, 13, 7, 9, Ok((0, End { at: 13, slots: 0 }))),
-    (17, 13, 1, 9, Err(LoadFault::BadBatch(0))),
-    (131, 13, 1, 9, Err(LoadFault::BadBatch(0))),
-    (132, 17, 0x70, 9, Err(LoadFault::BadBatch(0))),
-    (132, 18, 4, 9, Err(LoadFault::BadBatch(0))),
-    (132, 131, 1, 9, Err(LoadFault::BadBatch(1))),
-    (132, 131, 1, 4, Err(LoadFault::TooMany(4))),
-    (131, 13, 1, 4, Err(LoadFault::BadBatch(0))),
+/// A file, a length up to which it is loaded, an offset with another byte, that byte, how many operations may be held,
+/// and what loading answers.
+const LOADED: &[(&[u8], usize, usize, u8, u32, Loaded)] = &[
+    (SAVED, 13, 0, b'F', 9, Err(LoadFault::NotReplica)),
+    (SAVED, 107, 0, 0, 9, Err(LoadFault::NotReplica)),
+    (SAVED, 107, 4, 0, 9, Err(LoadFault::NotReplica)),
+    (SAVED, 107, 4, 3, 9, Err(LoadFault::NotReplica)),
+    (SAVED, 107, 4, 1, 9, Ok((5, SAVED_END))),
+    (SAVED, 107, 8, 0, 9, Err(LoadFault::NotReplica)),
+    (SAVED, 107, 12, 0, 9, Err(LoadFault::NotReplica)),
+    (SAVED, 107, 13, 7, 9, Ok((0, End { at: 13, slots: 0 }))),
+    (SAVED, 17, 13, 1, 9, Err(LoadFault::BadBatch(0))),
+    (SAVED, 106, 13, 1, 9, Err(LoadFault::BadBatch(0))),
+    // A tag that says that there are no runs, and tags of no grammar.
+    (SAVED, 107, 14, 0, 9, Err(LoadFault::BadBatch(0))),
+    (SAVED, 107, 14, 0x40, 9, Err(LoadFault::BadBatch(0))),
+    (SAVED, 107, 14, 0xe0, 9, Err(LoadFault::BadBatch(0))),
+    // A length above the greatest one, and one that cuts the last frame.
+    (SAVED, 107, 14, 0x31, 9, Err(LoadFault::BadBatch(0))),
+    (SAVED, 107, 17, 0x57, 9, Err(LoadFault::BadBatch(0))),
+    (SAVED, 107, 18, 5, 9, Err(LoadFault::BadBatch(0))),
+    (SAVED, 107, 106, 1, 9, Err(LoadFault::BadBatch(1))),
+    (SAVED, 107, 106, 1, 4, Err(LoadFault::TooMany(4))),
+    (SAVED, 106, 13, 1, 4, Err(LoadFault::BadBatch(0))),
+    (OLD, 132, 13, 1, 9, Ok((5, End { at: 131, slots: 1 }))),
+    // Single frames are read with the tag of runs too.
+    (OLD, 132, 14, 0x20, 9, Ok((5, End { at: 131, slots: 1 }))),
+    (OLD, 132, 17, 0x70, 9, Err(LoadFault::BadBatch(0))),
+    (OLD, 132, 131, 1, 9, Err(LoadFault::BadBatch(1))),
 ];
+
+/// Where the meaning of `SAVED` ends.
+const SAVED_END: End = End { at: 106, slots: 1 };
 
 #[test]
 fn bytes_decide_what_loading_answers(rt: HostRuntime) {
-    for (len, at, byte, most, answer) in LOADED {
-        let mut bytes = list(&rt, SAVED);
+    for (file, len, at, byte, most, answer) in LOADED {
+        let mut bytes = list(&rt, file);
         bytes.truncate(*len);
         if let Some(place) = bytes.get_mut(*at) {
             *place = *byte;
@@ -159,6 +175,28 @@ fn bytes_decide_what_loading_answers(rt: HostRuntime) {
     let empty = list(&rt, b"FGMX\x01\0\0\0\x01\0\0\0\x10\x01\0\0\0\0\0");
     equal(&rt, loads(&rt, empty, 9), Ok((0, End { at: 18, slots: 1 })));
 }
+
+/// What a save makes of the file of version 1: the header and the old batch stay.
+#[test]
+fn a_file_of_version_1_is_carried_over(rt: HostRuntime) {
+    let mut disk = sure_disk(&rt, list(&rt, OLD), 200);
+    let two = [text(4, Some(id(3)), Some(id(2)), 'D'), text(5, Some(id(4)), Some(id(2)), 'E')];
+    let ops = Vec::from_array(rt.alloc(), two).expect(&rt, "memory");
+    let end = End { at: 179, slots: 2 };
+    equal(&rt, save(rt.alloc(), &mut disk, &ops), Some(end));
+    let mut wanted = list(&rt, &OLD[..131]);
+    wanted.extend_from_slice(CARRIED_OVER).expect(&rt, "memory");
+    equal(&rt, has_bytes(&mut disk, &wanted), true);
+    equal(&rt, shows(rt.alloc(), &mut disk, b"# T\nACDE\n"), true);
+    drop(wanted);
+    drop(disk);
+    drop(ops);
+}
+
+/// A batch with the run of D and E, behind C, and the closed gate behind it.
+const CARRIED_OVER: &[u8] = b"\x01\x20\0\0\x2b\
+\x04\0\0\0\x01\0\0\0\x04\0\0\0\x01\0\0\0\0\x01\0\0\0\x01\0\0\0\x03\x01\0\0\0\x01\0\0\0\x02\0\x02\0\0D\0\0E\
+\0";
 
 /// The crashes behind which a file is looked at.
 pub(crate) const PICKS: &[Pick] = &[
@@ -203,18 +241,18 @@ fn a_crash_leaves_all_of_a_batch_or_none(rt: HostRuntime) {
     drop(ops);
 }
 
-/// Saves operations whose frames are longer than a piece, and loads them.
+/// Saves operations whose frames are longer than a piece, and loads them. The letters are 23 runs of 1,024 and one of 448.
 #[test]
 fn frames_that_a_piece_cuts_are_whole(rt: HostRuntime) {
-    let ops = operations(&rt, 3000);
+    let ops = operations(&rt, 24_000);
     let mut disk = MemDisk::new(rt.alloc(), list(&rt, NEW), Vec::new(rt.alloc()));
     let end = End {
-        at: 90_131,
+        at: 72_802,
         slots: 1,
     };
     equal(&rt, save(rt.alloc(), &mut disk, &ops), Some(end));
     let found = counted(rt.alloc(), &mut disk, MOST_OPERATIONS);
-    equal(&rt, found, Ok((3005, end)));
+    equal(&rt, found, Ok((24_005, end)));
     drop(disk);
     drop(ops);
 }

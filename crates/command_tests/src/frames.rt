@@ -93,10 +93,19 @@ pub(crate) const DROP_S: &[u8] = b"\x03\0\0\0\x09\0\0\0\0";
 pub(crate) const CUT: &[u8] = b"\x02\0\0\0\x01\0";
 
 /// The file of replica 1 with hold 16 that holds nothing.
-pub(crate) const NEW: &[u8] = b"FGMX\x01\0\0\0\x01\0\0\0\x10\0";
+pub(crate) const NEW: &[u8] = b"FGMX\x02\0\0\0\x01\0\0\0\x10\0";
 
 /// The same with the section (1,0), titled T, and in it A, B, which is dropped, and C: one batch.
-pub(crate) const SAVED: &[u8] = b"FGMX\x01\0\0\0\x01\0\0\0\x10\
+pub(crate) const SAVED: &[u8] = b"FGMX\x02\0\0\0\x01\0\0\0\x10\
+\x01\x20\0\0\x58\
+\x01\0\0\0\x01\0\0\0\0\0\0\0\x01T\
+\x04\0\0\0\x01\0\0\0\x01\0\0\0\x01\0\0\0\0\0\0\0\x02\0\0A\0\0B\
+\x03\0\0\0\x01\0\0\0\x02\
+\x02\0\0\0\x01\0\0\0\x03\0\0\0\x01\0\0\0\0\x01\0\0\0\x01\0\0\0\x01\x01\0\0\0\x01\0\0\0\x02\0\0C\
+\0";
+
+/// The same file as version 1 wrote it.
+pub(crate) const OLD: &[u8] = b"FGMX\x01\0\0\0\x01\0\0\0\x10\
 \x01\0\0\0\x71\
 \x01\0\0\0\x01\0\0\0\0\0\0\0\x01T\
 \x02\0\0\0\x01\0\0\0\x01\0\0\0\x01\0\0\0\0\0\0\0\0A\

@@ -1,6 +1,6 @@
 use super::{Ends, ends_so, run_on, words_of};
 use crate::assertions::{equal_at, holds_at};
-use crate::frames::{NEW, PRINTED, SAVED};
+use crate::frames::{NEW, OLD, PRINTED, SAVED};
 use crate::memory::list;
 use manuscript_cli::{Status, files_of, read_words};
 use outer_ports::{MemDisk, MemSink, Opening};
@@ -9,8 +9,7 @@ use std::process::Abort;
 /// The frames of the batch of the saved file.
 const FRAMES: &[u8] = b"\
 \x01\0\0\0\x01\0\0\0\0\0\0\0\x01T\
-\x02\0\0\0\x01\0\0\0\x01\0\0\0\x01\0\0\0\0\0\0\0\0A\
-\x02\0\0\0\x01\0\0\0\x02\0\0\0\x01\0\0\0\0\x01\0\0\0\x01\0\0\0\x01\0\0\0B\
+\x04\0\0\0\x01\0\0\0\x01\0\0\0\x01\0\0\0\0\0\0\0\x02\0\0A\0\0B\
 \x03\0\0\0\x01\0\0\0\x02\
 \x02\0\0\0\x01\0\0\0\x03\0\0\0\x01\0\0\0\0\x01\0\0\0\x01\0\0\0\x01\x01\0\0\0\x01\0\0\0\x02\0\0C";
 
@@ -50,6 +49,7 @@ const ROWS: &[Row] = &[
         SAVED,
     ),
     ("print F", SAVED, 0, OUTSIDE, SAVED),
+    ("print F", OLD, 1, (b"# T\nAC\n", b"", Status::Done), OLD),
     ("print F", NEW, 1, (b"", b"", Status::Done), NEW),
     (
         "print F",
@@ -67,6 +67,7 @@ const ROWS: &[Row] = &[
     ),
     ("send F", SAVED, 1, (FRAMES, b"", Status::Done), SAVED),
     ("send F", SAVED, 0, OUTSIDE, SAVED),
+    ("send F", OLD, 1, (FRAMES, b"", Status::Done), OLD),
     ("send F", NEW, 1, (b"", b"", Status::Done), NEW),
     (
         "send F",
@@ -101,9 +102,10 @@ fn files_are_made_printed_and_sent(rt: HostRuntime) {
 const CHANGED: &[(usize, u8, Ends)] = &[
     (13, 7, (b"", b"", Status::Done)),
     (0, 0, (b"", b"not a replica\n", Status::BadFile)),
-    (17, 0x70, (b"", b"bad batch 0\n", Status::BadFile)),
+    (14, 0x40, (b"", b"bad batch 0\n", Status::BadFile)),
+    (17, 0x57, (b"", b"bad batch 0\n", Status::BadFile)),
     (18, 7, (b"", b"bad batch 0\n", Status::BadFile)),
-    (131, 1, (b"", b"bad batch 1\n", Status::BadFile)),
+    (106, 1, (b"", b"bad batch 1\n", Status::BadFile)),
 ];
 
 #[test]
@@ -198,7 +200,7 @@ fn each_may_fail(rt: &(impl Abort + AllocGlobal), words: &str, text: &[u8], call
 #[test]
 fn each_call_on_the_output_may_fail(rt: HostRuntime) {
     each_may_fail(&rt, "print F", PRINTED, 3);
-    each_may_fail(&rt, "send F", FRAMES, 38);
+    each_may_fail(&rt, "send F", FRAMES, 30);
 }
 
 /// The words, the files of their command, and what the first one is opened for: nothing where there is no command.

@@ -10,8 +10,7 @@ use std::process::Abort;
 /// The section (1,0), titled T, and in it A, B, which is dropped, and C.
 const MADE: Batch = &[
     b"\x01\0\0\0\x01\0\0\0\0\0\0\0\x01T",
-    b"\x02\0\0\0\x01\0\0\0\x01\0\0\0\x01\0\0\0\0\0\0\0\0A",
-    b"\x02\0\0\0\x01\0\0\0\x02\0\0\0\x01\0\0\0\0\x01\0\0\0\x01\0\0\0\x01\0\0\0B",
+    b"\x04\0\0\0\x01\0\0\0\x01\0\0\0\x01\0\0\0\0\0\0\0\x02\0\0A\0\0B",
     b"\x03\0\0\0\x01\0\0\0\x02",
     b"\x02\0\0\0\x01\0\0\0\x03\0\0\0\x01\0\0\0\0\x01\0\0\0\x01\0\0\0\x01\x01\0\0\0\x01\0\0\0\x02\0\0C",
 ];
@@ -28,7 +27,7 @@ pub(super) type File = (u8, u8, &'static [Batch]);
 /// The bytes of a file, with one batch more where that has frames.
 pub(super) fn bytes_of(rt: &(impl Abort + AllocGlobal), file: File, more: Batch) -> Vec<u8> {
     let (number, hold, batches) = file;
-    let mut bytes = stream(rt, &[b"FGMX\x01\0\0\0", &[number, 0, 0, 0, hold]]);
+    let mut bytes = stream(rt, &[b"FGMX\x02\0\0\0", &[number, 0, 0, 0, hold]]);
     for batch in batches {
         push_batch(rt, &mut bytes, batch);
     }
@@ -49,11 +48,14 @@ pub(super) fn with_room_for(
     (sure_disk(rt, bytes, room), wanted)
 }
 
+/// The tag of a batch that may have runs, in its word.
+const RUNS: u64 = 0x2000_0000;
+
 fn push_batch(rt: &(impl Abort + AllocGlobal), bytes: &mut Vec<u8>, batch: Batch) {
     if !batch.is_empty() {
         let frames = stream(rt, batch);
-        let length = (frames.len() as u64).to_be_bytes();
-        let batch = stream(rt, &[&[1], &length[4..], &frames]);
+        let word = (frames.len() as u64).wrapping_add(RUNS).to_be_bytes();
+        let batch = stream(rt, &[&[1], &word[4..], &frames]);
         bytes.extend_from_slice(&batch).expect(rt, "memory");
         drop(batch);
         drop(frames);
