@@ -131,6 +131,20 @@ check() {
     fi
 }
 
+# Builds tests/NAME.c, to stand before the C library, as NAME.so, or with a second word as a program of its own. Where
+# there is no C compiler it says so.
+build_c() {
+    command -v "${CC:-cc}" >/dev/null || {
+        echo 'not tried, since there is no C compiler'
+        return 1
+    }
+    if [ $# = 1 ]; then
+        "${CC:-cc}" -O1 -shared -fPIC -o "$work/$1.so" "tests/$1.c" -ldl || exit 1
+    else
+        "${CC:-cc}" -O1 -o "$work/$2" "tests/$1.c" || exit 1
+    fi
+}
+
 ended() {
     echo "$tried tried, $failed failed"
     [ $failed = 0 ]
