@@ -124,7 +124,7 @@ wants print && refuse_each print "$work/ann" "$work/nothing" print "$work/home"
 wants take && refuse_each take "$work/ben" "$work/odd" take "$work/home"
 wants send && refuse_each send "$work/ann" "$work/nothing" send "$work/home"
 wants merge && refuse_each merge "$work/ben" "$work/nothing" merge "$work/home" "$work/ann"
-port=$((20000 + RANDOM % 20000))
+port=$((20000 + RANDOM % 12000))
 wants relay && refuse_relay $((port + 1))
 if wants sync; then
     "$program" relay "$port" 65535 </dev/null >"$work/ready" 2>/dev/null &

@@ -4,7 +4,7 @@
 . "$(dirname "$0")/common.sh"
 
 # A port that is most likely free.
-port=$((20000 + RANDOM % 20000))
+port=$((20000 + RANDOM % 12000))
 
 # Starts a relay of so many sessions, and waits until it listens. One that is not over in time is ended.
 start_relay() {
