@@ -143,6 +143,25 @@ check 'several files print the same' [ "$(cat "$work"/text_[cdef] | sort | uniq 
 check 'byte by byte' cmp -s "$work/text_c" "$work/text_f"
 check 'and no exchange failed' [ ! -e "$work/c.failed" -a ! -e "$work/d.failed" -a ! -e "$work/e.failed" -a ! -e "$work/f.failed" ]
 
+# What finds no room to wait is dropped, and counted as full. It lies before the cursor that is noted then: an exchange
+# that begins there misses it for good, and one that begins at 0 brings it.
+port=$((port + 1))
+start_relay 5
+put pending "$b" "$a" "$d"
+put titled "$section"
+begin roomy 21
+try 'three operations wait for their section' pending 3 '' "$(counts 0 0 3 0 0 0)" take "$work/roomy"
+try 'they are brought to the relay' nothing 3 '' "$(counts 0 3 3 0 0 0)cursor 3\n" sync "$work/roomy" "$port" 0
+"$program" new "$work/narrow" 22 1 </dev/null
+try 'where one may wait two are dropped' nothing 3 '' "$(counts 0 0 1 0 0 2)cursor 3\n" sync "$work/narrow" "$port" 0
+try 'the section comes' titled 0 '' "$(counts 4 0 0 0 0 0)" take "$work/roomy"
+try 'and is brought to the relay' nothing 0 '' "$(counts 0 1 0 0 0 0)cursor 4\n" sync "$work/roomy" "$port" 3
+try 'the cursor after what was dropped misses it' nothing 0 '' "$(counts 2 0 0 0 0 0)cursor 4\n" sync "$work/narrow" "$port" 3
+try 'so it is not shown' nothing 0 '# T\nB\n' '' print "$work/narrow"
+try 'the cursor 0 brings it' nothing 0 '' "$(counts 2 2 0 0 0 0)cursor 4\n" sync "$work/narrow" "$port" 0
+try 'and it is shown' nothing 0 '# T\nADB\n' '' print "$work/narrow"
+relay_ends 'a relay of files that have no room' 'log 4\n'
+
 # A relay that is stopped and goes on keeps its peer, whichever of the two it waits for.
 port=$((port + 1))
 start_relay 1
