@@ -220,6 +220,33 @@ check 'each save beside prints ended well' [ $? = 0 ]
 check 'each print beside saves is one of the states' [ $others = 0 ]
 try 'all letters are printed at last' nothing 0 "# T\n$(head -c 4000 /dev/zero | tr '\0' x)\n" '' print "$work/loop"
 
+# Two that save in loops to one file: each save is done, or finds the file in use and changes nothing, and none that was
+# done is lost.
+new_file both
+try 'a file to be saved to by two' heading 0 '' 'made 1\n' edit "$work/both"
+save_letters() {
+    local letter=$1 saves=$2 status
+    script "$letter" "put 1 0 $letter"
+    while [ "$saves" -gt 0 ]; do
+        "$program" edit "$work/both" <"$work/$letter" >/dev/null 2>"$work/$letter.notes"
+        status=$?
+        if [ $status = 0 ]; then
+            saves=$((saves - 1))
+        else
+            [ $status = 4 ] && grep -q 'in use by another program' "$work/$letter.notes" || exit 1
+        fi
+    done
+}
+save_letters a 50 &
+first=$!
+save_letters b 50 &
+wait $first
+check 'each of its saves was done or found the file in use' [ $? = 0 ]
+wait $!
+check 'and so was each of the other' [ $? = 0 ]
+"$program" print "$work/both" </dev/null | tail -n 1 | fold -w 1 | sort | uniq -c | tr -d ' \n' >"$work/letters_of_both"
+check 'none that was done is lost' [ "$(cat "$work/letters_of_both")" = 50a50b ]
+
 # The outside fails.
 : >"$work/output"
 "$program" print "$f" </dev/null >/dev/full 2>"$work/notes"
