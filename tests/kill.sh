@@ -1,7 +1,7 @@
 #!/usr/bin/env bash
-# Kills the built program while it edits a file: as it begins each of its calls on the device in turn, counted by
-# `strace` where that is to be had, and at 200 random moments. The file has to print what it printed before, or what
-# the edit makes of it, and after an end with status 0 what the edit makes; and a later edit has to end well.
+# Kills the built program while it edits a file: as it begins each of its calls of the system in turn, which are counted
+# by tests/calls.c, and at 200 random moments. The file has to print what it printed before, or what the edit makes of
+# it, and after an end with status 0 what the edit makes; and a later edit has to end well.
 #
 #     tests/kill.sh [SEED]     # the random moments follow from the seed, 1 where none is given
 RANDOM=${1:-1}
@@ -34,23 +34,22 @@ look() {
     fi
 }
 
-# At each call that reads, writes or syncs the file.
-if strace -qq -e trace=none true 2>/dev/null; then
+# As it begins each of its calls of the system.
+if build_c calls; then
     for ((call = 1; call <= 100; call++)); do
         cp "$work/before" "$file"
-        strace -qq -o /dev/null -P "$file" -e trace=%file,%desc -e inject=pread64,pwrite64,fsync,fdatasync:signal=KILL:when=$call \
-            "$program" edit "$file" <"$work/script" >/dev/null 2>&1
+        AT=$call FAULT=kill LD_PRELOAD=$work/calls.so "$program" edit "$file" <"$work/script" >/dev/null 2>&1 9>"$work/calls" &
+        wait $! 2>/dev/null
         status=$?
         look "$status"
         [ "$status" = 137 ] || break
     done
     check "killed at each of its $((call - 1)) calls: $old times all is as before, $new times all is there, $wrong times else" \
-        [ "$wrong" = 0 -a "$call" -gt 4 -a "$call" -lt 100 -a "$new" -gt 0 ]
-else
-    echo 'not tried: each call in turn, since there is no strace that may trace'
+        [ "$wrong" = 0 -a "$call" -gt 10 -a "$call" -lt 100 -a "$old" -gt 0 -a "$new" -gt 1 ]
 fi
 
-# At random moments, up to twice the time that the edit takes.
+# At random moments, up to one and a half times the time that the edit takes. No program is started to wait for them.
+exec {never}<> <(:)
 old=0
 new=0
 wrong=0
@@ -62,8 +61,8 @@ long=$((${EPOCHREALTIME/./} - start))
 for ((times = 1; times <= 200; times++)); do
     cp "$work/before" "$file"
     "$program" edit "$file" <"$work/script" >/dev/null 2>&1 &
-    printf -v pause '0.%06d' $((RANDOM * 32768 % (2 * long) + RANDOM % 1000))
-    sleep "$pause"
+    printf -v pause '0.%06d' $(((RANDOM * 32768 + RANDOM) % (long * 3 / 2)))
+    read -rt "$pause" -u "$never"
     kill -9 $! 2>/dev/null
     wait $! 2>/dev/null
     status=$?
