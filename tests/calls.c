@@ -138,8 +138,7 @@ int open(const char *path, int flags, ...) {
     va_end(rest);
     int others = flags & ~(O_ACCMODE | O_CREAT | O_EXCL | O_CLOEXEC | O_NOCTTY);
     begin("open %s %s", last_part(path), access[flags & O_ACCMODE]);
-    if (flags & O_CREAT) add(", to make it with mode %o", mode);
-    if (flags & O_EXCL) add(", where none is there");
+    if (flags & O_CREAT) add(", %s, mode %o", flags & O_EXCL ? "new" : "new or old", mode);
     if (others) add(", with %o", others);
     if (!(flags & O_CLOEXEC)) add(", for other programs too");
     int file = fails() ? -1 : next(path, flags, mode);

@@ -17,9 +17,9 @@ seen=$work/table
 cat >"$seen" <<'END'
 The calls of the system that each command makes on a small case, as tests/calls.sh saw them. Below a command stands how
 it ends: its status, what became of the file, what was printed, and the notes. Beside a call stands how the command ends
-where the call fails with one of these errors. That is told in short: where the status is 4, the file as before and
-nothing printed, by the cause alone, or by the note `outside fault` where no cause is told. A call that moves nothing is
-`none`; one that moves half of the bytes, after which nothing more can be written, is `full`.
+where the call fails with one of these errors, in short: by the notes alone where the status is 4, the file as before
+and nothing printed, and of these by the cause alone where one is told before `outside fault`. A call that moves nothing
+is `none`; one that moves half of the bytes, after which nothing more can be written, is `full`.
 
 END
 runs=0
@@ -97,17 +97,18 @@ outcome() {
     echo "$text: $(notes)"
 }
 
-# The same in short: `no change` where it is as without a fault, and where the status is 4, the file as before and
-# nothing printed, the cause alone, or the note where no cause is told.
+# The same in short: `no change` where it is as without a fault; of notes of a cause the cause alone; and no more than
+# the notes where the status is 4, the file as before and nothing printed.
 in_short() {
+    local text=$1
+    [[ $text != *': manuscript: '* ]] || text=${text/ | outside fault/}
+    text=${text/: manuscript: /: }
     if [ "$1" = "$base" ]; then
         echo 'no change'
-    elif [[ $1 =~ ^4(, as before)?(, nothing printed)?:\ (.+)$ ]]; then
-        local text=${BASH_REMATCH[3]}
-        text=${text#manuscript: }
-        echo "${text/ | outside fault/}"
+    elif [[ $text =~ ^4(, as before)?(, nothing printed)?:\ (.+)$ ]]; then
+        echo "${BASH_REMATCH[3]}"
     else
-        echo "status ${1/accepted*full 0/accepted ... full 0}"
+        echo "status ${text/accepted*full 0/accepted ... full 0}"
     fi
 }
 
@@ -159,7 +160,7 @@ faults_of() {
     case $1 in
     getentropy*) echo EIO ;;
     'open / '*) echo EMFILE ;;
-    open*'to make it'*) echo EACCES EROFS ENOSPC EMFILE ;;
+    open*new*) echo EACCES EROFS ENOSPC EMFILE ;;
     open*'and write'*) echo EACCES EROFS EMFILE ;;
     open*) echo EACCES EMFILE ;;
     stat*open) echo EIO ;;
@@ -274,7 +275,7 @@ write_calls() {
     [ "$same" = 1 ] || last_call+=", $same times"
     [ -n "$last_told" ] || echo "$last_call" >>"$seen"
     while IFS= read -r how; do
-        printf '%-46s %s\n' "$last_call" "$how"
+        printf '%-44s %s\n' "$last_call" "$how"
         last_call=
     done < <(printf '%s' "$last_told") >>"$seen"
 }
