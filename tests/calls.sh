@@ -79,7 +79,7 @@ file_state() {
 # What stands in the output.
 output_state() {
     if cmp -s "$work/output" "$work/wanted"; then
-        echo 'all printed'
+        echo printed
     elif [ ! -s "$work/output" ]; then
         echo 'nothing printed'
     elif cmp -s -n "$(wc -c <"$work/output")" "$work/output" "$work/wanted"; then
