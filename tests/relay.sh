@@ -146,7 +146,7 @@ check 'and no exchange failed' [ ! -e "$work/c.failed" -a ! -e "$work/d.failed" 
 # What finds no room to wait is dropped, and counted as full. It lies before the cursor that is noted then: an exchange
 # that begins there misses it for good, and one that begins at 0 brings it.
 port=$((port + 1))
-start_relay 5
+start_relay 6
 put pending "$b" "$a" "$d"
 put titled "$section"
 begin roomy 21
@@ -160,9 +160,21 @@ try 'the cursor after what was dropped misses it' nothing 0 '' "$(counts 2 0 0 0
 try 'so it is not shown' nothing 0 '# T\nB\n' '' print "$work/narrow"
 try 'the cursor 0 brings it' nothing 0 '' "$(counts 2 2 0 0 0 0)cursor 4\n" sync "$work/narrow" "$port" 0
 try 'and it is shown' nothing 0 '# T\nADB\n' '' print "$work/narrow"
+try 'a cursor beyond the log is refused' nothing 2 '' 'relay refused 3\n' sync "$work/narrow" "$port" 5
 relay_ends 'a relay of files that have no room' 'log 4\n'
 
-# A relay that is stopped and goes on keeps its peer, whichever of the two it waits for.
+# After a relay was started anew a cursor of before is refused, or taken where the log is as long again: then what lies
+# before it is missed, and the cursor 0 brings it.
+port=$((port + 1))
+start_relay 4
+begin other 23
+try 'a relay that is new refuses a cursor of before' nothing 2 '' 'relay refused 3\n' sync "$work/other" "$port" 4
+try 'it hears all' nothing 0 '' "$(counts 0 4 0 0 0 0)cursor 4\n" sync "$work/roomy" "$port" 0
+try 'and takes a cursor of before' nothing 0 '' "$(counts 0 0 0 0 0 0)cursor 4\n" sync "$work/other" "$port" 4
+try 'the cursor 0 brings all' nothing 0 '' "$(counts 4 0 0 0 0 0)cursor 4\n" sync "$work/other" "$port" 0
+relay_ends 'a relay that was started anew' 'log 4\n'
+
+# A relay that is stopped and goes on keeps its peer, and so does a sync that waits for the relay.
 port=$((port + 1))
 start_relay 1
 open_peer
@@ -178,6 +190,21 @@ timeout 20 head -c 5 <&"$peer" >"$work/reply"
 check 'a relay that was stopped answers' [ "$(od -An -tx1 "$work/reply")" = ' 55 00 00 00 00' ]
 close_peer
 relay_ends 'a relay that was stopped' 'log 0\n'
+port=$((port + 1))
+start_relay 2
+open_peer
+: >"$work/output"
+"$program" sync "$work/other" "$port" 0 </dev/null 2>"$work/notes" &
+stopped=$!
+sleep 0.3
+kill -STOP "$stopped"
+sleep 0.3
+kill -CONT "$stopped"
+sleep 0.3
+close_peer
+wait "$stopped"
+compare 'a sync that was stopped is answered' $? 0 '' "$(counts 0 4 0 0 0 0)cursor 4\n"
+relay_ends 'by a relay that it waited for' 'log 4\n'
 
 # A peer that says nothing for a minute is given up, and so is a relay that says nothing.
 port=$((port + 1))
