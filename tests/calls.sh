@@ -5,8 +5,7 @@
 # nothing then, and can be saved to later. What stands before the C library for that is tests/calls.c.
 #
 #     tests/calls.sh [FILE]     # writes what it saw to FILE
-# Many small files are written and synced, for which memory is fast enough.
-[ ! -w /dev/shm ] || export TMPDIR=/dev/shm
+[ ! -w /dev/shm ] || export TMPDIR=/dev/shm # where many syncs cost little
 . "$(dirname "$0")/common.sh"
 table=$PWD/tests/calls.txt
 
@@ -20,7 +19,6 @@ it ends: its status, what became of the file, what was printed, and the notes. B
 where the call fails with one of these errors, in short: by the notes alone where the status is 4, the file as before
 and nothing printed, and of these by the cause alone where one is told before `outside fault`. A call that moves nothing
 is `none`; one that moves half of the bytes, after which nothing more can be written, is `full`.
-
 END
 runs=0
 odd=0
@@ -29,7 +27,6 @@ odd=0
 run_with() {
     local at=$1 fault=$2
     shift 2
-    runs=$((runs + 1))
     AT=$at FAULT=$fault LD_PRELOAD=$work/calls.so "$program" "$@" 9>"$work/calls"
 }
 
@@ -121,6 +118,7 @@ restore() {
 # Runs the command of `words` on its home file and its input where the call of this number goes as is told. The answer
 # is how it ended.
 run_command() {
+    runs=$((runs + 1))
     restore
     run_with "$1" "$2" "${words[@]}" <"$input" >"$work/output" 2>"$work/notes"
     ended_so=$(outcome $?)
@@ -129,6 +127,7 @@ run_command() {
 # The same of a relay of two sessions, one after the other.
 run_relay() {
     local peer waited answered=()
+    runs=$((runs + 1))
     restore
     : >"$work/output"
     run_with "$1" "$2" "${words[@]}" <"$input" >"$work/output" 2>"$work/notes" &
@@ -266,7 +265,7 @@ record() {
 
 # Writes how a command that was recorded ends.
 write_head() {
-    printf '== %s\n%s\n\n' "$title" "$base" >>"$seen"
+    printf '\n== %s\n%s\n\n' "$title" "$base" >>"$seen"
 }
 
 # Writes a call, and beside it what is told of it. The same ones one after another are written once.
@@ -280,6 +279,7 @@ write_calls() {
     done < <(printf '%s' "$last_told") >>"$seen"
 }
 
+# Notes a call, and what is told of it.
 add_call() {
     if [ "$same" -gt 0 ] && [ "$1" = "$last_call" ] && [ "$2" = "$last_told" ]; then
         same=$((same + 1))
@@ -304,7 +304,6 @@ try_command() {
         ! is_saved || try_kill $number "$call"
     done <"$work/base_calls"
     write_calls
-    echo >>"$seen"
 }
 
 # Shows the calls of a command from that one on which goes as is told: that of this number among those with the word.
@@ -318,7 +317,6 @@ show_calls() {
     write_head
     while IFS= read -r call; do add_call "$call" ''; done < <(calls | tail -n +"$at")
     write_calls
-    echo >>"$seen"
 }
 
 port=$((20000 + RANDOM % 12000))
@@ -349,9 +347,9 @@ try_command 'bulk 7 4' - "$nothing" bulk 7 4
 try_command 'relay PORT 2' - "$nothing" relay "$port" 2
 show_calls EMFILE accept 2 'relay PORT 2, where no descriptor is left for a while' - "$nothing" relay "$port" 2
 
-"$program" relay "$port" 65535 <"$nothing" >"$work/ready" 2>"$work/relay_notes" &
+"$program" relay "$port" 1000 <"$nothing" >"$work/ready" 2>"$work/relay_notes" &
 relay=$!
-until [ -s "$work/ready" ]; do sleep 0.01; done
+wait_for "$work/ready"
 "$program" sync ben "$port" 0 <"$nothing" 2>"$work/notes"
 cp ann again
 "$program" sync again "$port" 0 <"$nothing" 2>"$work/notes"

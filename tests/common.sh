@@ -131,6 +131,16 @@ check() {
     fi
 }
 
+# Waits until a file has bytes, for ten seconds at most.
+wait_for() {
+    local waited
+    for ((waited = 0; waited < 1000; waited++)); do
+        [ ! -s "$1" ] || return 0
+        sleep 0.01
+    done
+    return 1
+}
+
 # Builds tests/NAME.c, to stand before the C library, as NAME.so, or with a second word as a program of its own. Where
 # there is no C compiler it says so.
 build_c() {

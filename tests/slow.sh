@@ -21,15 +21,13 @@ hastened() {
     HASTE=$1 LD_PRELOAD=$work/haste.so exec timeout 60 "$program" "${@:2}" </dev/null
 }
 
-# Starts a relay of so many sessions on a port, and waits until it listens. Its number and its name are in `relay`.
+# Starts a relay: its name, how many times its clock is hastened, its port, and of how many sessions. It waits until the
+# relay listens.
 start_relay() {
-    local name=$1 haste=$2 waited
+    local name=$1 haste=$2
     (hastened "$haste" relay "$3" "$4") >"$work/$name.output" 2>"$work/$name.notes" &
     relay=$!
-    for ((waited = 0; waited < 400; waited++)); do
-        [ -s "$work/$name.output" ] && return
-        sleep 0.02
-    done
+    wait_for "$work/$name.output"
 }
 
 # Serves a peer of tests/peer.c by a relay whose clock is hastened a hundred times, and then an honest one, and writes
@@ -46,7 +44,7 @@ serve_peer() {
     begun=${EPOCHREALTIME/./}
     "$work/peer" "$at" "$says" "$takes" <"$work/$name" >"$work/$name.peer" &
     peer=$!
-    until [ -s "$work/$name.peer" ]; do sleep 0.005; done
+    wait_for "$work/$name.peer"
     cp "$work/honest" "$work/$name.honest"
     "$program" sync "$work/$name.honest" "$at" 0 </dev/null 2>"$work/$name.answer"
     echo "$? $(since "$begun")" >"$work/$name.answered"
@@ -146,7 +144,7 @@ for turn in {1..8}; do
         [ ${#peers[@]} -lt 30 ] || break
         "$work/peer" "$port" 15 0 <"$work/$name" >"$work/peer_output" &
         peers+=($!)
-        until [ -s "$work/peer_output" ]; do sleep 0.005; done
+        wait_for "$work/peer_output"
         : >"$work/peer_output"
     done
 done
