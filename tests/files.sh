@@ -5,14 +5,14 @@
 
 # The header of a file.
 header() {
-    printf 'FGMX\\1\\0\\0\\0\\%03o\\0\\0\\0\\%03o' "$1" "$2"
+    printf 'FGMX\\2\\0\\0\\0\\%03o\\0\\0\\0\\%03o' "$1" "$2"
 }
 
-# A batch of these frames, behind an open gate.
+# A batch of these frames, behind an open gate. Its word has the tag of runs.
 batch() {
     local frames=$1 long
     long=$(printf "$frames" | wc -c)
-    printf '\\1\\0\\0\\%03o\\%03o%s' $((long / 256)) $((long % 256)) "$frames"
+    printf '\\1\\040\\0\\%03o\\%03o%s' $((long / 256)) $((long % 256)) "$frames"
 }
 
 # Says whether a file has these bytes, as escapes.
@@ -32,7 +32,7 @@ script nothing_asked
 put titled "$section"
 script chapter 'add 1 T' 'put 1 0 AB' 'cut 1 1 1' 'put 1 1 C'
 s='\1'$(id 1 0)'\0\0\0\001T'
-made=$s$(letter '1 1' '1 0' '' '' A)$(letter '1 2' '1 0' '1 1' '' B)'\3'$(id 1 2)$(letter '1 3' '1 0' '1 1' '1 2' C)
+made=$s'\4'$(id 1 1)$(id 1 0)'\0\0\0\2\0\0A\0\0B\3'$(id 1 2)$(letter '1 3' '1 0' '1 1' '1 2' C)
 f=$work/f
 g=$work/g
 all=$(counts 5 0 0 0 0 0)
@@ -119,7 +119,7 @@ try 'the file is judged before the other one' nothing 6 '' 'not a replica\n' mer
 compare 'and before the input is read' $? 6 '' 'not a replica\n'
 { head -c 13 "$f"; printf '\7'; tail -c +15 "$f"; } >"$work/closed"
 try 'a closed gate ends the meaning' nothing 0 '' '' print "$work/closed"
-head -c 131 "$f" >"$work/cut_file"
+head -c 106 "$f" >"$work/cut_file"
 try 'a batch with no byte behind it' nothing 6 '' 'bad batch 0\n' print "$work/cut_file"
 check 'the file is as before' cmp -s "$f" "$work/edited"
 

@@ -39,7 +39,23 @@ done
 manuscript show <"$oosterwick/all.frames" >"$work/shown" 2>"$work/notes"
 check 'the frames are shown as the text' cmp -s "$work/shown" "$oosterwick/manuscript.txt"
 
+# A file as version 1 wrote it: it is printed, saved to, and printed again; what stood there stays.
+cp "$samples/version_1.ms" "$work/old.ms"
+printed old_text manuscript print "$work/old.ms"
+check 'a file of version 1 is printed' [ "$(head -n 1 "$work/old_text")" = '# The sea' ]
+echo 'put 1 0 Xy' | manuscript edit "$work/old.ms" >"$work/notes" 2>&1
+check '    and saved to' [ "$(cat "$work/notes")" = 'made 2' ]
+printed new_text manuscript print "$work/old.ms"
+check '    and printed again' [ "$(sed 's/^Xy//' "$work/new_text")" = "$(cat "$work/old_text")" ]
+size=$(wc -c <"$samples/version_1.ms")
+check '    and its header and old batches stay' cmp -s -n $((size - 1)) "$samples/version_1.ms" "$work/old.ms"
+
 if command -v python3 >/dev/null; then
+    printed read python3 "$reader" print "$work/old.ms"
+    check 'the reader prints it, as the program' cmp -s "$work/read" "$work/new_text"
+    manuscript send "$work/old.ms" >"$work/sent"
+    printed read python3 "$reader" send "$work/old.ms"
+    check '    and sends what it holds' cmp -s "$work/read" "$work/sent"
     for author in ann ben cleo; do
         printed read python3 "$reader" print "$work/made/$author.ms"
         check "the reader prints the file of $author" cmp -s "$work/read" "$oosterwick/manuscript.txt"
