@@ -4,8 +4,10 @@ use Rattle.std.specs.Prelude.{All, Err, IfErr, IfOk, IfSome, None, Ok, Option, R
 use Rattle.std.proofs.lemmas.List.{append-nil, take_all, take_at}
 use Rattle.fugue_ids.specs.declared.limits.TheConstants.{STREAM_LIMIT}
 use Rattle.fugue_ids.specs.declared.op.Op.{Op}
-use Rattle.origin_model.specs.frames.Frames.{HasFrame, single_frames}
-use Rattle.origin_model.specs.taking.Taking.{Held, TooMany as AnswersTooMany, answer, held_from, kept_from, tally_from}
+use Rattle.origin_model.specs.declared.grammar.Grammar.TheVariants.{Version2}
+use Rattle.origin_model.specs.frames.Frames.{Framed, IsFrame}
+use Rattle.origin_model.specs.taking.Taking.{answer, held_from, kept_from, tally_from}
+use Rattle.origin_model.proofs.SharedLemmas.{bytes_of, ops_of}
 use Rattle.op_frame.proofs.FormatLemmas.{FallsShort, Reaches, two_fronts}
 use Rattle.op_frame.proofs.ToldLemmas.{shows, some_is, take_past}
 use Rattle.outer_ports.specs.wire.Wires.{WireView}
@@ -13,15 +15,15 @@ use Rattle.replica_core.specs.Keeping.{TakesIn, OpsTaking}
 use Rattle.origin_model.specs.edits.State.{State}
 use Rattle.replica_core.proofs.KeepingLemmas.{same_taking}
 use Rattle.relay_sync.specs.Outcomes.{AnswerIs, AnswersByReply, IsByReply, sync_answer, reply_end_of, BeginsWith, EndsReply, HeardTo, HeardUpTo, HearsTo, IsNoMessage, ReplyEnd, Ended, Refused as EndsRefused, Bad, Cut, TooLong as EndsTooLong, TooMany as EndsTooMany}
-use Rattle.relay_sync.specs.Replies.{IsBroken, IsMessage, IsMessageFront}
-use Rattle.relay_sync.specs.Syncing.{HearsPartly, HearsReply, ReplyStopsFor}
+use Rattle.relay_sync.specs.Replies.{End, IsBroken, IsMessage, IsMessageFront, Message, Refusal}
+use Rattle.relay_sync.specs.Syncing.{HearsPartly, HearsReply, ReplyStopsFor, TakesNotAll}
 use Rattle.relay_sync.specs.declared.syncing.Synced.{Synced}
 use Rattle.origin_model.specs.declared.taking.Tally.{Tally}
-use Rattle.relay_sync.specs.declared.hearing.Message.{Message}
-use Rattle.relay_sync.specs.declared.hearing.Message.TheVariants.{End, Operation, Refusal}
+use Rattle.replica_core.specs.declared.keeping.FeedFault.TheVariants as feed_fault
 use Rattle.relay_sync.specs.declared.syncing.SyncFault.{SyncFault}
 use Rattle.relay_sync.specs.declared.syncing.SyncFault.TheVariants.{BadReply, CutShort, NoMemory, RelayRefused, TooLong, TooMany, WireFault}
-use Rattle.relay_sync.proofs.OutcomeLemmas.{begins_no_front, reply_comes_once}
+use Rattle.relay_sync.proofs.OutcomeLemmas.{begins_no_front, by_reading, reply_comes_once}
+use Rattle.relay_sync.proofs.SyncingLemmas.{takes-append}
 
 -- bytes that broke off a message are none, however they go on
 broken_is_none : (bytes behind : List ℕ) → IsBroken bytes → IsNoMessage (bytes ++ behind)
@@ -64,88 +66,113 @@ broken_is_none bytes behind b = record { none_begins = λ message p. by_fronts m
     by_fronts message p (inl r) = reached message p.whole r.between p.is_message r.is
     by_fronts message p (inr f) = gone_past message p.whole f.between p.is_message f.some f.is
 
-module _ (before middle after : OpsTaking) (ops : List Op) (have : All HasFrame ops) (takes : TakesIn before middle ops) (same : after ≡ middle) where
-  abbrev now : Held
-  now = held_from before.replica.hold before.replica.most before.replica.held ops
+module _ (before middle after : OpsTaking) (found : List Framed) (are : All (IsFrame Version2) found) (takes : TakesIn before middle (ops_of found)) where
+  abbrev heard : List ℕ
+  heard = bytes_of found
 
-  -- an end behind the operations
-  comes_to : (bytes rest : List ℕ) (end : ReplyEnd) → take STREAM_LIMIT bytes ≡ single_frames ops ++ rest
-      → EndsReply before.replica.hold before.replica.most now (length bytes) (length (single_frames ops)) rest end → HearsTo bytes before after end
-  comes_to bytes rest end split ends = record {
-    ops = ops;
-    comes = record { have_frames = have; has_place = takes.has_place; rest = rest; split = split; ends = ends };
-    takes = subst (λ (t : OpsTaking). TakesIn before t ops) (sym same) takes;
-  }
+  module _ (same : after ≡ middle) where
+    -- an end behind the frames
+    comes_to : (bytes rest : List ℕ) (end : ReplyEnd) → take STREAM_LIMIT bytes ≡ heard ++ rest → EndsReply (length bytes) (length heard) rest end → HearsTo bytes before after end
+    comes_to bytes rest end split ends = record {
+      ops = ops_of found;
+      comes = record {
+        has_place = takes.has_place;
+        ends = by_reading before.replica.hold before.replica.most before.replica.held bytes (ops_of found) end
+            (record { found = found; are_frames = are; ops_are = refl; rest = rest; split = split; ends = ends });
+      };
+      takes = subst (λ (t : OpsTaking). TakesIn before t (ops_of found)) (sym same) takes;
+    }
 
-  module _ (bytes more : List ℕ) (within : length (single_frames ops) + length bytes ≤ STREAM_LIMIT) where
+    comes_to_long : (bytes more front : List ℕ) (byte : ℕ) → bytes ≡ front ++ byte ∷ [] → IsMessageFront front → length heard + length front ≡ STREAM_LIMIT
+        → HearsTo ((heard ++ bytes) ++ more) before after EndsTooLong
+    comes_to_long bytes more front byte is partial full =
+        let all : (heard ++ bytes) ++ more ≡ (heard ++ front) ++ byte ∷ more = ap (λ (l : List ℕ). (heard ++ l) ++ more) is ∙ regroup heard front byte more in
+        let size : length (heard ++ front) ≡ STREAM_LIMIT = length-append heard front ∙ full in
+        comes_to ((heard ++ bytes) ++ more) front EndsTooLong (ap (take STREAM_LIMIT) all ∙ take_at (heard ++ front) (byte ∷ more) STREAM_LIMIT size)
+        (omega (arith, ap length all, size, length-append (heard ++ front) (byte ∷ more)), partial)
+      where
+        regroup : (a b : List ℕ) (x : ℕ) (c : List ℕ) → (a ++ (b ++ x ∷ [])) ++ c ≡ (a ++ b) ++ x ∷ c
+        regroup a b x c = simp append_assoc
+
+  module _ (bytes more : List ℕ) (within : length heard + length bytes ≤ STREAM_LIMIT) where
     -- the bytes with what stands behind them up to the limit
     abbrev on : List ℕ
-    on = take (STREAM_LIMIT - length (single_frames ops ++ bytes)) more
+    on = take (STREAM_LIMIT - length (heard ++ bytes)) more
 
-    split_on : take STREAM_LIMIT ((single_frames ops ++ bytes) ++ more) ≡ single_frames ops ++ (bytes ++ on)
+    split_on : take STREAM_LIMIT ((heard ++ bytes) ++ more) ≡ heard ++ (bytes ++ on)
     split_on =
-        take_past (single_frames ops ++ bytes) more STREAM_LIMIT (length (single_frames ops ++ bytes)) refl (omega (arith, within, length-append (single_frames ops) bytes))
-        ∙ append_assoc (single_frames ops) bytes on
+        take_past (heard ++ bytes) more STREAM_LIMIT (length (heard ++ bytes)) refl (omega (arith, within, length-append heard bytes))
+        ∙ append_assoc heard bytes on
 
     begins_on : (message : Message) → IsMessage message bytes → BeginsWith message (bytes ++ on)
     begins_on message is = record { whole = bytes; is_message = is; behind = on; split = refl }
 
-    pub comes_to_end : (count : ℕ) → IsMessage (End count) bytes → HearsTo ((single_frames ops ++ bytes) ++ more) before after (Ended count)
-    comes_to_end count is = comes_to ((single_frames ops ++ bytes) ++ more) (bytes ++ on) (Ended count) split_on (begins_on (End count) is)
+    pub comes_to_end : (same : after ≡ middle) (count : ℕ) → IsMessage (End count) bytes → HearsTo ((heard ++ bytes) ++ more) before after (Ended count)
+    comes_to_end same count is = comes_to same ((heard ++ bytes) ++ more) (bytes ++ on) (Ended count) split_on (begins_on (End count) is)
 
-    comes_to_refusal : (code : ℕ) → IsMessage (Refusal code) bytes → HearsTo ((single_frames ops ++ bytes) ++ more) before after (EndsRefused code)
-    comes_to_refusal code is = comes_to ((single_frames ops ++ bytes) ++ more) (bytes ++ on) (EndsRefused code) split_on (begins_on (Refusal code) is)
+    comes_to_refusal : (same : after ≡ middle) (code : ℕ) → IsMessage (Refusal code) bytes → HearsTo ((heard ++ bytes) ++ more) before after (EndsRefused code)
+    comes_to_refusal same code is = comes_to same ((heard ++ bytes) ++ more) (bytes ++ on) (EndsRefused code) split_on (begins_on (Refusal code) is)
 
-    comes_to_none : (at : ℕ) → at ≡ length (single_frames ops) → IsBroken bytes → HearsTo ((single_frames ops ++ bytes) ++ more) before after (Bad at)
-    comes_to_none at is broken = comes_to ((single_frames ops ++ bytes) ++ more) (bytes ++ on) (Bad at) split_on (is, broken_is_none bytes on broken)
+    comes_to_none : (same : after ≡ middle) (at : ℕ) → at ≡ length heard → IsBroken bytes → HearsTo ((heard ++ bytes) ++ more) before after (Bad at)
+    comes_to_none same at is broken = comes_to same ((heard ++ bytes) ++ more) (bytes ++ on) (Bad at) split_on (is, broken_is_none bytes on broken)
 
-    comes_to_many : (op : Op) → IsMessage (Operation op) bytes → answer middle.replica.hold middle.replica.most middle.replica.held op ≡ AnswersTooMany
-        → HearsTo ((single_frames ops ++ bytes) ++ more) before after EndsTooMany
-    comes_to_many op is many =
-        comes_to ((single_frames ops ++ bytes) ++ more) (bytes ++ on) EndsTooMany split_on
-        (op, begins_on (Operation op) is, ap (λ (s : State). answer s.hold s.most s.held op) (sym takes.replica) ∙ many)
+    comes_to_cut : (same : after ≡ middle) (at : ℕ) → at ≡ length heard → IsMessageFront bytes → more ≡ [] → HearsTo ((heard ++ bytes) ++ more) before after (Cut at)
+    comes_to_cut same at is front none =
+        let size : length ((heard ++ bytes) ++ more) ≤ STREAM_LIMIT = omega (arith, within, ap length none, length-append (heard ++ bytes) more, length-append heard bytes) in
+        let all : (heard ++ bytes) ++ more ≡ heard ++ bytes = ap (λ (l : List ℕ). (heard ++ bytes) ++ l) none ∙ append-nil (heard ++ bytes) in
+        comes_to same ((heard ++ bytes) ++ more) bytes (Cut at) (take_all STREAM_LIMIT ((heard ++ bytes) ++ more) size ∙ all) (is, size, front)
 
-    comes_to_cut : (at : ℕ) → at ≡ length (single_frames ops) → IsMessageFront bytes → more ≡ [] → HearsTo ((single_frames ops ++ bytes) ++ more) before after (Cut at)
-    comes_to_cut at is front none =
-        let size : length ((single_frames ops ++ bytes) ++ more) ≤ STREAM_LIMIT = omega (arith, within, ap length none, length-append (single_frames ops ++ bytes) more, length-append (single_frames ops) bytes) in
-        let all : (single_frames ops ++ bytes) ++ more ≡ single_frames ops ++ bytes = ap (λ (l : List ℕ). (single_frames ops ++ bytes) ++ l) none ∙ append-nil (single_frames ops ++ bytes) in
-        comes_to ((single_frames ops ++ bytes) ++ more) bytes (Cut at) (take_all STREAM_LIMIT ((single_frames ops ++ bytes) ++ more) size ∙ all) (is, size, front)
-
-  comes_to_long : (bytes more front : List ℕ) (byte : ℕ) → bytes ≡ front ++ byte ∷ [] → IsMessageFront front → length (single_frames ops) + length front ≡ STREAM_LIMIT
-      → HearsTo ((single_frames ops ++ bytes) ++ more) before after EndsTooLong
-  comes_to_long bytes more front byte is partial full =
-      let all : (single_frames ops ++ bytes) ++ more ≡ (single_frames ops ++ front) ++ byte ∷ more = ap (λ (l : List ℕ). (single_frames ops ++ l) ++ more) is ∙ regroup (single_frames ops) front byte more in
-      let size : length (single_frames ops ++ front) ≡ STREAM_LIMIT = length-append (single_frames ops) front ∙ full in
-      comes_to ((single_frames ops ++ bytes) ++ more) front EndsTooLong (ap (take STREAM_LIMIT) all ∙ take_at (single_frames ops ++ front) (byte ∷ more) STREAM_LIMIT size)
-      (omega (arith, ap length all, size, length-append (single_frames ops ++ front) (byte ∷ more)), partial)
-    where
-      regroup : (a b : List ℕ) (x : ℕ) (c : List ℕ) → (a ++ (b ++ x ∷ [])) ++ c ≡ (a ++ b) ++ x ∷ c
-      regroup a b x c = simp append_assoc
+    -- the operations of the frame behind them were taken in up to one that is one too many
+    comes_to_many : (most : ℕ) → TakesNotAll (feed_fault.TooMany most) middle after bytes → HearsTo ((heard ++ bytes) ++ more) before after EndsTooMany
+    comes_to_many most met =
+        let last = met.1 in
+        let taken : TakesIn before after (ops_of found ++ last.front) = takes-append before middle after (ops_of found) last.front takes last.takes in
+        record {
+          ops = ops_of found ++ last.front;
+          comes = record {
+            has_place = taken.has_place;
+            ends = record {
+              earlier = ops_of found;
+              rest = bytes ++ on;
+              starts = record { found = found; are_frames = are; ops_are = refl; split = split_on };
+              framed = record { bytes = bytes; ops = last.front ++ met.0 ∷ last.more };
+              behind = on;
+              begins = record { is_frame = last.is_message; split = refl };
+              front = last.front;
+              op = met.0;
+              more = last.more;
+              brings = refl;
+              taken = refl;
+              refused = ap (λ (s : State). answer s.hold s.most s.held met.0) (sym taken.replica) ∙ met.3;
+            };
+          };
+          takes = taken;
+        }
 
 pub reply_heard : (old new : WireView) (before after : OpsTaking) (count : ℕ) → HearsReply old new before after count → HeardTo old.left before after (Ended count)
 reply_heard old new before after count h =
-    shows (λ (bytes : List ℕ). HearsTo bytes before after (Ended count)) (single_frames h.ops ++ h.last) new.left old.left h.hears.heard
-    (λ more is. comes_to_end before after after h.ops h.have_frames h.takes refl h.last more (omega (arith, h.within, length-append (single_frames h.ops) h.last)) count h.ends)
+    shows (λ (bytes : List ℕ). HearsTo bytes before after (Ended count)) (bytes_of h.found ++ h.last) new.left old.left h.hears.heard
+    (λ more is. comes_to_end before after after h.found h.are_frames h.takes h.last more (omega (arith, h.within, length-append (bytes_of h.found) h.last)) refl count h.ends)
 
 pub reply_up_to : (fault : SyncFault) (old new : WireView) (before after : OpsTaking) → HearsPartly fault old new before after → HeardUpTo fault old.left before after
 reply_up_to fault old new before after h = by_fault fault h.stops
   where
-    told : (end : ReplyEnd) → ((more : List ℕ) → new.left ≡ Some more → HearsTo ((single_frames h.ops ++ h.bytes) ++ more) before after end) → HeardTo old.left before after end
-    told end comes = shows (λ (bytes : List ℕ). HearsTo bytes before after end) (single_frames h.ops ++ h.bytes) new.left old.left h.hears.heard comes
+    told : (end : ReplyEnd) → ((more : List ℕ) → new.left ≡ Some more → HearsTo ((bytes_of h.found ++ h.bytes) ++ more) before after end) → HeardTo old.left before after end
+    told end comes = shows (λ (bytes : List ℕ). HearsTo bytes before after end) (bytes_of h.found ++ h.bytes) new.left old.left h.hears.heard comes
 
-    by_fault : (fault : SyncFault) → ReplyStopsFor fault old new h.middle after (length (single_frames h.ops)) h.bytes → HeardUpTo fault old.left before after
+    by_fault : (fault : SyncFault) → ReplyStopsFor fault old new h.middle after (length (bytes_of h.found)) h.bytes → HeardUpTo fault old.left before after
     by_fault WireFault s = tt
     by_fault NoMemory s = tt
     by_fault (RelayRefused code) s =
-        told (EndsRefused code) (λ more is. comes_to_refusal before h.middle after h.ops h.have_frames h.takes s.0 h.bytes more s.2 code s.1)
+        told (EndsRefused code) (λ more is. comes_to_refusal before h.middle after h.found h.are_frames h.takes h.bytes more s.2 s.0 code s.1)
     by_fault (TooMany most) s =
-        told EndsTooMany (λ more is. comes_to_many before h.middle after h.ops h.have_frames h.takes s.0 h.bytes more s.4 s.2 s.3 s.5)
+        told EndsTooMany (λ more is. comes_to_many before h.middle after h.found h.are_frames h.takes h.bytes more s.1 most s.0)
     by_fault (BadReply at) s =
-        told (Bad at) (λ more is. comes_to_none before h.middle after h.ops h.have_frames h.takes s.0 h.bytes more s.1.2 at s.1.0 s.1.1)
+        told (Bad at) (λ more is. comes_to_none before h.middle after h.found h.are_frames h.takes h.bytes more s.1.2 s.0 at s.1.0 s.1.1)
     by_fault (CutShort at) s = told (Cut at) (λ more is.
-        comes_to_cut before h.middle after h.ops h.have_frames h.takes s.0 h.bytes more s.1.3 at s.1.0 s.1.1 (some_is (λ (l : List ℕ). l ≡ []) new.left more s.1.2 is))
+        comes_to_cut before h.middle after h.found h.are_frames h.takes h.bytes more s.1.3 s.0 at s.1.0 s.1.1 (some_is (λ (l : List ℕ). l ≡ []) new.left more s.1.2 is))
     by_fault TooLong s =
-        told EndsTooLong (λ more is. comes_to_long before h.middle after h.ops h.have_frames h.takes s.0 h.bytes more s.1.0 s.1.1 s.1.2 s.1.3 s.1.4)
+        told EndsTooLong (λ more is. comes_to_long before h.middle after h.found h.are_frames h.takes s.0 h.bytes more s.1.0 s.1.1 s.1.2 s.1.3 s.1.4)
 
 pub reply_same : (bytes : List ℕ) (before after others : OpsTaking) (end other : ReplyEnd) → HearsTo bytes before after end → HearsTo bytes before others other
     → (after ≡ others) × (end ≡ other)
@@ -189,8 +216,7 @@ fault_is : (fault : SyncFault) (end : ReplyEnd) (old new : WireView) (middle aft
 fault_is WireFault end old new middle after place bytes is s = absurd (cc is)
 fault_is NoMemory end old new middle after place bytes is s = absurd (cc is)
 fault_is (RelayRefused code) end old new middle after place bytes is s = ap (sync_answer after) (same_end is)
-fault_is (TooMany most) end old new middle after place bytes is s =
-    ap (λ (n : ℕ). Err (TooMany n)) (s.1 ∙ ap (λ (t : OpsTaking). t.replica.most) (sym s.0)) ∙ ap (sync_answer after) (same_end is)
+fault_is (TooMany most) end old new middle after place bytes is s = ap (λ (n : ℕ). Err (TooMany n)) s.0.2 ∙ ap (sync_answer after) (same_end is)
 fault_is (BadReply at) end old new middle after place bytes is s = ap (sync_answer after) (same_end is)
 fault_is (CutShort at) end old new middle after place bytes is s = ap (sync_answer after) (same_end is)
 fault_is TooLong end old new middle after place bytes is s = ap (sync_answer after) (same_end is)
@@ -233,4 +259,4 @@ hears_exactly (Err fault) said old new before replica kept same ok err =
     let after : OpsTaking = record { replica = replica; counts = err.0; kept = kept } in
     let h : HearsPartly fault old new before after = err.1 in
     up_to_exactly said.left fault before after (up_to_behind fault said old new before after same h)
-    (λ end is. fault_is fault end old new h.middle after (length (single_frames h.ops)) h.bytes is h.stops) (decides fault)
+    (λ end is. fault_is fault end old new h.middle after (length (bytes_of h.found)) h.bytes is h.stops) (decides fault)

@@ -1,22 +1,21 @@
 -- Messages of a reply, as they are heard byte by byte.
 use Rattle.std.proofs.Common.{[], List, ap, append_assoc, arith, get_or, length, refl, subst, sym, ℕ, ◌++◌, ◌<◌, ◌≤◌, ◌∙◌, ◌∷◌, ◌≡◌, ◌≢◌}
-use Rattle.std.specs.Prelude.{is_some, IfErr, Ok, Err, Option, Result}
+use Rattle.std.specs.Prelude.{is_some, Err, Option, Result}
 use Rattle.std.specs.Int.{from_be_bytes, w32}
 use Rattle.std.specs.Io.KnownBytes.{prepend_known}
 use Rattle.std.proofs.lemmas.List.{append-nil}
 use Rattle.fugue_ids.specs.declared.op.Op.{Op}
 use Rattle.fugue_ids.specs.declared.op.Op.TheVariants.{Delete, Section, Text}
-use Rattle.origin_model.specs.declared.grammar.Grammar.TheVariants.{Version1}
-use Rattle.origin_model.specs.frames.Frames.{HasFrame, IsFrame, IsPartial, Single, frame}
+use Rattle.origin_model.specs.declared.grammar.Grammar.{Grammar}
+use Rattle.origin_model.specs.declared.grammar.Grammar.TheVariants.{Version2}
+use Rattle.origin_model.specs.frames.Frames.{IsPartial, Item, Single, Typed, frame, item_bytes}
 use Rattle.origin_model.specs.relay.Session.{refusal_message}
-use Rattle.origin_model.proofs.SharedLemmas.{single_of}
-use Rattle.op_frame.specs.FrameFronts.{IsFrameOf, IsGrown}
+use Rattle.op_frame.specs.FrameFronts.{IsGrown}
+use Rattle.op_frame.specs.declared.grown.Grown.{Grown}
 use Rattle.op_frame.specs.declared.grown.Grown.TheVariants.{Bad}
 use Rattle.op_frame.proofs.ToldLemmas.{prepend_none, prepend_twice}
 use Rattle.outer_ports.specs.wire.Wires.{WireReads, WireView}
-use Rattle.relay_sync.specs.Replies.{Hears, IsBroken, IsCode, IsMessage, IsMessageFront, Stops, StopsIn, ending}
-use Rattle.relay_sync.specs.declared.hearing.Message.{Message}
-use Rattle.relay_sync.specs.declared.hearing.Message.TheVariants.{End, Operation, Refusal}
+use Rattle.relay_sync.specs.Replies.{End, Hears, IsBroken, IsCode, IsMessage, IsMessageFront, Message, Operations, Refusal, Stops, StopsIn, ending}
 use Rattle.relay_sync.specs.declared.syncing.SyncFault.{SyncFault}
 use Rattle.relay_sync.specs.declared.syncing.SyncFault.TheVariants.{BadReply, CutShort, NoMemory, RelayRefused, TooLong, TooMany, WireFault}
 
@@ -37,7 +36,7 @@ stops_in WireFault u v w place bytes le room s = (s.0, omega (arith, le, s.1), �
 stops_in (BadReply at) u v w place bytes le room s = s
 stops_in (CutShort at) u v w place bytes le room s = s
 stops_in TooLong u v w place bytes le room s = s
-stops_in NoMemory u v w place bytes le room s = s
+stops_in NoMemory u v w place bytes le room s = absurd s
 stops_in (RelayRefused code) u v w place bytes le room s = s
 stops_in (TooMany most) u v w place bytes le room s = s
 
@@ -59,32 +58,29 @@ no_bytes = record { message = End (from_be_bytes w32 (0 ∷ 0 ∷ 0 ∷ 0 ∷ []
 pub refusal_front : IsMessageFront (0x58 ∷ [])
 refusal_front = record { message = Refusal 1; whole = refusal_message 1; is_message = ((omega arith, omega arith), refl); more = 1 ∷ []; lacks = omega arith; front = refl }
 
-pub frame_front : (bytes : List ℕ) → IsPartial Version1 bytes → IsMessageFront bytes
-frame_front bytes p = let single = single_of p.framed p.is_frame in record {
-  message = Operation single.op;
-  whole = p.framed.bytes;
-  is_message = (single.has_frame, single.bytes_are);
-  more = p.more;
-  lacks = p.lacks;
-  front = p.front;
-}
+pub frame_front : (bytes : List ℕ) → IsPartial Version2 bytes → IsMessageFront bytes
+frame_front bytes p = record { message = Operations p.framed.ops; whole = p.framed.bytes; is_message = p.is_frame; more = p.more; lacks = p.lacks; front = p.front }
 
 pub hears_none : (wire : WireView) → Hears wire wire []
 hears_none wire = record { heard = sym (prepend_none wire.left); said = refl; port = refl; room = refl; later = omega arith; calm = λ sure. refl }
 
 -- with which byte a message begins
 abbrev pub IsLead : Message → ℕ → Type 0
-IsLead (Operation op) x = x < 4
+IsLead (Operations ops) x = x < 5
 IsLead (End count) x = x ≡ 0x55
 IsLead (Refusal code) x = x ≡ 0x58
 
 pub leads : (message : Message) (whole behind : List ℕ) → IsMessage message whole → IsLead message (get_or (whole ++ behind) 0 0)
-leads (Operation op) whole behind is = subst (λ (w : List ℕ). get_or (w ++ behind) 0 0 < 4) (sym is.1) (by_op op)
+leads (Operations ops) whole behind is = subst (λ (w : List ℕ). get_or (w ++ behind) 0 0 < 5) (sym is.bytes_are) (by_item is.item)
   where
-    by_op : (op : Op) → get_or (frame op ++ behind) 0 0 < 4
+    by_op : (op : Op) → get_or (frame op ++ behind) 0 0 < 5
     by_op (Section id l r t) = omega arith
     by_op (Text id s l r ch) = omega arith
     by_op (Delete id) = omega arith
+
+    by_item : (item : Item) → get_or (item_bytes item ++ behind) 0 0 < 5
+    by_item (Single op) = by_op op
+    by_item (Typed run) = omega arith
 leads (End count) whole behind is = ap (λ (w : List ℕ). get_or (w ++ behind) 0 0) is.3
 leads (Refusal code) whole behind is = ap (λ (w : List ℕ). get_or (w ++ behind) 0 0) is.1
 
@@ -93,22 +89,24 @@ pub code_behind : (message : Message) (whole behind : List ℕ) (code : ℕ) (mo
 code_behind message whole behind code more is split = by_kind message is (subst (λ (l : List ℕ). IsLead message (get_or l 0 0)) (sym split) (leads message whole behind is))
   where
     by_kind : (message : Message) → IsMessage message whole → IsLead message 0x58 → IsCode code
-    by_kind (Operation op) is lead = absurd (omega (arith, lead))
+    by_kind (Operations ops) is lead = absurd (omega (arith, lead))
     by_kind (End count) is lead = absurd (omega (arith, lead))
     by_kind (Refusal other) is lead = subst IsCode (sym (ap (λ (l : List ℕ). get_or l 1 0) (split ∙ ap (λ (l : List ℕ). l ++ behind) is.1))) is.0
 
 pub other_is_frame : (message : Message) (whole behind : List ℕ) (x : ℕ) (xs : List ℕ) → x ≢ 0x55 → x ≢ 0x58 → IsMessage message whole → x ∷ xs ≡ whole ++ behind
-    → (op : Op) × HasFrame op × (whole ≡ frame op)
+    → (ops : List Op) × IsMessage (Operations ops) whole
 other_is_frame message whole behind x xs no_end no_refusal is split = by_kind message is (subst (λ (l : List ℕ). IsLead message (get_or l 0 0)) (sym split) (leads message whole behind is))
   where
-    by_kind : (message : Message) → IsMessage message whole → IsLead message x → (op : Op) × HasFrame op × (whole ≡ frame op)
-    by_kind (Operation op) is lead = (op, is)
+    by_kind : (message : Message) → IsMessage message whole → IsLead message x → (ops : List Op) × IsMessage (Operations ops) whole
+    by_kind (Operations ops) is lead = (ops, is)
     by_kind (End count) is lead = absurd (no_end lead)
     by_kind (Refusal code) is lead = absurd (no_refusal lead)
 
--- the message of an operation is a frame of it
-pub frame_message : (op : Op) (whole : List ℕ) → HasFrame op × (whole ≡ frame op) → IsFrame Version1 (record { bytes = whole; ops = op ∷ [] })
-frame_message op whole is = record { item = Single op; is_item = is.0; bytes_are = is.1; ops_are = refl }
+-- a message that begins with neither is the front of a frame
+pub other_is_partial : (x : ℕ) (xs : List ℕ) → x ≢ 0x55 → x ≢ 0x58 → IsMessageFront (x ∷ xs) → IsPartial Version2 (x ∷ xs)
+other_is_partial x xs no_end no_refusal p =
+    let f = other_is_frame p.message p.whole [] x (xs ++ p.more) no_end no_refusal p.is_message (sym p.front ∙ sym (append-nil p.whole)) in
+    record { framed = record { bytes = p.whole; ops = f.0 }; is_frame = f.1; more = p.more; lacks = p.lacks; front = p.front }
 
 -- a code out of range
 pub broken_code : (code : ℕ) → (IsCode code → ⊥) → IsBroken (0x58 ∷ code ∷ [])
@@ -121,27 +119,23 @@ broken_code code none = record {
   no_front = λ p. none (code_behind p.message p.whole [] code p.more p.is_message (sym p.front ∙ sym (append-nil p.whole)));
 }
 
--- a byte with which no frame begins or goes on
-pub broken_frame : (first byte : ℕ) (front bytes : List ℕ) → first ≢ 0x55 → first ≢ 0x58 → front ++ byte ∷ [] ≡ first ∷ bytes → IsMessageFront front → IsGrown Version1 Bad (front ++ byte ∷ [])
-    → IsBroken (first ∷ bytes)
-broken_frame first byte front bytes a b are was grown = record {
-  before = front;
-  byte = byte;
-  bytes_are = sym are;
-  was_front = was;
-  no_message = λ message is.
-      let f = other_is_frame message (first ∷ bytes) [] first bytes a b is (sym (append-nil (first ∷ bytes))) in
-      grown.0 (subst (IsFrameOf Version1) (sym are) (f.0 ∷ [], frame_message f.0 (first ∷ bytes) f.1));
-  no_front = λ p.
-      let f = other_is_frame p.message p.whole [] first (bytes ++ p.more) a b p.is_message (sym p.front ∙ sym (append-nil p.whole)) in
-      grown.1 (subst (IsPartial Version1) (sym are) (record { framed = record { bytes = p.whole; ops = f.0 ∷ [] }; is_frame = frame_message f.0 p.whole f.1; more = p.more; lacks = p.lacks; front = p.front }));
-}
+-- what the bytes are by the grammar of replies
+pub grown_in : (grown : Grown) (g : Grammar) (bytes : List ℕ) → g ≡ Version2 → IsGrown grown g bytes → IsGrown grown Version2 bytes
+grown_in grown g bytes same is = subst (λ (h : Grammar). IsGrown grown h bytes) same is
 
--- the same fault behind bytes that were heard, whatever the answer
-pub err_behind : {T : Type 0} (result : Result T SyncFault) (u v w : WireView) (place : ℕ) (before bytes : List ℕ) → Hears u v bytes
-    → IfErr result (λ fault. Stops fault v w place (before ++ bytes)) → IfErr result (λ fault. Stops fault u w place before)
-err_behind (Ok x) u v w place before bytes h s = tt
-err_behind (Err fault) u v w place before bytes h s = stops_behind fault u v w place before bytes h s
+-- a byte with which no frame begins or goes on
+pub broken_frame : (first byte : ℕ) (front bytes : List ℕ) → first ≢ 0x55 → first ≢ 0x58 → front ++ byte ∷ [] ≡ first ∷ bytes → IsMessageFront front → IsGrown Bad Version2 (front ++ byte ∷ [])
+    → IsBroken (first ∷ bytes)
+broken_frame first byte front bytes a b are was grown =
+    let none : IsGrown Bad Version2 (first ∷ bytes) = subst (IsGrown Bad Version2) are grown in
+    record {
+      before = front;
+      byte = byte;
+      bytes_are = sym are;
+      was_front = was;
+      no_message = λ message is. none.0 (other_is_frame message (first ∷ bytes) [] first bytes a b is (sym (append-nil (first ∷ bytes))));
+      no_front = λ p. none.1 (other_is_partial first bytes a b p);
+    }
 
 -- a read that failed
 pub read_fails : {E : Type 0} (result : Result ℕ E) (e : E) (u v : WireView) (buf : List ℕ) (place : ℕ) (before : List ℕ) → result ≡ Err e → WireReads {E = E} u v result buf

@@ -1,26 +1,26 @@
 -- What a reply comes to: exactly one end.
-use Rattle.std.proofs.Common.{[], List, ap, append_assoc, arith, get_or, inl, inr, length, length-append, refl, subst, sym, take, zero, suc, ℕ, ◌+◌, ◌++◌, ◌<◌, ◌≤◌, ◌∙◌, ◌∷◌, ◌≡◌, ◌≢◌, ◌⊎◌}
+use Rattle.std.proofs.Common.{[], List, ap, append_assoc, arith, get_or, inl, inr, length, length-append, refl, subst, sym, take, ℕ, ◌++◌, ◌<◌, ◌≤◌, ◌∙◌, ◌∷◌, ◌≡◌, ◌≢◌, ◌⊎◌}
 use Rattle.std.specs.Prelude.{All}
 use Rattle.std.specs.Int.{from_be_bytes, w32}
 use Rattle.std.proofs.lemmas.Bool.{cases_order}
-use Rattle.std.proofs.lemmas.List.{append-nil}
-use Rattle.std.proofs.lemmas.List.Elements.{All-cons, All-head, All-nil, All-tail}
+use Rattle.std.proofs.lemmas.List.{append-nil, take_all}
+use Rattle.std.proofs.lemmas.List.Elements.{All-head, All-tail}
 use Rattle.fugue_ids.specs.declared.limits.TheConstants.{STREAM_LIMIT}
 use Rattle.fugue_ids.specs.declared.op.Op.{Op}
-use Rattle.origin_model.specs.frames.Frames.{HasFrame, frame, single_frames}
+use Rattle.origin_model.specs.declared.grammar.Grammar.TheVariants.{Version2}
+use Rattle.origin_model.specs.frames.Frames.{End as StreamEnd, Whole as EndsWhole, CutShort as EndsCutShort, BadFrame as EndsInBadFrame, EndsSo, Framed, IsFrame, Reads}
 use Rattle.origin_model.specs.relay.Session.{refusal_message}
-use Rattle.origin_model.specs.taking.Taking.{Answer, HasPlace, Held, TooMany as AnswersTooMany, answer, answers_from, held_from, intake}
-use Rattle.origin_model.proofs.SharedLemmas.{Refused, no_place_left, places-append, places-none, single_of, taken_or_refused}
+use Rattle.origin_model.specs.taking.Taking.{HasPlace, Held}
+use Rattle.origin_model.proofs.SharedLemmas.{bytes_of, no_place_left, ops_of}
+use Rattle.op_frame.specs.Courses.{IntakeCourse, MeetsTooMany, Comes as StreamComes, Whole as StreamWhole, CutShort as StreamCut, BadFrame as StreamBad, TooLong as StreamLong, TooMany as StreamMany}
 use Rattle.op_frame.proofs.CodeLemmas.{same_fronts}
+use Rattle.op_frame.proofs.CourseLemmas.{comes_once, comes_some}
 use Rattle.op_frame.proofs.FrontLemmas.{Front, bad_there, front_of, front_there as part_there, frame_there}
-use Rattle.op_frame.proofs.OperationLemmas.{operation_code}
+use Rattle.op_frame.proofs.ReadingLemmas.{begins_not_partial, framed_some, same_front, starts_more}
 use Rattle.op_frame.proofs.SearchLemmas.{Decided, both_decided, decided_by, equal_decided, less_decided}
-use Rattle.op_frame.proofs.StreamLemmas.{frame_some}
-use Rattle.relay_sync.specs.Outcomes.{BeginsWith, IsNoMessage, EndsReply, ReplyComes, ReplyEnd, Ended, Refused as EndsRefused, Bad, Cut, TooLong, TooMany}
-use Rattle.relay_sync.specs.Replies.{IsCode, IsMessage, IsMessageFront, ending}
-use Rattle.relay_sync.specs.declared.hearing.Message.{Message}
-use Rattle.relay_sync.specs.declared.hearing.Message.TheVariants.{End, Operation, Refusal}
-use Rattle.relay_sync.proofs.HearingLemmas.{IsLead, code_behind, frame_front, frame_message, leads, no_bytes, number_front, other_is_frame, refusal_front}
+use Rattle.relay_sync.specs.Outcomes.{BeginsWith, IsNoMessage, EndsReply, EndsTaking, ReadsReply, ReplyComes, ReplyEnd, Ended, Refused as EndsRefused, Bad, Cut, TooLong, TooMany}
+use Rattle.relay_sync.specs.Replies.{End, IsCode, IsMessage, IsMessageFront, Message, Operations, Refusal, ending}
+use Rattle.relay_sync.proofs.HearingLemmas.{IsLead, code_behind, frame_front, leads, no_bytes, number_front, other_is_frame, other_is_partial, refusal_front}
 
 -- at one place stands one message
 record SameMessage (m n : Message) (r s : List ℕ) : Type 0 where
@@ -31,10 +31,9 @@ same_message : (m n : Message) (a b r s : List ℕ) → IsMessage m a → IsMess
 same_message m n a b r s p q is = by_kind m n p q (leads m a r p) (subst (λ (l : List ℕ). IsLead n (get_or l 0 0)) (sym is) (leads n b s q))
   where
     by_kind : (m n : Message) → IsMessage m a → IsMessage n b → IsLead m (get_or (a ++ r) 0 0) → IsLead n (get_or (a ++ r) 0 0) → SameMessage m n r s
-    by_kind (Operation op) (Operation other) p q f g =
-        let whole : frame op ++ r ≡ frame other ++ s = ap (λ (l : List ℕ). l ++ r) (sym p.1) ∙ is ∙ ap (λ (l : List ℕ). l ++ s) q.1 in
-        let same = operation_code.once op other r s p.0 q.0 whole in
-        record { message = ap Operation same.0; behind = same.1 }
+    by_kind (Operations ops) (Operations others) p q f g =
+        let same = same_front Version2 (record { bytes = a; ops = ops }) (record { bytes = b; ops = others }) r s p q is in
+        record { message = ap Operations same.ops; behind = same.rest }
     by_kind (End count) (End number) p q f g =
         let whole : ending ∷ (p.0 ++ r) ≡ ending ∷ (q.0 ++ s) = ap (λ (l : List ℕ). l ++ r) (sym p.3) ∙ is ∙ ap (λ (l : List ℕ). l ++ s) q.3 in
         let tails : p.0 ++ r ≡ q.0 ++ s = cc whole in
@@ -45,11 +44,11 @@ same_message m n a b r s p q is = by_kind m n p q (leads m a r p) (subst (λ (l 
         let one : code ≡ other = cc whole in
         let rest : r ≡ s = cc whole in
         record { message = ap Refusal one; behind = rest }
-    by_kind (Operation op) (End number) p q f g = absurd (omega (arith, f, g))
-    by_kind (Operation op) (Refusal other) p q f g = absurd (omega (arith, f, g))
-    by_kind (End count) (Operation other) p q f g = absurd (omega (arith, f, g))
+    by_kind (Operations ops) (End number) p q f g = absurd (omega (arith, f, g))
+    by_kind (Operations ops) (Refusal other) p q f g = absurd (omega (arith, f, g))
+    by_kind (End count) (Operations others) p q f g = absurd (omega (arith, f, g))
     by_kind (End count) (Refusal other) p q f g = absurd (omega (arith, f, g))
-    by_kind (Refusal code) (Operation other) p q f g = absurd (omega (arith, f, g))
+    by_kind (Refusal code) (Operations others) p q f g = absurd (omega (arith, f, g))
     by_kind (Refusal code) (End number) p q f g = absurd (omega (arith, f, g))
 
 begins_once : (m n : Message) (bytes : List ℕ) → BeginsWith m bytes → BeginsWith n bytes → m ≡ n
@@ -89,23 +88,17 @@ refusal_stand (code ∷ more) = by_code (decided_by (both_decided (less_decided 
     })
 
 frame_stand : (x : ℕ) (xs : List ℕ) → x ≢ 0x55 → x ≢ 0x58 → Stand (x ∷ xs)
-frame_stand x xs no_end no_refusal = by_front (front_of (x ∷ xs))
+frame_stand x xs no_end no_refusal = by_front (front_of Version2 (x ∷ xs))
   where
-    by_front : Front (x ∷ xs) → Stand (x ∷ xs)
-    by_front (frame_there framed rest begins) = let single = single_of framed begins.is_frame in message_there (Operation single.op) (record {
-      whole = framed.bytes;
-      is_message = (single.has_frame, single.bytes_are);
-      behind = rest;
-      split = begins.split;
-    })
+    by_front : Front Version2 (x ∷ xs) → Stand (x ∷ xs)
+    by_front (frame_there framed rest begins) =
+        message_there (Operations framed.ops) (record { whole = framed.bytes; is_message = begins.is_frame; behind = rest; split = begins.split })
     by_front (part_there partial) = front_there (frame_front (x ∷ xs) partial)
     by_front (bad_there bad) = none_there (record {
       none_begins = λ message p.
           let f = other_is_frame message p.whole p.behind x xs no_end no_refusal p.is_message p.split in
-          bad.no_frame (record { bytes = p.whole; ops = f.0 ∷ [] }) p.behind (record { is_frame = frame_message f.0 p.whole f.1; split = p.split });
-      no_front = λ p.
-          let f = other_is_frame p.message p.whole [] x (xs ++ p.more) no_end no_refusal p.is_message (sym p.front ∙ sym (append-nil p.whole)) in
-          bad.no_front (record { framed = record { bytes = p.whole; ops = f.0 ∷ [] }; is_frame = frame_message f.0 p.whole f.1; more = p.more; lacks = p.lacks; front = p.front });
+          bad.no_frame (record { bytes = p.whole; ops = f.0 }) p.behind (record { is_frame = f.1; split = p.split });
+      no_front = λ p. bad.no_front (other_is_partial x xs no_end no_refusal p);
     })
 
 pub stand_of : (bytes : List ℕ) → Stand bytes
@@ -119,7 +112,7 @@ stand_of (x ∷ xs) = by_first (equal_decided x 0x55) (equal_decided x 0x58)
 
 -- the end that a message brings which is not taken in
 abbrev end_at : Message → ReplyEnd
-end_at (Operation op) = TooMany
+end_at (Operations ops) = TooMany
 end_at (End count) = Ended count
 end_at (Refusal code) = EndsRefused code
 
@@ -136,174 +129,186 @@ end_by place fits (none_there p) = Bad place
 fits_or_not : (size limit : ℕ) → (size ≤ limit) ⊎ (limit < size)
 fits_or_not size limit = elim (cases_order size limit) [ inl same ↦ inl (omega (arith, same)) | inr (inl less) ↦ inl (omega (arith, less)) | inr (inr more) ↦ inr more ]
 
-module _ (hold most : ℕ) where
-  module _ (now : Held) (size place : ℕ) (rest : List ℕ) where
-    by_message : (message : Message) (fits : (size ≤ STREAM_LIMIT) ⊎ (STREAM_LIMIT < size)) (stand : Stand rest) → BeginsWith message rest → end_at message ≡ end_by place fits stand
-    by_message message fits (message_there other q) p = ap end_at (begins_once message other rest p q)
-    by_message message fits (front_there q) p = absurd (begins_no_front message rest p q)
-    by_message message fits (none_there q) p = absurd (q.none_begins message p)
+module _ (size place : ℕ) (rest : List ℕ) where
+  by_message : (message : Message) (fits : (size ≤ STREAM_LIMIT) ⊎ (STREAM_LIMIT < size)) (stand : Stand rest) → BeginsWith message rest → end_at message ≡ end_by place fits stand
+  by_message message fits (message_there other q) p = ap end_at (begins_once message other rest p q)
+  by_message message fits (front_there q) p = absurd (begins_no_front message rest p q)
+  by_message message fits (none_there q) p = absurd (q.none_begins message p)
 
-    by_rest : (fits : (size ≤ STREAM_LIMIT) ⊎ (STREAM_LIMIT < size)) (stand : Stand rest) → IsMessageFront rest → front_end place fits ≡ end_by place fits stand
-    by_rest fits (message_there other q) p = absurd (begins_no_front other rest q p)
-    by_rest fits (front_there q) p = refl
-    by_rest fits (none_there q) p = absurd (q.no_front p)
+  by_rest : (fits : (size ≤ STREAM_LIMIT) ⊎ (STREAM_LIMIT < size)) (stand : Stand rest) → IsMessageFront rest → front_end place fits ≡ end_by place fits stand
+  by_rest fits (message_there other q) p = absurd (begins_no_front other rest q p)
+  by_rest fits (front_there q) p = refl
+  by_rest fits (none_there q) p = absurd (q.no_front p)
 
-    by_none : (fits : (size ≤ STREAM_LIMIT) ⊎ (STREAM_LIMIT < size)) (stand : Stand rest) → IsNoMessage rest → Bad place ≡ end_by place fits stand
-    by_none fits (message_there other q) p = absurd (p.none_begins other q)
-    by_none fits (front_there q) p = absurd (p.no_front q)
-    by_none fits (none_there q) p = refl
+  by_none : (fits : (size ≤ STREAM_LIMIT) ⊎ (STREAM_LIMIT < size)) (stand : Stand rest) → IsNoMessage rest → Bad place ≡ end_by place fits stand
+  by_none fits (message_there other q) p = absurd (p.none_begins other q)
+  by_none fits (front_there q) p = absurd (p.no_front q)
+  by_none fits (none_there q) p = refl
 
-    is_cut : (at : ℕ) (fits : (size ≤ STREAM_LIMIT) ⊎ (STREAM_LIMIT < size)) → at ≡ place → size ≤ STREAM_LIMIT → Cut at ≡ front_end place fits
-    is_cut at (inl fits) is short = ap Cut is
-    is_cut at (inr longer) is short = absurd (omega (arith, longer, short))
+  is_cut : (at : ℕ) (fits : (size ≤ STREAM_LIMIT) ⊎ (STREAM_LIMIT < size)) → at ≡ place → size ≤ STREAM_LIMIT → Cut at ≡ front_end place fits
+  is_cut at (inl fits) is short = ap Cut is
+  is_cut at (inr longer) is short = absurd (omega (arith, longer, short))
 
-    is_long : (fits : (size ≤ STREAM_LIMIT) ⊎ (STREAM_LIMIT < size)) → STREAM_LIMIT < size → TooLong ≡ front_end place fits
-    is_long (inl fits) long = absurd (omega (arith, fits, long))
-    is_long (inr longer) long = refl
+  is_long : (fits : (size ≤ STREAM_LIMIT) ⊎ (STREAM_LIMIT < size)) → STREAM_LIMIT < size → TooLong ≡ front_end place fits
+  is_long (inl fits) long = absurd (omega (arith, fits, long))
+  is_long (inr longer) long = refl
 
-    -- what stands behind the operations tells the end
-    end_is : (end : ReplyEnd) (fits : (size ≤ STREAM_LIMIT) ⊎ (STREAM_LIMIT < size)) (stand : Stand rest) → EndsReply hold most now size place rest end → end ≡ end_by place fits stand
-    end_is (Ended count) fits stand e = by_message (End count) fits stand e
-    end_is (EndsRefused code) fits stand e = by_message (Refusal code) fits stand e
-    end_is (Bad at) fits stand e = ap Bad e.0 ∙ by_none fits stand e.1
-    end_is (Cut at) fits stand e = is_cut at fits e.0 e.1 ∙ by_rest fits stand e.2
-    end_is TooLong fits stand e = is_long fits e.0 ∙ by_rest fits stand e.1
-    end_is TooMany fits stand e = by_message (Operation e.0) fits stand e.1
+  -- what stands behind the frames tells the end
+  end_is : (end : ReplyEnd) (fits : (size ≤ STREAM_LIMIT) ⊎ (STREAM_LIMIT < size)) (stand : Stand rest) → EndsReply size place rest end → end ≡ end_by place fits stand
+  end_is (Ended count) fits stand e = by_message (End count) fits stand e
+  end_is (EndsRefused code) fits stand e = by_message (Refusal code) fits stand e
+  end_is (Bad at) fits stand e = ap Bad e.0 ∙ by_none fits stand e.1
+  end_is (Cut at) fits stand e = is_cut at fits e.0 e.1 ∙ by_rest fits stand e.2
+  end_is TooLong fits stand e = is_long fits e.0 ∙ by_rest fits stand e.1
+  end_is TooMany fits stand e = absurd e
 
-    -- an operation that finds a place ends nothing
-    not_ended : (end : ReplyEnd) (op : Op) → EndsReply hold most now size place rest end → BeginsWith (Operation op) rest → answer hold most now op ≢ AnswersTooMany → ⊥
-    not_ended (Ended count) op e p has =
-        let same : End count ≡ Operation op = begins_once (End count) (Operation op) rest e p in
-        cc same
-    not_ended (EndsRefused code) op e p has =
-        let same : Refusal code ≡ Operation op = begins_once (Refusal code) (Operation op) rest e p in
-        cc same
-    not_ended (Bad at) op e p has = e.1.none_begins (Operation op) p
-    not_ended (Cut at) op e p has = begins_no_front (Operation op) rest p e.2
-    not_ended TooLong op e p has = begins_no_front (Operation op) rest p e.1
-    not_ended TooMany op e p has =
-        let same : Operation e.0 ≡ Operation op = begins_once (Operation e.0) (Operation op) rest e.1 p in
-        let one : e.0 ≡ op = cc same in
-        has (ap (answer hold most now) (sym one) ∙ e.2)
+  -- a frame ends nothing
+  not_ended : (end : ReplyEnd) (ops : List Op) → EndsReply size place rest end → BeginsWith (Operations ops) rest → ⊥
+  not_ended (Ended count) ops e p =
+      let same : End count ≡ Operations ops = begins_once (End count) (Operations ops) rest e p in
+      cc same
+  not_ended (EndsRefused code) ops e p =
+      let same : Refusal code ≡ Operations ops = begins_once (Refusal code) (Operations ops) rest e p in
+      cc same
+  not_ended (Bad at) ops e p = e.1.none_begins (Operations ops) p
+  not_ended (Cut at) ops e p = begins_no_front (Operations ops) rest p e.2
+  not_ended TooLong ops e p = begins_no_front (Operations ops) rest p e.1
+  not_ended TooMany ops e p = e
 
-  places-tail : (start : Held) (op : Op) (ops : List Op) → HasPlace hold most start (op ∷ ops) → HasPlace hold most (intake hold most start op) ops
-  places-tail start op ops places = All-tail (λ (x : Answer). x ≢ AnswersTooMany) (answer hold most start op) (answers_from hold most (intake hold most start op) ops) places
+-- the first of some frames is the message that stands there
+first_there : (f : Framed) (fs : List Framed) (b rest : List ℕ) → All (IsFrame Version2) (f ∷ fs) → b ≡ bytes_of (f ∷ fs) ++ rest → BeginsWith (Operations f.ops) b
+first_there f fs b rest are is = record {
+  whole = f.bytes;
+  is_message = All-head (IsFrame Version2) f fs are;
+  behind = bytes_of fs ++ rest;
+  split = is ∙ append_assoc f.bytes (bytes_of fs) rest;
+}
 
-  first_there : (op : Op) (ops : List Op) (rest : List ℕ) → HasFrame op → BeginsWith (Operation op) (single_frames (op ∷ ops) ++ rest)
-  first_there op ops rest has = record { whole = frame op; is_message = (has, refl); behind = single_frames ops ++ rest; split = append_assoc (frame op) (single_frames ops) rest }
+-- two lists of frames at the front of the same bytes
+record SameFrames (fs hs : List Framed) (r s : List ℕ) : Type 0 where
+  bytes : bytes_of fs ≡ bytes_of hs
+  ops : ops_of fs ≡ ops_of hs
+  rest : r ≡ s
 
-  -- the operations up to an end are the same
-  same_ops : (start : Held) (size p q : ℕ) (ops others : List Op) (r s : List ℕ) (end other : ReplyEnd) → All HasFrame ops → All HasFrame others
-      → HasPlace hold most start ops → HasPlace hold most start others
-      → EndsReply hold most (held_from hold most start ops) size p r end → EndsReply hold most (held_from hold most start others) size q s other
-      → single_frames ops ++ r ≡ single_frames others ++ s → (ops ≡ others) × (r ≡ s)
-  same_ops start size p q [] [] r s end other have too places fit e f is = (refl, is)
-  same_ops start size p q [] (o ∷ others) r s end other have too places fit e f is =
-      absurd (not_ended start size p r end o e (subst (BeginsWith (Operation o)) (sym is) (first_there o others s (All-head HasFrame o others too)))
-      (no_place_left hold most start [] others o fit))
-  same_ops start size p q (o ∷ ops) [] r s end other have too places fit e f is =
-      absurd (not_ended start size q s other o f (subst (BeginsWith (Operation o)) is (first_there o ops r (All-head HasFrame o ops have)))
-      (no_place_left hold most start [] ops o places))
-  same_ops start size p q (o ∷ ops) (u ∷ others) r s end other have too places fit e f is =
-      let both = operation_code.once o u (single_frames ops ++ r) (single_frames others ++ s) (All-head HasFrame o ops have) (All-head HasFrame u others too)
-      (sym (append_assoc (frame o) (single_frames ops) r) ∙ is ∙ append_assoc (frame u) (single_frames others) s) in
-      let behind = same_ops (intake hold most start o) size p q ops others r s end other (All-tail HasFrame o ops have) (All-tail HasFrame u others too)
-      (places-tail start o ops places) (subst (λ (x : Op). HasPlace hold most (intake hold most start x) others) (sym both.0) (places-tail start u others fit))
-      e (subst (λ (x : Op). EndsReply hold most (held_from hold most (intake hold most start x) others) size q s other) (sym both.0) f) both.1 in
-      ((λ i. both.0 i ∷ behind.0 i), behind.1)
+module _ (size : ℕ) (r s : List ℕ) where
+  -- each goes up to an end
+  same_frames : (fs hs : List Framed) (p q : ℕ) (end other : ReplyEnd) → All (IsFrame Version2) fs → All (IsFrame Version2) hs → EndsReply size p r end → EndsReply size q s other
+      → bytes_of fs ++ r ≡ bytes_of hs ++ s → SameFrames fs hs r s
+  same_frames [] [] p q end other are too e f is = record { bytes = refl; ops = refl; rest = is }
+  same_frames [] (h ∷ hs) p q end other are too e f is = absurd (not_ended size p r end h.ops e (first_there h hs r s too is))
+  same_frames (g ∷ fs) [] p q end other are too e f is = absurd (not_ended size q s other g.ops f (first_there g fs s r are (sym is)))
+  same_frames (g ∷ fs) (h ∷ hs) p q end other are too e f is =
+      let one = same_front Version2 g h (bytes_of fs ++ r) (bytes_of hs ++ s) (All-head (IsFrame Version2) g fs are) (All-head (IsFrame Version2) h hs too)
+      (sym (append_assoc g.bytes (bytes_of fs) r) ∙ is ∙ append_assoc h.bytes (bytes_of hs) s) in
+      let behind = same_frames fs hs p q end other (All-tail (IsFrame Version2) g fs are) (All-tail (IsFrame Version2) h hs too) e f one.rest in
+      record { bytes = λ i. one.bytes i ++ behind.bytes i; ops = λ i. one.ops i ++ behind.ops i; rest = behind.rest }
+
+  -- one goes up to an end: it has the operations of the other, and further ones
+  first_frames : (fs hs : List Framed) (q : ℕ) (other : ReplyEnd) → All (IsFrame Version2) fs → All (IsFrame Version2) hs → EndsReply size q s other → bytes_of fs ++ r ≡ bytes_of hs ++ s
+      → (more : List Op) × (ops_of hs ≡ ops_of fs ++ more)
+  first_frames [] hs q other are too f is = (ops_of hs, refl)
+  first_frames (g ∷ fs) [] q other are too f is = absurd (not_ended size q s other g.ops f (first_there g fs s r are (sym is)))
+  first_frames (g ∷ fs) (h ∷ hs) q other are too f is =
+      let one = same_front Version2 g h (bytes_of fs ++ r) (bytes_of hs ++ s) (All-head (IsFrame Version2) g fs are) (All-head (IsFrame Version2) h hs too)
+      (sym (append_assoc g.bytes (bytes_of fs) r) ∙ is ∙ append_assoc h.bytes (bytes_of hs) s) in
+      let behind = first_frames fs hs q other (All-tail (IsFrame Version2) g fs are) (All-tail (IsFrame Version2) h hs too) f one.rest in
+      (behind.0, (λ i. sym one.ops i ++ behind.1 i) ∙ sym (append_assoc g.ops (ops_of fs) behind.0))
+
+-- a reply is read in one way
+reads_once : (bytes : List ℕ) (ops others : List Op) (end other : ReplyEnd) → ReadsReply bytes ops end → ReadsReply bytes others other → (ops ≡ others) × (end ≡ other)
+reads_once bytes ops others end other p q =
+    let size : ℕ = length bytes in
+    let same = same_frames size p.rest q.rest p.found q.found (length (bytes_of p.found)) (length (bytes_of q.found)) end other p.are_frames q.are_frames p.ends q.ends (sym p.split ∙ q.split) in
+    let moved = subst (λ (n : ℕ). EndsReply size n q.rest end) (ap length same.bytes) (subst (λ (l : List ℕ). EndsReply size (length (bytes_of p.found)) l end) same.rest p.ends) in
+    let fits = fits_or_not size STREAM_LIMIT in
+    let stand = stand_of q.rest in
+    (p.ops_are ∙ same.ops ∙ sym q.ops_are, end_is size (length (bytes_of q.found)) q.rest end fits stand moved ∙ sym (end_is size (length (bytes_of q.found)) q.rest other fits stand q.ends))
+
+module _ (hold most : ℕ) (start : Held) (bytes : List ℕ) where
+  -- what is read to an end comes to it, if all finds its place
+  pub by_reading : (ops : List Op) (end : ReplyEnd) → ReadsReply bytes ops end → EndsTaking hold most start bytes ops end
+  by_reading ops (Ended count) r = r
+  by_reading ops (EndsRefused code) r = r
+  by_reading ops (Bad at) r = r
+  by_reading ops (Cut at) r = r
+  by_reading ops TooLong r = r
+  by_reading ops TooMany r = absurd r.ends
+
+  read_or_met : (ops : List Op) (end : ReplyEnd) → EndsTaking hold most start bytes ops end
+      → ReadsReply bytes ops end ⊎ ((end ≡ TooMany) × MeetsTooMany Version2 hold most start (take STREAM_LIMIT bytes) ops)
+  read_or_met ops (Ended count) e = inl e
+  read_or_met ops (EndsRefused code) e = inl e
+  read_or_met ops (Bad at) e = inl e
+  read_or_met ops (Cut at) e = inl e
+  read_or_met ops TooLong e = inl e
+  read_or_met ops TooMany e = inr (refl, e)
+
+  -- where all finds its place, no operation is one too many
+  not_both : (ops others : List Op) (end : ReplyEnd) → HasPlace hold most start ops → ReadsReply bytes ops end → MeetsTooMany Version2 hold most start (take STREAM_LIMIT bytes) others → ⊥
+  not_both ops others end places q m =
+      let s = starts_more Version2 (take STREAM_LIMIT bytes) m.earlier m.rest m.framed m.behind m.starts m.begins in
+      let first = first_frames (length bytes) m.behind q.rest s.found q.found (length (bytes_of q.found)) end s.are_frames q.are_frames q.ends (sym s.split ∙ q.split) in
+      let all : ops ≡ others ++ m.op ∷ (m.more ++ first.0) =
+      q.ops_are ∙ first.1 ∙ ap (λ (l : List Op). l ++ first.0) (sym s.ops_are ∙ ap (λ (l : List Op). m.earlier ++ l) m.brings) ∙ regroup m.earlier m.front m.op m.more first.0
+      ∙ ap (λ (l : List Op). l ++ m.op ∷ (m.more ++ first.0)) (sym m.taken) in
+      no_place_left hold most start others (m.more ++ first.0) m.op (subst (HasPlace hold most start) all places) m.refused
+    where
+      regroup : (a b : List Op) (x : Op) (c d : List Op) → (a ++ (b ++ x ∷ c)) ++ d ≡ (a ++ b) ++ x ∷ (c ++ d)
+      regroup a b x c d = simp append_assoc
 
   -- a reply comes to one end
-  pub reply_comes_once : (start : Held) (bytes : List ℕ) (ops others : List Op) (end other : ReplyEnd) → ReplyComes hold most start bytes ops end
-      → ReplyComes hold most start bytes others other → (ops ≡ others) × (end ≡ other)
-  reply_comes_once start bytes ops others end other p q =
-      let same = same_ops start (length bytes) (length (single_frames ops)) (length (single_frames others)) ops others p.rest q.rest end other p.have_frames q.have_frames p.has_place q.has_place
-      p.ends q.ends (sym p.split ∙ q.split) in
-      let fits = fits_or_not (length bytes) STREAM_LIMIT in
-      let stand = stand_of q.rest in
-      let moved = subst (λ (x : List Op). EndsReply hold most (held_from hold most start x) (length bytes) (length (single_frames x)) q.rest end) same.0
-      (subst (λ (x : List ℕ). EndsReply hold most (held_from hold most start ops) (length bytes) (length (single_frames ops)) x end) same.1 p.ends) in (
-        same.0,
-        end_is (held_from hold most start others) (length bytes) (length (single_frames others)) q.rest end fits stand moved
-            ∙ sym (end_is (held_from hold most start others) (length bytes) (length (single_frames others)) q.rest other fits stand q.ends),
-      )
+  pub reply_comes_once : (ops others : List Op) (end other : ReplyEnd) → ReplyComes hold most start bytes ops end → ReplyComes hold most start bytes others other → (ops ≡ others) × (end ≡ other)
+  reply_comes_once ops others end other p q = both (read_or_met ops end p.ends) (read_or_met others other q.ends)
+    where
+      both : ReadsReply bytes ops end ⊎ ((end ≡ TooMany) × MeetsTooMany Version2 hold most start (take STREAM_LIMIT bytes) ops)
+          → ReadsReply bytes others other ⊎ ((other ≡ TooMany) × MeetsTooMany Version2 hold most start (take STREAM_LIMIT bytes) others) → (ops ≡ others) × (end ≡ other)
+      both (inl a) (inl b) = reads_once bytes ops others end other a b
+      both (inl a) (inr b) = absurd (not_both ops others end p.has_place a b.1)
+      both (inr a) (inl b) = absurd (not_both others ops other q.has_place b a.1)
+      both (inr a) (inr b) =
+          let same = comes_once Version2 hold most start STREAM_LIMIT bytes ops others StreamMany StreamMany (record { has_place = p.has_place; ends = a.1 }) (record { has_place = q.has_place; ends = b.1 }) in
+          (same.0, a.0 ∙ sym b.0)
 
-  -- operations up to an end, from a place on
-  record EndsBehind (start : Held) (size place : ℕ) (bytes : List ℕ) : Type 0 where
-    ops : List Op
-    have_frames : All HasFrame ops
-    has_place : HasPlace hold most start ops
-    rest : List ℕ
-    split : bytes ≡ single_frames ops ++ rest
-    end : ReplyEnd
-    ends : EndsReply hold most (held_from hold most start ops) size (place + length (single_frames ops)) rest end
+  -- no frame stands where a stream of frames ends
+  no_frame_at : (rest : List ℕ) (place : ℕ) (end : StreamEnd) (ops : List Op) → EndsSo Version2 rest place end → BeginsWith (Operations ops) rest → ⊥
+  no_frame_at rest place EndsWhole ops ends p =
+      omega (arith, framed_some Version2 (record { bytes = p.whole; ops = ops }) p.is_message, ap length (sym ends ∙ p.split), length-append p.whole p.behind)
+  no_frame_at rest place (EndsCutShort k) ops ends p =
+      begins_not_partial Version2 rest (record { bytes = p.whole; ops = ops }) p.behind (record { is_frame = p.is_message; split = p.split }) ends.2
+  no_frame_at rest place (EndsInBadFrame k) ops ends p = ends.1.no_frame (record { bytes = p.whole; ops = ops }) p.behind (record { is_frame = p.is_message; split = p.split })
 
-  ends_here : (start : Held) (size place : ℕ) (bytes : List ℕ) (end : ReplyEnd) → EndsReply hold most start size place bytes end → EndsBehind start size place bytes
-  ends_here start size place bytes end ends = record {
-    ops = [];
-    have_frames = All-nil HasFrame;
-    has_place = places-none hold most start;
-    rest = bytes;
-    split = refl;
-    end = end;
-    ends = subst (λ (n : ℕ). EndsReply hold most start size n bytes end) (omega arith) ends;
-  }
+  -- the frames of a reply, and the rest behind them
+  reading : (ops : List Op) (end : StreamEnd) → Reads Version2 (take STREAM_LIMIT bytes) ops end → (other : ReplyEnd) × ReadsReply bytes ops other
+  reading ops end r = by_stand (stand_of r.rest) (fits_or_not (length bytes) STREAM_LIMIT)
+    where
+      place : ℕ
+      place = length (bytes_of r.found)
 
-  ends_later : (start : Held) (size place : ℕ) (bytes behind : List ℕ) (op : Op) → HasFrame op → HasPlace hold most start (op ∷ []) → bytes ≡ frame op ++ behind
-      → EndsBehind (intake hold most start op) size (place + length (frame op)) behind → EndsBehind start size place bytes
-  ends_later start size place bytes behind op has places split e = record {
-    ops = op ∷ e.ops;
-    have_frames = All-cons HasFrame op e.ops has e.have_frames;
-    has_place = places-append hold most start (op ∷ []) e.ops places e.has_place;
-    rest = e.rest;
-    split = split ∙ ap (λ (l : List ℕ). frame op ++ l) e.split ∙ sym (append_assoc (frame op) (single_frames e.ops) e.rest);
-    end = e.end;
-    ends = subst (λ (n : ℕ). EndsReply hold most (held_from hold most (intake hold most start op) e.ops) size n e.rest e.end) (omega (arith, length-append (frame op) (single_frames e.ops))) e.ends;
-  }
+      ended : (other : ReplyEnd) → EndsReply (length bytes) place r.rest other → (other : ReplyEnd) × ReadsReply bytes ops other
+      ended other e = (other, record { found = r.found; are_frames = r.are_frames; ops_are = r.ops_are; rest = r.rest; split = r.split; ends = e })
 
-  refused_one : (start : Held) (op other : Op) (front more : List Op) → op ∷ [] ≡ front ++ other ∷ more → answer hold most (held_from hold most start front) other ≡ AnswersTooMany
-      → answer hold most start op ≡ AnswersTooMany
-  refused_one start op other [] more is refused =
-      let one : op ≡ other = cc is in
-      ap (answer hold most start) one ∙ refused
-  refused_one start op other (x ∷ front) more is refused = absurd (omega (arith, ap length is, length-append front (other ∷ more)))
+      by_stand : Stand r.rest → (length bytes ≤ STREAM_LIMIT) ⊎ (STREAM_LIMIT < length bytes) → (other : ReplyEnd) × ReadsReply bytes ops other
+      by_stand (front_there p) (inl short) = ended (Cut place) (refl, short, p)
+      by_stand (front_there p) (inr longer) = ended TooLong (longer, p)
+      by_stand (none_there p) fits = ended (Bad place) (refl, p)
+      by_stand (message_there (End count) p) fits = ended (Ended count) p
+      by_stand (message_there (Refusal code) p) fits = ended (EndsRefused code) p
+      by_stand (message_there (Operations brought) p) fits = absurd (no_frame_at r.rest place end brought r.ends p)
 
-  module _ (start : Held) (size place : ℕ) (bytes : List ℕ) (later : (op : Op) (behind : List ℕ) → length behind < length bytes → EndsBehind (intake hold most start op) size (place + length (frame op)) behind) where
-    behind_one : (op : Op) → BeginsWith (Operation op) bytes → HasPlace hold most start (op ∷ []) → EndsBehind start size place bytes
-    behind_one op p places =
-        let whole : p.whole ≡ frame op = p.is_message.1 in
-        ends_later start size place bytes p.behind op p.is_message.0 places (p.split ∙ ap (λ (l : List ℕ). l ++ p.behind) whole)
-        (later op p.behind (omega (arith, ap length p.split, length-append p.whole p.behind, ap length whole, frame_some op)))
-
-    by_place : (op : Op) → BeginsWith (Operation op) bytes → HasPlace hold most start (op ∷ []) ⊎ Refused hold most start (op ∷ []) → EndsBehind start size place bytes
-    by_place op p (inl places) = behind_one op p places
-    by_place op p (inr r) = ends_here start size place bytes TooMany (op, p, refused_one start op r.op r.front r.more r.is r.refused)
-
-    by_stand : Stand bytes → (size ≤ STREAM_LIMIT) ⊎ (STREAM_LIMIT < size) → EndsBehind start size place bytes
-    by_stand (front_there p) (inl short) = ends_here start size place bytes (Cut place) (refl, short, p)
-    by_stand (front_there p) (inr longer) = ends_here start size place bytes TooLong (longer, p)
-    by_stand (none_there p) limit = ends_here start size place bytes (Bad place) (refl, p)
-    by_stand (message_there (End count) p) limit = ends_here start size place bytes (Ended count) p
-    by_stand (message_there (Refusal code) p) limit = ends_here start size place bytes (EndsRefused code) p
-    by_stand (message_there (Operation op) p) limit = by_place op p (taken_or_refused hold most start (op ∷ []))
-
-  ends_from : (fuel : ℕ) (start : Held) (size place : ℕ) (bytes : List ℕ) → length bytes ≤ fuel → EndsBehind start size place bytes
-  ends_from zero start size place bytes fits =
-      by_stand start size place bytes (λ op behind less. absurd (omega (arith, less, fits))) (stand_of bytes) (fits_or_not size STREAM_LIMIT)
-  ends_from (suc fuel) start size place bytes fits =
-      by_stand start size place bytes (λ op behind less. ends_from fuel (intake hold most start op) size (place + length (frame op)) behind (omega (arith, less, fits)))
-      (stand_of bytes) (fits_or_not size STREAM_LIMIT)
+  plainly : (ops : List Op) (end : StreamEnd) → HasPlace hold most start ops → Reads Version2 (take STREAM_LIMIT bytes) ops end
+      → (ops : List Op) × (end : ReplyEnd) × ReplyComes hold most start bytes ops end
+  plainly ops end places reads = let r = reading ops end reads in (ops, r.0, record { has_place = places; ends = by_reading ops r.0 r.1 })
 
   -- and to some end
-  pub reply_comes_some : (start : Held) (bytes : List ℕ) → (ops : List Op) × (end : ReplyEnd) × ReplyComes hold most start bytes ops end
-  reply_comes_some start bytes =
-      let e = ends_from (length (take STREAM_LIMIT bytes)) start (length bytes) 0 (take STREAM_LIMIT bytes) (omega arith) in (
-        e.ops,
-        e.end,
-        record {
-          have_frames = e.have_frames;
-          has_place = e.has_place;
-          rest = e.rest;
-          split = e.split;
-          ends = subst (λ (n : ℕ). EndsReply hold most (held_from hold most start e.ops) (length bytes) n e.rest e.end) (omega arith) e.ends;
-        },
-      )
+  pub reply_comes_some : (ops : List Op) × (end : ReplyEnd) × ReplyComes hold most start bytes ops end
+  reply_comes_some = let c = comes_some Version2 hold most start STREAM_LIMIT bytes in by_course c.0 c.1 c.2
+    where
+      whole : (ops : List Op) (end : StreamEnd) → length bytes ≤ STREAM_LIMIT → Reads Version2 bytes ops end → Reads Version2 (take STREAM_LIMIT bytes) ops end
+      whole ops end fits reads = subst (λ (b : List ℕ). Reads Version2 b ops end) (sym (take_all STREAM_LIMIT bytes fits)) reads
+
+      by_course : (ops : List Op) (course : IntakeCourse) → StreamComes Version2 hold most start STREAM_LIMIT bytes ops course → (ops : List Op) × (end : ReplyEnd) × ReplyComes hold most start bytes ops end
+      by_course ops StreamMany c = (ops, TooMany, record { has_place = c.has_place; ends = c.ends })
+      by_course ops StreamWhole c = plainly ops EndsWhole c.has_place (whole ops EndsWhole c.ends.0 c.ends.1)
+      by_course ops (StreamCut k) c = plainly ops (EndsCutShort k) c.has_place (whole ops (EndsCutShort k) c.ends.0 c.ends.1)
+      by_course ops (StreamBad k) c = plainly ops (EndsInBadFrame k) c.has_place c.ends
+      by_course ops StreamLong c = plainly ops c.ends.1.0 c.has_place c.ends.1.1

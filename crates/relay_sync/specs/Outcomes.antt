@@ -1,15 +1,15 @@
 -- What a reply comes to whose operations are taken in, from a state and within limits: how it ends, and what was taken in until then.
-use Rattle.std.specs.Prelude.{◌≡◌, ◌↔◌, ℕ, ◌<◌, ◌≤◌, All, IfSome, List, ◌++◌, length, take, Option, Some, None, Result, Ok, Err}
+use Rattle.std.specs.Prelude.{◌≡◌, ◌↔◌, ℕ, ◌<◌, ◌≤◌, All, IfSome, List, ◌++◌, flat_map, length, take, Option, Some, None, Result, Ok, Err}
 use Rattle.fugue_ids.specs.declared.limits.TheConstants.{STREAM_LIMIT}
 use Rattle.fugue_ids.specs.declared.op.Op.{Op}
-use Rattle.origin_model.specs.frames.Frames.{HasFrame, single_frames}
-use Rattle.origin_model.specs.taking.Taking.{Held, HasPlace, TooMany as AnswersTooMany, answer, held_from}
+use Rattle.origin_model.specs.declared.grammar.Grammar.TheVariants.{Version2}
+use Rattle.origin_model.specs.frames.Frames.{Framed, IsFrame}
+use Rattle.origin_model.specs.taking.Taking.{Held, HasPlace}
+use Rattle.op_frame.specs.Courses.{MeetsTooMany}
 use Rattle.outer_ports.specs.wire.Wires.{WireView}
 use Rattle.replica_core.specs.Keeping.{TakesIn, OpsTaking}
-use Rattle.relay_sync.specs.Replies.{IsMessage, IsMessageFront}
+use Rattle.relay_sync.specs.Replies.{End, IsMessage, IsMessageFront, Message, Refusal}
 use Rattle.relay_sync.specs.Syncing.{HearsPartly, HearsReply}
-use Rattle.relay_sync.specs.declared.hearing.Message.{Message}
-use Rattle.relay_sync.specs.declared.hearing.Message.TheVariants.{End, Operation, Refusal}
 use Rattle.relay_sync.specs.declared.syncing.SyncFault.{SyncFault}
 use Rattle.relay_sync.specs.declared.syncing.Synced.{Synced}
 use Rattle.relay_sync.specs.declared.syncing.SyncFault.TheVariants as sync_fault
@@ -41,22 +41,33 @@ pub record IsNoMessage (bytes : List ℕ) : Type 0 where
   pub none_begins : (message : Message) → BeginsWith message bytes → ⊥
   pub no_front : IsMessageFront bytes → ⊥
 
--- How the rest behind the operations ends a reply of so many bytes. The rest goes up to the limit, and what stands behind a message there counts for nothing.
-abbrev pub EndsReply : (hold most : ℕ) (now : Held) (size place : ℕ) → List ℕ → ReplyEnd → Type 0
-EndsReply hold most now size place rest (Ended count) = BeginsWith (End count) rest
-EndsReply hold most now size place rest (Refused code) = BeginsWith (Refusal code) rest
-EndsReply hold most now size place rest (Bad at) = (at ≡ place) × IsNoMessage rest
-EndsReply hold most now size place rest (Cut at) = (at ≡ place) × (size ≤ STREAM_LIMIT) × IsMessageFront rest
-EndsReply hold most now size place rest TooLong = (STREAM_LIMIT < size) × IsMessageFront rest
-EndsReply hold most now size place rest TooMany = (op : Op) × BeginsWith (Operation op) rest × (answer hold most now op ≡ AnswersTooMany)
+-- How the rest behind the frames ends a reply of so many bytes whose operations all find their place. The rest goes up to the limit, and what stands behind a message there counts for nothing.
+abbrev pub EndsReply : (size place : ℕ) → List ℕ → ReplyEnd → Type 0
+EndsReply size place rest (Ended count) = BeginsWith (End count) rest
+EndsReply size place rest (Refused code) = BeginsWith (Refusal code) rest
+EndsReply size place rest (Bad at) = (at ≡ place) × IsNoMessage rest
+EndsReply size place rest (Cut at) = (at ≡ place) × (size ≤ STREAM_LIMIT) × IsMessageFront rest
+EndsReply size place rest TooLong = (STREAM_LIMIT < size) × IsMessageFront rest
+EndsReply size place rest TooMany = ⊥
+
+-- the operations of the reply's frames, and how the rest behind these ends it
+pub record ReadsReply (bytes : List ℕ) (ops : List Op) (end : ReplyEnd) : Type 0 where
+  pub found : List Framed
+  pub are_frames : All (IsFrame Version2) found
+  pub ops_are : ops ≡ flat_map (λ framed. framed.ops) found
+  pub rest : List ℕ
+  pub split : take STREAM_LIMIT bytes ≡ flat_map (λ framed. framed.bytes) found ++ rest
+  pub ends : EndsReply (length bytes) (length (flat_map (λ framed. framed.bytes) found)) rest end
+
+-- all operations of the reply's frames are taken in, or those before the first that is one too many, be it inside of a run
+abbrev pub EndsTaking : (hold most : ℕ) (start : Held) → List ℕ → List Op → ReplyEnd → Type 0
+EndsTaking hold most start bytes ops TooMany = MeetsTooMany Version2 hold most start (take STREAM_LIMIT bytes) ops
+EndsTaking hold most start bytes ops end = ReadsReply bytes ops end
 
 -- the bytes come to this end, and the operations were taken in before it
 pub record ReplyComes (hold most : ℕ) (start : Held) (bytes : List ℕ) (ops : List Op) (end : ReplyEnd) : Type 0 where
-  pub have_frames : All HasFrame ops
   pub has_place : HasPlace hold most start ops
-  pub rest : List ℕ
-  pub split : take STREAM_LIMIT bytes ≡ single_frames ops ++ rest
-  pub ends : EndsReply hold most (held_from hold most start ops) (length bytes) (length (single_frames ops)) rest end
+  pub ends : EndsTaking hold most start bytes ops end
 
 -- the same, and what a replica that takes the operations in comes to
 pub record HearsTo (bytes : List ℕ) (before after : OpsTaking) (end : ReplyEnd) : Type 0 where

@@ -5,13 +5,22 @@ use Rattle.std.specs.Io.KnownBytes.{prepend_known}
 use Rattle.fugue_ids.specs.Causes.{Rose}
 use Rattle.fugue_ids.specs.declared.limits.TheConstants.{STREAM_LIMIT}
 use Rattle.fugue_ids.specs.declared.op.Op.{Op}
-use Rattle.origin_model.specs.frames.Frames.{HasFrame, frame}
+use Rattle.origin_model.specs.declared.grammar.Grammar.TheVariants.{Version2}
+use Rattle.origin_model.specs.frames.Frames.{IsFrame}
 use Rattle.origin_model.specs.relay.Session.{refusal_message}
+use Rattle.op_frame.specs.FrameFronts.{IsFrameOf}
 use Rattle.outer_ports.specs.wire.Wires.{WireTells, WireView}
-use Rattle.relay_sync.specs.declared.hearing.Message.{Message}
-use Rattle.relay_sync.specs.declared.hearing.Message.TheVariants.{End, Operation, Refusal}
 use Rattle.relay_sync.specs.declared.syncing.SyncFault.{SyncFault}
 use Rattle.relay_sync.specs.declared.syncing.SyncFault.TheVariants.{BadReply, CutShort, NoMemory, RelayRefused, TooLong, TooMany, WireFault}
+
+-- a message of a reply
+pub data Message : Type 0 where
+  -- a frame of the log, with the operations that it stands for
+  Operations : List Op → Message
+  -- the reply is over: the length of the log
+  End : ℕ → Message
+  -- the relay refused, with this code
+  Refusal : ℕ → Message
 
 -- the first byte of the message that ends a reply
 abbrev pub ending : ℕ
@@ -21,9 +30,9 @@ ending = 0x55
 abbrev pub IsCode : ℕ → Type 0
 IsCode code = (1 ≤ code) × (code ≤ 3)
 
--- the own frame of an operation; or 55 and a number; or 58 and a code
+-- a frame; or 55 and a number; or 58 and a code
 abbrev pub IsMessage : Message → List ℕ → Type 0
-IsMessage (Operation op) bytes = HasFrame op × (bytes ≡ frame op)
+IsMessage (Operations ops) bytes = IsFrame Version2 (record { bytes = bytes; ops = ops })
 IsMessage (End count) bytes = (number : List ℕ) × (length number ≡ 4) × (count ≡ from_be_bytes w32 number) × (bytes ≡ ending ∷ number)
 IsMessage (Refusal code) bytes = IsCode code × (bytes ≡ refusal_message code)
 
@@ -62,13 +71,13 @@ pub record Hears (old new : WireView) (bytes : List ℕ) : Type 0 where
 abbrev pub IsOver : WireView → Type 0
 IsOver wire = IfSome wire.left (λ left. left ≡ [])
 
--- why the message at this place goes no further than these bytes: memory is wanted for a whole frame alone
+-- why the message at this place goes no further than these bytes
 abbrev pub StopsIn : SyncFault → (old new : WireView) → (place : ℕ) → List ℕ → Type 0
 StopsIn WireFault old new place bytes = IsMessageFront bytes × Rose old.faults new.faults × (IsSure old → ⊥)
 StopsIn (BadReply at) old new place bytes = (at ≡ place) × IsBroken bytes × (place + length bytes ≤ STREAM_LIMIT)
 StopsIn (CutShort at) old new place bytes = (at ≡ place) × IsMessageFront bytes × IsOver new × (place + length bytes ≤ STREAM_LIMIT)
 StopsIn TooLong old new place bytes = (front : List ℕ) × (byte : ℕ) × (bytes ≡ front ++ byte ∷ []) × IsMessageFront front × (place + length front ≡ STREAM_LIMIT)
-StopsIn NoMemory old new place bytes = (op : Op) × IsMessage (Operation op) bytes
+StopsIn NoMemory old new place bytes = ⊥
 StopsIn (RelayRefused code) old new place bytes = ⊥
 StopsIn (TooMany most) old new place bytes = ⊥
 
@@ -84,6 +93,15 @@ pub record Whole (message : Message) (old new : WireView) (place heard : ℕ) (b
   pub hears : Hears old new bytes
   pub is_message : IsMessage message (before ++ bytes)
   pub count : heard ≡ place + length (before ++ bytes)
+  pub within : heard ≤ STREAM_LIMIT
+
+-- the rest of a frame was heard, whose bytes are these
+pub record WholeFrame (frame : List ℕ) (old new : WireView) (place heard : ℕ) (before : List ℕ) : Type 0 where
+  pub is_frame : IsFrameOf Version2 frame
+  pub bytes : List ℕ
+  pub hears : Hears old new bytes
+  pub split : frame ≡ before ++ bytes
+  pub count : heard ≡ place + length frame
   pub within : heard ≤ STREAM_LIMIT
 
 -- On a wire that tells, the count of faults rises only where the wire is blamed: no call that failed is made once more, and none is told as another fault.

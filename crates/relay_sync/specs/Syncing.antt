@@ -1,63 +1,91 @@
 -- An exchange with a relay: a replica says what it holds, hears the reply, and takes in its operations as they come.
-use Rattle.std.specs.Prelude.{◌≡◌, ◌≢◌, ◌⊎◌, ◌+◌, ◌*◌, ◌≤◌, ℕ, All, List, [], ◌++◌, length, Option, Some, None, Result, Err, option_map}
+use Rattle.std.specs.Prelude.{◌≡◌, ◌≢◌, ◌⊎◌, ◌+◌, ◌*◌, ◌≤◌, ℕ, All, List, [], ◌∷◌, ◌++◌, flat_map, length, Option, Some, None, Result, Err, option_map}
 use Rattle.std.specs.Io.KnownBytes.{prepend_known}
 use Rattle.fugue_ids.specs.Causes.{Rose}
 use Rattle.fugue_ids.specs.Outs.{Took, TookFront}
 use Rattle.fugue_ids.specs.declared.limits.TheConstants.{GREATEST_HOLD, STREAM_LIMIT}
 use Rattle.fugue_ids.specs.declared.op.Op.{Op}
-use Rattle.origin_model.specs.frames.Frames.{HasFrame, single_frames}
+use Rattle.origin_model.specs.declared.grammar.Grammar.TheVariants.{Version2}
+use Rattle.origin_model.specs.frames.Frames.{Framed, IsFrame}
 use Rattle.origin_model.specs.taking.Taking.{Held, IsSettled, TooMany as AnswersTooMany, answer}
 use Rattle.outer_ports.specs.wire.Wires.{WireView, out_of}
-use Rattle.replica_core.specs.Keeping.{TakesIn, TakesInKeeping, TakesPartly, OpsTaking}
+use Rattle.replica_core.specs.Keeping.{TakesIn, TakesPartly, OpsTaking}
 use Rattle.replica_core.specs.Told.{total}
-use Rattle.relay_sync.specs.Replies.{Hears, IsMessage, StopsIn, Whole}
+use Rattle.replica_core.specs.declared.keeping.FeedFault.{FeedFault}
+use Rattle.replica_core.specs.declared.keeping.FeedFault.TheVariants as feed_fault
+use Rattle.relay_sync.specs.Replies.{End, Hears, IsMessage, Operations, Refusal, StopsIn, Whole}
 use Rattle.relay_sync.specs.Saying.{SaysToNoOther, request_for}
-use Rattle.relay_sync.specs.declared.hearing.Message.TheVariants.{End, Operation, Refusal}
 use Rattle.relay_sync.specs.declared.syncing.SyncFault.{SyncFault}
 use Rattle.relay_sync.specs.declared.syncing.SyncFault.TheVariants.{NoMemory, RelayRefused, TooMany, WireFault}
 
--- one operation more can be taken in and counted
+-- how many operations were counted or wait
+abbrev pub seen_by : OpsTaking → ℕ
+seen_by now = total now.counts + length now.replica.held.waiting
+
+-- more operations can be taken in and counted
 pub record IsReady (now : OpsTaking) (heard : ℕ) : Type 0 where
   pub settled : IsSettled now.replica.held
-  -- a frame has more than one byte
-  pub few : 2 * (total now.counts + length now.replica.held.waiting) ≤ heard + 2 * GREATEST_HOLD
+  -- each operation of a frame has more than one byte
+  pub few : 2 * seen_by now ≤ heard + 2 * GREATEST_HOLD
+
+-- the operations of a frame were taken in
+pub record TakesInFrame (before after : OpsTaking) (frame : List ℕ) : Type 0 where
+  pub ops : List Op
+  pub is_message : IsMessage (Operations ops) frame
+  pub takes : TakesIn before after ops
+  pub settled : IsSettled after.replica.held
+  pub few : 2 * seen_by after ≤ 2 * seen_by before + length frame
+
+-- those before this one were
+pub record TakesUpTo (op : Op) (before after : OpsTaking) (frame : List ℕ) : Type 0 where
+  pub front : List Op
+  pub more : List Op
+  pub is_message : IsMessage (Operations (front ++ op ∷ more)) frame
+  pub takes : TakesIn before after front
+
+-- one of them is one too many, or memory was wanting for it
+abbrev pub TakesNotAll : FeedFault → (before after : OpsTaking) → (frame : List ℕ) → Type 0
+TakesNotAll (feed_fault.TooMany most) before after frame =
+    (op : Op) × TakesUpTo op before after frame × (most ≡ after.replica.most)
+    × (answer after.replica.hold after.replica.most after.replica.held op ≡ AnswersTooMany)
+TakesNotAll feed_fault.NoMemory before after frame =
+    (op : Op) × (middle : OpsTaking) × TakesUpTo op before middle frame × ((after ≡ middle) ⊎ TakesPartly middle after op)
 
 -- the reply was heard to its end, and its operations were taken in
 pub record HearsReply (old new : WireView) (before after : OpsTaking) (count : ℕ) : Type 0 where
-  pub ops : List Op
-  pub have_frames : All HasFrame ops
+  pub found : List Framed
+  pub are_frames : All (IsFrame Version2) found
   pub last : List ℕ
   pub ends : IsMessage (End count) last
-  pub hears : Hears old new (single_frames ops ++ last)
-  pub within : length (single_frames ops ++ last) ≤ STREAM_LIMIT
-  pub takes : TakesIn before after ops
+  pub hears : Hears old new (flat_map (λ framed. framed.bytes) found ++ last)
+  pub within : length (flat_map (λ framed. framed.bytes) found ++ last) ≤ STREAM_LIMIT
+  pub takes : TakesIn before after (flat_map (λ framed. framed.ops) found)
 
--- why no more was heard, behind the frames of what was taken in: the bytes there decide
+-- why no more was heard, behind the frames whose operations were taken in: the bytes there decide
 abbrev pub ReplyStopsFor : SyncFault → (old new : WireView) → (before after : OpsTaking) → (place : ℕ) → List ℕ → Type 0
 ReplyStopsFor (RelayRefused code) old new before after place bytes = (after ≡ before) × IsMessage (Refusal code) bytes × (place + length bytes ≤ STREAM_LIMIT)
-ReplyStopsFor (TooMany most) old new before after place bytes =
-    (after ≡ before) × (most ≡ before.replica.most) × (op : Op) × IsMessage (Operation op) bytes
-    × (place + length bytes ≤ STREAM_LIMIT) × (answer before.replica.hold before.replica.most before.replica.held op ≡ AnswersTooMany)
-ReplyStopsFor NoMemory old new before after place bytes = (op : Op) × IsMessage (Operation op) bytes × ((after ≡ before) ⊎ TakesPartly before after op)
+ReplyStopsFor (TooMany most) old new before after place bytes = TakesNotAll (feed_fault.TooMany most) before after bytes × (place + length bytes ≤ STREAM_LIMIT)
+ReplyStopsFor NoMemory old new before after place bytes = TakesNotAll feed_fault.NoMemory before after bytes × (place + length bytes ≤ STREAM_LIMIT)
 ReplyStopsFor fault old new before after place bytes = (after ≡ before) × StopsIn fault old new place bytes
 
 -- the reply was heard up to a fault, and the operations before it were taken in
 pub record HearsPartly (fault : SyncFault) (old new : WireView) (before after : OpsTaking) : Type 0 where
-  pub ops : List Op
-  pub have_frames : All HasFrame ops
+  pub found : List Framed
+  pub are_frames : All (IsFrame Version2) found
   pub bytes : List ℕ
-  pub hears : Hears old new (single_frames ops ++ bytes)
+  pub hears : Hears old new (flat_map (λ framed. framed.bytes) found ++ bytes)
   pub middle : OpsTaking
-  pub takes : TakesIn before middle ops
-  pub stops : ReplyStopsFor fault old new middle after (length (single_frames ops)) bytes
+  pub takes : TakesIn before middle (flat_map (λ framed. framed.ops) found)
+  pub stops : ReplyStopsFor fault old new middle after (length (flat_map (λ framed. framed.bytes) found)) bytes
 
 -- of these bytes a reply was heard up to the message that ends it, and nothing behind it
 pub record HearsNoFurther (old new : Option (List ℕ)) : Type 0 where
-  pub ops : List Op
+  pub found : List Framed
+  pub are_frames : All (IsFrame Version2) found
   pub count : ℕ
   pub last : List ℕ
   pub ends : IsMessage (End count) last
-  pub heard : old ≡ prepend_known (single_frames ops ++ last) new
+  pub heard : old ≡ prepend_known (flat_map (λ framed. framed.bytes) found ++ last) new
 
 -- all that the replica holds was said to the port
 pub record Asks (old new : WireView) (port cursor : ℕ) (held : Held) : Type 0 where
@@ -106,12 +134,11 @@ pub record BlamesWire {T : Type 0} (said : ℕ) (old new : WireView) (result : R
   pub calm : Fits said old → new.faults ≡ old.faults
   pub sure : Fits said old → result ≢ Err WireFault
 
--- one message was heard: an operation, which was taken in
+-- one message was heard: a frame, whose operations were taken in
 pub record TakesOne (old new : WireView) (before after : OpsTaking) (place heard : ℕ) : Type 0 where
-  pub op : Op
-  pub hears : Whole (Operation op) old new place heard []
-  pub has_place : answer before.replica.hold before.replica.most before.replica.held op ≢ AnswersTooMany
-  pub takes : TakesInKeeping before.replica after.replica op before.counts after.counts before.kept after.kept
+  pub ops : List Op
+  pub hears : Whole (Operations ops) old new place heard []
+  pub takes : TakesIn before after ops
   pub ready : IsReady after heard
 
 -- or the end of the reply

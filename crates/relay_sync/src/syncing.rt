@@ -1,18 +1,21 @@
-ghost use Rattle.std.specs.Prelude.{◌≡◌, ◌≤◌, IfErr, IfOk, IfSome, OnOk, length};
+ghost use Rattle.std.specs.Prelude.{◌≡◌, ◌+◌, ◌*◌, ◌≤◌, IfErr, IfOk, IfSome, OnOk, length};
 ghost use Rattle.fugue_ids.specs.declared.limits.TheConstants.{GREATEST_HOLD};
+ghost use Rattle.origin_model.specs.declared.grammar.Grammar.TheVariants.{Version2 as WithRuns};
 ghost use Rattle.origin_model.specs.declared.taking.Tally.{Tally as AnyTally};
 ghost use Rattle.origin_model.specs.taking.Taking.{IsSettled};
+ghost use Rattle.op_frame.specs.FrameFronts.{IsFrameOf};
 ghost use Rattle.replica_core.specs.Keeping.{taking_begun};
 ghost use Rattle.relay_sync.specs.Outcomes.{AnswersByReply, Ended, HeardTo, HeardUpTo};
 ghost use Rattle.relay_sync.specs.Replies.{IsWireFault, WireRisesFor};
 ghost use Rattle.relay_sync.specs.Saying.{request_for};
 ghost use Rattle.relay_sync.specs.Syncing.{BlamesWire, SyncFails, HearsOne, HearsPartly, HearsReply, IsReady, StopsAt};
-ghost use Rattle.relay_sync.specs.Syncing.{Syncs};
+ghost use Rattle.relay_sync.specs.Syncing.{Syncs, TakesInFrame, TakesNotAll, seen_by};
 
-use crate::hearing::{Message, next_message};
+use crate::hearing::{next_byte, next_code, next_frame, next_number};
 use crate::saying::{request_of, say};
 use fugue_ids::{Op, STREAM_LIMIT};
-use origin_model::Tally;
+use op_frame::{END, FrameFront, FrameOps, REFUSAL};
+use origin_model::{Grammar, Tally};
 use outer_ports::Wire;
 use replica_core::{FeedFault, Replica};
 use std::alloc::Global;
@@ -127,23 +130,30 @@ fn hear<W: Wire>(
     ensures told { WireRisesFor (IsWireFault result) (W.seen wire.old) (W.seen wire.new) }
 {
     let mut tally = Tally::default();
+    let mut front = FrameFront::new(Grammar::Version2);
     let mut heard = 0;
     'messages: loop {
-        if let Some(cursor) = hear_one(alloc, replica, wire, &mut heard, &mut tally, kept)? {
+        let end = hear_one(
+            alloc, replica, wire, &mut front, &mut heard, &mut tally, kept,
+        )?;
+        if let Some(cursor) = end {
             return Ok(Synced { tally, cursor });
         }
     }
 }
 
-/// Hears one message: an operation is taken in, and the number that ends the reply is the answer.
+/// Hears one message, byte by byte, so that nothing behind it is heard: the operations of a frame are taken in, and the
+/// number that ends the reply is the answer.
 fn hear_one<W: Wire>(
     alloc: Global,
     replica: &mut Replica,
     wire: &mut W,
+    front: &mut FrameFront,
     heard: &mut u64,
     tally: &mut Tally,
     kept: &mut Vec<Op>,
 ) -> Result<Option<u32>, SyncFault>
+    requires grammar { front.old.grammar ≡ WithRuns }
     requires within { heard.old ≤ STREAM_LIMIT }
     requires ready { IsReady (record { replica = replica.old; counts = tally.old; kept = kept.old.items }) heard.old }
     ensures ok { IfOk result (λ count. HearsOne (W.seen wire.old) (W.seen wire.new)
@@ -152,14 +162,47 @@ fn hear_one<W: Wire>(
     ensures err { IfErr result (λ fault. StopsAt fault (W.seen wire.old) (W.seen wire.new)
         (record { replica = replica.old; counts = tally.old; kept = kept.old.items })
         (record { replica = replica.new; counts = tally.new; kept = kept.new.items }) heard.old) }
+    ensures grammar { front.new.grammar ≡ WithRuns }
     ensures told { WireRisesFor (IsWireFault result) (W.seen wire.old) (W.seen wire.new) }
 {
-    match next_message(alloc, wire, heard)? {
-        Message::Operation(op) => {
-            replica.feed_keeping(op, tally, kept)?;
+    let place = *heard;
+    let first = next_byte(wire, heard, place)?;
+    match first {
+        END => Ok(Some(next_number(wire, heard, place)?)),
+        REFUSAL => {
+            let code = next_code(wire, heard, place)?;
+            Err(SyncFault::RelayRefused(code))
+        }
+        _ => {
+            next_frame(wire, front, heard, place, first)?;
+            take_frame(alloc, replica, front.as_slice(), tally, kept)?;
             Ok(None)
         }
-        Message::End(count) => Ok(Some(count)),
-        Message::Refusal(code) => Err(SyncFault::RelayRefused(code)),
     }
+}
+
+/// Takes in the operations of a whole frame, one by one. After a fault those before it stay.
+fn take_frame(
+    alloc: Global,
+    replica: &mut Replica,
+    frame: &[u8],
+    tally: &mut Tally,
+    kept: &mut Vec<Op>,
+) -> Result<(), FeedFault>
+    requires frame { IsFrameOf WithRuns frame.now }
+    requires settled { IsSettled replica.old.held }
+    requires few { 2 * seen_by (record { replica = replica.old; counts = tally.old; kept = kept.old.items })
+        + length frame.now ≤ STREAM_LIMIT + 2 * GREATEST_HOLD }
+    ensures ok { OnOk result (TakesInFrame
+        (record { replica = replica.old; counts = tally.old; kept = kept.old.items })
+        (record { replica = replica.new; counts = tally.new; kept = kept.new.items }) frame.now) }
+    ensures err { IfErr result (λ fault. TakesNotAll fault
+        (record { replica = replica.old; counts = tally.old; kept = kept.old.items })
+        (record { replica = replica.new; counts = tally.new; kept = kept.new.items }) frame.now) }
+{
+    let mut ops = FrameOps::new(alloc, frame)?;
+    'ops: while let Some(op) = ops.next() {
+        replica.feed_keeping(op, tally, kept)?;
+    }
+    Ok(())
 }

@@ -1,5 +1,6 @@
 use Rattle.std.proofs.Common.{List, [], length, ℕ, ◌+◌, ◌++◌, ◌-◌, ◌≤◌, ◌∷◌, ◌≡◌}
 use Rattle.fugue_ids.specs.declared.limits.TheConstants.{STREAM_LIMIT}
+use Rattle.origin_model.specs.declared.grammar.Grammar.TheVariants.{Version2}
 use Rattle.relay_sync.specs.Replies.{Hears, IsMessageFront, WireRisesFor}
 use Rattle.relay_sync.proofs.hearing.next_frame.Given as goal
 
@@ -7,9 +8,10 @@ use Rattle.relay_sync.proofs.hearing.next_frame.Given as goal
 abbrev pub invariant-bytes : goal.invariant-bytes
 invariant-bytes g l = record {
   bytes : List ℕ;
-  are : l.front ++ l.byte ∷ [] ≡ l.first ∷ bytes;
+  grammar : l.front.grammar ≡ Version2;
+  are : l.front.bytes ++ l.byte ∷ [] ≡ l.first ∷ bytes;
   hears : Hears (g.W.Wire.seen l.fn.wire) (g.W.Wire.seen l.wire) bytes;
-  front : IsMessageFront l.front;
+  partial : IsMessageFront l.front.bytes;
   count : l.heard ≡ l.place + length (l.first ∷ bytes);
   within : l.heard ≤ STREAM_LIMIT;
   told : WireRisesFor ⊥ (g.W.Wire.seen l.fn.wire) (g.W.Wire.seen l.wire);
