@@ -242,6 +242,33 @@ within g (f ∷ found) are xs op ys same = by_part (parted op xs ys f.ops (ops_o
           taken = p.1 ∙ ap (λ (l : List Op). f.ops ++ l) w.taken ∙ sym (append_assoc f.ops (ops_of w.before) w.front);
         }
 
+-- it finds no place
+meets_within : (g : Grammar) (hold most : ℕ) (start : Held) (found : List Framed) (xs : List Op) (op : Op) (w : Within g found xs op) (bytes left : List ℕ) → bytes ≡ bytes_of found ++ left
+    → answer hold most (held_from hold most start xs) op ≡ AnswersTooMany → MeetsTooMany g hold most start bytes xs
+meets_within g hold most start found xs op w bytes left is many = record {
+  earlier = ops_of w.before;
+  rest = w.framed.bytes ++ (bytes_of w.after ++ left);
+  starts = record {
+    found = w.before;
+    are_frames = w.are_before;
+    ops_are = refl;
+    split = is ∙ ap (λ (l : List ℕ). l ++ left) (ap bytes_of w.found_are ∙ flat_map-append (λ (f : Framed). f.bytes) w.before (w.framed ∷ w.after))
+        ∙ regroup (bytes_of w.before) w.framed.bytes (bytes_of w.after) left;
+  };
+  framed = w.framed;
+  behind = bytes_of w.after ++ left;
+  begins = record { is_frame = w.is_frame; split = refl };
+  front = w.front;
+  op = op;
+  more = w.more;
+  brings = w.brings;
+  taken = w.taken;
+  refused = many;
+}
+  where
+    regroup : (a b c d : List ℕ) → (a ++ (b ++ c)) ++ d ≡ a ++ (b ++ (c ++ d))
+    regroup a b c d = simp append_assoc
+
 -- of the bytes that were told, the reader gave operations which all found their place: what they left, and their counts
 pub record Fed (hold most : ℕ) (start : Held) (told : Option (List ℕ)) (reader : FrameReading) (left : Option (List ℕ)) (state : Held) (counts : Tally) : Type 0 where
   pub ops : List Op
@@ -305,32 +332,9 @@ module _ (hold most : ℕ) (start : Held) where
         let gave = gave_more told fed.ops op old new before.left after.left nexts.advances.grammar fed.gave nexts.gives in
         let are : All (IsFrame g) gave.found = subst (λ (h : Grammar). All (IsFrame h) gave.found) nexts.advances.grammar gave.are_frames in
         let w = within g gave.found are fed.ops op new.todo (sym (append_assoc fed.ops (op ∷ []) new.todo) ∙ gave.ops_are) in
-        shows (λ bytes. Comes g hold most start old.limit bytes fed.ops TooMany) (bytes_of gave.found) (to_give new after.left) told gave.split (λ rest _.
-        let left : List ℕ = take (old.limit - new.offset) rest in
-        record {
+        shows (λ bytes. Comes g hold most start old.limit bytes fed.ops TooMany) (bytes_of gave.found) (to_give new after.left) told gave.split (λ rest _. record {
           has_place = fed.has_place;
-          ends = record {
-            earlier = ops_of w.before;
-            rest = w.framed.bytes ++ (bytes_of w.after ++ left);
-            starts = record {
-              found = w.before;
-              are_frames = w.are_before;
-              ops_are = refl;
-              split = take_past (bytes_of gave.found) rest old.limit new.offset gave.offset (omega (arith, nexts.advances.within, nexts.advances.limit))
-                  ∙ ap (λ (l : List ℕ). l ++ left) (ap bytes_of w.found_are ∙ flat_map-append (λ (f : Framed). f.bytes) w.before (w.framed ∷ w.after))
-                  ∙ regroup (bytes_of w.before) w.framed.bytes (bytes_of w.after) left;
-            };
-            framed = w.framed;
-            behind = bytes_of w.after ++ left;
-            begins = record { is_frame = w.is_frame; split = refl };
-            front = w.front;
-            op = op;
-            more = w.more;
-            brings = w.brings;
-            taken = w.taken;
-            refused = ap (λ (s : Held). answer hold most s op) (sym fed.state_is) ∙ many;
-          };
+          ends = meets_within g hold most start gave.found fed.ops op w (take old.limit (bytes_of gave.found ++ rest)) (take (old.limit - new.offset) rest)
+              (take_past (bytes_of gave.found) rest old.limit new.offset gave.offset (omega (arith, nexts.advances.within, nexts.advances.limit)))
+              (ap (λ (s : Held). answer hold most s op) (sym fed.state_is) ∙ many);
         })
-      where
-        regroup : (a b c d : List ℕ) → (a ++ (b ++ c)) ++ d ≡ a ++ (b ++ (c ++ d))
-        regroup a b c d = simp append_assoc

@@ -11,7 +11,7 @@ use Rattle.fugue_ids.specs.declared.op.Op.{Op}
 use Rattle.fugue_ids.specs.declared.op.Op.TheVariants.{Delete, Section, Text as TextOp}
 use Rattle.origin_model.specs.declared.grammar.Grammar.{Grammar}
 use Rattle.origin_model.specs.declared.grammar.Grammar.TheVariants.{Version1, Version2}
-use Rattle.origin_model.specs.frames.Frames.{IsFrame, IsItem, IsOrigin, IsTitle, Item, Single, Typed, id_bytes, item_bytes, item_ops, origin_bytes, title_bytes}
+use Rattle.origin_model.specs.frames.Frames.{HasFrame, IsFrame, IsItem, IsOrigin, IsTitle, Item, Single, Typed, frame, id_bytes, item_bytes, item_ops, origin_bytes, title_bytes}
 use Rattle.op_frame.specs.Firsts.{IsFrameBehind, StartsWith}
 use Rattle.op_frame.specs.FrameFronts.{Completes, IsFrameOf, IsIdentifierBytes, IsLast, IsOriginBytes, LeavesDue, scalar_of_bytes}
 use Rattle.op_frame.specs.declared.due.Due.{Due}
@@ -61,8 +61,8 @@ pub frame_wider : (g : Grammar) (bytes : List ℕ) → IsFrameOf g bytes → IsF
 frame_wider g bytes f = (f.0, record { item = f.1.item; is_item = wider g f.1.item f.1.is_item; bytes_are = f.1.bytes_are; ops_are = f.1.ops_are })
 
 -- the operation of the fields behind the first byte
-pub behind_is : (kind : ℕ) (op : Op) (bytes : List ℕ) → 1 ≤ length bytes → get_or bytes 0 0 ≡ kind → IsFrameBehind kind op (take (length bytes - 1) (drop 1 bytes)) → IsFrame Version1 (record { bytes = bytes; ops = op ∷ [] })
-behind_is kind op bytes some is f = record { item = Single op; is_item = f.0; bytes_are = head_is bytes kind some is ∙ f.1; ops_are = refl }
+pub behind_is : (kind : ℕ) (op : Op) (bytes : List ℕ) → 1 ≤ length bytes → get_or bytes 0 0 ≡ kind → IsFrameBehind kind op (take (length bytes - 1) (drop 1 bytes)) → HasFrame op × (bytes ≡ frame op)
+behind_is kind op bytes some is f = (f.0, head_is bytes kind some is ∙ f.1)
 
 -- an origin that is not the start or the end
 pub tagged : (bytes : List ℕ) → StartsWith IsOriginBytes bytes → (get_or bytes 0 0 ≡ 0 → ⊥) → StartsWith IsIdentifierBytes (take (length bytes - 1) (drop 1 bytes))

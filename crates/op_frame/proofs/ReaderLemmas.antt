@@ -1,13 +1,13 @@
 -- What a call of the reader does, by what it holds back and what its window has.
 use Rattle.std.proofs.Common.{◌≡◌, ℕ, ◌+◌, ◌-◌, ◌≤◌, List, [], ◌∷◌, ◌++◌, length, refl, ap, sym, ◌∙◌, arith}
-use Rattle.std.specs.Prelude.{All, Option, Some, None, Result, Ok, Err, IfSome, flat_map}
+use Rattle.std.specs.Prelude.{All, Option, Some, None, Result, Ok, Err, IfSome, IsErrOf, flat_map}
 use Rattle.std.specs.Char.{IsScalar}
 use Rattle.fugue_ids.specs.declared.op.Op.{Op}
 use Rattle.outer_ports.specs.Sources.{SourceView}
 use Rattle.origin_model.specs.declared.grammar.Grammar.{Grammar}
 use Rattle.origin_model.specs.frames.Frames.{scalar_bytes, typed}
 use Rattle.op_frame.specs.Heads.{GivesHeld, IsHeld, behind_held, held_ops, scalars_in}
-use Rattle.op_frame.specs.Readers.{FrameReading, Nexts, held as held_back, kept_fault, read}
+use Rattle.op_frame.specs.Readers.{Advances, FrameReading, Nexts, StandsStill, StillWith, fault_after, held as held_back, kept_fault, read}
 use Rattle.op_frame.specs.Steps.{Takes}
 use Rattle.op_frame.specs.declared.fault.FrameFault.{FrameFault}
 use Rattle.op_frame.specs.declared.fault.FrameFault.TheVariants.{BadFrame, CutShort, ReadFault, TooLong, NoMemory}
@@ -41,6 +41,15 @@ abbrev pub reading_at : Grammar → (limit : ℕ) → Option Head → List ℕ �
 reading_at g limit held window offset last fault =
     record { grammar = g; limit = limit; todo = held_ops held window; unread = behind_held held window; offset = offset; last = last; fault = fault }
 
+stays_put : (old new : FrameReading) → old.todo ≡ [] → new.todo ≡ [] → new.offset ≡ old.offset → new.last ≡ old.last → StandsStill old new
+stays_put old new before after at last = record { none_before = before; none_after = after; offset = at; last = last }
+
+advances_by : (old new : FrameReading) (result : Result (Option Op) FrameFault) → new.grammar ≡ old.grammar → new.limit ≡ old.limit → old.offset + length old.unread ≤ old.limit
+    → new.offset + length new.unread ≤ new.limit → (IsErrOf result TooLong → new.offset + length new.unread ≡ new.limit) → StillWith result old new → new.fault ≡ fault_after result
+    → Advances old new result
+advances_by old new result grammar limit inside within full stays fault =
+    record { grammar = grammar; limit = limit; inside = inside; within = within; full = full; stays = stays; fault = fault }
+
 module _ (g : Grammar) (limit offset last : ℕ) (fault : Option FrameFault) (window new : List ℕ) (before after : SourceView) where
   -- no operation is given
   pub nexts_none : (held : Option Head) → held ≡ None → offset + length (behind_held held window) ≤ limit → fault ≡ None → Takes g window new before after offset (limit - offset) (Ok None)
@@ -51,15 +60,7 @@ module _ (g : Grammar) (limit offset last : ℕ) (fault : Option FrameFault) (wi
     at = t.at;
     gives = tt;
     moves = t.moves;
-    advances = record {
-      grammar = refl;
-      limit = refl;
-      inside = inside;
-      within = omega (arith, inside, t.within);
-      full = λ is. absurd (cc is);
-      stays = record { none_before = refl; none_after = refl; offset = refl; last = refl };
-      fault = no_fault;
-    };
+    advances = advances_by _ _ (Ok None) refl refl inside (omega (arith, inside, t.within)) (λ is. cc is) (stays_put _ _ refl refl refl refl) no_fault;
   }
 
   -- the first operation of a frame is given
@@ -72,15 +73,7 @@ module _ (g : Grammar) (limit offset last : ℕ) (fault : Option FrameFault) (wi
     at = t.at;
     gives = read refl t.first.framed t.first.is_frame t.first.ops_are t.first.told (ap (λ (n : ℕ). offset + n) t.first.len) refl;
     moves = tt;
-    advances = record {
-      grammar = refl;
-      limit = refl;
-      inside = inside;
-      within = omega (arith, inside, t.within);
-      full = λ is. absurd (cc is);
-      stays = tt;
-      fault = no_fault;
-    };
+    advances = advances_by _ _ (Ok (Some taken.op)) refl refl inside (omega (arith, inside, t.within)) (λ is. cc is) tt no_fault;
   }
 
   -- a fault is met
@@ -93,15 +86,7 @@ module _ (g : Grammar) (limit offset last : ℕ) (fault : Option FrameFault) (wi
     at = t.at;
     gives = tt;
     moves = t.moves;
-    advances = record {
-      grammar = refl;
-      limit = refl;
-      inside = inside;
-      within = omega (arith, inside, t.within);
-      full = λ long. omega (arith, inside, t.full (fault_is e long));
-      stays = record { none_before = refl; none_after = refl; offset = refl; last = refl };
-      fault = is;
-    };
+    advances = advances_by _ _ (Err e) refl refl inside (omega (arith, inside, t.within)) (λ long. omega (arith, inside, t.full (fault_is e long))) (stays_put _ _ refl refl refl refl) is;
   }
     where
       fault_is : (e : FrameFault) → ◌≡◌ {A = Result (Option Op) FrameFault} (Err e) (Err TooLong) → ◌≡◌ {A = Result (Option Taken) FrameFault} (Err e) (Err TooLong)
@@ -116,15 +101,7 @@ nexts_held g limit offset last fault window new source held head op next is insi
   at = tt;
   gives = held_back first (sym behind) refl refl refl;
   moves = tt;
-  advances = record {
-    grammar = refl;
-    limit = refl;
-    inside = inside;
-    within = omega (arith, inside, ap length behind);
-    full = λ long. absurd (cc long);
-    stays = tt;
-    fault = no_fault;
-  };
+  advances = advances_by _ _ (Ok (Some op)) refl refl inside (omega (arith, inside, ap length behind)) (λ is. cc is) tt no_fault;
 }
   where
     first : held_ops held window ≡ op ∷ held_ops next new

@@ -12,7 +12,7 @@ use Rattle.origin_model.specs.frames.Frames.{Framed, IsFrame, IsBad, End, Whole,
 use Rattle.origin_model.proofs.SharedLemmas.{frame_wide}
 use Rattle.op_frame.specs.declared.fault.FrameFault.TheVariants.{BadFrame, CutShort, ReadFault, TooLong, NoMemory}
 use Rattle.op_frame.specs.declared.fault.FrameFault.{FrameFault}
-use Rattle.op_frame.specs.Readers.{FrameReading, to_give, ReadingAnswerIs, AreFirst, Chains, EndsBy, Follows, Gave, GaveFirst, Gives, GivesInOrder, HasTodo, IsByReading, IsReadByBytes, Nexts, Rises, answer_at, given_with, held, raised, read}
+use Rattle.op_frame.specs.Readers.{FrameReading, to_give, ReadingAnswerIs, AreFirst, Chains, EndsBy, Follows, Gave, GaveFirst, GivesOperation, GivesInOrder, HasTodo, IsByReading, IsReadByBytes, Nexts, Rises, answer_at, given_with, held, raised, read}
 use Rattle.op_frame.proofs.FrameLemmas.{bad_goes_on}
 use Rattle.op_frame.proofs.ReadingLemmas.{bytes_of, ops_of, partial_end, reads_once, reads_some, starts_first}
 use Rattle.op_frame.proofs.ToldLemmas.{prepend_none, prepend_twice, shows, some_is, take_past}
@@ -32,7 +32,7 @@ anything None = tt
 anything (Some bytes) = tt
 
 -- one operation more was given
-pub gave_more : (told : Option (List ℕ)) (ops : List Op) (op : Op) (old new : FrameReading) (before after : Option (List ℕ)) → new.grammar ≡ old.grammar → Gave told ops old before → Gives op old new before after
+pub gave_more : (told : Option (List ℕ)) (ops : List Op) (op : Op) (old new : FrameReading) (before after : Option (List ℕ)) → new.grammar ≡ old.grammar → Gave told ops old before → GivesOperation op old new before after
     → Gave told (ops ++ op ∷ []) new after
 gave_more told ops op old new before after same so (held todo unread offset last left) = record {
   found = so.found;
@@ -93,7 +93,7 @@ told_behind front None bytes is = absurd (cc is)
 told_behind front (Some rest) bytes is = (rest, refl, cc is)
 
 -- the operation that was given was the first still to be given
-pub gave_first : (op : Op) (old new : FrameReading) (before after : Option (List ℕ)) (bytes : List ℕ) → new.grammar ≡ old.grammar → Gives op old new before after → to_give old before ≡ Some bytes
+pub gave_first : (op : Op) (old new : FrameReading) (before after : Option (List ℕ)) (bytes : List ℕ) → new.grammar ≡ old.grammar → GivesOperation op old new before after → to_give old before ≡ Some bytes
     → GaveFirst op old new after bytes
 gave_first op old new before after bytes same (held todo unread offset last left) told = record {
   front = [];
@@ -121,7 +121,7 @@ gave_first op old new before after bytes same (read none framed is ops moved off
     }
 
 -- the place rises
-pub rises : (op : Op) (old new : FrameReading) (before after : Option (List ℕ)) → Gives op old new before after → Rises old new
+pub rises : (op : Op) (old new : FrameReading) (before after : Option (List ℕ)) → GivesOperation op old new before after → Rises old new
 rises op old new before after (held todo unread offset last left) = omega (arith, ap length todo, offset)
 rises op old new before after (read none framed is ops moved offset last) = omega (arith, frame_wide old.grammar framed is, ap length ops, ap length none, offset)
 

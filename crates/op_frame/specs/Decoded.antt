@@ -16,6 +16,6 @@ single_ops None = []
 single_ops (Some op) = op ∷ []
 
 -- the first of the operations was given, where there was one
-abbrev pub IsGiven : Option Op → (old new : List Op) → Type 0
-IsGiven None old new = (old ≡ []) × (new ≡ [])
-IsGiven (Some op) old new = old ≡ op ∷ new
+abbrev pub GivesFirstOf : Option Op → (old new : List Op) → Type 0
+GivesFirstOf None old new = (old ≡ []) × (new ≡ [])
+GivesFirstOf (Some op) old new = old ≡ op ∷ new

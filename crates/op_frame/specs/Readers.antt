@@ -88,23 +88,23 @@ Moves (Err e) old new before after = prepend_known old before ≡ prepend_known 
 
 -- An operation is given: the first of those held back, or the first of the frame that is read, whose others are held
 -- back from then on.
-pub data Gives (op : Op) (old new : FrameReading) (before after : Option (List ℕ)) : Type 0 where
-  held : old.todo ≡ op ∷ new.todo → new.unread ≡ old.unread → new.offset ≡ old.offset → new.last ≡ old.last → after ≡ before → Gives op old new before after
+pub data GivesOperation (op : Op) (old new : FrameReading) (before after : Option (List ℕ)) : Type 0 where
+  held : old.todo ≡ op ∷ new.todo → new.unread ≡ old.unread → new.offset ≡ old.offset → new.last ≡ old.last → after ≡ before → GivesOperation op old new before after
   read : old.todo ≡ [] → (framed : Framed) → IsFrame old.grammar framed → framed.ops ≡ op ∷ new.todo → to_give old before ≡ prepend_known framed.bytes (to_give new after)
-      → new.offset ≡ old.offset + length framed.bytes → new.last ≡ old.offset → Gives op old new before after
+      → new.offset ≡ old.offset + length framed.bytes → new.last ≡ old.offset → GivesOperation op old new before after
 
 -- no operation is held back, and the reader stands where it stood
-pub record Stays (old new : FrameReading) : Type 0 where
+pub record StandsStill (old new : FrameReading) : Type 0 where
   pub none_before : old.todo ≡ []
   pub none_after : new.todo ≡ []
   pub offset : new.offset ≡ old.offset
   pub last : new.last ≡ old.last
 
 -- an answer that is no operation comes with none held back, and leaves the reader where it stood
-abbrev pub StaysWith : Result (Option Op) FrameFault → (old new : FrameReading) → Type 0
-StaysWith (Ok (Some op)) old new = Unit {0}
-StaysWith (Ok None) old new = Stays old new
-StaysWith (Err e) old new = Stays old new
+abbrev pub StillWith : Result (Option Op) FrameFault → (old new : FrameReading) → Type 0
+StillWith (Ok (Some op)) old new = Unit {0}
+StillWith (Ok None) old new = StandsStill old new
+StillWith (Err e) old new = StandsStill old new
 
 -- the fault that is kept
 abbrev pub fault_after : Result (Option Op) FrameFault → Option FrameFault
@@ -118,7 +118,7 @@ pub record Advances (old new : FrameReading) (result : Result (Option Op) FrameF
   pub inside : old.offset + length old.unread ≤ old.limit
   pub within : new.offset + length new.unread ≤ new.limit
   pub full : IsErrOf result TooLong → new.offset + length new.unread ≡ new.limit
-  pub stays : StaysWith result old new
+  pub stays : StillWith result old new
   pub fault : new.fault ≡ fault_after result
 
 -- the place, less three for each operation held back, rises by three at least
@@ -129,7 +129,7 @@ Rises old new = old.offset + 3 * length new.todo + 3 ≤ new.offset + 3 * length
 pub record Nexts (old new : FrameReading) (before after : SourceView) (result : Result (Option Op) FrameFault) : Type 0 where
   pub answer : old.todo ≡ [] → IfSome (to_give old before.left) (AnswersBy old.grammar result old.offset (old.limit - old.offset))
   pub at : CarriesOffset result old.offset
-  pub gives : IfOk result (λ given. IfSome given (λ op. Gives op old new before.left after.left))
+  pub gives : IfOk result (λ given. IfSome given (λ op. GivesOperation op old new before.left after.left))
   pub moves : Moves result old.unread new.unread before.left after.left
   pub advances : Advances old new result
 

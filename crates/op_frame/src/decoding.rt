@@ -1,5 +1,5 @@
-ghost use Rattle.std.specs.Prelude.{◌≡◌, ◌∷◌, [], slice_get, IfOk, IsErr, Some};
-ghost use Rattle.origin_model.specs.frames.Frames.{IsFrame, IsTitle, title_bytes};
+ghost use Rattle.std.specs.Prelude.{◌≡◌, slice_get, IfOk, IsErr, Some};
+ghost use Rattle.origin_model.specs.frames.Frames.{HasFrame, IsTitle, frame as frame_of, title_bytes};
 ghost use Rattle.origin_model.specs.declared.grammar.Grammar.TheVariants.{Version1 as Singles};
 ghost use Rattle.op_frame.specs.Firsts.{IsFrameBehind};
 ghost use Rattle.op_frame.specs.FrameFronts.{Completes, IsFrameOf, IsLast};
@@ -16,7 +16,7 @@ use std::str;
 /// The operation of a whole frame that is no run's. Memory goes to a title alone.
 pub fn decode(alloc: Global, frame: &[u8]) -> Result<Op, NoMemory>
     requires { IsFrameOf Singles frame.now }
-    ensures ok { IfOk result (λ op. IsFrame Singles (record { bytes = frame.now; ops = op ∷ [] })) }
+    ensures ok { IfOk result (λ op. HasFrame op × (frame.now ≡ frame_of op)) }
     ensures err { IsErr result → slice_get frame.now 0 ≡ Some SECTION }
 {
     let rest = &frame[1..];

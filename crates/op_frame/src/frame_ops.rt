@@ -1,7 +1,7 @@
 ghost use Rattle.std.specs.Prelude.{◌≡◌, IfOk, IsErr, IfSome, Some, slice_get};
 ghost use Rattle.origin_model.specs.frames.Frames.{IsFrame};
 ghost use Rattle.origin_model.specs.declared.grammar.Grammar.TheVariants.{Version2 as WithRuns};
-ghost use Rattle.op_frame.specs.Decoded.{IsDecoded, IsGiven};
+ghost use Rattle.op_frame.specs.Decoded.{IsDecoded, GivesFirstOf};
 ghost use Rattle.op_frame.specs.FrameFronts.{IsFrameOf};
 
 use crate::decoding::decode;
@@ -77,7 +77,7 @@ impl<'a> FrameOps<'a> {
 
     /// The next operation.
     pub fn next(&mut self) -> Option<Op>
-        ensures { IsGiven result self.old self.new }
+        ensures { GivesFirstOf result self.old self.new }
     {
         match self.run {
             None => self.single.take(),

@@ -12,10 +12,7 @@ pub(crate) fn judge_first(bytes: &[u8]) -> Judged
     requires { length bytes.now ≤ 8 }
     ensures { IsJudged result RunDue bytes.now }
 {
-    if bytes.len() < 4 {
-        return Judged::Front;
-    }
-    if number(bytes) == 0 {
+    if bytes.len() >= 4 && number(bytes) == 0 {
         return Judged::Bad;
     }
     if bytes.len() < 8 {

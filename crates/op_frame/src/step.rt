@@ -24,7 +24,8 @@ pub(crate) struct Taken {
     pub(crate) len: usize,
 }
 
-/// Takes the first frame off the unread bytes and the source, but for scalars, as `take_frame` does. `room` is what the limit leaves from the first unread byte on.
+/// Takes the first frame off the unread bytes and the source, but for scalars, as `take_frame` does. `room` is what the
+/// limit leaves from the first unread byte on.
 pub(crate) fn take_next<S: Source>(
     alloc: Global,
     grammar: Grammar,
