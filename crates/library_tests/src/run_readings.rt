@@ -54,14 +54,14 @@ fn typed_row(
     counter: u32,
     count: u32,
     before: Option<ElementId>,
-    right: Option<ElementId>,
+    right: &Option<ElementId>,
 ) -> Result<Vec<Op>, NoMemory> {
     let mut ops = Vec::new(rt.alloc());
     let mut left = before;
     for k in 0..count {
         let own = counter.wrapping_add(k);
         let ch = char::from_u32(65 + k % 26).unwrap_or('?');
-        ops.push(typed(own, left, right, ch))?;
+        ops.push(typed(own, left, *right, ch))?;
         left = Some(id(1, own));
     }
     Ok(ops)
@@ -128,7 +128,7 @@ fn read_bytes(
 
 #[test]
 fn a_run_is_cut_at_each_byte(rt: HostRuntime) -> Result<(), Fail> {
-    let bytes = encoded(&rt, &typed_row(&rt, 7, 3, Some(id(9, 1)), None)?)?;
+    let bytes = encoded(&rt, &typed_row(&rt, 7, 3, Some(id(9, 1)), &None)?)?;
     equal(&rt, bytes.len(), 38);
     for len in 0..bytes.len() {
         let front = &bytes[..len];
@@ -206,7 +206,7 @@ fn no_run_begins_with_replica_0_or_the_last_counter(rt: HostRuntime) -> Result<(
 #[test]
 fn version_1_has_no_runs(rt: HostRuntime) -> Result<(), Fail> {
     equal(&rt, pushed(Grammar::Version1, &[4]), (0, Grown::Bad));
-    let run = encoded(&rt, &typed_row(&rt, 0, 2, None, None)?)?;
+    let run = encoded(&rt, &typed_row(&rt, 0, 2, None, &None)?)?;
     let bytes = behind_section(&rt, &run)?;
     let limit = bytes.len() as u64;
     let mut reader = FrameReader::old(rt.alloc(), limit)?;
@@ -238,12 +238,12 @@ fn gives<S: Source>(
     frame: u64,
 ) -> Result<bool, FrameFault> {
     let mut start = 0u64;
-    let mut of_frame = 0;
+    let mut of_frame = 0u32;
     for op in ops {
         if reader.next(source)?.as_ref() != Some(op) || reader.last_at() != start {
             return Ok(false);
         }
-        of_frame += 1;
+        of_frame = of_frame.wrapping_add(1);
         if of_frame == 1_024 {
             of_frame = 0;
             start = start.wrapping_add(frame);
@@ -265,7 +265,7 @@ fn reads_longest(rt: &HostRuntime, ops: &[Op], piece: usize) -> Result<bool, Fai
 #[test]
 fn the_longest_frames_go_through_the_buffer(rt: HostRuntime) -> Result<(), Fail> {
     let (left, right) = (Some(id(2, 0)), Some(id(3, 0)));
-    let ops = typed_row(&rt, 0, 2_048, left, right)?;
+    let ops = typed_row(&rt, 0, 2_048, left, &right)?;
     for piece in [500, 4_095, 6_218] {
         holds_at(&rt, &piece, reads_longest(&rt, &ops, piece)?);
     }
@@ -274,7 +274,7 @@ fn the_longest_frames_go_through_the_buffer(rt: HostRuntime) -> Result<(), Fail>
 
 #[test]
 fn a_fault_within_a_run_gives_none_of_it(rt: HostRuntime) -> Result<(), Fail> {
-    let run = encoded(&rt, &typed_row(&rt, 0, 100, None, None)?)?;
+    let run = encoded(&rt, &typed_row(&rt, 0, 100, None, &None)?)?;
     let bytes = behind_section(&rt, &run)?;
     equal(&rt, bytes.len(), 335);
     for (failing, given) in [(0, 0), (1, 1), (6, 1), (7, 101)] {
@@ -326,8 +326,8 @@ fn given(
 
 #[test]
 fn the_operations_of_a_frame_come_one_by_one(rt: HostRuntime) -> Result<(), Fail> {
-    let run = typed_row(&rt, 5, 1_000, None, Some(id(2, 2)))?;
-    let alone = typed_row(&rt, 5, 1, None, None)?;
+    let run = typed_row(&rt, 5, 1_000, None, &Some(id(2, 2)))?;
+    let alone = typed_row(&rt, 5, 1, None, &None)?;
     for ops in [&run, &alone] {
         let mut front = FrameFront::new(Grammar::Version2);
         let count = given(&rt, &mut front, &encoded(&rt, ops)?, ops)?;
