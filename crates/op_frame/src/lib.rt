@@ -35,5 +35,5 @@ pub use frame_front::FrameFront;
 pub use frame_ops::FrameOps;
 pub use grown::Grown;
 pub use law::{comes_once, frames_are, one_frame, reads_once};
-pub use protocol::{CLOSING, END, GREETING, REFUSAL};
+pub use protocol::{CLOSING, END, GREETING, REFUSAL, RUN};
 pub use reader::FrameReader;

@@ -5,7 +5,8 @@ pub(crate) const TEXT: u8 = 2;
 
 pub(crate) const DELETE: u8 = 3;
 
-pub(crate) const RUN: u8 = 4;
+/// The first byte of a run's frame.
+pub const RUN: u8 = 4;
 
 /// What begins a session's text, with a cursor behind it.
 pub const GREETING: u8 = 0x48;
