@@ -3,15 +3,14 @@ use Rattle.std.proofs.Common.{[], Bool, List, ap, arith, false, length, nat_eq, 
 use Rattle.std.specs.Prelude.{None, Some, if◌then◌else◌}
 use Rattle.std.specs.Int.{from_be_bytes, w32}
 use Rattle.std.proofs.lemmas.Bool.{eq-eqb, eqb-true, le-ltb, lt-ltb, ltb-false, ltb-true, true≢false}
-use Rattle.std.proofs.lemmas.List.Elements.{All-nil}
 use Rattle.fugue_ids.specs.declared.op.Op.{Op}
-use Rattle.origin_model.specs.frames.Frames.{HasFrame, single_frames}
 use Rattle.origin_model.specs.relay.Session.{Goes, SessionReading, Taken, TakesAll, at_cursor, session_goes_on, greeting, refusal_message, session_refused, unread}
 use Rattle.origin_model.proofs.SharedLemmas.{closed_takes, takes-append}
-use Rattle.op_frame.proofs.StreamLemmas.{no_bytes_are_partial}
+use Rattle.origin_model.specs.declared.grammar.Grammar.TheVariants.{Version2}
+use Rattle.op_frame.proofs.ReadingLemmas.{no_bytes_are_partial}
 use Rattle.relay_core.specs.Sessions.{becomes}
-use Rattle.relay_core.specs.Texts.{Beyond, SessionText, Greets, IsCourse, IsGreetingFront, NoGreeting, Says, Speaks, reply_to_text, log_behind, with_frames}
-use Rattle.relay_core.proofs.TextLemmas.{Reads, behind, frames_take, outcome, reads, rest_takes}
+use Rattle.relay_core.specs.Texts.{Beyond, SessionText, Greets, IsCourse, IsGreetingFront, NoGreeting, Says, Speaks, reply_to_text, log_behind, with_ops}
+use Rattle.relay_core.proofs.TextLemmas.{Reads, behind, none_starts, outcome, reads, rest_takes, starts_take}
 
 -- the first bytes of a greeting
 pub greeting_goes : (limit : ℕ) (log : List (List ℕ)) (text : List ℕ) → IsGreetingFront text → TakesAll limit text (record { log = log; next = Goes unread }) (record { log = log; next = Goes (record { cursor = None; rest = text }) })
@@ -62,10 +61,10 @@ taken_by course log text = record { log = log_behind course log; next = becomes 
 
 -- the greeting of a text, and what it says behind it
 says_takes : (limit : ℕ) (log : List (List ℕ)) (text : List ℕ) (cursor : ℕ) (new : List Op) (rest : List ℕ) (after : Taken) → (says : Says text cursor new rest)
-    → TakesAll limit (single_frames new ++ rest) (at_cursor log cursor) after → TakesAll limit text (record { log = log; next = Goes unread }) after
+    → TakesAll limit says.messages (at_cursor log cursor) after → TakesAll limit text (record { log = log; next = Goes unread }) after
 says_takes limit log text cursor new rest after says h =
     subst (λ (bytes : List ℕ). TakesAll limit bytes (record { log = log; next = Goes unread }) after) (sym says.text_is)
-    (takes-append limit (greeting ∷ says.number) (single_frames new ++ rest) (record { log = log; next = Goes unread }) (at_cursor log cursor) after
+    (takes-append limit (greeting ∷ says.number) says.messages (record { log = log; next = Goes unread }) (at_cursor log cursor) after
     (subst (λ (c : ℕ). TakesAll limit (greeting ∷ says.number) (record { log = log; next = Goes unread }) (at_cursor log c)) (sym says.cursor_is) (greeting_takes limit log says.number says.four_bytes)) h)
 
 -- the session of a whole text comes to what its course says
@@ -80,13 +79,14 @@ course_takes NoGreeting limit log text is =
     none true e = absurd (is.2 (eqb-true is.0 greeting e))
     none false e = e
 course_takes Beyond limit log text is =
+    let messages : List ℕ = is.2.messages in
     says_takes limit log text is.0 [] is.1 (session_refused log 3) is.2
-    (subst (λ (t : Taken). TakesAll limit is.1 t (session_refused log 3)) (sym (beyond_log log is.0 is.3)) (closed_takes limit is.1 log (refusal_message 3)))
+    (subst (λ (t : Taken). TakesAll limit messages t (session_refused log 3)) (sym (beyond_log log is.0 is.3)) (closed_takes limit messages log (refusal_message 3)))
 course_takes (Speaks cursor new rest follows) limit log text is =
-    let after : Taken = outcome follows cursor (with_frames log new) rest in
+    let after : Taken = outcome follows cursor (with_ops log new) rest in
     says_takes limit log text cursor new rest after is.0
-    (subst (λ (t : Taken). TakesAll limit (single_frames new ++ rest) t after) (sym (within_log log cursor is.1))
-    (frames_take limit cursor new log rest after is.0.have_frames is.2 (rest_takes follows limit cursor (with_frames log new) rest is.3)))
+    (subst (λ (t : Taken). TakesAll limit is.0.messages t after) (sym (within_log log cursor is.1))
+    (starts_take limit cursor new log is.0.messages rest after is.0.starts is.2 (rest_takes follows limit cursor (with_ops log new) rest is.3)))
 
 -- a text is of some course
 pub course_found : (limit : ℕ) (log : List (List ℕ)) (text : List ℕ) (after : Taken) → length log ≤ limit → TakesAll limit text (record { log = log; next = Goes unread }) after → (course : SessionText) × IsCourse course limit log [] text
@@ -96,7 +96,7 @@ course_found limit log (first ∷ number) after room h = by_first (nat_eq first 
     by_cursor : (number more : List ℕ) → length number ≡ 4 → first ≡ greeting → TakesAll limit (first ∷ number ++ more) (record { log = log; next = Goes unread }) after → (b : Bool)
         → nat_lt (length log) (from_be_bytes w32 number) ≡ b → (course : SessionText) × IsCourse course limit log [] (first ∷ number ++ more)
     by_cursor number more four is h true beyond =
-        (Beyond, (from_be_bytes w32 number, more, record { number = number; four_bytes = four; cursor_is = refl; have_frames = All-nil HasFrame; text_is = ap (λ x. x ∷ number ++ more) is }, ltb-true (length log) (from_be_bytes w32 number) beyond))
+        (Beyond, (from_be_bytes w32 number, more, record { number = number; four_bytes = four; cursor_is = refl; messages = more; starts = none_starts more; text_is = ap (λ x. x ∷ number ++ more) is }, ltb-true (length log) (from_be_bytes w32 number) beyond))
     by_cursor number more four is h false beyond =
         let cursor : ℕ = from_be_bytes w32 number in
         let within : cursor ≤ length log = ltb-false (length log) cursor beyond in
@@ -104,15 +104,16 @@ course_found limit log (first ∷ number) after room h = by_first (nat_eq first 
         let whole : TakesAll limit (greeting ∷ number ++ more) start after = subst (λ (x : ℕ). TakesAll limit (x ∷ number ++ more) start after) is h in
         let rest : TakesAll limit more (session_goes_on log cursor) after
         = subst (λ (t : Taken). TakesAll limit more t after) (within_log log cursor within) (behind limit (greeting ∷ number) more start (at_cursor log cursor) after whole (greeting_takes limit log number four)) in
-        let r : Reads limit cursor log more after = reads limit cursor after more log [] room no_bytes_are_partial rest in (
+        let r : Reads limit cursor log more after = reads limit cursor after more log [] room (no_bytes_are_partial Version2) rest in (
           Speaks cursor r.new r.rest r.follows,
           (
             record {
               number = number;
               four_bytes = four;
               cursor_is = refl;
-              have_frames = r.have_frames;
-              text_is = (λ i. is i ∷ number ++ r.split i);
+              messages = more;
+              starts = r.starts;
+              text_is = ap (λ x. x ∷ number ++ more) is;
             },
             within,
             r.room,

@@ -1,5 +1,6 @@
 pub mod LogLemmas
 pub mod SessionLemmas
+pub mod JoiningLemmas
 pub mod TakingLemmas
 pub mod PieceLemmas
 pub mod KindLemmas

@@ -14,10 +14,10 @@ use Rattle.origin_model.specs.relay.Session.{SessionReading, Taken, unread}
 use Rattle.origin_model.proofs.SharedLemmas.{after_piece, piece_steps, unknown_steps}
 use Rattle.relay_core.specs.Laws.{SessionsByWholeTexts}
 use Rattle.relay_core.specs.Sessions.{becomes}
-use Rattle.relay_core.specs.Texts.{Beyond, SessionText, Greets, HasCome, IsCourse, NoGreeting, Speaks, Tells, TellsAll, TellsTo, Texts, Told, reply_to_text, log_behind, reply_with, texts_behind, text_opened}
+use Rattle.relay_core.specs.Texts.{Beyond, Closed, Follows, Foreign, SessionText, Greets, HasCome, IsCourse, NoGreeting, OneTooMany, Speaks, Stands, Tells, TellsAll, TellsTo, Texts, Told, Unfinished, joined_behind, reply_to_text, log_behind, reply_with, texts_behind, text_opened, with_ops}
 use Rattle.relay_core.proofs.CourseLemmas.{reading_by, taken_by}
 use Rattle.relay_core.proofs.StoryLemmas.{Read, ReadSo, read_on, read_takes, still_read}
-use Rattle.relay_core.proofs.TextLemmas.{grown}
+use Rattle.relay_core.proofs.JoiningLemmas.{grown}
 
 -- a session is open in both, and was read as its text says, or in neither
 abbrev Alike : List (List ℕ) → Option (List ℕ) → Option SessionReading → Type 0
@@ -83,13 +83,20 @@ course_grows : (course : SessionText) (log : List (List ℕ)) → length log ≤
 course_grows Greets log = omega arith
 course_grows NoGreeting log = omega arith
 course_grows Beyond log = omega arith
-course_grows (Speaks cursor new rest follows) log = grown log new
+course_grows (Speaks cursor new rest follows) log = omega (arith, grown log new, grown (with_ops log new) (joined_behind follows))
+
+-- what joined of a frame with an operation too many fits
+follows_room : (follows : Follows) (limit : ℕ) (log : List (List ℕ)) (rest : List ℕ) → length log ≤ limit → Stands follows limit log rest → length (with_ops log (joined_behind follows)) ≤ limit
+follows_room Unfinished limit log rest room s = room
+follows_room Closed limit log rest room s = room
+follows_room Foreign limit log rest room s = room
+follows_room (OneTooMany before) limit log rest room s = omega (arith, s.7)
 
 course_room : (course : SessionText) (limit : ℕ) (log : List (List ℕ)) (before : List Op) (text : List ℕ) → length log ≤ limit → IsCourse course limit log before text → length (log_behind course log) ≤ limit
 course_room Greets limit log before text room is = room
 course_room NoGreeting limit log before text room is = room
 course_room Beyond limit log before text room is = room
-course_room (Speaks cursor new rest follows) limit log before text room is = is.2
+course_room (Speaks cursor new rest follows) limit log before text room is = follows_room follows limit (with_ops log new) rest is.2 is.3
 
 -- the reply to what the course says
 replies_same : (n : ℕ) (answer : Option (List ℕ)) (reading : SessionReading) → reply_of n (becomes answer reading) ≡ reply_with n answer

@@ -1,5 +1,6 @@
 pub mod Greetings
 pub mod Logs
+pub mod Joins
 pub mod Sessions
 pub mod Relays
 pub mod Texts

@@ -1,9 +1,11 @@
-//! The relay: sessions whose texts are read byte by byte, and the log of the frames that came.
+//! The relay: sessions whose texts are read byte by byte, and the log of the operations that came.
 #![tactic(auto)]
 
 mod greeting;
+mod joining;
 mod law;
 mod log;
+mod partial_frame;
 mod piece;
 mod relay;
 mod sessions;

@@ -8,7 +8,7 @@ use op_frame::END;
 use std::alloc::Global;
 use std::hash::BuildHasher;
 
-/// The distinct frames, in the order in which they came first.
+/// The distinct operations, each as its own frame, in the order in which they came first.
 pub(crate) type Log<B> = IndexSet<Vec<u8>, B>;
 
 pub(crate) fn has_frame<B: BuildHasher>(log: &Log<B>, frame: &[u8]) -> bool
@@ -17,7 +17,7 @@ pub(crate) fn has_frame<B: BuildHasher>(log: &Log<B>, frame: &[u8]) -> bool
     log.contains(frame)
 }
 
-/// A frame more, at the end. After want of memory the log is as before.
+/// One operation more, at the end. After want of memory the log is as before.
 pub(crate) fn add<B: BuildHasher>(
     alloc: Global,
     log: &mut Log<B>,
@@ -34,7 +34,7 @@ pub(crate) fn add<B: BuildHasher>(
     Ok(())
 }
 
-/// The frames from the cursor on.
+/// The operations from the cursor on.
 fn from_cursor<'a, B: BuildHasher>(log: &'a Log<B>, cursor: u32) -> &'a [Vec<u8>]
     ensures { result.now ≡ drop cursor log.now.keys }
 {

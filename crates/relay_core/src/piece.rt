@@ -35,7 +35,7 @@ fn comes_to(
     Ok((None, replies))
 }
 
-/// What a piece of an open session comes to. After want of memory the log may have some of the frames that came.
+/// What a piece of an open session comes to. After want of memory the log may have some of the operations that came.
 fn take<B: BuildHasher>(
     alloc: Global,
     limit: u32,

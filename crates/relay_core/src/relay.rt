@@ -19,10 +19,10 @@ pub struct NoMemoryFor {
     pub event: Event,
 }
 
-/// The most frames that a log may be asked to take.
+/// The most operations that a log may be asked to take.
 pub const MOST_LOGGED: u32 = 1_048_576;
 
-/// The frames that came, and the open sessions. It knows nothing of what the frames stand for.
+/// The operations that came, and the open sessions.
 ///
 /// A session costs no memory beyond that of one frame.
 #[derive(Drop)]
@@ -65,7 +65,7 @@ impl<B: BuildHasher> Relay<B> {
         }
     }
 
-    /// How many frames the log has.
+    /// How many operations the log has.
     pub fn log_len(&self) -> u32
         ensures { result ≡ length self.now.log }
     {

@@ -5,8 +5,8 @@ ghost use Rattle.relay_core.specs.Sessions.{reading_of, sessions_in, session_kep
 ghost use Rattle.origin_model.specs.relay.Session.{unread};
 
 use crate::greeting::Greeting;
+use crate::partial_frame::PartialFrame;
 use fugue_ids::NoMemory;
-use op_frame::FrameFront;
 use std::collections::BTreeMap;
 
 /// How far the text of an open session was read. It takes no memory of its own.
@@ -15,7 +15,7 @@ pub(crate) enum Session {
     /// These bytes of the greeting came.
     Greeting(Greeting),
     /// Behind the greeting: its cursor, and the bytes since the last whole message.
-    Messages(u32, FrameFront),
+    Messages(u32, PartialFrame),
 }
 
 impl Session {
