@@ -1,8 +1,8 @@
 use crate::assertions::{equal, holds_at};
 use crate::dice::Dice;
 use Happens::{Goes, Opens, Says};
-use fugue_ids::ByteList;
-use op_frame::{First, first_frame};
+use fugue_ids::{ByteList, Op};
+use op_frame::{First, encode, first_frame};
 use relay_core::{Event, MOST_LOGGED, Relay, Reply};
 use std::alloc::{AllocError, Global};
 use std::hash::{BuildHasherDefault, FoldHasher};
@@ -38,6 +38,44 @@ const BOTH: &[u8] = &[
 
 /// The section alone, and the length of a log of two.
 const SECOND: &[u8] = &[1, 0, 0, 0, 9, 0, 0, 0, 0, 0, 0, 0, 1, 84, 0x55, 0, 0, 0, 2];
+
+/// The frame of five letters that were typed in a row.
+const FIVE_LETTERS: &[u8] = &[
+    4, 0, 0, 0, 1, 0, 0, 0, 0, 0, 0, 0, 9, 0, 0, 0, 0, 0, 0, 0, 5, 0, 0, 97, 0, 0, 98, 0, 0, 99, 0,
+    0, 100, 0, 0, 101,
+];
+
+/// The own frames of the first three of them.
+const THREE_LETTERS: &[u8] = &[
+    2, 0, 0, 0, 1, 0, 0, 0, 0, 0, 0, 0, 9, 0, 0, 0, 0, 0, 0, 0, 0, 97, 2, 0, 0, 0, 1, 0, 0, 0, 1, 0,
+    0, 0, 9, 0, 0, 0, 0, 1, 0, 0, 0, 1, 0, 0, 0, 0, 0, 0, 0, 98, 2, 0, 0, 0, 1, 0, 0, 0, 2, 0, 0, 0,
+    9, 0, 0, 0, 0, 1, 0, 0, 0, 1, 0, 0, 0, 1, 0, 0, 0, 99,
+];
+
+/// Those, and the length of a log of three.
+const THREE_LOGGED: &[u8] = &[
+    2, 0, 0, 0, 1, 0, 0, 0, 0, 0, 0, 0, 9, 0, 0, 0, 0, 0, 0, 0, 0, 97, 2, 0, 0, 0, 1, 0, 0, 0, 1, 0,
+    0, 0, 9, 0, 0, 0, 0, 1, 0, 0, 0, 1, 0, 0, 0, 0, 0, 0, 0, 98, 2, 0, 0, 0, 1, 0, 0, 0, 2, 0, 0, 0,
+    9, 0, 0, 0, 0, 1, 0, 0, 0, 1, 0, 0, 0, 1, 0, 0, 0, 99, 85, 0, 0, 0, 3,
+];
+
+/// The third one alone, and the length of a log of three.
+const THIRD: &[u8] = &[
+    2, 0, 0, 0, 1, 0, 0, 0, 2, 0, 0, 0, 9, 0, 0, 0, 0, 1, 0, 0, 0, 1, 0, 0, 0, 1, 0, 0, 0, 99, 85,
+    0, 0, 0, 3,
+];
+
+/// A greeting, the section, and the frame of the first three letters.
+const SECTION_AND_RUN: &[u8] = &[
+    72, 0, 0, 0, 0, 1, 0, 0, 0, 9, 0, 0, 0, 0, 0, 0, 0, 1, 84, 4, 0, 0, 0, 1, 0, 0, 0, 0, 0, 0, 0,
+    9, 0, 0, 0, 0, 0, 0, 0, 3, 0, 0, 97, 0, 0, 98, 0, 0, 99,
+];
+
+/// Both frames, the section first, and the length of a log of two.
+const SECTION_FIRST: &[u8] = &[
+    1, 0, 0, 0, 9, 0, 0, 0, 0, 0, 0, 0, 1, 84, 2, 0, 0, 0, 1, 0, 0, 0, 0, 0, 0, 0, 9, 0, 0, 0, 0, 0,
+    0, 0, 0, 97, 85, 0, 0, 0, 2,
+];
 
 /// What happens to a session.
 #[derive(Clone, Copy)]
@@ -138,7 +176,7 @@ fn check_rows(
     Ok(())
 }
 
-/// One frame fits; it is known when it comes again, and another is refused.
+/// One operation fits; it is known when it comes again, and another is refused.
 const ONE_FRAME: &[Row] = &[
     (8, Opens, &[]),
     (8, Says(HELLO_SECTION_TEXT), &[0x58, 2]),
@@ -150,11 +188,83 @@ const ONE_FRAME: &[Row] = &[
     (9, Says(HELLO_TEXT), &[0x58, 2]),
 ];
 
+/// Of five letters that were typed in a row three fit: they stay, and are known alone and as a run.
+const RUNS: &[Row] = &[
+    (0, Opens, &[]),
+    (0, Says(&[0x48, 0, 0, 0, 0]), &[]),
+    (0, Says(FIVE_LETTERS), &[0x58, 2]),
+    (1, Opens, &[]),
+    (1, Says(&[0x48, 0, 0, 0, 0]), &[]),
+    (1, Says(THREE_LETTERS), &[]),
+    (1, Says(&[0x44]), THREE_LOGGED),
+    // A cursor within the run, which comes in two pieces.
+    (2, Opens, &[]),
+    (2, Says(&[0x48, 0, 0, 0, 2]), &[]),
+    (
+        2,
+        Says(&[
+            4, 0, 0, 0, 1, 0, 0, 0, 0, 0, 0, 0, 9, 0, 0, 0, 0, 0, 0, 0,
+        ]),
+        &[],
+    ),
+    (
+        2,
+        Says(&[
+            3, 0, 0, 97, 0, 0, 98, 0, 0, 99,
+        ]),
+        &[],
+    ),
+    (2, Says(&[0x44]), THIRD),
+    (3, Opens, &[]),
+    (3, Says(&[0x48, 0, 0, 0, 4]), &[0x58, 3]),
+    (4, Opens, &[]),
+    (4, Says(&[0x48, 0, 0, 0, 3, 0x44]), &[0x55, 0, 0, 0, 3]),
+    // The closing byte's number within a frame ends nothing, and a run of one letter is none.
+    (5, Opens, &[]),
+    (5, Says(&[0x48, 0, 0, 0, 0, 4, 0, 0, 0, 0x44]), &[]),
+    (5, Goes, &[]),
+    (5, Opens, &[]),
+    (
+        5,
+        Says(&[
+            72, 0, 0, 0, 0, 4, 0, 0, 0, 1, 0, 0, 0, 0, 0, 0, 0, 9, 0, 0, 0, 0, 0, 0, 0, 1,
+        ]),
+        &[0x58, 1],
+    ),
+];
+
+/// The section and one letter of three fit.
+const SECTION_AND_LETTER: &[Row] = &[
+    (0, Opens, &[]),
+    (0, Says(SECTION_AND_RUN), &[0x58, 2]),
+    (1, Opens, &[]),
+    (1, Says(&[0x48, 0, 0, 0, 0]), &[]),
+    (1, Says(TEXT), &[]),
+    (1, Says(SECTION), &[]),
+    (1, Says(&[0x44]), SECTION_FIRST),
+];
+
+/// All five letters fit.
+const ALL_LETTERS: &[Row] = &[
+    (0, Opens, &[]),
+    (0, Says(&[0x48, 0, 0, 0, 0]), &[]),
+    (0, Says(FIVE_LETTERS), &[]),
+    (1, Opens, &[]),
+    (1, Says(&[0x48, 0, 0, 0, 5, 0x44]), &[0x55, 0, 0, 0, 5]),
+];
+
 #[test]
 fn each_session_is_answered_as_its_text_asks_while_the_log_has_room(
     rt: HostRuntime,
 ) -> Result<(), Fail> {
-    for (most, rows, logged) in [(MOST_LOGGED, ROWS, 2), (1, ONE_FRAME, 1)] {
+    let cases = [
+        (MOST_LOGGED, ROWS, 2),
+        (1, ONE_FRAME, 1),
+        (3, RUNS, 3),
+        (2, SECTION_AND_LETTER, 2),
+        (MOST_LOGGED, ALL_LETTERS, 5),
+    ];
+    for (most, rows, logged) in cases {
         let mut relay = Relay::new(rt.alloc(), BuildHasherDefault::default(), most);
         let checked = check_rows(&rt, rt.alloc(), &mut relay, rows);
         equal(&rt, relay.log_len(), logged);
@@ -164,17 +274,17 @@ fn each_session_is_answered_as_its_text_asks_while_the_log_has_room(
     Ok(())
 }
 
-/// What four sessions say: a section and a text, with a byte behind the closing one; the text again, with more; a
-/// cursor that may come too early; and a surrogate at the end.
+/// What four sessions say: a section and a text, with a byte behind the closing one; a run that begins with the text,
+/// with more; a cursor that may come too early; and a surrogate at the end.
 const TEXTS: [&[u8]; 4] = [
     &[
         72, 0, 0, 0, 0, 1, 0, 0, 0, 9, 0, 0, 0, 0, 0, 0, 0, 1, 84, 2, 0, 0, 0, 1, 0, 0, 0, 0, 0, 0,
         0, 9, 0, 0, 0, 0, 0, 0, 0, 0, 97, 68, 72,
     ],
     &[
-        72, 0, 0, 0, 0, 2, 0, 0, 0, 1, 0, 0, 0, 0, 0, 0, 0, 9, 0, 0, 0, 0, 0, 0, 0, 0, 97, 3, 0, 0,
-        0, 1, 0, 0, 0, 0, 1, 0, 0, 0, 9, 0, 0, 0, 0, 0, 0, 0, 1, 84, 1, 0, 0, 0, 9, 0, 0, 0, 1, 1,
-        0, 0, 0, 9, 0, 0, 0, 0, 0, 0, 6, 97, 195, 169, 226, 130, 172, 68,
+        72, 0, 0, 0, 0, 4, 0, 0, 0, 1, 0, 0, 0, 0, 0, 0, 0, 9, 0, 0, 0, 0, 0, 0, 0, 3, 0, 0, 97, 0,
+        0, 98, 0, 0, 99, 3, 0, 0, 0, 1, 0, 0, 0, 0, 1, 0, 0, 0, 9, 0, 0, 0, 0, 0, 0, 0, 1, 84, 1, 0,
+        0, 0, 9, 0, 0, 0, 1, 1, 0, 0, 0, 9, 0, 0, 0, 0, 0, 0, 6, 97, 195, 169, 226, 130, 172, 68,
     ],
     &[
         72, 0, 0, 0, 1, 1, 0, 0, 0, 9, 0, 0, 0, 1, 1, 0, 0, 0, 9, 0, 0, 0, 0, 0, 0, 6, 97, 195,
@@ -190,13 +300,13 @@ const TEXTS: [&[u8]; 4] = [
 ];
 
 /// What a text is at its last byte, read from its start.
-#[derive(Clone, Copy)]
+#[derive(Drop)]
 enum Told {
     Partly,
     /// The greeting ends there.
     Cursor(u32),
-    /// A frame ends there, and begins here.
-    Frame(usize),
+    /// The frame of these ends there.
+    Frame(Vec<Op>),
     /// The closing byte, behind this greeting.
     Closing(u32),
     Bad,
@@ -214,7 +324,7 @@ fn read_text(alloc: Global, text: &[u8]) -> Result<Told, Fail> {
     for _ in 0..messages.len() {
         match first_frame(alloc, rest)? {
             First::Whole(_, len) if len < rest.len() => rest = &rest[len..],
-            First::Whole(..) => return Ok(Told::Frame(text.len().saturating_sub(rest.len()))),
+            First::Whole(ops, _) => return Ok(Told::Frame(ops)),
             First::Prefix => return Ok(Told::Partly),
             First::Bad if matches!(rest, [0x44]) => return Ok(Told::Closing(cursor)),
             First::Bad => return Ok(Told::Bad),
@@ -223,35 +333,55 @@ fn read_text(alloc: Global, text: &[u8]) -> Result<Told, Fail> {
     Ok(Told::Cursor(cursor))
 }
 
-fn slow_answer(alloc: Global, log: &[&[u8]], cursor: u32) -> Result<Vec<u8>, Fail> {
+fn slow_answer(alloc: Global, log: &[Vec<u8>], cursor: u32) -> Result<Vec<u8>, Fail> {
     let mut bytes = Vec::new(alloc);
     for frame in log.iter().skip(cursor as usize) {
-        bytes.extend_from_slice(frame)?;
+        bytes.extend_from_slice(frame.as_slice())?;
     }
     bytes.push(0x55)?;
     bytes.extend_from_slice(&(log.len().min(FEW) as u32).to_be_bytes())?;
     Ok(bytes)
 }
 
+/// Whether one of the operations finds the log full; those before it join.
+fn is_refused(
+    alloc: Global,
+    limit: usize,
+    log: &mut Vec<Vec<u8>>,
+    ops: &[Op],
+) -> Result<bool, Fail> {
+    for op in ops {
+        let mut own = Vec::new(alloc);
+        encode(op, &mut own)?;
+        if log.contains(&own) {
+            continue;
+        }
+        if log.len() >= limit {
+            return Ok(true);
+        }
+        log.push(own)?;
+    }
+    Ok(false)
+}
+
 /// The reply to a text at its last byte, by reading it anew; no bytes where there is none.
 fn slow_reply(
     alloc: Global,
     limit: usize,
-    log: &mut Vec<&'static [u8]>,
-    text: &'static [u8],
+    log: &mut Vec<Vec<u8>>,
+    text: &[u8],
 ) -> Result<Vec<u8>, Fail> {
     let refused = match read_text(alloc, text)? {
         Told::Cursor(cursor) if cursor as usize > log.len() => 3,
         Told::Bad => 1,
         Told::Closing(cursor) => return slow_answer(alloc, log, cursor),
-        Told::Frame(at) if at < text.len() && !log.contains(&&text[at..]) => {
-            if log.len() < limit {
-                log.push(&text[at..])?;
+        Told::Frame(ops) => {
+            if !is_refused(alloc, limit, log, &ops)? {
                 return Ok(Vec::new(alloc));
             }
             2
         }
-        Told::Partly | Told::Cursor(_) | Told::Frame(_) => return Ok(Vec::new(alloc)),
+        Told::Partly | Told::Cursor(_) => return Ok(Vec::new(alloc)),
     };
     Ok(vec![in alloc; 0x58, refused]?)
 }
@@ -259,8 +389,8 @@ fn slow_reply(
 /// The reply to a piece of a text, from one byte to another.
 fn slow_piece(
     alloc: Global,
-    log: &mut Vec<&'static [u8]>,
-    text: &'static [u8],
+    log: &mut Vec<Vec<u8>>,
+    text: &[u8],
     from: usize,
     to: usize,
 ) -> Result<Vec<u8>, Fail> {
@@ -273,7 +403,7 @@ fn slow_piece(
     Ok(Vec::new(alloc))
 }
 
-/// How many frames the log takes here.
+/// How many operations the log takes here.
 const FEW: usize = 4;
 
 const OPENED: &[Row] = &[
@@ -288,7 +418,7 @@ fn talk(
     rt: &impl Abort,
     alloc: Global,
     relay: &mut Relay<Plain>,
-    log: &mut Vec<&'static [u8]>,
+    log: &mut Vec<Vec<u8>>,
     seed: u64,
 ) -> Result<(), Fail> {
     let mut dice = Dice { state: seed };
