@@ -1,3 +1,4 @@
+mod run_replies;
 mod syncs;
 
 use crate::assertions::{equal, equal_at};

@@ -8,7 +8,7 @@ use relay_sync::{SyncFault, Synced, sync};
 use replica_core::Replica;
 use std::process::Abort;
 
-const UNCOUNTED: Tally = Tally {
+pub(super) const UNCOUNTED: Tally = Tally {
     accepted: 0,
     repeated: 0,
     conflict: 0,
@@ -80,7 +80,7 @@ const EXCHANGES: &[Exchange] = &[
 ];
 
 /// An exchange of a replica that has nothing left to settle.
-fn exchanged<W: Wire>(
+pub(super) fn exchanged<W: Wire>(
     rt: &(impl Abort + AllocGlobal),
     replica: &mut Replica,
     wire: &mut W,
@@ -173,7 +173,7 @@ fn anew<W: Wire>(
 }
 
 /// The same with this reply, over a wire of which these calls fail.
-fn replied(
+pub(super) fn replied(
     rt: &(impl Abort + AllocGlobal),
     most: u32,
     reply: &[u8],
