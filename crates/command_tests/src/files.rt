@@ -180,7 +180,10 @@ fn bytes_decide_what_loading_answers(rt: HostRuntime) {
 #[test]
 fn a_file_of_version_1_is_carried_over(rt: HostRuntime) {
     let mut disk = sure_disk(&rt, list(&rt, OLD), 200);
-    let two = [text(4, Some(id(3)), Some(id(2)), 'D'), text(5, Some(id(4)), Some(id(2)), 'E')];
+    let two = [
+        text(4, Some(id(3)), Some(id(2)), 'D'),
+        text(5, Some(id(4)), Some(id(2)), 'E'),
+    ];
     let ops = Vec::from_array(rt.alloc(), two).expect(&rt, "memory");
     let end = End { at: 179, slots: 2 };
     equal(&rt, save(rt.alloc(), &mut disk, &ops), Some(end));
