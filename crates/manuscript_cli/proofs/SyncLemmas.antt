@@ -55,7 +55,7 @@ module _ (port cursor : ℕ) (old new : WireView) (before after : OpsTaking) (do
         no_other = inl (s.hears.hears.port ∙ s.asks.dialled);
         whole = λ d. took;
         dialled = λ d. s.hears.hears.port ∙ s.asks.dialled;
-        heard = λ d. record { ops = s.hears.ops; count = count; last = s.hears.last; ends = s.hears.ends; heard = sym s.asks.left ∙ s.hears.hears.heard };
+        heard = λ d. record { found = s.hears.found; are_frames = s.hears.are_frames; count = count; last = s.hears.last; ends = s.hears.ends; heard = sym s.asks.left ∙ s.hears.hears.heard };
         calm = calm;
       }
 
@@ -96,8 +96,16 @@ reply_gives_none (sync_fault.RelayRefused code) port cursor replica now kept aft
 reply_gives_none (sync_fault.CutShort k) port cursor replica now kept after last end home wire kept_after holds fails heard rose sure = cause_ops wire.old.left (taking_begun replica kept) last (Cut k) heard
 reply_gives_none sync_fault.TooLong port cursor replica now kept after last end home wire kept_after holds fails heard rose sure = cause_ops wire.old.left (taking_begun replica kept) last TooLong heard
 reply_gives_none (sync_fault.TooMany most) port cursor replica now kept after last end home wire kept_after holds fails heard rose sure =
-    let cause = cause_ops wire.old.left (taking_begun replica kept) last TooMany heard in
-    (elim fails [ inl asks ↦ absurd asks.cause | inr hear ↦ hear.hears.stops.1 ∙ ap (λ (r : Replica). r.most) hear.hears.takes.replica ], cause.0, cause.1)
+    let cause = cause_ops wire.old.left (taking_begun replica kept) last TooMany heard in (
+      elim fails [
+        | inl asks ↦ absurd asks.cause
+        | inr hear ↦
+            let many = hear.hears.stops.0 in
+            many.2 ∙ ap (λ (r : Replica). r.most) many.1.takes.replica ∙ ap (λ (r : Replica). r.most) hear.hears.takes.replica
+      ],
+      cause.0,
+      cause.1,
+    )
 reply_gives_none sync_fault.NoMemory port cursor replica now kept after last end home wire kept_after holds fails heard rose sure = tt
 
 -- a reply that was taken in gives its outcome

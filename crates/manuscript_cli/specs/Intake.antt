@@ -6,7 +6,7 @@ use Rattle.origin_model.specs.declared.grammar.Grammar.TheVariants.{Version2}
 use Rattle.origin_model.specs.taking.Taking.{TooMany as AnswersTooMany, IsSettled, answer, intake, intake_counted, held_from, kept_from, tally_from, no_counts}
 use Rattle.origin_model.specs.declared.taking.Tally.{Tally}
 use Rattle.op_frame.specs.Courses.{Comes, IntakeCourse, Whole, CutShort as IsCutShort, BadFrame as HasBadFrame, TooLong as IsTooLong, TooMany as HasTooMany}
-use Rattle.op_frame.specs.Readers.{FrameReading, Nexts}
+use Rattle.op_frame.specs.Readers.{FrameReading, Nexts, Rises}
 use Rattle.op_frame.specs.declared.fault.FrameFault.TheVariants as frame_fault
 use Rattle.replica_core.specs.declared.keeping.FeedFault.{FeedFault}
 use Rattle.replica_core.specs.declared.keeping.FeedFault.TheVariants as feed_fault
@@ -49,6 +49,7 @@ pub record IsReady (now : StreamTaking) : Type 0 where
 pub record TakesOne (old new : StreamTaking) (before after : SourceView) : Type 0 where
   pub op : Op
   pub nexts : Nexts old.reader new.reader before after (Ok (Some op))
+  pub rises : Rises old.reader new.reader
   pub has_place : answer old.replica.hold old.replica.most old.replica.held op ≢ AnswersTooMany
   pub replica : new.replica ≡ record old.replica { held = intake old.replica.hold old.replica.most old.replica.held op }
   pub counts : new.counts ≡ intake_counted old.replica.hold old.replica.most old.replica.held op old.counts

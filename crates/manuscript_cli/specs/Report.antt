@@ -1,5 +1,5 @@
 -- The commands that report: each writes a text of what a file's replica holds to the output.
-use Rattle.std.specs.Prelude.{◌≡◌, ◌≢◌, ◌⊎◌, ℕ, List, [], length}
+use Rattle.std.specs.Prelude.{◌≡◌, ◌≢◌, ◌⊎◌, ℕ, List, [], ◌++◌, length}
 use Rattle.fugue_ids.specs.Causes.{Rose}
 use Rattle.fugue_ids.specs.Outs.{OutView}
 use Rattle.origin_model.specs.frames.Framings.{frames}

@@ -47,3 +47,8 @@ pub returns-clause-ok : goal.returns-clause-ok
 returns-clause-ok g c =
     let kept = c.frames.invariant in
     fed_over _ _ _ _ _ _ _ kept.fed _ _ refl refl kept.ready.limit kept.ready.by_grammar (step_ended _ _ _ _ _ c.if-branch.false c.in_ok-step.ensures.steps)
+
+pub frames-smaller : goal.frames-smaller
+frames-smaller g c =
+    let one = step_took _ _ _ _ _ c.if-branch.true c.in_ok-step.ensures.steps in
+    omega (arith, one.rises, one.nexts.advances.within, one.ready.limit)
