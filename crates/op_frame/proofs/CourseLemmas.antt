@@ -1,5 +1,5 @@
 -- What a stream comes to: exactly one end, and by which end a reader's answers and those of taking in show it.
-use Rattle.std.proofs.Common.{◌≡◌, ◌≢◌, ℕ, ◌-◌, ◌<◌, ◌≤◌, List, [], ◌∷◌, ◌++◌, length, take, refl, ap, sym, subst, ◌∙◌, arith, append_assoc, length-append, inl, inr}
+use Rattle.std.proofs.Common.{◌≡◌, ℕ, ◌-◌, ◌<◌, ◌≤◌, List, [], ◌∷◌, ◌++◌, length, take, refl, ap, sym, subst, ◌∙◌, arith, append_assoc, length-append, inl, inr}
 use Rattle.std.specs.Prelude.{◌⊎◌, All, Option, Some, None, IfSome, Result, Ok, Err}
 use Rattle.std.proofs.lemmas.List.{take_all}
 use Rattle.std.proofs.lemmas.Grind.{flat_map-append}
@@ -10,15 +10,15 @@ use Rattle.fugue_ids.specs.declared.op.Op.{Op}
 use Rattle.outer_ports.specs.Sources.{SourceView}
 use Rattle.origin_model.specs.declared.grammar.Grammar.{Grammar}
 use Rattle.origin_model.specs.frames.Frames.{End, Whole as EndsWhole, CutShort as EndsCutShort, BadFrame as EndsInBadFrame, Framed, IsFrame, Reads}
-use Rattle.origin_model.specs.taking.Taking.{Held, HasPlace, TooMany as AnswersTooMany, intake, answer, held_from, intake_counted, tally_from, no_counts}
+use Rattle.origin_model.specs.taking.Taking.{Held, HasPlace, TooMany as AnswersTooMany, answer, held_from, tally_from, no_counts}
 use Rattle.origin_model.specs.declared.taking.Tally.{Tally}
-use Rattle.origin_model.proofs.SharedLemmas.{Refused, held-append, no_place_left, places-append, places-none, places-one, same_refused, taken_or_refused, tally-append}
+use Rattle.origin_model.proofs.SharedLemmas.{Refused, held-append, no_place_left, places-append, places-none, same_refused, taken_or_refused}
 use Rattle.op_frame.specs.declared.fault.FrameFault.{FrameFault}
 use Rattle.op_frame.specs.declared.fault.FrameFault.TheVariants as frame_fault
 use Rattle.op_frame.specs.Readers.{FrameReading, to_give, Follows, Gave, Nexts}
 use Rattle.op_frame.specs.Courses.{IntakeCourse, Whole, CutShort, BadFrame, TooLong, TooMany, MeetsTooMany, Ends, Comes}
 use Rattle.op_frame.proofs.ReadingLemmas.{bytes_of, ops_of, reads_once, reads_some, starts_first, starts_more}
-use Rattle.op_frame.proofs.StreamLemmas.{follows, gave_more, gave_none}
+use Rattle.op_frame.proofs.StreamLemmas.{follows, gave_more}
 use Rattle.op_frame.proofs.ToldLemmas.{shows, take_past}
 
 -- the course of a stream whose bytes up to the limit end so, by whether it is longer
@@ -278,31 +278,9 @@ pub record Fed (hold most : ℕ) (start : Held) (told : Option (List ℕ)) (read
   pub counts_are : counts ≡ tally_from hold most start ops no_counts
 
 module _ (hold most : ℕ) (start : Held) where
-  -- a fresh reader
-  pub fed_none : (reader : FrameReading) (left : Option (List ℕ)) → reader.todo ≡ [] → reader.unread ≡ [] → reader.offset ≡ 0 → Fed hold most start left reader left start no_counts
-  fed_none reader left todo none at = record {
-    ops = [];
-    gave = gave_none reader left todo none at;
-    has_place = places-none hold most start;
-    state_is = refl;
-    counts_are = refl;
-  }
-
   module _ (told : Option (List ℕ)) (old new : FrameReading) (before after : SourceView) (state : Held) (counts : Tally) (fed : Fed hold most start told old before.left state counts) where
     after_it : (result : Result (Option Op) FrameFault) → Nexts old new before after result → Follows told fed.ops old new after result
     after_it result nexts = follows told fed.ops old new before after fed.gave result nexts
-
-    -- one more operation was given and taken in
-    pub fed_more : (op : Op) → Nexts old new before after (Ok (Some op)) → answer hold most state op ≢ AnswersTooMany
-        → Fed hold most start told new after.left (intake hold most state op) (intake_counted hold most state op counts)
-    fed_more op nexts other = record {
-      ops = fed.ops ++ op ∷ [];
-      gave = (after_it (Ok (Some op)) nexts).gave (λ is. cc is);
-      has_place = places-append hold most start fed.ops (op ∷ []) fed.has_place
-          (places-one hold most (held_from hold most start fed.ops) op (λ many. other (ap (λ (s : Held). answer hold most s op) fed.state_is ∙ many)));
-      state_is = ap (λ (s : Held). intake hold most s op) fed.state_is ∙ held-append hold most start fed.ops (op ∷ []);
-      counts_are = (λ i. intake_counted hold most (fed.state_is i) op (fed.counts_are i)) ∙ tally-append hold most start fed.ops (op ∷ []) no_counts;
-    }
 
     came : (course : IntakeCourse) (P : List ℕ → Type 0) → ((bytes : List ℕ) → P bytes → Ends old.grammar hold most start old.limit bytes fed.ops course) → IfSome told P
         → IfSome told (λ bytes. Comes old.grammar hold most start old.limit bytes fed.ops course)

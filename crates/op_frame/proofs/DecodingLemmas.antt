@@ -11,8 +11,8 @@ use Rattle.fugue_ids.specs.declared.op.Op.{Op}
 use Rattle.fugue_ids.specs.declared.op.Op.TheVariants.{Delete, Section, Text as TextOp}
 use Rattle.origin_model.specs.declared.grammar.Grammar.{Grammar}
 use Rattle.origin_model.specs.declared.grammar.Grammar.TheVariants.{Version1, Version2}
-use Rattle.origin_model.specs.frames.Frames.{HasFrame, IsFrame, IsItem, IsOrigin, IsTitle, Item, Single, Typed, frame, id_bytes, item_bytes, item_ops, origin_bytes, title_bytes}
-use Rattle.op_frame.specs.Firsts.{IsFrameBehind, StartsWith}
+use Rattle.origin_model.specs.frames.Frames.{IsFrame, IsItem, IsOrigin, IsTitle, Item, Single, Typed, id_bytes, item_bytes, item_ops, origin_bytes, title_bytes}
+use Rattle.op_frame.specs.Firsts.{StartsWith}
 use Rattle.op_frame.specs.FrameFronts.{Completes, IsFrameOf, IsIdentifierBytes, IsLast, IsOriginBytes, LeavesDue, scalar_of_bytes}
 use Rattle.op_frame.specs.declared.due.Due.{Due}
 use Rattle.op_frame.specs.declared.due.Due.TheVariants.{Kind}
@@ -47,7 +47,7 @@ no_runs bytes f other = (f.0, record { item = f.1.item; is_item = by_item f.1.it
     by_item (Single op) has is = has
     by_item (Typed run) has is = absurd (other (ap (λ (x : List ℕ). get_or x 0 0) is))
 
-pub wider : (g : Grammar) (item : Item) → IsItem g item → IsItem Version2 item
+wider : (g : Grammar) (item : Item) → IsItem g item → IsItem Version2 item
 wider g (Single op) has = has
 wider g (Typed run) has = has_run_frame g run has
 
@@ -59,10 +59,6 @@ same_meaning g bytes ops f is =
 
 pub frame_wider : (g : Grammar) (bytes : List ℕ) → IsFrameOf g bytes → IsFrameOf Version2 bytes
 frame_wider g bytes f = (f.0, record { item = f.1.item; is_item = wider g f.1.item f.1.is_item; bytes_are = f.1.bytes_are; ops_are = f.1.ops_are })
-
--- the operation of the fields behind the first byte
-pub behind_is : (kind : ℕ) (op : Op) (bytes : List ℕ) → 1 ≤ length bytes → get_or bytes 0 0 ≡ kind → IsFrameBehind kind op (take (length bytes - 1) (drop 1 bytes)) → HasFrame op × (bytes ≡ frame op)
-behind_is kind op bytes some is f = (f.0, head_is bytes kind some is ∙ f.1)
 
 -- an origin that is not the start or the end
 pub tagged : (bytes : List ℕ) → StartsWith IsOriginBytes bytes → (get_or bytes 0 0 ≡ 0 → ⊥) → StartsWith IsIdentifierBytes (take (length bytes - 1) (drop 1 bytes))

@@ -17,7 +17,7 @@ use Rattle.fugue_ids.specs.Titles.{ends_line, has_line_end}
 use Rattle.fugue_ids.specs.declared.limits.TheConstants.{LONGEST_TITLE}
 use Rattle.fugue_ids.specs.declared.op.Op.TheVariants.{Delete, Section, Text as TextOp}
 use Rattle.origin_model.specs.declared.grammar.Grammar.{Grammar}
-use Rattle.origin_model.specs.declared.grammar.Grammar.TheVariants.{Version1, Version2}
+use Rattle.origin_model.specs.declared.grammar.Grammar.TheVariants.{Version2}
 use Rattle.origin_model.specs.frames.Frames.{HasRunFrame, IsIdentifier, IsItem, Item, Run as RunOf, Single, Typed, frame, id_bytes, item_bytes, origin_bytes, run_frame, scalar_bytes, text_bytes, title_bytes}
 use Rattle.op_frame.specs.FrameFronts.{AreFields, Completes, IsCounted, IsDueFront, IsIdentifierBytes, IsJudged, IsLast, IsNothing, IsOriginBytes, IsRunBehind, IsScalarBytes, IsSoundDue, IsSoundLast, IsTitleEnd, LeavesDue, NeverCompletes, Several, Then, scalar_of_bytes, grown_by, most_from, scalars_due, text_due}
 use Rattle.op_frame.specs.declared.due.Due.{Due}
@@ -25,7 +25,6 @@ use Rattle.op_frame.specs.declared.due.Due.TheVariants.{Fields, Kind, Run}
 use Rattle.op_frame.specs.declared.due.Judged.TheVariants.{Front}
 use Rattle.op_frame.specs.declared.due.Last.{Last}
 use Rattle.op_frame.specs.declared.due.Last.TheVariants.{Count, Nothing, Scalars, Text, Title}
-use Rattle.op_frame.specs.declared.encoding.TheConstants.{LONGEST_RUN}
 use Rattle.op_frame.specs.declared.grown.Grown.TheVariants.{Frame as IsWhole, Front as IsFrontGrown}
 use Rattle.op_frame.proofs.CodeLemmas.{identifier_code, same_fronts, scalar_below, scalar_code}
 use Rattle.op_frame.proofs.FieldLemmas.{AreBytes, IdentifierFront, IdentifierWith, bytes_of_code, count_front}
@@ -35,7 +34,7 @@ use Rattle.op_frame.proofs.ReadingLemmas.{first_id, first_is_one}
 use Rattle.op_frame.proofs.TitleLemmas.{letters, letters_end, title_end, title_in}
 
 -- a title's bytes
-pub title_spelled : (len : ℕ) (bytes : List ℕ) → IsTitleEnd len bytes → to_be_bytes w16 len ++ bytes ≡ title_bytes (chars bytes)
+title_spelled : (len : ℕ) (bytes : List ℕ) → IsTitleEnd len bytes → to_be_bytes w16 len ++ bytes ≡ title_bytes (chars bytes)
 title_spelled len bytes e =
     let same : encode_utf8_all (chars bytes) ≡ bytes = encodes-chars bytes e.0 in
     λ i. to_be_bytes w16 ((sym e.2 ∙ ap length (sym same)) i) ++ sym same i
@@ -86,7 +85,7 @@ fields_sample zero (suc o) last s =
 fields_sample zero zero last s = last_sample last s
 
 -- a run has two Texts at least, unless it begins with the last counter
-pub most_sound : (counter : ℕ) → counter + 2 ≤ 2 ^ 32 → IsSoundLast (Count (most_from counter))
+most_sound : (counter : ℕ) → counter + 2 ≤ 2 ^ 32 → IsSoundLast (Count (most_from counter))
 most_sound counter early = (omega (arith, early), omega arith)
 
 run_with : (id : Identifier) → IsIdentifier id → id.counter + 2 ≤ 2 ^ 32 → (more : List ℕ) × IsRunBehind (id_bytes id ++ more)
@@ -236,10 +235,7 @@ scalar_never (suc n) bytes left some short none more t = by_bytes bytes some sho
         none (three_floor ch h m l t.2.1 first second third)
     by_bytes (h ∷ m ∷ l ∷ x ∷ b) some short none same = omega (arith, short)
 
--- the count of a run's scalars
-count_once : (v w : ℕ) → v ≤ LONGEST_RUN → w ≤ LONGEST_RUN → to_be_bytes w16 v ≡ to_be_bytes w16 w → v ≡ w
-count_once v w p q e = sym (from_be_bytes-to_be_bytes_2 v (omega (arith, p))) ∙ ap (from_be_bytes w16) e ∙ from_be_bytes-to_be_bytes_2 w (omega (arith, q))
-
+-- the first byte of a count
 pub high_count : (most : ℕ) (bytes : List ℕ) → length bytes ≡ 1 → 2 ≤ most → get_or bytes 0 0 < 256 → get_or bytes 0 0 * 256 ≤ most → IsDueFront (Fields 0 0 (Count most)) bytes
 high_count most [] long some small few = absurd (omega (arith, long))
 high_count most (high ∷ low ∷ b) long some small few = absurd (omega (arith, long))
@@ -250,22 +246,6 @@ high_count most (high ∷ []) long some small few =
       lacks = omega arith;
       completes = counted most (high * 256 + p.low) (high ∷ p.low ∷ zero_scalars (high * 256 + p.low)) p.some p.few (ap (λ (l : List ℕ). l ++ zero_scalars (high * 256 + p.low)) (sym p.is));
     }
-
-pub count_done : (most n : ℕ) (bytes : List ℕ) → length bytes ≡ 2 → to_be_bytes w16 n ≡ get_or bytes 0 0 ∷ get_or bytes 1 0 ∷ [] → 2 ≤ n → n ≤ most → most ≤ LONGEST_RUN
-    → LeavesDue bytes (Fields 0 0 (Count most)) (Fields 0 0 (Scalars n))
-count_done most n (h ∷ l ∷ []) long is some few short = record {
-  rest = λ more. (
-    λ t.
-        let both = same_fronts (h ∷ l ∷ []) (to_be_bytes w16 t.count) more t.scalars refl t.split in
-        let own : t.count ≡ n = count_once t.count n (omega (arith, t.few, short)) (omega (arith, few, short)) (sym both.0 ∙ sym is) in
-        subst (λ (k : ℕ). Several k IsScalarBytes IsNothing more) own (subst (Several t.count IsScalarBytes IsNothing) (sym both.1) t.are_scalars),
-    λ t. record { count = n; some = some; few = few; scalars = more; are_scalars = t; split = ap (λ (b : List ℕ). b ++ more) (sym is) },
-  );
-  sound = omega (arith, some);
-}
-count_done most n [] long is some few short = absurd (omega (arith, long))
-count_done most n (h ∷ []) long is some few short = absurd (omega (arith, long))
-count_done most n (h ∷ l ∷ x ∷ b) long is some few short = absurd (omega (arith, long))
 
 -- the first identifier of a run
 pub run_front : (bytes : List ℕ) → length bytes < 8 → IdentifierFront bytes → IsJudged Front Run bytes
@@ -462,25 +442,25 @@ target_due g = record {
     fields (Typed run) more has e = absurd (cc e)
 
 -- scalars one behind the other
-pub several_of : (text : List ℕ) → All IsScalar text → Several (length text) IsScalarBytes IsNothing (flat_map scalar_bytes text)
+several_of : (text : List ℕ) → All IsScalar text → Several (length text) IsScalarBytes IsNothing (flat_map scalar_bytes text)
 several_of [] all = refl
 several_of (c ∷ text) all =
     (scalar_bytes c, flat_map scalar_bytes text, (c, All-head IsScalar c text all, refl), several_of text (All-tail IsScalar c text all), refl)
 
-pub record TextOf (n : ℕ) (bytes : List ℕ) : Type 0 where
-  pub text : List ℕ
-  pub long : length text ≡ n
-  pub scalars : All IsScalar text
-  pub is : bytes ≡ flat_map scalar_bytes text
+record TextOf (n : ℕ) (bytes : List ℕ) : Type 0 where
+  text : List ℕ
+  long : length text ≡ n
+  scalars : All IsScalar text
+  is : bytes ≡ flat_map scalar_bytes text
 
-pub text_of : (n : ℕ) (bytes : List ℕ) → Several n IsScalarBytes IsNothing bytes → TextOf n bytes
+text_of : (n : ℕ) (bytes : List ℕ) → Several n IsScalarBytes IsNothing bytes → TextOf n bytes
 text_of zero bytes none = record { text = []; long = refl; scalars = All-nil IsScalar; is = none }
 text_of (suc n) bytes t =
     let p = text_of n t.1 t.3 in
     record { text = t.2.0 ∷ p.text; long = ap suc p.long; scalars = All-cons IsScalar t.2.0 p.text t.2.1 p.scalars; is = t.4 ∙ (λ i. t.2.2 i ++ p.is i) }
 
 -- a run behind its first byte
-pub run_behind : (run : RunOf) → HasRunFrame run → IsRunBehind (drop 1 (run_frame run))
+run_behind : (run : RunOf) → HasRunFrame run → IsRunBehind (drop 1 (run_frame run))
 run_behind run has = record {
   id = run.id;
   is_identifier = has.id;
@@ -550,25 +530,6 @@ run_due = record {
     behind (Single (TextOp id s l r ch)) more has e = absurd (cc e)
     behind (Single (Delete id)) more has e = absurd (cc e)
     behind (Typed run) more has e = subst IsRunBehind (sym (cc e)) (run_behind run has)
-
--- other first bytes
-pub no_kind : (g : Grammar) (kind : ℕ) → (kind ≡ 1 → ⊥) → (kind ≡ 2 → ⊥) → (kind ≡ 3 → ⊥) → (kind ≡ 4 → ⊥) → NeverCompletes (Kind g) (kind ∷ [])
-no_kind g kind a b c d more t = by_item t.0 t.2
-  where
-    by_item : (item : Item) → kind ∷ more ≡ item_bytes item → ⊥
-    by_item (Single (Section id l r u)) e = a (cc e)
-    by_item (Single (TextOp id s l r ch)) e = b (cc e)
-    by_item (Single (Delete id)) e = c (cc e)
-    by_item (Typed run) e = d (cc e)
-
-pub no_run : NeverCompletes (Kind Version1) (4 ∷ [])
-no_run more t = by_item t.0 t.1 t.2
-  where
-    by_item : (item : Item) → IsItem Version1 item → 4 ∷ more ≡ item_bytes item → ⊥
-    by_item (Single (Section id l r u)) has e = cc e
-    by_item (Single (TextOp id s l r ch)) has e = cc e
-    by_item (Single (Delete id)) has e = cc e
-    by_item (Typed run) has e = has
 
 -- nothing is due, and bytes came
 pub nothing_due : (last : Last) (bytes : List ℕ) → last ≡ Nothing → 0 < length bytes → (more : List ℕ) → IsLast last (bytes ++ more) → ⊥

@@ -65,7 +65,7 @@ raised_none (EndsCut k) = let e : k ≡ 0 + k = omega arith in ap EndsCut e
 raised_none (EndsBad k) = let e : k ≡ 0 + k = omega arith in ap EndsBad e
 
 -- frames before bytes that are read
-pub frames_before : (g : Grammar) (found : List Framed) (rest : List ℕ) (ops : List Op) (end : End) → All (IsFrame g) found → Reads g rest ops end
+frames_before : (g : Grammar) (found : List Framed) (rest : List ℕ) (ops : List Op) (end : End) → All (IsFrame g) found → Reads g rest ops end
     → Reads g (bytes_of found ++ rest) (ops_of found ++ ops) (raised (length (bytes_of found)) end)
 frames_before g found rest ops end are r =
     let bytes : bytes_of (found ++ r.found) ≡ bytes_of found ++ bytes_of r.found = flat_map-append (λ (f : Framed). f.bytes) found r.found in
@@ -93,7 +93,7 @@ told_behind front None bytes is = absurd (cc is)
 told_behind front (Some rest) bytes is = (rest, refl, cc is)
 
 -- the operation that was given was the first still to be given
-pub gave_first : (op : Op) (old new : FrameReading) (before after : Option (List ℕ)) (bytes : List ℕ) → new.grammar ≡ old.grammar → GivesOperation op old new before after → to_give old before ≡ Some bytes
+gave_first : (op : Op) (old new : FrameReading) (before after : Option (List ℕ)) (bytes : List ℕ) → new.grammar ≡ old.grammar → GivesOperation op old new before after → to_give old before ≡ Some bytes
     → GaveFirst op old new after bytes
 gave_first op old new before after bytes same (held todo unread offset last left) told = record {
   front = [];
@@ -124,9 +124,6 @@ gave_first op old new before after bytes same (read none framed is ops moved off
 pub rises : (op : Op) (old new : FrameReading) (before after : Option (List ℕ)) → GivesOperation op old new before after → Rises old new
 rises op old new before after (held todo unread offset last left) = omega (arith, ap length todo, offset)
 rises op old new before after (read none framed is ops moved offset last) = omega (arith, frame_wide old.grammar framed is, ap length ops, ap length none, offset)
-
-pub nexts_rises : (op : Op) (old new : FrameReading) (before after : SourceView) → Nexts old new before after (Ok (Some op)) → Rises old new
-nexts_rises op old new before after step = rises op old new before.left after.left step.gives
 
 -- the operations given, the rest behind them, and how it ends
 gave_reads : (told : Option (List ℕ)) (ops : List Op) (reader : FrameReading) (left : Option (List ℕ)) (so : Gave told ops reader left) → reader.todo ≡ [] → (rest : List ℕ) (end : End)

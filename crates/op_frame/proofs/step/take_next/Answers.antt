@@ -7,9 +7,6 @@ use Rattle.op_frame.proofs.DecodingLemmas.{frame_wider}
 use Rattle.op_frame.proofs.StepLemmas.{at_last, front_short, over, refuses, stops, takes_frame}
 use Rattle.op_frame.proofs.step.take_next.Goals as goal
 
-pub take_frame-requires-clause-within : goal.take_frame-requires-clause-within
-take_frame-requires-clause-within g c = subst (λ (l : List ℕ). c.in-Frame.len ≤ length l) c.as_slice.ensures c.in-Frame.ensures.0
-
 pub take_frame-requires-clause-frame : goal.take_frame-requires-clause-frame
 take_frame-requires-clause-frame g c =
     frame_wider c.args.grammar _ (subst (λ (l : List ℕ). IsFrameOf c.args.grammar (take c.in-Frame.len l)) c.as_slice.ensures c.in-Frame.ensures.1)
