@@ -21,7 +21,7 @@ use Rattle.replica_core.proofs.KeepingLemmas.{same_taking, takes_none}
 use Rattle.relay_sync.specs.Replies.{End, Hears, IsMessage, Message, Operations, Stops, StopsIn, Whole, WholeFrame}
 use Rattle.relay_sync.specs.FeedFaults.{fault_of}
 use Rattle.relay_sync.specs.Saying.{SaysTo, request_for}
-use Rattle.relay_sync.specs.Syncing.{FailsToAsk, HearsOne, HearsPartly, HearsReply, StopsAt, ReplyStopsFor, TakesInFrame, TakesNotAll, TakesOne, seen_by}
+use Rattle.relay_sync.specs.Syncing.{FailsToAsk, HearsOne, HearsPartly, HearsReply, StopsAt, ReplyStopsFor, TakesInFrame, TakesNotAll, TakesOne, count_so_far}
 use Rattle.relay_sync.specs.declared.syncing.SyncFault.{SyncFault}
 use Rattle.relay_sync.specs.declared.syncing.SyncFault.TheVariants.{BadReply, CutShort, NoMemory, RelayRefused, TooLong, TooMany, WireFault}
 use Rattle.relay_sync.proofs.HearingLemmas.{hears-append, stops_behind, stops_in}
@@ -179,11 +179,11 @@ none_taken start frame ops is =
     (first.0, start, record { front = []; more = first.1; is_message = subst (λ (o : List Op). IsMessage (Operations o) frame) (is.ops_are ∙ first.2) is; takes = takes_none start }, inl refl)
 
 -- operations of a frame were taken in: few were counted until then
-module _ (start now : OpsTaking) (frame : List ℕ) (given rest : List Op) (is : IsMessage (Operations (given ++ rest)) frame) (count : seen_by now ≡ seen_by start + length given) where
-  few_given : 2 * seen_by now ≤ 2 * seen_by start + length frame
+module _ (start now : OpsTaking) (frame : List ℕ) (given rest : List Op) (is : IsMessage (Operations (given ++ rest)) frame) (count : count_so_far now ≡ count_so_far start + length given) where
+  few_given : 2 * count_so_far now ≤ 2 * count_so_far start + length frame
   few_given = omega (arith, count, frame_wide Version2 (record { bytes = frame; ops = given ++ rest }) is, length-append given rest)
 
-  pub stays_below : 2 * seen_by start + length frame ≤ STREAM_LIMIT + 2 * GREATEST_HOLD → StaysBelow now.counts
+  pub stays_below : 2 * count_so_far start + length frame ≤ STREAM_LIMIT + 2 * GREATEST_HOLD → StaysBelow now.counts
   stays_below few = record {
     accepted = omega (arith, few_given, few);
     repeated = omega (arith, few_given, few);

@@ -19,14 +19,14 @@ use Rattle.relay_sync.specs.declared.syncing.SyncFault.{SyncFault}
 use Rattle.relay_sync.specs.declared.syncing.SyncFault.TheVariants.{NoMemory, RelayRefused, TooMany, WireFault}
 
 -- how many operations were counted or wait
-abbrev pub seen_by : OpsTaking → ℕ
-seen_by now = total now.counts + length now.replica.held.waiting
+abbrev pub count_so_far : OpsTaking → ℕ
+count_so_far now = total now.counts + length now.replica.held.waiting
 
 -- more operations can be taken in and counted
 pub record IsReady (now : OpsTaking) (heard : ℕ) : Type 0 where
   pub settled : IsSettled now.replica.held
   -- each operation of a frame has more than one byte
-  pub few : 2 * seen_by now ≤ heard + 2 * GREATEST_HOLD
+  pub few : 2 * count_so_far now ≤ heard + 2 * GREATEST_HOLD
 
 -- the operations of a frame were taken in
 pub record TakesInFrame (before after : OpsTaking) (frame : List ℕ) : Type 0 where
@@ -34,7 +34,7 @@ pub record TakesInFrame (before after : OpsTaking) (frame : List ℕ) : Type 0 w
   pub is_message : IsMessage (Operations ops) frame
   pub takes : TakesIn before after ops
   pub settled : IsSettled after.replica.held
-  pub few : 2 * seen_by after ≤ 2 * seen_by before + length frame
+  pub few : 2 * count_so_far after ≤ 2 * count_so_far before + length frame
 
 -- those before this one were
 pub record TakesUpTo (op : Op) (before after : OpsTaking) (frame : List ℕ) : Type 0 where

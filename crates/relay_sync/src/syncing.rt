@@ -9,7 +9,7 @@ ghost use Rattle.relay_sync.specs.Outcomes.{AnswersByReply, Ended, HeardTo, Hear
 ghost use Rattle.relay_sync.specs.Replies.{IsWireFault, WireRisesFor};
 ghost use Rattle.relay_sync.specs.Saying.{request_for};
 ghost use Rattle.relay_sync.specs.Syncing.{BlamesWire, SyncFails, HearsOne, HearsPartly, HearsReply, IsReady, StopsAt};
-ghost use Rattle.relay_sync.specs.Syncing.{Syncs, TakesInFrame, TakesNotAll, seen_by};
+ghost use Rattle.relay_sync.specs.Syncing.{Syncs, TakesInFrame, TakesNotAll, count_so_far};
 
 use crate::hearing::{next_byte, next_code, next_frame, next_number};
 use crate::saying::{request_of, say};
@@ -72,7 +72,7 @@ pub struct Synced {
 /// Tells a relay all that the replica holds, and takes in what it answers.
 ///
 /// The cursor says from where on the relay's log is asked for. Copies of the operations that were kept are appended to
-/// `kept`. After a fault the replica holds what the messages before it brought.
+/// `kept`. After a fault the replica holds what the operations before it brought, those of the same run too.
 pub fn sync<W: Wire>(
     alloc: Global,
     replica: &mut Replica,
@@ -191,7 +191,7 @@ fn take_frame(
 ) -> Result<(), FeedFault>
     requires frame { IsFrameOf WithRuns frame.now }
     requires settled { IsSettled replica.old.held }
-    requires few { 2 * seen_by (record { replica = replica.old; counts = tally.old; kept = kept.old.items })
+    requires few { 2 * count_so_far (record { replica = replica.old; counts = tally.old; kept = kept.old.items })
         + length frame.now ≤ STREAM_LIMIT + 2 * GREATEST_HOLD }
     ensures ok { OnOk result (TakesInFrame
         (record { replica = replica.old; counts = tally.old; kept = kept.old.items })

@@ -3,7 +3,7 @@ use Rattle.fugue_ids.specs.declared.op.Op.{Op}
 use Rattle.origin_model.specs.taking.Taking.{IsSettled}
 use Rattle.replica_core.specs.Keeping.{TakesIn}
 use Rattle.relay_sync.specs.Replies.{IsMessage, Operations}
-use Rattle.relay_sync.specs.Syncing.{seen_by}
+use Rattle.relay_sync.specs.Syncing.{count_so_far}
 use Rattle.relay_sync.proofs.syncing.take_frame.Given as goal
 
 -- those that were given are taken in
@@ -14,8 +14,8 @@ invariant-ops l = record {
   takes : TakesIn (record { replica = l.fn.replica; counts = l.fn.tally; kept = l.fn.kept.items })
       (record { replica = l.replica; counts = l.tally; kept = l.kept.items }) given;
   settled : IsSettled l.replica.held;
-  count : seen_by (record { replica = l.replica; counts = l.tally; kept = l.kept.items })
-      ≡ seen_by (record { replica = l.fn.replica; counts = l.fn.tally; kept = l.fn.kept.items }) + length given;
+  count : count_so_far (record { replica = l.replica; counts = l.tally; kept = l.kept.items })
+      ≡ count_so_far (record { replica = l.fn.replica; counts = l.fn.tally; kept = l.fn.kept.items }) + length given;
 }
 
 abbrev pub decreases-ops : goal.decreases-ops
