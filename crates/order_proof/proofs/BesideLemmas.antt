@@ -7,7 +7,7 @@ use Rattle.std.proofs.lemmas.List.{reverse-append, reverse-reverse}
 use Rattle.fugue_ids.specs.Identifiers.{Identifier, id_eq, origin_eq}
 use Rattle.fugue_ids.specs.declared.op.Op.{Op}
 use Rattle.fugue_ids.proofs.IdentifierLemmas.{eq-id_eq, id_eq-false, id_eq-refl, id_eq-true, ne-id_eq, origin_eq-refl, origin_eq-true}
-use Rattle.origin_model.specs.operations.History.{holder, is_own, left_of, right_of}
+use Rattle.origin_model.specs.operations.History.{is_own, left_of, right_of}
 unfoldable use Rattle.origin_model.specs.order.Order.{chain}
 use Rattle.origin_model.specs.order.Order.{has_left, left_at, next_right, right_beside, rights}
 use Rattle.origin_model.proofs.SharedLemmas.{chain-other, chain-own, chain_above, holder-other, holder-own, left_by}

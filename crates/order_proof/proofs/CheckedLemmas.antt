@@ -1,5 +1,5 @@
 -- The test of a certificate tells whether it is valid.
-use Rattle.std.proofs.Common.{Bool, List, [], ap, append_assoc, false, inl, inr, not, refl, subst, sym, true, ◌++◌, ◌&&◌, ◌∙◌, ◌∷◌, ◌≡◌, ◌≢◌, ◌↔◌}
+use Rattle.std.proofs.Common.{Bool, List, [], ap, false, inl, inr, not, refl, subst, sym, true, ◌++◌, ◌&&◌, ◌∙◌, ◌∷◌, ◌≡◌, ◌≢◌, ◌↔◌}
 use Rattle.std.specs.Prelude.{None, Option, Some, if◌then◌else◌, is_none, is_some}
 use Rattle.std.specs.List.{Contains}
 use Rattle.std.proofs.lemmas.Bool.{and_from, and_parts, cases_Bool, false≢true}
@@ -7,15 +7,15 @@ use Rattle.std.proofs.lemmas.List.{append-nil, same_from_push}
 use Rattle.std.proofs.lemmas.List.Elements.{All-contains}
 use Rattle.fugue_ids.specs.Identifiers.{Identifier, id_eq, id_lt, origin_eq}
 use Rattle.fugue_ids.specs.declared.op.Op.{Op}
-use Rattle.fugue_ids.proofs.IdentifierLemmas.{id_eq-false, id_eq-refl, id_eq-true, ne-id_eq, not_some, origin_eq-refl, origin_eq-true}
+use Rattle.fugue_ids.proofs.IdentifierLemmas.{id_eq-false, id_eq-refl, id_eq-true, ne-id_eq, origin_eq-refl, origin_eq-true}
 use Rattle.fugue_ids.proofs.ListLemmas.{contains_middle}
 use Rattle.origin_model.specs.declared.operations.Place.{Place}
 use Rattle.origin_model.specs.operations.History.{holder, place, place_eq}
 use Rattle.origin_model.specs.operations.Verdict.{Lawful}
 use Rattle.origin_model.specs.order.Laws.{IsIn}
-use Rattle.origin_model.specs.order.Order.{left_at, lefts, next_left, next_right, right_at, right_beside, rights}
+use Rattle.origin_model.specs.order.Order.{left_at, lefts, next_left, right_at}
 unfoldable use Rattle.origin_model.specs.order.Order.{chain}
-use Rattle.origin_model.proofs.SharedLemmas.{IsHeld, IsIn-held, beside_is, cases_held, chain-held, chain_above, element_stands, found, holder_owns, left_at-is, left_origin_held, lefts-above, lefts-prefix, never_none, own_id, place_eq-true, place_stands, right_by, right_origin_held, rights-at, rights-prefix, same_chain, stands_element}
+use Rattle.origin_model.proofs.SharedLemmas.{IsHeld, IsIn-held, cases_held, chain-held, chain_above, element_stands, found, holder_owns, left_at-is, left_origin_held, lefts-above, lefts-prefix, never_none, own_id, place_eq-true, place_stands, same_chain, stands_element}
 use Rattle.order_proof.specs.declared.step.Reason.{Reason}
 use Rattle.order_proof.specs.declared.step.Reason.TheVariants.{End, Inner, Later, Prefix, Tie}
 use Rattle.order_proof.specs.declared.step.Step.{Step}

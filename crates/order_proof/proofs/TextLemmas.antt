@@ -260,7 +260,7 @@ told-holds : (h : List Op) (s : Step) (r : Reason) → r ≡ s.reason → HoldsB
 told-holds h s Prefix e t = λ i. record { x = s.x; y = s.y; down_x = sym t.no_down_x i; down_y = s.down_y; right_x = sym t.no_right_x i; right_y = sym t.no_right_y i; reason = e i }
 told-holds h s r e t = refl
 
-told-valid : (h : List Op) (c : Certificate) → IsValid h c → map told_step c ≡ c
+pub told-valid : (h : List Op) (c : Certificate) → IsValid h c → map told_step c ≡ c
 told-valid h [] v = absurd v
 told-valid h (s ∷ []) v = ap (λ z. z ∷ []) (told-holds h s s.reason refl v.0.holds)
 told-valid h (s ∷ t ∷ more) v =

@@ -1,10 +1,11 @@
 -- What is read of the text of a certificate.
 use Rattle.std.specs.Prelude.{◌≡◌, ◌≢◌, ℕ, ◌<◌, Result, Ok, Err, List, [], ◌∷◌, All}
 use Rattle.fugue_ids.specs.Identifiers.{Identifier}
+use Rattle.fugue_ids.specs.declared.op.Op.{Op}
 use Rattle.order_proof.specs.declared.reading.TextFault.{TextFault}
 use Rattle.order_proof.specs.declared.reading.TextFault.TheVariants as fault
 use Rattle.order_proof.specs.declared.step.Step.{Step}
-use Rattle.order_proof.specs.Certificates.{Certificate}
+use Rattle.order_proof.specs.Certificates.{Certificate, IsValid}
 use Rattle.order_proof.specs.Texts.{IsNarrow, Line, down, line, proof_lines, proof_text, reason_line, right}
 
 -- an identifier that there is: its numbers are of 32 bits, and no replica is 0
@@ -16,6 +17,10 @@ pub record IsProofText (text : List ℕ) (c : Certificate) : Type 0 where
   pub text_is : text ≡ proof_text c
   pub has_step : c ≢ []
   pub possible : All (λ (l : Line). All IsPossible l.ids) (proof_lines c)
+
+-- the text is that of a valid certificate
+abbrev pub IsValidText : List Op → List ℕ → Type 0
+IsValidText h text = (c : Certificate) × IsProofText text c × IsValid h c
 
 -- the byte k is not in the text
 abbrev pub HasNoByte : ℕ → List ℕ → Type 0

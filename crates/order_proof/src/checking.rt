@@ -1,9 +1,10 @@
-//! Certificates are checked by walks over the operations, without memory.
+//! Certificates are checked by walks over the operations.
 
-ghost use Rattle.std.specs.Prelude.{◌≡◌, ◌↔◌, reverse, true};
+ghost use Rattle.std.specs.Prelude.{◌≡◌, ◌↔◌, reverse, true, IfOk};
 ghost use Rattle.origin_model.specs.operations.Verdict.{Lawful};
 ghost use Rattle.origin_model.specs.order.Order.{right_at as right_origin};
 ghost use Rattle.order_proof.specs.Certificates.{IsValid};
+ghost use Rattle.order_proof.specs.Readings.{IsValidText};
 ghost use Rattle.order_proof.specs.Checks.{same_place as places_same, origins_decide, chains_decide, siblings_at};
 ghost use Rattle.order_proof.specs.Checks.{sibling_test, goes_on, is_inner as is_inner_reason, ends, prefix_test};
 ghost use Rattle.order_proof.specs.Checks.{reason_test, step_test, rests_test, test};
@@ -11,8 +12,9 @@ ghost use Rattle.order_proof.specs.Checks.{reason_test, step_test, rests_test, t
 use crate::chains::{is_down, is_rights};
 use crate::look_ups::{left_at, place_at};
 use crate::{Proof, Reason, Step};
-use fugue_ids::{ElementId, Op};
+use fugue_ids::{ElementId, NoMemory, Op};
 use origin_model::{Place, right_at};
+use std::alloc::Global;
 
 fn same_place(one: Option<Place>, other: Option<Place>) -> bool
     ensures { result ≡ places_same one other }
@@ -169,10 +171,21 @@ fn passes(ops: &[Op], steps: &[Step]) -> bool
     false
 }
 
-/// Whether the certificate is valid.
+/// Whether the certificate is valid. It takes no memory.
 pub fn check(ops: &[Op], proof: &Proof) -> bool
     requires lawful { Lawful (reverse ops.now) }
     ensures valid { (result ≡ true) ↔ IsValid (reverse ops.now) proof.now }
 {
     passes(ops, proof.as_slice())
+}
+
+/// Whether the text is that of a valid certificate.
+pub fn check_text(alloc: Global, ops: &[Op], text: &[u8]) -> Result<bool, NoMemory>
+    requires lawful { Lawful (reverse ops.now) }
+    ensures valid { IfOk result (λ valid. (valid ≡ true) ↔ IsValidText (reverse ops.now) text.now) }
+{
+    match Proof::read(alloc, text)? {
+        Some(proof) => Ok(check(ops, &proof)),
+        None => Ok(false),
+    }
 }

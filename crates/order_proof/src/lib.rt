@@ -12,7 +12,7 @@ mod step;
 mod text_parts;
 mod writing;
 
-pub use checking::check;
+pub use checking::{check, check_text};
 pub use laws::{certificates_stay, has_one_certificate, text_reads_uniquely, valid_means_before};
 pub use making::prove;
 pub use proof::Proof;
