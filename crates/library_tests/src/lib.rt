@@ -7,6 +7,8 @@
 #[cfg(test)]
 mod assertions;
 #[cfg(test)]
+mod certificates;
+#[cfg(test)]
 mod clusters;
 #[cfg(test)]
 mod dice;
