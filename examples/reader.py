@@ -5,10 +5,12 @@
     reader.py show FRAMES    what `manuscript show` prints and notes
     reader.py print FILE     what `manuscript print` prints and notes
     reader.py send FILE      what `manuscript send` writes and notes
+    reader.py check FRAMES   whether the text on standard input is that of a valid certificate, as docs/WHY.md says
 
 It keeps the rules and not the limits: it counts no operations but the waiting ones, and no bytes.
 """
 
+import re
 import sys
 from dataclasses import dataclass, field
 
@@ -16,7 +18,7 @@ USUAL_HOLD = 65_536
 LONGEST_BATCH = 268_435_456
 TAG_UNIT = 536_870_912
 LAST_SLOT = 4_294_967_295
-GREATEST_COUNTER = 4_294_967_295
+GREATEST_NUMBER = 4_294_967_295
 LONGEST_RUN = 1_024
 
 # Where elements stand that are sections.
@@ -137,7 +139,7 @@ class Cursor:
     def run(self):
         """The Texts of a run. Each but the first has the one before as its left origin."""
         replica, counter = self.identifier()
-        most = min(LONGEST_RUN, GREATEST_COUNTER - counter + 1)
+        most = min(LONGEST_RUN, GREATEST_NUMBER - counter + 1)
         if most < 2:
             raise Bad
         section, left, right = self.identifier(), self.origin(), self.origin()
@@ -410,7 +412,144 @@ def send_file(data):
     return 0
 
 
-COMMANDS = {"list": list_stream, "show": show, "print": print_file, "send": send_file}
+@dataclass
+class Step:
+    """A step of a certificate. A reason is its word and its identifiers."""
+
+    x: tuple
+    y: tuple
+    down_x: list
+    down_y: list
+    right_x: list
+    right_y: list
+    reason: tuple
+
+
+class NoCertificate(Exception):
+    """The text is that of none."""
+
+
+def read_identifier(word):
+    if not re.fullmatch(rb"(0|[1-9][0-9]*)\.(0|[1-9][0-9]*)", word):
+        raise NoCertificate
+    replica, counter = map(int, word.split(b"."))
+    if replica == 0 or max(replica, counter) > GREATEST_NUMBER:
+        raise NoCertificate
+    return replica, counter
+
+
+def read_line(line):
+    """The word of a line, and its identifiers."""
+    word, *others = line.split(b" ")
+    return word.decode("latin-1"), [read_identifier(other) for other in others]
+
+
+def chain(lines, wanted):
+    word, ids = next(lines, ("", []))
+    if word != wanted:
+        raise NoCertificate
+    return ids
+
+
+def read_step(x, y, lines):
+    """What stands behind the claim that x stands before y."""
+    down = chain(lines, "down")
+    word, ids = next(lines, ("", []))
+    if (word, ids) == ("prefix", []):
+        return Step(x, y, [], down, [], [], ("prefix",))
+    if word != "down":
+        raise NoCertificate
+    right_x, right_y = chain(lines, "right"), chain(lines, "right")
+    reason, origins = next(lines, ("", []))
+    if (reason, len(origins)) not in [("inner", 0), ("end", 0), ("later", 2), ("tie", 0)]:
+        raise NoCertificate
+    return Step(x, y, down, ids, right_x, right_y, (reason, *origins))
+
+
+def read_certificate(text):
+    if not text.endswith(b"\n"):
+        raise NoCertificate
+    lines = map(read_line, text[:-1].split(b"\n"))
+    steps = []
+    for word, ids in lines:
+        if word != "claim" or len(ids) != 2:
+            raise NoCertificate
+        steps.append(read_step(*ids, lines))
+    return steps
+
+
+def parted(xs, ys):
+    """Both lists from the first place on where they differ."""
+    same = next((at for at, (x, y) in enumerate(zip(xs, ys)) if x != y), min(len(xs), len(ys)))
+    return xs[same:], ys[same:]
+
+
+class Checker:
+    """Checks steps by the origins of the elements that are held."""
+
+    def __init__(self, holders):
+        self.holders = holders
+
+    def lefts(self, x):
+        """The chain of left origins down to x."""
+        found = []
+        while x:
+            found.append(x)
+            x = self.holders[x].left
+        return found[::-1]
+
+    def rights(self, x):
+        """The chain of right origins down to x, as long as they have the left origin of x."""
+        found, left = [], self.holders[x].left
+        while x and self.holders[x].left == left:
+            found.append(x)
+            x = self.holders[x].right
+        return found[::-1]
+
+    def reason(self, right_x, right_y):
+        from_c, from_d = parted(right_x, right_y)
+        if not from_d:
+            return ("inner",)
+        if not from_c:
+            return None
+        p, q = (self.holders[chain[0]].right for chain in (from_c, from_d))
+        if p == q:
+            return ("tie",) if from_c[0] < from_d[0] else None
+        if q is None:
+            return None
+        return ("end",) if p is None else ("later", p, q)
+
+    def holds(self, step):
+        if any(id not in self.holders for id in (step.x, step.y)):
+            return False
+        if self.holders[step.x].place() != self.holders[step.y].place():
+            return False
+        down_x, down_y = parted(self.lefts(step.x), self.lefts(step.y))
+        if step.reason == ("prefix",):
+            return not down_x and bool(down_y) and step.down_y == [step.x, *down_y]
+        if not down_x or not down_y or (step.down_x, step.down_y) != (down_x, down_y):
+            return False
+        rights = self.rights(down_x[0]), self.rights(down_y[0])
+        return (step.right_x, step.right_y) == rights and step.reason == self.reason(*rights)
+
+    def is_valid(self, steps):
+        """Each step holds, each but the last rests on the claim of the next one, and the last on none."""
+        rests = [(step.reason[2], step.reason[1]) if step.reason[0] == "later" else None for step in steps]
+        claims = [(step.x, step.y) for step in steps[1:]]
+        return rests == [*claims, None] and all(map(self.holds, steps))
+
+
+def check(data):
+    replica = taken_in(USUAL_HOLD, list(read_stream(data)))
+    try:
+        steps = read_certificate(sys.stdin.buffer.read())
+    except NoCertificate:
+        steps = []
+    print("yes" if steps and Checker(replica.holders).is_valid(steps) else "no")
+    return 0
+
+
+COMMANDS = {"list": list_stream, "show": show, "print": print_file, "send": send_file, "check": check}
 
 
 def main(words):

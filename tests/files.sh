@@ -48,6 +48,21 @@ try 'the manuscript is printed' nothing 0 '# T\nAC\n' '' print "$f"
 try 'its operations are sent' nothing 0 "$made" '' send "$f"
 cp "$f" "$work/edited"
 
+# A certificate of the order is printed and checked.
+reason='claim 1.1 1.3\ndown 1.1 1.3\nprefix\n'
+put reason "$reason"
+put reversed 'claim 1.3 1.1\ndown 1.3 1.1\nprefix\n'
+try 'why A stands before C' nothing 0 "$reason" '' why "$f" 1 0 1
+try 'that is so' reason 0 'yes\n' '' check "$f"
+try 'the reverse is not' reversed 0 'no\n' '' check "$f"
+try 'no text is no certificate' nothing 0 'no\n' '' check "$f"
+try 'a place that is not there' nothing 2 '' 'no such places\n' why "$f" 1 0 2
+try 'a section that is not there' nothing 2 '' 'no such places\n' why "$f" 2 0 1
+try 'places in the other order' nothing 2 '' 'no such places\n' why "$f" 1 1 0
+try 'the section before the first' nothing 1 '' "$usage" why "$f" 0 0 1
+because 'usage: manuscript why FILE K P Q'
+check 'the file stays as it was' cmp -s "$f" "$work/edited"
+
 # Another author takes them in.
 try 'another file is made' nothing 0 '' '' new "$g" 2 16
 try 'the first is merged' nothing 0 '' "$all" merge "$g" "$f"
@@ -144,7 +159,7 @@ because "manuscript: $work/none: no such file (manuscript new makes one)"
 try 'a folder that is not there' nothing 4 '' "$outside" new "$work/no/file" 1 16
 because "manuscript: $work/no/file: not a directory"
 mkfifo "$work/pipe"
-for command in print send edit take; do
+for command in print send edit take check; do
     timeout 10 "$program" "$command" "$work/pipe" <"$work/nothing" >"$work/output" 2>"$work/notes"
     compare "a pipe is refused at once: $command" $? 4 '' "$outside"
     because "manuscript: $work/pipe: no regular file"

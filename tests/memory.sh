@@ -113,6 +113,7 @@ printf 'put 1 0 x\nput 9 0 y\n' >"$work/faulty"
 "$program" new "$work/ben" 2 16 </dev/null
 printf 'add 1 The land\nput 1 0 Hills.\n' | "$program" edit "$work/ben" 2>/dev/null
 head -c 300 /dev/zero | tr '\0' '\5' >"$work/bad"
+"$program" why "$work/ben" 1 0 5 </dev/null >"$work/reason"
 
 wants show && refuse_each show '' "$work/odd" show
 wants show && refuse_each 'show, of a sample' '' samples/two_authors.frames show
@@ -122,6 +123,8 @@ wants edit && refuse_each edit "$work/ben" "$work/script" edit "$work/home"
 wants edit && refuse_each 'edit, with a faulty line' "$work/ann" "$work/faulty" edit "$work/home"
 wants print && refuse_each print "$work/ann" "$work/nothing" print "$work/home"
 wants take && refuse_each take "$work/ben" "$work/odd" take "$work/home"
+wants why && refuse_each why "$work/ben" "$work/nothing" why "$work/home" 1 0 5
+wants check && refuse_each check "$work/ben" "$work/reason" check "$work/home"
 wants send && refuse_each send "$work/ann" "$work/nothing" send "$work/home"
 wants merge && refuse_each merge "$work/ben" "$work/nothing" merge "$work/home" "$work/ann"
 port=$((20000 + RANDOM % 12000))

@@ -12,6 +12,7 @@ use std::hash::{BuildHasherDefault, FoldHasher};
 use std::process::Abort;
 
 mod bulks;
+mod certificates;
 mod edits;
 mod files;
 mod refusals;

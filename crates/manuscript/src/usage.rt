@@ -16,9 +16,11 @@ pub(crate) fn usage_of(words: &[String]) -> &'static str {
         "relay" => "usage: manuscript relay PORT SESSIONS\n",
         "sync" => "usage: manuscript sync FILE PORT CURSOR\n",
         "bulk" => "usage: manuscript bulk SEED COUNT\n",
+        "why" => "usage: manuscript why FILE K P Q\n",
+        "check" => "usage: manuscript check FILE < CERTIFICATE\n",
         _ => ALL,
     }
 }
 
-const ALL: &str =
-    "usage: manuscript show | new | edit | print | take | send | merge | relay | sync | bulk\n";
+const ALL: &str = "usage: manuscript show | new | edit | print | take | send | merge | relay \
+    | sync | bulk | why | check\n";

@@ -4,12 +4,15 @@ use Rattle.std.specs.Prelude.{IfSome, Ok, Err, Result}
 use Rattle.fugue_ids.specs.declared.limits.TheConstants.{MOST_OPERATIONS}
 use Rattle.outer_ports.specs.disk.Disks.{DiskView}
 use Rattle.outer_ports.specs.disk.Moments.{History}
+use Rattle.origin_model.specs.operations.Verdict.{Lawful}
+use Rattle.origin_model.specs.taking.Taking.{nothing_held}
 use Rattle.origin_model.specs.edits.State.{State as Replica}
 use Rattle.replica_file.proofs.OnceLemmas.{answers_once}
-use Rattle.replica_file.specs.Load.{LoadAnswerIs, IsLoadByBytes}
+use Rattle.replica_file.specs.Load.{LoadAnswerIs, IsLoadByBytes, Loads}
 use Rattle.replica_file.specs.declared.load_file.End.{End}
 use Rattle.replica_file.specs.declared.load_file.LoadFault.{LoadFault}
 use Rattle.replica_file.specs.declared.load_file.LoadFault.TheVariants as load_fault
+use Rattle.manuscript_cli.proofs.LawfulLemmas.{held_lawful}
 use Rattle.manuscript_cli.specs.Files.{FileHolds, FileRefuses}
 use Rattle.manuscript_cli.specs.Refusal.{load_refusal}
 use Rattle.manuscript_cli.specs.Touched.{IsTold}
@@ -55,3 +58,9 @@ pub holds_or_refuses : (disk : DiskView) → IsTold disk → (loaded : Replica �
 holds_or_refuses disk told loaded why holds refuses =
     let one = leads_to_refusal disk why refuses in
     cc (leads_once disk (Ok loaded) (Err one.0) told (leads_to_replica disk loaded holds) one.1)
+
+-- what a file that is told holds is lawful
+pub loaded_lawful : (disk : DiskView) → IsTold disk → (replica : Replica) (at : End) → FileHolds disk replica at → Lawful replica.held.history
+loaded_lawful disk told replica at holds =
+    let loads : Loads MOST_OPERATIONS told.0.last.seen replica at = subst (λ o. IfSome o (λ (h : History). Loads MOST_OPERATIONS h.last.seen replica at)) told.1 holds in
+    subst (λ (r : Replica). Lawful r.held.history) (sym loads.replica_is) (held_lawful loads.content.hold MOST_OPERATIONS nothing_held loads.content.ops tt)

@@ -24,3 +24,5 @@ pub mod LawfulLemmas
 pub mod RunsLemmas
 pub mod BlameLemmas
 pub mod RunBlameLemmas
+pub mod WhyLemmas
+pub mod CheckLemmas

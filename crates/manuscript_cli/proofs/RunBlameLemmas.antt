@@ -1,18 +1,20 @@
 -- From what the commands promise of the objects that they use, that no object that tells counts a fault that is not told.
-use Rattle.std.proofs.Common.{◌≡◌, ℕ, List, refl, subst, sym}
+use Rattle.std.proofs.Common.{◌≡◌, ℕ, inl, inr, ap, ◌∙◌, refl, subst, sym}
 use Rattle.std.specs.Prelude.{None, Option, Some}
 use Rattle.fugue_ids.specs.Outs.{OutView}
 use Rattle.outer_ports.specs.Sources.{SourceView}
-use Rattle.origin_model.specs.taking.Taking.{Held}
+use Rattle.outer_ports.specs.disk.Disks.{DiskView}
 use Rattle.manuscript_cli.specs.Edit.{script}
 use Rattle.manuscript_cli.specs.Printing.{NotesBlameless}
-use Rattle.manuscript_cli.specs.Run.{IsBlameless, Meets, RunsReport, UsageMeets}
+use Rattle.manuscript_cli.specs.Report.{Telling}
+use Rattle.manuscript_cli.specs.Run.{IsBlameless, Meets, RunsCheck, RunsReport, UsageMeets}
+use Rattle.manuscript_cli.specs.Refusal.{status_of}
 use Rattle.manuscript_cli.specs.Savers.{RunsSaving, input_saver}
 use Rattle.manuscript_cli.specs.Saving.{Giver}
 use Rattle.manuscript_cli.specs.Take.{stream}
 use Rattle.manuscript_cli.specs.Touched.{Change, DiskBlameless, DockBlameless, OutBlameless, SourceBlameless, Touched, WireBlameless, change}
 use Rattle.manuscript_cli.specs.declared.command.Command.{Command}
-use Rattle.manuscript_cli.specs.declared.command.Command.TheVariants.{Show, New, Edit, Print, Take, Send, Merge, Relay, Sync, Bulk}
+use Rattle.manuscript_cli.specs.declared.command.Command.TheVariants.{Show, New, Edit, Print, Take, Send, Merge, Relay, Sync, Bulk, Why, Check}
 use Rattle.manuscript_cli.specs.declared.refusal.Refusal.TheVariants.{Words}
 use Rattle.manuscript_cli.specs.declared.status.Status.{Status}
 use Rattle.manuscript_cli.proofs.TextLemmas.{told_blameless}
@@ -37,8 +39,18 @@ module _ (old new : Touched) (end : Status) where
   takes_input : (giver : Change SourceView → Giver) → RunsSaving (input_saver giver old new) old new end → IsBlameless old new end
   takes_input giver meets = all _ meets.others meets.leaves.blameless quiet meets.blameless.notes_blameless meets.blameless.file_blameless quiet quiet quiet
 
-  reports : (text : Held → List ℕ) → RunsReport text old new end → IsBlameless old new end
-  reports text meets = all _ meets.others quiet meets.does.output_blameless meets.does.notes_blameless meets.does.file_blameless quiet quiet quiet
+  reports : (tells : Telling) → RunsReport tells old new end → IsBlameless old new end
+  reports tells meets = all _ meets.others quiet meets.does.output_blameless meets.does.notes_blameless meets.does.file_blameless quiet quiet quiet
+
+  checks : RunsCheck old new end → IsBlameless old new end
+  checks meets =
+      elim meets.does [
+        | inl k ↦ all _ meets.others (λ tells not. k.count.calm_told tells (λ failed. failed)) k.reports.output_blameless k.reports.notes_blameless k.reports.file_blameless quiet quiet quiet
+        | inr k ↦
+            let notes : Change OutView = change old.streams.notes new.streams.notes in
+            all _ meets.others (λ tells not. k.count.calm_told tells (λ is. not (k.end_is ∙ ap status_of is))) (λ tells not. ap (λ (o : OutView). o.faults) k.wrote)
+            (subst (NotesBlameless notes) (sym k.end_is) (told_blameless k.why notes k.noted)) (λ tells not. ap (λ (d : DiskView). d.faults) k.file_kept) quiet quiet quiet
+      ]
 
   pub meets_blameless : (command : Option Command) → Meets command old new end → IsBlameless old new end
   meets_blameless None meets = usage meets
@@ -52,3 +64,5 @@ module _ (old new : Touched) (end : Status) where
   meets_blameless (Some (Relay port sessions)) meets = all _ meets.others quiet meets.does.output_blameless meets.does.notes_blameless quiet quiet quiet meets.does.dock_blameless
   meets_blameless (Some (Sync port cursor)) meets = all _ meets.others quiet quiet meets.blameless.notes_blameless meets.blameless.file_blameless quiet meets.leaves.blameless quiet
   meets_blameless (Some (Bulk seed count)) meets = all _ meets.others quiet meets.does.writes.output_blameless meets.does.writes.notes_blameless quiet quiet quiet quiet
+  meets_blameless (Some (Why k p q)) meets = reports _ meets
+  meets_blameless (Some Check) meets = checks meets

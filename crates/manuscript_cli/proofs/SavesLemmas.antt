@@ -91,6 +91,7 @@ module _ (giver : Giver) (once : GivesOnce giver) (file : Change DiskView) where
   causes (refusal.BadReply offset) stops = found_so (refusal.BadReply offset) stops bad_input.0 bad_input.1
   causes (refusal.RelayRefused code) stops = found_so (refusal.RelayRefused code) stops bad_input.0 bad_input.1
   causes (refusal.ReplyCutShort offset) stops = found_so (refusal.ReplyCutShort offset) stops bad_input.0 bad_input.1
+  causes refusal.NoSuchPlaces stops = found_so refusal.NoSuchPlaces stops bad_input.0 bad_input.1
 
   -- the outcome of operations that were not saved, since a call failed
   failed_found : (fails : SaveFailed giver file) → SavingFound giver file.old (Does fails.outcome)
@@ -182,6 +183,7 @@ module _ (giver : Giver) (once : GivesOnce giver) (file : Change DiskView) where
     stopped_meets (refusal.BadReply offset) stops noted = stopped (refusal.BadReply offset) stops noted status.BadInput refl
     stopped_meets (refusal.RelayRefused code) stops noted = stopped (refusal.RelayRefused code) stops noted status.BadInput refl
     stopped_meets (refusal.ReplyCutShort offset) stops noted = stopped (refusal.ReplyCutShort offset) stops noted status.BadInput refl
+    stopped_meets refusal.NoSuchPlaces stops noted = stopped refusal.NoSuchPlaces stops noted status.BadInput refl
     stopped_meets refusal.Outside stops noted = inl (stopped refusal.Outside stops noted status.OutsideFault refl)
     stopped_meets refusal.NoMemory stops noted = stopped refusal.NoMemory stops noted status.NoMemory refl
 

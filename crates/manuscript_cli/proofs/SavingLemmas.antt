@@ -78,6 +78,7 @@ module _ (giver : Giver) (a b c : DiskView) (replica : Replica) (end : End) (loa
   stops_so (refusal.BadReply offset) given = refused_so (refusal.BadReply offset) given
   stops_so (refusal.RelayRefused code) given = refused_so (refusal.RelayRefused code) given
   stops_so (refusal.ReplyCutShort offset) given = refused_so (refusal.ReplyCutShort offset) given
+  stops_so refusal.NoSuchPlaces given = refused_so refusal.NoSuchPlaces given
 
   -- the file was loaded, and something given to it
   pub given_comes : (result : Result Outcome Refusal) → GivenMeets giver replica end (change b c) result → ComesToSave giver (change a c) result

@@ -6,8 +6,8 @@ use Rattle.outer_ports.specs.declared.disk.file_disk.Opening.TheVariants.{Readin
 use Rattle.bulk_world.specs.declared.making.TheConstants.{MOST_TURNS}
 use Rattle.manuscript_cli.specs.Number.{IsNumber}
 use Rattle.manuscript_cli.specs.declared.command.Command.{Command}
-use Rattle.manuscript_cli.specs.declared.command.Command.TheVariants.{Show, New, Edit, Print, Take, Send, Merge, Relay, Sync, Bulk}
-use Rattle.manuscript_cli.specs.declared.words.TheConstants.{GREATEST_CURSOR, GREATEST_PORT, GREATEST_REPLICA, GREATEST_SEED, MOST_SESSIONS, USUAL_HOLD}
+use Rattle.manuscript_cli.specs.declared.command.Command.TheVariants.{Show, New, Edit, Print, Take, Send, Merge, Relay, Sync, Bulk, Why, Check}
+use Rattle.manuscript_cli.specs.declared.words.TheConstants.{GREATEST_CURSOR, GREATEST_PLACE, GREATEST_PORT, GREATEST_REPLICA, GREATEST_SEED, MOST_SESSIONS, USUAL_HOLD}
 
 -- `show HOLD`
 pub record NamesShow (words : List (List ℕ)) (hold : ℕ) : Type 0 where
@@ -65,6 +65,18 @@ pub record NamesBulk (words : List (List ℕ)) (seed count : ℕ) : Type 0 where
   pub seed_is : IsNumber seed_word 0 GREATEST_SEED seed
   pub count_is : IsNumber count_word 1 MOST_TURNS count
 
+-- `why FILE K P Q`
+pub record NamesWhy (words : List (List ℕ)) (k p q : ℕ) : Type 0 where
+  pub file : List ℕ
+  pub some : file ≢ []
+  pub section_word : List ℕ
+  pub first_word : List ℕ
+  pub second_word : List ℕ
+  pub words_are : words ≡ codes "why" ∷ file ∷ section_word ∷ first_word ∷ second_word ∷ []
+  pub section_is : IsNumber section_word 1 GREATEST_PLACE k
+  pub first_is : IsNumber first_word 0 GREATEST_PLACE p
+  pub second_is : IsNumber second_word 0 GREATEST_PLACE q
+
 -- the words ask for the command
 abbrev pub Names : List (List ℕ) → Command → Type 0
 Names words (Show hold) = ((words ≡ codes "show" ∷ []) × (hold ≡ USUAL_HOLD)) ⊎ NamesShow words hold
@@ -77,6 +89,8 @@ Names words Merge = NamesMerge words
 Names words (Relay port sessions) = NamesRelay words port sessions
 Names words (Sync port cursor) = NamesSync words port cursor
 Names words (Bulk seed count) = NamesBulk words seed count
+Names words (Why k p q) = NamesWhy words k p q
+Names words Check = NamesFile (codes "check") words
 
 -- a number of operations that may wait
 pub record IsHold (hold : ℕ) : Type 0 where
@@ -87,6 +101,7 @@ pub record IsHold (hold : ℕ) : Type 0 where
 abbrev pub IsInRange : Command → Type 0
 IsInRange (Show hold) = IsHold hold
 IsInRange (New replica hold) = (1 ≤ replica) × IsHold hold
+IsInRange (Why k p q) = 1 ≤ k
 IsInRange _ = Unit {0}
 
 -- the command that the words ask for: None, where they ask for none

@@ -13,6 +13,8 @@ pub mod Files
 pub mod Crashes
 pub mod TextOut
 pub mod Report
+pub mod Why
+pub mod Check
 pub mod New
 pub mod Saving
 pub mod Take

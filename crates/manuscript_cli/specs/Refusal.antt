@@ -20,7 +20,7 @@ use Rattle.replica_file.specs.declared.load_file.LoadFault.{LoadFault}
 use Rattle.replica_file.specs.declared.load_file.LoadFault.TheVariants as load_fault
 use Rattle.manuscript_cli.specs.Touched.{HasRoom, StaysCalm, notes_room}
 use Rattle.manuscript_cli.specs.declared.refusal.Refusal.{Refusal}
-use Rattle.manuscript_cli.specs.declared.refusal.Refusal.TheVariants.{Words, BadFrame, CutShort, BadLine, NoSection, OutOfRange, NotReplica, BadBatch, NotEmpty, TooMany, IdsSpent, TooLong, BatchTooLong, BadReply, RelayRefused, ReplyCutShort, Outside, NoMemory}
+use Rattle.manuscript_cli.specs.declared.refusal.Refusal.TheVariants.{Words, BadFrame, CutShort, BadLine, NoSection, OutOfRange, NotReplica, BadBatch, NotEmpty, TooMany, IdsSpent, TooLong, BatchTooLong, BadReply, RelayRefused, ReplyCutShort, NoSuchPlaces, Outside, NoMemory}
 use Rattle.manuscript_cli.specs.declared.status.Status.{Status}
 use Rattle.manuscript_cli.specs.declared.status.Status.TheVariants as status
 
@@ -51,6 +51,7 @@ row_of BatchTooLong = row status.Limit (codes "batch too long") None
 row_of (BadReply offset) = row status.BadInput (codes "bad reply at byte ") (Some offset)
 row_of (RelayRefused code) = row status.BadInput (codes "relay refused ") (Some code)
 row_of (ReplyCutShort offset) = row status.BadInput (codes "reply cut short at byte ") (Some offset)
+row_of NoSuchPlaces = row status.BadInput (codes "no such places") None
 row_of Outside = row status.OutsideFault (codes "outside fault") None
 row_of NoMemory = row status.NoMemory (codes "no memory") None
 

@@ -23,10 +23,18 @@ use Rattle.manuscript_cli.specs.declared.refusal.Refusal.TheVariants as refusal
 use Rattle.manuscript_cli.specs.declared.status.Status.{Status}
 use Rattle.manuscript_cli.specs.declared.status.Status.TheVariants as status
 
--- what the file leads to: it is refused, or there is the text of its replica
-abbrev pub TextFound : (text : Held → List ℕ) → DiskView → Finding (List ℕ) → Type 0
-TextFound text file (Refuses why) = FileRefuses file why
-TextFound text file (Does bytes) = (replica : Replica) × (end : End) × FileHolds file replica end × (bytes ≡ text replica.held)
+-- what a command tells of what a replica holds: a text, or why there is none
+abbrev pub Telling : Type 1
+Telling = Held → Finding (List ℕ) → Type 0
+
+-- the file holds a replica of which this is told
+abbrev pub IsTelling : Telling → DiskView → Finding (List ℕ) → Type 0
+IsTelling tells file found = (replica : Replica) × (end : End) × FileHolds file replica end × tells replica.held found
+
+-- what the file leads to: it is refused, or there is what is told of its replica
+abbrev pub TextFound : Telling → DiskView → Finding (List ℕ) → Type 0
+TextFound tells file (Refuses why) = FileRefuses file why ⊎ IsTelling tells file (Refuses why)
+TextFound tells file (Does bytes) = IsTelling tells file (Does bytes)
 
 -- the bytes that go out, and the status
 abbrev pub bytes_found : Finding (List ℕ) → List ℕ
@@ -38,16 +46,16 @@ status_found (Refuses why) = status_of why
 status_found (Does bytes) = status.Done
 
 -- the file was loaded, which settles it, the text of what it holds was written, and this came of it
-pub record WroteHeld (text : Held → List ℕ) (file : Change DiskView) (Wrote : List ℕ → Type 0) : Type 0 where
+pub record WroteHeld (tells : Telling) (file : Change DiskView) (Wrote : List ℕ → Type 0) : Type 0 where
   pub bytes : List ℕ
-  pub found : TextFound text file.old (Does bytes)
+  pub found : TextFound tells file.old (Does bytes)
   pub synced : file.new.past ≡ after durable file.old.past
   pub came : Wrote bytes
 
--- the file was refused
-pub record FileRefused (text : Held → List ℕ) (file : DiskView) (output notes : Change OutView) (end : Status) : Type 0 where
+-- the file was refused, or what it holds
+pub record FileRefused (tells : Telling) (file : DiskView) (output notes : Change OutView) (end : Status) : Type 0 where
   pub why : Refusal
-  pub found : TextFound text file (Refuses why)
+  pub found : TextFound tells file (Refuses why)
   pub end_is : end ≡ status_of why
   pub nothing : WroteNothing output notes why
 
@@ -58,26 +66,26 @@ pub record FileFailed (file : Change DiskView) (output notes : Change OutView) :
   pub nothing : WroteNothing output notes refusal.Outside
 
 -- what was done, for each way in which the command may end
-abbrev pub ReportMeets : (text : Held → List ℕ) → Change DiskView → (output notes : Change OutView) → Status → Type 0
-ReportMeets text file output notes status.Done = WroteHeld text file (λ bytes. WroteText bytes output notes)
-ReportMeets text file output notes status.BadFile = FileRefused text file.old output notes status.BadFile
-ReportMeets text file output notes status.Limit = FileRefused text file.old output notes status.Limit
-ReportMeets text file output notes status.OutsideFault = FileFailed file output notes ⊎ WroteHeld text file (λ bytes. TextFailed bytes output notes)
-ReportMeets text file output notes status.NoMemory = WroteNothing output notes refusal.NoMemory
-ReportMeets text file output notes status.Usage = ⊥
-ReportMeets text file output notes status.BadInput = ⊥
-ReportMeets text file output notes status.Partial = ⊥
+abbrev pub ReportMeets : (tells : Telling) → Change DiskView → (output notes : Change OutView) → Status → Type 0
+ReportMeets tells file output notes status.Done = WroteHeld tells file (λ bytes. WroteText bytes output notes)
+ReportMeets tells file output notes status.BadFile = FileRefused tells file.old output notes status.BadFile
+ReportMeets tells file output notes status.Limit = FileRefused tells file.old output notes status.Limit
+ReportMeets tells file output notes status.BadInput = FileRefused tells file.old output notes status.BadInput
+ReportMeets tells file output notes status.OutsideFault = FileFailed file output notes ⊎ WroteHeld tells file (λ bytes. TextFailed bytes output notes)
+ReportMeets tells file output notes status.NoMemory = WroteNothing output notes refusal.NoMemory
+ReportMeets tells file output notes status.Usage = ⊥
+ReportMeets tells file output notes status.Partial = ⊥
 
 -- sure objects with room count no fault, however the command ends
-pub record ReportStaysCalm (text : Held → List ℕ) (file : Change DiskView) (output notes : Change OutView) : Type 0 where
+pub record ReportStaysCalm (tells : Telling) (file : Change DiskView) (output notes : Change OutView) : Type 0 where
   pub file_calm : DiskStaysCalm 1 file
-  pub output_calm : IsTold file.old → (found : Finding (List ℕ)) → TextFound text file.old found → StaysCalm (length (bytes_found found)) output.old output.new
+  pub output_calm : IsTold file.old → (found : Finding (List ℕ)) → TextFound tells file.old found → StaysCalm (length (bytes_found found)) output.old output.new
   pub notes_calm : StaysCalm notes_room notes.old notes.new
 
 -- and where all are sure and have room, no outside fault comes
-abbrev pub ReportNeverOutside : (text : Held → List ℕ) → Change DiskView → (output notes : Change OutView) → Status → Type 0
-ReportNeverOutside text file output notes end =
-    IsTold file.old → (found : Finding (List ℕ)) → TextFound text file.old found → HasDiskRoom 1 file.old → HasRoom (length (bytes_found found)) output.old
+abbrev pub ReportNeverOutside : (tells : Telling) → Change DiskView → (output notes : Change OutView) → Status → Type 0
+ReportNeverOutside tells file output notes end =
+    IsTold file.old → (found : Finding (List ℕ)) → TextFound tells file.old found → HasDiskRoom 1 file.old → HasRoom (length (bytes_found found)) output.old
     → end ≢ status.OutsideFault
 
 -- A call that failed. One on the output counts only where there is a text to write.
@@ -86,19 +94,19 @@ SomeFails file output (Refuses why) = Rose file.old.faults file.new.faults
 SomeFails file output (Does bytes) = Rose file.old.faults file.new.faults ⊎ Rose output.old.faults output.new.faults
 
 -- the file decides the status, but for want of memory and faults
-abbrev pub FileDecides : (text : Held → List ℕ) → Change DiskView → (output : Change OutView) → Status → Type 0
-FileDecides text file output end =
-    IsTold file.old → (found : Finding (List ℕ)) → TextFound text file.old found
+abbrev pub FileDecides : (tells : Telling) → Change DiskView → (output : Change OutView) → Status → Type 0
+FileDecides tells file output end =
+    IsTold file.old → (found : Finding (List ℕ)) → TextFound tells file.old found
     → IsDecided (status_found found) (SomeFails file output found) end
 
 -- a command that reports
-pub record Reports (text : Held → List ℕ) (file : Change DiskView) (output notes : Change OutView) (end : Status) : Type 0 where
-  pub meets : ReportMeets text file output notes end
+pub record Reports (tells : Telling) (file : Change DiskView) (output notes : Change OutView) (end : Status) : Type 0 where
+  pub meets : ReportMeets tells file output notes end
   pub keeps : KeepsFile file
   pub crash : NeverTorn (λ gave. gave ≡ []) file end
-  pub calm : ReportStaysCalm text file output notes
-  pub never_outside : ReportNeverOutside text file output notes end
-  pub decides : FileDecides text file output end
+  pub calm : ReportStaysCalm tells file output notes
+  pub never_outside : ReportNeverOutside tells file output notes end
+  pub decides : FileDecides tells file output end
   pub file_blameless : DiskBlameless file end
   pub output_blameless : OutBlameless output end
   pub notes_blameless : NotesBlameless notes end
@@ -107,6 +115,12 @@ pub record Reports (text : Held → List ℕ) (file : Change DiskView) (output n
 abbrev pub printed_of : Held → List ℕ
 printed_of held = manuscript held.history
 
+abbrev pub print_tells : Telling
+print_tells held found = found ≡ Does (printed_of held)
+
 -- what `send` reports: the frames of the accepted operations, and those of the waiting ones
 abbrev pub frames_held : Held → List ℕ
 frames_held held = frames (accepted held.history) ++ frames held.waiting
+
+abbrev pub send_tells : Telling
+send_tells held found = found ≡ Does (frames_held held)

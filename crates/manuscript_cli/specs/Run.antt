@@ -1,17 +1,18 @@
 -- What `run` does for each command, and without one.
-use Rattle.std.specs.Prelude.{◌≡◌, ℕ, List, Option, Some, None}
-use Rattle.origin_model.specs.taking.Taking.{Held}
+use Rattle.std.specs.Prelude.{◌≡◌, ◌-◌, ℕ, Option, Some, None}
 use Rattle.manuscript_cli.specs.Bulk.{Bulks}
+use Rattle.manuscript_cli.specs.Check.{ChecksText}
 use Rattle.manuscript_cli.specs.New.{Creates}
 use Rattle.manuscript_cli.specs.Printing.{NotesBlameless}
 use Rattle.manuscript_cli.specs.Refusal.{refusal_line, Told}
 use Rattle.manuscript_cli.specs.Relay.{Relays}
-use Rattle.manuscript_cli.specs.Report.{Reports, frames_held, printed_of}
+use Rattle.manuscript_cli.specs.Report.{Reports, Telling, print_tells, send_tells}
 use Rattle.manuscript_cli.specs.Savers.{RunsSaving, Saver, edit_saver, merge_saver, sync_saver, take_saver}
 use Rattle.manuscript_cli.specs.Show.{Shows}
 use Rattle.manuscript_cli.specs.Touched.{DiskBlameless, DockBlameless, OutBlameless, SourceBlameless, Touched, WireBlameless, change}
+use Rattle.manuscript_cli.specs.Why.{why_tells}
 use Rattle.manuscript_cli.specs.declared.command.Command.{Command}
-use Rattle.manuscript_cli.specs.declared.command.Command.TheVariants.{Show, New, Edit, Print, Take, Send, Merge, Relay, Sync, Bulk}
+use Rattle.manuscript_cli.specs.declared.command.Command.TheVariants.{Show, New, Edit, Print, Take, Send, Merge, Relay, Sync, Bulk, Why, Check}
 use Rattle.manuscript_cli.specs.declared.refusal.Refusal.TheVariants.{Words}
 use Rattle.manuscript_cli.specs.declared.status.Status.{Status}
 use Rattle.manuscript_cli.specs.declared.status.Status.TheVariants.{Usage}
@@ -33,9 +34,9 @@ pub record RunsNew (replica hold : ℕ) (old new : Touched) (end : Status) : Typ
   pub does : Creates replica hold (change old.home new.home) (change old.streams.notes new.streams.notes) end
 
 -- a command that reports uses the file, the output, and the notes
-pub record RunsReport (text : Held → List ℕ) (old new : Touched) (end : Status) : Type 0 where
+pub record RunsReport (tells : Telling) (old new : Touched) (end : Status) : Type 0 where
   pub others : new ≡ record old { streams = record old.streams { output = new.streams.output; notes = new.streams.notes }; home = new.home }
-  pub does : Reports text (change old.home new.home) (change old.streams.output new.streams.output) (change old.streams.notes new.streams.notes) end
+  pub does : Reports tells (change old.home new.home) (change old.streams.output new.streams.output) (change old.streams.notes new.streams.notes) end
 
 -- `relay` uses the dock, the output, and the notes
 pub record RunsRelay (port sessions : ℕ) (old new : Touched) (end : Status) : Type 0 where
@@ -47,28 +48,37 @@ pub record RunsBulk (seed count : ℕ) (old new : Touched) (end : Status) : Type
   pub others : new ≡ record old { streams = record old.streams { output = new.streams.output; notes = new.streams.notes } }
   pub does : Bulks seed count (change old.streams.output new.streams.output) (change old.streams.notes new.streams.notes) end
 
+-- `check` uses the streams, and the file
+pub record RunsCheck (old new : Touched) (end : Status) : Type 0 where
+  pub others : new ≡ record old { streams = new.streams; home = new.home }
+  pub does : ChecksText (change old.streams.input new.streams.input) (change old.home new.home) (change old.streams.output new.streams.output) (change old.streams.notes new.streams.notes) end
+
 -- the commands, by what they promise
 pub data Family : Type 1 where
   NoCommand : Family
   Showing : (hold : ℕ) → Family
   Making : (replica hold : ℕ) → Family
   Saving : (Touched → Touched → Saver) → Family
-  Reporting : (text : Held → List ℕ) → Family
+  Reporting : (tells : Telling) → Family
   Serving : (port sessions : ℕ) → Family
   Inventing : (seed count : ℕ) → Family
+  Checking : Family
 
 abbrev pub family : Option Command → Family
 family None = NoCommand
 family (Some (Show hold)) = Showing hold
 family (Some (New replica hold)) = Making replica hold
 family (Some Edit) = Saving edit_saver
-family (Some Print) = Reporting printed_of
+family (Some Print) = Reporting print_tells
 family (Some Take) = Saving take_saver
-family (Some Send) = Reporting frames_held
+family (Some Send) = Reporting send_tells
 family (Some Merge) = Saving merge_saver
 family (Some (Relay port sessions)) = Serving port sessions
 family (Some (Sync port cursor)) = Saving (sync_saver port cursor)
 family (Some (Bulk seed count)) = Inventing seed count
+-- sections count from 1 in words
+family (Some (Why k p q)) = Reporting (why_tells (k - 1) p q)
+family (Some Check) = Checking
 
 -- a command of the family did what it should with the objects that it uses, and left the others as they were
 abbrev pub MeetsAs : Family → Touched → Touched → Status → Type 0
@@ -76,9 +86,10 @@ MeetsAs NoCommand old new end = UsageMeets old new end
 MeetsAs (Showing hold) old new end = RunsShow hold old new end
 MeetsAs (Making replica hold) old new end = RunsNew replica hold old new end
 MeetsAs (Saving saver) old new end = RunsSaving (saver old new) old new end
-MeetsAs (Reporting text) old new end = RunsReport text old new end
+MeetsAs (Reporting tells) old new end = RunsReport tells old new end
 MeetsAs (Serving port sessions) old new end = RunsRelay port sessions old new end
 MeetsAs (Inventing seed count) old new end = RunsBulk seed count old new end
+MeetsAs Checking old new end = RunsCheck old new end
 
 abbrev pub Meets : Option Command → Touched → Touched → Status → Type 0
 Meets command = MeetsAs (family command)

@@ -1,9 +1,10 @@
 -- A text that goes to the output: what came of it, and how a command ends that writes no more than that.
-use Rattle.std.specs.Prelude.{◌≡◌, ◌≢◌, ℕ, List, length, Result, Ok, Err}
+use Rattle.std.specs.Prelude.{◌≡◌, ◌≢◌, ◌⊎◌, ℕ, List, length, Result, Ok, Err}
 use Rattle.fugue_ids.specs.Causes.{Rose}
 use Rattle.fugue_ids.specs.Outs.{OutTells, OutView, Took, TookFront}
+use Rattle.manuscript_cli.specs.Findings.{Finding, Refuses, Does}
 use Rattle.manuscript_cli.specs.Printing.{NotesBlameless}
-use Rattle.manuscript_cli.specs.Refusal.{refusal_line, Told}
+use Rattle.manuscript_cli.specs.Refusal.{refusal_line, status_of, Told}
 use Rattle.manuscript_cli.specs.Touched.{Change, HasRoom, OutBlameless, StaysCalm, notes_room}
 use Rattle.manuscript_cli.specs.declared.refusal.Refusal.{Refusal}
 use Rattle.manuscript_cli.specs.declared.refusal.Refusal.TheVariants as refusal
@@ -58,3 +59,28 @@ pub record WritesOut (bytes : List ℕ) (output notes : Change OutView) (end : S
   pub notes_calm : StaysCalm notes_room notes.old notes.new
   pub output_blameless : OutBlameless output end
   pub notes_blameless : NotesBlameless notes end
+
+-- there is no text, and why: what a command reports of is not there, or memory was wanting
+abbrev pub HasNoText : (tells : Finding (List ℕ) → Type 0) → Refusal → Type 0
+HasNoText tells refusal.NoMemory = Unit {0}
+HasNoText tells refusal.NoSuchPlaces = tells (Refuses refusal.NoSuchPlaces)
+HasNoText tells _ = ⊥
+
+-- the call that writes what is told: a text, or nothing
+abbrev pub ReportGoesOut : (tells : Finding (List ℕ) → Type 0) → Change OutView → Result (Unit {0}) Refusal → Type 0
+ReportGoesOut tells output result =
+    ((bytes : List ℕ) × tells (Does bytes) × GoesOut bytes output result)
+    ⊎ ((why : Refusal) × (result ≡ Err why) × HasNoText tells why × (output.new ≡ output.old))
+
+-- nothing was written, and why was told
+pub record NoTextWritten (tells : Finding (List ℕ) → Type 0) (output notes : Change OutView) (end : Status) : Type 0 where
+  pub why : Refusal
+  pub cause : HasNoText tells why
+  pub wrote : output.new ≡ output.old
+  pub noted : Told notes.old notes.new (refusal_line why)
+  pub end_is : end ≡ status_of why
+
+-- what is told was written, or nothing
+abbrev pub WritesReport : (tells : Finding (List ℕ) → Type 0) → (output notes : Change OutView) → Status → Type 0
+WritesReport tells output notes end =
+    ((bytes : List ℕ) × tells (Does bytes) × WritesOut bytes output notes end) ⊎ NoTextWritten tells output notes end

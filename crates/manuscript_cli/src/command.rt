@@ -28,6 +28,10 @@ pub enum Command {
     Sync(u16, u32),
     /// Make a large manuscript by the numbers of a seed in so many turns, and tell of it.
     Bulk(u32, u32),
+    /// Print why one scalar stands before another: the section, counted from 1, and the two places in it.
+    Why(u32, u32, u32),
+    /// Print whether the text on the input is that of a certificate that a file's replica finds valid.
+    Check,
 }
 
 impl Command {
@@ -43,7 +47,9 @@ impl Command {
             | Command::Print
             | Command::Send
             | Command::Relay(_, _)
-            | Command::Bulk(_, _) => Opening::Reading,
+            | Command::Bulk(_, _)
+            | Command::Why(_, _, _)
+            | Command::Check => Opening::Reading,
         }
     }
 

@@ -2,6 +2,7 @@
 #![tactic(auto)]
 
 mod bulk;
+mod check;
 mod command;
 mod counts;
 mod edit;
@@ -25,6 +26,7 @@ mod take;
 mod take_in;
 mod text_out;
 mod top;
+mod why;
 mod words;
 
 pub use command::Command;

@@ -1,4 +1,4 @@
-ghost use Rattle.manuscript_cli.specs.Report.{printed_of};
+ghost use Rattle.manuscript_cli.specs.Report.{print_tells};
 
 use crate::refusal::Refusal;
 use crate::report::Report;
@@ -11,7 +11,7 @@ use std::alloc::Global;
 pub(crate) struct Manuscript;
 
 impl Report for Manuscript {
-    ghost text = { λ what. printed_of };
+    ghost Tells = { λ what. print_tells };
 
     fn write<O: Sink>(
         &self,
@@ -21,4 +21,6 @@ impl Report for Manuscript {
     ) -> Result<(), Refusal> {
         gone_out(replica.write_manuscript(output))
     }
+
+    fn laws(&self) {}
 }

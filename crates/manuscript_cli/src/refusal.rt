@@ -40,7 +40,7 @@ pub enum Refusal {
     TooMany(u32),
     /// No counter is left behind this one.
     IdsSpent(u32),
-    /// The stream or the script is longer than its limit.
+    /// The stream, the script or the text is longer than its limit.
     TooLong,
     /// What is to be saved does not fit a batch, or there is no slot for it.
     BatchTooLong,
@@ -50,6 +50,8 @@ pub enum Refusal {
     RelayRefused(u8),
     /// The wire ended in the place of the message at the offset of a reply, or inside of it.
     ReplyCutShort(u64),
+    /// The two places are not there, or the first is not before the second.
+    NoSuchPlaces,
     Outside,
     NoMemory,
 }
@@ -82,6 +84,7 @@ impl Refusal {
             Self::BadReply(at) => Row(Status::BadInput, "bad reply at byte ", Some(at)),
             Self::RelayRefused(code) => Row(Status::BadInput, "relay refused ", Some(code.into())),
             Self::ReplyCutShort(at) => Row(Status::BadInput, "reply cut short at byte ", Some(at)),
+            Self::NoSuchPlaces => Row(Status::BadInput, "no such places", None),
             Self::Outside => Row(Status::OutsideFault, "outside fault", None),
             Self::NoMemory => Row(Status::NoMemory, "no memory", None),
         }

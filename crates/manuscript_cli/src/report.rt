@@ -1,7 +1,9 @@
-ghost use Rattle.std.specs.Prelude.{List, ℕ};
+ghost use Rattle.std.specs.Prelude.{◌≡◌, List, ℕ};
+ghost use Rattle.origin_model.specs.operations.Verdict.{Lawful};
 ghost use Rattle.origin_model.specs.taking.Taking.{Held};
+ghost use Rattle.manuscript_cli.specs.Findings.{Finding};
 ghost use Rattle.manuscript_cli.specs.Report.{Reports};
-ghost use Rattle.manuscript_cli.specs.TextOut.{GoesOut, WritesOut};
+ghost use Rattle.manuscript_cli.specs.TextOut.{ReportGoesOut, WritesReport};
 ghost use Rattle.manuscript_cli.specs.Touched.{change};
 
 use crate::Status;
@@ -14,17 +16,23 @@ use std::alloc::Global;
 
 /// What a command tells of what a file's replica holds.
 pub(crate) trait Report {
-    /// The text that it is.
-    ghost text: { Self → Held → List ℕ };
+    /// The text that it is, or why there is none.
+    ghost Tells: { Self → Held → Finding (List ℕ) → Type 0 };
 
-    /// Writes the text. Where memory is wanting, nothing of it goes out.
+    /// Writes the text. Where there is none, or memory is wanting, nothing goes out.
     fn write<O: Sink>(
         &self,
         alloc: Global,
         replica: &Replica,
         output: &mut O,
     ) -> Result<(), Refusal>
-        ensures { GoesOut (text self.now replica.now.held) (change (O.seen output.old) (O.seen output.new)) result };
+        ensures { ReportGoesOut (Tells self.now replica.now.held)
+            (change (O.seen output.old) (O.seen output.new)) result };
+
+    /// The law of a report: of a lawful history one thing is told.
+    fn laws(&self)
+        ensures { (held : Held) → Lawful held.history → (a b : Finding (List ℕ))
+            → Tells self.now held a → Tells self.now held b → a ≡ b };
 }
 
 /// Loads a file, and writes the report of what its replica holds to the output.
@@ -35,9 +43,10 @@ pub(crate) fn write_report<R: Report, O: Sink, N: Sink, H: Disk>(
     output: &mut O,
     notes: &mut N,
 ) -> Status
-    ensures { Reports (R.text what.now) (change (H.seen home.old) (H.seen home.new))
+    ensures { Reports (R.Tells what.now) (change (H.seen home.old) (H.seen home.new))
         (change (O.seen output.old) (O.seen output.new)) (change (N.seen notes.old) (N.seen notes.new)) result }
 {
+    what.laws();
     match load_file(alloc, home) {
         Ok((replica, _)) => {
             let status = write_held(alloc, what, &replica, output, notes);
@@ -55,7 +64,7 @@ fn write_held<R: Report, O: Sink, N: Sink>(
     output: &mut O,
     notes: &mut N,
 ) -> Status
-    ensures { WritesOut (R.text what.now replica.now.held)
+    ensures { WritesReport (R.Tells what.now replica.now.held)
         (change (O.seen output.old) (O.seen output.new)) (change (N.seen notes.old) (N.seen notes.new)) result }
 {
     ended(what.write(alloc, replica, output), notes)

@@ -1,5 +1,5 @@
 ghost use Rattle.std.specs.Prelude.{◌≡◌, IfOk};
-ghost use Rattle.manuscript_cli.specs.Report.{frames_held};
+ghost use Rattle.manuscript_cli.specs.Report.{frames_held, send_tells};
 
 use crate::refusal::Refusal;
 use crate::report::Report;
@@ -14,7 +14,7 @@ use std::alloc::Global;
 pub(crate) struct Frames;
 
 impl Report for Frames {
-    ghost text = { λ what. frames_held };
+    ghost Tells = { λ what. send_tells };
 
     fn write<O: Sink>(
         &self,
@@ -25,6 +25,8 @@ impl Report for Frames {
         let frames = frames_of(alloc, replica)?;
         gone_out(write_whole(output, &frames))
     }
+
+    fn laws(&self) {}
 }
 
 /// The frames of all that a replica holds. They are made before any of them goes out, so that want of memory leaves the

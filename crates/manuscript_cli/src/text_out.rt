@@ -1,6 +1,7 @@
 //! A text that goes to the output, and how a command ends that writes no more than that.
-ghost use Rattle.std.specs.Prelude.{List, ℕ};
+ghost use Rattle.std.specs.Prelude.{◌≡◌, List, ℕ, IfErr};
 ghost use Rattle.fugue_ids.specs.Outs.{OutView, WritesBytes};
+ghost use Rattle.manuscript_cli.specs.Refusal.{refusal_line, status_of, Told};
 ghost use Rattle.manuscript_cli.specs.TextOut.{GoesOut, WritesOut};
 ghost use Rattle.manuscript_cli.specs.Touched.{Change, change};
 
@@ -22,8 +23,10 @@ pub(crate) fn gone_out(written: Result<(), Failed>) -> Result<(), Refusal>
 
 /// Done, where a text went out. Where it did not, why is told.
 pub(crate) fn ended<N: Sink>(gone: Result<(), Refusal>, notes: &mut N) -> Status
-    ensures { (bytes : List ℕ) (output : Change OutView) → GoesOut bytes output gone
+    ensures out { (bytes : List ℕ) (output : Change OutView) → GoesOut bytes output gone
         → WritesOut bytes output (change (N.seen notes.old) (N.seen notes.new)) result }
+    ensures told { IfErr gone (λ why. (result ≡ status_of why)
+        × Told (N.seen notes.old) (N.seen notes.new) (refusal_line why)) }
 {
     match gone {
         Ok(()) => Status::Done,

@@ -8,6 +8,7 @@ ghost use Rattle.manuscript_cli.specs.declared.command.Command.TheVariants.{Prin
 ghost use Rattle.manuscript_cli.specs.declared.status.Status.TheVariants.{Usage};
 
 use crate::bulk::bulk;
+use crate::check::check_file;
 use crate::edit::Script;
 use crate::giving::save_given;
 use crate::merge::OtherFile;
@@ -20,6 +21,7 @@ use crate::send::Frames;
 use crate::show::show;
 use crate::sync_file::Reply;
 use crate::take::Stream;
+use crate::why::Why;
 use crate::{Command, Status, read_words};
 use origin_model::order_by_set;
 use outer_ports::{Disk, Dock, Sink, Source, Wire};
@@ -161,5 +163,15 @@ fn obey<S: Source, O: Sink, N: Sink, H: Disk, G: Disk, W: Wire, D: Dock, B: Buil
             save_given(alloc, &Reply { port, cursor }, wire, home, notes)
         }
         Command::Bulk(seed, count) => bulk(alloc, seed, count, output, notes),
+        Command::Why(section, first, second) => {
+            let section = section - 1;
+            let why = Why {
+                section,
+                first,
+                second,
+            };
+            write_report(alloc, &why, home, output, notes)
+        }
+        Command::Check => check_file(alloc, input, home, output, notes),
     }
 }

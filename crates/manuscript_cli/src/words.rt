@@ -22,6 +22,9 @@ const GREATEST_SEED: u32 = u32::MAX;
 /// The greatest place in a relay's log.
 const GREATEST_CURSOR: u32 = u32::MAX;
 
+/// The greatest number of a section, and the greatest place in it.
+const GREATEST_PLACE: u32 = u32::MAX;
+
 /// How many sessions a relay serves at most.
 const MOST_SESSIONS: u32 = 65_535;
 
@@ -39,6 +42,15 @@ pub fn read_words(words: &[String]) -> Option<Command>
                 file.as_str(),
                 first.as_str(),
                 second.as_str(),
+            )
+        }
+        [name, file, first, second, third] => {
+            read_four(
+                name.as_str(),
+                file.as_str(),
+                first.as_str(),
+                second.as_str(),
+                third.as_str(),
             )
         }
         _ => None,
@@ -63,6 +75,7 @@ fn read_one(name: &str, word: &str) -> Option<Command>
         "print" if !word.is_empty() => Some(Command::Print),
         "take" if !word.is_empty() => Some(Command::Take),
         "send" if !word.is_empty() => Some(Command::Send),
+        "check" if !word.is_empty() => Some(Command::Check),
         _ => None,
     }
 }
@@ -133,6 +146,27 @@ fn read_new(file: &str, number: &str, hold: &str) -> Option<Command>
     let replica = read_number(number, 1, GREATEST_REPLICA)?;
     let hold = read_number(hold, 1, GREATEST_HOLD)?;
     Some(Command::New(replica, hold))
+}
+
+fn read_four(name: &str, file: &str, first: &str, second: &str, third: &str) -> Option<Command>
+    ensures { IsCommand (name.now ∷ file.now ∷ first.now ∷ second.now ∷ third.now ∷ []) result }
+{
+    match name {
+        "why" => read_why(file, first, second, third),
+        _ => None,
+    }
+}
+
+fn read_why(file: &str, section: &str, first: &str, second: &str) -> Option<Command>
+    ensures { IsCommand (codes "why" ∷ file.now ∷ section.now ∷ first.now ∷ second.now ∷ []) result }
+{
+    if file.is_empty() {
+        return None;
+    }
+    let section = read_number(section, 1, GREATEST_PLACE)?;
+    let first = read_number(first, 0, GREATEST_PLACE)?;
+    let second = read_number(second, 0, GREATEST_PLACE)?;
+    Some(Command::Why(section, first, second))
 }
 
 /// The file that the command of the words is about, and the other file that it reads. Words of no command have none.

@@ -5,4 +5,4 @@ use Rattle.manuscript_cli.proofs.bulk.bulk.Goals as goal
 
 pub returns : goal.returns
 returns g c =
-    bulk_ended _ _ _ _ _ (c.ended.ensures (bulk_text c.args.seed c.args.count) (change (g.O.Out.seen c.args.output.now) (g.O.Out.seen c.made.new.output)) c.made.ensures)
+    bulk_ended _ _ _ _ _ (c.ended.ensures.out (bulk_text c.args.seed c.args.count) (change (g.O.Out.seen c.args.output.now) (g.O.Out.seen c.made.new.output)) c.made.ensures)

@@ -1,13 +1,13 @@
-use Rattle.std.proofs.Common.{◌≡◌, ap}
-use Rattle.manuscript_cli.proofs.ReportLemmas.{load_refused, text_written}
+use Rattle.std.proofs.Common.{◌≡◌, ap, refl}
+use Rattle.manuscript_cli.proofs.ReportLemmas.{load_refused, report_written}
 use Rattle.manuscript_cli.specs.Refusal.{status_of}
 use Rattle.manuscript_cli.specs.declared.refusal.Refusal.TheVariants.{Outside}
 use Rattle.manuscript_cli.proofs.report.write_report.Goals as goal
 
 pub returns-in-Ok : goal.returns-in-Ok
-returns-in-Ok g c = text_written _ _ _ _ _ _ _ c.in-Ok.ensures.meets (λ tells. c.in-Ok.ensures.told tells (λ is. cc is)) c.write_held-status.ensures
+returns-in-Ok g c = report_written _ c.laws.ensures _ _ _ _ _ _ c.in-Ok.ensures.meets (λ tells. c.in-Ok.ensures.told tells (λ is. cc is)) c.write_held-status.ensures
 
 pub returns-in-Err : goal.returns-in-Err
 returns-in-Err g c =
-    rw c.tell.ensures.status (load_refused _ _ _ _ c.in-Err.why c.in-Err.ensures.meets
+    rw c.tell.ensures.status (load_refused _ c.laws.ensures _ _ _ refl c.in-Err.why c.in-Err.ensures.meets
     (λ tells not. c.in-Err.ensures.told tells (λ is. let same : c.in-Err.why ≡ Outside = cc is in not (ap status_of same))) c.tell.ensures.told)

@@ -1,7 +1,7 @@
 use Rattle.std.proofs.Common.{refl, subst}
 use Rattle.manuscript_cli.specs.Command.{IsInRange}
 use Rattle.manuscript_cli.proofs.top.obey.Goals as goal
-use Rattle.manuscript_cli.proofs.top.obey.Goals.{in-Show, in-New, in-Edit, in-Print, in-Take, in-Send, in-Merge, in-Relay, in-Sync, in-Bulk}
+use Rattle.manuscript_cli.proofs.top.obey.Goals.{in-Show, in-New, in-Edit, in-Print, in-Take, in-Send, in-Merge, in-Relay, in-Sync, in-Bulk, in-Why, in-Check}
 
 pub show-requires-clause-from : goal.show-requires-clause-from
 show-requires-clause-from g c = (subst IsInRange c.in-Show.is c.requires).from
@@ -31,4 +31,6 @@ returns-clause-meets g c =
       | in-Relay w ↦ rw (w.in-Relay.is, w.input-is, w.output-is, w.notes-is, w.home-is, w.guest-is, w.wire-is, w.dock-is, w.result-is) (record { others = refl; does = w.relay.ensures })
       | in-Sync w ↦ rw (w.in-Sync.is, w.input-is, w.output-is, w.notes-is, w.home-is, w.guest-is, w.wire-is, w.dock-is, w.result-is) (record { others = refl; does = w.save_given-in-Sync.ensures.saves; blameless = w.save_given-in-Sync.ensures.blameless; leaves = w.save_given-in-Sync.ensures.leaves })
       | in-Bulk w ↦ rw (w.in-Bulk.is, w.input-is, w.output-is, w.notes-is, w.home-is, w.guest-is, w.wire-is, w.dock-is, w.result-is) (record { others = refl; does = w.bulk.ensures })
+      | in-Why w ↦ rw (w.in-Why.is, w.input-is, w.output-is, w.notes-is, w.home-is, w.guest-is, w.wire-is, w.dock-is, w.result-is) (record { others = refl; does = w.write_report-in-Why.ensures })
+      | in-Check w ↦ rw (w.in-Check.is, w.input-is, w.output-is, w.notes-is, w.home-is, w.guest-is, w.wire-is, w.dock-is, w.result-is) (record { others = refl; does = w.check_file.ensures })
     ]

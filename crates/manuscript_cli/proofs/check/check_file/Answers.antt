@@ -1,0 +1,17 @@
+use Rattle.std.proofs.Common.{ap, inr, refl, ◌≡◌}
+use Rattle.std.specs.Prelude.{Err}
+use Rattle.outer_ports.proofs.CountLemmas.{count_so}
+use Rattle.manuscript_cli.specs.declared.refusal.Refusal.TheVariants.{Outside}
+use Rattle.manuscript_cli.proofs.check.check_file.Goals as goal
+
+pub returns-in-Err : goal.returns-in-Err
+returns-in-Err g c =
+    inr (record {
+      why = c.in-Err.why;
+      cause = c.in-Err.ensures.none;
+      count = count_so _ (c.in-Err.why ≡ Outside) c.in-Err.ensures.count (λ is. ap Err is) (λ e. cc e);
+      file_kept = refl;
+      wrote = refl;
+      noted = c.tell.ensures.told;
+      end_is = c.tell.ensures.status;
+    })

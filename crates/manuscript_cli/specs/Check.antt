@@ -1,0 +1,70 @@
+-- `check`: whether the text on the input is that of a valid certificate.
+use Rattle.std.specs.Prelude.{◌≡◌, ◌⊎◌, ℕ, ◌+◌, ◌≤◌, List, [], length, IfSome, codes, ◌++◌, ◌∷◌}
+use Rattle.std.specs.Io.KnownBytes.{prepend_known}
+use Rattle.fugue_ids.specs.Outs.{OutView}
+use Rattle.outer_ports.specs.Sources.{KeepsCount, SourceView}
+use Rattle.outer_ports.specs.disk.Disks.{DiskView}
+use Rattle.order_proof.specs.Readings.{IsValidText}
+use Rattle.manuscript_cli.specs.Findings.{Refuses, Does}
+use Rattle.manuscript_cli.specs.Refusal.{Told, refusal_line, status_of}
+use Rattle.manuscript_cli.specs.Report.{Reports, Telling}
+use Rattle.manuscript_cli.specs.Touched.{Change}
+use Rattle.manuscript_cli.specs.declared.check.TheConstants.{LONGEST_PROOF}
+use Rattle.manuscript_cli.specs.declared.refusal.Refusal.{Refusal}
+use Rattle.manuscript_cli.specs.declared.refusal.Refusal.TheVariants as refusal
+use Rattle.manuscript_cli.specs.declared.status.Status.{Status}
+
+-- what `check` tells of a text: `yes` exactly where it is that of a valid certificate, else `no`
+abbrev pub check_tells : (text : List ℕ) → Telling
+check_tells text held (Does bytes) =
+    (IsValidText held.history text × (bytes ≡ codes "yes" ++ 10 ∷ [])) ⊎ (¬ (IsValidText held.history text) × (bytes ≡ codes "no" ++ 10 ∷ []))
+check_tells text held (Refuses why) = ⊥
+
+-- the text is all that the input had left
+pub record IsTextRead (input : Change SourceView) (text : List ℕ) : Type 0 where
+  pub told : input.old.left ≡ prepend_known text input.new.left
+  pub ended : IfSome input.new.left (λ left. left ≡ [])
+  pub short : length text ≤ LONGEST_PROOF
+
+-- the input had more than a text may have: one byte past the limit was taken
+pub record IsTextLonger (input : Change SourceView) : Type 0 where
+  pub front : List ℕ
+  pub told : input.old.left ≡ prepend_known front input.new.left
+  pub long : length front ≡ LONGEST_PROOF + 1
+
+-- why no text was read: a read failed, or memory was wanting, or the input is too long
+abbrev pub HasNoProofText : Change SourceView → Refusal → Type 0
+HasNoProofText input refusal.Outside = Unit {0}
+HasNoProofText input refusal.NoMemory = Unit {0}
+HasNoProofText input refusal.TooLong = IsTextLonger input
+HasNoProofText input _ = ⊥
+
+-- the next n bytes came, one past the limit at most; none came only at the end
+pub record GetsPiece (before after : List ℕ) (old new : SourceView) (n : ℕ) : Type 0 where
+  pub piece : List ℕ
+  pub long : length piece ≡ n
+  pub items : after ≡ before ++ piece
+  pub gave : old.left ≡ prepend_known piece new.left
+  pub within : length after ≤ LONGEST_PROOF + 1
+  pub ends : n ≡ 0 → IfSome old.left (λ left. left ≡ [])
+
+-- the text was read, and what it is was told of the file
+pub record CheckedText (input : Change SourceView) (file : Change DiskView) (output notes : Change OutView) (end : Status) : Type 0 where
+  pub text : List ℕ
+  pub read : IsTextRead input text
+  pub count : KeepsCount input.old input.new ⊥
+  pub reports : Reports (check_tells text) file output notes end
+
+-- no text was read, and why was told
+pub record ReadNoText (input : Change SourceView) (file : Change DiskView) (output notes : Change OutView) (end : Status) : Type 0 where
+  pub why : Refusal
+  pub cause : HasNoProofText input why
+  pub count : KeepsCount input.old input.new (why ≡ refusal.Outside)
+  pub file_kept : file.new ≡ file.old
+  pub wrote : output.new ≡ output.old
+  pub noted : Told notes.old notes.new (refusal_line why)
+  pub end_is : end ≡ status_of why
+
+-- the command `check`
+abbrev pub ChecksText : Change SourceView → Change DiskView → (output notes : Change OutView) → Status → Type 0
+ChecksText input file output notes end = CheckedText input file output notes end ⊎ ReadNoText input file output notes end

@@ -1,0 +1,120 @@
+//! The command `check`: whether the text on the input is that of a valid certificate.
+ghost use Rattle.std.specs.Prelude.{◌≡◌, ◌↔◌, ◌≤◌, ◌⊎◌, [], ◌∷◌, ◌++◌, true, false, length, codes};
+ghost use Rattle.std.specs.Prelude.{IfErr, IfOk, IsErrOf, OnOk};
+ghost use Rattle.outer_ports.specs.Sources.{KeepsCount};
+ghost use Rattle.order_proof.specs.Readings.{IsValidText};
+ghost use Rattle.manuscript_cli.specs.Check.{ChecksText, GetsPiece, HasNoProofText, IsTextRead, check_tells};
+ghost use Rattle.manuscript_cli.specs.Touched.{change};
+ghost use Rattle.manuscript_cli.specs.declared.refusal.Refusal.TheVariants.{Outside, NoMemory as NoMemoryFound};
+
+use crate::Status;
+use crate::refusal::{Refusal, tell};
+use crate::report::{Report, write_report};
+use crate::text_out::gone_out;
+use fugue_ids::{BUFFER, NoMemory, write_whole};
+use order_proof::check_text;
+use outer_ports::{Disk, Sink, Source};
+use replica_core::Replica;
+use std::alloc::Global;
+
+/// The most bytes of the text of a certificate.
+pub(crate) const LONGEST_PROOF: usize = 268_435_456;
+
+/// Reads the text of a certificate from the input, and writes whether it is valid in what a file's replica holds.
+pub(crate) fn check_file<S: Source, O: Sink, N: Sink, H: Disk>(
+    alloc: Global,
+    input: &mut S,
+    home: &mut H,
+    output: &mut O,
+    notes: &mut N,
+) -> Status
+    ensures { ChecksText (change (S.seen input.old) (S.seen input.new)) (change (H.seen home.old) (H.seen home.new))
+        (change (O.seen output.old) (O.seen output.new)) (change (N.seen notes.old) (N.seen notes.new)) result }
+{
+    match read_proof_text(alloc, input) {
+        Ok(text) => {
+            let verdict = Verdict { text };
+            let status = write_report(alloc, &verdict, home, output, notes);
+            drop(verdict);
+            status
+        }
+        Err(why) => tell(notes, why),
+    }
+}
+
+/// Whether a text is that of a valid certificate.
+#[derive(Drop)]
+struct Verdict {
+    text: Vec<u8>,
+}
+
+impl Report for Verdict {
+    ghost Tells = { λ what. check_tells what.text.items };
+
+    fn write<O: Sink>(
+        &self,
+        alloc: Global,
+        replica: &Replica,
+        output: &mut O,
+    ) -> Result<(), Refusal> {
+        let valid = is_valid(alloc, replica, &self.text)?;
+        gone_out(write_whole(output, answer(valid)))
+    }
+
+    fn laws(&self) {}
+}
+
+fn is_valid(alloc: Global, replica: &Replica, text: &[u8]) -> Result<bool, NoMemory>
+    ensures { IfOk result (λ valid. (valid ≡ true) ↔ IsValidText replica.now.held.history text.now) }
+{
+    check_text(alloc, replica.accepted(), text)
+}
+
+fn answer(valid: bool) -> &'static [u8]
+    ensures yes { valid ≡ true → result.now ≡ codes "yes" ++ 10 ∷ [] }
+    ensures no { valid ≡ false → result.now ≡ codes "no" ++ 10 ∷ [] }
+{
+    if valid { b"yes\n" } else { b"no\n" }
+}
+
+/// Reads all that the source has left. One byte past the limit may be taken to see that the text is longer.
+fn read_proof_text<S: Source>(alloc: Global, source: &mut S) -> Result<Vec<u8>, Refusal>
+    ensures text { IfOk result (λ text. IsTextRead (change (S.seen source.old) (S.seen source.new)) text.items) }
+    ensures none { IfErr result (HasNoProofText (change (S.seen source.old) (S.seen source.new))) }
+    ensures count { KeepsCount (S.seen source.old) (S.seen source.new) (IsErrOf result Outside) }
+{
+    let mut text = Vec::new(alloc);
+    'reads: while text.len() <= LONGEST_PROOF {
+        let count = read_piece(&mut text, source)?;
+        if count == 0 {
+            return Ok(text);
+        }
+    }
+    Err(Refusal::TooLong)
+}
+
+/// Puts the source's next bytes behind a text, one past the limit at most, and answers how many came.
+fn read_piece<S: Source>(text: &mut Vec<u8>, source: &mut S) -> Result<usize, Refusal>
+    requires { length text.old.items ≤ LONGEST_PROOF }
+    ensures bytes { IfOk result
+        (GetsPiece text.old.items text.new.items (S.seen source.old) (S.seen source.new)) }
+    ensures failed { IfErr result (λ why. (why ≡ Outside) ⊎ (why ≡ NoMemoryFound)) }
+    ensures count { KeepsCount (S.seen source.old) (S.seen source.new) (IsErrOf result Outside) }
+{
+    let mut buffer = [0; BUFFER];
+    let most = (LONGEST_PROOF + 1 - text.len()).min(BUFFER);
+    match source.read(&mut buffer[..most]) {
+        Ok(count) => {
+            append(text, &buffer[..count])?;
+            Ok(count)
+        }
+        Err(_) => Err(Refusal::Outside),
+    }
+}
+
+fn append(text: &mut Vec<u8>, bytes: &[u8]) -> Result<(), NoMemory>
+    ensures { OnOk result (text.new.items ≡ text.old.items ++ bytes.now) }
+{
+    text.extend_from_slice(bytes)?;
+    Ok(())
+}
