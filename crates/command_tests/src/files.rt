@@ -211,37 +211,72 @@ pub(crate) const PICKS: &[Pick] = &[
     Pick::Fill(255),
 ];
 
+/// A save: the file, how many of the operations follow behind those that it has, and what is printed before and after.
+#[derive(Clone, Copy)]
+struct Saving {
+    file: &'static [u8],
+    held: usize,
+    before: &'static [u8],
+    after: &'static [u8],
+}
+
+/// A save to a new file, and one to a file of version 1.
+const SAVINGS: &[Saving] = &[
+    Saving {
+        file: NEW,
+        held: 0,
+        before: b"",
+        after: b"# T\nACxx\n",
+    },
+    Saving {
+        file: OLD,
+        held: 5,
+        before: PRINTED,
+        after: b"# T\nACxx\n",
+    },
+];
+
 /// Whether the file has the batch, or is as it was where that was not saved, and then takes it.
-fn has_all_or_none(alloc: Global, disk: &mut MemDisk, ops: &[Op], is_saved: bool) -> bool {
-    shows(alloc, disk, PRINTED)
+fn has_all_or_none(
+    alloc: Global,
+    disk: &mut MemDisk,
+    saving: Saving,
+    ops: &[Op],
+    is_saved: bool,
+) -> bool {
+    shows(alloc, disk, saving.after)
         || !is_saved
-            && shows(alloc, disk, b"")
+            && shows(alloc, disk, saving.before)
             && save(alloc, disk, ops).is_some()
-            && shows(alloc, disk, PRINTED)
+            && shows(alloc, disk, saving.after)
 }
 
 /// Saves where this call on the file fails, and looks at what crashes leave. It is saved where no call fails.
-fn crash_at(rt: &(impl Abort + AllocGlobal), call: u32, ops: &[Op], is_saved: bool) {
-    let mut disk = MemDisk::new(rt.alloc(), list(rt, NEW), list(rt, &[call]));
+fn crash_at(rt: &(impl Abort + AllocGlobal), call: u32, saving: Saving, is_saved: bool) {
+    let all = operations(rt, 2);
+    let ops = all.get(saving.held..).unwrap_or_default();
+    let mut disk = MemDisk::new(rt.alloc(), list(rt, saving.file), list(rt, &[call]));
     let end = save(rt.alloc(), &mut disk, ops);
     equal_at(rt, &call, end.is_some(), is_saved);
     for pick in PICKS {
         let mut left = disk.crash(*pick).expect(rt, "memory");
-        let is_whole = has_all_or_none(rt.alloc(), &mut left, ops, is_saved);
+        let is_whole = has_all_or_none(rt.alloc(), &mut left, saving, ops, is_saved);
         holds_at(rt, &(call, pick), is_whole);
         drop(left);
     }
     drop(disk);
+    drop(all);
 }
 
 #[test]
 fn a_crash_leaves_all_of_a_batch_or_none(rt: HostRuntime) {
-    let ops = operations(&rt, 0);
-    // Loading is a sync and two reads, and a batch is two writes and two syncs.
-    for call in 0..9 {
-        crash_at(&rt, call, &ops, call >= 7);
+    for saving in SAVINGS {
+        // Loading is a sync and two reads, and three more for a batch; a batch is two writes and two syncs.
+        let calls: u32 = if saving.held == 0 { 7 } else { 10 };
+        for call in 0..calls.saturating_add(2) {
+            crash_at(&rt, call, *saving, call >= calls);
+        }
     }
-    drop(ops);
 }
 
 /// Saves operations whose frames are longer than a piece, and loads them. The letters are 23 runs of 1,024 and one of 448.
