@@ -83,7 +83,7 @@ def main(program, seed, count):
         for _ in range(count):
             frames = history(dice, dice.randrange(2, 10))
             file.write_bytes(HEADER + b"\1" + number(len(frames)) + frames + b"\0")
-            replica = reader.taken_in(16, [op for op, _ in reader.read_stream(frames)])
+            replica = reader.taken_in(16, list(reader.read_stream(frames)))
             shown = [op.id for op in replica.shown((1, 0))]
             for p in range(len(shown)):
                 for q in range(p + 1, len(shown)):
