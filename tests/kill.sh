@@ -1,7 +1,8 @@
 #!/usr/bin/env bash
 # Kills the built program while it edits a file: as it begins each of its calls of the system in turn, which are counted
 # by tests/calls.c, and at 200 random moments. The file has to print what it printed before, or what the edit makes of
-# it, and after an end with status 0 what the edit makes; and a later edit has to end well.
+# it, and after an end with status 0 what the edit makes; and a later edit has to end well. One file is of version 2, and
+# one of version 1.
 #
 #     tests/kill.sh [SEED]     # the random moments follow from the seed, 1 where none is given
 RANDOM=${1:-1}
@@ -9,15 +10,21 @@ RANDOM=${1:-1}
 
 file=$work/file
 { for ((line = 1; line <= 300; line++)); do echo "put 1 0 abc$line"; done; } >"$work/script"
-"$program" new "$work/before" 1 16 </dev/null
-printf 'add 1 T\nput 1 0 old\n' | "$program" edit "$work/before" 2>/dev/null
-cp "$work/before" "$work/after"
-"$program" edit "$work/after" <"$work/script" 2>/dev/null
-"$program" print "$work/before" </dev/null >"$work/text_before"
-"$program" print "$work/after" </dev/null >"$work/text_after"
-old=0
-new=0
-wrong=0
+"$program" new "$work/version_2" 1 16 </dev/null
+printf 'add 1 T\nput 1 0 old\n' | "$program" edit "$work/version_2" 2>/dev/null
+cp samples/version_1.ms "$work/version_1"
+
+# From here on the file is this one, before it is edited.
+begin_with() {
+    cp "$work/$1" "$work/before"
+    cp "$work/before" "$work/after"
+    "$program" edit "$work/after" <"$work/script" 2>/dev/null
+    "$program" print "$work/before" </dev/null >"$work/text_before"
+    "$program" print "$work/after" </dev/null >"$work/text_after"
+    old=0
+    new=0
+    wrong=0
+}
 
 # Looks at the file after an end with this status.
 look() {
@@ -35,7 +42,8 @@ look() {
 }
 
 # As it begins each of its calls of the system.
-if build_c calls; then
+kill_at_each_call() {
+    local call status
     for ((call = 1; call <= 100; call++)); do
         cp "$work/before" "$file"
         AT=$call FAULT=kill LD_PRELOAD=$work/calls.so "$program" edit "$file" <"$work/script" >/dev/null 2>&1 9>"$work/calls" &
@@ -44,32 +52,39 @@ if build_c calls; then
         look "$status"
         [ "$status" = 137 ] || break
     done
-    check "killed at each of its $((call - 1)) calls: $old times all is as before, $new times all is there, $wrong times else" \
+    check "$1, killed at each of its $((call - 1)) calls: $old times all is as before, $new times all is there, $wrong times else" \
         [ "$wrong" = 0 -a "$call" -gt 10 -a "$call" -lt 100 -a "$old" -gt 0 -a "$new" -gt 1 ]
-fi
+}
 
 # At random moments, up to one and a half times the time that the edit takes. No program is started to wait for them.
 exec {never}<> <(:)
-old=0
-new=0
-wrong=0
-killed=0
-start=${EPOCHREALTIME/./}
-cp "$work/before" "$file"
-"$program" edit "$file" <"$work/script" 2>/dev/null
-long=$((${EPOCHREALTIME/./} - start))
-for ((times = 1; times <= 200; times++)); do
+kill_at_moments() {
+    local killed=0 start=${EPOCHREALTIME/./} long times pause status
     cp "$work/before" "$file"
-    "$program" edit "$file" <"$work/script" >/dev/null 2>&1 &
-    printf -v pause '0.%06d' $(((RANDOM * 32768 + RANDOM) % (long * 3 / 2)))
-    read -rt "$pause" -u "$never"
-    kill -9 $! 2>/dev/null
-    wait $! 2>/dev/null
-    status=$?
-    [ "$status" != 137 ] || killed=$((killed + 1))
-    look "$status"
+    "$program" edit "$file" <"$work/script" 2>/dev/null
+    long=$((${EPOCHREALTIME/./} - start))
+    for ((times = 1; times <= 100; times++)); do
+        cp "$work/before" "$file"
+        "$program" edit "$file" <"$work/script" >/dev/null 2>&1 &
+        printf -v pause '0.%06d' $(((RANDOM * 32768 + RANDOM) % (long * 3 / 2)))
+        read -rt "$pause" -u "$never"
+        kill -9 $! 2>/dev/null
+        wait $! 2>/dev/null
+        status=$?
+        [ "$status" != 137 ] || killed=$((killed + 1))
+        look "$status"
+    done
+    check "$1, killed at $killed of 100 moments: $old times all is as before, $new times all is there, $wrong times else" \
+        [ "$wrong" = 0 -a "$killed" -gt 0 ]
+}
+
+for version in version_2 version_1; do
+    if build_c calls; then
+        begin_with "$version"
+        kill_at_each_call "$version"
+    fi
+    begin_with "$version"
+    kill_at_moments "$version"
 done
-check "killed at $killed of 200 moments: $old times all is as before, $new times all is there, $wrong times else" \
-    [ "$wrong" = 0 -a "$killed" -gt 0 ]
 
 ended
