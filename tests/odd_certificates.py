@@ -34,7 +34,7 @@ def history(dice, letters):
     ids = []
     frames = [SECTION]
     for at in range(letters):
-        id = (dice.randrange(1, 5), at)
+        id = (dice.randrange(1, 5), 1 + at)
         left, right = (dice.choice(ids) if ids and dice.random() < 0.6 else None for _ in range(2))
         frames.append(b"\2" + identifier(id) + SECTION[1:9] + origin(left) + origin(right) + b"\0\0" + bytes([97 + at]))
         ids.append(id)
