@@ -194,7 +194,8 @@ port=$((port + 1))
 start_relay 2
 open_peer
 : >"$work/output"
-"$program" sync "$work/other" "$port" 0 </dev/null 2>"$work/notes" &
+# The peer's connection is the shell's alone, so that the relay sees it close.
+"$program" sync "$work/other" "$port" 0 </dev/null 2>"$work/notes" {peer}>&- &
 stopped=$!
 sleep 0.3
 kill -STOP "$stopped"
