@@ -2,6 +2,9 @@
 use Rattle.std.specs.Prelude.{ℕ, Bool, ◌&&◌, ◌||◌, nat_eq, nat_lt, Option, Some, None, true, false}
 use Rattle.std.specs.Ordering.{nat_cmp, ordering_then}
 use Rattle.std.specs.declared.cmp.Ordering.{Ordering}
+use Rattle.std.specs.Cmp.{IsEquivalence}
+use Rattle.std.proofs.lemmas.Cmp.{and_equiv, lists_equiv, nat_eq_equiv, on_equiv}
+use lib.Pointwise.{pointwise}
 
 pub record Identifier : Type 0 where
   pub replica : ℕ
@@ -25,3 +28,7 @@ origin_eq None None = true
 origin_eq None (Some b) = false
 origin_eq (Some a) None = false
 origin_eq (Some a) (Some b) = id_eq a b
+
+-- lists of the same identifiers: an equivalence
+pub same_names : IsEquivalence (pointwise id_eq)
+same_names = lists_equiv (and_equiv (on_equiv (λ i. i.replica) nat_eq_equiv) (on_equiv (λ i. i.counter) nat_eq_equiv))

@@ -1,23 +1,29 @@
 //! Identifiers, titles and operations of a manuscript, and where bytes go out.
 #![tactic(auto)]
 
+mod body;
 mod byte_list;
 mod element_id;
 mod gather;
 mod key;
 mod limits;
 mod no_memory;
+mod note_names;
 mod op;
 mod order_of;
 mod out;
 mod title;
 
+pub use body::{Body, BodyFault};
 pub use byte_list::ByteList;
 pub use element_id::{ElementId, order_of_identifiers};
 pub use gather::Gather;
 pub use key::{Gap, Key, Side};
-pub use limits::{BUFFER, GREATEST_HOLD, LONGEST_TITLE, MOST_OPERATIONS, STREAM_LIMIT};
+pub use limits::{
+    BUFFER, GREATEST_HOLD, LONGEST_BODY, LONGEST_TITLE, MOST_NAMES, MOST_OPERATIONS, STREAM_LIMIT,
+};
 pub use no_memory::NoMemory;
+pub use note_names::NoteNames;
 pub use op::{Op, OpKey};
 pub use order_of::OrderOf;
 pub use out::{Failed, Out, write_heading, write_pieces, write_scalar, write_whole};

@@ -12,5 +12,11 @@ pub const STREAM_LIMIT: u64 = 2_147_483_648;
 /// The longest title, in bytes of UTF-8.
 pub const LONGEST_TITLE: usize = 480;
 
+/// The most identifiers that a note names.
+pub const MOST_NAMES: usize = 3;
+
+/// The longest body of a note, in bytes.
+pub const LONGEST_BODY: usize = 1024;
+
 /// The bytes that are read or written at once.
 pub const BUFFER: usize = 4096;

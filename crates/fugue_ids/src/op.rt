@@ -1,7 +1,7 @@
 ghost use Rattle.std.specs.Prelude.{◌≡◌, IfOk};
 ghost use Rattle.fugue_ids.specs.Ops.{id_of, key_of};
 
-use crate::{ElementId, NoMemory, Title};
+use crate::{Body, ElementId, NoMemory, NoteNames, Title};
 use std::alloc::Global;
 
 /// One operation of an author.
@@ -24,16 +24,23 @@ pub enum Op {
         right: Option<ElementId>,
         ch: char,
     },
-    /// Hides an element of any place.
+    /// Hides an element of any place, or withdraws a note.
     Delete {
         target: ElementId,
+    },
+    /// Says something of the operations that it names: what, the code tells. It stands in no place.
+    Note {
+        id: ElementId,
+        names: NoteNames,
+        code: u8,
+        body: Body,
     },
 }
 
 /// What an operation is looked up by: equal operations have one key.
 #[derive(Clone, Copy, Debug, PartialEq, Eq)]
 pub enum OpKey {
-    /// The identifier of the element that it makes.
+    /// The identifier of the element or note that it makes.
     Own(ElementId),
     /// The target of a `Delete`, which has no identifier of its own.
     Target(ElementId),
@@ -44,12 +51,12 @@ impl Op {
         ensures { result ≡ key_of self.now }
     {
         match self {
-            Op::Section { id, .. } | Op::Text { id, .. } => OpKey::Own(*id),
+            Op::Section { id, .. } | Op::Text { id, .. } | Op::Note { id, .. } => OpKey::Own(*id),
             Op::Delete { target } => OpKey::Target(*target),
         }
     }
 
-    /// The identifier of the element that the operation makes: a `Delete` makes none.
+    /// The identifier of the element or note that the operation makes: a `Delete` makes none.
     pub fn id(&self) -> Option<ElementId>
         ensures { result ≡ id_of self.now }
     {
@@ -89,6 +96,17 @@ impl Op {
                 ch: *ch,
             }),
             Op::Delete { target } => Ok(Op::Delete { target: *target }),
+            Op::Note {
+                id,
+                names,
+                code,
+                body,
+            } => Ok(Op::Note {
+                id: *id,
+                names: names.copy(),
+                code: *code,
+                body: body.clone_in(alloc)?,
+            }),
         }
     }
 }

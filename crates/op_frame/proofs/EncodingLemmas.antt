@@ -9,8 +9,8 @@ use Rattle.std.proofs.lemmas.List.Elements.{All-append}
 use Rattle.fugue_ids.specs.Identifiers.{Identifier}
 use Rattle.fugue_ids.specs.declared.op.Op.{Op}
 use Rattle.fugue_ids.specs.declared.op.Op.TheVariants.{Text}
-use Rattle.origin_model.specs.frames.Frames.{HasFrame, Item, Run, Single, Typed, frame, item_bytes, item_ops, run_ops, scalar_bytes, typed}
-use Rattle.origin_model.specs.frames.Framings.{frames, scalar_of}
+use Rattle.origin_model.specs.frames.Frames.{HasFrame, Item, Run, Single, Typed, frame, item_bytes, item_ops, run_ops, scalar_bytes, in_a_row}
+use Rattle.origin_model.specs.frames.Framings.{frames, scalar_in}
 use Rattle.origin_model.proofs.SharedLemmas.{length-run, typed_scalars}
 use Rattle.op_frame.specs.Stretches.{AreTyped, BeginsStretch, HasRunLength, IsStretch, WritesItem}
 
@@ -23,20 +23,20 @@ run_parts o k a b l r n s o0 o1 o2 o3 o4 o5 o6 o7 p0 p1 p2 p3 p4 p5 p6 p7 = rw (
 pub first_text : (run : Run) (ops : List Op) (op d : Op) → run_ops run ≡ ops → 1 ≤ length run.text → op ≡ get_or ops 0 d → (ch : ℕ) × (op ≡ Text run.id run.section run.left run.right ch)
 first_text run ops op d same some first = of_text run.id run.section run.left run.right run.text same some
   where
-    of_text : (i s : Identifier) (l r : Option Identifier) (text : List ℕ) → typed i s l r text ≡ ops → 1 ≤ length text → (ch : ℕ) × (op ≡ Text i s l r ch)
+    of_text : (i s : Identifier) (l r : Option Identifier) (text : List ℕ) → in_a_row i s l r text ≡ ops → 1 ≤ length text → (ch : ℕ) × (op ≡ Text i s l r ch)
     of_text i s l r [] same some = absurd (omega (arith, some))
     of_text i s l r (c ∷ u) same some = (c, first ∙ ap (λ (o : List Op). get_or o 0 d) (sym same))
 
 -- the run is known by its first operation and all scalars
 pub run_known : (run : Run) (ops : List Op) (id section : Identifier) (left right : Option Identifier) (ch : ℕ) (d : Op) → run_ops run ≡ ops → 1 ≤ length run.text
-    → Text id section left right ch ≡ get_or ops 0 d → run ≡ record { id = id; section = section; left = left; right = right; text = map scalar_of ops }
+    → Text id section left right ch ≡ get_or ops 0 d → run ≡ record { id = id; section = section; left = left; right = right; text = map scalar_in ops }
 run_known run ops id section left right ch d same some first =
     let p = first_text run ops (Text id section left right ch) d same some first in
     let e0 : run.id ≡ id = cc p.1 in
     let e1 : run.section ≡ section = cc p.1 in
     let e2 : run.left ≡ left = cc p.1 in
     let e3 : run.right ≡ right = cc p.1 in
-    let e4 : run.text ≡ map scalar_of ops = sym (typed_scalars run.id run.section run.left run.right run.text) ∙ ap (map scalar_of) same in
+    let e4 : run.text ≡ map scalar_in ops = sym (typed_scalars run.id run.section run.left run.right run.text) ∙ ap (map scalar_in) same in
     λ i. record { id = e0 i; section = e1 i; left = e2 i; right = e3 i; text = e4 i }
 
 pub typed_long : (ops : List Op) (a : AreTyped ops) → length a.run.text ≡ length ops
@@ -71,8 +71,8 @@ all_have ops n first rest = subst (All HasFrame) (take-append-drop n ops) (All-a
 
 -- the scalars of one operation more
 pub scalars_more : (ops : List Op) (i : ℕ) (op : Op) → i < length ops → op ≡ get_or ops i op
-    → flat_map scalar_bytes (map scalar_of (take (i + 1) ops)) ≡ flat_map scalar_bytes (map scalar_of (take i ops)) ++ scalar_bytes (scalar_of op)
+    → flat_map scalar_bytes (map scalar_in (take (i + 1) ops)) ≡ flat_map scalar_bytes (map scalar_in (take i ops)) ++ scalar_bytes (scalar_in op)
 scalars_more ops i op below is =
-    ap (λ (l : List Op). flat_map scalar_bytes (map scalar_of l)) (ap (λ (n : ℕ). take n ops) (add-one i) ∙ take-suc ops i op below ∙ ap (λ (o : Op). take i ops ++ o ∷ []) (sym is))
-    ∙ ap (flat_map scalar_bytes) (map-append scalar_of (take i ops) (op ∷ [])) ∙ flat_map-append scalar_bytes (map scalar_of (take i ops)) (scalar_of op ∷ [])
-    ∙ ap (λ (l : List ℕ). flat_map scalar_bytes (map scalar_of (take i ops)) ++ l) (append-nil (scalar_bytes (scalar_of op)))
+    ap (λ (l : List Op). flat_map scalar_bytes (map scalar_in l)) (ap (λ (n : ℕ). take n ops) (add-one i) ∙ take-suc ops i op below ∙ ap (λ (o : Op). take i ops ++ o ∷ []) (sym is))
+    ∙ ap (flat_map scalar_bytes) (map-append scalar_in (take i ops) (op ∷ [])) ∙ flat_map-append scalar_bytes (map scalar_in (take i ops)) (scalar_in op ∷ [])
+    ∙ ap (λ (l : List ℕ). flat_map scalar_bytes (map scalar_in (take i ops)) ++ l) (append-nil (scalar_bytes (scalar_in op)))

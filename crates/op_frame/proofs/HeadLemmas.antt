@@ -11,7 +11,7 @@ use Rattle.fugue_ids.specs.Identifiers.{Identifier}
 use Rattle.fugue_ids.specs.declared.op.Op.{Op}
 use Rattle.fugue_ids.specs.declared.op.Op.TheVariants.{Text as TextOp}
 use Rattle.origin_model.specs.declared.grammar.Grammar.TheVariants.{Version2}
-use Rattle.origin_model.specs.frames.Frames.{HasRunFrame, IsFrame, IsIdentifier, IsOrigin, Run, Typed, id_bytes, next_id, origin_bytes, run_frame, run_ops, scalar_bytes, text_bytes, typed}
+use Rattle.origin_model.specs.frames.Frames.{HasRunFrame, IsFrame, IsIdentifier, IsOrigin, Run, Typed, id_bytes, next_id, origin_bytes, run_frame, run_ops, scalar_bytes, text_bytes, in_a_row}
 use Rattle.origin_model.proofs.SharedLemmas.{length-scalars}
 use Rattle.op_frame.specs.Firsts.{StartsWith}
 use Rattle.op_frame.specs.FrameFronts.{IsRunBehind, IsScalarBytes}
@@ -40,10 +40,10 @@ module _ (head : Head) (bytes : List ℕ) (c : ℕ) (h : IsHeld bytes head) (spl
   abbrev pub first_op : Op
   first_op = TextOp head.id head.section head.left head.right c
 
-  shown : (n : ℕ) → head.count ≡ suc n → held_ops (Some head) bytes ≡ first_op ∷ typed (next_id head.id) head.section (Some head.id) head.right (scalars_in n after)
+  shown : (n : ℕ) → head.count ≡ suc n → held_ops (Some head) bytes ≡ first_op ∷ in_a_row (next_id head.id) head.section (Some head.id) head.right (scalars_in n after)
   shown n count =
-      (λ i. typed head.id head.section head.left head.right (scalars_in (count i) (split i)))
-      ∙ λ i. TextOp head.id head.section head.left head.right (code_is c is i) ∷ typed (next_id head.id) head.section (Some head.id) head.right (scalars_in n after)
+      (λ i. in_a_row head.id head.section head.left head.right (scalars_in (count i) (split i)))
+      ∙ λ i. TextOp head.id head.section head.left head.right (code_is c is i) ∷ in_a_row (next_id head.id) head.section (Some head.id) head.right (scalars_in n after)
 
   later : (n : ℕ) → head.count ≡ suc n → (text : List ℕ) → All IsScalar text → length text ≡ head.count → bytes ≡ flat_map scalar_bytes text ++ h.rest
       → (others : List ℕ) × All IsScalar others × (length others ≡ n) × (after ≡ flat_map scalar_bytes others ++ h.rest)
@@ -64,7 +64,7 @@ module _ (head : Head) (bytes : List ℕ) (c : ℕ) (h : IsHeld bytes head) (spl
       let size : 3 * head.count ≡ 3 + 3 * next.count = omega (arith, count) in
       let p = later next.count more h.text h.scalars h.count h.split in
       record {
-        first = shown next.count more ∙ λ i. first_op ∷ typed (sym id i) (sym section i) (sym left i) (sym right i) (scalars_in next.count after);
+        first = shown next.count more ∙ λ i. first_op ∷ in_a_row (sym id i) (sym section i) (sym left i) (sym right i) (scalars_in next.count after);
         behind = ap (λ (n : ℕ). drop n bytes) size ∙ sym (drop-drop (3 * next.count) 3 bytes);
         others = record {
           text = p.0;
@@ -104,7 +104,7 @@ text_there head bytes n within is = record {
     rest = drop n bytes;
     split = there;
   };
-  ops = ap (typed head.id head.section head.left head.right)
+  ops = ap (in_a_row head.id head.section head.left head.right)
       ((λ i. scalars_in (sym is.count i) (there i)) ∙ scalars_are text (drop n bytes) is.has_frame.text.scalars);
   behind = (λ i. drop (3 * sym is.count i) (there i)) ∙ ap (λ (k : ℕ). drop k (flat_map scalar_bytes text ++ drop n bytes)) (sym (length-scalars text))
       ∙ drop-append_seam (flat_map scalar_bytes text) (drop n bytes);

@@ -5,7 +5,7 @@ use Rattle.std.specs.Char.{IsScalar}
 use Rattle.fugue_ids.specs.declared.op.Op.{Op}
 use Rattle.outer_ports.specs.Sources.{SourceView}
 use Rattle.origin_model.specs.declared.grammar.Grammar.{Grammar}
-use Rattle.origin_model.specs.frames.Frames.{scalar_bytes, typed}
+use Rattle.origin_model.specs.frames.Frames.{scalar_bytes, in_a_row}
 use Rattle.op_frame.specs.Heads.{GivesHeld, IsHeld, behind_held, held_ops, scalars_in}
 use Rattle.op_frame.specs.Readers.{Advances, FrameReading, Nexts, StandsStill, StillWith, fault_after, held as held_back, kept_fault, read}
 use Rattle.op_frame.specs.Steps.{Takes}
@@ -23,9 +23,9 @@ none_held (Some head) window h none = absurd (by_text h.text h.count h.scalars h
     by_text : (text : List ℕ) → length text ≡ head.count → All IsScalar text → window ≡ flat_map scalar_bytes text ++ h.rest → ⊥
     by_text [] long all split = omega (arith, long, h.some)
     by_text (c ∷ text) long all split =
-        let shown : held_ops (Some head) window ≡ typed head.id head.section head.left head.right (c ∷ text)
-        = ap (typed head.id head.section head.left head.right) ((λ i. scalars_in (sym long i) (split i)) ∙ scalars_are (c ∷ text) h.rest all) in
-        let bad : typed head.id head.section head.left head.right (c ∷ text) ≡ [] = sym shown ∙ none in
+        let shown : held_ops (Some head) window ≡ in_a_row head.id head.section head.left head.right (c ∷ text)
+        = ap (in_a_row head.id head.section head.left head.right) ((λ i. scalars_in (sym long i) (split i)) ∙ scalars_are (c ∷ text) h.rest all) in
+        let bad : in_a_row head.id head.section head.left head.right (c ∷ text) ≡ [] = sym shown ∙ none in
         cc bad
 
 -- the fault that is kept is kept on

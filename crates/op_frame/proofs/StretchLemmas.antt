@@ -9,8 +9,8 @@ use Rattle.fugue_ids.specs.Ops.{op_eq}
 use Rattle.fugue_ids.specs.declared.op.Op.{Op}
 use Rattle.fugue_ids.specs.declared.op.Op.TheVariants.{Section, Text, Delete}
 use Rattle.fugue_ids.proofs.OpLemmas.{op_eq-true}
-use Rattle.origin_model.specs.frames.Frames.{Item, Run, Single, Typed, item_ops, next_id, run_ops, typed}
-use Rattle.origin_model.specs.frames.Framings.{extended, id_behind, items, items_from, longer, next_text, run_more, scalar_of}
+use Rattle.origin_model.specs.frames.Frames.{Item, Run, Single, Typed, item_ops, next_id, run_ops, in_a_row}
+use Rattle.origin_model.specs.frames.Framings.{grown, id_behind, items, items_from, longer, next_text, run_more, scalar_in}
 use Rattle.origin_model.proofs.SharedLemmas.{length-typed, one_text, typed_more}
 use Rattle.op_frame.specs.Stretches.{BeginsStretch, HasRunLength, is_typed_behind}
 
@@ -20,7 +20,7 @@ record IsLast (id s : Identifier) (r : Option Identifier) (n : ℕ) (last : Op) 
   ch : ℕ
   is : last ≡ Text (id_behind id (n - 1)) s left r ch
 
-last_is : (id s : Identifier) (l r : Option Identifier) (text : List ℕ) (front : List Op) (last : Op) → typed id s l r text ≡ front ++ last ∷ [] → IsLast id s r (length text) last
+last_is : (id s : Identifier) (l r : Option Identifier) (text : List ℕ) (front : List Op) (last : Op) → in_a_row id s l r text ≡ front ++ last ∷ [] → IsLast id s r (length text) last
 last_is id s l r [] front last same = absurd (omega (arith, ap length same, length-append front (last ∷ [])))
 last_is id s l r (c ∷ []) [] last same =
     let first : last ≡ Text id s l r c = cc same in
@@ -29,7 +29,7 @@ last_is id s l r (c ∷ []) [] last same =
 last_is id s l r (c ∷ []) (f ∷ front) last same = absurd (omega (arith, ap length same, length-append front (last ∷ [])))
 last_is id s l r (c ∷ d ∷ u) [] last same = absurd (omega (arith, ap length same))
 last_is id s l r (c ∷ d ∷ u) (f ∷ front) last same =
-    let tails : typed (next_id id) s (Some id) r (d ∷ u) ≡ front ++ last ∷ [] = cc same in
+    let tails : in_a_row (next_id id) s (Some id) r (d ∷ u) ≡ front ++ last ∷ [] = cc same in
     let found = last_is (next_id id) s (Some id) r (d ∷ u) front last tails in
     let e : id.counter + 1 + (length (d ∷ u) - 1) ≡ id.counter + (length (c ∷ d ∷ u) - 1) = omega arith in
     let same_id : id_behind (next_id id) (length (d ∷ u) - 1) ≡ id_behind id (length (c ∷ d ∷ u) - 1) = λ i. record { replica = id.replica; counter = e i } in
@@ -40,7 +40,7 @@ and_true true = refl
 and_true false = refl
 
 -- what is typed behind a Text is the Text that would go on with it
-behind_is : (i s : Identifier) (l r : Option Identifier) (c : ℕ) (op : Op) → is_typed_behind (Text i s l r c) op ≡ op_eq op (Text (next_id i) s (Some i) r (scalar_of op))
+behind_is : (i s : Identifier) (l r : Option Identifier) (c : ℕ) (op : Op) → is_typed_behind (Text i s l r c) op ≡ op_eq op (Text (next_id i) s (Some i) r (scalar_in op))
 behind_is i s l r c (Section id left right title) = refl
 behind_is i s l r c (Delete target) = refl
 behind_is i s l r c (Text j z m q d) =
@@ -48,33 +48,33 @@ behind_is i s l r c (Text j z m q d) =
 
 -- the test of a longer run
 abbrev Goes : Run → Op → Bool
-Goes run op = nat_lt (length run.text) 1024 && op_eq op (next_text run (scalar_of op))
+Goes run op = nat_lt (length run.text) 1024 && op_eq op (next_text run (scalar_in op))
 
-behind_next : (run : Run) (front : List Op) (last op : Op) → 1 ≤ length run.text → run_ops run ≡ front ++ last ∷ [] → is_typed_behind last op ≡ op_eq op (next_text run (scalar_of op))
+behind_next : (run : Run) (front : List Op) (last op : Op) → 1 ≤ length run.text → run_ops run ≡ front ++ last ∷ [] → is_typed_behind last op ≡ op_eq op (next_text run (scalar_in op))
 behind_next run front last op some same =
     let found = last_is run.id run.section run.left run.right run.text front last same in
     let e : run.id.counter + (length run.text - 1) + 1 ≡ run.id.counter + length run.text = omega (arith, some) in
     ap (λ (o : Op). is_typed_behind o op) found.is
     ∙ behind_is (id_behind run.id (length run.text - 1)) run.section found.left run.right found.ch op
-    ∙ λ i. op_eq op (Text (record { replica = run.id.replica; counter = e i }) run.section (Some (id_behind run.id (length run.text - 1))) run.right (scalar_of op))
+    ∙ λ i. op_eq op (Text (record { replica = run.id.replica; counter = e i }) run.section (Some (id_behind run.id (length run.text - 1))) run.right (scalar_in op))
 
 -- what comes of an item and one operation more
 record Grown (item : Item) (op : Op) : Type 0 where
   more : Item
-  is : extended item op ≡ Some more
+  is : grown item op ≡ Some more
   ops : item_ops more ≡ item_ops item ++ op ∷ []
   has_length : HasRunLength more
 
-run_grown : (run : Run) (op : Op) → 1 ≤ length run.text → length run.text < 1024 → op_eq op (next_text run (scalar_of op)) ≡ true → op ≡ next_text run (scalar_of op)
-    → (longer run op ≡ Some (Typed (run_more run (scalar_of op)))) × (run_ops (run_more run (scalar_of op)) ≡ run_ops run ++ op ∷ []) × HasRunLength (Typed (run_more run (scalar_of op)))
+run_grown : (run : Run) (op : Op) → 1 ≤ length run.text → length run.text < 1024 → op_eq op (next_text run (scalar_in op)) ≡ true → op ≡ next_text run (scalar_in op)
+    → (longer run op ≡ Some (Typed (run_more run (scalar_in op)))) × (run_ops (run_more run (scalar_in op)) ≡ run_ops run ++ op ∷ []) × HasRunLength (Typed (run_more run (scalar_in op)))
 run_grown run op some room test is = (
-  ap (λ (b : Bool). if b then Some (Typed (run_more run (scalar_of op))) else None) (and_from (nat_lt (length run.text) 1024) (op_eq op (next_text run (scalar_of op))) (lt-ltb (length run.text) 1024 room) test),
-  typed_more run (scalar_of op) some ∙ ap (λ (o : Op). run_ops run ++ o ∷ []) (sym is),
-  (omega (arith, some, length-append run.text (scalar_of op ∷ [])), omega (arith, room, length-append run.text (scalar_of op ∷ []))),
+  ap (λ (b : Bool). if b then Some (Typed (run_more run (scalar_in op))) else None) (and_from (nat_lt (length run.text) 1024) (op_eq op (next_text run (scalar_in op))) (lt-ltb (length run.text) 1024 room) test),
+  typed_more run (scalar_in op) some ∙ ap (λ (o : Op). run_ops run ++ o ∷ []) (sym is),
+  (omega (arith, some, length-append run.text (scalar_in op ∷ [])), omega (arith, room, length-append run.text (scalar_in op ∷ []))),
 )
 
 run_stays : (run : Run) (op : Op) → Goes run op ≡ false → longer run op ≡ None
-run_stays run op test = ap (λ (b : Bool). if b then Some (Typed (run_more run (scalar_of op))) else None) test
+run_stays run op test = ap (λ (b : Bool). if b then Some (Typed (run_more run (scalar_in op))) else None) test
 
 -- where nothing stands behind the first operation
 not_first : (a : Op) (front : List Op) (last op : Op) → a ∷ [] ≡ front ++ last ∷ [] → is_typed_behind last op ≡ true → (is_typed_behind a op ≡ true → ⊥) → ⊥
@@ -88,27 +88,27 @@ grows (Single (Delete target)) front last op has_length same room test =
     absurd (not_first (Delete target) front last op same test (λ was. cc was))
 grows (Single (Text id s l r c)) front last op has_length same room test =
     let run : Run = one_text id s l r c in
-    let next : op_eq op (next_text run (scalar_of op)) ≡ true = sym (behind_next run front last op (omega arith) same) ∙ test in
-    let p = run_grown run op (omega arith) (omega arith) next (op_eq-true op (next_text run (scalar_of op)) next) in
-    record { more = Typed (run_more run (scalar_of op)); is = p.0; ops = p.1; has_length = p.2 }
+    let next : op_eq op (next_text run (scalar_in op)) ≡ true = sym (behind_next run front last op (omega arith) same) ∙ test in
+    let p = run_grown run op (omega arith) (omega arith) next (op_eq-true op (next_text run (scalar_in op)) next) in
+    record { more = Typed (run_more run (scalar_in op)); is = p.0; ops = p.1; has_length = p.2 }
 grows (Typed run) front last op has_length same room test =
-    let next : op_eq op (next_text run (scalar_of op)) ≡ true = sym (behind_next run front last op (omega (arith, has_length)) same) ∙ test in
-    let p = run_grown run op (omega (arith, has_length)) (omega (arith, room, length-typed run.id run.section run.left run.right run.text)) next (op_eq-true op (next_text run (scalar_of op)) next) in
-    record { more = Typed (run_more run (scalar_of op)); is = p.0; ops = p.1; has_length = p.2 }
+    let next : op_eq op (next_text run (scalar_in op)) ≡ true = sym (behind_next run front last op (omega (arith, has_length)) same) ∙ test in
+    let p = run_grown run op (omega (arith, has_length)) (omega (arith, room, length-typed run.id run.section run.left run.right run.text)) next (op_eq-true op (next_text run (scalar_in op)) next) in
+    record { more = Typed (run_more run (scalar_in op)); is = p.0; ops = p.1; has_length = p.2 }
 
-stays : (item : Item) (front : List Op) (last op : Op) → HasRunLength item → item_ops item ≡ front ++ last ∷ [] → is_typed_behind last op ≡ false → extended item op ≡ None
+stays : (item : Item) (front : List Op) (last op : Op) → HasRunLength item → item_ops item ≡ front ++ last ∷ [] → is_typed_behind last op ≡ false → grown item op ≡ None
 stays (Single (Section id left right title)) front last op has_length same test = refl
 stays (Single (Delete target)) front last op has_length same test = refl
 stays (Single (Text id s l r c)) front last op has_length same test =
     let run : Run = one_text id s l r c in
-    run_stays run op (and_right (nat_lt (length run.text) 1024) (op_eq op (next_text run (scalar_of op))) (sym (behind_next run front last op (omega arith) same) ∙ test))
+    run_stays run op (and_right (nat_lt (length run.text) 1024) (op_eq op (next_text run (scalar_in op))) (sym (behind_next run front last op (omega arith) same) ∙ test))
 stays (Typed run) front last op has_length same test =
-    run_stays run op (and_right (nat_lt (length run.text) 1024) (op_eq op (next_text run (scalar_of op))) (sym (behind_next run front last op (omega (arith, has_length)) same) ∙ test))
+    run_stays run op (and_right (nat_lt (length run.text) 1024) (op_eq op (next_text run (scalar_in op))) (sym (behind_next run front last op (omega (arith, has_length)) same) ∙ test))
 
-is_full : (item : Item) (op : Op) → HasRunLength item → 1024 ≤ length (item_ops item) → extended item op ≡ None
+is_full : (item : Item) (op : Op) → HasRunLength item → 1024 ≤ length (item_ops item) → grown item op ≡ None
 is_full (Single op) other has_length full = absurd (omega (arith, full))
 is_full (Typed run) op has_length full =
-    run_stays run op (and_left (nat_lt (length run.text) 1024) (op_eq op (next_text run (scalar_of op)))
+    run_stays run op (and_left (nat_lt (length run.text) 1024) (op_eq op (next_text run (scalar_in op)))
     (le-ltb (length run.text) 1024 (omega (arith, full, length-typed run.id run.section run.left run.right run.text))))
 
 -- the first n operations are those of the first item, as far as these were looked at
@@ -156,7 +156,7 @@ first_more ops n last op f below room last_there there test =
     }
 
 -- no more operations are of the first item
-stop_at : (ops : List Op) (n : ℕ) (f : IsFirst ops n) (op : Op) → n < length ops → op ≡ get_or ops n op → extended f.item op ≡ None → BeginsStretch ops n
+stop_at : (ops : List Op) (n : ℕ) (f : IsFirst ops n) (op : Op) → n < length ops → op ≡ get_or ops n op → grown f.item op ≡ None → BeginsStretch ops n
 stop_at ops n f op below there none = record {
   stretch = record { item = f.item; ops_are = f.ops_are; has_length = f.has_length };
   items_are = f.items_are ∙ ap (items_from f.item) (behind ops n op below there)

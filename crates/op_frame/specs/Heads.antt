@@ -2,7 +2,7 @@
 use Rattle.std.specs.Prelude.{◌≡◌, ℕ, suc, ◌+◌, ◌*◌, ◌<◌, ◌≤◌, ◌^◌, Option, Some, None, IfSome, All, List, [], ◌∷◌, ◌++◌, length, drop, flat_map}
 use Rattle.std.specs.Char.{IsScalar}
 use Rattle.fugue_ids.specs.declared.op.Op.{Op}
-use Rattle.origin_model.specs.frames.Frames.{HasRunFrame, Run, next_id, run_frame, scalar_bytes, typed}
+use Rattle.origin_model.specs.frames.Frames.{HasRunFrame, Run, next_id, run_frame, scalar_bytes, in_a_row}
 use Rattle.op_frame.specs.FrameFronts.{scalar_of_bytes}
 use Rattle.op_frame.specs.declared.head.Head.{Head}
 
@@ -35,7 +35,7 @@ scalars_in n bytes = []
 -- the operations that are held back
 abbrev pub held_ops : Option Head → List ℕ → List Op
 held_ops None bytes = []
-held_ops (Some head) bytes = typed head.id head.section head.left head.right (scalars_in head.count bytes)
+held_ops (Some head) bytes = in_a_row head.id head.section head.left head.right (scalars_in head.count bytes)
 
 -- the bytes behind their scalars
 abbrev pub behind_held : Option Head → List ℕ → List ℕ

@@ -1,7 +1,7 @@
 ghost use Rattle.std.specs.Prelude.{◌≡◌, ◌≤◌, ◌+◌, ◌*◌, ◌++◌, All, length, map, flat_map};
 ghost use Rattle.std.specs.Prelude.{vec_len, vec_capacity, OnOk, OnErr};
 ghost use Rattle.origin_model.specs.frames.Frames.{HasFrame, frame, id_bytes, origin_bytes, title_bytes, scalar_bytes};
-ghost use Rattle.origin_model.specs.frames.Framings.{scalar_of};
+ghost use Rattle.origin_model.specs.frames.Framings.{scalar_in};
 ghost use Rattle.op_frame.specs.Encoded.{Puts};
 ghost use Rattle.op_frame.specs.Stretches.{AreTyped, WritesRun};
 
@@ -143,7 +143,7 @@ fn put_scalar(out: &mut Vec<u8>, ch: char)
 
 fn put_scalars(out: &mut Vec<u8>, ops: &[Op])
     requires { vec_len out.old + 3 * length ops.now ≤ vec_capacity out.old }
-    ensures puts { Puts out.old out.new (flat_map scalar_bytes (map scalar_of ops.now)) }
+    ensures puts { Puts out.old out.new (flat_map scalar_bytes (map scalar_in ops.now)) }
     ensures have_frames { All HasFrame ops.now }
 {
     for op in ops {
@@ -153,7 +153,7 @@ fn put_scalars(out: &mut Vec<u8>, ops: &[Op])
 }
 
 fn scalar(op: &Op) -> char
-    ensures { result ≡ scalar_of op.now }
+    ensures { result ≡ scalar_in op.now }
 {
     match op {
         Op::Text { ch, .. } => *ch,

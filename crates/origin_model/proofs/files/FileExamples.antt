@@ -3,7 +3,7 @@ use Rattle.origin_model.proofs.Words.{All-cons, All-nil, Delete, List, Op, [], a
 use Rattle.origin_model.specs.declared.grammar.Grammar.{Grammar}
 use Rattle.origin_model.specs.declared.grammar.Grammar.TheVariants.{Version1, Version2}
 use Rattle.origin_model.specs.files.Image.{BadBatch, Batch, HasImage, Holds, IsBatch, NoGate, NoTag, NotReplica, header, new_file, number_at, tag_of, word_tag}
-use Rattle.origin_model.specs.frames.Frames.{HasFrame, frame}
+use Rattle.origin_model.specs.frames.Frames.{HasFrame, IsItem, Single, frame}
 use Rattle.origin_model.proofs.files.AppendLemmas.{batch_appended, new_file_holds}
 use Rattle.origin_model.proofs.files.BatchLemmas.{batch_of, is_batch}
 use Rattle.origin_model.proofs.frames.SingleLemmas.{singles_read}
@@ -45,7 +45,7 @@ abbrev old_batch : Batch
 old_batch = record { word = 0 ∷ 0 ∷ 0 ∷ 9 ∷ []; bytes = frame op; grammar = Version1; ops = op ∷ [] }
 
 old_batch_is : IsBatch old_batch
-old_batch_is = record { four_bytes = refl; tagged = refl; counts = refl; short = omega arith; reads = singles_read Version1 (op ∷ []) (All-cons HasFrame op [] op_has (All-nil HasFrame)) }
+old_batch_is = record { four_bytes = refl; tagged = refl; counts = refl; short = omega arith; reads = singles_read Version1 (op ∷ []) (All-cons (λ o. IsItem Version1 (Single o)) op [] (op_has, tt) (All-nil (λ o. IsItem Version1 (Single o)))) }
 
 -- the batch of it that is written, whose word has the tag 1
 new_batch_is : IsBatch (batch_of (op ∷ []))

@@ -1,11 +1,11 @@
 -- The framing that is written: each frame from the front stands for as many operations as one can, and it is the only such one.
-use Rattle.origin_model.proofs.Words.{All, All-cons, All-head, All-nil, All-push, All-tail, Bool, Delete, Identifier, List, None, Op, Option, Section, Some, Text, [], ap, append-nil, append_assoc, arith, false, flat_map, if◌then◌else◌, inl, inr, length, length-append, map, op_eq, op_eq-refl, op_eq-true, refl, subst, sym, true, ℕ, ◌&&◌, ◌++◌, ◌+◌, ◌<◌, ◌∙◌, ◌∷◌, ◌≡◌, ◌≤◌}
+use Rattle.origin_model.proofs.Words.{All, All-cons, All-head, All-nil, All-push, All-tail, Bool, Delete, Note, Identifier, List, None, Op, Option, Section, Some, Text, [], ap, append-nil, append_assoc, arith, false, flat_map, if◌then◌else◌, inl, inr, length, length-append, map, op_eq, op_eq-refl, op_eq-true, refl, subst, sym, true, ℕ, ◌&&◌, ◌++◌, ◌+◌, ◌<◌, ◌∙◌, ◌∷◌, ◌≡◌, ◌≤◌}
 use Rattle.std.specs.Prelude.{nat_lt}
 use Rattle.std.specs.Char.{IsScalar}
 use Rattle.std.proofs.lemmas.Bool.{and_from, and_parts, cases_lt, lt-ltb, ltb-true}
 use Rattle.origin_model.specs.declared.grammar.Grammar.TheVariants.{Version2}
-use Rattle.origin_model.specs.frames.Frames.{Framed, HasFrame, HasRunFrame, IsFrame, IsIdentifier, IsItem, IsOrigin, Item, Reads, Run, Single, Typed, Whole, item_bytes, item_ops, run_ops, typed}
-use Rattle.origin_model.specs.frames.Framings.{AreLongest, IsFraming, IsLongest, IsWritten, extended, frames, items, items_from, longer, next_text, run_more, scalar_of}
+use Rattle.origin_model.specs.frames.Frames.{Framed, HasFrame, HasRunFrame, IsFrame, IsIdentifier, IsItem, IsOrigin, Item, Reads, Run, Single, Typed, Whole, item_bytes, item_ops, run_ops, in_a_row}
+use Rattle.origin_model.specs.frames.Framings.{AreLongest, IsFraming, IsLongest, IsWritten, grown, frames, items, items_from, longer, next_text, run_more, scalar_in}
 use Rattle.origin_model.proofs.frames.ItemLemmas.{bytes_of, item_framed, item_is_framed, ops_of, same_parts}
 use Rattle.origin_model.proofs.frames.TypedLemmas.{goes_on, length-run, run_by_ops, typed_more}
 
@@ -43,25 +43,26 @@ if_none false x is was = cc was
 
 longer_is : (run : Run) (op : Op) (more : Item) → IsBegun run → HasFrame op → longer run op ≡ Some more → (IsItem Version2 more) × (item_ops more ≡ run_ops run ++ op ∷ [])
 longer_is run op more begun has e =
-    let p = if_some (nat_lt (length run.text) 1024 && op_eq op (next_text run (scalar_of op))) (Typed (run_more run (scalar_of op))) more e in
-    let parts = and_parts (nat_lt (length run.text) 1024) (op_eq op (next_text run (scalar_of op))) p.0 in
+    let p = if_some (nat_lt (length run.text) 1024 && op_eq op (next_text run (scalar_in op))) (Typed (run_more run (scalar_in op))) more e in
+    let parts = and_parts (nat_lt (length run.text) 1024) (op_eq op (next_text run (scalar_in op))) p.0 in
     let room : length run.text < 1024 = ltb-true (length run.text) 1024 parts.0 in
-    let is : op ≡ next_text run (scalar_of op) = op_eq-true op (next_text run (scalar_of op)) parts.1 in
+    let is : op ≡ next_text run (scalar_in op) = op_eq-true op (next_text run (scalar_in op)) parts.1 in
     let next = subst HasFrame is has in
-    let long : length (run.text ++ scalar_of op ∷ []) ≡ length run.text + 1 = length-append run.text (scalar_of op ∷ []) in
-    let grown : HasRunFrame (run_more run (scalar_of op)) = record {
+    let long : length (run.text ++ scalar_in op ∷ []) ≡ length run.text + 1 = length-append run.text (scalar_in op ∷ []) in
+    let grown : HasRunFrame (run_more run (scalar_in op)) = record {
       id = begun.id;
       section = begun.section;
       left = begun.left;
       right = begun.right;
-      text = record { some = omega (arith, long, begun.some); short = omega (arith, long, room); scalars = All-push IsScalar run.text (scalar_of op) begun.scalars next.4 };
+      text = record { some = omega (arith, long, begun.some); short = omega (arith, long, room); scalars = All-push IsScalar run.text (scalar_in op) begun.scalars next.4 };
       counters_fit = omega (arith, long, next.0.counter_fits);
     } in
-    subst (λ (i : Item). (IsItem Version2 i) × (item_ops i ≡ run_ops run ++ op ∷ [])) p.1 (grown, typed_more run (scalar_of op) begun.some ∙ ap (λ (o : Op). run_ops run ++ o ∷ []) (sym is))
+    subst (λ (i : Item). (IsItem Version2 i) × (item_ops i ≡ run_ops run ++ op ∷ [])) p.1 (grown, typed_more run (scalar_in op) begun.some ∙ ap (λ (o : Op). run_ops run ++ o ∷ []) (sym is))
 
-pub extends : (begun : Item) (op : Op) (more : Item) → IsItem Version2 begun → HasFrame op → extended begun op ≡ Some more → Extends begun op more
+pub extends : (begun : Item) (op : Op) (more : Item) → IsItem Version2 begun → HasFrame op → grown begun op ≡ Some more → Extends begun op more
 extends (Single (Section id left right title)) op more is has e = absurd (cc e)
 extends (Single (Delete target)) op more is has e = absurd (cc e)
+extends (Single (Note id named code body)) op more is has e = absurd (cc e)
 extends (Single (Text id section left right ch)) op more is has e =
     let p = longer_is (one_text id section left right ch) op more (begun_one id section left right ch is) has e in record { is_item = p.0; ops = p.1 }
 extends (Typed run) op more is has e = let p = longer_is run op more (begun_run run is) has e in record { is_item = p.0; ops = p.1 }
@@ -72,24 +73,29 @@ not_longer : (run other : Run) (op : Op) (rest behind : List Op) → IsBegun run
 not_longer run other op rest behind begun is none same = elim (cases_lt (length run.text) (length other.text)) [
   | inr le ↦ le
   | inl less ↦
-      let next : op ≡ next_text run (scalar_of op) = goes_on run other op rest behind begun.some less same in
+      let next : op ≡ next_text run (scalar_in op) = goes_on run other op rest behind begun.some less same in
       let room : length run.text < 1024 = omega (arith, less, is.text.short) in
-      absurd (if_none (nat_lt (length run.text) 1024 && op_eq op (next_text run (scalar_of op))) (Typed (run_more run (scalar_of op))) none
-      (and_from (nat_lt (length run.text) 1024) (op_eq op (next_text run (scalar_of op))) (lt-ltb (length run.text) 1024 room)
+      absurd (if_none (nat_lt (length run.text) 1024 && op_eq op (next_text run (scalar_in op))) (Typed (run_more run (scalar_in op))) none
+      (and_from (nat_lt (length run.text) 1024) (op_eq op (next_text run (scalar_in op))) (lt-ltb (length run.text) 1024 room)
       (subst (λ (o : Op). op_eq op o ≡ true) next (op_eq-refl op))))
 ]
 
 -- the first of a run's operations is a Text
 no_section : (id : Identifier) (left right : Option Identifier) (title : List ℕ) (i s : Identifier) (l r : Option Identifier) (text : List ℕ) (rest behind : List Op) → 1 ≤ length text
-    → Section id left right title ∷ rest ≡ typed i s l r text ++ behind → ⊥
+    → Section id left right title ∷ rest ≡ in_a_row i s l r text ++ behind → ⊥
 no_section id left right title i s l r [] rest behind some same = omega (arith, some)
 no_section id left right title i s l r (c ∷ text) rest behind some same = cc same
 
-no_delete : (target : Identifier) (i s : Identifier) (l r : Option Identifier) (text : List ℕ) (rest behind : List Op) → 1 ≤ length text → Delete target ∷ rest ≡ typed i s l r text ++ behind → ⊥
+no_delete : (target : Identifier) (i s : Identifier) (l r : Option Identifier) (text : List ℕ) (rest behind : List Op) → 1 ≤ length text → Delete target ∷ rest ≡ in_a_row i s l r text ++ behind → ⊥
 no_delete target i s l r [] rest behind some same = omega (arith, some)
 no_delete target i s l r (c ∷ text) rest behind some same = cc same
 
-no_longer : (begun other : Item) (op : Op) (rest behind : List Op) → IsItem Version2 begun → IsItem Version2 other → extended begun op ≡ None → item_ops begun ++ op ∷ rest ≡ item_ops other ++ behind
+no_note : (id : Identifier) (named : List Identifier) (code : ℕ) (body : List ℕ) (i s : Identifier) (l r : Option Identifier) (text : List ℕ) (rest behind : List Op) → 1 ≤ length text
+    → Note id named code body ∷ rest ≡ in_a_row i s l r text ++ behind → ⊥
+no_note id named code body i s l r [] rest behind some same = omega (arith, some)
+no_note id named code body i s l r (c ∷ text) rest behind some same = cc same
+
+no_longer : (begun other : Item) (op : Op) (rest behind : List Op) → IsItem Version2 begun → IsItem Version2 other → grown begun op ≡ None → item_ops begun ++ op ∷ rest ≡ item_ops other ++ behind
     → length (item_ops other) ≤ length (item_ops begun)
 no_longer (Single a) (Single b) op rest behind is has none same = omega arith
 no_longer (Typed run) (Single b) op rest behind is has none same = omega (arith, length-run run, is.text.some)
@@ -97,12 +103,14 @@ no_longer (Single (Section id left right title)) (Typed other) op rest behind is
     absurd (no_section id left right title other.id other.section other.left other.right other.text (op ∷ rest) behind (omega (arith, has.text.some)) same)
 no_longer (Single (Delete target)) (Typed other) op rest behind is has none same =
     absurd (no_delete target other.id other.section other.left other.right other.text (op ∷ rest) behind (omega (arith, has.text.some)) same)
+no_longer (Single (Note id named code body)) (Typed other) op rest behind is has none same =
+    absurd (no_note id named code body other.id other.section other.left other.right other.text (op ∷ rest) behind (omega (arith, has.text.some)) same)
 no_longer (Single (Text id section left right ch)) (Typed other) op rest behind is has none same =
     omega (arith, length-run other, not_longer (one_text id section left right ch) other op rest behind (begun_one id section left right ch is) has none same)
 no_longer (Typed run) (Typed other) op rest behind is has none same =
     omega (arith, length-run other, length-run run, not_longer run other op rest behind (begun_run run is) has none same)
 
-pub longest_here : (begun : Item) (op : Op) (rest : List Op) → IsItem Version2 begun → extended begun op ≡ None → IsLongest (item_framed begun) (item_ops begun ++ op ∷ rest)
+pub longest_here : (begun : Item) (op : Op) (rest : List Op) → IsItem Version2 begun → grown begun op ≡ None → IsLongest (item_framed begun) (item_ops begun ++ op ∷ rest)
 longest_here begun op rest is none other behind has same =
     subst (λ (n : ℕ). n ≤ length (item_ops begun)) (ap length (sym has.ops_are))
     (no_longer begun has.item op rest behind is has.is_item none (same ∙ ap (λ (l : List Op). l ++ behind) has.ops_are))
@@ -130,9 +138,9 @@ none_left = record { are_frames = All-nil (IsFrame Version2); ops_are = refl; lo
 from_are : (begun : Item) (ops : List Op) → IsItem Version2 begun → All HasFrame ops → AreItems (map item_framed (items_from begun ops)) (item_ops begun ++ ops)
 from_are begun [] is all = one_before begun [] [] is (longest_at_end begun) none_left
 from_are begun (op ∷ ops) is all =
-    by_case (extended begun op) refl (λ more allowed. from_are more ops allowed (All-tail HasFrame op ops all)) (from_are (Single op) ops (All-head HasFrame op ops all) (All-tail HasFrame op ops all))
+    by_case (grown begun op) refl (λ more allowed. from_are more ops allowed (All-tail HasFrame op ops all)) (from_are (Single op) ops (All-head HasFrame op ops all) (All-tail HasFrame op ops all))
   where
-    by_case : (o : Option Item) → extended begun op ≡ o → ((more : Item) → IsItem Version2 more → AreItems (map item_framed (items_from more ops)) (item_ops more ++ ops))
+    by_case : (o : Option Item) → grown begun op ≡ o → ((more : Item) → IsItem Version2 more → AreItems (map item_framed (items_from more ops)) (item_ops more ++ ops))
         → AreItems (map item_framed (items_from (Single op) ops)) (op ∷ ops)
         → AreItems (map item_framed (elim o [ Some more ↦ items_from more ops | None ↦ begun ∷ items_from (Single op) ops ])) (item_ops begun ++ op ∷ ops)
     by_case (Some more) e grown single =

@@ -4,7 +4,7 @@ use Rattle.std.specs.Prelude.{◌*◌}
 use Rattle.std.proofs.lemmas.Grind.{flat_map-append}
 use Rattle.origin_model.specs.declared.grammar.Grammar.{Grammar}
 use Rattle.origin_model.specs.declared.grammar.Grammar.TheVariants.{Version2}
-use Rattle.origin_model.specs.frames.Frames.{Framed, IsFrame, IsItem, Item, Single, Typed, frame, item_bytes, item_ops, next_id, origin_bytes, run_frame, scalar_bytes, single_frames, typed}
+use Rattle.origin_model.specs.frames.Frames.{Framed, IsFrame, IsItem, Item, Single, Typed, frame, item_bytes, item_ops, next_id, origin_bytes, run_frame, scalar_bytes, single_frames, in_a_row}
 use Rattle.origin_model.proofs.frames.ItemLemmas.{bytes_of, ops_of}
 use Rattle.origin_model.proofs.frames.TypedLemmas.{length-run}
 
@@ -23,10 +23,10 @@ origin_short (Some id) = omega arith
 text_long : (id s before : Identifier) (r : Option Identifier) (c : ℕ) → 30 ≤ length (frame (Text id s (Some before) r c))
 text_long id s before r c = simp length-append (omega (arith, origin_some r))
 
-typed_long : (id s before : Identifier) (r : Option Identifier) (text : List ℕ) → 30 * length text ≤ length (single_frames (typed id s (Some before) r text))
+typed_long : (id s before : Identifier) (r : Option Identifier) (text : List ℕ) → 30 * length text ≤ length (single_frames (in_a_row id s (Some before) r text))
 typed_long id s before r [] = omega arith
 typed_long id s before r (c ∷ text) =
-    omega (arith, text_long id s before r c, typed_long (next_id id) s id r text, length-append (frame (Text id s (Some before) r c)) (single_frames (typed (next_id id) s (Some id) r text)))
+    omega (arith, text_long id s before r c, typed_long (next_id id) s id r text, length-append (frame (Text id s (Some before) r c)) (single_frames (in_a_row (next_id id) s (Some id) r text)))
 
 first_long : (id s : Identifier) (l r : Option Identifier) (c : ℕ) → length (frame (Text id s l r c)) ≡ 20 + length (origin_bytes l) + length (origin_bytes r)
 first_long id s l r c = simp length-append (omega arith)
@@ -36,7 +36,7 @@ pub run_long : (id s : Identifier) (l r : Option Identifier) (text : List ℕ)
 run_long id s l r text = simp length-append (omega (arith, length-scalars text))
 
 run_short : (id s : Identifier) (l r : Option Identifier) (text : List ℕ) → 2 ≤ length text
-    → length (run_frame (record { id = id; section = s; left = l; right = r; text = text })) ≤ length (single_frames (typed id s l r text))
+    → length (run_frame (record { id = id; section = s; left = l; right = r; text = text })) ≤ length (single_frames (in_a_row id s l r text))
 run_short id s l r [] some = absurd (omega (arith, some))
 run_short id s l r (c ∷ text) some =
     omega (
@@ -44,7 +44,7 @@ run_short id s l r (c ∷ text) some =
       run_long id s l r (c ∷ text),
       first_long id s l r c,
       typed_long (next_id id) s id r text,
-      length-append (frame (Text id s l r c)) (single_frames (typed (next_id id) s (Some id) r text)),
+      length-append (frame (Text id s l r c)) (single_frames (in_a_row (next_id id) s (Some id) r text)),
     )
 
 item_short : (i : Item) → IsItem Version2 i → length (item_bytes i) ≤ length (single_frames (item_ops i))

@@ -4,7 +4,7 @@ use Rattle.origin_model.specs.declared.grammar.Grammar.TheVariants.{Version1, Ve
 use Rattle.origin_model.specs.frames.Frames.{BadFrame, CutShort, End, EndsSo, Framed, IsFrame, IsItem, IsPartial, Item, Reads, Single, Typed, Whole}
 
 item_too : (i : Item) → IsItem Version1 i → IsItem Version2 i
-item_too (Single op) is = is
+item_too (Single op) is = is.0
 item_too (Typed run) is = absurd is
 
 frame_too : (f : Framed) → IsFrame Version1 f → IsFrame Version2 f

@@ -1,5 +1,5 @@
 -- The elements that operations make: their identifiers, their places and what they name.
-use Rattle.origin_model.proofs.Words.{Identifier, List, None, Op, Option, Place, Role, Section, SectionRole, Some, Text, TextOf, Delete, [], ap, cases_Bool, catalogue, element_of, false, false≢true, fits, given_as, id_eq-refl, id_eq-true, id_of, if◌then◌else◌, inl, inr, is_own, names, not_some, origin_eq, place_eq, refl, sym, true, within, ◌++◌, ◌∙◌, ◌∷◌, ◌≡◌, ◌≢◌}
+use Rattle.origin_model.proofs.Words.{Identifier, List, None, Op, Option, Place, Role, Section, SectionRole, Some, Text, TextOf, Delete, Note, [], ap, cases_Bool, catalogue, element_of, false, false≢true, fits, given_as, id_eq-refl, id_eq-true, id_of, if◌then◌else◌, inl, inr, is_own, names, not_some, origin_eq, place_eq, refl, sym, true, within, ◌++◌, ◌∙◌, ◌∷◌, ◌≡◌, ◌≢◌}
 use Rattle.origin_model.specs.declared.operations.node.Node.{Node}
 use Rattle.origin_model.specs.operations.History.{element, place, stands_at}
 
@@ -8,6 +8,7 @@ pub element_id : (op : Op) (e : Place × Node) → element op ≡ Some e → id_
 element_id (Section i l r t) e k = ap (λ (o : Option (Place × Node)). elim o [ None ↦ None | Some e ↦ Some e.1.id ]) k
 element_id (Text i s l r c) e k = ap (λ (o : Option (Place × Node)). elim o [ None ↦ None | Some e ↦ Some e.1.id ]) k
 element_id (Delete i) e k = cc k
+element_id (Note i ns c b) e k = cc k
 
 -- the role in which the elements of a place name their origins
 abbrev pub role_in : Place → Role
@@ -28,6 +29,7 @@ pub element_names : (op : Op) (e : Place × Node) → element op ≡ Some e → 
 element_names (Section i l r t) e k = ap names_by k
 element_names (Text i s l r c) e k = ap names_by k
 element_names (Delete i) e k = cc k
+element_names (Note i ns c b) e k = cc k
 
 pub place_eq-true : (q p : Place) → place_eq q p ≡ true → q ≡ p
 place_eq-true catalogue catalogue h = refl

@@ -1,5 +1,5 @@
 -- The laws of the order: it is total, later operations keep it, and it is fixed by the set of operations alone.
-use Rattle.origin_model.proofs.Words.{All-contains, Bool, Delete, Identifier, IsIn, IsPartOf, Lawful, List, None, Op, Option, Place, SameOps, Section, Some, Text, [], ap, before, before_in, catalogue, codes, deletes, false, filter, flat_map, has_op, holder, is_hidden, manuscript, not, older_of, op_eq, order, refl, scalar_of, sym, title_of, true, true≢false, within, ℕ, ◌++◌, ◌||◌, ◌∙◌, ◌∷◌, ◌≡◌, ◌≢◌}
+use Rattle.origin_model.proofs.Words.{All-contains, Bool, Delete, Note, Identifier, IsIn, IsPartOf, Lawful, List, None, Op, Option, Place, SameOps, Section, Some, Text, [], ap, before, before_in, catalogue, codes, deletes, false, filter, flat_map, has_op, holder, is_hidden, manuscript, not, older_of, op_eq, order, refl, scalar_of, sym, title_of, true, true≢false, within, ℕ, ◌++◌, ◌||◌, ◌∙◌, ◌∷◌, ◌≡◌, ◌≢◌}
 use Rattle.std.specs.Str.{encode_utf8_all}
 use Rattle.origin_model.specs.order.Laws.{KeepsOrder, LaterOpsKeepOrder, OrderBySet, OrderTotal, PartsKeepOrder}
 use Rattle.origin_model.proofs.operations.LookupLemmas.{has-holder, holder-has, holder_owns}
@@ -31,6 +31,7 @@ deletes-eq : (x : Identifier) (op : Op) → deletes x op ≡ op_eq op (Delete x)
 deletes-eq x (Section i l r t) = refl
 deletes-eq x (Text i s l r c) = refl
 deletes-eq x (Delete i) = refl
+deletes-eq x (Note i ns c b) = refl
 
 -- an element is hidden where its Delete is in the history
 pub hidden-has : (h : List Op) (x : Identifier) → is_hidden h x ≡ has_op h (Delete x)

@@ -1,5 +1,5 @@
 -- The definitions leave nothing open: bytes are of one kind, and so events leave a relay in one state, with the same replies; where bytes are of some kind, events leave it in some state.
-use Rattle.origin_model.proofs.Words.{Delete, List, None, Op, Option, Section, Some, Text, [], ap, append-nil, arith, get_or, length, refl, subst, sym, ℕ, ◌++◌, ◌<◌, ◌∙◌, ◌∷◌, ◌≡◌}
+use Rattle.origin_model.proofs.Words.{Delete, Note, List, None, Op, Option, Section, Some, Text, [], ap, append-nil, arith, get_or, length, refl, subst, sym, ℕ, ◌++◌, ◌<◌, ◌∙◌, ◌∷◌, ◌≡◌}
 use Rattle.std.specs.FinMap as finite
 use Rattle.origin_model.specs.declared.relay.Event.{Event}
 use Rattle.origin_model.specs.declared.relay.Event.TheVariants.{Gone, Opened, Piece}
@@ -17,17 +17,18 @@ FramesOnce = (a b : Framed) (r s : List ℕ) → IsFrame Version2 a → IsFrame 
 unfoldable pub first : List ℕ → ℕ
 first bytes = get_or bytes 0 0
 
--- a frame begins with 1, 2, 3 or 4
-pub begins_low : (item : Item) (byte : ℕ) (more : List ℕ) → item_bytes item ≡ byte ∷ more → byte < 5
+-- a frame begins with 1 to 5
+pub begins_low : (item : Item) (byte : ℕ) (more : List ℕ) → item_bytes item ≡ byte ∷ more → byte < 6
 unfolding first
 begins_low (Single (Section id left right title)) byte more e = let d : 1 ≡ byte = ap first e in omega (arith, d)
 begins_low (Single (Text id section left right ch)) byte more e = let d : 2 ≡ byte = ap first e in omega (arith, d)
 begins_low (Single (Delete target)) byte more e = let d : 3 ≡ byte = ap first e in omega (arith, d)
+begins_low (Single (Note id named code body)) byte more e = let d : 5 ≡ byte = ap first e in omega (arith, d)
 begins_low (Typed run) byte more e = let d : 4 ≡ byte = ap first e in omega (arith, d)
 
 -- so none begins with the closing byte
 no_closing : (item : Item) (more : List ℕ) → item_bytes item ≡ closing ++ more → ⊥
-no_closing item more e = let l : 0x44 < 5 = begins_low item 0x44 more e in omega (arith, l)
+no_closing item more e = let l : 0x44 < 6 = begins_low item 0x44 more e in omega (arith, l)
 
 -- a frame is not the closing byte
 frame_not_closing : (bytes : List ℕ) (ops : List Op) → IsKind (Frame ops) bytes → bytes ≡ closing → ⊥

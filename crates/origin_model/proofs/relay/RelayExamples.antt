@@ -1,5 +1,5 @@
 -- Small runs of a relay: the frames of a section S and of a text A come in two sessions, and others are refused, each at the byte that shows it.
-use Rattle.origin_model.proofs.Words.{◌<◌, All-cons, All-nil, Delete, Identifier, List, None, Op, Option, Section, Some, Text, [], ap, append-nil, arith, codes, drop, length, refl, sym, take, true, ℕ, ◌++◌, ◌∙◌, ◌∷◌, ◌≡◌, ◌≢◌}
+use Rattle.origin_model.proofs.Words.{◌<◌, All-cons, All-nil, Delete, Note, Identifier, List, None, Op, Option, Section, Some, Text, [], ap, append-nil, arith, codes, drop, length, refl, sym, take, true, ℕ, ◌++◌, ◌∙◌, ◌∷◌, ◌≡◌, ◌≢◌}
 use Rattle.std.specs.Char.{IsScalar}
 use Rattle.std.specs.Int.{from_be_bytes, w32}
 use lib.Utf8.{encode}
@@ -202,9 +202,9 @@ no_greeting = ((session_refused [] 1, refl, closed_takes many (0x48 ∷ []) [] (
 next_four : List ℕ → List ℕ
 next_four bytes = take 4 (drop 1 bytes)
 
--- no frame begins with 5
-no_frame_with_5 : (item : Item) (more : List ℕ) → item_bytes item ≡ 5 ∷ more → ⊥
-no_frame_with_5 item more e = let l : 5 < 5 = begins_low item 5 more e in omega (arith, l)
+-- no frame begins with 6
+no_frame_with_6 : (item : Item) (more : List ℕ) → item_bytes item ≡ 6 ∷ more → ⊥
+no_frame_with_6 item more e = let l : 6 < 6 = begins_low item 5 more e in omega (arith, l)
 
 -- nor has a text the replica 0
 no_replica_0 : (item : Item) (more : List ℕ) → IsItem Version2 item → item_bytes item ≡ 2 ∷ 0 ∷ 0 ∷ 0 ∷ 0 ∷ more → ⊥
@@ -214,6 +214,7 @@ no_replica_0 (Single (Text id section left right ch)) more h e =
     let zero : id.replica ≡ 0 = sym (from_be_bytes-to_be_bytes_4 id.replica h.0.replica_fits) ∙ ap (from_be_bytes w32) (ap next_four e) in
     omega (arith, zero, h.0.some_replica)
 no_replica_0 (Single (Delete target)) more h e = let d : 3 ≡ 2 = ap first e in omega (arith, d)
+no_replica_0 (Single (Note id named code body)) more h e = let d : 5 ≡ 2 = ap first e in omega (arith, d)
 no_replica_0 (Typed run) more h e = let d : 4 ≡ 2 = ap first e in omega (arith, d)
 
 -- bytes behind a whole message that no frame begins with are none of a message
@@ -225,9 +226,9 @@ no_message bytes none apart = (
 )
 
 -- a byte that begins no message is refused, and what the piece brings behind it counts for nothing
-no_such_message : TakesAll many (5 ∷ closing) (session_goes_on both 0) (session_refused both 1)
+no_such_message : TakesAll many (6 ∷ closing) (session_goes_on both 0) (session_refused both 1)
 no_such_message =
-    (session_refused both 1, (Neither, no_message (5 ∷ []) (λ item more h e. no_frame_with_5 item more e) (λ e. cc e), refl), closed_takes many closing both (refusal_message 1))
+    (session_refused both 1, (Neither, no_message (6 ∷ []) (λ item more h e. no_frame_with_6 item more e) (λ e. cc e), refl), closed_takes many closing both (refusal_message 1))
 
 -- a text of replica 0 is refused at the fourth byte of the replica
 replica_0 : TakesAll many ((2 ∷ 0 ∷ 0 ∷ 0 ∷ []) ++ 0 ∷ closing) (session_goes_on both 0) (session_refused both 1)

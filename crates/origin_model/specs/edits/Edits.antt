@@ -2,7 +2,7 @@
 use Rattle.std.specs.Prelude.{◌≡◌, ◌≢◌, ℕ, zero, suc, ◌+◌, max, Option, Some, None, List, [], ◌∷◌, ◌++◌, map, take, drop, slice_get}
 use Rattle.fugue_ids.specs.Identifiers.{Identifier}
 use Rattle.fugue_ids.specs.declared.op.Op.{Op}
-use Rattle.fugue_ids.specs.declared.op.Op.TheVariants.{Section, Text, Delete}
+use Rattle.fugue_ids.specs.declared.op.Op.TheVariants.{Section, Text, Delete, Note}
 use Rattle.origin_model.specs.operations.Counters.{counters}
 use Rattle.origin_model.specs.order.Order.{order}
 use Rattle.origin_model.specs.order.Printed.{shown}
@@ -91,6 +91,10 @@ made replica history waiting (Cut k at n) =
 made replica history waiting (Add at title) = op_of_add replica history waiting at title ∷ []
 made replica history waiting (DropSection k) =
     elim (slice_get (shown catalogue history) k) [ None ↦ [] | Some s ↦ Delete s ∷ [] ]
+
+-- the note that the replica makes
+abbrev pub noted : (history waiting : List Op) → (replica : ℕ) → (named : List Identifier) → (code : ℕ) → (body : List ℕ) → Op
+noted history waiting replica named code body = Note (id_at replica (next_counter replica history waiting)) named code body
 
 -- the history after operations joined it, one after another
 abbrev pub extended : List Op → List Op → List Op

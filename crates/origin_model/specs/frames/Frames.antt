@@ -5,8 +5,9 @@ use Rattle.std.specs.Char.{IsScalar}
 use Rattle.std.specs.Str.{encode_utf8_all}
 use Rattle.fugue_ids.specs.Identifiers.{Identifier}
 use Rattle.fugue_ids.specs.Titles.{IsTitleText}
+use Rattle.fugue_ids.specs.declared.limits.TheConstants.{LONGEST_BODY, MOST_NAMES}
 use Rattle.fugue_ids.specs.declared.op.Op.{Op}
-use Rattle.fugue_ids.specs.declared.op.Op.TheVariants.{Section, Text, Delete}
+use Rattle.fugue_ids.specs.declared.op.Op.TheVariants.{Section, Text, Delete, Note}
 use Rattle.origin_model.specs.declared.grammar.Grammar.{Grammar}
 use Rattle.origin_model.specs.declared.grammar.Grammar.TheVariants.{Version1, Version2}
 
@@ -27,11 +28,20 @@ title_bytes title = to_be_bytes w16 (length (encode_utf8_all title)) ++ encode_u
 abbrev pub scalar_bytes : ℕ → List ℕ
 scalar_bytes ch = drop 1 (to_be_bytes w32 ch)
 
+-- how many names there are, in one byte, and the names
+abbrev pub names_bytes : List Identifier → List ℕ
+names_bytes named = length named ∷ flat_map id_bytes named
+
+-- the length in two bytes, and the body
+abbrev pub body_bytes : List ℕ → List ℕ
+body_bytes body = to_be_bytes w16 (length body) ++ body
+
 -- the bytes of one operation's own frame
 abbrev pub frame : Op → List ℕ
 frame (Section id left right title) = 1 ∷ [] ++ id_bytes id ++ origin_bytes left ++ origin_bytes right ++ title_bytes title
 frame (Text id section left right ch) = 2 ∷ [] ++ id_bytes id ++ id_bytes section ++ origin_bytes left ++ origin_bytes right ++ scalar_bytes ch
 frame (Delete target) = 3 ∷ [] ++ id_bytes target
+frame (Note id named code body) = 5 ∷ [] ++ id_bytes id ++ names_bytes named ++ code ∷ [] ++ body_bytes body
 
 -- the operations' own frames, one behind the other
 abbrev pub single_frames : List Op → List ℕ
@@ -50,12 +60,12 @@ abbrev pub next_id : Identifier → Identifier
 next_id id = record { replica = id.replica; counter = id.counter + 1 }
 
 -- one Text for each scalar: each has the next identifier, and stands behind the one before
-abbrev pub typed : (id section : Identifier) (left right : Option Identifier) → List ℕ → List Op
-typed id section left right [] = []
-typed id section left right (ch ∷ text) = Text id section left right ch ∷ typed (next_id id) section (Some id) right text
+abbrev pub in_a_row : (id section : Identifier) (left right : Option Identifier) → List ℕ → List Op
+in_a_row id section left right [] = []
+in_a_row id section left right (ch ∷ text) = Text id section left right ch ∷ in_a_row (next_id id) section (Some id) right text
 
 abbrev pub run_ops : Run → List Op
-run_ops run = typed run.id run.section run.left run.right run.text
+run_ops run = in_a_row run.id run.section run.left run.right run.text
 
 -- how many scalars there are in two bytes, and the scalars
 abbrev pub text_bytes : List ℕ → List ℕ
@@ -80,11 +90,25 @@ pub record IsTitle (title : List ℕ) : Type 0 where
   pub scalars : All IsScalar title
   pub text : IsTitleText (encode_utf8_all title)
 
+-- at most three identifiers
+pub record AreNames (named : List Identifier) : Type 0 where
+  pub few : length named ≤ MOST_NAMES
+  pub identifiers : All IsIdentifier named
+
+abbrev pub IsByte : ℕ → Type 0
+IsByte byte = byte < 256
+
+-- at most 1,024 bytes
+pub record IsBody (body : List ℕ) : Type 0 where
+  pub short : length body ≤ LONGEST_BODY
+  pub bytes : All IsByte body
+
 -- the operation is one that a frame can stand for: each operation of the program is
 abbrev pub HasFrame : Op → Type 0
 HasFrame (Section id left right title) = IsIdentifier id × IsOrigin left × IsOrigin right × IsTitle title
 HasFrame (Text id section left right ch) = IsIdentifier id × IsIdentifier section × IsOrigin left × IsOrigin right × IsScalar ch
 HasFrame (Delete target) = IsIdentifier target
+HasFrame (Note id named code body) = IsIdentifier id × AreNames named × IsByte code × IsBody body
 
 -- 2 to 1,024 scalars
 pub record IsRunText (text : List ℕ) : Type 0 where
@@ -115,10 +139,16 @@ abbrev pub item_ops : Item → List Op
 item_ops (Single op) = op ∷ []
 item_ops (Typed run) = run_ops run
 
--- the grammar has a frame for it: version 1 has none for a run
+-- version 1 knew the operation: it had no notes
+abbrev pub IsOfVersion1 : Op → Type 0
+IsOfVersion1 (Note id named code body) = ⊥
+IsOfVersion1 op = Unit {0}
+
+-- the grammar has a frame for it: version 1 has none for a run or a note
 abbrev pub IsItem : Grammar → Item → Type 0
-IsItem grammar (Single op) = HasFrame op
+IsItem Version1 (Single op) = HasFrame op × IsOfVersion1 op
 IsItem Version1 (Typed run) = ⊥
+IsItem Version2 (Single op) = HasFrame op
 IsItem Version2 (Typed run) = HasRunFrame run
 
 -- some bytes, and the operations that they stand for

@@ -4,7 +4,7 @@ use Rattle.std.specs.Prelude.{◌&&◌, nat_lt, if◌then◌else◌}
 use Rattle.fugue_ids.specs.Identifiers.{Identifier}
 use Rattle.fugue_ids.specs.Ops.{op_eq}
 use Rattle.fugue_ids.specs.declared.op.Op.{Op}
-use Rattle.fugue_ids.specs.declared.op.Op.TheVariants.{Section, Text, Delete}
+use Rattle.fugue_ids.specs.declared.op.Op.TheVariants.{Section, Text, Delete, Note}
 use Rattle.origin_model.specs.declared.grammar.Grammar.TheVariants.{Version2}
 use Rattle.origin_model.specs.frames.Frames.{Framed, IsFrame, Item, Single, Typed, item_bytes, Run}
 
@@ -35,10 +35,11 @@ pub record IsWritten (ops : List Op) (bytes : List ℕ) : Type 0 where
 abbrev pub id_behind : Identifier → ℕ → Identifier
 id_behind id n = record { replica = id.replica; counter = id.counter + n }
 
-abbrev pub scalar_of : Op → ℕ
-scalar_of (Section id left right title) = 0
-scalar_of (Text id section left right ch) = ch
-scalar_of (Delete target) = 0
+abbrev pub scalar_in : Op → ℕ
+scalar_in (Section id left right title) = 0
+scalar_in (Text id section left right ch) = ch
+scalar_in (Delete target) = 0
+scalar_in (Note id named code body) = 0
 
 -- the Text that would go on with the run
 abbrev pub next_text : Run → ℕ → Op
@@ -49,19 +50,20 @@ run_more run ch = record { id = run.id; section = run.section; left = run.left; 
 
 -- the run with the operation behind it, where it has room and the operation is the next one
 abbrev pub longer : Run → Op → Option Item
-longer run op = if nat_lt (length run.text) 1024 && op_eq op (next_text run (scalar_of op)) then Some (Typed (run_more run (scalar_of op))) else None
+longer run op = if nat_lt (length run.text) 1024 && op_eq op (next_text run (scalar_in op)) then Some (Typed (run_more run (scalar_in op))) else None
 
 -- one item that stands for those of an item and one operation more
-abbrev pub extended : Item → Op → Option Item
-extended (Single (Section id left right title)) op = None
-extended (Single (Text id section left right ch)) op = longer (record { id = id; section = section; left = left; right = right; text = ch ∷ [] }) op
-extended (Single (Delete target)) op = None
-extended (Typed run) op = longer run op
+abbrev pub grown : Item → Op → Option Item
+grown (Single (Section id left right title)) op = None
+grown (Single (Text id section left right ch)) op = longer (record { id = id; section = section; left = left; right = right; text = ch ∷ [] }) op
+grown (Single (Delete target)) op = None
+grown (Single (Note id named code body)) op = None
+grown (Typed run) op = longer run op
 
 -- the items of the operations, of which the first is begun
 abbrev pub items_from : Item → List Op → List Item
 items_from begun [] = begun ∷ []
-items_from begun (op ∷ ops) = elim (extended begun op) [
+items_from begun (op ∷ ops) = elim (grown begun op) [
   | Some more ↦ items_from more ops
   | None ↦ begun ∷ items_from (Single op) ops
 ]

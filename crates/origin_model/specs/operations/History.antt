@@ -12,7 +12,7 @@ use Rattle.origin_model.specs.declared.operations.Place.TheVariants.{Catalogue a
 abbrev pub accepted : List Op → List Op
 accepted history = reverse history
 
--- where the element of an operation stands, and its origins; a Delete has none
+-- where the element of an operation stands, and its origins; a Delete and a Note have none
 abbrev pub element : Op → Option (Place × Node)
 element (Section id left right title) = Some (catalogue, record { id = id; left = left; right = right })
 element (Text id section left right ch) = Some (within section, record { id = id; left = left; right = right })
@@ -25,7 +25,7 @@ left_of op = elim (element op) [ None ↦ None | Some e ↦ e.1.left ]
 abbrev pub right_of : Op → Option Identifier
 right_of op = elim (element op) [ None ↦ None | Some e ↦ e.1.right ]
 
--- where an operation stands; a Delete stands nowhere
+-- where an operation stands; a Delete and a Note stand nowhere
 abbrev pub place : Op → Option Place
 place op = elim (element op) [ None ↦ None | Some e ↦ Some e.0 ]
 

@@ -1,9 +1,9 @@
 -- What an operation is against a history, and which histories are lawful.
-use Rattle.std.specs.Prelude.{◌≡◌, Option, Some, None, Bool, true, false, if◌then◌else◌, List, [], ◌∷◌, ◌++◌}
+use Rattle.std.specs.Prelude.{◌≡◌, Option, Some, None, Bool, true, false, if◌then◌else◌, List, [], ◌∷◌, ◌++◌, map}
 use Rattle.fugue_ids.specs.Identifiers.{Identifier}
 use Rattle.fugue_ids.specs.Ops.{id_of}
 use Rattle.fugue_ids.specs.declared.op.Op.{Op}
-use Rattle.fugue_ids.specs.declared.op.Op.TheVariants.{Section, Text, Delete}
+use Rattle.fugue_ids.specs.declared.op.Op.TheVariants.{Section, Text, Delete, Note}
 use Rattle.origin_model.specs.operations.History.{holder, holds, has_op, stands_at}
 use Rattle.origin_model.specs.declared.operations.named.Found.{Found}
 use Rattle.origin_model.specs.declared.operations.named.Found.TheVariants.{Same, Clash, Absent}
@@ -28,6 +28,7 @@ abbrev pub names : Op → List (Identifier × Role)
 names (Section id left right title) = given_as SectionRole left ++ given_as SectionRole right
 names (Text id section left right ch) = (section, SectionRole) ∷ given_as (TextOf section) left ++ given_as (TextOf section) right
 names (Delete target) = (target, Any) ∷ []
+names (Note id named code body) = map (λ i. (i, Any)) named
 
 -- the first named identifier that is held and does not fit
 abbrev pub first_stray : List Op → List (Identifier × Role) → Option Identifier

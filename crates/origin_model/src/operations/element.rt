@@ -7,7 +7,7 @@ ghost use Rattle.origin_model.specs.operations.History.{stands_at as stands_in};
 use crate::{Node, Place};
 use fugue_ids::{ElementId, Op};
 
-/// Where the element of an operation stands, and its origins: a `Delete` has none.
+/// Where the element of an operation stands, and its origins: a `Delete` and a `Note` have none.
 pub fn element_of(op: &Op) -> Option<(Place, Node)>
     ensures { result ≡ element op.now }
 {

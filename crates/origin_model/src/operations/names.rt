@@ -1,14 +1,12 @@
 //! What an operation names: its origins, its section and its target, and what each has to be.
 
-ghost use Rattle.std.specs.Prelude.{◌≡◌, ◌<◌, ◌≤◌, ◌+◌, ◌++◌, ◌∷◌, [], length};
+ghost use Rattle.std.specs.Prelude.{◌≡◌, ◌<◌, ◌≤◌, ◌+◌, ◌++◌, ◌∷◌, [], length, map};
+ghost use Rattle.origin_model.specs.declared.operations.Role.TheVariants.{Any};
 ghost use Rattle.origin_model.specs.operations.Verdict.{names, given_as};
 
 use crate::Role;
-use fugue_ids::{ElementId, Op};
+use fugue_ids::{ElementId, MOST_NAMES, Op};
 use std::marker::Model;
-
-/// The most that an operation names.
-const MOST_NAMES: usize = 3;
 
 /// An identifier with what it has to be.
 pub type Named = (ElementId, Role);
@@ -23,7 +21,7 @@ pub struct Names {
 impl Model for Names {
     ghost use Rattle.std.specs.Prelude.{◌≤◌, List, take};
     ghost use Rattle.fugue_ids.specs.Identifiers.{Identifier};
-    ghost use Rattle.origin_model.specs.declared.operations.names.TheConstants.{MOST_NAMES};
+    ghost use Rattle.fugue_ids.specs.declared.limits.TheConstants.{MOST_NAMES};
     ghost use Rattle.origin_model.specs.declared.operations.Role.{Role};
 
     ghost Value = { List (Identifier × Role) };
@@ -68,6 +66,18 @@ impl Names {
         }
     }
 
+    /// Names more, whatever each is held as.
+    fn and_each(self, ids: &[ElementId]) -> Names
+        requires { length self + length ids.now ≤ MOST_NAMES }
+        ensures { result ≡ self ++ map (λ id. (id, Any)) ids.now }
+    {
+        let mut names = self;
+        'each: for id in ids {
+            names = names.and(*id, Role::Any);
+        }
+        names
+    }
+
     pub fn as_slice(&self) -> &[Named]
         ensures { result.now ≡ self.now }
     {
@@ -94,5 +104,6 @@ pub fn names_of(op: &Op) -> Names
             .and_origin(*left, Role::TextOf(*section))
             .and_origin(*right, Role::TextOf(*section)),
         Op::Delete { target } => none.and(*target, Role::Any),
+        Op::Note { names, .. } => none.and_each(names.as_slice()),
     }
 }

@@ -2,7 +2,7 @@ use Rattle.std.proofs.Common.{List, ap, arith, length, map, sym, ℕ, ◌++◌, 
 use Rattle.std.specs.Int.{to_be_bytes, w16}
 use Rattle.std.proofs.lemmas.List.{length-map}
 use Rattle.origin_model.specs.frames.Frames.{Run, run_frame}
-use Rattle.origin_model.specs.frames.Framings.{scalar_of}
+use Rattle.origin_model.specs.frames.Framings.{scalar_in}
 use Rattle.origin_model.proofs.SharedLemmas.{origin_short}
 use Rattle.op_frame.proofs.EncodingLemmas.{first_text, run_known, run_parts, typed_long}
 use Rattle.op_frame.proofs.encoding.encode_run.Goals as goal
@@ -44,7 +44,7 @@ put_scalars-requires c =
 
 pub returns-clause-ok : goal.returns-clause-ok
 returns-clause-ok c run same some =
-    run_parts _ _ _ _ _ _ (to_be_bytes w16 (length (map scalar_of c.args.ops.now))) _ _ _ _ _ _ _ _ _ c.in_ok-reserve.ensures.items c.put.ensures.items c.put_id.ensures.items c.put_id-2.ensures.items
+    run_parts _ _ _ _ _ _ (to_be_bytes w16 (length (map scalar_in c.args.ops.now))) _ _ _ _ _ _ _ _ _ c.in_ok-reserve.ensures.items c.put.ensures.items c.put_id.ensures.items c.put_id-2.ensures.items
     c.put_origin.ensures.items c.put_origin-2.ensures.items
-    (c.put-2.ensures.items ∙ ap (λ (l : List ℕ). c.put_origin-2.new.out.items ++ l) (c.to_be_bytes.ensures ∙ ap (to_be_bytes w16) (sym (length-map c.args.ops.now scalar_of)))) c.put_scalars.ensures.puts.items
+    (c.put-2.ensures.items ∙ ap (λ (l : List ℕ). c.put_origin-2.new.out.items ++ l) (c.to_be_bytes.ensures ∙ ap (to_be_bytes w16) (sym (length-map c.args.ops.now scalar_in)))) c.put_scalars.ensures.puts.items
     ∙ ap (λ (r : Run). c.args.out.now.items ++ run_frame r) (sym (run_known run c.args.ops.now c.in-Text.id c.in-Text.section c.in-Text.left c.in-Text.right c.in-Text.ch c.index-ops-0.result same some (sym c.in-Text.is ∙ c.index-ops-0.is)))
