@@ -1,5 +1,5 @@
 -- How long frames are: no framing is longer than the operations' own frames.
-use Rattle.origin_model.proofs.Words.{All, All-head, All-tail, Delete, Identifier, List, None, Op, Option, Section, Some, Text, [], ap, arith, flat_map, length, length-append, refl, ℕ, ◌+◌, ◌∷◌, ◌≡◌, ◌≤◌}
+use Rattle.origin_model.proofs.Words.{All, All-head, All-tail, Delete, Note, Identifier, List, None, Op, Option, Section, Some, Text, [], ap, arith, flat_map, length, length-append, refl, ℕ, ◌+◌, ◌∷◌, ◌≡◌, ◌≤◌}
 use Rattle.std.specs.Prelude.{◌*◌}
 use Rattle.std.proofs.lemmas.Grind.{flat_map-append}
 use Rattle.origin_model.specs.declared.grammar.Grammar.{Grammar}
@@ -72,6 +72,7 @@ single_wide : (op : Op) → 9 ≤ length (frame op)
 single_wide (Section i l r t) = simp length-append (omega arith)
 single_wide (Text i s l r c) = simp length-append (omega arith)
 single_wide (Delete i) = omega arith
+single_wide (Note i ns c b) = simp length-append (omega arith)
 
 item_wide : (g : Grammar) (i : Item) → IsItem g i → 3 * length (item_ops i) + 6 ≤ length (item_bytes i)
 item_wide g (Single op) is = omega (arith, single_wide op)

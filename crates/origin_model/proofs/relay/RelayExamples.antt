@@ -204,7 +204,7 @@ next_four bytes = take 4 (drop 1 bytes)
 
 -- no frame begins with 6
 no_frame_with_6 : (item : Item) (more : List ℕ) → item_bytes item ≡ 6 ∷ more → ⊥
-no_frame_with_6 item more e = let l : 6 < 6 = begins_low item 5 more e in omega (arith, l)
+no_frame_with_6 item more e = let l : 6 < 6 = begins_low item 6 more e in omega (arith, l)
 
 -- nor has a text the replica 0
 no_replica_0 : (item : Item) (more : List ℕ) → IsItem Version2 item → item_bytes item ≡ 2 ∷ 0 ∷ 0 ∷ 0 ∷ 0 ∷ more → ⊥
