@@ -20,6 +20,8 @@ TAG_UNIT = 536_870_912
 LAST_SLOT = 4_294_967_295
 GREATEST_NUMBER = 4_294_967_295
 LONGEST_RUN = 1_024
+MOST_NAMES = 3
+LONGEST_BODY = 1_024
 
 # Where elements stand that are sections.
 CATALOGUE = "catalogue"
@@ -36,14 +38,20 @@ class Op:
     right: tuple | None = None
     text: str = ""
     target: tuple | None = None
+    named: tuple = ()
+    code: int | None = None
+    body: bytes = b""
 
     def place(self):
+        """Where the element of a Section or a Text stands."""
         return CATALOGUE if self.kind == "Section" else self.section
 
     def names(self):
-        """What the operation names, each with the place that it has to be an element of (None: any)."""
+        """What the operation names, each with the place that it has to be an element of (None: any operation)."""
         if self.kind == "Delete":
             return [(self.target, None)]
+        if self.kind == "Note":
+            return [(identifier, None) for identifier in self.named]
         origins = [(origin, self.place()) for origin in (self.left, self.right) if origin]
         return origins if self.kind == "Section" else [(self.section, CATALOGUE), *origins]
 
@@ -123,7 +131,7 @@ class Cursor:
         return chr(self.number(3, is_front))
 
     def frame(self, runs):
-        """The operations of a frame; of a run only where there may be runs."""
+        """The operations of a frame. Version 1 had neither runs nor notes."""
         kind = self.byte()
         if kind == 1:
             return [Op("Section", self.identifier(), None, self.origin(), self.origin(), self.title())]
@@ -134,7 +142,17 @@ class Cursor:
             return [Op("Delete", None, target=self.identifier())]
         if kind == 4 and runs:
             return self.run()
+        if kind == 5 and runs:
+            return [self.note()]
         raise Bad
+
+    def note(self):
+        identifier = self.identifier()
+        count = self.number(1, lambda so_far, left: so_far <= MOST_NAMES)
+        named = tuple(self.identifier() for _ in range(count))
+        code = self.byte()
+        size = self.number(2, lambda so_far, left: so_far <= LONGEST_BODY >> 8 * left)
+        return Op("Note", identifier, named=named, code=code, body=bytes(self.byte() for _ in range(size)))
 
     def run(self):
         """The Texts of a run. Each but the first has the one before as its left origin."""
@@ -157,7 +175,7 @@ def utf8_size(first):
 
 
 def read_stream(data, runs=True):
-    """Each operation of a stream, where there may be runs or single frames alone. It ends as the stream does."""
+    """Each operation of a stream, where there may be runs and notes or neither. It ends as the stream does."""
     at = 0
     while at < len(data):
         cursor = Cursor(data, at)
@@ -190,6 +208,9 @@ def scalars(texts):
 def single_frame(op):
     if op.kind == "Delete":
         return b"\3" + id_bytes(op.target)
+    if op.kind == "Note":
+        names = number_bytes(len(op.named), 1) + b"".join(map(id_bytes, op.named))
+        return b"\5" + id_bytes(op.id) + names + number_bytes(op.code, 1) + number_bytes(len(op.body), 2) + op.body
     origins = origin_bytes(op.left) + origin_bytes(op.right)
     if op.kind == "Text":
         return b"\2" + id_bytes(op.id) + id_bytes(op.section) + origins + scalars([op])
@@ -315,7 +336,8 @@ class Replica:
         self.counts = dict.fromkeys(["accepted", "repeated", "waiting", "conflict", "stray", "full"], 0)
 
     def fits(self, name, place):
-        return place is None or self.holders[name].place() == place
+        holder = self.holders[name]
+        return place is None or holder.kind != "Note" and holder.place() == place
 
     def is_stray(self, op):
         return any(name in self.holders and not self.fits(name, place) for name, place in op.names())
@@ -347,7 +369,8 @@ class Replica:
             self.hidden.add(op.target)
         else:
             self.holders[op.id] = op
-            self.places.setdefault(op.place(), Place()).insert(op)
+            if op.kind != "Note":
+                self.places.setdefault(op.place(), Place()).insert(op)
 
     def settle(self):
         while leaving := next((op for op in self.waiting if self.is_ready(op) or self.is_stray(op)), None):
@@ -382,6 +405,8 @@ def tell(op):
     for name in ("id", "section", "left", "right", "target"):
         value = getattr(op, name)
         parts += [f"{name} {value[0]}.{value[1]}"] if value else []
+    parts += [f"names {replica}.{counter}" for replica, counter in op.named]
+    parts += [f"code {op.code} {op.body.hex(' ')}".rstrip()] if op.kind == "Note" else []
     return " ".join(parts + ([repr(op.text)] if op.text else []))
 
 
@@ -520,7 +545,7 @@ class Checker:
         return ("end",) if p is None else ("later", p, q)
 
     def holds(self, step):
-        if any(id not in self.holders for id in (step.x, step.y)):
+        if any(id not in self.holders or self.holders[id].kind == "Note" for id in (step.x, step.y)):
             return False
         if self.holders[step.x].place() != self.holders[step.y].place():
             return False
