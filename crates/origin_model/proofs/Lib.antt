@@ -1,4 +1,5 @@
 mod Examples
+mod NoteExamples
 mod Words
 mod frames
 pub mod SharedLemmas
