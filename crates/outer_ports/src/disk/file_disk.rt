@@ -48,7 +48,7 @@ impl FileDisk {
             Opening::Reading | Opening::Writing => (open_file(files, path, opening)?, false),
         };
         if opening != Opening::Reading {
-            file.try_lock()?;
+            lock_file(files, path, &file, is_made)?;
         }
         Ok(FileDisk {
             file: Some(file),
@@ -101,6 +101,24 @@ fn create_file<R: Files<File = File>>(files: &R, path: &str) -> io::Result<(File
         }
         Err(error) => Err(error),
     }
+}
+
+/// Locks the file. Where the system has no lock for it, one that was made here is removed again; where another program
+/// has locked it meanwhile, it stays.
+fn lock_file<R: Files<File = File>>(
+    files: &R,
+    path: &str,
+    file: &File,
+    is_made: bool,
+) -> io::Result<()> {
+    let locked = file.try_lock().map_err(io::Error::from);
+    if let Err(error) = &locked
+        && is_made
+        && error.kind() != ErrorKind::WouldBlock
+    {
+        let _ = fs::remove_file(files, path);
+    }
+    locked
 }
 
 /// Opens the regular file that is there.
