@@ -50,7 +50,7 @@ file_by_set : OrderBySet → (file : Change DiskView) (output notes : Change Out
     → (replica : Replica) (at : End) → FileHolds file.old replica at → PrintedBySet replica.held.history output
 file_by_set order file output notes wrote told replica at holds =
     let same = holds_once file.old told (replica, at) (wrote.found.0, wrote.found.1) holds wrote.found.2 in
-    let text : wrote.bytes ≡ manuscript replica.held.history = same_text wrote.bytes (printed_of wrote.found.0.held) wrote.found.3 ∙ sym (ap (λ (l : Replica × End). manuscript l.0.held.history) same) in
+    let text : wrote.bytes ≡ manuscript replica.held.history = same_text wrote.bytes (printed_of wrote.found.0) wrote.found.3 ∙ sym (ap (λ (l : Replica × End). manuscript l.0.held.history) same) in
     printed_by_set order replica.held.history output (loaded_lawful file.old told replica at holds) (subst (Took output.old output.new) text wrote.came.wrote)
 
 pub prints_by_set : OrderBySet → (old new : Touched) (end : Status) → Meets (Some Print) old new end → PrintsBySet old.home (change old.streams.output new.streams.output) end

@@ -26,6 +26,7 @@ mod take;
 mod take_in;
 mod text_out;
 mod top;
+mod version_name;
 mod why;
 mod words;
 
@@ -34,4 +35,5 @@ pub use laws::{every_finished_command_is_in_the_file, limits_in_numbers};
 pub use refusal::{Refusal, tell};
 pub use status::Status;
 pub use top::run;
+pub use version_name::VersionName;
 pub use words::{files_of, read_words};
