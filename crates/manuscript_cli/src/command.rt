@@ -32,6 +32,23 @@ pub enum Command {
     Why(u32, u32, u32),
     /// Print whether the text on the input is that of a certificate that a file's replica finds valid.
     Check,
+    /// Move the section of this number in the arrangement to the place of that one. Both count from 1.
+    Move(u32, u32),
+    /// Give the section of this number in the arrangement a new title.
+    Retitle(u32),
+    /// Print the sections of a file as they are arranged, under their headings.
+    Arrange,
+    /// Make a comment on clusters of a section, counted from 1 in the catalogue: the section, the first cluster, and how
+    /// many.
+    Comment(u32, u32, u32),
+    /// Print the comments of a file.
+    Comments,
+    /// Give the state of a file's replica a name.
+    Version,
+    /// Print the named versions of a file.
+    Versions,
+    /// Print the manuscript of a named version of a file.
+    View,
 }
 
 impl Command {
@@ -41,15 +58,25 @@ impl Command {
     {
         match self {
             Command::New(_, _) => Opening::Creating,
-            Command::Edit | Command::Take | Command::Merge | Command::Sync(_, _) =>
-                Opening::Writing,
+            Command::Edit
+            | Command::Take
+            | Command::Merge
+            | Command::Sync(_, _)
+            | Command::Move(_, _)
+            | Command::Retitle(_)
+            | Command::Comment(_, _, _)
+            | Command::Version => Opening::Writing,
             Command::Show(_)
             | Command::Print
             | Command::Send
             | Command::Relay(_, _)
             | Command::Bulk(_, _)
             | Command::Why(_, _, _)
-            | Command::Check => Opening::Reading,
+            | Command::Check
+            | Command::Arrange
+            | Command::Comments
+            | Command::Versions
+            | Command::View => Opening::Reading,
         }
     }
 
