@@ -1,7 +1,7 @@
 //! Laws of the commands.
 
 ghost use Rattle.std.specs.Prelude.{◌≡◌};
-ghost use Rattle.fugue_ids.specs.declared.limits.TheConstants.{GREATEST_HOLD, LONGEST_TITLE};
+ghost use Rattle.fugue_ids.specs.declared.limits.TheConstants.{GREATEST_HOLD, LONGEST_BODY, LONGEST_TITLE, MOST_NAMES};
 ghost use Rattle.fugue_ids.specs.declared.limits.TheConstants.{MOST_OPERATIONS, STREAM_LIMIT};
 ghost use Rattle.origin_model.specs.declared.files.TheConstants.{LONGEST_BATCH};
 ghost use Rattle.edit_script.specs.declared.script.TheConstants.{LONGEST_SCRIPT};
@@ -11,6 +11,7 @@ ghost use Rattle.manuscript_cli.specs.Runs.{EachFinishedIsIn};
 ghost use Rattle.manuscript_cli.specs.declared.check.TheConstants.{LONGEST_PROOF};
 ghost use Rattle.manuscript_cli.specs.declared.words.TheConstants.{GREATEST_CURSOR, GREATEST_PLACE, GREATEST_PORT};
 ghost use Rattle.manuscript_cli.specs.declared.words.TheConstants.{GREATEST_REPLICA, GREATEST_SEED};
+ghost use Rattle.manuscript_cli.specs.declared.version_name.TheConstants.{LONGEST_NAME};
 ghost use Rattle.manuscript_cli.specs.declared.words.TheConstants.{MOST_SESSIONS, USUAL_HOLD};
 
 /// Each limit, in numbers. The contracts name them, so that each stands once.
@@ -19,6 +20,9 @@ pub fn limits_in_numbers()
     ensures greatest_hold { GREATEST_HOLD ≡ 1048576 }
     ensures usual_hold { USUAL_HOLD ≡ 65536 }
     ensures title { LONGEST_TITLE ≡ 480 }
+    ensures names { MOST_NAMES ≡ 3 }
+    ensures body { LONGEST_BODY ≡ 1024 }
+    ensures version { LONGEST_NAME ≡ 120 }
     ensures stream { STREAM_LIMIT ≡ 2147483648 }
     ensures script { LONGEST_SCRIPT ≡ 1048576 }
     ensures proof { LONGEST_PROOF ≡ 268435456 }

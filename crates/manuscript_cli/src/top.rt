@@ -52,7 +52,8 @@ pub fn run<S: Source, O: Sink, N: Sink, H: Disk, G: Disk, W: Wire, D: Dock, B: B
         × (wire.new ≡ wire.old) × (dock.new ≡ dock.old) }
 
     // There is a command that the words ask for, or none, and this is what it did.
-    ensures meets { (command : Option AnyCommand) × IsCommand (map string_bytes words.now) command × Meets command
+    ensures meets { (command : Option AnyCommand) × IsCommand (map string_bytes words.now) command
+        × Meets (map string_bytes words.now) command
         (touched (S.seen input.old) (O.seen output.old) (N.seen notes.old) (H.seen home.old) (G.seen guest.old)
         (W.seen wire.old) (D.seen dock.old))
         (touched (S.seen input.new) (O.seen output.new) (N.seen notes.new) (H.seen home.new) (G.seen guest.new)
@@ -91,7 +92,7 @@ pub fn run<S: Source, O: Sink, N: Sink, H: Disk, G: Disk, W: Wire, D: Dock, B: B
                 wire,
                 dock,
             };
-            obey(alloc, command, objects, hasher)
+            obey(alloc, command, words, objects, hasher)
         }
     }
 }
@@ -111,12 +112,13 @@ struct Objects<'a, S, O, N, H, G, W, D> {
 fn obey<S: Source, O: Sink, N: Sink, H: Disk, G: Disk, W: Wire, D: Dock, B: BuildHasher + Drop>(
     alloc: Global,
     command: Command,
+    words: &[String],
     objects: Objects<'_, S, O, N, H, G, W, D>,
     hasher: B,
 ) -> Status
     requires { IsInRange command }
     // `exit` has what is left behind the references, in the order of the fields.
-    ensures meets { Meets (Some command)
+    ensures meets { Meets (map string_bytes words.now) (Some command)
         (record {
           streams = record {
             input = S.seen objects.entry.input.now;
@@ -173,5 +175,39 @@ fn obey<S: Source, O: Sink, N: Sink, H: Disk, G: Disk, W: Wire, D: Dock, B: Buil
             write_report(alloc, &why, home, output, notes)
         }
         Command::Check => check_file(alloc, input, home, output, notes),
+        Command::Move(section, place) => {
+            let maker = Moving { section, place };
+            save_given(alloc, &Noting { maker }, &mut (), home, notes)
+        }
+        Command::Retitle(section) => {
+            let title = last_of(words);
+            let maker = Retitling { section, title };
+            save_given(alloc, &Noting { maker }, &mut (), home, notes)
+        }
+        Command::Arrange => write_report(alloc, &Arrangement, home, output, notes),
+        Command::Comment(section, at, count) => {
+            let text = last_of(words);
+            let maker = Commenting {
+                section,
+                at,
+                count,
+                text,
+            };
+            save_given(alloc, &Noting { maker }, &mut (), home, notes)
+        }
+        Command::Comments => write_report(alloc, &Comments, home, output, notes),
+        Command::Version => {
+            let maker = Naming {
+                name: last_of(words),
+            };
+            save_given(alloc, &Noting { maker }, &mut (), home, notes)
+        }
+        Command::Versions => write_report(alloc, &Versions, home, output, notes),
+        Command::View => {
+            let view = View {
+                name: last_of(words),
+            };
+            write_report(alloc, &view, home, output, notes)
+        }
     }
 }
