@@ -54,7 +54,8 @@ fn take_in(manuscript: &mut Manuscript, op: &Op) -> Result<(), NoMemory>
     }
 }
 
-/// The same for the Delete of an element or a note: a note stands in no place, so nothing is hidden where one is withdrawn.
+/// The same for the Delete of an element or a note: a note stands in no place, so nothing is hidden where one is
+/// withdrawn.
 fn take_in_delete(manuscript: &mut Manuscript, target: ElementId) -> Result<(), NoMemory>
     requires { IsReadyOn manuscript.old (DeleteOf target) }
     ensures ok { OnOk result (GrowsBy manuscript.old manuscript.new (DeleteOf target)) }

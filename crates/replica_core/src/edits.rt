@@ -14,7 +14,7 @@ mod limits;
 mod planning;
 
 use crate::Replica;
-use fugue_ids::{Body, NoteNames, Op, Title};
+use fugue_ids::{Body, NoteNames, Title};
 use origin_model::EditFault;
 
 impl Replica {
@@ -94,13 +94,8 @@ impl Replica {
         ensures settled { IsSettled self.new.held }
         ensures stands { Stands self.new }
     {
-        let counter = self.check_elements(1)?;
-        self.join(Op::Note {
-            id: self.own_id(counter),
-            names,
-            code,
-            body,
-        })?;
+        let op = self.note_op(names, code, body)?;
+        self.join(op)?;
         Ok(1)
     }
 }

@@ -1,12 +1,14 @@
 -- A note of a replica: it is Ready where its names are held, decides nothing that waits, and changes nothing that is shown.
-use Rattle.origin_model.proofs.Words.{All, All-cons, All-head, All-nil, All-tail, Identifier, Lawful, List, None, Note, Op, Place, Ready, Some, [], ap, arith, filter, has_op, holds, id_eq-refl, id_held, id_of, is_hidden, length, not, order, refl, shown, subst, sym, true, false, verdict, ℕ, ◌+◌, ◌∙◌, ◌∷◌, ◌≡◌, ◌≤◌, map, names, first_stray, first_missing}
+use Rattle.origin_model.proofs.Words.{All, All-cons, All-head, All-nil, All-tail, Bool, Identifier, if◌then◌else◌, ◌-◌, ◌^◌, ◌&&◌, ◌≢◌, Lawful, List, None, Note, Op, Place, Ready, Some, [], ap, filter, holds, id_eq-refl, is_hidden, length, not, order, refl, shown, subst, sym, true, false, verdict, ℕ, ◌+◌, ◌∷◌, ◌≡◌, ◌≤◌, map, names}
+use Rattle.std.specs.Prelude.{nat_lt}
 use Rattle.std.proofs.Math.Nat.{le_refl}
 use Rattle.origin_model.specs.declared.operations.Role.TheVariants.{Any}
-use Rattle.origin_model.specs.declared.operations.Role.{Role}
-use Rattle.origin_model.specs.edits.Edits.{ReadyInTurn, extended, id_at, next_counter, noted}
+use Rattle.origin_model.specs.edits.Edits.{id_at, next_counter, noted}
 use Rattle.origin_model.specs.edits.Effect.{with_ops}
 use Rattle.origin_model.specs.edits.Noting.{AreHeld, ShowsAsBefore, note_by, note_refusal}
-use Rattle.origin_model.specs.edits.Refusal.{held_count}
+use Rattle.origin_model.specs.edits.Refusal.{held_count, next_of_own}
+use Rattle.origin_model.specs.declared.edit_fault.EditFault.{EditFault}
+use Rattle.origin_model.specs.declared.edit_fault.EditFault.TheVariants.{IdsSpent, NoSection, OutOfRange, TooMany}
 use Rattle.origin_model.specs.edits.State.{State}
 use Rattle.origin_model.specs.taking.Taking.{IsSettled}
 use Rattle.origin_model.proofs.edits.EditIntakeLemmas.{Comes, IsTakenIn, comes, takes}
@@ -82,3 +84,15 @@ unchanged_shows old new is = subst (λ s. ShowsAsBefore old s) (sym is) (record 
 -- a note that is not refused is not too many
 pub note_fits : (s : State) → note_refusal s ≡ None → held_count s + 1 ≤ s.most
 note_fits s e = elements_fit s 1 e
+
+-- of two causes that have no position, the first
+without_position : (b c : Bool) (greatest held : ℕ) (fault : EditFault) → (if b then Some (IdsSpent greatest) else (if c then Some (TooMany held) else None)) ≡ Some fault
+    → (fault ≢ NoSection) × (fault ≢ OutOfRange)
+without_position true c greatest held fault e = let same : IdsSpent greatest ≡ fault = cc e in ((λ d. cc (same, d)), (λ d. cc (same, d)))
+without_position false true greatest held fault e = let same : TooMany held ≡ fault = cc e in ((λ d. cc (same, d)), (λ d. cc (same, d)))
+without_position false false greatest held fault e = cc e
+
+-- a note is never refused for a section or a position
+pub note_without_position : (s : State) (fault : EditFault) → note_refusal s ≡ Some fault → (fault ≢ NoSection) × (fault ≢ OutOfRange)
+note_without_position s fault e =
+    without_position (nat_lt 0 1 && nat_lt (2 ^ 32) (next_of_own s + 1)) (nat_lt s.most (held_count s + 1)) (next_of_own s - 1) (held_count s) fault e
