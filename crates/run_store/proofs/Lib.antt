@@ -17,6 +17,7 @@ pub mod ContinueLemmas
 pub mod PlaceLemmas
 pub mod WalkLemmas
 pub mod BeforeLemmas
+mod BeforeShownLemmas
 pub mod VisibleLemmas
 pub mod TextLemmas
 pub mod KeyLemmas

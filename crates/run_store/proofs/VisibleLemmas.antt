@@ -14,7 +14,7 @@ use Rattle.node_rope.specs.Items.{value_under}
 use Rattle.node_rope.specs.Places.{IsUnit, weight_sum}
 use Rattle.run_store.specs.Cells.{cell_ids, cells_shown}
 use Rattle.run_store.specs.Heads.{head_behind, lettered, next_head, typed_cells}
-use Rattle.run_store.specs.Runs.{AreRuns, IsRun, all_cells, cells_in, cells_of, first_of, letters_of}
+use Rattle.run_store.specs.Runs.{AreRuns, IsRun, all_cells, cells_in, cells_of, first_of, letters_of, visible_weight}
 use Rattle.run_store.specs.Shown.{IsInHand}
 use Rattle.run_store.specs.declared.cell.Cell.{Cell}
 use Rattle.run_store.specs.declared.find.Spot.{Spot}
@@ -25,20 +25,16 @@ use Rattle.run_store.proofs.HeadLemmas.{behind-next, length-typed}
 use Rattle.run_store.proofs.RopeLemmas.{value-at}
 use Rattle.run_store.proofs.RunsLemmas.{Item, cells-append, kept-run, keys-apart, length-letters}
 
--- what a run counts for
-abbrev pub weight_of : Run → ℕ
-weight_of r = if r.hidden then 0 else min r.len MOST_OPERATIONS
-
 pub visible-append : (xs ys : List Cell) → cells_shown (xs ++ ys) ≡ cells_shown xs ++ cells_shown ys
 visible-append = filter-append (λ c. not c.hidden)
 
-visible-typed : (h : Head) (ls : List ℕ) → h.hidden ≡ false → cells_shown (typed_cells h ls) ≡ typed_cells h ls
+pub visible-typed : (h : Head) (ls : List ℕ) → h.hidden ≡ false → cells_shown (typed_cells h ls) ≡ typed_cells h ls
 visible-typed h [] e = refl
 visible-typed h (l ∷ ls) e =
     ap (λ b. if not b then lettered h l ∷ cells_shown (typed_cells (next_head h) ls) else cells_shown (typed_cells (next_head h) ls)) e
     ∙ ap (λ cs. lettered h l ∷ cs) (visible-typed (next_head h) ls e)
 
-hidden-typed : (h : Head) (ls : List ℕ) → h.hidden ≡ true → cells_shown (typed_cells h ls) ≡ []
+pub hidden-typed : (h : Head) (ls : List ℕ) → h.hidden ≡ true → cells_shown (typed_cells h ls) ≡ []
 hidden-typed h [] e = refl
 hidden-typed h (l ∷ ls) e =
     ap (λ b. if not b then lettered h l ∷ cells_shown (typed_cells (next_head h) ls) else cells_shown (typed_cells (next_head h) ls)) e ∙ hidden-typed (next_head h) ls e
@@ -53,7 +49,7 @@ get-behind [] ys o = let e : 0 + o ≡ o = omega arith in ap (slice_get ys) e
 get-behind (x ∷ xs) ys o = let e : suc (length xs) + o ≡ suc (length xs + o) = omega arith in ap (slice_get (x ∷ (xs ++ ys))) e ∙ get-behind xs ys o
 
 module _ (L : List (List ℕ)) (n : ℕ) (few : n ≤ MOST_OPERATIONS) where
-  visible-run : (x : Item) → IsRun L n x → length (cells_shown (cells_of L x.1)) ≡ weight_of x.1
+  visible-run : (x : Item) → IsRun L n x → length (cells_shown (cells_of L x.1)) ≡ visible_weight x.1
   visible-run x r = elim (cases_Bool x.1.hidden) [
     | inl t ↦ ap length (hidden-typed (first_of x.1) (letters_of L x.1) t) ∙ ap (λ b. if b then 0 else min x.1.len MOST_OPERATIONS) (sym t)
     | inr f ↦
@@ -63,7 +59,7 @@ module _ (L : List (List ℕ)) (n : ℕ) (few : n ≤ MOST_OPERATIONS) where
   ]
 
   -- the visible cells of runs are as many as their weight
-  pub visible-weight : (xs : List Item) → All (IsRun L n) xs → length (cells_shown (all_cells L xs)) ≡ weight_sum weight_of xs
+  pub visible-weight : (xs : List Item) → All (IsRun L n) xs → length (cells_shown (all_cells L xs)) ≡ weight_sum visible_weight xs
   visible-weight [] a = refl
   visible-weight (x ∷ xs) a =
       let e = ap length (visible-append (cells_of L x.1) (all_cells L xs)) in
@@ -73,7 +69,7 @@ module _ (L : List (List ℕ)) (n : ℕ) (few : n ≤ MOST_OPERATIONS) where
         length-append (cells_shown (cells_of L x.1)) (cells_shown (all_cells L xs)),
         visible-run x (All-head (IsRun L n) x xs a),
         visible-weight xs (All-tail (IsRun L n) x xs a),
-        sum_by-cons (λ (z : Item). weight_of z.1) x xs,
+        sum_by-cons (λ (z : Item). visible_weight z.1) x xs,
       )
 
 -- what counts for a unit is not hidden
@@ -83,15 +79,15 @@ is-shown false m v l = (refl, omega (arith, l))
 
 -- the visible cell of a unit of weight
 module _ (r : Runs) (s : AreRuns r) where
-  pub visible-all : length (cells_shown (cells_in r)) ≡ weight_sum weight_of r.rope
+  pub visible-all : length (cells_shown (cells_in r)) ≡ weight_sum visible_weight r.rope
   visible-all = visible-weight r.letters r.count s.few r.rope s.each
 
-  pub no-unit : (w : ℕ) → weight_sum weight_of r.rope ≤ w → slice_get (cell_ids (cells_shown (cells_in r))) w ≡ None
+  pub no-unit : (w : ℕ) → weight_sum visible_weight r.rope ≤ w → slice_get (cell_ids (cells_shown (cells_in r))) w ≡ None
   no-unit w l =
       slice_get_past (cell_ids (cells_shown (cells_in r))) w
       (omega (arith, l, visible-all, length-map (cells_shown (cells_in r)) (λ (z : Cell). z.id)))
 
-  pub unit-cell : (w : ℕ) (k : Identifier) (u : ℕ) (p : IsUnit weight_of r.rope w k u)
+  pub unit-cell : (w : ℕ) (k : Identifier) (u : ℕ) (p : IsUnit visible_weight r.rope w k u)
       → (u < p.value.len) × (slice_get (cell_ids (cells_shown (cells_in r))) w ≡ Some (head_behind u (first_of p.value)).id)
   unit-cell w k u p =
       let P = IsRun r.letters r.count in
@@ -117,7 +113,7 @@ module _ (r : Runs) (s : AreRuns r) where
       )
 
   -- the same, by the run that is kept under the key
-  pub unit-held : (w : ℕ) (k : Identifier) (u : ℕ) (p : IsUnit weight_of r.rope w k u) → value_under k r.rope ≡ Some p.value
+  pub unit-held : (w : ℕ) (k : Identifier) (u : ℕ) (p : IsUnit visible_weight r.rope w k u) → value_under k r.rope ≡ Some p.value
   unit-held w k u p =
       let P = IsRun r.letters r.count in
       let this = All-head P (k, p.value) p.back (all_behind P p.front ((k, p.value) ∷ p.back) (subst (All P) p.split s.each)) in
@@ -125,7 +121,7 @@ module _ (r : Runs) (s : AreRuns r) where
       ap (λ i. value_under i r.rope) this.named ∙ ap (value_under p.value.id) is
       ∙ value-at p.value.id p.value p.front p.back (keys-apart r s p.front p.value 0 p.back is this.some).0
 
-  pub unit-run : (w : ℕ) (k : Identifier) (u : ℕ) → IsUnit weight_of r.rope w k u → (run : Run) → value_under k r.rope ≡ Some run
+  pub unit-run : (w : ℕ) (k : Identifier) (u : ℕ) → IsUnit visible_weight r.rope w k u → (run : Run) → value_under k r.rope ≡ Some run
       → (u < run.len) × (slice_get (cell_ids (cells_shown (cells_in r))) w ≡ Some (head_behind u (first_of run)).id)
   unit-run w k u p run v =
       let e : Some p.value ≡ Some run = sym (unit-held w k u p) ∙ v in
@@ -133,7 +129,7 @@ module _ (r : Runs) (s : AreRuns r) where
       subst (λ (z : Run). (u < z.len) × (slice_get (cell_ids (cells_shown (cells_in r))) w ≡ Some (head_behind u (first_of z)).id)) same (unit-cell w k u p)
 
   -- the run with the cells behind it
-  pub unit-hand : (w : ℕ) (k : Identifier) (u : ℕ) → IsUnit weight_of r.rope w k u → (run : Run) → value_under k r.rope ≡ Some run
+  pub unit-hand : (w : ℕ) (k : Identifier) (u : ℕ) → IsUnit visible_weight r.rope w k u → (run : Run) → value_under k r.rope ≡ Some run
       → IsInHand (cell_ids (cells_shown (cells_in r))) w run u
   unit-hand w k u p run v =
       let this = kept-run r s k run v in
@@ -147,7 +143,7 @@ module _ (r : Runs) (s : AreRuns r) where
         depths = omega (arith, this.depths, s.few);
         cells = λ j l.
             let more : u + j < p.value.len = omega (arith, l, n) in
-            let q : IsUnit weight_of r.rope (w + j) k (u + j) = record {
+            let q : IsUnit visible_weight r.rope (w + j) k (u + j) = record {
               front = p.front;
               value = p.value;
               back = p.back;

@@ -1,8 +1,9 @@
 -- Cells in a list.
-use Rattle.std.specs.Prelude.{Bool, not, if◌then◌else◌, ◌&&◌, List, [], ◌∷◌, Option, Some, None, option_map, ℕ, map, filter, true}
+use Rattle.std.specs.Prelude.{Bool, not, if◌then◌else◌, ◌&&◌, List, [], ◌∷◌, Option, Some, None, option_map, ℕ, map, filter, length, take, true}
 use Rattle.std.specs.List.{list_any}
 use Rattle.fugue_ids.specs.Identifiers.{Identifier, id_eq}
 use Rattle.fugue_ids.specs.Keys.{Keyed}
+use Rattle.fugue_ids.specs.Listed.{index_of}
 use Rattle.run_store.specs.declared.cell.Cell.{Cell}
 
 -- the identifiers of the cells
@@ -20,6 +21,10 @@ cells_shown cells = filter (λ c. not c.hidden) cells
 -- the scalars that are not hidden
 abbrev pub cell_text : List Cell → List ℕ
 cell_text cells = map (λ c. c.ch) (cells_shown cells)
+
+-- how many cells that are not hidden stand before the cell of x
+abbrev pub shown_before : List Cell → Identifier → ℕ
+shown_before cells x = length (cells_shown (take (index_of (cell_ids cells) x) cells))
 
 -- the cell of x
 abbrev pub cell_of : List Cell → Identifier → Option Cell

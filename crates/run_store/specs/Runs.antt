@@ -1,5 +1,5 @@
 -- Runs of cells: each keeps its first cell, and finds its letters in a stretch of them.
-use Rattle.std.specs.Prelude.{◌≡◌, ◌≢◌, ◌≤◌, ◌<◌, ◌^◌, ℕ, ◌+◌, ◌-◌, List, [], Some, All, AllPairs, drop, flat_map, length, take, slice_index_or}
+use Rattle.std.specs.Prelude.{◌≡◌, ◌≢◌, ◌≤◌, ◌<◌, ◌^◌, ℕ, ◌+◌, ◌-◌, List, [], Some, All, AllPairs, drop, flat_map, length, take, slice_index_or, if◌then◌else◌, min}
 use Rattle.fugue_ids.specs.Identifiers.{Identifier}
 use Rattle.fugue_ids.specs.declared.limits.TheConstants.{MOST_OPERATIONS}
 use Rattle.node_rope.specs.Beside.{placed_after, put_under}
@@ -53,6 +53,10 @@ pub record AreRuns (r : Runs) : Type 0 where
   pub counted : r.count ≡ length (cells_in r)
   pub few : r.count ≤ MOST_OPERATIONS
   pub letters : AreLetters r.letters r.count
+
+-- how many cells of a run are visible
+abbrev pub visible_weight : Run → ℕ
+visible_weight r = if r.hidden then 0 else min r.len MOST_OPERATIONS
 
 -- the cell of x stands behind `offset` others in a run
 pub record IsSpot (rope : List (Identifier × Run)) (x : Identifier) (run : Run) (offset : ℕ) : Type 0 where

@@ -1,11 +1,11 @@
 // Look-ups of a store. None of them takes memory.
-ghost use Rattle.std.specs.Prelude.{◌≡◌, ◌≢◌, ◌↔◌, ◌≤◌, AllPairs, Contains, IfNone, IfSome, IsTrue, None, drop, length};
+ghost use Rattle.std.specs.Prelude.{◌≡◌, ◌≢◌, ◌↔◌, ◌≤◌, AllPairs, Contains, IfNone, IfSome, IsNone, IsTrue, None, drop, length};
 ghost use Rattle.std.specs.Prelude.{slice_get};
 ghost use Rattle.std.specs.Str.{encode_utf8_all};
 ghost use Rattle.fugue_ids.specs.Gathers.{GathersText};
 ghost use Rattle.fugue_ids.specs.Outs.{WritesBytes};
 ghost use Rattle.origin_model.specs.edits.Landing.{following};
-ghost use Rattle.run_store.specs.Cells.{cell_ids, is_hidden_cell as hidden_in, origins_of, cell_text, cells_shown};
+ghost use Rattle.run_store.specs.Cells.{cell_ids, is_hidden_cell as hidden_in, origins_of, cell_text, cells_shown, shown_before};
 ghost use Rattle.run_store.specs.Shown.{IsInHand};
 
 use crate::find::Spot;
@@ -73,6 +73,15 @@ impl RunStore {
         ensures { result ≡ slice_get (cell_ids (cells_shown self.now.cells)) i }
     {
         self.runs.nth_visible(i)
+    }
+
+    /// How many visible cells stand before this one, which may be hidden itself. None is the answer for a cell that is
+    /// not held.
+    pub fn visible_before(&self, id: ElementId) -> Option<usize>
+        ensures some { IfSome result (λ n. n ≡ shown_before self.now.cells id) }
+        ensures none { IsNone result ↔ (Contains (cell_ids self.now.cells) id → ⊥) }
+    {
+        self.runs.visible_before(id)
     }
 
     /// Where that cell is.

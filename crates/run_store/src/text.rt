@@ -1,11 +1,14 @@
 // The letters that are not hidden.
-ghost use Rattle.std.specs.Prelude.{◌<◌, ◌≤◌, ◌+◌, ◌^◌, [], length, slice_index_or, ◌≡◌, IfNone, IfSome, None};
+ghost use Rattle.std.specs.Prelude.{◌<◌, ◌≤◌, ◌+◌, ◌^◌, [], length, slice_index_or, ◌≡◌, Contains, IfNone, IfSome, None, Some, ℕ, if◌then◌else◌, take};
 ghost use Rattle.std.specs.Prelude.{slice_get};
 ghost use Rattle.std.specs.Str.{encode_utf8_all};
 ghost use Rattle.fugue_ids.specs.Gathers.{GathersText};
-ghost use Rattle.run_store.specs.Cells.{cell_text, cell_ids, cells_shown};
-ghost use Rattle.run_store.specs.Runs.{AreRuns, cells_in, cells_of};
+ghost use Rattle.run_store.specs.Cells.{cell_text, cell_ids, cells_shown, shown_before};
+ghost use Rattle.run_store.specs.Runs.{AreRuns, cells_in, cells_of, visible_weight};
 ghost use Rattle.run_store.specs.Shown.{IsInHand};
+ghost use Rattle.node_rope.specs.Items.{value_under};
+ghost use Rattle.node_rope.specs.Places.{StandsAt, weight_sum};
+ghost use Rattle.fugue_ids.specs.declared.limits.TheConstants.{MOST_OPERATIONS};
 
 use crate::find::Spot;
 use crate::letters::Letters;
@@ -42,6 +45,17 @@ fn put_run<O: Out>(
     let start = run.start as usize;
     let end = start + run.len as usize;
     put_letters(&letters.stretch(run.stretch)[start..end], gather, output)
+}
+
+/// How many visible cells of its run stand before the cell at the spot.
+fn visible_within(spot: &Spot) -> usize
+    ensures { result ≡ (if spot.now.run.hidden then 0 else spot.now.offset) }
+{
+    if spot.run.hidden {
+        0
+    } else {
+        spot.offset as usize
+    }
 }
 
 impl Runs {
@@ -82,6 +96,30 @@ impl Runs {
             }),
             None => None,
         }
+    }
+
+    /// How many visible cells stand before this one, which may be hidden itself.
+    pub(crate) fn visible_before(&self, id: ElementId) -> Option<usize>
+        requires { AreRuns self.now }
+        ensures some { IfSome result (λ n. n ≡ shown_before (cells_in self.now) id) }
+        ensures held { IfSome result (λ n. Contains (cell_ids (cells_in self.now)) id) }
+        ensures none { IfNone result (Contains (cell_ids (cells_in self.now)) id → ⊥) }
+    {
+        match self.find(id) {
+            Some(spot) => Some(self.visible_to(&spot.run) + visible_within(&spot)),
+            None => None,
+        }
+    }
+
+    /// How many visible cells stand before the run.
+    fn visible_to(&self, run: &Run) -> usize
+        requires sound { AreRuns self.now }
+        requires held { value_under run.now.id self.now.rope ≡ Some run.now }
+        ensures visible { (i : ℕ) × StandsAt self.now.rope i run.now.id
+            × (result ≡ weight_sum visible_weight (take i self.now.rope)) }
+        ensures few { result ≤ MOST_OPERATIONS }
+    {
+        self.rope.weight_before(run.id).unwrap() as usize
     }
 
     pub(crate) fn nth_visible(&self, i: usize) -> Option<ElementId>

@@ -1,12 +1,13 @@
 -- Stored cells without origins and keys: what is read of them is the same.
-use Rattle.std.proofs.Common.{List, [], ap, false, length, not, refl, true, ℕ, ◌&&◌, ◌||◌, ◌∙◌, ◌∷◌, ◌≡◌, zero, suc}
+use Rattle.std.proofs.Common.{List, [], ap, false, length, not, refl, true, take, ℕ, ◌&&◌, ◌||◌, ◌∙◌, ◌∷◌, ◌≡◌, zero, suc}
 use Rattle.std.specs.Prelude.{cond, if◌then◌else◌, map}
 use Rattle.std.specs.List.{insert}
-use Rattle.std.proofs.lemmas.List.{length-map}
+use Rattle.std.proofs.lemmas.List.{length-map, take-map}
 use Rattle.fugue_ids.specs.Identifiers.{Identifier, id_eq}
-use Rattle.run_store.specs.Cells.{cell_ids as stored_ids, is_hidden_cell as stored_hidden, cell_hiding as stored_hiding, cell_text as stored_text, cells_shown as stored_visible}
+use Rattle.fugue_ids.specs.Listed.{index_of}
+use Rattle.run_store.specs.Cells.{cell_ids as stored_ids, is_hidden_cell as stored_hidden, cell_hiding as stored_hiding, cell_text as stored_text, cells_shown as stored_visible, shown_before as stored_before}
 use Rattle.run_store.specs.declared.cell.Cell.{Cell as StoredCell}
-use Rattle.section_list.specs.Cells.{Cell, section_hiding, section_cell_ids, is_hidden_in_section, section_text, section_cells_shown}
+use Rattle.section_list.specs.Cells.{Cell, section_hiding, section_cell_ids, is_hidden_in_section, section_text, section_cells_shown, section_shown_before}
 use Rattle.section_list.specs.Kept.{plain}
 
 -- their identifiers
@@ -58,3 +59,10 @@ plain_hiding x (c ∷ cs) = λ i. plain_hides x c i ∷ plain_hiding x cs i
 -- how many are visible
 pub plain_count : (cs : List StoredCell) → length (section_cells_shown (map plain cs)) ≡ length (stored_visible cs)
 plain_count cs = ap length (plain_visible cs) ∙ length-map (stored_visible cs) plain
+
+-- how many visible ones stand before one
+pub plain_before : (cs : List StoredCell) (x : Identifier) → section_shown_before (map plain cs) x ≡ stored_before cs x
+plain_before cs x =
+    ap (λ (k : ℕ). length (section_cells_shown (take k (map plain cs)))) (ap (λ ids. index_of ids x) (plain_ids cs))
+    ∙ ap (λ (l : List Cell). length (section_cells_shown l)) (take-map plain (index_of (stored_ids cs) x) cs)
+    ∙ plain_count (take (index_of (stored_ids cs) x) cs)

@@ -1,10 +1,10 @@
-ghost use Rattle.std.specs.Prelude.{◌≡◌, ◌<◌, ◌∷◌, false, true, drop, length, slice_get, OnErr, OnOk};
+ghost use Rattle.std.specs.Prelude.{◌≡◌, ◌↔◌, ◌<◌, ◌∷◌, false, true, drop, length, slice_get, IfSome, IsNone, OnErr, OnOk};
 ghost use Rattle.std.specs.Str.{encode_utf8_all};
 ghost use Rattle.fugue_ids.specs.Gathers.{GathersText};
 ghost use Rattle.fugue_ids.specs.Outs.{WritesBytes};
 ghost use Rattle.origin_model.specs.sides.Node.{has_node, has_origin};
 ghost use Rattle.origin_model.specs.edits.Landing.{following};
-ghost use Rattle.std.specs.List.{insert};
+ghost use Rattle.std.specs.List.{Contains, insert};
 ghost use Rattle.origin_model.specs.sides.KeyedGap.{gap_index};
 ghost use Rattle.origin_model.specs.sides.Node.{IsNew};
 ghost use Rattle.origin_model.specs.sides.Slot.{IsBeside};
@@ -12,7 +12,7 @@ ghost use Rattle.run_store.specs.Cells.{cell_ids as stored_ids};
 ghost use Rattle.run_store.specs.NewCells.{new_cell};
 ghost use Rattle.run_store.specs.Stored.{IsAloneWhereEmpty};
 ghost use Rattle.section_list.specs.Cells.{section_cell_ids, is_hidden_in_section as hidden_in, section_text};
-ghost use Rattle.section_list.specs.Cells.{section_cells_shown};
+ghost use Rattle.section_list.specs.Cells.{section_cells_shown, section_shown_before};
 ghost use Rattle.section_list.specs.Kept.{KeepsNodes};
 ghost use Rattle.section_list.specs.SectionList.{IsInOrder, empty_listing, with_element, with_hidden};
 
@@ -130,6 +130,15 @@ impl SectionList {
         ensures { result ≡ slice_get (section_cell_ids (section_cells_shown self.now.cells)) i }
     {
         self.store.nth_visible(i)
+    }
+
+    /// How many visible elements stand before this one, which may be hidden itself. None is the answer for one that is
+    /// not held.
+    pub fn visible_before(&self, id: ElementId) -> Option<usize>
+        ensures some { IfSome result (λ n. n ≡ section_shown_before self.now.cells id) }
+        ensures none { IsNone result ↔ (Contains (section_cell_ids self.now.cells) id → ⊥) }
+    {
+        self.store.visible_before(id)
     }
 
     /// A walk along the visible elements, in order.
