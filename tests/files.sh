@@ -112,7 +112,7 @@ script no_section 'put 1 0 x' 'drop 2'
 try 'no section' no_section 2 '' 'no section at line 2\n' edit "$f"
 script out_of_range 'put 1 3 x'
 try 'out of range' out_of_range 2 '' 'out of range at line 1\n' edit "$f"
-put bad "$section" '\5'
+put bad "$section" '\6'
 try 'a bad frame' bad 2 '' 'bad frame at byte 14\n' take "$f"
 put cut "$section" '\1\0\0\0'
 try 'a stream that is cut short' cut 2 '' 'cut short at byte 14\n' take "$f"

@@ -112,7 +112,7 @@ printf 'put 1 0 x\nput 9 0 y\n' >"$work/faulty"
 "$program" take "$work/ann" <"$work/odd" 2>/dev/null
 "$program" new "$work/ben" 2 16 </dev/null
 printf 'add 1 The land\nput 1 0 Hills.\n' | "$program" edit "$work/ben" 2>/dev/null
-head -c 300 /dev/zero | tr '\0' '\5' >"$work/bad"
+head -c 300 /dev/zero | tr '\0' '\6' >"$work/bad"
 "$program" why "$work/ben" 1 0 5 </dev/null >"$work/reason"
 
 wants show && refuse_each show '' "$work/odd" show

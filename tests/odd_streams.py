@@ -18,7 +18,7 @@ sys.dont_write_bytecode = True
 import reader
 
 # Bytes at which some field of a frame begins to be wrong, or just is not.
-TELLING = [0, 1, 2, 3, 4, 5, 10, 13, 0x10, 0x11, 0xD7, 0xD8, 0xDF, 0xE0, 0xC1, 0xC3, 0xED, 0xF4, 0xF5, 0xFF]
+TELLING = [0, 1, 2, 3, 4, 5, 6, 10, 13, 0x10, 0x11, 0xD7, 0xD8, 0xDF, 0xE0, 0xC1, 0xC3, 0xED, 0xF4, 0xF5, 0xFF]
 TITLES = ["T", "Sea", "\u00e9", "\U0001f3a9x", "a b", "t" * 480]
 SECTION = bytes.fromhex("01 00000001 00000000 00 00 0001 54")
 
@@ -49,10 +49,20 @@ class Odd:
         scalars = b"".join(self.scalar() for _ in range(count))
         return b"\4" + first + self.section() + self.origin() + self.origin() + count.to_bytes(2, "big") + scalars
 
+    def note(self):
+        """A note, of which the names may be too many, and the body too long."""
+        names = self.random.choice([0, 1, 2, 3] * 20 + [4])
+        body = bytes(self.random.choice(TELLING) for _ in range(self.random.choice([0, 1, 5, 9] * 20 + [1024, 1025])))
+        named = b"".join(self.identifier() for _ in range(names))
+        code = self.random.randrange(256).to_bytes(1, "big")
+        return b"\5" + self.identifier() + names.to_bytes(1, "big") + named + code + len(body).to_bytes(2, "big") + body
+
     def frame(self, runs):
         kind = self.random.random()
-        if runs and kind > 0.7 and kind < 0.9:
+        if runs and kind > 0.75 and kind < 0.9:
             return self.run()
+        if runs and kind > 0.6 and kind <= 0.75:
+            return self.note()
         if kind < 0.2:
             title = self.random.choice(TITLES).encode()
             return b"\1" + self.identifier() + self.origin() + self.origin() + len(title).to_bytes(2, "big") + title

@@ -14,7 +14,7 @@ put waiting "$section" "$after_b"
 put full "$b" "$after_b" "$section" "$after_b"
 put conflict "$section" "$b" "$other_b"
 put stray "$in_b" "$section" "$b"
-put bad "$section" "$section" '\5'
+put bad "$section" "$section" '\6'
 put bad_first "$(letter '0 0' '9 0' '' '' x)"
 put cut "$section" '\1\0\0\0'
 put_long long 10000

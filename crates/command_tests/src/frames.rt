@@ -56,6 +56,20 @@ pub(crate) const BEHIND_A: &[u8] =
 /// The letter c, (2,0), in (1,0).
 pub(crate) const IN_A: &[u8] = b"\x02\0\0\0\x02\0\0\0\0\0\0\0\x01\0\0\0\0\0\0\0\0c";
 
+/// The note 7, (1,0), which says "hi" and names nothing.
+pub(crate) const NOTE: &[u8] = b"\x05\0\0\0\x01\0\0\0\0\0\x07\0\x02hi";
+
+/// The delete of (1,0).
+pub(crate) const DROP_NOTE: &[u8] = b"\x03\0\0\0\x01\0\0\0\0";
+
+/// The note 7, (2,0), which names the section (9,0).
+pub(crate) const NOTE_ON_S: &[u8] = b"\x05\0\0\0\x02\0\0\0\0\x01\0\0\0\x09\0\0\0\0\x07\0\0";
+
+/// A note with the length of its body above 1,024, and one that names four.
+pub(crate) const LONG_NOTE: &[u8] = b"\x05\0\0\0\x01\0\0\0\0\0\x07\x04\x01";
+
+pub(crate) const NOTE_ON_FOUR: &[u8] = b"\x05\0\0\0\x01\0\0\0\0\x04";
+
 /// The letter x, (0,0).
 pub(crate) const NOWHERE: &[u8] = b"\x02\0\0\0\0\0\0\0\0\0\0\0\x09\0\0\0\0\0\0\0\0x";
 

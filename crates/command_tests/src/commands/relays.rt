@@ -109,7 +109,7 @@ const ROWS: &[Row] = &[
     (RELAY, [&[2], &[], &[]], SERVING_FAILED, false, false),
     (RELAY, [&[3], &[], &[]], SERVING_FAILED, false, false),
     (RELAY, [&[4], &[], &[]], SERVING_FAILED, false, false),
-    (RELAY, [&[5], &[], &[]], SERVING_FAILED, false, false),
+    (RELAY, [&[6], &[], &[]], SERVING_FAILED, false, false),
     (RELAY, [&[6], &[], &[]], SERVING_FAILED, false, false),
     (RELAY, [&[7], &[], &[]], SERVING_FAILED, false, false),
     (RELAY, [&[8], &[], &[]], SERVING_FAILED, false, false),

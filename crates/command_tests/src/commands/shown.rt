@@ -3,8 +3,9 @@
 use super::{Fails, NONE, see, see_surely, show_by};
 use crate::assertions::{equal, equal_at, holds_at};
 use crate::frames::{
-    A, A_BEFORE_B, B, BEHIND_A, CUT, D, DROP_B, DROP_D, DROP_S, IN_A, LOWER_A, LOWER_B, NOWHERE,
-    OTHER_A, P, Q, S, SMALL_B, SMALL_X, SMALL_Y, V, X, X_BEFORE_Y, Y, Y_BEHIND_X, Z, stream,
+    A, A_BEFORE_B, B, BEHIND_A, CUT, D, DROP_B, DROP_D, DROP_NOTE, DROP_S, IN_A, LONG_NOTE,
+    LOWER_A, LOWER_B, NOTE, NOTE_ON_FOUR, NOTE_ON_S, NOWHERE, OTHER_A, P, Q, S, SMALL_B, SMALL_X,
+    SMALL_Y, V, X, X_BEFORE_Y, Y, Y_BEHIND_X, Z, stream,
 };
 use crate::memory::list;
 use manuscript_cli::Status;
@@ -121,6 +122,48 @@ const ROWS: &[Row] = &[
         "# T\na\n",
         "accepted 2, repeated 0, waiting 0, conflict 0, stray 1, full 0\n",
         Status::Partial,
+    ),
+    (
+        "show",
+        &[NOTE],
+        "",
+        "accepted 1, repeated 0, waiting 0, conflict 0, stray 0, full 0\n",
+        Status::Done,
+    ),
+    (
+        "show",
+        &[NOTE, DROP_NOTE],
+        "",
+        "accepted 2, repeated 0, waiting 0, conflict 0, stray 0, full 0\n",
+        Status::Done,
+    ),
+    (
+        "show",
+        &[NOTE, IN_A],
+        "",
+        "accepted 1, repeated 0, waiting 0, conflict 0, stray 1, full 0\n",
+        Status::Partial,
+    ),
+    (
+        "show",
+        &[NOTE_ON_S, S, NOTE, LOWER_A],
+        "# T\n\n",
+        "accepted 3, repeated 0, waiting 0, conflict 1, stray 0, full 0\n",
+        Status::Partial,
+    ),
+    (
+        "show",
+        &[S, LONG_NOTE],
+        "",
+        "bad frame at byte 14\n",
+        Status::BadInput,
+    ),
+    (
+        "show",
+        &[S, NOTE_ON_FOUR],
+        "",
+        "bad frame at byte 14\n",
+        Status::BadInput,
     ),
     (
         "show",
@@ -245,7 +288,7 @@ const FAILING: &[Fails] = &[
     [&[2], &[], &[]],
     [&[3], &[], &[]],
     [&[4], &[], &[]],
-    [&[5], &[], &[]],
+    [&[6], &[], &[]],
     [&[6], &[], &[]],
     [&[7], &[], &[]],
     [&[8], &[], &[]],
