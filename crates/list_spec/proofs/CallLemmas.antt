@@ -14,11 +14,12 @@ use Rattle.origin_model.proofs.edits.MadeLemmas.{cut_front, drop_made, put_front
 use Rattle.origin_model.specs.edits.State.{State}
 use Rattle.origin_model.specs.edits.Refusal.{held_count, in_range, in_section, made_by, next_of_own, refusal_message, refused_elements, refused_ops, section_shown, shown_count}
 use Rattle.origin_model.specs.edits.Effect.{LeavesUnmade, StopsPartly, with_ops}
+use Rattle.origin_model.specs.edits.Noting.{note_refusal}
 use Rattle.origin_model.specs.declared.edit_fault.EditFault.{EditFault}
 use Rattle.origin_model.specs.declared.edit_fault.EditFault.TheVariants.{IdsSpent, NoMemory, NoSection, OutOfRange, TooMany}
 use Rattle.origin_model.proofs.edits.RefusalLemmas.{cut_count, if_none, position_within, section_there}
 use Rattle.list_spec.specs.Calls.{CallsAreEdits, CallsAreNotings, IsEdit, IsEditCall}
-use Rattle.list_spec.specs.Worlds.{effect, note_refusal}
+use Rattle.list_spec.specs.Worlds.{effect}
 use Rattle.list_spec.proofs.EffectLemmas.{made_none, made_whole, note_refused, note_whole}
 
 -- want of memory is no cause of a refusal
@@ -205,7 +206,7 @@ note_named s fault k e = named_elements s 1 (k ∙ ap Some e)
 pub calls_are_notings : CallsAreNotings
 calls_are_notings named code body old new (Ok n) held call =
     record {
-      is = λ m. call.made.1.others ∙ sym (ap (with_ops old) (note_whole named code body old (by_refusal (note_refusal old) refl) (list_all-from_AllPass (holds old.held.history) named held)));
+      is = λ m. call.made.gained.others ∙ sym (ap (with_ops old) (note_whole named code body old (by_refusal (note_refusal old) refl) (list_all-from_AllPass (holds old.held.history) named held)));
       unmade = λ e. cc e;
     }
   where

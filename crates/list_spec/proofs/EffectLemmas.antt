@@ -17,11 +17,11 @@ use Rattle.origin_model.specs.edits.Edits.{Add, Command, Cut, DropSection, Put, 
 use Rattle.origin_model.specs.edits.State.{State}
 use Rattle.origin_model.specs.edits.Refusal.{made_by, refusal_message}
 use Rattle.origin_model.specs.edits.Effect.{Lands, with_ops}
+use Rattle.origin_model.specs.edits.Noting.{ShowsAsBefore, note_by, note_refusal}
 use Rattle.origin_model.specs.declared.edit_fault.EditFault.{EditFault}
-use Rattle.origin_model.proofs.edits.NotedLemmas.{note_orders, note_shows, noted_ready}
+use Rattle.origin_model.proofs.edits.NotedLemmas.{noted_ready, noted_shows, unchanged_shows}
 use Rattle.origin_model.proofs.edits.RefusalLemmas.{edit_lands, made_ready}
-use Rattle.list_spec.specs.StrongList.{ShowsTheSame}
-use Rattle.list_spec.specs.Worlds.{annotated, edited, effect, note_effect, note_refusal, noted_by}
+use Rattle.list_spec.specs.Worlds.{annotated, edited, effect, note_effect}
 use Rattle.list_spec.proofs.PoolLemmas.{IsBy}
 
 -- an edit that is not refused makes its operations
@@ -60,7 +60,7 @@ made_are_by r h w (DropSection k) =
 
 -- what a noting makes, as its names are held or not and it is refused or not
 abbrev note_of : State → (named : List Identifier) → (code : ℕ) → (body : List ℕ) → Bool → Option EditFault → List Op
-note_of s named code body b o = elim o [ None ↦ if b then noted_by s named code body ∷ [] else [] | Some fault ↦ [] ]
+note_of s named code body b o = elim o [ None ↦ if b then note_by s named code body ∷ [] else [] | Some fault ↦ [] ]
 
 -- what an edit or a noting makes, refused or not
 pub record IsEffect (s : State) (ops : List Op) : Type 0 where
@@ -93,7 +93,7 @@ note_lacking named code body s k = ap (λ b. note_of s named code body b (note_r
 
 -- any other makes its note
 pub note_whole : (named : List Identifier) (code : ℕ) (body : List ℕ) (s : State) → note_refusal s ≡ None → list_all (holds s.held.history) named ≡ true
-    → note_effect s named code body ≡ noted_by s named code body ∷ []
+    → note_effect s named code body ≡ note_by s named code body ∷ []
 note_whole named code body s e k = λ i. note_of s named code body (k i) (e i)
 
 -- so what a noting makes, its note or nothing, is Ready and its replica's own
@@ -108,20 +108,17 @@ note_effect_is named code body s w = by_refusal (note_refusal s) refl
     by_refusal None e =
         elim (cases_Bool (list_all (holds s.held.history) named)) [
           | inl t ↦ subst (IsEffect s) (sym (note_whole named code body s e t)) (record {
-            ready = (noted_ready s.held.history s.held.waiting s.number named code body w (AllPass-from_list_all (holds s.held.history) named t), tt);
-            by = All-cons (IsBy s.number) (noted_by s named code body) [] refl (All-nil (IsBy s.number));
+            ready = (noted_ready s.number s.held.history s.held.waiting named code body w (AllPass-from_list_all (holds s.held.history) named t), tt);
+            by = All-cons (IsBy s.number) (note_by s named code body) [] refl (All-nil (IsBy s.number));
           })
           | inr f ↦ subst (IsEffect s) (sym (note_lacking named code body s f)) none
         ]
 
--- a noting shows nothing
-pub note_quiet : (named : List Identifier) (code : ℕ) (body : List ℕ) (s : State) → ShowsTheSame s (annotated named code body s)
-note_quiet named code body s = by (list_all (holds s.held.history) named) (note_refusal s)
+-- a noting shows nothing, and what waits waits
+pub note_quiet : (named : List Identifier) (code : ℕ) (body : List ℕ) (s : State) → ShowsAsBefore s (annotated named code body s) × ((annotated named code body s).held.waiting ≡ s.held.waiting)
+note_quiet named code body s = (by (list_all (holds s.held.history) named) (note_refusal s), refl)
   where
-    same : ShowsTheSame s (with_ops s [])
-    same = record { orders = λ p. refl; shows = λ p. refl; waits = refl }
-
-    by : (b : Bool) (o : Option EditFault) → ShowsTheSame s (with_ops s (note_of s named code body b o))
-    by true None = record { orders = λ p. note_orders p s.held.history _ named code body; shows = λ p. note_shows p s.held.history _ named code body; waits = refl }
-    by false None = same
-    by b (Some fault) = same
+    by : (b : Bool) (o : Option EditFault) → ShowsAsBefore s (with_ops s (note_of s named code body b o))
+    by true None = noted_shows s (with_ops s (note_by s named code body ∷ [])) named code body refl
+    by false None = unchanged_shows s s refl
+    by b (Some fault) = unchanged_shows s s refl

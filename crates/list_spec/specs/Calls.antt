@@ -1,14 +1,14 @@
 -- The calls by which authors edit a replica and make notes, as events of a world.
-use Rattle.std.specs.Prelude.{◌≡◌, ◌≢◌, ◌↔◌, ℕ, Result, Err, Some, IfOk, IfErr, OnErr, List, [], ◌∷◌, All, true, take}
+use Rattle.std.specs.Prelude.{◌≡◌, ◌≢◌, ℕ, Result, Err, IfOk, IfErr, OnErr, List, take}
 use Rattle.fugue_ids.specs.Identifiers.{Identifier}
-use Rattle.origin_model.specs.operations.History.{holds}
 use Rattle.origin_model.specs.edits.Edits.{Command}
 use Rattle.origin_model.specs.edits.State.{State}
 use Rattle.origin_model.specs.edits.Refusal.{RefusesExactly}
-use Rattle.origin_model.specs.edits.Effect.{Gains, IsMade, LeavesUnmade}
+use Rattle.origin_model.specs.edits.Effect.{IsMade, LeavesUnmade}
+use Rattle.origin_model.specs.edits.Noting.{AreHeld, IsNoted, RefusesNote}
 use Rattle.origin_model.specs.declared.edit_fault.EditFault.{EditFault}
 use Rattle.origin_model.specs.declared.edit_fault.EditFault.TheVariants.{NoMemory}
-use Rattle.list_spec.specs.Worlds.{annotated, edited, effect, note_refusal, noted_by}
+use Rattle.list_spec.specs.Worlds.{annotated, edited, effect}
 
 -- what `put`, `cut`, `add` and `drop_section` promise of the edit that they are asked for
 pub record IsEditCall (command : Command) (old new : State) (result : Result ℕ EditFault) : Type 0 where
@@ -30,8 +30,8 @@ CallsAreEdits = (command : Command) (old new : State) (result : Result ℕ EditF
 
 -- what `note` promises of the note that it is asked for
 pub record IsNoteCall (named : List Identifier) (code : ℕ) (body : List ℕ) (old new : State) (result : Result ℕ EditFault) : Type 0 where
-  pub made : IfOk result (λ n. (n ≡ 1) × Gains old new (noted_by old named code body ∷ []))
-  pub refused : (fault : EditFault) → fault ≢ NoMemory → (result ≡ Err fault) ↔ (note_refusal old ≡ Some fault)
+  pub made : IfOk result (λ n. IsNoted old new named code body n)
+  pub refused : RefusesNote old result
   pub unmade : OnErr result (new ≡ old)
 
 -- the call is a noting of the world or, where memory was wanting, no event of it
@@ -42,5 +42,5 @@ pub record IsNoting (named : List Identifier) (code : ℕ) (body : List ℕ) (ol
 -- so is every such call where all that is named is held
 abbrev pub CallsAreNotings : Type 0
 CallsAreNotings =
-    (named : List Identifier) (code : ℕ) (body : List ℕ) (old new : State) (result : Result ℕ EditFault) → All (λ i. holds old.held.history i ≡ true) named
+    (named : List Identifier) (code : ℕ) (body : List ℕ) (old new : State) (result : Result ℕ EditFault) → AreHeld old.held.history named
     → IsNoteCall named code body old new result → IsNoting named code body old new result

@@ -13,6 +13,7 @@ use Rattle.origin_model.specs.operations.History.{HaveOtherIds}
 use Rattle.origin_model.specs.edits.State.{State}
 use Rattle.origin_model.specs.edits.Refusal.{refusal_message}
 use Rattle.origin_model.specs.edits.Effect.{Lands}
+use Rattle.origin_model.specs.edits.Noting.{ShowsAsBefore}
 use Rattle.list_spec.specs.Worlds.{AreNew, Event, annotated, edited, world}
 
 -- a replica's history is lawful and made of operations of the pool; its elements stand in the order of the pool, with those that it lacks left out, and of these it shows the ones that no Delete of its own history names
@@ -38,12 +39,8 @@ EditsLand =
     (replicas : List State) (events : List Event) (command : Command) → AreNew replicas
     → All (λ (s : State). refusal_message s command ≡ None → Lands s (edited command s) command) (world replicas events).replicas
 
--- what is waiting, and what each place has and shows, is as before
-pub record ShowsTheSame (old new : State) : Type 0 where
-  pub orders : (p : Place) → order p new.held.history ≡ order p old.held.history
-  pub shows : (p : Place) → shown p new.held.history ≡ shown p old.held.history
-  pub waits : new.held.waiting ≡ old.held.waiting
-
--- a noting moves, hides and shows nothing
+-- a noting leaves what each place has and shows, and what waits
 abbrev pub NotingsShowNothing : Type 0
-NotingsShowNothing = (named : List Identifier) (code : ℕ) (body : List ℕ) (s : State) → ShowsTheSame s (annotated named code body s)
+NotingsShowNothing =
+    (named : List Identifier) (code : ℕ) (body : List ℕ) (s : State)
+    → ShowsAsBefore s (annotated named code body s) × ((annotated named code body s).held.waiting ≡ s.held.waiting)

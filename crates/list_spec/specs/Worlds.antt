@@ -1,16 +1,16 @@
 -- Worlds: replicas that authors edit and in which they make notes, and to which the operations that were made are delivered, in whatever order and however often.
 -- A history and a pool are newest first.
-use Rattle.std.specs.Prelude.{◌≡◌, ◌≢◌, ℕ, nat_eq, if◌then◌else◌, Option, Some, None, List, [], ◌∷◌, map, flat_map, All, AllPairs}
+use Rattle.std.specs.Prelude.{◌≡◌, ◌≢◌, ℕ, nat_eq, if◌then◌else◌, Some, None, List, [], ◌∷◌, map, flat_map, All, AllPairs}
 use Rattle.std.specs.List.{list_all}
 use Rattle.fugue_ids.specs.Identifiers.{Identifier}
 use Rattle.fugue_ids.specs.declared.op.Op.{Op}
 use Rattle.origin_model.specs.operations.History.{has_op, holds}
 use Rattle.origin_model.specs.taking.Taking.{intake, nothing_held}
-use Rattle.origin_model.specs.edits.Edits.{Command, noted}
+use Rattle.origin_model.specs.edits.Edits.{Command}
 use Rattle.origin_model.specs.edits.State.{State}
-use Rattle.origin_model.specs.edits.Refusal.{made_by, refusal_message, refused_elements}
+use Rattle.origin_model.specs.edits.Refusal.{made_by, refusal_message}
 use Rattle.origin_model.specs.edits.Effect.{with_ops}
-use Rattle.origin_model.specs.declared.edit_fault.EditFault.{EditFault}
+use Rattle.origin_model.specs.edits.Noting.{note_by, note_refusal}
 
 -- what happens in a world, one at a time
 pub data Event : Type 0 where
@@ -42,18 +42,10 @@ effect s command = elim (refusal_message s command) [ None ↦ made_by s command
 abbrev pub edited : Command → State → State
 edited command s = with_ops s (effect s command)
 
--- the note that a replica makes
-abbrev pub noted_by : State → (named : List Identifier) → (code : ℕ) → (body : List ℕ) → Op
-noted_by s named code body = noted s.held.history s.held.waiting s.number named code body
-
--- why a note is refused: it is one element more
-abbrev pub note_refusal : State → Option EditFault
-note_refusal s = refused_elements s 1
-
 -- the operation of a noting: none where it is refused, or names what is not held
 abbrev pub note_effect : State → (named : List Identifier) → (code : ℕ) → (body : List ℕ) → List Op
 note_effect s named code body =
-    elim (note_refusal s) [ None ↦ if list_all (holds s.held.history) named then noted_by s named code body ∷ [] else [] | Some fault ↦ [] ]
+    elim (note_refusal s) [ None ↦ if list_all (holds s.held.history) named then note_by s named code body ∷ [] else [] | Some fault ↦ [] ]
 
 -- the replica behind a noting
 abbrev pub annotated : (named : List Identifier) → (code : ℕ) → (body : List ℕ) → State → State

@@ -9,7 +9,7 @@ pub mod MadeLemmas
 pub mod EditedTextLemmas
 pub mod NextCounterLemmas
 pub mod EditIntakeLemmas
-pub mod NotedLemmas
 pub mod RefusalLemmas
+pub mod NotedLemmas
 pub mod EditExamples
 pub mod PassageLemmas
