@@ -149,9 +149,9 @@ making_goes w n makes own g =
           let all : All (IsMember w.pool) (k.front ++ k.it ∷ k.back) = subst (All (IsMember w.pool)) k.whole g.members in
           let rest : All (IsMember w.pool) (k.it ∷ k.back) = all_behind (IsMember w.pool) k.front (k.it ∷ k.back) all in
           let it : IsMember w.pool k.it = All-head (IsMember w.pool) k.it k.back rest in
-          let effect : IsEffect k.it ops = own k.it it.lawful in
-          let by : All (IsBy n) ops = subst (λ m. All (IsBy m) ops) k.number effect.by in
-          let new = gains w.pool ops k.it g.lawful it effect in
+          let its : IsEffect k.it ops = own k.it it.lawful in
+          let by : All (IsBy n) ops = subst (λ m. All (IsBy m) ops) k.number its.by in
+          let new = gains w.pool ops k.it g.lawful it its in
           let M : State → Type 0 = IsMember (pooled w.pool ops) in
           subst (λ (x : World). Goes x.pool x.replicas)
           (λ i. record { replicas = sym (one_changes n made w.replicas k) i; pool = pooled w.pool (sym (one_makes n makes w.replicas k) i) }) (
