@@ -1,6 +1,6 @@
 -- What the bytes of a whole frame say, field by field.
-use Rattle.std.proofs.Common.{◌≡◌, ℕ, zero, suc, ◌-◌, ◌+◌, ◌<◌, ◌≤◌, List, [], ◌∷◌, ◌++◌, length, take, drop, get_or, refl, ap, sym, subst, ◌∙◌, arith}
-use Rattle.std.specs.Prelude.{All, Option, Some, None, flat_map}
+use Rattle.std.proofs.Common.{◌≡◌, ℕ, zero, suc, ◌-◌, ◌<◌, ◌≤◌, List, [], ◌∷◌, ◌++◌, length, take, drop, get_or, refl, ap, sym, subst, ◌∙◌, arith}
+use Rattle.std.specs.Prelude.{Option, Some, None, flat_map}
 use Rattle.std.specs.Str.{encode_utf8_all}
 use Rattle.std.specs.Int.{byte_at}
 use Rattle.std.specs.Char.{IsScalar}
@@ -11,7 +11,7 @@ use Rattle.fugue_ids.specs.declared.op.Op.{Op}
 use Rattle.fugue_ids.specs.declared.op.Op.TheVariants.{Delete, Note, Section, Text as TextOp}
 use Rattle.origin_model.specs.declared.grammar.Grammar.{Grammar}
 use Rattle.origin_model.specs.declared.grammar.Grammar.TheVariants.{Version2}
-use Rattle.origin_model.specs.frames.Frames.{AreNames, IsBody, IsByte, IsFrame, IsIdentifier, IsItem, IsOrigin, IsTitle, Item, Single, Typed, body_bytes, frame, id_bytes, item_bytes, item_ops, names_bytes, origin_bytes, title_bytes}
+use Rattle.origin_model.specs.frames.Frames.{AreNames, IsByte, IsFrame, IsIdentifier, IsItem, IsOrigin, IsTitle, Item, Single, Typed, frame, id_bytes, item_bytes, item_ops, names_bytes, origin_bytes, title_bytes}
 use Rattle.op_frame.specs.Firsts.{StartsWith}
 use Rattle.op_frame.specs.FrameFronts.{AreNamesBytes, Completes, IsBodyBytes, IsCodeBytes, IsFrameOf, IsIdentifierBytes, IsLast, IsOriginBytes, IsOwnFrame, LeavesDue, Several, Then, scalar_of_bytes}
 use Rattle.op_frame.specs.declared.due.Due.{Due}

@@ -2,15 +2,13 @@
 use Rattle.std.proofs.Common.{◌≡◌, ℕ, zero, suc, ◌+◌, ◌-◌, ◌*◌, ◌<◌, ◌≤◌, false, List, [], ◌∷◌, ◌++◌, length, drop, get_or, refl, ap, sym, subst, ◌∙◌, ◌⊎◌, append_assoc, arith, inl, inr, length-append, length-drop}
 use Rattle.std.specs.Prelude.{◌↔◌, ◌^◌, All, Option, Some, None, SomeIff, is_some, flat_map}
 use Rattle.std.specs.Char.{IsScalar}
-use Rattle.std.specs.Int.{byte_at, from_be_bytes, to_be_bytes, w16, w32}
+use Rattle.std.specs.Int.{byte_at, to_be_bytes, w16, w32}
 use Rattle.std.specs.Str.{IsUtf8, chars, encode_utf8_all}
 use Rattle.std.proofs.Math.Seq.{drop-append_seam, take-append_seam}
 use Rattle.std.proofs.lemmas.Bool.{or_from, or_parts}
 use Rattle.std.proofs.lemmas.Bool.Decides.{nat_tests}
 use Rattle.std.proofs.lemmas.List.{append-nil}
-use Rattle.std.proofs.lemmas.List.Elements.{All-cons, All-head, All-nil, All-tail}
 use Rattle.std.proofs.lemmas.List.Folds.{list_any-append}
-use Rattle.std.proofs.lemmas.Nat.{from_be_bytes-to_be_bytes_2}
 use Rattle.std.proofs.lemmas.Str.{encodes-chars, IsCharBoundary-from_take, IsUtf8-append, IsUtf8-drop, IsUtf8-nil}
 use Rattle.fugue_ids.specs.Identifiers.{Identifier}
 use Rattle.fugue_ids.specs.Titles.{ends_line, has_line_end}

@@ -1,11 +1,10 @@
 -- What is due behind some bytes of a note's names, of its code, or of its body.
-use Rattle.std.proofs.Common.{◌≡◌, ℕ, zero, suc, ◌-◌, ◌*◌, ◌+◌, ◌<◌, ◌≤◌, List, [], ◌∷◌, ◌++◌, length, get_or, refl, ap, sym, subst, ◌∙◌, arith, length-append}
+use Rattle.std.proofs.Common.{◌≡◌, ℕ, zero, suc, ◌-◌, ◌*◌, ◌+◌, ◌≤◌, List, [], ◌∷◌, ◌++◌, length, get_or, refl, ap, sym, subst, ◌∙◌, arith, length-append}
 use Rattle.std.specs.Prelude.{◌↔◌, All, flat_map}
 use Rattle.std.specs.Int.{to_be_bytes, w16}
-use Rattle.std.proofs.lemmas.List.Elements.{All-append, All-cons, All-head, All-nil, All-tail}
-use Rattle.fugue_ids.specs.Identifiers.{Identifier}
+use Rattle.std.proofs.lemmas.List.Elements.{All-append, All-cons, All-nil, All-tail}
 use Rattle.fugue_ids.specs.declared.limits.TheConstants.{LONGEST_BODY, MOST_NAMES}
-use Rattle.origin_model.specs.frames.Frames.{AreNames, IsBody, IsByte, body_bytes, id_bytes, names_bytes}
+use Rattle.origin_model.specs.frames.Frames.{IsBody, IsByte, id_bytes, names_bytes}
 use Rattle.op_frame.specs.FrameFronts.{AreNamesBytes, Completes, IsBodyBytes, IsBodyEnd, IsCodeBytes, IsDueFront, IsIdentifierBytes, IsSoundDue, LeavesDue, Several, Then, body_due}
 use Rattle.op_frame.specs.declared.due.Due.TheVariants.{Fields}
 use Rattle.op_frame.specs.declared.due.Last.TheVariants.{Body, Code, Length, Names}

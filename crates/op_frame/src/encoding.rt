@@ -2,13 +2,16 @@ ghost use Rattle.std.specs.Prelude.{◌≡◌, ◌≤◌, ◌+◌, ◌*◌, ◌+
 ghost use Rattle.std.specs.Prelude.{vec_len, vec_capacity, OnOk, OnErr};
 ghost use Rattle.origin_model.specs.frames.Frames.{HasFrame, frame, scalar_bytes};
 ghost use Rattle.origin_model.specs.frames.Frames.{body_bytes, id_bytes, names_bytes, origin_bytes, title_bytes};
+ghost use Rattle.fugue_ids.specs.declared.op.Op.TheVariants.{Note as NoteOp};
 ghost use Rattle.origin_model.specs.frames.Framings.{scalar_in};
 ghost use Rattle.op_frame.specs.Encoded.{Puts};
 ghost use Rattle.op_frame.specs.Stretches.{AreTyped, WritesRun};
 
 use crate::framed::has_frame;
 use crate::protocol::{DELETE, NOTE, RUN, SECTION, TEXT};
-use fugue_ids::{Body, ElementId, LONGEST_BODY, LONGEST_TITLE, MOST_NAMES, NoMemory, NoteNames, Op, Title};
+use fugue_ids::{
+    Body, ElementId, LONGEST_BODY, LONGEST_TITLE, MOST_NAMES, NoMemory, NoteNames, Op, Title,
+};
 
 /// The most Texts of a run.
 pub(crate) const LONGEST_RUN: usize = 1_024;
@@ -68,15 +71,20 @@ pub fn encode(op: &Op, out: &mut Vec<u8>) -> Result<(), NoMemory>
             names,
             code,
             body,
-        } => {
-            put(out, &[NOTE]);
-            put_id(out, *id);
-            put_names(out, names);
-            put(out, &[*code]);
-            put_body(out, body);
-        }
+        } => put_note(out, *id, names, *code, body),
     }
     Ok(())
+}
+
+fn put_note(out: &mut Vec<u8>, id: ElementId, names: &NoteNames, code: u8, body: &Body)
+    requires { vec_len out.old + LONGEST_SINGLE ≤ vec_capacity out.old }
+    ensures { Puts out.old out.new (frame (NoteOp id names.now code body.now)) }
+{
+    put(out, &[NOTE]);
+    put_id(out, id);
+    put_names(out, names);
+    put(out, &[code]);
+    put_body(out, body);
 }
 
 /// Appends the frame of the run that has these operations.
@@ -149,7 +157,8 @@ fn put_title(out: &mut Vec<u8>, title: &Title)
 
 fn put_names(out: &mut Vec<u8>, names: &NoteNames)
     requires { vec_len out.old + 1 + 8 * MOST_NAMES ≤ vec_capacity out.old }
-    ensures { Puts out.old out.new (names_bytes names.now) }
+    ensures puts { Puts out.old out.new (names_bytes names.now) }
+    ensures few { length names.now ≤ MOST_NAMES }
 {
     let ids = names.as_slice();
     put(out, &[ids.len() as u8]);

@@ -6,8 +6,8 @@ ghost use Rattle.op_frame.specs.declared.grown.Grown.TheVariants.{Frame as Whole
 
 use crate::due::{Due, Judged, Last};
 use crate::grown::Grown;
-use crate::number::number;
 use crate::note::{judge_body, judge_code, judge_length, judge_names};
+use crate::number::number;
 use crate::protocol::{DELETE, NOTE, RUN, SECTION, TEXT};
 use crate::run_fields::{judge_count, judge_first, judge_scalar};
 use crate::title::{judge_text, judge_title};

@@ -1,6 +1,5 @@
-use Rattle.std.proofs.Common.{List, ap, append_assoc, arith, subst, sym, ℕ, ◌++◌, ◌∙◌, ◌≡◌}
-use Rattle.origin_model.specs.frames.Frames.{HasFrame, frame}
-use Rattle.op_frame.proofs.FieldLemmas.{length-identifiers}
+use Rattle.std.proofs.Common.{List, ap, append_assoc, sym, ℕ, ◌++◌, ◌∙◌, ◌≡◌}
+use Rattle.origin_model.specs.frames.Frames.{frame}
 use Rattle.op_frame.proofs.encoding.encode.Goals as goal
 
 -- six parts one behind the other
@@ -13,41 +12,3 @@ returns-in-Text-clause-ok c =
     six_parts _ _ _ _ _ _ _ _ _ _ _ _ _ _ c.reserve.ensures.items c.put-in-Text.ensures.items c.put_id-in-Text.ensures.items c.put_id-in-Text-2.ensures.items
     c.put_origin-in-Text.ensures.items c.put_origin-in-Text-2.ensures.items c.put_scalar.ensures.items
     ∙ ap (λ (l : List ℕ). c.args.out.now.items ++ l) (sym (ap frame c.in-Text.is))
-
-pub put-requires-in-Note-2 : goal.put-requires-in-Note-2
-put-requires-in-Note-2 c =
-    let has = subst HasFrame c.in-Note.is c.has_frame.ensures in
-    omega (
-      arith,
-      has.1.few,
-      length-identifiers c.in-Note.names,
-      c.in_ok-reserve.ensures.ok,
-      c.in_ok-reserve.ensures.capacity,
-      c.in_ok-reserve.ensures.len,
-      c.put-in-Note.ensures.len,
-      c.put-in-Note.ensures.capacity,
-      c.put_id-in-Note.ensures.len,
-      c.put_id-in-Note.ensures.capacity,
-      c.put_names.ensures.len,
-      c.put_names.ensures.capacity,
-    )
-
-pub put_body-requires : goal.put_body-requires
-put_body-requires c =
-    let has = subst HasFrame c.in-Note.is c.has_frame.ensures in
-    omega (
-      arith,
-      has.1.few,
-      length-identifiers c.in-Note.names,
-      c.in_ok-reserve.ensures.ok,
-      c.in_ok-reserve.ensures.capacity,
-      c.in_ok-reserve.ensures.len,
-      c.put-in-Note.ensures.len,
-      c.put-in-Note.ensures.capacity,
-      c.put_id-in-Note.ensures.len,
-      c.put_id-in-Note.ensures.capacity,
-      c.put_names.ensures.len,
-      c.put_names.ensures.capacity,
-      c.put-in-Note-2.ensures.len,
-      c.put-in-Note-2.ensures.capacity,
-    )

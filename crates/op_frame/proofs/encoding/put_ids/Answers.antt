@@ -1,4 +1,4 @@
-use Rattle.std.proofs.Common.{List, [], ap, append_assoc, arith, subst, sym, suc, take, ℕ, ◌+◌, ◌++◌, ◌<◌, ◌∙◌, ◌∷◌, ◌≡◌, get_or, length, add-one}
+use Rattle.std.proofs.Common.{List, [], ap, append_assoc, arith, sym, take, ℕ, ◌+◌, ◌++◌, ◌<◌, ◌∙◌, ◌∷◌, ◌≡◌, get_or, length, add-one}
 use Rattle.std.specs.Prelude.{flat_map}
 use Rattle.std.proofs.Math.Seq.{take-suc}
 use Rattle.std.proofs.lemmas.List.{flat_map_more}
