@@ -26,3 +26,4 @@ pub mod BlameLemmas
 pub mod RunBlameLemmas
 pub mod WhyLemmas
 pub mod CheckLemmas
+pub mod NoteLemmas

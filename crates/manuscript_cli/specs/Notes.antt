@@ -2,7 +2,7 @@
 use Rattle.std.specs.Prelude.{◌≡◌, ℕ, List, [], ◌∷◌, None, Result, Ok, Err}
 use Rattle.fugue_ids.specs.Identifiers.{Identifier}
 use Rattle.fugue_ids.specs.declared.op.Op.{Op}
-use Rattle.origin_model.specs.edits.Effect.{with_ops}
+use Rattle.origin_model.specs.edits.Effect.{Gains, with_ops}
 use Rattle.origin_model.specs.edits.Noting.{AreHeld, note_by, note_refusal}
 use Rattle.origin_model.specs.edits.State.{State as Replica}
 use Rattle.manuscript_cli.specs.Edit.{made_outcome}
@@ -37,7 +37,7 @@ pub record MadeNote (found : Finding Op) (old new : Replica) : Type 0 where
   pub found_is : found ≡ Does (note_by old named code body)
   pub held : AreHeld old.held.history named
   pub allowed : note_refusal old ≡ None
-  pub others : new ≡ with_ops old (note_by old named code body ∷ [])
+  pub gained : Gains old new (note_by old named code body ∷ [])
 
 -- what came of the call that makes it
 abbrev pub NoteComes : Finding Op → (old new : Replica) → Result (Unit {0}) Refusal → Type 0
