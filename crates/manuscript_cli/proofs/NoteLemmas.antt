@@ -9,7 +9,7 @@ use Rattle.origin_model.specs.operations.History.{accepted}
 use Rattle.origin_model.specs.taking.Taking.{IsSettled}
 use Rattle.origin_model.proofs.edits.NotedLemmas.{note_fits, note_is_taken_in}
 use Rattle.edit_script.proofs.TakenInLemmas.{all_find_place}
-use Rattle.edit_script.specs.Scripts.{AreTakenIn}
+use Rattle.edit_script.specs.Laws.{AreTakenIn}
 use Rattle.manuscript_cli.specs.Edit.{made_outcome}
 use Rattle.manuscript_cli.specs.Findings.{Finding, Refuses, Does}
 use Rattle.manuscript_cli.specs.Giving.{GivesTo}
