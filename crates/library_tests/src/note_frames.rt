@@ -142,11 +142,7 @@ fn a_body_has_up_to_1024_bytes(rt: HostRuntime) -> Result<(), Fail> {
     let refused = Body::read(rt.alloc(), &longest);
     holds_at(&rt, &1_025, matches!(refused, Err(BodyFault::TooLong)));
     let bytes = with_body(&rt, &longest)?;
-    equal(
-        &rt,
-        pushed(Grammar::Version2, &bytes),
-        (12, Grown::Bad),
-    );
+    equal(&rt, pushed(Grammar::Version2, &bytes), (12, Grown::Bad));
     Ok(())
 }
 
