@@ -26,4 +26,3 @@ pub mod BlameLemmas
 pub mod RunBlameLemmas
 pub mod WhyLemmas
 pub mod CheckLemmas
-pub mod NoteLemmas

@@ -23,7 +23,7 @@ use Rattle.manuscript_cli.specs.Report.{ReportMeets, print_tells, printed_of}
 use Rattle.manuscript_cli.specs.Run.{Meets}
 use Rattle.manuscript_cli.specs.Touched.{Change, IsTold, Touched, change}
 use Rattle.manuscript_cli.specs.declared.command.Command.{Command}
-use Rattle.manuscript_cli.specs.declared.command.Command.TheVariants.{Move, New, Print, Retitle, Show, Why}
+use Rattle.manuscript_cli.specs.declared.command.Command.TheVariants.{New, Print, Show, Why}
 use Rattle.manuscript_cli.specs.declared.status.Status.{Status}
 use Rattle.manuscript_cli.specs.declared.status.Status.TheVariants as status
 
@@ -36,14 +36,11 @@ pub named_in_range : (words : List (List ℕ)) (command : Command) → Names wor
 named_in_range words (Show hold) named = hold_in_range words hold named
 named_in_range words (New replica hold) named = (named.replica_is.from, record { from = named.hold_is.from; to = named.hold_is.to })
 named_in_range words (Why k p q) named = named.section_is.from
-named_in_range words (Move k j) named = (named.section_is.from, named.place_is.from)
-named_in_range words (Retitle k) named = named.section_is.from
 named_in_range words _ named = tt
 
 -- the command that was read is the one that is named
-pub meets_named : (words : List (List ℕ)) (command named : Command) (old new : Touched) (end : Status) → Some command ≡ Some named → Meets words (Some command) old new end
-    → Meets words (Some named) old new end
-meets_named words command named old new end same meets = subst (λ c. Meets words c old new end) same meets
+pub meets_named : (command named : Command) (old new : Touched) (end : Status) → Some command ≡ Some named → Meets (Some command) old new end → Meets (Some named) old new end
+meets_named command named old new end same meets = subst (λ c. Meets c old new end) same meets
 
 same_text : (a b : List ℕ) → Does a ≡ Does b → a ≡ b
 same_text a b e = cc
@@ -53,10 +50,10 @@ file_by_set : OrderBySet → (file : Change DiskView) (output notes : Change Out
     → (replica : Replica) (at : End) → FileHolds file.old replica at → PrintedBySet replica.held.history output
 file_by_set order file output notes wrote told replica at holds =
     let same = holds_once file.old told (replica, at) (wrote.found.0, wrote.found.1) holds wrote.found.2 in
-    let text : wrote.bytes ≡ manuscript replica.held.history = same_text wrote.bytes (printed_of wrote.found.0) wrote.found.3 ∙ sym (ap (λ (l : Replica × End). manuscript l.0.held.history) same) in
+    let text : wrote.bytes ≡ manuscript replica.held.history = same_text wrote.bytes (printed_of wrote.found.0.held) wrote.found.3 ∙ sym (ap (λ (l : Replica × End). manuscript l.0.held.history) same) in
     printed_by_set order replica.held.history output (loaded_lawful file.old told replica at holds) (subst (Took output.old output.new) text wrote.came.wrote)
 
-pub prints_by_set : OrderBySet → (words : List (List ℕ)) (old new : Touched) (end : Status) → Meets words (Some Print) old new end → PrintsBySet old.home (change old.streams.output new.streams.output) end
-prints_by_set order words old new end meets done =
+pub prints_by_set : OrderBySet → (old new : Touched) (end : Status) → Meets (Some Print) old new end → PrintsBySet old.home (change old.streams.output new.streams.output) end
+prints_by_set order old new end meets done =
     file_by_set order (change old.home new.home) (change old.streams.output new.streams.output) (change old.streams.notes new.streams.notes)
     (subst (ReportMeets print_tells (change old.home new.home) (change old.streams.output new.streams.output) (change old.streams.notes new.streams.notes)) done meets.does.meets)

@@ -19,7 +19,6 @@ pub mod New
 pub mod Saving
 pub mod Take
 pub mod Merge
-pub mod Notes
 pub mod Sync
 pub mod Edit
 pub mod Giving

@@ -20,7 +20,7 @@ use Rattle.replica_file.specs.declared.load_file.LoadFault.{LoadFault}
 use Rattle.replica_file.specs.declared.load_file.LoadFault.TheVariants as load_fault
 use Rattle.manuscript_cli.specs.Touched.{HasRoom, StaysCalm, notes_room}
 use Rattle.manuscript_cli.specs.declared.refusal.Refusal.{Refusal}
-use Rattle.manuscript_cli.specs.declared.refusal.Refusal.TheVariants.{Words, BadFrame, CutShort, BadLine, NoSectionAtLine, OutOfRangeAtLine, NotReplica, BadBatch, NotEmpty, TooMany, IdsSpent, TooLong, BatchTooLong, BadReply, RelayRefused, ReplyCutShort, NoSuchPlaces, NoSection, NoPlace, StampsSpent, Outside, NoMemory}
+use Rattle.manuscript_cli.specs.declared.refusal.Refusal.TheVariants.{Words, BadFrame, CutShort, BadLine, NoSection, OutOfRange, NotReplica, BadBatch, NotEmpty, TooMany, IdsSpent, TooLong, BatchTooLong, BadReply, RelayRefused, ReplyCutShort, NoSuchPlaces, Outside, NoMemory}
 use Rattle.manuscript_cli.specs.declared.status.Status.{Status}
 use Rattle.manuscript_cli.specs.declared.status.Status.TheVariants as status
 
@@ -39,8 +39,8 @@ row_of Words = row status.Usage (codes "words not understood") None
 row_of (BadFrame offset) = row status.BadInput (codes "bad frame at byte ") (Some offset)
 row_of (CutShort offset) = row status.BadInput (codes "cut short at byte ") (Some offset)
 row_of (BadLine line) = row status.BadInput (codes "bad line ") (Some line)
-row_of (NoSectionAtLine line) = row status.BadInput (codes "no section at line ") (Some line)
-row_of (OutOfRangeAtLine line) = row status.BadInput (codes "out of range at line ") (Some line)
+row_of (NoSection line) = row status.BadInput (codes "no section at line ") (Some line)
+row_of (OutOfRange line) = row status.BadInput (codes "out of range at line ") (Some line)
 row_of NotReplica = row status.BadFile (codes "not a replica") None
 row_of (BadBatch slot) = row status.BadFile (codes "bad batch ") (Some slot)
 row_of NotEmpty = row status.BadFile (codes "not empty") None
@@ -52,9 +52,6 @@ row_of (BadReply offset) = row status.BadInput (codes "bad reply at byte ") (Som
 row_of (RelayRefused code) = row status.BadInput (codes "relay refused ") (Some code)
 row_of (ReplyCutShort offset) = row status.BadInput (codes "reply cut short at byte ") (Some offset)
 row_of NoSuchPlaces = row status.BadInput (codes "no such places") None
-row_of (NoSection section) = row status.BadInput (codes "no section ") (Some section)
-row_of (NoPlace place) = row status.BadInput (codes "no place ") (Some place)
-row_of StampsSpent = row status.Limit (codes "stamps spent") None
 row_of Outside = row status.OutsideFault (codes "outside fault") None
 row_of NoMemory = row status.NoMemory (codes "no memory") None
 
@@ -91,8 +88,8 @@ feed_refusal feed_fault.NoMemory = NoMemory
 -- why a script stopped, as a refusal
 abbrev pub script_refusal : ScriptFault → Refusal
 script_refusal (script_fault.BadLine line) = BadLine line
-script_refusal (script_fault.NoSection line) = NoSectionAtLine line
-script_refusal (script_fault.OutOfRange line) = OutOfRangeAtLine line
+script_refusal (script_fault.NoSection line) = NoSection line
+script_refusal (script_fault.OutOfRange line) = OutOfRange line
 script_refusal (script_fault.IdsSpent count) = IdsSpent count
 script_refusal (script_fault.TooMany count) = TooMany count
 script_refusal script_fault.ReadFault = Outside

@@ -32,12 +32,6 @@ pub enum Command {
     Why(u32, u32, u32),
     /// Print whether the text on the input is that of a certificate that a file's replica finds valid.
     Check,
-    /// Move the section of this number in the arrangement to the place of that one. Both count from 1.
-    Move(u32, u32),
-    /// Give the section of this number in the arrangement a new title.
-    Retitle(u32),
-    /// Print the sections of a file as they are arranged, under their headings.
-    Arrange,
 }
 
 impl Command {
@@ -47,20 +41,15 @@ impl Command {
     {
         match self {
             Command::New(_, _) => Opening::Creating,
-            Command::Edit
-            | Command::Take
-            | Command::Merge
-            | Command::Sync(_, _)
-            | Command::Move(_, _)
-            | Command::Retitle(_) => Opening::Writing,
+            Command::Edit | Command::Take | Command::Merge | Command::Sync(_, _) =>
+                Opening::Writing,
             Command::Show(_)
             | Command::Print
             | Command::Send
             | Command::Relay(_, _)
             | Command::Bulk(_, _)
             | Command::Why(_, _, _)
-            | Command::Check
-            | Command::Arrange => Opening::Reading,
+            | Command::Check => Opening::Reading,
         }
     }
 

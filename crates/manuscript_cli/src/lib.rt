@@ -12,7 +12,6 @@ mod kept;
 mod laws;
 mod merge;
 mod new_file;
-mod noting;
 mod number;
 mod print;
 mod printing;

@@ -26,10 +26,10 @@ pub enum Refusal {
     CutShort(u64),
     /// The line, counted from 1, is no line of a script.
     BadLine(u32),
-    /// The line of a script names a section that is not shown.
-    NoSectionAtLine(u32),
-    /// The line of a script names a place that is not there.
-    OutOfRangeAtLine(u32),
+    /// The line names a section that is not shown.
+    NoSection(u32),
+    /// The line names a place that is not there.
+    OutOfRange(u32),
     /// A file is no replica's.
     NotReplica,
     /// The open slot of this number has no batch, or no byte stands behind it.
@@ -52,12 +52,6 @@ pub enum Refusal {
     ReplyCutShort(u64),
     /// The two places are not there, or the first is not before the second.
     NoSuchPlaces,
-    /// The arrangement has no section of this number, counted from 1.
-    NoSection(u32),
-    /// The arrangement has no place of this number, counted from 1.
-    NoPlace(u32),
-    /// No stamp is left for a move or a new title.
-    StampsSpent,
     Outside,
     NoMemory,
 }
@@ -78,8 +72,8 @@ impl Refusal {
             Self::BadFrame(at) => Row(Status::BadInput, "bad frame at byte ", Some(at)),
             Self::CutShort(at) => Row(Status::BadInput, "cut short at byte ", Some(at)),
             Self::BadLine(at) => Row(Status::BadInput, "bad line ", Some(at.into())),
-            Self::NoSectionAtLine(at) => Row(Status::BadInput, "no section at line ", Some(at.into())),
-            Self::OutOfRangeAtLine(at) => Row(Status::BadInput, "out of range at line ", Some(at.into())),
+            Self::NoSection(at) => Row(Status::BadInput, "no section at line ", Some(at.into())),
+            Self::OutOfRange(at) => Row(Status::BadInput, "out of range at line ", Some(at.into())),
             Self::NotReplica => Row(Status::BadFile, "not a replica", None),
             Self::BadBatch(slot) => Row(Status::BadFile, "bad batch ", Some(slot.into())),
             Self::NotEmpty => Row(Status::BadFile, "not empty", None),
@@ -91,9 +85,6 @@ impl Refusal {
             Self::RelayRefused(code) => Row(Status::BadInput, "relay refused ", Some(code.into())),
             Self::ReplyCutShort(at) => Row(Status::BadInput, "reply cut short at byte ", Some(at)),
             Self::NoSuchPlaces => Row(Status::BadInput, "no such places", None),
-            Self::NoSection(at) => Row(Status::BadInput, "no section ", Some(at.into())),
-            Self::NoPlace(at) => Row(Status::BadInput, "no place ", Some(at.into())),
-            Self::StampsSpent => Row(Status::Limit, "stamps spent", None),
             Self::Outside => Row(Status::OutsideFault, "outside fault", None),
             Self::NoMemory => Row(Status::NoMemory, "no memory", None),
         }
@@ -131,8 +122,8 @@ impl From<ScriptFault> for Refusal {
     fn from(fault: ScriptFault) -> Refusal {
         match fault {
             ScriptFault::BadLine(line) => Refusal::BadLine(line),
-            ScriptFault::NoSection(line) => Refusal::NoSectionAtLine(line),
-            ScriptFault::OutOfRange(line) => Refusal::OutOfRangeAtLine(line),
+            ScriptFault::NoSection(line) => Refusal::NoSection(line),
+            ScriptFault::OutOfRange(line) => Refusal::OutOfRange(line),
             ScriptFault::IdsSpent(count) => Refusal::IdsSpent(count),
             ScriptFault::TooMany(count) => Refusal::TooMany(count),
             ScriptFault::ReadFault => Refusal::Outside,

@@ -52,8 +52,7 @@ pub fn run<S: Source, O: Sink, N: Sink, H: Disk, G: Disk, W: Wire, D: Dock, B: B
         × (wire.new ≡ wire.old) × (dock.new ≡ dock.old) }
 
     // There is a command that the words ask for, or none, and this is what it did.
-    ensures meets { (command : Option AnyCommand) × IsCommand (map string_bytes words.now) command
-        × Meets (map string_bytes words.now) command
+    ensures meets { (command : Option AnyCommand) × IsCommand (map string_bytes words.now) command × Meets command
         (touched (S.seen input.old) (O.seen output.old) (N.seen notes.old) (H.seen home.old) (G.seen guest.old)
         (W.seen wire.old) (D.seen dock.old))
         (touched (S.seen input.new) (O.seen output.new) (N.seen notes.new) (H.seen home.new) (G.seen guest.new)
@@ -92,7 +91,7 @@ pub fn run<S: Source, O: Sink, N: Sink, H: Disk, G: Disk, W: Wire, D: Dock, B: B
                 wire,
                 dock,
             };
-            obey(alloc, command, words, objects, hasher)
+            obey(alloc, command, objects, hasher)
         }
     }
 }
@@ -112,13 +111,12 @@ struct Objects<'a, S, O, N, H, G, W, D> {
 fn obey<S: Source, O: Sink, N: Sink, H: Disk, G: Disk, W: Wire, D: Dock, B: BuildHasher + Drop>(
     alloc: Global,
     command: Command,
-    words: &[String],
     objects: Objects<'_, S, O, N, H, G, W, D>,
     hasher: B,
 ) -> Status
     requires { IsInRange command }
     // `exit` has what is left behind the references, in the order of the fields.
-    ensures meets { Meets (map string_bytes words.now) (Some command)
+    ensures meets { Meets (Some command)
         (record {
           streams = record {
             input = S.seen objects.entry.input.now;
@@ -175,12 +173,5 @@ fn obey<S: Source, O: Sink, N: Sink, H: Disk, G: Disk, W: Wire, D: Dock, B: Buil
             write_report(alloc, &why, home, output, notes)
         }
         Command::Check => check_file(alloc, input, home, output, notes),
-        Command::Move(section, place) => {
-            save_given(alloc, &moving(section, place), &mut (), home, notes)
-        }
-        Command::Retitle(section) => {
-            save_given(alloc, &retitling(section, last_of(words)), &mut (), home, notes)
-        }
-        Command::Arrange => write_report(alloc, &Arrangement, home, output, notes),
     }
 }

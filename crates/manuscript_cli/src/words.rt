@@ -1,13 +1,13 @@
-ghost use Rattle.std.specs.Prelude.{◌≡◌, ◌≢◌, ◌↔◌, ◌∷◌, [], ℕ, IfSome, IsTrue, Some, codes, map, string_bytes};
+ghost use Rattle.std.specs.Prelude.{◌≡◌, ◌∷◌, [], ℕ, IfSome, Some, codes, map, string_bytes};
 ghost use Rattle.std.specs.Option.{option_copied};
-ghost use Rattle.manuscript_cli.specs.Command.{HasFiles, IsCommand, IsLine, last_word};
+ghost use Rattle.manuscript_cli.specs.Command.{HasFiles, IsCommand};
 ghost use Rattle.manuscript_cli.specs.Number.{IsNumber};
 ghost use Rattle.manuscript_cli.specs.declared.words.TheConstants.{GREATEST_PORT as greatest_port};
 
 use crate::Command;
 use crate::number::read_number;
 use bulk_world::MOST_TURNS;
-use fugue_ids::{GREATEST_HOLD, LONGEST_TITLE, has_line_end};
+use fugue_ids::GREATEST_HOLD;
 
 /// How many operations may wait where `show` stands alone.
 const USUAL_HOLD: u32 = 65_536;
@@ -76,7 +76,6 @@ fn read_one(name: &str, word: &str) -> Option<Command>
         "take" if !word.is_empty() => Some(Command::Take),
         "send" if !word.is_empty() => Some(Command::Send),
         "check" if !word.is_empty() => Some(Command::Check),
-        "arrange" if !word.is_empty() => Some(Command::Arrange),
         _ => None,
     }
 }
@@ -123,38 +122,8 @@ fn read_three(name: &str, file: &str, first: &str, second: &str) -> Option<Comma
     match name {
         "new" => read_new(file, first, second),
         "sync" => read_sync(file, first, second),
-        "move" => read_move(file, first, second),
-        "retitle" => read_retitle(file, first, second),
         _ => None,
     }
-}
-
-fn read_move(file: &str, section: &str, place: &str) -> Option<Command>
-    ensures { IsCommand (codes "move" ∷ file.now ∷ section.now ∷ place.now ∷ []) result }
-{
-    if file.is_empty() {
-        return None;
-    }
-    let section = read_number(section, 1, GREATEST_PLACE)?;
-    let place = read_number(place, 1, GREATEST_PLACE)?;
-    Some(Command::Move(section, place))
-}
-
-fn read_retitle(file: &str, section: &str, title: &str) -> Option<Command>
-    ensures { IsCommand (codes "retitle" ∷ file.now ∷ section.now ∷ title.now ∷ []) result }
-{
-    if file.is_empty() || !is_line(title, LONGEST_TITLE) {
-        return None;
-    }
-    let section = read_number(section, 1, GREATEST_PLACE)?;
-    Some(Command::Retitle(section))
-}
-
-/// Whether the word is one line of at most so many bytes.
-fn is_line(word: &str, most: usize) -> bool
-    ensures { IsTrue result ↔ IsLine most word.now }
-{
-    !word.is_empty() && word.len() <= most && !has_line_end(word.as_bytes())
 }
 
 fn read_sync(file: &str, port: &str, cursor: &str) -> Option<Command>
@@ -198,16 +167,6 @@ fn read_why(file: &str, section: &str, first: &str, second: &str) -> Option<Comm
     let first = read_number(first, 0, GREATEST_PLACE)?;
     let second = read_number(second, 0, GREATEST_PLACE)?;
     Some(Command::Why(section, first, second))
-}
-
-/// The last of the words: the title, where a command takes one.
-pub(crate) fn last_of(words: &[String]) -> &str
-    ensures { result.now ≡ last_word (map string_bytes words.now) }
-{
-    match words.last() {
-        Some(word) => word.as_str(),
-        None => "",
-    }
 }
 
 /// The file that the command of the words is about, and the other file that it reads. Words of no command have none.

@@ -20,20 +20,20 @@ pub returns-in-None-clause-by_set : goal.returns-in-None-clause-by_set
 returns-in-None-clause-by_set g c named = cc (c.in-None.ensures.only Print named)
 
 pub returns-in-None-clause-blameless : goal.returns-in-None-clause-blameless
-returns-in-None-clause-blameless g c = meets_blameless _ _ _ _ None (record { end_is = c.tell.ensures.status; others = refl; notes = c.tell.ensures.told })
+returns-in-None-clause-blameless g c = meets_blameless _ _ _ None (record { end_is = c.tell.ensures.status; others = refl; notes = c.tell.ensures.told })
 
 pub returns-in-Some-clause-blameless : goal.returns-in-Some-clause-blameless
-returns-in-Some-clause-blameless g c = meets_blameless _ _ _ _ (Some _) c.obey.ensures.meets
+returns-in-Some-clause-blameless g c = meets_blameless _ _ _ (Some _) c.obey.ensures.meets
 
 -- The command that was read is the one that is named.
 pub returns-in-Some-clause-decided : goal.returns-in-Some-clause-decided
 returns-in-Some-clause-decided g c hold named =
-    decided _ _ _ _ (meets_named _ _ (Show hold) _ _ _ (c.in-Some.ensures.only (Show hold) named) c.obey.ensures.meets).does.meets
+    decided _ _ _ _ (meets_named _ (Show hold) _ _ _ (c.in-Some.ensures.only (Show hold) named) c.obey.ensures.meets).does.meets
 
 pub returns-in-Some-clause-headline : goal.returns-in-Some-clause-headline
 returns-in-Some-clause-headline g c hold named =
-    headline c.order_by_set.ensures _ _ _ _ (meets_named _ _ (Show hold) _ _ _ (c.in-Some.ensures.only (Show hold) named) c.obey.ensures.meets).does.meets
+    headline c.order_by_set.ensures _ _ _ _ (meets_named _ (Show hold) _ _ _ (c.in-Some.ensures.only (Show hold) named) c.obey.ensures.meets).does.meets
 
 pub returns-in-Some-clause-by_set : goal.returns-in-Some-clause-by_set
 returns-in-Some-clause-by_set g c named =
-    prints_by_set c.order_by_set.ensures _ _ _ _ (meets_named _ _ Print _ _ _ (c.in-Some.ensures.only Print named) c.obey.ensures.meets)
+    prints_by_set c.order_by_set.ensures _ _ _ (meets_named _ Print _ _ _ (c.in-Some.ensures.only Print named) c.obey.ensures.meets)
