@@ -19,6 +19,14 @@ const TEXT: &[u8] = &[
     2, 0, 0, 0, 1, 0, 0, 0, 0, 0, 0, 0, 9, 0, 0, 0, 0, 0, 0, 0, 0, 97,
 ];
 
+/// The frame of a note.
+const NOTE: &[u8] = &[5, 0, 0, 0, 1, 0, 0, 0, 0, 0, 7, 0, 2, b'h', b'i'];
+
+/// The note, and the length of a log of one.
+const NOTE_LOGGED: &[u8] = &[
+    5, 0, 0, 0, 1, 0, 0, 0, 0, 0, 7, 0, 2, b'h', b'i', 0x55, 0, 0, 0, 1,
+];
+
 /// A greeting from the start of the log on, and the text's frame.
 const HELLO_TEXT: &[u8] = &[
     0x48, 0, 0, 0, 0, 2, 0, 0, 0, 1, 0, 0, 0, 0, 0, 0, 0, 9, 0, 0, 0, 0, 0, 0, 0, 0, 97,
@@ -245,6 +253,15 @@ const ALL_LETTERS: &[Row] = &[
     (1, Says(&[0x48, 0, 0, 0, 5, 0x44]), &[0x55, 0, 0, 0, 5]),
 ];
 
+/// A note joins the log once, and is answered as its own frame.
+const NOTE_TWICE: &[Row] = &[
+    (0, Opens, &[]),
+    (0, Says(&[0x48, 0, 0, 0, 0]), &[]),
+    (0, Says(NOTE), &[]),
+    (0, Says(NOTE), &[]),
+    (0, Says(&[0x44]), NOTE_LOGGED),
+];
+
 #[test]
 fn each_session_is_answered_as_its_text_asks_while_the_log_has_room(
     rt: HostRuntime,
@@ -255,6 +272,7 @@ fn each_session_is_answered_as_its_text_asks_while_the_log_has_room(
         (3, RUNS, 3),
         (2, SECTION_AND_LETTER, 2),
         (MOST_LOGGED, ALL_LETTERS, 5),
+        (1, NOTE_TWICE, 1),
     ];
     for (most, rows, logged) in cases {
         let mut relay = Relay::new(rt.alloc(), BuildHasherDefault::default(), most);
