@@ -2,7 +2,7 @@ ghost use Rattle.std.specs.Prelude.{◌≡◌, ◌≤◌, ◌+◌, ◌*◌, ◌+
 ghost use Rattle.std.specs.Prelude.{vec_len, vec_capacity, OnOk, OnErr};
 ghost use Rattle.origin_model.specs.frames.Frames.{HasFrame, frame, scalar_bytes};
 ghost use Rattle.origin_model.specs.frames.Frames.{body_bytes, id_bytes, names_bytes, origin_bytes, title_bytes};
-ghost use Rattle.fugue_ids.specs.declared.op.Op.TheVariants.{Note as NoteOp};
+ghost use Rattle.fugue_ids.specs.declared.op.Op.TheVariants.{Note as NoteOp, Section as SectionOp};
 ghost use Rattle.origin_model.specs.frames.Framings.{scalar_in};
 ghost use Rattle.op_frame.specs.Encoded.{Puts};
 ghost use Rattle.op_frame.specs.Stretches.{AreTyped, WritesRun};
@@ -41,13 +41,7 @@ pub fn encode(op: &Op, out: &mut Vec<u8>) -> Result<(), NoMemory>
             left,
             right,
             title,
-        } => {
-            put(out, &[SECTION]);
-            put_id(out, *id);
-            put_origin(out, *left);
-            put_origin(out, *right);
-            put_title(out, title);
-        }
+        } => put_section(out, *id, *left, *right, title),
         Op::Text {
             id,
             section,
@@ -74,6 +68,23 @@ pub fn encode(op: &Op, out: &mut Vec<u8>) -> Result<(), NoMemory>
         } => put_note(out, *id, names, *code, body),
     }
     Ok(())
+}
+
+fn put_section(
+    out: &mut Vec<u8>,
+    id: ElementId,
+    left: Option<ElementId>,
+    right: Option<ElementId>,
+    title: &Title,
+)
+    requires { vec_len out.old + LONGEST_SINGLE ≤ vec_capacity out.old }
+    ensures { Puts out.old out.new (frame (SectionOp id left right title.now)) }
+{
+    put(out, &[SECTION]);
+    put_id(out, id);
+    put_origin(out, left);
+    put_origin(out, right);
+    put_title(out, title);
 }
 
 fn put_note(out: &mut Vec<u8>, id: ElementId, names: &NoteNames, code: u8, body: &Body)
