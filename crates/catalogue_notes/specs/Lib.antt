@@ -1,0 +1,5 @@
+pub mod Claims
+pub mod Lift
+pub mod Arranged
+pub mod Making
+pub mod Laws
