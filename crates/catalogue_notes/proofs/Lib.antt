@@ -1,1 +1,4 @@
+pub mod NameLemmas
+pub mod HolderLemmas
+pub mod LiftLemmas
 mod Examples

@@ -1,4 +1,6 @@
 //! Moves and retitles of sections: notes that say where a section stands, and what its title is.
 #![tactic(auto)]
 
-pub fn nothing() {}
+mod laws;
+
+pub use laws::lift_is_lawful;
