@@ -3,4 +3,4 @@
 
 mod laws;
 
-pub use laws::lift_is_lawful;
+pub use laws::{each_once, lift_is_lawful};
