@@ -30,7 +30,7 @@ use Rattle.catalogue_notes.proofs.PartLemmas.{Distinct, contains_parts, contains
 abbrev pub move_test : List Op → Move → Bool
 move_test h m = is_valid h (lift h) m
 
--- a valid move is that of the entry with its identifier
+-- a valid move is that of the operation with its identifier
 pub move_found : (h : List Op) (m : Move) → Lawful h → Contains (moves h) m → (e : Op) × (holder h m.id ≡ Some e) × (passing (move_test h) (move_in e) ≡ Some m)
 move_found = claim_found move_in move_test (λ e m k. (shape e m k).own) move-kept
 
@@ -40,7 +40,7 @@ found_move = found_claim move_in move_test (λ e m k. (shape e m k).own) move-ke
 pub one_move : (h : List Op) (c d : Move) → Lawful h → Contains (moves h) c → Contains (moves h) d → c.id ≡ d.id → c ≡ d
 one_move = one_claim move_in move_test (λ e m k. (shape e m k).own) move-kept
 
--- an entry that makes a move is lifted
+-- an operation that makes a move is lifted
 pub lifts : (h : List Op) (e : Op) (m : Move) → passing (move_test h) (move_in e) ≡ Some m → lifted_of h (lift h) e ≡ Some (as_section m)
 lifts h (Section i l r t) m k = absurd (not_both None m refl k)
 lifts h (Text i s l r c) m k = absurd (not_both None m refl k)
@@ -61,7 +61,7 @@ winner_is h s m k =
 abbrev pub position_by : Identifier → Option Move → Identifier
 position_by s o = elim o [ None ↦ s | Some m ↦ m.id ]
 
--- the section that an entry stands for: that of a move, or the entry's own identifier
+-- the section that an operation stands for: that of a move, or the operation's own identifier
 abbrev section_by : Identifier → Option Op → Identifier
 section_by x o = elim o [ None ↦ x | Some e ↦ elim (move_in e) [ None ↦ x | Some m ↦ m.section ] ]
 

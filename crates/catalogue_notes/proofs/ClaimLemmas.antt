@@ -37,7 +37,7 @@ module _ {V : Type 0} (says : Op → Option (Claim V)) (test : List Op → Claim
 
   module _ (own : (e : Op) (c : Claim V) → says e ≡ Some c → id_of e ≡ Some c.id)
       (kept : (e : Op) (h : List Op) (f : Op) → Joins h e → All (Fits h) (names f) → passing (test (e ∷ h)) (says f) ≡ passing (test h) (says f)) where
-    -- a valid claim is that of the entry with its identifier
+    -- a valid claim is that of the operation with its identifier
     pub claim_found : (h : List Op) (c : Claim V) → Lawful h → Contains (claims says test h) c → (e : Op) × (holder h c.id ≡ Some e) × (passing (test h) (says e) ≡ Some c)
     claim_found [] c w m = absurd (contains_none c (subst (λ l. Contains l c) claims-nil m))
     claim_found (e ∷ h) c w m =
@@ -55,7 +55,7 @@ module _ {V : Type 0} (says : Op → Option (Claim V)) (test : List Op → Claim
           ]
         ]
 
-    -- and each entry that says one has it among the valid claims
+    -- and each operation that says one has it among the valid claims
     pub found_claim : (h : List Op) (x : Identifier) (e : Op) (c : Claim V) → Lawful h → holder h x ≡ Some e → passing (test h) (says e) ≡ Some c → Contains (claims says test h) c
     found_claim [] x e c w k q = cc
     found_claim (o ∷ h) x e c w k q =

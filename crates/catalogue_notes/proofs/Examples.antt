@@ -1,6 +1,6 @@
 -- Small histories with moves and retitles, computed from the definitions. Each is written in order of arrival.
-use Rattle.std.proofs.Common.{List, [], refl, reverse, ℕ, ◌+◌, ◌++◌, ◌∷◌, ◌≡◌}
-use Rattle.std.specs.Prelude.{None, Option, Some, codes, zero, suc, Bool, true, false}
+use Rattle.std.proofs.Common.{List, [], refl, reverse, ℕ, ◌++◌, ◌∷◌, ◌≡◌}
+use Rattle.std.specs.Prelude.{None, Some, codes, zero, suc, true, false}
 use Rattle.std.specs.Str.{chars, is_utf8}
 use lib.Utf8.{encode}
 use Rattle.fugue_ids.specs.Identifiers.{Identifier}

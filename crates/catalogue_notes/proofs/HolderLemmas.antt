@@ -1,20 +1,24 @@
 -- Look-ups in a history, and what one more operation changes in them.
-use Rattle.std.proofs.Common.{Bool, List, [], ap, false, inl, inr, refl, subst, sym, true, ◌∙◌, ◌∷◌, ◌≡◌, ◌⊎◌}
+use Rattle.std.proofs.Common.{ℕ, Bool, List, [], ap, false, inl, inr, refl, subst, sym, true, ◌∙◌, ◌∷◌, ◌≡◌, ◌⊎◌}
 use Rattle.std.specs.Prelude.{None, Option, Some, is_some}
 use Rattle.std.specs.List.{All}
 use Rattle.std.proofs.lemmas.Bool.{cases_Bool, false_from_ne_true, false≢true}
-use Rattle.std.proofs.lemmas.List.Elements.{All-weaker}
+use Rattle.std.proofs.lemmas.List.Elements.{All-map, All-weaker}
 use Rattle.fugue_ids.specs.Identifiers.{Identifier, origin_eq}
 use Rattle.fugue_ids.specs.Ops.{id_of}
 use Rattle.fugue_ids.specs.declared.op.Op.{Op}
-use Rattle.fugue_ids.proofs.IdentifierLemmas.{id_eq-refl}
+use Rattle.fugue_ids.specs.declared.op.Op.TheVariants.{Note}
+use Rattle.fugue_ids.proofs.IdentifierLemmas.{id_eq-refl, id_eq-true}
 use Rattle.origin_model.specs.declared.operations.Role.{Role}
-use Rattle.origin_model.specs.declared.operations.Role.TheVariants.{Section as SectionRole}
+use Rattle.origin_model.specs.declared.operations.Role.TheVariants.{Any, Section as SectionRole}
+use Rattle.origin_model.specs.declared.operations.Place.{Place}
 use Rattle.origin_model.specs.declared.operations.Verdict.TheVariants.{Ready}
-use Rattle.origin_model.specs.operations.History.{holder, holds, is_own}
+use Rattle.origin_model.specs.operations.History.{has_op, holder, is_own}
 use Rattle.origin_model.specs.operations.Verdict.{Lawful, fits, names, verdict}
-use Rattle.origin_model.proofs.SharedLemmas.{holder-other, holder-own, own_id, ready_is_new, when_ready}
-use Rattle.catalogue_notes.proofs.NameLemmas.{Fits, fit_each}
+use Rattle.origin_model.specs.order.Order.{order}
+use Rattle.origin_model.specs.order.Printed.{title_of}
+use Rattle.origin_model.proofs.SharedLemmas.{becomes_ready, has-holder, holder-other, holder-own, order-none, own_id, ready_is_new, when_ready}
+use Rattle.catalogue_notes.proofs.NameLemmas.{Fits, all_fit, fit_each}
 use Rattle.catalogue_notes.specs.Lift.{is_section}
 
 -- an option is None, or there is something
@@ -83,4 +87,33 @@ section_held h x k =
     elim (cases_option (holder h x)) [
       | inl n ↦ absurd (false≢true (sym (ap section_by n) ∙ k))
       | inr f ↦ (f.0, f.1, sym (ap section_by f.1) ∙ k)
+    ]
+
+-- a name that may be anything
+abbrev pub anything : Identifier → Identifier × Role
+anything i = (i, Any)
+
+-- the identifier has a holder
+abbrev pub IsHeld : List Op → Identifier → Type 0
+IsHeld h i = (f : Op) × (holder h i ≡ Some f)
+
+-- a note with a new identifier is Ready where what it names is held
+pub note_ready : (h : List Op) (id : Identifier) (named : List Identifier) (code : ℕ) (body : List ℕ) → Lawful h → holder h id ≡ None → All (IsHeld h) named
+    → verdict h (Note id named code body) ≡ Ready
+note_ready h id named code body w new held =
+    let e : Op = Note id named code body in
+    let f = all_fit h (names e) (All-map (Fits h) anything named (All-weaker (IsHeld h) (λ i. Fits h (anything i)) (λ i k. (k.0, k.1, refl)) named held)) in
+    becomes_ready h e (false_from_ne_true (has_op h e) (λ k. not_both (holder h id) e new (has-holder h id e w k (id_eq-refl id)))) (ap is_some new) f.0 f.1
+
+-- a note leaves the order of every place, what is hidden, and the titles
+pub order-note : (p : Place) (h : List Op) (id : Identifier) (named : List Identifier) (code : ℕ) (body : List ℕ) → order p (Note id named code body ∷ h) ≡ order p h
+order-note p h id named code body = order-none p (Note id named code body) h refl
+
+pub title-note : (h : List Op) (id t : Identifier) (named : List Identifier) (code : ℕ) (body : List ℕ) → holder h id ≡ None
+    → title_of (holder (Note id named code body ∷ h) t) ≡ title_of (holder h t)
+title-note h id t named code body new =
+    let e : Op = Note id named code body in
+    elim (cases_Bool (is_own t e)) [
+      | inl k ↦ ap title_of (holder-own e h t k) ∙ sym (ap title_of (ap (holder h) (sym (id_eq-true id t k)) ∙ new))
+      | inr k ↦ ap title_of (holder-other e h t k)
     ]

@@ -4,4 +4,8 @@ pub mod LiftLemmas
 pub mod ClaimLemmas
 pub mod PartLemmas
 pub mod ArrangedLemmas
+pub mod MoveLemmas
+pub mod RetitleLemmas
+pub mod SetLemmas
+pub mod ValidLemmas
 mod Examples

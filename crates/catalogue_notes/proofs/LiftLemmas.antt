@@ -10,8 +10,7 @@ use Rattle.fugue_ids.specs.declared.op.Op.{Op}
 use Rattle.fugue_ids.specs.declared.op.Op.TheVariants.{Delete, Note, Section, Text}
 use Rattle.fugue_ids.proofs.IdentifierLemmas.{id_eq-refl}
 use Rattle.fugue_ids.proofs.ListLemmas.{all_before, all_behind, all_from_map}
-use Rattle.origin_model.specs.declared.operations.Role.{Role}
-use Rattle.origin_model.specs.declared.operations.Role.TheVariants.{Any, Section as SectionRole}
+use Rattle.origin_model.specs.declared.operations.Role.TheVariants.{Section as SectionRole}
 use Rattle.origin_model.specs.declared.operations.Place.TheVariants.{Catalogue as catalogue}
 use Rattle.origin_model.specs.operations.History.{has_op, holder, is_own}
 use Rattle.origin_model.specs.operations.Verdict.{Lawful, fits, given_as, names}
@@ -21,7 +20,7 @@ use Rattle.catalogue_notes.proofs.NameLemmas.{Fits, all_fit, section_element}
 use Rattle.catalogue_notes.specs.Claims.{Move, Origins, claim, move_in, move_of, origins_of, stamp_of}
 use Rattle.catalogue_notes.specs.Lift.{as_section, is_section, is_valid, lifted_of, passing, stands}
 use Rattle.catalogue_notes.specs.Lift.{lift}
-use Rattle.catalogue_notes.proofs.HolderLemmas.{Joins, cases_option, is_own-id, joins, names_held, not_both, not_own, same_value, section_by}
+use Rattle.catalogue_notes.proofs.HolderLemmas.{IsHeld, Joins, anything, cases_option, joins, names_held, not_both, not_own, same_value, section_by}
 
 -- what passed
 pub passing_from : {X : Type 0} → (test : X → Bool) (o : Option X) (x : X) → passing test o ≡ Some x → (o ≡ Some x) × (test x ≡ true)
@@ -65,10 +64,6 @@ origins_are (suc (suc zero)) (r ∷ []) o k = ap given (some_inj (record { left 
 origins_are (suc (suc (suc zero))) (l ∷ r ∷ []) o k = ap given (some_inj (record { left = Some l; right = Some r }) o k)
 origins_are _ _ o k = absurd (not_both None o refl k)
 
--- a name that may be anything
-abbrev pub anything : Identifier → Identifier × Role
-anything i = (i, Any)
-
 -- a move's identifier and names
 pub record HasShape (e : Op) (m : Move) : Type 0 where
   pub own : id_of e ≡ Some m.id
@@ -94,10 +89,6 @@ pub record Rests (h : List Op) (m : Move) : Type 0 where
   pub section : (f : Op) × (holder h m.section ≡ Some f)
   pub left : (l : Identifier) → m.value.left ≡ Some l → (f : Op) × (holder h l ≡ Some f)
   pub right : (r : Identifier) → m.value.right ≡ Some r → (f : Op) × (holder h r ≡ Some f)
-
--- the identifier has a holder
-abbrev IsHeld : List Op → Identifier → Type 0
-IsHeld h i = (f : Op) × (holder h i ≡ Some f)
 
 origin_held : (h : List Op) (o : Option Identifier) (i : Identifier) → All (IsHeld h) (option_to_list o) → o ≡ Some i → IsHeld h i
 origin_held h o i all k = All-head (IsHeld h) i [] (subst (λ o. All (IsHeld h) (option_to_list o)) k all)
@@ -128,7 +119,7 @@ lift-none e h k = lift-cons e h ∙ ap (λ o. option_to_list o ++ lift h) k
 pub lift-some : (e : Op) (h : List Op) (op : Op) → lifted_of h (lift h) e ≡ Some op → lift (e ∷ h) ≡ op ∷ lift h
 lift-some e h op k = lift-cons e h ∙ ap (λ o. option_to_list o ++ lift h) k
 
--- a Section with the entry's identifier
+-- a Section with the operation's identifier
 pub record IsLifted (e : Op) (op : Op) : Type 0 where
   pub own : id_of op ≡ id_of e
   pub fit : fits SectionRole op ≡ true
@@ -174,7 +165,7 @@ lift-own e h x w k =
       | inr o ↦ ap (λ l. holder l x) (lift-some e h o.0 o.1) ∙ holder-own o.0 (lift h) x (own-lifted e o.0 x (is_lifted h (lift h) e o.0 o.1) ∙ k) ∙ sym o.1
     ]
 
--- one more entry leaves which moves are valid
+-- one more operation leaves which moves are valid
 stands-kept : (e : Op) (h : List Op) (o : Option Identifier) → Joins h e → ((l : Identifier) → o ≡ Some l → IsHeld h l) → stands (lift (e ∷ h)) o ≡ stands (lift h) o
 stands-kept e h None w k = refl
 stands-kept e h (Some l) w k = let f = k l refl in ap is_some (lift-other e h l (not_own e f.0 h l w f.1))
@@ -218,7 +209,7 @@ holder-lift (e ∷ h) x w =
           ∙ sym (ap (lifted_at (e ∷ h)) (holder-other e h x t))
     ]
 
--- what was lifted, and of which entry
+-- what was lifted, and of which operation
 pub lifted_from : (h : List Op) (x : Identifier) (op : Op) → Lawful h → holder (lift h) x ≡ Some op → (f : Op) × (holder h x ≡ Some f) × (lifted_of h (lift h) f ≡ Some op)
 lifted_from h x op w k =
     let q : lifted_at h (holder h x) ≡ Some op = sym (holder-lift h x w) ∙ k in
@@ -306,4 +297,3 @@ in_order g x op v f k =
 
 pub order_held : (g : List Op) (x : Identifier) → Lawful g → Contains (order catalogue g) x → (op : Op) × (holder g x ≡ Some op)
 order_held g x v m = let i = ((order_total catalogue g v).lists x).1 m in (i.op, i.held)
-

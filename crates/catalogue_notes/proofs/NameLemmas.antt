@@ -11,7 +11,7 @@ use Rattle.fugue_ids.proofs.IdentifierLemmas.{not_some}
 use Rattle.origin_model.specs.declared.operations.Role.{Role}
 use Rattle.origin_model.specs.declared.operations.Role.TheVariants.{Section as SectionRole}
 use Rattle.origin_model.specs.declared.operations.Place.TheVariants.{Catalogue as catalogue}
-use Rattle.origin_model.specs.operations.History.{element_of, holder, stands_at}
+use Rattle.origin_model.specs.operations.History.{element_of, holder}
 use Rattle.origin_model.specs.operations.Verdict.{first_missing, first_stray, fits}
 use Rattle.origin_model.proofs.SharedLemmas.{cases_held, missing-held}
 

@@ -1,5 +1,5 @@
 -- What notes say of sections: where one is to stand, and what its title is. A move has code 1, and a retitle code 2.
-use Rattle.std.specs.Prelude.{ℕ, zero, suc, nat_eq, nat_lt, nat_le, Option, Some, None, Bool, false, if◌then◌else◌, not, ◌&&◌, List, [], ◌∷◌, length, option_map}
+use Rattle.std.specs.Prelude.{ℕ, zero, suc, nat_eq, nat_lt, nat_le, Option, Some, None, Bool, if◌then◌else◌, not, ◌&&◌, List, [], ◌∷◌, length, option_map}
 use Rattle.std.specs.Int.{from_be_bytes, w32}
 use Rattle.std.specs.Str.{chars, is_utf8}
 use Rattle.fugue_ids.specs.Identifiers.{Identifier}

@@ -3,4 +3,7 @@
 
 mod laws;
 
-pub use laws::{each_once, lift_is_lawful};
+pub use laws::{
+    arranged_by_set, each_once, lift_is_lawful, lifted_order_stays, move_lands, retitle_lands,
+    valid_in_whole, winners,
+};
