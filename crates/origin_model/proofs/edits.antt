@@ -10,5 +10,6 @@ pub mod EditedTextLemmas
 pub mod NextCounterLemmas
 pub mod EditIntakeLemmas
 pub mod RefusalLemmas
+pub mod NotedLemmas
 pub mod EditExamples
 pub mod PassageLemmas

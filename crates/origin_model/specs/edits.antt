@@ -4,4 +4,5 @@ pub mod Edits
 pub mod State
 pub mod Refusal
 pub mod Effect
+pub mod Noting
 pub mod Passages

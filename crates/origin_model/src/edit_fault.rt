@@ -2,14 +2,15 @@ use fugue_ids::NoMemory;
 use std::error::Error;
 use std::fmt;
 
-/// Why an edit was not made, in the order in which the causes are looked for. All but want of memory change nothing.
+/// Why an edit or a note was not made, in the order in which the causes are looked for. All but want of memory change
+/// nothing.
 #[derive(Clone, Copy, Debug, PartialEq, Eq)]
 pub enum EditFault {
     /// There are not so many shown sections.
     NoSection,
     /// The position is behind the end of what is shown.
     OutOfRange,
-    /// The new elements need counters past the greatest number: the greatest counter so far.
+    /// What is new needs counters past the greatest number: the greatest counter so far.
     IdsSpent(u32),
     /// More would be accepted or wait than may: how many do now.
     TooMany(u32),

@@ -1,12 +1,15 @@
--- The operations of an edit that is not refused can be accepted in turn.
-use Rattle.std.proofs.Common.{◌≡◌, ◌∷◌, List, []}
+-- The operations of an edit that is not refused can be accepted in turn, and so can a note.
+use Rattle.std.proofs.Common.{◌≡◌, ◌∷◌, List, [], ℕ}
 use Rattle.std.specs.Prelude.{None}
+use Rattle.fugue_ids.specs.Identifiers.{Identifier}
 use Rattle.fugue_ids.specs.declared.op.Op.{Op}
 use Rattle.origin_model.specs.taking.Taking.{IsSettled}
 use Rattle.origin_model.specs.edits.Edits.{Command}
+use Rattle.origin_model.specs.edits.Noting.{AreHeld, note_by, note_refusal}
 use Rattle.origin_model.specs.edits.Refusal.{made_by, refusal_message}
 use Rattle.origin_model.specs.edits.State.{State, Stands}
 use Rattle.origin_model.proofs.edits.EditIntakeLemmas.{Comes, made_comes}
+use Rattle.origin_model.proofs.edits.NotedLemmas.{note_fits, noted_comes}
 use Rattle.origin_model.proofs.edits.RefusalLemmas.{made_fits, made_ready}
 use Rattle.replica_core.specs.Edits.{CanJoin, ComeInTurn}
 
@@ -21,4 +24,14 @@ made_can_join s command stands settled e =
       in_turn = come_in_turn (made_by s command) s.held.history s.held.waiting
           (made_comes s.number s.held.history s.held.waiting command settled (made_ready command s stands.lawful e));
       room = made_fits command s e;
+    }
+
+pub note_can_join : (s : State) (named : List Identifier) (code : ℕ) (body : List ℕ) → Stands s → IsSettled s.held → AreHeld s.held.history named → note_refusal s ≡ None
+    → CanJoin s (note_by s named code body ∷ [])
+note_can_join s named code body stands settled held e =
+    record {
+      settled = settled;
+      in_turn = come_in_turn (note_by s named code body ∷ []) s.held.history s.held.waiting
+          (noted_comes s.number s.held.history s.held.waiting named code body stands.lawful settled held);
+      room = note_fits s e;
     }

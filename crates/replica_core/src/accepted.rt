@@ -1,5 +1,6 @@
 ghost use Rattle.std.specs.Prelude.{◌≡◌, ◌<◌, ◌∷◌, [], length, option_map, slice_get, IfErr, IfSome, OnErr, OnOk};
 ghost use Rattle.fugue_ids.specs.Outs.{WritesBytes};
+ghost use Rattle.fugue_ids.specs.declared.op.Op.TheVariants.{Delete as DeleteOf};
 ghost use Rattle.origin_model.specs.operations.History.{accepted as accepted_list, holds as holds_on};
 ghost use Rattle.origin_model.specs.operations.Counters.{counters, IsGreatest};
 ghost use Rattle.origin_model.specs.order.Printed.{manuscript as manuscript_on, shown};
@@ -11,7 +12,7 @@ ghost use Rattle.section_catalogue.specs.Manuscript.{GrowsBy, IsPlaceOf, IsReady
 
 use crate::history::History;
 use crate::look_ups::ShownSection;
-use fugue_ids::{ElementId, Failed, MOST_OPERATIONS, NoMemory, Op, OpKey};
+use fugue_ids::{ElementId, Failed, MOST_OPERATIONS, NoMemory, Op};
 use origin_model::{Lookup, NoMemoryFor, Verdict, verdict_in};
 use outer_ports::Sink;
 use section_catalogue::Manuscript;
@@ -45,9 +46,24 @@ fn take_in(manuscript: &mut Manuscript, op: &Op) -> Result<(), NoMemory>
     ensures ok { OnOk result (GrowsBy manuscript.old manuscript.new op.now) }
     ensures err { OnErr result (Stays manuscript.old manuscript.new) }
 {
-    match op.key() {
-        OpKey::Own(_) => manuscript.insert(op),
-        OpKey::Target(target) => manuscript.hide(target),
+    match op {
+        Op::Section { .. } | Op::Text { .. } => manuscript.insert(op),
+        Op::Delete { target } => take_in_delete(manuscript, *target),
+        // It stands in no place, and no call of the manuscript knows it.
+        Op::Note { .. } => Ok(()),
+    }
+}
+
+/// The same for the Delete of an element or a note: a note stands in no place, so nothing is hidden where one is
+/// withdrawn.
+fn take_in_delete(manuscript: &mut Manuscript, target: ElementId) -> Result<(), NoMemory>
+    requires { IsReadyOn manuscript.old (DeleteOf target) }
+    ensures ok { OnOk result (GrowsBy manuscript.old manuscript.new (DeleteOf target)) }
+    ensures err { OnErr result (Stays manuscript.old manuscript.new) }
+{
+    match manuscript.place_of(target) {
+        Some(_) => manuscript.hide(target),
+        None => Ok(()),
     }
 }
 
@@ -107,6 +123,13 @@ impl Accepted {
         };
         let text = self.manuscript.section(id).unwrap();
         Some(ShownSection { id, text })
+    }
+
+    /// All places.
+    pub fn places(&self) -> &Manuscript
+        ensures { StandsFor result.now self.now }
+    {
+        &self.manuscript
     }
 
     /// Takes in an operation that is Ready.

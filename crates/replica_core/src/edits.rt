@@ -1,11 +1,12 @@
-//! Edits, by positions in what is shown: sections and elements count from 0.
+//! Edits, by positions in what is shown, where sections and elements count from 0; and notes, by identifiers.
 
-ghost use Rattle.std.specs.Prelude.{IfErr, IfOk, OnOk};
+ghost use Rattle.std.specs.Prelude.{◌≡◌, ◌≢◌, Err, IfErr, IfOk, OnErr, OnOk};
 ghost use Rattle.std.specs.Str.{chars};
 ghost use Rattle.origin_model.specs.edits.Edits.{Put, Cut, Add, DropSection};
 ghost use Rattle.origin_model.specs.taking.Taking.{IsSettled};
 ghost use Rattle.origin_model.specs.edits.Refusal.{RefusesExactly};
 ghost use Rattle.origin_model.specs.edits.Effect.{IsMade, Lands, LeavesUnmade};
+ghost use Rattle.origin_model.specs.edits.Noting.{AreHeld, IsNoted, RefusesNote, ShowsAsBefore};
 ghost use Rattle.origin_model.specs.edits.State.{Stands};
 
 mod joining;
@@ -13,7 +14,7 @@ mod limits;
 mod planning;
 
 use crate::Replica;
-use fugue_ids::Title;
+use fugue_ids::{Body, NoteNames, Title};
 use origin_model::EditFault;
 
 impl Replica {
@@ -76,6 +77,24 @@ impl Replica {
         ensures stands { Stands self.new }
     {
         let op = self.drop_op(section)?;
+        self.join(op)?;
+        Ok(1)
+    }
+
+    /// Makes a note on elements and notes that are held. The answer is 1.
+    pub fn note(&mut self, names: NoteNames, code: u8, body: Body) -> Result<u32, EditFault>
+        requires settled { IsSettled self.old.held }
+        requires held { AreHeld self.old.held.history names }
+        ensures made { IfOk result (λ n. IsNoted self.old self.new names code body n) }
+        ensures shown { ShowsAsBefore self.old self.new }
+        ensures refused { RefusesNote self.old result }
+        ensures no_section { result ≢ Err EditFault.NoSection }
+        ensures no_position { result ≢ Err EditFault.OutOfRange }
+        ensures unmade { OnErr result (self.new ≡ self.old) }
+        ensures settled { IsSettled self.new.held }
+        ensures stands { Stands self.new }
+    {
+        let op = self.note_op(names, code, body)?;
         self.join(op)?;
         Ok(1)
     }

@@ -5,13 +5,14 @@ ghost use Rattle.origin_model.specs.operations.History.{holds as holds_on};
 ghost use Rattle.origin_model.specs.order.Printed.{shown, text as text_on};
 ghost use Rattle.origin_model.specs.declared.operations.Place.TheVariants.{Catalogue as catalogue, Section as within};
 ghost use Rattle.section_list.specs.Cells.{section_text as text_in};
-ghost use Rattle.section_catalogue.specs.Manuscript.{IsPlaceOf, IsTextOf};
+ghost use Rattle.section_catalogue.specs.Manuscript.{IsPlaceOf, IsTextOf, LookUpsAgree, StandsFor};
 ghost use Rattle.origin_model.specs.edits.Refusal.{section_shown};
 ghost use Rattle.origin_model.specs.edits.State.{Stands};
 
 use crate::Replica;
 use fugue_ids::{ElementId, NoMemory};
 use outer_ports::MemSink;
+use section_catalogue::Manuscript;
 use section_list::SectionList;
 use std::alloc::Global;
 
@@ -38,6 +39,15 @@ impl Replica {
         ensures stands { Stands self.now }
     {
         self.accepted.section(section)
+    }
+
+    /// All places: the list of each, hidden elements too, is its order.
+    pub fn places(&self) -> &Manuscript
+        ensures places { StandsFor result.now self.now.held.history }
+        ensures lists { LookUpsAgree result.now self.now.held.history }
+        ensures stands { Stands self.now }
+    {
+        self.accepted.places()
     }
 
     /// Whether an accepted operation has the identifier.

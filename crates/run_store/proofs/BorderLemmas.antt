@@ -14,7 +14,8 @@ use Rattle.node_rope.specs.Places.{StandsAt}
 use Rattle.run_store.specs.Borders.{IsBorder, IsHiding, IsMove, IsTakenFirst, IsTakenLast, run_continues, last_shown, shifted, together}
 use Rattle.run_store.specs.Cells.{cell_hiding}
 use Rattle.run_store.specs.Growth.{last_id_of_run}
-use Rattle.run_store.specs.Heads.{head_behind, id_behind, lettered, typed_cells}
+use Rattle.origin_model.specs.frames.Framings.{id_behind}
+use Rattle.run_store.specs.Heads.{head_behind, lettered, typed_cells}
 use Rattle.run_store.specs.Runs.{AreRuns, IsRun, all_cells, cells_in, first_of, run_from, run_to}
 use Rattle.run_store.specs.declared.cell.Cell.{Cell}
 use Rattle.run_store.specs.declared.run.Run.{Run}
@@ -43,10 +44,10 @@ passage-is a b some t =
     let forest : b.key.forest ≡ 0 = eqb-true _ _ u.0 in
     let stretch : b.stretch ≡ a.stretch = eqb-true _ _ v.0 in
     let start : b.start ≡ a.start + a.len = eqb-true _ _ v.1 in
-    let e : h.id ≡ id_behind k a.id = behind-id k (first_of a) in
+    let e : h.id ≡ id_behind a.id k = behind-id k (first_of a) in
     let c : (a.id.counter + k) + 1 ≡ a.id.counter + suc k = omega arith in
-    let id : b.id ≡ id_behind (suc k) a.id = next.id ∙ ap (id_behind 1) e ∙ (λ i. record { replica = a.id.replica; counter = c i }) in
-    let left : b.left ≡ Some (id_behind k a.id) = next.left ∙ ap Some e in
+    let id : b.id ≡ id_behind a.id (suc k) = next.id ∙ ap (λ x. id_behind x 1) e ∙ (λ i. record { replica = a.id.replica; counter = c i }) in
+    let left : b.left ≡ Some (id_behind a.id k) = next.left ∙ ap Some e in
     let right : b.right ≡ a.right = next.right ∙ behind-right k (first_of a) in
     let d : b.key.depth ≡ a.key.depth + suc k = omega (arith, depth, behind-depth k (first_of a)) in
     let from : b.start ≡ a.start + suc k = omega (arith, start, n) in
@@ -149,11 +150,11 @@ module _ (r : Runs) (s : AreRuns r) (a b : Run) (border : IsBorder r.rope a b) w
   -- the identifiers of the passage, counted from its second run
   rest-behind : (n k : ℕ) → n ≡ a.len + k → (rest n).id ≡ (head_behind k (first_of b)).id
   rest-behind n k e =
-      let f : b.id ≡ id_behind a.len a.id = ap (λ (z : Run). z.id) border.passage ∙ behind-id a.len (first_of whole) in
+      let f : b.id ≡ id_behind a.id a.len = ap (λ (z : Run). z.id) border.passage ∙ behind-id a.len (first_of whole) in
       let c : a.id.counter + n ≡ (a.id.counter + a.len) + k = omega (arith, e) in
       behind-id n (first_of whole)
       ∙ (λ i. record { replica = a.id.replica; counter = c i })
-      ∙ ap (id_behind k) (sym f)
+      ∙ ap (λ x. id_behind x k) (sym f)
       ∙ sym (behind-id k (first_of b))
 
   module _ (n : ℕ) (move : IsMove a b n) where

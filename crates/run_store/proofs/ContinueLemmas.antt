@@ -7,7 +7,8 @@ use Rattle.node_rope.specs.Items.{value_under}
 use Rattle.std.specs.List.{Contains}
 use Rattle.run_store.specs.Cells.{cell_of_origin, cell_ids}
 use Rattle.run_store.specs.Growth.{IsNew}
-use Rattle.run_store.specs.Heads.{head_behind, id_behind, lettered}
+use Rattle.origin_model.specs.frames.Framings.{id_behind}
+use Rattle.run_store.specs.Heads.{head_behind, lettered}
 use Rattle.run_store.specs.NewCells.{cell_depth, forest_beside, has_right, is_continued, shares_right}
 use Rattle.run_store.specs.Runs.{AreRuns, cells_in, first_of}
 use Rattle.run_store.specs.declared.cell.Head.{Head}
@@ -20,7 +21,7 @@ use Rattle.run_store.proofs.RunsLemmas.{cell_there}
 -- what the test says
 pub record IsNext (last h : Head) : Type 0 where
   pub left : h.left ≡ Some last.id
-  pub id : h.id ≡ id_behind 1 last.id
+  pub id : h.id ≡ id_behind last.id 1
   pub right : h.right ≡ last.right
   pub shown : last.hidden ≡ false
 
@@ -53,16 +54,16 @@ module _ (r : Runs) (s : AreRuns r) (run : Run) (o : ℕ) (v : value_under run.i
   abbrev last : Head
   last = head_behind o (first_of run)
 
-  id-is : h.id ≡ id_behind (suc o) run.id
+  id-is : h.id ≡ id_behind run.id (suc o)
   id-is =
       let e : (run.id.counter + o) + 1 ≡ run.id.counter + suc o = omega arith in
-      n.id ∙ ap (id_behind 1) (behind-id o (first_of run)) ∙ (λ i. record { replica = run.id.replica; counter = e i })
+      n.id ∙ ap (λ x. id_behind x 1) (behind-id o (first_of run)) ∙ (λ i. record { replica = run.id.replica; counter = e i })
 
   -- it stands behind the last cell of the run
   pub next-last : suc o ≡ run.len
   next-last = elim (cases_less (suc o) run.len) [
     | inl more ↦ absurd (new.fresh (subst (Contains (cell_ids (cells_in r))) (sym id-is)
-        (spot-held r s (id_behind (suc o) run.id) run (suc o) (record { held = v; inside = more; is = refl }))))
+        (spot-held r s (id_behind run.id (suc o)) run (suc o) (record { held = v; inside = more; is = refl }))))
     | inr none ↦ omega (arith, l, none)
   ]
     where

@@ -8,7 +8,8 @@ use Rattle.node_rope.specs.Items.{value_under}
 use Rattle.node_rope.specs.Places.{IsFloor}
 use Rattle.std.proofs.lemmas.List.{map-append}
 use Rattle.run_store.specs.Cells.{cell_of, cell_ids}
-use Rattle.run_store.specs.Heads.{head_behind, id_behind}
+use Rattle.origin_model.specs.frames.Framings.{id_behind}
+use Rattle.run_store.specs.Heads.{head_behind}
 use Rattle.run_store.specs.Runs.{AreRuns, IsSpot, cells_in, first_of}
 use Rattle.run_store.specs.declared.cell.Cell.{Cell}
 use Rattle.run_store.specs.declared.run.Run.{Run}
@@ -34,7 +35,7 @@ module _ (r : Runs) (s : AreRuns r) (x : Identifier) where
       record {
         held = ap (λ i. value_under i r.rope) (sym n) ∙ v;
         inside = l;
-        is = (λ i. record { replica = sym e i; counter = d i }) ∙ ap (id_behind o) n ∙ sym (behind-id o (first_of run));
+        is = (λ i. record { replica = sym e i; counter = d i }) ∙ ap (λ y. id_behind y o) n ∙ sym (behind-id o (first_of run));
       }
 
   module _ (k : Identifier) (f : IsFloor r.rope x (Some k)) where
@@ -45,7 +46,7 @@ module _ (r : Runs) (s : AreRuns r) (x : Identifier) where
         let e : k ≡ p.run.id = cc in
         let w : Some run ≡ Some p.run = sym v ∙ ap (λ i. value_under i r.rope) e ∙ q.1 in
         let same : run ≡ p.run = cc in
-        let at : x ≡ id_behind p.offset p.run.id = p.named ∙ behind-id p.offset (first_of p.run) in
+        let at : x ≡ id_behind p.run.id p.offset = p.named ∙ behind-id p.offset (first_of p.run) in
         let replicas : k.replica ≡ x.replica = ap (λ (i : Identifier). i.replica) e ∙ sym (ap (λ (i : Identifier). i.replica) at) in
         omega (arith, far replicas, p.inside, ap (λ (i : Identifier). i.counter) at, ap (λ (i : Identifier). i.counter) e, ap (λ (z : Run). z.len) same)
 

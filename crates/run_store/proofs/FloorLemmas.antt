@@ -13,7 +13,8 @@ use Rattle.fugue_ids.proofs.ListLemmas.{contains_cases, contains_none}
 use Rattle.node_rope.specs.Items.{value_under}
 use Rattle.node_rope.specs.Places.{IsFloor}
 use Rattle.run_store.specs.Cells.{cell_ids}
-use Rattle.run_store.specs.Heads.{head_behind, id_behind, next_head, typed_cells}
+use Rattle.origin_model.specs.frames.Framings.{id_behind}
+use Rattle.run_store.specs.Heads.{head_behind, next_head, typed_cells}
 use Rattle.run_store.specs.Runs.{AreRuns, IsRun, all_cells, cells_of, first_of, letters_of}
 use Rattle.run_store.specs.declared.cell.Cell.{Cell}
 use Rattle.run_store.specs.declared.cell.Head.{Head}
@@ -71,7 +72,7 @@ le-same : (r c d : ℕ) → c ≤ d → is_gt (ordering_then (nat_cmp r r) (nat_
 le-same r c d h = grind (arith, nat_tests)
 
 -- an identifier between the first one of a run and another of its cells is that of a cell
-between-cells : (h : Head) (o : ℕ) (f : Identifier) → is_gt (id_cmp f (id_behind o h.id)) ≡ false → is_lt (id_cmp f h.id) ≡ false
+between-cells : (h : Head) (o : ℕ) (f : Identifier) → is_gt (id_cmp f (id_behind h.id o)) ≡ false → is_lt (id_cmp f h.id) ≡ false
     → (n : ℕ) × (n ≤ o) × (f ≡ (head_behind n h).id)
 between-cells h o f up low =
     let u = gt-parts f.replica h.id.replica f.counter (h.id.counter + o) up in
@@ -96,7 +97,7 @@ floor-is r s x f floor p = (by_floor f floor, there)
     there : value_under k r.rope ≡ Some p.run
     there = ap (value_under k) p.is ∙ value-at k p.run p.front p.back (keys-apart r s p.front p.run 0 p.back p.is some).0
 
-    at : x ≡ id_behind p.offset k
+    at : x ≡ id_behind k p.offset
     at = p.named ∙ behind-id p.offset (first_of p.run)
 
     low : is_gt (id_cmp k x) ≡ false

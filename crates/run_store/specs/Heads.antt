@@ -1,23 +1,19 @@
 -- The cells of a run, one behind the other.
 use Rattle.std.specs.Prelude.{ℕ, zero, suc, ◌+◌, ◌*◌, List, [], ◌∷◌, Some}
-use Rattle.fugue_ids.specs.Identifiers.{Identifier}
 use Rattle.fugue_ids.specs.declared.key.Key.{Key}
+use Rattle.origin_model.specs.frames.Framings.{id_behind}
 use Rattle.run_store.specs.declared.cell.Cell.{Cell}
 use Rattle.run_store.specs.declared.cell.Head.{Head}
 
--- the identifier n behind another one of the same replica
-abbrev pub id_behind : ℕ → Identifier → Identifier
-id_behind n x = record { replica = x.replica; counter = x.counter + n }
-
 -- the cell directly behind this one in its run
 abbrev pub next_head : Head → Head
-next_head h = record { id = id_behind 1 h.id; left = Some h.id; right = h.right; hidden = h.hidden; key = record { depth = suc h.key.depth; forest = 0 } }
+next_head h = record { id = id_behind h.id 1; left = Some h.id; right = h.right; hidden = h.hidden; key = record { depth = suc h.key.depth; forest = 0 } }
 
 -- the cell n behind this one in its run
 abbrev pub head_behind : ℕ → Head → Head
 head_behind zero h = h
 head_behind (suc n) h =
-    record { id = id_behind (suc n) h.id; left = Some (id_behind n h.id); right = h.right; hidden = h.hidden; key = record { depth = h.key.depth + suc n; forest = 0 } }
+    record { id = id_behind h.id (suc n); left = Some (id_behind h.id n); right = h.right; hidden = h.hidden; key = record { depth = h.key.depth + suc n; forest = 0 } }
 
 -- a cell with its letter, and without
 abbrev pub lettered : Head → ℕ → Cell

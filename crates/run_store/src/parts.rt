@@ -1,6 +1,7 @@
 // Cells of a run, and parts of it as runs.
 ghost use Rattle.std.specs.Prelude.{◌≡◌, ◌+◌, ◌<◌, ◌≤◌, ◌^◌};
-ghost use Rattle.run_store.specs.Heads.{head_behind, id_behind as id_by};
+ghost use Rattle.origin_model.specs.frames.Framings.{id_behind as id_by};
+ghost use Rattle.run_store.specs.Heads.{head_behind};
 ghost use Rattle.run_store.specs.Runs.{first_of, run_from as rest_by, run_to as front_by};
 
 use crate::cell::Head;
@@ -10,7 +11,7 @@ use fugue_ids::{ElementId, Key};
 /// The identifier n behind another one of the same replica.
 fn id_behind(id: ElementId, n: u32) -> ElementId
     requires { id.counter + n < 2 ^ 32 }
-    ensures { result ≡ id_by n id }
+    ensures { result ≡ id_by id n }
 {
     ElementId {
         replica: id.replica,

@@ -112,17 +112,6 @@ pub target_delete : (op : Op) (x : Identifier) → key_of op ≡ Target x → op
 target_delete (Delete y) x e = let same : y ≡ x = cc in ap Delete same
 target_delete _ x e = cc
 
--- each operation with an identifier stands somewhere
-pub has_place : (op : Op) (x : Identifier) → id_of op ≡ Some x → IsSome (place op)
-has_place (Delete target) x e = cc
-has_place _ x e = refl
-
 -- a manuscript has a place for each element of the histories that it stands for, so it can hide each
 pub held_has_place : (m : Contents) (h : List Op) (x : Identifier) (op : Op) → StandsFor m h → holder h x ≡ Some op → IsSome (place op) → IsSome (place_at m x)
 held_has_place m h x op s held placed = subst IsSome (sym (s.places x ∙ ap place_held held)) placed
-
--- the target of a Delete that is Ready has a place
-pub target_has_place : (m : Contents) (h : List Op) (x : Identifier) → StandsFor m h → verdict h (Delete x) ≡ Ready → IsSome (place_at m x)
-target_has_place m h x s ready =
-    let f = found (holder h x) ((target_is_shown h x ready).0) in
-    held_has_place m h x f.0 s f.1 (has_place f.0 x (origin_eq-true (id_of f.0) (Some x) (holder_owns h x f.0 f.1)))

@@ -5,7 +5,7 @@ use Rattle.fugue_ids.specs.Identifiers.{Identifier}
 use Rattle.fugue_ids.specs.Ops.{id_of}
 use Rattle.fugue_ids.proofs.IdentifierLemmas.{cases_id}
 use Rattle.fugue_ids.specs.declared.op.Op.{Op}
-use Rattle.fugue_ids.specs.declared.op.Op.TheVariants.{Section, Text}
+use Rattle.fugue_ids.specs.declared.op.Op.TheVariants.{Note, Section, Text}
 use Rattle.fugue_ids.specs.Keyed.{IsReplaced}
 use Rattle.origin_model.specs.sides.Node.{find_node, node_order, nodes}
 use Rattle.origin_model.specs.operations.History.{holder, holds, place}
@@ -117,4 +117,19 @@ text_stands old new h id section left right ch s ready c =
           (λ t l. at_home op h id refl w (within section) ch t.text refl refl refl l)
           (λ y t n l. elsewhere op h id refl w (within y) t.text (λ e. let d : section ≡ y = cc in n (sym d)) l) s.texts;
       places = looked_up op h id refl w place_held (place_at old) (place_at new) (Some (within section)) refl c.places s.places;
+    }
+
+-- a note came: it stands in no place
+pub note_stands : (m : Contents) (h : List Op) (id : Identifier) (named : List Identifier) (code : ℕ) (body : List ℕ)
+    → StandsFor m h → verdict h (Note id named code body) ≡ Ready → StandsFor m (Note id named code body ∷ h)
+note_stands m h id named code body s ready =
+    let op : Op = Note id named code body in
+    let w : Lawful (op ∷ h) = (ready, s.lawful) in
+    record {
+      lawful = w;
+      sections = elsewhere op h id refl w catalogue m.catalogue (λ e. cc) s.sections;
+      titles = λ y. s.titles y ∙ told_before op h id refl w title_held refl y;
+      texts = λ y. if_some (section_at m y) (λ (t : Titled). Lists (within y) h t.text) (λ (t : Titled). Lists (within y) (op ∷ h) t.text)
+          (λ t l. elsewhere op h id refl w (within y) t.text (λ e. cc) l) (s.texts y);
+      places = λ y. s.places y ∙ told_before op h id refl w place_held refl y;
     }

@@ -1,6 +1,6 @@
 -- A manuscript that stands for a history stands for it with one element hidden.
 use Rattle.std.proofs.Common.{List, ap, false, inl, inr, refl, subst, sym, true, ◌∙◌, ◌∷◌, ◌≡◌, ◌≢◌, ◌||◌}
-use Rattle.std.specs.Prelude.{if◌then◌else◌, IfSome, Some, is_some, option_map}
+use Rattle.std.specs.Prelude.{if◌then◌else◌, IfSome, None, Some, is_some, option_map}
 use Rattle.std.proofs.lemmas.Bool.{cases_Bool}
 use Rattle.fugue_ids.specs.Identifiers.{Identifier, id_eq}
 use Rattle.fugue_ids.proofs.IdentifierLemmas.{cases_id, eq-id_eq, ne-id_eq}
@@ -10,7 +10,8 @@ use Rattle.origin_model.specs.sides.Node.{nodes}
 use Rattle.origin_model.specs.operations.History.{holder, holds, place}
 use Rattle.origin_model.specs.order.Order.{order}
 use Rattle.origin_model.specs.order.Printed.{is_hidden}
-use Rattle.origin_model.specs.operations.Verdict.{Lawful}
+use Rattle.origin_model.specs.operations.Verdict.{Lawful, verdict}
+use Rattle.origin_model.specs.declared.operations.Verdict.TheVariants.{Ready}
 use Rattle.origin_model.specs.declared.operations.Place.{Place}
 use Rattle.origin_model.specs.declared.operations.Place.TheVariants.{Catalogue as catalogue, Section as within}
 use Rattle.section_list.specs.Cells.{section_hiding}
@@ -20,7 +21,7 @@ use Rattle.section_catalogue.specs.Changes.{HidesAt, HidesSection, HidesText}
 use Rattle.section_catalogue.specs.Contents.{Contents, place_at, section_at}
 use Rattle.section_catalogue.specs.Place.{Lists, cell_in, place_held, scalar_held, title_held}
 use Rattle.section_catalogue.specs.Manuscript.{Hides, StandsFor, once_hidden}
-use Rattle.origin_model.proofs.SharedLemmas.{shown_can_go}
+use Rattle.origin_model.proofs.SharedLemmas.{shown_can_go, target_is_shown}
 use Rattle.section_catalogue.proofs.HolderLemmas.{has_holder, nodes-other, order-other}
 use Rattle.section_catalogue.proofs.ListingLemmas.{hidden, unmoved}
 use Rattle.section_catalogue.proofs.TextLemmas.{each_text, if_some, titles_stay}
@@ -131,3 +132,20 @@ stands_hidden old new catalogue x e c h s =
 stands_hidden old new (within section) x e c h s =
     let p : place_held (holder h x) ≡ Some (within section) = sym (s.places x) ∙ e in
     text_hidden x h (once_hidden x h) (once x h s.lawful (ap is_some ((has_holder (within section) (holder h x) p).1))) old new section s p c
+
+-- a Delete of what stands in no place hides nothing
+pub stands_withdrawn : (m : Contents) (x : Identifier) (h : List Op) → place_at m x ≡ None → StandsFor m h → verdict h (Delete x) ≡ Ready → StandsFor m (Delete x ∷ h)
+stands_withdrawn m x h e s ready =
+    let t = target_is_shown h x ready in
+    let now : List Op = Delete x ∷ h in
+    let k : IsHiding x h now = newly x h s.lawful t.0 t.1 in
+    let none : place_held (holder h x) ≡ None = sym (s.places x) ∙ e in
+    let apart : (q : Place) → place_held (holder h x) ≢ Some q = λ q d. cc (none, d) in
+    record {
+      lawful = k.lawful;
+      sections = elsewhere x h now k catalogue m.catalogue s.lawful (apart catalogue) s.sections;
+      titles = λ y. s.titles y ∙ ap title_held (sym (k.holders y));
+      texts = λ y. if_some (section_at m y) (λ (t : Titled). Lists (within y) h t.text) (λ (t : Titled). Lists (within y) now t.text)
+          (λ t l. elsewhere x h now k (within y) t.text s.lawful (apart (within y)) l) (s.texts y);
+      places = λ y. s.places y ∙ ap place_held (sym (k.holders y));
+    }

@@ -46,7 +46,7 @@ pub made_comes : (r : ℕ) (h w : List Op) (command : Command) → Undecided h w
 made_comes r h w command a e = comes (made r h w command) h w a e (made_unknown r h w command)
 
 -- such operations are taken in one after another
-takes : (hold most : ℕ) (ops h w : List Op) → Undecided h w → Comes w h ops → length h + length w + length ops ≤ most → IsTakenIn hold most h w ops
+pub takes : (hold most : ℕ) (ops h w : List Op) → Undecided h w → Comes w h ops → length h + length w + length ops ≤ most → IsTakenIn hold most h w ops
 takes hold most [] h w a c l = record { state = refl; all_kept = refl }
 takes hold most (op ∷ ops) h w a c l =
     let room : nat_eq (length h + length w) most ≡ false = ne_eqb (length h + length w) most (λ e. omega (arith, e, l)) in

@@ -21,7 +21,7 @@ origin_fit p h None w s = All-nil (Fits h)
 origin_fit p h (Some x) w s = one_fit p h x (order-member p h x w s)
 
 -- a new identifier is no operation's
-new_op : (h : List Op) (op : Op) (x : Identifier) → Lawful h → id_of op ≡ Some x → is_own x op ≡ true → holds h x ≡ false → has_op h op ≡ false
+pub new_op : (h : List Op) (op : Op) (x : Identifier) → Lawful h → id_of op ≡ Some x → is_own x op ≡ true → holds h x ≡ false → has_op h op ≡ false
 new_op h op x w e o k = false_from_ne_true _ (λ t. true≢false (sym (ap is_some (has-holder h x op w t o)) ∙ k))
 
 -- a text between origins of its section is Ready

@@ -1,5 +1,5 @@
 -- A file by its parts: a new one, one with a further batch, and one with other bytes behind its gate.
-use Rattle.origin_model.proofs.Words.{All, All-append, All-cons, All-nil, List, Op, [], ap, append-nil, append_assoc, arith, drop, length, length-append, length-take-le, refl, suc, sym, take, take-append-drop, true, ℕ, ◌&&◌, ◌++◌, ◌+◌, ◌<◌, ◌^◌, ◌∙◌, ◌∷◌, ◌≡◌, ◌≢◌, ◌≤◌}
+use Rattle.origin_model.proofs.Words.{All, All-append, All-cons, All-nil, List, [], ap, append-nil, append_assoc, arith, drop, length, length-append, length-take-le, refl, suc, sym, take, take-append-drop, true, ℕ, ◌&&◌, ◌++◌, ◌+◌, ◌<◌, ◌^◌, ◌∙◌, ◌∷◌, ◌≡◌, ◌≢◌, ◌≤◌}
 use Rattle.std.proofs.Common.{nat_le}
 use Rattle.std.proofs.Math.Seq.{drop-append_seam, take-append-add, take-append_seam}
 use Rattle.std.proofs.lemmas.Bool.{and_from, and_parts, le-leb, leb-true}

@@ -1,5 +1,5 @@
 -- Batches: the frames of operations are one, and bytes are told from other bytes by where they part.
-use Rattle.origin_model.proofs.Words.{List, Op, [], ap, arith, drop, flat_map, length, refl, subst, sym, take, ℕ, ◌+◌, ◌++◌, ◌<◌, ◌^◌, ◌∙◌, ◌∷◌, ◌≡◌, ◌≤◌}
+use Rattle.origin_model.proofs.Words.{List, Op, ap, arith, drop, length, refl, subst, sym, take, ℕ, ◌+◌, ◌++◌, ◌<◌, ◌∙◌, ◌≡◌, ◌≤◌}
 use Rattle.std.proofs.Math.Seq.{drop-append_seam, take-append_seam}
 use Rattle.std.proofs.lemmas.Grind.{flat_map-append}
 use Rattle.std.proofs.lemmas.Nat.{from_be_bytes-to_be_bytes_4}

@@ -2,7 +2,7 @@
 use Rattle.origin_model.proofs.Words.{AllByRecursion, List, Op, [], ap, append_assoc, arith, drop, false≢true, length, length-append, refl, subst, suc, sym, take, ℕ, ◌++◌, ◌+◌, ◌<◌, ◌∙◌, ◌∷◌, ◌≡◌, ◌≢◌, ◌≤◌}
 use Rattle.std.proofs.Math.Seq.{take-append_seam}
 use Rattle.std.proofs.lemmas.List.Elements.{recursion_from_All}
-use Rattle.origin_model.specs.files.Image.{BadBatch, Batch, Content, CutShort, EndsBadly, EndsWell, HasImage, Holds, Image, IsBatch, IsNoBatch, LastSlot, NoFrames, NoGate, NoTag, NoWord, NotReplica, OpenSlots, TooLong, content_of, header_of, last_slot, length_at, number_at, open_slot, open_slots, slots_of, tag_of, word_tag}
+use Rattle.origin_model.specs.files.Image.{BadBatch, Batch, Content, CutShort, EndsBadly, EndsWell, HasImage, Holds, Image, IsBatch, IsNoBatch, LastSlot, NoFrames, NoGate, NoTag, NoWord, NotReplica, OpenSlots, TooLong, content_of, header_of, last_slot, length_at, number_at, open_slot, open_slots, slots_of, word_tag}
 use Rattle.origin_model.specs.declared.grammar.Grammar.{Grammar}
 use Rattle.origin_model.specs.frames.Frames.{Reads, Whole}
 use Rattle.origin_model.proofs.files.BatchLemmas.{behind_word, length_is, one_grammar, same_batch, word_is}

@@ -1,5 +1,5 @@
 -- Frames that stand for one operation.
-use Rattle.origin_model.proofs.Words.{All, All-weaker, List, Op, [], ap, append-nil, flat_map, map, refl, sym, ℕ, ◌++◌, ◌∙◌, ◌∷◌, ◌≡◌}
+use Rattle.origin_model.proofs.Words.{All, All-weaker, List, Op, [], ap, append-nil, flat_map, map, refl, sym, ◌++◌, ◌∙◌, ◌∷◌, ◌≡◌}
 use Rattle.std.proofs.lemmas.List.Elements.{All-map}
 use Rattle.origin_model.specs.declared.grammar.Grammar.{Grammar}
 use Rattle.origin_model.specs.declared.grammar.Grammar.TheVariants.{Version1}

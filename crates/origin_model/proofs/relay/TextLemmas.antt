@@ -1,5 +1,5 @@
 -- Texts: pieces are read as their bytes joined, a frame is taken at its last byte, and bytes behind the one that closes a session count for nothing.
-use Rattle.origin_model.proofs.Words.{Delete, List, Op, Section, Some, Text, [], ap, append-nil, append_assoc, arith, length, refl, subst, sym, ℕ, ◌++◌, ◌<◌, ◌^◌, ◌∙◌, ◌∷◌, ◌≡◌}
+use Rattle.origin_model.proofs.Words.{List, Some, [], ap, append-nil, append_assoc, arith, length, refl, subst, sym, ℕ, ◌++◌, ◌<◌, ◌^◌, ◌∙◌, ◌∷◌, ◌≡◌}
 use Rattle.std.proofs.lemmas.Nat.{from_be_bytes-to_be_bytes_4}
 use Rattle.std.specs.Int.{byte_at, to_be_bytes, w32}
 use Rattle.origin_model.specs.declared.grammar.Grammar.TheVariants.{Version2}

@@ -1,8 +1,9 @@
 //! What an edit makes, decided before it changes anything.
-ghost use Rattle.std.specs.Prelude.{◌≡◌, ◌∷◌, [], None, IfErr, IfOk, OnOk, length, ◌≤◌, ◌+◌, ◌^◌, ◌<◌, drop, take};
+ghost use Rattle.std.specs.Prelude.{◌≡◌, ◌∷◌, [], None, Some, IfErr, IfOk, OnOk, length, ◌≤◌, ◌+◌, ◌^◌, ◌<◌, drop, take};
 ghost use Rattle.std.specs.Prelude.{vec_len, IsTrue, OnErr, ◌↔◌, IfSome};
 ghost use Rattle.std.specs.Str.{chars};
 ghost use Rattle.origin_model.specs.edits.Edits.{Put, Cut, Add, DropSection, deletes_of, in_front};
+ghost use Rattle.origin_model.specs.edits.Noting.{note_by, note_refusal};
 ghost use Rattle.origin_model.specs.edits.Refusal.{made_by, refusal_message};
 ghost use Rattle.replica_core.specs.Edits.{IsCauseOf, typed_at};
 ghost use Rattle.origin_model.specs.edits.State.{Stands};
@@ -10,7 +11,7 @@ ghost use Rattle.section_list.specs.Cells.{section_cell_ids, section_cells_shown
 ghost use Rattle.origin_model.specs.edits.Landing.{following};
 
 use crate::{EditFault, Replica};
-use fugue_ids::{ElementId, NoMemory, Op, Title};
+use fugue_ids::{Body, ElementId, NoMemory, NoteNames, Op, Title};
 use section_list::{SectionList, Shown};
 use std::alloc::Global;
 
@@ -118,6 +119,22 @@ impl Replica {
         };
         self.check_room(1)?;
         Ok(Op::Delete { target: section.id })
+    }
+
+    /// The new note.
+    pub(crate) fn note_op(&self, names: NoteNames, code: u8, body: Body) -> Result<Op, EditFault>
+        ensures ok { IfOk result (λ op. op ≡ note_by self.now names code body) }
+        ensures may { OnOk result (note_refusal self.now ≡ None) }
+        ensures err { IfErr result (λ fault. note_refusal self.now ≡ Some fault) }
+        ensures stands { Stands self.now }
+    {
+        let counter = self.check_elements(1)?;
+        Ok(Op::Note {
+            id: self.own_id(counter),
+            names,
+            code,
+            body,
+        })
     }
 }
 
