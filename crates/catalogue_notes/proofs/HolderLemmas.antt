@@ -13,12 +13,13 @@ use Rattle.origin_model.specs.declared.operations.Role.{Role}
 use Rattle.origin_model.specs.declared.operations.Role.TheVariants.{Any, Section as SectionRole}
 use Rattle.origin_model.specs.declared.operations.Place.{Place}
 use Rattle.origin_model.specs.declared.operations.Verdict.TheVariants.{Ready}
-use Rattle.origin_model.specs.operations.History.{has_op, holder, is_own}
+use Rattle.origin_model.specs.operations.History.{holder, holds, is_own}
 use Rattle.origin_model.specs.operations.Verdict.{Lawful, fits, names, verdict}
 use Rattle.origin_model.specs.order.Order.{order}
 use Rattle.origin_model.specs.order.Printed.{title_of}
 use Rattle.origin_model.proofs.SharedLemmas.{becomes_ready, has-holder, holder-other, holder-own, order-none, own_id, ready_is_new, when_ready}
 use Rattle.catalogue_notes.proofs.NameLemmas.{Fits, all_fit, fit_each}
+use Rattle.origin_model.specs.edits.Noting.{AreHeld}
 use Rattle.catalogue_notes.specs.Lift.{is_section}
 
 -- an option is None, or there is something
@@ -97,18 +98,11 @@ anything i = (i, Any)
 abbrev pub IsHeld : List Op → Identifier → Type 0
 IsHeld h i = (f : Op) × (holder h i ≡ Some f)
 
--- a note with a new identifier is Ready where what it names is held
-pub note_ready : (h : List Op) (id : Identifier) (named : List Identifier) (code : ℕ) (body : List ℕ) → Lawful h → holder h id ≡ None → All (IsHeld h) named
-    → verdict h (Note id named code body) ≡ Ready
-note_ready h id named code body w new held =
-    let e : Op = Note id named code body in
-    let f = all_fit h (names e) (All-map (Fits h) anything named (All-weaker (IsHeld h) (λ i. Fits h (anything i)) (λ i k. (k.0, k.1, refl)) named held)) in
-    becomes_ready h e (false_from_ne_true (has_op h e) (λ k. not_both (holder h id) e new (has-holder h id e w k (id_eq-refl id)))) (ap is_some new) f.0 f.1
+-- so a note may name it
+pub are_held : (h : List Op) (named : List Identifier) → All (IsHeld h) named → AreHeld h named
+are_held h named all = All-weaker (IsHeld h) (λ i. holds h i ≡ true) (λ i k. ap is_some k.1) named all
 
--- a note leaves the order of every place, what is hidden, and the titles
-pub order-note : (p : Place) (h : List Op) (id : Identifier) (named : List Identifier) (code : ℕ) (body : List ℕ) → order p (Note id named code body ∷ h) ≡ order p h
-order-note p h id named code body = order-none p (Note id named code body) h refl
-
+-- a note leaves the titles
 pub title-note : (h : List Op) (id t : Identifier) (named : List Identifier) (code : ℕ) (body : List ℕ) → holder h id ≡ None
     → title_of (holder (Note id named code body ∷ h) t) ≡ title_of (holder h t)
 title-note h id t named code body new =

@@ -22,6 +22,7 @@ use Rattle.origin_model.specs.edits.Landing.{last_before, following}
 use Rattle.origin_model.proofs.SharedLemmas.{found, not_hidden_before}
 use Rattle.origin_model.proofs.edits.LandsBehindLemmas.{lands_behind_origin}
 use Rattle.origin_model.proofs.edits.SplitLemmas.{end_none, end_split, get_in}
+use Rattle.origin_model.proofs.edits.NotedLemmas.{note_orders, note_ready}
 use Rattle.catalogue_notes.specs.Arranged.{arranged, best, counts, heading, position, sections_at, winner}
 use Rattle.catalogue_notes.specs.Claims.{Move, Origins, Retitle, claim, move_in, retitle_in}
 use Rattle.catalogue_notes.specs.Laws.{MoveLands}
@@ -29,7 +30,7 @@ use Rattle.catalogue_notes.specs.Lift.{as_section, greatest, is_section, is_vali
 use Rattle.catalogue_notes.specs.Making.{left_for, move_body, move_names, moved, without}
 use Rattle.catalogue_notes.proofs.ArrangedLemmas.{IsSection, apart, arranged_once, arranged_shown, move_test, position_by, position_in, shown_is, shown_once}
 use Rattle.catalogue_notes.proofs.ClaimLemmas.{beats-stamp, best-first, claims-none, claims-some}
-use Rattle.catalogue_notes.proofs.HolderLemmas.{IsHeld, is_section-held, none_there, not_both, note_ready, order-note, title-note}
+use Rattle.catalogue_notes.proofs.HolderLemmas.{IsHeld, is_section-held, are_held, none_there, not_both, title-note}
 use Rattle.catalogue_notes.proofs.LiftLemmas.{lift_lawful, lift-some, lifted_from, order_held, passing_to, unlifted}
 use Rattle.catalogue_notes.proofs.PartLemmas.{Distinct, filter-filter, filter-parts, filter_no, filter_one, filter_out, filter_same, filter_yes, following_in, get_some, index_once, is_other, length-out, parts-append, parts_same}
 
@@ -84,8 +85,8 @@ module _ (h : List Op) (id s : Identifier) (n : ℕ) (l r : Option Identifier) (
   ready : verdict h e ≡ Ready
   ready =
       let named : List Identifier = option_to_list l ++ option_to_list r in
-      note_ready h id (move_names s o) 1 (move_body n o) w new
-      (All-cons (IsHeld h) s named (is_here.0, is_here.1) (All-append (IsHeld h) (option_to_list l) (option_to_list r) (origin_held h l w left_is) (origin_held h r w right_is)))
+      note_ready h id (move_names s o) 1 (move_body n o) w (ap is_some new)
+      (are_held h (move_names s o) (All-cons (IsHeld h) s named (is_here.0, is_here.1) (All-append (IsHeld h) (option_to_list l) (option_to_list r) (origin_held h l w left_is) (origin_held h r w right_is))))
 
   valid : passing (move_test h) (move_in e) ≡ Some m
   valid = passing_to (move_test h) (move_in e) m read
@@ -98,7 +99,7 @@ module _ (h : List Op) (id s : Identifier) (n : ℕ) (l r : Option Identifier) (
   moves_are = claims-some move_in move_test e h m valid
 
   same_shown : shown catalogue (e ∷ h) ≡ shown catalogue h
-  same_shown = ap (filter (λ s. not (is_hidden h s))) (order-note catalogue h id (move_names s o) 1 (move_body n o))
+  same_shown = ap (filter (λ s. not (is_hidden h s))) (note_orders catalogue id (move_names s o) 1 (move_body n o) h)
 
   same_retitles : retitles (e ∷ h) ≡ retitles h
   same_retitles = claims-none retitle_in is_valid_title e h refl

@@ -20,6 +20,7 @@ use Rattle.origin_model.specs.operations.Verdict.{Lawful, names, verdict}
 use Rattle.origin_model.specs.order.Order.{order}
 use Rattle.origin_model.specs.order.Printed.{is_hidden, shown, title_of}
 use Rattle.origin_model.proofs.SharedLemmas.{not_hidden_before}
+use Rattle.origin_model.proofs.edits.NotedLemmas.{note_orders, note_ready}
 use Rattle.catalogue_notes.specs.Arranged.{best, counts, winner}
 use Rattle.catalogue_notes.specs.Claims.{Move, Retitle, claim, is_title, move_in, retitle_in, retitle_of, stamp_of}
 use Rattle.catalogue_notes.specs.Laws.{IsRetitled, RetitleLands}
@@ -27,7 +28,7 @@ use Rattle.catalogue_notes.specs.Lift.{greatest, is_section, is_valid_title, lif
 use Rattle.catalogue_notes.specs.Making.{retitle_body, retitled}
 use Rattle.catalogue_notes.proofs.ArrangedLemmas.{move_test, position_by}
 use Rattle.catalogue_notes.proofs.ClaimLemmas.{beats-stamp, best-first, claims-none, claims-some}
-use Rattle.catalogue_notes.proofs.HolderLemmas.{IsHeld, Joins, anything, none_there, not_both, note_ready, order-note, section_held, title-note}
+use Rattle.catalogue_notes.proofs.HolderLemmas.{IsHeld, Joins, anything, are_held, none_there, not_both, section_held, title-note}
 use Rattle.catalogue_notes.proofs.LiftLemmas.{if_so, lift-none, passing-same, passing_to, section-kept, some_inj}
 use Rattle.catalogue_notes.proofs.MoveLemmas.{greatest_above}
 use Rattle.catalogue_notes.proofs.NameLemmas.{Fits}
@@ -76,7 +77,7 @@ module _ (h : List Op) (id s : Identifier) (title : List ℕ) (w : Lawful h) (ne
   r = claim id s n (chars title)
 
   ready : verdict h e ≡ Ready
-  ready = let f = section_held h s is_here in note_ready h id (s ∷ []) 2 (retitle_body n title) w new (All-cons (IsHeld h) s [] (f.0, f.1) (All-nil (IsHeld h)))
+  ready = let f = section_held h s is_here in note_ready h id (s ∷ []) 2 (retitle_body n title) w (ap is_some new) (are_held h (s ∷ []) (All-cons (IsHeld h) s [] (f.0, f.1) (All-nil (IsHeld h))))
 
   retitles_are : retitles (e ∷ h) ≡ r ∷ retitles h
   retitles_are = claims-some retitle_in is_valid_title e h r (passing_to (is_valid_title h) (retitle_in e) r (retitle_read id s n title left_over t) is_here)
@@ -88,7 +89,7 @@ module _ (h : List Op) (id s : Identifier) (title : List ℕ) (w : Lawful h) (ne
   same_lift = lift-none e h refl
 
   same_shown : shown catalogue (e ∷ h) ≡ shown catalogue h
-  same_shown = ap (filter (λ s. not (is_hidden h s))) (order-note catalogue h id (s ∷ []) 2 (retitle_body n title))
+  same_shown = ap (filter (λ s. not (is_hidden h s))) (note_orders catalogue id (s ∷ []) 2 (retitle_body n title) h)
 
   -- the stamp of each older retitle is less
   title_less : (c : Retitle) → Contains (retitles h) c → c.stamp < n
