@@ -2,4 +2,5 @@ pub mod Claims
 pub mod Lift
 pub mod Arranged
 pub mod Making
+pub mod Readings
 pub mod Laws

@@ -2,6 +2,7 @@
 #![tactic(auto)]
 
 mod laws;
+mod reading;
 
 pub use laws::{
     arranged_by_set, each_once, lift_is_lawful, lifted_order_stays, move_lands, retitle_lands,
