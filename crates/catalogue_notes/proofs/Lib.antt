@@ -8,4 +8,7 @@ pub mod MoveLemmas
 pub mod RetitleLemmas
 pub mod SetLemmas
 pub mod ValidLemmas
+pub mod TakenLemmas
+pub mod StandingLemmas
+pub mod WinningLemmas
 mod Examples

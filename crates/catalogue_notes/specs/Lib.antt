@@ -3,4 +3,5 @@ pub mod Lift
 pub mod Arranged
 pub mod Making
 pub mod Readings
+pub mod Winning
 pub mod Laws

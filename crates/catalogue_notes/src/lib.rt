@@ -3,6 +3,8 @@
 
 mod laws;
 mod reading;
+mod standing;
+mod winning;
 
 pub use laws::{
     arranged_by_set, each_once, lift_is_lawful, lifted_order_stays, move_lands, retitle_lands,
