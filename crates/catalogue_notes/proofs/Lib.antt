@@ -11,4 +11,5 @@ pub mod ValidLemmas
 pub mod TakenLemmas
 pub mod StandingLemmas
 pub mod WinningLemmas
+pub mod LiftingLemmas
 mod Examples

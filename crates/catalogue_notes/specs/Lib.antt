@@ -4,4 +4,5 @@ pub mod Arranged
 pub mod Making
 pub mod Readings
 pub mod Winning
+pub mod Lifting
 pub mod Laws

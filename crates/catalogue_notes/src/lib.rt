@@ -2,6 +2,7 @@
 #![tactic(auto)]
 
 mod laws;
+mod lifting;
 mod reading;
 mod standing;
 mod winning;
