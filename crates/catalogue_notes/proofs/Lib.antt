@@ -12,4 +12,6 @@ pub mod TakenLemmas
 pub mod StandingLemmas
 pub mod WinningLemmas
 pub mod LiftingLemmas
+pub mod SectionsLemmas
+pub mod PlacingLemmas
 mod Examples

@@ -5,4 +5,6 @@ pub mod Making
 pub mod Readings
 pub mod Winning
 pub mod Lifting
+pub mod Sections
+pub mod Placing
 pub mod Laws

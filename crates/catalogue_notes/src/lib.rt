@@ -1,9 +1,11 @@
 //! Moves and retitles of sections: notes that say where a section stands, and what its title is.
 #![tactic(auto)]
 
+mod arrangement;
 mod laws;
 mod lifting;
 mod reading;
+mod sections;
 mod standing;
 mod winning;
 
