@@ -14,4 +14,5 @@ pub mod WinningLemmas
 pub mod LiftingLemmas
 pub mod SectionsLemmas
 pub mod PlacingLemmas
+pub mod RetitledLemmas
 mod Examples

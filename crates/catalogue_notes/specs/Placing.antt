@@ -1,10 +1,11 @@
 -- Which section stands at which element, by the winning bids.
-use Rattle.std.specs.Prelude.{◌≡◌, ◌↔◌, Option, Some, None, List}
+use Rattle.std.specs.Prelude.{◌≡◌, ◌↔◌, Option, Some, None, is_some, List}
 use Rattle.std.specs.BTreeMap.{get}
 use Rattle.std.specs.List.{Contains}
 use Rattle.fugue_ids.specs.Identifiers.{Identifier, id_cmp}
 use Rattle.fugue_ids.specs.declared.op.Op.{Op}
 use Rattle.catalogue_notes.specs.Arranged.{arranged, position}
+use Rattle.catalogue_notes.specs.Lift.{is_section}
 use Rattle.catalogue_notes.specs.Lifting.{IsLiftOf}
 use Rattle.catalogue_notes.specs.declared.arrangement.Arrangement.{Arrangement}
 use Rattle.catalogue_notes.specs.declared.reading.Bid.{Bid}
@@ -27,5 +28,6 @@ IsPlacing at sections placing = (x s : Identifier) → (placing x ≡ Some s) �
 -- the arrangement of a history
 pub record IsArranged (h : List Op) (a : Arrangement) : Type 0 where
   pub sections : a.sections.items ≡ arranged h
+  pub known : (s : Identifier) → is_some (get id_cmp a.index s) ≡ is_section h s
   pub lifted : IsLiftOf h a.lifted.list a.lifted.moves.items
   pub positions : (s : Identifier) → position_in (get id_cmp a.winners) s ≡ position h s

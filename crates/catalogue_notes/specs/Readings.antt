@@ -1,5 +1,8 @@
 -- What the code reads of a note.
-use Rattle.catalogue_notes.specs.Claims.{Claim, Move, Origins, Retitle, claim}
+use Rattle.std.specs.Prelude.{Bool, Option, Some, None, if◌then◌else◌, option_map}
+use Rattle.fugue_ids.specs.Identifiers.{Identifier}
+use Rattle.fugue_ids.specs.declared.op.Op.{Op}
+use Rattle.catalogue_notes.specs.Claims.{Claim, Move, Origins, Retitle, claim, retitle_in}
 use Rattle.catalogue_notes.specs.declared.reading.Bid.{Bid}
 use Rattle.catalogue_notes.specs.declared.reading.Gap.{Gap}
 use Rattle.catalogue_notes.specs.declared.reading.Move.{Move as ReadMove}
@@ -18,3 +21,11 @@ bid_of c = record { id = c.id; section = c.section; stamp = c.stamp }
 
 abbrev pub retitle_bid : Retitle → Bid
 retitle_bid r = bid_of r
+
+-- a retitle of a known section
+abbrev pub known_bid : (Identifier → Bool) → Option Bid → Option Bid
+known_bid known None = None
+known_bid known (Some b) = if known b.section then Some b else None
+
+abbrev pub known_retitle : (Identifier → Bool) → Op → Option Bid
+known_retitle known op = known_bid known (option_map retitle_bid (retitle_in op))

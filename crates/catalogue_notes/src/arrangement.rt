@@ -24,6 +24,8 @@ use std::collections::BTreeMap;
 pub(crate) struct Arrangement {
     /// The shown sections in their order.
     pub sections: Vec<ElementId>,
+    /// Where each Section, shown or not, stands among the operations.
+    pub index: BTreeMap<ElementId, usize>,
     pub lifted: Lifted,
     pub winners: BTreeMap<ElementId, Bid>,
 }
@@ -83,14 +85,15 @@ impl Arrangement {
         requires room { length ops.now ≤ MOST_OPERATIONS }
         ensures { IfOk result (λ a. IsArranged (reverse ops.now) a) }
     {
-        let sections = sections_of(alloc, ops)?;
-        let lifted = Lifted::of(alloc, ops, &sections)?;
+        let index = sections_of(alloc, ops)?;
+        let lifted = Lifted::of(alloc, ops, &index)?;
         let standing = standing(alloc, &lifted.moves, ops)?;
         let winners = winners_of(alloc, &lifted.moves, &standing)?;
         let placing = placing_of(alloc, &winners, catalogue)?;
         let sections = arranged_in(alloc, &lifted.list, &placing)?;
         Ok(Arrangement {
             sections,
+            index,
             lifted,
             winners,
         })

@@ -4,7 +4,9 @@
 mod arrangement;
 mod laws;
 mod lifting;
+mod making;
 mod reading;
+mod retitles;
 mod sections;
 mod standing;
 mod winning;

@@ -36,10 +36,11 @@ returns c =
     (λ s. c.in_ok-winners.ensures s ∙ ap (λ z. winning_bid stands s (reverse z)) c.deref-2.ensures.value) in
     record {
       sections =
-          c.in_ok-sections-2.ensures
+          c.in_ok-sections.ensures
           ∙ ap (flat_map (λ x. option_to_list (get id_cmp c.in_ok-placing.placing x))) c.in_ok-lifted.ensures.visible
           ∙ arranged_by h (get id_cmp c.in_ok-placing.placing) c.requires.lawful
           (placing_same h (section_cell_ids (section_cells_shown c.args.catalogue.now.cells)) at (get id_cmp c.in_ok-placing.placing) c.requires.catalogue.visible pos c.in_ok-placing.ensures);
+      known = c.in_ok-index.ensures.known;
       lifted = c.in_ok-lifted.ensures;
       positions = pos;
     }
