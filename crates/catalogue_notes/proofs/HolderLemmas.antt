@@ -3,7 +3,7 @@ use Rattle.std.proofs.Common.{ℕ, Bool, List, [], ap, false, inl, inr, refl, su
 use Rattle.std.specs.Prelude.{None, Option, Some, is_some}
 use Rattle.std.specs.List.{All}
 use Rattle.std.proofs.lemmas.Bool.{cases_Bool, false_from_ne_true, false≢true}
-use Rattle.std.proofs.lemmas.List.Elements.{All-map, All-weaker}
+use Rattle.std.proofs.lemmas.List.Elements.{All-weaker}
 use Rattle.fugue_ids.specs.Identifiers.{Identifier, origin_eq}
 use Rattle.fugue_ids.specs.Ops.{id_of}
 use Rattle.fugue_ids.specs.declared.op.Op.{Op}
@@ -11,14 +11,12 @@ use Rattle.fugue_ids.specs.declared.op.Op.TheVariants.{Note}
 use Rattle.fugue_ids.proofs.IdentifierLemmas.{id_eq-refl, id_eq-true}
 use Rattle.origin_model.specs.declared.operations.Role.{Role}
 use Rattle.origin_model.specs.declared.operations.Role.TheVariants.{Any, Section as SectionRole}
-use Rattle.origin_model.specs.declared.operations.Place.{Place}
 use Rattle.origin_model.specs.declared.operations.Verdict.TheVariants.{Ready}
 use Rattle.origin_model.specs.operations.History.{holder, holds, is_own}
 use Rattle.origin_model.specs.operations.Verdict.{Lawful, fits, names, verdict}
-use Rattle.origin_model.specs.order.Order.{order}
 use Rattle.origin_model.specs.order.Printed.{title_of}
-use Rattle.origin_model.proofs.SharedLemmas.{becomes_ready, has-holder, holder-other, holder-own, order-none, own_id, ready_is_new, when_ready}
-use Rattle.catalogue_notes.proofs.NameLemmas.{Fits, all_fit, fit_each}
+use Rattle.origin_model.proofs.SharedLemmas.{holder-other, holder-own, own_id, ready_is_new, when_ready}
+use Rattle.catalogue_notes.proofs.NameLemmas.{Fits, fit_each}
 use Rattle.origin_model.specs.edits.Noting.{AreHeld}
 use Rattle.catalogue_notes.specs.Lift.{is_section}
 

@@ -15,4 +15,5 @@ pub mod LiftingLemmas
 pub mod SectionsLemmas
 pub mod PlacingLemmas
 pub mod RetitledLemmas
+pub mod MovingLemmas
 mod Examples

@@ -1,6 +1,6 @@
 -- What is lifted grows by what each operation adds.
-use Rattle.std.proofs.Common.{Bool, List, [], ap, append_assoc, arith, drop, false, get_or, inl, inr, length, map, not, refl, reverse, subst, suc, sym, take, true, ℕ, ◌&&◌, ◌+◌, ◌++◌, ◌<◌, ◌∙◌, ◌∷◌, ◌≡◌, ◌≤◌}
-use Rattle.std.specs.Prelude.{IfSome, None, Option, Some, filter, if◌then◌else◌, is_some, option_map, option_to_list}
+use Rattle.std.proofs.Common.{Bool, List, [], ap, append_assoc, arith, drop, false, get_or, inl, inr, length, map, not, refl, reverse, subst, sym, take, true, ℕ, ◌&&◌, ◌+◌, ◌++◌, ◌<◌, ◌∙◌, ◌∷◌, ◌≡◌, ◌≤◌}
+use Rattle.std.specs.Prelude.{None, Option, Some, if◌then◌else◌, is_some, option_map, option_to_list}
 use Rattle.std.specs.List.{All, insert}
 use Rattle.std.proofs.lemmas.Bool.{cases_Bool}
 use Rattle.std.proofs.lemmas.List.{drop_more, length-append, reverse-append, take-append-drop}
@@ -13,7 +13,7 @@ use Rattle.fugue_ids.proofs.ListLemmas.{all_insert}
 use Rattle.origin_model.specs.declared.operations.Place.TheVariants.{Catalogue as catalogue}
 use Rattle.origin_model.specs.declared.operations.node.Node.{Node}
 use Rattle.origin_model.specs.operations.History.{holder, holds}
-use Rattle.origin_model.specs.operations.Verdict.{Lawful, names}
+use Rattle.origin_model.specs.operations.Verdict.{Lawful}
 use Rattle.origin_model.specs.order.Order.{order}
 use Rattle.origin_model.specs.sides.Node.{AreNodes, IsNew, has_node, has_origin, node_order, nodes}
 use Rattle.origin_model.proofs.SharedLemmas.{Lawful-append, found, order_by_nodes, order_total}
@@ -87,9 +87,9 @@ step known h (Note id named code body) w k =
     let valid : Option Move → Option Move = λ o. passing (is_valid h (lift h)) o in
     elim (cases_option (move_in e)) [
       | inl n ↦ record {
-          grows = ap (nodes catalogue) (lift-none e h (ap lifted n)) ∙ sym (ap (λ o. node_in (lift_move known (N h) o) ++ N h) n);
-          bids = ap (map bid_of) (claims-none move_in move_test e h (ap valid n)) ∙ sym (ap (λ o. bid_in (lift_move known (N h) o) ++ map bid_of (moves h)) n);
-        }
+        grows = ap (nodes catalogue) (lift-none e h (ap lifted n)) ∙ sym (ap (λ o. node_in (lift_move known (N h) o) ++ N h) n);
+        bids = ap (map bid_of) (claims-none move_in move_test e h (ap valid n)) ∙ sym (ap (λ o. bid_in (lift_move known (N h) o) ++ map bid_of (moves h)) n);
+      }
       | inr m ↦
           let l = origin_there h m.0.value.left w in
           let r = origin_there h m.0.value.right w in
@@ -99,13 +99,13 @@ step known h (Note id named code body) w k =
           let is : lift_move known (N h) (move_in e) ≡ pick (is_valid h (lift h) m.0) = ap (lift_move known (N h)) m.1 ∙ ap pick same' in
           elim (cases_Bool (is_valid h (lift h) m.0)) [
             | inl t ↦ record {
-                grows = ap (nodes catalogue) (lift-some e h (as_section m.0) (ap lifted m.1 ∙ ap (λ b. option_map as_section (if b then Some m.0 else None)) t)) ∙ sym (ap (λ o. node_in o ++ N h) (is ∙ ap pick t));
-                bids = ap (map bid_of) (claims-some move_in move_test e h m.0 (ap valid m.1 ∙ ap (λ b. if b then Some m.0 else None) t)) ∙ sym (ap (λ o. bid_in o ++ map bid_of (moves h)) (is ∙ ap pick t));
-              }
+              grows = ap (nodes catalogue) (lift-some e h (as_section m.0) (ap lifted m.1 ∙ ap (λ b. option_map as_section (if b then Some m.0 else None)) t)) ∙ sym (ap (λ o. node_in o ++ N h) (is ∙ ap pick t));
+              bids = ap (map bid_of) (claims-some move_in move_test e h m.0 (ap valid m.1 ∙ ap (λ b. if b then Some m.0 else None) t)) ∙ sym (ap (λ o. bid_in o ++ map bid_of (moves h)) (is ∙ ap pick t));
+            }
             | inr t ↦ record {
-                grows = ap (nodes catalogue) (lift-none e h (ap lifted m.1 ∙ ap (λ b. option_map as_section (if b then Some m.0 else None)) t)) ∙ sym (ap (λ o. node_in o ++ N h) (is ∙ ap pick t));
-                bids = ap (map bid_of) (claims-none move_in move_test e h (ap valid m.1 ∙ ap (λ b. if b then Some m.0 else None) t)) ∙ sym (ap (λ o. bid_in o ++ map bid_of (moves h)) (is ∙ ap pick t));
-              }
+              grows = ap (nodes catalogue) (lift-none e h (ap lifted m.1 ∙ ap (λ b. option_map as_section (if b then Some m.0 else None)) t)) ∙ sym (ap (λ o. node_in o ++ N h) (is ∙ ap pick t));
+              bids = ap (map bid_of) (claims-none move_in move_test e h (ap valid m.1 ∙ ap (λ b. if b then Some m.0 else None) t)) ∙ sym (ap (λ o. bid_in o ++ map bid_of (moves h)) (is ∙ ap pick t));
+            }
           ]
     ]
 
@@ -224,6 +224,7 @@ lifting_none list bids is o b = record {
   in_order = o;
   bids_are = ap reverse b ∙ sym (ap (map bid_of) moves-nil);
 }
+
 -- where none is hidden all are visible
 all_visible : (cs : List Cell) → All (λ (c : Cell). c.hidden ≡ false) cs → section_cells_shown cs ≡ cs
 all_visible cs all = filter_full (λ (c : Cell). not c.hidden) cs (λ c m. ap not (All-contains (λ (c : Cell). c.hidden ≡ false) cs c all m))

@@ -1,10 +1,10 @@
 -- Which section stands at which element, and the arrangement by that.
-use Rattle.std.proofs.Common.{Bool, List, [], ap, append_assoc, drop, false, get_or, inl, inr, length, map, not, refl, reverse, subst, suc, sym, true, zero, ℕ, ◌++◌, ◌∙◌, ◌∷◌, ◌≡◌, ◌≢◌, ◌↔◌}
+use Rattle.std.proofs.Common.{Bool, List, [], ap, append_assoc, drop, inl, inr, map, not, refl, reverse, subst, sym, ◌++◌, ◌∙◌, ◌∷◌, ◌≡◌, ◌≢◌}
 use Rattle.std.specs.Prelude.{None, Option, Some, flat_map, option_map, option_to_list, slice_get}
 use Rattle.std.specs.List.{All, Contains}
-use Rattle.std.proofs.lemmas.List.{append-nil, reverse-append, reverse-reverse}
+use Rattle.std.proofs.lemmas.List.{append-nil, reverse-append}
 use Rattle.std.proofs.lemmas.List.Elements.{All-append, All-contains, All-cons, All-head, All-nil, All-tail, Contains-append_cases, Contains-append_left, Contains-append_right}
-use Rattle.fugue_ids.specs.Identifiers.{Identifier, id_eq}
+use Rattle.fugue_ids.specs.Identifiers.{Identifier}
 use Rattle.fugue_ids.specs.declared.op.Op.{Op}
 use Rattle.fugue_ids.proofs.IdentifierLemmas.{cases_id}
 use Rattle.fugue_ids.proofs.ListLemmas.{contains_cases, contains_here, contains_map, contains_none}
@@ -13,7 +13,7 @@ use Rattle.origin_model.specs.operations.Verdict.{Lawful}
 use Rattle.origin_model.specs.order.Order.{order}
 use Rattle.origin_model.specs.order.Printed.{is_hidden, shown}
 use Rattle.catalogue_notes.specs.Arranged.{arranged, position, sections_at, winner}
-use Rattle.catalogue_notes.specs.Claims.{Claim, Move}
+use Rattle.catalogue_notes.specs.Claims.{Move}
 use Rattle.catalogue_notes.specs.Lift.{lift, moves}
 use Rattle.catalogue_notes.specs.Lifting.{IsLiftOf}
 use Rattle.catalogue_notes.specs.Placing.{AreApart, IsPlacing, bid_position, position_in}

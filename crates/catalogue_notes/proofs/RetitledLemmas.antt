@@ -1,5 +1,5 @@
 -- The valid retitles, as operations are passed one after another.
-use Rattle.std.proofs.Common.{Bool, List, [], ap, false, get_or, inl, inr, length, map, refl, reverse, sym, true, ℕ, ◌++◌, ◌<◌, ◌∙◌, ◌∷◌, ◌≡◌}
+use Rattle.std.proofs.Common.{Bool, List, [], ap, get_or, inl, inr, length, map, refl, reverse, sym, ℕ, ◌++◌, ◌<◌, ◌∙◌, ◌∷◌, ◌≡◌}
 use Rattle.std.specs.Prelude.{None, Option, Some, if◌then◌else◌, option_map, option_to_list}
 use Rattle.std.specs.List.{All}
 use Rattle.std.proofs.lemmas.Bool.{cases_Bool}
@@ -14,7 +14,7 @@ use Rattle.catalogue_notes.specs.Lift.{claims}
 use Rattle.catalogue_notes.specs.Readings.{bid_of, known_bid, known_retitle, retitle_bid}
 use Rattle.catalogue_notes.specs.declared.reading.Bid.{Bid}
 use Rattle.catalogue_notes.proofs.ClaimLemmas.{claims-none, claims-some}
-use Rattle.catalogue_notes.proofs.HolderLemmas.{IsHeld, anything, cases_option, joins}
+use Rattle.catalogue_notes.proofs.HolderLemmas.{anything, cases_option, joins}
 use Rattle.catalogue_notes.proofs.LiftingLemmas.{Passed, lawful_at, section_at}
 use Rattle.catalogue_notes.proofs.NameLemmas.{Fits}
 use Rattle.catalogue_notes.proofs.RetitleLemmas.{title_shape}

@@ -1,6 +1,6 @@
 -- Which identifiers no Delete names, as operations are passed one after another.
 use Rattle.std.proofs.Common.{Bool, List, ap, cond, false, not, refl, sym, true, ◌&&◌, ◌||◌, ◌∙◌, ◌∷◌, ◌≡◌}
-use Rattle.std.specs.Prelude.{None, Option, Some}
+use Rattle.std.specs.Prelude.{None, Some}
 use Rattle.std.specs.Ordering.{is_eq}
 use Rattle.fugue_ids.specs.Identifiers.{Identifier, id_cmp, id_eq, origin_eq}
 use Rattle.fugue_ids.specs.Ops.{target_of}

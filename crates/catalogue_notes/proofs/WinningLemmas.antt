@@ -1,12 +1,12 @@
 -- The winners, as bids are taken one after another.
-use Rattle.std.proofs.Common.{Bool, List, [], ap, false, inl, inr, map, not, refl, sym, true, ◌&&◌, ◌∙◌, ◌∷◌, ◌≡◌, ◌≢◌}
+use Rattle.std.proofs.Common.{Bool, List, [], ap, false, inl, inr, map, not, refl, sym, true, ◌&&◌, ◌∙◌, ◌∷◌, ◌≡◌}
 use Rattle.std.specs.List.{Contains}
-use Rattle.std.specs.Prelude.{None, Option, Some, filter, if◌then◌else◌, option_map}
+use Rattle.std.specs.Prelude.{None, Option, Some, if◌then◌else◌, option_map}
 use Rattle.std.proofs.lemmas.Bool.{and_from, and_right, cases_Bool}
 use Rattle.fugue_ids.specs.Identifiers.{Identifier, id_eq}
 use Rattle.fugue_ids.specs.Keyed.{IsReplaced}
 use Rattle.fugue_ids.specs.declared.op.Op.{Op}
-use Rattle.fugue_ids.proofs.IdentifierLemmas.{cases_id, eq-id_eq, id_eq-refl, ne-id_eq}
+use Rattle.fugue_ids.proofs.IdentifierLemmas.{cases_id, eq-id_eq, ne-id_eq}
 use Rattle.fugue_ids.proofs.ListLemmas.{contains_here, contains_there}
 use Rattle.origin_model.specs.order.Printed.{is_hidden}
 use Rattle.catalogue_notes.specs.Arranged.{beats, best, better, counts, winner}

@@ -7,4 +7,5 @@ pub mod Winning
 pub mod Lifting
 pub mod Sections
 pub mod Placing
+pub mod Moving
 pub mod Laws

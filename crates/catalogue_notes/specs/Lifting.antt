@@ -1,5 +1,5 @@
 -- How what is lifted grows: the node that each operation adds to it, and the bid of a move.
-use Rattle.std.specs.Prelude.{◌≡◌, ℕ, ◌≤◌, Option, Some, None, IfSome, Bool, false, if◌then◌else◌, ◌&&◌, List, [], ◌∷◌, ◌++◌, length, map, reverse, option_to_list, option_map, option_and_then, is_some}
+use Rattle.std.specs.Prelude.{◌≡◌, ◌≤◌, Option, Some, None, Bool, false, if◌then◌else◌, ◌&&◌, List, length, map, reverse}
 use Rattle.std.specs.List.{All}
 use Rattle.fugue_ids.specs.Identifiers.{Identifier}
 use Rattle.fugue_ids.specs.declared.op.Op.{Op}
@@ -11,7 +11,7 @@ use Rattle.origin_model.specs.sides.Node.{has_origin, nodes}
 use Rattle.section_list.specs.Cells.{Cell, section_cell_ids, section_cells_shown}
 use Rattle.section_list.specs.SectionList.{IsInOrder, Listing}
 use Rattle.catalogue_notes.specs.Claims.{Move, move_in}
-use Rattle.catalogue_notes.specs.Lift.{is_section, lift, moves}
+use Rattle.catalogue_notes.specs.Lift.{lift, moves}
 use Rattle.catalogue_notes.specs.Readings.{bid_of}
 use Rattle.catalogue_notes.specs.declared.lifting.Lift.{Lift}
 use Rattle.catalogue_notes.specs.declared.reading.Bid.{Bid}

@@ -5,6 +5,7 @@ mod arrangement;
 mod laws;
 mod lifting;
 mod making;
+mod moving;
 mod reading;
 mod retitles;
 mod sections;
@@ -15,3 +16,4 @@ pub use laws::{
     arranged_by_set, each_once, lift_is_lawful, lifted_order_stays, move_lands, retitle_lands,
     valid_in_whole, winners,
 };
+pub use moving::{MoveFault, move_section};

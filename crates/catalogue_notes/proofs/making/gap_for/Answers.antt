@@ -1,4 +1,4 @@
-use Rattle.std.proofs.Common.{List, ap, sym, ◌∙◌, ◌≡◌}
+use Rattle.std.proofs.Common.{ap, ◌∙◌, ◌≡◌}
 use Rattle.std.specs.Prelude.{Option, None, Some, option_map}
 use Rattle.std.specs.BTreeMap.{get}
 use Rattle.fugue_ids.specs.Identifiers.{Identifier, id_cmp}
@@ -6,7 +6,6 @@ use Rattle.origin_model.specs.declared.operations.Place.TheVariants.{Catalogue a
 use Rattle.origin_model.specs.edits.Edits.{in_front}
 use Rattle.origin_model.specs.edits.Landing.{following}
 use Rattle.origin_model.specs.order.Order.{order}
-use Rattle.catalogue_notes.specs.Claims.{Origins}
 use Rattle.catalogue_notes.specs.Lift.{lift}
 use Rattle.catalogue_notes.specs.Making.{left_for, without}
 use Rattle.catalogue_notes.specs.Placing.{position_in}

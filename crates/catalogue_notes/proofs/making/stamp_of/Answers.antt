@@ -1,4 +1,4 @@
-use Rattle.std.proofs.Common.{List, ℕ, ap, max, reverse, ◌∙◌, ◌≡◌}
+use Rattle.std.proofs.Common.{List, ℕ, ap, max, reverse, ◌∙◌}
 use Rattle.std.specs.Prelude.{map}
 use Rattle.fugue_ids.specs.declared.op.Op.{Op}
 use Rattle.catalogue_notes.specs.Lift.{greatest, moves, retitles}

@@ -1,4 +1,4 @@
-use Rattle.std.proofs.Common.{ap, arith, get_or, length, reverse, sym, take, ◌+◌, ◌<◌, ◌∙◌, ◌≡◌, max}
+use Rattle.std.proofs.Common.{ap, arith, sym, ◌∙◌, max}
 use Rattle.std.specs.Prelude.{map}
 use Rattle.catalogue_notes.specs.Lift.{greatest}
 use Rattle.catalogue_notes.specs.declared.reading.Bid.{Bid}

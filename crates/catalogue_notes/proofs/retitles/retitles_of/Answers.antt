@@ -1,12 +1,11 @@
-use Rattle.std.proofs.Common.{Bool, List, [], ap, append_assoc, arith, get_or, length, refl, reverse, sym, take, ◌+◌, ◌++◌, ◌<◌, ◌∙◌, ◌∷◌, ◌≡◌}
+use Rattle.std.proofs.Common.{Bool, List, ap, arith, reverse, sym, take, ◌++◌, ◌∙◌, ◌∷◌}
 use Rattle.std.proofs.lemmas.List.{append-nil}
-use Rattle.std.specs.Prelude.{None, Option, Some, is_some, map, option_to_list}
+use Rattle.std.specs.Prelude.{None, Some, is_some, map, option_to_list}
 use Rattle.std.specs.BTreeMap.{get}
 use Rattle.fugue_ids.specs.Identifiers.{Identifier, id_cmp}
 use Rattle.fugue_ids.specs.declared.op.Op.{Op}
 use Rattle.catalogue_notes.specs.Lift.{retitles}
-use Rattle.catalogue_notes.specs.Readings.{bid_of, known_retitle}
-use Rattle.catalogue_notes.specs.declared.reading.Bid.{Bid}
+use Rattle.catalogue_notes.specs.Readings.{bid_of}
 use Rattle.catalogue_notes.proofs.RetitledLemmas.{bids_more, no_retitles, retitled_more}
 use Rattle.catalogue_notes.proofs.TakenLemmas.{passed_all, passed_more}
 use Rattle.catalogue_notes.proofs.retitles.retitles_of.Goals as goal

@@ -1,4 +1,4 @@
-use Rattle.std.proofs.Common.{arith, get_or, length, take, true, ◌+◌, ◌<◌, ◌≡◌, ◌∙◌}
+use Rattle.std.proofs.Common.{arith, take, true, ◌≡◌, ◌∙◌}
 use Rattle.std.specs.BTreeSet.{contains}
 use Rattle.std.specs.BTreeMap.{is_at}
 use Rattle.fugue_ids.specs.Identifiers.{id_cmp}

@@ -1,10 +1,10 @@
-use Rattle.std.proofs.Common.{List, ap, arith, get_or, length, not, reverse, sym, take, ◌&&◌, ◌+◌, ◌<◌, ◌∙◌, ◌≡◌}
+use Rattle.std.proofs.Common.{List, ap, arith, not, reverse, sym, take, ◌&&◌, ◌∙◌}
 use Rattle.std.specs.BTreeSet.{contains}
 use Rattle.fugue_ids.specs.Identifiers.{id_cmp}
 use Rattle.fugue_ids.specs.declared.op.Op.{Op}
 use Rattle.origin_model.specs.order.Printed.{is_hidden}
 use Rattle.catalogue_notes.proofs.StandingLemmas.{withdrawn_more, withdrawn_same}
-use Rattle.catalogue_notes.proofs.TakenLemmas.{passed_all, passed_more}
+use Rattle.catalogue_notes.proofs.TakenLemmas.{passed_more}
 use Rattle.catalogue_notes.proofs.standing.withdraw.Goals as goal
 use Rattle.catalogue_notes.proofs.standing.withdraw.Goals.{in-Some, in_default}
 

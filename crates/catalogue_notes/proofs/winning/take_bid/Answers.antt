@@ -1,4 +1,4 @@
-use Rattle.std.proofs.Common.{ap, ◌∙◌, ◌≡◌}
+use Rattle.std.proofs.Common.{ap, ◌∙◌}
 use Rattle.std.specs.Prelude.{Some}
 use Rattle.fugue_ids.proofs.IdentifierLemmas.{id_at-other}
 use Rattle.catalogue_notes.specs.Winning.{better_bid}

@@ -1,10 +1,10 @@
-use Rattle.std.proofs.Common.{List, ap, arith, get_or, length, reverse, sym, take, ◌+◌, ◌<◌, ◌∙◌, ◌≡◌}
+use Rattle.std.proofs.Common.{List, ap, arith, reverse, sym, take, ◌∙◌}
 use Rattle.std.specs.BTreeMap.{get}
 use Rattle.std.specs.BTreeSet.{contains}
 use Rattle.fugue_ids.specs.Identifiers.{id_cmp}
 use Rattle.catalogue_notes.specs.Winning.{winning_bid}
 use Rattle.catalogue_notes.specs.declared.reading.Bid.{Bid}
-use Rattle.catalogue_notes.proofs.TakenLemmas.{passed_all, passed_more}
+use Rattle.catalogue_notes.proofs.TakenLemmas.{passed_more}
 use Rattle.catalogue_notes.proofs.WinningLemmas.{bid_passed, bid_taken}
 use Rattle.catalogue_notes.proofs.winning.winners_of.Goals as goal
 use Rattle.catalogue_notes.proofs.winning.winners_of.Goals.{then-contains+in_ok-take_bid, else-contains}

@@ -1,4 +1,4 @@
-use Rattle.std.proofs.Common.{List, ap, not, reverse, subst, sym, ◌∙◌, ◌≡◌, Bool}
+use Rattle.std.proofs.Common.{List, ap, not, reverse, subst, ◌∙◌, ◌≡◌, Bool}
 use Rattle.std.specs.Prelude.{flat_map, option_to_list}
 use Rattle.std.specs.List.{All}
 use Rattle.std.specs.BTreeMap.{get}

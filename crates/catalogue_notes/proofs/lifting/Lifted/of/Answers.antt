@@ -1,4 +1,4 @@
-use Rattle.std.proofs.Common.{List, ap, arith, get_or, length, reverse, subst, sym, take, ◌+◌, ◌<◌, ◌∙◌, ◌≡◌, ◌≤◌, Bool}
+use Rattle.std.proofs.Common.{List, arith, reverse, subst, sym, take, ◌+◌, ◌∙◌, Bool}
 use Rattle.std.specs.Prelude.{is_some}
 use Rattle.std.specs.BTreeMap.{get}
 use Rattle.fugue_ids.specs.Identifiers.{Identifier, id_cmp}
