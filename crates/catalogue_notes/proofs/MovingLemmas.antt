@@ -1,0 +1,176 @@
+-- What a move of a replica is, and why there is none.
+use Rattle.std.proofs.Common.{◌&&◌, Bool, List, [], ap, arith, false, inl, inr, length, refl, subst, sym, true, ℕ, ◌+◌, ◌-◌, ◌<◌, ◌^◌, ◌∙◌, ◌∷◌, ◌≡◌, ◌≢◌, ◌⊎◌}
+use Rattle.std.specs.Prelude.{Err, IfOk, IfSome, None, Ok, Option, Result, Some, if◌then◌else◌, nat_eq, nat_lt, option_map}
+use Rattle.std.specs.Option.{option_or}
+use Rattle.std.proofs.Math.Nat.{le_refl}
+use Rattle.std.proofs.lemmas.Bool.Decides.{nat_tests}
+use Rattle.std.proofs.lemmas.List.Elements.{All-weaker}
+use Rattle.fugue_ids.specs.Identifiers.{Identifier}
+use Rattle.fugue_ids.specs.declared.op.Op.{Op}
+use Rattle.fugue_ids.specs.declared.op.Op.TheVariants.{Note}
+use Rattle.fugue_ids.proofs.ListLemmas.{all_from_map}
+use Rattle.origin_model.specs.declared.edit_fault.EditFault.{EditFault}
+use Rattle.origin_model.specs.declared.edit_fault.EditFault.TheVariants.{IdsSpent as EditIdsSpent, TooMany as EditTooMany, NoMemory as EditNoMemory}
+use Rattle.origin_model.specs.declared.operations.Verdict.TheVariants.{Ready}
+use Rattle.origin_model.specs.edits.Edits.{id_at, next_counter}
+use Rattle.origin_model.specs.edits.Effect.{Gains}
+use Rattle.origin_model.specs.edits.Noting.{AreHeld, IsNoted, RefusesNote, note_by, note_refusal}
+use Rattle.origin_model.specs.edits.Refusal.{held_count, next_of_own}
+use Rattle.origin_model.specs.edits.State.{Stands, State}
+use Rattle.origin_model.specs.operations.History.{holds}
+use Rattle.origin_model.specs.operations.Verdict.{verdict}
+use Rattle.origin_model.proofs.edits.FreshIdLemmas.{history_below, none_from}
+use Rattle.catalogue_notes.specs.Arranged.{arranged}
+use Rattle.catalogue_notes.specs.Laws.{IsMoved}
+use Rattle.catalogue_notes.specs.Lift.{stamp}
+use Rattle.catalogue_notes.specs.Making.{move_body, move_names, next_stamp, origins_for}
+use Rattle.catalogue_notes.specs.Moving.{IsMoveMade, IsMovePlan, NoteRefusesAs, RefusesFor, as_move_fault, move_by, move_cause, move_refusal}
+use Rattle.catalogue_notes.specs.declared.moving.MoveFault.{MoveFault}
+use Rattle.catalogue_notes.specs.declared.moving.MoveFault.TheVariants.{IdsSpent, NoMemory, NoPlace, NoSection, StampsSpent, TooMany}
+use Rattle.catalogue_notes.specs.declared.moving.Plan.{Plan}
+use Rattle.catalogue_notes.proofs.HolderLemmas.{IsHeld, anything, are_held, joins}
+use Rattle.catalogue_notes.proofs.LiftLemmas.{map_from, some_inj}
+use Rattle.catalogue_notes.proofs.MoveLemmas.{move_lands}
+use Rattle.catalogue_notes.proofs.NameLemmas.{Fits}
+
+-- the identifier of the next note is new
+fresh : (s : State) → holds s.held.history (id_at s.number (next_of_own s)) ≡ false
+fresh s =
+    let h : List Op = s.held.history in
+    let c : ℕ = next_counter s.number h s.held.waiting in
+    none_from s.number c h (history_below s.number h s.held.waiting) c (le_refl c)
+
+-- the planned move lands
+pub plan_lands : (s : State) (k j : ℕ) (plan : Plan) (p : IsMovePlan s k j plan) → Stands s → IsMoved s.held.history (move_by s p.section k j) p.section k j
+plan_lands s k j plan p st = move_lands s.held.history (id_at s.number (next_of_own s)) p.section k j st.lawful (fresh s) p.left_over p.placed p.place
+
+-- a note that is Ready names what is held
+ready_held : (h : List Op) (id : Identifier) (named : List Identifier) (code : ℕ) (body : List ℕ) → verdict h (Note id named code body) ≡ Ready → AreHeld h named
+ready_held h id named code body r =
+    let f = all_from_map anything (Fits h) named (joins h (Note id named code body) r).fit in
+    are_held h named (All-weaker (λ i. Fits h (anything i)) (IsHeld h) (λ i k. (k.0, k.1)) named f)
+
+pub plan_held : (s : State) (k j : ℕ) (plan : Plan) → IsMovePlan s k j plan → Stands s → AreHeld s.held.history plan.names
+plan_held s k j plan p st =
+    let h : List Op = s.held.history in
+    let m = plan_lands s k j plan p st in
+    subst (AreHeld h) (sym p.names_are)
+    (ready_held h (id_at s.number (next_of_own s)) (move_names p.section (origins_for h k j)) 1 (move_body (stamp h + 1) (origins_for h k j)) m.ready)
+
+-- the planned move was made
+pub plan_made : (old new : State) (k j n : ℕ) (plan : Plan) → IsMovePlan old k j plan → Stands old → IsNoted old new plan.names 1 plan.body n → IsMoveMade old new k j n
+plan_made old new k j n plan p st i = record {
+  count = i.count;
+  section = p.section;
+  placed = p.placed;
+  gained = subst (λ (op : Op). Gains old new (op ∷ [])) (λ t. note_by old (p.names_are t) 1 (p.body_is t)) i.gained;
+  moved = plan_lands old k j plan p st;
+}
+
+-- a note is not refused for want of memory
+not_for_memory : (s : State) (fault : EditFault) → note_refusal s ≡ Some fault → fault ≢ EditNoMemory
+not_for_memory s fault e d = by (nat_lt 0 1 && nat_lt (2 ^ 32) (next_of_own s + 1)) (nat_lt s.most (held_count s + 1)) (ap (λ z. z) e ∙ ap Some d)
+  where
+    by : (b c : Bool) → (if b then Some (EditIdsSpent (next_of_own s - 1)) else (if c then Some (EditTooMany (held_count s)) else None)) ≡ Some EditNoMemory → ⊥
+    by true c e = cc e
+    by false true e = cc e
+    by false false e = cc e
+
+-- the refusals of a note, as a move tells them
+pub note_refuses_ok : (s : State) (n : ℕ) → RefusesNote s (Ok n) → NoteRefusesAs s (Ok n)
+note_refuses_ok s n r = record {
+  only = λ fault d e. cc e;
+  always = λ fault e.
+      let g = map_from as_move_fault (note_refusal s) fault e in
+      let k : Ok n ≡ Err g.0 = (r g.0 (not_for_memory s g.0 g.1)).1 g.1 in
+      cc k;
+}
+
+-- want of memory is told as such
+memory_told : (fault : EditFault) → fault ≡ EditNoMemory → as_move_fault fault ≡ NoMemory
+memory_told fault e = ap as_move_fault e
+
+-- an answer that is a fault
+abbrev failed : {E : Type 0} → E → Result ℕ E
+failed e = Err e
+
+abbrev fault_in : {E : Type 0} → E → Result ℕ E → E
+fault_in other (Ok n) = other
+fault_in other (Err e) = e
+
+-- the fault of an answer is one
+err_inj : {E : Type 0} → (a b : E) → failed a ≡ failed b → a ≡ b
+err_inj a b e = ap (fault_in a) e
+
+pub note_refuses_err : (s : State) (fault : EditFault) → RefusesNote s (Err fault) → NoteRefusesAs s (Err (as_move_fault fault))
+note_refuses_err s fault r = record {
+  only = λ f d e.
+      let same : as_move_fault fault ≡ f = err_inj (as_move_fault fault) f e in
+      ap (option_map as_move_fault) ((r fault (λ z. d (sym same ∙ memory_told fault z))).0 refl) ∙ ap Some same;
+  always = λ f e.
+      let g = map_from as_move_fault (note_refusal s) f e in
+      let k : Err fault ≡ Err g.0 = (r g.0 (not_for_memory s g.0 g.1)).1 g.1 in
+      ap (λ z. Err (as_move_fault z)) (err_inj fault g.0 k) ∙ ap Err g.2;
+}
+
+-- with no cause of the move's own, the refusals are those of the note
+pub refuses_note : (s : State) (k j : ℕ) (result : Result ℕ MoveFault) → move_cause s k j ≡ None → NoteRefusesAs s result → RefusesFor (move_refusal s k j) result
+refuses_note s k j result n r =
+    let is : move_refusal s k j ≡ option_map as_move_fault (note_refusal s) = ap (λ o. option_or o (option_map as_move_fault (note_refusal s))) n in
+    record {
+      only = λ fault d e. is ∙ r.only fault d e;
+      always = by (move_refusal s k j) (λ fault e. inl (r.always fault (sym is ∙ e)));
+    }
+  where
+    by : (o : Option MoveFault) → ((fault : MoveFault) → o ≡ Some fault → (result ≡ Err fault) ⊎ (result ≡ Err NoMemory)) → IfSome o (λ fault. (result ≡ Err fault) ⊎ (result ≡ Err NoMemory))
+    by None f = tt
+    by (Some fault) f = f fault refl
+
+-- a fault that the plan found
+pub refuses_plan : (s : State) (k j : ℕ) (fault : MoveFault) → (fault ≢ NoMemory → move_cause s k j ≡ Some fault) → RefusesFor (move_refusal s k j) (Err fault)
+refuses_plan s k j fault f = record {
+  only = λ g d e.
+      let same : fault ≡ g = err_inj fault g e in
+      ap (λ o. option_or o (option_map as_move_fault (note_refusal s))) (f (λ z. d (sym same ∙ z))) ∙ ap Some same;
+  always = by fault f;
+}
+  where
+    found : (fault : MoveFault) → move_cause s k j ≡ Some fault → IfSome (move_refusal s k j) (λ g. (failed fault ≡ failed g) ⊎ (failed fault ≡ failed NoMemory))
+    found fault e = subst (λ o. IfSome (option_or o (option_map as_move_fault (note_refusal s))) (λ g. (failed fault ≡ failed g) ⊎ (failed fault ≡ failed NoMemory))) (sym e) (inl refl)
+
+    any : (o : Option MoveFault) → IfSome o (λ g. (failed NoMemory ≡ failed g) ⊎ (failed NoMemory ≡ failed NoMemory))
+    any None = tt
+    any (Some g) = inr refl
+
+    by : (fault : MoveFault) → (fault ≢ NoMemory → move_cause s k j ≡ Some fault) → IfSome (move_refusal s k j) (λ g. (failed fault ≡ failed g) ⊎ (failed fault ≡ failed NoMemory))
+    by NoSection f = found NoSection (f (λ z. cc z))
+    by NoPlace f = found NoPlace (f (λ z. cc z))
+    by StampsSpent f = found StampsSpent (f (λ z. cc z))
+    by (IdsSpent n) f = found (IdsSpent n) (f (λ z. cc z))
+    by (TooMany n) f = found (TooMany n) (f (λ z. cc z))
+    by NoMemory f = any (move_refusal s k j)
+
+-- a planned move has no cause against it
+numbers : (k n j st : ℕ) → k < n → j < n → st + 1 < 2 ^ 32 → (nat_lt k n ≡ true) × (nat_lt j n ≡ true) × (nat_eq st (2 ^ 32 - 1) ≡ false)
+numbers k n j st a b c = (grind (arith, nat_tests), grind (arith, nat_tests), grind (arith, nat_tests))
+
+pub plan_no_cause : (s : State) (k j : ℕ) (plan : Plan) → IsMovePlan s k j plan → move_cause s k j ≡ None
+plan_no_cause s k j plan p =
+    let n : ℕ = length (arranged s.held.history) in
+    let q = numbers k n j (stamp s.held.history) p.within p.place p.left_over in
+    let last : Bool → Option MoveFault = λ b. if b then Some StampsSpent else None in
+    let mid : Bool → Option MoveFault = λ b. if b then last (nat_eq (stamp s.held.history) (2 ^ 32 - 1)) else Some NoPlace in
+    ap (λ b. if b then mid (nat_lt j n) else Some NoSection) q.0 ∙ ap mid q.1 ∙ ap last q.2
+
+-- the stamp that is left
+pub stamp_left : (n m : ℕ) → next_stamp n ≡ Some m → m < 2 ^ 32 → (m ≡ n + 1) × (n + 1 < 2 ^ 32)
+stamp_left n m e f = by (nat_eq n (2 ^ 32 - 1)) e
+  where
+    by : (b : Bool) → (if b then None else Some (n + 1)) ≡ Some m → (m ≡ n + 1) × (n + 1 < 2 ^ 32)
+    by true e = cc e
+    by false e = let d : n + 1 ≡ m = some_inj (n + 1) m e in (sym d, omega (arith, d, f))
+
+-- an answer, by its plan
+pub made_by_plan : (old new : State) (k j : ℕ) (plan : Plan) (r : Result ℕ MoveFault) → IsMovePlan old k j plan → Stands old → IfOk r (λ n. IsNoted old new plan.names 1 plan.body n) → IfOk r (λ n. IsMoveMade old new k j n)
+made_by_plan old new k j plan (Ok n) p st i = plan_made old new k j n plan p st i
+made_by_plan old new k j plan (Err e) p st i = tt

@@ -1,0 +1,69 @@
+-- The valid retitles, as operations are passed one after another.
+use Rattle.std.proofs.Common.{Bool, List, [], ap, get_or, inl, inr, length, map, refl, reverse, sym, ℕ, ◌++◌, ◌<◌, ◌∙◌, ◌∷◌, ◌≡◌}
+use Rattle.std.specs.Prelude.{None, Option, Some, if◌then◌else◌, option_map, option_to_list}
+use Rattle.std.specs.List.{All}
+use Rattle.std.proofs.lemmas.Bool.{cases_Bool}
+use Rattle.std.proofs.lemmas.List.{reverse-append}
+use Rattle.std.proofs.lemmas.List.Elements.{All-head}
+use Rattle.fugue_ids.specs.Identifiers.{Identifier}
+use Rattle.fugue_ids.specs.declared.op.Op.{Op}
+use Rattle.origin_model.specs.operations.Verdict.{Lawful}
+use Rattle.catalogue_notes.specs.Claims.{Claim, Retitle, retitle_in}
+use Rattle.catalogue_notes.specs.Lift.{is_section, is_valid_title, passing, retitles}
+use Rattle.catalogue_notes.specs.Lift.{claims}
+use Rattle.catalogue_notes.specs.Readings.{bid_of, known_bid, known_retitle, retitle_bid}
+use Rattle.catalogue_notes.specs.declared.reading.Bid.{Bid}
+use Rattle.catalogue_notes.proofs.ClaimLemmas.{claims-none, claims-some}
+use Rattle.catalogue_notes.proofs.HolderLemmas.{anything, cases_option, joins}
+use Rattle.catalogue_notes.proofs.LiftingLemmas.{Passed, lawful_at, section_at}
+use Rattle.catalogue_notes.proofs.NameLemmas.{Fits}
+use Rattle.catalogue_notes.proofs.RetitleLemmas.{title_shape}
+use Rattle.std.proofs.Common.{subst}
+
+-- what one operation more adds
+step : (known : Identifier → Bool) (h : List Op) (op : Op) → ((r : Retitle) → retitle_in op ≡ Some r → known r.section ≡ is_section h r.section)
+    → map bid_of (retitles (op ∷ h)) ≡ option_to_list (known_retitle known op) ++ map bid_of (retitles h)
+step known h op k =
+    let by : Option Bid → List Bid = λ o. option_to_list (known_bid known o) ++ map bid_of (retitles h) in
+    let valid : Option Retitle → Option Retitle = λ o. passing (is_valid_title h) o in
+    elim (cases_option (retitle_in op)) [
+      | inl n ↦ ap (map bid_of) (claims-none retitle_in is_valid_title op h (ap valid n)) ∙ sym (ap by (ap (option_map retitle_bid) n))
+      | inr r ↦
+          let pick : Bool → Option Retitle = λ b. if b then Some r.0 else None in
+          let pick' : Bool → Option Bid = λ b. if b then Some (bid_of r.0) else None in
+          let s = k r.0 r.1 in
+          elim (cases_Bool (is_section h r.0.section)) [
+            | inl t ↦ ap (map bid_of) (claims-some retitle_in is_valid_title op h r.0 (ap valid r.1 ∙ ap pick t))
+                ∙ sym (ap by (ap (option_map retitle_bid) r.1) ∙ ap (λ b. option_to_list (pick' b) ++ map bid_of (retitles h)) (s ∙ t))
+            | inr t ↦ ap (map bid_of) (claims-none retitle_in is_valid_title op h (ap valid r.1 ∙ ap pick t))
+                ∙ sym (ap by (ap (option_map retitle_bid) r.1) ∙ ap (λ b. option_to_list (pick' b) ++ map bid_of (retitles h)) (s ∙ t))
+          ]
+    ]
+
+-- what the operation at a place of the list adds
+pub retitled_more : (ops : List Op) (i : ℕ) (op : Op) (known : Identifier → Bool) → Lawful (reverse ops) → ((s : Identifier) → known s ≡ is_section (reverse ops) s) → i < length ops → op ≡ get_or ops i op
+    → map bid_of (retitles (op ∷ Passed ops i)) ≡ option_to_list (known_retitle known op) ++ map bid_of (retitles (Passed ops i))
+retitled_more ops i op known w k l e =
+    let h : List Op = Passed ops i in
+    let v = lawful_at ops i op w l e in
+    step known h op (λ r q.
+    let f = All-head (Fits h) (anything r.section) [] (subst (All (Fits h)) (title_shape op r q).named (joins h op v.0).fit) in
+    k r.section ∙ section_at ops i op r.section w l e (f.0, f.1))
+
+-- one bid more, pushed or not
+pub bids_more : (bids : List Bid) (o : Option Bid) (h g : List Op) → reverse bids ≡ map bid_of (retitles h) → map bid_of (retitles g) ≡ option_to_list o ++ map bid_of (retitles h)
+    → reverse (bids ++ option_to_list o) ≡ map bid_of (retitles g)
+bids_more bids o h g k s = reverse-append bids (option_to_list o) ∙ (λ i. reverse-one o i ++ k i) ∙ sym s
+  where
+    reverse-one : (o : Option Bid) → reverse (option_to_list o) ≡ option_to_list o
+    reverse-one None = refl
+    reverse-one (Some b) = refl
+
+pub no_retitles : retitles [] ≡ []
+unfolding claims
+no_retitles = refl
+
+-- the stamps of claims are those of their bids
+pub bid_stamps : {V : Type 0} → (cs : List (Claim V)) → map (λ (b : Bid). b.stamp) (map bid_of cs) ≡ map (λ (c : Claim V). c.stamp) cs
+bid_stamps [] = refl
+bid_stamps (c ∷ cs) = ap (λ l. c.stamp ∷ l) (bid_stamps cs)

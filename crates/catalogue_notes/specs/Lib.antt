@@ -1,0 +1,11 @@
+pub mod Claims
+pub mod Lift
+pub mod Arranged
+pub mod Making
+pub mod Readings
+pub mod Winning
+pub mod Lifting
+pub mod Sections
+pub mod Placing
+pub mod Moving
+pub mod Laws

@@ -1,0 +1,55 @@
+-- The notes that move and retitle a section. Sections and places count from 0.
+use Rattle.std.specs.Prelude.{ℕ, suc, ◌+◌, ◌-◌, ◌^◌, nat_eq, if◌then◌else◌, Option, Some, None, List, [], ◌∷◌, ◌++◌, take, drop, option_to_list, option_map}
+use Rattle.std.specs.Int.{to_be_bytes, w32}
+use Rattle.fugue_ids.specs.Identifiers.{Identifier}
+use Rattle.fugue_ids.specs.declared.op.Op.{Op}
+use Rattle.fugue_ids.specs.declared.op.Op.TheVariants.{Note}
+use Rattle.origin_model.specs.declared.operations.Place.TheVariants.{Catalogue as catalogue}
+use Rattle.origin_model.specs.edits.Edits.{in_front}
+use Rattle.origin_model.specs.edits.Landing.{following}
+use Rattle.origin_model.specs.order.Order.{order}
+use Rattle.catalogue_notes.specs.Arranged.{arranged, position}
+use Rattle.catalogue_notes.specs.Claims.{Origins}
+use Rattle.catalogue_notes.specs.Lift.{lift, stamp}
+
+-- the list without its member k
+abbrev pub without : List Identifier → ℕ → List Identifier
+without list k = take k list ++ drop (suc k) list
+
+-- the left origin of a move of member k to j: the position of the member in front of j, when k is taken out
+abbrev pub left_for : List Op → (k j : ℕ) → Option Identifier
+left_for h k j = option_map (position h) (in_front (without (arranged h) k) j)
+
+-- the origins of that move: the right one is the element that follows the left one, whatever it stands for
+abbrev pub origins_for : List Op → (k j : ℕ) → Origins
+origins_for h k j = record { left = left_for h k j; right = following (order catalogue (lift h)) (left_for h k j) }
+
+-- the form tells which origins are given
+abbrev pub form_of : (left right : Option Identifier) → ℕ
+form_of None None = 0
+form_of (Some l) None = 1
+form_of None (Some r) = 2
+form_of (Some l) (Some r) = 3
+
+-- the names and the body of a move
+abbrev pub move_names : Identifier → Origins → List Identifier
+move_names section o = section ∷ option_to_list o.left ++ option_to_list o.right
+
+abbrev pub move_body : ℕ → Origins → List ℕ
+move_body stamp o = to_be_bytes w32 stamp ++ form_of o.left o.right ∷ []
+
+-- the body of a retitle: the title is given in UTF-8
+abbrev pub retitle_body : ℕ → List ℕ → List ℕ
+retitle_body stamp title = to_be_bytes w32 stamp ++ title
+
+-- the move of a section, which is member k, to j
+abbrev pub moved : List Op → (id section : Identifier) → (k j : ℕ) → Op
+moved h id section k j = Note id (move_names section (origins_for h k j)) 1 (move_body (stamp h + 1) (origins_for h k j))
+
+-- the retitle of a section
+abbrev pub retitled : List Op → (id section : Identifier) → List ℕ → Op
+retitled h id section title = Note id (section ∷ []) 2 (retitle_body (stamp h + 1) title)
+
+-- the stamp above this one: None where that is the greatest there is
+abbrev pub next_stamp : ℕ → Option ℕ
+next_stamp n = if nat_eq n (2 ^ 32 - 1) then None else Some (n + 1)

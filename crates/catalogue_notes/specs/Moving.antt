@@ -1,0 +1,75 @@
+-- What a move and a retitle make, and when there is none. Sections and places count from 0.
+use Rattle.std.specs.Prelude.{◌≡◌, ◌≢◌, ◌⊎◌, ℕ, ◌+◌, ◌-◌, ◌<◌, ◌^◌, nat_eq, nat_lt, Option, Some, None, if◌then◌else◌, Result, Err, IfSome, [], ◌∷◌, length, option_map, slice_get}
+use Rattle.std.specs.Option.{option_or}
+use Rattle.fugue_ids.specs.Identifiers.{Identifier}
+use Rattle.fugue_ids.specs.declared.op.Op.{Op}
+use Rattle.origin_model.specs.declared.edit_fault.EditFault.{EditFault}
+use Rattle.origin_model.specs.declared.edit_fault.EditFault.TheVariants.{NoSection as EditNoSection, OutOfRange as EditOutOfRange, IdsSpent as EditIdsSpent, TooMany as EditTooMany, NoMemory as EditNoMemory}
+use Rattle.origin_model.specs.edits.Effect.{Gains}
+use Rattle.origin_model.specs.edits.Noting.{note_by, note_refusal}
+use Rattle.origin_model.specs.edits.State.{State}
+use Rattle.catalogue_notes.specs.Arranged.{arranged}
+use Rattle.catalogue_notes.specs.Laws.{IsMoved}
+use Rattle.catalogue_notes.specs.Lift.{stamp}
+use Rattle.catalogue_notes.specs.Making.{move_body, move_names, origins_for}
+use Rattle.catalogue_notes.specs.declared.moving.MoveFault.{MoveFault}
+use Rattle.catalogue_notes.specs.declared.moving.Plan.{Plan}
+use Rattle.catalogue_notes.specs.declared.moving.MoveFault.TheVariants.{NoSection, NoPlace, StampsSpent, IdsSpent, TooMany, NoMemory}
+
+-- the section that stands at k
+abbrev pub section_placed : State → ℕ → Option Identifier
+section_placed s k = slice_get (arranged s.held.history) k
+
+-- a fault of a note, as a move tells it
+abbrev pub as_move_fault : EditFault → MoveFault
+as_move_fault (EditIdsSpent counter) = IdsSpent counter
+as_move_fault (EditTooMany held) = TooMany held
+as_move_fault EditNoSection = NoMemory
+as_move_fault EditOutOfRange = NoMemory
+as_move_fault EditNoMemory = NoMemory
+
+-- the greatest stamp there is was given
+abbrev pub stamps_cause : State → Option MoveFault
+stamps_cause s = if nat_eq (stamp s.held.history) (2 ^ 32 - 1) then Some StampsSpent else None
+
+-- why there is no such move
+abbrev pub move_cause : State → (k j : ℕ) → Option MoveFault
+move_cause s k j =
+    let n = length (arranged s.held.history) in
+    if nat_lt k n then (if nat_lt j n then stamps_cause s else Some NoPlace) else Some NoSection
+
+-- and why the note of it is not made
+abbrev pub move_refusal : State → (k j : ℕ) → Option MoveFault
+move_refusal s k j = option_or (move_cause s k j) (option_map as_move_fault (note_refusal s))
+
+-- a refusal comes with its cause alone, and where there is a cause, its refusal comes, or want of memory
+pub record RefusesFor (cause : Option MoveFault) (result : Result ℕ MoveFault) : Type 0 where
+  pub only : (fault : MoveFault) → fault ≢ NoMemory → result ≡ Err fault → cause ≡ Some fault
+  pub always : IfSome cause (λ fault. (result ≡ Err fault) ⊎ (result ≡ Err NoMemory))
+
+-- the note of a move
+abbrev pub move_by : State → Identifier → (k j : ℕ) → Op
+move_by s section k j = note_by s (move_names section (origins_for s.held.history k j)) 1 (move_body (stamp s.held.history + 1) (origins_for s.held.history k j))
+
+-- a move was made, and the section stands where it was asked
+pub record IsMoveMade (old new : State) (k j n : ℕ) : Type 0 where
+  pub count : n ≡ 1
+  pub section : Identifier
+  pub placed : section_placed old k ≡ Some section
+  pub gained : Gains old new (move_by old section k j ∷ [])
+  pub moved : IsMoved old.held.history (move_by old section k j) section k j
+
+-- what moves the section that stands at k to j
+pub record IsMovePlan (s : State) (k j : ℕ) (plan : Plan) : Type 0 where
+  pub section : Identifier
+  pub placed : section_placed s k ≡ Some section
+  pub within : k < length (arranged s.held.history)
+  pub place : j < length (arranged s.held.history)
+  pub left_over : stamp s.held.history + 1 < 2 ^ 32
+  pub names_are : plan.names ≡ move_names section (origins_for s.held.history k j)
+  pub body_is : plan.body ≡ move_body (stamp s.held.history + 1) (origins_for s.held.history k j)
+
+-- a refusal of the note, as a move tells it
+pub record NoteRefusesAs (s : State) (result : Result ℕ MoveFault) : Type 0 where
+  pub only : (fault : MoveFault) → fault ≢ NoMemory → result ≡ Err fault → option_map as_move_fault (note_refusal s) ≡ Some fault
+  pub always : (fault : MoveFault) → option_map as_move_fault (note_refusal s) ≡ Some fault → result ≡ Err fault

@@ -1,0 +1,19 @@
+//! Moves and retitles of sections: notes that say where a section stands, and what its title is.
+#![tactic(auto)]
+
+mod arrangement;
+mod laws;
+mod lifting;
+mod making;
+mod moving;
+mod reading;
+mod retitles;
+mod sections;
+mod standing;
+mod winning;
+
+pub use laws::{
+    arranged_by_set, each_once, lift_is_lawful, lifted_order_stays, move_lands, retitle_lands,
+    valid_in_whole, winners,
+};
+pub use moving::{MoveFault, move_section};

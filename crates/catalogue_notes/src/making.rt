@@ -1,0 +1,114 @@
+//! The names and the bodies of moves.
+ghost use Rattle.std.specs.Prelude.{◌≡◌, ◌<◌, IfOk, List, length, option_map, reverse};
+ghost use Rattle.std.specs.BTreeMap.{get};
+ghost use Rattle.fugue_ids.specs.Identifiers.{id_cmp};
+ghost use Rattle.fugue_ids.specs.declared.op.Op.{Op as OpOf};
+ghost use Rattle.origin_model.specs.edits.Edits.{in_front};
+ghost use Rattle.origin_model.specs.edits.Landing.{following};
+ghost use Rattle.origin_model.specs.operations.Verdict.{Lawful};
+ghost use Rattle.section_list.specs.Cells.{section_cell_ids};
+ghost use Rattle.catalogue_notes.specs.Lift.{stamp as stamp_on};
+ghost use Rattle.catalogue_notes.specs.Making.{form_of, move_body, move_names, next_stamp as stamp_above, origins_for, without};
+ghost use Rattle.catalogue_notes.specs.Placing.{IsArranged, position_in};
+ghost use Rattle.catalogue_notes.specs.Readings.{read_origins};
+
+use crate::arrangement::{Arrangement, position_of};
+use crate::reading::Gap;
+use crate::retitles::{greatest_stamp, retitles_of};
+use fugue_ids::{Body, ElementId, NoMemory, NoteNames, Op};
+use std::alloc::Global;
+
+/// The greatest stamp of a valid move or retitle.
+fn stamp_of(alloc: Global, ops: &[Op], arrangement: &Arrangement) -> Result<u32, NoMemory>
+    requires lawful { Lawful (reverse ops.now) }
+    requires arranged { IsArranged (reverse ops.now) arrangement.now }
+    ensures { IfOk result (λ stamp. stamp ≡ stamp_on (reverse ops.now)) }
+{
+    let retitles = retitles_of(alloc, ops, &arrangement.index)?;
+    let moved = greatest_stamp(&arrangement.lifted.moves);
+    Ok(moved.max(greatest_stamp(&retitles)))
+}
+
+/// The stamp of the next move or retitle: None where stamps are spent.
+pub(crate) fn next_stamp(
+    alloc: Global,
+    ops: &[Op],
+    arrangement: &Arrangement,
+) -> Result<Option<u32>, NoMemory>
+    requires lawful { Lawful (reverse ops.now) }
+    requires arranged { IsArranged (reverse ops.now) arrangement.now }
+    ensures { IfOk result (λ next. next ≡ stamp_above (stamp_on (reverse ops.now))) }
+{
+    let stamp = stamp_of(alloc, ops, arrangement)?;
+    if stamp == u32::MAX {
+        return Ok(None);
+    }
+    Ok(Some(stamp + 1))
+}
+
+/// The element after which the section k lands at j: that at which the section before it stands.
+fn left_for(arrangement: &Arrangement, k: usize, j: usize) -> Option<ElementId>
+    requires section { k < length arrangement.now.sections.items }
+    requires place { j < length arrangement.now.sections.items }
+    ensures { result ≡ option_map (position_in (get id_cmp arrangement.now.winners))
+        (in_front (without arrangement.now.sections.items k) j) }
+{
+    if j == 0 {
+        return None;
+    }
+    // The moved section is not counted.
+    let before = if j <= k { j - 1 } else { j };
+    let section = arrangement.sections[before];
+    Some(position_of(&arrangement.winners, section))
+}
+
+/// The element that follows, whatever it stands for.
+fn right_for(arrangement: &Arrangement, left: &Option<ElementId>) -> Option<ElementId>
+    ensures { result ≡ following (section_cell_ids arrangement.now.lifted.list.cells) left.now }
+{
+    arrangement.lifted.list.after(*left)
+}
+
+/// Where the section k goes at j.
+pub(crate) fn gap_for(arrangement: &Arrangement, k: usize, j: usize) -> Gap
+    requires section { k < length arrangement.now.sections.items }
+    requires place { j < length arrangement.now.sections.items }
+    ensures { (h : List OpOf) → IsArranged h arrangement.now → read_origins result ≡ origins_for h k j }
+{
+    let left = left_for(arrangement, k, j);
+    let right = right_for(arrangement, &left);
+    Gap { left, right }
+}
+
+pub(crate) fn names_of(section: ElementId, gap: &Gap) -> NoteNames
+    ensures { result ≡ move_names section (read_origins gap.now) }
+{
+    match (gap.left, gap.right) {
+        (None, None) => NoteNames::read(&[section]).unwrap(),
+        (Some(left), None) => NoteNames::read(&[section, left]).unwrap(),
+        (None, Some(right)) => NoteNames::read(&[section, right]).unwrap(),
+        (Some(left), Some(right)) => NoteNames::read(&[section, left, right]).unwrap(),
+    }
+}
+
+/// Which origins are given, as a move says it.
+fn form(gap: &Gap) -> u8
+    ensures { result ≡ form_of gap.now.left gap.now.right }
+{
+    match (gap.left, gap.right) {
+        (None, None) => 0,
+        (Some(_), None) => 1,
+        (None, Some(_)) => 2,
+        (Some(_), Some(_)) => 3,
+    }
+}
+
+pub(crate) fn body_of(alloc: Global, stamp: u32, gap: &Gap) -> Result<Body, NoMemory>
+    ensures { IfOk result (λ body. body ≡ move_body stamp (read_origins gap.now)) }
+{
+    let [a, b, c, d] = stamp.to_be_bytes();
+    match Body::read(alloc, &[a, b, c, d, form(gap)]) {
+        Ok(body) => Ok(body),
+        Err(_) => Err(NoMemory),
+    }
+}

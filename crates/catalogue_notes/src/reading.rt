@@ -1,0 +1,149 @@
+//! Which notes are moves and retitles.
+ghost use Rattle.std.specs.Prelude.{◌≡◌, ◌&&◌, length, nat_le, nat_lt, option_map};
+ghost use Rattle.std.specs.Str.{is_utf8};
+ghost use Rattle.catalogue_notes.specs.Claims.{is_title as is_title_in, move_in as move_on, move_of as move_with, origins_of as origins_with};
+ghost use Rattle.catalogue_notes.specs.Claims.{retitle_in as retitle_on, retitle_of as retitle_with};
+ghost use Rattle.catalogue_notes.specs.Readings.{move_claim, read_origins, retitle_bid};
+
+use fugue_ids::{ElementId, LONGEST_TITLE, Op, has_line_end};
+
+/// The code of a move.
+pub(crate) const MOVE: u8 = 1;
+
+/// The code of a retitle.
+pub(crate) const RETITLE: u8 = 2;
+
+/// A note on a section, by what the winner is chosen by.
+#[derive(Clone, Copy, Debug, PartialEq, Eq)]
+pub(crate) struct Bid {
+    pub id: ElementId,
+    pub section: ElementId,
+    pub stamp: u32,
+}
+
+/// Where a move puts its section.
+#[derive(Clone, Copy, Debug, PartialEq, Eq)]
+pub(crate) struct Gap {
+    pub left: Option<ElementId>,
+    pub right: Option<ElementId>,
+}
+
+#[derive(Clone, Copy, Debug, PartialEq, Eq)]
+pub(crate) struct Move {
+    pub bid: Bid,
+    pub gap: Gap,
+}
+
+/// The origins that the names after the section are, by the form.
+fn gap_of(form: u8, names: &[ElementId]) -> Option<Gap>
+    ensures { option_map read_origins result ≡ origins_with form names.now }
+{
+    match (form, names) {
+        (0, []) => Some(Gap {
+            left: None,
+            right: None,
+        }),
+        (1, [left]) => Some(Gap {
+            left: Some(*left),
+            right: None,
+        }),
+        (2, [right]) => Some(Gap {
+            left: None,
+            right: Some(*right),
+        }),
+        (3, [left, right]) => Some(Gap {
+            left: Some(*left),
+            right: Some(*right),
+        }),
+        _ => None,
+    }
+}
+
+fn move_of(id: ElementId, names: &[ElementId], body: &[u8]) -> Option<Move>
+    ensures { option_map move_claim result ≡ move_with id names.now body.now }
+{
+    let [section, origins @ ..] = names else {
+        return None;
+    };
+    let [a, b, c, d, form] = body else {
+        return None;
+    };
+    let gap = gap_of(*form, origins)?;
+    let stamp = u32::from_be_bytes([*a, *b, *c, *d]);
+    Some(Move {
+        bid: Bid {
+            id,
+            section: *section,
+            stamp,
+        },
+        gap,
+    })
+}
+
+/// What the operation says, where it has the shape of a move.
+pub(crate) fn move_in(op: &Op) -> Option<Move>
+    ensures { option_map move_claim result ≡ move_on op.now }
+{
+    match op {
+        Op::Note {
+            id,
+            names,
+            code,
+            body,
+        } if *code == MOVE => move_of(*id, names.as_slice(), body.as_slice()),
+        _ => None,
+    }
+}
+
+fn is_text(bytes: &[u8]) -> bool
+    ensures { result ≡ is_utf8 bytes.now }
+{
+    std::str::from_utf8(bytes).is_ok()
+}
+
+fn has_title_length(bytes: &[u8]) -> bool
+    ensures { result ≡ (nat_lt 0 (length bytes.now) && nat_le (length bytes.now) LONGEST_TITLE) }
+{
+    !bytes.is_empty() && bytes.len() <= LONGEST_TITLE
+}
+
+fn is_title(bytes: &[u8]) -> bool
+    ensures { result ≡ is_title_in bytes.now }
+{
+    is_text(bytes) && has_title_length(bytes) && !has_line_end(bytes)
+}
+
+fn retitle_of(id: ElementId, names: &[ElementId], body: &[u8]) -> Option<Bid>
+    ensures { result ≡ option_map retitle_bid (retitle_with id names.now body.now) }
+{
+    let [section] = names else {
+        return None;
+    };
+    let [a, b, c, d, title @ ..] = body else {
+        return None;
+    };
+    if !is_title(title) {
+        return None;
+    }
+    let stamp = u32::from_be_bytes([*a, *b, *c, *d]);
+    Some(Bid {
+        id,
+        section: *section,
+        stamp,
+    })
+}
+
+/// What the operation says but the title, where it has the shape of a retitle.
+pub(crate) fn retitle_in(op: &Op) -> Option<Bid>
+    ensures { result ≡ option_map retitle_bid (retitle_on op.now) }
+{
+    match op {
+        Op::Note {
+            id,
+            names,
+            code,
+            body,
+        } if *code == RETITLE => retitle_of(*id, names.as_slice(), body.as_slice()),
+        _ => None,
+    }
+}
