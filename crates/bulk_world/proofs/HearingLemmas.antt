@@ -18,7 +18,7 @@ use Rattle.replica_core.specs.Told.{Leaves}
 use Rattle.origin_model.specs.declared.taking.Tally.{Tally}
 use Rattle.replica_core.specs.declared.keeping.FeedFault.{FeedFault}
 use Rattle.replica_core.specs.declared.keeping.FeedFault.TheVariants as feed_fault
-use Rattle.list_spec.specs.Worlds.{Deliver, Edit, Event, World, after_event, after_events, changed, delivered, made_at, pooled}
+use Rattle.list_spec.specs.Worlds.{Deliver, Edit, Event, Noting, World, after_event, after_events, after_making, changed, delivered, effect, made_at, note_effect, pooled}
 use Rattle.list_spec.proofs.PoolLemmas.{pool_keeps}
 use Rattle.list_spec.proofs.WorldLemmas.{events_keep}
 use Rattle.bulk_world.specs.declared.making.TheConstants.{HOLD}
@@ -66,11 +66,17 @@ all_pooled pool (op ∷ ops) =
     let first : List Op = if has_op pool op then pool else op ∷ pool in
     All-cons (IsPooled (pooled first ops)) op ops (pool_keeps first ops op (one_pooled pool op)) (all_pooled first ops)
 
-event_pooled : (n : ℕ) (w : World) (event : Event) → All (IsPooled (after_event w event).pool) (made_in n w event)
-event_pooled n w (Edit number command) =
-    let made : List Op = made_at number command w.replicas in
+-- whatever was made at an event is in the pool behind it
+making_pooled : (n : ℕ) (w : World) (number : ℕ) (makes : State → List Op)
+    → All (IsPooled (after_making w number makes).pool) (if nat_eq number n then made_at number makes w.replicas else [])
+making_pooled n w number makes =
+    let made : List Op = made_at number makes w.replicas in
     let P : Op → Type 0 = IsPooled (pooled w.pool made) in
     elim (nat_eq number n) as (λ b. All P (if b then made else [])) [ true ↦ all_pooled w.pool made | false ↦ All-nil P ]
+
+event_pooled : (n : ℕ) (w : World) (event : Event) → All (IsPooled (after_event w event).pool) (made_in n w event)
+event_pooled n w (Edit number command) = making_pooled n w number (λ (s : State). effect s command)
+event_pooled n w (Noting number named code body) = making_pooled n w number (λ (s : State). note_effect s named code body)
 event_pooled n w (Deliver number op) = All-nil (IsPooled (after_event w (Deliver number op)).pool)
 
 -- whatever was made in events is in the pool behind them

@@ -7,7 +7,7 @@ use Rattle.origin_model.specs.taking.Taking.{nothing_held}
 use Rattle.origin_model.specs.edits.Edits.{Add, id_at}
 use Rattle.origin_model.specs.edits.State.{State}
 use Rattle.origin_model.specs.edits.Refusal.{section_shown}
-use Rattle.list_spec.specs.Worlds.{Deliver, Edit, Event, World, after_event, after_events, made_at, world}
+use Rattle.list_spec.specs.Worlds.{Deliver, Edit, Event, Noting, World, after_event, after_events, effect, made_at, note_effect, world}
 use Rattle.bulk_world.specs.Generator.{drawn_command, next}
 use Rattle.bulk_world.specs.declared.making.TheConstants.{HOLD}
 use Rattle.fugue_ids.specs.declared.limits.TheConstants.{MOST_OPERATIONS}
@@ -30,7 +30,8 @@ first_text s = elim (section_shown s 0) [ None ↦ [] | Some x ↦ text s.held.h
 
 -- the operations that the replica with this number makes in events
 abbrev pub made_in : ℕ → World → Event → List Op
-made_in n w (Edit number command) = if nat_eq number n then made_at number command w.replicas else []
+made_in n w (Edit number command) = if nat_eq number n then made_at number (λ (s : State). effect s command) w.replicas else []
+made_in n w (Noting number named code body) = if nat_eq number n then made_at number (λ (s : State). note_effect s named code body) w.replicas else []
 made_in n w (Deliver number op) = []
 
 abbrev pub made_over : ℕ → World → List Event → List Op

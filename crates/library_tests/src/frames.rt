@@ -118,7 +118,7 @@ const TEXT: &[u8] = &[2, 0, 0, 0, 1, 0, 0, 0, 0, 0, 0, 0, 9, 0, 0, 0, 0];
 /// Bytes that begin a frame, and bytes behind them of which the last is wrong.
 const WRONG: [(&[u8], &[u8]); 10] = [
     (&[], &[0]),
-    (&[], &[5]),
+    (&[], &[6]),
     (&[3], &[0, 0, 0, 0]),
     (SECTION, &[1, 0, 0, 0, 0]),
     (SECTION, &[0, 0, 0, 0]),

@@ -21,6 +21,8 @@ mod ids;
 #[cfg(test)]
 mod log;
 #[cfg(test)]
+mod note_frames;
+#[cfg(test)]
 mod ports;
 #[cfg(test)]
 mod rope;

@@ -1,7 +1,7 @@
 use crate::assertions::{equal, equal_at, holds_at};
 use crate::ids::id;
 use crate::run_frames::plain::plain_frames;
-use fugue_ids::{ElementId, NoMemory, Op, Title};
+use fugue_ids::{Body, ElementId, NoMemory, NoteNames, Op, Title};
 use op_frame::{First, FrameReader, encode_all, first_frame};
 use outer_ports::SureSource;
 use std::test::Fail;
@@ -183,7 +183,7 @@ fn a_run_has_2_to_1024_texts_with_counters_of_32_bits(rt: HostRuntime) -> Result
     Ok(())
 }
 
-/// One of nine operations, of which some go on with one another.
+/// One of ten operations, of which some go on with one another.
 fn kind(rt: &HostRuntime, number: usize) -> Result<Op, Fail> {
     let (first, second) = (id(1, 1), id(1, 2));
     Ok(match number {
@@ -218,7 +218,13 @@ fn kind(rt: &HostRuntime, number: usize) -> Result<Op, Fail> {
             right: None,
             title: Title::read(rt.alloc(), "T")?,
         },
-        _ => Op::Delete { target: second },
+        8 => Op::Delete { target: second },
+        _ => Op::Note {
+            id: second,
+            names: NoteNames::read(&[first]).ok_or("too many names")?,
+            code: 7,
+            body: Body::read(rt.alloc(), b"h")?,
+        },
     })
 }
 
@@ -227,8 +233,8 @@ fn list(rt: &HostRuntime, len: u32, number: usize) -> Result<Vec<Op>, Fail> {
     let mut ops = Vec::new(rt.alloc());
     let mut rest = number;
     for _ in 0..len {
-        ops.push(kind(rt, rest % 9)?)?;
-        rest /= 9;
+        ops.push(kind(rt, rest % 10)?)?;
+        rest /= 10;
     }
     Ok(ops)
 }
@@ -237,7 +243,7 @@ fn list(rt: &HostRuntime, len: u32, number: usize) -> Result<Vec<Op>, Fail> {
 fn each_short_list_is_written_as_a_plain_encoder_does_and_read_back(
     rt: HostRuntime,
 ) -> Result<(), Fail> {
-    for (len, lists) in [(0, 1), (1, 9), (2, 81), (3, 729), (4, 6_561)] {
+    for (len, lists) in [(0, 1), (1, 10), (2, 100), (3, 1_000), (4, 10_000)] {
         for number in 0..lists {
             let ops = list(&rt, len, number)?;
             let same = encoded(&rt, &ops)? == plain_frames(&rt, &ops)?;

@@ -82,14 +82,14 @@ fn run_head(rt: &HostRuntime, counter: [u8; 4]) -> Result<Vec<u8>, NoMemory> {
 }
 
 /// A Section, and then these bytes.
-fn behind_section(rt: &HostRuntime, bytes: &[u8]) -> Result<Vec<u8>, NoMemory> {
+pub fn behind_section(rt: &HostRuntime, bytes: &[u8]) -> Result<Vec<u8>, NoMemory> {
     let mut all = Vec::from_slice(rt.alloc(), &SECTION)?;
     all.extend_from_slice(bytes)?;
     Ok(all)
 }
 
 /// How many bytes begin a frame of the grammar, as they come, and what those with the next one are.
-fn pushed(grammar: Grammar, bytes: &[u8]) -> (usize, Grown) {
+pub fn pushed(grammar: Grammar, bytes: &[u8]) -> (usize, Grown) {
     let mut front = FrameFront::new(grammar);
     for (at, byte) in bytes.iter().enumerate() {
         let grown = front.push(*byte);
@@ -101,7 +101,7 @@ fn pushed(grammar: Grammar, bytes: &[u8]) -> (usize, Grown) {
 }
 
 /// How many operations come, and the answer behind them.
-fn read_all<S: Source>(
+pub fn read_all<S: Source>(
     reader: &mut FrameReader,
     source: &mut S,
 ) -> (usize, Result<(), FrameFault>) {
@@ -116,7 +116,7 @@ fn read_all<S: Source>(
 }
 
 /// What reading the bytes comes to, by version 2.
-fn read_bytes(
+pub fn read_bytes(
     rt: &HostRuntime,
     bytes: Vec<u8>,
 ) -> Result<(usize, Result<(), FrameFault>), NoMemory> {

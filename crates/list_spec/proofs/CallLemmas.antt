@@ -1,10 +1,12 @@
--- A call that edits a replica is an edit of the world, for want of memory a smaller one.
+-- A call that edits a replica is an edit of the world, for want of memory a smaller one; one that makes a note is a noting, or for want of memory none.
 use Rattle.std.proofs.Common.{Bool, List, [], ap, arith, false, inl, inr, length, nat_lt, refl, subst, sym, true, ◌&&◌, ◌+◌, ◌-◌, ◌<◌, ◌^◌, ◌∙◌, ◌≡◌, ◌≢◌, ◌≤◌, ◌⊎◌, ℕ}
 use Rattle.std.specs.Prelude.{Err, None, Ok, Option, Some, if◌then◌else◌, slice_get, take}
 use Rattle.std.proofs.lemmas.Bool.{le-ltb, ltb-false}
 use Rattle.std.proofs.lemmas.Bool.Decides.{nat_tests}
 use Rattle.std.proofs.lemmas.List.{length-take, take_all}
+use Rattle.std.proofs.lemmas.List.Sums.{list_all-from_AllPass}
 use Rattle.fugue_ids.specs.Identifiers.{Identifier}
+use Rattle.origin_model.specs.operations.History.{holds}
 use Rattle.origin_model.specs.declared.operations.Place.TheVariants.{Catalogue as catalogue, Section as within}
 use Rattle.origin_model.specs.order.Printed.{shown}
 use Rattle.origin_model.specs.edits.Edits.{Add, Command, Cut, DropSection, Put, put_in}
@@ -12,12 +14,13 @@ use Rattle.origin_model.proofs.edits.MadeLemmas.{cut_front, drop_made, put_front
 use Rattle.origin_model.specs.edits.State.{State}
 use Rattle.origin_model.specs.edits.Refusal.{held_count, in_range, in_section, made_by, next_of_own, refusal_message, refused_elements, refused_ops, section_shown, shown_count}
 use Rattle.origin_model.specs.edits.Effect.{LeavesUnmade, StopsPartly, with_ops}
+use Rattle.origin_model.specs.edits.Noting.{note_refusal}
 use Rattle.origin_model.specs.declared.edit_fault.EditFault.{EditFault}
 use Rattle.origin_model.specs.declared.edit_fault.EditFault.TheVariants.{IdsSpent, NoMemory, NoSection, OutOfRange, TooMany}
 use Rattle.origin_model.proofs.edits.RefusalLemmas.{cut_count, if_none, position_within, section_there}
-use Rattle.list_spec.specs.Calls.{CallsAreEdits, IsEdit, IsEditCall}
+use Rattle.list_spec.specs.Calls.{CallsAreEdits, CallsAreNotings, IsEdit, IsEditCall}
 use Rattle.list_spec.specs.Worlds.{effect}
-use Rattle.list_spec.proofs.EffectLemmas.{made_none, made_whole}
+use Rattle.list_spec.proofs.EffectLemmas.{made_none, made_whole, note_refused, note_whole}
 
 -- want of memory is no cause of a refusal
 abbrev IsNamed : Option EditFault → Type 0
@@ -194,3 +197,24 @@ calls_are_edits command old new (Err fault) call =
       | inl e ↦ subst (λ f. IsEdit command old new (Err f)) (sym e) (stopped_is command old new (subst (λ f. IsEditCall command old new (Err f)) e call))
       | inr n ↦ refused_is command old new fault n call
     ]
+
+-- want of memory does not refuse a note
+note_named : (s : State) (fault : EditFault) → note_refusal s ≡ Some fault → fault ≢ NoMemory
+note_named s fault k e = named_elements s 1 (k ∙ ap Some e)
+
+-- every call that makes a note is a noting of the world, or for want of memory none
+pub calls_are_notings : CallsAreNotings
+calls_are_notings named code body old new (Ok n) held call =
+    record {
+      is = λ m. call.made.gained.others ∙ sym (ap (with_ops old) (note_whole named code body old (by_refusal (note_refusal old) refl) (list_all-from_AllPass (holds old.held.history) named held)));
+      unmade = λ e. cc e;
+    }
+  where
+    by_refusal : (o : Option EditFault) → note_refusal old ≡ o → note_refusal old ≡ None
+    by_refusal None e = e
+    by_refusal (Some fault) e = let clash : Ok n ≡ Err fault = (call.refused fault (note_named old fault e)).1 e in cc clash
+calls_are_notings named code body old new (Err fault) held call =
+    record {
+      is = λ m. call.unmade ∙ sym (ap (with_ops old) (note_refused named code body old fault ((call.refused fault (λ e. m (ap Err e))).0 refl)));
+      unmade = λ e. call.unmade;
+    }

@@ -1,21 +1,27 @@
--- What an edit makes: operations of its replica that are Ready in turn and land where they were asked, and none where it is refused.
-use Rattle.std.proofs.Common.{List, [], ap, refl, subst, sym, ◌∷◌, ◌≡◌, ℕ, suc}
-use Rattle.std.specs.Prelude.{All, None, Option, Some, drop, slice_get, take}
+-- What an edit and a noting make: operations of their replica that are Ready in turn, and none where they are refused. Those of an edit land where they were asked, and a note shows nothing.
+use Rattle.std.proofs.Common.{Bool, List, [], ap, false, inl, inr, refl, subst, sym, true, ◌∙◌, ◌∷◌, ◌≡◌, ℕ, suc}
+use Rattle.std.specs.Prelude.{All, None, Option, Some, drop, if◌then◌else◌, slice_get, take}
+use Rattle.std.specs.List.{list_all}
+use Rattle.std.proofs.lemmas.Bool.{cases_Bool}
+use Rattle.std.proofs.lemmas.List.Sums.{AllPass-from_list_all}
 use Rattle.std.proofs.lemmas.List.Elements.{All-cons, All-map, All-nil}
 use Rattle.fugue_ids.specs.Identifiers.{Identifier}
 use Rattle.fugue_ids.specs.declared.op.Op.{Op}
 use Rattle.fugue_ids.specs.declared.op.Op.TheVariants.{Delete, Text}
 use Rattle.fugue_ids.proofs.ListLemmas.{all_from_contains}
 use Rattle.origin_model.specs.declared.operations.Place.TheVariants.{Catalogue as catalogue, Section as within}
+use Rattle.origin_model.specs.operations.History.{holds}
 use Rattle.origin_model.specs.operations.Verdict.{Lawful}
 use Rattle.origin_model.specs.order.Printed.{shown}
 use Rattle.origin_model.specs.edits.Edits.{Add, Command, Cut, DropSection, Put, ReadyInTurn, op_of_add, cut_in, deletes_of, id_at, left_for, made, next_counter, put_in, right_for, typed}
 use Rattle.origin_model.specs.edits.State.{State}
 use Rattle.origin_model.specs.edits.Refusal.{made_by, refusal_message}
 use Rattle.origin_model.specs.edits.Effect.{Lands, with_ops}
+use Rattle.origin_model.specs.edits.Noting.{ShowsAsBefore, note_by, note_refusal}
 use Rattle.origin_model.specs.declared.edit_fault.EditFault.{EditFault}
+use Rattle.origin_model.proofs.edits.NotedLemmas.{noted_ready, noted_shows, unchanged_shows}
 use Rattle.origin_model.proofs.edits.RefusalLemmas.{edit_lands, made_ready}
-use Rattle.list_spec.specs.Worlds.{edited, effect}
+use Rattle.list_spec.specs.Worlds.{annotated, edited, effect, note_effect}
 use Rattle.list_spec.proofs.PoolLemmas.{IsBy}
 
 -- an edit that is not refused makes its operations
@@ -52,7 +58,11 @@ made_are_by r h w (DropSection k) =
       | Some s ↦ deletes_by r (s ∷ [])
     ]
 
--- what an edit makes, refused or not
+-- what a noting makes, as its names are held or not and it is refused or not
+abbrev note_of : State → (named : List Identifier) → (code : ℕ) → (body : List ℕ) → Bool → Option EditFault → List Op
+note_of s named code body b o = elim o [ None ↦ if b then note_by s named code body ∷ [] else [] | Some fault ↦ [] ]
+
+-- what an edit or a noting makes, refused or not
 pub record IsEffect (s : State) (ops : List Op) : Type 0 where
   pub ready : ReadyInTurn s.held.history ops
   pub by : All (IsBy s.number) ops
@@ -68,3 +78,47 @@ effect_is command s w = by_refusal (refusal_message s command) refl
 -- an edit that is not refused lands where it was asked
 pub lands : (command : Command) (s : State) → Lawful s.held.history → refusal_message s command ≡ None → Lands s (edited command s) command
 lands command s w e = edit_lands command s (edited command s) w e (ap (with_ops s) (made_whole command s e))
+
+-- a noting that is refused makes nothing
+pub note_refused : (named : List Identifier) (code : ℕ) (body : List ℕ) (s : State) (fault : EditFault) → note_refusal s ≡ Some fault → note_effect s named code body ≡ []
+note_refused named code body s fault e = ap (note_of s named code body (list_all (holds s.held.history) named)) e
+
+-- so does one that names what is not held
+pub note_lacking : (named : List Identifier) (code : ℕ) (body : List ℕ) (s : State) → list_all (holds s.held.history) named ≡ false → note_effect s named code body ≡ []
+note_lacking named code body s k = ap (λ b. note_of s named code body b (note_refusal s)) k ∙ nothing (note_refusal s)
+  where
+    nothing : (o : Option EditFault) → note_of s named code body false o ≡ []
+    nothing None = refl
+    nothing (Some fault) = refl
+
+-- any other makes its note
+pub note_whole : (named : List Identifier) (code : ℕ) (body : List ℕ) (s : State) → note_refusal s ≡ None → list_all (holds s.held.history) named ≡ true
+    → note_effect s named code body ≡ note_by s named code body ∷ []
+note_whole named code body s e k = λ i. note_of s named code body (k i) (e i)
+
+-- so what a noting makes, its note or nothing, is Ready and its replica's own
+pub note_effect_is : (named : List Identifier) (code : ℕ) (body : List ℕ) (s : State) → Lawful s.held.history → IsEffect s (note_effect s named code body)
+note_effect_is named code body s w = by_refusal (note_refusal s) refl
+  where
+    none : IsEffect s []
+    none = record { ready = tt; by = All-nil (IsBy s.number) }
+
+    by_refusal : (o : Option EditFault) → note_refusal s ≡ o → IsEffect s (note_effect s named code body)
+    by_refusal (Some fault) e = subst (IsEffect s) (sym (note_refused named code body s fault e)) none
+    by_refusal None e =
+        elim (cases_Bool (list_all (holds s.held.history) named)) [
+          | inl t ↦ subst (IsEffect s) (sym (note_whole named code body s e t)) (record {
+            ready = (noted_ready s.number s.held.history s.held.waiting named code body w (AllPass-from_list_all (holds s.held.history) named t), tt);
+            by = All-cons (IsBy s.number) (note_by s named code body) [] refl (All-nil (IsBy s.number));
+          })
+          | inr f ↦ subst (IsEffect s) (sym (note_lacking named code body s f)) none
+        ]
+
+-- a noting shows nothing, and what waits waits
+pub note_quiet : (named : List Identifier) (code : ℕ) (body : List ℕ) (s : State) → ShowsAsBefore s (annotated named code body s) × ((annotated named code body s).held.waiting ≡ s.held.waiting)
+note_quiet named code body s = (by (list_all (holds s.held.history) named) (note_refusal s), refl)
+  where
+    by : (b : Bool) (o : Option EditFault) → ShowsAsBefore s (with_ops s (note_of s named code body b o))
+    by true None = noted_shows s (with_ops s (note_by s named code body ∷ [])) named code body refl
+    by false None = unchanged_shows s s refl
+    by b (Some fault) = unchanged_shows s s refl

@@ -13,24 +13,24 @@ use Rattle.origin_model.specs.edits.Edits.{Add, Cut, Put, id_at}
 use Rattle.origin_model.specs.edits.State.{State}
 use Rattle.list_spec.specs.Worlds.{Deliver, Edit, Event, World, world}
 
-abbrev replica : ℕ → State
+abbrev pub replica : ℕ → State
 replica n = record { number = n; hold = 10; most = 100; held = nothing_held }
 
-abbrev both : List State
+abbrev pub both : List State
 both = replica 1 ∷ replica 2 ∷ []
 
-abbrev section : Identifier
+abbrev pub section : Identifier
 section = id_at 1 0
 
-abbrev the_section : Op
+abbrev pub the_section : Op
 the_section = Section section None None (codes "T")
 
 -- the texts that each replica shows of the section
-abbrev texts : World → List (List ℕ)
+abbrev pub texts : World → List (List ℕ)
 texts w = map (λ (s : State). text s.held.history section) w.replicas
 
 -- how many operations each has accepted
-abbrev counts : World → List ℕ
+abbrev pub counts : World → List ℕ
 counts w = map (λ (s : State). length s.held.history) w.replicas
 
 -- both type at the start of an empty section, and hear of each other later: replica 1 first hears the second scalar, which waits for the first

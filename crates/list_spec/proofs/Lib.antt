@@ -5,5 +5,6 @@ pub mod WorldLemmas
 pub mod CallLemmas
 pub mod ListLawLemmas
 mod Examples
+mod NotingExamples
 mod PassageExamples
 mod PremiseExamples

@@ -1,4 +1,4 @@
--- The laws of worlds: one order for all replicas at all moments, and edits that land where they were asked.
+-- The laws of worlds: one order for all replicas at all moments, edits that land where they were asked, and notings that show nothing.
 use Rattle.std.proofs.Common.{List, [], ap, subst, sym, ◌≡◌}
 use Rattle.std.specs.Prelude.{None, filter, not}
 use Rattle.std.proofs.lemmas.List.Elements.{All-weaker}
@@ -10,9 +10,9 @@ use Rattle.origin_model.proofs.SharedLemmas.{lawful_own, parts_keep_order}
 use Rattle.origin_model.specs.edits.State.{State}
 use Rattle.origin_model.specs.edits.Refusal.{refusal_message}
 use Rattle.origin_model.specs.edits.Effect.{Lands}
-use Rattle.list_spec.specs.StrongList.{EditsLand, IsOneList, IsView, StrongList}
+use Rattle.list_spec.specs.StrongList.{EditsLand, IsOneList, IsView, NotingsShowNothing, StrongList}
 use Rattle.list_spec.specs.Worlds.{World, after_events, edited, world}
-use Rattle.list_spec.proofs.EffectLemmas.{lands}
+use Rattle.list_spec.proofs.EffectLemmas.{lands, note_quiet}
 use Rattle.list_spec.proofs.WorldLemmas.{IsMember, events_further, events_keep, events_sound, world_sound}
 
 -- a lawful part of a pool is a view of it
@@ -45,3 +45,7 @@ pub edits_land : EditsLand
 edits_land replicas events command new =
     let w : World = world replicas events in
     All-weaker (IsMember w.pool) (λ (s : State). refusal_message s command ≡ None → Lands s (edited command s) command) (λ s m e. lands command s m.lawful e) w.replicas (world_sound replicas events new).members
+
+-- a noting shows nothing
+pub notings_show_nothing : NotingsShowNothing
+notings_show_nothing = note_quiet

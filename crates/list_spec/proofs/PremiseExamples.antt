@@ -1,6 +1,6 @@
 -- Why the premises of the laws of worlds are there: each law is stated without one of them, and a small world or call breaks it. That replicas have distinct numbers is tried in Examples.
-use Rattle.std.proofs.Common.{Bool, List, [], ap, false, refl, ◌∙◌, ◌∷◌, ◌≡◌, ◌≢◌, ℕ, length}
-use Rattle.std.specs.Prelude.{All, AllPairs, Err, IfErr, IfOk, None, Ok, Result, Some, codes, nat_eq, slice_get}
+use Rattle.std.proofs.Common.{Bool, List, [], ap, false, refl, true, ◌∙◌, ◌∷◌, ◌≡◌, ◌≢◌, ℕ, length}
+use Rattle.std.specs.Prelude.{All, AllPairs, Err, IfErr, IfOk, None, Ok, OnErr, Result, Some, codes, nat_eq, slice_get}
 use Rattle.std.proofs.lemmas.Bool.{false≢true, true≢false}
 use Rattle.std.proofs.lemmas.List.Elements.{All-cons, All-head, All-nil}
 use Rattle.std.proofs.lemmas.List.Kept.{AllPairs-cons}
@@ -8,15 +8,17 @@ use Rattle.fugue_ids.proofs.ListLemmas.{all_pairs_nil}
 use Rattle.fugue_ids.specs.Identifiers.{Identifier, id_eq}
 use Rattle.fugue_ids.specs.declared.op.Op.{Op}
 use Rattle.fugue_ids.specs.declared.op.Op.TheVariants.{Section}
+use Rattle.origin_model.specs.operations.History.{holds}
 use Rattle.origin_model.specs.order.Order.{chain, order}
 use Rattle.origin_model.specs.taking.Taking.{nothing_held}
 use Rattle.origin_model.specs.edits.Edits.{Add, Command, id_at}
 use Rattle.origin_model.specs.edits.State.{State}
 use Rattle.origin_model.specs.edits.Refusal.{RefusesExactly, refusal_message}
-use Rattle.origin_model.specs.edits.Effect.{IsMade, Lands, LeavesUnmade}
+use Rattle.origin_model.specs.edits.Effect.{IsMade, Lands, LeavesUnmade, with_ops}
+use Rattle.origin_model.specs.edits.Noting.{AreHeld, IsNoted, RefusesNote, note_by}
 use Rattle.origin_model.specs.declared.edit_fault.EditFault.{EditFault}
 use Rattle.origin_model.specs.declared.edit_fault.EditFault.TheVariants.{NoMemory, NoSection}
-use Rattle.list_spec.specs.Calls.{IsEdit}
+use Rattle.list_spec.specs.Calls.{IsEdit, IsNoteCall, IsNoting}
 use Rattle.list_spec.specs.StrongList.{IsOneList, IsView}
 use Rattle.list_spec.specs.Worlds.{AreNew, Event, edited, numbers, world}
 
@@ -104,3 +106,54 @@ calls_unmade law =
     let other : State = record new_one { number = 2 } in
     let edit : IsEdit adding new_one other (Err NoMemory) = law adding new_one other (Err NoMemory) tt (λ fault n. (λ e. absurd (n (cc e)), λ e. cc e)) in
     false≢true (ap (λ (s : State). nat_eq s.number 1) edit.is)
+
+-- a replica with the note that is asked for in these calls
+abbrev with_note : State → (named : List Identifier) → State
+with_note s named = with_ops s (note_by s named 0 [] ∷ [])
+
+-- none is accepted
+abbrev none_held : State → Bool
+none_held s = nat_eq (length s.held.history) 0
+
+-- a note that names what is not held
+notings_held :
+    ((named : List Identifier) (code : ℕ) (body : List ℕ) (old new : State) (result : Result ℕ EditFault)
+    → IsNoteCall named code body old new result → IsNoting named code body old new result) → ⊥
+notings_held law =
+    let named : List Identifier = id_at 2 0 ∷ [] in
+    let call : IsNoteCall named 0 [] new_one (with_note new_one named) (Ok 1) = record {
+      made = record { count = refl; gained = record { accepted_are = refl; others = refl } };
+      refused = λ fault n. (λ e. cc e, λ e. cc e);
+      unmade = tt;
+    } in
+    false≢true (ap none_held ((law named 0 [] new_one (with_note new_one named) (Ok 1) call).is (λ e. cc e)))
+
+-- where no name is asked for, all are held
+none_lacks : (s : State) → AreHeld s.held.history []
+none_lacks s = All-nil (λ i. holds s.held.history i ≡ true)
+
+-- a new replica where no note was made is not one that made it
+not_noted : (result : Result ℕ EditFault) → result ≢ Err NoMemory → IsNoting [] 0 [] new_one new_one result → ⊥
+not_noted result n noting = true≢false (ap none_held (noting.is n))
+
+-- a call that answers Ok and makes none
+notings_made :
+    ((named : List Identifier) (code : ℕ) (body : List ℕ) (old new : State) (result : Result ℕ EditFault) → AreHeld old.held.history named
+    → RefusesNote old result → OnErr result (new ≡ old) → IsNoting named code body old new result) → ⊥
+notings_made law = not_noted (Ok 1) (λ e. cc e) (law [] 0 [] new_one new_one (Ok 1) (none_lacks new_one) (λ fault n. (λ e. cc e, λ e. cc e)) tt)
+
+-- one that refuses a note for which there is no cause
+notings_refused :
+    ((named : List Identifier) (code : ℕ) (body : List ℕ) (old new : State) (result : Result ℕ EditFault) → AreHeld old.held.history named
+    → IfOk result (λ n. IsNoted old new named code body n) → OnErr result (new ≡ old) → IsNoting named code body old new result) → ⊥
+notings_refused law = not_noted (Err NoSection) (λ e. cc e) (law [] 0 [] new_one new_one (Err NoSection) (none_lacks new_one) tt refl)
+
+-- one that for want of memory leaves another replica
+notings_unmade :
+    ((named : List Identifier) (code : ℕ) (body : List ℕ) (old new : State) (result : Result ℕ EditFault) → AreHeld old.held.history named
+    → IfOk result (λ n. IsNoted old new named code body n)
+    → RefusesNote old result → IsNoting named code body old new result) → ⊥
+notings_unmade law =
+    let other : State = record new_one { number = 2 } in
+    let noting : IsNoting [] 0 [] new_one other (Err NoMemory) = law [] 0 [] new_one other (Err NoMemory) (none_lacks new_one) tt (λ fault n. (λ e. absurd (n (cc e)), λ e. cc e)) in
+    false≢true (ap (λ (s : State). nat_eq s.number 1) (noting.unmade refl))

@@ -11,12 +11,13 @@ use Rattle.origin_model.specs.operations.History.{has_op}
 use Rattle.origin_model.specs.operations.Verdict.{Lawful}
 use Rattle.origin_model.specs.order.Laws.{IsPartOf}
 use Rattle.origin_model.specs.taking.Taking.{Held, nothing_held}
-use Rattle.origin_model.specs.edits.Edits.{Command, id_at}
+use Rattle.origin_model.specs.edits.Edits.{id_at}
 use Rattle.origin_model.proofs.edits.MadeLemmas.{ready_lawful}
 use Rattle.origin_model.specs.edits.State.{State}
-use Rattle.list_spec.specs.Worlds.{AreNew, Deliver, Edit, Event, World, after_event, after_events, changed, delivered, edited, effect, made_at, numbers, pooled, world}
+use Rattle.origin_model.specs.edits.Effect.{with_ops}
+use Rattle.list_spec.specs.Worlds.{AreNew, Deliver, Edit, Event, Noting, World, after_event, after_events, after_making, changed, delivered, effect, made_at, note_effect, numbers, pooled, world}
 use Rattle.list_spec.proofs.DeliveryLemmas.{taking_in}
-use Rattle.list_spec.proofs.EffectLemmas.{effect_is}
+use Rattle.list_spec.proofs.EffectLemmas.{IsEffect, effect_is, note_effect_is}
 use Rattle.list_spec.proofs.PoolLemmas.{HoldsOwn, IsBy, pool_adds, pool_all, pool_keeps}
 
 -- what is so of a replica beside the pool
@@ -63,9 +64,9 @@ none_changes : (n : ℕ) (f : State → State) (ss : List State) → All (HasOth
 none_changes n f [] a = refl
 none_changes n f (s ∷ ss) a = λ i. (if ne_eqb s.number n (All-head (HasOther n) s ss a) i then f s else s) ∷ none_changes n f ss (All-tail (HasOther n) s ss a) i
 
-none_makes : (n : ℕ) (command : Command) (ss : List State) → All (HasOther n) ss → made_at n command ss ≡ []
-none_makes n command [] a = refl
-none_makes n command (s ∷ ss) a = λ i. (if ne_eqb s.number n (All-head (HasOther n) s ss a) i then effect s command else []) ++ none_makes n command ss (All-tail (HasOther n) s ss a) i
+none_makes : (n : ℕ) (makes : State → List Op) (ss : List State) → All (HasOther n) ss → made_at n makes ss ≡ []
+none_makes n makes [] a = refl
+none_makes n makes (s ∷ ss) a = λ i. (if ne_eqb s.number n (All-head (HasOther n) s ss a) i then makes s else []) ++ none_makes n makes ss (All-tail (HasOther n) s ss a) i
 
 -- otherwise that one changes
 one_changes : (n : ℕ) (f : State → State) (ss : List State) (k : IsAt n ss) → changed n f ss ≡ k.front ++ f k.it ∷ k.back
@@ -74,12 +75,12 @@ one_changes n f ss k =
     ap (map g) k.whole ∙ map-append g k.front (k.it ∷ k.back)
     ∙ (λ i. none_changes n f k.front k.before i ++ (if eq-eqb k.it.number n k.number i then f k.it else k.it) ∷ none_changes n f k.back k.behind i)
 
-one_makes : (n : ℕ) (command : Command) (ss : List State) (k : IsAt n ss) → made_at n command ss ≡ effect k.it command
-one_makes n command ss k =
-    let g : State → List Op = λ s. if nat_eq s.number n then effect s command else [] in
-    let at : flat_map g (k.it ∷ k.back) ≡ effect k.it command =
-    (λ i. (if eq-eqb k.it.number n k.number i then effect k.it command else []) ++ none_makes n command k.back k.behind i) ∙ append-nil (effect k.it command) in
-    ap (flat_map g) k.whole ∙ flat_map-append g k.front (k.it ∷ k.back) ∙ (λ i. none_makes n command k.front k.before i ++ at i)
+one_makes : (n : ℕ) (makes : State → List Op) (ss : List State) (k : IsAt n ss) → made_at n makes ss ≡ makes k.it
+one_makes n makes ss k =
+    let g : State → List Op = λ s. if nat_eq s.number n then makes s else [] in
+    let at : flat_map g (k.it ∷ k.back) ≡ makes k.it =
+    (λ i. (if eq-eqb k.it.number n k.number i then makes k.it else []) ++ none_makes n makes k.back k.behind i) ∙ append-nil (makes k.it) in
+    ap (flat_map g) k.whole ∙ flat_map-append g k.front (k.it ∷ k.back) ∙ (λ i. none_makes n makes k.front k.before i ++ at i)
 
 -- a change that keeps numbers keeps those of all
 numbers_stay : (n : ℕ) (f : State → State) (ss : List State) → ((s : State) → (f s).number ≡ s.number) → numbers (changed n f ss) ≡ numbers ss
@@ -88,15 +89,17 @@ numbers_stay n f (s ∷ ss) e =
     let here : (b : Bool) → (if b then f s else s).number ≡ s.number = λ b. elim b as (λ b. (if b then f s else s).number ≡ s.number) [ true ↦ e s | false ↦ refl ] in
     λ i. here (nat_eq s.number n) i ∷ numbers_stay n f ss e i
 
--- the replica that edits, and the pool, behind the edit
+-- what a replica with a lawful history makes is Ready in turn, and its own
+abbrev MakesOwn : (State → List Op) → Type 0
+MakesOwn makes = (s : State) → Lawful s.held.history → IsEffect s (makes s)
+
+-- the replica that makes operations, and the pool, behind them
 record IsBehind (pool : List Op) (s : State) : Type 0 where
   lawful : Lawful pool
   member : IsMember pool s
 
-edits : (pool : List Op) (command : Command) (s : State) → Lawful pool → IsMember pool s → IsBehind (pooled pool (effect s command)) (edited command s)
-edits pool command s w m =
-    let ops : List Op = effect s command in
-    let e = effect_is command s m.lawful in
+gains : (pool ops : List Op) (s : State) → Lawful pool → IsMember pool s → IsEffect s ops → IsBehind (pooled pool ops) (with_ops s ops)
+gains pool ops s w m e =
     let p = pool_all s.number s.held.history pool ops (record { lawful = w; part = m.history_part; own = m.own }) e.by e.ready in
     record {
       lawful = p.lawful;
@@ -130,30 +133,32 @@ pub record IsSound (w : World) : Type 0 where
   pub distinct : AllPairs (λ m n. m ≢ n) (numbers w.replicas)
   pub members : All (IsMember w.pool) w.replicas
 
--- the pool and the members behind an edit
+-- the pool and the members behind operations that one replica makes
 abbrev Goes : List Op → List State → Type 0
 Goes pool replicas = Lawful pool × All (IsMember pool) replicas
 
-edit_goes : (w : World) (n : ℕ) (command : Command) → IsSound w → Goes (pooled w.pool (made_at n command w.replicas)) (changed n (edited command) w.replicas)
-edit_goes w n command g =
+making_goes : (w : World) (n : ℕ) (makes : State → List Op) → MakesOwn makes → IsSound w → Goes (after_making w n makes).pool (after_making w n makes).replicas
+making_goes w n makes own g =
+    let made : State → State = λ s. with_ops s (makes s) in
     elim (find_at n w.replicas g.distinct) [
       | inl a ↦ subst (λ (x : World). Goes x.pool x.replicas)
-          (λ i. record { replicas = sym (none_changes n (edited command) w.replicas a) i; pool = pooled w.pool (sym (none_makes n command w.replicas a) i) })
+          (λ i. record { replicas = sym (none_changes n made w.replicas a) i; pool = pooled w.pool (sym (none_makes n makes w.replicas a) i) })
           (g.lawful, g.members)
       | inr k ↦
-          let ops : List Op = effect k.it command in
+          let ops : List Op = makes k.it in
           let all : All (IsMember w.pool) (k.front ++ k.it ∷ k.back) = subst (All (IsMember w.pool)) k.whole g.members in
           let rest : All (IsMember w.pool) (k.it ∷ k.back) = all_behind (IsMember w.pool) k.front (k.it ∷ k.back) all in
           let it : IsMember w.pool k.it = All-head (IsMember w.pool) k.it k.back rest in
-          let by : All (IsBy n) ops = subst (λ m. All (IsBy m) ops) k.number (effect_is command k.it it.lawful).by in
-          let new = edits w.pool command k.it g.lawful it in
+          let its : IsEffect k.it ops = own k.it it.lawful in
+          let by : All (IsBy n) ops = subst (λ m. All (IsBy m) ops) k.number its.by in
+          let new = gains w.pool ops k.it g.lawful it its in
           let M : State → Type 0 = IsMember (pooled w.pool ops) in
           subst (λ (x : World). Goes x.pool x.replicas)
-          (λ i. record { replicas = sym (one_changes n (edited command) w.replicas k) i; pool = pooled w.pool (sym (one_makes n command w.replicas k) i) }) (
+          (λ i. record { replicas = sym (one_changes n made w.replicas k) i; pool = pooled w.pool (sym (one_makes n makes w.replicas k) i) }) (
             new.lawful,
-            All-append M k.front (edited command k.it ∷ k.back)
+            All-append M k.front (made k.it ∷ k.back)
                 (others_stay w.pool ops n k.front by k.before (all_before (IsMember w.pool) k.front (k.it ∷ k.back) all))
-                (All-cons M (edited command k.it) k.back new.member (others_stay w.pool ops n k.back by k.behind (All-tail (IsMember w.pool) k.it k.back rest))),
+                (All-cons M (made k.it) k.back new.member (others_stay w.pool ops n k.back by k.behind (All-tail (IsMember w.pool) k.it k.back rest))),
           )
     ]
 
@@ -169,15 +174,20 @@ receive_all pool op n ss k m =
     (All-weaker (IsMember pool) (λ (s : State). IsMember pool (if nat_eq s.number n then delivered op s else s))
     (λ s x. elim (nat_eq s.number n) as (λ b. IsMember pool (if b then delivered op s else s)) [ true ↦ receives pool op s k x | false ↦ x ]) ss m)
 
--- every event keeps a world sound
-pub event_sound : (w : World) (event : Event) → IsSound w → IsSound (after_event w event)
-event_sound w (Edit n command) g =
-    let new = edit_goes w n command g in
+-- what a replica makes keeps a world sound
+making_sound : (w : World) (n : ℕ) (makes : State → List Op) → MakesOwn makes → IsSound w → IsSound (after_making w n makes)
+making_sound w n makes own g =
+    let new = making_goes w n makes own g in
     record {
       lawful = new.0;
-      distinct = subst (AllPairs (λ m k. m ≢ k)) (sym (numbers_stay n (edited command) w.replicas (λ s. refl))) g.distinct;
+      distinct = subst (AllPairs (λ m k. m ≢ k)) (sym (numbers_stay n (λ (s : State). with_ops s (makes s)) w.replicas (λ s. refl))) g.distinct;
       members = new.1;
     }
+
+-- every event keeps a world sound
+pub event_sound : (w : World) (event : Event) → IsSound w → IsSound (after_event w event)
+event_sound w (Edit n command) g = making_sound w n (λ (s : State). effect s command) (effect_is command) g
+event_sound w (Noting n named code body) g = making_sound w n (λ (s : State). note_effect s named code body) (note_effect_is named code body) g
 event_sound w (Deliver n op) g =
     let new : World = record { replicas = changed n (delivered op) w.replicas; pool = w.pool } in
     elim (cases_Bool (has_op w.pool op)) [
@@ -208,7 +218,8 @@ world_sound replicas events new =
 
 -- no event takes from the pool
 event_keeps : (w : World) (event : Event) → IsPartOf w.pool (after_event w event).pool
-event_keeps w (Edit n command) x k = pool_keeps w.pool (made_at n command w.replicas) x k
+event_keeps w (Edit n command) x k = pool_keeps w.pool (made_at n (λ (s : State). effect s command) w.replicas) x k
+event_keeps w (Noting n named code body) x k = pool_keeps w.pool (made_at n (λ (s : State). note_effect s named code body) w.replicas) x k
 event_keeps w (Deliver n op) x k =
     let new : World = record { replicas = changed n (delivered op) w.replicas; pool = w.pool } in
     elim (has_op w.pool op) as (λ b. has_op (if b then new else w).pool x ≡ true) [ true ↦ k | false ↦ k ]

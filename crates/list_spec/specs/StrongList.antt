@@ -1,5 +1,6 @@
 -- The strong list specification (Attiya and others, "Specification and Complexity of Collaborative Text Editing"): one order over all elements that were ever inserted, and every list that any replica shows at any moment is in it, with exactly the elements that the replica accepted and that no Delete it accepted names; and an edit lands where it was asked.
-use Rattle.std.specs.Prelude.{◌≡◌, None, not, List, ◌++◌, filter, All, AllPairs}
+use Rattle.std.specs.Prelude.{◌≡◌, ℕ, None, not, List, ◌++◌, filter, All, AllPairs}
+use Rattle.fugue_ids.specs.Identifiers.{Identifier}
 use Rattle.fugue_ids.specs.declared.op.Op.{Op}
 use Rattle.origin_model.specs.declared.operations.Place.{Place}
 use Rattle.origin_model.specs.operations.History.{holds}
@@ -12,7 +13,8 @@ use Rattle.origin_model.specs.operations.History.{HaveOtherIds}
 use Rattle.origin_model.specs.edits.State.{State}
 use Rattle.origin_model.specs.edits.Refusal.{refusal_message}
 use Rattle.origin_model.specs.edits.Effect.{Lands}
-use Rattle.list_spec.specs.Worlds.{AreNew, Event, edited, world}
+use Rattle.origin_model.specs.edits.Noting.{ShowsAsBefore}
+use Rattle.list_spec.specs.Worlds.{AreNew, Event, annotated, edited, world}
 
 -- a replica's history is lawful and made of operations of the pool; its elements stand in the order of the pool, with those that it lacks left out, and of these it shows the ones that no Delete of its own history names
 pub record IsView (pool history : List Op) : Type 0 where
@@ -36,3 +38,9 @@ abbrev pub EditsLand : Type 0
 EditsLand =
     (replicas : List State) (events : List Event) (command : Command) → AreNew replicas
     → All (λ (s : State). refusal_message s command ≡ None → Lands s (edited command s) command) (world replicas events).replicas
+
+-- a noting leaves what each place has and shows, and what waits
+abbrev pub NotingsShowNothing : Type 0
+NotingsShowNothing =
+    (named : List Identifier) (code : ℕ) (body : List ℕ) (s : State)
+    → ShowsAsBefore s (annotated named code body s) × ((annotated named code body s).held.waiting ≡ s.held.waiting)

@@ -1,18 +1,23 @@
--- Worlds: replicas that authors edit, and to which the operations that were made are delivered, in whatever order and however often.
+-- Worlds: replicas that authors edit and in which they make notes, and to which the operations that were made are delivered, in whatever order and however often.
 -- A history and a pool are newest first.
 use Rattle.std.specs.Prelude.{◌≡◌, ◌≢◌, ℕ, nat_eq, if◌then◌else◌, Some, None, List, [], ◌∷◌, map, flat_map, All, AllPairs}
+use Rattle.std.specs.List.{list_all}
+use Rattle.fugue_ids.specs.Identifiers.{Identifier}
 use Rattle.fugue_ids.specs.declared.op.Op.{Op}
-use Rattle.origin_model.specs.operations.History.{has_op}
+use Rattle.origin_model.specs.operations.History.{has_op, holds}
 use Rattle.origin_model.specs.taking.Taking.{intake, nothing_held}
 use Rattle.origin_model.specs.edits.Edits.{Command}
 use Rattle.origin_model.specs.edits.State.{State}
 use Rattle.origin_model.specs.edits.Refusal.{made_by, refusal_message}
 use Rattle.origin_model.specs.edits.Effect.{with_ops}
+use Rattle.origin_model.specs.edits.Noting.{note_by, note_refusal}
 
 -- what happens in a world, one at a time
 pub data Event : Type 0 where
   -- the author of the replica with this number edits
   Edit : (number : ℕ) → Command → Event
+  -- the author of that replica makes a note
+  Noting : (number : ℕ) → (named : List Identifier) → (code : ℕ) → (body : List ℕ) → Event
   -- an operation reaches that replica
   Deliver : (number : ℕ) → Op → Event
 
@@ -37,6 +42,15 @@ effect s command = elim (refusal_message s command) [ None ↦ made_by s command
 abbrev pub edited : Command → State → State
 edited command s = with_ops s (effect s command)
 
+-- the operation of a noting: none where it is refused, or names what is not held
+abbrev pub note_effect : State → (named : List Identifier) → (code : ℕ) → (body : List ℕ) → List Op
+note_effect s named code body =
+    elim (note_refusal s) [ None ↦ if list_all (holds s.held.history) named then note_by s named code body ∷ [] else [] | Some fault ↦ [] ]
+
+-- the replica behind a noting
+abbrev pub annotated : (named : List Identifier) → (code : ℕ) → (body : List ℕ) → State → State
+annotated named code body s = with_ops s (note_effect s named code body)
+
 -- the replica behind a delivery
 abbrev pub delivered : Op → State → State
 delivered op s = record s { held = intake s.hold s.most s.held op }
@@ -45,19 +59,24 @@ delivered op s = record s { held = intake s.hold s.most s.held op }
 abbrev pub changed : ℕ → (State → State) → List State → List State
 changed number change replicas = map (λ (s : State). if nat_eq s.number number then change s else s) replicas
 
--- the operations that an edit makes at the replica with this number
-abbrev pub made_at : ℕ → Command → List State → List Op
-made_at number command replicas = flat_map (λ (s : State). if nat_eq s.number number then effect s command else []) replicas
+-- the operations that the replica with this number makes
+abbrev pub made_at : ℕ → (State → List Op) → List State → List Op
+made_at number makes replicas = flat_map (λ (s : State). if nat_eq s.number number then makes s else []) replicas
 
 -- the pool with operations that it lacks, in the order in which they were made
 abbrev pub pooled : List Op → List Op → List Op
 pooled pool [] = pool
 pooled pool (op ∷ ops) = pooled (if has_op pool op then pool else op ∷ pool) ops
 
+-- the world where the replica with this number made operations
+abbrev pub after_making : World → ℕ → (State → List Op) → World
+after_making w number makes =
+    record { replicas = changed number (λ (s : State). with_ops s (makes s)) w.replicas; pool = pooled w.pool (made_at number makes w.replicas) }
+
 -- the world behind an event; only what was made can be delivered
 abbrev pub after_event : World → Event → World
-after_event w (Edit number command) =
-    record { replicas = changed number (edited command) w.replicas; pool = pooled w.pool (made_at number command w.replicas) }
+after_event w (Edit number command) = after_making w number (λ (s : State). effect s command)
+after_event w (Noting number named code body) = after_making w number (λ (s : State). note_effect s named code body)
 after_event w (Deliver number op) =
     if has_op w.pool op then record { replicas = changed number (delivered op) w.replicas; pool = w.pool } else w
 

@@ -1,18 +1,20 @@
 //! Each function takes and answers nothing, and its clauses are the law.
 
 ghost use Rattle.origin_model.specs.edits.Passages.{BeforeRight, ByIdentifier, NeverMixed, Together};
-ghost use Rattle.list_spec.specs.Calls.{CallsAreEdits};
-ghost use Rattle.list_spec.specs.StrongList.{EditsLand, StrongList};
+ghost use Rattle.list_spec.specs.Calls.{CallsAreEdits, CallsAreNotings};
+ghost use Rattle.list_spec.specs.StrongList.{EditsLand, NotingsShowNothing, StrongList};
 
-/// Over every list of edits and deliveries there is one order of all elements ever inserted, and every replica shows
-/// its elements in it at every moment; an edit that is not refused lands where it was asked. This is the strong list
-/// specification.
+/// Over every list of edits, notings and deliveries there is one order of all elements ever inserted, and every replica
+/// shows its elements in it at every moment; an edit that is not refused lands where it was asked, and a noting shows
+/// nothing. This is the strong list specification.
 ///
 /// The replicas begin with nothing and have distinct numbers. It is not promised that anything is ever delivered.
 pub fn strong_list()
     ensures one_order { StrongList }
     ensures lands { EditsLand }
+    ensures quiet { NotingsShowNothing }
     ensures calls { CallsAreEdits }
+    ensures notings { CallsAreNotings }
 {}
 
 /// An element and all elements whose chains of left origins pass it stand without a gap, the element first, in every

@@ -23,7 +23,7 @@ use Rattle.manuscript_cli.specs.Report.{ReportMeets, print_tells, printed_of}
 use Rattle.manuscript_cli.specs.Run.{Meets}
 use Rattle.manuscript_cli.specs.Touched.{Change, IsTold, Touched, change}
 use Rattle.manuscript_cli.specs.declared.command.Command.{Command}
-use Rattle.manuscript_cli.specs.declared.command.Command.TheVariants.{Comment, Move, New, Print, Retitle, Show, Why}
+use Rattle.manuscript_cli.specs.declared.command.Command.TheVariants.{Move, New, Print, Retitle, Show, Why}
 use Rattle.manuscript_cli.specs.declared.status.Status.{Status}
 use Rattle.manuscript_cli.specs.declared.status.Status.TheVariants as status
 
@@ -38,7 +38,6 @@ named_in_range words (New replica hold) named = (named.replica_is.from, record {
 named_in_range words (Why k p q) named = named.section_is.from
 named_in_range words (Move k j) named = (named.section_is.from, named.place_is.from)
 named_in_range words (Retitle k) named = named.section_is.from
-named_in_range words (Comment k p n) named = (named.section_is.from, named.count_is.from)
 named_in_range words _ named = tt
 
 -- the command that was read is the one that is named

@@ -1,15 +1,14 @@
 -- Which words ask for which command. Words are lists of bytes.
 use Rattle.std.specs.Prelude.{◌≡◌, ◌≢◌, ◌⊎◌, ℕ, ◌≤◌, false, List, [], ◌∷◌, codes, length, Option, Some, None, IfSome}
 use Rattle.fugue_ids.specs.Titles.{has_line_end}
-use Rattle.fugue_ids.specs.declared.limits.TheConstants.{GREATEST_HOLD, LONGEST_BODY, LONGEST_TITLE}
+use Rattle.fugue_ids.specs.declared.limits.TheConstants.{GREATEST_HOLD, LONGEST_TITLE}
 use Rattle.outer_ports.specs.declared.disk.file_disk.Opening.{Opening}
 use Rattle.outer_ports.specs.declared.disk.file_disk.Opening.TheVariants.{Reading, Writing, Creating}
 use Rattle.bulk_world.specs.declared.making.TheConstants.{MOST_TURNS}
 use Rattle.manuscript_cli.specs.Number.{IsNumber}
 use Rattle.manuscript_cli.specs.declared.command.Command.{Command}
-use Rattle.manuscript_cli.specs.declared.command.Command.TheVariants.{Show, New, Edit, Print, Take, Send, Merge, Relay, Sync, Bulk, Why, Check, Move, Retitle, Arrange, Comment, Comments, Version, Versions, View}
+use Rattle.manuscript_cli.specs.declared.command.Command.TheVariants.{Show, New, Edit, Print, Take, Send, Merge, Relay, Sync, Bulk, Why, Check, Move, Retitle, Arrange}
 use Rattle.manuscript_cli.specs.declared.words.TheConstants.{GREATEST_CURSOR, GREATEST_PLACE, GREATEST_PORT, GREATEST_REPLICA, GREATEST_SEED, MOST_SESSIONS, USUAL_HOLD}
-use Rattle.manuscript_cli.specs.declared.version_name.TheConstants.{LONGEST_NAME}
 
 -- `show HOLD`
 pub record NamesShow (words : List (List ℕ)) (hold : ℕ) : Type 0 where
@@ -105,28 +104,6 @@ pub record NamesRetitle (words : List (List ℕ)) (k : ℕ) : Type 0 where
   pub section_is : IsNumber section_word 1 GREATEST_PLACE k
   pub title_is : IsLine LONGEST_TITLE title
 
--- `comment FILE K P N TEXT`
-pub record NamesComment (words : List (List ℕ)) (k p n : ℕ) : Type 0 where
-  pub file : List ℕ
-  pub some : file ≢ []
-  pub section_word : List ℕ
-  pub place_word : List ℕ
-  pub count_word : List ℕ
-  pub text : List ℕ
-  pub words_are : words ≡ codes "comment" ∷ file ∷ section_word ∷ place_word ∷ count_word ∷ text ∷ []
-  pub section_is : IsNumber section_word 1 GREATEST_PLACE k
-  pub place_is : IsNumber place_word 0 GREATEST_PLACE p
-  pub count_is : IsNumber count_word 1 GREATEST_PLACE n
-  pub text_is : IsLine LONGEST_BODY text
-
--- a name, FILE and the name of a version
-pub record NamesVersion (name : List ℕ) (words : List (List ℕ)) : Type 0 where
-  pub file : List ℕ
-  pub some : file ≢ []
-  pub version : List ℕ
-  pub words_are : words ≡ name ∷ file ∷ version ∷ []
-  pub version_is : IsLine LONGEST_NAME version
-
 -- the words ask for the command
 abbrev pub Names : List (List ℕ) → Command → Type 0
 Names words (Show hold) = ((words ≡ codes "show" ∷ []) × (hold ≡ USUAL_HOLD)) ⊎ NamesShow words hold
@@ -144,11 +121,6 @@ Names words Check = NamesFile (codes "check") words
 Names words (Move k j) = NamesMove words k j
 Names words (Retitle k) = NamesRetitle words k
 Names words Arrange = NamesFile (codes "arrange") words
-Names words (Comment k p n) = NamesComment words k p n
-Names words Comments = NamesFile (codes "comments") words
-Names words Version = NamesVersion (codes "version") words
-Names words Versions = NamesFile (codes "versions") words
-Names words View = NamesVersion (codes "view") words
 
 -- a number of operations that may wait
 pub record IsHold (hold : ℕ) : Type 0 where
@@ -162,7 +134,6 @@ IsInRange (New replica hold) = (1 ≤ replica) × IsHold hold
 IsInRange (Why k p q) = 1 ≤ k
 IsInRange (Move k j) = (1 ≤ k) × (1 ≤ j)
 IsInRange (Retitle k) = 1 ≤ k
-IsInRange (Comment k p n) = (1 ≤ k) × (1 ≤ n)
 IsInRange _ = Unit {0}
 
 -- the command that the words ask for: None, where they ask for none
@@ -182,7 +153,7 @@ abbrev pub guest_word : Command → List (List ℕ) → Option (List ℕ)
 guest_word Merge (name ∷ file ∷ other ∷ more) = Some other
 guest_word _ words = None
 
--- the last word: the title, the text or the name, where the command has one
+-- the last word: the title, where the command has one
 abbrev pub last_word : List (List ℕ) → List ℕ
 last_word [] = []
 last_word (word ∷ []) = word
@@ -197,8 +168,6 @@ opening_for Merge = Writing
 opening_for (Sync port cursor) = Writing
 opening_for (Move k j) = Writing
 opening_for (Retitle k) = Writing
-opening_for (Comment k p n) = Writing
-opening_for Version = Writing
 opening_for _ = Reading
 
 -- these are the files of the command that the words ask for: none, where they ask for none

@@ -20,50 +20,43 @@ use Rattle.replica_file.specs.declared.load_file.LoadFault.{LoadFault}
 use Rattle.replica_file.specs.declared.load_file.LoadFault.TheVariants as load_fault
 use Rattle.manuscript_cli.specs.Touched.{HasRoom, StaysCalm, notes_room}
 use Rattle.manuscript_cli.specs.declared.refusal.Refusal.{Refusal}
-use Rattle.manuscript_cli.specs.declared.version_name.VersionName.{VersionName}
-use Rattle.manuscript_cli.specs.declared.refusal.Refusal.TheVariants.{Words, BadFrame, CutShort, BadLine, NoSectionAtLine, OutOfRangeAtLine, NotReplica, BadBatch, NotEmpty, TooMany, IdsSpent, TooLong, BatchTooLong, BadReply, RelayRefused, ReplyCutShort, NoSuchPlaces, NoSection, NoPlace, OutOfRange, NoVersion, StampsSpent, Outside, NoMemory}
+use Rattle.manuscript_cli.specs.declared.refusal.Refusal.TheVariants.{Words, BadFrame, CutShort, BadLine, NoSectionAtLine, OutOfRangeAtLine, NotReplica, BadBatch, NotEmpty, TooMany, IdsSpent, TooLong, BatchTooLong, BadReply, RelayRefused, ReplyCutShort, NoSuchPlaces, NoSection, NoPlace, StampsSpent, Outside, NoMemory}
 use Rattle.manuscript_cli.specs.declared.status.Status.{Status}
 use Rattle.manuscript_cli.specs.declared.status.Status.TheVariants as status
 
--- what is told of a refusal: the status that it answers, and the words of its line with the number or the name behind them, where there is one
+-- what is told of a refusal: the status that it answers, and the words of its line with the number behind them, where there is one
 pub record Row : Type 0 where
   pub status : Status
   pub words : List ℕ
-  pub detail : List ℕ
+  pub number : Option ℕ
 
-abbrev row : Status → List ℕ → List ℕ → Row
-row status words detail = record { status = status; words = words; detail = detail }
-
--- the bytes of a version's name
-abbrev pub name_bytes : VersionName → List ℕ
-name_bytes name = take name.length name.bytes
+abbrev row : Status → List ℕ → Option ℕ → Row
+row status words number = record { status = status; words = words; number = number }
 
 -- the table of all refusals
 abbrev pub row_of : Refusal → Row
-row_of Words = row status.Usage (codes "words not understood") []
-row_of (BadFrame offset) = row status.BadInput (codes "bad frame at byte ") (decimal offset)
-row_of (CutShort offset) = row status.BadInput (codes "cut short at byte ") (decimal offset)
-row_of (BadLine line) = row status.BadInput (codes "bad line ") (decimal line)
-row_of (NoSectionAtLine line) = row status.BadInput (codes "no section at line ") (decimal line)
-row_of (OutOfRangeAtLine line) = row status.BadInput (codes "out of range at line ") (decimal line)
-row_of NotReplica = row status.BadFile (codes "not a replica") []
-row_of (BadBatch slot) = row status.BadFile (codes "bad batch ") (decimal slot)
-row_of NotEmpty = row status.BadFile (codes "not empty") []
-row_of (TooMany count) = row status.Limit (codes "too many: ") (decimal count)
-row_of (IdsSpent count) = row status.Limit (codes "ids spent: ") (decimal count)
-row_of TooLong = row status.Limit (codes "too long") []
-row_of BatchTooLong = row status.Limit (codes "batch too long") []
-row_of (BadReply offset) = row status.BadInput (codes "bad reply at byte ") (decimal offset)
-row_of (RelayRefused code) = row status.BadInput (codes "relay refused ") (decimal code)
-row_of (ReplyCutShort offset) = row status.BadInput (codes "reply cut short at byte ") (decimal offset)
-row_of NoSuchPlaces = row status.BadInput (codes "no such places") []
-row_of (NoSection section) = row status.BadInput (codes "no section ") (decimal section)
-row_of (NoPlace place) = row status.BadInput (codes "no place ") (decimal place)
-row_of OutOfRange = row status.BadInput (codes "out of range") []
-row_of (NoVersion name) = row status.BadInput (codes "no version ") (name_bytes name)
-row_of StampsSpent = row status.Limit (codes "stamps spent") []
-row_of Outside = row status.OutsideFault (codes "outside fault") []
-row_of NoMemory = row status.NoMemory (codes "no memory") []
+row_of Words = row status.Usage (codes "words not understood") None
+row_of (BadFrame offset) = row status.BadInput (codes "bad frame at byte ") (Some offset)
+row_of (CutShort offset) = row status.BadInput (codes "cut short at byte ") (Some offset)
+row_of (BadLine line) = row status.BadInput (codes "bad line ") (Some line)
+row_of (NoSectionAtLine line) = row status.BadInput (codes "no section at line ") (Some line)
+row_of (OutOfRangeAtLine line) = row status.BadInput (codes "out of range at line ") (Some line)
+row_of NotReplica = row status.BadFile (codes "not a replica") None
+row_of (BadBatch slot) = row status.BadFile (codes "bad batch ") (Some slot)
+row_of NotEmpty = row status.BadFile (codes "not empty") None
+row_of (TooMany count) = row status.Limit (codes "too many: ") (Some count)
+row_of (IdsSpent count) = row status.Limit (codes "ids spent: ") (Some count)
+row_of TooLong = row status.Limit (codes "too long") None
+row_of BatchTooLong = row status.Limit (codes "batch too long") None
+row_of (BadReply offset) = row status.BadInput (codes "bad reply at byte ") (Some offset)
+row_of (RelayRefused code) = row status.BadInput (codes "relay refused ") (Some code)
+row_of (ReplyCutShort offset) = row status.BadInput (codes "reply cut short at byte ") (Some offset)
+row_of NoSuchPlaces = row status.BadInput (codes "no such places") None
+row_of (NoSection section) = row status.BadInput (codes "no section ") (Some section)
+row_of (NoPlace place) = row status.BadInput (codes "no place ") (Some place)
+row_of StampsSpent = row status.Limit (codes "stamps spent") None
+row_of Outside = row status.OutsideFault (codes "outside fault") None
+row_of NoMemory = row status.NoMemory (codes "no memory") None
 
 abbrev pub status_of : Refusal → Status
 status_of refusal = (row_of refusal).status
@@ -71,13 +64,16 @@ status_of refusal = (row_of refusal).status
 abbrev pub words_of : Refusal → List ℕ
 words_of refusal = (row_of refusal).words
 
--- the number or the name
-abbrev pub detail_of : Refusal → List ℕ
-detail_of refusal = (row_of refusal).detail
+abbrev pub refusal_number : Refusal → Option ℕ
+refusal_number refusal = (row_of refusal).number
 
--- the words, the number or the name where there is one, LF
+abbrev pub number_text : Option ℕ → List ℕ
+number_text None = []
+number_text (Some n) = decimal n
+
+-- the words, the number where there is one, LF
 abbrev pub refusal_line : Refusal → List ℕ
-refusal_line refusal = words_of refusal ++ detail_of refusal ++ 10 ∷ []
+refusal_line refusal = words_of refusal ++ number_text (refusal_number refusal) ++ 10 ∷ []
 
 -- a reader's fault as a refusal
 abbrev pub frame_refusal : FrameFault → Refusal

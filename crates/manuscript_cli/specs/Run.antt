@@ -4,7 +4,6 @@ use Rattle.manuscript_cli.specs.Arrange.{arrange_tells, move_on, retitle_on}
 use Rattle.manuscript_cli.specs.Bulk.{Bulks}
 use Rattle.manuscript_cli.specs.Check.{ChecksText}
 use Rattle.manuscript_cli.specs.Command.{last_word}
-use Rattle.manuscript_cli.specs.Comment.{comment_on, comments_tells}
 use Rattle.manuscript_cli.specs.New.{Creates}
 use Rattle.manuscript_cli.specs.Printing.{NotesBlameless}
 use Rattle.manuscript_cli.specs.Refusal.{refusal_line, Told}
@@ -13,10 +12,9 @@ use Rattle.manuscript_cli.specs.Report.{Reports, Telling, print_tells, send_tell
 use Rattle.manuscript_cli.specs.Savers.{RunsSaving, Saver, edit_saver, merge_saver, note_saver, sync_saver, take_saver}
 use Rattle.manuscript_cli.specs.Show.{Shows}
 use Rattle.manuscript_cli.specs.Touched.{DiskBlameless, DockBlameless, OutBlameless, SourceBlameless, Touched, WireBlameless, change}
-use Rattle.manuscript_cli.specs.Version.{version_on, versions_tells, view_tells}
 use Rattle.manuscript_cli.specs.Why.{why_tells}
 use Rattle.manuscript_cli.specs.declared.command.Command.{Command}
-use Rattle.manuscript_cli.specs.declared.command.Command.TheVariants.{Show, New, Edit, Print, Take, Send, Merge, Relay, Sync, Bulk, Why, Check, Move, Retitle, Arrange, Comment, Comments, Version, Versions, View}
+use Rattle.manuscript_cli.specs.declared.command.Command.TheVariants.{Show, New, Edit, Print, Take, Send, Merge, Relay, Sync, Bulk, Why, Check, Move, Retitle, Arrange}
 use Rattle.manuscript_cli.specs.declared.refusal.Refusal.TheVariants.{Words}
 use Rattle.manuscript_cli.specs.declared.status.Status.{Status}
 use Rattle.manuscript_cli.specs.declared.status.Status.TheVariants.{Usage}
@@ -68,7 +66,7 @@ pub data Family : Type 1 where
   Inventing : (seed count : ℕ) → Family
   Checking : Family
 
--- by the words too: the last of them is a title, a text or a name; sections and places count from 1
+-- by the words too: the last of them is the title of a retitle; sections and places count from 1
 abbrev pub family : List (List ℕ) → Option Command → Family
 family words None = NoCommand
 family words (Some (Show hold)) = Showing hold
@@ -86,11 +84,6 @@ family words (Some Check) = Checking
 family words (Some (Move k j)) = Saving (note_saver (move_on k j))
 family words (Some (Retitle k)) = Saving (note_saver (retitle_on k (last_word words)))
 family words (Some Arrange) = Reporting arrange_tells
-family words (Some (Comment k p n)) = Saving (note_saver (comment_on k p n (last_word words)))
-family words (Some Comments) = Reporting comments_tells
-family words (Some Version) = Saving (note_saver (version_on (last_word words)))
-family words (Some Versions) = Reporting versions_tells
-family words (Some View) = Reporting (view_tells (last_word words))
 
 -- a command of the family did what it should with the objects that it uses, and left the others as they were
 abbrev pub MeetsAs : Family → Touched → Touched → Status → Type 0

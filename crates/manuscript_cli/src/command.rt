@@ -38,17 +38,6 @@ pub enum Command {
     Retitle(u32),
     /// Print the sections of a file as they are arranged, under their headings.
     Arrange,
-    /// Make a comment on clusters of a section, counted from 1 in the catalogue: the section, the first cluster, and how
-    /// many.
-    Comment(u32, u32, u32),
-    /// Print the comments of a file.
-    Comments,
-    /// Give the state of a file's replica a name.
-    Version,
-    /// Print the named versions of a file.
-    Versions,
-    /// Print the manuscript of a named version of a file.
-    View,
 }
 
 impl Command {
@@ -63,9 +52,7 @@ impl Command {
             | Command::Merge
             | Command::Sync(_, _)
             | Command::Move(_, _)
-            | Command::Retitle(_)
-            | Command::Comment(_, _, _)
-            | Command::Version => Opening::Writing,
+            | Command::Retitle(_) => Opening::Writing,
             Command::Show(_)
             | Command::Print
             | Command::Send
@@ -73,10 +60,7 @@ impl Command {
             | Command::Bulk(_, _)
             | Command::Why(_, _, _)
             | Command::Check
-            | Command::Arrange
-            | Command::Comments
-            | Command::Versions
-            | Command::View => Opening::Reading,
+            | Command::Arrange => Opening::Reading,
         }
     }
 

@@ -11,7 +11,6 @@ ghost use Rattle.manuscript_cli.specs.Runs.{EachFinishedIsIn};
 ghost use Rattle.manuscript_cli.specs.declared.check.TheConstants.{LONGEST_PROOF};
 ghost use Rattle.manuscript_cli.specs.declared.words.TheConstants.{GREATEST_CURSOR, GREATEST_PLACE, GREATEST_PORT};
 ghost use Rattle.manuscript_cli.specs.declared.words.TheConstants.{GREATEST_REPLICA, GREATEST_SEED};
-ghost use Rattle.manuscript_cli.specs.declared.version_name.TheConstants.{LONGEST_NAME};
 ghost use Rattle.manuscript_cli.specs.declared.words.TheConstants.{MOST_SESSIONS, USUAL_HOLD};
 
 /// Each limit, in numbers. The contracts name them, so that each stands once.
@@ -22,7 +21,6 @@ pub fn limits_in_numbers()
     ensures title { LONGEST_TITLE ≡ 480 }
     ensures names { MOST_NAMES ≡ 3 }
     ensures body { LONGEST_BODY ≡ 1024 }
-    ensures version { LONGEST_NAME ≡ 120 }
     ensures stream { STREAM_LIMIT ≡ 2147483648 }
     ensures script { LONGEST_SCRIPT ≡ 1048576 }
     ensures proof { LONGEST_PROOF ≡ 268435456 }

@@ -27,7 +27,6 @@ mod take;
 mod take_in;
 mod text_out;
 mod top;
-mod version_name;
 mod why;
 mod words;
 
@@ -36,5 +35,4 @@ pub use laws::{every_finished_command_is_in_the_file, limits_in_numbers};
 pub use refusal::{Refusal, tell};
 pub use status::Status;
 pub use top::run;
-pub use version_name::VersionName;
 pub use words::{files_of, read_words};

@@ -2,12 +2,11 @@ ghost use Rattle.std.specs.Prelude.{◌≡◌, ◌≤◌, length};
 ghost use Rattle.fugue_ids.specs.Outs.{WritesBytes};
 ghost use Rattle.manuscript_cli.specs.Refusal.{append_refusal, create_refusal, feed_refusal, frame_refusal};
 ghost use Rattle.manuscript_cli.specs.Refusal.{load_refusal, script_refusal, serve_refusal, sync_refusal};
-ghost use Rattle.manuscript_cli.specs.Refusal.{detail_of, name_bytes, refusal_line, status_of, words_of, Told};
+ghost use Rattle.manuscript_cli.specs.Refusal.{refusal_line, refusal_number, status_of, words_of, Told};
 ghost use Rattle.manuscript_cli.specs.Touched.{notes_room};
 ghost use Rattle.manuscript_cli.specs.declared.refusal.Refusal.TheVariants.{NoMemory as NoMemoryFound};
 
 use crate::Status;
-use crate::version_name::VersionName;
 use edit_script::ScriptFault;
 use fugue_ids::{Failed, NoMemory, Out, write_pieces};
 use itoa::Buffer;
@@ -53,64 +52,50 @@ pub enum Refusal {
     ReplyCutShort(u64),
     /// The two places are not there, or the first is not before the second.
     NoSuchPlaces,
-    /// There is no section of this number, counted from 1.
+    /// The arrangement has no section of this number, counted from 1.
     NoSection(u32),
-    /// There is no place of this number, counted from 1, where a section could be moved.
+    /// The arrangement has no place of this number, counted from 1.
     NoPlace(u32),
-    /// The clusters are not there.
-    OutOfRange,
-    /// No version of the file has this name.
-    NoVersion(VersionName),
     /// No stamp is left for a move or a new title.
     StampsSpent,
     Outside,
     NoMemory,
 }
 
-/// What stands behind the words of a refusal's line.
+/// The status that a refusal answers, and the words and the number of its line.
 #[derive(Clone, Copy)]
-enum Detail {
-    Nothing,
-    Number(u64),
-    Name(VersionName),
-}
-
-/// The status that a refusal answers, and its line.
-#[derive(Clone, Copy)]
-struct Row(Status, &'static str, Detail);
+struct Row(Status, &'static str, Option<u64>);
 
 impl Refusal {
     /// The row of the refusal in the table of them all.
     fn row(self) -> Row
         ensures status { result.0 ≡ status_of self }
         ensures words { result.1.now ≡ words_of self }
-        ensures detail { detail_text result.2 ≡ detail_of self }
+        ensures number { result.2 ≡ refusal_number self }
     {
         match self {
-            Self::Words => Row(Status::Usage, "words not understood", Detail::Nothing),
-            Self::BadFrame(at) => Row(Status::BadInput, "bad frame at byte ", Detail::Number(at)),
-            Self::CutShort(at) => Row(Status::BadInput, "cut short at byte ", Detail::Number(at)),
-            Self::BadLine(at) => Row(Status::BadInput, "bad line ", Detail::Number(at.into())),
-            Self::NoSectionAtLine(at) => Row(Status::BadInput, "no section at line ", Detail::Number(at.into())),
-            Self::OutOfRangeAtLine(at) => Row(Status::BadInput, "out of range at line ", Detail::Number(at.into())),
-            Self::NotReplica => Row(Status::BadFile, "not a replica", Detail::Nothing),
-            Self::BadBatch(slot) => Row(Status::BadFile, "bad batch ", Detail::Number(slot.into())),
-            Self::NotEmpty => Row(Status::BadFile, "not empty", Detail::Nothing),
-            Self::TooMany(count) => Row(Status::Limit, "too many: ", Detail::Number(count.into())),
-            Self::IdsSpent(count) => Row(Status::Limit, "ids spent: ", Detail::Number(count.into())),
-            Self::TooLong => Row(Status::Limit, "too long", Detail::Nothing),
-            Self::BatchTooLong => Row(Status::Limit, "batch too long", Detail::Nothing),
-            Self::BadReply(at) => Row(Status::BadInput, "bad reply at byte ", Detail::Number(at)),
-            Self::RelayRefused(code) => Row(Status::BadInput, "relay refused ", Detail::Number(code.into())),
-            Self::ReplyCutShort(at) => Row(Status::BadInput, "reply cut short at byte ", Detail::Number(at)),
-            Self::NoSuchPlaces => Row(Status::BadInput, "no such places", Detail::Nothing),
-            Self::NoSection(at) => Row(Status::BadInput, "no section ", Detail::Number(at.into())),
-            Self::NoPlace(at) => Row(Status::BadInput, "no place ", Detail::Number(at.into())),
-            Self::OutOfRange => Row(Status::BadInput, "out of range", Detail::Nothing),
-            Self::NoVersion(name) => Row(Status::BadInput, "no version ", Detail::Name(name)),
-            Self::StampsSpent => Row(Status::Limit, "stamps spent", Detail::Nothing),
-            Self::Outside => Row(Status::OutsideFault, "outside fault", Detail::Nothing),
-            Self::NoMemory => Row(Status::NoMemory, "no memory", Detail::Nothing),
+            Self::Words => Row(Status::Usage, "words not understood", None),
+            Self::BadFrame(at) => Row(Status::BadInput, "bad frame at byte ", Some(at)),
+            Self::CutShort(at) => Row(Status::BadInput, "cut short at byte ", Some(at)),
+            Self::BadLine(at) => Row(Status::BadInput, "bad line ", Some(at.into())),
+            Self::NoSectionAtLine(at) => Row(Status::BadInput, "no section at line ", Some(at.into())),
+            Self::OutOfRangeAtLine(at) => Row(Status::BadInput, "out of range at line ", Some(at.into())),
+            Self::NotReplica => Row(Status::BadFile, "not a replica", None),
+            Self::BadBatch(slot) => Row(Status::BadFile, "bad batch ", Some(slot.into())),
+            Self::NotEmpty => Row(Status::BadFile, "not empty", None),
+            Self::TooMany(count) => Row(Status::Limit, "too many: ", Some(count.into())),
+            Self::IdsSpent(count) => Row(Status::Limit, "ids spent: ", Some(count.into())),
+            Self::TooLong => Row(Status::Limit, "too long", None),
+            Self::BatchTooLong => Row(Status::Limit, "batch too long", None),
+            Self::BadReply(at) => Row(Status::BadInput, "bad reply at byte ", Some(at)),
+            Self::RelayRefused(code) => Row(Status::BadInput, "relay refused ", Some(code.into())),
+            Self::ReplyCutShort(at) => Row(Status::BadInput, "reply cut short at byte ", Some(at)),
+            Self::NoSuchPlaces => Row(Status::BadInput, "no such places", None),
+            Self::NoSection(at) => Row(Status::BadInput, "no section ", Some(at.into())),
+            Self::NoPlace(at) => Row(Status::BadInput, "no place ", Some(at.into())),
+            Self::StampsSpent => Row(Status::Limit, "stamps spent", None),
+            Self::Outside => Row(Status::OutsideFault, "outside fault", None),
+            Self::NoMemory => Row(Status::NoMemory, "no memory", None),
         }
     }
 }
@@ -232,12 +217,11 @@ impl From<NoMemory> for Refusal {
 
 impl fmt::Display for Refusal {
     fn fmt<W: fmt::Write>(&self, f: &mut fmt::Formatter<W>) -> fmt::Result {
-        let Row(_, words, detail) = self.row();
+        let Row(_, words, number) = self.row();
         f.write_str(words)?;
-        match detail {
-            Detail::Nothing => Ok(()),
-            Detail::Number(number) => write!(f, "{number}"),
-            Detail::Name(name) => write!(f, "{name}"),
+        match number {
+            Some(number) => write!(f, "{number}"),
+            None => Ok(()),
         }
     }
 }
@@ -256,13 +240,11 @@ fn write_line<N: Out>(notes: &mut N, refusal: Refusal) -> Result<(), Failed>
     ensures text { WritesBytes (N.seen notes.old) (N.seen notes.new) result (refusal_line refusal) }
     ensures short { length (refusal_line refusal) ≤ notes_room }
 {
-    let Row(_, words, detail) = refusal.row();
-    match detail {
-        Detail::Nothing => write_pieces(notes, &[words.as_bytes(), b"\n"]),
-        Detail::Number(number) => {
-            let mut buffer = Buffer::new();
-            write_pieces(notes, &[words.as_bytes(), buffer.format(number).as_bytes(), b"\n"])
-        }
-        Detail::Name(name) => write_pieces(notes, &[words.as_bytes(), name.as_bytes(), b"\n"]),
-    }
+    let Row(_, words, number) = refusal.row();
+    let mut buffer = Buffer::new();
+    let number = match number {
+        Some(number) => buffer.format(number),
+        None => "",
+    };
+    write_pieces(notes, &[words.as_bytes(), number.as_bytes(), b"\n"])
 }

@@ -176,38 +176,11 @@ fn obey<S: Source, O: Sink, N: Sink, H: Disk, G: Disk, W: Wire, D: Dock, B: Buil
         }
         Command::Check => check_file(alloc, input, home, output, notes),
         Command::Move(section, place) => {
-            let maker = Moving { section, place };
-            save_given(alloc, &Noting { maker }, &mut (), home, notes)
+            save_given(alloc, &moving(section, place), &mut (), home, notes)
         }
         Command::Retitle(section) => {
-            let title = last_of(words);
-            let maker = Retitling { section, title };
-            save_given(alloc, &Noting { maker }, &mut (), home, notes)
+            save_given(alloc, &retitling(section, last_of(words)), &mut (), home, notes)
         }
         Command::Arrange => write_report(alloc, &Arrangement, home, output, notes),
-        Command::Comment(section, at, count) => {
-            let text = last_of(words);
-            let maker = Commenting {
-                section,
-                at,
-                count,
-                text,
-            };
-            save_given(alloc, &Noting { maker }, &mut (), home, notes)
-        }
-        Command::Comments => write_report(alloc, &Comments, home, output, notes),
-        Command::Version => {
-            let maker = Naming {
-                name: last_of(words),
-            };
-            save_given(alloc, &Noting { maker }, &mut (), home, notes)
-        }
-        Command::Versions => write_report(alloc, &Versions, home, output, notes),
-        Command::View => {
-            let view = View {
-                name: last_of(words),
-            };
-            write_report(alloc, &view, home, output, notes)
-        }
     }
 }

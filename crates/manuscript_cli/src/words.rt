@@ -6,9 +6,8 @@ ghost use Rattle.manuscript_cli.specs.declared.words.TheConstants.{GREATEST_PORT
 
 use crate::Command;
 use crate::number::read_number;
-use crate::version_name::LONGEST_NAME;
 use bulk_world::MOST_TURNS;
-use fugue_ids::{GREATEST_HOLD, LONGEST_BODY, LONGEST_TITLE, has_line_end};
+use fugue_ids::{GREATEST_HOLD, LONGEST_TITLE, has_line_end};
 
 /// How many operations may wait where `show` stands alone.
 const USUAL_HOLD: u32 = 65_536;
@@ -54,16 +53,6 @@ pub fn read_words(words: &[String]) -> Option<Command>
                 third.as_str(),
             )
         }
-        [name, file, first, second, third, fourth] => {
-            read_five(
-                name.as_str(),
-                file.as_str(),
-                first.as_str(),
-                second.as_str(),
-                third.as_str(),
-                fourth.as_str(),
-            )
-        }
         _ => None,
     }
 }
@@ -88,8 +77,6 @@ fn read_one(name: &str, word: &str) -> Option<Command>
         "send" if !word.is_empty() => Some(Command::Send),
         "check" if !word.is_empty() => Some(Command::Check),
         "arrange" if !word.is_empty() => Some(Command::Arrange),
-        "comments" if !word.is_empty() => Some(Command::Comments),
-        "versions" if !word.is_empty() => Some(Command::Versions),
         _ => None,
     }
 }
@@ -99,8 +86,6 @@ fn read_two(name: &str, file: &str, other: &str) -> Option<Command>
 {
     match name {
         "merge" if !file.is_empty() && !other.is_empty() => Some(Command::Merge),
-        "version" if is_version(file, other) => Some(Command::Version),
-        "view" if is_version(file, other) => Some(Command::View),
         "relay" => read_relay(file, other),
         "bulk" => read_bulk(file, other),
         _ => None,
@@ -172,13 +157,6 @@ fn is_line(word: &str, most: usize) -> bool
     !word.is_empty() && word.len() <= most && !has_line_end(word.as_bytes())
 }
 
-/// Whether the words are a file and the name of a version.
-fn is_version(file: &str, name: &str) -> bool
-    ensures { IsTrue result ↔ ((file.now ≢ []) × IsLine LONGEST_NAME name.now) }
-{
-    !file.is_empty() && is_line(name, LONGEST_NAME)
-}
-
 fn read_sync(file: &str, port: &str, cursor: &str) -> Option<Command>
     ensures { IsCommand (codes "sync" ∷ file.now ∷ port.now ∷ cursor.now ∷ []) result }
 {
@@ -222,35 +200,7 @@ fn read_why(file: &str, section: &str, first: &str, second: &str) -> Option<Comm
     Some(Command::Why(section, first, second))
 }
 
-fn read_five(
-    name: &str,
-    file: &str,
-    first: &str,
-    second: &str,
-    third: &str,
-    fourth: &str,
-) -> Option<Command>
-    ensures { IsCommand (name.now ∷ file.now ∷ first.now ∷ second.now ∷ third.now ∷ fourth.now ∷ []) result }
-{
-    match name {
-        "comment" => read_comment(file, first, second, third, fourth),
-        _ => None,
-    }
-}
-
-fn read_comment(file: &str, section: &str, place: &str, count: &str, text: &str) -> Option<Command>
-    ensures { IsCommand (codes "comment" ∷ file.now ∷ section.now ∷ place.now ∷ count.now ∷ text.now ∷ []) result }
-{
-    if file.is_empty() || !is_line(text, LONGEST_BODY) {
-        return None;
-    }
-    let section = read_number(section, 1, GREATEST_PLACE)?;
-    let place = read_number(place, 0, GREATEST_PLACE)?;
-    let count = read_number(count, 1, GREATEST_PLACE)?;
-    Some(Command::Comment(section, place, count))
-}
-
-/// The last of the words: the title, the text or the name that a command takes.
+/// The last of the words: the title, where a command takes one.
 pub(crate) fn last_of(words: &[String]) -> &str
     ensures { result.now ≡ last_word (map string_bytes words.now) }
 {

@@ -2,34 +2,33 @@
 use Rattle.std.proofs.Common.{◌≡◌, ℕ, zero, suc, ◌+◌, ◌-◌, ◌*◌, ◌<◌, ◌≤◌, false, List, [], ◌∷◌, ◌++◌, length, drop, get_or, refl, ap, sym, subst, ◌∙◌, ◌⊎◌, append_assoc, arith, inl, inr, length-append, length-drop}
 use Rattle.std.specs.Prelude.{◌↔◌, ◌^◌, All, Option, Some, None, SomeIff, is_some, flat_map}
 use Rattle.std.specs.Char.{IsScalar}
-use Rattle.std.specs.Int.{byte_at, from_be_bytes, to_be_bytes, w16, w32}
+use Rattle.std.specs.Int.{byte_at, to_be_bytes, w16, w32}
 use Rattle.std.specs.Str.{IsUtf8, chars, encode_utf8_all}
 use Rattle.std.proofs.Math.Seq.{drop-append_seam, take-append_seam}
 use Rattle.std.proofs.lemmas.Bool.{or_from, or_parts}
 use Rattle.std.proofs.lemmas.Bool.Decides.{nat_tests}
 use Rattle.std.proofs.lemmas.List.{append-nil}
-use Rattle.std.proofs.lemmas.List.Elements.{All-cons, All-head, All-nil, All-tail}
 use Rattle.std.proofs.lemmas.List.Folds.{list_any-append}
-use Rattle.std.proofs.lemmas.Nat.{from_be_bytes-to_be_bytes_2}
 use Rattle.std.proofs.lemmas.Str.{encodes-chars, IsCharBoundary-from_take, IsUtf8-append, IsUtf8-drop, IsUtf8-nil}
 use Rattle.fugue_ids.specs.Identifiers.{Identifier}
 use Rattle.fugue_ids.specs.Titles.{ends_line, has_line_end}
 use Rattle.fugue_ids.specs.declared.limits.TheConstants.{LONGEST_TITLE}
-use Rattle.fugue_ids.specs.declared.op.Op.TheVariants.{Delete, Section, Text as TextOp}
+use Rattle.fugue_ids.specs.declared.op.Op.TheVariants.{Delete, Note, Section, Text as TextOp}
 use Rattle.origin_model.specs.declared.grammar.Grammar.{Grammar}
 use Rattle.origin_model.specs.declared.grammar.Grammar.TheVariants.{Version2}
-use Rattle.origin_model.specs.frames.Frames.{HasRunFrame, IsIdentifier, IsItem, Item, Run as RunOf, Single, Typed, frame, id_bytes, item_bytes, origin_bytes, run_frame, scalar_bytes, text_bytes, title_bytes}
+use Rattle.origin_model.specs.frames.Frames.{HasRunFrame, IsIdentifier, IsItem, Item, Run as RunOf, Single, Typed, body_bytes, frame, id_bytes, item_bytes, names_bytes, origin_bytes, run_frame, scalar_bytes, text_bytes, title_bytes}
 use Rattle.op_frame.specs.FrameFronts.{AreFields, Completes, IsCounted, IsDueFront, IsIdentifierBytes, IsJudged, IsLast, IsNothing, IsOriginBytes, IsRunBehind, IsScalarBytes, IsSoundDue, IsSoundLast, IsTitleEnd, LeavesDue, NeverCompletes, Several, Then, scalar_of_bytes, grown_by, most_from, scalars_due, text_due}
 use Rattle.op_frame.specs.declared.due.Due.{Due}
 use Rattle.op_frame.specs.declared.due.Due.TheVariants.{Fields, Kind, Run}
 use Rattle.op_frame.specs.declared.due.Judged.TheVariants.{Front}
 use Rattle.op_frame.specs.declared.due.Last.{Last}
-use Rattle.op_frame.specs.declared.due.Last.TheVariants.{Count, Nothing, Scalars, Text, Title}
+use Rattle.op_frame.specs.declared.due.Last.TheVariants.{Body, Code, Count, Length, Names, Nothing, Scalars, Text, Title}
 use Rattle.op_frame.specs.declared.grown.Grown.TheVariants.{Frame as IsWhole, Front as IsFrontGrown}
-use Rattle.op_frame.proofs.CodeLemmas.{identifier_code, same_fronts, scalar_below, scalar_code}
-use Rattle.op_frame.proofs.FieldLemmas.{AreBytes, IdentifierFront, IdentifierWith, bytes_of_code, count_front}
-use Rattle.op_frame.proofs.FormatLemmas.{field_done, identifier, scalar}
-use Rattle.op_frame.proofs.ItemLemmas.{run_is}
+use Rattle.op_frame.proofs.CodeLemmas.{identifier_code, length_once, scalar_below, scalar_code}
+use Rattle.op_frame.proofs.FieldLemmas.{AreBytes, IdentifierFront, IdentifierWith, bytes_of_code, count_front, none_long}
+use Rattle.op_frame.proofs.FormatLemmas.{field_done, identifier, scalar, several_of, values_of}
+use Rattle.op_frame.proofs.ItemLemmas.{has_frame, of_each_version, run_is}
+use Rattle.op_frame.proofs.NoteLemmas.{blanks, blanks_end, empty_body, no_code, no_names}
 use Rattle.op_frame.proofs.ReadingLemmas.{first_id, first_is_one}
 use Rattle.op_frame.proofs.TitleLemmas.{letters, letters_end, title_end, title_in}
 
@@ -41,11 +40,6 @@ title_spelled len bytes e =
 
 letters_title : (n : ℕ) → 0 < n → n ≤ LONGEST_TITLE → IsLast Title (to_be_bytes w16 n ++ letters n)
 letters_title n some short = (chars (letters n), title_in n (letters n) some short (letters_end n), title_spelled n (letters n) (letters_end n))
-
--- nothing has no bytes
-pub none_long : (bytes : List ℕ) → length bytes ≡ 0 → bytes ≡ []
-none_long [] e = refl
-none_long (x ∷ bytes) e = absurd (omega (arith, e))
 
 -- there are bytes that are due: none behind a frame, and some where it is not whole
 pub record Sample (due : Due) : Type 0 where
@@ -75,6 +69,10 @@ last_sample (Scalars n) s = record { bytes = zero_scalars n; completes = zero_sc
 last_sample (Count most) s = record { bytes = 0 ∷ 2 ∷ zero_scalars 2; completes = counted most 2 (0 ∷ 2 ∷ zero_scalars 2) (omega arith) s.0 refl; ends = inr (refl, omega arith) }
 last_sample Title s = record { bytes = 0 ∷ 1 ∷ letters 1; completes = letters_title 1 (omega arith) (omega arith); ends = inr (refl, omega arith) }
 last_sample (Text len) s = record { bytes = letters len; completes = letters_end len; ends = inr (refl, omega (arith, s.0, (letters_end len).2)) }
+last_sample Names s = record { bytes = 0 ∷ 0 ∷ 0 ∷ 0 ∷ []; completes = no_names; ends = inr (refl, omega arith) }
+last_sample Code s = record { bytes = 0 ∷ 0 ∷ 0 ∷ []; completes = no_code; ends = inr (refl, omega arith) }
+last_sample Length s = record { bytes = 0 ∷ 0 ∷ []; completes = ([], empty_body, refl); ends = inr (refl, omega arith) }
+last_sample (Body len) s = record { bytes = blanks len; completes = blanks_end len; ends = inr (refl, omega (arith, s.0, (blanks_end len).1)) }
 
 fields_sample : (i o : ℕ) (last : Last) → IsSoundLast last → Sample (Fields i o last)
 fields_sample (suc i) o last s =
@@ -94,7 +92,7 @@ run_with id is early =
     (p.bytes, record { id = id; is_identifier = is; rest = p.bytes; fields = p.completes; split = refl })
 
 pub sample : (due : Due) → IsSoundDue due → Sample due
-sample (Kind g) s = record { bytes = frame (Delete first_id); completes = (Single (Delete first_id), first_is_one, refl); ends = inr (refl, omega arith) }
+sample (Kind g) s = record { bytes = frame (Delete first_id); completes = (Single (Delete first_id), of_each_version g (Delete first_id) first_is_one tt, refl); ends = inr (refl, omega arith) }
 sample Run s =
     let p = run_with first_id first_is_one (omega arith) in
     record { bytes = id_bytes first_id ++ p.0; completes = p.1; ends = inr (refl, omega arith) }
@@ -293,18 +291,13 @@ numbers_there b r n m some n_fits m_fits long first is second =
     )
 
 -- a title's length
-length_once : (v w : ℕ) → v ≤ LONGEST_TITLE → w ≤ LONGEST_TITLE → to_be_bytes w16 v ≡ to_be_bytes w16 w → v ≡ w
-length_once v w p q e =
-    sym (from_be_bytes-to_be_bytes_2 v (omega (arith, p))) ∙ ap (from_be_bytes w16) e ∙ from_be_bytes-to_be_bytes_2 w (omega (arith, q))
-
 pub length_done : (bytes : List ℕ) (len : ℕ) → length bytes ≡ 2 → to_be_bytes w16 len ≡ get_or bytes 0 0 ∷ get_or bytes 1 0 ∷ [] → 0 < len → len ≤ LONGEST_TITLE
     → LeavesDue bytes (Fields 0 0 Title) (Fields 0 0 (Text len))
 length_done (h ∷ l ∷ []) len long is some short = record {
   rest = λ more. (
     λ t.
-        let both = same_fronts (h ∷ l ∷ []) (to_be_bytes w16 (length (encode_utf8_all t.0))) more (encode_utf8_all t.0) refl t.2 in
-        let own : length (encode_utf8_all t.0) ≡ len = length_once (length (encode_utf8_all t.0)) len t.1.text.short short (sym both.0 ∙ sym is) in
-        subst (IsTitleEnd len) (sym both.1) (subst (λ n. IsTitleEnd n (encode_utf8_all t.0)) own (title_end t.0 t.1)),
+        let both = length_once len (length (encode_utf8_all t.0)) more (encode_utf8_all t.0) (omega (arith, short)) (omega (arith, t.1.text.short)) (ap (λ (b : List ℕ). b ++ more) is ∙ t.2) in
+        subst (IsTitleEnd len) (sym both.1) (subst (λ n. IsTitleEnd n (encode_utf8_all t.0)) (sym both.0) (title_end t.0 t.1)),
     λ e. (chars more, title_in len more some short e, ap (λ b. b ++ more) (sym is) ∙ title_spelled len more e),
   );
   sound = (some, short);
@@ -368,7 +361,7 @@ section_due g = record {
     λ t. fields t.0 more t.1 t.2,
     λ t. (
       Single (Section t.2.0 t.3.2.0 t.3.3.2.0 t.3.3.3.0),
-      (t.2.1, t.3.2.1, t.3.3.2.1, t.3.3.3.1),
+      of_each_version g (Section t.2.0 t.3.2.0 t.3.3.2.0 t.3.3.3.0) (t.2.1, t.3.2.1, t.3.3.2.1, t.3.3.3.1) tt,
       ap (λ b. 1 ∷ b)
           (t.4 ∙ (λ i. t.2.2 i ++ (t.3.4 ∙ (λ j. t.3.2.2 j ++ (t.3.3.4 ∙ (λ k. t.3.3.2.2 k ++ t.3.3.3.2 k)) j)) i)
           ∙ four (id_bytes t.2.0) (origin_bytes t.3.2.0) (origin_bytes t.3.3.2.0) (title_bytes t.3.3.3.0)),
@@ -378,7 +371,7 @@ section_due g = record {
 }
   where
     fields : (item : Item) (more : List ℕ) → IsItem g item → 1 ∷ more ≡ item_bytes item → Completes (Fields 1 2 Title) more
-    fields (Single (Section id l r t)) more has e = (
+    fields (Single (Section id l r t)) more is e = let has = has_frame g (Section id l r t) is in (
       id_bytes id,
       origin_bytes l ++ (origin_bytes r ++ title_bytes t),
       (id, has.0, refl),
@@ -387,6 +380,7 @@ section_due g = record {
     )
     fields (Single (TextOp id s l r ch)) more has e = absurd (cc e)
     fields (Single (Delete id)) more has e = absurd (cc e)
+    fields (Single (Note id n c b)) more has e = absurd (cc e)
     fields (Typed run) more has e = absurd (cc e)
 
 -- one scalar and nothing behind it
@@ -399,7 +393,7 @@ character_due g = record {
     λ t. fields t.0 more t.1 t.2,
     λ t. (
       Single (TextOp t.2.0 t.3.2.0 t.3.3.2.0 t.3.3.3.2.0 t.3.3.3.3.2.0),
-      (t.2.1, t.3.2.1, t.3.3.2.1, t.3.3.3.2.1, t.3.3.3.3.2.1),
+      of_each_version g (TextOp t.2.0 t.3.2.0 t.3.3.2.0 t.3.3.3.2.0 t.3.3.3.3.2.0) (t.2.1, t.3.2.1, t.3.3.2.1, t.3.3.3.2.1, t.3.3.3.3.2.1) tt,
       ap (λ b. 2 ∷ b)
           (t.4 ∙ (λ i. t.2.2 i ++ (t.3.4 ∙ (λ j. t.3.2.2 j ++ (t.3.3.4 ∙ (λ k. t.3.3.2.2 k ++ (t.3.3.3.4 ∙ (λ m. t.3.3.3.2.2 m ++ one_scalar t.3.3.3.3 m)) k)) j)) i)
           ∙ five (id_bytes t.2.0) (id_bytes t.3.2.0) (origin_bytes t.3.3.2.0) (origin_bytes t.3.3.3.2.0) (scalar_bytes t.3.3.3.3.2.0)),
@@ -410,7 +404,7 @@ character_due g = record {
   where
     fields : (item : Item) (more : List ℕ) → IsItem g item → 2 ∷ more ≡ item_bytes item → Completes (Fields 2 2 (Scalars 1)) more
     fields (Single (Section id l r t)) more has e = absurd (cc e)
-    fields (Single (TextOp id s l r ch)) more has e = (
+    fields (Single (TextOp id s l r ch)) more is e = let has = has_frame g (TextOp id s l r ch) is in (
       id_bytes id,
       id_bytes s ++ (origin_bytes l ++ (origin_bytes r ++ scalar_bytes ch)),
       (id, has.0, refl),
@@ -424,13 +418,14 @@ character_due g = record {
       cc e ∙ sym (five (id_bytes id) (id_bytes s) (origin_bytes l) (origin_bytes r) (scalar_bytes ch)),
     )
     fields (Single (Delete id)) more has e = absurd (cc e)
+    fields (Single (Note id n c b)) more has e = absurd (cc e)
     fields (Typed run) more has e = absurd (cc e)
 
 pub target_due : (g : Grammar) → LeavesDue (3 ∷ []) (Kind g) (Fields 1 0 Nothing)
 target_due g = record {
   rest = λ more. (
     λ t. fields t.0 more t.1 t.2,
-    λ t. (Single (Delete t.2.0), t.2.1, ap (λ b. 3 ∷ b) (t.4 ∙ (λ i. t.2.2 i ++ t.3 i) ∙ append-nil (id_bytes t.2.0))),
+    λ t. (Single (Delete t.2.0), of_each_version g (Delete t.2.0) t.2.1 tt, ap (λ b. 3 ∷ b) (t.4 ∙ (λ i. t.2.2 i ++ t.3 i) ∙ append-nil (id_bytes t.2.0))),
   );
   sound = tt;
 }
@@ -438,26 +433,42 @@ target_due g = record {
     fields : (item : Item) (more : List ℕ) → IsItem g item → 3 ∷ more ≡ item_bytes item → Completes (Fields 1 0 Nothing) more
     fields (Single (Section id l r t)) more has e = absurd (cc e)
     fields (Single (TextOp id s l r ch)) more has e = absurd (cc e)
-    fields (Single (Delete id)) more has e = (id_bytes id, [], (id, has, refl), refl, cc e ∙ sym (append-nil (id_bytes id)))
+    fields (Single (Delete id)) more is e = (id_bytes id, [], (id, has_frame g (Delete id) is, refl), refl, cc e ∙ sym (append-nil (id_bytes id)))
+    fields (Single (Note id n c b)) more has e = absurd (cc e)
+    fields (Typed run) more has e = absurd (cc e)
+
+-- a note, of which version 1 has no frame
+pub note_due : LeavesDue (5 ∷ []) (Kind Version2) (Fields 1 0 Names)
+note_due = record {
+  rest = λ more. (
+    λ t. fields t.0 more t.1 t.2,
+    λ t. (
+      Single (Note t.2.0 t.3.2.0 t.3.3.2.0 t.3.3.3.0),
+      (t.2.1, t.3.2.1, t.3.3.2.1, t.3.3.3.1),
+      ap (λ b. 5 ∷ b)
+          (t.4 ∙ (λ i. t.2.2 i ++ (t.3.4 ∙ (λ j. t.3.2.2 j ++ (t.3.3.4 ∙ (λ k. t.3.3.2.2 k ++ t.3.3.3.2 k)) j)) i)
+          ∙ four (id_bytes t.2.0) (names_bytes t.3.2.0) (t.3.3.2.0 ∷ []) (body_bytes t.3.3.3.0)),
+    ),
+  );
+  sound = tt;
+}
+  where
+    fields : (item : Item) (more : List ℕ) → IsItem Version2 item → 5 ∷ more ≡ item_bytes item → Completes (Fields 1 0 Names) more
+    fields (Single (Section id l r t)) more has e = absurd (cc e)
+    fields (Single (TextOp id s l r ch)) more has e = absurd (cc e)
+    fields (Single (Delete id)) more has e = absurd (cc e)
+    fields (Single (Note id n c b)) more has e = (
+      id_bytes id,
+      names_bytes n ++ (c ∷ [] ++ body_bytes b),
+      (id, has.0, refl),
+      (names_bytes n, c ∷ [] ++ body_bytes b, (n, has.1, refl), (c ∷ [], body_bytes b, (c, has.2, refl), (b, has.3, refl), refl), refl),
+      cc e ∙ sym (four (id_bytes id) (names_bytes n) (c ∷ []) (body_bytes b)),
+    )
     fields (Typed run) more has e = absurd (cc e)
 
 -- scalars one behind the other
-several_of : (text : List ℕ) → All IsScalar text → Several (length text) IsScalarBytes IsNothing (flat_map scalar_bytes text)
-several_of [] all = refl
-several_of (c ∷ text) all =
-    (scalar_bytes c, flat_map scalar_bytes text, (c, All-head IsScalar c text all, refl), several_of text (All-tail IsScalar c text all), refl)
-
-record TextOf (n : ℕ) (bytes : List ℕ) : Type 0 where
-  text : List ℕ
-  long : length text ≡ n
-  scalars : All IsScalar text
-  is : bytes ≡ flat_map scalar_bytes text
-
-text_of : (n : ℕ) (bytes : List ℕ) → Several n IsScalarBytes IsNothing bytes → TextOf n bytes
-text_of zero bytes none = record { text = []; long = refl; scalars = All-nil IsScalar; is = none }
-text_of (suc n) bytes t =
-    let p = text_of n t.1 t.3 in
-    record { text = t.2.0 ∷ p.text; long = ap suc p.long; scalars = All-cons IsScalar t.2.0 p.text t.2.1 p.scalars; is = t.4 ∙ (λ i. t.2.2 i ++ p.is i) }
+scalars_there : (text : List ℕ) → All IsScalar text → Several (length text) IsScalarBytes IsNothing (flat_map scalar_bytes text)
+scalars_there text all = subst (Several (length text) IsScalarBytes IsNothing) (append-nil (flat_map scalar_bytes text)) (several_of scalar IsNothing text [] all refl)
 
 -- a run behind its first byte
 run_behind : (run : RunOf) → HasRunFrame run → IsRunBehind (drop 1 (run_frame run))
@@ -482,7 +493,7 @@ run_behind run has = record {
           some = has.text.some;
           few = omega (arith, has.text.short, has.counters_fit);
           scalars = flat_map scalar_bytes run.text;
-          are_scalars = several_of run.text has.text.scalars;
+          are_scalars = scalars_there run.text has.text.scalars;
           split = refl;
         },
         refl,
@@ -503,9 +514,10 @@ pub run_there : (bytes : List ℕ) → IsRunBehind bytes → RunThere bytes
 run_there bytes r =
     let f = r.fields in
     let c : IsCounted (most_from r.id.counter) f.3.3.1 = f.3.3.3 in
-    let p = text_of c.count c.scalars c.are_scalars in
-    let text : f.3.3.1 ≡ text_bytes p.text = c.split ∙ (λ i. to_be_bytes w16 (sym p.long i) ++ p.is i) in
-    let run : RunOf = record { id = r.id; section = f.2.0; left = f.3.2.0; right = f.3.3.2.0; text = p.text } in
+    let p = values_of scalar IsNothing c.count c.scalars c.are_scalars in
+    let all : c.scalars ≡ flat_map scalar_bytes p.values = p.is ∙ ap (λ (l : List ℕ). flat_map scalar_bytes p.values ++ l) p.behind ∙ append-nil (flat_map scalar_bytes p.values) in
+    let text : f.3.3.1 ≡ text_bytes p.values = c.split ∙ (λ i. to_be_bytes w16 (sym p.long i) ++ all i) in
+    let run : RunOf = record { id = r.id; section = f.2.0; left = f.3.2.0; right = f.3.3.2.0; text = p.values } in
     record {
       run = run;
       has_frame = record {
@@ -513,7 +525,7 @@ run_there bytes r =
         section = f.2.1;
         left = f.3.2.1;
         right = f.3.3.2.1;
-        text = record { some = omega (arith, p.long, c.some); short = omega (arith, p.long, c.few); scalars = p.scalars };
+        text = record { some = omega (arith, p.long, c.some); short = omega (arith, p.long, c.few); scalars = p.valid };
         counters_fit = omega (arith, p.long, c.few, c.some);
       };
       is = r.split ∙ ap (λ (l : List ℕ). id_bytes r.id ++ l) (f.4 ∙ (λ i. f.2.2 i ++ (f.3.4 ∙ (λ j. f.3.2.2 j ++ (f.3.3.4 ∙ (λ k. f.3.3.2.2 k ++ text k)) j)) i)) ∙ sym (run_is run);
@@ -529,6 +541,7 @@ run_due = record {
     behind (Single (Section id l r t)) more has e = absurd (cc e)
     behind (Single (TextOp id s l r ch)) more has e = absurd (cc e)
     behind (Single (Delete id)) more has e = absurd (cc e)
+    behind (Single (Note id n c b)) more has e = absurd (cc e)
     behind (Typed run) more has e = subst IsRunBehind (sym (cc e)) (run_behind run has)
 
 -- nothing is due, and bytes came
@@ -538,6 +551,10 @@ nothing_due (Scalars n) bytes is some more e = cc is
 nothing_due (Count most) bytes is some more e = cc is
 nothing_due Title bytes is some more e = cc is
 nothing_due (Text len) bytes is some more e = cc is
+nothing_due Names bytes is some more e = cc is
+nothing_due Code bytes is some more e = cc is
+nothing_due Length bytes is some more e = cc is
+nothing_due (Body len) bytes is some more e = cc is
 
 -- a text of some bytes
 pub some_text : (len : ℕ) → (len ≡ 0 → ⊥) → Fields 0 0 (Text len) ≡ text_due len

@@ -1,11 +1,16 @@
 -- Fields that some bytes are, begin, or are not.
 use Rattle.std.proofs.Common.{◌≡◌, ℕ, suc, zero, ◌+◌, ◌*◌, ◌<◌, ◌≤◌, List, [], ◌∷◌, ◌++◌, length, drop, refl, ap, sym, ◌∙◌, arith, append_assoc, get_or, length-append, length-drop}
-use Rattle.std.specs.Prelude.{Option, Some, None, SomeIff, is_some, true, ◌^◌}
+use Rattle.std.specs.Prelude.{Option, Some, None, SomeIff, flat_map, is_some, true, ◌^◌}
 use Rattle.std.specs.Int.{to_be_bytes, w16, w32, byte_at}
 use Rattle.std.proofs.lemmas.List.{get_or-drop}
 use Rattle.fugue_ids.specs.Identifiers.{Identifier}
 use Rattle.origin_model.specs.frames.Frames.{IsIdentifier, id_bytes, scalar_bytes}
 use Rattle.op_frame.specs.FrameFronts.{scalar_of_bytes}
+
+-- nothing has no bytes
+pub none_long : (bytes : List ℕ) → length bytes ≡ 0 → bytes ≡ []
+none_long [] e = refl
+none_long (x ∷ bytes) e = absurd (omega (arith, e))
 
 abbrev pub AreBytes : List ℕ → Type 0
 AreBytes b = (i : ℕ) → get_or b i 0 < 256
@@ -121,7 +126,7 @@ some_holds None P v is some = absurd (cc some)
 some_holds (Some x) P v is some = is.0
 
 -- the two bytes of a count
-bytes_of_count : (high low : ℕ) → high < 256 → low < 256 → to_be_bytes w16 (high * 256 + low) ≡ high ∷ low ∷ []
+pub bytes_of_count : (high low : ℕ) → high < 256 → low < 256 → to_be_bytes w16 (high * 256 + low) ≡ high ∷ low ∷ []
 bytes_of_count high low p q =
     let e1 : byte_at 1 (high * 256 + low) ≡ high = omega arith in
     let e0 : byte_at 0 (high * 256 + low) ≡ low = omega arith in
@@ -138,3 +143,8 @@ pub count_front : (most high : ℕ) → 2 ≤ most → high < 256 → high * 256
 count_front most zero some small few = record { low = 2; some = omega arith; few = some; is = bytes_of_count 0 2 (omega arith) (omega arith) }
 count_front most (suc high) some small few =
     record { low = 0; some = omega arith; few = omega (arith, few); is = bytes_of_count (suc high) 0 small (omega arith) }
+
+-- an identifier has eight bytes
+pub length-identifiers : (ids : List Identifier) → length (flat_map id_bytes ids) ≡ 8 * length ids
+length-identifiers [] = refl
+length-identifiers (i ∷ ids) = omega (arith, length-identifiers ids, length-append (id_bytes i) (flat_map id_bytes ids))

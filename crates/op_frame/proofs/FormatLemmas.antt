@@ -1,14 +1,14 @@
 -- Formats of fields: which values a field may have, and how each is spelled.
-use Rattle.std.proofs.Common.{◌≡◌, ℕ, ◌<◌, ◌≤◌, List, [], ◌∷◌, ◌++◌, length, refl, ap, sym, subst, ◌∙◌, ◌⊎◌, inl, inr, append_assoc, arith}
-use Rattle.std.specs.Prelude.{◌↔◌, ◌^◌, Option}
+use Rattle.std.proofs.Common.{◌≡◌, ℕ, zero, suc, ◌<◌, List, [], ◌∷◌, ◌++◌, length, refl, ap, sym, subst, ◌∙◌, ◌⊎◌, inl, inr, append_assoc, arith}
+use Rattle.std.specs.Prelude.{◌↔◌, ◌^◌, All, Option, flat_map}
+use Rattle.std.proofs.lemmas.List.Elements.{All-cons, All-head, All-nil, All-tail}
 use Rattle.std.specs.Char.{IsScalar}
-use Rattle.std.specs.Int.{to_be_bytes, w16, w32}
+use Rattle.std.specs.Int.{to_be_bytes, w32}
 use Rattle.fugue_ids.specs.Identifiers.{Identifier}
-use Rattle.fugue_ids.specs.declared.limits.TheConstants.{LONGEST_TITLE}
 use Rattle.fugue_ids.specs.declared.op.Op.{Op}
 use Rattle.origin_model.specs.declared.grammar.Grammar.{Grammar}
-use Rattle.origin_model.specs.frames.Frames.{id_bytes, origin_bytes, title_bytes, scalar_bytes, text_bytes, frame, item_bytes, HasFrame, IsIdentifier, IsItem, IsOrigin, IsRunText, IsTitle, Item}
-use Rattle.op_frame.specs.FrameFronts.{Then}
+use Rattle.origin_model.specs.frames.Frames.{id_bytes, origin_bytes, title_bytes, scalar_bytes, text_bytes, names_bytes, body_bytes, frame, item_bytes, AreNames, HasFrame, IsBody, IsByte, IsIdentifier, IsItem, IsOrigin, IsRunText, IsTitle, Item}
+use Rattle.op_frame.specs.FrameFronts.{Several, Then}
 
 pub record Format (T : Type 0) : Type 1 where
   pub valid : T → Type 0
@@ -29,18 +29,20 @@ origin = record { valid = IsOrigin; spelling = origin_bytes }
 abbrev pub scalar : Format ℕ
 scalar = record { valid = IsScalar; spelling = scalar_bytes }
 
-abbrev pub title_length : Format ℕ
-title_length = record { valid = λ n. (0 < n) × (n ≤ LONGEST_TITLE); spelling = to_be_bytes w16 }
-
 abbrev pub title : Format (List ℕ)
 title = record { valid = IsTitle; spelling = title_bytes }
 
--- how many Texts a run has
-abbrev pub run_length : Format ℕ
-run_length = record { valid = λ n. (2 ≤ n) × (n ≤ 1024); spelling = to_be_bytes w16 }
-
 abbrev pub run_text : Format (List ℕ)
 run_text = record { valid = IsRunText; spelling = text_bytes }
+
+abbrev pub byte : Format ℕ
+byte = record { valid = IsByte; spelling = λ b. b ∷ [] }
+
+abbrev pub names : Format (List Identifier)
+names = record { valid = AreNames; spelling = names_bytes }
+
+abbrev pub body : Format (List ℕ)
+body = record { valid = IsBody; spelling = body_bytes }
 
 abbrev pub operation : Format Op
 operation = record { valid = HasFrame; spelling = frame }
@@ -99,3 +101,36 @@ module _ {T : Type 0} (F : Format T) (code : IsCode F) (Rest : List ℕ → Type
 
   pub field_done : (bytes : List ℕ) → Spelled F bytes → (more : List ℕ) → Then (Spelled F) Rest (bytes ++ more) ↔ Rest more
   field_done bytes is more = (λ t. behind_field (bytes ++ more) t is.0 more is.1 (ap (λ b. b ++ more) is.2), λ r. (bytes, more, is, r, refl))
+
+-- values of one format, one behind the other, and then what follows them
+module _ {T : Type 0} (F : Format T) (Rest : List ℕ → Type 0) where
+  pub several_of : (values : List T) (rest : List ℕ) → All F.valid values → Rest rest → Several (length values) (Spelled F) Rest (flat_map F.spelling values ++ rest)
+  several_of [] rest all r = r
+  several_of (v ∷ values) rest all r = (
+    F.spelling v,
+    flat_map F.spelling values ++ rest,
+    (v, All-head F.valid v values all, refl),
+    several_of values rest (All-tail F.valid v values all) r,
+    append_assoc (F.spelling v) (flat_map F.spelling values) rest,
+  )
+
+  pub record ValuesOf (n : ℕ) (bytes : List ℕ) : Type 0 where
+    pub values : List T
+    pub long : length values ≡ n
+    pub valid : All F.valid values
+    pub rest : List ℕ
+    pub behind : Rest rest
+    pub is : bytes ≡ flat_map F.spelling values ++ rest
+
+  pub values_of : (n : ℕ) (bytes : List ℕ) → Several n (Spelled F) Rest bytes → ValuesOf n bytes
+  values_of zero bytes r = record { values = []; long = refl; valid = All-nil F.valid; rest = bytes; behind = r; is = refl }
+  values_of (suc n) bytes t =
+      let p = values_of n t.1 t.3 in
+      record {
+        values = t.2.0 ∷ p.values;
+        long = ap suc p.long;
+        valid = All-cons F.valid t.2.0 p.values t.2.1 p.valid;
+        rest = p.rest;
+        behind = p.behind;
+        is = t.4 ∙ (λ i. t.2.2 i ++ p.is i) ∙ sym (append_assoc (F.spelling t.2.0) (flat_map F.spelling p.values) p.rest);
+      }

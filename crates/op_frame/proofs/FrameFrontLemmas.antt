@@ -6,21 +6,23 @@ use Rattle.std.specs.Str.{encode_utf8_all}
 use Rattle.std.proofs.Math.Seq.{take-add}
 use Rattle.std.proofs.lemmas.List.{append-nil, append_cancel_left, take-set-le, take_more_set}
 use Rattle.fugue_ids.specs.Identifiers.{Identifier}
-use Rattle.fugue_ids.specs.declared.op.Op.TheVariants.{Delete, Section, Text as TextOp}
+use Rattle.fugue_ids.specs.declared.op.Op.{Op}
+use Rattle.fugue_ids.specs.declared.op.Op.TheVariants.{Delete, Note, Section, Text as TextOp}
 use Rattle.origin_model.specs.declared.grammar.Grammar.{Grammar}
-use Rattle.origin_model.specs.frames.Frames.{Begins, Framed, IsBad, IsFrame, IsItem, IsPartial, Item, Single, Typed, id_bytes, item_bytes, item_ops, origin_bytes, scalar_bytes, text_bytes, title_bytes}
+use Rattle.origin_model.specs.frames.Frames.{Begins, Framed, HasFrame, IsBad, IsFrame, IsItem, IsPartial, Item, Single, Typed, body_bytes, frame, id_bytes, item_bytes, item_ops, names_bytes, origin_bytes, scalar_bytes, text_bytes, title_bytes}
 use Rattle.origin_model.proofs.SharedLemmas.{length-scalars, origin_short}
 use Rattle.op_frame.specs.FrameFronts.{Awaits, Completes, IsDueFront, IsFrameOf, IsGrown, IsSoundDue, LeavesDue, NeverCompletes, field_size, grown_by}
 use Rattle.op_frame.specs.declared.due.Due.{Due}
 use Rattle.op_frame.specs.declared.due.Due.TheVariants.{Fields, Kind, Run}
-use Rattle.op_frame.specs.declared.due.Last.TheVariants.{Count, Nothing, Scalars, Text, Title}
+use Rattle.op_frame.specs.declared.due.Last.TheVariants.{Body, Code, Count, Length, Names, Nothing, Scalars, Text, Title}
 use Rattle.op_frame.specs.declared.encoding.TheConstants.{LONGEST_FRAME}
 use Rattle.op_frame.specs.declared.grown.Grown.{Grown}
 use Rattle.op_frame.specs.declared.grown.Grown.TheVariants.{Bad as IsNeither, Front as IsFrontGrown}
-use Rattle.op_frame.proofs.DueLemmas.{none_long, sample}
+use Rattle.op_frame.proofs.DueLemmas.{sample}
+use Rattle.op_frame.proofs.FieldLemmas.{length-identifiers, none_long}
 use Rattle.op_frame.proofs.FormatLemmas.{two_fronts}
 use Rattle.op_frame.proofs.FrameLemmas.{bad_goes_on}
-use Rattle.op_frame.proofs.ItemLemmas.{has_run_frame}
+use Rattle.op_frame.proofs.ItemLemmas.{has_frame, has_run_frame}
 use Rattle.op_frame.proofs.ReadingLemmas.{begins_not_partial, item_some}
 
 -- what the bytes are behind a field, and in it
@@ -60,6 +62,10 @@ long_enough (Fields zero zero (Scalars (suc n))) bytes s e t = omega (arith, ap 
 long_enough (Fields zero zero (Count most)) bytes s e t = omega (arith, ap length t.split, length-append (to_be_bytes w16 t.count) t.scalars)
 long_enough (Fields zero zero Title) bytes s e t = omega (arith, ap length t.2, length-append (to_be_bytes w16 (length (encode_utf8_all t.0))) (encode_utf8_all t.0))
 long_enough (Fields zero zero (Text len)) bytes s e t = omega (arith, t.2)
+long_enough (Fields zero zero Names) bytes s e t = omega (arith, ap length t.2.2, ap length t.4, length-append t.0 t.1)
+long_enough (Fields zero zero Code) bytes s e t = omega (arith, ap length t.2.2, ap length t.4, length-append t.0 t.1)
+long_enough (Fields zero zero Length) bytes s e t = omega (arith, ap length t.2, length-append (to_be_bytes w16 (length t.0)) t.0)
+long_enough (Fields zero zero (Body len)) bytes s e t = omega (arith, t.1)
 
 -- no frame begins with bytes of which a field is none
 pub none_begins : (g : Grammar) (due : Due) (before field behind : List ℕ) → Awaits g due before 0 → grown_by due ≡ IsFrontGrown → length field ≤ field_size due → NeverCompletes due field → IsBad g ((before ++ field) ++ behind)
@@ -80,26 +86,40 @@ none_begins g due before field behind a e short never = bad_goes_on g (before ++
 
 -- no frame is longer than a run with both origins and 1,024 scalars
 pub item_short : (g : Grammar) (item : Item) → IsItem g item → length (item_bytes item) ≤ LONGEST_FRAME
-item_short g (Single (Section id l r t)) has =
-    omega (
-      arith,
-      origin_short l,
-      origin_short r,
-      has.3.text.short,
-      length-append (id_bytes id ++ origin_bytes l ++ origin_bytes r) (title_bytes t),
-      length-append (id_bytes id ++ origin_bytes l) (origin_bytes r),
-      length-append (id_bytes id) (origin_bytes l),
-    )
-item_short g (Single (TextOp id s l r ch)) has =
-    omega (
-      arith,
-      origin_short l,
-      origin_short r,
-      length-append (id_bytes id ++ id_bytes s ++ origin_bytes l ++ origin_bytes r) (scalar_bytes ch),
-      length-append (id_bytes id ++ id_bytes s ++ origin_bytes l) (origin_bytes r),
-      length-append (id_bytes id ++ id_bytes s) (origin_bytes l),
-    )
-item_short g (Single (Delete id)) has = omega arith
+item_short g (Single op) has = operation_short op (has_frame g op has)
+  where
+    operation_short : (op : Op) → HasFrame op → length (frame op) ≤ LONGEST_FRAME
+    operation_short (Section id l r t) has =
+        omega (
+          arith,
+          origin_short l,
+          origin_short r,
+          has.3.text.short,
+          length-append (id_bytes id ++ origin_bytes l ++ origin_bytes r) (title_bytes t),
+          length-append (id_bytes id ++ origin_bytes l) (origin_bytes r),
+          length-append (id_bytes id) (origin_bytes l),
+        )
+    operation_short (TextOp id s l r ch) has =
+        omega (
+          arith,
+          origin_short l,
+          origin_short r,
+          length-append (id_bytes id ++ id_bytes s ++ origin_bytes l ++ origin_bytes r) (scalar_bytes ch),
+          length-append (id_bytes id ++ id_bytes s ++ origin_bytes l) (origin_bytes r),
+          length-append (id_bytes id ++ id_bytes s) (origin_bytes l),
+        )
+    operation_short (Delete id) has = omega arith
+    operation_short (Note id n c b) has =
+        omega (
+          arith,
+          has.1.few,
+          has.3.short,
+          length-identifiers n,
+          length-append (id_bytes id ++ names_bytes n ++ c ∷ []) (body_bytes b),
+          length-append (id_bytes id ++ names_bytes n) (c ∷ []),
+          length-append (id_bytes id) (names_bytes n),
+          length-append (to_be_bytes w16 (length b)) b,
+        )
 item_short g (Typed run) is =
     omega (
       arith,
@@ -140,6 +160,10 @@ size_some (Fields zero zero (Scalars n)) s = omega arith
 size_some (Fields zero zero (Count most)) s = omega arith
 size_some (Fields zero zero Title) s = omega arith
 size_some (Fields zero zero (Text len)) s = s.0
+size_some (Fields zero zero Names) s = omega arith
+size_some (Fields zero zero Code) s = omega arith
+size_some (Fields zero zero Length) s = omega arith
+size_some (Fields zero zero (Body len)) s = s.0
 
 -- behind a whole field the next is due
 pub awaits_next : (g : Grammar) (due next : Due) (before bytes all : List ℕ) (came none : ℕ) → Awaits g due before came → LeavesDue bytes due next → before ++ bytes ≡ all → none ≡ 0 → Awaits g next all none

@@ -8,12 +8,12 @@ use Rattle.std.proofs.lemmas.Str.{length-le-encodes}
 use Rattle.fugue_ids.specs.Identifiers.{Identifier}
 use Rattle.fugue_ids.specs.Titles.{IsTitleText, has_line_end}
 use Rattle.fugue_ids.specs.declared.op.Op.{Op}
-use Rattle.fugue_ids.specs.declared.op.Op.TheVariants.{Section, Text, Delete}
+use Rattle.fugue_ids.specs.declared.op.Op.TheVariants.{Section, Text, Delete, Note}
 use Rattle.origin_model.specs.declared.grammar.Grammar.{Grammar}
 use Rattle.origin_model.specs.declared.grammar.Grammar.TheVariants.{Version1, Version2}
-use Rattle.origin_model.specs.frames.Frames.{Begins, Framed, HasFrame, HasRunFrame, IsBad, IsIdentifier, IsItem, IsOrigin, IsPartial, IsRunText, IsTitle, Item, Single, Typed, item_bytes}
+use Rattle.origin_model.specs.frames.Frames.{AreNames, Begins, Framed, HasFrame, HasRunFrame, IsBad, IsBody, IsByte, IsIdentifier, IsItem, IsOfVersion1, IsOrigin, IsPartial, IsRunText, IsTitle, Item, Single, Typed, item_bytes}
 use Rattle.op_frame.proofs.CodeLemmas.{scalar_below}
-use Rattle.op_frame.proofs.OperationLemmas.{section_fields, text_fields, section_of, text_of}
+use Rattle.op_frame.proofs.OperationLemmas.{section_fields, text_fields, note_fields, section_of, text_of, note_of}
 use Rattle.op_frame.proofs.ItemLemmas.{fields_of, fields_valid, item_framed, item_is_framed, run_fields, run_of}
 use Rattle.op_frame.proofs.SearchLemmas.{Decided, decided_by, both_decided, is_true_decided, is_false_decided, equal_decided, less_decided, Found, IsSearched, below, narrowed, mapped, paired, listed}
 
@@ -55,24 +55,52 @@ sections = paired _ identifiers _ (paired _ origins _ (paired _ origins _ titles
 texts : IsSearched text_fields.valid
 texts = paired _ identifiers _ (paired _ identifiers _ (paired _ origins _ (paired _ origins _ scalars)))
 
+names : IsSearched AreNames
+names =
+    mapped _ (listed _ identifiers 3) (λ n. n) (λ n. n) AreNames (λ n is. record { few = is.0; identifiers = All-from_recursion IsIdentifier n is.1 })
+    (λ n is. ((is.few, recursion_from_All IsIdentifier n is.identifiers), refl))
+
+bytes : IsSearched IsByte
+bytes = below 256
+
+bodies : IsSearched IsBody
+bodies =
+    mapped _ (listed _ bytes 1024) (λ b. b) (λ b. b) IsBody (λ b is. record { short = is.0; bytes = All-from_recursion IsByte b is.1 })
+    (λ b is. ((is.short, recursion_from_All IsByte b is.bytes), refl))
+
+notes : IsSearched note_fields.valid
+notes = paired _ identifiers _ (paired _ names _ (paired _ bytes _ bodies))
+
 operations : IsSearched HasFrame
 operations property test =
     by_kind (sections (λ f. property (section_of f)) (λ f. test (section_of f))) (texts (λ f. property (text_of f)) (λ f. test (text_of f)))
-    (identifiers (λ i. property (Delete i)) (λ i. test (Delete i)))
+    (identifiers (λ i. property (Delete i)) (λ i. test (Delete i))) (notes (λ f. property (note_of f)) (λ f. test (note_of f)))
   where
     none_there : (Found section_fields.valid (λ f. property (section_of f)) → ⊥) → (Found text_fields.valid (λ f. property (text_of f)) → ⊥) → (Found IsIdentifier (λ i. property (Delete i)) → ⊥)
-        → (op : Op) → HasFrame op → property op → ⊥
-    none_there a b c (Section i l r t) has p = a (record { value = (i, (l, (r, t))); member = (has.0, (has.1, (has.2, has.3))); holds = p })
-    none_there a b c (Text i s l r ch) has p = b (record { value = (i, (s, (l, (r, ch)))); member = (has.0, (has.1, (has.2, (has.3, has.4)))); holds = p })
-    none_there a b c (Delete i) has p = c (record { value = i; member = has; holds = p })
+        → (Found note_fields.valid (λ f. property (note_of f)) → ⊥) → (op : Op) → HasFrame op → property op → ⊥
+    none_there a b c d (Section i l r t) has p = a (record { value = (i, (l, (r, t))); member = (has.0, (has.1, (has.2, has.3))); holds = p })
+    none_there a b c d (Text i s l r ch) has p = b (record { value = (i, (s, (l, (r, ch)))); member = (has.0, (has.1, (has.2, (has.3, has.4)))); holds = p })
+    none_there a b c d (Delete i) has p = c (record { value = i; member = has; holds = p })
+    none_there a b c d (Note i n k b') has p = d (record { value = (i, (n, (k, b'))); member = (has.0, (has.1, (has.2, has.3))); holds = p })
 
     by_kind : Decided (Found section_fields.valid (λ f. property (section_of f))) → Decided (Found text_fields.valid (λ f. property (text_of f)))
-        → Decided (Found IsIdentifier (λ i. property (Delete i))) → Decided (Found HasFrame property)
-    by_kind (inl f) b c = inl (record { value = section_of f.value; member = (f.member.0, f.member.1.0, f.member.1.1.0, f.member.1.1.1); holds = f.holds })
-    by_kind (inr no_section) (inl f) c =
+        → Decided (Found IsIdentifier (λ i. property (Delete i))) → Decided (Found note_fields.valid (λ f. property (note_of f))) → Decided (Found HasFrame property)
+    by_kind (inl f) b c d = inl (record { value = section_of f.value; member = (f.member.0, f.member.1.0, f.member.1.1.0, f.member.1.1.1); holds = f.holds })
+    by_kind (inr no_section) (inl f) c d =
         inl (record { value = text_of f.value; member = (f.member.0, f.member.1.0, f.member.1.1.0, f.member.1.1.1.0, f.member.1.1.1.1); holds = f.holds })
-    by_kind (inr no_section) (inr no_text) (inl f) = inl (record { value = Delete f.value; member = f.member; holds = f.holds })
-    by_kind (inr no_section) (inr no_text) (inr no_delete) = inr (λ f. none_there no_section no_text no_delete f.value f.member f.holds)
+    by_kind (inr no_section) (inr no_text) (inl f) d = inl (record { value = Delete f.value; member = f.member; holds = f.holds })
+    by_kind (inr no_section) (inr no_text) (inr no_delete) (inl f) =
+        inl (record { value = note_of f.value; member = (f.member.0, f.member.1.0, f.member.1.1.0, f.member.1.1.1); holds = f.holds })
+    by_kind (inr no_section) (inr no_text) (inr no_delete) (inr no_note) = inr (λ f. none_there no_section no_text no_delete no_note f.value f.member f.holds)
+
+version_1_decided : (op : Op) → Decided (IsOfVersion1 op)
+version_1_decided (Section i l r t) = inl tt
+version_1_decided (Text i s l r ch) = inl tt
+version_1_decided (Delete i) = inl tt
+version_1_decided (Note i n c b) = inr (λ none. none)
+
+old_operations : IsSearched (λ op. HasFrame op × IsOfVersion1 op)
+old_operations = narrowed _ operations IsOfVersion1 version_1_decided
 
 run_texts : IsSearched IsRunText
 run_texts =
@@ -90,13 +118,13 @@ runs =
     fields = paired _ identifiers _ (paired _ identifiers _ (paired _ origins _ (paired _ origins _ run_texts)))
 
 items : (g : Grammar) → IsSearched (IsItem g)
-items Version1 property test = by_single (operations (λ op. property (Single op)) (λ op. test (Single op)))
+items Version1 property test = by_single (old_operations (λ op. property (Single op)) (λ op. test (Single op)))
   where
-    none_there : (Found HasFrame (λ op. property (Single op)) → ⊥) → (i : Item) → IsItem Version1 i → property i → ⊥
+    none_there : (Found (λ op. HasFrame op × IsOfVersion1 op) (λ op. property (Single op)) → ⊥) → (i : Item) → IsItem Version1 i → property i → ⊥
     none_there none (Single op) is p = none (record { value = op; member = is; holds = p })
     none_there none (Typed run) is p = absurd is
 
-    by_single : Decided (Found HasFrame (λ op. property (Single op))) → Decided (Found (IsItem Version1) property)
+    by_single : Decided (Found (λ op. HasFrame op × IsOfVersion1 op) (λ op. property (Single op))) → Decided (Found (IsItem Version1) property)
     by_single (inl f) = inl (record { value = Single f.value; member = f.member; holds = f.holds })
     by_single (inr none) = inr (λ f. none_there none f.value f.member f.holds)
 items Version2 property test = by_single (operations (λ op. property (Single op)) (λ op. test (Single op))) (runs (λ run. property (Typed run)) (λ run. test (Typed run)))

@@ -3,10 +3,10 @@ use Rattle.std.proofs.Common.{◌≡◌, ℕ, List, ◌++◌, drop, ap, sym, ◌
 use Rattle.std.specs.Prelude.{Option}
 use Rattle.fugue_ids.specs.Identifiers.{Identifier}
 use Rattle.fugue_ids.specs.declared.op.Op.{Op}
-use Rattle.fugue_ids.specs.declared.op.Op.TheVariants.{Section, Text, Delete}
+use Rattle.fugue_ids.specs.declared.op.Op.TheVariants.{Section, Text, Delete, Note}
 use Rattle.origin_model.specs.declared.grammar.Grammar.{Grammar}
 use Rattle.origin_model.specs.declared.grammar.Grammar.TheVariants.{Version1, Version2}
-use Rattle.origin_model.specs.frames.Frames.{HasRunFrame, IsItem, Item, Run, Single, Typed, frame, id_bytes, item_bytes, origin_bytes, run_frame, text_bytes}
+use Rattle.origin_model.specs.frames.Frames.{HasFrame, HasRunFrame, IsItem, IsOfVersion1, Item, Run, Single, Typed, frame, id_bytes, item_bytes, origin_bytes, run_frame, text_bytes}
 pub use Rattle.origin_model.proofs.SharedLemmas.{item_framed, item_is_framed}
 use Rattle.op_frame.proofs.FormatLemmas.{Format, IsCode, code_join, identifier, item, join, origin, run_text}
 use Rattle.op_frame.proofs.CodeLemmas.{identifier_code, origin_code, run_text_code}
@@ -47,13 +47,23 @@ not_both : (op : Op) (run : Run) (r s : List ℕ) → frame op ++ r ≡ run_fram
 not_both (Section i l r t) run x y same = cc same
 not_both (Text i k l r t) run x y same = cc same
 not_both (Delete i) run x y same = cc same
+not_both (Note i n c b) run x y same = cc same
+
+-- an operation of which the grammar has a frame, and its frame
+pub has_frame : (g : Grammar) (op : Op) → IsItem g (Single op) → HasFrame op
+has_frame Version1 op is = is.0
+has_frame Version2 op is = is
+
+pub of_each_version : (g : Grammar) (op : Op) → HasFrame op → IsOfVersion1 op → IsItem g (Single op)
+of_each_version Version1 op has known = (has, known)
+of_each_version Version2 op has known = has
 
 pub has_run_frame : (g : Grammar) (run : Run) → IsItem g (Typed run) → HasRunFrame run
 has_run_frame Version1 run is = absurd is
 has_run_frame Version2 run is = is
 
 item_once : (g : Grammar) (v w : Item) (r s : List ℕ) → IsItem g v → IsItem g w → item_bytes v ++ r ≡ item_bytes w ++ s → (v ≡ w) × (r ≡ s)
-item_once g (Single a) (Single b) r s p q same = let both = operation_code.once a b r s p q same in (ap Single both.0, both.1)
+item_once g (Single a) (Single b) r s p q same = let both = operation_code.once a b r s (has_frame g a p) (has_frame g b q) same in (ap Single both.0, both.1)
 item_once g (Single a) (Typed b) r s p q same = absurd (not_both a b r s same)
 item_once g (Typed a) (Single b) r s p q same = absurd (not_both b a s r (sym same))
 item_once g (Typed a) (Typed b) r s p q same = let both = run_once a b r s (has_run_frame g a p) (has_run_frame g b q) same in (ap Typed both.0, both.1)

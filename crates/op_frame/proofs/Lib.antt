@@ -18,6 +18,7 @@ pub mod StreamLemmas
 pub mod FirstLemmas
 pub mod AnswerLemmas
 pub mod CourseLemmas
+pub mod NoteLemmas
 pub mod DueLemmas
 pub mod FrameFrontLemmas
 pub mod DecodingLemmas

@@ -5,14 +5,14 @@ use Rattle.std.proofs.lemmas.List.{append-nil, flat_map_more}
 use Rattle.std.proofs.lemmas.List.Elements.{All-cons, All-head, All-nil, All-push, All-tail}
 use Rattle.fugue_ids.specs.Identifiers.{Identifier}
 use Rattle.fugue_ids.specs.declared.op.Op.{Op}
-use Rattle.fugue_ids.specs.declared.op.Op.TheVariants.{Delete, Section, Text}
+use Rattle.fugue_ids.specs.declared.op.Op.TheVariants.{Delete, Note, Section, Text}
 use Rattle.origin_model.specs.declared.grammar.Grammar.{Grammar}
 use Rattle.origin_model.specs.declared.grammar.Grammar.TheVariants.{Version2}
 use Rattle.origin_model.proofs.SharedLemmas.{FramesOnce}
 use Rattle.origin_model.specs.frames.Frames.{Begins, End, Whole, CutShort as EndsCut, BadFrame as EndsBad, EndsSo, Framed, IsFrame, IsIdentifier, IsPartial, Item, Reads, Single, Starts, Typed, frame, item_bytes, item_ops}
 pub use Rattle.origin_model.proofs.SharedLemmas.{bytes_of, ops_of}
 use Rattle.op_frame.proofs.FrontLemmas.{Front, bad_there, frame_there, front_of, front_there}
-use Rattle.op_frame.proofs.ItemLemmas.{item_code, item_framed, item_is_framed}
+use Rattle.op_frame.proofs.ItemLemmas.{item_code, item_framed, item_is_framed, of_each_version}
 
 -- replica 1 and counter 0
 abbrev pub first_id : Identifier
@@ -25,6 +25,7 @@ pub frame_some : (op : Op) → 0 < length (frame op)
 frame_some (Section i l r t) = omega arith
 frame_some (Text i s l r ch) = omega arith
 frame_some (Delete i) = omega arith
+frame_some (Note i n c b) = omega arith
 
 pub item_some : (i : Item) → 0 < length (item_bytes i)
 item_some (Single op) = frame_some op
@@ -40,7 +41,7 @@ module _ (g : Grammar) where
   pub no_bytes_are_partial : IsPartial g []
   no_bytes_are_partial = record {
     framed = item_framed (Single (Delete first_id));
-    is_frame = item_is_framed g (Single (Delete first_id)) first_is_one;
+    is_frame = item_is_framed g (Single (Delete first_id)) (of_each_version g (Delete first_id) first_is_one tt);
     more = frame (Delete first_id);
     lacks = omega arith;
     front = refl;

@@ -8,7 +8,7 @@ use Rattle.outer_ports.specs.Sources.{SourceView, KeepsCount}
 use Rattle.outer_ports.proofs.CountLemmas.{count_so, count_then}
 use Rattle.origin_model.specs.declared.grammar.Grammar.{Grammar}
 use Rattle.origin_model.specs.frames.Frames.{Framed, IsBad, IsPartial}
-use Rattle.op_frame.specs.FrameFronts.{IsFrameOf}
+use Rattle.op_frame.specs.FrameFronts.{AsksMemory, IsFrameOf}
 use Rattle.op_frame.specs.Heads.{behind_held, held_ops}
 use Rattle.op_frame.specs.Readers.{ReadingAnswerIs, AnswersBy, CarriesOffset, Moves}
 use Rattle.op_frame.specs.Refills.{Refills, Drops}
@@ -28,9 +28,13 @@ pub record Stands (old unread : List ℕ) (before now : SourceView) (room : ℕ)
   pub inside : length unread ≤ room
   pub count : KeepsCount before now ⊥
 
-pub first_stays : (b rest : List ℕ) (x : ℕ) → slice_get b 0 ≡ Some x → slice_get (b ++ rest) 0 ≡ Some x
+first_stays : (b rest : List ℕ) (x : ℕ) → slice_get b 0 ≡ Some x → slice_get (b ++ rest) 0 ≡ Some x
 first_stays [] rest x is = absurd (cc is)
 first_stays (y ∷ b) rest x is = is
+
+pub asks_too : (b rest : List ℕ) → AsksMemory b → AsksMemory (b ++ rest)
+asks_too b rest (inl title) = inl (first_stays b rest 1 title)
+asks_too b rest (inr body) = inr (first_stays b rest 5 body)
 
 module _ (g : Grammar) (old unread : List ℕ) (before now : SourceView) (offset room : ℕ) (s : Stands old unread before now room) where
   answer : (result : Result (Option Op) FrameFault) → ((rest : List ℕ) → now.left ≡ Some rest → ReadingAnswerIs g result offset room (unread ++ rest))
@@ -83,10 +87,10 @@ module _ (g : Grammar) (old unread : List ℕ) (before now : SourceView) (offset
     subst (IsBad g) (sym (take_past unread rest room (length unread) refl s.inside)) (bad_goes_on g unread (take (room - length unread) rest) bad),
   )) refl tt s.told (omega (arith, s.inside)) (λ is. cc is) (λ is. cc is)
 
-  -- a Section's title found no memory
-  wants : (new : List ℕ) → new ≡ unread → slice_get unread 0 ≡ Some 1 → Takes g old new before now offset room (Err NoMemory)
+  -- a title or a body found no memory
+  wants : (new : List ℕ) → new ≡ unread → AsksMemory unread → Takes g old new before now offset room (Err NoMemory)
   wants new same first =
-      ends_so new (Err NoMemory) (λ rest is. first_stays unread rest 1 first) tt tt (s.told ∙ ap (λ (l : List ℕ). prepend_known l now.left) (sym same)) (omega (arith, s.inside, ap length same))
+      ends_so new (Err NoMemory) (λ rest is. asks_too unread rest first) tt tt (s.told ∙ ap (λ (l : List ℕ). prepend_known l now.left) (sym same)) (omega (arith, s.inside, ap length same))
       (λ is. cc is) (λ is. cc is)
 
   -- the frame at the front was taken off, or found no memory

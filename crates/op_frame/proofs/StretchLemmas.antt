@@ -7,7 +7,7 @@ use Rattle.std.proofs.lemmas.List.{length-take-le, get_or_default}
 use Rattle.fugue_ids.specs.Identifiers.{Identifier, id_eq, origin_eq}
 use Rattle.fugue_ids.specs.Ops.{op_eq}
 use Rattle.fugue_ids.specs.declared.op.Op.{Op}
-use Rattle.fugue_ids.specs.declared.op.Op.TheVariants.{Section, Text, Delete}
+use Rattle.fugue_ids.specs.declared.op.Op.TheVariants.{Section, Text, Delete, Note}
 use Rattle.fugue_ids.proofs.OpLemmas.{op_eq-true}
 use Rattle.origin_model.specs.frames.Frames.{Item, Run, Single, Typed, item_ops, next_id, run_ops, in_a_row}
 use Rattle.origin_model.specs.frames.Framings.{grown, id_behind, items, items_from, longer, next_text, run_more, scalar_in}
@@ -43,6 +43,7 @@ and_true false = refl
 behind_is : (i s : Identifier) (l r : Option Identifier) (c : ℕ) (op : Op) → is_typed_behind (Text i s l r c) op ≡ op_eq op (Text (next_id i) s (Some i) r (scalar_in op))
 behind_is i s l r c (Section id left right title) = refl
 behind_is i s l r c (Delete target) = refl
+behind_is i s l r c (Note id named code body) = refl
 behind_is i s l r c (Text j z m q d) =
     sym (ap (λ (b : Bool). id_eq j (next_id i) && id_eq z s && origin_eq m (Some i) && origin_eq q r && b) (eq-eqb d d refl) ∙ grind (arith, and_true))
 
@@ -86,6 +87,8 @@ grows (Single (Section id left right title)) front last op has_length same room 
     absurd (not_first (Section id left right title) front last op same test (λ was. cc was))
 grows (Single (Delete target)) front last op has_length same room test =
     absurd (not_first (Delete target) front last op same test (λ was. cc was))
+grows (Single (Note id named code body)) front last op has_length same room test =
+    absurd (not_first (Note id named code body) front last op same test (λ was. cc was))
 grows (Single (Text id s l r c)) front last op has_length same room test =
     let run : Run = one_text id s l r c in
     let next : op_eq op (next_text run (scalar_in op)) ≡ true = sym (behind_next run front last op (omega arith) same) ∙ test in
@@ -99,6 +102,7 @@ grows (Typed run) front last op has_length same room test =
 stays : (item : Item) (front : List Op) (last op : Op) → HasRunLength item → item_ops item ≡ front ++ last ∷ [] → is_typed_behind last op ≡ false → grown item op ≡ None
 stays (Single (Section id left right title)) front last op has_length same test = refl
 stays (Single (Delete target)) front last op has_length same test = refl
+stays (Single (Note id named code body)) front last op has_length same test = refl
 stays (Single (Text id s l r c)) front last op has_length same test =
     let run : Run = one_text id s l r c in
     run_stays run op (and_right (nat_lt (length run.text) 1024) (op_eq op (next_text run (scalar_in op))) (sym (behind_next run front last op (omega arith) same) ∙ test))

@@ -1,20 +1,20 @@
 -- What a frame still lacks behind some of its bytes.
-use Rattle.std.specs.Prelude.{◌≡◌, ◌↔◌, ℕ, zero, suc, ◌+◌, ◌-◌, ◌*◌, ◌^◌, ◌<◌, ◌≤◌, min, nat_lt, if◌then◌else◌, List, [], ◌∷◌, ◌++◌, length, false, Option}
+use Rattle.std.specs.Prelude.{◌≡◌, ◌↔◌, ◌⊎◌, ℕ, zero, suc, ◌+◌, ◌-◌, ◌*◌, ◌^◌, ◌<◌, ◌≤◌, min, nat_lt, if◌then◌else◌, All, List, [], ◌∷◌, ◌++◌, length, slice_get, false, Option, Some}
 use Rattle.std.specs.Char.{IsScalar}
 use Rattle.std.specs.Int.{to_be_bytes, w16}
 use Rattle.std.specs.Str.{IsUtf8}
 use Rattle.fugue_ids.specs.Identifiers.{Identifier}
 use Rattle.fugue_ids.specs.Titles.{has_line_end}
-use Rattle.fugue_ids.specs.declared.limits.TheConstants.{LONGEST_TITLE}
+use Rattle.fugue_ids.specs.declared.limits.TheConstants.{LONGEST_BODY, LONGEST_TITLE}
 use Rattle.fugue_ids.specs.declared.op.Op.{Op}
 use Rattle.origin_model.specs.declared.grammar.Grammar.{Grammar}
-use Rattle.origin_model.specs.frames.Frames.{id_bytes, item_bytes, origin_bytes, scalar_bytes, title_bytes, IsFrame, IsIdentifier, IsItem, IsOrigin, IsPartial, IsTitle, Item}
+use Rattle.origin_model.specs.frames.Frames.{body_bytes, frame, id_bytes, item_bytes, names_bytes, origin_bytes, scalar_bytes, title_bytes, AreNames, HasFrame, IsBody, IsByte, IsFrame, IsIdentifier, IsItem, IsOrigin, IsPartial, IsTitle, Item}
 use Rattle.op_frame.specs.declared.due.Due.{Due}
 use Rattle.op_frame.specs.declared.due.Due.TheVariants.{Kind, Run, Fields}
 use Rattle.op_frame.specs.declared.due.Judged.{Judged}
 use Rattle.op_frame.specs.declared.due.Judged.TheVariants.{Done, Front, Bad}
 use Rattle.op_frame.specs.declared.due.Last.{Last}
-use Rattle.op_frame.specs.declared.due.Last.TheVariants.{Nothing, Scalars, Count, Title, Text}
+use Rattle.op_frame.specs.declared.due.Last.TheVariants.{Nothing, Scalars, Count, Title, Text, Names, Code, Length, Body}
 use Rattle.op_frame.specs.declared.encoding.TheConstants.{LONGEST_RUN}
 use Rattle.op_frame.specs.declared.grown.Grown.{Grown}
 use Rattle.op_frame.specs.declared.grown.Grown.TheVariants.{Frame as IsWhole, Front as IsFront, Bad as IsNeither}
@@ -22,6 +22,14 @@ use Rattle.op_frame.specs.declared.grown.Grown.TheVariants.{Frame as IsWhole, Fr
 -- the bytes are a frame
 abbrev pub IsFrameOf : Grammar → List ℕ → Type 0
 IsFrameOf grammar bytes = (ops : List Op) × IsFrame grammar (record { bytes = bytes; ops = ops })
+
+-- the bytes are one operation's own frame
+abbrev pub IsOwnFrame : List ℕ → Type 0
+IsOwnFrame bytes = (op : Op) × HasFrame op × (bytes ≡ frame op)
+
+-- the bytes begin as the frame of a Section or of a Note does: its title or its body takes memory
+abbrev pub AsksMemory : List ℕ → Type 0
+AsksMemory bytes = (slice_get bytes 0 ≡ Some 1) ⊎ (slice_get bytes 0 ≡ Some 5)
 
 -- what the bytes are: a frame, a proper front of one, or neither
 abbrev pub IsGrown : Grown → Grammar → List ℕ → Type 0
@@ -47,12 +55,25 @@ IsOriginBytes bytes = (origin : Option Identifier) × IsOrigin origin × (bytes 
 abbrev pub IsScalarBytes : List ℕ → Type 0
 IsScalarBytes bytes = (ch : ℕ) × IsScalar ch × (bytes ≡ scalar_bytes ch)
 
+abbrev pub AreNamesBytes : List ℕ → Type 0
+AreNamesBytes bytes = (named : List Identifier) × AreNames named × (bytes ≡ names_bytes named)
+
+abbrev pub IsCodeBytes : List ℕ → Type 0
+IsCodeBytes bytes = (code : ℕ) × IsByte code × (bytes ≡ code ∷ [])
+
+abbrev pub IsBodyBytes : List ℕ → Type 0
+IsBodyBytes bytes = (body : List ℕ) × IsBody body × (bytes ≡ body_bytes body)
+
 abbrev pub IsNothing : List ℕ → Type 0
 IsNothing bytes = bytes ≡ []
 
 -- the text of a title, from one of its characters on
 abbrev pub IsTitleEnd : ℕ → List ℕ → Type 0
 IsTitleEnd len bytes = IsUtf8 bytes × (has_line_end bytes ≡ false) × (length bytes ≡ len)
+
+-- a body, from one of its bytes on
+abbrev pub IsBodyEnd : ℕ → List ℕ → Type 0
+IsBodyEnd len bytes = All IsByte bytes × (length bytes ≡ len)
 
 -- so many fields of one kind, and then what follows them
 abbrev pub Several : ℕ → (List ℕ → Type 0) → (List ℕ → Type 0) → List ℕ → Type 0
@@ -75,6 +96,10 @@ IsLast (Scalars n) bytes = Several n IsScalarBytes IsNothing bytes
 IsLast (Count most) bytes = IsCounted most bytes
 IsLast Title bytes = (title : List ℕ) × IsTitle title × (bytes ≡ title_bytes title)
 IsLast (Text len) bytes = IsTitleEnd len bytes
+IsLast Names bytes = Then AreNamesBytes (Then IsCodeBytes IsBodyBytes) bytes
+IsLast Code bytes = Then IsCodeBytes IsBodyBytes bytes
+IsLast Length bytes = IsBodyBytes bytes
+IsLast (Body len) bytes = IsBodyEnd len bytes
 
 abbrev pub AreFields : (identifiers origins : ℕ) → Last → List ℕ → Type 0
 AreFields identifiers origins last bytes = Several identifiers IsIdentifierBytes (Several origins IsOriginBytes (IsLast last)) bytes
@@ -97,13 +122,17 @@ Completes (Kind grammar) bytes = (item : Item) × IsItem grammar item × (bytes 
 Completes Run bytes = IsRunBehind bytes
 Completes (Fields identifiers origins last) bytes = AreFields identifiers origins last bytes
 
--- there is something that the last field can be: a title's text is not empty and not too long, and there are some scalars and not too many
+-- there is something that the last field can be: a text or body that is due is not empty and not too long, and there are some scalars and not too many
 abbrev pub IsSoundLast : Last → Type 0
 IsSoundLast (Text len) = (0 < len) × (len ≤ LONGEST_TITLE)
 IsSoundLast (Scalars n) = 0 < n
 IsSoundLast (Count most) = (2 ≤ most) × (most ≤ LONGEST_RUN)
 IsSoundLast Title = Unit {0}
 IsSoundLast Nothing = Unit {0}
+IsSoundLast Names = Unit {0}
+IsSoundLast Code = Unit {0}
+IsSoundLast Length = Unit {0}
+IsSoundLast (Body len) = (0 < len) × (len ≤ LONGEST_BODY)
 
 abbrev pub IsSoundDue : Due → Type 0
 IsSoundDue (Kind grammar) = Unit {0}
@@ -117,6 +146,10 @@ last_size (Scalars n) = 3
 last_size (Count most) = 2
 last_size Title = 2
 last_size (Text len) = len
+last_size Names = 1
+last_size Code = 1
+last_size Length = 2
+last_size (Body len) = len
 
 abbrev pub field_size : Due → ℕ
 field_size (Kind grammar) = 1
@@ -158,6 +191,11 @@ width_of lead = if nat_lt lead 224 then 2 else (if nat_lt lead 240 then 3 else 4
 abbrev pub text_due : ℕ → Due
 text_due zero = Fields 0 0 Nothing
 text_due (suc len) = Fields 0 0 (Text (suc len))
+
+-- a body of so many bytes, or nothing
+abbrev pub body_due : ℕ → Due
+body_due zero = Fields 0 0 Nothing
+body_due (suc len) = Fields 0 0 (Body (suc len))
 
 -- so many scalars, or nothing
 abbrev pub scalars_due : ℕ → Due

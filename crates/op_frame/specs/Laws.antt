@@ -3,7 +3,7 @@ use Rattle.std.specs.Prelude.{◌≡◌, ◌≢◌, ◌≤◌, All, List, ℕ, �
 use Rattle.fugue_ids.specs.declared.op.Op.{Op}
 use Rattle.origin_model.specs.declared.grammar.Grammar.{Grammar}
 use Rattle.origin_model.specs.declared.grammar.Grammar.TheVariants.{Version1, Version2}
-use Rattle.origin_model.specs.frames.Frames.{End, BadFrame, HasFrame, IsItem, Item, Reads, Whole, frame, item_bytes, single_frames}
+use Rattle.origin_model.specs.frames.Frames.{End, BadFrame, HasFrame, IsItem, Item, Reads, Single, Whole, frame, item_bytes, single_frames}
 use Rattle.origin_model.specs.frames.Framings.{IsFraming, IsWritten, frames}
 use Rattle.origin_model.specs.taking.Taking.{Held}
 use Rattle.op_frame.specs.Courses.{IntakeCourse, Comes}
@@ -18,8 +18,8 @@ pub record OneFrame (grammar : Grammar) : Type 0 where
 pub record ReadsOnce (grammar : Grammar) : Type 0 where
   pub one : (bytes : List ℕ) (ops others : List Op) (end other : End) → Reads grammar bytes ops end → Reads grammar bytes others other → (ops ≡ others) × (end ≡ other)
   pub some : (bytes : List ℕ) → (ops : List Op) × (end : End) × Reads grammar bytes ops end
-  -- the operations' own frames are read as these operations, whole
-  pub singles : (ops : List Op) → All HasFrame ops → Reads grammar (single_frames ops) ops Whole
+  -- the own frames of operations that the grammar has are read as these operations, whole
+  pub singles : (ops : List Op) → All (λ op. IsItem grammar (Single op)) ops → Reads grammar (single_frames ops) ops Whole
 
 -- what is written of operations
 pub record FramesAre : Type 0 where

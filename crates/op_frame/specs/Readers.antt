@@ -1,5 +1,5 @@
 -- What a reader of frames holds, and what its answers mean.
-use Rattle.std.specs.Prelude.{◌≡◌, ◌≢◌, ◌↔◌, ℕ, ◌+◌, ◌-◌, ◌*◌, ◌<◌, ◌≤◌, All, List, [], ◌∷◌, ◌++◌, length, take, flat_map, slice_get, Option, Some, None, Result, Ok, Err, IfSome, IfOk, IsErrOf}
+use Rattle.std.specs.Prelude.{◌≡◌, ◌≢◌, ◌↔◌, ℕ, ◌+◌, ◌-◌, ◌*◌, ◌<◌, ◌≤◌, All, List, [], ◌∷◌, ◌++◌, length, take, flat_map, Option, Some, None, Result, Ok, Err, IfSome, IfOk, IsErrOf}
 use Rattle.std.specs.Io.KnownBytes.{prepend_known}
 use Rattle.fugue_ids.specs.declared.op.Op.{Op}
 use Rattle.outer_ports.specs.Sources.{SourceView}
@@ -8,6 +8,7 @@ use Rattle.origin_model.specs.frames.Frames.{Framed, IsFrame, IsPartial, IsBad, 
 use Rattle.op_frame.specs.declared.fault.FrameFault.{FrameFault}
 use Rattle.op_frame.specs.declared.fault.FrameFault.TheVariants.{BadFrame, CutShort, ReadFault, TooLong, NoMemory}
 use Rattle.op_frame.specs.Courses.{EndsWell}
+use Rattle.op_frame.specs.FrameFronts.{AsksMemory}
 
 pub record FrameReading : Type 0 where
   -- by which frames it reads
@@ -51,7 +52,7 @@ ReadingAnswerIs grammar (Err (BadFrame k)) offset room bytes = (k ≡ offset) ×
 ReadingAnswerIs grammar (Err (CutShort k)) offset room bytes = (k ≡ offset) × (bytes ≢ []) × (length bytes ≤ room) × IsPartial grammar bytes
 ReadingAnswerIs grammar (Err TooLong) offset room bytes = (room < length bytes) × IsPartial grammar (take room bytes)
 ReadingAnswerIs grammar (Err ReadFault) offset room bytes = Unit {0}
-ReadingAnswerIs grammar (Err NoMemory) offset room bytes = slice_get bytes 0 ≡ Some 1
+ReadingAnswerIs grammar (Err NoMemory) offset room bytes = AsksMemory bytes
 
 -- the bytes decide such an answer: it is no fault of the source, and no want of memory
 abbrev pub IsReadByBytes : Result (Option Op) FrameFault → Type 0
@@ -62,7 +63,7 @@ IsReadByBytes result = Unit {0}
 -- each answer comes exactly where the bytes to read say so, but for a fault of the source and want of memory
 pub record AnswersBy (grammar : Grammar) (result : Result (Option Op) FrameFault) (offset room : ℕ) (bytes : List ℕ) : Type 0 where
   pub exactly : IsReadByBytes result → (answer : Result (Option Op) FrameFault) → IsReadByBytes answer → (result ≡ answer) ↔ ReadingAnswerIs grammar answer offset room bytes
-  pub memory : IsErrOf result NoMemory → slice_get bytes 0 ≡ Some 1
+  pub memory : IsErrOf result NoMemory → AsksMemory bytes
 
 -- the offset that a fault carries
 abbrev pub CarriesOffset : Result (Option Op) FrameFault → ℕ → Type 0
@@ -175,7 +176,7 @@ pub record GivesInOrder (old new : FrameReading) (before after : SourceView) (re
   pub rises : IfOk result (λ given. IfSome given (λ op. Rises old new))
   pub exactly : IsByReading result → IfSome (to_give old before.left) (λ bytes. (todo : List Op) (end : End) → HasTodo old bytes todo end → result ≡ answer_at old.offset todo end)
   pub over : result ≡ Ok None → IfSome after.left (λ left. left ≡ [])
-  pub memory : IsErrOf result NoMemory → (old.todo ≡ []) × IfSome (to_give old before.left) (λ bytes. slice_get bytes 0 ≡ Some 1)
+  pub memory : IsErrOf result NoMemory → (old.todo ≡ []) × IfSome (to_give old before.left) AsksMemory
 
 -- Of the bytes that were told the reader gave these operations. With those held back they are those of the frames at
 -- the front, and it stands behind these frames.

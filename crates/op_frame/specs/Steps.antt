@@ -1,11 +1,12 @@
 -- What taking the first frame off a source and the bytes before it does.
-use Rattle.std.specs.Prelude.{◌≡◌, ℕ, ◌+◌, ◌≤◌, List, ◌∷◌, length, take, drop, Option, Some, None, Result, Ok, Err, IfSome, IfOk, IsErrOf, slice_get}
+use Rattle.std.specs.Prelude.{◌≡◌, ℕ, ◌+◌, ◌≤◌, List, ◌∷◌, length, take, drop, Option, Some, None, Result, Ok, Err, IfSome, IfOk, IsErrOf}
 use Rattle.std.specs.Io.KnownBytes.{prepend_known}
 use Rattle.fugue_ids.specs.declared.op.Op.{Op}
 use Rattle.outer_ports.specs.Sources.{SourceView, KeepsCount}
 use Rattle.origin_model.specs.declared.grammar.Grammar.{Grammar}
 use Rattle.origin_model.specs.declared.grammar.Grammar.TheVariants.{Version2}
 use Rattle.origin_model.specs.frames.Frames.{Framed, IsFrame}
+use Rattle.op_frame.specs.FrameFronts.{AsksMemory}
 use Rattle.op_frame.specs.Heads.{IsHeld, behind_held, held_ops}
 use Rattle.op_frame.specs.Readers.{AnswersBy, CarriesOffset, Moves}
 use Rattle.op_frame.specs.declared.fault.FrameFault.{FrameFault}
@@ -35,10 +36,10 @@ pub record TakesOff (taken : Taken) (old new : List ℕ) (n : ℕ) : Type 0 wher
   pub held : IfSome taken.held (IsHeld new)
   pub len : taken.len ≡ n
 
--- the same, or memory was wanting for the title of a Section
+-- the same, or memory was wanting for a title or a body
 abbrev pub TakesFrame : (old new : List ℕ) → ℕ → Result (Option Taken) FrameFault → Type 0
 TakesFrame old new n (Ok (Some taken)) = TakesOff taken old new n
-TakesFrame old new n (Err NoMemory) = (new ≡ old) × (slice_get old 0 ≡ Some 1)
+TakesFrame old new n (Err NoMemory) = (new ≡ old) × AsksMemory old
 TakesFrame old new n result = ⊥
 
 -- the first frame of the bytes to read was taken off

@@ -1,28 +1,30 @@
-ghost use Rattle.std.specs.Prelude.{◌≡◌, slice_get, IfOk, IsErr, Some};
-ghost use Rattle.origin_model.specs.frames.Frames.{HasFrame, IsTitle, frame as frame_of, title_bytes};
-ghost use Rattle.origin_model.specs.declared.grammar.Grammar.TheVariants.{Version1 as Singles};
+ghost use Rattle.std.specs.Prelude.{◌≡◌, IfOk, IsErr};
+ghost use Rattle.origin_model.specs.frames.Frames.{HasFrame, IsBody, IsTitle, body_bytes, frame as frame_of, title_bytes};
 ghost use Rattle.op_frame.specs.Firsts.{IsFrameBehind};
-ghost use Rattle.op_frame.specs.FrameFronts.{Completes, IsFrameOf, IsLast};
+ghost use Rattle.op_frame.specs.FrameFronts.{AsksMemory, Completes, IsBodyBytes, IsLast, IsOwnFrame};
 ghost use Rattle.op_frame.specs.declared.due.Due.TheVariants.{Fields as FieldsDue};
 ghost use Rattle.op_frame.specs.declared.due.Last.TheVariants.{Nothing as NothingLast, Scalars as ScalarsLast};
-ghost use Rattle.op_frame.specs.declared.due.Last.TheVariants.{Title as TitleLast};
+ghost use Rattle.op_frame.specs.declared.due.Last.TheVariants.{Names as NamesLast, Title as TitleLast};
 
 use crate::fields::{Fields, first_scalar};
-use crate::protocol::{DELETE, SECTION, TEXT};
-use fugue_ids::{NoMemory, Op, Title, TitleFault};
+use crate::protocol::{DELETE, NOTE, SECTION, TEXT};
+use fugue_ids::{Body, BodyFault, NoMemory, Op, Title, TitleFault};
 use std::alloc::Global;
 use std::str;
 
-/// The operation of a whole frame that is no run's. Memory goes to a title alone.
+/// The operation of a whole frame that is no run's. Memory goes to a title or a body alone.
 pub fn decode(alloc: Global, frame: &[u8]) -> Result<Op, NoMemory>
-    requires { IsFrameOf Singles frame.now }
+    requires { IsOwnFrame frame.now }
     ensures ok { IfOk result (λ op. HasFrame op × (frame.now ≡ frame_of op)) }
-    ensures err { IsErr result → slice_get frame.now 0 ≡ Some SECTION }
+    ensures err { IsErr result → AsksMemory frame.now }
 {
     let rest = &frame[1..];
     let kind = frame[0];
     if kind == SECTION {
         return section(alloc, rest);
+    }
+    if kind == NOTE {
+        return note(alloc, rest);
     }
     if kind == TEXT {
         return Ok(text(rest));
@@ -76,6 +78,23 @@ fn delete(rest: &[u8]) -> Op
     }
 }
 
+fn note(alloc: Global, rest: &[u8]) -> Result<Op, NoMemory>
+    requires { Completes (FieldsDue 1 0 NamesLast) rest.now }
+    ensures { IfOk result (λ op. IsFrameBehind NOTE op rest.now) }
+{
+    let mut fields = Fields { rest };
+    let id = fields.identifier();
+    let names = fields.names();
+    let code = fields.rest[0];
+    let body = body(alloc, &fields.rest[1..])?;
+    Ok(Op::Note {
+        id,
+        names,
+        code,
+        body,
+    })
+}
+
 /// The title whose text stands behind the first two bytes.
 fn title(alloc: Global, bytes: &[u8]) -> Result<Title, NoMemory>
     requires { IsLast TitleLast bytes.now }
@@ -88,5 +107,17 @@ fn title(alloc: Global, bytes: &[u8]) -> Result<Title, NoMemory>
         Ok(title) => Ok(title),
         Err(TitleFault::NoMemory) => Err(NoMemory),
         Err(TitleFault::Empty | TitleFault::TooLong | TitleFault::LineEnd) => unreachable!(),
+    }
+}
+
+/// The body that stands behind the first two bytes.
+fn body(alloc: Global, bytes: &[u8]) -> Result<Body, NoMemory>
+    requires { IsBodyBytes bytes.now }
+    ensures { IfOk result (λ body. IsBody body × (bytes.now ≡ body_bytes body)) }
+{
+    match Body::read(alloc, &bytes[2..]) {
+        Ok(body) => Ok(body),
+        Err(BodyFault::NoMemory) => Err(NoMemory),
+        Err(BodyFault::TooLong) => unreachable!(),
     }
 }

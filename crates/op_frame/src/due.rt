@@ -20,6 +20,14 @@ pub(crate) enum Last {
     Title,
     /// The text of a title, of which so many bytes are due.
     Text(usize),
+    /// How many identifiers a note names, these, its code and its body.
+    Names,
+    /// The code of a note, and its body.
+    Code,
+    /// The length of a body, and the body.
+    Length,
+    /// A body, of which so many bytes are due.
+    Body(usize),
 }
 
 /// What some bytes of the field are that is due.

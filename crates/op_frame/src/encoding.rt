@@ -1,13 +1,17 @@
 ghost use Rattle.std.specs.Prelude.{◌≡◌, ◌≤◌, ◌+◌, ◌*◌, ◌++◌, All, length, map, flat_map};
 ghost use Rattle.std.specs.Prelude.{vec_len, vec_capacity, OnOk, OnErr};
-ghost use Rattle.origin_model.specs.frames.Frames.{HasFrame, frame, id_bytes, origin_bytes, title_bytes, scalar_bytes};
+ghost use Rattle.origin_model.specs.frames.Frames.{HasFrame, frame, scalar_bytes};
+ghost use Rattle.origin_model.specs.frames.Frames.{body_bytes, id_bytes, names_bytes, origin_bytes, title_bytes};
+ghost use Rattle.fugue_ids.specs.declared.op.Op.TheVariants.{Note as NoteOp};
 ghost use Rattle.origin_model.specs.frames.Framings.{scalar_in};
 ghost use Rattle.op_frame.specs.Encoded.{Puts};
 ghost use Rattle.op_frame.specs.Stretches.{AreTyped, WritesRun};
 
 use crate::framed::has_frame;
-use crate::protocol::{DELETE, RUN, SECTION, TEXT};
-use fugue_ids::{ElementId, LONGEST_TITLE, NoMemory, Op, Title};
+use crate::protocol::{DELETE, NOTE, RUN, SECTION, TEXT};
+use fugue_ids::{
+    Body, ElementId, LONGEST_BODY, LONGEST_TITLE, MOST_NAMES, NoMemory, NoteNames, Op, Title,
+};
 
 /// The most Texts of a run.
 pub(crate) const LONGEST_RUN: usize = 1_024;
@@ -19,9 +23,9 @@ const LONGEST_HEAD: usize = 1 + 8 + 8 + 9 + 9 + 2;
 /// The longest frame, in bytes: that of the most Texts.
 pub const LONGEST_FRAME: usize = LONGEST_HEAD + 3 * LONGEST_RUN;
 
-/// The longest frame of one operation: that of a Section with its kind, its identifier, both origins, and the longest
-/// title behind its length.
-const LONGEST_SINGLE: usize = 1 + 8 + 9 + 9 + 2 + LONGEST_TITLE;
+/// The longest frame of one operation: that of a Note with its kind, its identifier, the most names behind their number,
+/// its code, and the longest body behind its length.
+const LONGEST_SINGLE: usize = 1 + 8 + 1 + 8 * MOST_NAMES + 1 + 2 + LONGEST_BODY;
 
 /// Appends the operation's own frame.
 pub fn encode(op: &Op, out: &mut Vec<u8>) -> Result<(), NoMemory>
@@ -62,8 +66,25 @@ pub fn encode(op: &Op, out: &mut Vec<u8>) -> Result<(), NoMemory>
             put(out, &[DELETE]);
             put_id(out, *target);
         }
+        Op::Note {
+            id,
+            names,
+            code,
+            body,
+        } => put_note(out, *id, names, *code, body),
     }
     Ok(())
+}
+
+fn put_note(out: &mut Vec<u8>, id: ElementId, names: &NoteNames, code: u8, body: &Body)
+    requires { vec_len out.old + LONGEST_SINGLE ≤ vec_capacity out.old }
+    ensures { Puts out.old out.new (frame (NoteOp id names.now code body.now)) }
+{
+    put(out, &[NOTE]);
+    put_id(out, id);
+    put_names(out, names);
+    put(out, &[code]);
+    put_body(out, body);
 }
 
 /// Appends the frame of the run that has these operations.
@@ -132,6 +153,34 @@ fn put_title(out: &mut Vec<u8>, title: &Title)
     let text = title.as_str();
     put(out, &(text.len() as u16).to_be_bytes());
     put(out, text.as_bytes());
+}
+
+fn put_names(out: &mut Vec<u8>, names: &NoteNames)
+    requires { vec_len out.old + 1 + 8 * MOST_NAMES ≤ vec_capacity out.old }
+    ensures puts { Puts out.old out.new (names_bytes names.now) }
+    ensures few { length names.now ≤ MOST_NAMES }
+{
+    let ids = names.as_slice();
+    put(out, &[ids.len() as u8]);
+    put_ids(out, ids);
+}
+
+fn put_ids(out: &mut Vec<u8>, ids: &[ElementId])
+    requires { vec_len out.old + 8 * length ids.now ≤ vec_capacity out.old }
+    ensures { Puts out.old out.new (flat_map id_bytes ids.now) }
+{
+    for id in ids {
+        put_id(out, *id);
+    }
+}
+
+fn put_body(out: &mut Vec<u8>, body: &Body)
+    requires { vec_len out.old + 2 + LONGEST_BODY ≤ vec_capacity out.old }
+    ensures { Puts out.old out.new (body_bytes body.now) }
+{
+    let bytes = body.as_slice();
+    put(out, &(bytes.len() as u16).to_be_bytes());
+    put(out, bytes);
 }
 
 fn put_scalar(out: &mut Vec<u8>, ch: char)

@@ -1,11 +1,18 @@
 ghost use Rattle.std.specs.Prelude.{◌≡◌, ◌++◌, drop};
 ghost use Rattle.std.specs.Char.{IsScalar};
-ghost use Rattle.origin_model.specs.frames.Frames.{IsIdentifier, IsOrigin, id_bytes, origin_bytes, scalar_bytes};
+ghost use Rattle.origin_model.specs.frames.Frames.{AreNames, IsIdentifier, IsOrigin};
+ghost use Rattle.origin_model.specs.frames.Frames.{id_bytes, names_bytes, origin_bytes, scalar_bytes};
 ghost use Rattle.op_frame.specs.Firsts.{StartsWith};
-ghost use Rattle.op_frame.specs.FrameFronts.{IsIdentifierBytes, IsOriginBytes, IsScalarBytes};
+ghost use Rattle.op_frame.specs.FrameFronts.{AreNamesBytes, IsIdentifierBytes, IsOriginBytes, IsScalarBytes};
 
 use crate::number::{number, scalar_of};
-use fugue_ids::ElementId;
+use fugue_ids::{ElementId, MOST_NAMES, NoteNames};
+
+/// What stands where no identifier was read yet.
+const UNREAD: ElementId = ElementId {
+    replica: 1,
+    counter: 0,
+};
 
 /// Takes fields that are there off the front of bytes.
 #[derive(Drop)]
@@ -36,6 +43,23 @@ impl<'a> Fields<'a> {
             return None;
         }
         Some(self.identifier())
+    }
+
+    pub(crate) fn names(&mut self) -> NoteNames
+        requires { StartsWith AreNamesBytes self.old.rest.now }
+        ensures split { self.old.rest.now ≡ names_bytes result ++ self.new.rest.now }
+        ensures are { AreNames result }
+    {
+        let count = self.rest[0] as usize;
+        self.rest = &self.rest[1..];
+        let mut ids = [UNREAD; MOST_NAMES];
+        for place in 0..count {
+            ids[place] = self.identifier();
+        }
+        let Some(names) = NoteNames::read(&ids[..count]) else {
+            unreachable!()
+        };
+        names
     }
 }
 

@@ -1,8 +1,8 @@
-ghost use Rattle.std.specs.Prelude.{◌≡◌, IfOk, IsErr, IfSome, Some, slice_get};
+ghost use Rattle.std.specs.Prelude.{IfOk, IsErr, IfSome};
 ghost use Rattle.origin_model.specs.frames.Frames.{IsFrame};
 ghost use Rattle.origin_model.specs.declared.grammar.Grammar.TheVariants.{Version2 as WithRuns};
 ghost use Rattle.op_frame.specs.Decoded.{IsDecoded, GivesFirstOf};
-ghost use Rattle.op_frame.specs.FrameFronts.{IsFrameOf};
+ghost use Rattle.op_frame.specs.FrameFronts.{AsksMemory, IsFrameOf};
 
 use crate::decoding::decode;
 use crate::head::Head;
@@ -18,11 +18,11 @@ pub(crate) enum Decoded {
     Run(Head),
 }
 
-/// What a whole frame stands for. Memory goes to a title alone.
+/// What a whole frame stands for. Memory goes to a title or a body alone.
 pub(crate) fn decode_frame(alloc: Global, frame: &[u8]) -> Result<Decoded, NoMemory>
     requires { IsFrameOf WithRuns frame.now }
     ensures ok { IfOk result (λ decoded. IsDecoded decoded frame.now) }
-    ensures err { IsErr result → slice_get frame.now 0 ≡ Some 1 }
+    ensures err { IsErr result → AsksMemory frame.now }
 {
     if frame[0] == RUN {
         return Ok(Decoded::Run(Head::read(&frame[1..])));
@@ -52,11 +52,11 @@ impl<'a> Model for FrameOps<'a> {
 }
 
 impl<'a> FrameOps<'a> {
-    /// The operations of this frame. Memory goes to a title alone.
+    /// The operations of this frame. Memory goes to a title or a body alone.
     pub fn new(alloc: Global, frame: &'a [u8]) -> Result<FrameOps<'a>, NoMemory>
         requires { IsFrameOf WithRuns frame.now }
         ensures ok { IfOk result (λ ops. IsFrame WithRuns (record { bytes = frame.now; ops = ops })) }
-        ensures err { IsErr result → slice_get frame.now 0 ≡ Some 1 }
+        ensures err { IsErr result → AsksMemory frame.now }
     {
         match decode_frame(alloc, frame)? {
             Decoded::Single(op) => Ok(FrameOps {

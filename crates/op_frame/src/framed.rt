@@ -1,7 +1,8 @@
+ghost use Rattle.std.specs.Prelude.{All};
 ghost use Rattle.std.specs.Char.{IsScalar};
-ghost use Rattle.origin_model.specs.frames.Frames.{HasFrame, IsIdentifier, IsOrigin, IsTitle};
+ghost use Rattle.origin_model.specs.frames.Frames.{AreNames, HasFrame, IsBody, IsByte, IsIdentifier, IsOrigin, IsTitle};
 
-use fugue_ids::{ElementId, Op, Title};
+use fugue_ids::{Body, ElementId, NoteNames, Op, Title};
 
 /// The operation has a frame: nothing is done.
 pub(crate) fn has_frame(op: &Op)
@@ -33,6 +34,17 @@ pub(crate) fn has_frame(op: &Op)
             scalar(*ch);
         }
         Op::Delete { target } => identifier(*target),
+        Op::Note {
+            id,
+            names,
+            code,
+            body,
+        } => {
+            identifier(*id);
+            identifiers(names);
+            byte(*code);
+            bounded(body);
+        }
     }
 }
 
@@ -51,6 +63,29 @@ fn origin(origin: Option<ElementId>)
 
 fn scalar(_ch: char)
     ensures { IsScalar _ch }
+{}
+
+fn identifiers(names: &NoteNames)
+    ensures { AreNames names.now }
+{
+    let ids = names.as_slice();
+    for id in ids {
+        identifier(*id);
+    }
+}
+
+fn byte(_code: u8)
+    ensures { IsByte _code }
+{}
+
+fn bounded(body: &Body)
+    ensures { IsBody body.now }
+{
+    bytes(body.as_slice());
+}
+
+fn bytes(_bytes: &[u8])
+    ensures { All IsByte _bytes.now }
 {}
 
 fn named(title: &Title)

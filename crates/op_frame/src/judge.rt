@@ -6,8 +6,9 @@ ghost use Rattle.op_frame.specs.declared.grown.Grown.TheVariants.{Frame as Whole
 
 use crate::due::{Due, Judged, Last};
 use crate::grown::Grown;
+use crate::note::{judge_body, judge_code, judge_length, judge_names};
 use crate::number::number;
-use crate::protocol::{DELETE, RUN, SECTION, TEXT};
+use crate::protocol::{DELETE, NOTE, RUN, SECTION, TEXT};
 use crate::run_fields::{judge_count, judge_first, judge_scalar};
 use crate::title::{judge_text, judge_title};
 use origin_model::Grammar;
@@ -40,6 +41,10 @@ fn last_size(last: Last) -> usize
         Last::Count(_) => 2,
         Last::Title => 2,
         Last::Text(len) => len,
+        Last::Names => 1,
+        Last::Code => 1,
+        Last::Length => 2,
+        Last::Body(len) => len,
     }
 }
 
@@ -99,6 +104,10 @@ fn judge_kind(grammar: Grammar, kind: u8) -> Judged
             Grammar::Version1 => Judged::Bad,
             Grammar::Version2 => Judged::Done(Due::Run),
         },
+        NOTE => match grammar {
+            Grammar::Version1 => Judged::Bad,
+            Grammar::Version2 => Judged::Done(Due::Fields(1, 0, Last::Names)),
+        },
         _ => Judged::Bad,
     }
 }
@@ -147,5 +156,9 @@ fn judge_last(last: Last, bytes: &[u8]) -> Judged
         Last::Count(most) => judge_count(most, bytes),
         Last::Title => judge_title(bytes),
         Last::Text(len) => judge_text(len, bytes),
+        Last::Names => judge_names(bytes[0]),
+        Last::Code => judge_code(bytes[0]),
+        Last::Length => judge_length(bytes),
+        Last::Body(len) => judge_body(len, bytes),
     }
 }

@@ -1,9 +1,11 @@
-/// The first bytes of the frames of the four kinds.
+/// The first bytes of the frames of one operation.
 pub(crate) const SECTION: u8 = 1;
 
 pub(crate) const TEXT: u8 = 2;
 
 pub(crate) const DELETE: u8 = 3;
+
+pub(crate) const NOTE: u8 = 5;
 
 /// The first byte of a run's frame.
 pub const RUN: u8 = 4;

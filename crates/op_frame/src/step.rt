@@ -1,4 +1,4 @@
-ghost use Rattle.std.specs.Prelude.{◌≡◌, ◌≤◌, ◌≢◌, length, take, [], None, Some, slice_get, IfOk, IfErr, IsErr};
+ghost use Rattle.std.specs.Prelude.{◌≡◌, ◌≤◌, ◌≢◌, length, take, [], None, Some, IfOk, IfErr, IsErr};
 ghost use Rattle.origin_model.specs.declared.grammar.Grammar.TheVariants.{Version2 as WithRuns};
 ghost use Rattle.op_frame.specs.FrameFronts.{IsFrameOf};
 ghost use Rattle.op_frame.specs.Heads.{GivesHeld, IsHeld};

@@ -22,10 +22,9 @@ fn climb(
 {
     let mut found = Vec::new(alloc);
     let mut current = x;
-    let mut i = ops.len();
-    'scan: while i > 0 {
-        i -= 1;
-        let op = &ops[i];
+    let mut rest = ops;
+    'scan: while let Some((op, older)) = rest.split_last() {
+        rest = older;
         if op.id() == Some(current) {
             if left_of(op) != left {
                 return Ok(found);

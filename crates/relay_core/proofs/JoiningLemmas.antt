@@ -4,12 +4,11 @@ use Rattle.std.specs.Prelude.{Err, IfOk, None, Ok, Option, Result, Some, if◌th
 use Rattle.std.proofs.lemmas.Bool.{eq-eqb, eqb-true, true≢false}
 use Rattle.std.proofs.lemmas.List.{append-nil}
 use Rattle.fugue_ids.specs.declared.op.Op.{Op}
-use Rattle.origin_model.specs.declared.grammar.Grammar.TheVariants.{Version1, Version2}
+use Rattle.origin_model.specs.declared.grammar.Grammar.TheVariants.{Version2}
 use Rattle.origin_model.specs.frames.Frames.{Single, frame}
 use Rattle.origin_model.specs.relay.Session.{Taken, is_logged, joined, refusal_message, session_goes_on, session_refused}
-use Rattle.origin_model.proofs.SharedLemmas.{single_of}
-use Rattle.op_frame.specs.FrameFronts.{IsFrameOf}
-use Rattle.op_frame.proofs.DecodingLemmas.{no_runs}
+use Rattle.op_frame.specs.FrameFronts.{IsFrameOf, IsOwnFrame}
+use Rattle.op_frame.proofs.DecodingLemmas.{no_run}
 use Rattle.relay_core.specs.Joins.{JoinsFrame, JoinsOne}
 use Rattle.relay_core.specs.Texts.{with_op, with_ops}
 
@@ -112,9 +111,8 @@ joins_new limit log own lacks other op cursor left same =
 pub joins_single : {E : Type 0} (limit : ℕ) (old : List (List ℕ)) (bytes : List ℕ) (new : List (List ℕ)) (result : Result (Option (List ℕ)) E) → IsFrameOf Version2 bytes → (get_or bytes 0 0 ≡ 4 → ⊥)
     → IfOk result (λ reply. JoinsOne limit old bytes new reply) → IfOk result (λ reply. JoinsFrame limit old bytes new [] reply)
 joins_single limit old bytes new (Ok reply) f other one =
-    let frame_is : IsFrameOf Version1 bytes = no_runs bytes f other in
-    let s = single_of (record { bytes = bytes; ops = frame_is.0 }) frame_is.1 in
-    record { ops = s.op ∷ []; is_frame = record { item = Single s.op; is_item = s.has_frame; bytes_are = s.bytes_are; ops_are = refl }; joins = λ cursor. one s.op cursor [] s.bytes_are }
+    let own : IsOwnFrame bytes = no_run bytes f other in
+    record { ops = own.0 ∷ []; is_frame = record { item = Single own.0; is_item = own.1; bytes_are = own.2; ops_are = refl }; joins = λ cursor. one own.0 cursor [] own.2 }
 joins_single limit old bytes new (Err e) f other one = one
 
 -- one operation more of a run

@@ -5,7 +5,7 @@ use Rattle.std.specs.Int.{from_be_bytes, w32}
 use Rattle.std.specs.Io.KnownBytes.{prepend_known}
 use Rattle.std.proofs.lemmas.List.{append-nil}
 use Rattle.fugue_ids.specs.declared.op.Op.{Op}
-use Rattle.fugue_ids.specs.declared.op.Op.TheVariants.{Delete, Section, Text}
+use Rattle.fugue_ids.specs.declared.op.Op.TheVariants.{Delete, Note, Section, Text}
 use Rattle.origin_model.specs.declared.grammar.Grammar.{Grammar}
 use Rattle.origin_model.specs.declared.grammar.Grammar.TheVariants.{Version2}
 use Rattle.origin_model.specs.frames.Frames.{IsPartial, Item, Single, Typed, frame, item_bytes}
@@ -66,19 +66,20 @@ hears_none wire = record { heard = sym (prepend_none wire.left); said = refl; po
 
 -- with which byte a message begins
 abbrev pub IsLead : Message → ℕ → Type 0
-IsLead (Operations ops) x = x < 5
+IsLead (Operations ops) x = x < 6
 IsLead (End count) x = x ≡ 0x55
 IsLead (Refusal code) x = x ≡ 0x58
 
 pub leads : (message : Message) (whole behind : List ℕ) → IsMessage message whole → IsLead message (get_or (whole ++ behind) 0 0)
-leads (Operations ops) whole behind is = subst (λ (w : List ℕ). get_or (w ++ behind) 0 0 < 5) (sym is.bytes_are) (by_item is.item)
+leads (Operations ops) whole behind is = subst (λ (w : List ℕ). get_or (w ++ behind) 0 0 < 6) (sym is.bytes_are) (by_item is.item)
   where
-    by_op : (op : Op) → get_or (frame op ++ behind) 0 0 < 5
+    by_op : (op : Op) → get_or (frame op ++ behind) 0 0 < 6
     by_op (Section id l r t) = omega arith
     by_op (Text id s l r ch) = omega arith
     by_op (Delete id) = omega arith
+    by_op (Note id n c b) = omega arith
 
-    by_item : (item : Item) → get_or (item_bytes item ++ behind) 0 0 < 5
+    by_item : (item : Item) → get_or (item_bytes item ++ behind) 0 0 < 6
     by_item (Single op) = by_op op
     by_item (Typed run) = omega arith
 leads (End count) whole behind is = ap (λ (w : List ℕ). get_or (w ++ behind) 0 0) is.3

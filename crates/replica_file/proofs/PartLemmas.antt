@@ -1,6 +1,6 @@
 -- The frames of a part of a file, a piece at a time.
 use Rattle.std.proofs.Common.{◌≡◌, ◌≢◌, ◌⊎◌, inl, inr, ℕ, ◌+◌, ◌-◌, ◌<◌, ◌≤◌, min, List, [], ◌∷◌, ◌++◌, length, take, drop, refl, ap, sym, subst, ◌∙◌, arith, append_assoc, length-append, length-drop}
-use Rattle.std.specs.Prelude.{Option, Some, None, IfSome, Bool, true, flat_map, slice_get}
+use Rattle.std.specs.Prelude.{Option, Some, None, IfSome, Bool, true, flat_map}
 use Rattle.std.proofs.Math.Seq.{take-add}
 use Rattle.std.proofs.lemmas.Grind.{flat_map-append}
 use Rattle.std.proofs.lemmas.List.Elements.{All-append, All-nil}
@@ -17,14 +17,10 @@ use Rattle.origin_model.proofs.SharedLemmas.{bytes_of}
 use Rattle.replica_file.specs.Loading.{IsSameButHeld}
 use Rattle.replica_file.specs.Pieces.{AreBad, Lacks, TakesPiece}
 use Rattle.replica_file.specs.Slots.{EndsOff, HasNoFrames, TakesFrames, TakesSome}
-use Rattle.replica_file.specs.Wanting.{ArePieces, AreWhole, BeginsPiece, ForOperation, ForPiece, ForTitle, IsWanting, part_of}
+use Rattle.replica_file.specs.Wanting.{ArePieces, AreWhole, BeginsPiece, ForContent, ForOperation, ForPiece, IsWanting, part_of}
 use Rattle.replica_file.proofs.LoadingLemmas.{feeds_none, feeds_then, same_then}
-use Rattle.op_frame.proofs.StepLemmas.{front_short}
+use Rattle.op_frame.proofs.StepLemmas.{asks_too, front_short}
 use Rattle.replica_file.proofs.ReadingLemmas.{drop_twice}
-
-first_stays : (rest more : List ℕ) (byte : ℕ) → slice_get rest 0 ≡ Some byte → slice_get (rest ++ more) 0 ≡ Some byte
-first_stays [] more byte is = absurd (cc is)
-first_stays (b ∷ rest) more byte is = is
 
 module _ (grammar : Grammar) where
   pub starts_none : (bytes : List ℕ) → Starts grammar bytes [] bytes
@@ -72,14 +68,14 @@ module _ (grammar : Grammar) where
     wanting_further : (more : List ℕ) → ((rest : List ℕ) → before rest → after (rest ++ more)) → IsWanting grammar before bytes ops hold most s places
         → IsWanting grammar after (bytes ++ more) ops hold most s places
     wanting_further more begins (ForPiece rest starts begin) = ForPiece (rest ++ more) (starts_further bytes rest more ops starts) (begins rest begin)
-    wanting_further more begins (ForTitle rest starts first) = ForTitle (rest ++ more) (starts_further bytes rest more ops starts) (first_stays rest more 1 first)
+    wanting_further more begins (ForContent rest starts first) = ForContent (rest ++ more) (starts_further bytes rest more ops starts) (asks_too rest more first)
     wanting_further more begins (ForOperation op later behind starts found kept) = ForOperation op later (behind ++ more) (starts_further bytes behind more (ops ++ op ∷ later) starts) found kept
 
     -- and behind other operations
     wanting_then : (whole : List ℕ) (earlier : List Op) → Starts grammar whole earlier bytes → ((rest : List ℕ) → before rest → after rest) → IsWanting grammar before bytes ops hold most s places
         → IsWanting grammar after whole (earlier ++ ops) hold most s places
     wanting_then whole earlier one begins (ForPiece rest starts begin) = ForPiece rest (starts_then whole bytes rest earlier ops one starts) (begins rest begin)
-    wanting_then whole earlier one begins (ForTitle rest starts first) = ForTitle rest (starts_then whole bytes rest earlier ops one starts) first
+    wanting_then whole earlier one begins (ForContent rest starts first) = ForContent rest (starts_then whole bytes rest earlier ops one starts) first
     wanting_then whole earlier one begins (ForOperation op later behind starts found kept) =
         ForOperation op later behind
         (subst (λ (all : List Op). Starts grammar whole all behind) (sym (append_assoc earlier ops (op ∷ later))) (starts_then whole bytes behind earlier (ops ++ op ∷ later) one starts)) found kept

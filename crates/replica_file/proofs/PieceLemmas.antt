@@ -1,6 +1,6 @@
 -- What a reader's answers say of a piece in memory.
 use Rattle.std.proofs.Common.{◌≡◌, inl, inr, ℕ, ◌<◌, List, [], ◌∷◌, ◌++◌, length, drop, refl, ap, sym, subst, ◌∙◌, arith, append_assoc, length-append}
-use Rattle.std.specs.Prelude.{All, Option, Some, None, IfSome, Result, Ok, Err, Bool, true, flat_map, slice_get, ◌-◌}
+use Rattle.std.specs.Prelude.{All, Option, Some, None, IfSome, Result, Ok, Err, Bool, true, flat_map, ◌-◌}
 use Rattle.std.specs.Io.KnownBytes.{prepend_known}
 use Rattle.std.proofs.lemmas.List.{append-nil}
 use Rattle.std.proofs.lemmas.Option.{same_Some}
@@ -16,7 +16,7 @@ use Rattle.op_frame.specs.declared.fault.FrameFault.TheVariants as frame_fault
 use Rattle.origin_model.specs.edits.State.{State}
 use Rattle.replica_file.specs.Loading.{Feeds, IsSameButHeld}
 use Rattle.replica_file.specs.Pieces.{AreBad, IsReading, Lacks, PieceSteps, TakesPiece}
-use Rattle.replica_file.specs.Wanting.{AreWhole, ForOperation, ForPiece, ForTitle, IsWanting}
+use Rattle.replica_file.specs.Wanting.{AreWhole, ForContent, ForOperation, ForPiece, IsWanting}
 use Rattle.replica_file.proofs.PartLemmas.{starts_none}
 use Rattle.replica_file.proofs.LoadingLemmas.{feeds_none}
 use Rattle.replica_file.specs.declared.stop.Stop.{Stop}
@@ -103,7 +103,7 @@ module _ (bytes : List ℕ) (ops : List Op) (old new : FrameReading) (before aft
           → IfSome left (AnswersBy old.grammar (Err frame_fault.NoMemory) old.offset (old.limit - old.offset)) → wants r was
       by None told answer = absurd (let no : Some bytes ≡ None = told in cc no)
       by (Some rest) told answer =
-          ForTitle rest (record { found = reading.gave.found; are_frames = reading.gave.are_frames; ops_are = ops_are; split = same_Some _ _ told }) (answer.memory refl)
+          ForContent rest (record { found = reading.gave.found; are_frames = reading.gave.are_frames; ops_are = ops_are; split = same_Some _ _ told }) (answer.memory refl)
 
   -- memory was wanting for the operation that was given
   pub operation : (r : State) (was : Bool) (op : Op) → Chains old new before after (Ok (Some op)) → new.grammar ≡ old.grammar → (was ≡ true) × (is_kept (answer r.hold r.most r.held op) ≡ true) → wants r was

@@ -15,7 +15,7 @@ use Rattle.replica_file.specs.declared.gate.Gate.{Gate}
 use Rattle.replica_file.specs.Load.{AreTooMany, FindPlace, FindsBadBatch, FindsTooMany, LacksMemory, Loads, hold_of}
 use Rattle.replica_file.specs.Loading.{AreIn, Fed, IsSameButHeld}
 use Rattle.replica_file.specs.Slots.{IsGate, LacksInSlot, TakesSlot, Walked, WalksOut}
-use Rattle.replica_file.specs.Wanting.{BeginsPiece, ForOperation, ForPiece, ForTitle, IsWanting, part_of}
+use Rattle.replica_file.specs.Wanting.{BeginsPiece, ForContent, ForOperation, ForPiece, IsWanting, part_of}
 
 -- a gate, and what stands behind it
 gate_behind : (bytes : List ℕ) (at byte : ℕ) → slice_get bytes at ≡ Some byte → drop at bytes ≡ byte ∷ drop (at + 1) bytes
@@ -68,7 +68,7 @@ module _ (bytes : List ℕ) (slots : ℕ) (gate : Gate) (r : State) (w : Walked 
       by_wants : IsWanting slot.grammar begins part slot.lacks.ops slot.lacks.new.hold slot.lacks.new.most slot.lacks.new.held (slot.lacks.now ≡ true)
           → IsWanting slot.grammar begins part slot.lacks.ops (hold_of bytes) most (held (hold_of bytes) most reached) (FindPlace (hold_of bytes) most reached)
       by_wants (ForPiece rest starts begin) = ForPiece rest starts begin
-      by_wants (ForTitle rest starts first) = ForTitle rest starts first
+      by_wants (ForContent rest starts first) = ForContent rest starts first
       by_wants (ForOperation op later behind starts found kept) =
           let are : AreIn slot.lacks.new reached = subst (λ (b : Bool). Fed b slot.lacks.new reached) found fed_so_far in
           ForOperation op later behind starts (by_limits (λ h m. FindPlace h m reached) are.place)

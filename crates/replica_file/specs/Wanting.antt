@@ -1,9 +1,10 @@
 -- Where memory may be wanting while the frames of a batch are read.
-use Rattle.std.specs.Prelude.{◌≡◌, ◌⊎◌, ℕ, ◌+◌, ◌-◌, ◌≤◌, min, List, [], ◌∷◌, ◌++◌, length, take, drop, Some, slice_get, true}
+use Rattle.std.specs.Prelude.{◌≡◌, ◌⊎◌, ℕ, ◌+◌, ◌-◌, ◌≤◌, min, List, [], ◌∷◌, ◌++◌, length, take, drop, true}
 use Rattle.fugue_ids.specs.declared.op.Op.{Op}
 use Rattle.origin_model.specs.declared.grammar.Grammar.{Grammar}
 use Rattle.origin_model.specs.frames.Frames.{IsPartial, Starts}
 use Rattle.origin_model.specs.taking.Taking.{Held, answer, is_kept}
+use Rattle.op_frame.specs.FrameFronts.{AsksMemory}
 
 -- the bytes of a file from an offset on, so many
 abbrev pub part_of : List ℕ → (at len : ℕ) → List ℕ
@@ -34,8 +35,8 @@ pub record BeginsPiece (grammar : Grammar) (bytes : List ℕ) (at len : ℕ) (re
 pub data IsWanting (grammar : Grammar) (Begins : List ℕ → Type 0) (bytes : List ℕ) (ops : List Op) (hold most : ℕ) (s : Held) (places : Type 0) : Type 0 where
   -- the rest was still to be read
   ForPiece : (rest : List ℕ) → Starts grammar bytes ops rest → Begins rest → IsWanting grammar Begins bytes ops hold most s places
-  -- the next frame is a section's, which has a title
-  ForTitle : (rest : List ℕ) → Starts grammar bytes ops rest → slice_get rest 0 ≡ Some 1 → IsWanting grammar Begins bytes ops hold most s places
+  -- the next frame is a section's, which has a title, or a note's, which has a body
+  ForContent : (rest : List ℕ) → Starts grammar bytes ops rest → AsksMemory rest → IsWanting grammar Begins bytes ops hold most s places
   -- all operations found their place, and the next one, of a frame that may stand for later ones too, would be kept
   ForOperation : (op : Op) (later : List Op) (behind : List ℕ) → Starts grammar bytes (ops ++ op ∷ later) behind → places → is_kept (answer hold most s op) ≡ true
       → IsWanting grammar Begins bytes ops hold most s places

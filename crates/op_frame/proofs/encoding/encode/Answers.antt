@@ -1,4 +1,4 @@
-use Rattle.std.proofs.Common.{sym, ap, ◌∙◌, List, ℕ, ◌++◌, ◌≡◌, append_assoc}
+use Rattle.std.proofs.Common.{List, ap, append_assoc, sym, ℕ, ◌++◌, ◌∙◌, ◌≡◌}
 use Rattle.origin_model.specs.frames.Frames.{frame}
 use Rattle.op_frame.proofs.encoding.encode.Goals as goal
 

@@ -1,4 +1,4 @@
-use Rattle.op_frame.proofs.DueLemmas.{character_due, run_due, section_due, target_due}
+use Rattle.op_frame.proofs.DueLemmas.{character_due, note_due, run_due, section_due, target_due}
 use Rattle.op_frame.proofs.judge.judge_kind.Goals as goal
 
 pub returns-in-1 : goal.returns-in-1
@@ -12,3 +12,6 @@ returns-in-3 c = rw c.in-3.is (target_due c.args.grammar)
 
 pub returns-in-Version2 : goal.returns-in-Version2
 returns-in-Version2 c = rw (c.in-4.is, c.in-Version2.is) run_due
+
+pub returns-in-Version2-grammar : goal.returns-in-Version2-grammar
+returns-in-Version2-grammar c = rw (c.in-5.is, c.in-Version2-grammar.is) note_due

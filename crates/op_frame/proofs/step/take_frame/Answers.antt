@@ -1,12 +1,12 @@
-use Rattle.std.proofs.Common.{List, Some, drop, refl, subst, sym, take, ℕ, ◌≡◌}
-use Rattle.std.specs.Prelude.{slice_get}
+use Rattle.std.proofs.Common.{List, drop, refl, subst, sym, take, ℕ}
 use Rattle.std.proofs.lemmas.List.{take-append-drop}
 use Rattle.origin_model.specs.frames.Frames.{Single}
 use Rattle.op_frame.specs.Decoded.{IsDecoded}
+use Rattle.op_frame.specs.FrameFronts.{AsksMemory}
 use Rattle.op_frame.specs.Heads.{IsHeld}
 use Rattle.op_frame.specs.declared.frame_ops.Decoded.{Decoded}
 use Rattle.op_frame.proofs.HeadLemmas.{takes_run, text_there}
-use Rattle.op_frame.proofs.StepLemmas.{first_stays}
+use Rattle.op_frame.proofs.StepLemmas.{asks_too}
 use Rattle.op_frame.proofs.step.take_frame.Goals as goal
 
 pub overflow_sub-len : goal.overflow_sub-len
@@ -23,8 +23,8 @@ take_held-op-requires c =
 pub returns-in-Err : goal.returns-in-Err
 returns-in-Err c =
     let bytes : List ℕ = c.args.unread.now.bytes in
-    let first : slice_get (take c.args.len bytes) 0 ≡ Some 1 = subst (λ (l : List ℕ). slice_get (take c.args.len l) 0 ≡ Some 1) c.as_slice.ensures (c.in-Err.ensures.err refl) in
-    (refl, subst (λ (l : List ℕ). slice_get l 0 ≡ Some 1) (take-append-drop c.args.len bytes) (first_stays (take c.args.len bytes) (drop c.args.len bytes) 1 first))
+    let asks : AsksMemory (take c.args.len bytes) = subst (λ (l : List ℕ). AsksMemory (take c.args.len l)) c.as_slice.ensures (c.in-Err.ensures.err refl) in
+    (refl, subst AsksMemory (take-append-drop c.args.len bytes) (asks_too (take c.args.len bytes) (drop c.args.len bytes) asks))
 
 pub returns-in-Ok-Single : goal.returns-in-Ok-Single
 returns-in-Ok-Single c =

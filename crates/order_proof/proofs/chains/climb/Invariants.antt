@@ -1,9 +1,9 @@
-use Rattle.std.proofs.Common.{length, reverse, take, ◌++◌, ◌≡◌, ◌≤◌}
+use Rattle.std.proofs.Common.{length, reverse, ◌++◌, ◌≡◌}
 unfoldable use Rattle.order_proof.specs.Chains.{beside_up}
 use Rattle.order_proof.proofs.chains.climb.Given as goal
 
 abbrev pub invariant-scan : goal.invariant-scan
-invariant-scan l = record { rest : l.found.items ++ beside_up (reverse (take l.i l.ops)) l.left l.current ≡ beside_up (reverse l.ops) l.left l.fn.x; within : l.i ≤ length l.ops }
+invariant-scan l = l.found.items ++ beside_up (reverse l.rest) l.left l.current ≡ beside_up (reverse l.ops) l.left l.fn.x
 
 abbrev pub decreases-scan : goal.decreases-scan
-decreases-scan l = l.i
+decreases-scan l = length l.rest
