@@ -1,0 +1,3 @@
+mod Words
+pub mod ViewLemmas
+pub mod VersionLemmas
