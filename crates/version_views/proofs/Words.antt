@@ -5,6 +5,7 @@ pub use Rattle.std.specs.List.{All}
 pub use Rattle.std.proofs.lemmas.Bool.{cases_Bool, eq-eqb, ne_eqb, true≢false}
 pub use Rattle.std.proofs.lemmas.List.{append-nil, length-append, take-append-drop}
 pub use Rattle.std.proofs.lemmas.List.Elements.{All-head, All-tail, All-weaker}
+unfoldable pub use Rattle.std.specs.Str.{chars, is_utf8}
 pub use lib.Pointwise.{pointwise}
 pub use Rattle.fugue_ids.specs.Identifiers.{Identifier}
 pub use Rattle.fugue_ids.specs.Ops.{id_of}
