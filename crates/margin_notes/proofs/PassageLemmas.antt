@@ -1,14 +1,14 @@
 -- The elements between two anchors, and the comments of a section, stay as they are while the history grows.
-use Rattle.margin_notes.proofs.Words.{All, All-weaker, Bool, Delete, Identifier, IsIn, IsPartOf, KeepsOrder, Lawful, List, None, Note, Op, Option, Place, Section, Some, Text, [], all_from_contains, ap, before, cases_Bool, element_of, false, filter, first_missing, has_op, holder, holds, id_eq, id_of, if◌then◌else◌, inl, inr, names, or_right, order, refl, stands_at, sym, true, within, ◌&&◌, ◌++◌, ◌||◌, ◌∙◌, ◌∷◌, ◌≡◌}
+use Rattle.margin_notes.proofs.Words.{All, All-weaker, Bool, Delete, Identifier, IsIn, IsPartOf, KeepsOrder, Lawful, List, None, Note, Op, Option, Place, Section, Some, Text, [], all_from_contains, ap, before, false, filter, first_missing, has_op, holder, holds, id_eq, id_of, if◌then◌else◌, inl, inr, names, or_right, order, refl, stands_at, sym, true, within, ◌&&◌, ◌++◌, ◌||◌, ◌∙◌, ◌∷◌, ◌≡◌}
 use Rattle.origin_model.specs.declared.operations.Role.{Role}
 use Rattle.origin_model.specs.declared.operations.Role.TheVariants.{Any}
-use Rattle.origin_model.proofs.SharedLemmas.{IsHeld, Lawful-append, Within, Within-append, cases_held, found, has-append, holder_owns, holds-older, order_total, own_id, parts_keep_order, when_ready}
+use Rattle.origin_model.proofs.SharedLemmas.{IsHeld, Lawful-append, Within-append, cases_held, found, has-append, holder_owns, holds-older, order_total, own_id, parts_keep_order, when_ready}
 use Rattle.std.specs.Prelude.{is_some, nat_eq}
 use Rattle.fugue_ids.proofs.IdentifierLemmas.{not_some}
 use Rattle.margin_notes.specs.declared.limits.TheConstants.{COMMENT_CODE}
 use Rattle.margin_notes.specs.Comments.{Comment, comment_in, is_in_section, is_text, is_text_of}
 use Rattle.margin_notes.specs.Laws.{CommentsStay, SpanStays}
-use Rattle.margin_notes.specs.Margins.{passage, stands_between}
+use Rattle.margin_notes.specs.Margins.{stands_between}
 use Rattle.margin_notes.proofs.FilterLemmas.{filter-agree, filter-swap}
 
 -- the older operations are a part of all

@@ -1,17 +1,17 @@
 -- The two numbers of a span cut the visible elements between the anchors out of those that are shown.
-use Rattle.margin_notes.proofs.Words.{All, All-weaker, AllPairs, Bool, Identifier, IsIn, Lawful, List, Op, Place, ap, arith, before, cases_Bool, count_by, drop, false, filter, id_eq, inl, inr, is_hidden, length, not, order, refl, shown, subst, sym, take, true, within, ◌&&◌, ◌+◌, ◌-◌, ◌||◌, ◌∙◌, ◌∷◌, ◌≡◌, ◌≤◌, ℕ}
-use Rattle.std.proofs.lemmas.Bool.{or_cases, or_left, or_right}
-use Rattle.std.proofs.lemmas.List.{drop-take, length-take-le}
+use Rattle.margin_notes.proofs.Words.{All-weaker, AllPairs, Bool, Identifier, IsIn, Lawful, List, Op, Place, ap, arith, before, cases_Bool, count_by, drop, false, filter, id_eq, inl, inr, is_hidden, length, not, order, refl, shown, subst, sym, take, true, within, ◌&&◌, ◌+◌, ◌-◌, ◌||◌, ◌∙◌, ◌≡◌, ◌≤◌, ℕ}
+use Rattle.std.proofs.lemmas.Bool.{or_cases, or_right}
+use Rattle.std.proofs.lemmas.List.{drop-take}
 use Rattle.std.proofs.lemmas.List.Elements.{All-filter}
 use Rattle.std.proofs.lemmas.List.Kept.{AllPairs-filter}
 use Rattle.std.proofs.lemmas.List.Sums.{count_by-le-length, length-filter}
-use Rattle.fugue_ids.proofs.IdentifierLemmas.{id_eq-false, id_eq-refl, id_eq-true}
+use Rattle.fugue_ids.proofs.IdentifierLemmas.{id_eq-false, id_eq-true}
 use Rattle.fugue_ids.proofs.ListLemmas.{all_pairs_weaker}
 use Rattle.origin_model.specs.order.Laws.{IsTotal}
 use Rattle.origin_model.proofs.SharedLemmas.{order_total}
-use Rattle.margin_notes.specs.Comments.{Comment, is_in_section, is_text_of}
+use Rattle.margin_notes.specs.Comments.{is_text_of}
 use Rattle.margin_notes.specs.Laws.{SpanIsPassage}
-use Rattle.margin_notes.specs.Margins.{passage, span, stands_between}
+use Rattle.margin_notes.specs.Margins.{passage, stands_between}
 use Rattle.margin_notes.proofs.FilterLemmas.{IsCut, back_of_cut, filter-agree, filter-both, filter-swap, front_of_cut}
 use Rattle.margin_notes.proofs.PassageLemmas.{all_in, both_parts, text_in}
 

@@ -1,12 +1,11 @@
 -- Versions and views of small files, computed from the definitions. Histories are newest first.
-use Rattle.version_views.proofs.Words.{Delete, Identifier, List, None, Note, Op, Option, Section, Some, Text, [], chain, chars, codes, false, is_utf8, length, manuscript, order, refl, true, ℕ, ◌++◌, ◌∷◌, ◌≡◌}
+use Rattle.version_views.proofs.Words.{Delete, Identifier, List, None, Note, Op, Section, Some, Text, [], chain, chars, codes, false, is_utf8, manuscript, order, refl, true, ℕ, ◌++◌, ◌∷◌, ◌≡◌}
 use lib.Utf8.{encode}
 use Rattle.std.specs.List.{repeat}
-use Rattle.std.proofs.Common.{arith}
-use Rattle.std.proofs.lemmas.Fmt.{decimal_digit}
-use Rattle.origin_model.specs.edits.Edits.{Add, Command, Cut, DropSection, Put, extended, id_at, made, noted}
-use Rattle.version_views.specs.Versions.{Version, is_name, version_with, versions}
-use Rattle.version_views.specs.Views.{first_ops, version_line, versions_text, view}
+unfoldable use Rattle.std.specs.Fmt.{digits}
+use Rattle.origin_model.specs.edits.Edits.{Add, Command, Cut, DropSection, Put, extended, made, noted}
+use Rattle.version_views.specs.Versions.{is_name, version_with, versions}
+use Rattle.version_views.specs.Views.{versions_text, view}
 
 -- the history after edits of replica 1, one after another, where nothing waits
 abbrev edited : List Op → List Command → List Op
@@ -42,8 +41,9 @@ unfolding order chain manuscript encode
 viewed = (refl, refl, refl, refl)
 
 -- its line
-listed : version_line (record { name = codes "one"; count = 5 }) ≡ codes "5 one" ++ 10 ∷ []
-listed = rw (decimal_digit 5 (omega arith)) refl
+listed : versions_text one 1 ≡ codes "5 one" ++ 10 ∷ []
+unfolding order chain is_utf8 chars encode digits
+listed = refl
 
 abbrev id : ℕ → ℕ → Identifier
 id replica counter = record { replica = replica; counter = counter }

@@ -1,5 +1,5 @@
 -- The version with a name, found from the newest operation on, and what later operations leave of it.
-use Rattle.version_views.proofs.Words.{All, All-head, All-tail, All-weaker, Bool, Identifier, List, None, Op, Option, Some, [], ap, append-nil, arith, cases_Bool, deletes, eq-eqb, false, id_of, if◌then◌else◌, inl, inr, is_hidden, length, nat_eq, ne_eqb, not, option_map, option_to_list, pointwise, refl, suc, sym, true, true≢false, ℕ, ◌&&◌, ◌++◌, ◌<◌, ◌∙◌, ◌∷◌, ◌≡◌, ◌||◌}
+use Rattle.version_views.proofs.Words.{All, All-head, All-tail, All-weaker, Bool, Identifier, List, None, Op, Option, Some, [], ap, append-nil, arith, cases_Bool, deletes, eq-eqb, false, id_of, if◌then◌else◌, inl, inr, is_hidden, length, nat_eq, ne_eqb, not, option_map, option_to_list, pointwise, refl, sym, true, true≢false, ℕ, ◌&&◌, ◌++◌, ◌<◌, ◌∙◌, ◌∷◌, ◌≡◌, ◌||◌}
 use Rattle.std.proofs.lemmas.Bool.{or_right}
 use Rattle.version_views.specs.Laws.{LaterOpsLeaveVersion, VersionIsWithin, leaves_version}
 use Rattle.version_views.specs.Versions.{Version, is_version, is_withdrawn, last_named, name_given, name_in, op_behind, version_with, versions_up_to, withdraws, withdraws_note}
@@ -148,15 +148,15 @@ later_ops_leave_version r name new h a =
     kept n note e g =
         let is : version_with h r name ≡ Some n = last_is_newest r h name h ∙ e in
         let each : All (λ op. withdraws h r name op ≡ false) new = All-weaker (λ op. leaves_version new h r name op ≡ true) (λ op. withdraws h r name op ≡ false)
-            (λ op k. (neither (is_version r (new ++ h) name op) (withdraws h r name op) k).1) new a in
+        (λ op k. (neither (is_version r (new ++ h) name op) (withdraws h r name op) k).1) new a in
         by_id (id_of note) refl is each
       where
         by_id : (o : Option Identifier) → id_of note ≡ o → version_with h r name ≡ Some n → All (λ op. withdraws h r name op ≡ false) new → kept_by new note ≡ true
         by_id None i is each = ap (λ o. elim o [ None ↦ true | Some j ↦ not (is_hidden new j) ]) i
         by_id (Some x) i is each =
             let one : (op : Op) → withdraws h r name op ≡ deletes x op = λ op.
-                ap (λ o. elim o [ None ↦ false | Some m ↦ withdraws_note h m op ]) is
-                ∙ ap (λ o. elim o [ None ↦ false | Some t ↦ elim (id_of t) [ None ↦ false | Some j ↦ deletes j op ] ]) g
-                ∙ ap (λ o. elim o [ None ↦ false | Some j ↦ deletes j op ]) i in
+            ap (λ o. elim o [ None ↦ false | Some m ↦ withdraws_note h m op ]) is
+            ∙ ap (λ o. elim o [ None ↦ false | Some t ↦ elim (id_of t) [ None ↦ false | Some j ↦ deletes j op ] ]) g
+            ∙ ap (λ o. elim o [ None ↦ false | Some j ↦ deletes j op ]) i in
             ap (λ o. elim o [ None ↦ true | Some j ↦ not (is_hidden new j) ]) i
             ∙ ap not (none_hides x new (All-weaker (λ op. withdraws h r name op ≡ false) (λ op. deletes x op ≡ false) (λ op k. sym (one op) ∙ k) new each))

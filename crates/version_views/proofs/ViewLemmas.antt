@@ -1,11 +1,11 @@
 -- What the operations that were accepted first have, read off the lists of all.
-use Rattle.version_views.proofs.Words.{Bool, Identifier, Lawful, List, Op, Place, [], ap, arith, cond, drop, filter, holds, has_op, is_hidden, length, length-append, manuscript, not, order, refl, subst, sym, take, take-append-drop, true, ℕ, ◌&&◌, ◌++◌, ◌+◌, ◌-◌, ◌∙◌, ◌∷◌, ◌≡◌, ◌≤◌, false}
+use Rattle.version_views.proofs.Words.{Bool, Identifier, Lawful, List, Op, [], ap, arith, cond, drop, filter, holds, has_op, is_hidden, length, length-append, manuscript, not, order, refl, subst, sym, take, take-append-drop, true, ℕ, ◌&&◌, ◌++◌, ◌+◌, ◌-◌, ◌∙◌, ◌∷◌, ◌≡◌, ◌≤◌, false}
 use Rattle.origin_model.proofs.SharedLemmas.{Lawful-append, has-append, parts_keep_order}
 use Rattle.std.proofs.Math.Seq.{drop-append-add}
 use Rattle.origin_model.specs.order.Laws.{IsPartOf}
 use Rattle.std.proofs.lemmas.Bool.{or_right}
-use Rattle.version_views.specs.Laws.{FirstByFilter, LaterOpsLeaveView, OrderByFilter, ShownByFilter, is_shown}
-use Rattle.version_views.specs.Views.{first_ops, view}
+use Rattle.version_views.specs.Laws.{FirstByFilter, LaterOpsLeaveView, OrderByFilter, ShownByFilter}
+use Rattle.version_views.specs.Views.{first_ops}
 
 -- the older operations are a part of all
 pub part_of : (new h : List Op) → IsPartOf h (new ++ h)

@@ -1,5 +1,5 @@
 -- Laws of versions and views.
-use Rattle.std.specs.Prelude.{◌≡◌, ◌<◌, ◌≤◌, ℕ, Some, Bool, true, false, not, ◌&&◌, All, List, ◌++◌, filter, length}
+use Rattle.std.specs.Prelude.{◌≡◌, ◌<◌, ◌≤◌, ℕ, Some, Bool, true, not, ◌&&◌, All, List, ◌++◌, filter, length}
 use Rattle.fugue_ids.specs.Identifiers.{Identifier}
 use Rattle.fugue_ids.specs.declared.op.Op.{Op}
 use Rattle.origin_model.specs.declared.operations.Place.{Place}
