@@ -3,6 +3,7 @@ use Rattle.fugue_ids.specs.declared.op.Op.{Op}
 use Rattle.causal_inbox.specs.Waiting.{Waiting}
 use Rattle.origin_model.specs.taking.Taking.{answer, Accepted, Full, Waits}
 use Rattle.origin_model.specs.edits.State.{State, Stands}
+use Rattle.origin_model.proofs.SharedLemmas.{accepted_is_ready}
 use Rattle.replica_core.specs.Replica.{replica_state}
 use Rattle.replica_core.specs.Due.{due_marks}
 use Rattle.replica_core.proofs.DecisionLemmas.{may_wait, may_wait-decided, waits_undecided}
@@ -25,6 +26,12 @@ woken : (s now : State) (new : List Op) (op : Op) (before after : Waiting) → s
 woken s now new op before after same waiting left answered is stands =
     let ops_of : Waiting → List Op = λ i. i.ops in
     subst (λ (w : List Op). Stands (record s { held = record { history = new; waiting = w } })) (sym (ap ops_of left ∙ waiting)) (accepts s now new op same answered is stands)
+
+pub accept-requires-clause-ready : goal.accept-requires-clause-ready
+accept-requires-clause-ready c =
+    let i = c.self.inside in
+    let s : State = replica_state i.number i.hold i.most i.accepted i.inbox in
+    accepted_is_ready s.hold s.most s.held c.args.op (subst (λ (x : State). answer x.hold x.most x.held c.args.op ≡ Accepted) (sym c.self.view_is) c.in-Ready.ensures)
 
 pub open_and_wake-requires-clause-once : goal.open_and_wake-requires-clause-once
 open_and_wake-requires-clause-once c =

@@ -1,0 +1,10 @@
+use Rattle.std.proofs.Common.{subst}
+use Rattle.origin_model.specs.edits.State.{State}
+use Rattle.section_catalogue.specs.Manuscript.{LookUpsAgree}
+use Rattle.section_catalogue.proofs.ShownLemmas.{look_ups_agree}
+use Rattle.replica_core.proofs.replica.Replica.places.Goals as goal
+
+pub returns-clause-lists : goal.returns-clause-lists
+returns-clause-lists c =
+    let m = c.places.result.now in
+    subst (λ (s : State). LookUpsAgree m s.held.history) c.self.view_is (look_ups_agree m c.self.inside.accepted c.places.ensures)
