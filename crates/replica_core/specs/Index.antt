@@ -15,6 +15,11 @@ abbrev pub position_of : (Op → Bool) → List Op → Option ℕ
 position_of test [] = None
 position_of test (op ∷ older) = if test op then Some (length older) else position_of test older
 
+-- an operation is looked up by the key
+abbrev pub has_key : OpKey → Op → Bool
+has_key (Own i) op = is_own i op
+has_key (Target i) op = deletes i op
+
 abbrev pub as_position : ℕ → Position
 as_position k = record { at = k }
 

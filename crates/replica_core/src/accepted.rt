@@ -7,12 +7,13 @@ ghost use Rattle.origin_model.specs.order.Printed.{manuscript as manuscript_on, 
 ghost use Rattle.origin_model.specs.operations.Verdict.{verdict as verdict_on, Lawful};
 ghost use Rattle.origin_model.specs.declared.operations.Place.TheVariants.{Catalogue as catalogue};
 ghost use Rattle.origin_model.specs.declared.operations.Verdict.TheVariants.{Ready};
+ghost use Rattle.replica_core.specs.Index.{has_key, position_of};
 ghost use Rattle.section_catalogue.specs.Contents.{place_count};
 ghost use Rattle.section_catalogue.specs.Manuscript.{GrowsBy, IsPlaceOf, IsReadyOn, IsTextOf, StandsFor, Stays};
 
 use crate::history::History;
 use crate::look_ups::ShownSection;
-use fugue_ids::{ElementId, Failed, MOST_OPERATIONS, NoMemory, Op};
+use fugue_ids::{ElementId, Failed, MOST_OPERATIONS, NoMemory, Op, OpKey};
 use origin_model::{Lookup, NoMemoryFor, Verdict, verdict_in};
 use outer_ports::Sink;
 use section_catalogue::Manuscript;
@@ -97,6 +98,13 @@ impl Accepted {
         ensures { result ≡ holds_on self.now id }
     {
         self.history.holder(id).is_some()
+    }
+
+    /// How many operations are older than the one that is looked up by the key.
+    pub fn position(&self, key: OpKey) -> Option<usize>
+        ensures { result ≡ position_of (has_key key) self.now }
+    {
+        self.history.position(key)
     }
 
     /// How many sections are shown.

@@ -3,9 +3,10 @@ ghost use Rattle.origin_model.specs.operations.History.{accepted};
 ghost use Rattle.origin_model.specs.operations.Counters.{counters, IsGreatest};
 ghost use Rattle.origin_model.specs.operations.Verdict.{verdict, Lawful};
 ghost use Rattle.origin_model.specs.declared.operations.Verdict.TheVariants.{Ready};
+ghost use Rattle.replica_core.specs.Index.{has_key, position_of};
 
 use crate::index::Index;
-use fugue_ids::{ElementId, Op};
+use fugue_ids::{ElementId, Op, OpKey};
 use origin_model::{Lookup, NoMemoryFor};
 use std::alloc::Global;
 use std::marker::Model;
@@ -70,6 +71,13 @@ impl History {
         ensures lawful { Lawful self.now }
     {
         self.ops.as_slice()
+    }
+
+    /// How many operations are older than the one that is looked up by the key.
+    pub fn position(&self, key: OpKey) -> Option<usize>
+        ensures { result ≡ position_of (has_key key) self.now }
+    {
+        self.index.find(key)
     }
 
     /// One operation more, which is Ready.

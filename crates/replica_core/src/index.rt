@@ -3,7 +3,7 @@ ghost use Rattle.std.specs.FinMap.{get};
 ghost use Rattle.fugue_ids.specs.declared.op.Op.{Op as AnyOp};
 ghost use Rattle.origin_model.specs.operations.Verdict.{verdict};
 ghost use Rattle.origin_model.specs.declared.operations.Verdict.TheVariants.{Ready};
-ghost use Rattle.replica_core.specs.Index.{IsIndex, IsUnnoted};
+ghost use Rattle.replica_core.specs.Index.{has_key, IsIndex, IsUnnoted, position_of};
 ghost use Rattle.stretch_map.specs.Rules.{IsGreatestIn};
 
 use fugue_ids::{ElementId, NoMemory, Op, OpKey};
@@ -33,6 +33,21 @@ impl Index {
         ensures { result ≡ option_map (λ p. p.at) (get self.now.positions.values id) }
     {
         match self.positions.get(id) {
+            Some(position) => Some(position.at),
+            None => None,
+        }
+    }
+
+    /// The position of the operation that is looked up by the key.
+    pub fn find(&self, key: OpKey) -> Option<usize>
+        ensures { (h : List AnyOp) → IsIndex self.now.positions.values self.now.targets.values h
+            → result ≡ position_of (has_key key) h }
+    {
+        let found = match key {
+            OpKey::Own(id) => self.positions.get(id),
+            OpKey::Target(target) => self.targets.get(target),
+        };
+        match found {
             Some(position) => Some(position.at),
             None => None,
         }

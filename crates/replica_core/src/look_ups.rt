@@ -4,13 +4,14 @@ ghost use Rattle.std.specs.Str.{encode_utf8_all};
 ghost use Rattle.origin_model.specs.operations.History.{holds as holds_on};
 ghost use Rattle.origin_model.specs.order.Printed.{shown, text as text_on};
 ghost use Rattle.origin_model.specs.declared.operations.Place.TheVariants.{Catalogue as catalogue, Section as within};
+ghost use Rattle.replica_core.specs.Index.{has_key, position_of};
 ghost use Rattle.section_list.specs.Cells.{section_text as text_in};
 ghost use Rattle.section_catalogue.specs.Manuscript.{IsPlaceOf, IsTextOf, LookUpsAgree, StandsFor};
 ghost use Rattle.origin_model.specs.edits.Refusal.{section_shown};
 ghost use Rattle.origin_model.specs.edits.State.{Stands};
 
 use crate::Replica;
-use fugue_ids::{ElementId, NoMemory};
+use fugue_ids::{ElementId, NoMemory, OpKey};
 use outer_ports::MemSink;
 use section_catalogue::Manuscript;
 use section_list::SectionList;
@@ -56,6 +57,15 @@ impl Replica {
         ensures stands { Stands self.now }
     {
         self.accepted.holds(id)
+    }
+
+    /// How many operations were accepted before the one that is looked up by the key. A `Delete` is looked up by its
+    /// target.
+    pub fn position(&self, key: OpKey) -> Option<usize>
+        ensures position { result ≡ position_of (has_key key) self.now.held.history }
+        ensures stands { Stands self.now }
+    {
+        self.accepted.position(key)
     }
 
     /// How many sections are shown.

@@ -1,0 +1,4 @@
+mod Words
+mod Examples
+pub mod ViewLemmas
+pub mod VersionLemmas

@@ -1,0 +1,162 @@
+-- The version with a name, found from the newest operation on, and what later operations leave of it.
+use Rattle.version_views.proofs.Words.{All, All-head, All-tail, All-weaker, Bool, Identifier, List, None, Op, Option, Some, [], ap, append-nil, arith, cases_Bool, deletes, eq-eqb, false, id_of, if◌then◌else◌, inl, inr, is_hidden, length, nat_eq, ne_eqb, not, option_map, option_to_list, pointwise, refl, sym, true, true≢false, ℕ, ◌&&◌, ◌++◌, ◌<◌, ◌∙◌, ◌∷◌, ◌≡◌, ◌||◌}
+use Rattle.std.proofs.lemmas.Bool.{or_right}
+use Rattle.version_views.specs.Laws.{LaterOpsLeaveVersion, VersionIsWithin, leaves_version}
+use Rattle.version_views.specs.Versions.{Version, is_version, is_withdrawn, last_named, name_given, name_in, op_behind, version_with, versions_up_to, withdraws, withdraws_note}
+
+abbrev count_of : Option Version → Option ℕ
+count_of o = option_map (λ v. v.count) o
+
+-- a version before others with the name is theirs, where they have one
+abbrev before_last : List ℕ → Version → Option Version → Option Version
+before_last name w o = elim o [ Some u ↦ Some u | None ↦ if pointwise nat_eq w.name name then Some w else None ]
+
+-- the last version of a list with one more is that one, where it has the name
+last_named-push : (name : List ℕ) (vs : List Version) (v : Version)
+    → last_named name (vs ++ v ∷ []) ≡ (if pointwise nat_eq v.name name then Some v else last_named name vs)
+last_named-push name [] v = refl
+last_named-push name (w ∷ vs) v =
+    ap (before_last name w) (last_named-push name vs v)
+    ∙ elim (pointwise nat_eq v.name name) as (λ (b : Bool). before_last name w (if b then Some v else last_named name vs) ≡ (if b then Some v else last_named name (w ∷ vs))) [ true ↦ refl | false ↦ refl ]
+
+-- the newest operation that is a version with the name: how many are before it
+abbrev newest : ℕ → List Op → List ℕ → List Op → Option ℕ
+newest r history name [] = None
+newest r history name (op ∷ older) = if is_version r history name op then Some (length older) else newest r history name older
+
+-- that one is the last of the versions with the name
+last_is_newest : (r : ℕ) (history : List Op) (name : List ℕ) (ops : List Op) → count_of (last_named name (versions_up_to r history ops)) ≡ newest r history name ops
+last_is_newest r history name [] = refl
+last_is_newest r history name (op ∷ older) =
+    let vs : List Version = versions_up_to r history older in
+    let rest : count_of (last_named name vs) ≡ newest r history name older = last_is_newest r history name older in
+    elim (name_in r history op) as (λ (o : Option (List ℕ)). count_of (last_named name (vs ++ option_to_list (option_map (λ n. record { name = n; count = length older }) o)))
+    ≡ (if (elim o [ None ↦ false | Some body ↦ pointwise nat_eq body name ]) then Some (length older) else newest r history name older)) [
+      | None ↦ ap (λ l. count_of (last_named name l)) (append-nil vs) ∙ rest
+      | Some body ↦ ap count_of (last_named-push name vs (record { name = body; count = length older }))
+          ∙ elim (pointwise nat_eq body name) as (λ (b : Bool). count_of (if b then Some (record { name = body; count = length older }) else last_named name vs)
+          ≡ (if b then Some (length older) else newest r history name older)) [ true ↦ refl | false ↦ rest ]
+    ]
+
+-- one that is found is among the operations
+newest_within : (r : ℕ) (history : List Op) (name : List ℕ) (ops : List Op) (n : ℕ) → newest r history name ops ≡ Some n → n < length ops
+newest_within r history name [] n e = cc
+newest_within r history name (op ∷ older) n e =
+    elim (cases_Bool (is_version r history name op)) [
+      | inl k ↦ let here : Some (length older) ≡ Some n = sym (ap (λ b. if b then Some (length older) else newest r history name older) k) ∙ e in
+          let same : length older ≡ n = cc here in omega (arith, same)
+      | inr k ↦ let there : newest r history name older ≡ Some n = sym (ap (λ b. if b then Some (length older) else newest r history name older) k) ∙ e in
+          omega (arith, newest_within r history name older n there)
+    ]
+
+pub version_is_within : VersionIsWithin
+version_is_within h r name n e = newest_within r h name h n (sym (last_is_newest r h name h) ∙ e)
+
+-- what a longer history hides
+hidden-append : (new h : List Op) (x : Identifier) → is_hidden (new ++ h) x ≡ (is_hidden new x || is_hidden h x)
+hidden-append [] h x = refl
+hidden-append (op ∷ new) h x =
+    elim (deletes x op) as (λ (b : Bool). (b || is_hidden (new ++ h) x) ≡ ((b || is_hidden new x) || is_hidden h x)) [ true ↦ refl | false ↦ hidden-append new h x ]
+
+-- the name of an operation, by whether it is withdrawn
+abbrev named_by : ℕ → List ℕ → Op → Bool → Bool
+named_by r name op b = elim (if b then None else name_given r op) [ None ↦ false | Some body ↦ pointwise nat_eq body name ]
+
+-- what is withdrawn stays so
+withdrawn_stays : (new h : List Op) (op : Op) → is_withdrawn h op ≡ true → is_withdrawn (new ++ h) op ≡ true
+withdrawn_stays new h op e =
+    elim (id_of op) as (λ (o : Option Identifier). (elim o [ None ↦ false | Some i ↦ is_hidden h i ]) ≡ true → (elim o [ None ↦ false | Some i ↦ is_hidden (new ++ h) i ]) ≡ true) [
+      | None ↦ λ k. k
+      | Some i ↦ λ k. hidden-append new h i ∙ or_right (is_hidden new i) (is_hidden h i) k
+    ] e
+
+-- what is no version becomes none
+none_stays : (r : ℕ) (new h : List Op) (name : List ℕ) (op : Op) → is_version r h name op ≡ false → is_version r (new ++ h) name op ≡ false
+none_stays r new h name op e =
+    elim (cases_Bool (is_withdrawn (new ++ h) op)) [
+      | inl k ↦ ap (named_by r name op) k
+      | inr k ↦ elim (cases_Bool (is_withdrawn h op)) [
+        | inl w ↦ absurd (true≢false (sym (withdrawn_stays new h op w) ∙ k))
+        | inr w ↦ ap (named_by r name op) (k ∙ sym w) ∙ e
+      ]
+    ]
+
+-- an operation that no later one withdraws is withdrawn as before
+abbrev kept_by : List Op → Op → Bool
+kept_by new op = elim (id_of op) [ None ↦ true | Some i ↦ not (is_hidden new i) ]
+
+withdrawn_same : (new h : List Op) (op : Op) → kept_by new op ≡ true → is_withdrawn (new ++ h) op ≡ is_withdrawn h op
+withdrawn_same new h op e =
+    elim (id_of op) as (λ (o : Option Identifier). (elim o [ None ↦ true | Some i ↦ not (is_hidden new i) ]) ≡ true
+    → (elim o [ None ↦ false | Some i ↦ is_hidden (new ++ h) i ]) ≡ (elim o [ None ↦ false | Some i ↦ is_hidden h i ])) [
+      | None ↦ λ k. refl
+      | Some i ↦ λ k. hidden-append new h i ∙ ap (λ b. b || is_hidden h i) (not_true (is_hidden new i) k)
+    ] e
+  where
+    not_true : (b : Bool) → not b ≡ true → b ≡ false
+    not_true true k = cc
+    not_true false k = refl
+
+-- where the newest version of some operations is kept, it is found in a longer history too
+newest_stays : (r : ℕ) (new h : List Op) (name : List ℕ) (ops : List Op)
+    → ((n : ℕ) (note : Op) → newest r h name ops ≡ Some n → op_behind ops n ≡ Some note → kept_by new note ≡ true)
+    → newest r (new ++ h) name ops ≡ newest r h name ops
+newest_stays r new h name [] f = refl
+newest_stays r new h name (op ∷ older) f =
+    let step : (List Op) → Bool → Option ℕ = λ g b. if b then Some (length older) else newest r g name older in
+    elim (cases_Bool (is_version r h name op)) [
+      | inl k ↦
+          let found : newest r h name (op ∷ older) ≡ Some (length older) = ap (step h) k in
+          let at : op_behind (op ∷ older) (length older) ≡ Some op = ap (λ b. if b then Some op else op_behind older (length older)) (eq-eqb (length older) (length older) refl) in
+          let same : is_withdrawn (new ++ h) op ≡ is_withdrawn h op = withdrawn_same new h op (f (length older) op found at) in
+          ap (step (new ++ h)) (ap (named_by r name op) same ∙ k) ∙ sym found
+      | inr k ↦
+          ap (step (new ++ h)) (none_stays r new h name op k)
+          ∙ newest_stays r new h name older (λ n note e g. f n note (ap (step h) k ∙ e)
+          (ap (λ b. if b then Some op else op_behind older n) (ne_eqb (length older) n (λ d. omega (arith, d, newest_within r h name older n e))) ∙ g))
+          ∙ sym (ap (step h) k)
+    ]
+
+-- operations of which none is a version with the name are passed over
+passed_over : (r : ℕ) (h : List Op) (name : List ℕ) (front back : List Op) → All (λ op. is_version r h name op ≡ false) front → newest r h name (front ++ back) ≡ newest r h name back
+passed_over r h name [] back a = refl
+passed_over r h name (op ∷ front) back a =
+    ap (λ b. if b then Some (length (front ++ back)) else newest r h name (front ++ back)) (All-head (λ o. is_version r h name o ≡ false) op front a)
+    ∙ passed_over r h name front back (All-tail (λ o. is_version r h name o ≡ false) op front a)
+
+-- what each of some operations does not hide is not hidden by them
+none_hides : (x : Identifier) (new : List Op) → All (λ op. deletes x op ≡ false) new → is_hidden new x ≡ false
+none_hides x [] a = refl
+none_hides x (op ∷ new) a =
+    ap (λ b. b || is_hidden new x) (All-head (λ o. deletes x o ≡ false) op new a) ∙ none_hides x new (All-tail (λ o. deletes x o ≡ false) op new a)
+
+-- both parts of a test that fails both
+neither : (a b : Bool) → (not a && not b) ≡ true → (a ≡ false) × (b ≡ false)
+neither true b e = cc
+neither false true e = cc
+neither false false e = (refl, refl)
+
+pub later_ops_leave_version : LaterOpsLeaveVersion
+later_ops_leave_version r name new h a =
+    last_is_newest r (new ++ h) name (new ++ h)
+    ∙ passed_over r (new ++ h) name new h (All-weaker (λ op. leaves_version new h r name op ≡ true) (λ op. is_version r (new ++ h) name op ≡ false)
+    (λ op k. (neither (is_version r (new ++ h) name op) (withdraws h r name op) k).0) new a)
+    ∙ newest_stays r new h name h kept
+    ∙ sym (last_is_newest r h name h)
+  where
+    kept : (n : ℕ) (note : Op) → newest r h name h ≡ Some n → op_behind h n ≡ Some note → kept_by new note ≡ true
+    kept n note e g =
+        let is : version_with h r name ≡ Some n = last_is_newest r h name h ∙ e in
+        let each : All (λ op. withdraws h r name op ≡ false) new = All-weaker (λ op. leaves_version new h r name op ≡ true) (λ op. withdraws h r name op ≡ false)
+        (λ op k. (neither (is_version r (new ++ h) name op) (withdraws h r name op) k).1) new a in
+        by_id (id_of note) refl is each
+      where
+        by_id : (o : Option Identifier) → id_of note ≡ o → version_with h r name ≡ Some n → All (λ op. withdraws h r name op ≡ false) new → kept_by new note ≡ true
+        by_id None i is each = ap (λ o. elim o [ None ↦ true | Some j ↦ not (is_hidden new j) ]) i
+        by_id (Some x) i is each =
+            let one : (op : Op) → withdraws h r name op ≡ deletes x op = λ op.
+            ap (λ o. elim o [ None ↦ false | Some m ↦ withdraws_note h m op ]) is
+            ∙ ap (λ o. elim o [ None ↦ false | Some t ↦ elim (id_of t) [ None ↦ false | Some j ↦ deletes j op ] ]) g
+            ∙ ap (λ o. elim o [ None ↦ false | Some j ↦ deletes j op ]) i in
+            ap (λ o. elim o [ None ↦ true | Some j ↦ not (is_hidden new j) ]) i
+            ∙ ap not (none_hides x new (All-weaker (λ op. withdraws h r name op ≡ false) (λ op. deletes x op ≡ false) (λ op k. sym (one op) ∙ k) new each))

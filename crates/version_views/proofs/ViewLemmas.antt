@@ -1,0 +1,48 @@
+-- What the operations that were accepted first have, read off the lists of all.
+use Rattle.version_views.proofs.Words.{Bool, Identifier, Lawful, List, Op, [], ap, arith, cond, drop, filter, holds, has_op, is_hidden, length, length-append, manuscript, not, order, refl, subst, sym, take, take-append-drop, true, ℕ, ◌&&◌, ◌++◌, ◌+◌, ◌-◌, ◌∙◌, ◌∷◌, ◌≡◌, ◌≤◌, false}
+use Rattle.origin_model.proofs.SharedLemmas.{Lawful-append, has-append, parts_keep_order}
+use Rattle.std.proofs.Math.Seq.{drop-append-add}
+use Rattle.origin_model.specs.order.Laws.{IsPartOf}
+use Rattle.std.proofs.lemmas.Bool.{or_right}
+use Rattle.version_views.specs.Laws.{FirstByFilter, LaterOpsLeaveView, OrderByFilter, ShownByFilter}
+use Rattle.version_views.specs.Views.{first_ops}
+
+-- the older operations are a part of all
+pub part_of : (new h : List Op) → IsPartOf h (new ++ h)
+part_of new h op e = has-append new h op ∙ or_right (has_op new op) (has_op h op) e
+
+-- the order of a lawful front is the order of the whole, filtered
+pub order_by_filter : OrderByFilter
+order_by_filter p new h w = (parts_keep_order p h (new ++ h) (Lawful-append new h w) w (λ op. part_of new h op)).same_order
+
+-- what passes two tests, one after the other
+filter-both : (f g : Identifier → Bool) (xs : List Identifier) → filter g (filter f xs) ≡ filter (λ x. f x && g x) xs
+filter-both f g [] = refl
+filter-both f g (x ∷ xs) =
+    elim (f x) as (λ (b : Bool). filter g (cond b (x ∷ filter f xs) (filter f xs)) ≡ cond (b && g x) (x ∷ filter (λ y. f y && g y) xs) (filter (λ y. f y && g y) xs)) [
+      | true ↦ ap (λ (t : List Identifier). cond (g x) (x ∷ t) t) (filter-both f g xs)
+      | false ↦ filter-both f g xs
+    ]
+
+pub shown_by_filter : ShownByFilter
+shown_by_filter p new h w =
+    ap (filter (λ x. not (is_hidden h x))) (order_by_filter p new h w) ∙ filter-both (holds h) (λ x. not (is_hidden h x)) (order p (new ++ h))
+
+-- the operations behind the first n, and these
+pub parts : (n : ℕ) (h : List Op) → take (length h - n) h ++ first_ops n h ≡ h
+parts n h = take-append-drop (length h - n) h
+
+pub first_by_filter : FirstByFilter
+first_by_filter p n h w =
+    let new : List Op = take (length h - n) h in
+    subst (λ whole. order p (first_ops n h) ≡ filter (holds (first_ops n h)) (order p whole)) (parts n h)
+    (order_by_filter p new (first_ops n h) (subst Lawful (sym (parts n h)) w))
+
+-- the first operations are the same ones later
+pub first_stay : (n : ℕ) (new h : List Op) → n ≤ length h → first_ops n (new ++ h) ≡ first_ops n h
+first_stay n new h l =
+    let e : length (new ++ h) - n ≡ length new + (length h - n) = omega (arith, length-append new h, l) in
+    ap (λ k. drop k (new ++ h)) e ∙ drop-append-add new h (length h - n)
+
+pub later_ops_leave_view : LaterOpsLeaveView
+later_ops_leave_view n new h l = ap manuscript (first_stay n new h l)

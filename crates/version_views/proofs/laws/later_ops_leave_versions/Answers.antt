@@ -1,0 +1,12 @@
+use Rattle.version_views.proofs.VersionLemmas.{later_ops_leave_version, version_is_within}
+use Rattle.version_views.proofs.ViewLemmas.{later_ops_leave_view}
+use Rattle.version_views.proofs.laws.later_ops_leave_versions.Goals as goal
+
+pub returns-clause-version : goal.returns-clause-version
+returns-clause-version c = later_ops_leave_version
+
+pub returns-clause-view : goal.returns-clause-view
+returns-clause-view c = later_ops_leave_view
+
+pub returns-clause-within : goal.returns-clause-within
+returns-clause-within c = version_is_within

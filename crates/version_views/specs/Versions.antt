@@ -1,0 +1,73 @@
+-- Named versions of a file: notes of code 4 without names, made by the file's own replica. A history is newest first.
+use Rattle.std.specs.Prelude.{ℕ, nat_eq, nat_le, nat_lt, Option, Some, None, Bool, false, if◌then◌else◌, not, ◌&&◌, List, [], ◌∷◌, ◌++◌, length, option_map, option_to_list}
+use Rattle.std.specs.Str.{is_utf8}
+use Rattle.fugue_ids.specs.Ops.{id_of}
+use Rattle.fugue_ids.specs.Titles.{has_line_end}
+use Rattle.fugue_ids.specs.declared.op.Op.{Op}
+use Rattle.fugue_ids.specs.declared.op.Op.TheVariants.{Note}
+use Rattle.origin_model.specs.order.Printed.{deletes, is_hidden}
+use Rattle.version_views.specs.declared.limits.TheConstants.{LONGEST_NAME, VERSION_CODE}
+use lib.Pointwise.{pointwise}
+
+-- a name, and how many operations were accepted before it was given
+pub record Version : Type 0 where
+  pub name : List ℕ
+  pub count : ℕ
+
+-- the bytes are a name: UTF-8 of 1 to 120 bytes without LF and CR
+abbrev pub is_name : List ℕ → Bool
+is_name bytes = is_utf8 bytes && nat_lt 0 (length bytes) && nat_le (length bytes) LONGEST_NAME && not (has_line_end bytes)
+
+-- the name that an operation gives in a file of the replica r
+abbrev pub name_given : ℕ → Op → Option (List ℕ)
+name_given r (Note id [] code body) = if nat_eq code VERSION_CODE && nat_eq id.replica r && is_name body then Some body else None
+name_given r _ = None
+
+-- a Delete of the history withdraws the note
+abbrev pub is_withdrawn : List Op → Op → Bool
+is_withdrawn history op = elim (id_of op) [ None ↦ false | Some i ↦ is_hidden history i ]
+
+-- the name of the version that an operation is
+abbrev pub name_in : ℕ → List Op → Op → Option (List ℕ)
+name_in r history op = if is_withdrawn history op then None else name_given r op
+
+-- those of the oldest operations, where the whole history tells what is withdrawn
+abbrev pub versions_up_to : ℕ → List Op → List Op → List Version
+versions_up_to r history [] = []
+versions_up_to r history (op ∷ older) = versions_up_to r history older ++ option_to_list (option_map (λ name. record { name = name; count = length older }) (name_in r history op))
+
+-- the versions of a file of the replica r, in the order in which they were named
+abbrev pub versions : List Op → ℕ → List Version
+versions history r = versions_up_to r history history
+
+-- the last of some versions with this name
+abbrev pub last_named : List ℕ → List Version → Option Version
+last_named name [] = None
+last_named name (v ∷ vs) = elim (last_named name vs) [
+  | Some w ↦ Some w
+  | None ↦ if pointwise nat_eq v.name name then Some v else None
+]
+
+-- the version with the name is the last one: how many operations it has
+abbrev pub version_with : List Op → ℕ → List ℕ → Option ℕ
+version_with history r name = option_map (λ v. v.count) (last_named name (versions history r))
+
+-- the operation is a version with this name
+abbrev pub is_version : ℕ → List Op → List ℕ → Op → Bool
+is_version r history name op = elim (name_in r history op) [ None ↦ false | Some body ↦ pointwise nat_eq body name ]
+
+-- the operation that has n before it
+abbrev pub op_behind : List Op → ℕ → Option Op
+op_behind [] n = None
+op_behind (op ∷ older) n = if nat_eq (length older) n then Some op else op_behind older n
+
+-- an operation withdraws the note that follows the first n operations
+abbrev pub withdraws_note : List Op → ℕ → Op → Bool
+withdraws_note history n op = elim (op_behind history n) [
+  | None ↦ false
+  | Some note ↦ elim (id_of note) [ None ↦ false | Some i ↦ deletes i op ]
+]
+
+-- an operation withdraws the version with the name
+abbrev pub withdraws : List Op → ℕ → List ℕ → Op → Bool
+withdraws history r name op = elim (version_with history r name) [ None ↦ false | Some n ↦ withdraws_note history n op ]

@@ -1,0 +1,21 @@
+-- The manuscript of the operations that were accepted first, and what is written of the versions of a file.
+use Rattle.std.specs.Prelude.{ℕ, ◌-◌, List, ◌++◌, [], ◌∷◌, decimal, drop, flat_map, length}
+use Rattle.fugue_ids.specs.declared.op.Op.{Op}
+use Rattle.origin_model.specs.order.Printed.{manuscript}
+use Rattle.version_views.specs.Versions.{Version, versions}
+
+-- the n operations that were accepted first
+abbrev pub first_ops : ℕ → List Op → List Op
+first_ops n history = drop (length history - n) history
+
+-- what is written of a version: the manuscript of its operations
+abbrev pub view : List Op → ℕ → List ℕ
+view history n = manuscript (first_ops n history)
+
+-- the line of a version: how many operations it has, a space, its name, LF
+abbrev pub version_line : Version → List ℕ
+version_line v = decimal v.count ++ 32 ∷ v.name ++ 10 ∷ []
+
+-- the lines of a file's versions
+abbrev pub versions_text : List Op → ℕ → List ℕ
+versions_text history r = flat_map version_line (versions history r)

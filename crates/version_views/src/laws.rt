@@ -1,0 +1,19 @@
+//! Laws of versions and views: each function takes and answers nothing, and its clauses are the law.
+
+ghost use Rattle.version_views.specs.Laws.{OrderByFilter, ShownByFilter, FirstByFilter};
+ghost use Rattle.version_views.specs.Laws.{LaterOpsLeaveVersion, LaterOpsLeaveView, VersionIsWithin};
+
+/// The order of the operations that were accepted first is the order of all, without the elements that they lack; what
+/// they show is found there too.
+pub fn view_by_filter()
+    ensures order { OrderByFilter }
+    ensures shown { ShownByFilter }
+    ensures first { FirstByFilter }
+{}
+
+/// Later operations leave what is written of a version, unless they withdraw it or bring another one with its name.
+pub fn later_ops_leave_versions()
+    ensures version { LaterOpsLeaveVersion }
+    ensures view { LaterOpsLeaveView }
+    ensures within { VersionIsWithin }
+{}

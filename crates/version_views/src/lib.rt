@@ -1,0 +1,8 @@
+//! Named versions of a manuscript, and what it said then.
+#![tactic(auto)]
+
+mod laws;
+mod limits;
+
+pub use laws::{later_ops_leave_versions, view_by_filter};
+pub use limits::{LONGEST_NAME, VERSION_CODE};
