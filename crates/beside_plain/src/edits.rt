@@ -1,27 +1,45 @@
 //! Edits of a replica: what they answer, make and show, by value.
 
 use crate::assertions::{equal, equal_at, holds_at};
-use crate::op_lines::Line::{Delete, Section, Text};
-use crate::op_lines::{Line, NONE, SECTION, T, id, op};
+use crate::op_lines::Line::{self, Delete, Section, Text};
+use crate::op_lines::{CODE, NONE, SECTION, T, id, op};
 use crate::replicas::{feed_lines, writes};
-use fugue_ids::Title;
+use fugue_ids::{Body, NoteNames, Title};
 use replica_core::{EditFault, Replica, Tally};
 use std::alloc::Global;
 use std::process::Abort;
 use std::test::Fail;
 
-/// An edit, by positions in what is shown.
+/// An edit, by positions in what is shown. A note is made on the element at the position.
 #[derive(Clone, Copy, Debug)]
 pub enum Edit {
     Put(usize, usize, &'static str),
     Cut(usize, usize, usize),
     Add(usize, &'static str),
     Drop(usize),
+    Note(usize, usize),
 }
 
-use Edit::{Add, Cut, Drop, Put};
+use Edit::{Add, Cut, Drop, Note, Put};
 
 pub type Answer = Result<u32, EditFault>;
+
+/// The body of the notes that are made.
+pub const BODY: &str = "n";
+
+fn note(
+    rt: &impl Abort,
+    alloc: Global,
+    replica: &mut Replica,
+    section: usize,
+    at: usize,
+) -> Result<Answer, Fail> {
+    let on = replica.scalar_at(section, at).expect(rt, "an element");
+    let names = NoteNames::read(&[on]).expect(rt, "one name");
+    let body = Body::read(alloc, BODY.as_bytes())?;
+    assert!(rt; replica.is_settled() && replica.holds(on));
+    Ok(replica.note(names, CODE, body))
+}
 
 pub fn make(
     rt: &impl Abort,
@@ -35,6 +53,7 @@ pub fn make(
         Cut(section, at, n) => Ok(replica.cut(section, at, n)),
         Add(at, title) => Ok(replica.add(at, Title::read(alloc, title)?)),
         Drop(section) => Ok(replica.drop_section(section)),
+        Note(section, at) => note(rt, alloc, replica, section, at),
     }
 }
 
@@ -108,6 +127,7 @@ const ROWS: &[Row] = &[
             (Cut(0, 0, 1), Err(EditFault::TooMany(3))),
             (Add(1, "U"), Err(EditFault::TooMany(3))),
             (Drop(0), Err(EditFault::TooMany(3))),
+            (Note(0, 1), Err(EditFault::TooMany(3))),
             (Put(0, 2, ""), Ok(0)),
             (Cut(0, 2, 0), Ok(0)),
         ],
@@ -129,6 +149,7 @@ const ROWS: &[Row] = &[
             (Put(0, 0, "yyyyy"), SPENT),
             (Put(0, 2, "y"), OUT_OF_RANGE),
             (Add(0, "U"), SPENT),
+            (Note(0, 0), SPENT),
             (Put(0, 0, ""), Ok(0)),
             (Cut(0, 0, 1), Ok(1)),
             (Drop(0), Ok(1)),
@@ -158,12 +179,13 @@ const ROWS: &[Row] = &[
         text: "# T\nA-B\n",
         ..FRESH
     },
-    // A text in front of a deleted one, behind an identifier that waits.
+    // A note on a text that is deleted then, and a text in front of that one, behind an identifier that waits.
     Row {
         lines: &[T, WAITING],
         waiting: 1,
         edits: &[
             (Put(0, 0, "AB"), Ok(2)),
+            (Note(0, 1), Ok(1)),
             (Cut(0, 1, 1), Ok(1)),
             (Put(0, 1, "C"), Ok(1)),
             (Add(1, "U"), Ok(1)),
@@ -174,9 +196,10 @@ const ROWS: &[Row] = &[
             T,
             Text((1, 1), SECTION, NONE, NONE, 'A'),
             Text((1, 2), SECTION, (1, 1), NONE, 'B'),
+            Line::Note((1, 3), &[(1, 2)], BODY),
             Delete((1, 2)),
-            Text((1, 3), SECTION, (1, 1), (1, 2), 'C'),
-            Section((1, 4), SECTION, NONE, "U"),
+            Text((1, 4), SECTION, (1, 1), (1, 2), 'C'),
+            Section((1, 5), SECTION, NONE, "U"),
             Delete(SECTION),
         ]),
         ..FRESH

@@ -6,8 +6,6 @@ mod any_order;
 #[cfg(test)]
 mod assertions;
 #[cfg(test)]
-mod beside;
-#[cfg(test)]
 mod bulk_turns;
 #[cfg(test)]
 mod edits;

@@ -1,11 +1,12 @@
 //! What an edit makes, beside a plain program of the definitions.
 
 use crate::assertions::{equal_at, holds_at};
-use crate::edits::Edit::{self, Add, Cut, Drop, Put};
-use crate::edits::make;
+use crate::edits::Edit::{self, Add, Cut, Drop, Note, Put};
+use crate::edits::{BODY, make};
+use crate::op_lines::CODE;
 use crate::plain::Plain;
 use crate::pools::{POOL, is_beside, keep_beside};
-use fugue_ids::{ElementId, Op, Title};
+use fugue_ids::{Body, ElementId, NoteNames, Op, Title};
 use origin_model::{Place, names_of};
 use replica_core::Replica;
 use std::alloc::Global;
@@ -72,6 +73,10 @@ fn next_counter(plain: &Plain) -> u32 {
     next
 }
 
+fn next_id(rt: &impl Abort, plain: &Plain) -> ElementId {
+    ElementId::new(NUMBER, next_counter(plain)).expect(rt, "a replica")
+}
+
 /// Where an element comes in: behind the shown element in front of the position, before the next one of all.
 fn spot_at(rt: &impl Abort, plain: &Plain, place: &Place, at: usize) -> Result<Spot, Fail> {
     let shown = plain.accepted.shown(*place)?;
@@ -81,8 +86,11 @@ fn spot_at(rt: &impl Abort, plain: &Plain, place: &Place, at: usize) -> Result<S
         Some(left) => all.iter().skip_while(|id| **id != left).nth(1).copied(),
         None => all.first().copied(),
     };
-    let id = ElementId::new(NUMBER, next_counter(plain)).expect(rt, "a replica");
-    Ok(Spot { id, left, right })
+    Ok(Spot {
+        id: next_id(rt, plain),
+        left,
+        right,
+    })
 }
 
 fn section_at(rt: &impl Abort, plain: &Plain, section: usize) -> Result<ElementId, Fail> {
@@ -138,6 +146,24 @@ fn new_section(
     })
 }
 
+fn new_note(
+    rt: &impl Abort,
+    alloc: Global,
+    plain: &Plain,
+    section: usize,
+    at: usize,
+) -> Result<Op, Fail> {
+    let section = section_at(rt, plain, section)?;
+    let shown = plain.accepted.shown(Place::Section(section))?;
+    let on = shown.get(at).copied().expect(rt, "an element");
+    Ok(Op::Note {
+        id: next_id(rt, plain),
+        names: NoteNames::read(&[on]).expect(rt, "one name"),
+        code: CODE,
+        body: Body::read(alloc, BODY.as_bytes())?,
+    })
+}
+
 /// The operations of an edit that is not refused.
 fn made_of(rt: &impl Abort, alloc: Global, plain: &Plain, edit: Edit) -> Result<Vec<Op>, Fail> {
     match edit {
@@ -148,6 +174,7 @@ fn made_of(rt: &impl Abort, alloc: Global, plain: &Plain, edit: Edit) -> Result<
         }
         Add(at, title) => Ok(vec![in alloc; new_section(rt, alloc, plain, at, title)?]?),
         Drop(section) => deletes(alloc, plain, &Place::Catalogue, section, 1),
+        Note(section, at) => Ok(vec![in alloc; new_note(rt, alloc, plain, section, at)?]?),
     }
 }
 
@@ -172,6 +199,7 @@ const EDITS: &[Edit] = &[
     Put(0, 1, "mn"),
     Cut(0, 1, 2),
     Put(0, 0, "k"),
+    Note(0, 0),
     Add(1, "V"),
     Put(1, 0, "o"),
     Put(0, 3, "pq"),

@@ -1,13 +1,16 @@
 //! A manuscript lists, shows and prints what the plain replica does.
 
 use crate::assertions::{equal, holds_at};
-use crate::beside::{Beside, fill};
-use crate::op_lines::Line::{Delete, Section, Text};
-use crate::op_lines::{A, B, BACKWARDS, D, HIDDEN, Line, NONE, Name, OTHER, SECTION, T, X, Y, id};
-use crate::plain::prints;
+use crate::op_lines::Line::{Delete, Note, Section, Text};
+use crate::op_lines::{
+    A, B, BACKWARDS, D, HIDDEN, Line, NONE, Name, OTHER, SECTION, T, X, Y, id, op,
+};
+use crate::plain::{Plain, prints};
+use crate::pools::step_beside;
 use fugue_ids::ElementId;
-use origin_model::Place;
+use origin_model::{Place, PlainReplica};
 use outer_ports::MemSink;
+use replica_core::{Replica, Tally};
 use section_catalogue::Manuscript;
 use section_list::SectionList;
 use std::alloc::Global;
@@ -37,10 +40,10 @@ fn visible(alloc: Global, list: &SectionList) -> Result<Vec<ElementId>, Fail> {
     Ok(found)
 }
 
-fn shown_sections(alloc: Global, beside: &Beside) -> Result<Vec<ElementId>, Fail> {
+fn shown_sections(alloc: Global, manuscript: &Manuscript) -> Result<Vec<ElementId>, Fail> {
     let mut found = Vec::new(alloc);
-    for k in 0..beside.manuscript.section_count() {
-        found.extend(beside.manuscript.section_at(k))?;
+    for k in 0..manuscript.section_count() {
+        found.extend(manuscript.section_at(k))?;
     }
     Ok(found)
 }
@@ -54,15 +57,16 @@ fn same(rt: &impl Abort, found: &[ElementId], wanted: &[ElementId]) {
 fn compare_place(
     rt: &impl Abort,
     alloc: Global,
-    beside: &Beside,
+    manuscript: &Manuscript,
+    plain: &PlainReplica,
     place: Place,
     list: &SectionList,
 ) -> Result<(), Fail> {
-    same(rt, &visible(alloc, list)?, &beside.replica.shown(place)?);
+    same(rt, &visible(alloc, list)?, &plain.shown(place)?);
     let all = elements(alloc, list)?;
-    same(rt, &all, &beside.replica.elements(place)?);
+    same(rt, &all, &plain.elements(place)?);
     for id in &all {
-        equal(rt, beside.manuscript.place_of(*id), Some(place));
+        equal(rt, manuscript.place_of(*id), Some(place));
     }
     Ok(())
 }
@@ -70,23 +74,29 @@ fn compare_place(
 fn compare_sections(
     rt: &impl Abort,
     alloc: Global,
-    beside: &Beside,
+    manuscript: &Manuscript,
+    plain: &PlainReplica,
     ids: &[ElementId],
 ) -> Result<(), Fail> {
     for id in ids {
-        let list = beside.manuscript.section(*id).expect(rt, "a section");
-        compare_place(rt, alloc, beside, Place::Section(*id), list)?;
+        let list = manuscript.section(*id).expect(rt, "a section");
+        compare_place(rt, alloc, manuscript, plain, Place::Section(*id), list)?;
     }
     Ok(())
 }
 
 /// Every place of the two, hidden sections too.
-fn compare_places(rt: &impl Abort, alloc: Global, beside: &Beside) -> Result<(), Fail> {
-    let catalogue = beside.manuscript.catalogue();
-    compare_place(rt, alloc, beside, Place::Catalogue, catalogue)?;
-    compare_sections(rt, alloc, beside, &elements(alloc, catalogue)?)?;
-    let shown = shown_sections(alloc, beside)?;
-    same(rt, &shown, &beside.replica.shown(Place::Catalogue)?);
+fn compare_places(
+    rt: &impl Abort,
+    alloc: Global,
+    manuscript: &Manuscript,
+    plain: &PlainReplica,
+) -> Result<(), Fail> {
+    let catalogue = manuscript.catalogue();
+    compare_place(rt, alloc, manuscript, plain, Place::Catalogue, catalogue)?;
+    compare_sections(rt, alloc, manuscript, plain, &elements(alloc, catalogue)?)?;
+    let shown = shown_sections(alloc, manuscript)?;
+    same(rt, &shown, &plain.shown(Place::Catalogue)?);
     Ok(())
 }
 
@@ -96,34 +106,65 @@ fn prints_all(alloc: Global, manuscript: &Manuscript, text: &[u8]) -> Result<boo
     Ok(printed.written() == text)
 }
 
+/// Both take in the operations of the lines, each of which is Ready on those before it.
+fn fill(
+    rt: &impl Abort,
+    alloc: Global,
+    replica: &mut Replica,
+    plain: &mut Plain,
+    lines: &[Line],
+) -> Result<(), Fail> {
+    let mut tally = Tally::default();
+    for line in lines {
+        let op = op(rt, alloc, *line)?;
+        step_beside(rt, alloc, replica, plain, &mut tally, &op)?;
+    }
+    equal(rt, replica.accepted().len(), lines.len());
+    Ok(())
+}
+
 /// No line has it.
 const UNKNOWN: Name = (8, 8);
 
-/// Both sides hold the operations of the lines, and print this text. What they do not hold has no place.
+/// A note, where it is held.
+const NOTE: Name = (7, 0);
+
+/// Both sides print this text. What they do not hold has no place, and a note has none.
 fn compare(
     rt: &impl Abort,
     alloc: Global,
-    beside: &mut Beside,
-    lines: &[Line],
+    manuscript: &Manuscript,
+    plain: &PlainReplica,
     wanted: &str,
 ) -> Result<(), Fail> {
-    fill(rt, alloc, beside, lines)?;
-    compare_places(rt, alloc, beside)?;
+    compare_places(rt, alloc, manuscript, plain)?;
     let text = wanted.as_bytes();
-    holds_at(rt, &wanted, prints_all(alloc, &beside.manuscript, text)?);
-    holds_at(rt, &wanted, prints(alloc, &beside.replica, text)?);
-    let manuscript = &beside.manuscript;
+    holds_at(rt, &wanted, prints_all(alloc, manuscript, text)?);
+    holds_at(rt, &wanted, prints(alloc, plain, text)?);
     equal(rt, manuscript.place_of(id(rt, UNKNOWN)), None);
+    equal(rt, manuscript.place_of(id(rt, NOTE)), None);
     equal(rt, manuscript.section_at(manuscript.section_count()), None);
     // A text, where it is held.
     assert!(rt; manuscript.section(id(rt, (1, 0))).is_none());
     Ok(())
 }
 
+fn fill_and_compare(
+    rt: &impl Abort,
+    alloc: Global,
+    replica: &mut Replica,
+    lines: &[Line],
+    wanted: &str,
+) -> Result<(), Fail> {
+    let mut plain = Plain::new(alloc);
+    fill(rt, alloc, replica, &mut plain, lines)?;
+    compare(rt, alloc, replica.places(), &plain.accepted, wanted)
+}
+
 fn compare_lines(rt: &impl Abort, alloc: Global, lines: &[Line], wanted: &str) -> Result<(), Fail> {
-    let mut beside = Beside::new(alloc);
-    let done = compare(rt, alloc, &mut beside, lines, wanted);
-    drop(beside);
+    let mut replica = Replica::new(alloc, 1, 100, 100)?;
+    let done = fill_and_compare(rt, alloc, &mut replica, lines, wanted);
+    drop(replica);
     done
 }
 
@@ -171,6 +212,19 @@ const TABLE: &[(&[Line], &str)] = &[
         "# é\n \n",
     ),
     (&[T, B, Delete(SECTION)], ""),
+    // A note on a text and its section is withdrawn, and then the text.
+    (
+        &[
+            T,
+            B,
+            Note(NOTE, &[(1, 0), SECTION], "n"),
+            Note((6, 0), &[NOTE], "m"),
+            A,
+            Delete(NOTE),
+            Delete((1, 0)),
+        ],
+        "# T\nA\n",
+    ),
 ];
 
 #[test]

@@ -1,6 +1,6 @@
 //! Lines that stand for operations, each with its section, of which the tables are made.
 
-use fugue_ids::{ElementId, Op, Title};
+use fugue_ids::{Body, ElementId, NoteNames, Op, Title};
 use std::alloc::Global;
 use std::process::Abort;
 use std::test::Fail;
@@ -20,9 +20,11 @@ pub enum Line {
     Section(Name, Name, Name, &'static str),
     Text(Name, Name, Name, Name, char),
     Delete(Name),
+    /// What it names, and its body.
+    Note(Name, &'static [Name], &'static str),
 }
 
-use Line::{Delete, Section, Text};
+use Line::{Delete, Note, Section, Text};
 
 // A section and the texts of the first worked example.
 pub const T: Line = Section(SECTION, NONE, NONE, "T");
@@ -36,6 +38,9 @@ pub const D: Line = Text((2, 0), SECTION, NONE, (1, 0), 'D');
 pub const X: Line = Text((3, 0), SECTION, (1, 1), (1, 0), 'X');
 
 pub const Y: Line = Text((2, 1), SECTION, (1, 1), (2, 0), 'Y');
+
+/// The code of the notes.
+pub const CODE: u8 = 9;
 
 /// The first worked example, with two Deletes at its end.
 pub const HIDDEN: &[Line] = &[T, B, A, D, X, Y, Delete((2, 0)), Delete((1, 0))];
@@ -55,6 +60,14 @@ pub fn id(rt: &impl Abort, name: Name) -> ElementId {
 
 fn origin(name: Name) -> Option<ElementId> {
     ElementId::new(name.0, name.1)
+}
+
+fn note_names(rt: &impl Abort, alloc: Global, names: &[Name]) -> Result<NoteNames, Fail> {
+    let mut ids = Vec::new(alloc);
+    for name in names {
+        ids.push(id(rt, *name))?;
+    }
+    Ok(NoteNames::read(&ids).expect(rt, "few names"))
 }
 
 /// The operation that the line stands for.
@@ -80,6 +93,14 @@ pub fn op(rt: &impl Abort, alloc: Global, line: Line) -> Result<Op, Fail> {
         Delete(name) => {
             Ok(Op::Delete {
                 target: id(rt, name),
+            })
+        }
+        Note(name, names, body) => {
+            Ok(Op::Note {
+                id: id(rt, name),
+                names: note_names(rt, alloc, names)?,
+                code: CODE,
+                body: Body::read(alloc, body.as_bytes())?,
             })
         }
     }

@@ -1,7 +1,7 @@
 //! The replica beside the plain one, on one pool of operations in many orders.
 
 use crate::assertions::holds_at;
-use crate::op_lines::Line::{Delete, Section, Text};
+use crate::op_lines::Line::{Delete, Note, Section, Text};
 use crate::op_lines::{Line, NONE, SECTION, op};
 use crate::plain::Plain;
 use crate::replicas::{feed_one, keep_one, writes_same};
@@ -11,7 +11,9 @@ use std::alloc::Global;
 use std::process::Abort;
 use std::test::Fail;
 
-/// Sections, texts with origins of editors and others, Deletes, and what is refused or waits for good.
+/// Sections, texts with origins of editors and others, Deletes, notes, and what is refused or waits for good.
+///
+/// How many they are is prime, so that each step comes to all of them.
 pub const POOL: &[Line] = &[
     Section(SECTION, NONE, NONE, "T"),
     Section((9, 1), SECTION, NONE, "T"),
@@ -34,6 +36,14 @@ pub const POOL: &[Line] = &[
     Text((4, 2), SECTION, (4, 0), NONE, 'w'),
     Delete((4, 1)),
     Delete((9, 1)),
+    Note((5, 0), &[(1, 0)], "n"),
+    Note((5, 0), &[(1, 0)], "n"),
+    Note((5, 1), &[(5, 0), (9, 1)], "m"),
+    // Another record of one identifier, which waits for good.
+    Note((5, 1), &[(1, 5)], "m"),
+    Delete((5, 0)),
+    // Its section is a note.
+    Text((4, 3), (5, 0), NONE, NONE, 'v'),
 ];
 
 /// One more operation for both, which then show the same.

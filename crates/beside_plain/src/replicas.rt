@@ -4,7 +4,7 @@ ghost use Rattle.std.specs.Prelude.{◌<◌, IsTrue};
 ghost use Rattle.replica_core.specs.Told.{StaysBelow};
 
 use crate::assertions::{equal, equal_at, holds_at};
-use crate::op_lines::Line::{Delete, Text};
+use crate::op_lines::Line::{Delete, Note, Text};
 use crate::op_lines::{A, B, D, Line, NONE, SECTION, T, X, Y, op};
 use crate::plain::Plain;
 use fugue_ids::Op;
@@ -165,9 +165,14 @@ const SECOND: Line = Text((1, 1), SECTION, (1, 0), NONE, 'b');
 /// A text whose section is named where only a text is.
 const MISFIT: Line = Text((2, 0), (1, 0), NONE, NONE, 'x');
 
+const NOTE: Line = Note((5, 0), &[(1, 0)], "n");
+
+/// A text whose section is named where only a note is.
+const IN_A_NOTE: Line = Text((2, 0), (5, 0), NONE, NONE, 'x');
+
 #[test]
 fn what_is_taken_is_shown_and_what_is_not_is_counted(rt: HostRuntime) -> Result<(), Fail> {
-    let table: [(u32, &[Line], &'static str, Tally, usize); 6] = [
+    let table: [(u32, &[Line], &'static str, Tally, usize); 7] = [
         (
             5,
             &[Y, X, D, A, B, T],
@@ -192,6 +197,13 @@ fn what_is_taken_is_shown_and_what_is_not_is_counted(rt: HostRuntime) -> Result<
         (1, &[T, FIRST, MISFIT], "# T\na\n", counts(2, 0, 1, 0), 0),
         (2, &[MISFIT, T, FIRST], "# T\na\n", counts(2, 0, 1, 0), 0),
         (1, &[T, SECOND], "# T\n\n", counts(1, 0, 0, 0), 1),
+        (
+            1,
+            &[NOTE, T, FIRST, Delete((5, 0)), IN_A_NOTE],
+            "# T\na\n",
+            counts(4, 0, 1, 0),
+            0,
+        ),
     ];
     for (hold, lines, text, counts, waiting) in table {
         let want = Shown {

@@ -1,7 +1,7 @@
 //! Two replicas that edit by turns and feed each other.
 
 use crate::assertions::equal;
-use crate::edits::Edit::{self, Add, Cut, Drop, Put};
+use crate::edits::Edit::{self, Add, Cut, Drop, Note, Put};
 use crate::edits::make;
 use crate::replicas::{feed_ops, writes_as_plain};
 use replica_core::Replica;
@@ -37,6 +37,7 @@ impl Dice {
             2..=5 => Cut(section, at, self.roll(4)),
             6..=9 => Put(section, at, "word "),
             10 => Put(section, at, "é"),
+            11 if at < shown => Note(section, at),
             _ => Put(section, at, "xy"),
         }
     }
