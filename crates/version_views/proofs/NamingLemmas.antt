@@ -1,11 +1,11 @@
 -- A version that is named counts at once; and it is refused exactly where its note is.
-use Rattle.version_views.proofs.Words.{List, None, Note, Op, Option, Some, [], ap, eq-eqb, false, if◌then◌else◌, is_hidden, Lawful, length, nat_eq, pointwise, refl, subst, sym, true, Identifier, ℕ, ◌&&◌, ◌∙◌, ◌∷◌, ◌≡◌}
+use Rattle.version_views.proofs.Words.{List, None, Note, Op, Some, [], ap, eq-eqb, false, if◌then◌else◌, is_hidden, Lawful, length, nat_eq, pointwise, refl, subst, sym, true, Identifier, ℕ, ◌&&◌, ◌∙◌, ◌∷◌, ◌≡◌}
 use Rattle.std.specs.Prelude.{◌≢◌, Err, Ok, Result}
 use Rattle.std.proofs.lemmas.Cmp.{nat_list_eq_equiv}
 use Rattle.origin_model.specs.declared.edit_fault.EditFault.{EditFault}
 use Rattle.origin_model.specs.declared.edit_fault.EditFault.TheVariants.{IdsSpent as NoteIdsSpent, NoMemory as NoteNoMemory, NoSection, OutOfRange, TooMany as NoteTooMany}
 use Rattle.origin_model.specs.edits.Effect.{with_ops}
-use Rattle.origin_model.specs.edits.Noting.{RefusesNote, note_by, note_refusal}
+use Rattle.origin_model.specs.edits.Noting.{RefusesNote, note_by}
 use Rattle.origin_model.specs.edits.State.{Stands, State}
 use Rattle.origin_model.proofs.SharedLemmas.{not_hidden_before, when_ready}
 use Rattle.version_views.specs.declared.limits.TheConstants.{VERSION_CODE}
@@ -23,8 +23,8 @@ counts h id name good w =
     let visible : is_hidden h id ≡ false = not_hidden_before h id w.1 (when_ready h op w.0).fresh in
     let given : name_given id.replica op ≡ Some name = λ i. if nat_eq VERSION_CODE VERSION_CODE && eq-eqb id.replica id.replica refl i && good i then Some name else None in
     let is_it : is_version id.replica (op ∷ h) name op ≡ true =
-        ap (λ b. elim (if b then None else name_given id.replica op) [ None ↦ false | Some body ↦ pointwise nat_eq body name ]) visible
-        ∙ ap (λ o. elim o [ None ↦ false | Some body ↦ pointwise nat_eq body name ]) given ∙ nat_list_eq_equiv.refl name in
+    ap (λ b. elim (if b then None else name_given id.replica op) [ None ↦ false | Some body ↦ pointwise nat_eq body name ]) visible
+    ∙ ap (λ o. elim o [ None ↦ false | Some body ↦ pointwise nat_eq body name ]) given ∙ nat_list_eq_equiv.refl name in
     last_is_newest id.replica (op ∷ h) name (op ∷ h) ∙ ap (λ b. if b then Some (length h) else newest id.replica (op ∷ h) name h) is_it
 
 pub named_counts : (old new : State) (name : List ℕ) → is_name name ≡ true → new ≡ with_ops old (note_by old [] VERSION_CODE name ∷ []) → Stands new
@@ -61,6 +61,7 @@ same_fault a b e = cc e
 
 pub refuses_fault : (s : State) (f : EditFault) → f ≢ NoSection → f ≢ OutOfRange → RefusesNote s (Err f) → RefusesVersion s (Err (without_position f))
 refuses_fault s f a b r fault d =
-    let k = r (as_note_fault fault) (not_memory fault d) in
-    ((λ e. k.0 (ap Err (sym (there f a b) ∙ ap as_note_fault (same_fault (without_position f) fault e)))),
-    (λ e. ap Err (ap without_position (same_err f (as_note_fault fault) (k.1 e)) ∙ back fault)))
+    let k = r (as_note_fault fault) (not_memory fault d) in (
+      (λ e. k.0 (ap Err (sym (there f a b) ∙ ap as_note_fault (same_fault (without_position f) fault e)))),
+      (λ e. ap Err (ap without_position (same_err f (as_note_fault fault) (k.1 e)) ∙ back fault)),
+    )

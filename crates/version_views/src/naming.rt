@@ -62,6 +62,7 @@ fn version_fault(fault: EditFault) -> VersionFault
     match fault {
         EditFault::IdsSpent(greatest) => VersionFault::IdsSpent(greatest),
         EditFault::TooMany(held) => VersionFault::TooMany(held),
-        EditFault::NoSection | EditFault::OutOfRange | EditFault::NoMemory => VersionFault::NoMemory,
+        EditFault::NoSection | EditFault::OutOfRange | EditFault::NoMemory =>
+            VersionFault::NoMemory,
     }
 }

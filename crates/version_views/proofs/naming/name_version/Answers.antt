@@ -1,4 +1,4 @@
-use Rattle.std.proofs.Common.{[], ap, subst, sym, ◌∙◌, ◌∷◌, ◌≡◌}
+use Rattle.std.proofs.Common.{[], ap, subst, sym, ◌∷◌, ◌≡◌}
 use Rattle.std.specs.Prelude.{Err, IfSome}
 use Rattle.origin_model.specs.edits.Effect.{with_ops}
 use Rattle.origin_model.specs.edits.Noting.{note_by}
