@@ -2,3 +2,4 @@ mod Words
 mod Examples
 pub mod ViewLemmas
 pub mod VersionLemmas
+pub mod NamingLemmas

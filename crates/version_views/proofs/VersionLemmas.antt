@@ -20,12 +20,12 @@ last_named-push name (w ∷ vs) v =
     ∙ elim (pointwise nat_eq v.name name) as (λ (b : Bool). before_last name w (if b then Some v else last_named name vs) ≡ (if b then Some v else last_named name (w ∷ vs))) [ true ↦ refl | false ↦ refl ]
 
 -- the newest operation that is a version with the name: how many are before it
-abbrev newest : ℕ → List Op → List ℕ → List Op → Option ℕ
+abbrev pub newest : ℕ → List Op → List ℕ → List Op → Option ℕ
 newest r history name [] = None
 newest r history name (op ∷ older) = if is_version r history name op then Some (length older) else newest r history name older
 
 -- that one is the last of the versions with the name
-last_is_newest : (r : ℕ) (history : List Op) (name : List ℕ) (ops : List Op) → count_of (last_named name (versions_up_to r history ops)) ≡ newest r history name ops
+pub last_is_newest : (r : ℕ) (history : List Op) (name : List ℕ) (ops : List Op) → count_of (last_named name (versions_up_to r history ops)) ≡ newest r history name ops
 last_is_newest r history name [] = refl
 last_is_newest r history name (op ∷ older) =
     let vs : List Version = versions_up_to r history older in

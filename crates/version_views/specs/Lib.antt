@@ -1,3 +1,4 @@
 pub mod Versions
 pub mod Views
 pub mod Laws
+pub mod Naming

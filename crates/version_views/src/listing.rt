@@ -1,0 +1,103 @@
+ghost use Rattle.std.specs.Prelude.{◌≡◌, ◌&&◌, length, nat_le, nat_lt, option_map};
+ghost use Rattle.std.specs.Str.{is_utf8};
+ghost use Rattle.origin_model.specs.edits.State.{Stands};
+ghost use Rattle.version_views.specs.Versions.{is_name as is_name_of, is_withdrawn as withdrawn_in};
+ghost use Rattle.version_views.specs.Versions.{is_version, name_given, name_in, version_with};
+
+use crate::{LONGEST_NAME, VERSION_CODE};
+use fugue_ids::{Op, OpKey, has_line_end};
+use replica_core::Replica;
+
+fn is_text(bytes: &[u8]) -> bool
+    ensures { result ≡ is_utf8 bytes.now }
+{
+    match std::str::from_utf8(bytes) {
+        Ok(_) => true,
+        Err(_) => false,
+    }
+}
+
+fn has_name_length(bytes: &[u8]) -> bool
+    ensures { result ≡ (nat_lt 0 (length bytes.now) && nat_le (length bytes.now) LONGEST_NAME) }
+{
+    !bytes.is_empty() && bytes.len() <= LONGEST_NAME
+}
+
+/// Whether the bytes name a version: UTF-8 of 1 to 120 bytes without LF and CR.
+pub fn is_name(bytes: &[u8]) -> bool
+    ensures { result ≡ is_name_of bytes.now }
+{
+    is_text(bytes) && has_name_length(bytes) && !has_line_end(bytes)
+}
+
+/// The name that an operation gives in a file of that number, withdrawn or not.
+fn given_name(number: u32, op: &Op) -> Option<&[u8]>
+    ensures { option_map (λ name. name.now) result ≡ name_given number op.now }
+{
+    let Op::Note {
+        id,
+        names,
+        code,
+        body,
+    } = op
+    else {
+        return None;
+    };
+    let name = body.as_slice();
+    if names.as_slice().is_empty()
+        && *code == VERSION_CODE
+        && id.replica == number
+        && is_name(name)
+    {
+        Some(name)
+    } else {
+        None
+    }
+}
+
+/// Whether a Delete withdraws the note.
+fn is_withdrawn(replica: &Replica, op: &Op) -> bool
+    ensures { result ≡ withdrawn_in replica.now.held.history op.now }
+{
+    match op.id() {
+        Some(id) => replica.position(OpKey::Target(id)).is_some(),
+        None => false,
+    }
+}
+
+/// The name of the version that an operation is.
+fn name_of<'a>(replica: &Replica, op: &'a Op) -> Option<&'a [u8]>
+    ensures { option_map (λ name. name.now) result ≡ name_in replica.now.number replica.now.held.history op.now }
+{
+    match given_name(replica.number(), op) {
+        Some(name) if !is_withdrawn(replica, op) => Some(name),
+        _ => None,
+    }
+}
+
+/// Whether an operation is a version with the name.
+fn is_named(replica: &Replica, op: &Op, name: &str) -> bool
+    ensures { result ≡ is_version replica.now.number replica.now.held.history name.now op.now }
+{
+    match name_of(replica, op) {
+        Some(given) => given == name.as_bytes(),
+        None => false,
+    }
+}
+
+/// How many operations the version with the name has: the last one of that name.
+pub fn find_version(replica: &Replica, name: &str) -> Option<usize>
+    ensures version { result ≡ version_with replica.now.held.history replica.now.number name.now }
+    ensures stands { Stands replica.now }
+{
+    let ops = replica.accepted();
+    let mut found = None;
+    let mut count = 0;
+    'ops: while count < ops.len() {
+        if is_named(replica, &ops[count], name) {
+            found = Some(count);
+        }
+        count += 1;
+    }
+    found
+}

@@ -1,0 +1,68 @@
+ghost use Rattle.std.specs.Prelude.{◌≡◌, [], Some, true, length, IfOk, OnErr, OnOk};
+ghost use Rattle.origin_model.specs.edits.Noting.{IsNoted, ShowsAsBefore};
+ghost use Rattle.origin_model.specs.edits.State.{Stands};
+ghost use Rattle.origin_model.specs.taking.Taking.{IsSettled};
+ghost use Rattle.version_views.specs.Naming.{RefusesVersion, without_position};
+ghost use Rattle.version_views.specs.Versions.{is_name as is_name_of, version_with};
+
+use crate::VERSION_CODE;
+use fugue_ids::{Body, NoMemory, NoteNames};
+use replica_core::{EditFault, Replica};
+use std::error::Error;
+use std::fmt;
+
+/// Why a version was not named, in the order in which the causes are looked for. Nothing was changed.
+#[derive(Clone, Copy, Debug, PartialEq, Eq)]
+pub enum VersionFault {
+    /// The note needs a counter past the greatest number: the greatest counter so far.
+    IdsSpent(u32),
+    /// More would be accepted or wait than may: how many do now.
+    TooMany(u32),
+    NoMemory,
+}
+
+impl fmt::Display for VersionFault {
+    fn fmt<W: fmt::Write>(&self, f: &mut fmt::Formatter<W>) -> fmt::Result {
+        match self {
+            VersionFault::IdsSpent(greatest) => {
+                write!(f, "the identifiers are spent at counter {greatest}")
+            }
+            VersionFault::TooMany(held) => write!(f, "{held} operations are accepted or wait"),
+            VersionFault::NoMemory => write!(f, "{}", NoMemory),
+        }
+    }
+}
+
+impl Error for VersionFault {}
+
+/// Names what the replica has accepted so far. The answer is 1, the number of operations that were made.
+pub fn name_version(replica: &mut Replica, name: Body) -> Result<u32, VersionFault>
+    requires settled { IsSettled replica.old.held }
+    requires name { is_name_of name ≡ true }
+    ensures made { IfOk result (λ n. IsNoted replica.old replica.new [] VERSION_CODE name n) }
+    ensures named { OnOk result (version_with replica.new.held.history replica.new.number name
+        ≡ Some (length replica.old.held.history)) }
+    ensures refused { RefusesVersion replica.old result }
+    ensures shown { ShowsAsBefore replica.old replica.new }
+    ensures unmade { OnErr result (replica.new ≡ replica.old) }
+    ensures settled { IsSettled replica.new.held }
+    ensures stands { Stands replica.new }
+{
+    let names = NoteNames::read(&[]).unwrap();
+    match replica.note(names, VERSION_CODE, name) {
+        Ok(made) => Ok(made),
+        Err(fault) => Err(version_fault(fault)),
+    }
+}
+
+/// A note is refused for no section and for no position.
+fn version_fault(fault: EditFault) -> VersionFault
+    ensures { result ≡ without_position fault }
+{
+    match fault {
+        EditFault::IdsSpent(greatest) => VersionFault::IdsSpent(greatest),
+        EditFault::TooMany(held) => VersionFault::TooMany(held),
+        EditFault::NoSection | EditFault::OutOfRange | EditFault::NoMemory =>
+            VersionFault::NoMemory,
+    }
+}
