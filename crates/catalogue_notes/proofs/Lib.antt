@@ -16,4 +16,6 @@ pub mod SectionsLemmas
 pub mod PlacingLemmas
 pub mod RetitledLemmas
 pub mod MovingLemmas
+pub mod RefusalLemmas
+pub mod RetitlingLemmas
 mod Examples

@@ -8,6 +8,7 @@ mod making;
 mod moving;
 mod reading;
 mod retitles;
+mod retitling;
 mod sections;
 mod standing;
 mod winning;
@@ -17,3 +18,4 @@ pub use laws::{
     valid_in_whole, winners,
 };
 pub use moving::{MoveFault, move_section};
+pub use retitling::retitle;
