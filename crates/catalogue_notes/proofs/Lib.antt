@@ -18,4 +18,5 @@ pub mod RetitledLemmas
 pub mod MovingLemmas
 pub mod RefusalLemmas
 pub mod RetitlingLemmas
+pub mod PrintingLemmas
 mod Examples

@@ -1,9 +1,7 @@
 -- What a move of a replica is, and why there is none.
-use Rattle.std.proofs.Common.{◌&&◌, Bool, List, [], ap, arith, false, inl, inr, length, refl, subst, sym, true, ℕ, ◌+◌, ◌-◌, ◌<◌, ◌^◌, ◌∙◌, ◌∷◌, ◌≡◌, ◌≢◌, ◌⊎◌}
-use Rattle.std.specs.Prelude.{Err, IfOk, IfSome, None, Ok, Option, Result, Some, if◌then◌else◌, nat_eq, nat_lt, option_map}
-use Rattle.std.specs.Option.{option_or}
+use Rattle.std.proofs.Common.{◌&&◌, Bool, List, [], ap, arith, false, refl, subst, sym, true, ℕ, ◌+◌, ◌-◌, ◌<◌, ◌^◌, ◌∙◌, ◌∷◌, ◌≡◌, ◌≢◌}
+use Rattle.std.specs.Prelude.{Err, IfOk, None, Ok, Result, Some, if◌then◌else◌, nat_eq, nat_lt, option_map}
 use Rattle.std.proofs.Math.Nat.{le_refl}
-use Rattle.std.proofs.lemmas.Bool.Decides.{nat_tests}
 use Rattle.std.proofs.lemmas.List.Elements.{All-weaker}
 use Rattle.fugue_ids.specs.Identifiers.{Identifier}
 use Rattle.fugue_ids.specs.declared.op.Op.{Op}
@@ -20,13 +18,12 @@ use Rattle.origin_model.specs.edits.State.{Stands, State}
 use Rattle.origin_model.specs.operations.History.{holds}
 use Rattle.origin_model.specs.operations.Verdict.{verdict}
 use Rattle.origin_model.proofs.edits.FreshIdLemmas.{history_below, none_from}
-use Rattle.catalogue_notes.specs.Arranged.{arranged}
 use Rattle.catalogue_notes.specs.Laws.{IsMoved}
 use Rattle.catalogue_notes.specs.Lift.{stamp}
 use Rattle.catalogue_notes.specs.Making.{move_body, move_names, next_stamp, origins_for}
 use Rattle.catalogue_notes.specs.Moving.{IsMoveMade, IsMovePlan, NoteRefusesAs, as_move_fault, move_by}
 use Rattle.catalogue_notes.specs.declared.moving.MoveFault.{MoveFault}
-use Rattle.catalogue_notes.specs.declared.moving.MoveFault.TheVariants.{IdsSpent, NoMemory, NoPlace, NoSection, StampsSpent, TooMany}
+use Rattle.catalogue_notes.specs.declared.moving.MoveFault.TheVariants.{NoMemory}
 use Rattle.catalogue_notes.specs.declared.moving.Plan.{Plan}
 use Rattle.catalogue_notes.proofs.HolderLemmas.{IsHeld, anything, are_held, joins}
 use Rattle.catalogue_notes.proofs.LiftLemmas.{map_from, some_inj}

@@ -1,10 +1,9 @@
 -- Why there is no move or retitle of a replica.
-use Rattle.std.proofs.Common.{Bool, List, ap, arith, false, inl, inr, length, refl, subst, sym, true, ℕ, ◌+◌, ◌-◌, ◌<◌, ◌≤◌, ◌^◌, ◌∙◌, ◌≡◌, ◌≢◌, ◌⊎◌}
+use Rattle.std.proofs.Common.{Bool, ap, arith, false, inl, inr, length, refl, subst, sym, true, ℕ, ◌+◌, ◌-◌, ◌<◌, ◌≤◌, ◌^◌, ◌∙◌, ◌≡◌, ◌≢◌, ◌⊎◌}
 use Rattle.std.specs.Prelude.{Err, IfSome, None, Option, Result, Some, if◌then◌else◌, nat_eq, nat_lt, option_map}
 use Rattle.std.specs.Option.{option_or}
 use Rattle.std.proofs.lemmas.Bool.{cases_Bool, true≢false}
 use Rattle.std.proofs.lemmas.Bool.Decides.{nat_tests}
-use Rattle.fugue_ids.specs.declared.op.Op.{Op}
 use Rattle.origin_model.specs.declared.edit_fault.EditFault.{EditFault}
 use Rattle.origin_model.specs.declared.edit_fault.EditFault.TheVariants.{NoSection as EditNoSection, OutOfRange as EditOutOfRange, IdsSpent as EditIdsSpent, TooMany as EditTooMany, NoMemory as EditNoMemory}
 use Rattle.origin_model.specs.declared.operations.Place.TheVariants.{Catalogue as catalogue}
@@ -20,7 +19,7 @@ use Rattle.catalogue_notes.specs.declared.moving.MoveFault.TheVariants.{IdsSpent
 use Rattle.catalogue_notes.proofs.ArrangedLemmas.{arranged_length}
 use Rattle.catalogue_notes.proofs.HolderLemmas.{not_both, same_value}
 use Rattle.catalogue_notes.proofs.LiftLemmas.{map_from}
-use Rattle.catalogue_notes.proofs.MovingLemmas.{err_inj, failed}
+use Rattle.catalogue_notes.proofs.MovingLemmas.{err_inj}
 
 test_no : (k n : ℕ) → n ≤ k → nat_lt k n ≡ false
 test_no k n l = grind (arith, nat_tests)

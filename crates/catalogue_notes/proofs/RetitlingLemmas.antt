@@ -1,6 +1,6 @@
 -- What a retitle of a replica is.
-use Rattle.std.proofs.Common.{Bool, suc, zero, List, [], ap, arith, length, refl, subst, sym, true, ℕ, ◌+◌, ◌<◌, ◌≤◌, ◌∙◌, ◌∷◌, ◌≡◌, ◌&&◌, false, not}
-use Rattle.std.specs.Prelude.{Err, IfOk, None, Ok, Option, Result, Some, nat_le, nat_lt, slice_get}
+use Rattle.std.proofs.Common.{Bool, suc, zero, List, [], ap, arith, length, subst, sym, true, ℕ, ◌+◌, ◌<◌, ◌≤◌, ◌∙◌, ◌∷◌, ◌≡◌, ◌&&◌, not}
+use Rattle.std.specs.Prelude.{Err, IfOk, Ok, Result, Some, nat_le, nat_lt, slice_get}
 use Rattle.std.specs.List.{Contains}
 use Rattle.std.specs.Str.{IsUtf8, chars, encode_utf8_all, is_utf8}
 use Rattle.std.proofs.lemmas.Bool.{and_from, and_parts}

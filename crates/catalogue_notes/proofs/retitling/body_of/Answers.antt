@@ -1,4 +1,4 @@
-use Rattle.std.proofs.Common.{ap, subst, sym, ◌∙◌}
+use Rattle.std.proofs.Common.{ap, sym, ◌∙◌}
 use Rattle.catalogue_notes.specs.Claims.{is_title}
 use Rattle.catalogue_notes.proofs.RetitlingLemmas.{title_text}
 use Rattle.catalogue_notes.proofs.retitling.body_of.Goals as goal
