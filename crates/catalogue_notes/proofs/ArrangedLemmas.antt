@@ -24,7 +24,7 @@ use Rattle.catalogue_notes.specs.Laws.{EachOnce}
 use Rattle.catalogue_notes.proofs.HolderLemmas.{cases_option, not_both}
 use Rattle.catalogue_notes.proofs.LiftLemmas.{in_order, lift_fits, lift_lawful, lifted_to, move-kept, passing_from, section_lifts, shape}
 use Rattle.catalogue_notes.proofs.ClaimLemmas.{best_in, claim_found, found_claim, one_claim}
-use Rattle.catalogue_notes.proofs.PartLemmas.{Distinct, contains_parts, contains_parts_from, parts_in_order}
+use Rattle.catalogue_notes.proofs.PartLemmas.{Distinct, contains_parts, contains_parts_from, parts_in_order, within_length}
 
 -- which moves are valid
 abbrev pub move_test : List Op → Move → Bool
@@ -169,3 +169,10 @@ each_once h w = record {
   in_order = arranged_in_order h w;
   apart = λ s t m n k. apart h s t w (shown_is h s w (arranged_shown h s m)) (shown_is h t w (arranged_shown h t n)) k;
 }
+
+-- so there are as many as are shown
+pub arranged_length : (h : List Op) → Lawful h → length (arranged h) ≡ length (shown catalogue h)
+arranged_length h w =
+    let a = within_length (arranged h) (shown catalogue h) (arranged_once h w) (arranged_shown h) in
+    let b = within_length (shown catalogue h) (arranged h) (shown_once h w) (λ s m. shown_arranged h s w m) in
+    omega (arith, a, b)

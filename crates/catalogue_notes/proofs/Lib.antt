@@ -16,4 +16,7 @@ pub mod SectionsLemmas
 pub mod PlacingLemmas
 pub mod RetitledLemmas
 pub mod MovingLemmas
+pub mod RefusalLemmas
+pub mod RetitlingLemmas
+pub mod PrintingLemmas
 mod Examples

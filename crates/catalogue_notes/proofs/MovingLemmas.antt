@@ -1,9 +1,7 @@
 -- What a move of a replica is, and why there is none.
-use Rattle.std.proofs.Common.{◌&&◌, Bool, List, [], ap, arith, false, inl, inr, length, refl, subst, sym, true, ℕ, ◌+◌, ◌-◌, ◌<◌, ◌^◌, ◌∙◌, ◌∷◌, ◌≡◌, ◌≢◌, ◌⊎◌}
-use Rattle.std.specs.Prelude.{Err, IfOk, IfSome, None, Ok, Option, Result, Some, if◌then◌else◌, nat_eq, nat_lt, option_map}
-use Rattle.std.specs.Option.{option_or}
+use Rattle.std.proofs.Common.{◌&&◌, Bool, List, [], ap, arith, false, refl, subst, sym, true, ℕ, ◌+◌, ◌-◌, ◌<◌, ◌^◌, ◌∙◌, ◌∷◌, ◌≡◌, ◌≢◌}
+use Rattle.std.specs.Prelude.{Err, IfOk, None, Ok, Result, Some, if◌then◌else◌, nat_eq, nat_lt, option_map}
 use Rattle.std.proofs.Math.Nat.{le_refl}
-use Rattle.std.proofs.lemmas.Bool.Decides.{nat_tests}
 use Rattle.std.proofs.lemmas.List.Elements.{All-weaker}
 use Rattle.fugue_ids.specs.Identifiers.{Identifier}
 use Rattle.fugue_ids.specs.declared.op.Op.{Op}
@@ -20,13 +18,12 @@ use Rattle.origin_model.specs.edits.State.{Stands, State}
 use Rattle.origin_model.specs.operations.History.{holds}
 use Rattle.origin_model.specs.operations.Verdict.{verdict}
 use Rattle.origin_model.proofs.edits.FreshIdLemmas.{history_below, none_from}
-use Rattle.catalogue_notes.specs.Arranged.{arranged}
 use Rattle.catalogue_notes.specs.Laws.{IsMoved}
 use Rattle.catalogue_notes.specs.Lift.{stamp}
 use Rattle.catalogue_notes.specs.Making.{move_body, move_names, next_stamp, origins_for}
-use Rattle.catalogue_notes.specs.Moving.{IsMoveMade, IsMovePlan, NoteRefusesAs, RefusesFor, as_move_fault, move_by, move_cause, move_refusal}
+use Rattle.catalogue_notes.specs.Moving.{IsMoveMade, IsMovePlan, NoteRefusesAs, as_move_fault, move_by}
 use Rattle.catalogue_notes.specs.declared.moving.MoveFault.{MoveFault}
-use Rattle.catalogue_notes.specs.declared.moving.MoveFault.TheVariants.{IdsSpent, NoMemory, NoPlace, NoSection, StampsSpent, TooMany}
+use Rattle.catalogue_notes.specs.declared.moving.MoveFault.TheVariants.{NoMemory}
 use Rattle.catalogue_notes.specs.declared.moving.Plan.{Plan}
 use Rattle.catalogue_notes.proofs.HolderLemmas.{IsHeld, anything, are_held, joins}
 use Rattle.catalogue_notes.proofs.LiftLemmas.{map_from, some_inj}
@@ -34,7 +31,7 @@ use Rattle.catalogue_notes.proofs.MoveLemmas.{move_lands}
 use Rattle.catalogue_notes.proofs.NameLemmas.{Fits}
 
 -- the identifier of the next note is new
-fresh : (s : State) → holds s.held.history (id_at s.number (next_of_own s)) ≡ false
+pub fresh : (s : State) → holds s.held.history (id_at s.number (next_of_own s)) ≡ false
 fresh s =
     let h : List Op = s.held.history in
     let c : ℕ = next_counter s.number h s.held.waiting in
@@ -45,7 +42,7 @@ pub plan_lands : (s : State) (k j : ℕ) (plan : Plan) (p : IsMovePlan s k j pla
 plan_lands s k j plan p st = move_lands s.held.history (id_at s.number (next_of_own s)) p.section k j st.lawful (fresh s) p.left_over p.placed p.place
 
 -- a note that is Ready names what is held
-ready_held : (h : List Op) (id : Identifier) (named : List Identifier) (code : ℕ) (body : List ℕ) → verdict h (Note id named code body) ≡ Ready → AreHeld h named
+pub ready_held : (h : List Op) (id : Identifier) (named : List Identifier) (code : ℕ) (body : List ℕ) → verdict h (Note id named code body) ≡ Ready → AreHeld h named
 ready_held h id named code body r =
     let f = all_from_map anything (Fits h) named (joins h (Note id named code body) r).fit in
     are_held h named (All-weaker (λ i. Fits h (anything i)) (IsHeld h) (λ i k. (k.0, k.1)) named f)
@@ -91,7 +88,7 @@ memory_told : (fault : EditFault) → fault ≡ EditNoMemory → as_move_fault f
 memory_told fault e = ap as_move_fault e
 
 -- an answer that is a fault
-abbrev failed : {E : Type 0} → E → Result ℕ E
+abbrev pub failed : {E : Type 0} → E → Result ℕ E
 failed e = Err e
 
 abbrev fault_in : {E : Type 0} → E → Result ℕ E → E
@@ -99,7 +96,7 @@ fault_in other (Ok n) = other
 fault_in other (Err e) = e
 
 -- the fault of an answer is one
-err_inj : {E : Type 0} → (a b : E) → failed a ≡ failed b → a ≡ b
+pub err_inj : {E : Type 0} → (a b : E) → failed a ≡ failed b → a ≡ b
 err_inj a b e = ap (fault_in a) e
 
 pub note_refuses_err : (s : State) (fault : EditFault) → RefusesNote s (Err fault) → NoteRefusesAs s (Err (as_move_fault fault))
@@ -112,55 +109,6 @@ note_refuses_err s fault r = record {
       let k : Err fault ≡ Err g.0 = (r g.0 (not_for_memory s g.0 g.1)).1 g.1 in
       ap (λ z. Err (as_move_fault z)) (err_inj fault g.0 k) ∙ ap Err g.2;
 }
-
--- with no cause of the move's own, the refusals are those of the note
-pub refuses_note : (s : State) (k j : ℕ) (result : Result ℕ MoveFault) → move_cause s k j ≡ None → NoteRefusesAs s result → RefusesFor (move_refusal s k j) result
-refuses_note s k j result n r =
-    let is : move_refusal s k j ≡ option_map as_move_fault (note_refusal s) = ap (λ o. option_or o (option_map as_move_fault (note_refusal s))) n in
-    record {
-      only = λ fault d e. is ∙ r.only fault d e;
-      always = by (move_refusal s k j) (λ fault e. inl (r.always fault (sym is ∙ e)));
-    }
-  where
-    by : (o : Option MoveFault) → ((fault : MoveFault) → o ≡ Some fault → (result ≡ Err fault) ⊎ (result ≡ Err NoMemory)) → IfSome o (λ fault. (result ≡ Err fault) ⊎ (result ≡ Err NoMemory))
-    by None f = tt
-    by (Some fault) f = f fault refl
-
--- a fault that the plan found
-pub refuses_plan : (s : State) (k j : ℕ) (fault : MoveFault) → (fault ≢ NoMemory → move_cause s k j ≡ Some fault) → RefusesFor (move_refusal s k j) (Err fault)
-refuses_plan s k j fault f = record {
-  only = λ g d e.
-      let same : fault ≡ g = err_inj fault g e in
-      ap (λ o. option_or o (option_map as_move_fault (note_refusal s))) (f (λ z. d (sym same ∙ z))) ∙ ap Some same;
-  always = by fault f;
-}
-  where
-    found : (fault : MoveFault) → move_cause s k j ≡ Some fault → IfSome (move_refusal s k j) (λ g. (failed fault ≡ failed g) ⊎ (failed fault ≡ failed NoMemory))
-    found fault e = subst (λ o. IfSome (option_or o (option_map as_move_fault (note_refusal s))) (λ g. (failed fault ≡ failed g) ⊎ (failed fault ≡ failed NoMemory))) (sym e) (inl refl)
-
-    any : (o : Option MoveFault) → IfSome o (λ g. (failed NoMemory ≡ failed g) ⊎ (failed NoMemory ≡ failed NoMemory))
-    any None = tt
-    any (Some g) = inr refl
-
-    by : (fault : MoveFault) → (fault ≢ NoMemory → move_cause s k j ≡ Some fault) → IfSome (move_refusal s k j) (λ g. (failed fault ≡ failed g) ⊎ (failed fault ≡ failed NoMemory))
-    by NoSection f = found NoSection (f (λ z. cc z))
-    by NoPlace f = found NoPlace (f (λ z. cc z))
-    by StampsSpent f = found StampsSpent (f (λ z. cc z))
-    by (IdsSpent n) f = found (IdsSpent n) (f (λ z. cc z))
-    by (TooMany n) f = found (TooMany n) (f (λ z. cc z))
-    by NoMemory f = any (move_refusal s k j)
-
--- a planned move has no cause against it
-numbers : (k n j st : ℕ) → k < n → j < n → st + 1 < 2 ^ 32 → (nat_lt k n ≡ true) × (nat_lt j n ≡ true) × (nat_eq st (2 ^ 32 - 1) ≡ false)
-numbers k n j st a b c = (grind (arith, nat_tests), grind (arith, nat_tests), grind (arith, nat_tests))
-
-pub plan_no_cause : (s : State) (k j : ℕ) (plan : Plan) → IsMovePlan s k j plan → move_cause s k j ≡ None
-plan_no_cause s k j plan p =
-    let n : ℕ = length (arranged s.held.history) in
-    let q = numbers k n j (stamp s.held.history) p.within p.place p.left_over in
-    let last : Bool → Option MoveFault = λ b. if b then Some StampsSpent else None in
-    let mid : Bool → Option MoveFault = λ b. if b then last (nat_eq (stamp s.held.history) (2 ^ 32 - 1)) else Some NoPlace in
-    ap (λ b. if b then mid (nat_lt j n) else Some NoSection) q.0 ∙ ap mid q.1 ∙ ap last q.2
 
 -- the stamp that is left
 pub stamp_left : (n m : ℕ) → next_stamp n ≡ Some m → m < 2 ^ 32 → (m ≡ n + 1) × (n + 1 < 2 ^ 32)

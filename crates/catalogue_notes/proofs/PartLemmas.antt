@@ -1,12 +1,12 @@
 -- Lists of distinct members: filters, and lists made of the parts at each member of another list.
-use Rattle.std.proofs.Common.{Bool, List, [], ap, append_assoc, arith, drop, false, inl, inr, length, not, refl, subst, suc, sym, take, true, zero, ℕ, ◌&&◌, ◌++◌, ◌<◌, ◌∙◌, ◌∷◌, ◌≡◌, ◌≢◌}
+use Rattle.std.proofs.Common.{Bool, List, [], ap, append_assoc, arith, drop, false, inl, inr, length, length-append, not, refl, subst, suc, sym, take, true, zero, ℕ, ◌&&◌, ◌++◌, ◌<◌, ◌≤◌, ◌∙◌, ◌∷◌, ◌≡◌, ◌≢◌}
 use Rattle.std.specs.Prelude.{None, Option, Some, filter, flat_map, if◌then◌else◌, slice_get}
 use Rattle.std.specs.List.{All, AllPairs, Contains}
 use Rattle.std.proofs.lemmas.Bool.{cases_Bool}
 use Rattle.std.proofs.lemmas.List.Elements.{All-contains, Contains-append_cases, Contains-append_left, Contains-append_right, filter-append}
 use Rattle.fugue_ids.specs.Identifiers.{Identifier, id_eq}
 use Rattle.fugue_ids.proofs.IdentifierLemmas.{cases_id, eq-id_eq, ne-id_eq}
-use Rattle.fugue_ids.proofs.ListLemmas.{all_from_contains, all_pairs_append, all_pairs_head, all_pairs_nil, all_pairs_tail, contains_cases, contains_here, contains_middle, contains_none, contains_there}
+use Rattle.fugue_ids.proofs.ListLemmas.{all_from_contains, all_pairs_append, all_pairs_head, all_pairs_nil, all_pairs_tail, contains_cases, contains_here, contains_middle, contains_middle_cases, contains_none, contains_there}
 use Rattle.origin_model.specs.edits.Landing.{following, first_after}
 
 -- no two members are the same
@@ -121,6 +121,20 @@ cut_at (y ∷ xs) x m =
       | inl e ↦ ([], xs, ap (λ z. z ∷ xs) e)
       | inr k ↦ let r = cut_at xs x k in (y ∷ r.0, r.1, ap (λ l. y ∷ l) r.2)
     ]
+
+-- distinct members of a list are no more than it has
+pub within_length : (xs ys : List Identifier) → Distinct xs → ((x : Identifier) → Contains xs x → Contains ys x) → length xs ≤ length ys
+within_length [] ys d f = omega arith
+within_length (x ∷ xs) ys d f =
+    let c = cut_at ys x (f x (contains_here x xs)) in
+    let rest : (z : Identifier) → Contains xs z → Contains (c.0 ++ c.1) z = λ z m.
+    elim (contains_middle_cases c.0 x c.1 z (subst (λ l. Contains l z) c.2 (f z (contains_there x xs z m)))) [
+      | inl e ↦ absurd (head_apart x xs z d m e)
+      | inr k ↦ k
+    ] in
+    let l = within_length xs (c.0 ++ c.1) (all_pairs_tail (λ a b. a ≢ b) x xs d) rest in
+    let n : length ys ≡ length (c.0 ++ x ∷ c.1) = ap length c.2 in
+    omega (arith, l, n, length-append c.0 c.1, length-append c.0 (x ∷ c.1))
 
 -- what follows an origin is a member
 head_in : (xs : List Identifier) (r : Identifier) → first_after xs ≡ Some r → Contains xs r

@@ -104,7 +104,7 @@ pub arranged_by : (h : List Op) (placing : Identifier → Option Identifier) →
 arranged_by h placing w st = sym (parts_same (sections_at h) (λ x. option_to_list (placing x)) (order catalogue (lift h)) (λ x m. at_element h placing w st x))
 
 -- a member of a list is one of the reversed list
-all_reversed : {X : Type 0} → (P : X → Type 0) (xs : List X) → All P xs → All P (reverse xs)
+pub all_reversed : {X : Type 0} → (P : X → Type 0) (xs : List X) → All P xs → All P (reverse xs)
 all_reversed P [] all = All-nil P
 all_reversed P (x ∷ xs) all =
     subst (All P) (sym (reverse-append (x ∷ []) xs)) (All-append P (reverse xs) (x ∷ []) (all_reversed P xs (All-tail P x xs all)) (All-cons P x [] (All-head P x xs all) (All-nil P)))

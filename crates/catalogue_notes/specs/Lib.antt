@@ -8,4 +8,5 @@ pub mod Lifting
 pub mod Sections
 pub mod Placing
 pub mod Moving
+pub mod Printing
 pub mod Laws

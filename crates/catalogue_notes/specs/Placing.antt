@@ -1,9 +1,10 @@
 -- Which section stands at which element, by the winning bids.
-use Rattle.std.specs.Prelude.{◌≡◌, ◌↔◌, Option, Some, None, is_some, List}
+use Rattle.std.specs.Prelude.{◌≡◌, ◌↔◌, Option, Some, None, IfSome, is_some, List, reverse, slice_get}
 use Rattle.std.specs.BTreeMap.{get}
 use Rattle.std.specs.List.{Contains}
 use Rattle.fugue_ids.specs.Identifiers.{Identifier, id_cmp}
 use Rattle.fugue_ids.specs.declared.op.Op.{Op}
+use Rattle.origin_model.specs.operations.History.{holder}
 use Rattle.catalogue_notes.specs.Arranged.{arranged, position}
 use Rattle.catalogue_notes.specs.Lift.{is_section}
 use Rattle.catalogue_notes.specs.Lifting.{IsLiftOf}
@@ -29,5 +30,6 @@ IsPlacing at sections placing = (x s : Identifier) → (placing x ≡ Some s) �
 pub record IsArranged (h : List Op) (a : Arrangement) : Type 0 where
   pub sections : a.sections.items ≡ arranged h
   pub known : (s : Identifier) → is_some (get id_cmp a.index s) ≡ is_section h s
+  pub found : (s : Identifier) → IfSome (get id_cmp a.index s) (λ at. slice_get (reverse h) at ≡ holder h s)
   pub lifted : IsLiftOf h a.lifted.list a.lifted.moves.items
   pub positions : (s : Identifier) → position_in (get id_cmp a.winners) s ≡ position h s

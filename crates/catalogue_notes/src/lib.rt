@@ -3,11 +3,14 @@
 
 mod arrangement;
 mod laws;
+mod layout;
 mod lifting;
 mod making;
 mod moving;
+mod printing;
 mod reading;
 mod retitles;
+mod retitling;
 mod sections;
 mod standing;
 mod winning;
@@ -17,3 +20,5 @@ pub use laws::{
     valid_in_whole, winners,
 };
 pub use moving::{MoveFault, move_section};
+pub use printing::{ArrangeFault, write_arranged};
+pub use retitling::retitle;

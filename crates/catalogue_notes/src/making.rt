@@ -1,5 +1,5 @@
 //! The names and the bodies of moves.
-ghost use Rattle.std.specs.Prelude.{◌≡◌, ◌<◌, IfOk, List, length, option_map, reverse};
+ghost use Rattle.std.specs.Prelude.{◌≡◌, ◌<◌, IfOk, List, Some, length, option_map, reverse, slice_get};
 ghost use Rattle.std.specs.BTreeMap.{get};
 ghost use Rattle.fugue_ids.specs.Identifiers.{id_cmp};
 ghost use Rattle.fugue_ids.specs.declared.op.Op.{Op as OpOf};
@@ -78,6 +78,14 @@ pub(crate) fn gap_for(arrangement: &Arrangement, k: usize, j: usize) -> Gap
     let left = left_for(arrangement, k, j);
     let right = right_for(arrangement, &left);
     Gap { left, right }
+}
+
+/// The section that stands at k.
+pub(crate) fn section_at(arrangement: &Arrangement, k: usize) -> ElementId
+    requires { k < length arrangement.now.sections.items }
+    ensures { slice_get arrangement.now.sections.items k ≡ Some result }
+{
+    arrangement.sections[k]
 }
 
 pub(crate) fn names_of(section: ElementId, gap: &Gap) -> NoteNames

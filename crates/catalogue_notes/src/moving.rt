@@ -1,12 +1,13 @@
 //! A section moved: a note that says where it stands.
-ghost use Rattle.std.specs.Prelude.{◌≡◌, ◌≢◌, IfErr, IfOk, Some, OnErr};
+ghost use Rattle.std.specs.Prelude.{◌≡◌, ◌≢◌, IfErr, IfOk, None, Some, OnErr, OnOk};
 ghost use Rattle.origin_model.specs.edits.Noting.{AreHeld, IsNoted};
 ghost use Rattle.origin_model.specs.edits.State.{Stands};
 ghost use Rattle.origin_model.specs.taking.Taking.{IsSettled};
-ghost use Rattle.catalogue_notes.specs.Moving.{IsMoveMade, IsMovePlan, NoteRefusesAs, RefusesFor, as_move_fault, move_cause, move_refusal};
+ghost use Rattle.catalogue_notes.specs.Moving.{IsMoveMade, IsMovePlan, NoteRefusesAs, RefusesFor, TellsAbsence, as_move_fault};
+ghost use Rattle.catalogue_notes.specs.Moving.{move_refusal, place_cause, section_cause, stamps_cause};
 
 use crate::arrangement::Arrangement;
-use crate::making::{body_of, gap_for, names_of, next_stamp};
+use crate::making::{body_of, gap_for, names_of, next_stamp, section_at};
 use crate::reading::MOVE;
 use fugue_ids::{Body, NoMemory, NoteNames};
 use origin_model::EditFault;
@@ -75,27 +76,47 @@ pub(crate) struct Plan {
     pub body: Body,
 }
 
+/// Whether there is such a section. It takes no memory.
+pub(crate) fn find_section(replica: &Replica, k: usize) -> Result<(), MoveFault>
+    ensures ok { OnOk result (section_cause replica.now k ≡ None) }
+    ensures err { IfErr result (λ fault. section_cause replica.now k ≡ Some fault) }
+    ensures stands { Stands replica.now }
+{
+    if k >= replica.section_count() {
+        return Err(MoveFault::NoSection);
+    }
+    Ok(())
+}
+
+/// Whether there is such a section, and such a place. It takes no memory.
+fn find_place(replica: &Replica, k: usize, j: usize) -> Result<(), MoveFault>
+    ensures ok { OnOk result (place_cause replica.now k j ≡ None) }
+    ensures err { IfErr result (λ fault. place_cause replica.now k j ≡ Some fault) }
+    ensures stands { Stands replica.now }
+{
+    find_section(replica, k)?;
+    if j >= replica.section_count() {
+        return Err(MoveFault::NoPlace);
+    }
+    Ok(())
+}
+
 /// What moves the section k to j.
 fn plan_move(alloc: Global, replica: &Replica, k: usize, j: usize) -> Result<Plan, MoveFault>
+    requires { place_cause replica.now k j ≡ None }
     ensures ok { IfOk result (λ plan. IsMovePlan replica.now k j plan) }
-    ensures err { IfErr result (λ fault. fault ≢ MoveFault.NoMemory → move_cause replica.now k j ≡ Some fault) }
+    ensures err { IfErr result (λ fault. fault ≢ MoveFault.NoMemory → stamps_cause replica.now ≡ Some fault) }
     ensures stands { Stands replica.now }
 {
     let ops = replica.accepted();
     let arrangement = Arrangement::of(alloc, ops, replica.places().catalogue())?;
-    if k >= arrangement.sections.len() {
-        return Err(MoveFault::NoSection);
-    }
-    if j >= arrangement.sections.len() {
-        return Err(MoveFault::NoPlace);
-    }
     let Some(stamp) = next_stamp(alloc, ops, &arrangement)? else {
         return Err(MoveFault::StampsSpent);
     };
     let gap = gap_for(&arrangement, k, j);
     let body = body_of(alloc, stamp, &gap)?;
     Ok(Plan {
-        names: names_of(arrangement.sections[k], &gap),
+        names: names_of(section_at(&arrangement, k), &gap),
         body,
     })
 }
@@ -125,11 +146,13 @@ pub fn move_section(
 ) -> Result<u32, MoveFault>
     requires { IsSettled replica.old.held }
     ensures made { IfOk result (λ n. IsMoveMade replica.old replica.new k j n) }
+    ensures absent { TellsAbsence (place_cause replica.old k j) result }
     ensures refused { RefusesFor (move_refusal replica.old k j) result }
     ensures unmade { OnErr result (replica.new ≡ replica.old) }
     ensures settled { IsSettled replica.new.held }
     ensures stands { Stands replica.new }
 {
+    find_place(replica, k, j)?;
     let plan = plan_move(alloc, replica, k, j)?;
     make(replica, MOVE, plan)
 }

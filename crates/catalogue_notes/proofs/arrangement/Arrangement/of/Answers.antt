@@ -1,5 +1,7 @@
-use Rattle.std.proofs.Common.{List, ap, not, reverse, subst, ◌∙◌, ◌≡◌, Bool}
-use Rattle.std.specs.Prelude.{flat_map, option_to_list}
+use Rattle.std.proofs.Common.{List, ap, not, reverse, subst, sym, ◌∙◌, ◌≡◌, Bool}
+use Rattle.std.specs.Prelude.{IfSome, flat_map, option_to_list, slice_get}
+use Rattle.std.proofs.lemmas.List.{reverse-reverse}
+use Rattle.origin_model.specs.operations.History.{holder}
 use Rattle.std.specs.List.{All}
 use Rattle.std.specs.BTreeMap.{get}
 use Rattle.std.specs.BTreeSet.{contains}
@@ -41,6 +43,7 @@ returns c =
           ∙ arranged_by h (get id_cmp c.in_ok-placing.placing) c.requires.lawful
           (placing_same h (section_cell_ids (section_cells_shown c.args.catalogue.now.cells)) at (get id_cmp c.in_ok-placing.placing) c.requires.catalogue.visible pos c.in_ok-placing.ensures);
       known = c.in_ok-index.ensures.known;
+      found = λ s. subst (λ l. IfSome (get id_cmp c.in_ok-index.index s) (λ at. slice_get l at ≡ holder h s)) (sym (reverse-reverse c.args.ops.now)) (c.in_ok-index.ensures.found s);
       lifted = c.in_ok-lifted.ensures;
       positions = pos;
     }

@@ -1,0 +1,66 @@
+-- What is printed of the sections, by what is looked up of them, and what a call that prints them does.
+use Rattle.std.specs.Prelude.{◌≡◌, ℕ, true, Option, Some, None, Result, Ok, Err, is_some, List, [], ◌∷◌, ◌++◌, codes, drop, option_map, reverse, slice_get}
+use Rattle.std.specs.BTreeMap.{get}
+use Rattle.std.specs.Str.{encode_utf8_all}
+use Rattle.fugue_ids.specs.Identifiers.{Identifier, id_cmp}
+use Rattle.fugue_ids.specs.Outs.{OutView, WritesBytes}
+use Rattle.fugue_ids.specs.declared.op.Op.{Op}
+use Rattle.fugue_ids.specs.declared.op.Op.TheVariants.{Section, Text, Delete, Note}
+use Rattle.fugue_ids.specs.declared.out.Failed.{Failed}
+use Rattle.origin_model.specs.operations.History.{holder}
+use Rattle.section_list.specs.Cells.{section_text}
+use Rattle.section_list.specs.SectionList.{Listing}
+use Rattle.section_catalogue.specs.Contents.{Contents, text_at}
+use Rattle.catalogue_notes.specs.Arranged.{winner}
+use Rattle.catalogue_notes.specs.Claims.{retitle_in}
+use Rattle.catalogue_notes.specs.Lift.{retitles}
+use Rattle.catalogue_notes.specs.Placing.{IsArranged}
+use Rattle.catalogue_notes.specs.Readings.{bid_of}
+use Rattle.catalogue_notes.specs.declared.layout.Layout.{Layout}
+use Rattle.catalogue_notes.specs.declared.printing.ArrangeFault.{ArrangeFault}
+use Rattle.catalogue_notes.specs.declared.printing.ArrangeFault.TheVariants.{SinkFault, NoMemory}
+
+-- the title that an operation gives: in a retitle it stands behind the stamp
+abbrev pub title_in : Op → List ℕ
+title_in (Section id left right title) = encode_utf8_all title
+title_in (Text id section left right ch) = []
+title_in (Delete target) = []
+title_in (Note id named code body) = drop 4 body
+
+abbrev pub title_of_op : Option Op → List ℕ
+title_of_op None = []
+title_of_op (Some op) = title_in op
+
+abbrev pub title_at : List Op → Option ℕ → List ℕ
+title_at ops None = []
+title_at ops (Some at) = title_of_op (slice_get ops at)
+
+-- where the title of a section stands: in its winning retitle, or in its Section
+abbrev pub title_place : Layout → Identifier → Option ℕ
+title_place l s = elim (get id_cmp l.winners s) [ None ↦ get id_cmp l.arrangement.index s | Some b ↦ get id_cmp l.retitles b.id ]
+
+-- each note of the history that has the shape of a retitle is found, at its place in the list
+abbrev pub HasRetitles : (ops h : List Op) → (Identifier → Option ℕ) → Type 0
+HasRetitles ops h index =
+    (r : Identifier) (op : Op) → holder h r ≡ Some op → is_some (retitle_in op) ≡ true → (at : ℕ) × (index r ≡ Some at) × (slice_get ops at ≡ Some op)
+
+-- the arrangement of a history, and where its titles stand
+pub record IsLayout (h : List Op) (l : Layout) : Type 0 where
+  pub arranged : IsArranged h l.arrangement
+  pub winners : (s : Identifier) → get id_cmp l.winners s ≡ option_map bid_of (winner h s (retitles h))
+  pub retitles_at : HasRetitles (reverse h) h (get id_cmp l.retitles)
+
+-- a hash sign, a space, the title, LF, the text, LF
+abbrev pub page : List ℕ → Option Listing → List ℕ
+page title None = []
+page title (Some l) = codes "# " ++ title ++ 10 ∷ encode_utf8_all (section_text l.cells) ++ 10 ∷ []
+
+-- what is printed of a section
+abbrev pub printed_by : Contents → List Op → Layout → Identifier → List ℕ
+printed_by m ops l s = page (title_at ops (title_place l s)) (text_at m s)
+
+-- the text goes out, or the output fails with a front of it gone out, or memory is wanting and nothing went out
+abbrev pub WritesText : OutView → OutView → Result (Unit {0}) ArrangeFault → List ℕ → Type 0
+WritesText old new (Ok done) text = WritesBytes {E = Failed} {T = Unit {0}} old new (Ok done) text
+WritesText old new (Err SinkFault) text = WritesBytes {E = Failed} {T = Unit {0}} old new (Err (record {})) text
+WritesText old new (Err NoMemory) text = new ≡ old

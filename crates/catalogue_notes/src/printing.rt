@@ -1,0 +1,182 @@
+//! The sections printed as they are arranged, under their headings.
+ghost use Rattle.std.specs.Prelude.{◌≡◌, ◌++◌, ◌∷◌, List, [], ℕ, Some, codes, drop, flat_map};
+ghost use Rattle.fugue_ids.specs.Gathers.{GathersText};
+ghost use Rattle.fugue_ids.specs.Outs.{OutView, WritesBytes};
+ghost use Rattle.origin_model.specs.edits.State.{Stands};
+ghost use Rattle.catalogue_notes.specs.Arranged.{arranged_text};
+ghost use Rattle.catalogue_notes.specs.Printing.{WritesText, page, printed_by, title_at as title_at_in, title_in as title_in_op};
+
+use crate::layout::Layout;
+use fugue_ids::{ElementId, Failed, Gather, NoMemory, Op, Out};
+use outer_ports::Sink;
+use replica_core::Replica;
+use section_catalogue::Manuscript;
+use section_list::SectionList;
+use std::alloc::Global;
+use std::error::Error;
+use std::fmt;
+
+/// Why the sections were not printed whole.
+#[derive(Clone, Copy, Debug, PartialEq, Eq)]
+pub enum ArrangeFault {
+    /// The output failed, and its count of faults rose. A front of the text is written.
+    SinkFault,
+    /// Nothing is written.
+    NoMemory,
+}
+
+impl fmt::Display for ArrangeFault {
+    fn fmt<W: fmt::Write>(&self, f: &mut fmt::Formatter<W>) -> fmt::Result {
+        match self {
+            ArrangeFault::SinkFault => write!(f, "{}", Failed),
+            ArrangeFault::NoMemory => write!(f, "{}", NoMemory),
+        }
+    }
+}
+
+impl Error for ArrangeFault {}
+
+impl From<NoMemory> for ArrangeFault {
+    ghost use Rattle.std.specs.Prelude.{◌≡◌};
+    ghost use Rattle.catalogue_notes.specs.declared.printing.ArrangeFault.TheVariants.{NoMemory as no_memory};
+
+    ghost from_gives = { λ _ e. e ≡ no_memory };
+
+    fn from(_e: NoMemory) -> ArrangeFault {
+        ArrangeFault::NoMemory
+    }
+}
+
+/// The bytes behind the stamp of a retitle.
+fn behind_stamp(body: &[u8]) -> &[u8]
+    ensures { result.now ≡ drop 4 body.now }
+{
+    match body {
+        [_, _, _, _, title @ ..] => title,
+        _ => &[],
+    }
+}
+
+/// The title that an operation gives.
+fn title_in(op: &Op) -> &[u8]
+    ensures { result.now ≡ title_in_op op.now }
+{
+    match op {
+        Op::Section { title, .. } => title.as_str().as_bytes(),
+        Op::Note { body, .. } => behind_stamp(body.as_slice()),
+        Op::Text { .. } | Op::Delete { .. } => &[],
+    }
+}
+
+/// The title that the operation at the place gives.
+fn title_at(ops: &[Op], at: Option<usize>) -> &[u8]
+    ensures { result.now ≡ title_at_in ops.now at }
+{
+    let Some(at) = at else {
+        return &[];
+    };
+    match ops.get(at) {
+        Some(op) => title_in(op),
+        None => &[],
+    }
+}
+
+/// Puts the line that heads a section.
+fn put_heading<O: Out>(gather: &mut Gather, output: &mut O, title: &[u8]) -> Result<(), Failed>
+    ensures { GathersText (O.seen output.old) (O.seen output.new) gather.old gather.new result
+        (codes "# " ++ title.now ++ 10 ∷ []) }
+{
+    gather.put_pieces(output, &[b"# ", title, b"\n"])
+}
+
+/// Puts a section under the title.
+fn put_page<O: Out>(
+    gather: &mut Gather,
+    output: &mut O,
+    title: &[u8],
+    text: &SectionList,
+) -> Result<(), Failed>
+    ensures { GathersText (O.seen output.old) (O.seen output.new) gather.old gather.new result
+        (page title.now (Some text.now)) }
+{
+    put_heading(gather, output, title)?;
+    text.put_text(gather, output)?;
+    gather.put(output, b"\n")
+}
+
+/// Puts the section with the identifier.
+fn put_section<O: Out>(
+    gather: &mut Gather,
+    output: &mut O,
+    ops: &[Op],
+    places: &Manuscript,
+    layout: &Layout,
+    section: ElementId,
+) -> Result<(), Failed>
+    ensures { GathersText (O.seen output.old) (O.seen output.new) gather.old gather.new result
+        (printed_by places.now ops.now layout.now section) }
+{
+    let title = title_at(ops, layout.title_place(section));
+    match places.section(section) {
+        Some(text) => put_page(gather, output, title, text),
+        None => Ok(()),
+    }
+}
+
+/// Puts the sections in their order.
+fn put_sections<O: Out>(
+    gather: &mut Gather,
+    output: &mut O,
+    ops: &[Op],
+    places: &Manuscript,
+    layout: &Layout,
+) -> Result<(), Failed>
+    ensures { GathersText (O.seen output.old) (O.seen output.new) gather.old gather.new result
+        (flat_map (printed_by places.now ops.now layout.now) layout.now.arrangement.sections.items) }
+{
+    'sections: for section in layout.arrangement.sections.as_slice() {
+        put_section(gather, output, ops, places, layout, *section)?;
+    }
+    Ok(())
+}
+
+/// Writes the sections in their order. It takes no memory.
+fn write_sections<O: Out>(
+    output: &mut O,
+    ops: &[Op],
+    places: &Manuscript,
+    layout: &Layout,
+) -> Result<(), Failed>
+    ensures { WritesBytes (O.seen output.old) (O.seen output.new) result
+        (flat_map (printed_by places.now ops.now layout.now) layout.now.arrangement.sections.items) }
+{
+    let mut gather = Gather::new();
+    put_sections(&mut gather, output, ops, places, layout)?;
+    gather.flush(output)
+}
+
+fn told(written: Result<(), Failed>) -> Result<(), ArrangeFault>
+    ensures { (old new : OutView) (text : List ℕ) → WritesBytes old new written text → WritesText old new result text }
+{
+    match written {
+        Ok(()) => Ok(()),
+        Err(_) => Err(ArrangeFault::SinkFault),
+    }
+}
+
+/// Writes the shown sections as they are arranged, under their headings, in the form of the manuscript. What takes
+/// memory is done before the first byte goes out.
+pub fn write_arranged<O: Sink>(
+    alloc: Global,
+    replica: &Replica,
+    output: &mut O,
+) -> Result<(), ArrangeFault>
+    ensures text { WritesText (O.seen output.old) (O.seen output.new) result
+        (arranged_text replica.now.held.history) }
+    ensures stands { Stands replica.now }
+{
+    let ops = replica.accepted();
+    let places = replica.places();
+    let layout = Layout::of(alloc, ops, places.catalogue())?;
+    told(write_sections(output, ops, places, &layout))
+}

@@ -1,0 +1,80 @@
+//! A section retitled: a note that says what its title is.
+ghost use Rattle.std.specs.Prelude.{◌≡◌, ◌≢◌, IfErr, IfOk, None, Some, OnErr, OnOk, true, [], ◌∷◌};
+ghost use Rattle.std.specs.Str.{encode_utf8_all};
+ghost use Rattle.origin_model.specs.edits.State.{Stands};
+ghost use Rattle.origin_model.specs.taking.Taking.{IsSettled};
+ghost use Rattle.catalogue_notes.specs.Claims.{is_title};
+ghost use Rattle.catalogue_notes.specs.Making.{retitle_body};
+ghost use Rattle.catalogue_notes.specs.Moving.{IsRetitleMade, IsRetitlePlan, RefusesFor, TellsAbsence};
+ghost use Rattle.catalogue_notes.specs.Moving.{retitle_refusal, section_cause, stamps_cause};
+
+use crate::arrangement::Arrangement;
+use crate::making::{next_stamp, section_at};
+use crate::moving::{MoveFault, Plan, find_section, make};
+use crate::reading::RETITLE;
+use fugue_ids::{Body, ElementId, NoMemory, NoteNames, Title};
+use replica_core::Replica;
+use std::alloc::Global;
+
+fn names_of(section: ElementId) -> NoteNames
+    ensures { result ≡ section ∷ [] }
+{
+    NoteNames::read(&[section]).unwrap()
+}
+
+/// The body of a retitle.
+fn body_of(alloc: Global, stamp: u32, title: &Title) -> Result<Body, NoMemory>
+    ensures text { OnOk result (is_title (encode_utf8_all title.now) ≡ true) }
+    ensures body { IfOk result (λ body. body ≡ retitle_body stamp (encode_utf8_all title.now)) }
+{
+    let mut bytes = Vec::from_slice(alloc, &stamp.to_be_bytes())?;
+    bytes.extend_from_slice(title.as_str().as_bytes())?;
+    match Body::read(alloc, bytes.as_slice()) {
+        Ok(body) => Ok(body),
+        Err(_) => Err(NoMemory),
+    }
+}
+
+/// What gives the section k the title.
+fn plan_retitle(
+    alloc: Global,
+    replica: &Replica,
+    k: usize,
+    title: &Title,
+) -> Result<Plan, MoveFault>
+    requires { section_cause replica.now k ≡ None }
+    ensures ok { IfOk result (λ plan. IsRetitlePlan replica.now k title.now plan) }
+    ensures err { IfErr result (λ fault. fault ≢ MoveFault.NoMemory → stamps_cause replica.now ≡ Some fault) }
+    ensures stands { Stands replica.now }
+{
+    let ops = replica.accepted();
+    let arrangement = Arrangement::of(alloc, ops, replica.places().catalogue())?;
+    let Some(stamp) = next_stamp(alloc, ops, &arrangement)? else {
+        return Err(MoveFault::StampsSpent);
+    };
+    let body = body_of(alloc, stamp, title)?;
+    Ok(Plan {
+        names: names_of(section_at(&arrangement, k)),
+        body,
+    })
+}
+
+/// Gives the section k, counted from 0 as sections are arranged, the title. The answer is 1.
+pub fn retitle(
+    alloc: Global,
+    replica: &mut Replica,
+    k: usize,
+    title: Title,
+) -> Result<u32, MoveFault>
+    requires { IsSettled replica.old.held }
+    ensures made { IfOk result (λ n. IsRetitleMade replica.old replica.new k title n) }
+    ensures absent { TellsAbsence (section_cause replica.old k) result }
+    ensures refused { RefusesFor (retitle_refusal replica.old k) result }
+    ensures unmade { OnErr result (replica.new ≡ replica.old) }
+    ensures settled { IsSettled replica.new.held }
+    ensures stands { Stands replica.new }
+{
+    find_section(replica, k)?;
+    let plan = plan_retitle(alloc, replica, k, &title)?;
+    make(replica, RETITLE, plan)
+}
