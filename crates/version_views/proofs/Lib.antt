@@ -3,3 +3,4 @@ mod Examples
 pub mod ViewLemmas
 pub mod VersionLemmas
 pub mod NamingLemmas
+pub mod LineLemmas

@@ -1,8 +1,8 @@
 -- The manuscript of the operations that were accepted first, and what is written of the versions of a file.
-use Rattle.std.specs.Prelude.{ℕ, ◌-◌, List, ◌++◌, [], ◌∷◌, decimal, drop, flat_map, length}
+use Rattle.std.specs.Prelude.{ℕ, ◌-◌, Some, None, List, ◌++◌, [], ◌∷◌, decimal, drop, flat_map, length}
 use Rattle.fugue_ids.specs.declared.op.Op.{Op}
 use Rattle.origin_model.specs.order.Printed.{manuscript}
-use Rattle.version_views.specs.Versions.{Version, versions}
+use Rattle.version_views.specs.Versions.{Version, name_in, versions}
 
 -- the n operations that were accepted first
 abbrev pub first_ops : ℕ → List Op → List Op
@@ -15,6 +15,10 @@ view history n = manuscript (first_ops n history)
 -- the line of a version: how many operations it has, a space, its name, LF
 abbrev pub version_line : Version → List ℕ
 version_line v = decimal v.count ++ 32 ∷ v.name ++ 10 ∷ []
+
+-- the line of the operation that has so many before it, where that is a version
+abbrev pub line_in : ℕ → List Op → ℕ → Op → List ℕ
+line_in r history count op = elim (name_in r history op) [ None ↦ [] | Some name ↦ version_line (record { name = name; count = count }) ]
 
 -- the lines of a file's versions
 abbrev pub versions_text : List Op → ℕ → List ℕ
