@@ -4,3 +4,6 @@ pub mod ViewLemmas
 pub mod VersionLemmas
 pub mod NamingLemmas
 pub mod LineLemmas
+pub mod FrontLemmas
+pub mod WalkLemmas
+pub mod PartLemmas
