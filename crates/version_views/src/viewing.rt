@@ -1,6 +1,7 @@
-//! The manuscript of the operations that were accepted first. Today's lists are walked, and what these operations lack is
-//! left out.
-ghost use Rattle.std.specs.Prelude.{◌≡◌, ◌≢◌, ◌≤◌, Err, Some, AllPairs, Contains, flat_map, length, option_map, option_to_list};
+//! The manuscript of the operations that were accepted first. Today's lists are walked, and what these operations lack
+//! is left out.
+ghost use Rattle.std.specs.Prelude.{◌≡◌, ◌≢◌, ◌≤◌, Err, Some, AllPairs, Contains};
+ghost use Rattle.std.specs.Prelude.{flat_map, length, option_map, option_to_list};
 ghost use Rattle.std.specs.Str.{encode_utf8_all};
 ghost use Rattle.fugue_ids.specs.Gathers.{GathersText};
 ghost use Rattle.fugue_ids.specs.Outs.{WritesBytes};
@@ -24,7 +25,7 @@ use std::fmt;
 pub enum ViewFault {
     /// The sink failed. A front of the view is written.
     SinkFault,
-    /// Nothing was written.
+    /// Nothing was written. The walk takes no memory, so this is not answered.
     NoMemory,
 }
 
@@ -204,8 +205,8 @@ fn write_first<O: Sink>(replica: &Replica, n: usize, output: &mut O) -> Result<(
     gather.flush(output)
 }
 
-/// Writes the manuscript of the first n operations, in the order in which they were accepted: that of a version, where n
-/// is its count. It goes out by whole arrays, and takes no memory.
+/// Writes the manuscript of the first n operations, in the order in which they were accepted: that of a version, where
+/// n is its count. It goes out by whole arrays, and takes no memory.
 pub fn write_view<O: Sink>(replica: &Replica, n: usize, output: &mut O) -> Result<(), ViewFault>
     requires { n ≤ length replica.now.held.history }
     ensures text { WritesBytes (O.seen output.old) (O.seen output.new) result (view replica.now.held.history n) }
