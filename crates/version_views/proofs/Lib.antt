@@ -3,3 +3,7 @@ mod Examples
 pub mod ViewLemmas
 pub mod VersionLemmas
 pub mod NamingLemmas
+pub mod LineLemmas
+pub mod FrontLemmas
+pub mod WalkLemmas
+pub mod PartLemmas

@@ -5,8 +5,12 @@ mod laws;
 mod limits;
 mod listing;
 mod naming;
+mod printing;
+mod viewing;
 
 pub use laws::{later_ops_leave_versions, view_by_filter};
 pub use limits::{LONGEST_NAME, VERSION_CODE};
 pub use listing::{find_version, is_name};
 pub use naming::{VersionFault, name_version};
+pub use printing::write_versions;
+pub use viewing::{ViewFault, write_view};

@@ -66,7 +66,7 @@ fn is_withdrawn(replica: &Replica, op: &Op) -> bool
 }
 
 /// The name of the version that an operation is.
-fn name_of<'a>(replica: &Replica, op: &'a Op) -> Option<&'a [u8]>
+pub(crate) fn name_of<'a>(replica: &Replica, op: &'a Op) -> Option<&'a [u8]>
     ensures { option_map (λ name. name.now) result ≡ name_in replica.now.number replica.now.held.history op.now }
 {
     match given_name(replica.number(), op) {
