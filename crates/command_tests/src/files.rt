@@ -148,7 +148,7 @@ const LOADED: &[(&[u8], usize, usize, u8, u32, Loaded)] = &[
     // A length above the greatest one, and one that cuts the last frame.
     (SAVED, 107, 14, 0x31, 9, Err(LoadFault::BadBatch(0))),
     (SAVED, 107, 17, 0x57, 9, Err(LoadFault::BadBatch(0))),
-    (SAVED, 107, 18, 5, 9, Err(LoadFault::BadBatch(0))),
+    (SAVED, 107, 18, 6, 9, Err(LoadFault::BadBatch(0))),
     (SAVED, 107, 106, 1, 9, Err(LoadFault::BadBatch(1))),
     (SAVED, 107, 106, 1, 4, Err(LoadFault::TooMany(4))),
     (SAVED, 106, 13, 1, 4, Err(LoadFault::BadBatch(0))),
