@@ -330,6 +330,8 @@ printf 'put 1 1 x\ncut 1 0 1\n' >script
 "$program" new ben 2 16 <"$nothing"
 "$program" edit ben <second 2>/dev/null
 cp ben other
+cp ben sections
+printf 'add 2 V\n' | "$program" edit sections 2>/dev/null
 "$program" send ben <"$nothing" >frames
 
 try_command 'edit' - "$nothing" edit
@@ -343,6 +345,10 @@ try_command 'print home' ann "$nothing" print home
 try_command 'take home < frames' ann frames take home
 try_command 'send home' ann "$nothing" send home
 try_command 'merge home other' ann "$nothing" merge home other
+try_command 'move home 2 1' sections "$nothing" move home 2 1
+try_command 'arrange home' sections "$nothing" arrange home
+try_command 'comment home 1 0 1 x' ben "$nothing" comment home 1 0 1 x
+try_command 'view home none' ben "$nothing" view home none
 try_command 'bulk 7 4' - "$nothing" bulk 7 4
 try_command 'relay PORT 2' - "$nothing" relay "$port" 2
 show_calls EMFILE accept 2 'relay PORT 2, where no descriptor is left for a while' - "$nothing" relay "$port" 2

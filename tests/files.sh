@@ -94,6 +94,62 @@ script put_x 'put 1 0 x'
 try 'a counter that a waiting one names is not used' put_x 0 '' 'made 1\n' edit "$work/w"
 try 'what waits is sent behind what is accepted' nothing 0 "$section$(letter '1 1' '9 0' '' '' x)$waits" '' send "$work/w"
 
+# Sections are moved and retitled.
+new_file moved
+script three_sections 'add 1 A' 'add 2 B' 'add 3 C'
+sections='\1'$(id 1 0)'\0\0\0\1A\1'$(id 1 1)$(origin 1 0)'\0\0\1B\1'$(id 1 2)$(origin 1 1)'\0\0\1C'
+move='\5'$(id 1 3)'\2'$(id 1 2)$(id 1 0)'\1\0\5\0\0\0\1\2'
+try 'three sections' three_sections 0 '' 'made 3\n' edit "$work/moved"
+try 'the last one is moved to the front' nothing 0 '' 'made 1\n' move "$work/moved" 3 1
+check 'the move is a batch of one note' holds moved "$(header 1 16)$(batch "$sections")$(batch "$move")"'\0'
+try 'the sections are arranged' nothing 0 '# C\n\n# A\n\n# B\n\n' '' arrange "$work/moved"
+try 'and printed as if none was moved' nothing 0 '# A\n\n# B\n\n# C\n\n' '' print "$work/moved"
+try 'one gets another title' nothing 0 '' 'made 1\n' retitle "$work/moved" 1 'Two words'
+try 'it is arranged under that title' nothing 0 '# Two words\n\n# A\n\n# B\n\n' '' arrange "$work/moved"
+cp "$work/moved" "$work/as_moved"
+try 'a section that is not there' nothing 2 '' 'no section 4\n' move "$work/moved" 4 1
+try 'a place that is not there' nothing 2 '' 'no place 4\n' move "$work/moved" 1 4
+try 'a section with no title to change' nothing 2 '' 'no section 4\n' retitle "$work/moved" 4 T
+try 'the section before the first is none' nothing 1 '' "$usage" move "$work/moved" 0 1
+because 'usage: manuscript move FILE K J'
+try 'an empty title' nothing 1 '' "$usage" retitle "$work/moved" 1 ''
+because 'usage: manuscript retitle FILE K TITLE'
+try 'a title of two lines' nothing 1 '' "$usage" retitle "$work/moved" 1 $'a\nb'
+try 'a title that is too long' nothing 1 '' "$usage" retitle "$work/moved" 1 "$(printf '%0481d' 0)"
+try 'a title that is not UTF-8' nothing 1 '' "$usage" retitle "$work/moved" 1 $'\xff'
+try 'two files to arrange' nothing 1 '' "$usage" arrange "$work/moved" "$f"
+because 'usage: manuscript arrange FILE'
+check 'nothing of these was saved' cmp -s "$work/moved" "$work/as_moved"
+
+# Comments and versions.
+new_file noted
+script five_letters 'add 1 T' 'put 1 0 ABCDE'
+script no_section 'drop 1'
+try 'five letters' five_letters 0 '' 'made 6\n' edit "$work/noted"
+try 'three of them get a comment' nothing 0 '' 'made 1\n' comment "$work/noted" 1 1 3 'Is it so?'
+try 'it is printed' nothing 0 '1 1 4 Is it so?\n' '' comments "$work/noted"
+try 'a version gets a name' nothing 0 '' 'made 1\n' version "$work/noted" 'first draft'
+try 'the section goes' no_section 0 '' 'made 1\n' edit "$work/noted"
+try 'no comment is printed' nothing 0 '' '' comments "$work/noted"
+try 'the version is listed' nothing 0 '7 first draft\n' '' versions "$work/noted"
+try 'and viewed' nothing 0 '# T\nABCDE\n' '' view "$work/noted" 'first draft'
+cp "$work/noted" "$work/as_noted"
+try 'another one is not there' nothing 2 '' 'no version second draft\n' view "$work/noted" 'second draft'
+try 'a name of 120 bytes is none of a version' nothing 2 '' "no version $(printf '%0120d' 0)\n" view "$work/noted" "$(printf '%0120d' 0)"
+try 'a section that is not there' nothing 2 '' 'no section 1\n' comment "$work/noted" 1 0 1 x
+try 'a comment on nothing' nothing 1 '' "$usage" comment "$work/noted" 1 0 0 x
+because 'usage: manuscript comment FILE K P N TEXT'
+try 'a comment that is too long' nothing 1 '' "$usage" comment "$work/noted" 1 0 1 "$(printf '%01025d' 0)"
+try 'a comment of two lines' nothing 1 '' "$usage" comment "$work/noted" 1 0 1 $'a\nb'
+try 'a name that is too long' nothing 1 '' "$usage" version "$work/noted" "$(printf '%0121d' 0)"
+because 'usage: manuscript version FILE NAME'
+try 'an empty name' nothing 1 '' "$usage" view "$work/noted" ''
+because 'usage: manuscript view FILE NAME'
+try 'a name that is not UTF-8' nothing 1 '' "$usage" version "$work/noted" $'\xff'
+check 'nothing of these was saved' cmp -s "$work/noted" "$work/as_noted"
+try 'the longest name' nothing 0 '' 'made 1\n' version "$work/noted" "$(printf '%0120d' 0)"
+try 'is found' nothing 0 '' '' view "$work/noted" "$(printf '%0120d' 0)"
+
 # The last counter is spent.
 last='\2\0\0\0\1\377\377\377\377'$(id 9 0)'\0\0\0\0y'
 put spent "$section" "$last"
@@ -159,7 +215,7 @@ because "manuscript: $work/none: no such file (manuscript new makes one)"
 try 'a folder that is not there' nothing 4 '' "$outside" new "$work/no/file" 1 16
 because "manuscript: $work/no/file: not a directory"
 mkfifo "$work/pipe"
-for command in print send edit take check; do
+for command in print send edit take check arrange comments versions; do
     timeout 10 "$program" "$command" "$work/pipe" <"$work/nothing" >"$work/output" 2>"$work/notes"
     compare "a pipe is refused at once: $command" $? 4 '' "$outside"
     because "manuscript: $work/pipe: no regular file"
@@ -268,6 +324,8 @@ check 'none that was done is lost' [ "$(cat "$work/letters_of_both")" = 50a50b ]
 compare 'a full device as output' $? 4 '' "$outside"
 "$program" send "$f" </dev/null >/dev/full 2>"$work/notes"
 compare 'a full device as output of send' $? 4 '' "$outside"
+"$program" arrange "$f" </dev/null >/dev/full 2>"$work/notes"
+compare 'a full device as output of arrange' $? 4 '' "$outside"
 cp "$f" "$work/small"
 head -c 3000 /dev/zero | tr '\0' y >"$work/letters"
 { printf 'put 1 0 '; cat "$work/letters"; printf '\n'; } >"$work/much"

@@ -112,6 +112,10 @@ printf 'put 1 0 x\nput 9 0 y\n' >"$work/faulty"
 "$program" take "$work/ann" <"$work/odd" 2>/dev/null
 "$program" new "$work/ben" 2 16 </dev/null
 printf 'add 1 The land\nput 1 0 Hills.\n' | "$program" edit "$work/ben" 2>/dev/null
+cp "$work/ben" "$work/arranged"
+printf 'add 2 The sea\nput 2 0 Calm.\nadd 3 The town\n' | "$program" edit "$work/arranged" 2>/dev/null
+"$program" move "$work/arranged" 3 1 </dev/null 2>/dev/null
+"$program" retitle "$work/arranged" 3 'The shore' </dev/null 2>/dev/null
 head -c 300 /dev/zero | tr '\0' '\6' >"$work/bad"
 "$program" why "$work/ben" 1 0 5 </dev/null >"$work/reason"
 
@@ -125,6 +129,17 @@ wants print && refuse_each print "$work/ann" "$work/nothing" print "$work/home"
 wants take && refuse_each take "$work/ben" "$work/odd" take "$work/home"
 wants why && refuse_each why "$work/ben" "$work/nothing" why "$work/home" 1 0 5
 wants check && refuse_each check "$work/ben" "$work/reason" check "$work/home"
+wants arrange && refuse_each arrange "$work/arranged" "$work/nothing" arrange "$work/home"
+wants move && refuse_each move "$work/arranged" "$work/nothing" move "$work/home" 2 1
+wants comment && refuse_each comment "$work/arranged" "$work/nothing" comment "$work/home" 2 0 4 'Calm?'
+"$program" comment "$work/arranged" 2 0 4 'Calm?' </dev/null 2>/dev/null
+"$program" version "$work/arranged" first </dev/null 2>/dev/null
+printf 'put 2 5  So far.\n' | "$program" edit "$work/arranged" 2>/dev/null
+wants comments && refuse_each comments "$work/arranged" "$work/nothing" comments "$work/home"
+wants version && refuse_each version "$work/arranged" "$work/nothing" version "$work/home" second
+wants versions && refuse_each versions "$work/arranged" "$work/nothing" versions "$work/home"
+wants view && refuse_each view "$work/arranged" "$work/nothing" view "$work/home" first
+wants retitle && refuse_each retitle "$work/arranged" "$work/nothing" retitle "$work/home" 2 'The sky'
 wants send && refuse_each send "$work/ann" "$work/nothing" send "$work/home"
 wants merge && refuse_each merge "$work/ben" "$work/nothing" merge "$work/home" "$work/ann"
 port=$((20000 + RANDOM % 12000))

@@ -49,13 +49,42 @@ class Odd:
         scalars = b"".join(self.scalar() for _ in range(count))
         return b"\4" + first + self.section() + self.origin() + self.origin() + count.to_bytes(2, "big") + scalars
 
-    def note(self):
-        """A note, of which the names may be too many, and the body too long."""
+    def stamp(self):
+        return self.random.choice([0, 1, 2, 3, 0xFFFFFFFF]).to_bytes(4, "big")
+
+    def move(self):
+        """The code, the names and the body of a move, which may have a form or names that do not fit."""
+        form = self.random.choice([0, 1, 2, 3] * 10 + [4])
+        names = form.bit_count() + self.random.choice([0] * 20 + [1])
+        named = self.section() + b"".join(self.identifier() for _ in range(names))
+        return 1, named, self.stamp() + bytes([form])
+
+    def retitle(self):
+        title = self.random.choice([*TITLES, "", "a\nb", "t" * 481]).encode() + self.random.choice([b""] * 20 + [b"\xff"])
+        return 2, self.section(), self.stamp() + title
+
+    def comment(self):
+        """The code, the names and the body of a comment, of which the text may be none."""
+        names = self.random.choice([2] * 20 + [1, 3])
+        text = self.random.choice(["why?", "d'accord", "\u00e9", "", "a\nb", "c" * 1024]).encode()
+        return 3, b"".join(self.identifier() for _ in range(names)), text + self.random.choice([b""] * 20 + [b"\xff"])
+
+    def version(self):
+        name = self.random.choice(["one", "one", "second draft", "", "a\rb", "n" * 120, "n" * 121]).encode()
+        return 4, b"" if self.random.random() < 0.9 else self.identifier(), name + self.random.choice([b""] * 20 + [b"\xff"])
+
+    def other_note(self):
+        """A note of any code, of which the names may be too many, and the body too long."""
         names = self.random.choice([0, 1, 2, 3] * 20 + [4])
         body = bytes(self.random.choice(TELLING) for _ in range(self.random.choice([0, 1, 5, 9] * 20 + [1024, 1025])))
-        named = b"".join(self.identifier() for _ in range(names))
-        code = self.random.randrange(256).to_bytes(1, "big")
-        return b"\5" + self.identifier() + names.to_bytes(1, "big") + named + code + len(body).to_bytes(2, "big") + body
+        return self.random.randrange(256), b"".join(self.identifier() for _ in range(names)), body
+
+    def note(self):
+        code, named, body = self.random.choice(
+            [self.move, self.move, self.retitle, self.comment, self.comment, self.version, self.version, self.other_note]
+        )()
+        names = bytes([len(named) // 8]) + named
+        return b"\5" + self.identifier() + names + bytes([code]) + len(body).to_bytes(2, "big") + body
 
     def frame(self, runs):
         kind = self.random.random()
@@ -103,7 +132,7 @@ def read(command, data):
     notes = io.StringIO()
     with redirect_stdout(output), redirect_stderr(notes):
         try:
-            status = reader.COMMANDS[command](data)
+            status = reader.COMMANDS[command](data, *(["one"] if command == "view" else []))
         except reader.Refused as refused:
             print(refused, file=sys.stderr)
             status = refused.status
@@ -128,6 +157,10 @@ def main(program, seed, count):
             tries = [
                 ("show", stream, run(program, ["show"], stream)),
                 ("print", data, run(program, ["print", str(file)])),
+                ("arrange", data, run(program, ["arrange", str(file)])),
+                ("comments", data, run(program, ["comments", str(file)])),
+                ("versions", data, run(program, ["versions", str(file)])),
+                ("view", data, run(program, ["view", str(file), "one"])),
                 ("send", data, run(program, ["send", str(file)])),
             ]
             for command, given, seen in tries:

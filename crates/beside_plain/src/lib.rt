@@ -4,9 +4,13 @@
 #[cfg(test)]
 mod any_order;
 #[cfg(test)]
+mod arrangements;
+#[cfg(test)]
 mod assertions;
 #[cfg(test)]
 mod bulk_turns;
+#[cfg(test)]
+mod comments;
 #[cfg(test)]
 mod edits;
 #[cfg(test)]
@@ -22,6 +26,8 @@ mod op_lines;
 #[cfg(test)]
 mod plain;
 #[cfg(test)]
+mod plain_notes;
+#[cfg(test)]
 mod pools;
 #[cfg(test)]
 mod replicas;
@@ -29,3 +35,5 @@ mod replicas;
 mod rows;
 #[cfg(test)]
 mod turns;
+#[cfg(test)]
+mod versions;

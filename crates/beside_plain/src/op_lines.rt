@@ -22,9 +22,11 @@ pub enum Line {
     Delete(Name),
     /// What it names, and its body.
     Note(Name, &'static [Name], &'static str),
+    /// A note of this code: what it names, and its body.
+    Coded(Name, u8, &'static [Name], &'static [u8]),
 }
 
-use Line::{Delete, Note, Section, Text};
+use Line::{Coded, Delete, Note, Section, Text};
 
 // A section and the texts of the first worked example.
 pub const T: Line = Section(SECTION, NONE, NONE, "T");
@@ -70,6 +72,22 @@ fn note_names(rt: &impl Abort, alloc: Global, names: &[Name]) -> Result<NoteName
     Ok(NoteNames::read(&ids).expect(rt, "few names"))
 }
 
+pub fn note(
+    rt: &impl Abort,
+    alloc: Global,
+    name: Name,
+    code: u8,
+    names: &[Name],
+    body: &[u8],
+) -> Result<Op, Fail> {
+    Ok(Op::Note {
+        id: id(rt, name),
+        names: note_names(rt, alloc, names)?,
+        code,
+        body: Body::read(alloc, body)?,
+    })
+}
+
 /// The operation that the line stands for.
 pub fn op(rt: &impl Abort, alloc: Global, line: Line) -> Result<Op, Fail> {
     match line {
@@ -95,13 +113,7 @@ pub fn op(rt: &impl Abort, alloc: Global, line: Line) -> Result<Op, Fail> {
                 target: id(rt, name),
             })
         }
-        Note(name, names, body) => {
-            Ok(Op::Note {
-                id: id(rt, name),
-                names: note_names(rt, alloc, names)?,
-                code: CODE,
-                body: Body::read(alloc, body.as_bytes())?,
-            })
-        }
+        Note(name, names, body) => note(rt, alloc, name, CODE, names, body.as_bytes()),
+        Coded(name, code, names, body) => note(rt, alloc, name, code, names, body),
     }
 }

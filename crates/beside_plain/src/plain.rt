@@ -63,9 +63,14 @@ impl Plain {
     }
 }
 
+/// What the replica prints.
+pub fn printed(alloc: Global, replica: &PlainReplica) -> Result<Vec<u8>, Fail> {
+    let mut printed = MemSink::new(alloc, 4096, Vec::new(alloc));
+    replica.print_into(&mut printed)?;
+    Ok(Vec::from_slice(alloc, printed.written())?)
+}
+
 /// Whether the replica prints this text.
 pub fn prints(alloc: Global, replica: &PlainReplica, text: &[u8]) -> Result<bool, Fail> {
-    let mut printed = MemSink::new(alloc, 100, Vec::new(alloc));
-    replica.print_into(&mut printed)?;
-    Ok(printed.written() == text)
+    Ok(printed(alloc, replica)?.as_slice() == text)
 }

@@ -11,13 +11,13 @@ use std::test::Fail;
 
 /// Numbers that a seed gives.
 #[derive(Clone, Copy)]
-struct Dice {
-    state: u64,
+pub struct Dice {
+    pub state: u64,
 }
 
 impl Dice {
     /// The next number below so many.
-    fn roll(&mut self, sides: usize) -> usize {
+    pub fn roll(&mut self, sides: usize) -> usize {
         self.state = self
             .state
             .wrapping_mul(6_364_136_223_846_793_005)
@@ -27,7 +27,7 @@ impl Dice {
     }
 
     /// An edit of what the replica shows, or now and then of more than that.
-    fn edit(&mut self, replica: &Replica) -> Edit {
+    pub fn edit(&mut self, replica: &Replica) -> Edit {
         let section = self.roll(replica.section_count().saturating_add(1));
         let shown = replica.text_len(section).unwrap_or(0);
         let at = self.roll(shown.saturating_add(2));

@@ -15,8 +15,7 @@ use Rattle.origin_model.specs.declared.operations.Verdict.TheVariants.{Ready}
 use Rattle.origin_model.specs.operations.History.{holder, holds, is_own}
 use Rattle.origin_model.specs.operations.Verdict.{Lawful, fits, names, verdict}
 use Rattle.origin_model.specs.order.Printed.{title_of}
-use Rattle.origin_model.proofs.SharedLemmas.{holder-other, holder-own, own_id, ready_is_new, when_ready}
-use Rattle.catalogue_notes.proofs.NameLemmas.{Fits, fit_each}
+use Rattle.origin_model.proofs.SharedLemmas.{fit_each, Fits, holder-other, holder-own, own_id, ready_is_new, when_ready}
 use Rattle.origin_model.specs.edits.Noting.{AreHeld}
 use Rattle.catalogue_notes.specs.Lift.{is_section}
 

@@ -1,4 +1,3 @@
-pub mod NameLemmas
 pub mod HolderLemmas
 pub mod LiftLemmas
 pub mod ClaimLemmas

@@ -15,11 +15,11 @@ use Rattle.origin_model.specs.declared.operations.Place.TheVariants.{Catalogue a
 use Rattle.origin_model.specs.operations.History.{has_op, holder, is_own}
 use Rattle.origin_model.specs.operations.Verdict.{Lawful, fits, given_as, names}
 use Rattle.origin_model.specs.order.Order.{order}
-use Rattle.origin_model.proofs.SharedLemmas.{becomes_ready, found, has-holder, holder-other, holder-own, holder_owns, order_total, own_id}
-use Rattle.catalogue_notes.proofs.NameLemmas.{Fits, all_fit, section_element}
+use Rattle.origin_model.proofs.SharedLemmas.{Fits, all_fit, becomes_ready, fits_element, found, has-holder, holder-other, holder-own, holder_owns, order_total, own_id}
 use Rattle.catalogue_notes.specs.Claims.{Move, Origins, claim, move_in, move_of, origins_of, stamp_of}
 use Rattle.catalogue_notes.specs.Lift.{as_section, is_section, is_valid, lifted_of, passing, stands}
 use Rattle.catalogue_notes.specs.Lift.{lift}
+use Rattle.catalogue_notes.specs.declared.limits.TheConstants.{MOVE_CODE}
 use Rattle.catalogue_notes.proofs.HolderLemmas.{IsHeld, Joins, anything, cases_option, joins, names_held, not_both, not_own, same_value, section_by}
 
 -- what passed
@@ -82,7 +82,7 @@ pub shape : (e : Op) (m : Move) → move_in e ≡ Some m → HasShape e m
 shape (Section i l r t) m k = absurd (not_both None m refl k)
 shape (Text i s l r c) m k = absurd (not_both None m refl k)
 shape (Delete i) m k = absurd (not_both None m refl k)
-shape (Note id named code body) m k = move_shape id named code body m (if_so (nat_eq code 1) (move_of id named body) m k)
+shape (Note id named code body) m k = move_shape id named code body m (if_so (nat_eq code MOVE_CODE) (move_of id named body) m k)
 
 -- what a move names is held
 pub record Rests (h : List Op) (m : Move) : Type 0 where
@@ -293,7 +293,7 @@ lift_lawful (e ∷ h) w =
 -- the Sections of a lawful list are the members of its order
 pub in_order : (g : List Op) (x : Identifier) (op : Op) → Lawful g → fits SectionRole op ≡ true → holder g x ≡ Some op → Contains (order catalogue g) x
 in_order g x op v f k =
-    ((order_total catalogue g v).lists x).0 (record { op = op; held = k; place = section_element op f ∙ own_id op x (holder_owns g x op k) })
+    ((order_total catalogue g v).lists x).0 (record { op = op; held = k; place = fits_element catalogue op f ∙ own_id op x (holder_owns g x op k) })
 
 pub order_held : (g : List Op) (x : Identifier) → Lawful g → Contains (order catalogue g) x → (op : Op) × (holder g x ≡ Some op)
 order_held g x v m = let i = ((order_total catalogue g v).lists x).1 m in (i.op, i.held)

@@ -28,6 +28,7 @@ use Rattle.catalogue_notes.specs.Claims.{Move, Origins, Retitle, claim, move_in,
 use Rattle.catalogue_notes.specs.Laws.{MoveLands}
 use Rattle.catalogue_notes.specs.Lift.{as_section, greatest, is_section, is_valid_title, lift, moves, passing, retitles, stamp, stands}
 use Rattle.catalogue_notes.specs.Making.{left_for, move_body, move_names, moved, without}
+use Rattle.catalogue_notes.specs.declared.limits.TheConstants.{MOVE_CODE}
 use Rattle.catalogue_notes.proofs.ArrangedLemmas.{IsSection, apart, arranged_once, arranged_shown, move_test, position_by, position_in, shown_is, shown_once}
 use Rattle.catalogue_notes.proofs.ClaimLemmas.{beats-stamp, best-first, claims-none, claims-some}
 use Rattle.catalogue_notes.proofs.HolderLemmas.{IsHeld, is_section-held, are_held, none_there, not_both, title-note}
@@ -36,7 +37,7 @@ use Rattle.catalogue_notes.proofs.PartLemmas.{Distinct, filter-filter, filter-pa
 
 -- a move as a note
 abbrev pub move_note : (id section : Identifier) → (stamp : ℕ) → Origins → Op
-move_note id section stamp o = Note id (move_names section o) 1 (move_body stamp o)
+move_note id section stamp o = Note id (move_names section o) MOVE_CODE (move_body stamp o)
 
 -- a number among others is at most the greatest
 pub greatest_above : (ns : List ℕ) (n : ℕ) → Contains ns n → n ≤ greatest ns
@@ -85,7 +86,7 @@ module _ (h : List Op) (id s : Identifier) (n : ℕ) (l r : Option Identifier) (
   ready : verdict h e ≡ Ready
   ready =
       let named : List Identifier = option_to_list l ++ option_to_list r in
-      note_ready h id (move_names s o) 1 (move_body n o) w (ap is_some new)
+      note_ready h id (move_names s o) MOVE_CODE (move_body n o) w (ap is_some new)
       (are_held h (move_names s o) (All-cons (IsHeld h) s named (is_here.0, is_here.1) (All-append (IsHeld h) (option_to_list l) (option_to_list r) (origin_held h l w left_is) (origin_held h r w right_is))))
 
   valid : passing (move_test h) (move_in e) ≡ Some m
@@ -99,7 +100,7 @@ module _ (h : List Op) (id s : Identifier) (n : ℕ) (l r : Option Identifier) (
   moves_are = claims-some move_in move_test e h m valid
 
   same_shown : shown catalogue (e ∷ h) ≡ shown catalogue h
-  same_shown = ap (filter (λ s. not (is_hidden h s))) (note_orders catalogue id (move_names s o) 1 (move_body n o) h)
+  same_shown = ap (filter (λ s. not (is_hidden h s))) (note_orders catalogue id (move_names s o) MOVE_CODE (move_body n o) h)
 
   same_retitles : retitles (e ∷ h) ≡ retitles h
   same_retitles = claims-none retitle_in is_valid_title e h refl
@@ -112,7 +113,7 @@ module _ (h : List Op) (id s : Identifier) (n : ℕ) (l r : Option Identifier) (
 
   -- the titles stay
   same_heading : (t : Identifier) → heading (e ∷ h) t ≡ heading h t
-  same_heading t = λ i. elim (winner h t (same_retitles i)) [ None ↦ title-note h id t (move_names s o) 1 (move_body n o) new i | Some r ↦ r.value ]
+  same_heading t = λ i. elim (winner h t (same_retitles i)) [ None ↦ title-note h id t (move_names s o) MOVE_CODE (move_body n o) new i | Some r ↦ r.value ]
 
   -- the winner of the section
   wins : winner (e ∷ h) s (moves (e ∷ h)) ≡ Some m

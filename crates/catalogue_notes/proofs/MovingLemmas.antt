@@ -18,6 +18,7 @@ use Rattle.origin_model.specs.edits.State.{Stands, State}
 use Rattle.origin_model.specs.operations.History.{holds}
 use Rattle.origin_model.specs.operations.Verdict.{verdict}
 use Rattle.origin_model.proofs.edits.FreshIdLemmas.{history_below, none_from}
+use Rattle.catalogue_notes.specs.Arranged.{arranged}
 use Rattle.catalogue_notes.specs.Laws.{IsMoved}
 use Rattle.catalogue_notes.specs.Lift.{stamp}
 use Rattle.catalogue_notes.specs.Making.{move_body, move_names, next_stamp, origins_for}
@@ -25,10 +26,11 @@ use Rattle.catalogue_notes.specs.Moving.{IsMoveMade, IsMovePlan, NoteRefusesAs, 
 use Rattle.catalogue_notes.specs.declared.moving.MoveFault.{MoveFault}
 use Rattle.catalogue_notes.specs.declared.moving.MoveFault.TheVariants.{NoMemory}
 use Rattle.catalogue_notes.specs.declared.moving.Plan.{Plan}
+use Rattle.catalogue_notes.specs.declared.limits.TheConstants.{MOVE_CODE}
 use Rattle.catalogue_notes.proofs.HolderLemmas.{IsHeld, anything, are_held, joins}
 use Rattle.catalogue_notes.proofs.LiftLemmas.{map_from, some_inj}
 use Rattle.catalogue_notes.proofs.MoveLemmas.{move_lands}
-use Rattle.catalogue_notes.proofs.NameLemmas.{Fits}
+use Rattle.origin_model.proofs.SharedLemmas.{Fits}
 
 -- the identifier of the next note is new
 pub fresh : (s : State) → holds s.held.history (id_at s.number (next_of_own s)) ≡ false
@@ -52,17 +54,24 @@ plan_held s k j plan p st =
     let h : List Op = s.held.history in
     let m = plan_lands s k j plan p st in
     subst (AreHeld h) (sym p.names_are)
-    (ready_held h (id_at s.number (next_of_own s)) (move_names p.section (origins_for h k j)) 1 (move_body (stamp h + 1) (origins_for h k j)) m.ready)
+    (ready_held h (id_at s.number (next_of_own s)) (move_names p.section (origins_for h k j)) MOVE_CODE (move_body (stamp h + 1) (origins_for h k j)) m.ready)
 
 -- the planned move was made
-pub plan_made : (old new : State) (k j n : ℕ) (plan : Plan) → IsMovePlan old k j plan → Stands old → IsNoted old new plan.names 1 plan.body n → IsMoveMade old new k j n
+pub plan_made : (old new : State) (k j n : ℕ) (plan : Plan) → IsMovePlan old k j plan → Stands old → IsNoted old new plan.names MOVE_CODE plan.body n → IsMoveMade old new k j n
 plan_made old new k j n plan p st i = record {
   count = i.count;
   section = p.section;
   placed = p.placed;
-  gained = subst (λ (op : Op). Gains old new (op ∷ [])) (λ t. note_by old (p.names_are t) 1 (p.body_is t)) i.gained;
-  moved = plan_lands old k j plan p st;
+  gained = g;
+  lands = ap (λ (s : State). arranged s.held.history) g.others ∙ m.lands;
+  moved = m;
 }
+  where
+    g : Gains old new (move_by old p.section k j ∷ [])
+    g = subst (λ (op : Op). Gains old new (op ∷ [])) (λ t. note_by old (p.names_are t) MOVE_CODE (p.body_is t)) i.gained
+
+    m : IsMoved old.held.history (move_by old p.section k j) p.section k j
+    m = plan_lands old k j plan p st
 
 -- a note is not refused for want of memory
 not_for_memory : (s : State) (fault : EditFault) → note_refusal s ≡ Some fault → fault ≢ EditNoMemory
@@ -119,6 +128,6 @@ stamp_left n m e f = by (nat_eq n (2 ^ 32 - 1)) e
     by false e = let d : n + 1 ≡ m = some_inj (n + 1) m e in (sym d, omega (arith, d, f))
 
 -- an answer, by its plan
-pub made_by_plan : (old new : State) (k j : ℕ) (plan : Plan) (r : Result ℕ MoveFault) → IsMovePlan old k j plan → Stands old → IfOk r (λ n. IsNoted old new plan.names 1 plan.body n) → IfOk r (λ n. IsMoveMade old new k j n)
+pub made_by_plan : (old new : State) (k j : ℕ) (plan : Plan) (r : Result ℕ MoveFault) → IsMovePlan old k j plan → Stands old → IfOk r (λ n. IsNoted old new plan.names MOVE_CODE plan.body n) → IfOk r (λ n. IsMoveMade old new k j n)
 made_by_plan old new k j plan (Ok n) p st i = plan_made old new k j n plan p st i
 made_by_plan old new k j plan (Err e) p st i = tt

@@ -30,6 +30,7 @@ use Rattle.catalogue_notes.specs.Readings.{bid_of}
 use Rattle.catalogue_notes.specs.Winning.{winning_bid}
 use Rattle.catalogue_notes.specs.declared.layout.Layout.{Layout}
 use Rattle.catalogue_notes.specs.declared.reading.Bid.{Bid}
+use Rattle.catalogue_notes.specs.declared.limits.TheConstants.{RETITLE_CODE}
 use Rattle.catalogue_notes.proofs.ArrangedLemmas.{arranged_shown}
 use Rattle.catalogue_notes.proofs.HolderLemmas.{cases_option, is_own-id, not_both, same_value, section_held}
 use Rattle.catalogue_notes.proofs.LiftLemmas.{if_so, some_inj}
@@ -105,7 +106,7 @@ retitle_title : (op : Op) (r : Retitle) → retitle_in op ≡ Some r → title_i
 retitle_title (Section i l t ti) r k = absurd (not_both None r refl k)
 retitle_title (Text i s l t c) r k = absurd (not_both None r refl k)
 retitle_title (Delete i) r k = absurd (not_both None r refl k)
-retitle_title (Note id named code body) r k = note_title id named body r (if_so (nat_eq code 2) (retitle_of id named body) r k)
+retitle_title (Note id named code body) r k = note_title id named body r (if_so (nat_eq code RETITLE_CODE) (retitle_of id named body) r k)
 
 section_title : (op : Op) → fits SectionRole op ≡ true → title_in op ≡ encode_utf8_all (title_of (Some op))
 section_title (Section i l r t) k = refl

@@ -19,19 +19,19 @@ use Rattle.origin_model.specs.operations.History.{holder}
 use Rattle.origin_model.specs.operations.Verdict.{Lawful, names, verdict}
 use Rattle.origin_model.specs.order.Order.{order}
 use Rattle.origin_model.specs.order.Printed.{is_hidden, shown, title_of}
-use Rattle.origin_model.proofs.SharedLemmas.{not_hidden_before}
+use Rattle.origin_model.proofs.SharedLemmas.{Fits, not_hidden_before}
 use Rattle.origin_model.proofs.edits.NotedLemmas.{note_orders, note_ready}
 use Rattle.catalogue_notes.specs.Arranged.{best, counts, winner}
 use Rattle.catalogue_notes.specs.Claims.{Move, Retitle, claim, is_title, move_in, retitle_in, retitle_of, stamp_of}
 use Rattle.catalogue_notes.specs.Laws.{IsRetitled, RetitleLands}
 use Rattle.catalogue_notes.specs.Lift.{greatest, is_section, is_valid_title, lift, moves, passing, retitles, stamp}
 use Rattle.catalogue_notes.specs.Making.{retitle_body, retitled}
+use Rattle.catalogue_notes.specs.declared.limits.TheConstants.{RETITLE_CODE}
 use Rattle.catalogue_notes.proofs.ArrangedLemmas.{move_test, position_by}
 use Rattle.catalogue_notes.proofs.ClaimLemmas.{beats-stamp, best-first, claims-none, claims-some}
 use Rattle.catalogue_notes.proofs.HolderLemmas.{IsHeld, Joins, anything, are_held, none_there, not_both, section_held, title-note}
 use Rattle.catalogue_notes.proofs.LiftLemmas.{if_so, lift-none, passing-same, passing_to, section-kept, some_inj}
 use Rattle.catalogue_notes.proofs.MoveLemmas.{greatest_above}
-use Rattle.catalogue_notes.proofs.NameLemmas.{Fits}
 use Rattle.catalogue_notes.proofs.PartLemmas.{filter_no, filter_yes}
 
 -- a retitle's identifier and section
@@ -49,7 +49,7 @@ pub title_shape : (e : Op) (r : Retitle) → retitle_in e ≡ Some r → TitleSh
 title_shape (Section i l t ti) r k = absurd (not_both None r refl k)
 title_shape (Text i s l t c) r k = absurd (not_both None r refl k)
 title_shape (Delete i) r k = absurd (not_both None r refl k)
-title_shape (Note id named code body) r k = retitle_shape id named code body r (if_so (nat_eq code 2) (retitle_of id named body) r k)
+title_shape (Note id named code body) r k = retitle_shape id named code body r (if_so (nat_eq code RETITLE_CODE) (retitle_of id named body) r k)
 
 -- one more operation leaves which retitles are valid
 pub title-kept : (e : Op) (h : List Op) (f : Op) → Joins h e → All (Fits h) (names f) → passing (is_valid_title (e ∷ h)) (retitle_in f) ≡ passing (is_valid_title h) (retitle_in f)
@@ -60,7 +60,7 @@ title-kept e h f w all =
 
 -- a retitle as a note is read back
 retitle_read : (id s : Identifier) (n : ℕ) (title : List ℕ) → n < 2 ^ 32 → is_title title ≡ true
-    → retitle_in (Note id (s ∷ []) 2 (to_be_bytes w32 n ++ title)) ≡ Some (claim id s n (chars title))
+    → retitle_in (Note id (s ∷ []) RETITLE_CODE (to_be_bytes w32 n ++ title)) ≡ Some (claim id s n (chars title))
 retitle_read id s n title k t =
     ap (λ b. if b then Some (claim id s (from_be_bytes w32 (to_be_bytes w32 n)) (chars title)) else None) t
     ∙ ap (λ z. Some (claim id s z (chars title))) (from_be_bytes-to_be_bytes_4 n k)
@@ -77,7 +77,7 @@ module _ (h : List Op) (id s : Identifier) (title : List ℕ) (w : Lawful h) (ne
   r = claim id s n (chars title)
 
   ready : verdict h e ≡ Ready
-  ready = let f = section_held h s is_here in note_ready h id (s ∷ []) 2 (retitle_body n title) w (ap is_some new) (are_held h (s ∷ []) (All-cons (IsHeld h) s [] (f.0, f.1) (All-nil (IsHeld h))))
+  ready = let f = section_held h s is_here in note_ready h id (s ∷ []) RETITLE_CODE (retitle_body n title) w (ap is_some new) (are_held h (s ∷ []) (All-cons (IsHeld h) s [] (f.0, f.1) (All-nil (IsHeld h))))
 
   retitles_are : retitles (e ∷ h) ≡ r ∷ retitles h
   retitles_are = claims-some retitle_in is_valid_title e h r (passing_to (is_valid_title h) (retitle_in e) r (retitle_read id s n title left_over t) is_here)
@@ -89,7 +89,7 @@ module _ (h : List Op) (id s : Identifier) (title : List ℕ) (w : Lawful h) (ne
   same_lift = lift-none e h refl
 
   same_shown : shown catalogue (e ∷ h) ≡ shown catalogue h
-  same_shown = ap (filter (λ s. not (is_hidden h s))) (note_orders catalogue id (s ∷ []) 2 (retitle_body n title) h)
+  same_shown = ap (filter (λ s. not (is_hidden h s))) (note_orders catalogue id (s ∷ []) RETITLE_CODE (retitle_body n title) h)
 
   -- the stamp of each older retitle is less
   title_less : (c : Retitle) → Contains (retitles h) c → c.stamp < n
@@ -111,7 +111,7 @@ module _ (h : List Op) (id s : Identifier) (title : List ℕ) (w : Lawful h) (ne
     ready = ready;
     titled = ap (title_by (title_of (holder (e ∷ h) s))) wins;
     others = λ u d.
-        ap (λ t. title_by t (winner (e ∷ h) u (retitles (e ∷ h)))) (title-note h id u (s ∷ []) 2 (retitle_body n title) new)
+        ap (λ t. title_by t (winner (e ∷ h) u (retitles (e ∷ h)))) (title-note h id u (s ∷ []) RETITLE_CODE (retitle_body n title) new)
         ∙ ap (λ cs. title_by (title_of (holder h u)) (winner (e ∷ h) u cs)) retitles_are
         ∙ ap (λ cs. title_by (title_of (holder h u)) (best cs)) (filter_no (counts (e ∷ h) u) r (retitles h) (ap (λ b. b && not (is_hidden h id)) (ne-id_eq s u (λ k. d (sym k)))));
     stamped =

@@ -16,7 +16,7 @@ use Rattle.catalogue_notes.specs.declared.reading.Bid.{Bid}
 use Rattle.catalogue_notes.proofs.ClaimLemmas.{claims-none, claims-some}
 use Rattle.catalogue_notes.proofs.HolderLemmas.{anything, cases_option, joins}
 use Rattle.catalogue_notes.proofs.LiftingLemmas.{Passed, lawful_at, section_at}
-use Rattle.catalogue_notes.proofs.NameLemmas.{Fits}
+use Rattle.origin_model.proofs.SharedLemmas.{Fits}
 use Rattle.catalogue_notes.proofs.RetitleLemmas.{title_shape}
 use Rattle.std.proofs.Common.{subst}
 

@@ -26,6 +26,7 @@ use Rattle.catalogue_notes.specs.Making.{retitle_body}
 use Rattle.catalogue_notes.specs.Moving.{IsRetitleMade, IsRetitlePlan, retitle_by}
 use Rattle.catalogue_notes.specs.declared.moving.MoveFault.{MoveFault}
 use Rattle.catalogue_notes.specs.declared.moving.Plan.{Plan}
+use Rattle.catalogue_notes.specs.declared.limits.TheConstants.{RETITLE_CODE}
 use Rattle.catalogue_notes.proofs.ArrangedLemmas.{arranged_shown, shown_is}
 use Rattle.catalogue_notes.proofs.HolderLemmas.{is_section-held}
 use Rattle.catalogue_notes.proofs.MovingLemmas.{fresh, ready_held}
@@ -66,33 +67,31 @@ arranged_section h s w m = let f = shown_is h s w (arranged_shown h s m) in is_s
 
 -- the planned retitle lands
 module _ (s : State) (k : ℕ) (title : List ℕ) (plan : Plan) (p : IsRetitlePlan s k title plan) (st : Stands s) where
-  pub retitle_plan_lands : IsRetitled s.held.history (retitle_by s p.section title) p.section (chars (encode_utf8_all title))
+  pub retitle_plan_lands : IsRetitled s.held.history (retitle_by s p.section title) p.section title
   retitle_plan_lands =
-      retitle_lands s.held.history (id_at s.number (next_of_own s)) p.section (encode_utf8_all title) st.lawful (fresh s) p.left_over
-      (arranged_section s.held.history p.section st.lawful (placed_in (arranged s.held.history) k p.section p.placed)) p.is_text
+      subst (IsRetitled s.held.history (retitle_by s p.section title) p.section) p.scalars
+      (retitle_lands s.held.history (id_at s.number (next_of_own s)) p.section (encode_utf8_all title) st.lawful (fresh s) p.left_over
+      (arranged_section s.held.history p.section st.lawful (placed_in (arranged s.held.history) k p.section p.placed)) p.is_text)
 
   pub retitle_plan_held : AreHeld s.held.history plan.names
   retitle_plan_held =
       let h : List Op = s.held.history in
       subst (AreHeld h) (sym p.names_are)
-      (ready_held h (id_at s.number (next_of_own s)) (p.section ∷ []) 2 (retitle_body (stamp h + 1) (encode_utf8_all title)) retitle_plan_lands.ready)
+      (ready_held h (id_at s.number (next_of_own s)) (p.section ∷ []) RETITLE_CODE (retitle_body (stamp h + 1) (encode_utf8_all title)) retitle_plan_lands.ready)
 
-  retitle_made : (new : State) (n : ℕ) → IsNoted s new plan.names 2 plan.body n → IsRetitleMade s new k title n
+  retitle_made : (new : State) (n : ℕ) → IsNoted s new plan.names RETITLE_CODE plan.body n → IsRetitleMade s new k title n
   retitle_made new n i =
-      let g : Gains s new (retitle_by s p.section title ∷ []) = subst (λ (op : Op). Gains s new (op ∷ [])) (λ t. note_by s (p.names_are t) 2 (p.body_is t)) i.gained in
+      let g : Gains s new (retitle_by s p.section title ∷ []) = subst (λ (op : Op). Gains s new (op ∷ [])) (λ t. note_by s (p.names_are t) RETITLE_CODE (p.body_is t)) i.gained in
       record {
         count = i.count;
         section = p.section;
         placed = p.placed;
         gained = g;
-        titled =
-            ap (λ (z : State). encode_utf8_all (heading z.held.history p.section)) g.others
-            ∙ ap encode_utf8_all retitle_plan_lands.titled
-            ∙ title_bytes (encode_utf8_all title) p.is_text;
+        titled = ap (λ (z : State). heading z.held.history p.section) g.others ∙ retitle_plan_lands.titled;
         retitled = retitle_plan_lands;
       }
 
   -- an answer, by its plan
-  pub retitled_by_plan : (new : State) (r : Result ℕ MoveFault) → IfOk r (λ n. IsNoted s new plan.names 2 plan.body n) → IfOk r (λ n. IsRetitleMade s new k title n)
+  pub retitled_by_plan : (new : State) (r : Result ℕ MoveFault) → IfOk r (λ n. IsNoted s new plan.names RETITLE_CODE plan.body n) → IfOk r (λ n. IsRetitleMade s new k title n)
   retitled_by_plan new (Ok n) i = retitle_made new n i
   retitled_by_plan new (Err e) i = tt

@@ -19,7 +19,7 @@ use Rattle.origin_model.specs.operations.Verdict.{Lawful, fits, names}
 use Rattle.origin_model.specs.order.Laws.{IsPartOf}
 use Rattle.origin_model.specs.order.Order.{order}
 use Rattle.origin_model.specs.order.Printed.{is_hidden, scalar_of, shown, title_of}
-use Rattle.origin_model.proofs.SharedLemmas.{Within-part, found, has-holder, hidden-has, holder-has, holder-own, order_total, parts_keep_order}
+use Rattle.origin_model.proofs.SharedLemmas.{Fits, found, has-holder, hidden-has, holder-has, holder-own, order_total, parts_keep_order, Within-part}
 use Rattle.catalogue_notes.specs.Arranged.{arranged, counts, heading, winner}
 use Rattle.catalogue_notes.specs.Arranged.{arranged_text}
 use Rattle.catalogue_notes.specs.Claims.{Claim, Move, move_in, retitle_in}
@@ -29,7 +29,6 @@ use Rattle.catalogue_notes.proofs.ArrangedLemmas.{move_test, position_by}
 use Rattle.catalogue_notes.proofs.ClaimLemmas.{best-same, claim_found, found_claim, one_claim}
 use Rattle.catalogue_notes.proofs.HolderLemmas.{Joins, cases_option, holder-kept, is_section-held, joins, not_both, same_value, section_held}
 use Rattle.catalogue_notes.proofs.LiftLemmas.{holder-lift, is_lifted, lift-nil, lift-none, lift-other, lift-some, lift_lawful, lifted-kept, lifted_from, lifted_to, map_from, move-kept, order_held, passing_from, passing_to, shape}
-use Rattle.catalogue_notes.proofs.NameLemmas.{Fits}
 use Rattle.catalogue_notes.proofs.PartLemmas.{filter_full}
 use Rattle.catalogue_notes.proofs.RetitleLemmas.{title-kept, title_shape}
 

@@ -6,7 +6,7 @@ use Rattle.fugue_ids.specs.declared.op.Op.{Op}
 use Rattle.origin_model.specs.declared.operations.Place.TheVariants.{Catalogue as catalogue}
 use Rattle.origin_model.specs.operations.History.{holder}
 use Rattle.origin_model.specs.order.Order.{order}
-use Rattle.origin_model.specs.order.Printed.{is_hidden, shown, text, title_of}
+use Rattle.origin_model.specs.order.Printed.{is_withdrawn, shown, text, title_of}
 use Rattle.catalogue_notes.specs.Claims.{Claim}
 use Rattle.catalogue_notes.specs.Lift.{lift, moves, retitles}
 
@@ -25,7 +25,7 @@ best (c ∷ cs) = Some (better c (best cs))
 
 -- the claim is one on the section, and not withdrawn
 abbrev pub counts : {V : Type 0} → List Op → Identifier → Claim V → Bool
-counts h s c = id_eq c.section s && not (is_hidden h c.id)
+counts h s c = id_eq c.section s && not (is_withdrawn h c.id)
 
 -- of the claims on a section that are not withdrawn the one that wins over the others
 abbrev pub winner : {V : Type 0} → List Op → Identifier → List (Claim V) → Option (Claim V)

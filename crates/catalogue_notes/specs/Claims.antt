@@ -1,4 +1,4 @@
--- What notes say of sections: where one is to stand, and what its title is. A move has code 1, and a retitle code 2.
+-- What notes say of sections: where one is to stand, and what its title is. Moves and retitles are notes of two codes.
 use Rattle.std.specs.Prelude.{ℕ, zero, suc, nat_eq, nat_lt, nat_le, Option, Some, None, Bool, if◌then◌else◌, not, ◌&&◌, List, [], ◌∷◌, length, option_map}
 use Rattle.std.specs.Int.{from_be_bytes, w32}
 use Rattle.std.specs.Str.{chars, is_utf8}
@@ -7,6 +7,7 @@ use Rattle.fugue_ids.specs.Titles.{has_line_end}
 use Rattle.fugue_ids.specs.declared.limits.TheConstants.{LONGEST_TITLE}
 use Rattle.fugue_ids.specs.declared.op.Op.{Op}
 use Rattle.fugue_ids.specs.declared.op.Op.TheVariants.{Note}
+use Rattle.catalogue_notes.specs.declared.limits.TheConstants.{MOVE_CODE, RETITLE_CODE}
 
 -- what a note claims of a section
 pub record Claim (V : Type 0) : Type 0 where
@@ -49,7 +50,7 @@ move_of _ _ _ = None
 
 -- what an operation says, where it has the shape of a move
 abbrev pub move_in : Op → Option Move
-move_in (Note id named code body) = if nat_eq code 1 then move_of id named body else None
+move_in (Note id named code body) = if nat_eq code MOVE_CODE then move_of id named body else None
 move_in _ = None
 
 -- the bytes are a title in UTF-8
@@ -63,5 +64,5 @@ retitle_of _ _ _ = None
 
 -- what an operation says, where it has the shape of a retitle
 abbrev pub retitle_in : Op → Option Retitle
-retitle_in (Note id named code body) = if nat_eq code 2 then retitle_of id named body else None
+retitle_in (Note id named code body) = if nat_eq code RETITLE_CODE then retitle_of id named body else None
 retitle_in _ = None

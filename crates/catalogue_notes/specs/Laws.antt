@@ -10,7 +10,7 @@ use Rattle.origin_model.specs.operations.History.{holder, holds}
 use Rattle.origin_model.specs.operations.Verdict.{Lawful, verdict}
 use Rattle.origin_model.specs.order.Laws.{IsPartOf, SameOps}
 use Rattle.origin_model.specs.order.Order.{before, order}
-use Rattle.origin_model.specs.order.Printed.{is_hidden, shown}
+use Rattle.origin_model.specs.order.Printed.{is_withdrawn, shown}
 use Rattle.catalogue_notes.specs.Arranged.{arranged, arranged_text, heading, position, winner}
 use Rattle.catalogue_notes.specs.Claims.{Claim, Move, Retitle, is_title, move_in, retitle_in}
 use Rattle.catalogue_notes.specs.Lift.{is_section, lift, moves, retitles, stamp}
@@ -62,7 +62,7 @@ ValidInWhole = (h : List Op) → Lawful h → ClaimsAre h
 -- a claim is on the section, and not withdrawn
 pub record Stays {V : Type 0} (h : List Op) (s : Identifier) (c : Claim V) : Type 0 where
   pub section : c.section ≡ s
-  pub not_withdrawn : is_hidden h c.id ≡ false
+  pub not_withdrawn : is_withdrawn h c.id ≡ false
 
 -- the winner is a claim that stays, and no other one has a greater stamp, or the same stamp and a greater identifier
 pub record IsWinner {V : Type 0} (h : List Op) (s : Identifier) (cs : List (Claim V)) (c : Claim V) : Type 0 where

@@ -11,6 +11,7 @@ use Rattle.origin_model.specs.order.Order.{order}
 use Rattle.catalogue_notes.specs.Arranged.{arranged, position}
 use Rattle.catalogue_notes.specs.Claims.{Origins}
 use Rattle.catalogue_notes.specs.Lift.{lift, stamp}
+use Rattle.catalogue_notes.specs.declared.limits.TheConstants.{MOVE_CODE, RETITLE_CODE}
 
 -- the list without its member k
 abbrev pub without : List Identifier → ℕ → List Identifier
@@ -44,11 +45,11 @@ retitle_body stamp title = to_be_bytes w32 stamp ++ title
 
 -- the move of a section, which is member k, to j
 abbrev pub moved : List Op → (id section : Identifier) → (k j : ℕ) → Op
-moved h id section k j = Note id (move_names section (origins_for h k j)) 1 (move_body (stamp h + 1) (origins_for h k j))
+moved h id section k j = Note id (move_names section (origins_for h k j)) MOVE_CODE (move_body (stamp h + 1) (origins_for h k j))
 
 -- the retitle of a section
 abbrev pub retitled : List Op → (id section : Identifier) → List ℕ → Op
-retitled h id section title = Note id (section ∷ []) 2 (retitle_body (stamp h + 1) title)
+retitled h id section title = Note id (section ∷ []) RETITLE_CODE (retitle_body (stamp h + 1) title)
 
 -- the stamp above this one: None where that is the greatest there is
 abbrev pub next_stamp : ℕ → Option ℕ

@@ -1,5 +1,5 @@
 -- What a move and a retitle make, and when there is none. Sections and places count from 0.
-use Rattle.std.specs.Prelude.{◌≡◌, ◌≢◌, ◌↔◌, ◌⊎◌, ℕ, ◌+◌, ◌-◌, ◌<◌, ◌^◌, nat_eq, nat_lt, Bool, true, false, Option, Some, None, if◌then◌else◌, Result, Err, IfSome, List, [], ◌∷◌, length, option_map, slice_get}
+use Rattle.std.specs.Prelude.{◌≡◌, ◌≢◌, ◌↔◌, ◌⊎◌, ℕ, ◌+◌, ◌-◌, ◌<◌, ◌^◌, nat_eq, nat_lt, Bool, true, false, Option, Some, None, if◌then◌else◌, Result, Err, IfSome, List, [], ◌∷◌, insert, length, option_map, slice_get}
 use Rattle.std.specs.Option.{option_or}
 use Rattle.std.specs.Str.{chars, encode_utf8_all}
 use Rattle.fugue_ids.specs.Identifiers.{Identifier}
@@ -13,9 +13,12 @@ use Rattle.catalogue_notes.specs.Arranged.{arranged, heading}
 use Rattle.catalogue_notes.specs.Claims.{is_title}
 use Rattle.catalogue_notes.specs.Laws.{IsMoved, IsRetitled}
 use Rattle.catalogue_notes.specs.Lift.{stamp}
-use Rattle.catalogue_notes.specs.Making.{move_body, move_names, origins_for, retitle_body}
+use Rattle.catalogue_notes.specs.Making.{move_body, move_names, origins_for, retitle_body, without}
+use Rattle.catalogue_notes.specs.declared.limits.TheConstants.{MOVE_CODE, RETITLE_CODE}
 use Rattle.catalogue_notes.specs.declared.moving.MoveFault.{MoveFault}
+use Rattle.catalogue_notes.specs.Placing.{IsArranged}
 use Rattle.catalogue_notes.specs.declared.moving.Plan.{Plan}
+use Rattle.catalogue_notes.specs.declared.moving.Stamped.{Stamped}
 use Rattle.catalogue_notes.specs.declared.moving.MoveFault.TheVariants.{NoSection, NoPlace, StampsSpent, IdsSpent, TooMany, NoMemory}
 
 -- the section that stands at k
@@ -74,7 +77,7 @@ pub record RefusesFor (cause : Option MoveFault) (result : Result ℕ MoveFault)
 
 -- the note of a move
 abbrev pub move_by : State → Identifier → (k j : ℕ) → Op
-move_by s section k j = note_by s (move_names section (origins_for s.held.history k j)) 1 (move_body (stamp s.held.history + 1) (origins_for s.held.history k j))
+move_by s section k j = note_by s (move_names section (origins_for s.held.history k j)) MOVE_CODE (move_body (stamp s.held.history + 1) (origins_for s.held.history k j))
 
 -- a move was made, and the section stands where it was asked
 pub record IsMoveMade (old new : State) (k j n : ℕ) : Type 0 where
@@ -82,11 +85,12 @@ pub record IsMoveMade (old new : State) (k j n : ℕ) : Type 0 where
   pub section : Identifier
   pub placed : section_placed old k ≡ Some section
   pub gained : Gains old new (move_by old section k j ∷ [])
+  pub lands : arranged new.held.history ≡ insert (without (arranged old.held.history) k) j section
   pub moved : IsMoved old.held.history (move_by old section k j) section k j
 
 -- the note of a retitle: the title goes in UTF-8
 abbrev pub retitle_by : State → Identifier → List ℕ → Op
-retitle_by s section title = note_by s (section ∷ []) 2 (retitle_body (stamp s.held.history + 1) (encode_utf8_all title))
+retitle_by s section title = note_by s (section ∷ []) RETITLE_CODE (retitle_body (stamp s.held.history + 1) (encode_utf8_all title))
 
 -- a retitle was made, and the section has the title
 pub record IsRetitleMade (old new : State) (k : ℕ) (title : List ℕ) (n : ℕ) : Type 0 where
@@ -94,8 +98,14 @@ pub record IsRetitleMade (old new : State) (k : ℕ) (title : List ℕ) (n : ℕ
   pub section : Identifier
   pub placed : section_placed old k ≡ Some section
   pub gained : Gains old new (retitle_by old section title ∷ [])
-  pub titled : encode_utf8_all (heading new.held.history section) ≡ encode_utf8_all title
-  pub retitled : IsRetitled old.held.history (retitle_by old section title) section (chars (encode_utf8_all title))
+  pub titled : heading new.held.history section ≡ title
+  pub retitled : IsRetitled old.held.history (retitle_by old section title) section title
+
+-- the arrangement of what was accepted, and the stamp of the next move or retitle
+pub record IsStamped (s : State) (found : Stamped) : Type 0 where
+  pub arranged : IsArranged s.held.history found.arrangement
+  pub stamp_is : found.stamp ≡ stamp s.held.history + 1
+  pub left_over : stamp s.held.history + 1 < 2 ^ 32
 
 -- what moves the section that stands at k to j
 pub record IsMovePlan (s : State) (k j : ℕ) (plan : Plan) : Type 0 where
@@ -112,6 +122,7 @@ pub record IsRetitlePlan (s : State) (k : ℕ) (title : List ℕ) (plan : Plan) 
   pub placed : section_placed s k ≡ Some section
   pub left_over : stamp s.held.history + 1 < 2 ^ 32
   pub is_text : is_title (encode_utf8_all title) ≡ true
+  pub scalars : chars (encode_utf8_all title) ≡ title
   pub names_are : plan.names ≡ section ∷ []
   pub body_is : plan.body ≡ retitle_body (stamp s.held.history + 1) (encode_utf8_all title)
 

@@ -5,6 +5,7 @@ mod arrangement;
 mod laws;
 mod layout;
 mod lifting;
+mod limits;
 mod making;
 mod moving;
 mod printing;
@@ -19,6 +20,7 @@ pub use laws::{
     arranged_by_set, each_once, lift_is_lawful, lifted_order_stays, move_lands, retitle_lands,
     valid_in_whole, winners,
 };
+pub use limits::{MOVE_CODE, RETITLE_CODE};
 pub use moving::{MoveFault, move_section};
 pub use printing::{ArrangeFault, write_arranged};
 pub use retitling::retitle;

@@ -1,14 +1,14 @@
 //! A section moved: a note that says where it stands.
 ghost use Rattle.std.specs.Prelude.{◌≡◌, ◌≢◌, IfErr, IfOk, None, Some, OnErr, OnOk};
-ghost use Rattle.origin_model.specs.edits.Noting.{AreHeld, IsNoted};
+ghost use Rattle.origin_model.specs.edits.Noting.{AreHeld, IsNoted, ShowsAsBefore};
 ghost use Rattle.origin_model.specs.edits.State.{Stands};
 ghost use Rattle.origin_model.specs.taking.Taking.{IsSettled};
-ghost use Rattle.catalogue_notes.specs.Moving.{IsMoveMade, IsMovePlan, NoteRefusesAs, RefusesFor, TellsAbsence, as_move_fault};
-ghost use Rattle.catalogue_notes.specs.Moving.{move_refusal, place_cause, section_cause, stamps_cause};
+ghost use Rattle.catalogue_notes.specs.Moving.{IsMoveMade, IsMovePlan, IsStamped, NoteRefusesAs, RefusesFor, TellsAbsence};
+ghost use Rattle.catalogue_notes.specs.Moving.{as_move_fault, move_refusal, place_cause, section_cause, stamps_cause};
 
+use crate::MOVE_CODE;
 use crate::arrangement::Arrangement;
 use crate::making::{body_of, gap_for, names_of, next_stamp, section_at};
-use crate::reading::MOVE;
 use fugue_ids::{Body, NoMemory, NoteNames};
 use origin_model::EditFault;
 use replica_core::Replica;
@@ -37,8 +37,10 @@ impl fmt::Display for MoveFault {
         match self {
             MoveFault::NoSection => write!(f, "there is no such section"),
             MoveFault::NoPlace => write!(f, "there is no such place"),
-            MoveFault::StampsSpent => write!(f, "stamps spent"),
-            MoveFault::IdsSpent(counter) => write!(f, "identifiers spent at counter {counter}"),
+            MoveFault::StampsSpent => write!(f, "the stamps are spent"),
+            MoveFault::IdsSpent(greatest) => {
+                write!(f, "the identifiers are spent at counter {greatest}")
+            }
             MoveFault::TooMany(held) => write!(f, "{held} operations are accepted or wait"),
             MoveFault::NoMemory => write!(f, "{}", NoMemory),
         }
@@ -63,7 +65,7 @@ pub(crate) fn fault_of(fault: EditFault) -> MoveFault
     ensures { result ≡ as_move_fault fault }
 {
     match fault {
-        EditFault::IdsSpent(counter) => MoveFault::IdsSpent(counter),
+        EditFault::IdsSpent(greatest) => MoveFault::IdsSpent(greatest),
         EditFault::TooMany(held) => MoveFault::TooMany(held),
         EditFault::NoSection | EditFault::OutOfRange | EditFault::NoMemory => MoveFault::NoMemory,
     }
@@ -101,10 +103,16 @@ fn find_place(replica: &Replica, k: usize, j: usize) -> Result<(), MoveFault>
     Ok(())
 }
 
-/// What moves the section k to j.
-fn plan_move(alloc: Global, replica: &Replica, k: usize, j: usize) -> Result<Plan, MoveFault>
-    requires { place_cause replica.now k j ≡ None }
-    ensures ok { IfOk result (λ plan. IsMovePlan replica.now k j plan) }
+/// The sections as they are arranged, and the stamp of the next move or retitle.
+#[derive(Drop)]
+pub(crate) struct Stamped {
+    pub arrangement: Arrangement,
+    pub stamp: u32,
+}
+
+/// What was accepted, arranged, where a stamp is left.
+pub(crate) fn find_stamp(alloc: Global, replica: &Replica) -> Result<Stamped, MoveFault>
+    ensures ok { IfOk result (λ found. IsStamped replica.now found) }
     ensures err { IfErr result (λ fault. fault ≢ MoveFault.NoMemory → stamps_cause replica.now ≡ Some fault) }
     ensures stands { Stands replica.now }
 {
@@ -113,10 +121,21 @@ fn plan_move(alloc: Global, replica: &Replica, k: usize, j: usize) -> Result<Pla
     let Some(stamp) = next_stamp(alloc, ops, &arrangement)? else {
         return Err(MoveFault::StampsSpent);
     };
-    let gap = gap_for(&arrangement, k, j);
-    let body = body_of(alloc, stamp, &gap)?;
+    Ok(Stamped { arrangement, stamp })
+}
+
+/// What moves the section k to j.
+fn plan_move(alloc: Global, replica: &Replica, k: usize, j: usize) -> Result<Plan, MoveFault>
+    requires { place_cause replica.now k j ≡ None }
+    ensures ok { IfOk result (λ plan. IsMovePlan replica.now k j plan) }
+    ensures err { IfErr result (λ fault. fault ≢ MoveFault.NoMemory → stamps_cause replica.now ≡ Some fault) }
+    ensures stands { Stands replica.now }
+{
+    let found = find_stamp(alloc, replica)?;
+    let gap = gap_for(&found.arrangement, k, j);
+    let body = body_of(alloc, found.stamp, &gap)?;
     Ok(Plan {
-        names: names_of(section_at(&arrangement, k), &gap),
+        names: names_of(section_at(&found.arrangement, k), &gap),
         body,
     })
 }
@@ -126,6 +145,7 @@ pub(crate) fn make(replica: &mut Replica, code: u8, plan: Plan) -> Result<u32, M
     requires settled { IsSettled replica.old.held }
     requires held { AreHeld replica.old.held.history plan.names }
     ensures made { IfOk result (λ n. IsNoted replica.old replica.new plan.names code plan.body n) }
+    ensures shown { ShowsAsBefore replica.old replica.new }
     ensures refused { NoteRefusesAs replica.old result }
     ensures unmade { OnErr result (replica.new ≡ replica.old) }
     ensures settled { IsSettled replica.new.held }
@@ -146,6 +166,7 @@ pub fn move_section(
 ) -> Result<u32, MoveFault>
     requires { IsSettled replica.old.held }
     ensures made { IfOk result (λ n. IsMoveMade replica.old replica.new k j n) }
+    ensures shown { ShowsAsBefore replica.old replica.new }
     ensures absent { TellsAbsence (place_cause replica.old k j) result }
     ensures refused { RefusesFor (move_refusal replica.old k j) result }
     ensures unmade { OnErr result (replica.new ≡ replica.old) }
@@ -154,5 +175,5 @@ pub fn move_section(
 {
     find_place(replica, k, j)?;
     let plan = plan_move(alloc, replica, k, j)?;
-    make(replica, MOVE, plan)
+    make(replica, MOVE_CODE, plan)
 }

@@ -5,13 +5,8 @@ ghost use Rattle.catalogue_notes.specs.Claims.{is_title as is_title_in, move_in 
 ghost use Rattle.catalogue_notes.specs.Claims.{retitle_in as retitle_on, retitle_of as retitle_with};
 ghost use Rattle.catalogue_notes.specs.Readings.{move_claim, read_origins, retitle_bid};
 
+use crate::{MOVE_CODE, RETITLE_CODE};
 use fugue_ids::{ElementId, LONGEST_TITLE, Op, has_line_end};
-
-/// The code of a move.
-pub(crate) const MOVE: u8 = 1;
-
-/// The code of a retitle.
-pub(crate) const RETITLE: u8 = 2;
 
 /// A note on a section, by what the winner is chosen by.
 #[derive(Clone, Copy, Debug, PartialEq, Eq)]
@@ -90,7 +85,7 @@ pub(crate) fn move_in(op: &Op) -> Option<Move>
             names,
             code,
             body,
-        } if *code == MOVE => move_of(*id, names.as_slice(), body.as_slice()),
+        } if *code == MOVE_CODE => move_of(*id, names.as_slice(), body.as_slice()),
         _ => None,
     }
 }
@@ -143,7 +138,7 @@ pub(crate) fn retitle_in(op: &Op) -> Option<Bid>
             names,
             code,
             body,
-        } if *code == RETITLE => retitle_of(*id, names.as_slice(), body.as_slice()),
+        } if *code == RETITLE_CODE => retitle_of(*id, names.as_slice(), body.as_slice()),
         _ => None,
     }
 }

@@ -1,6 +1,7 @@
 //! A section retitled: a note that says what its title is.
 ghost use Rattle.std.specs.Prelude.{◌≡◌, ◌≢◌, IfErr, IfOk, None, Some, OnErr, OnOk, true, [], ◌∷◌};
-ghost use Rattle.std.specs.Str.{encode_utf8_all};
+ghost use Rattle.std.specs.Str.{chars, encode_utf8_all};
+ghost use Rattle.origin_model.specs.edits.Noting.{ShowsAsBefore};
 ghost use Rattle.origin_model.specs.edits.State.{Stands};
 ghost use Rattle.origin_model.specs.taking.Taking.{IsSettled};
 ghost use Rattle.catalogue_notes.specs.Claims.{is_title};
@@ -8,10 +9,9 @@ ghost use Rattle.catalogue_notes.specs.Making.{retitle_body};
 ghost use Rattle.catalogue_notes.specs.Moving.{IsRetitleMade, IsRetitlePlan, RefusesFor, TellsAbsence};
 ghost use Rattle.catalogue_notes.specs.Moving.{retitle_refusal, section_cause, stamps_cause};
 
-use crate::arrangement::Arrangement;
-use crate::making::{next_stamp, section_at};
-use crate::moving::{MoveFault, Plan, find_section, make};
-use crate::reading::RETITLE;
+use crate::RETITLE_CODE;
+use crate::making::section_at;
+use crate::moving::{MoveFault, Plan, find_section, find_stamp, make};
 use fugue_ids::{Body, ElementId, NoMemory, NoteNames, Title};
 use replica_core::Replica;
 use std::alloc::Global;
@@ -25,6 +25,7 @@ fn names_of(section: ElementId) -> NoteNames
 /// The body of a retitle.
 fn body_of(alloc: Global, stamp: u32, title: &Title) -> Result<Body, NoMemory>
     ensures text { OnOk result (is_title (encode_utf8_all title.now) ≡ true) }
+    ensures scalars { OnOk result (chars (encode_utf8_all title.now) ≡ title.now) }
     ensures body { IfOk result (λ body. body ≡ retitle_body stamp (encode_utf8_all title.now)) }
 {
     let mut bytes = Vec::from_slice(alloc, &stamp.to_be_bytes())?;
@@ -47,14 +48,10 @@ fn plan_retitle(
     ensures err { IfErr result (λ fault. fault ≢ MoveFault.NoMemory → stamps_cause replica.now ≡ Some fault) }
     ensures stands { Stands replica.now }
 {
-    let ops = replica.accepted();
-    let arrangement = Arrangement::of(alloc, ops, replica.places().catalogue())?;
-    let Some(stamp) = next_stamp(alloc, ops, &arrangement)? else {
-        return Err(MoveFault::StampsSpent);
-    };
-    let body = body_of(alloc, stamp, title)?;
+    let found = find_stamp(alloc, replica)?;
+    let body = body_of(alloc, found.stamp, title)?;
     Ok(Plan {
-        names: names_of(section_at(&arrangement, k)),
+        names: names_of(section_at(&found.arrangement, k)),
         body,
     })
 }
@@ -68,6 +65,7 @@ pub fn retitle(
 ) -> Result<u32, MoveFault>
     requires { IsSettled replica.old.held }
     ensures made { IfOk result (λ n. IsRetitleMade replica.old replica.new k title n) }
+    ensures shown { ShowsAsBefore replica.old replica.new }
     ensures absent { TellsAbsence (section_cause replica.old k) result }
     ensures refused { RefusesFor (retitle_refusal replica.old k) result }
     ensures unmade { OnErr result (replica.new ≡ replica.old) }
@@ -76,5 +74,5 @@ pub fn retitle(
 {
     find_section(replica, k)?;
     let plan = plan_retitle(alloc, replica, k, &title)?;
-    make(replica, RETITLE, plan)
+    make(replica, RETITLE_CODE, plan)
 }

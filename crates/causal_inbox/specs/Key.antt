@@ -15,7 +15,7 @@ use Rattle.causal_inbox.specs.declared.key.Key.{Key}
 use Rattle.causal_inbox.specs.declared.key.Kind.{Kind}
 use Rattle.causal_inbox.specs.declared.key.Kind.TheVariants.{Own, Target, Named}
 
--- the key of what makes an element, of what hides it, and of what rests on it
+-- the key of what makes an element or note, of what deletes it, and of what rests on it
 abbrev pub own : Identifier → Key
 own i = record { id = i; kind = Own }
 

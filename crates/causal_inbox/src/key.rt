@@ -15,7 +15,7 @@ pub(crate) struct Key {
 /// What an operation has to do with the identifier.
 #[derive(Clone, Copy, PartialEq, Eq, PartialOrd, Ord)]
 pub(crate) enum Kind {
-    /// It makes the element.
+    /// It makes the element or note.
     Own,
     /// It is the `Delete` of it.
     Target,
@@ -23,7 +23,7 @@ pub(crate) enum Kind {
     Named,
 }
 
-/// The key of what makes the element.
+/// The key of what makes the element or note.
 pub(crate) fn own_key(id: ElementId) -> Key
     ensures { result ≡ own id }
 {
@@ -33,7 +33,7 @@ pub(crate) fn own_key(id: ElementId) -> Key
     }
 }
 
-/// The key of what hides the element.
+/// The key of what deletes the element or note.
 fn target_key(id: ElementId) -> Key
     ensures { result ≡ target id }
 {
@@ -43,7 +43,7 @@ fn target_key(id: ElementId) -> Key
     }
 }
 
-/// The key of what rests on the element.
+/// The key of what rests on the element or note.
 pub(crate) fn named_key(id: ElementId) -> Key
     ensures { result ≡ named id }
 {

@@ -11,10 +11,12 @@ use outer_ports::{
 use std::hash::{BuildHasherDefault, FoldHasher};
 use std::process::Abort;
 
+mod arranged;
 mod bulks;
 mod certificates;
 mod edits;
 mod files;
+mod margins;
 mod refusals;
 mod relays;
 mod shown;

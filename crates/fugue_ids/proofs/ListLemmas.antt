@@ -1,7 +1,7 @@
 -- What std's lemmas do not say of `All`, `Contains`, `AllPairs` and `position_or_len`.
 -- std has `All-nil`, `All-cons`, `All-head`, `All-tail`, `All-append`, `All-map`, `All-filter`, `All-weaker`, `All-contains`, `All-get_or`,
 -- `All-from_recursion`, `recursion_from_All`, `Contains-get_or` and `Contains-append_left`, `_right`, `_cases` (`lemmas.List.Elements`), and `AllPairs-cons` (`lemmas.List.Kept`).
-use Rattle.std.specs.Prelude.{◌≡◌, ◌⊎◌, ℕ, zero, suc, ◌<◌, Bool, true, List, [], ◌∷◌, ◌++◌, length, map, filter, refl}
+use Rattle.std.specs.Prelude.{◌≡◌, ◌⊎◌, ℕ, zero, suc, ◌<◌, Bool, true, false, ◌&&◌, cond, List, [], ◌∷◌, ◌++◌, length, map, filter, refl}
 use Rattle.std.specs.List.{All, AllPairs, Contains, insert}
 use Rattle.std.proofs.Common.{ap, arith, get_or, inl, inr, subst, sym, take, drop, ◌∙◌}
 use Rattle.std.proofs.lemmas.List.{take-append-drop}
@@ -179,3 +179,14 @@ module _ {X : Type 0} (p : X → Bool) where
   pub all_from_filter : (P : X → Type 0) (xs : List X) → All P (filter p xs) → All (λ x. p x ≡ true → P x) xs
   all_from_filter P xs all =
       all_from_contains (λ x. p x ≡ true → P x) xs (λ x c passes. All-contains P (filter p xs) x all (contains_filter xs x c passes))
+
+module _ {X : Type 0} (f g : X → Bool) where
+  -- what passes one test and then another passes both
+  pub filter-both : (xs : List X) → filter g (filter f xs) ≡ filter (λ x. f x && g x) xs
+  filter-both [] = refl
+  filter-both (x ∷ xs) =
+      let both : List X = filter (λ y. f y && g y) xs in
+      elim (f x) as (λ (b : Bool). filter g (cond b (x ∷ filter f xs) (filter f xs)) ≡ cond (b && g x) (x ∷ both) both) [
+        | true ↦ ap (λ (t : List X). cond (g x) (x ∷ t) t) (filter-both xs)
+        | false ↦ filter-both xs
+      ]

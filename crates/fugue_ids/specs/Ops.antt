@@ -19,7 +19,7 @@ abbrev pub own_in : OpKey → Option Identifier
 own_in (Own id) = Some id
 own_in (Target id) = None
 
--- the element that a Delete hides
+-- the element or note that a Delete names
 abbrev pub target_in : OpKey → Option Identifier
 target_in (Own id) = None
 target_in (Target id) = Some id
@@ -28,7 +28,7 @@ target_in (Target id) = Some id
 abbrev pub id_of : Op → Option Identifier
 id_of op = own_in (key_of op)
 
--- the element that an operation hides: only a Delete hides one
+-- the element or note that an operation deletes: only a Delete names one
 abbrev pub target_of : Op → Option Identifier
 target_of op = target_in (key_of op)
 

@@ -1,5 +1,5 @@
 ghost use Rattle.std.specs.Prelude.{◌≡◌, ◌≢◌, ◌↔◌, ◌<◌, ◌≤◌, [], length, true, IfOk};
-ghost use Rattle.std.specs.Str.{encode_utf8_all};
+ghost use Rattle.std.specs.Str.{chars as scalars_in, encode_utf8_all};
 ghost use Rattle.fugue_ids.specs.Titles.{has_line_end as has_line_end_in, IsTitleText};
 
 use crate::{LONGEST_TITLE, NoMemory};
@@ -87,6 +87,7 @@ impl Title {
     /// The text of the title.
     pub fn as_str(&self) -> &str
         ensures text { result.now ≡ encode_utf8_all self.now }
+        ensures scalars { scalars_in result.now ≡ self.now }
         ensures is_title { IsTitleText result.now }
     {
         self.text.as_str()

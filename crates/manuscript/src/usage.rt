@@ -18,9 +18,18 @@ pub(crate) fn usage_of(words: &[String]) -> &'static str {
         "bulk" => "usage: manuscript bulk SEED COUNT\n",
         "why" => "usage: manuscript why FILE K P Q\n",
         "check" => "usage: manuscript check FILE < CERTIFICATE\n",
+        "move" => "usage: manuscript move FILE K J\n",
+        "retitle" => "usage: manuscript retitle FILE K TITLE\n",
+        "arrange" => "usage: manuscript arrange FILE\n",
+        "comment" => "usage: manuscript comment FILE K P N TEXT\n",
+        "comments" => "usage: manuscript comments FILE\n",
+        "version" => "usage: manuscript version FILE NAME\n",
+        "versions" => "usage: manuscript versions FILE\n",
+        "view" => "usage: manuscript view FILE NAME\n",
         _ => ALL,
     }
 }
 
 const ALL: &str = "usage: manuscript show | new | edit | print | take | send | merge | relay \
-    | sync | bulk | why | check\n";
+    | sync | bulk | why | check | move | retitle | arrange \
+    | comment | comments | version | versions | view\n";

@@ -5,9 +5,10 @@ use Rattle.fugue_ids.specs.declared.op.Op.{Op}
 use Rattle.origin_model.specs.declared.grammar.Grammar.TheVariants.{Version2}
 use Rattle.origin_model.specs.frames.Frames.{Reads, Whole as EndsWhole}
 use Rattle.origin_model.specs.order.Laws.{OrderBySet}
+use Rattle.origin_model.specs.order.Printed.{manuscript}
 use Rattle.origin_model.specs.taking.Taking.{HasPlace, held, nothing_held}
 use Rattle.op_frame.specs.Courses.{IntakeCourse, Whole, CutShort, BadFrame, TooLong, TooMany}
-use Rattle.manuscript_cli.proofs.LawfulLemmas.{held_lawful, printed_by_set}
+use Rattle.manuscript_cli.proofs.LawfulLemmas.{held_lawful, manuscript_by_set, printed_by_set}
 use Rattle.manuscript_cli.specs.Headline.{Headline, IsCalm, IsDecided, status_for}
 use Rattle.fugue_ids.specs.declared.limits.TheConstants.{MOST_OPERATIONS, STREAM_LIMIT}
 use Rattle.manuscript_cli.specs.Show.{ShowEndsAs, Showed, Finished, StreamRefused, ShowMeets}
@@ -85,5 +86,5 @@ headline order hold old new end meets bytes ops is reads short place calm memory
     let showed = whole_showed hold old new end bytes ops meets is reads short place calm memory in
     record {
       showed = showed;
-      by_set = printed_by_set order (held hold MOST_OPERATIONS ops).history (change old.output new.output) (held_lawful hold MOST_OPERATIONS nothing_held ops tt) showed.output;
+      by_set = printed_by_set manuscript (manuscript_by_set order) (held hold MOST_OPERATIONS ops).history (change old.output new.output) (held_lawful hold MOST_OPERATIONS nothing_held ops tt) showed.output;
     }

@@ -7,7 +7,9 @@ use Rattle.origin_model.proofs.SharedLemmas.{earliest_found, within-none, within
 use Rattle.origin_model.specs.declared.operations.Verdict.{Verdict}
 use Rattle.origin_model.specs.declared.operations.Verdict.TheVariants.{Ready, Stray}
 use Rattle.origin_model.specs.operations.Verdict.{Lawful, verdict}
-use Rattle.origin_model.specs.order.Laws.{OrderBySet}
+use Rattle.catalogue_notes.specs.Arranged.{arranged_text}
+use Rattle.catalogue_notes.specs.Laws.{ArrangedBySet}
+use Rattle.origin_model.specs.order.Laws.{OrderBySet, SameOps}
 use Rattle.origin_model.specs.order.Printed.{manuscript}
 use Rattle.origin_model.specs.taking.Taking.{Accepted, Again, Answer, Conflict, Held, answer, answer_by, held_from, intake, is_again, is_taken, joined, settle, settled_within, taken}
 use Rattle.manuscript_cli.specs.Printing.{PrintedBySet}
@@ -54,9 +56,19 @@ held_lawful hold most s [] lawful = lawful
 held_lawful hold most s (op ∷ ops) lawful =
     held_lawful hold most (intake hold most s op) ops (settle_lawful (taken (answer hold most s op) s op) (taken_lawful hold most s op (answer hold most s op) refl lawful))
 
--- the manuscript of a lawful history is fixed by its set
-pub printed_by_set : OrderBySet → (history : List Op) (output : Change OutView) → Lawful history → Took output.old output.new (manuscript history) → PrintedBySet history output
-printed_by_set by_set history output lawful took = record {
+-- a text of histories that is fixed by the set of their operations
+abbrev pub IsFixedBySet : (List Op → List ℕ) → Type 0
+IsFixedBySet text = (a b : List Op) → Lawful a → Lawful b → SameOps a b → text a ≡ text b
+
+pub manuscript_by_set : OrderBySet → IsFixedBySet manuscript
+manuscript_by_set order a b x y same = (order a b x y same).same_manuscript
+
+pub arranged_text_by_set : ArrangedBySet → IsFixedBySet arranged_text
+arranged_text_by_set arranged a b x y same = (arranged a b x y same).same_text
+
+-- so is what was printed of one
+pub printed_by_set : (text : List Op → List ℕ) → IsFixedBySet text → (history : List Op) (output : Change OutView) → Lawful history → Took output.old output.new (text history) → PrintedBySet text history output
+printed_by_set text fixed history output lawful took = record {
   lawful = lawful;
-  printed = λ other is same. subst (Took output.old output.new) (by_set history other lawful is same).same_manuscript took;
+  printed = λ other is same. subst (Took output.old output.new) (fixed history other lawful is same) took;
 }

@@ -1,8 +1,10 @@
 pub mod TextLemmas
+pub mod LineLemmas
 pub mod IntakeLemmas
 pub mod HeadlineLemmas
 pub mod ShowLemmas
 pub mod RunLemmas
+pub mod ObeyLemmas
 pub mod RelayLemmas
 pub mod BulkLemmas
 pub mod NewLemmas
@@ -26,3 +28,5 @@ pub mod BlameLemmas
 pub mod RunBlameLemmas
 pub mod WhyLemmas
 pub mod CheckLemmas
+pub mod NoteLemmas
+pub mod NamedVersionLemmas

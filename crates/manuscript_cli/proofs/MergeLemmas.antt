@@ -47,8 +47,8 @@ module _ (hold most : ℕ) where
       places-behind (intake hold most s op) a b (All-tail (λ x. x ≢ TooMany) (answer hold most s op) (answers_from hold most (intake hold most s op) (a ++ b)) p)
 
 -- what was taken in one behind the other was taken in as one list
-pub takes-append : (start mid end : OpsTaking) (a b : List Op) → TakesIn start mid a → TakesIn mid end b → TakesIn start end (a ++ b)
-takes-append start mid end a b s t =
+pub both-taken : (start mid end : OpsTaking) (a b : List Op) → TakesIn start mid a → TakesIn mid end b → TakesIn start end (a ++ b)
+both-taken start mid end a b s t =
     let hold : ℕ = start.replica.hold in
     let most : ℕ = start.replica.most in
     let held : Held = held_from hold most start.replica.held a in

@@ -4,7 +4,6 @@ use Rattle.std.specs.Prelude.{Err}
 use Rattle.fugue_ids.specs.Causes.{Rose}
 use Rattle.fugue_ids.specs.Outs.{OutView}
 use Rattle.origin_model.specs.operations.Verdict.{Lawful}
-use Rattle.origin_model.specs.taking.Taking.{Held}
 use Rattle.outer_ports.specs.disk.Disks.{DiskTells, DiskView}
 use Rattle.origin_model.specs.edits.State.{State as Replica}
 use Rattle.replica_file.specs.declared.load_file.End.{End}
@@ -17,7 +16,7 @@ use Rattle.manuscript_cli.specs.Files.{FileRefuses, IsLoaded, KeepsFile, LoadMee
 use Rattle.manuscript_cli.specs.Findings.{Finding, Refuses, Does}
 use Rattle.manuscript_cli.specs.Refusal.{Told, refusal_line, status_of}
 use Rattle.manuscript_cli.specs.TextOut.{HasNoText, TextMeets, WritesOut, WritesReport}
-use Rattle.manuscript_cli.specs.Touched.{Change, HasRoom, IsTold, StaysCalm, change}
+use Rattle.manuscript_cli.specs.Touched.{Change, HasRoom, IsTold, StaysCalm}
 use Rattle.manuscript_cli.specs.declared.refusal.Refusal.{Refusal}
 use Rattle.manuscript_cli.specs.declared.refusal.Refusal.TheVariants as refusal
 use Rattle.manuscript_cli.specs.declared.status.Status.{Status}
@@ -25,13 +24,13 @@ use Rattle.manuscript_cli.specs.declared.status.Status.TheVariants as status
 
 -- of a lawful history one thing is told
 abbrev pub TellsOnce : Telling → Type 0
-TellsOnce tells = (held : Held) → Lawful held.history → (a b : Finding (List ℕ)) → tells held a → tells held b → a ≡ b
+TellsOnce tells = (replica : Replica) → Lawful replica.held.history → (a b : Finding (List ℕ)) → tells replica a → tells replica b → a ≡ b
 
 module _ (tells : Telling) (once : TellsOnce tells) (file : DiskView) (told : IsTold file) where
   held_once : (a b : Finding (List ℕ)) → IsTelling tells file a → IsTelling tells file b → a ≡ b
   held_once a b one two =
       let same = holds_once file told (one.0, one.1) (two.0, two.1) one.2 two.2 in
-      once one.0.held (loaded_lawful file told one.0 one.1 one.2) a b one.3 (subst (λ (l : Replica × End). tells l.0.held b) (sym same) two.3)
+      once one.0 (loaded_lawful file told one.0 one.1 one.2) a b one.3 (subst (λ (l : Replica × End). tells l.0 b) (sym same) two.3)
 
   apart : (why : Refusal) (found : Finding (List ℕ)) → FileRefuses file why → IsTelling tells file found → ⊥
   apart why found refuses t = holds_or_refuses file told (t.0, t.1) why t.2 refuses
@@ -49,7 +48,7 @@ module _ (tells : Telling) (once : TellsOnce tells) (file : DiskView) (told : Is
 
 -- the file was loaded, and the text of its replica was written
 module _ (tells : Telling) (once : TellsOnce tells) (file : Change DiskView) (replica : Replica) (at : End) (output notes : Change OutView) (end : Status)
-    (loaded : IsLoaded file replica at) (exact : DiskTells file.old → file.new.faults ≡ file.old.faults) (bytes : List ℕ) (told_is : tells replica.held (Does bytes))
+    (loaded : IsLoaded file replica at) (exact : DiskTells file.old → file.new.faults ≡ file.old.faults) (bytes : List ℕ) (told_is : tells replica (Does bytes))
     (wrote : WritesOut bytes output notes end) where
   found : TextFound tells file.old (Does bytes)
   found = (replica, at, loaded.holds, told_is)
@@ -130,18 +129,23 @@ module _ (tells : Telling) (once : TellsOnce tells) (file : Change DiskView) (ou
   load_refused _ refused exact told = absurd refused.0
 
   -- the file was loaded, and there is no text of what it holds
-  pub no_text : (replica : Replica) (at : End) → IsLoaded file replica at → (DiskTells file.old → file.new.faults ≡ file.old.faults) → (why : Refusal) → HasNoText (tells replica.held) why
+  pub no_text : (replica : Replica) (at : End) → IsLoaded file replica at → (DiskTells file.old → file.new.faults ≡ file.old.faults) → (why : Refusal) → HasNoText (tells replica) why
       → Told notes.old notes.new (refusal_line why) → Reports tells file output notes (status_of why)
   no_text replica at loaded exact refusal.NoMemory cause told = ended refusal.NoMemory (λ done. elim done [ inl is ↦ cc is | inr is ↦ cc is ]) loaded.keeps (λ disk not. exact disk) told
       (record { wrote = same; noted = told }) (λ is other found room has outside. cc outside) (λ is other found. inr (inl refl))
-  no_text replica at loaded exact refusal.NoSuchPlaces cause told = ended refusal.NoSuchPlaces (λ done. elim done [ inl is ↦ cc is | inr is ↦ cc is ]) loaded.keeps (λ disk not. exact disk) told
-      (record { why = refusal.NoSuchPlaces; found = inr (replica, at, loaded.holds, cause); end_is = refl; nothing = record { wrote = same; noted = told } })
-      (λ is other found room has outside. cc outside) (decided_by refusal.NoSuchPlaces (inr (replica, at, loaded.holds, cause)))
-  no_text replica at loaded exact _ cause told = absurd cause
+  no_text replica at loaded exact why cause told = ended why
+      (λ done. elim done [
+        | inl is ↦ (let other : status.BadInput ≡ status.Done = sym cause.0 ∙ is in cc other)
+        | inr is ↦ (let other : status.BadInput ≡ status.Partial = sym cause.0 ∙ is in cc other)
+      ])
+      loaded.keeps (λ disk not. exact disk) told
+      (subst (ReportMeets tells file output notes) (sym cause.0)
+      (record { why = why; found = inr (replica, at, loaded.holds, cause.1); end_is = sym cause.0; nothing = record { wrote = same; noted = told } }))
+      (λ is other found room has outside. let end : status.BadInput ≡ status.OutsideFault = sym cause.0 ∙ outside in cc end) (decided_by why (inr (replica, at, loaded.holds, cause.1)))
 
 -- the file was loaded, and what is told of its replica was written, or nothing
 pub report_written : (tells : Telling) → TellsOnce tells → (file : Change DiskView) (replica : Replica) (at : End) (output notes : Change OutView) (end : Status) → IsLoaded file replica at
-    → (DiskTells file.old → file.new.faults ≡ file.old.faults) → WritesReport (tells replica.held) output notes end → Reports tells file output notes end
+    → (DiskTells file.old → file.new.faults ≡ file.old.faults) → WritesReport (tells replica) output notes end → Reports tells file output notes end
 report_written tells once file replica at output notes end loaded exact (inl wrote) = text_written tells once file replica at output notes end loaded exact wrote.0 wrote.1 wrote.2
 report_written tells once file replica at output notes end loaded exact (inr none) =
     subst (Reports tells file output notes) (sym none.end_is) (no_text tells once file output notes none.wrote replica at loaded exact none.why none.cause none.noted)

@@ -1,5 +1,5 @@
 -- From what the commands promise of the objects that they use, that no object that tells counts a fault that is not told.
-use Rattle.std.proofs.Common.{◌≡◌, ℕ, inl, inr, ap, ◌∙◌, refl, subst, sym}
+use Rattle.std.proofs.Common.{◌≡◌, ℕ, List, inl, inr, ap, ◌∙◌, refl, subst, sym}
 use Rattle.std.specs.Prelude.{None, Option, Some}
 use Rattle.fugue_ids.specs.Outs.{OutView}
 use Rattle.outer_ports.specs.Sources.{SourceView}
@@ -9,12 +9,13 @@ use Rattle.manuscript_cli.specs.Printing.{NotesBlameless}
 use Rattle.manuscript_cli.specs.Report.{Telling}
 use Rattle.manuscript_cli.specs.Run.{IsBlameless, Meets, RunsCheck, RunsReport, UsageMeets}
 use Rattle.manuscript_cli.specs.Refusal.{status_of}
-use Rattle.manuscript_cli.specs.Savers.{RunsSaving, input_saver}
+use Rattle.manuscript_cli.specs.Notes.{NoteOn}
+use Rattle.manuscript_cli.specs.Savers.{RunsSaving, input_saver, note_saver}
 use Rattle.manuscript_cli.specs.Saving.{Giver}
 use Rattle.manuscript_cli.specs.Take.{stream}
 use Rattle.manuscript_cli.specs.Touched.{Change, DiskBlameless, DockBlameless, OutBlameless, SourceBlameless, Touched, WireBlameless, change}
 use Rattle.manuscript_cli.specs.declared.command.Command.{Command}
-use Rattle.manuscript_cli.specs.declared.command.Command.TheVariants.{Show, New, Edit, Print, Take, Send, Merge, Relay, Sync, Bulk, Why, Check}
+use Rattle.manuscript_cli.specs.declared.command.Command.TheVariants.{Show, New, Edit, Print, Take, Send, Merge, Relay, Sync, Bulk, Why, Check, Move, Retitle, Arrange, Comment, Comments, Version, Versions, View}
 use Rattle.manuscript_cli.specs.declared.refusal.Refusal.TheVariants.{Words}
 use Rattle.manuscript_cli.specs.declared.status.Status.{Status}
 use Rattle.manuscript_cli.proofs.TextLemmas.{told_blameless}
@@ -23,7 +24,7 @@ use Rattle.manuscript_cli.proofs.TextLemmas.{told_blameless}
 quiet : {P Q : Type 0} {count : ℕ} → P → Q → count ≡ count
 quiet tells inside = refl
 
-module _ (old new : Touched) (end : Status) where
+module _ (words : List (List ℕ)) (old new : Touched) (end : Status) where
   -- the objects stand so at the end
   all : (now : Touched) → new ≡ now → SourceBlameless (change old.streams.input now.streams.input) end → OutBlameless (change old.streams.output now.streams.output) end
       → NotesBlameless (change old.streams.notes now.streams.notes) end → DiskBlameless (change old.home now.home) end → DiskBlameless (change old.guest now.guest) end
@@ -52,7 +53,10 @@ module _ (old new : Touched) (end : Status) where
             (subst (NotesBlameless notes) (sym k.end_is) (told_blameless k.why notes k.noted)) (λ tells not. ap (λ (d : DiskView). d.faults) k.file_kept) quiet quiet quiet
       ]
 
-  pub meets_blameless : (command : Option Command) → Meets command old new end → IsBlameless old new end
+  makes_note : (note_on : NoteOn) → RunsSaving (note_saver note_on old new) old new end → IsBlameless old new end
+  makes_note note_on meets = all _ meets.others quiet quiet meets.blameless.notes_blameless meets.blameless.file_blameless quiet quiet quiet
+
+  pub meets_blameless : (command : Option Command) → Meets words command old new end → IsBlameless old new end
   meets_blameless None meets = usage meets
   meets_blameless (Some (Show hold)) meets = all _ meets.others meets.does.input_blameless meets.does.output_blameless meets.does.notes_blameless quiet quiet quiet quiet
   meets_blameless (Some (New replica hold)) meets = all _ meets.others quiet quiet meets.does.notes_blameless meets.does.home_blameless quiet quiet quiet
@@ -66,3 +70,11 @@ module _ (old new : Touched) (end : Status) where
   meets_blameless (Some (Bulk seed count)) meets = all _ meets.others quiet meets.does.writes.output_blameless meets.does.writes.notes_blameless quiet quiet quiet quiet
   meets_blameless (Some (Why k p q)) meets = reports _ meets
   meets_blameless (Some Check) meets = checks meets
+  meets_blameless (Some (Move k j)) meets = makes_note _ meets
+  meets_blameless (Some (Retitle k)) meets = makes_note _ meets
+  meets_blameless (Some Arrange) meets = reports _ meets
+  meets_blameless (Some (Comment k p n)) meets = makes_note _ meets
+  meets_blameless (Some Comments) meets = reports _ meets
+  meets_blameless (Some Version) meets = makes_note _ meets
+  meets_blameless (Some Versions) meets = reports _ meets
+  meets_blameless (Some View) meets = reports _ meets

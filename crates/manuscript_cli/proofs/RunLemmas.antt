@@ -1,59 +1,66 @@
 -- From what a command does with the objects that it uses to what `run` does with all objects.
-use Rattle.std.proofs.Common.{◌≡◌, inl, inr, ℕ, List, sym, subst, ◌∙◌, ap, arith}
-use Rattle.std.specs.Prelude.{Some, IfSome}
-use Rattle.fugue_ids.specs.declared.limits.TheConstants.{MOST_OPERATIONS}
+use Rattle.std.proofs.Common.{◌≡◌, inl, inr, ℕ, ◌≤◌, List, sym, subst, ◌∙◌, ap, arith}
+use Rattle.std.specs.Prelude.{Some}
+use Rattle.fugue_ids.specs.declared.limits.TheConstants.{GREATEST_HOLD}
 use Rattle.fugue_ids.specs.Outs.{OutView, Took}
-use Rattle.origin_model.specs.operations.Verdict.{Lawful}
+use Rattle.fugue_ids.specs.declared.op.Op.{Op}
+use Rattle.catalogue_notes.specs.Arranged.{arranged_text}
+use Rattle.catalogue_notes.specs.Laws.{ArrangedBySet}
 use Rattle.origin_model.specs.order.Laws.{OrderBySet}
 use Rattle.origin_model.specs.order.Printed.{manuscript}
-use Rattle.origin_model.specs.taking.Taking.{nothing_held}
 use Rattle.outer_ports.specs.disk.Disks.{DiskView}
-use Rattle.outer_ports.specs.disk.Moments.{History}
 use Rattle.origin_model.specs.edits.State.{State as Replica}
-use Rattle.replica_file.specs.Load.{Loads}
 use Rattle.replica_file.specs.declared.load_file.End.{End}
 use Rattle.manuscript_cli.proofs.FoundLemmas.{holds_once, loaded_lawful}
-use Rattle.manuscript_cli.proofs.LawfulLemmas.{printed_by_set}
+use Rattle.manuscript_cli.proofs.LawfulLemmas.{IsFixedBySet, arranged_text_by_set, manuscript_by_set, printed_by_set}
 use Rattle.manuscript_cli.specs.Files.{FileHolds}
 use Rattle.manuscript_cli.specs.Findings.{Does}
 use Rattle.manuscript_cli.specs.Printing.{PrintedBySet}
-use Rattle.manuscript_cli.specs.Command.{IsHold, IsInRange, Names}
+use Rattle.manuscript_cli.specs.Command.{Names}
 use Rattle.manuscript_cli.specs.Headline.{PrintsBySet}
-use Rattle.manuscript_cli.specs.Report.{ReportMeets, print_tells, printed_of}
-use Rattle.manuscript_cli.specs.Run.{Meets}
+use Rattle.manuscript_cli.specs.Report.{ReportMeets, Telling}
+use Rattle.manuscript_cli.specs.Run.{Meets, RunsReport}
 use Rattle.manuscript_cli.specs.Touched.{Change, IsTold, Touched, change}
 use Rattle.manuscript_cli.specs.declared.command.Command.{Command}
-use Rattle.manuscript_cli.specs.declared.command.Command.TheVariants.{New, Print, Show, Why}
+use Rattle.manuscript_cli.specs.declared.command.Command.TheVariants.{Arrange, Print, Show}
 use Rattle.manuscript_cli.specs.declared.status.Status.{Status}
 use Rattle.manuscript_cli.specs.declared.status.Status.TheVariants as status
 
-hold_in_range : (words : List (List ℕ)) (hold : ℕ) → Names words (Show hold) → IsHold hold
-hold_in_range words hold (inl usual) = subst IsHold (sym usual.1) (record { from = omega arith; to = omega arith })
-hold_in_range words hold (inr named) = record { from = named.number.from; to = named.number.to }
-
--- words ask for no command whose numbers are out of their ranges
-pub named_in_range : (words : List (List ℕ)) (command : Command) → Names words command → IsInRange command
-named_in_range words (Show hold) named = hold_in_range words hold named
-named_in_range words (New replica hold) named = (named.replica_is.from, record { from = named.hold_is.from; to = named.hold_is.to })
-named_in_range words (Why k p q) named = named.section_is.from
-named_in_range words _ named = tt
+-- words ask for no hold that is out of its range
+pub hold_in_range : (words : List (List ℕ)) (hold : ℕ) → Names words (Show hold) → (1 ≤ hold) × (hold ≤ GREATEST_HOLD)
+hold_in_range words hold (inl usual) = subst (λ (n : ℕ). (1 ≤ n) × (n ≤ GREATEST_HOLD)) (sym usual.1) (omega arith, omega arith)
+hold_in_range words hold (inr named) = (named.number.from, named.number.to)
 
 -- the command that was read is the one that is named
-pub meets_named : (command named : Command) (old new : Touched) (end : Status) → Some command ≡ Some named → Meets (Some command) old new end → Meets (Some named) old new end
-meets_named command named old new end same meets = subst (λ c. Meets c old new end) same meets
+pub meets_named : (words : List (List ℕ)) (command named : Command) (old new : Touched) (end : Status) → Some command ≡ Some named → Meets words (Some command) old new end
+    → Meets words (Some named) old new end
+meets_named words command named old new end same meets = subst (λ c. Meets words c old new end) same meets
 
 same_text : (a b : List ℕ) → Does a ≡ Does b → a ≡ b
 same_text a b e = cc
 
--- what `print` wrote of a file is fixed by the set of what was accepted
-file_by_set : OrderBySet → (file : Change DiskView) (output notes : Change OutView) → ReportMeets print_tells file output notes status.Done → IsTold file.old
-    → (replica : Replica) (at : End) → FileHolds file.old replica at → PrintedBySet replica.held.history output
-file_by_set order file output notes wrote told replica at holds =
-    let same = holds_once file.old told (replica, at) (wrote.found.0, wrote.found.1) holds wrote.found.2 in
-    let text : wrote.bytes ≡ manuscript replica.held.history = same_text wrote.bytes (printed_of wrote.found.0.held) wrote.found.3 ∙ sym (ap (λ (l : Replica × End). manuscript l.0.held.history) same) in
-    printed_by_set order replica.held.history output (loaded_lawful file.old told replica at holds) (subst (Took output.old output.new) text wrote.came.wrote)
+-- what a report tells that is a text of the history
+abbrev TellsText : (text : List Op → List ℕ) → Telling
+TellsText text replica found = found ≡ Does (text replica.held.history)
 
-pub prints_by_set : OrderBySet → (old new : Touched) (end : Status) → Meets (Some Print) old new end → PrintsBySet old.home (change old.streams.output new.streams.output) end
-prints_by_set order old new end meets done =
-    file_by_set order (change old.home new.home) (change old.streams.output new.streams.output) (change old.streams.notes new.streams.notes)
-    (subst (ReportMeets print_tells (change old.home new.home) (change old.streams.output new.streams.output) (change old.streams.notes new.streams.notes)) done meets.does.meets)
+-- what was printed of a file is fixed by the set of what was accepted
+file_by_set : (text : List Op → List ℕ) → IsFixedBySet text → (file : Change DiskView) (output notes : Change OutView) → ReportMeets (TellsText text) file output notes status.Done → IsTold file.old
+    → (replica : Replica) (at : End) → FileHolds file.old replica at → PrintedBySet text replica.held.history output
+file_by_set text fixed file output notes wrote told replica at holds =
+    let same = holds_once file.old told (replica, at) (wrote.found.0, wrote.found.1) holds wrote.found.2 in
+    let is : wrote.bytes ≡ text replica.held.history = same_text wrote.bytes (text wrote.found.0.held.history) wrote.found.3 ∙ sym (ap (λ (l : Replica × End). text l.0.held.history) same) in
+    printed_by_set text fixed replica.held.history output (loaded_lawful file.old told replica at holds) (subst (Took output.old output.new) is wrote.came.wrote)
+
+report_by_set : (text : List Op → List ℕ) → IsFixedBySet text → (old new : Touched) (end : Status) → RunsReport (TellsText text) old new end
+    → PrintsBySet text old.home (change old.streams.output new.streams.output) end
+report_by_set text fixed old new end meets done =
+    file_by_set text fixed (change old.home new.home) (change old.streams.output new.streams.output) (change old.streams.notes new.streams.notes)
+    (subst (ReportMeets (TellsText text) (change old.home new.home) (change old.streams.output new.streams.output) (change old.streams.notes new.streams.notes)) done meets.does.meets)
+
+pub prints_by_set : OrderBySet → (words : List (List ℕ)) (old new : Touched) (end : Status) → Meets words (Some Print) old new end
+    → PrintsBySet manuscript old.home (change old.streams.output new.streams.output) end
+prints_by_set order words old new end meets = report_by_set manuscript (manuscript_by_set order) old new end meets
+
+pub arranges_by_set : ArrangedBySet → (words : List (List ℕ)) (old new : Touched) (end : Status) → Meets words (Some Arrange) old new end
+    → PrintsBySet arranged_text old.home (change old.streams.output new.streams.output) end
+arranges_by_set arranged words old new end meets = report_by_set arranged_text (arranged_text_by_set arranged) old new end meets

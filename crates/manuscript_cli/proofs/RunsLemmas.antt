@@ -140,7 +140,7 @@ finished_or_not status.Done = inl (inl refl)
 finished_or_not status.Partial = inl (inr refl)
 finished_or_not _ = inr (λ done. elim done [ inl is ↦ cc is | inr is ↦ cc is ])
 
-module _ (header : Header) (run : CommandRun) (ops more gave : List Op) (given : GaveBy run.command run.old run.new run.end gave) (s : State) where
+module _ (header : Header) (run : CommandRun) (ops more gave : List Op) (given : GaveBy run.words run.command run.old run.new run.end gave) (s : State) where
   -- nothing was saved
   next_none : IsSafe header ops more s → (DidAll run → gave ≡ []) → Next header run ops more s
   next_none safe none = record {
@@ -207,7 +207,7 @@ meanwhile_safe header ops more s t (inr crash) safe = subst (IsSafe header ops m
 
 run_next : (header : Header) (ops more : List Op) (run : CommandRun) (s t : State) → IsSafe header ops more s → LeadsFrom run s t → Next header run ops more t
 run_next header ops more run s t safe leads =
-    let went = goes run.old run.new run.end leads.began leads.stood leads.began_is leads.stood_is header ops more (subst (IsSafe header ops more) (sym leads.begins) safe) (family run.command) run.meets in
+    let went = goes run.old run.new run.end leads.began leads.stood leads.began_is leads.stood_is header ops more (subst (IsSafe header ops more) (sym leads.begins) safe) (family run.words run.command) run.meets in
     next header run ops more went.0 went.1 t leads.began leads.stood went.2 run.crash refl leads.behind
 
 -- whatever is left of a safe file behind some runs has one of its lists, and then what they brought
@@ -248,7 +248,7 @@ all_in header (run ∷ runs) ops more s t safe follow =
 
 -- from a new file on, what runs brought is all
 pub each_finished_is_in : EachFinishedIsIn
-each_finished_is_in replica hold old new made runs last meets made_is follow =
+each_finished_is_in words replica hold old new made runs last meets made_is follow =
     let header : Header = record { replica = replica; hold = hold } in
     let safe : IsSafe header [] [] made.last = subst (λ o. IfSome o (λ (k : History). IsSafe header [] [] k.last)) made_is meets.does.meets.safe in
     let all = all_in header runs [] [] made.last last safe follow in (

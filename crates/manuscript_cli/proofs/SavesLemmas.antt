@@ -63,35 +63,11 @@ module _ (giver : Giver) (once : GivesOnce giver) (file : Change DiskView) where
   not_finished end a b (inl e) = a e
   not_finished end a b (inr e) = b e
 
-  bad_input : (status.BadInput ≢ status.OutsideFault) × (IsFinished status.BadInput → ⊥)
-  bad_input = (λ e. cc e, not_finished status.BadInput (λ e. cc e) (λ e. cc e))
-
-  bad_file : (status.BadFile ≢ status.OutsideFault) × (IsFinished status.BadFile → ⊥)
-  bad_file = (λ e. cc e, not_finished status.BadFile (λ e. cc e) (λ e. cc e))
-
-  limit : (status.Limit ≢ status.OutsideFault) × (IsFinished status.Limit → ⊥)
-  limit = (λ e. cc e, not_finished status.Limit (λ e. cc e) (λ e. cc e))
-
   causes : (why : Refusal) → StopsSaving giver file why → Causes why
   causes refusal.Outside stops = inl (refl, stops)
   causes refusal.NoMemory stops = inr (inl (refl, stops))
   causes refusal.Words stops = absurd stops
-  causes (refusal.BadFrame offset) stops = found_so (refusal.BadFrame offset) stops bad_input.0 bad_input.1
-  causes (refusal.CutShort offset) stops = found_so (refusal.CutShort offset) stops bad_input.0 bad_input.1
-  causes (refusal.BadLine line) stops = found_so (refusal.BadLine line) stops bad_input.0 bad_input.1
-  causes (refusal.NoSection line) stops = found_so (refusal.NoSection line) stops bad_input.0 bad_input.1
-  causes (refusal.OutOfRange line) stops = found_so (refusal.OutOfRange line) stops bad_input.0 bad_input.1
-  causes refusal.NotReplica stops = found_so refusal.NotReplica stops bad_file.0 bad_file.1
-  causes (refusal.BadBatch slot) stops = found_so (refusal.BadBatch slot) stops bad_file.0 bad_file.1
-  causes refusal.NotEmpty stops = found_so refusal.NotEmpty stops bad_file.0 bad_file.1
-  causes (refusal.TooMany count) stops = found_so (refusal.TooMany count) stops limit.0 limit.1
-  causes (refusal.IdsSpent count) stops = found_so (refusal.IdsSpent count) stops limit.0 limit.1
-  causes refusal.TooLong stops = found_so refusal.TooLong stops limit.0 limit.1
-  causes refusal.BatchTooLong stops = found_so refusal.BatchTooLong stops limit.0 limit.1
-  causes (refusal.BadReply offset) stops = found_so (refusal.BadReply offset) stops bad_input.0 bad_input.1
-  causes (refusal.RelayRefused code) stops = found_so (refusal.RelayRefused code) stops bad_input.0 bad_input.1
-  causes (refusal.ReplyCutShort offset) stops = found_so (refusal.ReplyCutShort offset) stops bad_input.0 bad_input.1
-  causes refusal.NoSuchPlaces stops = found_so refusal.NoSuchPlaces stops bad_input.0 bad_input.1
+  causes why stops = found_so why stops (λ e. cc e) (not_finished (status_of why) (λ e. cc e) (λ e. cc e))
 
   -- the outcome of operations that were not saved, since a call failed
   failed_found : (fails : SaveFailed giver file) → SavingFound giver file.old (Does fails.outcome)
@@ -168,24 +144,8 @@ module _ (giver : Giver) (once : GivesOnce giver) (file : Change DiskView) where
 
     stopped_meets : (why : Refusal) → StopsSaving giver file why → Told notes.old notes.new (refusal_line why) → SavingMeets giver file notes (status_of why)
     stopped_meets refusal.Words stops noted = absurd stops
-    stopped_meets (refusal.BadFrame offset) stops noted = stopped (refusal.BadFrame offset) stops noted status.BadInput refl
-    stopped_meets (refusal.CutShort offset) stops noted = stopped (refusal.CutShort offset) stops noted status.BadInput refl
-    stopped_meets (refusal.BadLine line) stops noted = stopped (refusal.BadLine line) stops noted status.BadInput refl
-    stopped_meets (refusal.NoSection line) stops noted = stopped (refusal.NoSection line) stops noted status.BadInput refl
-    stopped_meets (refusal.OutOfRange line) stops noted = stopped (refusal.OutOfRange line) stops noted status.BadInput refl
-    stopped_meets refusal.NotReplica stops noted = stopped refusal.NotReplica stops noted status.BadFile refl
-    stopped_meets (refusal.BadBatch slot) stops noted = stopped (refusal.BadBatch slot) stops noted status.BadFile refl
-    stopped_meets refusal.NotEmpty stops noted = stopped refusal.NotEmpty stops noted status.BadFile refl
-    stopped_meets (refusal.TooMany count) stops noted = stopped (refusal.TooMany count) stops noted status.Limit refl
-    stopped_meets (refusal.IdsSpent count) stops noted = stopped (refusal.IdsSpent count) stops noted status.Limit refl
-    stopped_meets refusal.TooLong stops noted = stopped refusal.TooLong stops noted status.Limit refl
-    stopped_meets refusal.BatchTooLong stops noted = stopped refusal.BatchTooLong stops noted status.Limit refl
-    stopped_meets (refusal.BadReply offset) stops noted = stopped (refusal.BadReply offset) stops noted status.BadInput refl
-    stopped_meets (refusal.RelayRefused code) stops noted = stopped (refusal.RelayRefused code) stops noted status.BadInput refl
-    stopped_meets (refusal.ReplyCutShort offset) stops noted = stopped (refusal.ReplyCutShort offset) stops noted status.BadInput refl
-    stopped_meets refusal.NoSuchPlaces stops noted = stopped refusal.NoSuchPlaces stops noted status.BadInput refl
     stopped_meets refusal.Outside stops noted = inl (stopped refusal.Outside stops noted status.OutsideFault refl)
-    stopped_meets refusal.NoMemory stops noted = stopped refusal.NoMemory stops noted status.NoMemory refl
+    stopped_meets why stops noted = stopped why stops noted (status_of why) refl
 
     -- the rest follows from the cause
     record Follows (end : Status) : Type 0 where

@@ -63,22 +63,7 @@ module _ (giver : Giver) (a b c : DiskView) (replica : Replica) (end : End) (loa
   stops_so refusal.Outside (inr fails) = inr (inr (failed_so fails.0 fails.1 fails.2))
   stops_so refusal.NoMemory same = still_kept same
   stops_so refusal.Words given = given
-  stops_so (refusal.BadFrame offset) given = refused_so (refusal.BadFrame offset) given
-  stops_so (refusal.CutShort offset) given = refused_so (refusal.CutShort offset) given
-  stops_so (refusal.BadLine line) given = refused_so (refusal.BadLine line) given
-  stops_so (refusal.NoSection line) given = refused_so (refusal.NoSection line) given
-  stops_so (refusal.OutOfRange line) given = refused_so (refusal.OutOfRange line) given
-  stops_so refusal.NotReplica given = refused_so refusal.NotReplica given
-  stops_so (refusal.BadBatch slot) given = refused_so (refusal.BadBatch slot) given
-  stops_so refusal.NotEmpty given = refused_so refusal.NotEmpty given
-  stops_so (refusal.TooMany count) given = refused_so (refusal.TooMany count) given
-  stops_so (refusal.IdsSpent count) given = refused_so (refusal.IdsSpent count) given
-  stops_so refusal.TooLong given = refused_so refusal.TooLong given
-  stops_so refusal.BatchTooLong given = refused_so refusal.BatchTooLong given
-  stops_so (refusal.BadReply offset) given = refused_so (refusal.BadReply offset) given
-  stops_so (refusal.RelayRefused code) given = refused_so (refusal.RelayRefused code) given
-  stops_so (refusal.ReplyCutShort offset) given = refused_so (refusal.ReplyCutShort offset) given
-  stops_so refusal.NoSuchPlaces given = refused_so refusal.NoSuchPlaces given
+  stops_so why given = refused_so why given
 
   -- the file was loaded, and something given to it
   pub given_comes : (result : Result Outcome Refusal) → GivenMeets giver replica end (change b c) result → ComesToSave giver (change a c) result

@@ -13,11 +13,11 @@ use Rattle.manuscript_cli.specs.declared.refusal.Refusal.TheVariants as refusal
 use Rattle.manuscript_cli.specs.declared.status.Status.{Status}
 
 -- a text for which there is room goes out, and no fault is counted
-sure_of : (result : Result (Unit {0}) Failed) (old new : OutView) (text : List ℕ) → WritesBytes old new result text → (has : HasRoom (length text) old)
+pub sure_of : (result : Result (Unit {0}) Failed) (old new : OutView) (text : List ℕ) → WritesBytes old new result text → (has : HasRoom (length text) old)
     → IsSure has.room (length text) old.faults new.faults result
 sure_of result old new text wrote has = subst (λ o. IfSome o (λ room. IsSure room (length text) old.faults new.faults result)) has.is wrote.sure
 
-less_room : (fewer bytes : ℕ) (out : OutView) → fewer ≤ bytes → HasRoom bytes out → HasRoom fewer out
+pub less_room : (fewer bytes : ℕ) (out : OutView) → fewer ≤ bytes → HasRoom bytes out → HasRoom fewer out
 less_room fewer bytes out le has = record { room = has.room; is = has.is; fits = omega (arith, le, has.fits) }
 
 pub text_has_no_room : (e : Failed) (old new : OutView) (text : List ℕ) (bytes : ℕ) → WritesBytes {E = Failed} {T = Unit {0}} old new (Err e) text → length text ≤ bytes → HasRoom bytes old → ⊥

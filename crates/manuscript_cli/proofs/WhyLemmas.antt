@@ -6,14 +6,14 @@ use Rattle.fugue_ids.specs.Identifiers.{Identifier}
 use Rattle.fugue_ids.specs.declared.op.Op.{Op}
 use Rattle.origin_model.specs.operations.Verdict.{Lawful}
 use Rattle.origin_model.specs.order.Printed.{shown}
-use Rattle.origin_model.specs.taking.Taking.{Held}
+use Rattle.origin_model.specs.edits.State.{State as Replica}
 use Rattle.origin_model.specs.declared.operations.Place.TheVariants.{Catalogue as catalogue, Section as within}
-use Rattle.order_proof.specs.Certificates.{Certificate, Claims, IsValid, StandsBefore}
+use Rattle.order_proof.specs.Certificates.{StandsBefore}
 use Rattle.order_proof.specs.Texts.{proof_text}
 use Rattle.order_proof.proofs.OnceLemmas.{has_one_certificate}
 use Rattle.order_proof.proofs.ShownLemmas.{shown_before}
 use Rattle.manuscript_cli.specs.Findings.{Finding, Refuses, Does}
-use Rattle.manuscript_cli.specs.Why.{HasPlaces, IsWhy, scalar_shown, why_tells}
+use Rattle.manuscript_cli.specs.Why.{HasPlaces, IsWhy, why_tells}
 
 module _ (h : List Op) (p q : ℕ) (x y : Identifier) where
   -- both are in one section
@@ -37,11 +37,11 @@ same_places : (h : List Op) (k p q : ℕ) (x y u v : Identifier) → HasPlaces h
 same_places h k p q x y u v one two = (same_Some u x (sym two.first ∙ one.first), same_Some v y (sym two.second ∙ one.second))
 
 -- one thing is told
-pub why_once : (k p q : ℕ) (held : Held) → Lawful held.history → (a b : Finding (List ℕ)) → why_tells k p q held a → why_tells k p q held b → a ≡ b
-why_once k p q held w (Does a) (Does b) one two =
-    let h = held.history in
+pub why_once : (k p q : ℕ) (replica : Replica) → Lawful replica.held.history → (a b : Finding (List ℕ)) → why_tells k p q replica a → why_tells k p q replica b → a ≡ b
+why_once k p q replica w (Does a) (Does b) one two =
+    let h = replica.held.history in
     let same = same_places h k p q one.0 one.1 two.0 two.1 one.2 two.2 in
     ap Does (text_once h w one.0 one.1 (places_stand h p q one.0 one.1 w k one.2) a b one.3 (subst (λ z. IsWhy h z one.1 b) same.0 (subst (λ z. IsWhy h two.0 z b) same.1 two.3)))
-why_once k p q held w (Does a) (Refuses why) one two = absurd (two.1 one.0 one.1 one.2)
-why_once k p q held w (Refuses why) (Does b) one two = absurd (one.1 two.0 two.1 two.2)
-why_once k p q held w (Refuses why) (Refuses other) one two = ap Refuses (one.0 ∙ sym two.0)
+why_once k p q replica w (Does a) (Refuses why) one two = absurd (two.1 one.0 one.1 one.2)
+why_once k p q replica w (Refuses why) (Does b) one two = absurd (one.1 two.0 two.1 two.2)
+why_once k p q replica w (Refuses why) (Refuses other) one two = ap Refuses (one.0 ∙ sym two.0)

@@ -16,9 +16,9 @@ use Rattle.manuscript_cli.specs.declared.status.Status.{Status}
 
 -- what `check` tells of a text: `yes` exactly where it is that of a valid certificate, else `no`
 abbrev pub check_tells : (text : List ℕ) → Telling
-check_tells text held (Does bytes) =
-    (IsValidText held.history text × (bytes ≡ codes "yes" ++ 10 ∷ [])) ⊎ (¬ (IsValidText held.history text) × (bytes ≡ codes "no" ++ 10 ∷ []))
-check_tells text held (Refuses why) = ⊥
+check_tells text replica (Does bytes) =
+    (IsValidText replica.held.history text × (bytes ≡ codes "yes" ++ 10 ∷ [])) ⊎ (¬ (IsValidText replica.held.history text) × (bytes ≡ codes "no" ++ 10 ∷ []))
+check_tells text replica (Refuses why) = ⊥
 
 -- the text is all that the input had left
 pub record IsTextRead (input : Change SourceView) (text : List ℕ) : Type 0 where

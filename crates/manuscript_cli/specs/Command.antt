@@ -1,12 +1,14 @@
 -- Which words ask for which command. Words are lists of bytes.
-use Rattle.std.specs.Prelude.{◌≡◌, ◌≢◌, ◌⊎◌, ℕ, ◌≤◌, List, [], ◌∷◌, codes, Option, Some, None, IfSome}
-use Rattle.fugue_ids.specs.declared.limits.TheConstants.{GREATEST_HOLD}
+use Rattle.std.specs.Prelude.{◌≡◌, ◌≢◌, ◌⊎◌, ℕ, ◌≤◌, ◌-◌, false, List, [], ◌∷◌, codes, length, slice_get, Option, Some, None, IfSome}
+use Rattle.fugue_ids.specs.Titles.{has_line_end}
+use Rattle.fugue_ids.specs.declared.limits.TheConstants.{GREATEST_HOLD, LONGEST_BODY, LONGEST_TITLE}
+use Rattle.version_views.specs.declared.limits.TheConstants.{LONGEST_NAME}
 use Rattle.outer_ports.specs.declared.disk.file_disk.Opening.{Opening}
 use Rattle.outer_ports.specs.declared.disk.file_disk.Opening.TheVariants.{Reading, Writing, Creating}
 use Rattle.bulk_world.specs.declared.making.TheConstants.{MOST_TURNS}
 use Rattle.manuscript_cli.specs.Number.{IsNumber}
 use Rattle.manuscript_cli.specs.declared.command.Command.{Command}
-use Rattle.manuscript_cli.specs.declared.command.Command.TheVariants.{Show, New, Edit, Print, Take, Send, Merge, Relay, Sync, Bulk, Why, Check}
+use Rattle.manuscript_cli.specs.declared.command.Command.TheVariants.{Show, New, Edit, Print, Take, Send, Merge, Relay, Sync, Bulk, Why, Check, Move, Retitle, Arrange, Comment, Comments, Version, Versions, View}
 use Rattle.manuscript_cli.specs.declared.words.TheConstants.{GREATEST_CURSOR, GREATEST_PLACE, GREATEST_PORT, GREATEST_REPLICA, GREATEST_SEED, MOST_SESSIONS, USUAL_HOLD}
 
 -- `show HOLD`
@@ -77,6 +79,54 @@ pub record NamesWhy (words : List (List ℕ)) (k p q : ℕ) : Type 0 where
   pub first_is : IsNumber first_word 0 GREATEST_PLACE p
   pub second_is : IsNumber second_word 0 GREATEST_PLACE q
 
+-- `move FILE K J`
+pub record NamesMove (words : List (List ℕ)) (k j : ℕ) : Type 0 where
+  pub file : List ℕ
+  pub some : file ≢ []
+  pub section_word : List ℕ
+  pub place_word : List ℕ
+  pub words_are : words ≡ codes "move" ∷ file ∷ section_word ∷ place_word ∷ []
+  pub section_is : IsNumber section_word 1 GREATEST_PLACE k
+  pub place_is : IsNumber place_word 1 GREATEST_PLACE j
+
+-- a word that is one line: it is not empty, has at most so many bytes, and no LF and no CR
+pub record IsLine (most : ℕ) (word : List ℕ) : Type 0 where
+  pub some : word ≢ []
+  pub short : length word ≤ most
+  pub one_line : has_line_end word ≡ false
+
+-- `retitle FILE K TITLE`
+pub record NamesRetitle (words : List (List ℕ)) (k : ℕ) : Type 0 where
+  pub file : List ℕ
+  pub some : file ≢ []
+  pub section_word : List ℕ
+  pub title : List ℕ
+  pub words_are : words ≡ codes "retitle" ∷ file ∷ section_word ∷ title ∷ []
+  pub section_is : IsNumber section_word 1 GREATEST_PLACE k
+  pub title_is : IsLine LONGEST_TITLE title
+
+-- `comment FILE K P N TEXT`
+pub record NamesComment (words : List (List ℕ)) (k p n : ℕ) : Type 0 where
+  pub file : List ℕ
+  pub some : file ≢ []
+  pub section_word : List ℕ
+  pub first_word : List ℕ
+  pub count_word : List ℕ
+  pub text : List ℕ
+  pub words_are : words ≡ codes "comment" ∷ file ∷ section_word ∷ first_word ∷ count_word ∷ text ∷ []
+  pub section_is : IsNumber section_word 1 GREATEST_PLACE k
+  pub first_is : IsNumber first_word 0 GREATEST_PLACE p
+  pub count_is : IsNumber count_word 1 GREATEST_PLACE n
+  pub text_is : IsLine LONGEST_BODY text
+
+-- a name, FILE and the name of a version
+pub record NamesNamed (name : List ℕ) (words : List (List ℕ)) : Type 0 where
+  pub file : List ℕ
+  pub some : file ≢ []
+  pub version : List ℕ
+  pub words_are : words ≡ name ∷ file ∷ version ∷ []
+  pub version_is : IsLine LONGEST_NAME version
+
 -- the words ask for the command
 abbrev pub Names : List (List ℕ) → Command → Type 0
 Names words (Show hold) = ((words ≡ codes "show" ∷ []) × (hold ≡ USUAL_HOLD)) ⊎ NamesShow words hold
@@ -91,18 +141,14 @@ Names words (Sync port cursor) = NamesSync words port cursor
 Names words (Bulk seed count) = NamesBulk words seed count
 Names words (Why k p q) = NamesWhy words k p q
 Names words Check = NamesFile (codes "check") words
-
--- a number of operations that may wait
-pub record IsHold (hold : ℕ) : Type 0 where
-  pub from : 1 ≤ hold
-  pub to : hold ≤ GREATEST_HOLD
-
--- the numbers of a command that words ask for are in their ranges
-abbrev pub IsInRange : Command → Type 0
-IsInRange (Show hold) = IsHold hold
-IsInRange (New replica hold) = (1 ≤ replica) × IsHold hold
-IsInRange (Why k p q) = 1 ≤ k
-IsInRange _ = Unit {0}
+Names words (Move k j) = NamesMove words k j
+Names words (Retitle k) = NamesRetitle words k
+Names words Arrange = NamesFile (codes "arrange") words
+Names words (Comment k p n) = NamesComment words k p n
+Names words Comments = NamesFile (codes "comments") words
+Names words Version = NamesNamed (codes "version") words
+Names words Versions = NamesFile (codes "versions") words
+Names words View = NamesNamed (codes "view") words
 
 -- the command that the words ask for: None, where they ask for none
 pub record IsCommand (words : List (List ℕ)) (command : Option Command) : Type 0 where
@@ -121,6 +167,10 @@ abbrev pub guest_word : Command → List (List ℕ) → Option (List ℕ)
 guest_word Merge (name ∷ file ∷ other ∷ more) = Some other
 guest_word _ words = None
 
+-- the last word: the title, the comment or the name, where the command has one
+abbrev pub last_word : List (List ℕ) → List ℕ
+last_word words = elim (slice_get words (length words - 1)) [ None ↦ [] | Some word ↦ word ]
+
 -- what the file that a command is about is opened for: to be made, to be read and written, or to be read alone
 abbrev pub opening_for : Command → Opening
 opening_for (New replica hold) = Creating
@@ -128,6 +178,10 @@ opening_for Edit = Writing
 opening_for Take = Writing
 opening_for Merge = Writing
 opening_for (Sync port cursor) = Writing
+opening_for (Move k j) = Writing
+opening_for (Retitle k) = Writing
+opening_for (Comment k p n) = Writing
+opening_for Version = Writing
 opening_for _ = Reading
 
 -- these are the files of the command that the words ask for: none, where they ask for none

@@ -1,10 +1,11 @@
--- What `show` promises of a stream whose bytes are told, and `print` of a file that is.
+-- What `show` promises of a stream whose bytes are told, and `print` and `arrange` of a file that is.
 use Rattle.std.specs.Prelude.{◌≡◌, ◌≢◌, ◌⊎◌, ℕ, ◌≤◌, List, length, Some}
 use Rattle.fugue_ids.specs.Causes.{Rose}
 use Rattle.fugue_ids.specs.Outs.{OutView}
 use Rattle.fugue_ids.specs.declared.op.Op.{Op}
 use Rattle.origin_model.specs.declared.grammar.Grammar.TheVariants.{Version2}
 use Rattle.origin_model.specs.frames.Frames.{Reads, Whole as EndsWhole}
+use Rattle.origin_model.specs.order.Printed.{manuscript}
 use Rattle.origin_model.specs.taking.Taking.{HasPlace, held, nothing_held}
 use Rattle.op_frame.specs.Courses.{IntakeCourse, Whole, CutShort, BadFrame, TooLong, TooMany}
 use Rattle.fugue_ids.specs.declared.limits.TheConstants.{MOST_OPERATIONS, STREAM_LIMIT}
@@ -27,7 +28,7 @@ pub record IsCalm (old new : Streams) : Type 0 where
 -- all was shown, and the set of the accepted operations alone fixes what was printed
 pub record ShowedBySet (hold : ℕ) (ops : List Op) (old new : Streams) (end : Status) : Type 0 where
   pub showed : Showed hold nothing_held ops old new end
-  pub by_set : PrintedBySet (held hold MOST_OPERATIONS ops).history (change old.output new.output)
+  pub by_set : PrintedBySet manuscript (held hold MOST_OPERATIONS ops).history (change old.output new.output)
 
 -- For every stream of framed operations, however ordered, cut or repeated, the manuscript printed is the visible part of one total order fixed
 -- by the set of accepted operations alone; an operation is accepted exactly when its causes are and its identifier holds no other record,
@@ -57,7 +58,7 @@ IsDecided hold old new end =
     (bytes : List ℕ) (ops : List Op) (course : IntakeCourse) → old.input.left ≡ Some bytes → ShowEndsAs hold bytes ops course
     → (end ≡ status_for hold ops course) ⊎ (end ≡ status.NoMemory) ⊎ ((end ≡ status.OutsideFault) × MetFault old new course)
 
--- what was printed of a file that is told is fixed by the set of the operations that its replica accepted
-abbrev pub PrintsBySet : DiskView → (output : Change OutView) → Status → Type 0
-PrintsBySet home output end =
-    end ≡ status.Done → IsTold home → (replica : Replica) (at : End) → FileHolds home replica at → PrintedBySet replica.held.history output
+-- what was printed of a file that is told, in this form, is fixed by the set of the operations that its replica accepted
+abbrev pub PrintsBySet : (text : List Op → List ℕ) → DiskView → (output : Change OutView) → Status → Type 0
+PrintsBySet text home output end =
+    end ≡ status.Done → IsTold home → (replica : Replica) (at : End) → FileHolds home replica at → PrintedBySet text replica.held.history output

@@ -19,11 +19,15 @@ pub mod New
 pub mod Saving
 pub mod Take
 pub mod Merge
+pub mod Notes
 pub mod Sync
 pub mod Edit
 pub mod Giving
 pub mod Savers
 pub mod Relay
+pub mod Arrange
+pub mod Margins
+pub mod NamedVersions
 pub mod Bulk
 pub mod Run
 pub mod Runs

@@ -60,7 +60,7 @@ pub record NotPrinted (state : Held) (output output' notes notes' : OutView) (en
 abbrev pub PrintMeets : Held → Tally → OutView → OutView → OutView → OutView → Status → Type 0
 PrintMeets state counts output output' notes notes' end = Printed state counts output output' notes notes' end ⊎ NotPrinted state output output' notes notes' end
 
--- The accepted operations are lawful, and what was printed is the manuscript of every lawful list that has the same operations.
-pub record PrintedBySet (history : List Op) (output : Change OutView) : Type 0 where
+-- The accepted operations are lawful, and what was printed is the text, the manuscript say, of every lawful list that has the same operations.
+pub record PrintedBySet (text : List Op → List ℕ) (history : List Op) (output : Change OutView) : Type 0 where
   pub lawful : Lawful history
-  pub printed : (other : List Op) → Lawful other → SameOps history other → Took output.old output.new (manuscript other)
+  pub printed : (other : List Op) → Lawful other → SameOps history other → Took output.old output.new (text other)

@@ -1,5 +1,5 @@
 -- What a refusal answers, and the line that it writes to the notes.
-use Rattle.std.specs.Prelude.{◌≡◌, ◌⊎◌, ℕ, ◌≤◌, List, [], ◌∷◌, ◌++◌, length, take, codes, Option, Some, None, decimal}
+use Rattle.std.specs.Prelude.{◌≡◌, ◌⊎◌, ℕ, ◌≤◌, List, [], ◌∷◌, ◌++◌, length, take, drop, replicate, codes, decimal}
 use Rattle.fugue_ids.specs.Causes.{Rose}
 use Rattle.fugue_ids.specs.Outs.{OutTells, OutView, Took, TookFront}
 use Rattle.op_frame.specs.declared.fault.FrameFault.{FrameFault}
@@ -19,41 +19,57 @@ use Rattle.replica_file.specs.declared.creating.CreateFault.TheVariants as creat
 use Rattle.replica_file.specs.declared.load_file.LoadFault.{LoadFault}
 use Rattle.replica_file.specs.declared.load_file.LoadFault.TheVariants as load_fault
 use Rattle.manuscript_cli.specs.Touched.{HasRoom, StaysCalm, notes_room}
+use Rattle.manuscript_cli.specs.declared.refusal.Detail.{Detail}
+use Rattle.manuscript_cli.specs.declared.refusal.Detail.TheVariants.{Nothing, Number, Name}
 use Rattle.manuscript_cli.specs.declared.refusal.Refusal.{Refusal}
-use Rattle.manuscript_cli.specs.declared.refusal.Refusal.TheVariants.{Words, BadFrame, CutShort, BadLine, NoSection, OutOfRange, NotReplica, BadBatch, NotEmpty, TooMany, IdsSpent, TooLong, BatchTooLong, BadReply, RelayRefused, ReplyCutShort, NoSuchPlaces, Outside, NoMemory}
+use Rattle.manuscript_cli.specs.declared.refusal.Refusal.TheVariants.{Words, BadFrame, CutShort, BadLine, NoSectionAtLine, OutOfRangeAtLine, NotReplica, BadBatch, NotEmpty, TooMany, IdsSpent, TooLong, BatchTooLong, BadReply, RelayRefused, ReplyCutShort, NoSuchPlaces, NoSection, NoPlace, StampsSpent, OutOfRange, NoVersion, Outside, NoMemory}
 use Rattle.manuscript_cli.specs.declared.status.Status.{Status}
+use Rattle.manuscript_cli.specs.declared.version_name.VersionName.{VersionName}
+use Rattle.version_views.specs.declared.limits.TheConstants.{LONGEST_NAME}
 use Rattle.manuscript_cli.specs.declared.status.Status.TheVariants as status
 
--- what is told of a refusal: the status that it answers, and the words of its line with the number behind them, where there is one
+-- what is told of a refusal: the status that it answers, and the words of its line with what stands behind them
 pub record Row : Type 0 where
   pub status : Status
   pub words : List ℕ
-  pub number : Option ℕ
+  pub detail : Detail
 
-abbrev row : Status → List ℕ → Option ℕ → Row
-row status words number = record { status = status; words = words; number = number }
+abbrev row : Status → List ℕ → Detail → Row
+row status words detail = record { status = status; words = words; detail = detail }
+
+-- the name that is kept, and how a name is kept: with zeros behind it
+abbrev pub name_bytes : VersionName → List ℕ
+name_bytes kept = take kept.length kept.bytes
+
+abbrev pub kept_name : List ℕ → VersionName
+kept_name name = record { bytes = name ++ drop (length name) (replicate LONGEST_NAME 0); length = length name }
 
 -- the table of all refusals
 abbrev pub row_of : Refusal → Row
-row_of Words = row status.Usage (codes "words not understood") None
-row_of (BadFrame offset) = row status.BadInput (codes "bad frame at byte ") (Some offset)
-row_of (CutShort offset) = row status.BadInput (codes "cut short at byte ") (Some offset)
-row_of (BadLine line) = row status.BadInput (codes "bad line ") (Some line)
-row_of (NoSection line) = row status.BadInput (codes "no section at line ") (Some line)
-row_of (OutOfRange line) = row status.BadInput (codes "out of range at line ") (Some line)
-row_of NotReplica = row status.BadFile (codes "not a replica") None
-row_of (BadBatch slot) = row status.BadFile (codes "bad batch ") (Some slot)
-row_of NotEmpty = row status.BadFile (codes "not empty") None
-row_of (TooMany count) = row status.Limit (codes "too many: ") (Some count)
-row_of (IdsSpent count) = row status.Limit (codes "ids spent: ") (Some count)
-row_of TooLong = row status.Limit (codes "too long") None
-row_of BatchTooLong = row status.Limit (codes "batch too long") None
-row_of (BadReply offset) = row status.BadInput (codes "bad reply at byte ") (Some offset)
-row_of (RelayRefused code) = row status.BadInput (codes "relay refused ") (Some code)
-row_of (ReplyCutShort offset) = row status.BadInput (codes "reply cut short at byte ") (Some offset)
-row_of NoSuchPlaces = row status.BadInput (codes "no such places") None
-row_of Outside = row status.OutsideFault (codes "outside fault") None
-row_of NoMemory = row status.NoMemory (codes "no memory") None
+row_of Words = row status.Usage (codes "words not understood") Nothing
+row_of (BadFrame offset) = row status.BadInput (codes "bad frame at byte ") (Number offset)
+row_of (CutShort offset) = row status.BadInput (codes "cut short at byte ") (Number offset)
+row_of (BadLine line) = row status.BadInput (codes "bad line ") (Number line)
+row_of (NoSectionAtLine line) = row status.BadInput (codes "no section at line ") (Number line)
+row_of (OutOfRangeAtLine line) = row status.BadInput (codes "out of range at line ") (Number line)
+row_of NotReplica = row status.BadFile (codes "not a replica") Nothing
+row_of (BadBatch slot) = row status.BadFile (codes "bad batch ") (Number slot)
+row_of NotEmpty = row status.BadFile (codes "not empty") Nothing
+row_of (TooMany count) = row status.Limit (codes "too many: ") (Number count)
+row_of (IdsSpent count) = row status.Limit (codes "ids spent: ") (Number count)
+row_of TooLong = row status.Limit (codes "too long") Nothing
+row_of BatchTooLong = row status.Limit (codes "batch too long") Nothing
+row_of (BadReply offset) = row status.BadInput (codes "bad reply at byte ") (Number offset)
+row_of (RelayRefused code) = row status.BadInput (codes "relay refused ") (Number code)
+row_of (ReplyCutShort offset) = row status.BadInput (codes "reply cut short at byte ") (Number offset)
+row_of NoSuchPlaces = row status.BadInput (codes "no such places") Nothing
+row_of (NoSection section) = row status.BadInput (codes "no section ") (Number section)
+row_of (NoPlace place) = row status.BadInput (codes "no place ") (Number place)
+row_of StampsSpent = row status.Limit (codes "stamps spent") Nothing
+row_of OutOfRange = row status.BadInput (codes "out of range") Nothing
+row_of (NoVersion name) = row status.BadInput (codes "no version ") (Name name)
+row_of Outside = row status.OutsideFault (codes "outside fault") Nothing
+row_of NoMemory = row status.NoMemory (codes "no memory") Nothing
 
 abbrev pub status_of : Refusal → Status
 status_of refusal = (row_of refusal).status
@@ -61,16 +77,17 @@ status_of refusal = (row_of refusal).status
 abbrev pub words_of : Refusal → List ℕ
 words_of refusal = (row_of refusal).words
 
-abbrev pub refusal_number : Refusal → Option ℕ
-refusal_number refusal = (row_of refusal).number
+abbrev pub detail_of : Refusal → Detail
+detail_of refusal = (row_of refusal).detail
 
-abbrev pub number_text : Option ℕ → List ℕ
-number_text None = []
-number_text (Some n) = decimal n
+abbrev pub detail_text : Detail → List ℕ
+detail_text Nothing = []
+detail_text (Number n) = decimal n
+detail_text (Name name) = name_bytes name
 
--- the words, the number where there is one, LF
+-- the words, the number or the name where there is one, LF
 abbrev pub refusal_line : Refusal → List ℕ
-refusal_line refusal = words_of refusal ++ number_text (refusal_number refusal) ++ 10 ∷ []
+refusal_line refusal = words_of refusal ++ detail_text (detail_of refusal) ++ 10 ∷ []
 
 -- a reader's fault as a refusal
 abbrev pub frame_refusal : FrameFault → Refusal
@@ -88,8 +105,8 @@ feed_refusal feed_fault.NoMemory = NoMemory
 -- why a script stopped, as a refusal
 abbrev pub script_refusal : ScriptFault → Refusal
 script_refusal (script_fault.BadLine line) = BadLine line
-script_refusal (script_fault.NoSection line) = NoSection line
-script_refusal (script_fault.OutOfRange line) = OutOfRange line
+script_refusal (script_fault.NoSection line) = NoSectionAtLine line
+script_refusal (script_fault.OutOfRange line) = OutOfRangeAtLine line
 script_refusal (script_fault.IdsSpent count) = IdsSpent count
 script_refusal (script_fault.TooMany count) = TooMany count
 script_refusal script_fault.ReadFault = Outside

@@ -5,7 +5,6 @@ use Rattle.fugue_ids.specs.Outs.{OutView}
 use Rattle.origin_model.specs.frames.Framings.{frames}
 use Rattle.origin_model.specs.operations.History.{accepted}
 use Rattle.origin_model.specs.order.Printed.{manuscript}
-use Rattle.origin_model.specs.taking.Taking.{Held}
 use Rattle.outer_ports.specs.disk.Disks.{DiskView}
 use Rattle.outer_ports.specs.disk.Moments.{after}
 use Rattle.outer_ports.specs.disk.States.{durable}
@@ -25,11 +24,11 @@ use Rattle.manuscript_cli.specs.declared.status.Status.TheVariants as status
 
 -- what a command tells of what a replica holds: a text, or why there is none
 abbrev pub Telling : Type 1
-Telling = Held → Finding (List ℕ) → Type 0
+Telling = Replica → Finding (List ℕ) → Type 0
 
 -- the file holds a replica of which this is told
 abbrev pub IsTelling : Telling → DiskView → Finding (List ℕ) → Type 0
-IsTelling tells file found = (replica : Replica) × (end : End) × FileHolds file replica end × tells replica.held found
+IsTelling tells file found = (replica : Replica) × (end : End) × FileHolds file replica end × tells replica found
 
 -- what the file leads to: it is refused, or there is what is told of its replica
 abbrev pub TextFound : Telling → DiskView → Finding (List ℕ) → Type 0
@@ -112,15 +111,15 @@ pub record Reports (tells : Telling) (file : Change DiskView) (output notes : Ch
   pub notes_blameless : NotesBlameless notes end
 
 -- what `print` reports: the manuscript
-abbrev pub printed_of : Held → List ℕ
-printed_of held = manuscript held.history
+abbrev pub printed_of : Replica → List ℕ
+printed_of replica = manuscript replica.held.history
 
 abbrev pub print_tells : Telling
-print_tells held found = found ≡ Does (printed_of held)
+print_tells replica found = found ≡ Does (printed_of replica)
 
 -- what `send` reports: the frames of the accepted operations, and those of the waiting ones
-abbrev pub frames_held : Held → List ℕ
-frames_held held = frames (accepted held.history) ++ frames held.waiting
+abbrev pub frames_held : Replica → List ℕ
+frames_held replica = frames (accepted replica.held.history) ++ frames replica.held.waiting
 
 abbrev pub send_tells : Telling
-send_tells held found = found ≡ Does (frames_held held)
+send_tells replica found = found ≡ Does (frames_held replica)

@@ -1,18 +1,22 @@
 -- What `run` does for each command, and without one.
-use Rattle.std.specs.Prelude.{◌≡◌, ◌-◌, ℕ, Option, Some, None}
+use Rattle.std.specs.Prelude.{◌≡◌, ◌-◌, ℕ, List, Option, Some, None}
+use Rattle.manuscript_cli.specs.Arrange.{arrange_tells, move_on, retitle_on}
+use Rattle.manuscript_cli.specs.Margins.{comment_on, comments_tells}
+use Rattle.manuscript_cli.specs.NamedVersions.{version_on, versions_tells, view_tells}
 use Rattle.manuscript_cli.specs.Bulk.{Bulks}
 use Rattle.manuscript_cli.specs.Check.{ChecksText}
+use Rattle.manuscript_cli.specs.Command.{last_word}
 use Rattle.manuscript_cli.specs.New.{Creates}
 use Rattle.manuscript_cli.specs.Printing.{NotesBlameless}
 use Rattle.manuscript_cli.specs.Refusal.{refusal_line, Told}
 use Rattle.manuscript_cli.specs.Relay.{Relays}
 use Rattle.manuscript_cli.specs.Report.{Reports, Telling, print_tells, send_tells}
-use Rattle.manuscript_cli.specs.Savers.{RunsSaving, Saver, edit_saver, merge_saver, sync_saver, take_saver}
+use Rattle.manuscript_cli.specs.Savers.{RunsSaving, Saver, edit_saver, merge_saver, note_saver, sync_saver, take_saver}
 use Rattle.manuscript_cli.specs.Show.{Shows}
 use Rattle.manuscript_cli.specs.Touched.{DiskBlameless, DockBlameless, OutBlameless, SourceBlameless, Touched, WireBlameless, change}
 use Rattle.manuscript_cli.specs.Why.{why_tells}
 use Rattle.manuscript_cli.specs.declared.command.Command.{Command}
-use Rattle.manuscript_cli.specs.declared.command.Command.TheVariants.{Show, New, Edit, Print, Take, Send, Merge, Relay, Sync, Bulk, Why, Check}
+use Rattle.manuscript_cli.specs.declared.command.Command.TheVariants.{Show, New, Edit, Print, Take, Send, Merge, Relay, Sync, Bulk, Why, Check, Move, Retitle, Arrange, Comment, Comments, Version, Versions, View}
 use Rattle.manuscript_cli.specs.declared.refusal.Refusal.TheVariants.{Words}
 use Rattle.manuscript_cli.specs.declared.status.Status.{Status}
 use Rattle.manuscript_cli.specs.declared.status.Status.TheVariants.{Usage}
@@ -64,21 +68,29 @@ pub data Family : Type 1 where
   Inventing : (seed count : ℕ) → Family
   Checking : Family
 
-abbrev pub family : Option Command → Family
-family None = NoCommand
-family (Some (Show hold)) = Showing hold
-family (Some (New replica hold)) = Making replica hold
-family (Some Edit) = Saving edit_saver
-family (Some Print) = Reporting print_tells
-family (Some Take) = Saving take_saver
-family (Some Send) = Reporting send_tells
-family (Some Merge) = Saving merge_saver
-family (Some (Relay port sessions)) = Serving port sessions
-family (Some (Sync port cursor)) = Saving (sync_saver port cursor)
-family (Some (Bulk seed count)) = Inventing seed count
--- sections count from 1 in words
-family (Some (Why k p q)) = Reporting (why_tells (k - 1) p q)
-family (Some Check) = Checking
+-- by the words too: the last of them is the title of a retitle, the text of a comment or the name of a version; sections count from 1
+abbrev pub family : List (List ℕ) → Option Command → Family
+family words None = NoCommand
+family words (Some (Show hold)) = Showing hold
+family words (Some (New replica hold)) = Making replica hold
+family words (Some Edit) = Saving edit_saver
+family words (Some Print) = Reporting print_tells
+family words (Some Take) = Saving take_saver
+family words (Some Send) = Reporting send_tells
+family words (Some Merge) = Saving merge_saver
+family words (Some (Relay port sessions)) = Serving port sessions
+family words (Some (Sync port cursor)) = Saving (sync_saver port cursor)
+family words (Some (Bulk seed count)) = Inventing seed count
+family words (Some (Why k p q)) = Reporting (why_tells (k - 1) p q)
+family words (Some Check) = Checking
+family words (Some (Move k j)) = Saving (note_saver (move_on k j))
+family words (Some (Retitle k)) = Saving (note_saver (retitle_on k (last_word words)))
+family words (Some Arrange) = Reporting arrange_tells
+family words (Some (Comment k p n)) = Saving (note_saver (comment_on k p n (last_word words)))
+family words (Some Comments) = Reporting comments_tells
+family words (Some Version) = Saving (note_saver (version_on (last_word words)))
+family words (Some Versions) = Reporting versions_tells
+family words (Some View) = Reporting (view_tells (last_word words))
 
 -- a command of the family did what it should with the objects that it uses, and left the others as they were
 abbrev pub MeetsAs : Family → Touched → Touched → Status → Type 0
@@ -91,8 +103,8 @@ MeetsAs (Serving port sessions) old new end = RunsRelay port sessions old new en
 MeetsAs (Inventing seed count) old new end = RunsBulk seed count old new end
 MeetsAs Checking old new end = RunsCheck old new end
 
-abbrev pub Meets : Option Command → Touched → Touched → Status → Type 0
-Meets command = MeetsAs (family command)
+abbrev pub Meets : List (List ℕ) → Option Command → Touched → Touched → Status → Type 0
+Meets words command = MeetsAs (family words command)
 
 -- No object that tells counts a fault that is not told: its count rises with an outside fault alone, or for a refusal that the notes did not take.
 pub record IsBlameless (old new : Touched) (end : Status) : Type 0 where

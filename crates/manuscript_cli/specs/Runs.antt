@@ -18,16 +18,17 @@ abbrev pub GaveAs : Family → Touched → Touched → Status → List Op → Ty
 GaveAs (Saving saver) old new end ops = Gave (saver old new).giver old.home end ops
 GaveAs _ old new end ops = ops ≡ []
 
-abbrev pub GaveBy : Option Command → Touched → Touched → Status → List Op → Type 0
-GaveBy command = GaveAs (family command)
+abbrev pub GaveBy : List (List ℕ) → Option Command → Touched → Touched → Status → List Op → Type 0
+GaveBy words command = GaveAs (family words command)
 
 -- One run of the program, as `run` promises it: it ended with its status, or a crash came at one of its moments, and left these bytes in the home file.
 pub record CommandRun : Type 0 where
+  pub words : List (List ℕ)
   pub command : Option Command
   pub old : Touched
   pub new : Touched
   pub end : Status
-  pub meets : Meets command old new end
+  pub meets : Meets words command old new end
   pub crash : Option (List ℕ)
 
 -- it ended, with Done or Partial
@@ -37,7 +38,7 @@ DidAll run = (run.crash ≡ None) × IsFinished run.end
 -- what a run brought into the file: all that it gave to be saved, or nothing where it did not do all
 pub record Brought (run : CommandRun) (ops : List Op) : Type 0 where
   pub gave : List Op
-  pub given : GaveBy run.command run.old run.new run.end gave
+  pub given : GaveBy run.words run.command run.old run.new run.end gave
   pub all_or_none : (ops ≡ gave) ⊎ ((DidAll run → ⊥) × (ops ≡ []))
 
 -- what runs brought, one after another
@@ -72,6 +73,6 @@ FollowEachOther (run ∷ runs) s t = (found : State) × (left : State) × IsMean
 -- finished command gave, and of each other one all or none; what a read gives is one of these.
 abbrev pub EachFinishedIsIn : Type 0
 EachFinishedIsIn =
-    (replica hold : ℕ) (old new : Touched) (made : History) (runs : List CommandRun) (last : State)
-    → Meets (Some (New replica hold)) old new Done → new.home.past ≡ Some made → FollowEachOther runs made.last last
+    (words : List (List ℕ)) (replica hold : ℕ) (old new : Touched) (made : History) (runs : List CommandRun) (last : State)
+    → Meets words (Some (New replica hold)) old new Done → new.home.past ≡ Some made → FollowEachOther runs made.last last
     → IsHonest last × ((image : List ℕ) → IsCrashImage last image → (ops : List Op) × AllBrought runs ops × HasOps (record { replica = replica; hold = hold }) ops image)

@@ -3,6 +3,7 @@ use Rattle.std.specs.Prelude.{◌≡◌, ℕ}
 use Rattle.outer_ports.specs.Sources.{SourceView}
 use Rattle.manuscript_cli.specs.Edit.{script}
 use Rattle.manuscript_cli.specs.Files.{LeavesFile}
+use Rattle.manuscript_cli.specs.Notes.{NoteOn, note_giver}
 use Rattle.manuscript_cli.specs.Saving.{Giver, ReadsInput, SavesGiven, SavingBlameless}
 use Rattle.manuscript_cli.specs.Sync.{LeavesWire, reply}
 use Rattle.manuscript_cli.specs.Take.{other_file, stream}
@@ -47,6 +48,10 @@ sync_saver port cursor old new = record {
   Leaves = LeavesWire port cursor old.home (change old.wire new.wire);
   others = record old { wire = new.wire };
 }
+
+-- a command that makes a note: the words give it, and no object
+abbrev pub note_saver : NoteOn → Touched → Touched → Saver
+note_saver note_on old new = record { giver = note_giver note_on; Leaves = λ end. Unit {0}; others = old }
 
 -- a command that saves uses its home file, the notes, and the object that gives
 pub record RunsSaving (saver : Saver) (old new : Touched) (end : Status) : Type 0 where

@@ -63,8 +63,7 @@ pub record WritesOut (bytes : List ℕ) (output notes : Change OutView) (end : S
 -- there is no text, and why: what a command reports of is not there, or memory was wanting
 abbrev pub HasNoText : (tells : Finding (List ℕ) → Type 0) → Refusal → Type 0
 HasNoText tells refusal.NoMemory = Unit {0}
-HasNoText tells refusal.NoSuchPlaces = tells (Refuses refusal.NoSuchPlaces)
-HasNoText tells _ = ⊥
+HasNoText tells why = (status_of why ≡ status.BadInput) × tells (Refuses why)
 
 -- the call that writes what is told: a text, or nothing
 abbrev pub ReportGoesOut : (tells : Finding (List ℕ) → Type 0) → Change OutView → Result (Unit {0}) Refusal → Type 0

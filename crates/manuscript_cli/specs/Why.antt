@@ -29,5 +29,6 @@ pub record IsWhy (history : List Op) (x y : Identifier) (bytes : List ℕ) : Typ
 
 -- what `why` tells of the scalars at p and at q of a section: the certificate of their elements, or that there are none in this order
 abbrev pub why_tells : (k p q : ℕ) → Telling
-why_tells k p q held (Does bytes) = (x : Identifier) × (y : Identifier) × HasPlaces held.history k p q x y × IsWhy held.history x y bytes
-why_tells k p q held (Refuses why) = (why ≡ NoSuchPlaces) × ((x y : Identifier) → ¬ (HasPlaces held.history k p q x y))
+why_tells k p q replica (Does bytes) =
+    (x : Identifier) × (y : Identifier) × HasPlaces replica.held.history k p q x y × IsWhy replica.held.history x y bytes
+why_tells k p q replica (Refuses why) = (why ≡ NoSuchPlaces) × ((x y : Identifier) → ¬ (HasPlaces replica.held.history k p q x y))

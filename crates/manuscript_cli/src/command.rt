@@ -32,6 +32,22 @@ pub enum Command {
     Why(u32, u32, u32),
     /// Print whether the text on the input is that of a certificate that a file's replica finds valid.
     Check,
+    /// Move the section of this number in the arrangement to the place of that one. Both count from 1.
+    Move(u32, u32),
+    /// Give the section of this number in the arrangement a new title.
+    Retitle(u32),
+    /// Print the sections of a file as they are arranged, under their headings.
+    Arrange,
+    /// Comment on characters of a section: the section, counted from 1, the first character, and how many there are.
+    Comment(u32, u32, u32),
+    /// Print where the comments of a file stand, and what they say.
+    Comments,
+    /// Name what a file's replica has accepted so far.
+    Version,
+    /// Print the versions of a file.
+    Versions,
+    /// Print the manuscript of a version.
+    View,
 }
 
 impl Command {
@@ -41,15 +57,25 @@ impl Command {
     {
         match self {
             Command::New(_, _) => Opening::Creating,
-            Command::Edit | Command::Take | Command::Merge | Command::Sync(_, _) =>
-                Opening::Writing,
+            Command::Edit
+            | Command::Take
+            | Command::Merge
+            | Command::Sync(_, _)
+            | Command::Move(_, _)
+            | Command::Retitle(_)
+            | Command::Comment(_, _, _)
+            | Command::Version => Opening::Writing,
             Command::Show(_)
             | Command::Print
             | Command::Send
             | Command::Relay(_, _)
             | Command::Bulk(_, _)
             | Command::Why(_, _, _)
-            | Command::Check => Opening::Reading,
+            | Command::Check
+            | Command::Arrange
+            | Command::Comments
+            | Command::Versions
+            | Command::View => Opening::Reading,
         }
     }
 

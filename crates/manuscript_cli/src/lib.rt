@@ -1,9 +1,11 @@
 //! The commands of the program `manuscript`, over whatever takes and gives bytes.
 #![tactic(auto)]
 
+mod arrange;
 mod bulk;
 mod check;
 mod command;
+mod comments;
 mod counts;
 mod edit;
 mod giving;
@@ -11,7 +13,9 @@ mod home_file;
 mod kept;
 mod laws;
 mod merge;
+mod moving;
 mod new_file;
+mod noting;
 mod number;
 mod print;
 mod printing;
@@ -26,6 +30,8 @@ mod take;
 mod take_in;
 mod text_out;
 mod top;
+mod version_name;
+mod versions;
 mod why;
 mod words;
 
@@ -34,4 +40,5 @@ pub use laws::{every_finished_command_is_in_the_file, limits_in_numbers};
 pub use refusal::{Refusal, tell};
 pub use status::Status;
 pub use top::run;
+pub use version_name::VersionName;
 pub use words::{files_of, read_words};

@@ -1,4 +1,4 @@
-ghost use Rattle.std.specs.Prelude.{◌≡◌, ℕ, Some, IfSome};
+ghost use Rattle.std.specs.Prelude.{◌≡◌, ◌-◌, ℕ, Some, IfSome};
 ghost use Rattle.manuscript_cli.specs.Number.{IsNumber};
 
 use edit_script::read_decimal;
@@ -13,4 +13,11 @@ pub(crate) fn read_number(word: &str, low: u32, high: u32) -> Option<u32>
         return None;
     }
     Some(number)
+}
+
+/// What the words count from 1, counted from 0.
+pub(crate) fn index_of(number: u32) -> usize
+    ensures { result ≡ number - 1 }
+{
+    number.saturating_sub(1) as usize
 }

@@ -2,11 +2,12 @@ ghost use Rattle.std.specs.Prelude.{◌≡◌, ◌≤◌, length};
 ghost use Rattle.fugue_ids.specs.Outs.{WritesBytes};
 ghost use Rattle.manuscript_cli.specs.Refusal.{append_refusal, create_refusal, feed_refusal, frame_refusal};
 ghost use Rattle.manuscript_cli.specs.Refusal.{load_refusal, script_refusal, serve_refusal, sync_refusal};
-ghost use Rattle.manuscript_cli.specs.Refusal.{refusal_line, refusal_number, status_of, words_of, Told};
+ghost use Rattle.manuscript_cli.specs.Refusal.{detail_of, refusal_line, status_of, words_of, Told};
 ghost use Rattle.manuscript_cli.specs.Touched.{notes_room};
 ghost use Rattle.manuscript_cli.specs.declared.refusal.Refusal.TheVariants.{NoMemory as NoMemoryFound};
 
 use crate::Status;
+use crate::version_name::VersionName;
 use edit_script::ScriptFault;
 use fugue_ids::{Failed, NoMemory, Out, write_pieces};
 use itoa::Buffer;
@@ -26,10 +27,10 @@ pub enum Refusal {
     CutShort(u64),
     /// The line, counted from 1, is no line of a script.
     BadLine(u32),
-    /// The line names a section that is not shown.
-    NoSection(u32),
-    /// The line names a place that is not there.
-    OutOfRange(u32),
+    /// The line of a script names a section that is not shown.
+    NoSectionAtLine(u32),
+    /// The line of a script names a place that is not there.
+    OutOfRangeAtLine(u32),
     /// A file is no replica's.
     NotReplica,
     /// The open slot of this number has no batch, or no byte stands behind it.
@@ -52,41 +53,84 @@ pub enum Refusal {
     ReplyCutShort(u64),
     /// The two places are not there, or the first is not before the second.
     NoSuchPlaces,
+    /// The arrangement has no section of this number, counted from 1.
+    NoSection(u32),
+    /// The arrangement has no place of this number, counted from 1.
+    NoPlace(u32),
+    /// No stamp is left for a move or a new title.
+    StampsSpent,
+    /// The section has fewer characters.
+    OutOfRange,
+    /// The file has no version of this name.
+    NoVersion(VersionName),
     Outside,
     NoMemory,
 }
 
-/// The status that a refusal answers, and the words and the number of its line.
+/// What stands behind the words of a refusal's line.
 #[derive(Clone, Copy)]
-struct Row(Status, &'static str, Option<u64>);
+enum Detail {
+    Nothing,
+    Number(u64),
+    Name(VersionName),
+}
+
+/// The status that a refusal answers, the words of its line, and what stands behind them.
+#[derive(Clone, Copy)]
+struct Row(Status, &'static str, Detail);
 
 impl Refusal {
     /// The row of the refusal in the table of them all.
     fn row(self) -> Row
         ensures status { result.0 ≡ status_of self }
         ensures words { result.1.now ≡ words_of self }
-        ensures number { result.2 ≡ refusal_number self }
+        ensures detail { result.2 ≡ detail_of self }
     {
         match self {
-            Self::Words => Row(Status::Usage, "words not understood", None),
-            Self::BadFrame(at) => Row(Status::BadInput, "bad frame at byte ", Some(at)),
-            Self::CutShort(at) => Row(Status::BadInput, "cut short at byte ", Some(at)),
-            Self::BadLine(at) => Row(Status::BadInput, "bad line ", Some(at.into())),
-            Self::NoSection(at) => Row(Status::BadInput, "no section at line ", Some(at.into())),
-            Self::OutOfRange(at) => Row(Status::BadInput, "out of range at line ", Some(at.into())),
-            Self::NotReplica => Row(Status::BadFile, "not a replica", None),
-            Self::BadBatch(slot) => Row(Status::BadFile, "bad batch ", Some(slot.into())),
-            Self::NotEmpty => Row(Status::BadFile, "not empty", None),
-            Self::TooMany(count) => Row(Status::Limit, "too many: ", Some(count.into())),
-            Self::IdsSpent(count) => Row(Status::Limit, "ids spent: ", Some(count.into())),
-            Self::TooLong => Row(Status::Limit, "too long", None),
-            Self::BatchTooLong => Row(Status::Limit, "batch too long", None),
-            Self::BadReply(at) => Row(Status::BadInput, "bad reply at byte ", Some(at)),
-            Self::RelayRefused(code) => Row(Status::BadInput, "relay refused ", Some(code.into())),
-            Self::ReplyCutShort(at) => Row(Status::BadInput, "reply cut short at byte ", Some(at)),
-            Self::NoSuchPlaces => Row(Status::BadInput, "no such places", None),
-            Self::Outside => Row(Status::OutsideFault, "outside fault", None),
-            Self::NoMemory => Row(Status::NoMemory, "no memory", None),
+            Self::Words => Row(Status::Usage, "words not understood", Detail::Nothing),
+            Self::BadFrame(at) => Row(Status::BadInput, "bad frame at byte ", Detail::Number(at)),
+            Self::CutShort(at) => Row(Status::BadInput, "cut short at byte ", Detail::Number(at)),
+            Self::BadLine(at) => Row(Status::BadInput, "bad line ", Detail::Number(at.into())),
+            Self::NoSectionAtLine(at) => Row(
+                Status::BadInput,
+                "no section at line ",
+                Detail::Number(at.into()),
+            ),
+            Self::OutOfRangeAtLine(at) => Row(
+                Status::BadInput,
+                "out of range at line ",
+                Detail::Number(at.into()),
+            ),
+            Self::NotReplica => Row(Status::BadFile, "not a replica", Detail::Nothing),
+            Self::BadBatch(slot) => Row(Status::BadFile, "bad batch ", Detail::Number(slot.into())),
+            Self::NotEmpty => Row(Status::BadFile, "not empty", Detail::Nothing),
+            Self::TooMany(count) => Row(Status::Limit, "too many: ", Detail::Number(count.into())),
+            Self::IdsSpent(count) => Row(
+                Status::Limit,
+                "ids spent: ",
+                Detail::Number(count.into()),
+            ),
+            Self::TooLong => Row(Status::Limit, "too long", Detail::Nothing),
+            Self::BatchTooLong => Row(Status::Limit, "batch too long", Detail::Nothing),
+            Self::BadReply(at) => Row(Status::BadInput, "bad reply at byte ", Detail::Number(at)),
+            Self::RelayRefused(code) => Row(
+                Status::BadInput,
+                "relay refused ",
+                Detail::Number(code.into()),
+            ),
+            Self::ReplyCutShort(at) => Row(
+                Status::BadInput,
+                "reply cut short at byte ",
+                Detail::Number(at),
+            ),
+            Self::NoSuchPlaces => Row(Status::BadInput, "no such places", Detail::Nothing),
+            Self::NoSection(at) => Row(Status::BadInput, "no section ", Detail::Number(at.into())),
+            Self::NoPlace(at) => Row(Status::BadInput, "no place ", Detail::Number(at.into())),
+            Self::StampsSpent => Row(Status::Limit, "stamps spent", Detail::Nothing),
+            Self::OutOfRange => Row(Status::BadInput, "out of range", Detail::Nothing),
+            Self::NoVersion(name) => Row(Status::BadInput, "no version ", Detail::Name(name)),
+            Self::Outside => Row(Status::OutsideFault, "outside fault", Detail::Nothing),
+            Self::NoMemory => Row(Status::NoMemory, "no memory", Detail::Nothing),
         }
     }
 }
@@ -122,8 +166,8 @@ impl From<ScriptFault> for Refusal {
     fn from(fault: ScriptFault) -> Refusal {
         match fault {
             ScriptFault::BadLine(line) => Refusal::BadLine(line),
-            ScriptFault::NoSection(line) => Refusal::NoSection(line),
-            ScriptFault::OutOfRange(line) => Refusal::OutOfRange(line),
+            ScriptFault::NoSection(line) => Refusal::NoSectionAtLine(line),
+            ScriptFault::OutOfRange(line) => Refusal::OutOfRangeAtLine(line),
             ScriptFault::IdsSpent(count) => Refusal::IdsSpent(count),
             ScriptFault::TooMany(count) => Refusal::TooMany(count),
             ScriptFault::ReadFault => Refusal::Outside,
@@ -208,11 +252,12 @@ impl From<NoMemory> for Refusal {
 
 impl fmt::Display for Refusal {
     fn fmt<W: fmt::Write>(&self, f: &mut fmt::Formatter<W>) -> fmt::Result {
-        let Row(_, words, number) = self.row();
+        let Row(_, words, detail) = self.row();
         f.write_str(words)?;
-        match number {
-            Some(number) => write!(f, "{number}"),
-            None => Ok(()),
+        match detail {
+            Detail::Nothing => Ok(()),
+            Detail::Number(number) => write!(f, "{number}"),
+            Detail::Name(name) => write!(f, "{name}"),
         }
     }
 }
@@ -231,11 +276,14 @@ fn write_line<N: Out>(notes: &mut N, refusal: Refusal) -> Result<(), Failed>
     ensures text { WritesBytes (N.seen notes.old) (N.seen notes.new) result (refusal_line refusal) }
     ensures short { length (refusal_line refusal) ≤ notes_room }
 {
-    let Row(_, words, number) = refusal.row();
-    let mut buffer = Buffer::new();
-    let number = match number {
-        Some(number) => buffer.format(number),
-        None => "",
-    };
-    write_pieces(notes, &[words.as_bytes(), number.as_bytes(), b"\n"])
+    let Row(_, words, detail) = refusal.row();
+    let words = words.as_bytes();
+    match detail {
+        Detail::Nothing => write_pieces(notes, &[words, b"\n"]),
+        Detail::Number(number) => {
+            let mut buffer = Buffer::new();
+            write_pieces(notes, &[words, buffer.format(number).as_bytes(), b"\n"])
+        }
+        Detail::Name(name) => write_pieces(notes, &[words, name.as_bytes(), b"\n"]),
+    }
 }

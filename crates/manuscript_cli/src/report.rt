@@ -1,6 +1,6 @@
 ghost use Rattle.std.specs.Prelude.{◌≡◌, List, ℕ};
 ghost use Rattle.origin_model.specs.operations.Verdict.{Lawful};
-ghost use Rattle.origin_model.specs.taking.Taking.{Held};
+ghost use Rattle.origin_model.specs.edits.State.{State as AnyReplica};
 ghost use Rattle.manuscript_cli.specs.Findings.{Finding};
 ghost use Rattle.manuscript_cli.specs.Report.{Reports};
 ghost use Rattle.manuscript_cli.specs.TextOut.{ReportGoesOut, WritesReport};
@@ -17,7 +17,7 @@ use std::alloc::Global;
 /// What a command tells of what a file's replica holds.
 pub(crate) trait Report {
     /// The text that it is, or why there is none.
-    ghost Tells: { Self → Held → Finding (List ℕ) → Type 0 };
+    ghost Tells: { Self → AnyReplica → Finding (List ℕ) → Type 0 };
 
     /// Writes the text. Where there is none, or memory is wanting, nothing goes out.
     fn write<O: Sink>(
@@ -26,13 +26,13 @@ pub(crate) trait Report {
         replica: &Replica,
         output: &mut O,
     ) -> Result<(), Refusal>
-        ensures { ReportGoesOut (Tells self.now replica.now.held)
+        ensures { ReportGoesOut (Tells self.now replica.now)
             (change (O.seen output.old) (O.seen output.new)) result };
 
     /// The law of a report: of a lawful history one thing is told.
     fn laws(&self)
-        ensures { (held : Held) → Lawful held.history → (a b : Finding (List ℕ))
-            → Tells self.now held a → Tells self.now held b → a ≡ b };
+        ensures { (replica : AnyReplica) → Lawful replica.held.history → (a b : Finding (List ℕ))
+            → Tells self.now replica a → Tells self.now replica b → a ≡ b };
 }
 
 /// Loads a file, and writes the report of what its replica holds to the output.
@@ -64,7 +64,7 @@ fn write_held<R: Report, O: Sink, N: Sink>(
     output: &mut O,
     notes: &mut N,
 ) -> Status
-    ensures { WritesReport (R.Tells what.now replica.now.held)
+    ensures { WritesReport (R.Tells what.now replica.now)
         (change (O.seen output.old) (O.seen output.new)) (change (N.seen notes.old) (N.seen notes.new)) result }
 {
     ended(what.write(alloc, replica, output), notes)

@@ -32,7 +32,7 @@ impl Report for Frames {
 /// The frames of all that a replica holds. They are made before any of them goes out, so that want of memory leaves the
 /// output as it was.
 fn frames_of(alloc: Global, replica: &Replica) -> Result<Vec<u8>, NoMemory>
-    ensures { IfOk result (λ frames. frames.items ≡ frames_held replica.now.held) }
+    ensures { IfOk result (λ frames. frames.items ≡ frames_held replica.now) }
 {
     let mut frames = Vec::new(alloc);
     encode_all(replica.accepted(), &mut frames)?;

@@ -1,18 +1,25 @@
 ghost use Rattle.std.specs.Prelude.{◌≡◌, ◌≢◌, ◌↔◌, ℕ, Option, Some, map, string_bytes};
-ghost use Rattle.manuscript_cli.specs.Command.{IsCommand, IsInRange, Names};
+ghost use Rattle.origin_model.specs.order.Printed.{manuscript};
+ghost use Rattle.catalogue_notes.specs.Arranged.{arranged_text};
+ghost use Rattle.manuscript_cli.specs.Command.{IsCommand, Names};
 ghost use Rattle.manuscript_cli.specs.Headline.{Headline, IsDecided, PrintsBySet};
 ghost use Rattle.manuscript_cli.specs.Run.{IsBlameless, Meets};
 ghost use Rattle.manuscript_cli.specs.Touched.{change, touched};
 ghost use Rattle.manuscript_cli.specs.declared.command.Command.{Command as AnyCommand};
-ghost use Rattle.manuscript_cli.specs.declared.command.Command.TheVariants.{Print, Show};
+ghost use Rattle.manuscript_cli.specs.declared.command.Command.TheVariants.{Arrange, Print, Show};
 ghost use Rattle.manuscript_cli.specs.declared.status.Status.TheVariants.{Usage};
 
+use crate::arrange::Arrangement;
 use crate::bulk::bulk;
 use crate::check::check_file;
+use crate::comments::{Comments, NewComment};
 use crate::edit::Script;
 use crate::giving::save_given;
 use crate::merge::OtherFile;
+use crate::moving::{Move, Retitle};
 use crate::new_file::new_file;
+use crate::noting::save_note;
+use crate::number::index_of;
 use crate::print::Manuscript;
 use crate::refusal::{Refusal, tell};
 use crate::relay::relay;
@@ -21,8 +28,11 @@ use crate::send::Frames;
 use crate::show::show;
 use crate::sync_file::Reply;
 use crate::take::Stream;
+use crate::versions::{NewVersion, Versions, View};
 use crate::why::Why;
+use crate::words::last_of;
 use crate::{Command, Status, read_words};
+use catalogue_notes::arranged_by_set;
 use origin_model::order_by_set;
 use outer_ports::{Disk, Dock, Sink, Source, Wire};
 use std::alloc::Global;
@@ -52,7 +62,8 @@ pub fn run<S: Source, O: Sink, N: Sink, H: Disk, G: Disk, W: Wire, D: Dock, B: B
         × (wire.new ≡ wire.old) × (dock.new ≡ dock.old) }
 
     // There is a command that the words ask for, or none, and this is what it did.
-    ensures meets { (command : Option AnyCommand) × IsCommand (map string_bytes words.now) command × Meets command
+    ensures meets { (command : Option AnyCommand) × IsCommand (map string_bytes words.now) command
+        × Meets (map string_bytes words.now) command
         (touched (S.seen input.old) (O.seen output.old) (N.seen notes.old) (H.seen home.old) (G.seen guest.old)
         (W.seen wire.old) (D.seen dock.old))
         (touched (S.seen input.new) (O.seen output.new) (N.seen notes.new) (H.seen home.new) (G.seen guest.new)
@@ -73,12 +84,15 @@ pub fn run<S: Source, O: Sink, N: Sink, H: Disk, G: Disk, W: Wire, D: Dock, B: B
         (record { input = S.seen input.old; output = O.seen output.old; notes = N.seen notes.old })
         (record { input = S.seen input.new; output = O.seen output.new; notes = N.seen notes.new }) result }
 
-    // The set of what a file's replica accepted decides what `print` writes.
+    // The set of what a file's replica accepted decides what `print` and `arrange` write.
     ensures by_set { Names (map string_bytes words.now) Print
-        → PrintsBySet (H.seen home.old) (change (O.seen output.old) (O.seen output.new)) result }
+        → PrintsBySet manuscript (H.seen home.old) (change (O.seen output.old) (O.seen output.new)) result }
+    ensures arranged_by_set { Names (map string_bytes words.now) Arrange
+        → PrintsBySet arranged_text (H.seen home.old) (change (O.seen output.old) (O.seen output.new)) result }
 {
-    // Replicas that accepted the same operations print the same by this law.
+    // Replicas that accepted the same operations print the same by these laws.
     order_by_set();
+    arranged_by_set();
     match read_words(words) {
         None => tell(notes, Refusal::Words),
         Some(command) => {
@@ -91,7 +105,7 @@ pub fn run<S: Source, O: Sink, N: Sink, H: Disk, G: Disk, W: Wire, D: Dock, B: B
                 wire,
                 dock,
             };
-            obey(alloc, command, objects, hasher)
+            obey(alloc, command, words, objects, hasher)
         }
     }
 }
@@ -111,12 +125,13 @@ struct Objects<'a, S, O, N, H, G, W, D> {
 fn obey<S: Source, O: Sink, N: Sink, H: Disk, G: Disk, W: Wire, D: Dock, B: BuildHasher + Drop>(
     alloc: Global,
     command: Command,
+    words: &[String],
     objects: Objects<'_, S, O, N, H, G, W, D>,
     hasher: B,
 ) -> Status
-    requires { IsInRange command }
+    requires { Names (map string_bytes words.now) command }
     // `exit` has what is left behind the references, in the order of the fields.
-    ensures meets { Meets (Some command)
+    ensures meets { Meets (map string_bytes words.now) (Some command)
         (record {
           streams = record {
             input = S.seen objects.entry.input.now;
@@ -164,7 +179,7 @@ fn obey<S: Source, O: Sink, N: Sink, H: Disk, G: Disk, W: Wire, D: Dock, B: Buil
         }
         Command::Bulk(seed, count) => bulk(alloc, seed, count, output, notes),
         Command::Why(section, first, second) => {
-            let section = section - 1;
+            let section = index_of(section);
             let why = Why {
                 section,
                 first,
@@ -173,5 +188,30 @@ fn obey<S: Source, O: Sink, N: Sink, H: Disk, G: Disk, W: Wire, D: Dock, B: Buil
             write_report(alloc, &why, home, output, notes)
         }
         Command::Check => check_file(alloc, input, home, output, notes),
+        Command::Move(section, place) => save_note(alloc, &Move { section, place }, home, notes),
+        Command::Retitle(section) => {
+            let title = last_of(words);
+            save_note(alloc, &Retitle { section, title }, home, notes)
+        }
+        Command::Arrange => write_report(alloc, &Arrangement, home, output, notes),
+        Command::Comment(section, first, count) => {
+            let comment = NewComment {
+                section,
+                first,
+                count,
+                text: last_of(words),
+            };
+            save_note(alloc, &comment, home, notes)
+        }
+        Command::Comments => write_report(alloc, &Comments, home, output, notes),
+        Command::Version => {
+            let name = last_of(words);
+            save_note(alloc, &NewVersion { name }, home, notes)
+        }
+        Command::Versions => write_report(alloc, &Versions, home, output, notes),
+        Command::View => {
+            let name = last_of(words);
+            write_report(alloc, &View { name }, home, output, notes)
+        }
     }
 }

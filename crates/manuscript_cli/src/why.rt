@@ -16,7 +16,7 @@ use std::alloc::Global;
 /// Why the first of two scalars of a section stands before the second: sections and scalars count from 0.
 #[derive(Clone, Copy)]
 pub(crate) struct Why {
-    pub section: u32,
+    pub section: usize,
     pub first: u32,
     pub second: u32,
 }
@@ -32,8 +32,8 @@ impl Why {
         if self.first >= self.second {
             return None;
         }
-        let first = replica.scalar_at(self.section as usize, self.first as usize)?;
-        let second = replica.scalar_at(self.section as usize, self.second as usize)?;
+        let first = replica.scalar_at(self.section, self.first as usize)?;
+        let second = replica.scalar_at(self.section, self.second as usize)?;
         Some((first, second))
     }
 

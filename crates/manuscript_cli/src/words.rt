@@ -1,13 +1,14 @@
-ghost use Rattle.std.specs.Prelude.{◌≡◌, ◌∷◌, [], ℕ, IfSome, Some, codes, map, string_bytes};
+ghost use Rattle.std.specs.Prelude.{◌≡◌, ◌≢◌, ◌↔◌, ◌∷◌, [], ℕ, IfSome, IsTrue, Some, codes, map, string_bytes};
 ghost use Rattle.std.specs.Option.{option_copied};
-ghost use Rattle.manuscript_cli.specs.Command.{HasFiles, IsCommand};
+ghost use Rattle.manuscript_cli.specs.Command.{HasFiles, IsCommand, IsLine, last_word};
 ghost use Rattle.manuscript_cli.specs.Number.{IsNumber};
 ghost use Rattle.manuscript_cli.specs.declared.words.TheConstants.{GREATEST_PORT as greatest_port};
 
 use crate::Command;
 use crate::number::read_number;
 use bulk_world::MOST_TURNS;
-use fugue_ids::GREATEST_HOLD;
+use fugue_ids::{GREATEST_HOLD, LONGEST_BODY, LONGEST_TITLE, has_line_end};
+use version_views::LONGEST_NAME;
 
 /// How many operations may wait where `show` stands alone.
 const USUAL_HOLD: u32 = 65_536;
@@ -53,6 +54,16 @@ pub fn read_words(words: &[String]) -> Option<Command>
                 third.as_str(),
             )
         }
+        [name, file, first, second, third, text] => {
+            read_five(
+                name.as_str(),
+                file.as_str(),
+                first.as_str(),
+                second.as_str(),
+                third.as_str(),
+                text.as_str(),
+            )
+        }
         _ => None,
     }
 }
@@ -76,6 +87,9 @@ fn read_one(name: &str, word: &str) -> Option<Command>
         "take" if !word.is_empty() => Some(Command::Take),
         "send" if !word.is_empty() => Some(Command::Send),
         "check" if !word.is_empty() => Some(Command::Check),
+        "arrange" if !word.is_empty() => Some(Command::Arrange),
+        "comments" if !word.is_empty() => Some(Command::Comments),
+        "versions" if !word.is_empty() => Some(Command::Versions),
         _ => None,
     }
 }
@@ -87,6 +101,8 @@ fn read_two(name: &str, file: &str, other: &str) -> Option<Command>
         "merge" if !file.is_empty() && !other.is_empty() => Some(Command::Merge),
         "relay" => read_relay(file, other),
         "bulk" => read_bulk(file, other),
+        "version" if is_named(file, other) => Some(Command::Version),
+        "view" if is_named(file, other) => Some(Command::View),
         _ => None,
     }
 }
@@ -122,8 +138,45 @@ fn read_three(name: &str, file: &str, first: &str, second: &str) -> Option<Comma
     match name {
         "new" => read_new(file, first, second),
         "sync" => read_sync(file, first, second),
+        "move" => read_move(file, first, second),
+        "retitle" => read_retitle(file, first, second),
         _ => None,
     }
+}
+
+fn read_move(file: &str, section: &str, place: &str) -> Option<Command>
+    ensures { IsCommand (codes "move" ∷ file.now ∷ section.now ∷ place.now ∷ []) result }
+{
+    if file.is_empty() {
+        return None;
+    }
+    let section = read_number(section, 1, GREATEST_PLACE)?;
+    let place = read_number(place, 1, GREATEST_PLACE)?;
+    Some(Command::Move(section, place))
+}
+
+fn read_retitle(file: &str, section: &str, title: &str) -> Option<Command>
+    ensures { IsCommand (codes "retitle" ∷ file.now ∷ section.now ∷ title.now ∷ []) result }
+{
+    if file.is_empty() || !is_line(title, LONGEST_TITLE) {
+        return None;
+    }
+    let section = read_number(section, 1, GREATEST_PLACE)?;
+    Some(Command::Retitle(section))
+}
+
+/// Whether the words are a file and the name of a version.
+fn is_named(file: &str, name: &str) -> bool
+    ensures { IsTrue result ↔ ((file.now ≢ []) × IsLine LONGEST_NAME name.now) }
+{
+    !file.is_empty() && is_line(name, LONGEST_NAME)
+}
+
+/// Whether the word is one line of at most so many bytes.
+fn is_line(word: &str, most: usize) -> bool
+    ensures { IsTrue result ↔ IsLine most word.now }
+{
+    !word.is_empty() && word.len() <= most && !has_line_end(word.as_bytes())
 }
 
 fn read_sync(file: &str, port: &str, cursor: &str) -> Option<Command>
@@ -167,6 +220,45 @@ fn read_why(file: &str, section: &str, first: &str, second: &str) -> Option<Comm
     let first = read_number(first, 0, GREATEST_PLACE)?;
     let second = read_number(second, 0, GREATEST_PLACE)?;
     Some(Command::Why(section, first, second))
+}
+
+fn read_five(
+    name: &str,
+    file: &str,
+    first: &str,
+    second: &str,
+    third: &str,
+    text: &str,
+) -> Option<Command>
+    ensures { IsCommand (name.now ∷ file.now ∷ first.now ∷ second.now ∷ third.now ∷ text.now ∷ []) result }
+{
+    match name {
+        "comment" => read_comment(file, first, second, third, text),
+        _ => None,
+    }
+}
+
+fn read_comment(file: &str, section: &str, first: &str, count: &str, text: &str) -> Option<Command>
+    ensures { IsCommand
+        (codes "comment" ∷ file.now ∷ section.now ∷ first.now ∷ count.now ∷ text.now ∷ []) result }
+{
+    if file.is_empty() || !is_line(text, LONGEST_BODY) {
+        return None;
+    }
+    let section = read_number(section, 1, GREATEST_PLACE)?;
+    let first = read_number(first, 0, GREATEST_PLACE)?;
+    let count = read_number(count, 1, GREATEST_PLACE)?;
+    Some(Command::Comment(section, first, count))
+}
+
+/// The last of the words: the title, the comment or the name, where a command takes one.
+pub(crate) fn last_of(words: &[String]) -> &str
+    ensures { result.now ≡ last_word (map string_bytes words.now) }
+{
+    match words.last() {
+        Some(word) => word.as_str(),
+        None => "",
+    }
 }
 
 /// The file that the command of the words is about, and the other file that it reads. Words of no command have none.

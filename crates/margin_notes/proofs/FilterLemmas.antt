@@ -1,4 +1,5 @@
 -- Lists of identifiers that tests keep a part of.
+use Rattle.fugue_ids.proofs.ListLemmas.{filter-both}
 use Rattle.margin_notes.proofs.Words.{All, All-head, All-tail, All-weaker, AllPairs, Bool, Identifier, List, [], all_pairs_head, all_pairs_tail, ap, cases_Bool, cond, drop, false, filter, inl, inr, length, not, refl, subst, sym, take, true, true≢false, ◌&&◌, ◌∙◌, ◌∷◌, ◌≡◌}
 
 -- tests that agree on each member keep the same members
@@ -7,16 +8,6 @@ filter-agree f g [] a = refl
 filter-agree f g (x ∷ xs) a =
     let rest : filter f xs ≡ filter g xs = filter-agree f g xs (All-tail (λ y. f y ≡ g y) x xs a) in
     λ i. cond (All-head (λ y. f y ≡ g y) x xs a i) (x ∷ rest i) (rest i)
-
--- what passes one test and then another passes both
-pub filter-both : (f g : Identifier → Bool) (xs : List Identifier) → filter g (filter f xs) ≡ filter (λ x. f x && g x) xs
-filter-both f g [] = refl
-filter-both f g (x ∷ xs) =
-    let both : List Identifier = filter (λ y. f y && g y) xs in
-    elim (f x) as (λ (b : Bool). filter g (cond b (x ∷ filter f xs) (filter f xs)) ≡ cond (b && g x) (x ∷ both) both) [
-      | true ↦ ap (λ (t : List Identifier). cond (g x) (x ∷ t) t) (filter-both f g xs)
-      | false ↦ filter-both f g xs
-    ]
 
 and-comm : (a b : Bool) → (a && b) ≡ (b && a)
 and-comm true true = refl

@@ -1,12 +1,12 @@
 -- The elements between two anchors, and the comments of a section, stay as they are while the history grows.
-use Rattle.margin_notes.proofs.Words.{All, All-weaker, Bool, Delete, Identifier, IsIn, IsPartOf, KeepsOrder, Lawful, List, None, Note, Op, Option, Place, Section, Some, Text, [], all_from_contains, ap, before, false, filter, first_missing, has_op, holder, holds, id_eq, id_of, if◌then◌else◌, inl, inr, names, or_right, order, refl, stands_at, sym, true, within, ◌&&◌, ◌++◌, ◌||◌, ◌∙◌, ◌∷◌, ◌≡◌}
+use Rattle.margin_notes.proofs.Words.{All, All-weaker, Bool, Delete, Identifier, IsIn, IsPartOf, KeepsOrder, Lawful, List, None, Note, Op, Option, Place, Section, Some, Text, [], all_from_contains, ap, before, cases_Bool, false, filter, first_missing, has_op, holder, holds, id_eq, id_of, if◌then◌else◌, inl, inr, names, or_right, order, refl, stands_at, sym, true, within, ◌&&◌, ◌++◌, ◌||◌, ◌∙◌, ◌∷◌, ◌≡◌}
 use Rattle.origin_model.specs.declared.operations.Role.{Role}
 use Rattle.origin_model.specs.declared.operations.Role.TheVariants.{Any}
 use Rattle.origin_model.proofs.SharedLemmas.{IsHeld, Lawful-append, Within-append, cases_held, found, has-append, holder_owns, holds-older, order_total, own_id, parts_keep_order, when_ready}
 use Rattle.std.specs.Prelude.{is_some, nat_eq}
 use Rattle.fugue_ids.proofs.IdentifierLemmas.{not_some}
 use Rattle.margin_notes.specs.declared.limits.TheConstants.{COMMENT_CODE}
-use Rattle.margin_notes.specs.Comments.{Comment, comment_in, is_in_section, is_text, is_text_of}
+use Rattle.margin_notes.specs.Comments.{Comment, comment_in, comment_of, is_in_section, is_text, is_text_of}
 use Rattle.margin_notes.specs.Laws.{CommentsStay, SpanStays}
 use Rattle.margin_notes.specs.Margins.{stands_between}
 use Rattle.margin_notes.proofs.FilterLemmas.{filter-agree, filter-swap}
@@ -83,11 +83,17 @@ comment_names : (op : Op) (c : Comment) → comment_in op ≡ Some c → names o
 comment_names (Section id left right title) c e = cc
 comment_names (Text id section left right ch) c e = cc
 comment_names (Delete target) c e = cc
-comment_names (Note id [] code body) c e = cc
-comment_names (Note id (a ∷ []) code body) c e = cc
-comment_names (Note id (a ∷ b ∷ d ∷ more) code body) c e = cc
-comment_names (Note id (a ∷ b ∷ []) code body) c e =
-    ap (λ (k : Comment). (k.first, Any) ∷ (k.last, Any) ∷ []) (is_given (nat_eq code COMMENT_CODE && is_text body) (record { id = id; first = a; last = b; text = body }) c e)
+comment_names (Note id named code body) c e =
+    elim (cases_Bool (nat_eq code COMMENT_CODE)) [
+      | inl k ↦ by named (sym (ap (λ b. if b then comment_of id named body else None) k) ∙ e)
+      | inr k ↦ let no : None ≡ Some c = sym (ap (λ b. if b then comment_of id named body else None) k) ∙ e in cc
+    ]
+  where
+    by : (named : List Identifier) → comment_of id named body ≡ Some c → names (Note id named code body) ≡ (c.first, Any) ∷ (c.last, Any) ∷ []
+    by [] e = cc
+    by (a ∷ []) e = cc
+    by (a ∷ b ∷ d ∷ more) e = cc
+    by (a ∷ b ∷ []) e = ap (λ (k : Comment). (k.first, Any) ∷ (k.last, Any) ∷ []) (is_given (is_text body) (record { id = id; first = a; last = b; text = body }) c e)
 
 -- the first names that none is missing of are held
 first_held : (h : List Op) (n : Identifier × Role) (ns : List (Identifier × Role)) → first_missing h (n ∷ ns) ≡ None → IsHeld h n.0 × (first_missing h ns ≡ None)

@@ -6,13 +6,13 @@ use Rattle.std.proofs.lemmas.List.Elements.{All-filter}
 use Rattle.std.proofs.lemmas.List.Kept.{AllPairs-filter}
 use Rattle.std.proofs.lemmas.List.Sums.{count_by-le-length, length-filter}
 use Rattle.fugue_ids.proofs.IdentifierLemmas.{id_eq-false, id_eq-true}
-use Rattle.fugue_ids.proofs.ListLemmas.{all_pairs_weaker}
+use Rattle.fugue_ids.proofs.ListLemmas.{all_pairs_weaker, filter-both}
 use Rattle.origin_model.specs.order.Laws.{IsTotal}
 use Rattle.origin_model.proofs.SharedLemmas.{order_total}
 use Rattle.margin_notes.specs.Comments.{is_text_of}
 use Rattle.margin_notes.specs.Laws.{SpanIsPassage}
 use Rattle.margin_notes.specs.Margins.{passage, stands_between}
-use Rattle.margin_notes.proofs.FilterLemmas.{IsCut, back_of_cut, filter-agree, filter-both, filter-swap, front_of_cut}
+use Rattle.margin_notes.proofs.FilterLemmas.{IsCut, back_of_cut, filter-agree, filter-swap, front_of_cut}
 use Rattle.margin_notes.proofs.PassageLemmas.{all_in, both_parts, text_in}
 
 module _ (p : Place) (h : List Op) (w : Lawful h) (a b : Identifier) (in_a : IsIn p h a) (in_order : (id_eq a b || before p h a b) ≡ true) where

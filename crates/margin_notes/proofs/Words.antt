@@ -1,9 +1,9 @@
 -- The words in which proofs here speak.
 pub use Rattle.std.proofs.Common.{Bool, List, [], ap, arith, cond, drop, false, inl, inr, length, not, refl, subst, suc, sym, take, true, zero, ℕ, ◌&&◌, ◌++◌, ◌+◌, ◌-◌, ◌<◌, ◌||◌, ◌∙◌, ◌∷◌, ◌≡◌, ◌≢◌, ◌≤◌}
-pub use Rattle.std.specs.Prelude.{None, Option, Some, codes, count_by, filter, flat_map, if◌then◌else◌}
+pub use Rattle.std.specs.Prelude.{None, Option, Some, codes, count_by, filter, flat_map, if◌then◌else◌, map, option_map, option_to_list, reverse, slice_get}
 pub use Rattle.std.specs.List.{All, AllPairs, Contains, repeat}
 pub use Rattle.std.proofs.lemmas.Bool.{cases_Bool, false≢true, or_right, true≢false}
-pub use Rattle.std.proofs.lemmas.List.Elements.{All-cons, All-head, All-nil, All-tail, All-weaker}
+pub use Rattle.std.proofs.lemmas.List.Elements.{All-cons, All-contains, All-head, All-nil, All-tail, All-weaker}
 unfoldable pub use Rattle.std.specs.Str.{chars, is_utf8}
 pub use Rattle.fugue_ids.specs.Identifiers.{Identifier, id_eq}
 pub use Rattle.fugue_ids.specs.Ops.{id_of}

@@ -9,7 +9,7 @@ use Rattle.fugue_ids.specs.declared.op.Op.TheVariants.{Note}
 use Rattle.origin_model.specs.declared.operations.Place.TheVariants.{Section as within}
 use Rattle.origin_model.specs.operations.History.{holder, stands_at}
 use Rattle.origin_model.specs.order.Order.{before}
-use Rattle.origin_model.specs.order.Printed.{is_hidden}
+use Rattle.origin_model.specs.order.Printed.{is_withdrawn}
 use Rattle.margin_notes.specs.declared.limits.TheConstants.{COMMENT_CODE}
 
 -- what a comment says: its identifier, its anchors, and its text in UTF-8
@@ -23,9 +23,14 @@ pub record Comment : Type 0 where
 abbrev pub is_text : List ℕ → Bool
 is_text bytes = is_utf8 bytes && nat_lt 0 (length bytes) && nat_le (length bytes) LONGEST_BODY && not (has_line_end bytes)
 
+-- what a note of this code says by its names and its body, where it has the shape of a comment
+abbrev pub comment_of : Identifier → List Identifier → List ℕ → Option Comment
+comment_of id (a ∷ b ∷ []) body = if is_text body then Some (record { id = id; first = a; last = b; text = body }) else None
+comment_of _ _ _ = None
+
 -- what an operation says, where it has the shape of a comment
 abbrev pub comment_in : Op → Option Comment
-comment_in (Note id (a ∷ b ∷ []) code body) = if nat_eq code COMMENT_CODE && is_text body then Some (record { id = id; first = a; last = b; text = body }) else None
+comment_in (Note id named code body) = if nat_eq code COMMENT_CODE then comment_of id named body else None
 comment_in _ = None
 
 -- x is held by a Text of the section
@@ -43,7 +48,7 @@ comments history = flat_map (λ op. option_to_list (comment_in op)) history
 
 -- those of a section that no Delete names
 abbrev pub comments_in : List Op → Identifier → List Comment
-comments_in history s = filter (λ c. is_in_section history s c && not (is_hidden history c.id)) (comments history)
+comments_in history s = filter (λ c. is_in_section history s c && not (is_withdrawn history c.id)) (comments history)
 
 -- a comment put among others that stand by identifier
 abbrev pub put_by_id : Comment → List Comment → List Comment

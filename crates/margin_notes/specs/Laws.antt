@@ -1,6 +1,6 @@
 -- Laws of comments.
-use Rattle.std.specs.Prelude.{◌≡◌, ◌-◌, Some, true, not, drop, filter, List, ◌∷◌, ◌++◌, take}
-use Rattle.fugue_ids.specs.Identifiers.{Identifier}
+use Rattle.std.specs.Prelude.{◌≡◌, ◌≢◌, ◌↔◌, ◌-◌, length, AllPairs, Contains, Some, true, not, drop, filter, List, ◌∷◌, ◌++◌, take}
+use Rattle.fugue_ids.specs.Identifiers.{Identifier, id_lt}
 use Rattle.fugue_ids.specs.declared.op.Op.{Op}
 use Rattle.origin_model.specs.declared.operations.Place.{Place}
 use Rattle.origin_model.specs.declared.operations.Place.TheVariants.{Section as within}
@@ -8,8 +8,15 @@ use Rattle.origin_model.specs.operations.History.{holds}
 use Rattle.origin_model.specs.operations.Verdict.{Lawful}
 use Rattle.origin_model.specs.order.Laws.{IsIn}
 use Rattle.origin_model.specs.order.Printed.{is_hidden, shown}
-use Rattle.margin_notes.specs.Comments.{Comment, comment_in, is_in_section}
+use Rattle.margin_notes.specs.Comments.{Comment, by_id, comment_in, comments_in, is_in_section}
 use Rattle.margin_notes.specs.Margins.{passage, span}
+
+-- the comments of a section by identifier are its comments, each once
+pub record CommentsById : Type 0 where
+  pub members : (h : List Op) (s : Identifier) (c : Comment) → Contains (by_id (comments_in h s)) c ↔ Contains (comments_in h s) c
+  pub ordered : (h : List Op) (s : Identifier) → Lawful h → AllPairs (λ c d. id_lt c.id d.id ≡ true) (by_id (comments_in h s))
+  pub once : (h : List Op) (s : Identifier) → Lawful h → AllPairs (λ c d. c ≢ d) (by_id (comments_in h s))
+  pub count : (h : List Op) (s : Identifier) → length (by_id (comments_in h s)) ≡ length (comments_in h s)
 
 -- whatever comes later, the old elements from a to b are the same
 abbrev pub SpanStays : Type 0

@@ -1,3 +1,5 @@
 pub mod Comments
 pub mod Margins
 pub mod Laws
+pub mod Commenting
+pub mod Listing

@@ -1,5 +1,5 @@
 ghost use Rattle.std.specs.Prelude.{◌≡◌, ◌++◌, All, List, ℕ, OnOk, OnErr};
-ghost use Rattle.origin_model.specs.frames.Frames.{HasFrame, single_frames};
+ghost use Rattle.origin_model.specs.frames.Frames.{HasFrame};
 ghost use Rattle.origin_model.specs.frames.Framings.{frames};
 ghost use Rattle.op_frame.specs.Stretches.{IsStretch, WritesItem};
 
@@ -50,32 +50,4 @@ fn encode_stretch(ops: &[Op], out: &mut Vec<u8>) -> Result<(), NoMemory>
     } else {
         encode(&ops[0], out)
     }
-}
-
-/// Appends each operation's own frame, one behind the other.
-pub fn encode_singles(ops: &[Op], out: &mut Vec<u8>) -> Result<(), NoMemory>
-    ensures have_frames { OnOk result (All HasFrame ops.now) }
-    ensures ok { OnOk result (out.new.items ≡ out.old.items ++ single_frames ops.now) }
-    ensures err { OnErr result (out.new.items ≡ out.old.items) }
-{
-    let len = out.len();
-    match encode_each(ops, out) {
-        Ok(()) => Ok(()),
-        Err(fault) => {
-            out.truncate(len);
-            Err(fault)
-        }
-    }
-}
-
-/// The same, but a fault leaves the frames before it.
-fn encode_each(ops: &[Op], out: &mut Vec<u8>) -> Result<(), NoMemory>
-    ensures have_frames { OnOk result (All HasFrame ops.now) }
-    ensures ok { OnOk result (out.new.items ≡ out.old.items ++ single_frames ops.now) }
-    ensures err { OnErr result ((more : List ℕ) × (out.new.items ≡ out.old.items ++ more)) }
-{
-    for op in ops {
-        encode(op, out)?;
-    }
-    Ok(())
 }

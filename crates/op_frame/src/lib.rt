@@ -29,7 +29,7 @@ mod unread;
 
 pub use decoding::decode;
 pub use encoding::{LONGEST_FRAME, encode};
-pub use encodings::{encode_all, encode_singles};
+pub use encodings::encode_all;
 pub use fault::FrameFault;
 pub use first::{First, first_frame};
 pub use frame_front::FrameFront;

@@ -59,7 +59,7 @@ impl FrameReader {
         FrameReader::of_grammar(alloc, Grammar::Version2, limit)
     }
 
-    /// A reader of a stream of version 1, which has no runs.
+    /// A reader of a stream of version 1, which has neither runs nor notes.
     pub fn old(alloc: Global, limit: u64) -> Result<FrameReader, NoMemory>
         ensures fresh { IfOk result (λ reader. reader ≡ fresh_reading Singles limit) }
         ensures gave_none { IfOk result (λ reader. (left : Option (List ℕ)) → Gave left [] reader left) }

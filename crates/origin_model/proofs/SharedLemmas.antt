@@ -1,11 +1,11 @@
 -- The lemmas that proofs of other crates may cite.
 pub use Rattle.origin_model.proofs.operations.CauseLemmas.{becomes_ready, names_within, ready_absent}
-pub use Rattle.origin_model.proofs.operations.ElementLemmas.{element_id, element_own, element_stands, element_there, none_elsewhere, one_place, place_eq-true, place_stands, stands_element, stands_place}
-pub use Rattle.origin_model.proofs.operations.LookupLemmas.{IsHeld, cases_held, found, has-append, has-holder, holder-has, holder-other, holder-own, holder_owns, holds-cons, holds-older, holds-other, holds-own, missing-held, own_id, right_at_held, right_by, when_ready}
+pub use Rattle.origin_model.proofs.operations.ElementLemmas.{element_id, element_own, element_stands, element_there, fits_element, none_elsewhere, one_place, place_eq-true, place_stands, stands_element, stands_place}
+pub use Rattle.origin_model.proofs.operations.LookupLemmas.{Fits, IsHeld, all_fit, cases_held, fit_each, found, has-append, has-holder, holder-has, holder-other, holder-own, holder_owns, holds-cons, holds-older, holds-other, holds-own, missing-held, own_id, right_at_held, right_by, when_ready}
 pub use Rattle.origin_model.proofs.operations.OneLookUpLemmas.{owns}
 pub use Rattle.origin_model.proofs.operations.OwnIdLemmas.{lawful_own, other_ids}
 pub use Rattle.origin_model.proofs.operations.FoundedLemmas.{no_text_before, not_hidden_before, ready_is_new, same_nodes_same_order, section_first, shown_can_go, target_is_shown}
-pub use Rattle.origin_model.proofs.order.OrderLawLemmas.{Within-part, hidden-has, order_total, parts_keep_order}
+pub use Rattle.origin_model.proofs.order.OrderLawLemmas.{Within-part, hidden-has, later_ops_keep_order, order_total, parts_keep_order}
 pub use Rattle.origin_model.proofs.order.OrderLemmas.{IsIn-held, further, lefts-in, order-none, order-some, right_at_in, rights-in}
 pub use Rattle.origin_model.proofs.order.PositionLemmas.{index_end, origin_before}
 pub use Rattle.origin_model.proofs.order.PrintedLemmas.{section_joins}

@@ -3,7 +3,7 @@ use std::error::Error;
 use std::fmt;
 
 /// Why an edit or a note was not made, in the order in which the causes are looked for. All but want of memory change
-/// nothing.
+/// nothing; a note that was not made changes nothing at all.
 #[derive(Clone, Copy, Debug, PartialEq, Eq)]
 pub enum EditFault {
     /// There are not so many shown sections.
@@ -14,7 +14,7 @@ pub enum EditFault {
     IdsSpent(u32),
     /// More would be accepted or wait than may: how many do now.
     TooMany(u32),
-    /// The first operations of the edit may stand.
+    /// The first operations of an edit may stand. Of a note nothing does.
     NoMemory,
 }
 

@@ -1,8 +1,8 @@
 /// Which frames there are.
 #[derive(Clone, Copy, Debug, PartialEq, Eq)]
 pub enum Grammar {
-    /// One frame for each operation.
+    /// The frames of a Section, a Text and a Delete.
     Version1,
-    /// Frames that stand for a run of Texts too.
+    /// Those of a run of Texts and of a Note too.
     Version2,
 }

@@ -35,7 +35,7 @@ pub enum Verdict {
     Again,
     /// Another accepted operation has its identifier.
     Conflict,
-    /// The first identifier that it names and that is held as an element which does not fit.
+    /// The first identifier that it names and that is held by an operation which does not fit.
     Stray(ElementId),
     /// The first identifier that it names and that is not held.
     Missing(ElementId),

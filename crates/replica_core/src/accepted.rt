@@ -50,7 +50,7 @@ fn take_in(manuscript: &mut Manuscript, op: &Op) -> Result<(), NoMemory>
     match op {
         Op::Section { .. } | Op::Text { .. } => manuscript.insert(op),
         Op::Delete { target } => take_in_delete(manuscript, *target),
-        // It stands in no place, and no call of the manuscript knows it.
+        // A note stands in no place, so the manuscript stays as it is.
         Op::Note { .. } => Ok(()),
     }
 }

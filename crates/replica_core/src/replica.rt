@@ -45,7 +45,7 @@ pub enum Taken {
 pub enum DeliverFault {
     /// Another accepted or waiting operation has its identifier.
     Conflict(Op),
-    /// It names this accepted element, which does not fit.
+    /// It names this identifier, which an accepted operation holds that does not fit.
     Stray(Op, ElementId),
     /// It would wait, and as many wait as may: the number.
     Full(Op, u32),
@@ -58,7 +58,7 @@ impl fmt::Display for DeliverFault {
     fn fmt<W: fmt::Write>(&self, f: &mut fmt::Formatter<W>) -> fmt::Result {
         match self {
             DeliverFault::Conflict(_op) => write!(f, "another operation has the identifier"),
-            DeliverFault::Stray(_op, _id) => write!(f, "an element that is named does not fit"),
+            DeliverFault::Stray(_op, _id) => write!(f, "an identifier that is named does not fit"),
             DeliverFault::Full(_op, hold) => write!(f, "{hold} operations wait"),
             DeliverFault::TooMany(_op, most) => write!(f, "{most} operations are accepted or wait"),
             DeliverFault::NoMemory(_op) => write!(f, "{}", NoMemory),
@@ -97,7 +97,7 @@ impl Error for NewFault {}
 #[derive(Debug, Drop)]
 pub enum Settled {
     Accepted(Op),
-    /// It names an accepted element that does not fit, and was dropped.
+    /// It names an identifier that an accepted operation holds which does not fit, and was dropped.
     DroppedStray(Op),
 }
 

@@ -1,8 +1,9 @@
 // Look-ups of a store. None of them takes memory.
 ghost use Rattle.std.specs.Prelude.{◌≡◌, ◌≢◌, ◌↔◌, ◌≤◌, AllPairs, Contains, IfNone, IfSome, IsNone, IsTrue, None, drop, length};
-ghost use Rattle.std.specs.Prelude.{slice_get};
+ghost use Rattle.std.specs.Prelude.{◌⊎◌, false, nat_lt, slice_get};
 ghost use Rattle.std.specs.Str.{encode_utf8_all};
 ghost use Rattle.fugue_ids.specs.Gathers.{GathersText};
+ghost use Rattle.fugue_ids.specs.Listed.{index_of};
 ghost use Rattle.fugue_ids.specs.Outs.{WritesBytes};
 ghost use Rattle.origin_model.specs.edits.Landing.{following};
 ghost use Rattle.run_store.specs.Cells.{cell_ids, is_hidden_cell as hidden_in, origins_of, cell_text, cells_shown, shown_before};
@@ -82,6 +83,16 @@ impl RunStore {
         ensures none { IsNone result ↔ (Contains (cell_ids self.now.cells) id → ⊥) }
     {
         self.runs.visible_before(id)
+    }
+
+    /// Whether the cell of a stands before that of b, hidden or not. Of a cell that is not held the answer is no.
+    pub fn is_before(&self, a: ElementId, b: ElementId) -> bool
+        ensures both { Contains (cell_ids self.now.cells) a → Contains (cell_ids self.now.cells) b
+            → result ≡ nat_lt (index_of (cell_ids self.now.cells) a) (index_of (cell_ids self.now.cells) b) }
+        ensures none { ((Contains (cell_ids self.now.cells) a → ⊥) ⊎ (Contains (cell_ids self.now.cells) b → ⊥))
+            → result ≡ false }
+    {
+        self.holds(a) && self.holds(b) && self.runs.earlier(a, b)
     }
 
     /// Where that cell is.

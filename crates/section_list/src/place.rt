@@ -1,6 +1,7 @@
-ghost use Rattle.std.specs.Prelude.{◌≡◌, ◌↔◌, ◌<◌, ◌∷◌, false, true, drop, length, slice_get, IfSome, IsNone, OnErr, OnOk};
+ghost use Rattle.std.specs.Prelude.{◌≡◌, ◌↔◌, ◌⊎◌, ◌<◌, ◌∷◌, false, true, drop, length, nat_lt, slice_get, IfSome, IsNone, OnErr, OnOk};
 ghost use Rattle.std.specs.Str.{encode_utf8_all};
 ghost use Rattle.fugue_ids.specs.Gathers.{GathersText};
+ghost use Rattle.fugue_ids.specs.Listed.{index_of};
 ghost use Rattle.fugue_ids.specs.Outs.{WritesBytes};
 ghost use Rattle.origin_model.specs.sides.Node.{has_node, has_origin};
 ghost use Rattle.origin_model.specs.edits.Landing.{following};
@@ -139,6 +140,17 @@ impl SectionList {
         ensures none { IsNone result ↔ (Contains (section_cell_ids self.now.cells) id → ⊥) }
     {
         self.store.visible_before(id)
+    }
+
+    /// Whether a stands before b, hidden or not. Of an element that is not held the answer is no.
+    pub fn is_before(&self, a: ElementId, b: ElementId) -> bool
+        ensures both { Contains (section_cell_ids self.now.cells) a → Contains (section_cell_ids self.now.cells) b
+            → result ≡ nat_lt (index_of (section_cell_ids self.now.cells) a)
+            (index_of (section_cell_ids self.now.cells) b) }
+        ensures none { ((Contains (section_cell_ids self.now.cells) a → ⊥)
+            ⊎ (Contains (section_cell_ids self.now.cells) b → ⊥)) → result ≡ false }
+    {
+        self.store.is_before(a, b)
     }
 
     /// A walk along the visible elements, in order.

@@ -1,7 +1,7 @@
 -- A view, by the parts that the elements of today's lists add.
 use Rattle.version_views.proofs.Words.{Bool, Identifier, Lawful, List, None, Op, Option, Place, Some, [], ap, codes, cond, false, filter, flat_map, holder, holds, if◌then◌else◌, is_hidden, length, manuscript, not, order, refl, shown, subst, sym, take, true, ℕ, ◌&&◌, ◌++◌, ◌-◌, ◌∙◌, ◌∷◌, ◌≡◌}
 use Rattle.std.proofs.Common.{append_assoc}
-use Rattle.std.specs.Prelude.{Err, IfSome, Ok, is_some}
+use Rattle.std.specs.Prelude.{Err, IfSome, IsSome, Ok, is_some, option_map}
 use Rattle.std.specs.Str.{encode_utf8_all}
 use lib.Utf8.{encode}
 use Rattle.origin_model.specs.declared.operations.Place.TheVariants.{Catalogue as catalogue, Section as within}
@@ -69,6 +69,15 @@ view_parts n h w =
     let f : List Op = first_ops n h in
     parts_kept (is_shown f) (section_part f) (printed_section f) (section_kept f) (order catalogue h) ∙ ap (flat_map (printed_section f)) (sym (shown_first catalogue n h w))
 
+-- a value is there where what is made of it is
+pub some_from_map : {X Y : Type 0} (f : X → Y) (o : Option X) → IsSome (option_map f o) → IsSome o
+some_from_map f None there = there
+some_from_map f (Some x) there = there
+
+-- what is not held is not shown
+pub none_shown : (h : List Op) (x : Identifier) → None ≡ holder h x → None ≡ shown_holder h x
+none_shown h x e = elim (is_hidden h x) as (λ (b : Bool). None ≡ (if b then None else holder h x)) [ true ↦ refl | false ↦ e ]
+
 shown_is_held : (h : List Op) (x : Identifier) (op : Op) → Some op ≡ shown_holder h x → Some op ≡ holder h x
 shown_is_held h x op e =
     elim (is_hidden h x) as (λ (b : Bool). Some op ≡ (if b then None else holder h x) → Some op ≡ holder h x) [ true ↦ λ k. cc | false ↦ λ k. k ] e
@@ -81,6 +90,14 @@ section_shown h x op e =
     section_joins (encode_utf8_all (title_of (Some op))) body
     ∙ ap (λ (o : Option Op). codes "# " ++ encode_utf8_all (title_of o) ++ 10 ∷ body ++ 10 ∷ []) (shown_is_held h x op e)
     ∙ ap (λ (o : Option Op). elim o [ None ↦ [] | Some q ↦ printed_section h x ]) e
+
+-- and of one whose elements add the text
+pub section_put : (n : ℕ) (h : List Op) (x : Identifier) (op : Op) (title : List ℕ) (ids : List Identifier) → Lawful h → title ≡ encode_utf8_all (title_of (Some op)) → ids ≡ order (within x) h
+    → Some op ≡ shown_holder (first_ops n h) x
+    → (codes "# " ++ title ++ 10 ∷ []) ++ (flat_map (scalar_part (first_ops n h)) ids ++ 10 ∷ []) ≡ section_part (first_ops n h) x
+section_put n h x op title ids w t e s =
+    let body : flat_map (scalar_part (first_ops n h)) ids ≡ encode_utf8_all (text (first_ops n h) x) = ap (flat_map (scalar_part (first_ops n h))) e ∙ text_parts n h x w in
+    (λ i. (codes "# " ++ t i ++ 10 ∷ []) ++ (body i ++ 10 ∷ [])) ∙ section_shown (first_ops n h) x op s
 
 -- what is sure of a failed write, whatever the fault is named
 sure_failed : {E F : Type 0} (e : E) (f : F) (o : Option ℕ) (n before now : ℕ) → IfSome o (λ room. IsSure {E = E} {T = Unit {0}} room n before now (Err e))

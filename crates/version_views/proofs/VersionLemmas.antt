@@ -1,8 +1,10 @@
 -- The version with a name, found from the newest operation on, and what later operations leave of it.
 use Rattle.version_views.proofs.Words.{All, All-head, All-tail, All-weaker, Bool, Identifier, List, None, Op, Option, Some, [], ap, append-nil, arith, cases_Bool, deletes, eq-eqb, false, id_of, if◌then◌else◌, inl, inr, is_hidden, length, nat_eq, ne_eqb, not, option_map, option_to_list, pointwise, refl, sym, true, true≢false, ℕ, ◌&&◌, ◌++◌, ◌<◌, ◌∙◌, ◌∷◌, ◌≡◌, ◌||◌}
 use Rattle.std.proofs.lemmas.Bool.{or_right}
-use Rattle.version_views.specs.Laws.{LaterOpsLeaveVersion, VersionIsWithin, leaves_version}
+use Rattle.version_views.specs.Laws.{LaterOpsLeaveVersion, LaterOpsLeaveWritten, VersionIsWithin, leaves_version}
 use Rattle.version_views.specs.Versions.{Version, is_version, is_withdrawn, last_named, name_given, name_in, op_behind, version_with, versions_up_to, withdraws, withdraws_note}
+use Rattle.version_views.specs.Views.{view}
+use Rattle.version_views.proofs.ViewLemmas.{later_ops_leave_view}
 
 abbrev count_of : Option Version → Option ℕ
 count_of o = option_map (λ v. v.count) o
@@ -160,3 +162,11 @@ later_ops_leave_version r name new h a =
             ∙ ap (λ o. elim o [ None ↦ false | Some j ↦ deletes j op ]) i in
             ap (λ o. elim o [ None ↦ true | Some j ↦ not (is_hidden new j) ]) i
             ∙ ap not (none_hides x new (All-weaker (λ op. withdraws h r name op ≡ false) (λ op. deletes x op ≡ false) (λ op k. sym (one op) ∙ k) new each))
+
+-- and so they leave what is written for the name
+pub later_ops_leave_written : LaterOpsLeaveWritten
+later_ops_leave_written r name new h a = ap (option_map (view (new ++ h))) (later_ops_leave_version r name new h a) ∙ by (version_with h r name) refl
+  where
+    by : (o : Option ℕ) → version_with h r name ≡ o → option_map (view (new ++ h)) o ≡ option_map (view h) o
+    by None e = refl
+    by (Some n) e = ap Some (later_ops_leave_view n new h (omega (arith, version_is_within h r name n e)))

@@ -1,5 +1,6 @@
 -- What the operations that were accepted first have, read off the lists of all.
 use Rattle.version_views.proofs.Words.{Bool, Identifier, Lawful, List, Op, [], ap, arith, cond, drop, filter, holds, has_op, is_hidden, length, length-append, manuscript, not, order, refl, subst, sym, take, take-append-drop, true, ℕ, ◌&&◌, ◌++◌, ◌+◌, ◌-◌, ◌∙◌, ◌∷◌, ◌≡◌, ◌≤◌, false}
+use Rattle.fugue_ids.proofs.ListLemmas.{filter-both}
 use Rattle.origin_model.proofs.SharedLemmas.{Lawful-append, has-append, parts_keep_order}
 use Rattle.std.proofs.Math.Seq.{drop-append-add}
 use Rattle.origin_model.specs.order.Laws.{IsPartOf}
@@ -17,15 +18,6 @@ part_of new h op e = has-append new h op ∙ or_right (has_op new op) (has_op h 
 -- the order of a lawful front is the order of the whole, filtered
 pub order_by_filter : OrderByFilter
 order_by_filter p new h w = (parts_keep_order p h (new ++ h) (Lawful-append new h w) w (λ op. part_of new h op)).same_order
-
--- what passes two tests, one after the other
-filter-both : (f g : Identifier → Bool) (xs : List Identifier) → filter g (filter f xs) ≡ filter (λ x. f x && g x) xs
-filter-both f g [] = refl
-filter-both f g (x ∷ xs) =
-    elim (f x) as (λ (b : Bool). filter g (cond b (x ∷ filter f xs) (filter f xs)) ≡ cond (b && g x) (x ∷ filter (λ y. f y && g y) xs) (filter (λ y. f y && g y) xs)) [
-      | true ↦ ap (λ (t : List Identifier). cond (g x) (x ∷ t) t) (filter-both f g xs)
-      | false ↦ filter-both f g xs
-    ]
 
 pub shown_by_filter : ShownByFilter
 shown_by_filter p new h w =

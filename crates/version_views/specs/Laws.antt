@@ -1,5 +1,5 @@
 -- Laws of versions and views.
-use Rattle.std.specs.Prelude.{◌≡◌, ◌<◌, ◌≤◌, ℕ, Some, Bool, true, not, ◌&&◌, All, List, ◌++◌, filter, length}
+use Rattle.std.specs.Prelude.{◌≡◌, ◌↔◌, ◌<◌, ◌≤◌, ℕ, Option, Some, Bool, true, false, not, ◌&&◌, All, Contains, List, ◌++◌, filter, length, option_map}
 use Rattle.fugue_ids.specs.Identifiers.{Identifier}
 use Rattle.fugue_ids.specs.declared.op.Op.{Op}
 use Rattle.origin_model.specs.declared.operations.Place.{Place}
@@ -7,7 +7,7 @@ use Rattle.origin_model.specs.operations.History.{holds}
 use Rattle.origin_model.specs.operations.Verdict.{Lawful}
 use Rattle.origin_model.specs.order.Order.{order}
 use Rattle.origin_model.specs.order.Printed.{is_hidden, shown}
-use Rattle.version_views.specs.Versions.{is_version, version_with, withdraws}
+use Rattle.version_views.specs.Versions.{Version, is_version, is_withdrawn, name_given, op_behind, version_with, versions, withdraws}
 use Rattle.version_views.specs.Views.{first_ops, view}
 
 -- the order of the operations that were accepted first is that of all, without what they lack
@@ -38,6 +38,26 @@ leaves_version new h r name op = not (is_version r (new ++ h) name op) && not (w
 abbrev pub LaterOpsLeaveVersion : Type 0
 LaterOpsLeaveVersion = (r : ℕ) (name : List ℕ) (new h : List Op) → All (λ op. leaves_version new h r name op ≡ true) new
     → version_with (new ++ h) r name ≡ version_with h r name
+
+-- what is written for a name: the view of its version, where there is one
+abbrev pub view_named : List Op → ℕ → List ℕ → Option (List ℕ)
+view_named h r name = option_map (view h) (version_with h r name)
+
+-- later operations that each leave the version with a name leave what is written for the name
+abbrev pub LaterOpsLeaveWritten : Type 0
+LaterOpsLeaveWritten = (r : ℕ) (name : List ℕ) (new h : List Op) → All (λ op. leaves_version new h r name op ≡ true) new
+    → view_named (new ++ h) r name ≡ view_named h r name
+
+-- the operation that has so many before it gives the name in a file of the replica r, and no Delete names it
+pub record IsGiven (h : List Op) (r : ℕ) (v : Version) : Type 0 where
+  pub op : Op
+  pub stands : op_behind h v.count ≡ Some op
+  pub gives : name_given r op ≡ Some v.name
+  pub not_withdrawn : is_withdrawn h op ≡ false
+
+-- a file has just the versions that are given
+abbrev pub VersionsAreGiven : Type 0
+VersionsAreGiven = (h : List Op) (r : ℕ) (v : Version) → Contains (versions h r) v ↔ IsGiven h r v
 
 -- a version has operations of the history, and not its own note
 abbrev pub VersionIsWithin : Type 0

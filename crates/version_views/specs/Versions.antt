@@ -5,7 +5,7 @@ use Rattle.fugue_ids.specs.Ops.{id_of}
 use Rattle.fugue_ids.specs.Titles.{has_line_end}
 use Rattle.fugue_ids.specs.declared.op.Op.{Op}
 use Rattle.fugue_ids.specs.declared.op.Op.TheVariants.{Note}
-use Rattle.origin_model.specs.order.Printed.{deletes, is_hidden}
+use Rattle.origin_model.specs.order.Printed.{deletes, is_withdrawn as note_withdrawn}
 use Rattle.version_views.specs.declared.limits.TheConstants.{LONGEST_NAME, VERSION_CODE}
 use lib.Pointwise.{pointwise}
 
@@ -25,7 +25,7 @@ name_given r _ = None
 
 -- a Delete of the history withdraws the note
 abbrev pub is_withdrawn : List Op → Op → Bool
-is_withdrawn history op = elim (id_of op) [ None ↦ false | Some i ↦ is_hidden history i ]
+is_withdrawn history op = elim (id_of op) [ None ↦ false | Some i ↦ note_withdrawn history i ]
 
 -- the name of the version that an operation is
 abbrev pub name_in : ℕ → List Op → Op → Option (List ℕ)

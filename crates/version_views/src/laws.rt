@@ -1,7 +1,8 @@
 //! Laws of versions and views: each function takes and answers nothing, and its clauses are the law.
 
 ghost use Rattle.version_views.specs.Laws.{OrderByFilter, ShownByFilter, FirstByFilter};
-ghost use Rattle.version_views.specs.Laws.{LaterOpsLeaveVersion, LaterOpsLeaveView, VersionIsWithin};
+ghost use Rattle.version_views.specs.Laws.{LaterOpsLeaveVersion, LaterOpsLeaveView, LaterOpsLeaveWritten};
+ghost use Rattle.version_views.specs.Laws.{VersionIsWithin, VersionsAreGiven};
 
 /// The order of the operations that were accepted first is the order of all, without the elements that they lack; what
 /// they show is found there too.
@@ -15,5 +16,11 @@ pub fn view_by_filter()
 pub fn later_ops_leave_versions()
     ensures version { LaterOpsLeaveVersion }
     ensures view { LaterOpsLeaveView }
+    ensures written { LaterOpsLeaveWritten }
     ensures within { VersionIsWithin }
+{}
+
+/// Which versions a file has: those of the operations that give a name and are not withdrawn.
+pub fn versions_are_given()
+    ensures { VersionsAreGiven }
 {}

@@ -8,7 +8,7 @@ mod naming;
 mod printing;
 mod viewing;
 
-pub use laws::{later_ops_leave_versions, view_by_filter};
+pub use laws::{later_ops_leave_versions, versions_are_given, view_by_filter};
 pub use limits::{LONGEST_NAME, VERSION_CODE};
 pub use listing::{find_version, is_name};
 pub use naming::{VersionFault, name_version};

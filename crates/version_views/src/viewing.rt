@@ -5,11 +5,11 @@ ghost use Rattle.std.specs.Prelude.{flat_map, length, option_map, option_to_list
 ghost use Rattle.std.specs.Str.{encode_utf8_all};
 ghost use Rattle.fugue_ids.specs.Gathers.{GathersText};
 ghost use Rattle.fugue_ids.specs.Outs.{WritesBytes};
-ghost use Rattle.origin_model.specs.declared.operations.Place.TheVariants.{Catalogue as catalogue};
+ghost use Rattle.origin_model.specs.declared.operations.Place.TheVariants.{Catalogue as catalogue, Section as within};
 ghost use Rattle.origin_model.specs.edits.State.{Stands};
 ghost use Rattle.origin_model.specs.operations.History.{holder};
 ghost use Rattle.origin_model.specs.order.Order.{order};
-ghost use Rattle.origin_model.specs.order.Printed.{is_hidden as hidden_in, scalar_of, text as text_on, title_of};
+ghost use Rattle.origin_model.specs.order.Printed.{is_hidden as hidden_in, scalar_of, title_of};
 ghost use Rattle.section_list.specs.Cells.{section_cell_ids};
 ghost use Rattle.version_views.specs.Views.{first_ops, scalar_part, section_part, shown_holder, view};
 
@@ -69,10 +69,12 @@ fn find_shown(replica: &Replica, n: usize, id: ElementId) -> Option<&Op>
     requires { n ≤ length replica.now.held.history }
     ensures { option_map (λ op. op.now) result ≡ shown_holder (first_ops n replica.now.held.history) id }
 {
+    // Most elements of an old view's lists are newer ones, for which this look-up is the only one.
+    let op = find_holder(replica, n, id)?;
     if is_hidden(replica, n, id) {
         None
     } else {
-        find_holder(replica, n, id)
+        Some(op)
     }
 }
 
@@ -124,23 +126,14 @@ fn put_elements<O: Out>(
     Ok(())
 }
 
-/// Puts what the first n operations show of a section.
-fn put_text<O: Out>(
-    gather: &mut Gather,
-    output: &mut O,
-    replica: &Replica,
-    n: usize,
-    section: ElementId,
-) -> Result<(), Failed>
-    requires first { n ≤ length replica.now.held.history }
-    requires listed { Contains (order catalogue replica.now.held.history) section }
-    ensures { GathersText (O.seen output.old) (O.seen output.new) gather.old gather.new result
-        (encode_utf8_all (text_on (first_ops n replica.now.held.history) section)) }
+/// The elements of a section, hidden ones too.
+fn elements_of(replica: &Replica, section: ElementId) -> &SectionList
+    requires { Contains (order catalogue replica.now.held.history) section }
+    ensures elements { section_cell_ids result.now.cells ≡ order (within section) replica.now.held.history }
+    ensures stands { Stands replica.now }
 {
-    match replica.places().section(section) {
-        Some(list) => put_elements(gather, output, replica, n, list),
-        None => Ok(()),
-    }
+    let list = replica.places().section(section).unwrap();
+    list
 }
 
 fn title_in(op: &Op) -> &str
@@ -168,7 +161,7 @@ fn put_section<O: Out>(
     match find_shown(replica, n, section) {
         Some(op) => {
             gather.put_heading(output, title_in(op))?;
-            put_text(gather, output, replica, n, section)?;
+            put_elements(gather, output, replica, n, elements_of(replica, section))?;
             gather.put(output, b"\n")
         }
         None => Ok(()),

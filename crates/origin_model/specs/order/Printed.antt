@@ -20,6 +20,10 @@ abbrev pub is_hidden : List Op → Identifier → Bool
 is_hidden [] x = false
 is_hidden (op ∷ ops) x = deletes x op || is_hidden ops x
 
+-- a note is withdrawn: a Delete of the list names it
+abbrev pub is_withdrawn : List Op → Identifier → Bool
+is_withdrawn ops note = is_hidden ops note
+
 -- the elements of a place that no Delete names, in order
 abbrev pub shown : Place → List Op → List Identifier
 shown p history = filter (λ x. not (is_hidden history x)) (order p history)

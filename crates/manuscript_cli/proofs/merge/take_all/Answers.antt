@@ -1,6 +1,6 @@
 use Rattle.std.proofs.lemmas.Result.{err_from_is_err_and}
 use Rattle.manuscript_cli.proofs.IntakeLemmas.{fresh_counts}
-use Rattle.manuscript_cli.proofs.MergeLemmas.{front_finds_none, rest_finds_none, takes-append}
+use Rattle.manuscript_cli.proofs.MergeLemmas.{front_finds_none, rest_finds_none, both-taken}
 use Rattle.manuscript_cli.proofs.merge.take_all.Goals as goal
 
 pub returns-in_err-take_each-clause-err : goal.returns-in_err-take_each-clause-err
@@ -16,5 +16,5 @@ returns-in_err-take_each-2-clause-err c =
 
 pub returns-clause-ok : goal.returns-clause-ok
 returns-clause-ok c =
-    rw (fresh_counts _ c.default-tally.ensures) at (takes-append _ _ _ _ _ (rw c.accepted.ensures.accepted at c.in_ok-take_each.ensures.ok)
+    rw (fresh_counts _ c.default-tally.ensures) at (both-taken _ _ _ _ _ (rw c.accepted.ensures.accepted at c.in_ok-take_each.ensures.ok)
     (rw c.waiting.ensures.waiting at c.in_ok-take_each-2.ensures.ok))

@@ -1,36 +1,50 @@
 use Rattle.std.proofs.Common.{refl, subst}
-use Rattle.manuscript_cli.specs.Command.{IsInRange}
+use Rattle.std.specs.Prelude.{map, string_bytes}
+use Rattle.manuscript_cli.specs.Command.{Names}
+use Rattle.manuscript_cli.specs.Touched.{touched}
+use Rattle.manuscript_cli.proofs.ObeyLemmas.{obeyed}
+use Rattle.manuscript_cli.proofs.RunLemmas.{hold_in_range}
 use Rattle.manuscript_cli.proofs.top.obey.Goals as goal
-use Rattle.manuscript_cli.proofs.top.obey.Goals.{in-Show, in-New, in-Edit, in-Print, in-Take, in-Send, in-Merge, in-Relay, in-Sync, in-Bulk, in-Why, in-Check}
+use Rattle.manuscript_cli.proofs.top.obey.Goals.{in-Show, in-New, in-Edit, in-Print, in-Take, in-Send, in-Merge, in-Relay, in-Sync, in-Bulk, in-Why, in-Check, in-Move, in-Retitle, in-Arrange, in-Comment, in-Comments, in-Version, in-Versions, in-View}
 
 pub show-requires-clause-from : goal.show-requires-clause-from
-show-requires-clause-from g c = (subst IsInRange c.in-Show.is c.requires).from
+show-requires-clause-from g c = (hold_in_range _ _ (subst (Names _) c.in-Show.is c.requires)).0
 
 pub show-requires-clause-to : goal.show-requires-clause-to
-show-requires-clause-to g c = (subst IsInRange c.in-Show.is c.requires).to
+show-requires-clause-to g c = (hold_in_range _ _ (subst (Names _) c.in-Show.is c.requires)).1
 
 pub new_file-requires-clause-some_replica : goal.new_file-requires-clause-some_replica
-new_file-requires-clause-some_replica g c = (subst IsInRange c.in-New.is c.requires).0
+new_file-requires-clause-some_replica g c = let named = subst (Names _) c.in-New.is c.requires in named.replica_is.from
 
 pub new_file-requires-clause-from : goal.new_file-requires-clause-from
-new_file-requires-clause-from g c = (subst IsInRange c.in-New.is c.requires).1.from
+new_file-requires-clause-from g c = let named = subst (Names _) c.in-New.is c.requires in named.hold_is.from
 
 pub new_file-requires-clause-to : goal.new_file-requires-clause-to
-new_file-requires-clause-to g c = (subst IsInRange c.in-New.is c.requires).1.to
+new_file-requires-clause-to g c = let named = subst (Names _) c.in-New.is c.requires in named.hold_is.to
 
 pub returns-clause-meets : goal.returns-clause-meets
 returns-clause-meets g c =
+    let words = map string_bytes c.args.words.now in
+    let old = touched (g.S.Source.seen c.args.objects.input.now) (g.O.Out.seen c.args.objects.output.now) (g.N.Out.seen c.args.objects.notes.now) (g.H.Disk.seen c.args.objects.home.now) (g.G.Disk.seen c.args.objects.guest.now) (g.W.Wire.seen c.args.objects.wire.now) (g.D.Dock.seen c.args.objects.dock.now) in
     elim c.match-command.branch [
-      | in-Show w ↦ rw (w.in-Show.is, w.input-is, w.output-is, w.notes-is, w.home-is, w.guest-is, w.wire-is, w.dock-is, w.result-is) (record { others = refl; does = w.show.ensures })
-      | in-New w ↦ rw (w.in-New.is, w.input-is, w.output-is, w.notes-is, w.home-is, w.guest-is, w.wire-is, w.dock-is, w.result-is) (record { others = refl; does = w.new_file.ensures })
-      | in-Edit w ↦ rw (w.in-Edit.is, w.input-is, w.output-is, w.notes-is, w.home-is, w.guest-is, w.wire-is, w.dock-is, w.result-is) (record { others = refl; does = w.save_given.ensures.saves; blameless = w.save_given.ensures.blameless; leaves = w.save_given.ensures.leaves })
-      | in-Print w ↦ rw (w.in-Print.is, w.input-is, w.output-is, w.notes-is, w.home-is, w.guest-is, w.wire-is, w.dock-is, w.result-is) (record { others = refl; does = w.write_report.ensures })
-      | in-Take w ↦ rw (w.in-Take.is, w.input-is, w.output-is, w.notes-is, w.home-is, w.guest-is, w.wire-is, w.dock-is, w.result-is) (record { others = refl; does = w.save_given-in-Take.ensures.saves; blameless = w.save_given-in-Take.ensures.blameless; leaves = w.save_given-in-Take.ensures.leaves })
-      | in-Send w ↦ rw (w.in-Send.is, w.input-is, w.output-is, w.notes-is, w.home-is, w.guest-is, w.wire-is, w.dock-is, w.result-is) (record { others = refl; does = w.write_report-in-Send.ensures })
-      | in-Merge w ↦ rw (w.in-Merge.is, w.input-is, w.output-is, w.notes-is, w.home-is, w.guest-is, w.wire-is, w.dock-is, w.result-is) (record { others = refl; does = w.save_given-in-Merge.ensures.saves; blameless = w.save_given-in-Merge.ensures.blameless; leaves = w.save_given-in-Merge.ensures.leaves })
-      | in-Relay w ↦ rw (w.in-Relay.is, w.input-is, w.output-is, w.notes-is, w.home-is, w.guest-is, w.wire-is, w.dock-is, w.result-is) (record { others = refl; does = w.relay.ensures })
-      | in-Sync w ↦ rw (w.in-Sync.is, w.input-is, w.output-is, w.notes-is, w.home-is, w.guest-is, w.wire-is, w.dock-is, w.result-is) (record { others = refl; does = w.save_given-in-Sync.ensures.saves; blameless = w.save_given-in-Sync.ensures.blameless; leaves = w.save_given-in-Sync.ensures.leaves })
-      | in-Bulk w ↦ rw (w.in-Bulk.is, w.input-is, w.output-is, w.notes-is, w.home-is, w.guest-is, w.wire-is, w.dock-is, w.result-is) (record { others = refl; does = w.bulk.ensures })
-      | in-Why w ↦ rw (w.in-Why.is, w.input-is, w.output-is, w.notes-is, w.home-is, w.guest-is, w.wire-is, w.dock-is, w.result-is) (record { others = refl; does = w.write_report-in-Why.ensures })
-      | in-Check w ↦ rw (w.in-Check.is, w.input-is, w.output-is, w.notes-is, w.home-is, w.guest-is, w.wire-is, w.dock-is, w.result-is) (record { others = refl; does = w.check_file.ensures })
+      | in-Show w ↦ obeyed words _ _ old _ _ _ _ w.in-Show.is (λ i. touched (g.S.Source.seen (w.input-is i)) (g.O.Out.seen (w.output-is i)) (g.N.Out.seen (w.notes-is i)) (g.H.Disk.seen (w.home-is i)) (g.G.Disk.seen (w.guest-is i)) (g.W.Wire.seen (w.wire-is i)) (g.D.Dock.seen (w.dock-is i))) w.result-is (record { others = refl; does = w.show.ensures })
+      | in-New w ↦ obeyed words _ _ old _ _ _ _ w.in-New.is (λ i. touched (g.S.Source.seen (w.input-is i)) (g.O.Out.seen (w.output-is i)) (g.N.Out.seen (w.notes-is i)) (g.H.Disk.seen (w.home-is i)) (g.G.Disk.seen (w.guest-is i)) (g.W.Wire.seen (w.wire-is i)) (g.D.Dock.seen (w.dock-is i))) w.result-is (record { others = refl; does = w.new_file.ensures })
+      | in-Edit w ↦ obeyed words _ _ old _ _ _ _ w.in-Edit.is (λ i. touched (g.S.Source.seen (w.input-is i)) (g.O.Out.seen (w.output-is i)) (g.N.Out.seen (w.notes-is i)) (g.H.Disk.seen (w.home-is i)) (g.G.Disk.seen (w.guest-is i)) (g.W.Wire.seen (w.wire-is i)) (g.D.Dock.seen (w.dock-is i))) w.result-is (record { others = refl; does = w.save_given.ensures.saves; blameless = w.save_given.ensures.blameless; leaves = w.save_given.ensures.leaves })
+      | in-Print w ↦ obeyed words _ _ old _ _ _ _ w.in-Print.is (λ i. touched (g.S.Source.seen (w.input-is i)) (g.O.Out.seen (w.output-is i)) (g.N.Out.seen (w.notes-is i)) (g.H.Disk.seen (w.home-is i)) (g.G.Disk.seen (w.guest-is i)) (g.W.Wire.seen (w.wire-is i)) (g.D.Dock.seen (w.dock-is i))) w.result-is (record { others = refl; does = w.write_report.ensures })
+      | in-Take w ↦ obeyed words _ _ old _ _ _ _ w.in-Take.is (λ i. touched (g.S.Source.seen (w.input-is i)) (g.O.Out.seen (w.output-is i)) (g.N.Out.seen (w.notes-is i)) (g.H.Disk.seen (w.home-is i)) (g.G.Disk.seen (w.guest-is i)) (g.W.Wire.seen (w.wire-is i)) (g.D.Dock.seen (w.dock-is i))) w.result-is (record { others = refl; does = w.save_given-in-Take.ensures.saves; blameless = w.save_given-in-Take.ensures.blameless; leaves = w.save_given-in-Take.ensures.leaves })
+      | in-Send w ↦ obeyed words _ _ old _ _ _ _ w.in-Send.is (λ i. touched (g.S.Source.seen (w.input-is i)) (g.O.Out.seen (w.output-is i)) (g.N.Out.seen (w.notes-is i)) (g.H.Disk.seen (w.home-is i)) (g.G.Disk.seen (w.guest-is i)) (g.W.Wire.seen (w.wire-is i)) (g.D.Dock.seen (w.dock-is i))) w.result-is (record { others = refl; does = w.write_report-in-Send.ensures })
+      | in-Merge w ↦ obeyed words _ _ old _ _ _ _ w.in-Merge.is (λ i. touched (g.S.Source.seen (w.input-is i)) (g.O.Out.seen (w.output-is i)) (g.N.Out.seen (w.notes-is i)) (g.H.Disk.seen (w.home-is i)) (g.G.Disk.seen (w.guest-is i)) (g.W.Wire.seen (w.wire-is i)) (g.D.Dock.seen (w.dock-is i))) w.result-is (record { others = refl; does = w.save_given-in-Merge.ensures.saves; blameless = w.save_given-in-Merge.ensures.blameless; leaves = w.save_given-in-Merge.ensures.leaves })
+      | in-Relay w ↦ obeyed words _ _ old _ _ _ _ w.in-Relay.is (λ i. touched (g.S.Source.seen (w.input-is i)) (g.O.Out.seen (w.output-is i)) (g.N.Out.seen (w.notes-is i)) (g.H.Disk.seen (w.home-is i)) (g.G.Disk.seen (w.guest-is i)) (g.W.Wire.seen (w.wire-is i)) (g.D.Dock.seen (w.dock-is i))) w.result-is (record { others = refl; does = w.relay.ensures })
+      | in-Sync w ↦ obeyed words _ _ old _ _ _ _ w.in-Sync.is (λ i. touched (g.S.Source.seen (w.input-is i)) (g.O.Out.seen (w.output-is i)) (g.N.Out.seen (w.notes-is i)) (g.H.Disk.seen (w.home-is i)) (g.G.Disk.seen (w.guest-is i)) (g.W.Wire.seen (w.wire-is i)) (g.D.Dock.seen (w.dock-is i))) w.result-is (record { others = refl; does = w.save_given-in-Sync.ensures.saves; blameless = w.save_given-in-Sync.ensures.blameless; leaves = w.save_given-in-Sync.ensures.leaves })
+      | in-Bulk w ↦ obeyed words _ _ old _ _ _ _ w.in-Bulk.is (λ i. touched (g.S.Source.seen (w.input-is i)) (g.O.Out.seen (w.output-is i)) (g.N.Out.seen (w.notes-is i)) (g.H.Disk.seen (w.home-is i)) (g.G.Disk.seen (w.guest-is i)) (g.W.Wire.seen (w.wire-is i)) (g.D.Dock.seen (w.dock-is i))) w.result-is (record { others = refl; does = w.bulk.ensures })
+      | in-Why w ↦ obeyed words _ _ old _ _ _ _ w.in-Why.is (λ i. touched (g.S.Source.seen (w.input-is i)) (g.O.Out.seen (w.output-is i)) (g.N.Out.seen (w.notes-is i)) (g.H.Disk.seen (w.home-is i)) (g.G.Disk.seen (w.guest-is i)) (g.W.Wire.seen (w.wire-is i)) (g.D.Dock.seen (w.dock-is i))) w.result-is (record { others = refl; does = rw w.index_of-section.ensures at w.write_report-in-Why.ensures })
+      | in-Check w ↦ obeyed words _ _ old _ _ _ _ w.in-Check.is (λ i. touched (g.S.Source.seen (w.input-is i)) (g.O.Out.seen (w.output-is i)) (g.N.Out.seen (w.notes-is i)) (g.H.Disk.seen (w.home-is i)) (g.G.Disk.seen (w.guest-is i)) (g.W.Wire.seen (w.wire-is i)) (g.D.Dock.seen (w.dock-is i))) w.result-is (record { others = refl; does = w.check_file.ensures })
+      | in-Move w ↦ obeyed words _ _ old _ _ _ _ w.in-Move.is (λ i. touched (g.S.Source.seen (w.input-is i)) (g.O.Out.seen (w.output-is i)) (g.N.Out.seen (w.notes-is i)) (g.H.Disk.seen (w.home-is i)) (g.G.Disk.seen (w.guest-is i)) (g.W.Wire.seen (w.wire-is i)) (g.D.Dock.seen (w.dock-is i))) w.result-is (record { others = refl; does = w.save_note.ensures.saves; blameless = w.save_note.ensures.blameless; leaves = tt })
+      | in-Retitle w ↦ obeyed words _ _ old _ _ _ _ w.in-Retitle.is (λ i. touched (g.S.Source.seen (w.input-is i)) (g.O.Out.seen (w.output-is i)) (g.N.Out.seen (w.notes-is i)) (g.H.Disk.seen (w.home-is i)) (g.G.Disk.seen (w.guest-is i)) (g.W.Wire.seen (w.wire-is i)) (g.D.Dock.seen (w.dock-is i))) w.result-is (record { others = refl; does = rw w.last_of-title.ensures at w.save_note-in-Retitle.ensures.saves; blameless = w.save_note-in-Retitle.ensures.blameless; leaves = tt })
+      | in-Arrange w ↦ obeyed words _ _ old _ _ _ _ w.in-Arrange.is (λ i. touched (g.S.Source.seen (w.input-is i)) (g.O.Out.seen (w.output-is i)) (g.N.Out.seen (w.notes-is i)) (g.H.Disk.seen (w.home-is i)) (g.G.Disk.seen (w.guest-is i)) (g.W.Wire.seen (w.wire-is i)) (g.D.Dock.seen (w.dock-is i))) w.result-is (record { others = refl; does = w.write_report-in-Arrange.ensures })
+      | in-Comment w ↦ obeyed words _ _ old _ _ _ _ w.in-Comment.is (λ i. touched (g.S.Source.seen (w.input-is i)) (g.O.Out.seen (w.output-is i)) (g.N.Out.seen (w.notes-is i)) (g.H.Disk.seen (w.home-is i)) (g.G.Disk.seen (w.guest-is i)) (g.W.Wire.seen (w.wire-is i)) (g.D.Dock.seen (w.dock-is i))) w.result-is (record { others = refl; does = rw w.last_of.ensures at w.save_note-in-Comment.ensures.saves; blameless = w.save_note-in-Comment.ensures.blameless; leaves = tt })
+      | in-Comments w ↦ obeyed words _ _ old _ _ _ _ w.in-Comments.is (λ i. touched (g.S.Source.seen (w.input-is i)) (g.O.Out.seen (w.output-is i)) (g.N.Out.seen (w.notes-is i)) (g.H.Disk.seen (w.home-is i)) (g.G.Disk.seen (w.guest-is i)) (g.W.Wire.seen (w.wire-is i)) (g.D.Dock.seen (w.dock-is i))) w.result-is (record { others = refl; does = w.write_report-in-Comments.ensures })
+      | in-Version w ↦ obeyed words _ _ old _ _ _ _ w.in-Version.is (λ i. touched (g.S.Source.seen (w.input-is i)) (g.O.Out.seen (w.output-is i)) (g.N.Out.seen (w.notes-is i)) (g.H.Disk.seen (w.home-is i)) (g.G.Disk.seen (w.guest-is i)) (g.W.Wire.seen (w.wire-is i)) (g.D.Dock.seen (w.dock-is i))) w.result-is (record { others = refl; does = rw w.last_of-name.ensures at w.save_note-in-Version.ensures.saves; blameless = w.save_note-in-Version.ensures.blameless; leaves = tt })
+      | in-Versions w ↦ obeyed words _ _ old _ _ _ _ w.in-Versions.is (λ i. touched (g.S.Source.seen (w.input-is i)) (g.O.Out.seen (w.output-is i)) (g.N.Out.seen (w.notes-is i)) (g.H.Disk.seen (w.home-is i)) (g.G.Disk.seen (w.guest-is i)) (g.W.Wire.seen (w.wire-is i)) (g.D.Dock.seen (w.dock-is i))) w.result-is (record { others = refl; does = w.write_report-in-Versions.ensures })
+      | in-View w ↦ obeyed words _ _ old _ _ _ _ w.in-View.is (λ i. touched (g.S.Source.seen (w.input-is i)) (g.O.Out.seen (w.output-is i)) (g.N.Out.seen (w.notes-is i)) (g.H.Disk.seen (w.home-is i)) (g.G.Disk.seen (w.guest-is i)) (g.W.Wire.seen (w.wire-is i)) (g.D.Dock.seen (w.dock-is i))) w.result-is (record { others = refl; does = rw w.last_of-name-in-View.ensures at w.write_report-in-View.ensures })
     ]

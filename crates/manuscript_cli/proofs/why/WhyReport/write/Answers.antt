@@ -4,7 +4,7 @@ use Rattle.manuscript_cli.specs.declared.refusal.Refusal.TheVariants.{NoSuchPlac
 use Rattle.manuscript_cli.proofs.why.WhyReport.write.Goals as goal
 
 pub returns-in_default : goal.returns-in_default
-returns-in_default g c = inr (NoSuchPlaces, refl, (refl, c.in_default.ensures.none refl), refl)
+returns-in_default g c = inr (NoSuchPlaces, refl, (refl, (refl, c.in_default.ensures.none refl)), refl)
 
 pub returns : goal.returns
 returns g c =

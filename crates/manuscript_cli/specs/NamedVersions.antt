@@ -1,0 +1,45 @@
+-- `version`, `versions` and `view`.
+use Rattle.std.specs.Prelude.{◌≡◌, ℕ, Option, Some, None, List, [], option_map}
+use Rattle.origin_model.specs.declared.edit_fault.EditFault.{EditFault}
+use Rattle.origin_model.specs.declared.edit_fault.EditFault.TheVariants as fault
+use Rattle.origin_model.specs.edits.Noting.{note_by, note_refusal}
+use Rattle.origin_model.specs.edits.State.{State as Replica}
+use Rattle.version_views.specs.Versions.{version_with}
+use Rattle.version_views.specs.Views.{versions_text, view}
+use Rattle.version_views.specs.declared.limits.TheConstants.{VERSION_CODE}
+use Rattle.version_views.specs.declared.naming.VersionFault.{VersionFault}
+use Rattle.version_views.specs.declared.naming.VersionFault.TheVariants as version_fault
+use Rattle.manuscript_cli.specs.Findings.{Finding, Refuses, Does}
+use Rattle.manuscript_cli.specs.Notes.{NoteOn, unless_refused}
+use Rattle.manuscript_cli.specs.Refusal.{kept_name}
+use Rattle.manuscript_cli.specs.Report.{Telling}
+use Rattle.manuscript_cli.specs.declared.refusal.Refusal.{Refusal}
+use Rattle.manuscript_cli.specs.declared.refusal.Refusal.TheVariants as refusal
+
+-- the fault of a note as a refusal: one is of no section and of no place
+abbrev pub note_refused : EditFault → Refusal
+note_refused (fault.IdsSpent counter) = refusal.IdsSpent counter
+note_refused (fault.TooMany held) = refusal.TooMany held
+note_refused _ = refusal.NoMemory
+
+abbrev pub version_refused : VersionFault → Refusal
+version_refused (version_fault.IdsSpent counter) = refusal.IdsSpent counter
+version_refused (version_fault.TooMany held) = refusal.TooMany held
+version_refused version_fault.NoMemory = refusal.NoMemory
+
+-- `version`: a note that names nothing
+abbrev pub version_on : List ℕ → NoteOn
+version_on name replica = unless_refused (option_map note_refused (note_refusal replica)) (note_by replica [] VERSION_CODE name)
+
+-- `versions` reports the names, each with how many operations it has
+abbrev pub versions_tells : Telling
+versions_tells replica found = found ≡ Does (versions_text replica.held.history replica.number)
+
+-- the manuscript of so many operations, where there is a version with the name
+abbrev pub viewed : List ℕ → Replica → Option ℕ → Finding (List ℕ)
+viewed name replica None = Refuses (refusal.NoVersion (kept_name name))
+viewed name replica (Some n) = Does (view replica.held.history n)
+
+-- `view` reports the manuscript of a version
+abbrev pub view_tells : List ℕ → Telling
+view_tells name replica found = found ≡ viewed name replica (version_with replica.held.history replica.number name)

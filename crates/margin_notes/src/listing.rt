@@ -1,0 +1,178 @@
+//! Where the comments of visible sections stand, in the order in which they are listed.
+ghost use Rattle.std.specs.Prelude.{◌≡◌, ◌||◌, IfOk, Some, map, option_map, reverse, slice_get};
+ghost use Rattle.fugue_ids.specs.Identifiers.{id_eq};
+ghost use Rattle.origin_model.specs.declared.operations.Place.TheVariants.{Section as within};
+ghost use Rattle.origin_model.specs.edits.State.{Stands};
+ghost use Rattle.origin_model.specs.operations.History.{holder};
+ghost use Rattle.origin_model.specs.order.Laws.{IsIn};
+ghost use Rattle.origin_model.specs.order.Order.{before};
+ghost use Rattle.origin_model.specs.order.Printed.{is_withdrawn as withdrawn_in};
+ghost use Rattle.section_catalogue.specs.Manuscript.{OnEach};
+ghost use Rattle.margin_notes.specs.Comments.{Comment};
+ghost use Rattle.margin_notes.specs.Listing.{HasFew, anchors_of, entry_line, line_in, lines_in, listed, section_number};
+ghost use Rattle.margin_notes.specs.Listing.{section_of as section_on, text_section as text_section_on};
+ghost use Rattle.margin_notes.specs.Margins.{span};
+
+use crate::reading::{Anchors, anchors_in};
+use fugue_ids::{ElementId, NoMemory, Op, OpKey};
+use origin_model::Place;
+use replica_core::Replica;
+use section_catalogue::Manuscript;
+use std::alloc::Global;
+
+/// A comment that is listed: the number of its section, the two ends of its span, and the position of its operation.
+/// Entries are ordered as they are listed.
+#[derive(Clone, Copy, Debug, PartialEq, Eq, PartialOrd, Ord)]
+pub(crate) struct Entry {
+    pub number: usize,
+    pub id: ElementId,
+    pub from: usize,
+    pub to: usize,
+    pub at: usize,
+}
+
+/// Whether a Delete withdraws the note.
+fn is_withdrawn(replica: &Replica, id: ElementId) -> bool
+    ensures { result ≡ withdrawn_in replica.now.held.history id }
+{
+    replica.position(OpKey::Target(id)).is_some()
+}
+
+/// The section of which the element is a Text.
+fn text_section(places: &Manuscript, id: ElementId) -> Option<ElementId>
+    ensures { OnEach places.now (λ h. result ≡ text_section_on (holder h id)) }
+{
+    let place = places.place_of(id)?;
+    match place {
+        Place::Section(section) => Some(section),
+        Place::Catalogue => None,
+    }
+}
+
+/// Whether a is b or stands before it. They are elements of the section.
+fn is_in_order(places: &Manuscript, section: ElementId, a: ElementId, b: ElementId) -> bool
+    ensures { OnEach places.now (λ h. IsIn (within section) h a → IsIn (within section) h b
+        → result ≡ (id_eq a b || before (within section) h a b)) }
+{
+    if a == b {
+        return true;
+    }
+    match places.section(section) {
+        Some(list) => list.is_before(a, b),
+        None => false,
+    }
+}
+
+/// The section that has the comment.
+fn section_of(places: &Manuscript, anchors: &Anchors) -> Option<ElementId>
+    ensures { OnEach places.now (λ h. (c : Comment) → anchors.now ≡ anchors_of c → result ≡ section_on h c) }
+{
+    let section = text_section(places, anchors.first)?;
+    let other = text_section(places, anchors.last)?;
+    if other != section {
+        return None;
+    }
+    if is_in_order(places, section, anchors.first, anchors.last) {
+        Some(section)
+    } else {
+        None
+    }
+}
+
+/// The number of a visible section, counted from 1.
+fn number_of(places: &Manuscript, section: ElementId) -> Option<usize>
+    requires { HasFew places.now }
+    ensures { OnEach places.now (λ h. result ≡ section_number h section) }
+{
+    let catalogue = places.catalogue();
+    let before = catalogue.visible_before(section)?;
+    if catalogue.is_hidden(section) {
+        None
+    } else {
+        Some(before + 1)
+    }
+}
+
+/// How many visible elements stand before the first anchor.
+fn start_of(places: &Manuscript, section: ElementId, first: ElementId, last: ElementId) -> usize
+    ensures { OnEach places.now (λ h. IsIn (within section) h first → result ≡ (span h section first last).from) }
+{
+    match places.section(section) {
+        Some(list) => match list.visible_before(first) {
+            Some(before) => before,
+            None => 0,
+        },
+        None => 0,
+    }
+}
+
+/// How many visible elements stand before the last anchor or are it.
+fn end_of(places: &Manuscript, section: ElementId, first: ElementId, last: ElementId) -> usize
+    requires { HasFew places.now }
+    ensures { OnEach places.now (λ h. IsIn (within section) h last → result ≡ (span h section first last).to) }
+{
+    match places.section(section) {
+        Some(list) => match list.visible_before(last) {
+            Some(before) => {
+                if list.is_hidden(last) {
+                    before
+                } else {
+                    before + 1
+                }
+            }
+            None => 0,
+        },
+        None => 0,
+    }
+}
+
+/// The entry of the operation at the position, where it is a comment that is listed.
+fn entry_of(replica: &Replica, at: usize, op: &Op) -> Option<Entry>
+    requires { slice_get (reverse replica.now.held.history) at ≡ Some op.now }
+    ensures { option_map (entry_line (reverse replica.now.held.history)) result
+        ≡ line_in replica.now.held.history op.now }
+{
+    let anchors = anchors_in(op)?;
+    if is_withdrawn(replica, anchors.id) {
+        return None;
+    }
+    let places = replica.places();
+    let section = section_of(places, &anchors)?;
+    let number = number_of(places, section)?;
+    Some(Entry {
+        number,
+        id: anchors.id,
+        from: start_of(places, section, anchors.first, anchors.last),
+        to: end_of(places, section, anchors.first, anchors.last),
+        at,
+    })
+}
+
+/// The entries of all comments that are listed, as their operations were accepted.
+fn entries_of(alloc: Global, replica: &Replica) -> Result<Vec<Entry>, NoMemory>
+    ensures entries { IfOk result (λ entries. map (entry_line (reverse replica.now.held.history)) entries.items
+        ≡ lines_in replica.now.held.history (reverse replica.now.held.history)) }
+    ensures stands { Stands replica.now }
+{
+    let ops = replica.accepted();
+    let mut entries = Vec::new(alloc);
+    let mut at = 0;
+    'ops: while at < ops.len() {
+        if let Some(entry) = entry_of(replica, at, &ops[at]) {
+            entries.push(entry)?;
+        }
+        at += 1;
+    }
+    Ok(entries)
+}
+
+/// The entries in the order in which they are listed.
+pub(crate) fn listed_entries(alloc: Global, replica: &Replica) -> Result<Vec<Entry>, NoMemory>
+    ensures entries { IfOk result (λ entries. map (entry_line (reverse replica.now.held.history)) entries.items
+        ≡ listed replica.now.held.history) }
+    ensures stands { Stands replica.now }
+{
+    let mut entries = entries_of(alloc, replica)?;
+    entries.sort_unstable();
+    Ok(entries)
+}

@@ -1,0 +1,86 @@
+//! Which operations are comments.
+ghost use Rattle.std.specs.Prelude.{◌≡◌, ◌&&◌, length, nat_le, nat_lt, option_map, slice_get};
+ghost use Rattle.std.specs.Str.{is_utf8};
+ghost use Rattle.margin_notes.specs.Comments.{comment_in, comment_of, is_text as is_text_of};
+ghost use Rattle.margin_notes.specs.Listing.{anchors_of, body_in as body_on, body_of};
+
+use crate::COMMENT_CODE;
+use fugue_ids::{ElementId, LONGEST_BODY, Op, has_line_end};
+
+/// A comment, without its text.
+#[derive(Clone, Copy, Debug, PartialEq, Eq)]
+pub(crate) struct Anchors {
+    pub id: ElementId,
+    pub first: ElementId,
+    pub last: ElementId,
+}
+
+fn is_utf8_text(bytes: &[u8]) -> bool
+    ensures { result ≡ is_utf8 bytes.now }
+{
+    std::str::from_utf8(bytes).is_ok()
+}
+
+fn has_text_length(bytes: &[u8]) -> bool
+    ensures { result ≡ (nat_lt 0 (length bytes.now) && nat_le (length bytes.now) LONGEST_BODY) }
+{
+    !bytes.is_empty() && bytes.len() <= LONGEST_BODY
+}
+
+/// Whether the bytes are the text of a comment: UTF-8 of 1 to 1,024 bytes without LF and CR.
+pub fn is_text(bytes: &[u8]) -> bool
+    ensures { result ≡ is_text_of bytes.now }
+{
+    is_utf8_text(bytes) && has_text_length(bytes) && !has_line_end(bytes)
+}
+
+fn anchors_with(id: ElementId, names: &[ElementId], body: &[u8]) -> Option<Anchors>
+    ensures { result ≡ option_map anchors_of (comment_of id names.now body.now) }
+{
+    let [first, last] = names else {
+        return None;
+    };
+    if !is_text(body) {
+        return None;
+    }
+    Some(Anchors {
+        id,
+        first: *first,
+        last: *last,
+    })
+}
+
+/// What the operation says but the text, where it has the shape of a comment.
+pub(crate) fn anchors_in(op: &Op) -> Option<Anchors>
+    ensures { result ≡ option_map anchors_of (comment_in op.now) }
+{
+    match op {
+        Op::Note {
+            id,
+            names,
+            code,
+            body,
+        } if *code == COMMENT_CODE => anchors_with(*id, names.as_slice(), body.as_slice()),
+        _ => None,
+    }
+}
+
+/// The body of a note: nothing of another operation.
+fn body_in(op: &Op) -> &[u8]
+    ensures { result.now ≡ body_on op.now }
+{
+    match op {
+        Op::Note { body, .. } => body.as_slice(),
+        _ => &[],
+    }
+}
+
+/// The body of the note at the position.
+pub(crate) fn body_at(ops: &[Op], at: usize) -> &[u8]
+    ensures { result.now ≡ body_of (slice_get ops.now at) }
+{
+    match ops.get(at) {
+        Some(op) => body_in(op),
+        None => &[],
+    }
+}
