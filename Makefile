@@ -4,7 +4,7 @@ PREFIX ?= $(HOME)/.local
 
 SOURCES := crates.txt HANDLES $(shell find crates -regex 'crates/[^/]*/out' -prune -o -type f -print)
 
-.PHONY: run test demo bench install
+.PHONY: run test demo bench install dist
 
 # The main job: a chapter that two authors wrote apart, as a stream, and their two files in a folder of their own.
 run: bin/manuscript
@@ -30,3 +30,19 @@ bench: bin/manuscript
 install: bin/manuscript
 	install -D -m 755 bin/manuscript $(PREFIX)/bin/manuscript
 	install -D -m 644 docs/manuscript.1 $(PREFIX)/share/man/man1/manuscript.1
+
+# An archive for those who have no toolchain: the program, its manual page, the guide and checksums. The same sources make
+# the same bytes.
+VERSION := $(shell sed -n 's/^## \([0-9.]*\).*/\1/p' CHANGELOG.md | head -n 1)
+RELEASE := petreltombac-$(VERSION)
+
+dist: bin/manuscript
+	rm -rf dist/$(RELEASE)
+	install -D -m 755 bin/manuscript dist/$(RELEASE)/bin/manuscript
+	install -D -m 644 docs/manuscript.1 dist/$(RELEASE)/share/man/man1/manuscript.1
+	install -D -m 644 -t dist/$(RELEASE)/doc README.md CHANGELOG.md LICENSE docs/GUIDE.md docs/FORMATS.md docs/WHY.md
+	install -D -m 755 -t dist/$(RELEASE)/examples examples/reader.py examples/page.py
+	cd dist/$(RELEASE) && find * -type f | LC_ALL=C sort | xargs sha256sum > ../SHA256SUMS && mv ../SHA256SUMS .
+	cd dist && tar --sort=name --mtime=@0 --owner=0 --group=0 --numeric-owner -c $(RELEASE) | gzip -n -9 > $(RELEASE).tar.gz
+	rm -r dist/$(RELEASE)
+	cd dist && sha256sum $(RELEASE).tar.gz

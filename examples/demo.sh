@@ -23,9 +23,9 @@ run() {
 }
 
 # Shows the copies of both, and ends the demo where they differ.
-both_print() {
-    run 'manuscript print ann.ms'
-    run 'manuscript print ben.ms | cmp - <(manuscript print ann.ms) && echo the same bytes'
+both_read() {
+    run 'manuscript arrange ann.ms'
+    run 'manuscript arrange ben.ms | cmp - <(manuscript arrange ann.ms) && echo the same bytes'
 }
 
 tell 'Ann begins a chapter, and sends it to Ben. A file holds the copy of one author: hers has the number 1, his the number 2.'
@@ -42,7 +42,7 @@ run "printf 'put 1 12  Nobody minded.\ncut 1 7 4\nput 1 7 quiet\n' | manuscript 
 tell 'Each takes in the frames of the other. What both have already counts as repeated. No sentence is torn: the one of the smaller number stands first.'
 run 'manuscript send ann.ms | manuscript take ben.ms'
 run 'manuscript send ben.ms | manuscript take ann.ms'
-both_print
+both_read
 
 tell 'Now by a relay, which hands on what it hears. It serves three sessions: Ann tells what she has, Ben tells and hears, and Ann hears what Ben told.'
 run "printf 'add 2 The land\nput 2 0 Hills, mostly.\n' | manuscript edit ann.ms"
@@ -58,7 +58,15 @@ run "manuscript sync ben.ms $port 0"
 run "manuscript sync ann.ms $port 0"
 wait "$relay"
 sed 's/^/    /' log
-both_print
+both_read
+
+tell 'Ann moves the land in front of the sea, and Ben, who has not heard of it, does so too and gives it another title. One of the moves wins, and the section stands there once.'
+run 'manuscript move ann.ms 2 1'
+run 'manuscript move ben.ms 2 1'
+run "manuscript retitle ben.ms 1 'The hills'"
+run 'manuscript merge ann.ms ben.ms'
+run 'manuscript merge ben.ms ann.ms'
+both_read
 
 tell "Ann's machine breaks down in the midst of an edit of 300 lines. Twenty times: each time a moment later, and each time with kill -9. Her file has to hold all of the edit, or nothing of it, and it has to be readable."
 for ((line = 1; line <= 300; line++)); do echo "put 2 0 $line "; done >long.script
@@ -96,11 +104,11 @@ cp before.ms ann.ms
 run 'manuscript edit ann.ms < long.script'
 run "printf 'cut 2 0 1092\nput 2 14  And mud.\n' | manuscript edit ann.ms"
 run 'manuscript merge ben.ms ann.ms'
-both_print
+both_read
 
 if command -v python3 >/dev/null; then
-    tell 'A second program, of some three hundred lines of Python, was written from docs/FORMATS.md alone. It reads the same in the same files.'
-    run 'reader.py print ann.ms | cmp - <(manuscript print ann.ms) && echo the same bytes'
+    tell 'A second program, of some seven hundred lines of Python, was written from docs/FORMATS.md alone. It reads the same in the same files.'
+    run 'reader.py arrange ann.ms | cmp - <(manuscript arrange ann.ms) && echo the same bytes'
     run 'manuscript send ben.ms > ben.frames'
     ln -s "$here/samples" samples
     for frames in ben.frames samples/*.frames samples/*/*.frames; do

@@ -4,6 +4,10 @@
     reader.py list FRAMES    tells each operation of a stream, and how the stream ends
     reader.py show FRAMES    what `manuscript show` prints and notes
     reader.py print FILE     what `manuscript print` prints and notes
+    reader.py arrange FILE   what `manuscript arrange` prints and notes
+    reader.py comments FILE  what `manuscript comments` prints and notes
+    reader.py versions FILE  what `manuscript versions` prints and notes
+    reader.py view FILE NAME what `manuscript view` prints and notes
     reader.py send FILE      what `manuscript send` writes and notes
     reader.py check FRAMES   whether the text on standard input is that of a valid certificate, as docs/WHY.md says
 
@@ -22,6 +26,11 @@ GREATEST_NUMBER = 4_294_967_295
 LONGEST_RUN = 1_024
 MOST_NAMES = 3
 LONGEST_BODY = 1_024
+LONGEST_NAME = 120
+LONGEST_TITLE = 480
+
+# The codes of notes with a meaning.
+MOVE, RETITLE, COMMENT, VERSION = 1, 2, 3, 4
 
 # Where elements stand that are sections.
 CATALOGUE = "catalogue"
@@ -104,7 +113,7 @@ class Cursor:
         return self.identifier() if mark == 1 else None
 
     def title(self):
-        size = self.number(2, lambda so_far, left: so_far <= 1 if left else 1 <= so_far <= 480)
+        size = self.number(2, lambda so_far, left: so_far <= 1 if left else 1 <= so_far <= LONGEST_TITLE)
         return "".join(self.title_parts(size))
 
     def title_parts(self, size):
@@ -383,13 +392,95 @@ class Replica:
     def shown(self, place):
         return [op for op in self.places.get(place, Place()).walk() if op.id not in self.hidden]
 
+    def text(self, section):
+        return "".join(text.text for text in self.shown(section.id))
+
     def manuscript(self):
-        sections = self.shown(CATALOGUE)
-        return "".join(f"# {op.text}\n{''.join(text.text for text in self.shown(op.id))}\n" for op in sections)
+        return "".join(f"# {section.text}\n{self.text(section)}\n" for section in self.shown(CATALOGUE))
 
     def tally(self):
         self.counts["waiting"] = len(self.waiting)
         return ", ".join(f"{name} {count}" for name, count in self.counts.items())
+
+
+@dataclass(frozen=True)
+class Claim:
+    """What a note says of a section: origins, or a title."""
+
+    id: tuple
+    section: tuple
+    stamp: int
+    value: object
+
+
+def read_one_line(data, longest):
+    """The text that the bytes are, or None: one line of UTF-8 of at most so many bytes."""
+    try:
+        text = data.decode("utf-8")
+    except UnicodeDecodeError:
+        return None
+    return text if 1 <= len(data) <= longest and not set(data) & set(b"\n\r") else None
+
+
+def read_claim(op):
+    """The move or the retitle that a note has the shape of, or None."""
+    if op.kind != "Note" or len(op.body) < 4 or not op.named:
+        return None
+    stamp, rest = int.from_bytes(op.body[:4], "big"), op.body[4:]
+    if op.code == RETITLE and len(op.named) == 1:
+        title = read_one_line(rest, LONGEST_TITLE)
+        return title and Claim(op.id, op.named[0], stamp, title)
+    if op.code == MOVE and len(rest) == 1 and rest[0] <= 3 and len(op.named) == 1 + rest[0].bit_count():
+        left = op.named[1] if rest[0] & 1 else None
+        right = op.named[-1] if rest[0] & 2 else None
+        return Claim(op.id, op.named[0], stamp, (left, right))
+    return None
+
+
+class Arrangement:
+    """Where sections stand and what their titles are, by the moves and retitles that are valid when they come."""
+
+    def __init__(self, replica):
+        self.replica = replica
+        self.lifted = Place()
+        self.claims = {MOVE: [], RETITLE: []}
+        sections = set()
+        for op in replica.accepted:
+            if op.kind == "Section":
+                sections.add(op.id)
+                self.lifted.insert(op)
+            elif (claim := read_claim(op)) and claim.section in sections and self.lift(op, claim):
+                self.claims[op.code].append(claim)
+
+    def lift(self, op, claim):
+        """Whether the claim is valid. A valid move stands among the sections as one of them."""
+        if op.code == MOVE:
+            left, right = claim.value
+            if any(origin and origin not in self.lifted.nodes for origin in claim.value):
+                return False
+            self.lifted.insert(Op("Section", op.id, left=left, right=right))
+        return True
+
+    def winner(self, code, section):
+        """The claim on the section with the greatest stamp, and then the greatest identifier, that is not withdrawn."""
+        own = [claim for claim in self.claims[code] if claim.section == section and claim.id not in self.replica.hidden]
+        return max(own, key=lambda claim: (claim.stamp, claim.id), default=None)
+
+    def position(self, section):
+        move = self.winner(MOVE, section)
+        return move.id if move else section
+
+    def heading(self, section):
+        retitle = self.winner(RETITLE, section.id)
+        return retitle.value if retitle else section.text
+
+    def sections(self):
+        """The shown sections, by their positions."""
+        standing = {self.position(section.id): section for section in self.replica.shown(CATALOGUE)}
+        return [standing[op.id] for op in self.lifted.walk() if op.id in standing]
+
+    def text(self):
+        return "".join(f"# {self.heading(section)}\n{self.replica.text(section)}\n" for section in self.sections())
 
 
 def taken_in(hold, ops):
@@ -426,6 +517,63 @@ def show(data):
 
 def print_file(data):
     print(taken_in(*read_file(data)).manuscript(), end="")
+    return 0
+
+
+def arrange_file(data):
+    print(Arrangement(taken_in(*read_file(data))).text(), end="")
+    return 0
+
+
+def comments_of(replica, order):
+    """The comments that are not withdrawn and whose anchors stand in this order, by identifier."""
+    return sorted(
+        (
+            op
+            for op in replica.accepted
+            if op.kind == "Note" and op.code == COMMENT and len(op.named) == 2 and op.id not in replica.hidden
+            if all(name in order for name in op.named) and order[op.named[0]] <= order[op.named[1]]
+            if read_one_line(op.body, LONGEST_BODY)
+        ),
+        key=lambda op: op.id,
+    )
+
+
+def comments_file(data):
+    replica = taken_in(*read_file(data))
+    for number, section in enumerate(replica.shown(CATALOGUE), 1):
+        order = replica.places.get(section.id, Place()).order()
+        shown = [order[text.id] for text in replica.shown(section.id)]
+        for comment in comments_of(replica, order):
+            first, last = (order[name] for name in comment.named)
+            begin, end = sum(at < first for at in shown), sum(at <= last for at in shown)
+            print(number, begin, end, comment.body.decode("utf-8"))
+    return 0
+
+
+def versions_of(data, replica):
+    """How many operations each version of the file has, and its name."""
+    own = int.from_bytes(data[5:9], "big")
+    return [
+        (count, op.body.decode("utf-8"))
+        for count, op in enumerate(replica.accepted)
+        if op.kind == "Note" and op.code == VERSION and not op.named and op.id[0] == own
+        if op.id not in replica.hidden and read_one_line(op.body, LONGEST_NAME)
+    ]
+
+
+def versions_file(data):
+    for count, name in versions_of(data, taken_in(*read_file(data))):
+        print(count, name)
+    return 0
+
+
+def view_file(data, name):
+    replica = taken_in(*read_file(data))
+    counts = [count for count, other in versions_of(data, replica) if other == name]
+    if not counts:
+        raise Refused(f"no version {name}", 2)
+    print(taken_in(replica.hold, replica.accepted[: counts[-1]]).manuscript(), end="")
     return 0
 
 
@@ -574,18 +722,28 @@ def check(data):
     return 0
 
 
-COMMANDS = {"list": list_stream, "show": show, "print": print_file, "send": send_file, "check": check}
+COMMANDS = {
+    "list": list_stream,
+    "show": show,
+    "print": print_file,
+    "arrange": arrange_file,
+    "comments": comments_file,
+    "versions": versions_file,
+    "view": view_file,
+    "send": send_file,
+    "check": check,
+}
 
 
 def main(words):
-    if len(words) != 2 or words[0] not in COMMANDS:
+    if not words or words[0] not in COMMANDS or len(words) != (3 if words[0] == "view" else 2):
         print(__doc__, file=sys.stderr)
         return 1
     sys.stdout.reconfigure(encoding="utf-8", newline="")
     with open(words[1], "rb") as file:
         data = file.read()
     try:
-        return COMMANDS[words[0]](data)
+        return COMMANDS[words[0]](data, *words[2:])
     except Refused as refused:
         print(refused, file=sys.stderr)
         return refused.status

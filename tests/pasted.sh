@@ -1,7 +1,7 @@
 #!/usr/bin/env bash
 # Runs each line that a reader may paste from the documents, and compares what comes with what stands behind it.
 #
-#     tests/pasted.sh [FILE..]     # README.md, docs/FORMATS.md, docs/WHY.md and docs/manuscript.1 where none is given
+#     tests/pasted.sh [FILE..]     # README.md, docs/GUIDE.md, docs/FORMATS.md, docs/WHY.md and docs/manuscript.1 where none is given
 #
 # A session is an indented block (of the manual: a literal one) that begins with a dollar sign: lines with one are run,
 # in order, in one shell and one folder for each document, and what stands behind a line is what it prints, with what
@@ -54,7 +54,7 @@ run_page() {
 }
 
 port=$((20000 + RANDOM % 20000))
-[ $# -gt 0 ] || set -- README.md docs/FORMATS.md docs/WHY.md docs/manuscript.1
+[ $# -gt 0 ] || set -- README.md docs/GUIDE.md docs/FORMATS.md docs/WHY.md docs/manuscript.1
 for page; do run_page "$page"; done
 
 ended

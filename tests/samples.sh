@@ -63,6 +63,30 @@ if command -v python3 >/dev/null; then
         printed read python3 "$reader" send "$work/made/$author.ms"
         check '    and sends what it holds' cmp -s "$work/read" "$work/sent"
     done
+    # A file with a comment on two sections, a version, a move and a title.
+    cp "$work/made/ann.ms" "$work/noted.ms"
+    while IFS='|' read -ra word; do
+        manuscript "${word[0]}" "$work/noted.ms" "${word[@]:1}" 2>>"$work/notes" </dev/null || echo "${word[0]}" >>"$work/refused"
+    done <<'END'
+comment|1|0|5|Why here?
+comment|2|3|9|a <b> & more
+version|first draft
+move|2|1
+retitle|1|Wind & <weather>
+END
+    echo 'cut 1 2 4' | manuscript edit "$work/noted.ms" 2>>"$work/notes"
+    check 'comments, a version, a move and a title are made' [ ! -e "$work/refused" ]
+    printed arranged manuscript arrange "$work/noted.ms"
+    for report in arrange comments versions; do
+        printed told manuscript "$report" "$work/noted.ms"
+        printed read python3 "$reader" "$report" "$work/noted.ms"
+        check "    and the reader answers $report, as the program" cmp -s "$work/read" "$work/told"
+    done
+    printed told manuscript view "$work/noted.ms" 'first draft'
+    printed read python3 "$reader" view "$work/noted.ms" 'first draft'
+    check '    and view' cmp -s "$work/read" "$work/told"
+    printed page.html python3 examples/page.py "$work/noted.ms"
+    check '    and the page has the text of arrange' python3 tests/page.py "$work/page.html" "$work/arranged"
     both_show 'the sample of three authors' "$oosterwick/all.frames"
     both_show 'the sample stream of two authors' "$samples/two_authors.frames"
     put cut "$section" "$b" "$y"

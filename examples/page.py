@@ -1,0 +1,205 @@
+#!/usr/bin/env python3
+"""Writes a manuscript as one page of HTML, with no outside parts.
+
+    page.py FILE [OTHER..] > page.html
+
+FILE is a replica file, and so is each OTHER, whose operations are merged into what the page shows. The page has the
+sections as `manuscript arrange` prints them, a colour for each author, deleted passages on demand, comments beside the
+text, and the versions of FILE. It needs no script. Formats are read by reader.py, which knows docs/FORMATS.md alone.
+"""
+
+import html
+import sys
+from dataclasses import dataclass
+
+import reader
+
+STYLE = """
+:root { color-scheme: light dark; --paper: #fffdf8; --ink: #222; --quiet: #666; --line: #ddd; }
+@media (prefers-color-scheme: dark) { :root { --paper: #1b1b1d; --ink: #e6e3dc; --quiet: #a09c94; --line: #3a3a3d; } }
+body { margin: 0 auto; max-width: 62rem; padding: 1rem; background: var(--paper); color: var(--ink);
+  font: 1.05rem/1.6 Georgia, serif; }
+nav, .legend, label { font: 0.9rem/1.5 system-ui, sans-serif; }
+nav ol, .legend ul { padding-left: 1.2rem; margin: 0.3rem 0 1rem; }
+.legend li { list-style: none; margin-left: -1.2rem; }
+.legend b { display: inline-block; width: 0.9em; height: 0.9em; margin-right: 0.5em; border-radius: 50%; }
+main { border-top: 1px solid var(--line); margin-top: 0.8rem; }
+input { accent-color: currentColor; }
+label { margin-right: 1.2rem; }
+.view { display: none; }
+.text { white-space: pre-wrap; overflow-wrap: anywhere; margin: 0 0 1.5rem; }
+del { display: none; text-decoration: line-through; opacity: 0.6; }
+#deleted:checked ~ main del { display: inline; }
+mark { background: color-mix(in srgb, currentColor 16%, transparent); color: inherit; border-radius: 0.2em; }
+.notes { font: 0.85rem/1.45 system-ui, sans-serif; padding-left: 1.4rem; color: var(--quiet); }
+h2 { margin: 1.6rem 0 0.4rem; line-height: 1.25; overflow-wrap: anywhere; }
+sup { line-height: 0; }
+a { color: inherit; }
+@media (min-width: 56rem) {
+  section { display: grid; grid-template-columns: minmax(0, 40rem) 16rem; column-gap: 2rem; }
+  h2 { grid-column: 1; }
+  .text { grid-column: 1; }
+  .notes { grid-column: 2; grid-row: 2; margin: 0; }
+}
+@media print { input, label, nav { display: none; } body { max-width: none; background: none; } }
+"""
+
+
+@dataclass(frozen=True)
+class Letter:
+    """A scalar of a section: who wrote it, whether it was deleted, and the comments on it, by their numbers."""
+
+    text: str
+    author: int
+    is_deleted: bool
+    comments: tuple = ()
+
+
+def escaped(text):
+    return html.escape(text, quote=True)
+
+
+def colour(author, authors):
+    """A colour that reads on light and on dark paper, each author another one."""
+    return f"hsl({round(360 * authors.index(author) / len(authors) + 210) % 360} 55% 48%)"
+
+
+def letters_of(replica, section, comments):
+    """All letters of a section, deleted ones too, in order. Comments are numbered notes on it."""
+    place = replica.places.get(section, reader.Place())
+    order = place.order()
+    ranges = [(number, order[note.named[0]], order[note.named[1]]) for number, note in comments]
+    for at, op in enumerate(place.walk()):
+        on_it = tuple(number for number, first, last in ranges if first <= at <= last)
+        yield Letter(op.text, op.id[0], op.id in replica.hidden, on_it)
+
+
+def runs_of(letters):
+    """Letters one after another that look the same, joined."""
+    run = []
+    for letter in letters:
+        if run and (run[0].author, run[0].is_deleted, run[0].comments) != (letter.author, letter.is_deleted, letter.comments):
+            yield run
+            run = []
+        run.append(letter)
+    if run:
+        yield run
+
+
+def references(numbers, view):
+    return "".join(f'<sup><a href="#note-{view}-{number}" id="at-{view}-{number}">{number}</a></sup>' for number in numbers)
+
+
+def text_html(letters, view):
+    """The text of a section. The number of a comment stands where its passage ends."""
+    parts = []
+    runs = list(runs_of(letters))
+    for at, run in enumerate(runs):
+        first = run[0]
+        tag = "del" if first.is_deleted else "span"
+        piece = f'<{tag} class="by-{first.author}">{escaped("".join(letter.text for letter in run))}</{tag}>'
+        parts.append(f"<mark>{piece}</mark>" if first.comments and not first.is_deleted else piece)
+        later = {number for other in runs[at + 1 :] for number in other[0].comments}
+        parts.append(references([number for number in first.comments if number not in later], view))
+    return "".join(parts)
+
+
+def notes_html(comments, view):
+    if not comments:
+        return ""
+    items = "".join(
+        f'<li id="note-{view}-{number}" value="{number}"><span class="by-{note.id[0]}">'
+        f"{escaped(note.body.decode('utf-8'))}</span> "
+        f'<a href="#at-{view}-{number}" aria-label="back to the passage">&#8617;</a></li>'
+        for number, note in comments
+    )
+    return f'<ol class="notes" aria-label="Comments">{items}</ol>'
+
+
+def section_html(replica, section, heading, number, view, comments):
+    """A section with its comments, each of which has a number."""
+    text = text_html(letters_of(replica, section, comments), view)
+    return (
+        f'<section><h2 id="section-{view}-{number}">{escaped(heading)}</h2>'
+        f'<div class="text">{text}</div>{notes_html(comments, view)}</section>'
+    )
+
+
+def sections_of(replica, is_arranged):
+    """The sections with their headings: as `arrange` prints them, or as `view` does."""
+    if is_arranged:
+        arrangement = reader.Arrangement(replica)
+        return [(section, arrangement.heading(section)) for section in arrangement.sections()]
+    return [(op, op.text) for op in replica.shown(reader.CATALOGUE)]
+
+
+def view_html(replica, is_arranged, view):
+    sections = list(enumerate(sections_of(replica, is_arranged), 1))
+    contents = "".join(f'<li><a href="#section-{view}-{number}">{escaped(title)}</a></li>' for number, (_, title) in sections)
+    parts = []
+    comments_before = 0
+    for number, (section, title) in sections:
+        order = replica.places.get(section.id, reader.Place()).order()
+        comments = list(enumerate(reader.comments_of(replica, order), comments_before + 1))
+        comments_before += len(comments)
+        parts.append(section_html(replica, section.id, title, number, view, comments))
+    return f'<div class="view view-{view}"><nav aria-label="Contents"><ol>{contents}</ol></nav>{"".join(parts)}</div>'
+
+
+def switches_html(names):
+    """A switch for each view, and one for what was deleted. They stand in front of what they switch."""
+    switches = [
+        f'<input type="radio" name="view" id="view-{view}"{" checked" if view == 0 else ""}>'
+        f'<label for="view-{view}">{escaped(name)}</label>'
+        for view, name in enumerate(names)
+    ]
+    return "".join(switches) + '<input type="checkbox" id="deleted"><label for="deleted">show what was deleted</label>'
+
+
+def page(replica, versions):
+    """The page of a replica, and of the versions of its file: each how many operations it has, and its name."""
+    authors = sorted({op.id[0] for op in replica.accepted if op.id})
+    colours = "".join(
+        f".by-{author} {{ color: {colour(author, authors)} }} .legend .by-{author} b {{ background: {colour(author, authors)} }}\n"
+        for author in authors
+    )
+    shown = "".join(f"#view-{view}:checked ~ main .view-{view} {{ display: block }}\n" for view in range(len(versions) + 1))
+    views = [view_html(replica, True, 0)]
+    for view, (count, _) in enumerate(versions, 1):
+        views.append(view_html(reader.taken_in(replica.hold, replica.accepted[:count]), False, view))
+    legend = "".join(f'<li class="by-{author}"><b></b>author {author}</li>' for author in authors)
+    names = ["now", *(name for _, name in versions)]
+    return (
+        '<!DOCTYPE html>\n<html lang="und"><head><meta charset="utf-8">'
+        '<meta name="viewport" content="width=device-width, initial-scale=1"><title>Manuscript</title>'
+        f"<style>{STYLE}{colours}{shown}</style></head><body>\n"
+        f'<aside class="legend" aria-label="Authors"><ul>{legend}</ul></aside>\n'
+        f'{switches_html(names)}\n<main>{"".join(views)}</main></body></html>\n'
+    )
+
+
+def main(files):
+    if not files:
+        print(__doc__, file=sys.stderr)
+        return 1
+    contents = []
+    for name in files:
+        with open(name, "rb") as file:
+            contents.append(file.read())
+    try:
+        replica = reader.taken_in(*reader.read_file(contents[0]))
+        versions = reader.versions_of(contents[0], replica)
+        for other in contents[1:]:
+            _, ops = reader.read_file(other)
+            for op in ops:
+                replica.take(op)
+    except reader.Refused as refused:
+        print(refused, file=sys.stderr)
+        return refused.status
+    sys.stdout.reconfigure(encoding="utf-8", newline="")
+    sys.stdout.write(page(replica, versions))
+    return 0
+
+
+if __name__ == "__main__":
+    sys.exit(main(sys.argv[1:]))
