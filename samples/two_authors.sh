@@ -8,8 +8,8 @@ manuscript send ann.ms | manuscript take ben.ms
 printf 'put 1 12  Then it blew.\n' | manuscript edit ann.ms
 printf 'cut 1 7 4\nput 1 7 quiet\n' | manuscript edit ben.ms
 
-# Each takes in what the other has, and both print the same.
+# Each takes in what the other has, and both read the same.
 manuscript merge ann.ms ben.ms
 manuscript send ann.ms | manuscript take ben.ms
-manuscript print ann.ms
-manuscript print ben.ms
+manuscript arrange ann.ms
+manuscript arrange ben.ms
