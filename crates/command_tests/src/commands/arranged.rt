@@ -308,9 +308,9 @@ fn crash_at(rt: &(impl Abort + AllocGlobal), call: u32, is_saved: bool) {
 
 #[test]
 fn a_crash_leaves_all_of_a_move_or_none(rt: HostRuntime) {
-    // Loading is a sync and four reads, and a batch is two writes and two syncs.
-    for call in 0..11 {
-        crash_at(&rt, call, call >= 9);
+    // Loading is a sync and five reads, and a batch is two writes and two syncs.
+    for call in 0..12 {
+        crash_at(&rt, call, call >= 10);
     }
 }
 
