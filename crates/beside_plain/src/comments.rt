@@ -120,11 +120,13 @@ fn by_id(alloc: Global, ops: &[Op]) -> Result<Vec<(ElementId, usize)>, Fail> {
 fn margins(alloc: Global, plain: &PlainReplica) -> Result<Vec<u8>, Fail> {
     let mut text = Vec::new(alloc);
     let ops = by_id(alloc, plain.ops())?;
-    let mut number = 0;
+    let mut number: usize = 0;
     for section in &plain.shown(Place::Catalogue)? {
-        number += 1;
+        number = number.saturating_add(1);
         for (_, at) in &ops {
-            push_comment(alloc, &mut text, plain, number, *section, &plain.ops()[*at])?;
+            if let Some(op) = plain.ops().get(*at) {
+                push_comment(alloc, &mut text, plain, number, *section, op)?;
+            }
         }
     }
     Ok(text)
@@ -202,8 +204,8 @@ fn act(rt: &impl Abort, alloc: Global, dice: &mut Dice, replica: &mut Replica) -
     let shown = replica.text_len(section).unwrap_or(0);
     match dice.roll(8) {
         0..=2 => {
-            let at = dice.roll(shown.saturating_add(1)) as u32;
-            let n = (dice.roll(4) as u32).saturating_add(1);
+            let at = dice.roll(shown.saturating_add(1)).min(1_000_000) as u32;
+            let n = dice.roll(4).min(3) as u32 + 1;
             comment_on(rt, alloc, replica, section, at, n)
         }
         3 => withdraw(rt, alloc, dice, replica),
