@@ -1,0 +1,41 @@
+-- Laws of drafts.
+use Rattle.std.specs.Prelude.{◌≡◌, ℕ, true, false, Bool, if◌then◌else◌, ◌&&◌, Ok, List, [], ◌∷◌, ◌++◌, All, flat_map}
+use Rattle.std.specs.Str.{is_utf8}
+use Rattle.catalogue_notes.specs.Claims.{is_title}
+use Rattle.draft_plan.specs.Drafts.{Part, closed, form, has_heading, is_heading, lines, parts}
+
+-- no line is left up to the next heading
+abbrev pub ends_part : List (List ℕ) → Bool
+ends_part [] = true
+ends_part (line ∷ lines) = is_heading line
+
+-- an empty line is behind a heading that has no line behind it
+abbrev pub with_empty : (line : List ℕ) → (behind filled : List (List ℕ)) → List (List ℕ)
+with_empty line behind filled = if is_heading line && ends_part behind then line ∷ [] ∷ filled else line ∷ filled
+
+-- the lines, with an empty line behind each heading that has no line behind it
+abbrev pub filled : List (List ℕ) → List (List ℕ)
+filled [] = []
+filled (line ∷ lines) = with_empty line lines (filled lines)
+
+-- each line, and LF behind it
+abbrev pub ended : List (List ℕ) → List ℕ
+ended lines = flat_map (λ line. line ++ 10 ∷ []) lines
+
+-- the form of a draft's parts is the closed draft, but for an empty line behind each heading that had none
+pub record IsReformed (d : List ℕ) (ps : List Part) : Type 0 where
+  pub draft : closed d ≡ ended (lines d)
+  pub form_is : form ps ≡ ended (filled (lines d))
+
+abbrev pub FormOfParts : Type 0
+FormOfParts = (d : List ℕ) (ps : List Part) → parts d ≡ Ok ps → IsReformed d ps
+
+-- the title is one, and the text is in UTF-8 and has no heading
+pub record IsPart (p : Part) : Type 0 where
+  pub title : is_title p.title ≡ true
+  pub text : is_utf8 p.text ≡ true
+  pub no_heading : has_heading p.text ≡ false
+
+-- a list of parts reads back from its form
+abbrev pub PartsOfForm : Type 0
+PartsOfForm = (ps : List Part) → All IsPart ps → parts (form ps) ≡ Ok ps

@@ -1,0 +1,18 @@
+//! Laws of drafts: each function takes and answers nothing, and its clauses are the law.
+ghost use Rattle.draft_plan.specs.Laws.{FormOfParts, PartsOfForm};
+ghost use Rattle.draft_plan.specs.Plain.{ArrangedReads};
+
+/// The form of a draft's parts is the draft, but for its last LF and for empty lines behind headings.
+pub fn form_of_parts()
+    ensures { FormOfParts }
+{}
+
+/// A list of parts reads back from its form.
+pub fn parts_of_form()
+    ensures { PartsOfForm }
+{}
+
+/// What is printed of a replica is a draft of the headings and texts that it shows, where no text has a heading.
+pub fn arranged_reads()
+    ensures { ArrangedReads }
+{}
