@@ -4,4 +4,6 @@ pub mod Laws
 pub mod Matching
 pub mod Plain
 pub mod Readings
+pub mod Revision
+pub mod Shaping
 pub mod Texts

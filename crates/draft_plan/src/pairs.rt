@@ -1,58 +1,58 @@
 //! Pairs of sections and parts.
 
-ghost use Rattle.std.specs.Prelude.{◌≡◌, ℕ, IfOk};
-ghost use Rattle.draft_plan.specs.Matching.{ArePairs};
+ghost use Rattle.std.specs.Prelude.{◌≡◌, IfOk};
+ghost use Rattle.draft_plan.specs.Matching.{ArePairs, StayPairs};
 
 use fugue_ids::NoMemory;
 use std::alloc::Global;
 
-/// Pairs of an old part and a new one. No part is in two of them.
+/// Pairs of a section, by its number in the catalogue, and a part of a draft. None is in two of them.
 #[derive(Drop)]
 pub(crate) struct Pairs {
-    /// The old part of each new one.
-    pub(crate) of_new: Vec<Option<usize>>,
-    /// Which old parts have a new one.
+    /// The section of each part.
+    pub(crate) of_part: Vec<Option<usize>>,
+    /// Which sections have a part.
     pub(crate) taken: Vec<bool>,
 }
 
 impl Pairs {
-    /// None of so many old parts and new ones.
-    pub(crate) fn none(alloc: Global, old: usize, new: usize) -> Result<Pairs, NoMemory>
-        ensures { IfOk result (λ pairs. ArePairs old new pairs) }
+    /// None of so many sections and parts.
+    pub(crate) fn none(alloc: Global, sections: usize, parts: usize) -> Result<Pairs, NoMemory>
+        ensures { IfOk result (λ pairs. ArePairs sections parts pairs) }
     {
         Ok(Pairs {
-            of_new: vec![in alloc; None; new]?,
-            taken: vec![in alloc; false; old]?,
+            of_part: vec![in alloc; None; parts]?,
+            taken: vec![in alloc; false; sections]?,
         })
     }
 
-    /// Whether the old part has no pair.
-    pub(crate) fn is_free(&self, old: usize) -> bool {
-        match self.taken.get(old) {
+    /// The section of a part.
+    pub(crate) fn section_of(&self, part: usize) -> Option<usize> {
+        match self.of_part.get(part) {
+            Some(section) => *section,
+            None => None,
+        }
+    }
+
+    /// Whether the section has no part.
+    pub(crate) fn is_free(&self, section: usize) -> bool {
+        match self.taken.get(section) {
             Some(taken) => !*taken,
             None => false,
         }
     }
 
-    /// Whether the new part has no pair.
-    pub(crate) fn is_new(&self, new: usize) -> bool {
-        match self.of_new.get(new) {
-            Some(old) => old.is_none(),
-            None => false,
-        }
-    }
-
-    /// Pairs two parts, unless one of them has a pair.
-    pub(crate) fn add(&mut self, old: usize, new: usize)
-        ensures { (olds news : ℕ) → ArePairs olds news self.old → ArePairs olds news self.new }
+    /// Pairs a section and a part, unless one of them has a pair.
+    pub(crate) fn add(&mut self, section: usize, part: usize)
+        ensures { StayPairs self.old self.new }
     {
-        if old >= self.taken.len() || new >= self.of_new.len() {
+        if section >= self.taken.len() || part >= self.of_part.len() {
             return;
         }
-        if self.taken[old] || self.of_new[new].is_some() {
+        if self.taken[section] || self.of_part[part].is_some() {
             return;
         }
-        self.taken[old] = true;
-        self.of_new[new] = Some(old);
+        self.taken[section] = true;
+        self.of_part[part] = Some(section);
     }
 }

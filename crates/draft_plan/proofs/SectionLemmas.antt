@@ -1,0 +1,98 @@
+-- What one operation more leaves of the sections.
+use Rattle.std.proofs.Common.{Bool, List, [], ap, false, not, refl, sym, true, ◌&&◌, ◌||◌, ◌∙◌, ◌∷◌, ◌≡◌, ◌≢◌}
+use Rattle.std.specs.Prelude.{None, Option, Some, filter, flat_map, is_some}
+use Rattle.std.specs.List.{Contains}
+use Rattle.fugue_ids.specs.Identifiers.{Identifier, id_eq}
+use Rattle.fugue_ids.specs.declared.op.Op.{Op}
+use Rattle.fugue_ids.specs.declared.op.Op.TheVariants.{Delete, Note, Section, Text}
+use Rattle.fugue_ids.proofs.IdentifierLemmas.{ne-id_eq}
+use Rattle.fugue_ids.proofs.ListLemmas.{contains_filter_from}
+use Rattle.std.proofs.lemmas.Bool.{false≢true}
+use Rattle.origin_model.specs.declared.operations.Place.TheVariants.{Catalogue as catalogue, Section as within}
+use Rattle.origin_model.specs.declared.operations.Role.TheVariants.{Section as SectionRole}
+use Rattle.origin_model.specs.operations.History.{holder, holds}
+use Rattle.origin_model.specs.operations.Verdict.{Lawful, fits}
+use Rattle.origin_model.specs.order.Laws.{IsIn}
+use Rattle.origin_model.specs.order.Order.{order}
+use Rattle.origin_model.specs.order.Printed.{deletes, is_hidden, scalar_of, shown, text, title_of}
+use Rattle.origin_model.proofs.SharedLemmas.{order_total}
+use Rattle.catalogue_notes.specs.Arranged.{best, counts, heading, winner}
+use Rattle.catalogue_notes.specs.Claims.{Retitle, retitle_in}
+use Rattle.catalogue_notes.specs.Lift.{is_valid_title, passing, retitles}
+use Rattle.catalogue_notes.proofs.ArrangedLemmas.{shown_is}
+use Rattle.catalogue_notes.proofs.ClaimLemmas.{claim_found, claims-none}
+use Rattle.catalogue_notes.proofs.HolderLemmas.{Joins, cases_option, holder-kept, not_both, same_value}
+use Rattle.catalogue_notes.proofs.LiftLemmas.{passing_from}
+use Rattle.catalogue_notes.proofs.PartLemmas.{filter_same, parts_same}
+use Rattle.catalogue_notes.proofs.RetitleLemmas.{title-kept, title_shape}
+use Rattle.draft_plan.specs.Revision.{retitles_of}
+use Rattle.draft_plan.specs.Shaping.{SameSection}
+
+-- an operation that says no retitle, and deletes none
+pub record IsQuiet (h : List Op) (e : Op) : Type 0 where
+  pub says : retitle_in e ≡ None
+  pub spares : (c : Retitle) → Contains (retitles h) c → deletes c.id e ≡ false
+
+-- what is held has a holder
+pub held_by : (h : List Op) (s : Identifier) → holds h s ≡ true → (f : Op) × (holder h s ≡ Some f)
+held_by h s k = elim (cases_option (holder h s)) [ inl n ↦ absurd (false≢true (sym (ap is_some n) ∙ k)) | inr f ↦ f ]
+
+-- an element that is shown is held
+pub shown_held : (h : List Op) (s x : Identifier) → Lawful h → Contains (shown (within s) h) x → (f : Op) × (holder h x ≡ Some f)
+shown_held h s x w m =
+    let k : IsIn (within s) h x = ((order_total (within s) h w).lists x).1 (contains_filter_from (λ y. not (is_hidden h y)) (order (within s) h) x m).0 in
+    (k.op, k.held)
+
+module _ (h : List Op) (e : Op) (w : Lawful h) (j : Joins h e) where
+  pub held_kept : (s : Identifier) → holds h s ≡ true → holds (e ∷ h) s ≡ true
+  held_kept s k = let f = held_by h s k in ap is_some (holder-kept e f.0 h s j f.1)
+
+  -- a text of the same elements is the same
+  pub text_kept : (s : Identifier) → shown (within s) (e ∷ h) ≡ shown (within s) h → text (e ∷ h) s ≡ text h s
+  text_kept s same =
+      ap (flat_map (λ x. scalar_of (holder (e ∷ h) x))) same
+      ∙ parts_same (λ x. scalar_of (holder (e ∷ h) x)) (λ x. scalar_of (holder h x)) (shown (within s) h)
+      (λ x m. let f = shown_held h s x w m in ap scalar_of (holder-kept e f.0 h x j f.1 ∙ sym f.1))
+
+  pub retitles_kept : IsQuiet h e → retitles (e ∷ h) ≡ retitles h
+  retitles_kept q = claims-none retitle_in is_valid_title e h (ap (passing (is_valid_title h)) q.says)
+
+  won : IsQuiet h e → (s : Identifier) → winner (e ∷ h) s (retitles (e ∷ h)) ≡ winner h s (retitles h)
+  won q s =
+      ap (winner (e ∷ h) s) (retitles_kept q)
+      ∙ ap best (filter_same (counts (e ∷ h) s) (counts h s) (retitles h) (λ c m. ap (λ b. id_eq c.section s && not (b || is_hidden h c.id)) (q.spares c m)))
+
+  -- and so is the heading of what is held
+  pub heading_kept : IsQuiet h e → (s : Identifier) → holds h s ≡ true → heading (e ∷ h) s ≡ heading h s
+  heading_kept q s k =
+      let f = held_by h s k in
+      let title : title_of (holder (e ∷ h) s) ≡ title_of (holder h s) = ap title_of (holder-kept e f.0 h s j f.1 ∙ sym f.1) in
+      λ i. elim (won q s i) [ None ↦ title i | Some r ↦ r.value ]
+
+  pub section_kept : IsQuiet h e → (s : Identifier) → heading (e ∷ h) s ≡ heading h s → shown (within s) (e ∷ h) ≡ shown (within s) h → SameSection h (e ∷ h) s
+  section_kept q s headed same = record {
+    headed = headed;
+    reads = text_kept s same;
+    elements = same;
+    retitled = ap (filter (λ (r : Retitle). id_eq r.section s)) (retitles_kept q);
+  }
+
+-- a Section says no retitle
+no_retitle : (f : Op) → fits SectionRole f ≡ true → retitle_in f ≡ None
+no_retitle (Section i l r t) k = refl
+no_retitle (Text i s l r c) k = refl
+no_retitle (Delete i) k = refl
+no_retitle (Note id named code body) k = absurd (false≢true k)
+
+-- the delete of a section deletes no retitle
+pub delete_quiet : (h : List Op) (s : Identifier) → Lawful h → Contains (shown catalogue h) s → IsQuiet h (Delete s)
+delete_quiet h s w m = record {
+  says = refl;
+  spares = λ c k.
+      let f = shown_is h s w m in
+      let o = claim_found retitle_in is_valid_title (λ e r k. (title_shape e r k).own) title-kept h c w k in
+      let said : retitle_in o.0 ≡ Some c = (passing_from (is_valid_title h) (retitle_in o.0) c o.2).0 in
+      ne-id_eq s c.id (λ d.
+      let same : f.0 ≡ o.0 = same_value (holder h s) f.0 o.0 f.1 (ap (holder h) d ∙ o.1) in
+      not_both (retitle_in o.0) c (ap retitle_in (sym same) ∙ no_retitle f.0 f.2) said);
+}

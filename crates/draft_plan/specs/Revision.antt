@@ -1,0 +1,63 @@
+-- What revising a whole manuscript does to a replica.
+use Rattle.std.specs.Prelude.{◌≡◌, ◌≢◌, ◌⊎◌, ℕ, true, false, List, Result, Ok, Err, filter, length}
+use Rattle.std.specs.List.{Contains}
+use Rattle.fugue_ids.specs.Identifiers.{Identifier, id_eq}
+use Rattle.fugue_ids.specs.declared.op.Op.{Op}
+use Rattle.origin_model.specs.declared.edit_fault.EditFault.TheVariants as edit
+use Rattle.origin_model.specs.declared.operations.Place.TheVariants.{Catalogue as catalogue, Section as within}
+use Rattle.origin_model.specs.edits.State.{State}
+use Rattle.origin_model.specs.operations.History.{holds}
+use Rattle.origin_model.specs.order.Printed.{shown, text}
+use Rattle.catalogue_notes.specs.Arranged.{arranged, heading}
+use Rattle.catalogue_notes.specs.Claims.{Retitle as RetitleClaim}
+use Rattle.catalogue_notes.specs.Lift.{retitles}
+use Rattle.catalogue_notes.specs.declared.moving.MoveFault.TheVariants as moving
+use Rattle.draft_plan.specs.Changes.{Change, Changed, Stops, all_made}
+use Rattle.draft_plan.specs.Drafts.{Part}
+use Rattle.draft_plan.specs.Plain.{arranged_part, arranged_parts}
+use Rattle.draft_plan.specs.Texts.{KeepsElements}
+use Rattle.draft_plan.specs.declared.fault.ReviseFault.{ReviseFault}
+use Rattle.draft_plan.specs.declared.fault.ReviseFault.TheVariants as fault
+
+-- the retitles of a section
+abbrev pub retitles_of : List Op → Identifier → List RetitleClaim
+retitles_of h s = filter (λ (r : RetitleClaim). id_eq r.section s) (retitles h)
+
+-- n operations were made, by changes one after another
+pub record Makes (old new : State) (n : ℕ) : Type 0 where
+  pub changes : List Change
+  pub changed : Changed old new changes
+  pub count : n ≡ length (all_made old changes)
+
+-- a section that is shown before and after keeps the elements in the common front and the common end of its text: all of them where the text is the same; where its heading is the same it is not retitled
+pub record KeepsSection (old new : State) (section : Identifier) : Type 0 where
+  pub elements : KeepsElements old new section
+  pub same_text : text new.held.history section ≡ text old.held.history section
+      → shown (within section) new.held.history ≡ shown (within section) old.held.history
+  pub same_heading : heading new.held.history section ≡ heading old.held.history section
+      → retitles_of new.held.history section ≡ retitles_of old.held.history section
+
+-- the manuscript was revised: as it is arranged, its headings and texts are the parts. A section and a part are matched where the section was shown before and stands at the part's place now. What was shown and has no part is shown no more, and what came for a part without a section is new
+pub record IsRevision (old new : State) (parts : List Part) (n : ℕ) : Type 0 where
+  pub makes : Makes old new n
+  pub reads : arranged_parts new.held.history ≡ parts
+  pub matched : (s : Identifier) → Contains (arranged old.held.history) s → Contains (arranged new.held.history) s → KeepsSection old new s
+  pub came : (s : Identifier) → Contains (arranged new.held.history) s
+      → Contains (arranged old.held.history) s ⊎ (holds old.held.history s ≡ false)
+
+-- where the parts are what is shown, nothing was made
+abbrev pub MakesNothing : (old new : State) → (parts : List Part) → (n : ℕ) → Type 0
+MakesNothing old new parts n = arranged_parts old.held.history ≡ parts → (n ≡ 0) × (new ≡ old)
+
+-- the fault is a limit that was met, or memory was wanting: no section and no position was asked for that is not there
+abbrev pub IsLimit : ReviseFault → Type 0
+IsLimit (fault.Edit edit.NoSection) = ⊥
+IsLimit (fault.Edit edit.OutOfRange) = ⊥
+IsLimit (fault.Move moving.NoSection) = ⊥
+IsLimit (fault.Move moving.NoPlace) = ⊥
+IsLimit why = Unit {0}
+
+-- changes were made up to one that is refused for a limit, or for which memory was wanting
+pub record StopsAtLimit (old new : State) (why : ReviseFault) : Type 0 where
+  pub limit : IsLimit why
+  pub stops : Stops (λ (c : Change). Unit {0}) old new why

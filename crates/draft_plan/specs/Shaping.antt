@@ -1,0 +1,75 @@
+-- What adding, dropping and moving sections does to a replica, and what giving one a title and a text does.
+use Rattle.std.specs.Prelude.{◌≡◌, ◌≢◌, ◌⊎◌, ℕ, ◌<◌, ◌≤◌, true, false, List, Result, Ok, Err, Some, slice_get, slice_index_or}
+use Rattle.std.specs.List.{Contains}
+use Rattle.std.specs.Str.{encode_utf8_all}
+use Rattle.fugue_ids.specs.Identifiers.{Identifier}
+use Rattle.fugue_ids.specs.declared.op.Op.{Op}
+use Rattle.origin_model.specs.declared.operations.Place.TheVariants.{Catalogue as catalogue, Section as within}
+use Rattle.origin_model.specs.edits.State.{State}
+use Rattle.origin_model.specs.operations.History.{holds}
+use Rattle.origin_model.specs.order.Printed.{shown, text}
+use Rattle.catalogue_notes.specs.Arranged.{arranged, heading}
+use Rattle.draft_plan.specs.Drafts.{Part}
+use Rattle.draft_plan.specs.Plain.{arranged_part}
+use Rattle.draft_plan.specs.Revision.{KeepsSection, Makes, MakesNothing, StopsAtLimit, retitles_of}
+use Rattle.draft_plan.specs.declared.fault.ReviseFault.{ReviseFault}
+
+-- a section is as it was: its heading, its text with its elements, and its retitles
+pub record SameSection (old new : List Op) (s : Identifier) : Type 0 where
+  pub headed : heading new s ≡ heading old s
+  pub reads : text new s ≡ text old s
+  pub elements : shown (within s) new ≡ shown (within s) old
+  pub retitled : retitles_of new s ≡ retitles_of old s
+
+-- what was held is held, and the sections are as they were; what is shown was shown before, or is new
+pub record KeepsHeld (old new : List Op) : Type 0 where
+  pub held : (s : Identifier) → holds old s ≡ true → holds new s ≡ true
+  pub same : (s : Identifier) → holds old s ≡ true → SameSection old new s
+  pub came : (s : Identifier) → Contains (shown catalogue new) s → Contains (shown catalogue old) s ⊎ (holds old s ≡ false)
+
+-- n operations were made, which left the sections as they were, but for what is shown and how it is arranged
+pub record IsShaped (old new : State) (n : ℕ) : Type 0 where
+  pub makes : Makes old new n
+  pub keeps : KeepsHeld old.held.history new.held.history
+
+-- how such work ends
+abbrev pub Shapes : (old new : State) → Result ℕ ReviseFault → Type 0
+Shapes old new (Ok n) = IsShaped old new n
+Shapes old new (Err why) = StopsAtLimit old new why
+
+-- the same sections are shown and arranged as before, and all but this one are as they were
+pub record ChangesOnly (old new : List Op) (s : Identifier) : Type 0 where
+  pub catalogue_is : shown catalogue new ≡ shown catalogue old
+  pub arranged_as : arranged new ≡ arranged old
+  pub others : (t : Identifier) → t ≢ s → SameSection old new t
+
+-- n operations were made, after which a section has the title, and the text that it had: none where the title was its heading
+pub record IsHeadedBy (old new : State) (s : Identifier) (title : List ℕ) (n : ℕ) : Type 0 where
+  pub makes : Makes old new n
+  pub only : ChangesOnly old.held.history new.held.history s
+  pub headed : encode_utf8_all (heading new.held.history s) ≡ title
+  pub reads : text new.held.history s ≡ text old.held.history s
+  pub elements : shown (within s) new.held.history ≡ shown (within s) old.held.history
+  pub nothing : encode_utf8_all (heading old.held.history s) ≡ title → (n ≡ 0) × (new ≡ old)
+
+-- n operations were made, after which a section is a part: none where it was
+pub record IsFilled (old new : State) (s : Identifier) (part : Part) (n : ℕ) : Type 0 where
+  pub makes : Makes old new n
+  pub only : ChangesOnly old.held.history new.held.history s
+  pub reads : arranged_part new.held.history s ≡ part
+  pub keeps : KeepsSection old new s
+  pub nothing : arranged_part old.held.history s ≡ part → (n ≡ 0) × (new ≡ old)
+
+-- the section at a place is its part, or is as it was, since the place is still to come
+abbrev pub IsAtPlace : (start now : State) → (parts : List Part) → (place k : ℕ) → Identifier → Type 0
+IsAtPlace start now parts place k s =
+    (k < place → (arranged_part now.held.history s ≡ slice_index_or parts k (arranged_part now.held.history s)) × KeepsSection start now s)
+    × (place ≤ k → SameSection start.held.history now.held.history s)
+
+-- n operations were made, after which the sections up to a place are their parts
+pub record AreFilled (start now : State) (parts : List Part) (place n : ℕ) : Type 0 where
+  pub makes : Makes start now n
+  pub catalogue_is : shown catalogue now.held.history ≡ shown catalogue start.held.history
+  pub arranged_as : arranged now.held.history ≡ arranged start.held.history
+  pub each : (k : ℕ) (s : Identifier) → slice_get (arranged start.held.history) k ≡ Some s → IsAtPlace start now parts place k s
+  pub nothing : MakesNothing start now parts n

@@ -1,0 +1,184 @@
+//! A whole manuscript, revised until it is a draft.
+
+ghost use Rattle.std.specs.Prelude.{◌≡◌, IfErr, IfOk, IsTrue, Some, length, map, string_bytes};
+ghost use Rattle.std.specs.Str.{encode_utf8_all};
+ghost use Rattle.origin_model.specs.edits.Refusal.{section_shown};
+ghost use Rattle.origin_model.specs.edits.State.{Stands};
+ghost use Rattle.origin_model.specs.taking.Taking.{IsSettled};
+ghost use Rattle.catalogue_notes.specs.Arranged.{heading};
+ghost use Rattle.catalogue_notes.specs.Moving.{section_placed};
+ghost use Rattle.catalogue_notes.specs.Outlining.{IsOutline};
+ghost use Rattle.draft_plan.specs.Plain.{first_not_plain};
+ghost use Rattle.draft_plan.specs.Readings.{seen_part};
+ghost use Rattle.draft_plan.specs.Revision.{IsRevision, MakesNothing, StopsAtLimit};
+ghost use Rattle.draft_plan.specs.Shaping.{IsFilled, IsHeadedBy};
+
+use crate::draft::Draft;
+use crate::fault::ReviseFault;
+use crate::part::Part;
+use crate::revising::revise_text;
+use crate::shaping::{shape, title_of};
+use catalogue_notes::{Entry, outline, retitle};
+use fugue_ids::NoMemory;
+use replica_core::Replica;
+use std::alloc::Global;
+
+/// Revises what the replica shows until it is the draft. Answers how many operations that took.
+///
+/// Sections with equal headings are matched with parts first, then those with similar texts. A matched section is
+/// moved and retitled only where it has to be, and its text is changed only where it differs.
+pub fn revise(
+    alloc: Global,
+    replica: &mut Replica,
+    draft: &Draft<'_>,
+) -> Result<u32, ReviseFault>
+    requires { IsSettled replica.old.held }
+    ensures revised { IfOk result (λ n. IsRevision replica.old replica.new draft.now n) }
+    ensures same { IfOk result (λ n. MakesNothing replica.old replica.new draft.now n) }
+    ensures stops { IfErr result (λ why. StopsAtLimit replica.old replica.new why) }
+    ensures settled { IsSettled replica.new.held }
+    ensures stands { Stands replica.new }
+{
+    let parts = draft.parts();
+    let outline = outline(alloc, replica)?;
+    if has_titles(outline.entries(), parts) {
+        return fill(alloc, replica, outline.entries(), parts);
+    }
+    let shaped = shape(alloc, replica, outline.entries(), parts)?;
+    let filled = fill_shaped(alloc, replica, parts)?;
+    Ok(shaped + filled)
+}
+
+/// Whether the headings are the titles of the parts.
+fn has_titles(entries: &[Entry], parts: &[Part<'_>]) -> bool
+    ensures count { IsTrue result → length entries.now ≡ length parts.now }
+    ensures other { map (λ e. string_bytes e.heading) entries.now ≡ map (λ p. p.title.now) parts.now → IsTrue result }
+{
+    if entries.len() != parts.len() {
+        return false;
+    }
+    'entries: for (j, entry) in entries.iter().enumerate() {
+        if entry.heading.as_str() != parts[j].title {
+            return false;
+        }
+    }
+    true
+}
+
+/// Gives the sections the titles and the texts of the parts, where there are as many of them.
+fn fill_shaped(
+    alloc: Global,
+    replica: &mut Replica,
+    parts: &[Part<'_>],
+) -> Result<u32, ReviseFault>
+    requires settled { IsSettled replica.old.held }
+    requires stands { Stands replica.old }
+    requires count { length (arranged replica.old.held.history) ≡ length parts.now }
+    ensures revised { IfOk result (λ n. IsRevision replica.old replica.new (map seen_part parts.now) n) }
+    ensures stops { IfErr result (λ why. StopsAtLimit replica.old replica.new why) }
+    ensures settled { IsSettled replica.new.held }
+    ensures stands { Stands replica.new }
+{
+    let outline = outline(alloc, replica)?;
+    fill(alloc, replica, outline.entries(), parts)
+}
+
+/// Gives each section, as they are arranged, the title and the text of its part.
+fn fill(
+    alloc: Global,
+    replica: &mut Replica,
+    entries: &[Entry],
+    parts: &[Part<'_>],
+) -> Result<u32, ReviseFault>
+    requires settled { IsSettled replica.old.held }
+    requires stands { Stands replica.old }
+    requires outline { IsOutline replica.old.held.history entries.now }
+    requires count { length entries.now ≡ length parts.now }
+    ensures revised { IfOk result (λ n. IsRevision replica.old replica.new (map seen_part parts.now) n) }
+    ensures same { IfOk result (λ n. MakesNothing replica.old replica.new (map seen_part parts.now) n) }
+    ensures stops { IfErr result (λ why. StopsAtLimit replica.old replica.new why) }
+    ensures settled { IsSettled replica.new.held }
+    ensures stands { Stands replica.new }
+{
+    let mut made = 0;
+    'parts: for (place, part) in parts.iter().enumerate() {
+        made += fill_section(alloc, replica, place, &entries[place], part)?;
+    }
+    Ok(made)
+}
+
+/// Gives a section the title and the text of a part.
+fn fill_section(
+    alloc: Global,
+    replica: &mut Replica,
+    place: usize,
+    entry: &Entry,
+    part: &Part<'_>,
+) -> Result<u32, ReviseFault>
+    requires settled { IsSettled replica.old.held }
+    requires stands { Stands replica.old }
+    requires placed { section_placed replica.old place ≡ Some entry.now.section }
+    requires numbered { section_shown replica.old entry.now.number ≡ Some entry.now.section }
+    requires headed { string_bytes entry.now.heading
+        ≡ encode_utf8_all (heading replica.old.held.history entry.now.section) }
+    ensures filled { IfOk result
+        (λ n. IsFilled replica.old replica.new entry.now.section (seen_part part.now) n) }
+    ensures stops { IfErr result (λ why. StopsAtLimit replica.old replica.new why) }
+    ensures settled { IsSettled replica.new.held }
+    ensures stands { Stands replica.new }
+{
+    let retitled = retitle_other(alloc, replica, place, entry, part.title)?;
+    let revised = revise_text(alloc, replica, entry.number, part.text)?;
+    Ok(retitled + revised)
+}
+
+/// Gives a section a title, unless that is its heading.
+fn retitle_other(
+    alloc: Global,
+    replica: &mut Replica,
+    place: usize,
+    entry: &Entry,
+    title: &str,
+) -> Result<u32, ReviseFault>
+    requires settled { IsSettled replica.old.held }
+    requires stands { Stands replica.old }
+    requires placed { section_placed replica.old place ≡ Some entry.now.section }
+    requires headed { string_bytes entry.now.heading
+        ≡ encode_utf8_all (heading replica.old.held.history entry.now.section) }
+    ensures titled { IfOk result (λ n. IsHeadedBy replica.old replica.new entry.now.section title.now n) }
+    ensures stops { IfErr result (λ why. StopsAtLimit replica.old replica.new why) }
+    ensures settled { IsSettled replica.new.held }
+    ensures stands { Stands replica.new }
+{
+    if entry.heading.as_str() == title {
+        return Ok(0);
+    }
+    let title = title_of(alloc, title)?;
+    Ok(retitle(alloc, replica, place, title)?)
+}
+
+/// The first section, as they are arranged from 0, whose text has a line that would be read as a heading.
+pub fn heading_in_text(alloc: Global, replica: &Replica) -> Result<Option<usize>, NoMemory>
+    ensures found { IfOk result (λ found. found ≡ first_not_plain replica.now.held.history) }
+    ensures stands { Stands replica.now }
+{
+    let outline = outline(alloc, replica)?;
+    'sections: for (place, entry) in outline.entries().iter().enumerate() {
+        if has_heading(replica, entry.number)? {
+            return Ok(Some(place));
+        }
+    }
+    Ok(None)
+}
+
+/// Whether the text of a section has a line that would be read as a heading.
+fn has_heading(replica: &Replica, section: usize) -> Result<bool, NoMemory>
+    ensures { IfOk result (λ found. Some found ≡ option_map
+        (λ s. has_heading_in (encode_utf8_all (text_on replica.now.held.history s))) (section_shown replica.now section)) }
+    requires { section < length (shown catalogue replica.now.held.history) }
+{
+    match replica.text_of(section)? {
+        Some(text) => Ok(is_headed(text.as_str().as_bytes())),
+        None => Ok(false),
+    }
+}
