@@ -1,7 +1,9 @@
+pub mod Changes
 pub mod Differences
 pub mod Drafts
 pub mod Laws
 pub mod Matching
 pub mod Plain
 pub mod Readings
+pub mod Revising
 pub mod Texts
