@@ -147,6 +147,7 @@ module _ (s : Identifier) (h ops : List Op) (w : Lawful h) (a : AreOfText s h op
     sections = same;
     arranged_as = λ i. flat_map (λ x. filter (λ t. id_eq (position_by t (same_mover t i)) x) (same i)) (order catalogue (same_lift ops h a.kind i));
     headings = λ t i. elim (same_titler t i) [ None ↦ same_titles ops h t a.kind a.ready i | Some r ↦ r.value ];
+    retitled = same_retitles ops h a.kind;
     stamps = λ i. max (greatest (map (λ (m : Move). m.stamp) (same_moves ops h a.kind i))) (greatest (map (λ (r : Retitle). r.stamp) (same_retitles ops h a.kind i)));
   }
 

@@ -38,6 +38,10 @@ history_is old new ops g = ap (λ (s : State). s.held.history) g.others
 one_edit : (k : ℕ) (command : Command) → EditsText k (Edit command) → All (EditsText k) (Edit command ∷ [])
 one_edit k command e = All-cons (EditsText k) (Edit command) [] e (All-nil (EditsText k))
 
+-- another section is another place
+other_place : (t s : Identifier) → t ≢ s → within t ≢ within s
+other_place t s n e = let d : t ≡ s = cc e in n d
+
 -- a cut that was made
 module _ (old new : State) (k at n count : ℕ) (x : Identifier) (w : Lawful old.held.history) (e : section_shown old k ≡ Some x)
     (exact : RefusesExactly old (Cut k at n) (Ok count)) (made : IsMade old new (Cut k at n) count) where
@@ -57,6 +61,8 @@ module _ (old new : State) (k at n count : ℕ) (x : Identifier) (w : Lawful old
         count = made.count ∙ sym (count_one old (Edit (Cut k at n)));
         here = ap (λ g. text g x) cut_is ∙ edit.here;
         elsewhere = λ t d. ap (λ g. text g t) cut_is ∙ edit.elsewhere t d;
+        others = λ t d. ap (shown (within t)) cut_is
+            ∙ (cut_takes old.number old.held.history old.held.waiting k at n x w e).0.elsewhere (within t) (other_place t x d);
         keeps = subst (KeepsArrangement old.held.history) (sym cut_is) (cut_keeps old.number old.held.history old.held.waiting k at n x w e);
       }
 
@@ -79,6 +85,8 @@ module _ (old new : State) (k at count : ℕ) (chs : List ℕ) (x : Identifier) 
         count = made.count ∙ sym (count_one old (Edit (Put k at chs)));
         here = ap (λ g. text g x) put_is ∙ edit.here;
         elsewhere = λ t d. ap (λ g. text g t) put_is ∙ edit.elsewhere t d;
+        others = λ t d. ap (shown (within t)) put_is
+            ∙ (put_lands old.number old.held.history old.held.waiting k at chs x w e within_text).0.elsewhere (within t) (other_place t x d);
         keeps = subst (KeepsArrangement old.held.history) (sym put_is) (put_keeps old.number old.held.history old.held.waiting k at chs x w e within_text);
       }
 
@@ -87,6 +95,7 @@ keeps_join a b c first next = record {
   sections = next.sections ∙ first.sections;
   arranged_as = next.arranged_as ∙ first.arranged_as;
   headings = λ t. next.headings t ∙ first.headings t;
+  retitled = next.retitled ∙ first.retitled;
   stamps = next.stamps ∙ first.stamps;
 }
 
@@ -98,6 +107,7 @@ revised_join old mid new k x a b n m first next = record {
   count = omega (arith, first.count, next.count, count_join old mid first.changes next.changes first.changed);
   here = next.here;
   elsewhere = λ t d. next.elsewhere t d ∙ first.elsewhere t d;
+  others = λ t d. next.others t d ∙ first.others t d;
   keeps = keeps_join old.held.history mid.held.history new.held.history first.keeps next.keeps;
 }
 
@@ -110,7 +120,8 @@ revised_none s k x = record {
   count = refl;
   here = refl;
   elsewhere = λ t d. refl;
-  keeps = record { sections = refl; arranged_as = refl; headings = λ t. refl; stamps = refl };
+  others = λ t d. refl;
+  keeps = record { sections = refl; arranged_as = refl; headings = λ t. refl; retitled = refl; stamps = refl };
 }
 
 -- so many operations there are

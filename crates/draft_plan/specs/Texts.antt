@@ -10,7 +10,7 @@ use Rattle.origin_model.specs.edits.Edits.{Command, Put, Cut}
 use Rattle.origin_model.specs.edits.State.{State}
 use Rattle.origin_model.specs.order.Printed.{shown, text}
 use Rattle.catalogue_notes.specs.Arranged.{arranged, heading}
-use Rattle.catalogue_notes.specs.Lift.{stamp}
+use Rattle.catalogue_notes.specs.Lift.{retitles, stamp}
 use Rattle.draft_plan.specs.Changes.{Change, Changed, Edit, Stops, all_made}
 use Rattle.draft_plan.specs.declared.fault.ReviseFault.TheVariants as fault
 
@@ -20,15 +20,16 @@ EditsText k (Edit (Put j at new)) = j ≡ k
 EditsText k (Edit (Cut j at n)) = j ≡ k
 EditsText k change = ⊥
 
--- the same sections are shown, arranged so, under the same headings, and the next stamp is the same
+-- the same sections are shown, arranged so, under the same headings by the same retitles, and the next stamp is the same
 pub record KeepsArrangement (old new : List Op) : Type 0 where
   pub sections : shown catalogue new ≡ shown catalogue old
   pub arranged_as : arranged new ≡ arranged old
   pub headings : (t : Identifier) → heading new t ≡ heading old t
+  pub retitled : retitles new ≡ retitles old
   pub stamps : stamp new ≡ stamp old
 
--- n operations were made, those of puts and cuts in this section, after which it reads so; the other sections read as
--- before, and all are arranged as before
+-- n operations were made, those of puts and cuts in this section, after which it reads so; the other sections read and
+-- show what they did, and all are arranged as before
 pub record IsRevised (old new : State) (k : ℕ) (section : Identifier) (reads : List ℕ) (n : ℕ) : Type 0 where
   pub changes : List Change
   pub edits : All (EditsText k) changes
@@ -36,6 +37,7 @@ pub record IsRevised (old new : State) (k : ℕ) (section : Identifier) (reads :
   pub count : n ≡ length (all_made old changes)
   pub here : text new.held.history section ≡ reads
   pub elsewhere : (t : Identifier) → t ≢ section → text new.held.history t ≡ text old.held.history t
+  pub others : (t : Identifier) → t ≢ section → shown (within t) new.held.history ≡ shown (within t) old.held.history
   pub keeps : KeepsArrangement old.held.history new.held.history
 
 -- how many scalars two texts have in common at their front
