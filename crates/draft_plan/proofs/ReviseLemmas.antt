@@ -1,58 +1,85 @@
 -- The text of a section, revised hunk by hunk.
-use Rattle.std.proofs.Common.{List, [], ap, drop, get_or, length, nat_eq, refl, subst, sym, take, ℕ, ◌+◌, ◌++◌, ◌<◌, ◌∙◌, ◌∷◌, ◌≡◌}
+use Rattle.std.proofs.Common.{List, [], ap, drop, get_or, length, nat_eq, refl, subst, sym, take, ℕ, ◌+◌, ◌++◌, ◌<◌, ◌≤◌, ◌∙◌, ◌∷◌, ◌≡◌}
 use Rattle.std.specs.Prelude.{None, Option, Some, option_map, slice_get}
 use Rattle.std.specs.Str.{IsUtf8, chars, encode_utf8_all}
 use Rattle.std.proofs.lemmas.Option.{none-some, same_Some}
 use lib.Utf8.{encode}
 use Rattle.std.proofs.lemmas.List.{append-nil, take_more}
+use Rattle.std.proofs.lemmas.List.Elements.{All-tail}
 use Rattle.std.proofs.lemmas.Str.{encodes-append, encodes-chars, encodes_same}
 use Rattle.fugue_ids.specs.Identifiers.{Identifier}
 use Rattle.origin_model.specs.edits.Edits.{spliced}
 use Rattle.origin_model.specs.edits.Effect.{OfSection}
 use Rattle.origin_model.specs.edits.Refusal.{section_shown}
 use Rattle.origin_model.specs.edits.State.{State}
+use Rattle.origin_model.specs.operations.Verdict.{Lawful}
 use Rattle.origin_model.specs.order.Printed.{text}
-use Rattle.text_diff.specs.Hunks.{Transforms, replaced}
+use Rattle.origin_model.proofs.edits.EditedTextLemmas.{text_length}
+use Rattle.text_diff.specs.Hunks.{IsTrimmed, Transforms, replaced}
 use Rattle.text_diff.specs.declared.hunk.Hunk.{Hunk}
-use Rattle.draft_plan.specs.Texts.{IsRevised}
-use Rattle.draft_plan.proofs.HunkLemmas.{ordered_at, replaced_step}
-use Rattle.draft_plan.proofs.TextLemmas.{revised_join, revised_none}
+use Rattle.draft_plan.specs.Revising.{AreHunksMade, EndsBy, IsHunkMade, IsWithinText, StaysAround, elements}
+use Rattle.draft_plan.specs.Texts.{IsRevised, KeepsCommon, KeepsElements}
+use Rattle.draft_plan.proofs.HunkLemmas.{AreOrdered, ordered_at, replaced_long, replaced_step}
+use Rattle.draft_plan.proofs.KeptLemmas.{same_common, stays_common, stays_more, stays_none}
+use Rattle.draft_plan.proofs.TextLemmas.{revised_join, revised_none, still_there}
 
 same_section : (s : State) (k : ℕ) (x y : Identifier) → section_shown s k ≡ Some x → section_shown s k ≡ Some y → x ≡ y
 same_section s k x y e f = same_Some x y (sym e ∙ f)
 
 -- no hunk was made yet
 pub hunks_none : (s : State) (k n : ℕ) (hs : List Hunk) (new : List ℕ) → OfSection s k (λ x. Transforms nat_eq (text s.held.history x) new hs) → drop n hs ≡ []
-    → OfSection s k (λ x. IsRevised s s x (replaced (text s.held.history x) new 0 (drop n hs)) 0)
+    → OfSection s k (λ x. AreHunksMade s s k x (drop n hs) new 0)
 hunks_none s k n hs new t e =
-    (t.0, t.1, subst (λ (h : List Hunk). IsRevised s s t.0 (replaced (text s.held.history t.0) new 0 h) 0) (sym e) (revised_none s t.0))
-
--- one hunk more was made
-pub hunks_more : (old mid now : State) (k left made n : ℕ) (hs : List Hunk) (new : List ℕ) (h : Hunk)
-    → OfSection old k (λ x. Transforms nat_eq (text old.held.history x) new hs)
-    → OfSection old k (λ x. IsRevised old mid x (replaced (text old.held.history x) new 0 (drop (left + 1) hs)) made)
-    → drop left hs ≡ h ∷ drop (left + 1) hs
-    → OfSection mid k (λ x. IsRevised mid now x (spliced (text mid.held.history x) h.old_at h.old_len (take h.new_len (drop h.new_at new))) n)
-    → OfSection old k (λ x. IsRevised old now x (replaced (text old.held.history x) new 0 (drop left hs)) (made + n))
-hunks_more old mid now k left made n hs new h t done e next =
-    let x : Identifier = done.0 in
-    let old_text : List ℕ = text old.held.history x in
-    let put : List ℕ = take h.new_len (drop h.new_at new) in
-    let back : List Hunk = drop (left + 1) hs in
-    let transforms : Transforms nat_eq old_text new hs =
-    subst (λ (y : Identifier). Transforms nat_eq (text old.held.history y) new hs) (same_section old k t.0 x t.1 done.1) t.2 in
-    let there : section_shown mid k ≡ Some x = ap (λ xs. slice_get xs k) done.2.sections ∙ done.1 in
-    let one : IsRevised mid now x (spliced (text mid.held.history x) h.old_at h.old_len put) n =
-    subst (λ (y : Identifier). IsRevised mid now y (spliced (text mid.held.history y) h.old_at h.old_len put) n) (same_section mid k next.0 x next.1 there) next.2 in
-    let ordered = ordered_at old_text new hs back left h transforms e in
-    let is : spliced (text mid.held.history x) h.old_at h.old_len put ≡ replaced old_text new 0 (drop left hs) =
-    ap (λ r. spliced r h.old_at h.old_len put) done.2.here ∙ replaced_step old_text new ordered.0 h back ordered.1 ∙ ap (replaced old_text new 0) (sym e) in
     (
-      x,
-      done.1,
-      subst (λ (r : List ℕ). IsRevised old now x r (made + n)) is
-      (revised_join old mid now x (replaced old_text new 0 back) (spliced (text mid.held.history x) h.old_at h.old_len put) made n done.2 one),
+      t.0,
+      t.1,
+      subst (λ (h : List Hunk). AreHunksMade s s k t.0 h new 0) (sym e) (record {
+        revised = revised_none s k t.0;
+        stays = λ end l ends. stays_none (elements s t.0) end;
+      }),
     )
+
+-- the hunks that are made, and the next one
+module _ (old mid : State) (k left made : ℕ) (hs : List Hunk) (new : List ℕ) (h : Hunk) (t : OfSection old k (λ x. Transforms nat_eq (text old.held.history x) new hs))
+    (done : OfSection old k (λ x. AreHunksMade old mid k x (drop (left + 1) hs) new made)) (e : drop left hs ≡ h ∷ drop (left + 1) hs) where
+  abbrev x : Identifier
+  x = done.0
+
+  abbrev old_text : List ℕ
+  old_text = text old.held.history x
+
+  abbrev back : List Hunk
+  back = drop (left + 1) hs
+
+  abbrev put : List ℕ
+  put = take h.new_len (drop h.new_at new)
+
+  ordered : (p : ℕ) × AreOrdered old_text p (h ∷ back)
+  ordered =
+      let transforms : Transforms nat_eq old_text new hs = subst (λ (y : Identifier). Transforms nat_eq (text old.held.history y) new hs) (same_section old k t.0 x t.1 done.1) t.2 in
+      ordered_at old_text new hs back left h transforms e
+
+  there : section_shown mid k ≡ Some x
+  there = still_there old mid k x (replaced old_text new 0 back) made done.2.revised done.1
+
+  -- it lies within the text as it is
+  pub next_within : IsWithinText mid k (h.old_at + h.old_len)
+  next_within = (x, there, subst (λ (r : List ℕ). h.old_at + h.old_len ≤ length r) (sym done.2.revised.here) (replaced_long old_text new ordered.0 h back ordered.1))
+
+  -- one hunk more was made
+  pub hunks_more : (now : State) (n : ℕ) → OfSection mid k (λ x. IsHunkMade mid now k x h new n) → OfSection old k (λ x. AreHunksMade old now k x (drop left hs) new (made + n))
+  hunks_more now n next =
+      let one : IsHunkMade mid now k x h new n = subst (λ (y : Identifier). IsHunkMade mid now k y h new n) (same_section mid k next.0 x next.1 there) next.2 in
+      let reads : spliced (text mid.held.history x) h.old_at h.old_len put ≡ replaced old_text new 0 (h ∷ back) =
+      ap (λ r. spliced r h.old_at h.old_len put) done.2.revised.here ∙ replaced_step old_text new ordered.0 h back ordered.1 in
+      let more : AreHunksMade old now k x (h ∷ back) new (made + n) = record {
+        revised = subst (λ (r : List ℕ). IsRevised old now k x r (made + n)) reads
+            (revised_join old mid now k x (replaced old_text new 0 back) (spliced (text mid.held.history x) h.old_at h.old_len put) made n done.2.revised one.revised);
+        stays = λ end l ends. subst (StaysAround h.old_at end (elements old x)) (sym one.shows)
+            (stays_more old_text (elements old x) (elements mid x) one.come ordered.0 end h back ordered.1 l ends
+            (done.2.stays end l (All-tail (EndsBy end) h back ends)));
+      } in
+      (x, done.1, subst (λ (r : List Hunk). AreHunksMade old now k x r new (made + n)) (sym e) more)
 
 -- the text of a section that is shown
 found_in : (f : Identifier → List ℕ) (o : Option Identifier) (bytes : List ℕ) → Some bytes ≡ option_map f o → (x : Identifier) × (o ≡ Some x) × (bytes ≡ f x)
@@ -81,20 +108,40 @@ pub text_transforms : (s : State) (k : ℕ) (bytes new : List ℕ) (hs : List Hu
 text_transforms s k bytes new hs t h = (t.section, t.shown, subst (λ (r : List ℕ). Transforms nat_eq r new hs) (sym t.is) h)
 
 -- all of them were made
-pub text_revised : (old now : State) (k n : ℕ) (bytes new : List ℕ) (hs : List Hunk) → IsTextAt old k bytes → replaced (chars bytes) new 0 hs ≡ new
-    → OfSection old k (λ x. IsRevised old now x (replaced (text old.held.history x) new 0 hs) n) → OfSection old k (λ x. IsRevised old now x new n)
-text_revised old now k n bytes new hs t e r =
-    let same : text old.held.history r.0 ≡ chars bytes = ap (text old.held.history) (same_section old k r.0 t.section r.1 t.shown) ∙ t.is in
-    (r.0, r.1, subst (λ (reads : List ℕ). IsRevised old now r.0 reads n) (ap (λ o. replaced o new 0 hs) same ∙ e) r.2)
+module _ (old now : State) (k n : ℕ) (bytes new : List ℕ) (hs : List Hunk) (t : IsTextAt old k bytes) (e : replaced (chars bytes) new 0 hs ≡ new) (r : OfSection old k (λ x. AreHunksMade old now k x hs new n)) where
+  old_is : text old.held.history r.0 ≡ chars bytes
+  old_is = ap (text old.held.history) (same_section old k r.0 t.section r.1 t.shown) ∙ t.is
+
+  all_revised : IsRevised old now k r.0 new n
+  all_revised = subst (λ (reads : List ℕ). IsRevised old now k r.0 reads n) (ap (λ o. replaced o new 0 hs) old_is ∙ e) r.2.revised
+
+  pub text_revised : OfSection old k (λ x. IsRevised old now k x new n)
+  text_revised = (r.0, r.1, all_revised)
+
+  pub text_keeps : Lawful old.held.history → IsTrimmed nat_eq (chars bytes) new hs → (chars bytes ≡ new → ⊥) → OfSection old k (λ x. KeepsElements old now x)
+  text_keeps w trimmed other =
+      let kept : KeepsCommon (chars bytes) new (elements old r.0) (elements now r.0) =
+      stays_common (chars bytes) new (elements old r.0) (elements now r.0) hs (sym (ap length old_is) ∙ text_length old.held.history r.0 w) trimmed other e r.2.stays in
+      (r.0, r.1, subst (λ (o : List ℕ). KeepsCommon o (text now.held.history r.0) (elements old r.0) (elements now r.0)) (sym old_is)
+        (subst (λ (o : List ℕ). KeepsCommon (chars bytes) o (elements old r.0) (elements now r.0)) (sym all_revised.here) kept))
 
 -- the text is the same
-pub text_same : (s : State) (k : ℕ) (bytes : List ℕ) → IsTextAt s k bytes → OfSection s k (λ x. IsRevised s s x (chars bytes) 0)
-text_same s k bytes t = (t.section, t.shown, subst (λ (r : List ℕ). IsRevised s s t.section r 0) t.is (revised_none s t.section))
+pub text_same : (s : State) (k : ℕ) (bytes : List ℕ) → IsTextAt s k bytes → OfSection s k (λ x. IsRevised s s k x (chars bytes) 0)
+text_same s k bytes t = (t.section, t.shown, subst (λ (r : List ℕ). IsRevised s s k t.section r 0) t.is (revised_none s k t.section))
+
+pub text_kept : (s : State) (k : ℕ) (bytes : List ℕ) → Lawful s.held.history → IsTextAt s k bytes → OfSection s k (λ x. KeepsElements s s x)
+text_kept s k bytes w t = (t.section, t.shown, same_common (text s.held.history t.section) (elements s t.section) (text_length s.held.history t.section w))
+
+pub text_unmade : (s : State) (k : ℕ) (bytes : List ℕ) → IsTextAt s k bytes → OfSection s k (λ x. encode_utf8_all (text s.held.history x) ≡ bytes → (0 ≡ 0) × (s ≡ s))
+text_unmade s k bytes t = (t.section, t.shown, λ e. (refl, refl))
 
 -- the text is another
 pub text_other : (old now : State) (k n : ℕ) (bytes new : List ℕ) → IsTextAt old k bytes → (bytes ≡ new → ⊥)
     → OfSection old k (λ x. encode_utf8_all (text old.held.history x) ≡ new → (n ≡ 0) × (now ≡ old))
 text_other old now k n bytes new t other = (t.section, t.shown, λ e. absurd (other (t.encoded ∙ e)))
+
+pub other_scalars : (bytes new : List ℕ) → IsUtf8 bytes → IsUtf8 new → (bytes ≡ new → ⊥) → chars bytes ≡ chars new → ⊥
+other_scalars bytes new u v other e = other (sym (encodes-chars bytes u) ∙ ap encode_utf8_all e ∙ encodes-chars new v)
 
 pub text_none : (f : Identifier → List ℕ) (o : Option Identifier) → None ≡ option_map f o → o ≡ None
 text_none f None e = refl

@@ -1,111 +1,141 @@
 -- Cuts and puts in the text of one section, one after another.
-use Rattle.std.proofs.Common.{List, [], ap, append_assoc, arith, cond, drop, false, inl, inr, length, length-append, nat_lt, refl, subst, sym, take, true, ℕ, ◌+◌, ◌++◌, ◌-◌, ◌<◌, ◌≤◌, ◌∙◌, ◌∷◌, ◌≡◌, ◌≢◌, ◌⊎◌}
-use Rattle.std.specs.Prelude.{Option, Some, None, Result, Ok, Err, slice_get}
+use Rattle.std.proofs.Common.{Bool, List, [], ap, arith, cond, drop, false, length, length-append, refl, subst, sym, take, true, ℕ, ◌+◌, ◌++◌, ◌≤◌, ◌∙◌, ◌∷◌, ◌≡◌, ◌≢◌}
+use Rattle.std.specs.Prelude.{All, Option, Some, None, Ok, Err, slice_get}
 use Rattle.std.proofs.Math.Seq.{drop-append_seam, take-append_seam}
-use Rattle.std.proofs.lemmas.Bool.{cases_lt, lt-ltb}
+use Rattle.std.proofs.lemmas.Bool.{le-ltb}
 use Rattle.std.proofs.lemmas.List.{append-nil, length-reverse, length-take-le}
+use Rattle.std.proofs.lemmas.List.Elements.{All-append, All-cons, All-nil}
+use Rattle.std.proofs.lemmas.Option.{none-some, same_Some}
 use Rattle.fugue_ids.specs.Identifiers.{Identifier}
 use Rattle.fugue_ids.specs.declared.limits.TheConstants.{MOST_OPERATIONS}
 use Rattle.fugue_ids.specs.declared.op.Op.{Op}
 use Rattle.origin_model.specs.declared.edit_fault.EditFault.{EditFault}
 use Rattle.origin_model.specs.declared.edit_fault.EditFault.TheVariants.{IdsSpent, NoMemory, NoSection, OutOfRange, TooMany}
-use Rattle.origin_model.specs.declared.operations.Place.{Place}
-use Rattle.origin_model.specs.declared.operations.Place.TheVariants.{Catalogue as catalogue, Section as within}
-use Rattle.origin_model.specs.edits.Edits.{Command, Cut, IsEdit, Put, extended, spliced}
-use Rattle.origin_model.specs.edits.Effect.{Gains, IsMade, LeavesUnmade, OfSection, StopsPartly, with_ops}
-use Rattle.origin_model.specs.edits.Refusal.{RefusesExactly, made_by, refusal_message, section_shown, shown_count}
+use Rattle.origin_model.specs.declared.operations.Place.TheVariants.{Section as within}
+use Rattle.origin_model.specs.edits.Edits.{Command, Cut, Put, extended, spliced}
+use Rattle.origin_model.specs.edits.Effect.{Gains, IsMade, LeavesUnmade, OfSection}
+use Rattle.origin_model.specs.edits.Refusal.{RefusesExactly, in_range, in_section, made_by, put_ids, refusal_message, refused_elements, refused_ops, section_shown, shown_count}
 use Rattle.origin_model.specs.edits.State.{Stands, State}
 use Rattle.origin_model.specs.operations.History.{accepted}
 use Rattle.origin_model.specs.operations.Verdict.{Lawful}
 use Rattle.origin_model.specs.order.Printed.{shown, text}
 use Rattle.origin_model.proofs.edits.CutLemmas.{cut_takes}
 use Rattle.origin_model.proofs.edits.EditedTextLemmas.{cut_erases, put_writes, text_length}
-use Rattle.origin_model.proofs.edits.MadeLemmas.{extended-append}
 use Rattle.origin_model.proofs.edits.PutLemmas.{put_lands}
-use Rattle.draft_plan.specs.Texts.{IsRevised, StopsEditing}
+use Rattle.text_diff.specs.declared.hunk.Hunk.{Hunk}
+use Rattle.draft_plan.specs.Changes.{Edit, all_made}
+use Rattle.draft_plan.specs.Revising.{IsHunkMade, IsLimit, IsWithinText, elements}
+use Rattle.draft_plan.specs.Texts.{EditsText, IsRevised, KeepsArrangement, StopsEditing}
+use Rattle.draft_plan.specs.declared.fault.ReviseFault.TheVariants as revise_fault
+use Rattle.draft_plan.proofs.ArrangementLemmas.{cut_keeps, put_keeps}
+use Rattle.draft_plan.proofs.ChangeLemmas.{changed_edit, changed_join, changed_none, count_join, count_one, stops_after, stops_edit, stops_first}
 
 -- the history after operations
 history_is : (old new : State) (ops : List Op) → Gains old new ops → new.held.history ≡ extended old.held.history ops
 history_is old new ops g = ap (λ (s : State). s.held.history) g.others
 
--- operations, and then others
-pub gains_join : (old mid new : State) (ops more : List Op) → Gains old mid ops → Gains mid new more → Gains old new (ops ++ more)
-gains_join old mid new ops more first next = record {
-  accepted_are = next.accepted_are ∙ ap (λ l. l ++ more) first.accepted_are ∙ append_assoc (accepted old.held.history) ops more;
-  others = next.others ∙ ap (λ s. with_ops s more) first.others
-      ∙ ap (λ h. record old { held = record { history = h; waiting = old.held.waiting } }) (sym (extended-append old.held.history ops more));
+-- an edit of the section alone
+one_edit : (k : ℕ) (command : Command) → EditsText k (Edit command) → All (EditsText k) (Edit command ∷ [])
+one_edit k command e = All-cons (EditsText k) (Edit command) [] e (All-nil (EditsText k))
+
+-- another section is another place
+other_place : (t s : Identifier) → t ≢ s → within t ≢ within s
+other_place t s n e = let d : t ≡ s = cc e in n d
+
+-- a cut that was made
+module _ (old new : State) (k at n count : ℕ) (x : Identifier) (w : Lawful old.held.history) (e : section_shown old k ≡ Some x)
+    (exact : RefusesExactly old (Cut k at n) (Ok count)) (made : IsMade old new (Cut k at n) count) where
+  cut_is : new.held.history ≡ extended old.held.history (made_by old (Cut k at n))
+  cut_is = history_is old new (made_by old (Cut k at n)) made.gained
+
+  pub cut_shows : elements new x ≡ spliced (elements old x) at n []
+  cut_shows = ap (shown (within x)) cut_is ∙ (cut_takes old.number old.held.history old.held.waiting k at n x w e).0.here
+
+  pub cut_revised : IsRevised old new k x (spliced (text old.held.history x) at n []) count
+  cut_revised =
+      let edit = cut_erases old.number old.held.history old.held.waiting k at n x w e in
+      record {
+        changes = Edit (Cut k at n) ∷ [];
+        edits = one_edit k (Cut k at n) refl;
+        changed = changed_edit old new (Cut k at n) count exact made;
+        count = made.count ∙ sym (count_one old (Edit (Cut k at n)));
+        here = ap (λ g. text g x) cut_is ∙ edit.here;
+        elsewhere = λ t d. ap (λ g. text g t) cut_is ∙ edit.elsewhere t d;
+        others = λ t d. ap (shown (within t)) cut_is
+            ∙ (cut_takes old.number old.held.history old.held.waiting k at n x w e).0.elsewhere (within t) (other_place t x d);
+        keeps = subst (KeepsArrangement old.held.history) (sym cut_is) (cut_keeps old.number old.held.history old.held.waiting k at n x w e);
+      }
+
+-- a put that was made in a text
+module _ (old new : State) (k at count : ℕ) (chs : List ℕ) (x : Identifier) (w : Lawful old.held.history) (e : section_shown old k ≡ Some x) (within_text : at ≤ length (elements old x))
+    (exact : RefusesExactly old (Put k at chs) (Ok count)) (made : IsMade old new (Put k at chs) count) where
+  put_is : new.held.history ≡ extended old.held.history (made_by old (Put k at chs))
+  put_is = history_is old new (made_by old (Put k at chs)) made.gained
+
+  pub put_shows : elements new x ≡ spliced (elements old x) at 0 (put_ids old chs)
+  put_shows = ap (shown (within x)) put_is ∙ (put_lands old.number old.held.history old.held.waiting k at chs x w e within_text).0.here
+
+  pub put_revised : IsRevised old new k x (spliced (text old.held.history x) at 0 chs) count
+  put_revised =
+      let edit = put_writes old.number old.held.history old.held.waiting k at chs x w e within_text in
+      record {
+        changes = Edit (Put k at chs) ∷ [];
+        edits = one_edit k (Put k at chs) refl;
+        changed = changed_edit old new (Put k at chs) count exact made;
+        count = made.count ∙ sym (count_one old (Edit (Put k at chs)));
+        here = ap (λ g. text g x) put_is ∙ edit.here;
+        elsewhere = λ t d. ap (λ g. text g t) put_is ∙ edit.elsewhere t d;
+        others = λ t d. ap (shown (within t)) put_is
+            ∙ (put_lands old.number old.held.history old.held.waiting k at chs x w e within_text).0.elsewhere (within t) (other_place t x d);
+        keeps = subst (KeepsArrangement old.held.history) (sym put_is) (put_keeps old.number old.held.history old.held.waiting k at chs x w e within_text);
+      }
+
+keeps_join : (a b c : List Op) → KeepsArrangement a b → KeepsArrangement b c → KeepsArrangement a c
+keeps_join a b c first next = record {
+  sections = next.sections ∙ first.sections;
+  arranged_as = next.arranged_as ∙ first.arranged_as;
+  headings = λ t. next.headings t ∙ first.headings t;
+  retitled = next.retitled ∙ first.retitled;
+  stamps = next.stamps ∙ first.stamps;
 }
 
-gains_none : (s : State) → Gains s s []
-gains_none s = record { accepted_are = sym (append-nil (accepted s.held.history)); others = refl }
-
-no_catalogue : (s : Identifier) → catalogue ≢ within s
-no_catalogue s e = cc e
-
-pub cut_revised : (old new : State) (k at n count : ℕ) (x : Identifier) → Lawful old.held.history → section_shown old k ≡ Some x → IsMade old new (Cut k at n) count
-    → IsRevised old new x (spliced (text old.held.history x) at n []) count
-cut_revised old new k at n count x w e made =
-    let h : List Op = old.held.history in
-    let ops : List Op = made_by old (Cut k at n) in
-    let is = history_is old new ops made.gained in
-    let edit = cut_erases old.number h old.held.waiting k at n x w e in
-    let takes = (cut_takes old.number h old.held.waiting k at n x w e).0 in
-    record {
-      ops = ops;
-      gained = made.gained;
-      count = made.count;
-      here = ap (λ g. text g x) is ∙ edit.here;
-      elsewhere = λ t d. ap (λ g. text g t) is ∙ edit.elsewhere t d;
-      sections = ap (shown catalogue) is ∙ takes.elsewhere catalogue (no_catalogue x);
-    }
-
-no_error : {T E : Type 0} {x : T} {f : E} → Ok x ≡ Err f → ⊥
-no_error e = cc e
-
-no_memory : OutOfRange ≢ NoMemory
-no_memory e = cc e
-
--- a put that was made stands within the text
-put_within : (old : State) (k at n : ℕ) (new : List ℕ) (x : Identifier) → RefusesExactly old (Put k at new) (Ok n) → section_shown old k ≡ Some x → at ≤ length (shown (within x) old.held.history)
-put_within old k at n new x refused e =
-    elim (cases_lt (shown_count old (within x)) at) [
-      | inl l ↦ absurd (no_error ((refused OutOfRange no_memory).1 (rw (e, lt-ltb (shown_count old (within x)) at l) refl)))
-      | inr g ↦ g
-    ]
-
-pub put_revised : (old new : State) (k at count : ℕ) (chs : List ℕ) (x : Identifier) → Lawful old.held.history → section_shown old k ≡ Some x
-    → RefusesExactly old (Put k at chs) (Ok count) → IsMade old new (Put k at chs) count → IsRevised old new x (spliced (text old.held.history x) at 0 chs) count
-put_revised old new k at count chs x w e refused made =
-    let h : List Op = old.held.history in
-    let ops : List Op = made_by old (Put k at chs) in
-    let is = history_is old new ops made.gained in
-    let in_text = put_within old k at count chs x refused e in
-    let edit = put_writes old.number h old.held.waiting k at chs x w e in_text in
-    let lands = (put_lands old.number h old.held.waiting k at chs x w e in_text).0 in
-    record {
-      ops = ops;
-      gained = made.gained;
-      count = made.count;
-      here = ap (λ g. text g x) is ∙ edit.here;
-      elsewhere = λ t d. ap (λ g. text g t) is ∙ edit.elsewhere t d;
-      sections = ap (shown catalogue) is ∙ lands.elsewhere catalogue (no_catalogue x);
-    }
-
-pub revised_join : (old mid new : State) (x : Identifier) (a b : List ℕ) (n m : ℕ) → IsRevised old mid x a n → IsRevised mid new x b m → IsRevised old new x b (n + m)
-revised_join old mid new x a b n m first next = record {
-  ops = first.ops ++ next.ops;
-  gained = gains_join old mid new first.ops next.ops first.gained next.gained;
-  count = omega (arith, first.count, next.count, length-append first.ops next.ops);
+pub revised_join : (old mid new : State) (k : ℕ) (x : Identifier) (a b : List ℕ) (n m : ℕ) → IsRevised old mid k x a n → IsRevised mid new k x b m → IsRevised old new k x b (n + m)
+revised_join old mid new k x a b n m first next = record {
+  changes = first.changes ++ next.changes;
+  edits = All-append (EditsText k) first.changes next.changes first.edits next.edits;
+  changed = changed_join old mid new first.changes next.changes first.changed next.changed;
+  count = omega (arith, first.count, next.count, count_join old mid first.changes next.changes first.changed);
   here = next.here;
   elsewhere = λ t d. next.elsewhere t d ∙ first.elsewhere t d;
-  sections = next.sections ∙ first.sections;
+  others = λ t d. next.others t d ∙ first.others t d;
+  keeps = keeps_join old.held.history mid.held.history new.held.history first.keeps next.keeps;
 }
 
+-- nothing was made yet
+pub revised_none : (s : State) (k : ℕ) (x : Identifier) → IsRevised s s k x (text s.held.history x) 0
+revised_none s k x = record {
+  changes = [];
+  edits = All-nil (EditsText k);
+  changed = changed_none s;
+  count = refl;
+  here = refl;
+  elsewhere = λ t d. refl;
+  others = λ t d. refl;
+  keeps = record { sections = refl; arranged_as = refl; headings = λ t. refl; retitled = refl; stamps = refl };
+}
+
+-- so many operations there are
+pub revised_few : (old new : State) (k : ℕ) (x : Identifier) (r : List ℕ) (n : ℕ) → IsRevised old new k x r n → Stands new → n ≤ MOST_OPERATIONS
+revised_few old new k x r n i st =
+    let ops : List Op = all_made old i.changes in
+    let long : length (accepted new.held.history) ≡ length (accepted old.held.history) + length ops = ap length i.changed.gained.accepted_are ∙ length-append (accepted old.held.history) ops in
+    omega (arith, long, i.count, length-reverse new.held.history, st.few, st.most_within.1)
+
 -- what was cut and what was put in its place
-pub spliced_again : (xs new : List ℕ) (at n : ℕ) → at ≤ length xs → spliced (spliced xs at n []) at 0 new ≡ spliced xs at n new
-spliced_again xs new at n h =
-    let front : List ℕ = take at xs in
-    let rest : List ℕ = drop (at + n) xs in
+spliced_again : {X : Type 0} (xs new : List X) (at n : ℕ) → at ≤ length xs → spliced (spliced xs at n []) at 0 new ≡ spliced xs at n new
+spliced_again {X} xs new at n h =
+    let front : List X = take at xs in
+    let rest : List X = drop (at + n) xs in
     let once : spliced xs at n [] ≡ front ++ rest = ap (λ l. l ++ rest) (append-nil front) in
     let long : at ≡ length front = sym (length-take-le at xs h) in
     let past : at + 0 ≡ length front = omega (arith, long) in
@@ -113,13 +143,12 @@ spliced_again xs new at n h =
     let behind : drop (at + 0) (spliced xs at n []) ≡ rest = (λ j. drop (past j) (once j)) ∙ drop-append_seam front rest in
     λ j. before j ++ new ++ behind j
 
--- a cut that was made stands within the text
-cut_within : (old : State) (k at n count : ℕ) (x : Identifier) → RefusesExactly old (Cut k at n) (Ok count) → section_shown old k ≡ Some x → at + n ≤ length (shown (within x) old.held.history)
-cut_within old k at n count x refused e =
-    elim (cases_lt (shown_count old (within x)) (at + n)) [
-      | inl l ↦ absurd (no_error ((refused OutOfRange no_memory).1 (rw (e, lt-ltb (shown_count old (within x)) (at + n) l) refl)))
-      | inr g ↦ g
-    ]
+-- a text is as long as before the cut up to there
+still_within : {X : Type 0} (xs : List X) (at n : ℕ) → at ≤ length xs → at ≤ length (spliced xs at n [])
+still_within {X} xs at n h =
+    let front : List X = take at xs in
+    let rest : List X = drop (at + n) xs in
+    omega (arith, length-take-le at xs h, length-append (front ++ []) rest, length-append front ([] {A = X}))
 
 -- a section in which a cut was made, and then a put at the same position
 pub record IsCutAndPut (old mid new : State) (k at n cut put : ℕ) (chs : List ℕ) : Type 0 where
@@ -130,56 +159,99 @@ pub record IsCutAndPut (old mid new : State) (k at n cut put : ℕ) (chs : List 
   pub puts : RefusesExactly mid (Put k at chs) (Ok put)
   pub put_made : IsMade mid new (Put k at chs) put
 
-pub hunk_revised : (old mid new : State) (k at n cut put : ℕ) (chs : List ℕ) (x : Identifier) → section_shown old k ≡ Some x → IsCutAndPut old mid new k at n cut put chs
-    → IsRevised old new x (spliced (text old.held.history x) at n chs) (cut + put)
-hunk_revised old mid new k at n cut put chs x e i =
+-- what lies within a text lies within what is shown
+in_elements : (s : State) (x : Identifier) (end : ℕ) → Lawful s.held.history → end ≤ length (text s.held.history x) → end ≤ length (elements s x)
+in_elements s x end w l = omega (arith, l, text_length s.held.history x w)
+
+pub still_there : (old mid : State) (k : ℕ) (x : Identifier) (r : List ℕ) (n : ℕ) → IsRevised old mid k x r n → section_shown old k ≡ Some x → section_shown mid k ≡ Some x
+still_there old mid k x r n i e = ap (λ xs. slice_get xs k) i.keeps.sections ∙ e
+
+pub hunk_made : (old mid new : State) (k cut put : ℕ) (h : Hunk) (scalars chs : List ℕ) → IsWithinText old k (h.old_at + h.old_len) → chs ≡ take h.new_len (drop h.new_at scalars)
+    → IsCutAndPut old mid new k h.old_at h.old_len cut put chs → OfSection old k (λ x. IsHunkMade old new k x h scalars (cut + put))
+hunk_made old mid new k cut put h scalars chs l is i =
+    let at : ℕ = h.old_at in
+    let n : ℕ = h.old_len in
+    let x : Identifier = l.0 in
+    let e : section_shown old k ≡ Some x = l.1 in
     let old_text : List ℕ = text old.held.history x in
-    let first = cut_revised old mid k at n cut x i.lawful e i.cut_made in
-    let there : section_shown mid k ≡ Some x = ap (λ xs. slice_get xs k) first.sections ∙ e in
-    let next = put_revised mid new k at put chs x i.then_lawful there i.puts i.put_made in
-    let whole : at ≤ length old_text = omega (arith, cut_within old k at n cut x i.cuts e, text_length old.held.history x i.lawful) in
-    let is : spliced (text mid.held.history x) at 0 chs ≡ spliced old_text at n chs = ap (λ t. spliced t at 0 chs) first.here ∙ spliced_again old_text chs at n whole in
-    subst (λ r. IsRevised old new x r (cut + put)) is (revised_join old mid new x (spliced old_text at n []) (spliced (text mid.held.history x) at 0 chs) cut put first next)
+    let whole : at ≤ length old_text = omega (arith, l.2) in
+    let here : at ≤ length (elements old x) = in_elements old x at i.lawful whole in
+    let first = cut_revised old mid k at n cut x i.lawful e i.cuts i.cut_made in
+    let left = cut_shows old mid k at n cut x i.lawful e i.cuts i.cut_made in
+    let there : section_shown mid k ≡ Some x = still_there old mid k x (spliced old_text at n []) cut first e in
+    let still : at ≤ length (elements mid x) = subst (λ (xs : List Identifier). at ≤ length xs) (sym left) (still_within (elements old x) at n here) in
+    let next = put_revised mid new k at put chs x i.then_lawful there still i.puts i.put_made in
+    let come : List Identifier = put_ids mid chs in
+    let reads : spliced (text mid.held.history x) at 0 chs ≡ spliced old_text at n (take h.new_len (drop h.new_at scalars)) =
+    ap (λ t. spliced t at 0 chs) first.here ∙ spliced_again old_text chs at n whole ∙ ap (spliced old_text at n) is in
+    (
+      x,
+      e,
+      record {
+        come = come;
+        shows = put_shows mid new k at put chs x i.then_lawful there still i.puts i.put_made ∙ ap (λ xs. spliced xs at 0 come) left ∙ spliced_again (elements old x) come at n here;
+        revised = subst (λ r. IsRevised old new k x r (cut + put)) reads
+            (revised_join old mid new k x (spliced old_text at n []) (spliced (text mid.held.history x) at 0 chs) cut put first next);
+      },
+    )
 
--- nothing was made yet
-pub revised_none : (s : State) (x : Identifier) → IsRevised s s x (text s.held.history x) 0
-revised_none s x = record {
-  ops = [];
-  gained = gains_none s;
-  count = refl;
-  here = refl;
-  elsewhere = λ t d. refl;
-  sections = refl;
-}
+-- the cut of a hunk was refused, or stopped
+pub cut_stops : (old new : State) (k at n : ℕ) (why : EditFault) → LeavesUnmade old new (Cut k at n) why → RefusesExactly old (Cut k at n) (Err why) → StopsEditing old new k why
+cut_stops old new k at n why left exact = stops_edit (EditsText k) old new (Cut k at n) why refl left exact
 
--- so many operations there are
-pub revised_few : (old new : State) (x : Identifier) (r : List ℕ) (n : ℕ) → IsRevised old new x r n → Stands new → n ≤ MOST_OPERATIONS
-revised_few old new x r n i st =
-    let long : length (accepted new.held.history) ≡ length (accepted old.held.history) + length i.ops = ap length i.gained.accepted_are ∙ length-append (accepted old.held.history) i.ops in
-    omega (arith, long, i.count, length-reverse new.held.history, st.few, st.most_within.1)
+-- the put behind it
+pub put_stops : (old mid new : State) (k at n cut : ℕ) (chs : List ℕ) (why : EditFault) → RefusesExactly old (Cut k at n) (Ok cut) → IsMade old mid (Cut k at n) cut
+    → LeavesUnmade mid new (Put k at chs) why → RefusesExactly mid (Put k at chs) (Err why) → StopsEditing old new k why
+put_stops old mid new k at n cut chs why cuts made left exact =
+    stops_after (EditsText k) old mid new (Edit (Cut k at n) ∷ []) (revise_fault.Edit why) (one_edit k (Cut k at n) refl) (changed_edit old mid (Cut k at n) cut cuts made)
+    (stops_edit (EditsText k) mid new (Put k at chs) why refl left exact)
 
-refused_stops : (old new : State) (command : Command) (fault : EditFault) → new ≡ old → refusal_message old command ≡ Some fault → StopsEditing old new fault
-refused_stops old new command fault e r = record {
-  ops = [];
-  gained = subst (λ (s : State). Gains old s []) (sym e) (gains_none old);
-  cause = inr (command, ap (λ (s : State). refusal_message s command) e ∙ r);
-}
+-- what is there is refused only where a limit is met
+limit_ops : (b : Bool) (held : ℕ) (why : EditFault) → cond b (Some (TooMany held)) None ≡ Some why → IsLimit why
+limit_ops true held why e = subst IsLimit (same_Some (TooMany held) why e) tt
+limit_ops false held why e = absurd (none-some why e)
 
--- an edit that was refused, or stopped
-pub edit_stops : (old new : State) (command : Command) (fault : EditFault) → LeavesUnmade old new command fault → RefusesExactly old command (Err fault) → StopsEditing old new fault
-edit_stops old new command NoMemory l r = record { ops = take l.count (made_by old command); gained = l.gained; cause = inl refl }
-edit_stops old new command NoSection l r = refused_stops old new command NoSection l ((r NoSection (λ e. cc e)).0 refl)
-edit_stops old new command OutOfRange l r = refused_stops old new command OutOfRange l ((r OutOfRange (λ e. cc e)).0 refl)
-edit_stops old new command (IdsSpent n) l r = refused_stops old new command (IdsSpent n) l ((r (IdsSpent n) (λ e. cc e)).0 refl)
-edit_stops old new command (TooMany n) l r = refused_stops old new command (TooMany n) l ((r (TooMany n) (λ e. cc e)).0 refl)
+limit_elements : (b : Bool) (n : ℕ) (other : Option EditFault) (why : EditFault) → (other ≡ Some why → IsLimit why) → cond b (Some (IdsSpent n)) other ≡ Some why → IsLimit why
+limit_elements true n other why k e = subst IsLimit (same_Some (IdsSpent n) why e) tt
+limit_elements false n other why k e = k e
 
--- edits, and then a stop
-pub stops_join : (old mid new : State) (x : Identifier) (r : List ℕ) (n : ℕ) (fault : EditFault) → IsRevised old mid x r n → StopsEditing mid new fault → StopsEditing old new fault
-stops_join old mid new x r n fault i s = record { ops = i.ops ++ s.ops; gained = gains_join old mid new i.ops s.ops i.gained s.gained; cause = s.cause }
+-- the first cause, where there is the section and the position
+first_cause : (s : State) (k position : ℕ) (x : Identifier) (causes : Identifier → Option EditFault) (why : EditFault) → section_shown s k ≡ Some x → position ≤ length (elements s x)
+    → in_section (section_shown s k) (λ y. in_range position (shown_count s (within y)) (causes y)) ≡ Some why → causes x ≡ Some why
+first_cause s k position x causes why e l refused =
+    let found = ap (λ o. in_section o (λ y. in_range position (shown_count s (within y)) (causes y))) e in
+    let fits = ap (λ b. cond b (Some OutOfRange) (causes x)) (le-ltb (shown_count s (within x)) position l) in
+    sym fits ∙ sym found ∙ refused
 
--- memory was wanting between two edits
-pub stops_between : (old mid : State) (x : Identifier) (r : List ℕ) (n : ℕ) → IsRevised old mid x r n → StopsEditing old mid NoMemory
-stops_between old mid x r n i = record { ops = i.ops; gained = i.gained; cause = inl refl }
+by_cause : (s : State) (command : Command) (why : EditFault) → RefusesExactly s command (Err why) → ((f : EditFault) → refusal_message s command ≡ Some f → IsLimit f) → IsLimit why
+by_cause s command NoMemory exact limit = tt
+by_cause s command why exact limit = limit why ((exact why (λ e. cc e)).0 refl)
 
-pub stops_first : (s : State) → StopsEditing s s NoMemory
-stops_first s = record { ops = []; gained = gains_none s; cause = inl refl }
+pub cut_limit : (s : State) (k at n : ℕ) (why : EditFault) → Lawful s.held.history → IsWithinText s k (at + n) → RefusesExactly s (Cut k at n) (Err why) → IsLimit why
+cut_limit s k at n why w l exact =
+    by_cause s (Cut k at n) why exact
+    (λ f refused. limit_ops _ _ f (first_cause s k (at + n) l.0 (λ y. refused_ops s n) f l.1 (in_elements s l.0 (at + n) w l.2) refused))
+
+put_limit : (s : State) (k at : ℕ) (chs : List ℕ) (x : Identifier) (why : EditFault) → section_shown s k ≡ Some x → at ≤ length (elements s x) → RefusesExactly s (Put k at chs) (Err why) → IsLimit why
+put_limit s k at chs x why e l exact =
+    by_cause s (Put k at chs) why exact
+    (λ f refused. limit_elements _ _ (refused_ops s (length chs)) f (limit_ops _ _ f) (first_cause s k at x (λ y. refused_elements s (length chs)) f e l refused))
+
+-- so is the put behind a cut
+pub put_behind_limit : (old mid : State) (k at n cut : ℕ) (chs : List ℕ) (why : EditFault) → Lawful old.held.history → IsWithinText old k (at + n)
+    → RefusesExactly old (Cut k at n) (Ok cut) → IsMade old mid (Cut k at n) cut → RefusesExactly mid (Put k at chs) (Err why) → IsLimit why
+put_behind_limit old mid k at n cut chs why w l cuts made exact =
+    let x : Identifier = l.0 in
+    let whole : at ≤ length (text old.held.history x) = omega (arith, l.2) in
+    let first = cut_revised old mid k at n cut x w l.1 cuts made in
+    let still : at ≤ length (elements mid x) =
+    subst (λ (xs : List Identifier). at ≤ length xs) (sym (cut_shows old mid k at n cut x w l.1 cuts made)) (still_within (elements old x) at n (in_elements old x at w whole)) in
+    put_limit mid k at chs x why (still_there old mid k x (spliced (text old.held.history x) at n []) cut first l.1) still exact
+
+-- hunks were made, and then the edits stopped
+pub revised_stops : (old mid new : State) (k n : ℕ) (x : Identifier) (r : List ℕ) (why : EditFault) → IsRevised old mid k x r n → StopsEditing mid new k why → StopsEditing old new k why
+revised_stops old mid new k n x r why i stops = stops_after (EditsText k) old mid new i.changes (revise_fault.Edit why) i.edits i.changed stops
+
+-- memory was wanting before anything was made
+pub wanting_first : (s : State) (k : ℕ) → StopsEditing s s k NoMemory
+wanting_first s k = stops_first (EditsText k) s

@@ -1,3 +1,4 @@
+pub mod Changes
 pub mod Differences
 pub mod Drafts
 pub mod Laws
@@ -5,5 +6,6 @@ pub mod Matching
 pub mod Plain
 pub mod Readings
 pub mod Revision
+pub mod Revising
 pub mod Shaping
 pub mod Texts

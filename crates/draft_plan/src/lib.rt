@@ -3,6 +3,7 @@
 
 mod differences;
 mod draft;
+mod fault;
 mod laws;
 mod pairs;
 mod part;
@@ -13,7 +14,7 @@ mod tests;
 
 pub use differences::first_difference;
 pub use draft::{Draft, DraftFault};
+pub use fault::ReviseFault;
 pub use laws::{arranged_reads, form_of_parts, parts_of_form};
 pub use part::Part;
 pub use revising::revise_text;
-

@@ -1,14 +1,15 @@
 //! The text of one section, revised by cuts and puts.
 
-ghost use Rattle.std.specs.Prelude.{◌≡◌, ◌+◌, ◌≤◌, IfErr, IfOk, drop, length, nat_eq, string_bytes, take};
+ghost use Rattle.std.specs.Prelude.{◌≡◌, ◌≢◌, ◌↔◌, ◌+◌, ◌≤◌, IfErr, IfOk, Err, None, OnOk, length, nat_eq, string_bytes};
 ghost use Rattle.std.specs.Str.{chars, encode_utf8_all};
-ghost use Rattle.origin_model.specs.edits.Edits.{spliced};
 ghost use Rattle.origin_model.specs.edits.Effect.{OfSection};
+ghost use Rattle.origin_model.specs.edits.Refusal.{section_shown};
 ghost use Rattle.origin_model.specs.edits.State.{Stands};
 ghost use Rattle.origin_model.specs.order.Printed.{text as text_on};
 ghost use Rattle.origin_model.specs.taking.Taking.{IsSettled};
-ghost use Rattle.text_diff.specs.Hunks.{Transforms, replaced};
-ghost use Rattle.draft_plan.specs.Texts.{IsRevised, StopsEditing, StopsRevising};
+ghost use Rattle.text_diff.specs.Hunks.{Transforms};
+ghost use Rattle.draft_plan.specs.Revising.{AreHunksMade, IsHunkMade, IsLimit, IsWithinText};
+ghost use Rattle.draft_plan.specs.Texts.{IsRevised, KeepsElements, StopsEditing, StopsRevising};
 
 use fugue_ids::NoMemory;
 use origin_model::EditFault;
@@ -46,17 +47,17 @@ fn revise_hunk(
 ) -> Result<u32, EditFault>
     requires settled { IsSettled replica.old.held }
     requires stands { Stands replica.old }
-    requires within { hunk.new_at + hunk.new_len ≤ length new.now }
-    ensures revised { IfOk result (λ n. OfSection replica.old section (λ x. IsRevised replica.old replica.new x
-        (spliced (text_on replica.old.held.history x) hunk.old_at hunk.old_len
-        (take hunk.new_len (drop hunk.new_at new.now))) n)) }
-    ensures stops { IfErr result (λ fault. StopsEditing replica.old replica.new fault) }
+    requires old { IsWithinText replica.old section (hunk.old_at + hunk.old_len) }
+    requires new { hunk.new_at + hunk.new_len ≤ length new.now }
+    ensures made { IfOk result (λ n. OfSection replica.old section
+        (λ x. IsHunkMade replica.old replica.new section x hunk new.now n)) }
+    ensures stops { IfErr result (λ fault. StopsEditing replica.old replica.new section fault) }
+    ensures limits { IfErr result (λ fault. IsLimit fault) }
     ensures settled { IsSettled replica.new.held }
     ensures stands { Stands replica.new }
 {
+    let text = text_of(alloc, &new[hunk.new_at..hunk.new_at + hunk.new_len])?;
     let cut = replica.cut(section, hunk.old_at, hunk.old_len)?;
-    let range = &new[hunk.new_at..hunk.new_at + hunk.new_len];
-    let text = text_of(alloc, range)?;
     let put = replica.put(section, hunk.old_at, text.as_str())?;
     Ok(cut + put)
 }
@@ -73,9 +74,10 @@ fn revise_hunks(
     requires stands { Stands replica.old }
     requires hunks { OfSection replica.old section (λ x.
         Transforms nat_eq (text_on replica.old.held.history x) new.now hunks.now) }
-    ensures revised { IfOk result (λ n. OfSection replica.old section (λ x. IsRevised replica.old replica.new x
-        (replaced (text_on replica.old.held.history x) new.now 0 hunks.now) n)) }
-    ensures stops { IfErr result (λ fault. StopsEditing replica.old replica.new fault) }
+    ensures made { IfOk result (λ n. OfSection replica.old section
+        (λ x. AreHunksMade replica.old replica.new section x hunks.now new.now n)) }
+    ensures stops { IfErr result (λ fault. StopsEditing replica.old replica.new section fault) }
+    ensures limits { IfErr result (λ fault. IsLimit fault) }
     ensures settled { IsSettled replica.new.held }
     ensures stands { Stands replica.new }
 {
@@ -89,7 +91,7 @@ fn revise_hunks(
 }
 
 /// Revises the shown text of the section with so many shown ones before it, and answers how many operations that took.
-/// Only what differs is cut and put, by lines and words; where the text is the same nothing is made.
+/// Only what differs is cut and put, by lines and words.
 pub fn revise_text(
     alloc: Global,
     replica: &mut Replica,
@@ -98,9 +100,12 @@ pub fn revise_text(
 ) -> Result<u32, EditFault>
     requires { IsSettled replica.old.held }
     ensures revised { IfOk result (λ n. OfSection replica.old section
-        (λ x. IsRevised replica.old replica.new x (chars new.now) n)) }
+        (λ x. IsRevised replica.old replica.new section x (chars new.now) n)) }
+    ensures keeps { OnOk result (OfSection replica.old section (λ x. KeepsElements replica.old replica.new x)) }
     ensures same { IfOk result (λ n. OfSection replica.old section (λ x.
         encode_utf8_all (text_on replica.old.held.history x) ≡ new.now → (n ≡ 0) × (replica.new ≡ replica.old))) }
+    ensures absent { (result ≡ Err EditFault.NoSection) ↔ (section_shown replica.old section ≡ None) }
+    ensures in_range { result ≢ Err EditFault.OutOfRange }
     ensures stops { IfErr result (λ fault. StopsRevising replica.old replica.new section fault) }
     ensures settled { IsSettled replica.new.held }
     ensures stands { Stands replica.new }

@@ -1,0 +1,57 @@
+use catalogue_notes::MoveFault;
+use fugue_ids::NoMemory;
+use origin_model::EditFault;
+use std::error::Error;
+use std::fmt;
+
+/// Why a revision stopped: an edit, or a move or retitle, was refused, or memory was wanting.
+#[derive(Clone, Copy, Debug, PartialEq, Eq)]
+pub enum ReviseFault {
+    Edit(EditFault),
+    Move(MoveFault),
+}
+
+impl fmt::Display for ReviseFault {
+    fn fmt<W: fmt::Write>(&self, f: &mut fmt::Formatter<W>) -> fmt::Result {
+        match self {
+            ReviseFault::Edit(fault) => write!(f, "{fault}"),
+            ReviseFault::Move(fault) => write!(f, "{fault}"),
+        }
+    }
+}
+
+impl Error for ReviseFault {}
+
+impl From<EditFault> for ReviseFault {
+    ghost use Rattle.std.specs.Prelude.{◌≡◌};
+    ghost use Rattle.draft_plan.specs.declared.fault.ReviseFault.TheVariants.{Edit as edit};
+
+    ghost from_gives = { λ fault e. e ≡ edit fault };
+
+    fn from(fault: EditFault) -> ReviseFault {
+        ReviseFault::Edit(fault)
+    }
+}
+
+impl From<MoveFault> for ReviseFault {
+    ghost use Rattle.std.specs.Prelude.{◌≡◌};
+    ghost use Rattle.draft_plan.specs.declared.fault.ReviseFault.TheVariants.{Move as moving};
+
+    ghost from_gives = { λ fault e. e ≡ moving fault };
+
+    fn from(fault: MoveFault) -> ReviseFault {
+        ReviseFault::Move(fault)
+    }
+}
+
+impl From<NoMemory> for ReviseFault {
+    ghost use Rattle.std.specs.Prelude.{◌≡◌};
+    ghost use Rattle.origin_model.specs.declared.edit_fault.EditFault.TheVariants.{NoMemory as no_memory};
+    ghost use Rattle.draft_plan.specs.declared.fault.ReviseFault.TheVariants.{Edit as edit};
+
+    ghost from_gives = { λ _ e. e ≡ edit no_memory };
+
+    fn from(_e: NoMemory) -> ReviseFault {
+        ReviseFault::Edit(EditFault::NoMemory)
+    }
+}
