@@ -12,3 +12,8 @@ pub mod HunkLemmas
 pub mod CommonEndLemmas
 pub mod KeptLemmas
 pub mod ReviseLemmas
+pub mod SectionLemmas
+pub mod MakingLemmas
+pub mod ShapeLemmas
+pub mod FillLemmas
+pub mod RevisionLemmas

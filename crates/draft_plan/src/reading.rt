@@ -31,7 +31,7 @@ fn split_line(text: &[u8]) -> (&[u8], &[u8])
     }
 }
 
-fn is_heading(line: &[u8]) -> bool
+pub(crate) fn is_heading(line: &[u8]) -> bool
     ensures is { result ≡ is_heading_in line.now }
     ensures bound { IsTrue result → 2 ≤ length line.now }
 {

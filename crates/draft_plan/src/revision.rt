@@ -5,10 +5,9 @@ ghost use Rattle.std.specs.Str.{encode_utf8_all};
 ghost use Rattle.origin_model.specs.edits.Refusal.{section_shown};
 ghost use Rattle.origin_model.specs.edits.State.{Stands};
 ghost use Rattle.origin_model.specs.taking.Taking.{IsSettled};
-ghost use Rattle.catalogue_notes.specs.Arranged.{heading};
+ghost use Rattle.catalogue_notes.specs.Arranged.{arranged, heading};
 ghost use Rattle.catalogue_notes.specs.Moving.{section_placed};
 ghost use Rattle.catalogue_notes.specs.Outlining.{IsOutline};
-ghost use Rattle.draft_plan.specs.Plain.{first_not_plain};
 ghost use Rattle.draft_plan.specs.Readings.{seen_part};
 ghost use Rattle.draft_plan.specs.Revision.{IsRevision, MakesNothing, StopsAtLimit};
 ghost use Rattle.draft_plan.specs.Shaping.{IsFilled, IsHeadedBy};
@@ -19,7 +18,6 @@ use crate::part::Part;
 use crate::revising::revise_text;
 use crate::shaping::{shape, title_of};
 use catalogue_notes::{Entry, outline, retitle};
-use fugue_ids::NoMemory;
 use replica_core::Replica;
 use std::alloc::Global;
 
@@ -155,30 +153,4 @@ fn retitle_other(
     }
     let title = title_of(alloc, title)?;
     Ok(retitle(alloc, replica, place, title)?)
-}
-
-/// The first section, as they are arranged from 0, whose text has a line that would be read as a heading.
-pub fn heading_in_text(alloc: Global, replica: &Replica) -> Result<Option<usize>, NoMemory>
-    ensures found { IfOk result (λ found. found ≡ first_not_plain replica.now.held.history) }
-    ensures stands { Stands replica.now }
-{
-    let outline = outline(alloc, replica)?;
-    'sections: for (place, entry) in outline.entries().iter().enumerate() {
-        if has_heading(replica, entry.number)? {
-            return Ok(Some(place));
-        }
-    }
-    Ok(None)
-}
-
-/// Whether the text of a section has a line that would be read as a heading.
-fn has_heading(replica: &Replica, section: usize) -> Result<bool, NoMemory>
-    ensures { IfOk result (λ found. Some found ≡ option_map
-        (λ s. has_heading_in (encode_utf8_all (text_on replica.now.held.history s))) (section_shown replica.now section)) }
-    requires { section < length (shown catalogue replica.now.held.history) }
-{
-    match replica.text_of(section)? {
-        Some(text) => Ok(is_headed(text.as_str().as_bytes())),
-        None => Ok(false),
-    }
 }
