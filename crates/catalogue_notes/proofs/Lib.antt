@@ -18,4 +18,5 @@ pub mod MovingLemmas
 pub mod RefusalLemmas
 pub mod RetitlingLemmas
 pub mod PrintingLemmas
+pub mod OutliningLemmas
 mod Examples

@@ -1,17 +1,17 @@
 -- Which section stands at which element, and the arrangement by that.
-use Rattle.std.proofs.Common.{Bool, List, [], ap, append_assoc, drop, inl, inr, map, not, refl, reverse, subst, sym, ◌++◌, ◌∙◌, ◌∷◌, ◌≡◌, ◌≢◌}
+use Rattle.std.proofs.Common.{List, [], ap, append_assoc, drop, inl, inr, not, refl, reverse, subst, sym, ◌++◌, ◌∙◌, ◌∷◌, ◌≡◌, ◌≢◌}
 use Rattle.std.specs.Prelude.{None, Option, Some, flat_map, option_map, option_to_list, slice_get}
-use Rattle.std.specs.List.{All, Contains}
-use Rattle.std.proofs.lemmas.List.{append-nil, reverse-append}
-use Rattle.std.proofs.lemmas.List.Elements.{All-append, All-contains, All-cons, All-head, All-nil, All-tail, Contains-append_cases, Contains-append_left, Contains-append_right}
+use Rattle.std.specs.List.{Contains}
+use Rattle.std.proofs.lemmas.List.{append-nil}
+use Rattle.std.proofs.lemmas.List.Elements.{Contains-append_cases, Contains-append_left, Contains-append_right}
 use Rattle.fugue_ids.specs.Identifiers.{Identifier}
 use Rattle.fugue_ids.specs.declared.op.Op.{Op}
 use Rattle.fugue_ids.proofs.IdentifierLemmas.{cases_id}
-use Rattle.fugue_ids.proofs.ListLemmas.{contains_cases, contains_here, contains_map, contains_none}
+use Rattle.fugue_ids.proofs.ListLemmas.{contains_cases, contains_here, contains_none}
 use Rattle.origin_model.specs.declared.operations.Place.TheVariants.{Catalogue as catalogue}
 use Rattle.origin_model.specs.operations.Verdict.{Lawful}
 use Rattle.origin_model.specs.order.Order.{order}
-use Rattle.origin_model.specs.order.Printed.{is_hidden, shown}
+use Rattle.origin_model.specs.order.Printed.{is_withdrawn, shown}
 use Rattle.catalogue_notes.specs.Arranged.{arranged, position, sections_at, winner}
 use Rattle.catalogue_notes.specs.Claims.{Move}
 use Rattle.catalogue_notes.specs.Lift.{lift, moves}
@@ -25,7 +25,7 @@ use Rattle.catalogue_notes.proofs.ArrangedLemmas.{apart, at_position, shown_is}
 use Rattle.catalogue_notes.proofs.HolderLemmas.{cases_option, not_both, same_value}
 use Rattle.catalogue_notes.proofs.MoveLemmas.{alone}
 use Rattle.catalogue_notes.proofs.PartLemmas.{parts_same}
-use Rattle.catalogue_notes.proofs.WinningLemmas.{winning-same}
+use Rattle.catalogue_notes.proofs.WinningLemmas.{won_by}
 
 -- what stands at the first of the elements to come, and then at the rest
 pub next_part : {X Y : Type 0} → (f : X → List Y) (xs : List X) (x : X) → slice_get xs 0 ≡ Some x → flat_map f xs ≡ f x ++ flat_map f (drop 1 xs)
@@ -103,20 +103,10 @@ pub arranged_by : (h : List Op) (placing : Identifier → Option Identifier) →
     → flat_map (λ x. option_to_list (placing x)) (order catalogue (lift h)) ≡ arranged h
 arranged_by h placing w st = sym (parts_same (sections_at h) (λ x. option_to_list (placing x)) (order catalogue (lift h)) (λ x m. at_element h placing w st x))
 
--- a member of a list is one of the reversed list
-pub all_reversed : {X : Type 0} → (P : X → Type 0) (xs : List X) → All P xs → All P (reverse xs)
-all_reversed P [] all = All-nil P
-all_reversed P (x ∷ xs) all =
-    subst (All P) (sym (reverse-append (x ∷ []) xs)) (All-append P (reverse xs) (x ∷ []) (all_reversed P xs (All-tail P x xs all)) (All-cons P x [] (All-head P x xs all) (All-nil P)))
-
 -- the positions by the winning bids are those of the definitions
-pub positions_are : (h : List Op) (list : Listing) (bids : List Bid) (stands : Identifier → Bool) (winners : Identifier → Option Bid) → IsLiftOf h list bids
-    → All (λ (b : Bid). stands b.id ≡ not (is_hidden h b.id)) bids → ((s : Identifier) → winners s ≡ winning_bid stands s (reverse bids)) → (s : Identifier) → position_in winners s ≡ position h s
-positions_are h list bids stands winners f all is s =
-    let P : Bid → Type 0 = λ b. stands b.id ≡ not (is_hidden h b.id) in
-    let told : All P (map bid_of (moves h)) = subst (All P) f.bids_are (all_reversed P bids all) in
-    ap (bid_position s) (is s ∙ ap (winning_bid stands s) f.bids_are ∙ winning-same stands h s (moves h) (λ c m. All-contains P (map bid_of (moves h)) (bid_of c) told (contains_map bid_of (moves h) c m)))
-    ∙ by_winner (winner h s (moves h))
+pub positions_are : (h : List Op) (list : Listing) (bids : List Bid) (winners : Identifier → Option Bid) → IsLiftOf h list bids
+    → ((s : Identifier) → winners s ≡ winning_bid (λ x. not (is_withdrawn h x)) s (reverse bids)) → (s : Identifier) → position_in winners s ≡ position h s
+positions_are h list bids winners f is s = ap (bid_position s) (won_by h (moves h) bids winners f.bids_are is s) ∙ by_winner (winner h s (moves h))
   where
     by_winner : (o : Option Move) → bid_position s (option_map bid_of o) ≡ (elim o [ None ↦ s | Some m ↦ m.id ])
     by_winner None = refl

@@ -1,16 +1,15 @@
 -- What is printed by what was looked up is what the definitions say.
-use Rattle.std.proofs.Common.{Bool, List, [], ap, false, inl, inr, map, not, refl, reverse, subst, sym, true, ℕ, ◌++◌, ◌∙◌, ◌∷◌, ◌≡◌, ◌≢◌, ◌⊎◌}
+use Rattle.std.proofs.Common.{List, [], ap, false, inl, inr, not, refl, reverse, subst, sym, true, ℕ, ◌++◌, ◌∙◌, ◌∷◌, ◌≡◌, ◌≢◌, ◌⊎◌}
 use Rattle.std.specs.Prelude.{IfSome, IsSome, None, Option, Some, codes, drop, flat_map, if◌then◌else◌, is_some, nat_eq, option_map, slice_get}
 use Rattle.std.specs.BTreeMap.{get}
-use Rattle.std.specs.List.{All, Contains}
+use Rattle.std.specs.List.{Contains}
 use Rattle.std.specs.Str.{chars, encode_utf8_all}
 use Rattle.std.proofs.lemmas.Bool.{cases_Bool, false≢true}
-use Rattle.std.proofs.lemmas.List.Elements.{All-contains}
 use Rattle.fugue_ids.specs.Identifiers.{Identifier, id_cmp}
 use Rattle.fugue_ids.specs.Ops.{id_of}
 use Rattle.fugue_ids.specs.declared.op.Op.{Op}
 use Rattle.fugue_ids.specs.declared.op.Op.TheVariants.{Delete, Note, Section, Text}
-use Rattle.fugue_ids.proofs.ListLemmas.{contains_filter_from, contains_map}
+use Rattle.fugue_ids.proofs.ListLemmas.{contains_filter_from}
 use Rattle.origin_model.specs.declared.operations.Place.TheVariants.{Catalogue as catalogue}
 use Rattle.origin_model.specs.declared.operations.Role.TheVariants.{Section as SectionRole}
 use Rattle.origin_model.specs.operations.History.{holder, is_own}
@@ -25,9 +24,8 @@ use Rattle.catalogue_notes.specs.Arranged.{arranged, arranged_section, arranged_
 use Rattle.catalogue_notes.specs.Claims.{Retitle, claim, is_title, retitle_in, retitle_of, stamp_of}
 use Rattle.catalogue_notes.specs.Laws.{IsValidRetitle, IsWinner}
 use Rattle.catalogue_notes.specs.Lift.{is_section, retitles}
-use Rattle.catalogue_notes.specs.Printing.{HasRetitles, IsLayout, page, printed_by, title_at, title_in, title_of_op, title_place}
+use Rattle.catalogue_notes.specs.Printing.{HasRetitles, IsLayout, page, printed_by, title_at, title_in, title_of_op, title_place, utf8_or_none}
 use Rattle.catalogue_notes.specs.Readings.{bid_of}
-use Rattle.catalogue_notes.specs.Winning.{winning_bid}
 use Rattle.catalogue_notes.specs.declared.layout.Layout.{Layout}
 use Rattle.catalogue_notes.specs.declared.reading.Bid.{Bid}
 use Rattle.catalogue_notes.specs.declared.limits.TheConstants.{RETITLE_CODE}
@@ -35,19 +33,9 @@ use Rattle.catalogue_notes.proofs.ArrangedLemmas.{arranged_shown}
 use Rattle.catalogue_notes.proofs.HolderLemmas.{cases_option, is_own-id, not_both, same_value, section_held}
 use Rattle.catalogue_notes.proofs.LiftLemmas.{if_so, some_inj}
 use Rattle.catalogue_notes.proofs.PartLemmas.{parts_same}
-use Rattle.catalogue_notes.proofs.PlacingLemmas.{all_reversed}
 use Rattle.catalogue_notes.proofs.RetitleLemmas.{title_shape}
-use Rattle.catalogue_notes.proofs.RetitlingLemmas.{arranged_section as arranged_held, title_bytes}
+use Rattle.catalogue_notes.proofs.RetitlingLemmas.{arranged_section as arranged_held, title_bytes, title_utf8}
 use Rattle.catalogue_notes.proofs.ValidLemmas.{valid_in_whole, winners}
-use Rattle.catalogue_notes.proofs.WinningLemmas.{winning-same}
-
--- the winning retitles by the bids are those of the definitions
-pub titles_won : (h : List Op) (bids : List Bid) (stands : Identifier → Bool) (won : Identifier → Option Bid) → reverse bids ≡ map bid_of (retitles h)
-    → All (λ (b : Bid). stands b.id ≡ not (is_hidden h b.id)) bids → ((s : Identifier) → won s ≡ winning_bid stands s (reverse bids)) → (s : Identifier) → won s ≡ option_map bid_of (winner h s (retitles h))
-titles_won h bids stands won e all is s =
-    let P : Bid → Type 0 = λ b. stands b.id ≡ not (is_hidden h b.id) in
-    let told : All P (map bid_of (retitles h)) = subst (All P) e (all_reversed P bids all) in
-    is s ∙ ap (winning_bid stands s) e ∙ winning-same stands h s (retitles h) (λ c m. All-contains P (map bid_of (retitles h)) (bid_of c) told (contains_map bid_of (retitles h) c m))
 
 -- no retitle was passed yet
 pub retitles_none : (ops : List Op) (index : Identifier → Option ℕ) → HasRetitles ops [] index
@@ -89,16 +77,16 @@ retitles_same ops h op index says f r e k t =
     no_claim (Some c) e = cc e
 
 -- what a retitle gives as a title
-note_title : (id : Identifier) (named : List Identifier) (body : List ℕ) (r : Retitle) → retitle_of id named body ≡ Some r → drop 4 body ≡ encode_utf8_all r.value
+note_title : (id : Identifier) (named : List Identifier) (body : List ℕ) (r : Retitle) → retitle_of id named body ≡ Some r → utf8_or_none (drop 4 body) ≡ encode_utf8_all r.value
 note_title id (s ∷ []) (a ∷ b ∷ c ∷ d ∷ title) r k = by (cases_Bool (is_title title))
   where
     one : Retitle
     one = claim id s (stamp_of a b c d) (chars title)
 
-    by : (is_title title ≡ true) ⊎ (is_title title ≡ false) → title ≡ encode_utf8_all r.value
+    by : (is_title title ≡ true) ⊎ (is_title title ≡ false) → utf8_or_none title ≡ encode_utf8_all r.value
     by (inl t) =
         let q : one ≡ r = some_inj one r (sym (ap (λ z. if z then Some one else None) t) ∙ k) in
-        sym (title_bytes title t) ∙ ap (λ (z : Retitle). encode_utf8_all z.value) q
+        ap (λ z. if z then title else []) (title_utf8 title t) ∙ sym (title_bytes title t) ∙ ap (λ (z : Retitle). encode_utf8_all z.value) q
     by (inr t) = absurd (not_both (if is_title title then Some one else None) r (ap (λ z. if z then Some one else None) t) k)
 note_title id _ _ r k = absurd (not_both None r refl k)
 
@@ -121,7 +109,7 @@ abbrev place_by : Layout → Identifier → Option Bid → Option ℕ
 place_by l s o = elim o [ None ↦ get id_cmp l.arrangement.index s | Some b ↦ get id_cmp l.retitles b.id ]
 
 -- the title that was found is the heading
-heading_found : (h : List Op) (l : Layout) (s : Identifier) → Lawful h → IsLayout h l → is_section h s ≡ true → title_at (reverse h) (title_place l s) ≡ encode_utf8_all (heading h s)
+pub heading_found : (h : List Op) (l : Layout) (s : Identifier) → Lawful h → IsLayout h l → is_section h s ≡ true → title_at (reverse h) (title_place l s) ≡ encode_utf8_all (heading h s)
 heading_found h l s w f k =
     elim (cases_option (winner h s (retitles h))) [
       | inl n ↦

@@ -46,14 +46,18 @@ title_text bytes u t =
     let two = and_from (is_utf8 bytes && a) b one l.1 in
     and_from (is_utf8 bytes && a && b) (not (has_line_end bytes)) two (ap not t.one_line)
 
--- a title's bytes are those of its scalars
-pub title_bytes : (bytes : List ℕ) → is_title bytes ≡ true → encode_utf8_all (chars bytes) ≡ bytes
-title_bytes bytes t =
+-- a title is UTF-8
+pub title_utf8 : (bytes : List ℕ) → is_title bytes ≡ true → is_utf8 bytes ≡ true
+title_utf8 bytes t =
     let a : Bool = nat_lt 0 (length bytes) in
     let b : Bool = nat_le (length bytes) LONGEST_TITLE in
     let two = (and_parts (is_utf8 bytes && a && b) (not (has_line_end bytes)) t).0 in
     let one = (and_parts (is_utf8 bytes && a) b two).0 in
-    encode_utf8_all-chars bytes (IsUtf8-from_is_utf8 bytes (and_parts (is_utf8 bytes) a one).0)
+    (and_parts (is_utf8 bytes) a one).0
+
+-- and its bytes are those of its scalars
+pub title_bytes : (bytes : List ℕ) → is_title bytes ≡ true → encode_utf8_all (chars bytes) ≡ bytes
+title_bytes bytes t = encode_utf8_all-chars bytes (IsUtf8-from_is_utf8 bytes (title_utf8 bytes t))
 
 -- what stands at a place is a member
 pub placed_in : (xs : List Identifier) (k : ℕ) (x : Identifier) → slice_get xs k ≡ Some x → Contains xs x

@@ -9,4 +9,5 @@ pub mod Sections
 pub mod Placing
 pub mod Moving
 pub mod Printing
+pub mod Outlining
 pub mod Laws

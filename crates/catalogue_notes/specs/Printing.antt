@@ -1,7 +1,7 @@
 -- What is printed of the sections, by what is looked up of them, and what a call that prints them does.
-use Rattle.std.specs.Prelude.{◌≡◌, ℕ, true, Option, Some, None, Result, Ok, Err, is_some, List, [], ◌∷◌, ◌++◌, codes, drop, option_map, reverse, slice_get}
+use Rattle.std.specs.Prelude.{◌≡◌, ℕ, true, Option, Some, None, Result, Ok, Err, if◌then◌else◌, is_some, List, [], ◌∷◌, ◌++◌, codes, drop, option_map, reverse, slice_get}
 use Rattle.std.specs.BTreeMap.{get}
-use Rattle.std.specs.Str.{encode_utf8_all}
+use Rattle.std.specs.Str.{encode_utf8_all, is_utf8}
 use Rattle.fugue_ids.specs.Identifiers.{Identifier, id_cmp}
 use Rattle.fugue_ids.specs.Outs.{OutView, WritesBytes}
 use Rattle.fugue_ids.specs.declared.op.Op.{Op}
@@ -20,12 +20,16 @@ use Rattle.catalogue_notes.specs.declared.layout.Layout.{Layout}
 use Rattle.catalogue_notes.specs.declared.printing.ArrangeFault.{ArrangeFault}
 use Rattle.catalogue_notes.specs.declared.printing.ArrangeFault.TheVariants.{SinkFault, NoMemory}
 
+-- the bytes where they are UTF-8
+abbrev pub utf8_or_none : List ℕ → List ℕ
+utf8_or_none bytes = if is_utf8 bytes then bytes else []
+
 -- the title that an operation gives: in a retitle it stands behind the stamp
 abbrev pub title_in : Op → List ℕ
 title_in (Section id left right title) = encode_utf8_all title
 title_in (Text id section left right ch) = []
 title_in (Delete target) = []
-title_in (Note id named code body) = drop 4 body
+title_in (Note id named code body) = utf8_or_none (drop 4 body)
 
 abbrev pub title_of_op : Option Op → List ℕ
 title_of_op None = []

@@ -12,8 +12,7 @@ ghost use Rattle.catalogue_notes.specs.Placing.{AreApart, IsArranged, IsPlacing,
 use crate::lifting::Lifted;
 use crate::reading::Bid;
 use crate::sections::sections_of;
-use crate::standing::standing;
-use crate::winning::winners_of;
+use crate::winning::winners_among;
 use fugue_ids::{ElementId, MOST_OPERATIONS, NoMemory, Op};
 use section_list::SectionList;
 use std::alloc::Global;
@@ -87,8 +86,7 @@ impl Arrangement {
     {
         let index = sections_of(alloc, ops)?;
         let lifted = Lifted::of(alloc, ops, &index)?;
-        let standing = standing(alloc, &lifted.moves, ops)?;
-        let winners = winners_of(alloc, &lifted.moves, &standing)?;
+        let winners = winners_among(alloc, &lifted.moves, ops)?;
         let placing = placing_of(alloc, &winners, catalogue)?;
         let sections = arranged_in(alloc, &lifted.list, &placing)?;
         Ok(Arrangement {

@@ -10,8 +10,7 @@ ghost use Rattle.catalogue_notes.specs.Printing.{HasRetitles, IsLayout, title_pl
 use crate::arrangement::Arrangement;
 use crate::reading::{Bid, retitle_in};
 use crate::retitles::retitles_of;
-use crate::standing::standing;
-use crate::winning::winners_of;
+use crate::winning::winners_among;
 use fugue_ids::{ElementId, MOST_OPERATIONS, NoMemory, Op};
 use section_list::SectionList;
 use std::alloc::Global;
@@ -49,8 +48,7 @@ impl Layout {
     {
         let arrangement = Arrangement::of(alloc, ops, catalogue)?;
         let bids = retitles_of(alloc, ops, &arrangement.index)?;
-        let standing = standing(alloc, &bids, ops)?;
-        let winners = winners_of(alloc, &bids, &standing)?;
+        let winners = winners_among(alloc, &bids, ops)?;
         let retitles = retitles_at(alloc, ops)?;
         Ok(Layout {
             arrangement,

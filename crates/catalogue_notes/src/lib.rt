@@ -2,12 +2,14 @@
 #![tactic(auto)]
 
 mod arrangement;
+mod entry;
 mod laws;
 mod layout;
 mod lifting;
 mod limits;
 mod making;
 mod moving;
+mod outlining;
 mod printing;
 mod reading;
 mod retitles;
@@ -16,11 +18,13 @@ mod sections;
 mod standing;
 mod winning;
 
+pub use entry::{Entry, Outline};
 pub use laws::{
     arranged_by_set, each_once, lift_is_lawful, lifted_order_stays, move_lands, retitle_lands,
     valid_in_whole, winners,
 };
 pub use limits::{MOVE_CODE, RETITLE_CODE};
 pub use moving::{MoveFault, move_section};
+pub use outlining::outline;
 pub use printing::{ArrangeFault, write_arranged};
 pub use retitling::retitle;

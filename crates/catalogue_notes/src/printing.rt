@@ -4,7 +4,7 @@ ghost use Rattle.fugue_ids.specs.Gathers.{GathersText};
 ghost use Rattle.fugue_ids.specs.Outs.{OutView, WritesBytes};
 ghost use Rattle.origin_model.specs.edits.State.{Stands};
 ghost use Rattle.catalogue_notes.specs.Arranged.{arranged_text};
-ghost use Rattle.catalogue_notes.specs.Printing.{WritesText, page, printed_by, title_at as title_at_in, title_in as title_in_op};
+ghost use Rattle.catalogue_notes.specs.Printing.{WritesText, page, printed_by, title_at as title_at_in, title_in as title_in_op, utf8_or_none};
 
 use crate::layout::Layout;
 use fugue_ids::{ElementId, Failed, Gather, NoMemory, Op, Out};
@@ -57,27 +57,37 @@ fn behind_stamp(body: &[u8]) -> &[u8]
     }
 }
 
+/// The text of the bytes: nothing of such as are not UTF-8.
+fn text_of(bytes: &[u8]) -> &str
+    ensures { result.now ≡ utf8_or_none bytes.now }
+{
+    match std::str::from_utf8(bytes) {
+        Ok(text) => text,
+        Err(_) => "",
+    }
+}
+
 /// The title that an operation gives.
-fn title_in(op: &Op) -> &[u8]
+fn title_in(op: &Op) -> &str
     ensures { result.now ≡ title_in_op op.now }
 {
     match op {
-        Op::Section { title, .. } => title.as_str().as_bytes(),
-        Op::Note { body, .. } => behind_stamp(body.as_slice()),
-        Op::Text { .. } | Op::Delete { .. } => &[],
+        Op::Section { title, .. } => title.as_str(),
+        Op::Note { body, .. } => text_of(behind_stamp(body.as_slice())),
+        Op::Text { .. } | Op::Delete { .. } => "",
     }
 }
 
 /// The title that the operation at the place gives.
-fn title_at(ops: &[Op], at: Option<usize>) -> &[u8]
+pub(crate) fn title_at(ops: &[Op], at: Option<usize>) -> &str
     ensures { result.now ≡ title_at_in ops.now at }
 {
     let Some(at) = at else {
-        return &[];
+        return "";
     };
     match ops.get(at) {
         Some(op) => title_in(op),
-        None => &[],
+        None => "",
     }
 }
 
@@ -118,7 +128,7 @@ fn put_section<O: Out>(
 {
     let title = title_at(ops, layout.title_place(section));
     match places.section(section) {
-        Some(text) => put_page(gather, output, title, text),
+        Some(text) => put_page(gather, output, title.as_bytes(), text),
         None => Ok(()),
     }
 }

@@ -1,13 +1,15 @@
 //! Which note on a section wins.
-ghost use Rattle.std.specs.Prelude.{◌≡◌, Some, IfOk, OnOk, option_copied, reverse, filter};
+ghost use Rattle.std.specs.Prelude.{◌≡◌, Some, IfOk, OnOk, not, option_copied, reverse, filter};
 ghost use Rattle.std.specs.BTreeMap.{get};
 ghost use Rattle.std.specs.BTreeSet.{contains};
 ghost use Rattle.fugue_ids.specs.Identifiers.{Identifier, id_cmp};
 ghost use Rattle.fugue_ids.specs.Keyed.{IsReplaced};
+ghost use Rattle.origin_model.specs.order.Printed.{is_withdrawn};
 ghost use Rattle.catalogue_notes.specs.Winning.{better_bid, bid_wins, winning_bid};
 
 use crate::reading::Bid;
-use fugue_ids::{ElementId, NoMemory};
+use crate::standing::standing;
+use fugue_ids::{ElementId, NoMemory, Op};
 use std::alloc::Global;
 use std::collections::{BTreeMap, BTreeSet};
 
@@ -37,7 +39,7 @@ fn take_bid(winners: &mut BTreeMap<ElementId, Bid>, bid: Bid) -> Result<(), NoMe
 }
 
 /// The winner of each section, by its identifier, among the notes that stand. They are given in any order.
-pub(crate) fn winners_of(
+fn winners_of(
     alloc: Global,
     bids: &[Bid],
     standing: &BTreeSet<ElementId>,
@@ -52,4 +54,17 @@ pub(crate) fn winners_of(
         }
     }
     Ok(winners)
+}
+
+/// The winner of each section, by its identifier, among the notes that no Delete names.
+pub(crate) fn winners_among(
+    alloc: Global,
+    bids: &[Bid],
+    ops: &[Op],
+) -> Result<BTreeMap<ElementId, Bid>, NoMemory>
+    ensures { IfOk result (λ winners. (s : Identifier) → get id_cmp winners s
+        ≡ winning_bid (λ x. not (is_withdrawn (reverse ops.now) x)) s (reverse bids.now)) }
+{
+    let standing = standing(alloc, bids, ops)?;
+    winners_of(alloc, bids, &standing)
 }

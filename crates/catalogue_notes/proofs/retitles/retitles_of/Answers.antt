@@ -1,4 +1,4 @@
-use Rattle.std.proofs.Common.{Bool, List, ap, arith, reverse, sym, take, ◌++◌, ◌∙◌, ◌∷◌}
+use Rattle.std.proofs.Common.{Bool, List, ap, arith, length, reverse, sym, take, ◌++◌, ◌<◌, ◌∙◌, ◌∷◌}
 use Rattle.std.proofs.lemmas.List.{append-nil}
 use Rattle.std.specs.Prelude.{None, Some, is_some, map, option_to_list}
 use Rattle.std.specs.BTreeMap.{get}
@@ -16,13 +16,14 @@ ops-init c = ap reverse c.new-bids.ensures.items ∙ sym (ap (map bid_of) no_ret
 
 pub ops-preserved : goal.ops-preserved
 ops-preserved c =
-    let ops : List Op = c.args.ops.now in
-    let known : Identifier → Bool = λ s. is_some (get id_cmp c.args.sections.now s) in
     let i = c.ops.op-index in
+    let ops : List Op = c.args.ops.now in
     let op : Op = c.op-item.result in
+    let known : Identifier → Bool = λ s. is_some (get id_cmp c.args.sections.now s) in
     let passed : List Op = reverse (take i ops) in
-    let more = passed_more ops i op (omega (arith, c.ops-test.true)) c.op-item.is in
-    let s = retitled_more ops i op known c.requires.lawful c.requires.sections (omega (arith, c.ops-test.true)) c.op-item.is in
+    let below : i < length ops = omega (arith, c.ops-test.true) in
+    let more = passed_more ops i op below c.op-item.is in
+    let s = retitled_more ops i op known c.requires.lawful c.requires.sections below c.op-item.is in
     elim c.match-valid_retitle.branch [
       | in-Some+in_ok-push w ↦
           ap (λ z. reverse z.items) w.bids-is

@@ -1,0 +1,101 @@
+-- The entries of sections, one after another.
+use Rattle.std.proofs.Common.{Bool, List, [], ap, get_or, inl, inr, length, not, reverse, subst, suc, sym, take, ℕ, ◌+◌, ◌++◌, ◌<◌, ◌∙◌, ◌∷◌, ◌≡◌, ◌≢◌}
+use Rattle.std.specs.Prelude.{Some, slice_get, string_bytes}
+use Rattle.std.specs.List.{All, AllPairs, Contains}
+use Rattle.std.specs.Str.{encode_utf8_all}
+use Rattle.std.proofs.lemmas.Bool.{cases_Bool}
+use Rattle.std.proofs.lemmas.List.{map-append, reverse-reverse, take_more}
+use Rattle.std.proofs.lemmas.List.Elements.{All-contains, All-push}
+use Rattle.fugue_ids.specs.Identifiers.{Identifier}
+use Rattle.fugue_ids.specs.Listed.{index_of}
+use Rattle.fugue_ids.specs.declared.op.Op.{Op}
+use Rattle.fugue_ids.proofs.IdentifierLemmas.{cases_id, index_of-here, index_of-there}
+use Rattle.fugue_ids.proofs.ListLemmas.{all_pairs_head, all_pairs_tail, contains_cases, contains_filter_from, contains_map, contains_map_from, contains_none}
+use Rattle.origin_model.specs.declared.operations.Place.TheVariants.{Catalogue as catalogue}
+use Rattle.origin_model.specs.operations.Verdict.{Lawful}
+use Rattle.origin_model.specs.order.Printed.{shown}
+use Rattle.section_list.specs.Cells.{Cell, section_cell_ids, section_cells_shown, section_shown_before}
+use Rattle.catalogue_notes.specs.Arranged.{arranged, heading}
+use Rattle.catalogue_notes.specs.Outlining.{AreEntries, IsEntry, entry_sections}
+use Rattle.catalogue_notes.specs.declared.entry.Entry.{Entry}
+use Rattle.catalogue_notes.specs.Printing.{IsLayout, title_at, title_place}
+use Rattle.catalogue_notes.specs.declared.layout.Layout.{Layout}
+use Rattle.catalogue_notes.proofs.PartLemmas.{filter_no, filter_yes}
+use Rattle.catalogue_notes.proofs.PrintingLemmas.{heading_found}
+use Rattle.catalogue_notes.proofs.RetitlingLemmas.{arranged_section as arranged_held}
+
+abbrev visible : Cell → Bool
+visible c = not c.hidden
+
+-- what is visible is listed
+pub visible_listed : (cells : List Cell) (x : Identifier) → Contains (section_cell_ids (section_cells_shown cells)) x → Contains (section_cell_ids cells) x
+visible_listed cells x m =
+    let c = contains_map_from (λ (c : Cell). c.id) (section_cells_shown cells) x m in
+    subst (Contains (section_cell_ids cells)) c.2 (contains_map (λ (c : Cell). c.id) cells c.0 (contains_filter_from visible cells c.0 c.1).0)
+
+-- a visible element stands among the visible ones where as many as stand before it say
+pub visible_place : (cells : List Cell) (x : Identifier) → AllPairs (λ a b. a ≢ b) (section_cell_ids cells) → Contains (section_cell_ids (section_cells_shown cells)) x
+    → slice_get (section_cell_ids (section_cells_shown cells)) (section_shown_before cells x) ≡ Some x
+visible_place [] x d m = absurd (contains_none x m)
+visible_place (c ∷ cs) x d m =
+    let i : ℕ = index_of (section_cell_ids cs) x in
+    let others : Contains (section_cell_ids cs) x → c.id ≢ x = λ k. All-contains (λ y. c.id ≢ y) (section_cell_ids cs) x (all_pairs_head (λ a b. a ≢ b) c.id (section_cell_ids cs) d) k in
+    let rest : Contains (section_cell_ids (section_cells_shown cs)) x → slice_get (section_cell_ids (section_cells_shown cs)) (section_shown_before cs x) ≡ Some x =
+    λ k. visible_place cs x (all_pairs_tail (λ a b. a ≢ b) c.id (section_cell_ids cs) d) k in
+    elim (cases_id x c.id) [
+      | inl e ↦
+          let none : section_shown_before (c ∷ cs) x ≡ 0 = ap (λ k. length (section_cells_shown (take k (c ∷ cs)))) (index_of-here c.id (section_cell_ids cs) x e) in
+          elim (cases_Bool c.hidden) [
+            | inl k ↦
+                let passed : section_cells_shown (c ∷ cs) ≡ section_cells_shown cs = filter_no visible c cs (ap not k) in
+                absurd (others (visible_listed cs x (subst (λ z. Contains (section_cell_ids z) x) passed m)) (sym e))
+            | inr k ↦
+                let first : section_cells_shown (c ∷ cs) ≡ c ∷ section_cells_shown cs = filter_yes visible c cs (ap not k) in
+                (λ j. slice_get (section_cell_ids (first j)) (none j)) ∙ ap Some (sym e)
+          ]
+      | inr n ↦
+          let later : section_shown_before (c ∷ cs) x ≡ length (section_cells_shown (c ∷ take i cs)) = ap (λ k. length (section_cells_shown (take k (c ∷ cs)))) (index_of-there c.id (section_cell_ids cs) x n) in
+          elim (cases_Bool c.hidden) [
+            | inl k ↦
+                let passed : section_cells_shown (c ∷ cs) ≡ section_cells_shown cs = filter_no visible c cs (ap not k) in
+                let before : section_shown_before (c ∷ cs) x ≡ section_shown_before cs x = later ∙ ap length (filter_no visible c (take i cs) (ap not k)) in
+                (λ j. slice_get (section_cell_ids (passed j)) (before j)) ∙ rest (subst (λ z. Contains (section_cell_ids z) x) passed m)
+            | inr k ↦
+                let first : section_cells_shown (c ∷ cs) ≡ c ∷ section_cells_shown cs = filter_yes visible c cs (ap not k) in
+                let before : section_shown_before (c ∷ cs) x ≡ suc (section_shown_before cs x) = later ∙ ap length (filter_yes visible c (take i cs) (ap not k)) in
+                let member : Contains (section_cell_ids (section_cells_shown cs)) x =
+                elim (contains_cases c.id (section_cell_ids (section_cells_shown cs)) x (subst (λ z. Contains (section_cell_ids z) x) first m)) [ inl e ↦ absurd (n (sym e)) | inr t ↦ t ] in
+                (λ j. slice_get (section_cell_ids (first j)) (before j)) ∙ rest member
+          ]
+    ]
+
+-- one entry more
+pub entries_more : (h : List Op) (sections : List Identifier) (i : ℕ) (s : Identifier) (old new : List Entry) (e : Entry) → i < length sections → s ≡ get_or sections i s → new ≡ old ++ e ∷ [] → e.section ≡ s
+    → IsEntry h e → AreEntries h (take i sections) old → AreEntries h (take (i + 1) sections) new
+entries_more h sections i s old new e below at is same one f = record {
+  listed =
+      ap entry_sections is
+      ∙ map-append (λ (z : Entry). z.section) old (e ∷ [])
+      ∙ (λ j. f.listed j ++ (same ∙ at) j ∷ [])
+      ∙ sym (take_more sections i s below);
+  each = subst (All (IsEntry h)) (sym is) (All-push (IsEntry h) old e f.each one);
+}
+
+-- what stands at a place of a list is a member of it
+pub member_at : (xs : List Identifier) (i : ℕ) (x : Identifier) → i < length xs → x ≡ get_or xs i x → Contains xs x
+member_at xs i x below is = (i, below, sym is)
+
+-- the entry of an arranged section, by the number and the title that were found
+pub section_entry : (ops : List Op) (l : Layout) (e : Entry) (s : Identifier) → Lawful (reverse ops) → IsLayout (reverse ops) l → Contains l.arrangement.sections.items s → e.section ≡ s
+    → slice_get (shown catalogue (reverse ops)) e.number ≡ Some s → string_bytes e.heading ≡ title_at ops (title_place l s) → IsEntry (reverse ops) e
+section_entry ops l e s w f m is number heading_is =
+    let h : List Op = reverse ops in
+    let arranged_here : Contains (arranged h) s = subst (λ z. Contains z s) f.arranged.sections m in
+    record {
+      numbered = number ∙ ap Some (sym is);
+      headed =
+          heading_is
+          ∙ ap (λ z. title_at z (title_place l s)) (sym (reverse-reverse ops))
+          ∙ heading_found h l s w f (arranged_held h s w arranged_here)
+          ∙ ap (λ z. encode_utf8_all (heading h z)) (sym is);
+    }
