@@ -1,11 +1,13 @@
 -- A section that gets the title and the text of a part.
-use Rattle.std.proofs.Common.{List, [], ap, arith, cond, inl, inr, length, refl, subst, sym, ℕ, ◌+◌, ◌∙◌, ◌∷◌, ◌≡◌, ◌≢◌, ◌⊎◌}
-use Rattle.std.specs.Prelude.{None, Ok, Option, Some, filter, slice_get}
+use Rattle.std.proofs.Common.{Bool, List, [], ap, arith, inl, inr, length, refl, subst, sym, ℕ, ◌+◌, ◌∙◌, ◌∷◌, ◌≡◌, ◌≢◌, ◌⊎◌}
+use Rattle.std.specs.Prelude.{Err, None, Ok, Option, Some, ◌↔◌, filter, slice_get}
 use Rattle.std.specs.Str.{IsUtf8, chars, encode_utf8_all}
 use Rattle.std.proofs.lemmas.Str.{encodes-chars}
 use Rattle.fugue_ids.specs.Identifiers.{Identifier, id_eq}
 use Rattle.fugue_ids.specs.declared.op.Op.{Op}
 use Rattle.fugue_ids.proofs.IdentifierLemmas.{ne-id_eq}
+use Rattle.origin_model.specs.declared.edit_fault.EditFault.{EditFault}
+use Rattle.origin_model.specs.declared.edit_fault.EditFault.TheVariants as edit
 use Rattle.origin_model.specs.declared.operations.Place.{Place}
 use Rattle.origin_model.specs.declared.operations.Place.TheVariants.{Catalogue as catalogue, Section as within}
 use Rattle.origin_model.specs.edits.Effect.{OfSection}
@@ -20,7 +22,8 @@ use Rattle.catalogue_notes.specs.Lift.{is_valid_title, passing, retitles}
 use Rattle.catalogue_notes.specs.Moving.{IsRetitleMade, RefusesFor, TellsAbsence, retitle_by, retitle_refusal, section_cause, section_placed}
 use Rattle.catalogue_notes.specs.declared.moving.MoveFault.{MoveFault}
 use Rattle.catalogue_notes.proofs.ClaimLemmas.{claims-none, claims-some}
-use Rattle.catalogue_notes.proofs.HolderLemmas.{anything, cases_option, joins, same_value}
+use Rattle.catalogue_notes.proofs.HolderLemmas.{anything, cases_option, joins, not_both, same_value}
+use Rattle.catalogue_notes.proofs.MovingLemmas.{failed}
 use Rattle.catalogue_notes.proofs.LiftLemmas.{passing_from}
 use Rattle.catalogue_notes.proofs.PartLemmas.{filter_no}
 use Rattle.catalogue_notes.proofs.RetitleLemmas.{title_shape}
@@ -29,9 +32,9 @@ use Rattle.draft_plan.specs.Drafts.{Part}
 use Rattle.draft_plan.specs.Plain.{arranged_part}
 use Rattle.draft_plan.specs.Revision.{KeepsSection, StopsAtLimit, retitles_of}
 use Rattle.draft_plan.specs.Shaping.{ChangesOnly, IsFilled, IsHeadedBy, SameSection}
-use Rattle.draft_plan.specs.Texts.{IsRevised, KeepsCommon, KeepsElements}
-use Rattle.draft_plan.proofs.ChangeLemmas.{changed_retitle, stops_note}
-use Rattle.draft_plan.proofs.MakingLemmas.{AnyChange, makes_join, makes_none, makes_one}
+use Rattle.draft_plan.specs.Texts.{EditsText, IsRevised, KeepsCommon, KeepsElements, StopsRevising}
+use Rattle.draft_plan.proofs.ChangeLemmas.{changed_retitle, stops_note, stops_weaker}
+use Rattle.draft_plan.proofs.MakingLemmas.{AnyChange, makes_join, makes_none, makes_one, stops_behind}
 use Rattle.draft_plan.proofs.SectionLemmas.{text_kept}
 use Rattle.draft_plan.proofs.ShapeLemmas.{got, history_is, note_limit, same_join, same_none, section_there}
 use Rattle.draft_plan.specs.declared.fault.ReviseFault.TheVariants as fault
@@ -174,3 +177,17 @@ module _ (old mid new : State) (k n m : ℕ) (x : Identifier) (title bytes : Lis
         keeps = record { elements = kept; same_text = same_text; same_heading = same_heading };
         nothing = nothing;
       }
+
+-- a revised text that stopped, of a section that is there
+pub text_stops : (old mid new : State) (k n : ℕ) (x : Identifier) (title : List ℕ) (why : EditFault) → section_shown old k ≡ Some x → IsHeadedBy old mid x title n
+    → (failed why ≡ failed edit.NoSection) ↔ (section_shown mid k ≡ None) → (failed why ≡ failed edit.OutOfRange → ⊥) → StopsRevising mid new k why → StopsAtLimit old new (fault.Edit why)
+text_stops old mid new k n x title why there hd absent in_range s =
+    let shown_there : section_shown mid k ≡ Some x = ap (λ xs. slice_get xs k) hd.only.catalogue_is ∙ there in
+    stops_behind old mid new n (fault.Edit why) hd.makes (by why (λ e. not_both (section_shown mid k) x (absent.0 (ap failed e)) shown_there) (λ e. in_range (ap failed e)) s)
+  where
+    by : (why : EditFault) → (why ≡ edit.NoSection → ⊥) → (why ≡ edit.OutOfRange → ⊥) → StopsRevising mid new k why → StopsAtLimit mid new (fault.Edit why)
+    by edit.NoSection a b s = absurd (a refl)
+    by edit.OutOfRange a b s = absurd (b refl)
+    by (edit.IdsSpent n) a b s = record { limit = tt; stops = stops_weaker (EditsText k) AnyChange mid new (fault.Edit (edit.IdsSpent n)) (λ c o. tt) s }
+    by (edit.TooMany n) a b s = record { limit = tt; stops = stops_weaker (EditsText k) AnyChange mid new (fault.Edit (edit.TooMany n)) (λ c o. tt) s }
+    by edit.NoMemory a b s = record { limit = tt; stops = stops_weaker (EditsText k) AnyChange mid new (fault.Edit edit.NoMemory) (λ c o. tt) s }

@@ -17,3 +17,6 @@ pub mod MakingLemmas
 pub mod ShapeLemmas
 pub mod FillLemmas
 pub mod RevisionLemmas
+pub mod OutlineLemmas
+pub mod HeadingLemmas
+pub mod CountLemmas

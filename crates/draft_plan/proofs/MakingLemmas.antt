@@ -3,6 +3,7 @@ use Rattle.std.proofs.Common.{List, [], ap, arith, length, length-append, refl, 
 use Rattle.std.specs.List.{All}
 use Rattle.std.proofs.lemmas.List.{length-reverse}
 use Rattle.fugue_ids.specs.declared.limits.TheConstants.{MOST_OPERATIONS}
+use Rattle.fugue_ids.specs.declared.op.Op.{Op}
 use Rattle.origin_model.specs.edits.State.{Stands, State}
 use Rattle.origin_model.specs.operations.History.{accepted}
 use Rattle.draft_plan.specs.Changes.{Change, Changed, Stops, all_made, made_of}

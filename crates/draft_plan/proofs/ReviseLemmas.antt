@@ -29,15 +29,14 @@ same_section s k x y e f = same_Some x y (sym e ∙ f)
 -- no hunk was made yet
 pub hunks_none : (s : State) (k n : ℕ) (hs : List Hunk) (new : List ℕ) → OfSection s k (λ x. Transforms nat_eq (text s.held.history x) new hs) → drop n hs ≡ []
     → OfSection s k (λ x. AreHunksMade s s k x (drop n hs) new 0)
-hunks_none s k n hs new t e =
-    (
-      t.0,
-      t.1,
-      subst (λ (h : List Hunk). AreHunksMade s s k t.0 h new 0) (sym e) (record {
-        revised = revised_none s k t.0;
-        stays = λ end l ends. stays_none (elements s t.0) end;
-      }),
-    )
+hunks_none s k n hs new t e = (
+  t.0,
+  t.1,
+  subst (λ (h : List Hunk). AreHunksMade s s k t.0 h new 0) (sym e) (record {
+    revised = revised_none s k t.0;
+    stays = λ end l ends. stays_none (elements s t.0) end;
+  }),
+)
 
 -- the hunks that are made, and the next one
 module _ (old mid : State) (k left made : ℕ) (hs : List Hunk) (new : List ℕ) (h : Hunk) (t : OfSection old k (λ x. Transforms nat_eq (text old.held.history x) new hs))
@@ -121,9 +120,12 @@ module _ (old now : State) (k n : ℕ) (bytes new : List ℕ) (hs : List Hunk) (
   pub text_keeps : Lawful old.held.history → IsTrimmed nat_eq (chars bytes) new hs → (chars bytes ≡ new → ⊥) → OfSection old k (λ x. KeepsElements old now x)
   text_keeps w trimmed other =
       let kept : KeepsCommon (chars bytes) new (elements old r.0) (elements now r.0) =
-      stays_common (chars bytes) new (elements old r.0) (elements now r.0) hs (sym (ap length old_is) ∙ text_length old.held.history r.0 w) trimmed other e r.2.stays in
-      (r.0, r.1, subst (λ (o : List ℕ). KeepsCommon o (text now.held.history r.0) (elements old r.0) (elements now r.0)) (sym old_is)
-        (subst (λ (o : List ℕ). KeepsCommon (chars bytes) o (elements old r.0) (elements now r.0)) (sym all_revised.here) kept))
+      stays_common (chars bytes) new (elements old r.0) (elements now r.0) hs (sym (ap length old_is) ∙ text_length old.held.history r.0 w) trimmed other e r.2.stays in (
+        r.0,
+        r.1,
+        subst (λ (o : List ℕ). KeepsCommon o (text now.held.history r.0) (elements old r.0) (elements now r.0)) (sym old_is)
+            (subst (λ (o : List ℕ). KeepsCommon (chars bytes) o (elements old r.0) (elements now r.0)) (sym all_revised.here) kept),
+      )
 
 -- the text is the same
 pub text_same : (s : State) (k : ℕ) (bytes : List ℕ) → IsTextAt s k bytes → OfSection s k (λ x. IsRevised s s k x (chars bytes) 0)

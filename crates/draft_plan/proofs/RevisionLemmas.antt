@@ -89,11 +89,10 @@ module _ (start now new : State) (parts : List Part) (j n m : ℕ) (s : Identifi
       let other : t ≢ s = λ q. d (one_place xs k j s (arranged_once start.held.history w) (subst (λ u. slice_get xs k ≡ Some u) q e) here) in
       let same : SameSection now.held.history new.held.history t = f.only.others t other in
       let old = before.each k t e in
-      let part_is : arranged_part new.held.history t ≡ arranged_part now.held.history t = same_part now.held.history new.held.history t same in
-      (
+      let part_is : arranged_part new.held.history t ≡ arranged_part now.held.history t = same_part now.held.history new.held.history t same in (
         (λ l.
-        let done = old.0 (omega (arith, l, d)) in
-        (part_is ∙ done.0 ∙ ap (λ (p : Part). slice_index_or parts k p) (sym part_is), keeps_before start now new t done.1 same)),
+            let done = old.0 (omega (arith, l, d)) in
+            (part_is ∙ done.0 ∙ ap (λ (p : Part). slice_index_or parts k p) (sym part_is), keeps_before start now new t done.1 same)),
         λ l. same_join start.held.history now.held.history new.held.history t (old.1 (omega (arith, l))) same,
       )
 

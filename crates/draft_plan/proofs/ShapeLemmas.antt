@@ -139,8 +139,7 @@ drop_shaped old new k n w l exact made =
     let keeps : KeepsHeld h (e ∷ h) =
     one_keeps h e w (joins h e edit.ready.0) (delete_quiet h x.0 w (get_in xs k x.0 x.1)) (λ t. edit.elsewhere (within t) (λ d. cc d))
     (λ s m. elim (in_spliced xs [] k 1 s (subst (λ l. Contains l s) edit.here m)) [ inl q ↦ inl q | inr q ↦ absurd (contains_none s q) ]) in
-    let count : length (shown catalogue new.held.history) ≡ length (spliced xs k 1 []) = ap (λ g. length (shown catalogue g)) is ∙ ap length edit.here in
-    (
+    let count : length (shown catalogue new.held.history) ≡ length (spliced xs k 1 []) = ap (λ g. length (shown catalogue g)) is ∙ ap length edit.here in (
       one_shaped old new e n is (makes_one old new (Edit (DropSection k)) n (changed_edit old new (DropSection k) n exact made) made.count) keeps,
       omega (arith, count, length-spliced xs [] k 1 (omega (arith, l))),
     )
@@ -162,8 +161,7 @@ add_shaped old new at n title w l exact made =
       | inl q ↦ inl q
       | inr q ↦ elim (contains_cases x [] s q) [ inl d ↦ inr (ap (holds h) (sym d) ∙ fresh old) | inr q ↦ absurd (contains_none s q) ]
     ]) in
-    let count : length (shown catalogue new.held.history) ≡ length (spliced xs at 0 (x ∷ [])) = ap (λ g. length (shown catalogue g)) is ∙ ap length edit.here in
-    (
+    let count : length (shown catalogue new.held.history) ≡ length (spliced xs at 0 (x ∷ [])) = ap (λ g. length (shown catalogue g)) is ∙ ap length edit.here in (
       one_shaped old new e n is (makes_one old new (Edit (Add at title)) n (changed_edit old new (Add at title) n exact made) made.count) keeps,
       omega (arith, count, length-spliced xs (x ∷ []) at 0 (omega (arith, l))),
     )

@@ -183,8 +183,7 @@ hunk_made old mid new k cut put h scalars chs l is i =
     let next = put_revised mid new k at put chs x i.then_lawful there still i.puts i.put_made in
     let come : List Identifier = put_ids mid chs in
     let reads : spliced (text mid.held.history x) at 0 chs ≡ spliced old_text at n (take h.new_len (drop h.new_at scalars)) =
-    ap (λ t. spliced t at 0 chs) first.here ∙ spliced_again old_text chs at n whole ∙ ap (spliced old_text at n) is in
-    (
+    ap (λ t. spliced t at 0 chs) first.here ∙ spliced_again old_text chs at n whole ∙ ap (spliced old_text at n) is in (
       x,
       e,
       record {

@@ -12,6 +12,8 @@ mod part;
 mod reading;
 mod revising;
 mod revision;
+#[cfg(test)]
+mod revision_tests;
 mod rises;
 mod shaping;
 #[cfg(test)]

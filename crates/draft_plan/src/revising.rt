@@ -118,5 +118,11 @@ pub fn revise_text(
     }
     let hunks = text_hunks(alloc, old.as_str(), new, MOST_DIFFERENCES)?;
     let scalars = scalars_of(alloc, new)?;
-    revise_hunks(alloc, replica, section, hunks.as_slice(), scalars.as_slice())
+    revise_hunks(
+        alloc,
+        replica,
+        section,
+        hunks.as_slice(),
+        scalars.as_slice(),
+    )
 }

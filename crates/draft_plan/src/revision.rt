@@ -1,6 +1,6 @@
 //! A whole manuscript, revised until it is a draft.
 
-ghost use Rattle.std.specs.Prelude.{◌≡◌, IfErr, IfOk, IsTrue, Some, length, map, string_bytes};
+ghost use Rattle.std.specs.Prelude.{◌≡◌, ◌↔◌, IfErr, IfOk, IsTrue, Some, length, map, string_bytes};
 ghost use Rattle.std.specs.Str.{encode_utf8_all};
 ghost use Rattle.origin_model.specs.edits.Refusal.{section_shown};
 ghost use Rattle.origin_model.specs.edits.State.{Stands};
@@ -25,11 +25,7 @@ use std::alloc::Global;
 ///
 /// Sections with equal headings are matched with parts first, then those with similar texts. A matched section is
 /// moved and retitled only where it has to be, and its text is changed only where it differs.
-pub fn revise(
-    alloc: Global,
-    replica: &mut Replica,
-    draft: &Draft<'_>,
-) -> Result<u32, ReviseFault>
+pub fn revise(alloc: Global, replica: &mut Replica, draft: &Draft<'_>) -> Result<u32, ReviseFault>
     requires { IsSettled replica.old.held }
     ensures revised { IfOk result (λ n. IsRevision replica.old replica.new draft.now n) }
     ensures same { IfOk result (λ n. MakesNothing replica.old replica.new draft.now n) }
@@ -39,10 +35,11 @@ pub fn revise(
 {
     let parts = draft.parts();
     let outline = outline(alloc, replica)?;
-    if has_titles(outline.entries(), parts) {
-        return fill(alloc, replica, outline.entries(), parts);
+    let entries = outline.entries();
+    if has_titles(entries, parts) {
+        return fill(alloc, replica, entries, parts);
     }
-    let shaped = shape(alloc, replica, outline.entries(), parts)?;
+    let shaped = shape(alloc, replica, entries, parts)?;
     let filled = fill_shaped(alloc, replica, parts)?;
     Ok(shaped + filled)
 }
@@ -56,19 +53,21 @@ fn has_titles(entries: &[Entry], parts: &[Part<'_>]) -> bool
         return false;
     }
     'entries: for (j, entry) in entries.iter().enumerate() {
-        if entry.heading.as_str() != parts[j].title {
+        if !has_title(entry, parts[j].title) {
             return false;
         }
     }
     true
 }
 
+fn has_title(entry: &Entry, title: &str) -> bool
+    ensures { IsTrue result ↔ (string_bytes entry.now.heading ≡ title.now) }
+{
+    entry.heading.as_str() == title
+}
+
 /// Gives the sections the titles and the texts of the parts, where there are as many of them.
-fn fill_shaped(
-    alloc: Global,
-    replica: &mut Replica,
-    parts: &[Part<'_>],
-) -> Result<u32, ReviseFault>
+fn fill_shaped(alloc: Global, replica: &mut Replica, parts: &[Part<'_>]) -> Result<u32, ReviseFault>
     requires settled { IsSettled replica.old.held }
     requires stands { Stands replica.old }
     requires count { length (arranged replica.old.held.history) ≡ length parts.now }
@@ -100,18 +99,19 @@ fn fill(
 {
     let mut made = 0;
     'parts: for (place, part) in parts.iter().enumerate() {
-        made += fill_section(alloc, replica, place, &entries[place], part)?;
+        made += fill_section(alloc, replica, place, &entries[place], part.title, part.text)?;
     }
     Ok(made)
 }
 
-/// Gives a section the title and the text of a part.
+/// Gives a section a title and a text.
 fn fill_section(
     alloc: Global,
     replica: &mut Replica,
     place: usize,
     entry: &Entry,
-    part: &Part<'_>,
+    title: &str,
+    text: &str,
 ) -> Result<u32, ReviseFault>
     requires settled { IsSettled replica.old.held }
     requires stands { Stands replica.old }
@@ -120,13 +120,13 @@ fn fill_section(
     requires headed { string_bytes entry.now.heading
         ≡ encode_utf8_all (heading replica.old.held.history entry.now.section) }
     ensures filled { IfOk result
-        (λ n. IsFilled replica.old replica.new entry.now.section (seen_part part.now) n) }
+        (λ n. IsFilled replica.old replica.new entry.now.section (record { title = title.now; text = text.now }) n) }
     ensures stops { IfErr result (λ why. StopsAtLimit replica.old replica.new why) }
     ensures settled { IsSettled replica.new.held }
     ensures stands { Stands replica.new }
 {
-    let retitled = retitle_other(alloc, replica, place, entry, part.title)?;
-    let revised = revise_text(alloc, replica, entry.number, part.text)?;
+    let retitled = retitle_other(alloc, replica, place, entry, title)?;
+    let revised = revise_text(alloc, replica, entry.number, text)?;
     Ok(retitled + revised)
 }
 
@@ -148,7 +148,7 @@ fn retitle_other(
     ensures settled { IsSettled replica.new.held }
     ensures stands { Stands replica.new }
 {
-    if entry.heading.as_str() == title {
+    if has_title(entry, title) {
         return Ok(0);
     }
     let title = title_of(alloc, title)?;

@@ -1,6 +1,6 @@
 //! The sections of a replica added, dropped and moved, until they stand as the parts of a draft do.
 
-ghost use Rattle.std.specs.Prelude.{◌≡◌, ◌+◌, ◌<◌, ◌≤◌, IfOk, IfSome, OnOk, count_by, encode_utf8_all, is_none, length};
+ghost use Rattle.std.specs.Prelude.{◌≡◌, ◌+◌, ◌<◌, ◌≤◌, IfOk, IfSome, OnOk, count_by, encode_utf8_all, if◌then◌else◌, is_none, length};
 ghost use Rattle.origin_model.specs.declared.operations.Place.TheVariants.{Catalogue as catalogue};
 ghost use Rattle.origin_model.specs.edits.State.{Stands};
 ghost use Rattle.origin_model.specs.order.Printed.{shown};
@@ -104,24 +104,25 @@ fn drop_free(replica: &mut Replica, pairs: &Pairs) -> Result<u32, ReviseFault>
     let mut made = 0;
     'sections: while left > 0 {
         left -= 1;
-        if !pairs.taken[left] {
-            made += drop_section(replica, left)?;
-        }
+        made += drop_unless(replica, left, pairs.taken[left])?;
     }
     Ok(made)
 }
 
-/// Drops one section.
-fn drop_section(replica: &mut Replica, section: usize) -> Result<u32, ReviseFault>
+/// Drops a section, unless it has a part.
+fn drop_unless(replica: &mut Replica, section: usize, taken: bool) -> Result<u32, ReviseFault>
     requires settled { IsSettled replica.old.held }
     requires stands { Stands replica.old }
     requires within { section < length (shown catalogue replica.old.held.history) }
     ensures shapes { Shapes replica.old replica.new result }
-    ensures count { OnOk result (length (shown catalogue replica.new.held.history) + 1
+    ensures count { OnOk result (length (shown catalogue replica.new.held.history) + (if taken then 0 else 1)
         ≡ length (shown catalogue replica.old.held.history)) }
     ensures settled { IsSettled replica.new.held }
     ensures stands { Stands replica.new }
 {
+    if taken {
+        return Ok(0);
+    }
     Ok(replica.drop_section(section)?)
 }
 
@@ -145,27 +146,27 @@ fn add_missing(
     let mut made = 0;
     let mut before = None;
     'parts: for (j, part) in parts.iter().enumerate() {
-        if pairs.of_part[j].is_none() {
-            let number = number_behind(replica, before);
-            made += add_section(alloc, replica, number, part.title)?;
-            set_section(sections, j, replica.places().section_at(number));
-        }
-        before = section_in(sections.as_slice(), j);
+        let number = number_behind(replica, before);
+        made += add_unless(alloc, replica, number, part.title, pairs.of_part[j])?;
+        before = added_section(replica, sections, j, number);
     }
     Ok(made)
 }
 
-fn section_in(sections: &[Option<ElementId>], part: usize) -> Option<ElementId> {
-    match sections.get(part) {
-        Some(section) => *section,
-        None => None,
+/// The section of a part: that with the number, where it was just added.
+fn added_section(
+    replica: &Replica,
+    sections: &mut Vec<Option<ElementId>>,
+    part: usize,
+    number: usize,
+) -> Option<ElementId> {
+    if part >= sections.len() {
+        return None;
     }
-}
-
-fn set_section(sections: &mut Vec<Option<ElementId>>, part: usize, section: Option<ElementId>) {
-    if part < sections.len() {
-        sections[part] = section;
+    if sections[part].is_none() {
+        sections[part] = replica.places().section_at(number);
     }
+    sections[part]
 }
 
 /// Where a section goes in the catalogue to stand behind this one, or in front of all.
@@ -181,22 +182,26 @@ fn number_behind(replica: &Replica, before: Option<ElementId>) -> usize
     }
 }
 
-/// Adds one section.
-fn add_section(
+/// Adds a section for a part, unless it has one.
+fn add_unless(
     alloc: Global,
     replica: &mut Replica,
     number: usize,
     title: &str,
+    there: Option<usize>,
 ) -> Result<u32, ReviseFault>
     requires settled { IsSettled replica.old.held }
     requires stands { Stands replica.old }
     requires within { number ≤ length (shown catalogue replica.old.held.history) }
     ensures shapes { Shapes replica.old replica.new result }
     ensures count { OnOk result (length (shown catalogue replica.new.held.history)
-        ≡ length (shown catalogue replica.old.held.history) + 1) }
+        ≡ length (shown catalogue replica.old.held.history) + (if is_none there then 1 else 0)) }
     ensures settled { IsSettled replica.new.held }
     ensures stands { Stands replica.new }
 {
+    if there.is_some() {
+        return Ok(0);
+    }
     let title = title_of(alloc, title)?;
     Ok(replica.add(number, title)?)
 }
@@ -220,9 +225,12 @@ fn arrange(
     let mut made = 0;
     let mut before = None;
     'parts: for (j, section) in sections.iter().enumerate() {
-        if !is_set(stays.as_slice(), j) {
-            made += move_behind(alloc, replica, &mut order, before, *section)?;
-        }
+        let to_move = if is_set(stays.as_slice(), j) {
+            None
+        } else {
+            *section
+        };
+        made += move_behind(alloc, replica, &mut order, before, to_move)?;
         before = *section;
     }
     Ok(made)
@@ -238,7 +246,7 @@ fn order_of(alloc: Global, replica: &Replica) -> Result<Vec<ElementId>, NoMemory
 {
     let outline = outline(alloc, replica)?;
     let mut order = Vec::new(alloc);
-    'entries: for entry in outline.entries() {
+    'sections: for entry in outline.entries() {
         order.push(entry.section)?;
     }
     Ok(order)
@@ -313,17 +321,39 @@ fn move_behind(
     ensures settled { IsSettled replica.new.held }
     ensures stands { Stands replica.new }
 {
-    let Some(from) = section_place(order.as_slice(), section) else {
+    let Some((from, to)) = find_move(order.as_slice(), before, section) else {
         return Ok(0);
     };
-    let to = place_behind(order.as_slice(), before, from);
-    if from == to {
-        return Ok(0);
-    }
     let made = move_one(alloc, replica, from, to)?;
+    reorder(order, from, to)?;
+    Ok(made)
+}
+
+/// Takes a member to another place.
+fn reorder(order: &mut Vec<ElementId>, from: usize, to: usize) -> Result<(), NoMemory>
+    requires from_within { from < length order.old.items }
+    requires to_within { to < length order.old.items }
+    ensures { OnOk result (length order.new.items ≡ length order.old.items) }
+{
     let section = order.remove(from);
     order.insert(to, section)?;
-    Ok(made)
+    Ok(())
+}
+
+/// From where to where a section is moved to stand behind another one, or in front of all. None where it stands there.
+fn find_move(
+    order: &[ElementId],
+    before: Option<ElementId>,
+    section: Option<ElementId>,
+) -> Option<(usize, usize)>
+    ensures { IfSome result (λ (from, to). (from < length order.now) × (to < length order.now)) }
+{
+    let from = section_place(order, section)?;
+    let to = place_behind(order, before, from);
+    if from == to {
+        return None;
+    }
+    Some((from, to))
 }
 
 fn section_place(order: &[ElementId], section: Option<ElementId>) -> Option<usize>

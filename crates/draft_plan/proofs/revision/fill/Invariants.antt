@@ -1,0 +1,13 @@
+use Rattle.std.specs.Prelude.{map}
+use Rattle.origin_model.specs.edits.State.{Stands}
+use Rattle.origin_model.specs.taking.Taking.{IsSettled}
+use Rattle.draft_plan.specs.Readings.{seen_part}
+use Rattle.draft_plan.specs.Shaping.{AreFilled}
+use Rattle.draft_plan.proofs.revision.fill.Given as goal
+
+abbrev pub invariant-parts : goal.invariant-parts
+invariant-parts l = record {
+  settled : IsSettled l.replica.held;
+  stands : Stands l.replica;
+  filled : AreFilled l.fn.replica l.replica (map seen_part l.parts) l.place l.made;
+}

@@ -1,0 +1,28 @@
+use Rattle.std.proofs.Common.{arith, ◌+◌}
+use Rattle.std.proofs.lemmas.Result.{err_from_is_err_and}
+use Rattle.draft_plan.proofs.FillLemmas.{section_filled, text_stops}
+use Rattle.draft_plan.proofs.MakingLemmas.{makes_few}
+use Rattle.draft_plan.proofs.revision.fill_section.Goals as goal
+
+pub returns-in_err-revised-clause-stops : goal.returns-in_err-revised-clause-stops
+returns-in_err-revised-clause-stops c =
+    let p = err_from_is_err_and c.from_residual-in_err-revised.result c.from_residual-in_err-revised.ensures.1 in
+    let e = c.in_err-revised.ensures in
+    rw (p.1, p.2)
+    (text_stops c.args.replica.now c.retitle_other.new.replica c.revise_text.new.replica c.args.entry.now.number c.in_ok-retitled.retitled c.args.entry.now.section c.args.title.now
+    c.in_err-revised.field-0.0 c.requires.numbered c.in_ok-retitled.ensures.titled e.absent e.in_range e.stops)
+
+pub overflow_add-result : goal.overflow_add-result
+overflow_add-result c =
+    let e = c.in_ok-revised.ensures in
+    let made = section_filled c.args.replica.now c.retitle_other.new.replica c.revise_text.new.replica c.args.entry.now.number c.in_ok-retitled.retitled c.in_ok-revised.revised
+    c.args.entry.now.section c.args.title.now c.args.text.now c.requires.numbered c.in_ok-retitled.ensures.titled
+    (record { utf8 = c.utf8.text; revised = e.revised; keeps = e.keeps; same = e.same }) in
+    omega (arith, makes_few c.args.replica.now c.revise_text.new.replica (c.in_ok-retitled.retitled + c.in_ok-revised.revised) made.makes e.stands)
+
+pub returns-clause-filled : goal.returns-clause-filled
+returns-clause-filled c =
+    let e = c.in_ok-revised.ensures in
+    section_filled c.args.replica.now c.retitle_other.new.replica c.revise_text.new.replica c.args.entry.now.number c.in_ok-retitled.retitled c.in_ok-revised.revised
+    c.args.entry.now.section c.args.title.now c.args.text.now c.requires.numbered c.in_ok-retitled.ensures.titled
+    (record { utf8 = c.utf8.text; revised = e.revised; keeps = e.keeps; same = e.same })
