@@ -148,7 +148,8 @@ still_within : {X : Type 0} (xs : List X) (at n : ℕ) → at ≤ length xs → 
 still_within {X} xs at n h =
     let front : List X = take at xs in
     let rest : List X = drop (at + n) xs in
-    omega (arith, length-take-le at xs h, length-append (front ++ []) rest, length-append front ([] {A = X}))
+    let none : List X = [] in
+    omega (arith, length-take-le at xs h, length-append (front ++ none) rest, length-append front none)
 
 -- a section in which a cut was made, and then a put at the same position
 pub record IsCutAndPut (old mid new : State) (k at n cut put : ℕ) (chs : List ℕ) : Type 0 where
@@ -183,8 +184,7 @@ hunk_made old mid new k cut put h scalars chs l is i =
     let next = put_revised mid new k at put chs x i.then_lawful there still i.puts i.put_made in
     let come : List Identifier = put_ids mid chs in
     let reads : spliced (text mid.held.history x) at 0 chs ≡ spliced old_text at n (take h.new_len (drop h.new_at scalars)) =
-    ap (λ t. spliced t at 0 chs) first.here ∙ spliced_again old_text chs at n whole ∙ ap (spliced old_text at n) is in
-    (
+    ap (λ t. spliced t at 0 chs) first.here ∙ spliced_again old_text chs at n whole ∙ ap (spliced old_text at n) is in (
       x,
       e,
       record {

@@ -22,7 +22,7 @@ const MOST_DIFFERENCES: usize = 4096;
 
 /// The text of some scalars.
 fn text_of(alloc: Global, scalars: &[char]) -> Result<String, NoMemory>
-    ensures { IfOk result (λ text. chars (string_bytes text) ≡ scalars.now) }
+    ensures { IfOk result (λ text. string_bytes text ≡ encode_utf8_all scalars.now) }
 {
     let mut text = String::new(alloc);
     'scalars: for scalar in scalars {
@@ -118,5 +118,11 @@ pub fn revise_text(
     }
     let hunks = text_hunks(alloc, old.as_str(), new, MOST_DIFFERENCES)?;
     let scalars = scalars_of(alloc, new)?;
-    revise_hunks(alloc, replica, section, hunks.as_slice(), scalars.as_slice())
+    revise_hunks(
+        alloc,
+        replica,
+        section,
+        hunks.as_slice(),
+        scalars.as_slice(),
+    )
 }

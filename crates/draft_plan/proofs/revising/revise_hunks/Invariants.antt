@@ -10,7 +10,7 @@ invariant-hunks l = record {
   within : l.left ≤ length l.hunks;
   settled : IsSettled l.replica.held;
   stands : Stands l.replica;
-  made : OfSection l.fn.replica l.section (λ x. AreHunksMade l.fn.replica l.replica l.section x (drop l.left l.hunks) l.new l.made)
+  made : OfSection l.fn.replica l.section (λ x. AreHunksMade l.fn.replica l.replica l.section x (drop l.left l.hunks) l.new l.made);
 }
 
 abbrev pub decreases-hunks : goal.decreases-hunks
