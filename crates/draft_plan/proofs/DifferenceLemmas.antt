@@ -30,7 +30,7 @@ differs_here a b at l m e i =
     sym (ap (λ k. unless_whole k a b) n ∙ ap (λ t. cond t None (Some at)) (and_left (nat_eq at (length a)) (nat_eq at (length b)) other))
 
 -- one of them ends there
-ends_here : (a b : List ℕ) (at : ℕ) → (length a ≤ at) ⊎ (length b ≤ at) → IsCommonTo a b at → common_prefix_len nat_eq a b ≡ at
+pub ends_here : (a b : List ℕ) (at : ℕ) → (length a ≤ at) ⊎ (length b ≤ at) → IsCommonTo a b at → common_prefix_len nat_eq a b ≡ at
 ends_here a b at (inl e) i = omega (arith, i.common, (common_prefix_len-le nat_eq (drop at a) (drop at b)).0, length-drop at a, e)
 ends_here a b at (inr e) i = omega (arith, i.common, (common_prefix_len-le nat_eq (drop at a) (drop at b)).1, length-drop at b, e)
 

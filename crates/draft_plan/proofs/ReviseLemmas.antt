@@ -1,27 +1,29 @@
 -- The text of a section, revised hunk by hunk.
-use Rattle.std.proofs.Common.{List, [], ap, drop, get_or, length, nat_eq, refl, subst, sym, take, ℕ, ◌+◌, ◌++◌, ◌<◌, ◌≤◌, ◌∙◌, ◌∷◌, ◌≡◌}
-use Rattle.std.specs.Prelude.{None, Option, Some, option_map, slice_get}
+use Rattle.std.proofs.Common.{List, [], ap, arith, drop, get_or, length, nat_eq, refl, subst, sym, take, ℕ, ◌+◌, ◌++◌, ◌-◌, ◌<◌, ◌≤◌, ◌∙◌, ◌∷◌, ◌≡◌}
+use Rattle.std.specs.Prelude.{Err, IfOk, None, Ok, OnOk, Option, Result, Some, option_map, slice_get}
 use Rattle.std.specs.Str.{IsUtf8, chars, encode_utf8_all}
 use Rattle.std.proofs.lemmas.Option.{none-some, same_Some}
 use lib.Utf8.{encode}
-use Rattle.std.proofs.lemmas.List.{append-nil, take_more}
+use Rattle.std.proofs.lemmas.List.{append-nil, drop_more, take_more}
 use Rattle.std.proofs.lemmas.List.Elements.{All-tail}
 use Rattle.std.proofs.lemmas.Str.{encodes-append, encodes-chars, encodes_same}
 use Rattle.fugue_ids.specs.Identifiers.{Identifier}
+use Rattle.fugue_ids.specs.declared.limits.TheConstants.{MOST_OPERATIONS}
+use Rattle.origin_model.specs.declared.edit_fault.EditFault.{EditFault}
 use Rattle.origin_model.specs.edits.Edits.{spliced}
 use Rattle.origin_model.specs.edits.Effect.{OfSection}
 use Rattle.origin_model.specs.edits.Refusal.{section_shown}
-use Rattle.origin_model.specs.edits.State.{State}
+use Rattle.origin_model.specs.edits.State.{Stands, State}
 use Rattle.origin_model.specs.operations.Verdict.{Lawful}
 use Rattle.origin_model.specs.order.Printed.{text}
 use Rattle.origin_model.proofs.edits.EditedTextLemmas.{text_length}
 use Rattle.text_diff.specs.Hunks.{IsTrimmed, Transforms, replaced}
 use Rattle.text_diff.specs.declared.hunk.Hunk.{Hunk}
 use Rattle.draft_plan.specs.Revising.{AreHunksMade, EndsBy, IsHunkMade, IsWithinText, StaysAround, elements}
-use Rattle.draft_plan.specs.Texts.{IsRevised, KeepsCommon, KeepsElements}
-use Rattle.draft_plan.proofs.HunkLemmas.{AreOrdered, ordered_at, replaced_long, replaced_step}
+use Rattle.draft_plan.specs.Texts.{IsRevised, KeepsCommon, KeepsElements, StopsEditing}
+use Rattle.draft_plan.proofs.HunkLemmas.{AreOrdered, news_within, ordered_at, replaced_long, replaced_step}
 use Rattle.draft_plan.proofs.KeptLemmas.{same_common, stays_common, stays_more, stays_none}
-use Rattle.draft_plan.proofs.TextLemmas.{revised_join, revised_none, still_there}
+use Rattle.draft_plan.proofs.TextLemmas.{revised_few, revised_join, revised_none, revised_stops, still_there}
 
 same_section : (s : State) (k : ℕ) (x y : Identifier) → section_shown s k ≡ Some x → section_shown s k ≡ Some y → x ≡ y
 same_section s k x y e f = same_Some x y (sym e ∙ f)
@@ -38,35 +40,49 @@ hunks_none s k n hs new t e = (
   }),
 )
 
--- the hunks that are made, and the next one
-module _ (old mid : State) (k left made : ℕ) (hs : List Hunk) (new : List ℕ) (h : Hunk) (t : OfSection old k (λ x. Transforms nat_eq (text old.held.history x) new hs))
-    (done : OfSection old k (λ x. AreHunksMade old mid k x (drop (left + 1) hs) new made)) (e : drop left hs ≡ h ∷ drop (left + 1) hs) where
+-- no hunk
+abbrev pub no_hunk : Hunk
+no_hunk = record { old_at = 0; old_len = 0; new_at = 0; new_len = 0 }
+
+-- the hunks that are made, from one on, and the one in front of that
+module _ (old mid : State) (k left made : ℕ) (hs : List Hunk) (new : List ℕ) (t : OfSection old k (λ x. Transforms nat_eq (text old.held.history x) new hs))
+    (done : OfSection old k (λ x. AreHunksMade old mid k x (drop left hs) new made)) (some : 0 < left) (fits : left ≤ length hs) where
   abbrev x : Identifier
   x = done.0
 
   abbrev old_text : List ℕ
   old_text = text old.held.history x
 
+  abbrev h : Hunk
+  h = get_or hs (left - 1) no_hunk
+
   abbrev back : List Hunk
-  back = drop (left + 1) hs
+  back = drop left hs
 
   abbrev put : List ℕ
   put = take h.new_len (drop h.new_at new)
 
+  split : drop (left - 1) hs ≡ h ∷ back
+  split = drop_more hs (left - 1) no_hunk (omega (arith, some, fits)) ∙ ap (λ n. h ∷ drop n hs) (omega (arith, some))
+
   ordered : (p : ℕ) × AreOrdered old_text p (h ∷ back)
   ordered =
       let transforms : Transforms nat_eq old_text new hs = subst (λ (y : Identifier). Transforms nat_eq (text old.held.history y) new hs) (same_section old k t.0 x t.1 done.1) t.2 in
-      ordered_at old_text new hs back left h transforms e
+      ordered_at old_text new hs back (left - 1) h transforms split
 
   there : section_shown mid k ≡ Some x
   there = still_there old mid k x (replaced old_text new 0 back) made done.2.revised done.1
 
-  -- it lies within the text as it is
+  -- that one lies within the text as it is
   pub next_within : IsWithinText mid k (h.old_at + h.old_len)
   next_within = (x, there, subst (λ (r : List ℕ). h.old_at + h.old_len ≤ length r) (sym done.2.revised.here) (replaced_long old_text new ordered.0 h back ordered.1))
 
-  -- one hunk more was made
-  pub hunks_more : (now : State) (n : ℕ) → OfSection mid k (λ x. IsHunkMade mid now k x h new n) → OfSection old k (λ x. AreHunksMade old now k x (drop left hs) new (made + n))
+  -- and within the new one
+  pub next_news : h.new_at + h.new_len ≤ length new
+  next_news = news_within (text old.held.history t.0) new hs t.2 (left - 1) no_hunk (omega (arith, some, fits))
+
+  -- it was made too
+  pub hunks_more : (now : State) (n : ℕ) → OfSection mid k (λ x. IsHunkMade mid now k x h new n) → OfSection old k (λ x. AreHunksMade old now k x (drop (left - 1) hs) new (made + n))
   hunks_more now n next =
       let one : IsHunkMade mid now k x h new n = subst (λ (y : Identifier). IsHunkMade mid now k y h new n) (same_section mid k next.0 x next.1 there) next.2 in
       let reads : spliced (text mid.held.history x) h.old_at h.old_len put ≡ replaced old_text new 0 (h ∷ back) =
@@ -78,7 +94,19 @@ module _ (old mid : State) (k left made : ℕ) (hs : List Hunk) (new : List ℕ)
             (stays_more old_text (elements old x) (elements mid x) one.come ordered.0 end h back ordered.1 l ends
             (done.2.stays end l (All-tail (EndsBy end) h back ends)));
       } in
-      (x, done.1, subst (λ (r : List Hunk). AreHunksMade old now k x r new (made + n)) (sym e) more)
+      (x, done.1, subst (λ (r : List Hunk). AreHunksMade old now k x r new (made + n)) (sym split) more)
+
+  -- the edits stopped in it
+  pub hunks_stop : (now : State) (why : EditFault) → StopsEditing mid now k why → StopsEditing old now k why
+  hunks_stop now why stops = revised_stops old mid now k made x (replaced old_text new 0 back) why done.2.revised stops
+
+-- so many operations there are
+pub hunks_few : (old now : State) (k n : ℕ) (hs : List Hunk) (new : List ℕ) → OfSection old k (λ x. AreHunksMade old now k x hs new n) → Stands now → n ≤ MOST_OPERATIONS
+hunks_few old now k n hs new r st = revised_few old now k r.0 (replaced (text old.held.history r.0) new 0 hs) n r.2.revised st
+
+pub hunk_few : (old now : State) (k n : ℕ) (h : Hunk) (new : List ℕ) → OfSection old k (λ x. IsHunkMade old now k x h new n) → Stands now → n ≤ MOST_OPERATIONS
+hunk_few old now k n h new r st =
+    revised_few old now k r.0 (spliced (text old.held.history r.0) h.old_at h.old_len (take h.new_len (drop h.new_at new))) n r.2.revised st
 
 -- the text of a section that is shown
 found_in : (f : Identifier → List ℕ) (o : Option Identifier) (bytes : List ℕ) → Some bytes ≡ option_map f o → (x : Identifier) × (o ≡ Some x) × (bytes ≡ f x)
@@ -127,15 +155,23 @@ module _ (old now : State) (k n : ℕ) (bytes new : List ℕ) (hs : List Hunk) (
             (subst (λ (o : List ℕ). KeepsCommon (chars bytes) o (elements old r.0) (elements now r.0)) (sym all_revised.here) kept),
       )
 
+pub call_revised : (old now : State) (k : ℕ) (bytes new : List ℕ) (hs : List Hunk) (result : Result ℕ EditFault) → IsTextAt old k bytes → replaced (chars bytes) new 0 hs ≡ new
+    → IfOk result (λ n. OfSection old k (λ x. AreHunksMade old now k x hs new n)) → IfOk result (λ n. OfSection old k (λ x. IsRevised old now k x new n))
+call_revised old now k bytes new hs (Ok n) t e r = text_revised old now k n bytes new hs t e r
+call_revised old now k bytes new hs (Err why) t e r = tt
+
+pub call_keeps : (old now : State) (k : ℕ) (bytes new : List ℕ) (hs : List Hunk) (result : Result ℕ EditFault) → IsTextAt old k bytes → replaced (chars bytes) new 0 hs ≡ new
+    → Lawful old.held.history → IsTrimmed nat_eq (chars bytes) new hs → (chars bytes ≡ new → ⊥)
+    → IfOk result (λ n. OfSection old k (λ x. AreHunksMade old now k x hs new n)) → OnOk result (OfSection old k (λ x. KeepsElements old now x))
+call_keeps old now k bytes new hs (Ok n) t e w trimmed other r = text_keeps old now k n bytes new hs t e r w trimmed other
+call_keeps old now k bytes new hs (Err why) t e w trimmed other r = tt
+
 -- the text is the same
 pub text_same : (s : State) (k : ℕ) (bytes : List ℕ) → IsTextAt s k bytes → OfSection s k (λ x. IsRevised s s k x (chars bytes) 0)
 text_same s k bytes t = (t.section, t.shown, subst (λ (r : List ℕ). IsRevised s s k t.section r 0) t.is (revised_none s k t.section))
 
 pub text_kept : (s : State) (k : ℕ) (bytes : List ℕ) → Lawful s.held.history → IsTextAt s k bytes → OfSection s k (λ x. KeepsElements s s x)
 text_kept s k bytes w t = (t.section, t.shown, same_common (text s.held.history t.section) (elements s t.section) (text_length s.held.history t.section w))
-
-pub text_unmade : (s : State) (k : ℕ) (bytes : List ℕ) → IsTextAt s k bytes → OfSection s k (λ x. encode_utf8_all (text s.held.history x) ≡ bytes → (0 ≡ 0) × (s ≡ s))
-text_unmade s k bytes t = (t.section, t.shown, λ e. (refl, refl))
 
 -- the text is another
 pub text_other : (old now : State) (k n : ℕ) (bytes new : List ℕ) → IsTextAt old k bytes → (bytes ≡ new → ⊥)
@@ -150,11 +186,10 @@ text_none f None e = refl
 text_none f (Some x) e = absurd (none-some (f x) e)
 
 -- a text typed scalar by scalar
-pub typed_more : (bytes scalars : List ℕ) (i : ℕ) → i < length scalars → bytes ≡ encode_utf8_all (take i scalars) → bytes ++ encode (get_or scalars i 0) ≡ encode_utf8_all (take (i + 1) scalars)
-typed_more bytes scalars i l e =
-    let ch : ℕ = get_or scalars i 0 in
+pub typed_more : (bytes scalars : List ℕ) (i ch : ℕ) → i < length scalars → ch ≡ get_or scalars i ch → bytes ≡ encode_utf8_all (take i scalars) → bytes ++ encode ch ≡ encode_utf8_all (take (i + 1) scalars)
+typed_more bytes scalars i ch l is e =
     ap (λ b. b ++ encode ch) e ∙ ap (λ x. encode_utf8_all (take i scalars) ++ x) (sym (append-nil (encode ch)))
-    ∙ sym (encodes-append (take i scalars) (ch ∷ [])) ∙ ap encode_utf8_all (sym (take_more scalars i 0 l))
+    ∙ sym (encodes-append (take i scalars) (ch ∷ [])) ∙ ap (λ x. encode_utf8_all (take i scalars ++ x ∷ [])) is ∙ ap encode_utf8_all (sym (take_more scalars i ch l))
 
 pub typed_whole : (bytes scalars : List ℕ) → IsUtf8 bytes → bytes ≡ encode_utf8_all scalars → chars bytes ≡ scalars
 typed_whole bytes scalars u e = encodes_same (chars bytes) scalars (encodes-chars bytes u ∙ e)

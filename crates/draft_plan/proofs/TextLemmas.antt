@@ -148,7 +148,8 @@ still_within : {X : Type 0} (xs : List X) (at n : ℕ) → at ≤ length xs → 
 still_within {X} xs at n h =
     let front : List X = take at xs in
     let rest : List X = drop (at + n) xs in
-    omega (arith, length-take-le at xs h, length-append (front ++ []) rest, length-append front ([] {A = X}))
+    let none : List X = [] in
+    omega (arith, length-take-le at xs h, length-append (front ++ none) rest, length-append front none)
 
 -- a section in which a cut was made, and then a put at the same position
 pub record IsCutAndPut (old mid new : State) (k at n cut put : ℕ) (chs : List ℕ) : Type 0 where

@@ -22,7 +22,7 @@ const MOST_DIFFERENCES: usize = 4096;
 
 /// The text of some scalars.
 fn text_of(alloc: Global, scalars: &[char]) -> Result<String, NoMemory>
-    ensures { IfOk result (λ text. chars (string_bytes text) ≡ scalars.now) }
+    ensures { IfOk result (λ text. string_bytes text ≡ encode_utf8_all scalars.now) }
 {
     let mut text = String::new(alloc);
     'scalars: for scalar in scalars {

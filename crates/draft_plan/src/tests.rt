@@ -1,6 +1,9 @@
 //! Drafts read, by value, and what revising a text costs.
 
-use crate::{Draft, DraftFault};
+use crate::{Draft, DraftFault, revise_text};
+use fugue_ids::Title;
+use origin_model::EditFault;
+use replica_core::Replica;
 use std::alloc::Global;
 use std::process::Abort;
 use std::test::Fail;
@@ -70,4 +73,79 @@ fn bad_lines(rt: HostRuntime) -> Result<(), Fail> {
         assert_eq!(rt; fault, Some(DraftFault::BadDraft(line)), "{bytes:?}");
     }
     Ok(())
+}
+
+/// The text of a section, what it is revised to, and how many operations that takes.
+type Revision = (&'static str, &'static str, u32);
+
+const REVISIONS: [Revision; 7] = [
+    ("one two", "one two", 0),
+    // A word is cut, and another one put.
+    ("one two", "1 two", 4),
+    ("", "x", 1),
+    ("one two", "", 7),
+    // A line typed in.
+    ("one\nthree", "one\ntwo\nthree", 4),
+    // A line moved: it is cut and put.
+    ("one\ntwo\nthree", "two\nthree\none", 8),
+    ("a b\nc d\ne f", "a b\nc x\ne f", 2),
+];
+
+/// Two sections, the first one with this text.
+fn write_sections(alloc: Global, replica: &mut Replica, text: &str) -> Result<(), Fail> {
+    replica.add(0, Title::read(alloc, "A")?)?;
+    replica.add(1, Title::read(alloc, "B")?)?;
+    replica.put(0, 0, text)?;
+    replica.put(1, 0, "three")?;
+    Ok(())
+}
+
+fn has_text(rt: &impl Abort, replica: &Replica, section: usize, wanted: &str) -> Result<(), Fail> {
+    let text = replica.text_of(section)?.ok_or("section")?;
+    assert_eq!(rt; text.as_str(), wanted);
+    Ok(())
+}
+
+fn revises(
+    rt: &impl Abort,
+    alloc: Global,
+    replica: &mut Replica,
+    row: Revision,
+) -> Result<(), Fail> {
+    let (old, new, count) = row;
+    write_sections(alloc, replica, old)?;
+    let made = revise_text(alloc, replica, 0, new)?;
+    assert_eq!(rt; made, count, "{row:?}");
+    has_text(rt, replica, 0, new)?;
+    has_text(rt, replica, 1, "three")?;
+    let absent = revise_text(alloc, replica, 2, new).err();
+    assert_eq!(rt; absent, Some(EditFault::NoSection));
+    Ok(())
+}
+
+#[test]
+fn texts_are_revised_by_what_differs(rt: HostRuntime) -> Result<(), Fail> {
+    for row in REVISIONS {
+        let mut replica = Replica::new(rt.alloc(), 1, 100, 100)?;
+        let done = revises(&rt, rt.alloc(), &mut replica, row);
+        drop(replica);
+        done?;
+    }
+    Ok(())
+}
+
+fn stops_behind_the_cut(rt: &impl Abort, alloc: Global, replica: &mut Replica) -> Result<(), Fail> {
+    write_sections(alloc, replica, "one two")?;
+    let fault = revise_text(alloc, replica, 0, "1 two").err();
+    assert_eq!(rt; fault, Some(EditFault::TooMany(17)));
+    has_text(rt, replica, 0, " two")
+}
+
+#[test]
+fn what_is_in_front_of_a_refused_edit_stands(rt: HostRuntime) -> Result<(), Fail> {
+    // There is room for the cut alone.
+    let mut replica = Replica::new(rt.alloc(), 1, 100, 17)?;
+    let done = stops_behind_the_cut(&rt, rt.alloc(), &mut replica);
+    drop(replica);
+    done
 }

@@ -1,0 +1,58 @@
+use Rattle.std.proofs.Common.{List, ap, sym, subst, ℕ, ◌∙◌, ◌≡◌}
+use Rattle.std.specs.Prelude.{IfOk, Some}
+use Rattle.std.specs.Str.{chars}
+use Rattle.std.proofs.lemmas.Bool.{false≢true}
+use Rattle.std.proofs.lemmas.Bool.Decides.{Decides-eqb}
+use Rattle.std.proofs.lemmas.Slice.Eq.{slice_eq-Decides}
+use Rattle.origin_model.specs.edits.Effect.{OfSection}
+use Rattle.draft_plan.specs.Texts.{IsRevised}
+use Rattle.draft_plan.proofs.ReviseLemmas.{call_keeps, call_revised, other_scalars, text_found, text_kept, text_same, text_transforms}
+use Rattle.draft_plan.proofs.revising.revise_text.Goals as goal
+
+pub returns-then-eq-clause-revised : goal.returns-then-eq-clause-revised
+returns-then-eq-clause-revised c =
+    let s = c.args.replica.now in
+    let k = c.args.section in
+    let bytes = c.as_str.result.now in
+    let t = text_found s k bytes c.as_str.utf8 (ap Some c.as_str.ensures.value ∙ rw c.in-Some.is at c.in_ok-old.ensures.text) in
+    let same = (slice_eq-Decides Decides-eqb bytes c.args.new.now c.eq.result c.eq.ensures).0 c.if-eq.true in
+    subst (λ (b : List ℕ). OfSection s k (λ x. IsRevised s s k x (chars b) 0)) same (text_same s k bytes t)
+
+pub returns-then-eq-clause-keeps : goal.returns-then-eq-clause-keeps
+returns-then-eq-clause-keeps c =
+    let s = c.args.replica.now in
+    let t = text_found s c.args.section c.as_str.result.now c.as_str.utf8 (ap Some c.as_str.ensures.value ∙ rw c.in-Some.is at c.in_ok-old.ensures.text) in
+    text_kept s c.args.section c.as_str.result.now c.text_of.ensures.stands.lawful t
+
+pub revise_hunks-requires-clause-hunks : goal.revise_hunks-requires-clause-hunks
+revise_hunks-requires-clause-hunks c =
+    let s = c.args.replica.now in
+    let t = text_found s c.args.section c.as_str-2.result.now c.as_str-2.utf8 (ap Some c.as_str-2.ensures.value ∙ rw c.in-Some.is at c.in_ok-old.ensures.text) in
+    text_transforms s c.args.section c.as_str-2.result.now c.as_slice-2.result.now c.as_slice.result.now t
+    (rw (c.as_slice.ensures.value, c.as_slice-2.ensures.value, c.in_ok-scalars.ensures) c.in_ok-hunks.ensures.transforms)
+
+pub returns-clause-revised : goal.returns-clause-revised
+returns-clause-revised c =
+    let s = c.args.replica.now in
+    let k = c.args.section in
+    let now = c.revise_hunks.new.replica in
+    let t = text_found s k c.as_str-2.result.now c.as_str-2.utf8 (ap Some c.as_str-2.ensures.value ∙ rw c.in-Some.is at c.in_ok-old.ensures.text) in
+    let scalars : c.as_slice-2.result.now ≡ chars c.args.new.now = c.as_slice-2.ensures.value ∙ c.in_ok-scalars.ensures in
+    subst (λ (r : List ℕ). IfOk c.revise_hunks.result (λ n. OfSection s k (λ x. IsRevised s now k x r n))) scalars
+    (call_revised s now k c.as_str-2.result.now c.as_slice-2.result.now c.as_slice.result.now c.revise_hunks.result t
+    (rw (c.as_slice.ensures.value, scalars) c.in_ok-hunks.ensures.replaced) c.revise_hunks.ensures.made)
+
+pub returns-clause-keeps : goal.returns-clause-keeps
+returns-clause-keeps c =
+    let s = c.args.replica.now in
+    let k = c.args.section in
+    let bytes = c.as_str-2.result.now in
+    let t = text_found s k bytes c.as_str-2.utf8 (ap Some c.as_str-2.ensures.value ∙ rw c.in-Some.is at c.in_ok-old.ensures.text) in
+    let scalars : c.as_slice-2.result.now ≡ chars c.args.new.now = c.as_slice-2.ensures.value ∙ c.in_ok-scalars.ensures in
+    let again : c.as_str.result.now ≡ bytes = c.as_str.ensures.value ∙ sym c.as_str-2.ensures.value in
+    let decides = slice_eq-Decides Decides-eqb c.as_str.result.now c.args.new.now c.eq.result c.eq.ensures in
+    let other : bytes ≡ c.args.new.now → ⊥ = λ e. false≢true (sym c.if-eq.false ∙ decides.1 (again ∙ e)) in
+    call_keeps s c.revise_hunks.new.replica k bytes c.as_slice-2.result.now c.as_slice.result.now c.revise_hunks.result t
+    (rw (c.as_slice.ensures.value, scalars) c.in_ok-hunks.ensures.replaced) c.text_of.ensures.stands.lawful
+    (rw (c.as_slice.ensures.value, scalars) c.in_ok-hunks.ensures.trimmed)
+    (λ e. other_scalars bytes c.args.new.now c.as_str-2.utf8 c.utf8.new other (e ∙ scalars)) c.revise_hunks.ensures.made
