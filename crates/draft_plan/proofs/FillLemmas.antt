@@ -10,6 +10,7 @@ use Rattle.origin_model.specs.declared.edit_fault.EditFault.{EditFault}
 use Rattle.origin_model.specs.declared.edit_fault.EditFault.TheVariants as edit
 use Rattle.origin_model.specs.declared.operations.Place.{Place}
 use Rattle.origin_model.specs.declared.operations.Place.TheVariants.{Catalogue as catalogue, Section as within}
+use Rattle.origin_model.specs.declared.operations.Role.{Role}
 use Rattle.origin_model.specs.edits.Effect.{OfSection}
 use Rattle.origin_model.specs.edits.Noting.{ShowsAsBefore}
 use Rattle.origin_model.specs.edits.Refusal.{section_shown}
@@ -53,6 +54,11 @@ headed_already s x title e = record {
   nothing = λ k. (refl, refl);
 }
 
+-- the first of some names
+abbrev first_of_names : Identifier → List (Identifier × Role) → Identifier
+first_of_names other [] = other
+first_of_names other (n ∷ ns) = n.0
+
 -- a retitle leaves the retitles of other sections
 other_retitles : (old : State) (s t : Identifier) (title : List ℕ) → t ≢ s → retitles_of (retitle_by old s title ∷ old.held.history) t ≡ retitles_of old.held.history t
 other_retitles old s t title d =
@@ -63,8 +69,7 @@ other_retitles old s t title d =
       | inl n ↦ ap (filter of) (claims-none retitle_in is_valid_title e h n)
       | inr r ↦
           let named : names e ≡ anything r.0.section ∷ [] = (title_shape e r.0 (passing_from (is_valid_title h) (retitle_in e) r.0 r.1).0).named in
-          let same : anything s ∷ [] ≡ anything r.0.section ∷ [] = named in
-          let section : s ≡ r.0.section = cc same in
+          let section : s ≡ r.0.section = ap (first_of_names s) named in
           ap (filter of) (claims-some retitle_in is_valid_title e h r.0 r.1)
           ∙ filter_no of r.0 (retitles h) (ne-id_eq r.0.section t (λ k. d (sym k ∙ sym section)))
     ]

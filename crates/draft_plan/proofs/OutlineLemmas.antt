@@ -56,13 +56,13 @@ same_titles h es ps o e =
     headings_are h es o.each ∙ ap (λ xs. map (λ (p : Part). p.title) (map (arranged_part h) xs)) o.listed ∙ ap (map (λ (p : Part). p.title)) e ∙ titles_are ps
 
 -- a part among those that were read
-pub part_is : (ps : List ReadPart) (k : ℕ) (p : ReadPart) → k < length ps → p ≡ get_or ps k p → (d : Part) → seen_part p ≡ slice_index_or (map seen_part ps) k d
-part_is ps k p l q d = ap seen_part q ∙ sym (get_or-map seen_part ps k p d l)
+pub part_is : (ps : List ReadPart) (k : ℕ) (p : ReadPart) → k < length ps → (d : Part) → seen_part (get_or ps k p) ≡ slice_index_or (map seen_part ps) k d
+part_is ps k p l d = sym (get_or-map seen_part ps k p d l)
 
 -- so each heading is the title of its part
-pub titles_at : (es : List Entry) (ps : List ReadPart) (k : ℕ) (e : Entry) (p : ReadPart) → k < length es → k < length ps → e ≡ get_or es k e → p ≡ get_or ps k p
-    → map (λ (e : Entry). string_bytes e.heading) es ≡ map (λ (p : ReadPart). p.title.now) ps → string_bytes e.heading ≡ p.title.now
-titles_at es ps k e p l m q r same =
+pub titles_at : (es : List Entry) (ps : List ReadPart) (k : ℕ) (e : Entry) (p : ReadPart) → k < length es → k < length ps → e ≡ get_or es k e
+    → map (λ (e : Entry). string_bytes e.heading) es ≡ map (λ (p : ReadPart). p.title.now) ps → string_bytes e.heading ≡ (get_or ps k p).title.now
+titles_at es ps k e p l m q same =
     let f : Entry → List ℕ = λ z. string_bytes z.heading in
     let g : ReadPart → List ℕ = λ z. z.title.now in
-    ap f q ∙ sym (get_or-map f es k e [] l) ∙ ap (λ xs. get_or xs k []) same ∙ get_or-map g ps k p [] m ∙ sym (ap g r)
+    ap f q ∙ sym (get_or-map f es k e [] l) ∙ ap (λ xs. get_or xs k []) same ∙ get_or-map g ps k p [] m

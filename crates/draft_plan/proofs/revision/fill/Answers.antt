@@ -1,5 +1,6 @@
-use Rattle.std.proofs.Common.{ap, arith, length, length-map, map, sym, ◌+◌, ◌<◌, ◌≤◌, ◌∙◌, ◌≡◌}
+use Rattle.std.proofs.Common.{ap, arith, get_or, length, map, sym, ◌+◌, ◌<◌, ◌≤◌, ◌∙◌, ◌≡◌}
 use Rattle.std.specs.Prelude.{slice_get}
+use Rattle.std.proofs.lemmas.List.{length-map}
 use Rattle.std.specs.Str.{encode_utf8_all}
 use Rattle.std.proofs.lemmas.Result.{err_from_is_err_and}
 use Rattle.catalogue_notes.specs.Arranged.{arranged}
@@ -14,18 +15,18 @@ parts-init c = record { settled = c.requires.settled; stands = c.requires.stands
 
 pub fill_section-requires-clause-placed : goal.fill_section-requires-clause-placed
 fill_section-requires-clause-placed c =
-    let at = entry_at c.args.replica.now.held.history c.args.entries.now c.parts.place c.index.result.now c.requires.outline (omega arith) c.index.ensures in
+    let at = entry_at c.args.replica.now.held.history c.args.entries.now c.parts.place c.index-entries-place.result c.requires.outline (omega arith) c.index-entries-place.is in
     ap (λ xs. slice_get xs c.parts.place) c.parts.invariant.filled.arranged_as ∙ at.placed
 
 pub fill_section-requires-clause-numbered : goal.fill_section-requires-clause-numbered
 fill_section-requires-clause-numbered c =
-    let at = entry_at c.args.replica.now.held.history c.args.entries.now c.parts.place c.index.result.now c.requires.outline (omega arith) c.index.ensures in
-    ap (λ xs. slice_get xs c.index.result.now.number) c.parts.invariant.filled.catalogue_is ∙ at.entry.numbered
+    let at = entry_at c.args.replica.now.held.history c.args.entries.now c.parts.place c.index-entries-place.result c.requires.outline (omega arith) c.index-entries-place.is in
+    ap (λ xs. slice_get xs c.index-entries-place.result.number) c.parts.invariant.filled.catalogue_is ∙ at.entry.numbered
 
 pub fill_section-requires-clause-headed : goal.fill_section-requires-clause-headed
 fill_section-requires-clause-headed c =
-    let at = entry_at c.args.replica.now.held.history c.args.entries.now c.parts.place c.index.result.now c.requires.outline (omega arith) c.index.ensures in
-    at.entry.headed ∙ ap encode_utf8_all (sym ((c.parts.invariant.filled.each c.parts.place c.index.result.now.section at.placed).1 (omega arith)).headed)
+    let at = entry_at c.args.replica.now.held.history c.args.entries.now c.parts.place c.index-entries-place.result c.requires.outline (omega arith) c.index-entries-place.is in
+    at.entry.headed ∙ ap encode_utf8_all (sym ((c.parts.invariant.filled.each c.parts.place c.index-entries-place.result.section at.placed).1 (omega arith)).headed)
 
 pub returns-in_err-made-clause-stops : goal.returns-in_err-made-clause-stops
 returns-in_err-made-clause-stops c =
@@ -37,21 +38,21 @@ pub overflow_add-made : goal.overflow_add-made
 overflow_add-made c =
     let start = c.args.replica.now in
     let ps = c.args.parts.now in
-    let at = entry_at start.held.history c.args.entries.now c.parts.place c.index.result.now c.requires.outline (omega arith) c.index.ensures in
-    let more = filled_more start c.parts.replica c.fill_section.new.replica (map seen_part ps) c.parts.place c.parts.made c.in_ok-made.field-0 c.index.result.now.section
-    (seen_part c.part-item.result) c.requires.stands.lawful c.parts.invariant.filled at.placed (part_is ps c.parts.place c.part-item.result (omega arith) c.part-item.is) c.in_ok-made.ensures.filled in
+    let at = entry_at start.held.history c.args.entries.now c.parts.place c.index-entries-place.result c.requires.outline (omega arith) c.index-entries-place.is in
+    let more = filled_more start c.parts.replica c.fill_section.new.replica (map seen_part ps) c.parts.place c.parts.made c.in_ok-made.field-0 c.index-entries-place.result.section
+    (seen_part (get_or ps c.parts.place _)) c.requires.stands.lawful c.parts.invariant.filled at.placed (part_is ps c.parts.place _ (omega arith)) c.in_ok-made.ensures.filled in
     omega (arith, makes_few start c.fill_section.new.replica (c.parts.made + c.in_ok-made.field-0) more.makes c.in_ok-made.ensures.stands)
 
 pub parts-preserved : goal.parts-preserved
 parts-preserved c =
     let start = c.args.replica.now in
     let ps = c.args.parts.now in
-    let at = entry_at start.held.history c.args.entries.now c.parts.place c.index.result.now c.requires.outline (omega arith) c.index.ensures in
+    let at = entry_at start.held.history c.args.entries.now c.parts.place c.index-entries-place.result c.requires.outline (omega arith) c.index-entries-place.is in
     record {
       settled = c.in_ok-made.ensures.settled;
       stands = c.in_ok-made.ensures.stands;
-      filled = filled_more start c.parts.replica c.fill_section.new.replica (map seen_part ps) c.parts.place c.parts.made c.in_ok-made.field-0 c.index.result.now.section
-          (seen_part c.part-item.result) c.requires.stands.lawful c.parts.invariant.filled at.placed (part_is ps c.parts.place c.part-item.result (omega arith) c.part-item.is) c.in_ok-made.ensures.filled;
+      filled = filled_more start c.parts.replica c.fill_section.new.replica (map seen_part ps) c.parts.place c.parts.made c.in_ok-made.field-0 c.index-entries-place.result.section
+          (seen_part (get_or ps c.parts.place _)) c.requires.stands.lawful c.parts.invariant.filled at.placed (part_is ps c.parts.place _ (omega arith)) c.in_ok-made.ensures.filled;
     }
 
 pub returns-clause-revised : goal.returns-clause-revised

@@ -29,8 +29,8 @@ returns-then-has_titles-clause-revised c = subst (λ (ps : List Part). IfOk c.fi
 pub returns-then-has_titles-clause-same : goal.returns-then-has_titles-clause-same
 returns-then-has_titles-clause-same c = subst (λ (ps : List Part). IfOk c.fill.result (λ n. MakesNothing c.args.replica.now c.fill.new.replica ps n)) c.parts-parts.ensures c.fill.ensures.same
 
-pub shape-shaped-requires-clause-entries : goal.shape-shaped-requires-clause-entries
-shape-shaped-requires-clause-entries c =
+pub shape-requires-clause-entries : goal.shape-requires-clause-entries
+shape-requires-clause-entries c =
     ap length c.entries-entries.ensures
     ∙ outline_count c.args.replica.now.held.history c.in_ok-outline.outline c.in_ok-outline.ensures.stands.lawful c.in_ok-outline.ensures.outline
 
@@ -39,8 +39,8 @@ returns-in_err-shaped-clause-stops c =
     let p = err_from_is_err_and c.from_residual-in_err-shaped.result c.from_residual-in_err-shaped.ensures.1 in
     rw (p.1, p.2) c.in_err-shaped.ensures.shapes
 
-pub fill_shaped-filled-requires-clause-count : goal.fill_shaped-filled-requires-clause-count
-fill_shaped-filled-requires-clause-count c = arranged_length c.shape.new.replica.held.history c.in_ok-shaped.ensures.stands.lawful ∙ c.in_ok-shaped.ensures.count
+pub fill_shaped-requires-clause-count : goal.fill_shaped-requires-clause-count
+fill_shaped-requires-clause-count c = arranged_length c.shape.new.replica.held.history c.in_ok-shaped.ensures.stands.lawful ∙ c.in_ok-shaped.ensures.count
 
 pub returns-in_err-filled-clause-stops : goal.returns-in_err-filled-clause-stops
 returns-in_err-filled-clause-stops c =
