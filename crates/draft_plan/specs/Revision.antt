@@ -29,7 +29,8 @@ pub record Makes (old new : State) (n : ℕ) : Type 0 where
   pub changed : Changed old new changes
   pub count : n ≡ length (all_made old changes)
 
--- a section that is shown before and after keeps the elements in the common front and the common end of its text: all of them where the text is the same; where its heading is the same it is not retitled
+-- a section that is shown before and after keeps the elements in the common front and the common end of its text, so
+-- all of them where the text is the same; where its heading is the same it has the retitles that it had
 pub record KeepsSection (old new : State) (section : Identifier) : Type 0 where
   pub elements : KeepsElements old new section
   pub same_text : text new.held.history section ≡ text old.held.history section
@@ -37,7 +38,9 @@ pub record KeepsSection (old new : State) (section : Identifier) : Type 0 where
   pub same_heading : heading new.held.history section ≡ heading old.held.history section
       → retitles_of new.held.history section ≡ retitles_of old.held.history section
 
--- the manuscript was revised: as it is arranged, its headings and texts are the parts. A section and a part are matched where the section was shown before and stands at the part's place now. What was shown and has no part is shown no more, and what came for a part without a section is new
+-- the manuscript was revised: as it is arranged, its headings and texts are the parts. A section and a part are matched
+-- where the section was shown before and stands at the part's place now: so each has at most one match. A section
+-- without a match is shown no more, and what stands for a part without a match is new
 pub record IsRevision (old new : State) (parts : List Part) (n : ℕ) : Type 0 where
   pub makes : Makes old new n
   pub reads : arranged_parts new.held.history ≡ parts
@@ -49,7 +52,7 @@ pub record IsRevision (old new : State) (parts : List Part) (n : ℕ) : Type 0 w
 abbrev pub MakesNothing : (old new : State) → (parts : List Part) → (n : ℕ) → Type 0
 MakesNothing old new parts n = arranged_parts old.held.history ≡ parts → (n ≡ 0) × (new ≡ old)
 
--- the fault is a limit that was met, or memory was wanting: no section and no position was asked for that is not there
+-- the fault is a limit that was met, or memory was wanting: nothing was asked for that is not there
 abbrev pub IsLimit : ReviseFault → Type 0
 IsLimit (fault.Edit edit.NoSection) = ⊥
 IsLimit (fault.Edit edit.OutOfRange) = ⊥

@@ -43,7 +43,7 @@ pub record ChangesOnly (old new : List Op) (s : Identifier) : Type 0 where
   pub arranged_as : arranged new ≡ arranged old
   pub others : (t : Identifier) → t ≢ s → SameSection old new t
 
--- n operations were made, after which a section has the title, and the text that it had: none where the title was its heading
+-- n operations were made, after which a section has the title, and the text that it had: none where it had the title
 pub record IsHeadedBy (old new : State) (s : Identifier) (title : List ℕ) (n : ℕ) : Type 0 where
   pub makes : Makes old new n
   pub only : ChangesOnly old.held.history new.held.history s

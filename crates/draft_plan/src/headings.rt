@@ -21,7 +21,8 @@ pub fn heading_in_text(alloc: Global, replica: &Replica) -> Result<Option<usize>
     ensures stands { Stands replica.now }
 {
     let outline = outline(alloc, replica)?;
-    'sections: for (place, entry) in outline.entries().iter().enumerate() {
+    let entries = outline.entries();
+    'sections: for (place, entry) in entries.iter().enumerate() {
         if is_headed(replica, entry.number)? {
             return Ok(Some(place));
         }
@@ -44,5 +45,5 @@ fn is_headed(replica: &Replica, section: usize) -> Result<bool, NoMemory>
 fn has_heading(text: &[u8]) -> bool
     ensures { result ≡ has_heading_in text.now }
 {
-    text.split(|b| *b == b'\n').any(is_heading)
+    text.split(|b| *b == b'\n').any(|line| is_heading(line))
 }

@@ -1,6 +1,7 @@
 //! The sections of a replica added, dropped and moved, until they stand as the parts of a draft do.
 
-ghost use Rattle.std.specs.Prelude.{◌≡◌, ◌+◌, ◌<◌, ◌≤◌, IfOk, IfSome, OnOk, count_by, encode_utf8_all, if◌then◌else◌, is_none, length};
+ghost use Rattle.std.specs.Prelude.{◌≡◌, ◌+◌, ◌<◌, ◌≤◌, IfOk, IfSome, OnOk};
+ghost use Rattle.std.specs.Prelude.{count_by, encode_utf8_all, if◌then◌else◌, is_none, length};
 ghost use Rattle.origin_model.specs.declared.operations.Place.TheVariants.{Catalogue as catalogue};
 ghost use Rattle.origin_model.specs.edits.State.{Stands};
 ghost use Rattle.origin_model.specs.order.Printed.{shown};
@@ -19,7 +20,7 @@ use replica_core::Replica;
 use std::alloc::Global;
 use std::collections::BTreeMap;
 
-/// The title of a part.
+/// The title that a text is.
 pub(crate) fn title_of(alloc: Global, title: &str) -> Result<Title, NoMemory>
     ensures { IfOk result (λ read. encode_utf8_all read ≡ title.now) }
 {
