@@ -21,9 +21,9 @@ use Rattle.origin_model.proofs.SharedLemmas.{holder-other, holder-own, order_tot
 use Rattle.origin_model.proofs.edits.CutLemmas.{cut_takes}
 use Rattle.origin_model.proofs.edits.MadeLemmas.{cut_made, put_made}
 use Rattle.origin_model.proofs.edits.PutLemmas.{put_lands}
-use Rattle.catalogue_notes.specs.Arranged.{arranged, best, counts, heading, winner}
+use Rattle.catalogue_notes.specs.Arranged.{best, counts, winner}
 use Rattle.catalogue_notes.specs.Claims.{Claim, Move, Retitle, move_in, retitle_in}
-use Rattle.catalogue_notes.specs.Lift.{greatest, is_valid_title, lift, moves, retitles, stamp}
+use Rattle.catalogue_notes.specs.Lift.{greatest, is_valid_title, lift, moves, retitles}
 use Rattle.catalogue_notes.proofs.ArrangedLemmas.{move_found, move_test, position_by}
 use Rattle.catalogue_notes.proofs.ClaimLemmas.{claim_found, claims-none}
 use Rattle.catalogue_notes.proofs.HolderLemmas.{joins, not_both, same_value}

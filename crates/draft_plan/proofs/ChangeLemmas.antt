@@ -1,21 +1,20 @@
 -- Changes of a replica, one after another.
-use Rattle.std.proofs.Common.{List, [], ap, append_assoc, arith, inl, inr, length, length-append, refl, subst, sym, ℕ, ◌+◌, ◌++◌, ◌∙◌, ◌∷◌, ◌≡◌, ◌≢◌, ◌⊎◌}
+use Rattle.std.proofs.Common.{List, [], ap, append_assoc, inl, inr, length, length-append, refl, subst, sym, ℕ, ◌+◌, ◌++◌, ◌∙◌, ◌∷◌, ◌≡◌}
 use Rattle.std.specs.Prelude.{All, Err, None, Ok, Option, Result, Some, option_map}
 use Rattle.std.proofs.lemmas.List.{append-nil}
-use Rattle.std.proofs.lemmas.List.Elements.{All-append, All-cons, All-nil, All-weaker}
-use Rattle.fugue_ids.specs.Identifiers.{Identifier}
+use Rattle.std.proofs.lemmas.List.Elements.{All-append, All-nil, All-weaker}
 use Rattle.fugue_ids.specs.declared.op.Op.{Op}
 use Rattle.origin_model.specs.declared.edit_fault.EditFault.{EditFault}
 use Rattle.origin_model.specs.declared.edit_fault.EditFault.TheVariants as edit
-use Rattle.origin_model.specs.edits.Edits.{Command, extended}
+use Rattle.origin_model.specs.edits.Edits.{Command}
 use Rattle.origin_model.specs.edits.Effect.{Gains, IsMade, LeavesUnmade, with_ops}
-use Rattle.origin_model.specs.edits.Refusal.{RefusesExactly, made_by, refusal_message}
+use Rattle.origin_model.specs.edits.Refusal.{RefusesExactly, refusal_message}
 use Rattle.origin_model.specs.edits.State.{State}
 use Rattle.origin_model.specs.operations.History.{accepted}
 use Rattle.origin_model.proofs.edits.MadeLemmas.{extended-append}
 use Rattle.catalogue_notes.specs.declared.moving.MoveFault.{MoveFault}
 use Rattle.catalogue_notes.specs.declared.moving.MoveFault.TheVariants as moving
-use Rattle.catalogue_notes.specs.Moving.{IsMoveMade, IsRetitleMade, RefusesFor, move_by, move_refusal, retitle_by, retitle_refusal, section_placed}
+use Rattle.catalogue_notes.specs.Moving.{IsMoveMade, IsRetitleMade, RefusesFor, move_by, move_refusal, retitle_by, retitle_refusal}
 use Rattle.draft_plan.specs.Changes.{AreAllowed, Change, Changed, Edit, IsRefused, Move, Retitle, Stops, StopsAt, all_made, behind, change_refusal, made_of}
 use Rattle.draft_plan.specs.declared.fault.ReviseFault.{ReviseFault}
 use Rattle.draft_plan.specs.declared.fault.ReviseFault.TheVariants as fault

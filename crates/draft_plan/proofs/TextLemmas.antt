@@ -10,7 +10,7 @@ use Rattle.fugue_ids.specs.Identifiers.{Identifier}
 use Rattle.fugue_ids.specs.declared.limits.TheConstants.{MOST_OPERATIONS}
 use Rattle.fugue_ids.specs.declared.op.Op.{Op}
 use Rattle.origin_model.specs.declared.edit_fault.EditFault.{EditFault}
-use Rattle.origin_model.specs.declared.edit_fault.EditFault.TheVariants.{IdsSpent, NoMemory, NoSection, OutOfRange, TooMany}
+use Rattle.origin_model.specs.declared.edit_fault.EditFault.TheVariants.{IdsSpent, NoMemory, OutOfRange, TooMany}
 use Rattle.origin_model.specs.declared.operations.Place.TheVariants.{Section as within}
 use Rattle.origin_model.specs.edits.Edits.{Command, Cut, Put, extended, spliced}
 use Rattle.origin_model.specs.edits.Effect.{Gains, IsMade, LeavesUnmade, OfSection}

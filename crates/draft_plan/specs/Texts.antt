@@ -6,7 +6,7 @@ use Rattle.fugue_ids.specs.declared.op.Op.{Op}
 use Rattle.origin_model.specs.declared.edit_fault.EditFault.{EditFault}
 use Rattle.origin_model.specs.declared.edit_fault.EditFault.TheVariants.{NoSection}
 use Rattle.origin_model.specs.declared.operations.Place.TheVariants.{Catalogue as catalogue, Section as within}
-use Rattle.origin_model.specs.edits.Edits.{Command, Put, Cut}
+use Rattle.origin_model.specs.edits.Edits.{Put, Cut}
 use Rattle.origin_model.specs.edits.State.{State}
 use Rattle.origin_model.specs.order.Printed.{shown, text}
 use Rattle.catalogue_notes.specs.Arranged.{arranged, heading}

@@ -1,5 +1,7 @@
 //! Drafts read, by value, and what revising a text costs.
 
+ghost use Rattle.origin_model.specs.taking.Taking.{IsSettled};
+
 use crate::{Draft, DraftFault, revise_text};
 use fugue_ids::Title;
 use origin_model::EditFault;
@@ -34,6 +36,10 @@ const DRAFTS: [Row; 10] = [
     ("# \u{e4}\n\u{6f22}\n", &[("\u{e4}", "\u{6f22}")]),
 ];
 
+fn is_text(rt: &impl Abort, text: &str, wanted: &str) {
+    assert_eq!(rt; text, wanted);
+}
+
 #[test]
 fn drafts_by_value(rt: HostRuntime) -> Result<(), Fail> {
     for row in DRAFTS {
@@ -43,8 +49,8 @@ fn drafts_by_value(rt: HostRuntime) -> Result<(), Fail> {
             .ok_or("draft")?;
         assert_eq!(rt; draft.parts().len(), wanted.len(), "{row:?}");
         for (part, (title, text)) in draft.parts().iter().zip(wanted) {
-            assert_eq!(rt; part.title, *title, "{row:?}");
-            assert_eq!(rt; part.text, *text, "{row:?}");
+            is_text(&rt, part.title, title);
+            is_text(&rt, part.text, text);
         }
     }
     Ok(())
@@ -92,7 +98,10 @@ const REVISIONS: [Revision; 7] = [
 ];
 
 /// Two sections, the first one with this text.
-fn write_sections(alloc: Global, replica: &mut Replica, text: &str) -> Result<(), Fail> {
+fn write_sections(alloc: Global, replica: &mut Replica, text: &str) -> Result<(), Fail>
+    requires { IsSettled replica.old.held }
+    ensures { IsSettled replica.new.held }
+{
     replica.add(0, Title::read(alloc, "A")?)?;
     replica.add(1, Title::read(alloc, "B")?)?;
     replica.put(0, 0, text)?;
@@ -106,12 +115,9 @@ fn has_text(rt: &impl Abort, replica: &Replica, section: usize, wanted: &str) ->
     Ok(())
 }
 
-fn revises(
-    rt: &impl Abort,
-    alloc: Global,
-    replica: &mut Replica,
-    row: Revision,
-) -> Result<(), Fail> {
+fn revises(rt: &impl Abort, alloc: Global, replica: &mut Replica, row: Revision) -> Result<(), Fail>
+    requires { IsSettled replica.old.held }
+{
     let (old, new, count) = row;
     write_sections(alloc, replica, old)?;
     let made = revise_text(alloc, replica, 0, new)?;
@@ -134,7 +140,9 @@ fn texts_are_revised_by_what_differs(rt: HostRuntime) -> Result<(), Fail> {
     Ok(())
 }
 
-fn stops_behind_the_cut(rt: &impl Abort, alloc: Global, replica: &mut Replica) -> Result<(), Fail> {
+fn stops_behind_the_cut(rt: &impl Abort, alloc: Global, replica: &mut Replica) -> Result<(), Fail>
+    requires { IsSettled replica.old.held }
+{
     write_sections(alloc, replica, "one two")?;
     let fault = revise_text(alloc, replica, 0, "1 two").err();
     assert_eq!(rt; fault, Some(EditFault::TooMany(17)));

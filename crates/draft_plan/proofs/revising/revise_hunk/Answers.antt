@@ -2,7 +2,7 @@ use Rattle.std.proofs.Common.{List, ap, arith, drop, take, ℕ, ◌+◌, ◌-◌
 use Rattle.std.specs.Str.{chars}
 use Rattle.std.proofs.lemmas.Result.{err_from_is_err_and}
 use Rattle.draft_plan.proofs.ReviseLemmas.{hunk_few, typed_whole}
-use Rattle.draft_plan.proofs.TextLemmas.{IsCutAndPut, cut_limit, cut_stops, hunk_made, put_behind_limit, put_stops}
+use Rattle.draft_plan.proofs.TextLemmas.{cut_limit, cut_stops, hunk_made, put_behind_limit, put_stops}
 use Rattle.draft_plan.proofs.revising.revise_hunk.Goals as goal
 
 pub returns-in_err-cut-clause-stops : goal.returns-in_err-cut-clause-stops
