@@ -45,6 +45,13 @@ impl ClusterIndex {
         })
     }
 
+    /// How many scalars the text has.
+    pub fn len(&self) -> usize
+        ensures { result ≡ length (chars self.now) }
+    {
+        self.scalars - 2
+    }
+
     /// Where the cluster `at` begins, and how many scalars the `n` clusters from there on have. None is the answer where
     /// the text has fewer than `at + n` clusters.
     pub fn span(&self, at: u32, n: u32) -> Option<(usize, usize)>
