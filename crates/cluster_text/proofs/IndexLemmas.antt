@@ -1,12 +1,12 @@
 -- A text between two NULs.
-use Rattle.std.proofs.Common.{◌≡◌, ◌↔◌, ℕ, zero, suc, ◌+◌, ◌-◌, ◌<◌, ◌≤◌, true, false, inl, inr, List, [], ◌∷◌, ◌++◌, map, length, take, drop, refl, sym, ap, ap₂, subst, ◌∙◌, append_assoc, length-append, length-take, length-drop, take_at, add-one, arith}
+use Rattle.std.proofs.Common.{◌≡◌, ℕ, zero, suc, ◌+◌, ◌-◌, ◌<◌, ◌≤◌, true, false, inl, inr, List, [], ◌∷◌, ◌++◌, map, length, take, drop, refl, sym, ap, ap₂, subst, ◌∙◌, append_assoc, length-append, length-take, length-drop, take_at, add-one, arith}
 use Rattle.std.proofs.Math.Seq.{take-add}
 use Rattle.std.proofs.lemmas.Bool.{cases_lt, false≢true}
 use Rattle.std.proofs.lemmas.List.{map-append, take-append-le, drop-append-le}
 use Rattle.std.proofs.lemmas.List.Sums.{sum_by-cons, sum_by-take-le}
 use Rattle.std.proofs.lemmas.Str.{chars-nil, chars-append, chars-encodes, chars_past_char, encode_ascii, encodes-append, scalars-chars, IsUtf8-append, IsUtf8-from_ascii, is_utf8-from_IsUtf8, IsUtf8-from_is_utf8}
-use Rattle.std.specs.Prelude.{encode_utf8, encode_utf8_all, string_bytes}
-use Rattle.std.specs.List.{splice, sum_by}
+use Rattle.std.specs.Prelude.{encode_utf8_all}
+use Rattle.std.specs.List.{splice}
 use Rattle.std.specs.Str.{IsAscii, IsUtf8, all_scalars, chars}
 use Rattle.unicode_segmentation.specs.Grapheme.{is_grapheme_break}
 use Rattle.unicode_segmentation.specs.Segments.{cut, segments}
@@ -127,7 +127,7 @@ encode_enclosed cs =
     ap₂ ◌++◌ nul (encodes-append cs (0 ∷ []) ∙ ap (λ t. encode_utf8_all cs ++ (t ++ [])) nul)
 
 module _ (parts changed : List Part) (count : ℕ) (index : IsIndex parts count) (new : List ℕ) (utf8 : IsUtf8 new) (at n : ℕ) (fits : at + n ≤ length (chars (inside (whole parts))))
-  (is : whole changed ≡ encode_utf8_all (splice (chars (whole parts)) (at + 1) (at + 1 + n) (chars new))) where
+    (is : whole changed ≡ encode_utf8_all (splice (chars (whole parts)) (at + 1) (at + 1 + n) (chars new))) where
   abbrev pub text : List ℕ
   text = inside (whole parts)
 
@@ -180,7 +180,7 @@ module _ (parts s : List Part) (count : ℕ) (text : List ℕ) (index : IsIndex 
       ∙ ap (λ (t : List ℕ). 1 + scalars (take at (clusters t))) view
 
   module _ (start end at n : ℕ) (start_is : start ≡ scalars (take (at + 1) (clusters (whole s)))) (end_is : end ≡ scalars (take (at + 1 + n) (clusters (whole s))))
-    (fits : at + n ≤ length (clusters text)) where
+      (fits : at + n ≤ length (clusters text)) where
     starts : start ≡ 1 + scalars (take at (clusters text))
     starts = start_is ∙ seen_place at (omega (arith, fits))
 

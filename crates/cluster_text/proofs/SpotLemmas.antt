@@ -1,10 +1,9 @@
 -- How scalars of a text in parts give way to others.
-use Rattle.std.proofs.Common.{◌≡◌, ℕ, zero, suc, ◌+◌, ◌-◌, ◌<◌, ◌≤◌, inl, inr, true, List, [], ◌∷◌, ◌++◌, length, take, drop, get_or, set, refl, sym, ap, ap₂, subst, ◌∙◌, append_assoc, length-append, length-take, length-drop, take_at, drop_at, take_all, drop-drop, add-one, arith}
+use Rattle.std.proofs.Common.{◌≡◌, ℕ, zero, suc, ◌+◌, ◌-◌, ◌<◌, ◌≤◌, inl, inr, true, List, [], ◌∷◌, ◌++◌, length, take, drop, get_or, set, refl, sym, ap, ap₂, ◌∙◌, append_assoc, length-append, length-take, length-drop, take_at, drop_at, take_all, drop-drop, arith}
 use Rattle.std.proofs.Math.Seq.{take-append-add}
 use Rattle.std.proofs.lemmas.Bool.{cases_lt}
 use Rattle.std.proofs.lemmas.List.{take-append-le, drop-append-le, nil_from_length}
-
-use Rattle.std.proofs.lemmas.Str.{chars-append, encodes-append, encodes-chars, IsUtf8-string_bytes, IsUtf8-append}
+use Rattle.std.proofs.lemmas.Str.{chars-append, encodes-append, encodes-chars}
 use Rattle.std.specs.Prelude.{encode_utf8_all, string_bytes}
 use Rattle.std.specs.List.{splice}
 use Rattle.std.specs.Str.{IsUtf8, chars}
@@ -12,7 +11,7 @@ use Rattle.cluster_text.specs.Borders.{first_opens, last_closes, stands_alone}
 use Rattle.cluster_text.specs.Parts.{IsSpot, scalar_count, whole}
 use Rattle.cluster_text.specs.declared.part.Part.{Part}
 use Rattle.cluster_text.proofs.PartLemmas.{chars-whole, chars-first, parts-first, scalar_count-append, scalar_count-first, scalar_count-none, whole-append, whole-utf8}
-use Rattle.cluster_text.proofs.TextLemmas.{alone, back_chars, back_utf8, first_opens-append, first_opens-take, front_chars, front_utf8, is_alone, last_closes-append, last_closes-drop}
+use Rattle.cluster_text.proofs.TextLemmas.{alone, back_chars, first_opens-append, first_opens-take, front_chars, front_utf8, is_alone, last_closes-append, last_closes-drop}
 
 front_back : {X : Type 0} (i : ℕ) (xs : List X) → take i xs ++ drop i xs ≡ xs
 front_back zero xs = refl
@@ -147,7 +146,7 @@ replaced_is parts cut at end i j m n new one two utf8 first last first_is last_i
     ∙ ap (λ t. front ++ t) (append_assoc new back (whole two.back)))
     ∙ sym (append_assoc (whole one.front) front (new ++ (back ++ whole two.back)))
     ∙ sym (encodes-append (take (at + 1) (chars (whole parts))) (chars new ++ drop end (chars (whole parts)))
-        ∙ ap₂ ◌++◌ taken (encodes-append (chars new) (drop end (chars (whole parts))) ∙ ap₂ ◌++◌ (encodes-chars new utf8) left))
+    ∙ ap₂ ◌++◌ taken (encodes-append (chars new) (drop end (chars (whole parts))) ∙ ap₂ ◌++◌ (encodes-chars new utf8) left))
 
 -- a text that keeps the first scalar of one part and the last of another
 pub joined_alone : (first last new text : List ℕ) (m n : ℕ) → IsUtf8 first → IsUtf8 last → IsUtf8 new → stands_alone first ≡ true → stands_alone last ≡ true → 0 < m → n < length (chars last)

@@ -3,7 +3,7 @@ use Rattle.std.proofs.Common.{◌≡◌, ℕ, zero, suc, ◌+◌, ◌-◌, ◌<�
 use Rattle.std.proofs.lemmas.Bool.{and_parts}
 use Rattle.std.proofs.lemmas.List.{drop_all}
 use Rattle.std.proofs.lemmas.List.Sums.{sum_by-cons}
-use Rattle.std.proofs.lemmas.Str.{chars-nil, chars-append, chars-encodes, chars_past_char, encodes-append, encodes-chars, encode_ascii, scalars-chars, IsUtf8-past_char, IsCharBoundary-at_seam}
+use Rattle.std.proofs.lemmas.Str.{chars-nil, chars-encodes, chars_past_char, encodes-append, encodes-chars, scalars-chars, IsUtf8-past_char, IsCharBoundary-at_seam}
 use Rattle.std.specs.Prelude.{encode_utf8, encode_utf8_all}
 use Rattle.std.specs.List.{concat}
 use Rattle.std.specs.Str.{IsUtf8, IsCharBoundary, all_scalars, chars}
@@ -13,7 +13,6 @@ use Rattle.cluster_text.specs.Borders.{closes, opens, first_opens, last_closes, 
 use Rattle.cluster_text.specs.Clusters.{clusters, scalars}
 use Rattle.cluster_text.specs.Cuts.{IsCut, IsPassed, IsWhole, SplitsAt}
 use Rattle.cluster_text.proofs.CutLemmas.{attach}
-use Rattle.cluster_text.proofs.BorderLemmas.{Apart, apart-closed}
 
 -- ---- scalars
 

@@ -55,7 +55,7 @@ fn join(
     requires more { end < length (chars (string_bytes last.now.text)) }
     ensures text { IfOk result (λ text. string_bytes text
         ≡ encode_utf8_all (take at (chars (string_bytes first.now.text)))
-            ++ (new.now ++ encode_utf8_all (drop end (chars (string_bytes last.now.text))))) }
+        ++ (new.now ++ encode_utf8_all (drop end (chars (string_bytes last.now.text))))) }
     ensures alone { IfOk result (λ text. stands_alone (string_bytes text) ≡ true) }
 {
     let (front, _) = split_at_scalar(first.text.as_str(), at);
@@ -96,12 +96,7 @@ fn put_in(
     }
 }
 
-fn splice(
-    parts: &mut Vec<Part>,
-    at: usize,
-    end: usize,
-    new: Vec<Part>,
-) -> Result<(), AllocError>
+fn splice(parts: &mut Vec<Part>, at: usize, end: usize, new: Vec<Part>) -> Result<(), AllocError>
     requires order { at < end }
     requires within { end ≤ length parts.old.items }
     ensures ok { OnOk result (parts.new.items ≡ spliced parts.old.items at end new.items) }

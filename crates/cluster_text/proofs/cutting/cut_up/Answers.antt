@@ -1,8 +1,6 @@
-use Rattle.std.proofs.Common.{◌≡◌, ◌++◌, inl, inr, true, List, length, sym, ap, ◌∙◌, append_assoc, append-nil, rules, tests}
+use Rattle.std.proofs.Common.{◌++◌, List, sym, ap, ◌∙◌, append_assoc, append-nil, rules, tests}
 use Rattle.std.proofs.lemmas.List.{nil_from_length}
 use Rattle.std.specs.Prelude.{string_bytes}
-use Rattle.cluster_text.specs.Borders.{stands_alone}
-use Rattle.cluster_text.specs.Cuts.{IsWhole}
 use Rattle.cluster_text.specs.Parts.{whole}
 use Rattle.cluster_text.specs.declared.part.Part.{Part}
 use Rattle.cluster_text.proofs.PartLemmas.{whole-push}

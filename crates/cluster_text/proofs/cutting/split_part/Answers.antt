@@ -1,8 +1,7 @@
-use Rattle.std.proofs.Common.{◌≡◌, inl, length, drop, take, take_all, length-drop, length-append, refl, sym, ap, subst, ◌∙◌, arith}
+use Rattle.std.proofs.Common.{length, length-drop, sym, ap, subst, ◌∙◌, arith}
 use Rattle.std.proofs.lemmas.List.{drop_all}
 use Rattle.std.proofs.lemmas.Str.{IsUtf8-nil}
 use Rattle.std.specs.Str.{IsUtf8}
-use Rattle.cluster_text.specs.Borders.{stands_alone}
 use Rattle.cluster_text.specs.Cuts.{IsWhole}
 use Rattle.cluster_text.proofs.TextLemmas.{alone-some, front_alone, rest_alone, splits-boundary, splits-front, splits-rest, cut_shorter}
 use Rattle.cluster_text.proofs.cutting.split_part.Goals as goal

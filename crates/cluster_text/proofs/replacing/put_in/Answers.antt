@@ -1,4 +1,4 @@
-use Rattle.std.proofs.Common.{◌≡◌, ◌-◌, ◌+◌, arith}
+use Rattle.std.proofs.Common.{arith}
 use Rattle.cluster_text.proofs.SpotLemmas.{set_is_splice}
 use Rattle.cluster_text.proofs.replacing.put_in.Goals as goal
 

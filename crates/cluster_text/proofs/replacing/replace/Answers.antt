@@ -1,4 +1,4 @@
-use Rattle.std.proofs.Common.{◌≡◌, ◌≤◌, ◌<◌, ◌+◌, ◌-◌, List, ℕ, length, sym, ap, subst, ◌∙◌, arith}
+use Rattle.std.proofs.Common.{◌≡◌, ◌+◌, ◌-◌, List, sym, ap, subst, ◌∙◌, arith}
 use Rattle.std.proofs.lemmas.Result.{on_ok_weaker}
 use Rattle.std.specs.Str.{chars}
 use Rattle.std.specs.List.{splice}
@@ -23,7 +23,7 @@ returns-clause-ok c =
     let at : (c.args.at - 1) + 1 ≡ c.args.at = omega (arith, c.requires.some) in
     on_ok_weaker c.put_in.result
     (λ is.
-      ap whole is
-      ∙ replaced_is parts c.in_ok-cut.cut.items (c.args.at - 1) c.args.end _ _ _ _ c.args.new.now first last c.utf8.new c.index.result.now c.index-2.result.now (sym c.index.ensures) (sym c.index-2.ensures)
-      (c.in_ok-cut.ensures ∙ c.as_str.ensures.value ∙ c.in_ok-text.ensures.text)
-      ∙ ap (λ k. encode_utf8_all (splice (chars (whole parts)) k c.args.end (chars c.args.new.now))) at) c.put_in.ensures.ok
+    ap whole is
+    ∙ replaced_is parts c.in_ok-cut.cut.items (c.args.at - 1) c.args.end _ _ _ _ c.args.new.now first last c.utf8.new c.index.result.now c.index-2.result.now (sym c.index.ensures) (sym c.index-2.ensures)
+    (c.in_ok-cut.ensures ∙ c.as_str.ensures.value ∙ c.in_ok-text.ensures.text)
+    ∙ ap (λ k. encode_utf8_all (splice (chars (whole parts)) k c.args.end (chars c.args.new.now))) at) c.put_in.ensures.ok

@@ -1,8 +1,8 @@
-use Rattle.std.proofs.Common.{◌≡◌, ◌≤◌, ◌<◌, ◌+◌, List, length, take, refl, sym, ap, ◌∙◌, arith}
+use Rattle.std.proofs.Common.{◌≤◌, ◌+◌, List, length, take, refl, sym, ap, ◌∙◌, arith}
 use Rattle.std.proofs.lemmas.Bool.{false≢true}
 use Rattle.std.specs.Option.{is_some}
 use Rattle.cluster_text.specs.Clusters.{clusters, scalars}
-use Rattle.cluster_text.specs.Parts.{scalar_count, whole}
+use Rattle.cluster_text.specs.Parts.{whole}
 use Rattle.cluster_text.specs.declared.part.Part.{Part}
 use Rattle.cluster_text.proofs.IndexLemmas.{not_less, seen_count, seen_len, seen_utf8, span_in_order, span_is}
 use Rattle.cluster_text.proofs.index.ClusterIndex.span.Goals as goal
