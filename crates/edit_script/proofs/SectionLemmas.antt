@@ -1,5 +1,5 @@
 -- The clusters that are kept of sections, before and after an edit.
-use Rattle.std.proofs.Common.{◌≡◌, ◌≢◌, ◌<◌, ◌≤◌, ◌+◌, ◌↔◌, inl, inr, ℕ, Bool, true, false, nat_lt, List, [], ◌∷◌, length, take, drop, Option, Some, None, append_assoc, refl, sym, ap, subst, ◌∙◌, arith}
+use Rattle.std.proofs.Common.{◌≡◌, ◌≢◌, ◌<◌, ◌≤◌, ◌+◌, ◌↔◌, inl, inr, ℕ, true, nat_lt, List, [], ◌∷◌, length, take, drop, Option, Some, None, append_assoc, refl, sym, ap, subst, ◌∙◌, arith}
 use Rattle.std.specs.Prelude.{Result, Ok, Err, IfOk, IfSome, IsNone, OnOk, option_map, encode_utf8_all}
 use Rattle.std.specs.List.{splice}
 use Rattle.std.specs.Str.{chars, IsUtf8}
@@ -11,9 +11,9 @@ use Rattle.fugue_ids.specs.declared.op.Op.{Op}
 use Rattle.fugue_ids.proofs.IdentifierLemmas.{cases_id}
 use Rattle.origin_model.specs.operations.Verdict.{Lawful}
 use Rattle.origin_model.specs.order.Printed.{text}
-use Rattle.origin_model.specs.edits.Edits.{Command, Put, Cut, Add, DropSection, extended}
+use Rattle.origin_model.specs.edits.Edits.{Put, Cut, Add, DropSection, extended}
 use Rattle.origin_model.specs.edits.Effect.{Gains, IsMade, with_ops}
-use Rattle.origin_model.specs.edits.Refusal.{in_range, in_section, made_by, refused_elements, refused_ops, refusal_message, section_shown, shown_count, RefusesExactly}
+use Rattle.origin_model.specs.edits.Refusal.{in_range, in_section, made_by, refused_elements, refused_ops, section_shown, shown_count, RefusesExactly}
 use Rattle.origin_model.specs.edits.State.{State}
 use Rattle.origin_model.specs.declared.edit_fault.EditFault.{EditFault}
 use Rattle.origin_model.specs.declared.edit_fault.EditFault.TheVariants.{OutOfRange}
@@ -122,7 +122,7 @@ span_fits s k at n x kept span passage =
     subst (λ (y : Identifier). span.0 + span.1 ≤ shown_count s (within y)) same passage.spans.within
 
 module _ (texts after : List (Identifier × List ℕ)) (old new : State) (k at n : ℕ) (x : Identifier) (kept : List ℕ) (span : ℕ × ℕ) (passage : IsPassage old k at n x kept span)
-  (none : entry_at texts x ≡ None) (are : AreOf texts old) where
+    (none : entry_at texts x ≡ None) (are : AreOf texts old) where
   -- an edit of a text by scalars is kept
   edit_kept : (ops : List Op) (chs : List ℕ) → Gains old new ops → IsTextEdit old.held.history ops x span.0 span.1 chs
       → (AreOf texts new → changed kept span.0 span.1 chs ≡ text_in new x → AreOf after new) → AreOf after new

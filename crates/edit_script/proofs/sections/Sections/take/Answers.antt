@@ -1,4 +1,4 @@
-use Rattle.std.proofs.Common.{◌≡◌, ◌∙◌, sym}
+use Rattle.std.proofs.Common.{◌∙◌, sym}
 use Rattle.edit_script.proofs.SectionLemmas.{passage_found}
 use Rattle.edit_script.proofs.sections.Sections.take.Goals as goal
 
