@@ -92,13 +92,7 @@ fn make_text(alloc: Global, dice: &mut Dice, count: usize) -> Result<String, All
 }
 
 /// A text in which n scalars from `at` on gave way to others.
-fn splice(
-    alloc: Global,
-    text: &str,
-    at: usize,
-    n: usize,
-    new: &str,
-) -> Result<String, AllocError> {
+fn splice(alloc: Global, text: &str, at: usize, n: usize, new: &str) -> Result<String, AllocError> {
     let mut spliced = String::new(alloc);
     for scalar in text.chars().take(at) {
         spliced.push(scalar)?;
@@ -118,7 +112,9 @@ fn an_index_is_the_text_that_it_stands_for(rt: HostRuntime) -> Result<(), Fail> 
     let mut index = ClusterIndex::new(rt.alloc(), text.as_str())?;
     for turn in 0..300 {
         let at = dice.roll(index.len()).min(index.len());
-        let n = dice.roll(if turn % 8 == 0 { 400 } else { 6 }).min(index.len() - at);
+        let n = dice
+            .roll(if turn % 8 == 0 { 400 } else { 6 })
+            .min(index.len() - at);
         let count = dice.roll(if turn % 16 == 0 { 300 } else { 4 });
         let new = make_text(rt.alloc(), &mut dice, count)?;
         index.splice(at, n, new.as_str())?;
