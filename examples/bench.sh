@@ -21,7 +21,7 @@ row() {
     fi
 }
 
-# A script that puts so many letters at once, and one that types them behind one another.
+# A script that puts so many letters at once, one that types them behind one another, and one that puts each in front.
 put_script() {
     printf 'put 1 0 '
     head -c "$1" /dev/zero | tr '\0' x
@@ -31,6 +31,10 @@ put_script() {
 type_script() {
     local at
     for ((at = 0; at < $1; at++)); do echo "put 1 $at x"; done
+}
+
+front_script() {
+    yes 'put 1 0 x' | head -n "$1"
 }
 
 processor=$(sed -n 's/^model name[^:]*: //p' /proc/cpuinfo 2>/dev/null | head -n 1)
@@ -54,6 +58,8 @@ for letters; do
     row "the text of another author, as long and at the same place: \`merge\`" 'manuscript merge ben.ms ann.ms'
     type_script $((letters / 10)) >typed
     row "$((letters / 10)) letters typed one by one, a line of a script each: \`edit\`" 'manuscript edit typed.ms <typed'
+    front_script $((letters / 10)) >front
+    row "$((letters / 10)) letters put one by one in front of the text of $letters: \`edit\`" 'manuscript edit ann.ms <front'
     row "a manuscript of $letters turns: \`bulk\`" "manuscript bulk 7 $letters"
     rm -f ann.ms ben.ms typed.ms
 done

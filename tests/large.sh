@@ -1,7 +1,7 @@
 #!/usr/bin/env bash
 # Large manuscripts, each within a minute: the summary of a million turns, whose numbers another program computed, a
-# text of 300,000 letters that one author puts at once and another takes in, texts of 100,000 letters that come in six
-# orders, and batches of each power of two up to the longest.
+# text of 300,000 letters that one author puts at once and another takes in, scripts of many lines in one section, texts
+# of 100,000 letters that come in six orders, and batches of each power of two up to the longest.
 . "$(dirname "$0")/common.sh"
 
 # Whether what a command printed is what was wanted.
@@ -36,6 +36,21 @@ done
 # All of it deleted, by one cut.
 look 'a long cut' 'made 300000' "$(printf 'cut 1 0 300000\n' | timeout 60 "$program" edit "$work/1" 2>&1)"
 look 'nothing left' '# T' "$(timeout 60 "$program" print "$work/1" </dev/null)"
+
+# Scripts of many lines in one section. Each line costs the part of the text that it touches, and not the section: 20,000
+# puts in front of 300,000 letters, and 20,000 times a word that is put and cut again, whose letters all stay there hidden.
+"$program" new "$work/3" 3 16 </dev/null
+{
+    printf 'add 1 T\nput 1 0 %s\n' "$letters"
+    for ((line = 0; line < 20000; line++)); do echo 'put 1 0 b'; done
+} >"$work/script"
+look 'puts in front of a long text' 'made 320001' "$(timeout 60 "$program" edit "$work/3" <"$work/script" 2>&1)"
+"$program" new "$work/4" 4 16 </dev/null
+{
+    echo 'add 1 T'
+    for ((line = 0; line < 20000; line++)); do printf 'put 1 0 nineteen letters ok\ncut 1 0 19\n'; done
+} >"$work/script"
+look 'words that were cut again' 'made 760001' "$(timeout 60 "$program" edit "$work/4" <"$work/script" 2>&1)"
 
 # The frames of 100,000 letters, each directly behind the start or one that came before it, and the text that they make.
 # Two authors take turns: so no letter joins the run of another, but for a few at random, and each is a node of the tree.

@@ -1,1 +1,4 @@
 pub mod Clusters
+pub mod Borders
+pub mod Cuts
+pub mod Parts

@@ -1,8 +1,15 @@
 //! Where the extended grapheme clusters of a text stand, counted in scalars.
 #![tactic(auto)]
 
-mod counting;
+mod border;
+mod cutting;
+mod index;
+mod part;
+mod place;
+mod replacing;
+mod scalars;
 mod span;
+mod spot;
 
-pub use counting::cluster_count;
+pub use index::ClusterIndex;
 pub use span::cluster_span;

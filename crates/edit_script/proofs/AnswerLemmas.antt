@@ -1,5 +1,5 @@
 -- A script comes to the answer that its bytes say.
-use Rattle.std.proofs.Common.{◌≡◌, ◌≢◌, inl, inr, ◌<◌, ◌≤◌, ◌+◌, ℕ, List, [], ◌++◌, length, Option, Some, None, refl, sym, ap, subst, ◌∙◌, arith, append-nil, length-append}
+use Rattle.std.proofs.Common.{◌≡◌, ◌≢◌, inl, ◌<◌, ◌≤◌, ◌+◌, ℕ, List, [], ◌++◌, length, Option, Some, None, refl, sym, ap, subst, ◌∙◌, arith, append-nil, length-append}
 use Rattle.std.specs.Prelude.{IfSome, IfOk, IfErr, Result, Ok, Err}
 use Rattle.std.specs.Io.KnownBytes.{prepend_known}
 use Rattle.outer_ports.specs.Sources.{SourceView}
@@ -9,7 +9,7 @@ use Rattle.edit_script.specs.declared.run.ScriptFault.TheVariants as fault
 use Rattle.edit_script.specs.declared.script.TheConstants.{LONGEST_SCRIPT}
 use Rattle.edit_script.specs.Answers.{ScriptAnswerIs, ScriptAnswersBy, EndsIn, EndsWith, IsScriptByBytes}
 use Rattle.edit_script.specs.Scripts.{ScriptRuns, ScriptStops, StopsAt, RunsWhole}
-use Rattle.edit_script.specs.Sources.{IsLonger, IsScript, IsUnread}
+use Rattle.edit_script.specs.Sources.{IsScript, IsUnread}
 use Rattle.edit_script.proofs.OnceLemmas.{scripts_run_once}
 
 -- an answer of a line's fault, or of the script's end, that the bytes decide

@@ -1,15 +1,14 @@
 -- Each script comes to its end, or to its first faulty line.
-use Rattle.std.proofs.Common.{◌≡◌, ◌≢◌, ◌⊎◌, inl, inr, ◌+◌, ℕ, suc, Bool, true, false, List, [], ◌∷◌, ◌++◌, length, Option, Some, None, refl, sym, ap, ◌∙◌, arith, append_assoc, append-nil}
-use Rattle.std.specs.Prelude.{nat_lt, ◌&&◌, if◌then◌else◌}
+use Rattle.std.proofs.Common.{◌≡◌, ◌≢◌, ◌⊎◌, inl, inr, ◌+◌, ℕ, Bool, true, false, List, [], ◌∷◌, ◌++◌, length, Option, Some, None, refl, sym, ap, ◌∙◌, append_assoc, append-nil}
+use Rattle.std.specs.Prelude.{nat_lt, if◌then◌else◌}
 use Rattle.std.proofs.lemmas.List.{reverse-append}
-use Rattle.std.proofs.lemmas.Option.{none-some}
 use Rattle.std.specs.Prelude.{reverse}
 use Rattle.fugue_ids.specs.Identifiers.{Identifier}
 use Rattle.fugue_ids.specs.declared.op.Op.{Op}
 use Rattle.origin_model.specs.operations.History.{accepted}
 use Rattle.origin_model.specs.edits.Edits.{Command, Put, Cut, Add, DropSection, extended}
 use Rattle.origin_model.specs.edits.State.{State}
-use Rattle.origin_model.specs.edits.Refusal.{held_count, in_range, in_section, made_by, next_of_own, refused_elements, refused_ops, section_shown}
+use Rattle.origin_model.specs.edits.Refusal.{held_count, in_range, in_section, made_by, refused_elements, refused_ops, section_shown}
 use Rattle.origin_model.specs.edits.Effect.{Gains, with_ops}
 use Rattle.origin_model.specs.declared.edit_fault.EditFault.{EditFault}
 use Rattle.origin_model.specs.declared.edit_fault.EditFault.TheVariants as edit

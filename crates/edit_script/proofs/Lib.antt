@@ -3,6 +3,7 @@ pub mod WordLemmas
 pub mod LineLemmas
 pub mod SourceLemmas
 pub mod MakingLemmas
+pub mod SectionLemmas
 pub mod RunLemmas
 pub mod DecideLemmas
 pub mod CourseLemmas

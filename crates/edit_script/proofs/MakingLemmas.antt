@@ -50,7 +50,7 @@ ok_is_no_err : (n : ℕ) (fault : EditFault) → ◌≡◌ {A = Result ℕ EditF
 ok_is_no_err n fault e = cc
 
 -- what was made was not refused
-allowed : (s : State) (command : Command) (n : ℕ) → RefusesExactly s command (Ok n) → refusal_message s command ≡ None
+pub allowed : (s : State) (command : Command) (n : ℕ) → RefusesExactly s command (Ok n) → refusal_message s command ≡ None
 allowed s command n exact = of (refusal_message s command) refl
   where
     of : (cause : Option EditFault) → refusal_message s command ≡ cause → cause ≡ None

@@ -6,3 +6,4 @@ pub mod Scripts
 pub mod Lines
 pub mod Answers
 pub mod Laws
+pub mod Sections

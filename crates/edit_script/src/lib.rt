@@ -6,6 +6,7 @@ mod making;
 mod number;
 mod run;
 mod script;
+mod sections;
 mod text;
 
 pub use number::read_decimal;

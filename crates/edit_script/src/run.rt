@@ -8,11 +8,13 @@ ghost use Rattle.edit_script.specs.Answers.{ScriptAnswersBy};
 ghost use Rattle.edit_script.specs.Grammar.{BeginsWith};
 ghost use Rattle.edit_script.specs.Lines.{fault_at, LineFails, IsRun, IsUnreadable, Reads};
 ghost use Rattle.edit_script.specs.Scripts.{ScriptRuns, RunsWhole, ScriptStops, StopsAt};
+ghost use Rattle.edit_script.specs.Sections.{AreOf};
 ghost use Rattle.edit_script.specs.Laws.{AsksOnce, RunsOnce, ScriptsAreTakenIn};
 
 use crate::edit::{Edit, read_edit};
 use crate::making::make;
 use crate::script::read_script;
+use crate::sections::Sections;
 use outer_ports::Source;
 use replica_core::{EditFault, Replica};
 use std::alloc::Global;
@@ -69,12 +71,13 @@ fn run_lines(alloc: Global, replica: &mut Replica, script: &[u8]) -> Result<u32,
     ensures settled { IsSettled replica.new.held }
 {
     let before = replica.accepted().len();
+    let mut sections = Sections::new(alloc);
     let mut number = 0;
     let mut rest = Some(script);
     'lines: while let Some(bytes) = rest {
         let (line, behind) = split_line(bytes);
         number += 1;
-        match run_line(alloc, replica, line) {
+        match run_line(alloc, replica, &mut sections, line) {
             Ok(()) => rest = behind,
             Err(fault) => return Err(at_line(fault, number)),
         }
@@ -137,14 +140,21 @@ pub(crate) enum LineFault {
 }
 
 /// Runs a line.
-pub(crate) fn run_line(alloc: Global, replica: &mut Replica, line: &[u8]) -> Result<(), LineFault>
-    requires { IsSettled replica.old.held }
+pub(crate) fn run_line(
+    alloc: Global,
+    replica: &mut Replica,
+    sections: &mut Sections,
+    line: &[u8],
+) -> Result<(), LineFault>
+    requires settled { IsSettled replica.old.held }
+    requires sections { AreOf sections.old.indices.entries replica.old }
     ensures runs { OnOk result (IsRun replica.old replica.new line.now) }
     ensures fails { IfErr result (LineFails replica.old replica.new line.now) }
     ensures settled { IsSettled replica.new.held }
+    ensures sections { OnOk result (AreOf sections.new.indices.entries replica.new) }
 {
     match read_line(alloc, line) {
-        Ok(Some(edit)) => match make(replica, edit) {
+        Ok(Some(edit)) => match make(replica, sections, edit) {
             Ok(_) => Ok(()),
             Err(fault) => Err(LineFault::Edit(fault)),
         },

@@ -1,5 +1,8 @@
-use crate::assertions::equal_at;
-use cluster_text::cluster_span;
+use crate::assertions::{equal, equal_at};
+use crate::dice::Dice;
+use cluster_text::{ClusterIndex, cluster_span};
+use std::alloc::{AllocError, Global};
+use std::test::Fail;
 
 /// A text, a place and a number of clusters, and the place and the number of their scalars.
 type Row = (&'static str, u32, u32, Option<(usize, usize)>);
@@ -52,4 +55,77 @@ fn places_count_what_a_reader_sees(rt: HostRuntime) {
     for (text, at, n, span) in ROWS.iter() {
         equal_at(&rt, &(text, at, n), cluster_span(text, *at, *n), *span);
     }
+}
+
+/// Of what texts are made: letters and marks, ends of lines, emoji with what joins them, flags, syllables, NULs.
+const PIECES: [&str; 20] = [
+    "a",
+    "b",
+    " ",
+    "\n",
+    "\r\n",
+    "\r",
+    "e\u{301}",
+    "\u{301}",
+    "\u{200D}",
+    "\u{1F468}\u{200D}\u{1F469}\u{200D}\u{1F467}",
+    "\u{1F44D}\u{1F3FD}",
+    "\u{1F1EB}\u{1F1F7}",
+    "\u{1F1EB}",
+    "\u{1112}\u{1161}",
+    "\u{11AB}",
+    "\u{915}\u{94D}\u{937}",
+    "\u{93F}",
+    "\u{436}",
+    "\u{8A9E}",
+    "\0",
+];
+
+fn make_text(alloc: Global, dice: &mut Dice, count: usize) -> Result<String, AllocError> {
+    let mut text = String::new(alloc);
+    for _ in 0..count {
+        if let Some(piece) = PIECES.get(dice.roll(PIECES.len())) {
+            text.push_str(piece)?;
+        }
+    }
+    Ok(text)
+}
+
+/// A text in which n scalars from `at` on gave way to others.
+fn splice(alloc: Global, text: &str, at: usize, n: usize, new: &str) -> Result<String, AllocError> {
+    let mut spliced = String::new(alloc);
+    for scalar in text.chars().take(at) {
+        spliced.push(scalar)?;
+    }
+    spliced.push_str(new)?;
+    for scalar in text.chars().skip(at).skip(n) {
+        spliced.push(scalar)?;
+    }
+    Ok(spliced)
+}
+
+/// An index of a text answers what the text does, at places here and there and beyond the end.
+#[test]
+fn an_index_is_the_text_that_it_stands_for(rt: HostRuntime) -> Result<(), Fail> {
+    let mut dice = Dice { state: 11 };
+    let mut text = make_text(rt.alloc(), &mut dice, 400)?;
+    let mut index = ClusterIndex::new(rt.alloc(), text.as_str())?;
+    for turn in 0..300 {
+        let at = dice.roll(index.len()).min(index.len());
+        let n = dice
+            .roll(if turn % 8 == 0 { 400 } else { 6 })
+            .min(index.len() - at);
+        let count = dice.roll(if turn % 16 == 0 { 300 } else { 4 });
+        let new = make_text(rt.alloc(), &mut dice, count)?;
+        index.splice(at, n, new.as_str())?;
+        text = splice(rt.alloc(), text.as_str(), at, n, new.as_str())?;
+        equal(&rt, index.len(), text.chars().count());
+        for _ in 0..4 {
+            let place = dice.number(index.len());
+            let more = dice.number(index.len() / 4);
+            let span = cluster_span(text.as_str(), place, more);
+            equal_at(&rt, &(turn, place, more), index.span(place, more), span);
+        }
+    }
+    Ok(())
 }

@@ -10,6 +10,7 @@ pub lines-preserved : goal.lines-preserved
 lines-preserved c = record {
   walk = walk_next _ _ _ _ _ _ _ _ (walk_at _ _ _ _ _ _ c.lines.invariant.walk c.in-Some.is) c.split_line.ensures c.in-Ok.ensures.runs;
   settled = c.run_line.ensures.settled;
+  sections = c.in-Ok.ensures.sections;
 }
 
 pub returns-in-Err-clause-err : goal.returns-in-Err-clause-err

@@ -1,0 +1,204 @@
+-- The characters at which clusters end, and texts between which no cluster goes on.
+use Rattle.std.proofs.Common.{◌≡◌, ℕ, Bool, true, false, not, ◌&&◌, ◌||◌, List, [], ◌∷◌, ◌++◌, map, Some, unwrap_or, refl, sym, ap, ap₂, ◌∙◌, append_assoc}
+use Rattle.std.proofs.lemmas.Bool.{and_parts, not-true}
+use Rattle.std.proofs.lemmas.List.{map-append}
+use Rattle.std.proofs.lemmas.Str.{chars-append}
+use Rattle.std.specs.Prelude.{encode_utf8_all}
+use Rattle.std.specs.Str.{chars, IsUtf8}
+use Rattle.ucd_breaks.specs.GraphemeClusterBreak.{grapheme_cluster_break}
+use Rattle.ucd_breaks.specs.declared.GraphemeClusterBreak.{GraphemeClusterBreak}
+use Rattle.ucd_breaks.specs.declared.GraphemeClusterBreak.TheVariants.{Control, Extend, Lf, Other, SpacingMark, Zwj}
+use Rattle.ucd_breaks.proofs.Computing.{ucd_breaks}
+use Rattle.ucd_derived.specs.IndicConjunctBreak.{indic_conjunct_break}
+use Rattle.ucd_derived.specs.declared.IndicConjunctBreak.{IndicConjunctBreak}
+use Rattle.ucd_derived.specs.declared.IndicConjunctBreak.TheVariants as InCb
+use Rattle.ucd_derived.proofs.Computing.{ucd_derived}
+use Rattle.ucd_emoji.specs.Binary.{is_extended_pictographic}
+use Rattle.ucd_emoji.proofs.Computing.{ucd_emoji}
+use Rattle.unicode_segmentation.specs.Grapheme.{break_by_pair, ends_in_linker, is_extend, is_zwj, is_regional, ends_in_pictograph, ends_in_half_flag, is_grapheme_break}
+use Rattle.unicode_segmentation.specs.Segments.{Rule, cut, segments}
+use Rattle.cluster_text.specs.Borders.{closes, opens, first_opens, last_closes, is_free, is_linking, is_mark}
+use Rattle.cluster_text.specs.Clusters.{clusters}
+use Rattle.cluster_text.proofs.CutLemmas.{onto, attach, attach-nil, ReadsNext, StopsAt, cut-after, cut-apart, cut-border, cut-past}
+
+-- no cluster goes over the border between two texts, and each has the clusters that it has alone
+abbrev pub Apart : (a b : List ℕ) → Type 0
+Apart a b = clusters (a ++ b) ≡ clusters a ++ clusters b
+
+-- a character that closes, by the three tables
+record Closing (c : ℕ) : Type 0 where
+  pub free : is_free (grapheme_cluster_break c) ≡ true
+  pub linking : is_linking (indic_conjunct_break c) ≡ false
+  pub pictograph : is_extended_pictographic c ≡ false
+
+closing : (c : ℕ) → closes c ≡ true → Closing c
+closing c e =
+    let parts = and_parts (is_free (grapheme_cluster_break c)) _ e in
+    let others = and_parts (not (is_linking (indic_conjunct_break c))) _ parts.1 in
+    record { free = parts.0; linking = not-true _ others.0; pictograph = not-true _ others.1 }
+
+free-not_extend : (v : GraphemeClusterBreak) → is_free v ≡ true → (is_extend v ≡ false) × (is_zwj v ≡ false) × (is_regional v ≡ false)
+free-not_extend Other e = (refl, refl, refl)
+free-not_extend Control e = (refl, refl, refl)
+free-not_extend Lf e = (refl, refl, refl)
+free-not_extend _ e = cc
+
+linker-stop : (v : IndicConjunctBreak) (vs : List IndicConjunctBreak) → is_linking v ≡ false → ends_in_linker (v ∷ vs) ≡ false
+unfolding ends_in_linker
+linker-stop InCb.Linker vs e = e
+linker-stop InCb.Extend vs e = cc
+linker-stop _ vs e = refl
+
+linker-cons : (v : IndicConjunctBreak) (vs ws : List IndicConjunctBreak) → ends_in_linker vs ≡ ends_in_linker ws → ends_in_linker (v ∷ vs) ≡ ends_in_linker (v ∷ ws)
+unfolding ends_in_linker
+linker-cons InCb.Linker vs ws e = refl
+linker-cons InCb.Extend vs ws e = e
+linker-cons _ vs ws e = refl
+
+module _ (c : ℕ) (stop : Closing c) where
+  linker-past : (xs older : List ℕ) → ends_in_linker (map indic_conjunct_break (xs ++ c ∷ older)) ≡ ends_in_linker (map indic_conjunct_break xs)
+  unfolding ends_in_linker
+  linker-past [] older = linker-stop (indic_conjunct_break c) _ stop.linking
+  linker-past (x ∷ xs) older = linker-cons (indic_conjunct_break x) _ _ (linker-past xs older)
+
+  pictograph-past : (xs older : List ℕ) → ends_in_pictograph (xs ++ c ∷ older) ≡ ends_in_pictograph xs
+  unfolding ends_in_pictograph
+  pictograph-past [] older = rw (stop.pictograph, (free-not_extend _ stop.free).0) refl
+  pictograph-past (x ∷ xs) older = ap (λ b. is_extended_pictographic x || (is_extend (grapheme_cluster_break x) && b)) (pictograph-past xs older)
+
+  half_flag-past : (xs older : List ℕ) → ends_in_half_flag (xs ++ c ∷ older) ≡ ends_in_half_flag xs
+  unfolding ends_in_half_flag
+  half_flag-past [] older = rw (free-not_extend _ stop.free).2 refl
+  half_flag-past (x ∷ xs) older = ap (λ b. is_regional (grapheme_cluster_break x) && not b) (half_flag-past xs older)
+
+  -- no rule looks past such a character
+  rule_stops : StopsAt (is_grapheme_break true) c
+  unfolding is_grapheme_break
+  rule_stops d xs older [] = refl
+  rule_stops d xs older (n ∷ after) =
+      rw (linker-past (d ∷ xs) older, pictograph-past xs older, half_flag-past (d ∷ xs) older) refl
+
+  -- behind it the pair of neighbors decides
+  rule_by_pair : (d : ℕ) (before after : List ℕ)
+      → is_grapheme_break true (c ∷ before) (d ∷ after) ≡ unwrap_or (break_by_pair true (grapheme_cluster_break c) (grapheme_cluster_break d)) true
+  unfolding is_grapheme_break ends_in_half_flag
+  rule_by_pair d before after =
+      let free = free-not_extend _ stop.free in
+      rw (linker-stop (indic_conjunct_break c) (map indic_conjunct_break before) stop.linking, free.1, free.2) refl
+
+rule_reads_next : ReadsNext (is_grapheme_break true)
+unfolding is_grapheme_break
+rule_reads_next [] c xs ys = refl
+rule_reads_next (b ∷ before) c xs ys = refl
+
+pair_breaks : (v w : GraphemeClusterBreak) → is_free v ≡ true → is_mark w ≡ false → unwrap_or (break_by_pair true v w) true ≡ true
+pair_breaks Other Extend e f = sym f
+pair_breaks Other Zwj e f = sym f
+pair_breaks Other SpacingMark e f = sym f
+pair_breaks Other w e f = refl
+pair_breaks Control w e f = refl
+pair_breaks Lf w e f = refl
+pair_breaks _ w e f = cc
+
+-- a character that closes breaks from one that opens, whatever stands around them
+rule_breaks : (c : ℕ) (before ds : List ℕ) → closes c ≡ true → first_opens ds ≡ true → is_grapheme_break true (c ∷ before) ds ≡ true
+rule_breaks c before [] closed opening = cc
+rule_breaks c before (d ∷ ds) closed opening =
+    let stop = closing c closed in
+    rule_by_pair c stop d before ds ∙ pair_breaks _ _ stop.free (not-true _ opening)
+
+-- where the texts fall apart by characters, they do by bytes
+apart_from_break : (a b front : List ℕ) (c : ℕ) → IsUtf8 a → chars a ≡ front ++ c ∷ [] → Closing c
+    → is_grapheme_break true (c ∷ onto front []) (chars b) ≡ true → Apart a b
+unfolding segments
+apart_from_break a b front c utf8 is stop breaks =
+    let pieces : List ℕ → List (List ℕ) = λ cs. cut (is_grapheme_break true) [] cs [] in
+    let whole : chars (a ++ b) ≡ front ++ c ∷ chars b =
+    chars-append a b utf8 ∙ ap (λ cs. cs ++ chars b) is ∙ append_assoc front (c ∷ []) (chars b) in
+    ap (λ cs. map encode_utf8_all (pieces cs)) whole
+    ∙ ap (map encode_utf8_all) (cut-apart (is_grapheme_break true) c rule_reads_next (rule_stops c stop) front (chars b) breaks)
+    ∙ map-append encode_utf8_all (pieces (front ++ c ∷ [])) (pieces (chars b))
+    ∙ ap (λ cs. map encode_utf8_all (pieces cs) ++ map encode_utf8_all (pieces (chars b))) (sym is)
+
+pub record LastOf (cs : List ℕ) : Type 0 where
+  pub front : List ℕ
+  pub last : ℕ
+  pub is : cs ≡ front ++ last ∷ []
+  pub closed : closes last ≡ true
+
+pub last_of : (cs : List ℕ) → last_closes cs ≡ true → LastOf cs
+last_of [] e = cc
+last_of (c ∷ []) e = record { front = []; last = c; is = refl; closed = e }
+last_of (c ∷ d ∷ cs) e =
+    let further = last_of (d ∷ cs) e in
+    record { front = c ∷ further.front; last = further.last; is = ap (λ ds. c ∷ ds) further.is; closed = further.closed }
+
+-- a text that ends in a character that closes stands apart from one that begins with one that opens
+pub apart-closed : (a b : List ℕ) → IsUtf8 a → last_closes (chars a) ≡ true → first_opens (chars b) ≡ true → Apart a b
+apart-closed a b utf8 closed opening =
+    let l = last_of (chars a) closed in
+    apart_from_break a b l.front l.last utf8 l.is (closing l.last l.closed) (rule_breaks l.last (onto l.front []) (chars b) l.closed opening)
+
+-- ---- NUL
+
+nul_class : grapheme_cluster_break 0 ≡ Control
+unfolding ucd_breaks
+nul_class = refl
+
+pub nul_closes : closes 0 ≡ true
+unfolding ucd_breaks ucd_derived ucd_emoji
+nul_closes = refl
+
+pub nul_opens : opens 0 ≡ true
+unfolding ucd_breaks
+nul_opens = refl
+
+-- GB4 and GB5
+control_first : (v w : GraphemeClusterBreak) (other : Bool) → v ≡ Control → unwrap_or (break_by_pair true v w) other ≡ true
+control_first Control w other e = refl
+control_first _ w other e = cc
+
+control_last : (v w : GraphemeClusterBreak) (other : Bool) → w ≡ Control → unwrap_or (break_by_pair true v w) other ≡ true
+control_last v w other e = ap (λ (x : GraphemeClusterBreak). unwrap_or (break_by_pair true v x) other) e ∙ ap (λ o. unwrap_or o other) (before v)
+  where
+    before : (v : GraphemeClusterBreak) → break_by_pair true v Control ≡ Some true
+    before Control = refl
+    before _ = refl
+
+pub breaks_behind_nul : (before ds : List ℕ) → is_grapheme_break true (0 ∷ before) ds ≡ true
+unfolding is_grapheme_break
+breaks_behind_nul before [] = refl
+breaks_behind_nul before (d ∷ ds) = control_first (grapheme_cluster_break 0) (grapheme_cluster_break d) _ nul_class
+
+breaks_before_nul : (c : ℕ) (before : List ℕ) → is_grapheme_break true (c ∷ before) (0 ∷ []) ≡ true
+unfolding is_grapheme_break
+breaks_before_nul c before = control_last (grapheme_cluster_break c) (grapheme_cluster_break 0) _ nul_class
+
+-- characters in front of a NUL have the pieces that they have alone
+pub cut-nul : (cs : List ℕ) → cut (is_grapheme_break true) [] (cs ++ 0 ∷ []) [] ≡ cut (is_grapheme_break true) [] cs [] ++ (0 ∷ []) ∷ []
+unfolding cut
+cut-nul [] = attach-nil _ (0 ∷ [])
+cut-nul (c ∷ cs) = by c cs (last-split c cs)
+  where
+    rule : Rule
+    rule = is_grapheme_break true
+
+    last-split : (c : ℕ) (cs : List ℕ) → (front : List ℕ) × (last : ℕ) × (c ∷ cs ≡ front ++ last ∷ [])
+    last-split c [] = ([], c, refl)
+    last-split c (d ∷ cs) = let further = last-split d cs in (c ∷ further.0, further.1, ap (λ ds. c ∷ ds) further.2)
+
+    by : (c : ℕ) (cs : List ℕ) → (front : List ℕ) × (last : ℕ) × (c ∷ cs ≡ front ++ last ∷ []) → cut rule [] ((c ∷ cs) ++ 0 ∷ []) [] ≡ cut rule [] (c ∷ cs) [] ++ (0 ∷ []) ∷ []
+    by c cs l =
+        ap (λ ds. cut rule [] (ds ++ 0 ∷ []) []) l.2
+        ∙ ap (λ ds. cut rule [] ds []) (append_assoc l.0 (l.1 ∷ []) (0 ∷ []))
+        ∙ cut-border rule [] l.0 l.1 (0 ∷ []) [] (breaks_before_nul l.1 (onto l.0 []))
+        ∙ ap₂ ◌++◌ (cut-after rule rule_reads_next [] (l.0 ++ l.1 ∷ []) (0 ∷ [])) (attach-nil _ (0 ∷ []))
+        ∙ ap (λ ds. cut rule [] ds [] ++ (0 ∷ []) ∷ []) (sym l.2)
+
+-- a NUL on each side is a piece of its own
+pub cut-enclosed : (cs : List ℕ) → cut (is_grapheme_break true) [] (0 ∷ (cs ++ 0 ∷ [])) [] ≡ (0 ∷ []) ∷ (cut (is_grapheme_break true) [] cs [] ++ (0 ∷ []) ∷ [])
+unfolding cut
+cut-enclosed cs =
+    let rule = is_grapheme_break true in
+    ap (λ b. attach b (0 ∷ []) (cut rule (0 ∷ []) (cs ++ 0 ∷ []) [])) (breaks_behind_nul [] ((cs ++ 0 ∷ []) ++ []))
+    ∙ ap (λ ps. (0 ∷ []) ∷ ps) (cut-past rule 0 (rule_stops 0 (closing 0 nul_closes)) [] [] (cs ++ 0 ∷ []) [] ∙ cut-nul cs)

@@ -1,0 +1,44 @@
+-- A text in parts, over whose ends no cluster goes.
+use Rattle.std.specs.Prelude.{◌≡◌, ℕ, ◌+◌, ◌-◌, ◌<◌, true, List, [], ◌∷◌, ◌++◌, length, map, take, drop, string_bytes}
+use Rattle.std.specs.List.{concat}
+use Rattle.std.specs.Str.{chars, is_utf8}
+use Rattle.cluster_text.specs.Clusters.{clusters, scalars}
+use Rattle.cluster_text.specs.declared.part.Part.{Part}
+
+-- what parts make up
+abbrev pub whole : List Part → List ℕ
+whole parts = concat (map (λ part. string_bytes part.text) parts)
+
+-- how many scalars they have
+abbrev pub scalar_count : List Part → ℕ
+scalar_count parts = length (chars (whole parts))
+
+-- a text between two NULs: a cluster ends behind the first and before the last, whatever the text is
+abbrev pub enclosed : List ℕ → List ℕ
+enclosed text = 0 ∷ text ++ 0 ∷ []
+
+-- what stands between the first and the last byte
+abbrev pub inside : List ℕ → List ℕ
+inside bytes = take (length bytes - 2) (drop 1 bytes)
+
+-- the parts make up an enclosed text of so many scalars, the two NULs counted
+pub record IsIndex (parts : List Part) (count : ℕ) : Type 0 where
+  pub text_is : whole parts ≡ enclosed (inside (whole parts))
+  pub utf8 : is_utf8 (inside (whole parts)) ≡ true
+  pub count_is : count ≡ scalar_count parts
+
+-- the scalar at this place stands in the part at `index`, with `within` scalars of the part in front of it
+pub record IsSpot (parts : List Part) (at index within : ℕ) : Type 0 where
+  pub front : List Part
+  pub here : Part
+  pub back : List Part
+  pub parts_are : parts ≡ front ++ here ∷ back
+  pub index_is : index ≡ length front
+  pub place : at ≡ scalar_count front + within
+  pub fits : within < length (chars (string_bytes here.text))
+
+-- on the way to the cluster `at`, parts with so many scalars were passed, and `left` clusters of the others are still to be passed
+pub record IsOnWay (parts rest : List Part) (at passed left : ℕ) : Type 0 where
+  pub place : passed + scalars (take left (clusters (whole rest))) ≡ scalars (take at (clusters (whole parts)))
+  pub counts : length (clusters (whole parts)) + left ≡ at + length (clusters (whole rest))
+  pub scalars_are : passed + scalar_count rest ≡ scalar_count parts

@@ -1,0 +1,50 @@
+ghost use Rattle.std.specs.Prelude.{◌≡◌, ◌++◌, List, IfSome, [], ◌∷◌, ℕ};
+ghost use Rattle.cluster_text.specs.Borders.{closes as closes_on, is_free as is_free_class};
+ghost use Rattle.cluster_text.specs.Borders.{is_linking as is_linking_class, is_mark as is_mark_class, opens as opens_on};
+
+use ucd_breaks::GraphemeClusterBreak;
+use ucd_derived::IndicConjunctBreak;
+use ucd_emoji::is_extended_pictographic;
+
+/// Whether a cluster ends behind the character, where none but a mark could go on with it.
+pub(crate) fn closes(c: char) -> bool
+    ensures { result ≡ closes_on c }
+{
+    is_free(GraphemeClusterBreak::for_char(c))
+        && !is_linking(IndicConjunctBreak::for_char(c))
+        && !is_extended_pictographic(c)
+}
+
+/// Whether the character goes on with no cluster that such a character ends.
+pub(crate) fn opens(c: char) -> bool
+    ensures { result ≡ opens_on c }
+{
+    !is_mark(GraphemeClusterBreak::for_char(c))
+}
+
+fn is_free(class: GraphemeClusterBreak) -> bool
+    ensures { result ≡ is_free_class class }
+{
+    matches!(
+        class,
+        GraphemeClusterBreak::Other | GraphemeClusterBreak::Control | GraphemeClusterBreak::Lf
+    )
+}
+
+fn is_mark(class: GraphemeClusterBreak) -> bool
+    ensures { result ≡ is_mark_class class }
+{
+    matches!(
+        class,
+        GraphemeClusterBreak::Extend | GraphemeClusterBreak::Zwj | GraphemeClusterBreak::SpacingMark
+    )
+}
+
+fn is_linking(class: IndicConjunctBreak) -> bool
+    ensures { result ≡ is_linking_class class }
+{
+    matches!(
+        class,
+        IndicConjunctBreak::Linker | IndicConjunctBreak::Extend
+    )
+}

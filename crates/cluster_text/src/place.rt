@@ -1,0 +1,44 @@
+//! Places in clusters, by the counts of parts.
+ghost use Rattle.std.specs.Prelude.{◌≡◌, ◌↔◌, ◌<◌, ◌≤◌, ◌^◌, length, take, IfSome, IsNone};
+ghost use Rattle.cluster_text.specs.Clusters.{clusters as clusters_of, scalars as scalars_of};
+ghost use Rattle.cluster_text.specs.Parts.{scalar_count, whole};
+
+use crate::part::Part;
+use crate::scalars::count_scalars;
+use unicode_segmentation::UnicodeSegmentation;
+
+/// How many scalars stand before the cluster `at`. None is the answer where there is none. Only the part in which it
+/// stands is read.
+pub(crate) fn find_place(parts: &[Part], at: usize) -> Option<usize>
+    requires { scalar_count parts.now < 2 ^ 64 }
+    ensures some { IfSome result (λ found. found ≡ scalars_of (take at (clusters_of (whole parts.now)))) }
+    ensures none { IsNone result ↔ (length (clusters_of (whole parts.now)) ≤ at) }
+{
+    let mut passed = 0;
+    let mut left = at;
+    'parts: for part in parts {
+        if left < part.clusters {
+            let inside = count_front(part.text.as_str(), left);
+            return Some(passed + inside);
+        }
+        passed += part.scalars;
+        left -= part.clusters;
+    }
+    None
+}
+
+/// How many scalars the first n clusters have.
+fn count_front(text: &str, n: usize) -> usize
+    requires { n ≤ length (clusters_of text.now) }
+    ensures { result ≡ scalars_of (take n (clusters_of text.now)) }
+{
+    let mut clusters = text.graphemes(true);
+    let mut scalars = 0;
+    'passed: for _ in 0..n {
+        match clusters.next() {
+            Some(cluster) => scalars += count_scalars(cluster),
+            None => return scalars,
+        }
+    }
+    scalars
+}
