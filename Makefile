@@ -29,7 +29,8 @@ bench: bin/manuscript
 
 install: bin/manuscript
 	install -D -m 755 bin/manuscript $(PREFIX)/bin/manuscript
-	install -D -m 644 docs/manuscript.1 $(PREFIX)/share/man/man1/manuscript.1
+	install -D -m 755 examples/manuscript-write $(PREFIX)/bin/manuscript-write
+	install -D -m 644 -t $(PREFIX)/share/man/man1 docs/manuscript.1 docs/manuscript-write.1
 
 # An archive for those who have no toolchain: the program, its manual page, the guide and checksums. The same sources make
 # the same bytes.
@@ -39,7 +40,8 @@ RELEASE := petreltombac-$(VERSION)
 dist: bin/manuscript
 	rm -rf dist/$(RELEASE)
 	install -D -m 755 bin/manuscript dist/$(RELEASE)/bin/manuscript
-	install -D -m 644 docs/manuscript.1 dist/$(RELEASE)/share/man/man1/manuscript.1
+	install -D -m 755 examples/manuscript-write dist/$(RELEASE)/bin/manuscript-write
+	install -D -m 644 -t dist/$(RELEASE)/share/man/man1 docs/manuscript.1 docs/manuscript-write.1
 	install -D -m 644 -t dist/$(RELEASE)/doc README.md CHANGELOG.md LICENSE docs/GUIDE.md docs/FORMATS.md docs/WHY.md
 	install -D -m 755 -t dist/$(RELEASE)/examples examples/reader.py examples/page.py
 	cd dist/$(RELEASE) && find * -type f | LC_ALL=C sort | xargs sha256sum > ../SHA256SUMS && mv ../SHA256SUMS .

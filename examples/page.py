@@ -59,9 +59,12 @@ def escaped(text):
     return html.escape(text, quote=True)
 
 
-def colour(author, authors):
-    """A colour that reads on light and on dark paper, each author another one."""
-    return f"hsl({round(360 * authors.index(author) / len(authors) + 210) % 360} 55% 48%)"
+def colours_of(author, authors):
+    """Rules for an author's colour, each author another one. It is dark on light paper and light on dark paper, so that
+    text keeps a contrast of 4.5 to 1; a browser that does not know light-dark() takes the first."""
+    hue = round(360 * authors.index(author) / len(authors) + 210) % 360
+    both = f"color: hsl({hue} 55% 48%); color: light-dark(hsl({hue} 75% 30%), hsl({hue} 65% 72%))"
+    return f".by-{author} {{ {both} }} .legend .by-{author} b {{ background: currentColor }}\n"
 
 
 def letters_of(replica, section, comments):
@@ -159,10 +162,7 @@ def switches_html(names):
 def page(replica, versions):
     """The page of a replica, and of the versions of its file: each how many operations it has, and its name."""
     authors = sorted({op.id[0] for op in replica.accepted if op.id})
-    colours = "".join(
-        f".by-{author} {{ color: {colour(author, authors)} }} .legend .by-{author} b {{ background: {colour(author, authors)} }}\n"
-        for author in authors
-    )
+    colours = "".join(colours_of(author, authors) for author in authors)
     shown = "".join(f"#view-{view}:checked ~ main .view-{view} {{ display: block }}\n" for view in range(len(versions) + 1))
     views = [view_html(replica, True, 0)]
     for view, (count, _) in enumerate(versions, 1):
@@ -184,8 +184,12 @@ def main(files):
         return 1
     contents = []
     for name in files:
-        with open(name, "rb") as file:
-            contents.append(file.read())
+        try:
+            with open(name, "rb") as file:
+                contents.append(file.read())
+        except OSError as why:
+            print(f"page.py: {name}: {why.strerror}", file=sys.stderr)
+            return 4
     try:
         replica = reader.taken_in(*reader.read_file(contents[0]))
         versions = reader.versions_of(contents[0], replica)

@@ -7,26 +7,23 @@ set -euo pipefail
 cd "$(dirname "$0")/.."
 page=${1:-docs/PROMISES.md}
 
-# One line for each name in the tables: the file, the function or definition, and the clause or a dash.
+# One line for each name in the lists: the file, the function or definition, and the clause or a dash.
 references() {
-    awk -F '|' '
-        /^\| / && NF > 4 {
+    awk '
+        /^- `/ {
             depth = 0
-            file = ""
-            for (part = 2; part < NF; part++) {
-                text = $part
-                while (match(text, /`[^`]*`|\(|\)/)) {
-                    token = substr(text, RSTART, RLENGTH)
-                    text = substr(text, RSTART + RLENGTH)
-                    name = substr(token, 2, RLENGTH - 2)
-                    if (token == "(") depth = 1
-                    else if (token == ")") depth = 0
-                    else if (name ~ /^[a-z_]+\/.*\.(rt|antt)$/) { file = name; item = ""; depth = 0 }
-                    else if (file == "") continue
-                    else if (depth && item != "") print file, item, name
-                    else { item = name; print file, item, "-" }
-                }
-                file = ""
+            file = item = ""
+            text = $0
+            while (match(text, /`[^`]*`|\(|\)/)) {
+                token = substr(text, RSTART, RLENGTH)
+                text = substr(text, RSTART + RLENGTH)
+                name = substr(token, 2, RLENGTH - 2)
+                if (token == "(") depth = 1
+                else if (token == ")") depth = 0
+                else if (name ~ /^[a-z_]+\/.*\.(rt|antt)$/) { file = name; item = ""; depth = 0 }
+                else if (file == "") continue
+                else if (depth && item != "") print file, item, name
+                else { item = name; print file, item, "-" }
             }
         }' "$page"
 }
