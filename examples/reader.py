@@ -1,10 +1,14 @@
 #!/usr/bin/env python3
 """A small reader of frames and of replica files, written from docs/FORMATS.md alone.
 
-    reader.py list FRAMES    tells each operation of a stream, and how the stream ends
+    reader.py tell FRAMES    tells each operation of a stream, and how the stream ends
     reader.py show FRAMES    what `manuscript show` prints and notes
     reader.py print FILE     what `manuscript print` prints and notes
     reader.py arrange FILE   what `manuscript arrange` prints and notes
+    reader.py list FILE      what `manuscript list` prints and notes
+    reader.py draft FILE BASE
+                             what `manuscript arrange` prints behind `manuscript revise FILE BASE` with the draft on
+                             standard input, or why that is refused
     reader.py comments FILE  what `manuscript comments` prints and notes
     reader.py versions FILE  what `manuscript versions` prints and notes
     reader.py view FILE NAME what `manuscript view` prints and notes
@@ -16,6 +20,7 @@ It keeps the rules and not the limits: it counts no operations but the waiting o
 
 import re
 import sys
+import unicodedata
 from dataclasses import dataclass, field
 
 USUAL_HOLD = 65_536
@@ -483,6 +488,106 @@ class Arrangement:
         return "".join(f"# {self.heading(section)}\n{self.replica.text(section)}\n" for section in self.sections())
 
 
+ZERO_WIDTH_JOINER = "\u200d"
+
+
+def cluster_class(ch):
+    """The class of a character for the rules of UAX 29, by its general category: rare characters may have another."""
+    category, code = unicodedata.category(ch), ord(ch)
+    if ch in "\r\n":
+        return {"\r": "CR", "\n": "LF"}[ch]
+    if ch == ZERO_WIDTH_JOINER:
+        return "ZWJ"
+    if category in ("Mn", "Me") or ch == "\u200c" or 0x1F3FB <= code <= 0x1F3FF:
+        return "Extend"
+    if category in ("Cc", "Cf", "Zl", "Zp"):
+        return "Control"
+    if category == "Mc" or ch in "\u0e33\u0eb3":
+        return "SpacingMark"
+    if 0x1F1E6 <= code <= 0x1F1FF:
+        return "Regional"
+    if 0x1100 <= code <= 0x115F:
+        return "L"
+    if 0x1160 <= code <= 0x11A7:
+        return "V"
+    if 0x11A8 <= code <= 0x11FF:
+        return "T"
+    if 0xAC00 <= code <= 0xD7A3:
+        return "LVT" if (code - 0xAC00) % 28 else "LV"
+    return "Picture" if category == "So" else "Other"
+
+
+HANGUL = {"L": ("L", "V", "LV", "LVT"), "LV": ("V", "T"), "V": ("V", "T"), "LVT": ("T",), "T": ("T",)}
+
+
+def cluster_count(text):
+    """How many extended grapheme clusters a text has."""
+    count, before, regionals, is_joined = 0, None, 0, False
+    for kind in map(cluster_class, text):
+        if before is None:
+            joins = False
+        elif "Control" in (before, kind) or {"CR", "LF"} & {before, kind}:
+            joins = (before, kind) == ("CR", "LF")
+        else:
+            joins = (
+                kind in ("Extend", "ZWJ", "SpacingMark")
+                or kind in HANGUL.get(before, ())
+                or (before == "ZWJ" and kind == "Picture" and is_joined)
+                or (before == kind == "Regional" and regionals % 2 == 1)
+            )
+        count += not joins
+        regionals = regionals + 1 if kind == "Regional" else 0
+        is_joined = kind == "Picture" or (is_joined and kind in ("Extend", "ZWJ"))
+        before = kind
+    return count
+
+
+def is_title(data):
+    return read_one_line(data, LONGEST_TITLE) is not None
+
+
+def read_parts(draft):
+    """The titles and texts of a draft."""
+    lines = (draft if draft.endswith(b"\n") or not draft else draft + b"\n").split(b"\n")[:-1]
+    parts = []
+    for number, line in enumerate(lines, 1):
+        is_heading = line.startswith(b"# ")
+        try:
+            line.decode("utf-8")
+        except UnicodeDecodeError:
+            raise Refused(f"bad draft at line {number}", 2) from None
+        if (is_heading and not is_title(line[2:])) or (number == 1 and not is_heading):
+            raise Refused(f"bad draft at line {number}", 2)
+        if is_heading:
+            parts.append((line[2:], []))
+        else:
+            parts[-1][1].append(line)
+    return [(title, b"\n".join(text)) for title, text in parts]
+
+
+def form(parts):
+    return b"".join(b"# " + title + b"\n" + text + b"\n" for title, text in parts)
+
+
+def first_difference(old, new):
+    """Where two texts differ, or the shorter one ends; None where they are the same."""
+    if old == new:
+        return None
+    return next((at for at, (x, y) in enumerate(zip(old, new)) if x != y), min(len(old), len(new)))
+
+
+def read_draft(replica, base, draft):
+    """The parts of a draft that is written from the base. The replica has to print the base."""
+    arrangement = Arrangement(replica)
+    at = first_difference(arrangement.text().encode(), base)
+    if at is not None:
+        raise Refused(f"base differs at byte {at}", 2)
+    for place, section in enumerate(arrangement.sections(), 1):
+        if any(line.startswith("# ") for line in replica.text(section).split("\n")):
+            raise Refused(f"heading in section {place}", 2)
+    return read_parts(draft)
+
+
 def taken_in(hold, ops):
     replica = Replica(hold)
     for op in ops:
@@ -501,7 +606,7 @@ def tell(op):
     return " ".join(parts + ([repr(op.text)] if op.text else []))
 
 
-def list_stream(data):
+def tell_stream(data):
     for op in read_stream(data):
         print(tell(op))
     return 0
@@ -522,6 +627,28 @@ def print_file(data):
 
 def arrange_file(data):
     print(Arrangement(taken_in(*read_file(data))).text(), end="")
+    return 0
+
+
+def list_file(data):
+    hold, ops = read_file(data)
+    replica = taken_in(hold, ops)
+    own = int.from_bytes(data[5:9], "big")
+    print(f"replica {own}, hold {hold}, accepted {len(replica.accepted)}, waiting {len(replica.waiting)}")
+    arrangement = Arrangement(replica)
+    numbers = {section.id: number for number, section in enumerate(replica.shown(CATALOGUE), 1)}
+    for place, section in enumerate(arrangement.sections(), 1):
+        number = numbers[section.id]
+        mark = "" if number == place else f" ({number})"
+        print(f"{place}{mark} {cluster_count(replica.text(section))} {arrangement.heading(section)}")
+    return 0
+
+
+def draft_file(data, base):
+    with open(base, "rb") as file:
+        parts = read_draft(taken_in(*read_file(data)), file.read(), sys.stdin.buffer.read())
+    sys.stdout.flush()
+    sys.stdout.buffer.write(form(parts))
     return 0
 
 
@@ -723,10 +850,12 @@ def check(data):
 
 
 COMMANDS = {
-    "list": list_stream,
+    "tell": tell_stream,
     "show": show,
     "print": print_file,
     "arrange": arrange_file,
+    "list": list_file,
+    "draft": draft_file,
     "comments": comments_file,
     "versions": versions_file,
     "view": view_file,
@@ -736,7 +865,7 @@ COMMANDS = {
 
 
 def main(words):
-    if not words or words[0] not in COMMANDS or len(words) != (3 if words[0] == "view" else 2):
+    if not words or words[0] not in COMMANDS or len(words) != (3 if words[0] in ("view", "draft") else 2):
         print(__doc__, file=sys.stderr)
         return 1
     sys.stdout.reconfigure(encoding="utf-8", newline="")

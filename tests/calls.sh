@@ -325,6 +325,8 @@ put nothing
 printf 'add 1 T\nput 1 0 AB\n' >first
 printf 'add 1 U\nput 1 0 CD\n' >second
 printf 'put 1 1 x\ncut 1 0 1\n' >script
+printf '# U\nCD\n# V\n\n' >base
+printf '# U\nD\n# V\n\n' >draft
 "$program" new ann 1 16 <"$nothing"
 "$program" edit ann <first 2>/dev/null
 "$program" new ben 2 16 <"$nothing"
@@ -347,6 +349,8 @@ try_command 'send home' ann "$nothing" send home
 try_command 'merge home other' ann "$nothing" merge home other
 try_command 'move home 2 1' sections "$nothing" move home 2 1
 try_command 'arrange home' sections "$nothing" arrange home
+try_command 'list home' sections "$nothing" list home
+try_command 'revise home base < draft' sections draft revise home base
 try_command 'comment home 1 0 1 x' ben "$nothing" comment home 1 0 1 x
 try_command 'view home none' ben "$nothing" view home none
 try_command 'bulk 7 4' - "$nothing" bulk 7 4

@@ -46,13 +46,14 @@ run_page() {
     esac | without_gaps >"$work/$name.wanted"
     shell_of <"$work/$name.wanted" >"$work/$name.sh"
     mkdir "$work/$name.folder"
-    (cd "$work/$name.folder" && PATH=${program%/*}:$PATH timeout 120 bash "$work/$name.sh" >"$work/$name.seen" </dev/null)
+    (cd "$work/$name.folder" && PATH=${program%/*}:$here/examples:$PATH timeout 120 bash "$work/$name.sh" >"$work/$name.seen" </dev/null)
     without_gaps <"$work/$name.seen" >"$work/$name.told"
     check "$page: $(grep -c '^\$ ' "$work/$name.wanted") lines print what stands behind them" \
         diff "$work/$name.wanted" "$work/$name.told"
     check "$page has lines to paste" [ -s "$work/$name.wanted" ]
 }
 
+here=$PWD
 port=$((20000 + RANDOM % 20000))
 [ $# -gt 0 ] || set -- README.md docs/GUIDE.md docs/FORMATS.md docs/WHY.md docs/manuscript.1
 for page; do run_page "$page"; done

@@ -14,6 +14,7 @@ use std::process::Abort;
 mod arranged;
 mod bulks;
 mod certificates;
+mod drafts;
 mod edits;
 mod files;
 mod margins;

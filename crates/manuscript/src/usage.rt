@@ -21,6 +21,8 @@ pub(crate) fn usage_of(words: &[String]) -> &'static str {
         "move" => "usage: manuscript move FILE K J\n",
         "retitle" => "usage: manuscript retitle FILE K TITLE\n",
         "arrange" => "usage: manuscript arrange FILE\n",
+        "list" => "usage: manuscript list FILE\n",
+        "revise" => "usage: manuscript revise FILE BASE < DRAFT\n",
         "comment" => "usage: manuscript comment FILE K P N TEXT\n",
         "comments" => "usage: manuscript comments FILE\n",
         "version" => "usage: manuscript version FILE NAME\n",
@@ -32,4 +34,4 @@ pub(crate) fn usage_of(words: &[String]) -> &'static str {
 
 const ALL: &str = "usage: manuscript show | new | edit | print | take | send | merge | relay \
     | sync | bulk | why | check | move | retitle | arrange \
-    | comment | comments | version | versions | view\n";
+    | list | revise | comment | comments | version | versions | view\n";
