@@ -59,7 +59,7 @@ script_once input is replica (Does f) (Does g) a b =
     ap Does (one_outcome replica is.0 f g (told (λ s. RunsScript replica s f) input.old.left is.0 is.1 a) (told (λ s. RunsScript replica s g) input.old.left is.0 is.1 b))
 
 -- a script that was read whole was left
-read_whole : (script : List ℕ) (before after : Option (List ℕ)) → before ≡ prepend_known script after → IfSome after (λ (left : List ℕ). left ≡ []) → IfSome before (λ b. b ≡ script)
+pub read_whole : (script : List ℕ) (before after : Option (List ℕ)) → before ≡ prepend_known script after → IfSome after (λ (left : List ℕ). left ≡ []) → IfSome before (λ b. b ≡ script)
 read_whole script before None is ended = subst (λ (l : Option (List ℕ)). IfSome l (λ b. b ≡ script)) (sym is) tt
 read_whole script before (Some left) is ended =
     subst (λ (l : Option (List ℕ)). IfSome l (λ b. b ≡ script)) (sym is) (ap (λ (l : List ℕ). script ++ l) ended ∙ append-nil script)
@@ -90,7 +90,7 @@ module _ (replica last : Replica) (before after : SourceView) (n : ℕ) (run : S
   has_made = record { line = ap made_line (sym run.2.count); status = refl }
 
 -- a script of which a front was read was left, with more behind it
-read_more : (front : List ℕ) (before after : Option (List ℕ)) → before ≡ prepend_known front after → (more : List ℕ) × IfSome before (λ b. b ≡ front ++ more)
+pub read_more : (front : List ℕ) (before after : Option (List ℕ)) → before ≡ prepend_known front after → (more : List ℕ) × IfSome before (λ b. b ≡ front ++ more)
 read_more front before None is = ([], subst (λ (l : Option (List ℕ)). IfSome l (λ b. b ≡ front ++ [])) (sym is) tt)
 read_more front before (Some left) is = (left, subst (λ (l : Option (List ℕ)). IfSome l (λ b. b ≡ front ++ left)) (sym is) refl)
 

@@ -30,3 +30,7 @@ pub mod WhyLemmas
 pub mod CheckLemmas
 pub mod NoteLemmas
 pub mod NamedVersionLemmas
+pub mod ListingLemmas
+pub mod PlainFileLemmas
+pub mod RevisionTakenLemmas
+pub mod RevisingLemmas

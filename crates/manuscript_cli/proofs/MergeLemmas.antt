@@ -15,7 +15,7 @@ use Rattle.replica_core.specs.declared.keeping.FeedFault.TheVariants as feed_fau
 use Rattle.replica_core.proofs.KeepingLemmas.{takes_more}
 use Rattle.outer_ports.specs.disk.Disks.{DiskView}
 use Rattle.replica_file.specs.declared.load_file.End.{End}
-use Rattle.manuscript_cli.specs.Files.{FileHolds, FileRefuses}
+use Rattle.manuscript_cli.specs.Files.{FileHolds, FileRefuses, LoadMeets}
 use Rattle.manuscript_cli.specs.Findings.{Does, Finding, Refuses}
 use Rattle.manuscript_cli.specs.Merge.{FindNoPlace, MergesNot}
 use Rattle.manuscript_cli.specs.Refusal.{feed_refusal}
@@ -144,3 +144,10 @@ module _ (guest : Change DiskView) (told : IsTold guest.old) (replica : State) w
 
 pub file_once : (guest : Change DiskView) → GivesOnce (other_file guest)
 file_once guest told replica one two gives others = gives_once guest told replica one two gives others
+
+-- another file that was not loaded gives its refusal
+pub file_gives_none : (guest : Change DiskView) (replica now : State) (kept : Option (List Op)) (why : Refusal) → LoadMeets guest (Err why) → GivesTo (other_file guest) replica now kept (Err why)
+file_gives_none guest replica now kept refusal.Outside failed = (failed.rose, failed.no_room)
+file_gives_none guest replica now kept refusal.NoMemory keeps = tt
+file_gives_none guest replica now kept refusal.Words never = absurd never.0
+file_gives_none guest replica now kept why meets = inl meets.0

@@ -1,6 +1,6 @@
 -- What a call gives that makes a note: the note, which a later load takes in to the same state, or why there is none.
 use Rattle.std.proofs.Common.{ap, drop, drop_at, length, refl, sym, List, [], ◌∷◌, ◌∙◌}
-use Rattle.std.specs.Prelude.{Option, Ok}
+use Rattle.std.specs.Prelude.{Option, Ok, Err}
 use Rattle.std.proofs.lemmas.List.Elements.{All-cons, All-nil}
 use Rattle.fugue_ids.specs.declared.op.Op.{Op}
 use Rattle.origin_model.specs.edits.Noting.{note_by}
@@ -15,9 +15,11 @@ use Rattle.edit_script.specs.Laws.{AreTakenIn}
 use Rattle.manuscript_cli.specs.Edit.{made_outcome}
 use Rattle.manuscript_cli.specs.Findings.{Does}
 use Rattle.manuscript_cli.specs.Giving.{GivesTo}
-use Rattle.manuscript_cli.specs.Notes.{MadeNote, NoteOn, note_giver, note_outcome}
+use Rattle.manuscript_cli.specs.Notes.{MadeNote, NoteComes, NoteOn, note_giver, note_outcome}
 use Rattle.manuscript_cli.specs.Saving.{Suffices}
 use Rattle.manuscript_cli.specs.declared.counts.Note.TheVariants as note
+use Rattle.manuscript_cli.specs.declared.refusal.Refusal.{Refusal}
+use Rattle.manuscript_cli.specs.declared.refusal.Refusal.TheVariants as refusal
 
 module _ (note_on : NoteOn) (old new : Replica) (made : MadeNote (note_on old) old new) where
   abbrev pub made_op : Op
@@ -41,3 +43,10 @@ module _ (note_on : NoteOn) (old new : Replica) (made : MadeNote (note_on old) o
         saved = ap (drop (length (accepted old.held.history))) made.gained.accepted_are ∙ drop_at (accepted old.held.history) (made_op ∷ []) (length (accepted old.held.history)) refl;
         noted = record { line = refl; status = refl };
       }
+
+-- no note was made, and why
+pub note_gives_none : (note_on : NoteOn) (old new : Replica) (kept : Option (List Op)) (why : Refusal) → NoteComes (note_on old) old new (Err why) → GivesTo (note_giver note_on) old new kept (Err why)
+note_gives_none note_on old new kept refusal.Outside never = absurd never
+note_gives_none note_on old new kept refusal.NoMemory comes = tt
+note_gives_none note_on old new kept refusal.Words never = never
+note_gives_none note_on old new kept why is = sym (ap (note_outcome old) is)

@@ -15,7 +15,7 @@ use Rattle.manuscript_cli.specs.Saving.{Giver}
 use Rattle.manuscript_cli.specs.Take.{stream}
 use Rattle.manuscript_cli.specs.Touched.{Change, DiskBlameless, DockBlameless, OutBlameless, SourceBlameless, Touched, WireBlameless, change}
 use Rattle.manuscript_cli.specs.declared.command.Command.{Command}
-use Rattle.manuscript_cli.specs.declared.command.Command.TheVariants.{Show, New, Edit, Print, Take, Send, Merge, Relay, Sync, Bulk, Why, Check, Move, Retitle, Arrange, Comment, Comments, Version, Versions, View}
+use Rattle.manuscript_cli.specs.declared.command.Command.TheVariants.{Show, New, Edit, Print, Take, Send, Merge, Relay, Sync, Bulk, Why, Check, Move, Retitle, Arrange, Revise, List as ListCommand, Comment, Comments, Version, Versions, View}
 use Rattle.manuscript_cli.specs.declared.refusal.Refusal.TheVariants.{Words}
 use Rattle.manuscript_cli.specs.declared.status.Status.{Status}
 use Rattle.manuscript_cli.proofs.TextLemmas.{told_blameless}
@@ -73,6 +73,8 @@ module _ (words : List (List ℕ)) (old new : Touched) (end : Status) where
   meets_blameless (Some (Move k j)) meets = makes_note _ meets
   meets_blameless (Some (Retitle k)) meets = makes_note _ meets
   meets_blameless (Some Arrange) meets = reports _ meets
+  meets_blameless (Some Revise) (course, meets) = all _ meets.others meets.leaves.1.blameless quiet meets.blameless.notes_blameless meets.blameless.file_blameless meets.leaves.0.blameless quiet quiet
+  meets_blameless (Some ListCommand) meets = reports _ meets
   meets_blameless (Some (Comment k p n)) meets = makes_note _ meets
   meets_blameless (Some Comments) meets = reports _ meets
   meets_blameless (Some Version) meets = makes_note _ meets

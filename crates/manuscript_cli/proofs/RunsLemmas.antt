@@ -14,7 +14,7 @@ use Rattle.replica_file.proofs.AppendLemmas.{same_content}
 use Rattle.manuscript_cli.proofs.CrashLemmas.{has_one, safe_at_rest}
 use Rattle.manuscript_cli.specs.Crashes.{IsFinished, IsSafe, NeverTorn, StaysSafe}
 use Rattle.manuscript_cli.specs.Files.{HasOps, HasOpsOr, Header}
-use Rattle.manuscript_cli.specs.Run.{Checking, Family, Inventing, Making, MeetsAs, NoCommand, Reporting, Saving, Serving, Showing, family}
+use Rattle.manuscript_cli.specs.Run.{Checking, Choosing, Family, Inventing, Making, MeetsAs, NoCommand, Reporting, Saving, Serving, Showing, family}
 use Rattle.manuscript_cli.specs.Runs.{AllBrought, Brought, CommandRun, DidAll, EachFinishedIsIn, FollowEachOther, GaveAs, GaveBy, IsMeanwhile, LeadsFrom, StandsBehind}
 use Rattle.manuscript_cli.specs.Touched.{Touched}
 use Rattle.manuscript_cli.specs.declared.status.Status.{Status}
@@ -123,6 +123,9 @@ module _ (old new : Touched) (end : Status) (began stood : History) (began_is : 
   goes (Showing hold) meets = unused (ap (λ (t : Touched). t.home) meets.others)
   goes (Making replica hold) meets = used (λ gave. gave ≡ []) meets.does.crash
   goes (Saving saver) meets = used _ meets.does.crash
+  goes (Choosing saver) meets =
+      let one = used _ meets.1.does.crash in
+      (one.0, (meets.0, meets.1, one.1), one.2)
   goes (Reporting tells) meets = used (λ gave. gave ≡ []) meets.does.crash
   goes (Serving port sessions) meets = unused (ap (λ (t : Touched). t.home) meets.others)
   goes (Inventing seed count) meets = unused (ap (λ (t : Touched). t.home) meets.others)

@@ -1,6 +1,6 @@
 -- What a stream gives, by how it was taken in, and that it gives one thing.
 use Rattle.std.proofs.Common.{List, [], ap, length, refl, subst, sym, ℕ, ◌∙◌, ◌≡◌, ◌≢◌}
-use Rattle.std.specs.Prelude.{Option, Some, None, IfSome, Ok}
+use Rattle.std.specs.Prelude.{Option, Some, None, IfSome, IsErrOf, Ok, Err}
 use Rattle.std.proofs.lemmas.List.Elements.{All-weaker}
 use Rattle.fugue_ids.specs.declared.limits.TheConstants.{STREAM_LIMIT}
 use Rattle.fugue_ids.specs.declared.op.Op.{Op}
@@ -8,18 +8,19 @@ use Rattle.origin_model.specs.declared.grammar.Grammar.TheVariants.{Version2}
 use Rattle.origin_model.specs.declared.taking.Tally.{Tally}
 use Rattle.origin_model.specs.taking.Taking.{Answer, Full, IsSettled, TooMany as AnswersTooMany, answers_from, kept_from}
 use Rattle.origin_model.proofs.SharedLemmas.{kept_suffice}
-use Rattle.outer_ports.specs.Sources.{SourceView}
+use Rattle.outer_ports.specs.Sources.{KeepsCount, SourceView}
 use Rattle.op_frame.specs.Courses.{BadFrame, Comes, IntakeCourse, CutShort, TooLong, TooMany, Whole}
 use Rattle.op_frame.proofs.CourseLemmas.{comes_once}
 use Rattle.origin_model.specs.edits.State.{State as Replica}
 use Rattle.manuscript_cli.specs.Findings.{Finding, Refuses, Does}
 use Rattle.manuscript_cli.specs.Giving.{GivesTo, IsNoted}
-use Rattle.manuscript_cli.specs.Intake.{SourceComes, TakesIn, copied, ops_in}
+use Rattle.manuscript_cli.specs.Intake.{IntakeStopsFor, SourceComes, TakesIn, copied, ops_in}
 use Rattle.manuscript_cli.specs.Saving.{Giver, GivesOnce, Outcome, Suffices}
 use Rattle.manuscript_cli.specs.Take.{StreamGives, counts_in, noted_in, stream, taken_in, waiting_in}
 use Rattle.manuscript_cli.specs.Touched.{Change}
 use Rattle.manuscript_cli.specs.declared.counts.Counts.{Counts}
 use Rattle.manuscript_cli.specs.declared.counts.Note.TheVariants as note
+use Rattle.manuscript_cli.specs.declared.refusal.Refusal.{Refusal}
 use Rattle.manuscript_cli.specs.declared.refusal.Refusal.TheVariants as refusal
 
 -- the kept ones of a list stand for all of it
@@ -87,3 +88,14 @@ stream_gives input replica now tally kept kept_after none taken counts settled i
     taken_gives (stream input) replica now taken.ops None (taken.ops, taken.came, refl) settled kept_after
     (ap ops_in (taken.kept_are ∙ ap (λ (k : Option (List Op)). copied k (taken_in replica taken.ops).saved) none)) counts
     (is ∙ (λ i. record { tally = taken.counts_are i; waiting = length (taken.replica_is i).held.waiting; cursor = None }))
+
+-- a stream that stopped gives its refusal
+pub stream_gives_none : (input : Change SourceView) (replica now : Replica) (kept : Option (List Op)) (why : Refusal) → IntakeStopsFor why replica input.old
+    → KeepsCount input.old input.new (IsErrOf {T = Tally} (Err why) refusal.Outside) → GivesTo (stream input) replica now kept (Err why)
+stream_gives_none input replica now kept refusal.Outside stops count = (count.rose refl, λ sure. count.succeeds sure refl)
+stream_gives_none input replica now kept refusal.NoMemory stops count = tt
+stream_gives_none input replica now kept (refusal.BadFrame offset) stops count = stops
+stream_gives_none input replica now kept (refusal.CutShort offset) stops count = stops
+stream_gives_none input replica now kept refusal.TooLong stops count = stops
+stream_gives_none input replica now kept (refusal.TooMany limit) stops count = stops
+stream_gives_none input replica now kept _ stops count = absurd stops

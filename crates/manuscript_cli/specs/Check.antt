@@ -9,7 +9,7 @@ use Rattle.manuscript_cli.specs.Findings.{Refuses, Does}
 use Rattle.manuscript_cli.specs.Refusal.{Told, refusal_line, status_of}
 use Rattle.manuscript_cli.specs.Report.{Reports, Telling}
 use Rattle.manuscript_cli.specs.Touched.{Change}
-use Rattle.manuscript_cli.specs.declared.check.TheConstants.{LONGEST_PROOF}
+use Rattle.manuscript_cli.specs.declared.check.TheConstants.{LONGEST_TEXT}
 use Rattle.manuscript_cli.specs.declared.refusal.Refusal.{Refusal}
 use Rattle.manuscript_cli.specs.declared.refusal.Refusal.TheVariants as refusal
 use Rattle.manuscript_cli.specs.declared.status.Status.{Status}
@@ -24,20 +24,20 @@ check_tells text replica (Refuses why) = ⊥
 pub record IsTextRead (input : Change SourceView) (text : List ℕ) : Type 0 where
   pub told : input.old.left ≡ prepend_known text input.new.left
   pub ended : IfSome input.new.left (λ left. left ≡ [])
-  pub short : length text ≤ LONGEST_PROOF
+  pub short : length text ≤ LONGEST_TEXT
 
 -- the input had more than a text may have: one byte past the limit was taken
 pub record IsTextLonger (input : Change SourceView) : Type 0 where
   pub front : List ℕ
   pub told : input.old.left ≡ prepend_known front input.new.left
-  pub long : length front ≡ LONGEST_PROOF + 1
+  pub long : length front ≡ LONGEST_TEXT + 1
 
 -- why no text was read: a read failed, or memory was wanting, or the input is too long
-abbrev pub HasNoProofText : Change SourceView → Refusal → Type 0
-HasNoProofText input refusal.Outside = Unit {0}
-HasNoProofText input refusal.NoMemory = Unit {0}
-HasNoProofText input refusal.TooLong = IsTextLonger input
-HasNoProofText input _ = ⊥
+abbrev pub HasNoInputText : Change SourceView → Refusal → Type 0
+HasNoInputText input refusal.Outside = Unit {0}
+HasNoInputText input refusal.NoMemory = Unit {0}
+HasNoInputText input refusal.TooLong = IsTextLonger input
+HasNoInputText input _ = ⊥
 
 -- the next n bytes came, one past the limit at most; none came only at the end
 pub record GetsPiece (before after : List ℕ) (old new : SourceView) (n : ℕ) : Type 0 where
@@ -45,7 +45,7 @@ pub record GetsPiece (before after : List ℕ) (old new : SourceView) (n : ℕ) 
   pub long : length piece ≡ n
   pub items : after ≡ before ++ piece
   pub gave : old.left ≡ prepend_known piece new.left
-  pub within : length after ≤ LONGEST_PROOF + 1
+  pub within : length after ≤ LONGEST_TEXT + 1
   pub ends : n ≡ 0 → IfSome old.left (λ left. left ≡ [])
 
 -- the text was read, and what it is was told of the file
@@ -58,7 +58,7 @@ pub record CheckedText (input : Change SourceView) (file : Change DiskView) (out
 -- no text was read, and why was told
 pub record ReadNoText (input : Change SourceView) (file : Change DiskView) (output notes : Change OutView) (end : Status) : Type 0 where
   pub why : Refusal
-  pub cause : HasNoProofText input why
+  pub cause : HasNoInputText input why
   pub count : KeepsCount input.old input.new (why ≡ refusal.Outside)
   pub file_kept : file.new ≡ file.old
   pub wrote : output.new ≡ output.old

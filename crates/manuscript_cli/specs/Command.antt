@@ -8,7 +8,7 @@ use Rattle.outer_ports.specs.declared.disk.file_disk.Opening.TheVariants.{Readin
 use Rattle.bulk_world.specs.declared.making.TheConstants.{MOST_TURNS}
 use Rattle.manuscript_cli.specs.Number.{IsNumber}
 use Rattle.manuscript_cli.specs.declared.command.Command.{Command}
-use Rattle.manuscript_cli.specs.declared.command.Command.TheVariants.{Show, New, Edit, Print, Take, Send, Merge, Relay, Sync, Bulk, Why, Check, Move, Retitle, Arrange, Comment, Comments, Version, Versions, View}
+use Rattle.manuscript_cli.specs.declared.command.Command.TheVariants.{Show, New, Edit, Print, Take, Send, Merge, Relay, Sync, Bulk, Why, Check, Move, Retitle, Arrange, Revise, List as ListCommand, Comment, Comments, Version, Versions, View}
 use Rattle.manuscript_cli.specs.declared.words.TheConstants.{GREATEST_CURSOR, GREATEST_PLACE, GREATEST_PORT, GREATEST_REPLICA, GREATEST_SEED, MOST_SESSIONS, USUAL_HOLD}
 
 -- `show HOLD`
@@ -33,13 +33,13 @@ pub record NamesFile (name : List ℕ) (words : List (List ℕ)) : Type 0 where
   pub some : file ≢ []
   pub words_are : words ≡ name ∷ file ∷ []
 
--- `merge FILE OTHER`
-pub record NamesMerge (words : List (List ℕ)) : Type 0 where
+-- a name, FILE, and another file
+pub record NamesTwo (name : List ℕ) (words : List (List ℕ)) : Type 0 where
   pub file : List ℕ
   pub some : file ≢ []
   pub other : List ℕ
   pub some_other : other ≢ []
-  pub words_are : words ≡ codes "merge" ∷ file ∷ other ∷ []
+  pub words_are : words ≡ name ∷ file ∷ other ∷ []
 
 -- `relay PORT SESSIONS`
 pub record NamesRelay (words : List (List ℕ)) (port sessions : ℕ) : Type 0 where
@@ -135,7 +135,7 @@ Names words Edit = NamesFile (codes "edit") words
 Names words Print = NamesFile (codes "print") words
 Names words Take = NamesFile (codes "take") words
 Names words Send = NamesFile (codes "send") words
-Names words Merge = NamesMerge words
+Names words Merge = NamesTwo (codes "merge") words
 Names words (Relay port sessions) = NamesRelay words port sessions
 Names words (Sync port cursor) = NamesSync words port cursor
 Names words (Bulk seed count) = NamesBulk words seed count
@@ -144,6 +144,8 @@ Names words Check = NamesFile (codes "check") words
 Names words (Move k j) = NamesMove words k j
 Names words (Retitle k) = NamesRetitle words k
 Names words Arrange = NamesFile (codes "arrange") words
+Names words Revise = NamesTwo (codes "revise") words
+Names words ListCommand = NamesFile (codes "list") words
 Names words (Comment k p n) = NamesComment words k p n
 Names words Comments = NamesFile (codes "comments") words
 Names words Version = NamesNamed (codes "version") words
@@ -165,6 +167,7 @@ home_word _ words = None
 
 abbrev pub guest_word : Command → List (List ℕ) → Option (List ℕ)
 guest_word Merge (name ∷ file ∷ other ∷ more) = Some other
+guest_word Revise (name ∷ file ∷ base ∷ more) = Some base
 guest_word _ words = None
 
 -- the last word: the title, the comment or the name, where the command has one
@@ -177,6 +180,7 @@ opening_for (New replica hold) = Creating
 opening_for Edit = Writing
 opening_for Take = Writing
 opening_for Merge = Writing
+opening_for Revise = Writing
 opening_for (Sync port cursor) = Writing
 opening_for (Move k j) = Writing
 opening_for (Retitle k) = Writing

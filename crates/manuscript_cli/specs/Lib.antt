@@ -22,10 +22,13 @@ pub mod Merge
 pub mod Notes
 pub mod Sync
 pub mod Edit
+pub mod PlainFile
+pub mod Revising
 pub mod Giving
 pub mod Savers
 pub mod Relay
 pub mod Arrange
+pub mod Listing
 pub mod Margins
 pub mod NamedVersions
 pub mod Bulk

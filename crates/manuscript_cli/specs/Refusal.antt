@@ -2,6 +2,12 @@
 use Rattle.std.specs.Prelude.{◌≡◌, ◌⊎◌, ℕ, ◌≤◌, List, [], ◌∷◌, ◌++◌, length, take, drop, replicate, codes, decimal}
 use Rattle.fugue_ids.specs.Causes.{Rose}
 use Rattle.fugue_ids.specs.Outs.{OutTells, OutView, Took, TookFront}
+use Rattle.catalogue_notes.specs.declared.moving.MoveFault.TheVariants as move_fault
+use Rattle.draft_plan.specs.declared.draft.DraftFault.{DraftFault}
+use Rattle.draft_plan.specs.declared.draft.DraftFault.TheVariants as draft_fault
+use Rattle.draft_plan.specs.declared.fault.ReviseFault.{ReviseFault}
+use Rattle.draft_plan.specs.declared.fault.ReviseFault.TheVariants as revise_fault
+use Rattle.origin_model.specs.declared.edit_fault.EditFault.TheVariants as edit_fault
 use Rattle.op_frame.specs.declared.fault.FrameFault.{FrameFault}
 use Rattle.op_frame.specs.declared.fault.FrameFault.TheVariants as frame_fault
 use Rattle.replica_core.specs.declared.keeping.FeedFault.{FeedFault}
@@ -22,7 +28,7 @@ use Rattle.manuscript_cli.specs.Touched.{HasRoom, StaysCalm, notes_room}
 use Rattle.manuscript_cli.specs.declared.refusal.Detail.{Detail}
 use Rattle.manuscript_cli.specs.declared.refusal.Detail.TheVariants.{Nothing, Number, Name}
 use Rattle.manuscript_cli.specs.declared.refusal.Refusal.{Refusal}
-use Rattle.manuscript_cli.specs.declared.refusal.Refusal.TheVariants.{Words, BadFrame, CutShort, BadLine, NoSectionAtLine, OutOfRangeAtLine, NotReplica, BadBatch, NotEmpty, TooMany, IdsSpent, TooLong, BatchTooLong, BadReply, RelayRefused, ReplyCutShort, NoSuchPlaces, NoSection, NoPlace, StampsSpent, OutOfRange, NoVersion, Outside, NoMemory}
+use Rattle.manuscript_cli.specs.declared.refusal.Refusal.TheVariants.{Words, BadFrame, CutShort, BadLine, NoSectionAtLine, OutOfRangeAtLine, NotReplica, BadBatch, NotEmpty, TooMany, IdsSpent, TooLong, BatchTooLong, BadReply, RelayRefused, ReplyCutShort, NoSuchPlaces, NoSection, NoPlace, StampsSpent, BaseDiffers, HeadingInText, BadDraft, OutOfRange, NoVersion, Outside, NoMemory}
 use Rattle.manuscript_cli.specs.declared.status.Status.{Status}
 use Rattle.manuscript_cli.specs.declared.version_name.VersionName.{VersionName}
 use Rattle.version_views.specs.declared.limits.TheConstants.{LONGEST_NAME}
@@ -66,6 +72,9 @@ row_of NoSuchPlaces = row status.BadInput (codes "no such places") Nothing
 row_of (NoSection section) = row status.BadInput (codes "no section ") (Number section)
 row_of (NoPlace place) = row status.BadInput (codes "no place ") (Number place)
 row_of StampsSpent = row status.Limit (codes "stamps spent") Nothing
+row_of (BaseDiffers offset) = row status.BadInput (codes "base differs at byte ") (Number offset)
+row_of (HeadingInText section) = row status.BadInput (codes "heading in section ") (Number section)
+row_of (BadDraft line) = row status.BadInput (codes "bad draft at line ") (Number line)
 row_of OutOfRange = row status.BadInput (codes "out of range") Nothing
 row_of (NoVersion name) = row status.BadInput (codes "no version ") (Name name)
 row_of Outside = row status.OutsideFault (codes "outside fault") Nothing
@@ -145,6 +154,20 @@ abbrev pub serve_refusal : ServeFault → Refusal
 serve_refusal serve_fault.DockFault = Outside
 serve_refusal serve_fault.TooLong = TooLong
 serve_refusal serve_fault.NoMemory = NoMemory
+
+-- why a draft was not read, or not come to, as a refusal
+abbrev pub parts_fault_refusal : DraftFault → Refusal
+parts_fault_refusal (draft_fault.BadDraft line) = BadDraft line
+parts_fault_refusal draft_fault.NoMemory = NoMemory
+
+abbrev pub revise_refusal : ReviseFault → Refusal
+revise_refusal (revise_fault.Edit (edit_fault.IdsSpent counter)) = IdsSpent counter
+revise_refusal (revise_fault.Edit (edit_fault.TooMany held)) = TooMany held
+revise_refusal (revise_fault.Edit _) = NoMemory
+revise_refusal (revise_fault.Move move_fault.StampsSpent) = StampsSpent
+revise_refusal (revise_fault.Move (move_fault.IdsSpent counter)) = IdsSpent counter
+revise_refusal (revise_fault.Move (move_fault.TooMany held)) = TooMany held
+revise_refusal (revise_fault.Move _) = NoMemory
 
 -- a line was written as far as the object took it: whole, unless its count of faults rose
 pub record Told (old new : OutView) (line : List ℕ) : Type 0 where

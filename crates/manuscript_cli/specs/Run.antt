@@ -1,6 +1,8 @@
 -- What `run` does for each command, and without one.
 use Rattle.std.specs.Prelude.{◌≡◌, ◌-◌, ℕ, List, Option, Some, None}
 use Rattle.manuscript_cli.specs.Arrange.{arrange_tells, move_on, retitle_on}
+use Rattle.manuscript_cli.specs.Findings.{Finding}
+use Rattle.manuscript_cli.specs.Listing.{list_tells}
 use Rattle.manuscript_cli.specs.Margins.{comment_on, comments_tells}
 use Rattle.manuscript_cli.specs.NamedVersions.{version_on, versions_tells, view_tells}
 use Rattle.manuscript_cli.specs.Bulk.{Bulks}
@@ -11,12 +13,13 @@ use Rattle.manuscript_cli.specs.Printing.{NotesBlameless}
 use Rattle.manuscript_cli.specs.Refusal.{refusal_line, Told}
 use Rattle.manuscript_cli.specs.Relay.{Relays}
 use Rattle.manuscript_cli.specs.Report.{Reports, Telling, print_tells, send_tells}
-use Rattle.manuscript_cli.specs.Savers.{RunsSaving, Saver, edit_saver, merge_saver, note_saver, sync_saver, take_saver}
+use Rattle.manuscript_cli.specs.Savers.{RunsSaving, Saver, edit_saver, merge_saver, note_saver, revise_saver, sync_saver, take_saver}
+use Rattle.manuscript_cli.specs.Saving.{Outcome}
 use Rattle.manuscript_cli.specs.Show.{Shows}
 use Rattle.manuscript_cli.specs.Touched.{DiskBlameless, DockBlameless, OutBlameless, SourceBlameless, Touched, WireBlameless, change}
 use Rattle.manuscript_cli.specs.Why.{why_tells}
 use Rattle.manuscript_cli.specs.declared.command.Command.{Command}
-use Rattle.manuscript_cli.specs.declared.command.Command.TheVariants.{Show, New, Edit, Print, Take, Send, Merge, Relay, Sync, Bulk, Why, Check, Move, Retitle, Arrange, Comment, Comments, Version, Versions, View}
+use Rattle.manuscript_cli.specs.declared.command.Command.TheVariants.{Show, New, Edit, Print, Take, Send, Merge, Relay, Sync, Bulk, Why, Check, Move, Retitle, Arrange, Revise, List as ListCommand, Comment, Comments, Version, Versions, View}
 use Rattle.manuscript_cli.specs.declared.refusal.Refusal.TheVariants.{Words}
 use Rattle.manuscript_cli.specs.declared.status.Status.{Status}
 use Rattle.manuscript_cli.specs.declared.status.Status.TheVariants.{Usage}
@@ -63,6 +66,8 @@ pub data Family : Type 1 where
   Showing : (hold : ℕ) → Family
   Making : (replica hold : ℕ) → Family
   Saving : (Touched → Touched → Saver) → Family
+  -- one that saves, and may come to its end in several ways
+  Choosing : (Finding Outcome → Touched → Touched → Saver) → Family
   Reporting : (tells : Telling) → Family
   Serving : (port sessions : ℕ) → Family
   Inventing : (seed count : ℕ) → Family
@@ -86,6 +91,8 @@ family words (Some Check) = Checking
 family words (Some (Move k j)) = Saving (note_saver (move_on k j))
 family words (Some (Retitle k)) = Saving (note_saver (retitle_on k (last_word words)))
 family words (Some Arrange) = Reporting arrange_tells
+family words (Some Revise) = Choosing revise_saver
+family words (Some ListCommand) = Reporting list_tells
 family words (Some (Comment k p n)) = Saving (note_saver (comment_on k p n (last_word words)))
 family words (Some Comments) = Reporting comments_tells
 family words (Some Version) = Saving (note_saver (version_on (last_word words)))
@@ -98,6 +105,7 @@ MeetsAs NoCommand old new end = UsageMeets old new end
 MeetsAs (Showing hold) old new end = RunsShow hold old new end
 MeetsAs (Making replica hold) old new end = RunsNew replica hold old new end
 MeetsAs (Saving saver) old new end = RunsSaving (saver old new) old new end
+MeetsAs (Choosing saver) old new end = (course : Finding Outcome) × RunsSaving (saver course old new) old new end
 MeetsAs (Reporting tells) old new end = RunsReport tells old new end
 MeetsAs (Serving port sessions) old new end = RunsRelay port sessions old new end
 MeetsAs (Inventing seed count) old new end = RunsBulk seed count old new end

@@ -5,8 +5,10 @@ use Rattle.outer_ports.specs.disk.Moments.{History, LeftSince, moment}
 use Rattle.outer_ports.specs.disk.States.{State, IsHonest, IsCrashImage, at_rest}
 use Rattle.manuscript_cli.specs.Crashes.{IsFinished}
 use Rattle.manuscript_cli.specs.Files.{HasOps}
-use Rattle.manuscript_cli.specs.Run.{Family, Meets, Saving, family}
-use Rattle.manuscript_cli.specs.Saving.{Gave}
+use Rattle.manuscript_cli.specs.Findings.{Finding}
+use Rattle.manuscript_cli.specs.Run.{Choosing, Family, Meets, Saving, family}
+use Rattle.manuscript_cli.specs.Savers.{RunsSaving}
+use Rattle.manuscript_cli.specs.Saving.{Gave, Outcome}
 use Rattle.manuscript_cli.specs.Touched.{Touched}
 use Rattle.manuscript_cli.specs.declared.command.Command.{Command}
 use Rattle.manuscript_cli.specs.declared.command.Command.TheVariants.{New}
@@ -16,6 +18,7 @@ use Rattle.manuscript_cli.specs.declared.status.Status.TheVariants.{Done}
 -- what a command gave to be saved in its home file: but for one that saves, nothing
 abbrev pub GaveAs : Family → Touched → Touched → Status → List Op → Type 0
 GaveAs (Saving saver) old new end ops = Gave (saver old new).giver old.home end ops
+GaveAs (Choosing saver) old new end ops = (course : Finding Outcome) × RunsSaving (saver course old new) old new end × Gave (saver course old new).giver old.home end ops
 GaveAs _ old new end ops = ops ≡ []
 
 abbrev pub GaveBy : List (List ℕ) → Option Command → Touched → Touched → Status → List Op → Type 0

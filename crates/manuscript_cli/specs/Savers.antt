@@ -3,8 +3,10 @@ use Rattle.std.specs.Prelude.{◌≡◌, ℕ}
 use Rattle.outer_ports.specs.Sources.{SourceView}
 use Rattle.manuscript_cli.specs.Edit.{script}
 use Rattle.manuscript_cli.specs.Files.{LeavesFile}
+use Rattle.manuscript_cli.specs.Findings.{Finding}
 use Rattle.manuscript_cli.specs.Notes.{NoteOn, note_giver}
-use Rattle.manuscript_cli.specs.Saving.{Giver, ReadsInput, SavesGiven, SavingBlameless}
+use Rattle.manuscript_cli.specs.Revising.{LooksAtBase, revision}
+use Rattle.manuscript_cli.specs.Saving.{Giver, Outcome, ReadsInput, SavesGiven, SavingBlameless}
 use Rattle.manuscript_cli.specs.Sync.{LeavesWire, reply}
 use Rattle.manuscript_cli.specs.Take.{other_file, stream}
 use Rattle.manuscript_cli.specs.Touched.{Change, Touched, change}
@@ -52,6 +54,14 @@ sync_saver port cursor old new = record {
 -- a command that makes a note: the words give it, and no object
 abbrev pub note_saver : NoteOn → Touched → Touched → Saver
 note_saver note_on old new = record { giver = note_giver note_on; Leaves = λ end. Unit {0}; others = old }
+
+-- `revise`: the input gives a draft of what the other file has, by the course that was taken
+abbrev pub revise_saver : Finding Outcome → Touched → Touched → Saver
+revise_saver course old new = record {
+  giver = revision (change old.guest new.guest) (change old.streams.input new.streams.input) course;
+  Leaves = λ end. LooksAtBase (change old.guest new.guest) end × ReadsInput old.streams.input new.streams.input end;
+  others = record old { streams = record old.streams { input = new.streams.input }; guest = new.guest };
+}
 
 -- a command that saves uses its home file, the notes, and the object that gives
 pub record RunsSaving (saver : Saver) (old new : Touched) (end : Status) : Type 0 where

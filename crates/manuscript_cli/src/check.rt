@@ -3,7 +3,7 @@ ghost use Rattle.std.specs.Prelude.{◌≡◌, ◌↔◌, ◌≤◌, ◌⊎◌, 
 ghost use Rattle.std.specs.Prelude.{IfErr, IfOk, IsErrOf, OnOk};
 ghost use Rattle.outer_ports.specs.Sources.{KeepsCount};
 ghost use Rattle.order_proof.specs.Readings.{IsValidText};
-ghost use Rattle.manuscript_cli.specs.Check.{ChecksText, GetsPiece, HasNoProofText, IsTextRead, check_tells};
+ghost use Rattle.manuscript_cli.specs.Check.{ChecksText, GetsPiece, HasNoInputText, IsTextRead, check_tells};
 ghost use Rattle.manuscript_cli.specs.Touched.{change};
 ghost use Rattle.manuscript_cli.specs.declared.refusal.Refusal.TheVariants.{Outside, NoMemory as NoMemoryFound};
 
@@ -17,8 +17,8 @@ use outer_ports::{Disk, Sink, Source};
 use replica_core::Replica;
 use std::alloc::Global;
 
-/// The most bytes of the text of a certificate.
-pub(crate) const LONGEST_PROOF: usize = 268_435_456;
+/// The most bytes of a text on the input: of a certificate, or of a draft.
+pub(crate) const LONGEST_TEXT: usize = 268_435_456;
 
 /// Reads the text of a certificate from the input, and writes whether it is valid in what a file's replica holds.
 pub(crate) fn check_file<S: Source, O: Sink, N: Sink, H: Disk>(
@@ -31,7 +31,7 @@ pub(crate) fn check_file<S: Source, O: Sink, N: Sink, H: Disk>(
     ensures { ChecksText (change (S.seen input.old) (S.seen input.new)) (change (H.seen home.old) (H.seen home.new))
         (change (O.seen output.old) (O.seen output.new)) (change (N.seen notes.old) (N.seen notes.new)) result }
 {
-    match read_proof_text(alloc, input) {
+    match read_text(alloc, input) {
         Ok(text) => {
             let verdict = Verdict { text };
             let status = write_report(alloc, &verdict, home, output, notes);
@@ -78,13 +78,13 @@ fn answer(valid: bool) -> &'static [u8]
 }
 
 /// Reads all that the source has left. One byte past the limit may be taken to see that the text is longer.
-fn read_proof_text<S: Source>(alloc: Global, source: &mut S) -> Result<Vec<u8>, Refusal>
+pub(crate) fn read_text<S: Source>(alloc: Global, source: &mut S) -> Result<Vec<u8>, Refusal>
     ensures text { IfOk result (λ text. IsTextRead (change (S.seen source.old) (S.seen source.new)) text.items) }
-    ensures none { IfErr result (HasNoProofText (change (S.seen source.old) (S.seen source.new))) }
+    ensures none { IfErr result (HasNoInputText (change (S.seen source.old) (S.seen source.new))) }
     ensures count { KeepsCount (S.seen source.old) (S.seen source.new) (IsErrOf result Outside) }
 {
     let mut text = Vec::new(alloc);
-    'reads: while text.len() <= LONGEST_PROOF {
+    'reads: while text.len() <= LONGEST_TEXT {
         let count = read_piece(&mut text, source)?;
         if count == 0 {
             return Ok(text);
@@ -95,14 +95,14 @@ fn read_proof_text<S: Source>(alloc: Global, source: &mut S) -> Result<Vec<u8>, 
 
 /// Puts the source's next bytes behind a text, one past the limit at most, and answers how many came.
 fn read_piece<S: Source>(text: &mut Vec<u8>, source: &mut S) -> Result<usize, Refusal>
-    requires { length text.old.items ≤ LONGEST_PROOF }
+    requires { length text.old.items ≤ LONGEST_TEXT }
     ensures bytes { IfOk result
         (GetsPiece text.old.items text.new.items (S.seen source.old) (S.seen source.new)) }
     ensures failed { IfErr result (λ why. (why ≡ Outside) ⊎ (why ≡ NoMemoryFound)) }
     ensures count { KeepsCount (S.seen source.old) (S.seen source.new) (IsErrOf result Outside) }
 {
     let mut buffer = [0; BUFFER];
-    let most = (LONGEST_PROOF + 1 - text.len()).min(BUFFER);
+    let most = (LONGEST_TEXT + 1 - text.len()).min(BUFFER);
     match source.read(&mut buffer[..most]) {
         Ok(count) => {
             append(text, &buffer[..count])?;
@@ -112,7 +112,8 @@ fn read_piece<S: Source>(text: &mut Vec<u8>, source: &mut S) -> Result<usize, Re
     }
 }
 
-fn append(text: &mut Vec<u8>, bytes: &[u8]) -> Result<(), NoMemory>
+/// Puts bytes behind a text.
+pub(crate) fn append(text: &mut Vec<u8>, bytes: &[u8]) -> Result<(), NoMemory>
     ensures { OnOk result (text.new.items ≡ text.old.items ++ bytes.now) }
 {
     text.extend_from_slice(bytes)?;

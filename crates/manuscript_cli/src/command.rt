@@ -38,6 +38,11 @@ pub enum Command {
     Retitle(u32),
     /// Print the sections of a file as they are arranged, under their headings.
     Arrange,
+    /// Revise what a file's replica shows until it is the draft on the input, which was written from what the other file
+    /// has.
+    Revise,
+    /// Print what a file's replica holds: how many operations, and the sections as they are arranged.
+    List,
     /// Comment on characters of a section: the section, counted from 1, the first character, and how many there are.
     Comment(u32, u32, u32),
     /// Print where the comments of a file stand, and what they say.
@@ -60,6 +65,7 @@ impl Command {
             Command::Edit
             | Command::Take
             | Command::Merge
+            | Command::Revise
             | Command::Sync(_, _)
             | Command::Move(_, _)
             | Command::Retitle(_)
@@ -73,6 +79,7 @@ impl Command {
             | Command::Why(_, _, _)
             | Command::Check
             | Command::Arrange
+            | Command::List
             | Command::Comments
             | Command::Versions
             | Command::View => Opening::Reading,
@@ -85,7 +92,9 @@ impl Command {
         ensures guest { option_copied result.1 ≡ guest_word self (map string_bytes words.now) }
     {
         match (self, words) {
-            (Command::Merge, [_, file, other, ..]) => (Some(file.as_str()), Some(other.as_str())),
+            (Command::Merge | Command::Revise, [_, file, other, ..]) => {
+                (Some(file.as_str()), Some(other.as_str()))
+            }
             (Command::Show(_) | Command::Relay(_, _) | Command::Bulk(_, _), _) => (None, None),
             (_, [_, file, ..]) => (Some(file.as_str()), None),
             _ => (None, None),

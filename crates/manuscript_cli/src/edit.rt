@@ -27,7 +27,7 @@ pub(crate) struct Script;
 impl<S: Source> Gives<S> for Script {
     ghost Leaves = { λ what home before after end. ReadsInput (S.seen before) (S.seen after) end };
 
-    ghost giver = { λ what home before after. script (change (S.seen before) (S.seen after)) };
+    ghost giver = { λ what home before after course. script (change (S.seen before) (S.seen after)) };
 
     fn give(
         &self,

@@ -9,7 +9,8 @@ ghost use Rattle.manuscript_cli.specs.Files.{FileHolds};
 ghost use Rattle.manuscript_cli.specs.Giving.{GivenNoted, GivesTo, MayEnd, SavesNoted};
 ghost use Rattle.manuscript_cli.specs.Giving.{note_line, note_status, to_save as ops_to_save};
 ghost use Rattle.manuscript_cli.specs.Printing.{NoteMeets, NotesBlameless};
-ghost use Rattle.manuscript_cli.specs.Saving.{Giver, GivesOnce, SavesGiven, SavingBlameless};
+ghost use Rattle.manuscript_cli.specs.Findings.{Finding};
+ghost use Rattle.manuscript_cli.specs.Saving.{Giver, GivesOnce, Outcome, SavesGiven, SavingBlameless};
 ghost use Rattle.manuscript_cli.specs.Touched.{StaysCalm, change, notes_room};
 ghost use Rattle.manuscript_cli.specs.declared.refusal.Refusal.TheVariants.{Outside};
 ghost use Rattle.manuscript_cli.specs.declared.status.Status.{Status as AnyStatus};
@@ -29,8 +30,9 @@ use std::alloc::Global;
 
 /// What a command gives to the replica of its home file, from an object of the outside.
 pub(crate) trait Gives<F> {
-    /// What is given, by the home file at entry and by the object before and after.
-    ghost giver: { Self → DiskView → F → F → Giver };
+    /// What is given, by the home file at entry, by the object before and after, and by the course that giving took:
+    /// where several are right, the giver is of the one that came.
+    ghost giver: { Self → DiskView → F → F → Finding Outcome → Giver };
 
     /// How the object is left, where the command ends so.
     ghost Leaves: { Self → DiskView → F → F → AnyStatus → Type 0 };
@@ -46,13 +48,15 @@ pub(crate) trait Gives<F> {
         requires ready { IsReady replica.old }
         requires none_kept { kept.old ≡ Some [] }
         ensures gives { (home : DiskView) (last : FileEnd) → FileHolds home replica.old last
-            → GivesTo (giver self.now home from.old from.new) replica.old replica.new kept.new result }
+            → (course : Finding Outcome)
+            × GivesTo (giver self.now home from.old from.new course) replica.old replica.new kept.new result }
         ensures leaves { (home : DiskView) (last : FileEnd) → FileHolds home replica.old last
             → (end : AnyStatus) → MayEnd result end → Leaves self.now home from.old from.new end };
 
     /// The laws of a giver: what is told gives one thing, and an object that is not used is left as it should be.
     fn laws(&self)
-        ensures once { (home : DiskView) (before after : F) → GivesOnce (giver self.now home before after) }
+        ensures once { (home : DiskView) (before after : F) (course : Finding Outcome)
+            → GivesOnce (giver self.now home before after course) }
         ensures idle { (home : DiskView) (from : F) (end : AnyStatus) → (IsFinished end → ⊥)
             → Leaves self.now home from from end };
 }
@@ -65,7 +69,8 @@ pub(crate) fn save_given<F, T: Gives<F>, H: Disk, N: Sink>(
     home: &mut H,
     notes: &mut N,
 ) -> Status
-    ensures saves { SavesGiven (T.giver giver.now (H.seen home.old) from.old from.new)
+    ensures saves { (course : Finding Outcome)
+        × SavesGiven (T.giver giver.now (H.seen home.old) from.old from.new course)
         (change (H.seen home.old) (H.seen home.new)) (change (N.seen notes.old) (N.seen notes.new)) result }
     ensures blameless { SavingBlameless (change (H.seen home.old) (H.seen home.new))
         (change (N.seen notes.old) (N.seen notes.new)) result }
@@ -85,7 +90,8 @@ fn load_and_save<F, T: Gives<F>, H: Disk>(
     from: &mut F,
     home: &mut H,
 ) -> Result<Note, Refusal>
-    ensures saves { SavesNoted (T.giver giver.now (H.seen home.old) from.old from.new)
+    ensures saves { (course : Finding Outcome)
+        × SavesNoted (T.giver giver.now (H.seen home.old) from.old from.new course)
         (change (H.seen home.old) (H.seen home.new)) result }
     ensures told { DiskTells (H.seen home.old) → result ≢ Err Outside
         → (H.seen home.new).faults ≡ (H.seen home.old).faults }
@@ -114,8 +120,8 @@ fn give_and_save<F, T: Gives<F>, H: Disk>(
     requires reaches { IsWithinReach end }
     requires ends { IfSome (H.seen home.old).past (λ h. EndsAt h.last end) }
     requires none_kept { kept.old ≡ Some [] }
-    ensures given { (file : DiskView) → FileHolds file replica.old end
-        → GivenNoted (T.giver giver.now file from.old from.new) replica.old end
+    ensures given { (file : DiskView) → FileHolds file replica.old end → (course : Finding Outcome)
+        × GivenNoted (T.giver giver.now file from.old from.new course) replica.old end
         (change (H.seen home.old) (H.seen home.new)) result }
     ensures told { DiskTells (H.seen home.old) → result ≢ Err Outside
         → (H.seen home.new).faults ≡ (H.seen home.old).faults }

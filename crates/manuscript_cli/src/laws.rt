@@ -8,7 +8,7 @@ ghost use Rattle.edit_script.specs.declared.script.TheConstants.{LONGEST_SCRIPT}
 ghost use Rattle.relay_core.specs.declared.relay.TheConstants.{MOST_LOGGED};
 ghost use Rattle.bulk_world.specs.declared.making.TheConstants.{MOST_TURNS};
 ghost use Rattle.manuscript_cli.specs.Runs.{EachFinishedIsIn};
-ghost use Rattle.manuscript_cli.specs.declared.check.TheConstants.{LONGEST_PROOF};
+ghost use Rattle.manuscript_cli.specs.declared.check.TheConstants.{LONGEST_TEXT};
 ghost use Rattle.manuscript_cli.specs.declared.words.TheConstants.{GREATEST_CURSOR, GREATEST_PLACE, GREATEST_PORT};
 ghost use Rattle.manuscript_cli.specs.declared.words.TheConstants.{GREATEST_REPLICA, GREATEST_SEED};
 ghost use Rattle.manuscript_cli.specs.declared.words.TheConstants.{MOST_SESSIONS, USUAL_HOLD};
@@ -23,7 +23,7 @@ pub fn limits_in_numbers()
     ensures body { LONGEST_BODY ≡ 1024 }
     ensures stream { STREAM_LIMIT ≡ 2147483648 }
     ensures script { LONGEST_SCRIPT ≡ 1048576 }
-    ensures proof { LONGEST_PROOF ≡ 268435456 }
+    ensures text { LONGEST_TEXT ≡ 268435456 }
     ensures place { GREATEST_PLACE ≡ 4294967295 }
     ensures batch { LONGEST_BATCH ≡ 268435456 }
     ensures log { MOST_LOGGED ≡ 1048576 }

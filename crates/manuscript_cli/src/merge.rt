@@ -26,7 +26,7 @@ use std::alloc::Global;
 pub(crate) struct OtherFile;
 
 impl<G: Disk> Gives<G> for OtherFile {
-    ghost giver = { λ what home before after. other_file (change (G.seen before) (G.seen after)) };
+    ghost giver = { λ what home before after course. other_file (change (G.seen before) (G.seen after)) };
 
     ghost Leaves = { λ what home before after end. LeavesFile (change (G.seen before) (G.seen after)) end };
 

@@ -31,7 +31,7 @@ struct Noting<'a, T> {
 }
 
 impl<'a, T: MakesNote> Gives<()> for Noting<'a, T> {
-    ghost giver = { λ what home before after. note_giver (T.note_on what.maker.now) };
+    ghost giver = { λ what home before after course. note_giver (T.note_on what.maker.now) };
 
     ghost Leaves = { λ what home before after end. Unit {0} };
 

@@ -1,17 +1,21 @@
 ghost use Rattle.std.specs.Prelude.{◌≡◌, ◌≤◌, length};
 ghost use Rattle.fugue_ids.specs.Outs.{WritesBytes};
 ghost use Rattle.manuscript_cli.specs.Refusal.{append_refusal, create_refusal, feed_refusal, frame_refusal};
-ghost use Rattle.manuscript_cli.specs.Refusal.{load_refusal, script_refusal, serve_refusal, sync_refusal};
+ghost use Rattle.manuscript_cli.specs.Refusal.{load_refusal, parts_fault_refusal, revise_refusal, script_refusal};
+ghost use Rattle.manuscript_cli.specs.Refusal.{serve_refusal, sync_refusal};
 ghost use Rattle.manuscript_cli.specs.Refusal.{detail_of, refusal_line, status_of, words_of, Told};
 ghost use Rattle.manuscript_cli.specs.Touched.{notes_room};
 ghost use Rattle.manuscript_cli.specs.declared.refusal.Refusal.TheVariants.{NoMemory as NoMemoryFound};
 
 use crate::Status;
 use crate::version_name::VersionName;
+use catalogue_notes::MoveFault;
+use draft_plan::{DraftFault, ReviseFault};
 use edit_script::ScriptFault;
 use fugue_ids::{Failed, NoMemory, Out, write_pieces};
 use itoa::Buffer;
 use op_frame::FrameFault;
+use origin_model::EditFault;
 use relay_sync::{ServeFault, SyncFault};
 use replica_core::FeedFault;
 use replica_file::{AppendFault, CreateFault, LoadFault};
@@ -59,6 +63,12 @@ pub enum Refusal {
     NoPlace(u32),
     /// No stamp is left for a move or a new title.
     StampsSpent,
+    /// The text that a draft was written from is another than what is shown, from this byte on, counted from 0.
+    BaseDiffers(u64),
+    /// The text of the section of this number in the arrangement, counted from 1, has a line that would be a heading.
+    HeadingInText(u64),
+    /// The line of a draft, counted from 1, is not UTF-8, is a heading with no title, or is the first and no heading.
+    BadDraft(u64),
     /// The section has fewer characters.
     OutOfRange,
     /// The file has no version of this name.
@@ -127,6 +137,17 @@ impl Refusal {
             Self::NoSection(at) => Row(Status::BadInput, "no section ", Detail::Number(at.into())),
             Self::NoPlace(at) => Row(Status::BadInput, "no place ", Detail::Number(at.into())),
             Self::StampsSpent => Row(Status::Limit, "stamps spent", Detail::Nothing),
+            Self::BaseDiffers(at) => Row(
+                Status::BadInput,
+                "base differs at byte ",
+                Detail::Number(at),
+            ),
+            Self::HeadingInText(section) => Row(
+                Status::BadInput,
+                "heading in section ",
+                Detail::Number(section),
+            ),
+            Self::BadDraft(line) => Row(Status::BadInput, "bad draft at line ", Detail::Number(line)),
             Self::OutOfRange => Row(Status::BadInput, "out of range", Detail::Nothing),
             Self::NoVersion(name) => Row(Status::BadInput, "no version ", Detail::Name(name)),
             Self::Outside => Row(Status::OutsideFault, "outside fault", Detail::Nothing),
@@ -238,6 +259,33 @@ impl From<ServeFault> for Refusal {
             ServeFault::DockFault => Refusal::Outside,
             ServeFault::TooLong => Refusal::TooLong,
             ServeFault::NoMemory => Refusal::NoMemory,
+        }
+    }
+}
+
+impl From<DraftFault> for Refusal {
+    ghost from_gives = { λ fault refusal. refusal ≡ parts_fault_refusal fault };
+
+    fn from(fault: DraftFault) -> Refusal {
+        match fault {
+            DraftFault::BadDraft(line) => Refusal::BadDraft(line as u64),
+            DraftFault::NoMemory => Refusal::NoMemory,
+        }
+    }
+}
+
+impl From<ReviseFault> for Refusal {
+    ghost from_gives = { λ fault refusal. refusal ≡ revise_refusal fault };
+
+    fn from(fault: ReviseFault) -> Refusal {
+        match fault {
+            ReviseFault::Edit(EditFault::IdsSpent(count)) => Refusal::IdsSpent(count),
+            ReviseFault::Edit(EditFault::TooMany(count)) => Refusal::TooMany(count),
+            ReviseFault::Edit(_) => Refusal::NoMemory,
+            ReviseFault::Move(MoveFault::StampsSpent) => Refusal::StampsSpent,
+            ReviseFault::Move(MoveFault::IdsSpent(count)) => Refusal::IdsSpent(count),
+            ReviseFault::Move(MoveFault::TooMany(count)) => Refusal::TooMany(count),
+            ReviseFault::Move(_) => Refusal::NoMemory,
         }
     }
 }

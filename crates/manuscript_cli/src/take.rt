@@ -16,7 +16,7 @@ use std::alloc::Global;
 pub(crate) struct Stream;
 
 impl<S: Source> Gives<S> for Stream {
-    ghost giver = { λ what home before after. stream (change (S.seen before) (S.seen after)) };
+    ghost giver = { λ what home before after course. stream (change (S.seen before) (S.seen after)) };
 
     ghost Leaves = { λ what home before after end. ReadsInput (S.seen before) (S.seen after) end };
 

@@ -15,6 +15,7 @@ use crate::check::check_file;
 use crate::comments::{Comments, NewComment};
 use crate::edit::Script;
 use crate::giving::save_given;
+use crate::list::Contents;
 use crate::merge::OtherFile;
 use crate::moving::{Move, Retitle};
 use crate::new_file::new_file;
@@ -24,6 +25,7 @@ use crate::print::Manuscript;
 use crate::refusal::{Refusal, tell};
 use crate::relay::relay;
 use crate::report::write_report;
+use crate::revise::revise_file;
 use crate::send::Frames;
 use crate::show::show;
 use crate::sync_file::Reply;
@@ -194,6 +196,8 @@ fn obey<S: Source, O: Sink, N: Sink, H: Disk, G: Disk, W: Wire, D: Dock, B: Buil
             save_note(alloc, &Retitle { section, title }, home, notes)
         }
         Command::Arrange => write_report(alloc, &Arrangement, home, output, notes),
+        Command::Revise => revise_file(alloc, input, home, guest, notes),
+        Command::List => write_report(alloc, &Contents, home, output, notes),
         Command::Comment(section, first, count) => {
             let comment = NewComment {
                 section,

@@ -88,6 +88,7 @@ fn read_one(name: &str, word: &str) -> Option<Command>
         "send" if !word.is_empty() => Some(Command::Send),
         "check" if !word.is_empty() => Some(Command::Check),
         "arrange" if !word.is_empty() => Some(Command::Arrange),
+        "list" if !word.is_empty() => Some(Command::List),
         "comments" if !word.is_empty() => Some(Command::Comments),
         "versions" if !word.is_empty() => Some(Command::Versions),
         _ => None,
@@ -99,6 +100,7 @@ fn read_two(name: &str, file: &str, other: &str) -> Option<Command>
 {
     match name {
         "merge" if !file.is_empty() && !other.is_empty() => Some(Command::Merge),
+        "revise" if !file.is_empty() && !other.is_empty() => Some(Command::Revise),
         "relay" => read_relay(file, other),
         "bulk" => read_bulk(file, other),
         "version" if is_named(file, other) => Some(Command::Version),

@@ -3,7 +3,9 @@ use Rattle.std.specs.Prelude.{None}
 use Rattle.std.proofs.lemmas.Result.{err_from_is_err_and}
 use Rattle.manuscript_cli.specs.Touched.{change}
 use Rattle.edit_script.specs.declared.run.ScriptFault.TheVariants.{ReadFault}
+use Rattle.manuscript_cli.specs.Findings.{Refuses}
 use Rattle.manuscript_cli.specs.Refusal.{script_refusal}
+use Rattle.manuscript_cli.specs.declared.refusal.Refusal.TheVariants.{NoMemory}
 use Rattle.manuscript_cli.proofs.BlameLemmas.{ends_outside, input_read}
 use Rattle.manuscript_cli.proofs.GivingLemmas.{unfinished}
 use Rattle.manuscript_cli.proofs.EditLemmas.{script_gives, script_gives_none}
@@ -12,7 +14,7 @@ use Rattle.manuscript_cli.proofs.edit.ScriptGives.give.Goals as goal
 pub returns-in_err-made-clause-gives : goal.returns-in_err-made-clause-gives
 returns-in_err-made-clause-gives g c home last holds =
     let p = err_from_is_err_and c.from_residual.result c.from_residual.ensures.1 in
-    rw (p.1, p.2) (script_gives_none (change (g.S.Source.seen c.args.from.now) (g.S.Source.seen c.run_script.new.source)) _ _ None _ c.in_err-made.ensures.err c.in_err-made.ensures.count)
+    rw (p.1, p.2) (Refuses NoMemory, script_gives_none (change (g.S.Source.seen c.args.from.now) (g.S.Source.seen c.run_script.new.source)) _ _ None _ c.in_err-made.ensures.err c.in_err-made.ensures.count)
 
 pub returns-in_err-made-clause-leaves : goal.returns-in_err-made-clause-leaves
 returns-in_err-made-clause-leaves g c home last holds end may =
@@ -22,7 +24,7 @@ returns-in_err-made-clause-leaves g c home last holds end may =
 
 pub returns-clause-gives : goal.returns-clause-gives
 returns-clause-gives g c home last holds =
-    script_gives (change (g.S.Source.seen c.args.from.now) (g.S.Source.seen c.run_script.new.source)) _ _ _ c.in_ok-made.ensures.ok c.requires.ready.stands c.requires.ready.settled _
+    (Refuses NoMemory, script_gives (change (g.S.Source.seen c.args.from.now) (g.S.Source.seen c.run_script.new.source)) _ _ _ c.in_ok-made.ensures.ok c.requires.ready.stands c.requires.ready.settled _)
 
 pub returns-clause-leaves : goal.returns-clause-leaves
 returns-clause-leaves g c home last holds end may =

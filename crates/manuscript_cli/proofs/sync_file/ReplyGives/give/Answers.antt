@@ -3,7 +3,9 @@ use Rattle.std.specs.Prelude.{Err, None}
 use Rattle.std.proofs.lemmas.Result.{err_from_is_err_and}
 use Rattle.replica_core.specs.Keeping.{taking_begun}
 use Rattle.manuscript_cli.specs.Touched.{change}
+use Rattle.manuscript_cli.specs.Findings.{Refuses}
 use Rattle.manuscript_cli.specs.Refusal.{sync_refusal}
+use Rattle.manuscript_cli.specs.declared.refusal.Refusal.TheVariants.{NoMemory}
 use Rattle.manuscript_cli.proofs.BlameLemmas.{ends_outside}
 use Rattle.manuscript_cli.proofs.GivingLemmas.{unfinished}
 use Rattle.manuscript_cli.proofs.SyncLemmas.{reply_gives, reply_gives_none, reply_ops, speaks_front, speaks_whole}
@@ -13,7 +15,7 @@ pub returns-in_err-answered-clause-gives : goal.returns-in_err-answered-clause-g
 returns-in_err-answered-clause-gives g c home last holds =
     let p = err_from_is_err_and c.from_residual.result c.from_residual.ensures.1 in
     let e = c.in_err-answered.ensures in
-    rw (p.1, p.2) (reply_gives_none c.in_err-answered.field-0.0 c.args.self.now.port c.args.self.now.cursor c.args.replica.now c.args.replica.now _ _ _ last home
+    rw (p.1, p.2) (Refuses NoMemory, reply_gives_none c.in_err-answered.field-0.0 c.args.self.now.port c.args.self.now.cursor c.args.replica.now c.args.replica.now _ _ _ last home
     (change (g.W.Wire.seen c.args.from.now) (g.W.Wire.seen c.sync.new.wire)) None holds e.err.1 e.up_to.1 (λ is. e.wire.rose (ap Err is)) (λ fits is. e.wire.sure fits (ap Err is)))
 
 pub returns-in_err-answered-clause-leaves : goal.returns-in_err-answered-clause-leaves
@@ -35,7 +37,7 @@ pub returns-clause-gives : goal.returns-clause-gives
 returns-clause-gives g c home last holds =
     let e = c.in_ok-answered.ensures in
     let ops = reply_ops _ (taking_begun c.args.replica.now c.new-ops.result.items) _ _ _ e.ok.hears.takes e.reply in
-    rw c.put.ensures (reply_gives c.args.self.now.cursor home (change (g.W.Wire.seen c.args.from.now) (g.W.Wire.seen c.sync.new.wire)) c.args.replica.now _ _ _ _ c.new-ops.ensures.items
+    rw c.put.ensures (Refuses NoMemory, reply_gives c.args.self.now.cursor home (change (g.W.Wire.seen c.args.from.now) (g.W.Wire.seen c.sync.new.wire)) c.args.replica.now _ _ _ _ c.new-ops.ensures.items
     c.in_ok-answered.answered.cursor ops.0 ops.1 ops.2 c.of_exchange.result c.requires.ready.settled c.of_exchange.ensures)
 
 pub returns-clause-leaves : goal.returns-clause-leaves

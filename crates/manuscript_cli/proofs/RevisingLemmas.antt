@@ -1,0 +1,312 @@
+-- What a draft gives to a replica, by how far it was read.
+use Rattle.std.proofs.Common.{◌≡◌, ◌≢◌, ◌↔◌, inl, inr, ℕ, suc, zero, List, [], ◌∷◌, ◌++◌, ◌+◌, ◌<◌, ◌≤◌, length, take, Option, Some, None, refl, sym, ap, subst, ◌∙◌, arith, drop, drop_at, length-append, min, nat_eq, nat_lt, true, false, Bool, ◌&&◌}
+use Rattle.std.specs.Prelude.{◌⊎◌, IfSome, Result, Ok, Err, if◌then◌else◌, cond, option_map}
+use Rattle.std.specs.Option.{option_or}
+use Rattle.std.specs.List.{common_prefix_len, position_or_len}
+use Rattle.std.proofs.lemmas.Bool.{cases_eq, cases_lt, ne_eqb}
+use Rattle.std.proofs.lemmas.List.{length-map, length-take}
+use Rattle.fugue_ids.specs.declared.limits.TheConstants.{MOST_OPERATIONS}
+use Rattle.fugue_ids.specs.declared.op.Op.{Op}
+use Rattle.origin_model.specs.declared.operations.Place.TheVariants.{Catalogue as catalogue}
+use Rattle.origin_model.specs.edits.State.{State as Replica, Stands}
+use Rattle.origin_model.specs.operations.History.{accepted}
+use Rattle.origin_model.specs.taking.Taking.{IsSettled}
+use Rattle.origin_model.specs.declared.edit_fault.EditFault.TheVariants as edit
+use Rattle.outer_ports.specs.Sources.{KeepsCount, SourceView}
+use Rattle.outer_ports.specs.disk.Disks.{DiskView, RoomView}
+use Rattle.outer_ports.specs.disk.Moments.{History}
+use Rattle.catalogue_notes.specs.Arranged.{arranged, arranged_text}
+use Rattle.catalogue_notes.proofs.ArrangedLemmas.{arranged_length}
+use Rattle.margin_notes.proofs.PlaceLemmas.{shown_bounded}
+use Rattle.catalogue_notes.specs.declared.moving.MoveFault.TheVariants as moving
+use Rattle.draft_plan.specs.Changes.{all_made}
+use Rattle.draft_plan.specs.Differences.{first_difference, unless_whole}
+use Rattle.draft_plan.specs.Drafts.{Part, form, has_heading, parts}
+use Rattle.draft_plan.specs.Plain.{arranged_part, arranged_parts, first_not_plain}
+use Rattle.draft_plan.specs.Revision.{IsRevision, StopsAtLimit}
+use Rattle.draft_plan.specs.declared.draft.DraftFault.{DraftFault}
+use Rattle.draft_plan.specs.declared.draft.DraftFault.TheVariants as draft_fault
+use Rattle.draft_plan.specs.declared.fault.ReviseFault.{ReviseFault}
+use Rattle.draft_plan.specs.declared.fault.ReviseFault.TheVariants as fault
+use Rattle.replica_file.specs.Looks.{LooksOnly}
+use Rattle.manuscript_cli.specs.Check.{HasNoInputText, IsTextLonger, IsTextRead}
+use Rattle.manuscript_cli.specs.Counts.{made_line}
+use Rattle.manuscript_cli.specs.Crashes.{IsFinished}
+use Rattle.manuscript_cli.specs.Edit.{IsLeft, made_outcome}
+use Rattle.manuscript_cli.specs.Findings.{Finding, Refuses, Does}
+use Rattle.manuscript_cli.specs.Giving.{GivesTo}
+use Rattle.manuscript_cli.specs.Refusal.{parts_fault_refusal, revise_refusal}
+use Rattle.manuscript_cli.specs.Revising.{BaseStops, DraftGives, HasBytes, IsRevisedTo, LooksAtBase, MeetsLimit, RevisionGives, Revises, TextStops, base_refusal, draft_refusal, heading_refusal, parts_refusal, revision, text_refusal}
+use Rattle.manuscript_cli.specs.Saving.{Giver, GivesOnce, Outcome, ReadsInput}
+use Rattle.manuscript_cli.specs.Touched.{Change}
+use Rattle.manuscript_cli.specs.declared.check.TheConstants.{LONGEST_TEXT}
+use Rattle.manuscript_cli.specs.declared.counts.Note.TheVariants as note
+use Rattle.manuscript_cli.specs.declared.refusal.Refusal.{Refusal}
+use Rattle.manuscript_cli.specs.declared.refusal.Refusal.TheVariants as refusal
+use Rattle.manuscript_cli.specs.declared.status.Status.{Status}
+use Rattle.manuscript_cli.specs.declared.status.Status.TheVariants as status
+use Rattle.manuscript_cli.proofs.EditLemmas.{read_more, read_whole}
+use Rattle.manuscript_cli.proofs.RevisionTakenLemmas.{changed_suffice}
+
+-- a giver's refusal is what it gave
+pub refused : (giver : Giver) (before after : Replica) (kept : Option (List Op)) (why : Refusal) → giver.Gives before (Refuses why) → why ≢ refusal.Words → why ≢ refusal.Outside → GivesTo giver before after kept (Err why)
+refused giver before after kept refusal.Words gives no_words inside = absurd (no_words refl)
+refused giver before after kept refusal.Outside gives no_words inside = absurd (inside refl)
+refused giver before after kept refusal.NoMemory gives no_words inside = tt
+refused giver before after kept why gives no_words inside = gives
+
+-- what stands in a file and on an input, where they are told
+left_bytes : (left : Option (List ℕ)) → (draft : List ℕ) × IfSome left (λ b. b ≡ draft)
+left_bytes None = ([], tt)
+left_bytes (Some b) = (b, refl)
+
+pub file_bytes : (past : Option History) → (base : List ℕ) × IfSome past (λ h. h.last.seen ≡ base)
+file_bytes None = ([], tt)
+file_bytes (Some h) = (h.last.seen, refl)
+
+module _ (guest : DiskView) (input : SourceView) (replica : Replica) (base : List ℕ) (has : HasBytes guest base) where
+  -- the base is refused
+  pub gives_base : (course : Finding Outcome) (why : Refusal) → base_refusal replica.held.history base ≡ Some why → RevisionGives guest input course replica (Refuses why)
+  gives_base course why e = let d = left_bytes input.left in (base, has, d.0, d.1, inl (ap (λ o. option_or o (text_refusal d.0)) e))
+
+  -- or the text
+  pub gives_text : (course : Finding Outcome) (draft : List ℕ) (why : Refusal) → IsLeft input draft → base_refusal replica.held.history base ≡ None → text_refusal draft ≡ Some why → RevisionGives guest input course replica (Refuses why)
+  gives_text course draft why left good e = (base, has, draft, left, inl (ap (λ o. option_or o (text_refusal draft)) good ∙ e))
+
+  allows : (draft : List ℕ) → base_refusal replica.held.history base ≡ None → text_refusal draft ≡ None → draft_refusal replica.held.history base draft ≡ None
+  allows draft good e = ap (λ o. option_or o (text_refusal draft)) good ∙ e
+
+  -- or a limit is met
+  pub gives_limit : (draft : List ℕ) (why : Refusal) → IsLeft input draft → base_refusal replica.held.history base ≡ None → text_refusal draft ≡ None → MeetsLimit replica why → RevisionGives guest input (Refuses why) replica (Refuses why)
+  gives_limit draft why left good e meets = (base, has, draft, left, inr (allows draft good e, refl, meets))
+
+  -- or the draft comes
+  pub gives_draft : (draft : List ℕ) (outcome : Outcome) → IsLeft input draft → base_refusal replica.held.history base ≡ None → text_refusal draft ≡ None → Revises replica draft outcome → RevisionGives guest input (Does outcome) replica (Does outcome)
+  gives_draft draft outcome left good e revises = (base, has, draft, left, (allows draft good e, refl, revises))
+
+-- a text within the limit
+text_short : (draft : List ℕ) → length draft ≤ LONGEST_TEXT → text_refusal draft ≡ parts_refusal (parts draft)
+text_short draft short = ap (λ t. if t then Some refusal.TooLong else parts_refusal (parts draft)) (ltb_no LONGEST_TEXT (length draft) short)
+  where
+    ltb_no : (a b : ℕ) → b ≤ a → nat_lt a b ≡ false
+    ltb_no a b l = grind arith
+
+pub text_reads : (draft : List ℕ) (ps : List Part) → length draft ≤ LONGEST_TEXT → parts draft ≡ Ok ps → text_refusal draft ≡ None
+text_reads draft ps short e = text_short draft short ∙ ap parts_refusal e
+
+pub text_bad : (draft : List ℕ) (line : ℕ) → length draft ≤ LONGEST_TEXT → parts draft ≡ Err line → text_refusal draft ≡ Some (refusal.BadDraft line)
+text_bad draft line short e = text_short draft short ∙ ap parts_refusal e
+
+pub text_long : (draft : List ℕ) → LONGEST_TEXT < length draft → text_refusal draft ≡ Some refusal.TooLong
+text_long draft long = ap (λ t. if t then Some refusal.TooLong else parts_refusal (parts draft)) (ltb_yes LONGEST_TEXT (length draft) long)
+  where
+    ltb_yes : (a b : ℕ) → a < b → nat_lt a b ≡ true
+    ltb_yes a b l = grind arith
+
+-- what was read of the input was left
+pub text_left : (input : Change SourceView) (text : List ℕ) → IsTextRead input text → IsLeft input.old text
+text_left input text read = read_whole text input.old.left input.new.left read.told read.ended
+
+pub longer_left : (input : Change SourceView) → IsTextLonger input → (draft : List ℕ) × IsLeft input.old draft × (LONGEST_TEXT < length draft)
+longer_left input long =
+    let more = read_more long.front input.old.left input.new.left long.told in
+    (long.front ++ more.0, more.1, omega (arith, long.long, length-append long.front more.0))
+
+-- what is read of the base decides as all of it
+same_front : (a b : List ℕ) (n : ℕ) → length a ≤ n → common_prefix_len nat_eq a (take n b) ≡ common_prefix_len nat_eq a b
+same_front [] b n l = refl
+same_front (x ∷ a) b zero l = absurd (omega (arith, l))
+same_front (x ∷ a) [] (suc n) l = refl
+same_front (x ∷ a) (y ∷ b) (suc n) l = ap (λ k. if nat_eq x y then 1 + k else 0) (same_front a b n (omega (arith, l)))
+
+-- whether both end at a place
+ends_with : (n a b c : ℕ) → c ≡ min (a + 1) b → (nat_eq n a && nat_eq n c) ≡ (nat_eq n a && nat_eq n b)
+ends_with n a b c is =
+    elim (cases_eq n a) [
+      | inl e ↦ elim (cases_lt a b) [
+        | inl l ↦ ap (λ t. nat_eq n a && t) (ne_eqb n c (λ d. absurd (omega (arith, d, e, is, l))) ∙ sym (ne_eqb n b (λ d. absurd (omega (arith, d, e, l)))))
+        | inr l ↦ let same : c ≡ b = omega (arith, is, l) in ap (λ k. nat_eq n a && nat_eq n k) same
+      ]
+      | inr d ↦ ap (λ t. t && nat_eq n c) (ne_eqb n a d) ∙ sym (ap (λ t. t && nat_eq n b) (ne_eqb n a d))
+    ]
+
+pub base_read : (a b : List ℕ) → first_difference a (take (length a + 1) b) ≡ first_difference a b
+base_read a b =
+    let n : ℕ = common_prefix_len nat_eq a b in
+    ap (λ k. unless_whole k a (take (length a + 1) b)) (same_front a b (length a + 1) (omega arith))
+    ∙ ap (λ t. if t then None else Some n) (ends_with n (length a) (length b) (length (take (length a + 1) b)) (length-take (length a + 1) b))
+
+-- a revised replica is an outcome
+pub outcome_of : (replica last : Replica) (draft : List ℕ) (ps : List Part) (n : ℕ) → parts draft ≡ Ok ps → (r : IsRevisedTo replica last ps n) → Revises replica draft (made_outcome last (all_made replica r.revised.makes.changes))
+outcome_of replica last draft ps n e r =
+    let made : List Op = all_made replica r.revised.makes.changes in
+    record {
+      ps = ps;
+      reads = e;
+      last = last;
+      made = made;
+      made_are = r.revised.makes.changed.gained.accepted_are;
+      revised = subst (IsRevision replica last ps) r.revised.makes.count r.revised;
+      prints = r.prints;
+      unchanged = λ same. nothing made (sym r.revised.makes.count ∙ (r.same same).0);
+      outcome_is = refl;
+    }
+  where
+    nothing : (ops : List Op) → length ops ≡ 0 → ops ≡ []
+    nothing [] k = refl
+    nothing (op ∷ ops) k = absurd (omega (arith, k))
+
+-- a draft that came gives what was made
+pub draft_gives : (guest : Change DiskView) (input : Change SourceView) (replica last : Replica) (base draft : List ℕ) (ps : List Part) (n : ℕ) (kept : Option (List Op)) → HasBytes guest.old base
+    → IsLeft input.old draft → base_refusal replica.held.history base ≡ None → length draft ≤ LONGEST_TEXT → parts draft ≡ Ok ps → IsSettled replica.held → IsRevisedTo replica last ps n
+    → (course : Finding Outcome) × GivesTo (revision guest input course) replica last kept (Ok (note.Made n))
+draft_gives guest input replica last base draft ps n kept has left good short e settled r =
+    let makes = r.revised.makes in
+    let made : List Op = all_made replica makes.changes in
+    let outcome : Outcome = made_outcome last made in
+    (
+      Does outcome,
+      record {
+        outcome = outcome;
+        gives = gives_draft guest.old input.old replica base has draft outcome left good (text_reads draft ps short e) (outcome_of replica last draft ps n e r);
+        suffices = changed_suffice replica last makes.changes settled r.stands makes.changed;
+        saved = ap (drop (length (accepted replica.held.history))) makes.changed.gained.accepted_are ∙ drop_at (accepted replica.held.history) made (length (accepted replica.held.history)) refl;
+        noted = record { line = ap made_line (sym makes.count); status = refl };
+      },
+    )
+
+-- what is told gives one thing
+one_gives : (base draft : List ℕ) (course : Finding Outcome) (replica : Replica) (a b : Finding Outcome) → DraftGives base draft course replica a → DraftGives base draft course replica b → a ≡ b
+one_gives base draft course replica (Refuses why) (Refuses other) (inl x) (inl y) = let e : Some why ≡ Some other = sym x ∙ y in cc e
+one_gives base draft course replica (Refuses why) (Refuses other) (inl x) (inr y) = let e : Some why ≡ None = sym x ∙ y.0 in cc e
+one_gives base draft course replica (Refuses why) (Refuses other) (inr x) (inl y) = let e : Some other ≡ None = sym y ∙ x.0 in cc e
+one_gives base draft course replica (Refuses why) (Refuses other) (inr x) (inr y) = sym x.1 ∙ y.1
+one_gives base draft course replica (Refuses why) (Does other) (inl x) y = let e : Some why ≡ None = sym x ∙ y.0 in cc e
+one_gives base draft course replica (Refuses why) (Does other) (inr x) y = sym x.1 ∙ y.1
+one_gives base draft course replica (Does outcome) (Refuses why) x (inl y) = let e : Some why ≡ None = sym y ∙ x.0 in cc e
+one_gives base draft course replica (Does outcome) (Refuses why) x (inr y) = sym x.1 ∙ y.1
+one_gives base draft course replica (Does outcome) (Does other) x y = sym x.1 ∙ y.1
+
+file_is : (past : Option History) (h : History) (base : List ℕ) → past ≡ Some h → IfSome past (λ h. h.last.seen ≡ base) → h.last.seen ≡ base
+file_is past h base is has = subst (λ (o : Option History). IfSome o (λ h. h.last.seen ≡ base)) is has
+
+left_is : (left : Option (List ℕ)) (bytes draft : List ℕ) → left ≡ Some bytes → IfSome left (λ b. b ≡ draft) → bytes ≡ draft
+left_is left bytes draft is has = subst (λ (o : Option (List ℕ)). IfSome o (λ b. b ≡ draft)) is has
+
+pub revision_once : (guest : Change DiskView) (input : Change SourceView) (course : Finding Outcome) → GivesOnce (revision guest input course)
+revision_once guest input course told replica one two a b =
+    let base : a.0 ≡ b.0 = sym (file_is guest.old.past told.0.0 a.0 told.0.1 a.1) ∙ file_is guest.old.past told.0.0 b.0 told.0.1 b.1 in
+    let draft : a.2 ≡ b.2 = sym (left_is input.old.left told.1.0 a.2 told.1.1 a.3) ∙ left_is input.old.left told.1.0 b.2 told.1.1 b.3 in
+    one_gives b.0 b.2 course replica one two (subst (λ (z : List ℕ). DraftGives z b.2 course replica one) base (subst (λ (z : List ℕ). DraftGives a.0 z course replica one) draft a.4)) b.4
+
+-- a base is refused for itself, and a limit is no other cause
+never_words : (h : List Op) (base : List ℕ) → base_refusal h base ≡ Some refusal.Words → ⊥
+never_words h base e = by (first_difference (arranged_text h) base) (first_not_plain h) e
+  where
+    by : (at section : Option ℕ) → option_or (option_map refusal.BaseDiffers at) (option_map heading_refusal section) ≡ Some refusal.Words → ⊥
+    by (Some at) section e = cc e
+    by None (Some section) e = cc e
+    by None None e = cc e
+
+no_fault : (fault : ReviseFault) → (revise_refusal fault ≢ refusal.Words) × (revise_refusal fault ≢ refusal.Outside)
+no_fault (fault.Edit edit.NoSection) = (λ e. cc e, λ e. cc e)
+no_fault (fault.Edit edit.OutOfRange) = (λ e. cc e, λ e. cc e)
+no_fault (fault.Edit (edit.IdsSpent n)) = (λ e. cc e, λ e. cc e)
+no_fault (fault.Edit (edit.TooMany n)) = (λ e. cc e, λ e. cc e)
+no_fault (fault.Edit edit.NoMemory) = (λ e. cc e, λ e. cc e)
+no_fault (fault.Move moving.NoSection) = (λ e. cc e, λ e. cc e)
+no_fault (fault.Move moving.NoPlace) = (λ e. cc e, λ e. cc e)
+no_fault (fault.Move moving.StampsSpent) = (λ e. cc e, λ e. cc e)
+no_fault (fault.Move (moving.IdsSpent n)) = (λ e. cc e, λ e. cc e)
+no_fault (fault.Move (moving.TooMany n)) = (λ e. cc e, λ e. cc e)
+no_fault (fault.Move moving.NoMemory) = (λ e. cc e, λ e. cc e)
+
+module _ (guest : Change DiskView) (input : Change SourceView) (before after : Replica) (kept : Option (List Op)) where
+  -- a base that was not found good gives its refusal
+  pub base_gives : (F : Type 0) (why : Refusal) → BaseStops why guest.old before.held.history → (why ≡ refusal.Outside → F) → LooksOnly guest.old guest.new F → GivesTo (revision guest input (Refuses why)) before after kept (Err why)
+  base_gives F refusal.Outside stops fails looks = (inl (looks.rose (fails refl)), λ sure. subst (λ (o : Option RoomView). IfSome o (λ room. F → ⊥)) sure.0.1 looks.sure (fails refl))
+  base_gives F refusal.NoMemory stops fails looks = tt
+  base_gives F refusal.Words stops fails looks = never_words before.held.history stops.0 stops.2
+  base_gives F why stops fails looks = gives_base guest.old input.old before stops.0 stops.1 (Refuses why) why stops.2
+
+  module _ (base : List ℕ) (has : HasBytes guest.old base) (good : base_refusal before.held.history base ≡ None) where
+    -- a text that was not read too
+    pub input_gives : (F : Type 0) (why : Refusal) → HasNoInputText input why → (why ≡ refusal.Outside → F) → KeepsCount input.old input.new F → GivesTo (revision guest input (Refuses why)) before after kept (Err why)
+    input_gives F refusal.Outside none fails count = (inr (count.rose (fails refl)), λ sure. count.succeeds sure.1 (fails refl))
+    input_gives F refusal.NoMemory none fails count = tt
+    input_gives F refusal.TooLong none fails count =
+        let left = longer_left input none in
+        gives_text guest.old input.old before base has (Refuses refusal.TooLong) left.0 refusal.TooLong left.1 good (text_long left.0 left.2)
+    input_gives F _ none fails count = absurd none
+
+    -- and one that is no draft, or that did not come
+    pub text_gives : (draft : List ℕ) (why : Refusal) → IsTextRead input draft → TextStops why before draft → GivesTo (revision guest input (Refuses why)) before after kept (Err why)
+    text_gives draft refusal.NoMemory read stops = tt
+    text_gives draft (refusal.BadDraft line) read stops =
+        gives_text guest.old input.old before base has (Refuses (refusal.BadDraft line)) draft (refusal.BadDraft line) (text_left input draft read) good (text_bad draft line read.short stops)
+    text_gives draft refusal.Words read stops = absurd ((no_fault stops.2.fault).0 (sym stops.2.why_is))
+    text_gives draft refusal.Outside read stops = absurd ((no_fault stops.2.fault).1 (sym stops.2.why_is))
+    text_gives draft why read stops =
+        gives_limit guest.old input.old before base has draft why (text_left input draft read) good (text_reads draft stops.0 read.short stops.1) stops.2
+
+-- how the objects are left
+pub base_looked : (guest : Change DiskView) (end : Status) (F : Type 0) → LooksOnly guest.old guest.new F → (F → end ≡ status.OutsideFault) → LooksAtBase guest end
+base_looked guest end F looks blamed = record { past = looks.past; room = looks.room; calm = looks.calm; blameless = λ tells inside. looks.calm_told tells (λ failed. inside (blamed failed)) }
+
+pub input_left : (input : SourceView) (end : Status) → (IsFinished end → ⊥) → ReadsInput input input end
+input_left input end may = record { read = λ done. absurd (may done); calm = λ sure. refl; blameless = λ tells inside. refl }
+
+-- why no draft was read, or why it did not come, is why the text stops
+pub parts_stop : {T : Type 0} (fault : DraftFault) (result : Result T DraftFault) (replica : Replica) (draft : List ℕ) → result ≡ Err fault
+    → ((line : ℕ) → (result ≡ Err (draft_fault.BadDraft line)) ↔ (parts draft ≡ Err line)) → TextStops (parts_fault_refusal fault) replica draft
+parts_stop (draft_fault.BadDraft line) result replica draft is bad = (bad line).0 is
+parts_stop draft_fault.NoMemory result replica draft is bad = tt
+
+pub limit_stops : (fault : ReviseFault) (replica last : Replica) (draft : List ℕ) (ps : List Part) → parts draft ≡ Ok ps → StopsAtLimit replica last fault → TextStops (revise_refusal fault) replica draft
+limit_stops (fault.Edit edit.NoSection) replica last draft ps e stops = tt
+limit_stops (fault.Edit edit.OutOfRange) replica last draft ps e stops = tt
+limit_stops (fault.Edit edit.NoMemory) replica last draft ps e stops = tt
+limit_stops (fault.Move moving.NoSection) replica last draft ps e stops = tt
+limit_stops (fault.Move moving.NoPlace) replica last draft ps e stops = tt
+limit_stops (fault.Move moving.NoMemory) replica last draft ps e stops = tt
+limit_stops why replica last draft ps e stops = (ps, e, record { fault = why; why_is = refl; no_want = λ is. cc is; last = last; stops = stops })
+
+-- a place of a byte that was read is one in the base
+pub base_is : (past : Option History) (a bytes : List ℕ) (most : ℕ) → most ≡ length a + 1 → IfSome past (λ h. bytes ≡ take most h.last.seen)
+    → (base : List ℕ) × IfSome past (λ h. h.last.seen ≡ base) × (first_difference a bytes ≡ first_difference a base)
+base_is None a bytes most is told = (bytes, tt, refl)
+base_is (Some h) a bytes most is told = (h.last.seen, refl, ap (first_difference a) (told ∙ ap (λ n. take n h.last.seen) is) ∙ base_read a h.last.seen)
+
+-- why a base is refused, or that it is not, by what was read
+module _ (past : Option History) (h : List Op) (a bytes : List ℕ) (most : ℕ) (a_is : a ≡ arranged_text h) (is : most ≡ length a + 1) (told : IfSome past (λ h. bytes ≡ take most h.last.seen)) where
+  there : (o : Option ℕ) → first_difference a bytes ≡ o
+      → (base : List ℕ) × IfSome past (λ h. h.last.seen ≡ base) × (base_refusal h base ≡ option_or (option_map refusal.BaseDiffers o) (option_map heading_refusal (first_not_plain h)))
+  there o e =
+      let b = base_is past a bytes most is told in
+      (b.0, b.1, ap (λ d. option_or (option_map refusal.BaseDiffers d) (option_map heading_refusal (first_not_plain h))) (ap (λ t. first_difference t b.0) (sym a_is) ∙ sym b.2 ∙ e))
+
+  pub differs_there : (at : ℕ) → first_difference a bytes ≡ Some at → (base : List ℕ) × IfSome past (λ h. h.last.seen ≡ base) × (base_refusal h base ≡ Some (refusal.BaseDiffers at))
+  differs_there at e = there (Some at) e
+
+  pub headed_there : (section : ℕ) → first_difference a bytes ≡ None → first_not_plain h ≡ Some section
+      → (base : List ℕ) × IfSome past (λ h. h.last.seen ≡ base) × (base_refusal h base ≡ Some (refusal.HeadingInText (section + 1)))
+  headed_there section e f = let b = there None e in (b.0, b.1, b.2 ∙ ap (option_map heading_refusal) f)
+
+  pub good_there : first_difference a bytes ≡ None → first_not_plain h ≡ None → (base : List ℕ) × IfSome past (λ h. h.last.seen ≡ base) × (base_refusal h base ≡ None)
+  good_there e f = let b = there None e in (b.0, b.1, b.2 ∙ ap (option_map heading_refusal) f)
+
+-- the number of a section is small
+before_end : (n l k : ℕ) (b : Bool) → nat_lt n l ≡ b → cond b (Some n) None ≡ Some k → k < l
+before_end n l k true below e = let same : n ≡ k = cc e in subst (λ m. m < l) same (is_below n l below)
+  where
+    is_below : (n l : ℕ) → nat_lt n l ≡ true → n < l
+    is_below n l e = grind arith
+before_end n l k false below e = cc e
+
+pub small_section : (replica : Replica) (k : ℕ) → Stands replica → first_not_plain replica.held.history ≡ Some k → k < MOST_OPERATIONS
+small_section replica k st e =
+    let h = replica.held.history in
+    let ps : List Part = arranged_parts h in
+    let at : ℕ = position_or_len (λ (p : Part). has_heading p.text) ps in
+    let below : k < length ps = before_end at (length ps) k (nat_lt at (length ps)) refl e in
+    omega (arith, below, length-map (arranged h) (arranged_part h), arranged_length h st.lawful, shown_bounded catalogue h, st.few, st.most_within)

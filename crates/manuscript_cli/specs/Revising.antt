@@ -1,0 +1,116 @@
+-- The command `revise`: the draft on the input is what a file's replica comes to show, where the other file has what it showed.
+use Rattle.std.specs.Prelude.{◌≡◌, ◌≢◌, ◌⊎◌, ℕ, ◌+◌, true, nat_lt, if◌then◌else◌, Option, Some, None, Result, Ok, Err, IfSome, List, [], ◌++◌, length, option_map}
+use Rattle.std.specs.Option.{option_or}
+use Rattle.fugue_ids.specs.Causes.{Rose}
+use Rattle.fugue_ids.specs.declared.op.Op.{Op}
+use Rattle.origin_model.specs.edits.State.{State as Replica, Stands}
+use Rattle.origin_model.specs.operations.History.{accepted}
+use Rattle.origin_model.specs.taking.Taking.{IsSettled}
+use Rattle.outer_ports.specs.Sources.{SourceView}
+use Rattle.outer_ports.specs.disk.Disks.{DiskView, RoomView}
+use Rattle.catalogue_notes.specs.Arranged.{arranged_text}
+use Rattle.draft_plan.specs.Differences.{first_difference}
+use Rattle.draft_plan.specs.Drafts.{Part, form, parts}
+use Rattle.draft_plan.specs.Plain.{arranged_parts, first_not_plain}
+use Rattle.draft_plan.specs.Revision.{IsRevision, MakesNothing, StopsAtLimit}
+use Rattle.draft_plan.specs.declared.fault.ReviseFault.{ReviseFault}
+use Rattle.manuscript_cli.specs.Edit.{IsLeft, made_outcome}
+use Rattle.manuscript_cli.specs.Findings.{Finding, Refuses, Does}
+use Rattle.manuscript_cli.specs.Refusal.{revise_refusal}
+use Rattle.manuscript_cli.specs.Saving.{Giver, Outcome}
+use Rattle.manuscript_cli.specs.Touched.{Change, DiskBlameless, IsTold}
+use Rattle.manuscript_cli.specs.declared.check.TheConstants.{LONGEST_TEXT}
+use Rattle.manuscript_cli.specs.declared.refusal.Refusal.{Refusal}
+use Rattle.manuscript_cli.specs.declared.refusal.Refusal.TheVariants as refusal
+use Rattle.manuscript_cli.specs.declared.status.Status.{Status}
+
+-- a place where the base differs from what is shown, and a section whose text would have a heading, as refusals; sections count from 1
+abbrev pub heading_refusal : ℕ → Refusal
+heading_refusal section = refusal.HeadingInText (section + 1)
+
+-- why no draft can be written from the base: it is not what is shown, or what is shown would not read back
+abbrev pub base_refusal : List Op → (base : List ℕ) → Option Refusal
+base_refusal h base = option_or (option_map refusal.BaseDiffers (first_difference (arranged_text h) base)) (option_map heading_refusal (first_not_plain h))
+
+-- why the bytes are no draft: there are too many, or a line is bad
+abbrev pub parts_refusal : Result (List Part) ℕ → Option Refusal
+parts_refusal (Ok ps) = None
+parts_refusal (Err line) = Some (refusal.BadDraft line)
+
+abbrev pub text_refusal : (draft : List ℕ) → Option Refusal
+text_refusal draft = if nat_lt LONGEST_TEXT (length draft) then Some refusal.TooLong else parts_refusal (parts draft)
+
+-- why a draft is not taken, by the first cause that there is
+abbrev pub draft_refusal : List Op → (base draft : List ℕ) → Option Refusal
+draft_refusal h base draft = option_or (base_refusal h base) (text_refusal draft)
+
+-- the replica came to show these parts, by operations that were made; where it showed them before none was
+pub record IsRevisedTo (replica last : Replica) (ps : List Part) (n : ℕ) : Type 0 where
+  pub revised : IsRevision replica last ps n
+  pub prints : arranged_text last.held.history ≡ form ps
+  pub same : MakesNothing replica last ps n
+  pub stands : Stands last
+  pub settled : IsSettled last.held
+
+-- the outcome of a draft: these operations were made one after another, and what is shown behind them is the form of the draft's parts
+pub record Revises (replica : Replica) (draft : List ℕ) (outcome : Outcome) : Type 0 where
+  pub ps : List Part
+  pub reads : parts draft ≡ Ok ps
+  pub last : Replica
+  pub made : List Op
+  pub made_are : accepted last.held.history ≡ accepted replica.held.history ++ made
+  pub revised : IsRevision replica last ps (length made)
+  pub prints : arranged_text last.held.history ≡ form ps
+  pub unchanged : arranged_parts replica.held.history ≡ ps → made ≡ []
+  pub outcome_is : outcome ≡ made_outcome last made
+
+-- a limit is met on the way to the draft
+pub record MeetsLimit (replica : Replica) (why : Refusal) : Type 0 where
+  pub fault : ReviseFault
+  pub why_is : why ≡ revise_refusal fault
+  pub no_want : why ≢ refusal.NoMemory
+  pub last : Replica
+  pub stops : StopsAtLimit replica last fault
+
+-- What a draft gives. There are many ways from what is shown to the draft: this one came to that course.
+abbrev pub DraftGives : (base draft : List ℕ) → (course : Finding Outcome) → Replica → Finding Outcome → Type 0
+DraftGives base draft course replica (Refuses why) =
+    (draft_refusal replica.held.history base draft ≡ Some why)
+    ⊎ ((draft_refusal replica.held.history base draft ≡ None) × (course ≡ Refuses why) × MeetsLimit replica why)
+DraftGives base draft course replica (Does outcome) =
+    (draft_refusal replica.held.history base draft ≡ None) × (course ≡ Does outcome) × Revises replica draft outcome
+
+-- the file, where it is told, has these bytes
+abbrev pub HasBytes : DiskView → List ℕ → Type 0
+HasBytes disk bytes = IfSome disk.past (λ h. h.last.seen ≡ bytes)
+
+abbrev pub RevisionGives : DiskView → SourceView → (course : Finding Outcome) → Replica → Finding Outcome → Type 0
+RevisionGives guest input course replica found =
+    (base : List ℕ) × HasBytes guest base × (draft : List ℕ) × IsLeft input draft × DraftGives base draft course replica found
+
+abbrev pub revision : Change DiskView → Change SourceView → (course : Finding Outcome) → Giver
+revision guest input course = record {
+  Gives = RevisionGives guest.old input.old course;
+  Told = IsTold guest.old × ((bytes : List ℕ) × (input.old.left ≡ Some bytes));
+  Failed = Rose guest.old.faults guest.new.faults ⊎ Rose input.old.faults input.new.faults;
+  Sure = ((room : RoomView) × (guest.old.room ≡ Some room)) × (input.old.sure ≡ true);
+}
+
+-- the other file was only looked at: where calls are sure none fails
+pub record LooksAtBase (guest : Change DiskView) (end : Status) : Type 0 where
+  pub past : guest.new.past ≡ guest.old.past
+  pub room : guest.new.room ≡ guest.old.room
+  pub calm : IfSome guest.old.room (λ room. guest.new.faults ≡ guest.old.faults)
+  pub blameless : DiskBlameless guest end
+
+-- why the base was not found good: a read failed, or memory was wanting, or it is refused
+abbrev pub BaseStops : Refusal → DiskView → List Op → Type 0
+BaseStops refusal.Outside guest h = Unit {0}
+BaseStops refusal.NoMemory guest h = Unit {0}
+BaseStops why guest h = (base : List ℕ) × HasBytes guest base × (base_refusal h base ≡ Some why)
+
+-- why the replica did not come to show a draft
+abbrev pub TextStops : Refusal → Replica → (draft : List ℕ) → Type 0
+TextStops refusal.NoMemory replica draft = Unit {0}
+TextStops (refusal.BadDraft line) replica draft = parts draft ≡ Err line
+TextStops why replica draft = (ps : List Part) × (parts draft ≡ Ok ps) × MeetsLimit replica why

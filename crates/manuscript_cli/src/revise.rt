@@ -1,0 +1,129 @@
+//! The command `revise`: a draft is what the replica comes to show.
+ghost use Rattle.std.specs.Prelude.{◌≡◌, ℕ, Ok, None, IfErr, IfOk, OnOk, List};
+ghost use Rattle.catalogue_notes.specs.Arranged.{arranged_text};
+ghost use Rattle.draft_plan.specs.Drafts.{Part, parts};
+ghost use Rattle.replica_file.specs.Loading.{IsReady};
+ghost use Rattle.replica_file.specs.Looks.{LooksOnly};
+ghost use Rattle.manuscript_cli.specs.Revising.{BaseStops, HasBytes, IsRevisedTo, LooksAtBase, TextStops};
+ghost use Rattle.manuscript_cli.specs.Revising.{base_refusal, revision};
+ghost use Rattle.manuscript_cli.specs.Findings.{Finding};
+ghost use Rattle.manuscript_cli.specs.Saving.{Outcome, ReadsInput, SavesGiven, SavingBlameless};
+ghost use Rattle.manuscript_cli.specs.Touched.{change};
+ghost use Rattle.manuscript_cli.specs.declared.refusal.Refusal.TheVariants.{Outside};
+
+use crate::Status;
+use crate::check::read_text;
+use crate::counts::Note;
+use crate::giving::{Gives, save_given};
+use crate::kept::Kept;
+use crate::plain_file::read_start;
+use crate::refusal::Refusal;
+use catalogue_notes::write_arranged;
+use draft_plan::{Draft, arranged_reads, first_difference, heading_in_text, revise};
+use fugue_ids::{BUFFER, NoMemory};
+use outer_ports::{Disk, MemSink, Sink, Source};
+use replica_core::Replica;
+use std::alloc::Global;
+
+/// The draft on the input.
+struct Revision;
+
+/// What a draft is taken from: the file with the text that it was written from, and the input.
+#[derive(Drop)]
+struct DraftSources<'a, G, S> {
+    base: &'a mut G,
+    draft: &'a mut S,
+}
+
+impl<'a, G: Disk, S: Source> Gives<DraftSources<'a, G, S>> for Revision {
+    ghost giver = { λ what home before after course. revision
+        (change (G.seen before.base.now) (G.seen after.base.now))
+        (change (S.seen before.draft.now) (S.seen after.draft.now)) course };
+
+    // The references stay the same.
+    ghost Leaves = { λ what home before after end.
+        (after.base.ghost_name ≡ before.base.ghost_name)
+        × (after.draft.ghost_name ≡ before.draft.ghost_name)
+        × LooksAtBase (change (G.seen before.base.now) (G.seen after.base.now)) end
+        × ReadsInput (S.seen before.draft.now) (S.seen after.draft.now) end };
+
+    fn give(
+        &self,
+        alloc: Global,
+        from: &mut DraftSources<'a, G, S>,
+        replica: &mut Replica,
+        _kept: &mut Kept,
+    ) -> Result<Note, Refusal> {
+        check_base(alloc, replica, from.base)?;
+        let text = read_text(alloc, from.draft)?;
+        let made = revise_to(alloc, replica, &text)?;
+        Ok(Note::Made(made))
+    }
+
+    fn laws(&self) {}
+}
+
+/// Revises the replica of the home file until it shows the draft on the input, and saves the operations that took. The
+/// other file has the text that the draft was written from.
+pub(crate) fn revise_file<S: Source, N: Sink, H: Disk, G: Disk>(
+    alloc: Global,
+    input: &mut S,
+    home: &mut H,
+    base: &mut G,
+    notes: &mut N,
+) -> Status
+    ensures saves { (course : Finding Outcome)
+        × SavesGiven (revision (change (G.seen base.old) (G.seen base.new)) (change (S.seen input.old) (S.seen input.new))
+            course) (change (H.seen home.old) (H.seen home.new)) (change (N.seen notes.old) (N.seen notes.new)) result }
+    ensures blameless { SavingBlameless (change (H.seen home.old) (H.seen home.new))
+        (change (N.seen notes.old) (N.seen notes.new)) result }
+    ensures looks { LooksAtBase (change (G.seen base.old) (G.seen base.new)) result }
+    ensures reads { ReadsInput (S.seen input.old) (S.seen input.new) result }
+{
+    let mut sources = DraftSources { base, draft: input };
+    save_given(alloc, &Revision, &mut sources, home, notes)
+}
+
+/// What the replica shows as it is arranged.
+fn shown_text(alloc: Global, replica: &Replica) -> Result<MemSink, NoMemory>
+    ensures { IfOk result (λ text. text.written ≡ arranged_text replica.now.held.history) }
+{
+    let mut text = MemSink::new(alloc, BUFFER, Vec::new(alloc));
+    match write_arranged(alloc, replica, &mut text) {
+        Ok(()) => Ok(text),
+        Err(_) => Err(NoMemory),
+    }
+}
+
+/// Whether a file has what the replica shows, and that can be read back. No more of it is read than that takes.
+fn check_base<G: Disk>(alloc: Global, replica: &Replica, base: &mut G) -> Result<(), Refusal>
+    ensures ok { OnOk result ((bytes : List ℕ) × HasBytes (G.seen base.old) bytes
+        × (base_refusal replica.now.held.history bytes ≡ None)) }
+    ensures err { IfErr result (λ why. BaseStops why (G.seen base.old) replica.now.held.history) }
+    ensures looks { LooksOnly (G.seen base.old) (G.seen base.new) (result ≡ Err Outside) }
+{
+    let shown = shown_text(alloc, replica)?;
+    let shown = shown.written();
+    let bytes = read_start(alloc, base, shown.len() + 1)?;
+    if let Some(at) = first_difference(shown, &bytes) {
+        return Err(Refusal::BaseDiffers(at as u64));
+    }
+    match heading_in_text(alloc, replica)? {
+        Some(section) => Err(Refusal::HeadingInText(section as u64 + 1)),
+        None => Ok(()),
+    }
+}
+
+/// Revises the replica until it shows the draft that the bytes are. Answers how many operations that took.
+fn revise_to(alloc: Global, replica: &mut Replica, text: &[u8]) -> Result<u32, Refusal>
+    requires ready { IsReady replica.old }
+    ensures made { IfOk result (λ n. (ps : List Part) × (parts text.now ≡ Ok ps)
+        × IsRevisedTo replica.old replica.new ps n) }
+    ensures err { IfErr result (λ why. TextStops why replica.old text.now) }
+{
+    // What is printed then is the draft in its form by this law.
+    arranged_reads();
+    let draft = Draft::read(alloc, text)?;
+    let made = revise(alloc, replica, &draft)?;
+    Ok(made)
+}
