@@ -63,7 +63,7 @@ class Trial:
         lines += self.script(count) if count else []
         self.must("edit", self.file, given=("\n".join(lines) + "\n").encode())
         if count:
-            self.arrange_anew(count)
+            count = self.arrange_anew(count)
         self.must("merge", self.other, self.file)
         if count and self.rng.random() < 0.5:
             self.must("edit", self.other, given=("\n".join(self.script(count)) + "\n").encode())
@@ -73,6 +73,7 @@ class Trial:
             self.must("take", self.file, given=reader.single_frame(waits))
 
     def arrange_anew(self, count):
+        """Moves, retitles, comments and drops sections. It answers how many are left."""
         for _ in range(self.rng.randrange(3)):
             self.must("move", self.file, self.rng.randrange(1, count + 1), self.rng.randrange(1, count + 1))
         if self.rng.random() < 0.4:
@@ -81,8 +82,10 @@ class Trial:
             self.run("comment", self.file, 1, 0, 1, "why?")
         if count > 1 and self.rng.random() < 0.3:
             self.must("edit", self.file, given=f"drop {self.rng.randrange(1, count + 1)}\n".encode())
+            count -= 1
         if self.rng.random() < 0.1:
             self.run("edit", self.file, given=b"put 1 0 # no title\\n\n")
+        return count
 
     def change_letters(self, lines):
         at = self.rng.randrange(len(lines))

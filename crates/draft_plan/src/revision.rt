@@ -99,7 +99,14 @@ fn fill(
 {
     let mut made = 0;
     'parts: for (place, part) in parts.iter().enumerate() {
-        made += fill_section(alloc, replica, place, &entries[place], part.title, part.text)?;
+        made += fill_section(
+            alloc,
+            replica,
+            place,
+            &entries[place],
+            part.title,
+            part.text,
+        )?;
     }
     Ok(made)
 }
