@@ -163,8 +163,7 @@ pub draft_gives : (guest : Change DiskView) (input : Change SourceView) (replica
 draft_gives guest input replica last base draft ps n kept has left good short e settled r =
     let makes = r.revised.makes in
     let made : List Op = all_made replica makes.changes in
-    let outcome : Outcome = made_outcome last made in
-    (
+    let outcome : Outcome = made_outcome last made in (
       Does outcome,
       record {
         outcome = outcome;

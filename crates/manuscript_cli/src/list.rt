@@ -59,11 +59,7 @@ fn count_of(replica: &Replica, entry: &Entry) -> Result<usize, NoMemory>
 }
 
 /// The numbers of clusters of the sections, in the order of the entries.
-fn counts_of(
-    alloc: Global,
-    replica: &Replica,
-    entries: &[Entry],
-) -> Result<Vec<Counted>, NoMemory>
+fn counts_of(alloc: Global, replica: &Replica, entries: &[Entry]) -> Result<Vec<Counted>, NoMemory>
     requires { All (IsEntry replica.now.held.history) entries.now }
     ensures { IfOk result (λ counts. counts.items
         ≡ counted_from replica.now.held.history 0 (entry_sections entries.now)) }
@@ -77,11 +73,7 @@ fn counts_of(
 }
 
 /// Puts the line about the whole replica.
-fn put_replica<O: Out>(
-    gather: &mut Gather,
-    output: &mut O,
-    replica: &Replica,
-) -> Result<(), Failed>
+fn put_replica<O: Out>(gather: &mut Gather, output: &mut O, replica: &Replica) -> Result<(), Failed>
     ensures { GathersText (O.seen output.old) (O.seen output.new) gather.old gather.new result
         (replica_line replica.now) }
 {

@@ -147,7 +147,11 @@ impl Refusal {
                 "heading in section ",
                 Detail::Number(section),
             ),
-            Self::BadDraft(line) => Row(Status::BadInput, "bad draft at line ", Detail::Number(line)),
+            Self::BadDraft(line) => Row(
+                Status::BadInput,
+                "bad draft at line ",
+                Detail::Number(line),
+            ),
             Self::OutOfRange => Row(Status::BadInput, "out of range", Detail::Nothing),
             Self::NoVersion(name) => Row(Status::BadInput, "no version ", Detail::Name(name)),
             Self::Outside => Row(Status::OutsideFault, "outside fault", Detail::Nothing),

@@ -74,7 +74,7 @@ pub(crate) fn revise_file<S: Source, N: Sink, H: Disk, G: Disk>(
 ) -> Status
     ensures saves { (course : Finding Outcome)
         × SavesGiven (revision (change (G.seen base.old) (G.seen base.new)) (change (S.seen input.old) (S.seen input.new))
-            course) (change (H.seen home.old) (H.seen home.new)) (change (N.seen notes.old) (N.seen notes.new)) result }
+        course) (change (H.seen home.old) (H.seen home.new)) (change (N.seen notes.old) (N.seen notes.new)) result }
     ensures blameless { SavingBlameless (change (H.seen home.old) (H.seen home.new))
         (change (N.seen notes.old) (N.seen notes.new)) result }
     ensures looks { LooksAtBase (change (G.seen base.old) (G.seen base.new)) result }

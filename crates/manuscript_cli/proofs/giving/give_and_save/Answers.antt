@@ -28,8 +28,7 @@ returns-in_err-save-clause-given g c file holds =
 
 pub returns-clause-given : goal.returns-clause-given
 returns-clause-given g c file holds =
-    let given = c.in_ok-note.ensures.gives file c.args.end holds in
-    (
+    let given = c.in_ok-note.ensures.gives file c.args.end holds in (
       given.0,
       given_saved (g.T.Gives.giver c.args.giver.now file c.args.from.now c.give.new.from given.0) c.args.replica.now c.give.new.replica c.give.new.kept c.args.end
           (change (g.H.Disk.seen c.args.home.now) (g.H.Disk.seen c.save.new.file)) c.in_ok-note.note c.to_save.result.now _

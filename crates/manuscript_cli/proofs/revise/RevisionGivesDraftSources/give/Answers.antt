@@ -47,4 +47,4 @@ returns-clause-gives g c home last holds =
     let input = change (g.S.Source.seen c.args.from.now.draft.now) (g.S.Source.seen c.read_text.new.source) in
     let read = subst (IsTextRead input) (sym c.deref.ensures.value) c.in_ok-text.ensures.text in
     draft_gives (change (g.G.Disk.seen c.args.from.now.base.now) (g.G.Disk.seen c.check_base.new.base)) input
-        c.args.replica.now c.revise_to.new.replica ok.0 c.deref.result.now made.0 _ c.args._kept.now ok.1 (text_left input _ read) ok.2 read.short made.1 c.requires.ready.settled made.2
+    c.args.replica.now c.revise_to.new.replica ok.0 c.deref.result.now made.0 _ c.args._kept.now ok.1 (text_left input _ read) ok.2 read.short made.1 c.requires.ready.settled made.2
