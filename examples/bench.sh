@@ -37,6 +37,36 @@ front_script() {
     yes 'put 1 0 x' | head -n "$1"
 }
 
+# A script that writes a book of so many letters, in 100 sections of lines of some ten words.
+book_script() {
+    awk -v letters="$1" 'BEGIN {
+        count = split("the sea was calm and blue then it blew nobody minded what the wind did", words, " ")
+        srand(7)
+        for (section = 1; section <= 100; section++) {
+            printf "add %d Chapter %d\nput %d 0 ", section, section, section
+            for (long = 0; long < letters / 100; long += length(word) + 1) {
+                word = words[int(rand() * count) + 1]
+                printf "%s%s", word, rand() < 0.1 ? "\\n" : " "
+            }
+            print ""
+        }
+    }'
+}
+
+# Drafts of what is printed: ten words are others, or all letters, or two sections stand in each other's place.
+change_words() {
+    awk '!/^# / && ++line % 1500 == 40 && changed++ < 10 { sub(/[a-z]+/, "changed") } { print }' base
+}
+
+change_letters() {
+    sed '/^# /!y/abcdefghijklmnopqrstuvwxyz/bcdefghijklmnopqrstuvwxyza/' base
+}
+
+exchange_sections() {
+    awk '/^# / { at++ } { texts[at] = texts[at] $0 "\n" }
+        END { for (k = 1; k <= at; k++) printf "%s", texts[k == 11 ? 61 : k == 61 ? 11 : k] }' base
+}
+
 processor=$(sed -n 's/^model name[^:]*: //p' /proc/cpuinfo 2>/dev/null | head -n 1)
 echo "On ${processor:-this processor}, $(getconf _NPROCESSORS_ONLN) of them, of which one is used:"
 echo
@@ -62,4 +92,15 @@ for letters; do
     row "$((letters / 10)) letters put one by one in front of the text of $letters: \`edit\`" 'manuscript edit ann.ms <front'
     row "a manuscript of $letters turns: \`bulk\`" "manuscript bulk 7 $letters"
     rm -f ann.ms ben.ms typed.ms
+done
+manuscript new book.ms 1 1000
+book_script 1000000 | manuscript edit book.ms 2>/dev/null
+manuscript arrange book.ms >base
+row 'a book of 1,000,000 letters in 100 sections: `arrange`' 'manuscript arrange book.ms'
+change_words >ten
+exchange_sections >exchanged
+change_letters >retyped
+for draft in 'ten:a draft of that book with ten words changed' 'exchanged:with two sections exchanged' 'retyped:with all letters changed'; do
+    cp book.ms revised.ms
+    row "${draft#*:}: \`revise\`" "manuscript revise revised.ms base <${draft%%:*}"
 done
