@@ -2,7 +2,7 @@
 # Kills the built program while it saves to a file: as it begins each of its calls of the system in turn, which are
 # counted by tests/calls.c, and at 300 random moments. The file has to give what it gave before, or what the command
 # makes of it, and after an end with status 0 what the command makes; and the command has to end well later. It edits a
-# file of version 2 and one of version 1, and moves a section of a third one.
+# file of version 2 and one of version 1, moves a section of a third one, and revises a fourth.
 #
 #     tests/kill.sh [SEED]     # the random moments follow from the seed, 1 where none is given
 RANDOM=${1:-1}
@@ -86,11 +86,21 @@ kill_at_moments() {
         [ "$wrong" = 0 -a "$killed" -gt 0 ]
 }
 
-for name in version_2 version_1 sections; do
-    if [ "$name" = sections ]; then
+"$program" new "$work/book" 1 16 </dev/null
+{ printf 'add 1 A\nadd 2 B\n'; sed 's/^put 1/put 2/' "$work/script"; } | "$program" edit "$work/book" 2>/dev/null
+"$program" arrange "$work/book" </dev/null >"$work/base"
+
+for name in version_2 version_1 sections book; do
+    case $name in
+    sections)
         saving=(move 2 1)
         telling=arrange
-    fi
+        ;;
+    book)
+        saving=(revise "$work/base")
+        sed 's/abc/cab/g; s/^# A/# C/' "$work/base" >"$work/script"
+        ;;
+    esac
     if build_c calls; then
         begin_with "$name"
         kill_at_each_call "$name"
