@@ -34,7 +34,7 @@ install: bin/manuscript
 
 # An archive for those who have no toolchain: the program, its manual page, the guide and checksums. The same sources make
 # the same bytes.
-VERSION := $(shell sed -n 's/^## \([0-9.]*\).*/\1/p' CHANGELOG.md | head -n 1)
+VERSION := $(shell sed -n 's/^## \([^ ]*\).*/\1/p' CHANGELOG.md | head -n 1)
 RELEASE := petreltombac-$(VERSION)
 
 dist: bin/manuscript
