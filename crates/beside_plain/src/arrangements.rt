@@ -1,6 +1,7 @@
 //! Moves and retitles: what they answer, and what is written of the sections then, beside a plain program.
 
 use crate::assertions::{equal, equal_at, holds_at};
+use crate::edits::accepted_last;
 use crate::op_lines::Line::{self, Coded, Delete, Section, Text};
 use crate::op_lines::{NONE, Name, note, op};
 use crate::plain::Plain;
@@ -97,6 +98,15 @@ const C_FIRST: Line = Coded((1, 3), MOVE_CODE, &[C, A], b"\0\0\0\x01\x02");
 /// So it does by another author, between the first two.
 const C_SECOND: Line = Coded((2, 0), MOVE_CODE, &[C, A, B], b"\0\0\0\x01\x03");
 
+/// B between the place of the first move and A, by the author of that move, and by another one.
+const B_BY_SAME: Line = Coded((1, 4), MOVE_CODE, B_NAMES, B_BODY);
+
+const B_BY_OTHER: Line = Coded((2, 0), MOVE_CODE, B_NAMES, B_BODY);
+
+const B_NAMES: &[Name] = &[B, (1, 3), A];
+
+const B_BODY: &[u8] = b"\0\0\0\x02\x03";
+
 /// A retitle with the greatest stamp there is.
 const SPENDING: Line = Coded((2, 0), RETITLE_CODE, &[A], b"\xff\xff\xff\xffZ");
 
@@ -181,26 +191,12 @@ const ROWS: &[Row] = &[
     },
 ];
 
-/// The replica's last accepted operations are those of the lines.
-fn has_made(rt: &impl Abort, alloc: Global, replica: &Replica, lines: &[Line]) -> Result<(), Fail> {
-    for (accepted, line) in replica.accepted().iter().rev().zip(lines.iter().rev()) {
-        let wanted = op(rt, alloc, *line)?;
-        holds_at(rt, line, *accepted == wanted);
-    }
-    Ok(())
-}
-
-fn answer_row(
-    rt: &impl Abort,
-    alloc: Global,
-    replica: &mut Replica,
-    row: &Row,
-) -> Result<(), Fail> {
+fn answers(rt: &impl Abort, alloc: Global, replica: &mut Replica, row: &Row) -> Result<(), Fail> {
     feed_lines(rt, alloc, replica, row.lines, &mut Tally::default())?;
     for (asked, answer) in row.acts {
         equal_at(rt, asked, perform(rt, alloc, replica, *asked)?, *answer);
     }
-    has_made(rt, alloc, replica, row.made)?;
+    accepted_last(rt, alloc, replica, row.made)?;
     let is_arranged = arranges_as_plain(alloc, replica, row.text.as_bytes())?;
     holds_at(rt, &row.acts, is_arranged);
     Ok(())
@@ -210,7 +206,7 @@ fn answer_row(
 fn moves_and_retitles_answer_make_and_show_what_was_asked(rt: HostRuntime) -> Result<(), Fail> {
     for row in ROWS {
         let mut replica = Replica::new(rt.alloc(), 1, 100, row.most)?;
-        let done = answer_row(&rt, rt.alloc(), &mut replica, row);
+        let done = answers(&rt, rt.alloc(), &mut replica, row);
         drop(replica);
         done?;
     }
@@ -293,27 +289,13 @@ const SETS: &[(&[Line], usize, &str)] = &[
     ),
     // A section goes after the place where a withdrawn move put another one.
     (
-        &[
-            FIRST,
-            SECOND,
-            THIRD,
-            C_FIRST,
-            Delete((1, 3)),
-            Coded((1, 4), MOVE_CODE, &[B, (1, 3), A], b"\0\0\0\x02\x03"),
-        ],
+        &[FIRST, SECOND, THIRD, C_FIRST, Delete((1, 3)), B_BY_SAME],
         720,
         "# B\n\n# A\n\n# C\n\n",
     ),
     // The moved section is dropped, and another one goes after it.
     (
-        &[
-            FIRST,
-            SECOND,
-            THIRD,
-            C_FIRST,
-            Delete(C),
-            Coded((2, 0), MOVE_CODE, &[B, (1, 3), A], b"\0\0\0\x02\x03"),
-        ],
+        &[FIRST, SECOND, THIRD, C_FIRST, Delete(C), B_BY_OTHER],
         720,
         "# B\n\n# A\n\n",
     ),

@@ -207,26 +207,21 @@ const ROWS: &[Row] = &[
 ];
 
 /// The replica's accepted operations are those of the lines.
-fn has_accepted(
+/// The operations that the replica accepted last are those of the lines.
+pub fn accepted_last(
     rt: &impl Abort,
     alloc: Global,
     replica: &Replica,
     lines: &[Line],
 ) -> Result<(), Fail> {
-    equal(rt, replica.accepted().len(), lines.len());
-    for (accepted, line) in replica.accepted().iter().zip(lines) {
+    for (accepted, line) in replica.accepted().iter().rev().zip(lines.iter().rev()) {
         let wanted = op(rt, alloc, *line)?;
         holds_at(rt, line, *accepted == wanted);
     }
     Ok(())
 }
 
-fn answer_row(
-    rt: &impl Abort,
-    alloc: Global,
-    replica: &mut Replica,
-    row: &Row,
-) -> Result<(), Fail> {
+fn answers(rt: &impl Abort, alloc: Global, replica: &mut Replica, row: &Row) -> Result<(), Fail> {
     feed_lines(rt, alloc, replica, row.lines, &mut Tally::default())?;
     for (edit, answer) in row.edits {
         equal_at(rt, edit, make(rt, alloc, replica, *edit)?, *answer);
@@ -235,14 +230,17 @@ fn answer_row(
     let is_written = writes(alloc, replica, row.text.as_bytes())?;
     holds_at(rt, &row.edits, is_written);
     match row.accepted {
-        Some(lines) => has_accepted(rt, alloc, replica, lines),
+        Some(lines) => {
+            equal(rt, replica.accepted().len(), lines.len());
+            accepted_last(rt, alloc, replica, lines)
+        }
         None => Ok(()),
     }
 }
 
 fn answers_row(rt: &impl Abort, alloc: Global, row: &Row) -> Result<(), Fail> {
     let mut replica = Replica::new(alloc, 1, 100, row.most)?;
-    let done = answer_row(rt, alloc, &mut replica, row);
+    let done = answers(rt, alloc, &mut replica, row);
     drop(replica);
     done
 }

@@ -213,11 +213,11 @@ const EDITS: &[Edit] = &[
 ];
 
 fn edits_beside(
+    order: (usize, usize),
     rt: &impl Abort,
     alloc: Global,
     replica: &mut Replica,
     plain: &mut Plain,
-    order: (usize, usize),
 ) -> Result<(), Fail> {
     keep_beside(rt, alloc, replica, plain, order)?;
     for edit in EDITS {
@@ -229,7 +229,7 @@ fn edits_beside(
 fn makes_beside(rt: &impl Abort, alloc: Global, order: (usize, usize)) -> Result<(), Fail> {
     let mut replica = Replica::new(alloc, NUMBER, 100, 100)?;
     let mut plain = Plain::new(alloc);
-    let done = edits_beside(rt, alloc, &mut replica, &mut plain, order);
+    let done = edits_beside(order, rt, alloc, &mut replica, &mut plain);
     drop(replica);
     done
 }

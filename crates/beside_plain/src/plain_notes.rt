@@ -28,10 +28,10 @@ struct Claims {
 /// A section as it is, and a move as a section.
 fn lifted(alloc: Global, op: &Op) -> Result<Option<Op>, Fail> {
     let Op::Note {
-        id,
-        names,
         code,
+        names,
         body,
+        id,
     } = op
     else {
         return match op {
@@ -60,9 +60,9 @@ fn lifted(alloc: Global, op: &Op) -> Result<Option<Op>, Fail> {
 /// The title that a retitle gives.
 fn new_title(alloc: Global, op: &Op) -> Option<Title> {
     let Op::Note {
+        body,
         names,
         code,
-        body,
         ..
     } = op
     else {
@@ -79,22 +79,25 @@ fn new_title(alloc: Global, op: &Op) -> Option<Title> {
 
 fn claim_in(op: &Op) -> Option<Claim> {
     let Op::Note {
-        id,
         names,
         body,
+        id,
         ..
     } = op
     else {
         return None;
     };
-    match (names.as_slice(), body.as_slice()) {
-        ([section, ..], [a, b, c, d, ..]) => Some(Claim {
-            stamp: u32::from_be_bytes([*a, *b, *c, *d]),
-            id: *id,
-            section: *section,
-        }),
-        _ => None,
-    }
+    let [section, ..] = names.as_slice() else {
+        return None;
+    };
+    let [a, b, c, d, ..] = body.as_slice() else {
+        return None;
+    };
+    Some(Claim {
+        stamp: u32::from_be_bytes([*a, *b, *c, *d]),
+        id: *id,
+        section: *section,
+    })
 }
 
 fn is_section(ops: &[Op], section: ElementId) -> bool {
@@ -255,10 +258,10 @@ pub fn view_text(alloc: Global, ops: &[Op], n: usize) -> Result<Vec<u8>, Fail> {
 /// The name of the version that an operation is in a file of that number.
 pub fn version_name<'a>(ops: &[Op], number: u32, op: &'a Op) -> Option<&'a [u8]> {
     let Op::Note {
-        id,
-        names,
-        code,
         body,
+        code,
+        names,
+        id,
     } = op
     else {
         return None;

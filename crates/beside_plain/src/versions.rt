@@ -127,6 +127,7 @@ const ROWS: &[Row] = &[
     },
     // The last one of a name counts, and what is deleted later is visible.
     Row {
+        found: Some(4),
         steps: &[
             SECTION,
             Name("one", Ok(1)),
@@ -136,7 +137,6 @@ const ROWS: &[Row] = &[
             Name("two", Ok(1)),
         ],
         lines: "1 one\n4 one\n7 two\n",
-        found: Some(4),
         text: "# T\nAB\n",
         ..BEGIN
     },

@@ -1,9 +1,9 @@
 -- What notes say of sections: where one is to stand, and what its title is. Moves and retitles are notes of two codes.
-use Rattle.std.specs.Prelude.{ℕ, zero, suc, nat_eq, nat_lt, nat_le, Option, Some, None, Bool, if◌then◌else◌, not, ◌&&◌, List, [], ◌∷◌, length, option_map}
+use Rattle.std.specs.Prelude.{ℕ, zero, suc, nat_eq, Option, Some, None, Bool, if◌then◌else◌, List, [], ◌∷◌, option_map}
 use Rattle.std.specs.Int.{from_be_bytes, w32}
-use Rattle.std.specs.Str.{chars, is_utf8}
+use Rattle.std.specs.Str.{chars}
 use Rattle.fugue_ids.specs.Identifiers.{Identifier}
-use Rattle.fugue_ids.specs.Titles.{has_line_end}
+use Rattle.fugue_ids.specs.Titles.{is_line}
 use Rattle.fugue_ids.specs.declared.limits.TheConstants.{LONGEST_TITLE}
 use Rattle.fugue_ids.specs.declared.op.Op.{Op}
 use Rattle.fugue_ids.specs.declared.op.Op.TheVariants.{Note}
@@ -55,7 +55,7 @@ move_in _ = None
 
 -- the bytes are a title in UTF-8
 abbrev pub is_title : List ℕ → Bool
-is_title bytes = is_utf8 bytes && nat_lt 0 (length bytes) && nat_le (length bytes) LONGEST_TITLE && not (has_line_end bytes)
+is_title bytes = is_line LONGEST_TITLE bytes
 
 -- a retitle's names and body: the section; a stamp and a title
 abbrev pub retitle_of : Identifier → (named : List Identifier) → (body : List ℕ) → Option Retitle

@@ -12,7 +12,7 @@ ghost use Rattle.catalogue_notes.specs.Readings.{move_claim};
 
 use crate::reading::{Bid, Move, move_in};
 use fugue_ids::{ElementId, MOST_OPERATIONS, NoMemory, Op};
-use origin_model::Node;
+use origin_model::{Node, element_of};
 use section_list::SectionList;
 use std::alloc::Global;
 use std::collections::BTreeMap;
@@ -70,19 +70,10 @@ fn lift_of(list: &SectionList, sections: &BTreeMap<ElementId, usize>, op: &Op) -
     ensures { result ≡ lift_by (λ s. is_some (get id_cmp sections.now s)) list.now.nodes op.now }
 {
     match op {
-        Op::Section {
-            id,
-            left,
-            right,
-            ..
-        } => Some(Lift {
-            node: Node {
-                id: *id,
-                left: *left,
-                right: *right,
-            },
-            bid: None,
-        }),
+        Op::Section { .. } => match element_of(op) {
+            Some((_, node)) => Some(Lift { node, bid: None }),
+            None => None,
+        },
         Op::Text { .. } | Op::Delete { .. } => None,
         Op::Note { .. } => match move_in(op) {
             Some(found) => lift_of_move(list, sections, &found),

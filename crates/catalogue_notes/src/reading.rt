@@ -1,12 +1,11 @@
 //! Which notes are moves and retitles.
-ghost use Rattle.std.specs.Prelude.{◌≡◌, ◌&&◌, length, nat_le, nat_lt, option_map};
-ghost use Rattle.std.specs.Str.{is_utf8};
-ghost use Rattle.catalogue_notes.specs.Claims.{is_title as is_title_in, move_in as move_on, move_of as move_with, origins_of as origins_with};
+ghost use Rattle.std.specs.Prelude.{◌≡◌, option_map};
+ghost use Rattle.catalogue_notes.specs.Claims.{move_in as move_on, move_of as move_with, origins_of as origins_with};
 ghost use Rattle.catalogue_notes.specs.Claims.{retitle_in as retitle_on, retitle_of as retitle_with};
 ghost use Rattle.catalogue_notes.specs.Readings.{move_claim, read_origins, retitle_bid};
 
 use crate::{MOVE_CODE, RETITLE_CODE};
-use fugue_ids::{ElementId, LONGEST_TITLE, Op, has_line_end};
+use fugue_ids::{ElementId, LONGEST_TITLE, Op, is_line};
 
 /// A note on a section, by what the winner is chosen by.
 #[derive(Clone, Copy, Debug, PartialEq, Eq)]
@@ -90,24 +89,6 @@ pub(crate) fn move_in(op: &Op) -> Option<Move>
     }
 }
 
-fn is_text(bytes: &[u8]) -> bool
-    ensures { result ≡ is_utf8 bytes.now }
-{
-    std::str::from_utf8(bytes).is_ok()
-}
-
-fn has_title_length(bytes: &[u8]) -> bool
-    ensures { result ≡ (nat_lt 0 (length bytes.now) && nat_le (length bytes.now) LONGEST_TITLE) }
-{
-    !bytes.is_empty() && bytes.len() <= LONGEST_TITLE
-}
-
-fn is_title(bytes: &[u8]) -> bool
-    ensures { result ≡ is_title_in bytes.now }
-{
-    is_text(bytes) && has_title_length(bytes) && !has_line_end(bytes)
-}
-
 fn retitle_of(id: ElementId, names: &[ElementId], body: &[u8]) -> Option<Bid>
     ensures { result ≡ option_map retitle_bid (retitle_with id names.now body.now) }
 {
@@ -117,7 +98,7 @@ fn retitle_of(id: ElementId, names: &[ElementId], body: &[u8]) -> Option<Bid>
     let [a, b, c, d, title @ ..] = body else {
         return None;
     };
-    if !is_title(title) {
+    if !is_line(title, LONGEST_TITLE) {
         return None;
     }
     let stamp = u32::from_be_bytes([*a, *b, *c, *d]);
@@ -134,10 +115,10 @@ pub(crate) fn retitle_in(op: &Op) -> Option<Bid>
 {
     match op {
         Op::Note {
-            id,
-            names,
             code,
+            names,
             body,
+            id,
         } if *code == RETITLE_CODE => retitle_of(*id, names.as_slice(), body.as_slice()),
         _ => None,
     }

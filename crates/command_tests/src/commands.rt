@@ -38,13 +38,13 @@ fn words_of(rt: &(impl Abort + AllocGlobal), line: &str) -> Vec<String> {
 fn run_line<S: Source, O: Sink, N: Sink, H: Disk, G: Disk, W: Wire, D: Dock>(
     rt: &(impl Abort + AllocGlobal),
     line: &str,
+    wire: &mut W,
+    dock: &mut D,
+    home: &mut H,
+    guest: &mut G,
     input: &mut S,
     output: &mut O,
     notes: &mut N,
-    home: &mut H,
-    guest: &mut G,
-    wire: &mut W,
-    dock: &mut D,
 ) -> Status {
     let alloc = rt.alloc();
     let words = words_of(rt, line);
@@ -70,7 +70,7 @@ fn run_offline<S: Source, O: Sink, N: Sink, H: Disk, G: Disk>(
     let mut wire = MemWire::new(alloc, Vec::new(alloc), 1, Vec::new(alloc));
     let mut dock = MemDock::new(alloc, Vec::new(alloc), 1, Vec::new(alloc));
     let status = run_line(
-        rt, line, input, output, notes, home, guest, &mut wire, &mut dock,
+        rt, line, &mut wire, &mut dock, home, guest, input, output, notes,
     );
     drop(dock);
     drop(wire);

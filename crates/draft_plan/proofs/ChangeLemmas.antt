@@ -18,7 +18,7 @@ use Rattle.catalogue_notes.specs.Moving.{IsMoveMade, IsRetitleMade, RefusesFor, 
 use Rattle.draft_plan.specs.Changes.{AreAllowed, Change, Changed, Edit, IsRefused, Move, Retitle, Stops, StopsAt, all_made, behind, change_refusal, made_of}
 use Rattle.draft_plan.specs.declared.fault.ReviseFault.{ReviseFault}
 use Rattle.draft_plan.specs.declared.fault.ReviseFault.TheVariants as fault
-use Rattle.draft_plan.proofs.AllowedLemmas.{allowed}
+use Rattle.origin_model.proofs.edits.AllowedLemmas.{allowed}
 
 -- operations, and then others
 with_more : (s : State) (xs ys : List Op) → with_ops (with_ops s xs) ys ≡ with_ops s (xs ++ ys)

@@ -4,7 +4,6 @@ pub mod PartLemmas
 pub mod FormLemmas
 pub mod PlainLemmas
 pub mod DifferenceLemmas
-pub mod AllowedLemmas
 pub mod ChangeLemmas
 pub mod ArrangementLemmas
 pub mod TextLemmas

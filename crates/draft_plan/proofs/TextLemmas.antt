@@ -160,6 +160,12 @@ pub record IsCutAndPut (old mid new : State) (k at n cut put : ℕ) (chs : List 
   pub puts : RefusesExactly mid (Put k at chs) (Ok put)
   pub put_made : IsMade mid new (Put k at chs) put
 
+pub cut_and_put : {old mid new : State} {k at n cut put : ℕ} {chs : List ℕ} → Lawful old.held.history → Lawful mid.held.history
+    → RefusesExactly old (Cut k at n) (Ok cut) → IsMade old mid (Cut k at n) cut → RefusesExactly mid (Put k at chs) (Ok put) → IsMade mid new (Put k at chs) put
+    → IsCutAndPut old mid new k at n cut put chs
+cut_and_put w v cuts cut_made puts put_made =
+    record { lawful = w; then_lawful = v; cuts = cuts; cut_made = cut_made; puts = puts; put_made = put_made }
+
 -- what lies within a text lies within what is shown
 in_elements : (s : State) (x : Identifier) (end : ℕ) → Lawful s.held.history → end ≤ length (text s.held.history x) → end ≤ length (elements s x)
 in_elements s x end w l = omega (arith, l, text_length s.held.history x w)

@@ -1,9 +1,9 @@
 //! A draft read from its front to its end, line by line.
 
-ghost use Rattle.std.specs.Prelude.{◌≡◌, ◌<◌, ◌≤◌, ◌&&◌, ◌∷◌, None, IfOk, IsTrue, length, map, nat_le, nat_lt, not};
+ghost use Rattle.std.specs.Prelude.{◌≡◌, ◌<◌, ◌≤◌, ◌&&◌, ◌∷◌, None, IfOk, IsTrue, length, map, not};
 ghost use Rattle.std.specs.Prelude.{position, ◌==◌};
 ghost use Rattle.std.specs.List.{join_with_byte};
-ghost use Rattle.std.specs.Str.{IsUtf8, is_utf8};
+ghost use Rattle.std.specs.Str.{IsUtf8};
 ghost use Rattle.draft_plan.specs.Drafts.{first_bad, is_bad_at, is_heading as is_heading_in};
 ghost use Rattle.catalogue_notes.specs.Claims.{is_title as is_title_in};
 ghost use Rattle.draft_plan.specs.Drafts.{lines, parts_of, pieces, title_of};
@@ -11,7 +11,7 @@ ghost use Rattle.draft_plan.specs.Laws.{ends_part};
 ghost use Rattle.draft_plan.specs.Readings.{IsFirstLine, IsFirstText, IsGood, seen_part};
 
 use crate::part::Part;
-use fugue_ids::{LONGEST_TITLE, NoMemory, has_line_end};
+use fugue_ids::{LONGEST_TITLE, NoMemory, is_line, is_utf8};
 use std::alloc::Global;
 
 fn find_line_feed(text: &[u8]) -> Option<usize>
@@ -38,36 +38,18 @@ pub(crate) fn is_heading(line: &[u8]) -> bool
     line.starts_with(b"# ")
 }
 
-fn is_text(bytes: &[u8]) -> bool
-    ensures { result ≡ is_utf8 bytes.now }
-{
-    std::str::from_utf8(bytes).is_ok()
-}
-
-fn has_title_length(bytes: &[u8]) -> bool
-    ensures { result ≡ (nat_lt 0 (length bytes.now) && nat_le (length bytes.now) LONGEST_TITLE) }
-{
-    !bytes.is_empty() && bytes.len() <= LONGEST_TITLE
-}
-
-fn is_title(bytes: &[u8]) -> bool
-    ensures { result ≡ is_title_in bytes.now }
-{
-    is_text(bytes) && has_title_length(bytes) && !has_line_end(bytes)
-}
-
 /// Whether a heading has no title.
 fn has_bad_title(line: &[u8]) -> bool
     ensures { result ≡ (is_heading_in line.now && not (is_title_in (title_of line.now))) }
 {
-    is_heading(line) && !is_title(&line[2..])
+    is_heading(line) && !is_line(&line[2..], LONGEST_TITLE)
 }
 
 /// Whether no draft has this line at this number.
 fn is_bad(line: &[u8], number: usize) -> bool
     ensures { result ≡ is_bad_at number line.now }
 {
-    !is_text(line) || has_bad_title(line) || (number == 1 && !is_heading(line))
+    !is_utf8(line) || has_bad_title(line) || (number == 1 && !is_heading(line))
 }
 
 /// The number, from 1, of the first bad line.

@@ -87,10 +87,10 @@ fn fill(
     entries: &[Entry],
     parts: &[Part<'_>],
 ) -> Result<u32, ReviseFault>
-    requires settled { IsSettled replica.old.held }
-    requires stands { Stands replica.old }
     requires outline { IsOutline replica.old.held.history entries.now }
     requires count { length entries.now ≡ length parts.now }
+    requires settled { IsSettled replica.old.held }
+    requires stands { Stands replica.old }
     ensures revised { IfOk result (λ n. IsRevision replica.old replica.new (map seen_part parts.now) n) }
     ensures same { IfOk result (λ n. MakesNothing replica.old replica.new (map seen_part parts.now) n) }
     ensures stops { IfErr result (λ why. StopsAtLimit replica.old replica.new why) }

@@ -86,7 +86,7 @@ fn resize(
     ensures stands { Stands replica.new }
 {
     let dropped = drop_free(replica, pairs)?;
-    let added = add_missing(alloc, replica, pairs, parts, sections)?;
+    let added = add_missing(alloc, replica, parts, pairs, sections)?;
     Ok(dropped + added)
 }
 
@@ -131,13 +131,13 @@ fn drop_unless(replica: &mut Replica, section: usize, taken: bool) -> Result<u32
 fn add_missing(
     alloc: Global,
     replica: &mut Replica,
-    pairs: &Pairs,
     parts: &[Part<'_>],
+    pairs: &Pairs,
     sections: &mut Vec<Option<ElementId>>,
 ) -> Result<u32, ReviseFault>
+    requires parts { length pairs.now.of_part.items ≡ length parts.now }
     requires settled { IsSettled replica.old.held }
     requires stands { Stands replica.old }
-    requires parts { length pairs.now.of_part.items ≡ length parts.now }
     ensures shapes { Shapes replica.old replica.new result }
     ensures count { OnOk result (length (shown catalogue replica.new.held.history)
         ≡ length (shown catalogue replica.old.held.history) + count_by (λ s. is_none s) pairs.now.of_part.items) }

@@ -1,5 +1,5 @@
 -- Edits by clusters are edits by scalars.
-use Rattle.std.proofs.Common.{◌≡◌, ◌↔◌, ◌<◌, ◌≤◌, ◌+◌, inl, inr, ℕ, Bool, true, false, cond, nat_lt, List, length, Option, Some, None, refl, sym, ap, subst, ◌∙◌, arith}
+use Rattle.std.proofs.Common.{◌≡◌, ◌↔◌, ◌<◌, ◌≤◌, ◌+◌, inl, inr, ℕ, Bool, true, nat_lt, List, length, Option, Some, None, refl, sym, ap, subst, ◌∙◌, arith}
 use Rattle.std.specs.Prelude.{Result, Ok, Err, IfOk, IfErr, IfSome, IsNone, ok_or, option_map, encode_utf8_all}
 use Rattle.std.specs.Str.{chars, IsUtf8}
 use Rattle.std.proofs.lemmas.Bool.{cases_Bool, cases_lt, ltb-true}
@@ -10,56 +10,16 @@ use Rattle.origin_model.specs.operations.Verdict.{Lawful}
 use Rattle.origin_model.specs.order.Printed.{text}
 use Rattle.origin_model.specs.edits.Edits.{Command, Put, Cut, Add, DropSection}
 use Rattle.origin_model.specs.declared.operations.Place.TheVariants.{Section as within}
+use Rattle.origin_model.proofs.edits.AllowedLemmas.{allowed}
 use Rattle.origin_model.proofs.edits.EditedTextLemmas.{text_length}
 use Rattle.cluster_text.specs.Clusters.{clusters, span}
 use Rattle.origin_model.specs.edits.State.{State}
-use Rattle.origin_model.specs.edits.Refusal.{section_shown, shown_count, in_section, in_range, refused_elements, refused_ops, refusal_message, made_by, RefusesExactly}
+use Rattle.origin_model.specs.edits.Refusal.{section_shown, shown_count, in_range, refused_elements, refused_ops, refusal_message, made_by, RefusesExactly}
 use Rattle.origin_model.specs.edits.Effect.{IsMade, LeavesUnmade, StopsPartly}
 use Rattle.origin_model.specs.declared.edit_fault.EditFault.{EditFault}
 use Rattle.origin_model.specs.declared.edit_fault.EditFault.TheVariants.{NoSection, OutOfRange, IdsSpent, TooMany, NoMemory}
 use Rattle.edit_script.specs.Scripts.{by_scalars, clusters_in, in_scalars, line_refusal, scalars_from}
 use Rattle.edit_script.specs.Lines.{IsSpan, Made, Unmade}
-
--- nothing is refused for want of memory
-never_ops : (b : Bool) (held : ℕ) → cond b (Some (TooMany held)) None ≡ Some NoMemory → ⊥
-never_ops true held e = cc
-never_ops false held e = cc
-
-never_elements : (b : Bool) (n : ℕ) (other : Option EditFault) → (other ≡ Some NoMemory → ⊥) → cond b (Some (IdsSpent n)) other ≡ Some NoMemory → ⊥
-never_elements true n other never e = cc
-never_elements false n other never e = never e
-
-never_range : (b : Bool) (other : Option EditFault) → (other ≡ Some NoMemory → ⊥) → cond b (Some OutOfRange) other ≡ Some NoMemory → ⊥
-never_range true other never e = cc
-never_range false other never e = never e
-
-never_section : (found : Option Identifier) (cause : Identifier → Option EditFault) → ((x : Identifier) → cause x ≡ Some NoMemory → ⊥) → in_section found cause ≡ Some NoMemory → ⊥
-never_section None cause never e = cc
-never_section (Some x) cause never e = never x e
-
-never_more : (s : State) (n : ℕ) → refused_elements s n ≡ Some NoMemory → ⊥
-never_more s n = never_elements _ _ (refused_ops s n) (never_ops _ _)
-
-never_memory : (s : State) (command : Command) → refusal_message s command ≡ Some NoMemory → ⊥
-never_memory s (Put k at new) = never_section (section_shown s k) _ (λ x. never_range _ (refused_elements s (length new)) (never_more s (length new)))
-never_memory s (Cut k at n) = never_section (section_shown s k) _ (λ x. never_range _ (refused_ops s n) (never_ops _ _))
-never_memory s (Add at title) = never_range _ (refused_elements s 1) (never_more s 1)
-never_memory s (DropSection k) = never_section (section_shown s k) _ (λ x. never_ops _ _)
-
-ok_is_no_err : (n : ℕ) (fault : EditFault) → ◌≡◌ {A = Result ℕ EditFault} (Ok n) (Err fault) → ⊥
-ok_is_no_err n fault e = cc
-
--- what was made was not refused
-pub allowed : (s : State) (command : Command) (n : ℕ) → RefusesExactly s command (Ok n) → refusal_message s command ≡ None
-allowed s command n exact = of (refusal_message s command) refl
-  where
-    of : (cause : Option EditFault) → refusal_message s command ≡ cause → cause ≡ None
-    of None e = refl
-    of (Some NoSection) e = absurd (ok_is_no_err n NoSection ((exact NoSection (λ same. cc)).1 e))
-    of (Some OutOfRange) e = absurd (ok_is_no_err n OutOfRange ((exact OutOfRange (λ same. cc)).1 e))
-    of (Some (IdsSpent c)) e = absurd (ok_is_no_err n (IdsSpent c) ((exact (IdsSpent c) (λ same. cc)).1 e))
-    of (Some (TooMany c)) e = absurd (ok_is_no_err n (TooMany c) ((exact (TooMany c) (λ same. cc)).1 e))
-    of (Some NoMemory) e = absurd (never_memory s command e)
 
 -- an edit by scalars that was made is the edit by clusters
 pub made_in : (old new : State) (command by other : Command) (result : Result ℕ EditFault) → other ≡ command → by ≡ by_scalars old command → line_refusal old command ≡ refusal_message old by

@@ -18,13 +18,13 @@ use Rattle.origin_model.specs.edits.State.{State}
 use Rattle.origin_model.specs.declared.edit_fault.EditFault.{EditFault}
 use Rattle.origin_model.specs.declared.edit_fault.EditFault.TheVariants.{OutOfRange}
 use Rattle.origin_model.specs.declared.operations.Place.TheVariants.{Catalogue as catalogue, Section as within}
+use Rattle.origin_model.proofs.edits.AllowedLemmas.{allowed}
 use Rattle.origin_model.proofs.edits.EditedTextLemmas.{IsTextEdit, add_keeps_texts, cut_erases, drop_keeps_texts, put_writes, text_length}
 use Rattle.section_catalogue.specs.Contents.{entry_at}
 use Rattle.cluster_text.specs.Clusters.{clusters, scalars, span}
 use Rattle.edit_script.specs.Lines.{HasNoSpan}
 use Rattle.edit_script.specs.Scripts.{clusters_in}
 use Rattle.edit_script.specs.Sections.{AreOf, changed, IsPassage, text_in}
-use Rattle.edit_script.proofs.MakingLemmas.{allowed}
 
 -- where each text stays, what is kept of them does
 same_texts : (texts : List (Identifier × List ℕ)) (old new : State) → ((t : Identifier) → text new.held.history t ≡ text old.held.history t) → AreOf texts old → AreOf texts new

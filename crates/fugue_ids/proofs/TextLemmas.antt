@@ -1,8 +1,18 @@
 -- The bytes of a text, and the scalars that they spell.
-use Rattle.std.proofs.Common.{◌≡◌, ℕ, List, sym, ◌∙◌, ap, Bool, true, false, nat_eq, refl}
+use Rattle.std.proofs.Common.{◌≡◌, ℕ, List, [], ◌∷◌, ◌++◌, append_assoc, flat_map, sym, ◌∙◌, ap, Bool, true, false, nat_eq, refl}
 use Rattle.std.specs.Str.{chars, encode_utf8_all, IsUtf8}
 use Rattle.std.proofs.lemmas.Str.{chars-encodes}
 use lib.Pointwise.{pointwise, bytes_decides}
+use lib.Utf8.{encode}
+
+-- a text is written in UTF-8 part by part
+pub encode-append : (a b : List ℕ) → encode_utf8_all (a ++ b) ≡ encode_utf8_all a ++ encode_utf8_all b
+encode-append [] b = refl
+encode-append (x ∷ a) b = ap (λ (t : List ℕ). encode x ++ t) (encode-append a b) ∙ sym (append_assoc (encode x) (encode_utf8_all a) (encode_utf8_all b))
+
+pub encode-parts : {X : Type 0} (f : X → List ℕ) (xs : List X) → encode_utf8_all (flat_map f xs) ≡ flat_map (λ x. encode_utf8_all (f x)) xs
+encode-parts f [] = refl
+encode-parts f (x ∷ xs) = encode-append (f x) (flat_map f xs) ∙ ap (λ (t : List ℕ). encode_utf8_all (f x) ++ t) (encode-parts f xs)
 
 -- a text is the UTF-8 of its scalars
 pub encode_utf8_all-chars : (bytes : List ℕ) → IsUtf8 bytes → encode_utf8_all (chars bytes) ≡ bytes

@@ -7,6 +7,7 @@ mod element_id;
 mod gather;
 mod key;
 mod limits;
+mod line;
 mod no_memory;
 mod note_names;
 mod op;
@@ -22,9 +23,10 @@ pub use key::{Gap, Key, Side};
 pub use limits::{
     BUFFER, GREATEST_HOLD, LONGEST_BODY, LONGEST_TITLE, MOST_NAMES, MOST_OPERATIONS, STREAM_LIMIT,
 };
+pub use line::{has_line_end, is_line, is_utf8};
 pub use no_memory::NoMemory;
 pub use note_names::NoteNames;
 pub use op::{Op, OpKey};
 pub use order_of::OrderOf;
-pub use out::{Failed, Out, write_heading, write_pieces, write_scalar, write_whole};
-pub use title::{Title, TitleFault, has_line_end};
+pub use out::{Failed, Out, Sink, write_heading, write_pieces, write_scalar, write_whole};
+pub use title::{Title, TitleFault};

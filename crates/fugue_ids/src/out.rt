@@ -28,6 +28,9 @@ pub trait Out {
         ensures { WritesSome (seen self.old) (seen self.new) result piece.now };
 }
 
+/// Where a program's bytes go to.
+pub trait Sink: Out {}
+
 /// Writes the whole piece, or fails with a front of it written.
 pub fn write_whole<O: Out>(out: &mut O, piece: &[u8]) -> Result<(), Failed>
     ensures { WritesBytes (O.seen out.old) (O.seen out.new) result piece.now }

@@ -2,7 +2,7 @@ ghost use Rattle.std.specs.Prelude.{◌≡◌, ◌≢◌, ◌↔◌, ◌<◌, �
 ghost use Rattle.std.specs.Str.{chars as scalars_in, encode_utf8_all};
 ghost use Rattle.fugue_ids.specs.Titles.{has_line_end as has_line_end_in, IsTitleText};
 
-use crate::{LONGEST_TITLE, NoMemory};
+use crate::{LONGEST_TITLE, NoMemory, has_line_end};
 use std::alloc::{AllocError, Global};
 use std::error::Error;
 use std::fmt;
@@ -122,11 +122,4 @@ impl Eq for Title {
     ghost use Rattle.std.proofs.lemmas.Cmp.{nat_list_eq_equiv};
 
     ghost laws = { nat_list_eq_equiv };
-}
-
-/// Whether an LF or a CR stands in the bytes.
-pub fn has_line_end(bytes: &[u8]) -> bool
-    ensures { result ≡ has_line_end_in bytes.now }
-{
-    bytes.iter().any(|byte| *byte == b'\n' || *byte == b'\r')
 }

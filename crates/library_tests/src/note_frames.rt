@@ -1,6 +1,6 @@
 use crate::assertions::{equal, equal_at, holds_at};
 use crate::ids::id;
-use crate::run_readings::{behind_section, pushed, read_all, read_bytes};
+use crate::run_readings::{begins_frame, behind_section, pushed, read_all, read_bytes};
 use fugue_ids::{Body, BodyFault, ElementId, NoMemory, NoteNames, Op};
 use op_frame::{First, FrameFault, FrameReader, Grown, encode, first_frame};
 use origin_model::Grammar;
@@ -85,14 +85,7 @@ fn notes_are_written_byte_for_byte_and_read_back(rt: HostRuntime) -> Result<(), 
 fn a_note_is_cut_at_each_byte(rt: HostRuntime) -> Result<(), Fail> {
     for len in 1..THREE_NAMES.len() {
         let front = &THREE_NAMES[..len];
-        let first = first_frame(rt.alloc(), front)?;
-        holds_at(&rt, &len, matches!(first, First::Prefix));
-        equal_at(
-            &rt,
-            &len,
-            pushed(Grammar::Version2, front),
-            (len, Grown::Front),
-        );
+        begins_frame(&rt, front)?;
         let answer = read_bytes(&rt, behind_section(&rt, front)?)?;
         equal_at(&rt, &len, answer, (1, Err(FrameFault::CutShort(14))));
     }

@@ -8,6 +8,7 @@ use op_frame::{
 };
 use origin_model::Grammar;
 use outer_ports::{MemSource, Source, SureSource};
+use std::process::Abort;
 use std::test::Fail;
 
 /// The frame of a Section.
@@ -126,20 +127,23 @@ pub fn read_bytes(
     Ok(read_all(&mut reader, &mut source))
 }
 
+/// The bytes begin a frame, and are none: the machine takes all of them.
+pub fn begins_frame(rt: &(impl Abort + AllocGlobal), front: &[u8]) -> Result<(), NoMemory> {
+    let len = front.len();
+    let first = first_frame(rt.alloc(), front)?;
+    holds_at(rt, &len, matches!(first, First::Prefix));
+    let pushed = pushed(Grammar::Version2, front);
+    equal_at(rt, &len, pushed, (len, Grown::Front));
+    Ok(())
+}
+
 #[test]
 fn a_run_is_cut_at_each_byte(rt: HostRuntime) -> Result<(), Fail> {
     let bytes = encoded(&rt, &typed_row(&rt, 7, 3, Some(id(9, 1)), &None)?)?;
     equal(&rt, bytes.len(), 38);
     for len in 0..bytes.len() {
         let front = &bytes[..len];
-        let first = first_frame(rt.alloc(), front)?;
-        holds_at(&rt, &len, matches!(first, First::Prefix));
-        equal_at(
-            &rt,
-            &len,
-            pushed(Grammar::Version2, front),
-            (len, Grown::Front),
-        );
+        begins_frame(&rt, front)?;
         let answer = read_bytes(&rt, behind_section(&rt, front)?)?;
         let end = if len == 0 {
             Ok(())

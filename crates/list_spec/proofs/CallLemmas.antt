@@ -1,15 +1,15 @@
 -- A call that edits a replica is an edit of the world, for want of memory a smaller one; one that makes a note is a noting, or for want of memory none.
-use Rattle.std.proofs.Common.{Bool, List, [], ap, arith, false, inl, inr, length, nat_lt, refl, subst, sym, true, ◌&&◌, ◌+◌, ◌-◌, ◌<◌, ◌^◌, ◌∙◌, ◌≡◌, ◌≢◌, ◌≤◌, ◌⊎◌, ℕ}
+use Rattle.std.proofs.Common.{Bool, List, [], ap, arith, false, inl, inr, length, nat_lt, refl, subst, sym, ◌&&◌, ◌+◌, ◌-◌, ◌<◌, ◌^◌, ◌∙◌, ◌≡◌, ◌≢◌, ◌≤◌, ◌⊎◌, ℕ}
 use Rattle.std.specs.Prelude.{Err, None, Ok, Option, Some, if◌then◌else◌, slice_get, take}
 use Rattle.std.proofs.lemmas.Bool.{le-ltb, ltb-false}
 use Rattle.std.proofs.lemmas.Bool.Decides.{nat_tests}
 use Rattle.std.proofs.lemmas.List.{length-take, take_all}
 use Rattle.std.proofs.lemmas.List.Sums.{list_all-from_AllPass}
-use Rattle.fugue_ids.specs.Identifiers.{Identifier}
 use Rattle.origin_model.specs.operations.History.{holds}
 use Rattle.origin_model.specs.declared.operations.Place.TheVariants.{Catalogue as catalogue, Section as within}
 use Rattle.origin_model.specs.order.Printed.{shown}
 use Rattle.origin_model.specs.edits.Edits.{Add, Command, Cut, DropSection, Put, put_in}
+use Rattle.origin_model.proofs.edits.AllowedLemmas.{never_memory, never_more}
 use Rattle.origin_model.proofs.edits.MadeLemmas.{cut_front, drop_made, put_front}
 use Rattle.origin_model.specs.edits.State.{State}
 use Rattle.origin_model.specs.edits.Refusal.{held_count, in_range, in_section, made_by, next_of_own, refusal_message, refused_elements, refused_ops, section_shown, shown_count}
@@ -21,35 +21,6 @@ use Rattle.origin_model.proofs.edits.RefusalLemmas.{cut_count, if_none, position
 use Rattle.list_spec.specs.Calls.{CallsAreEdits, CallsAreNotings, IsEdit, IsEditCall}
 use Rattle.list_spec.specs.Worlds.{effect}
 use Rattle.list_spec.proofs.EffectLemmas.{made_none, made_whole, note_refused, note_whole}
-
--- want of memory is no cause of a refusal
-abbrev IsNamed : Option EditFault → Type 0
-IsNamed o = o ≢ Some NoMemory
-
-named_if : (b : Bool) (fault : EditFault) (rest : Option EditFault) → fault ≢ NoMemory → IsNamed rest → IsNamed (if b then Some fault else rest)
-named_if true fault rest n m e = let d : fault ≡ NoMemory = cc e in n d
-named_if false fault rest n m e = m e
-
-named_ops : (s : State) (n : ℕ) → IsNamed (refused_ops s n)
-named_ops s n = named_if _ _ None (λ e. cc e) (λ e. cc e)
-
-named_elements : (s : State) (n : ℕ) → IsNamed (refused_elements s n)
-named_elements s n = named_if _ _ (refused_ops s n) (λ e. cc e) (named_ops s n)
-
-named_range : (position count : ℕ) (rest : Option EditFault) → IsNamed rest → IsNamed (in_range position count rest)
-named_range position count rest m = named_if _ OutOfRange rest (λ e. cc e) m
-
-named_section : (o : Option Identifier) (cause : Identifier → Option EditFault) → ((x : Identifier) → IsNamed (cause x)) → IsNamed (in_section o cause)
-named_section None cause m e = cc e
-named_section (Some x) cause m e = m x e
-
-named : (command : Command) (s : State) → IsNamed (refusal_message s command)
-named (Put k at new) s =
-    named_section (section_shown s k) (λ x. in_range at (shown_count s (within x)) (refused_elements s (length new)))
-    (λ x. named_range at (shown_count s (within x)) (refused_elements s (length new)) (named_elements s (length new)))
-named (Cut k at n) s = named_section (section_shown s k) _ (λ x. named_range _ (shown_count s (within x)) (refused_ops s n) (named_ops s n))
-named (Add at title) s = named_range at (shown_count s catalogue) (refused_elements s 1) (named_elements s 1)
-named (DropSection k) s = named_section (section_shown s k) (λ x. refused_ops s 1) (λ x. named_ops s 1)
 
 -- fewer operations are not too many, where more are not
 fewer_ops : (s : State) (m n : ℕ) → m ≤ n → refused_ops s n ≡ None → refused_ops s m ≡ None
@@ -170,7 +141,7 @@ stopped_is command old new call =
   where
     other : (fault : EditFault) → refusal_message old command ≡ Some fault → ⊥
     other fault k =
-        let named_one : fault ≢ NoMemory = λ d. named command old (k ∙ ap Some d) in
+        let named_one : fault ≢ NoMemory = λ d. never_memory old command (k ∙ ap Some d) in
         let same : Err NoMemory ≡ Err fault = (call.refused fault named_one).1 k in
         named_one (cc same)
 
@@ -187,7 +158,7 @@ made_is command old new n call =
     }
   where
     other : (fault : EditFault) → refusal_message old command ≡ Some fault → ⊥
-    other fault k = cc ((call.refused fault (λ d. named command old (k ∙ ap Some d))).1 k)
+    other fault k = cc ((call.refused fault (λ d. never_memory old command (k ∙ ap Some d))).1 k)
 
 -- every call that edits is an edit of the world
 pub calls_are_edits : CallsAreEdits
@@ -200,7 +171,7 @@ calls_are_edits command old new (Err fault) call =
 
 -- want of memory does not refuse a note
 note_named : (s : State) (fault : EditFault) → note_refusal s ≡ Some fault → fault ≢ NoMemory
-note_named s fault k e = named_elements s 1 (k ∙ ap Some e)
+note_named s fault k e = never_more s 1 (k ∙ ap Some e)
 
 -- every call that makes a note is a noting of the world, or for want of memory none
 pub calls_are_notings : CallsAreNotings

@@ -1,7 +1,7 @@
 ghost use Rattle.manuscript_cli.specs.Arrange.{arrange_tells};
 
 use crate::refusal::Refusal;
-use crate::report::Report;
+use crate::report::{Report, Told};
 use crate::text_out::gone_out;
 use catalogue_notes::{ArrangeFault, write_arranged};
 use fugue_ids::Failed;
@@ -15,12 +15,7 @@ pub(crate) struct Arrangement;
 impl Report for Arrangement {
     ghost Tells = { λ what. arrange_tells };
 
-    fn write<O: Sink>(
-        &self,
-        alloc: Global,
-        replica: &Replica,
-        output: &mut O,
-    ) -> Result<(), Refusal> {
+    fn write<O: Sink>(&self, alloc: Global, replica: &Replica, output: &mut O) -> Told {
         match write_arranged(alloc, replica, output) {
             Ok(()) => gone_out(Ok(())),
             Err(ArrangeFault::SinkFault) => gone_out(Err(Failed)),

@@ -9,7 +9,7 @@ ghost use Rattle.manuscript_cli.specs.declared.refusal.Refusal.TheVariants.{Outs
 
 use crate::Status;
 use crate::refusal::{Refusal, tell};
-use crate::report::{Report, write_report};
+use crate::report::{Report, Told, write_report};
 use crate::text_out::gone_out;
 use fugue_ids::{BUFFER, NoMemory, write_whole};
 use order_proof::check_text;
@@ -51,12 +51,7 @@ struct Verdict {
 impl Report for Verdict {
     ghost Tells = { λ what. check_tells what.text.items };
 
-    fn write<O: Sink>(
-        &self,
-        alloc: Global,
-        replica: &Replica,
-        output: &mut O,
-    ) -> Result<(), Refusal> {
+    fn write<O: Sink>(&self, alloc: Global, replica: &Replica, output: &mut O) -> Told {
         let valid = is_valid(alloc, replica, &self.text)?;
         gone_out(write_whole(output, answer(valid)))
     }

@@ -6,7 +6,7 @@ ghost use Rattle.manuscript_cli.specs.Margins.{comment_on, comment_refused, comm
 use crate::noting::MakesNote;
 use crate::number::index_of;
 use crate::refusal::Refusal;
-use crate::report::Report;
+use crate::report::{Report, Told};
 use crate::text_out::gone_out;
 use fugue_ids::{Body, Failed};
 use margin_notes::{CommentFault, MarginFault, comment, is_text, write_comments};
@@ -76,12 +76,7 @@ pub(crate) struct Comments;
 impl Report for Comments {
     ghost Tells = { λ what. comments_tells };
 
-    fn write<O: Sink>(
-        &self,
-        alloc: Global,
-        replica: &Replica,
-        output: &mut O,
-    ) -> Result<(), Refusal> {
+    fn write<O: Sink>(&self, alloc: Global, replica: &Replica, output: &mut O) -> Told {
         match write_comments(alloc, replica, output) {
             Ok(()) => gone_out(Ok(())),
             Err(MarginFault::SinkFault) => gone_out(Err(Failed)),

@@ -1,7 +1,7 @@
 ghost use Rattle.manuscript_cli.specs.Report.{print_tells};
 
 use crate::refusal::Refusal;
-use crate::report::Report;
+use crate::report::{Report, Told};
 use crate::text_out::gone_out;
 use outer_ports::Sink;
 use replica_core::Replica;
@@ -13,12 +13,7 @@ pub(crate) struct Manuscript;
 impl Report for Manuscript {
     ghost Tells = { λ what. print_tells };
 
-    fn write<O: Sink>(
-        &self,
-        _alloc: Global,
-        replica: &Replica,
-        output: &mut O,
-    ) -> Result<(), Refusal> {
+    fn write<O: Sink>(&self, _alloc: Global, replica: &Replica, output: &mut O) -> Told {
         gone_out(replica.write_manuscript(output))
     }
 

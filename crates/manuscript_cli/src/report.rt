@@ -14,18 +14,16 @@ use outer_ports::{Disk, Sink};
 use replica_core::Replica;
 use std::alloc::Global;
 
+/// Whether a text was written, or why there is none.
+pub(crate) type Told = Result<(), Refusal>;
+
 /// What a command tells of what a file's replica holds.
 pub(crate) trait Report {
     /// The text that it is, or why there is none.
     ghost Tells: { Self → AnyReplica → Finding (List ℕ) → Type 0 };
 
     /// Writes the text. Where there is none, or memory is wanting, nothing goes out.
-    fn write<O: Sink>(
-        &self,
-        alloc: Global,
-        replica: &Replica,
-        output: &mut O,
-    ) -> Result<(), Refusal>
+    fn write<O: Sink>(&self, alloc: Global, replica: &Replica, output: &mut O) -> Told
         ensures { ReportGoesOut (Tells self.now replica.now)
             (change (O.seen output.old) (O.seen output.new)) result };
 

@@ -2,7 +2,7 @@ ghost use Rattle.std.specs.Prelude.{◌≡◌, IfOk};
 ghost use Rattle.manuscript_cli.specs.Report.{frames_held, send_tells};
 
 use crate::refusal::Refusal;
-use crate::report::Report;
+use crate::report::{Report, Told};
 use crate::text_out::gone_out;
 use fugue_ids::{NoMemory, write_whole};
 use op_frame::encode_all;
@@ -16,12 +16,7 @@ pub(crate) struct Frames;
 impl Report for Frames {
     ghost Tells = { λ what. send_tells };
 
-    fn write<O: Sink>(
-        &self,
-        alloc: Global,
-        replica: &Replica,
-        output: &mut O,
-    ) -> Result<(), Refusal> {
+    fn write<O: Sink>(&self, alloc: Global, replica: &Replica, output: &mut O) -> Told {
         let frames = frames_of(alloc, replica)?;
         gone_out(write_whole(output, &frames))
     }

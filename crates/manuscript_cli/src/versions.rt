@@ -10,7 +10,7 @@ ghost use Rattle.manuscript_cli.specs.declared.refusal.Refusal.TheVariants.{NoMe
 
 use crate::noting::MakesNote;
 use crate::refusal::Refusal;
-use crate::report::Report;
+use crate::report::{Report, Told};
 use crate::text_out::gone_out;
 use crate::version_name::VersionName;
 use fugue_ids::Body;
@@ -68,12 +68,7 @@ pub(crate) struct Versions;
 impl Report for Versions {
     ghost Tells = { λ what. versions_tells };
 
-    fn write<O: Sink>(
-        &self,
-        _alloc: Global,
-        replica: &Replica,
-        output: &mut O,
-    ) -> Result<(), Refusal> {
+    fn write<O: Sink>(&self, _alloc: Global, replica: &Replica, output: &mut O) -> Told {
         gone_out(write_versions(replica, output))
     }
 
@@ -89,12 +84,7 @@ pub(crate) struct View<'a> {
 impl<'a> Report for View<'a> {
     ghost Tells = { λ what. view_tells what.name.now };
 
-    fn write<O: Sink>(
-        &self,
-        _alloc: Global,
-        replica: &Replica,
-        output: &mut O,
-    ) -> Result<(), Refusal> {
+    fn write<O: Sink>(&self, _alloc: Global, replica: &Replica, output: &mut O) -> Told {
         let Some(count) = find_version(replica, self.name) else {
             return Err(none_named(self.name));
         };

@@ -5,7 +5,7 @@ ghost use Rattle.order_proof.specs.Certificates.{Claims, IsValid};
 ghost use Rattle.manuscript_cli.specs.Why.{HasPlaces, why_tells};
 
 use crate::refusal::Refusal;
-use crate::report::Report;
+use crate::report::{Report, Told};
 use crate::text_out::gone_out;
 use fugue_ids::{ElementId, NoMemory};
 use order_proof::{Proof, prove, write_proof};
@@ -56,12 +56,7 @@ impl Why {
 impl Report for Why {
     ghost Tells = { λ what. why_tells what.section what.first what.second };
 
-    fn write<O: Sink>(
-        &self,
-        alloc: Global,
-        replica: &Replica,
-        output: &mut O,
-    ) -> Result<(), Refusal> {
+    fn write<O: Sink>(&self, alloc: Global, replica: &Replica, output: &mut O) -> Told {
         let Some((x, y)) = self.elements(replica) else {
             return Err(Refusal::NoSuchPlaces);
         };

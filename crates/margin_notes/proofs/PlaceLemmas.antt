@@ -4,16 +4,13 @@ use Rattle.std.specs.Prelude.{◌≢◌, IfSome, IsNone, IsSome, is_some, ◌↔
 use Rattle.std.proofs.lemmas.Bool.{cases_lt}
 use Rattle.std.proofs.lemmas.List.Kept.{AllPairs-filter}
 use Rattle.std.proofs.lemmas.List.{length-append, take-append-drop}
-use Rattle.std.proofs.lemmas.List.Edits.{length-insert}
 use Rattle.std.proofs.lemmas.List.Sums.{count_by-le-length, length-filter}
 use Rattle.fugue_ids.specs.Listed.{index_of}
-use Rattle.fugue_ids.proofs.IdentifierLemmas.{below-contains, cases_origin, contains-below}
+use Rattle.fugue_ids.proofs.IdentifierLemmas.{below-contains, contains-below}
 use Rattle.fugue_ids.proofs.ListLemmas.{contains_filter, contains_filter_from}
-use Rattle.origin_model.specs.operations.History.{element_of}
 use Rattle.origin_model.specs.order.Laws.{IsTotal}
-use Rattle.origin_model.specs.order.Order.{before_in}
 use Rattle.origin_model.specs.order.Printed.{deletes}
-use Rattle.origin_model.proofs.SharedLemmas.{element_stands, order-none, order-some, order_total}
+use Rattle.origin_model.proofs.SharedLemmas.{element_stands, order_bounded, order_total}
 use Rattle.section_list.specs.Cells.{Cell, is_hidden_in_section as hidden_in, section_cell_ids, section_shown_before}
 use Rattle.section_list.specs.SectionList.{Listing}
 use Rattle.section_catalogue.specs.Contents.{Contents, listed_count, section_at, text_at}
@@ -22,7 +19,6 @@ use Rattle.section_catalogue.specs.Place.{place_held}
 use Rattle.section_catalogue.specs.declared.tables.Section.{Section as Titled}
 use Rattle.section_catalogue.proofs.BoundLemmas.{places_bounded}
 use Rattle.section_catalogue.proofs.ConditionLemmas.{held_at}
-use Rattle.section_catalogue.proofs.HolderLemmas.{order-nothing}
 use Rattle.section_catalogue.proofs.ShownLemmas.{look_ups_agree}
 use Rattle.replica_core.specs.Index.{position_of}
 use Rattle.margin_notes.specs.Listing.{number_from, text_section}
@@ -49,19 +45,7 @@ none_placed None p e n = refl
 pub text_is_in : (h : List Op) (s x : Identifier) → text_section (holder h x) ≡ Some s → IsIn (within s) h x
 text_is_in h s x e = text_in s h x (held_text (holder h x) s e)
 
--- an order has at most one member for each operation, and so has what is shown
-order_bounded : (p : Place) (h : List Op) → length (order p h) ≤ length h
-order_bounded p [] = let e : order p [] ≡ [] = order-nothing p in omega (arith, ap length e)
-order_bounded p (op ∷ h) =
-    let rest : length (order p h) ≤ length h = order_bounded p h in
-    elim (cases_origin (element_of p op)) [
-      | inl e ↦ omega (arith, ap length (order-none p op h e), rest)
-      | inr f ↦
-          let old : List Identifier = order p h in
-          let b : Identifier → Bool = λ z. before_in old (op ∷ h) z f.0 in
-          omega (arith, ap length (order-some p op h f.0 f.1), length-insert old (count_by b old) f.0 (count_by-le-length b old), rest)
-    ]
-
+-- what is shown has at most one member for each operation
 pub shown_bounded : (p : Place) (h : List Op) → length (shown p h) ≤ length h
 shown_bounded p h =
     let visible : Identifier → Bool = λ x. not (is_hidden h x) in

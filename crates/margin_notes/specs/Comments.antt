@@ -1,8 +1,7 @@
 -- Comments on passages: notes of code 3, which name the first and the last scalar of what they are about. A history is newest first.
-use Rattle.std.specs.Prelude.{ℕ, nat_eq, nat_le, nat_lt, Option, Some, None, Bool, false, if◌then◌else◌, not, ◌&&◌, ◌||◌, List, [], ◌∷◌, filter, flat_map, length, option_to_list}
-use Rattle.std.specs.Str.{is_utf8}
+use Rattle.std.specs.Prelude.{ℕ, nat_eq, Option, Some, None, Bool, false, if◌then◌else◌, not, ◌&&◌, ◌||◌, List, [], ◌∷◌, filter, flat_map, option_to_list}
 use Rattle.fugue_ids.specs.Identifiers.{Identifier, id_eq, id_lt}
-use Rattle.fugue_ids.specs.Titles.{has_line_end}
+use Rattle.fugue_ids.specs.Titles.{is_line}
 use Rattle.fugue_ids.specs.declared.limits.TheConstants.{LONGEST_BODY}
 use Rattle.fugue_ids.specs.declared.op.Op.{Op}
 use Rattle.fugue_ids.specs.declared.op.Op.TheVariants.{Note}
@@ -21,7 +20,7 @@ pub record Comment : Type 0 where
 
 -- the bytes are a comment's text: UTF-8 of 1 to 1,024 bytes without LF and CR
 abbrev pub is_text : List ℕ → Bool
-is_text bytes = is_utf8 bytes && nat_lt 0 (length bytes) && nat_le (length bytes) LONGEST_BODY && not (has_line_end bytes)
+is_text bytes = is_line LONGEST_BODY bytes
 
 -- what a note of this code says by its names and its body, where it has the shape of a comment
 abbrev pub comment_of : Identifier → List Identifier → List ℕ → Option Comment

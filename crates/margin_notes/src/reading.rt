@@ -1,11 +1,10 @@
 //! Which operations are comments.
-ghost use Rattle.std.specs.Prelude.{◌≡◌, ◌&&◌, length, nat_le, nat_lt, option_map, slice_get};
-ghost use Rattle.std.specs.Str.{is_utf8};
+ghost use Rattle.std.specs.Prelude.{◌≡◌, option_map, slice_get};
 ghost use Rattle.margin_notes.specs.Comments.{comment_in, comment_of, is_text as is_text_of};
 ghost use Rattle.margin_notes.specs.Listing.{anchors_of, body_in as body_on, body_of};
 
 use crate::COMMENT_CODE;
-use fugue_ids::{ElementId, LONGEST_BODY, Op, has_line_end};
+use fugue_ids::{ElementId, LONGEST_BODY, Op, is_line};
 
 /// A comment, without its text.
 #[derive(Clone, Copy, Debug, PartialEq, Eq)]
@@ -15,23 +14,11 @@ pub(crate) struct Anchors {
     pub last: ElementId,
 }
 
-fn is_utf8_text(bytes: &[u8]) -> bool
-    ensures { result ≡ is_utf8 bytes.now }
-{
-    std::str::from_utf8(bytes).is_ok()
-}
-
-fn has_text_length(bytes: &[u8]) -> bool
-    ensures { result ≡ (nat_lt 0 (length bytes.now) && nat_le (length bytes.now) LONGEST_BODY) }
-{
-    !bytes.is_empty() && bytes.len() <= LONGEST_BODY
-}
-
 /// Whether the bytes are the text of a comment: UTF-8 of 1 to 1,024 bytes without LF and CR.
 pub fn is_text(bytes: &[u8]) -> bool
     ensures { result ≡ is_text_of bytes.now }
 {
-    is_utf8_text(bytes) && has_text_length(bytes) && !has_line_end(bytes)
+    is_line(bytes, LONGEST_BODY)
 }
 
 fn anchors_with(id: ElementId, names: &[ElementId], body: &[u8]) -> Option<Anchors>
@@ -56,9 +43,9 @@ pub(crate) fn anchors_in(op: &Op) -> Option<Anchors>
 {
     match op {
         Op::Note {
+            code,
             id,
             names,
-            code,
             body,
         } if *code == COMMENT_CODE => anchors_with(*id, names.as_slice(), body.as_slice()),
         _ => None,

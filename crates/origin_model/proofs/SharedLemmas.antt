@@ -6,7 +6,7 @@ pub use Rattle.origin_model.proofs.operations.OneLookUpLemmas.{owns}
 pub use Rattle.origin_model.proofs.operations.OwnIdLemmas.{lawful_own, other_ids}
 pub use Rattle.origin_model.proofs.operations.FoundedLemmas.{no_text_before, not_hidden_before, ready_is_new, same_nodes_same_order, section_first, shown_can_go, target_is_shown}
 pub use Rattle.origin_model.proofs.order.OrderLawLemmas.{Within-part, hidden-has, later_ops_keep_order, order_total, parts_keep_order}
-pub use Rattle.origin_model.proofs.order.OrderLemmas.{IsIn-held, further, lefts-in, order-none, order-some, right_at_in, rights-in}
+pub use Rattle.origin_model.proofs.order.OrderLemmas.{IsIn-held, further, lefts-in, order-none, order-some, order_bounded, right_at_in, rights-in}
 pub use Rattle.origin_model.proofs.order.PositionLemmas.{index_end, origin_before}
 pub use Rattle.origin_model.proofs.order.PrintedLemmas.{section_joins}
 pub use Rattle.origin_model.proofs.sides.DetachedLemmas.{absent_stays, found_without, newest_taken_back, nodes_stay}

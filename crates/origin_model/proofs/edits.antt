@@ -13,3 +13,4 @@ pub mod RefusalLemmas
 pub mod NotedLemmas
 pub mod EditExamples
 pub mod PassageLemmas
+pub mod AllowedLemmas

@@ -25,11 +25,12 @@ pub use disk::{
     sync_brings_none,
 };
 pub use dock::{Dock, DockStep, MemDock, MemStep, SureDock, TcpDock};
+pub use fugue_ids::Sink;
 pub use mem_sink::MemSink;
 pub use mem_source::MemSource;
 pub use std_sink::StdSink;
 pub use std_source::StdSource;
-pub use streams::{Sink, Source};
+pub use streams::Source;
 pub use sure_sink::SureSink;
 pub use sure_source::SureSource;
 pub use wire::{MemWire, SureWire, TcpWire, Wire};

@@ -1,9 +1,6 @@
 ghost use Rattle.outer_ports.specs.Sources.{SourceView, ReadsSome};
 
-use fugue_ids::{Failed, Out};
-
-/// Where a program's bytes go to.
-pub trait Sink: Out {}
+use fugue_ids::Failed;
 
 /// Where a program's bytes come from.
 pub trait Source {

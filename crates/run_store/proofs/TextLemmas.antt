@@ -1,9 +1,10 @@
 -- The text of runs, part by part.
-use Rattle.std.proofs.Common.{◌≡◌, ℕ, zero, suc, ◌<◌, ◌≤◌, true, false, not, List, [], ◌∷◌, ◌++◌, ap, append_assoc, arith, drop, length, refl, sym, take, ◌∙◌}
+use Rattle.std.proofs.Common.{◌≡◌, ℕ, zero, suc, ◌<◌, ◌≤◌, true, false, not, List, [], ◌∷◌, ◌++◌, ap, arith, drop, length, refl, sym, take, ◌∙◌}
 use Rattle.std.specs.Prelude.{None, Ok, Some, flat_map, if◌then◌else◌, map, option_map, slice_get}
 use Rattle.std.specs.Str.{encode_utf8_all}
 use Rattle.std.proofs.lemmas.List.{map-append}
 use lib.Utf8.{encode}
+use Rattle.fugue_ids.proofs.TextLemmas.{encode-append}
 use Rattle.fugue_ids.specs.Gathers.{GathersText}
 use Rattle.fugue_ids.specs.Outs.{OutView}
 use Rattle.run_store.specs.Cells.{cell_text, cells_shown}
@@ -21,10 +22,6 @@ use Rattle.run_store.proofs.VisibleLemmas.{visible-append}
 pub encoded-parts : (xs : List ℕ) → flat_map encode xs ≡ encode_utf8_all xs
 encoded-parts [] = refl
 encoded-parts (x ∷ xs) = ap (λ ys. encode x ++ ys) (encoded-parts xs)
-
-encode-append : (xs ys : List ℕ) → encode_utf8_all (xs ++ ys) ≡ encode_utf8_all xs ++ encode_utf8_all ys
-encode-append [] ys = refl
-encode-append (x ∷ xs) ys = ap (λ zs. encode x ++ zs) (encode-append xs ys) ∙ sym (append_assoc (encode x) (encode_utf8_all xs) (encode_utf8_all ys))
 
 text-append : (xs ys : List Cell) → cell_text (xs ++ ys) ≡ cell_text xs ++ cell_text ys
 text-append xs ys = ap (map (λ (c : Cell). c.ch)) (visible-append xs ys) ∙ map-append (λ (c : Cell). c.ch) (cells_shown xs) (cells_shown ys)

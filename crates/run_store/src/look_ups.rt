@@ -12,8 +12,7 @@ ghost use Rattle.run_store.specs.Shown.{IsInHand};
 use crate::find::Spot;
 use crate::shown::Shown;
 use crate::store::RunStore;
-use fugue_ids::{ElementId, Failed, Gather, MOST_OPERATIONS, OrderOf, Out};
-use outer_ports::Sink;
+use fugue_ids::{ElementId, Failed, Gather, MOST_OPERATIONS, OrderOf, Out, Sink};
 
 impl RunStore {
     /// How many cells there are, hidden ones too.

@@ -16,9 +16,10 @@ use crate::insert::Beginning;
 use crate::letters::Letters;
 use crate::run::Runs;
 use crate::shown::Shown;
-use fugue_ids::{ElementId, Failed, Gap, Gather, Key, MOST_OPERATIONS, NoMemory, OrderOf, Out};
+use fugue_ids::{
+    ElementId, Failed, Gap, Gather, Key, MOST_OPERATIONS, NoMemory, OrderOf, Out, Sink,
+};
 use node_rope::Rope;
-use outer_ports::Sink;
 use std::alloc::Global;
 use std::marker::Model;
 

@@ -1,38 +1,21 @@
 -- No place has more elements than the history has operations.
-use Rattle.std.proofs.Common.{Bool, List, [], ap, arith, inl, inr, length, ◌∷◌, ◌≡◌, ◌≤◌}
-use Rattle.std.specs.Prelude.{None, Option, Some, IfSome, option_map, count_by}
+use Rattle.std.proofs.Common.{List, ap, arith, length, ◌≤◌}
+use Rattle.std.specs.Prelude.{None, Option, Some, IfSome, option_map}
 use Rattle.std.proofs.lemmas.List.{length-map}
-use Rattle.std.proofs.lemmas.List.Edits.{length-insert}
-use Rattle.std.proofs.lemmas.List.Sums.{count_by-le-length}
 use Rattle.fugue_ids.specs.Identifiers.{Identifier}
-use Rattle.fugue_ids.proofs.IdentifierLemmas.{cases_origin}
 use Rattle.fugue_ids.specs.declared.op.Op.{Op}
-use Rattle.origin_model.specs.operations.History.{element_of, place}
-use Rattle.origin_model.specs.order.Order.{before_in, order}
+use Rattle.origin_model.specs.operations.History.{place}
+use Rattle.origin_model.specs.order.Order.{order}
 use Rattle.origin_model.specs.declared.operations.Place.{Place}
 use Rattle.origin_model.specs.declared.operations.Place.TheVariants.{Catalogue as catalogue, Section as within}
 use Rattle.section_list.specs.SectionList.{Listing}
 use Rattle.section_catalogue.specs.declared.tables.Section.{Section as Titled}
 use Rattle.section_catalogue.specs.Contents.{Contents, section_count_at, listed_count, place_count, section_at}
 use Rattle.section_catalogue.specs.Place.{Lists, cell_in}
-use Rattle.origin_model.proofs.SharedLemmas.{order-none, order-some}
+use Rattle.origin_model.proofs.SharedLemmas.{order_bounded}
 use Rattle.section_catalogue.specs.Manuscript.{StandsFor}
-use Rattle.section_catalogue.proofs.HolderLemmas.{order-nothing}
 
--- an order has at most one member for each operation
-order_bounded : (p : Place) (h : List Op) → length (order p h) ≤ length h
-order_bounded p [] = let e : order p [] ≡ [] = order-nothing p in omega (arith, ap length e)
-order_bounded p (op ∷ h) =
-    let rest : length (order p h) ≤ length h = order_bounded p h in
-    elim (cases_origin (element_of p op)) [
-      | inl e ↦ omega (arith, ap length (order-none p op h e), rest)
-      | inr f ↦
-          let old : List Identifier = order p h in
-          let b : Identifier → Bool = λ z. before_in old (op ∷ h) z f.0 in
-          omega (arith, ap length (order-some p op h f.0 f.1), length-insert old (count_by b old) f.0 (count_by-le-length b old), rest)
-    ]
-
--- nor has what lists it
+-- what lists a place has at most one member for each operation
 listed_bounded : (p : Place) (h : List Op) (s : Listing) → Lists p h s → length s.cells ≤ length h
 listed_bounded p h s l = omega (arith, ap length l.cells, length-map (order p h) (cell_in h), order_bounded p h)
 

@@ -17,9 +17,8 @@ ghost use Rattle.section_list.specs.Cells.{section_cells_shown, section_shown_be
 ghost use Rattle.section_list.specs.Kept.{KeepsNodes};
 ghost use Rattle.section_list.specs.SectionList.{IsInOrder, empty_listing, with_element, with_hidden};
 
-use fugue_ids::{ElementId, Failed, Gap, Gather, MOST_OPERATIONS, NoMemory, Out};
+use fugue_ids::{ElementId, Failed, Gap, Gather, MOST_OPERATIONS, NoMemory, Out, Sink};
 use origin_model::Node;
-use outer_ports::Sink;
 use run_store::{RunStore, Shown};
 use sided_tree::SidedTree;
 use std::alloc::Global;

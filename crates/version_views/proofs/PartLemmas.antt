@@ -1,9 +1,8 @@
 -- A view, by the parts that the elements of today's lists add.
 use Rattle.version_views.proofs.Words.{Bool, Identifier, Lawful, List, None, Op, Option, Place, Some, [], ap, codes, cond, false, filter, flat_map, holder, holds, if◌then◌else◌, is_hidden, length, manuscript, not, order, refl, shown, subst, sym, take, true, ℕ, ◌&&◌, ◌++◌, ◌-◌, ◌∙◌, ◌∷◌, ◌≡◌}
-use Rattle.std.proofs.Common.{append_assoc}
 use Rattle.std.specs.Prelude.{Err, IfSome, IsSome, Ok, is_some, option_map}
 use Rattle.std.specs.Str.{encode_utf8_all}
-use lib.Utf8.{encode}
+use Rattle.fugue_ids.proofs.TextLemmas.{encode-parts}
 use Rattle.origin_model.specs.declared.operations.Place.TheVariants.{Catalogue as catalogue, Section as within}
 use Rattle.origin_model.specs.order.Printed.{printed_section, scalar_of, text, title_of}
 use Rattle.origin_model.proofs.SharedLemmas.{section_joins}
@@ -43,15 +42,6 @@ section_kept h x =
       | true ↦ elim (holder h x) as (λ (o : Option Op). [] ≡ (if is_some o && false then t else [])) [ None ↦ refl | Some op ↦ refl ]
       | false ↦ elim (holder h x) as (λ (o : Option Op). (elim o [ None ↦ [] | Some op ↦ t ]) ≡ (if is_some o && true then t else [])) [ None ↦ refl | Some op ↦ refl ]
     ]
-
-encode-append : (a b : List ℕ) → encode_utf8_all (a ++ b) ≡ encode_utf8_all a ++ encode_utf8_all b
-encode-append [] b = refl
-encode-append (x ∷ a) b = ap (λ (t : List ℕ). encode x ++ t) (encode-append a b) ∙ sym (append_assoc (encode x) (encode_utf8_all a) (encode_utf8_all b))
-
--- a text in UTF-8 is the UTF-8 of its scalars
-encode-parts : (f : Identifier → List ℕ) (xs : List Identifier) → encode_utf8_all (flat_map f xs) ≡ flat_map (λ x. encode_utf8_all (f x)) xs
-encode-parts f [] = refl
-encode-parts f (x ∷ xs) = encode-append (f x) (flat_map f xs) ∙ ap (λ (t : List ℕ). encode_utf8_all (f x) ++ t) (encode-parts f xs)
 
 -- the parts of a section's elements are the text that the first operations show of it
 pub text_parts : (n : ℕ) (h : List Op) (s : Identifier) → Lawful h → flat_map (scalar_part (first_ops n h)) (order (within s) h) ≡ encode_utf8_all (text (first_ops n h) s)

@@ -1,8 +1,7 @@
 -- Named versions of a file: notes of code 4 without names, made by the file's own replica. A history is newest first.
-use Rattle.std.specs.Prelude.{ℕ, nat_eq, nat_le, nat_lt, Option, Some, None, Bool, false, if◌then◌else◌, not, ◌&&◌, List, [], ◌∷◌, ◌++◌, length, option_map, option_to_list}
-use Rattle.std.specs.Str.{is_utf8}
+use Rattle.std.specs.Prelude.{ℕ, nat_eq, Option, Some, None, Bool, false, if◌then◌else◌, ◌&&◌, List, [], ◌∷◌, ◌++◌, length, option_map, option_to_list}
 use Rattle.fugue_ids.specs.Ops.{id_of}
-use Rattle.fugue_ids.specs.Titles.{has_line_end}
+use Rattle.fugue_ids.specs.Titles.{is_line}
 use Rattle.fugue_ids.specs.declared.op.Op.{Op}
 use Rattle.fugue_ids.specs.declared.op.Op.TheVariants.{Note}
 use Rattle.origin_model.specs.order.Printed.{deletes, is_withdrawn as note_withdrawn}
@@ -16,7 +15,7 @@ pub record Version : Type 0 where
 
 -- the bytes are a name: UTF-8 of 1 to 120 bytes without LF and CR
 abbrev pub is_name : List ℕ → Bool
-is_name bytes = is_utf8 bytes && nat_lt 0 (length bytes) && nat_le (length bytes) LONGEST_NAME && not (has_line_end bytes)
+is_name bytes = is_line LONGEST_NAME bytes
 
 -- the name that an operation gives in a file of the replica r
 abbrev pub name_given : ℕ → Op → Option (List ℕ)

@@ -1,33 +1,17 @@
-ghost use Rattle.std.specs.Prelude.{◌≡◌, ◌&&◌, length, nat_le, nat_lt, option_map};
-ghost use Rattle.std.specs.Str.{is_utf8};
+ghost use Rattle.std.specs.Prelude.{◌≡◌, option_map};
 ghost use Rattle.origin_model.specs.edits.State.{Stands};
 ghost use Rattle.version_views.specs.Versions.{is_name as is_name_of, is_withdrawn as withdrawn_in};
 ghost use Rattle.version_views.specs.Versions.{is_version, name_given, name_in, version_with};
 
 use crate::{LONGEST_NAME, VERSION_CODE};
-use fugue_ids::{Op, OpKey, has_line_end};
+use fugue_ids::{Op, OpKey, is_line};
 use replica_core::Replica;
-
-fn is_text(bytes: &[u8]) -> bool
-    ensures { result ≡ is_utf8 bytes.now }
-{
-    match std::str::from_utf8(bytes) {
-        Ok(_) => true,
-        Err(_) => false,
-    }
-}
-
-fn has_name_length(bytes: &[u8]) -> bool
-    ensures { result ≡ (nat_lt 0 (length bytes.now) && nat_le (length bytes.now) LONGEST_NAME) }
-{
-    !bytes.is_empty() && bytes.len() <= LONGEST_NAME
-}
 
 /// Whether the bytes name a version: UTF-8 of 1 to 120 bytes without LF and CR.
 pub fn is_name(bytes: &[u8]) -> bool
     ensures { result ≡ is_name_of bytes.now }
 {
-    is_text(bytes) && has_name_length(bytes) && !has_line_end(bytes)
+    is_line(bytes, LONGEST_NAME)
 }
 
 /// The name that an operation gives in a file of that number, withdrawn or not.

@@ -281,9 +281,9 @@ fn is_moved(rt: &(impl Abort + AllocGlobal), home: &mut MemDisk) -> bool {
 /// through.
 fn is_whole_after(
     rt: &(impl Abort + AllocGlobal),
+    is_saved: bool,
     home: &MemDisk,
     pick: Pick,
-    is_saved: bool,
 ) -> bool {
     let mut left = home.crash(pick).expect(rt, "memory");
     let is_whole = gives(rt, "arrange F", &mut left, CAB.as_bytes())
@@ -300,7 +300,7 @@ fn crash_at(rt: &(impl Abort + AllocGlobal), call: u32, is_saved: bool) {
     let mut home = MemDisk::new(rt.alloc(), list(rt, SECTIONS), list(rt, &[call]));
     equal_at(rt, &call, is_moved(rt, &mut home), is_saved);
     for pick in PICKS {
-        let is_whole = is_whole_after(rt, &home, *pick, is_saved);
+        let is_whole = is_whole_after(rt, is_saved, &home, *pick);
         holds_at(rt, &(call, pick), is_whole);
     }
     drop(home);

@@ -34,7 +34,7 @@ fn run_at<D: Dock>(
     let mut guest = FileDisk::closed();
     let mut wire = MemWire::new(alloc, Vec::new(alloc), 1, Vec::new(alloc));
     let status = run_line(
-        rt, words, &mut input, output, notes, &mut home, &mut guest, &mut wire, dock,
+        rt, words, &mut wire, dock, &mut home, &mut guest, &mut input, output, notes,
     );
     drop(wire);
     drop(guest);

@@ -26,13 +26,13 @@ fn run_on<N: Sink, H: Disk, W: Wire>(
     let status = run_line(
         rt,
         words,
+        wire,
+        &mut dock,
+        home,
+        &mut guest,
         &mut input,
         &mut output,
         notes,
-        home,
-        &mut guest,
-        wire,
-        &mut dock,
     );
     drop(dock);
     drop(guest);

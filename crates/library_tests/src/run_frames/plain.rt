@@ -15,10 +15,10 @@ fn same(first: &Op, op: &Op, behind: u32) -> bool {
                 ..
             },
             Op::Text {
-                id,
-                section,
                 left,
                 right,
+                id,
+                section,
                 ..
             },
         ) => {
@@ -84,10 +84,10 @@ fn put_run(ops: &[Op], out: &mut Vec<u8>) -> Result<(), NoMemory> {
         return Ok(());
     };
     let Op::Text {
-        id,
         section,
-        left,
+        id,
         right,
+        left,
         ..
     } = first
     else {

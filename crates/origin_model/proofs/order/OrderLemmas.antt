@@ -7,6 +7,7 @@ use Rattle.origin_model.proofs.order.ChainLemmas.{above-all, beside_is, chain-he
 use Rattle.origin_model.proofs.order.OrderedListLemmas.{Ordered-agree, count-yes, none_before, none_pass, placed-ordered}
 use Rattle.origin_model.proofs.order.PositionLemmas.{index-insert, shifted, shifted-eq, shifted-lt}
 use Rattle.origin_model.proofs.order.StrictOrderLemmas.{before_agree, before_in-total, before_in-trans}
+use Rattle.std.proofs.lemmas.List.Edits.{length-insert}
 use Rattle.std.proofs.lemmas.List.Sums.{count_by-le-length}
 
 -- an operation that is no element of the place leaves its order
@@ -18,6 +19,20 @@ order-none p op older e = rw (e, order)
 pub order-some : (p : Place) (op : Op) (older : List Op) (x : Identifier) → element_of p op ≡ Some x → order p (op ∷ older) ≡ placed (λ e. before_in (order p older) (op ∷ older) e x) (order p older) x
 unfolding order
 order-some p op older x e = rw (e, order)
+
+-- an order has at most one member for each operation
+pub order_bounded : (p : Place) (h : List Op) → length (order p h) ≤ length h
+unfolding order
+order_bounded p [] = omega arith
+order_bounded p (op ∷ h) =
+    let rest : length (order p h) ≤ length h = order_bounded p h in
+    elim (cases_origin (element_of p op)) [
+      | inl e ↦ omega (arith, ap length (order-none p op h e), rest)
+      | inr f ↦
+          let old : List Identifier = order p h in
+          let b : Identifier → Bool = λ z. before_in old (op ∷ h) z f.0 in
+          omega (arith, ap length (order-some p op h f.0 f.1), length-insert old (count_by b old) f.0 (count_by-le-length b old), rest)
+    ]
 
 -- no right origin is the newest element
 right_not_newest : (op : Op) (older : List Op) (z c : Identifier) → Lawful (op ∷ older) → is_own z op ≡ true → origin_eq (right_at (op ∷ older) c) (Some z) ≡ false

@@ -1,7 +1,7 @@
 -- What is printed, by the parts that the elements of the list add.
 use Rattle.origin_model.proofs.Words.{Bool, Identifier, List, Op, Place, [], ap, append_assoc, catalogue, codes, cond, false, filter, flat_map, holder, if◌then◌else◌, is_hidden, manuscript, not, place_eq, printed_section, refl, scalar_of, shown, sym, text, true, within, ℕ, ◌&&◌, ◌++◌, ◌∙◌, ◌∷◌, ◌≡◌}
 use Rattle.std.specs.Str.{encode_utf8_all}
-use lib.Utf8.{encode}
+use Rattle.fugue_ids.proofs.TextLemmas.{encode-parts}
 use Rattle.origin_model.specs.declared.order.listing.Listed.{Listed}
 use Rattle.origin_model.specs.order.Listed.{elements_at, ListsAll, part, scalar_bytes_of, shows}
 
@@ -28,15 +28,6 @@ module _ (bytes_of : Identifier → List ℕ) (h : List Op) (p : Place) where
 
   pub parts_shown : (es : List Listed) → ListsAll h es → flat_map (part bytes_of h p) es ≡ flat_map bytes_of (shown p h)
   parts_shown es all = parts_join es ∙ ap (λ (xs : List Identifier). flat_map bytes_of (kept xs)) (all p)
-
-encode-append : (a b : List ℕ) → encode_utf8_all (a ++ b) ≡ encode_utf8_all a ++ encode_utf8_all b
-encode-append [] b = refl
-encode-append (x ∷ a) b = ap (λ (t : List ℕ). encode x ++ t) (encode-append a b) ∙ sym (append_assoc (encode x) (encode_utf8_all a) (encode_utf8_all b))
-
--- a text in UTF-8 is the UTF-8 of its scalars
-encode-parts : (f : Identifier → List ℕ) (xs : List Identifier) → encode_utf8_all (flat_map f xs) ≡ flat_map (λ x. encode_utf8_all (f x)) xs
-encode-parts f [] = refl
-encode-parts f (x ∷ xs) = encode-append (f x) (flat_map f xs) ∙ ap (λ (t : List ℕ). encode_utf8_all (f x) ++ t) (encode-parts f xs)
 
 -- the list's parts of a section are its text
 pub text_parts : (h : List Op) (s : Identifier) (es : List Listed) → ListsAll h es → flat_map (part (scalar_bytes_of h) h (within s)) es ≡ encode_utf8_all (text h s)

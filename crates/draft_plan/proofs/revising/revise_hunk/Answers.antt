@@ -2,7 +2,7 @@ use Rattle.std.proofs.Common.{List, ap, arith, drop, take, ℕ, ◌+◌, ◌-◌
 use Rattle.std.specs.Str.{chars}
 use Rattle.std.proofs.lemmas.Result.{err_from_is_err_and}
 use Rattle.draft_plan.proofs.ReviseLemmas.{hunk_few, typed_whole}
-use Rattle.draft_plan.proofs.TextLemmas.{cut_limit, cut_stops, hunk_made, put_behind_limit, put_stops}
+use Rattle.draft_plan.proofs.TextLemmas.{cut_and_put, cut_limit, cut_stops, hunk_made, put_behind_limit, put_stops}
 use Rattle.draft_plan.proofs.revising.revise_hunk.Goals as goal
 
 pub returns-in_err-cut-clause-stops : goal.returns-in_err-cut-clause-stops
@@ -41,14 +41,8 @@ overflow_add-result c =
     let text = typed_whole c.as_str.result.now _ c.as_str.utf8 (c.as_str.ensures.value ∙ c.in_ok-text.ensures) in
     let made = hunk_made old c.cut.new.self c.put.new.self c.args.section c.in_ok-cut.cut c.in_ok-put.put h c.args.new.now (chars c.as_str.result.now) c.requires.old
     (put_text h.new_at h.new_len c.args.new.now c.as_str.result.now text)
-    (record {
-      lawful = c.requires.stands.lawful;
-      then_lawful = c.in_ok-cut.ensures.stands.lawful;
-      cuts = c.in_ok-cut.ensures.refused;
-      cut_made = c.in_ok-cut.ensures.made;
-      puts = c.in_ok-put.ensures.refused;
-      put_made = c.in_ok-put.ensures.made;
-    }) in
+    (cut_and_put c.requires.stands.lawful c.in_ok-cut.ensures.stands.lawful c.in_ok-cut.ensures.refused c.in_ok-cut.ensures.made
+    c.in_ok-put.ensures.refused c.in_ok-put.ensures.made) in
     omega (arith, hunk_few old c.put.new.self c.args.section (c.in_ok-cut.cut + c.in_ok-put.put) h c.args.new.now made c.in_ok-put.ensures.stands)
 
 pub returns-clause-made : goal.returns-clause-made
@@ -57,11 +51,5 @@ returns-clause-made c =
     let text = typed_whole c.as_str.result.now _ c.as_str.utf8 (c.as_str.ensures.value ∙ c.in_ok-text.ensures) in
     hunk_made c.args.replica.now c.cut.new.self c.put.new.self c.args.section c.in_ok-cut.cut c.in_ok-put.put h c.args.new.now (chars c.as_str.result.now) c.requires.old
     (put_text h.new_at h.new_len c.args.new.now c.as_str.result.now text)
-    (record {
-      lawful = c.requires.stands.lawful;
-      then_lawful = c.in_ok-cut.ensures.stands.lawful;
-      cuts = c.in_ok-cut.ensures.refused;
-      cut_made = c.in_ok-cut.ensures.made;
-      puts = c.in_ok-put.ensures.refused;
-      put_made = c.in_ok-put.ensures.made;
-    })
+    (cut_and_put c.requires.stands.lawful c.in_ok-cut.ensures.stands.lawful c.in_ok-cut.ensures.refused c.in_ok-cut.ensures.made
+    c.in_ok-put.ensures.refused c.in_ok-put.ensures.made)

@@ -3,7 +3,7 @@ use Rattle.std.specs.Prelude.{Err, MatchResult, Ok, Result, is_ok}
 use Rattle.std.specs.Str.{IsUtf8, is_utf8}
 use Rattle.std.proofs.lemmas.Bool.{false_from_ne_true}
 use Rattle.std.proofs.lemmas.Str.{IsUtf8-from_is_utf8, is_utf8-from_IsUtf8}
-use Rattle.catalogue_notes.proofs.reading.is_text.Goals as goal
+use Rattle.fugue_ids.proofs.line.is_utf8.Goals as goal
 
 -- the reading succeeds exactly where the bytes are UTF-8
 told : {T E : Type 0} → (P : T → Type 0) (Q : E → Type 0) (r : Result T E) (bytes : List ℕ) → MatchResult r (λ s. P s × IsUtf8 bytes) (λ e. (IsUtf8 bytes → ⊥) × Q e)

@@ -1,4 +1,4 @@
--- An edit that was made was not refused.
+-- An edit that was made was not refused, and none is refused for an allocation failure.
 use Rattle.std.proofs.Common.{Bool, cond, false, length, refl, true, ℕ, ◌≡◌}
 use Rattle.std.specs.Prelude.{Err, None, Ok, Option, Result, Some}
 use Rattle.fugue_ids.specs.Identifiers.{Identifier}
@@ -8,7 +8,7 @@ use Rattle.origin_model.specs.edits.Edits.{Add, Command, Cut, DropSection, Put}
 use Rattle.origin_model.specs.edits.Refusal.{RefusesExactly, in_section, refusal_message, refused_elements, refused_ops, section_shown}
 use Rattle.origin_model.specs.edits.State.{State}
 
--- nothing is refused for want of memory
+-- no edit is refused for an allocation failure
 never_ops : (b : Bool) (held : ℕ) → cond b (Some (TooMany held)) None ≡ Some NoMemory → ⊥
 never_ops true held e = cc
 never_ops false held e = cc
@@ -25,7 +25,7 @@ never_section : (found : Option Identifier) (cause : Identifier → Option EditF
 never_section None cause never e = cc
 never_section (Some x) cause never e = never x e
 
-never_more : (s : State) (n : ℕ) → refused_elements s n ≡ Some NoMemory → ⊥
+pub never_more : (s : State) (n : ℕ) → refused_elements s n ≡ Some NoMemory → ⊥
 never_more s n = never_elements _ _ (refused_ops s n) (never_ops _ _)
 
 pub never_memory : (s : State) (command : Command) → refusal_message s command ≡ Some NoMemory → ⊥
