@@ -1,0 +1,61 @@
+// Where the page starts: it shows what its address asks for.
+
+import { Channel } from "./page/exchange.js";
+import { Editor } from "./page/editor.js";
+import { Home, Shelf } from "./page/home.js";
+import { Program } from "./page/commands.js";
+import { Store } from "./page/store.js";
+import { Two } from "./page/two.js";
+import { element, opened, tell } from "./page/dom.js";
+
+function help() {
+  const text = document.getElementById("help").content.cloneNode(true);
+  const close = element("form", { method: "dialog", className: "row end" },
+    element("button", { textContent: "Close", className: "main" }));
+  const paper = element("div", { className: "scroll", tabIndex: 0 }, text);
+  return opened(element("dialog", { className: "wide", "aria-label": "Help" }, paper, close));
+}
+
+class Desk {
+  constructor(store) {
+    const [worker, module] = ["worker", "module"].map((id) => document.getElementById(id).textContent);
+    this.store = store;
+    this.program = new Program(worker, module);
+    this.channel = new Channel("manuscript");
+    this.shelf = new Shelf(this);
+    this.help = help;
+    window.addEventListener("hashchange", () => this.show());
+    window.addEventListener("beforeunload", (event) => {
+      if (this.shown?.manuscript?.unsaved.length) event.preventDefault();
+    });
+  }
+
+  async show() {
+    this.shown?.close();
+    this.shown = await this.pageOf(location.hash);
+    document.getElementById("desk").replaceChildren(this.shown.element);
+    document.title = this.shown.manuscript?.record.name ?? "Manuscripts";
+    await this.shown.open();
+  }
+
+  async pageOf(hash) {
+    if (hash === "#two") return new Two(this);
+    const id = /^#open=(.+)$/.exec(hash)?.[1];
+    const record = id && (await this.store.record(id));
+    return record ? Object.assign(new Editor({ ...this, record }), { shelf: this.shelf }) : new Home(this);
+  }
+}
+
+async function start() {
+  try {
+    const desk = new Desk(await Store.open());
+    await desk.show();
+    return desk;
+  } catch (why) {
+    const line = "This browser does not let the page keep anything, or is too old for it. A newer one may do.";
+    await tell("The page could not start", line, String(why));
+    return null;
+  }
+}
+
+globalThis.desk = start();

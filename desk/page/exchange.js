@@ -1,0 +1,185 @@
+// Exchange with other authors: by files and streams, and with the other manuscripts of this browser.
+
+import { Refused, authorOfFile, isFile } from "./commands.js";
+import { bytesOf, button, chosenFiles, download, element, grouped, opened } from "./dom.js";
+import { inWords } from "./told.js";
+
+export const FILES = ".ms,.frames,application/octet-stream";
+
+// What tabs say to each other.
+export class Channel {
+  constructor(name) {
+    this.hearers = new Set();
+    this.line = new BroadcastChannel(name);
+    this.line.onmessage = ({ data }) => this.hearers.forEach((hear) => hear(data));
+  }
+
+  say(message) {
+    this.line.postMessage(message);
+  }
+
+  // Calls `hear` for what is said from now on, until what this gives is called.
+  hear(hear) {
+    this.hearers.add(hear);
+    return () => this.hearers.delete(hear);
+  }
+}
+
+// Takes in files that were dropped or chosen, one after another.
+export async function takeInFiles(editor, files) {
+  for (const file of files) {
+    await editor.attempt(async () => editor.came(await editor.manuscript.takeIn(await bytesOf(file)), file.name));
+  }
+}
+
+// Keeps a manuscript together with the others of its circle, which other tabs or other authors here write.
+export class Together {
+  constructor(editor, channel) {
+    this.editor = editor;
+    this.wanted = new Set();
+    this.stop = channel.hear((message) => this.heard(message));
+  }
+
+  get manuscript() {
+    return this.editor.manuscript;
+  }
+
+  close() {
+    this.stop();
+  }
+
+  heard({ kind, id, circle }) {
+    if (kind !== "saved") return;
+    if (id === this.manuscript.id) this.manuscript.save();
+    else if (circle === this.manuscript.record.circle) this.want(id);
+  }
+
+  // Takes in what the others of the circle have, where it is news.
+  async catchUp() {
+    const { record, store } = this.manuscript;
+    for (const { id, circle } of await store.records()) {
+      if (id !== record.id && circle === record.circle) await this.want(id);
+    }
+  }
+
+  // Takes in another manuscript of this browser. What is asked for meanwhile is taken in after it, once.
+  async want(id) {
+    this.wanted.add(id);
+    if (this.isBusy) return;
+    this.isBusy = true;
+    try {
+      for (const next of this.wanted) {
+        this.wanted.delete(next);
+        await this.takeFrom(next);
+      }
+    } catch (why) {
+      this.editor.fail(why);
+    } finally {
+      this.isBusy = false;
+    }
+  }
+
+  async takeFrom(id) {
+    const { manuscript } = this;
+    const other = await manuscript.store.record(id);
+    if (!other || manuscript.isClosed || manuscript.record.taken?.[id] === other.revision) return null;
+    const counts = await manuscript.takeIn(await manuscript.store.bytes(id));
+    await manuscript.alone(async () => {
+      await manuscript.catchUp();
+      await manuscript.keepRecord({ taken: { ...manuscript.record.taken, [id]: other.revision } });
+    });
+    if (counts.conflict || counts.stray || counts.full) this.editor.came(counts, other.name);
+    return counts;
+  }
+}
+
+export async function exchange(editor) {
+  const { manuscript } = editor;
+  const dialog = element("dialog", { className: "wide", "aria-label": "Exchange" });
+  const take = button("Take in a file …", async () => {
+    const files = await chosenFiles(FILES);
+    dialog.close();
+    takeInFiles(editor, files);
+  }, { className: "main" });
+  const give = button("Download my file", () => editor.attempt(() => giveFile(editor)));
+  const send = button("Download as a stream", () => editor.attempt(() => giveStream(editor)));
+  const others = element("ul", { className: "others" });
+  dialog.append(
+    element("h2", { textContent: "Exchange" }),
+    part("What others wrote", "Take in another author's file or stream: choose it here, or drop it on this page. " +
+      "What you wrote stays, and passages are never mixed.", take),
+    part("What you wrote", "Give the others a copy of your file, by mail, on a stick, or in a shared folder. " +
+      "They take it in, and never write in it: it bears your number.", give, send),
+    part("In this browser", "", others, button("Begin a copy for another author", () => {
+      dialog.close();
+      editor.attempt(() => copy(editor));
+    })),
+    element("form", { method: "dialog", className: "row end" }, element("button", { textContent: "Close" })),
+  );
+  const records = (await manuscript.store.records()).filter(({ id }) => id !== manuscript.id);
+  others.append(...records.map((record) => otherOf(record, editor, dialog)));
+  if (records.length === 0) others.append(element("li", { textContent: "There is no other manuscript here." }));
+  await opened(dialog);
+}
+
+function part(title, text, ...children) {
+  const made = element("section", {}, element("h3", { textContent: title }));
+  if (text) made.append(element("p", { textContent: text }));
+  made.append(...children);
+  return made;
+}
+
+async function giveFile({ manuscript }) {
+  await manuscript.save();
+  download(`${manuscript.record.name}.ms`, manuscript.bytes);
+}
+
+async function giveStream({ manuscript }) {
+  await manuscript.save();
+  download(`${manuscript.record.name}.frames`, (await manuscript.does(["send", "manuscript.ms"])).output);
+}
+
+function otherOf(record, editor, dialog) {
+  const { manuscript } = editor;
+  const isTogether = element("input", { type: "checkbox", checked: record.circle === manuscript.record.circle });
+  isTogether.onchange = () => editor.attempt(() => join(editor, record.id, isTogether.checked));
+  const take = button("Take in", () => {
+    dialog.close();
+    editor.attempt(async () => {
+      editor.came(await manuscript.takeIn(await manuscript.store.bytes(record.id)), record.name);
+    });
+  });
+  return element("li", {}, element("b", { textContent: record.name, dir: "auto" }),
+    element("small", { textContent: `author ${grouped(record.replica)}` }), take,
+    element("label", {}, isTogether, "Keep together"));
+}
+
+// Joins another manuscript of this browser, so that each takes in what the other saves; or leaves it.
+async function join(editor, id, isTogether) {
+  const { manuscript, together } = editor;
+  const other = await manuscript.store.record(id);
+  const circle = isTogether ? manuscript.record.circle : `${id} alone ${Date.now()}`;
+  await manuscript.store.keep({ ...other, circle });
+  if (isTogether) await together.want(id);
+}
+
+async function copy(editor) {
+  const { manuscript } = editor;
+  await manuscript.save();
+  const { circle } = manuscript.record;
+  const record = await editor.shelf.begin({ from: manuscript.bytes, name: manuscript.record.name, circle });
+  if (record) editor.notice(`“${record.name}” is a manuscript of its own now, with the author number ` +
+    `${grouped(record.replica)}. Open it in another tab: both are kept together.`);
+}
+
+// What a file is: a manuscript with its author's number, a stream, or neither, which is told.
+export async function kindOf(program, bytes) {
+  if (isFile(bytes)) {
+    await program.does(["list", "it.ms"], { files: [["it.ms", bytes]] });
+    return { isManuscript: true, author: authorOfFile(bytes) };
+  }
+  const answer = await program.run(["show"], { input: bytes });
+  if (answer.status !== 0 && answer.status !== 3) throw new Refused(["show"], answer);
+  if (bytes.length === 0) throw new Error(inWords("not a replica"));
+  return { isManuscript: false };
+}

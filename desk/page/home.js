@@ -1,0 +1,174 @@
+// The manuscripts that the browser keeps.
+
+import { FILES, kindOf } from "./exchange.js";
+import { Refused } from "./commands.js";
+import { ask, bytesOf, button, chosenFiles, download, element, field, grouped, paragraph, tell } from "./dom.js";
+import { freshKey } from "./store.js";
+
+const HOLD = 10000;
+
+const MOST = 4294967295;
+
+// A number that no other author has, but by a chance of one in billions.
+function drawnNumber() {
+  return crypto.getRandomValues(new Uint32Array(1))[0] || 1;
+}
+
+// Makes manuscripts, and removes them.
+export class Shelf {
+  constructor({ store, program }) {
+    Object.assign(this, { store, program });
+  }
+
+  // Asks for a name and an author number, and makes a manuscript. What `from` has comes in: a file or a stream.
+  async begin({ name = "", from = null, circle = freshKey() } = {}) {
+    const title = element("input", { value: name, required: true, maxLength: 120, dir: "auto" });
+    const number = element("input", { type: "number", min: 1, max: MOST, required: true, value: drawnNumber() });
+    const hint = "No other author of this manuscript may have this number. It was drawn by lot, so you can leave it. " +
+      "On another machine you are another author, with another number.";
+    const read = () => ({ name: title.value, replica: Number(number.value) });
+    const body = [field("Name", title), field("Your author number", number, hint)];
+    const given = await ask(from ? "Begin a manuscript from it" : "New manuscript", body, { agree: "Begin", read });
+    return given && this.make({ ...given, from, circle });
+  }
+
+  async make({ name, replica, from, circle }) {
+    const made = await this.program.does(["new", "new.ms", replica, HOLD]);
+    let bytes = made.files.get("new.ms");
+    if (from) bytes = await this.filled(bytes, from);
+    return this.keep({ name, replica, circle, bytes });
+  }
+
+  async filled(bytes, from) {
+    const { isManuscript } = await kindOf(this.program, from);
+    const files = [["new.ms", bytes]];
+    const answer = isManuscript
+      ? await this.program.does(["merge", "new.ms", "it.ms"], { files: [...files, ["it.ms", from]] })
+      : await this.program.does(["take", "new.ms"], { files, input: from });
+    return answer.files.get("new.ms") ?? bytes;
+  }
+
+  async keep({ name, replica, circle = freshKey(), bytes }) {
+    const record = { id: freshKey(), name, replica, circle, revision: 1, changed: Date.now() };
+    await this.store.keep(record, { bytes });
+    return record;
+  }
+
+  // Takes a file into the list: as one's own, or as what another author wrote, from which one begins.
+  async bring(file) {
+    const bytes = await bytesOf(file);
+    const kind = await kindOf(this.program, bytes);
+    const name = file.name.replace(/\.(ms|frames)$/, "");
+    if (!kind.isManuscript) return this.begin({ name, from: bytes });
+    const own = element("input", { type: "radio", name: "whose", value: "own", checked: true });
+    const other = element("input", { type: "radio", name: "whose", value: "other" });
+    const body = [
+      paragraph(`“${file.name}” is the file of author ${grouped(kind.author)}.`),
+      element("label", { className: "choice" }, own, "It is mine. From now on I write in it here and nowhere else."),
+      element("label", { className: "choice" }, other, "Another author writes in it, or I do on another machine. I " +
+        "begin one of my own from it."),
+    ];
+    const read = () => (own.checked ? "own" : "other");
+    const whose = await ask("Whose file is this?", body, { agree: "Go on", read });
+    if (whose === "own") return this.keep({ name, replica: kind.author, bytes });
+    return whose && this.begin({ name, from: bytes });
+  }
+}
+
+export class Home {
+  constructor({ store, shelf, channel, help }) {
+    Object.assign(this, { store, shelf, channel });
+    this.stop = channel.hear(() => this.fill());
+    this.list = element("ul", { className: "shelf" });
+    this.first = document.getElementById("first").content.cloneNode(true).firstElementChild;
+    const row = element("nav", { className: "row", "aria-label": "Manuscripts" },
+      button("New manuscript", () => this.go(() => shelf.begin()), { className: "main" }),
+      button("Open a file …", async () => this.bring(await chosenFiles(FILES))),
+      button("Help", help),
+    );
+    const two = element("p", {}, element("a", { href: "#two", textContent: "See how two authors write at one place" }));
+    const bar = element("header", { className: "bar" }, element("h1", { textContent: "Manuscripts" }), row);
+    this.element = element("div", { className: "home" }, bar,
+      element("main", {}, this.first, this.list, two));
+    this.watchDrops();
+  }
+
+  async open() {
+    await this.fill();
+  }
+
+  close() {
+    this.stop();
+    this.leave.abort();
+  }
+
+  async fill() {
+    const records = await this.store.records();
+    this.first.hidden = records.length > 0;
+    this.list.replaceChildren(...records.map((record) => this.itemOf(record)));
+  }
+
+  itemOf(record) {
+    const { id, name, replica, changed } = record;
+    const link = element("a", { href: `#open=${id}`, textContent: name, dir: "auto" });
+    const when = new Date(changed).toLocaleString([], { dateStyle: "medium", timeStyle: "short" });
+    const facts = element("small", { textContent: `Changed ${when}, author number ${grouped(replica)}` });
+    const acts = element("div", { className: "row" },
+      button("Download", () => this.attempt(() => this.give(record))),
+      button("Rename", () => this.attempt(() => this.rename(record))),
+      button("Remove", () => this.attempt(() => this.remove(record))),
+    );
+    for (const act of acts.children) act.setAttribute("aria-label", `${act.textContent} “${name}”`);
+    return element("li", {}, element("div", {}, link, facts), acts);
+  }
+
+  async give({ id, name }) {
+    download(`${name}.ms`, await this.store.bytes(id));
+  }
+
+  async rename({ id, name }) {
+    const input = element("input", { value: name, required: true, maxLength: 120, dir: "auto" });
+    const given = await ask("Rename", [field("Name", input)], { agree: "Rename", read: () => input.value });
+    if (!given) return;
+    await this.store.exclusively(id, async () => this.store.keep({ ...(await this.store.record(id)), name: given }));
+    await this.fill();
+  }
+
+  async remove({ id, name }) {
+    const lines = ["It goes from this browser, with all that only this browser has of it. Download it first, if you " +
+      "may want it again."];
+    if (!(await ask(`Remove “${name}”?`, lines.map(paragraph), { agree: "Remove", isGrave: true }))) return;
+    await this.store.remove(id);
+    await this.fill();
+  }
+
+  async bring(files) {
+    for (const file of files) await this.go(() => this.shelf.bring(file), `“${file.name}” was not opened`);
+  }
+
+  // Makes a manuscript, and opens it.
+  async go(make, refusal) {
+    const record = await this.attempt(make, refusal);
+    if (record) location.hash = `#open=${record.id}`;
+  }
+
+  async attempt(work, refusal = "This did not work") {
+    try {
+      return await work();
+    } catch (why) {
+      const line = why instanceof Refused ? [`The program said: ${why.line}`] : [];
+      await tell(refusal, why.message, ...line);
+      return null;
+    }
+  }
+
+  watchDrops() {
+    this.leave = new AbortController();
+    const { signal } = this.leave;
+    document.addEventListener("dragover", (event) => event.preventDefault(), { signal });
+    document.addEventListener("drop", (event) => {
+      event.preventDefault();
+      this.bring([...event.dataTransfer.files]);
+    }, { signal });
+  }
+}

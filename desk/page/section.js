@@ -1,0 +1,221 @@
+// A section as it is written: its title, its text, the colours behind it and the comments beside it.
+//
+// The text stands twice in one place: in a text area, and behind it in a mirror that has the colours and gives both
+// their height. The text area is made when the section comes into view, so that a long manuscript opens at once.
+
+import { carried, changed, changes, movedPlace, splice, withReturns, withoutReturns } from "./difference.js";
+import { faultOfText, faultOfTitle } from "./commands.js";
+import { button, element } from "./dom.js";
+
+export class Section {
+  // `host` is told of what the writer does: edited(section), and does(name, section).
+  constructor({ key, number, title, text }, host) {
+    this.key = key;
+    this.number = number;
+    this.saved = { title, text };
+    this.live = withoutReturns(text);
+    this.host = host;
+    this.marks = [];
+    this.area = null;
+    this.isComposing = false;
+    this.build();
+  }
+
+  build() {
+    this.title = element("input", { className: "title", value: this.saved.title, dir: "auto", autocomplete: "off" });
+    this.title.oninput = () => this.host.edited(this);
+    this.title.onkeydown = (event) => {
+      if (event.key === "Enter" && !event.isComposing) this.focus();
+    };
+    this.mirror = element("div", { className: "mirror", dir: "auto" });
+    this.paper = element("div", { className: "paper" }, this.mirror);
+    this.refusal = element("p", { className: "refusal", hidden: true, role: "status" });
+    this.notes = element("ul", { className: "notes" });
+    const body = element("div", { className: "body" }, this.paper, this.notes);
+    const header = element("header", {}, this.title, this.tools());
+    this.element = element("article", { className: "section" }, header, this.refusal, body, this.adder());
+    this.watch(this.title);
+    this.paper.onclick = () => this.focus();
+    this.paint();
+  }
+
+  tools() {
+    const does = (name) => () => this.host.does(name, this);
+    const grip = { className: "grip", draggable: true, title: "Drag to another place", tabIndex: -1 };
+    this.grip = button("⠿", null, { ...grip, "aria-hidden": "true" });
+    this.buttons = [
+      ["up", "↑", "Move up"],
+      ["down", "↓", "Move down"],
+      ["comment", "Comment", "Comment on the passage that is selected"],
+      ["drop", "Delete", "Delete this section"],
+    ].map(([name, label, title]) => button(label, does(name), { title, "aria-label": title, className: `do-${name}` }));
+    this.group = element("div", { className: "tools", role: "group" }, this.grip, ...this.buttons);
+    return this.group;
+  }
+
+  adder() {
+    return button("+ Section", () => this.host.does("add", this), { className: "add", title: "Add a section below" });
+  }
+
+  // Input methods compose a text in several steps, between which nothing may be saved or replaced.
+  watch(input) {
+    input.addEventListener("compositionstart", () => {
+      this.isComposing = true;
+    });
+    input.addEventListener("compositionend", () => {
+      this.isComposing = false;
+      this.host.edited(this);
+    });
+  }
+
+  // Numbers the section for those who hear the page.
+  count(place, most) {
+    this.buttons[0].disabled = place === 1;
+    this.buttons[1].disabled = place === most;
+    this.title.setAttribute("aria-label", `Title of section ${place}`);
+    this.group.setAttribute("aria-label", `Section ${place}`);
+    this.notes.setAttribute("aria-label", `Comments on section ${place}`);
+    this.area?.setAttribute("aria-label", `Text of section ${place}`);
+    this.place = place;
+  }
+
+  // Makes the text area, which from then on has the text.
+  wake() {
+    if (this.area) return;
+    this.area = element("textarea", { className: "text", value: this.live, dir: "auto", rows: 1 });
+    this.area.setAttribute("aria-label", `Text of section ${this.place}`);
+    this.area.readOnly = this.host.isReadOnly;
+    this.area.placeholder = "Write here";
+    this.area.oninput = () => this.typed();
+    this.watch(this.area);
+    this.mirror.setAttribute("aria-hidden", "true");
+    this.paper.append(this.area);
+  }
+
+  focus() {
+    this.wake();
+    this.area.focus();
+  }
+
+  typed() {
+    const change = splice(this.live, this.area.value);
+    if (!change) return;
+    this.live = this.area.value;
+    this.moveMarks([change]);
+    this.paint();
+    this.host.edited(this);
+  }
+
+  // Takes changes of the live text from elsewhere. The caret stays where it is in the text, and so does the selection.
+  apply(list) {
+    if (list.length === 0) return;
+    this.live = changed(this.live, list);
+    for (const { start, end, text } of [...list].reverse()) this.area?.setRangeText(text, start, end, "preserve");
+    this.moveMarks(list);
+    this.paint();
+  }
+
+  // What was saved elsewhere comes in: `part` takes the place of what was saved before, and what is not saved stays.
+  takeIn({ key, number, title, text }) {
+    if (this.title.value === this.saved.title) this.setTitle(title);
+    if (text !== this.saved.text) {
+      const before = withoutReturns(this.saved.text);
+      this.apply(carried(changes(before, withoutReturns(text)), changes(before, this.live)));
+    }
+    this.saved = { title, text };
+    this.key = key;
+    this.number = number;
+  }
+
+  setTitle(title) {
+    if (this.title.value !== title) this.title.value = title;
+  }
+
+  // What was typed and lost from sight comes back: a draft, as a change of what it was made from.
+  putBack({ saved, live }) {
+    if (live.title !== saved.title) this.setTitle(live.title);
+    const own = changes(saved.text, this.live);
+    const isThere = (change) => own.some((mine) => JSON.stringify(mine) === JSON.stringify(change));
+    this.apply(carried(changes(saved.text, live.text).filter((change) => !isThere(change)), own));
+  }
+
+  get isDirty() {
+    return this.title.value !== this.saved.title || this.live !== withoutReturns(this.saved.text);
+  }
+
+  // What is to be saved: what was written, as far as it can be. It says at the section what can't.
+  proposal() {
+    const title = this.title.value;
+    const text = withReturns(this.saved.text, this.live);
+    const faults = [title === this.saved.title ? "" : faultOfTitle(title), faultOfText(text)];
+    this.say(faults.filter(Boolean).join(" "));
+    return { title: faults[0] ? this.saved.title : title, text: faults[1] ? this.saved.text : text };
+  }
+
+  draft() {
+    const saved = { title: this.saved.title, text: withoutReturns(this.saved.text) };
+    return { key: this.key, place: this.place, saved, live: { title: this.title.value, text: this.live } };
+  }
+
+  say(refusal) {
+    if (this.refusal.textContent === refusal) return;
+    this.refusal.textContent = refusal;
+    this.refusal.hidden = !refusal;
+  }
+
+  // Marks are stretches of the text with a class. They are given as places of the saved text.
+  setMarks(marks) {
+    const own = changes(withoutReturns(this.saved.text), this.live);
+    this.marks = own.length ? marks.map((mark) => movedMark(mark, own)) : marks;
+    this.paint();
+  }
+
+  moveMarks(list) {
+    this.marks = this.marks.map((mark) => movedMark(mark, list)).filter(({ start, end }) => start < end);
+  }
+
+  // The end of the mirror is one more line, so that an empty last line has a height.
+  paint() {
+    const text = `${this.live}\n`;
+    if (this.marks.length === 0) {
+      if (this.mirror.childNodes.length === 1 && this.mirror.firstChild.nodeType === Node.TEXT_NODE) {
+        replaceText(this.mirror.firstChild, text);
+      } else {
+        this.mirror.textContent = text;
+      }
+      return;
+    }
+    this.mirror.replaceChildren(...pieces(text, this.marks));
+  }
+
+  select(start, end) {
+    this.focus();
+    this.area.setSelectionRange(start, end);
+  }
+}
+
+// Changes a text node no more than it has to be, since a browser lays out anew what changed.
+function replaceText(node, text) {
+  const change = splice(node.data, text);
+  if (change) node.replaceData(change.start, change.end - change.start, change.text);
+}
+
+function movedMark(mark, list) {
+  return { ...mark, start: movedPlace(mark.start, list, true), end: movedPlace(mark.end, list) };
+}
+
+// A text in pieces, each with the classes of the marks that it is in.
+function pieces(text, marks) {
+  const edges = [...new Set([0, text.length, ...marks.flatMap(({ start, end }) => [start, end])])];
+  edges.sort((one, other) => one - other);
+  const coming = [...marks].sort((one, other) => one.start - other.start);
+  let next = 0;
+  let open = [];
+  return edges.slice(0, -1).map((edge, at) => {
+    open = open.filter(({ end }) => end > edge);
+    while (next < coming.length && coming[next].start <= edge) open.push(coming[next++]);
+    const piece = text.slice(edge, edges[at + 1]);
+    if (open.length === 0) return piece;
+    return element("span", { className: open.map(({ name }) => name).join(" "), textContent: piece });
+  });
+}

@@ -1,0 +1,158 @@
+// Where the browser keeps manuscripts. A record tells of a manuscript, its file has the bytes, and a draft has what was
+// typed and is not in the file yet. MemoryStore keeps them for as long as the page is open, for `two`.
+
+const NAME = "manuscript";
+
+export class StoreFull extends Error {
+  constructor() {
+    super("The browser's store is full.");
+  }
+}
+
+// A number that tells manuscripts and tabs apart.
+export function freshKey() {
+  return Array.from(crypto.getRandomValues(new Uint32Array(3)), (part) => part.toString(36)).join("-");
+}
+
+export class Store {
+  // Opens the database, which it makes where there is none.
+  static open() {
+    const request = indexedDB.open(NAME, 1);
+    request.onupgradeneeded = () => {
+      request.result.createObjectStore("records", { keyPath: "id" });
+      request.result.createObjectStore("files", { keyPath: "id" });
+      request.result.createObjectStore("drafts", { keyPath: ["manuscript", "tab"] });
+    };
+    return answered(request).then((database) => new Store(database));
+  }
+
+  constructor(database) {
+    this.database = database;
+    database.onversionchange = () => database.close();
+  }
+
+  // Does `work` with the named stores in one transaction, and ends when its changes are kept.
+  #change(names, work) {
+    return new Promise((done, failed) => {
+      const transaction = this.database.transaction(names, "readwrite", { durability: "strict" });
+      transaction.oncomplete = () => done();
+      transaction.onabort = () => failed(faultOf(transaction.error));
+      try {
+        work(...names.map((name) => transaction.objectStore(name)));
+      } catch (why) {
+        transaction.abort();
+        failed(faultOf(why));
+      }
+    });
+  }
+
+  #look(name, look) {
+    return answered(look(this.database.transaction(name).objectStore(name)));
+  }
+
+  async records() {
+    const all = await this.#look("records", (store) => store.getAll());
+    return all.sort((one, other) => other.changed - one.changed);
+  }
+
+  record(id) {
+    return this.#look("records", (store) => store.get(id));
+  }
+
+  async bytes(id) {
+    return (await this.#look("files", (store) => store.get(id)))?.bytes;
+  }
+
+  // Keeps a record, its file where there are bytes, and forgets the draft of a tab where one is named.
+  keep(record, { bytes, tab } = {}) {
+    return this.#change(["records", "files", "drafts"], (records, files, drafts) => {
+      records.put(record);
+      if (bytes) files.put({ id: record.id, bytes });
+      if (tab) drafts.delete([record.id, tab]);
+    });
+  }
+
+  remove(id) {
+    return this.#change(["records", "files", "drafts"], (records, files, drafts) => {
+      records.delete(id);
+      files.delete(id);
+      drafts.delete(IDBKeyRange.bound([id], [id, []]));
+    });
+  }
+
+  keepDraft(draft) {
+    return this.#change(["drafts"], (drafts) => drafts.put(draft));
+  }
+
+  dropDraft(manuscript, tab) {
+    return this.#change(["drafts"], (drafts) => drafts.delete([manuscript, tab]));
+  }
+
+  drafts(manuscript) {
+    return this.#look("drafts", (store) => store.getAll(IDBKeyRange.bound([manuscript], [manuscript, []])));
+  }
+
+  // Does `work` while no other tab does any under this name.
+  exclusively(name, work) {
+    return navigator.locks ? navigator.locks.request(`${NAME} ${name}`, work) : work();
+  }
+
+  // Shows other tabs that this one is open, as long as it is.
+  showOpen(tab) {
+    navigator.locks?.request(`${NAME} tab ${tab}`, () => new Promise(() => {}));
+  }
+
+  async openTabs() {
+    const { held } = (await navigator.locks?.query()) ?? { held: [] };
+    return new Set(held.map(({ name }) => name.replace(`${NAME} tab `, "")));
+  }
+}
+
+function answered(request) {
+  return new Promise((done, failed) => {
+    request.onsuccess = () => done(request.result);
+    request.onerror = () => failed(faultOf(request.error));
+  });
+}
+
+function faultOf(why) {
+  return why?.name === "QuotaExceededError" ? new StoreFull() : (why ?? new Error("The browser's store failed."));
+}
+
+export class MemoryStore {
+  #records = new Map();
+  #files = new Map();
+
+  async records() {
+    return [...this.#records.values()];
+  }
+
+  async record(id) {
+    return this.#records.get(id);
+  }
+
+  async bytes(id) {
+    return this.#files.get(id);
+  }
+
+  async keep(record, { bytes } = {}) {
+    this.#records.set(record.id, record);
+    if (bytes) this.#files.set(record.id, bytes);
+  }
+
+  async keepDraft() {}
+
+  async dropDraft() {}
+
+  async drafts() {
+    return [];
+  }
+
+  exclusively(name, work) {
+    return work();
+  }
+
+  async openTabs() {
+    return new Set();
+  }
+}

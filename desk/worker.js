@@ -1,0 +1,50 @@
+// Runs commands of the program apart from the page, so that typing never waits. Asked with { number, words, files,
+// input }, it answers { number, status, output, notes, files }: of the files, those that the command wrote. Asked with
+// { number, bytes, hasLetters } it reads a file, and answers { number, sections }. The first message is the module.
+
+import { File, run } from "./system.js";
+import { reading } from "./page/reader.js";
+
+// A file that knows whether it was written.
+class Watched extends File {
+  write(offset, bytes) {
+    this.isWritten = true;
+    return super.write(offset, bytes);
+  }
+}
+
+let ready;
+
+async function compiled(text) {
+  const packed = Uint8Array.from(atob(text.trim()), (letter) => letter.charCodeAt(0));
+  const stream = new Blob([packed]).stream().pipeThrough(new DecompressionStream("gzip"));
+  return WebAssembly.compile(await new Response(stream).arrayBuffer());
+}
+
+function ran(module, { words, files, input }) {
+  const held = new Map(files.map(([name, bytes]) => [name, new Watched(bytes)]));
+  const { status, output, notes } = run(module, words, { input, files: held });
+  const isNew = (name) => !files.some(([known]) => known === name);
+  const written = [...held].filter(([name, file]) => file.isWritten || isNew(name));
+  return { status, output, notes, files: written.map(([name, file]) => [name, file.bytes.slice()]) };
+}
+
+function answer(module, asked) {
+  try {
+    return asked.words ? ran(module, asked) : { sections: reading(asked.bytes, asked.hasLetters) };
+  } catch (why) {
+    return { failure: String(why) };
+  }
+}
+
+self.onmessage = async ({ data }) => {
+  if (typeof data === "string") {
+    ready = compiled(data);
+    return;
+  }
+  try {
+    self.postMessage({ number: data.number, ...answer(await ready, data) });
+  } catch (why) {
+    self.postMessage({ number: data.number, failure: String(why) });
+  }
+};

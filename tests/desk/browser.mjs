@@ -1,0 +1,232 @@
+// Drives a headless Chromium by its remote debugging pipe: pages, keys, the mouse and pictures.
+
+import { spawn } from "node:child_process";
+import fs from "node:fs";
+import os from "node:os";
+import path from "node:path";
+
+const NAMES = ["chromium", "chromium-browser", "google-chrome"];
+
+export function chromium() {
+  const folders = (process.env.PATH ?? "").split(":");
+  const paths = folders.flatMap((folder) => NAMES.map((name) => path.join(folder, name)));
+  return paths.find((file) => fs.existsSync(file));
+}
+
+export const pause = (time) => new Promise((done) => setTimeout(done, time));
+
+export class Browser {
+  #asked = new Map();
+  #last = 0;
+  #rest = "";
+  #hearers = [];
+
+  // Starts a browser. One with the profile of another one finds what that one kept.
+  constructor(profile = fs.mkdtempSync(path.join(os.tmpdir(), "desk-"))) {
+    this.profile = profile;
+    const words = ["--headless=new", "--no-sandbox", "--disable-gpu", "--no-first-run", "--remote-debugging-pipe",
+      "--window-size=1100,760", "--disable-background-timer-throttling", "--disable-renderer-backgrounding",
+      "--disable-backgrounding-occluded-windows", `--user-data-dir=${profile}`, "about:blank"];
+    this.child = spawn(chromium(), words, { stdio: ["ignore", "ignore", "ignore", "pipe", "pipe"] });
+    this.child.stdio[4].on("data", (data) => this.#read(data));
+    this.ended = new Promise((done) => this.child.on("exit", done));
+    process.on("exit", () => this.child.kill("SIGKILL"));
+  }
+
+  #read(data) {
+    const messages = (this.#rest + data).split("\0");
+    this.#rest = messages.pop();
+    for (const message of messages) this.#heard(JSON.parse(message));
+  }
+
+  #heard({ id, error, result, method, params, sessionId }) {
+    if (!id) {
+      for (const hear of this.#hearers) hear(method, params, sessionId);
+      return;
+    }
+    const { done, failed } = this.#asked.get(id);
+    this.#asked.delete(id);
+    if (error) failed(new Error(JSON.stringify(error)));
+    else done(result);
+  }
+
+  hear(hear) {
+    this.#hearers.push(hear);
+  }
+
+  send(method, params = {}, sessionId = undefined) {
+    const id = (this.#last += 1);
+    return new Promise((done, failed) => {
+      this.#asked.set(id, { done, failed });
+      this.child.stdio[3].write(`${JSON.stringify({ id, method, params, sessionId })}\0`);
+    });
+  }
+
+  // Opens a tab with a page.
+  async open(address, { width = 1100, height = 760, isDark = false } = {}) {
+    const { targetId } = await this.send("Target.createTarget", { url: "about:blank" });
+    const { sessionId } = await this.send("Target.attachToTarget", { targetId, flatten: true });
+    const page = new Page(this, sessionId, targetId);
+    for (const domain of ["Page", "Runtime", "DOM"]) await page.send(`${domain}.enable`);
+    await page.size(width, height);
+    await page.colours(isDark);
+    await page.go(address);
+    return page;
+  }
+
+  async close() {
+    await Promise.race([this.send("Browser.close").catch(() => {}), pause(2000)]);
+    await Promise.race([this.ended, pause(3000)]);
+    this.child.kill("SIGKILL");
+  }
+
+  // Ends the browser as a crash does.
+  async crash() {
+    this.child.kill("SIGKILL");
+    await this.ended;
+    await pause(300);
+  }
+
+  forget() {
+    fs.rmSync(this.profile, { recursive: true, force: true, maxRetries: 5 });
+  }
+}
+
+const KEYS = {
+  Enter: { code: "Enter", windowsVirtualKeyCode: 13, text: "\r" },
+  Tab: { code: "Tab", windowsVirtualKeyCode: 9 },
+  Escape: { code: "Escape", windowsVirtualKeyCode: 27 },
+  Backspace: { code: "Backspace", windowsVirtualKeyCode: 8 },
+  ArrowLeft: { code: "ArrowLeft", windowsVirtualKeyCode: 37 },
+  ArrowUp: { code: "ArrowUp", windowsVirtualKeyCode: 38 },
+  ArrowRight: { code: "ArrowRight", windowsVirtualKeyCode: 39 },
+  ArrowDown: { code: "ArrowDown", windowsVirtualKeyCode: 40 },
+  Home: { code: "Home", windowsVirtualKeyCode: 36 },
+  End: { code: "End", windowsVirtualKeyCode: 35 },
+};
+
+export const ALT = 1;
+export const CONTROL = 2;
+export const SHIFT = 8;
+
+export class Page {
+  faults = [];
+
+  constructor(browser, session, target) {
+    Object.assign(this, { browser, session, target });
+    browser.hear((method, params, from) => {
+      if (from !== session) return;
+      if (method === "Runtime.exceptionThrown") {
+        this.faults.push(params.exceptionDetails.exception?.description ?? params.exceptionDetails.text);
+      }
+      if (method === "Page.javascriptDialogOpening") this.send("Page.handleJavaScriptDialog", { accept: true });
+    });
+  }
+
+  send(method, params) {
+    return this.browser.send(method, params, this.session);
+  }
+
+  async go(address) {
+    await this.send("Page.navigate", { url: address });
+    await this.until("document.readyState === 'complete'");
+  }
+
+  async reload() {
+    await this.value("globalThis.isOld = true");
+    await this.send("Page.reload");
+    await this.until("!globalThis.isOld && document.readyState === 'complete'");
+  }
+
+  size(width, height) {
+    const device = { width, height, deviceScaleFactor: 1, mobile: false };
+    return this.send("Emulation.setDeviceMetricsOverride", device);
+  }
+
+  colours(isDark) {
+    const features = [{ name: "prefers-color-scheme", value: isDark ? "dark" : "light" }];
+    return this.send("Emulation.setEmulatedMedia", { features });
+  }
+
+  // The value of an expression in the page; promises are awaited.
+  async value(expression) {
+    const asked = { expression, awaitPromise: true, returnByValue: true };
+    const { result, exceptionDetails: fault } = await this.send("Runtime.evaluate", asked);
+    if (fault) throw new Error(fault.exception?.description ?? fault.text);
+    return result.value;
+  }
+
+  // Waits until an expression holds.
+  async until(expression, most = 15000) {
+    for (const end = Date.now() + most; Date.now() < end; await pause(20)) {
+      if (await this.value(expression).catch(() => false)) return;
+    }
+    throw new Error(`not seen within ${most} ms: ${expression}`);
+  }
+
+  // Key events, as a keyboard makes them.
+  async type(text) {
+    for (const letter of text) {
+      if (letter === "\n") await this.press("Enter");
+      else {
+        const event = { text: letter, unmodifiedText: letter, key: letter };
+        await this.send("Input.dispatchKeyEvent", { type: "keyDown", ...event });
+        await this.send("Input.dispatchKeyEvent", { type: "keyUp", key: letter });
+      }
+    }
+  }
+
+  async press(key, modifiers = 0) {
+    const letter = key.toUpperCase();
+    const known = KEYS[key] ?? { code: `Key${letter}`, windowsVirtualKeyCode: letter.charCodeAt(0) };
+    const event = { key, modifiers, ...known };
+    if (modifiers & (CONTROL | ALT)) delete event.text;
+    await this.send("Input.dispatchKeyEvent", { type: event.text ? "keyDown" : "rawKeyDown", ...event });
+    await this.send("Input.dispatchKeyEvent", { type: "keyUp", key, modifiers, code: known.code });
+  }
+
+  async click(selector) {
+    const box = await this.value(`(() => {
+      const found = document.querySelector(${JSON.stringify(selector)});
+      found.scrollIntoView({ block: "center" });
+      const { x, y, width, height } = found.getBoundingClientRect();
+      return { x: x + width / 2, y: y + height / 2 };
+    })()`);
+    const mouse = { ...box, button: "left", clickCount: 1 };
+    await this.send("Input.dispatchMouseEvent", { type: "mousePressed", ...mouse });
+    await this.send("Input.dispatchMouseEvent", { type: "mouseReleased", ...mouse });
+  }
+
+  // Presses the button with these words, in the topmost dialog if there is one.
+  async pressButton(words) {
+    await this.value(`(() => {
+      const room = [...document.querySelectorAll("dialog[open]")].at(-1) ?? document;
+      const found = [...room.querySelectorAll("button")].find((each) => each.textContent === ${JSON.stringify(words)});
+      if (!found) throw new Error("no button " + ${JSON.stringify(words)});
+      found.click();
+    })()`);
+  }
+
+  // Drops files on the page, as { name, bytes }.
+  async drop(...files) {
+    const texts = files.map(({ name, bytes }) => ({ name, text: Buffer.from(bytes).toString("base64") }));
+    const given = JSON.stringify(texts);
+    await this.value(`(() => {
+      const dataTransfer = new DataTransfer();
+      for (const { name, text } of ${given}) {
+        const bytes = Uint8Array.from(atob(text), (letter) => letter.charCodeAt(0));
+        dataTransfer.items.add(new File([bytes], name));
+      }
+      document.body.dispatchEvent(new DragEvent("drop", { dataTransfer, bubbles: true, cancelable: true }));
+    })()`);
+  }
+
+  async shot(file) {
+    const { data } = await this.send("Page.captureScreenshot", { format: "png" });
+    fs.writeFileSync(file, Buffer.from(data, "base64"));
+  }
+
+  close() {
+    return this.browser.send("Target.closeTarget", { targetId: this.target });
+  }
+}

@@ -1,0 +1,105 @@
+// What the tests of the page share: what was tried, and ways to use the page as a writer does.
+
+import fs from "node:fs";
+import { pathToFileURL } from "node:url";
+import { Browser, pause } from "./browser.mjs";
+
+let tried = 0;
+let failed = 0;
+
+export function check(name, holds, seen = "") {
+  tried += 1;
+  if (!holds) failed += 1;
+  console.log(holds ? `ok: ${name}` : `FAILED: ${name}${seen === "" ? "" : `: ${JSON.stringify(seen)}`}`);
+}
+
+export function same(name, seen, wanted) {
+  check(name, seen === wanted, { seen: String(seen).slice(0, 200), wanted: String(wanted).slice(0, 200) });
+}
+
+// Does a group of tests; one that stops counts as failed.
+export async function group(name, work) {
+  const browser = new Browser();
+  const tabs = [];
+  const open = async (hash = "", options = {}, from = browser) => {
+    const page = await from.open(address(hash), options);
+    tabs.push(page);
+    return page;
+  };
+  try {
+    await work(open, browser);
+    const faults = tabs.flatMap((page) => page.faults);
+    check(`${name}: no script fails`, faults.length === 0, faults);
+  } catch (why) {
+    check(`${name} goes to its end`, false, String(why.stack ?? why));
+  } finally {
+    await browser.close();
+    browser.forget();
+  }
+}
+
+export function ended() {
+  console.log(`${tried} tried, ${failed} failed`);
+  return failed === 0 ? 0 : 1;
+}
+
+function address(hash) {
+  return `${pathToFileURL(process.env.DESK ?? "dist/desk.html")}${hash}`;
+}
+
+export function sample(name) {
+  return fs.readFileSync(`samples/${name}`);
+}
+
+// A picture, where a folder for them is named.
+export async function picture(page, name) {
+  if (process.env.SHOTS) await page.shot(`${process.env.SHOTS}/${name}.png`);
+}
+
+export const TEXTS = "[...document.querySelectorAll('textarea')].map((area) => area.value)";
+export const SAVED = "document.querySelector('.state')?.textContent === 'Saved'";
+export const NOTICES = "document.querySelector('.notices').innerText";
+
+// What the program prints of the manuscript that a tab shows.
+export function arranged(page) {
+  return page.value(`desk.then(async ({ shown: { manuscript } }) => new TextDecoder("utf-8", { ignoreBOM: true })
+    .decode((await manuscript.does(["arrange", "manuscript.ms"])).output))`);
+}
+
+// Begins a manuscript with a section, as a writer does, and leaves the caret in its text.
+export async function begin(page, name = "The quiet sea", title = "The sea") {
+  await page.until("document.querySelector('.home')");
+  await page.pressButton("New manuscript");
+  await page.until("document.querySelector('dialog[open]')");
+  await page.type(name);
+  await page.press("Enter");
+  await page.until("document.querySelector('.editor')");
+  await page.until(SAVED);
+  await add(page, title, "+ First section");
+}
+
+export async function add(page, title, words = "+ Section") {
+  const before = await page.value("document.querySelectorAll('.section').length");
+  await page.pressButton(words);
+  await page.until("document.querySelector('dialog[open]')");
+  await page.type(title);
+  await page.press("Enter");
+  await page.until(`document.querySelectorAll('.section').length === ${before + 1}`);
+  await page.until("document.activeElement.matches('textarea')");
+}
+
+export async function saved(page) {
+  await pause(60);
+  await page.until(SAVED);
+}
+
+// Puts the caret, or a selection, into the text of a section.
+export function select(page, number, start, end = start) {
+  return page.value(`(() => {
+    const area = document.querySelectorAll("textarea")[${number}];
+    area.focus();
+    area.setSelectionRange(...[${start}, ${end}].map((place) => (place < 0 ? area.value.length : place)));
+  })()`);
+}
+
+export { pause };

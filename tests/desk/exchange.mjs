@@ -1,0 +1,260 @@
+// Two authors and more: side by side, by files and streams, and in two tabs.
+
+import {
+  NOTICES, TEXTS, arranged, begin, check, group, pause, picture, same, sample, saved, select,
+} from "./checks.mjs";
+
+const SAME = "document.querySelector('.same').dataset.same === 'true'";
+
+async function sideBySide(open) {
+  const page = await open("#two");
+  await page.until("document.querySelectorAll('textarea').length === 2");
+  await page.value("document.getElementById('together').click()");
+  const [one, other] = [" Then it blew, and all took their sails in.", " Nobody minded: they were ashore."];
+  await select(page, 0, -1);
+  await page.type(one);
+  await select(page, 1, -1);
+  await page.type(other);
+  await pause(700);
+  const apart = await page.value(TEXTS);
+  same("apart, one reads what one wrote", apart[0], `It was calm.${one}`);
+  same("and the other too", apart[1], `It was calm.${other}`);
+  await picture(page, "two_apart");
+  await page.value("document.getElementById('together').click()");
+  await page.until(SAME);
+  await pause(600);
+  const [left, right] = await page.value(TEXTS);
+  same("together, both read the same", left, right);
+  const orders = [`It was calm.${one}${other}`, `It was calm.${other}${one}`];
+  check("and each passage is whole", orders.includes(left), left);
+  await picture(page, "two_together");
+}
+
+// Both write at once, each a letter in turn, while what the other wrote comes in.
+async function atOnce(open) {
+  const page = await open("#two");
+  await page.until("document.querySelectorAll('textarea').length === 2");
+  await page.until(SAME);
+  const [one, other] = ["abcdefghijklmnopqrstuvwxyzabcdefghij", "ABCDEFGHIJKLMNOPQRSTUVWXYZABCDEFGHIJ"];
+  await select(page, 0, 0);
+  await select(page, 1, -1);
+  const focus = (number) => page.value(`document.querySelectorAll("textarea")[${number}].focus()`);
+  for (let at = 0; at < one.length; at += 1) {
+    await focus(0);
+    await page.type(one[at]);
+    await focus(1);
+    await page.type(other[at]);
+    if (at % 6 === 5) await pause(320);
+  }
+  await pause(800);
+  await page.until(SAME);
+  const [left, right] = await page.value(TEXTS);
+  same("what is typed while the other's text comes in is not lost", left, `${one}It was calm.${other}`);
+  same("and both read it", right, left);
+  const carets = await page.value("[...document.querySelectorAll('textarea')].map((area) => area.selectionStart)");
+  same("each caret is where its author wrote last", carets.join(), [one.length, left.length].join());
+}
+
+// What an input method composes is not replaced by what comes in.
+async function composing(open) {
+  const page = await open("#two");
+  await page.until("document.querySelectorAll('textarea').length === 2");
+  await page.until(SAME);
+  await select(page, 0, -1);
+  await page.send("Input.imeSetComposition", { text: "か", selectionStart: 1, selectionEnd: 1 });
+  await page.value(`(() => {
+    const area = document.querySelectorAll("textarea")[1];
+    area.setRangeText("Listen. ", 0, 0);
+    area.dispatchEvent(new Event("input"));
+  })()`);
+  await pause(900);
+  same("nothing comes in while an input method composes", (await page.value(TEXTS))[0], "It was calm.か");
+  await page.send("Input.insertText", { text: "凪" });
+  await pause(600);
+  await page.until(SAME);
+  same("and then it does", (await page.value(TEXTS))[0], "Listen. It was calm.凪");
+}
+
+async function samples(open) {
+  const page = await open();
+  await page.until("document.querySelector('.home')");
+  await page.drop({ name: "all.frames", bytes: sample("oosterwick/all.frames") });
+  await page.until("document.querySelector('dialog[open]')");
+  await page.press("Enter");
+  await page.until("document.querySelectorAll('.section').length > 1");
+  await page.until("document.querySelector('.legend .author')");
+  same("a stream begins a manuscript", await arranged(page), sample("oosterwick/manuscript.txt").toString());
+  const shown = await page.value(`[...document.querySelectorAll(".section")].map((section) =>
+    "# " + section.querySelector(".title").value + "\\n" + section.querySelector(".mirror").textContent).join("")`);
+  same("which the page shows", shown, sample("oosterwick/manuscript.txt").toString());
+  await picture(page, "oosterwick");
+  await page.size(360, 740);
+  await pause(200);
+  await picture(page, "phone");
+  const width = await page.value("document.documentElement.scrollWidth");
+  check("and shows on a phone, no wider than it is", width <= 360, width);
+  await page.size(1100, 760);
+  await page.colours(true);
+  await pause(200);
+  await picture(page, "dark");
+  await page.colours(false);
+
+  await page.value("location.hash = ''");
+  await page.until("document.querySelector('.shelf li')");
+  await page.drop({ name: "version_1.ms", bytes: sample("version_1.ms") });
+  await page.until("document.querySelector('dialog[open] input[type=radio]')");
+  await page.pressButton("Go on");
+  await page.until("document.querySelectorAll('.section').length > 0");
+  const bytes = await page.value("desk.then(({ shown: { manuscript } }) => [...manuscript.bytes].join())");
+  same("a file is imported with its bytes", bytes, [...sample("version_1.ms")].join());
+
+  await page.value("location.hash = ''");
+  await page.until("document.querySelectorAll('.shelf li').length === 2");
+  await picture(page, "shelf");
+  await page.drop({ name: "letter.txt", bytes: Buffer.from("Dear Ben,\n") });
+  await page.until("document.querySelector('dialog[open]')");
+  const told = await page.value("document.querySelector('dialog[open]').innerText");
+  check("what is no manuscript is told", /was not opened/.test(told) && /neither a manuscript/.test(told), told);
+  await picture(page, "no_manuscript");
+  await page.pressButton("OK");
+  same("and nothing is made", await page.value("document.querySelectorAll('.shelf li').length"), 2);
+}
+
+async function files(open) {
+  const page = await open();
+  await begin(page);
+  await page.type("It was calm.");
+  await saved(page);
+  await select(page, 0, 3);
+  await page.drop({ name: "two_authors.frames", bytes: sample("two_authors.frames") });
+  await page.until(`/new changes/.test(${NOTICES})`);
+  check("a stream comes in", /two_authors.frames: [\d,]+ new changes came in/.test(await page.value(NOTICES)));
+  const own = "[...document.querySelectorAll('.title')].some(({ value }) => value === 'The sea')";
+  check("beside what was written", await page.value(own));
+  await picture(page, "came_in");
+  const before = await arranged(page);
+  await page.drop({ name: "letter.txt", bytes: Buffer.from("Dear Ben,\n") });
+  await page.until(`/neither a manuscript/.test(${NOTICES})`);
+  check("what is none is told, with the program's line", /bad frame at byte 0/.test(await page.value(NOTICES)));
+  same("and changes nothing", await arranged(page), before);
+  await page.drop({ name: "waiting.frames", bytes: sample("vectors/stray_after_waiting.frames").subarray(0, 22) });
+  await pause(500);
+  await picture(page, "waiting");
+}
+
+// A second author's copy in another tab. Gives both tabs.
+async function twoTabs(open) {
+  const one = await open();
+  await begin(one);
+  await one.type("It was calm.");
+  await saved(one);
+  await one.pressButton("Exchange");
+  await one.until("document.querySelector('dialog[open] .others li')");
+  await picture(one, "exchange");
+  await one.pressButton("Begin a copy for another author");
+  await one.until("document.querySelector('dialog[open] input[type=number]')");
+  await one.press("Enter");
+  await one.until(`/of its own now/.test(${NOTICES})`);
+  const id = await one.value(`desk.then(async ({ store, shown: { manuscript } }) =>
+    (await store.records()).find(({ id }) => id !== manuscript.id).id)`);
+  const other = await open(`#open=${id}`);
+  await other.until("document.querySelector('textarea')");
+  return [one, other];
+}
+
+async function tabs(open) {
+  const [one, other] = await twoTabs(open);
+  await select(other, 0, -1);
+  await other.type(" Then it blew.");
+  await one.until("document.querySelector('textarea').value === 'It was calm. Then it blew.'");
+  check("what one tab saves comes into the other", true);
+  await select(one, 0, 0);
+  await one.type("Listen. ");
+  await other.until("document.querySelector('textarea').value === 'Listen. It was calm. Then it blew.'");
+  const caret = await other.value("document.querySelector('textarea').selectionStart");
+  same("where the caret stays in the text", caret, "Listen. It was calm. Then it blew.".length);
+  const third = await open((await one.value("location.hash")));
+  await third.until("document.querySelector('textarea')");
+  await select(third, 0, -1);
+  await third.type(" Nobody minded.");
+  const all = "Listen. It was calm. Then it blew. Nobody minded.";
+  for (const page of [one, other]) await page.until(`document.querySelector('textarea').value === '${all}'`);
+  check("two tabs write one file", true);
+}
+
+// Random numbers that are the same in each run.
+function numbers(seed) {
+  let state = seed;
+  return (most) => {
+    state = (Math.imul(state, 1664525) + 1013904223) >>> 0;
+    return Math.floor((state / 4294967296) * most);
+  };
+}
+
+const WORDS = ["sea ", "calm, ", "wind ", "é", "🌊", "\n", "and ", "הים "];
+
+async function act(page, random) {
+  const sections = await page.value("document.querySelectorAll('.section').length");
+  const kind = sections === 0 ? 99 : random(100);
+  const at = random(Math.max(1, sections));
+  if (kind < 75) {
+    await page.value(`(() => {
+      const section = document.querySelectorAll(".section")[${at}];
+      section.querySelector(".paper").click();
+      const area = section.querySelector("textarea");
+      const place = Math.floor(area.value.length * ${random(1000) / 1000});
+      const whole = /[\\udc00-\\udfff]/.test(area.value[place] ?? "") ? place + 1 : place;
+      area.setSelectionRange(whole, whole);
+    })()`);
+    if (kind < 60) await page.send("Input.insertText", { text: WORDS[random(WORDS.length)] });
+    else await page.press("Backspace");
+  } else if (kind < 85) {
+    await page.value(`desk.then(({ shown }) => shown.does(${random(2) ? "'up'" : "'down'"},
+      shown.manuscript.sections[${at}])).catch(() => {})`);
+  } else if (kind < 92) {
+    await page.value(`(() => {
+      const title = document.querySelectorAll(".title")[${at}];
+      title.value = "Title " + ${random(100)};
+      title.dispatchEvent(new Event("input"));
+    })()`);
+  } else if (kind < 95 && sections > 3) {
+    await page.value(`desk.then(({ shown: { manuscript } }) =>
+      manuscript.sections[${at}] && manuscript.drop(manuscript.sections[${at}])).catch(() => {})`);
+  } else {
+    await page.value(`desk.then(({ shown: { manuscript } }) =>
+      manuscript.add("New ${random(100)}", manuscript.sections[${at}] ?? null)).catch(() => {})`);
+  }
+}
+
+async function randomActions(open) {
+  const pages = await twoTabs(open);
+  const random = numbers(58);
+  for (let count = 0; count < 200; count += 1) {
+    await act(pages[random(2)], random);
+    if (random(8) === 0) await pause(random(400));
+  }
+  for (let turn = 0; turn < 3; turn += 1) {
+    for (const page of pages) await page.value("desk.then(({ shown: { manuscript } }) => manuscript.save())");
+    await pause(700);
+  }
+  const still = `desk.then(({ shown: { manuscript, together } }) => !together.isBusy && !manuscript.unsaved.length)`;
+  for (const page of pages) await page.until(still);
+  const [one, other] = [await arranged(pages[0]), await arranged(pages[1])];
+  same("200 random actions in two tabs end in equal bytes", one, other);
+  check("of some length", one.length > 200, one.length);
+  const shown = `desk.then(({ shown: { manuscript } }) => manuscript.sections.map(({ title, live }) =>
+    "# " + title.value + "\\n" + live + "\\n").join(""))`;
+  for (const page of pages) same("which the page shows", await page.value(shown), one);
+  check("with no notice", !(await pages[0].value(NOTICES)).includes("program"), await pages[0].value(NOTICES));
+}
+
+export async function exchange() {
+  await group("two authors side by side", sideBySide);
+  await group("two who write at once", atOnce);
+  await group("what comes in while one composes", composing);
+  await group("samples", samples);
+  await group("files", files);
+  await group("two tabs", tabs);
+  await group("random actions", randomActions);
+}
+

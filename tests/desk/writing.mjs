@@ -1,0 +1,228 @@
+// One author: typing, what the store keeps, input methods, drafts, sections, comments and versions.
+
+import { ALT, Browser, CONTROL, SHIFT } from "./browser.mjs";
+import { NOTICES, TEXTS, add, arranged, begin, check, group, pause, picture, same, saved, select } from "./checks.mjs";
+
+const TEXT = "It was calm.\n\nThen it blew.";
+
+async function typing(open) {
+  const page = await open();
+  await page.until("document.querySelector('.home')");
+  await picture(page, "first_start");
+  await begin(page);
+  await page.type(TEXT);
+  await saved(page);
+  same("what is typed is saved", await arranged(page), `# The sea\n${TEXT}\n`);
+  await picture(page, "writing");
+  await page.reload();
+  await page.until("document.querySelector('textarea')");
+  same("and is there after a reload", (await page.value(TEXTS))[0], TEXT);
+  await select(page, 0, -1);
+  await page.type(" Nobody minded.");
+  await saved(page);
+  await page.press("z", CONTROL);
+  await saved(page);
+  const undone = (await page.value(TEXTS))[0];
+  check("undo takes back what was typed", undone.length < TEXT.length + 15 && undone.startsWith("It was"), undone);
+  same("and is saved", await arranged(page), `# The sea\n${undone}\n`);
+}
+
+async function drafts(open, browser) {
+  const page = await open();
+  await begin(page);
+  await page.type("It was calm.");
+  await saved(page);
+  await page.type(" Then it blew.");
+  await pause(250);
+  await browser.crash();
+  const other = new Browser(browser.profile);
+  try {
+    const again = await open("", {}, other);
+    await again.until("document.querySelector('.shelf a')");
+    await again.value("document.querySelector('.shelf a').click()");
+    await again.until("document.querySelector('.notice.draft')");
+    same("the file has what was saved before the crash", await arranged(again), "# The sea\nIt was calm.\n");
+    await picture(again, "draft");
+    await again.pressButton("Put it back");
+    await again.until("!document.querySelector('.notice.draft')");
+    await saved(again);
+    same("the draft is offered, and put back", await arranged(again), "# The sea\nIt was calm. Then it blew.\n");
+    await again.reload();
+    await again.until("document.querySelector('textarea')");
+    await pause(300);
+    check("and is offered once", !(await again.value("document.querySelector('.notice.draft')")));
+  } finally {
+    await other.close();
+  }
+}
+
+async function methods(open) {
+  const page = await open();
+  await begin(page);
+  await page.type("It was ");
+  await page.send("Input.imeSetComposition", { text: "か", selectionStart: 1, selectionEnd: 1 });
+  await pause(1400);
+  same("nothing is saved while an input method composes", await arranged(page), "# The sea\n\n");
+  await page.value("desk.then(({ shown }) => void shown.manuscript.save())");
+  await page.send("Input.imeSetComposition", { text: "かん", selectionStart: 2, selectionEnd: 2 });
+  await page.send("Input.insertText", { text: "凪" });
+  await saved(page);
+  same("what it wrote is saved", await arranged(page), "# The sea\nIt was 凪\n");
+  await select(page, 0, 0, -1);
+  await page.type("הים היה שקט.");
+  await saved(page);
+  same("text from right to left is saved", await arranged(page), "# The sea\nהים היה שקט.\n");
+  const side = await page.value(`getComputedStyle(document.querySelector("textarea")).direction`);
+  same("and has its direction", side, "rtl");
+}
+
+async function headings(open) {
+  const page = await open();
+  await begin(page);
+  await page.type("One.\n# Two.");
+  await pause(1400);
+  check("a line that would be a title is told", await page.value("!document.querySelector('.refusal').hidden"));
+  same("it is not saved", await arranged(page), "# The sea\n\n");
+  await picture(page, "refusal");
+  await page.reload();
+  await page.until("document.querySelector('.notice.draft')");
+  await page.pressButton("Put it back");
+  await page.until("document.querySelector('textarea').value.length > 3");
+  same("and is kept as a draft", (await page.value(TEXTS))[0], "One.\n# Two.");
+  await select(page, 0, 5);
+  await page.type(">");
+  await saved(page);
+  same("with the line changed it is saved", await arranged(page), "# The sea\nOne.\n># Two.\n");
+  await page.value("document.querySelector('.title').select()");
+  await page.press("Backspace");
+  await pause(1400);
+  same("a section without a title keeps its title", await arranged(page), "# The sea\nOne.\n># Two.\n");
+}
+
+async function sections(open) {
+  const page = await open();
+  await begin(page);
+  await page.type("It was calm.");
+  await add(page, "The land");
+  await page.type("Hills, mostly.");
+  await saved(page);
+  await page.press("ArrowUp", ALT | SHIFT);
+  await page.until("document.querySelector('.title').value === 'The land'");
+  same("a section is moved by keys", await arranged(page), "# The land\nHills, mostly.\n# The sea\nIt was calm.\n");
+  await page.value("(() => { const title = document.querySelector('.title'); title.focus(); title.select(); })()");
+  await page.type("Ashore");
+  await saved(page);
+  same("and retitled in place", await arranged(page), "# Ashore\nHills, mostly.\n# The sea\nIt was calm.\n");
+  await drag(page, 0, 1);
+  await page.until("document.querySelector('.title').value === 'The sea'");
+  same("and dragged", await arranged(page), "# The sea\nIt was calm.\n# Ashore\nHills, mostly.\n");
+  await page.value("document.querySelectorAll('.do-drop')[1].click()");
+  await page.until("document.querySelector('dialog[open]')");
+  await page.pressButton("Cancel");
+  same("what is not agreed to is not dropped", await page.value("document.querySelectorAll('.section').length"), 2);
+  await page.value("document.querySelectorAll('.do-drop')[1].click()");
+  await page.pressButton("Delete");
+  await page.until("document.querySelectorAll('.section').length === 1");
+  same("a section is dropped", await arranged(page), "# The sea\nIt was calm.\n");
+}
+
+// Drags a section by its grip below another one.
+function drag(page, from, to) {
+  return page.value(`(() => {
+    const all = document.querySelectorAll(".section");
+    const dataTransfer = new DataTransfer();
+    const fire = (kind, node, clientY) => node.dispatchEvent(
+      new DragEvent(kind, { dataTransfer, bubbles: true, cancelable: true, clientY }));
+    const below = all[${to}].getBoundingClientRect().bottom - 3;
+    fire("dragstart", all[${from}].querySelector(".grip"), 0);
+    fire("dragover", all[${to}], below);
+    fire("drop", all[${to}], below);
+    fire("dragend", all[${from}].querySelector(".grip"), 0);
+  })()`);
+}
+
+async function comments(open) {
+  const page = await open();
+  await begin(page);
+  await page.type("A 😀 e\u0301 calm sea.");
+  await saved(page);
+  await select(page, 0, 8, 12);
+  await page.press("m", ALT | SHIFT);
+  await page.until("document.querySelector('dialog[open] blockquote')");
+  const quote = await page.value("document.querySelector('blockquote').textContent");
+  same("a comment is made from a selection", quote, "calm");
+  await page.type("calm? quiet?");
+  await page.press("Enter");
+  await page.until("document.querySelector('.notes li')");
+  const passage = "document.querySelector('.notes .quote')?.textContent";
+  same("and stands beside its passage", await page.value(passage), "“calm”");
+  await select(page, 0, 0);
+  await page.type("Listen. ");
+  await saved(page);
+  await picture(page, "comments");
+  await page.reload();
+  await page.until("document.querySelector('.notes li')");
+  same("with which it moves", await page.value(passage), "“calm”");
+  await page.pressButton("Withdraw");
+  await page.pressButton("Withdraw");
+  await page.until("!document.querySelector('.notes li')");
+  same("and it is withdrawn", await page.value(`desk.then(async ({ shown: { manuscript } }) =>
+    (await manuscript.does(["comments", "manuscript.ms"])).output.length)`), 0);
+}
+
+async function versions(open) {
+  const page = await open();
+  await begin(page);
+  await page.type("It was calm.");
+  await page.pressButton("Versions");
+  await page.until("document.querySelector('dialog[open] .versions li')");
+  await page.type("first draft");
+  await page.press("Enter");
+  await page.until("document.querySelector('.versions b')");
+  await page.press("Escape");
+  await select(page, 0, 0, 2);
+  await page.type("The sea");
+  await saved(page);
+  await page.pressButton("Versions");
+  await page.until("document.querySelector('.versions b')");
+  await picture(page, "versions");
+  await page.pressButton("View");
+  await page.until("document.querySelector('.read')");
+  const read = await page.value("document.querySelector('.read').textContent");
+  same("a version has the text of its time", read, "It was calm.");
+  await picture(page, "version");
+}
+
+async function fullStore(open) {
+  const page = await open();
+  await begin(page);
+  await page.type("It was calm.");
+  await saved(page);
+  await page.value(`(() => {
+    globalThis.put = IDBObjectStore.prototype.put;
+    IDBObjectStore.prototype.put = () => { throw new DOMException("full", "QuotaExceededError"); };
+  })()`);
+  await page.type(" Then it blew.");
+  await page.until("document.querySelector('.state').textContent === 'Not saved'");
+  await pause(1300);
+  check("a full store is told", /no room/.test(await page.value(NOTICES)));
+  await picture(page, "full_store");
+  same("and the text stays", (await page.value(TEXTS))[0], "It was calm. Then it blew.");
+  await page.value("IDBObjectStore.prototype.put = globalThis.put");
+  await page.pressButton("Try again");
+  await saved(page);
+  same("with room again it is saved", await arranged(page), "# The sea\nIt was calm. Then it blew.\n");
+  check("and no longer told", !(await page.value(NOTICES)));
+}
+
+export async function writing() {
+  await group("typing", typing);
+  await group("drafts", drafts);
+  await group("input methods", methods);
+  await group("headings in a text", headings);
+  await group("sections", sections);
+  await group("comments", comments);
+  await group("versions", versions);
+  await group("a full store", fullStore);
+}
+
