@@ -1,7 +1,7 @@
 # What the tests of the built program share. A test sources it, and ends with `ended`.
 set -u
 cd "$(dirname "${BASH_SOURCE[0]}")/.."
-program=$PWD/bin/manuscript
+program=${TRIED_PROGRAM:-$PWD/bin/manuscript}
 [ -x "$program" ] || {
     echo "$program is not there: make bin/manuscript" >&2
     exit 1
