@@ -1,6 +1,6 @@
 // Runs commands of the program apart from the page, so that typing never waits. Asked with { number, words, files,
 // input }, it answers { number, status, output, notes, files }: of the files, those that the command wrote. Asked with
-// { number, bytes, hasLetters } it reads a file, and answers { number, sections }. The first message is the module.
+// { number, bytes, hasLetters } it reads a file, and answers { number, found }. The first message is the module.
 
 import { File, run } from "./system.js";
 import { reading } from "./page/reader.js";
@@ -31,7 +31,7 @@ function ran(module, { words, files, input }) {
 
 function answer(module, asked) {
   try {
-    return asked.words ? ran(module, asked) : { sections: reading(asked.bytes, asked.hasLetters) };
+    return asked.words ? ran(module, asked) : { found: reading(asked.bytes, asked.hasLetters) };
   } catch (why) {
     return { failure: String(why) };
   }

@@ -63,8 +63,9 @@ export class Program {
     return answer;
   }
 
+  // Reads a file apart from the program: see reader.js.
   async read(bytes, hasLetters) {
-    return (await this.#ask({ bytes, hasLetters })).sections;
+    return (await this.#ask({ bytes, hasLetters })).found;
   }
 }
 

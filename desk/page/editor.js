@@ -76,13 +76,13 @@ export class Editor {
   }
 
   state(name, why) {
-    this.mark.textContent = STATES[name];
+    if (this.mark.dataset.state !== name) this.mark.textContent = STATES[name];
     this.mark.dataset.state = name;
     if (name === "refused") this.refused(why);
     else if (name === "saved") this.saveNotice?.remove();
   }
 
-  counts({ waiting, isReadOnly }) {
+  counts({ record: { waiting }, isReadOnly }) {
     this.waitNotice?.remove();
     if (waiting) this.waitNotice = this.notice(waitingInWords(waiting));
     if (isReadOnly && !this.readNotice) {

@@ -1,6 +1,6 @@
 // Exchange with other authors: by files and streams, and with the other manuscripts of this browser.
 
-import { Refused, authorOfFile, isFile } from "./commands.js";
+import { Refused, authorOfFile, decoded, isFile } from "./commands.js";
 import { bytesOf, button, chosenFiles, download, element, grouped, opened } from "./dom.js";
 import { inWords } from "./told.js";
 
@@ -83,7 +83,7 @@ export class Together {
     const { manuscript } = this;
     const other = await manuscript.store.record(id);
     if (!other || manuscript.isClosed || manuscript.record.taken?.[id] === other.revision) return null;
-    const counts = await manuscript.takeIn(await manuscript.store.bytes(id));
+    const counts = await manuscript.takeIn((await manuscript.store.file(id)).bytes);
     await manuscript.alone(async () => {
       await manuscript.catchUp();
       await manuscript.keepRecord({ taken: { ...manuscript.record.taken, [id]: other.revision } });
@@ -146,7 +146,7 @@ function otherOf(record, editor, dialog) {
   const take = button("Take in", () => {
     dialog.close();
     editor.attempt(async () => {
-      editor.came(await manuscript.takeIn(await manuscript.store.bytes(record.id)), record.name);
+      editor.came(await manuscript.takeIn((await manuscript.store.file(record.id)).bytes), record.name);
     });
   });
   return element("li", {}, element("b", { textContent: record.name, dir: "auto" }),
@@ -172,11 +172,11 @@ async function copy(editor) {
     `${grouped(record.replica)}. Open it in another tab: both are kept together.`);
 }
 
-// What a file is: a manuscript with its author's number, a stream, or neither, which is told.
+// What a file is: a manuscript with its author's number and what it says, a stream, or neither, which is told.
 export async function kindOf(program, bytes) {
   if (isFile(bytes)) {
-    await program.does(["list", "it.ms"], { files: [["it.ms", bytes]] });
-    return { isManuscript: true, author: authorOfFile(bytes) };
+    const { output } = await program.does(["arrange", "it.ms"], { files: [["it.ms", bytes]] });
+    return { isManuscript: true, author: authorOfFile(bytes), text: decoded(output) };
   }
   const answer = await program.run(["show"], { input: bytes });
   if (answer.status !== 0 && answer.status !== 3) throw new Refused(["show"], answer);

@@ -1,7 +1,7 @@
 // The manuscripts that the browser keeps.
 
 import { FILES, kindOf } from "./exchange.js";
-import { Refused } from "./commands.js";
+import { Refused, countsOf, isFile } from "./commands.js";
 import { ask, bytesOf, button, chosenFiles, download, element, field, grouped, paragraph, tell } from "./dom.js";
 import { freshKey } from "./store.js";
 
@@ -34,23 +34,22 @@ export class Shelf {
 
   async make({ name, replica, from, circle }) {
     const made = await this.program.does(["new", "new.ms", replica, HOLD]);
-    let bytes = made.files.get("new.ms");
-    if (from) bytes = await this.filled(bytes, from);
-    return this.keep({ name, replica, circle, bytes });
+    const filled = await this.filled(made.files.get("new.ms"), from);
+    return this.keep({ name, replica, circle, ...filled });
   }
 
   async filled(bytes, from) {
-    const { isManuscript } = await kindOf(this.program, from);
+    if (!from) return { bytes, text: "", waiting: 0 };
     const files = [["new.ms", bytes]];
-    const answer = isManuscript
+    const answer = isFile(from)
       ? await this.program.does(["merge", "new.ms", "it.ms"], { files: [...files, ["it.ms", from]] })
       : await this.program.does(["take", "new.ms"], { files, input: from });
-    return answer.files.get("new.ms") ?? bytes;
+    return { bytes: answer.files.get("new.ms") ?? bytes, waiting: countsOf(answer.notes).waiting };
   }
 
-  async keep({ name, replica, circle = freshKey(), bytes }) {
-    const record = { id: freshKey(), name, replica, circle, revision: 1, changed: Date.now() };
-    await this.store.keep(record, { bytes });
+  async keep({ name, replica, circle = freshKey(), bytes, text, waiting }) {
+    const record = { id: freshKey(), name, replica, circle, waiting, revision: 1, changed: Date.now() };
+    await this.store.keep(record, { bytes, text });
     return record;
   }
 
@@ -70,7 +69,7 @@ export class Shelf {
     ];
     const read = () => (own.checked ? "own" : "other");
     const whose = await ask("Whose file is this?", body, { agree: "Go on", read });
-    if (whose === "own") return this.keep({ name, replica: kind.author, bytes });
+    if (whose === "own") return this.keep({ name, replica: kind.author, bytes, text: kind.text });
     return whose && this.begin({ name, from: bytes });
   }
 }
@@ -123,7 +122,7 @@ export class Home {
   }
 
   async give({ id, name }) {
-    download(`${name}.ms`, await this.store.bytes(id));
+    download(`${name}.ms`, (await this.store.file(id)).bytes);
   }
 
   async rename({ id, name }) {

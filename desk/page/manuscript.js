@@ -13,13 +13,13 @@ const OTHER = "other.ms";
 
 export class Manuscript {
   // `view` shows it: place(sections), state(name, why), decorate(sections), counts(list). `makes` makes a section of a
-  // part; `pause` is after how many milliseconds without typing it is saved.
-  constructor({ store, program, channel, record, view, makes, pause = 1000 }) {
-    Object.assign(this, { store, program, channel, record, view, makes, pause });
+  // part; `pause` is after how many milliseconds without typing it is saved; `coloursAll` says that one's own letters
+  // are coloured too.
+  constructor({ store, program, channel, record, view, makes, pause = 1000, coloursAll = false }) {
+    Object.assign(this, { store, program, channel, record, view, makes, pause, coloursAll });
     this.tab = freshKey();
     this.sections = [];
     this.lost = [];
-    this.waiting = 0;
     this.queue = Promise.resolve();
     this.isReadOnly = false;
   }
@@ -28,16 +28,26 @@ export class Manuscript {
     return this.record.id;
   }
 
-  // Opening: the text is shown first, and who is who is read behind it.
+  // Opening: the text that was kept with the file is shown at once, and the program prints it behind that.
   async load() {
     this.store.showOpen?.(this.tab);
     this.record = await this.store.record(this.id);
-    this.bytes = await this.store.bytes(this.id);
-    this.sections = (await this.printed()).map((part) => this.makes(part));
+    const { bytes, text } = await this.store.file(this.id);
+    this.bytes = bytes;
+    this.sections = partsOf(text ?? (await this.printed(bytes))).map((part) => this.makes(part));
     this.view.place(this.sections);
     this.view.state("saved");
-    await this.alone(async () => this.adopt(await this.look()));
+    await this.alone(async () => this.adopt(await this.look(this.bytes)));
     await this.decorate();
+    if (this.record.waiting === undefined) await this.alone(() => this.countWaiting());
+  }
+
+  // How many changes wait is not known of a file that was brought here.
+  async countWaiting() {
+    await this.catchUp();
+    const { waiting } = listOf((await this.does(["list", HOME])).output);
+    await this.keepRecord({ waiting });
+    this.view.counts(this);
   }
 
   close() {
@@ -58,26 +68,32 @@ export class Manuscript {
     return this.program.does(words, { files: [[HOME, bytes], ...files], input });
   }
 
-  async printed() {
-    return partsOf(decoded((await this.does(["arrange", HOME])).output));
+  async printed(bytes) {
+    return decoded((await this.does(["arrange", HOME], { bytes })).output);
   }
 
-  // The sections of the file, with what tells them apart.
-  async look() {
-    const parts = await this.printed();
-    const list = listOf((await this.does(["list", HOME])).output);
-    const known = await this.program.read(this.bytes, false);
-    this.list = list;
-    this.waiting = list.waiting;
-    this.isReadOnly = list.numbers.length !== parts.length;
-    if (this.isReadOnly) return parts;
-    return parts.map((part, at) => ({ ...part, number: list.numbers[at], key: known[list.numbers[at] - 1]?.key }));
+  // What bytes of the file say: the text, and its sections with what tells them apart. Where a text has a line like a
+  // title there are more parts than sections.
+  async look(bytes) {
+    const text = await this.printed(bytes);
+    const parts = partsOf(text);
+    const { arranged, authors, hasComments } = await this.program.read(bytes, false);
+    const hasOthers = hasComments || authors.some((author) => author !== this.record.replica);
+    const isReadOnly = arranged.length !== parts.length;
+    const sections = isReadOnly ? parts : parts.map((part, at) => ({ ...part, key: arranged[at].key }));
+    return { text, sections, isReadOnly, hasOthers };
   }
 
-  // Keeps new bytes of the file in the store, with which the draft that is in them is forgotten.
-  async keep(bytes) {
-    const record = { ...this.record, revision: this.record.revision + 1, changed: Date.now() };
-    await this.store.keep(record, { bytes, tab: this.tab });
+  // The number of a section in the section list, by which scripts and comments count.
+  async numberOf(section) {
+    const { numbers } = listOf((await this.does(["list", HOME])).output);
+    return numbers[this.placeOf(section) - 1];
+  }
+
+  // Keeps new bytes of the file in the store, and what they say. The draft that is in them is forgotten.
+  async keep(bytes, text, waiting = this.record.waiting) {
+    const record = { ...this.record, waiting, revision: this.record.revision + 1, changed: Date.now() };
+    await this.store.keep(record, { bytes, text, tab: this.tab });
     this.record = record;
     this.bytes = bytes;
     this.channel?.say({ kind: "saved", id: this.id, circle: record.circle });
@@ -96,10 +112,12 @@ export class Manuscript {
       this.record = record;
       return false;
     }
-    this.bytes = await this.store.bytes(this.id);
-    this.record = record;
+    const { bytes } = await this.store.file(this.id);
+    const found = await this.look(bytes);
     await this.settled();
-    this.adopt(await this.look());
+    this.bytes = bytes;
+    this.record = record;
+    this.adopt(found);
     return true;
   }
 
@@ -109,7 +127,8 @@ export class Manuscript {
   }
 
   // Shows the sections of the file. Those that were there stay the same, with what is typed in them.
-  adopt(parts) {
+  adopt({ sections: parts, isReadOnly, hasOthers }) {
+    Object.assign(this, { isReadOnly, hasOthers });
     const before = new Map(this.sections.map((section, at) => [section.key ?? `at ${at}`, section]));
     const isFirst = this.sections.every(({ key }) => key === undefined);
     const after = parts.map((part, at) => {
@@ -208,7 +227,7 @@ export class Manuscript {
   // The commands that bring what was typed into the file: a title by `retitle`, texts by `revise`.
   async saveDraft() {
     const { sections, lost } = this;
-    const sent = sections.map((section) => section.proposal());
+    const sent = sections.map((section) => (section.isDirty ? section.proposal() : section.clean()));
     const isChanged = ({ saved }, at) => saved.title !== sent[at].title || saved.text !== sent[at].text;
     if (this.isReadOnly || (lost.length === 0 && !sections.some(isChanged))) return;
     this.view.state("saving");
@@ -220,11 +239,12 @@ export class Manuscript {
     const base = formOf(sections.map(({ saved }, at) => ({ title: sent[at].title, text: saved.text })));
     const parts = [...sent];
     for (const { place, live } of lost) parts.splice(Math.min(place - 1, parts.length), 0, live);
-    bytes = await this.revised(bytes, base, formOf(parts));
-    await this.keep(bytes);
-    for (const [at, section] of sections.entries()) section.saved = sent[at];
+    const draft = formOf(parts);
+    bytes = await this.revised(bytes, base, draft);
+    await this.keep(bytes, draft);
+    for (const [at, section] of sections.entries()) section.setSaved(sent[at]);
     this.lost = this.lost.slice(lost.length);
-    if (lost.length) this.adopt(await this.look());
+    if (lost.length) this.adopt(await this.look(bytes));
     this.keepDraft();
   }
 
@@ -243,12 +263,11 @@ export class Manuscript {
       await this.saveDraft();
       const done = await command();
       const bytes = written(done, this.bytes);
-      if (bytes !== this.bytes) {
-        await this.keep(bytes);
-        const parts = await this.look();
-        await this.settled();
-        this.adopt(parts);
-      }
+      if (bytes === this.bytes) return done;
+      const found = await this.look(bytes);
+      await this.keep(bytes, found.text, countsOf(done.notes).waiting);
+      await this.settled();
+      this.adopt(found);
       return done;
     }).finally(() => this.view.state(this.unsaved.length ? "typing" : "saved"));
     await this.decorate();
@@ -264,7 +283,10 @@ export class Manuscript {
   }
 
   drop(section) {
-    return this.change(() => this.does(["edit", HOME], { input: encoded(`drop ${section.number}\n`) }));
+    return this.change(async () => {
+      const number = await this.numberOf(section);
+      return this.does(["edit", HOME], { input: encoded(`drop ${number}\n`) });
+    });
   }
 
   // Adds a section behind another one, or in front of all.
@@ -278,7 +300,7 @@ export class Manuscript {
   }
 
   comment(section, first, count, text) {
-    return this.change(() => this.does(["comment", HOME, section.number, first, count, text]));
+    return this.change(async () => this.does(["comment", HOME, await this.numberOf(section), first, count, text]));
   }
 
   // No command withdraws a comment, but a frame that deletes it does: 3 and its identifier.
@@ -313,16 +335,18 @@ export class Manuscript {
 
   // Colours and comments, which are read apart from the text.
   async decorate() {
-    if (this.isReadOnly || this.isClosed) return;
+    if (this.isReadOnly || this.isClosed || !(this.hasOthers || this.coloursAll)) return;
     const { bytes, sections } = this;
-    const [known, { output }] = await Promise.all([this.program.read(bytes, true), this.does(["comments", HOME])]);
-    const comments = commentsOf(output);
+    const { arranged } = await this.program.read(bytes, true);
+    const { output } = await this.does(["comments", HOME], { bytes });
     if (bytes !== this.bytes || this.isClosed) return;
+    const known = new Map(arranged.map((section) => [section.key, section]));
+    const comments = commentsOf(output);
     for (const section of sections) {
-      const read = known[section.number - 1];
-      section.runs = read ? marksOf(section.saved.text, read.runs) : [];
-      const on = comments.filter(({ section: number }) => number === section.number);
-      section.comments = on.map((comment, at) => placed(section.saved.text, comment, read?.comments[at]));
+      const { number, runs, comments: authors } = known.get(section.key);
+      const on = comments.filter((comment) => comment.section === number);
+      section.runs = marksOf(section.saved.text, runs);
+      section.comments = on.map((comment, at) => placed(section.saved.text, comment, authors[at]));
     }
     this.view.decorate(sections);
   }

@@ -9,11 +9,10 @@ import { button, element } from "./dom.js";
 
 export class Section {
   // `host` is told of what the writer does: edited(section), and does(name, section).
-  constructor({ key, number, title, text }, host) {
+  constructor({ key, title, text }, host) {
     this.key = key;
-    this.number = number;
-    this.saved = { title, text };
-    this.live = withoutReturns(text);
+    this.setSaved({ title, text });
+    this.live = this.shown;
     this.host = host;
     this.marks = [];
     this.area = null;
@@ -116,15 +115,18 @@ export class Section {
   }
 
   // What was saved elsewhere comes in: `part` takes the place of what was saved before, and what is not saved stays.
-  takeIn({ key, number, title, text }) {
+  takeIn({ key, title, text }) {
     if (this.title.value === this.saved.title) this.setTitle(title);
-    if (text !== this.saved.text) {
-      const before = withoutReturns(this.saved.text);
-      this.apply(carried(changes(before, withoutReturns(text)), changes(before, this.live)));
-    }
-    this.saved = { title, text };
+    const incoming = changes(this.shown, withoutReturns(text));
+    this.apply(carried(incoming, changes(this.shown, this.live)));
+    this.setSaved({ title, text });
     this.key = key;
-    this.number = number;
+  }
+
+  // What the file has, and how a text area shows it.
+  setSaved(saved) {
+    this.saved = saved;
+    this.shown = withoutReturns(saved.text);
   }
 
   setTitle(title) {
@@ -140,7 +142,13 @@ export class Section {
   }
 
   get isDirty() {
-    return this.title.value !== this.saved.title || this.live !== withoutReturns(this.saved.text);
+    return this.title.value !== this.saved.title || this.live !== this.shown;
+  }
+
+  // What is to be saved of a section in which nothing was written.
+  clean() {
+    this.say("");
+    return this.saved;
   }
 
   // What is to be saved: what was written, as far as it can be. It says at the section what can't.
@@ -153,7 +161,7 @@ export class Section {
   }
 
   draft() {
-    const saved = { title: this.saved.title, text: withoutReturns(this.saved.text) };
+    const saved = { title: this.saved.title, text: this.shown };
     return { key: this.key, place: this.place, saved, live: { title: this.title.value, text: this.live } };
   }
 
@@ -165,7 +173,7 @@ export class Section {
 
   // Marks are stretches of the text with a class. They are given as places of the saved text.
   setMarks(marks) {
-    const own = changes(withoutReturns(this.saved.text), this.live);
+    const own = changes(this.shown, this.live);
     this.marks = own.length ? marks.map((mark) => movedMark(mark, own)) : marks;
     this.paint();
   }

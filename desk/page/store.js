@@ -59,15 +59,16 @@ export class Store {
     return this.#look("records", (store) => store.get(id));
   }
 
-  async bytes(id) {
-    return (await this.#look("files", (store) => store.get(id)))?.bytes;
+  // The bytes of a file, and what they say where that was known when they were kept.
+  file(id) {
+    return this.#look("files", (store) => store.get(id));
   }
 
   // Keeps a record, its file where there are bytes, and forgets the draft of a tab where one is named.
-  keep(record, { bytes, tab } = {}) {
+  keep(record, { bytes, text, tab } = {}) {
     return this.#change(["records", "files", "drafts"], (records, files, drafts) => {
       records.put(record);
-      if (bytes) files.put({ id: record.id, bytes });
+      if (bytes) files.put({ id: record.id, bytes, text });
       if (tab) drafts.delete([record.id, tab]);
     });
   }
@@ -131,13 +132,13 @@ export class MemoryStore {
     return this.#records.get(id);
   }
 
-  async bytes(id) {
+  async file(id) {
     return this.#files.get(id);
   }
 
-  async keep(record, { bytes } = {}) {
+  async keep(record, { bytes, text } = {}) {
     this.#records.set(record.id, record);
-    if (bytes) this.#files.set(record.id, bytes);
+    if (bytes) this.#files.set(record.id, { bytes, text });
   }
 
   async keepDraft() {}

@@ -23,7 +23,7 @@ class Pane {
     this.name = author.name;
     const { store, program } = two;
     this.manuscript = new Manuscript({
-      store, program, record, view: this, makes: (part) => new Section(part, this), pause: 250,
+      store, program, record, view: this, makes: (part) => new Section(part, this), pause: 250, coloursAll: true,
     });
     this.sections = element("div", { className: "sections" });
     this.mark = element("span", { className: "state", role: "status" });

@@ -15,6 +15,10 @@ export function chromium() {
 
 export const pause = (time) => new Promise((done) => setTimeout(done, time));
 
+// No browser outlives the tests.
+const started = new Set();
+process.on("exit", () => started.forEach((child) => child.kill("SIGKILL")));
+
 export class Browser {
   #asked = new Map();
   #last = 0;
@@ -30,7 +34,7 @@ export class Browser {
     this.child = spawn(chromium(), words, { stdio: ["ignore", "ignore", "ignore", "pipe", "pipe"] });
     this.child.stdio[4].on("data", (data) => this.#read(data));
     this.ended = new Promise((done) => this.child.on("exit", done));
-    process.on("exit", () => this.child.kill("SIGKILL"));
+    started.add(this.child);
   }
 
   #read(data) {

@@ -137,9 +137,52 @@ async function files(open) {
   await page.until(`/neither a manuscript/.test(${NOTICES})`);
   check("what is none is told, with the program's line", /bad frame at byte 0/.test(await page.value(NOTICES)));
   same("and changes nothing", await arranged(page), before);
-  await page.drop({ name: "waiting.frames", bytes: sample("vectors/stray_after_waiting.frames").subarray(0, 22) });
-  await pause(500);
+}
+
+// Changes whose causes are missing, and some that fit nowhere.
+async function waiting(open) {
+  const page = await open();
+  await begin(page);
+  await page.drop({ name: "some.frames", bytes: sample("vectors/stray_after_waiting.frames") });
+  await page.until(`/1 change waits/.test(${NOTICES}) && /1 change fits nowhere/.test(${NOTICES})`);
+  check("what waits and what fits nowhere is told", true);
   await picture(page, "waiting");
+  await page.reload();
+  await page.until(`/1 change waits/.test(${NOTICES})`);
+  check("and that something waits when it is opened again", true);
+}
+
+// Two copies of one file, both changed.
+async function conflict(open) {
+  const page = await open();
+  await begin(page);
+  await page.type("It was calm.");
+  await saved(page);
+  const copy = await page.value("desk.then(({ shown: { manuscript } }) => [...manuscript.bytes])");
+  await page.type(" A");
+  await saved(page);
+  const mine = await arranged(page);
+  await page.value("location.hash = ''");
+  await page.until("document.querySelector('.shelf li')");
+  await page.drop({ name: "copy.ms", bytes: Buffer.from(copy) });
+  await page.until("document.querySelector('dialog[open] input[type=radio]')");
+  await picture(page, "whose");
+  await page.pressButton("Go on");
+  await page.until("document.querySelector('textarea')");
+  await page.until("document.querySelector('.state').textContent === 'Saved'");
+  await select(page, 0, -1);
+  await page.type(" B");
+  await saved(page);
+  const other = await page.value("desk.then(({ shown: { manuscript } }) => [...manuscript.bytes])");
+  await page.value("history.back()");
+  await page.until("document.querySelectorAll('.shelf li').length === 2");
+  await page.value("[...document.querySelectorAll('.shelf a')].find((link) => link.textContent !== 'copy').click()");
+  await page.until("document.querySelector('textarea')");
+  await page.drop({ name: "copy.ms", bytes: Buffer.from(other) });
+  await page.until(`/Two copies of one file were changed/.test(${NOTICES})`);
+  check("two copies that were both changed are told", true);
+  await picture(page, "conflict");
+  same("and what one had stays", await arranged(page), mine);
 }
 
 // A second author's copy in another tab. Gives both tabs.
@@ -254,6 +297,8 @@ export async function exchange() {
   await group("what comes in while one composes", composing);
   await group("samples", samples);
   await group("files", files);
+  await group("what waits", waiting);
+  await group("two copies", conflict);
   await group("two tabs", tabs);
   await group("random actions", randomActions);
 }

@@ -1,0 +1,80 @@
+// The page by keyboard alone, and what a reader of screens is given.
+
+import { SHIFT } from "./browser.mjs";
+import { arranged, check, group, pause, picture, same, saved } from "./checks.mjs";
+
+const FOCUSED = `(() => {
+  const { activeElement: at, body } = document;
+  return at === body ? "" : at.getAttribute("aria-label") ?? at.textContent;
+})()`;
+
+// Goes from one thing to the next until the one with these words has the focus.
+async function goTo(page, words, modifiers = 0) {
+  for (let count = 0; count < 40; count += 1) {
+    await page.press("Tab", modifiers);
+    if ((await page.value(FOCUSED)).includes(words)) return;
+  }
+  throw new Error(`${words} can't be reached by keys`);
+}
+
+async function byKeys(open) {
+  const page = await open();
+  await page.until("document.querySelector('.home')");
+  await goTo(page, "New manuscript");
+  await picture(page, "focus");
+  await page.press("Enter");
+  await page.until("document.querySelector('dialog[open]')");
+  await page.type("The quiet sea");
+  await page.press("Enter");
+  await page.until("document.querySelector('.editor')");
+  await goTo(page, "First section");
+  await page.press("Enter");
+  await page.until("document.querySelector('dialog[open]')");
+  await page.type("The sea");
+  await page.press("Enter");
+  await page.until("document.activeElement.matches('textarea')");
+  await page.type("It was calm.");
+  await saved(page);
+  await goTo(page, "+ Section");
+  await page.press("Enter");
+  await page.until("document.querySelector('dialog[open]')");
+  await page.type("The land");
+  await page.press("Enter");
+  await page.until("document.activeElement.matches('textarea') && document.querySelectorAll('.section').length === 2");
+  await page.type("Hills.");
+  await saved(page);
+  await goTo(page, "Move up", SHIFT);
+  await page.press("Enter");
+  await page.until("document.querySelector('.title').value === 'The land'");
+  same("a manuscript is written by keys alone", await arranged(page), "# The land\nHills.\n# The sea\nIt was calm.\n");
+  await goTo(page, "Help", SHIFT);
+  await page.press("Enter");
+  await page.until("document.querySelector('dialog[open]')");
+  await pause(100);
+  await picture(page, "help");
+  const help = await page.value("document.querySelector('dialog[open]').innerText");
+  check("the help tells what is proved, and what is not", /is proved/.test(help) && /Not proved, only tested/.test(help));
+  await page.press("Escape");
+  await page.until("!document.querySelector('dialog[open]')");
+  check("and the focus is where it was", (await page.value(FOCUSED)).includes("Help"));
+}
+
+// Each thing that can be used has a name.
+async function names(open) {
+  for (const hash of ["", "#two"]) {
+    const page = await open(hash);
+    await page.until("document.querySelector('button')");
+    await pause(400);
+    const nameless = await page.value(`[...document.querySelectorAll("button, input, textarea, a")].filter((each) =>
+      !(each.textContent || each.getAttribute("aria-label") || each.closest("label")?.textContent)).length`);
+    same(`all of ${hash || "the list"} has names`, nameless, 0);
+    const outside = await page.value(`[...document.querySelectorAll("[src], link, [href]")].filter((each) =>
+      /^(https?:|\\/\\/)/.test(each.getAttribute("src") ?? each.getAttribute("href") ?? "")).length`);
+    same("and no part from outside", outside, 0);
+  }
+}
+
+export async function keyboard() {
+  await group("by keyboard", byKeys);
+  await group("names", names);
+}

@@ -1,0 +1,92 @@
+// A manuscript of 1,000,000 letters: how long it takes to open, and a key press in it.
+
+import { arranged, check, group, pause, picture, saved, select } from "./checks.mjs";
+
+const LETTERS = 1000000;
+const SECTIONS = 100;
+
+const MOST_TO_OPEN = 2000;
+const MOST_FOR_A_KEY = 50;
+
+// Makes a manuscript of so many sections in the page's store, and gives its address.
+function made(page, sections) {
+  return page.value(`desk.then(async ({ shelf, program, store }) => {
+    const sentence = "The ferry went twice a day, once with the ebb and once against it, and nobody minded.\\n";
+    const text = sentence.repeat(${LETTERS / sections}).slice(0, ${LETTERS / sections});
+    const draft = Array.from({ length: ${sections} }, (_, at) => "# Chapter " + (at + 1) + "\\n" + text + "\\n").join("");
+    const record = await shelf.make({ name: "Large", replica: 7, circle: "large" });
+    const files = [["a.ms", (await store.file(record.id)).bytes], ["b.txt", new Uint8Array(0)]];
+    const input = new TextEncoder().encode(draft);
+    const { files: written } = await program.does(["revise", "a.ms", "b.txt"], { files, input });
+    const bytes = written.get("a.ms");
+    await store.keep(record, { bytes, text: draft });
+    globalThis.bytes = bytes;
+    return "#open=" + record.id;
+  })`);
+}
+
+// Measures each key press from its event to the picture after it, in the page.
+const WATCH = `(() => {
+  globalThis.keys = [];
+  document.addEventListener("keydown", ({ timeStamp }) => {
+    requestAnimationFrame(() => {
+      const { port1, port2 } = new MessageChannel();
+      port1.onmessage = () => keys.push(performance.now() - timeStamp);
+      port2.postMessage(0);
+    });
+  }, true);
+})()`;
+
+function median(numbers) {
+  return [...numbers].sort((one, other) => one - other)[numbers.length >> 1];
+}
+
+async function opened(open, address) {
+  const page = await open(address);
+  await page.until("document.querySelector('textarea')?.value.length > 0");
+  const seen = await page.value("performance.now()");
+  await page.until("document.querySelector('.state').textContent === 'Saved'");
+  return { page, seen: Math.round(seen) };
+}
+
+async function typed(page, name) {
+  await page.value(WATCH);
+  await select(page, 0, 5000);
+  await pause(300);
+  const text = "Here some words more are typed. ".repeat(3);
+  for (const letter of text) {
+    await page.type(letter);
+    await pause(25);
+  }
+  await pause(200);
+  const keys = await page.value("keys");
+  const middle = median(keys).toFixed(1);
+  const most = Math.max(...keys).toFixed(1);
+  check(`${name}: a key press takes ${middle} ms, at most ${most}`, median(keys) < MOST_FOR_A_KEY, keys);
+  const late = keys.filter((time) => time >= MOST_FOR_A_KEY).length;
+  check(`${name}: ${late} of ${keys.length} took ${MOST_FOR_A_KEY} ms or more`, late <= keys.length / 20, keys);
+  return text;
+}
+
+async function chapters(open) {
+  const first = await open();
+  await first.until("document.querySelector('.home')");
+  const address = await made(first, SECTIONS);
+  const { page, seen } = await opened(open, address);
+  check(`1,000,000 letters are there after ${seen} ms`, seen <= MOST_TO_OPEN);
+  await pause(3000);
+  await picture(page, "large");
+  const text = await typed(page, "100 sections");
+  const start = Date.now();
+  await saved(page);
+  console.log(`note: it was saved ${Date.now() - start} ms after the last key`);
+  const after = await arranged(page);
+  check("what was typed is saved", after.includes(text) && after.length > LETTERS + text.length);
+  const used = await page.value("performance.memory?.usedJSHeapSize ?? 0");
+  console.log(`note: the page uses ${Math.round(used / 1048576)} MiB`);
+}
+
+export async function large() {
+  await group("a large file", chapters);
+}
+
