@@ -4,7 +4,7 @@ PREFIX ?= $(HOME)/.local
 
 SOURCES := crates.txt HANDLES $(shell find crates -regex 'crates/[^/]*/out' -prune -o -type f -print)
 
-.PHONY: run test demo bench install dist
+.PHONY: run test demo bench install dist desk
 
 # The main job: a chapter that two authors wrote apart, as a stream, and their two files in a folder of their own.
 run: bin/manuscript
@@ -48,3 +48,16 @@ dist: bin/manuscript
 	cd dist && tar --sort=name --mtime=@0 --owner=0 --group=0 --numeric-owner -c $(RELEASE) | gzip -n -9 > $(RELEASE).tar.gz
 	rm -r dist/$(RELEASE)
 	cd dist && sha256sum $(RELEASE).tar.gz
+
+# One HTML file, for those who have a browser and no terminal: a page, and in it the program for WebAssembly. The LLVM
+# module of the proved program is kept, so that the page can be changed without proving it again.
+desk: dist/desk.html
+
+bin/manuscript.bc: $(SOURCES) desk/module.sh desk/rattle.sh desk/clang.sh
+	RT="$(RT)" desk/module.sh $@
+
+dist/manuscript.wasm: bin/manuscript.bc desk/build.sh desk/heap.c desk/imports.txt
+	RT="$(RT)" desk/build.sh $< $@
+
+dist/desk.html: dist/manuscript.wasm $(shell find desk -type f ! -name '*.sh' ! -name '*.md' ! -name heap.c)
+	desk/pack.py $< $@

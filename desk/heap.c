@@ -1,6 +1,6 @@
 // The heap of the program in a page, in place of the C library's. Blocks come in classes of sizes, four to each
-// doubling, and each class has a list of its freed blocks. A block is never split or joined. The 16 bytes in front of it
-// hold its class. All addresses are multiples of 16, which is as much as the program asks for.
+// doubling, and each class has a list of its freed blocks. A block is never split or joined. The 16 bytes in front of
+// it hold its class. All addresses are multiples of 16, which is as much as the program asks for.
 
 typedef unsigned long u64;
 typedef unsigned char u8;

@@ -2,10 +2,16 @@
 // The program in WebAssembly as a process, for tests: node.mjs MODULE WORD..
 //
 // Files and streams are real ones, behind those of system.js: a file is an array of bytes, and what is written to it
-// goes to the disk too. CLOSED lists the numbers of standard streams that are closed, which Node opens anew before this
-// begins. MEMORY is how many bytes of memory the program may take. AT and FAULT let a call fail, and a line for each
-// call goes to the file with the number 9: see tests/calls.c, which does the same for the native program. Node 20 wants
-// --experimental-wasm-memory64.
+// goes to the disk too. The environment may have:
+//
+//     CLOSED       the numbers of standard streams that are closed, which Node opens anew before this begins
+//     ARRAYS       something: the files are those of a page, read from this folder before the command, and saved after
+//     ROOM         how many bytes these files may have in all
+//     IN_USE       the name of one of them that another program has locked
+//     MEMORY       how many bytes of memory the program may take
+//     AT, FAULT    a call that fails, and how; each call is told to the file with the number 9, as by tests/calls.c
+//
+// Node 20 wants --experimental-wasm-memory64.
 
 import { spawnSync } from "node:child_process";
 import fs from "node:fs";
@@ -107,10 +113,24 @@ function outputOf(number) {
   return { write: (bytes) => real(() => fs.writeSync(number, bytes)) };
 }
 
-const { CLOSED = "", MEMORY, AT, FAULT } = process.env;
+// The files of this folder as a page would have them.
+function arrays({ ROOM = Infinity, IN_USE }) {
+  const names = fs.readdirSync(".").filter((name) => fs.statSync(name).isFile());
+  const files = new Map(names.map((name) => [name, new File(fs.readFileSync(name))]));
+  return new Store(files, { room: Number(ROOM), inUse: new Set([IN_USE]) });
+}
+
+function save({ files }) {
+  for (const [name, file] of files) fs.writeFileSync(name, file.bytes);
+  for (const name of fs.readdirSync(".")) if (fs.statSync(name).isFile() && !files.has(name)) fs.unlinkSync(name);
+}
+
+const { CLOSED = "", ARRAYS, MEMORY, AT, FAULT } = process.env;
 const module = new WebAssembly.Module(fs.readFileSync(process.argv[2]));
 const streams = [inputOf(0), outputOf(1), outputOf(2)];
 for (const number of CLOSED.split(" ").filter(Boolean)) streams[number] = undefined;
 const watch = AT && new Watch(9, Number(AT), FAULT);
-const ended = run(module, words(), { files: new RealStore(), streams, memory: MEMORY, around: watch?.around });
+const files = ARRAYS ? arrays(process.env) : new RealStore();
+const ended = run(module, words(), { files, streams, memory: MEMORY, around: watch?.around });
+if (ARRAYS) save(files);
 process.exit(ended.status);

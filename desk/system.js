@@ -41,7 +41,7 @@ export class SystemError extends Error {
 // The words of open.
 const OPEN = { access: 0o3, creates: 0o100, exclusive: 0o200, truncates: 0o1000 };
 
-// What a path or an open number stands for, as statx tells it.
+// What a path or an open number stands for, where it is no file: its mode and size.
 const FOLDER = { mode: 0o040755, size: 0 };
 const PIPE = { mode: 0o010600, size: 0 };
 
@@ -89,8 +89,8 @@ export class File {
   }
 }
 
-// Files by their names, in one folder. `room` is how many bytes they may have in all, and `inUse` has the names of those
-// that another program has locked.
+// Files by their names, in one folder. `room` is how many bytes they may have in all, and `inUse` has the names of
+// those that another program has locked.
 export class Store {
   constructor(files = new Map(), { room = Infinity, inUse = new Set() } = {}) {
     this.files = files;
@@ -104,6 +104,7 @@ export class Store {
   }
 
   make(name) {
+    if (name.includes("/")) throw new SystemError("ENOENT");
     const file = new File();
     this.files.set(name, file);
     return file;
@@ -168,8 +169,8 @@ class Output {
   }
 }
 
-// What one command sees. The methods are the calls, by their names in the C library, with their parameters: a pointer, a
-// count and an offset is a BigInt, and other numbers are plain.
+// What one command sees. The methods are the calls, by their names in the C library, with their parameters: a pointer,
+// a count and an offset is a BigInt, and other numbers are plain.
 class System {
   error = 0;
 
