@@ -1,7 +1,8 @@
 #!/usr/bin/env bash
-# Stands for the toolchain's clang when the program is compiled: it keeps the LLVM module, and calls the real one.
-# DESK_MODULE names the file for the module, and DESK_CLANG the real compiler.
+# Stands for the toolchain's clang when the program is compiled: it keeps the LLVM module as module.bc beside itself, and
+# calls the real one, to which `real` leads. It is given no environment.
+here=$(dirname "$0")
 for word in "$@"; do
-    case $word in *.bc) cp "$word" "$DESK_MODULE" ;; esac
+    case $word in *.bc) cp "$word" "$here/module.bc" ;; esac
 done
-exec "$DESK_CLANG" "$@"
+exec "$(readlink "$here/real")" "$@"

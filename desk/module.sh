@@ -34,8 +34,8 @@ make_kit() {
     link_all_but "$kit/toolchain" "$work/toolchain" bin
     link_all_but "$kit/toolchain/bin" "$work/toolchain/bin" clang
     install -m 755 "$here/clang.sh" "$work/toolchain/bin/clang"
-    export DESK_RATTLE=$kit/bin/rattle DESK_CLANG=$kit/toolchain/bin/clang
-    export DESK_TOOLCHAIN=$work/toolchain DESK_MODULE=$work/module.bc
+    ln -s "$kit/toolchain/bin/clang" "$work/toolchain/bin/real"
+    export DESK_RATTLE=$kit/bin/rattle DESK_TOOLCHAIN=$work/toolchain
 }
 
 # Whether each library that the program stands on was built here by `rt lib`, which proves again what has changed.
@@ -67,5 +67,6 @@ if has_libraries; then
 else
     RT=$work/kit/bin/rt "$here/../.ci/build" || fail 'the program was not built'
 fi
-[ -s "$DESK_MODULE" ] || fail 'the toolchain gave its clang no LLVM module of the program: it builds in another way now'
-install -D -m 644 "$DESK_MODULE" "$module"
+kept=$work/toolchain/bin/module.bc
+[ -s "$kept" ] || fail 'the toolchain gave its clang no LLVM module of the program: it builds in another way now'
+install -D -m 644 "$kept" "$module"

@@ -223,6 +223,10 @@ class System {
     return stream.write(this.view(pointer, count));
   }
 
+  __write(number, pointer, count) {
+    return this.write(number, pointer, count);
+  }
+
   pread(number, pointer, count, offset) {
     return this.give(pointer, this.fileOf(number).read(Number(offset), Number(count)));
   }
@@ -336,7 +340,7 @@ function runtimeOf(system) {
 }
 
 // Calls whose answer has 64 bits.
-const WIDE = new Set(["read", "write", "pread", "pwrite"]);
+const WIDE = new Set(["read", "write", "__write", "pread", "pwrite"]);
 
 // A call of the system as the module makes it. One that the system lacks answers that there is none.
 function imported(system, name, around) {
