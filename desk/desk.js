@@ -8,6 +8,9 @@ import { Store } from "./page/store.js";
 import { Two } from "./page/two.js";
 import { element, opened, tell } from "./page/dom.js";
 
+const LACKS_PROGRAM = "The program inside this page needs WebAssembly with memory of 64 bits. Chrome and Firefox " +
+  "have it since the beginning of 2025.";
+
 function help() {
   const text = document.getElementById("help").content.cloneNode(true);
   const close = element("form", { method: "dialog", className: "row end" },
@@ -26,7 +29,7 @@ class Desk {
     this.help = help;
     window.addEventListener("hashchange", () => this.show());
     window.addEventListener("beforeunload", (event) => {
-      if (this.shown?.manuscript?.unsaved.length) event.preventDefault();
+      if (this.shown?.isRefused) event.preventDefault();
     });
   }
 
@@ -49,6 +52,7 @@ class Desk {
 async function start() {
   try {
     const desk = new Desk(await Store.open());
+    desk.program.does(["show"]).catch((why) => tell("The program can't run here", LACKS_PROGRAM, String(why)));
     await desk.show();
     return desk;
   } catch (why) {

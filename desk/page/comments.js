@@ -20,7 +20,8 @@ export async function comment(editor, section) {
   const passage = section.live.slice(area.selectionStart, area.selectionEnd);
   const quote = element("blockquote", { textContent: shortened(passage), dir: "auto" });
   const body = [quote, field("Comment", input)];
-  const text = await ask("Comment on a passage", body, { agree: "Comment", read: () => input.value });
+  const asked = () => ask("Comment on a passage", body, { agree: "Comment", read: () => input.value });
+  const text = await section.keepingSelection(asked);
   if (!text) return;
   await editor.manuscript.save();
   const { first, count } = selectedIn(section);

@@ -11,7 +11,13 @@ import { comment, showComments } from "./comments.js";
 import { countsInWords, waitingInWords } from "./told.js";
 import { showVersions } from "./versions.js";
 
-const STATES = { saved: "Saved", typing: "Writing …", saving: "Saving …", refused: "Not saved" };
+const STATES = {
+  saved: "Saved",
+  typing: "Writing …",
+  saving: "Saving …",
+  held: "Kept as a draft",
+  refused: "Not saved",
+};
 
 export class Editor {
   constructor({ store, program, channel, record, help }) {
@@ -64,6 +70,11 @@ export class Editor {
     this.leave.abort();
   }
 
+  // Whether a save was refused, so that what was typed is nowhere but in this page.
+  get isRefused() {
+    return this.mark.dataset.state === "refused";
+  }
+
   get isReadOnly() {
     return this.manuscript.isReadOnly;
   }
@@ -80,6 +91,11 @@ export class Editor {
     this.mark.dataset.state = name;
     if (name === "refused") this.refused(why);
     else if (name === "saved") this.saveNotice?.remove();
+  }
+
+  lost(title) {
+    this.notice(`Another author deleted the section “${title}” while you wrote in it. It is a new section now, with ` +
+      "what you wrote.");
   }
 
   counts({ record: { waiting }, isReadOnly }) {

@@ -61,8 +61,12 @@ export class Shelf {
     if (!kind.isManuscript) return this.begin({ name, from: bytes });
     const own = element("input", { type: "radio", name: "whose", value: "own", checked: true });
     const other = element("input", { type: "radio", name: "whose", value: "other" });
+    const twin = (await this.store.records()).find(({ replica }) => replica === kind.author);
+    const warning = twin && `Careful: “${twin.name}” has this author number too. If it is the same manuscript, go on ` +
+      "in one of them only. Where both are changed, they can never agree again.";
     const body = [
       paragraph(`“${file.name}” is the file of author ${grouped(kind.author)}.`),
+      ...(warning ? [element("p", { className: "warning", textContent: warning })] : []),
       element("label", { className: "choice" }, own, "It is mine. From now on I write in it here and nowhere else."),
       element("label", { className: "choice" }, other, "Another author writes in it, or I do on another machine. I " +
         "begin one of my own from it."),

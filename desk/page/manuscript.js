@@ -3,7 +3,7 @@
 // Whatever changes the file waits in one queue, and for other tabs that have it open. What was typed is saved first, so
 // that what comes in is a change of a saved text, and is carried over to what was typed meanwhile.
 
-import { commentsOf, countsOf, decoded, encoded, formOf, isFile, listOf, partsOf } from "./commands.js";
+import { commentsOf, countsOf, decoded, encoded, faultOfTitle, formOf, isFile, listOf, partsOf } from "./commands.js";
 import { changes, movedPlace, placeOfScalar, withoutReturns } from "./difference.js";
 import { freshKey } from "./store.js";
 
@@ -139,10 +139,20 @@ export class Manuscript {
       section.takeIn(part);
       return section;
     });
-    for (const section of before.values()) if (section.isDirty) this.lost.push(section.draft());
+    for (const section of before.values()) if (section.isDirty) this.lose(section);
     this.sections = after;
+    for (const section of after) section.freeze(isReadOnly);
     this.view.place(after);
     this.view.counts(this);
+  }
+
+  // Another author deleted a section in which something is not saved. It becomes a new one.
+  lose(section) {
+    const { live, saved, ...draft } = section.draft();
+    const title = faultOfTitle(live.title) ? saved.title : live.title;
+    this.lost.push({ ...draft, saved, live: { title, text: withoutHeadings(live.text) } });
+    this.saveSoon();
+    this.view.lost?.(title);
   }
 
   // Typing: the draft is kept at once, and is saved at a pause.
@@ -155,6 +165,12 @@ export class Manuscript {
   saveSoon() {
     clearTimeout(this.timer);
     this.timer = setTimeout(() => this.save(), this.pause);
+    this.isPausing = true;
+  }
+
+  // How it stands: what can't be saved yet is held as a draft.
+  showState() {
+    this.view.state(this.unsaved.length === 0 ? "saved" : this.isPausing ? "typing" : "held");
   }
 
   get unsaved() {
@@ -173,7 +189,7 @@ export class Manuscript {
         entry.key ? key === entry.key : place === entry.place && saved.title === entry.saved.title,
       );
       if (section) section.putBack(entry);
-      else this.lost.push(entry);
+      else this.lost.push({ ...entry, live: { ...entry.live, text: withoutHeadings(entry.live.text) } });
     }
     this.view.state("typing");
     await this.keepDraft();
@@ -208,6 +224,7 @@ export class Manuscript {
   // Saves what was typed. Gives whether all of it is in the file.
   async save() {
     clearTimeout(this.timer);
+    this.isPausing = false;
     if (this.isReadOnly || this.isClosed) return false;
     await this.settled();
     try {
@@ -216,7 +233,7 @@ export class Manuscript {
         await this.saveDraft();
         if (isNew) this.decorate();
       });
-      this.view.state(this.unsaved.length ? "typing" : "saved");
+      this.showState();
       return this.unsaved.length === 0;
     } catch (why) {
       this.view.state("refused", why);
@@ -269,7 +286,7 @@ export class Manuscript {
       await this.settled();
       this.adopt(found);
       return done;
-    }).finally(() => this.view.state(this.unsaved.length ? "typing" : "saved"));
+    }).finally(() => this.showState());
     await this.decorate();
     return answer;
   }
@@ -350,6 +367,11 @@ export class Manuscript {
     }
     this.view.decorate(sections);
   }
+}
+
+// Puts a space before what would be a title.
+function withoutHeadings(text) {
+  return text.replace(/(^|\n)# /g, "$1 # ");
 }
 
 // The bytes of the file behind a command; those before where it wrote none.

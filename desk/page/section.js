@@ -83,12 +83,17 @@ export class Section {
     if (this.area) return;
     this.area = element("textarea", { className: "text", value: this.live, dir: "auto", rows: 1 });
     this.area.setAttribute("aria-label", `Text of section ${this.place}`);
-    this.area.readOnly = this.host.isReadOnly;
+    this.freeze(this.host.isReadOnly);
     this.area.placeholder = "Write here";
     this.area.oninput = () => this.typed();
     this.watch(this.area);
     this.mirror.setAttribute("aria-hidden", "true");
     this.paper.append(this.area);
+  }
+
+  freeze(isReadOnly) {
+    this.title.readOnly = isReadOnly;
+    if (this.area) this.area.readOnly = isReadOnly;
   }
 
   focus() {
@@ -178,7 +183,19 @@ export class Section {
     this.paint();
   }
 
+  // Does `work`, which may open a dialog. A browser may forget by then what is selected, and others may change the text.
+  async keepingSelection(work) {
+    this.chosen = { start: this.area.selectionStart, end: this.area.selectionEnd };
+    try {
+      return await work();
+    } finally {
+      this.area.setSelectionRange(this.chosen.start, this.chosen.end);
+      this.chosen = null;
+    }
+  }
+
   moveMarks(list) {
+    if (this.chosen) this.chosen = movedMark(this.chosen, list);
     this.marks = this.marks.map((mark) => movedMark(mark, list)).filter(({ start, end }) => start < end);
   }
 

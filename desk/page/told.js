@@ -43,8 +43,8 @@ function counted(count, one, many) {
 export function countsInWords({ accepted, repeated, waiting, conflict, stray, full }) {
   const sentences = [];
   if (accepted) sentences.push(`${counted(accepted, "new change", "new changes")} came in.`);
+  else if (waiting) sentences.push("None of it can be shown yet.");
   else if (!conflict && !stray && !full) sentences.push(repeated ? "You had all of it already." : "Nothing came in.");
-  if (waiting) sentences.push(waitingInWords(waiting));
   if (full) {
     sentences.push(`${counted(full, "change was", "changes were")} left out, as too many wait already. Take in what
       was written earlier, and then this again.`);
@@ -63,5 +63,6 @@ export function countsInWords({ accepted, repeated, waiting, conflict, stray, fu
 
 export function waitingInWords(count) {
   const those = counted(count, "change waits", "changes wait");
-  return `${those} for earlier ones that have not come in yet. Take in what the other authors have, and they join in.`;
+  const join = count === 1 ? "It joins" : "They join";
+  return `${those} for earlier ones that have not come in yet. ${join} in when you take in what the others have.`;
 }

@@ -38,9 +38,10 @@ class Pane {
   }
 
   state(name, why) {
-    this.mark.textContent = { saved: "", typing: "writing …", saving: "", refused: why?.message }[name];
-    if (name === "saved") this.two.saved(this);
-    if (name === "saved") this.manuscript.decorate();
+    this.mark.textContent = { typing: "writing …", held: "kept as a draft", refused: why?.message }[name] ?? "";
+    if (name !== "saved") return;
+    this.two.saved(this);
+    this.manuscript.decorate();
   }
 
   counts() {}

@@ -72,6 +72,7 @@ export class Browser {
     const { sessionId } = await this.send("Target.attachToTarget", { targetId, flatten: true });
     const page = new Page(this, sessionId, targetId);
     for (const domain of ["Page", "Runtime", "DOM"]) await page.send(`${domain}.enable`);
+    await page.send("Emulation.setFocusEmulationEnabled", { enabled: true });
     await page.size(width, height);
     await page.colours(isDark);
     await page.go(address);
@@ -165,7 +166,8 @@ export class Page {
     for (const end = Date.now() + most; Date.now() < end; await pause(20)) {
       if (await this.value(expression).catch(() => false)) return;
     }
-    throw new Error(`not seen within ${most} ms: ${expression}`);
+    const shown = await this.value("document.body.innerText.slice(0, 600)").catch(String);
+    throw new Error(`not seen within ${most} ms: ${expression}, but ${JSON.stringify(shown)}`);
   }
 
   // Key events, as a keyboard makes them.

@@ -1,7 +1,7 @@
 // Two authors and more: side by side, by files and streams, and in two tabs.
 
 import {
-  NOTICES, TEXTS, arranged, begin, check, group, pause, picture, same, sample, saved, select,
+  NOTICES, TEXTS, add, arranged, begin, check, group, pause, picture, same, sample, saved, select,
 } from "./checks.mjs";
 
 const SAME = "document.querySelector('.same').dataset.same === 'true'";
@@ -225,6 +225,26 @@ async function tabs(open) {
   check("two tabs write one file", true);
 }
 
+// One deletes the section in which the other writes.
+async function deleted(open) {
+  const [one, other] = await twoTabs(open);
+  await add(one, "The land");
+  await saved(one);
+  await other.until("document.querySelectorAll('.section').length === 2");
+  await select(other, 0, -1);
+  await other.type("\n# Mine.");
+  await other.until("document.querySelector('.state').textContent === 'Kept as a draft'");
+  await one.value("document.querySelector('.do-drop').click()");
+  await one.pressButton("Delete");
+  await other.until(`/is a new section now/.test(${NOTICES})`);
+  await saved(other);
+  const kept = "# The sea\nIt was calm.\n # Mine.\n# The land\n\n";
+  same("what is written in a section that another deletes is kept", await arranged(other), kept);
+  await one.until("document.querySelectorAll('.section').length === 2");
+  await pause(300);
+  same("for both", await arranged(one), kept);
+}
+
 // Random numbers that are the same in each run.
 function numbers(seed) {
   let state = seed;
@@ -300,6 +320,7 @@ export async function exchange() {
   await group("what waits", waiting);
   await group("two copies", conflict);
   await group("two tabs", tabs);
+  await group("a section deleted by another", deleted);
   await group("random actions", randomActions);
 }
 

@@ -53,7 +53,8 @@ async function byKeys(open) {
   await pause(100);
   await picture(page, "help");
   const help = await page.value("document.querySelector('dialog[open]').innerText");
-  check("the help tells what is proved, and what is not", /is proved/.test(help) && /Not proved, only tested/.test(help));
+  const isTold = /is proved/.test(help) && /Not proved, only tested/.test(help);
+  check("the help tells what is proved, and what is not", isTold);
   await page.press("Escape");
   await page.until("!document.querySelector('dialog[open]')");
   check("and the focus is where it was", (await page.value(FOCUSED)).includes("Help"));

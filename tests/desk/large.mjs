@@ -13,7 +13,8 @@ function made(page, sections) {
   return page.value(`desk.then(async ({ shelf, program, store }) => {
     const sentence = "The ferry went twice a day, once with the ebb and once against it, and nobody minded.\\n";
     const text = sentence.repeat(${LETTERS / sections}).slice(0, ${LETTERS / sections});
-    const draft = Array.from({ length: ${sections} }, (_, at) => "# Chapter " + (at + 1) + "\\n" + text + "\\n").join("");
+    const chapters = Array.from({ length: ${sections} }, (_, at) => "# Chapter " + (at + 1) + "\\n" + text + "\\n");
+    const draft = chapters.join("");
     const record = await shelf.make({ name: "Large", replica: 7, circle: "large" });
     const files = [["a.ms", (await store.file(record.id)).bytes], ["b.txt", new Uint8Array(0)]];
     const input = new TextEncoder().encode(draft);

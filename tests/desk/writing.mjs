@@ -170,6 +170,58 @@ async function comments(open) {
     (await manuscript.does(["comments", "manuscript.ms"])).output.length)`), 0);
 }
 
+// Scripts and comments count sections as they were made, and the page shows them as they were moved.
+async function moved(open) {
+  const page = await open();
+  await begin(page, "The quiet sea", "One");
+  await page.type("one one");
+  await add(page, "Two");
+  await page.type("two two");
+  await add(page, "Three");
+  await page.type("three three");
+  await saved(page);
+  await page.press("ArrowUp", ALT | SHIFT);
+  await page.until("document.querySelectorAll('.title')[1].value === 'Three'");
+  await page.press("ArrowUp", ALT | SHIFT);
+  await page.until("document.querySelector('.title').value === 'Three'");
+  check("the caret stays in a section that is moved", await page.value("document.activeElement.value === 'three three'"));
+  await select(page, 0, 6, 11);
+  await page.press("m", ALT | SHIFT);
+  await page.until("document.querySelector('dialog[open] blockquote')");
+  await page.type("which?");
+  await page.press("Enter");
+  await page.until("document.querySelector('.notes li')");
+  const passage = await page.value("document.querySelector('.section .notes .quote').textContent");
+  same("a comment is on the section that was moved", passage, "“three”");
+  await page.value("document.querySelectorAll('.do-drop')[1].click()");
+  await page.until("document.querySelector('dialog[open]')");
+  await page.pressButton("Delete");
+  await page.until("document.querySelectorAll('.section').length === 2");
+  same("and the section that is shown is dropped", await arranged(page), "# Three\nthree three\n# Two\ntwo two\n");
+}
+
+// Carriage returns, which a text area does not show, and a text with a line like a title.
+async function odd(open) {
+  const page = await open();
+  await page.until("document.querySelector('.home')");
+  const made = (script) => page.value(`desk.then(async ({ program, shelf }) => {
+    const bytes = (await program.does(["new", "a.ms", 7, 100])).files.get("a.ms");
+    const input = new TextEncoder().encode(${JSON.stringify(script)});
+    const { files } = await program.does(["edit", "a.ms"], { files: [["a.ms", bytes]], input });
+    const { id } = await shelf.keep({ name: "odd", replica: 7, bytes: files.get("a.ms") });
+    location.hash = "#open=" + id;
+  })`);
+  await made("add 1 T\nput 1 0 one\r\\ntwo\rthree\n");
+  await page.until("document.querySelector('textarea')");
+  await select(page, 0, 4, 7);
+  await page.type("2");
+  await saved(page);
+  same("carriage returns stay where nothing was written", await arranged(page), "# T\none\r\n2\rthree\n");
+  await made("add 1 T\nput 1 0 one\\n# two\n");
+  await page.until(`/can be read, exchanged and downloaded here/.test(${NOTICES})`);
+  check("a text with a title in it is read only", await page.value("document.querySelector('.title').readOnly"));
+}
+
 async function versions(open) {
   const page = await open();
   await begin(page);
@@ -222,6 +274,8 @@ export async function writing() {
   await group("headings in a text", headings);
   await group("sections", sections);
   await group("comments", comments);
+  await group("sections that were moved", moved);
+  await group("odd texts", odd);
   await group("versions", versions);
   await group("a full store", fullStore);
 }
