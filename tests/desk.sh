@@ -1,6 +1,7 @@
 #!/usr/bin/env bash
 # Tries the page, dist/desk.html, in a headless Chromium, as a writer uses it: desk.sh [GROUP..]
-# With DESK it tries another page, and with SHOTS it leaves pictures in that folder.
+# With DESK it tries another page, with ONLY the tests whose names have that word, and with SHOTS it leaves pictures in
+# that folder.
 cd "$(dirname "$0")/.." || exit 1
 page=${DESK:-dist/desk.html}
 

@@ -11,6 +11,13 @@ const HOME = "manuscript.ms";
 const BASE = "base.txt";
 const OTHER = "other.ms";
 
+// A draft of a section with more letters is kept five times a second, and not at each key.
+const LONG = 100000;
+
+function rest() {
+  return new Promise((done) => setTimeout(done, 200));
+}
+
 export class Manuscript {
   // `view` shows it: place(sections), state(name, why), decorate(sections), counts(list). `makes` makes a section of a
   // part; `pause` is after how many milliseconds without typing it is saved; `coloursAll` says that one's own letters
@@ -213,6 +220,7 @@ export class Manuscript {
         const { id: manuscript, tab } = this;
         if (sections.length) await this.store.keepDraft({ manuscript, tab, kept: Date.now(), sections });
         else await this.store.dropDraft(manuscript, tab);
+        if (sections.some(({ live }) => live.text.length > LONG)) await rest();
       }
     } catch (why) {
       this.view.state("refused", why);

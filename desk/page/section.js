@@ -7,6 +7,9 @@ import { carried, changed, changes, movedPlace, splice, withReturns, withoutRetu
 import { faultOfText, faultOfTitle } from "./commands.js";
 import { button, element } from "./dom.js";
 
+// A longer text has no mirror, and so no colours: a browser would take twice the time for each key.
+const LONGEST_MIRRORED = 150000;
+
 export class Section {
   // `host` is told of what the writer does: edited(section), and does(name, section).
   constructor({ key, title, text }, host) {
@@ -89,6 +92,7 @@ export class Section {
     this.watch(this.area);
     this.mirror.setAttribute("aria-hidden", "true");
     this.paper.append(this.area);
+    if (this.live.length > LONGEST_MIRRORED) this.paint();
   }
 
   freeze(isReadOnly) {
@@ -201,8 +205,10 @@ export class Section {
 
   // The end of the mirror is one more line, so that an empty last line has a height.
   paint() {
-    const text = `${this.live}\n`;
-    if (this.marks.length === 0) {
+    const isLong = this.area !== null && this.live.length > LONGEST_MIRRORED;
+    this.paper.classList.toggle("long", isLong);
+    const text = isLong ? "" : `${this.live}\n`;
+    if (isLong || this.marks.length === 0) {
       if (this.mirror.childNodes.length === 1 && this.mirror.firstChild.nodeType === Node.TEXT_NODE) {
         replaceText(this.mirror.firstChild, text);
       } else {

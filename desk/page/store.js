@@ -31,10 +31,11 @@ export class Store {
     database.onversionchange = () => database.close();
   }
 
-  // Does `work` with the named stores in one transaction, and ends when its changes are kept.
-  #change(names, work) {
+  // Does `work` with the named stores in one transaction, and ends when its changes are kept. What is kept `strict` is
+  // on the disk by then; drafts, which are kept at each key, outlive the browser but maybe not a failure of the power.
+  #change(names, work, durability = "strict") {
     return new Promise((done, failed) => {
-      const transaction = this.database.transaction(names, "readwrite", { durability: "strict" });
+      const transaction = this.database.transaction(names, "readwrite", { durability });
       transaction.oncomplete = () => done();
       transaction.onabort = () => failed(faultOf(transaction.error));
       try {
@@ -82,11 +83,11 @@ export class Store {
   }
 
   keepDraft(draft) {
-    return this.#change(["drafts"], (drafts) => drafts.put(draft));
+    return this.#change(["drafts"], (drafts) => drafts.put(draft), "relaxed");
   }
 
   dropDraft(manuscript, tab) {
-    return this.#change(["drafts"], (drafts) => drafts.delete([manuscript, tab]));
+    return this.#change(["drafts"], (drafts) => drafts.delete([manuscript, tab]), "relaxed");
   }
 
   drafts(manuscript) {

@@ -17,8 +17,9 @@ export function same(name, seen, wanted) {
   check(name, seen === wanted, { seen: String(seen).slice(0, 200), wanted: String(wanted).slice(0, 200) });
 }
 
-// Does a group of tests; one that stops counts as failed.
+// Does a group of tests; one that stops counts as failed. With ONLY it does those whose names have that word.
 export async function group(name, work) {
+  if (!name.includes(process.env.ONLY ?? "")) return;
   const browser = new Browser();
   const tabs = [];
   const open = async (hash = "", options = {}, from = browser) => {

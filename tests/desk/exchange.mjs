@@ -1,5 +1,7 @@
 // Two authors and more: side by side, by files and streams, and in two tabs.
 
+import fs from "node:fs";
+import path from "node:path";
 import {
   NOTICES, TEXTS, add, arranged, begin, check, group, pause, picture, same, sample, saved, select,
 } from "./checks.mjs";
@@ -152,6 +154,37 @@ async function waiting(open) {
   check("and that something waits when it is opened again", true);
 }
 
+// What is downloaded is the file, byte by byte, and another author takes it in.
+async function download(open, browser) {
+  const page = await open();
+  await begin(page);
+  await page.type("It was calm.");
+  await saved(page);
+  const folder = fs.mkdtempSync(path.join(browser.profile, "downloads-"));
+  await browser.send("Browser.setDownloadBehavior", { behavior: "allow", downloadPath: folder });
+  await page.pressButton("Exchange");
+  await page.until("document.querySelector('dialog[open]')");
+  await page.pressButton("Download my file");
+  const file = path.join(folder, "The quiet sea.ms");
+  for (let count = 0; count < 100 && !fs.existsSync(file); count += 1) await pause(50);
+  const bytes = fs.readFileSync(file);
+  const kept = await page.value("desk.then(({ shown: { manuscript } }) => [...manuscript.bytes])");
+  same("a file is downloaded with its bytes", [...bytes].join(), kept.join());
+  await page.pressButton("Close");
+  await page.value("location.hash = ''");
+  await page.until("document.querySelector('.shelf li')");
+  await page.drop({ name: "hers.ms", bytes });
+  await page.until("document.querySelector('dialog[open] input[value=other]')");
+  check("that it is here already is told", /has this author number too/.test(
+    await page.value("document.querySelector('dialog[open]').innerText")));
+  await page.value("document.querySelector('dialog[open] input[value=other]').click()");
+  await page.pressButton("Go on");
+  await page.until("document.querySelector('dialog[open] input[type=number]')");
+  await page.press("Enter");
+  await page.until("document.querySelector('textarea')");
+  same("another author begins from it", await arranged(page), "# The sea\nIt was calm.\n");
+}
+
 // Two copies of one file, both changed.
 async function conflict(open) {
   const page = await open();
@@ -291,7 +324,7 @@ async function act(page, random) {
 
 async function randomActions(open) {
   const pages = await twoTabs(open);
-  const random = numbers(58);
+  const random = numbers(Number(process.env.SEED ?? 58));
   for (let count = 0; count < 200; count += 1) {
     await act(pages[random(2)], random);
     if (random(8) === 0) await pause(random(400));
@@ -305,6 +338,13 @@ async function randomActions(open) {
   const [one, other] = [await arranged(pages[0]), await arranged(pages[1])];
   same("200 random actions in two tabs end in equal bytes", one, other);
   check("of some length", one.length > 200, one.length);
+  const authors = `desk.then(async ({ program, shown: { manuscript } }) =>
+    JSON.stringify((await program.read(manuscript.bytes, true)).arranged.map(({ key, runs }) => [key, runs])))`;
+  const [known, others] = [await pages[0].value(authors), await pages[1].value(authors)];
+  same("and in letters of the same authors", known, others);
+  const counts = JSON.parse(known).map(([, runs]) => runs.reduce((sum, [, count]) => sum + count, 0));
+  const lengths = one.split(/^# .*\n/m).slice(1).map((text) => [...text].length - 1);
+  same("each of which has one", counts.join(), lengths.join());
   const shown = `desk.then(({ shown: { manuscript } }) => manuscript.sections.map(({ title, live }) =>
     "# " + title.value + "\\n" + live + "\\n").join(""))`;
   for (const page of pages) same("which the page shows", await page.value(shown), one);
@@ -317,6 +357,7 @@ export async function exchange() {
   await group("what comes in while one composes", composing);
   await group("samples", samples);
   await group("files", files);
+  await group("download", download);
   await group("what waits", waiting);
   await group("two copies", conflict);
   await group("two tabs", tabs);

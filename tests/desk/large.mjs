@@ -26,6 +26,18 @@ function made(page, sections) {
   })`);
 }
 
+// Few sections, which are longer than a writer's are.
+async function longSections(open) {
+  const first = await open();
+  await first.until("document.querySelector('.home')");
+  for (const sections of [10, 5, 1]) {
+    const { page, seen } = await opened(open, await made(first, sections));
+    console.log(`note: ${sections} of ${LETTERS / sections} letters are there after ${seen} ms`);
+    await pause(4000);
+    await typed(page, `${sections} sections`);
+  }
+}
+
 // Measures each key press from its event to the picture after it, in the page.
 const WATCH = `(() => {
   globalThis.keys = [];
@@ -77,7 +89,7 @@ async function chapters(open) {
   check(`1,000,000 letters are there after ${seen} ms`, seen <= MOST_TO_OPEN);
   await pause(3000);
   await picture(page, "large");
-  const text = await typed(page, "100 sections");
+  const text = await typed(page, `${SECTIONS} sections`);
   const start = Date.now();
   await saved(page);
   console.log(`note: it was saved ${Date.now() - start} ms after the last key`);
@@ -89,5 +101,6 @@ async function chapters(open) {
 
 export async function large() {
   await group("a large file", chapters);
+  if (process.env.DESK_LONG) await group("long sections", longSections);
 }
 

@@ -1,7 +1,7 @@
 // One author: typing, what the store keeps, input methods, drafts, sections, comments and versions.
 
 import { ALT, Browser, CONTROL, SHIFT } from "./browser.mjs";
-import { NOTICES, TEXTS, add, arranged, begin, check, group, pause, picture, same, saved, select } from "./checks.mjs";
+import { NOTICES, SAVED, TEXTS, add, arranged, begin, check, group, pause, picture, same, saved, select } from "./checks.mjs";
 
 const TEXT = "It was calm.\n\nThen it blew.";
 
@@ -54,6 +54,38 @@ async function drafts(open, browser) {
   } finally {
     await other.close();
   }
+}
+
+// The browser is killed at several moments while text is typed and saved. At most the last moments are lost.
+async function kills(open, browser) {
+  const page = await open();
+  await begin(page);
+  let { profile } = browser;
+  let from = browser;
+  let tab = page;
+  let wanted = "";
+  for (const wait of [100, 700, 1050, 1150, 1300]) {
+    await select(tab, 0, -1);
+    await tab.type("Some words. ");
+    wanted += "Some words. ";
+    await pause(wait);
+    await from.crash();
+    if (from !== browser) await from.close();
+    from = new Browser(profile);
+    tab = await open("", {}, from);
+    await tab.until("document.querySelector('.shelf a')");
+    await tab.value("document.querySelector('.shelf a').click()");
+    await tab.until("document.querySelector('textarea')");
+    await tab.until(SAVED);
+    await pause(600);
+    if (await tab.value("!!document.querySelector('.notice.draft')")) {
+      await tab.pressButton("Put it back");
+      await tab.until("!document.querySelector('.notice.draft')");
+      await saved(tab);
+    }
+    same(`nothing is lost by a kill ${wait} ms after the last key`, await arranged(tab), `# The sea\n${wanted}\n`);
+  }
+  await from.close();
 }
 
 async function methods(open) {
@@ -270,6 +302,7 @@ async function fullStore(open) {
 export async function writing() {
   await group("typing", typing);
   await group("drafts", drafts);
+  await group("kills", kills);
   await group("input methods", methods);
   await group("headings in a text", headings);
   await group("sections", sections);
