@@ -24,7 +24,7 @@ function real(call) {
     return call();
   } catch (why) {
     if (!why.errno) throw why;
-    throw Object.assign(new SystemError("EIO"), { number: -why.errno });
+    throw Object.assign(new SystemError("EIO"), { message: why.code, number: -why.errno });
   }
 }
 

@@ -299,11 +299,24 @@ run_in wasm ARRAYS=1 "$wasm" sync home 47119 0
 compare_wasm 'an exchange, where there are no sockets' 4 '' 'outside fault\n'
 because 'manuscript: 47119: Address family not supported by protocol (os error 97)'
 
+# The heap alone.
+clang=$(dirname "$(realpath "$(command -v "${RT:-rt}" || echo /)")")/../toolchain/bin/clang
+if [ -x "$clang" ]; then
+    ln -s "$(realpath "$clang")" "$work/wasm-ld"
+    "$clang" --target=wasm64-unknown-unknown -mcpu=lime1 -O3 --no-default-config -ffreestanding -fno-builtin \
+        -c desk/heap.c -o "$work/heap.o" &&
+        "$work/wasm-ld" -mwasm64 --no-entry --export-all -o "$work/heap.wasm" "$work/heap.o" &&
+        node --experimental-wasm-memory64 --no-warnings tests/desk/heap.mjs "$work/heap.wasm" 10000 >"$work/told"
+    check "the heap alone: $(cat "$work/told")" [ -s "$work/told" ]
+else
+    echo 'not tried: the heap alone, since there is no toolchain'
+fi
+
 # The tests of the commands, which know what is wanted to the byte.
 run_script() {
     local name=$1 seen=$work/$1.log others
     shift
-    TRIED_PROGRAM=$wasm DRAFTS=${DRAFTS:-20} "tests/$name" >"$seen" 2>/dev/null
+    TRIED_PROGRAM=$wasm DRAFTS=${DRAFTS:-20} bash "tests/$name" >"$seen" 2>/dev/null
     grep '^FAILED: ' "$seen" >"$work/failures"
     others=$work/failures
     for known in "$@"; do
