@@ -15,6 +15,7 @@ const STATES = {
   saved: "Saved",
   typing: "Writing …",
   saving: "Saving …",
+  working: "Working …",
   held: "Kept as a draft",
   refused: "Not saved",
 };
@@ -33,7 +34,7 @@ export class Editor {
 
   build() {
     const { name } = this.manuscript.record;
-    this.mark = element("span", { className: "state", role: "status", textContent: "Opening …" });
+    this.mark = element("span", { className: "state", textContent: "Opening …" });
     this.notices = element("div", { className: "notices", "aria-live": "polite" });
     this.legend = element("div", { className: "legend", hidden: true });
     this.sections = element("div", { className: "sections" });
@@ -63,7 +64,6 @@ export class Editor {
   }
 
   close() {
-    if (this.manuscript.unsaved.length) this.manuscript.save();
     this.manuscript.close();
     this.together.close();
     this.colours.remove();

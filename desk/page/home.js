@@ -50,6 +50,7 @@ export class Shelf {
   async keep({ name, replica, circle = freshKey(), bytes, text, waiting }) {
     const record = { id: freshKey(), name, replica, circle, waiting, revision: 1, changed: Date.now() };
     await this.store.keep(record, { bytes, text });
+    navigator.storage?.persist?.();
     return record;
   }
 

@@ -37,7 +37,7 @@ export class Manuscript {
 
   // Opening: the text that was kept with the file is shown at once, and the program prints it behind that.
   async load() {
-    this.store.showOpen?.(this.tab);
+    this.endOpen = this.store.showOpen(this.tab);
     this.record = await this.store.record(this.id);
     const { bytes, text } = await this.store.file(this.id);
     this.bytes = bytes;
@@ -57,9 +57,12 @@ export class Manuscript {
     this.view.counts(this);
   }
 
+  // What can't be saved stays as a draft, which is offered when the manuscript is opened again.
   close() {
-    this.isClosed = true;
     clearTimeout(this.timer);
+    const last = this.unsaved.length ? this.save() : Promise.resolve();
+    this.isClosed = true;
+    return last.then(() => this.endOpen?.());
   }
 
   // Does `work` when all that was asked before is done.
@@ -284,6 +287,7 @@ export class Manuscript {
   async change(command) {
     await this.settled();
     const answer = await this.alone(async () => {
+      this.view.state("working");
       await this.catchUp();
       await this.saveDraft();
       const done = await command();

@@ -99,9 +99,14 @@ export class Store {
     return navigator.locks ? navigator.locks.request(`${NAME} ${name}`, work) : work();
   }
 
-  // Shows other tabs that this one is open, as long as it is.
+  // Shows all tabs that a manuscript is open, until what this gives is called or the tab is gone.
   showOpen(tab) {
-    navigator.locks?.request(`${NAME} tab ${tab}`, () => new Promise(() => {}));
+    let end;
+    const closed = new Promise((done) => {
+      end = done;
+    });
+    navigator.locks?.request(`${NAME} tab ${tab}`, () => closed);
+    return end;
   }
 
   async openTabs() {
@@ -152,6 +157,10 @@ export class MemoryStore {
 
   exclusively(name, work) {
     return work();
+  }
+
+  showOpen() {
+    return () => {};
   }
 
   async openTabs() {

@@ -116,6 +116,11 @@ async function headings(open) {
   check("a line that would be a title is told", await page.value("!document.querySelector('.refusal').hidden"));
   same("it is not saved", await arranged(page), "# The sea\n\n");
   await picture(page, "refusal");
+  await page.value("history.back()");
+  await page.until("document.querySelector('.shelf a')");
+  await page.value("document.querySelector('.shelf a').click()");
+  await page.until("document.querySelector('.notice.draft')");
+  check("it is offered when the manuscript is opened again", true);
   await page.reload();
   await page.until("document.querySelector('.notice.draft')");
   await page.pressButton("Put it back");
