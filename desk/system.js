@@ -340,7 +340,7 @@ function runtimeOf(system) {
 }
 
 // Calls whose answer has 64 bits.
-const WIDE = new Set(["read", "write", "__write", "pread", "pwrite"]);
+const WIDE = new Set(["read", "write", "__write", "pread", "pwrite", "recv", "send", "rattle_lookup_host"]);
 
 // A call of the system as the module makes it. One that the system lacks answers that there is none.
 function imported(system, name, around) {
