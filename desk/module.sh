@@ -35,7 +35,7 @@ make_kit() {
     link_all_but "$kit/toolchain/bin" "$work/toolchain/bin" clang
     install -m 755 "$here/clang.sh" "$work/toolchain/bin/clang"
     ln -s "$kit/toolchain/bin/clang" "$work/toolchain/bin/real"
-    export DESK_RATTLE=$kit/bin/rattle DESK_TOOLCHAIN=$work/toolchain
+    export DESK_KIT=$kit DESK_SHADOW=$work/kit DESK_TOOLCHAIN=$work/toolchain
 }
 
 # Whether each library that the program stands on was built here by `rt lib`, which proves again what has changed.

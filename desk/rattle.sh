@@ -1,7 +1,8 @@
 #!/usr/bin/env bash
-# Stands for the toolchain's rattle while the program is proved and built: it calls the real one, DESK_RATTLE. The call
-# by which LLVM compiles the program itself, and no library or test, gets the toolchain DESK_TOOLCHAIN.
-words=("$@")
+# Stands for the toolchain's rattle while the program is proved and built: it calls the real one, of the toolchain
+# DESK_KIT, with the paths of that one in place of those of DESK_SHADOW. The call by which LLVM compiles the program
+# itself, and no library or test, gets the clang of DESK_TOOLCHAIN.
+words=("${@//"$DESK_SHADOW"/"$DESK_KIT"}")
 case " $* " in
 *' --test '* | *' --backend rattle '*) ;;
 ' build '*' -o out/manuscript.o '*)
@@ -10,4 +11,4 @@ case " $* " in
     done
     ;;
 esac
-exec "$DESK_RATTLE" "${words[@]}"
+exec "$DESK_KIT/bin/rattle" "${words[@]}"
