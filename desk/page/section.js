@@ -43,8 +43,9 @@ export class Section {
 
   tools() {
     const does = (name) => () => this.host.does(name, this);
-    const grip = { className: "grip", draggable: true, title: "Drag to another place", tabIndex: -1 };
-    this.grip = button("⠿", null, { ...grip, "aria-hidden": "true" });
+    // No button: not all browsers drag one.
+    const grip = { className: "grip", draggable: true, title: "Drag to another place", textContent: "⠿" };
+    this.grip = element("span", { ...grip, "aria-hidden": "true" });
     this.buttons = [
       ["up", "↑", "Move up"],
       ["down", "↓", "Move down"],

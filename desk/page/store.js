@@ -9,46 +9,66 @@ export class StoreFull extends Error {
   }
 }
 
+export class StoreFailed extends Error {
+  constructor(why) {
+    super(`The browser's store does not work now. Its disk may be full. (${why?.message ?? "no reason given"})`);
+  }
+}
+
 // A number that tells manuscripts and tabs apart.
 export function freshKey() {
   return Array.from(crypto.getRandomValues(new Uint32Array(3)), (part) => part.toString(36)).join("-");
 }
 
 export class Store {
-  // Opens the database, which it makes where there is none.
-  static open() {
-    const request = indexedDB.open(NAME, 1);
-    request.onupgradeneeded = () => {
-      request.result.createObjectStore("records", { keyPath: "id" });
-      request.result.createObjectStore("files", { keyPath: "id" });
-      request.result.createObjectStore("drafts", { keyPath: ["manuscript", "tab"] });
-    };
-    return answered(request).then((database) => new Store(database));
+  static async open() {
+    const store = new Store();
+    await store.#connect();
+    return store;
   }
 
-  constructor(database) {
-    this.database = database;
-    database.onversionchange = () => database.close();
+  // The database, which is made where there is none. A browser may close it, as it does when the disk is full: then it
+  // is opened again.
+  #connect() {
+    const forget = () => {
+      this.opening = null;
+    };
+    this.opening ??= connected(forget).catch((why) => {
+      forget();
+      throw why;
+    });
+    return this.opening;
+  }
+
+  async #begin(...words) {
+    try {
+      return (await this.#connect()).transaction(...words);
+    } catch (why) {
+      if (why.name !== "InvalidStateError") throw faultOf(why);
+      this.opening = null;
+      return (await this.#connect()).transaction(...words);
+    }
   }
 
   // Does `work` with the named stores in one transaction, and ends when its changes are kept. What is kept `strict` is
   // on the disk by then; drafts, which are kept at each key, outlive the browser but maybe not a failure of the power.
-  #change(names, work, durability = "strict") {
+  async #change(names, work, durability = "strict") {
+    const transaction = await this.#begin(names, "readwrite", { durability });
     return new Promise((done, failed) => {
-      const transaction = this.database.transaction(names, "readwrite", { durability });
       transaction.oncomplete = () => done();
       transaction.onabort = () => failed(faultOf(transaction.error));
       try {
         work(...names.map((name) => transaction.objectStore(name)));
       } catch (why) {
-        transaction.abort();
         failed(faultOf(why));
+        transaction.abort();
       }
     });
   }
 
-  #look(name, look) {
-    return answered(look(this.database.transaction(name).objectStore(name)));
+  async #look(name, look) {
+    const transaction = await this.#begin(name);
+    return answered(look(transaction.objectStore(name)));
   }
 
   async records() {
@@ -115,6 +135,20 @@ export class Store {
   }
 }
 
+function connected(forget) {
+  const request = indexedDB.open(NAME, 1);
+  request.onupgradeneeded = () => {
+    request.result.createObjectStore("records", { keyPath: "id" });
+    request.result.createObjectStore("files", { keyPath: "id" });
+    request.result.createObjectStore("drafts", { keyPath: ["manuscript", "tab"] });
+  };
+  return answered(request).then((database) => {
+    database.onclose = forget;
+    database.onversionchange = () => database.close();
+    return database;
+  });
+}
+
 function answered(request) {
   return new Promise((done, failed) => {
     request.onsuccess = () => done(request.result);
@@ -123,7 +157,8 @@ function answered(request) {
 }
 
 function faultOf(why) {
-  return why?.name === "QuotaExceededError" ? new StoreFull() : (why ?? new Error("The browser's store failed."));
+  if (why instanceof StoreFull || why instanceof StoreFailed) return why;
+  return why?.name === "QuotaExceededError" ? new StoreFull() : new StoreFailed(why);
 }
 
 export class MemoryStore {

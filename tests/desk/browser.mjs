@@ -203,6 +203,27 @@ export class Page {
     await this.send("Input.dispatchMouseEvent", { type: "mouseReleased", ...mouse });
   }
 
+  // Drags what is at one place to another one, with the mouse.
+  async drag(from, to) {
+    await this.send("Input.setInterceptDrags", { enabled: true });
+    const data = new Promise((done) => {
+      this.browser.hear((method, params, session) => {
+        if (method === "Input.dragIntercepted" && session === this.session) done(params.data);
+      });
+    });
+    const mouse = (type, place) => this.send("Input.dispatchMouseEvent", { type, ...place, button: "left", clickCount: 1 });
+    await mouse("mousePressed", from);
+    await mouse("mouseMoved", { x: from.x + 10, y: from.y + 10 });
+    await mouse("mouseMoved", { x: from.x + 20, y: from.y + 20 });
+    const held = await Promise.race([data, pause(3000)]);
+    if (!held) throw new Error("nothing is dragged");
+    for (const type of ["dragEnter", "dragOver", "drop"]) {
+      await this.send("Input.dispatchDragEvent", { type, ...to, data: held });
+    }
+    await mouse("mouseReleased", to);
+    await this.send("Input.setInterceptDrags", { enabled: false });
+  }
+
   // Presses the button with these words, in the topmost dialog if there is one.
   async pressButton(words) {
     await this.value(`(() => {

@@ -164,18 +164,14 @@ async function sections(open) {
 }
 
 // Drags a section by its grip below another one.
-function drag(page, from, to) {
-  return page.value(`(() => {
+async function drag(page, from, to) {
+  const [grip, below] = await page.value(`(() => {
     const all = document.querySelectorAll(".section");
-    const dataTransfer = new DataTransfer();
-    const fire = (kind, node, clientY) => node.dispatchEvent(
-      new DragEvent(kind, { dataTransfer, bubbles: true, cancelable: true, clientY }));
-    const below = all[${to}].getBoundingClientRect().bottom - 3;
-    fire("dragstart", all[${from}].querySelector(".grip"), 0);
-    fire("dragover", all[${to}], below);
-    fire("drop", all[${to}], below);
-    fire("dragend", all[${from}].querySelector(".grip"), 0);
+    const grip = all[${from}].querySelector(".grip").getBoundingClientRect();
+    const target = all[${to}].getBoundingClientRect();
+    return [{ x: grip.x + grip.width / 2, y: grip.y + grip.height / 2 }, { x: target.x + 99, y: target.bottom - 4 }];
   })()`);
+  await page.drag(grip, below);
 }
 
 async function comments(open) {
