@@ -2,6 +2,7 @@
 
 import { Refused, authorOfFile, decoded, isFile } from "./commands.js";
 import { bytesOf, button, chosenFiles, download, element, grouped, opened } from "./dom.js";
+import { freshKey } from "./store.js";
 import { inWords } from "./told.js";
 
 export const FILES = ".ms,.frames,application/octet-stream";
@@ -84,10 +85,7 @@ export class Together {
     const other = await manuscript.store.record(id);
     if (!other || manuscript.isClosed || manuscript.record.taken?.[id] === other.revision) return null;
     const counts = await manuscript.takeIn((await manuscript.store.file(id)).bytes);
-    await manuscript.alone(async () => {
-      await manuscript.catchUp();
-      await manuscript.keepRecord({ taken: { ...manuscript.record.taken, [id]: other.revision } });
-    });
+    await manuscript.keepRecord({ taken: { ...manuscript.record.taken, [id]: other.revision } });
     if (counts.conflict || counts.stray || counts.full) this.editor.came(counts, other.name);
     return counts;
   }
@@ -156,10 +154,9 @@ function otherOf(record, editor, dialog) {
 
 // Joins another manuscript of this browser, so that each takes in what the other saves; or leaves it.
 async function join(editor, id, isTogether) {
-  const { manuscript, together } = editor;
-  const other = await manuscript.store.record(id);
-  const circle = isTogether ? manuscript.record.circle : `${id} alone ${Date.now()}`;
-  await manuscript.store.keep({ ...other, circle });
+  const { manuscript, manuscript: { store }, together } = editor;
+  const circle = isTogether ? manuscript.record.circle : freshKey();
+  await store.exclusively(id, async () => store.keep({ ...(await store.record(id)), circle }));
   if (isTogether) await together.want(id);
 }
 

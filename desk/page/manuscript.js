@@ -5,7 +5,7 @@
 
 import { commentsOf, countsOf, decoded, encoded, faultOfTitle, formOf, isFile, listOf, partsOf } from "./commands.js";
 import { changes, movedPlace, placeOfScalar, withoutReturns } from "./difference.js";
-import { freshKey } from "./store.js";
+import { ChangedElsewhere, freshKey } from "./store.js";
 
 const HOME = "manuscript.ms";
 const BASE = "base.txt";
@@ -38,20 +38,25 @@ export class Manuscript {
   // Opening: the text that was kept with the file is shown at once, and the program prints it behind that.
   async load() {
     this.endOpen = this.store.showOpen(this.tab);
+    const shown = this.show();
+    this.queue = shown.catch(() => {});
+    await shown;
+    await this.alone(async () => this.adopt(await this.look(this.bytes)));
+    await this.decorate();
+    if (this.record.waiting === undefined) await this.countWaiting();
+  }
+
+  async show() {
     this.record = await this.store.record(this.id);
     const { bytes, text } = await this.store.file(this.id);
     this.bytes = bytes;
     this.sections = partsOf(text ?? (await this.printed(bytes))).map((part) => this.makes(part));
     this.view.place(this.sections);
     this.view.state("saved");
-    await this.alone(async () => this.adopt(await this.look(this.bytes)));
-    await this.decorate();
-    if (this.record.waiting === undefined) await this.alone(() => this.countWaiting());
   }
 
   // How many changes wait is not known of a file that was brought here.
   async countWaiting() {
-    await this.catchUp();
     const { waiting } = listOf((await this.does(["list", HOME])).output);
     await this.keepRecord({ waiting });
     this.view.counts(this);
@@ -103,15 +108,20 @@ export class Manuscript {
   // Keeps new bytes of the file in the store, and what they say. The draft that is in them is forgotten.
   async keep(bytes, text, waiting = this.record.waiting) {
     const record = { ...this.record, waiting, revision: this.record.revision + 1, changed: Date.now() };
-    await this.store.keep(record, { bytes, text, tab: this.tab });
+    await this.store.keep(record, { bytes, text, tab: this.tab, after: this.record.revision });
     this.record = record;
     this.bytes = bytes;
     this.channel?.say({ kind: "saved", id: this.id, circle: record.circle });
   }
 
-  async keepRecord(changes) {
-    this.record = { ...(await this.store.record(this.id)), ...changes };
-    await this.store.keep(this.record);
+  // Keeps what is known of the manuscript beside its file.
+  keepRecord(changes) {
+    return this.alone(async () => {
+      await this.catchUp();
+      const record = { ...this.record, ...changes };
+      await this.store.keep(record, { after: record.revision });
+      this.record = record;
+    });
   }
 
   // Another tab may have changed the file.
@@ -247,7 +257,8 @@ export class Manuscript {
       this.showState();
       return this.unsaved.length === 0;
     } catch (why) {
-      this.view.state("refused", why);
+      if (why instanceof ChangedElsewhere) this.saveSoon();
+      else this.view.state("refused", why);
       return false;
     }
   }
@@ -372,6 +383,7 @@ export class Manuscript {
     const known = new Map(arranged.map((section) => [section.key, section]));
     const comments = commentsOf(output);
     for (const section of sections) {
+      if (!known.has(section.key)) continue;
       const { number, runs, comments: authors } = known.get(section.key);
       const on = comments.filter((comment) => comment.section === number);
       section.runs = marksOf(section.saved.text, runs);

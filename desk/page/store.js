@@ -9,7 +9,13 @@ export class StoreFull extends Error {
   }
 }
 
-export class StoreFailed extends Error {
+export class ChangedElsewhere extends Error {
+  constructor() {
+    super("This manuscript was changed in another tab at the same moment. Try again.");
+  }
+}
+
+class StoreFailed extends Error {
   constructor(why) {
     super(`The browser's store does not work now. Its disk may be full. (${why?.message ?? "no reason given"})`);
   }
@@ -52,17 +58,23 @@ export class Store {
 
   // Does `work` with the named stores in one transaction, and ends when its changes are kept. What is kept `strict` is
   // on the disk by then; drafts, which are kept at each key, outlive the browser but maybe not a failure of the power.
-  async #change(names, work, durability = "strict") {
+  // Where `work` throws, nothing is changed. It gets the stores, and a look at what has a key in the first of them.
+  async #change(names, work, { durability = "strict", key } = {}) {
     const transaction = await this.#begin(names, "readwrite", { durability });
+    const stores = names.map((name) => transaction.objectStore(name));
     return new Promise((done, failed) => {
+      const does = (found) => {
+        try {
+          work(stores, found);
+        } catch (why) {
+          failed(faultOf(why));
+          transaction.abort();
+        }
+      };
       transaction.oncomplete = () => done();
       transaction.onabort = () => failed(faultOf(transaction.error));
-      try {
-        work(...names.map((name) => transaction.objectStore(name)));
-      } catch (why) {
-        failed(faultOf(why));
-        transaction.abort();
-      }
+      if (key === undefined) does();
+      else stores[0].get(key).onsuccess = ({ target }) => does(target.result);
     });
   }
 
@@ -85,17 +97,21 @@ export class Store {
     return this.#look("files", (store) => store.get(id));
   }
 
-  // Keeps a record, its file where there are bytes, and forgets the draft of a tab where one is named.
-  keep(record, { bytes, text, tab } = {}) {
-    return this.#change(["records", "files", "drafts"], (records, files, drafts) => {
+  // Keeps a record, its file where there are bytes, and forgets the draft of a tab where one is named. What is to come
+  // `after` a revision is refused after another one.
+  keep(record, { bytes, text, tab, after } = {}) {
+    const { id } = record;
+    const change = ([records, files, drafts], found) => {
+      if (after !== undefined && found?.revision !== after) throw new ChangedElsewhere();
       records.put(record);
-      if (bytes) files.put({ id: record.id, bytes, text });
-      if (tab) drafts.delete([record.id, tab]);
-    });
+      if (bytes) files.put({ id, bytes, text });
+      if (tab) drafts.delete([id, tab]);
+    };
+    return this.#change(["records", "files", "drafts"], change, { key: id });
   }
 
   remove(id) {
-    return this.#change(["records", "files", "drafts"], (records, files, drafts) => {
+    return this.#change(["records", "files", "drafts"], ([records, files, drafts]) => {
       records.delete(id);
       files.delete(id);
       drafts.delete(IDBKeyRange.bound([id], [id, []]));
@@ -103,11 +119,11 @@ export class Store {
   }
 
   keepDraft(draft) {
-    return this.#change(["drafts"], (drafts) => drafts.put(draft), "relaxed");
+    return this.#change(["drafts"], ([drafts]) => drafts.put(draft), { durability: "relaxed" });
   }
 
   dropDraft(manuscript, tab) {
-    return this.#change(["drafts"], (drafts) => drafts.delete([manuscript, tab]), "relaxed");
+    return this.#change(["drafts"], ([drafts]) => drafts.delete([manuscript, tab]), { durability: "relaxed" });
   }
 
   drafts(manuscript) {
@@ -157,7 +173,7 @@ function answered(request) {
 }
 
 function faultOf(why) {
-  if (why instanceof StoreFull || why instanceof StoreFailed) return why;
+  if ([StoreFull, StoreFailed, ChangedElsewhere].some((known) => why instanceof known)) return why;
   return why?.name === "QuotaExceededError" ? new StoreFull() : new StoreFailed(why);
 }
 

@@ -44,7 +44,7 @@ export function ended() {
   return failed === 0 ? 0 : 1;
 }
 
-function address(hash) {
+export function address(hash) {
   return `${pathToFileURL(process.env.DESK ?? "dist/desk.html")}${hash}`;
 }
 

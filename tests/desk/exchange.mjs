@@ -258,6 +258,36 @@ async function tabs(open) {
   check("two tabs write one file", true);
 }
 
+// Where a browser has no locks, a save that another tab came before is done again.
+async function withoutLocks(open) {
+  const first = await open();
+  await begin(first);
+  await first.type("It was calm.");
+  await saved(first);
+  const pages = [];
+  for (const hash of [0, 1].map(() => first.value("location.hash"))) {
+    const page = await open("#two");
+    const source = "Object.defineProperty(navigator, 'locks', { value: undefined })";
+    await page.send("Page.addScriptToEvaluateOnNewDocument", { source });
+    await page.value(`location.hash = ${JSON.stringify(await hash)}`);
+    await page.reload();
+    await page.until("document.querySelector('textarea')");
+    pages.push(page);
+  }
+  for (let count = 0; count < 5; count += 1) {
+    await select(pages[0], 0, 0);
+    await pages[0].type("a");
+    await select(pages[1], 0, -1);
+    await pages[1].type("b");
+    await pause(1000);
+  }
+  await pause(1500);
+  for (const page of pages) await saved(page);
+  const texts = [await arranged(pages[0]), await arranged(pages[1])];
+  same("two tabs without locks write one file", texts[0], "# The sea\naaaaaIt was calm.bbbbb\n");
+  same("and have the same", texts[1], texts[0]);
+}
+
 // One deletes the section in which the other writes.
 async function deleted(open) {
   const [one, other] = await twoTabs(open);
@@ -361,6 +391,7 @@ export async function exchange() {
   await group("what waits", waiting);
   await group("two copies", conflict);
   await group("two tabs", tabs);
+  await group("two tabs without locks", withoutLocks);
   await group("a section deleted by another", deleted);
   await group("random actions", randomActions);
 }

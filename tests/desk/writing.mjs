@@ -1,7 +1,11 @@
 // One author: typing, what the store keeps, input methods, drafts, sections, comments and versions.
 
+import fs from "node:fs";
+import path from "node:path";
 import { ALT, Browser, CONTROL, SHIFT } from "./browser.mjs";
-import { NOTICES, SAVED, TEXTS, add, arranged, begin, check, group, pause, picture, same, saved, select } from "./checks.mjs";
+import {
+  NOTICES, SAVED, TEXTS, add, address, arranged, begin, check, group, pause, picture, same, saved, select,
+} from "./checks.mjs";
 
 const TEXT = "It was calm.\n\nThen it blew.";
 
@@ -300,6 +304,33 @@ async function fullStore(open) {
   check("and no longer told", !(await page.value(NOTICES)));
 }
 
+// A disk that is really full: SMALL_DISK is a folder on one of some 50 MB, with nothing else on it.
+async function fullDisk() {
+  const browser = new Browser(fs.mkdtempSync(path.join(process.env.SMALL_DISK, "profile-")));
+  const page = await browser.open(address(""));
+  await begin(page);
+  await page.type("It was calm.");
+  await saved(page);
+  const name = path.join(process.env.SMALL_DISK, "fills");
+  const file = fs.openSync(name, "w");
+  try {
+    for (;;) fs.writeSync(file, Buffer.alloc(65536));
+  } catch {
+    await page.type(" Then it blew.");
+  }
+  await page.until("document.querySelector('.state').textContent === 'Not saved'");
+  await pause(1500);
+  check("a full disk is told", /still in this page/.test(await page.value(NOTICES)), await page.value(NOTICES));
+  same("and the text stays in the page", (await page.value(TEXTS))[0], "It was calm. Then it blew.");
+  fs.closeSync(file);
+  fs.rmSync(name);
+  await page.pressButton("Try again");
+  await saved(page);
+  same("with room on it again all is saved", await arranged(page), "# The sea\nIt was calm. Then it blew.\n");
+  await browser.close();
+  browser.forget();
+}
+
 export async function writing() {
   await group("typing", typing);
   await group("drafts", drafts);
@@ -312,5 +343,6 @@ export async function writing() {
   await group("odd texts", odd);
   await group("versions", versions);
   await group("a full store", fullStore);
+  if (process.env.SMALL_DISK) await group("a full disk", fullDisk);
 }
 
