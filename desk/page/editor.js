@@ -101,9 +101,13 @@ export class Editor {
   counts({ record: { waiting }, isReadOnly }) {
     this.waitNotice?.remove();
     if (waiting) this.waitNotice = this.notice(waitingInWords(waiting));
-    if (isReadOnly && !this.readNotice) {
+    if (!isReadOnly) {
+      this.readNotice?.remove();
+      this.readNotice = null;
+    } else if (!this.readNotice) {
+      const mend = button("Put a space before it", () => this.attempt(() => this.manuscript.mend()));
       this.readNotice = this.notice("A text has a line that begins with “# ”, which marks titles. So this manuscript " +
-        "can be read, exchanged and downloaded here, but not changed.");
+        "can be read, exchanged and downloaded here, but not changed.", { actions: [mend] });
     }
   }
 

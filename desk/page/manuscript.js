@@ -4,7 +4,7 @@
 // that what comes in is a change of a saved text, and is carried over to what was typed meanwhile.
 
 import { commentsOf, countsOf, decoded, encoded, faultOfTitle, formOf, isFile, listOf, partsOf } from "./commands.js";
-import { changes, movedPlace, placeOfScalar, withoutReturns } from "./difference.js";
+import { changes, clustersOf, movedPlace, placeOfScalar, withoutReturns } from "./difference.js";
 import { ChangedElsewhere, freshKey } from "./store.js";
 
 const HOME = "manuscript.ms";
@@ -343,6 +343,15 @@ export class Manuscript {
     return this.change(async () => this.does(["comment", HOME, await this.numberOf(section), first, count, text]));
   }
 
+  // Puts a space before each line of a text that begins as a title does, so that the manuscript can be written again.
+  mend() {
+    return this.change(async () => {
+      const { arranged } = await this.program.read(this.bytes, true);
+      const script = mendingOf(await this.printed(this.bytes), arranged);
+      return this.does(["edit", HOME], { input: encoded(script) });
+    });
+  }
+
   // No command withdraws a comment, but a frame that deletes it does: 3 and its identifier.
   withdraw({ author, counter }) {
     const frame = new Uint8Array(9);
@@ -391,6 +400,21 @@ export class Manuscript {
     }
     this.view.decorate(sections);
   }
+}
+
+// The script that mends the texts of sections, of each of which the count of letters is known.
+function mendingOf(text, arranged) {
+  let at = 0;
+  const lines = [];
+  for (const { number, runs } of arranged) {
+    const count = runs.reduce((sum, [, letters]) => sum + letters, 0);
+    const rest = text.slice(text.indexOf("\n", at) + 1);
+    const body = rest.slice(0, placeOfScalar(rest, count));
+    const places = [...body.matchAll(/(?<=^|\n)# /g)].map(({ index }) => clustersOf(body, 0, index).count);
+    lines.push(...places.reverse().map((place) => `put ${number} ${place}  \n`));
+    at = text.length - rest.length + body.length + 1;
+  }
+  return lines.join("");
 }
 
 // Puts a space before what would be a title.

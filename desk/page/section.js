@@ -188,7 +188,8 @@ export class Section {
     this.paint();
   }
 
-  // Does `work`, which may open a dialog. A browser may forget by then what is selected, and others may change the text.
+  // Does `work`, which may open a dialog. By then a browser may forget what is selected, and others may change the
+  // text.
   async keepingSelection(work) {
     this.chosen = { start: this.area.selectionStart, end: this.area.selectionEnd };
     try {

@@ -211,7 +211,8 @@ export class Page {
         if (method === "Input.dragIntercepted" && session === this.session) done(params.data);
       });
     });
-    const mouse = (type, place) => this.send("Input.dispatchMouseEvent", { type, ...place, button: "left", clickCount: 1 });
+    const left = { button: "left", clickCount: 1 };
+    const mouse = (type, place) => this.send("Input.dispatchMouseEvent", { type, ...place, ...left });
     await mouse("mousePressed", from);
     await mouse("mouseMoved", { x: from.x + 10, y: from.y + 10 });
     await mouse("mouseMoved", { x: from.x + 20, y: from.y + 20 });

@@ -26,6 +26,24 @@ function made(page, sections) {
   })`);
 }
 
+// Brings the same file from outside, and tells how long that takes.
+async function imported(page) {
+  await page.value(`(() => {
+    const dataTransfer = new DataTransfer();
+    dataTransfer.items.add(new File([bytes], "large.ms"));
+    globalThis.dropped = performance.now();
+    document.body.dispatchEvent(new DragEvent("drop", { dataTransfer, bubbles: true, cancelable: true }));
+  })()`);
+  await page.until("document.querySelector('dialog[open]')");
+  const read = await page.value("performance.now() - dropped");
+  await page.value("globalThis.dropped = performance.now()");
+  await page.pressButton("Go on");
+  await page.until("document.querySelector('textarea')?.value.length > 0");
+  const shown = await page.value("performance.now() - dropped");
+  const used = `${Math.round(read)} ms to be read and ${Math.round(shown)} ms to be shown`;
+  check(`from outside it takes ${used}`, shown <= MOST_TO_OPEN);
+}
+
 // Few sections, which are longer than a writer's are.
 async function longSections(open) {
   const first = await open();
@@ -85,6 +103,7 @@ async function chapters(open) {
   const first = await open();
   await first.until("document.querySelector('.home')");
   const address = await made(first, SECTIONS);
+  await imported(first);
   const { page, seen } = await opened(open, address);
   check(`1,000,000 letters are there after ${seen} ms`, seen <= MOST_TO_OPEN);
   await pause(3000);

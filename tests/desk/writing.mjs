@@ -221,7 +221,8 @@ async function moved(open) {
   await page.until("document.querySelectorAll('.title')[1].value === 'Three'");
   await page.press("ArrowUp", ALT | SHIFT);
   await page.until("document.querySelector('.title').value === 'Three'");
-  check("the caret stays in a section that is moved", await page.value("document.activeElement.value === 'three three'"));
+  const isThere = await page.value("document.activeElement.value === 'three three'");
+  check("the caret stays in a section that is moved", isThere);
   await select(page, 0, 6, 11);
   await page.press("m", ALT | SHIFT);
   await page.until("document.querySelector('dialog[open] blockquote')");
@@ -254,9 +255,16 @@ async function odd(open) {
   await page.type("2");
   await saved(page);
   same("carriage returns stay where nothing was written", await arranged(page), "# T\none\r\n2\rthree\n");
-  await made("add 1 T\nput 1 0 one\\n# two\n");
+  await made("add 1 T\nput 1 0 # 😀 one\\n# two\nadd 1 U\nput 1 0 e\u0301\\n# x\n");
   await page.until(`/can be read, exchanged and downloaded here/.test(${NOTICES})`);
   check("a text with a title in it is read only", await page.value("document.querySelector('.title').readOnly"));
+  await page.pressButton("Put a space before it");
+  await page.until("document.querySelectorAll('.section').length === 2");
+  same("and can be mended", await arranged(page), "# U\ne\u0301\n # x\n# T\n # 😀 one\n # two\n");
+  await select(page, 0, 0);
+  await page.type("A");
+  await saved(page);
+  same("and written again", await arranged(page), "# U\nAe\u0301\n # x\n# T\n # 😀 one\n # two\n");
 }
 
 async function versions(open) {
