@@ -99,8 +99,11 @@ export class Editor {
   }
 
   counts({ record: { waiting }, isReadOnly }) {
-    this.waitNotice?.remove();
-    if (waiting) this.waitNotice = this.notice(waitingInWords(waiting));
+    if (waiting !== this.waiting) {
+      this.waiting = waiting;
+      this.waitNotice?.remove();
+      if (waiting) this.waitNotice = this.notice(waitingInWords(waiting));
+    }
     if (!isReadOnly) {
       this.readNotice?.remove();
       this.readNotice = null;

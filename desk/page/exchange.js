@@ -1,7 +1,7 @@
 // Exchange with other authors: by files and streams, and with the other manuscripts of this browser.
 
 import { Refused, authorOfFile, decoded, isFile } from "./commands.js";
-import { bytesOf, button, chosenFiles, download, element, grouped, opened } from "./dom.js";
+import { ask, bytesOf, button, chosenFiles, download, element, grouped, opened, paragraph } from "./dom.js";
 import { freshKey } from "./store.js";
 import { inWords } from "./told.js";
 
@@ -28,9 +28,27 @@ export class Channel {
 
 // Takes in files that were dropped or chosen, one after another.
 export async function takeInFiles(editor, files) {
-  for (const file of files) {
-    await editor.attempt(async () => editor.came(await editor.manuscript.takeIn(await bytesOf(file)), file.name));
-  }
+  for (const file of files) await editor.attempt(async () => takeInAsked(editor, await bytesOf(file), file.name));
+}
+
+async function takeInAsked(editor, bytes, name) {
+  if (await isWanted(editor, bytes, name)) editor.came(await editor.manuscript.takeIn(bytes), name);
+}
+
+// What came in can't be taken out again. So it is asked first whether a file is meant that has no section in common.
+async function isWanted({ manuscript }, bytes, name) {
+  if (!isFile(bytes)) return true;
+  const [own, other] = await Promise.all([sectionsOf(manuscript, manuscript.bytes), sectionsOf(manuscript, bytes)]);
+  if (own.length === 0 || other.length === 0 || other.some((key) => own.includes(key))) return true;
+  const line = "It has no section in common with this manuscript, and may be another one. What comes in becomes part " +
+    "of this manuscript, and can't be taken out again.";
+  return ask(`Take in “${name}”?`, [paragraph(line)], { agree: "Take in" });
+}
+
+// The sections of a file; none of what is no manuscript, which the program will tell.
+async function sectionsOf({ program }, bytes) {
+  const { arranged } = await program.read(bytes, false).catch(() => ({ arranged: [] }));
+  return arranged.map(({ key }) => key);
 }
 
 // Keeps a manuscript together with the others of its circle, which other tabs or other authors here write.
@@ -49,10 +67,12 @@ export class Together {
     this.stop();
   }
 
-  heard({ kind, id, circle }) {
-    if (kind !== "saved") return;
-    if (id === this.manuscript.id) this.manuscript.save();
-    else if (circle === this.manuscript.record.circle) this.want(id);
+  // Another tab saved a manuscript, or let it join a circle.
+  async heard({ id, circle }) {
+    const before = this.manuscript.record.circle;
+    if (id === this.manuscript.id) await this.manuscript.save();
+    else if (circle === before) this.want(id);
+    if (this.manuscript.record.circle !== before) this.catchUp().catch((why) => this.editor.fail(why));
   }
 
   // Takes in what the others of the circle have, where it is news.
@@ -140,12 +160,14 @@ async function giveStream({ manuscript }) {
 function otherOf(record, editor, dialog) {
   const { manuscript } = editor;
   const isTogether = element("input", { type: "checkbox", checked: record.circle === manuscript.record.circle });
-  isTogether.onchange = () => editor.attempt(() => join(editor, record.id, isTogether.checked));
+  isTogether.onchange = () => editor.attempt(async () => {
+    const { bytes } = await manuscript.store.file(record.id);
+    if (isTogether.checked && !(await isWanted(editor, bytes, record.name))) isTogether.checked = false;
+    else await join(editor, record.id, isTogether.checked);
+  });
   const take = button("Take in", () => {
     dialog.close();
-    editor.attempt(async () => {
-      editor.came(await manuscript.takeIn((await manuscript.store.file(record.id)).bytes), record.name);
-    });
+    editor.attempt(async () => takeInAsked(editor, (await manuscript.store.file(record.id)).bytes, record.name));
   });
   return element("li", {}, element("b", { textContent: record.name, dir: "auto" }),
     element("small", { textContent: `author ${grouped(record.replica)}` }), take,
@@ -157,6 +179,7 @@ async function join(editor, id, isTogether) {
   const { manuscript, manuscript: { store }, together } = editor;
   const circle = isTogether ? manuscript.record.circle : freshKey();
   await store.exclusively(id, async () => store.keep({ ...(await store.record(id)), circle }));
+  manuscript.channel.say({ id, circle });
   if (isTogether) await together.want(id);
 }
 

@@ -111,7 +111,7 @@ export class Manuscript {
     await this.store.keep(record, { bytes, text, tab: this.tab, after: this.record.revision });
     this.record = record;
     this.bytes = bytes;
-    this.channel?.say({ kind: "saved", id: this.id, circle: record.circle });
+    this.channel?.say({ id: this.id, circle: record.circle });
   }
 
   // Keeps what is known of the manuscript beside its file.

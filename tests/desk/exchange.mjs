@@ -308,6 +308,37 @@ async function deleted(open) {
   same("for both", await arranged(one), kept);
 }
 
+// Two manuscripts of one browser that began apart.
+async function keptTogether(open) {
+  const one = await open();
+  await begin(one, "Hers", "The sea");
+  await one.type("It was calm.");
+  await saved(one);
+  const other = await open();
+  await begin(other, "His", "The land");
+  await other.type("Hills, mostly.");
+  await saved(other);
+  await other.pressButton("Exchange");
+  await other.until("document.querySelector('dialog[open] .others input')");
+  await picture(other, "others");
+  await other.value("document.querySelector('dialog[open] .others input').click()");
+  await other.until("document.querySelectorAll('dialog[open]').length === 2");
+  await other.pressButton("Cancel");
+  await pause(300);
+  const count = "document.querySelectorAll('.section').length";
+  same("another manuscript comes in only where that is agreed to", await other.value(count), 1);
+  await other.value("document.querySelector('dialog[open] .others input').click()");
+  await other.until("document.querySelectorAll('dialog[open]').length === 2");
+  await other.pressButton("Take in");
+  await other.until(`${count} === 2`);
+  await other.pressButton("Close");
+  await select(other, 0, -1);
+  await other.type(" Sheep.");
+  await one.until("[...document.querySelectorAll('textarea')].some(({ value }) => value === 'Hills, mostly. Sheep.')");
+  await pause(800);
+  same("manuscripts that began apart are kept together", await arranged(one), await arranged(other));
+}
+
 // Random numbers that are the same in each run.
 function numbers(seed) {
   let state = seed;
@@ -391,6 +422,7 @@ export async function exchange() {
   await group("what waits", waiting);
   await group("two copies", conflict);
   await group("two tabs", tabs);
+  await group("kept together", keptTogether);
   await group("two tabs without locks", withoutLocks);
   await group("a section deleted by another", deleted);
   await group("random actions", randomActions);
