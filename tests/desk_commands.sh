@@ -316,7 +316,7 @@ fi
 run_script() {
     local name=$1 seen=$work/$1.log others
     shift
-    TRIED_PROGRAM=$wasm DRAFTS=${DRAFTS:-20} bash "tests/$name" >"$seen" 2>/dev/null
+    TRIED_PROGRAM=$wasm bash "tests/$name" >"$seen" 2>/dev/null
     grep '^FAILED: ' "$seen" >"$work/failures"
     others=$work/failures
     for known in "$@"; do
@@ -329,6 +329,8 @@ run_script() {
     [ -n "$(tail -n 1 "$seen" | grep ' tried, ')" ] || check "$name came to its end" false
 }
 
+# Fewer random cases than the native program is tried with, since each command starts a process of Node.
+export DRAFTS=${DRAFTS:-20} STREAMS=${STREAMS:-20} HISTORIES=${HISTORIES:-2}
 run_script show.sh 'too little memory for the operations' 'too little memory for the words'
 run_script files.sh
 run_script drafts.sh
