@@ -97,7 +97,8 @@ END
     put odd "$y" "$section" "$b" "$other_b" "$in_b" "$a" "$b" "$drops_b"
     both_show 'operations that wait, clash, stray and come twice' "$work/odd"
     check 'the program meets the test vectors' python3 tests/vectors.py "$program"
-    check 'the reader and the program agree on odd streams and files' python3 tests/odd_streams.py "$program" 1 "${STREAMS:-200}"
+    check 'the reader and the program agree on odd streams and files' \
+        python3 tests/odd_streams.py "$program" 1 "${STREAMS:-200}"
     check 'and on certificates in hostile histories' python3 tests/odd_certificates.py "$program" 1 "${HISTORIES:-12}"
 fi
 
