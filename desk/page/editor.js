@@ -162,9 +162,10 @@ export class Editor {
     this.paint();
   }
 
-  // Notices. Each can be put away.
+  // Notices. Each can be put away, and none is there twice.
 
   notice(text, { line, kind = "", actions = [] } = {}) {
+    for (const known of [...this.notices.children]) if (known.firstChild.textContent === text) known.remove();
     const made = element("div", { className: `notice ${kind}` }, paragraph(text));
     if (line) made.append(element("p", {}, element("small", { textContent: "The program said: " }),
       element("code", { textContent: line })));
