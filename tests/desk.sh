@@ -1,7 +1,14 @@
 #!/usr/bin/env bash
 # Tries the page, dist/desk.html, in a headless Chromium, as a writer uses it: desk.sh [GROUP..]
-# With DESK it tries another page, with ONLY the tests whose names have that word, and with SHOTS it leaves pictures in
-# that folder.
+# Where there is no page, no Node or no Chromium, it says so and ends with status 0. The environment may have:
+#
+#     DESK         another page
+#     ONLY         a word: only the tests whose names have it are run
+#     SHOTS        a folder: pictures are left there
+#     SEED         another seed for the random actions
+#     SMALL_DISK   a folder on a disk of some 50 MB with nothing else on it: the test with a disk that is really full,
+#                  which is left out otherwise
+#     DESK_LONG    something: the test of sections of 100,000 letters and more, which is left out otherwise
 cd "$(dirname "$0")/.." || exit 1
 page=${DESK:-dist/desk.html}
 

@@ -1,23 +1,28 @@
 #!/usr/bin/env bash
-# Compares the program in WebAssembly with the native one, command by command: desk_commands.sh [PROGRAM], which `make
-# desk` makes. Node stands in for a browser, and desk/system.js for the system, as in the page. It is no part of the
-# gate.
+# Compares the program in WebAssembly with the native one, command by command: desk_commands.sh [PROGRAM]. `make desk`
+# makes the program, dist/manuscript.wasm. Node stands in for a browser, and desk/system.js for the system, as in the
+# page. Where there is no such program or no Node, it says so and ends with status 0.
 #
-# Not comparable are relay and sync, since there are no sockets, and two ends in show.sh, of a process that has too
-# little memory for itself; memory is tried here in another way.
-. "$(dirname "$0")/common.sh"
+# Not compared are relay and sync, since there are no sockets, and two cases of show.sh, in which a process has too
+# little memory for itself. Memory that ends is tried here in another way.
+cd "$(dirname "$0")/.." || exit 1
+module=${1:-dist/manuscript.wasm}
 
-module=$(realpath "${1:-dist/manuscript.wasm}")
-command -v node >/dev/null || {
-    echo 'not tried, since there is no node'
+not_tried() {
+    echo "not tried, since there is no $1"
     exit 0
 }
+
+[ -f "$module" ] || not_tried "$module"
+command -v node >/dev/null || not_tried 'node'
+. tests/common.sh
+module=$(realpath "$module")
 here=$PWD
 wasm=$work/bin/manuscript
 mkdir "$work/bin" "$work/native" "$work/wasm"
 cat >"$wasm" <<END
 #!/bin/sh
-# The program in WebAssembly as a process. A stream that is closed has to be told to Node.
+# The program in WebAssembly as a process. Node does not see which streams are closed, so CLOSED lists them.
 (exec 3<&0) 2>/dev/null || CLOSED=0
 (exec 3>&1) 2>/dev/null || CLOSED="\$CLOSED 1"
 (exec 3>&2) || CLOSED="\$CLOSED 2"
@@ -28,7 +33,7 @@ chmod +x "$wasm"
 compared=0
 differed=0
 
-# Runs one of both programs in its folder. The words in front set variables for it.
+# Runs one of the two programs in its folder. Words of the form NAME=VALUE before it set variables for it.
 run_in() {
     local kind=$1
     shift
@@ -37,7 +42,7 @@ run_in() {
 }
 
 # Whether both ended in the same way: status, output, diagnostics, files, and the calls of the system, where they are
-# told.
+# recorded.
 is_same() {
     local part
     for part in status output notes calls; do
@@ -57,7 +62,7 @@ judge() {
     [ "$differed" -gt 9 ] || echo "    differs: $*: $(in_short wasm) and not $(in_short native)"
 }
 
-# Runs a command in both folders. The files of the one in WebAssembly are those of a page.
+# Runs a command in both folders. The program in WebAssembly has its files as byte arrays, as in a page.
 both() {
     run_in native "$program" "$@"
     run_in wasm ARRAYS=1 "$wasm" "$@"
@@ -72,7 +77,7 @@ both_read() {
     : >"$work/input"
 }
 
-# Each command, done and refused. What a line has before the bar is the input.
+# Each command, done and refused. The input of each is what its line has before the bar.
 : >"$work/input"
 while IFS='|' read -r input words; do
     eval "both_read '$input' $words"
@@ -144,7 +149,7 @@ claim 1.2 1.3\ndown 1.2 1.3\nprefix\n|check a.ms
 |bulk 7 0
 END
 
-# Random drafts: what `arrange` prints, changed, and saved by `revise`; each author takes in the other one's.
+# Random drafts: what `arrange` prints is changed and saved by `revise`, and the other author takes it in.
 : >"$work/draft"
 for turn in {1..60}; do
     file=$([ $((turn % 2)) = 0 ] && echo a.ms || echo b.ms)
@@ -185,7 +190,7 @@ for file in ann.ms ben.ms cleo.ms old.ms; do
 done
 check "the samples: $((compared - begun)) compared" [ $differed = 0 ]
 
-# Each call of the system that a command makes fails in each way, in both programs; the calls have to be the same ones.
+# Each call of the system that a command makes fails in each way, in both programs. Both have to make the same calls.
 
 # The ways in which a call fails, or does less.
 ways_of() {
@@ -253,7 +258,7 @@ if build_c calls; then
     check "calls of the system that fail: $((compared - begun)) compared" [ $differed = 0 ]
 fi
 
-# Memory ends: the program says so, and prints nothing. Where it does not end, all is as with enough of it.
+# Where memory ends, the program says so and prints nothing. Where it does not, the program ends as the native one does.
 begun=$compared
 put_long long 5000
 : >"$work/input"
@@ -274,7 +279,7 @@ for ((bytes = 1100000; bytes < 8000000; bytes += 300000)); do
 done
 check "memory that ends: $((compared - begun)) compared, $ends of them without enough" [ $ends -gt 0 -a $differed = 0 ]
 
-# The files of a page have an end too, and one can be in use.
+# The room for the files of a page can end too, and a file can be in use.
 restore
 printf 'put 1 0 %0500d\n' 0 >"$work/input"
 run_in wasm ARRAYS=1 ROOM=700 "$wasm" edit home
@@ -299,7 +304,7 @@ run_in wasm ARRAYS=1 "$wasm" sync home 47119 0
 compare_wasm 'an exchange, where there are no sockets' 4 '' 'outside fault\n'
 because 'manuscript: 47119: Address family not supported by protocol (os error 97)'
 
-# The heap alone.
+# The heap alone, compiled by the toolchain's clang.
 clang=$(dirname "$(realpath "$(command -v "${RT:-rt}" || echo /)")")/../toolchain/bin/clang
 if [ -x "$clang" ]; then
     ln -s "$(realpath "$clang")" "$work/wasm-ld"
@@ -312,7 +317,8 @@ else
     echo 'not tried: the heap alone, since there is no toolchain'
 fi
 
-# The tests of the commands, which know what is wanted to the byte.
+# The tests of the native program, which know each output to the byte. The words after a script's name are its tests
+# that cannot pass here.
 run_script() {
     local name=$1 seen=$work/$1.log others
     shift
