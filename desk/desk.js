@@ -8,8 +8,8 @@ import { Store } from "./page/store.js";
 import { Two } from "./page/two.js";
 import { element, opened, tell } from "./page/dom.js";
 
-const LACKS_PROGRAM = "The program inside this page needs WebAssembly with memory of 64 bits. Chrome and Firefox " +
-  "have it since the beginning of 2025.";
+const LACKS_PROGRAM = "The program inside this page needs a newer browser, with 64-bit memory for WebAssembly: " +
+  "Chromium or Chrome from version 133 on, or Firefox from version 134 on.";
 
 function help() {
   const text = document.getElementById("help").content.cloneNode(true);
@@ -56,7 +56,7 @@ async function start() {
     await desk.show();
     return desk;
   } catch (why) {
-    const line = "This browser does not let the page keep anything, or is too old for it. A newer one may do.";
+    const line = "This browser does not let the page store anything, or it is too old. A newer one may work.";
     await tell("The page could not start", line, String(why));
     return null;
   }

@@ -13,7 +13,7 @@ export function decoded(bytes) {
   return DECODER.decode(bytes);
 }
 
-// An answer that is no success, in words, with the program's own line behind them.
+// A command that did not succeed: why in words, and the program's own line.
 export class Refused extends Error {
   constructor(words, { notes, status }) {
     super(inWords(notes));
@@ -56,7 +56,7 @@ export class Program {
     return { ...answer, files: new Map(answer.files) };
   }
 
-  // Runs a command that has to succeed; 3 says that some of what came in waits or was left out.
+  // Runs a command that has to succeed. Status 3 says that some of what came in is pending or was left out.
   async does(words, given) {
     const answer = await this.run(words, given);
     if (answer.status !== 0 && answer.status !== 3) throw new Refused(words, answer);
@@ -132,10 +132,10 @@ export function faultOfTitle(title) {
 export function faultOfText(text) {
   if (!/(^|\n)# /.test(text)) return "";
   return "A line here begins with “# ”, which marks the title of a section. This section is saved as soon as you " +
-    "change that line: put another sign or a space before it, say. Until then it is kept as a draft.";
+    "change that line: put a space before it, say. Until then it is kept as a draft.";
 }
 
-// A stream's or a file's kind, by its first bytes: "FGMX" begins a file.
+// Whether the bytes are a file, and not a stream: a file begins with "FGMX".
 export function isFile(bytes) {
   return decoded(bytes.subarray(0, 4)) === "FGMX";
 }

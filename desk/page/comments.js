@@ -25,7 +25,7 @@ export async function comment(editor, section) {
   if (!text) return;
   await editor.manuscript.save();
   const { first, count } = selectedIn(section);
-  if (count === 0) editor.notice("This passage is not saved yet, so there can be no comment on it.");
+  if (count === 0) editor.notice("This passage is not saved yet, so it can't be commented on.");
   else await editor.manuscript.comment(section, first, count, text);
   section.focus();
 }
@@ -60,7 +60,7 @@ function noteOf(section, note, editor) {
 }
 
 async function withdraw(editor, note) {
-  const lines = [paragraph(`“${note.body}” goes, here and for the other authors.`)];
+  const lines = [paragraph(`This removes “${note.body}” here, and for the others once they take in your changes.`)];
   if (!(await ask("Withdraw this comment?", lines, { agree: "Withdraw", isGrave: true }))) return;
   await editor.attempt(() => editor.manuscript.withdraw(note));
 }

@@ -79,7 +79,7 @@ export class Editor {
     return this.manuscript.isReadOnly;
   }
 
-  // What the manuscript shows.
+  // What the manuscript calls, as its view.
 
   place(sections) {
     this.list.place(sections);
@@ -110,7 +110,8 @@ export class Editor {
     } else if (!this.readNotice) {
       const mend = button("Put a space before it", () => this.attempt(() => this.manuscript.mend()));
       this.readNotice = this.notice("A text has a line that begins with “# ”, which marks titles. So this manuscript " +
-        "can be read, exchanged and downloaded here, but not changed.", { actions: [mend] });
+        "can be read, exchanged and downloaded here, but can't be changed until there is a space before that line.",
+      { actions: [mend] });
     }
   }
 
@@ -143,7 +144,7 @@ export class Editor {
     const names = authors.map((author) => button(this.nameOf(author), () => this.nameAuthor(author), {
       className: `author by-${author}`, title: `Author ${grouped(author)}: give a name`,
     }));
-    this.legend.replaceChildren(element("label", {}, isShown, "Colours of the others"), ...names);
+    this.legend.replaceChildren(element("label", {}, isShown, "Show the others' colours"), ...names);
   }
 
   nameOf(author) {
@@ -154,15 +155,15 @@ export class Editor {
   async nameAuthor(author) {
     const { names = {} } = this.manuscript.record;
     const input = element("input", { value: names[author] ?? "", maxLength: 60 });
-    const body = [field("Name", input, "Only this browser shows it: it is not in the file.")];
-    const name = await ask(`Author ${grouped(author)}`, body, { agree: "Keep", read: () => input.value.trim() });
+    const body = [field("Name", input, "Only this browser shows the name: it is not in the file.")];
+    const name = await ask(`Author ${grouped(author)}`, body, { agree: "Save", read: () => input.value.trim() });
     if (name === null) return;
     await this.attempt(() => this.manuscript.keepRecord({ names: { ...names, [author]: name || undefined } }));
     this.showLegend();
     this.paint();
   }
 
-  // Notices. Each can be put away, and none is there twice.
+  // Notices. Each can be closed, and none is there twice.
 
   notice(text, { line, kind = "", actions = [] } = {}) {
     for (const known of [...this.notices.children]) if (known.firstChild.textContent === text) known.remove();
@@ -181,7 +182,7 @@ export class Editor {
     return this.notice(why.message, { line: why instanceof Refused ? why.line : "", kind: "grave" });
   }
 
-  // A save that failed. The text is in the page, and the writer can take it away.
+  // A save that failed. The text is in the page, and the writer can download it.
   refused(why) {
     this.saveNotice?.remove();
     const isFull = why instanceof StoreFull;
@@ -215,7 +216,7 @@ export class Editor {
   async offerDrafts() {
     const drafts = await this.manuscript.leftDrafts();
     if (drafts.length === 0) return;
-    const text = "When this manuscript was last open, something that you wrote did not get into the file. It is here:";
+    const text = "When this manuscript was last open, something that you wrote was not saved in the file. Here it is:";
     const list = drafts.flatMap(({ sections }) => sections.map(({ live }) => live));
     const shown = element("pre", { textContent: formOf(list), tabIndex: 0 });
     const away = () => notice.remove();
@@ -223,7 +224,7 @@ export class Editor {
     const actions = [
       button("Put it back", putBack, { className: "main" }),
       button("Download it", () => download("draft.txt", encoded(formOf(list)), "text/plain")),
-      button("Forget it", () => this.attempt(() => this.manuscript.forget(drafts)).then(away)),
+      button("Discard it", () => this.attempt(() => this.manuscript.forget(drafts)).then(away)),
     ];
     const notice = this.notice(text, { actions, kind: "draft" });
     notice.firstChild.after(shown);
@@ -255,7 +256,8 @@ export class Editor {
   }
 
   async drop(section) {
-    const lines = [paragraph(`“${section.saved.title}” and its text go, here and for the other authors.`)];
+    const lines = [paragraph(`This deletes “${section.saved.title}” and its text here, and for the others once they ` +
+      "take in your changes.")];
     if (!(await ask("Delete this section?", lines, { agree: "Delete", isGrave: true }))) return;
     await this.manuscript.drop(section);
   }
@@ -307,7 +309,8 @@ export class Editor {
     return this.manuscript.sections.find(({ element: article }) => article.contains(node));
   }
 
-  // Where a section that is dragged would go: before the one under the pointer, or behind it in its lower half.
+  // Where a section that is dragged would go: before the one under the pointer, or after it, where the pointer is in
+  // its lower half.
   targetOf(event) {
     const section = this.sectionAt(event.target);
     if (!section) return null;

@@ -7,7 +7,7 @@ import { inWords } from "./told.js";
 
 export const FILES = ".ms,.frames,application/octet-stream";
 
-// What tabs say to each other.
+// Messages between tabs.
 export class Channel {
   constructor(name) {
     this.hearers = new Set();
@@ -35,17 +35,17 @@ async function takeInAsked(editor, bytes, name) {
   if (await isWanted(editor, bytes, name)) editor.came(await editor.manuscript.takeIn(bytes), name);
 }
 
-// What came in can't be taken out again. So it is asked first whether a file is meant that has no section in common.
+// What came in can't be taken out again. So the page asks first, if a file has no section in common with this one.
 async function isWanted({ manuscript }, bytes, name) {
   if (!isFile(bytes)) return true;
   const [own, other] = await Promise.all([sectionsOf(manuscript, manuscript.bytes), sectionsOf(manuscript, bytes)]);
   if (own.length === 0 || other.length === 0 || other.some((key) => own.includes(key))) return true;
-  const line = "It has no section in common with this manuscript, and may be another one. What comes in becomes part " +
-    "of this manuscript, and can't be taken out again.";
+  const line = "It has no section in common with this manuscript, so it may belong to another one. What comes in " +
+    "becomes part of this manuscript, and can't be taken out again.";
   return ask(`Take in “${name}”?`, [paragraph(line)], { agree: "Take in" });
 }
 
-// The sections of a file; none of what is no manuscript, which the program will tell.
+// The keys of the sections of a file. Bytes that are no manuscript have none here: the program refuses them later.
 async function sectionsOf({ program }, bytes) {
   const { arranged } = await program.read(bytes, false).catch(() => ({ arranged: [] }));
   return arranged.map(({ key }) => key);
@@ -127,7 +127,8 @@ export async function exchange(editor) {
     part("What others wrote", "Take in another author's file or stream: choose it here, or drop it on this page. " +
       "What you wrote stays, and passages are never mixed.", take),
     part("What you wrote", "Give the others a copy of your file, by mail, on a stick, or in a shared folder. " +
-      "They take it in, and never write in it: it bears your number.", give, send),
+      "They take it in, but must not write in it, since it has your author number. A stream has the same changes, in " +
+      "the form that the command line exchanges.", give, send),
     part("In this browser", "", others, button("Begin a copy for another author", () => {
       dialog.close();
       editor.attempt(() => copy(editor));
@@ -192,7 +193,7 @@ async function copy(editor) {
     `${grouped(record.replica)}. Open it in another tab: both are kept together.`);
 }
 
-// What a file is: a manuscript with its author's number and what it says, a stream, or neither, which is told.
+// What bytes are: a manuscript, with its author's number and what it says, or a stream. If neither, this throws.
 export async function kindOf(program, bytes) {
   if (isFile(bytes)) {
     const { output } = await program.does(["arrange", "it.ms"], { files: [["it.ms", bytes]] });

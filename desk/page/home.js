@@ -24,11 +24,11 @@ export class Shelf {
   async begin({ name = "", from = null, circle = freshKey() } = {}) {
     const title = element("input", { value: name, required: true, maxLength: 120, dir: "auto" });
     const number = element("input", { type: "number", min: 1, max: MOST, required: true, value: drawnNumber() });
-    const hint = "No other author of this manuscript may have this number. It was drawn by lot, so you can leave it. " +
-      "On another machine you are another author, with another number.";
+    const hint = "No other author of this manuscript may have this number. It was chosen at random, so you can leave " +
+      "it. On another machine you are another author, with another number.";
     const read = () => ({ name: title.value, replica: Number(number.value) });
     const body = [field("Name", title), field("Your author number", number, hint)];
-    const given = await ask(from ? "Begin a manuscript from it" : "New manuscript", body, { agree: "Begin", read });
+    const given = await ask(from ? "New manuscript from this file" : "New manuscript", body, { agree: "Begin", read });
     return given && this.make({ ...given, from, circle });
   }
 
@@ -70,7 +70,7 @@ export class Shelf {
       ...(warning ? [element("p", { className: "warning", textContent: warning })] : []),
       element("label", { className: "choice" }, own, "It is mine. From now on I write in it here and nowhere else."),
       element("label", { className: "choice" }, other, "Another author writes in it, or I do on another machine. I " +
-        "begin one of my own from it."),
+        "begin a manuscript of my own from it."),
     ];
     const read = () => (own.checked ? "own" : "other");
     const whose = await ask("Whose file is this?", body, { agree: "Go on", read });
@@ -139,8 +139,8 @@ export class Home {
   }
 
   async remove({ id, name }) {
-    const lines = ["It goes from this browser, with all that only this browser has of it. Download it first, if you " +
-      "may want it again."];
+    const lines = ["It is removed from this browser. Download it first if you may want it again: " +
+      "what no other file has is lost."];
     if (!(await ask(`Remove “${name}”?`, lines.map(paragraph), { agree: "Remove", isGrave: true }))) return;
     await this.store.remove(id);
     await this.fill();

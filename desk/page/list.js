@@ -42,7 +42,7 @@ function order(container, wanted) {
   }
 }
 
-// The colours of authors: hues as far apart as they can be, each behind a class of its own.
+// The colours of authors: hues as far apart as they can be, each with a class of its own.
 export class Colours {
   constructor() {
     this.style = element("style");

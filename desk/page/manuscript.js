@@ -1,7 +1,7 @@
 // An open manuscript: its file, its sections, and what was typed and is not in the file yet.
 //
-// Whatever changes the file waits in one queue, and for other tabs that have it open. What was typed is saved first, so
-// that what comes in is a change of a saved text, and is carried over to what was typed meanwhile.
+// Each change of the file waits in one queue, and for other tabs that have the file open. What was typed is saved
+// first. So what comes in is a change of a saved text, and it is carried over to what was typed meanwhile.
 
 import { commentsOf, countsOf, decoded, encoded, faultOfTitle, formOf, isFile, listOf, partsOf } from "./commands.js";
 import { changes, clustersOf, movedPlace, placeOfScalar, withoutReturns } from "./difference.js";
@@ -11,7 +11,7 @@ const HOME = "manuscript.ms";
 const BASE = "base.txt";
 const OTHER = "other.ms";
 
-// A draft of a section with more letters is kept five times a second, and not at each key.
+// A draft of a section with more letters is kept at most five times a second, and not at each key.
 const LONG = 100000;
 
 function rest() {
@@ -35,7 +35,7 @@ export class Manuscript {
     return this.record.id;
   }
 
-  // Opening: the text that was kept with the file is shown at once, and the program prints it behind that.
+  // Opening: the text that was kept with the file is shown at once, and then what the program prints.
   async load() {
     this.endOpen = this.store.showOpen(this.tab);
     const shown = this.show();
@@ -55,7 +55,7 @@ export class Manuscript {
     this.view.state("saved");
   }
 
-  // How many changes wait is not known of a file that was brought here.
+  // For a file that was opened as it is, the page does not know yet how many changes wait.
   async countWaiting() {
     const { waiting } = listOf((await this.does(["list", HOME])).output);
     await this.keepRecord({ waiting });
@@ -87,8 +87,8 @@ export class Manuscript {
     return decoded((await this.does(["arrange", HOME], { bytes })).output);
   }
 
-  // What bytes of the file say: the text, and its sections with what tells them apart. Where a text has a line like a
-  // title there are more parts than sections.
+  // What bytes of the file say: the text, and its sections with their keys, which tell them apart. Where a text has a
+  // line like a title, there are more parts than sections.
   async look(bytes) {
     const text = await this.printed(bytes);
     const parts = partsOf(text);
@@ -114,7 +114,7 @@ export class Manuscript {
     this.channel?.say({ id: this.id, circle: record.circle });
   }
 
-  // Keeps what is known of the manuscript beside its file.
+  // Keeps the record of the manuscript, which stands beside its file.
   keepRecord(changes) {
     return this.alone(async () => {
       await this.catchUp();
@@ -188,7 +188,7 @@ export class Manuscript {
     this.isPausing = true;
   }
 
-  // How it stands: what can't be saved yet is held as a draft.
+  // Shows whether all is saved. What can't be saved yet is held as a draft.
   showState() {
     this.view.state(this.unsaved.length === 0 ? "saved" : this.isPausing ? "typing" : "held");
   }
@@ -197,7 +197,7 @@ export class Manuscript {
     return [...this.sections.filter(({ isDirty }) => isDirty).map((section) => section.draft()), ...this.lost];
   }
 
-  // What tabs that are gone left unsaved.
+  // The drafts that closed tabs left unsaved.
   async leftDrafts() {
     const open = await this.store.openTabs();
     return (await this.store.drafts(this.id)).filter(({ tab }) => tab !== this.tab && !open.has(tab));
@@ -242,7 +242,7 @@ export class Manuscript {
     }
   }
 
-  // Saves what was typed. Gives whether all of it is in the file.
+  // Saves what was typed. Answers whether all of it is in the file.
   async save() {
     clearTimeout(this.timer);
     this.isPausing = false;
@@ -329,7 +329,7 @@ export class Manuscript {
     });
   }
 
-  // Adds a section behind another one, or in front of all.
+  // Adds a section after another one, or before all.
   add(title, behind) {
     return this.change(() => {
       const parts = this.sections.map(({ saved }) => saved);
@@ -422,7 +422,7 @@ function withoutHeadings(text) {
   return text.replace(/(^|\n)# /g, "$1 # ");
 }
 
-// The bytes of the file behind a command; those before where it wrote none.
+// The bytes of the file after a command: those from before it, where it wrote none.
 function written({ files }, bytes) {
   return files.get(HOME) ?? bytes;
 }

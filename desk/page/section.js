@@ -1,6 +1,6 @@
-// A section as it is written: its title, its text, the colours behind it and the comments beside it.
+// A section as it is written: its title, its text, the colours under it and the comments beside it.
 //
-// The text stands twice in one place: in a text area, and behind it in a mirror that has the colours and gives both
+// The text stands twice in one place: in a text area, and under it in a mirror that has the colours and gives both
 // their height. The text area is made when the section comes into view, so that a long manuscript opens at once.
 
 import { carried, changed, changes, movedPlace, splice, withReturns, withoutReturns } from "./difference.js";
@@ -43,7 +43,7 @@ export class Section {
 
   tools() {
     const does = (name) => () => this.host.does(name, this);
-    // No button: not all browsers drag one.
+    // This is no button, since not all browsers drag one.
     const grip = { className: "grip", draggable: true, title: "Drag to another place", textContent: "⠿" };
     this.grip = element("span", { ...grip, "aria-hidden": "true" });
     this.buttons = [
@@ -71,7 +71,7 @@ export class Section {
     });
   }
 
-  // Numbers the section for those who hear the page.
+  // Numbers the section for those who use a screen reader.
   count(place, most) {
     this.buttons[0].disabled = place === 1;
     this.buttons[1].disabled = place === most;
@@ -143,7 +143,7 @@ export class Section {
     if (this.title.value !== title) this.title.value = title;
   }
 
-  // What was typed and lost from sight comes back: a draft, as a change of what it was made from.
+  // Puts back a draft, as a change of the saved text from which it was made.
   putBack({ saved, live }) {
     if (live.title !== saved.title) this.setTitle(live.title);
     const own = changes(saved.text, this.live);

@@ -1,11 +1,11 @@
 // Where the browser keeps manuscripts. A record tells of a manuscript, its file has the bytes, and a draft has what was
-// typed and is not in the file yet. MemoryStore keeps them for as long as the page is open, for `two`.
+// typed and is not in the file yet. MemoryStore, for two.js, keeps them only while the page is open.
 
 const NAME = "manuscript";
 
 export class StoreFull extends Error {
   constructor() {
-    super("The browser's store is full.");
+    super("The browser has no room left.");
   }
 }
 
@@ -17,7 +17,7 @@ export class ChangedElsewhere extends Error {
 
 class StoreFailed extends Error {
   constructor(why) {
-    super(`The browser's store does not work now. Its disk may be full. (${why?.message ?? "no reason given"})`);
+    super(`The browser can't store anything now. The disk may be full. (${why?.message ?? "no reason given"})`);
   }
 }
 
@@ -57,8 +57,8 @@ export class Store {
   }
 
   // Does `work` with the named stores in one transaction, and ends when its changes are kept. What is kept `strict` is
-  // on the disk by then; drafts, which are kept at each key, outlive the browser but maybe not a failure of the power.
-  // Where `work` throws, nothing is changed. It gets the stores, and a look at what has a key in the first of them.
+  // on the disk by then; drafts, which are kept at each key, survive a crash of the browser, but maybe not a power
+  // failure. Where `work` throws, nothing is changed. It gets the stores, and what the first of them has under `key`.
   async #change(names, work, { durability = "strict", key } = {}) {
     const transaction = await this.#begin(names, "readwrite", { durability });
     const stores = names.map((name) => transaction.objectStore(name));

@@ -4,18 +4,18 @@ const RULES = [
   [/^not a replica$/, () => "This file is no manuscript."],
   [/^bad batch (\d+)$/, (part) => `This file is damaged, from its part ${part} on. Keep it as it is, and begin
     a new manuscript from a backup and from what the other authors have.`],
-  [/^bad frame at byte (\d+)$/, (at) => `This is neither a manuscript nor what one sends, or it was damaged on
-    its way (at byte ${at}). Ask for it again.`],
+  [/^bad frame at byte (\d+)$/, (at) => `This is neither a manuscript nor a stream of one, or it was damaged on the
+    way (at byte ${at}). Ask for it again.`],
   [/^cut short at byte (\d+)$/, () => "The end of this file is missing. Ask for it again."],
   [/^base differs at byte/, () => "The manuscript was changed somewhere else in the meantime."],
   [/^bad draft at line (\d+)$/, (line) => `Line ${line} can't be saved: a title is empty or too long.`],
   [/^heading in section (\d+)$/, (section) => `The text of section ${section} has a line that begins with “# ”, which
-    marks titles. It can be read here, but not changed.`],
+    marks titles. It can be read here, but not changed until that line is.`],
   [/^too long$/, () => "This is longer than a manuscript may be."],
   [/^batch too long$/, () => "This is more than can be saved at once. Save a smaller part first."],
-  [/^too many: (\d+)$/, (count) => `A manuscript has room for so many changes and no more: ${count}.`],
+  [/^too many: (\d+)$/, (count) => `A manuscript has room for ${count} changes, and no more.`],
   [/^ids spent: /, () => "Your author number has made as many changes as it can. Begin a copy with another number."],
-  [/^stamps spent$/, () => "Sections can't be moved or renamed any more: their count of moves is spent."],
+  [/^stamps spent$/, () => "Sections can't be moved or renamed any more: the limit of such changes is reached."],
   [/^no section/, () => "That section is not there any more."],
   [/^no place/, () => "There is no such place for the section."],
   [/^out of range/, () => "That passage is not there any more."],
@@ -23,7 +23,7 @@ const RULES = [
   [/^not empty$/, () => "There is a manuscript already."],
   [/^words not understood$/, () => "The program did not understand what the page asked for."],
   [/^no memory$/, () => "The browser had no memory left. Nothing was lost: try again."],
-  [/^outside fault$/, () => "The browser did not give the program what it asked for."],
+  [/^outside fault$/, () => "The program could not read or write its file."],
 ];
 
 export function inWords(notes) {
@@ -50,7 +50,7 @@ export function countsInWords({ accepted, repeated, waiting, conflict, stray, fu
       was written earlier, and then this again.`);
   }
   if (conflict) {
-    sentences.push(`${counted(conflict, "change has", "changes have")} the number of another one that you have.
+    sentences.push(`${counted(conflict, "change has", "changes have")} the same number as another one that you have.
       Two copies of one file were changed, or two authors have the same number. What you had stays. See “Exchange”
       in the help.`);
   }

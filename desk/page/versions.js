@@ -8,11 +8,11 @@ const LONGEST_NAME = 120;
 export async function showVersions(editor) {
   const list = element("ul", { className: "versions" });
   const input = element("input", { required: true, dir: "auto" });
-  const give = element("button", { textContent: "Name", className: "main" });
-  const form = element("form", { className: "row" }, field("Name what it says now", input), give);
+  const give = element("button", { textContent: "Save", className: "main" });
+  const form = element("form", { className: "row" }, field("Name for the text as it is now", input), give);
   const leave = element("button", { textContent: "Close" });
   const close = element("form", { method: "dialog", className: "row end" }, leave);
-  const hint = element("p", { textContent: "Versions stay on this machine: they belong to your file." });
+  const hint = element("p", { textContent: "Versions belong to your file: other authors have their own." });
   const dialog = element("dialog", { "aria-label": "Versions" },
     element("h2", { textContent: "Versions" }), form, hint, list, close);
   const fill = async () => {
@@ -37,7 +37,7 @@ function faultOfName(name) {
   return encoded(name).length > LONGEST_NAME ? "This name is too long." : faultOfTitle(name);
 }
 
-// The program views the last version of a name.
+// Of versions with one name, the program shows the last one.
 function itemOf({ name, count }, versions, editor) {
   const isLast = versions.find((other) => other.name === name).count === count;
   const item = element("li", {}, element("b", { textContent: name, dir: "auto" }),
