@@ -1,4 +1,5 @@
-# Proves, builds, runs and installs the program. Beside bash and awk all that is needed is the toolchain's command `rt`.
+# Proves, builds, runs and installs the program. It needs bash, awk and the toolchain's command `rt`; `make desk` needs
+# Python 3 too.
 RT ?= rt
 PREFIX ?= $(HOME)/.local
 
@@ -9,17 +10,19 @@ SOURCES := crates.txt HANDLES $(shell find crates -regex 'crates/[^/]*/out' -pru
 # The main job: a chapter that two authors wrote apart, as a stream, and their two files in a folder of their own.
 run: bin/manuscript
 	bin/manuscript show < samples/two_authors.frames
-	folder=$$(mktemp -d) && cd "$$folder" && PATH="$(CURDIR)/bin:$$PATH" sh -ev "$(CURDIR)/samples/two_authors.sh" && rm -r "$$folder"
+	folder=$$(mktemp -d) && cd "$$folder" && \
+		PATH="$(CURDIR)/bin:$$PATH" sh -ev "$(CURDIR)/samples/two_authors.sh" && rm -r "$$folder"
 
 # The program is proved as it is built.
 bin/manuscript: $(SOURCES)
 	RT="$(RT)" .ci/build
 
-# The gate: every proof, every edit that must fail, every test and every program.
+# The toolchain's gate: every proof, every mutation that must be refused, every test of the crates and every program.
+# The project's gate is .ci/run, which begins with this and goes on with the scripts of tests/.
 test:
 	$(RT) ci
 
-# Two authors who write apart, exchange by streams, files and a relay, and lose a machine in the midst of an edit.
+# Two authors who write apart, exchange by streams, files and a relay, and lose a machine in the middle of an edit.
 demo: bin/manuscript
 	examples/demo.sh
 
@@ -32,8 +35,8 @@ install: bin/manuscript
 	install -D -m 755 examples/manuscript-write $(PREFIX)/bin/manuscript-write
 	install -D -m 644 -t $(PREFIX)/share/man/man1 docs/manuscript.1 docs/manuscript-write.1
 
-# An archive for those who have no toolchain: the program, its manual page, the guide and checksums. The same sources make
-# the same bytes.
+# An archive for those who have no toolchain: the program, its manual page, the guide and checksums. The same sources
+# make the same bytes.
 VERSION := $(shell sed -n 's/^## \([^ ]*\).*/\1/p' CHANGELOG.md | head -n 1)
 RELEASE := petreltombac-$(VERSION)
 
@@ -45,12 +48,13 @@ dist: bin/manuscript
 	install -D -m 644 -t dist/$(RELEASE)/doc README.md CHANGELOG.md LICENSE docs/GUIDE.md docs/FORMATS.md docs/WHY.md
 	install -D -m 755 -t dist/$(RELEASE)/examples examples/reader.py examples/page.py
 	cd dist/$(RELEASE) && find * -type f | LC_ALL=C sort | xargs sha256sum > ../SHA256SUMS && mv ../SHA256SUMS .
-	cd dist && tar --sort=name --mtime=@0 --owner=0 --group=0 --numeric-owner -c $(RELEASE) | gzip -n -9 > $(RELEASE).tar.gz
+	cd dist && tar --sort=name --mtime=@0 --owner=0 --group=0 --numeric-owner -c $(RELEASE) | \
+		gzip -n -9 > $(RELEASE).tar.gz
 	rm -r dist/$(RELEASE)
 	cd dist && sha256sum $(RELEASE).tar.gz
 
 # One HTML file, for those who have a browser and no terminal: a page, and in it the program for WebAssembly. The LLVM
-# module of the proved program is kept, so that the page can be changed without proving it again.
+# module of the program is kept in bin/, so that the page can be changed without proving the program again.
 desk: dist/desk.html
 
 bin/manuscript.bc: $(SOURCES) desk/module.sh desk/rattle.sh desk/clang.sh

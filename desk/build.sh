@@ -1,8 +1,8 @@
 #!/usr/bin/env bash
 # Compiles the LLVM module of the program for WebAssembly: build.sh MODULE PROGRAM
 #
-# The module was made for x86-64. It gets the data layout of wasm64, the toolchain's clang compiles it, and it is linked
-# with heap.c. What else it needs of the system are the imports of imports.txt. No proof covers any of this.
+# The module was made for x86-64. Here it gets the data layout of wasm64, the toolchain's clang compiles it, and it is
+# linked with heap.c. All else that it needs of a system has to be in imports.txt. No proof covers any of this.
 set -euo pipefail
 here=$(cd "$(dirname "$0")" && pwd)
 clang=$(dirname "$(dirname "$(realpath "$(command -v "${RT:-rt}" || echo /)")")")/toolchain/bin/clang
@@ -16,14 +16,14 @@ fail() {
     exit 1
 }
 
-# The module, as text, for wasm64.
+# Writes the module as text, for wasm64.
 retarget() {
     local layout='e-m:e-p:64:64-p10:8:8-p20:8:8-i64:64-i128:128-n32:64-S128-ni:1:10:20'
     "$clang" --target=x86_64-unknown-linux-gnu -S -emit-llvm -Xclang -disable-llvm-passes -x ir "$module" \
         -o "$work/x86.ll" || fail 'the LLVM module cannot be read'
     grep -q '^target triple = "x86_64-unknown-linux-gnu"$' "$work/x86.ll" ||
         fail 'the LLVM module is for another processor than x86-64'
-    ! grep -q '@llvm\.x86\.\|call .* asm ' "$work/x86.ll" || fail 'the LLVM module has instructions of x86-64'
+    ! grep -q '@llvm\.x86\.\|call .* asm ' "$work/x86.ll" || fail 'the LLVM module has intrinsics or assembly of x86-64'
     sed -e "s/^target datalayout = .*/target datalayout = \"$layout\"/" \
         -e 's/^target triple = .*/target triple = "wasm64-unknown-unknown"/' \
         -e '/^attributes /s/"\(probe-stack\|stack-probe-size\|target-cpu\|target-features\|tune-cpu\)"="[^"]*"//g' \

@@ -1,6 +1,6 @@
 #!/usr/bin/env bash
-# Stands for the toolchain's clang when the program is compiled: it keeps the LLVM module as module.bc beside itself,
-# and calls the real one, to which `real` leads. It is given no environment.
+# Stands in for the toolchain's clang when the program is compiled: it keeps the LLVM module as module.bc in its own
+# folder, and calls the real clang by the link `real` there. It is called without environment variables.
 here=$(dirname "$0")
 for word in "$@"; do
     case $word in *.bc) cp "$word" "$here/module.bc" ;; esac

@@ -1,11 +1,11 @@
 // The heap of the program in a page, in place of the C library's. Blocks come in classes of sizes, four to each
-// doubling, and each class has a list of its freed blocks. A block is never split or joined. The 16 bytes in front of
-// it hold its class. All addresses are multiples of 16, which is as much as the program asks for.
+// doubling, and each class has a list of its freed blocks. A block is never split or joined. The 16 bytes before it
+// hold its class. All addresses are multiples of 16, the greatest alignment that the program asks for.
 
 typedef unsigned long u64;
 typedef unsigned char u8;
 
-// What an allocation answers: whether there was memory, and the block, or else a byte that is nobody's.
+// What an allocation answers: whether there was memory, and the block, or else the address of an unused byte.
 struct tried {
     u64 ok;
     void *block;
@@ -40,7 +40,7 @@ static u64 rounded(u64 size, u64 unit) {
     return (size + unit - 1) / unit * unit;
 }
 
-// Takes memory of the engine up to this address: an eighth more if it can be had, so that this is done seldom.
+// Takes memory from the engine up to this address, and an eighth more if possible, so that this is done seldom.
 static int grow_to(u64 address) {
     u64 pages = __builtin_wasm_memory_size(0), least = rounded(address, PAGE) / PAGE - pages, more = least + pages / 8;
     if (address > limit) return 0;
@@ -92,7 +92,7 @@ void rattle_dealloc(void *block) {
     give(block);
 }
 
-// A block keeps its place while it is not too small, and not more than twice too large.
+// A block keeps its place if it is large enough, and less than twice as large as needed or of the least size.
 struct tried rattle_realloc(void *block, u64 kept, u64 size, u64 align) {
     u64 room = size_of(*class_in_front(block));
     if (size <= room && (room == LEAST || 2 * size > room)) return (struct tried){1, block};
@@ -104,7 +104,7 @@ struct tried rattle_realloc(void *block, u64 kept, u64 size, u64 align) {
     return tried;
 }
 
-// What the page calls: memory for itself, and a bound on what the program may have.
+// What the page calls: memory for itself, and a limit on the program's memory.
 
 void *desk_take(u64 size) {
     return take(size);

@@ -1,8 +1,9 @@
 #!/usr/bin/env bash
-# Proves and builds the program, and keeps the LLVM module that the toolchain made of it: module.sh MODULE
+# Proves and builds the program, and keeps the LLVM module that the toolchain makes of it: module.sh MODULE
 #
-# The toolchain builds no program that allocates for WebAssembly, and keeps no module. So the program is built for this
-# machine, as ever, by a toolchain whose clang keeps what it is given. That builds bin/manuscript too.
+# The toolchain cannot build a program that allocates for WebAssembly, and keeps no module. So the program is built for
+# this machine as usual, by a copy of the toolchain in which clang.sh stands in for clang and keeps the module. That
+# builds bin/manuscript too.
 set -euo pipefail
 here=$(cd "$(dirname "$0")" && pwd)
 kit=$(dirname "$(dirname "$(realpath "$(command -v "${RT:-rt}" || echo /)")")")
@@ -15,7 +16,7 @@ fail() {
     exit 1
 }
 
-# Links to all that a folder holds but these names, in another folder.
+# Makes links in another folder to all that a folder holds, except these names.
 link_all_but() {
     local from=$1 to=$2 part
     shift 2
@@ -25,7 +26,7 @@ link_all_but() {
     done
 }
 
-# The toolchain, with a rattle and a clang that stand for the real ones.
+# Makes the copy of the toolchain, of links, with rattle.sh and clang.sh in place of rattle and clang.
 make_kit() {
     link_all_but "$kit" "$work/kit" bin
     link_all_but "$kit/bin" "$work/kit/bin" rt rtlib.py rattle
@@ -38,7 +39,7 @@ make_kit() {
     export DESK_KIT=$kit DESK_SHADOW=$work/kit DESK_TOOLCHAIN=$work/toolchain
 }
 
-# Whether each library that the program stands on was built here by `rt lib`, which proves again what has changed.
+# Whether each library of the program was built here by `rt lib`. Then only what has changed is proved again.
 has_libraries() {
     local crate
     for crate in "$here"/../crates/*/; do
@@ -50,7 +51,7 @@ has_libraries() {
 build_over_libraries() {
     cd "$here/../crates/manuscript"
     rm -f out/manuscript.stamp
-    echo 'Proving and building the program over the libraries that are there.'
+    echo 'Proving and building the program with the libraries that are built already.'
     "$work/kit/bin/rt" run -- bulk 1 1 >"$work/log" 2>&1 || {
         tail -n 40 "$work/log" >&2
         return 1
@@ -59,7 +60,7 @@ build_over_libraries() {
 }
 
 for part in bin/rt bin/rtlib.py bin/rattle toolchain/bin/clang; do
-    [ -f "$kit/$part" ] || fail "the toolchain of ${RT:-rt} has no $part, so no module can be had of it"
+    [ -f "$kit/$part" ] || fail "the toolchain of ${RT:-rt} has no $part, so it cannot make the module"
 done
 make_kit
 if has_libraries; then
@@ -68,5 +69,5 @@ else
     RT=$work/kit/bin/rt "$here/../.ci/build" || fail 'the program was not built'
 fi
 kept=$work/toolchain/bin/module.bc
-[ -s "$kept" ] || fail 'the toolchain gave its clang no LLVM module of the program: it builds in another way now'
+[ -s "$kept" ] || fail 'the toolchain gave clang no LLVM module of the program: it may build in another way now'
 install -D -m 644 "$kept" "$module"

@@ -1,17 +1,17 @@
 #!/usr/bin/env node
 // The program in WebAssembly as a process, for tests: node.mjs MODULE WORD..
 //
-// Files and streams are real ones, behind those of system.js: a file is an array of bytes, and what is written to it
-// goes to the disk too. The environment may have:
+// Files and streams are real ones: a file is an array of bytes, as in system.js, and what is written to it goes to the
+// disk too. The environment may have:
 //
-//     CLOSED       the numbers of standard streams that are closed, which Node opens anew before this begins
-//     ARRAYS       something: the files are those of a page, read from this folder before the command, and saved after
+//     CLOSED       the numbers of standard streams that are closed, since Node opens them before this begins
+//     ARRAYS       something: the files are only byte arrays, as in a page, read from this folder and saved to it after
 //     ROOM         how many bytes these files may have in all
 //     IN_USE       the name of one of them that another program has locked
 //     MEMORY       how many bytes of memory the program may take
-//     AT, FAULT    a call that fails, and how; each call is told to the file with the number 9, as by tests/calls.c
+//     AT, FAULT    a call that fails, and how. Each call is written to file descriptor 9, as by tests/calls.c
 //
-// Node 20 wants --experimental-wasm-memory64.
+// Node 20 needs --experimental-wasm-memory64.
 
 import { spawnSync } from "node:child_process";
 import fs from "node:fs";
@@ -55,7 +55,7 @@ class RealFile extends File {
     real(() => fs.fsyncSync(this.number));
   }
 
-  // What stands on the disk then is what stands in the array.
+  // The disk has to have the bytes of the array then.
   close() {
     if (this.isWritten && Buffer.compare(fs.readFileSync(`/proc/self/fd/${this.number}`), this.bytes)) {
       throw new Error("the file on the disk has other bytes");

@@ -1,14 +1,14 @@
 #!/usr/bin/env python3
 """Packs the page and the program into one file of HTML: pack.py PROGRAM HTML
 
-A page that is opened from a disk can import no other file. So page.html gets all parts in the places of its marks:
+A page that is opened from a disk cannot import another file. So each part takes the place of its mark in page.html:
 
 - `<!-- style -->`: desk.css;
 - `<!-- script -->`: the script of the page, one module, made of the files that page/ORDER lists;
 - `<!-- module -->`: two texts that the page reads by their ids. `worker` is the script of the worker, made of the files
   that page/WORKER lists, which the page starts from a Blob. `module` is the program for WebAssembly, as gzip in base64.
 
-The files of a script stand in one scope, one after another, so their lines of import go, and so does each `export`. The
+The files of a script stand in one scope, one after another, so their import lines and each `export` are removed. The
 same sources make the same bytes.
 """
 

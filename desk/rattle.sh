@@ -1,7 +1,7 @@
 #!/usr/bin/env bash
-# Stands for the toolchain's rattle while the program is proved and built: it calls the real one, of the toolchain
-# DESK_KIT, with the paths of that one in place of those of DESK_SHADOW. The call by which LLVM compiles the program
-# itself, and no library or test, gets the clang of DESK_TOOLCHAIN.
+# Stands in for the toolchain's rattle while the program is proved and built: it calls the real one, of the toolchain
+# DESK_KIT, and replaces the paths of DESK_SHADOW by those of DESK_KIT. Only the call that compiles the program itself
+# with LLVM, and none for a library or a test, gets the clang of DESK_TOOLCHAIN.
 words=("${@//"$DESK_SHADOW"/"$DESK_KIT"}")
 case " $* " in
 *' --test '* | *' --backend rattle '*) ;;

@@ -41,7 +41,7 @@ export class SystemError extends Error {
 // The words of open.
 const OPEN = { access: 0o3, creates: 0o100, exclusive: 0o200, truncates: 0o1000 };
 
-// What a path or an open number stands for, where it is no file: its mode and size.
+// What a path or a file descriptor stands for, where it is no file: its mode and size.
 const FOLDER = { mode: 0o040755, size: 0 };
 const PIPE = { mode: 0o010600, size: 0 };
 
@@ -170,7 +170,7 @@ class Output {
 }
 
 // What one command sees. The methods are the calls, by their names in the C library, with their parameters: a pointer,
-// a count and an offset is a BigInt, and other numbers are plain.
+// a count and an offset are BigInts, and other parameters are plain numbers.
 class System {
   error = 0;
 
@@ -240,7 +240,7 @@ class System {
     return file.write(Number(offset), this.view(pointer, Math.min(Number(count), fits)));
   }
 
-  // The number is the least one that is free.
+  // The file descriptor is the least one that is free.
   open(path, flags, rest) {
     const name = this.textAt(path);
     const mode = flags & OPEN.creates ? new DataView(this.exports.memory.buffer).getUint32(Number(rest), true) : 0;
@@ -306,7 +306,7 @@ class System {
   }
 }
 
-// What the program's runtime asks for, beside the calls.
+// What the program's runtime needs besides the calls of the C library.
 function runtimeOf(system) {
   return {
     rattle_errno: () => system.error,
@@ -342,7 +342,7 @@ function runtimeOf(system) {
 // Calls whose answer has 64 bits.
 const WIDE = new Set(["read", "write", "__write", "pread", "pwrite", "recv", "send", "rattle_lookup_host"]);
 
-// A call of the system as the module makes it. One that the system lacks answers that there is none.
+// A call of the system as the module makes it. One that is not implemented here fails with ENOSYS.
 function imported(system, name, around) {
   const call = (...given) => {
     if (!(name in system)) throw new SystemError("ENOSYS");

@@ -1,6 +1,7 @@
-// Runs commands of the program apart from the page, so that typing never waits. Asked with { number, words, files,
-// input }, it answers { number, status, output, notes, files }: of the files, those that the command wrote. Asked with
-// { number, bytes, hasLetters } it reads a file, and answers { number, found }. The first message is the module.
+// Runs commands of the program apart from the page, so that typing does not wait for them. The first message is the
+// module. Asked with { number, words, files, input } it runs a command, and answers { number, status, output, notes,
+// files }, with the files that the command wrote. Asked with { number, bytes, hasLetters } it reads a file, and answers
+// { number, found }.
 
 import { File, run } from "./system.js";
 import { reading } from "./page/reader.js";

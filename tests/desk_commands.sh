@@ -1,7 +1,8 @@
 #!/usr/bin/env bash
 # Compares the program in WebAssembly with the native one, command by command: desk_commands.sh [PROGRAM]. `make desk`
 # makes the program, dist/manuscript.wasm. Node stands in for a browser, and desk/system.js for the system, as in the
-# page. Where there is no such program or no Node, it says so and ends with status 0.
+# page. Where there is no such program or no Node, it says so and ends with status 0. It takes some 20 minutes, so it is
+# not in the gate.
 #
 # Not compared are relay and sync, since there are no sockets, and two cases of show.sh, in which a process has too
 # little memory for itself. Memory that ends is tried here in another way.

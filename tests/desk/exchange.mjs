@@ -116,7 +116,7 @@ async function samples(open) {
   await page.drop({ name: "letter.txt", bytes: Buffer.from("Dear Ben,\n") });
   await page.until("document.querySelector('dialog[open]')");
   const told = await page.value("document.querySelector('dialog[open]').innerText");
-  check("what is no manuscript is told", /was not opened/.test(told) && /neither a manuscript/.test(told), told);
+  check("what is no manuscript is refused", /was not opened/.test(told) && /neither a manuscript/.test(told), told);
   await picture(page, "no_manuscript");
   await page.pressButton("OK");
   same("and nothing is made", await page.value("document.querySelectorAll('.shelf li').length"), 2);
@@ -137,17 +137,17 @@ async function files(open) {
   const before = await arranged(page);
   await page.drop({ name: "letter.txt", bytes: Buffer.from("Dear Ben,\n") });
   await page.until(`/neither a manuscript/.test(${NOTICES})`);
-  check("what is none is told, with the program's line", /bad frame at byte 0/.test(await page.value(NOTICES)));
+  check("what is no manuscript is refused, with the program's line", /bad frame at byte 0/.test(await page.value(NOTICES)));
   same("and changes nothing", await arranged(page), before);
 }
 
-// Changes whose causes are missing, and some that fit nowhere.
+// Changes that depend on missing ones, and some that fit nowhere.
 async function waiting(open) {
   const page = await open();
   await begin(page);
   await page.drop({ name: "some.frames", bytes: sample("vectors/stray_after_waiting.frames") });
   await page.until(`/1 change waits/.test(${NOTICES}) && /1 change fits nowhere/.test(${NOTICES})`);
-  check("what waits and what fits nowhere is told", true);
+  check("what waits and what fits nowhere is reported", true);
   await picture(page, "waiting");
   await page.reload();
   await page.until(`/1 change waits/.test(${NOTICES})`);
@@ -175,7 +175,7 @@ async function download(open, browser) {
   await page.until("document.querySelector('.shelf li')");
   await page.drop({ name: "hers.ms", bytes });
   await page.until("document.querySelector('dialog[open] input[value=other]')");
-  check("that it is here already is told", /has this author number too/.test(
+  check("a file that is here already is reported", /has this author number too/.test(
     await page.value("document.querySelector('dialog[open]').innerText")));
   await page.value("document.querySelector('dialog[open] input[value=other]').click()");
   await page.pressButton("Go on");
@@ -213,7 +213,7 @@ async function conflict(open) {
   await page.until("document.querySelector('textarea')");
   await page.drop({ name: "copy.ms", bytes: Buffer.from(other) });
   await page.until(`/Two copies of one file were changed/.test(${NOTICES})`);
-  check("two copies that were both changed are told", true);
+  check("two copies that were both changed are reported", true);
   await picture(page, "conflict");
   same("and what one had stays", await arranged(page), mine);
 }
@@ -406,7 +406,7 @@ async function randomActions(open) {
   same("and in letters of the same authors", known, others);
   const counts = JSON.parse(known).map(([, runs]) => runs.reduce((sum, [, count]) => sum + count, 0));
   const lengths = one.split(/^# .*\n/m).slice(1).map((text) => [...text].length - 1);
-  same("each of which has one", counts.join(), lengths.join());
+  same("and each letter has an author", counts.join(), lengths.join());
   const shown = `desk.then(({ shown: { manuscript } }) => manuscript.sections.map(({ title, live }) =>
     "# " + title.value + "\\n" + live + "\\n").join(""))`;
   for (const page of pages) same("which the page shows", await page.value(shown), one);

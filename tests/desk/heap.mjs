@@ -1,5 +1,5 @@
-// Tries desk/heap.c alone, by random calls: heap.mjs MODULE COUNT. No two blocks may share a byte, each begins at a
-// multiple of 16, each keeps its bytes, and where memory ends the blocks stay as they were.
+// Tries desk/heap.c alone, by random calls: heap.mjs MODULE COUNT. No two blocks may share a byte. Each has to begin
+// at a multiple of 16 and to keep its bytes, and where memory ends all blocks have to stay as they were.
 
 import fs from "node:fs";
 

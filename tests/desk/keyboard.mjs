@@ -1,4 +1,4 @@
-// The page by keyboard alone, and what a reader of screens is given.
+// The page by keyboard alone, and the names that a screen reader is given.
 
 import { SHIFT } from "./browser.mjs";
 import { arranged, check, group, pause, picture, same, saved } from "./checks.mjs";
@@ -54,7 +54,7 @@ async function byKeys(open) {
   await picture(page, "help");
   const help = await page.value("document.querySelector('dialog[open]').innerText");
   const isTold = /is proved/.test(help) && /Not proved, only tested/.test(help);
-  check("the help tells what is proved, and what is not", isTold);
+  check("the help says what is proved, and what is not", isTold);
   await page.press("Escape");
   await page.until("!document.querySelector('dialog[open]')");
   check("and the focus is where it was", (await page.value(FOCUSED)).includes("Help"));

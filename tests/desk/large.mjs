@@ -44,7 +44,7 @@ async function imported(page) {
   check(`from outside it takes ${used}`, shown <= MOST_TO_OPEN);
 }
 
-// Few sections, which are longer than a writer's are.
+// Fewer and longer sections than most manuscripts have.
 async function longSections(open) {
   const first = await open();
   await first.until("document.querySelector('.home')");

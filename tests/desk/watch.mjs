@@ -1,5 +1,5 @@
-// Stands around the calls that the program in WebAssembly makes, as tests/calls.c stands before those of the native
-// one: it writes the same line for each call to the file with a number, and lets the same call fail in the same way.
+// Records the calls that the program in WebAssembly makes, as tests/calls.c does for the native program: it writes the
+// same line for each call to a file descriptor, and makes the same call fail in the same way.
 
 import fs from "node:fs";
 import { SystemError } from "../../desk/system.js";

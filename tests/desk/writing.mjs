@@ -117,7 +117,7 @@ async function headings(open) {
   await begin(page);
   await page.type("One.\n# Two.");
   await pause(1400);
-  check("a line that would be a title is told", await page.value("!document.querySelector('.refusal').hidden"));
+  check("a line that would be a title is reported", await page.value("!document.querySelector('.refusal').hidden"));
   same("it is not saved", await arranged(page), "# The sea\n\n");
   await picture(page, "refusal");
   await page.value("history.back()");
@@ -160,11 +160,11 @@ async function sections(open) {
   await page.value("document.querySelectorAll('.do-drop')[1].click()");
   await page.until("document.querySelector('dialog[open]')");
   await page.pressButton("Cancel");
-  same("what is not agreed to is not dropped", await page.value("document.querySelectorAll('.section').length"), 2);
+  same("a section is not deleted where that is cancelled", await page.value("document.querySelectorAll('.section').length"), 2);
   await page.value("document.querySelectorAll('.do-drop')[1].click()");
   await page.pressButton("Delete");
   await page.until("document.querySelectorAll('.section').length === 1");
-  same("a section is dropped", await arranged(page), "# The sea\nIt was calm.\n");
+  same("a section is deleted", await arranged(page), "# The sea\nIt was calm.\n");
 }
 
 // Drags a section by its grip below another one.
@@ -235,7 +235,7 @@ async function moved(open) {
   await page.until("document.querySelector('dialog[open]')");
   await page.pressButton("Delete");
   await page.until("document.querySelectorAll('.section').length === 2");
-  same("and the section that is shown is dropped", await arranged(page), "# Three\nthree three\n# Two\ntwo two\n");
+  same("and the section that is shown is deleted", await arranged(page), "# Three\nthree three\n# Two\ntwo two\n");
 }
 
 // Carriage returns, which a text area does not show, and a text with a line like a title.
@@ -302,14 +302,14 @@ async function fullStore(open) {
   await page.type(" Then it blew.");
   await page.until("document.querySelector('.state').textContent === 'Not saved'");
   await pause(1300);
-  check("a full store is told", /no room/.test(await page.value(NOTICES)));
+  check("a full store is reported", /no room/.test(await page.value(NOTICES)));
   await picture(page, "full_store");
   same("and the text stays", (await page.value(TEXTS))[0], "It was calm. Then it blew.");
   await page.value("IDBObjectStore.prototype.put = globalThis.put");
   await page.pressButton("Try again");
   await saved(page);
   same("with room again it is saved", await arranged(page), "# The sea\nIt was calm. Then it blew.\n");
-  check("and no longer told", !(await page.value(NOTICES)));
+  check("and the notice is gone", !(await page.value(NOTICES)));
 }
 
 // A disk that is really full: SMALL_DISK is a folder on one of some 50 MB, with nothing else on it.
@@ -328,7 +328,7 @@ async function fullDisk() {
   }
   await page.until("document.querySelector('.state').textContent === 'Not saved'");
   await pause(1500);
-  check("a full disk is told", /still in this page/.test(await page.value(NOTICES)), await page.value(NOTICES));
+  check("a full disk is reported", /still in this page/.test(await page.value(NOTICES)), await page.value(NOTICES));
   same("and the text stays in the page", (await page.value(TEXTS))[0], "It was calm. Then it blew.");
   fs.closeSync(file);
   fs.rmSync(name);
