@@ -125,7 +125,7 @@ export async function exchange(editor) {
   dialog.append(
     element("h2", { textContent: "Exchange" }),
     part("What others wrote", "Take in another author's file or stream: choose it here, or drop it on this page. " +
-      "What you wrote stays, and passages are never mixed.", take),
+      "Their changes are added to yours, passages are never mixed, and what they deleted is deleted here too.", take),
     part("What you wrote", "Give the others a copy of your file, by mail, on a stick, or in a shared folder. " +
       "They take it in, but must not write in it, since it has your author number. A stream has the same changes, in " +
       "the form that the command line exchanges.", give, send),

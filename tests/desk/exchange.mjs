@@ -137,7 +137,7 @@ async function files(open) {
   const before = await arranged(page);
   await page.drop({ name: "letter.txt", bytes: Buffer.from("Dear Ben,\n") });
   await page.until(`/neither a manuscript/.test(${NOTICES})`);
-  check("what is no manuscript is refused, with the program's line", /bad frame at byte 0/.test(await page.value(NOTICES)));
+  check("no manuscript: refused, with the program's line", /bad frame at byte 0/.test(await page.value(NOTICES)));
   same("and changes nothing", await arranged(page), before);
 }
 

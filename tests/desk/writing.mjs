@@ -160,7 +160,8 @@ async function sections(open) {
   await page.value("document.querySelectorAll('.do-drop')[1].click()");
   await page.until("document.querySelector('dialog[open]')");
   await page.pressButton("Cancel");
-  same("a section is not deleted where that is cancelled", await page.value("document.querySelectorAll('.section').length"), 2);
+  const count = await page.value("document.querySelectorAll('.section').length");
+  same("a section is not deleted where that is cancelled", count, 2);
   await page.value("document.querySelectorAll('.do-drop')[1].click()");
   await page.pressButton("Delete");
   await page.until("document.querySelectorAll('.section').length === 1");
