@@ -17,7 +17,7 @@ export class ChangedElsewhere extends Error {
 
 class StoreFailed extends Error {
   constructor(why) {
-    super(`The browser can't store anything now. The disk may be full. (${why?.message ?? "no reason given"})`);
+    super(`The browser's storage does not work now. The disk may be full. (${why?.message ?? "no reason given"})`);
   }
 }
 
