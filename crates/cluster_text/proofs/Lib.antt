@@ -2,6 +2,7 @@ pub mod ScalarLemmas
 pub mod CutLemmas
 pub mod BorderLemmas
 pub mod TextLemmas
+pub mod SingleLemmas
 pub mod PartLemmas
 pub mod WayLemmas
 pub mod SpotLemmas

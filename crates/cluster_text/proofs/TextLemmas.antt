@@ -46,7 +46,7 @@ module _ (text : List ℕ) (utf8 : IsUtf8 text) (n : ℕ) where
 -- ---- the clusters of a text have its scalars together
 
 -- pieces of characters that UTF-8 encodes
-abbrev AllScalars : List (List ℕ) → Type 0
+abbrev pub AllScalars : List (List ℕ) → Type 0
 AllScalars [] = Unit {0}
 AllScalars (p ∷ ps) = (all_scalars p ≡ true) × AllScalars ps
 
@@ -55,7 +55,7 @@ attach_scalars true c ps h all = (h, all)
 attach_scalars false c [] h all = (h, tt)
 attach_scalars false c (p ∷ ps) h all = (scalars-append (c ∷ []) p h all.0, all.1)
 
-cut_scalars : (rule : Rule) (before cs after : List ℕ) → all_scalars cs ≡ true → AllScalars (cut rule before cs after)
+pub cut_scalars : (rule : Rule) (before cs after : List ℕ) → all_scalars cs ≡ true → AllScalars (cut rule before cs after)
 unfolding cut
 cut_scalars rule before [] after h = tt
 cut_scalars rule before (c ∷ cs) after h =
@@ -67,13 +67,13 @@ concat-attach true x ps = refl
 concat-attach false x [] = refl
 concat-attach false x (p ∷ ps) = append_assoc x p (concat ps)
 
-concat-cut : (rule : Rule) (before cs after : List ℕ) → concat (cut rule before cs after) ≡ cs
+pub concat-cut : (rule : Rule) (before cs after : List ℕ) → concat (cut rule before cs after) ≡ cs
 unfolding cut
 concat-cut rule before [] after = refl
 concat-cut rule before (c ∷ cs) after =
     concat-attach (rule (c ∷ before) (cs ++ after)) (c ∷ []) _ ∙ ap (λ l. c ∷ l) (concat-cut rule (c ∷ before) cs after)
 
-scalars-pieces : (ps : List (List ℕ)) → AllScalars ps → scalars (map encode_utf8_all ps) ≡ length (concat ps)
+pub scalars-pieces : (ps : List (List ℕ)) → AllScalars ps → scalars (map encode_utf8_all ps) ≡ length (concat ps)
 scalars-pieces [] all = refl
 scalars-pieces (p ∷ ps) all =
     sum_by-cons (λ (cluster : List ℕ). length (chars cluster)) (encode_utf8_all p) (map encode_utf8_all ps)

@@ -1,5 +1,6 @@
 -- The places where a cluster ends and another begins, whatever stands around them.
-use Rattle.std.specs.Prelude.{ℕ, Bool, true, false, not, ◌&&◌, List, [], ◌∷◌}
+use Rattle.std.specs.Prelude.{ℕ, Bool, true, false, not, ◌&&◌, ◌||◌, List, [], ◌∷◌, nat_eq, nat_le}
+use Rattle.std.specs.List.{list_any}
 use Rattle.std.specs.Str.{chars}
 use Rattle.ucd_breaks.specs.GraphemeClusterBreak.{grapheme_cluster_break}
 use Rattle.ucd_breaks.specs.declared.GraphemeClusterBreak.{GraphemeClusterBreak}
@@ -51,3 +52,11 @@ last_closes (c ∷ d ∷ cs) = last_closes (d ∷ cs)
 -- a text that begins and ends so: between two of them no cluster goes over the border
 abbrev pub stands_alone : List ℕ → Bool
 stands_alone text = first_opens (chars text) && last_closes (chars text)
+
+-- a byte of a character that is not of ASCII, or a CR
+abbrev pub is_special : ℕ → Bool
+is_special byte = nat_le 128 byte || nat_eq byte 13
+
+-- a text of characters of ASCII without a CR: each is a cluster of its own
+abbrev pub is_plain : List ℕ → Bool
+is_plain text = not (list_any is_special text)

@@ -1,5 +1,6 @@
 ghost use Rattle.std.specs.Prelude.{◌≡◌, ◌++◌, List, IfSome, [], ◌∷◌, ℕ};
-ghost use Rattle.cluster_text.specs.Borders.{closes as closes_on, is_free as is_free_class};
+ghost use Rattle.cluster_text.specs.Borders.{closes as closes_on, is_free as is_free_class, is_plain as is_plain_text, is_special};
+ghost use Rattle.std.specs.List.{list_any};
 ghost use Rattle.cluster_text.specs.Borders.{is_linking as is_linking_class, is_mark as is_mark_class, opens as opens_on};
 
 use ucd_breaks::GraphemeClusterBreak;
@@ -20,6 +21,19 @@ pub(crate) fn opens(c: char) -> bool
     ensures { result ≡ opens_on c }
 {
     !is_mark(GraphemeClusterBreak::for_char(c))
+}
+
+/// Whether all characters of the text are of ASCII and none is a CR, so that each is a cluster of its own.
+pub(crate) fn is_plain(text: &str) -> bool
+    ensures { result ≡ is_plain_text text.now }
+{
+    !has_special(text.as_bytes())
+}
+
+fn has_special(bytes: &[u8]) -> bool
+    ensures { result ≡ list_any is_special bytes.now }
+{
+    bytes.iter().any(|byte| *byte >= 128 || *byte == b'\r')
 }
 
 fn is_free(class: GraphemeClusterBreak) -> bool

@@ -3,6 +3,7 @@ ghost use Rattle.std.specs.Str.{chars};
 ghost use Rattle.cluster_text.specs.Borders.{stands_alone};
 ghost use Rattle.cluster_text.specs.Clusters.{clusters as clusters_of};
 
+use crate::border::is_plain;
 use crate::scalars::count_scalars;
 use std::alloc::{AllocError, Global};
 use unicode_segmentation::UnicodeSegmentation;
@@ -34,5 +35,8 @@ impl Part {
 fn count_clusters(text: &str) -> usize
     ensures { result ≡ length (clusters_of text.now) }
 {
+    if is_plain(text) {
+        return text.len();
+    }
     text.graphemes(true).count()
 }

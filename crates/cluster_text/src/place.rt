@@ -1,5 +1,5 @@
 //! Places in clusters, by the counts of parts.
-ghost use Rattle.std.specs.Prelude.{◌≡◌, ◌↔◌, ◌<◌, ◌≤◌, ◌^◌, length, take, IfSome, IsNone};
+ghost use Rattle.std.specs.Prelude.{◌≡◌, ◌↔◌, ◌<◌, ◌≤◌, ◌^◌, length, string_bytes, take, IfSome, IsNone};
 ghost use Rattle.cluster_text.specs.Clusters.{clusters as clusters_of, scalars as scalars_of};
 ghost use Rattle.cluster_text.specs.Parts.{scalar_count, whole};
 
@@ -18,13 +18,24 @@ pub(crate) fn find_place(parts: &[Part], at: usize) -> Option<usize>
     let mut left = at;
     'parts: for part in parts {
         if left < part.clusters {
-            let inside = count_front(part.text.as_str(), left);
+            let inside = scalars_before(part, left);
             return Some(passed + inside);
         }
         passed += part.scalars;
         left -= part.clusters;
     }
     None
+}
+
+/// How many scalars the first n clusters of a part have. Where it has as many scalars as clusters, each has one.
+fn scalars_before(part: &Part, n: usize) -> usize
+    requires { n ≤ length (clusters_of (string_bytes part.now.text)) }
+    ensures { result ≡ scalars_of (take n (clusters_of (string_bytes part.now.text))) }
+{
+    if part.clusters == part.scalars {
+        return n;
+    }
+    count_front(part.text.as_str(), n)
 }
 
 /// How many scalars the first n clusters have.

@@ -1,6 +1,6 @@
-use Rattle.std.proofs.Common.{◌≤◌, ◌<◌, ◌+◌, ◌-◌, drop, take, length, sym, ap, subst₂, ◌∙◌, arith, string_bytes, refl}
+use Rattle.std.proofs.Common.{◌≤◌, ◌<◌, ◌+◌, ◌-◌, drop, length, sym, ap, subst₂, ◌∙◌, arith, string_bytes, refl}
 use Rattle.std.proofs.lemmas.List.{drop_all}
-use Rattle.cluster_text.specs.Clusters.{clusters, scalars}
+use Rattle.cluster_text.specs.Clusters.{clusters}
 use Rattle.cluster_text.specs.Parts.{IsOnWay}
 use Rattle.cluster_text.proofs.PartLemmas.{parts-first}
 use Rattle.cluster_text.proofs.WayLemmas.{way-start, way-next, way-inside, way-end, way-within}
@@ -15,7 +15,7 @@ overflow_add-result c =
     let first = parts-first c.args.parts.now c.parts.part-index part c.parts-test.true c.part-item.is in
     let inside : c.parts.left < length (clusters (string_bytes part.text)) = omega (arith, c.if-left-part.true, part.clusters_are) in
     let found = way-inside _ _ _ _ _ c.parts.invariant part _ first inside in
-    let is = c.count_front-inside.ensures ∙ ap (λ x. scalars (take c.parts.left (clusters x))) c.as_str.ensures.value in
+    let is = c.scalars_before-inside.ensures in
     omega (arith, found.1, is, c.requires)
 
 pub returns-then-left-part-clause-some : goal.returns-then-left-part-clause-some
@@ -23,7 +23,7 @@ returns-then-left-part-clause-some c =
     let part = c.part-item.result in
     let first = parts-first c.args.parts.now c.parts.part-index part c.parts-test.true c.part-item.is in
     let inside : c.parts.left < length (clusters (string_bytes part.text)) = omega (arith, c.if-left-part.true, part.clusters_are) in
-    let is = c.count_front-inside.ensures ∙ ap (λ x. scalars (take c.parts.left (clusters x))) c.as_str.ensures.value in
+    let is = c.scalars_before-inside.ensures in
     ap (λ n. c.parts.passed + n) is ∙ (way-inside _ _ _ _ _ c.parts.invariant part _ first inside).0
 
 pub returns-then-left-part-clause-none : goal.returns-then-left-part-clause-none
