@@ -24,6 +24,7 @@ pub mod LowLemmas
 pub mod MirrorLemmas
 pub mod NodeCountLemmas
 pub mod OnceLemmas
+pub mod PartLemmas
 pub mod PutLemmas
 pub mod RaiseLemmas
 pub mod RekeyLemmas

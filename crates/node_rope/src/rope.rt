@@ -122,6 +122,20 @@ impl<T: Weigh> Rope<T> {
         self.insert_beside(Side::Right, at, key, value)
     }
 
+    /// Another value for the item with the key `at`, and a new item directly behind it, by one climb less than the two
+    /// calls. After want of memory the rope is as before, and the new item's value is handed back.
+    pub fn part(&mut self, at: ElementId, front: T, key: ElementId, back: T) -> Result<(), Back<T>>
+        requires held { IsSome (value_under at self.old) }
+        requires fresh { IsNone (value_under key self.old) }
+        requires room { length self.old < MOST_OPERATIONS }
+        ensures parted { OnOk result (self.new ≡ put_under at front (placed_after at (key, back) self.old)) }
+        ensures refused { IfErr result (λ b. (b.value ≡ back) × (self.new ≡ self.old)) }
+    {
+        self.insert_after(at, key, back)?;
+        self.put(at, front);
+        Ok(())
+    }
+
     /// The first item of an empty rope.
     pub fn insert_first(&mut self, key: ElementId, value: T) -> Result<(), Back<T>>
         requires { self.old ≡ [] }
