@@ -74,20 +74,31 @@ module _ {T : Type 0} (s : Store T) (root : Option Link) (so : HasRightLinks s r
     pub climb-nearer : suc (made_count s) - g.count < suc (made_count s) - h.count
     climb-nearer = rw (inv.read, read) (nearer s root so k up parent (suc (made_count s)) refl)
 
-    pub climb-right : link_number g.right ≡ Some k → (below light : ℕ) → below ≡ count_of t (link_number g.left) → light ≡ weight_at hs g.left → IsClimbing s i up g (below + 1 + count) (light + (g.own.weight + weight))
-    climb-right side below light is_below is_light =
-        let right : t.right p ≡ Some k = ap (λ (f : Shape). link_number f.right) (sym read) ∙ side in
-        let b : below ≡ count_of t (t.left p) = is_below ∙ ap (λ (f : Shape). count_of t (link_number f.left)) read in
-        let l : light ≡ weight_at hs (shape_at hs p).left = is_light ∙ ap (λ (f : Shape). weight_at hs f.left) read in
-        let j : below + 1 + count ≡ count_of t (t.left p) + suc count = omega (arith, b) in
-        let w : light + (g.own.weight + weight) ≡ weight_at hs (shape_at hs p).left + ((shape_at hs p).own.weight + weight) = omega (arith, l, ap (λ (f : Shape). f.own.weight) read) in record {
-          made = up_made s root so k up parent;
-          read = read;
-          inside = omega (arith, b, so.counted p, inv.inside, ap (λ (f : Shape). f.count) inv.read, ap (λ (f : Shape). f.count) read, ap (count_of t) right);
-          lighter = omega (arith, w, so.weighed p, weight-sum hs (shape_at hs p).left, inv.lighter, ap (λ (f : Shape). f.weight) inv.read, ap (λ (f : Shape). f.weight) read, ap (sum_of sum_measure (weights hs)) right);
-          here = at-right t so.counted p k count (below + 1 + count) right j ∙ inv.here;
-          weighs = w ∙ weigh-right hs so.counted so.weighed p k count (below + 1 + count) weight right j inv.weighs;
-        }
+    -- cur is below up
+    module _ (side : link_number g.right ≡ Some k) where
+      right : t.right p ≡ Some k
+      right = ap (λ (f : Shape). link_number f.right) (sym read) ∙ side
+
+      -- what is below up, but not below cur
+      over-count : g.count ≡ count_of t (t.left p) + (h.count + 1)
+      over-count = omega (arith, so.counted p, ap (λ (f : Shape). f.count) inv.read, ap (λ (f : Shape). f.count) read, ap (count_of t) right)
+
+      over-weight : g.weight ≡ weight_at hs (shape_at hs p).left + ((shape_at hs p).own.weight + h.weight)
+      over-weight = omega (arith, so.weighed p, weight-sum hs (shape_at hs p).left, ap (λ (f : Shape). f.weight) inv.read, ap (λ (f : Shape). f.weight) read, ap (sum_of sum_measure (weights hs)) right)
+
+      pub climb-right : IsClimbing s i up g (count + (g.count - h.count)) (weight + (g.weight - h.weight))
+      climb-right =
+          let c = over-count in
+          let w = over-weight in
+          let j : count + (g.count - h.count) ≡ count_of t (t.left p) + suc count = omega (arith, c) in
+          let e : weight_at hs (shape_at hs p).left + ((shape_at hs p).own.weight + weight) ≡ weight + (g.weight - h.weight) = omega (arith, w) in record {
+            made = up_made s root so k up parent;
+            read = read;
+            inside = omega (arith, c, inv.inside);
+            lighter = omega (arith, w, inv.lighter);
+            here = at-right t so.counted p k count (count + (g.count - h.count)) right j ∙ inv.here;
+            weighs = sym e ∙ weigh-right hs so.counted so.weighed p k count (count + (g.count - h.count)) weight right j inv.weighs;
+          }
 
     pub climb-left : (link_number g.right ≡ Some k → ⊥) → IsClimbing s i up g count weight
     climb-left other =

@@ -72,8 +72,9 @@ pub(crate) fn before<T: Drop>(store: &Store<T>, root: Option<Link>, at: Link) ->
     'up: while let Some(up) = shape.parent {
         let above = store.shape(up);
         if leads_to(above.right, cur) {
-            count = count_below(store, above.left) as usize + 1 + count;
-            weight = weight_below(store, above.left) + (above.own.weight as u64 + weight);
+            // All of `above` but what is below `cur` stands before that.
+            count += (above.count - shape.count) as usize;
+            weight += above.weight - shape.weight;
         }
         cur = up;
         shape = above;
