@@ -38,22 +38,19 @@ fn sink<T: Drop>(store: &mut Store<T>, root: Option<Link>, node: Link) -> Option
     top
 }
 
-// Whether `c` weighs too much beside the other child of its parent.
-fn is_too_heavy<T: Drop>(store: &Store<T>, beside: Option<Link>, c: Link) -> bool
-    requires made { IsMade store.now c }
-    requires beside { AreMade store.now beside }
-{
-    store.shape(c).count / 3 > count_below(store, beside)
+// Whether a child weighs too much beside the other one, by its count and that of their parent.
+fn is_too_heavy(child: u32, parent: u32) -> bool {
+    child / 3 > parent.saturating_sub(child).saturating_sub(1)
 }
 
-// The inner child, where it weighs at least twice the outer one.
-fn if_heavy<T: Drop>(store: &Store<T>, inner: Option<Link>, outer: Option<Link>) -> Option<Link>
+// The inner child, where it weighs at least twice the outer one. `count` is that of their parent.
+fn if_heavy<T: Drop>(store: &Store<T>, inner: Option<Link>, count: u32) -> Option<Link>
     requires inner { AreMade store.now inner }
-    requires outer { AreMade store.now outer }
     ensures { IfSome result (λ m. inner ≡ Some m) }
 {
-    let outer = count_below(store, outer);
-    if count_below(store, inner).saturating_sub(outer) > outer {
+    let inside = count_below(store, inner);
+    let outer = count.saturating_sub(inside).saturating_sub(1);
+    if inside.saturating_sub(outer) > outer {
         inner
     } else {
         None
@@ -70,43 +67,78 @@ fn heavy_inner<T: Drop>(store: &Store<T>, side: Side, c: Link) -> Option<Link>
     ensures made { IfSome result (λ m. IsMade store.now m) }
 {
     let below = facing(store.shape(c), side);
-    if_heavy(store, below.right, below.left)
+    if_heavy(store, below.right, below.count)
 }
 
-// The top, and the node from which a climb goes on.
+// The top, and the node from which a climb goes on, with its count and its parent.
 #[derive(Clone, Copy)]
 struct Stage {
     top: Option<Link>,
     at: Link,
+    count: u32,
+    above: Option<Link>,
 }
 
-// Brings `p` in balance, whose child `c` has grown. The climb goes on from the node that stands in its place.
-fn restore<T: Drop>(store: &mut Store<T>, root: Option<Link>, p: Link, c: Link) -> Stage
+fn stage_at<T: Drop>(store: &Store<T>, top: Option<Link>, at: Link) -> Stage
+    requires { IsMade store.now at }
+    ensures top { result.top ≡ top }
+    ensures at { result.at ≡ at }
+    ensures count { result.count ≡ (shape_at (shapes_of store.now) at.number).count }
+    ensures above { result.above ≡ (shape_at (shapes_of store.now) at.number).parent }
+{
+    let shape = store.shape(at);
+    Stage {
+        top,
+        at,
+        count: shape.count,
+        above: shape.parent,
+    }
+}
+
+// `c`, which weighs too much, rises above its parent `p`, or its inner child does where that is heavy. The climb goes on
+// from what rose.
+fn turn_up<T: Drop>(store: &mut Store<T>, root: Option<Link>, p: Link, c: Link) -> Stage
     requires sound { HasRightLinks store.old root }
     requires made_p { IsMade store.old p }
     requires made_c { IsMade store.old c }
     requires child { link_number (shape_at (shapes_of store.old) c.number).parent ≡ Some p.number }
     ensures same { IsRearranged store.old store.new root result.top }
     ensures made { IsMade store.new result.at }
-    ensures higher { (shape_at (shapes_of store.old) c.number).count <
-        (shape_at (shapes_of store.new) result.at.number).count }
+    ensures count { result.count ≡ (shape_at (shapes_of store.new) result.at.number).count }
+    ensures above { result.above ≡ (shape_at (shapes_of store.new) result.at.number).parent }
+    ensures higher { (shape_at (shapes_of store.old) c.number).count < result.count }
 {
-    let shape = store.shape(p);
-    let side = side_of(shape.left, c);
-    let above = facing(shape, side);
-    if !is_too_heavy(store, above.right, c) {
-        return Stage { top: root, at: p };
-    }
+    let side = side_of(store.shape(p).left, c);
     match heavy_inner(store, side, c) {
         Some(inner) => {
             let half = rise(store, root, c, inner);
             let top = rise(store, half, p, inner);
-            Stage { top, at: inner }
+            stage_at(store, top, inner)
         }
         None => {
             let top = rise(store, root, p, c);
-            Stage { top, at: c }
+            stage_at(store, top, c)
         }
+    }
+}
+
+// Brings `p` in balance, whose child has grown. The nodes beside the path are read only where one must turn.
+fn restore<T: Drop>(store: &mut Store<T>, stage: Stage, p: Link) -> Stage
+    requires sound { HasRightLinks store.old stage.top }
+    requires made_p { IsMade store.old p }
+    requires made { IsMade store.old stage.at }
+    requires child { link_number (shape_at (shapes_of store.old) stage.at.number).parent ≡ Some p.number }
+    ensures same { IsRearranged store.old store.new stage.top result.top }
+    ensures made { IsMade store.new result.at }
+    ensures count { result.count ≡ (shape_at (shapes_of store.new) result.at.number).count }
+    ensures above { result.above ≡ (shape_at (shapes_of store.new) result.at.number).parent }
+    ensures higher { (shape_at (shapes_of store.old) stage.at.number).count < result.count }
+{
+    let over = stage_at(store, stage.top, p);
+    if is_too_heavy(stage.count, over.count) {
+        turn_up(store, stage.top, p, stage.at)
+    } else {
+        over
     }
 }
 
@@ -116,14 +148,9 @@ fn restore_above<T: Drop>(store: &mut Store<T>, root: Option<Link>, leaf: Link) 
     requires made { IsMade store.old leaf }
     ensures { IsRearranged store.old store.new root result }
 {
-    let mut stage = Stage {
-        top: root,
-        at: leaf,
-    };
-    let mut shape = store.shape(leaf);
-    'up: while let Some(above) = shape.parent {
-        stage = restore(store, stage.top, above, stage.at);
-        shape = store.shape(stage.at);
+    let mut stage = stage_at(store, root, leaf);
+    'up: while let Some(above) = stage.above {
+        stage = restore(store, stage, above);
     }
     stage.top
 }
