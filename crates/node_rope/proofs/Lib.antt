@@ -23,6 +23,7 @@ pub mod LowItemLemmas
 pub mod LowLemmas
 pub mod MirrorLemmas
 pub mod NodeCountLemmas
+pub mod OffLemmas
 pub mod OnceLemmas
 pub mod PartLemmas
 pub mod PutLemmas

@@ -9,7 +9,7 @@ use Rattle.node_rope.specs.Shapes.{HasRightLinks, IsTree, shape_at, link_number,
 use Rattle.node_rope.specs.Walk.{Tree, count_of, tree_walk, whole}
 use Rattle.node_rope.specs.Sums.{lesser, sum_of}
 use Rattle.node_rope.specs.Shapes.{leasts}
-use Rattle.node_rope.specs.Reweighed.{summed, IsStill, AreStill, ArePlaced, SameOwns, IsSoundBut}
+use Rattle.node_rope.specs.Reweighed.{summed, IsOff, AreOff, IsStill, AreStill, ArePlaced, SameOwns, IsSoundBut}
 use Rattle.node_rope.proofs.WalkLemmas.{some-same, below-left, below-right, length-whole}
 use Rattle.node_rope.proofs.TurnLemmas.{same-or-not}
 use Rattle.node_rope.proofs.ShapeLemmas.{weight-sum, least-sum}
@@ -235,6 +235,9 @@ order-still s u root same = by (link_number root) where
   by None = refl
   by (Some x) = ap (λ f. tree_walk (tree_of (shapes_of u)) f (Some x)) (same x).count ∙ walk-same (tree_of (shapes_of s)) (tree_of (shapes_of u)) (λ i. ap link_number (same i).left) (λ i. ap link_number (same i).right) (shape_at (shapes_of s) x).count (Some x)
 
+link-same : (l m : Link) → Some l ≡ Some m → l ≡ m
+link-same l m e = cc
+
 -- ---- a new weight of one node's own value
 module _ {T : Type 0} (s u : Store T) (root : Option Link) (at : Link) (w : Own) (sound : HasRightLinks s root) (made : IsMade s at) (count : made_count u ≡ made_count s) (kept : IsKept s u)
     (h : Shape) (read : h ≡ shape_at (shapes_of s) at.number) (is : shapes_of u ≡ slice_set (shapes_of s) at.number (record h { own = w })) where
@@ -287,6 +290,35 @@ module _ {T : Type 0} (s u : Store T) (root : Option Link) (at : Link) (w : Own)
 
   pub own-others : (i : ℕ) → i ≢ at.number → (shape_at (shapes_of u) i).own ≡ (shape_at (shapes_of s) i).own
   own-others i e = ap (λ (h : Shape). h.own) (own-elsewhere i e)
+
+  -- with the rank as it was, the weights are off by the difference
+  pub own-off : h.own.rank ≡ w.rank → AreOff (shapes_of u) h.own.weight w.weight (Some at)
+  own-off same m is = subst (λ (k : Link). IsOff (shapes_of u) h.own.weight w.weight k) (link-same at m is) off where
+    off : IsOff (shapes_of u) h.own.weight w.weight at
+    off =
+        let x = at.number in
+        let e = own-there in
+        let left : sum_of lesser (leasts (shapes_of s)) (link_number (shape_at (shapes_of s) x).left) ≡ least_at (shapes_of u) (shape_at (shapes_of u) x).left =
+        sym (ap (λ (h : Shape). least_at (shapes_of u) h.left) e ∙ own-least-at (shape_at (shapes_of s) x).left ∙ least-sum (shapes_of s) (shape_at (shapes_of s) x).left) in
+        let right : sum_of lesser (leasts (shapes_of s)) (link_number (shape_at (shapes_of s) x).right) ≡ least_at (shapes_of u) (shape_at (shapes_of u) x).right =
+        sym (ap (λ (h : Shape). least_at (shapes_of u) h.right) e ∙ own-least-at (shape_at (shapes_of s) x).right ∙ least-sum (shapes_of s) (shape_at (shapes_of s) x).right) in
+        let rank : (shape_at (shapes_of s) x).own.rank ≡ (shape_at (shapes_of u) x).own.rank = ap (λ (g : Shape). g.own.rank) (sym read) ∙ same ∙ sym (ap (λ (o : Own). o.rank) own-here) in
+        record {
+          weight = omega (
+            arith,
+            own-weight x,
+            sound.weighed x,
+            weight-sum (shapes_of s) (shape_at (shapes_of s) x).left,
+            weight-sum (shapes_of s) (shape_at (shapes_of s) x).right,
+            own-weight-at (shape_at (shapes_of s) x).left,
+            own-weight-at (shape_at (shapes_of s) x).right,
+            ap (λ (h : Shape). weight_at (shapes_of u) h.left) e,
+            ap (λ (h : Shape). weight_at (shapes_of u) h.right) e,
+            ap (λ (o : Own). o.weight) own-here,
+            ap (λ (g : Shape). g.own.weight) read,
+          );
+          least = own-least x ∙ sound.ranked x ∙ (λ j. min (left j) (min (rank j) (right j)));
+        }
 
   pub own-but : made_count s < 4194305 → ((i : ℕ) → (shape_at (shapes_of s) i).own.weight < 4194305) → w.weight < 4194305 → IsSoundBut u root (Some at)
   own-but few light lt = record {

@@ -45,6 +45,15 @@ pub record IsSoundBut {T : Type 0} (s : Store T) (root o : Option Link) : Type 0
   pub few : made_count s < 4194305
   pub here : AreMade s o
 
+-- the node l's weight lacks `more`, and has `less` too much. Its least rank is right
+pub record IsOff (ss : List Shape) (less more : ℕ) (l : Link) : Type 0 where
+  pub weight : (shape_at ss l.number).weight + more ≡ (weight_at ss (shape_at ss l.number).left + ((shape_at ss l.number).own.weight + weight_at ss (shape_at ss l.number).right)) + less
+  pub least : (shape_at ss l.number).least ≡ min (least_at ss (shape_at ss l.number).left) (min (shape_at ss l.number).own.rank (least_at ss (shape_at ss l.number).right))
+
+-- the same of o, if it is a node
+abbrev pub AreOff : List Shape → ℕ → ℕ → Option Link → Type 0
+AreOff ss less more o = (l : Link) → o ≡ Some l → IsOff ss less more l
+
 -- a node whose weight and least rank are those of what is below it
 abbrev pub summed : List Shape → Shape → Shape
 summed ss h = record h { weight = weight_at ss h.left + (h.own.weight + weight_at ss h.right); least = min (least_at ss h.left) (min h.own.rank (least_at ss h.right)) }

@@ -6,7 +6,7 @@ ghost use Rattle.node_rope.specs.Shapes.{HasRightLinks, AreMade, shape_at, link_
 ghost use Rattle.node_rope.specs.Shapes.{weight_at, least_at, IsWeighed, IsRanked};
 ghost use Rattle.node_rope.specs.Walk.{count_of, HasCounts};
 ghost use Rattle.node_rope.specs.Rising.{IsRising, IsRaised, SameLinks, AreSmall};
-ghost use Rattle.node_rope.specs.Reweighed.{IsSoundBut, AreStill, SameOwns, summed};
+ghost use Rattle.node_rope.specs.Reweighed.{IsSoundBut, AreOff, AreStill, SameOwns, summed};
 
 use crate::cells::{Link, Own, Shape};
 use crate::store::Store;
@@ -152,6 +152,58 @@ fn sum_up<T: Drop>(store: &mut Store<T>, root: Option<Link>, from: Option<Link>)
     }
 }
 
+// The same where the least ranks are right and each weight lacks `more` and has `less` too much: no node beside the path
+// is read.
+fn reweigh<T: Drop>(
+    store: &mut Store<T>,
+    root: Option<Link>,
+    from: Option<Link>,
+    less: u32,
+    more: u32,
+)
+    requires but { IsSoundBut store.old root from }
+    requires off { AreOff (shapes_of store.old) less more from }
+    ensures sound { HasRightLinks store.new root }
+    ensures still { AreStill (shapes_of store.old) (shapes_of store.new) }
+    ensures owns { SameOwns (shapes_of store.old) (shapes_of store.new) }
+    ensures values { values_of store.new ≡ values_of store.old }
+    ensures count { made_count store.new ≡ made_count store.old }
+    ensures kept { IsKept store.old store.new }
+{
+    let _ = root;
+    let mut cur = from;
+    'up: while let Some(l) = cur {
+        let shape = store.shape(l);
+        let up = shape.parent;
+        store.set_shape(
+            l,
+            Shape {
+                weight: shape.weight + more as u64 - less as u64,
+                ..shape
+            },
+        );
+        cur = up;
+    }
+}
+
+// The same after a node's own weight and rank were `old` and became `new`.
+fn mend<T: Drop>(store: &mut Store<T>, root: Option<Link>, at: Link, old: Own, new: Own)
+    requires but { IsSoundBut store.old root (Some at) }
+    requires off { old.rank ≡ new.rank → AreOff (shapes_of store.old) old.weight new.weight (Some at) }
+    ensures sound { HasRightLinks store.new root }
+    ensures still { AreStill (shapes_of store.old) (shapes_of store.new) }
+    ensures owns { SameOwns (shapes_of store.old) (shapes_of store.new) }
+    ensures values { values_of store.new ≡ values_of store.old }
+    ensures count { made_count store.new ≡ made_count store.old }
+    ensures kept { IsKept store.old store.new }
+{
+    if old.rank == new.rank {
+        reweigh(store, root, Some(at), old.weight, new.weight)
+    } else {
+        sum_up(store, root, Some(at))
+    }
+}
+
 pub(crate) fn set_own<T: Drop>(store: &mut Store<T>, root: Option<Link>, at: Link, own: Own)
     requires made { IsMade store.old at }
     requires sound { HasRightLinks store.old root }
@@ -168,6 +220,7 @@ pub(crate) fn set_own<T: Drop>(store: &mut Store<T>, root: Option<Link>, at: Lin
     ensures kept { IsKept store.old store.new }
 {
     let shape = store.shape(at);
+    let old = shape.own;
     store.set_shape(at, Shape { own, ..shape });
-    sum_up(store, root, Some(at));
+    mend(store, root, at, old, own);
 }

@@ -1,4 +1,4 @@
-use Rattle.std.proofs.Common.{◌≡◌, ℕ, ◌-◌, suc, sym, ap, [], ◌∷◌, ◌++◌, length, subst, arith}
+use Rattle.std.proofs.Common.{◌≡◌, ℕ, ◌-◌, suc, ap, [], ◌∷◌, ◌++◌, length, subst, arith}
 use lib.ListN.{length-append}
 use Rattle.node_rope.specs.Filed.{MooringsLead, IsFiled}
 use Rattle.node_rope.proofs.BoxLemmas.{end-of}
