@@ -1,5 +1,5 @@
 -- Each node of a rope stands in its order, and the list has each node's value under its key.
-use Rattle.std.proofs.Common.{◌≡◌, ◌≢◌, ◌⊎◌, inl, inr, ℕ, zero, suc, ◌+◌, ◌<◌, ◌≤◌, Bool, true, false, cond, List, [], ◌∷◌, ◌++◌, length, map, flat_map, slice_get, get_or, Option, None, Some, refl, sym, ap, ◌∙◌, subst, arith}
+use Rattle.std.proofs.Common.{◌≡◌, ◌≢◌, ◌⊎◌, inl, inr, ℕ, zero, suc, ◌+◌, ◌<◌, ◌≤◌, false, cond, List, [], ◌∷◌, ◌++◌, length, map, flat_map, slice_get, get_or, Option, None, Some, refl, sym, ap, ◌∙◌, subst, arith}
 use Rattle.std.specs.Prelude.{eqb, is_some}
 use Rattle.std.specs.BTreeMap.{BTreeMap, get}
 use Rattle.std.proofs.lemmas.Bool.{false_from_ne_true}
@@ -199,13 +199,6 @@ module _ {T : Type 0} (wt : T → Own) (s : Store T) (root : Option Link) (m : B
     listed = λ i b. let at = r.listed i b in (at.0, at.1, h (shape_at (shapes_of s) i).key ∙ at.2);
   }
 
-  -- a key that came and went
-  pub same-again : (n p : BTreeMap Identifier Link) (key : Identifier) (l : Link) → get id_cmp m key ≡ None → IsSet m n key (Some l) → IsSet n p key None → HasSameLinks m p
-  same-again n p key l none a b q = elim (Rattle.fugue_ids.proofs.IdentifierLemmas.cases_id q key) as (λ _. get id_cmp p q ≡ get id_cmp m q) [
-    | inl e ↦ ap (get id_cmp p) e ∙ b.0 ∙ sym none ∙ ap (get id_cmp m) (sym e)
-    | inr e ↦ b.1 q e ∙ a.1 q e
-  ]
-
 -- the grown store, whose nodes moved in the tree
 pub regrown : {T : Type 0} (s u v : Store T) (root top : Option Link) (key : Identifier) (w : Own) (value : T) (l : Link) → IsGrown s u root key w value l → IsRearranged u v root top → IsGrown s v top key w value l
 regrown s u v root top key w value l g e = record {
@@ -273,14 +266,6 @@ grown-roped wt s v root top m p key w value l r g kept few small fits is none se
 
   differs : (x : Link) → Some x ≡ None → ⊥
   differs x e = cc
-
--- a key set twice
-pub set-twice : (m n p : BTreeMap Identifier Link) (key : Identifier) (w o : Option Link) → IsSet m n key w → IsSet n p key o → IsSet m p key o
-set-twice m n p key w o a b = (b.0, λ q ne. b.1 q ne ∙ a.1 q ne)
-
-pub set-again : (b : Bool) (m n p : BTreeMap Identifier Link) (key : Identifier) (l node : Link) → IsSet m n key (Some l) → (b ≡ true → IsSet n p key (Some node)) → (b ≡ false → get id_cmp n key ≡ None) → IsSet m p key (Some node)
-set-again true m n p key l node a b d = set-twice m n p key (Some l) (Some node) a (b refl)
-set-again false m n p key l node a b d = let no : Some l ≡ None = sym a.0 ∙ d refl in absurd (cc)
 
 -- ---- the first node
 empty : {X : Type 0} (xs : List X) → length xs ≡ 0 → xs ≡ []

@@ -1,3 +1,4 @@
+pub mod AlikeLemmas
 pub mod AttachLemmas
 pub mod BehindLemmas
 pub mod BesideLemmas
@@ -25,7 +26,6 @@ pub mod MirrorLemmas
 pub mod NodeCountLemmas
 pub mod OffLemmas
 pub mod OnceLemmas
-pub mod PartLemmas
 pub mod PutLemmas
 pub mod RaiseLemmas
 pub mod RekeyLemmas

@@ -1,6 +1,7 @@
 // A new node beside another.
 ghost use Rattle.std.specs.Prelude.{◌≡◌, ◌+◌, ◌-◌, ◌^◌, ◌<◌, ◌≤◌, [], ◌∷◌, ◌++◌, flat_map, IfOk, IfErr, Some};
-ghost use Rattle.node_rope.specs.Made.{IsMade, IsKept, made_count, shapes_of, values_of};
+ghost use Rattle.node_rope.specs.Made.{IsMade, IsKept, IsAlike, made_count, shapes_of, values_of};
+ghost use Rattle.node_rope.specs.Linked.{IsSet, HasSameLinks};
 ghost use Rattle.node_rope.specs.Shapes.{HasRightLinks, AreMade, shape_at, order};
 ghost use Rattle.node_rope.specs.Sides.{faced, beside};
 ghost use Rattle.node_rope.specs.Rising.{AreSmall};
@@ -8,6 +9,7 @@ ghost use Rattle.node_rope.specs.Grown.{with_parent, new_beside, joined_beside, 
 
 use crate::cells::{Link, Own, Shape};
 use crate::climb::{count_below, least_below, raise, weight_below};
+use crate::links::{KeyMap, set_link};
 use crate::rope::Back;
 use crate::store::Store;
 use crate::turn::{Side, facing};
@@ -47,9 +49,39 @@ fn new_shape<T: Drop>(store: &Store<T>, side: Side, at: Link, key: ElementId, ow
     facing(shape, side)
 }
 
+// Makes a node and enters its key. After want of memory both are as before.
+pub(crate) fn enter<T: Drop>(
+    store: &mut Store<T>,
+    map: &mut KeyMap,
+    shape: Shape,
+    value: T,
+) -> Result<Link, Back<T>>
+    requires { made_count store.old < 2 ^ 32 - 1 }
+    ensures made { IfOk result
+        (λ l. (shapes_of store.new ≡ shapes_of store.old ++ (shape ∷ []))
+        × (values_of store.new ≡ values_of store.old ++ (value ∷ [])) × (l.number ≡ made_count store.old)
+        × IsMade store.new l × (made_count store.new ≡ made_count store.old + 1)) }
+    ensures set { IfOk result (λ l. IsSet map.old.links map.new.links shape.key (Some l)) }
+    ensures refused { IfErr result
+        (λ b. (b.value ≡ value) × IsAlike store.old store.new × HasSameLinks map.old.links map.new.links) }
+    ensures kept { IsKept store.old store.new }
+{
+    let key = shape.key;
+    let link = match store.make(shape, value) {
+        Ok(link) => link,
+        Err(back) => return Err(back),
+    };
+    if !set_link(map, key, link) {
+        let value = store.unmake();
+        return Err(Back { value });
+    }
+    Ok(link)
+}
+
 // The sums above the new node are not yet raised.
 fn join<T: Drop>(
     store: &mut Store<T>,
+    map: &mut KeyMap,
     side: Side,
     at: Link,
     shape: Shape,
@@ -62,11 +94,13 @@ fn join<T: Drop>(
         (λ l. (shapes_of store.new ≡ joined_beside side (shapes_of store.old) at l shape)
         × (values_of store.new ≡ values_of store.old ++ (value ∷ [])) × (l.number ≡ made_count store.old)
         × IsMade store.new l × (made_count store.new ≡ made_count store.old + 1)) }
-    ensures refused { IfErr result (λ b. (b.value ≡ value) × (store.new ≡ store.old)) }
+    ensures set { IfOk result (λ l. IsSet map.old.links map.new.links shape.key (Some l)) }
+    ensures refused { IfErr result
+        (λ b. (b.value ≡ value) × IsAlike store.old store.new × HasSameLinks map.old.links map.new.links) }
     ensures kept { IsKept store.old store.new }
 {
     let next = facing(store.shape(at), side);
-    let link = store.make(shape, value)?;
+    let link = enter(store, map, shape, value)?;
     set_parent(store, next.left, Some(link));
     let over = Shape {
         left: Some(link),
@@ -79,6 +113,7 @@ fn join<T: Drop>(
 // A new node that stands directly at the side of `at`.
 pub(crate) fn attach<T: Drop>(
     store: &mut Store<T>,
+    map: &mut KeyMap,
     root: Option<Link>,
     side: Side,
     at: Link,
@@ -94,11 +129,13 @@ pub(crate) fn attach<T: Drop>(
     ensures grown { IfOk result (λ l. IsGrown store.old store.new root key own value l) }
     ensures walk { IfOk result
         (λ l. order store.new root ≡ flat_map (beside side at.number l.number) (order store.old root)) }
-    ensures refused { IfErr result (λ b. (b.value ≡ value) × (store.new ≡ store.old)) }
+    ensures set { IfOk result (λ l. IsSet map.old.links map.new.links key (Some l)) }
+    ensures refused { IfErr result
+        (λ b. (b.value ≡ value) × IsAlike store.old store.new × HasSameLinks map.old.links map.new.links) }
     ensures kept { IsKept store.old store.new }
 {
     let shape = new_shape(store, side, at, key, own);
-    let link = join(store, side, at, shape, value)?;
+    let link = join(store, map, side, at, shape, value)?;
     raise(store, Some(at), own);
     Ok(link)
 }

@@ -6,6 +6,7 @@ mod balance;
 mod cells;
 mod climb;
 mod find;
+mod items;
 mod links;
 mod look_ups;
 mod low;

@@ -19,8 +19,8 @@ pub struct KeyMap {
     ghost found: { option_map (get id_cmp links) recent ≡ option_map (λ k. Some at_hand) recent },
 }
 
-// Holds a key's room until its node is made.
-pub(crate) fn nowhere() -> Link {
+// Leads to no node.
+fn nowhere() -> Link {
     Link {
         spot: pile::nowhere(),
         number: 0,

@@ -1,13 +1,12 @@
 ghost use Rattle.std.specs.Prelude.{◌≡◌, ◌<◌, ◌≤◌, ◌^◌, [], ◌∷◌, OnOk, IfErr, IsSome, IsNone, Some, length, IfOk};
 ghost use Rattle.std.specs.Prelude.{IsFalse, IsTrue};
-ghost use Rattle.node_rope.specs.Items.{value_under, own_of as counts_for};
+ghost use Rattle.node_rope.specs.Items.{value_under};
 ghost use Rattle.node_rope.specs.Beside.{placed_before, placed_after, placed_beside, put_under, renamed, rekeyed};
 
-use crate::attach::attach;
-use crate::balance::rebalance;
-use crate::cells::{Link, Own, Shape, Weigh};
-use crate::climb::set_own;
-use crate::links::{KeyMap, drop_link, find_link, keep_at_hand, no_links, nowhere, set_link};
+use crate::attach::enter;
+use crate::cells::{Link, Shape, Weigh};
+use crate::items::{grow, own_of, refill};
+use crate::links::{KeyMap, drop_link, find_link, keep_at_hand, no_links, set_link};
 use crate::store::Store;
 use crate::turn::Side;
 use fugue_ids::{ElementId, MOST_OPERATIONS};
@@ -41,18 +40,6 @@ impl<T: Weigh> Model for Rope<T> {
     ghost invariant = { λ r. IsRope (own_of T.weight_of T.rank_of) r.store r.root r.map.links };
 }
 
-/// What the value counts for.
-fn own_of<T: Weigh>(value: &T) -> Own
-    ensures own { result ≡ counts_for T.weight_of T.rank_of value.now }
-    ensures light { result.weight ≤ MOST_OPERATIONS }
-    ensures fits { result.rank < 2 ^ 64 }
-{
-    Own {
-        weight: value.weight() as u32,
-        rank: value.rank(),
-    }
-}
-
 impl<T: Weigh> Rope<T> {
     pub fn new(alloc: Global) -> Rope<T>
         ensures { result ≡ [] }
@@ -83,21 +70,16 @@ impl<T: Weigh> Rope<T> {
             // The key `at` is held: no call comes here.
             None => return Err(Back { value }),
         };
-        let own = own_of(&value);
-        if !set_link(&mut self.map, key, link) {
-            return Err(Back { value });
-        }
-        match attach(&mut self.store, self.root, side, link, key, own, value) {
-            Ok(node) => {
-                self.root = rebalance(&mut self.store, self.root, node);
-                set_link(&mut self.map, key, node);
-                Ok(())
-            }
-            Err(back) => {
-                drop_link(&mut self.map, key);
-                Err(back)
-            }
-        }
+        grow(
+            &mut self.store,
+            &mut self.map,
+            &mut self.root,
+            side,
+            at,
+            link,
+            key,
+            value,
+        )
     }
 
     /// A new item directly before the one with the key `at`. After want of memory the rope is as before.
@@ -131,9 +113,27 @@ impl<T: Weigh> Rope<T> {
         ensures parted { OnOk result (self.new ≡ put_under at front (placed_after at (key, back) self.old)) }
         ensures refused { IfErr result (λ b. (b.value ≡ back) × (self.new ≡ self.old)) }
     {
-        self.insert_after(at, key, back)?;
-        self.put(at, front);
-        Ok(())
+        let link = match find_link(&self.map, at) {
+            Some(link) => link,
+            // The key `at` is held: no call comes here.
+            None => return Err(Back { value: back }),
+        };
+        match grow(
+            &mut self.store,
+            &mut self.map,
+            &mut self.root,
+            Side::Right,
+            at,
+            link,
+            key,
+            back,
+        ) {
+            Ok(()) => {
+                refill(&mut self.store, &mut self.map, self.root, at, link, front);
+                Ok(())
+            }
+            Err(back) => Err(back),
+        }
     }
 
     /// The first item of an empty rope.
@@ -142,9 +142,6 @@ impl<T: Weigh> Rope<T> {
         ensures placed { OnOk result (self.new ≡ (key, value) ∷ []) }
         ensures refused { IfErr result (λ b. (b.value ≡ value) × (self.new ≡ self.old)) }
     {
-        if !set_link(&mut self.map, key, nowhere()) {
-            return Err(Back { value });
-        }
         let own = own_of(&value);
         let shape = Shape {
             key,
@@ -156,16 +153,12 @@ impl<T: Weigh> Rope<T> {
             least: own.rank,
             own,
         };
-        match self.store.make(shape, value) {
+        match enter(&mut self.store, &mut self.map, shape, value) {
             Ok(node) => {
                 self.root = Some(node);
-                set_link(&mut self.map, key, node);
                 Ok(())
             }
-            Err(back) => {
-                drop_link(&mut self.map, key);
-                Err(back)
-            }
+            Err(back) => Err(back),
         }
     }
 
@@ -180,11 +173,7 @@ impl<T: Weigh> Rope<T> {
             // The key is held: no call comes here.
             None => return value,
         };
-        let own = own_of(&value);
-        keep_at_hand(&mut self.map, key, link);
-        let old = self.store.set_value(link, value);
-        set_own(&mut self.store, self.root, link, own);
-        old
+        refill(&mut self.store, &mut self.map, self.root, key, link, value)
     }
 }
 

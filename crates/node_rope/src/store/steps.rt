@@ -1,7 +1,7 @@
 // What a store does.
 ghost use Rattle.std.specs.Prelude.{◌≡◌, ◌<◌, ◌+◌, ◌-◌, ◌^◌, [], ◌∷◌, ◌++◌, length, slice_set, slice_index_or};
 ghost use Rattle.std.specs.Prelude.{MatchResult, IfOk, IfErr};
-ghost use Rattle.node_rope.specs.Made.{IsMade, IsKept, made_count, shapes_of, values_of};
+ghost use Rattle.node_rope.specs.Made.{IsMade, IsKept, IsLess, made_count, shapes_of, values_of};
 ghost use Rattle.node_rope.specs.Shapes.{shape_at};
 ghost use Rattle.node_rope.specs.Filed.{IsFiled};
 
@@ -93,6 +93,17 @@ impl<T: Drop> Store<T> {
         self.newest = link.spot;
         self.count += 1;
         Ok(link)
+    }
+
+    // Takes the node back that was made last. The answer is its value.
+    pub(crate) fn unmake(&mut self) -> T
+        requires { 0 < made_count self.old }
+        ensures { IsLess self.old self.new result }
+    {
+        let Node { older, value, .. } = self.pile.take(self.newest, self.alloc);
+        self.newest = older;
+        self.count -= 1;
+        value
     }
 }
 
