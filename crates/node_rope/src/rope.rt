@@ -104,7 +104,7 @@ impl<T: Weigh> Rope<T> {
         self.insert_beside(Side::Right, at, key, value)
     }
 
-    /// Another value for the item with the key `at`, and a new item directly behind it, by one climb less than the two
+    /// Another value for the item with the key `at`, and a new item directly behind it, by one look-up less than the two
     /// calls. After want of memory the rope is as before, and the new item's value is handed back.
     pub fn part(&mut self, at: ElementId, front: T, key: ElementId, back: T) -> Result<(), Back<T>>
         requires held { IsSome (value_under at self.old) }
