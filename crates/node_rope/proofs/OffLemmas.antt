@@ -6,7 +6,7 @@ use Rattle.node_rope.specs.declared.cells.Link.{Link}
 use Rattle.node_rope.specs.Made.{IsKept, made_count, shapes_of}
 use Rattle.node_rope.specs.Shapes.{shape_at, link_number, tree_of, weight_at, weights, least_at}
 use Rattle.node_rope.specs.Sums.{sum_measure, sum_of}
-use Rattle.node_rope.specs.Reweighed.{IsSoundBut, IsOff, AreOff, summed}
+use Rattle.node_rope.specs.Reweighed.{IsSoundBut, IsOff, AreOff, summed, shifted}
 use Rattle.node_rope.proofs.WalkLemmas.{some-same, below-left, below-right}
 use Rattle.node_rope.proofs.TurnLemmas.{same-or-not}
 use Rattle.node_rope.proofs.ShapeLemmas.{weight-sum}
@@ -14,9 +14,6 @@ use Rattle.node_rope.proofs.RaiseLemmas.{written, unwritten}
 use Rattle.node_rope.proofs.ReweighLemmas.{IsSummedOnce, summed-step}
 
 -- the difference brings a node's weight to the sum
-abbrev pub shifted : ℕ → ℕ → Shape → Shape
-shifted less more h = record h { weight = (h.weight + more) - less }
-
 shifted-summed : (ss : List Shape) (less more : ℕ) (l : Link) → IsOff ss less more l → shifted less more (shape_at ss l.number) ≡ summed ss (shape_at ss l.number)
 shifted-summed ss less more l off =
     let h = shape_at ss l.number in
@@ -96,21 +93,23 @@ module _ {T : Type 0} (s u : Store T) (root : Option Link) (l : Link) (less more
         }
 
 -- the sum and the difference fit
-pub off-fits : {T : Type 0} (s : Store T) (root o : Option Link) (l : Link) → o ≡ Some l → IsSoundBut s root o → (more : ℕ) → more < 4294967296 → (h : Shape) → h ≡ shape_at (shapes_of s) l.number → h.weight + more < 18446744073709551616
-off-fits s root o l is_l b more small h read = omega (arith, b.bound l.number, b.tree.small l.number, b.few, small, ap (λ (g : Shape). g.weight) read)
+pub off-fits : {T : Type 0} (s : Store T) (root o : Option Link) (l : Link) → o ≡ Some l → IsSoundBut s root o → (more : ℕ) → more < 4294967296 → (shape_at (shapes_of s) l.number).weight + more < 18446744073709551616
+off-fits s root o l is_l b more small = omega (arith, b.bound l.number, b.tree.small l.number, b.few, small)
 
-pub off-covers : (ss : List Shape) (less more : ℕ) (o : Option Link) (l : Link) → o ≡ Some l → AreOff ss less more o → (h : Shape) → h ≡ shape_at ss l.number → less ≤ h.weight + more
-off-covers ss less more o l is_l off h read = omega (arith, (off l is_l).weight, ap (λ (g : Shape). g.weight) read)
+pub off-covers : (ss : List Shape) (less more : ℕ) (o : Option Link) (l : Link) → o ≡ Some l → AreOff ss less more o → less ≤ (shape_at ss l.number).weight + more
+off-covers ss less more o l is_l off = omega (arith, (off l is_l).weight)
 
--- one step of the loop
+-- one step of the loop: q is the next node
 pub record IsShiftedOnce {T : Type 0} (s u : Store T) (root : Option Link) (less more : ℕ) (o q : Option Link) : Type 0 where
   pub once : IsSummedOnce s u root o q
   pub off : AreOff (shapes_of u) less more q
 
-pub shifted-step : {T : Type 0} (s u : Store T) (root : Option Link) (less more : ℕ) (o : Option Link) (l : Link) → o ≡ Some l → IsSoundBut s root o → AreOff (shapes_of s) less more o → (h : Shape) → h ≡ shape_at (shapes_of s) l.number → made_count u ≡ made_count s → IsKept s u
-    → shapes_of u ≡ slice_set (shapes_of s) l.number (shifted less more h) → IsShiftedOnce s u root less more o h.parent
-shifted-step s u root less more o l is_l b off h read count kept is =
-    let at = off l is_l in record {
-      once = summed-step s u root o l is_l b h (shifted less more h) read (ap (shifted less more) read ∙ shifted-summed (shapes_of s) less more l at ∙ ap (summed (shapes_of s)) (sym read)) count kept is;
-      off = λ p up. parent-off s u root l less more (subst (IsSoundBut s root) is_l b) at (is ∙ ap (λ (g : Shape). slice_set (shapes_of s) l.number (shifted less more g)) read) p (ap (λ (g : Shape). g.parent) (sym read) ∙ up);
-    }
+pub shifted-step : {T : Type 0} (s u : Store T) (root : Option Link) (less more : ℕ) (o q : Option Link) (l : Link) → o ≡ Some l → IsSoundBut s root o → AreOff (shapes_of s) less more o → q ≡ (shape_at (shapes_of s) l.number).parent → made_count u ≡ made_count s → IsKept s u
+    → shapes_of u ≡ slice_set (shapes_of s) l.number (shifted less more (shape_at (shapes_of s) l.number)) → IsShiftedOnce s u root less more o q
+shifted-step s u root less more o q l is_l b off up count kept is =
+    let h = shape_at (shapes_of s) l.number in
+    let at = off l is_l in
+    subst (λ o'. IsShiftedOnce s u root less more o o') (sym up) (record {
+      once = summed-step s u root o l is_l b h (shifted less more h) refl (shifted-summed (shapes_of s) less more l at) count kept is;
+      off = λ p e. parent-off s u root l less more (subst (IsSoundBut s root) is_l b) at is p e;
+    })

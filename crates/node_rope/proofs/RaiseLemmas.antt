@@ -1,5 +1,5 @@
 -- One step of the climb that raises sums.
-use Rattle.std.proofs.Common.{◌≡◌, ℕ, ◌+◌, ◌<◌, ◌≤◌, min, ◌≢◌, ◌⊎◌, inl, inr, List, length, slice_set, Option, None, Some, refl, sym, ap, ◌∙◌, subst, arith}
+use Rattle.std.proofs.Common.{◌≡◌, ℕ, ◌+◌, ◌<◌, ◌≤◌, ◌≢◌, ◌⊎◌, inl, inr, List, length, slice_set, Option, None, Some, refl, sym, ap, ◌∙◌, subst, arith}
 use Rattle.std.proofs.lemmas.List.{get_or-set_other, get_or-set_same}
 use Rattle.node_rope.specs.declared.store.Store.{Store}
 use Rattle.node_rope.specs.declared.cells.Shape.{Shape}
@@ -139,14 +139,10 @@ pub record IsRaisedOnce {T : Type 0} (s u : Store T) (w : Own) (o q : Option Lin
   pub raised : (ss₀ : List Shape) → IsRaised ss₀ (shapes_of s) w o → IsRaised ss₀ (shapes_of u) w q
   pub smaller : (ss₀ : List Shape) → IsRaised ss₀ (shapes_of s) w o → AreSmall ss₀ w.weight → left_to_rise (shapes_of u) q < left_to_rise (shapes_of s) o
 
-pub raised-step : {T : Type 0} (s u : Store T) (w : Own) (o : Option Link) (l : Link) → o ≡ Some l → IsRising s w o → (h : Shape) → h ≡ shape_at (shapes_of s) l.number → (least : ℕ) → least ≡ min h.least w.rank → IsKept s u
-    → shapes_of u ≡ slice_set (shapes_of s) l.number (record h { count = h.count + 1; weight = h.weight + w.weight; least = least }) → IsRaisedOnce s u w o h.parent
-raised-step s u w o l is_l rising h read least is_least kept is = subst (λ o. IsRaisedOnce s u w o h.parent) (sym is_l) (subst (λ (g : Shape). IsRaisedOnce s u w (Some l) g.parent) (sym read) once) where
+pub raised-step : {T : Type 0} (s u : Store T) (w : Own) (o q : Option Link) (l : Link) → o ≡ Some l → IsRising s w o → q ≡ (shape_at (shapes_of s) l.number).parent → IsKept s u → shapes_of u ≡ slice_set (shapes_of s) l.number (more w (shape_at (shapes_of s) l.number)) → IsRaisedOnce s u w o q
+raised-step s u w o q l is_l rising up kept writes = subst (λ o. IsRaisedOnce s u w o q) (sym is_l) (subst (λ o. IsRaisedOnce s u w (Some l) o) (sym up) once) where
   at : IsRising s w (Some l)
   at = subst (IsRising s w) is_l rising
-
-  writes : shapes_of u ≡ slice_set (shapes_of s) l.number (more w (shape_at (shapes_of s) l.number))
-  writes = is ∙ ap (λ (k : ℕ). slice_set (shapes_of s) l.number (record h { count = h.count + 1; weight = h.weight + w.weight; least = k })) is_least ∙ ap (λ (g : Shape). slice_set (shapes_of s) l.number (more w g)) read
 
   once : IsRaisedOnce s u w (Some l) (shape_at (shapes_of s) l.number).parent
   once = record { rising = step-rising s u w l at kept writes; links = step-links s u w l at kept writes; raised = step-raised s u w l at kept writes; smaller = step-smaller s u w l at kept writes }

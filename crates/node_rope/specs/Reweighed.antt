@@ -1,5 +1,5 @@
 -- While the weights above a node are summed anew.
-use Rattle.std.specs.Prelude.{◌≡◌, ℕ, ◌+◌, ◌*◌, ◌<◌, ◌≤◌, min, List, Option, Some}
+use Rattle.std.specs.Prelude.{◌≡◌, ℕ, ◌+◌, ◌-◌, ◌*◌, ◌<◌, ◌≤◌, min, List, Option, Some}
 use Rattle.node_rope.specs.declared.store.Store.{Store}
 use Rattle.node_rope.specs.declared.cells.Shape.{Shape}
 use Rattle.node_rope.specs.declared.cells.Link.{Link}
@@ -57,3 +57,7 @@ AreOff ss less more o = (l : Link) → o ≡ Some l → IsOff ss less more l
 -- a node whose weight and least rank are those of what is below it
 abbrev pub summed : List Shape → Shape → Shape
 summed ss h = record h { weight = weight_at ss h.left + (h.own.weight + weight_at ss h.right); least = min (least_at ss h.left) (min h.own.rank (least_at ss h.right)) }
+
+-- a node whose weight gains `more` and loses `less`
+abbrev pub shifted : ℕ → ℕ → Shape → Shape
+shifted less more h = record h { weight = (h.weight + more) - less }

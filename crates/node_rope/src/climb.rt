@@ -99,17 +99,7 @@ pub(crate) fn raise<T: Drop>(store: &mut Store<T>, from: Option<Link>, own: Own)
 {
     let mut cur = from;
     'up: while let Some(l) = cur {
-        let shape = store.shape(l);
-        store.set_shape(
-            l,
-            Shape {
-                count: shape.count + 1,
-                weight: shape.weight + own.weight as u64,
-                least: shape.least.min(own.rank),
-                ..shape
-            },
-        );
-        cur = shape.parent;
+        cur = store.raise(l, own);
     }
 }
 
@@ -173,16 +163,7 @@ fn reweigh<T: Drop>(
     let _ = root;
     let mut cur = from;
     'up: while let Some(l) = cur {
-        let shape = store.shape(l);
-        let up = shape.parent;
-        store.set_shape(
-            l,
-            Shape {
-                weight: shape.weight + more as u64 - less as u64,
-                ..shape
-            },
-        );
-        cur = up;
+        cur = store.shift(l, less, more);
     }
 }
 

@@ -1,5 +1,7 @@
-ghost use Rattle.std.specs.Prelude.{◌≡◌};
+ghost use Rattle.std.specs.Prelude.{◌≡◌, ◌+◌, ◌-◌, ◌^◌, ◌<◌, ◌≤◌};
 ghost use Rattle.node_rope.specs.Packing.{link_if};
+ghost use Rattle.node_rope.specs.Rising.{more};
+ghost use Rattle.node_rope.specs.Reweighed.{shifted};
 
 use crate::cells::{Link, Own, Shape};
 use crate::pile::{self, Spot};
@@ -89,6 +91,35 @@ impl Packed {
                 rank: self.own_rank,
             },
         }
+    }
+}
+
+// Climbs change a few fields of each node, and leave the others where they are.
+impl Packed {
+    pub(crate) fn parent(&self) -> Option<Link>
+        ensures { result ≡ self.now.parent }
+    {
+        link_of(self.has_parent, self.parent, self.parent_number)
+    }
+
+    // One more node below, which counts for `own`.
+    pub(crate) fn raise(&mut self, own: Own)
+        requires count { self.old.count < 2 ^ 32 - 1 }
+        requires weight { self.old.weight + own.weight < 2 ^ 64 }
+        ensures { self.new ≡ more own self.old }
+    {
+        self.count += 1;
+        self.weight += own.weight as u64;
+        self.least = self.least.min(own.rank);
+    }
+
+    // The weight gains `more` and loses `less`.
+    pub(crate) fn shift(&mut self, less: u32, more: u32)
+        requires fits { self.old.weight + more < 2 ^ 64 }
+        requires covers { less ≤ self.old.weight + more }
+        ensures { self.new ≡ shifted less more self.old }
+    {
+        self.weight = self.weight + more as u64 - less as u64;
     }
 }
 

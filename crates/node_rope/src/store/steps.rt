@@ -1,12 +1,14 @@
 // What a store does.
-ghost use Rattle.std.specs.Prelude.{◌≡◌, ◌<◌, ◌+◌, ◌-◌, ◌^◌, [], ◌∷◌, ◌++◌, length, slice_set, slice_index_or};
+ghost use Rattle.std.specs.Prelude.{◌≡◌, ◌<◌, ◌≤◌, ◌+◌, ◌-◌, ◌^◌, [], ◌∷◌, ◌++◌, length, slice_set, slice_index_or};
 ghost use Rattle.std.specs.Prelude.{MatchResult, IfOk, IfErr};
 ghost use Rattle.node_rope.specs.Made.{IsMade, IsKept, IsLess, made_count, shapes_of, values_of};
 ghost use Rattle.node_rope.specs.Shapes.{shape_at};
 ghost use Rattle.node_rope.specs.Filed.{IsFiled};
+ghost use Rattle.node_rope.specs.Rising.{more};
+ghost use Rattle.node_rope.specs.Reweighed.{shifted};
 
 use super::Store;
-use crate::cells::{Link, Node, Shape};
+use crate::cells::{Link, Node, Own, Shape};
 use crate::packed::Packed;
 use crate::pile::{self, Pile, Spot};
 use crate::rope::Back;
@@ -41,6 +43,42 @@ impl<T: Drop> Store<T> {
         ensures kept { IsKept self.old self.new }
     {
         self.pile.at_mut(link.spot, link.number as usize).shape = Packed::new(shape);
+    }
+
+    // One more node below that of the link, which counts for `own`. The answer is its parent.
+    pub(crate) fn raise(&mut self, link: Link, own: Own) -> Option<Link>
+        requires made { IsMade self.old link }
+        requires counts { (shape_at (shapes_of self.old) link.number).count < 2 ^ 32 - 1 }
+        requires weights { (shape_at (shapes_of self.old) link.number).weight + own.weight < 2 ^ 64 }
+        ensures parent { result ≡ (shape_at (shapes_of self.old) link.number).parent }
+        ensures shapes { shapes_of self.new ≡ slice_set (shapes_of self.old) link.number
+            (more own (shape_at (shapes_of self.old) link.number)) }
+        ensures values { values_of self.new ≡ values_of self.old }
+        ensures count { made_count self.new ≡ made_count self.old }
+        ensures kept { IsKept self.old self.new }
+    {
+        let node = self.pile.at_mut(link.spot, link.number as usize);
+        let up = node.shape.parent();
+        node.shape.raise(own);
+        up
+    }
+
+    // The weight at the link gains `more` and loses `less`. The answer is the parent.
+    pub(crate) fn shift(&mut self, link: Link, less: u32, more: u32) -> Option<Link>
+        requires made { IsMade self.old link }
+        requires fits { (shape_at (shapes_of self.old) link.number).weight + more < 2 ^ 64 }
+        requires covers { less ≤ (shape_at (shapes_of self.old) link.number).weight + more }
+        ensures parent { result ≡ (shape_at (shapes_of self.old) link.number).parent }
+        ensures shapes { shapes_of self.new ≡ slice_set (shapes_of self.old) link.number
+            (shifted less more (shape_at (shapes_of self.old) link.number)) }
+        ensures values { values_of self.new ≡ values_of self.old }
+        ensures count { made_count self.new ≡ made_count self.old }
+        ensures kept { IsKept self.old self.new }
+    {
+        let node = self.pile.at_mut(link.spot, link.number as usize);
+        let up = node.shape.parent();
+        node.shape.shift(less, more);
+        up
     }
 
     pub(crate) fn value(&self, link: Link) -> &T

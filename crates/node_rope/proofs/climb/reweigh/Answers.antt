@@ -1,12 +1,19 @@
-use Rattle.std.proofs.Common.{◌∙◌}
+use Rattle.std.proofs.Common.{◌∙◌, arith}
+use Rattle.node_rope.specs.Made.{shapes_of}
 use Rattle.node_rope.proofs.ReweighLemmas.{still-trans}
-use Rattle.node_rope.proofs.OffLemmas.{shifted-step}
+use Rattle.node_rope.proofs.OffLemmas.{off-fits, off-covers, shifted-step}
 use Rattle.node_rope.proofs.climb.reweigh.Goals as goal
+
+pub shift-cur-requires-clause-fits : goal.shift-cur-requires-clause-fits
+shift-cur-requires-clause-fits g c = off-fits c.up.store c.args.root c.up.cur c.in-Some.l c.in-Some.is c.up.invariant.but c.args.more (omega (arith, c.ranges.more))
+
+pub shift-cur-requires-clause-covers : goal.shift-cur-requires-clause-covers
+shift-cur-requires-clause-covers g c = off-covers (shapes_of c.up.store) c.args.less c.args.more c.up.cur c.in-Some.l c.in-Some.is c.up.invariant.off
 
 pub up-preserved : goal.up-preserved
 up-preserved g c =
-    let inv = c.up.invariant in let e = c.set_shape.ensures in
-    let step = shifted-step c.up.store c.set_shape.new.self c.args.root c.args.less c.args.more c.up.cur c.in-Some.l c.in-Some.is inv.but inv.off c.shape-shape.result c.shape-shape.ensures e.count e.kept e.shapes in
+    let inv = c.up.invariant in let e = c.shift-cur.ensures in
+    let step = shifted-step c.up.store c.shift-cur.new.self c.args.root c.args.less c.args.more c.up.cur c.shift-cur.result c.in-Some.l c.in-Some.is inv.but inv.off e.parent e.count e.kept e.shapes in
     record {
       but = step.once.but;
       off = step.off;
@@ -19,6 +26,6 @@ up-preserved g c =
 
 pub up-smaller : goal.up-smaller
 up-smaller g c =
-    let inv = c.up.invariant in let e = c.set_shape.ensures in
-    let step = shifted-step c.up.store c.set_shape.new.self c.args.root c.args.less c.args.more c.up.cur c.in-Some.l c.in-Some.is inv.but inv.off c.shape-shape.result c.shape-shape.ensures e.count e.kept e.shapes in
+    let inv = c.up.invariant in let e = c.shift-cur.ensures in
+    let step = shifted-step c.up.store c.shift-cur.new.self c.args.root c.args.less c.args.more c.up.cur c.shift-cur.result c.in-Some.l c.in-Some.is inv.but inv.off e.parent e.count e.kept e.shapes in
     step.once.smaller
