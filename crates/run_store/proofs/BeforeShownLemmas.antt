@@ -1,5 +1,5 @@
 -- How many cells that are not hidden stand before one: those of the runs before its own, and its run's cells before it.
-use Rattle.std.proofs.Common.{◌≡◌, ℕ, ◌+◌, ◌<◌, ◌≤◌, Bool, true, false, List, [], ◌∷◌, ◌++◌, ap, arith, inl, inr, length, length-append, min, refl, subst, suc, sym, take, ◌∙◌}
+use Rattle.std.proofs.Common.{◌≡◌, ℕ, ◌+◌, ◌≤◌, Bool, List, [], ◌∷◌, ◌++◌, ap, arith, inl, inr, length, length-append, subst, suc, sym, take, ◌∙◌}
 use Rattle.std.specs.Prelude.{if◌then◌else◌, drop, Some}
 use Rattle.std.specs.List.{All}
 use Rattle.std.proofs.Math.Seq.{take-append_seam}
@@ -12,7 +12,7 @@ use Rattle.fugue_ids.specs.declared.limits.TheConstants.{MOST_OPERATIONS}
 use Rattle.node_rope.specs.Items.{value_under}
 use Rattle.node_rope.specs.Places.{StandsAt, weight_sum}
 use Rattle.run_store.specs.Cells.{cell_ids, cells_shown, shown_before}
-use Rattle.run_store.specs.Heads.{head_behind, typed_cells}
+use Rattle.run_store.specs.Heads.{typed_cells}
 use Rattle.run_store.specs.Runs.{AreRuns, IsRun, IsSpot, all_cells, cells_in, first_of, letters_of, visible_weight}
 use Rattle.run_store.specs.declared.cell.Cell.{Cell}
 use Rattle.run_store.specs.declared.run.Run.{Run}
@@ -20,7 +20,7 @@ use Rattle.run_store.specs.declared.run.Runs.{Runs}
 use Rattle.run_store.proofs.CellLemmas.{Others, index-at}
 use Rattle.run_store.proofs.HeadLemmas.{behind-id, behind-none, length-typed}
 use Rattle.run_store.proofs.PlaceLemmas.{placed-at, stands-run}
-use Rattle.run_store.proofs.RunsLemmas.{Item, cell_there, cells_before, cells_behind, kept-run, length-letters}
+use Rattle.run_store.proofs.RunsLemmas.{cell_there, cells_before, cells_behind, kept-run, length-letters}
 use Rattle.run_store.proofs.VisibleLemmas.{hidden-typed, visible-append, visible-typed, visible-weight}
 
 -- before a cell that stands at the end of a front stands the front
