@@ -1,7 +1,7 @@
 -- What a call left, whatever it answered.
 use Rattle.std.proofs.Common.{◌≡◌, ◌+◌, ◌≤◌, ℕ, arith, refl, subst, sym, true}
 use Rattle.std.proofs.lemmas.Bool.{true≢false}
-use Rattle.std.specs.Prelude.{Option, None, Some, is_some, Result, Ok, Err, OnErr, OnOk}
+use Rattle.std.specs.Prelude.{IfNone, IfSome, Option, None, Some, is_some, Result, Ok, Err, OnErr, OnOk}
 use Rattle.run_store.specs.Stored.{IsRaised}
 
 module _ {X T E : Type 0} (P : X → Type 0) where
@@ -51,3 +51,11 @@ on-ok (Err e) P Q f p = tt
 pub on-err : {T E : Type 0} (res : Result T E) (P Q : Type 0) → (P → Q) → OnErr res P → OnErr res Q
 on-err (Ok t) P Q f p = tt
 on-err (Err e) P Q f p = f p
+
+pub if-some : {X : Type 0} (P Q : X → Type 0) (o : Option X) → ((x : X) → P x → Q x) → IfSome o P → IfSome o Q
+if-some P Q None f p = tt
+if-some P Q (Some x) f p = f x p
+
+pub if-none : {X : Type 0} (P Q : Type 0) (o : Option X) → (P → Q) → IfNone o P → IfNone o Q
+if-none P Q None f p = f p
+if-none P Q (Some x) f p = tt

@@ -25,3 +25,4 @@ pub mod EarlierLemmas
 pub mod LowLemmas
 pub mod LowPlaceLemmas
 pub mod MiddleLemmas
+pub mod StandingLemmas

@@ -1,115 +1,144 @@
 -- What stands between two cells.
-use Rattle.std.proofs.Common.{◌≡◌, ◌≢◌, ℕ, ◌<◌, true, false, List, [], ◌∷◌, ap, arith, inl, inr, refl, subst, sym, ◌∙◌}
-use Rattle.std.specs.Prelude.{Option, None, Some, if◌then◌else◌, slice_get}
-use Rattle.std.specs.List.{Contains}
-use Rattle.fugue_ids.specs.Identifiers.{Identifier, id_eq}
-use Rattle.fugue_ids.specs.Keys.{Keyed, between, first_id, front_of, ids as ids_of, rest_of}
+use Rattle.std.proofs.Common.{◌≡◌, ◌≢◌, ℕ, zero, suc, ◌+◌, ◌<◌, ◌≤◌, List, [], ◌∷◌, ap, arith, inl, inr, length, length-drop, refl, subst, sym, take, drop, ◌∙◌}
+use Rattle.std.specs.Prelude.{Option, None, Some, IfNone, IfSome, IsNone, if◌then◌else◌}
+use Rattle.std.specs.List.{AllPairs, Contains}
+use Rattle.std.proofs.lemmas.List.{take_all}
+use Rattle.std.proofs.lemmas.List.Elements.{All-contains}
+use Rattle.fugue_ids.specs.Identifiers.{Identifier}
+use Rattle.fugue_ids.specs.Keys.{Keyed, between, front_of, ids as ids_of, rest_of}
 use Rattle.fugue_ids.specs.Listed.{HoldsOrigin, index_of}
-use Rattle.fugue_ids.proofs.IdentifierLemmas.{cases_id, eq-id_eq, index_of-here, index_of-there, ne-id_eq}
-use Rattle.fugue_ids.proofs.ListLemmas.{contains_cases, contains_here, contains_none, contains_there}
+use Rattle.fugue_ids.proofs.IdentifierLemmas.{cases_id, contains-below, eq-id_eq, index_of-here, index_of-there, ne-id_eq}
+use Rattle.fugue_ids.proofs.ListLemmas.{all_pairs_head, all_pairs_tail, contains_cases, contains_here, contains_none, contains_there}
 use Rattle.run_store.specs.Cells.{cell_ids, keyed_cells}
-use Rattle.run_store.specs.Heads.{head_behind}
-use Rattle.run_store.specs.Runs.{AreRuns, cells_in, first_of}
-use Rattle.run_store.specs.Standings.{IsBefore, IsBehind}
-use Rattle.run_store.specs.declared.cell.Cell.{Cell}
-use Rattle.run_store.specs.declared.run.Run.{Run}
+use Rattle.run_store.specs.Standings.{IsWithin, begin_index, end_index}
+use Rattle.run_store.specs.Runs.{AreRuns, cells_in}
 use Rattle.run_store.specs.declared.run.Runs.{Runs}
-use Rattle.run_store.proofs.FindLemmas.{spot-held}
-use Rattle.run_store.proofs.PlaceLemmas.{value-there}
+use Rattle.run_store.proofs.KeyLemmas.{keyed-ids}
 
-pub ids-keyed : (cs : List Cell) → ids_of (keyed_cells cs) ≡ cell_ids cs
-ids-keyed [] = refl
-ids-keyed (c ∷ cs) = ap (λ t. c.id ∷ t) (ids-keyed cs)
+-- what stands behind an origin, and before one, by their indexes
+rest-drop : (es : List Keyed) (from : Option Identifier) → ids_of (rest_of from es) ≡ drop (begin_index (ids_of es) from) (ids_of es)
+rest-drop es None = refl
+rest-drop [] (Some x) = refl
+rest-drop (e ∷ es) (Some x) = elim (cases_id x e.id) [
+  | inl s ↦
+      ap (λ b. ids_of (if b then es else rest_of (Some x) es)) (eq-id_eq e.id x (sym s))
+      ∙ ap (λ n. drop n (ids_of es)) (sym (index_of-here e.id (ids_of es) x s))
+  | inr n ↦
+      ap (λ b. ids_of (if b then es else rest_of (Some x) es)) (ne-id_eq e.id x (λ s. n (sym s))) ∙ rest-drop es (Some x)
+      ∙ ap (λ k. drop k (ids_of es)) (sym (index_of-there e.id (ids_of es) x n))
+]
 
--- what stands before an origin, by the first of all
-pub no-first : (es : List Keyed) (to : Option Identifier) → first_id es ≡ None → front_of to es ≡ []
-no-first [] None e = refl
-no-first [] (Some y) e = refl
-no-first (a ∷ es) to e = cc
+front-take : (es : List Keyed) (to : Option Identifier) → ids_of (front_of to es) ≡ take (end_index (ids_of es) to) (ids_of es)
+front-take es None = sym (take_all (length (ids_of es)) (ids_of es) (omega arith))
+front-take [] (Some y) = refl
+front-take (e ∷ es) (Some y) = elim (cases_id y e.id) [
+  | inl s ↦
+      ap (λ b. ids_of (if b then [] else e ∷ front_of (Some y) es)) (eq-id_eq e.id y (sym s))
+      ∙ ap (λ n. take n (e.id ∷ ids_of es)) (sym (index_of-here e.id (ids_of es) y s))
+  | inr n ↦
+      ap (λ b. ids_of (if b then [] else e ∷ front_of (Some y) es)) (ne-id_eq e.id y (λ s. n (sym s)))
+      ∙ ap (λ is. e.id ∷ is) (front-take es (Some y))
+      ∙ ap (λ k. take k (e.id ∷ ids_of es)) (sym (index_of-there e.id (ids_of es) y n))
+]
 
-pub at-first : (es : List Keyed) (x : Identifier) → first_id es ≡ Some x → front_of (Some x) es ≡ []
-at-first [] x e = refl
-at-first (a ∷ es) x e = let d : a.id ≡ x = cc in ap (λ b. if b then [] else a ∷ front_of (Some x) es) (eq-id_eq a.id x d)
+contains-drop : (n : ℕ) (xs : List Identifier) (y : Identifier) → Contains (drop n xs) y → Contains xs y
+contains-drop zero xs y c = c
+contains-drop (suc n) [] y c = c
+contains-drop (suc n) (x ∷ xs) y c = contains_there x xs y (contains-drop n xs y c)
 
-pub past-first : (es : List Keyed) (to : Option Identifier) (x : Identifier) → first_id es ≡ Some x → (to ≡ Some x → ⊥) → Contains (ids_of (front_of to es)) x
-past-first [] to x e n = cc
-past-first (a ∷ es) None x e n = let d : a.id ≡ x = cc in subst (Contains (a.id ∷ ids_of es)) d (contains_here a.id (ids_of es))
-past-first (a ∷ es) (Some y) x e n =
-    let d : a.id ≡ x = cc in
-    let other : a.id ≢ y = λ f. n (ap Some (sym f ∙ d)) in
-    subst (λ b. Contains (ids_of (if b then [] else a ∷ front_of (Some y) es)) x) (sym (ne-id_eq a.id y other))
-    (subst (Contains (a.id ∷ ids_of (front_of (Some y) es))) d (contains_here a.id (ids_of (front_of (Some y) es))))
+-- an index among the members behind a place
+end-behind : (xs : List Identifier) → AllPairs (λ x y. x ≢ y) xs → (n : ℕ) → n ≤ length xs → (to : Option Identifier) → HoldsOrigin (drop n xs) to → end_index xs to ≡ n + end_index (drop n xs) to
+end-behind xs d n l None h = omega (arith, l, length-drop n xs)
+end-behind xs d zero l (Some y) h = omega arith
+end-behind [] d (suc n) l (Some y) h = absurd (contains_none y h)
+end-behind (x ∷ xs) d (suc n) l (Some y) h =
+    let other : y ≢ x = λ e. All-contains (λ z. x ≢ z) xs y (all_pairs_head (λ x y. x ≢ y) x xs d) (contains-drop n xs y h) (sym e) in
+    omega (arith, index_of-there x xs y other, end-behind xs (all_pairs_tail (λ x y. x ≢ y) x xs d) n (omega (arith, l)) (Some y) h)
 
--- a list with a member is not empty
-pub some-member : (es : List Keyed) (x : Identifier) → Contains (ids_of es) x → es ≡ [] → ⊥
-some-member es x m e = contains_none x (subst (λ t. Contains (ids_of t) x) e m)
+-- a member by its index
+within-part : (xs : List Identifier) (n w : ℕ) (m : Identifier) → Contains xs m → n ≤ index_of xs m → index_of xs m < n + w → Contains (take w (drop n xs)) m
+within-part [] n w m c l h = absurd (contains_none m c)
+within-part (x ∷ xs) zero zero m c l h = absurd (omega (arith, h))
+within-part (x ∷ xs) zero (suc w) m c l h = elim (cases_id m x) [
+  | inl e ↦ subst (Contains (x ∷ take w xs)) (sym e) (contains_here x (take w xs))
+  | inr o ↦ contains_there x (take w xs) m (within-part xs zero w m (others x xs m c o) (omega arith) (omega (arith, h, index_of-there x xs m o)))
+]
+  where
+    others : (x : Identifier) (xs : List Identifier) (m : Identifier) → Contains (x ∷ xs) m → m ≢ x → Contains xs m
+    others x xs m c o = elim (contains_cases x xs m c) [ inl e ↦ absurd (o (sym e)) | inr i ↦ i ]
+within-part (x ∷ xs) (suc n) w m c l h = elim (cases_id m x) [
+  | inl e ↦ absurd (omega (arith, l, index_of-here x xs m e))
+  | inr o ↦ elim (contains_cases x xs m c) [
+    | inl e ↦ absurd (o (sym e))
+    | inr i ↦ let k = index_of-there x xs m o in within-part xs n w m i (omega (arith, l, k)) (omega (arith, h, k))
+  ]
+]
 
--- a member that stands before another is in front of it
-front-member : (cs : List Cell) (y m : Identifier) → Contains (cell_ids cs) m → index_of (cell_ids cs) m < index_of (cell_ids cs) y → Contains (ids_of (front_of (Some y) (keyed_cells cs))) m
-front-member [] y m c l = absurd (contains_none m c)
-front-member (a ∷ cs) y m c l =
-    elim (cases_id a.id y) [
-      | inl d ↦ absurd (omega (arith, l, index_of-here a.id (cell_ids cs) y (sym d)))
-      | inr n ↦
-          subst (λ b. Contains (ids_of (if b then [] else record { id = a.id; key = a.key } ∷ front_of (Some y) (keyed_cells cs))) m) (sym (ne-id_eq a.id y n))
-          (elim (cases_id m a.id) [
-            | inl e ↦ subst (Contains (a.id ∷ ids_of (front_of (Some y) (keyed_cells cs)))) (sym e) (contains_here a.id (ids_of (front_of (Some y) (keyed_cells cs))))
-            | inr o ↦
-                let j : Contains (cell_ids cs) m = elim (contains_cases a.id (cell_ids cs) m c) [ inl e ↦ absurd (o (sym e)) | inr i ↦ i ] in
-                contains_there a.id (ids_of (front_of (Some y) (keyed_cells cs))) m
-                (front-member cs y m j (omega (arith, l, index_of-there a.id (cell_ids cs) m o, index_of-there a.id (cell_ids cs) y (λ e. n (sym e)))))
-          ])
-    ]
+no-ids : (es : List Keyed) → ids_of es ≡ [] → es ≡ []
+no-ids [] e = refl
+no-ids (x ∷ es) e = cc
 
--- what stands before an origin in a list
-before-member : (cs : List Cell) (to : Option Identifier) (m : Identifier) → Contains (cell_ids cs) m → IsBefore (cell_ids cs) m to → Contains (ids_of (front_of to (keyed_cells cs))) m
-before-member cs None m c l = subst (λ t. Contains t m) (sym (ids-keyed cs)) c
-before-member cs (Some y) m c l = front-member cs y m c l
+module _ (r : Runs) (s : AreRuns r) (from to : Option Identifier) (held : HoldsOrigin (cell_ids (cells_in r)) from) (behind : HoldsOrigin (ids_of (rest_of from (keyed_cells (cells_in r)))) to) where
+  abbrev xs : List Identifier
+  xs = cell_ids (cells_in r)
 
--- behind the first one the indexes are lower by one
-shifted : (a : Identifier) (xs : List Identifier) (m : Identifier) (to : Option Identifier) → m ≢ a → IsBefore (a ∷ xs) m to → IsBefore xs m to
-shifted a xs m None o l = tt
-shifted a xs m (Some y) o l =
-    elim (cases_id y a) [
-      | inl e ↦ absurd (omega (arith, l, index_of-here a xs y e))
-      | inr n ↦ omega (arith, l, index_of-there a xs m o, index_of-there a xs y n)
-    ]
+  abbrev n : ℕ
+  n = begin_index xs from
 
--- a member that stands behind one origin and before another is between them
-behind-member : (cs : List Cell) (x : Identifier) (to : Option Identifier) (m : Identifier) → Contains (cell_ids cs) m → index_of (cell_ids cs) x < index_of (cell_ids cs) m → IsBefore (cell_ids cs) m to
-    → Contains (ids_of (front_of to (rest_of (Some x) (keyed_cells cs)))) m
-behind-member [] x to m c l b = absurd (contains_none m c)
-behind-member (a ∷ cs) x to m c l b =
-    let o : m ≢ a.id = λ e. omega (arith, l, index_of-here a.id (cell_ids cs) m e) in
-    let j : Contains (cell_ids cs) m = elim (contains_cases a.id (cell_ids cs) m c) [ inl e ↦ absurd (o (sym e)) | inr i ↦ i ] in
-    let s : IsBefore (cell_ids cs) m to = shifted a.id (cell_ids cs) m to o b in
-    elim (cases_id a.id x) [
-      | inl d ↦ subst (λ t. Contains (ids_of (front_of to (if t then keyed_cells cs else rest_of (Some x) (keyed_cells cs)))) m) (sym (eq-id_eq a.id x d)) (before-member cs to m j s)
-      | inr n ↦ subst (λ t. Contains (ids_of (front_of to (if t then keyed_cells cs else rest_of (Some x) (keyed_cells cs)))) m) (sym (ne-id_eq a.id x n))
-          (behind-member cs x to m j (omega (arith, l, index_of-there a.id (cell_ids cs) m o, index_of-there a.id (cell_ids cs) x (λ e. n (sym e)))) s)
-    ]
+  abbrev w : ℕ
+  w = end_index (drop n xs) to
 
-pub between-member : (cs : List Cell) (from to : Option Identifier) (m : Identifier) → Contains (cell_ids cs) m → IsBehind (cell_ids cs) from m → IsBefore (cell_ids cs) m to
-    → Contains (ids_of (between from to (keyed_cells cs))) m
-between-member cs None to m c l b = before-member cs to m c b
-between-member cs (Some x) to m c l b = behind-member cs x to m c l b
+  abbrev es : List Keyed
+  es = keyed_cells (cells_in r)
 
--- what stands behind an origin is in the list
-rest-member : (cs : List Cell) (x y : Identifier) → Contains (ids_of (rest_of (Some x) (keyed_cells cs))) y → Contains (cell_ids cs) y
-rest-member [] x y m = absurd (contains_none y m)
-rest-member (a ∷ cs) x y m =
-    (elim (id_eq a.id x) as (λ b. Contains (ids_of (if b then keyed_cells cs else rest_of (Some x) (keyed_cells cs))) y → Contains (a.id ∷ cell_ids cs) y) [
-      | true ↦ (λ n. contains_there a.id (cell_ids cs) y (subst (λ t. Contains t y) (ids-keyed cs) n))
-      | false ↦ (λ n. contains_there a.id (cell_ids cs) y (rest-member cs x y n))
-    ]) m
+  rest : ids_of (rest_of from es) ≡ drop n xs
+  rest = rest-drop es from ∙ ap (λ is. drop (begin_index is from) is) (keyed-ids (cells_in r))
 
-pub rest-origin : (cs : List Cell) (from to : Option Identifier) → HoldsOrigin (ids_of (rest_of from (keyed_cells cs))) to → HoldsOrigin (cell_ids cs) to
-rest-origin cs from None m = tt
-rest-origin cs None (Some y) m = subst (λ t. Contains t y) (ids-keyed cs) m
-rest-origin cs (Some x) (Some y) m = rest-member cs x y m
+  part : ids_of (between from to es) ≡ take w (drop n xs)
+  part = front-take (rest_of from es) to ∙ ap (λ is. take (end_index is to) is) rest
 
--- a cell of a run at a place is one of the cells
-pub cell-inside : (r : Runs) → AreRuns r → (run : Run) (i : ℕ) → slice_get r.rope i ≡ Some (run.id, run) → (o : ℕ) → o < run.len → Contains (cell_ids (cells_in r)) (head_behind o (first_of run)).id
-cell-inside r s run i at o l =
-    let x : Identifier = (head_behind o (first_of run)).id in
-    spot-held r s x run o (record { held = value-there r s i run.id run at; inside = l; is = refl })
+  inside : HoldsOrigin (drop n xs) to
+  inside = subst (λ is. HoldsOrigin is to) rest behind
+
+  small : n ≤ length xs
+  small = by_origin from held
+    where
+      by_origin : (o : Option Identifier) → HoldsOrigin xs o → begin_index xs o ≤ length xs
+      by_origin None h = omega arith
+      by_origin (Some x) h = omega (arith, contains-below xs x h)
+
+  apart : end_index xs to ≡ n + w
+  apart = end-behind xs s.distinct n small to inside
+
+  -- the end is held too, and is no less than the beginning
+  pub end-held : HoldsOrigin xs to
+  end-held = by_origin to inside
+    where
+      by_origin : (o : Option Identifier) → HoldsOrigin (drop n xs) o → HoldsOrigin xs o
+      by_origin None h = tt
+      by_origin (Some y) h = contains-drop n xs y h
+
+  pub in-order : n ≤ end_index xs to
+  in-order = omega (arith, apart)
+
+  none-between : end_index xs to ≤ n → between from to es ≡ []
+  none-between l = let z : w ≡ 0 = omega (arith, apart, l) in no-ids (between from to es) (part ∙ ap (λ k. take k (drop n xs)) z)
+
+  one-between : (m : Identifier) → IsWithin xs n (end_index xs to) m → Contains (ids_of (between from to es)) m
+  one-between m i = subst (λ is. Contains is m) (sym part) (within-part xs n w m i.held i.from (omega (arith, i.to, apart)))
+
+  some-between : (m : Identifier) → Contains (ids_of (between from to es)) m → between from to es ≡ [] → ⊥
+  some-between m c e = contains_none m (subst (λ t. Contains (ids_of t) m) e c)
+
+  -- a cell whose index is between theirs stands between them, and where there is no such index none does
+  module _ (low high : ℕ) (begins : low ≡ n) (ends : high ≡ end_index xs to) where
+    as_within : (m : Identifier) → IsWithin xs low high m → IsWithin xs n (end_index xs to) m
+    as_within m i = record { held = i.held; from = omega (arith, i.from, begins); to = omega (arith, i.to, ends) }
+
+    pub none-answers : (o : Option Identifier) → IfSome o (λ m. IsWithin xs low high m) → IfNone o (high ≤ low) → (IsNone o → between from to es ≡ []) × (between from to es ≡ [] → IsNone o)
+    none-answers None some none = ((λ z. none-between (omega (arith, none, begins, ends))), (λ z. refl))
+    none-answers (Some m) some none = ((λ z. absurd (cc z)), (λ z. absurd (some-between m (one-between m (as_within m some)) z)))
+
+    pub some-answers : (o : Option Identifier) → IfSome o (λ m. IsWithin xs low high m) → IfSome o (λ m. Contains (ids_of (between from to es)) m)
+    some-answers None some = tt
+    some-answers (Some m) some = one-between m (as_within m some)

@@ -1,15 +1,11 @@
-use Rattle.std.proofs.Common.{arith, subst, sym}
-use Rattle.std.specs.List.{Contains}
-use Rattle.run_store.specs.Cells.{cell_ids}
-use Rattle.run_store.specs.Runs.{cells_in}
-use Rattle.run_store.specs.declared.cell.Head.{Head}
-use Rattle.run_store.proofs.MiddleLemmas.{cell-inside}
+use Rattle.std.proofs.Common.{arith, sym}
 use Rattle.run_store.proofs.PlaceLemmas.{run-named}
+use Rattle.run_store.proofs.StandingLemmas.{in-run}
 use Rattle.run_store.proofs.run.Runs.middle_of_run.Goals as goal
 
-pub returns-then-from-to : goal.returns-then-from-to
-returns-then-from-to c =
+pub returns-then-from-to-clause-some : goal.returns-then-from-to-clause-some
+returns-then-from-to-clause-some c =
     let r = c.args.self.now in
     let run = c.in_ok-run.run' in
-    subst (λ (h : Head). Contains (cell_ids (cells_in r)) h.id) (sym c.cell_at.ensures)
-    (cell-inside r c.requires.sound run c.args.place (run-named r c.requires.sound c.args.place run (sym c.in_ok-run.ensures)) _ (omega (arith, c.min-to.ensures, c.if-from-to.true)))
+    in-run r c.requires run c.args.place _ c.args.from c.args.to c.cell_at.result c.cell_at.ensures (run-named r c.requires c.args.place run (sym c.in_ok-run.ensures))
+    (omega arith) (omega (arith, c.min-to.ensures, c.if-from-to.true)) (omega (arith, c.min-to.ensures, c.if-from-to.true))
