@@ -112,6 +112,56 @@ impl Runs {
         }
     }
 
+    /// Where the cell of this identifier is, if it is in the run directly behind the one that was used last.
+    fn find_next(&self, id: ElementId) -> Option<Spot>
+        requires { AreRuns self.now }
+        ensures { IfSome result (λ s. IsSpot self.now.rope id s.run s.offset) }
+    {
+        let key = self.rope.at_hand()?;
+        match self.rope.next_item(key) {
+            Some(next) => {
+                let offset = offset_in(next.0, next.1, id)?;
+                Some(Spot {
+                    run: *next.1,
+                    offset,
+                })
+            }
+            None => None,
+        }
+    }
+
+    /// Where the cell of this identifier is. In the run that was used last and in the one behind it this costs no
+    /// search.
+    fn find_beside(&self, id: ElementId) -> Option<Spot>
+        requires { AreRuns self.now }
+        ensures some { IfSome result (λ s. IsSpot self.now.rope id s.run s.offset) }
+        ensures none { IfNone result (Contains (cell_ids (cells_in self.now)) id → ⊥) }
+    {
+        if let Some(spot) = self.find_near(id) {
+            return Some(spot);
+        }
+        match self.find_next(id) {
+            Some(spot) => Some(spot),
+            None => self.find_by_key(id),
+        }
+    }
+
+    /// What the cell of this identifier, which is there, says of itself.
+    fn head_at(&self, id: ElementId, spot: Option<Spot>) -> Option<Head>
+        requires sound { AreRuns self.now }
+        requires some { IfSome spot (λ s. IsSpot self.now.rope id s.run s.offset) }
+        requires none { IfNone spot (Contains (cell_ids (cells_in self.now)) id → ⊥) }
+        ensures is { result ≡ option_map run_head_of (cell_of (cells_in self.now) id) }
+        ensures depths { IfSome result (λ h. h.key.depth ≤ length (cells_in self.now)) }
+        ensures forests { IfSome result (λ h. h.key.forest ≤ length (cells_in self.now)) }
+    {
+        let _ = id;
+        match spot {
+            Some(spot) => Some(cell_at(&spot.run, spot.offset)),
+            None => None,
+        }
+    }
+
     /// What the cell of this identifier says of itself.
     pub(crate) fn head(&self, id: ElementId) -> Option<Head>
         requires { AreRuns self.now }
@@ -119,9 +169,16 @@ impl Runs {
         ensures depths { IfSome result (λ h. h.key.depth ≤ length (cells_in self.now)) }
         ensures forests { IfSome result (λ h. h.key.forest ≤ length (cells_in self.now)) }
     {
-        match self.find(id) {
-            Some(spot) => Some(cell_at(&spot.run, spot.offset)),
-            None => None,
-        }
+        self.head_at(id, self.find(id))
+    }
+
+    /// The same of a cell that mostly stands near the run that was used last.
+    pub(crate) fn head_beside(&self, id: ElementId) -> Option<Head>
+        requires { AreRuns self.now }
+        ensures is { result ≡ option_map run_head_of (cell_of (cells_in self.now) id) }
+        ensures depths { IfSome result (λ h. h.key.depth ≤ length (cells_in self.now)) }
+        ensures forests { IfSome result (λ h. h.key.forest ≤ length (cells_in self.now)) }
+    {
+        self.head_at(id, self.find_beside(id))
     }
 }

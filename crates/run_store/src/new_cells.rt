@@ -40,8 +40,8 @@ fn counter_of(id: &ElementId) -> u32
 }
 
 impl Runs {
-    /// What the cell of an origin says of itself.
-    fn origin(&self, origin: &Option<ElementId>) -> Option<Head>
+    /// What the cell of a left origin says of itself.
+    fn left_origin(&self, origin: &Option<ElementId>) -> Option<Head>
         requires { AreRuns self.now }
         ensures is { result ≡ option_map run_head_of (cell_of_origin (cells_in self.now) origin.now) }
         ensures depths { IfSome result (λ h. h.key.depth ≤ length (cells_in self.now)) }
@@ -53,6 +53,19 @@ impl Runs {
         }
     }
 
+    /// The same of a right origin, which mostly stands directly behind the left one: that is at hand.
+    fn right_origin(&self, origin: &Option<ElementId>) -> Option<Head>
+        requires { AreRuns self.now }
+        ensures is { result ≡ option_map run_head_of (cell_of_origin (cells_in self.now) origin.now) }
+        ensures depths { IfSome result (λ h. h.key.depth ≤ length (cells_in self.now)) }
+        ensures forests { IfSome result (λ h. h.key.forest ≤ length (cells_in self.now)) }
+    {
+        match origin {
+            Some(id) => self.head_beside(*id),
+            None => None,
+        }
+    }
+
     /// One more than the forest of the right origin, where that has the same left origin.
     fn forest_beside(&self, left: &Option<ElementId>, right: &Option<ElementId>) -> u32
         requires sound { AreRuns self.now }
@@ -60,7 +73,7 @@ impl Runs {
         ensures is { result ≡ forest_by (cells_in self.now) left.now right.now }
         ensures small { result ≤ suc (length (cells_in self.now)) }
     {
-        match self.origin(right) {
+        match self.right_origin(right) {
             Some(beside) => {
                 if beside.left == *left {
                     beside.key.forest + 1
@@ -79,7 +92,7 @@ impl Runs {
         ensures small { result.0 ≤ length (cells_in self.now) }
         ensures shares { result.1 ≡ shares_right (cells_in self.now) left.now right.now }
     {
-        match self.origin(left) {
+        match self.left_origin(left) {
             Some(parent) => (parent.key.depth, parent.right == *right),
             None => (0, false),
         }
