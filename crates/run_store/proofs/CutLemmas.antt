@@ -181,12 +181,3 @@ module _ (r : Runs) (s : AreRuns r) (run : Run) (at : ℕ) (v : value_under run.
 
   pub cut-room : length r.rope < MOST_OPERATIONS
   cut-room = omega (arith, cut-longer, few-runs cut_runs cut-sound, s.few)
-
-  -- the run is held once the rest of it stands behind it
-  pub run-held : value_under run.id (placed_after run.id (rest_id, run_from at run) r.rope) ≡ Some run
-  run-held =
-      let p = found run.id run r.rope v in
-      let k = keys-apart r s p.front run 0 p.back p.is some in
-      ap (λ xs. value_under run.id (placed_after run.id (rest_id, run_from at run) xs)) p.is
-      ∙ ap (value_under run.id) (after-at run.id run (rest_id, run_from at run) p.front p.back k.0 k.1)
-      ∙ value-at run.id run p.front ((rest_id, run_from at run) ∷ p.back) k.0

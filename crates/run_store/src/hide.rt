@@ -101,11 +101,11 @@ impl Runs {
         ensures err { OnErr result (self.new ≡ self.old) }
     {
         let rest = run_from(run, at);
-        match self.rope.insert_after(key_of(run), key_of(&rest), rest) {
-            Ok(()) => {
-                self.rope.put(key_of(run), run_to(run, at));
-                Ok(())
-            }
+        match self
+            .rope
+            .part(key_of(run), run_to(run, at), key_of(&rest), rest)
+        {
+            Ok(()) => Ok(()),
             Err(_) => Err(NoMemory),
         }
     }
