@@ -1,16 +1,16 @@
 -- A run that is cut in two.
 use Rattle.std.proofs.Common.{◌≡◌, ◌≢◌, ℕ, ◌+◌, ◌-◌, ◌<◌, ◌^◌, false, List, [], ◌∷◌, ◌++◌, ap, append_assoc, arith, length, length-append, refl, subst, sym, take, drop, ◌∙◌}
-use Rattle.std.specs.Prelude.{None, Some, Result, OnErr, OnOk, slice_index_or}
+use Rattle.std.specs.Prelude.{Bool, None, Some, Result, OnErr, OnOk, slice_index_or}
 use Rattle.std.specs.List.{All, AllPairs}
 use Rattle.std.proofs.lemmas.List.Elements.{All-cons, All-nil}
 use Rattle.fugue_ids.specs.Identifiers.{Identifier, id_eq}
 use Rattle.fugue_ids.specs.declared.limits.TheConstants.{MOST_OPERATIONS}
 use Rattle.fugue_ids.proofs.IdentifierLemmas.{ne-id_eq}
-use Rattle.node_rope.specs.Beside.{placed_after, put_under}
+use Rattle.node_rope.specs.Beside.{put_under}
 use Rattle.node_rope.specs.Items.{value_under}
 use Rattle.run_store.specs.Cells.{cell_ids}
 use Rattle.run_store.specs.Heads.{head_behind, typed_cells}
-use Rattle.run_store.specs.Runs.{AreRuns, IsRun, all_cells, cells_in, cells_of, first_of, parted, run_from, run_to}
+use Rattle.run_store.specs.Runs.{AreRuns, IsRun, all_cells, cells_in, cells_of, first_of, parted, parted_as, run_from, run_to}
 use Rattle.run_store.specs.Stored.{IsRaised}
 use Rattle.run_store.specs.declared.run.Run.{Run}
 use Rattle.run_store.specs.declared.run.Runs.{Runs}
@@ -32,7 +32,6 @@ pub record IsCut {T E : Type 0} (res : Result T E) (run : Run) (at : ℕ) (old n
   pub sound : AreRuns new
   pub cells : cells_in new ≡ cells_in old
   pub front : OnOk res (value_under run.id new.rope ≡ Some (run_to at run))
-  pub rest : OnOk res (value_under (head_behind at (first_of run)).id new.rope ≡ Some (run_from at run))
   pub raised : IsRaised 1 (length old.rope) (length new.rope)
 
 -- the parts of a run
@@ -93,14 +92,17 @@ module _ (r : Runs) (s : AreRuns r) (run : Run) (at : ℕ) (v : value_under run.
       let a = keys-apart r s p.front run at p.back p.is before in
       ap (value_under rest_id) p.is ∙ value-none rest_id (p.front ++ (run.id, run) ∷ p.back) (keys-append rest_id p.front ((run.id, run) ∷ p.back) a.0 (run_other, a.1))
 
-  -- the run's items, where it stands
+  -- the run's items, where it stands, and those of two runs in its place
   module _ (front back : List Item) (is : r.rope ≡ front ++ (run.id, run) ∷ back) where
-    parted-is : parted at run r.rope ≡ front ++ (run.id, run_to at run) ∷ (rest_id, run_from at run) ∷ back
-    parted-is =
+    pair-is : (a b : Run) → id_eq b.id run.id ≡ false → parted_as run.id a b r.rope ≡ front ++ (run.id, a) ∷ (b.id, b) ∷ back
+    pair-is a b other =
         let k = keys-apart r s front run 0 back is some in
-        ap (λ xs. put_under run.id (run_to at run) (placed_after run.id (rest_id, run_from at run) xs)) is
-        ∙ ap (put_under run.id (run_to at run)) (after-at run.id run (rest_id, run_from at run) front back k.0 k.1)
-        ∙ put-at run.id run (run_to at run) front ((rest_id, run_from at run) ∷ back) k.0 (rest_other, k.1)
+        ap (parted_as run.id a b) is
+        ∙ ap (put_under run.id a) (after-at run.id run (b.id, b) front back k.0 k.1)
+        ∙ put-at run.id run a front ((b.id, b) ∷ back) k.0 (other, k.1)
+
+    parted-is : parted at run r.rope ≡ front ++ (run.id, run_to at run) ∷ (rest_id, run_from at run) ∷ back
+    parted-is = pair-is (run_to at run) (run_from at run) rest_other
 
   front-run : IsRun r.letters r.count (run.id, run_to at run)
   front-run = front-part r.letters r.count run at this behind before
@@ -174,10 +176,37 @@ module _ (r : Runs) (s : AreRuns r) (run : Run) (at : ℕ) (v : value_under run.
     sound = either AreRuns res cut_runs r now ok err cut-sound s;
     cells = either (λ (n : Runs). cells_in n ≡ cells_in r) res cut_runs r now ok err cut-cells refl;
     front = where-ok (λ (n : Runs). value_under run.id n.rope ≡ Some (run_to at run)) res cut_runs now ok front-held;
-    rest = where-ok (λ (n : Runs). value_under rest_id n.rope ≡ Some (run_from at run)) res cut_runs now ok back-held;
     raised = either (λ (n : Runs). IsRaised 1 (length r.rope) (length n.rope)) res cut_runs r now ok err
         (one-raised (length r.rope) (length cut_rope) cut-longer) (kept-raised 1 (length r.rope));
   }
 
   pub cut-room : length r.rope < MOST_OPERATIONS
   cut-room = omega (arith, cut-longer, few-runs cut_runs cut-sound, s.few)
+
+  -- another mark for one of the parts
+  module _ (m : Bool) where
+    abbrev pub front_marked : Run
+    front_marked = record (run_to at run) { hidden = m }
+
+    abbrev pub rest_marked : Run
+    rest_marked = record (run_from at run) { hidden = m }
+
+    pub front-marked : parted_as run.id front_marked (run_from at run) r.rope ≡ put_under run.id front_marked cut_rope
+    front-marked =
+        let p = found run.id run r.rope v in
+        let k = keys-apart r s p.front run 0 p.back p.is some in
+        pair-is p.front p.back p.is front_marked (run_from at run) rest_other
+        ∙ sym (ap (put_under run.id front_marked) (parted-is p.front p.back p.is)
+        ∙ put-at run.id (run_to at run) front_marked p.front ((rest_id, run_from at run) ∷ p.back) k.0 (rest_other, k.1))
+
+    pub rest-marked : parted_as run.id (run_to at run) rest_marked r.rope ≡ put_under rest_id rest_marked cut_rope
+    rest-marked =
+        let p = found run.id run r.rope v in
+        let a = keys-apart r s p.front run at p.back p.is before in
+        let new : Item = (run.id, run_to at run) in
+        let old_rest : Item = (rest_id, run_from at run) in
+        let new_rest : Item = (rest_id, rest_marked) in
+        pair-is p.front p.back p.is (run_to at run) rest_marked rest_other
+        ∙ sym (append_assoc p.front (new ∷ []) (new_rest ∷ p.back))
+        ∙ sym (ap (put_under rest_id rest_marked) (parted-is p.front p.back p.is ∙ sym (append_assoc p.front (new ∷ []) (old_rest ∷ p.back)))
+        ∙ put-at rest_id (run_from at run) rest_marked (p.front ++ new ∷ []) p.back (keys-append rest_id p.front (new ∷ []) a.0 (run_other, tt)) a.1)

@@ -1,6 +1,6 @@
 -- A cell that is hidden, in a run of its own.
-use Rattle.std.proofs.Common.{◌≡◌, ◌≢◌, ℕ, suc, true, false, List, [], ◌∷◌, ◌++◌, ap, arith, length, refl, subst, sym, drop, ◌∙◌}
-use Rattle.std.specs.Prelude.{Bool, Some, cond, if◌then◌else◌, map}
+use Rattle.std.proofs.Common.{◌≡◌, ◌≢◌, ◌<◌, ℕ, suc, true, false, List, [], ◌∷◌, ◌++◌, ap, arith, length, refl, subst, sym, drop, ◌∙◌}
+use Rattle.std.specs.Prelude.{Bool, OnErr, OnOk, Result, Some, cond, if◌then◌else◌, map}
 use Rattle.std.specs.List.{All, AllPairs}
 use Rattle.std.proofs.lemmas.List.{length-map}
 use Rattle.std.proofs.lemmas.List.Elements.{All-cons, All-nil}
@@ -8,12 +8,16 @@ use Rattle.fugue_ids.specs.Identifiers.{Identifier, id_eq}
 use Rattle.node_rope.specs.Beside.{put_under}
 use Rattle.node_rope.specs.Items.{value_under}
 use Rattle.run_store.specs.Cells.{cell_hiding, cell_ids, is_hidden_cell}
+use Rattle.run_store.specs.Changes.{HidesOne, MakesCells}
 use Rattle.run_store.specs.Heads.{head_behind, typed_cells}
-use Rattle.run_store.specs.Runs.{AreLetters, AreRuns, IsRun, IsSpot, all_cells, cells_in, first_of, letters_of}
+use Rattle.run_store.specs.Runs.{AreLetters, AreRuns, IsRun, IsSpot, all_cells, cells_in, first_of, letters_of, parted}
+use Rattle.run_store.specs.Stored.{IsRaised}
 use Rattle.run_store.specs.declared.cell.Cell.{Cell}
 use Rattle.run_store.specs.declared.run.Run.{Run}
 use Rattle.run_store.specs.declared.run.Runs.{Runs}
 use Rattle.run_store.proofs.CellLemmas.{hidden-at, hiding-at, others-back, others-front}
+use Rattle.run_store.proofs.CutLemmas.{cut-cells, cut-longer, cut-sound, cut_runs}
+use Rattle.run_store.proofs.EitherLemmas.{any-ok, either, kept-raised, on-ok, one-raised, raised-twice, where-err, where-ok}
 use Rattle.run_store.proofs.HeadLemmas.{behind-hidden}
 use Rattle.run_store.proofs.PartLemmas.{all-between}
 use Rattle.run_store.proofs.RopeLemmas.{found, put-at}
@@ -140,3 +144,38 @@ module _ (r : Runs) (s : AreRuns r) (run : Run) (v : value_under run.id r.rope �
 
   pub hiding-length : length hidden_runs.rope ≡ length r.rope
   hiding-length = length-map r.rope (λ (x : Item). (x.0, cond (id_eq x.0 run.id) hidden_run x.1))
+
+-- a cell that is a part of a run, hidden
+module _ (r : Runs) (s : AreRuns r) (run : Run) (at : ℕ) (v : value_under run.id r.rope ≡ Some run) (behind : 0 < at) (before : at < run.len) (part : Run)
+    (held : value_under part.id (parted at run r.rope) ≡ Some part) (one : part.len ≡ 1) where
+  abbrev cut : Runs
+  cut = cut_runs r s run at v behind before
+
+  sound : AreRuns cut
+  sound = cut-sound r s run at v behind before
+
+  pub hides-part : {T E : Type 0} (res : Result T E) (now : Runs) (rope : List Item) → rope ≡ put_under part.id (record part { hidden = true }) (parted at run r.rope)
+      → OnOk res (now ≡ record { rope = rope; letters = r.letters; count = r.count }) → OnErr res (now ≡ r) → HidesOne res r now part.id
+  hides-part res now rope e ok err =
+      let to = hidden_runs cut sound part held one in
+      let is : ◌≡◌ {A = Runs} (record { rope = rope; letters = r.letters; count = r.count }) to = λ i. record { rope = e i; letters = r.letters; count = r.count } in
+      let made = on-ok res (now ≡ record { rope = rope; letters = r.letters; count = r.count }) (now ≡ to) (λ q. q ∙ is) ok in
+      record {
+        sound = either AreRuns res to r now made err (hiding-sound cut sound part held one) s;
+        ok = where-ok (λ (n : Runs). cells_in n ≡ map (cell_hiding part.id) (cells_in r)) res to now made
+            (hiding-cells cut sound part held one ∙ ap (map (cell_hiding part.id)) (cut-cells r s run at v behind before));
+        raised = either (λ (n : Runs). IsRaised 1 (length r.rope) (length n.rope)) res to r now made err
+            (one-raised (length r.rope) (length to.rope) (hiding-length cut sound part held one ∙ cut-longer r s run at v behind before)) (kept-raised 1 (length r.rope));
+        err = err;
+      }
+
+-- by at most one run more is by at most two
+pub hides-makes : {T E : Type 0} (res : Result T E) (old cut new : Runs) (x : Identifier) → cells_in cut ≡ cells_in old → IsRaised 1 (length old.rope) (length cut.rope) → HidesOne res cut new x
+    → MakesCells res old new (map (cell_hiding x) (cells_in old))
+hides-makes res old cut new x cells more h = record {
+  sound = h.sound;
+  ok = on-ok res (cells_in new ≡ map (cell_hiding x) (cells_in cut)) (cells_in new ≡ map (cell_hiding x) (cells_in old)) (λ q. q ∙ ap (map (cell_hiding x)) cells) h.ok;
+  err = where-err (λ (n : Runs). cells_in n ≡ cells_in old) res cut new h.err cells;
+  raised = any-ok res (IsRaised 2 (length old.rope) (length new.rope)) (raised-twice 1 1 (length old.rope) (length cut.rope) (length new.rope) more h.raised);
+  refused = where-err (λ (n : Runs). IsRaised 1 (length old.rope) (length n.rope)) res cut new h.err more;
+}

@@ -73,6 +73,10 @@ run_from n r =
     let h = head_behind n (first_of r) in
     record { id = h.id; left = h.left; right = h.right; hidden = h.hidden; key = h.key; stretch = r.stretch; start = r.start + n; len = r.len - n }
 
+-- the rope with two runs in the place of one, whose key the first keeps
+abbrev pub parted_as : Identifier → Run → Run → List (Identifier × Run) → List (Identifier × Run)
+parted_as key front back rope = put_under key front (placed_after key (back.id, back) rope)
+
 -- the rope with a run parted at a place
 abbrev pub parted : ℕ → Run → List (Identifier × Run) → List (Identifier × Run)
-parted n r rope = put_under r.id (run_to n r) (placed_after r.id ((head_behind n (first_of r)).id, run_from n r) rope)
+parted n r rope = parted_as r.id (run_to n r) (run_from n r) rope

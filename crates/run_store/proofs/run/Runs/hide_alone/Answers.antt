@@ -1,28 +1,32 @@
-use Rattle.std.proofs.Common.{ap, arith, length, subst, sym, ◌∙◌, ◌≡◌}
-use Rattle.std.specs.Prelude.{map}
-use Rattle.node_rope.specs.Beside.{put_under}
+use Rattle.std.proofs.Common.{arith, length, map, refl, subst, sym}
 use Rattle.run_store.specs.Cells.{cell_hiding}
-use Rattle.run_store.specs.Runs.{AreRuns, cells_in}
-use Rattle.run_store.specs.Stored.{IsRaised}
+use Rattle.run_store.specs.Changes.{HidesOne, MakesCells}
+use Rattle.run_store.specs.Heads.{head_behind}
+use Rattle.run_store.specs.Runs.{cells_in, first_of}
 use Rattle.run_store.specs.declared.run.Run.{Run}
-use Rattle.run_store.specs.declared.run.Runs.{Runs}
-use Rattle.run_store.proofs.HideLemmas.{hidden_runs, hiding-cells, hiding-length, hiding-sound}
+use Rattle.run_store.proofs.EitherLemmas.{kept-raised}
+use Rattle.run_store.proofs.HideLemmas.{hides-makes}
+use Rattle.run_store.proofs.RunsLemmas.{kept-run}
 use Rattle.run_store.proofs.run.Runs.hide_alone.Goals as goal
+
+pub overflow_add-end : goal.overflow_add-end
+overflow_add-end c =
+    let r = c.args.spot.now.run in
+    let x = kept-run c.args.self.now c.requires.sound r.id r c.requires.held in
+    omega (arith, c.requires.inside, x.depths, x.deep, c.requires.sound.few)
+
+pub returns-then-spot-gt1 : goal.returns-then-spot-gt1
+returns-then-spot-gt1 c =
+    let r = c.args.self.now in
+    let run = c.args.spot.now.run in
+    subst (λ n. MakesCells c.hide_first.result r c.hide_first.new.self (map (cell_hiding (head_behind n (first_of run)).id) (cells_in r))) (sym c.if-spot-eq0.true)
+    (hides-makes c.hide_first.result r r c.hide_first.new.self run.id refl (kept-raised 1 (length r.rope)) c.hide_first.ensures)
 
 pub returns : goal.returns
 returns c =
-    let e = c.in_ok-run.ensures in
-    let run = c.in_ok-run.run' in
-    let one : run.len ≡ 1 = ap (λ (z : Run). z.len) e.alone ∙ omega arith in
-    let named = ap (λ (z : Run). z.id) e.alone in
-    let now = hidden_runs c.isolate.new.self e.sound run e.held one in
-    let put : c.put.new.self ≡ now.rope = c.put.ensures.put ∙ (λ i. put_under (c.key_of.ensures i) (c.hidden.ensures i) c.isolate.new.self.rope) in
-    let is : ◌≡◌ {A = Runs} (record { rope = c.put.new.self; letters = c.isolate.new.self.letters; count = c.isolate.new.self.count }) now =
-    λ i. record { rope = put i; letters = c.isolate.new.self.letters; count = c.isolate.new.self.count } in
-    record {
-      sound = subst AreRuns (sym is) (hiding-sound c.isolate.new.self e.sound run e.held one);
-      ok = ap cells_in is ∙ hiding-cells c.isolate.new.self e.sound run e.held one ∙ (λ i. map (cell_hiding (named i)) (e.cells i));
-      err = tt;
-      raised = subst (IsRaised 2 (length c.args.self.now.rope)) (sym (hiding-length c.isolate.new.self e.sound run e.held one) ∙ sym (ap length put)) e.ok;
-      refused = tt;
-    }
+    let r = c.args.self.now in
+    let run = c.args.spot.now.run in
+    let o = c.args.spot.now.offset in
+    let cut = c.in_ok-cut_behind.ensures in
+    hides-makes c.hide_last.result r c.cut_behind.new.self c.hide_last.new.self (head_behind o (first_of run)).id cut.cells cut.raised
+    (subst (λ (z : Run). HidesOne c.hide_last.result c.cut_behind.new.self c.hide_last.new.self (head_behind o (first_of z)).id) c.run_to.ensures c.hide_last.ensures)
