@@ -91,7 +91,7 @@ impl RunStore {
         ensures none { ((Contains (cell_ids self.now.cells) a → ⊥) ⊎ (Contains (cell_ids self.now.cells) b → ⊥))
             → result ≡ false }
     {
-        self.holds(a) && self.holds(b) && self.runs.earlier(a, b)
+        self.runs.is_before(a, b)
     }
 
     /// Where that cell is.

@@ -114,7 +114,7 @@ impl OrderOf for RunStore {
     ghost listed = { λ store. keyed_cells store.cells };
 
     fn earlier(&self, a: ElementId, b: ElementId) -> bool {
-        self.runs.earlier(a, b)
+        self.runs.is_before(a, b)
     }
 
     fn key(&self, id: ElementId) -> Key {

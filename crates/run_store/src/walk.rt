@@ -1,20 +1,16 @@
 // From a cell to its neighbours, and which of two stands before the other.
-ghost use Rattle.std.specs.Prelude.{◌≡◌, ◌≤◌, ◌&&◌, ◌||◌, Contains, length, nat_eq, nat_lt, take};
+ghost use Rattle.std.specs.Prelude.{◌≡◌, ◌≤◌, ◌⊎◌, Contains, Some, false, length, nat_lt, take};
+ghost use Rattle.fugue_ids.specs.Identifiers.{Identifier};
 ghost use Rattle.fugue_ids.specs.Keys.{first_id, front_of, last_id, rest_of};
 ghost use Rattle.fugue_ids.specs.Listed.{HoldsOrigin, index_of};
+ghost use Rattle.node_rope.specs.Items.{value_under};
 ghost use Rattle.run_store.specs.Cells.{cell_ids, keyed_cells};
-ghost use Rattle.run_store.specs.Runs.{AreRuns, all_cells, cells_in};
+ghost use Rattle.run_store.specs.Runs.{AreRuns, IsSpot, all_cells, cells_in};
 
+use crate::find::Spot;
 use crate::parts::cell_at;
 use crate::run::Runs;
 use fugue_ids::ElementId;
-
-/// Whether a place of a run comes before another one.
-fn stands_before(place: usize, offset: u32, other: usize, other_offset: u32) -> bool
-    ensures { result ≡ (nat_lt place other || (nat_eq place other && nat_lt offset other_offset)) }
-{
-    place < other || (place == other && offset < other_offset)
-}
 
 impl Runs {
     /// The cell behind this one.
@@ -80,21 +76,37 @@ impl Runs {
         }
     }
 
-    /// Whether a stands before b.
-    pub(crate) fn earlier(&self, a: ElementId, b: ElementId) -> bool
+    /// Whether the cell at a spot stands before that at another. Within a run their offsets tell.
+    fn stands_before(&self, x: &Spot, y: &Spot) -> bool
         requires sound { AreRuns self.now }
-        requires first { Contains (cell_ids (cells_in self.now)) a }
-        requires second { Contains (cell_ids (cells_in self.now)) b }
-        ensures { result ≡ nat_lt (index_of (cell_ids (cells_in self.now)) a)
+        requires first { value_under x.now.run.id self.now.rope ≡ Some x.now.run }
+        requires second { value_under y.now.run.id self.now.rope ≡ Some y.now.run }
+        ensures { (a b : Identifier) → IsSpot self.now.rope a x.now.run x.now.offset
+            → IsSpot self.now.rope b y.now.run y.now.offset
+            → result ≡ nat_lt (index_of (cell_ids (cells_in self.now)) a)
             (index_of (cell_ids (cells_in self.now)) b) }
     {
-        match (self.find(a), self.find(b)) {
-            (Some(x), Some(y)) => {
-                let place = self.place_of(&x.run);
-                let other = self.place_of(&y.run);
-                stands_before(place, x.offset, other, y.offset)
-            }
-            _ => false,
+        if x.run.id == y.run.id {
+            return x.offset < y.offset;
         }
+        self.place_of(&x.run) < self.place_of(&y.run)
+    }
+
+    /// Whether a stands before b. Of a cell that is not held the answer is no.
+    pub(crate) fn is_before(&self, a: ElementId, b: ElementId) -> bool
+        requires { AreRuns self.now }
+        ensures both { Contains (cell_ids (cells_in self.now)) a → Contains (cell_ids (cells_in self.now)) b
+            → result ≡ nat_lt (index_of (cell_ids (cells_in self.now)) a)
+            (index_of (cell_ids (cells_in self.now)) b) }
+        ensures none { ((Contains (cell_ids (cells_in self.now)) a → ⊥)
+            ⊎ (Contains (cell_ids (cells_in self.now)) b → ⊥)) → result ≡ false }
+    {
+        let Some(x) = self.find(a) else {
+            return false;
+        };
+        let Some(y) = self.find(b) else {
+            return false;
+        };
+        self.stands_before(&x, &y)
     }
 }
