@@ -130,19 +130,43 @@ impl Runs {
         }
     }
 
-    /// Where the cell of this identifier is. In the run that was used last and in the one behind it this costs no
-    /// search.
+    /// Where the cell of this identifier is, if it is in the run that was used last or in the one behind it. This costs
+    /// no search.
+    fn find_close(&self, id: ElementId) -> Option<Spot>
+        requires { AreRuns self.now }
+        ensures { IfSome result (λ s. IsSpot self.now.rope id s.run s.offset) }
+    {
+        match self.find_near(id) {
+            Some(spot) => Some(spot),
+            None => self.find_next(id),
+        }
+    }
+
+    /// Where the cell of this identifier is, which is looked for close to the run that was used last first.
     fn find_beside(&self, id: ElementId) -> Option<Spot>
         requires { AreRuns self.now }
         ensures some { IfSome result (λ s. IsSpot self.now.rope id s.run s.offset) }
         ensures none { IfNone result (Contains (cell_ids (cells_in self.now)) id → ⊥) }
     {
-        if let Some(spot) = self.find_near(id) {
-            return Some(spot);
-        }
-        match self.find_next(id) {
+        match self.find_close(id) {
             Some(spot) => Some(spot),
             None => self.find_by_key(id),
+        }
+    }
+
+    /// The same for a cell that is to be changed: if it is not close, its run is at hand from now on.
+    pub(crate) fn reach(&mut self, id: ElementId) -> Option<Spot>
+        requires { AreRuns self.old }
+        ensures some { IfSome result (λ s. IsSpot self.old.rope id s.run s.offset) }
+        ensures none { IfNone result (Contains (cell_ids (cells_in self.old)) id → ⊥) }
+        ensures same { self.new ≡ self.old }
+    {
+        match self.find_close(id) {
+            Some(spot) => Some(spot),
+            None => {
+                self.rope.keep_at_hand(id);
+                self.find(id)
+            }
         }
     }
 

@@ -84,7 +84,7 @@ impl Runs {
         ensures makes { MakesCells result self.old self.new (map (cell_hiding id) (cells_in self.old)) }
         ensures again { hidden_in (cells_in self.old) id ≡ true → self.new ≡ self.old }
     {
-        let spot = match self.find(id) {
+        let spot = match self.reach(id) {
             Some(spot) => spot,
             None => unreachable!(),
         };

@@ -1,17 +1,23 @@
-use Rattle.std.proofs.Common.{length, sym, ◌∙◌}
+use Rattle.std.proofs.Common.{ap, length, subst, sym, ◌∙◌}
 use Rattle.std.proofs.lemmas.Bool.{true≢false}
+use Rattle.run_store.specs.Runs.{AreRuns, cells_in}
+use Rattle.run_store.specs.Stored.{IsRaised}
+use Rattle.run_store.specs.declared.run.Runs.{Runs}
 use Rattle.run_store.proofs.EitherLemmas.{kept-raised}
 use Rattle.run_store.proofs.HideLemmas.{hidden-again, spot-hidden}
 use Rattle.run_store.proofs.run.Runs.hide.Goals as goal
 
 pub returns-then-spot-clause-makes : goal.returns-then-spot-clause-makes
-returns-then-spot-clause-makes c = record {
-  sound = c.requires.sound;
-  ok = hidden-again c.args.self.now c.requires.sound c.args.id c.in-Some.spot.run c.in-Some.spot.offset c.in-Some.ensures.some c.if-spot.true;
-  err = tt;
-  raised = kept-raised 2 (length c.args.self.now.rope);
-  refused = tt;
-}
+returns-then-spot-clause-makes c =
+    let r = c.args.self.now in
+    let same = c.reach.ensures.same in
+    record {
+      sound = subst AreRuns (sym same) c.requires.sound;
+      ok = ap cells_in same ∙ hidden-again r c.requires.sound c.args.id c.in-Some.spot.run c.in-Some.spot.offset c.in-Some.ensures.some c.if-spot.true;
+      err = tt;
+      raised = subst (λ (n : Runs). IsRaised 2 (length r.rope) (length n.rope)) (sym same) (kept-raised 2 (length r.rope));
+      refused = tt;
+    }
 
 pub returns-clause-again : goal.returns-clause-again
 returns-clause-again c h =
