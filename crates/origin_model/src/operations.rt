@@ -5,6 +5,7 @@ pub(crate) mod lookup;
 pub(crate) mod named;
 pub(crate) mod names;
 mod node;
+pub(crate) mod roles;
 
 use fugue_ids::{ElementId, Op};
 pub use lookup::Lookup;

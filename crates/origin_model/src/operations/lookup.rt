@@ -1,11 +1,13 @@
 //! Look-ups in accepted operations, and how a slice is searched, the newest operation of which is last.
 
-ghost use Rattle.std.specs.Prelude.{◌≡◌, List, reverse, option_copied};
+ghost use Rattle.std.specs.Prelude.{◌≡◌, List, reverse, option_copied, option_map};
 ghost use Rattle.fugue_ids.specs.declared.op.Op.{Op as AnyOp};
 ghost use Rattle.fugue_ids.specs.declared.op.Op.TheVariants.{Delete};
 ghost use Rattle.origin_model.specs.operations.History.{has_op, holder as holder_in};
-ghost use Rattle.origin_model.specs.operations.Verdict.{Lawful};
+ghost use Rattle.origin_model.specs.operations.Verdict.{fits as fits_role, Lawful};
 
+use crate::Role;
+use crate::operations::roles::fits;
 use fugue_ids::{ElementId, Op};
 
 /// Accepted operations in which others are looked up.
@@ -21,6 +23,17 @@ pub trait Lookup {
     /// Whether a Delete of this target is there.
     fn has_delete(&self, target: ElementId) -> bool
         ensures { result ≡ has_op (history self.now) (Delete target) };
+
+    /// Whether the operation with this identifier fits the role: None where there is none. Those who know where an
+    /// element stands need not read the operation.
+    fn fits(&self, id: ElementId, role: Role) -> Option<bool>
+        ensures { result ≡ option_map (fits_role role) (holder_in (history self.now) id) }
+    {
+        match self.holder(id) {
+            Some(op) => Some(fits(role, op)),
+            None => None,
+        }
+    }
 }
 
 /// Whether an equal operation is among them.

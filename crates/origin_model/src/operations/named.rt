@@ -2,14 +2,13 @@
 ghost use Rattle.std.specs.Prelude.{◌≡◌, ◌∷◌, [], true, None};
 ghost use Rattle.fugue_ids.specs.Ops.{id_of, op_eq};
 ghost use Rattle.origin_model.specs.operations.History.{has_op};
-ghost use Rattle.origin_model.specs.operations.Verdict.{names, fits as fits_role, first_stray, first_missing, found_as};
+ghost use Rattle.origin_model.specs.operations.Verdict.{names, first_stray, first_missing, found_as};
 ghost use Rattle.origin_model.specs.operations.Verdict.{id_held, verdict as verdict_on};
 ghost use Rattle.std.specs.Option.{option_or};
 
-use crate::operations::element::stands_at;
+use crate::Verdict;
 use crate::operations::lookup::Lookup;
 use crate::operations::names::{Named, names_of};
-use crate::{Place, Role, Verdict};
 use fugue_ids::{ElementId, Op, OpKey};
 
 /// What is wrong with names: the first that is held and does not fit, and the first that is not held.
@@ -52,25 +51,15 @@ pub enum Found {
     Absent,
 }
 
-fn fits(role: Role, op: &Op) -> bool
-    ensures { result ≡ fits_role role op.now }
-{
-    match role {
-        Role::Any => true,
-        Role::Section => stands_at(op, &Place::Catalogue),
-        Role::TextOf(section) => stands_at(op, &Place::Section(section)),
-    }
-}
-
 /// What is wrong with one name, by one look-up.
 fn faults_of<L: Lookup>(lookup: &L, named: &Named) -> NameFaults
     ensures stray { result.stray ≡ first_stray (L.history lookup.now) (named.now ∷ []) }
     ensures missing { result.missing ≡ first_missing (L.history lookup.now) (named.now ∷ []) }
 {
     let (id, role) = *named;
-    match lookup.holder(id) {
-        Some(op) => {
-            if fits(role, op) {
+    match lookup.fits(id, role) {
+        Some(fits) => {
+            if fits {
                 NameFaults::none()
             } else {
                 NameFaults {
