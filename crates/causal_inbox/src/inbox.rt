@@ -85,6 +85,7 @@ impl Inbox {
         }
     }
 
+    /// What waits already of the operation. Where nothing waits this is one comparison.
     pub fn find(&self, op: &Op) -> Found
         ensures same { (result ≡ Found.Same) ↔ (has_op self.now.ops op.now ≡ true) }
         ensures clash { (result ≡ Found.Clash)
@@ -92,6 +93,9 @@ impl Inbox {
         ensures absent { (result ≡ Found.Absent)
             ↔ ((has_op self.now.ops op.now ≡ false) × (id_held self.now.ops (id_of op.now) ≡ false)) }
     {
+        if self.ops.len() == 0 {
+            return Found::Absent;
+        }
         if self.index.has_equal(self.ops.as_slice(), op) {
             Found::Same
         } else if self.index.has_id(self.ops.as_slice(), op.id()) {
