@@ -1,13 +1,13 @@
 -- What is found in stretches.
 use Rattle.std.proofs.Common.{[], List, ap, arith, inl, inr, refl, subst, suc, sym, zero, ℕ, ◌++◌, ◌+◌, ◌-◌, ◌<◌, ◌∙◌, ◌∷◌, ◌≡◌, ◌≢◌, ◌≤◌, ◌⊎◌, cond, nat_eq}
-use Rattle.std.specs.Prelude.{IfSome, None, Option, Some}
+use Rattle.std.specs.Prelude.{None, Option, Some}
 use Rattle.std.specs.BTreeMap.{is_at}
 use Rattle.std.specs.FinMap.{find}
 use Rattle.std.specs.List.{Contains}
-use Rattle.std.specs.Cmp.{eq_by_cmp_equiv}
+use Rattle.std.specs.Cmp.{eq_by_cmp_equiv, nat_cmp_total}
 use Rattle.std.specs.List.Sorted.{IsStrictlySortedBy}
 use Rattle.std.specs.Map.{keys_of, lookup}
-use Rattle.std.specs.Ordering.{is_eq}
+use Rattle.std.specs.Ordering.{is_eq, nat_cmp}
 use Rattle.std.proofs.lemmas.Bool.{cases_Bool, eq-eqb, eqb-true, true≢false}
 use Rattle.std.proofs.lemmas.Map.Views.{lookup-from_Contains}
 use Rattle.std.proofs.lemmas.Map.Keys.{IsDistinct-from_sorted}
@@ -15,10 +15,10 @@ use Rattle.fugue_ids.proofs.ListLemmas.{contains_cases, contains_here, contains_
 use Rattle.fugue_ids.specs.Identifiers.{Identifier, id_cmp}
 use Rattle.fugue_ids.proofs.IdentifierLemmas.{cases_id, id_at-other, id_at-same}
 use Rattle.stretch_map.specs.Ahead.{ahead}
-use Rattle.stretch_map.specs.Contents.{Entry, Layout, entries_with, run, spread, value_in}
-use Rattle.stretch_map.specs.Stretches.{AreStretches, Covers, Has, IsReadIn, KeepsEntry, kept_at}
+use Rattle.stretch_map.specs.Contents.{Entry, Latest, Layout, entries_with, run, spread, value_in}
+use Rattle.stretch_map.specs.Stretches.{AreStretches, Covers, Has, IsLaid, IsLatest, IsReadIn, KeepsEntry, kept_at, latest_at}
 use Rattle.stretch_map.specs.declared.stretches.Stretch.{Stretch}
-use Rattle.stretch_map.proofs.OrderLemmas.{id_cmp_total}
+use Rattle.stretch_map.proofs.OrderLemmas.{id_cmp_total, nat_at-other, nat_at-same}
 
 -- what is found where the first entry is the one that is looked for
 find-own : {V : Type 0} (q k : Identifier) (v : V) (es : List (Identifier × V)) → k ≡ q → find id_cmp q ((k, v) ∷ es) ≡ Some v
@@ -117,36 +117,89 @@ in_kept es ordered e i = lookup-from_Contains (eq_by_cmp_equiv id_cmp_total) e.0
 pub same_kept : {V : Type 0} (es : List (Entry V)) (e f : Entry V) → KeepsEntry es e → KeepsEntry es f → e.0 ≡ f.0 → e.1 ≡ f.1
 same_kept es e f k l d = let both : Some e.1 ≡ Some f.1 = sym k ∙ ap (kept_at es) d ∙ l in cc
 
+-- a replica has one last stretch
+pub same_latest : {V : Type 0} (ls : List (ℕ × Latest V)) (e f : Entry V) → IsLatest ls e → IsLatest ls f → e.0.replica ≡ f.0.replica → e ≡ f
+same_latest {V} ls e f k l d =
+    let a : Latest V = (e.0.counter, e.1) in
+    let b : Latest V = (f.0.counter, f.1) in
+    let both : Some a ≡ Some b = sym k ∙ ap (latest_at ls) d ∙ l in
+    let same : a ≡ b = cc in
+    λ i. (record { replica = d i; counter = (same i).0 }, (same i).1)
+
+-- a last stretch is not kept
+pub not_both : {V : Type 0} (l : Layout V) → IsLaid l → (x y : Entry V) → IsLatest l.0 x → KeepsEntry l.1 y → y.0 ≢ x.0
+not_both l laid x y a b d =
+    let r : y.0.replica ≡ x.0.replica = ap (λ (z : Identifier). z.replica) d in
+    let c : y.0.counter ≡ x.0.counter = ap (λ (z : Identifier). z.counter) d in
+    let less : y.0.counter < x.0.counter = laid.before x y a b r in
+    omega arith
+
 -- one stretch has a first identifier
 pub same_has : {V : Type 0} (reaches : Identifier → V → ℕ → Type 0) (l : Layout V) → AreStretches reaches l → (e f : Entry V) → Has l e → Has l f → e.0 ≡ f.0 → e.1 ≡ f.1
 same_has {V} reaches l are e f h k d =
     elim h [
       | inl a ↦
           elim k [
-            | inl b ↦ let both : Some e ≡ Some f = sym a ∙ b in let same : e ≡ f = cc in ap (λ (x : Entry V). x.1) same
-            | inr b ↦ absurd (not_both e f a b d)
+            | inl b ↦ ap (λ (x : Entry V). x.1) (same_latest l.0 e f a b (ap (λ (x : Identifier). x.replica) d))
+            | inr b ↦ absurd (not_both l are.laid e f a b (sym d))
           ]
       | inr a ↦
           elim k [
-            | inl b ↦ absurd (not_both f e b a (sym d))
+            | inl b ↦ absurd (not_both l are.laid f e b a d)
             | inr b ↦ same_kept l.1 e f a b d
           ]
     ]
-  where
-    not_both : (x y : Entry V) → l.0 ≡ Some x → KeepsEntry l.1 y → x.0 ≡ y.0 → ⊥
-    not_both x y a b d =
-        let none : kept_at l.1 x.0 ≡ None = subst (λ (o : Option (Entry V)). IfSome o (λ z. kept_at l.1 z.0 ≡ None)) a are.alone in
-        let both : None ≡ Some y.1 = sym none ∙ ap (kept_at l.1) d ∙ b in
-        cc
+
+-- what a look-up of a replica finds is a member
+latest_in : {V : Type 0} (r : ℕ) (x : Latest V) (ls : List (ℕ × Latest V)) → latest_at ls r ≡ Some x → Contains ls (r, x)
+latest_in r x [] e = absurd (cc e)
+latest_in r x (y ∷ ys) e =
+    elim (cases_number y.0 r) [
+      | inl d ↦
+          let here : Some y.1 ≡ Some x = sym (ap (λ b. cond b (Some y.1) (latest_at ys r)) (ap (λ z. is_eq (nat_cmp r z)) d ∙ nat_at-same r)) ∙ e in
+          let same : y.1 ≡ x = cc in
+          subst (Contains (y ∷ ys)) (λ i. (d i, same i)) (contains_here y ys)
+      | inr n ↦ contains_there y ys (r, x) (latest_in r x ys (sym (ap (λ b. cond b (Some y.1) (latest_at ys r)) (nat_at-other r y.0 n)) ∙ e))
+    ]
+
+-- a member is found by a look-up of its replica
+in_latest : {V : Type 0} (ls : List (ℕ × Latest V)) → IsStrictlySortedBy nat_cmp (keys_of ls) → (r : ℕ) (x : Latest V) → Contains ls (r, x) → latest_at ls r ≡ Some x
+in_latest ls ordered r x i = lookup-from_Contains (eq_by_cmp_equiv nat_cmp_total) r x ls (IsDistinct-from_sorted nat_cmp (keys_of ls) ordered) i
+
+-- a member of all stretches is a last one or a kept one
+parts : {V : Type 0} (ls : List (ℕ × Latest V)) (es : List (Entry V)) (e : Entry V) → Contains (entries_with ls es) e → Contains ls (e.0.replica, (e.0.counter, e.1)) ⊎ Contains es e
+parts [] es e i = inr i
+parts {V} (x ∷ xs) es e i =
+    elim (contains_cases (record { replica = x.0; counter = x.1.0 }, x.1.1) (entries_with xs es) e i) [
+      | inl d ↦ inl (subst (Contains (x ∷ xs)) (ap (λ (z : Entry V). (z.0.replica, (z.0.counter, z.1))) d) (contains_here x xs))
+      | inr k ↦ elim (parts xs es e k) [ inl h ↦ inl (contains_there x xs _ h) | inr h ↦ inr h ]
+    ]
+
+-- and each of these is a member of all
+kept_part : {V : Type 0} (ls : List (ℕ × Latest V)) (es : List (Entry V)) (e : Entry V) → Contains es e → Contains (entries_with ls es) e
+kept_part [] es e i = i
+kept_part (x ∷ xs) es e i = contains_there (record { replica = x.0; counter = x.1.0 }, x.1.1) (entries_with xs es) e (kept_part xs es e i)
+
+latest_part : {V : Type 0} (ls : List (ℕ × Latest V)) (es : List (Entry V)) (e : Entry V) → Contains ls (e.0.replica, (e.0.counter, e.1)) → Contains (entries_with ls es) e
+latest_part [] es e i = absurd (contains_none _ i)
+latest_part {V} (x ∷ xs) es e i =
+    let f : Entry V = (record { replica = x.0; counter = x.1.0 }, x.1.1) in
+    elim (contains_cases x xs (e.0.replica, (e.0.counter, e.1)) i) [
+      | inl d ↦ subst (Contains (f ∷ entries_with xs es)) (λ j. (record { replica = (d j).0; counter = (d j).1.0 }, (d j).1.1)) (contains_here f (entries_with xs es))
+      | inr k ↦ contains_there f (entries_with xs es) e (latest_part xs es e k)
+    ]
 
 -- a member of all stretches is one of them
-has_from_in : {V : Type 0} (o : Option (Entry V)) (es : List (Entry V)) → IsStrictlySortedBy id_cmp (keys_of es) → (e : Entry V) → Contains (entries_with o es) e → Has (o, es) e
-has_from_in None es ordered e i = inr (in_kept es ordered e i)
-has_from_in (Some r) es ordered e i = elim (contains_cases r es e i) [ inl d ↦ inl (ap Some d) | inr k ↦ inr (in_kept es ordered e k) ]
+has_from_in : {V : Type 0} (l : Layout V) → IsLaid l → (e : Entry V) → Contains (entries_with l.0 l.1) e → Has l e
+has_from_in l laid e i =
+    elim (parts l.0 l.1 e i) [ inl h ↦ inl (in_latest l.0 laid.latest e.0.replica (e.0.counter, e.1) h) | inr h ↦ inr (in_kept l.1 laid.kept e h) ]
 
-in_from_has : {V : Type 0} (o : Option (Entry V)) (es : List (Entry V)) (e : Entry V) → Has (o, es) e → Contains (entries_with o es) e
-in_from_has None es e h = elim h [ inl a ↦ absurd (let no : None ≡ Some e = a in cc) | inr k ↦ kept_in e.0 e.1 es k ]
-in_from_has (Some r) es e h = elim h [ inl a ↦ let same : r ≡ e = cc in subst (Contains (r ∷ es)) same (contains_here r es) | inr k ↦ contains_there r es e (kept_in e.0 e.1 es k) ]
+in_from_has : {V : Type 0} (l : Layout V) (e : Entry V) → Has l e → Contains (entries_with l.0 l.1) e
+in_from_has l e h =
+    elim h [
+      | inl a ↦ latest_part l.0 l.1 e (latest_in e.0.replica (e.0.counter, e.1) l.0 a)
+      | inr k ↦ kept_part l.0 l.1 e (kept_in e.0 e.1 l.1 k)
+    ]
 
 module _ {V : Type 0} (nth : Identifier → V → ℕ → V) (reaches : Identifier → V → ℕ → Type 0) (l : Layout V) (are : AreStretches reaches l) where
   -- what is found is the value of a stretch
@@ -155,8 +208,8 @@ module _ {V : Type 0} (nth : Identifier → V → ℕ → V) (reaches : Identifi
       ⊎ ((e : Entry V) × Has l e × Covers e q × (value_in nth l q ≡ Some (nth e.0 e.1.value (q.counter - e.0.counter))))
   found q =
       elim (found_in nth q (entries_with l.0 l.1)) [
-        | inl w ↦ inl (w.0, λ e k c. w.1 e (in_from_has l.0 l.1 e k) c)
-        | inr w ↦ inr (w.0, has_from_in l.0 l.1 are.ordered w.0 w.1, w.2, w.3)
+        | inl w ↦ inl (w.0, λ e k c. w.1 e (in_from_has l e k) c)
+        | inr w ↦ inr (w.0, has_from_in l are.laid w.0 w.1, w.2, w.3)
       ]
 
   -- nothing is found that no stretch has

@@ -1,5 +1,5 @@
 -- The greatest counter of a replica, by the last of its stretches.
-use Rattle.std.proofs.Common.{List, [], ap, arith, inl, inr, refl, subst, sym, max, false, ℕ, ◌+◌, ◌++◌, ◌<◌, ◌^◌, ◌∙◌, ◌∷◌, ◌≡◌, ◌≤◌, ◌⊎◌}
+use Rattle.std.proofs.Common.{List, [], ap, arith, inl, inr, refl, subst, sym, false, ℕ, ◌+◌, ◌++◌, ◌<◌, ◌^◌, ◌∙◌, ◌∷◌, ◌≡◌, ◌≤◌}
 use Rattle.std.specs.Prelude.{IfNone, IfSome, None, Option, Some, is_some, option_map}
 use Rattle.std.specs.BTreeMap.{BTreeMap}
 use Rattle.std.specs.BTreeMap.Range.{IsInRange, IsRangeOf}
@@ -11,11 +11,11 @@ use Rattle.std.specs.declared.ops.Bound.TheVariants.{Excluded, Included, Unbound
 use Rattle.std.proofs.lemmas.Bool.{true≢false}
 use Rattle.std.proofs.lemmas.Bool.Decides.{nat_tests}
 use Rattle.fugue_ids.specs.Identifiers.{Identifier, id_cmp}
-use Rattle.stretch_map.specs.Contents.{Entry, Layout, value_in}
-use Rattle.stretch_map.specs.Rules.{IsGreatestIn, greater_of}
-use Rattle.stretch_map.specs.Stretches.{AreStretches, Has, IsGreatestOf, IsLastOf, KeepsEntry}
+use Rattle.stretch_map.specs.Contents.{Entry, Latest, Layout, value_in}
+use Rattle.stretch_map.specs.Rules.{IsGreatestIn}
+use Rattle.stretch_map.specs.Stretches.{AreStretches, Has, IsGreatestOf, IsLastOf, KeepsEntry, latest_at}
 use Rattle.stretch_map.specs.declared.stretches.Stretch.{Stretch}
-use Rattle.stretch_map.proofs.FoundLemmas.{cases_le, covered, found, same_kept}
+use Rattle.stretch_map.proofs.FoundLemmas.{cases_le, covered, found, same_kept, same_latest}
 
 -- the identifier of the replica with a counter
 abbrev id_at : ℕ → ℕ → Identifier
@@ -138,60 +138,44 @@ module _ {V : Type 0} (nth : Identifier → V → ℕ → V) (reaches : Identifi
         ];
       }
 
-  -- that of the stretch at hand and of the kept ones, the greater
-  pub greatest_both : (n m : ℕ) → IsGreatestOf (λ e. l.0 ≡ Some e) r (Some n) → IsGreatestOf (KeepsEntry l.1) r (Some m) → IsGreatestIn (value_in nth l) r (Some (max n m))
-  greatest_both n m a b =
-      in_all (Some (max n m)) (record {
-        none = tt;
-        some = (
-          elim (max_one n m) [
-            | inl is ↦ (a.some.0.0, inl a.some.0.1, a.some.0.2, a.some.0.3 ∙ sym is)
-            | inr is ↦ (b.some.0.0, inr b.some.0.1, b.some.0.2, b.some.0.3 ∙ sym is)
-          ],
-          λ f h mine. elim h [
-            | inl x ↦ let top : f.1.last ≤ n = a.some.1 f x mine in omega (arith, top)
-            | inr x ↦ let top : f.1.last ≤ m = b.some.1 f x mine in omega (arith, top)
-          ],
-        );
-      })
-    where
-      max_one : (n m : ℕ) → (max n m ≡ n) ⊎ (max n m ≡ m)
-      max_one n m = grind arith
-
-  pub greatest_first : (n : ℕ) → IsGreatestOf (λ e. l.0 ≡ Some e) r (Some n) → IsGreatestOf (KeepsEntry l.1) r None → IsGreatestIn (value_in nth l) r (Some n)
-  greatest_first n a b =
-      in_all (Some n) (record {
-        none = tt;
-        some = ((a.some.0.0, inl a.some.0.1, a.some.0.2, a.some.0.3), λ f h mine. elim h [ inl x ↦ a.some.1 f x mine | inr x ↦ absurd (b.none f x mine) ]);
-      })
-
-  pub greatest_other : (o : Option ℕ) → IsGreatestOf (λ e. l.0 ≡ Some e) r None → IsGreatestOf (KeepsEntry l.1) r o → IsGreatestIn (value_in nth l) r o
-  greatest_other None a b = in_all None (record { none = λ e h mine. elim h [ inl x ↦ a.none e x mine | inr x ↦ b.none e x mine ]; some = tt })
-  greatest_other (Some m) a b =
-      in_all (Some m) (record {
-        none = tt;
-        some = ((b.some.0.0, inr b.some.0.1, b.some.0.2, b.some.0.3), λ f h mine. elim h [ inl x ↦ absurd (a.none f x mine) | inr x ↦ b.some.1 f x mine ]);
-      })
-
-  -- the greater of both
-  pub greatest_all : (a b : Option ℕ) → IsGreatestOf (λ e. l.0 ≡ Some e) r a → IsGreatestOf (KeepsEntry l.1) r b → IsGreatestIn (value_in nth l) r (greater_of a b)
-  greatest_all None b x y = greatest_other b x y
-  greatest_all (Some n) None x y = greatest_first n x y
-  greatest_all (Some n) (Some m) x y = greatest_both n m x y
-
   -- the last kept stretch of the replica, if there is one
   pub greatest_by : (o : Option (Entry V)) → IfNone o ((e : Entry V) → KeepsEntry l.1 e → e.0.replica ≡ r → ⊥) → IfSome o (IsLastOf (KeepsEntry l.1) r)
       → IsGreatestOf (KeepsEntry l.1) r (option_map (λ (e : Entry V). e.1.last) o)
   greatest_by None none some = record { none = none; some = tt }
   greatest_by (Some e) none some = greatest_by_last e some
 
-  -- the stretch at hand, of the replica
-  pub greatest_at_hand : (e : Entry V) → l.0 ≡ Some e → e.0.replica ≡ r → IsGreatestOf (λ x. l.0 ≡ Some x) r (Some e.1.last)
-  greatest_at_hand e old mine =
-      record {
+  -- the last stretch of the replica has the greatest counter
+  pub greatest_by_latest : (x : Latest V) → latest_at l.0 r ≡ Some x → IsGreatestIn (value_in nth l) r (Some x.1.last)
+  greatest_by_latest x at =
+      let e : Entry V = (id_at r x.0, x.1) in
+      in_all (Some x.1.last) (record {
         none = tt;
-        some = ((e, old, mine, refl), λ f h own. let same : f ≡ e = let both : Some f ≡ Some e = sym h ∙ old in cc in let last : f.1.last ≡ e.1.last = ap (λ (x : Entry V). x.1.last) same in omega (arith, last));
-      }
+        some = (
+          (e, inl at, refl, refl),
+          λ f h mine. elim h [
+            | inl a ↦ let last : f.1.last ≡ x.1.last = ap (λ (z : Entry V). z.1.last) (same_latest l.0 f e a at mine) in omega (arith, last)
+            | inr k ↦
+                let less : f.0.counter < x.0 = are.laid.before e f at k mine in
+                let far : f.1.last < x.0 = are.apart f e (inr k) (inl at) mine less in
+                let begun : x.0 ≤ x.1.last = are.begun e (inl at) in
+                omega (arith, far, begun)
+          ],
+        );
+      })
+
+  -- without one, that of the kept stretches is the greatest
+  pub greatest_by_kept : latest_at l.0 r ≡ None → (o : Option ℕ) → IsGreatestOf (KeepsEntry l.1) r o → IsGreatestIn (value_in nth l) r o
+  greatest_by_kept none o is = in_all o (in_kept o is)
+    where
+      kept : (f : Entry V) → Has l f → f.0.replica ≡ r → KeepsEntry l.1 f
+      kept f h mine = elim h [
+        | inl a ↦ let own : Latest V = (f.0.counter, f.1) in let both : None ≡ Some own = sym none ∙ ap (latest_at l.0) (sym mine) ∙ a in absurd cc
+        | inr k ↦ k
+      ]
+
+      in_kept : (o : Option ℕ) → IsGreatestOf (KeepsEntry l.1) r o → IsGreatestOf (Has l) r o
+      in_kept None is = record { none = λ f h mine. is.none f (kept f h mine) mine; some = tt }
+      in_kept (Some n) is = record { none = tt; some = ((is.some.0.0, inr is.some.0.1, is.some.0.2, is.some.0.3), λ f h mine. is.some.1 f (kept f h mine) mine) }
 
 -- the same of another look-up of the same values
 pub greatest_as : {V : Type 0} (f g : Identifier → Option V) (r : ℕ) (o : Option ℕ) → ((q : Identifier) → f q ≡ g q) → IsGreatestIn f r o → IsGreatestIn g r o

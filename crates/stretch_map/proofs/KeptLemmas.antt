@@ -1,27 +1,243 @@
--- What changes of the map and of the stretch at hand make of all stretches.
-use Rattle.std.proofs.Common.{ap, arith, inl, inr, refl, subst, sym, ℕ, ◌∙◌, ◌≡◌, ◌≢◌, ◌≤◌, List}
-use Rattle.std.specs.Prelude.{IfSome, None, Option, Some}
+-- What changes of the kept stretches and of the last ones make of all stretches.
+use Rattle.std.proofs.Common.{ap, arith, inl, inr, refl, subst, sym, List, ℕ, ◌<◌, ◌∙◌, ◌≡◌, ◌≢◌, ◌⊎◌}
+use Rattle.std.specs.Prelude.{None, Option, Some}
 use Rattle.std.specs.BTreeMap.{BTreeMap, IsOrdered, UpdatesBy}
 use Rattle.std.specs.List.Sorted.{IsStrictlySortedBy}
 use Rattle.std.specs.Map.{keys_of}
+use Rattle.std.specs.Ordering.{nat_cmp}
 use Rattle.fugue_ids.specs.Identifiers.{Identifier, id_cmp}
 use Rattle.fugue_ids.proofs.IdentifierLemmas.{cases_id, id_at-other}
-use Rattle.stretch_map.specs.Contents.{Entry, Layout, value_in}
-use Rattle.stretch_map.specs.Stretches.{AreStretches, Has, IsSame, KeepsEntry, kept_at}
+use Rattle.stretch_map.specs.Contents.{Entry, Latest, Layout}
+use Rattle.stretch_map.specs.Stretches.{AreStretches, Has, IsLaid, IsLatest, IsSame, KeepsEntry, KeptBecomes, LatestBecomes, kept_at, latest_at}
 use Rattle.stretch_map.specs.declared.stretches.Stretch.{Stretch}
-use Rattle.stretch_map.proofs.FoundLemmas.{not_covered}
+use Rattle.stretch_map.proofs.FoundLemmas.{cases_number, not_both, same_kept, same_latest}
+use Rattle.stretch_map.proofs.LessenedLemmas.{Drops}
+use Rattle.stretch_map.proofs.OrderLemmas.{nat_at-other}
 use Rattle.stretch_map.proofs.SetLemmas.{Sets, value_stays}
+
+-- one entry of the map of kept stretches changes
+pub kept_becomes : {V : Type 0} (m n : BTreeMap Identifier (Stretch V)) (at : Identifier) (o : Option (Stretch V)) → UpdatesBy id_cmp (id_cmp at) m n o → IsOrdered id_cmp n
+    → KeptBecomes m.entries n.entries at o
+kept_becomes m n at o u ordered = record { here = u.1; others = λ q d. u.2 q (id_at-other at q d); ordered = ordered }
+
+-- one entry of the map of last stretches changes
+pub latest_becomes : {V : Type 0} (m n : BTreeMap ℕ (Latest V)) (r : ℕ) (o : Option (Latest V)) → UpdatesBy nat_cmp (nat_cmp r) m n o → IsOrdered nat_cmp n
+    → LatestBecomes m.entries n.entries r o
+latest_becomes m n r o u ordered = record { here = u.1; others = λ q d. u.2 q (nat_at-other r q d); ordered = ordered }
+
+module _ {V : Type 0} (es fs : List (Entry V)) where
+  -- a kept stretch after the change is the one that was set or was kept
+  pub kept_cases : (f : Entry V) → KeptBecomes es fs f.0 (Some f.1) → (x : Entry V) → KeepsEntry fs x → (x ≡ f) ⊎ ((x.0 ≢ f.0) × KeepsEntry es x)
+  kept_cases f becomes x h =
+      elim (cases_id x.0 f.0) [
+        | inl d ↦ let value = same_kept fs x f h becomes.here d in inl (λ i. (d i, value i))
+        | inr d ↦ inr (d, sym (becomes.others x.0 d) ∙ h)
+      ]
+
+  -- where none is left under the identifier, it was kept elsewhere
+  pub kept_left : (at : Identifier) → KeptBecomes es fs at None → (x : Entry V) → KeepsEntry fs x → (x.0 ≢ at) × KeepsEntry es x
+  kept_left at becomes x h =
+      elim (cases_id x.0 at) [
+        | inl d ↦ let both : None ≡ Some x.1 = sym becomes.here ∙ ap (kept_at fs) (sym d) ∙ h in absurd cc
+        | inr d ↦ (d, sym (becomes.others x.0 d) ∙ h)
+      ]
+
+module _ {V : Type 0} (ls ks : List (ℕ × Latest V)) where
+  -- a last stretch after the change is the one that was set or was one before
+  pub latest_cases : (f : Entry V) → LatestBecomes ls ks f.0.replica (Some (f.0.counter, f.1)) → (x : Entry V) → IsLatest ks x → (x ≡ f) ⊎ ((x.0.replica ≢ f.0.replica) × IsLatest ls x)
+  latest_cases f becomes x h =
+      elim (cases_number x.0.replica f.0.replica) [
+        | inl d ↦ inl (same_latest ks x f h becomes.here d)
+        | inr d ↦ inr (d, sym (becomes.others x.0.replica d) ∙ h)
+      ]
+
+  -- where none is left of the replica, it was one before
+  pub latest_left : (r : ℕ) → LatestBecomes ls ks r None → (x : Entry V) → IsLatest ks x → (x.0.replica ≢ r) × IsLatest ls x
+  latest_left r becomes x h =
+      elim (cases_number x.0.replica r) [
+        | inl d ↦ let own : Latest V = (x.0.counter, x.1) in let both : None ≡ Some own = sym becomes.here ∙ ap (latest_at ks) (sym d) ∙ h in absurd cc
+        | inr d ↦ (d, sym (becomes.others x.0.replica d) ∙ h)
+      ]
+
+module _ {V : Type 0} (l k : Layout V) (laid : IsLaid l) where
+  -- a last stretch is set, behind the kept ones of its replica: it is a new one, or that one has another end
+  pub sets_latest : (f : Entry V) → ((x : Entry V) → IsLatest l.0 x → x.0.replica ≡ f.0.replica → x.0 ≡ f.0) → ((x : Entry V) → KeepsEntry l.1 x → x.0.replica ≡ f.0.replica → x.0.counter < f.0.counter)
+      → LatestBecomes l.0 k.0 f.0.replica (Some (f.0.counter, f.1)) → k.1 ≡ l.1 → Sets l k f
+  sets_latest f old before becomes rest =
+      let was : (x : Entry V) → KeepsEntry k.1 x → KeepsEntry l.1 x = λ x h. subst (λ es. KeepsEntry es x) rest h in
+      record {
+        here = inl becomes.here;
+        cases = λ x h.
+            elim h [
+              | inl a ↦
+                  elim (latest_cases l.0 k.0 f becomes x a) [
+                    | inl d ↦ inl d
+                    | inr d ↦ inr (λ e. d.0 (ap (λ (z : Identifier). z.replica) e), inl d.1)
+                  ]
+              | inr a ↦
+                  inr (
+                    λ e.
+                        let less : x.0.counter < f.0.counter = before x (was x a) (ap (λ (z : Identifier). z.replica) e) in
+                        let same : x.0.counter ≡ f.0.counter = ap (λ (z : Identifier). z.counter) e in
+                        absurd (omega arith),
+                    inr (was x a),
+                  )
+            ];
+        stays = λ x d h.
+            elim h [
+              | inl a ↦ inl (becomes.others x.0.replica (λ e. d (old x a e)) ∙ a)
+              | inr a ↦ inr (subst (λ es. KeepsEntry es x) (sym rest) a)
+            ];
+        laid = record {
+          before = λ e x a h r.
+              elim (latest_cases l.0 k.0 f becomes e a) [
+                | inl d ↦ subst (λ (z : Entry V). x.0.counter < z.0.counter) (sym d) (before x (was x h) (r ∙ ap (λ (z : Entry V). z.0.replica) d))
+                | inr d ↦ laid.before e x d.1 (was x h) r
+              ];
+          latest = becomes.ordered;
+          kept = subst (λ (es : List (Entry V)). IsStrictlySortedBy id_cmp (keys_of es)) (sym rest) laid.kept;
+        };
+      }
+
+  -- a kept stretch is set, before the last one of its replica
+  pub sets_kept : (f : Entry V) → ((x : Entry V) → IsLatest l.0 x → f.0.replica ≡ x.0.replica → f.0.counter < x.0.counter) → KeptBecomes l.1 k.1 f.0 (Some f.1) → k.0 ≡ l.0 → Sets l k f
+  sets_kept f behind becomes rest =
+      let was : (x : Entry V) → IsLatest k.0 x → IsLatest l.0 x = λ x h. subst (λ ls. IsLatest ls x) rest h in
+      record {
+        here = inr becomes.here;
+        cases = λ x h.
+            elim h [
+              | inl a ↦
+                  inr (
+                    λ e.
+                        let less : f.0.counter < x.0.counter = behind x (was x a) (sym (ap (λ (z : Identifier). z.replica) e)) in
+                        let same : x.0.counter ≡ f.0.counter = ap (λ (z : Identifier). z.counter) e in
+                        absurd (omega arith),
+                    inl (was x a),
+                  )
+              | inr a ↦ elim (kept_cases l.1 k.1 f becomes x a) [ inl d ↦ inl d | inr d ↦ inr (d.0, inr d.1) ]
+            ];
+        stays = λ x d h.
+            elim h [
+              | inl a ↦ inl (subst (λ ls. IsLatest ls x) (sym rest) a)
+              | inr a ↦ inr (becomes.others x.0 d ∙ a)
+            ];
+        laid = record {
+          before = λ e x a h r.
+              elim (kept_cases l.1 k.1 f becomes x h) [
+                | inl d ↦ subst (λ (z : Entry V). z.0.counter < e.0.counter) (sym d) (behind e (was e a) (sym (ap (λ (z : Entry V). z.0.replica) d) ∙ r))
+                | inr d ↦ laid.before e x (was e a) d.1 r
+              ];
+          latest = subst (λ (ls : List (ℕ × Latest V)). IsStrictlySortedBy nat_cmp (keys_of ls)) (sym rest) laid.latest;
+          kept = becomes.ordered;
+        };
+      }
+
+  -- another stretch is the last one of a replica, and the one before it is kept
+  pub sets_behind : (e f : Entry V) → IsLatest l.0 e → e.0.replica ≡ f.0.replica → e.0.counter < f.0.counter → LatestBecomes l.0 k.0 f.0.replica (Some (f.0.counter, f.1))
+      → KeptBecomes l.1 k.1 e.0 (Some e.1) → Sets l k f
+  sets_behind e f old rep less becomes keeps =
+      let kept_before : (x : Entry V) → KeepsEntry k.1 x → x.0.replica ≡ f.0.replica → x.0.counter < f.0.counter = λ x h r.
+      elim (kept_cases l.1 k.1 e keeps x h) [
+        | inl d ↦ subst (λ (z : Entry V). z.0.counter < f.0.counter) (sym d) less
+        | inr d ↦ let low : x.0.counter < e.0.counter = laid.before e x old d.1 (r ∙ sym rep) in omega (arith, less, low)
+      ]
+      in
+      record {
+        here = inl becomes.here;
+        cases = λ x h.
+            elim h [
+              | inl a ↦
+                  elim (latest_cases l.0 k.0 f becomes x a) [
+                    | inl d ↦ inl d
+                    | inr d ↦ inr (λ c. d.0 (ap (λ (z : Identifier). z.replica) c), inl d.1)
+                  ]
+              | inr a ↦
+                  inr (
+                    λ c.
+                        let low : x.0.counter < f.0.counter = kept_before x a (ap (λ (z : Identifier). z.replica) c) in
+                        let same : x.0.counter ≡ f.0.counter = ap (λ (z : Identifier). z.counter) c in
+                        absurd (omega arith),
+                    elim (kept_cases l.1 k.1 e keeps x a) [ inl d ↦ inl (subst (λ (z : Entry V). IsLatest l.0 z) (sym d) old) | inr d ↦ inr d.1 ],
+                  )
+            ];
+        stays = λ x d h.
+            elim h [
+              | inl a ↦
+                  elim (cases_number x.0.replica f.0.replica) [
+                    | inl r ↦ inr (subst (λ (z : Entry V). KeepsEntry k.1 z) (sym (same_latest l.0 x e a old (r ∙ sym rep))) keeps.here)
+                    | inr r ↦ inl (becomes.others x.0.replica r ∙ a)
+                  ]
+              | inr a ↦ inr (keeps.others x.0 (not_both l laid e x old a) ∙ a)
+            ];
+        laid = record {
+          before = λ y x a h r.
+              elim (latest_cases l.0 k.0 f becomes y a) [
+                | inl d ↦ subst (λ (z : Entry V). x.0.counter < z.0.counter) (sym d) (kept_before x h (r ∙ ap (λ (z : Entry V). z.0.replica) d))
+                | inr d ↦
+                    elim (kept_cases l.1 k.1 e keeps x h) [
+                      | inl c ↦ absurd (d.0 (sym r ∙ ap (λ (z : Entry V). z.0.replica) c ∙ rep))
+                      | inr c ↦ laid.before y x d.1 c.1 r
+                    ]
+              ];
+          latest = becomes.ordered;
+          kept = keeps.ordered;
+        };
+      }
+
+  -- a last stretch goes
+  pub drops_latest : (e : Entry V) → IsLatest l.0 e → LatestBecomes l.0 k.0 e.0.replica None → k.1 ≡ l.1 → Drops l k e.0
+  drops_latest e old becomes rest =
+      let was : (x : Entry V) → KeepsEntry k.1 x → KeepsEntry l.1 x = λ x h. subst (λ es. KeepsEntry es x) rest h in
+      record {
+        cases = λ x h.
+            elim h [
+              | inl a ↦ let left = latest_left l.0 k.0 e.0.replica becomes x a in (λ c. left.0 (ap (λ (z : Identifier). z.replica) c), inl left.1)
+              | inr a ↦ (not_both l laid e x old (was x a), inr (was x a))
+            ];
+        stays = λ x d h.
+            elim h [
+              | inl a ↦ inl (becomes.others x.0.replica (λ r. d (ap (λ (z : Entry V). z.0) (same_latest l.0 x e a old r))) ∙ a)
+              | inr a ↦ inr (subst (λ es. KeepsEntry es x) (sym rest) a)
+            ];
+        laid = record {
+          before = λ y x a h r. laid.before y x (latest_left l.0 k.0 e.0.replica becomes y a).1 (was x h) r;
+          latest = becomes.ordered;
+          kept = subst (λ (es : List (Entry V)). IsStrictlySortedBy id_cmp (keys_of es)) (sym rest) laid.kept;
+        };
+      }
+
+  -- a kept stretch goes
+  pub drops_kept : (e : Entry V) → KeepsEntry l.1 e → KeptBecomes l.1 k.1 e.0 None → k.0 ≡ l.0 → Drops l k e.0
+  drops_kept e old becomes rest =
+      let was : (x : Entry V) → IsLatest k.0 x → IsLatest l.0 x = λ x h. subst (λ ls. IsLatest ls x) rest h in
+      record {
+        cases = λ x h.
+            elim h [
+              | inl a ↦ (λ c. not_both l laid x e (was x a) old (sym c), inl (was x a))
+              | inr a ↦ let left = kept_left l.1 k.1 e.0 becomes x a in (left.0, inr left.1)
+            ];
+        stays = λ x d h.
+            elim h [
+              | inl a ↦ inl (subst (λ ls. IsLatest ls x) (sym rest) a)
+              | inr a ↦ inr (becomes.others x.0 d ∙ a)
+            ];
+        laid = record {
+          before = λ y x a h r. laid.before y x (was y a) (kept_left l.1 k.1 e.0 becomes x h).1 r;
+          latest = subst (λ (ls : List (ℕ × Latest V)). IsStrictlySortedBy nat_cmp (keys_of ls)) (sym rest) laid.latest;
+          kept = becomes.ordered;
+        };
+      }
 
 module _ {V : Type 0} (nth : Identifier → V → ℕ → V) (reaches : Identifier → V → ℕ → Type 0) (l k : Layout V) (are : AreStretches reaches l) where
   -- where the stretches are the same, the values are
-  pub moved : ((e : Entry V) → Has k e → Has l e) → ((e : Entry V) → Has l e → Has k e) → IfSome k.0 (λ e. kept_at k.1 e.0 ≡ None) → IsStrictlySortedBy id_cmp (keys_of k.1) → IsSame nth reaches l k
-  moved among stays alone ordered =
+  moved : ((e : Entry V) → Has k e → Has l e) → ((e : Entry V) → Has l e → Has k e) → IsLaid k → IsSame nth reaches l k
+  moved among stays laid =
       let new_are : AreStretches reaches k = record {
         begun = λ e h. are.begun e (among e h);
         apart = λ e f h j. are.apart e f (among e h) (among f j);
         reached = λ e h. are.reached e (among e h);
-        alone = alone;
-        ordered = ordered;
+        laid = laid;
       } in
       record {
         are = new_are;
@@ -29,111 +245,31 @@ module _ {V : Type 0} (nth : Identifier → V → ℕ → V) (reaches : Identifi
         among = among;
       }
 
-  -- the stretch at hand is not kept
-  pub not_kept : (e : Entry V) → l.0 ≡ Some e → kept_at l.1 e.0 ≡ None
-  not_kept e a = subst (λ (o : Option (Entry V)). IfSome o (λ z. kept_at l.1 z.0 ≡ None)) a are.alone
-
-  -- a kept one begins elsewhere
-  pub begins_elsewhere : (e x : Entry V) → l.0 ≡ Some e → KeepsEntry l.1 x → x.0 ≢ e.0
-  begins_elsewhere e x a h d = let both : None ≡ Some x.1 = sym (not_kept e a) ∙ ap (kept_at l.1) (sym d) ∙ h in cc
-
-  -- the stretch at hand goes among the kept ones
-  pub shelved : (e : Entry V) → l.0 ≡ Some e → k.0 ≡ None → (m n : BTreeMap Identifier (Stretch V)) → m.entries ≡ l.1 → n.entries ≡ k.1 → UpdatesBy id_cmp (id_cmp e.0) m n (Some e.1)
-      → IsStrictlySortedBy id_cmp (keys_of k.1) → IsSame nth reaches l k
-  shelved e old none m n me ne u ordered =
-      let here : kept_at k.1 e.0 ≡ Some e.1 = ap (λ es. kept_at es e.0) (sym ne) ∙ u.1 in
-      let others : (q : Identifier) → q ≢ e.0 → kept_at k.1 q ≡ kept_at l.1 q = λ q d. ap (λ es. kept_at es q) (sym ne) ∙ u.2 q (id_at-other e.0 q d) ∙ ap (λ es. kept_at es q) me in
+  -- a last stretch goes among the kept ones
+  pub shelved : (e : Entry V) → IsLatest l.0 e → LatestBecomes l.0 k.0 e.0.replica None → KeptBecomes l.1 k.1 e.0 (Some e.1) → IsSame nth reaches l k
+  shelved e old becomes keeps =
       moved
       (λ x h.
       elim h [
-        | inl a ↦ let no : None ≡ Some x = sym none ∙ a in cc
-        | inr a ↦
-            elim (cases_id x.0 e.0) [
-              | inl d ↦ let value : e.1 ≡ x.1 = let both : Some e.1 ≡ Some x.1 = sym here ∙ ap (kept_at k.1) (sym d) ∙ a in cc in inl (old ∙ ap Some (λ i. (sym d i, value i)))
-              | inr d ↦ inr (sym (others x.0 d) ∙ a)
-            ]
+        | inl a ↦ inl (latest_left l.0 k.0 e.0.replica becomes x a).1
+        | inr a ↦ elim (kept_cases l.1 k.1 e keeps x a) [ inl d ↦ inl (subst (λ (z : Entry V). IsLatest l.0 z) (sym d) old) | inr d ↦ inr d.1 ]
       ])
       (λ x h.
       elim h [
-        | inl a ↦ let same : e ≡ x = let both : Some e ≡ Some x = sym old ∙ a in cc in inr (subst (λ (z : Entry V). KeepsEntry k.1 z) same here)
-        | inr a ↦ inr (others x.0 (begins_elsewhere e x old a) ∙ a)
+        | inl a ↦
+            elim (cases_number x.0.replica e.0.replica) [
+              | inl r ↦ inr (subst (λ (z : Entry V). KeepsEntry k.1 z) (sym (same_latest l.0 x e a old r)) keeps.here)
+              | inr r ↦ inl (becomes.others x.0.replica r ∙ a)
+            ]
+        | inr a ↦ inr (keeps.others x.0 (not_both l are.laid e x old a) ∙ a)
       ])
-      (subst (λ (o : Option (Entry V)). IfSome o (λ z. kept_at k.1 z.0 ≡ None)) (sym none) tt) ordered
-
-  -- the stretch at hand grows
-  pub sets_recent : (e f : Entry V) → e.0 ≡ f.0 → l.0 ≡ Some e → k.0 ≡ Some f → k.1 ≡ l.1 → Sets l k f
-  sets_recent e f first old new rest =
-      record {
-        here = inl new;
-        cases = λ x h.
-            elim h [
-              | inl a ↦ inl (let both : Some f ≡ Some x = sym new ∙ a in let same : f ≡ x = cc in sym same)
-              | inr a ↦ let b : KeepsEntry l.1 x = subst (λ es. KeepsEntry es x) rest a in inr (λ d. begins_elsewhere e x old b (d ∙ sym first), inr b)
+      (record {
+        before = λ y x a h r.
+            let left = latest_left l.0 k.0 e.0.replica becomes y a in
+            elim (kept_cases l.1 k.1 e keeps x h) [
+              | inl d ↦ absurd (left.0 (sym r ∙ ap (λ (z : Entry V). z.0.replica) d))
+              | inr d ↦ are.laid.before y x left.1 d.1 r
             ];
-        stays = λ x d h.
-            elim h [
-              | inl a ↦ let same : e ≡ x = let both : Some e ≡ Some x = sym old ∙ a in cc in absurd (d (ap (λ (z : Entry V). z.0) (sym same) ∙ first))
-              | inr a ↦ inr (subst (λ es. KeepsEntry es x) (sym rest) a)
-            ];
-        alone = subst (λ (o : Option (Entry V)). IfSome o (λ z. kept_at k.1 z.0 ≡ None)) (sym new) (ap (λ es. kept_at es f.0) rest ∙ ap (kept_at l.1) (sym first) ∙ not_kept e old);
-        ordered = subst (λ (es : List (Entry V)). IsStrictlySortedBy id_cmp (keys_of es)) (sym rest) are.ordered;
-      }
-
-  -- a kept stretch grows
-  pub sets_kept : (e f : Entry V) → e.0 ≡ f.0 → KeepsEntry l.1 e → k.0 ≡ l.0 → (m n : BTreeMap Identifier (Stretch V)) → m.entries ≡ l.1 → n.entries ≡ k.1
-      → UpdatesBy id_cmp (id_cmp e.0) m n (Some f.1) → IsOrdered id_cmp n → Sets l k f
-  sets_kept e f first old recent m n me ne u ordered =
-      let here : kept_at k.1 f.0 ≡ Some f.1 = ap (kept_at k.1) (sym first) ∙ ap (λ es. kept_at es e.0) (sym ne) ∙ u.1 in
-      let others : (q : Identifier) → q ≢ e.0 → kept_at k.1 q ≡ kept_at l.1 q = λ q d. ap (λ es. kept_at es q) (sym ne) ∙ u.2 q (id_at-other e.0 q d) ∙ ap (λ es. kept_at es q) me in
-      let at_hand : (x : Entry V) → l.0 ≡ Some x → x.0 ≢ e.0 = λ x a d. begins_elsewhere x e a old (sym d) in
-      record {
-        here = inr here;
-        cases = λ x h.
-            elim h [
-              | inl a ↦ let b : l.0 ≡ Some x = sym recent ∙ a in inr (λ d. at_hand x b (d ∙ sym first), inl b)
-              | inr a ↦
-                  elim (cases_id x.0 e.0) [
-                    | inl d ↦ let value : f.1 ≡ x.1 = let both : Some f.1 ≡ Some x.1 = sym here ∙ ap (kept_at k.1) (sym (d ∙ first)) ∙ a in cc in inl (λ i. ((d ∙ first) i, sym value i))
-                    | inr d ↦ inr (λ c. d (c ∙ sym first), inr (sym (others x.0 d) ∙ a))
-                  ]
-            ];
-        stays = λ x d h.
-            elim h [
-              | inl a ↦ inl (recent ∙ a)
-              | inr a ↦ inr (others x.0 (λ c. d (c ∙ first)) ∙ a)
-            ];
-        alone = alone_still l.0 refl;
-        ordered = subst (λ (es : List (Entry V)). IsStrictlySortedBy id_cmp (keys_of es)) ne ordered;
-      }
-    where
-      alone_still : (o : Option (Entry V)) → l.0 ≡ o → IfSome k.0 (λ z. kept_at k.1 z.0 ≡ None)
-      alone_still None is = subst (λ (o : Option (Entry V)). IfSome o (λ z. kept_at k.1 z.0 ≡ None)) (sym (recent ∙ is)) tt
-      alone_still (Some x) is =
-          subst (λ (o : Option (Entry V)). IfSome o (λ z. kept_at k.1 z.0 ≡ None)) (sym (recent ∙ is))
-          (ap (λ es. kept_at es x.0) (sym ne) ∙ u.2 x.0 (id_at-other e.0 x.0 (λ d. begins_elsewhere x e is old (sym d))) ∙ ap (λ es. kept_at es x.0) me ∙ not_kept x is)
-
-  -- a stretch of the key alone is at hand
-  pub sets_first : (f : Entry V) → value_in nth l f.0 ≡ None → l.0 ≡ None → k.0 ≡ Some f → k.1 ≡ l.1 → Sets l k f
-  sets_first f fresh old new rest =
-      let missing : (o : Option (Stretch V)) → kept_at l.1 f.0 ≡ o → o ≡ None = λ o. elim o as (λ z. kept_at l.1 f.0 ≡ z → z ≡ None) [
-        | None ↦ λ _. refl
-        | Some s ↦ λ is.
-            let begun : f.0.counter ≤ s.last = are.begun (f.0, s) (inr is) in
-            absurd (not_covered nth reaches l are f.0 fresh (f.0, s) (inr is) (record { replica = refl; from = omega arith; to = begun }))
-      ] in
-      let none : kept_at l.1 f.0 ≡ None = missing (kept_at l.1 f.0) refl in
-      record {
-        here = inl new;
-        cases = λ x h.
-            elim h [
-              | inl a ↦ inl (let both : Some f ≡ Some x = sym new ∙ a in let same : f ≡ x = cc in sym same)
-              | inr a ↦ let b : KeepsEntry l.1 x = subst (λ es. KeepsEntry es x) rest a in inr (λ d. (let both : None ≡ Some x.1 = sym none ∙ ap (kept_at l.1) (sym d) ∙ b in cc), inr b)
-            ];
-        stays = λ x d h.
-            elim h [
-              | inl a ↦ let no : None ≡ Some x = sym old ∙ a in cc
-              | inr a ↦ inr (subst (λ es. KeepsEntry es x) (sym rest) a)
-            ];
-        alone = subst (λ (o : Option (Entry V)). IfSome o (λ z. kept_at k.1 z.0 ≡ None)) (sym new) (ap (λ es. kept_at es f.0) rest ∙ none);
-        ordered = subst (λ (es : List (Entry V)). IsStrictlySortedBy id_cmp (keys_of es)) (sym rest) are.ordered;
-      }
+        latest = becomes.ordered;
+        kept = keeps.ordered;
+      })

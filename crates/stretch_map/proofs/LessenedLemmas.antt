@@ -1,12 +1,10 @@
 -- Stretches with one cut in two, and with one value less.
 use Rattle.std.proofs.Common.{ap, arith, inl, inr, refl, subst, sym, ℕ, ◌-◌, ◌<◌, ◌∙◌, ◌≡◌, ◌≢◌, ◌≤◌, ◌⊎◌}
-use Rattle.std.specs.Prelude.{IfSome, None}
-use Rattle.std.specs.List.Sorted.{IsStrictlySortedBy}
-use Rattle.std.specs.Map.{keys_of}
-use Rattle.fugue_ids.specs.Identifiers.{Identifier, id_cmp}
+use Rattle.std.specs.Prelude.{None}
+use Rattle.fugue_ids.specs.Identifiers.{Identifier}
 use Rattle.fugue_ids.proofs.IdentifierLemmas.{cases_id}
 use Rattle.stretch_map.specs.Contents.{Entry, Layout, value_in}
-use Rattle.stretch_map.specs.Stretches.{AreStretches, Covers, Has, Loses, kept_at, up_to}
+use Rattle.stretch_map.specs.Stretches.{AreStretches, Covers, Has, IsLaid, Loses, up_to}
 use Rattle.stretch_map.proofs.FoundLemmas.{one_covers, same_has, uncovered}
 use Rattle.stretch_map.proofs.SetLemmas.{Sets, by_key, set_are, value_stays, value_within}
 
@@ -14,8 +12,7 @@ use Rattle.stretch_map.proofs.SetLemmas.{Sets, by_key, set_are, value_stays, val
 pub record Drops {V : Type 0} (l k : Layout V) (first : Identifier) : Type 0 where
   pub cases : (x : Entry V) → Has k x → (x.0 ≢ first) × Has l x
   pub stays : (x : Entry V) → x.0 ≢ first → Has l x → Has k x
-  pub alone : IfSome k.0 (λ x. kept_at k.1 x.0 ≡ None)
-  pub ordered : IsStrictlySortedBy id_cmp (keys_of k.1)
+  pub laid : IsLaid k
 
 -- h and t are stretches of k, and the others are those of l
 pub record Splits {V : Type 0} (l k : Layout V) (h t : Entry V) : Type 0 where
@@ -23,8 +20,7 @@ pub record Splits {V : Type 0} (l k : Layout V) (h t : Entry V) : Type 0 where
   pub tail : Has k t
   pub cases : (x : Entry V) → Has k x → (x ≡ h) ⊎ ((x ≡ t) ⊎ ((x.0 ≢ h.0) × (x.0 ≢ t.0) × Has l x))
   pub stays : (x : Entry V) → x.0 ≢ h.0 → x.0 ≢ t.0 → Has l x → Has k x
-  pub alone : IfSome k.0 (λ x. kept_at k.1 x.0 ≡ None)
-  pub ordered : IsStrictlySortedBy id_cmp (keys_of k.1)
+  pub laid : IsLaid k
 
 module _ {V : Type 0} (nth : Identifier → V → ℕ → V) (reaches : Identifier → V → ℕ → Type 0) (l k : Layout V) (are : AreStretches reaches l) where
   module _ (key : Identifier) (e : Entry V) (old : Has l e) (own : Covers e key) (ends : e.1.last ≡ key.counter) where
@@ -73,8 +69,7 @@ module _ {V : Type 0} (nth : Identifier → V → ℕ → V) (reaches : Identifi
             begun = λ x h. are.begun x (drops.cases x h).1;
             apart = λ x y hx hy. are.apart x y (drops.cases x hx).1 (drops.cases y hy).1;
             reached = λ x h. are.reached x (drops.cases x h).1;
-            alone = drops.alone;
-            ordered = drops.ordered;
+            laid = drops.laid;
           }
 
       -- a stretch of the key alone goes

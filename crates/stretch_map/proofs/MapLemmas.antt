@@ -1,16 +1,13 @@
 -- The finite map that stretches stand for, as it is read, grows and shrinks.
-use Rattle.std.proofs.Common.{ap, arith, cond, inl, inr, subst, sym, ℕ, ◌+◌, ◌-◌, ◌∙◌, ◌≡◌, ◌≤◌}
-use Rattle.std.specs.Prelude.{IfSome, None, Option, Some, []}
-use Rattle.std.specs.BTreeMap.{is_at}
-use Rattle.std.specs.FinMap.{empty, from_entries, get, get-from_entries, get-insert, get-remove, insert, remove, same_map}
-use Rattle.std.specs.List.Sorted.{IsStrictlySortedBy}
-use Rattle.std.specs.Map.{keys_of, lookup}
+use Rattle.std.proofs.Common.{ap, arith, cond, inl, inr, sym, ℕ, ◌+◌, ◌-◌, ◌∙◌, ◌≡◌, ◌≤◌}
+use Rattle.std.specs.Prelude.{IfSome, None, Option, Some}
+use Rattle.std.specs.FinMap.{get, get-from_entries, get-insert, get-remove, insert, remove, same_map}
 use Rattle.std.specs.Ordering.{is_eq}
 use Rattle.fugue_ids.specs.Identifiers.{Identifier, id_cmp}
 use Rattle.stretch_map.specs.Ahead.{ahead}
-use Rattle.stretch_map.specs.Contents.{Entry, Layout, entries_with, contents, spread, value_in}
+use Rattle.stretch_map.specs.Contents.{Layout, entries_with, contents, spread, value_in}
 use Rattle.stretch_map.specs.Rules.{IsFollowed}
-use Rattle.stretch_map.specs.Stretches.{Adds, AreStretches, EndsAt, Has, IsSame, Loses}
+use Rattle.stretch_map.specs.Stretches.{Adds, AreStretches, EndsAt, IsSame, Loses}
 use Rattle.stretch_map.proofs.FoundLemmas.{cases_le, covered}
 use Rattle.stretch_map.proofs.OrderLemmas.{id_cmp-IsAntisymmetric, id_cmp_total}
 
@@ -18,10 +15,6 @@ module _ {V : Type 0} (nth : Identifier → V → ℕ → V) where
   -- a value of the finite map is the one that is found in the entries
   pub get-contents : (l : Layout V) (q : Identifier) → get (contents nth l) q ≡ value_in nth l q
   get-contents l q = get-from_entries id_cmp_total (spread nth (entries_with l.0 l.1)) q
-
-  -- no stretches stand for the empty map
-  pub contents-none : (l : Layout V) → l.0 ≡ None → l.1 ≡ [] → contents nth l ≡ empty
-  contents-none l none gone = λ i. from_entries {R = id_cmp} (spread nth (entries_with (none i) (gone i)))
 
   -- equal values make equal maps
   pub contents-same : (l k : Layout V) → ((q : Identifier) → value_in nth k q ≡ value_in nth l q) → contents nth k ≡ contents nth l
@@ -61,23 +54,6 @@ module _ {V : Type 0} (nth : Identifier → V → ℕ → V) where
               followed = next ∙ ap (λ n. Some (nth e.0 e.1.value n)) steps ∙ ap Some (sym (adds e.0 e.1.value (key.counter - e.0.counter) 1)) ∙ ap (λ x. Some (nth x (nth e.0 e.1.value (key.counter - e.0.counter)) 1)) there;
             }))
       ]
-
--- no stretches are stretches
-pub none_are : {V : Type 0} (reaches : Identifier → V → ℕ → Type 0) (l : Layout V) → l.0 ≡ None → l.1 ≡ [] → IsStrictlySortedBy id_cmp (keys_of l.1) → AreStretches reaches l
-none_are {V} reaches l none gone ordered =
-    record {
-      begun = λ e h. absurd (never e h);
-      apart = λ e f h. absurd (never e h);
-      reached = λ e h. absurd (never e h);
-      alone = subst (λ (o : Option (Entry V)). IfSome o (λ z. lookup (is_at (id_cmp z.0)) l.1 ≡ None)) (sym none) tt;
-      ordered = ordered;
-    }
-  where
-    never : (e : Entry V) → Has l e → ⊥
-    never e h = elim h [
-      | inl a ↦ let no_one : None ≡ Some e = sym none ∙ a in cc
-      | inr a ↦ let both : None ≡ Some e.1 = sym (ap (lookup (is_at (id_cmp e.0))) gone) ∙ a in cc
-    ]
 
 -- where the stretches are the same, one still ends with a key
 pub still_ends : {V : Type 0} (nth : Identifier → V → ℕ → V) (reaches : Identifier → V → ℕ → Type 0) (l k : Layout V) → IsSame nth reaches l k → (o : Option Identifier)

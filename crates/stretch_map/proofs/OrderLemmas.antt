@@ -1,10 +1,11 @@
 -- The order of identifiers is total, and what its answers mean.
-use Rattle.std.proofs.Common.{ap, arith, false, inl, inr, refl, sym, ◌<◌, ◌≡◌, ◌⊎◌, ◌∙◌}
+use Rattle.std.proofs.Common.{ap, arith, false, inl, inr, refl, sym, true, ℕ, ◌<◌, ◌≡◌, ◌≢◌, ◌⊎◌, ◌∙◌}
 use Rattle.std.specs.Cmp.{IsTotalOrder, ranks, strict}
 use Rattle.std.specs.FinMap.{IsAntisymmetric}
-use Rattle.std.specs.Ordering.{is_gt, is_lt, nat_cmp, ordering_then, MatchOrdering}
+use Rattle.std.specs.Ordering.{is_eq, is_gt, is_lt, nat_cmp, ordering_then, MatchOrdering}
 use Rattle.std.specs.declared.cmp.Ordering.{Ordering}
 use Rattle.std.specs.declared.cmp.Ordering.TheVariants.{Equal, Greater, Less}
+use Rattle.std.proofs.lemmas.Bool.Decides.{nat_tests}
 use Rattle.fugue_ids.specs.Identifiers.{Identifier, id_cmp}
 use Rattle.stretch_map.specs.Order.{IsAtMost}
 
@@ -80,3 +81,10 @@ at_most_from_lt a b e = not_less a b (id_cmp a b) (id_ranks a b) e
 
 pub gt_from_at_most : (a b : Identifier) → IsAtMost a b → is_gt (id_cmp a b) ≡ false
 gt_from_at_most a b m = not_behind a b (id_cmp a b) (id_ranks a b) m
+
+-- no other number compares as equal
+pub nat_at-other : (a b : ℕ) → b ≢ a → is_eq (nat_cmp a b) ≡ false
+nat_at-other a b n = grind (arith, nat_tests)
+
+pub nat_at-same : (a : ℕ) → is_eq (nat_cmp a a) ≡ true
+nat_at-same a = grind (arith, nat_tests)

@@ -97,8 +97,7 @@ module _ {V : Type 0} (nth : Identifier → V → ℕ → V) (reaches : Identifi
                     | inr i ↦ are.reached x i.2
                   ]
             ];
-        alone = splits.alone;
-        ordered = splits.ordered;
+        laid = splits.laid;
       }
 
   parted_own : (q : Identifier) → Covers e q → (y : Entry V) × Has k y × Covers y q × (nth y.0 y.1.value (q.counter - y.0.counter) ≡ nth e.0 e.1.value (q.counter - e.0.counter))

@@ -1,42 +1,64 @@
 -- What becomes of stretches as one value more is put.
-use Rattle.std.proofs.Common.{ap, arith, inl, inr, refl, subst, sym, ℕ, ◌+◌, ◌-◌, ◌<◌, ◌∙◌, ◌≡◌, ◌≤◌, cond}
+use Rattle.std.proofs.Common.{ap, arith, inl, inr, refl, subst, sym, List, ℕ, ◌+◌, ◌-◌, ◌<◌, ◌∙◌, ◌≡◌, ◌≤◌}
 use Rattle.std.specs.Prelude.{None, Some}
 use Rattle.std.specs.BTreeMap.{BTreeMap, IsOrdered, UpdatesBy}
-use Rattle.std.specs.Ordering.{is_eq}
 use Rattle.fugue_ids.specs.Identifiers.{Identifier, id_cmp}
 use Rattle.stretch_map.specs.Ahead.{ahead}
-use Rattle.stretch_map.specs.Contents.{Entry, Layout, value_in}
+use Rattle.stretch_map.specs.Contents.{Entry, Latest, Layout, value_in}
 use Rattle.stretch_map.specs.Rules.{IsNext}
-use Rattle.stretch_map.specs.Stretches.{Adds, AreStretches, GoesOn, Grows, Has, IsFloor, IsSame, KeepsEntry, up_to}
+use Rattle.stretch_map.specs.Stretches.{Adds, AreStretches, GoesOn, Grows, Has, IsBehindAll, IsFloor, IsLatest, IsLatestUpTo, KeepsEntry, KeptBecomes, LatestBecomes, NoLatestUpTo, latest_at, up_to}
 use Rattle.stretch_map.specs.declared.stretches.Stretch.{Stretch}
-use Rattle.stretch_map.proofs.FoundLemmas.{cases_le, found, not_covered}
+use Rattle.stretch_map.proofs.FoundLemmas.{cases_le, found, not_covered, same_latest}
 use Rattle.stretch_map.proofs.GrownLemmas.{added, joined}
-use Rattle.stretch_map.proofs.KeptLemmas.{sets_first, sets_kept, sets_recent}
+use Rattle.stretch_map.proofs.KeptLemmas.{kept_becomes, sets_behind, sets_kept, sets_latest}
 
 module _ {V : Type 0} (nth : Identifier → V → ℕ → V) (reaches : Identifier → V → ℕ → Type 0) (l : Layout V) (are : AreStretches reaches l) (key : Identifier) (value : V)
     (fresh : value_in nth l key ≡ None) where
-  -- the stretch at hand goes on
-  pub recent_grew : (e : Entry V) → l.0 ≡ Some e → GoesOn nth reaches e key value → (s : Stretch V) → s ≡ (up_to e key.counter).1 → Adds nth reaches l (Some (e.0, s), l.1) key value
-  recent_grew e old goes s is =
-      subst (λ t. Adds nth reaches l (Some (e.0, t), l.1) key value) (sym is)
-      (joined nth reaches l (Some (up_to e key.counter), l.1) are key value fresh e (inl old) goes
-      (sets_recent nth reaches l (Some (up_to e key.counter), l.1) are e (up_to e key.counter) refl old refl refl))
+  -- the last stretch of the replica goes on
+  pub latest_grew : (e : Entry V) → IsLatest l.0 e → GoesOn nth reaches e key value → (s : Stretch V) → s ≡ (up_to e key.counter).1 → (ls : List (ℕ × Latest V))
+      → LatestBecomes l.0 ls e.0.replica (Some (e.0.counter, s)) → Adds nth reaches l (ls, l.1) key value
+  latest_grew e old goes s is ls becomes =
+      joined nth reaches l (ls, l.1) are key value fresh e (inl old) goes
+      (sets_latest l (ls, l.1) are.laid (up_to e key.counter) (λ x a r. ap (λ (z : Entry V). z.0) (same_latest l.0 x e a old r)) (λ x h r. are.laid.before e x old h r)
+      (subst (λ t. LatestBecomes l.0 ls e.0.replica (Some (e.0.counter, t))) is becomes) refl)
 
   -- a kept stretch goes on
-  pub kept_grew : (m n : BTreeMap Identifier (Stretch V)) → m.entries ≡ l.1 → Grows nth reaches m n key value → Adds nth reaches l (l.0, n.entries) key value
-  kept_grew m n is grows =
-      let old : KeepsEntry l.1 grows.stretch = subst (λ es. KeepsEntry es grows.stretch) is grows.kept in
-      joined nth reaches l (l.0, n.entries) are key value fresh grows.stretch (inr old) grows.goes_on
-      (sets_kept nth reaches l (l.0, n.entries) are grows.stretch (up_to grows.stretch key.counter) refl old refl m n is refl grows.updates grows.ordered)
+  pub kept_grew : (es : List (Entry V)) → Grows nth reaches l.1 es key value → Adds nth reaches l (l.0, es) key value
+  kept_grew es grows =
+      joined nth reaches l (l.0, es) are key value fresh grows.stretch (inr grows.kept) grows.goes_on
+      (sets_kept l (l.0, es) are.laid (up_to grows.stretch key.counter) (λ x a r. are.laid.before x grows.stretch a grows.kept r) grows.becomes refl)
 
-  -- a stretch begins with the key
-  pub begun_with : (at_start : (first : Identifier) (v : V) → nth first v 0 ≡ v) (starts : (first : Identifier) (v : V) → reaches first v 0) (k : Layout V) → IsSame nth reaches l k → k.0 ≡ None
-      → Adds nth reaches l (Some (key, record { value = value; last = key.counter }), k.1) key value
-  begun_with at_start starts k same none =
-      let f : Entry V = (key, record { value = value; last = key.counter }) in
-      let new : value_in nth k key ≡ None = same.found key ∙ fresh in
-      let adds = added nth reaches k (Some f, k.1) same.are key value new at_start starts (sets_first nth reaches k (Some f, k.1) same.are f new none refl refl) in
-      record { are = adds.are; found = λ q. adds.found q ∙ ap (λ o. cond (is_eq (id_cmp q key)) (Some value) o) (same.found q); ends = adds.ends }
+  -- the last stretch of the replica does not begin with a key without a value
+  begins_before : (e : Entry V) → IsLatestUpTo l.0 key e → e.0.counter < key.counter
+  begins_before e is =
+      elim (cases_le key.counter e.0.counter) [
+        | inl i ↦
+            let from : e.0.counter ≤ key.counter = is.from in
+            let begun : e.0.counter ≤ e.1.last = are.begun e (inl is.latest) in
+            absurd (not_covered nth reaches l are key fresh e (inl is.latest) (record { replica = is.replica; from = from; to = omega arith }))
+        | inr i ↦ i
+      ]
+
+  module _ (at_start : (first : Identifier) (v : V) → nth first v 0 ≡ v) (starts : (first : Identifier) (v : V) → reaches first v 0) where
+    -- a stretch begins with the key, the only last one of its replica
+    pub begun_first : IsBehindAll l key → (ls : List (ℕ × Latest V)) → LatestBecomes l.0 ls key.replica (Some (key.counter, record { value = value; last = key.counter })) → Adds nth reaches l (ls, l.1) key value
+    begun_first behind ls becomes =
+        added nth reaches l (ls, l.1) are key value fresh at_start starts
+        (sets_latest l (ls, l.1) are.laid (key, record { value = value; last = key.counter })
+        (λ x a r. let own : Latest V = (x.0.counter, x.1) in let both : None ≡ Some own = sym behind.none ∙ ap (latest_at l.0) (sym r) ∙ a in absurd cc) behind.before becomes refl)
+
+    -- before the last one of its replica
+    pub begun_kept : NoLatestUpTo l.0 key → (es : List (Entry V)) → KeptBecomes l.1 es key (Some (record { value = value; last = key.counter })) → Adds nth reaches l (l.0, es) key value
+    begun_kept none es becomes =
+        added nth reaches l (l.0, es) are key value fresh at_start starts
+        (sets_kept l (l.0, es) are.laid (key, record { value = value; last = key.counter }) (λ x a r. none x a (sym r)) becomes refl)
+
+    -- and behind it
+    pub begun_behind : (e : Entry V) → IsLatestUpTo l.0 key e → (ls : List (ℕ × Latest V)) (es : List (Entry V))
+        → LatestBecomes l.0 ls key.replica (Some (key.counter, record { value = value; last = key.counter })) → KeptBecomes l.1 es e.0 (Some e.1) → Adds nth reaches l (ls, es) key value
+    begun_behind e is ls es becomes keeps =
+        added nth reaches l (ls, es) are key value fresh at_start starts
+        (sets_behind l (ls, es) are.laid e (key, record { value = value; last = key.counter }) is.latest is.replica (begins_before e is) becomes keeps)
 
   -- the stretch of the identifier before is one that goes on
   goes_from : (joins : (first : Identifier) (v : V) (j : ℕ) → reaches first v j → reaches (ahead first j) (nth first v j) 1 → reaches first v (j + 1))
@@ -98,17 +120,39 @@ module _ {V : Type 0} (nth : Identifier → V → ℕ → V) (reaches : Identifi
             ];
       }
 
-  -- where neither goes on, the value does not follow
-  pub not_next : (joins : (first : Identifier) (v : V) (j : ℕ) → reaches first v j → reaches (ahead first j) (nth first v j) 1 → reaches first v (j + 1))
-      → (adds : (first : Identifier) (v : V) (j k : ℕ) → nth (ahead first j) (nth first v j) k ≡ nth first v (j + k))
-      → ((e : Entry V) → l.0 ≡ Some e → GoesOn nth reaches e key value → ⊥) → ((e : Entry V) → IsFloor l.1 key e → GoesOn nth reaches e key value → ⊥)
-      → IsNext nth reaches (value_in nth l) key value → ⊥
-  not_next joins adds recent kept next =
-      let e = goes_from joins adds next in
-      elim e.1 [ inl a ↦ recent e.0 a e.2 | inr a ↦ kept e.0 (floor_goes e.0 a e.2) e.2 ]
+  module _ (joins : (first : Identifier) (v : V) (j : ℕ) → reaches first v j → reaches (ahead first j) (nth first v j) 1 → reaches first v (j + 1))
+      (adds : (first : Identifier) (v : V) (j k : ℕ) → nth (ahead first j) (nth first v j) k ≡ nth first v (j + k)) where
+    -- where no kept stretch goes on, nor a last one can, the value does not follow
+    pub not_next_before : NoLatestUpTo l.0 key → ((e : Entry V) → IsFloor l.1 key e → GoesOn nth reaches e key value → ⊥) → IsNext nth reaches (value_in nth l) key value → ⊥
+    not_next_before none kept next =
+        let e = goes_from joins adds next in
+        elim e.1 [
+          | inl a ↦
+              let over : key.counter < e.0.0.counter = none e.0 a e.2.replica in
+              let begun : e.0.0.counter ≤ e.0.1.last = are.begun e.0 (inl a) in
+              let end : e.0.1.last + 1 ≡ key.counter = e.2.next in
+              absurd (omega arith)
+          | inr a ↦ kept e.0 (floor_goes e.0 a e.2) e.2
+        ]
+
+    -- where the last one does not go on, nor a kept one can, it does not follow
+    pub not_next_behind : (e : Entry V) → IsLatestUpTo l.0 key e → (GoesOn nth reaches e key value → ⊥) → IsNext nth reaches (value_in nth l) key value → ⊥
+    not_next_behind e is not next =
+        let x = goes_from joins adds next in
+        let r : x.0.0.replica ≡ e.0.replica = x.2.replica ∙ sym is.replica in
+        elim x.1 [
+          | inl a ↦ not (subst (λ (z : Entry V). GoesOn nth reaches z key value) (same_latest l.0 x.0 e a is.latest r) x.2)
+          | inr a ↦
+              let less : x.0.0.counter < e.0.counter = are.laid.before e x.0 is.latest a r in
+              let far : x.0.1.last < e.0.counter = are.apart x.0 e (inr a) (inl is.latest) r less in
+              let end : x.0.1.last + 1 ≡ key.counter = x.2.next in
+              let from : e.0.counter < key.counter = begins_before e is in
+              absurd (omega arith)
+        ]
 
 -- the map as the longer stretch is written
 pub map_grew : {V : Type 0} (nth : Identifier → V → ℕ → V) (reaches : Identifier → V → ℕ → Type 0) (m n : BTreeMap Identifier (Stretch V)) (key : Identifier) (value : V) (e : Entry V)
-    → KeepsEntry m.entries e → GoesOn nth reaches e key value → (s : Stretch V) → s ≡ (up_to e key.counter).1 → UpdatesBy id_cmp (id_cmp e.0) m n (Some s) → IsOrdered id_cmp n → Grows nth reaches m n key value
+    → KeepsEntry m.entries e → GoesOn nth reaches e key value → (s : Stretch V) → s ≡ (up_to e key.counter).1 → UpdatesBy id_cmp (id_cmp e.0) m n (Some s) → IsOrdered id_cmp n
+    → Grows nth reaches m.entries n.entries key value
 map_grew nth reaches m n key value e kept goes s is u ordered =
-    record { stretch = e; kept = kept; goes_on = goes; updates = subst (λ t. UpdatesBy id_cmp (id_cmp e.0) m n (Some t)) is u; ordered = ordered }
+    record { stretch = e; kept = kept; goes_on = goes; becomes = kept_becomes m n e.0 (Some (up_to e key.counter).1) (subst (λ t. UpdatesBy id_cmp (id_cmp e.0) m n (Some t)) is u) ordered }

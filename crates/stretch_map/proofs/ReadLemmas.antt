@@ -1,26 +1,15 @@
--- What is read at a key, in the stretch at hand and in the kept ones.
+-- What is read at a key, in the last stretch of its replica and in the kept ones.
 use Rattle.std.proofs.Common.{arith, inl, inr, subst, sym, ℕ, ◌-◌, ◌<◌, ◌∙◌, ◌≡◌, ◌≤◌, List}
 use Rattle.std.specs.Prelude.{IfNone, IfSome, None, Option, Some}
 use Rattle.fugue_ids.specs.Identifiers.{Identifier}
 use Rattle.stretch_map.specs.Contents.{Entry, Layout, value_in}
 use Rattle.stretch_map.specs.Order.{IsAtMost}
-use Rattle.stretch_map.specs.Stretches.{AreStretches, Covers, IsFloor, IsReadIn, KeepsEntry, NoneUpTo}
-use Rattle.stretch_map.proofs.FoundLemmas.{cases_le, read, same_kept}
+use Rattle.stretch_map.specs.Stretches.{AreStretches, Covers, Has, IsFloor, IsLatest, IsLatestUpTo, IsReadIn, KeepsEntry, NoLatestUpTo, NoneUpTo}
+use Rattle.stretch_map.proofs.FoundLemmas.{cases_le, read, same_kept, same_latest}
 
 -- what a stretch has at the key
 abbrev pub IsValueIn : {V : Type 0} → (Identifier → V → ℕ → V) → Entry V → Identifier → Option V → Type 0
 IsValueIn nth e key r = IfNone r (Covers e key → ⊥) × IfSome r (λ v. Covers e key × (v ≡ nth e.0 e.1.value (key.counter - e.0.counter)))
-
--- no stretch is at hand
-pub none_recent : {V : Type 0} (nth : Identifier → V → ℕ → V) (o : Option (Entry V)) (key : Identifier) → o ≡ None → IsReadIn nth (λ e. o ≡ Some e) key None
-none_recent nth o key none = record { none = λ e h c. let no : None ≡ Some e = sym none ∙ h in cc; some = tt }
-
--- the one at hand
-pub read_recent : {V : Type 0} (nth : Identifier → V → ℕ → V) (o : Option (Entry V)) (key : Identifier) (e : Entry V) → o ≡ Some e → (r : Option V) → IsValueIn nth e key r
-    → IsReadIn nth (λ x. o ≡ Some x) key r
-read_recent {V} nth o key e is None v =
-    record { none = λ x h c. let same : x ≡ e = let both : Some x ≡ Some e = sym h ∙ is in cc in v.0 (subst (λ (z : Entry V). Covers z key) same c); some = tt }
-read_recent nth o key e is (Some a) v = record { none = tt; some = (e, is, v.1.0, v.1.1) }
 
 -- only the floor of a key may have it
 pub floor_covers : {V : Type 0} (reaches : Identifier → V → ℕ → Type 0) (l : Layout V) → AreStretches reaches l → (key : Identifier) (e : Entry V) → IsFloor l.1 key e → (f : Entry V)
@@ -57,14 +46,32 @@ pub read_kept : {V : Type 0} (nth : Identifier → V → ℕ → V) (reaches : I
 read_kept nth reaches l are key e floor None v = record { none = λ f k c. v.0 (floor_covers reaches l are key e floor f k c); some = tt }
 read_kept nth reaches l are key e floor (Some a) v = record { none = tt; some = (e, floor.kept, v.1.0, v.1.1) }
 
--- what the one at hand has is the value
-pub value_recent : {V : Type 0} (nth : Identifier → V → ℕ → V) (reaches : Identifier → V → ℕ → Type 0) (l : Layout V) → AreStretches reaches l → (key : Identifier) (v : V)
-    → IsReadIn nth (λ e. l.0 ≡ Some e) key (Some v) → Some v ≡ value_in nth l key
-value_recent nth reaches l are key v is = read nth reaches l are key (Some v) (record { none = tt; some = (is.some.0, inl is.some.1, is.some.2, is.some.3) })
+module _ {V : Type 0} (nth : Identifier → V → ℕ → V) (reaches : Identifier → V → ℕ → Type 0) (l : Layout V) (are : AreStretches reaches l) (key : Identifier) where
+  -- where the last stretch of the replica begins at the key or before, no other one has the key
+  latest_covers : (e : Entry V) → IsLatestUpTo l.0 key e → (f : Entry V) → Has l f → Covers f key → f ≡ e
+  latest_covers e is f h c =
+      let rr : f.0.replica ≡ e.0.replica = c.replica ∙ sym is.replica in
+      elim h [
+        | inl a ↦ same_latest l.0 f e a is.latest rr
+        | inr a ↦
+            let less : f.0.counter < e.0.counter = are.laid.before e f is.latest a rr in
+            let far : f.1.last < e.0.counter = are.apart f e (inr a) (inl is.latest) rr less in
+            let from : e.0.counter ≤ key.counter = is.from in
+            let to : key.counter ≤ f.1.last = c.to in
+            absurd (omega arith)
+      ]
 
--- and else that of a kept one
-pub value_kept : {V : Type 0} (nth : Identifier → V → ℕ → V) (reaches : Identifier → V → ℕ → Type 0) (l : Layout V) → AreStretches reaches l → (key : Identifier) (r : Option V)
-    → IsReadIn nth (λ e. l.0 ≡ Some e) key None → IsReadIn nth (KeepsEntry l.1) key r → r ≡ value_in nth l key
-value_kept nth reaches l are key None none is =
-    read nth reaches l are key None (record { none = λ e h c. elim h [ inl a ↦ none.none e a c | inr a ↦ is.none e a c ]; some = tt })
-value_kept nth reaches l are key (Some v) none is = read nth reaches l are key (Some v) (record { none = tt; some = (is.some.0, inr is.some.1, is.some.2, is.some.3) })
+  -- what that one has is the value
+  pub value_latest : (e : Entry V) → IsLatestUpTo l.0 key e → (r : Option V) → IsValueIn nth e key r → r ≡ value_in nth l key
+  value_latest e is None v =
+      read nth reaches l are key None (record { none = λ f h c. v.0 (subst (λ (z : Entry V). Covers z key) (latest_covers e is f h c) c); some = tt })
+  value_latest e is (Some a) v = read nth reaches l are key (Some a) (record { none = tt; some = (e, inl is.latest, v.1.0, v.1.1) })
+
+  -- a last stretch that begins behind the key does not have it
+  pub latest_behind : NoLatestUpTo l.0 key → (e : Entry V) → IsLatest l.0 e → Covers e key → ⊥
+  latest_behind none e a c = let from : e.0.counter ≤ key.counter = c.from in let over : key.counter < e.0.counter = none e a c.replica in absurd (omega arith)
+
+  -- where no last stretch has the key, the value is that of a kept one
+  pub value_kept : (r : Option V) → ((e : Entry V) → IsLatest l.0 e → Covers e key → ⊥) → IsReadIn nth (KeepsEntry l.1) key r → r ≡ value_in nth l key
+  value_kept None none is = read nth reaches l are key None (record { none = λ e h c. elim h [ inl a ↦ none e a c | inr a ↦ is.none e a c ]; some = tt })
+  value_kept (Some v) none is = read nth reaches l are key (Some v) (record { none = tt; some = (is.some.0, inr is.some.1, is.some.2, is.some.3) })

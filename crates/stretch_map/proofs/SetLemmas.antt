@@ -1,13 +1,11 @@
 -- Stretches of which one is set, and values that stay.
 use Rattle.std.proofs.Common.{ap, inl, inr, refl, subst, sym, ℕ, ◌-◌, ◌<◌, ◌∙◌, ◌≡◌, ◌≢◌, ◌≤◌, ◌⊎◌, arith, cond}
-use Rattle.std.specs.Prelude.{IfSome, None, Option, Some}
-use Rattle.std.specs.List.Sorted.{IsStrictlySortedBy}
-use Rattle.std.specs.Map.{keys_of}
+use Rattle.std.specs.Prelude.{Option, Some}
 use Rattle.std.specs.Ordering.{is_eq}
 use Rattle.fugue_ids.specs.Identifiers.{Identifier, id_cmp}
 use Rattle.fugue_ids.proofs.IdentifierLemmas.{cases_id, id_at-other, id_at-same}
 use Rattle.stretch_map.specs.Contents.{Entry, Layout, value_in}
-use Rattle.stretch_map.specs.Stretches.{AreStretches, Covers, Has, IsReached, kept_at, up_to}
+use Rattle.stretch_map.specs.Stretches.{AreStretches, Covers, Has, IsLaid, IsReached, up_to}
 use Rattle.stretch_map.proofs.FoundLemmas.{covered, found, same_has, uncovered}
 
 -- e is a stretch of k, and the others are those of l
@@ -15,8 +13,7 @@ pub record Sets {V : Type 0} (l k : Layout V) (e : Entry V) : Type 0 where
   pub here : Has k e
   pub cases : (x : Entry V) → Has k x → (x ≡ e) ⊎ ((x.0 ≢ e.0) × Has l x)
   pub stays : (x : Entry V) → x.0 ≢ e.0 → Has l x → Has k x
-  pub alone : IfSome k.0 (λ x. kept_at k.1 x.0 ≡ None)
-  pub ordered : IsStrictlySortedBy id_cmp (keys_of k.1)
+  pub laid : IsLaid k
 
 -- e can be a stretch beside those of l
 pub record Fits {V : Type 0} (reaches : Identifier → V → ℕ → Type 0) (l : Layout V) (e : Entry V) : Type 0 where
@@ -56,8 +53,7 @@ set_are {V} reaches l k are e fits sets =
                 ]
           ];
       reached = λ x h. elim (sets.cases x h) [ inl d ↦ subst (IsReached reaches) (sym d) fits.reached | inr d ↦ are.reached x d.1 ];
-      alone = sets.alone;
-      ordered = sets.ordered;
+      laid = sets.laid;
     }
 
 module _ {V : Type 0} (nth : Identifier → V → ℕ → V) (reaches : Identifier → V → ℕ → Type 0) (l k : Layout V) (are : AreStretches reaches l) (still : AreStretches reaches k) (q : Identifier) where

@@ -1,5 +1,5 @@
 -- The finite map that stretches stand for.
-use Rattle.std.specs.Prelude.{ℕ, zero, suc, ◌-◌, List, [], ◌∷◌, ◌++◌, Option, Some, None}
+use Rattle.std.specs.Prelude.{ℕ, zero, suc, ◌-◌, List, [], ◌∷◌, ◌++◌, Option}
 use Rattle.std.specs.Coded.{Coded, code_by, coded×, coded_ℕ, coded_option}
 use Rattle.std.specs.FinMap.{FinMap, code, find, from_entries}
 use Rattle.std.proofs.Common.{refl}
@@ -37,17 +37,21 @@ spread nth (e ∷ es) = run nth e.0 e.1.value (suc e.1.last - e.0.counter) ++ sp
 abbrev pub Entry : Type 0 → Type 0
 Entry V = Identifier × Stretch V
 
--- how stretches are kept: the one at hand, if there is one, and the others
+-- the last stretch of a replica: the counter that it begins with, and the stretch
+abbrev pub Latest : Type 0 → Type 0
+Latest V = ℕ × Stretch V
+
+-- how stretches are kept: the last one of each replica, and the others
 abbrev pub Layout : Type 0 → Type 0
-Layout V = Option (Entry V) × List (Entry V)
+Layout V = List (ℕ × Latest V) × List (Entry V)
 
 abbrev pub layout : {V : Type 0} → Stretches V → Layout V
-layout s = (s.recent, s.kept.entries)
+layout s = (s.latest.entries, s.kept.entries)
 
 -- all stretches
-abbrev pub entries_with : {V : Type 0} → Option (Entry V) → List (Entry V) → List (Entry V)
-entries_with None es = es
-entries_with (Some e) es = e ∷ es
+abbrev pub entries_with : {V : Type 0} → List (ℕ × Latest V) → List (Entry V) → List (Entry V)
+entries_with [] es = es
+entries_with (x ∷ xs) es = (record { replica = x.0; counter = x.1.0 }, x.1.1) ∷ entries_with xs es
 
 -- the value that stretches have at an identifier
 abbrev pub value_in : {V : Type 0} → (Identifier → V → ℕ → V) → Layout V → Identifier → Option V

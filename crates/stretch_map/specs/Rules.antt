@@ -1,5 +1,5 @@
 -- The rules of the values that stretches have.
-use Rattle.std.specs.Prelude.{◌≡◌, ℕ, zero, suc, ◌+◌, ◌<◌, ◌≤◌, ◌^◌, IfSome, IsNone, IsSome, None, Option, Some, max}
+use Rattle.std.specs.Prelude.{◌≡◌, ℕ, zero, suc, ◌+◌, ◌<◌, ◌≤◌, ◌^◌, IfSome, IsNone, IsSome, None, Option, Some}
 use Rattle.fugue_ids.specs.Identifiers.{Identifier}
 use Rattle.stretch_map.specs.Ahead.{ahead}
 use Rattle.stretch_map.specs.declared.follows.Position.{Position}
@@ -38,9 +38,3 @@ pub record IsGreatestIn {V : Type 0} (value_of : Identifier → Option V) (repli
   pub none : IsNone greatest → (n : ℕ) → value_of (record { replica = replica; counter = n }) ≡ None
   pub held : IfSome greatest (λ n. IsSome (value_of (record { replica = replica; counter = n })))
   pub bound : IfSome greatest (λ n. (m : ℕ) → IsSome (value_of (record { replica = replica; counter = m })) → m ≤ n)
-
--- the greater of two numbers that may be there
-abbrev pub greater_of : Option ℕ → Option ℕ → Option ℕ
-greater_of None b = b
-greater_of (Some n) None = Some n
-greater_of (Some n) (Some m) = Some (max n m)

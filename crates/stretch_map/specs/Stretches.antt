@@ -1,12 +1,12 @@
 -- The stretches of a map, and what becomes of them.
 use Rattle.std.specs.Prelude.{◌≡◌, ◌≢◌, ◌⊎◌, ℕ, ◌+◌, ◌-◌, ◌<◌, ◌≤◌, None, Option, Some, List, IfNone, IfSome, cond, option_map}
-use Rattle.std.specs.BTreeMap.{BTreeMap, IsOrdered, UpdatesBy, is_at}
+use Rattle.std.specs.BTreeMap.{is_at}
 use Rattle.std.specs.List.Sorted.{IsStrictlySortedBy}
 use Rattle.std.specs.Map.{keys_of, lookup}
-use Rattle.std.specs.Ordering.{is_eq}
+use Rattle.std.specs.Ordering.{is_eq, nat_cmp}
 use Rattle.fugue_ids.specs.Identifiers.{Identifier, id_cmp}
 use Rattle.stretch_map.specs.Ahead.{ahead}
-use Rattle.stretch_map.specs.Contents.{Entry, Layout, value_in}
+use Rattle.stretch_map.specs.Contents.{Entry, Latest, Layout, value_in}
 use Rattle.stretch_map.specs.Order.{IsAtMost}
 use Rattle.stretch_map.specs.declared.stretches.Stretch.{Stretch}
 
@@ -18,9 +18,23 @@ kept_at es q = lookup (is_at (id_cmp q)) es
 abbrev pub KeepsEntry : {V : Type 0} → List (Entry V) → Entry V → Type 0
 KeepsEntry es e = kept_at es e.0 ≡ Some e.1
 
--- the stretch is kept, or is the one at hand
+-- the last stretch of a replica
+abbrev pub latest_at : {V : Type 0} → List (ℕ × Latest V) → ℕ → Option (Latest V)
+latest_at ls r = lookup (is_at (nat_cmp r)) ls
+
+-- the stretch is the last one of its replica
+abbrev pub IsLatest : {V : Type 0} → List (ℕ × Latest V) → Entry V → Type 0
+IsLatest ls e = latest_at ls e.0.replica ≡ Some (e.0.counter, e.1)
+
+-- the stretch is kept, or is the last one of its replica
 abbrev pub Has : {V : Type 0} → Layout V → Entry V → Type 0
-Has l e = (l.0 ≡ Some e) ⊎ KeepsEntry l.1 e
+Has l e = IsLatest l.0 e ⊎ KeepsEntry l.1 e
+
+-- the kept stretches of a replica begin before its last one
+pub record IsLaid {V : Type 0} (l : Layout V) : Type 0 where
+  pub before : (e f : Entry V) → IsLatest l.0 e → KeepsEntry l.1 f → f.0.replica ≡ e.0.replica → f.0.counter < e.0.counter
+  pub latest : IsStrictlySortedBy nat_cmp (keys_of l.0)
+  pub kept : IsStrictlySortedBy id_cmp (keys_of l.1)
 
 -- q is one of the identifiers of a stretch
 pub record Covers {V : Type 0} (e : Entry V) (q : Identifier) : Type 0 where
@@ -37,8 +51,7 @@ pub record AreStretches {V : Type 0} (reaches : Identifier → V → ℕ → Typ
   pub begun : (e : Entry V) → Has l e → e.0.counter ≤ e.1.last
   pub apart : (e f : Entry V) → Has l e → Has l f → e.0.replica ≡ f.0.replica → e.0.counter < f.0.counter → e.1.last < f.0.counter
   pub reached : (e : Entry V) → Has l e → IsReached reaches e
-  pub alone : IfSome l.0 (λ e. kept_at l.1 e.0 ≡ None)
-  pub ordered : IsStrictlySortedBy id_cmp (keys_of l.1)
+  pub laid : IsLaid l
 
 -- a stretch ends at the key, if it has it
 abbrev pub EndsAt : {V : Type 0} → Layout V → Identifier → Type 0
@@ -59,6 +72,21 @@ pub record IsFloor {V : Type 0} (es : List (Entry V)) (key : Identifier) (e : En
   pub up_to : IsAtMost e.0 key
   pub last : (f : Entry V) → KeepsEntry es f → IsAtMost f.0 key → IsAtMost f.0 e.0
 
+-- the last stretch of the key's replica begins at the key or before
+pub record IsLatestUpTo {V : Type 0} (ls : List (ℕ × Latest V)) (key : Identifier) (e : Entry V) : Type 0 where
+  pub latest : IsLatest ls e
+  pub replica : e.0.replica ≡ key.replica
+  pub from : e.0.counter ≤ key.counter
+
+-- the key's replica has no last stretch that begins at the key or before
+abbrev pub NoLatestUpTo : {V : Type 0} → List (ℕ × Latest V) → Identifier → Type 0
+NoLatestUpTo {V} ls key = (e : Entry V) → IsLatest ls e → e.0.replica ≡ key.replica → key.counter < e.0.counter
+
+-- all stretches of the key's replica are kept, and begin before the key
+pub record IsBehindAll {V : Type 0} (l : Layout V) (key : Identifier) : Type 0 where
+  pub none : latest_at l.0 key.replica ≡ None
+  pub before : (e : Entry V) → KeepsEntry l.1 e → e.0.replica ≡ key.replica → e.0.counter < key.counter
+
 -- the stretch ends right before the key, and the rule leads from it to the value
 pub record GoesOn {V : Type 0} (nth : Identifier → V → ℕ → V) (reaches : Identifier → V → ℕ → Type 0) (e : Entry V) (key : Identifier) (value : V) : Type 0 where
   pub replica : e.0.replica ≡ key.replica
@@ -70,13 +98,24 @@ pub record GoesOn {V : Type 0} (nth : Identifier → V → ℕ → V) (reaches :
 abbrev pub up_to : {V : Type 0} → Entry V → ℕ → Entry V
 up_to e last = (e.0, record { value = e.1.value; last = last })
 
--- the map n is m, but that one stretch goes on with the value at the key, and has it
-pub record Grows {V : Type 0} (nth : Identifier → V → ℕ → V) (reaches : Identifier → V → ℕ → Type 0) (m n : BTreeMap Identifier (Stretch V)) (key : Identifier) (value : V) : Type 0 where
+-- the kept stretches fs are es, but for what is kept under one identifier
+pub record KeptBecomes {V : Type 0} (es fs : List (Entry V)) (at : Identifier) (o : Option (Stretch V)) : Type 0 where
+  pub here : kept_at fs at ≡ o
+  pub others : (q : Identifier) → q ≢ at → kept_at fs q ≡ kept_at es q
+  pub ordered : IsStrictlySortedBy id_cmp (keys_of fs)
+
+-- the last stretches ks are ls, but for that of one replica
+pub record LatestBecomes {V : Type 0} (ls ks : List (ℕ × Latest V)) (replica : ℕ) (o : Option (Latest V)) : Type 0 where
+  pub here : latest_at ks replica ≡ o
+  pub others : (q : ℕ) → q ≢ replica → latest_at ks q ≡ latest_at ls q
+  pub ordered : IsStrictlySortedBy nat_cmp (keys_of ks)
+
+-- the kept stretches fs are es, but that one goes on with the value at the key, and has it
+pub record Grows {V : Type 0} (nth : Identifier → V → ℕ → V) (reaches : Identifier → V → ℕ → Type 0) (es fs : List (Entry V)) (key : Identifier) (value : V) : Type 0 where
   pub stretch : Entry V
-  pub kept : KeepsEntry m.entries stretch
+  pub kept : KeepsEntry es stretch
   pub goes_on : GoesOn nth reaches stretch key value
-  pub updates : UpdatesBy id_cmp (id_cmp stretch.0) m n (Some (up_to stretch key.counter).1)
-  pub ordered : IsOrdered id_cmp n
+  pub becomes : KeptBecomes es fs stretch.0 (Some (up_to stretch key.counter).1)
 
 -- k has the value at the key, and else those of l; a stretch ends there
 pub record Adds {V : Type 0} (nth : Identifier → V → ℕ → V) (reaches : Identifier → V → ℕ → Type 0) (l k : Layout V) (key : Identifier) (value : V) : Type 0 where
@@ -99,23 +138,28 @@ pub record IsSame {V : Type 0} (nth : Identifier → V → ℕ → V) (reaches :
 abbrev pub IsShorter : {V : Type 0} → Entry V → Option (Entry V) → Type 0
 IsShorter e r = IfNone r (e.0.counter ≡ e.1.last) × IfSome r (λ x. (e.0.counter < e.1.last) × (x ≡ up_to e (e.1.last - 1)))
 
--- n is m, but that this stretch is without its last identifier
-pub record IsTakenFrom {V : Type 0} (m n : BTreeMap Identifier (Stretch V)) (e : Entry V) : Type 0 where
+-- the kept stretches fs are es, but that this one is without its last identifier
+pub record IsTakenFrom {V : Type 0} (es fs : List (Entry V)) (e : Entry V) : Type 0 where
   pub left : Option (Entry V)
   pub shorter : IsShorter e left
-  pub updates : UpdatesBy id_cmp (id_cmp e.0) m n (option_map (λ x. x.1) left)
-  pub ordered : IsOrdered id_cmp n
+  pub becomes : KeptBecomes es fs e.0 (option_map (λ x. x.1) left)
+
+-- the last stretches ks are ls, but that this one is without its last identifier
+pub record IsTakenFromLatest {V : Type 0} (ls ks : List (ℕ × Latest V)) (e : Entry V) : Type 0 where
+  pub left : Option (Entry V)
+  pub shorter : IsShorter e left
+  pub becomes : LatestBecomes ls ks e.0.replica (option_map (λ x. (x.0.counter, x.1)) left)
 
 -- what is left of a stretch behind so many steps
 abbrev pub rest_behind : {V : Type 0} → (Identifier → V → ℕ → V) → Entry V → ℕ → Entry V
 rest_behind nth e j = (ahead e.0 j, record { value = nth e.0 e.1.value j; last = e.1.last })
 
--- n is m, but that this stretch ends with the key, and what was behind is another one
-pub record IsCut {V : Type 0} (nth : Identifier → V → ℕ → V) (m n : BTreeMap Identifier (Stretch V)) (e : Entry V) (key : Identifier) : Type 0 where
-  pub head : KeepsEntry n.entries (up_to e key.counter)
-  pub tail : KeepsEntry n.entries (rest_behind nth e (key.counter - e.0.counter + 1))
-  pub others : (q : Identifier) → q ≢ e.0 → q ≢ ahead e.0 (key.counter - e.0.counter + 1) → kept_at n.entries q ≡ kept_at m.entries q
-  pub ordered : IsOrdered id_cmp n
+-- the kept stretches fs are es, but that this one ends with the key, and what was behind is another one
+pub record IsCut {V : Type 0} (nth : Identifier → V → ℕ → V) (es fs : List (Entry V)) (e : Entry V) (key : Identifier) : Type 0 where
+  pub head : KeepsEntry fs (up_to e key.counter)
+  pub tail : KeepsEntry fs (rest_behind nth e (key.counter - e.0.counter + 1))
+  pub others : (q : Identifier) → q ≢ e.0 → q ≢ ahead e.0 (key.counter - e.0.counter + 1) → kept_at fs q ≡ kept_at es q
+  pub ordered : IsStrictlySortedBy id_cmp (keys_of fs)
 
 -- k has the values of l, and this stretch ends with the key
 pub record IsParted {V : Type 0} (nth : Identifier → V → ℕ → V) (reaches : Identifier → V → ℕ → Type 0) (l k : Layout V) (e : Entry V) (key : Identifier) : Type 0 where

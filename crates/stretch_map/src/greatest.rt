@@ -1,11 +1,10 @@
 //! The greatest counter of a replica.
-ghost use Rattle.std.specs.Prelude.{◌≡◌, ◌<◌, ◌^◌, IfNone, IfSome, Some, option_map};
+ghost use Rattle.std.specs.Prelude.{◌≡◌, ◌<◌, ◌^◌, IfNone, IfSome, option_map};
 ghost use Rattle.stretch_map.specs.Contents.{layout, value_at_id};
-ghost use Rattle.stretch_map.specs.Rules.{IsGreatestIn, greater_of};
-ghost use Rattle.stretch_map.specs.Stretches.{AreStretches, Has, IsGreatestOf, IsLastOf, KeepsEntry, NoneOf};
+ghost use Rattle.stretch_map.specs.Rules.{IsGreatestIn};
+ghost use Rattle.stretch_map.specs.Stretches.{AreStretches, IsGreatestOf, IsLastOf, KeepsEntry, NoneOf};
 
 use crate::follows::Follows;
-use crate::read::at_hand;
 use crate::stretches::{Stretch, Stretches};
 use fugue_ids::ElementId;
 use std::collections::BTreeMap;
@@ -26,7 +25,7 @@ fn copied<V: Copy>(entry: Option<(&ElementId, &Stretch<V>)>) -> Option<(ElementI
 }
 
 /// The last kept stretch of the replica.
-fn last_kept<V: Copy>(
+pub(crate) fn last_kept<V: Copy>(
     kept: &BTreeMap<ElementId, Stretch<V>>,
     replica: u32,
 ) -> Option<(ElementId, Stretch<V>)>
@@ -60,17 +59,6 @@ fn last_counter<V: Copy>(entry: Option<(ElementId, Stretch<V>)>) -> Option<u32>
     }
 }
 
-/// The greater counter of two that may be there.
-fn greater(a: Option<u32>, b: Option<u32>) -> Option<u32>
-    ensures { result ≡ greater_of a b }
-{
-    match (a, b) {
-        (Some(a), Some(b)) => Some(a.max(b)),
-        (Some(a), None) => Some(a),
-        (None, b) => b,
-    }
-}
-
 /// The greatest counter in the kept stretches.
 fn greatest_kept<V: Follows>(stretches: &Stretches<V>, replica: u32) -> Option<u32>
     requires positive { 0 < replica }
@@ -80,28 +68,14 @@ fn greatest_kept<V: Follows>(stretches: &Stretches<V>, replica: u32) -> Option<u
     last_counter(last_kept(&stretches.kept, replica))
 }
 
-/// The greatest counter in the stretch at hand.
-fn greatest_recent<V: Follows>(stretches: &Stretches<V>, replica: u32) -> Option<u32>
-    requires { AreStretches V.reaches (layout stretches.now) }
-    ensures { IsGreatestOf (λ e. stretches.now.recent ≡ Some e) replica result }
-{
-    let Some((first, stretch)) = at_hand(stretches) else {
-        return None;
-    };
-    if first.replica != replica {
-        return None;
-    }
-    Some(stretch.last)
-}
-
 /// The greatest counter of the replica's identifiers that have a value.
 pub(crate) fn greatest<V: Follows>(stretches: &Stretches<V>, replica: u32) -> Option<u32>
     requires positive { 0 < replica }
     requires are { AreStretches V.reaches (layout stretches.now) }
     ensures { IsGreatestIn (value_at_id V.nth stretches.now) replica result }
 {
-    greater(
-        greatest_recent(stretches, replica),
-        greatest_kept(stretches, replica),
-    )
+    match stretches.latest.get(&replica) {
+        Some(&(_, stretch)) => Some(stretch.last),
+        None => greatest_kept(stretches, replica),
+    }
 }

@@ -15,8 +15,8 @@ use std::marker::Model;
 
 /// A map from identifiers to values. A stretch of identifiers is one entry, where the rule gives its values.
 ///
-/// A stretch grows at its end alone: identifiers that come in falling order are an entry each. The stretch that was
-/// begun last grows with no look-up in the map.
+/// A stretch grows at its end alone: identifiers that come in falling order are an entry each. The last stretch of each
+/// replica grows with no look-up among the others.
 #[derive(Drop)]
 pub struct StretchMap<V: Follows> {
     stretches: Stretches<V>,
@@ -49,7 +49,7 @@ impl<V: Follows> StretchMap<V> {
     {
         StretchMap {
             stretches: Stretches {
-                recent: None,
+                latest: BTreeMap::new(alloc),
                 kept: BTreeMap::new(alloc),
             },
             newest: None,

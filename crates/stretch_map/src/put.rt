@@ -1,13 +1,14 @@
 //! One value more.
-ghost use Rattle.std.specs.Prelude.{◌≡◌, ◌≤◌, None, Some, IfNone, IfSome, IsFalse, IsOk, IsTrue, OnErr, OnOk};
+ghost use Rattle.std.specs.Prelude.{◌≡◌, ◌≤◌, None, IfNone, IfSome, IsFalse, IsOk, IsTrue, OnErr, OnOk};
 ghost use Rattle.std.specs.BTreeMap.{IsUnchanged};
 ghost use Rattle.stretch_map.specs.Contents.{Entry, layout, value_at_id};
 ghost use Rattle.stretch_map.specs.Rules.{IsNext};
-ghost use Rattle.stretch_map.specs.Stretches.{Adds, AreStretches, GoesOn, Grows, IsFloor, IsSame, KeepsEntry, up_to};
+ghost use Rattle.stretch_map.specs.Stretches.{Adds, AreStretches, GoesOn, Grows, IsBehindAll, IsFloor, IsLatestUpTo};
+ghost use Rattle.stretch_map.specs.Stretches.{KeepsEntry, NoLatestUpTo, up_to};
 
 use crate::follows::Follows;
-use crate::read::at_hand;
-use crate::stretches::{Stretch, Stretches, floor};
+use crate::greatest::last_kept;
+use crate::stretches::{Stretch, Stretches, floor, latest_up_to, replace_latest};
 use fugue_ids::{ElementId, NoMemory};
 use std::collections::BTreeMap;
 
@@ -39,33 +40,14 @@ fn longer<V: Follows>(
     })
 }
 
-/// Whether the stretch at hand went on with the value at the key, and has it now.
-fn extend_recent<V: Follows>(stretches: &mut Stretches<V>, key: ElementId, value: &V) -> bool
-    requires are { AreStretches V.reaches (layout stretches.old) }
-    requires fresh { value_at_id V.nth stretches.old key ≡ None }
-    ensures on { IsTrue result → Adds V.nth V.reaches (layout stretches.old) (layout stretches.new) key value.now }
-    ensures off { IsFalse result → layout stretches.new ≡ layout stretches.old }
-    ensures goes_not { IsFalse result → (e : Entry V) → stretches.old.recent ≡ Some e
-        → GoesOn V.nth V.reaches e key value.now → ⊥ }
-{
-    let Some((first, stretch)) = at_hand(stretches) else {
-        return false;
-    };
-    let Some(longer) = longer(first, &stretch, key, value) else {
-        return false;
-    };
-    stretches.recent = Some((first, longer));
-    true
-}
-
-/// Whether another stretch went on with the value at the key, and has it now.
+/// Whether a kept stretch went on with the value at the key, and has it now.
 fn extend_kept<V: Follows>(
     kept: &mut BTreeMap<ElementId, Stretch<V>>,
     key: ElementId,
     value: &V,
 ) -> bool
     requires { (e : Entry V) → KeepsEntry kept.old.entries e → e.0.counter ≤ e.1.last }
-    ensures on { IsTrue result → Grows V.nth V.reaches kept.old kept.new key value.now }
+    ensures on { IsTrue result → Grows V.nth V.reaches kept.old.entries kept.new.entries key value.now }
     ensures off { IsFalse result → IsUnchanged kept.old kept.new }
     ensures goes_not { IsFalse result → (e : Entry V) → IsFloor kept.old.entries key e
         → GoesOn V.nth V.reaches e key value.now → ⊥ }
@@ -82,31 +64,79 @@ fn extend_kept<V: Follows>(
     true
 }
 
-/// The stretch at hand goes to the others. After want of memory all is as before.
-pub(crate) fn shelve<V: Follows>(stretches: &mut Stretches<V>) -> Result<(), NoMemory>
-    requires { AreStretches V.reaches (layout stretches.old) }
-    ensures same { OnOk result (IsSame V.nth V.reaches (layout stretches.old) (layout stretches.new)) }
-    ensures none { OnOk result (stretches.new.recent ≡ None) }
-    ensures err { OnErr result (layout stretches.new ≡ layout stretches.old) }
+/// Whether all stretches of the key's replica are kept, and begin before the key.
+fn is_behind_all<V: Follows>(stretches: &Stretches<V>, key: ElementId) -> bool
+    ensures { IsTrue result → IsBehindAll (layout stretches.now) key }
 {
-    let Some((first, stretch)) = at_hand(stretches) else {
-        return Ok(());
-    };
-    stretches.kept.insert(first, stretch)?;
-    stretches.recent = None;
-    Ok(())
+    if stretches.latest.contains_key(&key.replica) {
+        return false;
+    }
+    match last_kept(&stretches.kept, key.replica) {
+        Some((first, _)) => first.counter < key.counter,
+        None => true,
+    }
 }
 
 /// A stretch that begins with the key. After want of memory all is as before.
 fn begin<V: Follows>(stretches: &mut Stretches<V>, key: ElementId, value: V) -> Result<(), NoMemory>
     requires are { AreStretches V.reaches (layout stretches.old) }
     requires fresh { value_at_id V.nth stretches.old key ≡ None }
+    requires before { NoLatestUpTo stretches.old.latest.entries key }
     ensures ok { OnOk result (Adds V.nth V.reaches (layout stretches.old) (layout stretches.new) key value) }
     ensures err { OnErr result (layout stretches.new ≡ layout stretches.old) }
 {
-    shelve(stretches)?;
     let last = key.counter;
-    stretches.recent = Some((key, Stretch { value, last }));
+    let alone = Stretch { value, last };
+    if is_behind_all(stretches, key) {
+        stretches.latest.insert(key.replica, (last, alone))?;
+        return Ok(());
+    }
+    stretches.kept.insert(key, alone)?;
+    Ok(())
+}
+
+/// The value at a key without one, before the last stretch of its replica, or where it has none. After want of memory
+/// all is as before.
+fn put_before<V: Follows>(
+    stretches: &mut Stretches<V>,
+    key: ElementId,
+    value: V,
+) -> Result<(), NoMemory>
+    requires are { AreStretches V.reaches (layout stretches.old) }
+    requires fresh { value_at_id V.nth stretches.old key ≡ None }
+    requires before { NoLatestUpTo stretches.old.latest.entries key }
+    ensures ok { OnOk result (Adds V.nth V.reaches (layout stretches.old) (layout stretches.new) key value) }
+    ensures err { OnErr result (layout stretches.new ≡ layout stretches.old) }
+    ensures sure { IsNext V.nth V.reaches (value_at_id V.nth stretches.old) key value → IsOk result }
+{
+    if extend_kept(&mut stretches.kept, key, &value) {
+        return Ok(());
+    }
+    begin(stretches, key, value)
+}
+
+/// The value at a key without one, behind the last stretch of its replica. After want of memory all is as before.
+fn put_behind<V: Follows>(
+    stretches: &mut Stretches<V>,
+    first: ElementId,
+    stretch: &Stretch<V>,
+    key: ElementId,
+    value: V,
+) -> Result<(), NoMemory>
+    requires are { AreStretches V.reaches (layout stretches.old) }
+    requires fresh { value_at_id V.nth stretches.old key ≡ None }
+    requires behind { IsLatestUpTo stretches.old.latest.entries key (first, stretch.now) }
+    ensures ok { OnOk result (Adds V.nth V.reaches (layout stretches.old) (layout stretches.new) key value) }
+    ensures err { OnErr result (layout stretches.new ≡ layout stretches.old) }
+    ensures sure { IsNext V.nth V.reaches (value_at_id V.nth stretches.old) key value → IsOk result }
+{
+    if let Some(longer) = longer(first, stretch, key, &value) {
+        replace_latest(&mut stretches.latest, first, longer);
+        return Ok(());
+    }
+    stretches.kept.insert(first, *stretch)?;
+    let last = key.counter;
+    replace_latest(&mut stretches.latest, key, Stretch { value, last });
     Ok(())
 }
 
@@ -122,11 +152,8 @@ pub(crate) fn put<V: Follows>(
     ensures err { OnErr result (layout stretches.new ≡ layout stretches.old) }
     ensures sure { IsNext V.nth V.reaches (value_at_id V.nth stretches.old) key value → IsOk result }
 {
-    if extend_recent(stretches, key, &value) {
-        return Ok(());
+    match latest_up_to(&stretches.latest, key) {
+        Some((first, stretch)) => put_behind(stretches, first, &stretch, key, value),
+        None => put_before(stretches, key, value),
     }
-    if extend_kept(&mut stretches.kept, key, &value) {
-        return Ok(());
-    }
-    begin(stretches, key, value)
 }

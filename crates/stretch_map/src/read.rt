@@ -1,10 +1,10 @@
 //! The value of an identifier.
-ghost use Rattle.std.specs.Prelude.{◌≡◌, ◌-◌, IfNone, IfSome, None, Some};
-ghost use Rattle.stretch_map.specs.Contents.{Entry, layout, value_at_id};
+ghost use Rattle.std.specs.Prelude.{◌≡◌, ◌-◌, IfNone, IfSome};
+ghost use Rattle.stretch_map.specs.Contents.{layout, value_at_id};
 ghost use Rattle.stretch_map.specs.Stretches.{AreStretches, Covers, IsReached, IsReadIn, KeepsEntry};
 
 use crate::follows::Follows;
-use crate::stretches::{Stretch, Stretches, floor};
+use crate::stretches::{Stretch, Stretches, floor, latest_up_to};
 use fugue_ids::ElementId;
 
 /// The value that the stretch has at the key.
@@ -21,29 +21,7 @@ fn value_in<V: Follows>(first: ElementId, stretch: &Stretch<V>, key: ElementId) 
     Some(stretch.value.nth(first, key.counter - first.counter))
 }
 
-/// The stretch at hand.
-pub(crate) fn at_hand<V: Copy>(stretches: &Stretches<V>) -> Option<(ElementId, Stretch<V>)>
-    ensures none { IfNone result (stretches.now.recent ≡ None) }
-    ensures some { IfSome result (λ e. stretches.now.recent ≡ Some e) }
-{
-    match stretches.recent {
-        Some((first, stretch)) => Some((first, stretch)),
-        None => None,
-    }
-}
-
-/// The value that the stretch at hand has at the key.
-pub(crate) fn recent_value<V: Follows>(stretches: &Stretches<V>, key: ElementId) -> Option<V>
-    requires { AreStretches V.reaches (layout stretches.now) }
-    ensures { IsReadIn V.nth (λ e. stretches.now.recent ≡ Some e) key result }
-{
-    let Some((first, stretch)) = at_hand(stretches) else {
-        return None;
-    };
-    value_in(first, &stretch, key)
-}
-
-/// The value that one of the other stretches has at the key.
+/// The value that one of the kept stretches has at the key.
 pub(crate) fn kept_value<V: Follows>(stretches: &Stretches<V>, key: ElementId) -> Option<V>
     requires { AreStretches V.reaches (layout stretches.now) }
     ensures { IsReadIn V.nth (KeepsEntry stretches.now.kept.entries) key result }
@@ -59,8 +37,8 @@ pub(crate) fn value_at<V: Follows>(stretches: &Stretches<V>, key: ElementId) -> 
     requires { AreStretches V.reaches (layout stretches.now) }
     ensures { result ≡ value_at_id V.nth stretches.now key }
 {
-    match recent_value(stretches, key) {
-        Some(value) => Some(value),
+    match latest_up_to(&stretches.latest, key) {
+        Some((first, stretch)) => value_in(first, &stretch, key),
         None => kept_value(stretches, key),
     }
 }

@@ -1,15 +1,13 @@
 //! One value less.
-ghost use Rattle.std.specs.Prelude.{◌≡◌, ◌+◌, ◌<◌, ◌≤◌, None, Some, IfNone, IfOk, IfSome, IsFalse, IsOk, IsTrue, OnErr};
-ghost use Rattle.std.specs.Prelude.{OnOk};
+ghost use Rattle.std.specs.Prelude.{◌≡◌, ◌+◌, ◌<◌, ◌≤◌, IfOk, IsFalse, IsOk, IsTrue, OnErr, OnOk};
 ghost use Rattle.std.specs.BTreeMap.{IsUnchanged};
 ghost use Rattle.stretch_map.specs.Contents.{Entry, layout, value_at_id};
-ghost use Rattle.stretch_map.specs.Stretches.{AreStretches, Covers, EndsAt, IsCut, IsParted, IsReached, IsSame};
-ghost use Rattle.stretch_map.specs.Stretches.{IsShorter, IsTakenFrom, KeepsEntry, Loses, up_to};
+ghost use Rattle.stretch_map.specs.Stretches.{AreStretches, Covers, EndsAt, IsCut, IsLatest, IsParted, IsReached};
+ghost use Rattle.stretch_map.specs.Stretches.{IsSame, IsShorter, IsTakenFrom, IsTakenFromLatest, KeepsEntry, Loses};
 
 use crate::follows::Follows;
-use crate::put::shelve;
-use crate::read::{at_hand, value_at};
-use crate::stretches::{Stretch, Stretches, floor};
+use crate::read::value_at;
+use crate::stretches::{Stretch, Stretches, floor, latest_up_to, replace_latest};
 use fugue_ids::{ElementId, NoMemory};
 use std::collections::BTreeMap;
 
@@ -33,39 +31,60 @@ fn shorter<V: Follows>(first: ElementId, stretch: &Stretch<V>) -> Option<(Elemen
     Some((first, Stretch { value, last }))
 }
 
-/// Whether the stretch at hand ended with the key, and is without it now.
-fn shorten_recent<V: Follows>(stretches: &mut Stretches<V>, key: ElementId) -> bool
+/// The last stretch of its replica without its last identifier.
+fn shorten_entry<V: Follows>(
+    latest: &mut BTreeMap<u32, (u32, Stretch<V>)>,
+    first: ElementId,
+    stretch: &Stretch<V>,
+)
+    requires begun { first.counter ≤ stretch.now.last }
+    requires there { IsLatest latest.old.entries (first, stretch.now) }
+    ensures { IsTakenFromLatest latest.old.entries latest.new.entries (first, stretch.now) }
+{
+    match shorter(first, stretch) {
+        Some((_, rest)) => replace_latest(latest, first, rest),
+        None => {
+            latest.remove(&first.replica);
+        }
+    }
+}
+
+/// Whether the last stretch of the key's replica ended with the key, and is without it now.
+fn shorten_latest<V: Follows>(stretches: &mut Stretches<V>, key: ElementId) -> bool
     requires { AreStretches V.reaches (layout stretches.old) }
     ensures on { IsTrue result → Loses V.nth V.reaches (layout stretches.old) (layout stretches.new) key }
     ensures off { IsFalse result → layout stretches.new ≡ layout stretches.old }
-    ensures goes_on { IsFalse result → (e : Entry V) → stretches.old.recent ≡ Some e → Covers e key
+    ensures goes_on { IsFalse result → (e : Entry V) → IsLatest stretches.old.latest.entries e → Covers e key
         → key.counter < e.1.last }
 {
-    let Some((first, stretch)) = at_hand(stretches) else {
+    let Some((first, stretch)) = latest_up_to(&stretches.latest, key) else {
         return false;
     };
-    if first.replica != key.replica || stretch.last != key.counter {
+    if stretch.last != key.counter {
         return false;
     }
-    stretches.recent = shorter(first, &stretch);
+    shorten_entry(&mut stretches.latest, first, &stretch);
     true
 }
 
-/// The stretch at hand does not have the key: if it did, it went to the others. After want of memory all is as before.
+/// No replica's last stretch has the key: the one that did went to the kept ones. After want of memory all is as
+/// before.
 fn shelve_over<V: Follows>(stretches: &mut Stretches<V>, key: ElementId) -> Result<(), NoMemory>
     requires { AreStretches V.reaches (layout stretches.old) }
     ensures same { OnOk result (IsSame V.nth V.reaches (layout stretches.old) (layout stretches.new)) }
-    ensures apart { OnOk result ((e : Entry V) → stretches.new.recent ≡ Some e → Covers e key → ⊥) }
+    ensures apart { OnOk result ((e : Entry V) → IsLatest stretches.new.latest.entries e → Covers e key → ⊥) }
     ensures err { OnErr result (layout stretches.new ≡ layout stretches.old) }
-    ensures sure { ((e : Entry V) → stretches.old.recent ≡ Some e → Covers e key → ⊥) → IsOk result }
+    ensures sure { ((e : Entry V) → IsLatest stretches.old.latest.entries e → Covers e key → ⊥) → IsOk result }
 {
-    let Some((first, stretch)) = at_hand(stretches) else {
+    let Some((first, stretch)) = latest_up_to(&stretches.latest, key) else {
         return Ok(());
     };
     if !covers(first, &stretch, key) {
         return Ok(());
     }
-    shelve(stretches)
+    stretches.kept.insert(first, stretch)?;
+    stretches.latest.remove(&first.replica);
+    Ok(())
 }
 
 /// The kept stretch without its last identifier.
@@ -76,7 +95,7 @@ fn shorten_kept<V: Follows>(
 )
     requires begun { first.counter ≤ stretch.now.last }
     requires there { KeepsEntry kept.old.entries (first, stretch.now) }
-    ensures { IsTakenFrom kept.old kept.new (first, stretch.now) }
+    ensures { IsTakenFrom kept.old.entries kept.new.entries (first, stretch.now) }
 {
     match shorter(first, stretch) {
         Some((_, rest)) => {
@@ -102,7 +121,7 @@ fn cut_behind<V: Follows>(
     requires reached { IsReached V.reaches (first, record { value = value; last = last }) }
     requires covers { Covers {V = V} (first, record { value = value; last = last }) key }
     requires inside { key.counter < last }
-    ensures ok { OnOk result (IsCut V.nth kept.old kept.new (first, record { value = value; last = last }) key) }
+    ensures ok { OnOk result (IsCut V.nth kept.old.entries kept.new.entries (first, record { value = value; last = last }) key) }
     ensures err { OnErr result (IsUnchanged kept.old kept.new) }
 {
     let steps = key.counter - first.counter + 1;
@@ -144,10 +163,10 @@ fn end_at<V: Follows>(
     Ok(())
 }
 
-/// A kept stretch without the key, which the one at hand does not have. After want of memory all is as before.
+/// A kept stretch without the key, which no replica's last one has. After want of memory all is as before.
 fn take_kept<V: Follows>(stretches: &mut Stretches<V>, key: ElementId) -> Result<(), NoMemory>
     requires are { AreStretches V.reaches (layout stretches.old) }
-    requires apart { (e : Entry V) → stretches.old.recent ≡ Some e → Covers e key → ⊥ }
+    requires apart { (e : Entry V) → IsLatest stretches.old.latest.entries e → Covers e key → ⊥ }
     ensures ok { OnOk result (Loses V.nth V.reaches (layout stretches.old) (layout stretches.new) key) }
     ensures err { OnErr result (layout stretches.new ≡ layout stretches.old) }
     ensures sure { EndsAt (layout stretches.old) key → IsOk result }
@@ -180,7 +199,7 @@ pub(crate) fn take_out<V: Follows>(
     ensures sure { EndsAt (layout stretches.old) key → IsOk result }
 {
     let value = value_at(stretches, key);
-    if shorten_recent(stretches, key) {
+    if shorten_latest(stretches, key) {
         return Ok(value);
     }
     shelve_over(stretches, key)?;

@@ -42,6 +42,6 @@ returns-in-Some-clause-ok g c =
     let there : kept_at mid.entries first ≡ Some e.1 = u.2 first (id_at-other (ahead first steps) first apart) ∙ c.requires.there in
     let after : Stretch g.row.V.Denot = record { value = c.args.value; last = key.counter } in
     let written = c.get_mut.follows.holds after in
-    let lent : Stretch g.row.V.Denot → Type 0 = λ s. IsCut nth old (c.get_mut.follows.lender s) e key in
+    let lent : Stretch g.row.V.Denot → Type 0 = λ s. IsCut nth old.entries (c.get_mut.follows.lender s).entries e key in
     subst lent (λ i. record { value = c.args.value; last = kc i })
     (cut_by nth old mid (c.get_mut.follows.lender after) e key c.requires.covers u (written.3 (ap is_some there)) written.4)

@@ -1,4 +1,4 @@
-use Rattle.std.proofs.Common.{inr, refl, subst, ◌<◌}
+use Rattle.std.proofs.Common.{inr, subst, ◌<◌}
 use Rattle.fugue_ids.specs.Identifiers.{Identifier}
 use Rattle.stretch_map.proofs.TakenLemmas.{parted_kept}
 use Rattle.stretch_map.specs.Contents.{layout}
@@ -10,5 +10,5 @@ cut_behind-requires-clause-reached g c = c.requires.are.reached _ (inr c.require
 pub returns-clause-ok : goal.returns-clause-ok
 returns-clause-ok g c =
     parted_kept g.V.Follows.nth g.V.Follows.reaches (layout c.args.stretches.now) c.requires.are c.args.key g.met.V.Follows.adds g.met.V.Follows.goes_on (c.args.first, c.args.stretch.now)
-    c.requires.there c.requires.covers (subst (λ (k : Identifier). k.counter < c.args.stretch.now.last) c.key.view_is c.if-stretch-key.false) c.args.stretches.now.kept c.cut_behind.new.kept refl
+    c.requires.there c.requires.covers (subst (λ (k : Identifier). k.counter < c.args.stretch.now.last) c.key.view_is c.if-stretch-key.false) c.cut_behind.new.kept.entries
     c.in_ok-cut_behind.ensures.ok

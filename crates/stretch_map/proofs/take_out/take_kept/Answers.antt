@@ -21,5 +21,5 @@ returns-clause-ok g c =
     let old = layout c.args.stretches.now in
     let mid = layout c.end_at.new.stretches in
     let parted = c.in_ok-end_at.ensures.ok in
-    taken_after g.V.Follows.nth g.V.Follows.reaches old c.requires.are c.args.key mid _ parted (c.if-not-covers.ensures.on refl) c.end_at.new.stretches.kept c.shorten_kept.new.kept refl
+    taken_after g.V.Follows.nth g.V.Follows.reaches old c.requires.are c.args.key mid _ parted (c.if-not-covers.ensures.on refl) c.shorten_kept.new.kept.entries
     c.key.inside.counter (ap (λ (k : Identifier). k.counter) c.key.view_is) c.shorten_kept.ensures
