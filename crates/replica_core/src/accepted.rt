@@ -14,7 +14,7 @@ ghost use Rattle.section_catalogue.specs.Manuscript.{GrowsBy, IsPlaceOf, IsReady
 use crate::history::History;
 use crate::look_ups::ShownSection;
 use fugue_ids::{ElementId, Failed, MOST_OPERATIONS, NoMemory, Op, OpKey};
-use origin_model::{Lookup, NoMemoryFor, Verdict, verdict_in};
+use origin_model::{Lookup, NoMemoryFor, Role, Verdict, fits_at, verdict_in};
 use outer_ports::Sink;
 use section_catalogue::Manuscript;
 use section_list::SectionList;
@@ -68,6 +68,27 @@ fn take_in_delete(manuscript: &mut Manuscript, target: ElementId) -> Result<(), 
     }
 }
 
+impl Lookup for Accepted {
+    ghost history = { λ accepted. accepted };
+
+    fn holder(&self, id: ElementId) -> Option<&Op> {
+        self.history.holder(id)
+    }
+
+    fn has_delete(&self, target: ElementId) -> bool {
+        self.history.has_delete(target)
+    }
+
+    /// An element fits by its place, which is found without its operation. What has no place is a note, or is not
+    /// there.
+    fn fits(&self, id: ElementId, role: Role) -> Option<bool> {
+        match self.manuscript.place_of(id) {
+            Some(place) => Some(fits_at(role, &place)),
+            None => self.history.fits(id, role),
+        }
+    }
+}
+
 impl Accepted {
     pub fn new(alloc: Global) -> Accepted
         ensures { result ≡ [] }
@@ -90,7 +111,7 @@ impl Accepted {
     pub fn verdict(&self, op: &Op) -> Verdict
         ensures { result ≡ verdict_on self.now op.now }
     {
-        verdict_in(&self.history, op)
+        verdict_in(self, op)
     }
 
     /// Whether an accepted operation has the identifier.
