@@ -17,7 +17,7 @@ use std::process::Abort;
 use std::test::Fail;
 
 /// Whether this is written of the sections as they are arranged.
-fn arranges(alloc: Global, replica: &Replica, text: &[u8]) -> Result<bool, Fail> {
+pub fn arranges(alloc: Global, replica: &Replica, text: &[u8]) -> Result<bool, Fail> {
     let mut written = MemSink::new(alloc, 100, Vec::new(alloc));
     write_arranged(alloc, replica, &mut written)?;
     Ok(written.written() == text)

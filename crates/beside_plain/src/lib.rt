@@ -12,6 +12,8 @@ mod bulk_turns;
 #[cfg(test)]
 mod comments;
 #[cfg(test)]
+mod drafts;
+#[cfg(test)]
 mod edits;
 #[cfg(test)]
 mod interleaved;

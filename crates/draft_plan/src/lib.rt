@@ -12,12 +12,8 @@ mod part;
 mod reading;
 mod revising;
 mod revision;
-#[cfg(test)]
-mod revision_tests;
 mod rises;
 mod shaping;
-#[cfg(test)]
-mod tests;
 
 pub use differences::first_difference;
 pub use draft::{Draft, DraftFault};

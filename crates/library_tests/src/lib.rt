@@ -13,6 +13,8 @@ mod clusters;
 #[cfg(test)]
 mod dice;
 #[cfg(test)]
+mod differences;
+#[cfg(test)]
 mod frames;
 #[cfg(test)]
 mod identifiers;
