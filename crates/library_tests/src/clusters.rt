@@ -91,19 +91,6 @@ fn make_text(alloc: Global, dice: &mut Dice, count: usize) -> Result<String, All
     Ok(text)
 }
 
-/// A text in which n scalars from `at` on gave way to others.
-fn splice(alloc: Global, text: &str, at: usize, n: usize, new: &str) -> Result<String, AllocError> {
-    let mut spliced = String::new(alloc);
-    for scalar in text.chars().take(at) {
-        spliced.push(scalar)?;
-    }
-    spliced.push_str(new)?;
-    for scalar in text.chars().skip(at).skip(n) {
-        spliced.push(scalar)?;
-    }
-    Ok(spliced)
-}
-
 /// An index of a text answers what the text does, at places here and there and beyond the end.
 #[test]
 fn an_index_is_the_text_that_it_stands_for(rt: HostRuntime) -> Result<(), Fail> {
@@ -118,7 +105,15 @@ fn an_index_is_the_text_that_it_stands_for(rt: HostRuntime) -> Result<(), Fail> 
         let count = dice.roll(if turn % 16 == 0 { 300 } else { 4 });
         let new = make_text(rt.alloc(), &mut dice, count)?;
         index.splice(at, n, new.as_str())?;
-        text = splice(rt.alloc(), text.as_str(), at, n, new.as_str())?;
+        let mut spliced = String::new(rt.alloc());
+        for scalar in text.chars().take(at) {
+            spliced.push(scalar)?;
+        }
+        spliced.push_str(new.as_str())?;
+        for scalar in text.chars().skip(at).skip(n) {
+            spliced.push(scalar)?;
+        }
+        text = spliced;
         equal(&rt, index.len(), text.chars().count());
         for _ in 0..4 {
             let place = dice.number(index.len());

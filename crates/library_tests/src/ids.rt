@@ -1,6 +1,6 @@
 ghost use Rattle.std.specs.Prelude.{◌≡◌, ◌<◌};
 
-use fugue_ids::ElementId;
+use fugue_ids::{ElementId, Op};
 
 /// The element of a replica with a counter.
 pub fn id(replica: u32, counter: u32) -> ElementId
@@ -9,4 +9,15 @@ pub fn id(replica: u32, counter: u32) -> ElementId
     ensures counter { result.counter ≡ counter }
 {
     ElementId { replica, counter }
+}
+
+/// A Text of the section (9, 0).
+pub fn text(own: ElementId, left: Option<ElementId>, right: Option<ElementId>, ch: char) -> Op {
+    Op::Text {
+        id: own,
+        section: id(9, 0),
+        left,
+        right,
+        ch,
+    }
 }

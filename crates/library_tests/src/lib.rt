@@ -17,28 +17,18 @@ mod differences;
 #[cfg(test)]
 mod frames;
 #[cfg(test)]
-mod identifiers;
-#[cfg(test)]
 mod ids;
 #[cfg(test)]
-mod log;
+mod lists;
 #[cfg(test)]
-mod note_frames;
+mod log;
 #[cfg(test)]
 mod ports;
 #[cfg(test)]
 mod rope;
 #[cfg(test)]
-mod run_frames;
-#[cfg(test)]
-mod run_readings;
-#[cfg(test)]
 mod runs;
 #[cfg(test)]
-mod section;
-#[cfg(test)]
-mod sides;
-#[cfg(test)]
-mod stretches;
+mod values;
 #[cfg(test)]
 mod waiting;

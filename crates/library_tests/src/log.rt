@@ -3,7 +3,7 @@ use crate::dice::Dice;
 use Happens::{Goes, Opens, Says};
 use fugue_ids::{ByteList, Op};
 use op_frame::{First, encode, first_frame};
-use relay_core::{Event, MOST_LOGGED, Relay, Reply};
+use relay_core::{Event, MOST_LOGGED, Relay};
 use std::alloc::{AllocError, Global};
 use std::hash::{BuildHasherDefault, FoldHasher};
 use std::process::Abort;
@@ -143,31 +143,29 @@ const ROWS: &[Row] = &[
     (6, Says(&[0]), &[0x58, 1]),
 ];
 
-/// Whether there is one reply, with these bytes, that closes the session, or none where there are no bytes.
-fn is_answered(replies: &[Reply], session: u32, bytes: &[u8]) -> bool {
-    match replies {
-        [] => bytes.is_empty(),
-        [reply] => reply.session == session && reply.closes && reply.bytes.as_slice() == bytes,
-        _ => false,
-    }
-}
-
-/// The replies to what happens to a session.
-fn replies_to(
+/// Whether what happens to a session has one reply, with these bytes, that closes the session, or none where there are no
+/// bytes.
+fn is_answered(
     alloc: Global,
     relay: &mut Relay<Plain>,
     session: u32,
-    happens: &Happens,
-) -> Result<Vec<Reply>, Fail> {
+    happens: Happens,
+    bytes: &[u8],
+) -> Result<bool, Fail> {
     let event = match happens {
         Opens => Event::Opened(session),
-        Says(bytes) => Event::Piece(session, ByteList::new(bytes.to_vec(alloc)?)),
+        Says(piece) => Event::Piece(session, ByteList::new(piece.to_vec(alloc)?)),
         Goes => Event::Gone(session),
     };
-    match relay.step(event) {
-        Ok(replies) => Ok(replies),
-        Err(_) => Err(Fail::from(AllocError)),
-    }
+    let replies = match relay.step(event) {
+        Ok(replies) => replies,
+        Err(_) => return Err(Fail::from(AllocError)),
+    };
+    Ok(match replies.as_slice() {
+        [] => bytes.is_empty(),
+        [reply] => reply.session == session && reply.closes && reply.bytes.as_slice() == bytes,
+        _ => false,
+    })
 }
 
 fn check_rows(
@@ -177,8 +175,7 @@ fn check_rows(
     rows: &[Row],
 ) -> Result<(), Fail> {
     for (row, (session, happens, want)) in rows.iter().enumerate() {
-        let replies = replies_to(alloc, relay, *session, happens)?;
-        let answered = is_answered(&replies, *session, want);
+        let answered = is_answered(alloc, relay, *session, *happens, want)?;
         holds_at(rt, &(row, *session, *want), answered);
     }
     Ok(())
@@ -344,85 +341,45 @@ fn read_text(alloc: Global, text: &[u8]) -> Result<Told, Fail> {
     Ok(Told::Cursor(cursor))
 }
 
-fn slow_answer(alloc: Global, log: &[Vec<u8>], cursor: u32) -> Result<Vec<u8>, Fail> {
-    let mut bytes = Vec::new(alloc);
-    for frame in log.iter().skip(cursor as usize) {
-        bytes.extend_from_slice(frame.as_slice())?;
-    }
-    bytes.push(0x55)?;
-    bytes.extend_from_slice(&(log.len().min(FEW) as u32).to_be_bytes())?;
-    Ok(bytes)
-}
-
-/// Whether one of the operations finds the log full; those before it join.
-fn is_refused(
-    alloc: Global,
-    limit: usize,
-    log: &mut Vec<Vec<u8>>,
-    ops: &[Op],
-) -> Result<bool, Fail> {
-    for op in ops {
-        let mut own = Vec::new(alloc);
-        encode(op, &mut own)?;
-        if log.contains(&own) {
-            continue;
-        }
-        if log.len() >= limit {
-            return Ok(true);
-        }
-        log.push(own)?;
-    }
-    Ok(false)
-}
-
-/// The reply to a text at its last byte, by reading it anew; no bytes where there is none.
-fn slow_reply(
-    alloc: Global,
-    limit: usize,
-    log: &mut Vec<Vec<u8>>,
-    text: &[u8],
-) -> Result<Vec<u8>, Fail> {
-    let refused = match read_text(alloc, text)? {
-        Told::Cursor(cursor) if cursor as usize > log.len() => 3,
-        Told::Bad => 1,
-        Told::Closing(cursor) => return slow_answer(alloc, log, cursor),
-        Told::Frame(ops) => {
-            if !is_refused(alloc, limit, log, &ops)? {
-                return Ok(Vec::new(alloc));
+/// The reply to a text at its last byte, by reading it anew; no bytes where there is none. The operations of a frame join
+/// the log until one finds it full.
+fn slow_reply(alloc: Global, log: &mut Vec<Vec<u8>>, text: &[u8]) -> Result<Vec<u8>, Fail> {
+    let mut reply = Vec::new(alloc);
+    match read_text(alloc, text)? {
+        Told::Partly => {}
+        Told::Bad => reply.extend_from_slice(&[0x58, 1])?,
+        Told::Cursor(cursor) => {
+            if cursor as usize > log.len() {
+                reply.extend_from_slice(&[0x58, 3])?;
             }
-            2
         }
-        Told::Partly | Told::Cursor(_) => return Ok(Vec::new(alloc)),
-    };
-    Ok(vec![in alloc; 0x58, refused]?)
-}
-
-/// The reply to a piece of a text, from one byte to another.
-fn slow_piece(
-    alloc: Global,
-    log: &mut Vec<Vec<u8>>,
-    text: &[u8],
-    from: usize,
-    to: usize,
-) -> Result<Vec<u8>, Fail> {
-    for end in from..to {
-        let reply = slow_reply(alloc, FEW, log, &text[..text.len().min(end + 1)])?;
-        if !reply.is_empty() {
-            return Ok(reply);
+        Told::Closing(cursor) => {
+            for frame in log.iter().skip(cursor as usize) {
+                reply.extend_from_slice(frame.as_slice())?;
+            }
+            reply.push(0x55)?;
+            reply.extend_from_slice(&(log.len().min(FEW) as u32).to_be_bytes())?;
+        }
+        Told::Frame(ops) => {
+            for op in &ops {
+                let mut own = Vec::new(alloc);
+                encode(op, &mut own)?;
+                if !reply.is_empty() || log.contains(&own) {
+                    continue;
+                }
+                if log.len() >= FEW {
+                    reply.extend_from_slice(&[0x58, 2])?;
+                } else {
+                    log.push(own)?;
+                }
+            }
         }
     }
-    Ok(Vec::new(alloc))
+    Ok(reply)
 }
 
 /// How many operations the log takes here.
 const FEW: usize = 4;
-
-const OPENED: &[Row] = &[
-    (0, Opens, &[]),
-    (1, Opens, &[]),
-    (2, Opens, &[]),
-    (3, Opens, &[]),
-];
 
 /// Four sessions speak in turns that the seed gives, in pieces of one to nine bytes.
 fn talk(
@@ -434,7 +391,10 @@ fn talk(
 ) -> Result<(), Fail> {
     let mut dice = Dice { state: seed };
     let mut said = [0usize; 4];
-    check_rows(rt, alloc, relay, OPENED)?;
+    for session in 0..4 {
+        let is_open = is_answered(alloc, relay, session, Opens, &[])?;
+        holds_at(rt, &session, is_open);
+    }
     for _ in 0..150 {
         // No clause of `Dice` says that the number is below four.
         let session = dice.number(4) % 4;
@@ -442,9 +402,13 @@ fn talk(
         let from = said[session as usize];
         let to = from.saturating_add(1).saturating_add(dice.roll(9));
         let (from, to) = (from.min(to).min(text.len()), to.min(text.len()));
-        let want = slow_piece(alloc, log, text, from, to)?;
-        let replies = replies_to(alloc, relay, session, &Says(&text[from..to]))?;
-        let same = is_answered(&replies, session, &want);
+        let mut want = Vec::new(alloc);
+        for end in from..to {
+            if want.is_empty() {
+                want = slow_reply(alloc, log, &text[..text.len().min(end + 1)])?;
+            }
+        }
+        let same = is_answered(alloc, relay, session, Says(&text[from..to]), &want)?;
         holds_at(rt, &(seed, session, from), same);
         said[session as usize] = if want.is_empty() { to } else { text.len() };
     }

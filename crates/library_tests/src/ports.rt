@@ -4,7 +4,7 @@ mod disk;
 mod dock;
 mod wire;
 
-use crate::assertions::{equal, equal_at, holds_at};
+use crate::assertions::{equal, equal_at};
 use fugue_ids::{BUFFER, Failed, Gather, Out, write_heading, write_scalar, write_whole};
 use outer_ports::{MemSink, MemSource, Source, StdSink, StdSource, SureSink, SureSource};
 use std::fs::File;
@@ -61,19 +61,12 @@ const PIECES: [(usize, Result<&str, Failed>); 5] = [
 ];
 
 #[test]
-fn sources_in_memory_give_pieces_and_fail_where_listed(rt: HostRuntime) -> Result<(), Fail> {
-    let fail = [0].to_vec(rt.alloc())?;
+fn streams_in_memory_pass_pieces_and_fail_where_listed(rt: HostRuntime) -> Result<(), Fail> {
     let text = b"abcde".to_vec(rt.alloc())?;
-    let sure = text.clone()?;
-    let mut source = MemSource::new(text, 2, fail);
+    gives(&rt, &mut SureSource::new(text.clone()?, 2), &PIECES);
+    let mut source = MemSource::new(text, 2, [0].to_vec(rt.alloc())?);
     gives(&rt, &mut source, &[(3, Err(Failed))]);
     gives(&rt, &mut source, &PIECES);
-    gives(&rt, &mut SureSource::new(sure, 2), &PIECES);
-    Ok(())
-}
-
-#[test]
-fn sinks_in_memory_take_pieces_and_fail_where_listed(rt: HostRuntime) -> Result<(), Fail> {
     let mut sink = MemSink::new(rt.alloc(), 2, [1].to_vec(rt.alloc())?);
     let rows = [
         ("abc", Ok(2)),
@@ -83,11 +76,6 @@ fn sinks_in_memory_take_pieces_and_fail_where_listed(rt: HostRuntime) -> Result<
     ];
     takes(&rt, &mut sink, &rows);
     equal(&rt, sink.written(), b"abd".as_slice());
-    Ok(())
-}
-
-#[test]
-fn a_sure_sink_takes_what_fits(rt: HostRuntime) -> Result<(), Fail> {
     let mut sink = SureSink::new(rt.alloc(), 2, 12)?;
     let whole = write_whole(&mut sink, b"abc").is_ok();
     prove!(whole);
@@ -99,24 +87,20 @@ fn a_sure_sink_takes_what_fits(rt: HostRuntime) -> Result<(), Fail> {
     Ok(())
 }
 
-/// Puts more than an array holds, where the second write is to fail.
-fn gather_all(rt: &impl Abort, sink: &mut MemSink, text: &str) {
-    let mut gather = Gather::new();
-    equal(rt, gather.put_heading(sink, "T"), Ok(()));
-    equal(rt, gather.put_scalar(sink, 'ü'), Ok(()));
-    equal(rt, gather.put(sink, text.as_bytes()), Ok(()));
-    equal(rt, sink.written().len(), BUFFER);
-    holds_at(rt, &text, sink.written().starts_with("# T\nüab".as_bytes()));
-    equal(rt, gather.flush(sink), Err(Failed));
-    equal(rt, gather.flush(sink), Ok(()));
-    equal(rt, sink.written().len(), BUFFER);
-}
-
+/// More is put than an array holds, and the second write fails.
 #[test]
 fn gathered_bytes_leave_in_whole_arrays(rt: HostRuntime) -> Result<(), Fail> {
-    let fail = [1].to_vec(rt.alloc())?;
     let text = "ab".repeat(rt.alloc(), BUFFER / 2)?;
-    gather_all(&rt, &mut MemSink::new(rt.alloc(), 2 * BUFFER, fail), &text);
+    let mut sink = MemSink::new(rt.alloc(), 2 * BUFFER, [1].to_vec(rt.alloc())?);
+    let mut gather = Gather::new();
+    equal(&rt, gather.put_heading(&mut sink, "T"), Ok(()));
+    equal(&rt, gather.put_scalar(&mut sink, 'ü'), Ok(()));
+    equal(&rt, gather.put(&mut sink, text.as_bytes()), Ok(()));
+    let is_front = sink.written().starts_with("# T\nüab".as_bytes());
+    equal(&rt, (sink.written().len(), is_front), (BUFFER, true));
+    equal(&rt, gather.flush(&mut sink), Err(Failed));
+    equal(&rt, gather.flush(&mut sink), Ok(()));
+    equal(&rt, sink.written().len(), BUFFER);
     Ok(())
 }
 

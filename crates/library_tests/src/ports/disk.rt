@@ -1,11 +1,10 @@
 mod slow;
 
 use crate::assertions::{equal, equal_at, holds_at};
-use fugue_ids::{Failed, NoMemory};
+use fugue_ids::Failed;
 use outer_ports::{Disk, FileDisk, MemDisk, Opening, Pick, SureDisk};
-use slow::SlowDisk;
-use std::alloc::Global;
-use std::fs::{self, File};
+use slow::leaves;
+use std::fs;
 use std::process::Abort;
 use std::test::Fail;
 
@@ -47,13 +46,6 @@ fn holds<D: Disk>(rt: &impl Abort, disk: &mut D, steps: &[Taken], want: &str) {
     match disk.read_at(0, &mut buf) {
         Ok(count) => equal(rt, buf.get(..count), Some(want.as_bytes())),
         Err(Failed) => holds_at(rt, &want, false),
-    }
-}
-
-fn leaves(rt: &impl Abort, crashed: Result<MemDisk, NoMemory>, want: &str) {
-    match crashed {
-        Ok(mut disk) => holds(rt, &mut disk, &[], want),
-        Err(_) => holds_at(rt, &want, false),
     }
 }
 
@@ -151,29 +143,22 @@ const ROWS: [Row; 8] = [
     },
 ];
 
-/// Compares a disk with the row, and the model's plain program too.
-fn compare(rt: &impl Abort, alloc: Global, row: &Row) -> Result<(), Fail> {
-    let fail = row.fail.to_vec(alloc)?;
-    let first = row.first.as_bytes().to_vec(alloc)?;
-    let slow = SlowDisk::after(row.first, row.steps);
-    let mut disk = MemDisk::new(alloc, first, fail);
-    holds(rt, &mut disk, row.steps, row.seen);
-    for (pick, want) in [
-        (Pick::Old, row.old),
-        (Pick::New, row.new),
-        (Pick::Fill(b'.'), row.filled),
-    ] {
-        leaves(rt, disk.crash(pick), want);
-        holds_at(rt, &want, slow.leaves(pick, want.as_bytes()));
-    }
-    drop(disk);
-    Ok(())
-}
-
 #[test]
 fn a_crash_leaves_what_the_model_says(rt: HostRuntime) -> Result<(), Fail> {
     for row in &ROWS {
-        compare(&rt, rt.alloc(), row)?;
+        let first = row.first.as_bytes().to_vec(rt.alloc())?;
+        let mut disk = MemDisk::new(rt.alloc(), first, row.fail.to_vec(rt.alloc())?);
+        holds(&rt, &mut disk, row.steps, row.seen);
+        for (pick, want) in [
+            (Pick::Old, row.old),
+            (Pick::New, row.new),
+            (Pick::Fill(b'.'), row.filled),
+        ] {
+            holds(&rt, &mut disk.crash(pick)?, &[], want);
+            let is_left = leaves(row.first, row.steps, pick, want.as_bytes());
+            holds_at(&rt, &want, is_left);
+        }
+        drop(disk);
     }
     Ok(())
 }
@@ -187,7 +172,7 @@ fn a_sure_disk_takes_what_fits(rt: HostRuntime) -> Result<(), Fail> {
         (Step::Write(0, "xyz"), Ok(())),
     ];
     holds(&rt, &mut disk, &steps, "xyz");
-    leaves(&rt, disk.crash(Pick::Fill(b'.')), "...");
+    holds(&rt, &mut disk.crash(Pick::Fill(b'.'))?, &[], "...");
     let steps = [
         (Step::Sync, Ok(())),
         (Step::Write(0, ""), Ok(())),
@@ -219,16 +204,6 @@ fn opened(rt: &HostRuntime, path: &str, opening: Opening) -> FileDisk {
     match FileDisk::open(rt, path, opening) {
         Ok(disk) => disk,
         Err(_) => FileDisk::closed(),
-    }
-}
-
-#[test]
-fn a_file_keeps_what_is_written(rt: HostRuntime) {
-    for (opening, steps, left) in KEPT {
-        let mut disk = opened(&rt, "kept", opening);
-        holds(&rt, &mut disk, steps, left);
-        equal(&rt, disk.read_at(left.len() as u64, &mut [0]), Ok(0));
-        drop(disk);
     }
 }
 
@@ -267,7 +242,13 @@ const OPENED: [(&str, [Opening; 2], [Result<u64, Failed>; 2]); 6] = [
 ];
 
 #[test]
-fn a_locked_or_missing_file_is_not_opened(rt: HostRuntime) -> Result<(), Fail> {
+fn a_file_keeps_what_is_written_and_is_locked(rt: HostRuntime) -> Result<(), Fail> {
+    for (opening, steps, left) in KEPT {
+        let mut disk = opened(&rt, "kept", opening);
+        holds(&rt, &mut disk, steps, left);
+        equal(&rt, disk.read_at(left.len() as u64, &mut [0]), Ok(0));
+        drop(disk);
+    }
     fs::write(&rt, "locked", b"abc")?;
     for (path, openings, want) in OPENED {
         let mut first = opened(&rt, path, openings[0]);

@@ -62,10 +62,9 @@ const PIECES: [Call; 8] = [
 ];
 
 #[test]
-fn a_dock_in_memory_serves_and_fails_where_listed(rt: HostRuntime) -> Result<(), Fail> {
+fn docks_in_memory_serve_and_fail_where_listed(rt: HostRuntime) -> Result<(), Fail> {
     let fail = [9].to_vec(rt.alloc())?;
-    let steps = steps(rt.alloc())?;
-    let mut dock = MemDock::new(rt.alloc(), steps, 2, fail);
+    let mut dock = MemDock::new(rt.alloc(), steps(rt.alloc())?, 2, fail);
     equal(&rt, dock.listen(9), Ok(()));
     serves(&rt, &mut dock, &PIECES);
     let calls = [
@@ -74,20 +73,11 @@ fn a_dock_in_memory_serves_and_fails_where_listed(rt: HostRuntime) -> Result<(),
         Call::Send(8, "u", Ok(1)),
     ];
     serves(&rt, &mut dock, &calls);
-    equal(
-        &rt,
-        (dock.sent(7), dock.sent(9)),
-        (b"xyz".as_slice(), b"".as_slice()),
-    );
+    let sent = (dock.sent(7), dock.sent(9));
+    equal(&rt, sent, (b"xyz".as_slice(), b"".as_slice()));
     equal(&rt, (dock.port(), dock.ended()), (Some(9), [7].as_slice()));
     drop(dock);
-    Ok(())
-}
-
-#[test]
-fn a_sure_dock_takes_what_fits(rt: HostRuntime) -> Result<(), Fail> {
-    let steps = steps(rt.alloc())?;
-    let mut dock = SureDock::new(rt.alloc(), steps, 2, 3)?;
+    let mut dock = SureDock::new(rt.alloc(), steps(rt.alloc())?, 2, 3)?;
     equal(&rt, dock.listen(9), Ok(()));
     serves(&rt, &mut dock, &PIECES);
     let calls = [
@@ -120,14 +110,25 @@ const HEARD: [Call; 5] = [
     Call::Send(0, "more", Ok(4)),
 ];
 
+/// A peer that leaves bytes unread when it goes resets its connection.
 #[test]
-fn sessions_come_one_after_another(rt: HostRuntime) {
+fn sessions_come_one_after_another_and_a_lost_peer_is_gone(rt: HostRuntime) {
     let mut dock = TcpDock::new(rt, io::sink());
+    serves(&rt, &mut dock, &[Call::Next(1, Err(Failed), "")]);
+    let port = listen(&mut dock);
     let mut first = TcpWire::new(rt, io::sink());
     let mut second = TcpWire::new(rt, io::sink());
-    let dial = (wire::Call::Dial(listen(&mut dock)), Ok(0));
-    passes(&rt, &mut first, &[dial]);
-    passes(&rt, &mut second, &[dial, (wire::Call::Write("x"), Ok(1))]);
+    let rows = [
+        (wire::Call::Write("x"), Err(Failed)),
+        (wire::Call::Read(""), Err(Failed)),
+        (wire::Call::Dial(port), Ok(0)),
+    ];
+    passes(&rt, &mut first, &rows);
+    let rows = [
+        (wire::Call::Dial(port), Ok(0)),
+        (wire::Call::Write("x"), Ok(1)),
+    ];
+    passes(&rt, &mut second, &rows);
     passes(&rt, &mut first, &[(wire::Call::Write("abc"), Ok(3))]);
     serves(&rt, &mut dock, &HEARD);
     let rows = [
@@ -140,31 +141,10 @@ fn sessions_come_one_after_another(rt: HostRuntime) {
         Call::Next(4, Ok(DockStep::Gone(0)), ""),
         Call::Next(4, Ok(DockStep::Opened(1)), ""),
         Call::Next(4, Ok(DockStep::Bytes(1, 1)), "x"),
+        Call::Send(1, "unread", Ok(6)),
     ];
     serves(&rt, &mut dock, &calls);
     drop(second);
-    drop(dock);
-}
-
-/// A peer that leaves bytes unread when it goes resets its connection.
-#[test]
-fn what_is_not_bound_fails_and_a_lost_peer_is_gone(rt: HostRuntime) {
-    let mut dock = TcpDock::new(rt, io::sink());
-    serves(&rt, &mut dock, &[Call::Next(1, Err(Failed), "")]);
-    let port = listen(&mut dock);
-    let mut wire = TcpWire::new(rt, io::sink());
-    let rows = [
-        (wire::Call::Write("x"), Err(Failed)),
-        (wire::Call::Read(""), Err(Failed)),
-        (wire::Call::Dial(port), Ok(0)),
-    ];
-    passes(&rt, &mut wire, &rows);
-    let calls = [
-        Call::Next(4, Ok(DockStep::Opened(0)), ""),
-        Call::Send(0, "unread", Ok(6)),
-    ];
-    serves(&rt, &mut dock, &calls);
-    drop(wire);
-    serves(&rt, &mut dock, &[Call::Next(4, Ok(DockStep::Gone(0)), "")]);
+    serves(&rt, &mut dock, &[Call::Next(4, Ok(DockStep::Gone(1)), "")]);
     drop(dock);
 }

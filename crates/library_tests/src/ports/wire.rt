@@ -41,18 +41,12 @@ const PIECES: [(Call, Result<usize, Failed>); 3] = [
 
 #[test]
 fn wires_in_memory_pass_pieces_and_fail_where_listed(rt: HostRuntime) -> Result<(), Fail> {
-    let fail = [3].to_vec(rt.alloc())?;
     let reply = b"abc".to_vec(rt.alloc())?;
-    let mut wire = MemWire::new(rt.alloc(), reply, 2, fail);
+    let mut wire = MemWire::new(rt.alloc(), reply, 2, [3].to_vec(rt.alloc())?);
     passes(&rt, &mut wire, &PIECES);
     passes(&rt, &mut wire, &[(Call::Write("x"), Err(Failed))]);
     equal(&rt, (wire.port(), wire.said()), (Some(7), b"xy".as_slice()));
     drop(wire);
-    Ok(())
-}
-
-#[test]
-fn a_sure_wire_takes_what_fits(rt: HostRuntime) -> Result<(), Fail> {
     let reply = b"abc".to_vec(rt.alloc())?;
     let mut wire = SureWire::new(rt.alloc(), reply, 2, 3)?;
     passes(&rt, &mut wire, &PIECES);

@@ -11,12 +11,7 @@ use run_store::{Cell, RunStore};
 
 /// Where a cell stands that there is.
 pub fn position(cells: &[Cell], id: Option<ElementId>) -> Option<usize> {
-    for (i, cell) in cells.iter().enumerate() {
-        if Some(cell.id) == id {
-            return Some(i);
-        }
-    }
-    None
+    cells.iter().position(|cell| Some(cell.id) == id)
 }
 
 pub fn id_at(cells: &[Cell], i: usize) -> Option<ElementId> {
@@ -26,24 +21,15 @@ pub fn id_at(cells: &[Cell], i: usize) -> Option<ElementId> {
     }
 }
 
-/// The cell of an origin.
-fn cell_of<'a>(cells: &'a [Cell], origin: &Option<ElementId>) -> Option<&'a Cell> {
-    for cell in cells {
-        if Some(cell.id) == *origin {
-            return Some(cell);
-        }
-    }
-    None
-}
-
 /// The key of a new cell with these origins.
 pub fn new_key(cells: &[Cell], left: &Option<ElementId>, right: &Option<ElementId>) -> Key {
-    let before = cell_of(cells, left);
+    let before = cells.iter().find(|cell| Some(cell.id) == *left);
+    let behind = cells.iter().find(|cell| Some(cell.id) == *right);
     let depth = match before {
         Some(cell) => cell.key.depth.saturating_add(1),
         None => 1,
     };
-    let forest = match (before, cell_of(cells, right)) {
+    let forest = match (before, behind) {
         (Some(cell), _) if cell.right == *right => 0,
         (_, Some(cell)) if cell.left == *left => cell.key.forest.saturating_add(1),
         _ => 0,

@@ -1,0 +1,78 @@
+//! Titles, copies and lists of bytes, and what the faults of the libraries say.
+
+use crate::assertions::{equal, equal_at, holds_at};
+use crate::ids::id;
+use fugue_ids::{ByteList, ElementId, Failed, NoMemory, Op, Title, TitleFault, has_line_end};
+use op_frame::FrameFault;
+use std::test::Fail;
+
+/// A text that is repeated so often, and what is wrong with it as a title.
+const TITLES: [(&str, usize, Option<TitleFault>); 9] = [
+    ("T", 1, None),
+    ("Über den Fluß", 1, None),
+    ("", 1, Some(TitleFault::Empty)),
+    ("a\nb", 1, Some(TitleFault::LineEnd)),
+    ("a\r", 1, Some(TitleFault::LineEnd)),
+    ("a", 480, None),
+    ("ü", 240, None),
+    ("a", 481, Some(TitleFault::TooLong)),
+    ("\n", 481, Some(TitleFault::TooLong)),
+];
+
+#[test]
+fn titles_are_lines_and_copies_are_equal(rt: HostRuntime) -> Result<(), Fail> {
+    for (letters, count, wanted) in TITLES {
+        let text = letters.repeat(rt.alloc(), count)?;
+        let (found, fault) = match Title::read(rt.alloc(), text.as_str()) {
+            Ok(title) => (title.as_str() == text.as_str(), None),
+            Err(fault) => (false, Some(fault)),
+        };
+        equal_at(&rt, &(letters, count), fault, wanted);
+        holds_at(&rt, &(letters, count), found == wanted.is_none());
+    }
+    let op = Op::Section {
+        id: id(9, 0),
+        left: None,
+        right: ElementId::new(0, 7),
+        title: Title::read(rt.alloc(), "T")?,
+    };
+    let copy = op.clone_in(rt.alloc())?;
+    holds_at(
+        &rt,
+        &"copy",
+        copy == op && copy.id() == ElementId::new(9, 0),
+    );
+    let list = ByteList::new(b"a\n".to_vec(rt.alloc())?);
+    let same = ByteList::new(b"a\n".to_vec(rt.alloc())?);
+    let is_line = !has_line_end(same.as_slice());
+    holds_at(&rt, &"list", list == same && !is_line);
+    Ok(())
+}
+
+#[test]
+fn faults_say_what_is_wrong(rt: HostRuntime) -> Result<(), Fail> {
+    for (fault, wanted) in [
+        (TitleFault::Empty, "a title is not empty"),
+        (TitleFault::TooLong, "a title has at most 480 bytes"),
+        (TitleFault::LineEnd, "a title is one line"),
+        (TitleFault::NoMemory, "out of memory"),
+    ] {
+        equal(&rt, format!(in rt.alloc(); "{fault}")?.as_str(), wanted);
+    }
+    for (fault, wanted) in [
+        (FrameFault::BadFrame(172), "bad frame at byte 172"),
+        (FrameFault::CutShort(14), "cut short at byte 14"),
+        (FrameFault::ReadFault, "the source failed"),
+        (FrameFault::TooLong, "the stream is too long"),
+        (FrameFault::NoMemory, "out of memory"),
+    ] {
+        equal(&rt, format!(in rt.alloc(); "{fault}")?.as_str(), wanted);
+    }
+    let text = format!(in rt.alloc(); "{NoMemory}, {Failed}")?;
+    equal(
+        &rt,
+        text.as_str(),
+        "out of memory, a read or a write failed",
+    );
+    Ok(())
+}
