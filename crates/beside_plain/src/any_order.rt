@@ -31,47 +31,25 @@ const POOL: &[Line] = &[
 /// In each turn the earliest Ready operation of the stream is accepted, where there is one.
 fn close(alloc: Global, replica: &mut PlainReplica, stream: &[Op]) -> Result<(), Fail> {
     for _ in 0..stream.len() {
-        accept_earliest(alloc, replica, stream)?;
-    }
-    Ok(())
-}
-
-fn accept_earliest(alloc: Global, replica: &mut PlainReplica, stream: &[Op]) -> Result<(), Fail> {
-    for op in stream {
-        if replica.verdict(op) == Verdict::Ready {
-            let copy = op.clone_in(alloc)?;
-            replica.accept(copy)?;
-            return Ok(());
+        let ready = stream
+            .iter()
+            .find(|op| replica.verdict(*op) == Verdict::Ready);
+        if let Some(op) = ready {
+            let op = op.clone_in(alloc)?;
+            if replica.verdict(&op) == Verdict::Ready {
+                replica.accept(op)?;
+            }
         }
     }
     Ok(())
 }
 
-/// The operations that the digits of a number stand for.
-fn stream_of(
-    rt: &impl Abort,
-    alloc: Global,
-    length: usize,
-    digits: usize,
-) -> Result<Vec<Op>, Fail> {
-    let mut stream = Vec::new(alloc);
-    let mut rest = digits;
-    for _ in 0..length {
-        stream.push(op(rt, alloc, POOL[rest % POOL.len()])?)?;
-        rest /= POOL.len();
-    }
-    Ok(stream)
-}
-
-fn compare(
-    rt: &impl Abort,
-    alloc: Global,
-    plain: &mut Plain,
-    closed: &mut PlainReplica,
-    stream: &[Op],
-) -> Result<usize, Fail> {
+/// How many operations the stream accepts, which are those of its closure.
+fn count_accepted(rt: &impl Abort, alloc: Global, stream: &[Op]) -> Result<usize, Fail> {
+    let mut plain = Plain::new(alloc);
+    let mut closed = PlainReplica::new(alloc);
     plain.take_all(alloc, stream)?;
-    close(alloc, closed, stream)?;
+    close(alloc, &mut closed, stream)?;
     let ops = plain.accepted.ops();
     let is_same_set = ops.len() == closed.ops().len()
         && ops.iter().all(|op| closed.ops().contains(op));
@@ -79,19 +57,17 @@ fn compare(
     Ok(ops.len())
 }
 
-/// How many operations the stream accepts.
-fn count_accepted(rt: &impl Abort, alloc: Global, stream: &[Op]) -> Result<usize, Fail> {
-    let mut plain = Plain::new(alloc);
-    let mut closed = PlainReplica::new(alloc);
-    compare(rt, alloc, &mut plain, &mut closed, stream)
-}
-
 #[test]
 fn every_small_stream_accepts_its_closure(rt: HostRuntime) -> Result<(), Fail> {
     let mut accepted: usize = 0;
     for (length, streams) in [(0, 1), (1, 9), (2, 81), (3, 729), (4, 6_561), (5, 59_049)] {
         for digits in 0..streams {
-            let stream = stream_of(&rt, rt.alloc(), length, digits)?;
+            let mut stream = Vec::new(rt.alloc());
+            let mut rest: usize = digits;
+            for _ in 0..length {
+                stream.push(op(&rt, rt.alloc(), POOL[rest % POOL.len()])?)?;
+                rest /= POOL.len();
+            }
             let count = count_accepted(&rt, rt.alloc(), stream.as_slice())?;
             accepted = accepted.saturating_add(count);
         }

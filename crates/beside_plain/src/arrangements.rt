@@ -6,7 +6,7 @@ use crate::op_lines::Line::{self, Coded, Delete, Section, Text};
 use crate::op_lines::{NONE, Name, note, op};
 use crate::plain::Plain;
 use crate::plain_notes::arranged_text;
-use crate::replicas::{feed_lines, feed_one, feed_ops};
+use crate::replicas::{feed_lines, feed_one};
 use crate::turns::Dice;
 use catalogue_notes::{MOVE_CODE, MoveFault, RETITLE_CODE, move_section, retitle, write_arranged};
 use fugue_ids::{Op, Title};
@@ -202,40 +202,7 @@ fn answers(rt: &impl Abort, alloc: Global, replica: &mut Replica, row: &Row) -> 
     Ok(())
 }
 
-#[test]
-fn moves_and_retitles_answer_make_and_show_what_was_asked(rt: HostRuntime) -> Result<(), Fail> {
-    for row in ROWS {
-        let mut replica = Replica::new(rt.alloc(), 1, 100, row.most)?;
-        let done = answers(&rt, rt.alloc(), &mut replica, row);
-        drop(replica);
-        done?;
-    }
-    Ok(())
-}
-
-/// Feeds the lines in the order of that number, whatever they wait for.
-fn feed_permuted(
-    rt: &impl Abort,
-    alloc: Global,
-    replica: &mut Replica,
-    lines: &[Line],
-    number: usize,
-) -> Result<(), Fail> {
-    let mut remaining = Vec::from_slice(alloc, lines)?;
-    let mut digits = number;
-    let mut tally = Tally::default();
-    for _ in 0..lines.len() {
-        let choices = remaining.len();
-        if choices == 0 {
-            break;
-        }
-        let line = remaining.remove(digits % choices);
-        digits /= choices;
-        feed_one(rt, replica, op(rt, alloc, line)?, &mut tally)?;
-    }
-    Ok(())
-}
-
+/// Feeds the lines in the order of that number, whatever they wait for, and looks at what is written of them.
 fn arrange_permuted(
     rt: &impl Abort,
     alloc: Global,
@@ -244,7 +211,17 @@ fn arrange_permuted(
     number: usize,
     text: &str,
 ) -> Result<(), Fail> {
-    feed_permuted(rt, alloc, replica, lines, number)?;
+    let mut remaining = Vec::from_slice(alloc, lines)?;
+    let mut digits = number;
+    for _ in 0..lines.len() {
+        let choices = remaining.len();
+        if choices == 0 {
+            break;
+        }
+        let line = remaining.remove(digits % choices);
+        digits /= choices;
+        feed_one(rt, replica, op(rt, alloc, line)?, &mut Tally::default())?;
+    }
     equal_at(rt, &lines, replica.accepted().len(), lines.len());
     let is_arranged = arranges_as_plain(alloc, replica, text.as_bytes())?;
     holds_at(rt, &lines, is_arranged);
@@ -325,14 +302,6 @@ const SETS: &[(&[Line], usize, &str)] = &[
     ),
 ];
 
-#[test]
-fn the_set_of_the_operations_fixes_what_is_arranged(rt: HostRuntime) -> Result<(), Fail> {
-    for (lines, orders, text) in SETS {
-        arranges_in_any_order(&rt, rt.alloc(), lines, *orders, text)?;
-    }
-    Ok(())
-}
-
 const TEXT: Name = (1, 3);
 
 /// Notes that are accepted and are no move and no retitle: codes, names and bodies.
@@ -368,7 +337,16 @@ const MALFORMED: &[(u8, &[Name], &[u8])] = &[
 ];
 
 #[test]
-fn malformed_notes_are_accepted_and_ignored(rt: HostRuntime) -> Result<(), Fail> {
+fn moves_and_retitles_answer_make_and_show_what_was_asked(rt: HostRuntime) -> Result<(), Fail> {
+    for row in ROWS {
+        let mut replica = Replica::new(rt.alloc(), 1, 100, row.most)?;
+        let done = answers(&rt, rt.alloc(), &mut replica, row);
+        drop(replica);
+        done?;
+    }
+    for (lines, orders, text) in SETS {
+        arranges_in_any_order(&rt, rt.alloc(), lines, *orders, text)?;
+    }
     for (code, names, body) in MALFORMED {
         let lines = [
             FIRST,
@@ -378,38 +356,6 @@ fn malformed_notes_are_accepted_and_ignored(rt: HostRuntime) -> Result<(), Fail>
             Coded((2, 0), *code, names, body),
         ];
         arranges_in_any_order(&rt, rt.alloc(), &lines, 24, "# A\na\n# B\n\n# C\n\n")?;
-    }
-    Ok(())
-}
-
-/// A title of that length, by a note.
-fn arrange_long(
-    rt: &impl Abort,
-    alloc: Global,
-    replica: &mut Replica,
-    length: usize,
-) -> Result<bool, Fail> {
-    feed_lines(rt, alloc, replica, THREE, &mut Tally::default())?;
-    let mut body = Vec::from_slice(alloc, b"\0\0\0\x01")?;
-    let mut text = Vec::from_slice(alloc, b"# ")?;
-    for _ in 0..length {
-        body.push(b'x')?;
-        text.push(b'x')?;
-    }
-    text.extend_from_slice(b"\n\n# B\n\n# C\n\n")?;
-    let long = note(rt, alloc, (2, 0), RETITLE_CODE, &[A], &body)?;
-    feed_one(rt, replica, long, &mut Tally::default())?;
-    equal(rt, replica.accepted().len(), 4);
-    arranges(alloc, replica, &text)
-}
-
-#[test]
-fn a_retitle_has_at_most_480_bytes(rt: HostRuntime) -> Result<(), Fail> {
-    for (length, is_title) in [(1, true), (480, true), (481, false)] {
-        let mut replica = Replica::new(rt.alloc(), 1, 100, 100)?;
-        let done = arrange_long(&rt, rt.alloc(), &mut replica, length);
-        drop(replica);
-        equal_at(&rt, &length, done?, is_title);
     }
     Ok(())
 }
@@ -458,20 +404,20 @@ fn foreign(rt: &impl Abort, alloc: Global, pool: &[Op], dice: &mut Dice) -> Resu
     }
 }
 
-/// The replica hears of its own operations and of some first ones, and moves or retitles a section.
-fn act_once(
+/// The replica hears of its own operations and of some first ones, and moves or retitles a section. What it accepted
+/// joins the pool.
+fn act_and_gather(
     rt: &impl Abort,
     alloc: Global,
     replica: &mut Replica,
-    pool: &[Op],
+    pool: &mut Vec<Op>,
     dice: &mut Dice,
 ) -> Result<(), Fail> {
     let heard = dice.roll(pool.len().saturating_add(1));
-    let mut tally = Tally::default();
     for (at, op) in pool.iter().enumerate() {
         let is_own = op.id().is_some_and(|id| id.replica == replica.number());
         if is_own || at < heard {
-            feed_one(rt, replica, op.clone_in(alloc)?, &mut tally)?;
+            feed_one(rt, replica, op.clone_in(alloc)?, &mut Tally::default())?;
         }
     }
     let count = replica.section_count();
@@ -481,18 +427,6 @@ fn act_once(
     };
     let answer = perform(rt, alloc, replica, asked)?;
     equal_at(rt, &asked, answer.is_ok(), count > 0);
-    Ok(())
-}
-
-/// What the replica accepted joins the pool.
-fn act_and_gather(
-    rt: &impl Abort,
-    alloc: Global,
-    replica: &mut Replica,
-    pool: &mut Vec<Op>,
-    dice: &mut Dice,
-) -> Result<(), Fail> {
-    act_once(rt, alloc, replica, pool, dice)?;
     match replica.accepted().last() {
         Some(made) if !pool.contains(made) => pool.push(made.clone_in(alloc)?)?,
         _ => {}
@@ -500,26 +434,32 @@ fn act_and_gather(
     Ok(())
 }
 
-/// One of three authors acts, or a foreign operation comes.
-fn turn(rt: &impl Abort, alloc: Global, pool: &mut Vec<Op>, dice: &mut Dice) -> Result<(), Fail> {
-    let number = match dice.roll(5) {
-        0 => 1,
-        1 => 2,
-        2 => 3,
-        _ => {
-            let made = foreign(rt, alloc, pool, dice)?;
-            pool.push(made)?;
-            return Ok(());
-        }
-    };
-    let mut replica = Replica::new(alloc, number, 1000, 1000)?;
-    let done = act_and_gather(rt, alloc, &mut replica, pool, dice);
-    drop(replica);
-    done
-}
-
 /// So many operations are made. It is prime, so that each step comes to all of them.
 const SIZE: usize = 31;
+
+/// Turns, until there are so many operations: one of three authors acts, or a foreign operation comes.
+fn fill_pool(rt: &impl Abort, alloc: Global, pool: &mut Vec<Op>, seed: u64) -> Result<(), Fail> {
+    let mut dice = Dice { state: seed };
+    for line in [FIRST, SECOND, THIRD, Text(TEXT, A, NONE, NONE, 'a')] {
+        pool.push(op(rt, alloc, line)?)?;
+    }
+    for _ in 0..100 {
+        let turn = u32::try_from(dice.roll(5)).unwrap_or(5);
+        if pool.len() >= SIZE {
+            break;
+        }
+        if turn < 3 {
+            let mut replica = Replica::new(alloc, turn + 1, 1000, 1000)?;
+            let done = act_and_gather(rt, alloc, &mut replica, pool, &mut dice);
+            drop(replica);
+            done?;
+        } else {
+            pool.push(foreign(rt, alloc, pool, &mut dice)?)?;
+        }
+    }
+    equal(rt, pool.len(), SIZE);
+    Ok(())
+}
 
 /// Feeds the pool, each operation `step` after the one before, and compares.
 fn hear_in_order(
@@ -530,48 +470,12 @@ fn hear_in_order(
     step: usize,
     text: &[u8],
 ) -> Result<(), Fail> {
-    let mut tally = Tally::default();
     for turn in 0..SIZE {
         if let Some(op) = pool.get(turn.saturating_mul(step) % SIZE) {
-            feed_one(rt, replica, op.clone_in(alloc)?, &mut tally)?;
+            feed_one(rt, replica, op.clone_in(alloc)?, &mut Tally::default())?;
         }
     }
     holds_at(rt, &step, arranges(alloc, replica, text)?);
-    Ok(())
-}
-
-fn fill_pool(rt: &impl Abort, alloc: Global, pool: &mut Vec<Op>, seed: u64) -> Result<(), Fail> {
-    let mut dice = Dice { state: seed };
-    for line in THREE {
-        pool.push(op(rt, alloc, *line)?)?;
-    }
-    pool.push(op(rt, alloc, Text(TEXT, A, NONE, NONE, 'a'))?)?;
-    for _ in 0..100 {
-        if pool.len() < SIZE {
-            turn(rt, alloc, pool, &mut dice)?;
-        }
-    }
-    equal(rt, pool.len(), SIZE);
-    Ok(())
-}
-
-fn hear_in_orders(
-    rt: &impl Abort,
-    alloc: Global,
-    pool: &mut Vec<Op>,
-    seed: u64,
-) -> Result<(), Fail> {
-    fill_pool(rt, alloc, pool, seed)?;
-    let mut plain = Plain::new(alloc);
-    plain.take_all(alloc, pool)?;
-    assert!(rt; plain.waiting.is_empty());
-    let text = arranged_text(alloc, &plain.accepted)?;
-    for step in 1..SIZE {
-        let mut replica = Replica::new(alloc, 7, 100, 100)?;
-        let done = hear_in_order(rt, alloc, &mut replica, pool, step, &text);
-        drop(replica);
-        done?;
-    }
     Ok(())
 }
 
@@ -579,7 +483,17 @@ fn hear_in_orders(
 fn replicas_that_move_and_retitle_arrange_the_same(rt: HostRuntime) -> Result<(), Fail> {
     for seed in 0..20 {
         let mut pool = Vec::new(rt.alloc());
-        hear_in_orders(&rt, rt.alloc(), &mut pool, seed)?;
+        fill_pool(&rt, rt.alloc(), &mut pool, seed)?;
+        let mut plain = Plain::new(rt.alloc());
+        plain.take_all(rt.alloc(), &pool)?;
+        holds_at(&rt, &seed, plain.waiting.is_empty());
+        let text = arranged_text(rt.alloc(), &plain.accepted)?;
+        for step in 1..SIZE {
+            let mut replica = Replica::new(rt.alloc(), 7, 100, 100)?;
+            let done = hear_in_order(&rt, rt.alloc(), &mut replica, &pool, step, &text);
+            drop(replica);
+            done?;
+        }
     }
     Ok(())
 }

@@ -1,13 +1,15 @@
 //! Comments of three authors who edit around them, beside a plain program of the definitions.
 
-use crate::assertions::{equal, equal_at, holds_at};
+use crate::assertions::{equal_at, holds_at};
 use crate::edits::Edit::{self, Add, Cut, Drop as DropSection, Put};
 use crate::edits::make;
+use crate::plain::Plain;
+use crate::plain_notes::is_withdrawn;
 use crate::replicas::feed_ops;
 use crate::turns::Dice;
 use fugue_ids::{Body, ElementId, Op};
 use margin_notes::{COMMENT_CODE, CommentFault, comment, is_text, write_comments};
-use origin_model::{Place, PlainReplica, Verdict};
+use origin_model::{Place, PlainReplica};
 use outer_ports::MemSink;
 use replica_core::Replica;
 use std::alloc::Global;
@@ -35,21 +37,8 @@ fn anchors(op: &Op) -> Option<(ElementId, ElementId)> {
     }
 }
 
-fn is_withdrawn(plain: &PlainReplica, note: ElementId) -> bool {
-    plain.ops().iter().any(|op| matches!(op, Op::Delete { target } if *target == note))
-}
-
-fn position(elements: &[ElementId], id: ElementId) -> Option<usize> {
-    elements.iter().position(|element| *element == id)
-}
-
-/// How many visible elements stand before the position.
-fn visible_before(all: &[ElementId], shown: &[ElementId], at: usize) -> usize {
-    let before = all.get(..at).unwrap_or(all);
-    before.iter().filter(|id| shown.contains(id)).count()
-}
-
-/// The two numbers of a comment in the section, where it has it.
+/// The two numbers of a comment in the section, where it has it: how many visible elements stand before the first anchor
+/// and how many up to the last one.
 fn span(
     plain: &PlainReplica,
     section: ElementId,
@@ -58,51 +47,20 @@ fn span(
 ) -> Result<Option<(usize, usize)>, Fail> {
     let all = plain.elements(Place::Section(section))?;
     let shown = plain.shown(Place::Section(section))?;
-    match (position(&all, first), position(&all, last)) {
-        (Some(from), Some(to)) if from <= to => Ok(Some((
-            visible_before(&all, &shown, from),
-            visible_before(&all, &shown, to.saturating_add(1)),
-        ))),
-        _ => Ok(None),
+    let mut seen: usize = 0;
+    let mut from = None;
+    for id in &all {
+        if *id == first {
+            from = Some(seen);
+        }
+        if shown.contains(id) {
+            seen = seen.saturating_add(1);
+        }
+        if *id == last {
+            return Ok(from.map(|from| (from, seen)));
+        }
     }
-}
-
-fn push_line(
-    alloc: Global,
-    text: &mut Vec<u8>,
-    number: usize,
-    span: (usize, usize),
-    body: &[u8],
-) -> Result<(), Fail> {
-    let (from, to) = span;
-    let head = format!(in alloc; "{number} {from} {to} ")?;
-    text.extend_from_slice(head.as_bytes())?;
-    text.extend_from_slice(body)?;
-    text.push(b'\n')?;
-    Ok(())
-}
-
-/// The line of the operation, where it is a comment of the section.
-fn push_comment(
-    alloc: Global,
-    text: &mut Vec<u8>,
-    plain: &PlainReplica,
-    number: usize,
-    section: ElementId,
-    op: &Op,
-) -> Result<(), Fail> {
-    let Op::Note { id, body, .. } = op else {
-        return Ok(());
-    };
-    let Some((first, last)) = anchors(op) else {
-        return Ok(());
-    };
-    if let Some(span) = span(plain, section, first, last)?
-        && !is_withdrawn(plain, *id)
-    {
-        push_line(alloc, text, number, span, body.as_slice())?;
-    }
-    Ok(())
+    Ok(None)
 }
 
 /// The operations by identifier: Deletes have none.
@@ -117,43 +75,46 @@ fn by_id(alloc: Global, ops: &[Op]) -> Result<Vec<(ElementId, usize)>, Fail> {
     Ok(found)
 }
 
+/// The lines of all comments, by section and then by identifier.
 fn margins(alloc: Global, plain: &PlainReplica) -> Result<Vec<u8>, Fail> {
     let mut text = Vec::new(alloc);
     let ops = by_id(alloc, plain.ops())?;
-    let mut number: usize = 0;
-    for section in &plain.shown(Place::Catalogue)? {
-        number = number.saturating_add(1);
-        for (_, at) in &ops {
-            if let Some(op) = plain.ops().get(*at) {
-                push_comment(alloc, &mut text, plain, number, *section, op)?;
+    for (k, section) in plain.shown(Place::Catalogue)?.iter().enumerate() {
+        for (id, at) in &ops {
+            let Some(op) = plain.ops().get(*at) else {
+                continue;
+            };
+            let (Some((first, last)), Op::Note { body, .. }) = (anchors(op), op) else {
+                continue;
+            };
+            let span = span(plain, *section, first, last)?;
+            if let Some((from, to)) = span
+                && !is_withdrawn(plain.ops(), *id)
+            {
+                let number = k.saturating_add(1);
+                let head = format!(in alloc; "{number} {from} {to} ")?;
+                text.extend_from_slice(head.as_bytes())?;
+                text.extend_from_slice(body.as_slice())?;
+                text.push(b'\n')?;
             }
         }
     }
     Ok(text)
 }
 
-/// A plain replica that accepts the same operations.
-fn plain_of(rt: &impl Abort, alloc: Global, replica: &Replica) -> Result<PlainReplica, Fail> {
-    let mut plain = PlainReplica::new(alloc);
-    for op in replica.accepted() {
-        let op = op.clone_in(alloc)?;
-        assert!(rt; plain.verdict(&op) == Verdict::Ready);
-        plain.accept(op)?;
-    }
-    Ok(plain)
-}
-
-fn written(alloc: Global, replica: &Replica) -> Result<MemSink, Fail> {
-    let mut sink = MemSink::new(alloc, 1_000_000, Vec::new(alloc));
-    write_comments(alloc, replica, &mut sink)?;
-    Ok(sink)
+/// Whether these lines are written of the comments.
+fn lists(alloc: Global, replica: &Replica, text: &[u8]) -> Result<bool, Fail> {
+    let mut written = MemSink::new(alloc, 1_000_000, Vec::new(alloc));
+    write_comments(alloc, replica, &mut written)?;
+    Ok(written.written() == text)
 }
 
 /// Whether the comments are written as the plain program writes them.
-fn lists_as_plain(rt: &impl Abort, alloc: Global, replica: &Replica) -> Result<bool, Fail> {
-    let plain = plain_of(rt, alloc, replica)?;
-    let wanted = margins(alloc, &plain)?;
-    Ok(written(alloc, replica)?.written() == wanted.as_slice())
+fn lists_as_plain(alloc: Global, replica: &Replica) -> Result<bool, Fail> {
+    let mut plain = Plain::new(alloc);
+    plain.take_all(alloc, replica.accepted())?;
+    let wanted = margins(alloc, &plain.accepted)?;
+    Ok(plain.waiting.is_empty() && lists(alloc, replica, &wanted)?)
 }
 
 /// Comments on scalars, which are the clusters in these tests.
@@ -182,23 +143,7 @@ fn comment_on(
     Ok(())
 }
 
-/// Withdraws one of the notes, or deletes an element, or does it again.
-fn withdraw(
-    rt: &impl Abort,
-    alloc: Global,
-    dice: &mut Dice,
-    replica: &mut Replica,
-) -> Result<(), Fail> {
-    let ids = by_id(alloc, replica.accepted())?;
-    let at = dice.roll(ids.len());
-    if let Some((target, _)) = ids.get(at) {
-        let delete = Op::Delete { target: *target };
-        feed_ops(rt, alloc, replica, &[delete])?;
-    }
-    Ok(())
-}
-
-/// An author comments, withdraws a note, or edits.
+/// An author comments, withdraws a note or deletes an element, or does it again, or edits.
 fn act(rt: &impl Abort, alloc: Global, dice: &mut Dice, replica: &mut Replica) -> Result<(), Fail> {
     let section = dice.roll(replica.section_count().saturating_add(1));
     let shown = replica.text_len(section).unwrap_or(0);
@@ -208,7 +153,13 @@ fn act(rt: &impl Abort, alloc: Global, dice: &mut Dice, replica: &mut Replica) -
             let n = dice.roll(4).min(3) as u32 + 1;
             comment_on(rt, alloc, replica, section, at, n)
         }
-        3 => withdraw(rt, alloc, dice, replica),
+        3 => {
+            let ids = by_id(alloc, replica.accepted())?;
+            match ids.get(dice.roll(ids.len())) {
+                Some((id, _)) => feed_ops(rt, alloc, replica, &[Op::Delete { target: *id }]),
+                None => Ok(()),
+            }
+        }
         _ => {
             let edit = dice.edit(replica);
             let _ = make(rt, alloc, replica, edit)?;
@@ -217,12 +168,7 @@ fn act(rt: &impl Abort, alloc: Global, dice: &mut Dice, replica: &mut Replica) -
     }
 }
 
-/// What one has accepted goes to the other.
-fn hear(rt: &impl Abort, alloc: Global, from: &Replica, to: &mut Replica) -> Result<(), Fail> {
-    feed_ops(rt, alloc, to, from.accepted())
-}
-
-/// A round: each of the three acts, one of them hears of another, and their comments are compared.
+/// Rounds: each of the three acts, one of them hears of another, and their comments are compared.
 fn play(
     rt: &impl Abort,
     alloc: Global,
@@ -231,38 +177,18 @@ fn play(
     b: &mut Replica,
     c: &mut Replica,
 ) -> Result<(), Fail> {
-    for _ in 0..24 {
+    for round in 0..24 {
         act(rt, alloc, dice, a)?;
         act(rt, alloc, dice, b)?;
         act(rt, alloc, dice, c)?;
         match dice.roll(3) {
-            0 => hear(rt, alloc, a, b)?,
-            1 => hear(rt, alloc, b, c)?,
-            _ => hear(rt, alloc, c, a)?,
+            0 => feed_ops(rt, alloc, b, a.accepted())?,
+            1 => feed_ops(rt, alloc, c, b.accepted())?,
+            _ => feed_ops(rt, alloc, a, c.accepted())?,
         }
-        holds_at(rt, &"the first", lists_as_plain(rt, alloc, a)?);
-        holds_at(rt, &"the second", lists_as_plain(rt, alloc, b)?);
-        holds_at(rt, &"the third", lists_as_plain(rt, alloc, c)?);
-    }
-    Ok(())
-}
-
-fn plays(rt: &impl Abort, alloc: Global, seed: u64) -> Result<(), Fail> {
-    let mut a = Replica::new(alloc, 1, 1_000, 1_000)?;
-    let mut b = Replica::new(alloc, 2, 1_000, 1_000)?;
-    let mut c = Replica::new(alloc, 3, 1_000, 1_000)?;
-    let mut dice = Dice { state: seed };
-    let done = play(rt, alloc, &mut dice, &mut a, &mut b, &mut c);
-    drop(a);
-    drop(b);
-    drop(c);
-    done
-}
-
-#[test]
-fn comments_are_those_of_the_plain_program(rt: HostRuntime) -> Result<(), Fail> {
-    for seed in 1..5 {
-        plays(&rt, rt.alloc(), seed)?;
+        for replica in [&*a, &*b, &*c] {
+            holds_at(rt, &round, lists_as_plain(alloc, replica)?);
+        }
     }
     Ok(())
 }
@@ -284,15 +210,27 @@ fn list_rows(rt: &impl Abort, alloc: Global, replica: &mut Replica) -> Result<()
         for edit in *edits {
             let _ = make(rt, alloc, replica, *edit)?;
         }
-        equal(rt, written(alloc, replica)?.written(), wanted.as_bytes());
+        holds_at(rt, wanted, lists(alloc, replica, wanted.as_bytes())?);
     }
     Ok(())
 }
 
 #[test]
-fn a_comment_stays_on_its_passage(rt: HostRuntime) -> Result<(), Fail> {
+fn comments_are_those_of_the_plain_program(rt: HostRuntime) -> Result<(), Fail> {
     let mut replica = Replica::new(rt.alloc(), 1, 100, 100)?;
     let done = list_rows(&rt, rt.alloc(), &mut replica);
     drop(replica);
-    done
+    done?;
+    for seed in 1..5 {
+        let mut a = Replica::new(rt.alloc(), 1, 1_000, 1_000)?;
+        let mut b = Replica::new(rt.alloc(), 2, 1_000, 1_000)?;
+        let mut c = Replica::new(rt.alloc(), 3, 1_000, 1_000)?;
+        let mut dice = Dice { state: seed };
+        let done = play(&rt, rt.alloc(), &mut dice, &mut a, &mut b, &mut c);
+        drop(a);
+        drop(b);
+        drop(c);
+        done?;
+    }
+    Ok(())
 }

@@ -27,20 +27,6 @@ pub type Answer = Result<u32, EditFault>;
 /// The body of the notes that are made.
 pub const BODY: &str = "n";
 
-fn note(
-    rt: &impl Abort,
-    alloc: Global,
-    replica: &mut Replica,
-    section: usize,
-    at: usize,
-) -> Result<Answer, Fail> {
-    let on = replica.scalar_at(section, at).expect(rt, "an element");
-    let names = NoteNames::read(&[on]).expect(rt, "one name");
-    let body = Body::read(alloc, BODY.as_bytes())?;
-    assert!(rt; replica.is_settled() && replica.holds(on));
-    Ok(replica.note(names, CODE, body))
-}
-
 pub fn make(
     rt: &impl Abort,
     alloc: Global,
@@ -53,7 +39,13 @@ pub fn make(
         Cut(section, at, n) => Ok(replica.cut(section, at, n)),
         Add(at, title) => Ok(replica.add(at, Title::read(alloc, title)?)),
         Drop(section) => Ok(replica.drop_section(section)),
-        Note(section, at) => note(rt, alloc, replica, section, at),
+        Note(section, at) => {
+            let on = replica.scalar_at(section, at).expect(rt, "an element");
+            let names = NoteNames::read(&[on]).expect(rt, "one name");
+            let body = Body::read(alloc, BODY.as_bytes())?;
+            assert!(rt; replica.holds(on));
+            Ok(replica.note(names, CODE, body))
+        }
     }
 }
 
@@ -206,7 +198,6 @@ const ROWS: &[Row] = &[
     },
 ];
 
-/// The replica's accepted operations are those of the lines.
 /// The operations that the replica accepted last are those of the lines.
 pub fn accepted_last(
     rt: &impl Abort,
@@ -238,37 +229,19 @@ fn answers(rt: &impl Abort, alloc: Global, replica: &mut Replica, row: &Row) -> 
     }
 }
 
-fn answers_row(rt: &impl Abort, alloc: Global, row: &Row) -> Result<(), Fail> {
-    let mut replica = Replica::new(alloc, 1, 100, row.most)?;
-    let done = answers(rt, alloc, &mut replica, row);
-    drop(replica);
-    done
-}
-
-#[test]
-fn edits_answer_show_and_make_what_was_asked(rt: HostRuntime) -> Result<(), Fail> {
-    for row in ROWS {
-        answers_row(&rt, rt.alloc(), row)?;
-    }
-    Ok(())
-}
-
 const SECTIONS: &[Line] = &[T, Section((9, 1), SECTION, NONE, "U"), Delete(SECTION)];
 
 fn tells_what_is_shown(rt: &impl Abort, alloc: Global, replica: &mut Replica) -> Result<(), Fail> {
     feed_lines(rt, alloc, replica, SECTIONS, &mut Tally::default())?;
     make(rt, alloc, replica, Put(0, 0, "aé€"))??;
     make(rt, alloc, replica, Cut(0, 0, 1))??;
-    equal(rt, replica.section_count(), 1);
-    equal(
-        rt,
-        (replica.text_len(0), replica.text_len(1)),
-        (Some(2), None),
-    );
+    let lengths = (replica.text_len(0), replica.text_len(1));
+    equal(rt, (replica.section_count(), lengths), (1, (Some(2), None)));
     assert!(rt; replica.text_of(1)?.is_none());
+    let (last, next) = (id(rt, (1, 2)), id(rt, (1, 3)));
     equal(
         rt,
-        (replica.holds(id(rt, (1, 2))), replica.holds(id(rt, (1, 3)))),
+        (replica.holds(last), replica.holds(next)),
         (true, false),
     );
     let text = replica.text_of(0)?.expect(rt, "a section");
@@ -277,7 +250,13 @@ fn tells_what_is_shown(rt: &impl Abort, alloc: Global, replica: &mut Replica) ->
 }
 
 #[test]
-fn a_replica_tells_what_it_shows_and_holds(rt: HostRuntime) -> Result<(), Fail> {
+fn edits_answer_show_and_make_what_was_asked(rt: HostRuntime) -> Result<(), Fail> {
+    for row in ROWS {
+        let mut replica = Replica::new(rt.alloc(), 1, 100, row.most)?;
+        let done = answers(&rt, rt.alloc(), &mut replica, row);
+        drop(replica);
+        done?;
+    }
     let mut replica = Replica::new(rt.alloc(), 1, 100, 100)?;
     let done = tells_what_is_shown(&rt, rt.alloc(), &mut replica);
     drop(replica);

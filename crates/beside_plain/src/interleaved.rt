@@ -8,7 +8,7 @@ use crate::plain::Plain;
 use crate::pools::step_beside;
 use crate::replicas::{feed_ops, writes};
 use fugue_ids::Op;
-use replica_core::{Replica, Tally};
+use replica_core::Replica;
 use std::alloc::Global;
 use std::process::Abort;
 use std::test::Fail;
@@ -78,8 +78,16 @@ fn begin(
     Ok(())
 }
 
-/// The pool gains those operations of the replica that it lacks.
-fn gather(alloc: Global, pool: &mut Vec<Op>, replica: &Replica) -> Result<(), Fail> {
+/// What a new replica of this number has heard of and made joins the pool, where it lacks it.
+fn join(
+    rt: &impl Abort,
+    alloc: Global,
+    replica: &mut Replica,
+    pool: &mut Vec<Op>,
+    begun: &[Op],
+    edits: &[Edit],
+) -> Result<(), Fail> {
+    begin(rt, alloc, replica, begun, edits)?;
     for op in replica.accepted() {
         if !pool.contains(op) {
             pool.push(op.clone_in(alloc)?)?;
@@ -88,42 +96,24 @@ fn gather(alloc: Global, pool: &mut Vec<Op>, replica: &Replica) -> Result<(), Fa
     Ok(())
 }
 
-/// What a new replica of this number has heard of and made joins the pool.
-fn join(
-    rt: &impl Abort,
-    alloc: Global,
-    pool: &mut Vec<Op>,
-    begun: &[Op],
-    number: u32,
-    edits: &[Edit],
-) -> Result<(), Fail> {
-    let mut replica = Replica::new(alloc, number, 100, 100)?;
-    let joined = match begin(rt, alloc, &mut replica, begun, edits) {
-        Ok(()) => gather(alloc, pool, &replica),
-        Err(fail) => Err(fail),
-    };
-    drop(replica);
-    joined
-}
-
-/// Delivers the pool, each operation `step` behind the one before, to the author's replica and to the plain one.
+/// Delivers the pool, each operation `step` behind the one before, to the author's replica, as it was when it had made
+/// its edits, and to the plain one.
 fn hear_all(
     rt: &impl Abort,
     alloc: Global,
     replica: &mut Replica,
-    plain: &mut Plain,
     begun: &[Op],
     pool: &[Op],
     author: &Author,
 ) -> Result<(), Fail> {
+    let mut plain = Plain::new(alloc);
     begin(rt, alloc, replica, begun, author.edits)?;
     plain.take_all(alloc, replica.accepted())?;
-    let mut tally = Tally::default();
     let (first, step) = author.order;
     for turn in 0..DELIVERIES {
         let at = first.saturating_add(turn.saturating_mul(step)) % MADE;
         if let Some(op) = pool.get(at) {
-            step_beside(rt, alloc, replica, plain, &mut tally, op)?;
+            step_beside(rt, alloc, replica, &mut plain, op)?;
         }
     }
     assert!(rt; writes(alloc, replica, TEXT.as_bytes())?);
@@ -131,46 +121,33 @@ fn hear_all(
     Ok(())
 }
 
-/// The author's replica, as it was when it had made its edits, hears of the pool.
-fn hears_all(
-    rt: &impl Abort,
-    alloc: Global,
-    begun: &[Op],
-    pool: &[Op],
-    author: &Author,
-) -> Result<(), Fail> {
-    let mut replica = Replica::new(alloc, author.number, 100, 100)?;
-    let mut plain = Plain::new(alloc);
-    let heard = hear_all(rt, alloc, &mut replica, &mut plain, begun, pool, author);
-    drop(replica);
-    heard
-}
-
-fn fill_pool(rt: &impl Abort, alloc: Global, begun: &[Op], pool: &mut Vec<Op>) -> Result<(), Fail> {
-    for author in AUTHORS {
-        join(rt, alloc, pool, begun, author.number, author.edits)?;
-    }
-    equal(rt, pool.len(), MADE);
-    Ok(())
-}
-
-fn all_hear_all(
-    rt: &impl Abort,
-    alloc: Global,
-    begun: &mut Vec<Op>,
-    pool: &mut Vec<Op>,
-) -> Result<(), Fail> {
-    join(rt, alloc, begun, &[], 1, BEGUN)?;
-    fill_pool(rt, alloc, begun, pool)?;
-    for author in AUTHORS {
-        hears_all(rt, alloc, begun, pool, author)?;
-    }
-    Ok(())
-}
-
 #[test]
 fn three_that_hear_all_in_their_own_orders_show_the_same(rt: HostRuntime) -> Result<(), Fail> {
     let mut begun = Vec::new(rt.alloc());
+    let mut replica = Replica::new(rt.alloc(), 1, 100, 100)?;
+    let done = join(&rt, rt.alloc(), &mut replica, &mut begun, &[], BEGUN);
+    drop(replica);
+    done?;
     let mut pool = Vec::new(rt.alloc());
-    all_hear_all(&rt, rt.alloc(), &mut begun, &mut pool)
+    for author in AUTHORS {
+        let mut replica = Replica::new(rt.alloc(), author.number, 100, 100)?;
+        let done = join(
+            &rt,
+            rt.alloc(),
+            &mut replica,
+            &mut pool,
+            &begun,
+            author.edits,
+        );
+        drop(replica);
+        done?;
+    }
+    equal(&rt, pool.len(), MADE);
+    for author in AUTHORS {
+        let mut replica = Replica::new(rt.alloc(), author.number, 100, 100)?;
+        let done = hear_all(&rt, rt.alloc(), &mut replica, &begun, &pool, author);
+        drop(replica);
+        done?;
+    }
+    Ok(())
 }

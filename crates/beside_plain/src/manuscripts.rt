@@ -1,57 +1,20 @@
 //! A manuscript lists, shows and prints what the plain replica does.
 
-use crate::assertions::{equal, holds_at};
+use crate::assertions::{equal, equal_at, holds_at};
 use crate::op_lines::Line::{Delete, Note, Section, Text};
 use crate::op_lines::{
     A, B, BACKWARDS, D, HIDDEN, Line, NONE, Name, OTHER, SECTION, T, X, Y, id, op,
 };
-use crate::plain::{Plain, prints};
+use crate::plain::{Plain, printed};
 use crate::pools::step_beside;
-use fugue_ids::ElementId;
 use origin_model::{Place, PlainReplica};
 use outer_ports::MemSink;
-use replica_core::{Replica, Tally};
+use replica_core::Replica;
 use section_catalogue::Manuscript;
 use section_list::SectionList;
 use std::alloc::Global;
 use std::process::Abort;
 use std::test::Fail;
-
-/// The elements of a place, hidden ones too.
-fn elements(alloc: Global, list: &SectionList) -> Result<Vec<ElementId>, Fail> {
-    let mut found = Vec::new(alloc);
-    let mut last = None;
-    for _ in 0..list.len() {
-        let Some(id) = list.after(last) else {
-            break;
-        };
-        found.push(id)?;
-        last = Some(id);
-    }
-    Ok(found)
-}
-
-/// The visible elements of a place.
-fn visible(alloc: Global, list: &SectionList) -> Result<Vec<ElementId>, Fail> {
-    let mut found = Vec::new(alloc);
-    for i in 0..list.visible_count() {
-        found.extend(list.nth_visible(i))?;
-    }
-    Ok(found)
-}
-
-fn shown_sections(alloc: Global, manuscript: &Manuscript) -> Result<Vec<ElementId>, Fail> {
-    let mut found = Vec::new(alloc);
-    for k in 0..manuscript.section_count() {
-        found.extend(manuscript.section_at(k))?;
-    }
-    Ok(found)
-}
-
-/// Compares in a function that owns nothing.
-fn same(rt: &impl Abort, found: &[ElementId], wanted: &[ElementId]) {
-    equal(rt, found, wanted);
-}
 
 /// The place lists and shows the same elements on both sides, and each has that place.
 fn compare_place(
@@ -62,64 +25,24 @@ fn compare_place(
     place: Place,
     list: &SectionList,
 ) -> Result<(), Fail> {
-    same(rt, &visible(alloc, list)?, &plain.shown(place)?);
-    let all = elements(alloc, list)?;
-    same(rt, &all, &plain.elements(place)?);
+    let mut shown = Vec::new(alloc);
+    for i in 0..list.visible_count() {
+        shown.extend(list.nth_visible(i))?;
+    }
+    holds_at(rt, &place, shown == plain.shown(place)?);
+    let all = plain.elements(place)?;
+    let mut last = None;
     for id in &all {
-        equal(rt, manuscript.place_of(*id), Some(place));
+        equal_at(rt, &place, list.after(last), Some(*id));
+        equal_at(rt, &place, manuscript.place_of(*id), Some(place));
+        last = Some(*id);
     }
-    Ok(())
-}
-
-fn compare_sections(
-    rt: &impl Abort,
-    alloc: Global,
-    manuscript: &Manuscript,
-    plain: &PlainReplica,
-    ids: &[ElementId],
-) -> Result<(), Fail> {
-    for id in ids {
-        let list = manuscript.section(*id).expect(rt, "a section");
-        compare_place(rt, alloc, manuscript, plain, Place::Section(*id), list)?;
-    }
-    Ok(())
-}
-
-/// Every place of the two, hidden sections too.
-fn compare_places(
-    rt: &impl Abort,
-    alloc: Global,
-    manuscript: &Manuscript,
-    plain: &PlainReplica,
-) -> Result<(), Fail> {
-    let catalogue = manuscript.catalogue();
-    compare_place(rt, alloc, manuscript, plain, Place::Catalogue, catalogue)?;
-    compare_sections(rt, alloc, manuscript, plain, &elements(alloc, catalogue)?)?;
-    let shown = shown_sections(alloc, manuscript)?;
-    same(rt, &shown, &plain.shown(Place::Catalogue)?);
-    Ok(())
-}
-
-fn prints_all(alloc: Global, manuscript: &Manuscript, text: &[u8]) -> Result<bool, Fail> {
-    let mut printed = MemSink::new(alloc, 16, Vec::new(alloc));
-    manuscript.write_all(&mut printed)?;
-    Ok(printed.written() == text)
-}
-
-/// Both take in the operations of the lines, each of which is Ready on those before it.
-fn fill(
-    rt: &impl Abort,
-    alloc: Global,
-    replica: &mut Replica,
-    plain: &mut Plain,
-    lines: &[Line],
-) -> Result<(), Fail> {
-    let mut tally = Tally::default();
-    for line in lines {
-        let op = op(rt, alloc, *line)?;
-        step_beside(rt, alloc, replica, plain, &mut tally, &op)?;
-    }
-    equal(rt, replica.accepted().len(), lines.len());
+    equal_at(
+        rt,
+        &place,
+        (list.after(last), list.len()),
+        (None, all.len()),
+    );
     Ok(())
 }
 
@@ -129,7 +52,8 @@ const UNKNOWN: Name = (8, 8);
 /// A note, where it is held.
 const NOTE: Name = (7, 0);
 
-/// Both sides print this text. What they do not hold has no place, and a note has none.
+/// Every place of the two, hidden sections too, and what both print. What they do not hold has no place, and a note has
+/// none.
 fn compare(
     rt: &impl Abort,
     alloc: Global,
@@ -137,18 +61,35 @@ fn compare(
     plain: &PlainReplica,
     wanted: &str,
 ) -> Result<(), Fail> {
-    compare_places(rt, alloc, manuscript, plain)?;
-    let text = wanted.as_bytes();
-    holds_at(rt, &wanted, prints_all(alloc, manuscript, text)?);
-    holds_at(rt, &wanted, prints(alloc, plain, text)?);
-    equal(rt, manuscript.place_of(id(rt, UNKNOWN)), None);
-    equal(rt, manuscript.place_of(id(rt, NOTE)), None);
+    let sections = manuscript.catalogue();
+    compare_place(rt, alloc, manuscript, plain, Place::Catalogue, sections)?;
+    for id in &plain.elements(Place::Catalogue)? {
+        let list = manuscript.section(*id).expect(rt, "a section");
+        compare_place(rt, alloc, manuscript, plain, Place::Section(*id), list)?;
+    }
+    for (k, id) in plain.shown(Place::Catalogue)?.iter().enumerate() {
+        equal_at(rt, &wanted, manuscript.section_at(k), Some(*id));
+    }
     equal(rt, manuscript.section_at(manuscript.section_count()), None);
+    let mut output = MemSink::new(alloc, 16, Vec::new(alloc));
+    manuscript.write_all(&mut output)?;
+    equal_at(rt, &wanted, output.written(), wanted.as_bytes());
+    holds_at(
+        rt,
+        &wanted,
+        printed(alloc, plain)?.as_slice() == wanted.as_bytes(),
+    );
+    let places = (
+        manuscript.place_of(id(rt, UNKNOWN)),
+        manuscript.place_of(id(rt, NOTE)),
+    );
+    equal(rt, places, (None, None));
     // A text, where it is held.
     assert!(rt; manuscript.section(id(rt, (1, 0))).is_none());
     Ok(())
 }
 
+/// Both take in the operations of the lines, each of which is Ready on those before it.
 fn fill_and_compare(
     rt: &impl Abort,
     alloc: Global,
@@ -157,15 +98,12 @@ fn fill_and_compare(
     wanted: &str,
 ) -> Result<(), Fail> {
     let mut plain = Plain::new(alloc);
-    fill(rt, alloc, replica, &mut plain, lines)?;
+    for line in lines {
+        let op = op(rt, alloc, *line)?;
+        step_beside(rt, alloc, replica, &mut plain, &op)?;
+    }
+    equal(rt, replica.accepted().len(), lines.len());
     compare(rt, alloc, replica.places(), &plain.accepted, wanted)
-}
-
-fn compare_lines(rt: &impl Abort, alloc: Global, lines: &[Line], wanted: &str) -> Result<(), Fail> {
-    let mut replica = Replica::new(alloc, 1, 100, 100)?;
-    let done = fill_and_compare(rt, alloc, &mut replica, lines, wanted);
-    drop(replica);
-    done
 }
 
 const TABLE: &[(&[Line], &str)] = &[
@@ -232,7 +170,10 @@ fn a_manuscript_lists_shows_and_prints_what_the_plain_replica_does(
     rt: HostRuntime,
 ) -> Result<(), Fail> {
     for (lines, wanted) in TABLE {
-        compare_lines(&rt, rt.alloc(), lines, wanted)?;
+        let mut replica = Replica::new(rt.alloc(), 1, 100, 100)?;
+        let done = fill_and_compare(&rt, rt.alloc(), &mut replica, lines, wanted);
+        drop(replica);
+        done?;
     }
     Ok(())
 }

@@ -8,7 +8,6 @@ use crate::op_lines::{A, B, D, NONE, Name, SECTION, T, id, op};
 use by_sides::{Node, by_sides};
 use origin_model::{Place, PlainReplica, Verdict};
 use std::alloc::Global;
-use std::prelude::HostRuntime;
 use std::process::Abort;
 use std::test::Fail;
 
@@ -26,32 +25,7 @@ fn take_all(
     Ok(())
 }
 
-fn hide(rt: &impl Abort, alloc: Global, replica: &mut PlainReplica) -> Result<(), Fail> {
-    let all = [id(rt, (1, 1)), id(rt, (2, 0)), id(rt, (1, 0))];
-    let kept = [id(rt, (2, 0)), id(rt, (1, 0))];
-    take_all(rt, alloc, replica, &[T, B, A, D, Delete((1, 1))])?;
-    let section = Place::Section(id(rt, SECTION));
-    equal(rt, replica.elements(section)?.as_slice(), all.as_slice());
-    equal(rt, replica.shown(section)?.as_slice(), kept.as_slice());
-    Ok(())
-}
-
-#[test]
-fn a_delete_hides_and_keeps_the_place(rt: HostRuntime) -> Result<(), Fail> {
-    let mut replica = PlainReplica::new(rt.alloc());
-    hide(&rt, rt.alloc(), &mut replica)
-}
-
-fn verdict_of(
-    rt: &impl Abort,
-    alloc: Global,
-    replica: &PlainReplica,
-    line: Line,
-) -> Result<Verdict, Fail> {
-    let op = op(rt, alloc, line)?;
-    Ok(replica.verdict(&op))
-}
-
+/// Lines with their verdicts behind `T`, another section, `B` and `A`: the first rule that applies decides.
 fn compare_verdicts(
     rt: &impl Abort,
     alloc: Global,
@@ -60,7 +34,13 @@ fn compare_verdicts(
     let stray_section = Verdict::Stray(id(rt, SECTION));
     let stray_text = Verdict::Stray(id(rt, (1, 0)));
     let unknown = Verdict::Missing(id(rt, (7, 0)));
-    let table = [
+    take_all(
+        rt,
+        alloc,
+        replica,
+        &[T, Section((8, 0), NONE, NONE, "U"), B, A],
+    )?;
+    for (line, wanted) in [
         (A, Verdict::Again),
         (Text((1, 1), SECTION, NONE, (1, 0), 'a'), Verdict::Conflict),
         (
@@ -74,54 +54,42 @@ fn compare_verdicts(
         (Delete((7, 0)), unknown),
         (Delete((1, 0)), Verdict::Ready),
         (Text((2, 0), SECTION, (1, 0), (1, 1), 'a'), Verdict::Ready),
-    ];
-    take_all(
-        rt,
-        alloc,
-        replica,
-        &[T, Section((8, 0), NONE, NONE, "U"), B, A],
-    )?;
-    for (line, wanted) in table {
-        equal_at(rt, &line, verdict_of(rt, alloc, replica, line)?, wanted);
+    ] {
+        let op = op(rt, alloc, line)?;
+        equal_at(rt, &line, replica.verdict(&op), wanted);
     }
     Ok(())
 }
 
 #[test]
-fn the_first_line_that_applies_is_the_verdict(rt: HostRuntime) -> Result<(), Fail> {
+fn a_plain_replica_judges_lists_and_hides(rt: HostRuntime) -> Result<(), Fail> {
     let mut replica = PlainReplica::new(rt.alloc());
-    compare_verdicts(&rt, rt.alloc(), &mut replica)
-}
-
-/// The elements of the section, which are these nodes.
-fn list_nodes(
-    rt: &impl Abort,
-    alloc: Global,
-    replica: &mut PlainReplica,
-    nodes: &[Node],
-) -> Result<Vec<Name>, Fail> {
-    take_all(rt, alloc, replica, &[T])?;
-    for (id, left, right) in nodes {
-        let line = Text(*id, SECTION, *left, *right, 'a');
-        take_all(rt, alloc, replica, &[line])?;
-    }
-    let mut names = Vec::new(alloc);
-    for id in &replica.elements(Place::Section(id(rt, SECTION)))? {
-        names.push((id.replica, id.counter))?;
-    }
-    Ok(names)
-}
-
-fn order_of(rt: &impl Abort, alloc: Global, nodes: &[Node]) -> Result<Vec<Name>, Fail> {
-    let mut replica = PlainReplica::new(alloc);
-    list_nodes(rt, alloc, &mut replica, nodes)
+    compare_verdicts(&rt, rt.alloc(), &mut replica)?;
+    take_all(&rt, rt.alloc(), &mut replica, &[D, Delete((1, 1))])?;
+    let place = Place::Section(id(&rt, SECTION));
+    let (a, b, d) = (id(&rt, (1, 1)), id(&rt, (1, 0)), id(&rt, (2, 0)));
+    equal(
+        &rt,
+        replica.elements(place)?.as_slice(),
+        [a, d, b].as_slice(),
+    );
+    equal(&rt, replica.shown(place)?.as_slice(), [d, b].as_slice());
+    Ok(())
 }
 
 /// Whether the order of these nodes, as a replica has it, is that of the sides.
 fn is_by_sides(rt: &impl Abort, alloc: Global, nodes: &[Node]) -> Result<bool, Fail> {
-    let wanted = by_sides(alloc, nodes)?;
-    let found = order_of(rt, alloc, nodes)?;
-    Ok(found.len() == nodes.len() && found == wanted)
+    let mut replica = PlainReplica::new(alloc);
+    take_all(rt, alloc, &mut replica, &[T])?;
+    for (id, left, right) in nodes {
+        let line = Text(*id, SECTION, *left, *right, 'a');
+        take_all(rt, alloc, &mut replica, &[line])?;
+    }
+    let mut found = Vec::new(alloc);
+    for id in &replica.elements(Place::Section(id(rt, SECTION)))? {
+        found.push((id.replica, id.counter))?;
+    }
+    Ok(found.len() == nodes.len() && found == by_sides(alloc, nodes)?)
 }
 
 const P: Name = (1, 0);
@@ -254,43 +222,31 @@ const LISTS: [(&str, &[Node]); 14] = [
     ),
 ];
 
+/// The named lists, and each list of four elements with origins that came before them. The first name of an order is
+/// the start and the end.
 #[test]
 fn the_order_is_that_of_the_sides(rt: HostRuntime) -> Result<(), Fail> {
     for (name, nodes) in LISTS {
         holds_at(&rt, &name, is_by_sides(&rt, rt.alloc(), nodes)?);
     }
-    Ok(())
-}
-
-/// One of the ways in which each element has origins that came before it. The first name is the start and the end.
-fn list_of(alloc: Global, choice: usize, names: &[Name]) -> Result<Vec<Node>, Fail> {
-    let mut nodes = Vec::new(alloc);
-    let mut rest = choice;
-    for count in 1..names.len() {
-        let left = names[rest % count];
-        rest /= count;
-        let right = names[rest % count];
-        rest /= count;
-        nodes.push((names[count], left, right))?;
-    }
-    Ok(nodes)
-}
-
-#[test]
-fn every_list_of_four_elements_stands_as_the_sides_say(rt: HostRuntime) -> Result<(), Fail> {
     let orders: [[Name; 5]; 3] = [
         [NONE, (1, 0), (1, 1), (2, 0), (3, 0)],
         [NONE, (3, 0), (2, 1), (2, 0), (1, 7)],
         [NONE, (2, 0), (3, 0), (1, 0), (2, 1)],
     ];
     for names in orders {
-        for choice in 0..576 {
-            let nodes = list_of(rt.alloc(), choice, &names)?;
-            holds_at(
-                &rt,
-                &choice,
-                is_by_sides(&rt, rt.alloc(), nodes.as_slice())?,
-            );
+        for choice in 0..576usize {
+            let mut nodes = Vec::new(rt.alloc());
+            let mut rest = choice;
+            for count in 1..5 {
+                let left = names[rest % count];
+                rest /= count;
+                let right = names[rest % count];
+                rest /= count;
+                nodes.push((names[count], left, right))?;
+            }
+            let is_so = is_by_sides(&rt, rt.alloc(), nodes.as_slice())?;
+            holds_at(&rt, &(names, choice), is_so);
         }
     }
     Ok(())

@@ -60,18 +60,6 @@ pub fn id(rt: &impl Abort, name: Name) -> ElementId {
     ElementId::new(name.0, name.1).expect(rt, "a replica")
 }
 
-fn origin(name: Name) -> Option<ElementId> {
-    ElementId::new(name.0, name.1)
-}
-
-fn note_names(rt: &impl Abort, alloc: Global, names: &[Name]) -> Result<NoteNames, Fail> {
-    let mut ids = Vec::new(alloc);
-    for name in names {
-        ids.push(id(rt, *name))?;
-    }
-    Ok(NoteNames::read(&ids).expect(rt, "few names"))
-}
-
 pub fn note(
     rt: &impl Abort,
     alloc: Global,
@@ -80,9 +68,13 @@ pub fn note(
     names: &[Name],
     body: &[u8],
 ) -> Result<Op, Fail> {
+    let mut ids = Vec::new(alloc);
+    for name in names {
+        ids.push(id(rt, *name))?;
+    }
     Ok(Op::Note {
         id: id(rt, name),
-        names: note_names(rt, alloc, names)?,
+        names: NoteNames::read(&ids).expect(rt, "few names"),
         code,
         body: Body::read(alloc, body)?,
     })
@@ -94,8 +86,8 @@ pub fn op(rt: &impl Abort, alloc: Global, line: Line) -> Result<Op, Fail> {
         Section(name, left, right, title) => {
             Ok(Op::Section {
                 id: id(rt, name),
-                left: origin(left),
-                right: origin(right),
+                left: ElementId::new(left.0, left.1),
+                right: ElementId::new(right.0, right.1),
                 title: Title::read(alloc, title)?,
             })
         }
@@ -103,8 +95,8 @@ pub fn op(rt: &impl Abort, alloc: Global, line: Line) -> Result<Op, Fail> {
             Ok(Op::Text {
                 id: id(rt, name),
                 section: id(rt, section),
-                left: origin(left),
-                right: origin(right),
+                left: ElementId::new(left.0, left.1),
+                right: ElementId::new(right.0, right.1),
                 ch,
             })
         }

@@ -20,44 +20,41 @@ impl Plain {
         }
     }
 
-    pub fn take_in(&mut self, op: Op) -> Result<(), Fail> {
+    /// Takes in a copy of the operation, and tells whether it was accepted or waits now and did not before.
+    pub fn take_in(&mut self, alloc: Global, op: &Op) -> Result<bool, Fail> {
         // Its equal waits, or another one of its identifier.
         let is_excluded = self.waiting.iter().any(|other| {
-            *other == op || other.id().is_some() && other.id() == op.id()
+            *other == *op || other.id().is_some() && other.id() == op.id()
         });
         if is_excluded {
-            return Ok(());
+            return Ok(false);
         }
-        match self.accepted.verdict(&op) {
-            Verdict::Ready => self.accepted.accept(op)?,
-            Verdict::Missing(_) => self.waiting.push(op)?,
-            Verdict::Again | Verdict::Conflict | Verdict::Stray(_) => {}
+        match self.accepted.verdict(op) {
+            Verdict::Ready => self.accepted.accept(op.clone_in(alloc)?)?,
+            Verdict::Missing(_) => self.waiting.push(op.clone_in(alloc)?)?,
+            Verdict::Again | Verdict::Conflict | Verdict::Stray(_) => return Ok(false),
         }
         for _ in 0..self.waiting.len() {
-            self.settle_one()?;
-        }
-        Ok(())
-    }
-
-    pub fn take_all(&mut self, alloc: Global, ops: &[Op]) -> Result<(), Fail> {
-        for op in ops {
-            self.take_in(op.clone_in(alloc)?)?;
-        }
-        Ok(())
-    }
-
-    fn settle_one(&mut self) -> Result<(), Fail> {
-        let decided = self.waiting.iter().position(|op| {
-            matches!(
-                self.accepted.verdict(op),
-                Verdict::Ready | Verdict::Stray(_)
-            )
-        });
-        if let Some(at) = decided {
+            let decided = self.waiting.iter().position(|op| {
+                matches!(
+                    self.accepted.verdict(op),
+                    Verdict::Ready | Verdict::Stray(_)
+                )
+            });
+            let Some(at) = decided else {
+                break;
+            };
             let op = self.waiting.remove(at);
             if self.accepted.verdict(&op) == Verdict::Ready {
                 self.accepted.accept(op)?;
             }
+        }
+        Ok(true)
+    }
+
+    pub fn take_all(&mut self, alloc: Global, ops: &[Op]) -> Result<(), Fail> {
+        for op in ops {
+            self.take_in(alloc, op)?;
         }
         Ok(())
     }
@@ -68,9 +65,4 @@ pub fn printed(alloc: Global, replica: &PlainReplica) -> Result<Vec<u8>, Fail> {
     let mut printed = MemSink::new(alloc, 4096, Vec::new(alloc));
     replica.print_into(&mut printed)?;
     Ok(Vec::from_slice(alloc, printed.written())?)
-}
-
-/// Whether the replica prints this text.
-pub fn prints(alloc: Global, replica: &PlainReplica, text: &[u8]) -> Result<bool, Fail> {
-    Ok(printed(alloc, replica)?.as_slice() == text)
 }

@@ -100,57 +100,31 @@ fn claim_in(op: &Op) -> Option<Claim> {
     })
 }
 
-fn is_section(ops: &[Op], section: ElementId) -> bool {
-    ops.iter().any(|op| matches!(op, Op::Section { id, .. } if *id == section))
-}
-
-fn is_withdrawn(ops: &[Op], note: ElementId) -> bool {
+pub fn is_withdrawn(ops: &[Op], note: ElementId) -> bool {
     ops.iter().any(|op| matches!(op, Op::Delete { target } if *target == note))
 }
 
-/// Whether the operation is no claim, or one on a section.
-fn is_on_section(ops: &[Op], op: &Op) -> bool {
-    match claim_in(op) {
-        Some(claim) => is_section(ops, claim.section),
-        None => true,
-    }
-}
-
-/// One operation more is lifted: a move where its section is Ready on what was lifted before.
-fn lift_one(
-    alloc: Global,
-    ops: &[Op],
-    op: &Op,
-    lift: &mut PlainReplica,
-    moves: &mut Vec<Claim>,
-) -> Result<(), Fail> {
-    if !is_on_section(ops, op) {
-        return Ok(());
-    }
-    if let Some(section) = lifted(alloc, op)? {
-        if accept(lift, section)? {
-            moves.extend(claim_in(op))?;
-        }
-    }
-    Ok(())
-}
-
-fn retitles_in(alloc: Global, ops: &[Op]) -> Result<Vec<Claim>, Fail> {
-    let mut retitles = Vec::new(alloc);
-    for op in ops {
-        if is_on_section(ops, op) && new_title(alloc, op).is_some() {
-            retitles.extend(claim_in(op))?;
-        }
-    }
-    Ok(retitles)
-}
-
+/// The claims on sections: a move counts where its section is Ready on what was lifted before.
 fn claims_in(alloc: Global, ops: &[Op]) -> Result<Claims, Fail> {
-    let retitles = retitles_in(alloc, ops)?;
     let mut lift = PlainReplica::new(alloc);
     let mut moves = Vec::new(alloc);
+    let mut retitles = Vec::new(alloc);
     for op in ops {
-        lift_one(alloc, ops, op, &mut lift, &mut moves)?;
+        let claim = claim_in(op);
+        let is_on_section = claim.is_none_or(|claim| {
+            ops.iter().any(|op| matches!(op, Op::Section { id, .. } if *id == claim.section))
+        });
+        if !is_on_section {
+            continue;
+        }
+        if new_title(alloc, op).is_some() {
+            retitles.extend(claim)?;
+        }
+        if let Some(section) = lifted(alloc, op)? {
+            if accept(&mut lift, section)? {
+                moves.extend(claim)?;
+            }
+        }
     }
     Ok(Claims {
         lift,
@@ -174,39 +148,6 @@ fn winner(ops: &[Op], claims: &[Claim], section: ElementId) -> ElementId {
     best.1
 }
 
-/// The shown sections in the order of their positions.
-fn arranged(alloc: Global, plain: &PlainReplica, claims: &Claims) -> Result<Vec<ElementId>, Fail> {
-    let shown = plain.shown(Place::Catalogue)?;
-    let mut found = Vec::new(alloc);
-    for x in &claims.lift.elements(Place::Catalogue)? {
-        let here = shown.iter().find(|section| winner(plain.ops(), &claims.moves, **section) == *x);
-        found.extend(here.copied())?;
-    }
-    Ok(found)
-}
-
-/// The section under its heading, after the last one.
-fn headed(
-    alloc: Global,
-    ops: &[Op],
-    claims: &Claims,
-    section: ElementId,
-    last: Option<ElementId>,
-) -> Result<Option<Op>, Fail> {
-    let giver = winner(ops, &claims.retitles, section);
-    let title = match ops.iter().find(|op| op.id() == Some(giver)) {
-        Some(Op::Section { title, .. }) => Some(title.clone_in(alloc)?),
-        Some(op) => new_title(alloc, op),
-        None => None,
-    };
-    Ok(title.map(|title| Op::Section {
-        id: section,
-        left: last,
-        right: None,
-        title,
-    }))
-}
-
 /// Accepts an operation that is Ready, and tells whether it is.
 fn accept(plain: &mut PlainReplica, op: Op) -> Result<bool, Fail> {
     let is_ready = plain.verdict(&op) == Verdict::Ready;
@@ -216,28 +157,38 @@ fn accept(plain: &mut PlainReplica, op: Op) -> Result<bool, Fail> {
     Ok(is_ready)
 }
 
-/// The shown sections alone, under their headings, in their order.
-fn rearrange(
-    alloc: Global,
-    plain: &PlainReplica,
-    claims: &Claims,
-    new: &mut PlainReplica,
-) -> Result<(), Fail> {
-    let mut last = None;
-    for section in &arranged(alloc, plain, claims)? {
-        if let Some(op) = headed(alloc, plain.ops(), claims, *section, last)? {
-            accept(new, op)?;
-        }
-        last = Some(*section);
-    }
-    Ok(())
+/// The heading of a section.
+fn heading(alloc: Global, ops: &[Op], claims: &Claims, section: ElementId) -> Result<Title, Fail> {
+    let giver = winner(ops, &claims.retitles, section);
+    let title = match ops.iter().find(|op| op.id() == Some(giver)) {
+        Some(Op::Section { title, .. }) => Some(title.clone_in(alloc)?),
+        Some(op) => new_title(alloc, op),
+        None => None,
+    };
+    Ok(title.ok_or("a title")?)
 }
 
-/// What is written of the sections as they are arranged: the manuscript of a replica in which they stand so.
+/// What is written of the sections as they are arranged: the manuscript of a replica that has the shown sections alone,
+/// under their headings, in the order of their positions.
 pub fn arranged_text(alloc: Global, plain: &PlainReplica) -> Result<Vec<u8>, Fail> {
     let claims = claims_in(alloc, plain.ops())?;
+    let shown = plain.shown(Place::Catalogue)?;
     let mut new = PlainReplica::new(alloc);
-    rearrange(alloc, plain, &claims, &mut new)?;
+    let mut last = None;
+    for x in &claims.lift.elements(Place::Catalogue)? {
+        let here = shown.iter().find(|section| winner(plain.ops(), &claims.moves, **section) == *x);
+        if let Some(section) = here {
+            let title = heading(alloc, plain.ops(), &claims, *section)?;
+            let op = Op::Section {
+                id: *section,
+                left: last,
+                right: None,
+                title,
+            };
+            accept(&mut new, op)?;
+            last = Some(*section);
+        }
+    }
     for op in plain.ops() {
         if matches!(op, Op::Text { .. } | Op::Delete { .. }) {
             accept(&mut new, op.clone_in(alloc)?)?;

@@ -3,8 +3,8 @@
 use crate::assertions::holds_at;
 use crate::op_lines::Line::{Delete, Note, Section, Text};
 use crate::op_lines::{Line, NONE, SECTION, op};
-use crate::plain::Plain;
-use crate::replicas::{feed_one, keep_one, writes_same};
+use crate::plain::{Plain, printed};
+use crate::replicas::{has_room, writes};
 use fugue_ids::Op;
 use replica_core::{Replica, Tally};
 use std::alloc::Global;
@@ -46,31 +46,33 @@ pub const POOL: &[Line] = &[
     Text((4, 3), (5, 0), NONE, NONE, 'v'),
 ];
 
-/// One more operation for both, which then show the same.
+/// One more operation for both, which then show the same. The replica keeps a copy of it where the plain one takes it in.
 pub fn step_beside(
     rt: &impl Abort,
     alloc: Global,
     replica: &mut Replica,
     plain: &mut Plain,
-    tally: &mut Tally,
     op: &Op,
 ) -> Result<(), Fail> {
-    feed_one(rt, replica, op.clone_in(alloc)?, tally)?;
-    plain.take_in(op.clone_in(alloc)?)?;
-    holds_at(rt, op, is_beside(alloc, replica, plain)?);
+    let mut tally = Tally::default();
+    assert!(rt; replica.is_settled() && has_room(&tally));
+    let mut kept = Vec::new(alloc);
+    replica.feed_keeping(op.clone_in(alloc)?, &mut tally, &mut kept)?;
+    let is_kept = plain.take_in(alloc, op)?;
+    let is_same = match kept.as_slice() {
+        [] => !is_kept,
+        [only] => is_kept && *only == *op,
+        _ => false,
+    };
+    holds_at(rt, op, is_same && is_beside(alloc, replica, plain)?);
     Ok(())
 }
 
 pub fn is_beside(alloc: Global, replica: &Replica, plain: &Plain) -> Result<bool, Fail> {
     let is_held = replica.accepted() == plain.accepted.ops()
         && replica.waiting() == plain.waiting.as_slice();
-    Ok(is_held && writes_same(alloc, replica, &plain.accepted)?)
-}
-
-/// The operation of the pool that comes in this turn.
-fn line_at(order: (usize, usize), turn: usize) -> Line {
-    let number = order.0.saturating_add(turn.saturating_mul(order.1)) % POOL.len();
-    POOL[number]
+    let wanted = printed(alloc, &plain.accepted)?;
+    Ok(is_held && writes(alloc, replica, &wanted)?)
 }
 
 /// Feeds the pool to both, each operation `step` behind the one before, and compares them after each.
@@ -79,99 +81,26 @@ pub fn keep_beside(
     alloc: Global,
     replica: &mut Replica,
     plain: &mut Plain,
-    order: (usize, usize),
+    first: usize,
+    step: usize,
 ) -> Result<(), Fail> {
-    let mut tally = Tally::default();
     for turn in 0..POOL.len() {
-        let op = op(rt, alloc, line_at(order, turn))?;
-        step_beside(rt, alloc, replica, plain, &mut tally, &op)?;
+        let number = first.saturating_add(turn.saturating_mul(step)) % POOL.len();
+        let op = op(rt, alloc, POOL[number])?;
+        step_beside(rt, alloc, replica, plain, &op)?;
     }
     Ok(())
-}
-
-fn keeps_beside(rt: &impl Abort, alloc: Global, order: (usize, usize)) -> Result<(), Fail> {
-    let mut replica = Replica::new(alloc, 7, 100, 100)?;
-    let mut plain = Plain::new(alloc);
-    let done = keep_beside(rt, alloc, &mut replica, &mut plain, order);
-    drop(replica);
-    done
 }
 
 #[test]
 fn a_replica_keeps_beside_the_plain_one(rt: HostRuntime) -> Result<(), Fail> {
     for first in 0..POOL.len() {
         for step in 1..POOL.len() {
-            keeps_beside(&rt, rt.alloc(), (first, step))?;
-        }
-    }
-    Ok(())
-}
-
-/// Whether the plain one holds the operation, accepted or waiting.
-fn is_held(plain: &Plain, op: &Op) -> bool {
-    plain.accepted.ops().contains(op) || plain.waiting.contains(op)
-}
-
-/// What was taken in, as the replica and as the plain one have it.
-#[derive(Drop)]
-struct Kept {
-    by_replica: Vec<Op>,
-    by_plain: Vec<Op>,
-}
-
-/// Both take in the operation.
-fn keep_both(
-    rt: &impl Abort,
-    alloc: Global,
-    replica: &mut Replica,
-    plain: &mut Plain,
-    kept: &mut Kept,
-    op: &Op,
-) -> Result<(), Fail> {
-    let was_held = is_held(plain, op);
-    keep_one(rt, replica, op.clone_in(alloc)?, &mut kept.by_replica)?;
-    plain.take_in(op.clone_in(alloc)?)?;
-    if is_held(plain, op) && !was_held {
-        kept.by_plain.push(op.clone_in(alloc)?)?;
-    }
-    Ok(())
-}
-
-/// Feeds the pool to both, and compares what each has taken in.
-fn keep_pool(
-    rt: &impl Abort,
-    alloc: Global,
-    replica: &mut Replica,
-    plain: &mut Plain,
-    kept: &mut Kept,
-    order: (usize, usize),
-) -> Result<(), Fail> {
-    for turn in 0..POOL.len() {
-        let op = op(rt, alloc, line_at(order, turn))?;
-        keep_both(rt, alloc, replica, plain, kept, &op)?;
-    }
-    assert!(rt; is_beside(alloc, replica, plain)?);
-    assert!(rt; kept.by_replica == kept.by_plain && !kept.by_plain.is_empty());
-    Ok(())
-}
-
-fn keeps_copies(rt: &impl Abort, alloc: Global, order: (usize, usize)) -> Result<(), Fail> {
-    let mut replica = Replica::new(alloc, 7, 100, 100)?;
-    let mut plain = Plain::new(alloc);
-    let mut kept = Kept {
-        by_replica: Vec::new(alloc),
-        by_plain: Vec::new(alloc),
-    };
-    let done = keep_pool(rt, alloc, &mut replica, &mut plain, &mut kept, order);
-    drop(replica);
-    done
-}
-
-#[test]
-fn what_is_taken_in_is_kept(rt: HostRuntime) -> Result<(), Fail> {
-    for first in 0..POOL.len() {
-        for step in [1, 5, 16] {
-            keeps_copies(&rt, rt.alloc(), (first, step))?;
+            let mut replica = Replica::new(rt.alloc(), 7, 100, 100)?;
+            let mut plain = Plain::new(rt.alloc());
+            let done = keep_beside(&rt, rt.alloc(), &mut replica, &mut plain, first, step);
+            drop(replica);
+            done?;
         }
     }
     Ok(())

@@ -6,18 +6,17 @@ ghost use Rattle.replica_core.specs.Told.{StaysBelow};
 use crate::assertions::{equal, equal_at, holds_at};
 use crate::op_lines::Line::{Delete, Note, Text};
 use crate::op_lines::{A, B, D, Line, NONE, SECTION, T, X, Y, op};
-use crate::plain::Plain;
+use crate::plain::{Plain, printed};
 use fugue_ids::Op;
-use origin_model::PlainReplica;
 use outer_ports::MemSink;
-use replica_core::{DeliverFault, NewFault, Replica, Settled, Taken, Tally};
+use replica_core::{DeliverFault, Replica, Settled, Taken, Tally};
 use std::alloc::Global;
 use std::process::Abort;
 use std::test::Fail;
 
 const LIMIT: u32 = 2_147_483_648;
 
-fn has_room(tally: &Tally) -> bool
+pub fn has_room(tally: &Tally) -> bool
     ensures { IsTrue result → StaysBelow tally.now }
 {
     tally.accepted < LIMIT
@@ -25,19 +24,6 @@ fn has_room(tally: &Tally) -> bool
         && tally.conflict < LIMIT
         && tally.stray < LIMIT
         && tally.full < LIMIT
-}
-
-/// Feeds the operation, and keeps a copy of it where it was taken in.
-pub fn keep_one(
-    rt: &impl Abort,
-    replica: &mut Replica,
-    op: Op,
-    kept: &mut Vec<Op>,
-) -> Result<(), Fail> {
-    let mut tally = Tally::default();
-    assert!(rt; replica.is_settled() && has_room(&tally));
-    replica.feed_keeping(op, &mut tally, kept)?;
-    Ok(())
 }
 
 pub fn feed_one(
@@ -76,27 +62,12 @@ pub fn writes(alloc: Global, replica: &Replica, text: &[u8]) -> Result<bool, Fai
     Ok(written.written() == text)
 }
 
-/// Whether the plain replica's manuscript is written.
-pub fn writes_same(alloc: Global, replica: &Replica, plain: &PlainReplica) -> Result<bool, Fail> {
-    let mut wanted = MemSink::new(alloc, 4096, Vec::new(alloc));
-    plain.print_into(&mut wanted)?;
-    writes(alloc, replica, wanted.written())
-}
-
-fn writes_as(
-    alloc: Global,
-    replica: &Replica,
-    plain: &mut Plain,
-    ops: &[Op],
-) -> Result<bool, Fail> {
-    plain.take_all(alloc, ops)?;
-    Ok(plain.waiting.is_empty() && writes_same(alloc, replica, &plain.accepted)?)
-}
-
 /// Whether a plain replica accepts these operations, and its manuscript is written.
 pub fn writes_as_plain(alloc: Global, replica: &Replica, ops: &[Op]) -> Result<bool, Fail> {
     let mut plain = Plain::new(alloc);
-    writes_as(alloc, replica, &mut plain, ops)
+    plain.take_all(alloc, ops)?;
+    let wanted = printed(alloc, &plain.accepted)?;
+    Ok(plain.waiting.is_empty() && writes(alloc, replica, &wanted)?)
 }
 
 /// Feeds the operations of the lines.
@@ -127,7 +98,8 @@ pub fn feed_ops(
     Ok(())
 }
 
-fn feed_all(
+/// Feeds the operations to a new replica, and looks at what it shows.
+pub fn shows(
     rt: &impl Abort,
     alloc: Global,
     replica: &mut Replica,
@@ -142,20 +114,6 @@ fn feed_all(
     let accepted = replica.accepted().len();
     equal_at(rt, &lines, accepted, want.counts.accepted as usize);
     Ok(())
-}
-
-/// Feeds the operations to a new replica, and looks at what it shows.
-pub fn shows(
-    rt: &impl Abort,
-    alloc: Global,
-    hold: u32,
-    lines: &[Line],
-    want: Shown,
-) -> Result<(), Fail> {
-    let mut replica = Replica::new(alloc, 7, hold, 100)?;
-    let done = feed_all(rt, alloc, &mut replica, lines, &want);
-    drop(replica);
-    done
 }
 
 const FIRST: Line = Text((1, 0), SECTION, NONE, NONE, 'a');
@@ -211,53 +169,30 @@ fn what_is_taken_is_shown_and_what_is_not_is_counted(rt: HostRuntime) -> Result<
             counts,
             waiting,
         };
-        shows(&rt, rt.alloc(), hold, lines, want)?;
+        let mut replica = Replica::new(rt.alloc(), 7, hold, 100)?;
+        let done = shows(&rt, rt.alloc(), &mut replica, lines, &want);
+        drop(replica);
+        done?;
     }
-    Ok(())
-}
-
-#[test]
-fn numbers_out_of_range_make_no_replica(rt: HostRuntime) {
-    for (number, hold, most, want) in [
-        (0, 0, 0, NewFault::ZeroReplica),
-        (1, 0, 0, NewFault::BadHold),
-        (1, 1_048_577, 1, NewFault::BadHold),
-        (1, 1_048_576, 0, NewFault::BadMost),
-        (1, 1, 4_194_305, NewFault::BadMost),
-    ] {
-        let fault = Replica::new(rt.alloc(), number, hold, most).err();
-        equal(&rt, fault, Some(want));
-    }
-}
-
-/// The operation of the line is delivered, and then one step of settling is taken.
-fn deliver_line(
-    rt: &impl Abort,
-    alloc: Global,
-    replica: &mut Replica,
-    line: Line,
-    want: (Taken, &'static str),
-) -> Result<(), Fail> {
-    assert!(rt; replica.is_settled());
-    let taken = replica.deliver(op(rt, alloc, line)?)?;
-    let settled = match replica.settle_one()? {
-        Some(Settled::Accepted(_op)) => "accepted",
-        Some(Settled::DroppedStray(_op)) => "dropped",
-        None => "nothing",
-    };
-    equal_at(rt, &line, (taken, settled), want);
     Ok(())
 }
 
 fn deliver_in_turn(rt: &impl Abort, alloc: Global, replica: &mut Replica) -> Result<(), Fail> {
     equal(rt, (replica.number(), replica.hold()), (7, 1));
-    for (line, want, settled) in [
+    for (line, want, then) in [
         (FIRST, Taken::Waits, "nothing"),
         (T, Taken::Accepted, "accepted"),
         (FIRST, Taken::Again, "nothing"),
         (Delete((1, 0)), Taken::Accepted, "nothing"),
     ] {
-        deliver_line(rt, alloc, replica, line, (want, settled))?;
+        assert!(rt; replica.is_settled());
+        let taken = replica.deliver(op(rt, alloc, line)?)?;
+        let settled = match replica.settle_one()? {
+            Some(Settled::Accepted(_op)) => "accepted",
+            Some(Settled::DroppedStray(_op)) => "dropped",
+            None => "nothing",
+        };
+        equal_at(rt, &line, (taken, settled), (want, then));
     }
     assert!(rt; replica.is_settled());
     let most = match replica.deliver(op(rt, alloc, SECOND)?) {

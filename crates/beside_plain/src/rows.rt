@@ -5,18 +5,19 @@ use crate::op_lines::Line::Text;
 use crate::op_lines::{A, B, BACKWARDS, D, HIDDEN, Line, NONE, SECTION, T, X, Y, op};
 use crate::replicas::{Shown, counts, shows};
 use origin_model::{PlainReplica, Verdict};
+use replica_core::Replica;
 use std::alloc::Global;
 use std::process::Abort;
 use std::test::Fail;
 
-/// Accepts the operations in the order of that number, as far as each is Ready on those before it, and lists them.
-fn accept_ready(
+/// The operations in the order of that number, as far as each is Ready on those before it.
+fn ready_front(
     rt: &impl Abort,
     alloc: Global,
-    plain: &mut PlainReplica,
     row: &[Line],
     number: usize,
 ) -> Result<Vec<Line>, Fail> {
+    let mut plain = PlainReplica::new(alloc);
     let mut remaining = Vec::from_slice(alloc, row)?;
     let mut ordered = Vec::new(alloc);
     let mut digits = number;
@@ -35,54 +36,6 @@ fn accept_ready(
         ordered.push(line)?;
     }
     Ok(ordered)
-}
-
-fn list_ready(
-    rt: &impl Abort,
-    alloc: Global,
-    row: &[Line],
-    number: usize,
-) -> Result<Vec<Line>, Fail> {
-    let mut plain = PlainReplica::new(alloc);
-    accept_ready(rt, alloc, &mut plain, row, number)
-}
-
-/// Whether the order is ready. After it all operations are accepted, and the text is shown.
-fn is_ready(
-    rt: &impl Abort,
-    alloc: Global,
-    row: &[Line],
-    number: usize,
-    text: &'static str,
-) -> Result<bool, Fail> {
-    let ordered = list_ready(rt, alloc, row, number)?;
-    if ordered.len() < row.len() {
-        return Ok(false);
-    }
-    let want = Shown {
-        text,
-        counts: counts(u32::try_from(row.len()).unwrap_or(0), 0, 0, 0),
-        waiting: 0,
-    };
-    shows(rt, alloc, 1, &ordered, want)?;
-    Ok(true)
-}
-
-/// How many of the orders are ready.
-fn count_ready(
-    rt: &impl Abort,
-    alloc: Global,
-    row: &[Line],
-    orders: usize,
-    text: &'static str,
-) -> Result<u32, Fail> {
-    let mut ready: u32 = 0;
-    for number in 0..orders {
-        if is_ready(rt, alloc, row, number, text)? {
-            ready = ready.saturating_add(1);
-        }
-    }
-    Ok(ready)
 }
 
 // Passages forwards: each letter behind the one before.
@@ -155,13 +108,24 @@ const ROWS: &[(&[Line], usize, u32, &str)] = &[
 
 #[test]
 fn every_ready_order_shows_the_text(rt: HostRuntime) -> Result<(), Fail> {
-    for (row, orders, ready, text) in ROWS {
-        equal_at(
-            &rt,
-            &text,
-            count_ready(&rt, rt.alloc(), row, *orders, text)?,
-            *ready,
-        );
+    for (row, orders, wanted, text) in ROWS {
+        let want = Shown {
+            text,
+            counts: counts(u32::try_from(row.len()).unwrap_or(0), 0, 0, 0),
+            waiting: 0,
+        };
+        let mut ready: u32 = 0;
+        for number in 0..*orders {
+            let ordered = ready_front(&rt, rt.alloc(), row, number)?;
+            if ordered.len() == row.len() {
+                let mut replica = Replica::new(rt.alloc(), 7, 1, 100)?;
+                let done = shows(&rt, rt.alloc(), &mut replica, &ordered, &want);
+                drop(replica);
+                done?;
+                ready = ready.saturating_add(1);
+            }
+        }
+        equal_at(&rt, &text, ready, *wanted);
     }
     Ok(())
 }

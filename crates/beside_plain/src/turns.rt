@@ -1,6 +1,6 @@
 //! Two replicas that edit by turns and feed each other.
 
-use crate::assertions::equal;
+use crate::assertions::holds_at;
 use crate::edits::Edit::{self, Add, Cut, Drop, Note, Put};
 use crate::edits::make;
 use crate::replicas::{feed_ops, writes_as_plain};
@@ -73,22 +73,6 @@ fn take_turn(
     Ok(())
 }
 
-/// Both show what the plain replica does with the operations of the first.
-fn compare_both(
-    rt: &impl Abort,
-    alloc: Global,
-    first: &Replica,
-    second: &Replica,
-) -> Result<(), Fail> {
-    assert!(rt; first.accepted().len() > 40);
-    equal(rt, first.accepted().len(), second.accepted().len());
-    for replica in [first, second] {
-        assert!(rt; replica.waiting().is_empty());
-        assert!(rt; writes_as_plain(alloc, replica, first.accepted())?);
-    }
-    Ok(())
-}
-
 fn edit_by_turns(
     rt: &impl Abort,
     alloc: Global,
@@ -107,27 +91,26 @@ fn edit_by_turns(
     }
     feed_from(rt, alloc, first, second, heard.0)?;
     feed_from(rt, alloc, second, first, heard.1)?;
-    compare_both(rt, alloc, first, second)
-}
-
-fn edits_by_seed(rt: &impl Abort, alloc: Global, seed: u64) -> Result<(), Fail> {
-    let mut first = Replica::new(alloc, 1, 100, 1000)?;
-    let done = match Replica::new(alloc, 2, 100, 1000) {
-        Ok(mut second) => {
-            let done = edit_by_turns(rt, alloc, &mut first, &mut second, seed);
-            drop(second);
-            done
-        }
-        Err(fault) => Err(Fail::from(fault)),
-    };
-    drop(first);
-    done
+    // Both show what the plain replica does with the operations of the first.
+    let made = first.accepted().len();
+    holds_at(rt, &seed, made > 40 && made == second.accepted().len());
+    for replica in [&*first, &*second] {
+        let is_so = replica.waiting().is_empty()
+            && writes_as_plain(alloc, replica, first.accepted())?;
+        holds_at(rt, &seed, is_so);
+    }
+    Ok(())
 }
 
 #[test]
 fn replicas_that_edit_by_turns_show_the_same(rt: HostRuntime) -> Result<(), Fail> {
     for seed in 0..20 {
-        edits_by_seed(&rt, rt.alloc(), seed)?;
+        let mut first = Replica::new(rt.alloc(), 1, 100, 1000)?;
+        let mut second = Replica::new(rt.alloc(), 2, 100, 1000)?;
+        let done = edit_by_turns(&rt, rt.alloc(), &mut first, &mut second, seed);
+        drop(second);
+        drop(first);
+        done?;
     }
     Ok(())
 }

@@ -3,7 +3,7 @@
 ghost use Rattle.std.specs.Prelude.{◌≡◌, ◌≤◌, IsTrue, length, true};
 ghost use Rattle.version_views.specs.Versions.{is_name as is_name_of};
 
-use crate::assertions::{equal, equal_at, holds_at};
+use crate::assertions::{equal_at, holds_at};
 use crate::edits::Edit::{Add, Cut, Drop, Put};
 use crate::edits::{Edit, make};
 use crate::op_lines::Line::{Coded, Delete};
@@ -71,22 +71,6 @@ enum Step {
 }
 
 use Step::{Make, Name, Take};
-
-fn take_step(
-    rt: &impl Abort,
-    alloc: Global,
-    replica: &mut Replica,
-    step: Step,
-) -> Result<(), Fail> {
-    match step {
-        Make(edit) => {
-            make(rt, alloc, replica, edit)??;
-        }
-        Name(name, answer) => equal_at(rt, &name, give_name(rt, alloc, replica, name)?, answer),
-        Take(line) => feed_one(rt, replica, op(rt, alloc, line)?, &mut Tally::default())?,
-    }
-    Ok(())
-}
 
 /// What happens, the lines of the versions, a name, how many operations its version has, and what that says.
 struct Row {
@@ -187,12 +171,8 @@ const ROWS: &[Row] = &[
     },
 ];
 
-/// How many operations the version of that name has, and the lines of all versions, by the plain program.
-fn listed(
-    alloc: Global,
-    replica: &Replica,
-    wanted: &str,
-) -> Result<(Option<usize>, Vec<u8>), Fail> {
+/// The versions and each view are those of the plain program.
+fn compare(rt: &impl Abort, alloc: Global, replica: &Replica, wanted: &str) -> Result<(), Fail> {
     let mut found = None;
     let mut lines = Vec::new(alloc);
     let ops = replica.accepted();
@@ -206,15 +186,8 @@ fn listed(
             }
         }
     }
-    Ok((found, lines))
-}
-
-/// The versions and each view are those of the plain program.
-fn compare(rt: &impl Abort, alloc: Global, replica: &Replica, name: &str) -> Result<(), Fail> {
-    let (found, lines) = listed(alloc, replica, name)?;
-    equal_at(rt, &name, find_version(replica, name), found);
-    holds_at(rt, &name, lists(alloc, replica, &lines)?);
-    let ops = replica.accepted();
+    equal_at(rt, &wanted, find_version(replica, wanted), found);
+    holds_at(rt, &wanted, lists(alloc, replica, &lines)?);
     for n in 0..ops.len().saturating_add(1) {
         let text = view_text(alloc, ops, n)?;
         holds_at(rt, &n, views(rt, alloc, replica, n, &text)?);
@@ -224,7 +197,15 @@ fn compare(rt: &impl Abort, alloc: Global, replica: &Replica, name: &str) -> Res
 
 fn name_row(rt: &impl Abort, alloc: Global, replica: &mut Replica, row: &Row) -> Result<(), Fail> {
     for each in row.steps {
-        take_step(rt, alloc, replica, *each)?;
+        match *each {
+            Make(edit) => {
+                make(rt, alloc, replica, edit)??;
+            }
+            Name(name, answer) => {
+                equal_at(rt, &name, give_name(rt, alloc, replica, name)?, answer);
+            }
+            Take(line) => feed_one(rt, replica, op(rt, alloc, line)?, &mut Tally::default())?,
+        }
     }
     let found = find_version(replica, row.name);
     equal_at(rt, &row.steps, found, row.found);
@@ -239,46 +220,9 @@ fn name_row(rt: &impl Abort, alloc: Global, replica: &mut Replica, row: &Row) ->
     compare(rt, alloc, replica, row.name)
 }
 
-#[test]
-fn versions_are_named_found_listed_and_viewed(rt: HostRuntime) -> Result<(), Fail> {
-    for row in ROWS {
-        let mut replica = Replica::new(rt.alloc(), 1, 100, row.most)?;
-        let done = name_row(&rt, rt.alloc(), &mut replica, row);
-        drop(replica);
-        done?;
-    }
-    Ok(())
-}
-
 const NAMES: [&str; 3] = ["one", "two", "drei und vier"];
 
-/// The Delete of an operation that was accepted.
-fn withdraw_some(replica: &Replica, dice: &mut Dice) -> Option<Op> {
-    let ops = replica.accepted();
-    let target = ops.get(dice.roll(ops.len()))?.id()?;
-    Some(Op::Delete { target })
-}
-
-/// An edit, a version, or a Delete of anything, a version too.
-fn act(rt: &impl Abort, alloc: Global, replica: &mut Replica, dice: &mut Dice) -> Result<(), Fail> {
-    match dice.roll(5) {
-        0 => {
-            let name = NAMES[dice.roll(NAMES.len()) % NAMES.len()];
-            equal(rt, give_name(rt, alloc, replica, name)?, Ok(1));
-        }
-        1 => {
-            if let Some(op) = withdraw_some(replica, dice) {
-                feed_one(rt, replica, op, &mut Tally::default())?;
-            }
-        }
-        _ => {
-            let edit = dice.edit(replica);
-            let _answer = make(rt, alloc, replica, edit)?;
-        }
-    }
-    Ok(())
-}
-
+/// Edits, versions, and Deletes of anything, a version too.
 fn act_and_compare(
     rt: &impl Abort,
     alloc: Global,
@@ -287,8 +231,25 @@ fn act_and_compare(
 ) -> Result<(), Fail> {
     let mut dice = Dice { state: seed };
     make(rt, alloc, replica, Add(0, "T"))??;
-    for _ in 0..30 {
-        act(rt, alloc, replica, &mut dice)?;
+    for turn in 0..30 {
+        match dice.roll(5) {
+            0 => {
+                let name = NAMES[dice.roll(NAMES.len()) % NAMES.len()];
+                equal_at(rt, &turn, give_name(rt, alloc, replica, name)?, Ok(1));
+            }
+            1 => {
+                let ops = replica.accepted();
+                let some = ops.get(dice.roll(ops.len()));
+                if let Some(target) = some.and_then(|op| op.id()) {
+                    let op = Op::Delete { target };
+                    feed_one(rt, replica, op, &mut Tally::default())?;
+                }
+            }
+            _ => {
+                let edit = dice.edit(replica);
+                let _answer = make(rt, alloc, replica, edit)?;
+            }
+        }
     }
     for name in NAMES {
         compare(rt, alloc, replica, name)?;
@@ -297,7 +258,13 @@ fn act_and_compare(
 }
 
 #[test]
-fn versions_of_random_files_are_those_of_the_plain_program(rt: HostRuntime) -> Result<(), Fail> {
+fn versions_are_named_found_listed_and_viewed(rt: HostRuntime) -> Result<(), Fail> {
+    for row in ROWS {
+        let mut replica = Replica::new(rt.alloc(), 1, 100, row.most)?;
+        let done = name_row(&rt, rt.alloc(), &mut replica, row);
+        drop(replica);
+        done?;
+    }
     for seed in 0..20 {
         let mut replica = Replica::new(rt.alloc(), 1, 100, 1000)?;
         let done = act_and_compare(&rt, rt.alloc(), &mut replica, seed);

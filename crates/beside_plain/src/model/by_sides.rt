@@ -40,42 +40,33 @@ fn children(
     Ok(found)
 }
 
-/// Puts the children on the stack, the last one first.
-fn stack_children(stack: &mut Vec<Turn>, children: &[(usize, Name)]) -> Result<(), AllocError> {
-    for (_, id) in children.iter().rev() {
-        stack.push(Turn::Below(*id))?;
-    }
-    Ok(())
-}
-
-/// Left children, the node, right children.
-fn walk(alloc: Global, nodes: &[Node], finished: &[Name]) -> Result<Vec<Name>, AllocError> {
-    let mut list = Vec::new(alloc);
-    let mut stack = Vec::new(alloc);
-    let roots = children(alloc, nodes, finished, NONE, false)?;
-    stack_children(&mut stack, roots.as_slice())?;
-    for _ in 0..nodes.len().saturating_mul(2) {
-        match stack.pop() {
-            Some(Turn::Show(id)) => list.push(id)?,
-            Some(Turn::Below(id)) => {
-                let behind = children(alloc, nodes, finished, id, false)?;
-                let in_front = children(alloc, nodes, finished, id, true)?;
-                stack_children(&mut stack, behind.as_slice())?;
-                stack.push(Turn::Show(id))?;
-                stack_children(&mut stack, in_front.as_slice())?;
-            }
-            None => {}
-        }
-    }
-    Ok(list)
-}
-
-/// The order of the nodes, which came in this order: right origins are compared in the order of the nodes that came
-/// before.
+/// The order of the nodes, which came in this order: left children, the node, right children. Right origins are compared
+/// in the order of the nodes that came before.
 pub fn by_sides(alloc: Global, nodes: &[Node]) -> Result<Vec<Name>, AllocError> {
     let mut finished = Vec::new(alloc);
     for count in 0..nodes.len() {
-        finished = walk(alloc, &nodes[..count + 1], finished.as_slice())?;
+        let nodes = &nodes[..count + 1];
+        let mut list = Vec::new(alloc);
+        let mut stack = Vec::new(alloc);
+        for (_, id) in children(alloc, nodes, &finished, NONE, false)?.iter().rev() {
+            stack.push(Turn::Below(*id))?;
+        }
+        for _ in 0..nodes.len().saturating_mul(2) {
+            match stack.pop() {
+                Some(Turn::Show(id)) => list.push(id)?,
+                Some(Turn::Below(id)) => {
+                    for (_, right) in children(alloc, nodes, &finished, id, false)?.iter().rev() {
+                        stack.push(Turn::Below(*right))?;
+                    }
+                    stack.push(Turn::Show(id))?;
+                    for (_, left) in children(alloc, nodes, &finished, id, true)?.iter().rev() {
+                        stack.push(Turn::Below(*left))?;
+                    }
+                }
+                None => {}
+            }
+        }
+        finished = list;
     }
     Ok(finished)
 }
