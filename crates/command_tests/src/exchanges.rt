@@ -101,58 +101,55 @@ const SERVINGS: &[Serving] = &[
     },
 ];
 
-/// Serves at a dock, and compares.
-fn serves_so(rt: &(impl Abort + AllocGlobal), row: &Serving) {
-    let steps = steps(rt, row.coming);
-    let mut dock = MemDock::new(rt.alloc(), steps, row.piece.max(1), Vec::new(rt.alloc()));
-    let result = served(rt, &mut dock, row.sessions, row.steps);
-    equal(rt, result, (row.result, row.logged));
-    equal(rt, (dock.sent(0), dock.sent(1)), (row.sent, row.sent));
-    equal(rt, dock.ended(), row.ended);
-    equal(rt, dock.next(&mut [0; 5]), row.next);
-    drop(dock);
-}
-
-#[test]
-fn sessions_are_served_as_far_as_they_may_be(rt: HostRuntime) {
-    for row in SERVINGS {
-        serves_so(&rt, row);
-    }
-}
-
 /// All that a session says that brings both frames.
 const BRINGS_BOTH: &[u8] = &[
     0x48, 0, 0, 0, 0, 2, 0, 0, 0, 1, 0, 0, 0, 0, 0, 0, 0, 9, 0, 0, 0, 0, 0, 0, 0, 0, 97, 1, 0, 0,
     0, 9, 0, 0, 0, 0, 0, 0, 0, 1, 84, 0x44,
 ];
 
-/// A session that brings both frames is gone behind so many bytes, of which so many frames came whole, and is answered
-/// so.
-fn serve_cut(rt: &(impl Abort + AllocGlobal), count: usize, logged: u32, sent: &[u8]) {
-    let said = &BRINGS_BOTH[..count.min(BRINGS_BOTH.len())];
-    let steps = steps(rt, &[Opens(0), Says(0, said), Goes(0)]);
-    let mut dock = MemDock::new(rt.alloc(), steps, 7, Vec::new(rt.alloc()));
-    equal_at(rt, &count, served(rt, &mut dock, 1, 100), (Ok(()), logged));
-    equal_at(rt, &count, dock.sent(0), sent);
-    equal_at(rt, &count, dock.ended().is_empty(), sent.is_empty());
-    drop(dock);
+#[test]
+fn sessions_are_served_as_far_as_they_may_be(rt: HostRuntime) {
+    for row in SERVINGS {
+        let steps = steps(&rt, row.coming);
+        let piece = row.piece.max(1);
+        let mut dock = MemDock::new(rt.alloc(), steps, piece, Vec::new(rt.alloc()));
+        let result = served(&rt, &mut dock, row.sessions, row.steps);
+        equal(&rt, result, (row.result, row.logged));
+        equal(&rt, (dock.sent(0), dock.sent(1)), (row.sent, row.sent));
+        equal(&rt, dock.ended(), row.ended);
+        equal(&rt, dock.next(&mut [0; 5]), row.next);
+        drop(dock);
+    }
 }
 
+/// A session that brings both frames is gone behind each number of bytes: it is answered where it ended, and what came
+/// whole stays.
 #[test]
 fn a_session_may_be_cut_at_each_byte(rt: HostRuntime) {
-    for count in 0..BRINGS_BOTH.len() {
+    for count in 0..=BRINGS_BOTH.len() {
+        let said = &BRINGS_BOTH[..count];
         let logged = match count {
             0..=26 => 0,
             27..=40 => 1,
             _ => 2,
         };
-        serve_cut(&rt, count, logged, &[]);
+        let sent: &[u8] = if count == BRINGS_BOTH.len() {
+            REPLY
+        } else {
+            &[]
+        };
+        let steps = steps(&rt, &[Opens(0), Says(0, said), Goes(0)]);
+        let mut dock = MemDock::new(rt.alloc(), steps, 7, Vec::new(rt.alloc()));
+        equal_at(
+            &rt,
+            &count,
+            served(&rt, &mut dock, 1, 100),
+            (Ok(()), logged),
+        );
+        equal_at(&rt, &count, dock.sent(0), sent);
+        equal_at(&rt, &count, dock.ended().is_empty(), sent.is_empty());
+        drop(dock);
     }
-    serve_cut(&rt, BRINGS_BOTH.len(), 2, REPLY);
-}
-
-#[test]
-fn a_call_that_fails_ends_it(rt: HostRuntime) {
     // In pieces of 7 bytes: ten steps, six sends and an end; one step, six sends and an end.
     for call in 0..25 {
         let steps = steps(&rt, TWO_SESSIONS);

@@ -115,18 +115,22 @@ fn files_have_these_bytes(rt: HostRuntime) {
     equal(&rt, has_bytes(&mut disk, SAVED), true);
     drop(disk);
     drop(ops);
+    // Frames that are longer than a piece. The letters are 23 runs of 1,024 and one of 448.
+    let ops = operations(&rt, 24_000);
+    let mut disk = MemDisk::new(rt.alloc(), list(&rt, NEW), Vec::new(rt.alloc()));
+    let end = End {
+        at: 72_802,
+        slots: 1,
+    };
+    equal(&rt, save(rt.alloc(), &mut disk, &ops), Some(end));
+    let found = counted(rt.alloc(), &mut disk, MOST_OPERATIONS);
+    equal(&rt, found, Ok((24_005, end)));
+    drop(disk);
+    drop(ops);
 }
 
 /// What loading answers, but for the replica.
 type Loaded = Result<(usize, End), LoadFault>;
-
-/// What loading a file of these bytes answers.
-fn loads(rt: &(impl Abort + AllocGlobal), bytes: Vec<u8>, most: u32) -> Loaded {
-    let mut disk = MemDisk::new(rt.alloc(), bytes, Vec::new(rt.alloc()));
-    let loaded = counted(rt.alloc(), &mut disk, most.clamp(1, MOST_OPERATIONS));
-    drop(disk);
-    loaded
-}
 
 /// A file, a length up to which it is loaded, an offset with another byte, that byte, how many operations may be held,
 /// and what loading answers.
@@ -152,12 +156,16 @@ const LOADED: &[(&[u8], usize, usize, u8, u32, Loaded)] = &[
     (SAVED, 107, 106, 1, 9, Err(LoadFault::BadBatch(1))),
     (SAVED, 107, 106, 1, 4, Err(LoadFault::TooMany(4))),
     (SAVED, 106, 13, 1, 4, Err(LoadFault::BadBatch(0))),
+    (EMPTY_BATCH, 19, 13, 1, 9, Ok((0, End { at: 18, slots: 1 }))),
     (OLD, 132, 13, 1, 9, Ok((5, End { at: 131, slots: 1 }))),
     // Single frames are read with the tag of runs too.
     (OLD, 132, 14, 0x20, 9, Ok((5, End { at: 131, slots: 1 }))),
     (OLD, 132, 17, 0x70, 9, Err(LoadFault::BadBatch(0))),
     (OLD, 132, 131, 1, 9, Err(LoadFault::BadBatch(1))),
 ];
+
+/// A file of version 1 with a batch of no frames.
+const EMPTY_BATCH: &[u8] = b"FGMX\x01\0\0\0\x01\0\0\0\x10\x01\0\0\0\0\0";
 
 /// Where the meaning of `SAVED` ends.
 const SAVED_END: End = End { at: 106, slots: 1 };
@@ -170,10 +178,11 @@ fn bytes_decide_what_loading_answers(rt: HostRuntime) {
         if let Some(place) = bytes.get_mut(*at) {
             *place = *byte;
         }
-        equal_at(&rt, &(len, at, byte), loads(&rt, bytes, *most), *answer);
+        let mut disk = MemDisk::new(rt.alloc(), bytes, Vec::new(rt.alloc()));
+        let found = counted(rt.alloc(), &mut disk, (*most).clamp(1, MOST_OPERATIONS));
+        drop(disk);
+        equal_at(&rt, &(len, at, byte), found, *answer);
     }
-    let empty = list(&rt, b"FGMX\x01\0\0\0\x01\0\0\0\x10\x01\0\0\0\0\0");
-    equal(&rt, loads(&rt, empty, 9), Ok((0, End { at: 18, slots: 1 })));
 }
 
 /// What a save makes of the file of version 1: the header and the old batch stay.
@@ -236,21 +245,6 @@ const SAVINGS: &[Saving] = &[
     },
 ];
 
-/// Whether the file has the batch, or is as it was where that was not saved, and then takes it.
-fn has_all_or_none(
-    alloc: Global,
-    disk: &mut MemDisk,
-    saving: Saving,
-    ops: &[Op],
-    is_saved: bool,
-) -> bool {
-    shows(alloc, disk, saving.after)
-        || !is_saved
-            && shows(alloc, disk, saving.before)
-            && save(alloc, disk, ops).is_some()
-            && shows(alloc, disk, saving.after)
-}
-
 /// Saves where this call on the file fails, and looks at what crashes leave. It is saved where no call fails.
 fn crash_at(rt: &(impl Abort + AllocGlobal), call: u32, saving: Saving, is_saved: bool) {
     let all = operations(rt, 2);
@@ -260,9 +254,14 @@ fn crash_at(rt: &(impl Abort + AllocGlobal), call: u32, saving: Saving, is_saved
     equal_at(rt, &call, end.is_some(), is_saved);
     for pick in PICKS {
         let mut left = disk.crash(*pick).expect(rt, "memory");
-        let is_whole = has_all_or_none(rt.alloc(), &mut left, saving, ops, is_saved);
-        holds_at(rt, &(call, pick), is_whole);
+        // The file has the batch, or is as it was where that was not saved, and then takes it.
+        let is_whole = shows(rt.alloc(), &mut left, saving.after)
+            || !is_saved
+                && shows(rt.alloc(), &mut left, saving.before)
+                && save(rt.alloc(), &mut left, ops).is_some()
+                && shows(rt.alloc(), &mut left, saving.after);
         drop(left);
+        holds_at(rt, &(call, pick), is_whole);
     }
     drop(disk);
     drop(all);
@@ -277,20 +276,4 @@ fn a_crash_leaves_all_of_a_batch_or_none(rt: HostRuntime) {
             crash_at(&rt, call, *saving, call >= calls);
         }
     }
-}
-
-/// Saves operations whose frames are longer than a piece, and loads them. The letters are 23 runs of 1,024 and one of 448.
-#[test]
-fn frames_that_a_piece_cuts_are_whole(rt: HostRuntime) {
-    let ops = operations(&rt, 24_000);
-    let mut disk = MemDisk::new(rt.alloc(), list(&rt, NEW), Vec::new(rt.alloc()));
-    let end = End {
-        at: 72_802,
-        slots: 1,
-    };
-    equal(&rt, save(rt.alloc(), &mut disk, &ops), Some(end));
-    let found = counted(rt.alloc(), &mut disk, MOST_OPERATIONS);
-    equal(&rt, found, Ok((24_005, end)));
-    drop(disk);
-    drop(ops);
 }

@@ -1,5 +1,3 @@
-ghost use Rattle.origin_model.specs.taking.Taking.{IsSettled};
-
 mod plain;
 
 use crate::assertions::{equal, equal_at, holds_at};
@@ -16,7 +14,7 @@ use std::str;
 /// A script, what is answered, and what is shown then. Each row begins where the one before it left off.
 type Row = (&'static str, Result<u32, ScriptFault>, &'static str);
 
-const PLACES: [Row; 14] = [
+const PLACES: &[Row] = &[
     (
         "add 1 T\nput 1 0 AB\ncut 1 1 1\nput 1 1 C",
         Ok(5),
@@ -59,7 +57,7 @@ const PLACES: [Row; 14] = [
     ("drop 1", Ok(1), ""),
 ];
 
-const FAULTS: [Row; 36] = [
+const FAULTS: &[Row] = &[
     ("add 1 T\nput 1 0 ab\n", Ok(3), "# T\nab\n"),
     ("", Ok(0), "# T\nab\n"),
     ("\n\n", Ok(0), "# T\nab\n"),
@@ -124,32 +122,12 @@ const FAULTS: [Row; 36] = [
     ),
 ];
 
-const LIMIT: [Row; 2] = [
+const LIMIT: &[Row] = &[
     ("add 1 T\nput 1 0 ab", Ok(3), "# T\nab\n"),
     ("cut 1 0 1", Err(ScriptFault::TooMany(3)), "# T\nab\n"),
 ];
 
-/// A new replica that may accept so many operations.
-fn new_replica(rt: &(impl Abort + AllocGlobal), most: u32) -> Replica {
-    Replica::new(rt.alloc(), 1, 1, most).expect(rt, "memory")
-}
-
 /// Runs a script that comes in pieces of seven bytes. The reads listed in `fails` fail.
-fn run_bytes(
-    rt: &(impl Abort + AllocGlobal),
-    replica: &mut Replica,
-    script: Vec<u8>,
-    fails: &[u32],
-) -> Result<u32, ScriptFault>
-    requires { IsSettled replica.old.held }
-    ensures { IsSettled replica.new.held }
-{
-    let mut source = MemSource::new(script, 7, list(rt, fails));
-    let answer = run_script(rt.alloc(), replica, &mut source);
-    drop(source);
-    answer
-}
-
 fn compare(
     rt: &(impl Abort + AllocGlobal),
     replica: &mut Replica,
@@ -157,34 +135,16 @@ fn compare(
     fails: &[u32],
     row: &Row,
 ) {
+    let mut source = MemSource::new(script, 7, list(rt, fails));
     assert!(*rt; replica.is_settled());
-    let answer = run_bytes(rt, replica, script, fails);
+    let answer = run_script(rt.alloc(), replica, &mut source);
+    drop(source);
     equal_at(rt, &row.0, answer, row.1);
     let mut sink = MemSink::new(rt.alloc(), 100, Vec::new(rt.alloc()));
     let written = replica.write_manuscript(&mut sink);
     holds_at(rt, &row.0, written.is_ok());
     equal_at(rt, &row.0, sink.written(), row.2.as_bytes());
     drop(sink);
-}
-
-fn run_each(rt: &(impl Abort + AllocGlobal), replica: &mut Replica, rows: &[Row]) {
-    for row in rows {
-        compare(rt, replica, list(rt, row.0.as_bytes()), &[], row);
-    }
-}
-
-fn run_on_new(rt: &(impl Abort + AllocGlobal), most: u32, rows: &[Row]) {
-    let mut replica = new_replica(rt, most);
-    run_each(rt, &mut replica, rows);
-    drop(replica);
-}
-
-/// Places count what a reader sees, the first faulty line decides, and no operation is made that may not be.
-#[test]
-fn scripts_change_what_is_shown(rt: HostRuntime) {
-    run_on_new(&rt, 1000, &PLACES);
-    run_on_new(&rt, 1000, &FAULTS);
-    run_on_new(&rt, 3, &LIMIT);
 }
 
 /// A front, the length to which it is filled, and with which byte, the reads that fail, and the row. Nothing is shown
@@ -221,9 +181,23 @@ const WHOLE: [(&[u8], usize, u8, &[u32], Row); 5] = [
     ),
 ];
 
+const SPENT: [Row; 2] = [
+    ("add 1 U", Err(ScriptFault::IdsSpent(u32::MAX)), "# T\n\n"),
+    ("drop 1", Ok(1), ""),
+];
+
+/// Places count what a reader sees, the first faulty line decides, no operation is made that may not be, and a script is
+/// read whole.
 #[test]
-fn a_script_is_read_whole_and_its_lines_are_texts(rt: HostRuntime) {
-    let mut replica = new_replica(&rt, 1000);
+fn scripts_change_what_is_shown(rt: HostRuntime) {
+    for (most, rows) in [(1000, PLACES), (1000, FAULTS), (3, LIMIT)] {
+        let mut replica = Replica::new(rt.alloc(), 1, 1, most).expect(&rt, "memory");
+        for row in rows {
+            compare(&rt, &mut replica, list(&rt, row.0.as_bytes()), &[], row);
+        }
+        drop(replica);
+    }
+    let mut replica = Replica::new(rt.alloc(), 1, 1, 1000).expect(&rt, "memory");
     for (front, len, byte, fails, row) in &WHOLE {
         let mut script = list(&rt, front);
         script.resize(*len, *byte).expect(&rt, "memory");
@@ -232,31 +206,26 @@ fn a_script_is_read_whole_and_its_lines_are_texts(rt: HostRuntime) {
     drop(replica);
 }
 
-const SPENT: [Row; 2] = [
-    ("add 1 U", Err(ScriptFault::IdsSpent(u32::MAX)), "# T\n\n"),
-    ("drop 1", Ok(1), ""),
-];
-
 #[test]
-fn no_counter_is_left(rt: HostRuntime) {
+fn counters_are_spent_and_a_hidden_element_is_a_right_origin(rt: HostRuntime) {
     let last = Op::Section {
         id: id(u32::MAX),
         left: None,
         right: None,
         title: Title::read(rt.alloc(), "T").expect(&rt, "a title"),
     };
-    let mut replica = new_replica(&rt, 1000);
+    let mut replica = Replica::new(rt.alloc(), 1, 1, 1000).expect(&rt, "memory");
     assert!(rt; replica.is_settled());
     let is_taken = replica.deliver(last).is_ok();
     equal(&rt, is_taken, true);
-    run_each(&rt, &mut replica, &SPENT);
+    for row in &SPENT {
+        compare(&rt, &mut replica, list(&rt, row.0.as_bytes()), &[], row);
+    }
     drop(replica);
-}
-
-#[test]
-fn a_hidden_element_is_the_right_origin(rt: HostRuntime) {
-    let mut replica = new_replica(&rt, 1000);
-    run_each(&rt, &mut replica, &PLACES[..1]);
+    let mut replica = Replica::new(rt.alloc(), 1, 1, 1000).expect(&rt, "memory");
+    for row in &PLACES[..1] {
+        compare(&rt, &mut replica, list(&rt, row.0.as_bytes()), &[], row);
+    }
     let is_behind = match replica.accepted() {
         [
             ..,
@@ -297,42 +266,33 @@ const BYTES: [Option<u8>; 12] = [
     Some(b'a'),
 ];
 
-/// The line with this byte at a position, or without the one there.
-fn odd(rt: &(impl Abort + AllocGlobal), line: &str, at: usize, byte: Option<u8>) -> Vec<u8> {
-    let mut bytes = Vec::new(rt.alloc());
-    for (position, old) in line.bytes().enumerate() {
-        let here = if position == at { byte } else { Some(old) };
-        if let Some(byte) = here {
-            bytes.push(byte).expect(rt, "memory");
-        }
-    }
-    bytes
-}
-
 /// A line is bad exactly where the plain reading finds no form.
 fn compare_form(rt: &(impl Abort + AllocGlobal), replica: &mut Replica, line: Vec<u8>) {
     let wanted = match str::from_utf8(&line) {
         Ok(text) => has_form(text),
         Err(_) => false,
     };
+    let mut source = MemSource::new(line, 7, Vec::new(rt.alloc()));
     assert!(*rt; replica.is_settled());
-    let answer = run_bytes(rt, replica, line, &[]);
+    let answer = run_script(rt.alloc(), replica, &mut source);
+    drop(source);
     equal(rt, answer != Err(ScriptFault::BadLine(1)), wanted);
-}
-
-fn compare_odd(rt: &(impl Abort + AllocGlobal), replica: &mut Replica, line: &str) {
-    for at in 0..line.len() {
-        for byte in BYTES {
-            compare_form(rt, replica, odd(rt, line, at, byte));
-        }
-    }
 }
 
 #[test]
 fn a_line_is_bad_exactly_where_a_plain_reading_finds_no_form(rt: HostRuntime) {
-    let mut replica = new_replica(&rt, 1000);
+    let mut replica = Replica::new(rt.alloc(), 1, 1, 1000).expect(&rt, "memory");
     for line in LINES {
-        compare_odd(&rt, &mut replica, line);
+        for at in 0..line.len() {
+            for byte in BYTES {
+                let mut bytes = list(&rt, &line.as_bytes()[..at]);
+                bytes.extend(byte).expect(&rt, "memory");
+                bytes
+                    .extend_from_slice(&line.as_bytes()[at + 1..])
+                    .expect(&rt, "memory");
+                compare_form(&rt, &mut replica, bytes);
+            }
+        }
     }
     drop(replica);
 }

@@ -1,12 +1,11 @@
 //! Sections that are moved and get other titles.
 
-use super::{Ends, ends_on, gives, run_offline};
-use crate::assertions::{equal_at, holds_at};
-use crate::files::{PICKS, has_bytes};
+use super::{Ends, Saving, crash_at, ends_on, ends_so, gives, run_offline};
+use crate::assertions::holds_at;
 use crate::frames::stream;
 use crate::memory::{list, sure_disk, sure_sink};
 use manuscript_cli::Status;
-use outer_ports::{MemDisk, Pick, SureDisk, SureSource};
+use outer_ports::{SureDisk, SureSource};
 use std::process::Abort;
 
 /// The sections A, B and C of replica 1, saved at once, in a file in which 16 operations may wait.
@@ -165,49 +164,18 @@ const FORGED: &[Step] = &[
     ),
 ];
 
-/// Whether the words end so on the file, of which `arrange` prints that then.
-fn does_step(rt: &(impl Abort + AllocGlobal), step: &Step, home: &mut SureDisk) -> bool {
-    let (line, input, note, status, text) = *step;
-    let ends: (&[u8], &[u8], Status) = (b"", note.as_bytes(), status);
-    ends_on(rt, line, input, ends, home) && gives(rt, "arrange F", home, text.as_bytes())
-}
-
 #[test]
 fn sections_are_moved_and_retitled(rt: HostRuntime) {
     for steps in [STEPS, FORGED] {
         let mut home = sure_disk(&rt, list(&rt, SECTIONS), 1_000);
-        for step in steps {
-            holds_at(&rt, &step.0, does_step(&rt, step, &mut home));
+        for (line, input, note, status, text) in steps {
+            let ends: Ends = (b"", note.as_bytes(), *status);
+            let is_so = ends_on(&rt, line, input, ends, &mut home);
+            let is_shown = gives(&rt, "arrange F", &mut home, text.as_bytes());
+            holds_at(&rt, line, is_so && is_shown);
         }
         drop(home);
     }
-}
-
-/// The file with the sections, and the batch of the move.
-fn moved_bytes(rt: &(impl Abort + AllocGlobal)) -> Vec<u8> {
-    let sections = SECTIONS.strip_suffix(b"\0".as_slice()).unwrap_or(SECTIONS);
-    stream(rt, &[sections, MOVE])
-}
-
-#[test]
-fn a_move_is_saved_as_one_note(rt: HostRuntime) {
-    let moved = moved_bytes(&rt);
-    let mut home = sure_disk(&rt, list(&rt, SECTIONS), 40);
-    let ends: Ends = (b"", b"made 1\n", Status::Done);
-    holds_at(
-        &rt,
-        &"move F 3 1",
-        ends_on(&rt, "move F 3 1", b"", ends, &mut home),
-    );
-    holds_at(&rt, &"its bytes", has_bytes(&mut home, &moved));
-    // What `print` writes stays.
-    holds_at(
-        &rt,
-        &"print F",
-        gives(&rt, "print F", &mut home, ABC.as_bytes()),
-    );
-    drop(home);
-    drop(moved);
 }
 
 /// Takes what the guest holds, and says whether it ends so.
@@ -236,110 +204,50 @@ fn merges(
     is_so
 }
 
-/// Two authors move the third section, each without the other's move. That of the greater number wins in both files.
+/// A move is saved as one note. Then two authors move the third section, each without the other's move: that of the
+/// greater number wins in both files.
 #[test]
-fn one_of_two_moves_wins(rt: HostRuntime) {
-    let ends: Ends = (b"", b"made 1\n", Status::Done);
-    let acb = b"# A\n\n# C\n\n# B\n\n";
+fn a_move_is_saved_and_one_of_two_wins(rt: HostRuntime) {
+    let made: Ends = (b"", b"made 1\n", Status::Done);
+    let sections = SECTIONS.strip_suffix(b"\0".as_slice()).unwrap_or(SECTIONS);
+    let moved = stream(&rt, &[sections, MOVE]);
+    let is_saved = ends_so(&rt, "move F 3 1", b"", (SECTIONS, 40), made, &moved);
+    drop(moved);
+    holds_at(&rt, &"move F 3 1", is_saved);
     let mut home = sure_disk(&rt, list(&rt, SECTIONS), 1_000);
     let new = list(&rt, b"FGMX\x02\0\0\0\x02\0\0\0\x10\0");
     let mut guest = sure_disk(&rt, new, 1_000);
     let taken = b"accepted 3, repeated 0, waiting 0, conflict 0, stray 0, full 0\n";
-    holds_at(&rt, &"took", merges(&rt, taken, &mut guest, &mut home));
-    holds_at(
-        &rt,
-        &"move F",
-        ends_on(&rt, "move F 3 1", b"", ends, &mut home),
-    );
-    holds_at(
-        &rt,
-        &"move G",
-        ends_on(&rt, "move F 3 2", b"", ends, &mut guest),
-    );
-    let taken = b"accepted 1, repeated 3, waiting 0, conflict 0, stray 0, full 0\n";
-    holds_at(&rt, &"first", merges(&rt, taken, &mut guest, &mut home));
-    let taken = b"accepted 1, repeated 4, waiting 0, conflict 0, stray 0, full 0\n";
-    holds_at(&rt, &"second", merges(&rt, taken, &mut home, &mut guest));
-    holds_at(&rt, &"F", gives(&rt, "arrange F", &mut home, acb));
-    holds_at(&rt, &"G", gives(&rt, "arrange F", &mut guest, acb));
+    let first = b"accepted 1, repeated 3, waiting 0, conflict 0, stray 0, full 0\n";
+    let second = b"accepted 1, repeated 4, waiting 0, conflict 0, stray 0, full 0\n";
+    let acb = b"# A\n\n# C\n\n# B\n\n";
+    let is_so = merges(&rt, taken, &mut guest, &mut home)
+        && ends_on(&rt, "move F 3 1", b"", made, &mut home)
+        && ends_on(&rt, "move F 3 2", b"", made, &mut guest)
+        && merges(&rt, first, &mut guest, &mut home)
+        && merges(&rt, second, &mut home, &mut guest)
+        && gives(&rt, "arrange F", &mut home, acb)
+        && gives(&rt, "arrange F", &mut guest, acb)
+        // What `print` writes stays.
+        && gives(&rt, "print F", &mut home, ABC.as_bytes());
     drop(guest);
     drop(home);
-}
-
-/// Whether the section is moved on the file.
-fn is_moved(rt: &(impl Abort + AllocGlobal), home: &mut MemDisk) -> bool {
-    ends_on(
-        rt,
-        "move F 3 1",
-        b"",
-        (b"", b"made 1\n", Status::Done),
-        home,
-    )
-}
-
-/// Whether a crash leaves the file with the move, as it must where it is saved, or without it; then the move goes
-/// through.
-fn is_whole_after(
-    rt: &(impl Abort + AllocGlobal),
-    is_saved: bool,
-    home: &MemDisk,
-    pick: Pick,
-) -> bool {
-    let mut left = home.crash(pick).expect(rt, "memory");
-    let is_whole = gives(rt, "arrange F", &mut left, CAB.as_bytes())
-        || !is_saved
-            && gives(rt, "arrange F", &mut left, ABC.as_bytes())
-            && is_moved(rt, &mut left)
-            && gives(rt, "arrange F", &mut left, CAB.as_bytes());
-    drop(left);
-    is_whole
-}
-
-/// Moves a section where this call on the file fails, and looks at what crashes leave. It is saved where no call fails.
-fn crash_at(rt: &(impl Abort + AllocGlobal), call: u32, is_saved: bool) {
-    let mut home = MemDisk::new(rt.alloc(), list(rt, SECTIONS), list(rt, &[call]));
-    equal_at(rt, &call, is_moved(rt, &mut home), is_saved);
-    for pick in PICKS {
-        let is_whole = is_whole_after(rt, is_saved, &home, *pick);
-        holds_at(rt, &(call, pick), is_whole);
-    }
-    drop(home);
+    holds_at(&rt, &"both", is_so);
 }
 
 #[test]
 fn a_crash_leaves_all_of_a_move_or_none(rt: HostRuntime) {
     // Loading is a sync and five reads, and a batch is two writes and two syncs.
+    let saving = Saving {
+        file: SECTIONS,
+        line: "move F 3 1",
+        input: b"",
+        note: b"made 1\n",
+        shown_by: "arrange F",
+        before: ABC.as_bytes(),
+        after: CAB.as_bytes(),
+    };
     for call in 0..12 {
-        crash_at(&rt, call, call >= 10);
+        crash_at(&rt, call, &saving, call >= 10);
     }
-}
-
-/// Words that are no command.
-const ODD: &[&str] = &[
-    "move F 0 1",
-    "move F 1 0",
-    "move F 1",
-    "move F 1 2 3",
-    "move F 01 1",
-    "move F 1 4294967296",
-    "move  1 1",
-    "retitle F 1 ",
-    "retitle F 0 New",
-    "retitle F 1 a\nb",
-    "retitle F 1 a\rb",
-    "retitle F 1",
-    "retitle  1 New",
-    "arrange",
-    "arrange ",
-    "arrange F G",
-];
-
-#[test]
-fn odd_words_move_nothing(rt: HostRuntime) {
-    let mut home = sure_disk(&rt, list(&rt, SECTIONS), 1);
-    for line in ODD {
-        let ends: Ends = (b"", b"words not understood\n", Status::Usage);
-        holds_at(&rt, line, ends_on(&rt, line, b"", ends, &mut home));
-    }
-    drop(home);
 }

@@ -1,7 +1,6 @@
-use super::{Fails, NONE, Seen, see, see_surely};
+use super::{Fails, NONE, see, see_surely};
 use crate::assertions::equal_at;
 use manuscript_cli::Status;
-use std::process::Abort;
 
 /// The words, what is written, what is noted, and the status.
 type Row = (&'static str, &'static str, &'static str, Status);
@@ -46,33 +45,6 @@ const ROWS: &[Row] = &[
     ("bulk 7 4 4", "", NOT_UNDERSTOOD, Status::Usage),
 ];
 
-/// Runs with an empty input.
-fn sums(
-    rt: &(impl Abort + AllocGlobal),
-    words: &str,
-    fails: Fails,
-    text: &str,
-    line: &str,
-) -> Seen {
-    let input = Vec::new(rt.alloc());
-    see(
-        rt,
-        words,
-        (input, 1),
-        fails,
-        text.as_bytes(),
-        line.as_bytes(),
-    )
-}
-
-#[test]
-fn a_seed_leads_to_one_summary(rt: HostRuntime) {
-    for (words, text, line, status) in ROWS {
-        let seen = sums(&rt, words, NONE, text, line);
-        equal_at(&rt, &words, seen, (*status, true, false));
-    }
-}
-
 /// Calls that fail alone: writes of the summary.
 const FAILING: &[Fails] = &[
     [&[], &[0], &[]],
@@ -82,17 +54,19 @@ const FAILING: &[Fails] = &[
 ];
 
 #[test]
-fn each_write_of_a_summary_may_fail(rt: HostRuntime) {
+fn a_seed_leads_to_one_summary_where_it_can_be_written(rt: HostRuntime) {
+    for (words, text, line, status) in ROWS {
+        let input = (Vec::new(rt.alloc()), 1);
+        let seen = see(&rt, words, input, NONE, text.as_bytes(), line.as_bytes());
+        equal_at(&rt, &words, seen, (*status, true, false));
+    }
     // The last byte is not written.
-    let front = "operations 5\nscalars 4\nsum 1074\nequal";
+    let front = b"operations 5\nscalars 4\nsum 1074\nequal";
     for fails in FAILING {
-        let seen = sums(&rt, "bulk 7 4", *fails, front, "");
+        let input = (Vec::new(rt.alloc()), 1);
+        let seen = see(&rt, "bulk 7 4", input, *fails, front, b"");
         equal_at(&rt, &fails, seen, (Status::OutsideFault, false, true));
     }
-}
-
-#[test]
-fn a_summary_fits_its_room(rt: HostRuntime) {
     for (room, wanted) in [
         (FOUR.len(), (Status::Done, true)),
         (FOUR.len() - 1, (Status::OutsideFault, false)),

@@ -1,12 +1,10 @@
 //! Certificates of the order: made of a file, and checked.
 
-use super::{ends_on, ends_so, run_on};
+use super::{ends_on, ends_so};
 use crate::assertions::holds_at;
 use crate::frames::{A, B, D, NEW, S, SAVED, X, Y, stream};
 use crate::memory::{list, sure_disk};
 use manuscript_cli::Status;
-use outer_ports::{MemSink, SureDisk};
-use std::process::Abort;
 
 /// What the words and the input come to: what is written and noted, and the status.
 type Row = (
@@ -30,6 +28,32 @@ down 1.0\n\
 right 1.0 2.0\n\
 right 1.0\n\
 inner\n";
+
+/// The same with another last line, and without it.
+const CHANGED: &str = "claim 3.0 2.1\n\
+down 3.0\n\
+down 2.1\n\
+right 3.0\n\
+right 2.1\n\
+later 1.0 2.0\n\
+claim 2.0 1.0\n\
+down 2.0\n\
+down 1.0\n\
+right 1.0 2.0\n\
+right 1.0\n\
+end\n";
+
+const CUT_SHORT: &str = "claim 3.0 2.1\n\
+down 3.0\n\
+down 2.1\n\
+right 3.0\n\
+right 2.1\n\
+later 1.0 2.0\n\
+claim 2.0 1.0\n\
+down 2.0\n\
+down 1.0\n\
+right 1.0 2.0\n\
+right 1.0\n";
 
 /// Why A stands before X, whose left origin it is.
 const PREFIX: &str = "claim 1.1 3.0\ndown 1.1 3.0\nprefix\n";
@@ -89,60 +113,28 @@ const ROWS: &[Row] = &[
         "",
         Status::Done,
     ),
+    // The last line is another one, or is left out.
+    ("check F", CHANGED, "no\n", "", Status::Done),
+    ("check F", CUT_SHORT, "no\n", "", Status::Done),
     ("check", "", "", NO_WORDS, Status::Usage),
 ];
 
-/// The file of the five letters.
-fn made(rt: &(impl Abort + AllocGlobal)) -> SureDisk {
-    let mut home = sure_disk(rt, list(rt, NEW), 1000);
-    let frames = stream(rt, &[S, B, A, D, X, Y]);
-    let mut output = MemSink::new(rt.alloc(), 64, Vec::new(rt.alloc()));
-    let mut notes = MemSink::new(rt.alloc(), 256, Vec::new(rt.alloc()));
-    let status = run_on(
-        rt,
-        "take F",
-        (&frames, &[]),
-        &mut output,
-        &mut notes,
-        &mut home,
-    );
-    drop(notes);
-    drop(output);
-    drop(frames);
-    holds_at(rt, &"the file", status == Status::Done);
-    home
-}
-
+/// On the file of the five letters. A file that lacks the elements knows no certificate of them.
 #[test]
 fn certificates_are_printed_and_checked(rt: HostRuntime) {
-    let mut home = made(&rt);
+    let mut home = sure_disk(&rt, list(&rt, NEW), 1000);
+    let frames = stream(&rt, &[S, B, A, D, X, Y]);
+    let counts = b"accepted 6, repeated 0, waiting 0, conflict 0, stray 0, full 0\n";
+    let ends = (b"".as_slice(), counts.as_slice(), Status::Done);
+    let is_taken = ends_on(&rt, "take F", &frames, ends, &mut home);
+    drop(frames);
+    holds_at(&rt, &"take F", is_taken);
     for (words, input, text, note, status) in ROWS {
         let ends = (text.as_bytes(), note.as_bytes(), *status);
         let is_so = ends_on(&rt, words, input.as_bytes(), ends, &mut home);
         holds_at(&rt, &(words, input), is_so);
     }
     drop(home);
-}
-
-/// Last lines of the certificate, the first of which is its own, and what is told of it.
-const LAST_LINES: &[(&str, &str)] = &[("inner\n", "yes\n"), ("end\n", "no\n"), ("", "no\n")];
-
-#[test]
-fn a_changed_certificate_is_no_longer_valid(rt: HostRuntime) {
-    let mut home = made(&rt);
-    let front = WHY.strip_suffix("inner\n").unwrap_or("");
-    for (last, answer) in LAST_LINES {
-        let text = stream(&rt, &[front.as_bytes(), last.as_bytes()]);
-        let ends = (answer.as_bytes(), b"".as_slice(), Status::Done);
-        let is_so = ends_on(&rt, "check F", &text, ends, &mut home);
-        drop(text);
-        holds_at(&rt, last, is_so);
-    }
-    drop(home);
-}
-
-#[test]
-fn a_file_that_lacks_the_elements_knows_no_certificate_of_them(rt: HostRuntime) {
     let no = (b"no\n".as_slice(), b"".as_slice(), Status::Done);
     let is_so = ends_so(&rt, "check F", WHY.as_bytes(), (SAVED, 1), no, SAVED);
     holds_at(&rt, &"another file", is_so);

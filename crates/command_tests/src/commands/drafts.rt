@@ -3,13 +3,11 @@
 use super::{Ends, ends_on, gives, run_offline};
 use crate::assertions::holds_at;
 use crate::files::has_bytes;
+use crate::frames::NEW;
 use crate::memory::{list, sure_disk, sure_sink};
 use manuscript_cli::Status;
 use outer_ports::{SureDisk, SureSource};
 use std::process::Abort;
-
-/// The file of replica 1 that has nothing, in which 16 operations may wait.
-const NEW: &[u8] = b"FGMX\x02\0\0\0\x01\0\0\0\x10\0";
 
 /// It writes the sections A and B.
 const SCRIPT: &[u8] = b"add 1 A\nadd 2 B\nput 1 0 one two\nput 2 0 three\n";
@@ -124,41 +122,25 @@ fn revises(
 }
 
 #[test]
-fn drafts_are_revised(rt: HostRuntime) {
-    for case in CASES {
-        let (base, draft, note, status, text) = *case;
-        let mut home = sure_disk(&rt, list(&rt, NEW), 1_000);
-        let written: Ends = (b"", b"made 14\n", Status::Done);
-        holds_at(
-            &rt,
-            &"edit F",
-            ends_on(&rt, "edit F", SCRIPT, written, &mut home),
-        );
-        let ends = (note.as_bytes(), status);
-        holds_at(&rt, &note, revises(&rt, base, draft, ends, &mut home));
-        holds_at(&rt, &note, gives(&rt, "arrange F", &mut home, text));
-        drop(home);
-    }
-}
-
-#[test]
-fn sections_are_listed(rt: HostRuntime) {
-    let mut home = sure_disk(&rt, list(&rt, NEW), 1_000);
-    let nothing = b"replica 1, hold 16, accepted 0, waiting 0\n";
-    holds_at(&rt, &"new", gives(&rt, "list F", &mut home, nothing));
+fn drafts_are_revised_and_sections_are_listed(rt: HostRuntime) {
     let written: Ends = (b"", b"made 14\n", Status::Done);
-    holds_at(
-        &rt,
-        &"edit F",
-        ends_on(&rt, "edit F", SCRIPT, written, &mut home),
-    );
+    for (base, draft, note, status, text) in CASES {
+        let mut home = sure_disk(&rt, list(&rt, NEW), 1_000);
+        let is_written = ends_on(&rt, "edit F", SCRIPT, written, &mut home);
+        let ends = (note.as_bytes(), *status);
+        let is_revised = revises(&rt, base, draft, ends, &mut home);
+        let is_shown = gives(&rt, "arrange F", &mut home, text);
+        drop(home);
+        holds_at(&rt, &note, is_written && is_revised && is_shown);
+    }
+    let mut home = sure_disk(&rt, list(&rt, NEW), 1_000);
     let moved: Ends = (b"", b"made 1\n", Status::Done);
-    holds_at(
-        &rt,
-        &"move F 2 1",
-        ends_on(&rt, "move F 2 1", b"", moved, &mut home),
-    );
+    let nothing = b"replica 1, hold 16, accepted 0, waiting 0\n";
     let listed = b"replica 1, hold 16, accepted 15, waiting 0\n1 (2) 5 B\n2 (1) 7 A\n";
-    holds_at(&rt, &"moved", gives(&rt, "list F", &mut home, listed));
+    let is_so = gives(&rt, "list F", &mut home, nothing)
+        && ends_on(&rt, "edit F", SCRIPT, written, &mut home)
+        && ends_on(&rt, "move F 2 1", b"", moved, &mut home)
+        && gives(&rt, "list F", &mut home, listed);
     drop(home);
+    holds_at(&rt, &"list F", is_so);
 }

@@ -1,10 +1,10 @@
-use super::{ends_on, ends_so, gives, run_on};
+use super::{Saving, crash_at, ends_so, run_on};
 use crate::assertions::{equal_at, holds_at};
-use crate::files::{PICKS, has_bytes};
+use crate::files::has_bytes;
 use crate::frames::{NEW, PRINTED, SAVED};
 use crate::memory::list;
 use manuscript_cli::Status;
-use outer_ports::{MemDisk, MemSink, Pick};
+use outer_ports::{MemDisk, MemSink};
 use std::process::Abort;
 
 /// It makes of the new file what is saved.
@@ -117,46 +117,21 @@ fn a_script_is_run_and_saved(rt: HostRuntime) {
     }
 }
 
-/// Whether the script is run on the file, and saved.
-fn is_edited(rt: &(impl Abort + AllocGlobal), home: &mut MemDisk) -> bool {
-    ends_on(rt, "edit F", SCRIPT, (b"", b"made 5\n", Status::Done), home)
-}
-
-/// Whether a crash leaves the file with the script's operations, as it must where they are saved, or without them; then
-/// the script goes through.
-fn is_whole_behind(
-    rt: &(impl Abort + AllocGlobal),
-    home: &MemDisk,
-    pick: Pick,
-    is_saved: bool,
-) -> bool {
-    let mut left = home.crash(pick).expect(rt, "memory");
-    let is_whole = gives(rt, "print F", &mut left, PRINTED)
-        || !is_saved
-            && gives(rt, "print F", &mut left, b"")
-            && is_edited(rt, &mut left)
-            && gives(rt, "print F", &mut left, PRINTED);
-    drop(left);
-    is_whole
-}
-
 #[test]
 fn a_crash_leaves_all_of_a_script_or_none(rt: HostRuntime) {
     // Loading is a sync and two reads, and a batch is two writes and two syncs.
+    let saving = Saving {
+        file: NEW,
+        line: "edit F",
+        input: SCRIPT,
+        note: b"made 5\n",
+        shown_by: "print F",
+        before: b"",
+        after: PRINTED,
+    };
     for call in 0..9 {
-        crash_at(&rt, call, call >= 7);
+        crash_at(&rt, call, &saving, call >= 7);
     }
-}
-
-/// Runs the script where this call on the file fails, and looks at what crashes leave. It is saved where no call fails.
-fn crash_at(rt: &(impl Abort + AllocGlobal), call: u32, is_saved: bool) {
-    let mut home = MemDisk::new(rt.alloc(), list(rt, NEW), list(rt, &[call]));
-    equal_at(rt, &call, is_edited(rt, &mut home), is_saved);
-    for pick in PICKS {
-        let is_whole = is_whole_behind(rt, &home, *pick, is_saved);
-        holds_at(rt, &(call, pick), is_whole);
-    }
-    drop(home);
 }
 
 /// Runs the script on a new file, where calls of the script and of the notes fail. The answer is the status, and
@@ -189,15 +164,11 @@ const NOTED: &[(&[u32], &[u8], Status)] = &[
 ];
 
 #[test]
-fn what_was_saved_stands_where_the_notes_fail(rt: HostRuntime) {
+fn a_script_is_saved_where_it_is_read_whole_whatever_is_noted(rt: HostRuntime) {
     for (fails, line, status) in NOTED {
         let end = edits_new(&rt, [&[], fails], line, SAVED);
         equal_at(&rt, &fails, end, (*status, true));
     }
-}
-
-#[test]
-fn a_script_that_is_not_read_whole_saves_nothing(rt: HostRuntime) {
     // The script has 39 bytes: four pieces (`PIECE`), and an empty read at its end.
     for call in 0..7 {
         let (status, line, left): (Status, &[u8], &[u8]) = if call < 5 {

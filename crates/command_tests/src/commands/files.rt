@@ -90,13 +90,41 @@ const ROWS: &[Row] = &[
     ("merge F", SAVED, 1, USAGE, SAVED),
 ];
 
-#[test]
-fn files_are_made_printed_and_sent(rt: HostRuntime) {
-    for (words, bytes, room, ends, left) in ROWS {
-        let is_so = ends_so(&rt, words, b"", (bytes, *room), *ends, left);
-        holds_at(&rt, &(words, ends), is_so);
-    }
-}
+/// Words that are no command of moves, titles, comments and versions.
+const ODD: &[&str] = &[
+    "move F 0 1",
+    "move F 1 0",
+    "move F 1",
+    "move F 1 2 3",
+    "move F 01 1",
+    "move F 1 4294967296",
+    "move  1 1",
+    "retitle F 1 ",
+    "retitle F 0 New",
+    "retitle F 1 a\nb",
+    "retitle F 1 a\rb",
+    "retitle F 1",
+    "retitle  1 New",
+    "arrange",
+    "arrange ",
+    "arrange F G",
+    "comment F 0 0 1 x",
+    "comment F 1 0 0 x",
+    "comment F 1 0 1 ",
+    "comment F 1 0 1 a\nb",
+    "comment F 1 0 1",
+    "comment F 1 0 1 x y",
+    "comment  1 0 1 x",
+    "comments",
+    "comments F G",
+    "version F",
+    "version F ",
+    "version F a\rb",
+    "version  x",
+    "versions F G",
+    "view F",
+    "view F ",
+];
 
 /// A byte of the saved file, what stands in its place, and what printing comes to.
 const CHANGED: &[(usize, u8, Ends)] = &[
@@ -108,8 +136,13 @@ const CHANGED: &[(usize, u8, Ends)] = &[
     (106, 1, (b"", b"bad batch 1\n", Status::BadFile)),
 ];
 
+/// A changed byte is found before anything is printed, and odd words touch nothing.
 #[test]
-fn a_changed_byte_is_found_before_anything_is_printed(rt: HostRuntime) {
+fn files_are_made_printed_and_sent(rt: HostRuntime) {
+    for (words, bytes, room, ends, left) in ROWS {
+        let is_so = ends_so(&rt, words, b"", (bytes, *room), *ends, left);
+        holds_at(&rt, &(words, ends), is_so);
+    }
     for (at, byte, ends) in CHANGED {
         let mut bytes = list(&rt, SAVED);
         if let Some(place) = bytes.get_mut(*at) {
@@ -118,6 +151,10 @@ fn a_changed_byte_is_found_before_anything_is_printed(rt: HostRuntime) {
         let is_so = ends_so(&rt, "print F", b"", (&bytes, 1), *ends, &bytes);
         drop(bytes);
         holds_at(&rt, &at, is_so);
+    }
+    for words in ODD {
+        let is_so = ends_so(&rt, words, b"", (SAVED, 1), USAGE, SAVED);
+        holds_at(&rt, words, is_so);
     }
 }
 
@@ -161,46 +198,27 @@ const CALLED: &[(&str, &[u8], u32)] = &[
     ("send F", SAVED, 4),
 ];
 
+/// A command on the saved file, what it writes, and in how many calls.
+const WRITING: &[(&str, &[u8], u32)] = &[("print F", PRINTED, 3), ("send F", FRAMES, 30)];
+
+/// Each call on the file and on the output may fail. The fault is told where a note can be made.
 #[test]
-fn each_call_on_a_file_may_fail(rt: HostRuntime) {
+fn each_call_may_fail_while_a_file_is_printed(rt: HostRuntime) {
     for (words, file, least) in CALLED {
         let calls = failing_calls(&rt, words, file);
         holds_at(&rt, &(words, calls), calls >= Some(*least));
     }
-}
-
-/// The number of a call that no run makes.
-const NEVER: u32 = u32::MAX;
-
-/// Runs on the saved file where the calls of these numbers fail.
-fn see_without(
-    rt: &(impl Abort + AllocGlobal),
-    words: &str,
-    output: u32,
-    notes: u32,
-    text: &[u8],
-) -> (Status, bool, bool) {
-    see_of(rt, words, SAVED, [&[], &[output], &[notes]], text)
-}
-
-/// Of this command on the saved file, which writes this text in so many calls, each call may fail, and its fault is
-/// told where a note can be made.
-fn each_may_fail(rt: &(impl Abort + AllocGlobal), words: &str, text: &[u8], calls: u32) {
     let fault = Status::OutsideFault;
-    for call in 0..calls {
-        let told = see_without(rt, words, call, NEVER, text);
-        equal_at(rt, &(words, call), told, (fault, true, true));
-        let untold = see_without(rt, words, call, 0, text);
-        equal_at(rt, &(words, call), untold, (fault, true, false));
+    for (words, text, calls) in WRITING {
+        for call in 0..*calls {
+            let told = see_of(&rt, words, SAVED, [&[], &[call], &[]], text);
+            equal_at(&rt, &(words, call), told, (fault, true, true));
+            let untold = see_of(&rt, words, SAVED, [&[], &[call], &[0]], text);
+            equal_at(&rt, &(words, call), untold, (fault, true, false));
+        }
+        let whole = see_of(&rt, words, SAVED, [&[], &[*calls], &[]], text);
+        equal_at(&rt, &words, whole, (Status::Done, true, false));
     }
-    let whole = see_without(rt, words, calls, NEVER, text);
-    equal_at(rt, &words, whole, (Status::Done, true, false));
-}
-
-#[test]
-fn each_call_on_the_output_may_fail(rt: HostRuntime) {
-    each_may_fail(&rt, "print F", PRINTED, 3);
-    each_may_fail(&rt, "send F", FRAMES, 30);
 }
 
 /// The words, the files of their command, and what the first one is opened for: nothing where there is no command.
@@ -236,22 +254,13 @@ const NAMED: &[Named] = &[
     ("forget F", None, None, None),
 ];
 
-/// Whether the words name these files, to be opened so.
-fn names_so(rt: &(impl Abort + AllocGlobal), named: &Named) -> bool {
-    let (line, home, guest, opening) = *named;
-    let words = words_of(rt, line);
-    let is_so = files_of(&words) == (home, guest)
-        && match read_words(&words) {
-            Some(command) => opening == Some(command.opening()),
-            None => opening.is_none(),
-        };
-    drop(words);
-    is_so
-}
-
 #[test]
 fn words_name_the_files_of_their_command(rt: HostRuntime) {
-    for named in NAMED {
-        holds_at(&rt, &named.0, names_so(&rt, named));
+    for (line, home, guest, opening) in NAMED {
+        let words = words_of(&rt, line);
+        let is_so = files_of(&words) == (*home, *guest)
+            && read_words(&words).map(|command| command.opening()) == *opening;
+        drop(words);
+        holds_at(&rt, line, is_so);
     }
 }

@@ -2,13 +2,9 @@
 
 use super::{Ends, ends_on};
 use crate::assertions::holds_at;
+use crate::frames::NEW;
 use crate::memory::{list, sure_disk};
 use manuscript_cli::Status;
-use outer_ports::SureDisk;
-use std::process::Abort;
-
-/// The file of replica 1, in which 16 operations may wait.
-const EMPTY: &[u8] = b"FGMX\x02\0\0\0\x01\0\0\0\x10\0";
 
 /// It withdraws the comment (1,6).
 const WITHDRAWS: &[u8] = b"\x03\0\0\0\x01\0\0\0\x06";
@@ -152,50 +148,14 @@ const VERSIONS: &[Step] = &[
     ("view F one", b"", "", "", Status::Done),
 ];
 
-/// Whether the words end so on the file.
-fn does_step(rt: &(impl Abort + AllocGlobal), step: &Step, home: &mut SureDisk) -> bool {
-    let (line, input, output, note, status) = *step;
-    let ends: Ends = (output.as_bytes(), note.as_bytes(), status);
-    ends_on(rt, line, input, ends, home)
-}
-
 #[test]
 fn comments_and_versions_follow_the_text(rt: HostRuntime) {
     for steps in [COMMENTS, VERSIONS] {
-        let mut home = sure_disk(&rt, list(&rt, EMPTY), 1_000);
-        for step in steps {
-            holds_at(&rt, &step.0, does_step(&rt, step, &mut home));
+        let mut home = sure_disk(&rt, list(&rt, NEW), 1_000);
+        for (line, input, output, note, status) in steps {
+            let ends: Ends = (output.as_bytes(), note.as_bytes(), *status);
+            holds_at(&rt, line, ends_on(&rt, line, input, ends, &mut home));
         }
         drop(home);
     }
-}
-
-/// Words that are no command.
-const ODD: &[&str] = &[
-    "comment F 0 0 1 x",
-    "comment F 1 0 0 x",
-    "comment F 1 0 1 ",
-    "comment F 1 0 1 a\nb",
-    "comment F 1 0 1",
-    "comment F 1 0 1 x y",
-    "comment  1 0 1 x",
-    "comments",
-    "comments F G",
-    "version F",
-    "version F ",
-    "version F a\rb",
-    "version  x",
-    "versions F G",
-    "view F",
-    "view F ",
-];
-
-#[test]
-fn odd_words_note_nothing(rt: HostRuntime) {
-    let mut home = sure_disk(&rt, list(&rt, EMPTY), 1);
-    for line in ODD {
-        let ends: Ends = (b"", b"words not understood\n", Status::Usage);
-        holds_at(&rt, line, ends_on(&rt, line, b"", ends, &mut home));
-    }
-    drop(home);
 }

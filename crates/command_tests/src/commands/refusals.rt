@@ -3,7 +3,6 @@
 use crate::assertions::holds_at;
 use manuscript_cli::{Refusal, Status, tell};
 use outer_ports::MemSink;
-use std::process::Abort;
 
 /// Each refusal, its text and its status.
 const REFUSALS: &[(Refusal, &str, Status)] = &[
@@ -52,20 +51,15 @@ const REFUSALS: &[(Refusal, &str, Status)] = &[
     (Refusal::NoMemory, "no memory", Status::NoMemory),
 ];
 
-/// Whether the refusal is told, and displayed, by this line, with this status.
-fn is_told(rt: &(impl Abort + AllocGlobal), refusal: Refusal, text: &str, status: Status) -> bool {
-    let line = format!(in rt.alloc(); "{refusal}\n").expect(rt, "memory");
-    let mut notes = MemSink::new(rt.alloc(), 5, Vec::new(rt.alloc()));
-    let end = tell(&mut notes, refusal);
-    let is_so = end == status && notes.written() == line.as_bytes() && line.trim_end() == text;
-    drop(notes);
-    drop(line);
-    is_so
-}
-
 #[test]
-fn refusals_are_told_in_a_line(rt: HostRuntime) {
+fn refusals_are_told_and_displayed_in_a_line(rt: HostRuntime) {
     for (refusal, text, status) in REFUSALS {
-        holds_at(&rt, &text, is_told(&rt, *refusal, text, *status));
+        let line = format!(in rt.alloc(); "{refusal}\n").expect(&rt, "memory");
+        let mut notes = MemSink::new(rt.alloc(), 5, Vec::new(rt.alloc()));
+        let end = tell(&mut notes, *refusal);
+        let is_so = notes.written() == line.as_bytes() && line.trim_end() == *text;
+        drop(notes);
+        drop(line);
+        holds_at(&rt, &text, is_so && end == *status);
     }
 }

@@ -85,14 +85,6 @@ const RELAY: &str = "relay 47113 2";
 
 const DONE: Ends = (b"ready\n", b"log 2\n", Status::Done);
 
-#[test]
-fn a_relay_says_that_it_is_ready_and_answers_each_session(rt: HostRuntime) {
-    for piece in [1, 7, 64] {
-        let seen = see(&rt, RELAY, piece, NONE, DONE);
-        equal_at(&rt, &piece, seen, (true, true, false));
-    }
-}
-
 /// The words, the calls that fail, the ends, whether the sessions are answered, and whether no step was taken. At the
 /// dock there are: listening, eight steps, and for each of two sessions a send and its end.
 type Row = (&'static str, Fails, Ends, bool, bool);
@@ -146,15 +138,6 @@ const ROWS: &[Row] = &[
     ("relay 47113 1 1", NONE, USAGE, false, true),
 ];
 
-#[test]
-fn each_call_may_fail_while_a_relay_serves(rt: HostRuntime) {
-    for (words, fails, ends, are_answered, is_untouched) in ROWS {
-        let seen = see(&rt, words, 64, *fails, *ends);
-        let wanted = (true, *are_answered, *is_untouched);
-        equal_at(&rt, &(words, fails), seen, wanted);
-    }
-}
-
 /// One session says what no text begins with; another one brings a frame, and goes before its text ends.
 const HOSTILE: &[Coming] = &[
     Opens(0),
@@ -166,7 +149,16 @@ const HOSTILE: &[Coming] = &[
 ];
 
 #[test]
-fn a_bad_text_is_refused_and_what_came_whole_stays(rt: HostRuntime) {
+fn a_relay_answers_each_session_and_may_fail_at_each_call(rt: HostRuntime) {
+    for piece in [1, 7, 64] {
+        let seen = see(&rt, RELAY, piece, NONE, DONE);
+        equal_at(&rt, &piece, seen, (true, true, false));
+    }
+    for (words, fails, ends, are_answered, is_untouched) in ROWS {
+        let seen = see(&rt, words, 64, *fails, *ends);
+        let wanted = (true, *are_answered, *is_untouched);
+        equal_at(&rt, &(words, fails), seen, wanted);
+    }
     let steps = steps(&rt, HOSTILE);
     let mut dock = MemDock::new(rt.alloc(), steps, 64, Vec::new(rt.alloc()));
     let ends: Ends = (b"ready\n", b"log 1\n", Status::Done);
@@ -177,21 +169,18 @@ fn a_bad_text_is_refused_and_what_came_whole_stays(rt: HostRuntime) {
     equal(&rt, (is_so, is_refused, is_silent), (true, true, true));
 }
 
-/// How a run ends at a sure dock with so many bytes of room for each session.
-fn status_within(rt: &(impl Abort + AllocGlobal), room: usize) -> Status {
-    let steps = steps(rt, TWO_SESSIONS);
-    let mut dock = SureDock::new(rt.alloc(), steps, 3, room).expect(rt, "memory");
-    let mut output = MemSink::new(rt.alloc(), 64, Vec::new(rt.alloc()));
-    let mut notes = MemSink::new(rt.alloc(), 64, Vec::new(rt.alloc()));
-    let status = run_at(rt, RELAY, &mut dock, &mut output, &mut notes);
-    drop(notes);
-    drop(output);
-    drop(dock);
-    status
-}
-
+/// So many bytes of room for each session.
 #[test]
 fn a_sure_dock_with_room_for_the_replies_does_not_fail(rt: HostRuntime) {
-    equal(&rt, status_within(&rt, 41), Status::Done);
-    equal(&rt, status_within(&rt, 40), Status::OutsideFault);
+    for (room, wanted) in [(41, Status::Done), (40, Status::OutsideFault)] {
+        let steps = steps(&rt, TWO_SESSIONS);
+        let mut dock = SureDock::new(rt.alloc(), steps, 3, room).expect(&rt, "memory");
+        let mut output = MemSink::new(rt.alloc(), 64, Vec::new(rt.alloc()));
+        let mut notes = MemSink::new(rt.alloc(), 64, Vec::new(rt.alloc()));
+        let status = run_at(&rt, RELAY, &mut dock, &mut output, &mut notes);
+        drop(notes);
+        drop(output);
+        drop(dock);
+        equal_at(&rt, &room, status, wanted);
+    }
 }

@@ -212,37 +212,11 @@ const ROWS: &[Row] = &[
     ("print", &[S], "", "words not understood\n", Status::Usage),
 ];
 
-/// The row's stream comes to what is wanted of it in pieces of each of these sizes.
-fn compare_shown(rt: &(impl Abort + AllocGlobal), row: &Row) {
-    let (words, frames, text, line, status) = *row;
-    for piece in [1, 5, 4096] {
-        let stream = (stream(rt, frames), piece);
-        let seen = see(rt, words, stream, NONE, text.as_bytes(), line.as_bytes());
-        equal_at(rt, &(words, text, line, piece), seen, (status, true, false));
-    }
-}
-
-#[test]
-fn a_stream_is_shown_and_counted(rt: HostRuntime) {
-    for row in ROWS {
-        compare_shown(&rt, row);
-    }
-}
-
 const TEXT: &[u8] = b"# T\nAXYDB\n";
 
 const COUNTS: &[u8] = b"accepted 6, repeated 0, waiting 0, conflict 0, stray 0, full 0\n";
 
 const FRAMES: &[&[u8]] = &[S, B, A, D, X, Y];
-
-#[test]
-fn pieces_of_each_size_print_the_same(rt: HostRuntime) {
-    for piece in 1..=172usize {
-        let stream = (stream(&rt, FRAMES), piece);
-        let seen = see(&rt, "show", stream, NONE, TEXT, COUNTS);
-        equal_at(&rt, &piece, seen, (Status::Done, true, false));
-    }
-}
 
 /// Where each frame of the stream begins and ends, and the end of the stream.
 const PLACES: &[(usize, usize)] = &[
@@ -255,28 +229,41 @@ const PLACES: &[(usize, usize)] = &[
     (172, 173),
 ];
 
-/// The stream, cut at each byte of a frame, is whole where the frame begins, and is told to be cut short there
-/// elsewhere.
-fn compare_cut(rt: &(impl Abort + AllocGlobal), begin: usize, end: usize) {
-    let line = format!(in rt.alloc(); "cut short at byte {begin}\n").expect(rt, "memory");
-    for length in begin..end {
-        let mut bytes = stream(rt, FRAMES);
-        bytes.truncate(length);
-        let (status, is_told, _) = see(rt, "show", (bytes, 4096), NONE, b"", line.as_bytes());
-        let is_right = if length == begin {
-            status == Status::Done
-        } else {
-            status == Status::BadInput && is_told
-        };
-        holds_at(rt, &length, is_right);
-    }
-    drop(line);
-}
-
+/// The rows' streams in pieces of some sizes, and one stream in pieces of each size and cut at each byte: it is whole
+/// where a frame begins, and is told to be cut short there elsewhere.
 #[test]
-fn a_stream_may_end_behind_each_frame_and_nowhere_else(rt: HostRuntime) {
+fn a_stream_is_shown_and_counted(rt: HostRuntime) {
+    for (words, frames, text, line, status) in ROWS {
+        for piece in [1, 5, 4096] {
+            let stream = (stream(&rt, frames), piece);
+            let seen = see(&rt, words, stream, NONE, text.as_bytes(), line.as_bytes());
+            equal_at(
+                &rt,
+                &(words, text, line, piece),
+                seen,
+                (*status, true, false),
+            );
+        }
+    }
+    for piece in 1..=172usize {
+        let stream = (stream(&rt, FRAMES), piece);
+        let seen = see(&rt, "show", stream, NONE, TEXT, COUNTS);
+        equal_at(&rt, &piece, seen, (Status::Done, true, false));
+    }
     for (begin, end) in PLACES {
-        compare_cut(&rt, *begin, *end);
+        let line = format!(in rt.alloc(); "cut short at byte {begin}\n").expect(&rt, "memory");
+        for length in *begin..*end {
+            let mut bytes = stream(&rt, FRAMES);
+            bytes.truncate(length);
+            let (status, is_told, _) = see(&rt, "show", (bytes, 4096), NONE, b"", line.as_bytes());
+            let is_right = if length == *begin {
+                status == Status::Done
+            } else {
+                status == Status::BadInput && is_told
+            };
+            holds_at(&rt, &length, is_right);
+        }
+        drop(line);
     }
 }
 
@@ -306,25 +293,17 @@ fn each_call_may_fail(rt: HostRuntime) {
         let seen = see(&rt, "show", stream, *fails, TEXT, COUNTS);
         equal_at(&rt, &fails, seen, (Status::OutsideFault, false, true));
     }
-    let stream = (stream(&rt, FRAMES), 22);
     let behind: Fails = [&[9], &[4], &[1]];
-    let seen = see(&rt, "show", stream, behind, TEXT, COUNTS);
+    let whole = (stream(&rt, FRAMES), 22);
+    let seen = see(&rt, "show", whole, behind, TEXT, COUNTS);
     equal(&rt, seen, (Status::Done, true, false));
-}
-
-#[test]
-fn sure_objects_with_room_do_not_fail(rt: HostRuntime) {
+    // Sure objects with room do not fail.
     for (room, wanted) in [
         (10, (Status::Done, true)),
         (9, (Status::OutsideFault, false)),
     ] {
-        let bytes = stream(&rt, FRAMES);
-        equal_at(
-            &rt,
-            &room,
-            see_surely(&rt, "show", bytes, room, TEXT),
-            wanted,
-        );
+        let seen = see_surely(&rt, "show", stream(&rt, FRAMES), room, TEXT);
+        equal_at(&rt, &room, seen, wanted);
     }
 }
 
@@ -343,19 +322,6 @@ fn permuted(rt: &(impl Abort + AllocGlobal), frames: &[&'static [u8]], number: u
     }
     drop(left);
     bytes
-}
-
-#[test]
-fn every_order_and_repeat_prints_the_same(rt: HostRuntime) {
-    let line = b"accepted 6, repeated 6, waiting 0, conflict 0, stray 0, full 0\n";
-    for number in 0..720usize {
-        let mut bytes = permuted(&rt, FRAMES, number);
-        let again = permuted(&rt, FRAMES, number / 2);
-        bytes.extend_from_slice(&again).expect(&rt, "memory");
-        drop(again);
-        let seen = see(&rt, "show", (bytes, 4096), NONE, TEXT, line);
-        equal_at(&rt, &number, seen, (Status::Done, true, false));
-    }
 }
 
 /// The frames, how many of their orders are tried, how far these lie apart, and what each prints and notes.
@@ -396,43 +362,43 @@ const CASES: &[Case] = &[
     ),
 ];
 
-fn orders_print(rt: &(impl Abort + AllocGlobal), case: &Case) {
-    let (frames, orders, step, text, line) = *case;
-    for turn in 0..orders {
-        let bytes = permuted(rt, frames, turn.saturating_mul(step));
-        let seen = see(rt, "show", (bytes, 4096), NONE, text, line);
-        equal_at(rt, &(text, turn), seen, (Status::Done, true, false));
-    }
-}
-
+/// Every order of one stream with a repeat in another order, and orders of other streams.
 #[test]
-fn the_orders_of_a_case_print_its_text(rt: HostRuntime) {
-    for case in CASES {
-        orders_print(&rt, case);
+fn every_order_and_repeat_prints_the_same(rt: HostRuntime) {
+    let line = b"accepted 6, repeated 6, waiting 0, conflict 0, stray 0, full 0\n";
+    for number in 0..720usize {
+        let mut bytes = permuted(&rt, FRAMES, number);
+        let again = permuted(&rt, FRAMES, number / 2);
+        bytes.extend_from_slice(&again).expect(&rt, "memory");
+        drop(again);
+        let seen = see(&rt, "show", (bytes, 4096), NONE, TEXT, line);
+        equal_at(&rt, &number, seen, (Status::Done, true, false));
+    }
+    for (frames, orders, step, text, line) in CASES {
+        for turn in 0..*orders {
+            let bytes = permuted(&rt, frames, turn.saturating_mul(*step));
+            let seen = see(&rt, "show", (bytes, 4096), NONE, text, line);
+            equal_at(&rt, &(text, turn), seen, (Status::Done, true, false));
+        }
     }
 }
 
-/// The section with so many letters, each typed behind the one before.
-fn typed(rt: &(impl Abort + AllocGlobal), count: u32) -> Vec<u8> {
-    let mut bytes = stream(rt, &[S, LOWER_A]);
-    for counter in 1..count {
-        let frame: [&[u8]; 5] = [
-            b"\x02\0\0\0\x01",
+/// The section with 10,000 letters, each typed behind the one before: the eighth write would fail.
+#[test]
+fn many_letters_go_out_in_few_writes(rt: HostRuntime) {
+    let mut bytes = stream(&rt, &[S, LOWER_A]);
+    for counter in 1..10_000u32 {
+        for part in [
+            b"\x02\0\0\0\x01".as_slice(),
             &counter.to_be_bytes(),
             b"\0\0\0\x09\0\0\0\0\x01\0\0\0\x01",
             &(counter - 1).to_be_bytes(),
             b"\0\0\0a",
-        ];
-        let frame = stream(rt, &frame);
-        bytes.extend_from_slice(&frame).expect(rt, "memory");
-        drop(frame);
+        ] {
+            bytes.extend_from_slice(part).expect(&rt, "memory");
+        }
     }
-    bytes
-}
-
-#[test]
-fn many_letters_go_out_in_few_writes(rt: HostRuntime) {
-    let mut input = MemSource::new(typed(&rt, 10_000), 4096, Vec::new(rt.alloc()));
+    let mut input = MemSource::new(bytes, 4096, Vec::new(rt.alloc()));
     let mut output = MemSink::new(rt.alloc(), 65_536, list(&rt, &[8]));
     let mut notes = MemSink::new(rt.alloc(), 64, Vec::new(rt.alloc()));
     let status = show_by(&rt, "show", &mut input, &mut output, &mut notes);

@@ -1,6 +1,6 @@
 use super::taken::{Batch, EMPTY, File, sends, with_room_for};
 use super::{is_cut_off, run_line};
-use crate::assertions::{equal, equal_at, holds_at};
+use crate::assertions::{equal_at, holds_at};
 use crate::files::has_bytes;
 use crate::frames::{BEHIND_A, NEW, S, stream};
 use crate::memory::{list, sure_sink};
@@ -164,14 +164,6 @@ const CASES: &[Case] = &[
 ];
 
 /// Whether the case comes to what is wanted of it, on sure objects.
-fn is_met(rt: &(impl Abort + AllocGlobal), case: &Case) -> bool {
-    let (mut home, wanted) = with_room_for(rt, case.home, case.saved);
-    let is_so = speaks_so(rt, case, &mut home) && has_bytes(&mut home, &wanted);
-    drop(home);
-    drop(wanted);
-    is_so
-}
-
 fn speaks_so(rt: &(impl Abort + AllocGlobal), case: &Case, home: &mut SureDisk) -> bool {
     let said = stream(rt, case.said);
     let reply = stream(rt, case.reply);
@@ -191,7 +183,11 @@ fn speaks_so(rt: &(impl Abort + AllocGlobal), case: &Case, home: &mut SureDisk) 
 #[test]
 fn a_file_speaks_with_a_relay(rt: HostRuntime) {
     for case in CASES {
-        holds_at(&rt, &(case.words, case.line), is_met(&rt, case));
+        let (mut home, wanted) = with_room_for(&rt, case.home, case.saved);
+        let is_so = speaks_so(&rt, case, &mut home) && has_bytes(&mut home, &wanted);
+        drop(home);
+        drop(wanted);
+        holds_at(&rt, &(case.words, case.line), is_so);
     }
 }
 
@@ -215,31 +211,29 @@ fn left_without(rt: &(impl Abort + AllocGlobal), fails: [&[u32]; 3]) -> Left {
     (status, is_told, is_kept, is_saved || is_empty)
 }
 
-/// A dial, two writes, and a read for each of the 19 bytes of the reply.
+/// On the wire there are a dial, two writes, and a read for each of the 19 bytes of the reply; the counts and the cursor
+/// are a line each; loading is a sync and two reads, and a batch is two writes and two syncs.
 #[test]
-fn each_call_on_the_wire_may_fail(rt: HostRuntime) {
-    for call in 0..22 {
+fn each_call_of_an_exchange_may_fail(rt: HostRuntime) {
+    for call in 0..23 {
         let left = left_without(&rt, [&[call], &[], &[]]);
-        equal_at(&rt, &call, left, (Status::OutsideFault, true, true, true));
+        let is_failing = call < 22;
+        let status = if is_failing {
+            Status::OutsideFault
+        } else {
+            Status::Done
+        };
+        equal_at(&rt, &call, left, (status, is_failing, is_failing, true));
     }
-    let left = left_without(&rt, [&[22], &[], &[]]);
-    equal(&rt, left, (Status::Done, false, false, true));
-}
-
-/// The counts and the cursor are a line each.
-#[test]
-fn each_call_on_the_notes_of_an_exchange_may_fail(rt: HostRuntime) {
-    for call in 0..2 {
+    for call in 0..3 {
         let left = left_without(&rt, [&[], &[call], &[]]);
-        equal_at(&rt, &call, left, (Status::OutsideFault, true, false, true));
+        let status = if call < 2 {
+            Status::OutsideFault
+        } else {
+            Status::Done
+        };
+        equal_at(&rt, &call, left, (status, call < 2, false, true));
     }
-    let left = left_without(&rt, [&[], &[2], &[]]);
-    equal(&rt, left, (Status::Done, false, false, true));
-}
-
-/// Loading is a sync and two reads, and a batch is two writes and two syncs.
-#[test]
-fn each_call_on_the_file_of_an_exchange_may_fail(rt: HostRuntime) {
     for call in 0..8 {
         let (status, is_told, _, is_whole) = left_without(&rt, [&[], &[], &[call]]);
         let wanted = if call < 7 {

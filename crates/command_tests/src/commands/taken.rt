@@ -210,19 +210,6 @@ const CASES: &[Case] = &[
     },
 ];
 
-/// Whether the case comes to what is wanted of it, on sure objects.
-fn is_met(rt: &(impl Abort + AllocGlobal), case: &Case) -> bool {
-    let (mut home, wanted) = with_room_for(rt, case.home, case.saved);
-    let is_saved = takes_so(rt, case, &mut home) && has_bytes(&mut home, &wanted);
-    drop(home);
-    let mut left = MemDisk::new(rt.alloc(), wanted, Vec::new(rt.alloc()));
-    // A file that cannot be read is not printed.
-    let is_printed = case.status == Status::BadFile
-        || gives(rt, "print F", &mut left, case.printed);
-    drop(left);
-    is_saved && is_printed
-}
-
 /// Runs on an input that is sure, and on an output that has no room.
 fn takes_so(rt: &(impl Abort + AllocGlobal), case: &Case, home: &mut SureDisk) -> bool {
     let other = bytes_of(rt, case.guest, &[]);
@@ -252,7 +239,15 @@ fn takes_so(rt: &(impl Abort + AllocGlobal), case: &Case, home: &mut SureDisk) -
 #[test]
 fn frames_are_taken_into_a_file(rt: HostRuntime) {
     for case in CASES {
-        holds_at(&rt, &(case.words, case.line), is_met(&rt, case));
+        let (mut home, wanted) = with_room_for(&rt, case.home, case.saved);
+        let is_saved = takes_so(&rt, case, &mut home) && has_bytes(&mut home, &wanted);
+        drop(home);
+        let mut left = MemDisk::new(rt.alloc(), wanted, Vec::new(rt.alloc()));
+        // A file that cannot be read is not printed.
+        let is_printed = case.status == Status::BadFile
+            || gives(&rt, "print F", &mut left, case.printed);
+        drop(left);
+        holds_at(&rt, &(case.words, case.line), is_saved && is_printed);
     }
 }
 

@@ -1,13 +1,11 @@
 use super::syncs::{UNCOUNTED, exchanged, replied};
 use crate::assertions::{equal, equal_at};
 use crate::frames::{S, stream};
-use fugue_ids::Op;
 use op_frame::encode_all;
 use origin_model::Tally;
 use outer_ports::MemWire;
 use relay_sync::{SyncFault, Synced};
 use replica_core::Replica;
-use std::process::Abort;
 
 /// The letters A, B and C, (2,0) to (2,2), as a run.
 const RUN: &[u8] = b"\x04\0\0\0\x02\0\0\0\0\0\0\0\x09\0\0\0\0\0\0\0\x03\0\0A\0\0B\0\0C";
@@ -25,25 +23,6 @@ const RUN_PAST_COUNTERS: &[u8] =
 /// The end of the reply of a relay whose log has four operations.
 const FOUR: &[u8] = b"\x55\0\0\0\x04";
 
-/// The operations as they are written.
-fn written(rt: &(impl Abort + AllocGlobal), ops: &[Op]) -> Vec<u8> {
-    let mut bytes = Vec::new(rt.alloc());
-    encode_all(ops, &mut bytes).expect(rt, "memory");
-    bytes
-}
-
-/// What an exchange comes to that is replied these frames, where so many operations may be held.
-fn replied_frames(
-    rt: &(impl Abort + AllocGlobal),
-    most: u32,
-    frames: &[&[u8]],
-) -> (Result<Synced, SyncFault>, usize) {
-    let reply = stream(rt, frames);
-    let end = replied(rt, most, reply.as_slice(), &[]);
-    drop(reply);
-    end
-}
-
 #[test]
 fn the_operations_of_a_run_are_taken_in_and_said(rt: HostRuntime) {
     let mut replica = Replica::new(rt.alloc(), 1, 10, 10).expect(&rt, "memory");
@@ -59,7 +38,8 @@ fn the_operations_of_a_run_are_taken_in_and_said(rt: HostRuntime) {
     equal(&rt, result, Ok(Synced { tally, cursor: 4 }));
     drop(wire);
     let both = stream(&rt, &[S, RUN]);
-    let bytes = written(&rt, kept.as_slice());
+    let mut bytes = Vec::new(rt.alloc());
+    encode_all(kept.as_slice(), &mut bytes).expect(&rt, "memory");
     equal(&rt, bytes.as_slice(), both.as_slice());
     drop(bytes);
     drop(both);
@@ -73,21 +53,6 @@ fn the_operations_of_a_run_are_taken_in_and_said(rt: HostRuntime) {
     drop(wire);
     drop(kept);
     drop(replica);
-}
-
-#[test]
-fn nothing_of_a_run_is_taken_in_before_its_last_byte(rt: HostRuntime) {
-    let reply = stream(&rt, &[S, RUN, FOUR]);
-    for count in 0..reply.len() {
-        let end = replied(&rt, 10, &reply.as_slice()[..count], &[]);
-        let (place, kept) = match count {
-            0..=13 => (0, 0),
-            14..=43 => (14, 1),
-            _ => (44, 4),
-        };
-        equal_at(&rt, &count, end, (Err(SyncFault::CutShort(place)), kept));
-    }
-    drop(reply);
 }
 
 /// Replies, what each comes to where three operations may be held, and how many are kept.
@@ -106,10 +71,24 @@ const UP_TO_THREE: &[(&[&[u8]], SyncFault, usize)] = &[
     (&[S, RUN_PAST_COUNTERS], SyncFault::BadReply(14), 1),
 ];
 
+/// Nothing of a run is taken in before its last byte, and it may have an operation too many.
 #[test]
-fn a_run_may_have_an_operation_too_many(rt: HostRuntime) {
+fn a_run_is_taken_in_at_its_last_byte(rt: HostRuntime) {
+    let reply = stream(&rt, &[S, RUN, FOUR]);
+    for count in 0..reply.len() {
+        let end = replied(&rt, 10, &reply.as_slice()[..count], &[]);
+        let (place, kept) = match count {
+            0..=13 => (0, 0),
+            14..=43 => (14, 1),
+            _ => (44, 4),
+        };
+        equal_at(&rt, &count, end, (Err(SyncFault::CutShort(place)), kept));
+    }
+    drop(reply);
     for (frames, fault, kept) in UP_TO_THREE {
-        let end = replied_frames(&rt, 3, frames);
+        let reply = stream(&rt, frames);
+        let end = replied(&rt, 3, reply.as_slice(), &[]);
+        drop(reply);
         equal_at(&rt, fault, end, (Err(*fault), *kept));
     }
 }

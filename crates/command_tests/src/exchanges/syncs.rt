@@ -1,4 +1,4 @@
-use crate::assertions::{equal, equal_at, holds_at};
+use crate::assertions::{equal_at, holds_at};
 use crate::frames::REPLY;
 use crate::memory::list;
 use fugue_ids::Op;
@@ -91,30 +91,19 @@ pub(super) fn exchanged<W: Wire>(
     sync(rt.alloc(), replica, wire, 47113, cursor, kept)
 }
 
-/// Whether the exchange goes as it is told.
-fn goes(
-    rt: &(impl Abort + AllocGlobal),
-    replica: &mut Replica,
-    kept: &mut Vec<Op>,
-    exchange: &Exchange,
-) -> bool {
-    let reply = list(rt, exchange.reply);
-    let mut wire = MemWire::new(rt.alloc(), reply, 3, Vec::new(rt.alloc()));
-    let result = exchanged(rt, replica, &mut wire, exchange.cursor, kept);
-    let is_so = result == exchange.result
-        && wire.said() == exchange.said
-        && wire.port() == Some(47113)
-        && kept.len() == exchange.kept;
-    drop(wire);
-    is_so
-}
-
 #[test]
 fn a_replica_says_what_it_holds_and_takes_in_the_reply(rt: HostRuntime) {
     let mut replica = Replica::new(rt.alloc(), 1, 10, 10).expect(&rt, "memory");
     let mut kept = Vec::new(rt.alloc());
     for exchange in EXCHANGES {
-        let is_so = goes(&rt, &mut replica, &mut kept, exchange);
+        let reply = list(&rt, exchange.reply);
+        let mut wire = MemWire::new(rt.alloc(), reply, 3, Vec::new(rt.alloc()));
+        let result = exchanged(&rt, &mut replica, &mut wire, exchange.cursor, &mut kept);
+        let is_so = result == exchange.result
+            && wire.said() == exchange.said
+            && wire.port() == Some(47113)
+            && kept.len() == exchange.kept;
+        drop(wire);
         holds_at(&rt, &exchange.cursor, is_so);
     }
     drop(kept);
@@ -186,15 +175,11 @@ pub(super) fn replied(
 }
 
 #[test]
-fn a_reply_fails_exactly_by_its_bytes(rt: HostRuntime) {
+fn a_reply_fails_by_its_bytes_and_where_a_call_does(rt: HostRuntime) {
     for (reply, fault, kept) in FAULTS {
         let end = replied(&rt, 1, reply, &[]);
         equal_at(&rt, reply, end, (Err(*fault), *kept));
     }
-}
-
-#[test]
-fn a_reply_may_be_cut_at_each_byte(rt: HostRuntime) {
     for count in 0..REPLY.len() {
         let end = replied(&rt, 10, &REPLY[..count], &[]);
         // Where the message begins that is cut, and how many frames are before it.
@@ -205,24 +190,11 @@ fn a_reply_may_be_cut_at_each_byte(rt: HostRuntime) {
         };
         equal_at(&rt, &count, end, (Err(SyncFault::CutShort(place)), kept));
     }
-}
-
-#[test]
-fn each_call_on_the_wire_may_fail(rt: HostRuntime) {
-    // It is dialled, written to twice and read from five times.
+    // The wire is dialled, written to twice and read from five times.
     for call in 0..8 {
         let end = replied(&rt, 1, &[0x55, 0, 0, 0, 0], &[call]);
         equal_at(&rt, &call, end, (Err(SyncFault::WireFault), 0));
     }
-}
-
-/// What it comes to over a wire that takes so many bytes.
-fn surely(rt: &(impl Abort + AllocGlobal), room: usize) -> Result<Synced, SyncFault> {
-    let reply = list(rt, &[0x55, 0, 0, 0, 7]);
-    let mut wire = SureWire::new(rt.alloc(), reply, 3, room).expect(rt, "memory");
-    let (result, _) = anew(rt, 1, &mut wire);
-    drop(wire);
-    result
 }
 
 #[test]
@@ -231,6 +203,11 @@ fn a_sure_wire_takes_what_fits(rt: HostRuntime) {
         tally: UNCOUNTED,
         cursor: 7,
     };
-    equal(&rt, surely(&rt, 6), Ok(synced));
-    equal(&rt, surely(&rt, 5), Err(SyncFault::WireFault));
+    for (room, wanted) in [(6, Ok(synced)), (5, Err(SyncFault::WireFault))] {
+        let reply = list(&rt, &[0x55, 0, 0, 0, 7]);
+        let mut wire = SureWire::new(rt.alloc(), reply, 3, room).expect(&rt, "memory");
+        let (result, _) = anew(&rt, 1, &mut wire);
+        drop(wire);
+        equal_at(&rt, &room, result, wanted);
+    }
 }

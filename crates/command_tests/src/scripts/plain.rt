@@ -22,11 +22,6 @@ fn behind_two(text: &str) -> Option<&str> {
     }
 }
 
-/// A title has no CR; that it has no LF and is short enough is so of all lines here.
-fn is_title(text: &str) -> bool {
-    !text.is_empty() && !text.contains('\r')
-}
-
 /// Each backslash is followed by `n` or by another one.
 fn is_text(text: &str) -> bool {
     let mut escaped = false;
@@ -39,20 +34,19 @@ fn is_text(text: &str) -> bool {
     !text.is_empty() && !escaped
 }
 
-fn is_add(rest: &str) -> bool {
-    match rest.split_once(' ') {
-        Some((number, title)) => is_number(number, 1) && is_title(title),
-        None => false,
-    }
-}
-
 /// Whether a line is a note, or has the form of an edit.
 pub(super) fn has_form(line: &str) -> bool {
     if line.is_empty() || line.starts_with('#') {
         return true;
     }
     match line.split_once(' ') {
-        Some(("add", rest)) => is_add(rest),
+        // A title has no CR; that it has no LF and is short enough is so of all lines here.
+        Some(("add", rest)) => match rest.split_once(' ') {
+            Some((number, title)) => {
+                is_number(number, 1) && !title.is_empty() && !title.contains('\r')
+            }
+            None => false,
+        },
         Some(("put", rest)) => behind_two(rest).is_some_and(is_text),
         Some(("cut", rest)) => behind_two(rest).is_some_and(|count| is_number(count, 0)),
         Some(("drop", number)) => is_number(number, 1),
