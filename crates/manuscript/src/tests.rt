@@ -50,41 +50,6 @@ fn says<R: Read>(stream: &mut Option<R>, line: &[u8]) -> bool {
     true
 }
 
-/// The words of the line, with this port.
-fn words_of(rt: &HostRuntime, line: &str, port: &str) -> Result<Vec<String>, AllocError> {
-    let mut words = Vec::new(rt.alloc());
-    for word in line.split_whitespace() {
-        let word = if word == "PORT" { port } else { word };
-        words.push(String::from_str(rt.alloc(), word)?)?;
-    }
-    Ok(words)
-}
-
-/// Runs on a file and on the wire to a relay.
-fn run_on(
-    rt: &HostRuntime,
-    words: &[String],
-    input: Vec<u8>,
-    output: &mut MemSink,
-    notes: &mut MemSink,
-    home: &mut MemDisk,
-) -> Status {
-    let alloc = rt.alloc();
-    let mut input = MemSource::new(input, 4096, Vec::new(alloc));
-    let mut guest = FileDisk::closed();
-    let mut wire = TcpWire::new(*rt, io::sink());
-    let mut dock = MemDock::new(alloc, Vec::new(alloc), 1, Vec::new(alloc));
-    let hasher: BuildHasherDefault<FoldHasher> = BuildHasherDefault::default();
-    let status = run(
-        alloc, words, &mut input, output, notes, home, &mut guest, &mut wire, &mut dock, hasher,
-    );
-    drop(dock);
-    drop(wire);
-    drop(guest);
-    drop(input);
-    status
-}
-
 /// Who runs a command: each author has a file.
 enum Author {
     Ann,
@@ -146,24 +111,49 @@ const PRINTING: &[Step] = &[
     (Author::Ben, "print F", "", "# T\nAC\n# U\n\n", ""),
 ];
 
-/// Whether the command ends well, with this output and these notes.
+/// Whether the command ends well on the file and on the wire to a relay, with this output and these notes.
 fn ends_so(
     rt: &HostRuntime,
     port: &str,
     step: &Step,
     home: &mut MemDisk,
 ) -> Result<bool, AllocError> {
+    let alloc = rt.alloc();
     let (_, line, script, text, noted) = step;
-    let script = Vec::from_slice(rt.alloc(), script.as_bytes())?;
-    let words = words_of(rt, line, port)?;
-    let mut output = MemSink::new(rt.alloc(), 4096, Vec::new(rt.alloc()));
-    let mut notes = MemSink::new(rt.alloc(), 4096, Vec::new(rt.alloc()));
-    let status = run_on(rt, &words, script, &mut output, &mut notes, home);
+    let mut words = Vec::new(alloc);
+    for word in line.split_whitespace() {
+        let word = if word == "PORT" { port } else { word };
+        words.push(String::from_str(alloc, word)?)?;
+    }
+    let script = Vec::from_slice(alloc, script.as_bytes())?;
+    let mut input = MemSource::new(script, 4096, Vec::new(alloc));
+    let mut output = MemSink::new(alloc, 4096, Vec::new(alloc));
+    let mut notes = MemSink::new(alloc, 4096, Vec::new(alloc));
+    let mut guest = FileDisk::closed();
+    let mut wire = TcpWire::new(*rt, io::sink());
+    let mut dock = MemDock::new(alloc, Vec::new(alloc), 1, Vec::new(alloc));
+    let hasher: BuildHasherDefault<FoldHasher> = BuildHasherDefault::default();
+    let status = run(
+        alloc,
+        &words,
+        &mut input,
+        &mut output,
+        &mut notes,
+        home,
+        &mut guest,
+        &mut wire,
+        &mut dock,
+        hasher,
+    );
     let is_so = status == Status::Done
         && output.written() == text.as_bytes()
         && notes.written() == noted.as_bytes();
+    drop(dock);
+    drop(wire);
+    drop(guest);
     drop(notes);
     drop(output);
+    drop(input);
     drop(words);
     Ok(is_so)
 }
@@ -188,49 +178,30 @@ fn all_end_so(
     Ok(true)
 }
 
-/// Whether the authors exchange their files at the relay, which then ends well.
-fn meet_at(
-    rt: &HostRuntime,
-    port: &str,
-    relay: &mut Process,
-    ann: &mut MemDisk,
-    ben: &mut MemDisk,
-) -> Result<bool, Fail> {
-    if all_end_so(rt, port, MEETING, ann, ben)? {
-        Ok(says(&mut relay.stderr, b"log 6\n") && relay.wait()?.success())
-    } else {
-        relay.kill()?;
-        Ok(false)
-    }
-}
-
-/// The same at the first of some ports that is free.
+/// Whether the authors exchange their files at the relay, which then ends well: at the first of some ports that is free.
 fn meet(rt: &HostRuntime, ann: &mut MemDisk, ben: &mut MemDisk) -> Result<bool, Fail> {
     for port in ["47113", "47114", "47115"] {
         let mut relay = start(rt, port)?;
         if says(&mut relay.stdout, b"ready\n") {
-            return meet_at(rt, port, &mut relay, ann, ben);
+            if all_end_so(rt, port, MEETING, ann, ben)? {
+                return Ok(says(&mut relay.stderr, b"log 6\n") && relay.wait()?.success());
+            }
+            relay.kill()?;
+            return Ok(false);
         }
     }
     Ok(false)
-}
-
-/// Whether two authors who write apart and meet at a relay print the same.
-fn print_the_same(rt: &HostRuntime, ann: &mut MemDisk, ben: &mut MemDisk) -> Result<bool, Fail> {
-    Ok(
-        all_end_so(rt, "", WRITING, ann, ben)?
-            && meet(rt, ann, ben)?
-            && all_end_so(rt, "", PRINTING, ann, ben)?,
-    )
 }
 
 #[test]
 fn authors_meet_at_a_relay_that_is_another_process(rt: HostRuntime) -> Result<(), Fail> {
     let mut ann = MemDisk::new(rt.alloc(), Vec::new(rt.alloc()), Vec::new(rt.alloc()));
     let mut ben = MemDisk::new(rt.alloc(), Vec::new(rt.alloc()), Vec::new(rt.alloc()));
-    let is_so = print_the_same(&rt, &mut ann, &mut ben);
+    let are_written = all_end_so(&rt, "", WRITING, &mut ann, &mut ben);
+    let is_met = meet(&rt, &mut ann, &mut ben);
+    let are_printed = all_end_so(&rt, "", PRINTING, &mut ann, &mut ben);
     drop(ben);
     drop(ann);
-    assert!(rt; is_so?);
+    assert!(rt; are_written? && is_met? && are_printed?);
     Ok(())
 }
