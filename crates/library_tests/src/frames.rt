@@ -80,13 +80,13 @@ fn typed_row(
     first: u32,
     count: u32,
     before: Option<ElementId>,
-    right: Option<ElementId>,
+    right: &Option<ElementId>,
 ) -> Result<Vec<Op>, NoMemory> {
     let mut ops = Vec::new(rt.alloc());
     let mut left = before;
     for k in 0..count {
         let own = id(1, first.wrapping_add(k));
-        ops.push(text(own, left, right, 'A'))?;
+        ops.push(text(own, left, *right, 'A'))?;
         left = Some(own);
     }
     Ok(ops)
@@ -318,7 +318,7 @@ fn a_stream_reads_the_same_in_pieces_of_every_size(rt: HostRuntime) -> Result<()
 /// Two frames of 1,024 letters, each of 3,109 bytes.
 #[test]
 fn the_longest_frames_go_through_the_buffer(rt: HostRuntime) -> Result<(), Fail> {
-    let ops = typed_row(&rt, 0, 2_048, Some(id(2, 0)), Some(id(3, 0)))?;
+    let ops = typed_row(&rt, 0, 2_048, Some(id(2, 0)), &Some(id(3, 0)))?;
     let mut bytes = Vec::new(rt.alloc());
     encode_all(&ops, &mut bytes)?;
     equal(&rt, bytes.len(), 6_218);
@@ -408,7 +408,7 @@ fn each_short_list_is_written_as_a_plain_encoder_does_and_read_back(
         (1_026, 3_128),
         (2_049, 6_224),
     ] {
-        let ops = typed_row(&rt, 0, count, None, None)?;
+        let ops = typed_row(&rt, 0, count, None, &None)?;
         let frames = plain_frames(&rt, &ops)?;
         equal_at(&rt, &count, frames.len(), len);
         holds_at(&rt, &count, is_framed(&rt, &ops, &frames)?);

@@ -2,7 +2,7 @@
 
 use super::plain::{id_at, is_listed, position};
 use crate::assertions::{equal, holds_at};
-use fugue_ids::OrderOf;
+use fugue_ids::{ElementId, Key, OrderOf};
 use outer_ports::MemSink;
 use run_store::{Cell, RunStore};
 use std::alloc::Global;
@@ -21,7 +21,8 @@ fn compare_cells(rt: &impl Abort, store: &RunStore, cells: &[Cell]) {
         equal(rt, store.is_hidden(cell.id), cell.hidden);
         equal(rt, store.origins(cell.id), Some((cell.left, cell.right)));
         equal(rt, store.key(cell.id), cell.key);
-        equal(rt, (store.after(id), store.behind(id)), (next, next));
+        equal(rt, store.after(id), next);
+        equal(rt, store.behind(id), next);
         equal(rt, store.before(id), last);
         let before = position(cells, store.middle(None, id));
         holds_at(rt, &i, before.map_or(i == 0, |place| place < i));
@@ -34,6 +35,15 @@ fn compare_cells(rt: &impl Abort, store: &RunStore, cells: &[Cell]) {
     equal(rt, (store.after(None), store.behind(None)), (first, first));
     equal(rt, store.before(None), last);
     equal(rt, store.middle(None, None).is_some(), !cells.is_empty());
+}
+
+fn first_among(cells: &[Cell], most: Key) -> Option<ElementId> {
+    for cell in cells {
+        if cell.key <= most {
+            return Some(cell.id);
+        }
+    }
+    None
 }
 
 /// Each cell beside another: which of the two stands first, and the searches for the other's key from it on and from it
@@ -52,12 +62,8 @@ fn compare_beside(rt: &impl Abort, store: &RunStore, cells: &[Cell], j: usize, o
         holds_at(rt, &j, is_listed(store, &Some(other.id)));
         equal(rt, store.earlier(cell.id, other.id), i < j);
         equal(rt, store.last_low(id, most), last);
-        let behind = cells.iter().skip(i).skip(1);
-        let next = behind
-            .filter(|cell| cell.key <= most)
-            .next()
-            .map(|cell| cell.id);
-        equal(rt, store.first_low(id, most), next);
+        let behind = cells.get(i.saturating_add(1)..).unwrap_or(&[]);
+        equal(rt, store.first_low(id, most), first_among(behind, most));
         if cell.key <= most {
             last = id;
         }
