@@ -1,3 +1,4 @@
 -- What the proofs of several functions of src/dock/ use.
+pub mod RefusedLemmas
 pub mod StepsLemmas
 pub mod TranscriptsLemmas

@@ -1,5 +1,5 @@
 ghost use Rattle.std.specs.Prelude.{◌⊎◌, ◌≡◌, ◌≤◌, ◌<◌, ◌+◌, ◌-◌, ◌^◌, [], length, min, IfOk, OnOk, OnErr, vec_len};
-ghost use Rattle.std.specs.Prelude.{vec_capacity};
+ghost use Rattle.std.specs.Prelude.{vec_capacity, true, false, if◌then◌else◌};
 ghost use Rattle.outer_ports.specs.disk.States.{at_rest, wrote, tried, durable, IsHonest, IsCrashImage, overwritten};
 ghost use Rattle.outer_ports.specs.disk.Moments.{stepped};
 ghost use Rattle.outer_ports.specs.disk.Disks.{GivesAt};
@@ -7,7 +7,7 @@ ghost use Rattle.outer_ports.specs.disk.Kept.{KeptView};
 ghost use Rattle.outer_ports.specs.disk.Picks.{padded, picked, range_filled, filled};
 
 use crate::Pick;
-use crate::reserved::{add, append};
+use crate::reserved::{add, append, reserve_both};
 use std::alloc::{AllocError, Global};
 use std::marker::Model;
 
@@ -132,18 +132,17 @@ impl Kept {
         ensures err { OnErr result (self.new ≡ self.old) }
         ensures wanting { OnErr result ((self.old.room < room) ⊎ (self.old.calls < calls) ⊎ (self.old.calls ≡ 0)) }
     {
-        if self.fresh {
-            let first = self.bytes.to_vec(alloc)?;
-            self.base = self.bytes.to_vec(alloc)?;
-            self.first = first;
-            self.fresh = false;
-        }
-        self.bytes.reserve(room)?;
-        self.written.reserve(room)?;
-        self.steps.reserve(calls)?;
-        self.ranges.reserve(calls)?;
+        reserve_both(&mut self.bytes, &mut self.written, room)?;
+        reserve_both(&mut self.steps, &mut self.ranges, calls)?;
         let whole = self.bytes.len() + room;
-        self.base.reserve(whole.saturating_sub(self.base.len()))?;
+        settle(
+            alloc,
+            &self.bytes,
+            whole,
+            &mut self.fresh,
+            &mut self.first,
+            &mut self.base,
+        )?;
         self.room = room;
         self.calls = calls;
         Ok(())
@@ -185,6 +184,23 @@ impl Kept {
         add(&mut self.ranges, (at, count));
         self.longest = self.longest.max(at + count);
         self.calls -= 1;
+    }
+
+    /// A write of so many bytes fails. Where no memory is there for a step, and none is to be had, nothing is torn.
+    pub(crate) fn tear_if_able(&mut self, alloc: Global, at: u64, count: u64)
+        requires inside { at ≤ length self.old.past.last.seen }
+        requires small { count < 2 ^ 63 }
+        ensures torn { 0 < self.old.calls → self.new ≡ record {
+          past = stepped (tried at count) self.old.past;
+          room = self.old.room;
+          calls = self.old.calls - 1;
+        } }
+        ensures may { (self.new.past ≡ self.old.past) ⊎ (self.new.past ≡ stepped (tried at count) self.old.past) }
+    {
+        if self.calls == 0 && self.prepare(alloc, 0, 1).is_err() {
+            return;
+        }
+        self.tear(at, count);
     }
 
     /// What stands is settled.
@@ -230,6 +246,35 @@ impl Kept {
             }
         }
     }
+}
+
+/// Copies what stands, where that was not done before, and makes room for so many bytes where what is settled stands.
+fn settle(
+    alloc: Global,
+    bytes: &[u8],
+    whole: usize,
+    fresh: &mut bool,
+    first: &mut Vec<u8>,
+    base: &mut Vec<u8>,
+) -> Result<(), AllocError>
+    ensures first { (if fresh.new then bytes.now else first.new.items)
+        ≡ (if fresh.old then bytes.now else first.old.items) }
+    ensures base { (if fresh.new then bytes.now else base.new.items)
+        ≡ (if fresh.old then bytes.now else base.old.items) }
+    ensures ok { OnOk result ((fresh.new ≡ false) × (whole ≤ vec_capacity base.new)) }
+    ensures err { OnErr result (fresh.new ≡ fresh.old) }
+    ensures capacity { fresh.old ≡ false → vec_capacity base.old ≤ vec_capacity base.new }
+    ensures wanting { OnErr result ((fresh.old ≡ true) ⊎ (vec_capacity base.old < whole)) }
+{
+    if !*fresh {
+        base.reserve(whole.saturating_sub(base.len()))?;
+        return Ok(());
+    }
+    *first = bytes.to_vec(alloc)?;
+    *base = bytes.to_vec(alloc)?;
+    base.reserve(whole.saturating_sub(base.len()))?;
+    *fresh = false;
+    Ok(())
 }
 
 /// A copy of these bytes, with further ones up to this length.

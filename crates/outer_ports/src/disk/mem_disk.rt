@@ -101,10 +101,7 @@ impl Disk for MemDisk {
         ensures form { MemDiskWrites self.old self.new result at bytes.now }
     {
         if let Err(failed) = self.calls.begin() {
-            if self.kept.calls() == 0 && self.kept.prepare(self.alloc, 0, 1).is_err() {
-                return Err(failed);
-            }
-            self.kept.tear(at, bytes.len() as u64);
+            self.kept.tear_if_able(self.alloc, at, bytes.len() as u64);
             return Err(failed);
         }
         if self

@@ -1,5 +1,5 @@
 ghost use Rattle.std.specs.Prelude.{◌≡◌, ◌≤◌, ◌<◌, ◌+◌, ◌-◌, ◌^◌, ◌∷◌, ◌++◌, ◌↔◌, [], length, false, IsTrue, IfSome};
-ghost use Rattle.std.specs.Prelude.{OnOk, OnErr, All};
+ghost use Rattle.std.specs.Prelude.{◌⊎◌, OnOk, OnErr, All, None};
 ghost use Rattle.outer_ports.specs.dock.Steps.{Fits, HasBytes, Gives, with_bytes, part_of, calls_for, calls_for_all};
 ghost use Rattle.outer_ports.specs.dock.Arrivals.{from};
 
@@ -102,6 +102,24 @@ impl Arrivals {
         add(&mut self.parts, part);
         self.ready -= 1;
         step
+    }
+
+    /// The same with no room prepared. Nothing is taken where no step is left, or where memory is wanting.
+    pub(super) fn take_if_able(&mut self, most: usize, buf: &mut [u8]) -> Option<DockStep>
+        requires most { (0 < most) × (most ≤ length buf.old) }
+        ensures fits { IfSome result (λ step. Fits step (length buf.new)) }
+        ensures gives { IfSome result
+            (λ step. Gives most self.old.coming self.new.coming (with_bytes step buf.new)) }
+        ensures taken { IfSome result (λ step. self.new.taken ≡ self.old.taken ++ with_bytes step buf.new ∷ []) }
+        ensures over { self.old.coming ≡ [] → result ≡ None }
+        ensures kept { result ≡ None
+            → (self.new.taken ≡ self.old.taken) × (self.new.coming ≡ self.old.coming) }
+        ensures wanting { result ≡ None → (self.old.coming ≡ []) ⊎ (self.old.spare ≡ 0) }
+    {
+        if self.is_over() || self.prepare(1).is_err() {
+            return None;
+        }
+        Some(self.take(most, buf))
     }
 }
 

@@ -7,7 +7,7 @@ ghost use Rattle.outer_ports.specs.dock.Forms.{MemListens, MemTakes, MemSends, M
 use super::arrivals::Arrivals;
 use super::transcripts::Transcripts;
 use crate::calls::Calls;
-use crate::reserved::add;
+use crate::reserved::{add, reserve_both};
 use crate::{Dock, DockStep};
 use fugue_ids::{ByteList, Failed};
 use std::alloc::Global;
@@ -140,10 +140,10 @@ impl Dock for MemDock {
         ensures form { MemTakes self.old self.new result buf.new }
     {
         self.calls.begin()?;
-        if self.arrivals.is_over() || self.arrivals.prepare(1).is_err() {
-            return Err(self.calls.fail());
+        match self.arrivals.take_if_able(self.piece.min(buf.len()), buf) {
+            Some(step) => Ok(step),
+            None => Err(self.calls.fail()),
         }
-        Ok(self.arrivals.take(self.piece.min(buf.len()), buf))
     }
 
     fn send(&mut self, session: u32, piece: &[u8]) -> Result<usize, Failed>
@@ -165,7 +165,7 @@ impl Dock for MemDock {
         ensures form { MemEnds self.old self.new result session }
     {
         self.calls.begin()?;
-        if self.ended.reserve(1).is_err() || self.ended_at.reserve(1).is_err() {
+        if reserve_both(&mut self.ended, &mut self.ended_at, 1).is_err() {
             return Err(self.calls.fail());
         }
         add(&mut self.ended, session);

@@ -16,7 +16,7 @@ use crate::watch::Watch;
 use crate::{Dock, DockStep, again};
 use fugue_ids::Failed;
 use std::io::{self, ErrorKind, Read, Write};
-use std::net::{Net, OpenListener, OpenStream, Shutdown, TcpListener};
+use std::net::{Ipv4Addr, Net, OpenListener, OpenStream, Shutdown, TcpListener};
 use std::time::{Clock, Duration};
 
 /// For how many milliseconds a failure of accept that passes is waited out at once.
@@ -111,6 +111,19 @@ impl<R: Net + Clock + AllocGlobal + Drop, E: Write + Drop> TcpDock<R, E> {
     }
 }
 
+/// Listens at the port. Why it could not goes to `errors`, in a line.
+fn bind<R: Net + AllocGlobal, E: Write>(
+    net: &R,
+    errors: &mut E,
+    port: u16,
+) -> io::Result<R::Listener> {
+    let given = TcpListener::bind(net, (Ipv4Addr::LOCALHOST, port));
+    if let Err(error) = &given {
+        tell_port(net.alloc(), errors, port, error);
+    }
+    given
+}
+
 /// The next connection. What fails for one connection alone, or for a while, is waited out.
 fn accept<L: OpenListener>(listener: &L, clock: &impl Clock) -> io::Result<L::Stream> {
     'calls: for _ in 1..MOST_CALLS {
@@ -192,10 +205,7 @@ impl<R: Net + Clock + AllocGlobal + Drop, E: Write + Drop> Dock for TcpDock<R, E
         ensures others { self.new
             ≡ record self.old { listener = self.new.listener; errors = self.new.errors; faults = self.new.faults } }
     {
-        let given = TcpListener::bind(&self.net, ("127.0.0.1", port));
-        if let Err(error) = &given {
-            tell_port(self.net.alloc(), &mut self.errors, port, error);
-        }
+        let given = bind(&self.net, &mut self.errors, port);
         self.listener = Some(self.faults.pass(given)?);
         Ok(())
     }

@@ -132,11 +132,16 @@ impl<R: Net + AllocGlobal + Drop, E: Write + Drop> Wire for TcpWire<R, E> {
 fn connect<R: Net>(net: &R, port: u16) -> io::Result<R::Stream> {
     let peer = SocketAddr::V4(SocketAddrV4::new(Ipv4Addr::LOCALHOST, port));
     let stream = TcpStream::connect_timeout(net, &peer, patience())?;
-    if stream.local_addr()? == peer {
+    set_up(&stream, &peer)?;
+    Ok(stream)
+}
+
+/// Its calls wait for a minute at most, where it is none to itself.
+fn set_up<S: OpenStream>(stream: &S, peer: &SocketAddr) -> io::Result<()> {
+    if stream.local_addr()? == *peer {
         return Err(io::Error::from(ErrorKind::ConnectionRefused));
     }
-    limit(&stream, patience())?;
-    Ok(stream)
+    limit(stream, patience())
 }
 
 /// What a read of the stream gives, where there is one.

@@ -1,0 +1,40 @@
+-- What a call on a dock does that fails and changes nothing but the count.
+use Rattle.std.proofs.Common.{◌≡◌, ◌≤◌, ℕ, List, refl}
+use Rattle.std.specs.Prelude.{None, Result, Ok, Err, IsErr}
+use Rattle.outer_ports.specs.Calls.{risen}
+use Rattle.outer_ports.specs.dock.Docks.{DockView, Takes, Ends}
+use Rattle.outer_ports.specs.declared.dock.DockStep.{DockStep}
+
+module _ {E : Type 0} (dock : DockView) (faults : ℕ) (apart : dock.ends ≡ None) (later : dock.faults ≤ faults) (rose : risen dock.faults ≤ faults) where
+  pub refused_takes : (result : Result DockStep E) (buf : List ℕ) → IsErr result → Takes {E = E} dock (record dock { faults = faults }) result buf
+  refused_takes (Ok step) buf is = absurd (cc is)
+  refused_takes (Err e) buf is = record {
+    fits = tt;
+    taken = tt;
+    came = tt;
+    kept = record { taken = refl; coming = refl };
+    nothing_sent = record { sent = λ s. refl; room = λ s. refl };
+    port = refl;
+    ended = refl;
+    ended_at = refl;
+    ends = refl;
+    count = record { cause = record { later = later; failed = rose }; excused = rw apart tt; calm = rw apart tt };
+    calm_told = λ tells. tt;
+  }
+
+  pub refused_ends : {T : Type 0} (result : Result T E) (session : ℕ) → IsErr result → Ends {E = E} {T = T} dock (record dock { faults = faults }) result session
+  refused_ends (Ok x) session is = absurd (cc is)
+  refused_ends (Err e) session is = record {
+    ended = tt;
+    kept = refl;
+    ended_at = tt;
+    kept_at = refl;
+    ends = tt;
+    same_ends = refl;
+    nothing_sent = record { sent = λ s. refl; room = λ s. refl };
+    nothing_taken = record { taken = refl; coming = refl };
+    port = refl;
+    count = record { cause = record { later = later; failed = rose }; excused = rw apart tt; calm = rw apart tt };
+    calm_told = λ tells. tt;
+    within = rw apart tt;
+  }
