@@ -135,7 +135,7 @@ impl Kept {
         reserve_both(&mut self.bytes, &mut self.written, room)?;
         reserve_both(&mut self.steps, &mut self.ranges, calls)?;
         let whole = self.bytes.len() + room;
-        settle(
+        keep_base(
             alloc,
             &self.bytes,
             whole,
@@ -249,7 +249,7 @@ impl Kept {
 }
 
 /// Copies what stands, where that was not done before, and makes room for so many bytes where what is settled stands.
-fn settle(
+fn keep_base(
     alloc: Global,
     bytes: &[u8],
     whole: usize,
