@@ -179,6 +179,17 @@ fn see_of(
     (status, is_front, is_told)
 }
 
+/// Runs on the saved file where this call on the output fails, and these on the notes.
+fn see_cut_off(
+    rt: &(impl Abort + AllocGlobal),
+    words: &str,
+    call: u32,
+    notes: &[u32],
+    text: &[u8],
+) -> (Status, bool, bool) {
+    see_of(rt, words, SAVED, [&[], &[call], notes], text)
+}
+
 /// How many calls on the file there are: each of them may fail, with nothing printed, and the next one is not there.
 fn failing_calls(rt: &(impl Abort + AllocGlobal), words: &str, file: &[u8]) -> Option<u32> {
     for call in 0..64 {
@@ -211,12 +222,12 @@ fn each_call_may_fail_while_a_file_is_printed(rt: HostRuntime) {
     let fault = Status::OutsideFault;
     for (words, text, calls) in WRITING {
         for call in 0..*calls {
-            let told = see_of(&rt, words, SAVED, [&[], &[call], &[]], text);
+            let told = see_cut_off(&rt, words, call, &[], text);
             equal_at(&rt, &(words, call), told, (fault, true, true));
-            let untold = see_of(&rt, words, SAVED, [&[], &[call], &[0]], text);
+            let untold = see_cut_off(&rt, words, call, &[0], text);
             equal_at(&rt, &(words, call), untold, (fault, true, false));
         }
-        let whole = see_of(&rt, words, SAVED, [&[], &[*calls], &[]], text);
+        let whole = see_cut_off(&rt, words, *calls, &[], text);
         equal_at(&rt, &words, whole, (Status::Done, true, false));
     }
 }
