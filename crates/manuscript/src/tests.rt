@@ -202,6 +202,7 @@ fn authors_meet_at_a_relay_that_is_another_process(rt: HostRuntime) -> Result<()
     let are_printed = all_end_so(&rt, "", PRINTING, &mut ann, &mut ben);
     drop(ben);
     drop(ann);
-    assert!(rt; are_written? && is_met? && are_printed?);
+    let is_met = is_met?;
+    assert!(rt; are_written? && is_met && are_printed?);
     Ok(())
 }
