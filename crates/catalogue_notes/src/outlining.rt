@@ -80,5 +80,7 @@ pub fn outline(alloc: Global, replica: &Replica) -> Result<Outline, NoMemory>
     let ops = replica.accepted();
     let catalogue = replica.places().catalogue();
     let layout = Layout::of(alloc, ops, catalogue)?;
-    Ok(Outline::new(entries_of(alloc, ops, catalogue, &layout)?))
+    let entries = entries_of(alloc, ops, catalogue, &layout);
+    drop(layout);
+    Ok(Outline::new(entries?))
 }
