@@ -1,6 +1,8 @@
 //! Frames by value, byte by byte and as streams, and lists of operations beside a plain encoder.
 
 ghost use Rattle.std.specs.Prelude.{◌<◌};
+ghost use Rattle.origin_model.specs.declared.grammar.Grammar.TheVariants.{Version2 as WithRuns};
+ghost use Rattle.op_frame.specs.FrameFronts.{IsFrameOf};
 
 mod plain;
 
@@ -109,6 +111,19 @@ fn read_all<S: Source>(
     (ops.len(), reader.next(source).map(|given| given.is_some()))
 }
 
+/// Whether the operations of a frame come one by one too.
+fn come_one_by_one(rt: &impl AllocGlobal, frame: &[u8], ops: &[Op]) -> Result<bool, NoMemory>
+    requires { IsFrameOf WithRuns frame.now }
+{
+    let mut rest = FrameOps::new(rt.alloc(), frame)?;
+    for op in ops {
+        if rest.next().as_ref() != Some(op) {
+            return Ok(false);
+        }
+    }
+    Ok(rest.next().is_none())
+}
+
 /// Where each operation's frame begins, where the operations are read from the frames byte by byte and whole. These are
 /// the operations, and there is no byte behind them.
 fn starts_of(rt: &(impl Abort + AllocGlobal), bytes: &[u8], ops: &[Op]) -> Result<Vec<u64>, Fail> {
@@ -117,21 +132,18 @@ fn starts_of(rt: &(impl Abort + AllocGlobal), bytes: &[u8], ops: &[Op]) -> Resul
     let mut start = 0usize;
     for (at, byte) in bytes.iter().enumerate() {
         if let Grown::Frame = front.push(*byte) {
-            let whole = first_frame(rt.alloc(), bytes.get(start..).unwrap_or(&[]))?;
-            let mut rest = FrameOps::new(rt.alloc(), front.as_slice())?;
-            if let First::Whole(found, len) = whole {
+            if let First::Whole(found, len) = first_frame(
+                rt.alloc(),
+                bytes.get(start..).unwrap_or(&[]),
+            )? {
+                holds_at(rt, &at, come_one_by_one(rt, front.as_slice(), &found)?);
                 for op in &found {
-                    let is_same = rest.next().as_ref() == Some(op);
-                    holds_at(rt, op, is_same && ops.get(starts.len()) == Some(op));
+                    holds_at(rt, op, ops.get(starts.len()) == Some(op));
                     starts.push(start as u64)?;
                 }
                 start = start.saturating_add(len);
             }
-            holds_at(
-                rt,
-                &at,
-                start == at.saturating_add(1) && rest.next().is_none(),
-            );
+            equal_at(rt, &"start", start, at.saturating_add(1));
             front.clear();
         }
     }

@@ -15,24 +15,26 @@ fn compare_cells(rt: &impl Abort, store: &RunStore, cells: &[Cell]) {
     let mut last = None;
     for (i, cell) in cells.iter().enumerate() {
         let id = Some(cell.id);
-        let next = id_at(cells, i.saturating_add(1));
+        let behind = i.saturating_add(1);
         holds_at(rt, &i, store.holds(cell.id));
         holds_at(rt, &i, is_listed(store, &id));
         equal(rt, store.is_hidden(cell.id), cell.hidden);
         equal(rt, store.origins(cell.id), Some((cell.left, cell.right)));
         equal(rt, store.key(cell.id), cell.key);
-        equal(rt, store.after(id), next);
-        equal(rt, store.behind(id), next);
+        equal(rt, store.after(id), id_at(cells, behind));
+        equal(rt, store.behind(id), id_at(cells, behind));
         equal(rt, store.before(id), last);
-        let before = position(cells, store.middle(None, id));
-        holds_at(rt, &i, before.map_or(i == 0, |place| place < i));
-        let behind = position(cells, store.middle(id, None));
-        holds_at(rt, &i, behind.map_or(next.is_none(), |place| place > i));
+        let place = position(cells, store.middle(None, id));
+        equal(rt, place.is_some(), i > 0);
+        equal(rt, place.is_none_or(|place| place < i), true);
+        let place = position(cells, store.middle(id, None));
+        equal(rt, place.is_some(), behind < cells.len());
+        equal(rt, place.is_none_or(|place| place > i), true);
         last = id;
     }
     equal(rt, store.len(), cells.len());
-    let first = id_at(cells, 0);
-    equal(rt, (store.after(None), store.behind(None)), (first, first));
+    equal(rt, store.after(None), id_at(cells, 0));
+    equal(rt, store.behind(None), id_at(cells, 0));
     equal(rt, store.before(None), last);
     equal(rt, store.middle(None, None).is_some(), !cells.is_empty());
 }
@@ -46,29 +48,32 @@ fn first_among(cells: &[Cell], most: Key) -> Option<ElementId> {
     None
 }
 
+fn last_among(cells: &[Cell], most: Key) -> Option<ElementId> {
+    let mut last = None;
+    for cell in cells {
+        if cell.key <= most {
+            last = Some(cell.id);
+        }
+    }
+    last
+}
+
 /// Each cell beside another: which of the two stands first, and the searches for the other's key from it on and from it
 /// back.
 fn compare_beside(rt: &impl Abort, store: &RunStore, cells: &[Cell], j: usize, other: &Cell) {
     let most = other.key;
-    let first = cells
-        .iter()
-        .find(|cell| cell.key <= most)
-        .map(|cell| cell.id);
-    equal(rt, store.first_low(None, most), first);
-    let mut last = None;
+    equal(rt, store.first_low(None, most), first_among(cells, most));
+    equal(rt, store.last_low(None, most), last_among(cells, most));
     for (i, cell) in cells.iter().enumerate() {
         let id = Some(cell.id);
+        let (front, rest) = cells.split_at(i);
+        let behind = rest.get(1..).unwrap_or(&[]);
         holds_at(rt, &i, is_listed(store, &id));
         holds_at(rt, &j, is_listed(store, &Some(other.id)));
         equal(rt, store.earlier(cell.id, other.id), i < j);
-        equal(rt, store.last_low(id, most), last);
-        let behind = cells.get(i.saturating_add(1)..).unwrap_or(&[]);
         equal(rt, store.first_low(id, most), first_among(behind, most));
-        if cell.key <= most {
-            last = id;
-        }
+        equal(rt, store.last_low(id, most), last_among(front, most));
     }
-    equal(rt, store.last_low(None, most), last);
 }
 
 /// The store stands for the cells, by every call. Those that are not hidden come in order.

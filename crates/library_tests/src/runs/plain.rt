@@ -11,7 +11,12 @@ use run_store::{Cell, RunStore};
 
 /// Where a cell stands that there is.
 pub fn position(cells: &[Cell], id: Option<ElementId>) -> Option<usize> {
-    cells.iter().position(|cell| Some(cell.id) == id)
+    for (i, cell) in cells.iter().enumerate() {
+        if Some(cell.id) == id {
+            return Some(i);
+        }
+    }
+    None
 }
 
 pub fn id_at(cells: &[Cell], i: usize) -> Option<ElementId> {
