@@ -1,7 +1,7 @@
 //! Drafts read, and texts and manuscripts revised, by value: how many operations that takes, and what is shown then.
 
 use crate::arrangements::arranges;
-use crate::assertions::{equal_at, holds_at};
+use crate::assertions::{equal, equal_at, holds_at};
 use crate::edits::Edit::{Add, Put};
 use crate::edits::make;
 use catalogue_notes::outline;
@@ -48,13 +48,19 @@ const BAD: [(&[u8], usize); 7] = [
     (b"# \xff\nhello\n", 1),
 ];
 
+/// Compares slices of two lives.
+fn same(rt: &impl Abort, found: &str, wanted: &str) {
+    equal(rt, found, wanted);
+}
+
 #[test]
 fn drafts_by_value(rt: HostRuntime) -> Result<(), Fail> {
     for (text, wanted) in DRAFTS {
         let draft = Draft::read(rt.alloc(), text.as_bytes())?;
         equal_at(&rt, &text, draft.parts().len(), wanted.len());
-        for (part, row) in draft.parts().iter().zip(wanted) {
-            equal_at(&rt, &text, (part.title, part.text), *row);
+        for (part, (title, text)) in draft.parts().iter().zip(wanted) {
+            same(&rt, part.title, title);
+            same(&rt, part.text, text);
         }
     }
     for (bytes, line) in BAD {

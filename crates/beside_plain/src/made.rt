@@ -38,11 +38,11 @@ fn next_id(rt: &impl Abort, plain: &Plain) -> ElementId {
 /// The origins of a new element: the shown one in front of the position, and the next one of all.
 fn origins_at(
     plain: &Plain,
-    place: Place,
+    place: &Place,
     at: usize,
 ) -> Result<(Option<ElementId>, Option<ElementId>), Fail> {
-    let shown = plain.accepted.shown(place)?;
-    let all = plain.accepted.elements(place)?;
+    let shown = plain.accepted.shown(*place)?;
+    let all = plain.accepted.elements(*place)?;
     let left = shown.iter().take(at).last().copied();
     let right = match left {
         Some(left) => all.iter().skip_while(|id| **id != left).nth(1).copied(),
@@ -63,7 +63,7 @@ fn made_of(rt: &impl Abort, alloc: Global, plain: &Plain, edit: Edit) -> Result<
     match edit {
         Put(section, at, text) => {
             let section = section_at(rt, plain, section)?;
-            let (mut left, right) = origins_at(plain, Place::Section(section), at)?;
+            let (mut left, right) = origins_at(plain, &Place::Section(section), at)?;
             for ch in text.chars() {
                 made.push(Op::Text {
                     id,
@@ -78,7 +78,7 @@ fn made_of(rt: &impl Abort, alloc: Global, plain: &Plain, edit: Edit) -> Result<
         }
         Add(at, title) => {
             let title = Title::read(alloc, title)?;
-            let (left, right) = origins_at(plain, Place::Catalogue, at)?;
+            let (left, right) = origins_at(plain, &Place::Catalogue, at)?;
             made.push(Op::Section {
                 id,
                 left,

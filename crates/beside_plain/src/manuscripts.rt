@@ -22,27 +22,22 @@ fn compare_place(
     alloc: Global,
     manuscript: &Manuscript,
     plain: &PlainReplica,
-    place: Place,
+    place: &Place,
     list: &SectionList,
 ) -> Result<(), Fail> {
     let mut shown = Vec::new(alloc);
     for i in 0..list.visible_count() {
         shown.extend(list.nth_visible(i))?;
     }
-    holds_at(rt, &place, shown == plain.shown(place)?);
-    let all = plain.elements(place)?;
+    holds_at(rt, place, shown == plain.shown(*place)?);
+    let all = plain.elements(*place)?;
     let mut last = None;
     for id in &all {
-        equal_at(rt, &place, list.after(last), Some(*id));
-        equal_at(rt, &place, manuscript.place_of(*id), Some(place));
+        equal_at(rt, place, list.after(last), Some(*id));
+        equal_at(rt, place, manuscript.place_of(*id), Some(*place));
         last = Some(*id);
     }
-    equal_at(
-        rt,
-        &place,
-        (list.after(last), list.len()),
-        (None, all.len()),
-    );
+    equal_at(rt, place, (list.after(last), list.len()), (None, all.len()));
     Ok(())
 }
 
@@ -62,10 +57,10 @@ fn compare(
     wanted: &str,
 ) -> Result<(), Fail> {
     let sections = manuscript.catalogue();
-    compare_place(rt, alloc, manuscript, plain, Place::Catalogue, sections)?;
+    compare_place(rt, alloc, manuscript, plain, &Place::Catalogue, sections)?;
     for id in &plain.elements(Place::Catalogue)? {
         let list = manuscript.section(*id).expect(rt, "a section");
-        compare_place(rt, alloc, manuscript, plain, Place::Section(*id), list)?;
+        compare_place(rt, alloc, manuscript, plain, &Place::Section(*id), list)?;
     }
     for (k, id) in plain.shown(Place::Catalogue)?.iter().enumerate() {
         equal_at(rt, &wanted, manuscript.section_at(k), Some(*id));

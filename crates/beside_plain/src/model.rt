@@ -31,30 +31,40 @@ fn compare_verdicts(
     alloc: Global,
     replica: &mut PlainReplica,
 ) -> Result<(), Fail> {
-    let stray_section = Verdict::Stray(id(rt, SECTION));
-    let stray_text = Verdict::Stray(id(rt, (1, 0)));
-    let unknown = Verdict::Missing(id(rt, (7, 0)));
-    take_all(
-        rt,
-        alloc,
-        replica,
-        &[T, Section((8, 0), NONE, NONE, "U"), B, A],
-    )?;
-    for (line, wanted) in [
+    let table = [
         (A, Verdict::Again),
         (Text((1, 1), SECTION, NONE, (1, 0), 'a'), Verdict::Conflict),
         (
             Text((1, 1), SECTION, (7, 0), SECTION, 'a'),
             Verdict::Conflict,
         ),
-        (Text((2, 0), SECTION, SECTION, (7, 0), 'a'), stray_section),
-        (Text((2, 0), SECTION, (7, 0), SECTION, 'a'), stray_section),
-        (Section((2, 0), NONE, (1, 0), "V"), stray_text),
-        (Text((2, 0), SECTION, (1, 0), (7, 0), 'a'), unknown),
-        (Delete((7, 0)), unknown),
+        (
+            Text((2, 0), SECTION, SECTION, (7, 0), 'a'),
+            Verdict::Stray(id(rt, SECTION)),
+        ),
+        (
+            Text((2, 0), SECTION, (7, 0), SECTION, 'a'),
+            Verdict::Stray(id(rt, SECTION)),
+        ),
+        (
+            Section((2, 0), NONE, (1, 0), "V"),
+            Verdict::Stray(id(rt, (1, 0))),
+        ),
+        (
+            Text((2, 0), SECTION, (1, 0), (7, 0), 'a'),
+            Verdict::Missing(id(rt, (7, 0))),
+        ),
+        (Delete((7, 0)), Verdict::Missing(id(rt, (7, 0)))),
         (Delete((1, 0)), Verdict::Ready),
         (Text((2, 0), SECTION, (1, 0), (1, 1), 'a'), Verdict::Ready),
-    ] {
+    ];
+    take_all(
+        rt,
+        alloc,
+        replica,
+        &[T, Section((8, 0), NONE, NONE, "U"), B, A],
+    )?;
+    for (line, wanted) in table {
         let op = op(rt, alloc, line)?;
         equal_at(rt, &line, replica.verdict(&op), wanted);
     }

@@ -104,25 +104,31 @@ pub fn is_withdrawn(ops: &[Op], note: ElementId) -> bool {
     ops.iter().any(|op| matches!(op, Op::Delete { target } if *target == note))
 }
 
+/// Whether the operation is no claim, or one on a section.
+fn is_on_section(ops: &[Op], op: &Op) -> bool {
+    match claim_in(op) {
+        Some(claim) => {
+            ops.iter().any(|op| matches!(op, Op::Section { id, .. } if *id == claim.section))
+        }
+        None => true,
+    }
+}
+
 /// The claims on sections: a move counts where its section is Ready on what was lifted before.
 fn claims_in(alloc: Global, ops: &[Op]) -> Result<Claims, Fail> {
     let mut lift = PlainReplica::new(alloc);
     let mut moves = Vec::new(alloc);
     let mut retitles = Vec::new(alloc);
     for op in ops {
-        let claim = claim_in(op);
-        let is_on_section = claim.is_none_or(|claim| {
-            ops.iter().any(|op| matches!(op, Op::Section { id, .. } if *id == claim.section))
-        });
-        if !is_on_section {
+        if !is_on_section(ops, op) {
             continue;
         }
         if new_title(alloc, op).is_some() {
-            retitles.extend(claim)?;
+            retitles.extend(claim_in(op))?;
         }
         if let Some(section) = lifted(alloc, op)? {
             if accept(&mut lift, section)? {
-                moves.extend(claim)?;
+                moves.extend(claim_in(op))?;
             }
         }
     }
