@@ -41,12 +41,12 @@ Entry V = Identifier × Stretch V
 abbrev pub Latest : Type 0 → Type 0
 Latest V = ℕ × Stretch V
 
--- how stretches are kept: the last one of each replica, and the others
+-- how stretches are kept: at most one of each replica, the last one of it, under that replica, and the others
 abbrev pub Layout : Type 0 → Type 0
 Layout V = List (ℕ × Latest V) × List (Entry V)
 
 abbrev pub layout : {V : Type 0} → Stretches V → Layout V
-layout s = (s.latest.entries, s.kept.entries)
+layout s = (s.latest.by_replica.entries, s.kept.entries)
 
 -- all stretches
 abbrev pub entries_with : {V : Type 0} → List (ℕ × Latest V) → List (Entry V) → List (Entry V)

@@ -18,11 +18,11 @@ kept_at es q = lookup (is_at (id_cmp q)) es
 abbrev pub KeepsEntry : {V : Type 0} → List (Entry V) → Entry V → Type 0
 KeepsEntry es e = kept_at es e.0 ≡ Some e.1
 
--- the last stretch of a replica
+-- the last stretch of a replica, where it is not kept with the others
 abbrev pub latest_at : {V : Type 0} → List (ℕ × Latest V) → ℕ → Option (Latest V)
 latest_at ls r = lookup (is_at (nat_cmp r)) ls
 
--- the stretch is the last one of its replica
+-- the stretch is the last one of its replica, and is not kept with the others
 abbrev pub IsLatest : {V : Type 0} → List (ℕ × Latest V) → Entry V → Type 0
 IsLatest ls e = latest_at ls e.0.replica ≡ Some (e.0.counter, e.1)
 
@@ -30,7 +30,7 @@ IsLatest ls e = latest_at ls e.0.replica ≡ Some (e.0.counter, e.1)
 abbrev pub Has : {V : Type 0} → Layout V → Entry V → Type 0
 Has l e = IsLatest l.0 e ⊎ KeepsEntry l.1 e
 
--- the kept stretches of a replica begin before its last one
+-- no two stretches of one kind have one key, and the kept ones of a replica begin before its last one
 pub record IsLaid {V : Type 0} (l : Layout V) : Type 0 where
   pub before : (e f : Entry V) → IsLatest l.0 e → KeepsEntry l.1 f → f.0.replica ≡ e.0.replica → f.0.counter < e.0.counter
   pub latest : IsStrictlySortedBy nat_cmp (keys_of l.0)

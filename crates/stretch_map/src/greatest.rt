@@ -74,8 +74,8 @@ pub(crate) fn greatest<V: Follows>(stretches: &Stretches<V>, replica: u32) -> Op
     requires are { AreStretches V.reaches (layout stretches.now) }
     ensures { IsGreatestIn (value_at_id V.nth stretches.now) replica result }
 {
-    match stretches.latest.get(&replica) {
-        Some(&(_, stretch)) => Some(stretch.last),
+    match stretches.latest.of(replica) {
+        Some((_, stretch)) => Some(stretch.last),
         None => greatest_kept(stretches, replica),
     }
 }

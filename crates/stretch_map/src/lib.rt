@@ -4,6 +4,7 @@
 
 mod follows;
 mod greatest;
+mod latest;
 mod map;
 mod put;
 mod read;

@@ -4,6 +4,7 @@ ghost use Rattle.stretch_map.specs.Rules.{IsFollowed, IsGreatestIn, IsNext};
 
 use crate::follows::Follows;
 use crate::greatest::greatest;
+use crate::latest::LatestMap;
 use crate::put::put;
 use crate::read::value_at;
 use crate::stretches::Stretches;
@@ -49,7 +50,7 @@ impl<V: Follows> StretchMap<V> {
     {
         StretchMap {
             stretches: Stretches {
-                latest: BTreeMap::new(alloc),
+                latest: LatestMap::new(alloc),
                 kept: BTreeMap::new(alloc),
             },
             newest: None,

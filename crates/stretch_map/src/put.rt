@@ -8,7 +8,7 @@ ghost use Rattle.stretch_map.specs.Stretches.{KeepsEntry, NoLatestUpTo, up_to};
 
 use crate::follows::Follows;
 use crate::greatest::last_kept;
-use crate::stretches::{Stretch, Stretches, floor, latest_up_to, replace_latest};
+use crate::stretches::{Stretch, Stretches, floor};
 use fugue_ids::{ElementId, NoMemory};
 use std::collections::BTreeMap;
 
@@ -66,9 +66,10 @@ fn extend_kept<V: Follows>(
 
 /// Whether all stretches of the key's replica are kept, and begin before the key.
 fn is_behind_all<V: Follows>(stretches: &Stretches<V>, key: ElementId) -> bool
-    ensures { IsTrue result → IsBehindAll (layout stretches.now) key }
+    ensures yes { IsTrue result → IsBehindAll (layout stretches.now) key }
+    ensures no { IsFalse result → IsBehindAll (layout stretches.now) key → ⊥ }
 {
-    if stretches.latest.contains_key(&key.replica) {
+    if stretches.latest.of(key.replica).is_some() {
         return false;
     }
     match last_kept(&stretches.kept, key.replica) {
@@ -81,14 +82,14 @@ fn is_behind_all<V: Follows>(stretches: &Stretches<V>, key: ElementId) -> bool
 fn begin<V: Follows>(stretches: &mut Stretches<V>, key: ElementId, value: V) -> Result<(), NoMemory>
     requires are { AreStretches V.reaches (layout stretches.old) }
     requires fresh { value_at_id V.nth stretches.old key ≡ None }
-    requires before { NoLatestUpTo stretches.old.latest.entries key }
+    requires before { NoLatestUpTo stretches.old.latest.by_replica.entries key }
     ensures ok { OnOk result (Adds V.nth V.reaches (layout stretches.old) (layout stretches.new) key value) }
     ensures err { OnErr result (layout stretches.new ≡ layout stretches.old) }
 {
     let last = key.counter;
     let alone = Stretch { value, last };
     if is_behind_all(stretches, key) {
-        stretches.latest.insert(key.replica, (last, alone))?;
+        stretches.latest.insert(key, alone)?;
         return Ok(());
     }
     stretches.kept.insert(key, alone)?;
@@ -104,7 +105,7 @@ fn put_before<V: Follows>(
 ) -> Result<(), NoMemory>
     requires are { AreStretches V.reaches (layout stretches.old) }
     requires fresh { value_at_id V.nth stretches.old key ≡ None }
-    requires before { NoLatestUpTo stretches.old.latest.entries key }
+    requires before { NoLatestUpTo stretches.old.latest.by_replica.entries key }
     ensures ok { OnOk result (Adds V.nth V.reaches (layout stretches.old) (layout stretches.new) key value) }
     ensures err { OnErr result (layout stretches.new ≡ layout stretches.old) }
     ensures sure { IsNext V.nth V.reaches (value_at_id V.nth stretches.old) key value → IsOk result }
@@ -125,18 +126,18 @@ fn put_behind<V: Follows>(
 ) -> Result<(), NoMemory>
     requires are { AreStretches V.reaches (layout stretches.old) }
     requires fresh { value_at_id V.nth stretches.old key ≡ None }
-    requires behind { IsLatestUpTo stretches.old.latest.entries key (first, stretch.now) }
+    requires behind { IsLatestUpTo stretches.old.latest.by_replica.entries key (first, stretch.now) }
     ensures ok { OnOk result (Adds V.nth V.reaches (layout stretches.old) (layout stretches.new) key value) }
     ensures err { OnErr result (layout stretches.new ≡ layout stretches.old) }
     ensures sure { IsNext V.nth V.reaches (value_at_id V.nth stretches.old) key value → IsOk result }
 {
     if let Some(longer) = longer(first, stretch, key, &value) {
-        replace_latest(&mut stretches.latest, first, longer);
+        stretches.latest.replace(first, longer);
         return Ok(());
     }
     stretches.kept.insert(first, *stretch)?;
     let last = key.counter;
-    replace_latest(&mut stretches.latest, key, Stretch { value, last });
+    stretches.latest.replace(key, Stretch { value, last });
     Ok(())
 }
 
@@ -152,7 +153,7 @@ pub(crate) fn put<V: Follows>(
     ensures err { OnErr result (layout stretches.new ≡ layout stretches.old) }
     ensures sure { IsNext V.nth V.reaches (value_at_id V.nth stretches.old) key value → IsOk result }
 {
-    match latest_up_to(&stretches.latest, key) {
+    match stretches.latest.up_to(key) {
         Some((first, stretch)) => put_behind(stretches, first, &stretch, key, value),
         None => put_before(stretches, key, value),
     }

@@ -4,7 +4,7 @@ ghost use Rattle.stretch_map.specs.Contents.{layout, value_at_id};
 ghost use Rattle.stretch_map.specs.Stretches.{AreStretches, Covers, IsReached, IsReadIn, KeepsEntry};
 
 use crate::follows::Follows;
-use crate::stretches::{Stretch, Stretches, floor, latest_up_to};
+use crate::stretches::{Stretch, Stretches, floor};
 use fugue_ids::ElementId;
 
 /// The value that the stretch has at the key.
@@ -37,7 +37,7 @@ pub(crate) fn value_at<V: Follows>(stretches: &Stretches<V>, key: ElementId) -> 
     requires { AreStretches V.reaches (layout stretches.now) }
     ensures { result ≡ value_at_id V.nth stretches.now key }
 {
-    match latest_up_to(&stretches.latest, key) {
+    match stretches.latest.up_to(key) {
         Some((first, stretch)) => value_in(first, &stretch, key),
         None => kept_value(stretches, key),
     }

@@ -1,6 +1,7 @@
-ghost use Rattle.std.specs.Prelude.{◌≡◌, IfNone, IfSome, IsSome, Some};
-ghost use Rattle.stretch_map.specs.Stretches.{IsFloor, IsLatestUpTo, LatestBecomes, NoLatestUpTo, NoneUpTo, latest_at};
+ghost use Rattle.std.specs.Prelude.{IfNone, IfSome};
+ghost use Rattle.stretch_map.specs.Stretches.{IsFloor, NoneUpTo};
 
+use crate::latest::LatestMap;
 use fugue_ids::ElementId;
 use std::collections::BTreeMap;
 
@@ -14,45 +15,10 @@ pub(crate) struct Stretch<V> {
 /// The stretches of a map.
 #[derive(Drop)]
 pub(crate) struct Stretches<V: Copy> {
-    /// The last one of each replica, with the counter that it begins with. While it grows, no other one is touched.
-    pub latest: BTreeMap<u32, (u32, Stretch<V>)>,
-    /// The others, each under its first identifier. They begin before the last one of their replica, if it has one.
+    /// At most one of each replica, which stands behind all its others. While it grows, no other one is touched.
+    pub latest: LatestMap<V>,
+    /// The others, each under its first identifier.
     pub kept: BTreeMap<ElementId, Stretch<V>>,
-}
-
-/// The last stretch of the key's replica, if it begins at the key or before.
-pub(crate) fn latest_up_to<V: Copy>(
-    latest: &BTreeMap<u32, (u32, Stretch<V>)>,
-    key: ElementId,
-) -> Option<(ElementId, Stretch<V>)>
-    ensures none { IfNone result (NoLatestUpTo latest.now.entries key) }
-    ensures some { IfSome result (IsLatestUpTo latest.now.entries key) }
-{
-    let Some(&(from, stretch)) = latest.get(&key.replica) else {
-        return None;
-    };
-    if key.counter < from {
-        return None;
-    }
-    let first = ElementId {
-        replica: key.replica,
-        counter: from,
-    };
-    Some((first, stretch))
-}
-
-/// This stretch in the place of the last one of its replica.
-pub(crate) fn replace_latest<V: Copy>(
-    latest: &mut BTreeMap<u32, (u32, Stretch<V>)>,
-    first: ElementId,
-    stretch: Stretch<V>,
-)
-    requires { IsSome (latest_at latest.old.entries first.replica) }
-    ensures { LatestBecomes latest.old.entries latest.new.entries first.replica (Some (first.counter, stretch)) }
-{
-    if let Some(place) = latest.get_mut(&first.replica) {
-        *place = (first.counter, stretch);
-    }
 }
 
 /// The last stretch that begins at the key or before.

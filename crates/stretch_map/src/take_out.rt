@@ -6,8 +6,9 @@ ghost use Rattle.stretch_map.specs.Stretches.{AreStretches, Covers, EndsAt, IsCu
 ghost use Rattle.stretch_map.specs.Stretches.{IsSame, IsShorter, IsTakenFrom, IsTakenFromLatest, KeepsEntry, Loses};
 
 use crate::follows::Follows;
+use crate::latest::LatestMap;
 use crate::read::value_at;
-use crate::stretches::{Stretch, Stretches, floor, latest_up_to, replace_latest};
+use crate::stretches::{Stretch, Stretches, floor};
 use fugue_ids::{ElementId, NoMemory};
 use std::collections::BTreeMap;
 
@@ -32,20 +33,14 @@ fn shorter<V: Follows>(first: ElementId, stretch: &Stretch<V>) -> Option<(Elemen
 }
 
 /// The last stretch of its replica without its last identifier.
-fn shorten_entry<V: Follows>(
-    latest: &mut BTreeMap<u32, (u32, Stretch<V>)>,
-    first: ElementId,
-    stretch: &Stretch<V>,
-)
+fn shorten_in_latest<V: Follows>(latest: &mut LatestMap<V>, first: ElementId, stretch: &Stretch<V>)
     requires begun { first.counter ≤ stretch.now.last }
-    requires there { IsLatest latest.old.entries (first, stretch.now) }
-    ensures { IsTakenFromLatest latest.old.entries latest.new.entries (first, stretch.now) }
+    requires there { IsLatest latest.old.by_replica.entries (first, stretch.now) }
+    ensures { IsTakenFromLatest latest.old.by_replica.entries latest.new.by_replica.entries (first, stretch.now) }
 {
     match shorter(first, stretch) {
-        Some((_, rest)) => replace_latest(latest, first, rest),
-        None => {
-            latest.remove(&first.replica);
-        }
+        Some((_, rest)) => latest.replace(first, rest),
+        None => latest.remove(first.replica),
     }
 }
 
@@ -54,16 +49,16 @@ fn shorten_latest<V: Follows>(stretches: &mut Stretches<V>, key: ElementId) -> b
     requires { AreStretches V.reaches (layout stretches.old) }
     ensures on { IsTrue result → Loses V.nth V.reaches (layout stretches.old) (layout stretches.new) key }
     ensures off { IsFalse result → layout stretches.new ≡ layout stretches.old }
-    ensures goes_on { IsFalse result → (e : Entry V) → IsLatest stretches.old.latest.entries e → Covers e key
+    ensures goes_on { IsFalse result → (e : Entry V) → IsLatest stretches.old.latest.by_replica.entries e → Covers e key
         → key.counter < e.1.last }
 {
-    let Some((first, stretch)) = latest_up_to(&stretches.latest, key) else {
+    let Some((first, stretch)) = stretches.latest.up_to(key) else {
         return false;
     };
     if stretch.last != key.counter {
         return false;
     }
-    shorten_entry(&mut stretches.latest, first, &stretch);
+    shorten_in_latest(&mut stretches.latest, first, &stretch);
     true
 }
 
@@ -72,18 +67,18 @@ fn shorten_latest<V: Follows>(stretches: &mut Stretches<V>, key: ElementId) -> b
 fn shelve_over<V: Follows>(stretches: &mut Stretches<V>, key: ElementId) -> Result<(), NoMemory>
     requires { AreStretches V.reaches (layout stretches.old) }
     ensures same { OnOk result (IsSame V.nth V.reaches (layout stretches.old) (layout stretches.new)) }
-    ensures apart { OnOk result ((e : Entry V) → IsLatest stretches.new.latest.entries e → Covers e key → ⊥) }
+    ensures apart { OnOk result ((e : Entry V) → IsLatest stretches.new.latest.by_replica.entries e → Covers e key → ⊥) }
     ensures err { OnErr result (layout stretches.new ≡ layout stretches.old) }
-    ensures sure { ((e : Entry V) → IsLatest stretches.old.latest.entries e → Covers e key → ⊥) → IsOk result }
+    ensures sure { ((e : Entry V) → IsLatest stretches.old.latest.by_replica.entries e → Covers e key → ⊥) → IsOk result }
 {
-    let Some((first, stretch)) = latest_up_to(&stretches.latest, key) else {
+    let Some((first, stretch)) = stretches.latest.up_to(key) else {
         return Ok(());
     };
     if !covers(first, &stretch, key) {
         return Ok(());
     }
     stretches.kept.insert(first, stretch)?;
-    stretches.latest.remove(&first.replica);
+    stretches.latest.remove(first.replica);
     Ok(())
 }
 
@@ -166,7 +161,7 @@ fn end_at<V: Follows>(
 /// A kept stretch without the key, which no replica's last one has. After want of memory all is as before.
 fn take_kept<V: Follows>(stretches: &mut Stretches<V>, key: ElementId) -> Result<(), NoMemory>
     requires are { AreStretches V.reaches (layout stretches.old) }
-    requires apart { (e : Entry V) → IsLatest stretches.old.latest.entries e → Covers e key → ⊥ }
+    requires apart { (e : Entry V) → IsLatest stretches.old.latest.by_replica.entries e → Covers e key → ⊥ }
     ensures ok { OnOk result (Loses V.nth V.reaches (layout stretches.old) (layout stretches.new) key) }
     ensures err { OnErr result (layout stretches.new ≡ layout stretches.old) }
     ensures sure { EndsAt (layout stretches.old) key → IsOk result }

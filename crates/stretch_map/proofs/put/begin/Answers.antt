@@ -1,7 +1,7 @@
 use Rattle.std.proofs.Common.{refl, subst}
 use Rattle.std.specs.Prelude.{Some}
 use Rattle.fugue_ids.specs.Identifiers.{Identifier}
-use Rattle.stretch_map.proofs.KeptLemmas.{kept_becomes, latest_becomes}
+use Rattle.stretch_map.proofs.KeptLemmas.{kept_becomes}
 use Rattle.stretch_map.proofs.PutLemmas.{begun_first, begun_kept}
 use Rattle.stretch_map.specs.Contents.{layout}
 use Rattle.stretch_map.specs.Stretches.{KeptBecomes, LatestBecomes}
@@ -9,13 +9,12 @@ use Rattle.stretch_map.proofs.put.begin.Goals as goal
 
 pub returns-then-is_behind_all-clause-ok : goal.returns-then-is_behind_all-clause-ok
 returns-then-is_behind_all-clause-ok g c =
-    let old = c.args.stretches.now.latest in
-    let new = c.insert.new.self in
+    let old = c.args.stretches.now.latest.by_replica in
+    let new = c.insert.new.self.by_replica in
     begun_first g.V.Follows.nth g.V.Follows.reaches (layout c.args.stretches.now) c.requires.are c.args.key c.args.value c.requires.fresh g.met.V.Follows.at_start g.met.V.Follows.starts
-    (c.if-is_behind_all.ensures refl) new.entries
-    (subst (λ (k : Identifier). LatestBecomes old.entries new.entries c.args.key.replica (Some (k.counter, record { value = c.args.value; last = k.counter }))) c.key.view_is
-    (subst (λ (k : Identifier). LatestBecomes old.entries new.entries k.replica (Some (c.key.inside.counter, record { value = c.args.value; last = c.key.inside.counter }))) c.key-2.view_is
-    (latest_becomes old new c.key-2.inside.replica _ c.in_ok-insert.ensures.updates c.in_ok-insert.ensures.ordered)))
+    (c.if-is_behind_all.ensures.yes refl) new.entries
+    (subst (λ (k : Identifier). LatestBecomes old.entries new.entries c.args.key.replica (Some (c.args.key.counter, record { value = c.args.value; last = k.counter }))) c.key.view_is
+    c.in_ok-insert.ensures.ok)
 
 pub returns-clause-ok : goal.returns-clause-ok
 returns-clause-ok g c =

@@ -13,7 +13,7 @@ longer-requires g c = c.requires.are.begun _ (inl c.requires.behind.latest)
 pub returns-in-Some-clause-ok : goal.returns-in-Some-clause-ok
 returns-in-Some-clause-ok g c =
     latest_grew g.V.Follows.nth g.V.Follows.reaches (layout c.args.stretches.now) c.requires.are c.args.key c.args.value c.requires.fresh (c.args.first, c.args.stretch.now)
-    c.requires.behind.latest c.in-Some.ensures.some.0 c.in-Some.longer c.in-Some.ensures.some.1 c.replace_latest.new.latest.entries c.replace_latest.ensures
+    c.requires.behind.latest c.in-Some.ensures.some.0 c.in-Some.longer c.in-Some.ensures.some.1 c.replace.new.self.by_replica.entries c.replace.ensures
 
 pub returns-in_err-insert-clause-sure : goal.returns-in_err-insert-clause-sure
 returns-in_err-insert-clause-sure g c = λ next.
@@ -24,9 +24,9 @@ returns-in_err-insert-clause-sure g c = λ next.
 pub returns-clause-ok : goal.returns-clause-ok
 returns-clause-ok g c =
     let old = c.args.stretches.now in
-    let new = c.replace_latest-2.new.latest in
+    let new = c.replace-2.new.self.by_replica in
     begun_behind g.V.Follows.nth g.V.Follows.reaches (layout old) c.requires.are c.args.key c.args.value c.requires.fresh g.met.V.Follows.at_start g.met.V.Follows.starts
     (c.args.first, c.args.stretch.now) c.requires.behind new.entries c.insert.new.self.entries
-    (subst (λ (k : Identifier). LatestBecomes old.latest.entries new.entries c.args.key.replica (Some (c.args.key.counter, record { value = c.args.value; last = k.counter }))) c.key.view_is
-    c.replace_latest-2.ensures)
+    (subst (λ (k : Identifier). LatestBecomes old.latest.by_replica.entries new.entries c.args.key.replica (Some (c.args.key.counter, record { value = c.args.value; last = k.counter }))) c.key.view_is
+    c.replace-2.ensures)
     (kept_becomes old.kept c.insert.new.self c.args.first _ c.in_ok-insert.ensures.updates c.in_ok-insert.ensures.ordered)
