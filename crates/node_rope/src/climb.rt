@@ -202,6 +202,10 @@ pub(crate) fn set_own<T: Drop>(store: &mut Store<T>, root: Option<Link>, at: Lin
 {
     let shape = store.shape(at);
     let old = shape.own;
+    if old.weight == own.weight && old.rank == own.rank {
+        // No sum above changes.
+        return;
+    }
     store.set_shape(at, Shape { own, ..shape });
     mend(store, root, at, old, own);
 }
