@@ -15,5 +15,5 @@ pub use denote.Signature.{plain, types_at}
 pub use denote.Triple.Entry.{alive}
 pub use denote.Triple.Walked.{says, Stays, stay_none_ref, Goes-none_ref, walk_of, ends_at}
 pub use Rattle.std.proofs.raw_atomic.Walks.{proved}
-pub use Rattle.sided_tree.specs.declared.nodes.Ages.{Ages}
-pub use Rattle.sided_tree.specs.contracts.nodes.Ages.{the_row}
+pub use Rattle.sided_tree.specs.declared.ages.Ages.{Ages}
+pub use Rattle.sided_tree.specs.contracts.ages.Ages.{the_row}

@@ -1,30 +1,50 @@
-ghost use Rattle.std.specs.Prelude.{◌≡◌, ◌↔◌, ◌∷◌, All, true, Contains};
+ghost use Rattle.std.specs.Prelude.{◌≡◌, ◌↔◌, ◌∷◌, [], All, true, Contains};
 ghost use Rattle.fugue_ids.specs.Keys.{IsFit, first_id, ids, rest_of};
+ghost use Rattle.fugue_ids.specs.declared.key.Gap.TheVariants.{Alone};
 ghost use Rattle.origin_model.specs.sides.KeyLaws.{HoldsElement};
 ghost use Rattle.origin_model.specs.sides.KeyedGap.{before_all as before_all_in, gap_between as gap_between_in};
 ghost use Rattle.origin_model.specs.sides.KeyedGap.{gap_by_keys as gap_by_keys_in, no_elder_gap as no_elder_gap_in};
 ghost use Rattle.origin_model.specs.sides.KeyedGap.{slot_key as slot_key_of, block_end as block_end_in};
 ghost use Rattle.origin_model.specs.sides.KeyedGap.{block_start as block_start_in, widest as widest_of};
 ghost use Rattle.origin_model.specs.sides.Keys.{keyed_order};
-ghost use Rattle.origin_model.specs.sides.Node.{AreNodes, as_ops};
-ghost use Rattle.origin_model.specs.sides.Slot.{slot_by};
+ghost use Rattle.origin_model.specs.sides.Node.{AreNodes, as_ops, node_order};
+ghost use Rattle.origin_model.specs.sides.Slot.{IsBeside, at_gap, slot_by};
 ghost use Rattle.sided_tree.specs.Elders.{is_elder};
 
-use crate::nodes::Nodes;
+use crate::node_lookup::NodeLookup;
+use crate::siblings::find_slot;
 use crate::slots::{last_elder, slot_key, slot_part};
 use fugue_ids::{ElementId, Gap, Key, OrderOf};
 use origin_model::{Node, Slot};
 
+/// The gap of the order into which a new node goes. If its right origin directly follows the left one, as in all
+/// typing, the order is asked once, and the nodes are not.
+pub fn find_gap<N: NodeLookup, F: OrderOf>(nodes: &N, order: &F, node: &Node) -> Gap
+    requires new { AreNodes (node.now ∷ N.nodes nodes.now) }
+    requires list { F.listed order.now ≡ keyed_order (N.nodes nodes.now) }
+    ensures place { node_order (node.now ∷ N.nodes nodes.now)
+        ≡ at_gap result node.now.id (ids (F.listed order.now)) }
+    ensures beside { IsBeside result (ids (F.listed order.now)) }
+    ensures alone { (result ≡ Alone) ↔ (N.nodes nodes.now ≡ []) }
+{
+    if are_beside(order, node) {
+        return gap_between(node);
+    }
+    gap_by_keys(nodes, order, node)
+}
+
 /// The gap of a new node, by the siblings in its slot.
-pub(crate) fn gap_by_keys<F: OrderOf>(nodes: &Nodes, order: &F, node: &Node) -> Gap
-    requires new { AreNodes (node.now ∷ nodes.now) }
-    requires list { F.listed order.now ≡ keyed_order nodes.now }
-    ensures gap { result ≡ gap_by_keys_in (F.listed order.now) (slot_by (as_ops nodes.now) node.now.left node.now.right)
-        (slot_key_of (as_ops nodes.now) (slot_by (as_ops nodes.now) node.now.left node.now.right))
-        (is_elder nodes.now node.now) }
+fn gap_by_keys<N: NodeLookup, F: OrderOf>(nodes: &N, order: &F, node: &Node) -> Gap
+    requires new { AreNodes (node.now ∷ N.nodes nodes.now) }
+    requires list { F.listed order.now ≡ keyed_order (N.nodes nodes.now) }
+    ensures gap { result ≡ gap_by_keys_in (F.listed order.now)
+        (slot_by (as_ops (N.nodes nodes.now)) node.now.left node.now.right)
+        (slot_key_of (as_ops (N.nodes nodes.now))
+        (slot_by (as_ops (N.nodes nodes.now)) node.now.left node.now.right))
+        (is_elder (N.nodes nodes.now) node.now) }
     ensures fit { All IsFit (F.listed order.now) }
 {
-    let slot = nodes.slot(node.left, node.right);
+    let slot = find_slot(nodes, node.left, node.right);
     let key = slot_key(order, &slot);
     let Some(part) = slot_part(order, &slot, key) else {
         return no_elder_gap(order, &slot, key);
@@ -58,14 +78,14 @@ fn before_all(first: Option<ElementId>) -> Gap
 }
 
 /// Whether the right origin of the node directly follows the left one.
-pub(crate) fn are_beside<F: OrderOf>(order: &F, node: &Node) -> bool
+fn are_beside<F: OrderOf>(order: &F, node: &Node) -> bool
     ensures { (result ≡ true) ↔ (first_id (rest_of node.now.left (F.listed order.now)) ≡ node.now.right) }
 {
     order.behind(node.left) == node.right
 }
 
 /// The gap between the origins of the node, which stand next to each other.
-pub(crate) fn gap_between(node: &Node) -> Gap
+fn gap_between(node: &Node) -> Gap
     ensures { result ≡ gap_between_in node.now.left node.now.right }
 {
     match node.left {
@@ -85,7 +105,7 @@ pub(crate) fn widest(depth: u32) -> Key
 }
 
 /// The last element of the block of this one, which has the depth.
-pub(crate) fn block_end<F: OrderOf>(order: &F, depth: u32, id: ElementId) -> ElementId
+fn block_end<F: OrderOf>(order: &F, depth: u32, id: ElementId) -> ElementId
     requires { Contains (ids (F.listed order.now)) id }
     ensures { result ≡ block_end_in (F.listed order.now) depth id }
 {
@@ -94,7 +114,7 @@ pub(crate) fn block_end<F: OrderOf>(order: &F, depth: u32, id: ElementId) -> Ele
 }
 
 /// The first element of the block of this one, which has the key.
-pub(crate) fn block_start<F: OrderOf>(order: &F, key: Key, id: ElementId) -> ElementId
+fn block_start<F: OrderOf>(order: &F, key: Key, id: ElementId) -> ElementId
     requires { Contains (ids (F.listed order.now)) id }
     ensures { result ≡ block_start_in (F.listed order.now) key id }
 {

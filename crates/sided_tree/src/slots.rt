@@ -9,8 +9,9 @@ ghost use Rattle.origin_model.specs.sides.Node.{AreNodes};
 ghost use Rattle.sided_tree.specs.Elders.{BeginsLow, EndsLow, is_elder, siblings_in};
 
 use crate::gaps::widest;
-use crate::nodes::Nodes;
+use crate::node_lookup::NodeLookup;
 use crate::part::Part;
+use crate::siblings::goes_before;
 use fugue_ids::{ElementId, Key, OrderOf};
 use origin_model::{Node, Slot};
 
@@ -84,23 +85,24 @@ fn slot_ends<F: OrderOf>(order: &F, slot: &Slot, key: Key) -> (Option<ElementId>
 /// The last of the siblings in a part that goes before a new node. Those that do stand first.
 ///
 /// The last sibling is looked at first: where there is none, or where all go before, that is all.
-pub(crate) fn last_elder<F: OrderOf>(
-    nodes: &Nodes,
+pub(crate) fn last_elder<N: NodeLookup, F: OrderOf>(
+    nodes: &N,
     order: &F,
     node: &Node,
     part: &Part,
 ) -> Option<ElementId>
-    requires new { AreNodes (node.now ∷ nodes.now) }
-    requires list { F.listed order.now ≡ keyed_order nodes.now }
+    requires new { AreNodes (node.now ∷ N.nodes nodes.now) }
+    requires list { F.listed order.now ≡ keyed_order (N.nodes nodes.now) }
     requires from { BeginsLow (F.listed order.now) part.now }
     requires to { EndsLow (F.listed order.now) part.now }
     requires falls { All IsFit (F.listed order.now)
-        → Falls (is_elder nodes.now node.now) (siblings_in (F.listed order.now) part.now) }
-    ensures elder { result ≡ last_passing (is_elder nodes.now node.now) (siblings_in (F.listed order.now) part.now) }
+        → Falls (is_elder (N.nodes nodes.now) node.now) (siblings_in (F.listed order.now) part.now) }
+    ensures elder { result
+        ≡ last_passing (is_elder (N.nodes nodes.now) node.now) (siblings_in (F.listed order.now) part.now) }
     ensures fit { All IsFit (F.listed order.now) }
 {
     let last = part.last(order)?;
-    if nodes.goes_before(order, last, node) {
+    if goes_before(nodes, order, last, node) {
         return Some(last);
     }
     let front = Part {
@@ -112,22 +114,23 @@ pub(crate) fn last_elder<F: OrderOf>(
 
 /// The same, by halves: the rest shrinks round the answer, which is the last elder that was seen where no sibling is
 /// left.
-fn elder_by_halves<F: OrderOf>(
-    nodes: &Nodes,
+fn elder_by_halves<N: NodeLookup, F: OrderOf>(
+    nodes: &N,
     order: &F,
     node: &Node,
     mut rest: Part,
 ) -> Option<ElementId>
-    requires new { AreNodes (node.now ∷ nodes.now) }
-    requires list { F.listed order.now ≡ keyed_order nodes.now }
+    requires new { AreNodes (node.now ∷ N.nodes nodes.now) }
+    requires list { F.listed order.now ≡ keyed_order (N.nodes nodes.now) }
     requires from { BeginsLow (F.listed order.now) rest }
     requires to { EndsLow (F.listed order.now) rest }
-    requires falls { Falls (is_elder nodes.now node.now) (siblings_in (F.listed order.now) rest) }
-    ensures { result ≡ last_passing (is_elder nodes.now node.now) (siblings_in (F.listed order.now) rest) }
+    requires falls { Falls (is_elder (N.nodes nodes.now) node.now) (siblings_in (F.listed order.now) rest) }
+    ensures { result
+        ≡ last_passing (is_elder (N.nodes nodes.now) node.now) (siblings_in (F.listed order.now) rest) }
 {
     let mut elder = None;
     'halve: while let Some(sibling) = rest.near_middle(order) {
-        if nodes.goes_before(order, sibling, node) {
+        if goes_before(nodes, order, sibling, node) {
             elder = Some(sibling);
             rest.from = Some(sibling);
         } else {

@@ -9,14 +9,17 @@ ghost use Rattle.origin_model.specs.sides.Slot.{IsBeside, at_gap};
 ghost use Rattle.sided_tree.specs.Nodes.{IsTyped};
 ghost use Rattle.sided_tree.specs.Side.{HangsLeft};
 
-use crate::gaps::{are_beside, gap_between, gap_by_keys};
+use crate::gaps::find_gap;
+use crate::node_lookup::NodeLookup;
 use crate::nodes::Nodes;
+use crate::siblings::find_slot;
 use fugue_ids::{ElementId, Gap, NoMemory, OrderOf, Side};
 use origin_model::{Node, Slot};
 use std::alloc::Global;
 use std::marker::Model;
 
-/// The sided tree of one place, seen as the list of its nodes, the newest first: each node's origins are older than it.
+/// The sided tree of one place with a store of its own, seen as the list of its nodes, the newest first: each node's
+/// origins are older than it. Where another store has the origins, `find_gap` asks that one.
 ///
 /// A node hangs as a left child of its right origin where the two have the same left origin, and as a right child of
 /// its left origin otherwise. There is no table of children: the keys of the elements tell where in the order those of
@@ -66,7 +69,7 @@ impl SidedTree {
         ensures side { (result ≡ Left) ↔ HangsLeft self.now left right }
         ensures are_nodes { AreNodes self.now }
     {
-        match self.nodes.slot(left, right) {
+        match find_slot(&self.nodes, left, right) {
             Slot::LeftOf(_) => Side::Left,
             Slot::RightOf(_) => Side::Right,
         }
@@ -90,12 +93,8 @@ impl SidedTree {
         ensures alone { (result ≡ Alone) ↔ (self.now ≡ []) }
         ensures are_nodes { AreNodes self.now }
     {
-        let nodes = &self.nodes;
         let node = Node { id, left, right };
-        if are_beside(order, &node) {
-            return gap_between(&node);
-        }
-        gap_by_keys(nodes, order, &node)
+        find_gap(&self.nodes, order, &node)
     }
 
     /// One node more. After want of memory the tree is as before. Of all calls, this one alone takes memory, and none

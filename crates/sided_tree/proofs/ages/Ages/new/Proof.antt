@@ -1,9 +1,9 @@
 -- `new` makes no bytes, at the empty list.
 use Rattle.sided_tree.proofs.Words.{[], ◌∷◌, refl, vstruct, vnil, tables, raw, ‵, ◌⊛◌, ◌$◌, ◌∵◌, !, qed, move, keep, split, suffices, done, agg, enter, returns, no_more, alloc_all, pass_all, free_all, look_at, sets, owns, pure_i, alive, says, walk_of, ends_at, proved, Ages, the_row}
-use Rattle.sided_tree.specs.contracts.nodes.Ages.new as f
-use Rattle.sided_tree.specs.contracts.nodes.Ages.new.Key.{name}
-use Rattle.sided_tree.proofs.nodes.Ages.new.Statement.{statement}
-use Rattle.sided_tree.proofs.nodes.Ages.new.Code as code
+use Rattle.sided_tree.specs.contracts.ages.Ages.new as f
+use Rattle.sided_tree.specs.contracts.ages.Ages.new.Key.{name}
+use Rattle.sided_tree.proofs.ages.Ages.new.Statement.{statement}
+use Rattle.sided_tree.proofs.ages.Ages.new.Code as code
 
 pub new_spec : {M : Type 1} → statement M
 new_spec 𝓤 𝓛 𝓜 𝓡 wired =

@@ -2,10 +2,10 @@
 use Rattle.sided_tree.proofs.Words.{[], ◌∷◌, refl, named, Val, vptr, vstruct, vnil, tables, raw, ‵, ◌⊛◌, ◌$◌, ◌∵◌, !, qed, move, keep, split, suffices, done, agg, enter, returns, no_more, alloc_all, pass_all, free_all, look_at, sets, yes, owns, shr_vals, shr_Tells, pure_i, plain, types_at, alive, says, Stays, stay_none_ref, Goes-none_ref, walk_of, ends_at, proved, Ages, the_row}
 use Rattle.fugue_ids.specs.contracts.element_id.ElementId as id
 use Rattle.origin_model.specs.sides.Detached.{without}
-use Rattle.sided_tree.specs.contracts.nodes.Ages.without as f
-use Rattle.sided_tree.specs.contracts.nodes.Ages.without.Key.{name}
-use Rattle.sided_tree.proofs.nodes.Ages.without.Statement.{statement}
-use Rattle.sided_tree.proofs.nodes.Ages.without.Code as code
+use Rattle.sided_tree.specs.contracts.ages.Ages.without as f
+use Rattle.sided_tree.specs.contracts.ages.Ages.without.Key.{name}
+use Rattle.sided_tree.proofs.ages.Ages.without.Statement.{statement}
+use Rattle.sided_tree.proofs.ages.Ages.without.Code as code
 
 abbrev stayed : Stays f.ended.signature.params f.ended.kept
 stayed = (stay_none_ref (0 ∷ []) tt (plain (λ _. the_row)) yes, (stay_none_ref (1 ∷ []) tt (plain (λ _. id.the_row)) yes, tt))

@@ -1,7 +1,7 @@
 use Rattle.std.proofs.Common.{sym, ◌∙◌}
 use Rattle.fugue_ids.specs.Keys.{ids}
 use Rattle.sided_tree.proofs.RankLemmas.{by_order, end_first, end_last}
-use Rattle.sided_tree.proofs.nodes.goes_first.Goals as goal
+use Rattle.sided_tree.proofs.siblings.goes_first.Goals as goal
 
 pub returns-in-None-Some : goal.returns-in-None-Some
 returns-in-None-Some g c =

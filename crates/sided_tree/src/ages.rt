@@ -1,0 +1,43 @@
+ghost use Rattle.std.specs.Prelude.{◌≡◌, ◌∷◌, [], List};
+ghost use Rattle.std.specs.Borrow.{ftrue};
+ghost use Rattle.origin_model.specs.declared.operations.node.Node.{Node};
+ghost use Rattle.origin_model.specs.sides.Detached.{without};
+
+use fugue_ids::ElementId;
+use origin_model::Node;
+use std::marker::Model;
+
+/// In which order nodes came. It is there in proofs alone, and takes no memory. What a store keeps of the nodes agrees
+/// with it by the invariant of the struct that has both.
+#[derive(Drop)]
+pub struct Ages {
+    /// The nodes, the newest first.
+    pub ghost nodes: { List Node },
+}
+
+impl Model for Ages {
+    ghost also_owns = { λ _. ftrue };
+}
+
+impl Ages {
+    /// Without nodes.
+    pub fn new() -> Ages
+        ensures { result.nodes ≡ [] }
+    {
+        Ages {}
+    }
+
+    /// With a newer one.
+    pub fn with(&self, _node: &Node) -> Ages
+        ensures { result.nodes ≡ _node.now ∷ self.now.nodes }
+    {
+        Ages {}
+    }
+
+    /// Without the one of this identifier.
+    pub fn without(&self, _id: &ElementId) -> Ages
+        ensures { result.nodes ≡ without _id.now self.now.nodes }
+    {
+        Ages {}
+    }
+}
