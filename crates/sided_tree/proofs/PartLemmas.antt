@@ -1,17 +1,18 @@
 -- A part of an order, and an element of it: what stands around that.
-use Rattle.std.proofs.Common.{List, [], ap, append_assoc, refl, subst, sym, ◌++◌, ◌∙◌, ◌∷◌, ◌≡◌}
-use Rattle.std.specs.List.{Contains}
-use Rattle.std.specs.Prelude.{IfSome, IsNone, None, Option, Some, ◌↔◌}
+use Rattle.std.proofs.Common.{List, [], ap, append_assoc, refl, subst, sym, ◌++◌, ◌∙◌, ◌∷◌, ◌≡◌, ◌≢◌}
+use Rattle.std.specs.List.{All, Contains}
+use Rattle.std.specs.Prelude.{Bool, IfSome, IsNone, None, Option, Some, false, not, true, ◌↔◌}
 use Rattle.std.proofs.lemmas.Bool.{true≢false}
-use Rattle.std.proofs.lemmas.List.Elements.{filter-append}
+use Rattle.std.proofs.lemmas.List.Elements.{All-head, All-tail, filter-append}
 use Rattle.fugue_ids.specs.Identifiers.{Identifier}
-use Rattle.fugue_ids.specs.Keys.{Keyed, between, first_id, first_low, ids, is_low, last_id, last_low, rest_of}
+use Rattle.fugue_ids.specs.Keys.{HasKey, Keyed, between, first_id, first_low, ids, is_low, key_lt, last_id, last_low, rest_of}
 use Rattle.fugue_ids.specs.Listed.{HoldsOrigin}
 use Rattle.fugue_ids.specs.declared.key.Key.{Key}
+use Rattle.fugue_ids.proofs.IdentifierLemmas.{eq-id_eq, ne-id_eq}
 use Rattle.fugue_ids.proofs.ListLemmas.{contains_here, contains_none}
 use Rattle.origin_model.proofs.SharedLemmas.{rest_at}
 use Rattle.sided_tree.proofs.PartedLemmas.{Apart, BeginsWith, apart_back, first_begins, first_held, front_is, in_back, in_front, in_three, last_some, mid_three, others, part_at, rest_three, there, to_held}
-use Rattle.sided_tree.proofs.LowLemmas.{low_begins, low_held, lows}
+use Rattle.sided_tree.proofs.LowLemmas.{low_begins, low_held, low_one, lows}
 
 -- a part of the list, and an element of it: what stands around that
 pub record Around (es : List Keyed) (from to : Option Identifier) (m : Identifier) : Type 0 where
@@ -93,6 +94,13 @@ pub no_last : (xs : List Keyed) → last_id xs ≡ None → xs ≡ []
 no_last [] e = refl
 no_last (x ∷ xs) e = let r = last_some x xs in let d : Some r.0 ≡ None = sym r.1 ∙ e in cc
 
+-- the key of an element that no other one has before it
+has_here : (fs : List Keyed) (e : Keyed) (bs : List Keyed) (k : Key) → All (λ z. z.id ≢ e.id) fs → HasKey (fs ++ e ∷ bs) e.id k → e.key ≡ k
+has_here [] e bs k apart has = let Has : Bool → Type 0 = λ b. elim b [ true ↦ (e.key ≡ k) | false ↦ HasKey bs e.id k ] in subst Has (eq-id_eq e.id e.id refl) has
+has_here (f ∷ fs) e bs k apart has =
+    let Has : Bool → Type 0 = λ b. elim b [ true ↦ (f.key ≡ k) | false ↦ HasKey (fs ++ e ∷ bs) e.id k ] in
+    has_here fs e bs k (All-tail (λ (z : Keyed). z.id ≢ e.id) f fs apart) (subst Has (ne-id_eq f.id e.id (All-head (λ (z : Keyed). z.id ≢ e.id) f fs apart)) has)
+
 -- with an element in the part
 module _ (es : List Keyed) (from to : Option Identifier) (m : Identifier) (r : Around es from to m) where
   -- the element behind it stands behind the beginning
@@ -106,6 +114,20 @@ module _ (es : List Keyed) (from to : Option Identifier) (m : Identifier) (r : A
   member_held =
       let c : Contains (ids (r.front ++ r.here ∷ rest_of (Some m) es)) m = subst (Contains (ids (r.front ++ r.here ∷ rest_of (Some m) es))) r.is (there r.front r.here (rest_of (Some m) es)) in
       to_held es from (Some m) (subst (λ l. Contains (ids l) m) (sym r.rest) c)
+
+  -- the element is a low one of the part, where its key is low
+  pub low_member : (k : Key) → Apart es → (own : Key) → HasKey es m own → not (key_lt k own) ≡ true → Contains (ids (lows k (between from to es))) m
+  low_member k a own has low =
+      let behind : List Keyed = rest_of (Some m) es in
+      let whole : es ≡ (r.outside ++ r.front) ++ r.here ∷ behind = r.all ∙ ap (λ l. r.outside ++ l) r.rest ∙ sym (append_assoc r.outside r.front (r.here ∷ behind)) in
+      let key : r.here.key ≡ own =
+      has_here (r.outside ++ r.front) r.here behind own (others (r.outside ++ r.front) behind r.here (subst Apart whole a))
+      (subst (λ x. HasKey ((r.outside ++ r.front) ++ r.here ∷ behind) x own) (sym r.is) (subst (λ l. HasKey l m own) whole has))
+      in
+      let parts : lows k (between from to es) ≡ lows k r.front ++ r.here ∷ lows k r.back =
+      ap (lows k) r.whole ∙ filter-append (is_low k) r.front (r.here ∷ r.back) ∙ ap (λ l. lows k r.front ++ l) (low_one k r.here r.back (ap (λ z. not (key_lt k z)) key ∙ low))
+      in
+      subst (λ l. Contains (ids l) m) (sym parts) (subst (Contains (ids (lows k r.front ++ r.here ∷ lows k r.back))) r.is (there (lows k r.front) r.here (lows k r.back)))
 
   -- the low elements of the part
   module _ (k : Key) where

@@ -1,6 +1,7 @@
-ghost use Rattle.std.specs.Prelude.{◌≡◌, ◌≢◌, ◌↔◌, All, AllPairs, Contains, IfSome, IsNone, []};
-ghost use Rattle.fugue_ids.specs.Keys.{IsFit, between, first_low as first_low_in, ids, last_low as last_low_in};
-ghost use Rattle.fugue_ids.specs.Keys.{rest_of};
+ghost use Rattle.std.specs.Prelude.{◌≡◌, ◌≢◌, ◌↔◌, All, AllPairs, Contains, IfSome, IsNone, [], not};
+ghost use Rattle.fugue_ids.specs.Keys.{HasKey, IsFit, between, first_low as first_low_in, ids, key_lt};
+ghost use Rattle.fugue_ids.specs.Keys.{last_low as last_low_in, rest_of};
+ghost use Rattle.fugue_ids.specs.declared.key.Key.{Key as AnyKey};
 ghost use Rattle.fugue_ids.specs.Listed.{HoldsOrigin};
 ghost use Rattle.origin_model.specs.sides.KeyedGap.{low_ids};
 
@@ -51,6 +52,32 @@ impl Part {
             (Contains (low_ids self.now.key (between self.now.from self.now.to (F.listed order.now)))) }
     {
         let middle = order.middle(self.from, self.to)?;
+        if self.is_low(order, middle) {
+            return Some(middle);
+        }
+        self.beside(order, middle)
+    }
+
+    /// Whether the key of an element is at most that of the part.
+    fn is_low<F: OrderOf>(&self, order: &F, id: ElementId) -> bool
+        requires { Contains (ids (F.listed order.now)) id }
+        ensures { (own : AnyKey) × HasKey (F.listed order.now) id own × (result ≡ not (key_lt self.now.key own)) }
+    {
+        order.key(id) <= self.key
+    }
+
+    /// The last element of the part, up to this one, whose key is at most that of the part, or else the first one behind
+    /// it.
+    fn beside<F: OrderOf>(&self, order: &F, middle: ElementId) -> Option<ElementId>
+        requires distinct { AllPairs (λ x y. x ≢ y) (ids (F.listed order.now)) }
+        requires from { HoldsOrigin (low_ids self.now.key (F.listed order.now)) self.now.from }
+        requires to { HoldsOrigin (low_ids self.now.key (rest_of self.now.from (F.listed order.now))) self.now.to }
+        requires inside { Contains (ids (between self.now.from self.now.to (F.listed order.now))) middle }
+        ensures none { IsNone result
+            ↔ (low_ids self.now.key (between self.now.from self.now.to (F.listed order.now)) ≡ []) }
+        ensures some { IfSome result
+            (Contains (low_ids self.now.key (between self.now.from self.now.to (F.listed order.now)))) }
+    {
         let front = Part {
             to: order.behind(Some(middle)),
             ..*self

@@ -1,11 +1,10 @@
 use Rattle.std.proofs.Common.{subst, sym, ◌∙◌}
 use Rattle.std.proofs.lemmas.Bool.{true≢false}
 use Rattle.std.specs.List.{Contains}
-use Rattle.fugue_ids.specs.Keys.{ids, rest_of}
-use Rattle.fugue_ids.specs.Listed.{HoldsOrigin}
+use Rattle.fugue_ids.specs.Keys.{rest_of}
 use Rattle.fugue_ids.proofs.ListLemmas.{contains_none}
 use Rattle.sided_tree.proofs.LowLemmas.{low_held}
-use Rattle.sided_tree.proofs.PartLemmas.{around_low, end_held, found_before, found_behind, member_held, next_held}
+use Rattle.sided_tree.proofs.PartLemmas.{around_low, low_member, member_held}
 use Rattle.sided_tree.proofs.part.Part.near_middle.Goals as goal
 
 pub middle-requires-clause-held : goal.middle-requires-clause-held
@@ -15,59 +14,23 @@ pub middle-requires-clause-behind : goal.middle-requires-clause-behind
 middle-requires-clause-behind g c =
     low_held c.args.self.now.key (rest_of c.args.self.now.from (g.F.OrderOf.listed c.args.order.now)) c.args.self.now.to c.requires.to
 
-pub last-requires-clause-to : goal.last-requires-clause-to
-last-requires-clause-to g c =
+pub is_low-requires : goal.is_low-requires
+is_low-requires g c =
     let es = g.F.OrderOf.listed c.args.order.now in
     let part = c.args.self.now in
     let m = c.in_ok-middle.middle in
-    let r = around_low es part.key part.from part.to m c.requires.distinct c.requires.from c.requires.to c.in_ok-middle.ensures.some in
-    subst (HoldsOrigin (ids (rest_of part.from es))) (sym c.behind.ensures) (next_held es part.from part.to m r)
+    member_held es part.from part.to m (around_low es part.key part.from part.to m c.requires.distinct c.requires.from c.requires.to c.in_ok-middle.ensures.some)
 
-pub first-requires-clause-from : goal.first-requires-clause-from
-first-requires-clause-from g c =
+pub returns-then-is_low-clause-some : goal.returns-then-is_low-clause-some
+returns-then-is_low-clause-some g c =
     let es = g.F.OrderOf.listed c.args.order.now in
     let part = c.args.self.now in
     let m = c.in_ok-middle.middle in
     let r = around_low es part.key part.from part.to m c.requires.distinct c.requires.from c.requires.to c.in_ok-middle.ensures.some in
-    member_held es part.from part.to m r
+    let own = c.is_low.ensures in
+    low_member es part.from part.to m r part.key c.requires.distinct own.0 own.1 (sym own.2 ∙ c.if-is_low.true)
 
-pub first-requires-clause-to : goal.first-requires-clause-to
-first-requires-clause-to g c =
-    let es = g.F.OrderOf.listed c.args.order.now in
-    let part = c.args.self.now in
-    let m = c.in_ok-middle.middle in
-    let r = around_low es part.key part.from part.to m c.requires.distinct c.requires.from c.requires.to c.in_ok-middle.ensures.some in
-    end_held es part.from part.to m r part.key c.requires.to
-
-pub returns-in-Some-clause-some : goal.returns-in-Some-clause-some
-returns-in-Some-clause-some g c =
-    let es = g.F.OrderOf.listed c.args.order.now in
-    let part = c.args.self.now in
-    let m = c.in_ok-middle.middle in
-    let r = around_low es part.key part.from part.to m c.requires.distinct c.requires.from c.requires.to c.in_ok-middle.ensures.some in
-    found_before es part.from part.to m r part.key c.in-Some.sibling c.behind.result c.behind.ensures (sym c.last.ensures.last ∙ c.in-Some.is)
-
-pub returns-in-Some-clause-none : goal.returns-in-Some-clause-none
-returns-in-Some-clause-none g c =
-    let es = g.F.OrderOf.listed c.args.order.now in
-    let part = c.args.self.now in
-    let m = c.in_ok-middle.middle in
-    let r = around_low es part.key part.from part.to m c.requires.distinct c.requires.from c.requires.to c.in_ok-middle.ensures.some in
-    let found = found_before es part.from part.to m r part.key c.in-Some.sibling c.behind.result c.behind.ensures (sym c.last.ensures.last ∙ c.in-Some.is) in
-    (λ f. absurd (true≢false f), λ f. absurd (contains_none c.in-Some.sibling (subst (λ l. Contains l c.in-Some.sibling) f found)))
-
-pub returns-in-None-clause-none : goal.returns-in-None-clause-none
-returns-in-None-clause-none g c =
-    let es = g.F.OrderOf.listed c.args.order.now in
-    let part = c.args.self.now in
-    let m = c.in_ok-middle.middle in
-    let r = around_low es part.key part.from part.to m c.requires.distinct c.requires.from c.requires.to c.in_ok-middle.ensures.some in
-    (found_behind es part.from part.to m r part.key c.first.result c.behind.result c.behind.ensures (sym c.last.ensures.last ∙ c.in-None.is) c.first.ensures).0
-
-pub returns-in-None-clause-some : goal.returns-in-None-clause-some
-returns-in-None-clause-some g c =
-    let es = g.F.OrderOf.listed c.args.order.now in
-    let part = c.args.self.now in
-    let m = c.in_ok-middle.middle in
-    let r = around_low es part.key part.from part.to m c.requires.distinct c.requires.from c.requires.to c.in_ok-middle.ensures.some in
-    (found_behind es part.from part.to m r part.key c.first.result c.behind.result c.behind.ensures (sym c.last.ensures.last ∙ c.in-None.is) c.first.ensures).1
+pub returns-then-is_low-clause-none : goal.returns-then-is_low-clause-none
+returns-then-is_low-clause-none g c =
+    let found = returns-then-is_low-clause-some g c in
+    (λ f. absurd (true≢false f), λ f. absurd (contains_none c.in_ok-middle.middle (subst (λ l. Contains l c.in_ok-middle.middle) f found)))
