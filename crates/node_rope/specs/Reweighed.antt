@@ -3,8 +3,8 @@ use Rattle.std.specs.Prelude.{◌≡◌, ℕ, ◌+◌, ◌-◌, ◌*◌, ◌<◌
 use Rattle.node_rope.specs.declared.store.Store.{Store}
 use Rattle.node_rope.specs.declared.cells.Shape.{Shape}
 use Rattle.node_rope.specs.declared.cells.Link.{Link}
-use Rattle.node_rope.specs.Made.{made_count, shapes_of}
-use Rattle.node_rope.specs.Shapes.{shape_at, link_number, weight_at, least_at, AreMade, IsTree}
+use Rattle.node_rope.specs.Made.{IsKept, made_count, shapes_of, values_of}
+use Rattle.node_rope.specs.Shapes.{shape_at, link_number, weight_at, least_at, AreMade, HasRightLinks, IsTree}
 
 -- the links and the count are the same
 pub record IsPlaced (g h : Shape) : Type 0 where
@@ -44,6 +44,15 @@ pub record IsSoundBut {T : Type 0} (s : Store T) (root o : Option Link) : Type 0
   pub bound : (i : ℕ) → (shape_at (shapes_of s) i).weight ≤ 4194304 * (shape_at (shapes_of s) i).count
   pub few : made_count s < 4194305
   pub here : AreMade s o
+
+-- all sums of `new` are right, and it is `old` but for these
+pub record IsMended {T : Type 0} (old new : Store T) (root : Option Link) : Type 0 where
+  pub sound : HasRightLinks new root
+  pub still : AreStill (shapes_of old) (shapes_of new)
+  pub owns : SameOwns (shapes_of old) (shapes_of new)
+  pub values : values_of new ≡ values_of old
+  pub count : made_count new ≡ made_count old
+  pub kept : IsKept old new
 
 -- the node l's weight lacks `more`, and has `less` too much. Its least rank is right
 pub record IsOff (ss : List Shape) (less more : ℕ) (l : Link) : Type 0 where

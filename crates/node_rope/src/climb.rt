@@ -6,7 +6,7 @@ ghost use Rattle.node_rope.specs.Shapes.{HasRightLinks, AreMade, shape_at, link_
 ghost use Rattle.node_rope.specs.Shapes.{weight_at, least_at, IsWeighed, IsRanked};
 ghost use Rattle.node_rope.specs.Walk.{count_of, HasCounts};
 ghost use Rattle.node_rope.specs.Rising.{IsRising, IsRaised, SameLinks, AreSmall};
-ghost use Rattle.node_rope.specs.Reweighed.{IsSoundBut, AreOff, AreStill, SameOwns, summed};
+ghost use Rattle.node_rope.specs.Reweighed.{IsMended, IsSoundBut, AreOff, AreStill, summed};
 
 use crate::cells::{Link, Own, Shape};
 use crate::store::Store;
@@ -125,12 +125,7 @@ fn with_sums<T: Drop>(store: &Store<T>, shape: Shape) -> Shape
 // Sums the weights and the least ranks anew of each node from `from` up to the top.
 fn sum_up<T: Drop>(store: &mut Store<T>, root: Option<Link>, from: Option<Link>)
     requires { IsSoundBut store.old root from }
-    ensures sound { HasRightLinks store.new root }
-    ensures still { AreStill (shapes_of store.old) (shapes_of store.new) }
-    ensures owns { SameOwns (shapes_of store.old) (shapes_of store.new) }
-    ensures values { values_of store.new ≡ values_of store.old }
-    ensures count { made_count store.new ≡ made_count store.old }
-    ensures kept { IsKept store.old store.new }
+    ensures { IsMended store.old store.new root }
 {
     let _ = root;
     let mut cur = from;
@@ -153,12 +148,7 @@ fn reweigh<T: Drop>(
 )
     requires but { IsSoundBut store.old root from }
     requires off { AreOff (shapes_of store.old) less more from }
-    ensures sound { HasRightLinks store.new root }
-    ensures still { AreStill (shapes_of store.old) (shapes_of store.new) }
-    ensures owns { SameOwns (shapes_of store.old) (shapes_of store.new) }
-    ensures values { values_of store.new ≡ values_of store.old }
-    ensures count { made_count store.new ≡ made_count store.old }
-    ensures kept { IsKept store.old store.new }
+    ensures { IsMended store.old store.new root }
 {
     let _ = root;
     let mut cur = from;
@@ -171,12 +161,7 @@ fn reweigh<T: Drop>(
 fn mend<T: Drop>(store: &mut Store<T>, root: Option<Link>, at: Link, old: Own, new: Own)
     requires but { IsSoundBut store.old root (Some at) }
     requires off { old.rank ≡ new.rank → AreOff (shapes_of store.old) old.weight new.weight (Some at) }
-    ensures sound { HasRightLinks store.new root }
-    ensures still { AreStill (shapes_of store.old) (shapes_of store.new) }
-    ensures owns { SameOwns (shapes_of store.old) (shapes_of store.new) }
-    ensures values { values_of store.new ≡ values_of store.old }
-    ensures count { made_count store.new ≡ made_count store.old }
-    ensures kept { IsKept store.old store.new }
+    ensures { IsMended store.old store.new root }
 {
     if old.rank == new.rank {
         reweigh(store, root, Some(at), old.weight, new.weight)
