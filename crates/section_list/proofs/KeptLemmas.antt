@@ -1,8 +1,9 @@
 -- A store that has the nodes of a place in order has their keys, gives a new one its key, and has the longer list of nodes once it is put in.
-use Rattle.std.proofs.Common.{List, [], ap, false, inl, inr, refl, subst, suc, sym, true, ℕ, ◌∙◌, ◌∷◌, ◌≡◌, ◌≢◌, zero}
-use Rattle.std.specs.Prelude.{Err, None, Ok, OnErr, OnOk, Option, Result, Some, if◌then◌else◌, is_some, map}
+use Rattle.std.proofs.Common.{Bool, List, [], ap, false, inl, inr, refl, subst, suc, sym, true, ℕ, ◌∙◌, ◌∷◌, ◌≡◌, ◌≢◌, ◌↔◌, zero}
+use Rattle.std.specs.Prelude.{Err, None, Ok, OnErr, OnOk, Option, Result, Some, if◌then◌else◌, is_some, map, option_map}
 use Rattle.std.specs.List.{All, Contains, insert}
 use Rattle.std.proofs.lemmas.Bool.{cases_Bool, false≢true, true≢false}
+use Rattle.std.proofs.lemmas.Bool.Decides.{same_from_decides}
 use Rattle.std.proofs.lemmas.List.Elements.{All-contains, All-head, All-map, All-tail}
 use Rattle.fugue_ids.specs.Identifiers.{Identifier, id_eq, origin_eq}
 use Rattle.fugue_ids.specs.declared.key.Key.{Key}
@@ -16,9 +17,10 @@ use Rattle.origin_model.specs.sides.Keys.{depth_above, forest_above, search_key_
 use Rattle.origin_model.specs.sides.Node.{IsNew, as_op, as_ops, find_node, has_node, has_origin, node_order}
 use Rattle.origin_model.specs.declared.operations.node.Node.{Node}
 use Rattle.origin_model.proofs.SharedLemmas.{holder-nodes, key-other, never_both, newest_key, nodes-lawful, nodes_listed, op_of}
-use Rattle.run_store.specs.Cells.{cell_of, cell_hiding, cell_ids, keyed_cells}
+use Rattle.run_store.specs.Cells.{cell_of, cell_hiding, cell_ids, keyed_cells, origins_of}
 use Rattle.run_store.specs.NewCells.{cell_depth, depth_under, forest_beside, cell_forest as forest_held, has_right, new_cell, new_cell_key as stored_key, shares_right}
 use Rattle.run_store.specs.declared.cell.Cell.{Cell as StoredCell}
+use Rattle.run_store.proofs.CellLemmas.{cell-none, others-absent}
 use Rattle.section_list.specs.Kept.{IsOfNode, KeepsNodes, node_of}
 
 -- the keys of cells that have those of their nodes
@@ -51,6 +53,19 @@ find_cell (c ∷ cs) x m =
           record { cell = r.cell; found = ap (λ b. if b then Some c else cell_of cs x) (ne-id_eq c.id x n) ∙ r.found; own = r.own; member = contains_there c cs r.cell r.member }
     ]
 
+-- the origins of a cell
+abbrev cell_origins : StoredCell → Option Identifier × Option Identifier
+cell_origins c = (c.left, c.right)
+
+-- the node of an identifier with these origins
+abbrev pub node_with : Identifier → Option Identifier × Option Identifier → Node
+node_with x o = record { id = x; left = o.0; right = o.1 }
+
+-- what has no value is none
+no_value : {T : Type 0} (o : Option T) → is_some o ≡ false → o ≡ None
+no_value None e = refl
+no_value (Some v) e = absurd (true≢false e)
+
 -- a store with the nodes in order
 module _ (ns : List Node) (cs : List StoredCell) (k : KeepsNodes ns cs) where
   -- the nodes as a history
@@ -70,6 +85,25 @@ module _ (ns : List Node) (cs : List StoredCell) (k : KeepsNodes ns cs) where
   -- and the node's key
   key_at : (x : Identifier) (f : Found cs x) → f.cell.key ≡ search_key_of h x
   key_at x f = (All-contains (IsOfNode ns) cs f.cell k.each f.member).key ∙ ap (search_key_of h) f.own
+
+  -- a look-up among the nodes finds what the store has of its cell
+  pub found_kept : (x : Identifier) → find_node ns x ≡ option_map (node_with x) (origins_of cs x)
+  found_kept x =
+      elim (cases_Bool (has_node ns x)) [
+        | inl t ↦
+            let f = cell_at x t in
+            let o = All-contains (IsOfNode ns) cs f.cell k.each f.member in
+            ap (find_node ns) (sym f.own) ∙ o.node ∙ (λ i. Some (record { id = f.own i; left = f.cell.left; right = f.cell.right }))
+            ∙ sym (ap (λ c. option_map (node_with x) (option_map cell_origins c)) f.found)
+        | inr n ↦
+            let none = others-absent x cs (λ m. true≢false (sym ((nodes_listed ns k.are_nodes x).1 (subst (λ t. Contains t x) k.in_order m)) ∙ n)) in
+            no_value (find_node ns x) n ∙ sym (ap (λ c. option_map (node_with x) (option_map cell_origins c)) (cell-none x cs none))
+      ]
+
+  -- the store holds the cell of each node, and no other
+  pub held_kept : (x : Identifier) (b : Bool) → (b ≡ true) ↔ Contains (cell_ids cs) x → b ≡ has_node ns x
+  held_kept x b h =
+      same_from_decides b (has_node ns x) h (subst (λ t. (has_node ns x ≡ true) ↔ Contains t x) (sym k.in_order) (nodes_listed ns k.are_nodes x))
 
   -- a new cell is deeper by one than its left origin
   depth_kept : (l : Option Identifier) → has_origin ns l ≡ true → depth_under cs l ≡ depth_above h l
@@ -177,11 +211,6 @@ module _ (ns : List Node) (cs : List StoredCell) (k : KeepsNodes ns cs) where
 pub on_ok : {T E A B : Type 0} (r : Result T E) → (A → B) → OnOk r A → OnOk r B
 on_ok (Ok v) f k = f k
 on_ok (Err e) f k = k
-
--- what follows where there is an error
-pub on_err : {T E A B : Type 0} (r : Result T E) → (A → B) → OnErr r A → OnErr r B
-on_err (Ok v) f k = k
-on_err (Err e) f k = f k
 
 -- whether or not the cell was hidden, the store keeps the nodes
 pub kept_hidden : {T E : Type 0} (ns : List Node) (cs after : List StoredCell) (x : Identifier) → KeepsNodes ns cs → (r : Result T E) → OnOk r (after ≡ map (cell_hiding x) cs) → OnErr r (after ≡ cs) → KeepsNodes ns after

@@ -1,33 +1,30 @@
-ghost use Rattle.std.specs.Prelude.{◌≡◌, ◌↔◌, ◌⊎◌, ◌<◌, ◌∷◌, false, true, drop, length, nat_lt, slice_get, IfSome, IsNone, OnErr, OnOk};
+ghost use Rattle.std.specs.Prelude.{◌≡◌, ◌↔◌, ◌⊎◌, ◌<◌, ◌∷◌, [], false, true, drop, length, nat_lt, slice_get, IfSome};
+ghost use Rattle.std.specs.Prelude.{IsNone, OnErr, OnOk};
+ghost use Rattle.std.specs.List.{Contains};
 ghost use Rattle.std.specs.Str.{encode_utf8_all};
 ghost use Rattle.fugue_ids.specs.Gathers.{GathersText};
 ghost use Rattle.fugue_ids.specs.Listed.{index_of};
 ghost use Rattle.fugue_ids.specs.Outs.{WritesBytes};
-ghost use Rattle.origin_model.specs.sides.Node.{has_node, has_origin};
+ghost use Rattle.fugue_ids.specs.declared.key.Gap.TheVariants.{Alone};
 ghost use Rattle.origin_model.specs.edits.Landing.{following};
-ghost use Rattle.std.specs.List.{Contains, insert};
-ghost use Rattle.origin_model.specs.sides.KeyedGap.{gap_index};
-ghost use Rattle.origin_model.specs.sides.Node.{IsNew};
-ghost use Rattle.origin_model.specs.sides.Slot.{IsBeside};
-ghost use Rattle.run_store.specs.Cells.{cell_ids as stored_ids};
-ghost use Rattle.run_store.specs.NewCells.{new_cell};
-ghost use Rattle.run_store.specs.Stored.{IsAloneWhereEmpty};
+ghost use Rattle.origin_model.specs.sides.Node.{IsNew, has_node, has_origin, node_order};
+ghost use Rattle.origin_model.specs.sides.Slot.{IsBeside, at_gap};
 ghost use Rattle.section_list.specs.Cells.{section_cell_ids, is_hidden_in_section as hidden_in, section_text};
 ghost use Rattle.section_list.specs.Cells.{section_cells_shown, section_shown_before};
-ghost use Rattle.section_list.specs.Kept.{KeepsNodes};
 ghost use Rattle.section_list.specs.SectionList.{IsInOrder, empty_listing, with_element, with_hidden};
 
 use fugue_ids::{ElementId, Failed, Gap, Gather, MOST_OPERATIONS, NoMemory, Out, Sink};
 use origin_model::Node;
 use run_store::{RunStore, Shown};
-use sided_tree::SidedTree;
+use sided_tree::{Ages, NodeLookup, find_gap};
 use std::alloc::Global;
 use std::marker::Model;
 
-/// One place: its elements in the order of their origins, with their scalars and hidden marks.
+/// One place: its elements in the order of their origins, with their scalars and hidden marks. The store has the origins
+/// too.
 #[derive(Drop)]
 pub struct SectionList {
-    tree: SidedTree,
+    ages: Ages,
     store: RunStore,
 }
 
@@ -38,48 +35,18 @@ impl Model for SectionList {
 
     ghost Value = { Listing };
 
-    ghost view = { λ s. record { nodes = s.tree; cells = map plain s.store.cells } };
+    ghost view = { λ s. record { nodes = s.ages.nodes; cells = map plain s.store.cells } };
 
-    ghost invariant = { λ s. KeepsNodes s.tree s.store.cells };
+    ghost invariant = { λ s. KeepsNodes s.ages.nodes s.store.cells };
 }
 
-/// The element is asked for soon.
-fn look_at(store: &mut RunStore, id: &Option<ElementId>)
-    ensures { store.new ≡ store.old }
-{
-    if let Some(id) = id {
-        store.look_at(*id);
-    }
-}
+impl NodeLookup for SectionList {
+    ghost nodes = { λ list. list.nodes };
 
-/// The node joins the tree, and its cell goes into the gap of the store. After want of memory the nodes and the cells
-/// are as before.
-fn put_in(
-    tree: &mut SidedTree,
-    store: &mut RunStore,
-    gap: Gap,
-    node: &Node,
-    ch: char,
-) -> Result<(), NoMemory>
-    requires kept { KeepsNodes tree.old store.old.cells }
-    requires new { IsNew tree.old node.now }
-    requires beside { IsBeside gap (stored_ids store.old.cells) }
-    requires alone { IsAloneWhereEmpty gap store.old.cells }
-    requires room { length store.old.cells < MOST_OPERATIONS }
-    ensures tree_ok { OnOk result (tree.new ≡ node.now ∷ tree.old) }
-    ensures tree_err { OnErr result (tree.new ≡ tree.old) }
-    ensures store_ok { OnOk result
-        (store.new.cells ≡ insert store.old.cells (gap_index gap (stored_ids store.old.cells))
-        (new_cell store.old.cells node.now.id node.now.left node.now.right ch)) }
-    ensures store_err { OnErr result (store.new.cells ≡ store.old.cells) }
-{
-    let order = &*store;
-    tree.attach(node.id, node.left, node.right, order)?;
-    match store.insert(gap, node.id, node.left, node.right, ch) {
-        Ok(()) => Ok(()),
-        Err(refused) => {
-            tree.detach(node.id);
-            Err(refused)
+    fn find(&self, id: ElementId) -> Option<Node> {
+        match self.store.origins(id) {
+            Some((left, right)) => Some(Node { id, left, right }),
+            None => None,
         }
     }
 }
@@ -91,7 +58,7 @@ impl SectionList {
         ensures in_order { IsInOrder result }
     {
         SectionList {
-            tree: SidedTree::new(alloc),
+            ages: Ages::new(),
             store: RunStore::new(alloc),
         }
     }
@@ -115,7 +82,7 @@ impl SectionList {
     pub fn holds(&self, id: ElementId) -> bool
         ensures { result ≡ has_node self.now.nodes id }
     {
-        self.tree.holds(id)
+        self.store.holds(id)
     }
 
     /// Whether the element is held and hidden.
@@ -191,12 +158,32 @@ impl SectionList {
         ensures err { OnErr result (self.new ≡ self.old) }
         ensures in_order { IsInOrder self.new }
     {
-        look_at(&mut self.store, &left);
         let node = Node { id, left, right };
-        let gap = self
-            .tree
-            .find_gap(node.id, node.left, node.right, &self.store);
-        put_in(&mut self.tree, &mut self.store, gap, &node, ch)
+        self.look_at(node.left);
+        let gap = self.gap_of(&node);
+        self.store.insert(gap, node.id, node.left, node.right, ch)?;
+        self.ages = self.ages.with(&node);
+        Ok(())
+    }
+
+    /// The element is asked for soon.
+    fn look_at(&mut self, id: Option<ElementId>)
+        ensures { self.new ≡ self.old }
+    {
+        if let Some(id) = id {
+            self.store.look_at(id);
+        }
+    }
+
+    /// The gap into which a new node goes.
+    fn gap_of(&self, node: &Node) -> Gap
+        requires { IsNew self.now.nodes node.now }
+        ensures place { node_order (node.now ∷ self.now.nodes)
+            ≡ at_gap result node.now.id (section_cell_ids self.now.cells) }
+        ensures beside { IsBeside result (section_cell_ids self.now.cells) }
+        ensures alone { (result ≡ Alone) ↔ (self.now.nodes ≡ []) }
+    {
+        find_gap(self, &self.store, node)
     }
 
     /// Hides the element. A hidden one stays as it is.

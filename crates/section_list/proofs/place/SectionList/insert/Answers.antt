@@ -1,56 +1,69 @@
-use Rattle.std.proofs.Common.{List, ap, subst, sym, ◌∙◌, ◌≡◌}
-use Rattle.origin_model.specs.sides.Node.{IsNew}
+use Rattle.std.proofs.Common.{ap, false, length, subst, sym, true, ◌<◌, ◌∙◌, ◌≡◌}
+use Rattle.std.specs.Prelude.{Option}
+use Rattle.std.proofs.lemmas.Result.{err_from_is_err_and}
+use Rattle.fugue_ids.specs.Identifiers.{Identifier}
+use Rattle.fugue_ids.specs.declared.limits.TheConstants.{MOST_OPERATIONS}
+use Rattle.origin_model.specs.sides.Node.{IsNew, has_node, has_origin}
 use Rattle.origin_model.specs.declared.operations.node.Node.{Node}
-use Rattle.run_store.specs.Stored.{Stored}
 use Rattle.section_list.specs.Kept.{KeepsNodes}
 use Rattle.section_list.specs.SectionList.{Listing, with_element}
-use Rattle.section_list.proofs.GrowthLemmas.{after_err, after_kept, after_ok, alone_kept, gap_beside, seen, seen_in_order}
-use Rattle.section_list.proofs.KeptLemmas.{keyed_kept, on_err, on_ok}
+use Rattle.section_list.proofs.GrowthLemmas.{grown_kept, is_fresh, is_grown, joins, seen, seen_in_order, seen_length}
 use Rattle.section_list.proofs.place.SectionList.insert.Goals as goal
 
--- a node that is new in what readers see is new in the tree
-new_here : (seen now : Listing) (n : Node) → seen ≡ now → IsNew now.nodes n → IsNew seen.nodes n
-new_here seen now n v new = subst (λ (s : Listing). IsNew s.nodes n) (sym v) new
+-- the new node
+abbrev node : Identifier → Option Identifier → Option Identifier → Node
+node id left right = record { id = id; left = left; right = right }
 
--- the store keeps the nodes where it is as it was
-still_keeps : (ns : List Node) (before after : Stored) → after ≡ before → KeepsNodes ns before.cells → KeepsNodes ns after.cells
-still_keeps ns before after same k = subst (λ (s : Stored). KeepsNodes ns s.cells) (sym same) k
+-- is new in the place that was looked at, which is the same
+new_here : (now old : Listing) (id : Identifier) (left right : Option Identifier) → now ≡ old → has_node old.nodes id ≡ false → has_origin old.nodes left ≡ true → has_origin old.nodes right ≡ true
+    → IsNew now.nodes (node id left right)
+new_here now old id left right same fresh l r = subst (λ (s : Listing). IsNew s.nodes (node id left right)) (sym same) (record { fresh = fresh; left = l; right = r })
 
-pub find_gap-gap-requires-clause-list : goal.find_gap-gap-requires-clause-list
-find_gap-gap-requires-clause-list c = keyed_kept c.self.inside.tree c.look_at.new.store.cells (still_keeps _ _ _ c.look_at.ensures c.self.invariant)
+pub gap_of-gap-requires : goal.gap_of-gap-requires
+gap_of-gap-requires c = new_here _ _ c.args.id c.args.left c.args.right c.look_at.ensures c.requires.fresh c.requires.left c.requires.right
 
-pub put_in-requires-clause-beside : goal.put_in-requires-clause-beside
-put_in-requires-clause-beside c =
-    gap_beside c.self.inside.tree c.look_at.new.store.cells (still_keeps _ _ _ c.look_at.ensures c.self.invariant) c.find_gap-gap.result c.find_gap-gap.ensures.beside
+pub insert-requires-clause-fresh : goal.insert-requires-clause-fresh
+insert-requires-clause-fresh c =
+    let new = new_here _ _ c.args.id c.args.left c.args.right c.look_at.ensures c.requires.fresh c.requires.left c.requires.right in
+    is_fresh _ _ _ _ (joins _ _ c.self.invariant _ c.self.view_is _ new c.gap_of-gap.result c.gap_of-gap.ensures.place c.gap_of-gap.ensures.beside c.gap_of-gap.ensures.alone)
 
-pub put_in-requires-clause-alone : goal.put_in-requires-clause-alone
-put_in-requires-clause-alone c =
-    alone_kept c.self.inside.tree c.look_at.new.store.cells (still_keeps _ _ _ c.look_at.ensures c.self.invariant) c.find_gap-gap.result c.find_gap-gap.ensures.alone
+pub insert-requires-clause-beside : goal.insert-requires-clause-beside
+insert-requires-clause-beside c =
+    let new = new_here _ _ c.args.id c.args.left c.args.right c.look_at.ensures c.requires.fresh c.requires.left c.requires.right in
+    (joins _ _ c.self.invariant _ c.self.view_is _ new c.gap_of-gap.result c.gap_of-gap.ensures.place c.gap_of-gap.ensures.beside c.gap_of-gap.ensures.alone).beside
+
+pub insert-requires-clause-alone : goal.insert-requires-clause-alone
+insert-requires-clause-alone c =
+    let new = new_here _ _ c.args.id c.args.left c.args.right c.look_at.ensures c.requires.fresh c.requires.left c.requires.right in
+    (joins _ _ c.self.invariant _ c.self.view_is _ new c.gap_of-gap.result c.gap_of-gap.ensures.place c.gap_of-gap.ensures.beside c.gap_of-gap.ensures.alone).alone
+
+pub insert-requires-clause-room : goal.insert-requires-clause-room
+insert-requires-clause-room c =
+    subst (λ k. k < MOST_OPERATIONS) (ap (λ (s : Listing). length s.cells) (sym c.look_at.ensures ∙ sym c.self.view_is) ∙ seen_length c.self.inside.store.cells) c.requires.room
 
 pub invariant_of-self : goal.invariant_of-self
-invariant_of-self c =
-    after_kept c.self.inside.tree c.look_at.new.store.cells (still_keeps _ _ _ c.look_at.ensures c.self.invariant) (record { id = c.args.id; left = c.args.left; right = c.args.right })
-    (new_here _ _ _ c.self.view_is (record { fresh = c.requires.fresh; left = c.requires.left; right = c.requires.right }))
-    c.find_gap-gap.result c.find_gap-gap.ensures.beside c.find_gap-gap.ensures.place c.put_in.result c.put_in.new.tree c.put_in.new.store.cells c.args.ch
-    c.put_in.ensures.tree_ok c.put_in.ensures.tree_err c.put_in.ensures.store_ok c.put_in.ensures.store_err
+invariant_of-self c = subst (KeepsNodes c.self.inside.ages.nodes) (sym c.in_err-insert.ensures.err) c.self.invariant
+
+pub invariant_of-self-2 : goal.invariant_of-self-2
+invariant_of-self-2 c =
+    let new = new_here _ _ c.args.id c.args.left c.args.right c.look_at.ensures c.requires.fresh c.requires.left c.requires.right in
+    let joined = joins _ _ c.self.invariant _ c.self.view_is _ new c.gap_of-gap.result c.gap_of-gap.ensures.place c.gap_of-gap.ensures.beside c.gap_of-gap.ensures.alone in
+    grown_kept _ _ _ _ joined c.with-self-inside.result.nodes c.insert.new.self.cells c.args.ch c.with-self-inside.ensures c.in_ok-insert.ensures.ok
+
+pub returns-in_err-insert-clause-err : goal.returns-in_err-insert-clause-err
+returns-in_err-insert-clause-err c =
+    let p = err_from_is_err_and c.from_residual.result c.from_residual.ensures.1 in
+    rw p.1 (ap (seen c.self.inside.ages.nodes) c.in_err-insert.ensures.err ∙ c.self.view_is ∙ c.look_at.ensures)
+
+pub returns-in_err-insert-clause-in_order : goal.returns-in_err-insert-clause-in_order
+returns-in_err-insert-clause-in_order c = seen_in_order c.self.inside.ages.nodes c.insert.new.self.cells (invariant_of-self c)
 
 pub returns-clause-ok : goal.returns-clause-ok
 returns-clause-ok c =
-    let still = ap (λ (s : Stored). seen c.self.inside.tree s.cells) c.look_at.ensures ∙ c.self.view_is in
-    on_ok c.put_in.result (λ e. e ∙ ap (with_element (record { id = c.args.id; left = c.args.left; right = c.args.right }) c.args.ch) still)
-    (after_ok c.self.inside.tree c.look_at.new.store.cells (still_keeps _ _ _ c.look_at.ensures c.self.invariant) (record { id = c.args.id; left = c.args.left; right = c.args.right })
-    (new_here _ _ _ still (record { fresh = c.requires.fresh; left = c.requires.left; right = c.requires.right }))
-    c.find_gap-gap.result c.find_gap-gap.ensures.beside c.find_gap-gap.ensures.place c.put_in.result c.put_in.new.tree c.put_in.new.store.cells c.args.ch
-    c.put_in.ensures.tree_ok c.put_in.ensures.tree_err c.put_in.ensures.store_ok c.put_in.ensures.store_err)
-
-pub returns-clause-err : goal.returns-clause-err
-returns-clause-err c =
-    let still = ap (λ (s : Stored). seen c.self.inside.tree s.cells) c.look_at.ensures ∙ c.self.view_is in
-    on_err c.put_in.result (λ e. e ∙ still)
-    (after_err c.self.inside.tree c.look_at.new.store.cells (still_keeps _ _ _ c.look_at.ensures c.self.invariant) (record { id = c.args.id; left = c.args.left; right = c.args.right })
-    (new_here _ _ _ still (record { fresh = c.requires.fresh; left = c.requires.left; right = c.requires.right }))
-    c.find_gap-gap.result c.find_gap-gap.ensures.beside c.find_gap-gap.ensures.place c.put_in.result c.put_in.new.tree c.put_in.new.store.cells c.args.ch
-    c.put_in.ensures.tree_ok c.put_in.ensures.tree_err c.put_in.ensures.store_ok c.put_in.ensures.store_err)
+    let new = new_here _ _ c.args.id c.args.left c.args.right c.look_at.ensures c.requires.fresh c.requires.left c.requires.right in
+    let joined = joins _ _ c.self.invariant _ c.self.view_is _ new c.gap_of-gap.result c.gap_of-gap.ensures.place c.gap_of-gap.ensures.beside c.gap_of-gap.ensures.alone in
+    is_grown _ _ _ _ joined c.with-self-inside.result.nodes c.insert.new.self.cells c.args.ch c.with-self-inside.ensures c.in_ok-insert.ensures.ok
+    ∙ ap (with_element (node c.args.id c.args.left c.args.right) c.args.ch) (c.self.view_is ∙ c.look_at.ensures)
 
 pub returns-clause-in_order : goal.returns-clause-in_order
-returns-clause-in_order c = seen_in_order c.put_in.new.tree c.put_in.new.store.cells (invariant_of-self c)
+returns-clause-in_order c = seen_in_order c.with-self-inside.result.nodes c.insert.new.self.cells (invariant_of-self-2 c)

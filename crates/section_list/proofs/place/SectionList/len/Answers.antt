@@ -7,4 +7,4 @@ pub returns-clause-len : goal.returns-clause-len
 returns-clause-len c = c.len.ensures.len ∙ sym (seen_length c.self.inside.store.cells) ∙ ap (λ s. length s.cells) c.self.view_is
 
 pub returns-clause-in_order : goal.returns-clause-in_order
-returns-clause-in_order c = subst IsInOrder c.self.view_is (seen_in_order c.self.inside.tree c.self.inside.store.cells c.self.invariant)
+returns-clause-in_order c = subst IsInOrder c.self.view_is (seen_in_order c.self.inside.ages.nodes c.self.inside.store.cells c.self.invariant)
