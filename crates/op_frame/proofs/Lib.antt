@@ -24,3 +24,4 @@ pub mod FrameFrontLemmas
 pub mod DecodingLemmas
 pub mod HeadLemmas
 pub mod ReaderLemmas
+pub mod LetterLemmas

@@ -1,5 +1,5 @@
 -- What the first frame of some bytes is, and what a whole frame says.
-use Rattle.std.specs.Prelude.{◌≡◌, ◌↔◌, ℕ, ◌≤◌, List, ◌∷◌, length, take, drop}
+use Rattle.std.specs.Prelude.{◌≡◌, ◌↔◌, ℕ, ◌-◌, ◌≤◌, List, ◌∷◌, length, take, drop}
 use Rattle.fugue_ids.specs.declared.op.Op.{Op}
 use Rattle.origin_model.specs.declared.grammar.Grammar.{Grammar}
 use Rattle.origin_model.specs.declared.grammar.Grammar.TheVariants.{Version2}
@@ -30,6 +30,16 @@ abbrev pub FrontIs : Front → Grammar → List ℕ → Type 0
 FrontIs (FrameThere len) grammar bytes = (len ≤ length bytes) × IsFrameOf grammar (take len bytes)
 FrontIs PrefixThere grammar bytes = IsPartial grammar bytes
 FrontIs NoneThere grammar bytes = IsBad grammar bytes
+
+-- a letter's frame of so many bytes stands there: each grammar has it
+abbrev pub IsLetterFront : ℕ → List ℕ → Type 0
+IsLetterFront len bytes = (grammar : Grammar) → FrontIs (FrameThere len) grammar bytes
+
+-- a field stands between two places of the bytes
+pub record IsBetween (Field : List ℕ → Type 0) (bytes : List ℕ) (at end : ℕ) : Type 0 where
+  pub ordered : at ≤ end
+  pub within : end ≤ length bytes
+  pub is : Field (take (end - at) (drop at bytes))
 
 -- a field, with anything behind it
 abbrev pub StartsWith : (List ℕ → Type 0) → List ℕ → Type 0

@@ -2,6 +2,7 @@ ghost use Rattle.op_frame.specs.Firsts.{FrontIs};
 
 use crate::due::{Due, Judged};
 use crate::judge::{field_size, is_whole, judge};
+use crate::letter::letter_front;
 use origin_model::Grammar;
 
 /// What stands at the front of some bytes.
@@ -15,8 +16,18 @@ pub(crate) enum Front {
     Bad,
 }
 
-/// What stands at the front of the bytes, which are looked at field by field.
+/// What stands at the front of the bytes. Nearly every frame is a letter's: these are recognised at once.
 pub(crate) fn front_of(grammar: Grammar, bytes: &[u8]) -> Front
+    ensures { FrontIs result grammar bytes.now }
+{
+    match letter_front(bytes) {
+        Some(len) => Front::Frame(len),
+        None => front_by_fields(grammar, bytes),
+    }
+}
+
+/// What stands at the front of the bytes, which are looked at field by field.
+fn front_by_fields(grammar: Grammar, bytes: &[u8]) -> Front
     ensures { FrontIs result grammar bytes.now }
 {
     let mut due = Due::Kind(grammar);

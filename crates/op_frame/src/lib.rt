@@ -16,6 +16,7 @@ mod grown;
 mod head;
 mod judge;
 mod law;
+mod letter;
 mod note;
 mod number;
 mod protocol;

@@ -3,7 +3,7 @@ use Rattle.std.proofs.lemmas.List.{length-take-le, take-append-drop, take_all}
 use Rattle.origin_model.specs.frames.Frames.{IsBad, IsPartial}
 use Rattle.op_frame.specs.declared.grown.Grown.TheVariants.{Frame, Front}
 use Rattle.op_frame.proofs.FrameFrontLemmas.{awaits_all, awaits_next, is_front, is_grown, next_field, none_begins}
-use Rattle.op_frame.proofs.front.front_of.Goals as goal
+use Rattle.op_frame.proofs.front.front_by_fields.Goals as goal
 
 pub fields-init : goal.fields-init
 fields-init c = (omega arith, awaits_all c.args.grammar)
