@@ -4,11 +4,11 @@ use Rattle.fugue_ids.specs.Causes.{Rose}
 use Rattle.fugue_ids.specs.Outs.{OutView}
 use Rattle.bulk_world.specs.Summary.{bulk_text}
 use Rattle.manuscript_cli.specs.Bulk.{Bulks}
-use Rattle.manuscript_cli.specs.Findings.{IsDecided}
-use Rattle.manuscript_cli.specs.TextOut.{TextMeets, WritesOut}
-use Rattle.manuscript_cli.specs.Touched.{Change}
-use Rattle.manuscript_cli.specs.declared.status.Status.{Status}
-use Rattle.manuscript_cli.specs.declared.status.Status.TheVariants as status
+use Rattle.command_kinds.specs.Findings.{IsDecided}
+use Rattle.command_kinds.specs.TextOut.{TextMeets, WritesOut}
+use Rattle.command_kinds.specs.Changes.{Change}
+use Rattle.command_kinds.specs.declared.status.Status.{Status}
+use Rattle.command_kinds.specs.declared.status.Status.TheVariants as status
 
 decided : (bytes : List ℕ) (output notes : Change OutView) (end : Status) → TextMeets bytes output notes end → IsDecided status.Done (Rose output.old.faults output.new.faults) end
 decided bytes output notes status.Done came = inl refl

@@ -6,7 +6,7 @@ use Rattle.origin_model.specs.operations.Verdict.{Lawful}
 use Rattle.origin_model.specs.edits.State.{State as Replica}
 use Rattle.order_proof.specs.Readings.{IsValidText}
 use Rattle.manuscript_cli.specs.Check.{check_tells}
-use Rattle.manuscript_cli.specs.Findings.{Finding, Refuses, Does}
+use Rattle.command_kinds.specs.Findings.{Finding, Refuses, Does}
 
 -- one thing is told
 pub check_once : (text : List ℕ) (replica : Replica) → Lawful replica.held.history → (a b : Finding (List ℕ)) → check_tells text replica a → check_tells text replica b → a ≡ b

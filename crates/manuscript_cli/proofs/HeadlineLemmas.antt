@@ -8,16 +8,17 @@ use Rattle.origin_model.specs.order.Laws.{OrderBySet}
 use Rattle.origin_model.specs.order.Printed.{manuscript}
 use Rattle.origin_model.specs.taking.Taking.{HasPlace, held, nothing_held}
 use Rattle.op_frame.specs.Courses.{IntakeCourse, Whole, CutShort, BadFrame, TooLong, TooMany}
-use Rattle.manuscript_cli.proofs.LawfulLemmas.{held_lawful, manuscript_by_set, printed_by_set}
+use Rattle.command_kinds.proofs.LawfulLemmas.{held_lawful}
+use Rattle.manuscript_cli.proofs.BySetLemmas.{manuscript_by_set, printed_by_set}
 use Rattle.manuscript_cli.specs.Headline.{Headline, IsCalm, IsDecided, status_for}
 use Rattle.fugue_ids.specs.declared.limits.TheConstants.{MOST_OPERATIONS, STREAM_LIMIT}
-use Rattle.manuscript_cli.specs.Show.{ShowEndsAs, Showed, Finished, StreamRefused, ShowMeets}
-use Rattle.manuscript_cli.specs.Touched.{Streams, change}
-use Rattle.manuscript_cli.specs.declared.refusal.Refusal.{Refusal}
-use Rattle.manuscript_cli.specs.declared.refusal.Refusal.TheVariants as refusal
-use Rattle.manuscript_cli.specs.declared.status.Status.{Status}
-use Rattle.manuscript_cli.specs.declared.status.Status.TheVariants as status
-use Rattle.manuscript_cli.proofs.ShowLemmas.{same_input}
+use Rattle.command_kinds.specs.Show.{ShowEndsAs, Showed, Finished, StreamRefused, ShowMeets}
+use Rattle.command_kinds.specs.Changes.{Streams, change}
+use Rattle.command_kinds.specs.declared.refusal.Refusal.{Refusal}
+use Rattle.command_kinds.specs.declared.refusal.Refusal.TheVariants as refusal
+use Rattle.command_kinds.specs.declared.status.Status.{Status}
+use Rattle.command_kinds.specs.declared.status.Status.TheVariants as status
+use Rattle.command_kinds.proofs.ShowLemmas.{same_input}
 
 module _ (hold : ℕ) (old new : Streams) (bytes : List ℕ) (ops : List Op) (course : IntakeCourse) (is : old.input.left ≡ Some bytes) (comes : ShowEndsAs hold bytes ops course) where
   finished_so : (end : Status) → Finished hold old new end → Showed hold nothing_held ops old new end × (course ≡ Whole)

@@ -1,8 +1,7 @@
 -- The lines of `list`, by what was counted.
-use Rattle.std.proofs.Common.{List, [], Option, Some, None, add-one, ap, append_assoc, arith, drop, get_or, length, not, refl, subst, suc, sym, take, zero, ℕ, ◌+◌, ◌++◌, ◌<◌, ◌≤◌, ◌∙◌, ◌∷◌, ◌≡◌, ◌≢◌}
-use Rattle.std.specs.Prelude.{All, decimal, flat_map, map, nat_eq, if◌then◌else◌, slice_get, string_bytes}
+use Rattle.std.proofs.Common.{List, [], Some, None, add-one, ap, append_assoc, arith, drop, get_or, length, not, refl, suc, sym, take, zero, ℕ, ◌+◌, ◌++◌, ◌<◌, ◌≤◌, ◌∙◌, ◌∷◌, ◌≡◌, ◌≢◌}
+use Rattle.std.specs.Prelude.{All, decimal, flat_map, slice_get}
 use Rattle.std.specs.List.{AllPairs}
-use Rattle.std.specs.Str.{encode_utf8_all}
 use Rattle.std.proofs.lemmas.List.{length-map, length-take, take_more}
 use Rattle.std.proofs.lemmas.List.Elements.{All-head, All-tail}
 use Rattle.std.proofs.lemmas.List.Kept.{AllPairs-filter}

@@ -1,5 +1,5 @@
 -- What the call comes to that names a version.
-use Rattle.std.proofs.Common.{◌≡◌, ◌≢◌, ap, refl, ℕ, ◌+◌, ◌-◌, ◌^◌, List, [], ◌∷◌, Bool, true, false, ◌&&◌}
+use Rattle.std.proofs.Common.{◌≡◌, ap, refl, ℕ, ◌+◌, ◌-◌, ◌^◌, List, [], Bool, true, false, ◌&&◌}
 use Rattle.std.specs.Prelude.{Option, None, Some, Ok, Err, nat_lt, option_map, if◌then◌else◌}
 use Rattle.std.proofs.lemmas.List.Elements.{All-nil}
 use Rattle.fugue_ids.specs.declared.op.Op.{Op}
@@ -16,7 +16,7 @@ use Rattle.version_views.specs.declared.limits.TheConstants.{VERSION_CODE}
 use Rattle.version_views.specs.declared.naming.VersionFault.{VersionFault}
 use Rattle.version_views.specs.declared.naming.VersionFault.TheVariants as fault
 use Rattle.manuscript_cli.specs.NamedVersions.{note_refused, version_on, version_refused}
-use Rattle.manuscript_cli.specs.Notes.{NoteComes, unless_refused}
+use Rattle.command_kinds.specs.Notes.{NoteComes, unless_refused}
 
 -- a note is not refused for want of memory
 by_tests : (b c : Bool) (greatest held : ℕ) → (if b then Some (note_fault.IdsSpent greatest) else (if c then Some (note_fault.TooMany held) else None)) ≡ Some note_fault.NoMemory → ⊥

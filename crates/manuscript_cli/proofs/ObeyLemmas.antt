@@ -4,7 +4,7 @@ use Rattle.std.specs.Prelude.{Some}
 use Rattle.manuscript_cli.specs.Run.{Meets}
 use Rattle.manuscript_cli.specs.Touched.{Touched}
 use Rattle.manuscript_cli.specs.declared.command.Command.{Command}
-use Rattle.manuscript_cli.specs.declared.status.Status.{Status}
+use Rattle.command_kinds.specs.declared.status.Status.{Status}
 
 pub obeyed : (words : List (List ℕ)) (command named : Command) (old new now : Touched) (end status : Status) → command ≡ named → new ≡ now → end ≡ status
     → Meets words (Some named) old now status → Meets words (Some command) old new end

@@ -12,15 +12,15 @@ use Rattle.relay_sync.specs.Sending.{DockRisesFor}
 use Rattle.relay_sync.specs.Serving.{BlamesDock, Comes, GaveSteps, Lasts, NoneAfter, Serves, ServesPartly, ServingStops, Spends, StopsInTurn, Suffices, Turn, closed_in, count_over, ended_in, ends_behind, sent_to, steps_of}
 use Rattle.relay_sync.specs.declared.serving.ServeFault.{ServeFault}
 use Rattle.relay_sync.specs.declared.serving.ServeFault.TheVariants as serve_fault
-use Rattle.manuscript_cli.proofs.TextLemmas.{told_blameless}
-use Rattle.manuscript_cli.specs.Printing.{NoteMeets, NotesBlameless}
-use Rattle.manuscript_cli.specs.Refusal.{refusal_line, serve_refusal, status_of, Told}
+use Rattle.command_kinds.proofs.TextLemmas.{told_blameless}
+use Rattle.command_kinds.specs.Printing.{NoteMeets, NotesBlameless}
+use Rattle.command_kinds.specs.Refusal.{refusal_line, serve_refusal, status_of, Told}
 use Rattle.manuscript_cli.specs.Relay.{CallsAreSure, IsEnough, IsIdle, NeverBlamed, RelayMeets, Relays, RiseOutside, ServingMeets, listening, log_line, most_steps, ready_line}
-use Rattle.manuscript_cli.specs.Touched.{Change, HasRoom, StaysCalm, change, notes_room}
-use Rattle.manuscript_cli.specs.declared.refusal.Refusal.{Refusal}
-use Rattle.manuscript_cli.specs.declared.refusal.Refusal.TheVariants as refusal
-use Rattle.manuscript_cli.specs.declared.status.Status.{Status}
-use Rattle.manuscript_cli.specs.declared.status.Status.TheVariants as status
+use Rattle.command_kinds.specs.Changes.{Change, HasRoom, StaysCalm, change, notes_room}
+use Rattle.command_kinds.specs.declared.refusal.Refusal.{Refusal}
+use Rattle.command_kinds.specs.declared.refusal.Refusal.TheVariants as refusal
+use Rattle.command_kinds.specs.declared.status.Status.{Status}
+use Rattle.command_kinds.specs.declared.status.Status.TheVariants as status
 
 -- from one dock to another nothing was taken, sent or ended: what is done from the second on is done from the first on
 module _ (first second last : DockView) (idle : IsIdle first second) (later : first.faults ≤ second.faults) where

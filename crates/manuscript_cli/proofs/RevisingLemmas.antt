@@ -1,6 +1,6 @@
 -- What a draft gives to a replica, by how far it was read.
 use Rattle.std.proofs.Common.{◌≡◌, ◌≢◌, ◌↔◌, inl, inr, ℕ, suc, zero, List, [], ◌∷◌, ◌++◌, ◌+◌, ◌<◌, ◌≤◌, length, take, Option, Some, None, refl, sym, ap, subst, ◌∙◌, arith, drop, drop_at, length-append, min, nat_eq, nat_lt, true, false, Bool, ◌&&◌}
-use Rattle.std.specs.Prelude.{◌⊎◌, IfSome, Result, Ok, Err, if◌then◌else◌, cond, option_map}
+use Rattle.std.specs.Prelude.{IfSome, MatchResult, Result, Ok, Err, if◌then◌else◌, cond, option_map}
 use Rattle.std.specs.Option.{option_or}
 use Rattle.std.specs.List.{common_prefix_len, position_or_len}
 use Rattle.std.proofs.lemmas.Bool.{cases_eq, cases_lt, ne_eqb}
@@ -21,7 +21,7 @@ use Rattle.margin_notes.proofs.PlaceLemmas.{shown_bounded}
 use Rattle.catalogue_notes.specs.declared.moving.MoveFault.TheVariants as moving
 use Rattle.draft_plan.specs.Changes.{all_made}
 use Rattle.draft_plan.specs.Differences.{first_difference, unless_whole}
-use Rattle.draft_plan.specs.Drafts.{Part, form, has_heading, parts}
+use Rattle.draft_plan.specs.Drafts.{Part, has_heading, parts}
 use Rattle.draft_plan.specs.Plain.{arranged_part, arranged_parts, first_not_plain}
 use Rattle.draft_plan.specs.Revision.{IsRevision, StopsAtLimit}
 use Rattle.draft_plan.specs.declared.draft.DraftFault.{DraftFault}
@@ -30,22 +30,21 @@ use Rattle.draft_plan.specs.declared.fault.ReviseFault.{ReviseFault}
 use Rattle.draft_plan.specs.declared.fault.ReviseFault.TheVariants as fault
 use Rattle.replica_file.specs.Looks.{LooksOnly}
 use Rattle.manuscript_cli.specs.Check.{HasNoInputText, IsTextLonger, IsTextRead}
-use Rattle.manuscript_cli.specs.Counts.{made_line}
-use Rattle.manuscript_cli.specs.Crashes.{IsFinished}
-use Rattle.manuscript_cli.specs.Edit.{IsLeft, made_outcome}
-use Rattle.manuscript_cli.specs.Findings.{Finding, Refuses, Does}
-use Rattle.manuscript_cli.specs.Giving.{GivesTo}
-use Rattle.manuscript_cli.specs.Refusal.{parts_fault_refusal, revise_refusal}
-use Rattle.manuscript_cli.specs.Revising.{BaseStops, DraftGives, HasBytes, IsRevisedTo, LooksAtBase, MeetsLimit, RevisionGives, Revises, TextStops, base_refusal, draft_refusal, heading_refusal, parts_refusal, revision, text_refusal}
-use Rattle.manuscript_cli.specs.Saving.{Giver, GivesOnce, Outcome, ReadsInput}
-use Rattle.manuscript_cli.specs.Touched.{Change}
+use Rattle.command_kinds.specs.Counts.{made_line}
+use Rattle.command_kinds.specs.Crashes.{IsFinished}
+use Rattle.command_kinds.specs.Edit.{IsLeft, made_outcome}
+use Rattle.command_kinds.specs.Findings.{Finding, Refuses, Does}
+use Rattle.command_kinds.specs.Giving.{GivesTo}
+use Rattle.manuscript_cli.specs.Revising.{BaseStops, DraftGives, HasBytes, IsRevisedTo, LooksAtBase, MeetsLimit, RevisionGives, Revises, TextStops, base_refusal, draft_refusal, heading_refusal, parts_fault_refusal, parts_refusal, revise_refusal, revision, text_refusal}
+use Rattle.command_kinds.specs.Saving.{Giver, GivesOnce, Outcome, ReadsInput}
+use Rattle.command_kinds.specs.Changes.{Change}
 use Rattle.manuscript_cli.specs.declared.check.TheConstants.{LONGEST_TEXT}
-use Rattle.manuscript_cli.specs.declared.counts.Note.TheVariants as note
-use Rattle.manuscript_cli.specs.declared.refusal.Refusal.{Refusal}
-use Rattle.manuscript_cli.specs.declared.refusal.Refusal.TheVariants as refusal
-use Rattle.manuscript_cli.specs.declared.status.Status.{Status}
-use Rattle.manuscript_cli.specs.declared.status.Status.TheVariants as status
-use Rattle.manuscript_cli.proofs.EditLemmas.{read_more, read_whole}
+use Rattle.command_kinds.specs.declared.counts.Note.TheVariants as note
+use Rattle.command_kinds.specs.declared.refusal.Refusal.{Refusal}
+use Rattle.command_kinds.specs.declared.refusal.Refusal.TheVariants as refusal
+use Rattle.command_kinds.specs.declared.status.Status.{Status}
+use Rattle.command_kinds.specs.declared.status.Status.TheVariants as status
+use Rattle.command_kinds.proofs.EditLemmas.{read_more, read_whole}
 use Rattle.manuscript_cli.proofs.RevisionTakenLemmas.{changed_suffice}
 
 -- a giver's refusal is what it gave
@@ -256,10 +255,16 @@ pub input_left : (input : SourceView) (end : Status) → (IsFinished end → ⊥
 input_left input end may = record { read = λ done. absurd (may done); calm = λ sure. refl; blameless = λ tells inside. refl }
 
 -- why no draft was read, or why it did not come, is why the text stops
-pub parts_stop : {T : Type 0} (fault : DraftFault) (result : Result T DraftFault) (replica : Replica) (draft : List ℕ) → result ≡ Err fault
+parts_stop : {T : Type 0} (fault : DraftFault) (result : Result T DraftFault) (replica : Replica) (draft : List ℕ) → result ≡ Err fault
     → ((line : ℕ) → (result ≡ Err (draft_fault.BadDraft line)) ↔ (parts draft ≡ Err line)) → TextStops (parts_fault_refusal fault) replica draft
 parts_stop (draft_fault.BadDraft line) result replica draft is bad = (bad line).0 is
 parts_stop draft_fault.NoMemory result replica draft is bad = tt
+
+pub draft_stops : {T : Type 0} (result : Result T DraftFault) (why : Refusal) (replica : Replica) (draft : List ℕ)
+    → MatchResult result (λ (x : T). Err why ≡ Ok x) (λ fault. why ≡ parts_fault_refusal fault)
+    → ((line : ℕ) → (result ≡ Err (draft_fault.BadDraft line)) ↔ (parts draft ≡ Err line)) → TextStops why replica draft
+draft_stops (Ok x) why replica draft is bad = cc is
+draft_stops (Err fault) why replica draft is bad = subst (λ (w : Refusal). TextStops w replica draft) (sym is) (parts_stop fault (Err fault) replica draft refl bad)
 
 pub limit_stops : (fault : ReviseFault) (replica last : Replica) (draft : List ℕ) (ps : List Part) → parts draft ≡ Ok ps → StopsAtLimit replica last fault → TextStops (revise_refusal fault) replica draft
 limit_stops (fault.Edit edit.NoSection) replica last draft ps e stops = tt

@@ -1,14 +1,11 @@
 -- The operations of a revision, taken in where it began, come to where it ended.
-use Rattle.std.proofs.Common.{All, List, [], ap, arith, length, refl, subst, sym, ◌+◌, ◌++◌, ◌∙◌, ◌∷◌, ◌≡◌, ◌≤◌}
+use Rattle.std.proofs.Common.{All, List, [], ap, arith, length, subst, sym, ◌+◌, ◌∙◌, ◌∷◌, ◌≤◌}
 use Rattle.std.specs.Prelude.{None, Option, Some}
 use Rattle.std.specs.Str.{encode_utf8_all}
 use Rattle.std.proofs.lemmas.List.Elements.{All-append, All-cons, All-nil}
 use Rattle.fugue_ids.specs.Identifiers.{Identifier}
 use Rattle.fugue_ids.specs.declared.op.Op.{Op}
-use Rattle.origin_model.specs.declared.operations.Verdict.TheVariants.{Ready}
 use Rattle.origin_model.specs.edits.Edits.{ReadyInTurn, extended}
-use Rattle.origin_model.specs.edits.Effect.{with_ops}
-use Rattle.origin_model.specs.edits.Noting.{note_by}
 use Rattle.origin_model.specs.edits.State.{State as Replica, Stands}
 use Rattle.origin_model.specs.operations.Verdict.{Lawful}
 use Rattle.origin_model.specs.taking.Taking.{IsSettled}
@@ -24,8 +21,8 @@ use Rattle.catalogue_notes.specs.Moving.{move_by, retitle_by, section_placed}
 use Rattle.draft_plan.specs.Changes.{Change, Changed, Edit, Move, Retitle, all_made, behind, made_of}
 use Rattle.edit_script.proofs.TakenInLemmas.{all_find_place}
 use Rattle.edit_script.specs.Laws.{AreTakenIn}
-use Rattle.manuscript_cli.specs.Edit.{made_outcome}
-use Rattle.manuscript_cli.specs.Saving.{Suffices}
+use Rattle.command_kinds.specs.Edit.{made_outcome}
+use Rattle.command_kinds.specs.Saving.{Suffices}
 
 -- what came behind a lawful history was lawful on the way
 older_lawful : (ops h : List Op) → Lawful (extended h ops) → Lawful h

@@ -4,21 +4,23 @@ use Rattle.std.specs.Prelude.{None, Option, Some}
 use Rattle.fugue_ids.specs.Outs.{OutView}
 use Rattle.outer_ports.specs.Sources.{SourceView}
 use Rattle.outer_ports.specs.disk.Disks.{DiskView}
-use Rattle.manuscript_cli.specs.Edit.{script}
-use Rattle.manuscript_cli.specs.Printing.{NotesBlameless}
-use Rattle.manuscript_cli.specs.Report.{Telling}
+use Rattle.command_kinds.specs.Edit.{script}
+use Rattle.command_kinds.specs.Printing.{NotesBlameless}
+use Rattle.command_kinds.specs.Report.{Telling}
 use Rattle.manuscript_cli.specs.Run.{IsBlameless, Meets, RunsCheck, RunsReport, UsageMeets}
-use Rattle.manuscript_cli.specs.Refusal.{status_of}
-use Rattle.manuscript_cli.specs.Notes.{NoteOn}
+use Rattle.command_kinds.specs.Refusal.{status_of}
+use Rattle.command_kinds.specs.Notes.{NoteOn}
 use Rattle.manuscript_cli.specs.Savers.{RunsSaving, input_saver, note_saver}
-use Rattle.manuscript_cli.specs.Saving.{Giver}
-use Rattle.manuscript_cli.specs.Take.{stream}
-use Rattle.manuscript_cli.specs.Touched.{Change, DiskBlameless, DockBlameless, OutBlameless, SourceBlameless, Touched, WireBlameless, change}
+use Rattle.command_kinds.specs.Saving.{Giver}
+use Rattle.command_kinds.specs.Take.{stream}
+use Rattle.command_kinds.specs.Changes.{Change, DiskBlameless, OutBlameless, SourceBlameless, WireBlameless, change}
+use Rattle.manuscript_cli.specs.Relay.{DockBlameless}
+use Rattle.manuscript_cli.specs.Touched.{Touched}
 use Rattle.manuscript_cli.specs.declared.command.Command.{Command}
 use Rattle.manuscript_cli.specs.declared.command.Command.TheVariants.{Show, New, Edit, Print, Take, Send, Merge, Relay, Sync, Bulk, Why, Check, Move, Retitle, Arrange, Revise, List as ListCommand, Comment, Comments, Version, Versions, View}
-use Rattle.manuscript_cli.specs.declared.refusal.Refusal.TheVariants.{Words}
-use Rattle.manuscript_cli.specs.declared.status.Status.{Status}
-use Rattle.manuscript_cli.proofs.TextLemmas.{told_blameless}
+use Rattle.command_kinds.specs.declared.refusal.Refusal.TheVariants.{Words}
+use Rattle.command_kinds.specs.declared.status.Status.{Status}
+use Rattle.command_kinds.proofs.TextLemmas.{told_blameless}
 
 -- the count of an object that is not used stays
 quiet : {P Q : Type 0} {count : ℕ} → P → Q → count ≡ count

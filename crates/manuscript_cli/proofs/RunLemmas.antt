@@ -11,20 +11,20 @@ use Rattle.origin_model.specs.order.Printed.{manuscript}
 use Rattle.outer_ports.specs.disk.Disks.{DiskView}
 use Rattle.origin_model.specs.edits.State.{State as Replica}
 use Rattle.replica_file.specs.declared.load_file.End.{End}
-use Rattle.manuscript_cli.proofs.FoundLemmas.{holds_once, loaded_lawful}
-use Rattle.manuscript_cli.proofs.LawfulLemmas.{IsFixedBySet, arranged_text_by_set, manuscript_by_set, printed_by_set}
-use Rattle.manuscript_cli.specs.Files.{FileHolds}
-use Rattle.manuscript_cli.specs.Findings.{Does}
-use Rattle.manuscript_cli.specs.Printing.{PrintedBySet}
+use Rattle.command_kinds.proofs.FoundLemmas.{holds_once, loaded_lawful}
+use Rattle.manuscript_cli.proofs.BySetLemmas.{IsFixedBySet, arranged_text_by_set, manuscript_by_set, printed_by_set}
+use Rattle.command_kinds.specs.Files.{FileHolds}
+use Rattle.command_kinds.specs.Findings.{Does}
 use Rattle.manuscript_cli.specs.Command.{Names}
-use Rattle.manuscript_cli.specs.Headline.{PrintsBySet}
-use Rattle.manuscript_cli.specs.Report.{ReportMeets, Telling}
+use Rattle.manuscript_cli.specs.Headline.{PrintedBySet, PrintsBySet}
+use Rattle.command_kinds.specs.Report.{ReportMeets, Telling}
 use Rattle.manuscript_cli.specs.Run.{Meets, RunsReport}
-use Rattle.manuscript_cli.specs.Touched.{Change, IsTold, Touched, change}
+use Rattle.command_kinds.specs.Changes.{Change, IsTold, change}
+use Rattle.manuscript_cli.specs.Touched.{Touched}
 use Rattle.manuscript_cli.specs.declared.command.Command.{Command}
 use Rattle.manuscript_cli.specs.declared.command.Command.TheVariants.{Arrange, Print, Show}
-use Rattle.manuscript_cli.specs.declared.status.Status.{Status}
-use Rattle.manuscript_cli.specs.declared.status.Status.TheVariants as status
+use Rattle.command_kinds.specs.declared.status.Status.{Status}
+use Rattle.command_kinds.specs.declared.status.Status.TheVariants as status
 
 -- words ask for no hold that is out of its range
 pub hold_in_range : (words : List (List ℕ)) (hold : ℕ) → Names words (Show hold) → (1 ≤ hold) × (hold ≤ GREATEST_HOLD)

@@ -11,14 +11,14 @@ use Rattle.outer_ports.specs.disk.Moments.{History, LeavesOnly, LeftSince, momen
 use Rattle.outer_ports.specs.disk.States.{State, IsHonest, IsCrashImage}
 use Rattle.outer_ports.proofs.SharedLemmas.{last_leaves, leaves_joins, leaves_none, leaves_weaker}
 use Rattle.replica_file.proofs.AppendLemmas.{same_content}
-use Rattle.manuscript_cli.proofs.CrashLemmas.{has_one, safe_at_rest}
-use Rattle.manuscript_cli.specs.Crashes.{IsFinished, IsSafe, NeverTorn, StaysSafe}
-use Rattle.manuscript_cli.specs.Files.{HasOps, HasOpsOr, Header}
+use Rattle.command_kinds.proofs.CrashLemmas.{has_one, safe_at_rest}
+use Rattle.command_kinds.specs.Crashes.{IsFinished, IsSafe, NeverTorn, StaysSafe}
+use Rattle.command_kinds.specs.Files.{HasOps, HasOpsOr, Header}
 use Rattle.manuscript_cli.specs.Run.{Checking, Choosing, Family, Inventing, Making, MeetsAs, NoCommand, Reporting, Saving, Serving, Showing, family}
 use Rattle.manuscript_cli.specs.Runs.{AllBrought, Brought, CommandRun, DidAll, EachFinishedIsIn, FollowEachOther, GaveAs, GaveBy, IsMeanwhile, LeadsFrom, StandsBehind}
 use Rattle.manuscript_cli.specs.Touched.{Touched}
-use Rattle.manuscript_cli.specs.declared.status.Status.{Status}
-use Rattle.manuscript_cli.specs.declared.status.Status.TheVariants as status
+use Rattle.command_kinds.specs.declared.status.Status.{Status}
+use Rattle.command_kinds.specs.declared.status.Status.TheVariants as status
 
 -- what was left since a moment was left then, or by a state that came since
 left_since : (old new : History) (P : List ℕ → Type 0) → LeavesOnly old new P → ((image : List ℕ) → IsCrashImage old.last image → P image) → (image : List ℕ) → LeftSince new (moment old) image → P image

@@ -12,7 +12,7 @@ use Rattle.order_proof.specs.Certificates.{StandsBefore}
 use Rattle.order_proof.specs.Texts.{proof_text}
 use Rattle.order_proof.proofs.OnceLemmas.{has_one_certificate}
 use Rattle.order_proof.proofs.ShownLemmas.{shown_before}
-use Rattle.manuscript_cli.specs.Findings.{Finding, Refuses, Does}
+use Rattle.command_kinds.specs.Findings.{Finding, Refuses, Does}
 use Rattle.manuscript_cli.specs.Why.{HasPlaces, IsWhy, why_tells}
 
 module _ (h : List Op) (p q : ℕ) (x y : Identifier) where

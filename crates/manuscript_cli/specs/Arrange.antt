@@ -10,11 +10,11 @@ use Rattle.catalogue_notes.specs.Moving.{move_by, move_refusal, retitle_refusal,
 use Rattle.catalogue_notes.specs.declared.limits.TheConstants.{RETITLE_CODE}
 use Rattle.catalogue_notes.specs.declared.moving.MoveFault.{MoveFault}
 use Rattle.catalogue_notes.specs.declared.moving.MoveFault.TheVariants as fault
-use Rattle.manuscript_cli.specs.Findings.{Finding, Refuses, Does}
-use Rattle.manuscript_cli.specs.Notes.{NoteOn}
-use Rattle.manuscript_cli.specs.Report.{Telling}
-use Rattle.manuscript_cli.specs.declared.refusal.Refusal.{Refusal}
-use Rattle.manuscript_cli.specs.declared.refusal.Refusal.TheVariants as refusal
+use Rattle.command_kinds.specs.Findings.{Finding, Refuses, Does}
+use Rattle.command_kinds.specs.Notes.{NoteOn}
+use Rattle.command_kinds.specs.Report.{Telling}
+use Rattle.command_kinds.specs.declared.refusal.Refusal.{Refusal}
+use Rattle.command_kinds.specs.declared.refusal.Refusal.TheVariants as refusal
 
 -- a fault as a refusal, by the numbers of the words
 abbrev pub move_refused : (k j : ℕ) → MoveFault → Refusal

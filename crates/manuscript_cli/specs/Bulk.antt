@@ -3,11 +3,11 @@ use Rattle.std.specs.Prelude.{◌≢◌, ℕ, length}
 use Rattle.fugue_ids.specs.Causes.{Rose}
 use Rattle.fugue_ids.specs.Outs.{OutView}
 use Rattle.bulk_world.specs.Summary.{bulk_text}
-use Rattle.manuscript_cli.specs.TextOut.{WritesOut}
-use Rattle.manuscript_cli.specs.Findings.{IsDecided}
-use Rattle.manuscript_cli.specs.Touched.{Change, HasRoom}
-use Rattle.manuscript_cli.specs.declared.status.Status.{Status}
-use Rattle.manuscript_cli.specs.declared.status.Status.TheVariants as status
+use Rattle.command_kinds.specs.TextOut.{WritesOut}
+use Rattle.command_kinds.specs.Findings.{IsDecided}
+use Rattle.command_kinds.specs.Changes.{Change, HasRoom}
+use Rattle.command_kinds.specs.declared.status.Status.{Status}
+use Rattle.command_kinds.specs.declared.status.Status.TheVariants as status
 
 pub record Bulks (seed count : ℕ) (output notes : Change OutView) (end : Status) : Type 0 where
   pub writes : WritesOut (bulk_text seed count) output notes end

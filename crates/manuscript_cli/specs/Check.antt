@@ -5,14 +5,14 @@ use Rattle.fugue_ids.specs.Outs.{OutView}
 use Rattle.outer_ports.specs.Sources.{KeepsCount, SourceView}
 use Rattle.outer_ports.specs.disk.Disks.{DiskView}
 use Rattle.order_proof.specs.Readings.{IsValidText}
-use Rattle.manuscript_cli.specs.Findings.{Refuses, Does}
-use Rattle.manuscript_cli.specs.Refusal.{Told, refusal_line, status_of}
-use Rattle.manuscript_cli.specs.Report.{Reports, Telling}
-use Rattle.manuscript_cli.specs.Touched.{Change}
+use Rattle.command_kinds.specs.Findings.{Refuses, Does}
+use Rattle.command_kinds.specs.Refusal.{Told, refusal_line, status_of}
+use Rattle.command_kinds.specs.Report.{Reports, Telling}
+use Rattle.command_kinds.specs.Changes.{Change}
 use Rattle.manuscript_cli.specs.declared.check.TheConstants.{LONGEST_TEXT}
-use Rattle.manuscript_cli.specs.declared.refusal.Refusal.{Refusal}
-use Rattle.manuscript_cli.specs.declared.refusal.Refusal.TheVariants as refusal
-use Rattle.manuscript_cli.specs.declared.status.Status.{Status}
+use Rattle.command_kinds.specs.declared.refusal.Refusal.{Refusal}
+use Rattle.command_kinds.specs.declared.refusal.Refusal.TheVariants as refusal
+use Rattle.command_kinds.specs.declared.status.Status.{Status}
 
 -- what `check` tells of a text: `yes` exactly where it is that of a valid certificate, else `no`
 abbrev pub check_tells : (text : List ℕ) → Telling

@@ -1,10 +1,12 @@
 -- What `show` promises of a stream whose bytes are told, and `print` and `arrange` of a file that is.
 use Rattle.std.specs.Prelude.{◌≡◌, ◌≢◌, ◌⊎◌, ℕ, ◌≤◌, List, length, Some}
 use Rattle.fugue_ids.specs.Causes.{Rose}
-use Rattle.fugue_ids.specs.Outs.{OutView}
+use Rattle.fugue_ids.specs.Outs.{OutView, Took}
 use Rattle.fugue_ids.specs.declared.op.Op.{Op}
 use Rattle.origin_model.specs.declared.grammar.Grammar.TheVariants.{Version2}
 use Rattle.origin_model.specs.frames.Frames.{Reads, Whole as EndsWhole}
+use Rattle.origin_model.specs.operations.Verdict.{Lawful}
+use Rattle.origin_model.specs.order.Laws.{SameOps}
 use Rattle.origin_model.specs.order.Printed.{manuscript}
 use Rattle.origin_model.specs.taking.Taking.{HasPlace, held, nothing_held}
 use Rattle.op_frame.specs.Courses.{IntakeCourse, Whole, CutShort, BadFrame, TooLong, TooMany}
@@ -12,18 +14,22 @@ use Rattle.fugue_ids.specs.declared.limits.TheConstants.{MOST_OPERATIONS, STREAM
 use Rattle.outer_ports.specs.disk.Disks.{DiskView}
 use Rattle.origin_model.specs.edits.State.{State as Replica}
 use Rattle.replica_file.specs.declared.load_file.End.{End}
-use Rattle.manuscript_cli.specs.Files.{FileHolds}
-use Rattle.manuscript_cli.specs.Printing.{PrintedBySet}
-use Rattle.manuscript_cli.specs.Show.{ShowEndsAs, Showed, status_after}
-use Rattle.manuscript_cli.specs.Touched.{Change, IsTold, Streams, change}
-use Rattle.manuscript_cli.specs.declared.status.Status.{Status}
-use Rattle.manuscript_cli.specs.declared.status.Status.TheVariants as status
+use Rattle.command_kinds.specs.Files.{FileHolds}
+use Rattle.command_kinds.specs.Show.{ShowEndsAs, Showed, status_after}
+use Rattle.command_kinds.specs.Changes.{Change, IsTold, Streams, change}
+use Rattle.command_kinds.specs.declared.status.Status.{Status}
+use Rattle.command_kinds.specs.declared.status.Status.TheVariants as status
 
 -- no count of faults rose
 pub record IsCalm (old new : Streams) : Type 0 where
   pub input : Rose old.input.faults new.input.faults → ⊥
   pub output : Rose old.output.faults new.output.faults → ⊥
   pub notes : Rose old.notes.faults new.notes.faults → ⊥
+
+-- The accepted operations are lawful, and what was printed is the text, the manuscript say, of every lawful list that has the same operations.
+pub record PrintedBySet (text : List Op → List ℕ) (history : List Op) (output : Change OutView) : Type 0 where
+  pub lawful : Lawful history
+  pub printed : (other : List Op) → Lawful other → SameOps history other → Took output.old output.new (text other)
 
 -- all was shown, and the set of the accepted operations alone fixes what was printed
 pub record ShowedBySet (hold : ℕ) (ops : List Op) (old new : Streams) (end : Status) : Type 0 where

@@ -10,8 +10,8 @@ use Rattle.origin_model.specs.order.Printed.{shown, text}
 use Rattle.cluster_text.specs.Clusters.{clusters}
 use Rattle.catalogue_notes.specs.Arranged.{arranged, heading}
 use Rattle.catalogue_notes.specs.declared.entry.Entry.{Entry}
-use Rattle.manuscript_cli.specs.Findings.{Does}
-use Rattle.manuscript_cli.specs.Report.{Telling}
+use Rattle.command_kinds.specs.Findings.{Does}
+use Rattle.command_kinds.specs.Report.{Telling}
 use Rattle.manuscript_cli.specs.declared.list.Counted.{Counted}
 
 -- the replica's number, how many operations may wait, how many were accepted, and how many wait

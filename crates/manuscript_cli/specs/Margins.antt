@@ -1,5 +1,5 @@
 -- `comment` and `comments`. Sections count from 1 in words, and clusters from 0.
-use Rattle.std.specs.Prelude.{◌≡◌, ℕ, ◌+◌, ◌-◌, Option, Some, None, List, [], ◌++◌, option_and_then, option_map, option_to_list, slice_get}
+use Rattle.std.specs.Prelude.{◌≡◌, ℕ, ◌+◌, ◌-◌, Some, None, List, [], ◌++◌, option_map, option_to_list, slice_get}
 use Rattle.fugue_ids.specs.Identifiers.{Identifier}
 use Rattle.origin_model.specs.declared.operations.Place.TheVariants.{Section as within}
 use Rattle.origin_model.specs.edits.Noting.{note_by}
@@ -11,11 +11,11 @@ use Rattle.margin_notes.specs.Margins.{margins}
 use Rattle.margin_notes.specs.declared.commenting.CommentFault.{CommentFault}
 use Rattle.margin_notes.specs.declared.commenting.CommentFault.TheVariants as fault
 use Rattle.margin_notes.specs.declared.limits.TheConstants.{COMMENT_CODE}
-use Rattle.manuscript_cli.specs.Findings.{Does}
-use Rattle.manuscript_cli.specs.Notes.{NoteOn, unless_refused}
-use Rattle.manuscript_cli.specs.Report.{Telling}
-use Rattle.manuscript_cli.specs.declared.refusal.Refusal.{Refusal}
-use Rattle.manuscript_cli.specs.declared.refusal.Refusal.TheVariants as refusal
+use Rattle.command_kinds.specs.Findings.{Does}
+use Rattle.command_kinds.specs.Notes.{NoteOn, unless_refused}
+use Rattle.command_kinds.specs.Report.{Telling}
+use Rattle.command_kinds.specs.declared.refusal.Refusal.{Refusal}
+use Rattle.command_kinds.specs.declared.refusal.Refusal.TheVariants as refusal
 
 -- a fault as a refusal, by the number of the section in the words
 abbrev pub comment_refused : ℕ → CommentFault → Refusal

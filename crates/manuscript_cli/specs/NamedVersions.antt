@@ -9,12 +9,12 @@ use Rattle.version_views.specs.Views.{versions_text, view}
 use Rattle.version_views.specs.declared.limits.TheConstants.{VERSION_CODE}
 use Rattle.version_views.specs.declared.naming.VersionFault.{VersionFault}
 use Rattle.version_views.specs.declared.naming.VersionFault.TheVariants as version_fault
-use Rattle.manuscript_cli.specs.Findings.{Finding, Refuses, Does}
-use Rattle.manuscript_cli.specs.Notes.{NoteOn, unless_refused}
-use Rattle.manuscript_cli.specs.Refusal.{kept_name}
-use Rattle.manuscript_cli.specs.Report.{Telling}
-use Rattle.manuscript_cli.specs.declared.refusal.Refusal.{Refusal}
-use Rattle.manuscript_cli.specs.declared.refusal.Refusal.TheVariants as refusal
+use Rattle.command_kinds.specs.Findings.{Finding, Refuses, Does}
+use Rattle.command_kinds.specs.Notes.{NoteOn, unless_refused}
+use Rattle.command_kinds.specs.Refusal.{kept_name}
+use Rattle.command_kinds.specs.Report.{Telling}
+use Rattle.command_kinds.specs.declared.refusal.Refusal.{Refusal}
+use Rattle.command_kinds.specs.declared.refusal.Refusal.TheVariants as refusal
 
 -- the fault of a note as a refusal: one is of no section and of no place
 abbrev pub note_refused : EditFault → Refusal

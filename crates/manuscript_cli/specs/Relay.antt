@@ -8,13 +8,13 @@ use Rattle.relay_core.specs.declared.relay.TheConstants.{MOST_LOGGED}
 use Rattle.relay_sync.specs.Serving.{NoneAfter, Serves, ServingStops, Suffices, Turn, count_over}
 use Rattle.relay_sync.specs.declared.serving.ServeFault.{ServeFault}
 use Rattle.relay_sync.specs.declared.serving.ServeFault.TheVariants as serve_fault
-use Rattle.manuscript_cli.specs.Printing.{NotesBlameless}
-use Rattle.manuscript_cli.specs.Refusal.{refusal_line, Told, TookFronts}
-use Rattle.manuscript_cli.specs.Touched.{Change, DockBlameless, HasRoom, OutBlameless, StaysCalm, notes_room}
-use Rattle.manuscript_cli.specs.declared.refusal.Refusal.{Refusal}
-use Rattle.manuscript_cli.specs.declared.refusal.Refusal.TheVariants as refusal
-use Rattle.manuscript_cli.specs.declared.status.Status.{Status}
-use Rattle.manuscript_cli.specs.declared.status.Status.TheVariants as status
+use Rattle.command_kinds.specs.Printing.{NotesBlameless}
+use Rattle.command_kinds.specs.Refusal.{refusal_line, Told, TookFronts}
+use Rattle.command_kinds.specs.Changes.{Change, HasRoom, OutBlameless, StaysCalm, notes_room}
+use Rattle.command_kinds.specs.declared.refusal.Refusal.{Refusal}
+use Rattle.command_kinds.specs.declared.refusal.Refusal.TheVariants as refusal
+use Rattle.command_kinds.specs.declared.status.Status.{Status}
+use Rattle.command_kinds.specs.declared.status.Status.TheVariants as status
 
 -- what goes out once the port is listened on
 abbrev pub ready_line : List ℕ
@@ -146,6 +146,10 @@ RelayMeets port sessions output notes dock status.OutsideFault =
 RelayMeets port sessions output notes dock status.Limit = Stopped port sessions output notes dock refusal.TooLong
 RelayMeets port sessions output notes dock status.NoMemory = Stopped port sessions output notes dock refusal.NoMemory
 RelayMeets port sessions output notes dock _ = ⊥
+
+-- where the dock tells, its count of faults rises with an outside fault alone
+abbrev pub DockBlameless : Change DockView → Status → Type 0
+DockBlameless dock end = DockTells dock.old → end ≢ status.OutsideFault → dock.new.faults ≡ dock.old.faults
 
 -- the command `relay`
 pub record Relays (port sessions : ℕ) (output notes : Change OutView) (dock : Change DockView) (end : Status) : Type 0 where

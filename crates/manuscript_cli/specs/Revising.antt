@@ -3,26 +3,30 @@ use Rattle.std.specs.Prelude.{◌≡◌, ◌≢◌, ◌⊎◌, ℕ, ◌+◌, tru
 use Rattle.std.specs.Option.{option_or}
 use Rattle.fugue_ids.specs.Causes.{Rose}
 use Rattle.fugue_ids.specs.declared.op.Op.{Op}
+use Rattle.origin_model.specs.declared.edit_fault.EditFault.TheVariants as edit_fault
 use Rattle.origin_model.specs.edits.State.{State as Replica, Stands}
 use Rattle.origin_model.specs.operations.History.{accepted}
 use Rattle.origin_model.specs.taking.Taking.{IsSettled}
 use Rattle.outer_ports.specs.Sources.{SourceView}
 use Rattle.outer_ports.specs.disk.Disks.{DiskView, RoomView}
 use Rattle.catalogue_notes.specs.Arranged.{arranged_text}
+use Rattle.catalogue_notes.specs.declared.moving.MoveFault.TheVariants as move_fault
 use Rattle.draft_plan.specs.Differences.{first_difference}
 use Rattle.draft_plan.specs.Drafts.{Part, form, parts}
 use Rattle.draft_plan.specs.Plain.{arranged_parts, first_not_plain}
 use Rattle.draft_plan.specs.Revision.{IsRevision, MakesNothing, StopsAtLimit}
+use Rattle.draft_plan.specs.declared.draft.DraftFault.{DraftFault}
+use Rattle.draft_plan.specs.declared.draft.DraftFault.TheVariants as draft_fault
 use Rattle.draft_plan.specs.declared.fault.ReviseFault.{ReviseFault}
-use Rattle.manuscript_cli.specs.Edit.{IsLeft, made_outcome}
-use Rattle.manuscript_cli.specs.Findings.{Finding, Refuses, Does}
-use Rattle.manuscript_cli.specs.Refusal.{revise_refusal}
-use Rattle.manuscript_cli.specs.Saving.{Giver, Outcome}
-use Rattle.manuscript_cli.specs.Touched.{Change, DiskBlameless, IsTold}
+use Rattle.draft_plan.specs.declared.fault.ReviseFault.TheVariants as revise_fault
+use Rattle.command_kinds.specs.Edit.{IsLeft, made_outcome}
+use Rattle.command_kinds.specs.Findings.{Finding, Refuses, Does}
+use Rattle.command_kinds.specs.Saving.{Giver, Outcome}
+use Rattle.command_kinds.specs.Changes.{Change, DiskBlameless, IsTold}
 use Rattle.manuscript_cli.specs.declared.check.TheConstants.{LONGEST_TEXT}
-use Rattle.manuscript_cli.specs.declared.refusal.Refusal.{Refusal}
-use Rattle.manuscript_cli.specs.declared.refusal.Refusal.TheVariants as refusal
-use Rattle.manuscript_cli.specs.declared.status.Status.{Status}
+use Rattle.command_kinds.specs.declared.refusal.Refusal.{Refusal}
+use Rattle.command_kinds.specs.declared.refusal.Refusal.TheVariants as refusal
+use Rattle.command_kinds.specs.declared.status.Status.{Status}
 
 -- a place where the base differs from what is shown, and a section whose text would have a heading, as refusals; sections count from 1
 abbrev pub heading_refusal : ℕ → Refusal
@@ -43,6 +47,20 @@ text_refusal draft = if nat_lt LONGEST_TEXT (length draft) then Some refusal.Too
 -- why a draft is not taken, by the first cause that there is
 abbrev pub draft_refusal : List Op → (base draft : List ℕ) → Option Refusal
 draft_refusal h base draft = option_or (base_refusal h base) (text_refusal draft)
+
+-- why a draft was not read, or not come to, as a refusal
+abbrev pub parts_fault_refusal : DraftFault → Refusal
+parts_fault_refusal (draft_fault.BadDraft line) = refusal.BadDraft line
+parts_fault_refusal draft_fault.NoMemory = refusal.NoMemory
+
+abbrev pub revise_refusal : ReviseFault → Refusal
+revise_refusal (revise_fault.Edit (edit_fault.IdsSpent counter)) = refusal.IdsSpent counter
+revise_refusal (revise_fault.Edit (edit_fault.TooMany held)) = refusal.TooMany held
+revise_refusal (revise_fault.Edit _) = refusal.NoMemory
+revise_refusal (revise_fault.Move move_fault.StampsSpent) = refusal.StampsSpent
+revise_refusal (revise_fault.Move (move_fault.IdsSpent counter)) = refusal.IdsSpent counter
+revise_refusal (revise_fault.Move (move_fault.TooMany held)) = refusal.TooMany held
+revise_refusal (revise_fault.Move _) = refusal.NoMemory
 
 -- the replica came to show these parts, by operations that were made; where it showed them before none was
 pub record IsRevisedTo (replica last : Replica) (ps : List Part) (n : ℕ) : Type 0 where

@@ -1,28 +1,29 @@
 -- What `run` does for each command, and without one.
 use Rattle.std.specs.Prelude.{◌≡◌, ◌-◌, ℕ, List, Option, Some, None}
 use Rattle.manuscript_cli.specs.Arrange.{arrange_tells, move_on, retitle_on}
-use Rattle.manuscript_cli.specs.Findings.{Finding}
+use Rattle.command_kinds.specs.Findings.{Finding}
 use Rattle.manuscript_cli.specs.Listing.{list_tells}
 use Rattle.manuscript_cli.specs.Margins.{comment_on, comments_tells}
 use Rattle.manuscript_cli.specs.NamedVersions.{version_on, versions_tells, view_tells}
 use Rattle.manuscript_cli.specs.Bulk.{Bulks}
 use Rattle.manuscript_cli.specs.Check.{ChecksText}
 use Rattle.manuscript_cli.specs.Command.{last_word}
-use Rattle.manuscript_cli.specs.New.{Creates}
-use Rattle.manuscript_cli.specs.Printing.{NotesBlameless}
-use Rattle.manuscript_cli.specs.Refusal.{refusal_line, Told}
-use Rattle.manuscript_cli.specs.Relay.{Relays}
-use Rattle.manuscript_cli.specs.Report.{Reports, Telling, print_tells, send_tells}
+use Rattle.command_kinds.specs.New.{Creates}
+use Rattle.command_kinds.specs.Printing.{NotesBlameless}
+use Rattle.command_kinds.specs.Refusal.{refusal_line, Told}
+use Rattle.manuscript_cli.specs.Relay.{DockBlameless, Relays}
+use Rattle.command_kinds.specs.Report.{Reports, Telling, print_tells, send_tells}
 use Rattle.manuscript_cli.specs.Savers.{RunsSaving, Saver, edit_saver, merge_saver, note_saver, revise_saver, sync_saver, take_saver}
-use Rattle.manuscript_cli.specs.Saving.{Outcome}
-use Rattle.manuscript_cli.specs.Show.{Shows}
-use Rattle.manuscript_cli.specs.Touched.{DiskBlameless, DockBlameless, OutBlameless, SourceBlameless, Touched, WireBlameless, change}
+use Rattle.command_kinds.specs.Saving.{Outcome}
+use Rattle.command_kinds.specs.Show.{Shows}
+use Rattle.command_kinds.specs.Changes.{DiskBlameless, OutBlameless, SourceBlameless, WireBlameless, change}
+use Rattle.manuscript_cli.specs.Touched.{Touched}
 use Rattle.manuscript_cli.specs.Why.{why_tells}
 use Rattle.manuscript_cli.specs.declared.command.Command.{Command}
 use Rattle.manuscript_cli.specs.declared.command.Command.TheVariants.{Show, New, Edit, Print, Take, Send, Merge, Relay, Sync, Bulk, Why, Check, Move, Retitle, Arrange, Revise, List as ListCommand, Comment, Comments, Version, Versions, View}
-use Rattle.manuscript_cli.specs.declared.refusal.Refusal.TheVariants.{Words}
-use Rattle.manuscript_cli.specs.declared.status.Status.{Status}
-use Rattle.manuscript_cli.specs.declared.status.Status.TheVariants.{Usage}
+use Rattle.command_kinds.specs.declared.refusal.Refusal.TheVariants.{Words}
+use Rattle.command_kinds.specs.declared.status.Status.{Status}
+use Rattle.command_kinds.specs.declared.status.Status.TheVariants.{Usage}
 
 -- the words are no command: they alone decide it, and only the notes are used
 pub record UsageMeets (old new : Touched) (end : Status) : Type 0 where

@@ -3,17 +3,17 @@ use Rattle.std.specs.Prelude.{◌≡◌, ◌⊎◌, ℕ, List, [], ◌∷◌, �
 use Rattle.fugue_ids.specs.declared.op.Op.{Op}
 use Rattle.outer_ports.specs.disk.Moments.{History, LeftSince, moment}
 use Rattle.outer_ports.specs.disk.States.{State, IsHonest, IsCrashImage, at_rest}
-use Rattle.manuscript_cli.specs.Crashes.{IsFinished}
-use Rattle.manuscript_cli.specs.Files.{HasOps}
-use Rattle.manuscript_cli.specs.Findings.{Finding}
+use Rattle.command_kinds.specs.Crashes.{IsFinished}
+use Rattle.command_kinds.specs.Files.{HasOps}
+use Rattle.command_kinds.specs.Findings.{Finding}
 use Rattle.manuscript_cli.specs.Run.{Choosing, Family, Meets, Saving, family}
 use Rattle.manuscript_cli.specs.Savers.{RunsSaving}
-use Rattle.manuscript_cli.specs.Saving.{Gave, Outcome}
+use Rattle.command_kinds.specs.Saving.{Gave, Outcome}
 use Rattle.manuscript_cli.specs.Touched.{Touched}
 use Rattle.manuscript_cli.specs.declared.command.Command.{Command}
 use Rattle.manuscript_cli.specs.declared.command.Command.TheVariants.{New}
-use Rattle.manuscript_cli.specs.declared.status.Status.{Status}
-use Rattle.manuscript_cli.specs.declared.status.Status.TheVariants.{Done}
+use Rattle.command_kinds.specs.declared.status.Status.{Status}
+use Rattle.command_kinds.specs.declared.status.Status.TheVariants.{Done}
 
 -- what a command gave to be saved in its home file: but for one that saves, nothing
 abbrev pub GaveAs : Family → Touched → Touched → Status → List Op → Type 0

@@ -1,16 +1,17 @@
 -- The commands that save, each with what gives, and how it leaves that.
 use Rattle.std.specs.Prelude.{◌≡◌, ℕ}
 use Rattle.outer_ports.specs.Sources.{SourceView}
-use Rattle.manuscript_cli.specs.Edit.{script}
-use Rattle.manuscript_cli.specs.Files.{LeavesFile}
-use Rattle.manuscript_cli.specs.Findings.{Finding}
-use Rattle.manuscript_cli.specs.Notes.{NoteOn, note_giver}
+use Rattle.command_kinds.specs.Edit.{script}
+use Rattle.command_kinds.specs.Files.{LeavesFile}
+use Rattle.command_kinds.specs.Findings.{Finding}
+use Rattle.command_kinds.specs.Notes.{NoteOn, note_giver}
 use Rattle.manuscript_cli.specs.Revising.{LooksAtBase, revision}
-use Rattle.manuscript_cli.specs.Saving.{Giver, Outcome, ReadsInput, SavesGiven, SavingBlameless}
-use Rattle.manuscript_cli.specs.Sync.{LeavesWire, reply}
-use Rattle.manuscript_cli.specs.Take.{other_file, stream}
-use Rattle.manuscript_cli.specs.Touched.{Change, Touched, change}
-use Rattle.manuscript_cli.specs.declared.status.Status.{Status}
+use Rattle.command_kinds.specs.Saving.{Giver, Outcome, ReadsInput, SavesGiven, SavingBlameless}
+use Rattle.command_kinds.specs.Sync.{LeavesWire, reply}
+use Rattle.command_kinds.specs.Take.{other_file, stream}
+use Rattle.command_kinds.specs.Changes.{Change, change}
+use Rattle.manuscript_cli.specs.Touched.{Touched}
+use Rattle.command_kinds.specs.declared.status.Status.{Status}
 
 pub record Saver : Type 1 where
   pub giver : Giver

@@ -1,19 +1,10 @@
 -- All that a command may touch, as contracts see it.
-use Rattle.std.specs.Prelude.{◌≡◌, ◌≢◌, ℕ, ◌≤◌, Some}
-use Rattle.fugue_ids.specs.Outs.{OutTells, OutView}
-use Rattle.outer_ports.specs.Sources.{SourceTells, SourceView}
-use Rattle.outer_ports.specs.disk.Disks.{DiskTells, DiskView, RoomView}
-use Rattle.outer_ports.specs.disk.Moments.{History}
-use Rattle.outer_ports.specs.dock.Docks.{DockTells, DockView}
-use Rattle.outer_ports.specs.wire.Wires.{WireTells, WireView}
-use Rattle.manuscript_cli.specs.declared.status.Status.{Status}
-use Rattle.manuscript_cli.specs.declared.status.Status.TheVariants.{OutsideFault}
-
--- the streams of the process
-pub record Streams : Type 0 where
-  pub input : SourceView
-  pub output : OutView
-  pub notes : OutView
+use Rattle.fugue_ids.specs.Outs.{OutView}
+use Rattle.outer_ports.specs.Sources.{SourceView}
+use Rattle.outer_ports.specs.disk.Disks.{DiskView}
+use Rattle.outer_ports.specs.dock.Docks.{DockView}
+use Rattle.outer_ports.specs.wire.Wires.{WireView}
+use Rattle.command_kinds.specs.Changes.{Streams}
 
 pub record Touched : Type 0 where
   pub streams : Streams
@@ -35,57 +26,3 @@ touched input output notes home guest wire dock = record {
   wire = wire;
   dock = dock;
 }
-
--- what a call did to an object: how contracts saw it before, and after
-pub record Change (V : Type 0) : Type 0 where
-  pub old : V
-  pub new : V
-
-abbrev pub change : {V : Type 0} → V → V → Change V
-change old new = record { old = old; new = new }
-
--- writes are sure, and so many bytes fit
-pub record HasRoom (bytes : ℕ) (out : OutView) : Type 0 where
-  pub room : ℕ
-  pub is : out.room ≡ Some room
-  pub fits : bytes ≤ room
-
--- where so many bytes fit, no fault is counted
-abbrev pub StaysCalm : (bytes : ℕ) → OutView → OutView → Type 0
-StaysCalm bytes old new = HasRoom bytes old → new.faults ≡ old.faults
-
--- the room that notes need
-abbrev pub notes_room : ℕ
-notes_room = 256
-
--- calls on the disk are sure, and so many bytes, in so many writes and syncs, fit
-pub record HasDiskRoom (count : ℕ) (disk : DiskView) : Type 0 where
-  pub room : RoomView
-  pub is : disk.room ≡ Some room
-  pub bytes_fit : count ≤ room.bytes
-  pub calls_fit : count ≤ room.calls
-
--- where so much fits, no fault is counted
-abbrev pub DiskStaysCalm : (count : ℕ) → Change DiskView → Type 0
-DiskStaysCalm count disk = HasDiskRoom count disk.old → disk.new.faults ≡ disk.old.faults
-
--- what stands on the disk is told
-abbrev pub IsTold : DiskView → Type 0
-IsTold disk = (h : History) × (disk.past ≡ Some h)
-
--- Each object's count of faults rises with an outside fault alone, where the object tells: no call that failed is made once
--- more, and none is told as another fault.
-abbrev pub SourceBlameless : Change SourceView → Status → Type 0
-SourceBlameless source end = SourceTells source.old → end ≢ OutsideFault → source.new.faults ≡ source.old.faults
-
-abbrev pub OutBlameless : Change OutView → Status → Type 0
-OutBlameless out end = OutTells out.old → end ≢ OutsideFault → out.new.faults ≡ out.old.faults
-
-abbrev pub DiskBlameless : Change DiskView → Status → Type 0
-DiskBlameless disk end = DiskTells disk.old → end ≢ OutsideFault → disk.new.faults ≡ disk.old.faults
-
-abbrev pub WireBlameless : Change WireView → Status → Type 0
-WireBlameless wire end = WireTells wire.old → end ≢ OutsideFault → wire.new.faults ≡ wire.old.faults
-
-abbrev pub DockBlameless : Change DockView → Status → Type 0
-DockBlameless dock end = DockTells dock.old → end ≢ OutsideFault → dock.new.faults ≡ dock.old.faults

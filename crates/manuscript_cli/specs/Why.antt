@@ -6,9 +6,9 @@ use Rattle.origin_model.specs.order.Printed.{shown}
 use Rattle.origin_model.specs.declared.operations.Place.TheVariants.{Catalogue as catalogue, Section as within}
 use Rattle.order_proof.specs.Certificates.{Certificate, Claims, IsValid}
 use Rattle.order_proof.specs.Texts.{proof_text}
-use Rattle.manuscript_cli.specs.Findings.{Refuses, Does}
-use Rattle.manuscript_cli.specs.Report.{Telling}
-use Rattle.manuscript_cli.specs.declared.refusal.Refusal.TheVariants.{NoSuchPlaces}
+use Rattle.command_kinds.specs.Findings.{Refuses, Does}
+use Rattle.command_kinds.specs.Report.{Telling}
+use Rattle.command_kinds.specs.declared.refusal.Refusal.TheVariants.{NoSuchPlaces}
 
 -- the element of the scalar with p shown ones before it, in the section with k shown ones before it
 abbrev pub scalar_shown : List Op → (k p : ℕ) → Option Identifier

@@ -1,9 +1,7 @@
 ghost use Rattle.manuscript_cli.specs.Arrange.{arrange_tells};
 
-use crate::refusal::Refusal;
-use crate::report::{Report, Told};
-use crate::text_out::gone_out;
 use catalogue_notes::{ArrangeFault, write_arranged};
+use command_kinds::{Refusal, Report, Told, gone_out};
 use fugue_ids::Failed;
 use outer_ports::Sink;
 use replica_core::Replica;

@@ -1,12 +1,10 @@
 ghost use Rattle.bulk_world.specs.Summary.{bulk_text};
 ghost use Rattle.manuscript_cli.specs.Bulk.{Bulks};
-ghost use Rattle.manuscript_cli.specs.TextOut.{GoesOut};
-ghost use Rattle.manuscript_cli.specs.Touched.{change};
+ghost use Rattle.command_kinds.specs.TextOut.{GoesOut};
+ghost use Rattle.command_kinds.specs.Changes.{change};
 
-use crate::Status;
-use crate::refusal::Refusal;
-use crate::text_out::{ended, gone_out};
 use bulk_world::{bulk as make_bulk, write_summary};
+use command_kinds::{Refusal, Status, ended, gone_out};
 use outer_ports::Sink;
 use std::alloc::Global;
 

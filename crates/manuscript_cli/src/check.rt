@@ -4,13 +4,10 @@ ghost use Rattle.std.specs.Prelude.{IfErr, IfOk, IsErrOf, OnOk};
 ghost use Rattle.outer_ports.specs.Sources.{KeepsCount};
 ghost use Rattle.order_proof.specs.Readings.{IsValidText};
 ghost use Rattle.manuscript_cli.specs.Check.{ChecksText, GetsPiece, HasNoInputText, IsTextRead, check_tells};
-ghost use Rattle.manuscript_cli.specs.Touched.{change};
-ghost use Rattle.manuscript_cli.specs.declared.refusal.Refusal.TheVariants.{Outside, NoMemory as NoMemoryFound};
+ghost use Rattle.command_kinds.specs.Changes.{change};
+ghost use Rattle.command_kinds.specs.declared.refusal.Refusal.TheVariants.{Outside, NoMemory as NoMemoryFound};
 
-use crate::Status;
-use crate::refusal::{Refusal, tell};
-use crate::report::{Report, Told, write_report};
-use crate::text_out::gone_out;
+use command_kinds::{Refusal, Report, Status, Told, gone_out, tell, write_report};
 use fugue_ids::{BUFFER, NoMemory, write_whole};
 use order_proof::check_text;
 use outer_ports::{Disk, Sink, Source};

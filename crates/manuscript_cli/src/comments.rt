@@ -3,11 +3,8 @@ ghost use Rattle.std.specs.Prelude.{◌≡◌, IfSome, true};
 ghost use Rattle.margin_notes.specs.Comments.{is_text as is_text_of};
 ghost use Rattle.manuscript_cli.specs.Margins.{comment_on, comment_refused, comments_tells};
 
-use crate::noting::MakesNote;
 use crate::number::index_of;
-use crate::refusal::Refusal;
-use crate::report::{Report, Told};
-use crate::text_out::gone_out;
+use command_kinds::{MakesNote, Refusal, Report, Told, gone_out};
 use fugue_ids::{Body, Failed};
 use margin_notes::{CommentFault, MarginFault, comment, is_text, write_comments};
 use outer_ports::Sink;

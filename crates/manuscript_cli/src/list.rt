@@ -10,10 +10,8 @@ ghost use Rattle.manuscript_cli.specs.Listing.{cluster_count as clusters_in, cou
 ghost use Rattle.manuscript_cli.specs.Listing.{list_tells, list_text, replica_line};
 
 use crate::counting::cluster_count;
-use crate::refusal::Refusal;
-use crate::report::Report;
-use crate::text_out::gone_out;
 use catalogue_notes::{Entry, outline};
+use command_kinds::{Refusal, Report, gone_out};
 use fugue_ids::{Failed, Gather, NoMemory, Out};
 use itoa::Buffer;
 use outer_ports::Sink;

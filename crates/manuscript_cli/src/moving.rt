@@ -2,10 +2,9 @@
 ghost use Rattle.std.specs.Prelude.{◌≡◌};
 ghost use Rattle.manuscript_cli.specs.Arrange.{move_on, move_refused, retitle_on};
 
-use crate::noting::MakesNote;
 use crate::number::index_of;
-use crate::refusal::Refusal;
 use catalogue_notes::{MoveFault, move_section, retitle};
+use command_kinds::{MakesNote, Refusal};
 use fugue_ids::Title;
 use replica_core::Replica;
 use std::alloc::Global;

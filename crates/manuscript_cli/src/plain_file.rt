@@ -2,10 +2,10 @@
 ghost use Rattle.std.specs.Prelude.{◌≡◌, ◌⊎◌, ◌<◌, length, take, IfErr, IfOk, IfSome};
 ghost use Rattle.replica_file.specs.Looks.{LooksOnly};
 ghost use Rattle.manuscript_cli.specs.PlainFile.{GetsNext};
-ghost use Rattle.manuscript_cli.specs.declared.refusal.Refusal.TheVariants.{Outside, NoMemory as NoMemoryFound};
+ghost use Rattle.command_kinds.specs.declared.refusal.Refusal.TheVariants.{Outside, NoMemory as NoMemoryFound};
 
 use crate::check::append;
-use crate::refusal::Refusal;
+use command_kinds::Refusal;
 use fugue_ids::BUFFER;
 use outer_ports::Disk;
 use std::alloc::Global;

@@ -1,16 +1,14 @@
 ghost use Rattle.std.specs.Prelude.{◌≡◌, ◌≤◌, length};
 ghost use Rattle.fugue_ids.specs.Outs.{WritesBytes};
 ghost use Rattle.origin_model.specs.relay.Relay.{new_relay};
-ghost use Rattle.manuscript_cli.specs.Printing.{NoteMeets, NotesBlameless};
+ghost use Rattle.command_kinds.specs.Printing.{NoteMeets, NotesBlameless};
 ghost use Rattle.manuscript_cli.specs.Relay.{NeverBlamed, OpeningMeets, Relays, RiseOutside, ServingMeets};
 ghost use Rattle.manuscript_cli.specs.Relay.{log_line, ready_line};
-ghost use Rattle.manuscript_cli.specs.Touched.{StaysCalm, change, notes_room};
-ghost use Rattle.manuscript_cli.specs.declared.status.Status.TheVariants.{Done};
+ghost use Rattle.command_kinds.specs.Changes.{StaysCalm, change, notes_room};
+ghost use Rattle.command_kinds.specs.declared.status.Status.TheVariants.{Done};
 ghost use Rattle.relay_core.specs.declared.relay.TheConstants.{MOST_LOGGED as most_logged};
 
-use crate::Status;
-use crate::printing::noted;
-use crate::refusal::{Refusal, tell};
+use command_kinds::{Refusal, Status, noted, tell};
 use fugue_ids::{Failed, Out, write_pieces, write_whole};
 use itoa::Buffer;
 use outer_ports::{Dock, Sink};

@@ -5,22 +5,21 @@ ghost use Rattle.draft_plan.specs.Drafts.{Part, parts};
 ghost use Rattle.replica_file.specs.Loading.{IsReady};
 ghost use Rattle.replica_file.specs.Looks.{LooksOnly};
 ghost use Rattle.manuscript_cli.specs.Revising.{BaseStops, HasBytes, IsRevisedTo, LooksAtBase, TextStops};
-ghost use Rattle.manuscript_cli.specs.Revising.{base_refusal, revision};
-ghost use Rattle.manuscript_cli.specs.Findings.{Finding};
-ghost use Rattle.manuscript_cli.specs.Saving.{Outcome, ReadsInput, SavesGiven, SavingBlameless};
-ghost use Rattle.manuscript_cli.specs.Touched.{change};
-ghost use Rattle.manuscript_cli.specs.declared.refusal.Refusal.TheVariants.{Outside};
+ghost use Rattle.manuscript_cli.specs.Revising.{base_refusal, parts_fault_refusal, revise_refusal, revision};
+ghost use Rattle.command_kinds.specs.Findings.{Finding};
+ghost use Rattle.command_kinds.specs.Saving.{Outcome, ReadsInput, SavesGiven, SavingBlameless};
+ghost use Rattle.command_kinds.specs.Changes.{change};
+ghost use Rattle.command_kinds.specs.declared.refusal.Refusal.TheVariants.{Outside};
 
-use crate::Status;
 use crate::check::read_text;
-use crate::counts::Note;
-use crate::giving::{Gives, save_given};
-use crate::kept::Kept;
 use crate::plain_file::read_start;
-use crate::refusal::Refusal;
-use catalogue_notes::write_arranged;
-use draft_plan::{Draft, arranged_reads, first_difference, heading_in_text, revise};
+use catalogue_notes::{MoveFault, write_arranged};
+use command_kinds::{Gives, Kept, Note, Refusal, Status, save_given};
+use draft_plan::{
+    Draft, DraftFault, ReviseFault, arranged_reads, first_difference, heading_in_text, revise,
+};
 use fugue_ids::{BUFFER, NoMemory};
+use origin_model::EditFault;
 use outer_ports::{Disk, MemSink, Sink, Source};
 use replica_core::Replica;
 use std::alloc::Global;
@@ -123,7 +122,32 @@ fn revise_to(alloc: Global, replica: &mut Replica, text: &[u8]) -> Result<u32, R
 {
     // What is printed then is the draft in its form by this law.
     arranged_reads();
-    let draft = Draft::read(alloc, text)?;
-    let made = revise(alloc, replica, &draft)?;
+    let draft = Draft::read(alloc, text).map_err(refusal_of_draft)?;
+    let made = revise(alloc, replica, &draft).map_err(refusal_of_limit)?;
     Ok(made)
+}
+
+/// The refusal that a fault of a draft is.
+fn refusal_of_draft(fault: DraftFault) -> Refusal
+    ensures { result ≡ parts_fault_refusal fault }
+{
+    match fault {
+        DraftFault::BadDraft(line) => Refusal::BadDraft(line as u64),
+        DraftFault::NoMemory => Refusal::NoMemory,
+    }
+}
+
+/// The refusal that a fault on the way to a draft is.
+fn refusal_of_limit(fault: ReviseFault) -> Refusal
+    ensures { result ≡ revise_refusal fault }
+{
+    match fault {
+        ReviseFault::Edit(EditFault::IdsSpent(count)) => Refusal::IdsSpent(count),
+        ReviseFault::Edit(EditFault::TooMany(count)) => Refusal::TooMany(count),
+        ReviseFault::Edit(_) => Refusal::NoMemory,
+        ReviseFault::Move(MoveFault::StampsSpent) => Refusal::StampsSpent,
+        ReviseFault::Move(MoveFault::IdsSpent(count)) => Refusal::IdsSpent(count),
+        ReviseFault::Move(MoveFault::TooMany(count)) => Refusal::TooMany(count),
+        ReviseFault::Move(_) => Refusal::NoMemory,
+    }
 }

@@ -4,37 +4,30 @@ ghost use Rattle.catalogue_notes.specs.Arranged.{arranged_text};
 ghost use Rattle.manuscript_cli.specs.Command.{IsCommand, Names};
 ghost use Rattle.manuscript_cli.specs.Headline.{Headline, IsDecided, PrintsBySet};
 ghost use Rattle.manuscript_cli.specs.Run.{IsBlameless, Meets};
-ghost use Rattle.manuscript_cli.specs.Touched.{change, touched};
+ghost use Rattle.command_kinds.specs.Changes.{change};
+ghost use Rattle.manuscript_cli.specs.Touched.{touched};
 ghost use Rattle.manuscript_cli.specs.declared.command.Command.{Command as AnyCommand};
 ghost use Rattle.manuscript_cli.specs.declared.command.Command.TheVariants.{Arrange, Print, Show};
-ghost use Rattle.manuscript_cli.specs.declared.status.Status.TheVariants.{Usage};
+ghost use Rattle.command_kinds.specs.declared.status.Status.TheVariants.{Usage};
 
 use crate::arrange::Arrangement;
 use crate::bulk::bulk;
 use crate::check::check_file;
 use crate::comments::{Comments, NewComment};
-use crate::edit::Script;
-use crate::giving::save_given;
 use crate::list::Contents;
-use crate::merge::OtherFile;
 use crate::moving::{Move, Retitle};
-use crate::new_file::new_file;
-use crate::noting::save_note;
 use crate::number::index_of;
-use crate::print::Manuscript;
-use crate::refusal::{Refusal, tell};
 use crate::relay::relay;
-use crate::report::write_report;
 use crate::revise::revise_file;
-use crate::send::Frames;
-use crate::show::show;
-use crate::sync_file::Reply;
-use crate::take::Stream;
 use crate::versions::{NewVersion, Versions, View};
 use crate::why::Why;
 use crate::words::last_of;
-use crate::{Command, Status, read_words};
+use crate::{Command, read_words};
 use catalogue_notes::arranged_by_set;
+use command_kinds::{
+    Frames, Manuscript, OtherFile, Refusal, Reply, Script, Status, Stream, new_file, save_given,
+    save_note, show, tell, write_report,
+};
 use origin_model::order_by_set;
 use outer_ports::{Disk, Dock, Sink, Source, Wire};
 use std::alloc::Global;

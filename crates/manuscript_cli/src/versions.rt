@@ -3,16 +3,12 @@ ghost use Rattle.std.specs.Prelude.{◌≡◌, ◌⊎◌, List, ℕ, IfSome, tru
 ghost use Rattle.fugue_ids.specs.Outs.{OutView, WritesBytes};
 ghost use Rattle.version_views.specs.Versions.{is_name as is_name_of};
 ghost use Rattle.manuscript_cli.specs.NamedVersions.{version_on, version_refused, versions_tells, view_tells};
-ghost use Rattle.manuscript_cli.specs.Refusal.{kept_name};
-ghost use Rattle.manuscript_cli.specs.TextOut.{GoesOut};
-ghost use Rattle.manuscript_cli.specs.Touched.{change};
-ghost use Rattle.manuscript_cli.specs.declared.refusal.Refusal.TheVariants.{NoMemory as NoMemoryFound, NoVersion};
+ghost use Rattle.command_kinds.specs.Refusal.{kept_name};
+ghost use Rattle.command_kinds.specs.TextOut.{GoesOut};
+ghost use Rattle.command_kinds.specs.Changes.{change};
+ghost use Rattle.command_kinds.specs.declared.refusal.Refusal.TheVariants.{NoMemory as NoMemoryFound, NoVersion};
 
-use crate::noting::MakesNote;
-use crate::refusal::Refusal;
-use crate::report::{Report, Told};
-use crate::text_out::gone_out;
-use crate::version_name::VersionName;
+use command_kinds::{MakesNote, Refusal, Report, Told, VersionName, gone_out};
 use fugue_ids::Body;
 use outer_ports::Sink;
 use replica_core::Replica;

@@ -4,9 +4,7 @@ ghost use Rattle.fugue_ids.specs.Identifiers.{Identifier};
 ghost use Rattle.order_proof.specs.Certificates.{Claims, IsValid};
 ghost use Rattle.manuscript_cli.specs.Why.{HasPlaces, why_tells};
 
-use crate::refusal::Refusal;
-use crate::report::{Report, Told};
-use crate::text_out::gone_out;
+use command_kinds::{Refusal, Report, Told, gone_out};
 use fugue_ids::{ElementId, NoMemory};
 use order_proof::{Proof, prove, write_proof};
 use outer_ports::Sink;

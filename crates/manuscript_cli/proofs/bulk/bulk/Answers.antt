@@ -1,5 +1,5 @@
 use Rattle.bulk_world.specs.Summary.{bulk_text}
-use Rattle.manuscript_cli.specs.Touched.{change}
+use Rattle.command_kinds.specs.Changes.{change}
 use Rattle.manuscript_cli.proofs.BulkLemmas.{bulk_ended}
 use Rattle.manuscript_cli.proofs.bulk.bulk.Goals as goal
 

@@ -1,7 +1,7 @@
 use Rattle.std.proofs.Common.{ap, subst}
 use Rattle.bulk_world.specs.Summary.{summary_text}
-use Rattle.manuscript_cli.specs.TextOut.{GoesOut}
-use Rattle.manuscript_cli.specs.Touched.{change}
+use Rattle.command_kinds.specs.TextOut.{GoesOut}
+use Rattle.command_kinds.specs.Changes.{change}
 use Rattle.manuscript_cli.proofs.bulk.made.Goals as goal
 
 pub returns : goal.returns

@@ -1,7 +1,7 @@
 use Rattle.std.proofs.Common.{ap, inr, refl, ◌≡◌}
 use Rattle.std.specs.Prelude.{Err}
 use Rattle.outer_ports.proofs.CountLemmas.{count_so}
-use Rattle.manuscript_cli.specs.declared.refusal.Refusal.TheVariants.{Outside}
+use Rattle.command_kinds.specs.declared.refusal.Refusal.TheVariants.{Outside}
 use Rattle.manuscript_cli.proofs.check.check_file.Goals as goal
 
 pub returns-in-Err : goal.returns-in-Err

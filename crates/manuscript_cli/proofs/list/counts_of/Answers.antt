@@ -1,4 +1,4 @@
-use Rattle.std.proofs.Common.{List, [], ap, arith, get_or, length, subst, sym, ◌++◌, ◌<◌, ◌∙◌, ◌∷◌, ◌≡◌}
+use Rattle.std.proofs.Common.{List, [], ap, arith, get_or, length, sym, ◌++◌, ◌<◌, ◌∙◌, ◌∷◌, ◌≡◌}
 use Rattle.std.proofs.lemmas.List.{get_or-map, length-map}
 use Rattle.fugue_ids.specs.Identifiers.{Identifier}
 use Rattle.catalogue_notes.specs.Outlining.{entry_sections}

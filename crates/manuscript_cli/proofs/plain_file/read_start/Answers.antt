@@ -1,4 +1,4 @@
-use Rattle.std.proofs.Common.{ap, arith, length, length-append, ◌∙◌}
+use Rattle.std.proofs.Common.{ap, arith, length, length-append}
 use Rattle.replica_file.proofs.ReadingLemmas.{looks_then, well}
 use Rattle.manuscript_cli.proofs.PlainFileLemmas.{start_more}
 use Rattle.manuscript_cli.proofs.plain_file.read_start.Goals as goal

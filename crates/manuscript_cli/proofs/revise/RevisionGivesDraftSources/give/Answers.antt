@@ -2,8 +2,8 @@ use Rattle.std.proofs.Common.{ap, subst, sym}
 use Rattle.std.specs.Prelude.{Err}
 use Rattle.std.proofs.lemmas.Result.{err_from_is_err_and}
 use Rattle.manuscript_cli.specs.Check.{IsTextRead}
-use Rattle.manuscript_cli.specs.Findings.{Refuses}
-use Rattle.manuscript_cli.specs.Touched.{change}
+use Rattle.command_kinds.specs.Findings.{Refuses}
+use Rattle.command_kinds.specs.Changes.{change}
 use Rattle.manuscript_cli.proofs.RevisingLemmas.{base_gives, draft_gives, input_gives, text_gives, text_left}
 use Rattle.manuscript_cli.proofs.revise.RevisionGivesDraftSources.give.Goals as goal
 

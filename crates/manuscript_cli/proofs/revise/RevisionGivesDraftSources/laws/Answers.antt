@@ -1,4 +1,4 @@
-use Rattle.manuscript_cli.specs.Touched.{change}
+use Rattle.command_kinds.specs.Changes.{change}
 use Rattle.manuscript_cli.proofs.RevisingLemmas.{revision_once}
 use Rattle.manuscript_cli.proofs.revise.RevisionGivesDraftSources.laws.Goals as goal
 

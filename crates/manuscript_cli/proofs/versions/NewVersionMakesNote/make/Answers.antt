@@ -1,6 +1,6 @@
 use Rattle.std.proofs.Common.{subst, sym, Err}
 use Rattle.manuscript_cli.specs.NamedVersions.{version_on}
-use Rattle.manuscript_cli.specs.Notes.{MadeNote, NoteComes}
+use Rattle.command_kinds.specs.Notes.{MadeNote, NoteComes}
 use Rattle.manuscript_cli.proofs.NamedVersionLemmas.{version_comes, version_stops}
 use Rattle.manuscript_cli.proofs.versions.NewVersionMakesNote.make.Goals as goal
 

@@ -1,6 +1,6 @@
 use Rattle.std.proofs.Common.{inl, inr, refl}
 use Rattle.order_proof.specs.Texts.{proof_text}
-use Rattle.manuscript_cli.specs.declared.refusal.Refusal.TheVariants.{NoSuchPlaces}
+use Rattle.command_kinds.specs.declared.refusal.Refusal.TheVariants.{NoSuchPlaces}
 use Rattle.manuscript_cli.proofs.why.WhyReport.write.Goals as goal
 
 pub returns-in_default : goal.returns-in_default

@@ -1,0 +1,79 @@
+-- From what a giver gives to what a command that saves does.
+use Rattle.std.proofs.Common.{◌≡◌, ◌∙◌, inl, inr, length, refl, sym, subst, List, ℕ}
+use Rattle.std.specs.Prelude.{Option, Result, Ok, Err, IsOk}
+use Rattle.fugue_ids.specs.Outs.{OutView}
+use Rattle.fugue_ids.specs.declared.op.Op.{Op}
+use Rattle.outer_ports.specs.disk.Disks.{DiskView}
+use Rattle.origin_model.specs.edits.State.{State as Replica}
+use Rattle.origin_model.specs.operations.History.{accepted}
+use Rattle.replica_file.specs.Append.{IsTooLong}
+use Rattle.replica_file.specs.declared.load_file.End.{End}
+use Rattle.command_kinds.specs.Counts.{is_done}
+use Rattle.command_kinds.specs.Crashes.{IsFinished}
+use Rattle.command_kinds.specs.Files.{AppendFailed, IsAppended, IsLoaded, LoadMeets, SaveMeets}
+use Rattle.command_kinds.specs.Giving.{GivenNoted, GivesTo, MayEnd, SavesNoted, note_line, note_status, to_save}
+use Rattle.command_kinds.specs.Printing.{NoteMeets}
+use Rattle.command_kinds.specs.Saving.{Giver, GivesOnce, SavesGiven}
+use Rattle.command_kinds.specs.Changes.{Change, StaysCalm, change, notes_room}
+use Rattle.command_kinds.specs.declared.counts.Note.{Note}
+use Rattle.command_kinds.specs.declared.counts.Note.TheVariants as note
+use Rattle.command_kinds.specs.declared.refusal.Refusal.{Refusal}
+use Rattle.command_kinds.specs.declared.refusal.Refusal.TheVariants as refusal
+use Rattle.command_kinds.specs.declared.status.Status.{Status}
+use Rattle.command_kinds.proofs.SavesLemmas.{noted_saves}
+use Rattle.command_kinds.proofs.SavingLemmas.{given_comes}
+use Rattle.command_kinds.proofs.ShowLemmas.{done_or_partial}
+
+-- what was given to a loaded file was saved, or why not
+pub noted_comes : (giver : Giver) (a b c : DiskView) (replica : Replica) (end : End) → IsLoaded (change a b) replica end → (result : Result Note Refusal)
+    → GivenNoted giver replica end (change b c) result → SavesNoted giver (change a c) result
+noted_comes giver a b c replica end loaded (Ok note) did = (did.0, did.1, given_comes giver a b c replica end loaded (Ok did.0) did.2)
+noted_comes giver a b c replica end loaded (Err why) stopped = given_comes giver a b c replica end loaded (Err why) stopped
+
+-- a command does not do all where its giver came to a refusal
+pub unfinished : (answer : Result Note Refusal) (why : Refusal) (end : Status) → answer ≡ Err why → MayEnd answer end → IsFinished end → ⊥
+unfinished answer why end is may done = let ok = subst (λ (a : Result Note Refusal). IsOk a) is (may.finished done) in cc ok
+
+-- a note is of what was done
+note_finished : (n : Note) → IsFinished (note_status n)
+note_finished (note.Counted counts) = done_or_partial (is_done counts.tally counts.waiting)
+note_finished (note.Made count) = inl refl
+
+-- all was done, and noted or not
+pub note_saves : (giver : Giver) → GivesOnce giver → (file : Change DiskView) (notes : Change OutView) (n : Note) (end : Status) → SavesNoted giver file (Ok n)
+    → NoteMeets (note_line n) (note_status n) notes.old notes.new end → StaysCalm notes_room notes.old notes.new → SavesGiven giver file notes end
+note_saves giver once file notes n end did noted calm =
+    noted_saves giver once file notes calm did.0 end did.2
+    (subst IsFinished (sym did.1.status) (note_finished n))
+    (subst (λ (s : Status). NoteMeets did.0.line s notes.old notes.new end) (sym did.1.status)
+    (subst (λ (line : List ℕ). NoteMeets line (note_status n) notes.old notes.new end) (sym did.1.line) noted))
+
+-- nothing was given to a file that is loaded
+pub given_none : (giver : Giver) (before after : Replica) (kept : Option (List Op)) (end : End) (file : Change DiskView) (why : Refusal) → file.new ≡ file.old → GivesTo giver before after kept (Err why)
+    → GivenNoted giver before end file (Err why)
+given_none giver before after kept end file refusal.Outside same gave = inl (gave.0, gave.1, same)
+given_none giver before after kept end file refusal.NoMemory same gave = same
+given_none giver before after kept end file refusal.Words same gave = gave
+given_none giver before after kept end file why same gave = (inl gave, same)
+
+-- what was given was not saved
+pub given_unsaved : (giver : Giver) (before after : Replica) (kept : Option (List Op)) (end : End) (file : Change DiskView) (n : Note) (ops : List Op) (why : Refusal)
+    → ops ≡ to_save n (length (accepted before.held.history)) after kept → GivesTo giver before after kept (Ok n) → SaveMeets end ops file (Err why) → GivenNoted giver before end file (Err why)
+given_unsaved giver before after kept end file n ops refusal.Outside is gave fails = inr (gave.outcome, gave.gives, subst (λ (l : List Op). AppendFailed end l file) (is ∙ gave.saved) fails)
+given_unsaved giver before after kept end file n ops refusal.NoMemory is gave fails = fails
+given_unsaved giver before after kept end file n ops refusal.BatchTooLong is gave fails =
+    (inr (refl, gave.outcome, gave.gives, subst (λ (l : List Op). IsTooLong end l) (is ∙ gave.saved) fails.0), fails.1)
+given_unsaved giver before after kept end file n ops _ is gave fails = absurd fails
+
+-- or it was
+pub given_saved : (giver : Giver) (before after : Replica) (kept : Option (List Op)) (end : End) (file : Change DiskView) (n : Note) (ops : List Op) (done : Result (Unit {0}) Refusal)
+    → ops ≡ to_save n (length (accepted before.held.history)) after kept → GivesTo giver before after kept (Ok n) → done ≡ Ok tt → SaveMeets end ops file done → GivenNoted giver before end file (Ok n)
+given_saved giver before after kept end file n ops done is gave was saves =
+    (gave.outcome, gave.noted, (gave.gives, gave.suffices, subst (λ (l : List Op). IsAppended end l file) (is ∙ gave.saved) (subst (SaveMeets end ops file) was saves)))
+
+-- a file that was not loaded
+pub load_stops : (giver : Giver) (file : Change DiskView) (why : Refusal) → LoadMeets file (Err why) → SavesNoted giver file (Err why)
+load_stops giver file refusal.Outside failed = inl failed
+load_stops giver file refusal.NoMemory keeps = keeps
+load_stops giver file refusal.Words never = absurd never.0
+load_stops giver file why meets = (inl meets.0, meets.1, inl meets.0)

@@ -1,0 +1,135 @@
+-- Taking in a stream: what a step is by what its calls answered, and what all steps come to.
+use Rattle.std.proofs.Common.{◌≡◌, ◌≢◌, ℕ, List, [], ◌∷◌, ◌++◌, refl, ap, sym, subst, ◌∙◌, append_assoc}
+use Rattle.std.specs.Prelude.{Option, Some, None, Bool, true, false, Ok, Err, IfSome}
+use Rattle.std.proofs.lemmas.List.{append-nil}
+use Rattle.fugue_ids.specs.declared.op.Op.{Op}
+use Rattle.outer_ports.specs.Sources.{SourceView}
+use Rattle.origin_model.specs.declared.grammar.Grammar.{Grammar}
+use Rattle.origin_model.specs.declared.grammar.Grammar.TheVariants.{Version2}
+use Rattle.origin_model.specs.declared.taking.Tally.{Tally}
+use Rattle.origin_model.specs.taking.Taking.{HasPlace, Held, TooMany as AnswersTooMany, answer, held_from, intake, intake_counted, kept_from, no_counts, tally_from}
+use Rattle.origin_model.proofs.SharedLemmas.{held-append, kept-append, places-append, places-none, places-one, tally-append}
+use Rattle.op_frame.specs.Courses.{Comes, IntakeCourse, Whole, CutShort as IsCutShort, BadFrame as HasBadFrame, TooLong as IsTooLong, TooMany as HasTooMany}
+use Rattle.op_frame.specs.Readers.{Gave}
+use Rattle.op_frame.proofs.StreamLemmas.{follows, gave_none}
+use Rattle.op_frame.proofs.CourseLemmas.{Fed, fed_whole, fed_cut, fed_bad, fed_long, fed_many}
+use Rattle.origin_model.specs.edits.State.{State}
+use Rattle.fugue_ids.specs.declared.limits.TheConstants.{STREAM_LIMIT}
+use Rattle.command_kinds.specs.Intake.{StreamTaking, TakesOne, IntakeSteps, SourceComes, TakesIn, IntakeStopsFor, copied}
+use Rattle.command_kinds.specs.declared.refusal.Refusal.{Refusal}
+use Rattle.command_kinds.specs.declared.refusal.Refusal.TheVariants as refusal
+
+-- a step that took an operation in, and one that came to the end
+pub step_took : (more : Bool) (old new : StreamTaking) (before after : SourceView) → more ≡ true → IntakeSteps old new before after (Ok more) → TakesOne old new before after
+step_took more old new before after is steps = subst (λ b. IntakeSteps old new before after (Ok b)) is steps
+
+abbrev pub Ended : StreamTaking → StreamTaking → SourceView → SourceView → Type 0
+Ended old new before after = IntakeSteps old new before after (Ok false)
+
+pub step_ended : (more : Bool) (old new : StreamTaking) (before after : SourceView) → more ≡ false → IntakeSteps old new before after (Ok more) → Ended old new before after
+step_ended more old new before after is steps = subst (λ b. IntakeSteps old new before after (Ok b)) is steps
+
+-- counts that are all 0
+pub fresh_counts : (t : Tally) → (t.accepted ≡ 0) × ((t.repeated ≡ 0) × ((t.conflict ≡ 0) × ((t.stray ≡ 0) × (t.full ≡ 0)))) → t ≡ no_counts
+fresh_counts t (accepted, (repeated, (conflict, (stray, full)))) =
+    λ i. record { accepted = accepted i; repeated = repeated i; conflict = conflict i; stray = stray i; full = full i }
+
+copied-nil : (kept : Option (List Op)) → copied kept [] ≡ kept
+copied-nil None = refl
+copied-nil (Some ops) = ap Some (append-nil ops)
+
+copied-append : (kept : Option (List Op)) (a b : List Op) → copied (copied kept a) b ≡ copied kept (a ++ b)
+copied-append None a b = refl
+copied-append (Some ops) a b = ap Some (append_assoc ops a b)
+
+-- of the bytes that were told, the reader gave operations, which were taken in from a start
+pub record FedFrom (start : State) (kept : Option (List Op)) (told : Option (List ℕ)) (now : StreamTaking) (left : Option (List ℕ)) : Type 0 where
+  pub ops : List Op
+  pub gave : Gave told ops now.reader left
+  pub has_place : HasPlace start.hold start.most start.held ops
+  pub replica_is : now.replica ≡ record start { held = held_from start.hold start.most start.held ops }
+  pub counts_are : now.counts ≡ tally_from start.hold start.most start.held ops no_counts
+  pub kept_are : now.kept ≡ copied kept (kept_from start.hold start.most start.held ops)
+
+-- nothing was read yet
+pub fed_nothing : (start : State) (told : Option (List ℕ)) (now : StreamTaking) → now.reader.todo ≡ [] → now.reader.unread ≡ [] → now.reader.offset ≡ 0 → now.replica ≡ start → now.counts ≡ no_counts
+    → FedFrom start now.kept told now told
+fed_nothing start told now todo none at same counts = record {
+  ops = [];
+  gave = gave_none now.reader told todo none at;
+  has_place = places-none start.hold start.most start.held;
+  replica_is = same;
+  counts_are = counts;
+  kept_are = sym (copied-nil now.kept);
+}
+
+module _ (start : State) (kept : Option (List Op)) (told : Option (List ℕ)) (old new : StreamTaking) (before after : SourceView) (fed : FedFrom start kept told old before.left) where
+  reached : Held
+  reached = held_from start.hold start.most start.held fed.ops
+
+  -- one operation more was taken in
+  pub fed_one : TakesOne old new before after → FedFrom start kept told new after.left
+  fed_one one =
+      let hold : ℕ = start.hold in
+      let most : ℕ = start.most in
+      let held : Held = held_from hold most start.held fed.ops in
+      let place : answer hold most held one.op ≢ AnswersTooMany = subst (λ (r : State). answer r.hold r.most r.held one.op ≢ AnswersTooMany) fed.replica_is one.has_place in
+      record {
+        ops = fed.ops ++ one.op ∷ [];
+        gave = (follows told fed.ops old.reader new.reader before after fed.gave (Ok (Some one.op)) one.nexts).gave (λ is. cc is);
+        has_place = places-append hold most start.held fed.ops (one.op ∷ []) fed.has_place (places-one hold most held one.op place);
+        replica_is = one.replica ∙ ap (λ (r : State). record r { held = intake r.hold r.most r.held one.op }) fed.replica_is
+            ∙ ap (λ (h : Held). record start { held = h }) (held-append hold most start.held fed.ops (one.op ∷ []));
+        counts_are = one.counts ∙ (λ i. let r : State = fed.replica_is i in intake_counted r.hold r.most r.held one.op (fed.counts_are i))
+            ∙ tally-append hold most start.held fed.ops (one.op ∷ []) no_counts;
+        kept_are = one.kept ∙ (λ i. let r : State = fed.replica_is i in copied (fed.kept_are i) (kept_from r.hold r.most r.held (one.op ∷ [])))
+            ∙ copied-append kept (kept_from hold most start.held fed.ops) (kept_from hold most held (one.op ∷ []))
+            ∙ ap (copied kept) (kept-append hold most start.held fed.ops (one.op ∷ []));
+      }
+
+  -- what the reader gave and the counts of it
+  abbrev counted : Fed start.hold start.most start.held told old.reader before.left old.replica.held old.counts
+  counted = record { ops = fed.ops; gave = fed.gave; has_place = fed.has_place; state_is = ap (λ (r : State). r.held) fed.replica_is; counts_are = fed.counts_are }
+
+  at_limit : (course : IntakeCourse) → old.reader.limit ≡ STREAM_LIMIT → old.reader.grammar ≡ Version2
+      → IfSome told (λ bytes. Comes old.reader.grammar start.hold start.most start.held old.reader.limit bytes fed.ops course)
+      → IfSome told (λ bytes. Comes Version2 start.hold start.most start.held STREAM_LIMIT bytes fed.ops course)
+  at_limit course is runs came =
+      subst (λ (g : Grammar). IfSome told (λ bytes. Comes g start.hold start.most start.held STREAM_LIMIT bytes fed.ops course)) runs
+      (subst (λ n. IfSome told (λ bytes. Comes old.reader.grammar start.hold start.most start.held n bytes fed.ops course)) is came)
+
+  -- the end was reached
+  pub fed_over : (source last : SourceView) → source.left ≡ told → last.left ≡ after.left → old.reader.limit ≡ STREAM_LIMIT → old.reader.grammar ≡ Version2 → Ended old new before after
+      → TakesIn start source last new.replica new.counts kept new.kept
+  fed_over source last same same_last limit runs ended = record {
+    ops = fed.ops;
+    came = subst (λ o. IfSome o (λ bytes. Comes Version2 start.hold start.most start.held STREAM_LIMIT bytes fed.ops Whole)) (sym same)
+        (at_limit Whole limit runs (fed_whole start.hold start.most start.held told old.reader new.reader before after old.replica.held old.counts counted ended.0));
+    read = subst (λ o. IfSome o (λ bytes. bytes ≡ [])) (sym same_last) ended.0.moves.1;
+    replica_is = ended.1 ∙ fed.replica_is;
+    counts_are = ended.2 ∙ fed.counts_are;
+    kept_are = ended.3 ∙ fed.kept_are;
+  }
+
+  -- a step met the cause to stop
+  pub fed_stops : (why : Refusal) (source : SourceView) → source.left ≡ told → old.reader.limit ≡ STREAM_LIMIT → old.reader.grammar ≡ Version2 → IntakeSteps old new before after (Err why) → IntakeStopsFor why start source
+  fed_stops why source same limit runs steps = by_cause why steps
+    where
+      came : (course : IntakeCourse) → IfSome told (λ bytes. Comes old.reader.grammar start.hold start.most start.held old.reader.limit bytes fed.ops course) → (ops : List Op) × SourceComes start source ops course
+      came course is = (fed.ops, subst (λ o. IfSome o (λ bytes. Comes Version2 start.hold start.most start.held STREAM_LIMIT bytes fed.ops course)) (sym same) (at_limit course limit runs is))
+
+      by_cause : (why : Refusal) → IntakeSteps old new before after (Err why) → IntakeStopsFor why start source
+      by_cause (refusal.BadFrame k) steps =
+          came (HasBadFrame k) (fed_bad start.hold start.most start.held told old.reader new.reader before after old.replica.held old.counts counted k steps)
+      by_cause (refusal.CutShort k) steps =
+          came (IsCutShort k) (fed_cut start.hold start.most start.held told old.reader new.reader before after old.replica.held old.counts counted k steps)
+      by_cause refusal.TooLong steps =
+          came IsTooLong (fed_long start.hold start.most start.held told old.reader new.reader before after old.replica.held old.counts counted steps)
+      by_cause (refusal.TooMany count) steps =
+          let refused = subst (λ (r : State). answer r.hold r.most r.held steps.1.op ≡ AnswersTooMany) fed.replica_is steps.1.refused in
+          let many = came HasTooMany (fed_many start.hold start.most start.held told old.reader new.reader before after old.replica.held old.counts counted steps.1.op steps.1.nexts
+          (ap (λ (r : State). answer start.hold start.most r.held steps.1.op) fed.replica_is ∙ refused)) in
+          (steps.0 ∙ ap (λ (r : State). r.most) fed.replica_is, many.0, many.1)
+      by_cause refusal.Outside steps = tt
+      by_cause refusal.NoMemory steps = tt
+      by_cause _ steps = absurd steps

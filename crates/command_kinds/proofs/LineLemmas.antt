@@ -1,0 +1,26 @@
+-- A line that was written to the notes, as far as they took it, is told.
+use Rattle.std.proofs.Common.{◌≤◌, arith, inl, inr, List, length, ℕ}
+use Rattle.std.specs.Prelude.{Result, Ok, Err}
+use Rattle.fugue_ids.specs.Outs.{OutView, WritesBytes}
+use Rattle.fugue_ids.specs.declared.out.Failed.{Failed}
+use Rattle.command_kinds.specs.Refusal.{Told}
+use Rattle.command_kinds.specs.Changes.{notes_room}
+use Rattle.command_kinds.proofs.TextLemmas.{less_room, sure_of, text_has_no_room, whole_front}
+
+pub line_told : (result : Result (Unit {0}) Failed) (old new : OutView) (line : List ℕ) → WritesBytes old new result line → length line ≤ notes_room → Told old new line
+line_told (Ok done) old new line wrote short = record {
+  later = wrote.cause.later;
+  whole = λ not. wrote.ok;
+  front = whole_front old new line wrote.ok;
+  sure = λ has. ((sure_of (Ok done) old new line wrote has).calm, wrote.ok);
+  calm = λ has. (sure_of (Ok done) old new line wrote (less_room (length line) notes_room old short has)).calm;
+  exact = λ tells. inl (wrote.calm_told tells);
+}
+line_told (Err e) old new line wrote short = record {
+  later = wrote.cause.later;
+  whole = λ not. absurd (not wrote.cause.failed);
+  front = wrote.err;
+  sure = λ has. absurd (text_has_no_room e old new line (length line) wrote (omega arith) has);
+  calm = λ has. absurd (text_has_no_room e old new line notes_room wrote short has);
+  exact = λ tells. inr wrote.cause.failed;
+}

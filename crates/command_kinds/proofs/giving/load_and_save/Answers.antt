@@ -1,0 +1,20 @@
+use Rattle.std.proofs.lemmas.Result.{err_from_is_err_and}
+use Rattle.command_kinds.specs.Findings.{Refuses}
+use Rattle.command_kinds.specs.Changes.{change}
+use Rattle.command_kinds.specs.declared.refusal.Refusal.TheVariants.{NoMemory}
+use Rattle.command_kinds.proofs.GivingLemmas.{load_stops, noted_comes}
+use Rattle.command_kinds.proofs.giving.load_and_save.Goals as goal
+
+pub returns-clause-saves : goal.returns-clause-saves
+returns-clause-saves g c =
+    let given = c.give_and_save-saved.ensures.given _ c.in_ok-replica.ensures.meets.holds in
+    (given.0, noted_comes _ _ (g.H.Disk.seen c.load_file.new.file) _ _ _ c.in_ok-replica.ensures.meets _ given.1)
+
+pub returns-in_err-replica-clause-saves : goal.returns-in_err-replica-clause-saves
+returns-in_err-replica-clause-saves g c =
+    let p = err_from_is_err_and c.from_residual.result c.from_residual.ensures.1 in
+    rw (p.1, p.2) (
+      Refuses NoMemory,
+      load_stops (g.T.Gives.giver c.args.giver.now (g.H.Disk.seen c.args.home.now) c.args.from.now c.args.from.now (Refuses NoMemory)) (change (g.H.Disk.seen c.args.home.now) (g.H.Disk.seen c.load_file.new.file))
+          c.in_err-replica.field-0.0 c.in_err-replica.ensures.meets,
+    )

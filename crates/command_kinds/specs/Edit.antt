@@ -1,0 +1,63 @@
+-- The command `edit`: a script is run on a file's replica, and what it made is saved.
+use Rattle.std.specs.Prelude.{◌≡◌, ◌≢◌, ◌⊎◌, ℕ, ◌<◌, ◌≤◌, List, ◌++◌, length, true, Some, IfSome}
+use Rattle.fugue_ids.specs.Causes.{Rose}
+use Rattle.fugue_ids.specs.declared.op.Op.{Op}
+use Rattle.origin_model.specs.operations.History.{accepted}
+use Rattle.edit_script.specs.declared.run.ScriptFault.{ScriptFault}
+use Rattle.edit_script.specs.declared.run.ScriptFault.TheVariants as script_fault
+use Rattle.edit_script.specs.declared.script.TheConstants.{LONGEST_SCRIPT}
+use Rattle.edit_script.specs.Scripts.{RunsWhole, StopsAt}
+use Rattle.outer_ports.specs.Sources.{SourceView}
+use Rattle.origin_model.specs.edits.State.{State as Replica}
+use Rattle.command_kinds.specs.Counts.{made_line}
+use Rattle.command_kinds.specs.Findings.{Finding, Refuses, Does}
+use Rattle.command_kinds.specs.Refusal.{script_refusal}
+use Rattle.command_kinds.specs.Saving.{Giver, Outcome}
+use Rattle.command_kinds.specs.Changes.{Change}
+use Rattle.command_kinds.specs.declared.refusal.Refusal.{Refusal}
+use Rattle.command_kinds.specs.declared.refusal.Refusal.TheVariants as refusal
+use Rattle.command_kinds.specs.declared.status.Status.TheVariants as status
+
+-- what comes of operations that a script made, by which it came to this replica
+abbrev pub made_outcome : Replica → List Op → Outcome
+made_outcome last made = record { saved = made; held = last.held; line = made_line (length made); status = status.Done }
+
+-- the script was run to its end on a replica, and made these operations
+pub record RunsScript (replica : Replica) (script : List ℕ) (outcome : Outcome) : Type 0 where
+  pub short : length script ≤ LONGEST_SCRIPT
+  pub made : List Op
+  pub last : Replica
+  pub runs : RunsWhole replica last script (length made)
+  pub made_are : accepted last.held.history ≡ accepted replica.held.history ++ made
+  pub outcome_is : outcome ≡ made_outcome last made
+
+-- the script has a first faulty line, and its fault is the cause of this refusal
+pub record HasFaultyLine (replica : Replica) (script : List ℕ) (why : Refusal) : Type 0 where
+  pub short : length script ≤ LONGEST_SCRIPT
+  pub fault : ScriptFault
+  pub why_is : why ≡ script_refusal fault
+  -- want of memory is no line's fault
+  pub no_want : fault ≢ script_fault.NoMemory
+  pub last : Replica
+  pub stops : StopsAt replica last script fault
+
+-- the script is the cause of this refusal: it is longer than its limit, or has a faulty line
+abbrev pub ScriptRefuses : Replica → List ℕ → Refusal → Type 0
+ScriptRefuses replica script why = ((why ≡ refusal.TooLong) × (LONGEST_SCRIPT < length script)) ⊎ HasFaultyLine replica script why
+
+-- the script is all that the source has left, where that is told
+abbrev pub IsLeft : SourceView → List ℕ → Type 0
+IsLeft input script = IfSome input.left (λ bytes. bytes ≡ script)
+
+-- what a script gives: that of one script, also where the source tells none
+abbrev pub ScriptGives : SourceView → Replica → Finding Outcome → Type 0
+ScriptGives input replica (Refuses why) = (script : List ℕ) × IsLeft input script × ScriptRefuses replica script why
+ScriptGives input replica (Does outcome) = (script : List ℕ) × IsLeft input script × RunsScript replica script outcome
+
+abbrev pub script : Change SourceView → Giver
+script input = record {
+  Gives = ScriptGives input.old;
+  Told = (bytes : List ℕ) × (input.old.left ≡ Some bytes);
+  Failed = Rose input.old.faults input.new.faults;
+  Sure = input.old.sure ≡ true;
+}

@@ -1,0 +1,69 @@
+-- What a giver gives to a replica that was loaded, as its note tells it.
+use Rattle.std.specs.Prelude.{◌≡◌, ℕ, List, Option, length, drop, Result, Ok, Err, IsErrOf, IsOk}
+use Rattle.fugue_ids.specs.declared.op.Op.{Op}
+use Rattle.origin_model.specs.operations.History.{accepted}
+use Rattle.outer_ports.specs.disk.Disks.{DiskView}
+use Rattle.origin_model.specs.edits.State.{State as Replica}
+use Rattle.replica_file.specs.declared.load_file.End.{End}
+use Rattle.command_kinds.specs.Counts.{counts_text, made_line, status_by}
+use Rattle.command_kinds.specs.Crashes.{IsFinished}
+use Rattle.command_kinds.specs.Findings.{Refuses, Does}
+use Rattle.command_kinds.specs.Intake.{ops_in}
+use Rattle.command_kinds.specs.Saving.{ComesToSave, GivenMeets, Giver, Outcome, Suffices}
+use Rattle.command_kinds.specs.Changes.{Change}
+use Rattle.command_kinds.specs.declared.counts.Note.{Note}
+use Rattle.command_kinds.specs.declared.counts.Note.TheVariants as note
+use Rattle.command_kinds.specs.declared.refusal.Refusal.{Refusal}
+use Rattle.command_kinds.specs.declared.refusal.Refusal.TheVariants as refusal
+use Rattle.command_kinds.specs.declared.status.Status.{Status}
+use Rattle.command_kinds.specs.declared.status.Status.TheVariants as status
+
+-- the line that a note is, and the status that it leads to
+abbrev pub note_line : Note → List ℕ
+note_line (note.Counted counts) = counts_text counts.tally counts.waiting counts.cursor
+note_line (note.Made count) = made_line count
+
+abbrev pub note_status : Note → Status
+note_status (note.Counted counts) = status_by counts.tally counts.waiting
+note_status (note.Made count) = status.Done
+
+-- what is to be saved: copies of what was kept, or what a script made, which was accepted behind the rest
+abbrev pub to_save : Note → (before : ℕ) → (after : Replica) → (kept : Option (List Op)) → List Op
+to_save (note.Counted counts) before after kept = ops_in kept
+to_save (note.Made count) before after kept = drop before (accepted after.held.history)
+
+-- a note tells of an outcome
+pub record IsNoted (outcome : Outcome) (note : Note) : Type 0 where
+  pub line : outcome.line ≡ note_line note
+  pub status : outcome.status ≡ note_status note
+
+-- the outcome was given, and what is to be saved is its operations
+pub record IsGiven (giver : Giver) (before after : Replica) (kept : Option (List Op)) (note : Note) : Type 0 where
+  pub outcome : Outcome
+  pub gives : giver.Gives before (Does outcome)
+  pub suffices : Suffices before outcome
+  pub saved : to_save note (length (accepted before.held.history)) after kept ≡ outcome.saved
+  pub noted : IsNoted outcome note
+
+-- what a giver gave to a replica, or why it gave nothing
+abbrev pub GivesTo : Giver → (before after : Replica) → (kept : Option (List Op)) → Result Note Refusal → Type 0
+GivesTo giver before after kept (Ok note) = IsGiven giver before after kept note
+GivesTo giver before after kept (Err refusal.Outside) = giver.Failed × (giver.Sure → ⊥)
+GivesTo giver before after kept (Err refusal.NoMemory) = Unit {0}
+GivesTo giver before after kept (Err refusal.Words) = ⊥
+GivesTo giver before after kept (Err why) = giver.Gives before (Refuses why)
+
+-- A command whose giver came to this answer may end so: it does not do all where nothing was given, and an outside fault that was met is told.
+pub record MayEnd (answer : Result Note Refusal) (end : Status) : Type 0 where
+  pub finished : IsFinished end → IsOk answer
+  pub blames : IsErrOf answer refusal.Outside → end ≡ status.OutsideFault
+
+-- what was given to a file that is loaded, as its note tells it
+abbrev pub GivenNoted : Giver → Replica → End → Change DiskView → Result Note Refusal → Type 0
+GivenNoted giver replica end file (Ok note) = (outcome : Outcome) × IsNoted outcome note × GivenMeets giver replica end file (Ok outcome)
+GivenNoted giver replica end file (Err why) = GivenMeets giver replica end file (Err why)
+
+-- what was given and saved, as its note tells it
+abbrev pub SavesNoted : Giver → Change DiskView → Result Note Refusal → Type 0
+SavesNoted giver file (Ok note) = (outcome : Outcome) × IsNoted outcome note × ComesToSave giver file (Ok outcome)
+SavesNoted giver file (Err why) = ComesToSave giver file (Err why)

@@ -1,0 +1,98 @@
+-- Taking in a stream, one operation after another: a step of it, what it comes to, and why it stops.
+use Rattle.std.specs.Prelude.{◌≡◌, ◌≢◌, ◌+◌, ◌*◌, ◌≤◌, List, [], ◌∷◌, ◌++◌, length, Option, Some, None, option_map, Bool, true, false, Result, Ok, Err, IfSome}
+use Rattle.fugue_ids.specs.declared.op.Op.{Op}
+use Rattle.outer_ports.specs.Sources.{SourceView}
+use Rattle.origin_model.specs.declared.grammar.Grammar.TheVariants.{Version2}
+use Rattle.origin_model.specs.taking.Taking.{TooMany as AnswersTooMany, IsSettled, answer, intake, intake_counted, held_from, kept_from, tally_from, no_counts}
+use Rattle.origin_model.specs.declared.taking.Tally.{Tally}
+use Rattle.op_frame.specs.Courses.{Comes, IntakeCourse, Whole, CutShort as IsCutShort, BadFrame as HasBadFrame, TooLong as IsTooLong, TooMany as HasTooMany}
+use Rattle.op_frame.specs.Readers.{FrameReading, Nexts, Rises}
+use Rattle.op_frame.specs.declared.fault.FrameFault.TheVariants as frame_fault
+use Rattle.replica_core.specs.declared.keeping.FeedFault.{FeedFault}
+use Rattle.replica_core.specs.declared.keeping.FeedFault.TheVariants as feed_fault
+use Rattle.origin_model.specs.edits.State.{State}
+use Rattle.replica_core.specs.Told.{total}
+use Rattle.fugue_ids.specs.declared.limits.TheConstants.{GREATEST_HOLD, STREAM_LIMIT}
+use Rattle.command_kinds.specs.declared.refusal.Refusal.{Refusal}
+use Rattle.command_kinds.specs.declared.refusal.Refusal.TheVariants.{BadFrame, CutShort, TooLong, TooMany, Outside, NoMemory}
+
+-- copies of the operations that were kept, and these behind them: none, where they are forgotten
+abbrev pub copied : Option (List Op) → List Op → Option (List Op)
+copied kept ops = option_map (λ before. before ++ ops) kept
+
+abbrev pub ops_in : Option (List Op) → List Op
+ops_in None = []
+ops_in (Some ops) = ops
+
+-- why an operation was not taken in
+abbrev pub FeedsNot : FeedFault → State → Op → Type 0
+FeedsNot (feed_fault.TooMany limit) replica op = (limit ≡ replica.most) × (answer replica.hold replica.most replica.held op ≡ AnswersTooMany)
+FeedsNot feed_fault.NoMemory replica op = Unit {0}
+
+-- a stream on its way: the reader, the replica, what became of the operations so far, and copies of those that were kept
+pub record StreamTaking : Type 0 where
+  pub reader : FrameReading
+  pub replica : State
+  pub counts : Tally
+  pub kept : Option (List Op)
+
+-- one operation more can be read and counted
+pub record IsReady (now : StreamTaking) : Type 0 where
+  pub no_fault : now.reader.fault ≡ None
+  pub limit : now.reader.limit ≡ STREAM_LIMIT
+  pub by_grammar : now.reader.grammar ≡ Version2
+  pub settled : IsSettled now.replica.held
+  -- a frame has at least three bytes for each operation
+  pub few : 3 * (total now.counts + length now.replica.held.waiting) + 3 * length now.reader.todo ≤ now.reader.offset + 3 * GREATEST_HOLD
+
+-- the next operation was read and taken in
+pub record TakesOne (old new : StreamTaking) (before after : SourceView) : Type 0 where
+  pub op : Op
+  pub nexts : Nexts old.reader new.reader before after (Ok (Some op))
+  pub rises : Rises old.reader new.reader
+  pub has_place : answer old.replica.hold old.replica.most old.replica.held op ≢ AnswersTooMany
+  pub replica : new.replica ≡ record old.replica { held = intake old.replica.hold old.replica.most old.replica.held op }
+  pub counts : new.counts ≡ intake_counted old.replica.hold old.replica.most old.replica.held op old.counts
+  pub kept : new.kept ≡ copied old.kept (kept_from old.replica.hold old.replica.most old.replica.held (op ∷ []))
+  pub ready : IsReady new
+
+-- the next operation was read, and found no place
+pub record FindsNoPlace (old new : StreamTaking) (before after : SourceView) : Type 0 where
+  pub op : Op
+  pub nexts : Nexts old.reader new.reader before after (Ok (Some op))
+  pub refused : answer old.replica.hold old.replica.most old.replica.held op ≡ AnswersTooMany
+
+-- one step, by its answer: whether there was an operation
+abbrev pub IntakeSteps : StreamTaking → StreamTaking → SourceView → SourceView → Result Bool Refusal → Type 0
+IntakeSteps old new before after (Ok true) = TakesOne old new before after
+IntakeSteps old new before after (Ok false) = Nexts old.reader new.reader before after (Ok None) × (new.replica ≡ old.replica) × (new.counts ≡ old.counts) × (new.kept ≡ old.kept)
+IntakeSteps old new before after (Err (BadFrame offset)) = Nexts old.reader new.reader before after (Err (frame_fault.BadFrame offset))
+IntakeSteps old new before after (Err (CutShort offset)) = Nexts old.reader new.reader before after (Err (frame_fault.CutShort offset))
+IntakeSteps old new before after (Err TooLong) = Nexts old.reader new.reader before after (Err frame_fault.TooLong)
+IntakeSteps old new before after (Err (TooMany count)) = (count ≡ old.replica.most) × FindsNoPlace old new before after
+IntakeSteps old new before after (Err Outside) = Unit {0}
+IntakeSteps old new before after (Err NoMemory) = Unit {0}
+IntakeSteps old new before after (Err _) = ⊥
+
+-- the source, where it is told, comes to this end
+abbrev pub SourceComes : State → SourceView → List Op → IntakeCourse → Type 0
+SourceComes start old ops course = IfSome old.left (λ bytes. Comes Version2 start.hold start.most start.held STREAM_LIMIT bytes ops course)
+
+-- the source came to its end, and the replica took its operations in
+pub record TakesIn (start : State) (old new : SourceView) (replica : State) (counts : Tally) (kept kept_after : Option (List Op)) : Type 0 where
+  pub ops : List Op
+  pub came : SourceComes start old ops Whole
+  pub read : IfSome new.left (λ bytes. bytes ≡ [])
+  pub replica_is : replica ≡ record start { held = held_from start.hold start.most start.held ops }
+  pub counts_are : counts ≡ tally_from start.hold start.most start.held ops no_counts
+  pub kept_are : kept_after ≡ copied kept (kept_from start.hold start.most start.held ops)
+
+-- the cause of a refusal of the stream
+abbrev pub IntakeStopsFor : Refusal → State → SourceView → Type 0
+IntakeStopsFor (BadFrame offset) start old = (ops : List Op) × SourceComes start old ops (HasBadFrame offset)
+IntakeStopsFor (CutShort offset) start old = (ops : List Op) × SourceComes start old ops (IsCutShort offset)
+IntakeStopsFor TooLong start old = (ops : List Op) × SourceComes start old ops IsTooLong
+IntakeStopsFor (TooMany count) start old = (count ≡ start.most) × (ops : List Op) × SourceComes start old ops HasTooMany
+IntakeStopsFor Outside start old = Unit {0}
+IntakeStopsFor NoMemory start old = Unit {0}
+IntakeStopsFor _ start old = ⊥

@@ -1,0 +1,94 @@
+-- The commands that take operations into a file: `take` those of the input, and `merge` those of another file.
+use Rattle.std.specs.Prelude.{◌≡◌, ◌⊎◌, ℕ, List, ◌++◌, length, true, Option, Some, None}
+use Rattle.fugue_ids.specs.Causes.{Rose}
+use Rattle.fugue_ids.specs.declared.op.Op.{Op}
+use Rattle.origin_model.specs.operations.History.{accepted}
+use Rattle.origin_model.specs.taking.Taking.{HasPlace, Held, held_from, kept_from, no_counts, tally_from}
+use Rattle.origin_model.specs.declared.taking.Tally.{Tally}
+use Rattle.op_frame.specs.Courses.{Whole, CutShort, BadFrame, TooLong, TooMany}
+use Rattle.outer_ports.specs.Sources.{SourceView}
+use Rattle.outer_ports.specs.disk.Disks.{DiskView}
+use Rattle.origin_model.specs.edits.State.{State as Replica}
+use Rattle.replica_file.specs.declared.load_file.End.{End}
+use Rattle.command_kinds.specs.Counts.{counts_text, status_by}
+use Rattle.command_kinds.specs.Files.{FileHolds, FileRefuses}
+use Rattle.command_kinds.specs.Findings.{Finding, Refuses, Does}
+use Rattle.command_kinds.specs.Intake.{SourceComes}
+use Rattle.command_kinds.specs.Saving.{Giver, Outcome}
+use Rattle.command_kinds.specs.Changes.{Change, HasDiskRoom, IsTold}
+use Rattle.command_kinds.specs.declared.refusal.Refusal.{Refusal}
+use Rattle.command_kinds.specs.declared.refusal.Refusal.TheVariants as refusal
+
+-- what became of operations that a replica takes in, and how many wait then
+abbrev pub counts_in : Replica → List Op → Tally
+counts_in replica ops = tally_from replica.hold replica.most replica.held ops no_counts
+
+abbrev pub waiting_in : Replica → List Op → ℕ
+waiting_in replica ops = length (held_from replica.hold replica.most replica.held ops).waiting
+
+-- what comes of operations that a replica takes in, perhaps from a relay whose log ends there: those that are kept are saved
+abbrev pub noted_in : Replica → List Op → (cursor : Option ℕ) → Outcome
+noted_in replica ops cursor = record {
+  saved = kept_from replica.hold replica.most replica.held ops;
+  held = held_from replica.hold replica.most replica.held ops;
+  line = counts_text (counts_in replica ops) (waiting_in replica ops) cursor;
+  status = status_by (counts_in replica ops) (waiting_in replica ops);
+}
+
+abbrev pub taken_in : Replica → List Op → Outcome
+taken_in replica ops = noted_in replica ops None
+
+-- the stream comes to an end that is the cause of this refusal
+abbrev pub StreamRefuses : Replica → SourceView → Refusal → Type 0
+StreamRefuses replica input (refusal.BadFrame offset) = (ops : List Op) × SourceComes replica input ops (BadFrame offset)
+StreamRefuses replica input (refusal.CutShort offset) = (ops : List Op) × SourceComes replica input ops (CutShort offset)
+StreamRefuses replica input refusal.TooLong = (ops : List Op) × SourceComes replica input ops TooLong
+StreamRefuses replica input (refusal.TooMany count) = (count ≡ replica.most) × (ops : List Op) × SourceComes replica input ops TooMany
+StreamRefuses replica input _ = ⊥
+
+-- what a stream gives
+abbrev pub StreamGives : SourceView → Replica → Finding Outcome → Type 0
+StreamGives input replica (Refuses why) = StreamRefuses replica input why
+StreamGives input replica (Does outcome) = (ops : List Op) × SourceComes replica input ops Whole × (outcome ≡ taken_in replica ops)
+
+abbrev pub stream : Change SourceView → Giver
+stream input = record {
+  Gives = StreamGives input.old;
+  Told = (bytes : List ℕ) × (input.old.left ≡ Some bytes);
+  Failed = Rose input.old.faults input.new.faults;
+  Sure = input.old.sure ≡ true;
+}
+
+-- all that a replica holds: the accepted operations in order, and then the waiting ones
+abbrev pub ops_of : Held → List Op
+ops_of held = accepted held.history ++ held.waiting
+
+-- one of the operations is one too many
+abbrev pub IsOneTooMany : Replica → List Op → Type 0
+IsOneTooMany replica ops = HasPlace replica.hold replica.most replica.held ops → ⊥
+
+-- what another replica gives: all that it holds is taken in, or one of it is one too many
+abbrev pub ReplicaGives : (other : Replica) → Replica → Finding Outcome → Type 0
+ReplicaGives other replica (Refuses why) = (why ≡ refusal.TooMany replica.most) × IsOneTooMany replica (ops_of other.held)
+ReplicaGives other replica (Does outcome) = HasPlace replica.hold replica.most replica.held (ops_of other.held) × (outcome ≡ taken_in replica (ops_of other.held))
+
+-- the file holds a replica that gives this
+abbrev pub HolderGives : DiskView → Replica → Finding Outcome → Type 0
+HolderGives guest replica finding = (other : Replica) × (end : End) × FileHolds guest other end × ReplicaGives other replica finding
+
+-- what another file gives: it is refused, or what its replica gives
+abbrev pub FileGives : DiskView → Replica → Finding Outcome → Type 0
+FileGives guest replica (Refuses why) = FileRefuses guest why ⊎ HolderGives guest replica (Refuses why)
+FileGives guest replica (Does outcome) = HolderGives guest replica (Does outcome)
+
+-- the other replica alone, which is no object of the outside
+abbrev pub all_held_by : (other : Replica) → Giver
+all_held_by other = record { Gives = ReplicaGives other; Told = Unit {0}; Failed = ⊥; Sure = Unit {0} }
+
+abbrev pub other_file : Change DiskView → Giver
+other_file guest = record {
+  Gives = FileGives guest.old;
+  Told = IsTold guest.old;
+  Failed = Rose guest.old.faults guest.new.faults;
+  Sure = HasDiskRoom 1 guest.old;
+}

@@ -1,0 +1,123 @@
+ghost use Rattle.std.specs.Prelude.{◌≡◌, ◌≤◌, ◌+◌, ◌++◌, length, None, Some};
+ghost use Rattle.fugue_ids.specs.Outs.{WritesBytes};
+ghost use Rattle.command_kinds.specs.Counts.{counts_line, counts_text, cursor_line, status_by};
+ghost use Rattle.command_kinds.specs.Changes.{notes_room};
+
+use crate::Status;
+use fugue_ids::{Failed, Out, write_pieces};
+use itoa::Buffer;
+use origin_model::Tally;
+use replica_core::Replica;
+
+/// What became of the operations that a command took in, and how many wait at the end.
+#[derive(Clone, Copy)]
+pub struct Counts {
+    pub tally: Tally,
+    pub waiting: usize,
+    /// Where the relay's log ended, if they came from one.
+    pub cursor: Option<u32>,
+}
+
+impl Counts {
+    /// The counts of a replica that took operations in.
+    pub(crate) fn of(replica: &Replica, tally: Tally) -> Counts
+        ensures { result ≡ record { tally = tally; waiting = length replica.now.held.waiting; cursor = None } }
+    {
+        Counts {
+            tally,
+            waiting: replica.waiting().len(),
+            cursor: None,
+        }
+    }
+
+    /// The counts of a replica that took in what a relay answered, whose log ended there.
+    pub(crate) fn of_exchange(replica: &Replica, tally: Tally, cursor: u32) -> Counts
+        ensures { result ≡ record { tally = tally; waiting = length replica.now.held.waiting; cursor = Some cursor } }
+    {
+        Counts {
+            cursor: Some(cursor),
+            ..Counts::of(replica, tally)
+        }
+    }
+}
+
+/// What a command that saves notes.
+#[derive(Clone, Copy)]
+pub enum Note {
+    /// What became of the operations that it took in.
+    Counted(Counts),
+    /// How many operations a script made.
+    Made(u32),
+}
+
+/// Writes what became of the operations, how many wait at the end, and where the relay's log ended.
+pub(crate) fn write_counts<N: Out>(notes: &mut N, counts: &Counts) -> Result<(), Failed>
+    ensures text { WritesBytes (N.seen notes.old) (N.seen notes.new) result
+        (counts_text counts.now.tally counts.now.waiting counts.now.cursor) }
+    ensures short { length (counts_text counts.now.tally counts.now.waiting counts.now.cursor) ≤ notes_room }
+{
+    match counts.cursor {
+        None => write_tally(notes, counts),
+        Some(cursor) => write_exchange(notes, counts, cursor),
+    }
+}
+
+fn write_exchange<N: Out>(notes: &mut N, counts: &Counts, cursor: u32) -> Result<(), Failed>
+    ensures text { WritesBytes (N.seen notes.old) (N.seen notes.new) result
+        (counts_line counts.now.tally counts.now.waiting ++ cursor_line cursor) }
+    ensures short { length (counts_line counts.now.tally counts.now.waiting ++ cursor_line cursor) ≤ notes_room }
+{
+    write_tally(notes, counts)?;
+    write_cursor(notes, cursor)
+}
+
+fn write_cursor<N: Out>(notes: &mut N, cursor: u32) -> Result<(), Failed>
+    ensures text { WritesBytes (N.seen notes.old) (N.seen notes.new) result (cursor_line cursor) }
+    ensures short { length (cursor_line cursor) ≤ 18 }
+{
+    let mut number = Buffer::new();
+    write_pieces(
+        notes,
+        &[b"cursor ", number.format(cursor).as_bytes(), b"\n"],
+    )
+}
+
+fn write_tally<N: Out>(notes: &mut N, counts: &Counts) -> Result<(), Failed>
+    ensures text { WritesBytes (N.seen notes.old) (N.seen notes.new) result
+        (counts_line counts.now.tally counts.now.waiting) }
+    ensures short { length (counts_line counts.now.tally counts.now.waiting) + 18 ≤ notes_room }
+{
+    let tally = &counts.tally;
+    let [mut accepted, mut repeated, mut waits] = [Buffer::new(), Buffer::new(), Buffer::new()];
+    let [mut conflict, mut stray, mut full] = [Buffer::new(), Buffer::new(), Buffer::new()];
+    write_pieces(
+        notes,
+        &[
+            b"accepted ",
+            accepted.format(tally.accepted).as_bytes(),
+            b", repeated ",
+            repeated.format(tally.repeated).as_bytes(),
+            b", waiting ",
+            waits.format(counts.waiting).as_bytes(),
+            b", conflict ",
+            conflict.format(tally.conflict).as_bytes(),
+            b", stray ",
+            stray.format(tally.stray).as_bytes(),
+            b", full ",
+            full.format(tally.full).as_bytes(),
+            b"\n",
+        ],
+    )
+}
+
+/// Partial where some operation waits or was refused, and Done otherwise.
+pub(crate) fn status_of(counts: &Counts) -> Status
+    ensures { result ≡ status_by counts.now.tally counts.now.waiting }
+{
+    let tally = &counts.tally;
+    if counts.waiting == 0 && tally.conflict == 0 && tally.stray == 0 && tally.full == 0 {
+        Status::Done
+    } else {
+        Status::Partial
+    }
+}

@@ -1,0 +1,62 @@
+//! The command `edit`: a script is run.
+ghost use Rattle.std.specs.Prelude.{◌≤◌, length};
+ghost use Rattle.fugue_ids.specs.Outs.{WritesBytes};
+ghost use Rattle.command_kinds.specs.Counts.{made_line};
+ghost use Rattle.command_kinds.specs.Edit.{script};
+ghost use Rattle.command_kinds.specs.Printing.{NoteMeets, NotesBlameless};
+ghost use Rattle.command_kinds.specs.Saving.{ReadsInput};
+ghost use Rattle.command_kinds.specs.Changes.{change, StaysCalm, notes_room};
+ghost use Rattle.command_kinds.specs.declared.status.Status.TheVariants.{Done};
+
+use crate::Status;
+use crate::counts::Note;
+use crate::giving::Gives;
+use crate::kept::Kept;
+use crate::printing::noted;
+use crate::refusal::Refusal;
+use edit_script::run_script;
+use fugue_ids::{Failed, Out, write_pieces};
+use itoa::Buffer;
+use outer_ports::{Sink, Source};
+use replica_core::Replica;
+use std::alloc::Global;
+
+/// The script on the input.
+pub struct Script;
+
+impl<S: Source> Gives<S> for Script {
+    ghost Leaves = { λ what home before after end. ReadsInput (S.seen before) (S.seen after) end };
+
+    ghost giver = { λ what home before after course. script (change (S.seen before) (S.seen after)) };
+
+    fn give(
+        &self,
+        alloc: Global,
+        from: &mut S,
+        replica: &mut Replica,
+        _kept: &mut Kept,
+    ) -> Result<Note, Refusal> {
+        let made = run_script(alloc, replica, from)?;
+        Ok(Note::Made(made))
+    }
+
+    fn laws(&self) {}
+}
+
+/// Writes to the notes how many operations a script made.
+pub(crate) fn note_made<N: Sink>(made: u32, notes: &mut N) -> Status
+    ensures meets { NoteMeets (made_line made) Done (N.seen notes.old) (N.seen notes.new) result }
+    ensures calm { StaysCalm notes_room (N.seen notes.old) (N.seen notes.new) }
+    ensures blameless { NotesBlameless (change (N.seen notes.old) (N.seen notes.new)) result }
+{
+    let written = write_made(notes, made);
+    noted(written, Status::Done, notes)
+}
+
+fn write_made<N: Out>(notes: &mut N, made: u32) -> Result<(), Failed>
+    ensures text { WritesBytes (N.seen notes.old) (N.seen notes.new) result (made_line made) }
+    ensures short { length (made_line made) ≤ notes_room }
+{
+    let mut number = Buffer::new();
+    write_pieces(notes, &[b"made ", number.format(made).as_bytes(), b"\n"])
+}

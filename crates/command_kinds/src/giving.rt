@@ -1,0 +1,167 @@
+//! The commands that save: something is given to the replica of the home file, and what came of it is saved and noted.
+ghost use Rattle.std.specs.Prelude.{◌≡◌, ◌≢◌, [], drop, Some, IfSome};
+ghost use Rattle.outer_ports.specs.disk.Disks.{DiskTells, DiskView};
+ghost use Rattle.replica_file.specs.declared.load_file.End.{End as FileEnd};
+ghost use Rattle.replica_file.specs.Ends.{EndsAt, IsWithinReach};
+ghost use Rattle.replica_file.specs.Loading.{IsReady};
+ghost use Rattle.command_kinds.specs.Crashes.{IsFinished};
+ghost use Rattle.command_kinds.specs.Files.{FileHolds};
+ghost use Rattle.command_kinds.specs.Giving.{GivenNoted, GivesTo, MayEnd, SavesNoted};
+ghost use Rattle.command_kinds.specs.Giving.{note_line, note_status, to_save as ops_to_save};
+ghost use Rattle.command_kinds.specs.Printing.{NoteMeets, NotesBlameless};
+ghost use Rattle.command_kinds.specs.Findings.{Finding};
+ghost use Rattle.command_kinds.specs.Saving.{Giver, GivesOnce, Outcome, SavesGiven, SavingBlameless};
+ghost use Rattle.command_kinds.specs.Changes.{StaysCalm, change, notes_room};
+ghost use Rattle.command_kinds.specs.declared.refusal.Refusal.TheVariants.{Outside};
+ghost use Rattle.command_kinds.specs.declared.status.Status.{Status as AnyStatus};
+
+use crate::Status;
+use crate::counts::Note;
+use crate::edit::note_made;
+use crate::home_file::{load_file, save};
+use crate::kept::Kept;
+use crate::printing::note as note_counts;
+use crate::refusal::{Refusal, tell};
+use fugue_ids::Op;
+use outer_ports::{Disk, Sink};
+use replica_core::Replica;
+use replica_file::End;
+use std::alloc::Global;
+
+/// What a command gives to the replica of its home file, from an object of the outside.
+pub trait Gives<F> {
+    /// What is given, by the home file at entry, by the object before and after, and by the course that giving took:
+    /// where several are right, the giver is of the one that came.
+    ghost giver: { Self → DiskView → F → F → Finding Outcome → Giver };
+
+    /// How the object is left, where the command ends so.
+    ghost Leaves: { Self → DiskView → F → F → AnyStatus → Type 0 };
+
+    /// Gives to a replica that was loaded. What is to be saved is copied into `kept`, but for what a script made.
+    fn give(
+        &self,
+        alloc: Global,
+        from: &mut F,
+        replica: &mut Replica,
+        kept: &mut Kept,
+    ) -> Result<Note, Refusal>
+        requires ready { IsReady replica.old }
+        requires none_kept { kept.old ≡ Some [] }
+        ensures gives { (home : DiskView) (last : FileEnd) → FileHolds home replica.old last
+            → (course : Finding Outcome)
+            × GivesTo (giver self.now home from.old from.new course) replica.old replica.new kept.new result }
+        ensures leaves { (home : DiskView) (last : FileEnd) → FileHolds home replica.old last
+            → (end : AnyStatus) → MayEnd result end → Leaves self.now home from.old from.new end };
+
+    /// The laws of a giver: what is told gives one thing, and an object that is not used is left as it should be.
+    fn laws(&self)
+        ensures once { (home : DiskView) (before after : F) (course : Finding Outcome)
+            → GivesOnce (giver self.now home before after course) }
+        ensures idle { (home : DiskView) (from : F) (end : AnyStatus) → (IsFinished end → ⊥)
+            → Leaves self.now home from from end };
+}
+
+/// Loads the home file, lets the giver give to its replica, saves what came of it by one append, and notes it.
+pub fn save_given<F, T: Gives<F>, H: Disk, N: Sink>(
+    alloc: Global,
+    giver: &T,
+    from: &mut F,
+    home: &mut H,
+    notes: &mut N,
+) -> Status
+    ensures saves { (course : Finding Outcome)
+        × SavesGiven (T.giver giver.now (H.seen home.old) from.old from.new course)
+        (change (H.seen home.old) (H.seen home.new)) (change (N.seen notes.old) (N.seen notes.new)) result }
+    ensures blameless { SavingBlameless (change (H.seen home.old) (H.seen home.new))
+        (change (N.seen notes.old) (N.seen notes.new)) result }
+    ensures leaves { T.Leaves giver.now (H.seen home.old) from.old from.new result }
+{
+    giver.laws();
+    match load_and_save(alloc, giver, from, home) {
+        Ok(note) => note_down(&note, notes),
+        Err(why) => tell(notes, why),
+    }
+}
+
+/// Loads the home file, and saves what was given to its replica. The answer is what is to be noted.
+fn load_and_save<F, T: Gives<F>, H: Disk>(
+    alloc: Global,
+    giver: &T,
+    from: &mut F,
+    home: &mut H,
+) -> Result<Note, Refusal>
+    ensures saves { (course : Finding Outcome)
+        × SavesNoted (T.giver giver.now (H.seen home.old) from.old from.new course)
+        (change (H.seen home.old) (H.seen home.new)) result }
+    ensures told { DiskTells (H.seen home.old) → result ≢ Err Outside
+        → (H.seen home.new).faults ≡ (H.seen home.old).faults }
+    ensures leaves { (end : AnyStatus) → MayEnd result end
+        → T.Leaves giver.now (H.seen home.old) from.old from.new end }
+{
+    giver.laws();
+    let (mut replica, end) = load_file(alloc, home)?;
+    let mut kept = Kept::copied(alloc);
+    let saved = give_and_save(alloc, giver, from, &mut replica, end, home, &mut kept);
+    drop(replica);
+    saved
+}
+
+/// Saves what was given to the replica of the home file, which was loaded and ends there.
+fn give_and_save<F, T: Gives<F>, H: Disk>(
+    alloc: Global,
+    giver: &T,
+    from: &mut F,
+    replica: &mut Replica,
+    end: End,
+    home: &mut H,
+    kept: &mut Kept,
+) -> Result<Note, Refusal>
+    requires ready { IsReady replica.old }
+    requires reaches { IsWithinReach end }
+    requires ends { IfSome (H.seen home.old).past (λ h. EndsAt h.last end) }
+    requires none_kept { kept.old ≡ Some [] }
+    ensures given { (file : DiskView) → FileHolds file replica.old end → (course : Finding Outcome)
+        × GivenNoted (T.giver giver.now file from.old from.new course) replica.old end
+        (change (H.seen home.old) (H.seen home.new)) result }
+    ensures told { DiskTells (H.seen home.old) → result ≢ Err Outside
+        → (H.seen home.new).faults ≡ (H.seen home.old).faults }
+    ensures leaves { (file : DiskView) → FileHolds file replica.old end
+        → (status : AnyStatus) → MayEnd result status → T.Leaves giver.now file from.old from.new status }
+{
+    let before = replica.accepted().len();
+    let note = giver.give(alloc, from, replica, kept)?;
+    save(alloc, home, end, to_save(&note, before, replica, kept))?;
+    Ok(note)
+}
+
+/// What is to be saved, where so many operations were accepted before something was given.
+fn to_save<'a>(note: &Note, before: usize, replica: &'a Replica, kept: &'a Kept) -> &'a [Op]
+    ensures { result.now ≡ ops_to_save note.now before replica.now kept.now }
+{
+    match note {
+        Note::Counted(_) => kept.ops(),
+        Note::Made(_) => behind(replica.accepted(), before),
+    }
+}
+
+/// The operations behind so many.
+fn behind(ops: &[Op], before: usize) -> &[Op]
+    ensures { result.now ≡ drop before ops.now }
+{
+    if before <= ops.len() {
+        &ops[before..]
+    } else {
+        &[]
+    }
+}
+
+fn note_down<N: Sink>(note: &Note, notes: &mut N) -> Status
+    ensures meets { NoteMeets (note_line note.now) (note_status note.now) (N.seen notes.old) (N.seen notes.new) result }
+    ensures calm { StaysCalm notes_room (N.seen notes.old) (N.seen notes.new) }
+    ensures blameless { NotesBlameless (change (N.seen notes.old) (N.seen notes.new)) result }
+{
+    match note {
+        Note::Counted(counts) => note_counts(counts, notes),
+        Note::Made(made) => note_made(*made, notes),
+    }
+}

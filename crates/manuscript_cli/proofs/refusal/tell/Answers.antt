@@ -1,6 +1,0 @@
-use Rattle.manuscript_cli.specs.Refusal.{refusal_line}
-use Rattle.manuscript_cli.proofs.LineLemmas.{line_told}
-use Rattle.manuscript_cli.proofs.refusal.tell.Goals as goal
-
-pub returns-clause-told : goal.returns-clause-told
-returns-clause-told g c = line_told c.write_line.result _ _ (refusal_line c.args.refusal) c.write_line.ensures.text c.write_line.ensures.short
