@@ -15,3 +15,5 @@ pub mod NamedVersions
 pub mod Bulk
 pub mod Run
 pub mod Runs
+pub use Rattle.command_kinds.specs.Counts
+pub use Rattle.command_kinds.specs.Refusal
