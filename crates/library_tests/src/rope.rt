@@ -69,6 +69,23 @@ fn insert(
     }
 }
 
+/// Another value for an item, and one item more directly behind it, where both may be.
+fn part(
+    rope: &mut Rope<Stretch>,
+    at: ElementId,
+    front: Stretch,
+    key: ElementId,
+    back: Stretch,
+) -> Result<(), NoMemory> {
+    if rope.len() >= 4_000_000 || is_held(rope, key) || !is_held(rope, at) {
+        return Err(NoMemory);
+    }
+    match rope.part(at, front, key, back) {
+        Ok(()) => Ok(()),
+        Err(_) => Err(NoMemory),
+    }
+}
+
 /// The rank of a value.
 fn rank(value: Option<&Stretch>) -> Option<u32> {
     match value {
@@ -194,5 +211,12 @@ fn items_are_found_by_keys_units_and_ranks(rt: HostRuntime) {
         let key = wanted.map(|(counter, _)| id(1, counter));
         equal_at(&rt, &counter, rope.floor(id(1, counter)), key);
     }
+    let (front, back) = (Stretch { units: 1, rank: 2 }, Stretch { units: 2, rank: 3 });
+    let parted = part(&mut rope, id(1, 7), front, id(1, 8), back);
+    equal(&rt, parted, Ok(()));
+    let found = (rope.next(id(1, 7)), rank(rope.get(id(1, 8))));
+    equal(&rt, found, (Some(id(1, 8)), Some(3)));
+    let sums = (rope.weight_before(id(1, 8)), rope.total(), rope.len());
+    equal(&rt, sums, (Some(12), 14, 6));
     drop(rope);
 }
