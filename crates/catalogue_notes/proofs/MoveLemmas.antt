@@ -8,6 +8,7 @@ use Rattle.std.proofs.lemmas.List.Elements.{All-append, All-cons, All-nil, Conta
 use Rattle.std.proofs.lemmas.List.Kept.{AllPairs-filter}
 use Rattle.std.proofs.lemmas.Nat.{from_be_bytes-to_be_bytes_4}
 use Rattle.fugue_ids.specs.Identifiers.{Identifier, id_eq}
+use Rattle.fugue_ids.specs.Listed.{last_before}
 use Rattle.fugue_ids.specs.declared.op.Op.{Op}
 use Rattle.fugue_ids.specs.declared.op.Op.TheVariants.{Note}
 use Rattle.fugue_ids.proofs.IdentifierLemmas.{cases_id, eq-id_eq, id_eq-refl, ne-id_eq}
@@ -18,7 +19,7 @@ use Rattle.origin_model.specs.operations.History.{holder}
 use Rattle.origin_model.specs.operations.Verdict.{Lawful, verdict}
 use Rattle.origin_model.specs.order.Order.{order}
 use Rattle.origin_model.specs.order.Printed.{is_hidden, shown}
-use Rattle.origin_model.specs.edits.Landing.{last_before, following}
+use Rattle.origin_model.specs.edits.Landing.{following}
 use Rattle.origin_model.proofs.SharedLemmas.{found, not_hidden_before}
 use Rattle.origin_model.proofs.edits.LandsBehindLemmas.{lands_behind_origin}
 use Rattle.origin_model.proofs.edits.SplitLemmas.{end_none, end_split, get_in}

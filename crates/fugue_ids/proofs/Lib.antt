@@ -4,3 +4,8 @@ pub mod JoinLemmas
 pub mod GatherLemmas
 pub mod IdentifierLemmas
 pub mod OpLemmas
+pub mod PartedLemmas
+pub mod LowLemmas
+pub mod PartLemmas
+pub mod PassingLemmas
+pub mod HalvesLemmas

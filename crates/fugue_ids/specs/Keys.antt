@@ -50,6 +50,10 @@ last_id [] = None
 last_id (e ∷ []) = Some e.id
 last_id (e ∷ f ∷ es) = last_id (f ∷ es)
 
+-- the elements whose key is at most k
+abbrev pub low_ids : Key → List Keyed → List Identifier
+low_ids k es = ids (filter (is_low k) es)
+
 -- the first element whose key is at most k
 abbrev pub first_low : Key → List Keyed → Option Identifier
 first_low k es = first_id (filter (is_low k) es)

@@ -7,3 +7,4 @@ pub mod Causes
 pub mod Outs
 pub mod Gathers
 pub mod Keys
+pub mod Passing

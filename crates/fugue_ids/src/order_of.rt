@@ -1,8 +1,9 @@
-ghost use Rattle.std.specs.Prelude.{◌≡◌, ◌≢◌, ◌↔◌, All, AllPairs, Contains, IfSome, IsNone, List, [], nat_lt};
+ghost use Rattle.std.specs.Prelude.{◌≡◌, ◌≢◌, All, AllPairs, Bool, Contains, List, nat_lt};
 ghost use Rattle.fugue_ids.specs.Identifiers.{Identifier};
 ghost use Rattle.fugue_ids.specs.Keys.{HasKey, IsFit, Keyed, between, first_id, first_low as first_low_in, front_of};
-ghost use Rattle.fugue_ids.specs.Keys.{ids, last_id, last_low as last_low_in, rest_of};
+ghost use Rattle.fugue_ids.specs.Keys.{ids, last_id, last_low as last_low_in, low_ids, rest_of};
 ghost use Rattle.fugue_ids.specs.Listed.{index_of, HoldsOrigin};
+ghost use Rattle.fugue_ids.specs.Passing.{Falls, IsTest, last_passing as last_passing_of};
 
 use crate::{ElementId, Key};
 
@@ -49,14 +50,22 @@ pub trait OrderOf {
     /// The last element before this one, or before the end, whose key is at most `most`.
     fn last_low(&self, id: Option<ElementId>, most: Key) -> Option<ElementId>
         requires held { HoldsOrigin (ids (listed self.now)) id }
-        ensures found { result ≡ last_low_in most (front_of id (listed self.now)) }
-        ensures fit { All IsFit (listed self.now) };
+        ensures { result ≡ last_low_in most (front_of id (listed self.now)) };
 
-    /// An element between the two, where there is one. A search by halves asks for it: the nearer to the middle, the
-    /// fewer turns it takes.
-    fn middle(&self, from: Option<ElementId>, to: Option<ElementId>) -> Option<ElementId>
-        requires held { HoldsOrigin (ids (listed self.now)) from }
-        requires behind { HoldsOrigin (ids (rest_of from (listed self.now))) to }
-        ensures none { IsNone result ↔ (between from to (listed self.now) ≡ []) }
-        ensures some { IfSome result (λ m. Contains (ids (between from to (listed self.now))) m) };
+    /// The last element between the two whose key is at most `most` and that passes the test. Of the elements of those
+    /// keys the ones that pass have to stand first: the search halves them.
+    fn last_passing<P: Fn(ElementId) -> bool>(
+        &self,
+        from: Option<ElementId>,
+        to: Option<ElementId>,
+        most: Key,
+        test: P,
+    ) -> Option<ElementId>
+        requires from { HoldsOrigin (low_ids most (listed self.now)) from }
+        requires to { HoldsOrigin (low_ids most (rest_of from (listed self.now))) to }
+        requires callable { P.IsAlwaysCallable test }
+        ensures last { (g : Identifier → Bool) → IsTest (P.post test) g
+            → Falls g (low_ids most (between from to (listed self.now)))
+            → result ≡ last_passing_of g (low_ids most (between from to (listed self.now))) }
+        ensures fit { All IsFit (listed self.now) };
 }

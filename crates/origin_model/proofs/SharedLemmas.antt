@@ -9,10 +9,8 @@ pub use Rattle.origin_model.proofs.order.OrderLawLemmas.{Within-part, hidden-has
 pub use Rattle.origin_model.proofs.order.OrderLemmas.{IsIn-held, further, lefts-in, order-none, order-some, order_bounded, right_at_in, rights-in}
 pub use Rattle.origin_model.proofs.order.PositionLemmas.{index_end, origin_before}
 pub use Rattle.origin_model.proofs.order.PrintedLemmas.{section_joins}
-pub use Rattle.origin_model.proofs.sides.DetachedLemmas.{absent_stays, found_without, newest_taken_back, nodes_stay}
-pub use Rattle.origin_model.proofs.sides.HalvesLemmas.{passing_before, passing_behind}
-pub use Rattle.origin_model.proofs.sides.KeyedListLemmas.{front_at, rest_at}
-pub use Rattle.origin_model.proofs.sides.KeyedOrderLemmas.{adjacent, gap_at, gap_found, gap_within, key_found, key_held, keyed_at_gap, keyed_ids, keyed_joins, keyed_once, keys_fit, new_key_slot, order_once, part_bounds, part_least, siblings_fall, slot_held}
+pub use Rattle.origin_model.proofs.sides.DetachedLemmas.{absent_stays, found_without, nodes_stay}
+pub use Rattle.origin_model.proofs.sides.KeyedOrderLemmas.{adjacent, gap_at, gap_found, gap_within, key_found, key_held, keyed_at_gap, keyed_ids, keyed_joins, keys_fit, new_key_slot, order_once, part_bounds, part_least, siblings_fall, slot_held}
 pub use Rattle.origin_model.proofs.sides.NewKeyLemmas.{key-other, never_both, newest_key}
 pub use Rattle.origin_model.proofs.sides.NodeHistoryLemmas.{holder-nodes, nodes-lawful, nodes_lawful, op_of}
 pub use Rattle.origin_model.proofs.sides.NodeOrderLemmas.{IsByNodes, nodes-none, nodes_listed, order_by_nodes}

@@ -17,7 +17,7 @@ pub mod BlockLemmas
 pub mod OwnTableLemmas
 pub mod KeyedBlockLemmas
 pub mod KeyedPartLemmas
-pub mod HalvesLemmas
+pub mod PassingLemmas
 pub mod KeyedGapLemmas
 pub mod NewKeyLemmas
 pub mod KeyedOrderLemmas

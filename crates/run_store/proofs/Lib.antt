@@ -26,3 +26,5 @@ pub mod LowLemmas
 pub mod LowPlaceLemmas
 pub mod MiddleLemmas
 pub mod StandingLemmas
+pub mod FoundLemmas
+pub mod PassingLemmas

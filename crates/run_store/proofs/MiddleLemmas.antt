@@ -8,11 +8,15 @@ use Rattle.fugue_ids.specs.Identifiers.{Identifier}
 use Rattle.fugue_ids.specs.Keys.{Keyed, between, front_of, ids as ids_of, rest_of}
 use Rattle.fugue_ids.specs.Listed.{HoldsOrigin, index_of}
 use Rattle.fugue_ids.proofs.IdentifierLemmas.{cases_id, contains-below, eq-id_eq, index_of-here, index_of-there, ne-id_eq}
+use Rattle.fugue_ids.proofs.LowLemmas.{low_held}
+use Rattle.fugue_ids.proofs.PartedLemmas.{Apart}
 use Rattle.fugue_ids.proofs.ListLemmas.{all_pairs_head, all_pairs_tail, contains_cases, contains_here, contains_none, contains_there}
 use Rattle.run_store.specs.Cells.{cell_ids, keyed_cells}
-use Rattle.run_store.specs.Standings.{IsWithin, begin_index, end_index}
+use Rattle.run_store.specs.Standings.{IsPart, IsWithin, begin_index, end_index}
 use Rattle.run_store.specs.Runs.{AreRuns, cells_in}
 use Rattle.run_store.specs.declared.run.Runs.{Runs}
+use Rattle.run_store.specs.declared.standing.Found.{Found}
+use Rattle.run_store.specs.declared.standing.Part.{Part}
 use Rattle.run_store.proofs.KeyLemmas.{keyed-ids}
 
 -- what stands behind an origin, and before one, by their indexes
@@ -110,14 +114,7 @@ module _ (r : Runs) (s : AreRuns r) (from to : Option Identifier) (held : HoldsO
   apart : end_index xs to ≡ n + w
   apart = end-behind xs s.distinct n small to inside
 
-  -- the end is held too, and is no less than the beginning
-  pub end-held : HoldsOrigin xs to
-  end-held = by_origin to inside
-    where
-      by_origin : (o : Option Identifier) → HoldsOrigin (drop n xs) o → HoldsOrigin xs o
-      by_origin None h = tt
-      by_origin (Some y) h = contains-drop n xs y h
-
+  -- the end is no less than the beginning
   pub in-order : n ≤ end_index xs to
   in-order = omega (arith, apart)
 
@@ -135,10 +132,22 @@ module _ (r : Runs) (s : AreRuns r) (from to : Option Identifier) (held : HoldsO
     as_within : (m : Identifier) → IsWithin xs low high m → IsWithin xs n (end_index xs to) m
     as_within m i = record { held = i.held; from = omega (arith, i.from, begins); to = omega (arith, i.to, ends) }
 
-    pub none-answers : (o : Option Identifier) → IfSome o (λ m. IsWithin xs low high m) → IfNone o (high ≤ low) → (IsNone o → between from to es ≡ []) × (between from to es ≡ [] → IsNone o)
+    pub none-answers : (o : Option Found) → IfSome o (λ m. IsWithin xs low high m.id) → IfNone o (high ≤ low) → (IsNone o → between from to es ≡ []) × (between from to es ≡ [] → IsNone o)
     none-answers None some none = ((λ z. none-between (omega (arith, none, begins, ends))), (λ z. refl))
-    none-answers (Some m) some none = ((λ z. absurd (cc z)), (λ z. absurd (some-between m (one-between m (as_within m some)) z)))
+    none-answers (Some m) some none = ((λ z. absurd (cc z)), (λ z. absurd (some-between m.id (one-between m.id (as_within m.id some)) z)))
 
-    pub some-answers : (o : Option Identifier) → IfSome o (λ m. IsWithin xs low high m) → IfSome o (λ m. Contains (ids_of (between from to es)) m)
+    pub some-answers : (o : Option Found) → IfSome o (λ m. IsWithin xs low high m.id) → IfSome o (λ m. Contains (ids_of (between from to es)) m.id)
     some-answers None some = tt
-    some-answers (Some m) some = one-between m (as_within m some)
+    some-answers (Some m) some = one-between m.id (as_within m.id some)
+
+-- no cell comes twice
+pub cells-apart : (r : Runs) → AreRuns r → Apart (keyed_cells (cells_in r))
+cells-apart r s = subst (AllPairs (λ x y. x ≢ y)) (sym (keyed-ids (cells_in r))) s.distinct
+
+-- the ends of a part are held
+module _ (r : Runs) (p : Part) (is : IsPart r p) where
+  pub part-from : HoldsOrigin (cell_ids (cells_in r)) p.from
+  part-from = subst (λ xs. HoldsOrigin xs p.from) (keyed-ids (cells_in r)) (low_held p.most (keyed_cells (cells_in r)) p.from is.from)
+
+  pub part-to : HoldsOrigin (ids_of (rest_of p.from (keyed_cells (cells_in r)))) p.to
+  part-to = low_held p.most (rest_of p.from (keyed_cells (cells_in r))) p.to is.to

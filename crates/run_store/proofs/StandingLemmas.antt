@@ -8,7 +8,6 @@ use Rattle.run_store.specs.Heads.{head_behind}
 use Rattle.run_store.specs.Runs.{AreRuns, all_cells, cells_in, cells_of, first_of, letters_of}
 use Rattle.run_store.specs.Standings.{IsBegin, IsEnd, IsInRun, IsWithin, cells_to, index_at}
 use Rattle.run_store.specs.declared.cell.Cell.{Cell}
-use Rattle.run_store.specs.declared.cell.Head.{Head}
 use Rattle.run_store.specs.declared.run.Run.{Run}
 use Rattle.run_store.specs.declared.run.Runs.{Runs}
 use Rattle.run_store.proofs.EarlierLemmas.{index-spot, run-width}
@@ -28,12 +27,12 @@ module _ (r : Runs) (s : AreRuns r) where
       )
 
   -- a cell of a run, between two offsets
-  pub in-run : (run : Run) (i o from to : ℕ) (h : Head) → h ≡ head_behind o (first_of run) → slice_get r.rope i ≡ Some (run.id, run) → from ≤ o → o < to → o < run.len → IsInRun r.rope i from to h.id
-  in-run run i o from to h e at low high inside = record {
+  pub in-run : (run : Run) (i o from to : ℕ) (x : Identifier) → x ≡ (head_behind o (first_of run)).id → slice_get r.rope i ≡ Some (run.id, run) → from ≤ o → o < to → o < run.len → IsInRun r.rope i from to x
+  in-run run i o from to x e at low high inside = record {
     run = run;
     offset = o;
     at = at;
-    spot = record { held = value-there r s i run.id run at; inside = inside; is = ap (λ (z : Head). z.id) e };
+    spot = record { held = value-there r s i run.id run at; inside = inside; is = e };
     from = low;
     to = high;
   }

@@ -170,7 +170,7 @@ impl Runs {
         }
     }
 
-    /// What the cell of this identifier, which is there, says of itself.
+    /// What the cell of this identifier says of itself, by where it was found; None where it was not.
     fn head_at(&self, id: ElementId, spot: Option<Spot>) -> Option<Head>
         requires sound { AreRuns self.now }
         requires some { IfSome spot (λ s. IsSpot self.now.rope id s.run s.offset) }

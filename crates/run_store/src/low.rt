@@ -11,10 +11,10 @@ use crate::run::{Run, Runs, rank_of};
 use fugue_ids::{ElementId, Key};
 
 /// Whether a key is at most another.
-fn is_at_most(key: Key, most: Key) -> bool
+pub(crate) fn is_at_most(key: Key, most: Key) -> bool
     ensures { result ≡ not (key_lt most key) }
 {
-    key.depth < most.depth || (key.depth == most.depth && key.forest <= most.forest)
+    key <= most
 }
 
 /// The last of the first `len` cells of a run whose key is at most `most`.

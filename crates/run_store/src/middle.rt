@@ -1,87 +1,96 @@
-// A cell between two others.
-ghost use Rattle.std.specs.Prelude.{◌≡◌, ◌↔◌, ◌≤◌, ◌<◌, Contains, IfNone, IfSome, IsNone, Some, [], slice_get, ℕ};
+// Where cells stand, and a cell in the middle of a part.
+ghost use Rattle.std.specs.Prelude.{◌≡◌, ◌↔◌, ◌+◌, ◌≤◌, ◌<◌, ◌^◌, Contains, IfNone, IfSome, IsNone, Some, [], slice_get, ℕ};
 ghost use Rattle.fugue_ids.specs.Identifiers.{Identifier};
 ghost use Rattle.fugue_ids.specs.Keys.{between, rest_of, ids as ids_of};
 ghost use Rattle.fugue_ids.specs.Listed.{HoldsOrigin};
 ghost use Rattle.run_store.specs.Cells.{cell_ids, keyed_cells};
-ghost use Rattle.run_store.specs.Standings.{IsBegin, IsEnd, IsInRun, IsWithin, begin_index, end_index, index_at};
-ghost use Rattle.run_store.specs.Runs.{AreRuns, cells_in};
+ghost use Rattle.run_store.specs.Heads.{head_behind};
+ghost use Rattle.run_store.specs.Standings.{BeginsBehind, EndsBefore, IsBegin, IsEnd, IsFound, IsInRun, IsPart, IsWithin};
+ghost use Rattle.run_store.specs.Standings.{found_at, index_at};
+ghost use Rattle.run_store.specs.Runs.{AreRuns, cells_in, first_of};
 ghost use Rattle.run_store.specs.declared.run.Run.{Run};
 
 use crate::parts::cell_at;
-use crate::run::Runs;
+use crate::run::{Run, Runs};
+use crate::standing::{Found, Part, Standing};
 use fugue_ids::ElementId;
 
-/// A place among the cells: in the run behind this many others, behind this many of its cells.
-#[derive(Clone, Copy)]
-struct Standing {
-    place: usize,
-    offset: u32,
+/// The cell of a run at a place behind `offset` others of it.
+fn found_in(run: &Run, place: usize, offset: u32) -> Found
+    requires counters { run.now.id.counter + offset < 2 ^ 32 }
+    requires depths { run.now.key.depth + offset < 2 ^ 32 }
+    ensures { result ≡ found_at place offset (head_behind offset (first_of run.now)) }
+{
+    let cell = cell_at(run, offset);
+    Found {
+        id: cell.id,
+        key: cell.key,
+        at: Standing { place, offset },
+    }
 }
 
 impl Runs {
+    /// The cell of this identifier, which is there.
+    pub(crate) fn found(&self, id: ElementId) -> Found
+        requires sound { AreRuns self.now }
+        requires held { Contains (cell_ids (cells_in self.now)) id }
+        ensures found { IsFound self.now.rope result }
+        ensures same { result.id ≡ id }
+    {
+        match self.find(id) {
+            Some(spot) => found_in(&spot.run, self.place_of(&spot.run), spot.offset),
+            None => unreachable!(),
+        }
+    }
+
     /// Where the cells behind this one begin.
-    fn begin_of(&self, from: Option<ElementId>) -> Standing
+    pub(crate) fn begin_of(&self, from: Option<ElementId>) -> Standing
         requires sound { AreRuns self.now }
         requires held { HoldsOrigin (cell_ids (cells_in self.now)) from }
-        ensures stands { IsBegin self.now.rope result.place result.offset }
-        ensures at { index_at self.now result.place result.offset
-            ≡ begin_index (cell_ids (cells_in self.now)) from }
+        ensures { BeginsBehind self.now from result }
     {
-        let id = match from {
-            Some(id) => id,
-            None => {
-                return Standing {
-                    place: 0,
-                    offset: 0,
-                };
+        match from {
+            Some(id) => {
+                let cell = self.found(id);
+                Standing {
+                    place: cell.at.place,
+                    offset: cell.at.offset + 1,
+                }
             }
-        };
-        match self.find(id) {
-            Some(spot) => Standing {
-                place: self.place_of(&spot.run),
-                offset: spot.offset + 1,
+            None => Standing {
+                place: 0,
+                offset: 0,
             },
-            None => unreachable!(),
         }
     }
 
     /// Where the cells before this one end.
-    fn end_of(&self, to: Option<ElementId>) -> Standing
+    pub(crate) fn end_of(&self, to: Option<ElementId>) -> Standing
         requires sound { AreRuns self.now }
         requires held { HoldsOrigin (cell_ids (cells_in self.now)) to }
-        ensures stands { IsEnd self.now.rope result.place result.offset }
-        ensures at { index_at self.now result.place result.offset ≡ end_index (cell_ids (cells_in self.now)) to }
+        ensures { EndsBefore self.now to result }
     {
-        let id = match to {
-            Some(id) => id,
-            None => {
-                return Standing {
-                    place: self.rope.len(),
-                    offset: 0,
-                };
-            }
-        };
-        match self.find(id) {
-            Some(spot) => Standing {
-                place: self.place_of(&spot.run),
-                offset: spot.offset,
+        match to {
+            Some(id) => self.found(id).at,
+            None => Standing {
+                place: self.rope.len(),
+                offset: 0,
             },
-            None => unreachable!(),
         }
     }
 
     /// A cell of the run at the place, in the middle between two offsets.
-    fn middle_of_run(&self, place: usize, from: u32, to: u32) -> Option<ElementId>
+    fn middle_of_run(&self, place: usize, from: u32, to: u32) -> Option<Found>
         requires { AreRuns self.now }
-        ensures some { IfSome result (λ m. IsInRun self.now.rope place from to m) }
+        ensures some { IfSome result (λ m. IsInRun self.now.rope place from to m.id) }
+        ensures found { IfSome result (IsFound self.now.rope) }
         ensures none { IfNone result
             ((x : Identifier × Run) → slice_get self.now.rope place ≡ Some x → from < to → x.1.len ≤ from) }
     {
         let run = self.run_at(place)?;
         let to = to.min(run.len);
         if from < to {
-            Some(cell_at(&run, from + (to - from) / 2).id)
+            Some(found_in(&run, place, from + (to - from) / 2))
         } else {
             None
         }
@@ -89,13 +98,14 @@ impl Runs {
 
     /// A cell between the two places, if there is one: mostly the first one of a run in the middle, or one in the
     /// middle of a run.
-    fn middle_between(&self, begin: Standing, end: Standing) -> Option<ElementId>
+    fn middle_between(&self, begin: Standing, end: Standing) -> Option<Found>
         requires sound { AreRuns self.now }
         requires from { IsBegin self.now.rope begin.place begin.offset }
         requires to { IsEnd self.now.rope end.place end.offset }
         requires order { index_at self.now begin.place begin.offset ≤ index_at self.now end.place end.offset }
         ensures some { IfSome result (λ m. IsWithin (cell_ids (cells_in self.now))
-            (index_at self.now begin.place begin.offset) (index_at self.now end.place end.offset) m) }
+            (index_at self.now begin.place begin.offset) (index_at self.now end.place end.offset) m.id) }
+        ensures found { IfSome result (IsFound self.now.rope) }
         ensures none { IfNone result
             (index_at self.now end.place end.offset ≤ index_at self.now begin.place begin.offset) }
     {
@@ -107,19 +117,21 @@ impl Runs {
             return self.middle_of_run(half, 0, 1);
         }
         match self.middle_of_run(begin.place, begin.offset, u32::MAX) {
-            Some(id) => Some(id),
+            Some(found) => Some(found),
             None => self.middle_of_run(end.place, 0, end.offset),
         }
     }
 
-    /// A cell that stands between the two. Each of them is looked for once.
-    pub(crate) fn middle(&self, from: Option<ElementId>, to: Option<ElementId>) -> Option<ElementId>
+    /// A cell of the part, if it has any.
+    pub(crate) fn middle(&self, part: &Part) -> Option<Found>
         requires sound { AreRuns self.now }
-        requires held { HoldsOrigin (cell_ids (cells_in self.now)) from }
-        requires behind { HoldsOrigin (ids_of (rest_of from (keyed_cells (cells_in self.now)))) to }
-        ensures none { IsNone result ↔ (between from to (keyed_cells (cells_in self.now)) ≡ []) }
-        ensures some { IfSome result (λ m. Contains (ids_of (between from to (keyed_cells (cells_in self.now)))) m) }
+        requires part { IsPart self.now part.now }
+        ensures none { IsNone result
+            ↔ (between part.now.from part.now.to (keyed_cells (cells_in self.now)) ≡ []) }
+        ensures some { IfSome result
+            (λ m. Contains (ids_of (between part.now.from part.now.to (keyed_cells (cells_in self.now)))) m.id) }
+        ensures found { IfSome result (IsFound self.now.rope) }
     {
-        self.middle_between(self.begin_of(from), self.end_of(to))
+        self.middle_between(part.begin, part.end)
     }
 }

@@ -143,7 +143,13 @@ impl OrderOf for RunStore {
         self.runs.last_low(id, most)
     }
 
-    fn middle(&self, from: Option<ElementId>, to: Option<ElementId>) -> Option<ElementId> {
-        self.runs.middle(from, to)
+    fn last_passing<P: Fn(ElementId) -> bool>(
+        &self,
+        from: Option<ElementId>,
+        to: Option<ElementId>,
+        most: Key,
+        test: P,
+    ) -> Option<ElementId> {
+        self.runs.last_passing(from, to, most, test)
     }
 }

@@ -1,13 +1,7 @@
-pub mod ElderLemmas
-pub mod LowLemmas
 pub mod NodesLemmas
 pub mod OneLemmas
 pub mod OrderLemmas
-pub mod PartLemmas
-pub mod PartedLemmas
-pub mod PlaceLemmas
 pub mod RankLemmas
 pub mod RightOriginLemmas
-pub mod SearchLemmas
 pub mod SlotLemmas
 pub mod Words

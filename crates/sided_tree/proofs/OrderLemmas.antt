@@ -1,6 +1,6 @@
 -- An order that lists the nodes with their keys.
-use Rattle.std.proofs.Common.{List, [], ap, refl, subst, sym, true, ◌∙◌, ◌∷◌, ◌≡◌, ◌≢◌}
-use Rattle.std.specs.List.{AllPairs, Contains}
+use Rattle.std.proofs.Common.{List, [], ap, refl, subst, sym, true, ◌∙◌, ◌∷◌, ◌≡◌}
+use Rattle.std.specs.List.{Contains}
 use Rattle.std.specs.Prelude.{Some, if◌then◌else◌, is_some, ◌↔◌}
 use Rattle.fugue_ids.specs.Keys.{Keyed, ids}
 use Rattle.fugue_ids.specs.declared.key.Gap.{Gap}
@@ -12,11 +12,7 @@ use Rattle.origin_model.specs.sides.Keys.{keyed_order}
 use Rattle.origin_model.specs.sides.Node.{AreNodes, find_node, has_node, node_order}
 use Rattle.origin_model.specs.sides.Slot.{IsBeside, IsPlace, at_gap}
 use Rattle.origin_model.specs.declared.operations.node.Node.{Node}
-use Rattle.origin_model.proofs.SharedLemmas.{keyed_ids, keyed_once, nodes_listed}
-
--- no node is listed twice
-pub once : (ns : List Node) (es : List Keyed) → AreNodes ns → es ≡ keyed_order ns → AllPairs (λ x y. x ≢ y) (ids es)
-once ns es a e = subst (λ l. AllPairs (λ x y. x ≢ y) (ids l)) (sym e) (keyed_once ns a)
+use Rattle.origin_model.proofs.SharedLemmas.{keyed_ids, nodes_listed}
 
 -- only without nodes is the order empty
 none_ordered : (ns : List Node) → AreNodes ns → node_order ns ≡ [] → ns ≡ []

@@ -5,13 +5,13 @@ use Rattle.std.specs.Prelude.{None, Option, Some, filter, if◌then◌else◌}
 use Rattle.std.proofs.lemmas.Bool.Decides.{nat_tests}
 use Rattle.std.proofs.lemmas.List.Elements.{All-cons, All-head, All-nil, All-tail}
 use Rattle.fugue_ids.specs.Identifiers.{Identifier, id_eq}
-use Rattle.fugue_ids.specs.Keys.{IsFit, Keyed, between, front_of, ids, is_low, key_lt, rest_of}
-use Rattle.fugue_ids.specs.Listed.{HoldsOrigin}
+use Rattle.fugue_ids.specs.Keys.{IsFit, Keyed, between, front_of, ids, is_low, key_lt, low_ids, rest_of}
+use Rattle.fugue_ids.specs.Listed.{HoldsOrigin, last_before}
+use Rattle.fugue_ids.specs.Passing.{Falls, last_passing}
 use Rattle.fugue_ids.specs.declared.key.Key.{Key}
 use Rattle.fugue_ids.proofs.ListLemmas.{contains_filter_from, contains_here, contains_there}
-use Rattle.origin_model.specs.edits.Landing.{last_before}
 use Rattle.origin_model.specs.sides.KeyLaws.{HoldsElement}
-use Rattle.origin_model.specs.sides.KeyedGap.{Falls, child_key, gap_behind, gap_by_keys, last_passing, low_ids, part_from, part_to, siblings, slot_key, slot_part}
+use Rattle.origin_model.specs.sides.KeyedGap.{child_key, gap_behind, gap_by_keys, part_from, part_to, siblings, slot_key, slot_part}
 use Rattle.origin_model.specs.sides.Keys.{keyed_order}
 use Rattle.origin_model.specs.sides.Node.{AreNodes, as_ops, node_order}
 use Rattle.origin_model.specs.sides.Slot.{slot_by}
@@ -21,8 +21,8 @@ use Rattle.origin_model.specs.declared.sides.Slot.TheVariants.{LeftOf, RightOf}
 use Rattle.origin_model.proofs.SharedLemmas.{key_found, keyed_ids, part_bounds, part_least, siblings_fall, slot_held}
 use Rattle.sided_tree.specs.Elders.{is_elder}
 use Rattle.sided_tree.specs.SlotKeys.{IsSlotKey}
-use Rattle.sided_tree.proofs.LowLemmas.{front_held, low_in}
-use Rattle.sided_tree.proofs.PartedLemmas.{to_held}
+use Rattle.fugue_ids.proofs.LowLemmas.{front_held, low_in}
+use Rattle.fugue_ids.proofs.PartedLemmas.{to_held}
 
 -- what holds of all holds of those behind an element, and of those before one
 all_rest : (P : Keyed → Type 0) (x : Option Identifier) (es : List Keyed) → All P es → All P (rest_of x es)

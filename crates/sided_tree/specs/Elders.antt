@@ -1,10 +1,9 @@
 -- The siblings of a new node in a part of the order, and those that go before it.
 use Rattle.std.specs.Prelude.{Bool, List}
 use Rattle.fugue_ids.specs.Identifiers.{Identifier}
-use Rattle.fugue_ids.specs.Keys.{Keyed, between, rest_of}
+use Rattle.fugue_ids.specs.Keys.{Keyed, between, low_ids, rest_of}
 use Rattle.fugue_ids.specs.Listed.{HoldsOrigin}
 use Rattle.origin_model.specs.declared.operations.node.Node.{Node}
-use Rattle.origin_model.specs.sides.KeyedGap.{low_ids}
 use Rattle.origin_model.specs.sides.Node.{as_op, as_ops, node_order}
 use Rattle.origin_model.specs.sides.Slot.{goes_before}
 use Rattle.sided_tree.specs.declared.part.Part.{Part}

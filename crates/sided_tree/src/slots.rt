@@ -1,8 +1,9 @@
 ghost use Rattle.std.specs.Prelude.{◌≡◌, ◌↔◌, ◌⊎◌, ◌≤◌, ◌^◌, ◌≢◌, All, IfSome, IsNone, None, ◌∷◌};
 ghost use Rattle.fugue_ids.specs.Keys.{IsFit, ids};
+ghost use Rattle.fugue_ids.specs.Passing.{Falls, last_passing};
 ghost use Rattle.origin_model.specs.declared.sides.Slot.TheVariants.{RightOf};
 ghost use Rattle.origin_model.specs.sides.KeyLaws.{HoldsElement};
-ghost use Rattle.origin_model.specs.sides.KeyedGap.{child_key as child_key_of, part_from, part_to, Falls, last_passing};
+ghost use Rattle.origin_model.specs.sides.KeyedGap.{child_key as child_key_of, part_from, part_to};
 ghost use Rattle.sided_tree.specs.SlotKeys.{IsSlotKey};
 ghost use Rattle.origin_model.specs.sides.Keys.{keyed_order};
 ghost use Rattle.origin_model.specs.sides.Node.{AreNodes};
@@ -83,8 +84,6 @@ fn slot_ends<F: OrderOf>(order: &F, slot: &Slot, key: Key) -> (Option<ElementId>
 }
 
 /// The last of the siblings in a part that goes before a new node. Those that do stand first.
-///
-/// The last sibling is looked at first: where there is none, or where all go before, that is all.
 pub(crate) fn last_elder<N: NodeLookup, F: OrderOf>(
     nodes: &N,
     order: &F,
@@ -101,41 +100,10 @@ pub(crate) fn last_elder<N: NodeLookup, F: OrderOf>(
         ≡ last_passing (is_elder (N.nodes nodes.now) node.now) (siblings_in (F.listed order.now) part.now) }
     ensures fit { All IsFit (F.listed order.now) }
 {
-    let last = part.last(order)?;
-    if goes_before(nodes, order, last, node) {
-        return Some(last);
-    }
-    let front = Part {
-        to: Some(last),
-        ..*part
-    };
-    elder_by_halves(nodes, order, node, front)
-}
-
-/// The same, by halves: the rest shrinks round the answer, which is the last elder that was seen where no sibling is
-/// left.
-fn elder_by_halves<N: NodeLookup, F: OrderOf>(
-    nodes: &N,
-    order: &F,
-    node: &Node,
-    mut rest: Part,
-) -> Option<ElementId>
-    requires new { AreNodes (node.now ∷ N.nodes nodes.now) }
-    requires list { F.listed order.now ≡ keyed_order (N.nodes nodes.now) }
-    requires from { BeginsLow (F.listed order.now) rest }
-    requires to { EndsLow (F.listed order.now) rest }
-    requires falls { Falls (is_elder (N.nodes nodes.now) node.now) (siblings_in (F.listed order.now) rest) }
-    ensures { result
-        ≡ last_passing (is_elder (N.nodes nodes.now) node.now) (siblings_in (F.listed order.now) rest) }
-{
-    let mut elder = None;
-    'halve: while let Some(sibling) = rest.near_middle(order) {
-        if goes_before(nodes, order, sibling, node) {
-            elder = Some(sibling);
-            rest.from = Some(sibling);
-        } else {
-            rest.to = Some(sibling);
-        }
-    }
-    elder
+    let elder = |sibling|
+        requires new { AreNodes (node.now ∷ N.nodes nodes.now) }
+        requires list { F.listed order.now ≡ keyed_order (N.nodes nodes.now) }
+        ensures { result ≡ is_elder (N.nodes nodes.entry.now) node.entry.now sibling }
+    { goes_before(nodes, order, sibling, node) };
+    order.last_passing(part.from, part.to, part.key, elder)
 }

@@ -9,34 +9,34 @@ use std::alloc::Global;
 use std::process::Abort;
 use std::test::Fail;
 
-/// Each cell is found, with its neighbours. There is an element before it exactly where it isn't the first, and so with
-/// those behind it.
+/// Whether a cell stands at the place or before it.
+fn stands_to(cells: &[Cell], id: ElementId, place: usize) -> bool {
+    position(cells, Some(id)).is_some_and(|at| at <= place)
+}
+
+/// Each cell is found, with its neighbours. Of the cells that stand up to it, it is the last one whose key is at most its
+/// own.
 fn compare_cells(rt: &impl Abort, store: &RunStore, cells: &[Cell]) {
     let mut last = None;
     for (i, cell) in cells.iter().enumerate() {
         let id = Some(cell.id);
-        let behind = i.saturating_add(1);
         holds_at(rt, &i, store.holds(cell.id));
         holds_at(rt, &i, is_listed(store, &id));
         equal(rt, store.is_hidden(cell.id), cell.hidden);
         equal(rt, store.origins(cell.id), Some((cell.left, cell.right)));
         equal(rt, store.key(cell.id), cell.key);
-        equal(rt, store.after(id), id_at(cells, behind));
-        equal(rt, store.behind(id), id_at(cells, behind));
+        equal(rt, store.after(id), id_at(cells, i.saturating_add(1)));
+        equal(rt, store.behind(id), id_at(cells, i.saturating_add(1)));
         equal(rt, store.before(id), last);
-        let place = position(cells, store.middle(None, id));
-        equal(rt, place.is_some(), i > 0);
-        equal(rt, place.is_none_or(|place| place < i), true);
-        let place = position(cells, store.middle(id, None));
-        equal(rt, place.is_some(), behind < cells.len());
-        equal(rt, place.is_none_or(|place| place > i), true);
+        let found = store.last_passing(None, None, cell.key, |other| stands_to(cells, other, i));
+        equal(rt, found, id);
+        equal(rt, store.last_passing(None, None, cell.key, |_| false), None);
         last = id;
     }
     equal(rt, store.len(), cells.len());
     equal(rt, store.after(None), id_at(cells, 0));
     equal(rt, store.behind(None), id_at(cells, 0));
     equal(rt, store.before(None), last);
-    equal(rt, store.middle(None, None).is_some(), !cells.is_empty());
 }
 
 fn first_among(cells: &[Cell], most: Key) -> Option<ElementId> {

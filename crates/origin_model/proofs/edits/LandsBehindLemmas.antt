@@ -6,7 +6,8 @@ use Rattle.origin_model.proofs.order.{IsIn-held, before_in-irrefl, before_in-tra
 use Rattle.origin_model.proofs.operations.LookupLemmas.{IsHeld, held_not_own, left_named, when_ready}
 use Rattle.origin_model.proofs.operations.ElementLemmas.{element_own}
 use Rattle.origin_model.proofs.sides.SlotLemmas.{IsThere, left_from, there}
-use Rattle.origin_model.specs.edits.Landing.{LandsBehind, LandsBehindOrigin, last_before, following, first_after}
+use Rattle.origin_model.specs.edits.Landing.{LandsBehind, LandsBehindOrigin, following, first_after}
+use Rattle.fugue_ids.specs.Listed.{last_before}
 use Rattle.origin_model.proofs.edits.SplitLemmas.{Distinct, end_none, end_push, end_split, following_end, head_none, head_split}
 use Rattle.fugue_ids.proofs.IdentifierLemmas.{origin_eq-refl}
 

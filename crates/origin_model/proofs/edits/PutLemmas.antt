@@ -6,7 +6,8 @@ use Rattle.origin_model.proofs.operations.ElementLemmas.{element_fits, none_else
 use Rattle.origin_model.proofs.operations.FoundedLemmas.{not_hidden_before}
 use Rattle.origin_model.proofs.order.{IsIn-older, Stands, order-member, order-none, order_total}
 use Rattle.origin_model.specs.edits.Edits.{Add, IsEdit, Put, ReadyInTurn, extended, id_at, left_for, made, next_counter, put_in, right_for, typed, typed_ids}
-use Rattle.origin_model.specs.edits.Landing.{StandsBehind, last_before, following, first_after}
+use Rattle.origin_model.specs.edits.Landing.{StandsBehind, following, first_after}
+use Rattle.fugue_ids.specs.Listed.{last_before}
 use Rattle.origin_model.proofs.edits.FreshIdLemmas.{NoneFrom, history_below, none_from}
 use Rattle.origin_model.proofs.edits.LandsBehindLemmas.{lands_behind}
 use Rattle.origin_model.proofs.edits.SplitLemmas.{is_shown, Split, end_push, end_stands, filter_all, following_end, get_in, head_stands, split, split_origin}

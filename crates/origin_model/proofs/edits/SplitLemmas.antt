@@ -1,7 +1,8 @@
 -- A list cut in two at a place of what is kept of it.
 use Rattle.origin_model.proofs.Words.{All, All-contains, All-head, All-tail, AllPairs, Bool, Contains, Contains-append_left, Identifier, List, None, Op, Option, Some, [], all_pairs_head, all_pairs_tail, ap, arith, cases_Bool, cases_origin, contains_here, contains_middle, contains_there, drop, false, filter, id_eq, id_eq-refl, if◌then◌else◌, inl, inr, is_hidden, length, ne-id_eq, not, refl, slice_get, subst, suc, sym, take, true, zero, ℕ, ◌++◌, ◌∙◌, ◌∷◌, ◌≡◌, ◌≢◌, ◌≤◌}
 use Rattle.origin_model.proofs.order.{Stands, filter_no, filter_yes, no_member, not_nil}
-use Rattle.origin_model.specs.edits.Landing.{last_before, following, first_after}
+use Rattle.origin_model.specs.edits.Landing.{following, first_after}
+use Rattle.fugue_ids.specs.Listed.{last_before}
 use Rattle.origin_model.specs.edits.Edits.{in_front}
 
 -- a list's end and its head

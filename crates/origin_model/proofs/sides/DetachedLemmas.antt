@@ -58,28 +58,6 @@ absent_stays (n ∷ ns) x k =
       | inr e ↦ without-other x n ns e ∙ ap (λ t. n ∷ t) (absent_stays ns x (sym (ap is_some (find-other n ns x e)) ∙ k))
     ]
 
--- an origin that is there is not what is no node
-origin_apart : (ns : List Node) (o : Option Identifier) (x : Identifier) → has_origin ns o ≡ true → has_node ns x ≡ false → o ≢ Some x
-origin_apart ns o x k f e = true≢false (sym (subst (λ z. has_origin ns z ≡ true) e k) ∙ f)
-
--- what is no node is no origin
-absent_no_origin : (ns : List Node) (x : Identifier) → AreNodes ns → has_node ns x ≡ false → NoOrigin x ns
-absent_no_origin [] x a k = tt
-absent_no_origin (n ∷ ns) x a k =
-    elim (cases_id n.id x) [
-      | inl e ↦ absurd (true≢false (sym (ap is_some (find-own n ns x e)) ∙ k))
-      | inr e ↦
-          let rest : has_node ns x ≡ false = sym (ap is_some (find-other n ns x e)) ∙ k in
-          (origin_apart ns n.left x a.0.left rest, origin_apart ns n.right x a.0.right rest, absent_no_origin ns x a.1 rest)
-    ]
-
--- the newest node can be taken back: it is no origin, and without it the nodes are those before
-pub newest_taken_back : (ns : List Node) (n : Node) → AreNodes (n ∷ ns) → NoOrigin n.id (n ∷ ns) × (without n.id (n ∷ ns) ≡ ns)
-newest_taken_back ns n a = (
-  (origin_apart ns n.left n.id a.0.left a.0.fresh, origin_apart ns n.right n.id a.0.right a.0.fresh, absent_no_origin ns n.id a.1 a.0.fresh),
-  without-own n.id n ns refl ∙ absent_stays ns n.id a.0.fresh,
-)
-
 -- an origin other than the node is there still
 origin_stays : (x : Identifier) (ns : List Node) (o : Option Identifier) → o ≢ Some x → has_origin ns o ≡ true → has_origin (without x ns) o ≡ true
 origin_stays x ns None d k = refl

@@ -4,8 +4,9 @@ use Rattle.std.specs.Prelude.{unwrap_or}
 use Rattle.std.proofs.lemmas.List.{map-append}
 use Rattle.fugue_ids.proofs.ListLemmas.{all_from_map}
 use Rattle.fugue_ids.specs.Keys.{IsFit, Keyed, first_low, front_of, is_low, key_lt, last_id, last_low, rest_of}
+use Rattle.fugue_ids.specs.Listed.{last_before}
 use Rattle.fugue_ids.specs.declared.key.Key.{Key}
-use Rattle.origin_model.specs.edits.Landing.{last_before, first_after}
+use Rattle.origin_model.specs.edits.Landing.{first_after}
 use Rattle.origin_model.specs.sides.KeyLaws.{AllFit}
 use Rattle.origin_model.specs.sides.KeyedGap.{block_end, block_start, widest}
 use Rattle.origin_model.specs.sides.Keys.{depth_of, search_key_of, keyed, keyed_as}

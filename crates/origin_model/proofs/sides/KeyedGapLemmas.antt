@@ -2,12 +2,13 @@
 use Rattle.origin_model.proofs.Words.{Bool, Contains, Contains-append_left, Identifier, IsIn, IsOrderedBy, Lawful, List, None, Op, Place, Some, [], ap, cases_id, cases_origin, chain_before, contains_cases, contains_here, contains_middle, element_of, false, fork_before, index_of_origin, inl, inr, left_at, left_of, lefts, next_left, older_of, order, refl, right_at, right_of, rights, sibling, subst, sym, true, ◌++◌, ◌∙◌, ◌∷◌, ◌≡◌, ◌≢◌, ◌⊎◌}
 use Rattle.fugue_ids.proofs.ListLemmas.{all_pairs_weaker}
 use Rattle.fugue_ids.specs.Keys.{Keyed, first_id}
+use Rattle.fugue_ids.specs.Listed.{last_before}
+use Rattle.fugue_ids.specs.Passing.{Falls}
 use Rattle.fugue_ids.specs.declared.key.Gap.{Gap}
 use Rattle.origin_model.specs.declared.sides.Slot.{Slot}
 use Rattle.origin_model.specs.declared.sides.Slot.TheVariants.{LeftOf, RightOf}
-use Rattle.origin_model.specs.edits.Landing.{last_before}
 use Rattle.origin_model.specs.sides.KeyLaws.{AllFit, BlockEndByKeys, BlockStartByKeys, EndsBlock, GapByKeys, StandsAt}
-use Rattle.origin_model.specs.sides.KeyedGap.{Falls, before_all, block_end, gap_behind, gap_by_keys, no_elder_gap, siblings, slot_key}
+use Rattle.origin_model.specs.sides.KeyedGap.{before_all, block_end, gap_behind, gap_by_keys, no_elder_gap, siblings, slot_key}
 use Rattle.origin_model.specs.sides.Keys.{keyed}
 use Rattle.origin_model.specs.sides.Slot.{BeforeBlock, HasElder, IsChild, IsGap, NoElder, goes_before, slot_of}
 use Rattle.origin_model.proofs.edits.SplitLemmas.{end_none, end_split}
@@ -15,10 +16,10 @@ use Rattle.origin_model.proofs.operations.LookupLemmas.{when_ready}
 use Rattle.origin_model.proofs.order.{IsIn-held, before_at, chain_above, chain_before-fork, first_before, first_of, fork_moved, heads, left_in, never_none, no_member, order-has, order-member, order-ordered, right_in}
 use Rattle.origin_model.proofs.order.StrictOrderLemmas.{ranked-trans}
 use Rattle.origin_model.proofs.sides.BlockLemmas.{To, loop}
-use Rattle.origin_model.proofs.sides.HalvesLemmas.{falls_apart}
 use Rattle.origin_model.proofs.sides.KeyedBlockLemmas.{end_found, start_found}
 use Rattle.origin_model.proofs.sides.KeyedPartLemmas.{child-depth, found-sorted, siblings_by_keys}
 use Rattle.origin_model.proofs.sides.OwnTableLemmas.{first_split, first_walk, has_table, last_walk, table_of}
+use Rattle.origin_model.proofs.sides.PassingLemmas.{falls_apart}
 use Rattle.origin_model.proofs.sides.SidedGapLemmas.{gap_is_place, left_parent}
 use Rattle.origin_model.proofs.sides.SlotLemmas.{child-in, child-left, child-rights, rooted, slot_by-left, slot_left, under_left}
 use Rattle.origin_model.proofs.sides.SpineLemmas.{spine_first, spine_last}

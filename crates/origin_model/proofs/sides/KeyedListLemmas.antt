@@ -4,10 +4,11 @@ use Rattle.std.specs.Prelude.{nat_lt}
 use Rattle.std.proofs.lemmas.List.{map-append}
 use Rattle.std.proofs.lemmas.List.Elements.{All-map}
 use Rattle.std.proofs.lemmas.Bool.Decides.{nat_tests}
-use Rattle.fugue_ids.specs.Keys.{IsFit, Keyed, first_id, first_low, front_of, ids, is_low, last_id, last_low, rest_of}
+use Rattle.fugue_ids.specs.Keys.{IsFit, Keyed, first_id, first_low, front_of, ids, is_low, last_id, last_low, low_ids, rest_of}
+use Rattle.fugue_ids.specs.Listed.{last_before}
 use Rattle.fugue_ids.specs.declared.key.Key.{Key}
-use Rattle.origin_model.specs.edits.Landing.{last_before, first_after}
-use Rattle.origin_model.specs.sides.KeyedGap.{low_ids, widest}
+use Rattle.origin_model.specs.edits.Landing.{first_after}
+use Rattle.origin_model.specs.sides.KeyedGap.{widest}
 use Rattle.origin_model.specs.sides.Keys.{keyed, keyed_as}
 use Rattle.origin_model.proofs.edits.SplitLemmas.{end_none, end_push, end_split}
 use Rattle.origin_model.proofs.order.{filter_no, filter_yes, front_before}
@@ -41,20 +42,6 @@ dropped g e es k = rw (k, filter)
 pub none_kept : (g : Keyed → Bool) (es : List Keyed) → All (λ e. g e ≡ false) es → filter g es ≡ []
 none_kept g [] f = refl
 none_kept g (e ∷ es) f = dropped g e es (All-head (λ z. g z ≡ false) e es f) ∙ none_kept g es (All-tail (λ z. g z ≡ false) e es f)
-
--- what stands behind an element that is in the list once
-pub rest_at : (front back : List Keyed) (e : Keyed) → All (λ z. z.id ≢ e.id) front → rest_of (Some e.id) (front ++ e ∷ back) ≡ back
-rest_at [] back e f = ap (λ b. if b then back else rest_of (Some e.id) back) (eq-id_eq e.id e.id refl)
-rest_at (a ∷ front) back e f =
-    ap (λ b. if b then front ++ e ∷ back else rest_of (Some e.id) (front ++ e ∷ back)) (ne-id_eq a.id e.id (All-head (λ z. z.id ≢ e.id) a front f))
-    ∙ rest_at front back e (All-tail (λ z. z.id ≢ e.id) a front f)
-
--- what stands before it
-pub front_at : (front back : List Keyed) (e : Keyed) → All (λ z. z.id ≢ e.id) front → front_of (Some e.id) (front ++ e ∷ back) ≡ front
-front_at [] back e f = ap (λ b. if b then [] else e ∷ front_of (Some e.id) back) (eq-id_eq e.id e.id refl)
-front_at (a ∷ front) back e f =
-    ap (λ b. if b then [] else a ∷ front_of (Some e.id) (front ++ e ∷ back)) (ne-id_eq a.id e.id (All-head (λ z. z.id ≢ e.id) a front f))
-    ∙ ap (λ t. a ∷ t) (front_at front back e (All-tail (λ z. z.id ≢ e.id) a front f))
 
 -- the first element whose key is at most k, behind some whose keys are not
 pub first_found : (k : Key) (front back : List Keyed) (e : Keyed) → All (λ z. is_low k z ≡ false) front → is_low k e ≡ true → first_low k (front ++ e ∷ back) ≡ Some e.id

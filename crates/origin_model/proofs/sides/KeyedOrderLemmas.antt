@@ -2,8 +2,9 @@
 use Rattle.origin_model.proofs.Words.{All, AllPairs, Bool, Contains, Identifier, Lawful, List, None, Op, Option, Some, [], all_pairs_head, all_pairs_tail, All-contains, ap, append_assoc, arith, before_in, catalogue, cases_id, cases_origin, contains_cases, contains_here, contains_middle, contains_none, count_by, eq-id_eq, false, id_eq, if◌then◌else◌, inl, inr, insert, length, ne-id_eq, refl, subst, suc, sym, true, true≢false, zero, ℕ, ◌++◌, ◌<◌, ◌^◌, ◌∙◌, ◌∷◌, ◌≡◌, ◌≢◌, ◌≤◌, ◌⊎◌}
 use Rattle.std.specs.Prelude.{IfSome}
 use Rattle.std.proofs.lemmas.List.Sums.{count_by-le-length}
-use Rattle.fugue_ids.specs.Keys.{HasKey, IsFit, first_id, ids, key_lt, rest_of}
+use Rattle.fugue_ids.specs.Keys.{HasKey, IsFit, first_id, ids, key_lt, low_ids, rest_of}
 use Rattle.fugue_ids.specs.Listed.{HoldsOrigin, index_of}
+use Rattle.fugue_ids.specs.Passing.{Falls}
 use Rattle.fugue_ids.specs.declared.key.Gap.{Gap}
 use Rattle.fugue_ids.specs.declared.key.Gap.TheVariants.{After, Alone, Before}
 use Rattle.fugue_ids.specs.declared.key.Key.{Key}
@@ -13,7 +14,7 @@ use Rattle.origin_model.specs.declared.sides.Slot.{Slot}
 use Rattle.origin_model.specs.declared.sides.Slot.TheVariants.{LeftOf, RightOf}
 use Rattle.origin_model.specs.edits.Landing.{StandsBehind, following, first_after}
 use Rattle.origin_model.specs.sides.KeyLaws.{HoldsSlot, StandsAt}
-use Rattle.origin_model.specs.sides.KeyedGap.{Falls, before_all, child_key, gap_between, gap_by_keys, gap_index, low_ids, part_from, part_to, siblings, slot_key, slot_part}
+use Rattle.origin_model.specs.sides.KeyedGap.{before_all, child_key, gap_between, gap_by_keys, gap_index, part_from, part_to, siblings, slot_key, slot_part}
 use Rattle.origin_model.specs.sides.Keys.{search_key_of, keyed, keyed_as, keyed_order, new_key, new_keyed}
 use Rattle.origin_model.specs.sides.Node.{AreNodes, as_op, as_ops, has_node, has_origin, node_order}
 use Rattle.origin_model.specs.sides.Slot.{IsBeside, IsPlace, at_gap, goes_before, inserted_before, inserted_behind, slot_by}
@@ -35,9 +36,6 @@ keyed_ids ns = ids-keyed (as_ops ns) (node_order ns)
 -- no node stands twice in the order
 pub order_once : (ns : List Node) → AreNodes ns → AllPairs (λ x y. x ≢ y) (node_order ns)
 order_once ns a = (order_total catalogue (as_ops ns) (nodes-lawful ns a)).once
-
-pub keyed_once : (ns : List Node) → AreNodes ns → AllPairs (λ x y. x ≢ y) (ids (keyed_order ns))
-keyed_once ns a = subst (AllPairs (λ x y. x ≢ y)) (sym (keyed_ids ns)) (order_once ns a)
 
 -- the key of a member
 key_in : (h : List Op) (xs : List Identifier) (x : Identifier) → Contains xs x → HasKey (keyed h xs) x (search_key_of h x)

@@ -3,14 +3,14 @@ use Rattle.origin_model.proofs.Words.{Contains, Contains-append_cases, Contains-
 use Rattle.std.proofs.lemmas.Bool.Decides.{nat_tests}
 use Rattle.std.proofs.lemmas.List.Kept.{AllPairs-filter}
 use Rattle.fugue_ids.proofs.ListLemmas.{contains_filter}
-use Rattle.fugue_ids.specs.Keys.{Keyed, front_of, is_low, key_lt, rest_of}
-use Rattle.fugue_ids.specs.Listed.{HoldsOrigin}
+use Rattle.fugue_ids.specs.Keys.{Keyed, front_of, is_low, key_lt, low_ids, rest_of}
+use Rattle.fugue_ids.specs.Listed.{HoldsOrigin, last_before}
 use Rattle.fugue_ids.specs.declared.key.Key.{Key}
 use Rattle.origin_model.specs.declared.sides.Slot.{Slot}
 use Rattle.origin_model.specs.declared.sides.Slot.TheVariants.{LeftOf, RightOf}
-use Rattle.origin_model.specs.edits.Landing.{last_before, first_after}
+use Rattle.origin_model.specs.edits.Landing.{first_after}
 use Rattle.origin_model.specs.sides.KeyLaws.{AllFit, SiblingsByKeys, StandsAt}
-use Rattle.origin_model.specs.sides.KeyedGap.{child_key, low_ids, part_from, part_to, siblings, slot_key, slot_part}
+use Rattle.origin_model.specs.sides.KeyedGap.{child_key, part_from, part_to, siblings, slot_key, slot_part}
 use Rattle.origin_model.specs.sides.Keys.{depth_of, forest_of, search_key_of, keyed, keyed_as}
 use Rattle.origin_model.specs.sides.Slot.{IsChild}
 use Rattle.origin_model.proofs.edits.SplitLemmas.{end_push}

@@ -1,17 +1,12 @@
 -- Where an element lands whose origins stand next to each other.
 use Rattle.std.specs.Prelude.{◌≡◌, Option, Some, None, List, [], ◌∷◌, ◌++◌, Contains, IfSome, if◌then◌else◌}
 use Rattle.fugue_ids.specs.Identifiers.{Identifier, id_eq}
+use Rattle.fugue_ids.specs.Listed.{last_before}
 use Rattle.fugue_ids.specs.declared.op.Op.{Op}
 use Rattle.origin_model.specs.operations.History.{left_of, right_of, element_of}
 use Rattle.origin_model.specs.order.Order.{order}
 use Rattle.origin_model.specs.operations.Verdict.{Lawful}
 use Rattle.origin_model.specs.declared.operations.Place.{Place}
-
--- the last of the elements so far: the start, where there is none
-abbrev pub last_before : List Identifier → Option Identifier
-last_before [] = None
-last_before (e ∷ []) = Some e
-last_before (e ∷ f ∷ es) = last_before (f ∷ es)
 
 -- the first of the elements that follow: the end, where there is none
 abbrev pub first_after : List Identifier → Option Identifier

@@ -1,17 +1,16 @@
 -- The gap of a new element, found by keys: by searches for the next or the last element whose key is at most a given one. There is no table of
 -- children: those of a slot are the elements of one key in a part of the list.
-use Rattle.std.specs.Prelude.{◌≡◌, ℕ, suc, ◌-◌, ◌^◌, Option, Some, None, unwrap_or, Bool, true, List, filter}
-use Rattle.std.specs.List.{AllPairs}
+use Rattle.std.specs.Prelude.{ℕ, suc, ◌-◌, ◌^◌, Option, Some, None, unwrap_or, Bool, List}
 use Rattle.fugue_ids.specs.Identifiers.{Identifier}
-use Rattle.fugue_ids.specs.Keys.{Keyed, between, first_id, first_low, front_of, ids, is_low, last_id, last_low, rest_of}
+use Rattle.fugue_ids.specs.Keys.{Keyed, between, first_id, first_low, front_of, last_id, last_low, low_ids, rest_of}
 use Rattle.fugue_ids.specs.Listed.{index_of}
+use Rattle.fugue_ids.specs.Passing.{last_passing}
 use Rattle.fugue_ids.specs.declared.key.Gap.{Gap}
 use Rattle.fugue_ids.specs.declared.key.Gap.TheVariants.{Alone, Before, After}
 use Rattle.fugue_ids.specs.declared.key.Key.{Key}
 use Rattle.fugue_ids.specs.declared.op.Op.{Op}
 use Rattle.origin_model.specs.declared.sides.Slot.{Slot}
 use Rattle.origin_model.specs.declared.sides.Slot.TheVariants.{LeftOf, RightOf}
-use Rattle.origin_model.specs.edits.Landing.{last_before}
 use Rattle.origin_model.specs.sides.Keys.{search_key_of}
 
 -- the greatest key of a depth that fits its numbers: a key is at most that where its depth is at most d
@@ -54,21 +53,9 @@ part_to es (LeftOf q) k = Some q
 abbrev pub slot_part : List Keyed → Slot → Key → List Keyed
 slot_part es s k = between (part_from es s k) (part_to es s k) es
 
--- the elements of a part whose key is at most k
-abbrev pub low_ids : Key → List Keyed → List Identifier
-low_ids k es = ids (filter (is_low k) es)
-
 -- the children of a slot: no key in its part is less than theirs
 abbrev pub siblings : List Keyed → Slot → Key → List Identifier
 siblings es s k = low_ids (child_key s k) (slot_part es s k)
-
--- the last one that passes
-abbrev pub last_passing : (Identifier → Bool) → List Identifier → Option Identifier
-last_passing g xs = last_before (filter g xs)
-
--- of any two, the first passes where the second does
-abbrev pub Falls : (Identifier → Bool) → List Identifier → Type 0
-Falls g xs = AllPairs (λ a b. g b ≡ true → g a ≡ true) xs
 
 -- before all, and alone where there is none
 abbrev pub before_all : Option Identifier → Gap

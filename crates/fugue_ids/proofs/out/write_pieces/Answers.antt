@@ -2,7 +2,6 @@ use Rattle.std.proofs.Common.{subst}
 use Rattle.std.specs.Prelude.{Err, Ok, flat_map}
 use Rattle.std.proofs.lemmas.Result.{err_from_is_err_and}
 use Rattle.fugue_ids.specs.Gathers.{GathersText}
-use Rattle.fugue_ids.specs.declared.out.Failed.{Failed}
 use Rattle.fugue_ids.proofs.GatherLemmas.{flush_writes, stop_writes}
 use Rattle.fugue_ids.proofs.out.write_pieces.Goals as goal
 

@@ -1,7 +1,7 @@
 use Rattle.std.proofs.Common.{Some, subst, sym}
 use Rattle.fugue_ids.specs.Keys.{ids}
 use Rattle.fugue_ids.specs.Listed.{HoldsOrigin}
-use Rattle.sided_tree.proofs.LowLemmas.{first_low_held}
+use Rattle.fugue_ids.proofs.LowLemmas.{first_low_held}
 use Rattle.sided_tree.proofs.gaps.block_end.Goals as goal
 
 pub before-requires : goal.before-requires

@@ -1,9 +1,10 @@
 use Rattle.std.proofs.Common.{ap, refl, subst, sym, ◌∙◌}
 use Rattle.std.specs.Prelude.{None, Some}
-use Rattle.fugue_ids.specs.Keys.{between, rest_of}
+use Rattle.fugue_ids.specs.Keys.{between, low_ids, rest_of}
 use Rattle.fugue_ids.specs.Listed.{HoldsOrigin}
+use Rattle.fugue_ids.specs.Passing.{Falls}
 use Rattle.fugue_ids.specs.declared.key.Gap.TheVariants.{After}
-use Rattle.origin_model.specs.sides.KeyedGap.{Falls, block_end, low_ids}
+use Rattle.origin_model.specs.sides.KeyedGap.{block_end}
 use Rattle.sided_tree.specs.Elders.{is_elder}
 use Rattle.sided_tree.proofs.SlotLemmas.{bounds, by_elder, elder_held, element_held, fall, no_sibling, same_siblings}
 use Rattle.sided_tree.proofs.gaps.gap_by_keys.Goals as goal

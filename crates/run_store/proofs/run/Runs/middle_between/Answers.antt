@@ -28,7 +28,8 @@ returns-then-begin-end c =
     let b = c.args.begin in
     let e = c.args.end in
     record {
-      some = if-some _ _ c.middle_of_run.result (some-same r c.requires.sound b.place b.offset e.place e.offset c.requires.from c.requires.to c.if-begin-end.true) c.middle_of_run.ensures.some;
+      some = if-some _ _ c.middle_of_run.result (λ m. some-same r c.requires.sound b.place b.offset e.place e.offset c.requires.from c.requires.to c.if-begin-end.true m.id) c.middle_of_run.ensures.some;
+      found = c.middle_of_run.ensures.found;
       none = if-none _ _ c.middle_of_run.result (none-same r c.requires.sound b.place b.offset e.place e.offset c.requires.from c.requires.to c.if-begin-end.true) c.middle_of_run.ensures.none;
     }
 
@@ -42,7 +43,8 @@ returns-then-half-begin c =
     let up = places-up r s b.place b.offset e.place e.offset c.requires.from c.requires.to c.requires.order in
     let below = half-below b.place e.place up c.if-begin-end.false in
     record {
-      some = if-some _ _ c.middle_of_run-then-half-begin.result (some-half r s b.place b.offset e.place e.offset c.requires.from c.requires.to half c.if-half-begin.true below) c.middle_of_run-then-half-begin.ensures.some;
+      some = if-some _ _ c.middle_of_run-then-half-begin.result (λ m. some-half r s b.place b.offset e.place e.offset c.requires.from c.requires.to half c.if-half-begin.true below m.id) c.middle_of_run-then-half-begin.ensures.some;
+      found = c.middle_of_run-then-half-begin.ensures.found;
       none = if-none _ _ c.middle_of_run-then-half-begin.result (none-half r s b.place b.offset e.place e.offset c.requires.from c.requires.to half below) c.middle_of_run-then-half-begin.ensures.none;
     }
 
@@ -53,7 +55,7 @@ returns-in-Some-clause-some c =
     let b = c.args.begin in
     let e = c.args.end in
     let up = places-up r s b.place b.offset e.place e.offset c.requires.from c.requires.to c.requires.order in
-    some-first r s b.place b.offset e.place e.offset c.requires.from c.requires.to (omega (arith, up, c.if-begin-end.false)) _ c.in-Some.id c.in-Some.ensures.some
+    some-first r s b.place b.offset e.place e.offset c.requires.from c.requires.to (omega (arith, up, c.if-begin-end.false)) _ c.in-Some.found.id c.in-Some.ensures.some
 
 pub returns-in-None : goal.returns-in-None
 returns-in-None c =
@@ -64,6 +66,7 @@ returns-in-None c =
     let up = places-up r s b.place b.offset e.place e.offset c.requires.from c.requires.to c.requires.order in
     let next : e.place ≡ suc b.place = omega (arith, up, c.if-begin-end.false, c.if-half-begin.false) in
     record {
-      some = if-some _ _ c.middle_of_run-in-None.result (some-second r s b.place b.offset e.place e.offset c.requires.from c.requires.to (omega (arith, next))) c.middle_of_run-in-None.ensures.some;
+      some = if-some _ _ c.middle_of_run-in-None.result (λ m. some-second r s b.place b.offset e.place e.offset c.requires.from c.requires.to (omega (arith, next)) m.id) c.middle_of_run-in-None.ensures.some;
+      found = c.middle_of_run-in-None.ensures.found;
       none = if-none _ _ c.middle_of_run-in-None.result (none-next r s b.place b.offset e.place e.offset c.requires.from c.requires.to next _ refl c.in-None.ensures.none) c.middle_of_run-in-None.ensures.none;
     }

@@ -1,15 +1,10 @@
 use Rattle.std.proofs.Common.{subst, sym}
-use Rattle.std.specs.List.{All}
-use Rattle.fugue_ids.specs.Keys.{IsFit}
 use Rattle.fugue_ids.specs.Listed.{HoldsOrigin}
-use Rattle.run_store.specs.Cells.{cell_ids, keyed_cells}
+use Rattle.run_store.specs.Cells.{cell_ids}
 use Rattle.run_store.specs.Stored.{Stored}
-use Rattle.run_store.proofs.KeyLemmas.{all-fit, keyed-ids}
+use Rattle.run_store.proofs.KeyLemmas.{keyed-ids}
 use Rattle.run_store.proofs.store.RunStoreOrderOf.last_low.Goals as goal
 
 pub last_low-requires-clause-held : goal.last_low-requires-clause-held
 last_low-requires-clause-held c =
     subst (λ (s : Stored). HoldsOrigin (cell_ids s.cells) c.args.id) (sym c.self.view_is) (subst (λ is. HoldsOrigin is c.args.id) (keyed-ids c.args.self.now.cells) c.requires.held)
-
-pub returns-clause-fit : goal.returns-clause-fit
-returns-clause-fit c = subst (λ (s : Stored). All IsFit (keyed_cells s.cells)) c.self.view_is (all-fit c.self.inside.runs c.self.invariant)

@@ -11,7 +11,7 @@ use Rattle.fugue_ids.specs.Listed.{HoldsOrigin}
 use Rattle.fugue_ids.specs.declared.key.Key.{Key}
 use Rattle.fugue_ids.proofs.IdentifierLemmas.{origin_eq-refl}
 use Rattle.fugue_ids.proofs.ListLemmas.{contains_cases, contains_here, contains_none, contains_there}
-use Rattle.sided_tree.proofs.PartedLemmas.{Apart, BeginsWith, EndsWith, apart_back, apart_first, apart_front, apart_rest, first_held, front_three, in_three, last_behind, last_ends, last_some, mid_three, not_first, not_last, rest_three, there, to_held}
+use Rattle.fugue_ids.proofs.PartedLemmas.{Apart, BeginsWith, EndsWith, apart_back, apart_first, apart_front, apart_rest, first_held, front_three, in_three, last_behind, last_ends, last_some, mid_three, not_first, not_last, rest_three, there, to_held}
 
 -- elements of keys up to k
 module _ (k : Key) where

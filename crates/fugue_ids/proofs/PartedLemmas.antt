@@ -4,13 +4,26 @@ use Rattle.std.specs.List.{All, AllPairs, Contains}
 use Rattle.std.specs.Prelude.{None, Option, Some, if◌then◌else◌}
 use Rattle.std.proofs.lemmas.Bool.{cases_Bool}
 use Rattle.std.proofs.lemmas.List.{append-nil, map-append}
-use Rattle.std.proofs.lemmas.List.Elements.{All-cons, All-contains, All-nil, Contains-append_left, Contains-append_right}
+use Rattle.std.proofs.lemmas.List.Elements.{All-cons, All-contains, All-head, All-nil, All-tail, Contains-append_left, Contains-append_right}
 use Rattle.fugue_ids.specs.Identifiers.{Identifier, id_eq, origin_eq}
 use Rattle.fugue_ids.specs.Keys.{Keyed, between, first_id, front_of, ids, last_id, rest_of}
 use Rattle.fugue_ids.specs.Listed.{HoldsOrigin}
-use Rattle.fugue_ids.proofs.IdentifierLemmas.{ne-id_eq}
+use Rattle.fugue_ids.proofs.IdentifierLemmas.{eq-id_eq, ne-id_eq}
 use Rattle.fugue_ids.proofs.ListLemmas.{all_pairs_before, all_pairs_behind, all_pairs_head, all_pairs_tail, contains_cases, contains_here, contains_none, contains_there}
-use Rattle.origin_model.proofs.SharedLemmas.{front_at, rest_at}
+
+-- what stands behind an element that is in the list once
+pub rest_at : (front back : List Keyed) (e : Keyed) → All (λ z. z.id ≢ e.id) front → rest_of (Some e.id) (front ++ e ∷ back) ≡ back
+rest_at [] back e f = ap (λ b. if b then back else rest_of (Some e.id) back) (eq-id_eq e.id e.id refl)
+rest_at (a ∷ front) back e f =
+    ap (λ b. if b then front ++ e ∷ back else rest_of (Some e.id) (front ++ e ∷ back)) (ne-id_eq a.id e.id (All-head (λ z. z.id ≢ e.id) a front f))
+    ∙ rest_at front back e (All-tail (λ z. z.id ≢ e.id) a front f)
+
+-- what stands before it
+pub front_at : (front back : List Keyed) (e : Keyed) → All (λ z. z.id ≢ e.id) front → front_of (Some e.id) (front ++ e ∷ back) ≡ front
+front_at [] back e f = ap (λ b. if b then [] else e ∷ front_of (Some e.id) back) (eq-id_eq e.id e.id refl)
+front_at (a ∷ front) back e f =
+    ap (λ b. if b then [] else a ∷ front_of (Some e.id) (front ++ e ∷ back)) (ne-id_eq a.id e.id (All-head (λ z. z.id ≢ e.id) a front f))
+    ∙ ap (λ t. a ∷ t) (front_at front back e (All-tail (λ z. z.id ≢ e.id) a front f))
 
 -- no identifier comes twice
 abbrev pub Apart : List Keyed → Type 0

@@ -10,9 +10,8 @@ use Rattle.fugue_ids.specs.Listed.{HoldsOrigin}
 use Rattle.fugue_ids.specs.declared.key.Key.{Key}
 use Rattle.fugue_ids.proofs.IdentifierLemmas.{eq-id_eq, ne-id_eq}
 use Rattle.fugue_ids.proofs.ListLemmas.{contains_here, contains_none}
-use Rattle.origin_model.proofs.SharedLemmas.{rest_at}
-use Rattle.sided_tree.proofs.PartedLemmas.{Apart, BeginsWith, apart_back, first_begins, first_held, front_is, in_back, in_front, in_three, last_some, mid_three, others, part_at, rest_three, there, to_held}
-use Rattle.sided_tree.proofs.LowLemmas.{low_begins, low_held, low_one, lows}
+use Rattle.fugue_ids.proofs.PartedLemmas.{Apart, BeginsWith, apart_back, first_begins, first_held, front_is, in_back, in_front, in_three, last_some, mid_three, others, part_at, rest_at, rest_three, there, to_held}
+use Rattle.fugue_ids.proofs.LowLemmas.{low_begins, low_held, low_one, lows}
 
 -- a part of the list, and an element of it: what stands around that
 pub record Around (es : List Keyed) (from to : Option Identifier) (m : Identifier) : Type 0 where
