@@ -44,12 +44,12 @@ impl Runs {
     }
 
     /// Where the cells behind this one begin.
-    pub(crate) fn begin_of(&self, from: Option<ElementId>) -> Standing
+    pub(crate) fn begin_of(&self, from: &Option<ElementId>) -> Standing
         requires sound { AreRuns self.now }
-        requires held { HoldsOrigin (cell_ids (cells_in self.now)) from }
-        ensures { BeginsBehind self.now from result }
+        requires held { HoldsOrigin (cell_ids (cells_in self.now)) from.now }
+        ensures { BeginsBehind self.now from.now result }
     {
-        match from {
+        match *from {
             Some(id) => {
                 let cell = self.found(id);
                 Standing {

@@ -35,17 +35,17 @@ impl Runs {
     /// The last low cell between two, of which the first is low.
     fn last_low_in(
         &self,
-        from: Option<ElementId>,
+        from: &Option<ElementId>,
         to: Option<ElementId>,
         most: Key,
     ) -> Option<ElementId>
         requires sound { AreRuns self.now }
-        requires from { HoldsOrigin (low_ids most (keyed_cells (cells_in self.now))) from }
-        requires to { HoldsOrigin (ids_of (rest_of from (keyed_cells (cells_in self.now)))) to }
-        ensures { result ≡ last_low_of most (between from to (keyed_cells (cells_in self.now))) }
+        requires from { HoldsOrigin (low_ids most (keyed_cells (cells_in self.now))) from.now }
+        requires to { HoldsOrigin (ids_of (rest_of from.now (keyed_cells (cells_in self.now)))) to }
+        ensures { result ≡ last_low_of most (between from.now to (keyed_cells (cells_in self.now))) }
     {
         let last = self.last_low(to, most);
-        if last == from { None } else { last }
+        if last == *from { None } else { last }
     }
 
     /// The last low cell of the part, up to this one of it, or else the first one behind it.
@@ -58,7 +58,7 @@ impl Runs {
         ensures some { IfSome result (Contains (low_cells self.now part.now)) }
     {
         let next = self.behind(Some(middle));
-        match self.last_low_in(part.from, next, part.most) {
+        match self.last_low_in(&part.from, next, part.most) {
             Some(low) => Some(low),
             None => self.first_low_in(Some(middle), part.to, part.most),
         }
@@ -123,15 +123,17 @@ impl Runs {
             → Falls g (low_ids most (between from to (keyed_cells (cells_in self.now))))
             → result ≡ last_passing_of g (low_ids most (between from to (keyed_cells (cells_in self.now)))) }
     {
-        let last = self.last_low_in(from, to, most)?;
+        let last = self.last_low_in(&from, to, most)?;
         if test(last) {
             return Some(last);
         }
+        let begin = self.begin_of(&from);
+        let end = self.end_of(Some(last));
         let front = Part {
             from,
             to: Some(last),
-            begin: self.begin_of(from),
-            end: self.end_of(Some(last)),
+            begin,
+            end,
             most,
         };
         self.passing_by_halves(front, test)

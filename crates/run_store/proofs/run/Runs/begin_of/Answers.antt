@@ -1,4 +1,4 @@
-use Rattle.std.proofs.Common.{ap, inl, refl, subst, sym, ◌+◌, ◌∙◌}
+use Rattle.std.proofs.Common.{ap, arith, inl, refl, subst, sym, ◌+◌, ◌∙◌}
 use Rattle.std.specs.Prelude.{Some}
 use Rattle.run_store.specs.Cells.{cell_ids}
 use Rattle.run_store.specs.Runs.{cells_in}
@@ -7,7 +7,7 @@ use Rattle.run_store.proofs.FoundLemmas.{found-begin, found-small}
 use Rattle.run_store.proofs.run.Runs.begin_of.Goals as goal
 
 pub overflow_add-result : goal.overflow_add-result
-overflow_add-result c = found-small c.args.self.now c.requires.sound c.found-cell.result c.found-cell.ensures.found
+overflow_add-result c = omega (arith, found-small c.args.self.now c.requires.sound c.found-cell.result c.found-cell.ensures.found)
 
 pub returns-in-Some : goal.returns-in-Some
 returns-in-Some c =

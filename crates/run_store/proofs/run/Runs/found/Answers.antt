@@ -1,4 +1,4 @@
-use Rattle.std.proofs.Common.{arith, ap, sym, ◌∙◌}
+use Rattle.std.proofs.Common.{ap, sym, ◌∙◌}
 use Rattle.run_store.specs.declared.standing.Found.{Found}
 use Rattle.run_store.proofs.FindLemmas.{spot-fits}
 use Rattle.run_store.proofs.FoundLemmas.{found-in}
@@ -10,8 +10,8 @@ found_in-requires-clause-counters c = (spot-fits c.args.self.now c.requires.soun
 pub found_in-requires-clause-depths : goal.found_in-requires-clause-depths
 found_in-requires-clause-depths c = (spot-fits c.args.self.now c.requires.sound c.args.id c.in-Some.spot.run c.in-Some.spot.offset c.in-Some.ensures.some).1
 
-pub returns-in-Some : goal.returns-in-Some
-returns-in-Some c =
+pub returns : goal.returns
+returns c =
     let spot = c.in-Some.spot in
     let at = c.in-Some.ensures.some in
     record {

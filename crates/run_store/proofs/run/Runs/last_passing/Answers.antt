@@ -13,8 +13,8 @@ use Rattle.run_store.proofs.KeyLemmas.{keyed-ids}
 use Rattle.run_store.proofs.MiddleLemmas.{cells-apart}
 use Rattle.run_store.proofs.run.Runs.last_passing.Goals as goal
 
-pub last_low_in-last-requires-clause-to : goal.last_low_in-last-requires-clause-to
-last_low_in-last-requires-clause-to g c = low_held c.args.most (rest_of c.args.from (keyed_cells (cells_in c.args.self.now))) c.args.to c.requires.to
+pub last_low_in-requires-clause-to : goal.last_low_in-requires-clause-to
+last_low_in-requires-clause-to g c = low_held c.args.most (rest_of c.args.from (keyed_cells (cells_in c.args.self.now))) c.args.to c.requires.to
 
 pub returns-in_err-last : goal.returns-in_err-last
 returns-in_err-last g c = λ test t f.
@@ -26,13 +26,13 @@ returns-then-test g c = λ test t f.
     let passes = sym (t x true (subst (goal.P-post g c.args.test x) c.if-test.true c.test.ensures)) in
     sym (last_passes c.args.most (between c.args.from c.args.to (keyed_cells (cells_in c.args.self.now))) test x (sym c.in_ok-last.ensures) passes)
 
-pub begin_of-requires-clause-held : goal.begin_of-requires-clause-held
-begin_of-requires-clause-held g c =
+pub begin_of-begin-requires-clause-held : goal.begin_of-begin-requires-clause-held
+begin_of-begin-requires-clause-held g c =
     let cs = cells_in c.args.self.now in
     subst (λ xs. HoldsOrigin xs c.args.from) (keyed-ids cs) (low_held c.args.most (keyed_cells cs) c.args.from c.requires.from)
 
-pub end_of-requires-clause-held : goal.end_of-requires-clause-held
-end_of-requires-clause-held g c =
+pub end_of-end-requires-clause-held : goal.end_of-end-requires-clause-held
+end_of-end-requires-clause-held g c =
     let r = c.args.self.now in
     let es = keyed_cells (cells_in r) in
     let x = c.in_ok-last.last in
@@ -47,7 +47,7 @@ passing_by_halves-requires-clause-part g c =
     let x = c.in_ok-last.last in
     let low = last_is_low c.args.most (between c.args.from c.args.to es) x (sym c.in_ok-last.ensures) in
     let h = halves es c.args.most c.args.from c.args.to x (cells-apart r c.requires.sound) c.requires.from c.requires.to low in
-    record { from = c.requires.from; to = h.low_behind; begin = c.begin_of.ensures; end = c.end_of.ensures }
+    record { from = c.requires.from; to = h.low_behind; begin = c.begin_of-begin.ensures; end = c.end_of-end.ensures }
 
 pub returns : goal.returns
 returns g c = λ test t f.

@@ -1,4 +1,4 @@
-use Rattle.std.proofs.Common.{refl, subst}
+use Rattle.std.proofs.Common.{arith, refl, subst}
 use Rattle.run_store.proofs.FoundLemmas.{found-small}
 use Rattle.run_store.proofs.PassingLemmas.{halved-before, halved-behind, halved-out, halving, shorter-before, shorter-behind}
 use Rattle.run_store.proofs.run.Runs.passing_by_halves.Goals as goal
@@ -7,7 +7,7 @@ pub halve-init : goal.halve-init
 halve-init g c = halving c.args.self.now (goal.P-post g c.args.test) c.args.rest c.requires.part
 
 pub overflow_add-rest : goal.overflow_add-rest
-overflow_add-rest g c = found-small c.args.self.now c.requires.sound c.in-Some.low c.in-Some.ensures.found
+overflow_add-rest g c = omega (arith, found-small c.args.self.now c.requires.sound c.in-Some.low c.in-Some.ensures.found)
 
 pub halve-smaller-then-test : goal.halve-smaller-then-test
 halve-smaller-then-test g c =
