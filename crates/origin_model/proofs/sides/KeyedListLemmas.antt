@@ -7,6 +7,7 @@ use Rattle.std.proofs.lemmas.Bool.Decides.{nat_tests}
 use Rattle.fugue_ids.specs.Keys.{IsFit, Keyed, first_id, first_low, front_of, ids, is_low, last_id, last_low, low_ids, rest_of}
 use Rattle.fugue_ids.specs.Listed.{last_before}
 use Rattle.fugue_ids.specs.declared.key.Key.{Key}
+use Rattle.fugue_ids.proofs.PartedLemmas.{front_at, rest_at}
 use Rattle.origin_model.specs.edits.Landing.{first_after}
 use Rattle.origin_model.specs.sides.KeyedGap.{widest}
 use Rattle.origin_model.specs.sides.Keys.{keyed, keyed_as}
