@@ -13,7 +13,8 @@ const UNUSED: ElementId = ElementId {
 #[derive(Debug, Drop)]
 pub struct NoteNames {
     ids: [ElementId; MOST_NAMES],
-    count: usize,
+    // One byte, since a note is the largest operation.
+    count: u8,
 }
 
 impl Model for NoteNames {
@@ -41,7 +42,7 @@ impl NoteNames {
         kept[..ids.len()].copy_from_slice(ids);
         Some(NoteNames {
             ids: kept,
-            count: ids.len(),
+            count: ids.len() as u8,
         })
     }
 
@@ -50,7 +51,7 @@ impl NoteNames {
         ensures ids { result.now ≡ self.now }
         ensures few { length result.now ≤ MOST_NAMES }
     {
-        &self.ids[..self.count]
+        &self.ids[..self.count as usize]
     }
 
     /// The same names.

@@ -3,6 +3,7 @@ ghost use Rattle.fugue_ids.specs.Ops.{id_of, key_of};
 
 use crate::{Body, ElementId, NoMemory, NoteNames, Title};
 use std::alloc::Global;
+use std::mem::size_of;
 
 /// One operation of an author.
 ///
@@ -36,6 +37,8 @@ pub enum Op {
         body: Body,
     },
 }
+
+const _: () = prove!(size_of::<Op>() == 72);
 
 /// What an operation is looked up by: equal operations have one key.
 #[derive(Clone, Copy, Debug, PartialEq, Eq)]
