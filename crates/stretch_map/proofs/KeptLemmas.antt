@@ -60,6 +60,34 @@ module _ {V : Type 0} (ls ks : List (ℕ × Latest V)) where
       ]
 
 module _ {V : Type 0} (l k : Layout V) (laid : IsLaid l) where
+  -- a last stretch is set, behind the kept ones of its replica: each other one was there before
+  set_cases : (f : Entry V) → LatestBecomes l.0 k.0 f.0.replica (Some (f.0.counter, f.1)) → ((x : Entry V) → KeepsEntry k.1 x → x.0.replica ≡ f.0.replica → x.0.counter < f.0.counter)
+      → ((x : Entry V) → KeepsEntry k.1 x → Has l x) → (x : Entry V) → Has k x → (x ≡ f) ⊎ ((x.0 ≢ f.0) × Has l x)
+  set_cases f becomes before was x h =
+      elim h [
+        | inl a ↦
+            elim (latest_cases l.0 k.0 f becomes x a) [
+              | inl d ↦ inl d
+              | inr d ↦ inr (λ e. d.0 (ap (λ (z : Identifier). z.replica) e), inl d.1)
+            ]
+        | inr a ↦
+            inr (
+              λ e.
+                  let less : x.0.counter < f.0.counter = before x a (ap (λ (z : Identifier). z.replica) e) in
+                  let same : x.0.counter ≡ f.0.counter = ap (λ (z : Identifier). z.counter) e in
+                  absurd (omega arith),
+              was x a,
+            )
+      ]
+
+  -- one kept stretch changes: those under other identifiers stay
+  kept_stays : (at : Identifier) (o : Option (Stretch V)) → KeptBecomes l.1 k.1 at o → k.0 ≡ l.0 → (x : Entry V) → x.0 ≢ at → Has l x → Has k x
+  kept_stays at o becomes rest x d h =
+      elim h [
+        | inl a ↦ inl (subst (λ ls. IsLatest ls x) (sym rest) a)
+        | inr a ↦ inr (becomes.others x.0 d ∙ a)
+      ]
+
   -- a last stretch is set, behind the kept ones of its replica: it is a new one, or that one has another end
   pub sets_latest : (f : Entry V) → ((x : Entry V) → IsLatest l.0 x → x.0.replica ≡ f.0.replica → x.0 ≡ f.0) → ((x : Entry V) → KeepsEntry l.1 x → x.0.replica ≡ f.0.replica → x.0.counter < f.0.counter)
       → LatestBecomes l.0 k.0 f.0.replica (Some (f.0.counter, f.1)) → k.1 ≡ l.1 → Sets l k f
@@ -67,22 +95,7 @@ module _ {V : Type 0} (l k : Layout V) (laid : IsLaid l) where
       let was : (x : Entry V) → KeepsEntry k.1 x → KeepsEntry l.1 x = λ x h. subst (λ es. KeepsEntry es x) rest h in
       record {
         here = inl becomes.here;
-        cases = λ x h.
-            elim h [
-              | inl a ↦
-                  elim (latest_cases l.0 k.0 f becomes x a) [
-                    | inl d ↦ inl d
-                    | inr d ↦ inr (λ e. d.0 (ap (λ (z : Identifier). z.replica) e), inl d.1)
-                  ]
-              | inr a ↦
-                  inr (
-                    λ e.
-                        let less : x.0.counter < f.0.counter = before x (was x a) (ap (λ (z : Identifier). z.replica) e) in
-                        let same : x.0.counter ≡ f.0.counter = ap (λ (z : Identifier). z.counter) e in
-                        absurd (omega arith),
-                    inr (was x a),
-                  )
-            ];
+        cases = set_cases f becomes (λ x h. before x (was x h)) (λ x h. inr (was x h));
         stays = λ x d h.
             elim h [
               | inl a ↦ inl (becomes.others x.0.replica (λ e. d (old x a e)) ∙ a)
@@ -117,11 +130,7 @@ module _ {V : Type 0} (l k : Layout V) (laid : IsLaid l) where
                   )
               | inr a ↦ elim (kept_cases l.1 k.1 f becomes x a) [ inl d ↦ inl d | inr d ↦ inr (d.0, inr d.1) ]
             ];
-        stays = λ x d h.
-            elim h [
-              | inl a ↦ inl (subst (λ ls. IsLatest ls x) (sym rest) a)
-              | inr a ↦ inr (becomes.others x.0 d ∙ a)
-            ];
+        stays = kept_stays f.0 (Some f.1) becomes rest;
         laid = record {
           before = λ e x a h r.
               elim (kept_cases l.1 k.1 f becomes x h) [
@@ -145,22 +154,8 @@ module _ {V : Type 0} (l k : Layout V) (laid : IsLaid l) where
       in
       record {
         here = inl becomes.here;
-        cases = λ x h.
-            elim h [
-              | inl a ↦
-                  elim (latest_cases l.0 k.0 f becomes x a) [
-                    | inl d ↦ inl d
-                    | inr d ↦ inr (λ c. d.0 (ap (λ (z : Identifier). z.replica) c), inl d.1)
-                  ]
-              | inr a ↦
-                  inr (
-                    λ c.
-                        let low : x.0.counter < f.0.counter = kept_before x a (ap (λ (z : Identifier). z.replica) c) in
-                        let same : x.0.counter ≡ f.0.counter = ap (λ (z : Identifier). z.counter) c in
-                        absurd (omega arith),
-                    elim (kept_cases l.1 k.1 e keeps x a) [ inl d ↦ inl (subst (λ (z : Entry V). IsLatest l.0 z) (sym d) old) | inr d ↦ inr d.1 ],
-                  )
-            ];
+        cases = set_cases f becomes kept_before
+            (λ x h. elim (kept_cases l.1 k.1 e keeps x h) [ inl d ↦ inl (subst (λ (z : Entry V). IsLatest l.0 z) (sym d) old) | inr d ↦ inr d.1 ]);
         stays = λ x d h.
             elim h [
               | inl a ↦
@@ -217,11 +212,7 @@ module _ {V : Type 0} (l k : Layout V) (laid : IsLaid l) where
               | inl a ↦ (λ c. not_both l laid x e (was x a) old (sym c), inl (was x a))
               | inr a ↦ let left = kept_left l.1 k.1 e.0 becomes x a in (left.0, inr left.1)
             ];
-        stays = λ x d h.
-            elim h [
-              | inl a ↦ inl (subst (λ ls. IsLatest ls x) (sym rest) a)
-              | inr a ↦ inr (becomes.others x.0 d ∙ a)
-            ];
+        stays = kept_stays e.0 None becomes rest;
         laid = record {
           before = λ y x a h r. laid.before y x (was y a) (kept_left l.1 k.1 e.0 becomes x h).1 r;
           latest = subst (λ (ls : List (ℕ × Latest V)). IsStrictlySortedBy nat_cmp (keys_of ls)) (sym rest) laid.latest;

@@ -1,5 +1,5 @@
 -- The stretches of a map, and what becomes of them.
-use Rattle.std.specs.Prelude.{◌≡◌, ◌≢◌, ◌⊎◌, ℕ, ◌+◌, ◌-◌, ◌<◌, ◌≤◌, None, Option, Some, List, IfNone, IfSome, cond, option_map}
+use Rattle.std.specs.Prelude.{◌≡◌, ◌≢◌, ◌⊎◌, ℕ, ◌+◌, ◌-◌, ◌<◌, ◌≤◌, None, Option, Some, List, IfNone, IfSome, IsOk, OnErr, OnOk, Result, cond, option_map}
 use Rattle.std.specs.BTreeMap.{is_at}
 use Rattle.std.specs.List.Sorted.{IsStrictlySortedBy}
 use Rattle.std.specs.Map.{keys_of, lookup}
@@ -8,6 +8,7 @@ use Rattle.fugue_ids.specs.Identifiers.{Identifier, id_cmp}
 use Rattle.stretch_map.specs.Ahead.{ahead}
 use Rattle.stretch_map.specs.Contents.{Entry, Latest, Layout, value_in}
 use Rattle.stretch_map.specs.Order.{IsAtMost}
+use Rattle.stretch_map.specs.Rules.{IsNext}
 use Rattle.stretch_map.specs.declared.stretches.Stretch.{Stretch}
 
 -- the stretch that is kept under an identifier
@@ -122,6 +123,12 @@ pub record Adds {V : Type 0} (nth : Identifier → V → ℕ → V) (reaches : I
   pub are : AreStretches reaches k
   pub found : (q : Identifier) → value_in nth k q ≡ cond (is_eq (id_cmp q key)) (Some value) (value_in nth l q)
   pub ends : EndsAt k key
+
+-- l becomes k as the value is put at the key: an error leaves all as before, and there is none where the value follows that of the identifier before
+pub record Puts {V T E : Type 0} (nth : Identifier → V → ℕ → V) (reaches : Identifier → V → ℕ → Type 0) (l k : Layout V) (key : Identifier) (value : V) (result : Result T E) : Type 0 where
+  pub ok : OnOk result (Adds nth reaches l k key value)
+  pub err : OnErr result (k ≡ l)
+  pub sure : IsNext nth reaches (value_in nth l) key value → IsOk result
 
 -- k has the values of l, but none at the key
 pub record Loses {V : Type 0} (nth : Identifier → V → ℕ → V) (reaches : Identifier → V → ℕ → Type 0) (l k : Layout V) (key : Identifier) : Type 0 where

@@ -8,8 +8,8 @@ use std::collections::BTreeMap;
 
 mod steps;
 
-/// The last stretch of each replica, with the counter that it begins with. The one that was written last is at hand: a
-/// replica that goes on writing looks nothing up.
+/// The last stretch of each replica, with the counter that it begins with. A copy of the one that was written last is at
+/// hand: it is read without a search. To write one, it is looked up.
 #[derive(Drop)]
 pub(crate) struct LatestMap<V: Copy> {
     pub by_replica: BTreeMap<u32, (u32, Stretch<V>)>,

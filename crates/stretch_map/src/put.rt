@@ -1,10 +1,9 @@
 //! One value more.
-ghost use Rattle.std.specs.Prelude.{◌≡◌, ◌≤◌, None, IfNone, IfSome, IsFalse, IsOk, IsTrue, OnErr, OnOk};
+ghost use Rattle.std.specs.Prelude.{◌≡◌, ◌≤◌, None, IfNone, IfSome, IsFalse, IsTrue, OnErr, OnOk};
 ghost use Rattle.std.specs.BTreeMap.{IsUnchanged};
 ghost use Rattle.stretch_map.specs.Contents.{Entry, layout, value_at_id};
-ghost use Rattle.stretch_map.specs.Rules.{IsNext};
 ghost use Rattle.stretch_map.specs.Stretches.{Adds, AreStretches, GoesOn, Grows, IsBehindAll, IsFloor, IsLatestUpTo};
-ghost use Rattle.stretch_map.specs.Stretches.{KeepsEntry, NoLatestUpTo, up_to};
+ghost use Rattle.stretch_map.specs.Stretches.{KeepsEntry, NoLatestUpTo, Puts, up_to};
 
 use crate::follows::Follows;
 use crate::greatest::last_kept;
@@ -106,9 +105,7 @@ fn put_before<V: Follows>(
     requires are { AreStretches V.reaches (layout stretches.old) }
     requires fresh { value_at_id V.nth stretches.old key ≡ None }
     requires before { NoLatestUpTo stretches.old.latest.by_replica.entries key }
-    ensures ok { OnOk result (Adds V.nth V.reaches (layout stretches.old) (layout stretches.new) key value) }
-    ensures err { OnErr result (layout stretches.new ≡ layout stretches.old) }
-    ensures sure { IsNext V.nth V.reaches (value_at_id V.nth stretches.old) key value → IsOk result }
+    ensures { Puts V.nth V.reaches (layout stretches.old) (layout stretches.new) key value result }
 {
     if extend_kept(&mut stretches.kept, key, &value) {
         return Ok(());
@@ -127,9 +124,7 @@ fn put_behind<V: Follows>(
     requires are { AreStretches V.reaches (layout stretches.old) }
     requires fresh { value_at_id V.nth stretches.old key ≡ None }
     requires behind { IsLatestUpTo stretches.old.latest.by_replica.entries key (first, stretch.now) }
-    ensures ok { OnOk result (Adds V.nth V.reaches (layout stretches.old) (layout stretches.new) key value) }
-    ensures err { OnErr result (layout stretches.new ≡ layout stretches.old) }
-    ensures sure { IsNext V.nth V.reaches (value_at_id V.nth stretches.old) key value → IsOk result }
+    ensures { Puts V.nth V.reaches (layout stretches.old) (layout stretches.new) key value result }
 {
     if let Some(longer) = longer(first, stretch, key, &value) {
         stretches.latest.replace(first, longer);
@@ -149,9 +144,7 @@ pub(crate) fn put<V: Follows>(
 ) -> Result<(), NoMemory>
     requires are { AreStretches V.reaches (layout stretches.old) }
     requires fresh { value_at_id V.nth stretches.old key ≡ None }
-    ensures ok { OnOk result (Adds V.nth V.reaches (layout stretches.old) (layout stretches.new) key value) }
-    ensures err { OnErr result (layout stretches.new ≡ layout stretches.old) }
-    ensures sure { IsNext V.nth V.reaches (value_at_id V.nth stretches.old) key value → IsOk result }
+    ensures { Puts V.nth V.reaches (layout stretches.old) (layout stretches.new) key value result }
 {
     match stretches.latest.up_to(key) {
         Some((first, stretch)) => put_behind(stretches, first, &stretch, key, value),
