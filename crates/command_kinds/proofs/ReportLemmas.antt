@@ -118,13 +118,13 @@ module _ (tells : Telling) (once : TellsOnce tells) (file : Change DiskView) (ou
   load_refused refusal.NoMemory keeps exact told = ended refusal.NoMemory (λ done. elim done [ inl is ↦ cc is | inr is ↦ cc is ]) keeps exact told
       (record { wrote = same; noted = told }) (λ is other found room has outside. cc outside) (λ is other found. inr (inl refl))
   load_refused refusal.NotReplica refused exact told = ended refusal.NotReplica (λ done. elim done [ inl is ↦ cc is | inr is ↦ cc is ]) refused.1 exact told
-      (record { why = refusal.NotReplica; found = inl refused.0; end_is = refl; nothing = record { wrote = same; noted = told } })
+      (record { why = refusal.NotReplica; found = inl refused.0; synced = inl refused.0; end_is = refl; nothing = record { wrote = same; noted = told } })
       (λ is other found room has outside. cc outside) (decided_by refusal.NotReplica (inl refused.0))
   load_refused (refusal.BadBatch slot) refused exact told = ended (refusal.BadBatch slot) (λ done. elim done [ inl is ↦ cc is | inr is ↦ cc is ]) refused.1 exact told
-      (record { why = refusal.BadBatch slot; found = inl refused.0; end_is = refl; nothing = record { wrote = same; noted = told } })
+      (record { why = refusal.BadBatch slot; found = inl refused.0; synced = inl refused.0; end_is = refl; nothing = record { wrote = same; noted = told } })
       (λ is other found room has outside. cc outside) (decided_by (refusal.BadBatch slot) (inl refused.0))
   load_refused (refusal.TooMany count) refused exact told = ended (refusal.TooMany count) (λ done. elim done [ inl is ↦ cc is | inr is ↦ cc is ]) refused.1 exact told
-      (record { why = refusal.TooMany count; found = inl refused.0; end_is = refl; nothing = record { wrote = same; noted = told } })
+      (record { why = refusal.TooMany count; found = inl refused.0; synced = inl refused.0; end_is = refl; nothing = record { wrote = same; noted = told } })
       (λ is other found room has outside. cc outside) (decided_by (refusal.TooMany count) (inl refused.0))
   load_refused _ refused exact told = absurd refused.0
 
@@ -140,7 +140,7 @@ module _ (tells : Telling) (once : TellsOnce tells) (file : Change DiskView) (ou
       ])
       loaded.keeps (λ disk not. exact disk) told
       (subst (ReportMeets tells file output notes) (sym cause.0)
-      (record { why = why; found = inr (replica, at, loaded.holds, cause.1); end_is = sym cause.0; nothing = record { wrote = same; noted = told } }))
+      (record { why = why; found = inr (replica, at, loaded.holds, cause.1); synced = inr loaded.synced; end_is = sym cause.0; nothing = record { wrote = same; noted = told } }))
       (λ is other found room has outside. let end : status.BadInput ≡ status.OutsideFault = sym cause.0 ∙ outside in cc end) (decided_by why (inr (replica, at, loaded.holds, cause.1)))
 
 -- the file was loaded, and what is told of its replica was written, or nothing

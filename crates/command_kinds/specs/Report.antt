@@ -51,10 +51,11 @@ pub record WroteHeld (tells : Telling) (file : Change DiskView) (Wrote : List �
   pub synced : file.new.past ≡ after durable file.old.past
   pub came : Wrote bytes
 
--- the file was refused, or what it holds
-pub record FileRefused (tells : Telling) (file : DiskView) (output notes : Change OutView) (end : Status) : Type 0 where
+-- the file was refused, or what it holds: then it was loaded, which settles it
+pub record FileRefused (tells : Telling) (file : Change DiskView) (output notes : Change OutView) (end : Status) : Type 0 where
   pub why : Refusal
-  pub found : TextFound tells file (Refuses why)
+  pub found : TextFound tells file.old (Refuses why)
+  pub synced : FileRefuses file.old why ⊎ (file.new.past ≡ after durable file.old.past)
   pub end_is : end ≡ status_of why
   pub nothing : WroteNothing output notes why
 
@@ -67,9 +68,9 @@ pub record FileFailed (file : Change DiskView) (output notes : Change OutView) :
 -- what was done, for each way in which the command may end
 abbrev pub ReportMeets : (tells : Telling) → Change DiskView → (output notes : Change OutView) → Status → Type 0
 ReportMeets tells file output notes status.Done = WroteHeld tells file (λ bytes. WroteText bytes output notes)
-ReportMeets tells file output notes status.BadFile = FileRefused tells file.old output notes status.BadFile
-ReportMeets tells file output notes status.Limit = FileRefused tells file.old output notes status.Limit
-ReportMeets tells file output notes status.BadInput = FileRefused tells file.old output notes status.BadInput
+ReportMeets tells file output notes status.BadFile = FileRefused tells file output notes status.BadFile
+ReportMeets tells file output notes status.Limit = FileRefused tells file output notes status.Limit
+ReportMeets tells file output notes status.BadInput = FileRefused tells file output notes status.BadInput
 ReportMeets tells file output notes status.OutsideFault = FileFailed file output notes ⊎ WroteHeld tells file (λ bytes. TextFailed bytes output notes)
 ReportMeets tells file output notes status.NoMemory = WroteNothing output notes refusal.NoMemory
 ReportMeets tells file output notes status.Usage = ⊥

@@ -46,7 +46,7 @@ impl Counts {
 pub enum Note {
     /// What became of the operations that it took in.
     Counted(Counts),
-    /// How many operations a script made.
+    /// How many operations the command made: by a script or a draft, or the one note.
     Made(u32),
 }
 

@@ -1,4 +1,5 @@
 //! The commands that make a note: one call on the replica of the home file makes it, and it is saved.
+ghost use Rattle.std.specs.Prelude.{◌≡◌, OnErr};
 ghost use Rattle.command_kinds.specs.Notes.{NoteComes, NoteOn, note_giver};
 ghost use Rattle.command_kinds.specs.Saving.{SavesGiven, SavingBlameless};
 ghost use Rattle.command_kinds.specs.Changes.{change};
@@ -21,7 +22,8 @@ pub trait MakesNote {
     /// Makes the note. After a refusal none is made.
     fn make(&self, alloc: Global, replica: &mut Replica) -> Result<(), Refusal>
         requires { IsReady replica.old }
-        ensures { NoteComes (note_on self.now replica.old) replica.old replica.new result };
+        ensures comes { NoteComes (note_on self.now replica.old) replica.old replica.new result }
+        ensures unmade { OnErr result (replica.new ≡ replica.old) };
 }
 
 /// What the words give that ask for a note: no object of the outside is asked.

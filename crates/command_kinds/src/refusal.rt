@@ -37,11 +37,11 @@ pub enum Refusal {
     BadBatch(u32),
     /// A file that is to be made has bytes already.
     NotEmpty,
-    /// So many operations are held, and one more came.
+    /// So many operations are held, and more came or were to be made.
     TooMany(u32),
-    /// No counter is left behind this one.
+    /// Fewer counters are left behind this one than what is to be made needs.
     IdsSpent(u32),
-    /// The stream, the script or the text is longer than its limit.
+    /// The stream, the script, the text or the reply is longer than its limit.
     TooLong,
     /// What is to be saved does not fit a batch, or there is no slot for it.
     BatchTooLong,
@@ -53,7 +53,7 @@ pub enum Refusal {
     ReplyCutShort(u64),
     /// The two places are not there, or the first is not before the second.
     NoSuchPlaces,
-    /// The arrangement has no section of this number, counted from 1.
+    /// No section of this number, counted from 1, is shown: in the arrangement, or for `comment` in the catalogue.
     NoSection(u32),
     /// The arrangement has no place of this number, counted from 1.
     NoPlace(u32),

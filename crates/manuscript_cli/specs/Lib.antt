@@ -15,5 +15,6 @@ pub mod NamedVersions
 pub mod Bulk
 pub mod Run
 pub mod Runs
+pub use Rattle.bulk_world.specs.Summary
 pub use Rattle.command_kinds.specs.Counts
 pub use Rattle.command_kinds.specs.Refusal
