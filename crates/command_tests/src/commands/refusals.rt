@@ -4,7 +4,7 @@ use crate::assertions::holds_at;
 use manuscript_cli::{Refusal, Status, tell};
 use outer_ports::MemSink;
 
-/// Each refusal, its text and its status.
+/// Each refusal but that of a version's name, its text and its status.
 const REFUSALS: &[(Refusal, &str, Status)] = &[
     (Refusal::Words, "words not understood", Status::Usage),
     (
@@ -46,6 +46,41 @@ const REFUSALS: &[(Refusal, &str, Status)] = &[
         Refusal::TooMany(4_194_304),
         "too many: 4194304",
         Status::Limit,
+    ),
+    (
+        Refusal::BadReply(4_294_967_296),
+        "bad reply at byte 4294967296",
+        Status::BadInput,
+    ),
+    (
+        Refusal::RelayRefused(255),
+        "relay refused 255",
+        Status::BadInput,
+    ),
+    (
+        Refusal::ReplyCutShort(9),
+        "reply cut short at byte 9",
+        Status::BadInput,
+    ),
+    (
+        Refusal::NoSuchPlaces,
+        "no such places",
+        Status::BadInput,
+    ),
+    (
+        Refusal::BaseDiffers(0),
+        "base differs at byte 0",
+        Status::BadInput,
+    ),
+    (
+        Refusal::HeadingInText(2),
+        "heading in section 2",
+        Status::BadInput,
+    ),
+    (
+        Refusal::BadDraft(1),
+        "bad draft at line 1",
+        Status::BadInput,
     ),
     (Refusal::Outside, "outside fault", Status::OutsideFault),
     (Refusal::NoMemory, "no memory", Status::NoMemory),
