@@ -14,7 +14,7 @@ use replica_file::{End, append, load};
 use std::alloc::Global;
 
 /// Loads the replica that a file holds, and finds where the file's meaning ends.
-pub(crate) fn load_file<H: Disk>(alloc: Global, file: &mut H) -> Result<(Replica, End), Refusal>
+pub fn load_file<H: Disk>(alloc: Global, file: &mut H) -> Result<(Replica, End), Refusal>
     ensures meets { LoadMeets (change (H.seen file.old) (H.seen file.new)) result }
     ensures told { DiskTells (H.seen file.old) → result ≢ Err Outside
         → (H.seen file.new).faults ≡ (H.seen file.old).faults }

@@ -55,7 +55,8 @@ pub fn write_report<R: Report, O: Sink, N: Sink, H: Disk>(
     }
 }
 
-fn write_held<R: Report, O: Sink, N: Sink>(
+/// Writes the report of what the replica of a file that was loaded holds.
+pub fn write_held<R: Report, O: Sink, N: Sink>(
     alloc: Global,
     what: &R,
     replica: &Replica,

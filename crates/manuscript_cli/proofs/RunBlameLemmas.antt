@@ -49,10 +49,13 @@ module _ (words : List (List ℕ)) (old new : Touched) (end : Status) where
   checks meets =
       elim meets.does [
         | inl k ↦ all _ meets.others (λ tells not. k.count.calm_told tells (λ failed. failed)) k.reports.output_blameless k.reports.notes_blameless k.reports.file_blameless quiet quiet quiet
-        | inr k ↦
+        | inr (inl k) ↦
             let notes : Change OutView = change old.streams.notes new.streams.notes in
-            all _ meets.others (λ tells not. k.count.calm_told tells (λ is. not (k.end_is ∙ ap status_of is))) (λ tells not. ap (λ (o : OutView). o.faults) k.wrote)
-            (subst (NotesBlameless notes) (sym k.end_is) (told_blameless k.why notes k.noted)) (λ tells not. ap (λ (d : DiskView). d.faults) k.file_kept) quiet quiet quiet
+            let none = k.none in
+            all _ meets.others (λ tells not. none.count.calm_told tells (λ is. not (none.end_is ∙ ap status_of is))) (λ tells not. ap (λ (o : OutView). o.faults) none.wrote)
+            (subst (NotesBlameless notes) (sym none.end_is) (told_blameless none.why notes none.noted)) k.file_blameless quiet quiet quiet
+        | inr (inr k) ↦
+            all _ meets.others (λ tells not. ap (λ (s : SourceView). s.faults) k.unread) k.reports.output_blameless k.reports.notes_blameless k.reports.file_blameless quiet quiet quiet
       ]
 
   makes_note : (note_on : NoteOn) → RunsSaving (note_saver note_on old new) old new end → IsBlameless old new end

@@ -129,7 +129,12 @@ module _ (old new : Touched) (end : Status) (began stood : History) (began_is : 
   goes (Reporting tells) meets = used (λ gave. gave ≡ []) meets.does.crash
   goes (Serving port sessions) meets = unused (ap (λ (t : Touched). t.home) meets.others)
   goes (Inventing seed count) meets = unused (ap (λ (t : Touched). t.home) meets.others)
-  goes Checking meets = elim meets.does [ inl k ↦ used (λ gave. gave ≡ []) k.reports.crash | inr k ↦ unused k.file_kept ]
+  goes Checking meets =
+      elim meets.does [
+        | inl k ↦ used (λ gave. gave ≡ []) k.reports.crash
+        | inr (inl k) ↦ used (λ gave. gave ≡ []) k.crash
+        | inr (inr k) ↦ used (λ gave. gave ≡ []) k.reports.crash
+      ]
 
 -- the file behind a run is safe, and each list that it may have is one that it might have had with what the run brought
 record Next (header : Header) (run : CommandRun) (ops more : List Op) (s : State) : Type 0 where

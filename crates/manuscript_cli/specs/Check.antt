@@ -4,11 +4,18 @@ use Rattle.std.specs.Io.KnownBytes.{prepend_known}
 use Rattle.fugue_ids.specs.Outs.{OutView}
 use Rattle.outer_ports.specs.Sources.{KeepsCount, SourceView}
 use Rattle.outer_ports.specs.disk.Disks.{DiskView}
+use Rattle.outer_ports.specs.disk.Moments.{after}
+use Rattle.outer_ports.specs.disk.States.{durable}
+use Rattle.origin_model.specs.edits.State.{State as Replica}
 use Rattle.order_proof.specs.Readings.{IsValidText}
+use Rattle.replica_file.specs.declared.load_file.End.{End}
+use Rattle.command_kinds.specs.Crashes.{NeverTorn}
+use Rattle.command_kinds.specs.Files.{FileHolds, KeepsFile}
 use Rattle.command_kinds.specs.Findings.{Refuses, Does}
 use Rattle.command_kinds.specs.Refusal.{Told, refusal_line, status_of}
 use Rattle.command_kinds.specs.Report.{Reports, Telling}
-use Rattle.command_kinds.specs.Changes.{Change}
+use Rattle.command_kinds.specs.TextOut.{WritesReport}
+use Rattle.command_kinds.specs.Changes.{Change, DiskBlameless}
 use Rattle.manuscript_cli.specs.declared.check.TheConstants.{LONGEST_TEXT}
 use Rattle.command_kinds.specs.declared.refusal.Refusal.{Refusal}
 use Rattle.command_kinds.specs.declared.refusal.Refusal.TheVariants as refusal
@@ -48,23 +55,52 @@ pub record GetsPiece (before after : List ℕ) (old new : SourceView) (n : ℕ) 
   pub within : length after ≤ LONGEST_TEXT + 1
   pub ends : n ≡ 0 → IfSome old.left (λ left. left ≡ [])
 
--- the text was read, and what it is was told of the file
+-- the text was read, and what it is was written of what a replica holds
+pub record HeldText (input : Change SourceView) (replica : Replica) (output notes : Change OutView) (end : Status) : Type 0 where
+  pub text : List ℕ
+  pub read : IsTextRead input text
+  pub count : KeepsCount input.old input.new ⊥
+  pub writes : WritesReport (check_tells text replica) output notes end
+
+-- no text was read, and why was told
+pub record NoTextRead (input : Change SourceView) (output notes : Change OutView) (end : Status) : Type 0 where
+  pub why : Refusal
+  pub cause : HasNoInputText input why
+  pub count : KeepsCount input.old input.new (why ≡ refusal.Outside)
+  pub wrote : output.new ≡ output.old
+  pub noted : Told notes.old notes.new (refusal_line why)
+  pub end_is : end ≡ status_of why
+
+-- behind a file that was loaded the text is read, and what it is is told
+abbrev pub ChecksHeld : Change SourceView → Replica → (output notes : Change OutView) → Status → Type 0
+ChecksHeld input replica output notes end = HeldText input replica output notes end ⊎ NoTextRead input output notes end
+
+-- no replica is there of which something might be told
+abbrev pub nothing_told : Telling
+nothing_told replica found = ⊥
+
+-- the file was loaded, the text was read, and what it is was told
 pub record CheckedText (input : Change SourceView) (file : Change DiskView) (output notes : Change OutView) (end : Status) : Type 0 where
   pub text : List ℕ
   pub read : IsTextRead input text
   pub count : KeepsCount input.old input.new ⊥
   pub reports : Reports (check_tells text) file output notes end
 
--- no text was read, and why was told
+-- the file was loaded, which settles it, and no text was read
 pub record ReadNoText (input : Change SourceView) (file : Change DiskView) (output notes : Change OutView) (end : Status) : Type 0 where
-  pub why : Refusal
-  pub cause : HasNoInputText input why
-  pub count : KeepsCount input.old input.new (why ≡ refusal.Outside)
-  pub file_kept : file.new ≡ file.old
-  pub wrote : output.new ≡ output.old
-  pub noted : Told notes.old notes.new (refusal_line why)
-  pub end_is : end ≡ status_of why
+  pub none : NoTextRead input output notes end
+  pub holds : (replica : Replica) × (at : End) × FileHolds file.old replica at
+  pub synced : file.new.past ≡ after durable file.old.past
+  pub keeps : KeepsFile file
+  pub crash : NeverTorn (λ gave. gave ≡ []) file end
+  pub file_blameless : DiskBlameless file end
 
--- the command `check`
+-- the file was not loaded, why was told, and the input was not asked
+pub record LoadedNone (input : Change SourceView) (file : Change DiskView) (output notes : Change OutView) (end : Status) : Type 0 where
+  pub unread : input.new ≡ input.old
+  pub reports : Reports nothing_told file output notes end
+
+-- the command `check`: the file decides before the input
 abbrev pub ChecksText : Change SourceView → Change DiskView → (output notes : Change OutView) → Status → Type 0
-ChecksText input file output notes end = CheckedText input file output notes end ⊎ ReadNoText input file output notes end
+ChecksText input file output notes end =
+    CheckedText input file output notes end ⊎ ReadNoText input file output notes end ⊎ LoadedNone input file output notes end

@@ -3,11 +3,11 @@ ghost use Rattle.std.specs.Prelude.{◌≡◌, ◌↔◌, ◌≤◌, ◌⊎◌, 
 ghost use Rattle.std.specs.Prelude.{IfErr, IfOk, IsErrOf, OnOk};
 ghost use Rattle.outer_ports.specs.Sources.{KeepsCount};
 ghost use Rattle.order_proof.specs.Readings.{IsValidText};
-ghost use Rattle.manuscript_cli.specs.Check.{ChecksText, GetsPiece, HasNoInputText, IsTextRead, check_tells};
+ghost use Rattle.manuscript_cli.specs.Check.{ChecksHeld, ChecksText, GetsPiece, HasNoInputText, IsTextRead, check_tells};
 ghost use Rattle.command_kinds.specs.Changes.{change};
 ghost use Rattle.command_kinds.specs.declared.refusal.Refusal.TheVariants.{Outside, NoMemory as NoMemoryFound};
 
-use command_kinds::{Refusal, Report, Status, Told, gone_out, tell, write_report};
+use command_kinds::{Refusal, Report, Status, Told, gone_out, load_file, tell, write_held};
 use fugue_ids::{BUFFER, NoMemory, write_whole};
 use order_proof::check_text;
 use outer_ports::{Disk, Sink, Source};
@@ -17,7 +17,8 @@ use std::alloc::Global;
 /// The most bytes of a text on the input: of a certificate, or of a draft.
 pub(crate) const LONGEST_TEXT: usize = 268_435_456;
 
-/// Reads the text of a certificate from the input, and writes whether it is valid in what a file's replica holds.
+/// Loads a file, reads the text of a certificate from the input, and writes whether it is valid in what the file's
+/// replica holds.
 pub(crate) fn check_file<S: Source, O: Sink, N: Sink, H: Disk>(
     alloc: Global,
     input: &mut S,
@@ -28,10 +29,31 @@ pub(crate) fn check_file<S: Source, O: Sink, N: Sink, H: Disk>(
     ensures { ChecksText (change (S.seen input.old) (S.seen input.new)) (change (H.seen home.old) (H.seen home.new))
         (change (O.seen output.old) (O.seen output.new)) (change (N.seen notes.old) (N.seen notes.new)) result }
 {
+    match load_file(alloc, home) {
+        Ok((replica, _)) => {
+            let status = check_held(alloc, input, &replica, output, notes);
+            drop(replica);
+            status
+        }
+        Err(why) => tell(notes, why),
+    }
+}
+
+/// The same behind a file that was loaded.
+fn check_held<S: Source, O: Sink, N: Sink>(
+    alloc: Global,
+    input: &mut S,
+    replica: &Replica,
+    output: &mut O,
+    notes: &mut N,
+) -> Status
+    ensures { ChecksHeld (change (S.seen input.old) (S.seen input.new)) replica.now
+        (change (O.seen output.old) (O.seen output.new)) (change (N.seen notes.old) (N.seen notes.new)) result }
+{
     match read_text(alloc, input) {
         Ok(text) => {
             let verdict = Verdict { text };
-            let status = write_report(alloc, &verdict, home, output, notes);
+            let status = write_held(alloc, &verdict, replica, output, notes);
             drop(verdict);
             status
         }
