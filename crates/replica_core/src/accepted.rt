@@ -107,6 +107,18 @@ impl Accepted {
         self.history.ops()
     }
 
+    /// The accepted operations, the oldest first, without the manuscript that they make.
+    pub fn into_ops(self) -> Vec<Op>
+        ensures { result.items ≡ accepted_list self }
+    {
+        let Accepted {
+            history,
+            manuscript,
+        } = self;
+        drop(manuscript);
+        history.into_ops()
+    }
+
     /// What an operation is against the accepted ones.
     pub fn verdict(&self, op: &Op) -> Verdict
         ensures { result ≡ verdict_on self.now op.now }

@@ -73,6 +73,15 @@ impl History {
         self.ops.as_slice()
     }
 
+    /// The operations, the oldest first, without their index.
+    pub fn into_ops(self) -> Vec<Op>
+        ensures { result.items ≡ accepted self }
+    {
+        let History { ops, index } = self;
+        drop(index);
+        ops
+    }
+
     /// How many operations are older than the one that is looked up by the key.
     pub fn position(&self, key: OpKey) -> Option<usize>
         ensures { result ≡ position_of (has_key key) self.now }

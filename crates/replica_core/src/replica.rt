@@ -206,6 +206,31 @@ impl Replica {
         self.inbox.ops()
     }
 
+    /// All that the replica holds, in one list: the accepted operations in the order in which they were accepted, and
+    /// behind them the waiting ones in the order in which they came. The accepted ones are moved, the waiting ones are
+    /// copied, and the manuscript is dropped.
+    pub fn into_operations(self) -> Result<Vec<Op>, NoMemory>
+        ensures operations { IfOk result (λ ops. ops.items
+            ≡ accepted_list self.held.history ++ self.held.waiting) }
+        ensures stands { Stands self }
+    {
+        let Replica {
+            alloc,
+            accepted,
+            inbox,
+            due,
+            ..
+        } = self;
+        drop(due);
+        let mut ops = accepted.into_ops();
+        let copied = append_copies(alloc, &mut ops, inbox.ops());
+        drop(inbox);
+        match copied {
+            Ok(()) => Ok(ops),
+            Err(NoMemory) => Err(NoMemory),
+        }
+    }
+
     /// Writes the sections that are shown, each with its title and its text.
     pub fn write_manuscript<O: Sink>(&self, output: &mut O) -> Result<(), Failed>
         ensures text { WritesBytes (O.seen output.old) (O.seen output.new) result (manuscript self.now.held.history) }
@@ -370,6 +395,16 @@ impl Replica {
         drop(replace(self, settling.close()));
         result
     }
+}
+
+/// Appends a copy of each of the others.
+fn append_copies(alloc: Global, ops: &mut Vec<Op>, others: &[Op]) -> Result<(), NoMemory>
+    ensures { OnOk result (ops.new.items ≡ ops.old.items ++ others.now) }
+{
+    'copies: for op in others {
+        ops.push(op.clone_in(alloc)?)?;
+    }
+    Ok(())
 }
 
 /// The greatest of two lists together, by those of each.
