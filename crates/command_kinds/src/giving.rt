@@ -37,7 +37,7 @@ pub trait Gives<F> {
     /// How the object is left, where the command ends so.
     ghost Leaves: { Self → DiskView → F → F → AnyStatus → Type 0 };
 
-    /// Gives to a replica that was loaded. What is to be saved is copied into `kept`, but for what a script made.
+    /// Gives to a replica that was loaded. What is to be saved comes into `kept`, but for what a script made.
     fn give(
         &self,
         alloc: Global,

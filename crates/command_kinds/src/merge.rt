@@ -1,14 +1,13 @@
 //! The command `merge`: what another file holds is taken in.
-ghost use Rattle.std.specs.Prelude.{◌≡◌, ◌+◌, ◌<◌, ◌^◌, length, IfErr, IfOk, OnOk};
+ghost use Rattle.std.specs.Prelude.{◌≡◌, ◌+◌, ◌<◌, ◌^◌, [], length, take, IfErr, IfOk};
 ghost use Rattle.origin_model.specs.taking.Taking.{IsSettled};
 ghost use Rattle.replica_core.specs.Keeping.{TakesIn, taking_begun};
-ghost use Rattle.origin_model.specs.edits.State.{Stands};
 ghost use Rattle.replica_core.specs.Told.{total};
 ghost use Rattle.replica_file.specs.Loading.{IsReady};
 ghost use Rattle.command_kinds.specs.Files.{LeavesFile};
 ghost use Rattle.command_kinds.specs.Giving.{GivesTo};
 ghost use Rattle.command_kinds.specs.Merge.{FindNoPlace, MergesNot};
-ghost use Rattle.command_kinds.specs.Take.{all_held_by, ops_of, other_file};
+ghost use Rattle.command_kinds.specs.Take.{all_held_by, other_file};
 ghost use Rattle.command_kinds.specs.Changes.{change};
 
 use crate::counts::{Counts, Note};
@@ -38,70 +37,65 @@ impl<G: Disk> Gives<G> for OtherFile {
         kept: &mut Kept,
     ) -> Result<Note, Refusal> {
         let (other, _) = load_file(alloc, from)?;
-        let given = give_all(alloc, &other, replica, kept);
-        drop(other);
-        given
+        give_all(alloc, other, replica, kept)
     }
 
     fn laws(&self) {}
 }
 
-/// Gives all that another replica holds.
+/// Gives copies of all that another replica holds. That replica is taken apart: those that are saved are its own.
 fn give_all(
     alloc: Global,
-    other: &Replica,
+    other: Replica,
     replica: &mut Replica,
     kept: &mut Kept,
 ) -> Result<Note, Refusal>
     requires ready { IsReady replica.old }
-    requires other_stands { Stands other.now }
-    ensures gives { GivesTo (all_held_by other.now) replica.old replica.new kept.new result }
+    ensures gives { GivesTo (all_held_by other) replica.old replica.new kept.new result }
 {
-    let mut ops = Vec::new(alloc);
-    let tally = take_all(alloc, replica, other, &mut ops)?;
+    let mut ops = other.into_operations()?;
+    let tally = take_all(alloc, replica, &mut ops)?;
     kept.put(ops);
     Ok(Note::Counted(Counts::of(replica, tally)))
 }
 
-/// Takes in all that another replica holds: the accepted operations, and then those that wait.
-fn take_all(
-    alloc: Global,
-    replica: &mut Replica,
-    other: &Replica,
-    kept: &mut Vec<Op>,
-) -> Result<Tally, Refusal>
+/// Takes copies of all the operations in. Those that are not kept leave the list.
+fn take_all(alloc: Global, replica: &mut Replica, ops: &mut Vec<Op>) -> Result<Tally, Refusal>
     requires settled { IsSettled replica.old.held }
-    requires stands { Stands replica.old }
-    requires other_stands { Stands other.now }
-    ensures ok { IfOk result (λ tally. TakesIn (taking_begun replica.old kept.old.items)
-        (record { replica = replica.new; counts = tally; kept = kept.new.items }) (ops_of other.now.held)) }
-    ensures err { IfErr result (λ why. MergesNot why replica.old (ops_of other.now.held)) }
+    requires few { length replica.old.held.waiting + length ops.old.items < 2 ^ 31 }
+    ensures ok { IfOk result (λ tally. TakesIn (taking_begun replica.old [])
+        (record { replica = replica.new; counts = tally; kept = ops.new.items }) ops.old.items) }
+    ensures err { IfErr result (λ why. MergesNot why replica.old ops.old.items) }
 {
     let mut tally = Tally::default();
-    take_each(alloc, replica, other.accepted(), &mut tally, kept)?;
-    take_each(alloc, replica, other.waiting(), &mut tally, kept)?;
+    let count = take_each(alloc, replica, ops, &mut tally)?;
+    ops.truncate(count);
     Ok(tally)
 }
 
-/// Takes the operations in, one behind the other, with copies of those that are kept.
+/// Takes copies of the operations in, one behind the other, and moves those that are kept to the front, in their order.
+/// The answer is how many those are.
 fn take_each(
     alloc: Global,
     replica: &mut Replica,
-    ops: &[Op],
+    ops: &mut [Op],
     tally: &mut Tally,
-    kept: &mut Vec<Op>,
-) -> Result<(), FeedFault>
+) -> Result<usize, FeedFault>
     requires settled { IsSettled replica.old.held }
-    requires few { total tally.old + length replica.old.held.waiting + length ops.now < 2 ^ 31 }
-    ensures ok { OnOk result (TakesIn (record { replica = replica.old; counts = tally.old; kept = kept.old.items })
-        (record { replica = replica.new; counts = tally.new; kept = kept.new.items }) ops.now) }
-    ensures settled { OnOk result (IsSettled replica.new.held) }
-    ensures once { OnOk result (total tally.new + length replica.new.held.waiting
-        ≡ total tally.old + length replica.old.held.waiting + length ops.now) }
-    ensures err { IfErr result (λ fault. FindNoPlace fault replica.old ops.now) }
+    requires few { total tally.old + length replica.old.held.waiting + length ops.old < 2 ^ 31 }
+    ensures ok { IfOk result (λ count. TakesIn (record { replica = replica.old; counts = tally.old; kept = [] })
+        (record { replica = replica.new; counts = tally.new; kept = take count ops.new }) ops.old) }
+    ensures err { IfErr result (λ fault. FindNoPlace fault replica.old ops.old) }
+    ensures len { length ops.new ≡ length ops.old }
 {
-    'operations: for op in ops {
-        replica.feed_keeping(op.clone_in(alloc)?, tally, kept)?;
+    let mut count = 0;
+    'operations: for at in 0..ops.len() {
+        let copy = ops[at].clone_in(alloc)?;
+        let keeps = replica.feed(copy, tally)?;
+        if keeps {
+            ops.swap(count, at);
+            count += 1;
+        }
     }
-    Ok(())
+    Ok(count)
 }

@@ -124,6 +124,16 @@ const CASES: &[Case] = &[
         guest: (1, 16, &[&[BEHIND_A], &[S]]),
         ..ONE_WAITS
     },
+    // Of three operations the one in the middle is at home already, where it waits.
+    Case {
+        words: "merge G F",
+        home: (2, 16, &[&[LOWER_A]]),
+        guest: (1, 16, &[&[S, LOWER_A], &[LOWER_B]]),
+        line: "accepted 3, repeated 1, waiting 0, conflict 0, stray 0, full 0\n",
+        saved: &[S, LOWER_B],
+        printed: b"# T\nab\n",
+        ..NOTHING
+    },
     Case {
         home: (1, 16, &[&[S, LOWER_A]]),
         input: &[S, OTHER_A],

@@ -1,13 +1,5 @@
-use Rattle.std.proofs.Common.{length, take, ◌+◌, ◌≡◌}
-use Rattle.origin_model.specs.taking.Taking.{IsSettled}
-use Rattle.replica_core.specs.Keeping.{TakesIn}
-use Rattle.replica_core.specs.Told.{total}
+use Rattle.command_kinds.proofs.MergeLemmas.{IsTaken}
 use Rattle.command_kinds.proofs.merge.take_each.Given as goal
 
 abbrev pub invariant-operations : goal.invariant-operations
-invariant-operations l = record {
-  taken : TakesIn (record { replica = l.fn.replica; counts = l.fn.tally; kept = l.fn.kept.items })
-      (record { replica = l.replica; counts = l.tally; kept = l.kept.items }) (take l.op-index l.ops);
-  settled : IsSettled l.replica.held;
-  once : total l.tally + length l.replica.held.waiting ≡ total l.fn.tally + length l.fn.replica.held.waiting + l.op-index;
-}
+invariant-operations l = IsTaken l.fn.replica l.fn.tally l.fn.ops l.replica l.tally l.ops l.count l.at
