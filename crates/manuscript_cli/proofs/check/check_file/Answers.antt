@@ -10,22 +10,21 @@ use Rattle.manuscript_cli.proofs.check.check_file.Goals as goal
 pub returns-in-Ok : goal.returns-in-Ok
 returns-in-Ok g c =
     let loaded = c.in-Ok.ensures.meets in
-    let exact = λ tells. c.in-Ok.ensures.told tells (λ is. cc is) in
     elim c.check_held-status.ensures [
       | inl k ↦ inl (record {
-          text = k.text;
-          read = k.read;
-          count = k.count;
-          reports = report_written (check_tells k.text) (check_once k.text) _ _ _ _ _ _ loaded exact k.writes;
-        })
+        text = k.text;
+        read = k.read;
+        count = k.count;
+        reports = report_written (check_tells k.text) (check_once k.text) _ _ _ _ _ _ loaded (λ tells. c.in-Ok.ensures.told tells (λ is. cc is)) k.writes;
+      })
       | inr k ↦ inr (inl (record {
-          none = k;
-          holds = (_, _, loaded.holds);
-          synced = loaded.synced;
-          keeps = loaded.keeps;
-          crash = kept_never_torn _ _ loaded.keeps (λ done. loaded.synced);
-          file_blameless = λ tells not. exact tells;
-        }))
+        none = k;
+        holds = (_, _, loaded.holds);
+        synced = loaded.synced;
+        keeps = loaded.keeps;
+        crash = kept_never_torn _ _ loaded.keeps (λ done. loaded.synced);
+        file_blameless = λ tells not. c.in-Ok.ensures.told tells (λ is. cc is);
+      }))
     ]
 
 pub returns-in-Err : goal.returns-in-Err
