@@ -1,0 +1,5 @@
+pub mod ChangeLemmas
+pub mod ColumnLemmas
+pub mod CounterLemmas
+pub mod FloorLemmas
+pub mod OrderLemmas

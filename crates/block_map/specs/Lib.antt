@@ -1,0 +1,4 @@
+pub mod Columns
+pub mod Floors
+pub mod Blocks
+pub mod Contents

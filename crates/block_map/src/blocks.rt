@@ -1,0 +1,154 @@
+//! Blocks under their keys.
+ghost use Rattle.std.specs.Prelude.{◌≡◌, IfNone, IfSome, None, OnErr, OnOk, Some, option_map};
+ghost use Rattle.std.specs.BTreeMap.{IsUnchanged, get};
+ghost use Rattle.fugue_ids.specs.Identifiers.{Identifier, id_cmp};
+ghost use Rattle.fugue_ids.specs.Keyed.{IsReplaced};
+ghost use Rattle.block_map.specs.Blocks.{AreBlocks, IsInBlockBefore, IsUpToInBlock, block_of, value_in};
+ghost use Rattle.block_map.specs.Blocks.{with_counter};
+ghost use Rattle.block_map.specs.Floors.{HasNone, IsFloorKey, IsGreatest};
+
+use crate::block::Block;
+use fugue_ids::{ElementId, NoMemory};
+use std::alloc::Global;
+use std::collections::BTreeMap;
+
+/// The key of the identifier's block, and its counter there.
+fn place_of(id: ElementId) -> (ElementId, u32)
+    ensures key { result.0 ≡ block_of id }
+    ensures counter { result.1 ≡ id.counter }
+{
+    let key = ElementId {
+        replica: id.replica,
+        counter: id.counter / 64,
+    };
+    (key, id.counter)
+}
+
+/// The value of the identifier.
+pub(crate) fn value_of_id<V: Copy>(
+    blocks: &BTreeMap<ElementId, Block<V>>,
+    id: ElementId,
+) -> Option<V>
+    ensures { result ≡ value_in blocks.now id }
+{
+    let (key, counter) = place_of(id);
+    match blocks.get(&key) {
+        Some(block) => block.get(counter),
+        None => None,
+    }
+}
+
+/// A block of one value, where there is none. After want of memory all is as before.
+fn begin<V: Copy>(
+    blocks: &mut BTreeMap<ElementId, Block<V>>,
+    alloc: Global,
+    id: ElementId,
+    value: V,
+) -> Result<(), NoMemory>
+    requires blocks { AreBlocks blocks.old }
+    requires none { get id_cmp blocks.old (block_of id) ≡ None }
+    ensures blocks { AreBlocks blocks.new }
+    ensures ok { OnOk result (IsReplaced (value_in blocks.old) (value_in blocks.new) id (Some value)) }
+    ensures err { OnErr result (IsUnchanged blocks.old blocks.new) }
+{
+    let (key, counter) = place_of(id);
+    let mut block = Block::new(alloc);
+    block.insert(counter, value)?;
+    blocks.insert(key, block)?;
+    Ok(())
+}
+
+/// The identifier has this value then. Only one without a value can want memory, and then each has what it had.
+pub(crate) fn put<V: Copy>(
+    blocks: &mut BTreeMap<ElementId, Block<V>>,
+    alloc: Global,
+    id: ElementId,
+    value: V,
+) -> Result<(), NoMemory>
+    requires { AreBlocks blocks.old }
+    ensures blocks { AreBlocks blocks.new }
+    ensures ok { OnOk result (IsReplaced (value_in blocks.old) (value_in blocks.new) id (Some value)) }
+    ensures err { OnErr result ((q : Identifier) → value_in blocks.new q ≡ value_in blocks.old q) }
+    ensures absent { OnErr result (value_in blocks.old id ≡ None) }
+{
+    let (key, counter) = place_of(id);
+    match blocks.get_mut(&key) {
+        Some(block) => block.insert(counter, value),
+        None => begin(blocks, alloc, id, value),
+    }
+}
+
+/// The identifier has no value then. A block that gets empty goes.
+pub(crate) fn take_out<V: Copy>(blocks: &mut BTreeMap<ElementId, Block<V>>, id: ElementId)
+    requires { AreBlocks blocks.old }
+    ensures blocks { AreBlocks blocks.new }
+    ensures taken { IsReplaced (value_in blocks.old) (value_in blocks.new) id None }
+{
+    let (key, counter) = place_of(id);
+    let Some(block) = blocks.get_mut(&key) else {
+        return;
+    };
+    block.remove(counter);
+    if block.is_empty() {
+        blocks.remove(&key);
+    }
+}
+
+/// The entry of a block, under its identifier.
+fn named<V: Copy>(key: ElementId, entry: Option<(u32, V)>) -> Option<(ElementId, V)>
+    ensures { result ≡ option_map (λ e. (with_counter key e.0, e.1)) entry }
+{
+    match entry {
+        Some((counter, value)) => {
+            let replica = key.replica;
+            Some((ElementId { replica, counter }, value))
+        }
+        None => None,
+    }
+}
+
+/// The greatest identifier of the same block that is not above this one.
+fn floor_within<V: Copy>(
+    blocks: &BTreeMap<ElementId, Block<V>>,
+    id: ElementId,
+) -> Option<(ElementId, V)>
+    requires { AreBlocks blocks.now }
+    ensures none { IfNone result (HasNone (IsUpToInBlock id) (value_in blocks.now)) }
+    ensures some { IfSome result (IsGreatest id_cmp (IsUpToInBlock id) (value_in blocks.now)) }
+{
+    let (key, counter) = place_of(id);
+    match blocks.get(&key) {
+        Some(block) => named(key, block.floor(counter)),
+        None => None,
+    }
+}
+
+/// The greatest identifier of the blocks before the one under the key.
+fn last_before<V: Copy>(
+    blocks: &BTreeMap<ElementId, Block<V>>,
+    key: ElementId,
+) -> Option<(ElementId, V)>
+    requires { AreBlocks blocks.now }
+    ensures none { IfNone result (HasNone (IsInBlockBefore key) (value_in blocks.now)) }
+    ensures some { IfSome result (IsGreatest id_cmp (IsInBlockBefore key) (value_in blocks.now)) }
+{
+    match blocks.range(..key).next_back() {
+        Some((last, block)) => named(*last, block.last()),
+        None => None,
+    }
+}
+
+/// The greatest identifier with a value that is not above this one, and its value.
+pub(crate) fn floor<V: Copy>(
+    blocks: &BTreeMap<ElementId, Block<V>>,
+    id: ElementId,
+) -> Option<(ElementId, V)>
+    requires { AreBlocks blocks.now }
+    ensures floor { IsFloorKey (value_in blocks.now) id (option_map (λ x. x.0) result) }
+    ensures value { IfSome result (λ x. value_in blocks.now x.0 ≡ Some x.1) }
+{
+    match floor_within(blocks, id) {
+        Some(found) => Some(found),
+        None => last_before(blocks, place_of(id).0),
+    }
+}
