@@ -18,10 +18,6 @@ block_replaced m n key o u = record { here = u.1; others = λ k apart. u.2 k (id
 pub replaced_again : {K X : Type 0} (f g h : K → X) (key : K) (v w : X) → IsReplaced f g key v → IsReplaced g h key w → IsReplaced f h key w
 replaced_again f g h key v w a b = record { here = b.here; others = λ k apart. b.others k apart ∙ a.others k apart }
 
--- where nothing changes, each has what it had
-pub replaced_same : {K X : Type 0} (f g : K → X) (key : K) → ((k : K) → g k ≡ f k) → IsReplaced f g key (f key)
-replaced_same f g key same = record { here = same key; others = λ k apart. same k }
-
 -- what has no value there loses none
 pub replaced_none : {K X : Type 0} (f : K → X) (key : K) (w : X) → f key ≡ w → IsReplaced f f key w
 replaced_none f key w e = record { here = e; others = λ k apart. refl }

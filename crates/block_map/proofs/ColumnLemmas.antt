@@ -7,7 +7,7 @@ use Rattle.std.specs.Ordering.{nat_cmp}
 use Rattle.std.proofs.lemmas.Bool.{cases_eq, cases_lt}
 use Rattle.std.proofs.lemmas.Bool.Decides.{nat_tests}
 use Rattle.std.proofs.lemmas.List.Sorted.{searched}
-use Rattle.std.proofs.lemmas.List.Edits.{length-insert, get_or-insert_below, get_or-insert_at, get_or-insert_above, length-remove, get_or-remove_below, get_or-remove_above}
+use Rattle.std.proofs.lemmas.List.Edits.{length-remove, get_or-remove_below, get_or-remove_above}
 use Rattle.fugue_ids.specs.Keyed.{IsReplaced}
 use Rattle.block_map.specs.Columns.{IsAscending, IsGapFor, IsPlaceOf, value_beside}
 
@@ -95,17 +95,7 @@ module _ {V : Type 0} where
   pub replaced_by : (f g : ℕ → Option V) (c : ℕ) (w : Option V) → ((q : ℕ) → g q ≡ (if c == q then w else f q)) → IsReplaced f g c w
   replaced_by f g c w each = record { here = grind (arith, nat_tests, each c); others = λ q apart. grind (arith, nat_tests, each q, apart) }
 
--- an entry more in its gap keeps the order
-pub ascending_insert : (cs : List ℕ) → IsAscending cs → (c at : ℕ) → IsGapFor cs c at → IsAscending (insert cs at c)
-ascending_insert cs up c at gap i j lt within =
-    let new = insert cs at c in
-    let longer = length-insert cs at c gap.inside in
-    let below : (i : ℕ) → i < at → get_or new i 0 ≡ get_or cs i 0 = λ i b. get_or-insert_below cs at c 0 i b gap.inside in
-    let here : (i : ℕ) → i ≡ at → get_or new i 0 ≡ c = λ i e. rw e (get_or-insert_at cs at c 0 gap.inside) in
-    let above : (i : ℕ) → at < i → get_or new i 0 ≡ get_or cs (i - 1) 0 = λ i a. subst (λ q. get_or new q 0 ≡ get_or cs (i - 1) 0) {x = i - 1 + 1} (omega arith) (get_or-insert_above cs at c 0 (i - 1) (omega arith) gap.inside) in
-    grind (arith, below i, here i, above i, below j, here j, above j, up i j, up i (j - 1), up (i - 1) (j - 1), gap.before i, gap.behind (j - 1))
-
--- an entry less keeps it
+-- an entry less keeps the order
 pub ascending_remove : (cs : List ℕ) → IsAscending cs → (at : ℕ) → at < length cs → IsAscending (remove cs at)
 ascending_remove cs up at inside i j lt within =
     let new = remove cs at in

@@ -90,9 +90,6 @@ module _ {V : Type 0} (m : BTreeMap Identifier (Block V)) (are : AreBlocks m) wh
       subst (λ (z : Option (Identifier × V)). IfNone z (HasNone (IsUpToInBlock id) (value_in m)) × IfSome z (IsGreatest id_cmp (IsUpToInBlock id) (value_in m))) (sym e)
       (entry_within key b there id c at is o n s)
 
-  pub within_none : (id key : Identifier) → key ≡ block_of id → get id_cmp m key ≡ None → HasNone (IsUpToInBlock id) (value_in m)
-  within_none id key at e q p = none_in q key (p.0 ∙ sym at) e
-
   pub before_some : (bound key : Identifier) (b : Block V) → get id_cmp m key ≡ Some b → IsLtBy id_cmp key bound → ((q : Identifier) → IsLtBy id_cmp q bound → IsSome (get id_cmp m q) → is_lt (id_cmp key q) ≡ false)
       → (o : Option (ℕ × V)) → IfNone o (length b.counters.items ≡ 0) → IfSome o (IsGreatest nat_cmp (λ _. ⊤) (value_at b)) → (r : Option (Identifier × V))
       → r ≡ option_map (λ e. (with_counter key e.0, e.1)) o → IfNone r (HasNone (IsInBlockBefore bound) (value_in m)) × IfSome r (IsGreatest id_cmp (IsInBlockBefore bound) (value_in m))

@@ -19,6 +19,8 @@ mod frames;
 #[cfg(test)]
 mod ids;
 #[cfg(test)]
+mod keys;
+#[cfg(test)]
 mod lists;
 #[cfg(test)]
 mod log;

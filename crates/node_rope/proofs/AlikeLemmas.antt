@@ -1,8 +1,9 @@
 -- A store that holds what another does.
 use Rattle.std.proofs.Common.{◌≡◌, ℕ, ◌<◌, List, [], ◌∷◌, ◌++◌, length, map, flat_map, slice_get, Option, Some, refl, sym, ap, ◌∙◌, subst, arith}
-use Rattle.std.specs.BTreeMap.{BTreeMap, get}
 use lib.ListN.{length-append}
-use Rattle.fugue_ids.specs.Identifiers.{Identifier, id_cmp}
+use Rattle.fugue_ids.specs.Identifiers.{Identifier}
+use Rattle.block_map.specs.Contents.{HasSameValues, value_of}
+use Rattle.block_map.specs.declared.map.BlockMap.{BlockMap}
 use Rattle.node_rope.specs.declared.store.Store.{Store}
 use Rattle.node_rope.specs.declared.cells.Shape.{Shape}
 use Rattle.node_rope.specs.declared.cells.Link.{Link}
@@ -10,7 +11,6 @@ use Rattle.node_rope.specs.declared.cells.Own.{Own}
 use Rattle.node_rope.specs.Made.{IsKept, IsAlike, IsLess, made_count, shapes_of, values_of}
 use Rattle.node_rope.specs.Shapes.{AreRanksFit, HasRightLinks, shape_at, order, IsWeighed, IsRanked}
 use Rattle.node_rope.specs.Items.{IsRope, item_at, rope_items_of}
-use Rattle.node_rope.specs.Linked.{HasSameLinks}
 use Rattle.node_rope.specs.Reweighed.{AreStill, IsStill}
 use Rattle.node_rope.proofs.ShapeLemmas.{length-shapes, made-below}
 use Rattle.node_rope.proofs.EffectLemmas.{item-is}
@@ -65,7 +65,7 @@ module _ {T : Type 0} (s u : Store T) (root : Option Link) (sound : HasRightLink
       ap (flat_map (item_at u)) (order-still s u root (placed (shapes_of s) (shapes_of u) alike-still))
       ∙ mapped-items s u (λ x. x) alike-item (order s root) (all-made s root sound) ∙ as-it-is (rope_items_of s root)
 
-pub alike-roped : {T : Type 0} (wt : T → Own) (s u : Store T) (root : Option Link) (m n : BTreeMap Identifier Link) → IsRope wt s root m → IsAlike s u → HasSameLinks m n → IsRope wt u root n
+pub alike-roped : {T : Type 0} (wt : T → Own) (s u : Store T) (root : Option Link) (m n : BlockMap Link) → IsRope wt s root m → IsAlike s u → HasSameValues m n → IsRope wt u root n
 alike-roped wt s u root m n r a same = record {
   sound = alike-sound s u root r.sound a;
   few = omega (arith, r.few, alike-count s u root r.sound a);
@@ -74,5 +74,5 @@ alike-roped wt s u root m n r a same = record {
   weighs = λ i v e. ap (λ (xs : List Shape). (shape_at xs i).own) a.shapes ∙ r.weighs i v (ap (λ xs. slice_get xs i) (sym a.values) ∙ e);
   mapped = λ k l e. a.kept l (r.mapped k l (sym (same k) ∙ e));
   keyed = λ k l e. ap (λ (xs : List Shape). (shape_at xs l.number).key) a.shapes ∙ r.keyed k l (sym (same k) ∙ e);
-  listed = λ i b. (let at = r.listed i (omega (arith, b, alike-count s u root r.sound a)) in (at.0, at.1, ap (λ (xs : List Shape). get id_cmp n (shape_at xs i).key) a.shapes ∙ same (shape_at (shapes_of s) i).key ∙ at.2));
+  listed = λ i b. (let at = r.listed i (omega (arith, b, alike-count s u root r.sound a)) in (at.0, at.1, ap (λ (xs : List Shape). value_of n (shape_at xs i).key) a.shapes ∙ same (shape_at (shapes_of s) i).key ∙ at.2));
 }

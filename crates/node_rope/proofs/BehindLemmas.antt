@@ -1,9 +1,10 @@
 -- The nodes of a subtree stand together in the order, and what stands behind one of them.
 use Rattle.std.proofs.Common.{◌≡◌, inl, inr, ℕ, zero, suc, ◌+◌, ◌<◌, ◌≤◌, List, [], ◌∷◌, ◌++◌, length, length-append, get_or, slice_get, Option, None, Some, refl, sym, ap, ◌∙◌, subst, arith}
 use Rattle.std.proofs.lemmas.List.{append_assoc, append-nil}
-use Rattle.std.specs.BTreeMap.{BTreeMap, get}
 use Rattle.std.proofs.Math.Seq.{get_or-append_seam}
-use Rattle.fugue_ids.specs.Identifiers.{Identifier, id_cmp}
+use Rattle.fugue_ids.specs.Identifiers.{Identifier}
+use Rattle.block_map.specs.Contents.{value_of}
+use Rattle.block_map.specs.declared.map.BlockMap.{BlockMap}
 use Rattle.node_rope.specs.declared.store.Store.{Store}
 use Rattle.node_rope.specs.declared.cells.Link.{Link}
 use Rattle.node_rope.specs.declared.cells.Own.{Own}
@@ -115,7 +116,7 @@ module _ {T : Type 0} (s : Store T) (root : Option Link) (sound : HasRightLinks 
       }
 
 -- ---- the item behind the one of a node
-module _ {T : Type 0} (wt : T → Own) (s : Store T) (root : Option Link) (m : BTreeMap Identifier Link) (r : IsRope wt s root m) (k : Identifier) (l : Link) (at : get id_cmp m k ≡ Some l) where
+module _ {T : Type 0} (wt : T → Own) (s : Store T) (root : Option Link) (m : BlockMap Link) (r : IsRope wt s root m) (k : Identifier) (l : Link) (at : value_of m k ≡ Some l) where
   pub item-stands : (o : Option ℕ) (f : IsFollowed (order s root) l.number o) → StandsAt (rope_items_of s root) (length f.front) k
   item-stands o f =
       let inside : length f.front < length (order s root) = omega (arith, ap length f.split, length-append f.front (l.number ∷ f.back)) in

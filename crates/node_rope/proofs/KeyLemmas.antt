@@ -1,12 +1,14 @@
 -- Each node of a rope stands in its order, and the list has each node's value under its key.
 use Rattle.std.proofs.Common.{◌≡◌, ◌≢◌, ◌⊎◌, inl, inr, ℕ, zero, suc, ◌+◌, ◌<◌, ◌≤◌, false, cond, List, [], ◌∷◌, ◌++◌, length, map, flat_map, slice_get, get_or, Option, None, Some, refl, sym, ap, ◌∙◌, subst, arith}
 use Rattle.std.specs.Prelude.{eqb, is_some}
-use Rattle.std.specs.BTreeMap.{BTreeMap, get}
 use Rattle.std.proofs.lemmas.Bool.{false_from_ne_true}
 use Rattle.std.proofs.lemmas.Bool.Decides.{eqb_tells}
 use Rattle.std.proofs.lemmas.List.{length-map}
-use Rattle.fugue_ids.specs.Identifiers.{Identifier, id_cmp, id_eq}
+use Rattle.fugue_ids.specs.Identifiers.{Identifier, id_eq}
+use Rattle.fugue_ids.specs.Keyed.{IsReplaced}
 use Rattle.fugue_ids.proofs.IdentifierLemmas.{id_eq-true, eq-id_eq}
+use Rattle.block_map.specs.Contents.{HasSameValues, value_of}
+use Rattle.block_map.specs.declared.map.BlockMap.{BlockMap}
 use Rattle.node_rope.specs.declared.store.Store.{Store}
 use Rattle.node_rope.specs.declared.cells.Shape.{Shape}
 use Rattle.node_rope.specs.declared.cells.Link.{Link}
@@ -16,7 +18,6 @@ use Rattle.node_rope.specs.Made.{IsMade, IsKept, made_count, shapes_of, values_o
 use Rattle.node_rope.specs.Shapes.{HasRightLinks, shape_at, link_number, tree_of, order}
 use Rattle.node_rope.specs.Walk.{Tree, count_of, whole}
 use Rattle.node_rope.specs.Items.{IsRope, item_at, rope_items_of, value_under}
-use Rattle.node_rope.specs.Linked.{IsSet, HasSameLinks}
 use Rattle.node_rope.specs.Sums.{no_rank}
 use Rattle.node_rope.specs.Grown.{IsGrown}
 use Rattle.node_rope.specs.Turned.{IsRearranged}
@@ -143,20 +144,20 @@ value-none {T} s k other (x ∷ xs) made =
     let rest = flat_map (item_at s) xs in
     ap (λ (ys : List (Identifier × T)). value_under k (ys ++ rest)) (item-is s x w.0 (made x (inl refl)) w.1) ∙ ap (λ b. cond b (Some w.0) (value_under k rest)) (other x (made x (inl refl))) ∙ value-none s k other xs (λ z b. made z (inr b))
 
-module _ {T : Type 0} (wt : T → Own) (s : Store T) (root : Option Link) (m : BTreeMap Identifier Link) (r : IsRope wt s root m) where
+module _ {T : Type 0} (wt : T → Own) (s : Store T) (root : Option Link) (m : BlockMap Link) (r : IsRope wt s root m) where
   -- a key of the map is that of its node alone
-  pub alone : (k : Identifier) (l : Link) → get id_cmp m k ≡ Some l → (x : ℕ) → x < made_count s → id_eq (shape_at (shapes_of s) x).key k ≡ eqb x l.number
+  pub alone : (k : Identifier) (l : Link) → value_of m k ≡ Some l → (x : ℕ) → x < made_count s → id_eq (shape_at (shapes_of s) x).key k ≡ eqb x l.number
   alone k l e x h = elim (eqb_tells x l.number) as (λ _. id_eq (shape_at (shapes_of s) x).key k ≡ eqb x l.number) [
     | inl f ↦ eq-id_eq (shape_at (shapes_of s) x).key k (ap (λ (i : ℕ). (shape_at (shapes_of s) i).key) f.1 ∙ r.keyed k l e) ∙ sym f.0
     | inr f ↦ false_from_ne_true _ (λ g. (
         let is : (shape_at (shapes_of s) x).key ≡ k = id_eq-true (shape_at (shapes_of s) x).key k g in
         let at = r.listed x h in
-        let same : Some at.0 ≡ Some l = sym at.2 ∙ ap (get id_cmp m) is ∙ e in
+        let same : Some at.0 ≡ Some l = sym at.2 ∙ ap (value_of m) is ∙ e in
         let link : at.0 ≡ l = cc in
         f.1 (sym at.1 ∙ ap (λ (q : Link). q.number) link))) ∙ sym f.0
   ]
 
-  pub held : (k : Identifier) (l : Link) → get id_cmp m k ≡ Some l → (v : T) → slice_get (values_of s) l.number ≡ Some v → value_under k (rope_items_of s root) ≡ Some v
+  pub held : (k : Identifier) (l : Link) → value_of m k ≡ Some l → (v : T) → slice_get (values_of s) l.number ≡ Some v → value_under k (rope_items_of s root) ≡ Some v
   held k l e v is = value-among s k l.number v (alone k l e) is (order s root) (all-made s root r.sound) (in-order s root r.sound l.number (made-below s l (r.mapped k l e)))
 
   -- the value of a node stands under its key
@@ -167,15 +168,15 @@ module _ {T : Type 0} (wt : T → Own) (s : Store T) (root : Option Link) (m : B
       let at = r.listed l.number below in
       held (shape_at (shapes_of s) l.number).key at.0 at.2 v.0 (ap (slice_get (values_of s)) at.1 ∙ v.1) ∙ ap Some (sym (value-read s l.number d v.0 read v.1))
 
-  pub not-held : (k : Identifier) → get id_cmp m k ≡ None → value_under k (rope_items_of s root) ≡ None
+  pub not-held : (k : Identifier) → value_of m k ≡ None → value_under k (rope_items_of s root) ≡ None
   not-held k e = value-none s k (λ x h. false_from_ne_true _ (λ g. (
       let is : (shape_at (shapes_of s) x).key ≡ k = id_eq-true (shape_at (shapes_of s) x).key k g in
       let at = r.listed x h in
-      let same : Some at.0 ≡ None = sym at.2 ∙ ap (get id_cmp m) is ∙ e in
+      let same : Some at.0 ≡ None = sym at.2 ∙ ap (value_of m) is ∙ e in
       cc))) (order s root) (all-made s root r.sound)
 
-  pub free : (k : Identifier) → value_under k (rope_items_of s root) ≡ None → get id_cmp m k ≡ None
-  free k e = elim (link-or-none (get id_cmp m k)) as (λ _. get id_cmp m k ≡ None) [
+  pub free : (k : Identifier) → value_under k (rope_items_of s root) ≡ None → value_of m k ≡ None
+  free k e = elim (link-or-none (value_of m k)) as (λ _. value_of m k ≡ None) [
     | inl f ↦ f
     | inr f ↦ (
         let v = value-made s f.0.number (made-below s f.0 (r.mapped k f.0 f.1)) in
@@ -184,10 +185,10 @@ module _ {T : Type 0} (wt : T → Own) (s : Store T) (root : Option Link) (m : B
         cc)
   ]
 
-  pub fresh : (k : Identifier) (xs : List (Identifier × T)) → rope_items_of s root ≡ xs → is_some (value_under k xs) ≡ false → get id_cmp m k ≡ None
+  pub fresh : (k : Identifier) (xs : List (Identifier × T)) → rope_items_of s root ≡ xs → is_some (value_under k xs) ≡ false → value_of m k ≡ None
   fresh k xs e f = free k (none-of (value_under k (rope_items_of s root)) (ap (λ (ys : List (Identifier × T)). is_some (value_under k ys)) e ∙ f))
 
-  pub same-roped : (n : BTreeMap Identifier Link) → HasSameLinks m n → IsRope wt s root n
+  pub same-roped : (n : BlockMap Link) → HasSameValues m n → IsRope wt s root n
   same-roped n h = record {
     sound = r.sound;
     few = r.few;
@@ -225,8 +226,8 @@ got-below (z ∷ xs) zero x e = omega arith
 got-below (z ∷ xs) (suc i) x e = let h = got-below xs i x e in omega arith
 
 -- one more node, and its key
-pub grown-roped : {T : Type 0} (wt : T → Own) (s v : Store T) (root top : Option Link) (m p : BTreeMap Identifier Link) (key : Identifier) (w : Own) (value : T) (l : Link) → IsRope wt s root m → IsGrown s v top key w value l → IsKept s v
-    → made_count s < 4194304 → w.weight < 4194305 → w.rank ≤ no_rank → w ≡ wt value → get id_cmp m key ≡ None → IsSet m p key (Some l) → IsRope wt v top p
+pub grown-roped : {T : Type 0} (wt : T → Own) (s v : Store T) (root top : Option Link) (m p : BlockMap Link) (key : Identifier) (w : Own) (value : T) (l : Link) → IsRope wt s root m → IsGrown s v top key w value l → IsKept s v
+    → made_count s < 4194304 → w.weight < 4194305 → w.rank ≤ no_rank → w ≡ wt value → value_of m key ≡ None → IsReplaced (value_of m) (value_of p) key (Some l) → IsRope wt v top p
 grown-roped wt s v root top m p key w value l r g kept few small fits is none set = record {
   sound = g.sound;
   few = omega (arith, few, g.count);
@@ -244,25 +245,25 @@ grown-roped wt s v root top m p key w value l r g kept few small fits is none se
   ];
   mapped = λ k x e. elim (Rattle.fugue_ids.proofs.IdentifierLemmas.cases_id k key) as (λ _. IsMade v x) [
     | inl f ↦ subst (λ (y : Link). IsMade v y) (here k x f e) g.made
-    | inr f ↦ kept x (r.mapped k x (sym (set.1 k f) ∙ e))
+    | inr f ↦ kept x (r.mapped k x (sym (set.others k f) ∙ e))
   ];
   keyed = λ k x e. elim (Rattle.fugue_ids.proofs.IdentifierLemmas.cases_id k key) as (λ _. (shape_at (shapes_of v) x.number).key ≡ k) [
     | inl f ↦ ap (λ (y : Link). (shape_at (shapes_of v) y.number).key) (sym (here k x f e)) ∙ g.key_here ∙ sym f
     | inr f ↦ (
-        let was = sym (set.1 k f) ∙ e in
+        let was = sym (set.others k f) ∙ e in
         let h = made-below s x (r.mapped k x was) in
         g.keys x.number (λ q. omega (arith, h, q, g.number)) ∙ r.keyed k x was)
   ];
-  listed = λ i b. elim (same-or-not i l.number) as (λ _. (y : Link) × (y.number ≡ i) × (get id_cmp p (shape_at (shapes_of v) i).key ≡ Some y)) [
-    | inl e ↦ (l, sym e, ap (λ (k : ℕ). get id_cmp p (shape_at (shapes_of v) k).key) e ∙ ap (get id_cmp p) g.key_here ∙ set.0)
+  listed = λ i b. elim (same-or-not i l.number) as (λ _. (y : Link) × (y.number ≡ i) × (value_of p (shape_at (shapes_of v) i).key ≡ Some y)) [
+    | inl e ↦ (l, sym e, ap (λ (k : ℕ). value_of p (shape_at (shapes_of v) k).key) e ∙ ap (value_of p) g.key_here ∙ set.here)
     | inr e ↦ (
         let at = r.listed i (omega (arith, b, e, g.count, g.number)) in
         let same = g.keys i e in
-        (at.0, at.1, ap (get id_cmp p) same ∙ set.1 (shape_at (shapes_of s) i).key (λ f. differs at.0 (sym at.2 ∙ ap (get id_cmp m) f ∙ none)) ∙ at.2))
+        (at.0, at.1, ap (value_of p) same ∙ set.others (shape_at (shapes_of s) i).key (λ f. differs at.0 (sym at.2 ∙ ap (value_of m) f ∙ none)) ∙ at.2))
   ];
 } where
-  here : (k : Identifier) (x : Link) → k ≡ key → get id_cmp p k ≡ Some x → l ≡ x
-  here k x f e = let same : Some l ≡ Some x = sym set.0 ∙ ap (get id_cmp p) (sym f) ∙ e in cc
+  here : (k : Identifier) (x : Link) → k ≡ key → value_of p k ≡ Some x → l ≡ x
+  here k x f e = let same : Some l ≡ Some x = sym set.here ∙ ap (value_of p) (sym f) ∙ e in cc
 
   differs : (x : Link) → Some x ≡ None → ⊥
   differs x e = cc

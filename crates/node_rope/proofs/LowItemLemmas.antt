@@ -1,8 +1,8 @@
 -- The first and the last low item are those of the first and the last low node.
 use Rattle.std.proofs.Common.{◌≡◌, inl, inr, ℕ, zero, suc, Bool, true, false, cond, List, [], ◌∷◌, ◌++◌, drop, take, flat_map, Option, None, Some, refl, sym, ap, ◌∙◌}
 use Rattle.std.specs.Prelude.{nat_le, option_map, slice_get}
-use Rattle.std.specs.BTreeMap.{BTreeMap}
 use Rattle.fugue_ids.specs.Identifiers.{Identifier}
+use Rattle.block_map.specs.declared.map.BlockMap.{BlockMap}
 use Rattle.node_rope.specs.declared.store.Store.{Store}
 use Rattle.node_rope.specs.declared.cells.Link.{Link}
 use Rattle.node_rope.specs.declared.cells.Own.{Own}
@@ -70,7 +70,7 @@ module _ {T : Type 0} (wt : T → Own) (s : Store T) (weighs : (i : ℕ) (v : T)
       ∙ ap (λ (r : ℕ). option_map (λ (q : Identifier × T). q.0) (or_else F (cond (nat_le r most) (Some p) None))) rank
       ∙ pick-last (λ (q : Identifier × T). q.0) key p x refl (nat_le (ranks (shapes_of s) x) most) F G (items-last xs (λ y a. made y (inr a)))
 
-module _ {T : Type 0} (wt : T → Own) (s : Store T) (root : Option Link) (m : BTreeMap Identifier Link) (r : IsRope wt s root m) (most : ℕ) where
+module _ {T : Type 0} (wt : T → Own) (s : Store T) (root : Option Link) (m : BlockMap Link) (r : IsRope wt s root m) (most : ℕ) where
   pub first-seen : (from : ℕ) → first_low_key (λ v. (wt v).rank) most (drop from (rope_items_of s root)) ≡ option_map (λ x. (shape_at (shapes_of s) x).key) (first_low (ranks (shapes_of s)) most (drop from (order s root)))
   first-seen from =
       let nodes = all-made s root r.sound in

@@ -1,9 +1,9 @@
 -- A rope's list has no fewer items than there are nodes.
 use Rattle.std.proofs.Common.{◌≡◌, ◌≢◌, inl, inr, ℕ, zero, suc, ◌<◌, ◌≤◌, cond, List, [], ◌∷◌, length, Option, sym, ap, ◌∙◌, subst, arith}
 use Rattle.std.specs.Prelude.{eqb}
-use Rattle.std.specs.BTreeMap.{BTreeMap}
 use Rattle.std.proofs.lemmas.Bool.Decides.{eqb_tells}
 use Rattle.fugue_ids.specs.Identifiers.{Identifier}
+use Rattle.block_map.specs.declared.map.BlockMap.{BlockMap}
 use Rattle.node_rope.specs.declared.store.Store.{Store}
 use Rattle.node_rope.specs.declared.cells.Link.{Link}
 use Rattle.node_rope.specs.declared.cells.Own.{Own}
@@ -38,7 +38,7 @@ enough (suc n) xs h =
     let r = enough n (without n xs) (λ i b. among-without n i xs (λ e. omega (arith, b, e)) (h i (omega (arith, b)))) in
     omega (arith, l, r)
 
-pub few-made : {T : Type 0} (wt : T → Own) (s : Store T) (root : Option Link) (m : BTreeMap Identifier Link) → IsRope wt s root m → (xs : List (Identifier × T)) → rope_items_of s root ≡ xs → made_count s ≤ length xs
+pub few-made : {T : Type 0} (wt : T → Own) (s : Store T) (root : Option Link) (m : BlockMap Link) → IsRope wt s root m → (xs : List (Identifier × T)) → rope_items_of s root ≡ xs → made_count s ≤ length xs
 few-made wt s root m r xs e =
     let all = enough (made_count s) (order s root) (in-order s root r.sound) in
     let long = order-length wt s root m r in

@@ -1,9 +1,10 @@
 -- Each node stands in the order once, and so each key in the list.
 use Rattle.std.proofs.Common.{◌≡◌, ◌⊎◌, inl, inr, ℕ, zero, suc, ◌+◌, ◌<◌, ◌≤◌, List, [], ◌∷◌, ◌++◌, length, get_or, Option, None, Some, refl, sym, ap, ◌∙◌, subst, arith}
 use Rattle.std.specs.Map.{keys_of}
-use Rattle.std.specs.BTreeMap.{BTreeMap, get}
 use Rattle.std.proofs.lemmas.List.{length-map}
-use Rattle.fugue_ids.specs.Identifiers.{Identifier, id_cmp}
+use Rattle.fugue_ids.specs.Identifiers.{Identifier}
+use Rattle.block_map.specs.Contents.{value_of}
+use Rattle.block_map.specs.declared.map.BlockMap.{BlockMap}
 use Rattle.node_rope.specs.declared.store.Store.{Store}
 use Rattle.node_rope.specs.declared.cells.Link.{Link}
 use Rattle.node_rope.specs.declared.cells.Own.{Own}
@@ -145,7 +146,7 @@ once-index (x ∷ xs) n (suc i) zero h k e = absurd (n.0 (subst (λ (y : ℕ). A
 once-index (x ∷ xs) n (suc i) (suc j) h k e = ap suc (once-index xs n.1 i j (omega (arith, h)) (omega (arith, k)) e)
 
 -- a key stands at one place
-pub keys-once : {T : Type 0} (wt : T → Own) (s : Store T) (root : Option Link) (m : BTreeMap Identifier Link) → IsRope wt s root m → (i j : ℕ) (k : Identifier) → StandsAt (rope_items_of s root) i k → StandsAt (rope_items_of s root) j k → i ≡ j
+pub keys-once : {T : Type 0} (wt : T → Own) (s : Store T) (root : Option Link) (m : BlockMap Link) → IsRope wt s root m → (i j : ℕ) (k : Identifier) → StandsAt (rope_items_of s root) i k → StandsAt (rope_items_of s root) j k → i ≡ j
 keys-once {T} wt s root m r i j k a b =
     let xs = order s root in
     let nodes = all-made s root r.sound in
@@ -159,6 +160,6 @@ keys-once {T} wt s root m r i j k a b =
     let same : (shape_at (shapes_of s) (get_or xs i 0)).key ≡ (shape_at (shapes_of s) (get_or xs j 0)).key = cc in
     let pi = r.listed (get_or xs i 0) (nodes (get_or xs i 0) (among-at xs i li)) in
     let pj = r.listed (get_or xs j 0) (nodes (get_or xs j 0) (among-at xs j lj)) in
-    let links : Some pi.0 ≡ Some pj.0 = sym pi.2 ∙ ap (get id_cmp m) same ∙ pj.2 in
+    let links : Some pi.0 ≡ Some pj.0 = sym pi.2 ∙ ap (value_of m) same ∙ pj.2 in
     let link : pi.0 ≡ pj.0 = cc in
     once-index xs (order-once s root r.sound) i j li lj (sym pi.1 ∙ ap (λ (l : Link). l.number) link ∙ pj.1)

@@ -1,10 +1,11 @@
 -- Another value in a node.
 use Rattle.std.proofs.Common.{◌≡◌, ◌≢◌, ◌⊎◌, inl, inr, ℕ, zero, suc, ◌<◌, ◌≤◌, Bool, cond, List, [], ◌∷◌, length, flat_map, slice_get, slice_set, Option, Some, refl, sym, ap, ◌∙◌, subst, arith}
 use Rattle.std.specs.Prelude.{eqb}
-use Rattle.std.specs.BTreeMap.{BTreeMap, get}
 use Rattle.std.proofs.lemmas.Bool.Decides.{eqb_tells}
 use lib.ListN.{length-set}
-use Rattle.fugue_ids.specs.Identifiers.{Identifier, id_cmp, id_eq}
+use Rattle.fugue_ids.specs.Identifiers.{Identifier, id_eq}
+use Rattle.block_map.specs.Contents.{value_of}
+use Rattle.block_map.specs.declared.map.BlockMap.{BlockMap}
 use Rattle.node_rope.specs.declared.store.Store.{Store}
 use Rattle.node_rope.specs.declared.cells.Shape.{Shape}
 use Rattle.node_rope.specs.declared.cells.Link.{Link}
@@ -57,7 +58,7 @@ module _ {T : Type 0} (s u : Store T) (root : Option Link) (l : Link) (value : T
       (subst (λ (xs : List Shape). IsRanked xs) (sym shapes) sound.ranked)
 
 -- s with another value in the node l, and its weight
-module _ {T : Type 0} (wt : T → Own) (s v : Store T) (root : Option Link) (m : BTreeMap Identifier Link) (key : Identifier) (l : Link) (w : Own) (value : T) (r : IsRope wt s root m) (at : get id_cmp m key ≡ Some l)
+module _ {T : Type 0} (wt : T → Own) (s v : Store T) (root : Option Link) (m : BlockMap Link) (key : Identifier) (l : Link) (w : Own) (value : T) (r : IsRope wt s root m) (at : value_of m key ≡ Some l)
     (sound : HasRightLinks v root) (same : AreStill (shapes_of s) (shapes_of v)) (here : (shape_at (shapes_of v) l.number).own ≡ w) (others : (i : ℕ) → i ≢ l.number → (shape_at (shapes_of v) i).own ≡ (shape_at (shapes_of s) i).own)
     (values : values_of v ≡ slice_set (values_of s) l.number value) (kept : IsKept s v) (small : w.weight < 4194305) (fits : w.rank ≤ no_rank) (is : w ≡ wt value) where
   put-count : made_count v ≡ made_count s
@@ -81,7 +82,7 @@ module _ {T : Type 0} (wt : T → Own) (s v : Store T) (root : Option Link) (m :
     ];
     mapped = λ k x e. kept x (r.mapped k x e);
     keyed = λ k x e. (same x.number).key ∙ r.keyed k x e;
-    listed = λ i b. (let q = r.listed i (omega (arith, b, put-count)) in (q.0, q.1, ap (get id_cmp m) (same i).key ∙ q.2));
+    listed = λ i b. (let q = r.listed i (omega (arith, b, put-count)) in (q.0, q.1, ap (value_of m) (same i).key ∙ q.2));
   }
 
   put-item : (x : ℕ) → x < made_count s → (a : T) → slice_get (values_of s) x ≡ Some a → item_at v x ≡ ((shape_at (shapes_of s) x).key, cond (id_eq (shape_at (shapes_of s) x).key key) value a) ∷ []

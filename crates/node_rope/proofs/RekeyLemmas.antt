@@ -1,11 +1,13 @@
 -- Another key in a node, and a new item in the place of another.
 use Rattle.std.proofs.Common.{◌≡◌, ◌≢◌, ◌⊎◌, inl, inr, ℕ, ◌<◌, Bool, true, false, cond, List, [], ◌∷◌, length, flat_map, slice_get, slice_set, Option, None, Some, refl, sym, ap, ◌∙◌, subst, arith}
 use Rattle.std.specs.Prelude.{is_some}
-use Rattle.std.specs.BTreeMap.{BTreeMap, get}
 use Rattle.std.proofs.lemmas.Bool.{cases_Bool, false_from_ne_true}
 use Rattle.std.proofs.lemmas.Bool.Decides.{eqb_tells}
-use Rattle.fugue_ids.specs.Identifiers.{Identifier, id_cmp, id_eq}
+use Rattle.fugue_ids.specs.Identifiers.{Identifier, id_eq}
+use Rattle.fugue_ids.specs.Keyed.{IsReplaced}
 use Rattle.fugue_ids.proofs.IdentifierLemmas.{cases_id, id_eq-refl}
+use Rattle.block_map.specs.Contents.{value_of}
+use Rattle.block_map.specs.declared.map.BlockMap.{BlockMap}
 use Rattle.node_rope.specs.declared.store.Store.{Store}
 use Rattle.node_rope.specs.declared.cells.Shape.{Shape}
 use Rattle.node_rope.specs.declared.cells.Link.{Link}
@@ -15,7 +17,6 @@ use Rattle.node_rope.specs.Shapes.{HasRightLinks, shape_at, link_number, tree_of
 use Rattle.node_rope.specs.Sums.{sum_measure, lesser}
 use Rattle.node_rope.specs.Items.{IsRope, item_at, rope_items_of, value_under}
 use Rattle.node_rope.specs.Beside.{put_under, renamed, rekeyed}
-use Rattle.node_rope.specs.Linked.{IsSet}
 use Rattle.node_rope.specs.Reweighed.{ArePlaced}
 use Rattle.node_rope.proofs.TurnLemmas.{same-or-not}
 use Rattle.node_rope.proofs.ShapeLemmas.{length-shapes, made-below}
@@ -69,27 +70,27 @@ module _ {T : Type 0} (s v : Store T) (root : Option Link) (l : Link) (other : I
       (summed-along lesser (tree_of ss) (tree_of us) (ranks ss) (ranks us) (leasts ss) (leasts us) lefts rights (field (λ h. h.own.rank) (λ h k. refl)) (field (λ h. h.least) (λ h k. refl)) sound.ranked)
 
 -- and in the map
-module _ {T : Type 0} (wt : T → Own) (s v : Store T) (root : Option Link) (m n p : BTreeMap Identifier Link) (key other : Identifier) (l : Link) (r : IsRope wt s root m) (at : get id_cmp m key ≡ Some l) (none : get id_cmp m other ≡ None)
+module _ {T : Type 0} (wt : T → Own) (s v : Store T) (root : Option Link) (m n p : BlockMap Link) (key other : Identifier) (l : Link) (r : IsRope wt s root m) (at : value_of m key ≡ Some l) (none : value_of m other ≡ None)
     (is : shapes_of v ≡ slice_set (shapes_of s) l.number (record (shape_at (shapes_of s) l.number) { key = other })) (values : values_of v ≡ values_of s) (count : made_count v ≡ made_count s) (kept : IsKept s v)
-    (came : IsSet m n other (Some l)) (went : IsSet n p key None) where
+    (came : IsReplaced (value_of m) (value_of n) other (Some l)) (went : IsReplaced (value_of n) (value_of p) key None) where
   abbrev there : IsMade s l
   there = r.mapped key l at
 
   pub differ : other ≢ key
-  differ e = let no : None ≡ Some l = sym none ∙ ap (get id_cmp m) e ∙ at in absurd (cc)
+  differ e = let no : None ≡ Some l = sym none ∙ ap (value_of m) e ∙ at in absurd (cc)
 
   -- the new key has the node, the old one none, and each other key what it had
-  pub new-key : get id_cmp p other ≡ Some l
-  new-key = went.1 other differ ∙ came.0
+  pub new-key : value_of p other ≡ Some l
+  new-key = went.others other differ ∙ came.here
 
-  other-keys : (k : Identifier) → k ≢ other → k ≢ key → get id_cmp p k ≡ get id_cmp m k
-  other-keys k f g = went.1 k g ∙ came.1 k f
+  other-keys : (k : Identifier) → k ≢ other → k ≢ key → value_of p k ≡ value_of m k
+  other-keys k f g = went.others k g ∙ came.others k f
 
-  was : (k : Identifier) (x : Link) → get id_cmp p k ≡ Some x → ((k ≡ other) × (l ≡ x)) ⊎ ((k ≢ key) × (get id_cmp m k ≡ Some x))
-  was k x e = elim (cases_id k other) as (λ _. ((k ≡ other) × (l ≡ x)) ⊎ ((k ≢ key) × (get id_cmp m k ≡ Some x))) [
-    | inl f ↦ (let same : Some l ≡ Some x = sym new-key ∙ ap (get id_cmp p) (sym f) ∙ e in inl (f, cc))
-    | inr f ↦ elim (cases_id k key) as (λ _. ((k ≡ other) × (l ≡ x)) ⊎ ((k ≢ key) × (get id_cmp m k ≡ Some x))) [
-      | inl g ↦ (let no : None ≡ Some x = sym went.0 ∙ ap (get id_cmp p) (sym g) ∙ e in absurd (cc))
+  was : (k : Identifier) (x : Link) → value_of p k ≡ Some x → ((k ≡ other) × (l ≡ x)) ⊎ ((k ≢ key) × (value_of m k ≡ Some x))
+  was k x e = elim (cases_id k other) as (λ _. ((k ≡ other) × (l ≡ x)) ⊎ ((k ≢ key) × (value_of m k ≡ Some x))) [
+    | inl f ↦ (let same : Some l ≡ Some x = sym new-key ∙ ap (value_of p) (sym f) ∙ e in inl (f, cc))
+    | inr f ↦ elim (cases_id k key) as (λ _. ((k ≡ other) × (l ≡ x)) ⊎ ((k ≢ key) × (value_of m k ≡ Some x))) [
+      | inl g ↦ (let no : None ≡ Some x = sym went.here ∙ ap (value_of p) (sym g) ∙ e in absurd (cc))
       | inr g ↦ inr (g, sym (other-keys k f g) ∙ e)
     ]
   ]
@@ -109,13 +110,13 @@ module _ {T : Type 0} (wt : T → Own) (s v : Store T) (root : Option Link) (m n
       | inl f ↦ ap (λ (y : Link). (shape_at (shapes_of v) y.number).key) (sym f.1) ∙ key-here s v root l other r.sound there is count kept ∙ sym f.0
       | inr f ↦ key-elsewhere s v root l other r.sound there is count kept x.number (λ g. f.0 (sym (r.keyed k x f.1) ∙ ap (λ (j : ℕ). (shape_at (shapes_of s) j).key) g ∙ r.keyed key l at)) ∙ r.keyed k x f.1
     ];
-    listed = λ i b. elim (same-or-not i l.number) as (λ _. (y : Link) × (y.number ≡ i) × (get id_cmp p (shape_at (shapes_of v) i).key ≡ Some y)) [
-      | inl e ↦ (l, sym e, ap (λ (j : ℕ). get id_cmp p (shape_at (shapes_of v) j).key) e ∙ ap (get id_cmp p) (key-here s v root l other r.sound there is count kept) ∙ new-key)
+    listed = λ i b. elim (same-or-not i l.number) as (λ _. (y : Link) × (y.number ≡ i) × (value_of p (shape_at (shapes_of v) i).key ≡ Some y)) [
+      | inl e ↦ (l, sym e, ap (λ (j : ℕ). value_of p (shape_at (shapes_of v) j).key) e ∙ ap (value_of p) (key-here s v root l other r.sound there is count kept) ∙ new-key)
       | inr e ↦ (
           let q = r.listed i (omega (arith, b, count)) in
           let k = (shape_at (shapes_of s) i).key in
-          let old = other-keys k (λ f. differs q.0 (sym q.2 ∙ ap (get id_cmp m) f ∙ none)) (λ f. e (sym q.1 ∙ ap (λ (y : Link). y.number) (same-link q.0 (sym q.2 ∙ ap (get id_cmp m) f ∙ at)))) in
-          (q.0, q.1, ap (get id_cmp p) (key-elsewhere s v root l other r.sound there is count kept i e) ∙ old ∙ q.2))
+          let old = other-keys k (λ f. differs q.0 (sym q.2 ∙ ap (value_of m) f ∙ none)) (λ f. e (sym q.1 ∙ ap (λ (y : Link). y.number) (same-link q.0 (sym q.2 ∙ ap (value_of m) f ∙ at)))) in
+          (q.0, q.1, ap (value_of p) (key-elsewhere s v root l other r.sound there is count kept i e) ∙ old ∙ q.2))
     ];
   } where
     differs : (x : Link) → Some x ≡ None → ⊥

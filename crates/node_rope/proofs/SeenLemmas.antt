@@ -2,10 +2,12 @@
 use Rattle.std.proofs.Common.{◌≡◌, inl, inr, ℕ, zero, suc, ◌+◌, ◌<◌, ◌≤◌, List, [], ◌∷◌, ◌++◌, length, take, flat_map, slice_get, get_or, Option, None, Some, refl, sym, ap, ◌∙◌, subst, arith}
 use Rattle.std.specs.Prelude.{is_some, IsSome, option_map, true, false}
 use Rattle.std.specs.Map.{keys_of}
-use Rattle.std.specs.BTreeMap.{BTreeMap, get}
 use Rattle.std.proofs.lemmas.List.Concat.{flat_map-append}
 use Rattle.std.proofs.lemmas.List.Sums.{sum_by-cons}
-use Rattle.fugue_ids.specs.Identifiers.{Identifier, id_cmp}
+use Rattle.fugue_ids.specs.Identifiers.{Identifier}
+use Rattle.block_map.specs.Contents.{value_of}
+use Rattle.block_map.specs.Floors.{IsFloorKey}
+use Rattle.block_map.specs.declared.map.BlockMap.{BlockMap}
 use Rattle.node_rope.specs.declared.store.Store.{Store}
 use Rattle.node_rope.specs.declared.cells.Link.{Link}
 use Rattle.node_rope.specs.declared.cells.Own.{Own}
@@ -14,7 +16,6 @@ use Rattle.node_rope.specs.Shapes.{HasRightLinks, shape_at, link_number, tree_of
 use Rattle.node_rope.specs.Walk.{count_of}
 use Rattle.node_rope.proofs.ItemLemmas.{length-items}
 use Rattle.node_rope.specs.Items.{IsRope, item_at, rope_items_of, value_under}
-use Rattle.node_rope.specs.Linked.{IsFloorKey}
 use Rattle.node_rope.specs.Places.{StandsAt, weight_sum, IsUnit, IsFloor}
 use Rattle.node_rope.specs.Found.{IsFound}
 use Rattle.node_rope.proofs.ShapeLemmas.{made-below}
@@ -82,14 +83,14 @@ few-nodes s root sound few = elim (link-or-none root) as (λ _. length (rope_ite
   | inr e ↦ omega (arith, length-items s root sound, ap (λ (o : Option Link). count_of (tree_of (shapes_of s)) (link_number o)) e.1, sound.small e.0.number, few)
 ]
 
-module _ {T : Type 0} (wt : T → Own) (s : Store T) (root : Option Link) (m : BTreeMap Identifier Link) (r : IsRope wt s root m) where
+module _ {T : Type 0} (wt : T → Own) (s : Store T) (root : Option Link) (m : BlockMap Link) (r : IsRope wt s root m) where
   nodes : (x : ℕ) → Among x (order s root) → x < made_count s
   nodes = all-made s root r.sound
 
   pub order-length : length (rope_items_of s root) ≡ length (order s root)
   order-length = items-length s (order s root) nodes
 
-  pub stands : (k : Identifier) (l : Link) → get id_cmp m k ≡ Some l → (i : ℕ) → i < length (order s root) → get_or (order s root) i 0 ≡ l.number → StandsAt (rope_items_of s root) i k
+  pub stands : (k : Identifier) (l : Link) → value_of m k ≡ Some l → (i : ℕ) → i < length (order s root) → get_or (order s root) i 0 ≡ l.number → StandsAt (rope_items_of s root) i k
   stands k l e i h at = items-key s (order s root) nodes i h ∙ ap (λ (x : ℕ). Some (shape_at (shapes_of s) x).key) at ∙ ap Some (r.keyed k l e)
 
   pub weighs-to : (i w : ℕ) → w ≡ weigh (shapes_of s) (take i (order s root)) → w ≡ weight_sum (λ x. (wt x).weight) (take i (rope_items_of s root))
@@ -112,22 +113,22 @@ module _ {T : Type 0} (wt : T → Own) (s : Store T) (root : Option Link) (m : B
         inside = subst (λ n. u < n) (ap (λ o. o.weight) (r.weighs l.number it.0 it.1)) f.inside;
       }
 
-  some-held : (q : Identifier) → IsSome (get id_cmp m q) → IsSome (value_under q (rope_items_of s root))
-  some-held q h = elim (link-or-none (get id_cmp m q)) as (λ _. IsSome (value_under q (rope_items_of s root))) [
-    | inl e ↦ absurd (not-some (get id_cmp m q) e h)
+  some-held : (q : Identifier) → IsSome (value_of m q) → IsSome (value_under q (rope_items_of s root))
+  some-held q h = elim (link-or-none (value_of m q)) as (λ _. IsSome (value_under q (rope_items_of s root))) [
+    | inl e ↦ absurd (not-some (value_of m q) e h)
     | inr e ↦ (let v = value-made s e.0.number (made-below s e.0 (r.mapped q e.0 e.1)) in ap is_some (held wt s root m r q e.0 e.1 v.0 v.1))
   ] where
     not-some : (o : Option Link) → o ≡ None → IsSome o → ⊥
     not-some None e h = cc
     not-some (Some l) e h = cc
 
-  held-some : (q : Identifier) → IsSome (value_under q (rope_items_of s root)) → IsSome (get id_cmp m q)
-  held-some q h = elim (link-or-none (get id_cmp m q)) as (λ _. IsSome (get id_cmp m q)) [
+  held-some : (q : Identifier) → IsSome (value_under q (rope_items_of s root)) → IsSome (value_of m q)
+  held-some q h = elim (link-or-none (value_of m q)) as (λ _. IsSome (value_of m q)) [
     | inl e ↦ (let no : false ≡ true = ap is_some (sym (not-held wt s root m r q e)) ∙ h in absurd (cc))
     | inr e ↦ ap is_some e.1
   ]
 
-  pub floor-seen : (key : Identifier) (o : Option Identifier) → IsFloorKey m key o → IsFloor (rope_items_of s root) key o
+  pub floor-seen : (key : Identifier) (o : Option Identifier) → IsFloorKey (value_of m) key o → IsFloor (rope_items_of s root) key o
   floor-seen key None f = λ q le. not-held wt s root m r q (f q le)
   floor-seen key (Some k) f = (some-held k f.0, f.1, λ q le h. f.2 q le (held-some q h))
 

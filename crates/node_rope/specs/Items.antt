@@ -1,8 +1,9 @@
 -- The rope as the list of its items.
 use Rattle.std.specs.Prelude.{◌≡◌, ℕ, ◌<◌, List, Option, Some, option_map, option_to_list, flat_map, slice_get}
 use Rattle.std.specs.Map.{lookup}
-use Rattle.std.specs.BTreeMap.{BTreeMap, get}
-use Rattle.fugue_ids.specs.Identifiers.{Identifier, id_cmp, id_eq}
+use Rattle.fugue_ids.specs.Identifiers.{Identifier, id_eq}
+use Rattle.block_map.specs.Contents.{value_of}
+use Rattle.block_map.specs.declared.map.BlockMap.{BlockMap}
 use Rattle.node_rope.specs.declared.store.Store.{Store}
 use Rattle.node_rope.specs.declared.cells.Link.{Link}
 use Rattle.node_rope.specs.declared.cells.Own.{Own}
@@ -24,12 +25,12 @@ abbrev pub own_of : {T : Type 0} → (T → ℕ) → (T → ℕ) → T → Own
 own_of weight_of rank_of v = record { weight = weight_of v; rank = rank_of v }
 
 -- the store's tree is sound and light, each node tells what its value counts for, and the map has each node under its key and no other
-pub record IsRope {T : Type 0} (counts_for : T → Own) (s : Store T) (root : Option Link) (m : BTreeMap Identifier Link) : Type 0 where
+pub record IsRope {T : Type 0} (counts_for : T → Own) (s : Store T) (root : Option Link) (m : BlockMap Link) : Type 0 where
   pub sound : HasRightLinks s root
   pub few : made_count s < 4194305
   pub light : (i : ℕ) → (shape_at (shapes_of s) i).own.weight < 4194305
   pub fits : AreRanksFit (shapes_of s)
   pub weighs : (i : ℕ) (v : T) → slice_get (values_of s) i ≡ Some v → (shape_at (shapes_of s) i).own ≡ counts_for v
-  pub mapped : (k : Identifier) (l : Link) → get id_cmp m k ≡ Some l → IsMade s l
-  pub keyed : (k : Identifier) (l : Link) → get id_cmp m k ≡ Some l → (shape_at (shapes_of s) l.number).key ≡ k
-  pub listed : (i : ℕ) → i < made_count s → (l : Link) × (l.number ≡ i) × (get id_cmp m (shape_at (shapes_of s) i).key ≡ Some l)
+  pub mapped : (k : Identifier) (l : Link) → value_of m k ≡ Some l → IsMade s l
+  pub keyed : (k : Identifier) (l : Link) → value_of m k ≡ Some l → (shape_at (shapes_of s) l.number).key ≡ k
+  pub listed : (i : ℕ) → i < made_count s → (l : Link) × (l.number ≡ i) × (value_of m (shape_at (shapes_of s) i).key ≡ Some l)

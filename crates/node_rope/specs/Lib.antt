@@ -5,7 +5,6 @@ pub mod Grown
 pub mod Heaps
 pub mod Items
 pub mod Joined
-pub mod Linked
 pub mod Low
 pub mod Made
 pub mod Packing

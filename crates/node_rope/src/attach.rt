@@ -1,7 +1,8 @@
 // A new node beside another.
 ghost use Rattle.std.specs.Prelude.{◌≡◌, ◌+◌, ◌-◌, ◌^◌, ◌<◌, ◌≤◌, [], ◌∷◌, ◌++◌, flat_map, IfOk, IfErr, Some};
+ghost use Rattle.fugue_ids.specs.Keyed.{IsReplaced};
+ghost use Rattle.block_map.specs.Contents.{HasSameValues, value_of};
 ghost use Rattle.node_rope.specs.Made.{IsMade, IsKept, IsAlike, made_count, shapes_of, values_of};
-ghost use Rattle.node_rope.specs.Linked.{IsSet, HasSameLinks};
 ghost use Rattle.node_rope.specs.Shapes.{HasRightLinks, AreMade, shape_at, order};
 ghost use Rattle.node_rope.specs.Sides.{faced, beside};
 ghost use Rattle.node_rope.specs.Rising.{AreSmall};
@@ -61,9 +62,10 @@ pub(crate) fn enter<T: Drop>(
         (λ l. (shapes_of store.new ≡ shapes_of store.old ++ (shape ∷ []))
         × (values_of store.new ≡ values_of store.old ++ (value ∷ [])) × (l.number ≡ made_count store.old)
         × IsMade store.new l × (made_count store.new ≡ made_count store.old + 1)) }
-    ensures set { IfOk result (λ l. IsSet map.old.links map.new.links shape.key (Some l)) }
+    ensures set { IfOk result
+        (λ l. IsReplaced (value_of map.old.links) (value_of map.new.links) shape.key (Some l)) }
     ensures refused { IfErr result
-        (λ b. (b.value ≡ value) × IsAlike store.old store.new × HasSameLinks map.old.links map.new.links) }
+        (λ b. (b.value ≡ value) × IsAlike store.old store.new × HasSameValues map.old.links map.new.links) }
     ensures kept { IsKept store.old store.new }
 {
     let key = shape.key;
@@ -94,9 +96,10 @@ fn join<T: Drop>(
         (λ l. (shapes_of store.new ≡ joined_beside side (shapes_of store.old) at l shape)
         × (values_of store.new ≡ values_of store.old ++ (value ∷ [])) × (l.number ≡ made_count store.old)
         × IsMade store.new l × (made_count store.new ≡ made_count store.old + 1)) }
-    ensures set { IfOk result (λ l. IsSet map.old.links map.new.links shape.key (Some l)) }
+    ensures set { IfOk result
+        (λ l. IsReplaced (value_of map.old.links) (value_of map.new.links) shape.key (Some l)) }
     ensures refused { IfErr result
-        (λ b. (b.value ≡ value) × IsAlike store.old store.new × HasSameLinks map.old.links map.new.links) }
+        (λ b. (b.value ≡ value) × IsAlike store.old store.new × HasSameValues map.old.links map.new.links) }
     ensures kept { IsKept store.old store.new }
 {
     let next = facing(store.shape(at), side);
@@ -129,9 +132,10 @@ pub(crate) fn attach<T: Drop>(
     ensures grown { IfOk result (λ l. IsGrown store.old store.new root key own value l) }
     ensures walk { IfOk result
         (λ l. order store.new root ≡ flat_map (beside side at.number l.number) (order store.old root)) }
-    ensures set { IfOk result (λ l. IsSet map.old.links map.new.links key (Some l)) }
+    ensures set { IfOk result
+        (λ l. IsReplaced (value_of map.old.links) (value_of map.new.links) key (Some l)) }
     ensures refused { IfErr result
-        (λ b. (b.value ≡ value) × IsAlike store.old store.new × HasSameLinks map.old.links map.new.links) }
+        (λ b. (b.value ≡ value) × IsAlike store.old store.new × HasSameValues map.old.links map.new.links) }
     ensures kept { IsKept store.old store.new }
 {
     let shape = new_shape(store, side, at, key, own);

@@ -1,7 +1,6 @@
 // What becomes of the items of a rope's parts.
 ghost use Rattle.std.specs.Prelude.{◌≡◌, ◌<◌, ◌≤◌, ◌^◌, None, Some, OnOk, IfErr};
-ghost use Rattle.std.specs.BTreeMap.{get};
-ghost use Rattle.fugue_ids.specs.Identifiers.{Identifier, id_cmp};
+ghost use Rattle.block_map.specs.Contents.{value_of};
 ghost use Rattle.node_rope.specs.Made.{made_count};
 ghost use Rattle.node_rope.specs.Items.{IsRope, rope_items_of, value_under, own_of as counts_for};
 ghost use Rattle.node_rope.specs.Beside.{placed_beside, put_under};
@@ -41,13 +40,13 @@ pub(crate) fn grow<T: Weigh>(
     value: T,
 ) -> Result<(), Back<T>>
     requires rope { IsRope (counts_for T.weight_of T.rank_of) store.old root.old map.old.links }
-    requires held { get id_cmp map.old.links at ≡ Some link }
-    requires fresh { get id_cmp map.old.links key ≡ None }
+    requires held { value_of map.old.links at ≡ Some link }
+    requires fresh { value_of map.old.links key ≡ None }
     requires room { made_count store.old < MOST_OPERATIONS }
     ensures rope { IsRope (counts_for T.weight_of T.rank_of) store.new root.new map.new.links }
     ensures placed { OnOk result (rope_items_of store.new root.new
         ≡ placed_beside side at (key, value) (rope_items_of store.old root.old)) }
-    ensures held { OnOk result (get id_cmp map.new.links at ≡ Some link) }
+    ensures held { OnOk result (value_of map.new.links at ≡ Some link) }
     ensures refused { IfErr result
         (λ b. (b.value ≡ value) × (rope_items_of store.new root.new ≡ rope_items_of store.old root.old)) }
 {
@@ -73,7 +72,7 @@ pub(crate) fn refill<T: Weigh>(
     value: T,
 ) -> T
     requires rope { IsRope (counts_for T.weight_of T.rank_of) store.old root map.old.links }
-    requires held { get id_cmp map.old.links key ≡ Some link }
+    requires held { value_of map.old.links key ≡ Some link }
     ensures rope { IsRope (counts_for T.weight_of T.rank_of) store.new root map.new.links }
     ensures old { value_under key (rope_items_of store.old root) ≡ Some result }
     ensures put { rope_items_of store.new root ≡ put_under key value (rope_items_of store.old root) }

@@ -1,22 +1,22 @@
 // The map from keys to nodes.
 ghost use Rattle.std.specs.Prelude.{◌≡◌, None, Some, IfSome, IsTrue, IsFalse, option_map};
-ghost use Rattle.std.specs.BTreeMap.{get};
-ghost use Rattle.fugue_ids.specs.Identifiers.{id_cmp};
-ghost use Rattle.node_rope.specs.Linked.{IsEmpty, IsSet, HasSameLinks, IsFloorKey};
+ghost use Rattle.fugue_ids.specs.Keyed.{IsReplaced};
+ghost use Rattle.block_map.specs.Contents.{HasSameValues, IsEmpty, value_of};
+ghost use Rattle.block_map.specs.Floors.{IsFloorKey};
 
 use crate::cells::Link;
 use crate::pile;
+use block_map::BlockMap;
 use fugue_ids::ElementId;
 use std::alloc::Global;
-use std::collections::BTreeMap;
 
 /// The node of each key. The one that was used last is at hand.
 #[derive(Drop)]
 pub struct KeyMap {
-    pub(crate) links: BTreeMap<ElementId, Link>,
+    pub(crate) links: BlockMap<Link>,
     recent: Option<ElementId>,
     at_hand: Link,
-    ghost found: { option_map (get id_cmp links) recent ≡ option_map (λ k. Some at_hand) recent },
+    ghost found: { option_map (value_of links) recent ≡ option_map (λ k. Some at_hand) recent },
 }
 
 // Leads to no node.
@@ -31,7 +31,7 @@ pub(crate) fn no_links(alloc: Global) -> KeyMap
     ensures { IsEmpty result.links }
 {
     KeyMap {
-        links: BTreeMap::new(alloc),
+        links: BlockMap::new(alloc),
         recent: None,
         at_hand: nowhere(),
     }
@@ -39,17 +39,14 @@ pub(crate) fn no_links(alloc: Global) -> KeyMap
 
 // The node of the key.
 pub(crate) fn find_link(map: &KeyMap, key: ElementId) -> Option<Link>
-    ensures { result ≡ get id_cmp map.now.links key }
+    ensures { result ≡ value_of map.now.links key }
 {
     if let Some(recent) = map.recent {
         if recent == key {
             return Some(map.at_hand);
         }
     }
-    match map.links.get(&key) {
-        Some(link) => Some(*link),
-        None => None,
-    }
+    map.links.get(key)
 }
 
 // The key whose node is at hand.
@@ -59,7 +56,7 @@ pub(crate) fn recent_key(map: &KeyMap) -> Option<ElementId> {
 
 // The key's node is looked for again soon.
 pub(crate) fn keep_at_hand(map: &mut KeyMap, key: ElementId, link: Link)
-    requires { get id_cmp map.old.links key ≡ Some link }
+    requires { value_of map.old.links key ≡ Some link }
     ensures { map.new.links ≡ map.old.links }
 {
     map.recent = Some(key);
@@ -68,12 +65,12 @@ pub(crate) fn keep_at_hand(map: &mut KeyMap, key: ElementId, link: Link)
 
 // False for want of memory, which only a new key can meet.
 pub(crate) fn set_link(map: &mut KeyMap, key: ElementId, link: Link) -> bool
-    ensures set { IsTrue result → IsSet map.old.links map.new.links key (Some link) }
-    ensures refused { IsFalse result → HasSameLinks map.old.links map.new.links }
-    ensures absent { IsFalse result → get id_cmp map.old.links key ≡ None }
+    ensures set { IsTrue result → IsReplaced (value_of map.old.links) (value_of map.new.links) key (Some link) }
+    ensures refused { IsFalse result → HasSameValues map.old.links map.new.links }
+    ensures absent { IsFalse result → value_of map.old.links key ≡ None }
 {
     match map.links.insert(key, link) {
-        Ok(_) => {
+        Ok(()) => {
             map.recent = Some(key);
             map.at_hand = link;
             true
@@ -83,25 +80,22 @@ pub(crate) fn set_link(map: &mut KeyMap, key: ElementId, link: Link) -> bool
 }
 
 pub(crate) fn drop_link(map: &mut KeyMap, key: ElementId)
-    ensures { IsSet map.old.links map.new.links key None }
+    ensures { IsReplaced (value_of map.old.links) (value_of map.new.links) key None }
 {
-    map.links.remove(&key);
+    map.links.remove(key);
     map.recent = None;
 }
 
 // The greatest key that is not above this one, and its node.
 pub(crate) fn floor_link(map: &KeyMap, key: ElementId) -> Option<(ElementId, Link)>
-    ensures floor { IsFloorKey map.now.links key (option_map (λ x. x.0) result) }
-    ensures link { IfSome result (λ x. get id_cmp map.now.links x.0 ≡ Some x.1) }
+    ensures floor { IsFloorKey (value_of map.now.links) key (option_map (λ x. x.0) result) }
+    ensures link { IfSome result (λ x. value_of map.now.links x.0 ≡ Some x.1) }
 {
-    match map.links.range(..=key).next_back() {
-        Some((k, link)) => Some((*k, *link)),
-        None => None,
-    }
+    map.links.floor(key)
 }
 
 pub(crate) fn floor_key(map: &KeyMap, key: ElementId) -> Option<ElementId>
-    ensures { IsFloorKey map.now.links key result }
+    ensures { IsFloorKey (value_of map.now.links) key result }
 {
     match floor_link(map, key) {
         Some((k, _)) => Some(k),

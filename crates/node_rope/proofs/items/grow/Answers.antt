@@ -1,6 +1,5 @@
 use Rattle.std.proofs.Common.{◌≡◌, None, Some, sym, ap, ◌∙◌, arith}
-use Rattle.std.specs.BTreeMap.{get}
-use Rattle.fugue_ids.specs.Identifiers.{id_cmp}
+use Rattle.block_map.specs.Contents.{value_of}
 use Rattle.node_rope.specs.Items.{own_of}
 use Rattle.node_rope.proofs.LightLemmas.{are-small}
 use Rattle.node_rope.proofs.KeyLemmas.{regrown, grown-roped, alone}
@@ -45,4 +44,4 @@ returns-clause-placed g c =
 pub returns-clause-held : goal.returns-clause-held
 returns-clause-held g c =
     let a = c.args in
-    c.in-Ok.ensures.set.1 a.at (λ e. (let no : Some a.link ≡ None = sym c.requires.held ∙ ap (get id_cmp a.map.now.links) e ∙ c.requires.fresh in absurd (cc))) ∙ c.requires.held
+    c.in-Ok.ensures.set.others a.at (λ e. (let no : Some a.link ≡ None = sym c.requires.held ∙ ap (value_of a.map.now.links) e ∙ c.requires.fresh in absurd (cc))) ∙ c.requires.held

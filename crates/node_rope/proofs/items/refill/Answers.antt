@@ -1,6 +1,5 @@
 use Rattle.std.proofs.Common.{Some, sym, ap, ◌∙◌, subst, arith}
-use Rattle.std.specs.BTreeMap.{BTreeMap}
-use Rattle.fugue_ids.specs.Identifiers.{Identifier}
+use Rattle.block_map.specs.declared.map.BlockMap.{BlockMap}
 use Rattle.node_rope.specs.declared.cells.Link.{Link}
 use Rattle.node_rope.specs.Shapes.{shape_at}
 use Rattle.node_rope.specs.Items.{IsRope, own_of}
@@ -30,7 +29,7 @@ pub returns-clause-rope : goal.returns-clause-rope
 returns-clause-rope g c =
     let a = c.args in let e = c.set_value-old.ensures in let o = c.set_own.ensures in let w = c.own_of-own.ensures in
     let same = still-trans _ _ _ (valued-still a.store.now c.set_value-old.new.self a.root a.link a.value c.requires.rope.sound e.shapes e.values e.kept) o.still in
-    subst (λ (m : BTreeMap Identifier Link). IsRope (own_of g.T.Weigh.weight_of g.T.Weigh.rank_of) c.set_own.new.store a.root m) (sym c.keep_at_hand.ensures)
+    subst (λ (m : BlockMap Link). IsRope (own_of g.T.Weigh.weight_of g.T.Weigh.rank_of) c.set_own.new.store a.root m) (sym c.keep_at_hand.ensures)
     (put-roped (own_of g.T.Weigh.weight_of g.T.Weigh.rank_of) a.store.now c.set_own.new.store a.root a.map.now.links a.key a.link c.own_of-own.result a.value c.requires.rope c.requires.held o.sound same o.here
     (λ j ne. o.others j ne ∙ ap (λ ss. (shape_at ss j).own) e.shapes) (o.values ∙ e.values) (λ x h. o.kept x (e.kept x h)) (omega (arith, w.light)) (omega (arith, w.fits)) w.own)
 

@@ -1,6 +1,5 @@
 use Rattle.std.proofs.Common.{sym, ap, ◌∙◌, subst, slice_set}
-use Rattle.std.specs.BTreeMap.{BTreeMap}
-use Rattle.fugue_ids.specs.Identifiers.{Identifier}
+use Rattle.block_map.specs.declared.map.BlockMap.{BlockMap}
 use Rattle.node_rope.specs.declared.cells.Link.{Link}
 use Rattle.node_rope.specs.declared.cells.Shape.{Shape}
 use Rattle.node_rope.specs.Made.{shapes_of}
@@ -24,7 +23,7 @@ invariant_of-self-2 g c =
     let e = c.set_shape.ensures in
     let none = fresh wt i.store i.root i.map.links c.self.invariant c.args.new_key c.args.self.now c.self.view_is c.requires.fresh in
     let is = e.shapes ∙ ap (λ (h : Shape). slice_set (shapes_of i.store) l.number (record h { key = c.args.new_key })) c.shape-shape.ensures in
-    subst (λ (m : BTreeMap Identifier Link). IsRope wt v i.root m) (sym c.keep_at_hand.ensures)
+    subst (λ (m : BlockMap Link). IsRope wt v i.root m) (sym c.keep_at_hand.ensures)
     (renamed-roped wt i.store v i.root i.map.links c.set_link.new.map.links c.drop_link.new.map.links c.args.key c.args.new_key l c.self.invariant (sym c.find_link.ensures ∙ c.in-Some.is) none is e.values e.count e.kept (c.set_link.ensures.set c.if-not-set_link.false) c.drop_link.ensures)
 
 pub returns-clause-renamed : goal.returns-clause-renamed
