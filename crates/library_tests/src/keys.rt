@@ -63,7 +63,9 @@ fn check(rt: &impl Abort, map: &BlockMap<u32>, pairs: &Pairs) {
     for replica in 0..3 {
         for number in 0..264 {
             let id = id(replica + 1, counter_of(number));
-            let value = position(pairs, id).and_then(|at| pairs.get(at)).map(|pair| pair.1);
+            let value = position(pairs, id)
+                .and_then(|at| pairs.get(at))
+                .map(|pair| pair.1);
             equal_at(rt, &id, map.get(id), value);
             equal_at(rt, &id, map.floor(id), floor_of(pairs, id));
         }

@@ -82,7 +82,11 @@ impl Runs {
 
     /// The last low cell of a part that passes: the part shrinks round the answer, which is the last one that was seen to
     /// pass where no low cell is left.
-    fn passing_by_halves<P: Fn(ElementId) -> bool>(&self, mut rest: Part, test: P) -> Option<ElementId>
+    fn passing_by_halves<P: Fn(ElementId) -> bool>(
+        &self,
+        mut rest: Part,
+        test: P,
+    ) -> Option<ElementId>
         requires sound { AreRuns self.now }
         requires part { IsPart self.now rest }
         requires callable { P.IsAlwaysCallable test }

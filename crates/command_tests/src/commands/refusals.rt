@@ -62,11 +62,7 @@ const REFUSALS: &[(Refusal, &str, Status)] = &[
         "reply cut short at byte 9",
         Status::BadInput,
     ),
-    (
-        Refusal::NoSuchPlaces,
-        "no such places",
-        Status::BadInput,
-    ),
+    (Refusal::NoSuchPlaces, "no such places", Status::BadInput),
     (
         Refusal::BaseDiffers(0),
         "base differs at byte 0",

@@ -30,7 +30,11 @@ fn compare_cells(rt: &impl Abort, store: &RunStore, cells: &[Cell]) {
         equal(rt, store.before(id), last);
         let found = store.last_passing(None, None, cell.key, |other| stands_to(cells, other, i));
         equal(rt, found, id);
-        equal(rt, store.last_passing(None, None, cell.key, |_| false), None);
+        equal(
+            rt,
+            store.last_passing(None, None, cell.key, |_| false),
+            None,
+        );
         last = id;
     }
     equal(rt, store.len(), cells.len());
