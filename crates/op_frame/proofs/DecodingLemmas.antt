@@ -1,10 +1,10 @@
 -- What the bytes of a whole frame say, field by field.
-use Rattle.std.proofs.Common.{◌≡◌, ℕ, zero, suc, ◌-◌, ◌<◌, ◌≤◌, List, [], ◌∷◌, ◌++◌, length, take, drop, get_or, refl, ap, sym, subst, ◌∙◌, arith}
+use Rattle.std.proofs.Common.{◌≡◌, ◌⊎◌, ℕ, zero, suc, ◌-◌, ◌<◌, ◌≤◌, List, [], ◌∷◌, ◌++◌, length, take, drop, get_or, refl, ap, inl, inr, sym, subst, ◌∙◌, arith}
 use Rattle.std.specs.Prelude.{Option, Some, None, flat_map}
 use Rattle.std.specs.Str.{encode_utf8_all}
 use Rattle.std.specs.Int.{byte_at}
 use Rattle.std.specs.Char.{IsScalar}
-use Rattle.std.proofs.lemmas.List.{take_all}
+use Rattle.std.proofs.lemmas.List.{take_all, take_rest}
 use Rattle.std.proofs.lemmas.Str.{encodes_same}
 use Rattle.fugue_ids.specs.Identifiers.{Identifier}
 use Rattle.fugue_ids.specs.declared.op.Op.{Op}
@@ -71,14 +71,25 @@ same_meaning g bytes ops f is =
 pub frame_wider : (g : Grammar) (bytes : List ℕ) → IsFrameOf g bytes → IsFrameOf Version2 bytes
 frame_wider g bytes f = (f.0, record { item = f.1.item; is_item = wider g f.1.item f.1.is_item; bytes_are = f.1.bytes_are; ops_are = f.1.ops_are })
 
+-- what the first byte of an origin tells
+pub record OriginThere (bytes : List ℕ) : Type 0 where
+  pub some : 0 < length bytes
+  pub tag : (get_or bytes 0 0 ≡ 0) ⊎ ((get_or bytes 0 0 ≡ 1) × StartsWith IsIdentifierBytes (drop 1 bytes))
+
+pub origin_there : (bytes : List ℕ) → StartsWith IsOriginBytes bytes → OriginThere bytes
+origin_there bytes t = by_origin t.2.0 t.2.1 (t.4 ∙ ap (λ (f : List ℕ). f ++ t.1) t.2.2)
+  where
+    by_origin : (origin : Option Identifier) → IsOrigin origin → bytes ≡ origin_bytes origin ++ t.1 → OriginThere bytes
+    by_origin None valid is = record { some = omega (arith, ap length is); tag = inl (ap (λ (x : List ℕ). get_or x 0 0) is) }
+    by_origin (Some id) valid is =
+        record { some = omega (arith, ap length is); tag = inr (ap (λ (x : List ℕ). get_or x 0 0) is, (id_bytes id, t.1, (id, valid, refl), tt, ap (drop 1) is)) }
+
 -- an origin that is not the start or the end
 pub tagged : (bytes : List ℕ) → StartsWith IsOriginBytes bytes → (get_or bytes 0 0 ≡ 0 → ⊥) → StartsWith IsIdentifierBytes (take (length bytes - 1) (drop 1 bytes))
-tagged bytes t other = by_origin t.2.0 t.2.1 (t.4 ∙ ap (λ (f : List ℕ). f ++ t.1) t.2.2)
-  where
-    by_origin : (origin : Option Identifier) → IsOrigin origin → bytes ≡ origin_bytes origin ++ t.1 → StartsWith IsIdentifierBytes (take (length bytes - 1) (drop 1 bytes))
-    by_origin None valid is = absurd (other (ap (λ (x : List ℕ). get_or x 0 0) is))
-    by_origin (Some id) valid is =
-        (id_bytes id, t.1, (id, valid, refl), tt, ap (λ (x : List ℕ). take (length x - 1) (drop 1 x)) is ∙ take_all (length (origin_bytes (Some id) ++ t.1) - 1) (id_bytes id ++ t.1) (omega arith))
+tagged bytes t other = elim (origin_there bytes t).tag [
+  | inl start ↦ absurd (other start)
+  | inr one ↦ subst (StartsWith IsIdentifierBytes) (sym (take_rest bytes 1)) one.1
+]
 
 -- the text behind a title's length
 pub text_there : (bytes : List ℕ) (t : IsLast Title bytes) → take (length bytes - 2) (drop 2 bytes) ≡ encode_utf8_all t.0

@@ -1,6 +1,7 @@
 -- What the first frame of some bytes is, and what a whole frame says.
 use Rattle.std.specs.Prelude.{◌≡◌, ◌↔◌, ℕ, ◌-◌, ◌≤◌, List, ◌∷◌, length, take, drop}
 use Rattle.fugue_ids.specs.declared.op.Op.{Op}
+use Rattle.fugue_ids.specs.declared.op.Op.TheVariants.{Delete, Text}
 use Rattle.origin_model.specs.declared.grammar.Grammar.{Grammar}
 use Rattle.origin_model.specs.declared.grammar.Grammar.TheVariants.{Version2}
 use Rattle.origin_model.specs.frames.Frames.{frame, Begins, HasFrame, IsBad, IsPartial}
@@ -31,9 +32,19 @@ FrontIs (FrameThere len) grammar bytes = (len ≤ length bytes) × IsFrameOf gra
 FrontIs PrefixThere grammar bytes = IsPartial grammar bytes
 FrontIs NoneThere grammar bytes = IsBad grammar bytes
 
--- a letter's frame of so many bytes stands there: each grammar has it
+-- the operation is a Text or a Delete, as nearly every one is
+abbrev pub IsLetter : Op → Type 0
+IsLetter (Text id section left right ch) = Unit {0}
+IsLetter (Delete target) = Unit {0}
+IsLetter op = ⊥
+
+-- the bytes are the frame of a letter
+abbrev pub IsLetterFrame : List ℕ → Type 0
+IsLetterFrame bytes = (op : Op) × IsLetter op × HasFrame op × (bytes ≡ frame op)
+
+-- the first so many bytes are the frame of a letter
 abbrev pub IsLetterFront : ℕ → List ℕ → Type 0
-IsLetterFront len bytes = (grammar : Grammar) → FrontIs (FrameThere len) grammar bytes
+IsLetterFront len bytes = (len ≤ length bytes) × IsLetterFrame (take len bytes)
 
 -- a field stands between two places of the bytes
 pub record IsBetween (Field : List ℕ → Type 0) (bytes : List ℕ) (at end : ℕ) : Type 0 where

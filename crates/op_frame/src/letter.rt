@@ -1,13 +1,15 @@
-ghost use Rattle.std.specs.Prelude.{◌≡◌, ◌≤◌, [], ◌∷◌, length, take, true, IfSome};
-ghost use Rattle.op_frame.specs.Firsts.{IsBetween, IsLetterFront};
+ghost use Rattle.std.specs.Prelude.{◌≡◌, ◌≤◌, [], ◌∷◌, length, take, drop, IfNone, IfSome, IsFalse, IsTrue};
+ghost use Rattle.op_frame.specs.Firsts.{IsBetween, IsLetterFrame, IsLetterFront, StartsWith};
 ghost use Rattle.op_frame.specs.FrameFronts.{IsIdentifierBytes, IsOriginBytes, IsScalarBytes};
 
 use crate::number::{number, scalar_of};
 use crate::protocol::{DELETE, TEXT};
 
-/// The length of the frame of a letter, a Text or a Delete, if all of it stands at the front of the bytes.
+/// The length of the frame of a letter, a Text or a Delete. None is the answer where not all of one stands at the front
+/// of the bytes.
 pub(crate) fn letter_front(bytes: &[u8]) -> Option<usize>
-    ensures { IfSome result (λ len. IsLetterFront len bytes.now) }
+    ensures none { IfNone result (StartsWith IsLetterFrame bytes.now → ⊥) }
+    ensures some { IfSome result (λ len. IsLetterFront len bytes.now) }
 {
     if bytes.is_empty() {
         return None;
@@ -22,7 +24,8 @@ pub(crate) fn letter_front(bytes: &[u8]) -> Option<usize>
 /// Where the frame of a Text ends.
 fn text_end(bytes: &[u8]) -> Option<usize>
     requires { take 1 bytes.now ≡ TEXT ∷ [] }
-    ensures { IfSome result (λ end. IsLetterFront end bytes.now) }
+    ensures none { IfNone result (StartsWith IsLetterFrame bytes.now → ⊥) }
+    ensures some { IfSome result (λ end. IsLetterFront end bytes.now) }
 {
     let section = identifier_end(bytes, 1)?;
     let left = identifier_end(bytes, section)?;
@@ -34,7 +37,8 @@ fn text_end(bytes: &[u8]) -> Option<usize>
 /// Where the identifier ends that stands at this place.
 fn identifier_end(bytes: &[u8], at: usize) -> Option<usize>
     requires { at ≤ length bytes.now }
-    ensures { IfSome result (λ end. IsBetween IsIdentifierBytes bytes.now at end) }
+    ensures none { IfNone result (StartsWith IsIdentifierBytes (drop at bytes.now) → ⊥) }
+    ensures some { IfSome result (λ end. IsBetween IsIdentifierBytes bytes.now at end) }
 {
     if bytes.len() - at < 8 {
         return None;
@@ -49,7 +53,8 @@ fn identifier_end(bytes: &[u8], at: usize) -> Option<usize>
 /// Where the origin ends that stands at this place.
 fn origin_end(bytes: &[u8], at: usize) -> Option<usize>
     requires { at ≤ length bytes.now }
-    ensures { IfSome result (λ end. IsBetween IsOriginBytes bytes.now at end) }
+    ensures none { IfNone result (StartsWith IsOriginBytes (drop at bytes.now) → ⊥) }
+    ensures some { IfSome result (λ end. IsBetween IsOriginBytes bytes.now at end) }
 {
     if at == bytes.len() {
         return None;
@@ -64,7 +69,8 @@ fn origin_end(bytes: &[u8], at: usize) -> Option<usize>
 /// Where the scalar ends that stands at this place.
 fn scalar_end(bytes: &[u8], at: usize) -> Option<usize>
     requires { at ≤ length bytes.now }
-    ensures { IfSome result (λ end. IsBetween IsScalarBytes bytes.now at end) }
+    ensures none { IfNone result (StartsWith IsScalarBytes (drop at bytes.now) → ⊥) }
+    ensures some { IfSome result (λ end. IsBetween IsScalarBytes bytes.now at end) }
 {
     if bytes.len() - at < 3 {
         return None;
@@ -79,7 +85,8 @@ fn scalar_end(bytes: &[u8], at: usize) -> Option<usize>
 /// Whether these bytes are an identifier: there is no replica 0.
 fn is_identifier(bytes: &[u8]) -> bool
     requires { length bytes.now ≡ 8 }
-    ensures { result ≡ true → IsIdentifierBytes bytes.now }
+    ensures yes { IsTrue result → IsIdentifierBytes bytes.now }
+    ensures no { IsFalse result → IsIdentifierBytes bytes.now → ⊥ }
 {
     number(bytes) != 0
 }
@@ -87,7 +94,8 @@ fn is_identifier(bytes: &[u8]) -> bool
 /// Whether these bytes are a scalar.
 fn is_scalar(bytes: &[u8]) -> bool
     requires { length bytes.now ≡ 3 }
-    ensures { result ≡ true → IsScalarBytes bytes.now }
+    ensures yes { IsTrue result → IsScalarBytes bytes.now }
+    ensures no { IsFalse result → IsScalarBytes bytes.now → ⊥ }
 {
     scalar_of(bytes[0], bytes[1], bytes[2]).is_some()
 }
