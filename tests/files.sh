@@ -188,6 +188,8 @@ try 'the file is judged before the other one' nothing 6 '' 'not a replica\n' mer
 : >"$work/output"
 "$program" edit "$work/other_mark" <&- 2>"$work/notes"
 compare 'and before the input is read' $? 6 '' 'not a replica\n'
+"$program" check "$work/other_mark" <&- >"$work/output" 2>"$work/notes"
+compare 'of a certificate too' $? 6 '' 'not a replica\n'
 { head -c 13 "$f"; printf '\7'; tail -c +15 "$f"; } >"$work/closed"
 try 'a closed gate ends the meaning' nothing 0 '' '' print "$work/closed"
 head -c 106 "$f" >"$work/cut_file"
