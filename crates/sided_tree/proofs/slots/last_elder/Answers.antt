@@ -1,4 +1,4 @@
-use Rattle.std.proofs.Common.{of_calls, rules}
+use Rattle.std.proofs.Common.{rules}
 use Rattle.sided_tree.specs.Elders.{is_elder}
 use Rattle.sided_tree.proofs.slots.last_elder.Goals as goal
 
