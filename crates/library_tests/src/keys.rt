@@ -35,17 +35,27 @@ fn unset(pairs: &mut Pairs, id: ElementId) {
     }
 }
 
+/// Of two pairs the one with the greater identifier, where that of the second one is not above this one.
+fn higher(
+    found: Option<(ElementId, u32)>,
+    key: ElementId,
+    value: u32,
+    id: ElementId,
+) -> Option<(ElementId, u32)> {
+    if id < key {
+        return found;
+    }
+    match found {
+        Some((other, old)) if key < other => Some((other, old)),
+        _ => Some((key, value)),
+    }
+}
+
 /// The pair with the greatest identifier that is not above this one.
 fn floor_of(pairs: &Pairs, id: ElementId) -> Option<(ElementId, u32)> {
-    let mut floor: Option<(ElementId, u32)> = None;
-    for pair in pairs.iter() {
-        let greater = match floor {
-            Some(found) => found.0 < pair.0,
-            None => true,
-        };
-        if pair.0 <= id && greater {
-            floor = Some(*pair);
-        }
+    let mut floor = None;
+    for (key, value) in pairs.iter() {
+        floor = higher(floor, *key, *value, id);
     }
     floor
 }
