@@ -14,9 +14,13 @@ use Rattle.block_map.specs.declared.block.Block.{Block}
 pub block_replaced : {V : Type 0} (m n : BTreeMap Identifier (Block V)) (key : Identifier) (o : Option (Block V)) → UpdatesBy id_cmp (id_cmp key) m n o → IsReplaced (get id_cmp m) (get id_cmp n) key o
 block_replaced m n key o u = record { here = u.1; others = λ k apart. u.2 k (id_at-other key k apart) }
 
--- of two changes at one key the second stands
-pub replaced_again : {K X : Type 0} (f g h : K → X) (key : K) (v w : X) → IsReplaced f g key v → IsReplaced g h key w → IsReplaced f h key w
-replaced_again f g h key v w a b = record { here = b.here; others = λ k apart. b.others k apart ∙ a.others k apart }
+-- a block that changed, and was taken out then
+pub block_gone : {V : Type 0} (m mid n : BTreeMap Identifier (Block V)) (key : Identifier) (d : Block V) → UpdatesBy id_cmp (id_cmp key) m mid (Some d) → UpdatesBy id_cmp (id_cmp key) mid n None
+    → IsReplaced (get id_cmp m) (get id_cmp n) key None
+block_gone m mid n key d changed gone =
+    let first = block_replaced m mid key (Some d) changed in
+    let second = block_replaced mid n key None gone in
+    record { here = second.here; others = λ k apart. second.others k apart ∙ first.others k apart }
 
 -- what has no value there loses none
 pub replaced_none : {K X : Type 0} (f : K → X) (key : K) (w : X) → f key ≡ w → IsReplaced f f key w

@@ -6,10 +6,12 @@ use Rattle.std.specs.BTreeMap.{BTreeMap, get}
 use Rattle.std.specs.BTreeMap.Range.{IsLtBy}
 use Rattle.std.proofs.lemmas.Map.Keys.{ge_from_not_lt}
 use Rattle.fugue_ids.specs.Identifiers.{Identifier, id_cmp}
+use Rattle.fugue_ids.proofs.OrderLemmas.{IsBefore, at_most_cases, at_most_from_le, at_most_from_not_lt, before_from_lt, le_from_at_most, lt_from_before, not_lt_from_at_most}
 use Rattle.block_map.specs.Blocks.{AreBlocks, IsInBlockBefore, IsUpToInBlock, block_of, value_at, value_in, value_within, with_counter}
 use Rattle.block_map.specs.Floors.{HasNone, IsFloorKey, IsGreatest}
 use Rattle.block_map.specs.declared.block.Block.{Block}
-use Rattle.block_map.proofs.OrderLemmas.{IsBefore, before_by_block, before_from_lt, block_cases, counter_up_to, le_from_up_to, lt_from_before, not_lt_from_up_to, up_to_from_le, up_to_from_not_lt, up_to_in_block}
+use Rattle.block_map.proofs.ChangeLemmas.{no_value}
+use Rattle.block_map.proofs.OrderLemmas.{at_most_by_block, at_most_in_block, block_cases, counter_at_most}
 
 some_block : {V : Type 0} (o : Option (Block V)) (c : ℕ) → IsSome (value_within o c) → IsSome o
 some_block None c h = h
@@ -18,10 +20,6 @@ some_block (Some b) c h = refl
 is_some_by : {V : Type 0} (o : Option V) (v : V) → o ≡ Some v → IsSome o
 is_some_by None v e = absurd (cc)
 is_some_by (Some w) v e = refl
-
-not_none : {V : Type 0} (o : Option V) → o ≡ None → IsSome o → ⊥
-not_none None e h = absurd (cc)
-not_none (Some v) e h = absurd (cc)
 
 -- the entry of a block, under its identifier
 abbrev entry_under : {V : Type 0} → Identifier → Option (ℕ × V) → Option (Identifier × V)
@@ -43,7 +41,7 @@ module _ {V : Type 0} (m : BTreeMap Identifier (Block V)) (are : AreBlocks m) wh
 
     module _ (id : Identifier) (c : ℕ) (at : key ≡ block_of id) (is : c ≡ id.counter) where
       up_to_counter : (q : Identifier) → IsUpToInBlock id q → q.counter ≤ c
-      up_to_counter q p = let h = counter_up_to q id p.0 (up_to_from_le q id p.1) in omega (arith, h, is)
+      up_to_counter q p = let h = counter_at_most q id p.0 (at_most_from_le q id p.1) in omega (arith, h, is)
 
       -- the floor of a counter in its block
       entry_within : (o : Option (ℕ × V)) → IfNone o (HasNone (λ d. d ≤ c) (value_at b)) → IfSome o (IsGreatest nat_cmp (λ d. d ≤ c) (value_at b))
@@ -55,11 +53,11 @@ module _ {V : Type 0} (m : BTreeMap Identifier (Block V)) (are : AreBlocks m) wh
           let low : x.0 ≤ c = s.among in (
             tt,
             record {
-              among = (own ∙ at, le_from_up_to e id (up_to_in_block e id (own ∙ at) (omega (arith, low, is))));
+              among = (own ∙ at, le_from_at_most e id (at_most_in_block e id (own ∙ at) (omega (arith, low, is))));
               held = found_in e own ∙ s.held;
               greatest = λ q p h. (
                   let le = ge_from_not_lt x.0 q.counter (s.greatest q.counter (up_to_counter q p) (subst IsSome (found_in q (p.0 ∙ sym at)) h)) in
-                  not_lt_from_up_to e q (up_to_in_block q e (p.0 ∙ sym at ∙ sym own) le));
+                  not_lt_from_at_most e q (at_most_in_block q e (p.0 ∙ sym at ∙ sym own) le));
             },
           )
 
@@ -75,9 +73,9 @@ module _ {V : Type 0} (m : BTreeMap Identifier (Block V)) (are : AreBlocks m) wh
           record {
             among = subst (λ k. IsLtBy id_cmp k bound) (sym own) lt;
             held = found_in e own ∙ s.held;
-            greatest = λ q p h. not_lt_from_up_to e q (elim (up_to_from_not_lt key (block_of q) (last (block_of q) p (some_block (get id_cmp m (block_of q)) q.counter h))) [
-              | inl k ↦ inl (before_by_block q e (subst (λ z. IsBefore (block_of q) z) (sym own) k))
-              | inr same ↦ up_to_in_block q e (same ∙ sym own) (ge_from_not_lt x.0 q.counter (s.greatest q.counter tt (subst IsSome (found_in q same) h)))
+            greatest = λ q p h. not_lt_from_at_most e q (elim (at_most_cases (block_of q) key (at_most_from_not_lt key (block_of q) (last (block_of q) p (some_block (get id_cmp m (block_of q)) q.counter h)))) [
+              | inl k ↦ at_most_by_block q e (subst (λ z. IsBefore (block_of q) z) (sym own) k)
+              | inr same ↦ at_most_in_block q e (same ∙ sym own) (ge_from_not_lt x.0 q.counter (s.greatest q.counter tt (subst IsSome (found_in q same) h)))
             ]);
           },
         )
@@ -106,8 +104,8 @@ module _ {V : Type 0} (f : Identifier → Option V) (id : Identifier) where
   floor_within x g = (
     is_some_by (f x.0) x.1 g.held,
     g.among.1,
-    λ q le h. elim (block_cases q id (up_to_from_le q id le)) [
-      | inl k ↦ not_lt_from_up_to x.0 q (inl (before_by_block q x.0 (subst (λ z. IsBefore (block_of q) z) (sym g.among.0) k)))
+    λ q le h. elim (block_cases q id (at_most_from_le q id le)) [
+      | inl k ↦ not_lt_from_at_most x.0 q (at_most_by_block q x.0 (subst (λ z. IsBefore (block_of q) z) (sym g.among.0) k))
       | inr same ↦ g.greatest q (same, le) h
     ],
   )
@@ -115,16 +113,16 @@ module _ {V : Type 0} (f : Identifier → Option V) (id : Identifier) where
   -- and else what is found in the blocks before
   pub floor_before : (key : Identifier) → key ≡ block_of id → HasNone (IsUpToInBlock id) f → (o : Option (Identifier × V)) → IfNone o (HasNone (IsInBlockBefore key) f) → IfSome o (IsGreatest id_cmp (IsInBlockBefore key) f)
       → IsFloorKey f id (option_map (λ x. x.0) o)
-  floor_before key at own None n s = λ q le. elim (block_cases q id (up_to_from_le q id le)) [
+  floor_before key at own None n s = λ q le. elim (block_cases q id (at_most_from_le q id le)) [
     | inl k ↦ n q (subst (λ z. IsLtBy id_cmp (block_of q) z) (sym at) (lt_from_before (block_of q) (block_of id) k))
     | inr same ↦ own q (same, le)
   ]
   floor_before key at own (Some x) n s = (
     is_some_by (f x.0) x.1 s.held,
-    le_from_up_to x.0 id (inl (before_by_block x.0 id (before_from_lt (block_of x.0) (block_of id) (subst (λ z. IsLtBy id_cmp (block_of x.0) z) at s.among)))),
-    λ q le h. elim (block_cases q id (up_to_from_le q id le)) [
+    le_from_at_most x.0 id (at_most_by_block x.0 id (before_from_lt (block_of x.0) (block_of id) (subst (λ z. IsLtBy id_cmp (block_of x.0) z) at s.among))),
+    λ q le h. elim (block_cases q id (at_most_from_le q id le)) [
       | inl k ↦ s.greatest q (subst (λ z. IsLtBy id_cmp (block_of q) z) (sym at) (lt_from_before (block_of q) (block_of id) k)) h
-      | inr same ↦ absurd (not_none (f q) (own q (same, le)) h)
+      | inr same ↦ absurd (no_value (f q) (own q (same, le)) h)
     ],
   )
 

@@ -44,6 +44,13 @@ cases_id a b = elim (cases_Bool (id_eq a b)) [ inl e ↦ inl (id_eq-true a b e) 
 nat_cmp-eq : (a b : ℕ) → is_eq (nat_cmp a b) ≡ nat_eq a b
 nat_cmp-eq a b = grind (arith, nat_tests)
 
+-- a number compares as equal with itself, and with no other
+pub nat_at-same : (a : ℕ) → is_eq (nat_cmp a a) ≡ true
+nat_at-same a = nat_cmp-eq a a ∙ eq-eqb a a refl
+
+pub nat_at-other : (a b : ℕ) → b ≢ a → is_eq (nat_cmp a b) ≡ false
+nat_at-other a b n = grind (arith, nat_tests)
+
 -- the second of two comparisons decides where the first tells nothing apart
 then-eq : (o q : Ordering) → is_eq (ordering_then o q) ≡ (is_eq o && is_eq q)
 then-eq Less q = refl

@@ -3,6 +3,7 @@ pub mod TextLemmas
 pub mod JoinLemmas
 pub mod GatherLemmas
 pub mod IdentifierLemmas
+pub mod OrderLemmas
 pub mod OpLemmas
 pub mod PartedLemmas
 pub mod LowLemmas

@@ -1,5 +1,5 @@
 -- The elements of a list whose keys are at most a given one, and what a search for them finds.
-use Rattle.std.proofs.Common.{List, [], ap, append_assoc, inl, inr, refl, subst, sym, true, ◌++◌, ◌∙◌, ◌∷◌, ◌≡◌}
+use Rattle.std.proofs.Common.{List, [], ap, append_assoc, false, inl, inr, refl, subst, sym, true, ◌++◌, ◌∙◌, ◌∷◌, ◌≡◌}
 use Rattle.std.specs.List.{Contains}
 use Rattle.std.specs.Prelude.{None, Option, Some, filter, if◌then◌else◌}
 use Rattle.std.proofs.lemmas.Bool.{cases_Bool}
@@ -56,6 +56,10 @@ module _ (k : Key) where
   -- one low element
   pub low_one : (e : Keyed) (es : List Keyed) → is_low k e ≡ true → lows (e ∷ es) ≡ e ∷ lows es
   low_one e es t = ap (λ b. if b then e ∷ lows es else lows es) t
+
+  -- and one that is not
+  pub low_other : (e : Keyed) (es : List Keyed) → is_low k e ≡ false → lows (e ∷ es) ≡ lows es
+  low_other e es t = ap (λ b. if b then e ∷ lows es else lows es) t
 
   -- where a front ends with a low element, so do its low ones
   low_ends : (es : List Keyed) (from : Option Identifier) (front more : List Keyed) → Apart es → es ≡ front ++ more → EndsWith from front → HoldsOrigin (ids (lows es)) from → EndsWith from (lows front)

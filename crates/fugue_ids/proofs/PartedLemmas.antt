@@ -185,21 +185,28 @@ pub first_held : (es : List Keyed) → HoldsOrigin (ids es) (first_id es)
 first_held [] = tt
 first_held (e ∷ es) = contains_here e.id (ids es)
 
--- the last of a list that ends with an element
-pub last_ends : (es : List Keyed) (from : Option Identifier) → EndsWith from es → last_id es ≡ from
-last_ends es None e = ap last_id e
-last_ends es (Some x) (fs, e, is, same) = ap last_id is ∙ last_one fs e ∙ ap Some same
-  where
-    last_one : (fs : List Keyed) (e : Keyed) → last_id (fs ++ e ∷ []) ≡ Some e.id
-    last_one [] e = refl
-    last_one (f ∷ []) e = refl
-    last_one (f ∷ g ∷ fs) e = last_one (g ∷ fs) e
-
 -- the last of two parts is that of the second, where that has any
 pub last_behind : (xs : List Keyed) (y : Keyed) (ys : List Keyed) → last_id (xs ++ y ∷ ys) ≡ last_id (y ∷ ys)
 last_behind [] y ys = refl
 last_behind (x ∷ []) y ys = refl
 last_behind (x ∷ z ∷ xs) y ys = last_behind (z ∷ xs) y ys
+
+pub last_tail : (xs ys : List Keyed) (y : Identifier) → last_id ys ≡ Some y → last_id (xs ++ ys) ≡ Some y
+last_tail xs [] y e = cc
+last_tail xs (z ∷ zs) y e = last_behind xs z zs ∙ e
+
+pub last_push : (es : List Keyed) (e : Keyed) → last_id (es ++ e ∷ []) ≡ Some e.id
+last_push es e = last_behind es e []
+
+-- the first of two parts is that of the first, where that has any
+pub first_front : (xs ys : List Keyed) (y : Identifier) → first_id xs ≡ Some y → first_id (xs ++ ys) ≡ Some y
+first_front [] ys y e = cc
+first_front (x ∷ xs) ys y e = e
+
+-- the last of a list that ends with an element
+pub last_ends : (es : List Keyed) (from : Option Identifier) → EndsWith from es → last_id es ≡ from
+last_ends es None e = ap last_id e
+last_ends es (Some x) (fs, e, is, same) = ap last_id is ∙ last_push fs e ∙ ap Some same
 
 -- a list that has any has a last one
 pub last_some : (y : Keyed) (ys : List Keyed) → (z : Identifier) × (last_id (y ∷ ys) ≡ Some z) × Contains (ids (y ∷ ys)) z

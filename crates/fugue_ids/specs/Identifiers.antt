@@ -1,5 +1,5 @@
 -- Identifiers, as contracts see them, and their order.
-use Rattle.std.specs.Prelude.{ℕ, Bool, ◌&&◌, ◌||◌, nat_eq, nat_lt, Option, Some, None, true, false}
+use Rattle.std.specs.Prelude.{ℕ, ◌≡◌, ◌<◌, ◌≤◌, ◌⊎◌, Bool, ◌&&◌, ◌||◌, nat_eq, nat_lt, Option, Some, None, true, false}
 use Rattle.std.specs.Ordering.{nat_cmp, ordering_then}
 use Rattle.std.specs.declared.cmp.Ordering.{Ordering}
 use Rattle.std.specs.Cmp.{IsEquivalence}
@@ -21,6 +21,10 @@ id_lt a b = nat_lt a.replica b.replica || (nat_eq a.replica b.replica && nat_lt 
 -- the same order, as a comparison
 abbrev pub id_cmp : Identifier → Identifier → Ordering
 id_cmp a b = ordering_then (nat_cmp a.replica b.replica) (nat_cmp a.counter b.counter)
+
+-- a does not stand behind b
+abbrev pub IsAtMost : Identifier → Identifier → Type 0
+IsAtMost a b = (a.replica < b.replica) ⊎ ((a.replica ≡ b.replica) × (a.counter ≤ b.counter))
 
 -- the same origin
 abbrev pub origin_eq : Option Identifier → Option Identifier → Bool

@@ -22,7 +22,7 @@ use Rattle.replica_core.specs.Index.{ArePositions, IsFree, IsIndex, IsUnnoted, a
 use Rattle.stretch_map.specs.Ahead.{ahead}
 use Rattle.stretch_map.specs.Rules.{IsFollowed, later}
 use Rattle.stretch_map.specs.declared.follows.Position.{Position}
-use Rattle.stretch_map.proofs.OrderLemmas.{id_cmp_total}
+use Rattle.fugue_ids.proofs.OrderLemmas.{id_cmp_total}
 
 -- a Ready operation is not there, and neither is its identifier
 pub is_new : (h : List Op) (op : Op) → verdict h op ≡ Ready → (has_op h op ≡ false) × (id_held h (id_of op) ≡ false)

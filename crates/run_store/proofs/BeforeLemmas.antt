@@ -5,9 +5,11 @@ use Rattle.std.specs.List.{AllPairs, Contains}
 use Rattle.fugue_ids.specs.Identifiers.{Identifier}
 use Rattle.fugue_ids.specs.Keys.{first_id, front_of, last_id}
 use Rattle.fugue_ids.specs.Listed.{index_of}
+use Rattle.fugue_ids.proofs.IdentifierLemmas.{not_some}
 use Rattle.fugue_ids.proofs.ListLemmas.{contains_cases, contains_middle, contains_none}
 use Rattle.node_rope.specs.Items.{value_under}
 use Rattle.std.proofs.lemmas.List.{map-append}
+use Rattle.std.proofs.lemmas.Option.{none-some}
 use Rattle.run_store.specs.Cells.{cell_of, cell_ids, keyed_cells}
 use Rattle.run_store.specs.NewCells.{cell_before}
 use Rattle.run_store.specs.Runs.{AreRuns, cells_in}
@@ -66,7 +68,7 @@ module _ (cs : List Cell) (d : AllPairs (λ x y. x ≢ y) (cell_ids cs)) (x : Id
   is-behind y e =
       let p = around cs x c in
       elim (last-member p.front) [
-        | inl none ↦ absurd (some-none (e ∙ ap last_id (front-other p) ∙ ap (λ zs. last_id (keyed_cells zs)) none))
+        | inl none ↦ absurd (not_some y (e ∙ ap last_id (front-other p) ∙ ap (λ zs. last_id (keyed_cells zs)) none))
         | inr q ↦
             let f : Some y ≡ Some q.1.id = e ∙ ap last_id (front-other p) ∙ ap (λ zs. last_id (keyed_cells zs)) q.2 ∙ last-keyed q.0 q.1 in
             let same : y ≡ q.1.id = cc in
@@ -84,9 +86,6 @@ module _ (cs : List Cell) (d : AllPairs (λ x y. x ≢ y) (cell_ids cs)) (x : Id
                   ∙ sym ((λ i. cell_of (is i) (same i)) ∙ cell-at q.1.id q.0 q.1 back others refl);
             }
       ]
-    where
-      some-none : Some y ≡ None → ⊥
-      some-none e = cc
 
   -- nothing stands before the first one
   pub is-first : None ≡ last_id (front_of (Some x) (keyed_cells cs)) → (index_of (cell_ids cs) x ≡ 0) × (first_id (keyed_cells cs) ≡ Some x)
@@ -96,9 +95,6 @@ module _ (cs : List Cell) (d : AllPairs (λ x y. x ≢ y) (cell_ids cs)) (x : Id
         | inl none ↦ (index-other p ∙ ap (λ (zs : List Cell). length zs) none, ap (λ zs. first_id (keyed_cells zs)) (p.is ∙ ap (λ zs. zs ++ p.cell ∷ p.back) none) ∙ ap Some p.named)
         | inr q ↦ absurd (none-some q.1.id (e ∙ ap last_id (front-other p) ∙ ap (λ zs. last_id (keyed_cells zs)) q.2 ∙ last-keyed q.0 q.1))
       ]
-    where
-      none-some : (y : Identifier) → None ≡ Some y → ⊥
-      none-some y e = cc
 
 -- the first cell is the key of a run
 pub first-key : (r : Runs) → AreRuns r → (x : Identifier) → first_id (keyed_cells (cells_in r)) ≡ Some x → is_some (value_under x r.rope) ≡ true

@@ -4,9 +4,11 @@ use Rattle.std.specs.Prelude.{None, Some}
 use Rattle.std.specs.List.{Contains}
 use Rattle.fugue_ids.specs.Identifiers.{Identifier}
 use Rattle.fugue_ids.proofs.ListLemmas.{contains_middle}
+use Rattle.fugue_ids.proofs.OrderLemmas.{at_most_from_le}
 use Rattle.node_rope.specs.Items.{value_under}
 use Rattle.node_rope.specs.Places.{IsFloor}
 use Rattle.std.proofs.lemmas.List.{map-append}
+use Rattle.std.proofs.lemmas.Option.{none-some}
 use Rattle.run_store.specs.Cells.{cell_of, cell_ids}
 use Rattle.origin_model.specs.frames.Framings.{id_behind}
 use Rattle.run_store.specs.Heads.{head_behind}
@@ -15,13 +17,10 @@ use Rattle.run_store.specs.declared.cell.Cell.{Cell}
 use Rattle.run_store.specs.declared.run.Run.{Run}
 use Rattle.run_store.specs.declared.run.Runs.{Runs}
 use Rattle.run_store.proofs.CellLemmas.{cell-at, cell-none, others-absent}
-use Rattle.run_store.proofs.FloorLemmas.{contains-run, floor-is, gt-parts}
+use Rattle.run_store.proofs.FloorLemmas.{contains-run, floor-is}
 use Rattle.run_store.proofs.HeadLemmas.{behind-depth, behind-id}
 use Rattle.run_store.proofs.CutLemmas.{cell-fits}
 use Rattle.run_store.proofs.RunsLemmas.{cell_there, cells_before, cells_behind, kept-run, located}
-
-none-some : {X : Type 0} (x : X) → None ≡ Some x → ⊥
-none-some x e = cc
 
 module _ (r : Runs) (s : AreRuns r) (x : Identifier) where
   pub no-floor : IsFloor r.rope x None → Contains (cell_ids (cells_in r)) x → ⊥
@@ -51,7 +50,7 @@ module _ (r : Runs) (s : AreRuns r) (x : Identifier) where
         omega (arith, far replicas, p.inside, ap (λ (i : Identifier). i.counter) at, ap (λ (i : Identifier). i.counter) e, ap (λ (z : Run). z.len) same)
 
     pub counters-up : k.replica ≡ x.replica → k.counter ≤ x.counter
-    counters-up e = let up = gt-parts k.replica x.replica k.counter x.counter f.1 in grind (arith, up, e)
+    counters-up e = let up = at_most_from_le k x f.1 in grind (arith, up, e)
 
   -- the cell at a spot
   pub cell-found : (run : Run) (o : ℕ) → IsSpot r.rope x run o → cell_of (cells_in r) x ≡ Some (cell_there r.letters run o)

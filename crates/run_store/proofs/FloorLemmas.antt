@@ -1,8 +1,8 @@
 -- The run of an identifier is the one under the greatest first identifier that is not above it.
-use Rattle.std.proofs.Common.{◌≡◌, ◌⊎◌, ℕ, suc, ◌+◌, ◌-◌, ◌<◌, ◌≤◌, false, List, [], ◌∷◌, ◌++◌, ap, arith, inl, inr, length, subst, sym, ◌∙◌}
+use Rattle.std.proofs.Common.{◌≡◌, ◌⊎◌, ℕ, suc, ◌+◌, ◌-◌, ◌<◌, ◌≤◌, false, List, [], ◌∷◌, ◌++◌, ap, arith, inl, inr, length, refl, subst, sym, ◌∙◌}
 use Rattle.std.specs.Prelude.{Option, None, Some, is_some}
 use Rattle.std.specs.List.{All, Contains}
-use Rattle.std.specs.Ordering.{is_gt, is_lt, nat_cmp, ordering_then}
+use Rattle.std.specs.Ordering.{is_gt, is_lt}
 use Rattle.std.proofs.lemmas.Bool.{true≢false}
 use Rattle.std.proofs.lemmas.Bool.Decides.{nat_tests}
 use Rattle.std.proofs.lemmas.List.{map-append}
@@ -10,6 +10,7 @@ use Rattle.std.proofs.lemmas.List.Elements.{All-head, All-tail, Contains-append_
 use Rattle.fugue_ids.specs.Identifiers.{Identifier, id_cmp}
 use Rattle.fugue_ids.proofs.IdentifierLemmas.{cases_id, ne-id_eq}
 use Rattle.fugue_ids.proofs.ListLemmas.{contains_cases, contains_none}
+use Rattle.fugue_ids.proofs.OrderLemmas.{at_most_from_le, at_most_from_not_lt, le_from_at_most}
 use Rattle.node_rope.specs.Items.{value_under}
 use Rattle.node_rope.specs.Places.{IsFloor}
 use Rattle.run_store.specs.Cells.{cell_ids}
@@ -58,25 +59,12 @@ contains-run L n (i ∷ xs) x a c =
           record { front = i ∷ p.front; back = p.back; run = p.run; offset = p.offset; is = ap (λ ys. i ∷ ys) p.is; inside = p.inside; named = p.named }
     ]
 
--- the order of identifiers, by their numbers
-abbrev pub IsUpTo : Identifier → Identifier → Type 0
-IsUpTo a b = (a.replica < b.replica) ⊎ ((a.replica ≡ b.replica) × (a.counter ≤ b.counter))
-
-pub gt-parts : (r s c d : ℕ) → is_gt (ordering_then (nat_cmp r s) (nat_cmp c d)) ≡ false → (r < s) ⊎ ((r ≡ s) × (c ≤ d))
-gt-parts r s c d h = grind (arith, nat_tests)
-
-pub lt-parts : (r s c d : ℕ) → is_lt (ordering_then (nat_cmp r s) (nat_cmp c d)) ≡ false → (s < r) ⊎ ((r ≡ s) × (d ≤ c))
-lt-parts r s c d h = grind (arith, nat_tests)
-
-le-same : (r c d : ℕ) → c ≤ d → is_gt (ordering_then (nat_cmp r r) (nat_cmp c d)) ≡ false
-le-same r c d h = grind (arith, nat_tests)
-
 -- an identifier between the first one of a run and another of its cells is that of a cell
 between-cells : (h : Head) (o : ℕ) (f : Identifier) → is_gt (id_cmp f (id_behind h.id o)) ≡ false → is_lt (id_cmp f h.id) ≡ false
     → (n : ℕ) × (n ≤ o) × (f ≡ (head_behind n h).id)
 between-cells h o f up low =
-    let u = gt-parts f.replica h.id.replica f.counter (h.id.counter + o) up in
-    let l = lt-parts f.replica h.id.replica f.counter h.id.counter low in
+    let u = at_most_from_le f (id_behind h.id o) up in
+    let l = at_most_from_not_lt f h.id low in
     let r : f.replica ≡ h.id.replica = grind (arith, u, l) in
     let c : h.id.counter ≤ f.counter = grind (arith, u, l) in
     let d : f.counter ≤ h.id.counter + o = grind (arith, u, l) in
@@ -101,7 +89,7 @@ floor-is r s x f floor p = (by_floor f floor, there)
     at = p.named ∙ behind-id p.offset (first_of p.run)
 
     low : is_gt (id_cmp k x) ≡ false
-    low = subst (λ y. is_gt (id_cmp k y) ≡ false) (sym at) (le-same k.replica k.counter (k.counter + p.offset) (omega arith))
+    low = subst (λ y. is_gt (id_cmp k y) ≡ false) (sym at) (le_from_at_most k (id_behind k p.offset) (inr (refl, omega arith)))
 
     by_floor : (g : Option Identifier) → IsFloor r.rope x g → g ≡ Some k
     by_floor None none = absurd (no_value (sym there ∙ none k low))

@@ -3,6 +3,7 @@ use Rattle.std.proofs.Common.{◌≡◌, ◌≢◌, ℕ, zero, suc, ◌+◌, ◌
 use Rattle.std.specs.Prelude.{slice_index_or, slice_set}
 use Rattle.std.specs.List.{All, AllPairs, Contains, insert}
 use Rattle.std.proofs.lemmas.List.{length-set, length-take-le, take-append-drop}
+use Rattle.std.proofs.lemmas.List.Edits.{length-insert}
 use Rattle.fugue_ids.specs.Listed.{index_of}
 use Rattle.fugue_ids.proofs.ListLemmas.{all_before, all_behind, all_from_contains, all_pairs_insert}
 use Rattle.run_store.specs.Cells.{cell_ids}
@@ -34,11 +35,6 @@ distinct-insert cs k c d fresh =
     (all_pairs_insert (λ x y. x ≢ y) xs k c.id d
     (all_before (λ y. y ≢ c.id) (take k xs) (drop k xs) (subst (All (λ y. y ≢ c.id)) e left))
     (all_behind (λ y. c.id ≢ y) (take k xs) (drop k xs) (subst (All (λ y. c.id ≢ y)) e right)))
-
-pub length-insert : {X : Type 0} (xs : List X) (k : ℕ) (x : X) → k ≤ length xs → length (insert xs k x) ≡ suc (length xs)
-length-insert xs zero x l = refl
-length-insert [] (suc k) x l = absurd (omega (arith, l))
-length-insert (y ∷ xs) (suc k) x l = ap suc (length-insert xs k x (omega (arith, l)))
 
 -- the place of the cell at a place of a run
 pub index-placed : (r : Runs) (front : List Item) (run : Run) (o : ℕ) (back : List Item) → IsPlaced r front run o back → o < run.len

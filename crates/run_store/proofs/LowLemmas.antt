@@ -2,14 +2,16 @@
 use Rattle.std.proofs.Common.{◌≡◌, ◌⊎◌, ℕ, zero, suc, ◌+◌, ◌<◌, ◌≤◌, ◌^◌, Bool, true, false, not, List, [], ◌∷◌, ◌++◌, ap, append-nil, arith, cond, inl, inr, length, length-drop, refl, subst, sym, take, drop, get_or, ◌∙◌}
 use Rattle.std.specs.Prelude.{Option, None, Some, filter, nat_le, option_map, slice_get}
 use Rattle.std.specs.List.{All}
-use Rattle.std.proofs.lemmas.Bool.{cases_Bool}
+use Rattle.std.proofs.lemmas.Bool.{cases_Bool, cases_lt}
 use Rattle.std.proofs.lemmas.Bool.Decides.{nat_tests}
-use Rattle.std.proofs.lemmas.List.{map-append, take-append-drop}
-use Rattle.fugue_ids.proofs.ListLemmas.{all_before, all_behind}
+use Rattle.std.proofs.lemmas.List.{drop_all, map-append}
 use Rattle.std.proofs.lemmas.List.Elements.{All-head, All-tail, filter-append}
 use Rattle.fugue_ids.specs.Identifiers.{Identifier}
 use Rattle.fugue_ids.specs.Keys.{Keyed, first_id, first_low, is_low, key_lt, last_id, last_low}
 use Rattle.fugue_ids.specs.declared.key.Key.{Key}
+use Rattle.fugue_ids.proofs.LowLemmas.{low_one, low_other}
+use Rattle.fugue_ids.proofs.PartLemmas.{no_first, no_last}
+use Rattle.fugue_ids.proofs.PartedLemmas.{first_front, last_push, last_some, last_tail}
 use Rattle.node_rope.specs.Low.{first_low as first_run, if_low, last_low as last_run, or_else}
 use Rattle.run_store.specs.Cells.{keyed_cells}
 use Rattle.run_store.specs.Heads.{head_behind, lettered, next_head, rank_of, typed_cells}
@@ -17,65 +19,20 @@ use Rattle.run_store.specs.Runs.{IsRun, all_cells, cells_of, first_of, letters_o
 use Rattle.run_store.specs.declared.cell.Cell.{Cell}
 use Rattle.run_store.specs.declared.cell.Head.{Head}
 use Rattle.run_store.proofs.HeadLemmas.{behind-depth, behind-forest, typed-at}
-use Rattle.run_store.proofs.PlaceLemmas.{drop-all}
 use Rattle.run_store.proofs.RunsLemmas.{Item, length-letters}
 
 -- ranks compare as keys do
 rank-low : (k a : Key) → k.forest < 2 ^ 32 → a.forest < 2 ^ 32 → nat_le (rank_of a) (rank_of k) ≡ not (key_lt k a)
 rank-low k a f g = grind (arith, nat_tests, f, g)
 
--- the last of a list with a last member
-last-push : (es : List Keyed) (e : Keyed) → last_id (es ++ e ∷ []) ≡ Some e.id
-last-push [] e = refl
-last-push (a ∷ []) e = refl
-last-push (a ∷ b ∷ es) e = last-push (b ∷ es) e
-
--- a list that ends in another ends as that one
-last-tail : (xs ys : List Keyed) (y : Identifier) → last_id ys ≡ Some y → last_id (xs ++ ys) ≡ Some y
-last-tail [] ys y e = e
-last-tail (x ∷ []) [] y e = cc
-last-tail (x ∷ []) (z ∷ ys) y e = e
-last-tail (x ∷ z ∷ xs) ys y e = last-tail (z ∷ xs) ys y e
-
--- a list with a first member has a last one
-last-some : (e : Keyed) (es : List Keyed) → (z : Identifier) × (last_id (e ∷ es) ≡ Some z)
-last-some e [] = (e.id, refl)
-last-some e (f ∷ es) = last-some f es
-
-last-none : (es : List Keyed) → last_id es ≡ None → es ≡ []
-last-none [] e = refl
-last-none (a ∷ es) e = let s = last-some a es in cc
-
--- a number is less than another, or not
-nat_split : (m n : ℕ) → (m < n) ⊎ (n ≤ m)
-nat_split m zero = inr (omega arith)
-nat_split zero (suc n) = inl (omega arith)
-nat_split (suc m) (suc n) = elim (nat_split m n) [ inl l ↦ inl (omega (arith, l)) | inr l ↦ inr (omega (arith, l)) ]
-
--- a list that begins with another begins as that one
-first-head : (xs ys : List Keyed) (y : Identifier) → first_id xs ≡ Some y → first_id (xs ++ ys) ≡ Some y
-first-head [] ys y e = cc
-first-head (x ∷ xs) ys y e = e
-
-first-none : (es : List Keyed) → first_id es ≡ None → es ≡ []
-first-none [] e = refl
-first-none (a ∷ es) e = cc
-
 module _ (k : Key) where
-  -- one that is low enough stays, and another goes
-  keep : (e : Keyed) (es : List Keyed) → not (key_lt k e.key) ≡ true → filter (is_low k) (e ∷ es) ≡ e ∷ filter (is_low k) es
-  keep e es l = rw (l, filter)
-
-  leave : (e : Keyed) (es : List Keyed) → not (key_lt k e.key) ≡ false → filter (is_low k) (e ∷ es) ≡ filter (is_low k) es
-  leave e es l = rw (l, filter)
-
   -- the keys of a run rise
   high-next : (h : Head) → not (key_lt k h.key) ≡ false → not (key_lt k (next_head h).key) ≡ false
   high-next h l = grind (arith, nat_tests)
 
   none-low : (h : Head) (ls : List ℕ) → not (key_lt k h.key) ≡ false → filter (is_low k) (keyed_cells (typed_cells h ls)) ≡ []
   none-low h [] l = refl
-  none-low h (c ∷ cs) l = leave (record { id = h.id; key = h.key }) (keyed_cells (typed_cells (next_head h) cs)) l ∙ none-low (next_head h) cs (high-next h l)
+  none-low h (c ∷ cs) l = low_other k (record { id = h.id; key = h.key }) (keyed_cells (typed_cells (next_head h) cs)) l ∙ none-low (next_head h) cs (high-next h l)
 
   -- the parts of a filtered list
   parts-low : (cs ds : List Cell) → filter (is_low k) (keyed_cells (cs ++ ds)) ≡ filter (is_low k) (keyed_cells cs) ++ filter (is_low k) (keyed_cells ds)
@@ -84,33 +41,33 @@ module _ (k : Key) where
   -- the first low cell is the first of a run that is low, and in no run that is not
   pub first-typed-low : (h : Head) (ls : List ℕ) (cs : List Cell) → 0 < length ls → not (key_lt k h.key) ≡ true → first_low k (keyed_cells (typed_cells h ls ++ cs)) ≡ Some h.id
   first-typed-low h [] cs l e = absurd (omega (arith, l))
-  first-typed-low h (c ∷ ls) cs l e = ap first_id (keep (record { id = h.id; key = h.key }) (keyed_cells (typed_cells (next_head h) ls ++ cs)) e)
+  first-typed-low h (c ∷ ls) cs l e = ap first_id (low_one k (record { id = h.id; key = h.key }) (keyed_cells (typed_cells (next_head h) ls ++ cs)) e)
 
   pub past-typed : (h : Head) (ls : List ℕ) (cs : List Cell) → not (key_lt k h.key) ≡ false → first_low k (keyed_cells (typed_cells h ls ++ cs)) ≡ first_low k (keyed_cells cs)
   past-typed h ls cs e = ap first_id (parts-low (typed_cells h ls) cs ∙ ap (λ t. t ++ filter (is_low k) (keyed_cells cs)) (none-low h ls e))
 
   -- the first low cell of two parts
   pub first-front : (cs ds : List Cell) (y : Identifier) → first_low k (keyed_cells cs) ≡ Some y → first_low k (keyed_cells (cs ++ ds)) ≡ Some y
-  first-front cs ds y e = ap first_id (parts-low cs ds) ∙ first-head (filter (is_low k) (keyed_cells cs)) (filter (is_low k) (keyed_cells ds)) y e
+  first-front cs ds y e = ap first_id (parts-low cs ds) ∙ first_front (filter (is_low k) (keyed_cells cs)) (filter (is_low k) (keyed_cells ds)) y e
 
   pub first-past : (cs ds : List Cell) → first_low k (keyed_cells cs) ≡ None → first_low k (keyed_cells (cs ++ ds)) ≡ first_low k (keyed_cells ds)
-  first-past cs ds e = ap first_id (parts-low cs ds ∙ ap (λ t. t ++ filter (is_low k) (keyed_cells ds)) (first-none (filter (is_low k) (keyed_cells cs)) e))
+  first-past cs ds e = ap first_id (parts-low cs ds ∙ ap (λ t. t ++ filter (is_low k) (keyed_cells ds)) (no_first (filter (is_low k) (keyed_cells cs)) e))
 
   -- the last low cell of two parts
   last-front : (cs ds : List Cell) → filter (is_low k) (keyed_cells ds) ≡ [] → last_low k (keyed_cells (cs ++ ds)) ≡ last_low k (keyed_cells cs)
   last-front cs ds e = ap last_id (parts-low cs ds ∙ ap (λ t. filter (is_low k) (keyed_cells cs) ++ t) e ∙ append-nil (filter (is_low k) (keyed_cells cs)))
 
   pub last-back : (cs ds : List Cell) (y : Identifier) → last_low k (keyed_cells ds) ≡ Some y → last_low k (keyed_cells (cs ++ ds)) ≡ Some y
-  last-back cs ds y e = ap last_id (parts-low cs ds) ∙ last-tail (filter (is_low k) (keyed_cells cs)) (filter (is_low k) (keyed_cells ds)) y e
+  last-back cs ds y e = ap last_id (parts-low cs ds) ∙ last_tail (filter (is_low k) (keyed_cells cs)) (filter (is_low k) (keyed_cells ds)) y e
 
   pub last-none-back : (cs ds : List Cell) → last_low k (keyed_cells ds) ≡ None → last_low k (keyed_cells (cs ++ ds)) ≡ last_low k (keyed_cells cs)
-  last-none-back cs ds e = last-front cs ds (last-none (filter (is_low k) (keyed_cells ds)) e)
+  last-none-back cs ds e = last-front cs ds (no_last (filter (is_low k) (keyed_cells ds)) e)
 
   -- a cell that is low, and behind which none is
   last-at : (cs : List Cell) (c : Cell) (ds : List Cell) → not (key_lt k c.key) ≡ true → filter (is_low k) (keyed_cells ds) ≡ [] → last_low k (keyed_cells (cs ++ c ∷ ds)) ≡ Some c.id
   last-at cs c ds l e =
-      ap last_id (parts-low cs (c ∷ ds) ∙ ap (λ t. filter (is_low k) (keyed_cells cs) ++ t) (keep (record { id = c.id; key = c.key }) (keyed_cells ds) l ∙ ap (λ t. record { id = c.id; key = c.key } ∷ t) e))
-      ∙ last-push (filter (is_low k) (keyed_cells cs)) (record { id = c.id; key = c.key })
+      ap last_id (parts-low cs (c ∷ ds) ∙ ap (λ t. filter (is_low k) (keyed_cells cs) ++ t) (low_one k (record { id = c.id; key = c.key }) (keyed_cells ds) l ∙ ap (λ t. record { id = c.id; key = c.key } ∷ t) e))
+      ∙ last_push (filter (is_low k) (keyed_cells cs)) (record { id = c.id; key = c.key })
 
   -- by its depth a cell behind the first is low, or not
   deep-low : (a : Key) → a.depth ≤ k.depth → a.forest ≡ 0 → not (key_lt k a) ≡ true
@@ -122,9 +79,9 @@ module _ (k : Key) where
   -- what stands behind a place whose depth is as great is not low
   behind-high : (h : Head) (ls : List ℕ) (o : ℕ) → (suc o < length ls → k.depth ≤ h.key.depth + o) → filter (is_low k) (keyed_cells (typed_cells (head_behind (suc o) h) (drop (suc o) ls))) ≡ []
   behind-high h ls o n =
-      elim (nat_split (suc o) (length ls)) [
+      elim (cases_lt (suc o) (length ls)) [
         | inl l ↦ none-low (head_behind (suc o) h) (drop (suc o) ls) (deep-high (head_behind (suc o) h).key (omega (arith, n l, behind-depth (suc o) h)))
-        | inr l ↦ ap (λ xs. filter (is_low k) (keyed_cells (typed_cells (head_behind (suc o) h) xs))) (drop-all (suc o) ls l)
+        | inr l ↦ ap (λ xs. filter (is_low k) (keyed_cells (typed_cells (head_behind (suc o) h) xs))) (drop_all (suc o) ls l)
       ]
 
   -- the last low cell of a run stands at the last place whose depth is no greater
@@ -164,14 +121,14 @@ module _ (k : Key) where
   none-from h ls o d = ap first_id (none-low (head_behind o h) (drop o ls) (deep-high (head_behind o h).key (omega (arith, d, behind-depth o h))))
 
   pub past-end : (h : Head) (ls : List ℕ) (o : ℕ) → length ls ≤ o → first_low k (keyed_cells (typed_cells (head_behind o h) (drop o ls))) ≡ None
-  past-end h ls o l = ap (λ xs. first_low k (keyed_cells (typed_cells (head_behind o h) xs))) (drop-all o ls l)
+  past-end h ls o l = ap (λ xs. first_low k (keyed_cells (typed_cells (head_behind o h) xs))) (drop_all o ls l)
 
   -- a run whose first cell is low has a last low one
   last-there : (h : Head) (ls : List ℕ) → 0 < length ls → not (key_lt k h.key) ≡ true → (z : Identifier) × (last_low k (keyed_cells (typed_cells h ls)) ≡ Some z)
   last-there h [] l e = absurd (omega (arith, l))
   last-there h (c ∷ cs) l e =
-      let s = last-some (record { id = h.id; key = h.key }) (filter (is_low k) (keyed_cells (typed_cells (next_head h) cs))) in
-      (s.0, ap last_id (keep (record { id = h.id; key = h.key }) (keyed_cells (typed_cells (next_head h) cs)) e) ∙ s.1)
+      let s = last_some (record { id = h.id; key = h.key }) (filter (is_low k) (keyed_cells (typed_cells (next_head h) cs))) in
+      (s.0, ap last_id (low_one k (record { id = h.id; key = h.key }) (keyed_cells (typed_cells (next_head h) cs)) e) ∙ s.1)
 
   module _ (L : List (List ℕ)) (n : ℕ) (fits : k.forest < 2 ^ 32) (few : n < 2 ^ 32) where
     -- the rank of a run
@@ -247,10 +204,3 @@ module _ (k : Key) where
         run-in [] a y i e = cc
         run-in (z ∷ zs) a y zero e = let d : z ≡ y = cc in subst (IsRun L n) d (All-head (IsRun L n) z zs a)
         run-in (z ∷ zs) a y (suc i) e = run-in zs (All-tail (IsRun L n) z zs a) y i e
-
--- what holds of all holds of a rest, and of a front
-pub all-drop : {X : Type 0} (P : X → Type 0) (n : ℕ) (xs : List X) → All P xs → All P (drop n xs)
-all-drop P n xs a = all_behind P (take n xs) (drop n xs) (subst (All P) (sym (take-append-drop n xs)) a)
-
-pub all-take : {X : Type 0} (P : X → Type 0) (n : ℕ) (xs : List X) → All P xs → All P (take n xs)
-all-take P n xs a = all_before P (take n xs) (drop n xs) (subst (All P) (sym (take-append-drop n xs)) a)

@@ -3,6 +3,7 @@ use Rattle.std.proofs.Common.{◌≡◌, ℕ, zero, suc, ◌<◌, ◌^◌, List,
 use Rattle.std.specs.Prelude.{Option, None, Some, option_map, slice_get}
 use Rattle.std.specs.List.{All}
 use Rattle.std.proofs.lemmas.List.{length-take-le}
+use Rattle.std.proofs.lemmas.List.Elements.{All-take}
 use Rattle.fugue_ids.specs.Identifiers.{Identifier}
 use Rattle.fugue_ids.specs.Keys.{first_low, front_of, last_low, rest_of}
 use Rattle.fugue_ids.specs.declared.key.Key.{Key}
@@ -14,7 +15,7 @@ use Rattle.run_store.specs.Heads.{head_behind, rank_of, typed_cells}
 use Rattle.run_store.specs.Runs.{AreRuns, IsRun, IsSpot, all_cells, cells_in, cells_of, first_of, letters_of}
 use Rattle.run_store.specs.declared.run.Run.{Run}
 use Rattle.run_store.specs.declared.run.Runs.{Runs}
-use Rattle.run_store.proofs.LowLemmas.{all-take, first-front, first-past, last-back, last-none-back, last-run-low, last-runs, last_in, run_rank}
+use Rattle.run_store.proofs.LowLemmas.{first-front, first-past, last-back, last-none-back, last-run-low, last-runs, last_in, run_rank}
 use Rattle.run_store.proofs.PlaceLemmas.{placed-at, value-there}
 use Rattle.run_store.proofs.RunsLemmas.{Item, kept-run, length-letters, located}
 use Rattle.run_store.proofs.WalkLemmas.{front-spot, rest-spot}
@@ -42,7 +43,7 @@ module _ (r : Runs) (s : AreRuns r) (k : Key) (fits : k.forest < 2 ^ 32) where
   -- the last low run of the first ones, as the rope tells its key
   module _ (n m : ℕ) (rank : m ≡ rank_of k) where
     fronts : All (IsRun r.letters r.count) (take n r.rope)
-    fronts = all-take (IsRun r.letters r.count) n r.rope s.each
+    fronts = All-take (IsRun r.letters r.count) n r.rope s.each
 
     abbrev found : Option Item
     found = last_run (run_rank k r.letters r.count fits few) (rank_of k) (take n r.rope)

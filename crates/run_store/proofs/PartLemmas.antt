@@ -2,25 +2,16 @@
 use Rattle.std.proofs.Common.{◌≡◌, ℕ, zero, suc, ◌+◌, ◌-◌, ◌<◌, ◌≤◌, List, [], ◌∷◌, ◌++◌, ap, arith, get_or, length, length-drop, refl, sym, take, drop, ◌∙◌}
 use Rattle.std.specs.List.{All}
 use Rattle.std.proofs.Math.Seq.{take-add}
-use Rattle.std.proofs.lemmas.List.{drop-append-le, take-append-le}
+use Rattle.std.proofs.lemmas.List.{drop-append-le, drop-drop, take-append-le}
 use Rattle.std.proofs.lemmas.List.Elements.{All-append, All-tail}
 use Rattle.fugue_ids.proofs.ListLemmas.{all_before, all_behind}
 
 module _ {X : Type 0} where
-  drop-none : (k : ℕ) → ◌≡◌ {A = List X} (drop k []) []
-  drop-none zero = refl
-  drop-none (suc k) = refl
-
-  pub drop-drop : (m n : ℕ) (xs : List X) → drop n (drop m xs) ≡ drop (m + n) xs
-  drop-drop zero n xs = let e : n ≡ 0 + n = omega arith in ap (λ k. drop k xs) e
-  drop-drop (suc m) n [] = drop-none n ∙ sym (drop-none (suc m + n))
-  drop-drop (suc m) n (x ∷ xs) = let e : suc (m + n) ≡ suc m + n = omega arith in drop-drop m n xs ∙ ap (λ k. drop k (x ∷ xs)) e
-
   -- a part is two parts
   pub part-parts : (start n m : ℕ) (xs : List X) → n ≤ m → take m (drop start xs) ≡ take n (drop start xs) ++ take (m - n) (drop (start + n) xs)
   part-parts start n m xs l =
       let e : m ≡ n + (m - n) = omega (arith, l) in
-      ap (λ k. take k (drop start xs)) e ∙ take-add n (m - n) (drop start xs) ∙ ap (λ ys. take n (drop start xs) ++ take (m - n) ys) (drop-drop start n xs)
+      ap (λ k. take k (drop start xs)) e ∙ take-add n (m - n) (drop start xs) ∙ ap (λ ys. take n (drop start xs) ++ take (m - n) ys) (drop-drop n start xs)
 
   -- a part with its first member
   pub part-first : (d : X) (j k : ℕ) (xs : List X) → j < length xs → take (suc k) (drop j xs) ≡ get_or xs j d ∷ take k (drop (suc j) xs)

@@ -3,6 +3,7 @@ use Rattle.std.proofs.Common.{◌≡◌, ℕ, zero, suc, ◌-◌, ◌<◌, ◌�
 use Rattle.std.specs.Prelude.{Option, None, Some, option_map, slice_get}
 use Rattle.std.specs.List.{All}
 use Rattle.std.specs.Map.{keys_of}
+use Rattle.std.proofs.lemmas.List.{drop_all}
 use Rattle.std.proofs.lemmas.List.Elements.{All-head}
 use Rattle.fugue_ids.specs.Identifiers.{Identifier}
 use Rattle.fugue_ids.specs.Keys.{first_id, last_id}
@@ -105,12 +106,6 @@ last-keyed [] c = refl
 last-keyed (d ∷ []) c = refl
 last-keyed (d ∷ e ∷ cs) c = last-keyed (e ∷ cs) c
 
-pub drop-all : {X : Type 0} (k : ℕ) (xs : List X) → length xs ≤ k → drop k xs ≡ []
-drop-all zero [] l = refl
-drop-all zero (x ∷ xs) l = absurd (omega (arith, l))
-drop-all (suc k) [] l = refl
-drop-all (suc k) (x ∷ xs) l = drop-all k xs (omega (arith, l))
-
 module _ (L : List (List ℕ)) (n : ℕ) where
   pub first-cells : (xs : List Item) → All (IsRun L n) xs → first_id (keyed_cells (all_cells L xs)) ≡ slice_get (keys_of xs) 0
   first-cells [] a = refl
@@ -121,7 +116,7 @@ module _ (L : List (List ℕ)) (n : ℕ) where
   -- nothing of a run stands behind its last cell
   pub behind-all : (run : Run) (back : List Item) → IsRun L n (run.id, run) → (o : ℕ) → run.len ≤ o → cells_behind L run o back ≡ all_cells L back
   behind-all run back r o l =
-      ap (λ ls. typed_cells (head_behind o (first_of run)) ls ++ all_cells L back) (drop-all o (letters_of L run) (omega (arith, l, length-letters L n (run.id, run) r)))
+      ap (λ ls. typed_cells (head_behind o (first_of run)) ls ++ all_cells L back) (drop_all o (letters_of L run) (omega (arith, l, length-letters L n (run.id, run) r)))
 
   -- the cells up to the last one of a run
   pub cells-to : (front : List Item) (run : Run) → IsRun L n (run.id, run)

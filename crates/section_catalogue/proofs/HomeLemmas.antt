@@ -9,7 +9,7 @@ use Rattle.fugue_ids.proofs.IdentifierLemmas.{id_at-other, id_at-same}
 use Rattle.origin_model.specs.declared.operations.Place.{Place}
 use Rattle.section_catalogue.specs.Contents.{entry_at, places_of}
 use Rattle.section_catalogue.specs.declared.homes.Home.{Home}
-use Rattle.stretch_map.proofs.OrderLemmas.{id_cmp_total}
+use Rattle.fugue_ids.proofs.OrderLemmas.{id_cmp_total}
 
 by_test : (b : Bool) (h : Home) (o : Option Place) (p : Option Home) → o ≡ option_map (λ k. k.place) p → cond b (Some h.place) o ≡ option_map (λ k. k.place) (cond b (Some h) p)
 by_test true h o p e = refl

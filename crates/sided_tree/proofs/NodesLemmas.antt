@@ -12,7 +12,7 @@ use Rattle.origin_model.proofs.SharedLemmas.{found_without}
 use Rattle.stretch_map.specs.Ahead.{ahead}
 use Rattle.stretch_map.specs.Rules.{IsFollowed, typed_behind}
 use Rattle.stretch_map.specs.declared.follows.Typed.{Typed}
-use Rattle.stretch_map.proofs.OrderLemmas.{id_cmp_total}
+use Rattle.fugue_ids.proofs.OrderLemmas.{id_cmp_total}
 use Rattle.sided_tree.specs.Nodes.{IsNodeMap, node_with}
 
 -- at first there are none

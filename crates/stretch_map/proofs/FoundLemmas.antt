@@ -13,12 +13,12 @@ use Rattle.std.proofs.lemmas.Map.Views.{lookup-from_Contains}
 use Rattle.std.proofs.lemmas.Map.Keys.{IsDistinct-from_sorted}
 use Rattle.fugue_ids.proofs.ListLemmas.{contains_cases, contains_here, contains_none, contains_there}
 use Rattle.fugue_ids.specs.Identifiers.{Identifier, id_cmp}
-use Rattle.fugue_ids.proofs.IdentifierLemmas.{cases_id, id_at-other, id_at-same}
+use Rattle.fugue_ids.proofs.IdentifierLemmas.{cases_id, id_at-other, id_at-same, nat_at-other, nat_at-same}
 use Rattle.stretch_map.specs.Ahead.{ahead}
 use Rattle.stretch_map.specs.Contents.{Entry, Latest, Layout, entries_with, run, spread, value_in}
 use Rattle.stretch_map.specs.Stretches.{AreStretches, Covers, Has, IsLaid, IsLatest, IsReadIn, KeepsEntry, kept_at, latest_at}
 use Rattle.stretch_map.specs.declared.stretches.Stretch.{Stretch}
-use Rattle.stretch_map.proofs.OrderLemmas.{id_cmp_total, nat_at-other, nat_at-same}
+use Rattle.fugue_ids.proofs.OrderLemmas.{id_cmp_total}
 
 -- what is found where the first entry is the one that is looked for
 find-own : {V : Type 0} (q k : Identifier) (v : V) (es : List (Identifier × V)) → k ≡ q → find id_cmp q ((k, v) ∷ es) ≡ Some v

@@ -6,13 +6,12 @@ use Rattle.std.specs.List.Sorted.{IsStrictlySortedBy}
 use Rattle.std.specs.Map.{keys_of}
 use Rattle.std.specs.Ordering.{nat_cmp}
 use Rattle.fugue_ids.specs.Identifiers.{Identifier, id_cmp}
-use Rattle.fugue_ids.proofs.IdentifierLemmas.{cases_id, id_at-other}
+use Rattle.fugue_ids.proofs.IdentifierLemmas.{cases_id, id_at-other, nat_at-other}
 use Rattle.stretch_map.specs.Contents.{Entry, Latest, Layout}
 use Rattle.stretch_map.specs.Stretches.{AreStretches, Has, IsLaid, IsLatest, IsSame, KeepsEntry, KeptBecomes, LatestBecomes, kept_at, latest_at}
 use Rattle.stretch_map.specs.declared.stretches.Stretch.{Stretch}
 use Rattle.stretch_map.proofs.FoundLemmas.{cases_number, not_both, same_kept, same_latest}
 use Rattle.stretch_map.proofs.LessenedLemmas.{Drops}
-use Rattle.stretch_map.proofs.OrderLemmas.{nat_at-other}
 use Rattle.stretch_map.proofs.SetLemmas.{Sets, value_stays}
 
 -- one entry of the map of kept stretches changes

@@ -4,7 +4,6 @@ pub mod GrownLemmas
 pub mod KeptLemmas
 pub mod LessenedLemmas
 pub mod MapLemmas
-pub mod OrderLemmas
 pub mod PartedLemmas
 pub mod PutLemmas
 pub mod ReadLemmas

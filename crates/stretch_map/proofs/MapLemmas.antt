@@ -9,7 +9,7 @@ use Rattle.stretch_map.specs.Contents.{Layout, entries_with, contents, spread, v
 use Rattle.stretch_map.specs.Rules.{IsFollowed}
 use Rattle.stretch_map.specs.Stretches.{Adds, AreStretches, EndsAt, IsSame, Loses}
 use Rattle.stretch_map.proofs.FoundLemmas.{cases_le, covered}
-use Rattle.stretch_map.proofs.OrderLemmas.{id_cmp-IsAntisymmetric, id_cmp_total}
+use Rattle.fugue_ids.proofs.OrderLemmas.{id_cmp-IsAntisymmetric, id_cmp_total}
 
 module _ {V : Type 0} (nth : Identifier → V → ℕ → V) where
   -- a value of the finite map is the one that is found in the entries

@@ -1,9 +1,8 @@
 -- What is read at a key, in the last stretch of its replica and in the kept ones.
 use Rattle.std.proofs.Common.{arith, inl, inr, subst, sym, ℕ, ◌-◌, ◌<◌, ◌∙◌, ◌≡◌, ◌≤◌, List}
 use Rattle.std.specs.Prelude.{IfNone, IfSome, None, Option, Some}
-use Rattle.fugue_ids.specs.Identifiers.{Identifier}
+use Rattle.fugue_ids.specs.Identifiers.{Identifier, IsAtMost}
 use Rattle.stretch_map.specs.Contents.{Entry, Layout, value_in}
-use Rattle.stretch_map.specs.Order.{IsAtMost}
 use Rattle.stretch_map.specs.Stretches.{AreStretches, Covers, Has, IsFloor, IsLatest, IsLatestUpTo, IsReadIn, KeepsEntry, NoLatestUpTo, NoneUpTo}
 use Rattle.stretch_map.proofs.FoundLemmas.{cases_le, read, same_kept, same_latest}
 

@@ -1,6 +1,5 @@
 pub mod Ahead
 pub mod Contents
-pub mod Order
 pub mod RuleLaws
 pub mod Rules
 pub mod Stretches

@@ -4,10 +4,9 @@ use Rattle.std.specs.BTreeMap.{is_at}
 use Rattle.std.specs.List.Sorted.{IsStrictlySortedBy}
 use Rattle.std.specs.Map.{keys_of, lookup}
 use Rattle.std.specs.Ordering.{is_eq, nat_cmp}
-use Rattle.fugue_ids.specs.Identifiers.{Identifier, id_cmp}
+use Rattle.fugue_ids.specs.Identifiers.{Identifier, IsAtMost, id_cmp}
 use Rattle.stretch_map.specs.Ahead.{ahead}
 use Rattle.stretch_map.specs.Contents.{Entry, Latest, Layout, value_in}
-use Rattle.stretch_map.specs.Order.{IsAtMost}
 use Rattle.stretch_map.specs.Rules.{IsNext}
 use Rattle.stretch_map.specs.declared.stretches.Stretch.{Stretch}
 

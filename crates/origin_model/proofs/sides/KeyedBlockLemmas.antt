@@ -3,6 +3,7 @@ use Rattle.origin_model.proofs.Words.{All-contains, Contains, Contains-append_ca
 use Rattle.std.specs.Prelude.{unwrap_or}
 use Rattle.std.proofs.lemmas.List.{map-append}
 use Rattle.fugue_ids.proofs.ListLemmas.{all_from_map}
+use Rattle.fugue_ids.proofs.PartedLemmas.{last_push}
 use Rattle.fugue_ids.specs.Keys.{IsFit, Keyed, first_low, front_of, is_low, key_lt, last_id, last_low, rest_of}
 use Rattle.fugue_ids.specs.Listed.{last_before}
 use Rattle.fugue_ids.specs.declared.key.Key.{Key}
@@ -13,7 +14,7 @@ use Rattle.origin_model.specs.sides.Keys.{depth_of, search_key_of, keyed, keyed_
 use Rattle.origin_model.proofs.edits.LandsBehindLemmas.{cut_member}
 use Rattle.origin_model.proofs.order.{before_at, first_before, first_of, front_before, last_of, order-has, order-member, order-ordered}
 use Rattle.origin_model.proofs.sides.BlockLemmas.{To, deep_block, flat_y, from_s, irrefl, loop, lower_block, next_block, no_turn, over_block, to_q}
-use Rattle.origin_model.proofs.sides.KeyedListLemmas.{deep_high, first_head, flat_low, front_head, front_ids, is_deep, last_high, last_parted, last_push, parted_low, rest_end, rest_ids, PartedLow}
+use Rattle.origin_model.proofs.sides.KeyedListLemmas.{deep_high, first_head, flat_low, front_head, front_ids, is_deep, last_high, last_parted, parted_low, rest_end, rest_ids, PartedLow}
 use Rattle.origin_model.proofs.sides.SpineLemmas.{IsFirstIn, IsLastIn}
 
 -- a member with what stands before it and behind it

@@ -1,5 +1,5 @@
 -- Lists of elements with their keys, in parts, and what searches by keys find in them.
-use Rattle.origin_model.proofs.Words.{All, All-head, All-tail, Bool, Contains, Identifier, IsOrderedBy, List, None, Op, Some, [], all_from_contains, ap, append-nil, append_assoc, arith, cases_Bool, cases_origin, contains_cases, contains_here, contains_none, eq-id_eq, false, filter, filter-append, if◌then◌else◌, inl, inr, ne-id_eq, refl, subst, sym, true, true≢false, ℕ, ◌++◌, ◌∙◌, ◌∷◌, ◌≡◌, ◌≢◌, ◌⊎◌}
+use Rattle.origin_model.proofs.Words.{All, All-head, All-tail, Bool, Contains, Identifier, IsOrderedBy, List, None, Op, Some, [], all_from_contains, ap, append-nil, append_assoc, arith, cases_Bool, cases_origin, contains_cases, contains_here, contains_none, false, filter, filter-append, inl, inr, refl, subst, sym, true, true≢false, ℕ, ◌++◌, ◌∙◌, ◌∷◌, ◌≡◌, ◌≢◌, ◌⊎◌}
 use Rattle.std.specs.Prelude.{nat_lt}
 use Rattle.std.proofs.lemmas.List.{map-append}
 use Rattle.std.proofs.lemmas.List.Elements.{All-map}
@@ -7,7 +7,7 @@ use Rattle.std.proofs.lemmas.Bool.Decides.{nat_tests}
 use Rattle.fugue_ids.specs.Keys.{IsFit, Keyed, first_id, first_low, front_of, ids, is_low, last_id, last_low, low_ids, rest_of}
 use Rattle.fugue_ids.specs.Listed.{last_before}
 use Rattle.fugue_ids.specs.declared.key.Key.{Key}
-use Rattle.fugue_ids.proofs.PartedLemmas.{front_at, rest_at}
+use Rattle.fugue_ids.proofs.PartedLemmas.{front_at, last_push, rest_at}
 use Rattle.origin_model.specs.edits.Landing.{first_after}
 use Rattle.origin_model.specs.sides.KeyedGap.{widest}
 use Rattle.origin_model.specs.sides.Keys.{keyed, keyed_as}
@@ -25,12 +25,6 @@ flat_low d e f k = let b = f.1 in grind (arith, nat_tests)
 -- what is deeper has not
 pub deep_high : (d : ℕ) (e : Keyed) → is_deep d e ≡ true → is_low (widest d) e ≡ false
 deep_high d e k = grind (arith, nat_tests)
-
--- the last of a list with a last member
-pub last_push : (es : List Keyed) (e : Keyed) → last_id (es ++ e ∷ []) ≡ Some e.id
-last_push [] e = refl
-last_push (a ∷ []) e = refl
-last_push (a ∷ b ∷ es) e = last_push (b ∷ es) e
 
 -- a filter keeps what passes, and drops what does not
 pub kept : (g : Keyed → Bool) (e : Keyed) (es : List Keyed) → g e ≡ true → filter g (e ∷ es) ≡ e ∷ filter g es

@@ -1,12 +1,10 @@
 use Rattle.std.proofs.Common.{None, Option, Some, ap, refl, subst, sym, ◌∙◌}
 use Rattle.std.specs.Prelude.{is_some, length}
-use Rattle.std.specs.BTreeMap.{get}
 use Rattle.std.proofs.lemmas.Option.{none-some}
-use Rattle.fugue_ids.specs.Identifiers.{id_cmp}
 use Rattle.fugue_ids.specs.Keyed.{IsReplaced}
 use Rattle.block_map.specs.Blocks.{IsBlockAt, value_at, value_within}
 use Rattle.block_map.specs.declared.block.Block.{Block}
-use Rattle.block_map.proofs.ChangeLemmas.{block_after, block_replaced, blocks_changed, empty_block, empty_by_length, key_step, replaced_again, some_length, that_block, value_replaced}
+use Rattle.block_map.proofs.ChangeLemmas.{block_after, block_gone, block_replaced, blocks_changed, empty_block, empty_by_length, key_step, some_length, that_block, value_replaced}
 use Rattle.block_map.proofs.blocks.take_out.Goals as goal
 
 pub returns-then-is_empty-clause-blocks : goal.returns-then-is_empty-clause-blocks
@@ -14,11 +12,9 @@ returns-then-is_empty-clause-blocks g c =
     let key = c.place_of-key.result.0 in
     let m = c.args.blocks.now in
     let d = c.remove.new.self in
-    let mid = c.get_mut.follows.lender d in
     let n = c.remove-then-is_empty.new.self in
     let there = sym c.in-Some.ensures.value in
-    let first = block_replaced m mid key (Some d) ((c.get_mut.follows.holds d).3 (ap is_some there)) in
-    let change = replaced_again (get id_cmp m) (get id_cmp mid) (get id_cmp n) key (Some d) None first (block_replaced mid n key None c.remove-then-is_empty.ensures.updates) in
+    let change = block_gone m (c.get_mut.follows.lender d) n key d ((c.get_mut.follows.holds d).3 (ap is_some there)) c.remove-then-is_empty.ensures.updates in
     blocks_changed m n key None change c.requires (λ b e. absurd (none-some b e))
 
 pub returns-then-is_empty-clause-taken : goal.returns-then-is_empty-clause-taken
@@ -27,11 +23,9 @@ returns-then-is_empty-clause-taken g c =
     let key = place.result.0 in
     let m = c.args.blocks.now in
     let d = c.remove.new.self in
-    let mid = c.get_mut.follows.lender d in
     let n = c.remove-then-is_empty.new.self in
     let there = sym c.in-Some.ensures.value in
-    let first = block_replaced m mid key (Some d) ((c.get_mut.follows.holds d).3 (ap is_some there)) in
-    let change = replaced_again (get id_cmp m) (get id_cmp mid) (get id_cmp n) key (Some d) None first (block_replaced mid n key None c.remove-then-is_empty.ensures.updates) in
+    let change = block_gone m (c.get_mut.follows.lender d) n key d ((c.get_mut.follows.holds d).3 (ap is_some there)) c.remove-then-is_empty.ensures.updates in
     let none = empty_by_length d.counters.items (c.if-is_empty.ensures.0 refl) in
     value_replaced m n key None change c.args.id place.result.1 place.ensures.key place.ensures.counter None
     (record {

@@ -1,13 +1,11 @@
-use Rattle.std.proofs.Common.{List, false, subst, sym, true, ◌∙◌, ◌≡◌}
+use Rattle.std.proofs.Common.{false, subst, sym, true, ◌∙◌}
 use Rattle.std.specs.Prelude.{None, Some}
-use Rattle.std.specs.List.{Contains}
-use Rattle.fugue_ids.specs.Identifiers.{Identifier}
-use Rattle.fugue_ids.specs.Keys.{Keyed, between, low_ids, rest_of}
+use Rattle.fugue_ids.specs.Keys.{between, low_ids, rest_of}
 use Rattle.fugue_ids.specs.Listed.{HoldsOrigin}
 use Rattle.fugue_ids.proofs.HalvesLemmas.{halves, last_is_low, last_passes, none_passes, search_before, search_begins}
 use Rattle.fugue_ids.proofs.LowLemmas.{low_held}
 use Rattle.fugue_ids.proofs.PassingLemmas.{nothing_seen}
-use Rattle.run_store.specs.Cells.{cell_ids, keyed_cells}
+use Rattle.run_store.specs.Cells.{keyed_cells}
 use Rattle.run_store.specs.Runs.{cells_in}
 use Rattle.run_store.proofs.KeyLemmas.{keyed-ids}
 use Rattle.run_store.proofs.MiddleLemmas.{cells-apart}

@@ -1,11 +1,10 @@
 use Rattle.std.proofs.Common.{ap, arith, drop, length, subst, sym, ◌+◌, ◌<◌, ◌≤◌, ◌∙◌}
 use Rattle.std.specs.Prelude.{Err, Ok, flat_map, option_copied}
-use Rattle.std.proofs.lemmas.List.{take_all}
+use Rattle.std.proofs.lemmas.List.{drop-drop, take_all}
 use Rattle.std.proofs.lemmas.Option.{get_or_from_slice_get}
 use Rattle.std.proofs.lemmas.Result.{err_from_is_err_and}
 use Rattle.fugue_ids.specs.Gathers.{GathersText}
 use Rattle.fugue_ids.proofs.GatherLemmas.{gathers_none, gathers_parts_grow, gathers_parts_stop}
-use Rattle.run_store.proofs.PartLemmas.{drop-drop}
 use Rattle.run_store.proofs.PlaceLemmas.{at-within, run-at}
 use Rattle.run_store.proofs.RunsLemmas.{Item}
 use Rattle.run_store.proofs.TextLemmas.{fewer-left, next-run, none-left, run_text, text-runs}
@@ -37,7 +36,7 @@ runs-preserved g c =
     let e = next-run r c.requires c.runs.walk n.place n.left run (ap option_copied (sym c.in-Some.is) ∙ c.step.ensures.first) in
     record {
       place = n.place + 1;
-      left = c.step.ensures.rest ∙ ap (drop 1) n.left ∙ drop-drop n.place 1 r.rope;
+      left = c.step.ensures.rest ∙ ap (drop 1) n.left ∙ drop-drop 1 n.place r.rope;
       gathered = gathers_parts_grow (run_text r.letters) r.rope n.place x tt tt _ _ _ _ _ _ (at-within r.rope n.place x e) n.gathered
           (subst (λ (z : Item). GathersText {T = Unit {0}} (g.O.Out.seen c.runs.output) (g.O.Out.seen c.put_run.new.output) c.runs.gather c.put_run.new.gather (Ok tt) (run_text r.letters z))
           (sym (get_or_from_slice_get r.rope n.place x x e)) c.in_ok-put_run.ensures);

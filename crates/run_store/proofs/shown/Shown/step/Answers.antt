@@ -1,11 +1,10 @@
 use Rattle.std.proofs.Common.{ap, arith, drop, length, sym, ◌∙◌, ◌≤◌}
 use Rattle.std.specs.Prelude.{Some, slice_get}
-use Rattle.std.proofs.lemmas.List.{length-map}
+use Rattle.std.proofs.lemmas.List.{drop-drop, drop_all, length-map}
 use Rattle.run_store.specs.Cells.{cell_ids, cells_shown}
 use Rattle.run_store.specs.declared.cell.Cell.{Cell}
 use Rattle.run_store.specs.declared.cell.Head.{Head}
-use Rattle.run_store.proofs.PartLemmas.{drop-drop}
-use Rattle.run_store.proofs.PlaceLemmas.{drop-all, drop-first}
+use Rattle.run_store.proofs.PlaceLemmas.{drop-first}
 use Rattle.run_store.proofs.VisibleLemmas.{hand-behind, hand-first}
 use Rattle.run_store.proofs.shown.Shown.step.Goals as goal
 
@@ -17,7 +16,7 @@ returns-then-self-visible_count c =
     let xs = cell_ids (cells_shown c.self.inside.store.now.cells) in
     let l : length xs ≤ c.self.inside.passed =
     omega (arith, c.if-self-visible_count.true, c.visible_count.ensures, length-map (cells_shown c.self.inside.store.now.cells) (λ (z : Cell). z.id)) in
-    let none = drop-all c.self.inside.passed xs l in
+    let none = drop_all c.self.inside.passed xs l in
     record {
       first = sym (ap (λ ys. slice_get ys 0) (sym c.self.view_is ∙ none));
       rest = sym c.self.view_is ∙ none ∙ sym (ap (drop 1) (sym c.self.view_is ∙ none));
@@ -38,5 +37,5 @@ returns c =
           ap (λ (h : Head). Some h.id) c.cell_at.ensures
           ∙ sym (hand-first xs c.self.inside.passed spot.run spot.offset c.in_ok-spot.ensures.some)
           ∙ sym (drop-first xs c.self.inside.passed) ∙ ap (λ ys. slice_get ys 0) c.self.view_is;
-      rest = sym (drop-drop c.self.inside.passed 1 xs) ∙ ap (drop 1) c.self.view_is;
+      rest = sym (drop-drop 1 c.self.inside.passed xs) ∙ ap (drop 1) c.self.view_is;
     }

@@ -1,7 +1,6 @@
-use Rattle.std.proofs.Common.{subst, sym}
+use Rattle.std.proofs.Common.{subst}
 use Rattle.std.specs.List.{All}
-use Rattle.fugue_ids.specs.Keys.{IsFit, low_ids, rest_of}
-use Rattle.fugue_ids.specs.Listed.{HoldsOrigin}
+use Rattle.fugue_ids.specs.Keys.{IsFit}
 use Rattle.run_store.specs.Cells.{keyed_cells}
 use Rattle.run_store.specs.Stored.{Stored}
 use Rattle.run_store.proofs.KeyLemmas.{all-fit}
