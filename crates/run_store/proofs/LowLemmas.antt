@@ -1,5 +1,5 @@
 -- The nearest cells whose keys are low enough: the keys of a run rise, so its first cell tells whether it has one.
-use Rattle.std.proofs.Common.{◌≡◌, ◌⊎◌, ℕ, zero, suc, ◌+◌, ◌<◌, ◌≤◌, ◌^◌, Bool, true, false, not, List, [], ◌∷◌, ◌++◌, ap, append-nil, arith, cond, inl, inr, length, length-drop, refl, subst, sym, take, drop, get_or, ◌∙◌}
+use Rattle.std.proofs.Common.{◌≡◌, ℕ, zero, suc, ◌+◌, ◌<◌, ◌≤◌, ◌^◌, Bool, true, false, not, List, [], ◌∷◌, ◌++◌, ap, append-nil, arith, cond, inl, inr, length, length-drop, refl, subst, sym, take, drop, get_or, ◌∙◌}
 use Rattle.std.specs.Prelude.{Option, None, Some, filter, nat_le, option_map, slice_get}
 use Rattle.std.specs.List.{All}
 use Rattle.std.proofs.lemmas.Bool.{cases_Bool, cases_lt}
@@ -7,7 +7,7 @@ use Rattle.std.proofs.lemmas.Bool.Decides.{nat_tests}
 use Rattle.std.proofs.lemmas.List.{drop_all, map-append}
 use Rattle.std.proofs.lemmas.List.Elements.{All-head, All-tail, filter-append}
 use Rattle.fugue_ids.specs.Identifiers.{Identifier}
-use Rattle.fugue_ids.specs.Keys.{Keyed, first_id, first_low, is_low, key_lt, last_id, last_low}
+use Rattle.fugue_ids.specs.Keys.{first_id, first_low, is_low, key_lt, last_id, last_low}
 use Rattle.fugue_ids.specs.declared.key.Key.{Key}
 use Rattle.fugue_ids.proofs.LowLemmas.{low_one, low_other}
 use Rattle.fugue_ids.proofs.PartLemmas.{no_first, no_last}
