@@ -1,7 +1,7 @@
 ghost use Rattle.std.specs.Prelude.{◌≡◌, ◌↔◌, ◌<◌, ◌≤◌, length, IfOk};
 
 use crate::{LONGEST_BODY, NoMemory};
-use std::alloc::{AllocError, Global};
+use std::alloc::Global;
 use std::error::Error;
 use std::fmt;
 use std::marker::Model;
@@ -9,7 +9,8 @@ use std::marker::Model;
 /// The body of a note: at most 1,024 bytes of any kind. It is seen as the list of its bytes.
 #[derive(Debug, Drop)]
 pub struct Body {
-    bytes: Vec<u8>,
+    // In a box, since most operations are letters: one that takes no room for a body has 64 bytes.
+    bytes: Box<Vec<u8>>,
 }
 
 impl Model for Body {
@@ -18,9 +19,9 @@ impl Model for Body {
 
     ghost Value = { List ℕ };
 
-    ghost view = { λ b. b.bytes.items };
+    ghost view = { λ b. b.bytes.value.items };
 
-    ghost invariant = { λ b. length b.bytes.items ≤ LONGEST_BODY };
+    ghost invariant = { λ b. length b.bytes.value.items ≤ LONGEST_BODY };
 }
 
 /// Why bytes are no body.
@@ -42,15 +43,23 @@ impl fmt::Display for BodyFault {
 
 impl Error for BodyFault {}
 
-impl From<AllocError> for BodyFault {
+impl From<NoMemory> for BodyFault {
     ghost use Rattle.std.specs.Prelude.{◌≡◌};
     ghost use Rattle.fugue_ids.specs.declared.body.BodyFault.TheVariants.{NoMemory as no_memory};
 
     ghost from_gives = { λ _ e. e ≡ no_memory };
 
-    fn from(_e: AllocError) -> BodyFault {
+    fn from(_e: NoMemory) -> BodyFault {
         BodyFault::NoMemory
     }
+}
+
+/// The bytes in a box.
+fn boxed(alloc: Global, bytes: &[u8]) -> Result<Box<Vec<u8>>, NoMemory>
+    ensures { IfOk result (λ copy. copy.value.items ≡ bytes.now) }
+{
+    let copy = Vec::from_slice(alloc, bytes)?;
+    Ok(Box::new(alloc, copy)?)
 }
 
 impl Body {
@@ -63,7 +72,7 @@ impl Body {
             return Err(BodyFault::TooLong);
         }
         Ok(Body {
-            bytes: Vec::from_slice(alloc, bytes)?,
+            bytes: boxed(alloc, bytes)?,
         })
     }
 
@@ -80,7 +89,7 @@ impl Body {
         ensures { IfOk result (λ copy. copy ≡ self.now) }
     {
         Ok(Body {
-            bytes: Vec::from_slice(alloc, self.bytes.as_slice())?,
+            bytes: boxed(alloc, self.as_slice())?,
         })
     }
 }
@@ -96,7 +105,7 @@ impl PartialEq for Body {
     ghost laws = { partial_equiv_from_equiv nat_list_eq_equiv };
 
     fn eq(&self, other: &Body) -> bool {
-        self.bytes.as_slice() == other.bytes.as_slice()
+        self.as_slice() == other.as_slice()
     }
 }
 

@@ -13,7 +13,6 @@ const UNUSED: ElementId = ElementId {
 #[derive(Debug, Drop)]
 pub struct NoteNames {
     ids: [ElementId; MOST_NAMES],
-    // One byte, since a note is the largest operation.
     count: u8,
 }
 

@@ -38,7 +38,7 @@ pub enum Op {
     },
 }
 
-const _: () = prove!(size_of::<Op>() == 72);
+const _: () = prove!(size_of::<Op>() == 64);
 
 /// What an operation is looked up by: equal operations have one key.
 #[derive(Clone, Copy, Debug, PartialEq, Eq)]
