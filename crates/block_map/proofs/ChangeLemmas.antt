@@ -28,11 +28,11 @@ replaced_none f key w e = record { here = e; others = λ k apart. refl }
 
 module _ {V : Type 0} (m n : BTreeMap Identifier (Block V)) (key : Identifier) (o : Option (Block V)) (change : IsReplaced (get id_cmp m) (get id_cmp n) key o) where
   -- the values in another block
-  others_far : (q : Identifier) → block_of q ≢ key → value_in n q ≡ value_in m q
+  pub others_far : (q : Identifier) → block_of q ≢ key → value_in n q ≡ value_in m q
   others_far q far = ap (λ (b : Option (Block V)). value_within b q.counter) (change.others (block_of q) far)
 
   -- and in the block, where they are the same
-  near : (q : Identifier) → block_of q ≡ key → value_within o q.counter ≡ value_within (get id_cmp m key) q.counter → value_in n q ≡ value_in m q
+  pub near : (q : Identifier) → block_of q ≡ key → value_within o q.counter ≡ value_within (get id_cmp m key) q.counter → value_in n q ≡ value_in m q
   near q at same =
       ap (λ (k : Identifier). value_within (get id_cmp n k) q.counter) at ∙ ap (λ (b : Option (Block V)). value_within b q.counter) change.here ∙ same
       ∙ ap (λ (k : Identifier). value_within (get id_cmp m k) q.counter) (sym at)

@@ -3,3 +3,4 @@ pub mod ColumnLemmas
 pub mod CounterLemmas
 pub mod FloorLemmas
 pub mod OrderLemmas
+pub mod RenameLemmas

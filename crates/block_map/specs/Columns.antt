@@ -21,3 +21,8 @@ pub record IsGapFor (cs : List ℕ) (c i : ℕ) : Type 0 where
   pub inside : i ≤ length cs
   pub before : (j : ℕ) → j < i → slice_index cs j < c
   pub behind : (j : ℕ) → i ≤ j → j < length cs → c < slice_index cs j
+
+-- the counter could stand at place i: less ones stand before it, and greater ones behind it
+pub record IsFitFor (cs : List ℕ) (c i : ℕ) : Type 0 where
+  pub before : (j : ℕ) → j < i → slice_index cs j < c
+  pub behind : (j : ℕ) → i < j → j < length cs → c < slice_index cs j

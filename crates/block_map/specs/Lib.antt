@@ -1,4 +1,5 @@
 pub mod Columns
 pub mod Floors
+pub mod Renames
 pub mod Blocks
 pub mod Contents

@@ -1,11 +1,12 @@
 //! Blocks under their keys.
-ghost use Rattle.std.specs.Prelude.{◌≡◌, IfNone, IfSome, None, OnErr, OnOk, Some, option_map};
+ghost use Rattle.std.specs.Prelude.{◌≡◌, IfNone, IfSome, IsFalse, IsTrue, None, OnErr, OnOk, Some, option_map};
 ghost use Rattle.std.specs.BTreeMap.{IsUnchanged, get};
 ghost use Rattle.fugue_ids.specs.Identifiers.{Identifier, id_cmp};
 ghost use Rattle.fugue_ids.specs.Keyed.{IsReplaced};
 ghost use Rattle.block_map.specs.Blocks.{AreBlocks, IsInBlockBefore, IsUpToInBlock, block_of, value_in};
 ghost use Rattle.block_map.specs.Blocks.{with_counter};
 ghost use Rattle.block_map.specs.Floors.{HasNone, IsFloorKey, IsGreatest};
+ghost use Rattle.block_map.specs.Renames.{IsRenamed};
 
 use crate::block::Block;
 use fugue_ids::{ElementId, NoMemory};
@@ -92,6 +93,53 @@ pub(crate) fn take_out<V: Copy>(blocks: &mut BTreeMap<ElementId, Block<V>>, id: 
     if block.is_empty() {
         blocks.remove(&key);
     }
+}
+
+/// Where both identifiers have one block and no counter is in the way, the value stands under the other one then. Else
+/// each has what it had.
+fn rename_within<V: Copy>(
+    blocks: &mut BTreeMap<ElementId, Block<V>>,
+    from: ElementId,
+    to: ElementId,
+) -> bool
+    requires blocks { AreBlocks blocks.old }
+    requires fresh { value_in blocks.old to ≡ None }
+    ensures blocks { AreBlocks blocks.new }
+    ensures renamed { IsTrue result → IsRenamed (value_in blocks.old) (value_in blocks.new) from to }
+    ensures refused { IsFalse result → (q : Identifier) → value_in blocks.new q ≡ value_in blocks.old q }
+{
+    let (key, counter) = place_of(from);
+    let (to_key, to_counter) = place_of(to);
+    if key != to_key {
+        return false;
+    }
+    match blocks.get_mut(&key) {
+        Some(block) => block.rename(counter, to_counter),
+        None => false,
+    }
+}
+
+/// The value stands under another identifier then. After want of memory each has what it had.
+pub(crate) fn rename<V: Copy>(
+    blocks: &mut BTreeMap<ElementId, Block<V>>,
+    alloc: Global,
+    from: ElementId,
+    to: ElementId,
+    value: V,
+) -> Result<(), NoMemory>
+    requires blocks { AreBlocks blocks.old }
+    requires held { value_in blocks.old from ≡ Some value }
+    requires fresh { value_in blocks.old to ≡ None }
+    ensures blocks { AreBlocks blocks.new }
+    ensures ok { OnOk result (IsRenamed (value_in blocks.old) (value_in blocks.new) from to) }
+    ensures err { OnErr result ((q : Identifier) → value_in blocks.new q ≡ value_in blocks.old q) }
+{
+    if rename_within(blocks, from, to) {
+        return Ok(());
+    }
+    put(blocks, alloc, to, value)?;
+    take_out(blocks, from);
+    Ok(())
 }
 
 /// The entry of a block, under its identifier.

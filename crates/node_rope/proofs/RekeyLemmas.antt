@@ -4,9 +4,9 @@ use Rattle.std.specs.Prelude.{is_some}
 use Rattle.std.proofs.lemmas.Bool.{cases_Bool, false_from_ne_true}
 use Rattle.std.proofs.lemmas.Bool.Decides.{eqb_tells}
 use Rattle.fugue_ids.specs.Identifiers.{Identifier, id_eq}
-use Rattle.fugue_ids.specs.Keyed.{IsReplaced}
 use Rattle.fugue_ids.proofs.IdentifierLemmas.{cases_id, id_eq-refl}
 use Rattle.block_map.specs.Contents.{value_of}
+use Rattle.block_map.specs.Renames.{IsRenamed}
 use Rattle.block_map.specs.declared.map.BlockMap.{BlockMap}
 use Rattle.node_rope.specs.declared.store.Store.{Store}
 use Rattle.node_rope.specs.declared.cells.Shape.{Shape}
@@ -70,27 +70,24 @@ module _ {T : Type 0} (s v : Store T) (root : Option Link) (l : Link) (other : I
       (summed-along lesser (tree_of ss) (tree_of us) (ranks ss) (ranks us) (leasts ss) (leasts us) lefts rights (field (λ h. h.own.rank) (λ h k. refl)) (field (λ h. h.least) (λ h k. refl)) sound.ranked)
 
 -- and in the map
-module _ {T : Type 0} (wt : T → Own) (s v : Store T) (root : Option Link) (m n p : BlockMap Link) (key other : Identifier) (l : Link) (r : IsRope wt s root m) (at : value_of m key ≡ Some l) (none : value_of m other ≡ None)
+module _ {T : Type 0} (wt : T → Own) (s v : Store T) (root : Option Link) (m p : BlockMap Link) (key other : Identifier) (l : Link) (r : IsRope wt s root m) (at : value_of m key ≡ Some l) (none : value_of m other ≡ None)
     (is : shapes_of v ≡ slice_set (shapes_of s) l.number (record (shape_at (shapes_of s) l.number) { key = other })) (values : values_of v ≡ values_of s) (count : made_count v ≡ made_count s) (kept : IsKept s v)
-    (came : IsReplaced (value_of m) (value_of n) other (Some l)) (went : IsReplaced (value_of n) (value_of p) key None) where
+    (renaming : IsRenamed (value_of m) (value_of p) key other) where
   abbrev there : IsMade s l
   there = r.mapped key l at
 
-  pub differ : other ≢ key
-  differ e = let no : None ≡ Some l = sym none ∙ ap (value_of m) e ∙ at in absurd (cc)
-
   -- the new key has the node, the old one none, and each other key what it had
   pub new-key : value_of p other ≡ Some l
-  new-key = went.others other differ ∙ came.here
+  new-key = renaming.here ∙ at
 
   other-keys : (k : Identifier) → k ≢ other → k ≢ key → value_of p k ≡ value_of m k
-  other-keys k f g = went.others k g ∙ came.others k f
+  other-keys k f g = renaming.others k g f
 
   was : (k : Identifier) (x : Link) → value_of p k ≡ Some x → ((k ≡ other) × (l ≡ x)) ⊎ ((k ≢ key) × (value_of m k ≡ Some x))
   was k x e = elim (cases_id k other) as (λ _. ((k ≡ other) × (l ≡ x)) ⊎ ((k ≢ key) × (value_of m k ≡ Some x))) [
     | inl f ↦ (let same : Some l ≡ Some x = sym new-key ∙ ap (value_of p) (sym f) ∙ e in inl (f, cc))
     | inr f ↦ elim (cases_id k key) as (λ _. ((k ≡ other) × (l ≡ x)) ⊎ ((k ≢ key) × (value_of m k ≡ Some x))) [
-      | inl g ↦ (let no : None ≡ Some x = sym went.here ∙ ap (value_of p) (sym g) ∙ e in absurd (cc))
+      | inl g ↦ (let no : None ≡ Some x = sym renaming.gone ∙ ap (value_of p) (sym g) ∙ e in absurd (cc))
       | inr g ↦ inr (g, sym (other-keys k f g) ∙ e)
     ]
   ]

@@ -3,6 +3,7 @@ ghost use Rattle.std.specs.Prelude.{◌≡◌, None, Some, IfSome, IsTrue, IsFal
 ghost use Rattle.fugue_ids.specs.Keyed.{IsReplaced};
 ghost use Rattle.block_map.specs.Contents.{HasSameValues, IsEmpty, value_of};
 ghost use Rattle.block_map.specs.Floors.{IsFloorKey};
+ghost use Rattle.block_map.specs.Renames.{IsRenamed};
 
 use crate::cells::Link;
 use crate::pile;
@@ -37,7 +38,17 @@ pub(crate) fn no_links(alloc: Global) -> KeyMap
     }
 }
 
+// The node of a key that may not be at hand. A search in the blocks is so long that `find_link` would not be inlined
+// with it, and most look-ups end at the key at hand.
+#[inline(never)]
+fn look_up(map: &KeyMap, key: ElementId) -> Option<Link>
+    ensures { result ≡ value_of map.now.links key }
+{
+    map.links.get(key)
+}
+
 // The node of the key.
+#[inline]
 pub(crate) fn find_link(map: &KeyMap, key: ElementId) -> Option<Link>
     ensures { result ≡ value_of map.now.links key }
 {
@@ -46,7 +57,7 @@ pub(crate) fn find_link(map: &KeyMap, key: ElementId) -> Option<Link>
             return Some(map.at_hand);
         }
     }
-    map.links.get(key)
+    look_up(map, key)
 }
 
 // The key whose node is at hand.
@@ -79,11 +90,21 @@ pub(crate) fn set_link(map: &mut KeyMap, key: ElementId, link: Link) -> bool
     }
 }
 
-pub(crate) fn drop_link(map: &mut KeyMap, key: ElementId)
-    ensures { IsReplaced (value_of map.old.links) (value_of map.new.links) key None }
+// Another key for the node, which is at hand then. False for want of memory, and then each key leads where it did.
+pub(crate) fn rename_link(map: &mut KeyMap, key: ElementId, new_key: ElementId, link: Link) -> bool
+    requires held { value_of map.old.links key ≡ Some link }
+    requires fresh { value_of map.old.links new_key ≡ None }
+    ensures renamed { IsTrue result → IsRenamed (value_of map.old.links) (value_of map.new.links) key new_key }
+    ensures refused { IsFalse result → HasSameValues map.old.links map.new.links }
 {
-    map.links.remove(key);
-    map.recent = None;
+    match map.links.rename(key, new_key, link) {
+        Ok(()) => {
+            map.recent = Some(new_key);
+            map.at_hand = link;
+            true
+        }
+        Err(_) => false,
+    }
 }
 
 // The greatest key that is not above this one, and its node.

@@ -6,7 +6,7 @@ ghost use Rattle.node_rope.specs.Beside.{placed_before, placed_after, placed_bes
 use crate::attach::enter;
 use crate::cells::{Link, Shape, Weigh};
 use crate::items::{grow, own_of, refill};
-use crate::links::{KeyMap, drop_link, find_link, keep_at_hand, no_links, set_link};
+use crate::links::{KeyMap, find_link, no_links, rename_link};
 use crate::store::Store;
 use crate::turn::Side;
 use fugue_ids::{ElementId, MOST_OPERATIONS};
@@ -180,8 +180,7 @@ impl<T: Weigh> Rope<T> {
 // A new item in the place of another.
 
 impl<T: Weigh> Rope<T> {
-    // Another key for an item. The new one is entered first, which alone can want memory: then the answer is false, and
-    // the rope as before.
+    // Another key for an item. Entering that alone can want memory: then the answer is false, and the rope as before.
     fn rename(&mut self, key: ElementId, new_key: ElementId) -> bool
         requires held { IsSome (value_under key self.old) }
         requires fresh { IsNone (value_under new_key self.old) }
@@ -193,7 +192,7 @@ impl<T: Weigh> Rope<T> {
             // The key is held: no call comes here.
             None => return false,
         };
-        if !set_link(&mut self.map, new_key, link) {
+        if !rename_link(&mut self.map, key, new_key, link) {
             return false;
         }
         let shape = self.store.shape(link);
@@ -204,8 +203,6 @@ impl<T: Weigh> Rope<T> {
                 ..shape
             },
         );
-        drop_link(&mut self.map, key);
-        keep_at_hand(&mut self.map, new_key, link);
         true
     }
 

@@ -1,11 +1,12 @@
 ghost use Rattle.std.specs.Prelude.{◌≡◌, ℕ, ◌↔◌, ◌-◌, ◌<◌, ◌≤◌, ⊤, [], length, slice_index, vec_len};
-ghost use Rattle.std.specs.Prelude.{IfErr, IfNone, IfOk, IfSome, IsTrue, None, OnErr, OnOk, Some};
+ghost use Rattle.std.specs.Prelude.{IfErr, IfNone, IfOk, IfSome, IsFalse, IsTrue, None, OnErr, OnOk, Some};
 ghost use Rattle.std.specs.List.{insert as with_one};
 ghost use Rattle.std.specs.Ordering.{nat_cmp};
 ghost use Rattle.fugue_ids.specs.Keyed.{IsReplaced};
 ghost use Rattle.block_map.specs.Blocks.{value_at};
-ghost use Rattle.block_map.specs.Columns.{IsGapFor, IsPlaceOf};
+ghost use Rattle.block_map.specs.Columns.{IsFitFor, IsGapFor, IsPlaceOf};
 ghost use Rattle.block_map.specs.Floors.{HasNone, IsGreatest};
+ghost use Rattle.block_map.specs.Renames.{IsRenamed};
 
 use super::Block;
 use fugue_ids::NoMemory;
@@ -91,6 +92,35 @@ impl<V: Copy> Block<V> {
             self.counters.remove(at);
             self.values.remove(at);
         }
+    }
+
+    // Whether the counter at the place could be this one in the order of the others.
+    fn fits(&self, place: usize, counter: u32) -> bool
+        requires { place < length self.now.counters.items }
+        ensures { IsTrue result → IsFitFor self.now.counters.items counter place }
+    {
+        let above = place + 1;
+        if above < self.counters.len() && self.counters[above] <= counter {
+            return false;
+        }
+        place == 0 || self.counters[place - 1] < counter
+    }
+
+    /// The counter's value stands under another then, unless a neighbour is in the way: then each has what it had.
+    pub fn rename(&mut self, from: u32, to: u32) -> bool
+        requires { value_at self.old to ≡ None }
+        ensures renamed { IsTrue result → IsRenamed (value_at self.old) (value_at self.new) from to }
+        ensures refused { IsFalse result → (c : ℕ) → value_at self.new c ≡ value_at self.old c }
+        ensures length { length self.new.counters.items ≡ length self.old.counters.items }
+    {
+        let Ok(at) = self.place(from) else {
+            return false;
+        };
+        if !self.fits(at, to) {
+            return false;
+        }
+        self.counters[at] = to;
+        true
     }
 
     // The entry before the place.

@@ -2,9 +2,10 @@ ghost use Rattle.std.specs.Prelude.{◌≡◌, IfSome, None, OnErr, OnOk, Some, 
 ghost use Rattle.fugue_ids.specs.Keyed.{IsReplaced};
 ghost use Rattle.block_map.specs.Contents.{HasSameValues, IsEmpty, value_of};
 ghost use Rattle.block_map.specs.Floors.{IsFloorKey};
+ghost use Rattle.block_map.specs.Renames.{IsRenamed};
 
 use super::BlockMap;
-use crate::blocks::{floor, put, take_out, value_of_id};
+use crate::blocks::{floor, put, rename, take_out, value_of_id};
 use fugue_ids::{ElementId, NoMemory};
 use std::alloc::Global;
 use std::collections::BTreeMap;
@@ -42,6 +43,19 @@ impl<V: Copy> BlockMap<V> {
         ensures { IsReplaced (value_of self.old) (value_of self.new) id None }
     {
         take_out(&mut self.blocks, id);
+    }
+
+    /// The value stands under another identifier then. After want of memory each has what it had.
+    ///
+    /// A letter that is deleted beside others mostly moves the first identifier of its run by one, so that the value
+    /// stays where it is, which costs one search.
+    pub fn rename(&mut self, from: ElementId, to: ElementId, value: V) -> Result<(), NoMemory>
+        requires held { value_of self.old from ≡ Some value }
+        requires fresh { value_of self.old to ≡ None }
+        ensures ok { OnOk result (IsRenamed (value_of self.old) (value_of self.new) from to) }
+        ensures err { OnErr result (HasSameValues self.old self.new) }
+    {
+        rename(&mut self.blocks, self.alloc, from, to, value)
     }
 
     /// The greatest identifier with a value that is not above this one, and its value.

@@ -1,0 +1,8 @@
+-- Another key for a value.
+use Rattle.std.specs.Prelude.{◌≡◌, Option, None}
+
+-- the value stands under another key, none under the old one, and those at other keys stay
+pub record IsRenamed {K V : Type 0} (old new : K → Option V) (from to : K) : Type 0 where
+  pub here : new to ≡ old from
+  pub gone : new from ≡ None
+  pub others : (k : K) → (k ≡ from → ⊥) → (k ≡ to → ⊥) → new k ≡ old k
