@@ -1,4 +1,5 @@
 pub mod Beside
+pub mod Entered
 pub mod Filed
 pub mod Found
 pub mod Grown

@@ -1,8 +1,7 @@
 // A new node beside another.
 ghost use Rattle.std.specs.Prelude.{◌≡◌, ◌+◌, ◌-◌, ◌^◌, ◌<◌, ◌≤◌, [], ◌∷◌, ◌++◌, flat_map, IfOk, IfErr, Some};
-ghost use Rattle.fugue_ids.specs.Keyed.{IsReplaced};
-ghost use Rattle.block_map.specs.Contents.{HasSameValues, value_of};
-ghost use Rattle.node_rope.specs.Made.{IsMade, IsKept, IsAlike, made_count, shapes_of, values_of};
+ghost use Rattle.node_rope.specs.Entered.{IsGivenBack, LeadsTo};
+ghost use Rattle.node_rope.specs.Made.{IsMade, IsKept, IsMore, made_count, shapes_of, values_of};
 ghost use Rattle.node_rope.specs.Shapes.{HasRightLinks, AreMade, shape_at, order};
 ghost use Rattle.node_rope.specs.Sides.{faced, beside};
 ghost use Rattle.node_rope.specs.Rising.{AreSmall};
@@ -59,20 +58,13 @@ pub(crate) fn enter<T: Drop>(
 ) -> Result<Link, Back<T>>
     requires { made_count store.old < 2 ^ 32 - 1 }
     ensures made { IfOk result
-        (λ l. (shapes_of store.new ≡ shapes_of store.old ++ (shape ∷ []))
-        × (values_of store.new ≡ values_of store.old ++ (value ∷ [])) × (l.number ≡ made_count store.old)
-        × IsMade store.new l × (made_count store.new ≡ made_count store.old + 1)) }
-    ensures set { IfOk result
-        (λ l. IsReplaced (value_of map.old.links) (value_of map.new.links) shape.key (Some l)) }
-    ensures refused { IfErr result
-        (λ b. (b.value ≡ value) × IsAlike store.old store.new × HasSameValues map.old.links map.new.links) }
+        (IsMore store.old store.new (shapes_of store.old ++ (shape ∷ [])) value) }
+    ensures set { IfOk result (LeadsTo map.old map.new shape.key) }
+    ensures refused { IfErr result (IsGivenBack store.old store.new map.old map.new value) }
     ensures kept { IsKept store.old store.new }
 {
     let key = shape.key;
-    let link = match store.make(shape, value) {
-        Ok(link) => link,
-        Err(back) => return Err(back),
-    };
+    let link = store.make(shape, value)?;
     if !set_link(map, key, link) {
         let value = store.unmake();
         return Err(Back { value });
@@ -93,13 +85,9 @@ fn join<T: Drop>(
     requires near { AreMade store.old (faced side (shape_at (shapes_of store.old) at.number)).left }
     requires few { made_count store.old < 2 ^ 32 - 1 }
     ensures joined { IfOk result
-        (λ l. (shapes_of store.new ≡ joined_beside side (shapes_of store.old) at l shape)
-        × (values_of store.new ≡ values_of store.old ++ (value ∷ [])) × (l.number ≡ made_count store.old)
-        × IsMade store.new l × (made_count store.new ≡ made_count store.old + 1)) }
-    ensures set { IfOk result
-        (λ l. IsReplaced (value_of map.old.links) (value_of map.new.links) shape.key (Some l)) }
-    ensures refused { IfErr result
-        (λ b. (b.value ≡ value) × IsAlike store.old store.new × HasSameValues map.old.links map.new.links) }
+        (λ l. IsMore store.old store.new (joined_beside side (shapes_of store.old) at l shape) value l) }
+    ensures set { IfOk result (LeadsTo map.old map.new shape.key) }
+    ensures refused { IfErr result (IsGivenBack store.old store.new map.old map.new value) }
     ensures kept { IsKept store.old store.new }
 {
     let next = facing(store.shape(at), side);
@@ -132,10 +120,8 @@ pub(crate) fn attach<T: Drop>(
     ensures grown { IfOk result (λ l. IsGrown store.old store.new root key own value l) }
     ensures walk { IfOk result
         (λ l. order store.new root ≡ flat_map (beside side at.number l.number) (order store.old root)) }
-    ensures set { IfOk result
-        (λ l. IsReplaced (value_of map.old.links) (value_of map.new.links) key (Some l)) }
-    ensures refused { IfErr result
-        (λ b. (b.value ≡ value) × IsAlike store.old store.new × HasSameValues map.old.links map.new.links) }
+    ensures set { IfOk result (LeadsTo map.old map.new key) }
+    ensures refused { IfErr result (IsGivenBack store.old store.new map.old map.new value) }
     ensures kept { IsKept store.old store.new }
 {
     let shape = new_shape(store, side, at, key, own);

@@ -10,23 +10,26 @@ use std::marker::Model;
 use std::mem::size_of;
 
 /// A shape as a node keeps it: an `Option<Link>` takes 24 bytes, and its parts that stand here 13.
+///
+/// A climb reads `parent` to `has_parent` of each node, which are mostly in one line of the cache, since they lie close
+/// together.
 #[derive(Drop)]
 pub struct Packed {
     key: ElementId,
     left: Spot,
     right: Spot,
+    own_rank: u64,
     parent: Spot,
     weight: u64,
     least: u64,
-    own_rank: u64,
-    own_weight: u32,
     count: u32,
-    left_number: u32,
-    right_number: u32,
-    parent_number: u32,
+    has_parent: bool,
     has_left: bool,
     has_right: bool,
-    has_parent: bool,
+    parent_number: u32,
+    left_number: u32,
+    right_number: u32,
+    own_weight: u32,
 }
 
 const _: () = prove!(size_of::<Packed>() == 80);
@@ -60,18 +63,18 @@ impl Packed {
             key: shape.key,
             left: left.spot,
             right: right.spot,
+            own_rank: shape.own.rank,
             parent: parent.spot,
             weight: shape.weight,
             least: shape.least,
-            own_rank: shape.own.rank,
-            own_weight: shape.own.weight,
             count: shape.count,
-            left_number: left.number,
-            right_number: right.number,
-            parent_number: parent.number,
+            has_parent: parent.there,
             has_left: left.there,
             has_right: right.there,
-            has_parent: parent.there,
+            parent_number: parent.number,
+            left_number: left.number,
+            right_number: right.number,
+            own_weight: shape.own.weight,
         }
     }
 

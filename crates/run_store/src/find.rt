@@ -62,6 +62,7 @@ impl Runs {
     }
 
     /// Where the cell of this identifier is, if it is in the run that was used last.
+    #[inline]
     fn find_near(&self, id: ElementId) -> Option<Spot>
         requires { AreRuns self.now }
         ensures { IfSome result (λ s. IsSpot self.now.rope id s.run s.offset) }
@@ -73,6 +74,7 @@ impl Runs {
     }
 
     /// Where the cell of this identifier is. In the run that was used last this costs no search.
+    #[inline]
     pub(crate) fn find(&self, id: ElementId) -> Option<Spot>
         requires { AreRuns self.now }
         ensures some { IfSome result (λ s. IsSpot self.now.rope id s.run s.offset) }
@@ -94,7 +96,9 @@ impl Runs {
         }
     }
 
-    /// Where the cell of this identifier is, by the greatest key that is not above it.
+    /// Where the cell of this identifier is, by the greatest key that is not above it. It is out of line, so that the look
+    /// at the run that was used last can be inlined.
+    #[inline(never)]
     fn find_by_key(&self, id: ElementId) -> Option<Spot>
         requires { AreRuns self.now }
         ensures some { IfSome result (λ s. IsSpot self.now.rope id s.run s.offset) }

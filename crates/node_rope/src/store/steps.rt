@@ -1,7 +1,7 @@
 // What a store does.
 ghost use Rattle.std.specs.Prelude.{◌≡◌, ◌<◌, ◌≤◌, ◌+◌, ◌-◌, ◌^◌, [], ◌∷◌, ◌++◌, length, slice_set, slice_index_or};
 ghost use Rattle.std.specs.Prelude.{MatchResult, IfOk, IfErr};
-ghost use Rattle.node_rope.specs.Made.{IsMade, IsKept, IsLess, made_count, shapes_of, values_of};
+ghost use Rattle.node_rope.specs.Made.{IsMade, IsKept, IsLess, IsMore, made_count, shapes_of, values_of};
 ghost use Rattle.node_rope.specs.Shapes.{shape_at};
 ghost use Rattle.node_rope.specs.Filed.{IsFiled};
 ghost use Rattle.node_rope.specs.Rising.{more};
@@ -105,9 +105,7 @@ impl<T: Drop> Store<T> {
     pub(crate) fn make(&mut self, shape: Shape, value: T) -> Result<Link, Back<T>>
         requires { made_count self.old < 2 ^ 32 - 1 }
         ensures made { IfOk result
-            (λ l. (shapes_of self.new ≡ shapes_of self.old ++ (shape ∷ []))
-            × (values_of self.new ≡ values_of self.old ++ (value ∷ [])) × (l.number ≡ made_count self.old)
-            × IsMade self.new l × (made_count self.new ≡ made_count self.old + 1)) }
+            (IsMore self.old self.new (shapes_of self.old ++ (shape ∷ [])) value) }
         ensures refused { IfErr result (λ b. (b.value ≡ value) × (self.new ≡ self.old)) }
         ensures kept { IsKept self.old self.new }
     {

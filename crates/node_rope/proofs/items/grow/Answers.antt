@@ -18,12 +18,12 @@ attach-requires-clause-small g c =
 pub returns-in-Err-clause-rope : goal.returns-in-Err-clause-rope
 returns-in-Err-clause-rope g c =
     let no = c.in-Err.ensures.refused in
-    alike-roped (own_of g.T.Weigh.weight_of g.T.Weigh.rank_of) c.args.store.now c.attach.new.store c.args.root.now c.args.map.now.links c.attach.new.map.links c.requires.rope no.1 no.2
+    alike-roped (own_of g.T.Weigh.weight_of g.T.Weigh.rank_of) c.args.store.now c.attach.new.store c.args.root.now c.args.map.now.links c.attach.new.map.links c.requires.rope no.alike no.links
 
 pub returns-in-Err-clause-refused : goal.returns-in-Err-clause-refused
 returns-in-Err-clause-refused g c =
     let no = c.in-Err.ensures.refused in
-    (no.0, alike-list c.args.store.now c.attach.new.store c.args.root.now c.requires.rope.sound no.1)
+    (no.value, alike-list c.args.store.now c.attach.new.store c.args.root.now c.requires.rope.sound no.alike)
 
 pub returns-clause-rope : goal.returns-clause-rope
 returns-clause-rope g c =

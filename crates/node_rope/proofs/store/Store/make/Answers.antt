@@ -25,7 +25,13 @@ returns-clause-made g c =
     let values = c.add.ensures.values ∙ ap (λ n. vs ++ n ∷ []) c.in-Ok.ensures.ok in
     let pair = s.pile.paired in
     let at = lies-last s.pile.moorings (c.add.result.address, c.in-Ok.boxed.alloc) s.count (omega (arith, s.counted, pair)) in
-    (ap (map shape_of) values ∙ map-append shape_of vs (w ∷ []) ∙ ap (λ h. map shape_of vs ++ h ∷ []) c.new.ensures, ap (map node_value) values ∙ map-append node_value vs (w ∷ []), s.counted, rw c.add.ensures.moorings at, ap length values ∙ lib.ListN.length-append vs (w ∷ []))
+    record {
+      shapes = ap (map shape_of) values ∙ map-append shape_of vs (w ∷ []) ∙ ap (λ h. map shape_of vs ++ h ∷ []) c.new.ensures;
+      values = ap (map node_value) values ∙ map-append node_value vs (w ∷ []);
+      number = s.counted;
+      made = rw c.add.ensures.moorings at;
+      count = ap length values ∙ lib.ListN.length-append vs (w ∷ []);
+    }
 
 pub returns-clause-kept : goal.returns-clause-kept
 returns-clause-kept g c l at = rw c.add.ensures.moorings (lies-longer c.args.self.now.pile.moorings _ l.number l.spot.address at)
