@@ -35,6 +35,24 @@ fn unset(pairs: &mut Pairs, id: ElementId) {
     }
 }
 
+/// Where the one identifier has a value and the other one none, the value moves to that one in both.
+fn move_value(
+    map: &mut BlockMap<u32>,
+    pairs: &mut Pairs,
+    from: ElementId,
+    to: ElementId,
+) -> Result<(), NoMemory> {
+    let Some(value) = map.get(from) else {
+        return Ok(());
+    };
+    if map.get(to).is_some() {
+        return Ok(());
+    }
+    map.rename(from, to, value)?;
+    unset(pairs, from);
+    set(pairs, to, value)
+}
+
 /// Of two pairs the one with the greater identifier, where that of the second one is not above this one.
 fn higher(
     found: Option<(ElementId, u32)>,
@@ -82,22 +100,27 @@ fn check(rt: &impl Abort, map: &BlockMap<u32>, pairs: &Pairs) {
     }
 }
 
-/// 3,000 values of three replicas come and go at random.
+/// 3,000 values of three replicas come and go at random, and move to the next counter.
 #[test]
 fn values_are_those_of_a_list(rt: HostRuntime) {
     let mut map = BlockMap::new(rt.alloc());
     let mut pairs = Vec::new(rt.alloc());
     let mut dice = Dice { state: 11 };
     for turn in 0..3_000u32 {
-        let id = id(dice.number(3) % 3 + 1, counter_of(dice.number(264)));
+        let key = id(dice.number(3) % 3 + 1, counter_of(dice.number(264)));
         // More come at first, and more go later.
         if dice.number(3_000) < turn {
-            map.remove(id);
-            unset(&mut pairs, id);
+            map.remove(key);
+            unset(&mut pairs, key);
         } else {
-            let kept = map.insert(id, turn).is_ok() && set(&mut pairs, id, turn).is_ok();
+            let kept = map.insert(key, turn).is_ok() && set(&mut pairs, key, turn).is_ok();
             holds_at(&rt, &turn, kept);
         }
+        let (replica, number) = (dice.number(3) % 3 + 1, dice.number(263) % 263);
+        let from = id(replica, counter_of(number));
+        let to = id(replica, counter_of(number + 1));
+        let moved = move_value(&mut map, &mut pairs, from, to);
+        holds_at(&rt, &turn, moved.is_ok());
         if turn % 100 == 0 {
             check(&rt, &map, &pairs);
         }
