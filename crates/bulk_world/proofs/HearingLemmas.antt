@@ -1,18 +1,15 @@
 -- What an author hears of.
-use Rattle.std.proofs.Common.{Bool, List, [], ap, arith, false, drop, get_or, inl, inr, length, refl, reverse, subst, sym, take, true, ◌++◌, ◌+◌, ◌-◌, ◌<◌, ◌∙◌, ◌∷◌, ◌≡◌, ℕ}
+use Rattle.std.proofs.Common.{Bool, List, [], ap, arith, false, drop, get_or, inl, inr, length, refl, subst, sym, take, true, ◌++◌, ◌+◌, ◌-◌, ◌<◌, ◌∙◌, ◌∷◌, ◌≡◌, ℕ}
 use Rattle.std.specs.Prelude.{All, Err, Result, ◌↔◌, if◌then◌else◌, nat_eq}
 use Rattle.std.proofs.lemmas.Bool.{cases_Bool, or_left}
-use Rattle.std.proofs.lemmas.List.{at_drop_more, reverse-append, take-append-le, take_all}
+use Rattle.std.proofs.lemmas.List.{at_drop_more, take-append-le, take_all}
 use Rattle.std.proofs.lemmas.List.Elements.{All-append, All-cons, All-head, All-nil, All-tail, All-weaker}
 use Rattle.fugue_ids.specs.Ops.{op_eq}
 use Rattle.fugue_ids.specs.declared.op.Op.{Op}
 use Rattle.fugue_ids.proofs.OpLemmas.{op_eq-refl}
-use Rattle.origin_model.specs.declared.operations.Verdict.{Verdict}
-use Rattle.origin_model.specs.declared.operations.Verdict.TheVariants.{Ready}
-use Rattle.origin_model.specs.operations.History.{accepted, has_op}
-use Rattle.origin_model.specs.operations.Verdict.{verdict}
-use Rattle.origin_model.specs.taking.Taking.{Accepted, Answer, Held, IsSettled, TooMany, answer, held_from, intake, joined, settle, settled_within, taken}
-use Rattle.origin_model.proofs.SharedLemmas.{earliest_found, settle-settled, within-none, within-some, without}
+use Rattle.origin_model.specs.operations.History.{has_op}
+use Rattle.origin_model.specs.taking.Taking.{Held, IsSettled, TooMany, answer, held_from, intake, settle, taken}
+use Rattle.origin_model.proofs.SharedLemmas.{settle-settled}
 use Rattle.origin_model.specs.edits.State.{State}
 use Rattle.replica_core.specs.Told.{Leaves}
 use Rattle.origin_model.specs.declared.taking.Tally.{Tally}

@@ -1,6 +1,6 @@
 -- A section that gets the title and the text of a part.
 use Rattle.std.proofs.Common.{Bool, List, [], ap, arith, inl, inr, length, refl, subst, sym, ℕ, ◌+◌, ◌∙◌, ◌∷◌, ◌≡◌, ◌≢◌, ◌⊎◌}
-use Rattle.std.specs.Prelude.{Err, None, Ok, Option, Some, ◌↔◌, filter, slice_get}
+use Rattle.std.specs.Prelude.{Err, None, Ok, Some, ◌↔◌, filter, slice_get}
 use Rattle.std.specs.Str.{IsUtf8, chars, encode_utf8_all}
 use Rattle.std.proofs.lemmas.Str.{encodes-chars}
 use Rattle.fugue_ids.specs.Identifiers.{Identifier, id_eq}
@@ -31,7 +31,7 @@ use Rattle.catalogue_notes.proofs.RetitleLemmas.{title_shape}
 use Rattle.draft_plan.specs.Changes.{Retitle, made_of}
 use Rattle.draft_plan.specs.Drafts.{Part}
 use Rattle.draft_plan.specs.Plain.{arranged_part}
-use Rattle.draft_plan.specs.Revision.{KeepsSection, StopsAtLimit, retitles_of}
+use Rattle.draft_plan.specs.Revision.{StopsAtLimit, retitles_of}
 use Rattle.draft_plan.specs.Shaping.{ChangesOnly, IsFilled, IsHeadedBy, SameSection}
 use Rattle.draft_plan.specs.Texts.{EditsText, IsRevised, KeepsCommon, KeepsElements, StopsRevising}
 use Rattle.draft_plan.proofs.ChangeLemmas.{changed_retitle, stops_note, stops_weaker}

@@ -6,8 +6,8 @@ use Rattle.fugue_ids.specs.declared.limits.TheConstants.{MOST_OPERATIONS}
 use Rattle.fugue_ids.specs.declared.op.Op.{Op}
 use Rattle.origin_model.specs.edits.State.{Stands, State}
 use Rattle.origin_model.specs.operations.History.{accepted}
-use Rattle.draft_plan.specs.Changes.{Change, Changed, Stops, all_made, made_of}
-use Rattle.draft_plan.specs.Revision.{IsLimit, Makes, StopsAtLimit}
+use Rattle.draft_plan.specs.Changes.{Change, Changed, all_made, made_of}
+use Rattle.draft_plan.specs.Revision.{Makes, StopsAtLimit}
 use Rattle.draft_plan.specs.declared.fault.ReviseFault.{ReviseFault}
 use Rattle.draft_plan.proofs.ChangeLemmas.{changed_join, changed_none, count_join, count_one, stops_after}
 

@@ -1,6 +1,6 @@
 -- Sections that get the titles and the texts of parts, one after another.
-use Rattle.std.proofs.Common.{List, [], add-one, ap, arith, get_or, inl, inr, length, map, refl, subst, suc, sym, true, false, zero, ℕ, ◌+◌, ◌<◌, ◌≤◌, ◌∙◌, ◌∷◌, ◌≡◌, ◌≢◌, ◌⊎◌}
-use Rattle.std.specs.Prelude.{None, Option, Some, is_some, slice_get, slice_index_or}
+use Rattle.std.proofs.Common.{List, [], add-one, ap, arith, get_or, inl, inr, length, map, refl, subst, sym, true, false, ℕ, ◌+◌, ◌<◌, ◌≤◌, ◌∙◌, ◌∷◌, ◌≡◌, ◌≢◌, ◌⊎◌}
+use Rattle.std.specs.Prelude.{Some, is_some, slice_get, slice_index_or}
 use Rattle.std.specs.Str.{encode_utf8_all}
 use Rattle.std.specs.List.{AllPairs, Contains}
 use Rattle.std.proofs.lemmas.Bool.{cases_eq, cases_order, false_from_ne_true, true≢false}
@@ -13,14 +13,14 @@ use Rattle.origin_model.specs.edits.State.{State}
 use Rattle.origin_model.specs.operations.History.{holds}
 use Rattle.origin_model.specs.operations.Verdict.{Lawful}
 use Rattle.origin_model.specs.order.Printed.{shown, text}
-use Rattle.catalogue_notes.specs.Arranged.{arranged, heading}
+use Rattle.catalogue_notes.specs.Arranged.{arranged}
 use Rattle.catalogue_notes.proofs.ArrangedLemmas.{arranged_once, arranged_shown, shown_arranged, shown_is}
 use Rattle.catalogue_notes.proofs.PartLemmas.{get_some}
 use Rattle.draft_plan.specs.Drafts.{Part}
 use Rattle.draft_plan.specs.Plain.{arranged_part, arranged_parts}
-use Rattle.draft_plan.specs.Revision.{IsRevision, KeepsSection, MakesNothing, retitles_of}
+use Rattle.draft_plan.specs.Revision.{IsRevision, KeepsSection, MakesNothing}
 use Rattle.draft_plan.specs.Shaping.{AreFilled, IsAtPlace, IsFilled, IsShaped, SameSection}
-use Rattle.draft_plan.specs.Texts.{KeepsCommon, KeepsElements}
+use Rattle.draft_plan.specs.Texts.{KeepsCommon}
 use Rattle.draft_plan.proofs.MakingLemmas.{makes_join, makes_none}
 use Rattle.draft_plan.proofs.ShapeLemmas.{got, same_join, same_none}
 

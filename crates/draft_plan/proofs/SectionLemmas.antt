@@ -1,6 +1,6 @@
 -- What one operation more leaves of the sections.
 use Rattle.std.proofs.Common.{List, ap, false, inl, inr, not, refl, sym, true, ◌&&◌, ◌||◌, ◌∙◌, ◌∷◌, ◌≡◌, ◌≢◌}
-use Rattle.std.specs.Prelude.{None, Option, Some, filter, flat_map, is_some}
+use Rattle.std.specs.Prelude.{None, Some, filter, flat_map, is_some}
 use Rattle.std.specs.List.{Contains}
 use Rattle.fugue_ids.specs.Identifiers.{Identifier, id_eq}
 use Rattle.fugue_ids.specs.declared.op.Op.{Op}
@@ -25,7 +25,6 @@ use Rattle.catalogue_notes.proofs.HolderLemmas.{Joins, cases_option, holder-kept
 use Rattle.catalogue_notes.proofs.LiftLemmas.{passing_from}
 use Rattle.catalogue_notes.proofs.PartLemmas.{filter_same, parts_same}
 use Rattle.catalogue_notes.proofs.RetitleLemmas.{title-kept, title_shape}
-use Rattle.draft_plan.specs.Revision.{retitles_of}
 use Rattle.draft_plan.specs.Shaping.{SameSection}
 
 -- an operation that says no retitle, and deletes none

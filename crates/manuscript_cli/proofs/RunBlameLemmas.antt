@@ -3,7 +3,6 @@ use Rattle.std.proofs.Common.{◌≡◌, ℕ, List, inl, inr, ap, ◌∙◌, ref
 use Rattle.std.specs.Prelude.{None, Option, Some}
 use Rattle.fugue_ids.specs.Outs.{OutView}
 use Rattle.outer_ports.specs.Sources.{SourceView}
-use Rattle.outer_ports.specs.disk.Disks.{DiskView}
 use Rattle.command_kinds.specs.Edit.{script}
 use Rattle.command_kinds.specs.Printing.{NotesBlameless}
 use Rattle.command_kinds.specs.Report.{Telling}

@@ -6,8 +6,8 @@ use Rattle.node_rope.specs.declared.cells.Shape.{Shape}
 use Rattle.node_rope.specs.declared.cells.Link.{Link}
 use Rattle.node_rope.specs.declared.cells.Own.{Own}
 use Rattle.node_rope.specs.Made.{IsMade, made_count, shapes_of}
-use Rattle.node_rope.specs.Shapes.{HasRightLinks, AreMade, shape_at, lone, link_number, tree_of, owns, leasts, weigh, order, IsWeighed}
-use Rattle.node_rope.specs.Walk.{whole, HasCounts, IsLinked}
+use Rattle.node_rope.specs.Shapes.{HasRightLinks, shape_at, link_number, tree_of, owns, leasts, weigh}
+use Rattle.node_rope.specs.Walk.{whole}
 use Rattle.node_rope.specs.Sums.{lesser, no_rank, sum_of}
 use Rattle.node_rope.specs.Rising.{AreSmall}
 use Rattle.node_rope.proofs.WalkLemmas.{length-whole}

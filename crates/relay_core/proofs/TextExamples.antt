@@ -8,7 +8,7 @@ use Rattle.fugue_ids.specs.Identifiers.{Identifier}
 use Rattle.fugue_ids.specs.declared.op.Op.{Op}
 use Rattle.fugue_ids.specs.declared.op.Op.TheVariants.{Delete, Text}
 use Rattle.origin_model.specs.declared.grammar.Grammar.TheVariants.{Version2}
-use Rattle.origin_model.specs.frames.Frames.{Framed, HasFrame, IsFrame, IsIdentifier, IsPartial, Run, Starts, Typed, frame, run_frame, run_ops}
+use Rattle.origin_model.specs.frames.Frames.{Framed, HasFrame, IsFrame, IsIdentifier, IsPartial, Run, Starts, Typed, frame, run_frame}
 use Rattle.origin_model.specs.relay.Session.{closing}
 use Rattle.origin_model.proofs.SharedLemmas.{framed_is, framed_of}
 use Rattle.relay_core.specs.Texts.{Beyond, Closed, Comes, NoGreeting, OneTooMany, Says, Speaks, with_ops}

@@ -1,17 +1,17 @@
 -- The texts of sessions as they are read: what the whole text says is what reading it byte by byte comes to.
-use Rattle.std.proofs.Common.{[], Bool, List, ap, append_assoc, arith, false, inl, inr, length, length-append, nat_eq, refl, subst, sym, true, ℕ, ◌++◌, ◌<◌, ◌∙◌, ◌∷◌, ◌≡◌, ◌≢◌, ◌≤◌, ◌⊎◌}
+use Rattle.std.proofs.Common.{[], List, ap, append_assoc, arith, inl, inr, length, refl, subst, sym, ℕ, ◌++◌, ◌<◌, ◌∙◌, ◌∷◌, ◌≡◌, ◌≢◌, ◌≤◌, ◌⊎◌}
 use Rattle.std.specs.Prelude.{All, Some}
-use Rattle.std.proofs.lemmas.Bool.{eq-eqb, eqb-true, true≢false}
+use Rattle.std.proofs.lemmas.Bool.{true≢false}
 use Rattle.std.proofs.lemmas.List.{append-nil}
 use Rattle.std.proofs.lemmas.List.Elements.{All-cons, All-head, All-nil, All-tail}
 use Rattle.fugue_ids.specs.declared.op.Op.{Op}
 use Rattle.origin_model.specs.declared.grammar.Grammar.TheVariants.{Version2}
 use Rattle.origin_model.specs.frames.Frames.{Framed, IsFrame, IsPartial, Starts, frame}
-use Rattle.origin_model.specs.relay.Session.{Closing, Frame, Front, IsKind, Kind, Neither, Taken, TakesAll, closing, session_goes_on, is_logged, joined, refusal_message, session_refused, reply_from, told}
+use Rattle.origin_model.specs.relay.Session.{Closing, Frame, Front, IsKind, Kind, Neither, Taken, TakesAll, closing, session_goes_on, joined, refusal_message, session_refused, reply_from, told}
 use Rattle.origin_model.proofs.SharedLemmas.{all_once, bytes_of, closed_takes, closing_takes, frame_takes, front_takes, ops_of, partly, takes-append}
 use Rattle.op_frame.proofs.ReadingLemmas.{frames_once, no_bytes_are_partial}
 use Rattle.relay_core.specs.Sessions.{becomes}
-use Rattle.relay_core.specs.Texts.{Closed, Follows, Foreign, IsForeign, OneTooMany, Stands, Unfinished, closing_of, joined_behind, with_op, with_ops}
+use Rattle.relay_core.specs.Texts.{Closed, Follows, Foreign, IsForeign, OneTooMany, Stands, Unfinished, closing_of, joined_behind, with_ops}
 use Rattle.relay_core.proofs.JoiningLemmas.{IsRefused, all_or_refused, all_join, one_too_many, with_ops-append}
 
 -- bytes are read behind others as they are read with them

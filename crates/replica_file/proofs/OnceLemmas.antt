@@ -1,14 +1,12 @@
 -- Loading comes to one answer.
-use Rattle.std.proofs.Common.{◌≡◌, ◌≢◌, ℕ, ◌+◌, ◌<◌, ◌≤◌, List, [], ◌∷◌, ◌++◌, length, take, drop, refl, ap, sym, subst, ◌∙◌, arith, append_assoc, length-append}
+use Rattle.std.proofs.Common.{◌≡◌, ◌≢◌, ℕ, ◌+◌, ◌<◌, ◌≤◌, List, [], ◌∷◌, ◌++◌, length, refl, ap, sym, subst, ◌∙◌, arith, append_assoc}
 use Rattle.std.specs.Prelude.{Option, Some, None, IfSome, IfOk, IfErr, Result, Ok, Err}
 use Rattle.std.specs.List.{AllByRecursion}
-use Rattle.std.proofs.Math.Seq.{take-append_seam}
 use Rattle.std.proofs.lemmas.Bool.{false≢true}
 use Rattle.std.proofs.lemmas.Grind.{flat_map-append}
 use Rattle.std.proofs.lemmas.List.Elements.{recursion_from_All}
 use Rattle.outer_ports.specs.disk.Moments.{History}
 use Rattle.origin_model.specs.files.Image.{BadBatch, Batch, Content, Holds, IsBatch, IsNoBatch, OpenSlots, batch_ops, last_slot, open_slot, open_slots, slots_of, state}
-use Rattle.origin_model.specs.frames.Frames.{Reads, Whole}
 use Rattle.origin_model.proofs.SharedLemmas.{Bad, Closed, Ends, image_once, no_open_slot, same_batch, slots_not_empty}
 use Rattle.origin_model.specs.edits.State.{State}
 use Rattle.replica_file.specs.declared.load_file.End.{End}

@@ -5,8 +5,7 @@ use Rattle.outer_ports.specs.disk.Moments.{History}
 use Rattle.replica_file.specs.declared.stop.Stop.{Stop}
 use Rattle.std.proofs.lemmas.List.{length-take, length-take-le, take-append-drop}
 use Rattle.origin_model.specs.declared.files.TheConstants.{LONGEST_BATCH}
-use Rattle.origin_model.specs.files.Image.{CutShort, IsNoBatch, NoFrames, NoGate, NoTag, NoWord, TooLong, length_at, number_at, tag_of, word_tag}
-use Rattle.origin_model.specs.declared.grammar.Grammar.{Grammar}
+use Rattle.origin_model.specs.files.Image.{CutShort, IsNoBatch, NoFrames, NoGate, NoTag, NoWord, TooLong}
 use Rattle.origin_model.specs.frames.Frames.{Reads, Whole}
 use Rattle.origin_model.specs.edits.State.{State}
 use Rattle.replica_file.specs.Pieces.{Lacks}

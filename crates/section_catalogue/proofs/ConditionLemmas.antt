@@ -21,7 +21,7 @@ use Rattle.section_catalogue.specs.Changes.{HoldsAt}
 use Rattle.section_catalogue.specs.Contents.{Contents, place_at, section_at}
 use Rattle.section_catalogue.specs.Place.{Lists, place_held, title_held}
 use Rattle.section_catalogue.specs.Manuscript.{IsReadyOn, StandsFor}
-use Rattle.origin_model.proofs.SharedLemmas.{found, holder-other, holder-own, holder_owns, order_by_nodes, ready_is_new, section_first, target_is_shown, stands_element}
+use Rattle.origin_model.proofs.SharedLemmas.{holder-other, holder-own, order_by_nodes, ready_is_new, section_first, stands_element}
 use Rattle.section_catalogue.proofs.HolderLemmas.{is_in, none_held}
 use Rattle.section_catalogue.proofs.ListingLemmas.{is_new, node_alike, node_of}
 use Rattle.section_catalogue.proofs.ShownLemmas.{titled}

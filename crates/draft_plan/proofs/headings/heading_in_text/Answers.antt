@@ -1,5 +1,4 @@
-use Rattle.std.proofs.Common.{ap, arith, length, subst, sym, ◌∙◌, ◌≡◌}
-use Rattle.catalogue_notes.specs.Outlining.{IsOutline}
+use Rattle.std.proofs.Common.{ap, arith, length, sym, ◌∙◌, ◌≡◌}
 use Rattle.draft_plan.proofs.HeadingLemmas.{heading_found, no_heading, plain_more}
 use Rattle.draft_plan.proofs.OutlineLemmas.{entry_at, outline_long}
 use Rattle.draft_plan.proofs.headings.heading_in_text.Goals as goal

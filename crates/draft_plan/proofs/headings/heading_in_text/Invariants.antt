@@ -1,5 +1,4 @@
-use Rattle.std.proofs.Common.{length, ◌≤◌}
-use Rattle.catalogue_notes.specs.Arranged.{arranged}
+use Rattle.std.proofs.Common.{◌≤◌}
 use Rattle.draft_plan.proofs.HeadingLemmas.{ArePlainBelow}
 use Rattle.draft_plan.proofs.headings.heading_in_text.Given as goal
 

@@ -1,9 +1,8 @@
-use Rattle.std.proofs.Common.{ap, arith, get_or, length, map, sym, ◌+◌, ◌<◌, ◌≤◌, ◌∙◌, ◌≡◌}
+use Rattle.std.proofs.Common.{ap, arith, get_or, map, sym, ◌+◌, ◌<◌, ◌≤◌, ◌∙◌, ◌≡◌}
 use Rattle.std.specs.Prelude.{slice_get}
 use Rattle.std.proofs.lemmas.List.{length-map}
 use Rattle.std.specs.Str.{encode_utf8_all}
 use Rattle.std.proofs.lemmas.Result.{err_from_is_err_and}
-use Rattle.catalogue_notes.specs.Arranged.{arranged}
 use Rattle.draft_plan.specs.Readings.{seen_part}
 use Rattle.draft_plan.proofs.MakingLemmas.{makes_few, stops_behind}
 use Rattle.draft_plan.proofs.OutlineLemmas.{entry_at, outline_long, part_is}

@@ -1,6 +1,5 @@
-use Rattle.std.proofs.Common.{ap, length, subst, ◌∙◌}
+use Rattle.std.proofs.Common.{ap, length, ◌∙◌}
 use Rattle.std.proofs.lemmas.Result.{err_from_is_err_and}
-use Rattle.catalogue_notes.specs.Outlining.{IsOutline}
 use Rattle.draft_plan.proofs.OutlineLemmas.{outline_long}
 use Rattle.draft_plan.proofs.ShapeLemmas.{wants_memory}
 use Rattle.draft_plan.proofs.revision.fill_shaped.Goals as goal

@@ -1,7 +1,6 @@
-use Rattle.std.proofs.Common.{arith, refl, ◌+◌, ◌∙◌}
+use Rattle.std.proofs.Common.{◌+◌, ◌∙◌}
 use Rattle.std.proofs.lemmas.Result.{err_from_is_err_and}
-use Rattle.draft_plan.proofs.MakingLemmas.{makes_few}
-use Rattle.draft_plan.proofs.ShapeLemmas.{shaped_join, shaped_none, stops_shaped, wants_memory}
+use Rattle.draft_plan.proofs.ShapeLemmas.{shaped_join, stops_shaped, wants_memory}
 use Rattle.draft_plan.proofs.shaping.arrange.Goals as goal
 
 pub returns-in_err-order-clause-shapes : goal.returns-in_err-order-clause-shapes

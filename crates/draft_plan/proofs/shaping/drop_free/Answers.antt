@@ -1,7 +1,6 @@
-use Rattle.std.proofs.Common.{ap, arith, length, sym, ◌+◌, ◌-◌, ◌<◌, ◌∙◌, ◌≡◌}
+use Rattle.std.proofs.Common.{arith, length, ◌+◌, ◌-◌, ◌<◌, ◌∙◌, ◌≡◌}
 use Rattle.std.proofs.lemmas.Result.{err_from_is_err_and}
 use Rattle.draft_plan.proofs.CountLemmas.{drop_counted}
-use Rattle.draft_plan.proofs.MakingLemmas.{makes_few}
 use Rattle.draft_plan.proofs.ShapeLemmas.{shaped_join, stops_shaped}
 use Rattle.draft_plan.proofs.shaping.drop_free.Goals as goal
 

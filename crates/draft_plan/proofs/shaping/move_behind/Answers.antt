@@ -1,5 +1,5 @@
 use Rattle.std.proofs.lemmas.Result.{err_from_is_err_and}
-use Rattle.draft_plan.proofs.ShapeLemmas.{stops_shaped, shaped_none, wants_memory}
+use Rattle.draft_plan.proofs.ShapeLemmas.{stops_shaped, wants_memory}
 use Rattle.origin_model.specs.declared.edit_fault.EditFault.TheVariants as edit
 use Rattle.draft_plan.specs.declared.fault.ReviseFault.TheVariants as fault
 use Rattle.draft_plan.proofs.shaping.move_behind.Goals as goal

@@ -1,7 +1,5 @@
-use Rattle.std.proofs.Common.{arith, length, subst, ℕ, ◌+◌, ◌∙◌}
+use Rattle.std.proofs.Common.{ℕ, ◌+◌, ◌∙◌}
 use Rattle.std.proofs.lemmas.Result.{err_from_is_err_and}
-use Rattle.draft_plan.specs.Matching.{ArePairs}
-use Rattle.draft_plan.proofs.MakingLemmas.{makes_few}
 use Rattle.draft_plan.proofs.ShapeLemmas.{shaped_join, stops_shaped, wants_memory}
 use Rattle.draft_plan.proofs.shaping.shape.Goals as goal
 
