@@ -127,6 +127,7 @@ fn sum_up<T: Drop>(store: &mut Store<T>, root: Option<Link>, from: Option<Link>)
     requires { IsSoundBut store.old root from }
     ensures { IsMended store.old store.new root }
 {
+    // The contract alone needs the root.
     let _ = root;
     let mut cur = from;
     'up: while let Some(l) = cur {
@@ -150,6 +151,7 @@ fn reweigh<T: Drop>(
     requires off { AreOff (shapes_of store.old) less more from }
     ensures { IsMended store.old store.new root }
 {
+    // The contract alone needs the root.
     let _ = root;
     let mut cur = from;
     'up: while let Some(l) = cur {

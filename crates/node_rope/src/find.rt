@@ -75,6 +75,7 @@ fn first_node<T: Drop>(store: &Store<T>, root: Option<Link>, from: Link) -> Link
     ensures first { slice_get (whole (tree_of (shapes_of store.now)) (Some from.number)) 0 ≡ Some result.number }
     ensures made { IsMade store.now result }
 {
+    // The contract alone needs the root.
     let _ = root;
     let mut cur = from;
     let mut shape = store.shape(from);
@@ -93,6 +94,7 @@ fn node_above<T: Drop>(store: &Store<T>, root: Option<Link>, at: Link) -> Option
     ensures behind { IsFollowed (order store.now root) at.number (link_number result) }
     ensures made { AreMade store.now result }
 {
+    // The contract alone needs the root.
     let _ = root;
     let mut cur = at;
     let mut shape = store.shape(at);

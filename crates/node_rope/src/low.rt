@@ -35,6 +35,7 @@ fn nearest_below<T: Drop>(
     ensures found { link_number result ≡ low_below (shapes_of store.now) most side from }
     ensures made { AreMade store.now result }
 {
+    // The contract alone needs the root.
     let _ = root;
     let mut cur = from;
     'down: while let Some(link) = cur {
@@ -68,6 +69,7 @@ fn low_from_or<T: Drop>(
         (low_from (shapes_of store.now) most side other) }
     ensures made { AreMade store.now result }
 {
+    // The contract alone needs the root.
     let _ = root;
     let shape = facing(store.shape(link), side);
     if shape.own.rank <= most {

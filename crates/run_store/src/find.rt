@@ -183,6 +183,7 @@ impl Runs {
         ensures depths { IfSome result (λ h. h.key.depth ≤ length (cells_in self.now)) }
         ensures forests { IfSome result (λ h. h.key.forest ≤ length (cells_in self.now)) }
     {
+        // The contract alone needs the identifier.
         let _ = id;
         match spot {
             Some(spot) => Some(cell_at(&spot.run, spot.offset)),

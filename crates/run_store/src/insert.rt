@@ -118,6 +118,7 @@ impl Runs {
         ensures kept { OnOk result (length self.new.rope ≡ length self.old.rope) }
         ensures err { OnErr result (self.new ≡ self.old) }
     {
+        // The contract alone needs the head.
         let _ = head;
         let longer = lengthened(&mut self.letters, run, ch)?;
         self.rope.put(run.id, longer);
