@@ -65,6 +65,9 @@ module _ {T : Type 0} (size : List ℕ → ℕ) (own : ℕ → ℕ) (S : IsSize 
   pub goes-left : r < left → IsReached size s (order s root) w h.left r
   goes-left k = record { front = at.front; back = x ∷ (R ++ at.back); split = parts; before = at.before; here = inl (omega (arith, k, is_left)); made = subst (λ (g : Shape). AreMade s g.left) (sym read) (sound.made_left x) }
 
+  stands-behind : (front : List ℕ) × (back : List ℕ) × (order s root ≡ front ++ x ∷ back) × (size front + r ≡ w + left)
+  stands-behind = (at.front ++ L, R ++ at.back, split-here, omega (arith, at.before, S.both at.front L, is_left))
+
   stands-here : left ≤ r → r - left < own x → StandsIn size own (order s root) w x (r - left)
   stands-here k j = record { front = at.front ++ L; back = R ++ at.back; split = split-here; before = omega (arith, at.before, S.both at.front L, is_left, k); inside = j }
 
@@ -110,13 +113,19 @@ module _ {T : Type 0} (s : Store T) (root : Option Link) (sound : HasRightLinks 
   pub place-left : r < left → IsReached length s (order s root) w h.left r
   place-left = goes-left length (λ _. 1) counting s root sound w o r reached l is_l h read left size
 
+  -- the node stands behind the place, as far as there are more to its left
+  pub place-found : r ≤ left → (w + (left - r) < length (order s root)) × (get_or (order s root) (w + (left - r)) 0 ≡ l.number)
+  place-found k =
+      let it = stands-behind length (λ _. 1) counting s root sound w o r reached l is_l h read left size in
+      let place : w + (left - r) ≡ length it.0 = omega (arith, it.3, k) in (
+        omega (arith, place, ap length it.2, length-append it.0 (l.number ∷ it.1)),
+        ap (λ (xs : List ℕ). get_or xs (w + (left - r)) 0) it.2 ∙ ap (λ (n : ℕ). get_or (it.0 ++ l.number ∷ it.1) n 0) place ∙ get_or-append_seam it.0 l.number it.1 0,
+      )
+
   pub place-here : r ≡ left → (w < length (order s root)) × (get_or (order s root) w 0 ≡ l.number)
   place-here k =
-      let it = stands-here length (λ _. 1) counting s root sound w o r reached l is_l h read left size (omega (arith, k)) (omega (arith, k)) in
-      let place : w ≡ length it.front = omega (arith, it.before, k) in (
-        omega (arith, place, ap length it.split, length-append it.front (l.number ∷ it.back)),
-        ap (λ (xs : List ℕ). get_or xs w 0) it.split ∙ ap (λ (n : ℕ). get_or (it.front ++ l.number ∷ it.back) n 0) place ∙ get_or-append_seam it.front l.number it.back 0,
-      )
+      let same : w + (left - r) ≡ w = omega (arith, k) in
+      subst (λ (n : ℕ). (n < length (order s root)) × (get_or (order s root) n 0 ≡ l.number)) same (place-found (omega (arith, k)))
 
   pub place-right : left < r → IsReached length s (order s root) w h.right (r - left - 1)
   place-right k = goes-right length (λ _. 1) counting s root sound w o r reached l is_l h read left size (omega (arith, k)) (omega (arith, k))

@@ -66,6 +66,51 @@ pub(crate) fn node_at<T: Drop>(store: &Store<T>, root: Option<Link>, place: usiz
     None
 }
 
+// A node, and how many others stand before it.
+#[derive(Clone, Copy)]
+pub(crate) struct Placed {
+    pub(crate) link: Link,
+    pub(crate) place: usize,
+}
+
+// Of the nodes at the places from `from` to `to` the one that stands highest: the descent ends there.
+pub(crate) fn node_within<T: Drop>(
+    store: &Store<T>,
+    root: Option<Link>,
+    from: usize,
+    to: usize,
+) -> Option<Placed>
+    requires { HasRightLinks store.now root }
+    ensures from { IfSome result (λ p. from ≤ p.place) }
+    ensures to { IfSome result (λ p. p.place < to) }
+    ensures inside { IfSome result (λ p. p.place < length (order store.now root)) }
+    ensures found { IfSome result (λ p. slice_index_or (order store.now root) p.place 0 ≡ p.link.number) }
+    ensures made { IfSome result (λ p. IsMade store.now p.link) }
+    ensures none { IfNone result (from < to → length (order store.now root) ≤ from) }
+{
+    if to <= from {
+        return None;
+    }
+    let mut cur = root;
+    let mut rest = from;
+    'down: while let Some(link) = cur {
+        let shape = store.shape(link);
+        let left = count_below(store, shape.left) as usize;
+        if left < rest {
+            rest = rest - left - 1;
+            cur = shape.right;
+        } else if left - rest < to - from {
+            return Some(Placed {
+                link,
+                place: from + (left - rest),
+            });
+        } else {
+            cur = shape.left;
+        }
+    }
+    None
+}
+
 // The node behind another one, found from that one: no descent from the top.
 
 /// The first node of a subtree.

@@ -8,7 +8,7 @@ ghost use Rattle.node_rope.specs.Items.{value_under};
 
 use crate::cells::Weigh;
 use crate::climb::{before, weight_below};
-use crate::find::{find_weight, node_at, node_behind};
+use crate::find::{find_weight, node_at, node_behind, node_within};
 use crate::links::{find_link, floor_key, floor_link, keep_at_hand, recent_key};
 use crate::low::{first_low_node, last_low_node};
 use crate::rope::Rope;
@@ -66,6 +66,19 @@ impl<T: Weigh> Rope<T> {
             Some(link) => Some(self.store.value(link)),
             None => None,
         }
+    }
+
+    /// An item of those at the places from `from` to `to`: its place and its value. The contract does not say which one
+    /// it is. It is the one that stands highest in the tree, so that to halve a part again and again costs less than a
+    /// descent to the bottom each time.
+    pub fn item_within(&self, from: usize, to: usize) -> Option<(usize, &T)>
+        ensures from { IfSome result (λ x. from ≤ x.0) }
+        ensures to { IfSome result (λ x. x.0 < to) }
+        ensures value { IfSome result (λ x. option_map (λ i. i.1) (slice_get self.now x.0) ≡ Some x.1.now) }
+        ensures none { IfNone result (from < to → length self.now ≤ from) }
+    {
+        let found = node_within(&self.store, self.root, from, to)?;
+        Some((found.place, self.store.value(found.link)))
     }
 
     /// The key of the first item.
