@@ -184,6 +184,14 @@ fn items_are_found_by_keys_units_and_ranks(rt: HostRuntime) {
         rope.last_low(1, 5),
     ];
     equal(&rt, lows, [Some(id(1, 7)), Some(id(1, 4)), None]);
+    // Of one place, of none, and of places behind all.
+    for (from, to, wanted) in [(3, 4, Some((3, 2))), (2, 2, None), (5, 9, None)] {
+        let found = match rope.item_within(from, to) {
+            Some((place, value)) => Some((place, value.rank)),
+            None => None,
+        };
+        equal_at(&rt, &from, found, wanted);
+    }
     let (key, other) = (id(1, 4), id(1, 5));
     assert!(rt; is_held(&rope, key) && !is_held(&rope, other));
     let old = rope.rekey(key, other, Stretch { units: 7, rank: 1 });

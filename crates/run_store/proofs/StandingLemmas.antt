@@ -117,11 +117,6 @@ module _ (r : Runs) (s : AreRuns r) where
         within-by k 0 1 x c (omega (arith, begin-before k l (omega (arith, m, end-within))))
         (omega (arith, c.spot.inside, run-width r s k j (c.run.id, c.run) c.at m))
 
-    pub none-half : (k : ℕ) → k < j → ((x : Item) → slice_get r.rope k ≡ Some x → 0 < 1 → x.1.len ≤ 0) → high ≤ low
-    none-half k m none =
-        let x = item-at k (omega (arith, m, end-within)) in
-        absurd (omega (arith, none x.0 x.1 (omega arith), (run-at r s k x.0.0 x.0.1 x.1).some))
-
     -- the run with the beginning, where that with the end is the next one
     pub some-first : i < j → (to : ℕ) (x : Identifier) → IsInRun r.rope i o to x → IsWithin (cell_ids (cells_in r)) low high x
     some-first l to x c = within-by i o to x c (omega (arith, c.from)) (omega (arith, c.spot.inside, run-width r s i j (c.run.id, c.run) c.at l))

@@ -1,5 +1,6 @@
 // Where cells stand, and a cell in the middle of a part.
 ghost use Rattle.std.specs.Prelude.{◌≡◌, ◌↔◌, ◌+◌, ◌≤◌, ◌<◌, ◌^◌, Contains, IfNone, IfSome, IsNone, Some, [], slice_get, ℕ};
+ghost use Rattle.std.specs.Prelude.{length};
 ghost use Rattle.fugue_ids.specs.Identifiers.{Identifier};
 ghost use Rattle.fugue_ids.specs.Keys.{between, rest_of, ids as ids_of};
 ghost use Rattle.fugue_ids.specs.Listed.{HoldsOrigin};
@@ -96,6 +97,19 @@ impl Runs {
         }
     }
 
+    /// The first cell of one of the runs at the places from `from` to `to`: mostly one near the middle of them.
+    fn head_within(&self, from: usize, to: usize) -> Option<Found>
+        requires { AreRuns self.now }
+        ensures from { IfSome result (λ m. from ≤ m.at.place) }
+        ensures to { IfSome result (λ m. m.at.place < to) }
+        ensures some { IfSome result (λ m. IsInRun self.now.rope m.at.place 0 1 m.id) }
+        ensures found { IfSome result (IsFound self.now.rope) }
+        ensures none { IfNone result (from < to → length self.now.rope ≤ from) }
+    {
+        let (place, run) = self.rope.item_within(from, to)?;
+        Some(found_in(run, place, 0))
+    }
+
     /// A cell between the two places, if there is one: mostly the first one of a run in the middle, or one in the
     /// middle of a run.
     fn middle_between(&self, begin: Standing, end: Standing) -> Option<Found>
@@ -112,9 +126,8 @@ impl Runs {
         if begin.place == end.place {
             return self.middle_of_run(begin.place, begin.offset, end.offset);
         }
-        let half = begin.place + (end.place - begin.place) / 2;
-        if half > begin.place {
-            return self.middle_of_run(half, 0, 1);
+        if let Some(found) = self.head_within(begin.place + 1, end.place) {
+            return Some(found);
         }
         match self.middle_of_run(begin.place, begin.offset, u32::MAX) {
             Some(found) => Some(found),
