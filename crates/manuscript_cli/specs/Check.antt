@@ -84,6 +84,7 @@ pub record CheckedText (input : Change SourceView) (file : Change DiskView) (out
   pub text : List ℕ
   pub read : IsTextRead input text
   pub count : KeepsCount input.old input.new ⊥
+  pub loaded : (replica : Replica) × (at : End) × FileHolds file.old replica at × WritesReport (check_tells text replica) output notes end
   pub reports : Reports (check_tells text) file output notes end
 
 -- the file was loaded, which settles it, and no text was read

@@ -15,6 +15,7 @@ returns-in-Ok g c =
         text = k.text;
         read = k.read;
         count = k.count;
+        loaded = (_, _, loaded.holds, k.writes);
         reports = report_written (check_tells k.text) (check_once k.text) _ _ _ _ _ _ loaded (λ tells. c.in-Ok.ensures.told tells (λ is. cc is)) k.writes;
       })
       | inr k ↦ inr (inl (record {
