@@ -40,7 +40,7 @@ module _ {V : Type 0} where
       let rest = taken es ws (omega (arith, same)) c i (record { inside = omega (arith, at.inside); here = at.here }) in
       grind (arith, nat_tests, none, rest)
 
-  -- so that one without is another
+  -- so a counter that has no value is a different one
   pub differ : (cs : List ℕ) (vs : List V) → length vs ≡ length cs → (c i : ℕ) → IsPlaceOf cs c i → (d : ℕ) → value_beside cs vs d ≡ None → d ≢ c
   differ cs vs same c i at d none e = taken cs vs same c i at (subst (λ (k : ℕ). value_beside cs vs k ≡ None) e none)
 
@@ -105,6 +105,6 @@ renamed_in_block {V} m n key o change from to is also c e old_counter new_counte
   same_in_block : (p q : Identifier) → block_of p ≡ key → block_of q ≡ key → p.counter ≡ q.counter → p ≡ q
   same_in_block p q own at e = let replica : p.replica ≡ q.replica = ap (λ (x : Identifier). x.replica) (own ∙ sym at) in λ i. record { replica = replica i; counter = e i }
 
--- keys that pass the test are one
+-- keys of which `!=` is false are equal
 pub same_key : (a b : Identifier) (r : Bool) → r ≡ not (id_eq a b) → r ≡ false → a ≡ b
 same_key a b r e f = id_eq-true a b (elim (cases_Bool (id_eq a b)) as (λ _. id_eq a b ≡ true) [ inl h ↦ h | inr h ↦ absurd (false≢true (sym f ∙ e ∙ ap not h)) ])

@@ -16,13 +16,13 @@ pub record IsPlaceOf (cs : List ℕ) (c i : ℕ) : Type 0 where
   pub inside : i < length cs
   pub here : slice_index cs i ≡ c
 
--- the counter would go to place i: less ones stand before it, and greater ones from it on
+-- the counter would go to place i: smaller ones stand before it, and greater ones from it on
 pub record IsGapFor (cs : List ℕ) (c i : ℕ) : Type 0 where
   pub inside : i ≤ length cs
   pub before : (j : ℕ) → j < i → slice_index cs j < c
   pub behind : (j : ℕ) → i ≤ j → j < length cs → c < slice_index cs j
 
--- the counter could stand at place i: less ones stand before it, and greater ones behind it
+-- the counter could stand in the place of the one at i: smaller ones stand before that place, and greater ones behind it
 pub record IsFitFor (cs : List ℕ) (c i : ℕ) : Type 0 where
   pub before : (j : ℕ) → j < i → slice_index cs j < c
   pub behind : (j : ℕ) → i < j → j < length cs → c < slice_index cs j

@@ -1,7 +1,7 @@
 -- Another key for a value.
 use Rattle.std.specs.Prelude.{◌≡◌, Option, None}
 
--- the value stands under another key, none under the old one, and those at other keys stay
+-- `to` has the value that `from` had, `from` has none, and each other key has what it had
 pub record IsRenamed {K V : Type 0} (old new : K → Option V) (from to : K) : Type 0 where
   pub here : new to ≡ old from
   pub gone : new from ≡ None

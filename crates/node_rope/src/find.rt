@@ -73,7 +73,8 @@ pub(crate) struct Placed {
     pub(crate) place: usize,
 }
 
-// Of the nodes at the places from `from` to `to` the one that stands highest: the descent ends there.
+// Of the nodes at the places from `from` on and before `to` the one that stands highest, which no clause says: the
+// descent ends there.
 pub(crate) fn node_within<T: Drop>(
     store: &Store<T>,
     root: Option<Link>,

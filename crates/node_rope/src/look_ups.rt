@@ -68,9 +68,9 @@ impl<T: Weigh> Rope<T> {
         }
     }
 
-    /// An item of those at the places from `from` to `to`: its place and its value. The contract does not say which one
-    /// it is. It is the one that stands highest in the tree, so that to halve a part again and again costs less than a
-    /// descent to the bottom each time.
+    /// An item of those at the places from `from` on and before `to`: its place and its value. The contract does not say
+    /// which one it is. It is the one that stands highest in the tree, so that to halve a part again and again costs less
+    /// than a descent to the bottom each time.
     pub fn item_within(&self, from: usize, to: usize) -> Option<(usize, &T)>
         ensures from { IfSome result (λ x. from ≤ x.0) }
         ensures to { IfSome result (λ x. x.0 < to) }

@@ -11,8 +11,8 @@ use std::mem::size_of;
 
 /// A shape as a node keeps it: an `Option<Link>` takes 24 bytes, and its parts that stand here 13.
 ///
-/// A climb reads `parent` to `has_parent` of each node, which are mostly in one line of the cache, since they lie close
-/// together.
+/// A climb that changes sums (`raise`, `shift`) reads fields from `parent` to `has_parent` alone, which are mostly in one
+/// line of the cache, since they lie close together.
 #[derive(Drop)]
 pub struct Packed {
     key: ElementId,

@@ -97,7 +97,8 @@ impl Runs {
         }
     }
 
-    /// The first cell of one of the runs at the places from `from` to `to`: mostly one near the middle of them.
+    /// The first cell of a run at a place from `from` on and before `to`: of the run that stands highest in the tree, which
+    /// no clause says.
     fn head_within(&self, from: usize, to: usize) -> Option<Found>
         requires { AreRuns self.now }
         ensures from { IfSome result (λ m. from ≤ m.at.place) }
@@ -110,8 +111,8 @@ impl Runs {
         Some(found_in(run, place, 0))
     }
 
-    /// A cell between the two places, if there is one: mostly the first one of a run in the middle, or one in the
-    /// middle of a run.
+    /// A cell between the two places, if there is one: the first one of a run that stands between theirs, or else one in
+    /// the middle of what is left of a run at an end.
     fn middle_between(&self, begin: Standing, end: Standing) -> Option<Found>
         requires sound { AreRuns self.now }
         requires from { IsBegin self.now.rope begin.place begin.offset }

@@ -94,7 +94,7 @@ impl<V: Copy> Block<V> {
         }
     }
 
-    // Whether the counter at the place could be this one in the order of the others.
+    // True only if this counter could stand at the place in the order of the others.
     fn fits(&self, place: usize, counter: u32) -> bool
         requires { place < length self.now.counters.items }
         ensures { IsTrue result → IsFitFor self.now.counters.items counter place }
@@ -106,7 +106,7 @@ impl<V: Copy> Block<V> {
         place == 0 || self.counters[place - 1] < counter
     }
 
-    /// The counter's value stands under another then, unless a neighbour is in the way: then each has what it had.
+    /// The counter's value stands under another then, or each has what it had, as where a neighbour is in the way.
     pub fn rename(&mut self, from: u32, to: u32) -> bool
         requires { value_at self.old to ≡ None }
         ensures renamed { IsTrue result → IsRenamed (value_at self.old) (value_at self.new) from to }

@@ -47,8 +47,8 @@ impl<V: Copy> BlockMap<V> {
 
     /// The value stands under another identifier then. After want of memory each has what it had.
     ///
-    /// A letter that is deleted beside others mostly moves the first identifier of its run by one, so that the value
-    /// stays where it is, which costs one search.
+    /// Where the new identifier is of the same block and no other one lies between, the value stays where it is, which
+    /// costs one search.
     pub fn rename(&mut self, from: ElementId, to: ElementId, value: V) -> Result<(), NoMemory>
         requires held { value_of self.old from ≡ Some value }
         requires fresh { value_of self.old to ≡ None }
