@@ -108,6 +108,7 @@ module _ (first second last : DockView) (idle : IsIdle first second) (later : fi
     few = stops.few;
     in_turn = in_turn_from fault old new stops.turns stops.in_turn;
     none_after = stops.none_after;
+    asked = stops.asked;
     not_over = λ lasts is. stops.not_over (lasts_on first second last idle later stops.turns lasts) is;
   }
 

@@ -316,6 +316,10 @@ stops_behind sessions steps fault a b c x y z us h none fewer below i = record {
   few = let f : length (us ++ i.turns) + length i.partly.more ≤ steps = omega (arith, below, i.few, length-append us i.turns) in f;
   in_turn = record { served = us; between = b; middle = y; serves = h; stops = i; turns_are = refl };
   none_after = few_after i.turns (omega (arith, i.few));
+  asked = λ more.
+      let some : 0 < length i.partly.more = more in
+      let begun : i.turns ≡ [] = none_begun i.turns (omega (arith, some, i.few)) in
+      rw (begun, append-nil us) fewer;
   not_over = λ lasts is.
       let begun : i.turns ≡ [] = i.none_begun (lasts_then a b x y us i.turns h lasts) is in
       rw (begun, append-nil us) fewer;
@@ -326,6 +330,10 @@ stops_behind sessions steps fault a b c x y z us h none fewer below i = record {
     few_after (v ∷ []) few = none_after sessions us v none fewer
     few_after (v ∷ w ∷ vs) few = absurd (omega (arith, few))
 
+    none_begun : (vs : List Turn) → length vs ≤ 0 → vs ≡ []
+    none_begun [] few = refl
+    none_begun (v ∷ vs) few = absurd (omega (arith, few))
+
 -- all steps that are allowed were taken
 pub long_stops : (sessions steps : ℕ) (a b : Relay) (x y : DockView) (us : List Turn) → Serves a b x y us → NoneAfter sessions us → count_over us < sessions → length us ≤ steps → ServingStops sessions steps TooLong a b x y
 long_stops sessions steps a b x y us h none fewer within = record {
@@ -334,5 +342,6 @@ long_stops sessions steps a b x y us h none fewer within = record {
   few = let f : length us + 0 ≤ steps = omega (arith, within) in f;
   in_turn = record { served = us; between = b; middle = y; serves = h; stops = none_stops b y; turns_are = sym (append-nil us) };
   none_after = none;
+  asked = λ more. fewer;
   not_over = λ lasts is. fewer;
 }

@@ -104,7 +104,7 @@ pub record WholeFrame (frame : List ℕ) (old new : WireView) (place heard : ℕ
   pub count : heard ≡ place + length frame
   pub within : heard ≤ STREAM_LIMIT
 
--- On a wire that tells, the count of faults rises only where the wire is blamed: no call that failed is made once more, and none is told as another fault.
+-- On a wire that tells, the count of faults rises only where the wire is blamed: no call that failed is passed over, and none is told as another fault.
 pub record WireRisesFor (blamed : Type 0) (old new : WireView) : Type 0 where
   pub tells : WireTells old → WireTells new
   pub calm_told : WireTells old → (blamed → ⊥) → new.faults ≡ old.faults

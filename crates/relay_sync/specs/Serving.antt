@@ -172,6 +172,8 @@ pub record ServingStops (sessions steps : ℕ) (fault : ServeFault) (old_relay n
   pub few : length turns + length partly.more ≤ steps
   pub in_turn : StopsInTurn fault old_relay new_relay old new turns
   pub none_after : NoneAfter sessions turns
+  -- nor was the step asked for that the relay was not given
+  pub asked : 0 < length partly.more → count_over turns < sessions
   pub not_over : Lasts old turns → fault ≡ DockFault → count_over turns < sessions
 
 -- The first of the steps to come bring so many sessions to their end, and the dock lasts for the replies to them. The steps
