@@ -5,13 +5,14 @@ ghost use Rattle.replica_file.specs.declared.load_file.End.{End as FileEnd};
 ghost use Rattle.replica_file.specs.Ends.{EndsAt, IsWithinReach};
 ghost use Rattle.replica_file.specs.Loading.{IsReady};
 ghost use Rattle.command_kinds.specs.Crashes.{IsFinished};
-ghost use Rattle.command_kinds.specs.Files.{FileHolds};
+ghost use Rattle.command_kinds.specs.Files.{FileHolds, FileRefuses};
 ghost use Rattle.command_kinds.specs.Giving.{GivenNoted, GivesTo, MayEnd, SavesNoted};
 ghost use Rattle.command_kinds.specs.Giving.{note_line, note_status, to_save as ops_to_save};
 ghost use Rattle.command_kinds.specs.Printing.{NoteMeets, NotesBlameless};
 ghost use Rattle.command_kinds.specs.Findings.{Finding};
 ghost use Rattle.command_kinds.specs.Saving.{Giver, GivesOnce, Outcome, SavesGiven, SavingBlameless};
-ghost use Rattle.command_kinds.specs.Changes.{StaysCalm, change, notes_room};
+ghost use Rattle.command_kinds.specs.Changes.{IsTold, StaysCalm, change, notes_room};
+ghost use Rattle.command_kinds.specs.declared.refusal.Refusal.{Refusal as AnyRefusal};
 ghost use Rattle.command_kinds.specs.declared.refusal.Refusal.TheVariants.{Outside};
 ghost use Rattle.command_kinds.specs.declared.status.Status.{Status as AnyStatus};
 
@@ -75,6 +76,8 @@ pub fn save_given<F, T: Gives<F>, H: Disk, N: Sink>(
     ensures blameless { SavingBlameless (change (H.seen home.old) (H.seen home.new))
         (change (N.seen notes.old) (N.seen notes.new)) result }
     ensures leaves { T.Leaves giver.now (H.seen home.old) from.old from.new result }
+    ensures unused { IsTold (H.seen home.old) → (why : AnyRefusal) → FileRefuses (H.seen home.old) why
+        → from.new ≡ from.old }
 {
     giver.laws();
     match load_and_save(alloc, giver, from, home) {
@@ -97,6 +100,8 @@ fn load_and_save<F, T: Gives<F>, H: Disk>(
         → (H.seen home.new).faults ≡ (H.seen home.old).faults }
     ensures leaves { (end : AnyStatus) → MayEnd result end
         → T.Leaves giver.now (H.seen home.old) from.old from.new end }
+    ensures unused { IsTold (H.seen home.old) → (why : AnyRefusal) → FileRefuses (H.seen home.old) why
+        → from.new ≡ from.old }
 {
     giver.laws();
     let (mut replica, end) = load_file(alloc, home)?;

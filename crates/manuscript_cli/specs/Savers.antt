@@ -2,15 +2,16 @@
 use Rattle.std.specs.Prelude.{◌≡◌, ℕ}
 use Rattle.outer_ports.specs.Sources.{SourceView}
 use Rattle.command_kinds.specs.Edit.{script}
-use Rattle.command_kinds.specs.Files.{LeavesFile}
+use Rattle.command_kinds.specs.Files.{FileRefuses, LeavesFile}
 use Rattle.command_kinds.specs.Findings.{Finding}
 use Rattle.command_kinds.specs.Notes.{NoteOn, note_giver}
 use Rattle.manuscript_cli.specs.Revising.{LooksAtBase, revision}
 use Rattle.command_kinds.specs.Saving.{Giver, Outcome, ReadsInput, SavesGiven, SavingBlameless}
 use Rattle.command_kinds.specs.Sync.{LeavesWire, reply}
 use Rattle.command_kinds.specs.Take.{other_file, stream}
-use Rattle.command_kinds.specs.Changes.{Change, change}
+use Rattle.command_kinds.specs.Changes.{Change, IsTold, change}
 use Rattle.manuscript_cli.specs.Touched.{Touched}
+use Rattle.command_kinds.specs.declared.refusal.Refusal.{Refusal}
 use Rattle.command_kinds.specs.declared.status.Status.{Status}
 
 pub record Saver : Type 1 where
@@ -70,3 +71,5 @@ pub record RunsSaving (saver : Saver) (old new : Touched) (end : Status) : Type 
   pub does : SavesGiven saver.giver (change old.home new.home) (change old.streams.notes new.streams.notes) end
   pub blameless : SavingBlameless (change old.home new.home) (change old.streams.notes new.streams.notes) end
   pub leaves : saver.Leaves end
+  -- a home file that is refused decides alone: no object is asked to give
+  pub unused : IsTold old.home → (why : Refusal) → FileRefuses old.home why → saver.others ≡ old

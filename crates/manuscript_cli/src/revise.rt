@@ -6,9 +6,11 @@ ghost use Rattle.replica_file.specs.Loading.{IsReady};
 ghost use Rattle.replica_file.specs.Looks.{LooksOnly};
 ghost use Rattle.manuscript_cli.specs.Revising.{BaseStops, HasBytes, IsRevisedTo, LooksAtBase, TextStops};
 ghost use Rattle.manuscript_cli.specs.Revising.{base_refusal, parts_fault_refusal, revise_refusal, revision};
+ghost use Rattle.command_kinds.specs.Files.{FileRefuses};
 ghost use Rattle.command_kinds.specs.Findings.{Finding};
 ghost use Rattle.command_kinds.specs.Saving.{Outcome, ReadsInput, SavesGiven, SavingBlameless};
-ghost use Rattle.command_kinds.specs.Changes.{change};
+ghost use Rattle.command_kinds.specs.Changes.{IsTold, change};
+ghost use Rattle.command_kinds.specs.declared.refusal.Refusal.{Refusal as AnyRefusal};
 ghost use Rattle.command_kinds.specs.declared.refusal.Refusal.TheVariants.{Outside};
 
 use crate::check::read_text;
@@ -78,6 +80,8 @@ pub(crate) fn revise_file<S: Source, N: Sink, H: Disk, G: Disk>(
         (change (N.seen notes.old) (N.seen notes.new)) result }
     ensures looks { LooksAtBase (change (G.seen base.old) (G.seen base.new)) result }
     ensures reads { ReadsInput (S.seen input.old) (S.seen input.new) result }
+    ensures unused { IsTold (H.seen home.old) → (why : AnyRefusal) → FileRefuses (H.seen home.old) why
+        → (S.seen input.new ≡ S.seen input.old) × (G.seen base.new ≡ G.seen base.old) }
 {
     let mut sources = DraftSources { base, draft: input };
     save_given(alloc, &Revision, &mut sources, home, notes)

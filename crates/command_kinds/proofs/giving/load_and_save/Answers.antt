@@ -2,6 +2,7 @@ use Rattle.std.proofs.lemmas.Result.{err_from_is_err_and}
 use Rattle.command_kinds.specs.Findings.{Refuses}
 use Rattle.command_kinds.specs.Changes.{change}
 use Rattle.command_kinds.specs.declared.refusal.Refusal.TheVariants.{NoMemory}
+use Rattle.command_kinds.proofs.FoundLemmas.{holds_or_refuses}
 use Rattle.command_kinds.proofs.GivingLemmas.{load_stops, noted_comes}
 use Rattle.command_kinds.proofs.giving.load_and_save.Goals as goal
 
@@ -18,3 +19,6 @@ returns-in_err-replica-clause-saves g c =
       load_stops (g.T.Gives.giver c.args.giver.now (g.H.Disk.seen c.args.home.now) c.args.from.now c.args.from.now (Refuses NoMemory)) (change (g.H.Disk.seen c.args.home.now) (g.H.Disk.seen c.load_file.new.file))
           c.in_err-replica.field-0.0 c.in_err-replica.ensures.meets,
     )
+
+pub returns-clause-unused : goal.returns-clause-unused
+returns-clause-unused g c told why refuses = absurd (holds_or_refuses (g.H.Disk.seen c.args.home.now) told (_, _) why c.in_ok-replica.ensures.meets.holds refuses)
