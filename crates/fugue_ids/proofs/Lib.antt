@@ -5,6 +5,7 @@ pub mod GatherLemmas
 pub mod IdentifierLemmas
 pub mod OrderLemmas
 pub mod OpLemmas
+pub mod RunLemmas
 pub mod PartedLemmas
 pub mod LowLemmas
 pub mod PartLemmas

@@ -3,6 +3,7 @@ pub mod Identifiers
 pub mod Listed
 pub mod Titles
 pub mod Ops
+pub mod Runs
 pub mod Causes
 pub mod Outs
 pub mod Gathers

@@ -2,8 +2,6 @@ ghost use Rattle.std.specs.Prelude.{◌≡◌, ◌↔◌, ◌<◌, ◌≤◌, le
 
 use crate::{LONGEST_BODY, NoMemory};
 use std::alloc::Global;
-use std::error::Error;
-use std::fmt;
 use std::marker::Model;
 
 /// The body of a note: at most 1,024 bytes of any kind. It is seen as the list of its bytes.
@@ -25,23 +23,12 @@ impl Model for Body {
 }
 
 /// Why bytes are no body.
-#[derive(Clone, Copy, Debug, PartialEq, Eq)]
+#[derive(Clone, Copy, Debug)]
 pub enum BodyFault {
     /// There are more than 1,024 of them.
     TooLong,
     NoMemory,
 }
-
-impl fmt::Display for BodyFault {
-    fn fmt<W: fmt::Write>(&self, f: &mut fmt::Formatter<W>) -> fmt::Result {
-        match self {
-            BodyFault::TooLong => write!(f, "a body has at most {LONGEST_BODY} bytes"),
-            BodyFault::NoMemory => write!(f, "{}", crate::NoMemory),
-        }
-    }
-}
-
-impl Error for BodyFault {}
 
 impl From<NoMemory> for BodyFault {
     ghost use Rattle.std.specs.Prelude.{◌≡◌};

@@ -13,6 +13,7 @@ mod note_names;
 mod op;
 mod order_of;
 mod out;
+mod run;
 mod title;
 
 pub use body::{Body, BodyFault};
@@ -29,4 +30,5 @@ pub use note_names::NoteNames;
 pub use op::{Op, OpKey};
 pub use order_of::OrderOf;
 pub use out::{Failed, Out, Sink, write_heading, write_pieces, write_scalar, write_whole};
+pub use run::{RunStart, read_text};
 pub use title::{Title, TitleFault};

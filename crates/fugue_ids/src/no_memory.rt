@@ -1,18 +1,8 @@
 use std::alloc::{AllocError, AllocFailed};
-use std::error::Error;
-use std::fmt;
 
 /// Want of memory. Nothing was changed, except where a call says what stands.
 #[derive(Clone, Copy, Debug, PartialEq, Eq)]
 pub struct NoMemory;
-
-impl fmt::Display for NoMemory {
-    fn fmt<W: fmt::Write>(&self, f: &mut fmt::Formatter<W>) -> fmt::Result {
-        write!(f, "out of memory")
-    }
-}
-
-impl Error for NoMemory {}
 
 impl From<AllocError> for NoMemory {
     ghost use Rattle.std.specs.Prelude.{◌≡◌};

@@ -41,7 +41,7 @@ pub enum Op {
 const _: () = prove!(size_of::<Op>() == 64);
 
 /// What an operation is looked up by: equal operations have one key.
-#[derive(Clone, Copy, Debug, PartialEq, Eq)]
+#[derive(Clone, Copy, PartialEq, Eq)]
 pub enum OpKey {
     /// The identifier of the element or note that it makes.
     Own(ElementId),

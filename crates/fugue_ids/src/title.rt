@@ -4,8 +4,6 @@ ghost use Rattle.fugue_ids.specs.Titles.{has_line_end as has_line_end_in, IsTitl
 
 use crate::{LONGEST_TITLE, NoMemory, has_line_end};
 use std::alloc::{AllocError, Global};
-use std::error::Error;
-use std::fmt;
 use std::marker::Model;
 
 /// A section's title: UTF-8 of 1 to 480 bytes without LF and CR. It is seen as the list of its scalars.
@@ -36,19 +34,6 @@ pub enum TitleFault {
     LineEnd,
     NoMemory,
 }
-
-impl fmt::Display for TitleFault {
-    fn fmt<W: fmt::Write>(&self, f: &mut fmt::Formatter<W>) -> fmt::Result {
-        match self {
-            TitleFault::Empty => write!(f, "a title is not empty"),
-            TitleFault::TooLong => write!(f, "a title has at most {LONGEST_TITLE} bytes"),
-            TitleFault::LineEnd => write!(f, "a title is one line"),
-            TitleFault::NoMemory => write!(f, "{}", crate::NoMemory),
-        }
-    }
-}
-
-impl Error for TitleFault {}
 
 impl From<AllocError> for TitleFault {
     ghost use Rattle.std.specs.Prelude.{◌≡◌};

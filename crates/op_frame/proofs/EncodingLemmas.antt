@@ -9,7 +9,8 @@ use Rattle.std.proofs.lemmas.List.Elements.{All-append}
 use Rattle.fugue_ids.specs.Identifiers.{Identifier}
 use Rattle.fugue_ids.specs.declared.op.Op.{Op}
 use Rattle.fugue_ids.specs.declared.op.Op.TheVariants.{Text}
-use Rattle.origin_model.specs.frames.Frames.{HasFrame, Item, Run, Single, Typed, frame, item_bytes, item_ops, run_ops, scalar_bytes, in_a_row}
+use Rattle.fugue_ids.specs.Runs.{in_a_row}
+use Rattle.origin_model.specs.frames.Frames.{HasFrame, Item, Run, Single, Typed, frame, item_bytes, item_ops, run_ops, scalar_bytes}
 use Rattle.origin_model.specs.frames.Framings.{frames, scalar_in}
 use Rattle.origin_model.proofs.SharedLemmas.{length-run, typed_scalars}
 use Rattle.op_frame.specs.Stretches.{AreTyped, BeginsStretch, HasRunLength, IsStretch, WritesItem}

@@ -10,8 +10,9 @@ use Rattle.std.proofs.lemmas.Nat.{from_be_bytes-to_be_bytes_2}
 use Rattle.fugue_ids.specs.Identifiers.{Identifier}
 use Rattle.fugue_ids.specs.declared.op.Op.{Op}
 use Rattle.fugue_ids.specs.declared.op.Op.TheVariants.{Text as TextOp}
+use Rattle.fugue_ids.specs.Runs.{in_a_row, next_id}
 use Rattle.origin_model.specs.declared.grammar.Grammar.TheVariants.{Version2}
-use Rattle.origin_model.specs.frames.Frames.{HasRunFrame, IsFrame, IsIdentifier, IsOrigin, Run, Typed, id_bytes, next_id, origin_bytes, run_frame, run_ops, scalar_bytes, text_bytes, in_a_row}
+use Rattle.origin_model.specs.frames.Frames.{HasRunFrame, IsFrame, IsIdentifier, IsOrigin, Run, Typed, id_bytes, origin_bytes, run_frame, run_ops, scalar_bytes, text_bytes}
 use Rattle.origin_model.proofs.SharedLemmas.{length-scalars}
 use Rattle.op_frame.specs.Firsts.{StartsWith}
 use Rattle.op_frame.specs.FrameFronts.{IsRunBehind, IsScalarBytes}

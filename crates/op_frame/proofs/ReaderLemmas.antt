@@ -3,9 +3,10 @@ use Rattle.std.proofs.Common.{◌≡◌, ℕ, ◌+◌, ◌-◌, ◌≤◌, List,
 use Rattle.std.specs.Prelude.{All, Option, Some, None, Result, Ok, Err, IfSome, IsErrOf, flat_map}
 use Rattle.std.specs.Char.{IsScalar}
 use Rattle.fugue_ids.specs.declared.op.Op.{Op}
+use Rattle.fugue_ids.specs.Runs.{in_a_row}
 use Rattle.outer_ports.specs.Sources.{SourceView}
 use Rattle.origin_model.specs.declared.grammar.Grammar.{Grammar}
-use Rattle.origin_model.specs.frames.Frames.{scalar_bytes, in_a_row}
+use Rattle.origin_model.specs.frames.Frames.{scalar_bytes}
 use Rattle.op_frame.specs.Heads.{GivesHeld, IsHeld, behind_held, held_ops, scalars_in}
 use Rattle.op_frame.specs.Readers.{Advances, FrameReading, Nexts, StandsStill, StillWith, fault_after, held as held_back, kept_fault, read}
 use Rattle.op_frame.specs.Steps.{Takes}

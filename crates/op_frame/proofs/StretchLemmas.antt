@@ -9,9 +9,11 @@ use Rattle.fugue_ids.specs.Ops.{op_eq}
 use Rattle.fugue_ids.specs.declared.op.Op.{Op}
 use Rattle.fugue_ids.specs.declared.op.Op.TheVariants.{Section, Text, Delete, Note}
 use Rattle.fugue_ids.proofs.OpLemmas.{op_eq-true}
-use Rattle.origin_model.specs.frames.Frames.{Item, Run, Single, Typed, item_ops, next_id, run_ops, in_a_row}
-use Rattle.origin_model.specs.frames.Framings.{grown, id_behind, items, items_from, longer, next_text, run_more, scalar_in}
-use Rattle.origin_model.proofs.SharedLemmas.{length-typed, one_text, typed_more}
+use Rattle.fugue_ids.proofs.RunLemmas.{left_is, length-typed}
+use Rattle.fugue_ids.specs.Runs.{id_behind, in_a_row, next_id}
+use Rattle.origin_model.specs.frames.Frames.{Item, Run, Single, Typed, item_ops, run_ops}
+use Rattle.origin_model.specs.frames.Framings.{grown, items, items_from, longer, next_text, run_more, scalar_in}
+use Rattle.origin_model.proofs.SharedLemmas.{one_text, typed_more}
 use Rattle.op_frame.specs.Stretches.{BeginsStretch, HasRunLength, is_typed_behind}
 
 -- the last Text of a run
@@ -57,7 +59,7 @@ behind_next run front last op some same =
     let e : run.id.counter + (length run.text - 1) + 1 ≡ run.id.counter + length run.text = omega (arith, some) in
     ap (λ (o : Op). is_typed_behind o op) found.is
     ∙ behind_is (id_behind run.id (length run.text - 1)) run.section found.left run.right found.ch op
-    ∙ λ i. op_eq op (Text (record { replica = run.id.replica; counter = e i }) run.section (Some (id_behind run.id (length run.text - 1))) run.right (scalar_in op))
+    ∙ λ i. op_eq op (Text (record { replica = run.id.replica; counter = e i }) run.section (sym (left_is run.left run.id (length run.text) some) i) run.right (scalar_in op))
 
 -- what comes of an item and one operation more
 record Grown (item : Item) (op : Op) : Type 0 where
@@ -70,7 +72,7 @@ run_grown : (run : Run) (op : Op) → 1 ≤ length run.text → length run.text 
     → (longer run op ≡ Some (Typed (run_more run (scalar_in op)))) × (run_ops (run_more run (scalar_in op)) ≡ run_ops run ++ op ∷ []) × HasRunLength (Typed (run_more run (scalar_in op)))
 run_grown run op some room test is = (
   ap (λ (b : Bool). if b then Some (Typed (run_more run (scalar_in op))) else None) (and_from (nat_lt (length run.text) 1024) (op_eq op (next_text run (scalar_in op))) (lt-ltb (length run.text) 1024 room) test),
-  typed_more run (scalar_in op) some ∙ ap (λ (o : Op). run_ops run ++ o ∷ []) (sym is),
+  typed_more run (scalar_in op) ∙ ap (λ (o : Op). run_ops run ++ o ∷ []) (sym is),
   (omega (arith, some, length-append run.text (scalar_in op ∷ [])), omega (arith, room, length-append run.text (scalar_in op ∷ []))),
 )
 

@@ -2,7 +2,8 @@
 use Rattle.std.specs.Prelude.{◌≡◌, ℕ, suc, ◌+◌, ◌*◌, ◌<◌, ◌≤◌, ◌^◌, Option, Some, None, IfSome, All, List, [], ◌∷◌, ◌++◌, length, drop, flat_map}
 use Rattle.std.specs.Char.{IsScalar}
 use Rattle.fugue_ids.specs.declared.op.Op.{Op}
-use Rattle.origin_model.specs.frames.Frames.{HasRunFrame, Run, next_id, run_frame, scalar_bytes, in_a_row}
+use Rattle.fugue_ids.specs.Runs.{in_a_row, next_id}
+use Rattle.origin_model.specs.frames.Frames.{HasRunFrame, Run, run_frame, scalar_bytes}
 use Rattle.op_frame.specs.FrameFronts.{scalar_of_bytes}
 use Rattle.op_frame.specs.declared.head.Head.{Head}
 

@@ -3,7 +3,8 @@ use Rattle.std.specs.Prelude.{◌≡◌, ℕ, ◌≤◌, Some, List, ◌∷◌, 
 use Rattle.fugue_ids.specs.Identifiers.{id_eq, origin_eq}
 use Rattle.fugue_ids.specs.declared.op.Op.{Op}
 use Rattle.fugue_ids.specs.declared.op.Op.TheVariants.{Text}
-use Rattle.origin_model.specs.frames.Frames.{Item, Run, Single, Typed, item_bytes, item_ops, next_id, run_frame, run_ops}
+use Rattle.fugue_ids.specs.Runs.{next_id}
+use Rattle.origin_model.specs.frames.Frames.{Item, Run, Single, Typed, item_bytes, item_ops, run_frame, run_ops}
 use Rattle.origin_model.specs.frames.Framings.{items}
 use Rattle.op_frame.specs.declared.encoding.TheConstants.{LONGEST_RUN}
 

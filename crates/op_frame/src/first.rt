@@ -11,7 +11,7 @@ use origin_model::Grammar;
 use std::alloc::Global;
 
 /// What stands at the front of some bytes.
-#[derive(Debug, Drop)]
+#[derive(Drop)]
 pub enum First {
     /// A frame: the operations that it stands for, and its length.
     Whole(Vec<Op>, usize),

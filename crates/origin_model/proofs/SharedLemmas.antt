@@ -25,7 +25,7 @@ pub use Rattle.origin_model.proofs.files.AppendLemmas.{Parts, batch_appended, fr
 pub use Rattle.origin_model.proofs.files.BatchLemmas.{batch_of, behind_word, is_batch, length_is, one_grammar, same_batch, word_is}
 pub use Rattle.origin_model.proofs.frames.SingleLemmas.{IsSingle, framed_is, framed_of, single_of, singles_read}
 pub use Rattle.origin_model.proofs.frames.ItemLemmas.{bytes_of, item_framed, item_is_framed, ops_of, same_parts}
-pub use Rattle.origin_model.proofs.frames.TypedLemmas.{length-run, length-typed, typed_more, typed_scalars}
+pub use Rattle.origin_model.proofs.frames.TypedLemmas.{length-run, typed_more, typed_scalars}
 pub use Rattle.origin_model.proofs.frames.FramingLemmas.{framing_read, one_text, written, written_framing, written_once}
 pub use Rattle.origin_model.proofs.frames.LengthLemmas.{frame_wide, framing_short, length-scalars, origin_short, run_long}
 pub use Rattle.origin_model.proofs.frames.VersionLemmas.{read_too}

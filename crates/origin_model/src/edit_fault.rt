@@ -1,6 +1,4 @@
 use fugue_ids::NoMemory;
-use std::error::Error;
-use std::fmt;
 
 /// Why an edit or a note was not made, in the order in which the causes are looked for. All but want of memory change
 /// nothing; a note that was not made changes nothing at all.
@@ -17,22 +15,6 @@ pub enum EditFault {
     /// The first operations of an edit may stand. Of a note nothing does.
     NoMemory,
 }
-
-impl fmt::Display for EditFault {
-    fn fmt<W: fmt::Write>(&self, f: &mut fmt::Formatter<W>) -> fmt::Result {
-        match self {
-            EditFault::NoSection => write!(f, "there is no such section"),
-            EditFault::OutOfRange => write!(f, "the position is behind the end"),
-            EditFault::IdsSpent(greatest) => {
-                write!(f, "the identifiers are spent at counter {greatest}")
-            }
-            EditFault::TooMany(held) => write!(f, "{held} operations are accepted or wait"),
-            EditFault::NoMemory => write!(f, "{}", NoMemory),
-        }
-    }
-}
-
-impl Error for EditFault {}
 
 impl From<NoMemory> for EditFault {
     ghost use Rattle.std.specs.Prelude.{◌≡◌};

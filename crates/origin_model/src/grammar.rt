@@ -1,5 +1,5 @@
 /// Which frames there are.
-#[derive(Clone, Copy, Debug, PartialEq, Eq)]
+#[derive(Clone, Copy)]
 pub enum Grammar {
     /// The frames of a Section, a Text and a Delete.
     Version1,

@@ -3,7 +3,8 @@
 ghost use Rattle.origin_model.specs.taking.Closure.{ClosureOfSet, ClosureIsClosed, ClosureBySet, SameSetConverges};
 ghost use Rattle.origin_model.specs.taking.Closure.{ClosureOfUnion, ClosureOfMerge, KeptSuffice, SettlingEnds};
 ghost use Rattle.origin_model.specs.taking.Closure.{StaysSettled, PartsAsOne, SavedSuffice, SelfNamedNeverAccepted};
-ghost use Rattle.origin_model.specs.edits.Landing.{LandsBehind, LandsBehindOrigin};
+ghost use Rattle.origin_model.specs.edits.Landing.{LandsBehind, LandsBehindLeaf, LandsBehindNewest, LandsBehindOrigin};
+ghost use Rattle.origin_model.specs.edits.RunLaws.{RunLands, RunsGoInWhole, TypedIsRun};
 ghost use Rattle.origin_model.specs.order.Laws.{OrderTotal, LaterOpsKeepOrder, PartsKeepOrder, OrderBySet};
 ghost use Rattle.origin_model.specs.sides.KeyLaws.{BlockEndByKeys, BlockStartByKeys, GapByKeys, KeyBound, KeysStay};
 ghost use Rattle.origin_model.specs.sides.KeyLaws.{NewKey, RunKey, SiblingsByKeys};
@@ -23,10 +24,21 @@ pub fn later_ops_keep_order()
 /// An element whose right origin stands directly behind its left origin lands between them, whoever made it.
 ///
 /// The start and the end count as the two ends of the order. The law speaks of every lawful history, and not only of
-/// those that edits make.
+/// those that edits make. An element that is the first to have its left origin lands directly behind it wherever its
+/// right origin stands, so what was typed in a row stands as one piece.
 pub fn lands_behind()
     ensures between { LandsBehind }
     ensures by_origin { LandsBehindOrigin }
+    ensures leaf { LandsBehindLeaf }
+    ensures newest { LandsBehindNewest }
+    ensures run { RunLands }
+{}
+
+/// A run is accepted in one piece where nothing of it is there, its first Text is Ready, nothing that waits has or names
+/// one of its identifiers, and there is room. What an edit types is such a run.
+pub fn runs_go_in_whole()
+    ensures whole { RunsGoInWhole }
+    ensures typed { TypedIsRun }
 {}
 
 /// The order of a place is the walk of the tree of sides: left children, the node, right children.

@@ -12,22 +12,12 @@ pub use lookup::Lookup;
 pub use named::verdict_in;
 pub use names::{Named, Names, names_of};
 pub use node::Node;
-use std::error::Error;
-use std::fmt;
 
 /// Want of memory for an operation, which comes back.
 #[derive(Debug, Drop)]
 pub struct NoMemoryFor {
     pub op: Op,
 }
-
-impl fmt::Display for NoMemoryFor {
-    fn fmt<W: fmt::Write>(&self, f: &mut fmt::Formatter<W>) -> fmt::Result {
-        write!(f, "out of memory")
-    }
-}
-
-impl Error for NoMemoryFor {}
 
 /// What an operation is against the accepted ones. The first that applies decides, in this order.
 #[derive(Clone, Copy, Debug, PartialEq, Eq)]
@@ -44,7 +34,7 @@ pub enum Verdict {
 }
 
 /// What a named identifier has to be held as.
-#[derive(Clone, Copy, Debug, PartialEq, Eq)]
+#[derive(Clone, Copy)]
 pub enum Role {
     Any,
     Section,

@@ -1,7 +1,7 @@
 use fugue_ids::ByteList;
 
 /// The bytes that a session is sent, and whether it is closed by them.
-#[derive(Debug, Drop)]
+#[derive(Drop)]
 pub struct Reply {
     pub session: u32,
     pub bytes: ByteList,

@@ -2,7 +2,7 @@
 use fugue_ids::ElementId;
 
 /// Where a node hangs in the sided tree.
-#[derive(Clone, Copy, Debug, PartialEq, Eq, PartialOrd, Ord)]
+#[derive(Clone, Copy)]
 pub enum Slot {
     /// Among the right children of a node, or of the start.
     RightOf(Option<ElementId>),

@@ -8,13 +8,13 @@ use Rattle.std.proofs.lemmas.List.Elements.{All-append, All-cons, All-head, All-
 use Rattle.fugue_ids.specs.Identifiers.{Identifier, id_eq}
 use Rattle.fugue_ids.proofs.IdentifierLemmas.{ne-id_eq}
 use Rattle.fugue_ids.proofs.ListLemmas.{all_before, all_behind}
+use Rattle.fugue_ids.specs.Runs.{id_behind}
 use Rattle.node_rope.specs.Beside.{put_under, rekeyed}
 use Rattle.node_rope.specs.Items.{value_under}
 use Rattle.node_rope.specs.Places.{StandsAt}
 use Rattle.run_store.specs.Borders.{IsBorder, IsHiding, IsMove, IsTakenFirst, IsTakenLast, run_continues, last_shown, shifted, together}
 use Rattle.run_store.specs.Cells.{cell_hiding}
 use Rattle.run_store.specs.Growth.{last_id_of_run}
-use Rattle.origin_model.specs.frames.Framings.{id_behind}
 use Rattle.run_store.specs.Heads.{head_behind, lettered, typed_cells}
 use Rattle.run_store.specs.Runs.{AreRuns, IsRun, all_cells, cells_in, first_of, run_from, run_to}
 use Rattle.run_store.specs.declared.cell.Cell.{Cell}

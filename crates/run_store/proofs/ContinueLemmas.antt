@@ -1,13 +1,13 @@
 -- A cell that continues a run.
 use Rattle.std.proofs.Common.{◌≡◌, ◌⊎◌, ℕ, suc, ◌+◌, ◌<◌, ◌≤◌, Bool, true, false, not, ap, arith, inl, inr, refl, subst, sym, ◌∙◌}
 use Rattle.std.specs.Prelude.{Some, if◌then◌else◌}
-use Rattle.std.proofs.lemmas.Bool.{and_parts, eqb-true}
-use Rattle.fugue_ids.proofs.IdentifierLemmas.{origin_eq-refl, origin_eq-true}
+use Rattle.std.proofs.lemmas.Bool.{and_parts}
+use Rattle.fugue_ids.proofs.IdentifierLemmas.{id_eq-true, origin_eq-refl, origin_eq-true}
+use Rattle.fugue_ids.specs.Runs.{id_behind, next_id}
 use Rattle.node_rope.specs.Items.{value_under}
 use Rattle.std.specs.List.{Contains}
 use Rattle.run_store.specs.Cells.{cell_of_origin, cell_ids}
 use Rattle.run_store.specs.Growth.{IsNew}
-use Rattle.origin_model.specs.frames.Framings.{id_behind}
 use Rattle.run_store.specs.Heads.{head_behind, lettered}
 use Rattle.run_store.specs.NewCells.{cell_depth, forest_beside, has_right, is_continued, shares_right}
 use Rattle.run_store.specs.Runs.{AreRuns, cells_in, first_of}
@@ -29,14 +29,10 @@ pub continued-is : (last h : Head) (ch : ℕ) → is_continued (Some (lettered l
 continued-is last h ch t =
     let a = and_parts _ _ t in
     let b = and_parts _ _ a.1 in
-    let c = and_parts _ _ b.0 in
     let d = and_parts _ _ b.1 in
-    let r : h.id.replica ≡ last.id.replica = eqb-true _ _ c.0 in
-    let n : h.id.counter ≡ suc last.id.counter = eqb-true _ _ c.1 in
-    let m : suc last.id.counter ≡ last.id.counter + 1 = omega arith in
     record {
       left = origin_eq-true h.left (Some last.id) a.0;
-      id = λ i. record { replica = r i; counter = (n ∙ m) i };
+      id = id_eq-true h.id (next_id last.id) b.0;
       right = origin_eq-true h.right last.right d.0;
       shown = unhidden last.hidden d.1;
     }

@@ -5,12 +5,12 @@ use Rattle.std.specs.List.{Contains}
 use Rattle.fugue_ids.specs.Identifiers.{Identifier}
 use Rattle.fugue_ids.proofs.ListLemmas.{contains_middle}
 use Rattle.fugue_ids.proofs.OrderLemmas.{at_most_from_le}
+use Rattle.fugue_ids.specs.Runs.{id_behind}
 use Rattle.node_rope.specs.Items.{value_under}
 use Rattle.node_rope.specs.Places.{IsFloor}
 use Rattle.std.proofs.lemmas.List.{map-append}
 use Rattle.std.proofs.lemmas.Option.{none-some}
 use Rattle.run_store.specs.Cells.{cell_of, cell_ids}
-use Rattle.origin_model.specs.frames.Framings.{id_behind}
 use Rattle.run_store.specs.Heads.{head_behind}
 use Rattle.run_store.specs.Runs.{AreRuns, IsSpot, cells_in, first_of}
 use Rattle.run_store.specs.declared.cell.Cell.{Cell}

@@ -10,10 +10,10 @@ use Rattle.fugue_ids.specs.Identifiers.{Identifier, id_cmp}
 use Rattle.fugue_ids.proofs.IdentifierLemmas.{cases_id, ne-id_eq}
 use Rattle.fugue_ids.proofs.ListLemmas.{contains_cases, contains_none}
 use Rattle.fugue_ids.proofs.OrderLemmas.{at_most_from_le, at_most_from_not_lt, le_from_at_most}
+use Rattle.fugue_ids.specs.Runs.{id_behind}
 use Rattle.node_rope.specs.Items.{value_under}
 use Rattle.node_rope.specs.Places.{IsFloor}
 use Rattle.run_store.specs.Cells.{cell_ids}
-use Rattle.origin_model.specs.frames.Framings.{id_behind}
 use Rattle.run_store.specs.Heads.{head_behind, next_head, typed_cells}
 use Rattle.run_store.specs.Runs.{AreRuns, IsRun, all_cells, cells_of, first_of, letters_of}
 use Rattle.run_store.specs.declared.cell.Cell.{Cell}

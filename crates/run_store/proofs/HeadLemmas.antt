@@ -2,7 +2,7 @@
 use Rattle.std.proofs.Common.{◌≡◌, ◌≢◌, ℕ, zero, suc, ◌+◌, ◌<◌, List, [], ◌∷◌, ◌++◌, ap, arith, get_or, length, refl, sym, take, drop, ◌∙◌}
 use Rattle.std.specs.Prelude.{Bool, Some}
 use Rattle.fugue_ids.specs.Identifiers.{Identifier}
-use Rattle.origin_model.specs.frames.Framings.{id_behind}
+use Rattle.fugue_ids.specs.Runs.{id_behind}
 use Rattle.run_store.specs.Heads.{head_behind, lettered, next_head, typed_cells}
 use Rattle.run_store.specs.declared.cell.Head.{Head}
 

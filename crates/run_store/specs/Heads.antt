@@ -1,7 +1,7 @@
 -- The cells of a run, one behind the other.
 use Rattle.std.specs.Prelude.{ℕ, zero, suc, ◌+◌, ◌*◌, List, [], ◌∷◌, Some}
 use Rattle.fugue_ids.specs.declared.key.Key.{Key}
-use Rattle.origin_model.specs.frames.Framings.{id_behind}
+use Rattle.fugue_ids.specs.Runs.{id_behind}
 use Rattle.run_store.specs.declared.cell.Cell.{Cell}
 use Rattle.run_store.specs.declared.cell.Head.{Head}
 

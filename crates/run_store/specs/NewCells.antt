@@ -1,6 +1,7 @@
 -- A new cell: its key, where it goes in, and whether it continues a run.
 use Rattle.std.specs.Prelude.{Bool, false, not, if◌then◌else◌, ◌&&◌, nat_eq, List, Option, Some, None, slice_get, ℕ, zero, suc}
-use Rattle.fugue_ids.specs.Identifiers.{Identifier, origin_eq}
+use Rattle.fugue_ids.specs.Identifiers.{Identifier, id_eq, origin_eq}
+use Rattle.fugue_ids.specs.Runs.{next_id}
 use Rattle.fugue_ids.specs.declared.key.Gap.{Gap}
 use Rattle.origin_model.specs.sides.KeyedGap.{gap_index}
 use Rattle.fugue_ids.specs.declared.key.Key.{Key}
@@ -49,14 +50,10 @@ abbrev pub cell_before : List Cell → ℕ → Option Cell
 cell_before cells zero = None
 cell_before cells (suc i) = slice_get cells i
 
--- the next identifier of the same replica
-abbrev pub is_next : (last id : Identifier) → Bool
-is_next last id = nat_eq id.replica last.replica && nat_eq id.counter (suc last.counter)
-
 -- a new cell directly behind this one continues its run: this one is its left origin and the one before it of the same replica, has the same right origin and is not hidden
 abbrev pub is_continued : Option Cell → Identifier → Option Identifier → Option Identifier → Bool
 is_continued None id left right = false
-is_continued (Some c) id left right = origin_eq left (Some c.id) && (is_next c.id id && (origin_eq right c.right && not c.hidden))
+is_continued (Some c) id left right = origin_eq left (Some c.id) && (id_eq id (next_id c.id) && (origin_eq right c.right && not c.hidden))
 
 -- a new cell in the gap continues a run
 abbrev pub continues : List Cell → Gap → Identifier → Option Identifier → Option Identifier → Bool

@@ -11,7 +11,7 @@ pub struct Head {
 }
 
 /// An element of a place, with its origins, its scalar and its key.
-#[derive(Clone, Copy, Debug, PartialEq, Eq)]
+#[derive(Clone, Copy)]
 pub struct Cell {
     pub id: ElementId,
     pub left: Option<ElementId>,

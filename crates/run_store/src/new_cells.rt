@@ -1,10 +1,12 @@
 // What a new cell is: its key, and whether it continues a run.
 ghost use Rattle.std.specs.Prelude.{◌≡◌, ◌<◌, ◌≤◌, ◌^◌, ℕ, Contains, IfSome, Some, length, option_map, suc};
+ghost use Rattle.fugue_ids.specs.Identifiers.{id_eq};
+ghost use Rattle.fugue_ids.specs.Runs.{next_id};
 ghost use Rattle.run_store.specs.Cells.{cell_of_origin, cell_ids};
 ghost use Rattle.run_store.specs.Growth.{IsNew};
 ghost use Rattle.run_store.specs.Heads.{run_head_of, lettered};
 ghost use Rattle.run_store.specs.NewCells.{depth_under, forest_beside as forest_by, is_continued as continues};
-ghost use Rattle.run_store.specs.NewCells.{is_next as follows, new_cell, shares_right};
+ghost use Rattle.run_store.specs.NewCells.{new_cell, shares_right};
 ghost use Rattle.run_store.specs.Runs.{AreRuns, cells_in};
 
 use crate::cell::Head;
@@ -13,7 +15,7 @@ use fugue_ids::{ElementId, Key, MOST_OPERATIONS};
 
 /// Whether an identifier is the next one of the same replica.
 fn is_next(last: &ElementId, id: &ElementId) -> bool
-    ensures { result ≡ follows last.now id.now }
+    ensures { result ≡ id_eq id.now (next_id last.now) }
 {
     id.replica == last.replica && id.counter > last.counter && id.counter - last.counter == 1
 }

@@ -1,8 +1,8 @@
 // Cells of a run, and parts of it as runs.
 ghost use Rattle.std.specs.Prelude.{◌≡◌, ◌+◌, ◌<◌, ◌≤◌, ◌^◌};
-ghost use Rattle.origin_model.specs.frames.Framings.{id_behind as id_by};
 ghost use Rattle.run_store.specs.Heads.{head_behind};
 ghost use Rattle.run_store.specs.Runs.{first_of, run_from as rest_by, run_to as front_by};
+ghost use Rattle.fugue_ids.specs.Runs.{id_behind as id_by};
 
 use crate::cell::Head;
 use crate::run::{Origin, Run};

@@ -2,9 +2,9 @@
 use Rattle.std.specs.Prelude.{◌≡◌, List, Some, option_map}
 use Rattle.std.specs.FinMap.{FinMap, get}
 use Rattle.fugue_ids.specs.Identifiers.{Identifier, id_cmp}
+use Rattle.fugue_ids.specs.Runs.{id_behind}
 use Rattle.origin_model.specs.sides.Node.{find_node}
 use Rattle.origin_model.specs.declared.operations.node.Node.{Node}
-use Rattle.stretch_map.specs.Ahead.{ahead}
 use Rattle.stretch_map.specs.declared.follows.Typed.{Typed}
 
 -- the node of an identifier with these origins
@@ -19,6 +19,6 @@ IsNodeMap m ns = (x : Identifier) → option_map (node_with x) (get m x) ≡ fin
 pub record IsTyped (ns : List Node) (n : Node) : Type 0 where
   pub before : Node
   pub held : find_node ns before.id ≡ Some before
-  pub next : ahead before.id 1 ≡ n.id
+  pub next : id_behind before.id 1 ≡ n.id
   pub left : n.left ≡ Some before.id
   pub right : n.right ≡ before.right

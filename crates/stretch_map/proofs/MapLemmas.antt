@@ -4,12 +4,12 @@ use Rattle.std.specs.Prelude.{IfSome, None, Option, Some}
 use Rattle.std.specs.FinMap.{get, get-from_entries, get-insert, get-remove, insert, remove, same_map}
 use Rattle.std.specs.Ordering.{is_eq}
 use Rattle.fugue_ids.specs.Identifiers.{Identifier, id_cmp}
-use Rattle.stretch_map.specs.Ahead.{ahead}
 use Rattle.stretch_map.specs.Contents.{Layout, entries_with, contents, spread, value_in}
 use Rattle.stretch_map.specs.Rules.{IsFollowed}
 use Rattle.stretch_map.specs.Stretches.{Adds, AreStretches, EndsAt, IsSame, Loses}
 use Rattle.stretch_map.proofs.FoundLemmas.{cases_le, covered}
 use Rattle.fugue_ids.proofs.OrderLemmas.{id_cmp-IsAntisymmetric, id_cmp_total}
+use Rattle.fugue_ids.specs.Runs.{id_behind}
 
 module _ {V : Type 0} (nth : Identifier → V → ℕ → V) where
   -- a value of the finite map is the one that is found in the entries
@@ -37,7 +37,7 @@ module _ {V : Type 0} (nth : Identifier → V → ℕ → V) where
         get-contents k q ∙ loses.found q ∙ ap (λ o. cond (is_eq (id_cmp q key)) None o) (sym (get-contents l q)) ∙ sym (get-remove id_cmp_total (contents nth l) key q))
 
   -- where the next identifier has not the value that follows, a stretch ends with the key
-  pub ends_unless_followed : (reaches : Identifier → V → ℕ → Type 0) → ((first : Identifier) (value : V) (j k : ℕ) → nth (ahead first j) (nth first value j) k ≡ nth first value (j + k))
+  pub ends_unless_followed : (reaches : Identifier → V → ℕ → Type 0) → ((first : Identifier) (value : V) (j k : ℕ) → nth (id_behind first j) (nth first value j) k ≡ nth first value (j + k))
       → (l : Layout V) → AreStretches reaches l → (key : Identifier) → (IsFollowed nth (value_in nth l) key → ⊥) → EndsAt l key
   ends_unless_followed reaches adds l are key not e has cover =
       elim (cases_le e.1.last key.counter) [
@@ -46,8 +46,8 @@ module _ {V : Type 0} (nth : Identifier → V → ℕ → V) where
             let from : e.0.counter ≤ key.counter = cover.from in
             let j : ℕ = key.counter - e.0.counter in
             let steps : key.counter + 1 - e.0.counter ≡ key.counter - e.0.counter + 1 = omega arith in
-            let there : ahead e.0 (key.counter - e.0.counter) ≡ key = let c : e.0.counter + (key.counter - e.0.counter) ≡ key.counter = omega arith in λ i. record { replica = cover.replica i; counter = c i } in
-            let next = covered nth reaches l are (ahead key 1) e has (record { replica = cover.replica; from = omega arith; to = omega arith }) in
+            let there : id_behind e.0 (key.counter - e.0.counter) ≡ key = let c : e.0.counter + (key.counter - e.0.counter) ≡ key.counter = omega arith in λ i. record { replica = cover.replica i; counter = c i } in
+            let next = covered nth reaches l are (id_behind key 1) e has (record { replica = cover.replica; from = omega arith; to = omega arith }) in
             absurd (not (record {
               value = nth e.0 e.1.value (key.counter - e.0.counter);
               held = covered nth reaches l are key e has cover;

@@ -2,7 +2,7 @@
 use Rattle.std.proofs.Common.{ap, arith, inl, inr, refl, subst, sym, ℕ, ◌+◌, ◌-◌, ◌<◌, ◌∙◌, ◌≡◌, ◌≢◌, ◌≤◌}
 use Rattle.fugue_ids.specs.Identifiers.{Identifier}
 use Rattle.fugue_ids.proofs.IdentifierLemmas.{cases_id}
-use Rattle.stretch_map.specs.Ahead.{ahead}
+use Rattle.fugue_ids.specs.Runs.{id_behind}
 use Rattle.stretch_map.specs.Contents.{Entry, Layout, value_in}
 use Rattle.stretch_map.specs.Stretches.{AreStretches, Covers, Has, IsReached, rest_behind, up_to}
 use Rattle.stretch_map.proofs.FoundLemmas.{cases_le, cases_number, same_has}
@@ -10,8 +10,8 @@ use Rattle.stretch_map.proofs.LessenedLemmas.{Splits}
 use Rattle.stretch_map.proofs.SetLemmas.{value_stays}
 
 module _ {V : Type 0} (nth : Identifier → V → ℕ → V) (reaches : Identifier → V → ℕ → Type 0)
-    (adds : (first : Identifier) (value : V) (j k : ℕ) → nth (ahead first j) (nth first value j) k ≡ nth first value (j + k))
-    (goes_on : (first : Identifier) (value : V) (j k : ℕ) → reaches first value (j + k) → reaches (ahead first j) (nth first value j) k)
+    (adds : (first : Identifier) (value : V) (j k : ℕ) → nth (id_behind first j) (nth first value j) k ≡ nth first value (j + k))
+    (goes_on : (first : Identifier) (value : V) (j k : ℕ) → reaches first value (j + k) → reaches (id_behind first j) (nth first value j) k)
     (l k : Layout V) (are : AreStretches reaches l) (e : Entry V) (old : Has l e) (j : ℕ) (some : 0 < j) (within : e.0.counter + j ≤ e.1.last)
     (splits : Splits l k (up_to e (e.0.counter + j - 1)) (rest_behind nth e j)) where
   parted_apart : (a b : Entry V) → Has k a → Has k b → a.0.replica ≡ b.0.replica → a.0.counter < b.0.counter → a.1.last < b.0.counter
@@ -142,7 +142,7 @@ module _ {V : Type 0} (nth : Identifier → V → ℕ → V) (reaches : Identifi
             let there = parted_own q (subst (λ (z : Entry V). Covers z q) (λ i. (d i, value i)) c) in
             (there.0, there.1, there.2, there.3 ∙ (λ i. nth (sym d i) (sym value i).value (q.counter - (sym d i).counter)))
         | inr d ↦
-            let not_rest : x.0 ≢ ahead e.0 j = λ i.
+            let not_rest : x.0 ≢ id_behind e.0 j = λ i.
             let there : x.0.counter ≡ e.0.counter + j = ap (λ (z : Identifier). z.counter) i in
             let rep : e.0.replica ≡ x.0.replica = sym (ap (λ (z : Identifier). z.replica) i) in
             let far : e.1.last < x.0.counter = are.apart e x old h rep (omega (arith, some, there)) in

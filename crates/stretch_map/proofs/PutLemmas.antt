@@ -3,7 +3,7 @@ use Rattle.std.proofs.Common.{ap, arith, inl, inr, refl, subst, sym, List, ℕ, 
 use Rattle.std.specs.Prelude.{None, Some}
 use Rattle.std.specs.BTreeMap.{BTreeMap, IsOrdered, UpdatesBy}
 use Rattle.fugue_ids.specs.Identifiers.{Identifier, id_cmp}
-use Rattle.stretch_map.specs.Ahead.{ahead}
+use Rattle.fugue_ids.specs.Runs.{id_behind}
 use Rattle.stretch_map.specs.Contents.{Entry, Latest, Layout, value_in}
 use Rattle.stretch_map.specs.Rules.{IsNext}
 use Rattle.stretch_map.specs.Stretches.{Adds, AreStretches, GoesOn, Grows, Has, IsBehindAll, IsFloor, IsLatest, IsLatestUpTo, KeepsEntry, KeptBecomes, LatestBecomes, NoLatestUpTo, latest_at, up_to}
@@ -61,8 +61,8 @@ module _ {V : Type 0} (nth : Identifier → V → ℕ → V) (reaches : Identifi
         (sets_behind l (ls, es) are.laid e (key, record { value = value; last = key.counter }) is.latest is.replica (begins_before e is) becomes keeps)
 
   -- the stretch of the identifier before is one that goes on
-  goes_from : (joins : (first : Identifier) (v : V) (j : ℕ) → reaches first v j → reaches (ahead first j) (nth first v j) 1 → reaches first v (j + 1))
-      → (adds : (first : Identifier) (v : V) (j k : ℕ) → nth (ahead first j) (nth first v j) k ≡ nth first v (j + k))
+  goes_from : (joins : (first : Identifier) (v : V) (j : ℕ) → reaches first v j → reaches (id_behind first j) (nth first v j) 1 → reaches first v (j + 1))
+      → (adds : (first : Identifier) (v : V) (j k : ℕ) → nth (id_behind first j) (nth first v j) k ≡ nth first v (j + k))
       → IsNext nth reaches (value_in nth l) key value → (e : Entry V) × Has l e × GoesOn nth reaches e key value
   goes_from joins adds next =
       elim (found nth reaches l are next.before) [
@@ -79,7 +79,7 @@ module _ {V : Type 0} (nth : Identifier → V → ℕ → V) (reaches : Identifi
             ] in
             let steps : ℕ = next.before.counter - e.0.counter in
             let far : steps + 1 ≡ key.counter - e.0.counter = omega arith in
-            let there : ahead e.0 steps ≡ next.before = let c : e.0.counter + steps ≡ next.before.counter = omega arith in λ i. record { replica = w.2.replica i; counter = c i } in
+            let there : id_behind e.0 steps ≡ next.before = let c : e.0.counter + steps ≡ next.before.counter = omega arith in λ i. record { replica = w.2.replica i; counter = c i } in
             let value_there : nth e.0 e.1.value steps ≡ next.value_before = let both : Some (nth e.0 e.1.value steps) ≡ Some next.value_before = sym w.3 ∙ next.held in cc in (
               e,
               w.1,
@@ -120,8 +120,8 @@ module _ {V : Type 0} (nth : Identifier → V → ℕ → V) (reaches : Identifi
             ];
       }
 
-  module _ (joins : (first : Identifier) (v : V) (j : ℕ) → reaches first v j → reaches (ahead first j) (nth first v j) 1 → reaches first v (j + 1))
-      (adds : (first : Identifier) (v : V) (j k : ℕ) → nth (ahead first j) (nth first v j) k ≡ nth first v (j + k)) where
+  module _ (joins : (first : Identifier) (v : V) (j : ℕ) → reaches first v j → reaches (id_behind first j) (nth first v j) 1 → reaches first v (j + 1))
+      (adds : (first : Identifier) (v : V) (j k : ℕ) → nth (id_behind first j) (nth first v j) k ≡ nth first v (j + k)) where
     -- where no kept stretch goes on, nor a last one can, the value does not follow
     pub not_next_before : NoLatestUpTo l.0 key → ((e : Entry V) → IsFloor l.1 key e → GoesOn nth reaches e key value → ⊥) → IsNext nth reaches (value_in nth l) key value → ⊥
     not_next_before none kept next =

@@ -5,7 +5,7 @@ use Rattle.std.specs.BTreeMap.{BTreeMap, IsOrdered, UpdatesBy}
 use Rattle.std.specs.Ordering.{is_eq}
 use Rattle.fugue_ids.specs.Identifiers.{Identifier, id_cmp}
 use Rattle.fugue_ids.proofs.IdentifierLemmas.{cases_id, id_at-other}
-use Rattle.stretch_map.specs.Ahead.{ahead}
+use Rattle.fugue_ids.specs.Runs.{id_behind}
 use Rattle.stretch_map.specs.Contents.{Entry, Latest, Layout}
 use Rattle.stretch_map.specs.Stretches.{AreStretches, Covers, IsCut, IsFloor, IsLatest, IsLatestUpTo, IsParted, IsReadIn, IsSame, IsShorter, IsTakenFrom, IsTakenFromLatest, KeepsEntry, KeptBecomes, LatestBecomes, Loses, rest_behind, up_to}
 use Rattle.stretch_map.specs.declared.stretches.Stretch.{Stretch}
@@ -20,7 +20,7 @@ pub cut_by : {V : Type 0} (nth : Identifier → V → ℕ → V) (m k n : BTreeM
     → UpdatesBy id_cmp (id_cmp (rest_behind nth e (key.counter - e.0.counter + 1)).0) m k (Some (rest_behind nth e (key.counter - e.0.counter + 1)).1)
     → UpdatesBy id_cmp (id_cmp e.0) k n (Some (up_to e key.counter).1) → IsOrdered id_cmp n → IsCut nth m.entries n.entries e key
 cut_by nth m k n e key cover u w ordered =
-    let g : Identifier = ahead e.0 (key.counter - e.0.counter + 1) in
+    let g : Identifier = id_behind e.0 (key.counter - e.0.counter + 1) in
     let apart : g ≢ e.0 = λ d. let same : e.0.counter + (key.counter - e.0.counter + 1) ≡ e.0.counter = ap (λ (x : Identifier). x.counter) d in absurd (omega arith) in
     record {
       head = w.1;
@@ -60,8 +60,8 @@ module _ {V : Type 0} (nth : Identifier → V → ℕ → V) (reaches : Identifi
       record { are = are; found = λ q. refl; head = kept ∙ ap (λ c. Some (up_to e c).1) same }
 
   -- a kept stretch cut in two
-  pub parted_kept : ((first : Identifier) (value : V) (j k : ℕ) → nth (ahead first j) (nth first value j) k ≡ nth first value (j + k))
-      → ((first : Identifier) (value : V) (j k : ℕ) → reaches first value (j + k) → reaches (ahead first j) (nth first value j) k)
+  pub parted_kept : ((first : Identifier) (value : V) (j k : ℕ) → nth (id_behind first j) (nth first value j) k ≡ nth first value (j + k))
+      → ((first : Identifier) (value : V) (j k : ℕ) → reaches first value (j + k) → reaches (id_behind first j) (nth first value j) k)
       → (e : Entry V) → KeepsEntry l.1 e → Covers e key → key.counter < e.1.last → (es : List (Entry V)) → IsCut nth l.1 es e key → IsParted nth reaches l (l.0, es) e key
   parted_kept adds goes_on e old cover inside es cut =
       record {
@@ -77,22 +77,22 @@ module _ {V : Type 0} (nth : Identifier → V → ℕ → V) (reaches : Identifi
       same_head = let from : e.0.counter ≤ key.counter = cover.from in let c : key.counter ≡ e.0.counter + (key.counter - e.0.counter + 1) - 1 = omega arith in ap (up_to e) c
 
       -- a last stretch begins elsewhere than the rest
-      not_rest : (x : Entry V) → IsLatest l.0 x → x.0 ≢ ahead e.0 (key.counter - e.0.counter + 1)
+      not_rest : (x : Entry V) → IsLatest l.0 x → x.0 ≢ id_behind e.0 (key.counter - e.0.counter + 1)
       not_rest x a d =
           let begun : x.0.counter ≤ x.1.last = are.begun x (inl a) in
           let there : e.0.counter + (key.counter - e.0.counter + 1) ≤ e.1.last = within in
-          let own : Covers x (ahead e.0 (key.counter - e.0.counter + 1)) = subst (Covers x) d (record { replica = refl; from = omega arith; to = begun }) in
-          let rest : Covers e (ahead e.0 (key.counter - e.0.counter + 1)) = record { replica = refl; from = omega arith; to = there } in
-          not_both l are.laid x e a old (sym (one_covers nth reaches l are (ahead e.0 (key.counter - e.0.counter + 1)) x e (inl a) (inr old) own rest))
+          let own : Covers x (id_behind e.0 (key.counter - e.0.counter + 1)) = subst (Covers x) d (record { replica = refl; from = omega arith; to = begun }) in
+          let rest : Covers e (id_behind e.0 (key.counter - e.0.counter + 1)) = record { replica = refl; from = omega arith; to = there } in
+          not_both l are.laid x e a old (sym (one_covers nth reaches l are (id_behind e.0 (key.counter - e.0.counter + 1)) x e (inl a) (inr old) own rest))
 
       -- a kept stretch after the cut is one of both parts, or was kept
       kept_parts : (x : Entry V) → KeepsEntry es x
-          → (x ≡ up_to e key.counter) ⊎ ((x ≡ rest_behind nth e (key.counter - e.0.counter + 1)) ⊎ ((x.0 ≢ e.0) × (x.0 ≢ ahead e.0 (key.counter - e.0.counter + 1)) × KeepsEntry l.1 x))
+          → (x ≡ up_to e key.counter) ⊎ ((x ≡ rest_behind nth e (key.counter - e.0.counter + 1)) ⊎ ((x.0 ≢ e.0) × (x.0 ≢ id_behind e.0 (key.counter - e.0.counter + 1)) × KeepsEntry l.1 x))
       kept_parts x a =
           elim (cases_id x.0 e.0) [
             | inl d ↦ let value = same_kept es x (up_to e key.counter) a cut.head d in inl (λ i. (d i, value i))
             | inr d ↦
-                elim (cases_id x.0 (ahead e.0 (key.counter - e.0.counter + 1))) [
+                elim (cases_id x.0 (id_behind e.0 (key.counter - e.0.counter + 1))) [
                   | inl f ↦ let value = same_kept es x (rest_behind nth e (key.counter - e.0.counter + 1)) a cut.tail f in inr (inl (λ i. (f i, value i)))
                   | inr f ↦ inr (inr (d, f, sym (cut.others x.0 d f) ∙ a))
                 ]

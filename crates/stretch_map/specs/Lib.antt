@@ -1,4 +1,3 @@
-pub mod Ahead
 pub mod Contents
 pub mod RuleLaws
 pub mod Rules

@@ -2,7 +2,7 @@
 use Rattle.std.specs.Prelude.{◌≡◌, ℕ, zero, suc, ◌+◌, ◌<◌, ◌^◌, Some, refl}
 use Rattle.std.proofs.Common.{ap, arith, sym, ◌∙◌}
 use Rattle.fugue_ids.specs.Identifiers.{Identifier}
-use Rattle.stretch_map.specs.Ahead.{ahead}
+use Rattle.fugue_ids.specs.Runs.{id_behind}
 use Rattle.stretch_map.specs.Rules.{CanBeLater, later, typed_behind}
 use Rattle.stretch_map.specs.declared.follows.Position.{Position}
 use Rattle.stretch_map.specs.declared.follows.Typed.{Typed}
@@ -31,22 +31,17 @@ later-joins p j near far some = let one : p.at + j + 1 < 2 ^ 64 = far (omega ari
 pub typed-start : (first : Identifier) (t : Typed) → typed_behind first t 0 ≡ t
 typed-start first t = refl
 
--- the right origin stays
-behind-right : (first : Identifier) (t : Typed) (k : ℕ) → (typed_behind first t k).right ≡ t.right
-behind-right first t zero = refl
-behind-right first t (suc k) = refl
-
 -- the origins behind at least one step
-behind-suc : (first : Identifier) (t : Typed) (n m : ℕ) → n ≡ suc m → typed_behind first t n ≡ record { left = Some (ahead first m); right = t.right }
+behind-suc : (first : Identifier) (t : Typed) (n m : ℕ) → n ≡ suc m → typed_behind first t n ≡ record { left = Some (id_behind first m); right = t.right }
 behind-suc first t n m e = ap (typed_behind first t) e
 
 -- steps of identifiers add up
-ahead-ahead : (first : Identifier) (j k : ℕ) → ahead (ahead first j) k ≡ ahead first (j + k)
-ahead-ahead first j k = let e : first.counter + j + k ≡ first.counter + (j + k) = omega arith in λ i. record { replica = first.replica; counter = e i }
+behind-behind : (first : Identifier) (j k : ℕ) → id_behind (id_behind first j) k ≡ id_behind first (j + k)
+behind-behind first j k = let e : first.counter + j + k ≡ first.counter + (j + k) = omega arith in λ i. record { replica = first.replica; counter = e i }
 
 -- steps add up
-pub typed-adds : (first : Identifier) (t : Typed) (j k : ℕ) → typed_behind (ahead first j) (typed_behind first t j) k ≡ typed_behind first t (j + k)
+pub typed-adds : (first : Identifier) (t : Typed) (j k : ℕ) → typed_behind (id_behind first j) (typed_behind first t j) k ≡ typed_behind first t (j + k)
 typed-adds first t j zero = let e : j ≡ j + 0 = omega arith in ap (typed_behind first t) e
 typed-adds first t j (suc k) =
     let step : j + suc k ≡ suc (j + k) = omega arith in
-    (λ i. record { left = Some (ahead-ahead first j k i); right = behind-right first t j i }) ∙ sym (behind-suc first t (j + suc k) (j + k) step)
+    (λ i. record { left = Some (behind-behind first j k i); right = t.right }) ∙ sym (behind-suc first t (j + suc k) (j + k) step)

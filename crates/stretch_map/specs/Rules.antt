@@ -1,7 +1,7 @@
 -- The rules of the values that stretches have.
-use Rattle.std.specs.Prelude.{◌≡◌, ℕ, zero, suc, ◌+◌, ◌<◌, ◌≤◌, ◌^◌, IfSome, IsNone, IsSome, None, Option, Some}
+use Rattle.std.specs.Prelude.{◌≡◌, ℕ, ◌+◌, ◌<◌, ◌≤◌, ◌^◌, IfSome, IsNone, IsSome, None, Option, Some}
 use Rattle.fugue_ids.specs.Identifiers.{Identifier}
-use Rattle.stretch_map.specs.Ahead.{ahead}
+use Rattle.fugue_ids.specs.Runs.{id_behind, left_behind}
 use Rattle.stretch_map.specs.declared.follows.Position.{Position}
 use Rattle.stretch_map.specs.declared.follows.Typed.{Typed}
 
@@ -15,13 +15,12 @@ CanBeLater p k = 0 < k → p.at + k < 2 ^ 64
 
 -- the origins so many steps behind: the identifier before it is the left origin
 abbrev pub typed_behind : Identifier → Typed → ℕ → Typed
-typed_behind first t zero = t
-typed_behind first t (suc k) = record { left = Some (ahead first k); right = t.right }
+typed_behind first t k = record { left = left_behind t.left first k; right = t.right }
 
 -- the value is the one that follows that of the identifier before
 pub record IsNext {V : Type 0} (nth : Identifier → V → ℕ → V) (reaches : Identifier → V → ℕ → Type 0) (value_of : Identifier → Option V) (key : Identifier) (value : V) : Type 0 where
   pub before : Identifier
-  pub at_key : ahead before 1 ≡ key
+  pub at_key : id_behind before 1 ≡ key
   pub value_before : V
   pub held : value_of before ≡ Some value_before
   pub reached : reaches before value_before 1
@@ -31,7 +30,7 @@ pub record IsNext {V : Type 0} (nth : Identifier → V → ℕ → V) (reaches :
 pub record IsFollowed {V : Type 0} (nth : Identifier → V → ℕ → V) (value_of : Identifier → Option V) (key : Identifier) : Type 0 where
   pub value : V
   pub held : value_of key ≡ Some value
-  pub followed : value_of (ahead key 1) ≡ Some (nth key value 1)
+  pub followed : value_of (id_behind key 1) ≡ Some (nth key value 1)
 
 -- the greatest counter of the replica's identifiers that have a value, and None where none has one
 pub record IsGreatestIn {V : Type 0} (value_of : Identifier → Option V) (replica : ℕ) (greatest : Option ℕ) : Type 0 where

@@ -5,7 +5,7 @@ use Rattle.std.specs.List.Sorted.{IsStrictlySortedBy}
 use Rattle.std.specs.Map.{keys_of, lookup}
 use Rattle.std.specs.Ordering.{is_eq, nat_cmp}
 use Rattle.fugue_ids.specs.Identifiers.{Identifier, IsAtMost, id_cmp}
-use Rattle.stretch_map.specs.Ahead.{ahead}
+use Rattle.fugue_ids.specs.Runs.{id_behind}
 use Rattle.stretch_map.specs.Contents.{Entry, Latest, Layout, value_in}
 use Rattle.stretch_map.specs.Rules.{IsNext}
 use Rattle.stretch_map.specs.declared.stretches.Stretch.{Stretch}
@@ -158,13 +158,13 @@ pub record IsTakenFromLatest {V : Type 0} (ls ks : List (ℕ × Latest V)) (e : 
 
 -- what is left of a stretch behind so many steps
 abbrev pub rest_behind : {V : Type 0} → (Identifier → V → ℕ → V) → Entry V → ℕ → Entry V
-rest_behind nth e j = (ahead e.0 j, record { value = nth e.0 e.1.value j; last = e.1.last })
+rest_behind nth e j = (id_behind e.0 j, record { value = nth e.0 e.1.value j; last = e.1.last })
 
 -- the kept stretches fs are es, but that this one ends with the key, and what was behind is another one
 pub record IsCut {V : Type 0} (nth : Identifier → V → ℕ → V) (es fs : List (Entry V)) (e : Entry V) (key : Identifier) : Type 0 where
   pub head : KeepsEntry fs (up_to e key.counter)
   pub tail : KeepsEntry fs (rest_behind nth e (key.counter - e.0.counter + 1))
-  pub others : (q : Identifier) → q ≢ e.0 → q ≢ ahead e.0 (key.counter - e.0.counter + 1) → kept_at fs q ≡ kept_at es q
+  pub others : (q : Identifier) → q ≢ e.0 → q ≢ id_behind e.0 (key.counter - e.0.counter + 1) → kept_at fs q ≡ kept_at es q
   pub ordered : IsStrictlySortedBy id_cmp (keys_of fs)
 
 -- k has the values of l, and this stretch ends with the key

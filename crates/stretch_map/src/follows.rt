@@ -1,6 +1,6 @@
 ghost use Rattle.std.specs.Prelude.{◌≡◌, ℕ, ◌+◌, ◌<◌, ◌^◌, ◌↔◌, IsTrue, refl};
 ghost use Rattle.fugue_ids.specs.Identifiers.{Identifier};
-ghost use Rattle.stretch_map.specs.Ahead.{ahead};
+ghost use Rattle.fugue_ids.specs.Runs.{id_behind};
 ghost use Rattle.stretch_map.specs.Rules.{later, CanBeLater, typed_behind};
 ghost use Rattle.stretch_map.specs.RuleLaws.{later-adds, later-goes_on, later-joins, later-start, at_once, typed-start};
 ghost use Rattle.stretch_map.specs.RuleLaws.{typed-adds};
@@ -143,13 +143,13 @@ pub trait Follows: Copy {
 
     /// Where it reaches a value, and the next one from there, it reaches the next one.
     ghost joins: { (first : Identifier) (value : Self) (j : ℕ) → reaches first value j
-        → reaches (ahead first j) (nth first value j) 1 → reaches first value (j + 1) };
+        → reaches (id_behind first j) (nth first value j) 1 → reaches first value (j + 1) };
 
     /// A stretch that begins in the midst of another goes on as that one does.
     ghost adds: { (first : Identifier) (value : Self) (j k : ℕ)
-        → nth (ahead first j) (nth first value j) k ≡ nth first value (j + k) };
+        → nth (id_behind first j) (nth first value j) k ≡ nth first value (j + k) };
 
     /// And the rule reaches as far from there.
     ghost goes_on: { (first : Identifier) (value : Self) (j k : ℕ) → reaches first value (j + k)
-        → reaches (ahead first j) (nth first value j) k };
+        → reaches (id_behind first j) (nth first value j) k };
 }

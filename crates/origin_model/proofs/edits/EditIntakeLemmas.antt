@@ -14,7 +14,7 @@ pub record IsTakenIn (hold most : ℕ) (h w ops : List Op) : Type 0 where
   pub all_kept : kept_from hold most (record { history = h; waiting = w }) ops ≡ ops
 
 -- the state of a history and of what waits
-abbrev state_of : List Op → List Op → Held
+abbrev pub state_of : List Op → List Op → Held
 state_of h w = record { history = h; waiting = w }
 
 -- a Ready operation does not wait

@@ -17,7 +17,7 @@ has_left_from None l k e = absurd (false≢true k)
 has_left_from (Some op) l k e = ap (λ z. origin_eq z l) e ∙ origin_eq-refl l
 
 -- an element goes in behind those that stand before it, and before the others
-placed_between : (q : Identifier → Bool) (front back : List Identifier) (x : Identifier) → All (λ e. q e ≡ true) front → All (λ e. q e ≡ false) back → placed q (front ++ back) x ≡ front ++ x ∷ back
+pub placed_between : (q : Identifier → Bool) (front back : List Identifier) (x : Identifier) → All (λ e. q e ≡ true) front → All (λ e. q e ≡ false) back → placed q (front ++ back) x ≡ front ++ x ∷ back
 placed_between q [] back x f g = placed-first q back x g
 placed_between q (e ∷ es) back x f g = placed-behind q e (es ++ back) x (All-head (λ z. q z ≡ true) e es f) ∙ ap (λ l. e ∷ l) (placed_between q es back x (All-tail (λ z. q z ≡ true) e es f) g)
 

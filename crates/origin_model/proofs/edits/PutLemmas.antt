@@ -49,7 +49,7 @@ record Landed (p : Place) (h ops : List Op) (ids front back : List Identifier) :
   elsewhere : (q : Place) → q ≢ p → order q (extended h ops) ≡ order q h
 
 -- a text is an element of its section
-text_here : (x s : Identifier) (l r : Option Identifier) (ch : ℕ) → element_of (within s) (Text x s l r ch) ≡ Some x
+pub text_here : (x s : Identifier) (l r : Option Identifier) (ch : ℕ) → element_of (within s) (Text x s l r ch) ≡ Some x
 text_here x s l r ch = ap (λ b. if b then Some x else None) (id_eq-refl s)
 
 -- the next identifiers are new once one is taken

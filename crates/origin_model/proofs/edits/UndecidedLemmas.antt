@@ -99,7 +99,7 @@ made_unknown r h w (DropSection k) =
     ]
 
 -- unknown operations decide nothing, one after another
-all_stay : (ops h w : List Op) → All (IsUnknown w) ops → Undecided h w → Undecided (extended h ops) w
+pub all_stay : (ops h w : List Op) → All (IsUnknown w) ops → Undecided h w → Undecided (extended h ops) w
 all_stay [] h w u a = a
 all_stay (op ∷ ops) h w u a = all_stay ops (op ∷ h) w (All-tail (IsUnknown w) op ops u) (stays op h w (All-head (IsUnknown w) op ops u) a)
 

@@ -4,10 +4,11 @@ use Rattle.std.specs.Prelude.{nat_lt}
 use Rattle.std.specs.Char.{IsScalar}
 use Rattle.std.proofs.lemmas.Bool.{and_from, and_parts, cases_lt, lt-ltb, ltb-true}
 use Rattle.origin_model.specs.declared.grammar.Grammar.TheVariants.{Version2}
-use Rattle.origin_model.specs.frames.Frames.{Framed, HasFrame, HasRunFrame, IsFrame, IsIdentifier, IsItem, IsOrigin, Item, Reads, Run, Single, Typed, Whole, item_bytes, item_ops, run_ops, in_a_row}
+use Rattle.origin_model.specs.frames.Frames.{Framed, HasFrame, HasRunFrame, IsFrame, IsIdentifier, IsItem, IsOrigin, Item, Reads, Run, Single, Typed, Whole, item_bytes, item_ops, run_ops}
 use Rattle.origin_model.specs.frames.Framings.{AreLongest, IsFraming, IsLongest, IsWritten, grown, frames, items, items_from, longer, next_text, run_more, scalar_in}
 use Rattle.origin_model.proofs.frames.ItemLemmas.{bytes_of, item_framed, item_is_framed, ops_of, same_parts}
 use Rattle.origin_model.proofs.frames.TypedLemmas.{goes_on, length-run, run_by_ops, typed_more}
+use Rattle.fugue_ids.specs.Runs.{in_a_row}
 
 -- a run that may grow: it may have one Text
 pub record IsBegun (run : Run) : Type 0 where
@@ -57,7 +58,7 @@ longer_is run op more begun has e =
       text = record { some = omega (arith, long, begun.some); short = omega (arith, long, room); scalars = All-push IsScalar run.text (scalar_in op) begun.scalars next.4 };
       counters_fit = omega (arith, long, next.0.counter_fits);
     } in
-    subst (λ (i : Item). (IsItem Version2 i) × (item_ops i ≡ run_ops run ++ op ∷ [])) p.1 (grown, typed_more run (scalar_in op) begun.some ∙ ap (λ (o : Op). run_ops run ++ o ∷ []) (sym is))
+    subst (λ (i : Item). (IsItem Version2 i) × (item_ops i ≡ run_ops run ++ op ∷ [])) p.1 (grown, typed_more run (scalar_in op) ∙ ap (λ (o : Op). run_ops run ++ o ∷ []) (sym is))
 
 pub extends : (begun : Item) (op : Op) (more : Item) → IsItem Version2 begun → HasFrame op → grown begun op ≡ Some more → Extends begun op more
 extends (Single (Section id left right title)) op more is has e = absurd (cc e)

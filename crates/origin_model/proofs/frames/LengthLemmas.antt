@@ -4,9 +4,10 @@ use Rattle.std.specs.Prelude.{◌*◌}
 use Rattle.std.proofs.lemmas.Grind.{flat_map-append}
 use Rattle.origin_model.specs.declared.grammar.Grammar.{Grammar}
 use Rattle.origin_model.specs.declared.grammar.Grammar.TheVariants.{Version2}
-use Rattle.origin_model.specs.frames.Frames.{Framed, IsFrame, IsItem, Item, Single, Typed, frame, item_bytes, item_ops, next_id, origin_bytes, run_frame, scalar_bytes, single_frames, in_a_row}
+use Rattle.origin_model.specs.frames.Frames.{Framed, IsFrame, IsItem, Item, Single, Typed, frame, item_bytes, item_ops, origin_bytes, run_frame, scalar_bytes, single_frames}
 use Rattle.origin_model.proofs.frames.ItemLemmas.{bytes_of, ops_of}
 use Rattle.origin_model.proofs.frames.TypedLemmas.{length-run}
+use Rattle.fugue_ids.specs.Runs.{in_a_row, next_id}
 
 pub length-scalars : (text : List ℕ) → length (flat_map scalar_bytes text) ≡ 3 * length text
 length-scalars [] = refl

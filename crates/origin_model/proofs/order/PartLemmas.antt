@@ -14,7 +14,7 @@ abbrev pub Within : List Op → List Op → Type 0
 Within s h = (i : Identifier) (op : Op) → holder s i ≡ Some op → holder h i ≡ Some op
 
 -- without its newest operation the part is still within the whole
-within-older : (op : Op) (s h : List Op) → IsReady s op → Within (op ∷ s) h → Within s h
+pub within-older : (op : Op) (s h : List Op) → IsReady s op → Within (op ∷ s) h → Within s h
 within-older op s h w f i o e = f i o (holder-other op s i (held_not_own op s i w (ap is_some e)) ∙ e)
 
 -- an origin of held elements that is held when they come

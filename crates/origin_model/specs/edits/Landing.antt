@@ -4,7 +4,7 @@ use Rattle.fugue_ids.specs.Identifiers.{Identifier, id_eq}
 use Rattle.fugue_ids.specs.Listed.{last_before}
 use Rattle.fugue_ids.specs.declared.op.Op.{Op}
 use Rattle.origin_model.specs.operations.History.{left_of, right_of, element_of}
-use Rattle.origin_model.specs.order.Order.{order}
+use Rattle.origin_model.specs.order.Order.{left_at, order}
 use Rattle.origin_model.specs.operations.Verdict.{Lawful}
 use Rattle.origin_model.specs.declared.operations.Place.{Place}
 
@@ -40,3 +40,21 @@ LandsBehindOrigin =
     (p : Place) (op : Op) (older : List Op) (x : Identifier) → Lawful (op ∷ older) → element_of p op ≡ Some x
     → IfSome (left_of op) (λ l. Contains (order p older) l) → right_of op ≡ following (order p older) (left_of op)
     → StandsBehind (left_of op) (x ∷ []) (order p older) (order p (op ∷ older))
+
+-- no element has it as its left origin
+abbrev pub IsLeaf : List Op → Identifier → Type 0
+IsLeaf h l = (u : Identifier) → left_at h u ≡ Some l → ⊥
+
+-- an element whose left origin is no other element's lands directly behind that, wherever its right origin stands
+abbrev pub LandsBehindLeaf : Type 0
+LandsBehindLeaf =
+    (p : Place) (op : Op) (older : List Op) (x l : Identifier) (front back : List Identifier) → Lawful (op ∷ older) → element_of p op ≡ Some x
+    → left_of op ≡ Some l → IsLeaf older l → order p older ≡ front ++ l ∷ back
+    → order p (op ∷ older) ≡ front ++ l ∷ x ∷ back
+
+-- an element that was accepted directly after its left origin lands directly behind it
+abbrev pub LandsBehindNewest : Type 0
+LandsBehindNewest =
+    (p : Place) (next op : Op) (older : List Op) (x l : Identifier) (front back : List Identifier) → Lawful (next ∷ op ∷ older) → element_of p op ≡ Some l
+    → element_of p next ≡ Some x → left_of next ≡ Some l → order p (op ∷ older) ≡ front ++ l ∷ back
+    → order p (next ∷ op ∷ older) ≡ front ++ l ∷ x ∷ back

@@ -4,6 +4,8 @@ use Rattle.std.specs.Int.{to_be_bytes, w16, w32}
 use Rattle.std.specs.Char.{IsScalar}
 use Rattle.std.specs.Str.{encode_utf8_all}
 use Rattle.fugue_ids.specs.Identifiers.{Identifier}
+use Rattle.fugue_ids.specs.Runs.{run_from}
+use Rattle.fugue_ids.specs.declared.run.RunStart.{RunStart}
 use Rattle.fugue_ids.specs.Titles.{IsTitleText}
 use Rattle.fugue_ids.specs.declared.limits.TheConstants.{LONGEST_BODY, MOST_NAMES}
 use Rattle.fugue_ids.specs.declared.op.Op.{Op}
@@ -55,17 +57,13 @@ pub record Run : Type 0 where
   pub right : Option Identifier
   pub text : List ℕ
 
--- the identifier that its replica gives next
-abbrev pub next_id : Identifier → Identifier
-next_id id = record { replica = id.replica; counter = id.counter + 1 }
+-- what the first one says but for its scalar
+abbrev pub start_of : Run → RunStart
+start_of run = record { id = run.id; section = run.section; left = run.left; right = run.right }
 
--- one Text for each scalar: each has the next identifier, and stands behind the one before
-abbrev pub in_a_row : (id section : Identifier) (left right : Option Identifier) → List ℕ → List Op
-in_a_row id section left right [] = []
-in_a_row id section left right (ch ∷ text) = Text id section left right ch ∷ in_a_row (next_id id) section (Some id) right text
-
+-- its operations
 abbrev pub run_ops : Run → List Op
-run_ops run = in_a_row run.id run.section run.left run.right run.text
+run_ops run = run_from (start_of run) run.text
 
 -- how many scalars there are in two bytes, and the scalars
 abbrev pub text_bytes : List ℕ → List ℕ

@@ -1,12 +1,12 @@
 -- How a list of operations is cut into frames: from the front, each frame stands for as many operations as one can.
-use Rattle.std.specs.Prelude.{◌≡◌, ℕ, ◌+◌, ◌-◌, ◌≤◌, Option, Some, None, All, List, [], ◌∷◌, ◌++◌, length, flat_map}
+use Rattle.std.specs.Prelude.{◌≡◌, ℕ, ◌≤◌, Option, Some, None, All, List, [], ◌∷◌, ◌++◌, length, flat_map}
 use Rattle.std.specs.Prelude.{◌&&◌, nat_lt, if◌then◌else◌}
-use Rattle.fugue_ids.specs.Identifiers.{Identifier}
+use Rattle.fugue_ids.specs.Runs.{start_behind, text_by}
 use Rattle.fugue_ids.specs.Ops.{op_eq}
 use Rattle.fugue_ids.specs.declared.op.Op.{Op}
 use Rattle.fugue_ids.specs.declared.op.Op.TheVariants.{Section, Text, Delete, Note}
 use Rattle.origin_model.specs.declared.grammar.Grammar.TheVariants.{Version2}
-use Rattle.origin_model.specs.frames.Frames.{Framed, IsFrame, Item, Single, Typed, item_bytes, Run}
+use Rattle.origin_model.specs.frames.Frames.{Framed, IsFrame, Item, Single, Typed, item_bytes, Run, start_of}
 
 -- some frames stand for the operations, and the bytes are theirs
 pub record IsFraming (ops : List Op) (bytes : List ℕ) : Type 0 where
@@ -31,10 +31,6 @@ pub record IsWritten (ops : List Op) (bytes : List ℕ) : Type 0 where
   pub bytes_are : bytes ≡ flat_map (λ framed. framed.bytes) found
   pub longest : AreLongest found
 
--- the identifier so many behind this one
-abbrev pub id_behind : Identifier → ℕ → Identifier
-id_behind id n = record { replica = id.replica; counter = id.counter + n }
-
 abbrev pub scalar_in : Op → ℕ
 scalar_in (Section id left right title) = 0
 scalar_in (Text id section left right ch) = ch
@@ -43,7 +39,7 @@ scalar_in (Note id named code body) = 0
 
 -- the Text that would go on with the run
 abbrev pub next_text : Run → ℕ → Op
-next_text run ch = Text (id_behind run.id (length run.text)) run.section (Some (id_behind run.id (length run.text - 1))) run.right ch
+next_text run ch = text_by (start_behind (start_of run) (length run.text)) ch
 
 abbrev pub run_more : Run → ℕ → Run
 run_more run ch = record { id = run.id; section = run.section; left = run.left; right = run.right; text = run.text ++ ch ∷ [] }

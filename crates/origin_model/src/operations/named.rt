@@ -12,7 +12,7 @@ use crate::operations::names::{Named, names_of};
 use fugue_ids::{ElementId, Op, OpKey};
 
 /// What is wrong with names: the first that is held and does not fit, and the first that is not held.
-#[derive(Clone, Copy, Debug, PartialEq, Eq)]
+#[derive(Clone, Copy)]
 pub struct NameFaults {
     pub stray: Option<ElementId>,
     pub missing: Option<ElementId>,
@@ -42,7 +42,7 @@ impl NameFaults {
 }
 
 /// What is there of an operation.
-#[derive(Clone, Copy, Debug, PartialEq, Eq)]
+#[derive(Clone, Copy)]
 pub enum Found {
     /// An equal one.
     Same,

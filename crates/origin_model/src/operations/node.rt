@@ -1,7 +1,7 @@
 use fugue_ids::ElementId;
 
 /// An element with its origins.
-#[derive(Clone, Copy, Debug, PartialEq, Eq)]
+#[derive(Clone, Copy)]
 pub struct Node {
     pub id: ElementId,
     pub left: Option<ElementId>,

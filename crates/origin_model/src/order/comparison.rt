@@ -13,7 +13,7 @@ use fugue_ids::{ElementId, Op};
 use std::alloc::{AllocError, Global};
 
 /// Where two chains part.
-#[derive(Clone, Copy, Debug, PartialEq, Eq)]
+#[derive(Clone, Copy)]
 pub enum Fork {
     Same,
     FirstEnds,
@@ -22,7 +22,7 @@ pub enum Fork {
 }
 
 /// Which origins a chain follows.
-#[derive(Clone, Copy, Debug, PartialEq, Eq)]
+#[derive(Clone, Copy)]
 pub enum Chain {
     Lefts,
     Rights,

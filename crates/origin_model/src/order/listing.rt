@@ -12,7 +12,7 @@ use fugue_ids::{ElementId, Op};
 use std::alloc::{AllocError, Global};
 
 /// An element with its place.
-#[derive(Clone, Copy, Debug, PartialEq, Eq)]
+#[derive(Clone, Copy)]
 pub struct Listed {
     pub place: Place,
     pub id: ElementId,

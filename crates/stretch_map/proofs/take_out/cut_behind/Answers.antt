@@ -3,7 +3,7 @@ use Rattle.std.specs.Prelude.{Some, is_some}
 use Rattle.std.specs.BTreeMap.{UpdatesBy}
 use Rattle.fugue_ids.specs.Identifiers.{Identifier, id_cmp}
 use Rattle.fugue_ids.proofs.IdentifierLemmas.{id_at-other}
-use Rattle.stretch_map.specs.Ahead.{ahead}
+use Rattle.fugue_ids.specs.Runs.{id_behind}
 use Rattle.stretch_map.specs.Contents.{Entry}
 use Rattle.stretch_map.specs.Stretches.{IsCut, kept_at, rest_behind}
 use Rattle.stretch_map.specs.declared.stretches.Stretch.{Stretch}
@@ -32,14 +32,14 @@ returns-in-Some-clause-ok g c =
     let steps : ℕ = key.counter - first.counter + 1 in
     let next : c.key.inside.counter + 1 ≡ first.counter + (key.counter - first.counter + 1) = omega (arith, kc, from) in
     let raw : Identifier = record { replica = c.first.inside.replica; counter = c.key.inside.counter + 1 } in
-    let place : raw ≡ ahead first steps = λ i. record { replica = ap (λ (k : Identifier). k.replica) c.first.view_is i; counter = next i } in
+    let place : raw ≡ id_behind first steps = λ i. record { replica = ap (λ (k : Identifier). k.replica) c.first.view_is i; counter = next i } in
     let value_is : c.nth.result ≡ nth first c.args.value steps = c.nth.ensures ∙ (λ i. nth first c.args.value (sym kc i - sym fc i + 1)) in
-    let u : UpdatesBy id_cmp (id_cmp (ahead first steps)) old mid (Some (rest_behind nth e steps).1) =
+    let u : UpdatesBy id_cmp (id_cmp (id_behind first steps)) old mid (Some (rest_behind nth e steps).1) =
     subst (λ k. UpdatesBy id_cmp (id_cmp k) old mid (Some (rest_behind nth e steps).1)) place
     (subst (λ v. UpdatesBy id_cmp (id_cmp raw) old mid (Some (record { value = v; last = c.args.last }))) value_is c.in_ok-insert.ensures.updates)
     in
-    let apart : first ≢ ahead first steps = λ d. let same : first.counter ≡ first.counter + (key.counter - first.counter + 1) = ap (λ (x : Identifier). x.counter) d in absurd (omega arith) in
-    let there : kept_at mid.entries first ≡ Some e.1 = u.2 first (id_at-other (ahead first steps) first apart) ∙ c.requires.there in
+    let apart : first ≢ id_behind first steps = λ d. let same : first.counter ≡ first.counter + (key.counter - first.counter + 1) = ap (λ (x : Identifier). x.counter) d in absurd (omega arith) in
+    let there : kept_at mid.entries first ≡ Some e.1 = u.2 first (id_at-other (id_behind first steps) first apart) ∙ c.requires.there in
     let after : Stretch g.row.V.Denot = record { value = c.args.value; last = key.counter } in
     let written = c.get_mut.follows.holds after in
     let lent : Stretch g.row.V.Denot → Type 0 = λ s. IsCut nth old.entries (c.get_mut.follows.lender s).entries e key in

@@ -1,0 +1,74 @@
+-- Deletes of neighbours.
+use Rattle.std.proofs.Common.{◌≡◌, ℕ, zero, suc, ◌+◌, ◌-◌, ◌<◌, ◌^◌, ◌⊎◌, Bool, true, false, [], ◌∷◌, ◌++◌, length, refl, ap, sym, ◌∙◌, arith, inl, inr}
+use Rattle.fugue_ids.specs.Identifiers.{Identifier}
+use Rattle.fugue_ids.specs.Runs.{id_behind, next_id}
+use Rattle.fugue_ids.specs.declared.op.Op.TheVariants.{Delete}
+use Rattle.fugue_ids.proofs.RunLemmas.{none_behind, one_behind}
+use Rattle.op_runs.specs.Deletions.{deletes_by, deletes_down, deletes_up, id_before, target_by}
+use Rattle.op_runs.specs.Growing.{IsLonger}
+use Rattle.op_runs.specs.Parts.{GoesOnBy}
+use Rattle.op_runs.specs.declared.part.Deletes.{Deletes}
+
+pub none_before : (id : Identifier) → id_before id 0 ≡ id
+none_before id = let e : id.counter - 0 ≡ id.counter = omega arith in λ i. record { replica = id.replica; counter = e i }
+
+pub one_before : (id : Identifier) (n : ℕ) → id_before (id_before id 1) n ≡ id_before id (suc n)
+one_before id n = let e : id.counter - 1 - n ≡ id.counter - suc n = omega arith in λ i. record { replica = id.replica; counter = e i }
+
+up-append : (t : Identifier) (n m : ℕ) → deletes_up t (n + m) ≡ deletes_up t n ++ deletes_up (id_behind t n) m
+up-append t zero m = let e : 0 + m ≡ m = omega arith in λ i. deletes_up (sym (none_behind t) i) (e i)
+up-append t (suc n) m =
+    let e : suc n + m ≡ suc (n + m) = omega arith in
+    ap (deletes_up t) e ∙ ap (λ z. Delete t ∷ z) (up-append (next_id t) n m ∙ ap (λ u. deletes_up (next_id t) n ++ deletes_up u m) (one_behind t n))
+
+down-append : (t : Identifier) (n m : ℕ) → deletes_down t (n + m) ≡ deletes_down t n ++ deletes_down (id_before t n) m
+down-append t zero m = let e : 0 + m ≡ m = omega arith in λ i. deletes_down (sym (none_before t) i) (e i)
+down-append t (suc n) m =
+    let e : suc n + m ≡ suc (n + m) = omega arith in
+    ap (deletes_down t) e ∙ ap (λ z. Delete t ∷ z) (down-append (id_before t 1) n m ∙ ap (λ u. deletes_down (id_before t 1) n ++ deletes_down u m) (one_before t n))
+
+-- Deletes of neighbours parted at any place
+pub deletes-append : (down : Bool) (t : Identifier) (n m : ℕ) → deletes_by down t (n + m) ≡ deletes_by down t n ++ deletes_by down (target_by down t n) m
+deletes-append true t n m = down-append t n m
+deletes-append false t n m = up-append t n m
+
+pub length-deletes : (down : Bool) (t : Identifier) (n : ℕ) → length (deletes_by down t n) ≡ n
+length-deletes true t zero = refl
+length-deletes true t (suc n) = ap suc (length-deletes true (id_before t 1) n)
+length-deletes false t zero = refl
+length-deletes false t (suc n) = ap suc (length-deletes false (next_id t) n)
+
+-- one Delete has no direction
+single_deletes : (a b : Bool) (t : Identifier) (n : ℕ) → n ≡ 1 → deletes_by a t n ≡ deletes_by b t n
+single_deletes a b t n e = ap (deletes_by a t) e ∙ one a b ∙ ap (deletes_by b t) (sym e)
+  where
+    one : (a b : Bool) → deletes_by a t 1 ≡ deletes_by b t 1
+    one true true = refl
+    one true false = refl
+    one false true = refl
+    one false false = refl
+
+same_way : (d : Deletes) (down : Bool) → ((d.count ≡ 1) ⊎ (d.down ≡ down)) → deletes_by d.down d.target d.count ≡ deletes_by down d.target d.count
+same_way d down (inl one) = single_deletes d.down down d.target d.count one
+same_way d down (inr same) = ap (λ b. deletes_by b d.target d.count) same
+
+-- a Delete more
+pub longer_is : (d : Deletes) (target : Identifier) (down : Bool) → target.counter < 2 ^ 32 → GoesOnBy d target down → IsLonger d target (record { target = d.target; count = d.count + 1; down = down })
+longer_is d target true fits (way, is) =
+    let counter : d.target.counter ≡ target.counter + d.count = ap (λ (i : Identifier). i.counter) is in
+    let e : d.target.counter - d.count ≡ target.counter = omega (arith, counter) in
+    let there : id_before d.target d.count ≡ target = λ i. record { replica = (ap (λ (z : Identifier). z.replica) is) i; counter = e i } in
+    record {
+      target_is = refl;
+      count_is = refl;
+      counters = omega (arith, counter);
+      ops = deletes-append true d.target d.count 1 ∙ (λ i. sym (same_way d true way) i ++ Delete (there i) ∷ []);
+    }
+longer_is d target false fits (way, is) =
+    let counter : target.counter ≡ d.target.counter + d.count = ap (λ (i : Identifier). i.counter) is in
+    record {
+      target_is = refl;
+      count_is = refl;
+      counters = omega (arith, counter, fits);
+      ops = deletes-append false d.target d.count 1 ∙ (λ i. sym (same_way d false way) i ++ Delete (sym is i) ∷ []);
+    }

@@ -1,0 +1,162 @@
+-- The operation at a position: the part that has it, and which of its operations it is.
+use Rattle.std.proofs.Common.{◌≡◌, ℕ, zero, suc, ◌+◌, ◌-◌, ◌<◌, ◌≤◌, Bool, true, false, List, [], ◌∷◌, ◌++◌, length, take, drop, get_or, refl, ap, sym, subst, ◌∙◌, arith, length-append, length-drop, inl, inr}
+use Rattle.std.specs.Prelude.{Option, Some, All, slice_get, option_map}
+use Rattle.std.proofs.lemmas.Bool.{cases_lt}
+use Rattle.std.proofs.lemmas.Grind.{flat_map-append}
+use Rattle.std.proofs.lemmas.List.{get_or-drop, get_or-take, length-take-le}
+use Rattle.std.proofs.lemmas.Option.{slice_get-get_or}
+use Rattle.std.proofs.lemmas.List.Elements.{All-cons, All-head, All-nil, All-tail}
+use Rattle.fugue_ids.specs.Identifiers.{Identifier}
+use Rattle.fugue_ids.specs.Runs.{id_behind, in_a_row, left_behind, next_id, run_from, start_behind, text_by}
+use Rattle.fugue_ids.specs.declared.op.Op.{Op}
+use Rattle.fugue_ids.specs.declared.op.Op.TheVariants.{Delete, Text}
+use Rattle.fugue_ids.proofs.ListLemmas.{all_before, all_behind}
+use Rattle.fugue_ids.proofs.RunLemmas.{left_one, none_behind, one_behind}
+use Rattle.op_runs.specs.Deletions.{deletes_by, id_before, target_by}
+use Rattle.op_runs.specs.Finding.{IsFloor, IsSpot, all_len}
+use Rattle.op_runs.specs.Parts.{IsSound, firsts_of, ops_of, other_ops, part_len, part_ops}
+use Rattle.op_runs.specs.declared.part.Part.{Part}
+use Rattle.op_runs.specs.declared.part.TypedPart.{TypedPart}
+use Rattle.op_runs.proofs.DeletionLemmas.{none_before, one_before}
+use Rattle.op_runs.proofs.PartLemmas.{has_some, part_has, slice_get-append}
+
+-- Where parts begin
+
+begins : (n : ℕ) (ps : List Part) (k : ℕ) → k < length (firsts_of n ps) → n ≤ get_or (firsts_of n ps) k 0
+begins n [] k h = absurd (omega (arith, h))
+begins n (p ∷ ps) zero h = omega arith
+begins n (p ∷ ps) (suc k) h = let r = begins (n + part_len p) ps k (omega (arith, h)) in omega (arith, r)
+
+rises : (n : ℕ) (ps : List Part) → All (λ p. 0 < part_len p) ps → (i j : ℕ) → i < j → j < length (firsts_of n ps) → get_or (firsts_of n ps) i 0 < get_or (firsts_of n ps) j 0
+rises n [] s i j h k = absurd (omega (arith, k))
+rises n (p ∷ ps) s i zero h k = absurd (omega (arith, h))
+rises n (p ∷ ps) s zero (suc j) h k =
+    let some : 0 < part_len p = All-head (λ q. 0 < part_len q) p ps s in
+    let r = begins (n + part_len p) ps j (omega (arith, k)) in
+    omega (arith, r, some)
+rises n (p ∷ ps) s (suc i) (suc j) h k = rises (n + part_len p) ps (All-tail (λ q. 0 < part_len q) p ps s) i j (omega (arith, h)) (omega (arith, k))
+
+pub firsts_rise : (firsts : List ℕ) (ps : List Part) → firsts ≡ firsts_of 0 ps → All (λ p. 0 < part_len p) ps → (i j : ℕ) → i < j → j < length firsts → get_or firsts i 0 < get_or firsts j 0
+firsts_rise firsts ps e s = subst (λ (xs : List ℕ). (i j : ℕ) → i < j → j < length xs → get_or xs i 0 < get_or xs j 0) (sym e) (rises 0 ps s)
+
+-- strictly rising numbers rise
+pub level : (xs : List ℕ) → ((i j : ℕ) → i < j → j < length xs → get_or xs i 0 < get_or xs j 0) → (i j : ℕ) → i ≤ j → j < length xs → get_or xs i 0 ≤ get_or xs j 0
+level xs strict i j h g = elim (cases_lt i j) [
+  | inl lt ↦ (let r = strict i j lt g in omega (arith, r))
+  | inr ge ↦ (let e : i ≡ j = omega (arith, h, ge) in let f = ap (λ k. get_or xs k 0) e in omega (arith, f))
+]
+
+firsts_len : (n : ℕ) (ps : List Part) → length (firsts_of n ps) ≡ length ps
+firsts_len n [] = refl
+firsts_len n (p ∷ ps) = ap suc (firsts_len (n + part_len p) ps)
+
+-- the last part that begins no later than a position has it
+spot_in : (n : ℕ) (ps : List Part) (k position : ℕ) → k < length (firsts_of n ps) → get_or (firsts_of n ps) k 0 ≤ position → ((j : ℕ) → k < j → j < length (firsts_of n ps) → position < get_or (firsts_of n ps) j 0)
+    → position < n + all_len ps → IsSpot ps (position - n) k (position - get_or (firsts_of n ps) k 0)
+spot_in n [] k position i h b l = absurd (omega (arith, i))
+spot_in n (q ∷ []) zero position i h b l = record { before = []; part = q; after = []; whole = refl; index = refl; behind = omega arith; inside = omega (arith, l, h) }
+spot_in n (q ∷ r ∷ rs) zero position i h b l =
+    let next : position < n + part_len q = b 1 (omega arith) (omega arith) in
+    record { before = []; part = q; after = r ∷ rs; whole = refl; index = refl; behind = omega arith; inside = omega (arith, next, h) }
+spot_in n (q ∷ qs) (suc k) position i h b l =
+    let s = spot_in (n + part_len q) qs k position (omega (arith, i)) h (λ j g z. b (suc j) (omega (arith, g)) (omega (arith, z))) (omega (arith, l)) in
+    let from = begins (n + part_len q) qs k (omega (arith, i)) in
+    record { before = q ∷ s.before; part = s.part; after = s.after; whole = ap (λ z. q ∷ z) s.whole; index = ap suc s.index; behind = omega (arith, s.behind, from, h); inside = s.inside }
+
+pub spot_floor : (ps : List Part) (firsts : List ℕ) (k position : ℕ) → firsts ≡ firsts_of 0 ps → IsFloor firsts position k → position < all_len ps → IsSpot ps position k (position - get_or firsts k 0)
+spot_floor ps firsts k position e f l =
+    let g : IsFloor (firsts_of 0 ps) position k = subst (λ (xs : List ℕ). IsFloor xs position k) e f in
+    let all : position - 0 ≡ position = omega arith in
+    subst (λ (n : ℕ). IsSpot ps n k (position - get_or firsts k 0)) all
+    (subst (λ (xs : List ℕ). IsSpot ps (position - 0) k (position - get_or xs k 0)) (sym e) (spot_in 0 ps k position g.inside g.up_to g.behind (omega (arith, l))))
+
+pub floor_inside : (ps : List Part) (firsts : List ℕ) (k position : ℕ) → firsts ≡ firsts_of 0 ps → IsFloor firsts position k → k < length ps
+floor_inside ps firsts k position e f = omega (arith, f.inside, ap length e, firsts_len 0 ps)
+
+-- a position inside is behind the first of some part
+pub none_floor : (ps : List Part) (firsts : List ℕ) (position : ℕ) → firsts ≡ firsts_of 0 ps → ((j : ℕ) → j < length firsts → position < get_or firsts j 0) → all_len ps ≤ position
+none_floor [] firsts position e h = omega arith
+none_floor (p ∷ ps) firsts position e h =
+    let some : 0 < length firsts = omega (arith, ap length e) in
+    absurd (omega (arith, h 0 some, ap (λ (xs : List ℕ). get_or xs 0 0) e))
+
+-- What stands there
+
+pub all_some : (l o : ℕ) (ps : List Part) → All (IsSound l o) ps → All (λ p. 0 < part_len p) ps
+all_some l o [] s = All-nil (λ p. 0 < part_len p)
+all_some l o (p ∷ ps) s = All-cons (λ q. 0 < part_len q) p ps (has_some l o p (All-head (IsSound l o) p ps s)) (all_some l o ps (All-tail (IsSound l o) p ps s))
+
+pub ops_len : (letters : List ℕ) (others : List Op) (ps : List Part) → All (IsSound (length letters) (length others)) ps → length (ops_of letters others ps) ≡ all_len ps
+ops_len letters others [] s = refl
+ops_len letters others (p ∷ ps) s =
+    let P = IsSound (length letters) (length others) in
+    let r = ops_len letters others ps (All-tail P p ps s) in
+    omega (arith, length-append (part_ops letters others p) (ops_of letters others ps), part_has letters others p (All-head P p ps s), r)
+
+slice_get-behind : {X : Type 0} (xs ys : List X) (k : ℕ) → slice_get (xs ++ ys) (length xs + k) ≡ slice_get ys k
+slice_get-behind [] ys k = let e : 0 + k ≡ k = omega arith in ap (slice_get ys) e
+slice_get-behind (x ∷ xs) ys k = let e : suc (length xs) + k ≡ suc (length xs + k) = omega arith in ap (slice_get (x ∷ xs ++ ys)) e ∙ slice_get-behind xs ys k
+
+-- the operations before a spot, and those from its part on
+pub spot_parts : (letters : List ℕ) (others : List Op) (ps : List Part) (position k offset : ℕ) (s : IsSpot ps position k offset)
+    → ops_of letters others ps ≡ ops_of letters others s.before ++ (part_ops letters others s.part ++ ops_of letters others s.after)
+spot_parts letters others ps position k offset s = ap (ops_of letters others) s.whole ∙ flat_map-append (part_ops letters others) s.before (s.part ∷ s.after)
+
+pub spot_get : (letters : List ℕ) (others : List Op) (ps : List Part) (position k offset : ℕ) (s : IsSpot ps position k offset) → All (IsSound (length letters) (length others)) ps
+    → slice_get (ops_of letters others ps) position ≡ slice_get (part_ops letters others s.part) offset
+spot_get letters others ps position k offset s sound =
+    let P = IsSound (length letters) (length others) in
+    let all = subst (All P) s.whole sound in
+    let len : length (ops_of letters others s.before) ≡ all_len s.before = ops_len letters others s.before (all_before P s.before (s.part ∷ s.after) all) in
+    let here = All-head P s.part s.after (all_behind P s.before (s.part ∷ s.after) all) in
+    let at : position ≡ length (ops_of letters others s.before) + offset = omega (arith, s.behind, len) in
+    (λ i. slice_get (spot_parts letters others ps position k offset s i) (at i))
+    ∙ slice_get-behind (ops_of letters others s.before) (part_ops letters others s.part ++ ops_of letters others s.after) offset
+    ∙ slice_get-append (part_ops letters others s.part) (ops_of letters others s.after) offset (omega (arith, s.inside, part_has letters others s.part here))
+
+-- the part that a read gave
+pub part_read : (ps : List Part) (position k offset : ℕ) (s : IsSpot ps position k offset) (p : Part) → p ≡ get_or ps k p → s.part ≡ p
+part_read ps position k offset s p e = sym (e ∙ (λ i. get_or (s.whole i) (s.index i) p) ∙ get_or-seam s.before s.part s.after p)
+  where
+    get_or-seam : (xs : List Part) (x : Part) (ys : List Part) (d : Part) → get_or (xs ++ x ∷ ys) (length xs) d ≡ x
+    get_or-seam [] x ys d = refl
+    get_or-seam (y ∷ xs) x ys d = get_or-seam xs x ys d
+
+pub spot_inside : (ps : List Part) (position k offset : ℕ) → IsSpot ps position k offset → k < length ps
+spot_inside ps position k offset s = omega (arith, s.index, ap length s.whole, length-append s.before (s.part ∷ s.after))
+
+-- a Text of a run
+pub typed_at : (id s : Identifier) (l r : Option Identifier) (text : List ℕ) (j : ℕ) → slice_get (in_a_row id s l r text) j ≡ option_map (λ ch. Text (id_behind id j) s (left_behind l id j) r ch) (slice_get text j)
+typed_at id s l r [] zero = refl
+typed_at id s l r [] (suc j) = refl
+typed_at id s l r (c ∷ text) zero = λ i. Some (Text (sym (none_behind id) i) s l r c)
+typed_at id s l r (c ∷ text) (suc j) =
+    typed_at (next_id id) s (Some id) r text j
+    ∙ (λ i. option_map (λ ch. Text (one_behind id j i) s (left_one id j i) r ch) (slice_get text j))
+
+pub letter_at : (letters : List ℕ) (r : TypedPart) (offset ch : ℕ) → r.at + r.count ≤ length letters → offset < r.count → ch ≡ get_or letters (r.at + offset) ch
+    → Some (text_by (start_behind r.start offset) ch) ≡ slice_get (run_from r.start (take r.count (drop r.at letters))) offset
+letter_at letters r offset ch h g e =
+    let text : List ℕ = take r.count (drop r.at letters) in
+    let len : length text ≡ r.count = length-take-le r.count (drop r.at letters) (omega (arith, h, length-drop r.at letters)) in
+    let inside : offset < length text = omega (arith, len, g) in
+    let has : slice_get text offset ≡ Some ch =
+    slice_get-get_or text offset ch inside ∙ ap Some (get_or-take r.count (drop r.at letters) offset ch g ∙ get_or-drop r.at letters offset ch ∙ sym e) in
+    sym (typed_at r.start.id r.start.section r.start.left r.start.right text offset
+    ∙ ap (option_map (λ c. Text (id_behind r.start.id offset) r.start.section (left_behind r.start.left r.start.id offset) r.start.right c)) has)
+
+-- a Delete of neighbours
+pub delete_at : (down : Bool) (t : Identifier) (n j : ℕ) → j < n → Some (Delete (target_by down t j)) ≡ slice_get (deletes_by down t n) j
+delete_at true t zero j h = absurd (omega (arith, h))
+delete_at true t (suc n) zero h = λ i. Some (Delete (none_before t i))
+delete_at true t (suc n) (suc j) h = (λ i. Some (Delete (sym (one_before t j) i))) ∙ delete_at true (id_before t 1) n j (omega (arith, h))
+delete_at false t zero j h = absurd (omega (arith, h))
+delete_at false t (suc n) zero h = λ i. Some (Delete (none_behind t i))
+delete_at false t (suc n) (suc j) h = (λ i. Some (Delete (sym (one_behind t j) i))) ∙ delete_at false (next_id t) n j (omega (arith, h))
+
+-- one of the others
+pub other_at : (others : List Op) (k j : ℕ) (op : Op) → k < length others → j < 1 → op ≡ get_or others k op → Some op ≡ slice_get (other_ops (slice_get others k)) j
+other_at others k j op h g e =
+    let first : j ≡ 0 = omega (arith, g) in
+    let there : slice_get others k ≡ Some op = slice_get-get_or others k op h ∙ ap Some (sym e) in
+    (λ i. slice_get (other_ops (sym there i)) (sym first i))

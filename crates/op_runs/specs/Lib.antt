@@ -1,0 +1,7 @@
+pub mod Deletions
+pub mod Parts
+pub mod Growing
+pub mod Finding
+pub mod Slices
+pub mod Repeats
+pub mod Entries

@@ -1,0 +1,89 @@
+ghost use Rattle.std.specs.Prelude.{◌≡◌, ◌<◌, ◌≤◌, ◌+◌, ◌^◌, All, IfNone, IfSome, ℕ, Some, length, option_map, slice_get, slice_index};
+ghost use Rattle.op_runs.specs.Finding.{IsFloor, IsSpot, all_len, op_of};
+ghost use Rattle.op_runs.specs.Parts.{IsSound, firsts_of, ops_of, part_len, part_ops};
+
+use crate::part::Part;
+use fugue_ids::{ElementId, Op, RunStart};
+
+/// An operation of a list.
+#[derive(Clone, Copy)]
+pub enum OpRef<'a> {
+    /// A Text: what it says but for its scalar, and the scalar.
+    Letter(RunStart, char),
+    /// A Delete, by its target.
+    Deletion(ElementId),
+    /// A Section or a Note.
+    Whole(&'a Op),
+}
+
+/// Where an operation stands: which part has it, and which of the operations of that it is.
+#[derive(Clone, Copy)]
+pub(crate) struct Spot {
+    pub part: usize,
+    pub offset: usize,
+}
+
+/// The last of the firsts that is not behind the position.
+fn floor_of(firsts: &[u32], position: u32) -> Option<usize>
+    requires { (i j : ℕ) → i < j → j < length firsts.now → slice_index firsts.now i < slice_index firsts.now j }
+    ensures some { IfSome result (λ k. IsFloor firsts.now position k) }
+    ensures none { IfNone result ((j : ℕ) → j < length firsts.now → position < slice_index firsts.now j) }
+{
+    match firsts.binary_search(&position) {
+        Ok(k) => Some(k),
+        Err(k) => { if k == 0 { None } else { Some(k - 1) } }
+    }
+}
+
+/// Where the operation at a position stands, if there is one.
+pub(crate) fn spot_of(parts: &[Part], firsts: &[u32], count: u32, position: usize) -> Option<Spot>
+    requires some { All (λ part. 0 < part_len part) parts.now }
+    requires firsts { firsts.now ≡ firsts_of 0 parts.now }
+    requires counted { count ≡ all_len parts.now }
+    ensures some { IfSome result (λ spot. IsSpot parts.now position spot.part spot.offset) }
+    ensures none { IfNone result (all_len parts.now ≤ position) }
+{
+    if position >= count as usize {
+        return None;
+    }
+    let Some(part) = floor_of(firsts, position as u32) else {
+        return None;
+    };
+    Some(Spot {
+        part,
+        offset: position - firsts[part] as usize,
+    })
+}
+
+/// The operation at an offset of a part.
+fn op_in<'a>(part: &Part, letters: &[char], others: &'a [Op], offset: usize) -> OpRef<'a>
+    requires sound { IsSound (length letters.now) (length others.now) part.now }
+    requires inside { offset < part_len part.now }
+    ensures { Some (op_of result) ≡ slice_get (part_ops letters.now others.now part.now) offset }
+{
+    match part {
+        Part::Typed(run) => OpRef::Letter(run.start.nth(offset), letters[run.at as usize + offset]),
+        Part::Deleted(deletes) => OpRef::Deletion(deletes.nth(offset)),
+        Part::Other(place) => OpRef::Whole(&others[*place as usize]),
+    }
+}
+
+/// The operation at a position, if there is one.
+pub(crate) fn op_at<'a>(
+    parts: &[Part],
+    firsts: &[u32],
+    letters: &[char],
+    others: &'a [Op],
+    count: u32,
+    position: usize,
+) -> Option<OpRef<'a>>
+    requires sound { All (IsSound (length letters.now) (length others.now)) parts.now }
+    requires firsts { firsts.now ≡ firsts_of 0 parts.now }
+    requires counted { count ≡ length (ops_of letters.now others.now parts.now) }
+    ensures { option_map op_of result ≡ slice_get (ops_of letters.now others.now parts.now) position }
+{
+    match spot_of(parts, firsts, count, position) {
+        Some(spot) => Some(op_in(&parts[spot.part], letters, others, spot.offset)),
+        None => None,
+    }
+}
