@@ -25,7 +25,7 @@ pub fn bulk(alloc: Global, seed: u32, count: u32) -> Result<Summary, NoMemory>
 {
     let mut first = new_author(alloc, 1);
     let told = bulk_by(alloc, &mut first, seed, count);
-    drop(first);
+    first.discard();
     told
 }
 
@@ -36,7 +36,7 @@ fn bulk_by(alloc: Global, first: &mut Replica, seed: u32, count: u32) -> Result<
 {
     let mut second = new_author(alloc, 2);
     let told = bulk_among(alloc, first, &mut second, seed, count);
-    drop(second);
+    second.discard();
     told
 }
 

@@ -16,8 +16,6 @@ use fugue_ids::Op;
 pub use open_inbox::OpenInbox;
 use origin_model::{PlainReplica, Verdict};
 use std::alloc::Global;
-use std::error::Error;
-use std::fmt;
 use std::marker::Model;
 
 /// What was accepted, as far as it decides over others.
@@ -38,23 +36,12 @@ impl Facts for PlainReplica {
 }
 
 /// Why an operation was not taken: it is handed back, and nothing was changed.
-#[derive(Debug, Drop)]
+#[derive(Drop)]
 pub enum PushFault {
     /// As many wait as may.
     Full(Op),
     NoMemory(Op),
 }
-
-impl fmt::Display for PushFault {
-    fn fmt<W: fmt::Write>(&self, f: &mut fmt::Formatter<W>) -> fmt::Result {
-        match self {
-            PushFault::Full(_) => write!(f, "as many operations wait as may"),
-            PushFault::NoMemory(_) => write!(f, "out of memory"),
-        }
-    }
-}
-
-impl Error for PushFault {}
 
 /// The waiting operations, in the order in which they came, and how many may wait.
 #[derive(Drop)]

@@ -104,11 +104,12 @@ fn close_up<T: Drop>(items: &mut Vec<T>, gone: &mut usize, position: usize, fill
 {
     let first = *gone;
     let at = first + position;
-    if position >= items.len() - at {
-        return items.remove(at);
+    if position < items.len() - at {
+        *gone = first + 1;
+        return move_up(items, first, position, filler);
     }
-    *gone = first + 1;
-    move_up(items, first, position, filler)
+    drop(filler);
+    items.remove(at)
 }
 
 /// The item behind `first` and `position` others leaves, and the `position` others move up by one.

@@ -5,7 +5,7 @@ use std::marker::Model;
 
 /// A certificate that one element stands before another. It is seen as the list of its steps. There is at least one,
 /// and the first claims what the certificate is for.
-#[derive(Debug, Drop)]
+#[derive(Drop)]
 pub struct Proof {
     steps: Vec<Step>,
 }

@@ -17,7 +17,7 @@ use fugue_ids::{ElementId, NoMemory};
 use std::alloc::{AllocFailed, Global};
 
 /// Why a certificate was not read.
-#[derive(Clone, Copy, Debug)]
+#[derive(Clone, Copy)]
 pub(crate) enum TextFault {
     /// The text is that of no certificate.
     NoProof,

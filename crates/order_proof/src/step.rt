@@ -8,7 +8,7 @@ use std::alloc::Global;
 use std::marker::Model;
 
 /// Members of a chain of origins, from above down. It is seen as the list of them.
-#[derive(Debug, Drop)]
+#[derive(Drop)]
 pub struct Chain {
     ids: Vec<ElementId>,
 }
@@ -38,7 +38,7 @@ impl Chain {
 
 /// Why the first of two elements stands before the second. `Prefix` speaks of their chains of left origins. The others
 /// speak of the two siblings at which these part, and compare the chains of right origins of these.
-#[derive(Clone, Copy, Debug, PartialEq, Eq)]
+#[derive(Clone, Copy)]
 pub enum Reason {
     /// The first one's chain is a prefix of the second one's.
     Prefix,
@@ -56,7 +56,7 @@ pub enum Reason {
 /// The claim that x stands before y, with the chains that show it: those of left origins from where they part (`down`),
 /// and those of right origins of the two siblings there (`right`). `Prefix` needs `down_y` alone, and leaves the others
 /// empty.
-#[derive(Debug, Drop)]
+#[derive(Drop)]
 pub struct Step {
     pub x: ElementId,
     pub y: ElementId,

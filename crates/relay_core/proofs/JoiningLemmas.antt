@@ -9,7 +9,7 @@ use Rattle.origin_model.specs.frames.Frames.{Single, frame}
 use Rattle.origin_model.specs.relay.Session.{Taken, is_logged, joined, refusal_message, session_goes_on, session_refused}
 use Rattle.op_frame.specs.FrameFronts.{IsFrameOf, IsOwnFrame}
 use Rattle.op_frame.proofs.DecodingLemmas.{no_run}
-use Rattle.relay_core.specs.Joins.{JoinsFrame, JoinsOne}
+use Rattle.relay_core.specs.Joins.{JoinsAll, JoinsFrame, JoinsOne}
 use Rattle.relay_core.specs.Texts.{with_op, with_ops}
 
 -- an operation, by whether its own frame is logged and whether the log is full, and then those behind it
@@ -115,9 +115,8 @@ joins_single limit old bytes new (Ok reply) f other one =
     record { ops = own.0 ∷ []; is_frame = record { item = Single own.0; is_item = own.1; bytes_are = own.2; ops_are = refl }; joins = λ cursor. one own.0 cursor [] own.2 }
 joins_single limit old bytes new (Err e) f other one = one
 
--- one operation more of a run
-pub joins_more : (limit : ℕ) (old : List (List ℕ)) (bytes : List ℕ) (now new : List (List ℕ)) (before left : List Op) (op : Op) (own : List ℕ) (reply : Option (List ℕ)) → JoinsFrame limit old bytes now before None
-    → before ≡ op ∷ left → own ≡ frame op → is_some reply ≡ false → JoinsOne limit now own new reply → JoinsFrame limit old bytes new left None
-joins_more limit old bytes now new before left op own None h given is goes one =
-    record { ops = h.ops; is_frame = h.is_frame; joins = λ cursor. h.joins cursor ∙ ap (joined limit now cursor) given ∙ one op cursor left is }
-joins_more limit old bytes now new before left op own (Some r) h given is goes one = absurd (true≢false goes)
+-- one operation more of those that are left
+pub joins_more : (limit : ℕ) (old : List (List ℕ)) (ops : List Op) (now new : List (List ℕ)) (before left : List Op) (op : Op) (own : List ℕ) (reply : Option (List ℕ)) → JoinsAll limit old ops now before None
+    → before ≡ op ∷ left → own ≡ frame op → is_some reply ≡ false → JoinsOne limit now own new reply → JoinsAll limit old ops new left None
+joins_more limit old ops now new before left op own None h given is goes one cursor = h cursor ∙ ap (joined limit now cursor) given ∙ one op cursor left is
+joins_more limit old ops now new before left op own (Some r) h given is goes one cursor = absurd (true≢false goes)

@@ -1,5 +1,5 @@
 -- Bytes are of exactly one kind, and so events have exactly one outcome.
-use Rattle.std.proofs.Common.{[], List, ap, arith, inl, inr, length, sym, ℕ, ◌++◌, ◌∙◌, ◌∷◌, ◌≡◌}
+use Rattle.std.proofs.Common.{[], List, ap, arith, inl, inr, length, sym, ℕ, ◌∙◌, ◌∷◌, ◌≡◌}
 use Rattle.std.proofs.lemmas.List.{append-nil}
 use Rattle.fugue_ids.specs.declared.op.Op.{Op}
 use Rattle.origin_model.specs.declared.grammar.Grammar.TheVariants.{Version2}

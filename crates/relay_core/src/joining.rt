@@ -1,12 +1,13 @@
 ghost use Rattle.std.specs.Prelude.{◌≡◌, ◌≤◌, [], IfOk, None as Nothing, Some, length};
 ghost use Rattle.origin_model.specs.declared.grammar.Grammar.TheVariants.{Version2 as WithRuns};
 ghost use Rattle.origin_model.specs.relay.Session.{refusal_message as refusal_of};
+ghost use Rattle.origin_model.specs.frames.Frames.{frame};
 ghost use Rattle.op_frame.specs.FrameFronts.{IsFrameOf};
-ghost use Rattle.relay_core.specs.Joins.{JoinsFrame, JoinsOne};
+ghost use Rattle.relay_core.specs.Joins.{JoinsAll, JoinsFrame, JoinsOne};
 ghost use Rattle.relay_core.specs.Logs.{LogGrows, frames_in};
 
 use crate::log::{Log, add, has_frame};
-use fugue_ids::{ByteList, NoMemory};
+use fugue_ids::{ByteList, NoMemory, Op};
 use op_frame::{FrameOps, REFUSAL, RUN, encode};
 use std::alloc::Global;
 use std::hash::BuildHasher;
@@ -41,6 +42,48 @@ fn join<B: BuildHasher>(
     Ok(None)
 }
 
+/// An operation joins the log, by its own frame, which takes the place of what the buffer had.
+fn join_op<B: BuildHasher>(
+    alloc: Global,
+    limit: u32,
+    log: &mut Log<B>,
+    op: &Op,
+    own: &mut Vec<u8>,
+) -> Result<Option<ByteList>, NoMemory>
+    requires room { length (frames_in log.old) ≤ limit }
+    ensures ok { IfOk result (λ reply. JoinsOne limit (frames_in log.old) (frame op.now) (frames_in log.new) reply) }
+    ensures grows { LogGrows (frames_in log.old) (frames_in log.new) }
+    ensures within { length (frames_in log.new) ≤ limit }
+{
+    own.clear();
+    encode(op, own)?;
+    join(alloc, limit, log, own.as_slice())
+}
+
+/// The operations that are left join the log in order, each that is not in it, up to one that is refused.
+fn join_rest<B: BuildHasher>(
+    alloc: Global,
+    limit: u32,
+    log: &mut Log<B>,
+    left: &mut FrameOps<'_>,
+    own: &mut Vec<u8>,
+) -> Result<Option<ByteList>, NoMemory>
+    requires room { length (frames_in log.old) ≤ limit }
+    ensures ok { IfOk result (λ reply. JoinsAll limit (frames_in log.old) left.old (frames_in log.new) [] reply) }
+    ensures grows { LogGrows (frames_in log.old) (frames_in log.new) }
+    ensures within { length (frames_in log.new) ≤ limit }
+{
+    'ops: while let Some(op) = left.next() {
+        let reply = join_op(alloc, limit, log, &op, own);
+        drop(op);
+        let reply = reply?;
+        if reply.is_some() {
+            return Ok(reply);
+        }
+    }
+    Ok(None)
+}
+
 /// The operations of a whole frame join the log in order, each that is not in it, up to one that is refused. An
 /// operation alone takes no memory where the log has it.
 pub(crate) fn take_frame<B: BuildHasher>(
@@ -60,13 +103,8 @@ pub(crate) fn take_frame<B: BuildHasher>(
     }
     let mut left = FrameOps::new(alloc, frame)?;
     let mut own = Vec::new(alloc);
-    'ops: while let Some(op) = left.next() {
-        own.clear();
-        encode(&op, &mut own)?;
-        let reply = join(alloc, limit, log, own.as_slice())?;
-        if reply.is_some() {
-            return Ok(reply);
-        }
-    }
-    Ok(None)
+    let reply = join_rest(alloc, limit, log, &mut left, &mut own);
+    drop(own);
+    drop(left);
+    reply
 }

@@ -16,8 +16,6 @@ use outer_ports::{Dock, MemStep};
 use relay_core::{Event, Relay, Reply};
 use std::alloc::Global;
 use std::collections::BTreeSet;
-use std::error::Error;
-use std::fmt;
 use std::hash::BuildHasher;
 
 /// Why a relay served no further.
@@ -29,18 +27,6 @@ pub enum ServeFault {
     TooLong,
     NoMemory,
 }
-
-impl fmt::Display for ServeFault {
-    fn fmt<W: fmt::Write>(&self, f: &mut fmt::Formatter<W>) -> fmt::Result {
-        match self {
-            ServeFault::DockFault => write!(f, "a call on the dock failed"),
-            ServeFault::TooLong => write!(f, "the sessions took too many steps"),
-            ServeFault::NoMemory => write!(f, "out of memory"),
-        }
-    }
-}
-
-impl Error for ServeFault {}
 
 /// Gives the dock's steps to the relay and sends its replies, until so many sessions are closed or gone; a number
 /// counts once.

@@ -14,19 +14,15 @@ use crate::gate::write_behind;
 use fugue_ids::{Failed, NoMemory, Op};
 use outer_ports::Disk;
 use std::alloc::Global;
-use thiserror::Error;
 
 /// Why a batch was not appended.
-#[derive(Clone, Copy, Debug, PartialEq, Eq, Error)]
+#[derive(Clone, Copy)]
 pub enum AppendFault {
     /// Nothing was written.
-    #[error("the batch is too long")]
     BatchTooLong,
     /// The file has all of the batch or none, and has to be loaded again.
-    #[error("the disk failed")]
     DiskFault,
     /// Nothing was written.
-    #[error("out of memory")]
     NoMemory,
 }
 

@@ -10,14 +10,11 @@ ghost use Rattle.replica_file.specs.Create.{LastsToCreate, nothing_yet};
 use crate::header::new_file;
 use fugue_ids::Failed;
 use outer_ports::Disk;
-use thiserror::Error;
 
 /// Why a file was not made.
-#[derive(Clone, Copy, Debug, PartialEq, Eq, Error)]
+#[derive(Clone, Copy, Debug, PartialEq, Eq)]
 pub enum CreateFault {
-    #[error("the file is not empty")]
     NotEmpty,
-    #[error("the disk failed")]
     DiskFault,
 }
 

@@ -112,7 +112,7 @@ fn read_all<H: Disk>(alloc: Global, disk: &mut H, most: u32) -> Result<(Replica,
     match take_slots(alloc, disk, front.gate, most, &mut loading) {
         Ok(end) => Ok((loading.into_replica(), end)),
         Err(fault) => {
-            drop(loading);
+            loading.into_replica().discard();
             Err(fault)
         }
     }

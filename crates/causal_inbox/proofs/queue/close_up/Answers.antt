@@ -2,6 +2,6 @@ use Rattle.std.proofs.Common.{ap, ◌∙◌, drop}
 use Rattle.causal_inbox.proofs.QueueLemmas.{removed_behind}
 use Rattle.causal_inbox.proofs.queue.close_up.Goals as goal
 
-pub returns-then-position-len-clause-rest : goal.returns-then-position-len-clause-rest
-returns-then-position-len-clause-rest g c =
+pub returns-clause-rest : goal.returns-clause-rest
+returns-clause-rest g c =
     ap (drop c.args.gone.now) c.remove.ensures.items ∙ removed_behind c.args.items.now.items c.args.gone.now c.args.position c.requires
