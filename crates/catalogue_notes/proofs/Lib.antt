@@ -7,11 +7,8 @@ pub mod MoveLemmas
 pub mod RetitleLemmas
 pub mod SetLemmas
 pub mod ValidLemmas
-pub mod TakenLemmas
-pub mod StandingLemmas
 pub mod WinningLemmas
 pub mod LiftingLemmas
-pub mod SectionsLemmas
 pub mod PlacingLemmas
 pub mod RetitledLemmas
 pub mod MovingLemmas
@@ -19,4 +16,5 @@ pub mod RefusalLemmas
 pub mod RetitlingLemmas
 pub mod PrintingLemmas
 pub mod OutliningLemmas
+pub mod NotedLemmas
 mod Examples

@@ -2,7 +2,7 @@
 use Rattle.std.proofs.Common.{Bool, List, [], ap, append_assoc, arith, drop, false, get_or, inl, inr, length, map, not, refl, reverse, subst, sym, take, true, ℕ, ◌&&◌, ◌+◌, ◌++◌, ◌<◌, ◌∙◌, ◌∷◌, ◌≡◌, ◌≤◌}
 use Rattle.std.specs.Prelude.{None, Option, Some, if◌then◌else◌, is_some, option_map, option_to_list}
 use Rattle.std.specs.List.{All, insert}
-use Rattle.std.proofs.lemmas.Bool.{cases_Bool}
+use Rattle.std.proofs.lemmas.Bool.{cases_Bool, true≢false}
 use Rattle.std.proofs.lemmas.List.{drop_more, length-append, reverse-append, take-append-drop}
 use Rattle.std.proofs.lemmas.List.Elements.{All-contains, All-nil}
 use Rattle.fugue_ids.specs.Identifiers.{Identifier}
@@ -19,6 +19,7 @@ use Rattle.origin_model.specs.sides.Node.{AreNodes, IsNew, has_node, has_origin,
 use Rattle.origin_model.proofs.SharedLemmas.{Lawful-append, found, order_by_nodes, order_total}
 use Rattle.section_list.specs.Cells.{Cell, section_cell_ids, section_cells_shown}
 use Rattle.section_list.specs.SectionList.{IsInOrder, Listing, empty_listing, with_element}
+use Rattle.replica_core.specs.Index.{is_section_or_note}
 use Rattle.catalogue_notes.specs.Claims.{Move, move_in}
 use Rattle.catalogue_notes.specs.Lift.{as_section, is_section, is_valid, lift, moves, passing, stands}
 use Rattle.catalogue_notes.specs.Lift.{claims}
@@ -31,6 +32,7 @@ use Rattle.catalogue_notes.proofs.ClaimLemmas.{claims-none, claims-some}
 use Rattle.catalogue_notes.proofs.HolderLemmas.{IsHeld, cases_option, holder-kept, joins}
 use Rattle.catalogue_notes.proofs.LiftLemmas.{in_order, lift-nil, lift-none, lift-some, lift_fits, lift_lawful, rests_of, section-kept, shape}
 use Rattle.catalogue_notes.proofs.PartLemmas.{filter_full}
+use Rattle.replica_core.proofs.WalkLemmas.{passed_step}
 
 -- tests that are true alike are equal
 same_test : (b c : Bool) → (b ≡ true → c ≡ true) → (c ≡ true → b ≡ true) → b ≡ c
@@ -188,6 +190,19 @@ lifting_same ops i op known list bids w k l e f q =
       bids_are = f.bids_are ∙ sym (s.bids ∙ ap (λ o. bid_in o ++ map bid_of (moves h)) q');
     }
 
+-- what is neither a Section nor a Note adds nothing
+nothing_lifted : (known : Identifier → Bool) (ns : List Node) (op : Op) → is_section_or_note op ≡ false → lift_by known ns op ≡ None
+nothing_lifted known ns (Section i l r t) e = absurd (true≢false e)
+nothing_lifted known ns (Text i s l r c) e = refl
+nothing_lifted known ns (Delete i) e = refl
+nothing_lifted known ns (Note i ns' c b) e = absurd (true≢false e)
+
+-- so it is passed over
+pub lifting_between : (ops : List Op) (known : Identifier → Bool) (list : Listing) (bids : List Bid) → Lawful (reverse ops) → ((s : Identifier) → known s ≡ is_section (reverse ops) s)
+    → (i : ℕ) (op : Op) → i < length ops → op ≡ get_or ops i op → is_section_or_note op ≡ false → IsLifting (Passed ops i) list bids → IsLifting (Passed ops (i + 1)) list bids
+lifting_between ops known list bids w k i op l e other f =
+    passed_step (λ h. IsLifting h list bids) ops i op l e (lifting_same ops i op known list bids w k l e f (nothing_lifted known list.nodes op other))
+
 -- and one that adds a node
 pub lifting_more : (ops : List Op) (i : ℕ) (op : Op) (known : Identifier → Bool) (list more : Listing) (bids longer : List Bid) (x : Lift) → Lawful (reverse ops) → ((s : Identifier) → known s ≡ is_section (reverse ops) s) → i < length ops → op ≡ get_or ops i op
     → IsLifting (Passed ops i) list bids → lift_by known list.nodes op ≡ Some x → more ≡ with_element x.node 45 list → IsInOrder more → longer ≡ bids ++ option_to_list x.bid → IsLifting (op ∷ Passed ops i) more longer
@@ -234,4 +249,4 @@ pub lifting_all : (h : List Op) (list : Listing) (bids : List Bid) → Lawful h 
 lifting_all h list bids w f =
     let all : section_cell_ids list.cells ≡ order catalogue (lift h) =
     f.in_order.in_order ∙ ap node_order f.nodes_are ∙ sym (order_by_nodes catalogue (lift h) (lift_lawful h w)).same_order in
-    record { nodes_are = f.nodes_are; all = all; visible = ap section_cell_ids (all_visible list.cells f.shown) ∙ all; bids_are = f.bids_are }
+    record { lifting = f; all = all; visible = ap section_cell_ids (all_visible list.cells f.shown) ∙ all }

@@ -1,6 +1,6 @@
 -- What a move of a replica is, and why there is none.
-use Rattle.std.proofs.Common.{◌&&◌, Bool, List, [], ap, arith, false, refl, subst, sym, true, ℕ, ◌+◌, ◌-◌, ◌<◌, ◌^◌, ◌∙◌, ◌∷◌, ◌≡◌, ◌≢◌}
-use Rattle.std.specs.Prelude.{Err, IfOk, None, Ok, Result, Some, if◌then◌else◌, nat_eq, nat_lt, option_map}
+use Rattle.std.proofs.Common.{◌&&◌, Bool, List, [], ap, false, refl, subst, sym, true, ℕ, ◌+◌, ◌-◌, ◌^◌, ◌∙◌, ◌∷◌, ◌≡◌, ◌≢◌}
+use Rattle.std.specs.Prelude.{Err, IfOk, None, Ok, Result, Some, if◌then◌else◌, nat_lt, option_map}
 use Rattle.std.proofs.Math.Nat.{le_refl}
 use Rattle.std.proofs.lemmas.List.Elements.{All-weaker}
 use Rattle.fugue_ids.specs.Identifiers.{Identifier}
@@ -21,14 +21,14 @@ use Rattle.origin_model.proofs.edits.FreshIdLemmas.{history_below, none_from}
 use Rattle.catalogue_notes.specs.Arranged.{arranged}
 use Rattle.catalogue_notes.specs.Laws.{IsMoved}
 use Rattle.catalogue_notes.specs.Lift.{stamp}
-use Rattle.catalogue_notes.specs.Making.{move_body, move_names, next_stamp, origins_for}
+use Rattle.catalogue_notes.specs.Making.{move_body, move_names, origins_for}
 use Rattle.catalogue_notes.specs.Moving.{IsMoveMade, IsMovePlan, NoteRefusesAs, as_move_fault, move_by}
 use Rattle.catalogue_notes.specs.declared.moving.MoveFault.{MoveFault}
 use Rattle.catalogue_notes.specs.declared.moving.MoveFault.TheVariants.{NoMemory}
 use Rattle.catalogue_notes.specs.declared.moving.Plan.{Plan}
 use Rattle.catalogue_notes.specs.declared.limits.TheConstants.{MOVE_CODE}
 use Rattle.catalogue_notes.proofs.HolderLemmas.{IsHeld, anything, are_held, joins}
-use Rattle.catalogue_notes.proofs.LiftLemmas.{map_from, some_inj}
+use Rattle.catalogue_notes.proofs.LiftLemmas.{map_from}
 use Rattle.catalogue_notes.proofs.MoveLemmas.{move_lands}
 use Rattle.origin_model.proofs.SharedLemmas.{Fits}
 
@@ -118,14 +118,6 @@ note_refuses_err s fault r = record {
       let k : Err fault ≡ Err g.0 = (r g.0 (not_for_memory s g.0 g.1)).1 g.1 in
       ap (λ z. Err (as_move_fault z)) (err_inj fault g.0 k) ∙ ap Err g.2;
 }
-
--- the stamp that is left
-pub stamp_left : (n m : ℕ) → next_stamp n ≡ Some m → m < 2 ^ 32 → (m ≡ n + 1) × (n + 1 < 2 ^ 32)
-stamp_left n m e f = by (nat_eq n (2 ^ 32 - 1)) e
-  where
-    by : (b : Bool) → (if b then None else Some (n + 1)) ≡ Some m → (m ≡ n + 1) × (n + 1 < 2 ^ 32)
-    by true e = cc e
-    by false e = let d : n + 1 ≡ m = some_inj (n + 1) m e in (sym d, omega (arith, d, f))
 
 -- an answer, by its plan
 pub made_by_plan : (old new : State) (k j : ℕ) (plan : Plan) (r : Result ℕ MoveFault) → IsMovePlan old k j plan → Stands old → IfOk r (λ n. IsNoted old new plan.names MOVE_CODE plan.body n) → IfOk r (λ n. IsMoveMade old new k j n)

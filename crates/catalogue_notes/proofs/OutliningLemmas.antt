@@ -1,10 +1,10 @@
 -- The entries of sections, one after another.
-use Rattle.std.proofs.Common.{Bool, List, [], ap, get_or, inl, inr, length, not, reverse, subst, suc, sym, take, ℕ, ◌+◌, ◌++◌, ◌<◌, ◌∙◌, ◌∷◌, ◌≡◌, ◌≢◌}
+use Rattle.std.proofs.Common.{Bool, List, [], ap, get_or, inl, inr, length, not, subst, suc, sym, take, ℕ, ◌+◌, ◌++◌, ◌<◌, ◌∙◌, ◌∷◌, ◌≡◌, ◌≢◌}
 use Rattle.std.specs.Prelude.{Some, slice_get, string_bytes}
 use Rattle.std.specs.List.{All, AllPairs, Contains}
 use Rattle.std.specs.Str.{encode_utf8_all}
 use Rattle.std.proofs.lemmas.Bool.{cases_Bool}
-use Rattle.std.proofs.lemmas.List.{map-append, reverse-reverse, take_more}
+use Rattle.std.proofs.lemmas.List.{map-append, take_more}
 use Rattle.std.proofs.lemmas.List.Elements.{All-contains, All-push}
 use Rattle.fugue_ids.specs.Identifiers.{Identifier}
 use Rattle.fugue_ids.specs.Listed.{index_of}
@@ -18,7 +18,7 @@ use Rattle.section_list.specs.Cells.{Cell, section_cell_ids, section_cells_shown
 use Rattle.catalogue_notes.specs.Arranged.{arranged, heading}
 use Rattle.catalogue_notes.specs.Outlining.{AreEntries, IsEntry, entry_sections}
 use Rattle.catalogue_notes.specs.declared.entry.Entry.{Entry}
-use Rattle.catalogue_notes.specs.Printing.{IsLayout, title_at, title_place}
+use Rattle.catalogue_notes.specs.Printing.{IsLayout, title_giver, title_of_op}
 use Rattle.catalogue_notes.specs.declared.layout.Layout.{Layout}
 use Rattle.catalogue_notes.proofs.PartLemmas.{filter_no, filter_yes}
 use Rattle.catalogue_notes.proofs.PrintingLemmas.{heading_found}
@@ -86,16 +86,14 @@ pub member_at : (xs : List Identifier) (i : ℕ) (x : Identifier) → i < length
 member_at xs i x below is = (i, below, sym is)
 
 -- the entry of an arranged section, by the number and the title that were found
-pub section_entry : (ops : List Op) (l : Layout) (e : Entry) (s : Identifier) → Lawful (reverse ops) → IsLayout (reverse ops) l → Contains l.arrangement.sections.items s → e.section ≡ s
-    → slice_get (shown catalogue (reverse ops)) e.number ≡ Some s → string_bytes e.heading ≡ title_at ops (title_place l s) → IsEntry (reverse ops) e
-section_entry ops l e s w f m is number heading_is =
-    let h : List Op = reverse ops in
+pub section_entry : (h : List Op) (l : Layout) (e : Entry) (s : Identifier) → Lawful h → IsLayout h l → Contains l.arrangement.sections.items s → e.section ≡ s
+    → slice_get (shown catalogue h) e.number ≡ Some s → string_bytes e.heading ≡ title_of_op (title_giver h l s) → IsEntry h e
+section_entry h l e s w f m is number heading_is =
     let arranged_here : Contains (arranged h) s = subst (λ z. Contains z s) f.arranged.sections m in
     record {
       numbered = number ∙ ap Some (sym is);
       headed =
           heading_is
-          ∙ ap (λ z. title_at z (title_place l s)) (sym (reverse-reverse ops))
           ∙ heading_found h l s w f (arranged_held h s w arranged_here)
           ∙ ap (λ z. encode_utf8_all (heading h z)) (sym is);
     }

@@ -106,7 +106,7 @@ arranged_by h placing w st = sym (parts_same (sections_at h) (λ x. option_to_li
 -- the positions by the winning bids are those of the definitions
 pub positions_are : (h : List Op) (list : Listing) (bids : List Bid) (winners : Identifier → Option Bid) → IsLiftOf h list bids
     → ((s : Identifier) → winners s ≡ winning_bid (λ x. not (is_withdrawn h x)) s (reverse bids)) → (s : Identifier) → position_in winners s ≡ position h s
-positions_are h list bids winners f is s = ap (bid_position s) (won_by h (moves h) bids winners f.bids_are is s) ∙ by_winner (winner h s (moves h))
+positions_are h list bids winners f is s = ap (bid_position s) (won_by h (moves h) bids winners f.lifting.bids_are is s) ∙ by_winner (winner h s (moves h))
   where
     by_winner : (o : Option Move) → bid_position s (option_map bid_of o) ≡ (elim o [ None ↦ s | Some m ↦ m.id ])
     by_winner None = refl

@@ -1,22 +1,20 @@
 -- What is printed by what was looked up is what the definitions say.
-use Rattle.std.proofs.Common.{List, [], ap, false, inl, inr, not, refl, reverse, subst, sym, true, ℕ, ◌++◌, ◌∙◌, ◌∷◌, ◌≡◌, ◌≢◌, ◌⊎◌}
-use Rattle.std.specs.Prelude.{IfSome, IsSome, None, Option, Some, codes, drop, flat_map, if◌then◌else◌, is_some, nat_eq, option_map, slice_get}
-use Rattle.std.specs.BTreeMap.{get}
+use Rattle.std.proofs.Common.{List, [], ap, false, inl, inr, not, refl, subst, sym, true, ℕ, ◌++◌, ◌∙◌, ◌∷◌, ◌≡◌, ◌⊎◌}
+use Rattle.std.specs.Prelude.{IfSome, IsSome, None, Option, Some, codes, drop, flat_map, if◌then◌else◌, nat_eq, option_map}
 use Rattle.std.specs.List.{Contains}
 use Rattle.std.specs.Str.{chars, encode_utf8_all}
 use Rattle.std.proofs.lemmas.Bool.{cases_Bool, false≢true}
-use Rattle.fugue_ids.specs.Identifiers.{Identifier, id_cmp}
-use Rattle.fugue_ids.specs.Ops.{id_of}
+use Rattle.fugue_ids.specs.Identifiers.{Identifier}
 use Rattle.fugue_ids.specs.declared.op.Op.{Op}
 use Rattle.fugue_ids.specs.declared.op.Op.TheVariants.{Delete, Note, Section, Text}
 use Rattle.fugue_ids.proofs.ListLemmas.{contains_filter_from}
 use Rattle.origin_model.specs.declared.operations.Place.TheVariants.{Catalogue as catalogue}
 use Rattle.origin_model.specs.declared.operations.Role.TheVariants.{Section as SectionRole}
-use Rattle.origin_model.specs.operations.History.{holder, is_own}
+use Rattle.origin_model.specs.operations.History.{holder}
 use Rattle.origin_model.specs.operations.Verdict.{Lawful, fits}
 use Rattle.origin_model.specs.order.Order.{order}
 use Rattle.origin_model.specs.order.Printed.{is_hidden, title_of}
-use Rattle.origin_model.proofs.SharedLemmas.{holder-other, holder-own, order_total, own_id}
+use Rattle.origin_model.proofs.SharedLemmas.{order_total}
 use Rattle.section_list.specs.SectionList.{Listing}
 use Rattle.section_catalogue.specs.Contents.{Contents, text_at}
 use Rattle.section_catalogue.specs.Manuscript.{IsTextOf, LookUpsAgree}
@@ -24,57 +22,17 @@ use Rattle.catalogue_notes.specs.Arranged.{arranged, arranged_section, arranged_
 use Rattle.catalogue_notes.specs.Claims.{Retitle, claim, is_title, retitle_in, retitle_of, stamp_of}
 use Rattle.catalogue_notes.specs.Laws.{IsValidRetitle, IsWinner}
 use Rattle.catalogue_notes.specs.Lift.{is_section, retitles}
-use Rattle.catalogue_notes.specs.Printing.{HasRetitles, IsLayout, page, printed_by, title_at, title_in, title_of_op, title_place, utf8_or_none}
+use Rattle.catalogue_notes.specs.Printing.{IsLayout, page, printed_by, title_giver, title_in, title_of_op, utf8_or_none}
 use Rattle.catalogue_notes.specs.Readings.{bid_of}
 use Rattle.catalogue_notes.specs.declared.layout.Layout.{Layout}
 use Rattle.catalogue_notes.specs.declared.reading.Bid.{Bid}
 use Rattle.catalogue_notes.specs.declared.limits.TheConstants.{RETITLE_CODE}
 use Rattle.catalogue_notes.proofs.ArrangedLemmas.{arranged_shown}
-use Rattle.catalogue_notes.proofs.HolderLemmas.{cases_option, is_own-id, not_both, same_value, section_held}
+use Rattle.catalogue_notes.proofs.HolderLemmas.{cases_option, not_both, section_held}
 use Rattle.catalogue_notes.proofs.LiftLemmas.{if_so, some_inj}
 use Rattle.catalogue_notes.proofs.PartLemmas.{parts_same}
-use Rattle.catalogue_notes.proofs.RetitleLemmas.{title_shape}
 use Rattle.catalogue_notes.proofs.RetitlingLemmas.{arranged_section as arranged_held, title_bytes, title_utf8}
 use Rattle.catalogue_notes.proofs.ValidLemmas.{valid_in_whole, winners}
-
--- no retitle was passed yet
-pub retitles_none : (ops : List Op) (index : Identifier → Option ℕ) → HasRetitles ops [] index
-retitles_none ops index r op k t = absurd (not_both None op refl k)
-
--- a retitle more
-pub retitles_more : (ops h : List Op) (at : ℕ) (op : Op) (b : Bid) (old new : Identifier → Option ℕ) → slice_get ops at ≡ Some op → Some b ≡ option_map bid_of (retitle_in op)
-    → new b.id ≡ Some at → ((s : Identifier) → s ≢ b.id → new s ≡ old s) → HasRetitles ops h old → HasRetitles ops (op ∷ h) new
-retitles_more ops h at op b old new there says here others f r e k t =
-    elim (cases_option (retitle_in op)) [
-      | inl n ↦ absurd (not_both (option_map bid_of (retitle_in op)) b (ap (option_map bid_of) n) (sym says))
-      | inr q ↦
-          let own : id_of op ≡ Some q.0.id = (title_shape op q.0 q.1).own in
-          let same : b.id ≡ q.0.id = ap (λ (o : Option Bid). elim o [ None ↦ b.id | Some c ↦ c.id ]) (says ∙ ap (option_map bid_of) q.1) in
-          elim (cases_Bool (is_own r op)) [
-            | inl o ↦
-                let at_op : op ≡ e = same_value (holder (op ∷ h) r) op e (holder-own op h r o) k in
-                let is : q.0.id ≡ r = same_value (id_of op) q.0.id r own (own_id op r o) in
-                (at, ap new (sym (same ∙ is)) ∙ here, there ∙ ap Some at_op)
-            | inr o ↦
-                let g = f r e (sym (holder-other op h r o) ∙ k) t in
-                let apart : r ≢ b.id = λ d. absurd (false≢true (sym o ∙ ap (λ i. is_own i op) d ∙ ap (λ i. is_own i op) same ∙ is_own-id op q.0.id own)) in
-                (g.0, others r apart ∙ g.1, g.2)
-          ]
-    ]
-
--- an operation that is none
-pub retitles_same : (ops h : List Op) (op : Op) (index : Identifier → Option ℕ) → None ≡ option_map bid_of (retitle_in op) → HasRetitles ops h index → HasRetitles ops (op ∷ h) index
-retitles_same ops h op index says f r e k t =
-    elim (cases_Bool (is_own r op)) [
-      | inl o ↦
-          let at_op : op ≡ e = same_value (holder (op ∷ h) r) op e (holder-own op h r o) k in
-          absurd (false≢true (no_claim (retitle_in op) says ∙ ap (λ z. is_some (retitle_in z)) at_op ∙ t))
-      | inr o ↦ f r e (sym (holder-other op h r o) ∙ k) t
-    ]
-  where
-    no_claim : (o : Option Retitle) → None ≡ option_map bid_of o → false ≡ is_some o
-    no_claim None e = refl
-    no_claim (Some c) e = cc e
 
 -- what a retitle gives as a title
 note_title : (id : Identifier) (named : List Identifier) (body : List ℕ) (r : Retitle) → retitle_of id named body ≡ Some r → utf8_or_none (drop 4 body) ≡ encode_utf8_all r.value
@@ -105,32 +63,24 @@ section_title (Note i ns c b) k = cc
 abbrev value_by : List ℕ → Option Retitle → List ℕ
 value_by own o = elim o [ None ↦ own | Some r ↦ r.value ]
 
-abbrev place_by : Layout → Identifier → Option Bid → Option ℕ
-place_by l s o = elim o [ None ↦ get id_cmp l.arrangement.index s | Some b ↦ get id_cmp l.retitles b.id ]
+abbrev giver_by : List Op → Identifier → Option Bid → Option Op
+giver_by h s o = elim o [ None ↦ holder h s | Some b ↦ holder h b.id ]
 
 -- the title that was found is the heading
-pub heading_found : (h : List Op) (l : Layout) (s : Identifier) → Lawful h → IsLayout h l → is_section h s ≡ true → title_at (reverse h) (title_place l s) ≡ encode_utf8_all (heading h s)
+pub heading_found : (h : List Op) (l : Layout) (s : Identifier) → Lawful h → IsLayout h l → is_section h s ≡ true → title_of_op (title_giver h l s) ≡ encode_utf8_all (heading h s)
 heading_found h l s w f k =
     elim (cases_option (winner h s (retitles h))) [
       | inl n ↦
-          let place : title_place l s ≡ get id_cmp l.arrangement.index s = ap (place_by l s) (f.winners s ∙ ap (option_map bid_of) n) in
           let own = section_held h s k in
-          elim (cases_option (get id_cmp l.arrangement.index s)) [
-            | inl none ↦ absurd (false≢true (sym (ap is_some none) ∙ f.arranged.known s ∙ k))
-            | inr at ↦
-                let there : slice_get (reverse h) at.0 ≡ holder h s = subst (λ o. IfSome o (λ at. slice_get (reverse h) at ≡ holder h s)) at.1 (f.arranged.found s) in
-                ap (title_at (reverse h)) (place ∙ at.1)
-                ∙ ap title_of_op (there ∙ own.1)
-                ∙ section_title own.0 own.2
-                ∙ sym (ap (λ o. encode_utf8_all (value_by (title_of (holder h s)) o)) n ∙ ap (λ o. encode_utf8_all (title_of o)) own.1)
-          ]
+          let giver : title_giver h l s ≡ holder h s = ap (giver_by h s) (f.winners s ∙ ap (option_map bid_of) n) in
+          ap title_of_op (giver ∙ own.1)
+          ∙ section_title own.0 own.2
+          ∙ sym (ap (λ o. encode_utf8_all (value_by (title_of (holder h s)) o)) n ∙ ap (λ o. encode_utf8_all (title_of o)) own.1)
       | inr r ↦
-          let place : title_place l s ≡ get id_cmp l.retitles r.0.id = ap (place_by l s) (f.winners s ∙ ap (option_map bid_of) r.1) in
+          let giver : title_giver h l s ≡ holder h r.0.id = ap (giver_by h s) (f.winners s ∙ ap (option_map bid_of) r.1) in
           let won : IsWinner h s (retitles h) r.0 = subst (λ o. IfSome o (λ c. IsWinner h s (retitles h) c)) r.1 (winners h s w).1.is in
           let valid : IsValidRetitle h r.0 = ((valid_in_whole h w).retitles_are r.0).0 won.member in
-          let at = f.retitles_at r.0.id valid.op valid.held (ap is_some valid.says) in
-          ap (title_at (reverse h)) (place ∙ at.1)
-          ∙ ap title_of_op at.2
+          ap title_of_op (giver ∙ valid.held)
           ∙ retitle_title valid.op r.0 valid.says
           ∙ sym (ap (λ o. encode_utf8_all (value_by (title_of (holder h s)) o)) r.1)
     ]
@@ -147,12 +97,12 @@ text_found m h s w a k =
     by (Some l) t i = (l, refl, i)
 
 -- so what is printed is the text of the definitions
-pub printed_all : (m : Contents) (h : List Op) (l : Layout) → Lawful h → LookUpsAgree m h → IsLayout h l → flat_map (printed_by m (reverse h) l) l.arrangement.sections.items ≡ arranged_text h
+pub printed_all : (m : Contents) (h : List Op) (l : Layout) → Lawful h → LookUpsAgree m h → IsLayout h l → flat_map (printed_by m h l) l.arrangement.sections.items ≡ arranged_text h
 unfolding arranged_text
 printed_all m h l w a f =
-    ap (flat_map (printed_by m (reverse h) l)) f.arranged.sections
-    ∙ parts_same (printed_by m (reverse h) l) (arranged_section h) (arranged h) (λ s k.
+    ap (flat_map (printed_by m h l)) f.arranged.sections
+    ∙ parts_same (printed_by m h l) (arranged_section h) (arranged h) (λ s k.
     let t = text_found m h s w a k in
     let head = heading_found h l s w f (arranged_held h s w k) in
-    ap (page (title_at (reverse h) (title_place l s))) t.1
+    ap (page (title_of_op (title_giver h l s))) t.1
     ∙ (λ i. codes "# " ++ head i ++ 10 ∷ encode_utf8_all (t.2.text i) ++ 10 ∷ []))

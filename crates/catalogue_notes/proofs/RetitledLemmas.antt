@@ -1,13 +1,15 @@
 -- The valid retitles, as operations are passed one after another.
-use Rattle.std.proofs.Common.{Bool, List, [], ap, get_or, inl, inr, length, map, refl, reverse, sym, ℕ, ◌++◌, ◌<◌, ◌∙◌, ◌∷◌, ◌≡◌}
+use Rattle.std.proofs.Common.{Bool, List, [], ap, false, get_or, inl, inr, length, map, refl, reverse, sym, ℕ, ◌+◌, ◌++◌, ◌<◌, ◌∙◌, ◌∷◌, ◌≡◌}
 use Rattle.std.specs.Prelude.{None, Option, Some, if◌then◌else◌, option_map, option_to_list}
 use Rattle.std.specs.List.{All}
-use Rattle.std.proofs.lemmas.Bool.{cases_Bool}
+use Rattle.std.proofs.lemmas.Bool.{cases_Bool, true≢false}
 use Rattle.std.proofs.lemmas.List.{reverse-append}
 use Rattle.std.proofs.lemmas.List.Elements.{All-head}
 use Rattle.fugue_ids.specs.Identifiers.{Identifier}
 use Rattle.fugue_ids.specs.declared.op.Op.{Op}
+use Rattle.fugue_ids.specs.declared.op.Op.TheVariants.{Delete, Note, Section, Text}
 use Rattle.origin_model.specs.operations.Verdict.{Lawful}
+use Rattle.replica_core.specs.Index.{is_section_or_note}
 use Rattle.catalogue_notes.specs.Claims.{Claim, Retitle, retitle_in}
 use Rattle.catalogue_notes.specs.Lift.{is_section, is_valid_title, passing, retitles}
 use Rattle.catalogue_notes.specs.Lift.{claims}
@@ -18,6 +20,7 @@ use Rattle.catalogue_notes.proofs.HolderLemmas.{anything, cases_option, joins}
 use Rattle.catalogue_notes.proofs.LiftingLemmas.{Passed, lawful_at, section_at}
 use Rattle.origin_model.proofs.SharedLemmas.{Fits}
 use Rattle.catalogue_notes.proofs.RetitleLemmas.{title_shape}
+use Rattle.replica_core.proofs.WalkLemmas.{passed_step}
 use Rattle.std.proofs.Common.{subst}
 
 -- what one operation more adds
@@ -49,6 +52,19 @@ retitled_more ops i op known w k l e =
     step known h op (λ r q.
     let f = All-head (Fits h) (anything r.section) [] (subst (All (Fits h)) (title_shape op r q).named (joins h op v.0).fit) in
     k r.section ∙ section_at ops i op r.section w l e (f.0, f.1))
+
+-- what is neither a Section nor a Note adds none
+no_retitle : (h : List Op) (op : Op) → is_section_or_note op ≡ false → retitles (op ∷ h) ≡ retitles h
+no_retitle h (Section i l r t) e = absurd (true≢false e)
+no_retitle h (Text i s l r c) e = claims-none retitle_in is_valid_title (Text i s l r c) h refl
+no_retitle h (Delete i) e = claims-none retitle_in is_valid_title (Delete i) h refl
+no_retitle h (Note i ns c b) e = absurd (true≢false e)
+
+-- so it is passed over
+pub retitled_between : (ops : List Op) (bids : List Bid) (i : ℕ) (op : Op) → i < length ops → op ≡ get_or ops i op → is_section_or_note op ≡ false
+    → reverse bids ≡ map bid_of (retitles (Passed ops i)) → reverse bids ≡ map bid_of (retitles (Passed ops (i + 1)))
+retitled_between ops bids i op l e other is =
+    passed_step (λ h. reverse bids ≡ map bid_of (retitles h)) ops i op l e (is ∙ ap (map bid_of) (sym (no_retitle (Passed ops i) op other)))
 
 -- one bid more, pushed or not
 pub bids_more : (bids : List Bid) (o : Option Bid) (h g : List Op) → reverse bids ≡ map bid_of (retitles h) → map bid_of (retitles g) ≡ option_to_list o ++ map bid_of (retitles h)

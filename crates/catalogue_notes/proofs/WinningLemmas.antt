@@ -1,8 +1,6 @@
 -- The winners, as bids are taken one after another.
 use Rattle.std.proofs.Common.{Bool, List, [], ap, false, inl, inr, map, not, refl, reverse, sym, true, ◌&&◌, ◌∙◌, ◌∷◌, ◌≡◌}
-use Rattle.std.specs.List.{All}
-use Rattle.std.proofs.lemmas.List.Elements.{All-contains}
-use Rattle.std.specs.Prelude.{IfOk, None, Option, Some, Result, Ok, Err, if◌then◌else◌, option_map}
+use Rattle.std.specs.Prelude.{None, Option, Some, if◌then◌else◌, option_map}
 use Rattle.std.proofs.lemmas.Bool.{and_from, and_right, cases_Bool}
 use Rattle.fugue_ids.specs.Identifiers.{Identifier, id_eq}
 use Rattle.fugue_ids.specs.Keyed.{IsReplaced}
@@ -14,8 +12,7 @@ use Rattle.catalogue_notes.specs.Claims.{Claim}
 use Rattle.catalogue_notes.specs.Readings.{bid_of}
 use Rattle.catalogue_notes.specs.Winning.{best_bid, better_bid, bid_counts, winning_bid}
 use Rattle.catalogue_notes.specs.declared.reading.Bid.{Bid}
-use Rattle.catalogue_notes.proofs.PartLemmas.{filter_no, filter_same, filter_yes}
-use Rattle.catalogue_notes.proofs.TakenLemmas.{all_reversed}
+use Rattle.catalogue_notes.proofs.PartLemmas.{filter_no, filter_yes}
 
 -- a bid that does not count is passed over
 bid_over : (stands : Identifier → Bool) (b : Bid) (passed : List Bid) (s : Identifier) → bid_counts stands s b ≡ false → winning_bid stands s (b ∷ passed) ≡ winning_bid stands s passed
@@ -62,15 +59,3 @@ winning-same h s (c ∷ cs) =
 pub won_by : {V : Type 0} → (h : List Op) (cs : List (Claim V)) (bids : List Bid) (won : Identifier → Option Bid) → reverse bids ≡ map bid_of cs
     → ((s : Identifier) → won s ≡ winning_bid (λ x. not (is_withdrawn h x)) s (reverse bids)) → (s : Identifier) → won s ≡ option_map bid_of (winner h s cs)
 won_by h cs bids won e is s = is s ∙ ap (winning_bid (λ x. not (is_withdrawn h x)) s) e ∙ winning-same h s cs
-
--- bids on which the tests agree have one winner
-pub bids_same : (f g : Identifier → Bool) (s : Identifier) (bids : List Bid) → All (λ (b : Bid). f b.id ≡ g b.id) bids → winning_bid f s (reverse bids) ≡ winning_bid g s (reverse bids)
-bids_same f g s bids same =
-    let P : Bid → Type 0 = λ b. f b.id ≡ g b.id in
-    ap best_bid (filter_same (bid_counts f s) (bid_counts g s) (reverse bids) (λ b m. ap (λ z. id_eq b.section s && z) (All-contains P (reverse bids) b (all_reversed P bids same) m)))
-
--- the winners among bids by one test are those by another that agrees with it on them
-pub won_among : {X E : Type 0} → (look : X → Identifier → Option Bid) (f g : Identifier → Bool) (bids : List Bid) (result : Result X E) → All (λ (b : Bid). f b.id ≡ g b.id) bids
-    → IfOk result (λ won. (s : Identifier) → look won s ≡ winning_bid f s (reverse bids)) → IfOk result (λ won. (s : Identifier) → look won s ≡ winning_bid g s (reverse bids))
-won_among look f g bids (Ok won) same is = λ s. is s ∙ bids_same f g s bids same
-won_among look f g bids (Err e) same is = tt

@@ -5,9 +5,9 @@ pub mod Making
 pub mod Readings
 pub mod Winning
 pub mod Lifting
-pub mod Sections
 pub mod Placing
 pub mod Moving
+pub mod Arranging
 pub mod Printing
 pub mod Outlining
 pub mod Laws

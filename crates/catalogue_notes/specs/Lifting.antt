@@ -40,9 +40,8 @@ pub record IsLifting (h : List Op) (list : Listing) (bids : List Bid) : Type 0 w
   pub in_order : IsInOrder list
   pub bids_are : reverse bids ≡ map bid_of (moves h)
 
--- the list has the elements in order, and the bids are those of the valid moves
+-- the list has the elements in order, all of them visible, and the bids are those of the valid moves
 pub record IsLiftOf (h : List Op) (list : Listing) (bids : List Bid) : Type 0 where
-  pub nodes_are : list.nodes ≡ nodes catalogue (lift h)
+  pub lifting : IsLifting h list bids
   pub all : section_cell_ids list.cells ≡ order catalogue (lift h)
   pub visible : section_cell_ids (section_cells_shown list.cells) ≡ order catalogue (lift h)
-  pub bids_are : reverse bids ≡ map bid_of (moves h)

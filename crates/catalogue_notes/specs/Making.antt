@@ -1,5 +1,5 @@
 -- The notes that move and retitle a section. Sections and places count from 0.
-use Rattle.std.specs.Prelude.{ℕ, suc, ◌+◌, ◌-◌, ◌^◌, nat_eq, if◌then◌else◌, Option, Some, None, List, [], ◌∷◌, ◌++◌, take, drop, option_to_list, option_map}
+use Rattle.std.specs.Prelude.{ℕ, suc, ◌+◌, Option, Some, None, List, [], ◌∷◌, ◌++◌, take, drop, option_to_list, option_map}
 use Rattle.std.specs.Int.{to_be_bytes, w32}
 use Rattle.fugue_ids.specs.Identifiers.{Identifier}
 use Rattle.fugue_ids.specs.declared.op.Op.{Op}
@@ -50,7 +50,3 @@ moved h id section k j = Note id (move_names section (origins_for h k j)) MOVE_C
 -- the retitle of a section
 abbrev pub retitled : List Op → (id section : Identifier) → List ℕ → Op
 retitled h id section title = Note id (section ∷ []) RETITLE_CODE (retitle_body (stamp h + 1) title)
-
--- the stamp above this one: None where that is the greatest there is
-abbrev pub next_stamp : ℕ → Option ℕ
-next_stamp n = if nat_eq n (2 ^ 32 - 1) then None else Some (n + 1)

@@ -16,9 +16,7 @@ use Rattle.catalogue_notes.specs.Lift.{stamp}
 use Rattle.catalogue_notes.specs.Making.{move_body, move_names, origins_for, retitle_body, without}
 use Rattle.catalogue_notes.specs.declared.limits.TheConstants.{MOVE_CODE, RETITLE_CODE}
 use Rattle.catalogue_notes.specs.declared.moving.MoveFault.{MoveFault}
-use Rattle.catalogue_notes.specs.Placing.{IsArranged}
 use Rattle.catalogue_notes.specs.declared.moving.Plan.{Plan}
-use Rattle.catalogue_notes.specs.declared.moving.Stamped.{Stamped}
 use Rattle.catalogue_notes.specs.declared.moving.MoveFault.TheVariants.{NoSection, NoPlace, StampsSpent, IdsSpent, TooMany, NoMemory}
 
 -- the section that stands at k
@@ -100,12 +98,6 @@ pub record IsRetitleMade (old new : State) (k : ℕ) (title : List ℕ) (n : ℕ
   pub gained : Gains old new (retitle_by old section title ∷ [])
   pub titled : heading new.held.history section ≡ title
   pub retitled : IsRetitled old.held.history (retitle_by old section title) section title
-
--- the arrangement of what was accepted, and the stamp of the next move or retitle
-pub record IsStamped (s : State) (found : Stamped) : Type 0 where
-  pub arranged : IsArranged s.held.history found.arrangement
-  pub stamp_is : found.stamp ≡ stamp s.held.history + 1
-  pub left_over : stamp s.held.history + 1 < 2 ^ 32
 
 -- what moves the section that stands at k to j
 pub record IsMovePlan (s : State) (k j : ℕ) (plan : Plan) : Type 0 where

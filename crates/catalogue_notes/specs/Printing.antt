@@ -1,5 +1,5 @@
 -- What is printed of the sections, by what is looked up of them, and what a call that prints them does.
-use Rattle.std.specs.Prelude.{◌≡◌, ℕ, true, Option, Some, None, Result, Ok, Err, if◌then◌else◌, is_some, List, [], ◌∷◌, ◌++◌, codes, drop, option_map, reverse, slice_get}
+use Rattle.std.specs.Prelude.{◌≡◌, ℕ, Option, Some, None, Result, Ok, Err, if◌then◌else◌, List, [], ◌∷◌, ◌++◌, codes, drop, option_map}
 use Rattle.std.specs.BTreeMap.{get}
 use Rattle.std.specs.Str.{encode_utf8_all, is_utf8}
 use Rattle.fugue_ids.specs.Identifiers.{Identifier, id_cmp}
@@ -12,7 +12,6 @@ use Rattle.section_list.specs.Cells.{section_text}
 use Rattle.section_list.specs.SectionList.{Listing}
 use Rattle.section_catalogue.specs.Contents.{Contents, text_at}
 use Rattle.catalogue_notes.specs.Arranged.{winner}
-use Rattle.catalogue_notes.specs.Claims.{retitle_in}
 use Rattle.catalogue_notes.specs.Lift.{retitles}
 use Rattle.catalogue_notes.specs.Placing.{IsArranged}
 use Rattle.catalogue_notes.specs.Readings.{bid_of}
@@ -35,24 +34,14 @@ abbrev pub title_of_op : Option Op → List ℕ
 title_of_op None = []
 title_of_op (Some op) = title_in op
 
-abbrev pub title_at : List Op → Option ℕ → List ℕ
-title_at ops None = []
-title_at ops (Some at) = title_of_op (slice_get ops at)
+-- what gives a section its title: its winning retitle, or its Section
+abbrev pub title_giver : List Op → Layout → Identifier → Option Op
+title_giver h l s = elim (get id_cmp l.winners s) [ None ↦ holder h s | Some b ↦ holder h b.id ]
 
--- where the title of a section stands: in its winning retitle, or in its Section
-abbrev pub title_place : Layout → Identifier → Option ℕ
-title_place l s = elim (get id_cmp l.winners s) [ None ↦ get id_cmp l.arrangement.index s | Some b ↦ get id_cmp l.retitles b.id ]
-
--- each note of the history that has the shape of a retitle is found, at its place in the list
-abbrev pub HasRetitles : (ops h : List Op) → (Identifier → Option ℕ) → Type 0
-HasRetitles ops h index =
-    (r : Identifier) (op : Op) → holder h r ≡ Some op → is_some (retitle_in op) ≡ true → (at : ℕ) × (index r ≡ Some at) × (slice_get ops at ≡ Some op)
-
--- the arrangement of a history, and where its titles stand
+-- the arrangement of a history, and the winning retitles
 pub record IsLayout (h : List Op) (l : Layout) : Type 0 where
   pub arranged : IsArranged h l.arrangement
   pub winners : (s : Identifier) → get id_cmp l.winners s ≡ option_map bid_of (winner h s (retitles h))
-  pub retitles_at : HasRetitles (reverse h) h (get id_cmp l.retitles)
 
 -- a hash sign, a space, the title, LF, the text, LF
 abbrev pub page : List ℕ → Option Listing → List ℕ
@@ -61,7 +50,7 @@ page title (Some l) = codes "# " ++ title ++ 10 ∷ encode_utf8_all (section_tex
 
 -- what is printed of a section
 abbrev pub printed_by : Contents → List Op → Layout → Identifier → List ℕ
-printed_by m ops l s = page (title_at ops (title_place l s)) (text_at m s)
+printed_by m h l s = page (title_of_op (title_giver h l s)) (text_at m s)
 
 -- the text goes out, or the output fails with a front of it gone out, or memory is wanting and nothing went out
 abbrev pub WritesText : OutView → OutView → Result (Unit {0}) ArrangeFault → List ℕ → Type 0

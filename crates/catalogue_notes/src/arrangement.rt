@@ -1,19 +1,20 @@
 //! The sections as they are arranged.
-ghost use Rattle.std.specs.Prelude.{◌≡◌, ◌↔◌, ◌≤◌, Some, IfOk, flat_map, length, option_to_list, reverse};
+ghost use Rattle.std.specs.Prelude.{◌≡◌, ◌↔◌, ◌<◌, Some, IfOk, OnOk, flat_map, insert, length, option_to_list, slice_get};
 ghost use Rattle.std.specs.List.{Contains};
 ghost use Rattle.std.specs.BTreeMap.{get};
 ghost use Rattle.fugue_ids.specs.Identifiers.{Identifier, id_cmp};
-ghost use Rattle.origin_model.specs.declared.operations.Place.TheVariants.{Catalogue as catalogue_place};
-ghost use Rattle.origin_model.specs.operations.Verdict.{Lawful};
-ghost use Rattle.section_catalogue.specs.Manuscript.{IsPlaceOf};
+ghost use Rattle.origin_model.specs.edits.State.{Stands};
 ghost use Rattle.section_list.specs.Cells.{section_cell_ids, section_cells_shown};
-ghost use Rattle.catalogue_notes.specs.Placing.{AreApart, IsArranged, IsPlacing, bid_position, position_in};
+ghost use Rattle.catalogue_notes.specs.Arranging.{IsBehindNote};
+ghost use Rattle.catalogue_notes.specs.Lifting.{IsLiftOf};
+ghost use Rattle.catalogue_notes.specs.Making.{without};
+ghost use Rattle.catalogue_notes.specs.Placing.{AreApart, AreWinners, IsArranged, IsPlacing, bid_position, position_in};
 
-use crate::lifting::Lifted;
+use crate::lifting::{Lifted, lift_of};
 use crate::reading::Bid;
-use crate::sections::sections_of;
-use crate::winning::winners_among;
-use fugue_ids::{ElementId, MOST_OPERATIONS, NoMemory, Op};
+use crate::winning::{take_bid, winners_among};
+use fugue_ids::{ElementId, NoMemory};
+use replica_core::Replica;
 use section_list::SectionList;
 use std::alloc::Global;
 use std::collections::BTreeMap;
@@ -23,8 +24,6 @@ use std::collections::BTreeMap;
 pub(crate) struct Arrangement {
     /// The shown sections in their order.
     pub sections: Vec<ElementId>,
-    /// Where each Section, shown or not, stands among the operations.
-    pub index: BTreeMap<ElementId, usize>,
     pub lifted: Lifted,
     pub winners: BTreeMap<ElementId, Bid>,
 }
@@ -77,23 +76,55 @@ fn arranged_in(
 }
 
 impl Arrangement {
-    /// That of the operations, whose sections the catalogue lists.
-    pub fn of(alloc: Global, ops: &[Op], catalogue: &SectionList) -> Result<Arrangement, NoMemory>
-        requires lawful { Lawful (reverse ops.now) }
-        requires catalogue { IsPlaceOf catalogue_place (reverse ops.now) catalogue.now }
-        requires room { length ops.now ≤ MOST_OPERATIONS }
-        ensures { IfOk result (λ a. IsArranged (reverse ops.now) a) }
+    /// That of the accepted operations.
+    pub fn of(alloc: Global, replica: &Replica) -> Result<Arrangement, NoMemory>
+        ensures arranged { IfOk result (λ a. IsArranged replica.now.held.history a) }
+        ensures stands { Stands replica.now }
     {
-        let index = sections_of(alloc, ops)?;
-        let lifted = Lifted::of(alloc, ops, &index)?;
-        let winners = winners_among(alloc, &lifted.moves, ops)?;
-        let placing = placing_of(alloc, &winners, catalogue)?;
+        let lifted = Lifted::of(alloc, replica)?;
+        let winners = winners_among(alloc, replica, &lifted.moves)?;
+        let placing = placing_of(alloc, &winners, replica.places().catalogue())?;
         let sections = arranged_in(alloc, &lifted.list, &placing)?;
         Ok(Arrangement {
             sections,
-            index,
             lifted,
             winners,
         })
+    }
+
+    /// Takes in the newest operation, a note. The list of the sections stays as it is.
+    pub fn take_note(&mut self, replica: &Replica) -> Result<(), NoMemory>
+        requires { IsBehindNote replica.now.held.history self.old }
+        ensures lifted { OnOk result
+            (IsLiftOf replica.now.held.history self.new.lifted.list self.new.lifted.moves.items) }
+        ensures winners { OnOk result
+            (AreWinners replica.now.held.history self.new.lifted.moves.items (get id_cmp self.new.winners)) }
+        ensures sections { self.new.sections ≡ self.old.sections }
+    {
+        let ops = replica.accepted();
+        let newest = ops.len() - 1;
+        let Some(lift) = lift_of(&self.lifted.list, replica, &ops[newest]) else {
+            return Ok(());
+        };
+        let bid = lift.bid;
+        self.lifted.take(lift)?;
+        if let Some(bid) = bid {
+            take_bid(&mut self.winners, bid)?;
+        }
+        Ok(())
+    }
+
+    /// The section that stands at k goes to j.
+    pub fn put(&mut self, k: usize, j: usize) -> Result<(), NoMemory>
+        requires section { k < length self.old.sections.items }
+        requires place { j < length self.old.sections.items }
+        ensures sections { (s : Identifier) → slice_get self.old.sections.items k ≡ Some s
+            → OnOk result (self.new.sections.items ≡ insert (without self.old.sections.items k) j s) }
+        ensures lifted { self.new.lifted ≡ self.old.lifted }
+        ensures winners { self.new.winners ≡ self.old.winners }
+    {
+        let section = self.sections.remove(k);
+        self.sections.insert(j, section)?;
+        Ok(())
     }
 }

@@ -4,7 +4,7 @@ use fugue_ids::ElementId;
 use std::marker::Model;
 
 /// A shown section: its element, its number in the catalogue from 0, and its heading.
-#[derive(Debug, Drop)]
+#[derive(Drop)]
 pub struct Entry {
     pub section: ElementId,
     pub number: usize,
@@ -12,7 +12,7 @@ pub struct Entry {
 }
 
 /// The shown sections as they are arranged. It is seen as the list of its entries.
-#[derive(Debug, Drop)]
+#[derive(Drop)]
 pub struct Outline {
     entries: Vec<Entry>,
 }

@@ -2,6 +2,7 @@
 #![tactic(auto)]
 
 mod arrangement;
+mod arranger;
 mod entry;
 mod laws;
 mod layout;
@@ -15,9 +16,10 @@ mod reading;
 mod retitles;
 mod retitling;
 mod sections;
-mod standing;
+mod stamped;
 mod winning;
 
+pub use arranger::Arranger;
 pub use entry::{Entry, Outline};
 pub use laws::{
     arranged_by_set, each_once, lift_is_lawful, lifted_order_stays, move_lands, retitle_lands,

@@ -1,27 +1,26 @@
 //! The elements that sections can stand at: those of Sections and of valid moves.
-ghost use Rattle.std.specs.Prelude.{◌≡◌, ◌<◌, ◌≤◌, ◌++◌, false, length, IfOk, OnOk, is_some, option_to_list, option_map, reverse};
-ghost use Rattle.std.specs.BTreeMap.{get};
-ghost use Rattle.fugue_ids.specs.Identifiers.{Identifier, id_cmp};
-ghost use Rattle.origin_model.specs.operations.Verdict.{Lawful};
+ghost use Rattle.std.specs.Prelude.{◌≡◌, ◌<◌, ◌++◌, false, length, IfOk, OnOk, option_to_list, option_map};
+ghost use Rattle.origin_model.specs.edits.State.{Stands};
 ghost use Rattle.origin_model.specs.sides.Node.{has_origin, IsNew};
 ghost use Rattle.section_list.specs.SectionList.{IsInOrder, with_element};
 ghost use Rattle.catalogue_notes.specs.Claims.{move_in as move_on};
-ghost use Rattle.catalogue_notes.specs.Lift.{is_section};
+ghost use Rattle.catalogue_notes.specs.Lift.{is_section as is_section_in};
 ghost use Rattle.catalogue_notes.specs.Lifting.{IsLiftOf, lift_by, lift_move};
 ghost use Rattle.catalogue_notes.specs.Readings.{move_claim};
 
 use crate::reading::{Bid, Move, move_in};
+use crate::sections::is_section;
 use fugue_ids::{ElementId, MOST_OPERATIONS, NoMemory, Op};
 use origin_model::{Node, element_of};
+use replica_core::Replica;
 use section_list::SectionList;
 use std::alloc::Global;
-use std::collections::BTreeMap;
 
 /// The scalar of each element: nothing reads it.
 const MARK: char = '-';
 
 /// What one operation adds.
-#[derive(Clone, Copy, Debug, PartialEq, Eq)]
+#[derive(Clone, Copy)]
 pub(crate) struct Lift {
     pub node: Node,
     /// That of a move.
@@ -44,15 +43,11 @@ fn stands(list: &SectionList, origin: Option<ElementId>) -> bool
     }
 }
 
-fn lift_of_move(
-    list: &SectionList,
-    sections: &BTreeMap<ElementId, usize>,
-    found: &Move,
-) -> Option<Lift>
-    ensures { result ≡ lift_move (λ s. is_some (get id_cmp sections.now s)) list.now.nodes (Some (move_claim found.now)) }
+fn lift_of_move(list: &SectionList, replica: &Replica, found: &Move) -> Option<Lift>
+    ensures { result ≡ lift_move (is_section_in replica.now.held.history) list.now.nodes (Some (move_claim found.now)) }
 {
     let Move { bid, gap } = *found;
-    if !sections.contains_key(&bid.section) || !stands(list, gap.left) || !stands(list, gap.right) {
+    if !is_section(replica, bid.section) || !stands(list, gap.left) || !stands(list, gap.right) {
         return None;
     }
     Some(Lift {
@@ -66,8 +61,8 @@ fn lift_of_move(
 }
 
 /// What the operation adds to the list.
-fn lift_of(list: &SectionList, sections: &BTreeMap<ElementId, usize>, op: &Op) -> Option<Lift>
-    ensures { result ≡ lift_by (λ s. is_some (get id_cmp sections.now s)) list.now.nodes op.now }
+pub(crate) fn lift_of(list: &SectionList, replica: &Replica, op: &Op) -> Option<Lift>
+    ensures { result ≡ lift_by (is_section_in replica.now.held.history) list.now.nodes op.now }
 {
     match op {
         Op::Section { .. } => match element_of(op) {
@@ -76,7 +71,7 @@ fn lift_of(list: &SectionList, sections: &BTreeMap<ElementId, usize>, op: &Op) -
         },
         Op::Text { .. } | Op::Delete { .. } => None,
         Op::Note { .. } => match move_in(op) {
-            Some(found) => lift_of_move(list, sections, &found),
+            Some(found) => lift_of_move(list, replica, &found),
             None => None,
         },
     }
@@ -84,7 +79,7 @@ fn lift_of(list: &SectionList, sections: &BTreeMap<ElementId, usize>, op: &Op) -
 
 impl Lifted {
     /// After want of memory the bid may be wanting.
-    fn take(&mut self, lift: Lift) -> Result<(), NoMemory>
+    pub(crate) fn take(&mut self, lift: Lift) -> Result<(), NoMemory>
         requires new { IsNew self.old.list.nodes lift.node }
         requires room { length self.old.list.cells < MOST_OPERATIONS }
         ensures list { OnOk result (self.new.list ≡ with_element lift.node 45 self.old.list) }
@@ -99,23 +94,18 @@ impl Lifted {
         Ok(())
     }
 
-    /// What is lifted of the operations. `sections` has the Sections among them.
-    pub(crate) fn of(
-        alloc: Global,
-        ops: &[Op],
-        sections: &BTreeMap<ElementId, usize>,
-    ) -> Result<Lifted, NoMemory>
-        requires lawful { Lawful (reverse ops.now) }
-        requires sections { (s : Identifier) → is_some (get id_cmp sections.now s) ≡ is_section (reverse ops.now) s }
-        requires room { length ops.now ≤ MOST_OPERATIONS }
-        ensures { IfOk result (λ lifted. IsLiftOf (reverse ops.now) lifted.list lifted.moves.items) }
+    /// What is lifted of the accepted operations.
+    pub(crate) fn of(alloc: Global, replica: &Replica) -> Result<Lifted, NoMemory>
+        ensures lifted { IfOk result (λ lifted. IsLiftOf replica.now.held.history lifted.list lifted.moves.items) }
+        ensures stands { Stands replica.now }
     {
+        let ops = replica.accepted();
         let mut lifted = Lifted {
             list: SectionList::new(alloc),
             moves: Vec::new(alloc),
         };
-        'ops: for op in ops {
-            if let Some(lift) = lift_of(&lifted.list, sections, op) {
+        'walk: for at in replica.sections_and_notes() {
+            if let Some(lift) = lift_of(&lifted.list, replica, &ops[*at]) {
                 lifted.take(lift)?;
             }
         }

@@ -1,49 +1,35 @@
 //! The names and the bodies of moves.
-ghost use Rattle.std.specs.Prelude.{◌≡◌, ◌<◌, IfOk, List, Some, length, option_map, reverse, slice_get};
+ghost use Rattle.std.specs.Prelude.{◌≡◌, ◌<◌, IfOk, List, Some, length, option_map, slice_get};
 ghost use Rattle.std.specs.BTreeMap.{get};
 ghost use Rattle.fugue_ids.specs.Identifiers.{id_cmp};
 ghost use Rattle.fugue_ids.specs.declared.op.Op.{Op as OpOf};
 ghost use Rattle.origin_model.specs.edits.Edits.{in_front};
 ghost use Rattle.origin_model.specs.edits.Landing.{following};
-ghost use Rattle.origin_model.specs.operations.Verdict.{Lawful};
 ghost use Rattle.section_list.specs.Cells.{section_cell_ids};
 ghost use Rattle.catalogue_notes.specs.Lift.{stamp as stamp_on};
-ghost use Rattle.catalogue_notes.specs.Making.{form_of, move_body, move_names, next_stamp as stamp_above, origins_for, without};
+ghost use Rattle.catalogue_notes.specs.Making.{form_of, move_body, move_names, origins_for, without};
 ghost use Rattle.catalogue_notes.specs.Placing.{IsArranged, position_in};
 ghost use Rattle.catalogue_notes.specs.Readings.{read_origins};
 
 use crate::arrangement::{Arrangement, position_of};
 use crate::reading::Gap;
 use crate::retitles::{greatest_stamp, retitles_of};
-use fugue_ids::{Body, ElementId, NoMemory, NoteNames, Op};
+use fugue_ids::{Body, ElementId, NoMemory, NoteNames};
+use replica_core::Replica;
 use std::alloc::Global;
 
 /// The greatest stamp of a valid move or retitle.
-fn stamp_of(alloc: Global, ops: &[Op], arrangement: &Arrangement) -> Result<u32, NoMemory>
-    requires lawful { Lawful (reverse ops.now) }
-    requires arranged { IsArranged (reverse ops.now) arrangement.now }
-    ensures { IfOk result (λ stamp. stamp ≡ stamp_on (reverse ops.now)) }
+pub(crate) fn stamp_of(
+    alloc: Global,
+    replica: &Replica,
+    arrangement: &Arrangement,
+) -> Result<u32, NoMemory>
+    requires { IsArranged replica.now.held.history arrangement.now }
+    ensures { IfOk result (λ stamp. stamp ≡ stamp_on replica.now.held.history) }
 {
-    let retitles = retitles_of(alloc, ops, &arrangement.index)?;
+    let retitles = retitles_of(alloc, replica)?;
     let moved = greatest_stamp(&arrangement.lifted.moves);
     Ok(moved.max(greatest_stamp(&retitles)))
-}
-
-/// The stamp of the next move or retitle: None where stamps are spent.
-pub(crate) fn next_stamp(
-    alloc: Global,
-    ops: &[Op],
-    arrangement: &Arrangement,
-) -> Result<Option<u32>, NoMemory>
-    requires lawful { Lawful (reverse ops.now) }
-    requires arranged { IsArranged (reverse ops.now) arrangement.now }
-    ensures { IfOk result (λ next. next ≡ stamp_above (stamp_on (reverse ops.now))) }
-{
-    let stamp = stamp_of(alloc, ops, arrangement)?;
-    if stamp == u32::MAX {
-        return Ok(None);
-    }
-    Ok(Some(stamp + 1))
 }
 
 /// The element after which the section k lands at j: that at which the section before it stands.

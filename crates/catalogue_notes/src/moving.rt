@@ -1,20 +1,21 @@
 //! A section moved: a note that says where it stands.
-ghost use Rattle.std.specs.Prelude.{◌≡◌, ◌≢◌, IfErr, IfOk, None, Some, OnErr, OnOk};
+ghost use Rattle.std.specs.Prelude.{◌≡◌, ◌≢◌, ◌+◌, ◌<◌, ◌^◌, IfErr, IfOk, None, Some, OnErr, OnOk};
 ghost use Rattle.origin_model.specs.edits.Noting.{AreHeld, IsNoted, ShowsAsBefore};
 ghost use Rattle.origin_model.specs.edits.State.{Stands};
 ghost use Rattle.origin_model.specs.taking.Taking.{IsSettled};
-ghost use Rattle.catalogue_notes.specs.Moving.{IsMoveMade, IsMovePlan, IsStamped, NoteRefusesAs, RefusesFor, TellsAbsence};
+ghost use Rattle.catalogue_notes.specs.Arranging.{IsStamped};
+ghost use Rattle.catalogue_notes.specs.Lift.{stamp};
+ghost use Rattle.catalogue_notes.specs.Moving.{IsMoveMade, IsMovePlan, NoteRefusesAs, RefusesFor, TellsAbsence};
 ghost use Rattle.catalogue_notes.specs.Moving.{as_move_fault, move_refusal, place_cause, section_cause, stamps_cause};
 
 use crate::MOVE_CODE;
-use crate::arrangement::Arrangement;
-use crate::making::{body_of, gap_for, names_of, next_stamp, section_at};
+use crate::arranger::Arranger;
+use crate::making::{body_of, gap_for, names_of, section_at};
+use crate::stamped::Stamped;
 use fugue_ids::{Body, NoMemory, NoteNames};
 use origin_model::EditFault;
 use replica_core::Replica;
 use std::alloc::Global;
-use std::error::Error;
-use std::fmt;
 
 /// Why a section was not moved or retitled, in the order in which the causes are looked for. Nothing was changed.
 #[derive(Clone, Copy, Debug, PartialEq, Eq)]
@@ -31,23 +32,6 @@ pub enum MoveFault {
     TooMany(u32),
     NoMemory,
 }
-
-impl fmt::Display for MoveFault {
-    fn fmt<W: fmt::Write>(&self, f: &mut fmt::Formatter<W>) -> fmt::Result {
-        match self {
-            MoveFault::NoSection => write!(f, "there is no such section"),
-            MoveFault::NoPlace => write!(f, "there is no such place"),
-            MoveFault::StampsSpent => write!(f, "the stamps are spent"),
-            MoveFault::IdsSpent(greatest) => {
-                write!(f, "the identifiers are spent at counter {greatest}")
-            }
-            MoveFault::TooMany(held) => write!(f, "{held} operations are accepted or wait"),
-            MoveFault::NoMemory => write!(f, "{}", NoMemory),
-        }
-    }
-}
-
-impl Error for MoveFault {}
 
 impl From<NoMemory> for MoveFault {
     ghost use Rattle.std.specs.Prelude.{◌≡◌};
@@ -91,7 +75,7 @@ pub(crate) fn find_section(replica: &Replica, k: usize) -> Result<(), MoveFault>
 }
 
 /// Whether there is such a section, and such a place. It takes no memory.
-fn find_place(replica: &Replica, k: usize, j: usize) -> Result<(), MoveFault>
+pub(crate) fn find_place(replica: &Replica, k: usize, j: usize) -> Result<(), MoveFault>
     ensures ok { OnOk result (place_cause replica.now k j ≡ None) }
     ensures err { IfErr result (λ fault. place_cause replica.now k j ≡ Some fault) }
     ensures stands { Stands replica.now }
@@ -103,37 +87,22 @@ fn find_place(replica: &Replica, k: usize, j: usize) -> Result<(), MoveFault>
     Ok(())
 }
 
-/// The sections as they are arranged, and the stamp of the next move or retitle.
-#[derive(Drop)]
-pub(crate) struct Stamped {
-    pub arrangement: Arrangement,
-    pub stamp: u32,
-}
-
-/// What was accepted, arranged, where a stamp is left.
-pub(crate) fn find_stamp(alloc: Global, replica: &Replica) -> Result<Stamped, MoveFault>
-    ensures ok { IfOk result (λ found. IsStamped replica.now found) }
-    ensures err { IfErr result (λ fault. fault ≢ MoveFault.NoMemory → stamps_cause replica.now ≡ Some fault) }
-    ensures stands { Stands replica.now }
-{
-    let ops = replica.accepted();
-    let arrangement = Arrangement::of(alloc, ops, replica.places().catalogue())?;
-    let Some(stamp) = next_stamp(alloc, ops, &arrangement)? else {
-        return Err(MoveFault::StampsSpent);
-    };
-    Ok(Stamped { arrangement, stamp })
-}
-
 /// What moves the section k to j.
-fn plan_move(alloc: Global, replica: &Replica, k: usize, j: usize) -> Result<Plan, MoveFault>
-    requires { place_cause replica.now k j ≡ None }
+fn plan_move(
+    alloc: Global,
+    replica: &Replica,
+    found: &Stamped,
+    k: usize,
+    j: usize,
+) -> Result<Plan, MoveFault>
+    requires place { place_cause replica.now k j ≡ None }
+    requires found { IsStamped replica.now.held.history found.now }
     ensures ok { IfOk result (λ plan. IsMovePlan replica.now k j plan) }
     ensures err { IfErr result (λ fault. fault ≢ MoveFault.NoMemory → stamps_cause replica.now ≡ Some fault) }
-    ensures stands { Stands replica.now }
 {
-    let found = find_stamp(alloc, replica)?;
+    let stamp = found.next()?;
     let gap = gap_for(&found.arrangement, k, j);
-    let body = body_of(alloc, found.stamp, &gap)?;
+    let body = body_of(alloc, stamp, &gap)?;
     Ok(Plan {
         names: names_of(section_at(&found.arrangement, k), &gap),
         body,
@@ -157,6 +126,31 @@ pub(crate) fn make(replica: &mut Replica, code: u8, plan: Plan) -> Result<u32, M
     }
 }
 
+/// Moves the section k, which is there, to j, by what was found.
+pub(crate) fn make_move(
+    alloc: Global,
+    replica: &mut Replica,
+    found: &Stamped,
+    k: usize,
+    j: usize,
+) -> Result<u32, MoveFault>
+    requires settled { IsSettled replica.old.held }
+    requires stands { Stands replica.old }
+    requires place { place_cause replica.old k j ≡ None }
+    requires found { IsStamped replica.old.held.history found.now }
+    ensures made { IfOk result (λ n. IsMoveMade replica.old replica.new k j n) }
+    ensures shown { ShowsAsBefore replica.old replica.new }
+    ensures absent { TellsAbsence (place_cause replica.old k j) result }
+    ensures refused { RefusesFor (move_refusal replica.old k j) result }
+    ensures unmade { OnErr result (replica.new ≡ replica.old) }
+    ensures left_over { OnOk result (stamp replica.old.held.history + 1 < 2 ^ 32) }
+    ensures settled { IsSettled replica.new.held }
+    ensures stands { Stands replica.new }
+{
+    let plan = plan_move(alloc, replica, found, k, j)?;
+    make(replica, MOVE_CODE, plan)
+}
+
 /// Moves the section k, counted from 0 as sections are arranged, to j. The answer is 1.
 pub fn move_section(
     alloc: Global,
@@ -173,7 +167,5 @@ pub fn move_section(
     ensures settled { IsSettled replica.new.held }
     ensures stands { Stands replica.new }
 {
-    find_place(replica, k, j)?;
-    let plan = plan_move(alloc, replica, k, j)?;
-    make(replica, MOVE_CODE, plan)
+    Arranger::new().move_section(alloc, replica, k, j)
 }

@@ -1,5 +1,5 @@
 //! The shown sections listed as they are arranged.
-ghost use Rattle.std.specs.Prelude.{◌≡◌, ◌≢◌, IfOk, Some, reverse, slice_get, string_bytes};
+ghost use Rattle.std.specs.Prelude.{◌≡◌, ◌≢◌, IfOk, Some, slice_get, string_bytes};
 ghost use Rattle.std.specs.List.{AllPairs, Contains};
 ghost use Rattle.origin_model.specs.declared.operations.Place.TheVariants.{Catalogue as catalogue_place};
 ghost use Rattle.origin_model.specs.edits.State.{Stands};
@@ -7,12 +7,12 @@ ghost use Rattle.origin_model.specs.operations.Verdict.{Lawful};
 ghost use Rattle.section_catalogue.specs.Manuscript.{IsPlaceOf};
 ghost use Rattle.section_list.specs.Cells.{section_cell_ids, section_cells_shown};
 ghost use Rattle.catalogue_notes.specs.Outlining.{IsOutline};
-ghost use Rattle.catalogue_notes.specs.Printing.{IsLayout, title_at as title_at_in, title_place};
+ghost use Rattle.catalogue_notes.specs.Printing.{IsLayout, title_giver, title_of_op};
 
 use crate::entry::{Entry, Outline};
 use crate::layout::Layout;
-use crate::printing::title_at;
-use fugue_ids::{ElementId, NoMemory, Op};
+use crate::printing::title_given;
+use fugue_ids::{ElementId, NoMemory};
 use replica_core::Replica;
 use section_list::SectionList;
 use std::alloc::Global;
@@ -32,7 +32,7 @@ fn number_of(catalogue: &SectionList, section: ElementId) -> usize
 /// The entry of a section, under the title that stands in the layout.
 fn entry_of(
     alloc: Global,
-    ops: &[Op],
+    replica: &Replica,
     catalogue: &SectionList,
     layout: &Layout,
     section: ElementId,
@@ -43,9 +43,9 @@ fn entry_of(
     ensures number { IfOk result (λ entry.
         slice_get (section_cell_ids (section_cells_shown catalogue.now.cells)) entry.number ≡ Some section) }
     ensures heading { IfOk result (λ entry.
-        string_bytes entry.heading ≡ title_at_in ops.now (title_place layout.now section)) }
+        string_bytes entry.heading ≡ title_of_op (title_giver replica.now.held.history layout.now section)) }
 {
-    let title = title_at(ops, layout.title_place(section));
+    let title = title_given(layout.title_giver(replica, section));
     Ok(Entry {
         section,
         number: number_of(catalogue, section),
@@ -56,18 +56,18 @@ fn entry_of(
 /// The entries of the sections as they are arranged.
 fn entries_of(
     alloc: Global,
-    ops: &[Op],
+    replica: &Replica,
     catalogue: &SectionList,
     layout: &Layout,
 ) -> Result<Vec<Entry>, NoMemory>
-    requires lawful { Lawful (reverse ops.now) }
-    requires catalogue { IsPlaceOf catalogue_place (reverse ops.now) catalogue.now }
-    requires layout { IsLayout (reverse ops.now) layout.now }
-    ensures { IfOk result (λ entries. IsOutline (reverse ops.now) entries.items) }
+    requires lawful { Lawful replica.now.held.history }
+    requires catalogue { IsPlaceOf catalogue_place replica.now.held.history catalogue.now }
+    requires layout { IsLayout replica.now.held.history layout.now }
+    ensures { IfOk result (λ entries. IsOutline replica.now.held.history entries.items) }
 {
     let mut entries = Vec::new(alloc);
     'sections: for section in layout.arrangement.sections.as_slice() {
-        entries.push(entry_of(alloc, ops, catalogue, layout, *section)?)?;
+        entries.push(entry_of(alloc, replica, catalogue, layout, *section)?)?;
     }
     Ok(entries)
 }
@@ -77,10 +77,9 @@ pub fn outline(alloc: Global, replica: &Replica) -> Result<Outline, NoMemory>
     ensures outline { IfOk result (λ found. IsOutline replica.now.held.history found) }
     ensures stands { Stands replica.now }
 {
-    let ops = replica.accepted();
     let catalogue = replica.places().catalogue();
-    let layout = Layout::of(alloc, ops, catalogue)?;
-    let entries = entries_of(alloc, ops, catalogue, &layout);
+    let layout = Layout::of(alloc, replica)?;
+    let entries = entries_of(alloc, replica, catalogue, &layout);
     drop(layout);
     Ok(Outline::new(entries?))
 }

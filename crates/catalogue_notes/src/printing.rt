@@ -1,10 +1,10 @@
 //! The sections printed as they are arranged, under their headings.
-ghost use Rattle.std.specs.Prelude.{◌≡◌, ◌++◌, ◌∷◌, List, [], ℕ, Some, codes, drop, flat_map};
+ghost use Rattle.std.specs.Prelude.{◌≡◌, ◌++◌, ◌∷◌, List, [], ℕ, Some, codes, drop, flat_map, option_copied};
 ghost use Rattle.fugue_ids.specs.Gathers.{GathersText};
 ghost use Rattle.fugue_ids.specs.Outs.{OutView, WritesBytes};
 ghost use Rattle.origin_model.specs.edits.State.{Stands};
 ghost use Rattle.catalogue_notes.specs.Arranged.{arranged_text};
-ghost use Rattle.catalogue_notes.specs.Printing.{WritesText, page, printed_by, title_at as title_at_in, title_in as title_in_op, utf8_or_none};
+ghost use Rattle.catalogue_notes.specs.Printing.{WritesText, page, printed_by, title_in as title_in_op, title_of_op, utf8_or_none};
 
 use crate::layout::Layout;
 use fugue_ids::{ElementId, Failed, Gather, NoMemory, Op, Out};
@@ -13,28 +13,15 @@ use replica_core::Replica;
 use section_catalogue::Manuscript;
 use section_list::SectionList;
 use std::alloc::Global;
-use std::error::Error;
-use std::fmt;
 
 /// Why the sections were not printed whole.
-#[derive(Clone, Copy, Debug, PartialEq, Eq)]
+#[derive(Clone, Copy, Debug)]
 pub enum ArrangeFault {
     /// The output failed, and its count of faults rose. A front of the text is written.
     SinkFault,
     /// Nothing is written.
     NoMemory,
 }
-
-impl fmt::Display for ArrangeFault {
-    fn fmt<W: fmt::Write>(&self, f: &mut fmt::Formatter<W>) -> fmt::Result {
-        match self {
-            ArrangeFault::SinkFault => write!(f, "{}", Failed),
-            ArrangeFault::NoMemory => write!(f, "{}", NoMemory),
-        }
-    }
-}
-
-impl Error for ArrangeFault {}
 
 impl From<NoMemory> for ArrangeFault {
     ghost use Rattle.std.specs.Prelude.{◌≡◌};
@@ -78,14 +65,11 @@ fn title_in(op: &Op) -> &str
     }
 }
 
-/// The title that the operation at the place gives.
-pub(crate) fn title_at(ops: &[Op], at: Option<usize>) -> &str
-    ensures { result.now ≡ title_at_in ops.now at }
+/// The title that the operation gives, where there is one.
+pub(crate) fn title_given(giver: Option<&Op>) -> &str
+    ensures { result.now ≡ title_of_op (option_copied giver.entry) }
 {
-    let Some(at) = at else {
-        return "";
-    };
-    match ops.get(at) {
+    match giver {
         Some(op) => title_in(op),
         None => "",
     }
@@ -118,15 +102,15 @@ fn put_page<O: Out>(
 fn put_section<O: Out>(
     gather: &mut Gather,
     output: &mut O,
-    ops: &[Op],
+    replica: &Replica,
     places: &Manuscript,
     layout: &Layout,
     section: ElementId,
 ) -> Result<(), Failed>
     ensures { GathersText (O.seen output.old) (O.seen output.new) gather.old gather.new result
-        (printed_by places.now ops.now layout.now section) }
+        (printed_by places.now replica.now.held.history layout.now section) }
 {
-    let title = title_at(ops, layout.title_place(section));
+    let title = title_given(layout.title_giver(replica, section));
     match places.section(section) {
         Some(text) => put_page(gather, output, title.as_bytes(), text),
         None => Ok(()),
@@ -137,15 +121,15 @@ fn put_section<O: Out>(
 fn put_sections<O: Out>(
     gather: &mut Gather,
     output: &mut O,
-    ops: &[Op],
+    replica: &Replica,
     places: &Manuscript,
     layout: &Layout,
 ) -> Result<(), Failed>
     ensures { GathersText (O.seen output.old) (O.seen output.new) gather.old gather.new result
-        (flat_map (printed_by places.now ops.now layout.now) layout.now.arrangement.sections.items) }
+        (flat_map (printed_by places.now replica.now.held.history layout.now) layout.now.arrangement.sections.items) }
 {
     'sections: for section in layout.arrangement.sections.as_slice() {
-        put_section(gather, output, ops, places, layout, *section)?;
+        put_section(gather, output, replica, places, layout, *section)?;
     }
     Ok(())
 }
@@ -153,15 +137,15 @@ fn put_sections<O: Out>(
 /// Writes the sections in their order. It takes no memory.
 fn write_sections<O: Out>(
     output: &mut O,
-    ops: &[Op],
+    replica: &Replica,
     places: &Manuscript,
     layout: &Layout,
 ) -> Result<(), Failed>
     ensures { WritesBytes (O.seen output.old) (O.seen output.new) result
-        (flat_map (printed_by places.now ops.now layout.now) layout.now.arrangement.sections.items) }
+        (flat_map (printed_by places.now replica.now.held.history layout.now) layout.now.arrangement.sections.items) }
 {
     let mut gather = Gather::new();
-    put_sections(&mut gather, output, ops, places, layout)?;
+    put_sections(&mut gather, output, replica, places, layout)?;
     gather.flush(output)
 }
 
@@ -185,8 +169,6 @@ pub fn write_arranged<O: Sink>(
         (arranged_text replica.now.held.history) }
     ensures stands { Stands replica.now }
 {
-    let ops = replica.accepted();
-    let places = replica.places();
-    let layout = Layout::of(alloc, ops, places.catalogue())?;
-    told(write_sections(output, ops, places, &layout))
+    let layout = Layout::of(alloc, replica)?;
+    told(write_sections(output, replica, replica.places(), &layout))
 }

@@ -8,7 +8,7 @@ use crate::{MOVE_CODE, RETITLE_CODE};
 use fugue_ids::{ElementId, LONGEST_TITLE, Op, is_line};
 
 /// A note on a section, by what the winner is chosen by.
-#[derive(Clone, Copy, Debug, PartialEq, Eq)]
+#[derive(Clone, Copy)]
 pub(crate) struct Bid {
     pub id: ElementId,
     pub section: ElementId,
@@ -16,13 +16,13 @@ pub(crate) struct Bid {
 }
 
 /// Where a move puts its section.
-#[derive(Clone, Copy, Debug, PartialEq, Eq)]
+#[derive(Clone, Copy)]
 pub(crate) struct Gap {
     pub left: Option<ElementId>,
     pub right: Option<ElementId>,
 }
 
-#[derive(Clone, Copy, Debug, PartialEq, Eq)]
+#[derive(Clone, Copy)]
 pub(crate) struct Move {
     pub bid: Bid,
     pub gap: Gap,

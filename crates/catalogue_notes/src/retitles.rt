@@ -1,42 +1,37 @@
 //! The valid retitles of a history, and the greatest stamp.
-ghost use Rattle.std.specs.Prelude.{◌≡◌, IfOk, is_some, map, max, reverse};
-ghost use Rattle.std.specs.BTreeMap.{get};
-ghost use Rattle.fugue_ids.specs.Identifiers.{Identifier, id_cmp};
-ghost use Rattle.origin_model.specs.operations.Verdict.{Lawful};
-ghost use Rattle.catalogue_notes.specs.Lift.{greatest, is_section, retitles};
+ghost use Rattle.std.specs.Prelude.{◌≡◌, IfOk, map, max, reverse};
+ghost use Rattle.origin_model.specs.edits.State.{Stands};
+ghost use Rattle.catalogue_notes.specs.Lift.{greatest, is_section as is_section_in, retitles};
 ghost use Rattle.catalogue_notes.specs.Readings.{bid_of, known_retitle};
 ghost use Rattle.catalogue_notes.specs.declared.reading.Bid.{Bid as BidOf};
 
 use crate::reading::{Bid, retitle_in};
-use fugue_ids::{ElementId, NoMemory, Op};
+use crate::sections::is_section;
+use fugue_ids::{NoMemory, Op};
+use replica_core::Replica;
 use std::alloc::Global;
-use std::collections::BTreeMap;
 
-/// What the operation says, where it is a retitle of one of the sections.
-fn valid_retitle(op: &Op, sections: &BTreeMap<ElementId, usize>) -> Option<Bid>
-    ensures { result ≡ known_retitle (λ s. is_some (get id_cmp sections.now s)) op.now }
+/// What the operation says, where it is a retitle of a section.
+fn valid_retitle(replica: &Replica, op: &Op) -> Option<Bid>
+    ensures { result ≡ known_retitle (is_section_in replica.now.held.history) op.now }
 {
     let bid = retitle_in(op)?;
-    if sections.contains_key(&bid.section) {
+    if is_section(replica, bid.section) {
         Some(bid)
     } else {
         None
     }
 }
 
-/// The valid retitles, the oldest first. `sections` has the Sections among the operations.
-pub(crate) fn retitles_of(
-    alloc: Global,
-    ops: &[Op],
-    sections: &BTreeMap<ElementId, usize>,
-) -> Result<Vec<Bid>, NoMemory>
-    requires lawful { Lawful (reverse ops.now) }
-    requires sections { (s : Identifier) → is_some (get id_cmp sections.now s) ≡ is_section (reverse ops.now) s }
-    ensures { IfOk result (λ bids. reverse bids.items ≡ map bid_of (retitles (reverse ops.now))) }
+/// The valid retitles, the oldest first.
+pub(crate) fn retitles_of(alloc: Global, replica: &Replica) -> Result<Vec<Bid>, NoMemory>
+    ensures retitles { IfOk result (λ bids. reverse bids.items ≡ map bid_of (retitles replica.now.held.history)) }
+    ensures stands { Stands replica.now }
 {
+    let ops = replica.accepted();
     let mut bids = Vec::new(alloc);
-    'ops: for op in ops {
-        if let Some(bid) = valid_retitle(op, sections) {
+    'walk: for at in replica.sections_and_notes() {
+        if let Some(bid) = valid_retitle(replica, &ops[*at]) {
             bids.push(bid)?;
         }
     }

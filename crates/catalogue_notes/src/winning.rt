@@ -1,17 +1,16 @@
 //! Which note on a section wins.
-ghost use Rattle.std.specs.Prelude.{◌≡◌, Some, IfOk, OnOk, not, option_copied, reverse, filter};
+ghost use Rattle.std.specs.Prelude.{◌≡◌, Some, IfOk, OnOk, not, option_copied, reverse};
 ghost use Rattle.std.specs.BTreeMap.{get};
-ghost use Rattle.std.specs.BTreeSet.{contains};
 ghost use Rattle.fugue_ids.specs.Identifiers.{Identifier, id_cmp};
 ghost use Rattle.fugue_ids.specs.Keyed.{IsReplaced};
 ghost use Rattle.origin_model.specs.order.Printed.{is_withdrawn};
 ghost use Rattle.catalogue_notes.specs.Winning.{better_bid, bid_wins, winning_bid};
 
 use crate::reading::Bid;
-use crate::standing::standing;
-use fugue_ids::{ElementId, NoMemory, Op};
+use fugue_ids::{ElementId, NoMemory};
+use replica_core::Replica;
 use std::alloc::Global;
-use std::collections::{BTreeMap, BTreeSet};
+use std::collections::BTreeMap;
 
 fn is_greater(a: &Bid, b: &Bid) -> bool
     ensures { result ≡ bid_wins a.now b.now }
@@ -29,7 +28,7 @@ fn better(bid: Bid, other: Option<&Bid>) -> Bid
 }
 
 /// One note more, which is not withdrawn.
-fn take_bid(winners: &mut BTreeMap<ElementId, Bid>, bid: Bid) -> Result<(), NoMemory>
+pub(crate) fn take_bid(winners: &mut BTreeMap<ElementId, Bid>, bid: Bid) -> Result<(), NoMemory>
     ensures ok { OnOk result (IsReplaced (get id_cmp winners.old) (get id_cmp winners.new) bid.section
         (Some (better_bid bid (get id_cmp winners.old bid.section)))) }
 {
@@ -38,33 +37,20 @@ fn take_bid(winners: &mut BTreeMap<ElementId, Bid>, bid: Bid) -> Result<(), NoMe
     Ok(())
 }
 
-/// The winner of each section, by its identifier, among the notes that stand. They are given in any order.
-fn winners_of(
+/// The winner of each section, by its identifier, among the notes that no Delete names. They are given in any order.
+pub(crate) fn winners_among(
     alloc: Global,
+    replica: &Replica,
     bids: &[Bid],
-    standing: &BTreeSet<ElementId>,
 ) -> Result<BTreeMap<ElementId, Bid>, NoMemory>
     ensures { IfOk result (λ winners. (s : Identifier) → get id_cmp winners s
-        ≡ winning_bid (contains id_cmp standing.now) s (reverse bids.now)) }
+        ≡ winning_bid (λ x. not (is_withdrawn replica.now.held.history x)) s (reverse bids.now)) }
 {
     let mut winners = BTreeMap::new(alloc);
     'notes: for bid in bids {
-        if standing.contains(&bid.id) {
+        if !replica.is_withdrawn(bid.id) {
             take_bid(&mut winners, *bid)?;
         }
     }
     Ok(winners)
-}
-
-/// The winner of each section, by its identifier, among the notes that no Delete names.
-pub(crate) fn winners_among(
-    alloc: Global,
-    bids: &[Bid],
-    ops: &[Op],
-) -> Result<BTreeMap<ElementId, Bid>, NoMemory>
-    ensures { IfOk result (λ winners. (s : Identifier) → get id_cmp winners s
-        ≡ winning_bid (λ x. not (is_withdrawn (reverse ops.now) x)) s (reverse bids.now)) }
-{
-    let standing = standing(alloc, bids, ops)?;
-    winners_of(alloc, bids, &standing)
 }

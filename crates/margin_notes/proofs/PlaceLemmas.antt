@@ -1,6 +1,6 @@
 -- What the lists of places tell of anchors and of sections is what the definitions say.
-use Rattle.margin_notes.proofs.Words.{AllPairs, Bool, Contains, Identifier, IsIn, Lawful, List, None, Op, Option, Place, Some, Text, Section, Delete, Note, [], ap, arith, before, count_by, drop, false, holder, id_eq, if◌then◌else◌, inl, inr, is_hidden, length, not, option_map, order, refl, shown, subst, suc, sym, take, true, true≢false, within, ℕ, ◌+◌, ◌||◌, ◌∙◌, ◌∷◌, ◌≡◌, ◌≤◌}
-use Rattle.std.specs.Prelude.{◌≢◌, IfSome, IsNone, IsSome, is_some, ◌↔◌, nat_lt}
+use Rattle.margin_notes.proofs.Words.{AllPairs, Bool, Contains, Identifier, IsIn, Lawful, List, None, Op, Option, Place, Some, Text, Section, Delete, Note, [], ap, arith, before, count_by, drop, false, holder, id_eq, inl, inr, is_hidden, length, not, option_map, order, refl, shown, subst, suc, sym, take, true, true≢false, within, ℕ, ◌+◌, ◌||◌, ◌∙◌, ◌≡◌, ◌≤◌}
+use Rattle.std.specs.Prelude.{◌≢◌, IfSome, IsNone, IsSome, ◌↔◌, nat_lt}
 use Rattle.std.proofs.lemmas.Bool.{cases_lt}
 use Rattle.std.proofs.lemmas.List.Kept.{AllPairs-filter}
 use Rattle.std.proofs.lemmas.List.{length-append, take-append-drop}
@@ -9,7 +9,6 @@ use Rattle.fugue_ids.specs.Listed.{index_of}
 use Rattle.fugue_ids.proofs.IdentifierLemmas.{below-contains, contains-below}
 use Rattle.fugue_ids.proofs.ListLemmas.{contains_filter, contains_filter_from}
 use Rattle.origin_model.specs.order.Laws.{IsTotal}
-use Rattle.origin_model.specs.order.Printed.{deletes}
 use Rattle.origin_model.proofs.SharedLemmas.{element_stands, order_bounded, order_total}
 use Rattle.section_list.specs.Cells.{Cell, is_hidden_in_section as hidden_in, section_cell_ids, section_shown_before}
 use Rattle.section_list.specs.SectionList.{Listing}
@@ -20,7 +19,6 @@ use Rattle.section_catalogue.specs.declared.tables.Section.{Section as Titled}
 use Rattle.section_catalogue.proofs.BoundLemmas.{places_bounded}
 use Rattle.section_catalogue.proofs.ConditionLemmas.{held_at}
 use Rattle.section_catalogue.proofs.ShownLemmas.{look_ups_agree}
-use Rattle.replica_core.specs.Index.{position_of}
 use Rattle.margin_notes.specs.Listing.{number_from, text_section}
 use Rattle.margin_notes.proofs.CountLemmas.{earlier, no_number, not_up_to, number, shown_before, up_to}
 use Rattle.margin_notes.proofs.MemberLemmas.{text_at as held_text}
@@ -91,12 +89,6 @@ no_text (Some t) there e = cc
 pub list_there : (m : Contents) (h : List Op) (s x : Identifier) → StandsFor m h → IsIn (within s) h x → None ≡ text_at m s → ⊥
 list_there m h s x st i e =
     no_text (section_at m s) (held_at m h (within s) x st (st.places x ∙ ap place_held i.held ∙ (element_stands (within s) i.op x i.place).0)).there e
-
--- a Delete has a position where it withdraws
-pub has_position : (h : List Op) (x : Identifier) → is_some (position_of (deletes x) h) ≡ is_hidden h x
-has_position [] x = refl
-has_position (op ∷ h) x =
-    elim (deletes x op) as (λ (b : Bool). is_some (if b then Some (length h) else position_of (deletes x) h) ≡ (b || is_hidden h x)) [ true ↦ refl | false ↦ has_position h x ]
 
 -- a list that is that of a place
 module _ (p : Place) (h : List Op) (w : Lawful h) (l : Listing) (is : IsPlaceOf p h l) where

@@ -12,8 +12,6 @@ use crate::COMMENT_CODE;
 use cluster_text::cluster_span;
 use fugue_ids::{Body, ElementId, NoMemory, NoteNames};
 use replica_core::{EditFault, Replica};
-use std::error::Error;
-use std::fmt;
 
 /// Why there is no comment, in the order in which the causes are looked for. Nothing was changed.
 #[derive(Clone, Copy, Debug, PartialEq, Eq)]
@@ -28,22 +26,6 @@ pub enum CommentFault {
     TooMany(u32),
     NoMemory,
 }
-
-impl fmt::Display for CommentFault {
-    fn fmt<W: fmt::Write>(&self, f: &mut fmt::Formatter<W>) -> fmt::Result {
-        match self {
-            CommentFault::NoSection => write!(f, "there is no such section"),
-            CommentFault::OutOfRange => write!(f, "the section has not so many clusters"),
-            CommentFault::IdsSpent(greatest) => {
-                write!(f, "the identifiers are spent at counter {greatest}")
-            }
-            CommentFault::TooMany(held) => write!(f, "{held} operations are accepted or wait"),
-            CommentFault::NoMemory => write!(f, "{}", NoMemory),
-        }
-    }
-}
-
-impl Error for CommentFault {}
 
 impl From<NoMemory> for CommentFault {
     ghost use Rattle.std.specs.Prelude.{◌≡◌};

@@ -6,7 +6,6 @@ ghost use Rattle.origin_model.specs.edits.State.{Stands};
 ghost use Rattle.origin_model.specs.operations.History.{holder};
 ghost use Rattle.origin_model.specs.order.Laws.{IsIn};
 ghost use Rattle.origin_model.specs.order.Order.{before};
-ghost use Rattle.origin_model.specs.order.Printed.{is_withdrawn as withdrawn_in};
 ghost use Rattle.section_catalogue.specs.Manuscript.{OnEach};
 ghost use Rattle.margin_notes.specs.Comments.{Comment};
 ghost use Rattle.margin_notes.specs.Listing.{HasFew, anchors_of, entry_line, line_in, lines_in, listed, section_number};
@@ -14,7 +13,7 @@ ghost use Rattle.margin_notes.specs.Listing.{section_of as section_on, text_sect
 ghost use Rattle.margin_notes.specs.Margins.{span};
 
 use crate::reading::{Anchors, anchors_in};
-use fugue_ids::{ElementId, NoMemory, Op, OpKey};
+use fugue_ids::{ElementId, NoMemory, Op};
 use origin_model::Place;
 use replica_core::Replica;
 use section_catalogue::Manuscript;
@@ -22,20 +21,13 @@ use std::alloc::Global;
 
 /// A comment that is listed: the number of its section, the two ends of its span, and the position of its operation.
 /// Entries are ordered as they are listed.
-#[derive(Clone, Copy, Debug, PartialEq, Eq, PartialOrd, Ord)]
+#[derive(Clone, Copy, PartialEq, Eq, PartialOrd, Ord)]
 pub(crate) struct Entry {
     pub number: usize,
     pub id: ElementId,
     pub from: usize,
     pub to: usize,
     pub at: usize,
-}
-
-/// Whether a Delete withdraws the note.
-fn is_withdrawn(replica: &Replica, id: ElementId) -> bool
-    ensures { result ≡ withdrawn_in replica.now.held.history id }
-{
-    replica.position(OpKey::Target(id)).is_some()
 }
 
 /// The section of which the element is a Text.
@@ -133,7 +125,7 @@ fn entry_of(replica: &Replica, at: usize, op: &Op) -> Option<Entry>
         ≡ line_in replica.now.held.history op.now }
 {
     let anchors = anchors_in(op)?;
-    if is_withdrawn(replica, anchors.id) {
+    if replica.is_withdrawn(anchors.id) {
         return None;
     }
     let places = replica.places();
@@ -156,12 +148,10 @@ fn entries_of(alloc: Global, replica: &Replica) -> Result<Vec<Entry>, NoMemory>
 {
     let ops = replica.accepted();
     let mut entries = Vec::new(alloc);
-    let mut at = 0;
-    'ops: while at < ops.len() {
-        if let Some(entry) = entry_of(replica, at, &ops[at]) {
+    'walk: for at in replica.sections_and_notes() {
+        if let Some(entry) = entry_of(replica, *at, &ops[*at]) {
             entries.push(entry)?;
         }
-        at += 1;
     }
     Ok(entries)
 }

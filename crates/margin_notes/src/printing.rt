@@ -13,28 +13,15 @@ use itoa::Buffer;
 use outer_ports::Sink;
 use replica_core::Replica;
 use std::alloc::Global;
-use std::error::Error;
-use std::fmt;
 
 /// Why the comments were not written whole.
-#[derive(Clone, Copy, Debug, PartialEq, Eq)]
+#[derive(Clone, Copy, Debug)]
 pub enum MarginFault {
     /// The output failed, and its count of faults rose. A prefix of the lines is written.
     SinkFault,
     /// Nothing is written.
     NoMemory,
 }
-
-impl fmt::Display for MarginFault {
-    fn fmt<W: fmt::Write>(&self, f: &mut fmt::Formatter<W>) -> fmt::Result {
-        match self {
-            MarginFault::SinkFault => write!(f, "{}", Failed),
-            MarginFault::NoMemory => write!(f, "{}", NoMemory),
-        }
-    }
-}
-
-impl Error for MarginFault {}
 
 impl From<NoMemory> for MarginFault {
     ghost use Rattle.std.specs.Prelude.{◌≡◌};

@@ -7,7 +7,7 @@ use crate::COMMENT_CODE;
 use fugue_ids::{ElementId, LONGEST_BODY, Op, is_line};
 
 /// A comment, without its text.
-#[derive(Clone, Copy, Debug, PartialEq, Eq)]
+#[derive(Clone, Copy, PartialEq, Eq)]
 pub(crate) struct Anchors {
     pub id: ElementId,
     pub first: ElementId,

@@ -19,10 +19,10 @@ use Rattle.origin_model.specs.declared.operations.Verdict.TheVariants.{Ready}
 use Rattle.origin_model.proofs.SharedLemmas.{hidden-has, holder-other, holder-own, holds-other, holds-own, ready_absent, when_ready}
 use Rattle.section_catalogue.proofs.ConditionLemmas.{target_delete}
 use Rattle.replica_core.specs.Index.{ArePositions, IsFree, IsIndex, IsUnnoted, as_position, position_of}
-use Rattle.stretch_map.specs.Ahead.{ahead}
 use Rattle.stretch_map.specs.Rules.{IsFollowed, later}
 use Rattle.stretch_map.specs.declared.follows.Position.{Position}
 use Rattle.fugue_ids.proofs.OrderLemmas.{id_cmp_total}
+use Rattle.fugue_ids.specs.Runs.{id_behind}
 
 -- a Ready operation is not there, and neither is its identifier
 pub is_new : (h : List Op) (op : Op) → verdict h op ≡ Ready → (has_op h op ≡ false) × (id_held h (id_of op) ≡ false)
@@ -193,14 +193,14 @@ last_position : (test : Identifier → Op → Bool) (m : FinMap id_cmp Position)
 last_position test m op h i are own f =
     let at : Some (as_position (length h)) ≡ Some f.value = ap (option_map as_position) (sym (position-own (test i) op h own)) ∙ sym (are i) ∙ f.held in
     let here : length h ≡ f.value.at = let same : as_position (length h) ≡ f.value = cc in ap (λ p. p.at) same in
-    behind (position_of (test (ahead i 1)) (op ∷ h)) refl (sym (are (ahead i 1)) ∙ f.followed) here
+    behind (position_of (test (id_behind i 1)) (op ∷ h)) refl (sym (are (id_behind i 1)) ∙ f.followed) here
   where
-    behind : (o : Option ℕ) → position_of (test (ahead i 1)) (op ∷ h) ≡ o → option_map as_position o ≡ Some (later f.value 1) → length h ≡ f.value.at → ⊥
+    behind : (o : Option ℕ) → position_of (test (id_behind i 1)) (op ∷ h) ≡ o → option_map as_position o ≡ Some (later f.value 1) → length h ≡ f.value.at → ⊥
     behind None is e here = cc
     behind (Some k) is e here =
         let same : as_position k ≡ later f.value 1 = cc in
         let next : k ≡ f.value.at + 1 = ap (λ p. p.at) same in
-        let below : k < suc (length h) = position_below (test (ahead i 1)) (op ∷ h) k is in
+        let below : k < suc (length h) = position_below (test (id_behind i 1)) (op ∷ h) k is in
         omega (arith, next, below, here)
 
 pub last_own : (op : Op) (i : Identifier) (h : List Op) (m : FinMap id_cmp Position) → key_of op ≡ Own i → ArePositions is_own m (op ∷ h) → IsFollowed (λ first p k. later p k) (get m) i → ⊥

@@ -16,3 +16,4 @@ pub mod StandingLemmas
 pub mod StepLemmas
 pub mod StepStandingLemmas
 pub mod WakeLemmas
+pub mod WalkLemmas

@@ -1,9 +1,10 @@
--- Where accepted operations are found: the positions of those with identifiers, and of the Deletes by their targets.
-use Rattle.std.specs.Prelude.{◌≡◌, ℕ, Bool, if◌then◌else◌, Option, Some, None, List, [], ◌∷◌, length, option_map}
+-- Where accepted operations are found: the positions of those with identifiers, of the Deletes by their targets, and of the Sections and Notes.
+use Rattle.std.specs.Prelude.{◌≡◌, ℕ, Bool, true, false, if◌then◌else◌, Option, Some, None, List, [], ◌∷◌, ◌++◌, length, option_map}
 use Rattle.std.specs.FinMap.{FinMap, get}
 use Rattle.fugue_ids.specs.Identifiers.{Identifier, id_cmp}
 use Rattle.fugue_ids.specs.Ops.{key_of}
 use Rattle.fugue_ids.specs.declared.op.Op.{Op}
+use Rattle.fugue_ids.specs.declared.op.Op.TheVariants.{Section, Text, Delete, Note}
 use Rattle.fugue_ids.specs.declared.op.OpKey.{OpKey}
 use Rattle.fugue_ids.specs.declared.op.OpKey.TheVariants.{Own, Target}
 use Rattle.origin_model.specs.operations.History.{is_own}
@@ -40,3 +41,18 @@ IsFree positions targets (Target i) = get targets i ≡ None
 -- the operation has no position yet
 abbrev pub IsUnnoted : FinMap id_cmp Position → FinMap id_cmp Position → Op → Type 0
 IsUnnoted positions targets op = IsFree positions targets (key_of op)
+
+abbrev pub is_section_or_note : Op → Bool
+is_section_or_note (Section id left right title) = true
+is_section_or_note (Text id section left right ch) = false
+is_section_or_note (Delete target) = false
+is_section_or_note (Note id named code body) = true
+
+-- one position, or none
+abbrev pub position_if : Bool → ℕ → List ℕ
+position_if b k = if b then k ∷ [] else []
+
+-- the positions of the Sections and Notes, ascending: how many operations are older than each
+abbrev pub sections_and_notes : List Op → List ℕ
+sections_and_notes [] = []
+sections_and_notes (op ∷ older) = sections_and_notes older ++ position_if (is_section_or_note op) (length older)

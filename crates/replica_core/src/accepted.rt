@@ -7,7 +7,7 @@ ghost use Rattle.origin_model.specs.order.Printed.{manuscript as manuscript_on, 
 ghost use Rattle.origin_model.specs.operations.Verdict.{verdict as verdict_on, Lawful};
 ghost use Rattle.origin_model.specs.declared.operations.Place.TheVariants.{Catalogue as catalogue};
 ghost use Rattle.origin_model.specs.declared.operations.Verdict.TheVariants.{Ready};
-ghost use Rattle.replica_core.specs.Index.{has_key, position_of};
+ghost use Rattle.replica_core.specs.Index.{has_key, position_of, sections_and_notes as positions_in};
 ghost use Rattle.section_catalogue.specs.Contents.{place_count};
 ghost use Rattle.section_catalogue.specs.Manuscript.{GrowsBy, IsPlaceOf, IsReadyOn, IsTextOf, StandsFor, Stays};
 
@@ -138,6 +138,13 @@ impl Accepted {
         ensures { result ≡ position_of (has_key key) self.now }
     {
         self.history.position(key)
+    }
+
+    /// The positions of the Sections and Notes, ascending.
+    pub fn sections_and_notes(&self) -> &[usize]
+        ensures { result.now ≡ positions_in self.now }
+    {
+        self.history.sections_and_notes()
     }
 
     /// How many sections are shown.

@@ -3,7 +3,7 @@ ghost use Rattle.origin_model.specs.operations.History.{accepted};
 ghost use Rattle.origin_model.specs.operations.Counters.{counters, IsGreatest};
 ghost use Rattle.origin_model.specs.operations.Verdict.{verdict, Lawful};
 ghost use Rattle.origin_model.specs.declared.operations.Verdict.TheVariants.{Ready};
-ghost use Rattle.replica_core.specs.Index.{has_key, position_of};
+ghost use Rattle.replica_core.specs.Index.{has_key, position_of, sections_and_notes as positions_in};
 
 use crate::index::Index;
 use fugue_ids::{ElementId, Op, OpKey};
@@ -22,7 +22,8 @@ impl Model for History {
     ghost use Rattle.std.specs.Prelude.{List, reverse};
     ghost use Rattle.fugue_ids.specs.declared.op.Op.{Op};
     ghost use Rattle.origin_model.specs.operations.Verdict.{Lawful};
-    ghost use Rattle.replica_core.specs.Index.{IsIndex};
+    ghost use Rattle.std.specs.Prelude.{◌≡◌};
+    ghost use Rattle.replica_core.specs.Index.{IsIndex, sections_and_notes};
 
     ghost Value = { List Op };
 
@@ -31,6 +32,7 @@ impl Model for History {
     ghost invariant = { λ history. record {
       lawful : Lawful (reverse history.ops.items);
       indexed : IsIndex history.index.positions.values history.index.targets.values (reverse history.ops.items);
+      listed : history.index.sections_and_notes.items ≡ sections_and_notes (reverse history.ops.items);
     } };
 }
 
@@ -87,6 +89,13 @@ impl History {
         ensures { result ≡ position_of (has_key key) self.now }
     {
         self.index.find(key)
+    }
+
+    /// The positions of the Sections and Notes, ascending.
+    pub fn sections_and_notes(&self) -> &[usize]
+        ensures { result.now ≡ positions_in self.now }
+    {
+        self.index.sections_and_notes()
     }
 
     /// One operation more, which is Ready.

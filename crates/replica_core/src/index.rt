@@ -1,9 +1,10 @@
-ghost use Rattle.std.specs.Prelude.{◌≡◌, ◌<◌, ◌∷◌, [], List, is_some, length, option_map, OnOk, OnErr};
+ghost use Rattle.std.specs.Prelude.{◌≡◌, ◌<◌, ◌∷◌, ◌++◌, [], ℕ, List, is_some, length, option_map, OnOk, OnErr};
 ghost use Rattle.std.specs.FinMap.{get};
 ghost use Rattle.fugue_ids.specs.declared.op.Op.{Op as AnyOp};
 ghost use Rattle.origin_model.specs.operations.Verdict.{verdict};
 ghost use Rattle.origin_model.specs.declared.operations.Verdict.TheVariants.{Ready};
-ghost use Rattle.replica_core.specs.Index.{has_key, IsIndex, IsUnnoted, position_of};
+ghost use Rattle.replica_core.specs.Index.{has_key, IsIndex, IsUnnoted, is_section_or_note as is_either, position_if, position_of};
+ghost use Rattle.replica_core.specs.Index.{sections_and_notes as positions_in};
 ghost use Rattle.stretch_map.specs.Rules.{IsGreatestIn};
 
 use fugue_ids::{ElementId, NoMemory, Op, OpKey};
@@ -17,16 +18,36 @@ pub(crate) struct Index {
     positions: StretchMap<Position>,
     /// That of each Delete, by its target.
     targets: StretchMap<Position>,
+    /// Those of the Sections and Notes, ascending.
+    sections_and_notes: Vec<usize>,
+}
+
+fn is_section_or_note(op: &Op) -> bool
+    ensures { result ≡ is_either op.now }
+{
+    match op {
+        Op::Section { .. } | Op::Note { .. } => true,
+        Op::Text { .. } | Op::Delete { .. } => false,
+    }
 }
 
 impl Index {
     pub fn new(alloc: Global) -> Index
-        ensures { IsIndex result.positions.values result.targets.values [] }
+        ensures found { IsIndex result.positions.values result.targets.values [] }
+        ensures listed { result.sections_and_notes.items ≡ [] }
     {
         Index {
             positions: StretchMap::new(alloc),
             targets: StretchMap::new(alloc),
+            sections_and_notes: Vec::new(alloc),
         }
+    }
+
+    /// The positions of the Sections and Notes, ascending.
+    pub fn sections_and_notes(&self) -> &[usize]
+        ensures { result.now ≡ self.now.sections_and_notes.items }
+    {
+        self.sections_and_notes.as_slice()
     }
 
     pub fn position(&self, id: ElementId) -> Option<usize>
@@ -73,7 +94,70 @@ impl Index {
         ensures ok { OnOk result ((h : List AnyOp) → IsIndex self.old.positions.values self.old.targets.values h
             → length h ≡ position
             → IsIndex self.new.positions.values self.new.targets.values (op.now ∷ h)) }
+        ensures listed { OnOk result ((h : List AnyOp) → self.old.sections_and_notes.items ≡ positions_in h
+            → length h ≡ position
+            → self.new.sections_and_notes.items ≡ positions_in (op.now ∷ h)) }
+        ensures err_positions { OnErr result (self.new.positions ≡ self.old.positions) }
+        ensures err_targets { OnErr result (self.new.targets ≡ self.old.targets) }
+        ensures err_listed { OnErr result (self.new.sections_and_notes.items ≡ self.old.sections_and_notes.items) }
+    {
+        self.list(op, position)?;
+        match self.place(op, position) {
+            Ok(()) => Ok(()),
+            Err(NoMemory) => {
+                self.unlist(op);
+                Err(NoMemory)
+            }
+        }
+    }
+
+    /// The newest operation less. This wants no memory, since no other one has the position behind it.
+    pub fn forget(&mut self, op: &Op)
+        ensures found { (h : List AnyOp) → IsIndex self.old.positions.values self.old.targets.values (op.now ∷ h)
+            → verdict h op.now ≡ Ready
+            → IsIndex self.new.positions.values self.new.targets.values h }
+        ensures listed { (h : List AnyOp) → self.old.sections_and_notes.items ≡ positions_in (op.now ∷ h)
+            → self.new.sections_and_notes.items ≡ positions_in h }
+    {
+        self.unlist(op);
+        self.remove(op);
+    }
+
+    /// The position of an operation, where that is a Section or a Note.
+    fn list(&mut self, op: &Op, position: usize) -> Result<(), NoMemory>
+        ensures positions { self.new.positions ≡ self.old.positions }
+        ensures targets { self.new.targets ≡ self.old.targets }
+        ensures ok { OnOk result (self.new.sections_and_notes.items ≡ self.old.sections_and_notes.items
+            ++ position_if (is_either op.now) position) }
+        ensures err { OnErr result (self.new.sections_and_notes.items ≡ self.old.sections_and_notes.items) }
+    {
+        if is_section_or_note(op) {
+            self.sections_and_notes.push(position)?;
+        }
+        Ok(())
+    }
+
+    /// The last position less, where the operation is a Section or a Note.
+    fn unlist(&mut self, op: &Op)
+        ensures positions { self.new.positions ≡ self.old.positions }
+        ensures targets { self.new.targets ≡ self.old.targets }
+        ensures listed { (xs : List ℕ) (k : ℕ)
+            → self.old.sections_and_notes.items ≡ xs ++ position_if (is_either op.now) k
+            → self.new.sections_and_notes.items ≡ xs }
+    {
+        if is_section_or_note(op) {
+            let _last = self.sections_and_notes.pop();
+        }
+    }
+
+    /// The position of an operation, by its key.
+    fn place(&mut self, op: &Op, position: usize) -> Result<(), NoMemory>
+        requires { IsUnnoted self.old.positions.values self.old.targets.values op.now }
+        ensures ok { OnOk result ((h : List AnyOp) → IsIndex self.old.positions.values self.old.targets.values h
+            → length h ≡ position
+            → IsIndex self.new.positions.values self.new.targets.values (op.now ∷ h)) }
         ensures err { OnErr result (self.new ≡ self.old) }
+        ensures listed { self.new.sections_and_notes ≡ self.old.sections_and_notes }
     {
         let position = Position { at: position };
         match op.key() {
@@ -82,11 +166,12 @@ impl Index {
         }
     }
 
-    /// The newest operation less. This wants no memory, since no other one has the position behind it.
-    pub fn forget(&mut self, op: &Op)
-        ensures { (h : List AnyOp) → IsIndex self.old.positions.values self.old.targets.values (op.now ∷ h)
+    /// The newest operation's position less, by its key.
+    fn remove(&mut self, op: &Op)
+        ensures found { (h : List AnyOp) → IsIndex self.old.positions.values self.old.targets.values (op.now ∷ h)
             → verdict h op.now ≡ Ready
             → IsIndex self.new.positions.values self.new.targets.values h }
+        ensures listed { self.new.sections_and_notes ≡ self.old.sections_and_notes }
     {
         let _sure = match op.key() {
             OpKey::Own(id) => self.positions.remove(id),

@@ -1,5 +1,5 @@
 //! Taking in, with a copy of each operation that is kept, for those who save what was kept.
-ghost use Rattle.std.specs.Prelude.{◌≡◌, ◌↔◌, ◌<◌, ◌++◌, ◌∷◌, [], Err, OnOk, OnErr, IfErr, vec_len, vec_capacity};
+ghost use Rattle.std.specs.Prelude.{◌≡◌, ◌↔◌, ◌<◌, ◌++◌, ◌∷◌, [], Err, OnOk, OnErr, IfErr, IfOk, vec_len, vec_capacity};
 ghost use Rattle.origin_model.specs.taking.Taking.{answer, TooMany, IsSettled};
 ghost use Rattle.origin_model.specs.edits.State.{Stands};
 ghost use Rattle.replica_core.specs.Told.{StaysBelow};
@@ -8,28 +8,16 @@ ghost use Rattle.replica_core.specs.Keeping.{TakesInKeeping, LeavesUnkept};
 use crate::Replica;
 use fugue_ids::{NoMemory, Op};
 use origin_model::Tally;
-use std::error::Error;
-use std::fmt;
+use std::alloc::Global;
 
 /// Why an operation was not taken in to the end.
-#[derive(Clone, Copy, Debug, PartialEq, Eq)]
+#[derive(Clone, Copy, Debug)]
 pub enum FeedFault {
     /// As many are accepted or wait as may: the number. Nothing was changed.
     TooMany(u32),
     /// Either nothing was changed, or the operation stands and settling stopped on its way: `settle_one` goes on.
     NoMemory,
 }
-
-impl fmt::Display for FeedFault {
-    fn fmt<W: fmt::Write>(&self, f: &mut fmt::Formatter<W>) -> fmt::Result {
-        match self {
-            FeedFault::TooMany(most) => write!(f, "{most} operations are accepted or wait"),
-            FeedFault::NoMemory => write!(f, "{}", NoMemory),
-        }
-    }
-}
-
-impl Error for FeedFault {}
 
 impl From<NoMemory> for FeedFault {
     ghost use Rattle.std.specs.Prelude.{◌≡◌};
@@ -67,13 +55,35 @@ impl Replica {
             self.feed(op, tally)?;
             return Ok(());
         }
-        let copy = op.clone_in(self.alloc)?;
-        kept.reserve(1).map_err(NoMemory::from)?;
-        if self.feed(op, tally)? {
-            push_reserved(kept, copy);
+        let Ok(copy) = copy_for(self.alloc, &op, kept) else {
+            drop(op);
+            return Err(FeedFault::NoMemory);
+        };
+        match self.feed(op, tally) {
+            Ok(true) => {
+                push_reserved(kept, copy);
+                Ok(())
+            }
+            Ok(false) => {
+                drop(copy);
+                Ok(())
+            }
+            Err(fault) => {
+                drop(copy);
+                Err(fault)
+            }
         }
-        Ok(())
     }
+}
+
+/// A copy that may be appended, for which there is room then.
+fn copy_for(alloc: Global, op: &Op, kept: &mut Vec<Op>) -> Result<Op, NoMemory>
+    ensures copy { IfOk result (λ copy. copy ≡ op.now) }
+    ensures room { OnOk result (vec_len kept.new < vec_capacity kept.new) }
+    ensures kept { kept.new.items ≡ kept.old.items }
+{
+    kept.reserve(1)?;
+    op.clone_in(alloc)
 }
 
 /// Appends, and takes no memory.

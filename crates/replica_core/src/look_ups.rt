@@ -1,17 +1,18 @@
 //! What a replica shows, and what it holds.
-ghost use Rattle.std.specs.Prelude.{◌≡◌, length, option_and_then, option_map, slice_get, string_bytes, IfOk, IfSome};
+ghost use Rattle.std.specs.Prelude.{◌≡◌, length, option_and_then, option_copied, option_map, slice_get, string_bytes, IfOk, IfSome};
 ghost use Rattle.std.specs.Str.{encode_utf8_all};
-ghost use Rattle.origin_model.specs.operations.History.{holds as holds_on};
-ghost use Rattle.origin_model.specs.order.Printed.{shown, text as text_on};
+ghost use Rattle.origin_model.specs.operations.History.{holder as holder_on, holds as holds_on};
+ghost use Rattle.origin_model.specs.order.Printed.{is_withdrawn as withdrawn_in, shown, text as text_on};
 ghost use Rattle.origin_model.specs.declared.operations.Place.TheVariants.{Catalogue as catalogue, Section as within};
-ghost use Rattle.replica_core.specs.Index.{has_key, position_of};
+ghost use Rattle.replica_core.specs.Index.{has_key, position_of, sections_and_notes as positions_in};
 ghost use Rattle.section_list.specs.Cells.{section_text as text_in};
 ghost use Rattle.section_catalogue.specs.Manuscript.{IsPlaceOf, IsTextOf, LookUpsAgree, StandsFor};
 ghost use Rattle.origin_model.specs.edits.Refusal.{section_shown};
 ghost use Rattle.origin_model.specs.edits.State.{Stands};
 
 use crate::Replica;
-use fugue_ids::{ElementId, NoMemory, OpKey};
+use fugue_ids::{ElementId, NoMemory, Op, OpKey};
+use origin_model::Lookup;
 use outer_ports::MemSink;
 use section_catalogue::Manuscript;
 use section_list::SectionList;
@@ -66,6 +67,31 @@ impl Replica {
         ensures stands { Stands self.now }
     {
         self.accepted.position(key)
+    }
+
+    /// The positions of the Sections and Notes among the accepted operations, ascending. Where letters are many and these
+    /// are few, all of them are found without a walk over the letters.
+    pub fn sections_and_notes(&self) -> &[usize]
+        ensures positions { result.now ≡ positions_in self.now.held.history }
+        ensures stands { Stands self.now }
+    {
+        self.accepted.sections_and_notes()
+    }
+
+    /// The accepted operation that has the identifier.
+    pub fn holder(&self, id: ElementId) -> Option<&Op>
+        ensures holder { option_copied result ≡ holder_on self.now.held.history id }
+        ensures stands { Stands self.now }
+    {
+        self.accepted.holder(id)
+    }
+
+    /// Whether an accepted Delete names the note.
+    pub fn is_withdrawn(&self, note: ElementId) -> bool
+        ensures withdrawn { result ≡ withdrawn_in self.now.held.history note }
+        ensures stands { Stands self.now }
+    {
+        self.accepted.has_delete(note)
     }
 
     /// How many sections are shown.

@@ -25,8 +25,6 @@ use fugue_ids::{ElementId, Failed, GREATEST_HOLD, MOST_OPERATIONS, NoMemory, Op}
 use origin_model::{Tally, Verdict};
 use outer_ports::Sink;
 use std::alloc::Global;
-use std::error::Error;
-use std::fmt;
 use std::marker::Model;
 use std::mem::replace;
 
@@ -41,7 +39,7 @@ pub enum Taken {
 }
 
 /// Why an operation was refused: it is handed back, and nothing was changed.
-#[derive(Debug, Drop)]
+#[derive(Drop)]
 pub enum DeliverFault {
     /// Another accepted or waiting operation has its identifier.
     Conflict(Op),
@@ -54,22 +52,8 @@ pub enum DeliverFault {
     NoMemory(Op),
 }
 
-impl fmt::Display for DeliverFault {
-    fn fmt<W: fmt::Write>(&self, f: &mut fmt::Formatter<W>) -> fmt::Result {
-        match self {
-            DeliverFault::Conflict(_op) => write!(f, "another operation has the identifier"),
-            DeliverFault::Stray(_op, _id) => write!(f, "an identifier that is named does not fit"),
-            DeliverFault::Full(_op, hold) => write!(f, "{hold} operations wait"),
-            DeliverFault::TooMany(_op, most) => write!(f, "{most} operations are accepted or wait"),
-            DeliverFault::NoMemory(_op) => write!(f, "{}", NoMemory),
-        }
-    }
-}
-
-impl Error for DeliverFault {}
-
 /// Why there is no such replica, in the order in which the causes are looked for.
-#[derive(Clone, Copy, Debug, PartialEq, Eq)]
+#[derive(Clone, Copy, Debug)]
 pub enum NewFault {
     ZeroReplica,
     /// The greatest number of waiting operations is not from 1 to `GREATEST_HOLD`.
@@ -78,23 +62,8 @@ pub enum NewFault {
     BadMost,
 }
 
-impl fmt::Display for NewFault {
-    fn fmt<W: fmt::Write>(&self, f: &mut fmt::Formatter<W>) -> fmt::Result {
-        match self {
-            NewFault::ZeroReplica => write!(f, "a replica has a number from 1 on"),
-            NewFault::BadHold => write!(f, "from 1 to {GREATEST_HOLD} operations may wait"),
-            NewFault::BadMost => write!(
-                f,
-                "from 1 to {MOST_OPERATIONS} operations may be accepted or wait"
-            ),
-        }
-    }
-}
-
-impl Error for NewFault {}
-
 /// What became of the operation that left the waiting ones.
-#[derive(Debug, Drop)]
+#[derive(Drop)]
 pub enum Settled {
     Accepted(Op),
     /// It names an identifier that an accepted operation holds which does not fit, and was dropped.
@@ -230,6 +199,9 @@ impl Replica {
             Err(NoMemory) => Err(NoMemory),
         }
     }
+
+    /// Ends the replica. With `drop` each crate that ends one would prove anew how all its parts are dropped.
+    pub fn discard(self) {}
 
     /// Writes the sections that are shown, each with its title and its text.
     pub fn write_manuscript<O: Sink>(&self, output: &mut O) -> Result<(), Failed>

@@ -1,5 +1,5 @@
 -- The versions of a file, one by one: each is given by an operation, and each that is given is there.
-use Rattle.version_views.proofs.Words.{Bool, List, None, Op, Option, Some, [], ap, arith, cases_Bool, eq-eqb, false, if◌then◌else◌, inl, inr, length, nat_eq, ne_eqb, option_map, option_to_list, refl, subst, sym, ℕ, ◌++◌, ◌<◌, ◌∙◌, ◌∷◌, ◌≡◌}
+use Rattle.version_views.proofs.Words.{Bool, List, None, Op, Option, Some, [], ap, arith, cases_Bool, eq-eqb, false, if◌then◌else◌, inl, inr, length, nat_eq, ne_eqb, option_map, option_to_list, refl, subst, sym, ℕ, ◌<◌, ◌∙◌, ◌∷◌, ◌≡◌}
 use Rattle.std.specs.List.{Contains}
 use Rattle.std.proofs.lemmas.Bool.{eqb-true}
 use Rattle.std.proofs.lemmas.List.Elements.{Contains-append_cases, Contains-append_left, Contains-append_right}

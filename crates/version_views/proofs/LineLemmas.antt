@@ -1,9 +1,11 @@
 -- The lines of versions, one operation after the other, the oldest first.
-use Rattle.version_views.proofs.Words.{List, None, Op, Option, Some, [], ap, append-nil, arith, flat_map, length, option_map, option_to_list, refl, suc, sym, ℕ, ◌++◌, ◌+◌, ◌<◌, ◌∙◌, ◌∷◌, ◌≡◌}
+use Rattle.version_views.proofs.Words.{List, false, None, Op, Option, Some, [], ap, append-nil, arith, flat_map, length, option_map, option_to_list, refl, suc, sym, ℕ, ◌++◌, ◌+◌, ◌<◌, ◌∙◌, ◌∷◌, ◌≡◌}
 use Rattle.std.proofs.Common.{append_assoc, drop, drop-cons, get_or, reverse}
 use Rattle.std.proofs.lemmas.List.{length-reverse, reverse-append}
 use Rattle.std.proofs.lemmas.List.Concat.{flat_map-append}
+use Rattle.replica_core.specs.Index.{is_section_or_note}
 use Rattle.version_views.specs.Versions.{name_in, versions_up_to}
+use Rattle.version_views.proofs.VersionLemmas.{no_name}
 use Rattle.version_views.specs.Views.{line_in, version_line, versions_text}
 
 -- the lines of some operations, of which the first has n before it
@@ -47,3 +49,10 @@ next_line r h ops n op below is =
     let e : suc n ≡ n + 1 = omega arith in
     ap (λ l. lines_from r h l n) (drop-cons ops n op below ∙ ap (λ (o : Op). o ∷ drop (suc n) ops) (sym is))
     ∙ ap (λ k. line_in r h n op ++ lines_from r h (drop k ops) (n + 1)) e
+
+-- where it has none they are those behind it
+pub no_line : (r : ℕ) (h ops : List Op) (n : ℕ) (op : Op) → n < length ops → op ≡ get_or ops n op → is_section_or_note op ≡ false
+    → lines_from r h (drop n ops) n ≡ lines_from r h (drop (n + 1) ops) (n + 1)
+no_line r h ops n op below is other =
+    next_line r h ops n op below is
+    ∙ ap (λ (o : Option (List ℕ)). (elim o [ None ↦ [] | Some name ↦ version_line (record { name = name; count = n }) ]) ++ lines_from r h (drop (n + 1) ops) (n + 1)) (no_name r h op other)

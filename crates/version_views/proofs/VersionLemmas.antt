@@ -1,6 +1,11 @@
 -- The version with a name, found from the newest operation on, and what later operations leave of it.
 use Rattle.version_views.proofs.Words.{All, All-head, All-tail, All-weaker, Bool, Identifier, List, None, Op, Option, Some, [], ap, append-nil, arith, cases_Bool, deletes, eq-eqb, false, id_of, if◌then◌else◌, inl, inr, is_hidden, length, nat_eq, ne_eqb, not, option_map, option_to_list, pointwise, refl, sym, true, true≢false, ℕ, ◌&&◌, ◌++◌, ◌<◌, ◌∙◌, ◌∷◌, ◌≡◌, ◌||◌}
+use Rattle.std.proofs.Common.{get_or, reverse, ◌+◌}
 use Rattle.std.proofs.lemmas.Bool.{or_right}
+use Rattle.std.proofs.lemmas.List.{length-reverse, length-take-le}
+use Rattle.version_views.proofs.Words.{Delete, Note, Section, Text, take}
+use Rattle.replica_core.specs.Index.{is_section_or_note}
+use Rattle.replica_core.proofs.WalkLemmas.{passed_more}
 use Rattle.version_views.specs.Laws.{LaterOpsLeaveVersion, LaterOpsLeaveWritten, VersionIsWithin, leaves_version}
 use Rattle.version_views.specs.Versions.{Version, is_version, is_withdrawn, last_named, name_given, name_in, op_behind, version_with, versions_up_to, withdraws, withdraws_note}
 use Rattle.version_views.specs.Views.{view}
@@ -39,6 +44,28 @@ last_is_newest r history name (op ∷ older) =
           ∙ elim (pointwise nat_eq body name) as (λ (b : Bool). count_of (if b then Some (record { name = body; count = length older }) else last_named name vs)
           ≡ (if b then Some (length older) else newest r history name older)) [ true ↦ refl | false ↦ rest ]
     ]
+
+-- what is neither a Section nor a Note gives no name
+pub no_name : (r : ℕ) (h : List Op) (op : Op) → is_section_or_note op ≡ false → name_in r h op ≡ None
+no_name r h (Section i l t n) e = absurd (true≢false e)
+no_name r h (Text i s l t c) e = either_way (is_hidden h i) None refl
+  where
+    either_way : (b : Bool) (o : Option (List ℕ)) → o ≡ None → (if b then None else o) ≡ None
+    either_way true o e = refl
+    either_way false o e = e
+no_name r h (Delete i) e = refl
+no_name r h (Note i ns c b) e = absurd (true≢false e)
+
+pub no_version : (r : ℕ) (h : List Op) (name : List ℕ) (op : Op) → is_section_or_note op ≡ false → is_version r h name op ≡ false
+no_version r h name op e = ap (λ (o : Option (List ℕ)). elim o [ None ↦ false | Some body ↦ pointwise nat_eq body name ]) (no_name r h op e)
+
+-- one operation more
+pub newest_more : (r : ℕ) (history : List Op) (name : List ℕ) (ops : List Op) (i : ℕ) (op : Op) → i < length ops → op ≡ get_or ops i op
+    → newest r history name (reverse (take (i + 1) ops)) ≡ (if is_version r history name op then Some i else newest r history name (reverse (take i ops)))
+newest_more r history name ops i op below is =
+    let count : length (reverse (take i ops)) ≡ i = length-reverse (take i ops) ∙ length-take-le i ops (omega (arith, below)) in
+    ap (newest r history name) (passed_more ops i op below is)
+    ∙ ap (λ k. if is_version r history name op then Some k else newest r history name (reverse (take i ops))) count
 
 -- one that is found is among the operations
 newest_within : (r : ℕ) (history : List Op) (name : List ℕ) (ops : List Op) (n : ℕ) → newest r history name ops ≡ Some n → n < length ops

@@ -1,5 +1,5 @@
 -- What the operations that were accepted first have, read off the lists of all.
-use Rattle.version_views.proofs.Words.{Bool, Identifier, Lawful, List, Op, [], ap, arith, drop, filter, holds, has_op, is_hidden, length, length-append, manuscript, not, order, refl, subst, sym, take, take-append-drop, true, ℕ, ◌&&◌, ◌++◌, ◌+◌, ◌-◌, ◌∙◌, ◌∷◌, ◌≡◌, ◌≤◌, false}
+use Rattle.version_views.proofs.Words.{Bool, Identifier, Lawful, List, Op, [], ap, arith, drop, filter, holds, has_op, is_hidden, length, length-append, manuscript, not, order, refl, subst, sym, take, take-append-drop, true, ℕ, ◌++◌, ◌+◌, ◌-◌, ◌∙◌, ◌∷◌, ◌≡◌, ◌≤◌, false}
 use Rattle.fugue_ids.proofs.ListLemmas.{filter-both}
 use Rattle.origin_model.proofs.SharedLemmas.{Lawful-append, has-append, parts_keep_order}
 use Rattle.std.proofs.Math.Seq.{drop-append-add}

@@ -4,7 +4,7 @@ ghost use Rattle.version_views.specs.Versions.{is_name as is_name_of, is_withdra
 ghost use Rattle.version_views.specs.Versions.{is_version, name_given, name_in, version_with};
 
 use crate::{LONGEST_NAME, VERSION_CODE};
-use fugue_ids::{Op, OpKey, is_line};
+use fugue_ids::{Op, is_line};
 use replica_core::Replica;
 
 /// Whether the bytes name a version: UTF-8 of 1 to 120 bytes without LF and CR.
@@ -44,7 +44,7 @@ fn is_withdrawn(replica: &Replica, op: &Op) -> bool
     ensures { result ≡ withdrawn_in replica.now.held.history op.now }
 {
     match op.id() {
-        Some(id) => replica.position(OpKey::Target(id)).is_some(),
+        Some(id) => replica.is_withdrawn(id),
         None => false,
     }
 }
@@ -76,12 +76,10 @@ pub fn find_version(replica: &Replica, name: &str) -> Option<usize>
 {
     let ops = replica.accepted();
     let mut found = None;
-    let mut count = 0;
-    'ops: while count < ops.len() {
-        if is_named(replica, &ops[count], name) {
-            found = Some(count);
+    'walk: for count in replica.sections_and_notes() {
+        if is_named(replica, &ops[*count], name) {
+            found = Some(*count);
         }
-        count += 1;
     }
     found
 }

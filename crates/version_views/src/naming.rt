@@ -8,8 +8,6 @@ ghost use Rattle.version_views.specs.Versions.{is_name as is_name_of, version_wi
 use crate::VERSION_CODE;
 use fugue_ids::{Body, NoMemory, NoteNames};
 use replica_core::{EditFault, Replica};
-use std::error::Error;
-use std::fmt;
 
 /// Why a version was not named, in the order in which the causes are looked for. Nothing was changed.
 #[derive(Clone, Copy, Debug, PartialEq, Eq)]
@@ -20,20 +18,6 @@ pub enum VersionFault {
     TooMany(u32),
     NoMemory,
 }
-
-impl fmt::Display for VersionFault {
-    fn fmt<W: fmt::Write>(&self, f: &mut fmt::Formatter<W>) -> fmt::Result {
-        match self {
-            VersionFault::IdsSpent(greatest) => {
-                write!(f, "the identifiers are spent at counter {greatest}")
-            }
-            VersionFault::TooMany(held) => write!(f, "{held} operations are accepted or wait"),
-            VersionFault::NoMemory => write!(f, "{}", NoMemory),
-        }
-    }
-}
-
-impl Error for VersionFault {}
 
 /// Names what the replica has accepted so far. The answer is 1, the number of operations that were made.
 pub fn name_version(replica: &mut Replica, name: Body) -> Result<u32, VersionFault>

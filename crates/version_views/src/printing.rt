@@ -52,10 +52,8 @@ fn put_versions<O: Out>(
     ensures stands { Stands replica.now }
 {
     let ops = replica.accepted();
-    let mut count = 0;
-    'ops: while count < ops.len() {
-        put_version(gather, output, replica, count, &ops[count])?;
-        count += 1;
+    'walk: for count in replica.sections_and_notes() {
+        put_version(gather, output, replica, *count, &ops[*count])?;
     }
     Ok(())
 }

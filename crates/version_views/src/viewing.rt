@@ -17,28 +17,15 @@ use fugue_ids::{ElementId, Failed, Gather, NoMemory, Op, OpKey, Out};
 use outer_ports::Sink;
 use replica_core::Replica;
 use section_list::SectionList;
-use std::error::Error;
-use std::fmt;
 
 /// Why a view was not written.
-#[derive(Clone, Copy, Debug, PartialEq, Eq)]
+#[derive(Clone, Copy, Debug)]
 pub enum ViewFault {
     /// The sink failed. A front of the view is written.
     SinkFault,
     /// Nothing was written. The walk takes no memory, so this is not answered.
     NoMemory,
 }
-
-impl fmt::Display for ViewFault {
-    fn fmt<W: fmt::Write>(&self, f: &mut fmt::Formatter<W>) -> fmt::Result {
-        match self {
-            ViewFault::SinkFault => write!(f, "the view could not be written"),
-            ViewFault::NoMemory => write!(f, "{}", NoMemory),
-        }
-    }
-}
-
-impl Error for ViewFault {}
 
 /// Whether one of the first n operations hides the element.
 fn is_hidden(replica: &Replica, n: usize, id: ElementId) -> bool

@@ -8,9 +8,9 @@ use Rattle.catalogue_notes.proofs.making.stamp_of.Goals as goal
 
 pub returns : goal.returns
 returns c =
-    let h : List Op = reverse c.args.ops.now in
+    let h : List Op = c.args.replica.now.held.history in
     let top : List Bid → ℕ = λ (z : List Bid). greatest (map (λ (b : Bid). b.stamp) z) in
     c.max.ensures
     ∙ (λ i. max
-    ((c.greatest_stamp-moved.ensures ∙ ap (λ z. top (reverse z)) c.deref.ensures.value ∙ ap top c.requires.arranged.lifted.bids_are ∙ ap greatest (bid_stamps (moves h))) i)
-    ((c.greatest_stamp.ensures ∙ ap (λ z. top (reverse z)) c.deref-2.ensures.value ∙ ap top c.in_ok-retitles.ensures ∙ ap greatest (bid_stamps (retitles h))) i))
+    ((c.greatest_stamp-moved.ensures ∙ ap (λ z. top (reverse z)) c.deref.ensures.value ∙ ap top c.requires.lifted.lifting.bids_are ∙ ap greatest (bid_stamps (moves h))) i)
+    ((c.greatest_stamp.ensures ∙ ap (λ z. top (reverse z)) c.deref-2.ensures.value ∙ ap top c.in_ok-retitles.ensures.retitles ∙ ap greatest (bid_stamps (retitles h))) i))

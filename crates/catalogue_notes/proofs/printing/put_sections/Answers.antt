@@ -12,7 +12,7 @@ sections-init g c = gathers_none tt _ _
 
 pub sections-preserved : goal.sections-preserved
 sections-preserved g c =
-    let f = printed_by c.args.places.now c.args.ops.now c.args.layout.now in
+    let f = printed_by c.args.places.now c.args.replica.now.held.history c.args.layout.now in
     let xs : List Identifier = c.args.layout.now.arrangement.sections.items in
     let below : c.sections.section-index < length xs = omega (arith, c.sections-test.true, c.as_slice-section-items.ensures.len) in
     let is : c.section-item.result ≡ get_or xs c.sections.section-index c.section-item.result = c.section-item.is ∙ ap (λ ys. get_or ys c.sections.section-index c.section-item.result) c.as_slice-section-items.ensures.value in
@@ -21,7 +21,7 @@ sections-preserved g c =
 
 pub returns-in_err-put_section : goal.returns-in_err-put_section
 returns-in_err-put_section g c =
-    let f = printed_by c.args.places.now c.args.ops.now c.args.layout.now in
+    let f = printed_by c.args.places.now c.args.replica.now.held.history c.args.layout.now in
     let xs : List Identifier = c.args.layout.now.arrangement.sections.items in
     let below : c.sections.section-index < length xs = omega (arith, c.sections-test.true, c.as_slice-section-items.ensures.len) in
     let is : c.section-item.result ≡ get_or xs c.sections.section-index c.section-item.result = c.section-item.is ∙ ap (λ ys. get_or ys c.sections.section-index c.section-item.result) c.as_slice-section-items.ensures.value in

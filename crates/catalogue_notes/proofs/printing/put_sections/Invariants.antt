@@ -8,4 +8,4 @@ use Rattle.catalogue_notes.proofs.printing.put_sections.Given as goal
 abbrev pub invariant-sections : goal.invariant-sections
 invariant-sections g l =
     GathersText {T = Unit {0}} (g.O.Out.seen l.initial.output) (g.O.Out.seen l.output) l.initial.gather l.gather (Ok tt)
-    (flat_map (printed_by l.places l.ops l.layout) (take l.section-index l.layout.arrangement.sections.items))
+    (flat_map (printed_by l.places l.replica.held.history l.layout) (take l.section-index l.layout.arrangement.sections.items))

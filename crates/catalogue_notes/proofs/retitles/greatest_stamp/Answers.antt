@@ -2,7 +2,7 @@ use Rattle.std.proofs.Common.{ap, arith, sym, ◌∙◌, max}
 use Rattle.std.specs.Prelude.{map}
 use Rattle.catalogue_notes.specs.Lift.{greatest}
 use Rattle.catalogue_notes.specs.declared.reading.Bid.{Bid}
-use Rattle.catalogue_notes.proofs.TakenLemmas.{passed_more}
+use Rattle.replica_core.proofs.WalkLemmas.{passed_more}
 use Rattle.catalogue_notes.proofs.retitles.greatest_stamp.Goals as goal
 
 pub bids-preserved : goal.bids-preserved

@@ -1,8 +1,10 @@
-use Rattle.std.proofs.Common.{reverse, take, ◌≡◌}
+use Rattle.std.proofs.Common.{reverse, ◌≡◌}
 use Rattle.std.specs.Prelude.{map}
 use Rattle.catalogue_notes.specs.Lift.{retitles}
 use Rattle.catalogue_notes.specs.Readings.{bid_of}
+use Rattle.replica_core.proofs.WalkLemmas.{Walks}
+use Rattle.catalogue_notes.proofs.LiftingLemmas.{Passed}
 use Rattle.catalogue_notes.proofs.retitles.retitles_of.Given as goal
 
-abbrev pub invariant-ops : goal.invariant-ops
-invariant-ops l = reverse l.bids.items ≡ map bid_of (retitles (reverse (take l.op-index l.ops)))
+abbrev pub invariant-walk : goal.invariant-walk
+invariant-walk l = Walks (λ i. reverse l.bids.items ≡ map bid_of (retitles (Passed l.ops i))) l.ops l.at-items l.at-index

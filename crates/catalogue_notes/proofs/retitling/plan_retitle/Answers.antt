@@ -7,17 +7,18 @@ use Rattle.catalogue_notes.proofs.retitling.plan_retitle.Goals as goal
 
 pub section_at-requires : goal.section_at-requires
 section_at-requires c =
-    subst (λ z. c.args.k < length z) (sym c.in_ok-found.ensures.ok.arranged.sections) (section_below c.args.replica.now c.args.k c.requires)
+    subst (λ z. c.args.k < length z) (sym c.requires.found.arranged.sections) (section_below c.args.replica.now c.args.k c.requires.section)
 
 pub returns-clause-ok : goal.returns-clause-ok
 returns-clause-ok c =
-    let s = c.in_ok-found.ensures.ok in
+    let s = c.requires.found in
+    let next = c.in_ok-next.ensures.ok c.args.replica.now.held.history s in
     record {
       section = c.section_at.result;
       placed = ap (λ z. slice_get z c.args.k) (sym s.arranged.sections) ∙ c.section_at.ensures;
-      left_over = s.left_over;
+      left_over = next.1;
       is_text = c.in_ok-body.ensures.text;
       scalars = c.in_ok-body.ensures.scalars;
       names_are = c.names_of.ensures;
-      body_is = c.in_ok-body.ensures.body ∙ ap (λ n. retitle_body n (encode_utf8_all c.args.title.now)) s.stamp_is;
+      body_is = c.in_ok-body.ensures.body ∙ ap (λ n. retitle_body n (encode_utf8_all c.args.title.now)) next.0;
     }

@@ -8,14 +8,14 @@ use Rattle.margin_notes.proofs.listing.entry_of.Goals as goal
 pub returns-in_err-section : goal.returns-in_err-section
 returns-in_err-section c =
     let h : List Op = c.args.replica.now.held.history in
-    let stands = sym c.is_withdrawn.ensures ∙ c.if-is_withdrawn.false in
+    let stands = sym c.is_withdrawn.ensures.withdrawn ∙ c.if-is_withdrawn.false in
     ap (option_map (entry_line (reverse h))) c.from_residual-in_err-section.ensures
     ∙ section_missing h c.args.op.now c.in_ok-anchors.anchors c.in_ok-anchors.ensures stands (c.in_err-section.ensures h c.places-places.ensures.places)
 
 pub returns-in_err-number : goal.returns-in_err-number
 returns-in_err-number c =
     let h : List Op = c.args.replica.now.held.history in
-    let stands = sym c.is_withdrawn.ensures ∙ c.if-is_withdrawn.false in
+    let stands = sym c.is_withdrawn.ensures.withdrawn ∙ c.if-is_withdrawn.false in
     ap (option_map (entry_line (reverse h))) c.from_residual-in_err-number.ensures
     ∙ number_missing h c.args.op.now c.in_ok-anchors.anchors c.in_ok-anchors.ensures stands c.in_ok-section.section (c.in_ok-section.ensures h c.places-places.ensures.places)
     (c.in_err-number.ensures h c.places-places.ensures.places)
@@ -25,7 +25,7 @@ returns c =
     let h : List Op = c.args.replica.now.held.history in
     let st = c.places-places.ensures.places in
     let a = c.in_ok-anchors.anchors in
-    let stands = sym c.is_withdrawn.ensures ∙ c.if-is_withdrawn.false in
+    let stands = sym c.is_withdrawn.ensures.withdrawn ∙ c.if-is_withdrawn.false in
     let at_section = c.in_ok-section.ensures h st in
     let s = c.in_ok-section.section in
     entry_listed h c.args.op.now a c.in_ok-anchors.ensures stands s at_section (reverse h) c.in_ok-number.number c.start_of.result c.end_of.result c.args.at c.requires

@@ -1,10 +1,8 @@
-use Rattle.std.proofs.Common.{length, ◌-◌, ◌≡◌}
-use Rattle.std.specs.Prelude.{reverse, take}
+use Rattle.std.proofs.Common.{reverse, take, ◌≡◌}
+use Rattle.replica_core.proofs.WalkLemmas.{Walks}
 use Rattle.version_views.proofs.VersionLemmas.{newest}
 use Rattle.version_views.proofs.listing.find_version.Given as goal
 
-abbrev pub invariant-ops : goal.invariant-ops
-invariant-ops l = l.found ≡ newest l.initial.replica.number l.initial.replica.held.history l.initial.name (reverse (take l.count l.ops))
-
-abbrev pub decreases-ops : goal.decreases-ops
-decreases-ops l = length l.ops - l.count
+-- what was found is the newest of those that were passed
+abbrev pub invariant-walk : goal.invariant-walk
+invariant-walk l = Walks (λ i. l.found ≡ newest l.replica.number l.replica.held.history l.name (reverse (take i l.ops))) l.ops l.count-items l.count-index

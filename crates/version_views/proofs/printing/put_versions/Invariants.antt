@@ -1,14 +1,12 @@
-use Rattle.std.proofs.Common.{drop, length, ◌-◌}
+use Rattle.std.proofs.Common.{drop}
+use Rattle.replica_core.proofs.WalkLemmas.{Walks}
 use Rattle.section_catalogue.proofs.PrintingLemmas.{IsUnderWay}
 use Rattle.version_views.specs.Views.{versions_text}
 use Rattle.version_views.proofs.LineLemmas.{lines_from}
 use Rattle.version_views.proofs.printing.put_versions.Given as goal
 
 -- a front of the lines was gathered, and those of the operations to come are the rest
-abbrev pub invariant-ops : goal.invariant-ops
-invariant-ops g l =
-    IsUnderWay (g.O.Out.seen l.initial.output) (g.O.Out.seen l.output) l.initial.gather l.gather (versions_text l.replica.held.history l.replica.number)
-    (lines_from l.replica.number l.replica.held.history (drop l.count l.ops) l.count)
-
-abbrev pub decreases-ops : goal.decreases-ops
-decreases-ops g l = length l.ops - l.count
+abbrev pub invariant-walk : goal.invariant-walk
+invariant-walk g l =
+    Walks (λ i. IsUnderWay (g.O.Out.seen l.initial.output) (g.O.Out.seen l.output) l.initial.gather l.gather (versions_text l.replica.held.history l.replica.number)
+    (lines_from l.replica.number l.replica.held.history (drop i l.ops) i)) l.ops l.count-items l.count-index

@@ -1,45 +1,88 @@
-use Rattle.std.proofs.Common.{List, arith, reverse, subst, sym, take, ◌+◌, ◌∙◌, Bool}
-use Rattle.std.specs.Prelude.{is_some}
-use Rattle.std.specs.BTreeMap.{get}
-use Rattle.fugue_ids.specs.Identifiers.{Identifier, id_cmp}
+use Rattle.std.proofs.Common.{List, ap, arith, get_or, length, reverse, subst, sym, ℕ, ◌+◌, ◌<◌, ◌∙◌, ◌∷◌, ◌≡◌}
+use Rattle.std.proofs.lemmas.List.{reverse-reverse}
+use Rattle.fugue_ids.specs.Identifiers.{Identifier}
 use Rattle.fugue_ids.specs.declared.op.Op.{Op}
+use Rattle.origin_model.specs.operations.Verdict.{Lawful}
+use Rattle.replica_core.proofs.WalkLemmas.{StandsAt, Walks, passed_all, passed_step, walk_begins, walk_comes, walk_ends, walk_goes_on}
+use Rattle.catalogue_notes.specs.Lift.{is_section}
 use Rattle.catalogue_notes.specs.Lifting.{IsLifting}
 use Rattle.catalogue_notes.specs.declared.lifting.Lifted.{Lifted}
-use Rattle.catalogue_notes.proofs.LiftingLemmas.{lifting_all, lifting_more, lifting_none, lifting_same, new_at}
-use Rattle.catalogue_notes.proofs.TakenLemmas.{passed_all, passed_more}
+use Rattle.catalogue_notes.proofs.LiftingLemmas.{Passed, lifting_all, lifting_between, lifting_more, lifting_none, lifting_same, new_at}
 use Rattle.catalogue_notes.proofs.lifting.Lifted.of.Goals as goal
 use Rattle.catalogue_notes.proofs.lifting.Lifted.of.Goals.{in-Some+in_ok-take, in_default}
 
-pub ops-init : goal.ops-init
-ops-init c = lifting_none c.new.result c.new-2.result.items c.new.ensures.nothing c.new.ensures.in_order c.new-2.ensures.items
+-- what was lifted before a place of the list
+abbrev P : List Op → Lifted → ℕ → Type 0
+P ops lifted i = IsLifting (Passed ops i) lifted.list lifted.moves.items
+
+-- the list is that of the history
+record IsOf (h ops : List Op) : Type 0 where
+  pub is : reverse ops ≡ h
+  pub lawful : Lawful (reverse ops)
+  pub tells : (s : Identifier) → is_section h s ≡ is_section (reverse ops) s
+
+list_of : (h ops : List Op) → ops ≡ reverse h → Lawful h → IsOf h ops
+list_of h ops e w =
+    let is : reverse ops ≡ h = ap reverse e ∙ reverse-reverse h in
+    record { is = is; lawful = subst Lawful (sym is) w; tells = λ s. ap (λ z. is_section z s) (sym is) }
+
+next_at : (h ops : List Op) (positions : List ℕ) (lifted : Lifted) (k : ℕ) → IsOf h ops → k < length positions → Walks (P ops lifted) ops positions k → StandsAt (P ops lifted) ops positions k (get_or positions k 0)
+next_at h ops positions lifted k o = walk_comes (P ops lifted) ops (lifting_between ops (is_section h) lifted.list lifted.moves.items o.lawful o.tells) positions k
+
+pub walk-init : goal.walk-init
+walk-init c =
+    walk_begins (P c.accepted-ops.result.now (record { list = c.new.result; moves = c.new-2.result })) c.args.replica.now.held.history c.accepted-ops.result.now c.sections_and_notes-at-items.result.now c.accepted-ops.ensures.accepted c.sections_and_notes-at-items.ensures.positions
+    (lifting_none c.new.result c.new-2.result.items c.new.ensures.nothing c.new.ensures.in_order c.new-2.ensures.items)
+
+pub bounds-ops-at : goal.bounds-ops-at
+bounds-ops-at c =
+    let h : List Op = c.args.replica.now.held.history in
+    let ops : List Op = c.accepted-ops.result.now in
+    (next_at h ops c.sections_and_notes-at-items.result.now c.walk.lifted c.walk.at-index (list_of h ops c.accepted-ops.ensures.accepted c.accepted-ops.ensures.stands.lawful) c.walk-test.true c.walk.invariant).below
+
+pub offset_bounds-ops-at : goal.offset_bounds-ops-at
+offset_bounds-ops-at c = omega (arith, bounds-ops-at c, c.accepted-ops.ensures.stands.few, c.accepted-ops.ensures.stands.most_within.1)
 
 pub take-requires-clause-new : goal.take-requires-clause-new
 take-requires-clause-new c =
-    let known : Identifier → Bool = λ s. is_some (get id_cmp c.args.sections.now s) in
-    new_at c.args.ops.now c.ops.op-index c.op-item.result known c.ops.lifted.list c.ops.lifted.moves.items c.in-Some.lift c.requires.lawful c.requires.sections (omega (arith, c.ops-test.true)) c.op-item.is
-    c.ops.invariant (sym c.lift_of.ensures ∙ c.in-Some.is)
+    let h : List Op = c.args.replica.now.held.history in
+    let ops : List Op = c.accepted-ops.result.now in
+    let o = list_of h ops c.accepted-ops.ensures.accepted c.accepted-ops.ensures.stands.lawful in
+    let at = next_at h ops c.sections_and_notes-at-items.result.now c.walk.lifted c.walk.at-index o c.walk-test.true c.walk.invariant in
+    new_at ops (get_or c.sections_and_notes-at-items.result.now c.walk.at-index 0) c.index-ops-at.result (is_section h) c.walk.lifted.list c.walk.lifted.moves.items c.in-Some.lift o.lawful o.tells
+    at.below c.index-ops-at.is at.holds (sym c.lift_of.ensures ∙ c.in-Some.is)
 
-pub ops-preserved : goal.ops-preserved
-ops-preserved c =
-    let ops : List Op = c.args.ops.now in
-    let known : Identifier → Bool = λ s. is_some (get id_cmp c.args.sections.now s) in
-    let i = c.ops.op-index in
-    let op : Op = c.op-item.result in
-    let more = passed_more ops i op (omega (arith, c.ops-test.true)) c.op-item.is in
+pub walk-preserved : goal.walk-preserved
+walk-preserved c =
+    let h : List Op = c.args.replica.now.held.history in
+    let ops : List Op = c.accepted-ops.result.now in
+    let positions : List ℕ = c.sections_and_notes-at-items.result.now in
+    let old : Lifted = c.walk.lifted in
+    let k : ℕ = c.walk.at-index in
+    let p : ℕ = get_or positions k 0 in
+    let op : Op = c.index-ops-at.result in
+    let o = list_of h ops c.accepted-ops.ensures.accepted c.accepted-ops.ensures.stands.lawful in
+    let at = next_at h ops positions old k o c.walk-test.true c.walk.invariant in
+    let goes = λ (new : Lifted). λ (holds : IsLifting (op ∷ Passed ops p) new.list new.moves.items).
+    walk_goes_on (P ops old) (P ops new) ops positions k p at (passed_step (λ z. IsLifting z new.list new.moves.items) ops p op at.below c.index-ops-at.is holds) in
     elim c.match-lift_of.branch [
-      | in-Some+in_ok-take w ↦
-          subst (λ (z : Lifted). IsLifting (reverse (take (i + 1) ops)) z.list z.moves.items) (sym w.lifted-is)
-          (subst (λ h. IsLifting h w.take.new.self.list w.take.new.self.moves.items) (sym more)
-          (lifting_more ops i op known c.ops.lifted.list w.take.new.self.list c.ops.lifted.moves.items w.take.new.self.moves.items w.in-Some.lift c.requires.lawful c.requires.sections
-          (omega (arith, c.ops-test.true)) c.op-item.is c.ops.invariant (sym c.lift_of.ensures ∙ w.in-Some.is) w.in_ok-take.ensures.list w.in_ok-take.ensures.in_order w.in_ok-take.ensures.moves))
-      | in_default w ↦
-          subst (λ (z : Lifted). IsLifting (reverse (take (i + 1) ops)) z.list z.moves.items) (sym w.lifted-is)
-          (subst (λ h. IsLifting h c.ops.lifted.list c.ops.lifted.moves.items) (sym more)
-          (lifting_same ops i op known c.ops.lifted.list c.ops.lifted.moves.items c.requires.lawful c.requires.sections
-          (omega (arith, c.ops-test.true)) c.op-item.is c.ops.invariant (sym c.lift_of.ensures ∙ w.in_default.is)))
+      | in-Some+in_ok-take v ↦
+          subst (λ (z : Lifted). Walks (P ops z) ops positions (k + 1)) (sym v.lifted-is)
+          (goes v.take.new.self
+          (lifting_more ops p op (is_section h) old.list v.take.new.self.list old.moves.items v.take.new.self.moves.items v.in-Some.lift o.lawful o.tells
+          at.below c.index-ops-at.is at.holds (sym c.lift_of.ensures ∙ v.in-Some.is) v.in_ok-take.ensures.list v.in_ok-take.ensures.in_order v.in_ok-take.ensures.moves))
+      | in_default v ↦
+          subst (λ (z : Lifted). Walks (P ops z) ops positions (k + 1)) (sym v.lifted-is)
+          (goes old (lifting_same ops p op (is_section h) old.list old.moves.items o.lawful o.tells at.below c.index-ops-at.is at.holds (sym c.lift_of.ensures ∙ v.in_default.is)))
     ]
 
-pub returns : goal.returns
-returns c =
-    lifting_all (reverse c.args.ops.now) c.ops.lifted.list c.ops.lifted.moves.items c.requires.lawful
-    (subst (λ h. IsLifting h c.ops.lifted.list c.ops.lifted.moves.items) (passed_all c.args.ops.now c.ops.op-index (omega (arith, c.ops-test.false))) c.ops.invariant)
+pub returns-clause-lifted : goal.returns-clause-lifted
+returns-clause-lifted c =
+    let h : List Op = c.args.replica.now.held.history in
+    let ops : List Op = c.accepted-ops.result.now in
+    let lifted : Lifted = c.walk.lifted in
+    let o = list_of h ops c.accepted-ops.ensures.accepted c.accepted-ops.ensures.stands.lawful in
+    lifting_all h lifted.list lifted.moves.items c.accepted-ops.ensures.stands.lawful
+    (subst (λ z. IsLifting z lifted.list lifted.moves.items) (passed_all ops (length ops) (omega arith) ∙ o.is)
+    (walk_ends (P ops lifted) ops (lifting_between ops (is_section h) lifted.list lifted.moves.items o.lawful o.tells)
+    c.sections_and_notes-at-items.result.now c.walk.at-index (omega (arith, c.walk-test.false)) c.walk.invariant))

@@ -1,6 +1,7 @@
-use Rattle.std.proofs.Common.{reverse, take}
 use Rattle.catalogue_notes.specs.Lifting.{IsLifting}
+use Rattle.replica_core.proofs.WalkLemmas.{Walks}
+use Rattle.catalogue_notes.proofs.LiftingLemmas.{Passed}
 use Rattle.catalogue_notes.proofs.lifting.Lifted.of.Given as goal
 
-abbrev pub invariant-ops : goal.invariant-ops
-invariant-ops l = IsLifting (reverse (take l.op-index l.ops)) l.lifted.list l.lifted.moves.items
+abbrev pub invariant-walk : goal.invariant-walk
+invariant-walk l = Walks (λ i. IsLifting (Passed l.ops i) l.lifted.list l.lifted.moves.items) l.ops l.at-items l.at-index
