@@ -2,8 +2,9 @@
 # Proves and builds the program, and keeps the LLVM module that the toolchain makes of it: module.sh MODULE
 #
 # The toolchain cannot build a program that allocates for WebAssembly, and keeps no module. So the program is built for
-# this machine as usual, by a copy of the toolchain in which clang.sh stands in for clang and keeps the module. That
-# builds bin/manuscript too.
+# this machine as usual, and .ci/build keeps the module while the compiler has it. Where an earlier run has compiled the
+# program already, and its module is gone, it is built once more by a copy of the toolchain in which clang.sh stands in
+# for clang and keeps the module. Either builds bin/manuscript too.
 set -euo pipefail
 here=$(cd "$(dirname "$0")" && pwd)
 kit=$(dirname "$(dirname "$(realpath "$(command -v "${RT:-rt}" || echo /)")")")
@@ -43,7 +44,7 @@ make_kit() {
 has_libraries() {
     local crate
     for crate in "$here"/../crates/*/; do
-        case $(basename "$crate") in manuscript | *_tests | beside_plain) continue ;; esac
+        case $(basename "$crate") in manuscript | *_tests) continue ;; esac
         [ -f "$crate/out/rlib/stamp" ] || return 1
     done
 }
@@ -59,6 +60,15 @@ build_over_libraries() {
     install -D -m 755 out/manuscript "$here/../bin/manuscript"
 }
 
+# The usual build proves nothing again that was proved here.
+"$here/../.ci/build" || fail 'the program was not built'
+kept=$here/../bin/manuscript.bc
+if [ "$kept" -nt "$work" ]; then
+    [ "$(realpath "$kept")" = "$module" ] || install -D -m 644 "$kept" "$module"
+    exit 0
+fi
+
+echo 'The program was compiled before, and its LLVM module is not there: it is proved and built once more for it.'
 for part in bin/rt bin/rtlib.py bin/rattle toolchain/bin/clang; do
     [ -f "$kit/$part" ] || fail "the toolchain of ${RT:-rt} has no $part, so it cannot make the module"
 done

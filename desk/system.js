@@ -252,6 +252,15 @@ class System {
     return number;
   }
 
+  // The one command that the program gives copies a descriptor, to the least number that is free from another one on.
+  fcntl(number, command, rest) {
+    const opened = this.opened(number);
+    let copy = Number(new DataView(this.exports.memory.buffer).getBigInt64(Number(rest), true));
+    while (this.numbers.has(copy)) copy += 1;
+    this.numbers.set(copy, opened);
+    return copy;
+  }
+
   close(number) {
     this.opened(number).file?.close();
     this.numbers.delete(number);

@@ -577,15 +577,17 @@ def first_difference(old, new):
 
 
 def read_draft(replica, base, draft):
-    """The parts of a draft that is written from the base. The replica has to print the base."""
+    """The parts of a draft that is written from the base; None where it is the base. The replica has to print the base."""
     arrangement = Arrangement(replica)
     at = first_difference(arrangement.text().encode(), base)
     if at is not None:
         raise Refused(f"base differs at byte {at}", 2)
-    for place, section in enumerate(arrangement.sections(), 1):
-        if any(line.startswith("# ") for line in replica.text(section).split("\n")):
-            raise Refused(f"heading in section {place}", 2)
-    return read_parts(draft)
+    if draft == base:
+        return None
+    parts = read_parts(draft)
+    if not parts and arrangement.sections():
+        raise Refused("empty draft", 2)
+    return parts
 
 
 def taken_in(hold, ops):
@@ -646,9 +648,10 @@ def list_file(data):
 
 def draft_file(data, base):
     with open(base, "rb") as file:
-        parts = read_draft(taken_in(*read_file(data)), file.read(), sys.stdin.buffer.read())
+        draft = sys.stdin.buffer.read()
+        parts = read_draft(taken_in(*read_file(data)), file.read(), draft)
     sys.stdout.flush()
-    sys.stdout.buffer.write(form(parts))
+    sys.stdout.buffer.write(draft if parts is None else form(parts))
     return 0
 
 

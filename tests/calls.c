@@ -6,7 +6,10 @@
 //     part              it moves one byte
 //     none              it moves nothing
 //     full              it moves half of the bytes, and each later write to a file fails with ENOSPC
+//     shut              it opens nothing, nor does a later one: EACCES
 //     self              the socket has the address that it connects to
+//     stop              the program is stopped before it, until it is told to go on
+//     opens             before it reads, a byte 1 is written to the file where it reads, as by another program
 //     kill              the program is killed
 #define _GNU_SOURCE
 #include <arpa/inet.h>
@@ -40,6 +43,7 @@ static char names[FILES][32] = {"input", "output", "notes"};
 static char line[512];
 static long count;
 static int is_full;
+static int is_shut;
 
 // A program that hangs is ended.
 __attribute__((constructor)) static void end_in_time(void) {
@@ -86,6 +90,7 @@ static void begin(const char *form, ...) {
     va_end(rest);
     count++;
     if (is_told("kill")) raise(SIGKILL);
+    if (is_told("stop")) raise(SIGSTOP);
 }
 
 // Whether the call is told to fail, with the error that it is told.
@@ -141,9 +146,25 @@ int open(const char *path, int flags, ...) {
     if (flags & O_CREAT) add(", %s, mode %o", flags & O_EXCL ? "new" : "new or old", mode);
     if (others) add(", with %o", others);
     if (!(flags & O_CLOEXEC)) add(", for other programs too");
-    int file = fails() ? -1 : next(path, flags, mode);
+    if (is_told("shut")) is_shut = 1;
+    if (is_shut) errno = EACCES;
+    int file = is_shut || fails() ? -1 : next(path, flags, mode);
     give_name(file, last_part(path));
     return end(file, file);
+}
+
+// The one command that the program gives copies the descriptor.
+int fcntl(int file, int command, ...) {
+    NEXT(fcntl);
+    va_list rest;
+    va_start(rest, command);
+    long least = va_arg(rest, long);
+    va_end(rest);
+    if (command != F_DUPFD_CLOEXEC) return next(file, command, least);
+    begin("copy %s from %ld on", name_of(file), least);
+    int copy = fails() ? -1 : next(file, command, least);
+    give_name(copy, name_of(file));
+    return end(copy, copy);
 }
 
 int statx(int folder, const char *path, int flags, unsigned mask, struct statx *about) {
@@ -191,9 +212,19 @@ off_t lseek(int file, off_t offset, int whence) {
     return end(fails() ? -1 : next(file, offset, whence), offset);
 }
 
+// What another program writes to the file, which it has open for itself.
+static void write_apart(int file, const char *byte, off_t at) {
+    char path[32];
+    snprintf(path, sizeof path, "/proc/self/fd/%d", file);
+    int apart = syscall(SYS_openat, AT_FDCWD, path, O_WRONLY);
+    if (apart < 0 || syscall(SYS_pwrite64, apart, byte, 1, at) != 1) abort();
+    syscall(SYS_close, apart);
+}
+
 ssize_t pread(int file, void *bytes, size_t length, off_t at) {
     NEXT(pread);
     begin("pread %s %zu at %ld", name_of(file), length, (long)at);
+    if (is_told("opens")) write_apart(file, "\1", at);
     return end(fails() ? -1 : next(file, bytes, moved(length), at), length);
 }
 

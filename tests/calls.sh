@@ -18,17 +18,25 @@ The calls of the system that each command makes on a small case, as tests/calls.
 it ends: its status, what became of the file, what was printed, and the notes. Beside a call stands how the command ends
 where the call fails with one of these errors, in short: by the notes alone where the status is 4, the file as before
 and nothing printed, and of these by the cause alone where one is told before `outside fault`. A call that moves nothing
-is `none`; one that moves half of the bytes, after which nothing more can be written, is `full`.
+is `none`; one that moves half of the bytes, after which nothing more can be written, is `full`; one that opens nothing,
+after which nothing more can be opened, is `shut`.
 END
 runs=0
 odd=0
 
+# The standard streams that are closed where a command runs, by the names that the table gives them.
+closed=
+
 # Runs the program where the call of this number goes as is told, or none. What it calls goes to `calls`.
-run_with() {
-    local at=$1 fault=$2
+run_with() (
+    at=$1 fault=$2
     shift 2
-    AT=$at FAULT=$fault LD_PRELOAD=$work/calls.so "$program" "$@" 9>"$work/calls"
-}
+    exec 9>"$work/calls"
+    [[ $closed != *input* ]] || exec <&-
+    [[ $closed != *output* ]] || exec >&-
+    [[ $closed != *notes* ]] || exec 2>&-
+    AT=$at FAULT=$fault LD_PRELOAD=$work/calls.so exec "$program" "$@"
+)
 
 # The calls that were made, with the port by its name.
 calls() {
@@ -150,7 +158,7 @@ is_saved() {
 
 # Runs the command again on the file as it is, with no fault, and says whether it ends as it does on the file before.
 ends_well() {
-    "$program" "${words[@]}" <"$input" >"$work/output" 2>"$work/notes"
+    run_with 0 '' "${words[@]}" <"$input" >"$work/output" 2>"$work/notes"
     [ "$(outcome $?)" = "$base" ]
 }
 
@@ -158,7 +166,8 @@ ends_well() {
 faults_of() {
     case $1 in
     getentropy*) echo EIO ;;
-    'open / '*) echo EMFILE ;;
+    copy*) echo EBADF EMFILE ;;
+    'open / '* | 'open null '*) echo EMFILE EACCES shut ;;
     open*new*) echo EACCES EROFS ENOSPC EMFILE ;;
     open*'and write'*) echo EACCES EROFS EMFILE ;;
     open*) echo EACCES EMFILE ;;
@@ -190,7 +199,7 @@ faults_of() {
 # What else may become of a call, that changes nothing.
 harmless_of() {
     case $1 in
-    open* | flock* | fsync* | accept* | poll*) echo EINTR ;;
+    open* | stat* | flock* | fsync* | accept* | poll*) echo EINTR ;;
     pread* | pwrite* | 'read '* | 'write '* | recv* | send*) echo EINTR part ;;
     esac
 }
@@ -343,11 +352,21 @@ show_calls full pwrite 1 'new home 1 16, with half of the room' - "$nothing" new
 try_command 'edit home < script' ann script edit home
 show_calls EIO fsync 2 'edit home < script, where the sync of the batch fails' ann script edit home
 show_calls EIO fsync 3 'edit home < script, where the sync of the gate fails' ann script edit home
+for closed in input output notes 'input, output and notes'; do
+    try_command "edit home < script, where closed: $closed" ann script edit home
+done
+closed=input
+try_command 'revise home base < draft, where closed: input' sections draft revise home base
+closed=output
+try_command 'print home, where closed: output' ann "$nothing" print home
+closed=
 try_command 'print home' ann "$nothing" print home
 try_command 'take home < frames' ann frames take home
 try_command 'send home' ann "$nothing" send home
 try_command 'merge home other' ann "$nothing" merge home other
 try_command 'move home 2 1' sections "$nothing" move home 2 1
+try_command 'retitle home 1 X' sections "$nothing" retitle home 1 X
+try_command 'version home one' ben "$nothing" version home one
 try_command 'arrange home' sections "$nothing" arrange home
 try_command 'list home' sections "$nothing" list home
 try_command 'revise home base < draft' sections draft revise home base

@@ -1,6 +1,7 @@
 #!/usr/bin/env bash
 # Tries the page, dist/desk.html, in a headless Chromium, as a writer uses it: desk.sh [GROUP..]
-# Where there is no page, no Node or no Chromium, it says so and ends with status 0. The environment may have:
+# Before that it tries what the page asks before it takes a file, under Node alone. Where there is no page, no Node or no
+# Chromium, it says so and ends with status 0. The environment may have:
 #
 #     DESK         another page
 #     ONLY         a word: only the tests whose names have it are run
@@ -17,7 +18,8 @@ not_tried() {
     exit 0
 }
 
-[ -f "$page" ] || not_tried "$page"
 command -v node >/dev/null || not_tried 'node'
+node --no-warnings tests/desk/asked.mjs || exit 1
+[ -f "$page" ] || not_tried "$page"
 command -v chromium chromium-browser google-chrome >/dev/null || not_tried 'Chromium'
 DESK=$(realpath "$page") exec node tests/desk/desk.mjs "$@"

@@ -235,6 +235,9 @@ check 'is not left behind' [ ! -e "$work/unfinished" ]
 bash -c 'trap "" XFSZ; ulimit -f 0; exec "$0" new "$1" 1 16' "$program" "$work/unfinished" </dev/null >"$work/output" 2>"$work/notes"
 compare 'an empty file that was there' $? 4 '' ''
 check 'stays' [ -e "$work/unfinished" ]
+ln -s nowhere "$work/link"
+try 'a link that leads nowhere' nothing 4 '' "$outside" new "$work/link" 1 16
+because "manuscript: $work/link: a link that leads nowhere"
 try 'the greatest replica' nothing 0 '' '' new "$work/greatest" 4294967295 1048576
 
 # Two programs, one file: the first one keeps it, and nothing is lost. Who only reads takes no lock, and is let in.
@@ -264,6 +267,83 @@ if command -v flock >/dev/null; then
     exec {reader}<&-
 else
     echo 'not tried: a file that is locked, since there is no flock'
+fi
+
+# Calls of the system between which something happens: the number of the first one of a command that begins so.
+number_of() {
+    local call=$1
+    shift
+    AT=0 LD_PRELOAD=$work/calls.so "$program" "$@" <"$work/nothing" >/dev/null 2>&1 9>"$work/calls"
+    grep -n "^$call" "$work/calls" | head -n 1 | cut -d: -f1
+}
+
+# Starts a command that is stopped as it begins this call. Its number goes to `stopped`.
+stop_at() {
+    local call=$1 waited
+    shift
+    AT=$call FAULT=stop LD_PRELOAD=$work/calls.so "$program" "$@" <"$work/nothing" >"$work/output" 2>"$work/notes" \
+        9>"$work/calls" &
+    stopped=$!
+    for ((waited = 0; waited < 200; waited++)); do
+        grep -q '^State:.T' "/proc/$stopped/status" && return
+        sleep 0.05
+    done
+}
+
+if build_c calls; then
+    # What a file leads to may change between its opening and its lock.
+    made=$work/made
+    lock=$(number_of flock new "$made" 1 16)
+    rm -f "$made"
+    stop_at "$lock" new "$made" 1 16
+    "$program" new "$made" 2 16 <"$work/nothing" 2>"$work/other_notes"
+    check 'a file that another one makes and stops at' [ $? = 0 ]
+    "$program" edit "$made" <"$work/chapter" 2>"$work/other_notes"
+    check 'is saved to' [ $? = 0 ]
+    kill -CONT "$stopped"
+    wait "$stopped"
+    compare 'and is not empty for who goes on' $? 6 '' 'not empty\n'
+    try 'nor is it removed' nothing 0 '# T\nAC\n' '' print "$made"
+
+    rm -f "$made"
+    stop_at "$lock" new "$made" 1 16
+    rm "$made"
+    kill -CONT "$stopped"
+    wait "$stopped"
+    compare 'a file that is removed before it is locked is none that was made' $? 4 '' "$outside"
+    because "manuscript: $made: in use by another program"
+    check 'and none is there' [ ! -e "$made" ]
+
+    new_file put_there
+    cp "$f" "$made"
+    lock=$(number_of flock edit "$made")
+    stop_at "$lock" edit "$made"
+    mv "$work/put_there" "$made"
+    kill -CONT "$stopped"
+    wait "$stopped"
+    compare 'one that is replaced before it is locked is not saved to' $? 4 '' "$outside"
+    because "manuscript: $made: in use by another program"
+
+    # A reader that finds a gate open which another program has opened and not synced yet.
+    for command in print send arrange list; do
+        { head -c 13 "$work/edited"; printf '\0'; tail -c +15 "$work/edited"; } >"$made"
+        AT=0 LD_PRELOAD=$work/calls.so "$program" "$command" "$made" <"$work/nothing" >"$work/closed" 2>"$work/notes" 9>"$work/calls"
+        gate=$(grep -n '^pread made 1 at 13' "$work/calls" | cut -d: -f1)
+        AT=$gate FAULT=opens LD_PRELOAD=$work/calls.so "$program" "$command" "$made" <"$work/nothing" >"$work/output" \
+            2>"$work/notes" 9>"$work/calls"
+        check "$command gives what the other one wrote" [ $? = 0 -a "$(wc -c <"$work/output")" -gt "$(wc -c <"$work/closed")" ]
+        check "and syncs behind each read" \
+            awk '/^pread/ { reads++; getline; if ($1 != "fsync") apart++ } END { exit apart || reads < 3 }' "$work/calls"
+    done
+    new_file into
+    { head -c 13 "$work/edited"; printf '\0'; tail -c +15 "$work/edited"; } >"$made"
+    AT=0 LD_PRELOAD=$work/calls.so "$program" merge "$work/into" "$made" <"$work/nothing" 2>"$work/notes" 9>"$work/calls"
+    gate=$(grep -n '^pread made 1 at 13' "$work/calls" | cut -d: -f1)
+    AT=$gate FAULT=opens LD_PRELOAD=$work/calls.so "$program" merge "$work/into" "$made" <"$work/nothing" >"$work/output" \
+        2>"$work/notes" 9>"$work/calls"
+    compare 'merge takes in what the other one wrote' $? 0 '' "$all"
+    check 'and syncs behind each read of it' \
+        awk '/^pread made/ { reads++; getline; if ($0 !~ /^fsync made/) apart++ } END { exit apart || reads < 3 }' "$work/calls"
 fi
 
 # One prints in a loop beside one that saves in a loop, 200 letters at a time: no save fails, and each print is the
@@ -324,6 +404,7 @@ check 'none that was done is lost' [ "$(cat "$work/letters_of_both")" = 50a50b ]
 : >"$work/output"
 "$program" print "$f" </dev/null >/dev/full 2>"$work/notes"
 compare 'a full device as output' $? 4 '' "$outside"
+because 'manuscript: standard output: no space is left'
 "$program" send "$f" </dev/null >/dev/full 2>"$work/notes"
 compare 'a full device as output of send' $? 4 '' "$outside"
 "$program" arrange "$f" </dev/null >/dev/full 2>"$work/notes"
@@ -341,6 +422,17 @@ try 'and the edit is made later' much 0 '' 'made 3000\n' edit "$work/small"
 compare 'a folder as script' $? 4 '' "$outside"
 "$program" take "$f" <&- >"$work/output" 2>"$work/notes"
 compare 'no input' $? 4 '' "$outside"
+because 'manuscript: standard input: closed'
+if command -v python3 >/dev/null; then
+    # A pipe that is set not to wait for what comes.
+    python3 -c '
+import os, subprocess, sys
+read, write = os.pipe()
+os.set_blocking(read, False)
+sys.exit(subprocess.run(sys.argv[1:], stdin=read).returncode)' "$program" take "$f" >"$work/output" 2>"$work/notes"
+    compare 'an input that does not wait' $? 4 '' "$outside"
+    because 'manuscript: standard input: set not to wait, and not ready; put a pipe or a file in its place'
+fi
 check 'the file is as before' cmp -s "$f" "$work/edited"
 cp "$f" "$work/noted"
 : >"$work/notes"

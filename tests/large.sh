@@ -130,5 +130,6 @@ for ((power = 9; power <= 28; power++)); do
 done
 take_batch $((count + 1))
 compare 'a batch that is too long' $? 7 '' 'batch too long\n'
+because "manuscript: $work/batch: one save holds 256 MiB at most; merge an older copy or take an earlier stream first, and then the rest"
 
 ended

@@ -1,6 +1,6 @@
 // Exchange with other authors: by files and streams, and with the other manuscripts of this browser.
 
-import { Refused, authorOfFile, decoded, isFile } from "./commands.js";
+import { Refused, authorOfFile, countsOf, decoded, isFile } from "./commands.js";
 import { ask, bytesOf, button, chosenFiles, download, element, grouped, opened, paragraph } from "./dom.js";
 import { freshKey } from "./store.js";
 import { inWords } from "./told.js";
@@ -35,14 +35,41 @@ async function takeInAsked(editor, bytes, name) {
   if (await isWanted(editor, bytes, name)) editor.came(await editor.manuscript.takeIn(bytes), name);
 }
 
-// What came in can't be taken out again. So the page asks first, if a file has no section in common with this one.
+// What came in can't be taken out again. So the page asks first, if what comes has changes of this manuscript's own
+// author that it lacks, or if a file has no section in common with it.
 async function isWanted({ manuscript }, bytes, name) {
+  if (await hasOwnNews(manuscript, bytes)) return isOwnWanted(manuscript, name);
   if (!isFile(bytes)) return true;
   const [own, other] = await Promise.all([sectionsOf(manuscript, manuscript.bytes), sectionsOf(manuscript, bytes)]);
   if (own.length === 0 || other.length === 0 || other.some((key) => own.includes(key))) return true;
   const line = "It has no section in common with this manuscript, so it may belong to another one. What comes in " +
     "becomes part of this manuscript, and can't be taken out again.";
   return ask(`Take in “${name}”?`, [paragraph(line)], { agree: "Take in" });
+}
+
+// Whether there are changes under the manuscript's own number that it lacks, or others in the place of its own. Bytes
+// that can't be read have none here: the program refuses them later.
+async function hasOwnNews({ program, record: { replica }, bytes }, given) {
+  const spentOf = ({ spent }) => spent.get(replica) ?? 0;
+  try {
+    const [own, other] = await Promise.all([program.read(bytes, false), program.read(given, false)]);
+    if (spentOf(other) > spentOf(own)) return true;
+    if (!isFile(given) || authorOfFile(given) !== replica) return false;
+    const files = [["own.ms", bytes], ["it.ms", given]];
+    return countsOf((await program.does(["merge", "own.ms", "it.ms"], { files })).notes).conflict > 0;
+  } catch {
+    return false;
+  }
+}
+
+function isOwnWanted({ record: { replica } }, name) {
+  const lines = [
+    `It has changes of author ${grouped(replica)}, which is your number, and this manuscript lacks them.`,
+    "If this manuscript comes from a backup, take them in now, before you write anything here.",
+    "If someone else writes with your number, or you do on another machine, cancel this. Begin a manuscript with " +
+      "another number, from what you have, and go on in that one: what two write with one number never agrees again.",
+  ];
+  return ask(`Take in “${name}”?`, lines.map(paragraph), { agree: "Take in", isGrave: true });
 }
 
 // The keys of the sections of a file. Bytes that are no manuscript have none here: the program refuses them later.
@@ -119,16 +146,17 @@ export async function exchange(editor) {
     dialog.close();
     takeInFiles(editor, files);
   }, { className: "main" });
-  const give = button("Download my file", () => editor.attempt(() => giveFile(editor)));
-  const send = button("Download as a stream", () => editor.attempt(() => giveStream(editor)));
+  const send = button("Download for the others", () => editor.attempt(() => giveStream(editor)));
+  const back = button("Download a backup", () => editor.attempt(() => giveFile(editor)));
   const others = element("ul", { className: "others" });
   dialog.append(
     element("h2", { textContent: "Exchange" }),
     part("What others wrote", "Take in another author's file or stream: choose it here, or drop it on this page. " +
       "Their changes are added to yours, passages are never mixed, and what they deleted is deleted here too.", take),
-    part("What you wrote", "Give the others a copy of your file, by mail, on a stick, or in a shared folder. " +
-      "They take it in, but must not write in it, since it has your author number. A stream has the same changes, in " +
-      "the form that the command line exchanges.", give, send),
+    part("What you wrote", "Give the others what you have, by mail, on a stick, or in a shared folder: a stream, which " +
+      "they take in.", send),
+    part("Your backup", "Your own file, as this browser keeps it. Keep it for yourself: whoever writes in it writes " +
+      "with your number, and that never agrees with what you write.", back),
     part("In this browser", "", others, button("Begin a copy for another author", () => {
       dialog.close();
       editor.attempt(() => copy(editor));
@@ -150,7 +178,7 @@ function part(title, text, ...children) {
 
 async function giveFile({ manuscript }) {
   await manuscript.save();
-  download(`${manuscript.record.name}.ms`, manuscript.bytes);
+  download(`${manuscript.record.name} (backup).ms`, manuscript.bytes);
 }
 
 async function giveStream({ manuscript }) {

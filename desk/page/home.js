@@ -58,19 +58,21 @@ export class Shelf {
   async bring(file) {
     const bytes = await bytesOf(file);
     const kind = await kindOf(this.program, bytes);
-    const name = file.name.replace(/\.(ms|frames)$/, "");
+    const name = file.name.replace(/( \(backup\))?\.(ms|frames)$/, "");
     if (!kind.isManuscript) return this.begin({ name, from: bytes });
-    const own = element("input", { type: "radio", name: "whose", value: "own", checked: true });
-    const other = element("input", { type: "radio", name: "whose", value: "other" });
+    // None is chosen before: who presses Enter adopts no number.
+    const other = element("input", { type: "radio", name: "whose", value: "other", required: true });
+    const own = element("input", { type: "radio", name: "whose", value: "own", required: true });
     const twin = (await this.store.records()).find(({ replica }) => replica === kind.author);
     const warning = twin && `Careful: “${twin.name}” has this author number too. If it is the same manuscript, go on ` +
       "in one of them only. Where both are changed, they can never agree again.";
     const body = [
       paragraph(`“${file.name}” is the file of author ${grouped(kind.author)}.`),
       ...(warning ? [element("p", { className: "warning", textContent: warning })] : []),
-      element("label", { className: "choice" }, own, "It is mine. From now on I write in it here and nowhere else."),
-      element("label", { className: "choice" }, other, "Another author writes in it, or I do on another machine. I " +
-        "begin a manuscript of my own from it."),
+      element("label", { className: "choice" }, other, "Another author's, or mine on another machine. I begin a " +
+        "manuscript of my own from it, with another number."),
+      element("label", { className: "choice" }, own, "A backup of my own. From now on I write in it here and nowhere " +
+        "else. What was given to others since has to come in before I write."),
     ];
     const read = () => (own.checked ? "own" : "other");
     const whose = await ask("Whose file is this?", body, { agree: "Go on", read });
@@ -118,7 +120,7 @@ export class Home {
     const when = new Date(changed).toLocaleString([], { dateStyle: "medium", timeStyle: "short" });
     const facts = element("small", { textContent: `Changed ${when}, author number ${grouped(replica)}` });
     const acts = element("div", { className: "row" },
-      button("Download", () => this.attempt(() => this.give(record))),
+      button("Back up", () => this.attempt(() => this.backUp(record))),
       button("Rename", () => this.attempt(() => this.rename(record))),
       button("Remove", () => this.attempt(() => this.remove(record))),
     );
@@ -126,8 +128,8 @@ export class Home {
     return element("li", {}, element("div", {}, link, facts), acts);
   }
 
-  async give({ id, name }) {
-    download(`${name}.ms`, (await this.store.file(id)).bytes);
+  async backUp({ id, name }) {
+    download(`${name} (backup).ms`, (await this.store.file(id)).bytes);
   }
 
   async rename({ id, name }) {
@@ -139,7 +141,7 @@ export class Home {
   }
 
   async remove({ id, name }) {
-    const lines = ["It is removed from this browser. Download it first if you may want it again: " +
+    const lines = ["It is removed from this browser. Back it up first if you may want it again: " +
       "what no other file has is lost."];
     if (!(await ask(`Remove “${name}”?`, lines.map(paragraph), { agree: "Remove", isGrave: true }))) return;
     await this.store.remove(id);

@@ -3,6 +3,7 @@
 // docs/FORMATS.md has the format and the rules of the order.
 
 const HEADER = 13;
+const FIRST_OF_FILE = 0x46; // of “FGMX”
 const NONE = -1;
 const MOVE = 1;
 const COMMENT = 3;
@@ -199,6 +200,8 @@ class Contents {
   deleted = new Map();
   comments = [];
   authors = new Set();
+  // For each number of an author the counter behind the greatest one that is used.
+  spent = new Map();
   waiting = [];
 
   constructor(hasLetters) {
@@ -206,6 +209,8 @@ class Contents {
   }
 
   take(operation) {
+    const { name, count = 1 } = operation;
+    if (name) this.spent.set(name.replica, Math.max(this.spent.get(name.replica) ?? 0, name.counter + count));
     if (!this.places(operation)) this.waiting.push(operation);
   }
 
@@ -350,15 +355,26 @@ class Contents {
   }
 }
 
-// The visible sections of a file, as they are arranged: their keys, their numbers among those that `print` has and,
-// where letters are asked for, who wrote what and who commented. And who wrote in it, and whether there are comments.
-export function reading(bytes, hasLetters) {
-  const contents = new Contents(hasLetters);
+// Where frames are: in the batches of a file, or in a stream, which is nothing else.
+function stretchesOf(bytes) {
+  if (bytes[0] !== FIRST_OF_FILE) return [[0, bytes.length]];
   const view = new DataView(bytes.buffer, bytes.byteOffset, bytes.byteLength);
+  const stretches = [];
   for (let at = HEADER; bytes[at] === 1; ) {
     const end = at + 5 + (view.getUint32(at + 1) & 0x1fffffff);
-    for (const frames = new Frames(bytes, at + 5, end); frames.at < end; ) contents.take(frames.next());
+    stretches.push([at + 5, end]);
     at = end;
+  }
+  return stretches;
+}
+
+// The visible sections of a file or a stream, as they are arranged: their keys, their numbers among those that `print`
+// has and, where letters are asked for, who wrote what and who commented. And who wrote in it, which counters are spent,
+// and whether there are comments.
+export function reading(bytes, hasLetters) {
+  const contents = new Contents(hasLetters);
+  for (const [start, end] of stretchesOf(bytes)) {
+    for (const frames = new Frames(bytes, start, end); frames.at < end; ) contents.take(frames.next());
   }
   contents.settle();
   const numbers = new Map(contents.listed().map(({ key }, at) => [key, at + 1]));
@@ -368,5 +384,6 @@ export function reading(bytes, hasLetters) {
     runs: hasLetters ? contents.runsOf(section) : [],
     comments: hasLetters ? contents.commentsOn(section) : [],
   }));
-  return { arranged, authors: [...contents.authors], hasComments: contents.comments.length > 0 };
+  const { authors, spent, comments } = contents;
+  return { arranged, authors: [...authors], spent, hasComments: comments.length > 0 };
 }

@@ -9,8 +9,7 @@ const RULES = [
   [/^cut short at byte (\d+)$/, () => "The end of this file is missing. Ask for it again."],
   [/^base differs at byte/, () => "The manuscript was changed somewhere else in the meantime."],
   [/^bad draft at line (\d+)$/, (line) => `Line ${line} can't be saved: a title is empty or too long.`],
-  [/^heading in section (\d+)$/, (section) => `The text of section ${section} has a line that begins with “# ”, which
-    marks titles. It can be read here, but not changed until that line is.`],
+  [/^empty draft$/, () => "The text is empty, and would take all sections away."],
   [/^too long$/, () => "This is longer than a manuscript may be."],
   [/^batch too long$/, () => "This is more than can be saved at once. Save a smaller part first."],
   [/^too many: (\d+)$/, (count) => `A manuscript has room for ${count} changes, and no more.`],

@@ -105,6 +105,11 @@ async function samples(open) {
   await page.until("document.querySelector('.shelf li')");
   await page.drop({ name: "version_1.ms", bytes: sample("version_1.ms") });
   await page.until("document.querySelector('dialog[open] input[type=radio]')");
+  same("nobody's number is chosen before", await page.value("document.querySelectorAll('dialog input:checked').length"), 0);
+  await page.press("Enter");
+  await pause(300);
+  check("and Enter adopts none", await page.value("!!document.querySelector('dialog[open] input[type=radio]')"));
+  await page.value("document.querySelector('dialog[open] input[value=own]').click()");
   await page.pressButton("Go on");
   await page.until("document.querySelectorAll('.section').length > 0");
   const bytes = await page.value("desk.then(({ shown: { manuscript } }) => [...manuscript.bytes].join())");
@@ -164,8 +169,8 @@ async function download(open, browser) {
   await browser.send("Browser.setDownloadBehavior", { behavior: "allow", downloadPath: folder });
   await page.pressButton("Exchange");
   await page.until("document.querySelector('dialog[open]')");
-  await page.pressButton("Download my file");
-  const file = path.join(folder, "The quiet sea.ms");
+  await page.pressButton("Download a backup");
+  const file = path.join(folder, "The quiet sea (backup).ms");
   for (let count = 0; count < 100 && !fs.existsSync(file); count += 1) await pause(50);
   const bytes = fs.readFileSync(file);
   const kept = await page.value("desk.then(({ shown: { manuscript } }) => [...manuscript.bytes])");
@@ -200,6 +205,7 @@ async function conflict(open) {
   await page.drop({ name: "copy.ms", bytes: Buffer.from(copy) });
   await page.until("document.querySelector('dialog[open] input[type=radio]')");
   await picture(page, "whose");
+  await page.value("document.querySelector('dialog[open] input[value=own]').click()");
   await page.pressButton("Go on");
   await page.until("document.querySelector('textarea')");
   await page.until("document.querySelector('.state').textContent === 'Saved'");
@@ -212,6 +218,10 @@ async function conflict(open) {
   await page.value("[...document.querySelectorAll('.shelf a')].find((link) => link.textContent !== 'copy').click()");
   await page.until("document.querySelector('textarea')");
   await page.drop({ name: "copy.ms", bytes: Buffer.from(other) });
+  await page.until("document.querySelector('dialog[open]')");
+  check("a copy that was changed is asked about", /which is your number/.test(
+    await page.value("document.querySelector('dialog[open]').innerText")));
+  await page.pressButton("Take in");
   await page.until(`/Two copies of one file were changed/.test(${NOTICES})`);
   check("two copies that were both changed are reported", true);
   await picture(page, "conflict");

@@ -19,6 +19,7 @@ export class Watch {
   #names = new Map([0, 1, 2].map((number) => [number, ["input", "output", "notes"][number]]));
   #count = 0;
   #isFull = false;
+  #isShut = false;
 
   constructor(log, at, fault) {
     this.log = log;
@@ -34,8 +35,9 @@ export class Watch {
     try {
       const answer = this.#faulty(name, given, call);
       if (name === "open") this.#names.set(answer, lastPart(system.textAt(given[0])));
+      if (name === "fcntl") this.#names.set(answer, this.#name(given[0]));
       if (name === "close") this.#names.delete(given[0]);
-      this.#tell(name === "open" || answer === wanted ? line : `${line} = ${answer}`);
+      this.#tell(name === "open" || name === "fcntl" || answer === wanted ? line : `${line} = ${answer}`);
       return answer;
     } catch (why) {
       if (why instanceof SystemError) this.#tell(`${line} = ${why.message}`);
@@ -50,6 +52,8 @@ export class Watch {
   // Makes the call, or what is told in place of it.
   #faulty(name, given, call) {
     const fault = this.#count === this.at && name !== "close" ? this.fault : "";
+    if (fault === "shut") this.#isShut = true;
+    if (name === "open" && this.#isShut) throw new SystemError("EACCES");
     const moves = ["read", "write", "pread", "pwrite"].includes(name);
     const writes = ["write", "pwrite"].includes(name);
     if (writes && this.#isFull) throw new SystemError("ENOSPC");
@@ -75,6 +79,11 @@ export class Watch {
     const others = flags & ~KNOWN ? `, with ${(flags & ~KNOWN).toString(8)}` : "";
     const kept = flags & CLOSES ? "" : ", for other programs too";
     return `open ${lastPart(system.textAt(path))} ${ACCESS[flags & 3]}${made}${others}${kept}`;
+  }
+
+  fcntl(system, number, command, rest) {
+    const view = new DataView(system.exports.memory.buffer);
+    return `copy ${this.#name(number)} from ${view.getBigInt64(Number(rest), true)} on`;
   }
 
   statx(system, folder, path) {

@@ -3,36 +3,25 @@
 
 use manuscript_cli::{Command, Refusal, Status, read_words, run, tell};
 use outer_ports::{FileDisk, Opening, StdSink, StdSource, TcpDock, TcpWire, tell_cause};
+use standard::{Held, hold_closed};
 use std::env;
-use std::fs::{self, File, OpenFile, OpenOptions};
 use std::hash::RandomState;
-use std::io::{self, ErrorKind, Write};
+use std::io::{self, ErrorKind, Stderr, Write};
 use std::process::ExitCode;
 use std::rt::Env;
+use told::{COPY_IT, MAKE_ANOTHER, MERGE_IT, ToldFile, ToldNotes, ToldStream};
 use usage::usage_of;
 
-#[cfg(test)]
-mod tests;
+mod standard;
+mod told;
 mod usage;
 
-/// The words behind those that name the program.
-fn words(rt: &(impl Env + AllocGlobal), names: usize) -> io::Result<Vec<String>> {
+/// The words behind the one that names the program.
+fn words(rt: &(impl Env + AllocGlobal)) -> io::Result<Vec<String>> {
     env::args(rt)?
-        .skip(names)
+        .skip(1)
         .collect(rt.alloc())
         .map_err(io::Error::from)
-}
-
-/// Takes the least numbers that are free for files: those of the standard streams that are closed, where some are.
-///
-/// A file or a socket that is opened while these stand gets another number, so that no standard stream reads or writes
-/// it.
-fn take_least_numbers(rt: &HostRuntime) -> [io::Result<File>; 3] {
-    [open_root(rt), open_root(rt), open_root(rt)]
-}
-
-fn open_root(rt: &HostRuntime) -> io::Result<File> {
-    OpenOptions::new().read(true).open(rt, "/")
 }
 
 /// Where a new file is made and none is found, its folder is wanting.
@@ -45,64 +34,99 @@ fn cause_of(error: io::Error, opening: Opening) -> io::Error {
 }
 
 /// Opens the file, where there is one. Where the system refuses, it says why.
-fn open_file(rt: &HostRuntime, path: Option<&str>, opening: Opening) -> FileDisk {
-    let Some(path) = path else {
-        return FileDisk::closed();
-    };
-    match FileDisk::open(rt, path, opening) {
-        Ok(disk) => disk,
-        Err(error) => {
-            tell_cause(
-                rt.alloc(),
-                &mut rt.stderr(),
-                path,
-                &cause_of(error, opening),
-            );
+fn open_file<'a>(
+    rt: &HostRuntime,
+    path: Option<&'a str>,
+    opening: Opening,
+    way_out: &'static str,
+) -> ToldFile<'a, Stderr> {
+    let file = match path.map(|path| FileDisk::open(rt, path, opening)) {
+        None => FileDisk::closed(),
+        Some(Ok(file)) => file,
+        Some(Err(error)) => {
+            let cause = cause_of(error, opening);
+            tell_cause(rt.alloc(), &mut rt.stderr(), path.unwrap_or(""), &cause);
             FileDisk::closed()
         }
-    }
-}
-
-/// Opens the file that the words' command is about, for what the command does with it, and the other one that it reads.
-/// Where the words are no command, it says how one is asked for.
-fn open_files(
-    rt: &HostRuntime,
-    command: Option<Command>,
-    words: &[String],
-) -> (FileDisk, FileDisk) {
-    let Some(command) = command else {
-        let _ = rt.stderr().write_all(usage_of(words).as_bytes());
-        return (FileDisk::closed(), FileDisk::closed());
     };
-    let (home, guest) = command.files(words);
-    let home = open_file(rt, home, command.opening());
-    let guest = if home.is_open() { guest } else { None };
-    (home, open_file(rt, guest, Opening::Reading))
+    ToldFile::new(file, path.unwrap_or(""), way_out, rt.alloc(), rt.stderr())
 }
 
-/// Removes the file where the command made it and could not finish. It is locked until the program ends.
-fn remove_unfinished(
-    rt: &HostRuntime,
-    command: Option<Command>,
-    words: &[String],
-    home: &FileDisk,
-    status: Status,
-) {
-    if status != Status::Done
-        && home.is_made()
-        && let Some(command) = command
-        && let (Some(path), _) = command.files(words)
-    {
-        let _ = fs::remove_file(rt, path);
+/// The file that the words' command is about, and the other one that it reads.
+fn paths(command: Option<Command>, words: &[String]) -> (Option<&str>, Option<&str>) {
+    match command {
+        Some(command) => command.files(words),
+        None => (None, None),
     }
 }
 
-/// Runs on the streams of the process, the files that the words name, and the network of this machine.
-fn run_on_process(rt: &HostRuntime, names: usize) -> Status {
-    let mut input = StdSource::new(rt.stdin());
-    let mut output = StdSink::new(rt.stdout());
+/// What the file that the command is about is opened for.
+fn opening_of(command: Option<Command>) -> Opening {
+    command.map_or(Opening::Reading, Command::opening)
+}
+
+/// What to do where the disk reports an error of the file that the command is about.
+fn way_out_of_home(command: Option<Command>) -> &'static str {
+    match opening_of(command) {
+        Opening::Creating => MAKE_ANOTHER,
+        Opening::Reading | Opening::Writing => MERGE_IT,
+    }
+}
+
+/// And of the other one that it reads.
+fn way_out_of_guest(command: Option<Command>) -> &'static str {
+    match command {
+        Some(Command::Revise) => COPY_IT,
+        _ => MERGE_IT,
+    }
+}
+
+/// A stream of the process, by its name.
+fn stream<S: Drop>(
+    rt: &HostRuntime,
+    stream: S,
+    name: &'static str,
+    is_closed: bool,
+) -> ToldStream<S, Stderr> {
+    ToldStream::new(stream, name, is_closed, rt.alloc(), rt.stderr())
+}
+
+/// Does what the words ask for on the streams of the process, the files that the words name, and the network of this
+/// machine. Where the words are no command, it says how one is asked for.
+fn obey(rt: &HostRuntime, words: &[String], held: &Held, hasher: RandomState) -> Status {
+    let command = read_words(words);
+    if command.is_none() {
+        let _ = rt.stderr().write_all(usage_of(words).as_bytes());
+    }
+    let (path, other) = paths(command, words);
+    let mut home = open_file(rt, path, opening_of(command), way_out_of_home(command));
+    let other = if home.file().is_open() { other } else { None };
+    let mut guest = open_file(rt, other, Opening::Reading, way_out_of_guest(command));
+    let status = run(
+        rt.alloc(),
+        words,
+        &mut StdSource::new(stream(rt, rt.stdin(), "standard input", held.input.is_some())),
+        &mut StdSink::new(stream(rt, rt.stdout(), "standard output", held.output.is_some())),
+        &mut StdSink::new(ToldNotes::new(rt.stderr(), path.unwrap_or(""), rt.alloc())),
+        &mut home,
+        &mut guest,
+        &mut TcpWire::new(*rt, rt.stderr()),
+        &mut TcpDock::new(*rt, rt.stderr()),
+        hasher,
+    );
+    if let Some(path) = path {
+        home.file().remove_unfinished(rt, path);
+    }
+    status
+}
+
+/// Runs on the process.
+fn run_on_process(rt: &HostRuntime) -> Status {
     let mut notes = StdSink::new(rt.stderr());
-    let words = match words(rt, names) {
+    let Ok(held) = hold_closed(rt) else {
+        return tell(&mut notes, Refusal::Outside);
+    };
+    let words = match words(rt) {
         Ok(words) => words,
         Err(error) if error.kind() == ErrorKind::OutOfMemory => {
             return tell(&mut notes, Refusal::NoMemory);
@@ -113,28 +137,9 @@ fn run_on_process(rt: &HostRuntime, names: usize) -> Status {
     let Ok(hasher) = RandomState::new(rt) else {
         return tell(&mut notes, Refusal::Outside);
     };
-    let taken = take_least_numbers(rt);
-    let command = read_words(&words);
-    let (mut home, mut guest) = open_files(rt, command, &words);
-    let mut wire = TcpWire::new(*rt, rt.stderr());
-    let mut dock = TcpDock::new(*rt, rt.stderr());
-    let status = run(
-        rt.alloc(),
-        &words,
-        &mut input,
-        &mut output,
-        &mut notes,
-        &mut home,
-        &mut guest,
-        &mut wire,
-        &mut dock,
-        hasher,
-    );
-    remove_unfinished(rt, command, &words, &home, status);
-    drop(taken);
-    status
+    obey(rt, &words, &held, hasher)
 }
 
 fn main(rt: HostRuntime) -> ExitCode {
-    ExitCode::from(run_on_process(&rt, 1).code())
+    ExitCode::from(run_on_process(&rt).code())
 }

@@ -3,6 +3,7 @@ ghost use Rattle.std.specs.Prelude.{◌≡◌, length, IsErr, IsTrue};
 ghost use Rattle.std.specs.Io.{ReadsAtMost, WritesAtMost};
 ghost use Rattle.std.specs.Io.KnownBytes.{ReadConsumes, WriteAppends};
 
+use std::fs::{self, File, Files, Metadata};
 use std::io::{self, ErrorKind, Read, Write};
 use std::os::unix::fs::FileExt;
 
@@ -50,6 +51,28 @@ pub(crate) fn read_at<F: FileExt>(file: &F, buf: &mut [u8], at: u64) -> io::Resu
         }
     }
     file.read_at(buf, at)
+}
+
+/// Asks once what a path leads to without an interruption.
+pub(crate) fn metadata<R: Files>(files: &R, path: &str) -> io::Result<Metadata> {
+    'calls: for _ in 1..MOST_CALLS {
+        let given = fs::metadata(files, path);
+        if !is_interrupted(&given) {
+            return given;
+        }
+    }
+    fs::metadata(files, path)
+}
+
+/// Asks once what is open without an interruption.
+pub(crate) fn metadata_of(file: &File) -> io::Result<Metadata> {
+    'calls: for _ in 1..MOST_CALLS {
+        let given = file.metadata();
+        if !is_interrupted(&given) {
+            return given;
+        }
+    }
+    file.metadata()
 }
 
 fn is_interrupted<T>(given: &io::Result<T>) -> bool

@@ -1,17 +1,27 @@
-//! Why the system refused something, in a line beside the notes.
+//! Why the system refused something, or what to do, in a line beside the notes.
 
 use itoa::Buffer;
 use std::alloc::Global;
+use std::fmt;
 use std::io::{self, ErrorKind, Write};
 
-/// Writes the line `manuscript: NAME: REASON`, in one piece. A line for which there is no memory, or which is not
-/// taken, is left out: the notes and the status tell the failure too.
+/// Writes the line `manuscript: NAME: REASON`.
 pub fn tell_cause<W: Write>(alloc: Global, errors: &mut W, name: &str, error: &io::Error) {
-    let line = match words_of(error.kind()) {
-        Some(reason) => format!(in alloc; "manuscript: {name}: {reason}\n"),
-        None => format!(in alloc; "manuscript: {name}: {error}\n"),
-    };
-    if let Ok(line) = line {
+    match words_of(error.kind()) {
+        Some(reason) => tell_line(alloc, errors, name, reason),
+        None => tell_line(alloc, errors, name, error),
+    }
+}
+
+/// Writes the line in one piece. One for which there is no memory, or which is not taken, is left out: the notes and the
+/// status tell the failure too.
+pub fn tell_line<W: Write, T: fmt::Display + Drop>(
+    alloc: Global,
+    errors: &mut W,
+    name: &str,
+    what: T,
+) {
+    if let Ok(line) = format!(in alloc; "manuscript: {name}: {what}\n") {
         let _ = errors.write_all(line.as_bytes());
     }
 }

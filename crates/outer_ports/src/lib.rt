@@ -19,7 +19,7 @@ mod sure_source;
 mod watch;
 mod wire;
 
-pub use causes::tell_cause;
+pub use causes::{tell_cause, tell_line};
 pub use disk::{
     Disk, FileDisk, MemDisk, Opening, Pick, SureDisk, disks_stay_honest, spans_join,
     sync_brings_none,

@@ -1,14 +1,14 @@
-ghost use Rattle.std.specs.Prelude.{◌≡◌, ◌↔◌, None, IfOk, IsErr, IsFalse, IsSome, IsTrue};
+ghost use Rattle.std.specs.Prelude.{◌≡◌, ◌≢◌, ◌↔◌, ◌⊎◌, None, IfOk, IsErr, IsFalse, IsSome, IsTrue};
 ghost use Rattle.outer_ports.specs.Counts.{CountsFaults};
 ghost use Rattle.outer_ports.specs.disk.Disks.{Sizes, ReadsAt, WritesAt, Syncs};
-ghost use Rattle.outer_ports.specs.declared.disk.file_disk.Opening.TheVariants.{Creating};
+ghost use Rattle.outer_ports.specs.declared.disk.file_disk.Opening.TheVariants.{Creating, Reading};
 
 use crate::faults::Faults;
 use crate::{Disk, again};
 use fugue_ids::Failed;
 use std::fs::{self, File, Files, OpenFile, OpenOptions};
 use std::io::{self, ErrorKind};
-use std::os::unix::fs::FileExt;
+use std::os::unix::fs::{FileExt, MetadataExt};
 
 /// What a file is opened for. A lock is taken at once or not at all.
 #[derive(Clone, Copy, Debug, PartialEq, Eq)]
@@ -28,12 +28,14 @@ pub struct FileDisk {
     file: Option<File>,
     opening: Opening,
     is_made: bool,
+    has_failed_write: bool,
+    has_failed_sync: bool,
     faults: Faults,
 }
 
 impl FileDisk {
-    /// Opens the file, and locks it where it is opened for more than to read. Only a regular file is opened: what else
-    /// stands there, a pipe for one, could keep the call waiting.
+    /// Opens the file, and locks it where it is opened for more than to read: the path leads to the file that is locked.
+    /// Only a regular file is opened: what else stands there, a pipe for one, could keep the call waiting.
     pub fn open<R: Files<File = File>>(
         files: &R,
         path: &str,
@@ -42,18 +44,23 @@ impl FileDisk {
         ensures seen { IfOk result
             (λ disk. ⟦<FileDisk as Disk>⟧.seen disk ≡ record { past = None; faults = 0; room = None }) }
         ensures made { IfOk result (λ disk. IsTrue disk.is_made → opening ≡ Creating) }
+        ensures opening { IfOk result (λ disk. disk.opening ≡ opening) }
+        ensures written { IfOk result (λ disk. IsFalse disk.has_failed_write) }
+        ensures synced { IfOk result (λ disk. IsFalse disk.has_failed_sync) }
     {
         let (file, is_made) = match opening {
             Opening::Creating => create_file(files, path)?,
             Opening::Reading | Opening::Writing => (open_file(files, path, opening)?, false),
         };
         if opening != Opening::Reading {
-            lock_file(files, path, &file, is_made)?;
+            lock_file(files, path, &file)?;
         }
         Ok(FileDisk {
             file: Some(file),
             opening,
             is_made,
+            has_failed_write: false,
+            has_failed_sync: false,
             faults: Faults::none(),
         })
     }
@@ -63,11 +70,15 @@ impl FileDisk {
         ensures file { result.file ≡ None }
         ensures seen { ⟦<FileDisk as Disk>⟧.seen result ≡ record { past = None; faults = 0; room = None } }
         ensures made { IsFalse result.is_made }
+        ensures written { IsFalse result.has_failed_write }
+        ensures synced { IsFalse result.has_failed_sync }
     {
         FileDisk {
             file: None,
             opening: Opening::Reading,
             is_made: false,
+            has_failed_write: false,
+            has_failed_sync: false,
             faults: Faults::none(),
         }
     }
@@ -79,11 +90,30 @@ impl FileDisk {
         self.file.is_some()
     }
 
-    /// Whether the file was not there before it was opened.
-    pub fn is_made(&self) -> bool
-        ensures { result ≡ self.now.is_made }
+    /// Whether a sync of the file failed: what is read may then be in memory alone.
+    pub fn has_failed_sync(&self) -> bool
+        ensures { result ≡ self.now.has_failed_sync }
     {
-        self.is_made
+        self.has_failed_sync
+    }
+
+    /// Whether the file was not there before it was opened, and a write or a sync of it failed since.
+    pub fn is_unfinished(&self) -> bool
+        ensures { IsTrue result
+            ↔ (IsTrue self.now.is_made × (IsTrue self.now.has_failed_write ⊎ IsTrue self.now.has_failed_sync)) }
+    {
+        self.is_made && (self.has_failed_write || self.has_failed_sync)
+    }
+
+    /// Removes the file that the path leads to, where it is this one and is unfinished. It is locked, so that nobody
+    /// else has saved to it.
+    pub fn remove_unfinished<R: Files<File = File>>(&self, files: &R, path: &str) {
+        if self.is_unfinished()
+            && let Some(file) = &self.file
+            && let Ok(true) = leads_to(files, path, file)
+        {
+            let _ = fs::remove_file(files, path);
+        }
     }
 }
 
@@ -97,33 +127,47 @@ fn create_file<R: Files<File = File>>(files: &R, path: &str) -> io::Result<(File
     match made {
         Ok(file) => Ok((file, true)),
         Err(error) if error.kind() == ErrorKind::AlreadyExists => {
-            Ok((open_file(files, path, Opening::Writing)?, false))
+            let file = open_file(files, path, Opening::Writing).map_err(not_led)?;
+            Ok((file, false))
         }
         Err(error) => Err(error),
     }
 }
 
-/// Locks the file. Where the system has no lock for it, one that was made here is removed again; where another program
-/// has locked it meanwhile, it stays.
-fn lock_file<R: Files<File = File>>(
-    files: &R,
-    path: &str,
-    file: &File,
-    is_made: bool,
-) -> io::Result<()> {
-    let locked = file.try_lock().map_err(io::Error::from);
-    if let Err(error) = &locked
-        && is_made
-        && error.kind() != ErrorKind::WouldBlock
-    {
-        let _ = fs::remove_file(files, path);
+/// Where a name is taken and no file is found, it is that of a link.
+fn not_led(error: io::Error) -> io::Error {
+    if error.kind() == ErrorKind::NotFound {
+        io::Error::other("a link that leads nowhere")
+    } else {
+        error
     }
-    locked
+}
+
+/// Locks the file. Where the path leads to another one by now, another program has removed or replaced it meanwhile.
+fn lock_file<R: Files<File = File>>(files: &R, path: &str, file: &File) -> io::Result<()> {
+    file.try_lock().map_err(io::Error::from)?;
+    if leads_to(files, path, file)? {
+        Ok(())
+    } else {
+        Err(io::Error::from(ErrorKind::WouldBlock))
+    }
+}
+
+/// Whether the path leads to the file.
+fn leads_to<R: Files<File = File>>(files: &R, path: &str, file: &File) -> io::Result<bool> {
+    let open = again::metadata_of(file)?;
+    match again::metadata(files, path) {
+        Ok(named) => {
+            Ok(open.nlink() > 0 && named.dev() == open.dev() && named.ino() == open.ino())
+        }
+        Err(error) if error.kind() == ErrorKind::NotFound => Ok(false),
+        Err(error) => Err(error),
+    }
 }
 
 /// Opens the regular file that is there.
 fn open_file<R: Files<File = File>>(files: &R, path: &str, opening: Opening) -> io::Result<File> {
-    let metadata = fs::metadata(files, path)?;
+    let metadata = again::metadata(files, path)?;
     if metadata.is_dir() {
         return Err(io::Error::from(ErrorKind::IsADirectory));
     }
@@ -155,38 +199,54 @@ impl Disk for FileDisk {
         ensures reads { ReadsAt (⟦<FileDisk as Disk>⟧.seen self.old) (⟦<FileDisk as Disk>⟧.seen self.new)
             result at buf.new }
         ensures faults { CountsFaults self.old.faults self.new.faults result }
-        ensures others { self.new ≡ record self.old { faults = self.new.faults } }
+        ensures others { self.new
+            ≡ record self.old { faults = self.new.faults; has_failed_sync = self.new.has_failed_sync } }
+        ensures synced { self.new.has_failed_sync ≢ self.old.has_failed_sync
+            → (self.old.opening ≡ Reading) × IsTrue self.new.has_failed_sync × IsErr result }
         ensures missing { self.old.file ≡ None → IsErr result }
     {
-        self.faults.pass(match &self.file {
+        let given = self.faults.pass(match &self.file {
             Some(file) => again::read_at(file, buf, at),
             None => Err(not_open()),
-        })
+        })?;
+        // Who has no lock may have read what another program has not synced yet.
+        if self.opening == Opening::Reading {
+            self.sync()?;
+        }
+        Ok(given)
     }
 
     fn write_at(&mut self, at: u64, bytes: &[u8]) -> Result<(), Failed>
         ensures writes { WritesAt (⟦<FileDisk as Disk>⟧.seen self.old) (⟦<FileDisk as Disk>⟧.seen self.new)
             result at bytes.now }
         ensures faults { CountsFaults self.old.faults self.new.faults result }
-        ensures others { self.new ≡ record self.old { faults = self.new.faults } }
+        ensures others { self.new
+            ≡ record self.old { faults = self.new.faults; has_failed_write = self.new.has_failed_write } }
+        ensures written { IsTrue self.new.has_failed_write ↔ (IsTrue self.old.has_failed_write ⊎ IsErr result) }
         ensures missing { self.old.file ≡ None → IsErr result }
     {
-        self.faults.pass(match &self.file {
+        let given = self.faults.pass(match &self.file {
             Some(file) => file.write_all_at(bytes, at),
             None => Err(not_open()),
-        })
+        });
+        self.has_failed_write |= given.is_err();
+        given
     }
 
     fn sync(&mut self) -> Result<(), Failed>
         ensures syncs { Syncs (⟦<FileDisk as Disk>⟧.seen self.old) (⟦<FileDisk as Disk>⟧.seen self.new) result }
         ensures faults { CountsFaults self.old.faults self.new.faults result }
-        ensures others { self.new ≡ record self.old { faults = self.new.faults } }
+        ensures others { self.new
+            ≡ record self.old { faults = self.new.faults; has_failed_sync = self.new.has_failed_sync } }
+        ensures synced { IsTrue self.new.has_failed_sync ↔ (IsTrue self.old.has_failed_sync ⊎ IsErr result) }
         ensures missing { self.old.file ≡ None → IsErr result }
     {
-        self.faults.pass(match &self.file {
+        let given = self.faults.pass(match &self.file {
             Some(file) => sync_file(file, self.opening),
             None => Err(not_open()),
-        })
+        });
+        self.has_failed_sync |= given.is_err();
+        given
     }
 }
 
@@ -208,7 +268,7 @@ fn is_unable(kind: ErrorKind) -> bool {
 }
 
 fn length_of(file: &File) -> io::Result<u64> {
-    Ok(file.metadata()?.len())
+    Ok(again::metadata_of(file)?.len())
 }
 
 /// Why a call on a file that could not be opened fails.

@@ -14,7 +14,7 @@ use std::alloc::Global;
 use std::marker::Model;
 
 /// What is to come in at a dock in memory, with the number of its session.
-#[derive(Debug, Drop)]
+#[derive(Drop)]
 pub enum MemStep {
     Opened(u32),
     Bytes(u32, ByteList),
