@@ -163,7 +163,7 @@ class Trial:
             assert self.file.read_bytes() == before, "a refused draft was saved"
             return "refused"
         assert ran.returncode == 0 and ran.stderr.startswith(b"made "), f"{ran.returncode}, {ran.stderr!r}"
-        form = reader.form(parts)
+        form = printed if parts is None else reader.form(parts)
         assert self.must("arrange", self.file) == form, "it is not what arrange prints"
         if form == printed:
             assert ran.stderr == b"made 0\n" and self.file.read_bytes() == before, "something was written for no change"

@@ -107,7 +107,7 @@ fn load_and_save<F, T: Gives<F>, H: Disk>(
     let (mut replica, end) = load_file(alloc, home)?;
     let mut kept = Kept::copied(alloc);
     let saved = give_and_save(alloc, giver, from, &mut replica, end, home, &mut kept);
-    drop(replica);
+    replica.discard();
     saved
 }
 

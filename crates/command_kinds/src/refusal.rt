@@ -15,10 +15,9 @@ use op_frame::FrameFault;
 use relay_sync::{ServeFault, SyncFault};
 use replica_core::FeedFault;
 use replica_file::{AppendFault, CreateFault, LoadFault};
-use std::fmt;
 
 /// Why a command did not do all: every cause that there is, with the number that is told.
-#[derive(Clone, Copy, Debug, PartialEq, Eq)]
+#[derive(Clone, Copy)]
 pub enum Refusal {
     Words,
     /// No frame stands at the offset, and the bytes there begin none.
@@ -61,10 +60,10 @@ pub enum Refusal {
     StampsSpent,
     /// The text that a draft was written from is another than what is shown, from this byte on, counted from 0.
     BaseDiffers(u64),
-    /// The text of the section of this number in the arrangement, counted from 1, has a line that would be a heading.
-    HeadingInText(u64),
     /// The line of a draft, counted from 1, is not UTF-8, is a heading with no title, or is the first and no heading.
     BadDraft(u64),
+    /// The draft has nothing, and sections are shown.
+    EmptyDraft,
     /// The section has fewer characters.
     OutOfRange,
     /// The file has no version of this name.
@@ -138,16 +137,12 @@ impl Refusal {
                 "base differs at byte ",
                 Detail::Number(at),
             ),
-            Self::HeadingInText(section) => Row(
-                Status::BadInput,
-                "heading in section ",
-                Detail::Number(section),
-            ),
             Self::BadDraft(line) => Row(
                 Status::BadInput,
                 "bad draft at line ",
                 Detail::Number(line),
             ),
+            Self::EmptyDraft => Row(Status::BadInput, "empty draft", Detail::Nothing),
             Self::OutOfRange => Row(Status::BadInput, "out of range", Detail::Nothing),
             Self::NoVersion(name) => Row(Status::BadInput, "no version ", Detail::Name(name)),
             Self::Outside => Row(Status::OutsideFault, "outside fault", Detail::Nothing),
@@ -268,18 +263,6 @@ impl From<NoMemory> for Refusal {
 
     fn from(_: NoMemory) -> Refusal {
         Refusal::NoMemory
-    }
-}
-
-impl fmt::Display for Refusal {
-    fn fmt<W: fmt::Write>(&self, f: &mut fmt::Formatter<W>) -> fmt::Result {
-        let Row(_, words, detail) = self.row();
-        f.write_str(words)?;
-        match detail {
-            Detail::Nothing => Ok(()),
-            Detail::Number(number) => write!(f, "{number}"),
-            Detail::Name(name) => write!(f, "{name}"),
-        }
     }
 }
 

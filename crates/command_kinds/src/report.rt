@@ -48,7 +48,7 @@ pub fn write_report<R: Report, O: Sink, N: Sink, H: Disk>(
     match load_file(alloc, home) {
         Ok((replica, _)) => {
             let status = write_held(alloc, what, &replica, output, notes);
-            drop(replica);
+            replica.discard();
             status
         }
         Err(why) => tell(notes, why),

@@ -31,7 +31,7 @@ pub fn show<S: Source, O: Sink, N: Sink>(
 {
     let mut replica = new_reader(alloc, hold);
     let status = show_by(alloc, &mut replica, input, output, notes);
-    drop(replica);
+    replica.discard();
     status
 }
 

@@ -1,11 +1,10 @@
 ghost use Rattle.std.specs.Prelude.{◌≡◌, ◌↔◌, ◌<◌, ◌≤◌, length, IfSome, IsNone};
 ghost use Rattle.command_kinds.specs.Refusal.{kept_name, name_bytes};
 
-use std::fmt;
 use version_views::LONGEST_NAME;
 
 /// The name of a version as a refusal keeps it, so that it is copied: at most 120 bytes, and zeros behind them.
-#[derive(Clone, Copy, Debug, PartialEq, Eq)]
+#[derive(Clone, Copy)]
 pub struct VersionName {
     bytes: [u8; LONGEST_NAME],
     length: usize,
@@ -35,14 +34,5 @@ impl VersionName {
         ensures few { length result.now ≤ LONGEST_NAME }
     {
         &self.bytes[..self.length.min(LONGEST_NAME)]
-    }
-}
-
-impl fmt::Display for VersionName {
-    fn fmt<W: fmt::Write>(&self, f: &mut fmt::Formatter<W>) -> fmt::Result {
-        match std::str::from_utf8(self.as_bytes()) {
-            Ok(name) => f.write_str(name),
-            Err(_) => Err(fmt::Error),
-        }
     }
 }

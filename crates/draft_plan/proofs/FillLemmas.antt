@@ -1,5 +1,5 @@
 -- A section that gets the title and the text of a part.
-use Rattle.std.proofs.Common.{Bool, List, [], ap, arith, inl, inr, length, refl, subst, sym, ℕ, ◌+◌, ◌∙◌, ◌∷◌, ◌≡◌, ◌≢◌, ◌⊎◌}
+use Rattle.std.proofs.Common.{Bool, List, [], ap, arith, inl, inr, length, refl, subst, sym, ℕ, ◌+◌, ◌∙◌, ◌∷◌, ◌≡◌, ◌≢◌}
 use Rattle.std.specs.Prelude.{Err, None, Ok, Some, ◌↔◌, filter, slice_get}
 use Rattle.std.specs.Str.{IsUtf8, chars, encode_utf8_all}
 use Rattle.std.proofs.lemmas.Str.{encodes-chars}
@@ -33,8 +33,9 @@ use Rattle.draft_plan.specs.Drafts.{Part}
 use Rattle.draft_plan.specs.Plain.{arranged_part}
 use Rattle.draft_plan.specs.Revision.{StopsAtLimit, retitles_of}
 use Rattle.draft_plan.specs.Shaping.{ChangesOnly, IsFilled, IsHeadedBy, SameSection}
-use Rattle.draft_plan.specs.Texts.{EditsText, IsRevised, KeepsCommon, KeepsElements, StopsRevising}
+use Rattle.draft_plan.specs.Texts.{CountsHunks, EditsText, IsRevised, KeepsCommon, KeepsElements, StopsRevising}
 use Rattle.draft_plan.proofs.ChangeLemmas.{changed_retitle, stops_note, stops_weaker}
+use Rattle.draft_plan.proofs.KeptLemmas.{common_earlier}
 use Rattle.draft_plan.proofs.MakingLemmas.{AnyChange, makes_join, makes_none, makes_one, stops_behind}
 use Rattle.draft_plan.proofs.SectionLemmas.{text_kept}
 use Rattle.draft_plan.proofs.ShapeLemmas.{got, history_is, note_limit, same_join, same_none, section_there}
@@ -117,7 +118,7 @@ headed_stops old new k x title why placed unmade tells refuses = record {
 pub record IsTextRevised (mid new : State) (k : ℕ) (x : Identifier) (bytes : List ℕ) (m : ℕ) : Type 0 where
   pub utf8 : IsUtf8 bytes
   pub revised : OfSection mid k (λ y. IsRevised mid new k y (chars bytes) m)
-  pub keeps : OfSection mid k (λ y. KeepsElements mid new y)
+  pub keeps : OfSection mid k (λ y. CountsHunks mid new y m)
   pub same : OfSection mid k (λ y. encode_utf8_all (text mid.held.history y) ≡ bytes → (m ≡ 0) × (new ≡ mid))
 
 -- of the section that is shown there
@@ -149,9 +150,10 @@ module _ (old mid new : State) (k n m : ℕ) (x : Identifier) (title bytes : Lis
 
   kept : KeepsElements old new x
   kept =
-      let one : KeepsElements mid new x = at_section (λ y. KeepsElements mid new y) mid k x shown_there tx.keeps in
-      subst (λ t. KeepsCommon t (text new.held.history x) (shown (within x) old.held.history) (shown (within x) new.held.history)) hd.reads
-      (subst (λ l. KeepsCommon (text mid.held.history x) (text new.held.history x) l (shown (within x) new.held.history)) hd.elements one)
+      let one : KeepsElements mid new x = (at_section (λ y. CountsHunks mid new y m) mid k x shown_there tx.keeps).0 in
+      common_earlier old mid n hd.makes _ _ _ _
+      (subst (λ t. KeepsCommon mid.held.history t (text new.held.history x) (shown (within x) old.held.history) (shown (within x) new.held.history)) hd.reads
+      (subst (λ l. KeepsCommon mid.held.history (text mid.held.history x) (text new.held.history x) l (shown (within x) new.held.history)) hd.elements one))
 
   same_text : text new.held.history x ≡ text old.held.history x → shown (within x) new.held.history ≡ shown (within x) old.held.history
   same_text e =

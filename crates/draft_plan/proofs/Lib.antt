@@ -6,9 +6,9 @@ pub mod PlainLemmas
 pub mod DifferenceLemmas
 pub mod ChangeLemmas
 pub mod ArrangementLemmas
+pub mod NewLemmas
 pub mod TextLemmas
 pub mod HunkLemmas
-pub mod CommonEndLemmas
 pub mod KeptLemmas
 pub mod ReviseLemmas
 pub mod SectionLemmas
@@ -17,5 +17,8 @@ pub mod ShapeLemmas
 pub mod FillLemmas
 pub mod RevisionLemmas
 pub mod OutlineLemmas
-pub mod HeadingLemmas
-pub mod CountLemmas
+pub mod ResizingLemmas
+pub mod TargetLemmas
+pub mod ArrangingLemmas
+pub mod KeepingLemmas
+pub mod ShownLemmas

@@ -15,7 +15,7 @@ use Rattle.catalogue_notes.proofs.ArrangedLemmas.{arranged_length}
 use Rattle.draft_plan.specs.Drafts.{Part}
 use Rattle.draft_plan.specs.Plain.{arranged_part, arranged_parts}
 use Rattle.draft_plan.specs.Readings.{seen_part}
-use Rattle.draft_plan.specs.declared.part.Part.{Part as ReadPart}
+use Rattle.section_plan.specs.declared.part.Part.{Part as ReadPart}
 
 pub outline_long : (h : List Op) (es : List Entry) → IsOutline h es → length es ≡ length (arranged h)
 outline_long h es o = sym (length-map es (λ (e : Entry). e.section)) ∙ ap length o.listed

@@ -1,11 +1,10 @@
 -- The text of a section, revised hunk by hunk.
 use Rattle.std.proofs.Common.{List, [], ap, arith, drop, get_or, length, nat_eq, refl, subst, sym, take, ℕ, ◌+◌, ◌++◌, ◌-◌, ◌<◌, ◌≤◌, ◌∙◌, ◌∷◌, ◌≡◌}
-use Rattle.std.specs.Prelude.{Err, IfOk, None, Ok, OnOk, Option, Result, Some, option_map}
+use Rattle.std.specs.Prelude.{All, Err, IfOk, None, Ok, Option, Result, Some, option_map}
 use Rattle.std.specs.Str.{IsUtf8, chars, encode_utf8_all}
 use Rattle.std.proofs.lemmas.Option.{none-some, same_Some}
 use lib.Utf8.{encode}
 use Rattle.std.proofs.lemmas.List.{append-nil, drop_more, take_more}
-use Rattle.std.proofs.lemmas.List.Elements.{All-tail}
 use Rattle.std.proofs.lemmas.Str.{encodes-append, encodes-chars, encodes_same}
 use Rattle.fugue_ids.specs.Identifiers.{Identifier}
 use Rattle.fugue_ids.specs.declared.limits.TheConstants.{MOST_OPERATIONS}
@@ -17,12 +16,15 @@ use Rattle.origin_model.specs.edits.State.{Stands, State}
 use Rattle.origin_model.specs.operations.Verdict.{Lawful}
 use Rattle.origin_model.specs.order.Printed.{text}
 use Rattle.origin_model.proofs.edits.EditedTextLemmas.{text_length}
-use Rattle.text_diff.specs.Hunks.{IsTrimmed, Transforms, replaced}
+use Rattle.text_diff.specs.Hunks.{Transforms, replaced}
+use Rattle.text_diff.specs.Kept.{KeepsLines}
+use Rattle.text_diff.specs.Seams.{KeepsWords}
 use Rattle.text_diff.specs.declared.hunk.Hunk.{Hunk}
-use Rattle.draft_plan.specs.Revising.{AreHunksMade, EndsBy, IsHunkMade, IsWithinText, StaysAround, elements}
-use Rattle.draft_plan.specs.Texts.{IsRevised, KeepsCommon, KeepsElements, StopsEditing}
+use Rattle.draft_plan.specs.Revising.{AreHunksMade, IsHunkMade, IsWithinText, elements}
+use Rattle.draft_plan.specs.Texts.{CountsHunks, IsRevised, KeepsCommon, StayBetween, StopsEditing, size}
 use Rattle.draft_plan.proofs.HunkLemmas.{AreOrdered, news_within, ordered_at, replaced_long, replaced_step}
-use Rattle.draft_plan.proofs.KeptLemmas.{same_common, stays_common, stays_more, stays_none}
+use Rattle.draft_plan.proofs.KeptLemmas.{same_common, size_more, size_within, stays_more}
+use Rattle.draft_plan.proofs.NewLemmas.{new_earlier}
 use Rattle.draft_plan.proofs.TextLemmas.{revised_few, revised_join, revised_none, revised_stops, still_there}
 
 same_section : (s : State) (k : ℕ) (x y : Identifier) → section_shown s k ≡ Some x → section_shown s k ≡ Some y → x ≡ y
@@ -36,7 +38,8 @@ hunks_none s k n hs new t e = (
   t.1,
   subst (λ (h : List Hunk). AreHunksMade s s k t.0 h new 0) (sym e) (record {
     revised = revised_none s k t.0;
-    stays = λ end l ends. stays_none (elements s t.0) end;
+    stays = refl;
+    count = refl;
   }),
 )
 
@@ -82,17 +85,18 @@ module _ (old mid : State) (k left made : ℕ) (hs : List Hunk) (new : List ℕ)
   next_news = news_within (text old.held.history t.0) new hs t.2 (left - 1) no_hunk (omega (arith, some, fits))
 
   -- it was made too
-  pub hunks_more : (now : State) (n : ℕ) → OfSection mid k (λ x. IsHunkMade mid now k x h new n) → OfSection old k (λ x. AreHunksMade old now k x (drop (left - 1) hs) new (made + n))
-  hunks_more now n next =
+  pub hunks_more : (now : State) (n : ℕ) → Lawful old.held.history → OfSection mid k (λ x. IsHunkMade mid now k x h new n) → OfSection old k (λ x. AreHunksMade old now k x (drop (left - 1) hs) new (made + n))
+  hunks_more now n w next =
       let one : IsHunkMade mid now k x h new n = subst (λ (y : Identifier). IsHunkMade mid now k y h new n) (same_section mid k next.0 x next.1 there) next.2 in
       let reads : spliced (text mid.held.history x) h.old_at h.old_len put ≡ replaced old_text new 0 (h ∷ back) =
       ap (λ r. spliced r h.old_at h.old_len put) done.2.revised.here ∙ replaced_step old_text new ordered.0 h back ordered.1 in
       let more : AreHunksMade old now k x (h ∷ back) new (made + n) = record {
         revised = subst (λ (r : List ℕ). IsRevised old now k x r (made + n)) reads
             (revised_join old mid now k x (replaced old_text new 0 back) (spliced (text mid.held.history x) h.old_at h.old_len put) made n done.2.revised one.revised);
-        stays = λ end l ends. subst (StaysAround h.old_at end (elements old x)) (sym one.shows)
-            (stays_more old_text (elements old x) (elements mid x) one.come ordered.0 end h back ordered.1 l ends
-            (done.2.stays end l (All-tail (EndsBy end) h back ends)));
+        stays = subst (λ (ys : List Identifier). StayBetween old.held.history 0 (elements old x) ys (h ∷ back)) (sym one.shows)
+            (stays_more old.held.history old_text (elements old x) (elements mid x) one.come ordered.0 h back (text_length old.held.history x w) ordered.1 one.as_many
+            (new_earlier old mid _ done.2.revised.changed.gained one.come one.fresh) done.2.stays);
+        count = omega (arith, done.2.count, one.count, size_more h back);
       } in
       (x, done.1, subst (λ (r : List Hunk). AreHunksMade old now k x r new (made + n)) (sym split) more)
 
@@ -145,15 +149,20 @@ module _ (old now : State) (k n : ℕ) (bytes new : List ℕ) (hs : List Hunk) (
   pub text_revised : OfSection old k (λ x. IsRevised old now k x new n)
   text_revised = (r.0, r.1, all_revised)
 
-  pub text_keeps : Lawful old.held.history → IsTrimmed nat_eq (chars bytes) new hs → (chars bytes ≡ new → ⊥) → OfSection old k (λ x. KeepsElements old now x)
-  text_keeps w trimmed other =
-      let kept : KeepsCommon (chars bytes) new (elements old r.0) (elements now r.0) =
-      stays_common (chars bytes) new (elements old r.0) (elements now r.0) hs (sym (ap length old_is) ∙ text_length old.held.history r.0 w) trimmed other e r.2.stays in (
+  -- the hunks, by what both texts are
+  abbrev Counts : (a b : List ℕ) → Type 0
+  Counts a b = (kept : KeepsCommon old.held.history a b (elements old r.0) (elements now r.0)) × (n ≡ size kept.hunks)
+
+  pub text_keeps : Transforms nat_eq (chars bytes) new hs → All (KeepsWords (chars bytes) new) hs → (chars bytes ≡ new → hs ≡ []) → KeepsLines (chars bytes) new hs → OfSection old k (λ x. CountsHunks old now x n)
+  text_keeps transforms words unchanged lines =
+      let kept : KeepsCommon old.held.history (chars bytes) new (elements old r.0) (elements now r.0) = record { hunks = hs; transforms = transforms; words = words; unchanged = unchanged; lines = λ other. lines; stays = r.2.stays } in (
         r.0,
         r.1,
-        subst (λ (o : List ℕ). KeepsCommon o (text now.held.history r.0) (elements old r.0) (elements now r.0)) (sym old_is)
-            (subst (λ (o : List ℕ). KeepsCommon (chars bytes) o (elements old r.0) (elements now r.0)) (sym all_revised.here) kept),
+        subst (λ (o : List ℕ). Counts o (text now.held.history r.0)) (sym old_is) (subst (Counts (chars bytes)) (sym all_revised.here) (kept, r.2.count)),
       )
+
+  pub text_few : Transforms nat_eq (chars bytes) new hs → OfSection old k (λ x. n ≤ length (text old.held.history x) + length new)
+  text_few transforms = (r.0, r.1, omega (arith, r.2.count, size_within (chars bytes) new hs transforms, ap length old_is))
 
 pub call_revised : (old now : State) (k : ℕ) (bytes new : List ℕ) (hs : List Hunk) (result : Result ℕ EditFault) → IsTextAt old k bytes → replaced (chars bytes) new 0 hs ≡ new
     → IfOk result (λ n. OfSection old k (λ x. AreHunksMade old now k x hs new n)) → IfOk result (λ n. OfSection old k (λ x. IsRevised old now k x new n))
@@ -161,17 +170,26 @@ call_revised old now k bytes new hs (Ok n) t e r = text_revised old now k n byte
 call_revised old now k bytes new hs (Err why) t e r = tt
 
 pub call_keeps : (old now : State) (k : ℕ) (bytes new : List ℕ) (hs : List Hunk) (result : Result ℕ EditFault) → IsTextAt old k bytes → replaced (chars bytes) new 0 hs ≡ new
-    → Lawful old.held.history → IsTrimmed nat_eq (chars bytes) new hs → (chars bytes ≡ new → ⊥)
-    → IfOk result (λ n. OfSection old k (λ x. AreHunksMade old now k x hs new n)) → OnOk result (OfSection old k (λ x. KeepsElements old now x))
-call_keeps old now k bytes new hs (Ok n) t e w trimmed other r = text_keeps old now k n bytes new hs t e r w trimmed other
-call_keeps old now k bytes new hs (Err why) t e w trimmed other r = tt
+    → Transforms nat_eq (chars bytes) new hs → All (KeepsWords (chars bytes) new) hs → (chars bytes ≡ new → hs ≡ []) → KeepsLines (chars bytes) new hs
+    → IfOk result (λ n. OfSection old k (λ x. AreHunksMade old now k x hs new n)) → IfOk result (λ n. OfSection old k (λ x. CountsHunks old now x n))
+call_keeps old now k bytes new hs (Ok n) t e transforms words unchanged lines r = text_keeps old now k n bytes new hs t e r transforms words unchanged lines
+call_keeps old now k bytes new hs (Err why) t e transforms words unchanged lines r = tt
+
+pub call_few : (old now : State) (k : ℕ) (bytes new : List ℕ) (hs : List Hunk) (result : Result ℕ EditFault) → IsTextAt old k bytes → replaced (chars bytes) new 0 hs ≡ new
+    → Transforms nat_eq (chars bytes) new hs → IfOk result (λ n. OfSection old k (λ x. AreHunksMade old now k x hs new n))
+    → IfOk result (λ n. OfSection old k (λ x. n ≤ length (text old.held.history x) + length new))
+call_few old now k bytes new hs (Ok n) t e transforms r = text_few old now k n bytes new hs t e r transforms
+call_few old now k bytes new hs (Err why) t e transforms r = tt
 
 -- the text is the same
 pub text_same : (s : State) (k : ℕ) (bytes : List ℕ) → IsTextAt s k bytes → OfSection s k (λ x. IsRevised s s k x (chars bytes) 0)
 text_same s k bytes t = (t.section, t.shown, subst (λ (r : List ℕ). IsRevised s s k t.section r 0) t.is (revised_none s k t.section))
 
-pub text_kept : (s : State) (k : ℕ) (bytes : List ℕ) → Lawful s.held.history → IsTextAt s k bytes → OfSection s k (λ x. KeepsElements s s x)
-text_kept s k bytes w t = (t.section, t.shown, same_common (text s.held.history t.section) (elements s t.section) (text_length s.held.history t.section w))
+pub text_kept : (s : State) (k : ℕ) (bytes : List ℕ) → IsTextAt s k bytes → OfSection s k (λ x. CountsHunks s s x 0)
+text_kept s k bytes t = (t.section, t.shown, same_common s.held.history (text s.held.history t.section) (elements s t.section))
+
+pub text_none_made : (s : State) (k : ℕ) (bytes new : List ℕ) → IsTextAt s k bytes → OfSection s k (λ x. 0 ≤ length (text s.held.history x) + length new)
+text_none_made s k bytes new t = (t.section, t.shown, omega arith)
 
 -- the text is another
 pub text_other : (old now : State) (k n : ℕ) (bytes new : List ℕ) → IsTextAt old k bytes → (bytes ≡ new → ⊥)

@@ -1,5 +1,5 @@
 -- Sections that get the titles and the texts of parts, one after another.
-use Rattle.std.proofs.Common.{List, [], add-one, ap, arith, get_or, inl, inr, length, map, refl, subst, sym, true, false, ℕ, ◌+◌, ◌<◌, ◌≤◌, ◌∙◌, ◌∷◌, ◌≡◌, ◌≢◌, ◌⊎◌}
+use Rattle.std.proofs.Common.{List, [], add-one, ap, arith, get_or, inl, inr, length, map, refl, subst, sym, true, ℕ, ◌+◌, ◌<◌, ◌≤◌, ◌∙◌, ◌∷◌, ◌≡◌, ◌≢◌}
 use Rattle.std.specs.Prelude.{Some, is_some, slice_get, slice_index_or}
 use Rattle.std.specs.Str.{encode_utf8_all}
 use Rattle.std.specs.List.{AllPairs, Contains}
@@ -18,18 +18,20 @@ use Rattle.catalogue_notes.proofs.ArrangedLemmas.{arranged_once, arranged_shown,
 use Rattle.catalogue_notes.proofs.PartLemmas.{get_some}
 use Rattle.draft_plan.specs.Drafts.{Part}
 use Rattle.draft_plan.specs.Plain.{arranged_part, arranged_parts}
-use Rattle.draft_plan.specs.Revision.{IsRevision, KeepsSection, MakesNothing}
+use Rattle.draft_plan.specs.Revision.{IsRevision, KeepsSection, Makes, MakesNothing}
 use Rattle.draft_plan.specs.Shaping.{AreFilled, IsAtPlace, IsFilled, IsShaped, SameSection}
 use Rattle.draft_plan.specs.Texts.{KeepsCommon}
+use Rattle.draft_plan.proofs.KeptLemmas.{common_earlier}
 use Rattle.draft_plan.proofs.MakingLemmas.{makes_join, makes_none}
 use Rattle.draft_plan.proofs.ShapeLemmas.{got, same_join, same_none}
 
 -- a section that was the same until then keeps what it keeps from then on
-keeps_after : (a b c : State) (s : Identifier) → SameSection a.held.history b.held.history s → KeepsSection b c s → KeepsSection a c s
-keeps_after a b c s first next = record {
+keeps_after : (a b c : State) (n : ℕ) (s : Identifier) → Makes a b n → SameSection a.held.history b.held.history s → KeepsSection b c s → KeepsSection a c s
+keeps_after a b c n s makes first next = record {
   elements =
-      subst (λ t. KeepsCommon t (text c.held.history s) (shown (within s) a.held.history) (shown (within s) c.held.history)) first.reads
-      (subst (λ l. KeepsCommon (text b.held.history s) (text c.held.history s) l (shown (within s) c.held.history)) first.elements next.elements);
+      common_earlier a b n makes _ _ _ _
+      (subst (λ t. KeepsCommon b.held.history t (text c.held.history s) (shown (within s) a.held.history) (shown (within s) c.held.history)) first.reads
+      (subst (λ l. KeepsCommon b.held.history (text b.held.history s) (text c.held.history s) l (shown (within s) c.held.history)) first.elements next.elements));
   same_text = λ e. next.same_text (e ∙ sym first.reads) ∙ first.elements;
   same_heading = λ e. next.same_heading (e ∙ sym first.headed) ∙ first.retitled;
 }
@@ -38,8 +40,8 @@ keeps_after a b c s first next = record {
 keeps_before : (a b c : State) (s : Identifier) → KeepsSection a b s → SameSection b.held.history c.held.history s → KeepsSection a c s
 keeps_before a b c s first next = record {
   elements =
-      subst (λ t. KeepsCommon (text a.held.history s) t (shown (within s) a.held.history) (shown (within s) c.held.history)) (sym next.reads)
-      (subst (λ l. KeepsCommon (text a.held.history s) (text b.held.history s) (shown (within s) a.held.history) l) (sym next.elements) first.elements);
+      subst (λ t. KeepsCommon a.held.history (text a.held.history s) t (shown (within s) a.held.history) (shown (within s) c.held.history)) (sym next.reads)
+      (subst (λ l. KeepsCommon a.held.history (text a.held.history s) (text b.held.history s) (shown (within s) a.held.history) l) (sym next.elements) first.elements);
   same_text = λ e. next.elements ∙ first.same_text (sym next.reads ∙ e);
   same_heading = λ e. next.retitled ∙ first.same_heading (sym next.headed ∙ e);
 }
@@ -79,7 +81,7 @@ module _ (start now new : State) (parts : List Part) (j n m : ℕ) (s : Identifi
   -- the section that is filled
   filled_here : IsAtPlace start new parts (j + 1) j s
   filled_here = (
-    (λ l. (f.reads ∙ is (arranged_part new.held.history s), keeps_after start now new s ((before.each j s here).1 (omega arith)) f.keeps)),
+    (λ l. (f.reads ∙ is (arranged_part new.held.history s), keeps_after start now new n s before.makes ((before.each j s here).1 (omega arith)) f.keeps)),
     λ l. absurd (omega (arith, l)),
   )
 
@@ -123,7 +125,7 @@ module _ (start now new : State) (parts : List Part) (j n m : ℕ) (s : Identifi
   }
 
 -- where a member of a list stands
-stands_at : (xs : List Identifier) (s : Identifier) → Contains xs s → (k : ℕ) × (slice_get xs k ≡ Some s)
+pub stands_at : (xs : List Identifier) (s : Identifier) → Contains xs s → (k : ℕ) × (slice_get xs k ≡ Some s)
 stands_at [] s m = absurd (contains_none s m)
 stands_at (x ∷ xs) s m =
     elim (contains_cases x xs s m) [
@@ -157,7 +159,7 @@ module _ (start new : State) (parts : List Part) (j n : ℕ) (w : Lawful start.h
   }
 
 -- what is shown is held
-shown_holds : (h : List Op) (s : Identifier) → Lawful h → Contains (shown catalogue h) s → holds h s ≡ true
+pub shown_holds : (h : List Op) (s : Identifier) → Lawful h → Contains (shown catalogue h) s → holds h s ≡ true
 shown_holds h s w m = ap is_some (shown_is h s w m).1
 
 -- sections were added, dropped and moved first
@@ -168,7 +170,7 @@ revised_shaped old mid new parts n m w first next = record {
   matched = λ s a b.
       let held : holds old.held.history s ≡ true = shown_holds old.held.history s w (arranged_shown old.held.history s a) in
       elim (next.came s b) [
-        | inl k ↦ keeps_after old mid new s (first.keeps.same s held) (next.matched s k b)
+        | inl k ↦ keeps_after old mid new n s first.makes (first.keeps.same s held) (next.matched s k b)
         | inr k ↦ absurd (true≢false (sym (first.keeps.held s held) ∙ k))
       ];
   came = λ s m.

@@ -1,5 +1,5 @@
 -- What one operation more leaves of the sections.
-use Rattle.std.proofs.Common.{List, ap, false, inl, inr, not, refl, sym, true, ◌&&◌, ◌||◌, ◌∙◌, ◌∷◌, ◌≡◌, ◌≢◌}
+use Rattle.std.proofs.Common.{List, ap, false, inl, inr, not, refl, sym, true, ◌&&◌, ◌||◌, ◌∙◌, ◌∷◌, ◌≡◌}
 use Rattle.std.specs.Prelude.{None, Some, filter, flat_map, is_some}
 use Rattle.std.specs.List.{Contains}
 use Rattle.fugue_ids.specs.Identifiers.{Identifier, id_eq}

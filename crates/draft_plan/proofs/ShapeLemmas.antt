@@ -1,5 +1,5 @@
 -- Sections added, dropped and moved.
-use Rattle.std.proofs.Common.{Bool, List, [], ap, arith, cond, drop, false, get_or, inl, inr, length, length-append, length-drop, nat_lt, refl, subst, suc, sym, take, true, zero, ℕ, ◌+◌, ◌++◌, ◌-◌, ◌<◌, ◌≤◌, ◌∙◌, ◌∷◌, ◌≡◌, ◌≢◌, ◌⊎◌}
+use Rattle.std.proofs.Common.{Bool, List, [], ap, arith, cond, drop, false, get_or, inl, inr, length, length-append, length-drop, nat_lt, refl, subst, suc, sym, take, true, zero, ℕ, ◌+◌, ◌++◌, ◌<◌, ◌≤◌, ◌∙◌, ◌∷◌, ◌≡◌, ◌≢◌, ◌⊎◌}
 use Rattle.std.specs.Prelude.{Err, None, Ok, Option, Some, slice_get}
 use Rattle.std.specs.List.{Contains}
 use Rattle.std.specs.Option.{option_or}
@@ -92,7 +92,7 @@ in_take xs n x m = subst (λ l. Contains l x) (take-append-drop n xs) (Contains-
 in_drop : (xs : List Identifier) (n : ℕ) (x : Identifier) → Contains (drop n xs) x → Contains xs x
 in_drop xs n x m = subst (λ l. Contains l x) (take-append-drop n xs) (Contains-append_right (take n xs) (drop n xs) x m)
 
-in_spliced : (xs new : List Identifier) (at n : ℕ) (x : Identifier) → Contains (spliced xs at n new) x → Contains xs x ⊎ Contains new x
+pub in_spliced : (xs new : List Identifier) (at n : ℕ) (x : Identifier) → Contains (spliced xs at n new) x → Contains xs x ⊎ Contains new x
 in_spliced xs new at n x m =
     elim (Contains-append_cases (take at xs ++ new) (drop (at + n) xs) x m) [
       | inl k ↦ elim (Contains-append_cases (take at xs) new x k) [ inl q ↦ inl (in_take xs at x q) | inr q ↦ inr q ]

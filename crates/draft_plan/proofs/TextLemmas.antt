@@ -1,9 +1,9 @@
 -- Cuts and puts in the text of one section, one after another.
-use Rattle.std.proofs.Common.{Bool, List, [], ap, arith, cond, drop, false, length, length-append, refl, subst, sym, take, true, ℕ, ◌+◌, ◌++◌, ◌≤◌, ◌∙◌, ◌∷◌, ◌≡◌, ◌≢◌}
+use Rattle.std.proofs.Common.{Bool, List, [], ap, arith, cond, drop, false, length, length-append, refl, subst, suc, sym, take, true, ℕ, ◌+◌, ◌++◌, ◌≤◌, ◌∙◌, ◌∷◌, ◌≡◌, ◌≢◌}
 use Rattle.std.specs.Prelude.{All, Option, Some, None, Ok, Err, slice_get}
 use Rattle.std.proofs.Math.Seq.{drop-append_seam, take-append_seam}
 use Rattle.std.proofs.lemmas.Bool.{le-ltb}
-use Rattle.std.proofs.lemmas.List.{append-nil, length-reverse, length-take-le}
+use Rattle.std.proofs.lemmas.List.{append-nil, length-drop, length-reverse, length-take-le}
 use Rattle.std.proofs.lemmas.List.Elements.{All-append, All-cons, All-nil}
 use Rattle.std.proofs.lemmas.Option.{none-some, same_Some}
 use Rattle.fugue_ids.specs.Identifiers.{Identifier}
@@ -12,22 +12,25 @@ use Rattle.fugue_ids.specs.declared.op.Op.{Op}
 use Rattle.origin_model.specs.declared.edit_fault.EditFault.{EditFault}
 use Rattle.origin_model.specs.declared.edit_fault.EditFault.TheVariants.{IdsSpent, NoMemory, OutOfRange, TooMany}
 use Rattle.origin_model.specs.declared.operations.Place.TheVariants.{Section as within}
-use Rattle.origin_model.specs.edits.Edits.{Command, Cut, Put, extended, spliced}
+use Rattle.origin_model.specs.edits.Edits.{Command, Cut, Put, extended, spliced, typed_ids}
 use Rattle.origin_model.specs.edits.Effect.{Gains, IsMade, LeavesUnmade, OfSection}
-use Rattle.origin_model.specs.edits.Refusal.{RefusesExactly, in_range, in_section, made_by, put_ids, refusal_message, refused_elements, refused_ops, section_shown, shown_count}
+use Rattle.origin_model.specs.edits.Refusal.{RefusesExactly, in_range, in_section, made_by, next_of_own, put_ids, refusal_message, refused_elements, refused_ops, section_shown, shown_count}
 use Rattle.origin_model.specs.edits.State.{Stands, State}
 use Rattle.origin_model.specs.operations.History.{accepted}
 use Rattle.origin_model.specs.operations.Verdict.{Lawful}
 use Rattle.origin_model.specs.order.Printed.{shown, text}
+use Rattle.origin_model.proofs.edits.AllowedLemmas.{allowed}
 use Rattle.origin_model.proofs.edits.CutLemmas.{cut_takes}
 use Rattle.origin_model.proofs.edits.EditedTextLemmas.{cut_erases, put_writes, text_length}
 use Rattle.origin_model.proofs.edits.PutLemmas.{put_lands}
+use Rattle.origin_model.proofs.edits.RefusalLemmas.{cut_count, put_count}
 use Rattle.text_diff.specs.declared.hunk.Hunk.{Hunk}
 use Rattle.draft_plan.specs.Changes.{Edit, all_made}
 use Rattle.draft_plan.specs.Revising.{IsHunkMade, IsLimit, IsWithinText, elements}
 use Rattle.draft_plan.specs.Texts.{EditsText, IsRevised, KeepsArrangement, StopsEditing}
 use Rattle.draft_plan.specs.declared.fault.ReviseFault.TheVariants as revise_fault
 use Rattle.draft_plan.proofs.ArrangementLemmas.{cut_keeps, put_keeps}
+use Rattle.draft_plan.proofs.NewLemmas.{new_earlier, put_new}
 use Rattle.draft_plan.proofs.ChangeLemmas.{changed_edit, changed_join, changed_none, count_join, count_one, stops_after, stops_edit, stops_first}
 
 -- the history after operations
@@ -173,9 +176,14 @@ in_elements s x end w l = omega (arith, l, text_length s.held.history x w)
 pub still_there : (old mid : State) (k : ℕ) (x : Identifier) (r : List ℕ) (n : ℕ) → IsRevised old mid k x r n → section_shown old k ≡ Some x → section_shown mid k ≡ Some x
 still_there old mid k x r n i e = ap (λ xs. slice_get xs k) i.keeps.sections ∙ e
 
-pub hunk_made : (old mid new : State) (k cut put : ℕ) (h : Hunk) (scalars chs : List ℕ) → IsWithinText old k (h.old_at + h.old_len) → chs ≡ take h.new_len (drop h.new_at scalars)
+-- as many identifiers are typed as letters
+typed_long : (replica c : ℕ) (chs : List ℕ) → length (typed_ids replica c chs) ≡ length chs
+typed_long replica c [] = refl
+typed_long replica c (ch ∷ chs) = ap suc (typed_long replica (suc c) chs)
+
+pub hunk_made : (old mid new : State) (k cut put : ℕ) (h : Hunk) (scalars chs : List ℕ) → IsWithinText old k (h.old_at + h.old_len) → h.new_at + h.new_len ≤ length scalars → chs ≡ take h.new_len (drop h.new_at scalars)
     → IsCutAndPut old mid new k h.old_at h.old_len cut put chs → OfSection old k (λ x. IsHunkMade old new k x h scalars (cut + put))
-hunk_made old mid new k cut put h scalars chs l is i =
+hunk_made old mid new k cut put h scalars chs l m is i =
     let at : ℕ = h.old_at in
     let n : ℕ = h.old_len in
     let x : Identifier = l.0 in
@@ -189,12 +197,16 @@ hunk_made old mid new k cut put h scalars chs l is i =
     let still : at ≤ length (elements mid x) = subst (λ (xs : List Identifier). at ≤ length xs) (sym left) (still_within (elements old x) at n here) in
     let next = put_revised mid new k at put chs x i.then_lawful there still i.puts i.put_made in
     let come : List Identifier = put_ids mid chs in
+    let long : length chs ≡ h.new_len = ap length is ∙ length-take-le h.new_len (drop h.new_at scalars) (omega (arith, m, length-drop h.new_at scalars)) in
     let reads : spliced (text mid.held.history x) at 0 chs ≡ spliced old_text at n (take h.new_len (drop h.new_at scalars)) =
     ap (λ t. spliced t at 0 chs) first.here ∙ spliced_again old_text chs at n whole ∙ ap (spliced old_text at n) is in (
       x,
       e,
       record {
         come = come;
+        as_many = typed_long mid.number (next_of_own mid) chs ∙ long;
+        fresh = new_earlier old mid _ first.changed.gained come (put_new mid chs);
+        count = omega (arith, i.cut_made.count, i.put_made.count, cut_count old k at n (allowed old (Cut k at n) cut i.cuts), put_count mid k at chs (allowed mid (Put k at chs) put i.puts), long);
         shows = put_shows mid new k at put chs x i.then_lawful there still i.puts i.put_made ∙ ap (λ xs. spliced xs at 0 come) left ∙ spliced_again (elements old x) come at n here;
         revised = subst (λ r. IsRevised old new k x r (cut + put)) reads
             (revised_join old mid new k x (spliced old_text at n []) (spliced (text mid.held.history x) at 0 chs) cut put first next);

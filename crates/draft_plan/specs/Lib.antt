@@ -9,3 +9,6 @@ pub mod Revision
 pub mod Revising
 pub mod Shaping
 pub mod Texts
+pub mod Arranging
+pub mod Resizing
+pub mod Keeping

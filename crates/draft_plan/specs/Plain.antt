@@ -1,5 +1,5 @@
 -- The shown sections of a history as they are arranged, as the parts of a draft.
-use Rattle.std.specs.Prelude.{◌≡◌, ℕ, true, Bool, not, Option, Ok, List, All, map, position}
+use Rattle.std.specs.Prelude.{◌≡◌, true, Bool, not, Ok, List, All, map}
 use Rattle.std.specs.List.{list_any}
 use Rattle.std.specs.Str.{encode_utf8_all, is_utf8}
 use Rattle.fugue_ids.specs.Identifiers.{Identifier}
@@ -20,10 +20,6 @@ arranged_parts h = map (arranged_part h) (arranged h)
 -- no shown text has a line that begins with a hash sign and a space
 abbrev pub plain : List Op → Bool
 plain h = not (list_any (λ p. has_heading p.text) (arranged_parts h))
-
--- the first section that has such a line, as they are arranged, from 0
-abbrev pub first_not_plain : List Op → Option ℕ
-first_not_plain h = position (λ p. has_heading p.text) (arranged_parts h)
 
 -- each heading is a title, and each text is one of Unicode scalar values
 abbrev pub HasTexts : List Op → Type 0

@@ -3,7 +3,7 @@ use Rattle.std.specs.Prelude.{◌≡◌, ◌⊎◌, ℕ, ◌<◌, ◌≤◌, nat
 use Rattle.std.specs.List.{join_with_byte}
 use Rattle.draft_plan.specs.Drafts.{Part, before_heading, is_bad, pieces}
 use Rattle.draft_plan.specs.Laws.{ends_part}
-use Rattle.draft_plan.specs.declared.part.Part.{Part as ReadPart}
+use Rattle.section_plan.specs.declared.part.Part.{Part as ReadPart}
 
 -- a part that was read
 abbrev pub seen_part : ReadPart → Part

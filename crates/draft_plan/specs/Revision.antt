@@ -1,5 +1,5 @@
 -- What revising a whole manuscript does to a replica.
-use Rattle.std.specs.Prelude.{◌≡◌, ◌≢◌, ◌⊎◌, ℕ, false, List, filter, length}
+use Rattle.std.specs.Prelude.{◌≡◌, ◌⊎◌, ℕ, false, List, filter, length}
 use Rattle.std.specs.List.{Contains}
 use Rattle.fugue_ids.specs.Identifiers.{Identifier, id_eq}
 use Rattle.fugue_ids.specs.declared.op.Op.{Op}
@@ -29,8 +29,9 @@ pub record Makes (old new : State) (n : ℕ) : Type 0 where
   pub changed : Changed old new changes
   pub count : n ≡ length (all_made old changes)
 
--- a section that is shown before and after keeps the elements in the common front and the common end of its text, so
--- all of them where the text is the same; where its heading is the same it has the retitles that it had
+-- of a section that is shown before and after the elements stay that stand between hunks from its old text to its new
+-- one, and what comes there is new: so all stay where the text is the same; where its heading is the same it has the
+-- retitles that it had
 pub record KeepsSection (old new : State) (section : Identifier) : Type 0 where
   pub elements : KeepsElements old new section
   pub same_text : text new.held.history section ≡ text old.held.history section

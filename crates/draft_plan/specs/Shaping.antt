@@ -1,5 +1,5 @@
 -- What adding, dropping and moving sections does to a replica, and what giving one a title and a text does.
-use Rattle.std.specs.Prelude.{◌≡◌, ◌≢◌, ◌⊎◌, ℕ, ◌<◌, ◌≤◌, true, false, List, Result, Ok, Err, Some, slice_get, slice_index_or}
+use Rattle.std.specs.Prelude.{◌≡◌, ◌≢◌, ◌⊎◌, ℕ, ◌<◌, ◌≤◌, true, false, List, Result, Ok, Err, None, Some, length, slice_get, slice_index_or}
 use Rattle.std.specs.List.{Contains}
 use Rattle.std.specs.Str.{encode_utf8_all}
 use Rattle.fugue_ids.specs.Identifiers.{Identifier}
@@ -9,6 +9,8 @@ use Rattle.origin_model.specs.edits.State.{State}
 use Rattle.origin_model.specs.operations.History.{holds}
 use Rattle.origin_model.specs.order.Printed.{shown, text}
 use Rattle.catalogue_notes.specs.Arranged.{arranged, heading}
+use Rattle.section_plan.specs.Matching.{section_of}
+use Rattle.section_plan.specs.declared.pairs.Pairs.{Pairs}
 use Rattle.draft_plan.specs.Drafts.{Part}
 use Rattle.draft_plan.specs.Plain.{arranged_part}
 use Rattle.draft_plan.specs.Revision.{KeepsSection, Makes, MakesNothing, StopsAtLimit, retitles_of}
@@ -36,6 +38,13 @@ pub record IsShaped (old new : State) (n : ℕ) : Type 0 where
 abbrev pub Shapes : (old new : State) → Result ℕ ReviseFault → Type 0
 Shapes old new (Ok n) = IsShaped old new n
 Shapes old new (Err why) = StopsAtLimit old new why
+
+-- so many sections are arranged: at a part's place stands the section that it is matched with, or, where there is none,
+-- one that was not held. Sections are counted as they were arranged
+pub record StandsAs (old new : List Op) (pairs : Pairs) (parts : ℕ) : Type 0 where
+  pub long : length (arranged new) ≡ parts
+  pub kept : (j i : ℕ) (s : Identifier) → section_of pairs j ≡ Some i → slice_get (arranged old) i ≡ Some s → slice_get (arranged new) j ≡ Some s
+  pub fresh : (j : ℕ) (s : Identifier) → section_of pairs j ≡ None → slice_get (arranged new) j ≡ Some s → holds old s ≡ false
 
 -- the same sections are shown and arranged as before, and all but this one are as they were
 pub record ChangesOnly (old new : List Op) (s : Identifier) : Type 0 where

@@ -1,6 +1,6 @@
 -- What revising the text of one section does to a replica.
-use Rattle.std.specs.Prelude.{◌≡◌, ◌≢◌, ℕ, List, ◌++◌, All, drop, length, nat_eq, reverse}
-use Rattle.std.specs.List.{common_prefix_len}
+use Rattle.std.specs.Prelude.{◌≡◌, ◌≢◌, ℕ, ◌+◌, ◌-◌, List, [], ◌∷◌, ◌++◌, All, drop, false, length, nat_eq, take}
+use Rattle.std.specs.List.{sum_by}
 use Rattle.fugue_ids.specs.Identifiers.{Identifier}
 use Rattle.fugue_ids.specs.declared.op.Op.{Op}
 use Rattle.origin_model.specs.declared.edit_fault.EditFault.{EditFault}
@@ -8,7 +8,12 @@ use Rattle.origin_model.specs.declared.edit_fault.EditFault.TheVariants.{NoSecti
 use Rattle.origin_model.specs.declared.operations.Place.TheVariants.{Catalogue as catalogue, Section as within}
 use Rattle.origin_model.specs.edits.Edits.{Put, Cut}
 use Rattle.origin_model.specs.edits.State.{State}
+use Rattle.origin_model.specs.operations.History.{holds}
 use Rattle.origin_model.specs.order.Printed.{shown, text}
+use Rattle.text_diff.specs.Hunks.{Transforms}
+use Rattle.text_diff.specs.Kept.{KeepsLines}
+use Rattle.text_diff.specs.Seams.{KeepsWords}
+use Rattle.text_diff.specs.declared.hunk.Hunk.{Hunk}
 use Rattle.catalogue_notes.specs.Arranged.{arranged, heading}
 use Rattle.catalogue_notes.specs.Lift.{retitles, stamp}
 use Rattle.draft_plan.specs.Changes.{Change, Changed, Edit, Stops, all_made}
@@ -40,31 +45,42 @@ pub record IsRevised (old new : State) (k : ℕ) (section : Identifier) (reads :
   pub others : (t : Identifier) → t ≢ section → shown (within t) new.held.history ≡ shown (within t) old.held.history
   pub keeps : KeepsArrangement old.held.history new.held.history
 
--- how many scalars two texts have in common at their front
-abbrev pub common_front : (old new : List ℕ) → ℕ
-common_front old new = common_prefix_len nat_eq old new
+-- the history holds none of these elements: not shown ones, and not hidden ones
+abbrev pub AreNew : (history : List Op) → List Identifier → Type 0
+AreNew history come = All (λ x. holds history x ≡ false) come
 
--- how many they have in common at their end, behind that front
-abbrev pub common_end : (old new : List ℕ) → ℕ
-common_end old new =
-    common_prefix_len nat_eq (reverse (drop (common_front old new) old)) (reverse (drop (common_front old new) new))
+-- What stands between hunks stays, element by element, and in the place of each hunk as many elements come as it puts
+-- letters, all of them new to the history: so the list reads from a position on.
+abbrev pub StayBetween : (history : List Op) → (from : ℕ) → (old new : List Identifier) → List Hunk → Type 0
+StayBetween history from old new [] = new ≡ drop from old
+StayBetween history from old new (h ∷ hs) =
+    (come : List Identifier) × (rest : List Identifier) × (length come ≡ h.new_len) × AreNew history come
+    × (new ≡ take (h.old_at - from) (drop from old) ++ come ++ rest) × StayBetween history (h.old_at + h.old_len) old rest hs
 
--- of the elements of a text those stay that stand in the common front and in the common end of the old and the new text
-pub record KeepsCommon (old_text new_text : List ℕ) (old new : List Identifier) : Type 0 where
-  pub front : List Identifier
-  pub end : List Identifier
-  pub gone : List Identifier
-  pub come : List Identifier
-  pub was : old ≡ front ++ gone ++ end
-  pub is : new ≡ front ++ come ++ end
-  pub whole_front : length front ≡ common_front old_text new_text
-  pub whole_end : length end ≡ common_end old_text new_text
+-- There are hunks that transform one text into the other, in which whole words go and come, and that leave the lines of a
+-- heaviest common order; two texts that are the same have none. Of the elements those stay that stand between the hunks,
+-- and no others: what comes in the place of a hunk is new to the history.
+pub record KeepsCommon (history : List Op) (old_text new_text : List ℕ) (old new : List Identifier) : Type 0 where
+  pub hunks : List Hunk
+  pub transforms : Transforms nat_eq old_text new_text hunks
+  pub words : All (KeepsWords old_text new_text) hunks
+  pub unchanged : old_text ≡ new_text → hunks ≡ []
+  pub lines : (old_text ≡ new_text → ⊥) → KeepsLines old_text new_text hunks
+  pub stays : StayBetween history 0 old new hunks
 
--- so do those of this section
+-- so it is with this section
 abbrev pub KeepsElements : (old new : State) → (section : Identifier) → Type 0
 KeepsElements old new section =
-    KeepsCommon (text old.held.history section) (text new.held.history section) (shown (within section) old.held.history)
+    KeepsCommon old.held.history (text old.held.history section) (text new.held.history section) (shown (within section) old.held.history)
     (shown (within section) new.held.history)
+
+-- how many elements hunks cut and put
+abbrev pub size : List Hunk → ℕ
+size hs = sum_by (λ h. h.old_len + h.new_len) hs
+
+-- and n is the number of elements that these hunks cut and put
+abbrev pub CountsHunks : (old new : State) → (section : Identifier) → (n : ℕ) → Type 0
+CountsHunks old new section n = (kept : KeepsElements old new section) × (n ≡ size kept.hunks)
 
 -- the edits of the section's text stopped: those in front of the one that was refused stand, or memory was wanting
 abbrev pub StopsEditing : (old new : State) → (section : ℕ) → EditFault → Type 0

@@ -2,12 +2,10 @@ ghost use Rattle.std.specs.Prelude.{◌≡◌, ◌↔◌, ℕ, Ok, Err, IfOk, ma
 ghost use Rattle.draft_plan.specs.Drafts.{parts as parts_in};
 ghost use Rattle.draft_plan.specs.Readings.{seen_part};
 
-use crate::part::Part;
 use crate::reading::{bad_line, read_parts};
 use fugue_ids::NoMemory;
+use section_plan::Part;
 use std::alloc::Global;
-use std::error::Error;
-use std::fmt;
 use std::marker::Model;
 
 /// What a draft says, as slices of it. It is seen as the list of its parts.
@@ -34,17 +32,6 @@ pub enum DraftFault {
     BadDraft(usize),
     NoMemory,
 }
-
-impl fmt::Display for DraftFault {
-    fn fmt<W: fmt::Write>(&self, f: &mut fmt::Formatter<W>) -> fmt::Result {
-        match self {
-            DraftFault::BadDraft(line) => write!(f, "bad draft at line {line}"),
-            DraftFault::NoMemory => write!(f, "{}", NoMemory),
-        }
-    }
-}
-
-impl Error for DraftFault {}
 
 impl From<NoMemory> for DraftFault {
     ghost use Rattle.std.specs.Prelude.{◌≡◌};

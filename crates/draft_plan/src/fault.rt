@@ -1,26 +1,13 @@
 use catalogue_notes::MoveFault;
 use fugue_ids::NoMemory;
 use origin_model::EditFault;
-use std::error::Error;
-use std::fmt;
 
 /// Why a revision stopped: an edit, or a move or retitle, was refused, or memory was wanting.
-#[derive(Clone, Copy, Debug, PartialEq, Eq)]
+#[derive(Clone, Copy, Debug)]
 pub enum ReviseFault {
     Edit(EditFault),
     Move(MoveFault),
 }
-
-impl fmt::Display for ReviseFault {
-    fn fmt<W: fmt::Write>(&self, f: &mut fmt::Formatter<W>) -> fmt::Result {
-        match self {
-            ReviseFault::Edit(fault) => write!(f, "{fault}"),
-            ReviseFault::Move(fault) => write!(f, "{fault}"),
-        }
-    }
-}
-
-impl Error for ReviseFault {}
 
 impl From<EditFault> for ReviseFault {
     ghost use Rattle.std.specs.Prelude.{◌≡◌};

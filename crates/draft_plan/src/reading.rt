@@ -10,8 +10,8 @@ ghost use Rattle.draft_plan.specs.Drafts.{lines, parts_of, pieces, title_of};
 ghost use Rattle.draft_plan.specs.Laws.{ends_part};
 ghost use Rattle.draft_plan.specs.Readings.{IsFirstLine, IsFirstText, IsGood, seen_part};
 
-use crate::part::Part;
 use fugue_ids::{LONGEST_TITLE, NoMemory, is_line, is_utf8};
+use section_plan::Part;
 use std::alloc::Global;
 
 fn find_line_feed(text: &[u8]) -> Option<usize>

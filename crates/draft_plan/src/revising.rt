@@ -1,6 +1,6 @@
 //! The text of one section, revised by cuts and puts.
 
-ghost use Rattle.std.specs.Prelude.{◌≡◌, ◌≢◌, ◌↔◌, ◌+◌, ◌≤◌, IfErr, IfOk, Err, None, OnOk, length, nat_eq, string_bytes};
+ghost use Rattle.std.specs.Prelude.{◌≡◌, ◌≢◌, ◌↔◌, ◌+◌, ◌≤◌, IfErr, IfOk, Err, None, length, nat_eq, string_bytes};
 ghost use Rattle.std.specs.Str.{chars, encode_utf8_all};
 ghost use Rattle.origin_model.specs.edits.Effect.{OfSection};
 ghost use Rattle.origin_model.specs.edits.Refusal.{section_shown};
@@ -9,7 +9,7 @@ ghost use Rattle.origin_model.specs.order.Printed.{text as text_on};
 ghost use Rattle.origin_model.specs.taking.Taking.{IsSettled};
 ghost use Rattle.text_diff.specs.Hunks.{Transforms};
 ghost use Rattle.draft_plan.specs.Revising.{AreHunksMade, IsHunkMade, IsLimit, IsWithinText};
-ghost use Rattle.draft_plan.specs.Texts.{IsRevised, KeepsElements, StopsEditing, StopsRevising};
+ghost use Rattle.draft_plan.specs.Texts.{CountsHunks, IsRevised, StopsEditing, StopsRevising};
 
 use fugue_ids::NoMemory;
 use origin_model::EditFault;
@@ -91,7 +91,7 @@ fn revise_hunks(
 }
 
 /// Revises the shown text of the section with so many shown ones before it, and answers how many operations that took.
-/// Only what differs is cut and put, by lines and words.
+/// What stands between hunks is left, and each hunk is cut and typed anew; they are found by lines and words.
 pub fn revise_text(
     alloc: Global,
     replica: &mut Replica,
@@ -101,7 +101,10 @@ pub fn revise_text(
     requires { IsSettled replica.old.held }
     ensures revised { IfOk result (λ n. OfSection replica.old section
         (λ x. IsRevised replica.old replica.new section x (chars new.now) n)) }
-    ensures keeps { OnOk result (OfSection replica.old section (λ x. KeepsElements replica.old replica.new x)) }
+    ensures few { IfOk result (λ n. OfSection replica.old section
+        (λ x. n ≤ length (text_on replica.old.held.history x) + length (chars new.now))) }
+    ensures keeps { IfOk result (λ n. OfSection replica.old section
+        (λ x. CountsHunks replica.old replica.new x n)) }
     ensures same { IfOk result (λ n. OfSection replica.old section (λ x.
         encode_utf8_all (text_on replica.old.held.history x) ≡ new.now → (n ≡ 0) × (replica.new ≡ replica.old))) }
     ensures absent { (result ≡ Err EditFault.NoSection) ↔ (section_shown replica.old section ≡ None) }

@@ -1,33 +1,41 @@
 //! A whole manuscript, revised until it is a draft.
 
-ghost use Rattle.std.specs.Prelude.{◌≡◌, ◌↔◌, IfErr, IfOk, IsTrue, Some, length, map, string_bytes};
+ghost use Rattle.std.specs.Prelude.{◌≡◌, ◌↔◌, IfErr, IfOk, IsTrue, OnOk, Some, length, map, string_bytes};
 ghost use Rattle.std.specs.Str.{encode_utf8_all};
+ghost use Rattle.fugue_ids.specs.Identifiers.{Identifier};
 ghost use Rattle.origin_model.specs.edits.Refusal.{section_shown};
 ghost use Rattle.origin_model.specs.edits.State.{Stands};
+ghost use Rattle.origin_model.specs.order.Printed.{text as text_on};
 ghost use Rattle.origin_model.specs.taking.Taking.{IsSettled};
 ghost use Rattle.catalogue_notes.specs.Arranged.{arranged, heading};
 ghost use Rattle.catalogue_notes.specs.Moving.{section_placed};
-ghost use Rattle.catalogue_notes.specs.Outlining.{IsOutline};
+ghost use Rattle.catalogue_notes.specs.Outlining.{IsEntry, IsOutline};
+ghost use Rattle.draft_plan.specs.Keeping.{KeepsSections};
+ghost use Rattle.draft_plan.specs.Matching.{Matches, shown_part};
+ghost use Rattle.draft_plan.specs.Plain.{arranged_part, arranged_parts};
 ghost use Rattle.draft_plan.specs.Readings.{seen_part};
 ghost use Rattle.draft_plan.specs.Revision.{IsRevision, MakesNothing, StopsAtLimit};
 ghost use Rattle.draft_plan.specs.Shaping.{IsFilled, IsHeadedBy};
 
 use crate::draft::Draft;
 use crate::fault::ReviseFault;
-use crate::part::Part;
 use crate::revising::revise_text;
-use crate::shaping::{shape, title_of};
+use crate::shaping::shape;
+use crate::titles::title_of;
 use catalogue_notes::{Entry, outline, retitle};
+use fugue_ids::NoMemory;
 use replica_core::Replica;
+use section_plan::{Pairs, Part, match_sections};
 use std::alloc::Global;
 
 /// Revises what the replica shows until it is the draft. Answers how many operations that took.
 ///
-/// Sections with equal headings are matched with parts first, then those with similar texts. A matched section is
-/// moved and retitled only where it has to be, and its text is changed only where it differs.
+/// Sections with the text of a part are matched with it first, then those with its title. A matched section is moved and
+/// retitled only where it has to be, and its text is changed only where it differs.
 pub fn revise(alloc: Global, replica: &mut Replica, draft: &Draft<'_>) -> Result<u32, ReviseFault>
     requires { IsSettled replica.old.held }
     ensures revised { IfOk result (λ n. IsRevision replica.old replica.new draft.now n) }
+    ensures keeps { OnOk result (KeepsSections replica.old.held.history replica.new.held.history) }
     ensures same { IfOk result (λ n. MakesNothing replica.old replica.new draft.now n) }
     ensures stops { IfErr result (λ why. StopsAtLimit replica.old replica.new why) }
     ensures settled { IsSettled replica.new.held }
@@ -36,28 +44,107 @@ pub fn revise(alloc: Global, replica: &mut Replica, draft: &Draft<'_>) -> Result
     let parts = draft.parts();
     let outline = outline(alloc, replica)?;
     let entries = outline.entries();
-    if has_titles(entries, parts) {
-        return fill(alloc, replica, entries, parts);
-    }
-    let shaped = shape(alloc, replica, entries, parts)?;
+    let pairs = match_parts(alloc, replica, entries, parts)?;
+    let Some(pairs) = pairs else {
+        let unchanged = fill(alloc, replica, entries, parts)?;
+        return Ok(unchanged);
+    };
+    let shaped = shape(alloc, replica, entries, parts, &pairs)?;
     let filled = fill_shaped(alloc, replica, parts)?;
     Ok(shaped + filled)
 }
 
-/// Whether the headings are the titles of the parts.
-fn has_titles(entries: &[Entry], parts: &[Part<'_>]) -> bool
-    ensures count { IsTrue result → length entries.now ≡ length parts.now }
-    ensures other { map (λ e. string_bytes e.heading) entries.now ≡ map (λ p. p.title.now) parts.now → IsTrue result }
+/// Which section each part is. `None` where the sections are the parts.
+fn match_parts(
+    alloc: Global,
+    replica: &Replica,
+    entries: &[Entry],
+    parts: &[Part<'_>],
+) -> Result<Option<Pairs>, NoMemory>
+    requires { IsOutline replica.now.held.history entries.now }
+    ensures { IfOk result (λ pairs. Matches replica.now.held.history parts.now pairs) }
 {
-    if entries.len() != parts.len() {
+    let shown = shown_of(alloc, replica, entries)?;
+    let sections = parts_of(alloc, shown.as_slice())?;
+    if are_same(sections.as_slice(), parts) {
+        return Ok(None);
+    }
+    Ok(Some(match_sections(alloc, sections.as_slice(), parts)?))
+}
+
+/// What is shown of a section.
+#[derive(Drop)]
+struct Shown {
+    title: String,
+    text: String,
+}
+
+/// The sections, as they are arranged.
+fn shown_of(alloc: Global, replica: &Replica, entries: &[Entry]) -> Result<Vec<Shown>, NoMemory>
+    requires { IsOutline replica.now.held.history entries.now }
+    ensures { IfOk result (λ shown. map shown_part shown.items ≡ arranged_parts replica.now.held.history) }
+{
+    let mut shown = Vec::new(alloc);
+    'entries: for entry in entries {
+        shown.push(shown_at(alloc, replica, entry)?)?;
+    }
+    Ok(shown)
+}
+
+/// What is shown of the section of an entry.
+fn shown_at(alloc: Global, replica: &Replica, entry: &Entry) -> Result<Shown, NoMemory>
+    requires { IsEntry replica.now.held.history entry.now }
+    ensures { IfOk result (λ shown. shown_part shown ≡ arranged_part replica.now.held.history entry.now.section) }
+{
+    let text = text_at(alloc, replica, entry.number)?;
+    let title = String::from_str(alloc, entry.heading.as_str())?;
+    Ok(Shown { title, text })
+}
+
+/// The text of the section with this number in the catalogue.
+fn text_at(alloc: Global, replica: &Replica, number: usize) -> Result<String, NoMemory>
+    ensures { IfOk result (λ text. (s : Identifier) → section_shown replica.now number ≡ Some s
+        → string_bytes text ≡ encode_utf8_all (text_on replica.now.held.history s)) }
+{
+    match replica.text_of(number)? {
+        Some(text) => Ok(text),
+        None => Ok(String::new(alloc)),
+    }
+}
+
+/// The sections as the parts of a draft.
+fn parts_of<'a>(alloc: Global, shown: &'a [Shown]) -> Result<Vec<Part<'a>>, NoMemory>
+    ensures { IfOk result (λ parts. map seen_part parts.items ≡ map shown_part shown.now) }
+{
+    let mut parts = Vec::new(alloc);
+    'shown: for section in shown {
+        parts.push(Part {
+            title: section.title.as_str(),
+            text: section.text.as_str(),
+        })?;
+    }
+    Ok(parts)
+}
+
+/// Whether these are the same titles and texts.
+fn are_same(sections: &[Part<'_>], parts: &[Part<'_>]) -> bool
+    ensures { IsTrue result ↔ (map seen_part sections.now ≡ map seen_part parts.now) }
+{
+    if sections.len() != parts.len() {
         return false;
     }
-    'entries: for (j, entry) in entries.iter().enumerate() {
-        if !has_title(entry, parts[j].title) {
+    'sections: for (place, section) in sections.iter().enumerate() {
+        if !is_same(section, &parts[place]) {
             return false;
         }
     }
     true
+}
+
+fn is_same(section: &Part<'_>, part: &Part<'_>) -> bool
+    ensures { IsTrue result ↔ (seen_part section.now ≡ seen_part part.now) }
+{
+    section.title == part.title && section.text == part.text
 }
 
 fn has_title(entry: &Entry, title: &str) -> bool
@@ -72,6 +159,7 @@ fn fill_shaped(alloc: Global, replica: &mut Replica, parts: &[Part<'_>]) -> Resu
     requires stands { Stands replica.old }
     requires count { length (arranged replica.old.held.history) ≡ length parts.now }
     ensures revised { IfOk result (λ n. IsRevision replica.old replica.new (map seen_part parts.now) n) }
+    ensures arranged { OnOk result (arranged replica.new.held.history ≡ arranged replica.old.held.history) }
     ensures stops { IfErr result (λ why. StopsAtLimit replica.old replica.new why) }
     ensures settled { IsSettled replica.new.held }
     ensures stands { Stands replica.new }
@@ -93,6 +181,7 @@ fn fill(
     requires stands { Stands replica.old }
     ensures revised { IfOk result (λ n. IsRevision replica.old replica.new (map seen_part parts.now) n) }
     ensures same { IfOk result (λ n. MakesNothing replica.old replica.new (map seen_part parts.now) n) }
+    ensures arranged { OnOk result (arranged replica.new.held.history ≡ arranged replica.old.held.history) }
     ensures stops { IfErr result (λ why. StopsAtLimit replica.old replica.new why) }
     ensures settled { IsSettled replica.new.held }
     ensures stands { Stands replica.new }

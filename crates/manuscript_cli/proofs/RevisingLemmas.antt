@@ -1,9 +1,11 @@
 -- What a draft gives to a replica, by how far it was read.
-use Rattle.std.proofs.Common.{◌≡◌, ◌≢◌, ◌↔◌, inl, inr, ℕ, suc, zero, List, [], ◌∷◌, ◌++◌, ◌+◌, ◌<◌, ◌≤◌, length, take, Option, Some, None, refl, sym, ap, subst, ◌∙◌, arith, drop, drop_at, length-append, min, nat_eq, nat_lt, true, false, Bool, ◌&&◌}
+use Rattle.std.proofs.Common.{◌≡◌, ◌≢◌, ◌⊎◌, ◌↔◌, inl, inr, ℕ, suc, zero, List, [], ◌∷◌, ◌++◌, ◌+◌, ◌<◌, ◌≤◌, length, take, Option, Some, None, refl, sym, ap, subst, ◌∙◌, arith, drop, drop_at, length-append, min, nat_eq, nat_lt, true, false, Bool, ◌&&◌}
 use Rattle.std.specs.Prelude.{IfSome, MatchResult, Result, Ok, Err, if◌then◌else◌, cond, option_map}
 use Rattle.std.specs.Option.{option_or}
 use Rattle.std.specs.List.{common_prefix_len, position_or_len}
-use Rattle.std.proofs.lemmas.Bool.{cases_eq, cases_lt, ne_eqb}
+use Rattle.std.specs.Str.{bytes_eq}
+use Rattle.std.proofs.lemmas.Bool.{cases_eq, cases_lt, false_from_ne_true, ne_eqb}
+use Rattle.std.proofs.lemmas.Slice.Eq.{bytes_eq-Decides}
 use Rattle.std.proofs.lemmas.List.{length-map, length-take}
 use Rattle.fugue_ids.specs.declared.limits.TheConstants.{MOST_OPERATIONS}
 use Rattle.fugue_ids.specs.declared.op.Op.{Op}
@@ -19,10 +21,14 @@ use Rattle.catalogue_notes.specs.Arranged.{arranged, arranged_text}
 use Rattle.catalogue_notes.proofs.ArrangedLemmas.{arranged_length}
 use Rattle.margin_notes.proofs.PlaceLemmas.{shown_bounded}
 use Rattle.catalogue_notes.specs.declared.moving.MoveFault.TheVariants as moving
+use Rattle.origin_model.specs.operations.Verdict.{Lawful}
+use Rattle.origin_model.specs.order.Printed.{shown}
+use Rattle.section_plan.specs.declared.part.Part.{Part as ReadPart}
 use Rattle.draft_plan.specs.Changes.{all_made}
+use Rattle.draft_plan.specs.Readings.{seen_part}
+use Rattle.draft_plan.proofs.ChangeLemmas.{changed_none}
 use Rattle.draft_plan.specs.Differences.{first_difference, unless_whole}
-use Rattle.draft_plan.specs.Drafts.{Part, has_heading, parts}
-use Rattle.draft_plan.specs.Plain.{arranged_part, arranged_parts, first_not_plain}
+use Rattle.draft_plan.specs.Drafts.{Part, parts}
 use Rattle.draft_plan.specs.Revision.{IsRevision, StopsAtLimit}
 use Rattle.draft_plan.specs.declared.draft.DraftFault.{DraftFault}
 use Rattle.draft_plan.specs.declared.draft.DraftFault.TheVariants as draft_fault
@@ -35,7 +41,7 @@ use Rattle.command_kinds.specs.Crashes.{IsFinished}
 use Rattle.command_kinds.specs.Edit.{IsLeft, made_outcome}
 use Rattle.command_kinds.specs.Findings.{Finding, Refuses, Does}
 use Rattle.command_kinds.specs.Giving.{GivesTo}
-use Rattle.manuscript_cli.specs.Revising.{BaseStops, DraftGives, HasBytes, IsRevisedTo, LooksAtBase, MeetsLimit, RevisionGives, Revises, TextStops, base_refusal, draft_refusal, heading_refusal, parts_fault_refusal, parts_refusal, revise_refusal, revision, text_refusal}
+use Rattle.manuscript_cli.specs.Revising.{BaseStops, DraftGives, HasBytes, IsHandedBack, IsRevisedTo, LooksAtBase, MeetsLimit, RevisionGives, Revises, TextStops, base_refusal, draft_refusal, empties, parts_fault_refusal, parts_refusal, revise_refusal, revision, text_refusal}
 use Rattle.command_kinds.specs.Saving.{Giver, GivesOnce, Outcome, ReadsInput}
 use Rattle.command_kinds.specs.Changes.{Change}
 use Rattle.manuscript_cli.specs.declared.check.TheConstants.{LONGEST_TEXT}
@@ -66,38 +72,50 @@ file_bytes (Some h) = (h.last.seen, refl)
 module _ (guest : DiskView) (input : SourceView) (replica : Replica) (base : List ℕ) (has : HasBytes guest base) where
   -- the base is refused
   pub gives_base : (course : Finding Outcome) (why : Refusal) → base_refusal replica.held.history base ≡ Some why → RevisionGives guest input course replica (Refuses why)
-  gives_base course why e = let d = left_bytes input.left in (base, has, d.0, d.1, inl (ap (λ o. option_or o (text_refusal d.0)) e))
+  gives_base course why e = let d = left_bytes input.left in (base, has, d.0, d.1, inl (ap (λ o. option_or o (text_refusal replica.held.history d.0)) e))
 
   -- or the text
-  pub gives_text : (course : Finding Outcome) (draft : List ℕ) (why : Refusal) → IsLeft input draft → base_refusal replica.held.history base ≡ None → text_refusal draft ≡ Some why → RevisionGives guest input course replica (Refuses why)
-  gives_text course draft why left good e = (base, has, draft, left, inl (ap (λ o. option_or o (text_refusal draft)) good ∙ e))
+  pub gives_text : (course : Finding Outcome) (draft : List ℕ) (why : Refusal) → IsLeft input draft → base_refusal replica.held.history base ≡ None → text_refusal replica.held.history draft ≡ Some why → RevisionGives guest input course replica (Refuses why)
+  gives_text course draft why left good e = (base, has, draft, left, inl (ap (λ o. option_or o (text_refusal replica.held.history draft)) good ∙ e))
 
-  allows : (draft : List ℕ) → base_refusal replica.held.history base ≡ None → text_refusal draft ≡ None → draft_refusal replica.held.history base draft ≡ None
-  allows draft good e = ap (λ o. option_or o (text_refusal draft)) good ∙ e
+  allows : (draft : List ℕ) → base_refusal replica.held.history base ≡ None → text_refusal replica.held.history draft ≡ None → draft_refusal replica.held.history base draft ≡ None
+  allows draft good e = ap (λ o. option_or o (text_refusal replica.held.history draft)) good ∙ e
 
   -- or a limit is met
-  pub gives_limit : (draft : List ℕ) (why : Refusal) → IsLeft input draft → base_refusal replica.held.history base ≡ None → text_refusal draft ≡ None → MeetsLimit replica why → RevisionGives guest input (Refuses why) replica (Refuses why)
+  pub gives_limit : (draft : List ℕ) (why : Refusal) → IsLeft input draft → base_refusal replica.held.history base ≡ None → text_refusal replica.held.history draft ≡ None → MeetsLimit replica why → RevisionGives guest input (Refuses why) replica (Refuses why)
   gives_limit draft why left good e meets = (base, has, draft, left, inr (allows draft good e, refl, meets))
 
   -- or the draft comes
-  pub gives_draft : (draft : List ℕ) (outcome : Outcome) → IsLeft input draft → base_refusal replica.held.history base ≡ None → text_refusal draft ≡ None → Revises replica draft outcome → RevisionGives guest input (Does outcome) replica (Does outcome)
+  pub gives_draft : (draft : List ℕ) (outcome : Outcome) → IsLeft input draft → base_refusal replica.held.history base ≡ None → text_refusal replica.held.history draft ≡ None → IsHandedBack replica draft outcome ⊎ Revises replica draft outcome → RevisionGives guest input (Does outcome) replica (Does outcome)
   gives_draft draft outcome left good e revises = (base, has, draft, left, (allows draft good e, refl, revises))
 
 -- a text within the limit
-text_short : (draft : List ℕ) → length draft ≤ LONGEST_TEXT → text_refusal draft ≡ parts_refusal (parts draft)
-text_short draft short = ap (λ t. if t then Some refusal.TooLong else parts_refusal (parts draft)) (ltb_no LONGEST_TEXT (length draft) short)
+text_short : (h : List Op) (draft : List ℕ) → length draft ≤ LONGEST_TEXT → text_refusal h draft ≡ (if bytes_eq draft (arranged_text h) then None else parts_refusal h (parts draft))
+text_short h draft short = ap (λ t. if t then Some refusal.TooLong else (if bytes_eq draft (arranged_text h) then None else parts_refusal h (parts draft))) (ltb_no LONGEST_TEXT (length draft) short)
   where
     ltb_no : (a b : ℕ) → b ≤ a → nat_lt a b ≡ false
     ltb_no a b l = grind arith
 
-pub text_reads : (draft : List ℕ) (ps : List Part) → length draft ≤ LONGEST_TEXT → parts draft ≡ Ok ps → text_refusal draft ≡ None
-text_reads draft ps short e = text_short draft short ∙ ap parts_refusal e
+-- one that is another than what was printed, or the same
+text_other : (h : List Op) (draft : List ℕ) → length draft ≤ LONGEST_TEXT → draft ≢ arranged_text h → text_refusal h draft ≡ parts_refusal h (parts draft)
+text_other h draft short other =
+    text_short h draft short
+    ∙ ap (λ t. if t then None else parts_refusal h (parts draft)) (false_from_ne_true (bytes_eq draft (arranged_text h)) (λ t. other ((bytes_eq-Decides draft (arranged_text h)).0 t)))
 
-pub text_bad : (draft : List ℕ) (line : ℕ) → length draft ≤ LONGEST_TEXT → parts draft ≡ Err line → text_refusal draft ≡ Some (refusal.BadDraft line)
-text_bad draft line short e = text_short draft short ∙ ap parts_refusal e
+pub text_same : (h : List Op) (draft : List ℕ) → length draft ≤ LONGEST_TEXT → draft ≡ arranged_text h → text_refusal h draft ≡ None
+text_same h draft short same = text_short h draft short ∙ ap (λ t. if t then None else parts_refusal h (parts draft)) ((bytes_eq-Decides draft (arranged_text h)).1 same)
 
-pub text_long : (draft : List ℕ) → LONGEST_TEXT < length draft → text_refusal draft ≡ Some refusal.TooLong
-text_long draft long = ap (λ t. if t then Some refusal.TooLong else parts_refusal (parts draft)) (ltb_yes LONGEST_TEXT (length draft) long)
+pub text_reads : (h : List Op) (draft : List ℕ) (ps : List Part) → length draft ≤ LONGEST_TEXT → draft ≢ arranged_text h → parts draft ≡ Ok ps → empties h ps ≡ false → text_refusal h draft ≡ None
+text_reads h draft ps short other e some = text_other h draft short other ∙ (ap (parts_refusal h) e ∙ ap (λ t. if t then Some refusal.EmptyDraft else None) some)
+
+pub text_empty : (h : List Op) (draft : List ℕ) (ps : List Part) → length draft ≤ LONGEST_TEXT → draft ≢ arranged_text h → parts draft ≡ Ok ps → empties h ps ≡ true → text_refusal h draft ≡ Some refusal.EmptyDraft
+text_empty h draft ps short other e none = text_other h draft short other ∙ (ap (parts_refusal h) e ∙ ap (λ t. if t then Some refusal.EmptyDraft else None) none)
+
+pub text_bad : (h : List Op) (draft : List ℕ) (line : ℕ) → length draft ≤ LONGEST_TEXT → draft ≢ arranged_text h → parts draft ≡ Err line → text_refusal h draft ≡ Some (refusal.BadDraft line)
+text_bad h draft line short other e = text_other h draft short other ∙ ap (parts_refusal h) e
+
+pub text_long : (h : List Op) (draft : List ℕ) → LONGEST_TEXT < length draft → text_refusal h draft ≡ Some refusal.TooLong
+text_long h draft long = ap (λ t. if t then Some refusal.TooLong else (if bytes_eq draft (arranged_text h) then None else parts_refusal h (parts draft))) (ltb_yes LONGEST_TEXT (length draft) long)
   where
     ltb_yes : (a b : ℕ) → a < b → nat_lt a b ≡ true
     ltb_yes a b l = grind arith
@@ -136,10 +154,11 @@ base_read a b =
     ∙ ap (λ t. if t then None else Some n) (ends_with n (length a) (length b) (length (take (length a + 1) b)) (length-take (length a + 1) b))
 
 -- a revised replica is an outcome
-pub outcome_of : (replica last : Replica) (draft : List ℕ) (ps : List Part) (n : ℕ) → parts draft ≡ Ok ps → (r : IsRevisedTo replica last ps n) → Revises replica draft (made_outcome last (all_made replica r.revised.makes.changes))
-outcome_of replica last draft ps n e r =
+pub outcome_of : (replica last : Replica) (draft : List ℕ) (ps : List Part) (n : ℕ) → draft ≢ arranged_text replica.held.history → parts draft ≡ Ok ps → (r : IsRevisedTo replica last ps n) → Revises replica draft (made_outcome last (all_made replica r.revised.makes.changes))
+outcome_of replica last draft ps n other e r =
     let made : List Op = all_made replica r.revised.makes.changes in
     record {
+      other = other;
       ps = ps;
       reads = e;
       last = last;
@@ -157,19 +176,36 @@ outcome_of replica last draft ps n e r =
 
 -- a draft that came gives what was made
 pub draft_gives : (guest : Change DiskView) (input : Change SourceView) (replica last : Replica) (base draft : List ℕ) (ps : List Part) (n : ℕ) (kept : Option (List Op)) → HasBytes guest.old base
-    → IsLeft input.old draft → base_refusal replica.held.history base ≡ None → length draft ≤ LONGEST_TEXT → parts draft ≡ Ok ps → IsSettled replica.held → IsRevisedTo replica last ps n
+    → IsLeft input.old draft → base_refusal replica.held.history base ≡ None → length draft ≤ LONGEST_TEXT → draft ≢ arranged_text replica.held.history → parts draft ≡ Ok ps → empties replica.held.history ps ≡ false → IsSettled replica.held → IsRevisedTo replica last ps n
     → (course : Finding Outcome) × GivesTo (revision guest input course) replica last kept (Ok (note.Made n))
-draft_gives guest input replica last base draft ps n kept has left good short e settled r =
+draft_gives guest input replica last base draft ps n kept has left good short other e some settled r =
     let makes = r.revised.makes in
     let made : List Op = all_made replica makes.changes in
     let outcome : Outcome = made_outcome last made in (
       Does outcome,
       record {
         outcome = outcome;
-        gives = gives_draft guest.old input.old replica base has draft outcome left good (text_reads draft ps short e) (outcome_of replica last draft ps n e r);
+        gives = gives_draft guest.old input.old replica base has draft outcome left good (text_reads replica.held.history draft ps short other e some) (inr (outcome_of replica last draft ps n other e r));
         suffices = changed_suffice replica last makes.changes settled r.stands makes.changed;
         saved = ap (drop (length (accepted replica.held.history))) makes.changed.gained.accepted_are ∙ drop_at (accepted replica.held.history) made (length (accepted replica.held.history)) refl;
         noted = record { line = ap made_line (sym makes.count); status = refl };
+      },
+    )
+
+-- and what was printed gives nothing
+pub same_gives : (guest : Change DiskView) (input : Change SourceView) (replica : Replica) (base draft : List ℕ) (kept : Option (List Op)) → HasBytes guest.old base → IsLeft input.old draft
+    → base_refusal replica.held.history base ≡ None → length draft ≤ LONGEST_TEXT → draft ≡ arranged_text replica.held.history → IsSettled replica.held → Stands replica
+    → (course : Finding Outcome) × GivesTo (revision guest input course) replica replica kept (Ok (note.Made 0))
+same_gives guest input replica base draft kept has left good short same settled stands =
+    let none = changed_none replica in
+    let outcome : Outcome = made_outcome replica [] in (
+      Does outcome,
+      record {
+        outcome = outcome;
+        gives = gives_draft guest.old input.old replica base has draft outcome left good (text_same replica.held.history draft short same) (inl (record { same = same; outcome_is = refl }));
+        suffices = changed_suffice replica replica [] settled stands none;
+        saved = ap (drop (length (accepted replica.held.history))) none.gained.accepted_are ∙ drop_at (accepted replica.held.history) [] (length (accepted replica.held.history)) refl;
+        noted = record { line = refl; status = refl };
       },
     )
 
@@ -199,12 +235,11 @@ revision_once guest input course told replica one two a b =
 
 -- a base is refused for itself, and a limit is no other cause
 never_words : (h : List Op) (base : List ℕ) → base_refusal h base ≡ Some refusal.Words → ⊥
-never_words h base e = by (first_difference (arranged_text h) base) (first_not_plain h) e
+never_words h base e = by (first_difference (arranged_text h) base) e
   where
-    by : (at section : Option ℕ) → option_or (option_map refusal.BaseDiffers at) (option_map heading_refusal section) ≡ Some refusal.Words → ⊥
-    by (Some at) section e = cc e
-    by None (Some section) e = cc e
-    by None None e = cc e
+    by : (at : Option ℕ) → option_map refusal.BaseDiffers at ≡ Some refusal.Words → ⊥
+    by (Some at) e = cc e
+    by None e = cc e
 
 no_fault : (fault : ReviseFault) → (revise_refusal fault ≢ refusal.Words) × (revise_refusal fault ≢ refusal.Outside)
 no_fault (fault.Edit edit.NoSection) = (λ e. cc e, λ e. cc e)
@@ -234,18 +269,22 @@ module _ (guest : Change DiskView) (input : Change SourceView) (before after : R
     input_gives F refusal.NoMemory none fails count = tt
     input_gives F refusal.TooLong none fails count =
         let left = longer_left input none in
-        gives_text guest.old input.old before base has (Refuses refusal.TooLong) left.0 refusal.TooLong left.1 good (text_long left.0 left.2)
+        gives_text guest.old input.old before base has (Refuses refusal.TooLong) left.0 refusal.TooLong left.1 good (text_long before.held.history left.0 left.2)
     input_gives F _ none fails count = absurd none
 
     -- and one that is no draft, or that did not come
-    pub text_gives : (draft : List ℕ) (why : Refusal) → IsTextRead input draft → TextStops why before draft → GivesTo (revision guest input (Refuses why)) before after kept (Err why)
-    text_gives draft refusal.NoMemory read stops = tt
-    text_gives draft (refusal.BadDraft line) read stops =
-        gives_text guest.old input.old before base has (Refuses (refusal.BadDraft line)) draft (refusal.BadDraft line) (text_left input draft read) good (text_bad draft line read.short stops)
-    text_gives draft refusal.Words read stops = absurd ((no_fault stops.2.fault).0 (sym stops.2.why_is))
-    text_gives draft refusal.Outside read stops = absurd ((no_fault stops.2.fault).1 (sym stops.2.why_is))
-    text_gives draft why read stops =
-        gives_limit guest.old input.old before base has draft why (text_left input draft read) good (text_reads draft stops.0 read.short stops.1) stops.2
+    pub text_gives : (draft : List ℕ) (why : Refusal) → draft ≢ arranged_text before.held.history → IsTextRead input draft → TextStops why before draft → GivesTo (revision guest input (Refuses why)) before after kept (Err why)
+    text_gives draft refusal.NoMemory other read stops = tt
+    text_gives draft (refusal.BadDraft line) other read stops =
+        gives_text guest.old input.old before base has (Refuses (refusal.BadDraft line)) draft (refusal.BadDraft line) (text_left input draft read) good
+        (text_bad before.held.history draft line read.short other stops)
+    text_gives draft refusal.EmptyDraft other read stops =
+        gives_text guest.old input.old before base has (Refuses refusal.EmptyDraft) draft refusal.EmptyDraft (text_left input draft read) good
+        (text_empty before.held.history draft stops.0 read.short other stops.1 stops.2)
+    text_gives draft refusal.Words other read stops = absurd ((no_fault stops.3.fault).0 (sym stops.3.why_is))
+    text_gives draft refusal.Outside other read stops = absurd ((no_fault stops.3.fault).1 (sym stops.3.why_is))
+    text_gives draft why other read stops =
+        gives_limit guest.old input.old before base has draft why (text_left input draft read) good (text_reads before.held.history draft stops.0 read.short other stops.1 stops.2) stops.3
 
 -- how the objects are left
 pub base_looked : (guest : Change DiskView) (end : Status) (F : Type 0) → LooksOnly guest.old guest.new F → (F → end ≡ status.OutsideFault) → LooksAtBase guest end
@@ -266,14 +305,14 @@ pub draft_stops : {T : Type 0} (result : Result T DraftFault) (why : Refusal) (r
 draft_stops (Ok x) why replica draft is bad = cc is
 draft_stops (Err fault) why replica draft is bad = subst (λ (w : Refusal). TextStops w replica draft) (sym is) (parts_stop fault (Err fault) replica draft refl bad)
 
-pub limit_stops : (fault : ReviseFault) (replica last : Replica) (draft : List ℕ) (ps : List Part) → parts draft ≡ Ok ps → StopsAtLimit replica last fault → TextStops (revise_refusal fault) replica draft
-limit_stops (fault.Edit edit.NoSection) replica last draft ps e stops = tt
-limit_stops (fault.Edit edit.OutOfRange) replica last draft ps e stops = tt
-limit_stops (fault.Edit edit.NoMemory) replica last draft ps e stops = tt
-limit_stops (fault.Move moving.NoSection) replica last draft ps e stops = tt
-limit_stops (fault.Move moving.NoPlace) replica last draft ps e stops = tt
-limit_stops (fault.Move moving.NoMemory) replica last draft ps e stops = tt
-limit_stops why replica last draft ps e stops = (ps, e, record { fault = why; why_is = refl; no_want = λ is. cc is; last = last; stops = stops })
+pub limit_stops : (fault : ReviseFault) (replica last : Replica) (draft : List ℕ) (ps : List Part) → parts draft ≡ Ok ps → empties replica.held.history ps ≡ false → StopsAtLimit replica last fault → TextStops (revise_refusal fault) replica draft
+limit_stops (fault.Edit edit.NoSection) replica last draft ps e some stops = tt
+limit_stops (fault.Edit edit.OutOfRange) replica last draft ps e some stops = tt
+limit_stops (fault.Edit edit.NoMemory) replica last draft ps e some stops = tt
+limit_stops (fault.Move moving.NoSection) replica last draft ps e some stops = tt
+limit_stops (fault.Move moving.NoPlace) replica last draft ps e some stops = tt
+limit_stops (fault.Move moving.NoMemory) replica last draft ps e some stops = tt
+limit_stops why replica last draft ps e some stops = (ps, e, some, record { fault = why; why_is = refl; no_want = λ is. cc is; last = last; stops = stops })
 
 -- a place of a byte that was read is one in the base
 pub base_is : (past : Option History) (a bytes : List ℕ) (most : ℕ) → most ≡ length a + 1 → IfSome past (λ h. bytes ≡ take most h.last.seen)
@@ -284,33 +323,20 @@ base_is (Some h) a bytes most is told = (h.last.seen, refl, ap (first_difference
 -- why a base is refused, or that it is not, by what was read
 module _ (past : Option History) (h : List Op) (a bytes : List ℕ) (most : ℕ) (a_is : a ≡ arranged_text h) (is : most ≡ length a + 1) (told : IfSome past (λ h. bytes ≡ take most h.last.seen)) where
   there : (o : Option ℕ) → first_difference a bytes ≡ o
-      → (base : List ℕ) × IfSome past (λ h. h.last.seen ≡ base) × (base_refusal h base ≡ option_or (option_map refusal.BaseDiffers o) (option_map heading_refusal (first_not_plain h)))
+      → (base : List ℕ) × IfSome past (λ h. h.last.seen ≡ base) × (base_refusal h base ≡ option_map refusal.BaseDiffers o)
   there o e =
       let b = base_is past a bytes most is told in
-      (b.0, b.1, ap (λ d. option_or (option_map refusal.BaseDiffers d) (option_map heading_refusal (first_not_plain h))) (ap (λ t. first_difference t b.0) (sym a_is) ∙ sym b.2 ∙ e))
+      (b.0, b.1, ap (option_map refusal.BaseDiffers) (ap (λ t. first_difference t b.0) (sym a_is) ∙ sym b.2 ∙ e))
 
   pub differs_there : (at : ℕ) → first_difference a bytes ≡ Some at → (base : List ℕ) × IfSome past (λ h. h.last.seen ≡ base) × (base_refusal h base ≡ Some (refusal.BaseDiffers at))
   differs_there at e = there (Some at) e
 
-  pub headed_there : (section : ℕ) → first_difference a bytes ≡ None → first_not_plain h ≡ Some section
-      → (base : List ℕ) × IfSome past (λ h. h.last.seen ≡ base) × (base_refusal h base ≡ Some (refusal.HeadingInText (section + 1)))
-  headed_there section e f = let b = there None e in (b.0, b.1, b.2 ∙ ap (option_map heading_refusal) f)
+  pub good_there : first_difference a bytes ≡ None → (base : List ℕ) × IfSome past (λ h. h.last.seen ≡ base) × (base_refusal h base ≡ None)
+  good_there e = there None e
 
-  pub good_there : first_difference a bytes ≡ None → first_not_plain h ≡ None → (base : List ℕ) × IfSome past (λ h. h.last.seen ≡ base) × (base_refusal h base ≡ None)
-  good_there e f = let b = there None e in (b.0, b.1, b.2 ∙ ap (option_map heading_refusal) f)
+-- whether a draft has nothing, where sections are shown
+pub empties_some : (h : List Op) (ps : List Part) (count : ℕ) → Lawful h → length ps ≡ 0 → count ≡ length (shown catalogue h) → nat_lt 0 count ≡ empties h ps
+empties_some h ps count w e f = let long = arranged_length h w in rw (f, e, long) refl
 
--- the number of a section is small
-before_end : (n l k : ℕ) (b : Bool) → nat_lt n l ≡ b → cond b (Some n) None ≡ Some k → k < l
-before_end n l k true below e = let same : n ≡ k = cc e in subst (λ m. m < l) same (is_below n l below)
-  where
-    is_below : (n l : ℕ) → nat_lt n l ≡ true → n < l
-    is_below n l e = grind arith
-before_end n l k false below e = cc e
-
-pub small_section : (replica : Replica) (k : ℕ) → Stands replica → first_not_plain replica.held.history ≡ Some k → k < MOST_OPERATIONS
-small_section replica k st e =
-    let h = replica.held.history in
-    let ps : List Part = arranged_parts h in
-    let at : ℕ = position_or_len (λ (p : Part). has_heading p.text) ps in
-    let below : k < length ps = before_end at (length ps) k (nat_lt at (length ps)) refl e in
-    omega (arith, below, length-map (arranged h) (arranged_part h), arranged_length h st.lawful, shown_bounded catalogue h, st.few, st.most_within)
+pub empties_none : (h : List Op) (ps : List Part) → length ps ≢ 0 → false ≡ empties h ps
+empties_none h ps ne = rw (ne_eqb (length ps) 0 ne) refl

@@ -1,6 +1,7 @@
 -- The command `revise`: the draft on the input is what a file's replica comes to show, where the other file has what it showed.
-use Rattle.std.specs.Prelude.{◌≡◌, ◌≢◌, ◌⊎◌, ℕ, ◌+◌, true, nat_lt, if◌then◌else◌, Option, Some, None, Result, Ok, Err, IfSome, List, [], ◌++◌, length, option_map}
+use Rattle.std.specs.Prelude.{◌≡◌, ◌≢◌, ◌⊎◌, ℕ, true, false, Bool, nat_eq, nat_lt, ◌&&◌, if◌then◌else◌, Option, Some, None, Result, Ok, Err, IfSome, List, [], ◌++◌, length, option_map}
 use Rattle.std.specs.Option.{option_or}
+use Rattle.std.specs.Str.{bytes_eq}
 use Rattle.fugue_ids.specs.Causes.{Rose}
 use Rattle.fugue_ids.specs.declared.op.Op.{Op}
 use Rattle.origin_model.specs.declared.edit_fault.EditFault.TheVariants as edit_fault
@@ -9,11 +10,11 @@ use Rattle.origin_model.specs.operations.History.{accepted}
 use Rattle.origin_model.specs.taking.Taking.{IsSettled}
 use Rattle.outer_ports.specs.Sources.{SourceView}
 use Rattle.outer_ports.specs.disk.Disks.{DiskView, RoomView}
-use Rattle.catalogue_notes.specs.Arranged.{arranged_text}
+use Rattle.catalogue_notes.specs.Arranged.{arranged, arranged_text}
 use Rattle.catalogue_notes.specs.declared.moving.MoveFault.TheVariants as move_fault
 use Rattle.draft_plan.specs.Differences.{first_difference}
 use Rattle.draft_plan.specs.Drafts.{Part, form, parts}
-use Rattle.draft_plan.specs.Plain.{arranged_parts, first_not_plain}
+use Rattle.draft_plan.specs.Plain.{arranged_parts}
 use Rattle.draft_plan.specs.Revision.{IsRevision, MakesNothing, StopsAtLimit}
 use Rattle.draft_plan.specs.declared.draft.DraftFault.{DraftFault}
 use Rattle.draft_plan.specs.declared.draft.DraftFault.TheVariants as draft_fault
@@ -28,25 +29,27 @@ use Rattle.command_kinds.specs.declared.refusal.Refusal.{Refusal}
 use Rattle.command_kinds.specs.declared.refusal.Refusal.TheVariants as refusal
 use Rattle.command_kinds.specs.declared.status.Status.{Status}
 
--- a place where the base differs from what is shown, and a section whose text would have a heading, as refusals; sections count from 1
-abbrev pub heading_refusal : ℕ → Refusal
-heading_refusal section = refusal.HeadingInText (section + 1)
-
--- why no draft can be written from the base: it is not what is shown, or what is shown would not read back
+-- why no draft can be written from the base: it is not what is shown
 abbrev pub base_refusal : List Op → (base : List ℕ) → Option Refusal
-base_refusal h base = option_or (option_map refusal.BaseDiffers (first_difference (arranged_text h) base)) (option_map heading_refusal (first_not_plain h))
+base_refusal h base = option_map refusal.BaseDiffers (first_difference (arranged_text h) base)
 
--- why the bytes are no draft: there are too many, or a line is bad
-abbrev pub parts_refusal : Result (List Part) ℕ → Option Refusal
-parts_refusal (Ok ps) = None
-parts_refusal (Err line) = Some (refusal.BadDraft line)
+-- the draft has no part, and sections are shown
+abbrev pub empties : List Op → List Part → Bool
+empties h ps = nat_eq (length ps) 0 && nat_lt 0 (length (arranged h))
 
-abbrev pub text_refusal : (draft : List ℕ) → Option Refusal
-text_refusal draft = if nat_lt LONGEST_TEXT (length draft) then Some refusal.TooLong else parts_refusal (parts draft)
+-- why what a draft says is not taken: a line is bad, or it has nothing
+abbrev pub parts_refusal : List Op → Result (List Part) ℕ → Option Refusal
+parts_refusal h (Ok ps) = if empties h ps then Some refusal.EmptyDraft else None
+parts_refusal h (Err line) = Some (refusal.BadDraft line)
+
+-- why the bytes are no draft: there are too many, or what they say is not taken, unless they are what was printed
+abbrev pub text_refusal : List Op → (draft : List ℕ) → Option Refusal
+text_refusal h draft =
+    if nat_lt LONGEST_TEXT (length draft) then Some refusal.TooLong else (if bytes_eq draft (arranged_text h) then None else parts_refusal h (parts draft))
 
 -- why a draft is not taken, by the first cause that there is
 abbrev pub draft_refusal : List Op → (base draft : List ℕ) → Option Refusal
-draft_refusal h base draft = option_or (base_refusal h base) (text_refusal draft)
+draft_refusal h base draft = option_or (base_refusal h base) (text_refusal h draft)
 
 -- why a draft was not read, or not come to, as a refusal
 abbrev pub parts_fault_refusal : DraftFault → Refusal
@@ -70,8 +73,14 @@ pub record IsRevisedTo (replica last : Replica) (ps : List Part) (n : ℕ) : Typ
   pub stands : Stands last
   pub settled : IsSettled last.held
 
--- the outcome of a draft: these operations were made one after another, and what is shown behind them is the form of the draft's parts
+-- the outcome of what was printed, handed back as it is: nothing was made
+pub record IsHandedBack (replica : Replica) (draft : List ℕ) (outcome : Outcome) : Type 0 where
+  pub same : draft ≡ arranged_text replica.held.history
+  pub outcome_is : outcome ≡ made_outcome replica []
+
+-- the outcome of another draft: these operations were made one after another, and what is shown behind them is the form of the draft's parts
 pub record Revises (replica : Replica) (draft : List ℕ) (outcome : Outcome) : Type 0 where
+  pub other : draft ≢ arranged_text replica.held.history
   pub ps : List Part
   pub reads : parts draft ≡ Ok ps
   pub last : Replica
@@ -96,7 +105,7 @@ DraftGives base draft course replica (Refuses why) =
     (draft_refusal replica.held.history base draft ≡ Some why)
     ⊎ ((draft_refusal replica.held.history base draft ≡ None) × (course ≡ Refuses why) × MeetsLimit replica why)
 DraftGives base draft course replica (Does outcome) =
-    (draft_refusal replica.held.history base draft ≡ None) × (course ≡ Does outcome) × Revises replica draft outcome
+    (draft_refusal replica.held.history base draft ≡ None) × (course ≡ Does outcome) × (IsHandedBack replica draft outcome ⊎ Revises replica draft outcome)
 
 -- the file, where it is told, has these bytes
 abbrev pub HasBytes : DiskView → List ℕ → Type 0
@@ -131,4 +140,5 @@ BaseStops why guest h = (base : List ℕ) × HasBytes guest base × (base_refusa
 abbrev pub TextStops : Refusal → Replica → (draft : List ℕ) → Type 0
 TextStops refusal.NoMemory replica draft = Unit {0}
 TextStops (refusal.BadDraft line) replica draft = parts draft ≡ Err line
-TextStops why replica draft = (ps : List Part) × (parts draft ≡ Ok ps) × MeetsLimit replica why
+TextStops refusal.EmptyDraft replica draft = (ps : List Part) × (parts draft ≡ Ok ps) × (empties replica.held.history ps ≡ true)
+TextStops why replica draft = (ps : List Part) × (parts draft ≡ Ok ps) × (empties replica.held.history ps ≡ false) × MeetsLimit replica why

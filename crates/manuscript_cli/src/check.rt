@@ -32,7 +32,7 @@ pub(crate) fn check_file<S: Source, O: Sink, N: Sink, H: Disk>(
     match load_file(alloc, home) {
         Ok((replica, _)) => {
             let status = check_held(alloc, input, &replica, output, notes);
-            drop(replica);
+            replica.discard();
             status
         }
         Err(why) => tell(notes, why),

@@ -5,7 +5,7 @@ ghost use Rattle.manuscript_cli.specs.Command.{guest_word, home_word, opening_fo
 use outer_ports::Opening;
 
 /// What the words of the command line ask for.
-#[derive(Clone, Copy, Debug, PartialEq, Eq)]
+#[derive(Clone, Copy)]
 pub enum Command {
     /// Print the manuscript of the frames on the input. At most so many operations wait.
     Show(u32),

@@ -1,11 +1,12 @@
 //! The command `revise`: a draft is what the replica comes to show.
-ghost use Rattle.std.specs.Prelude.{◌≡◌, ℕ, Ok, None, IfErr, IfOk, OnOk, List};
+ghost use Rattle.std.specs.Prelude.{◌≡◌, ◌≢◌, ◌↔◌, ℕ, Ok, None, IfErr, IfOk, IsTrue, OnOk, false, List};
+ghost use Rattle.origin_model.specs.edits.State.{Stands};
 ghost use Rattle.catalogue_notes.specs.Arranged.{arranged_text};
 ghost use Rattle.draft_plan.specs.Drafts.{Part, parts};
 ghost use Rattle.replica_file.specs.Loading.{IsReady};
 ghost use Rattle.replica_file.specs.Looks.{LooksOnly};
 ghost use Rattle.manuscript_cli.specs.Revising.{BaseStops, HasBytes, IsRevisedTo, LooksAtBase, TextStops};
-ghost use Rattle.manuscript_cli.specs.Revising.{base_refusal, parts_fault_refusal, revise_refusal, revision};
+ghost use Rattle.manuscript_cli.specs.Revising.{base_refusal, empties, parts_fault_refusal, revise_refusal, revision};
 ghost use Rattle.command_kinds.specs.Files.{FileRefuses};
 ghost use Rattle.command_kinds.specs.Findings.{Finding};
 ghost use Rattle.command_kinds.specs.Saving.{Outcome, ReadsInput, SavesGiven, SavingBlameless};
@@ -17,9 +18,7 @@ use crate::check::read_text;
 use crate::plain_file::read_start;
 use catalogue_notes::{MoveFault, write_arranged};
 use command_kinds::{Gives, Kept, Note, Refusal, Status, save_given};
-use draft_plan::{
-    Draft, DraftFault, ReviseFault, arranged_reads, first_difference, heading_in_text, revise,
-};
+use draft_plan::{Draft, DraftFault, ReviseFault, arranged_reads, first_difference, revise};
 use fugue_ids::{BUFFER, NoMemory};
 use origin_model::EditFault;
 use outer_ports::{Disk, MemSink, Sink, Source};
@@ -55,9 +54,13 @@ impl<'a, G: Disk, S: Source> Gives<DraftSources<'a, G, S>> for Revision {
         replica: &mut Replica,
         _kept: &mut Kept,
     ) -> Result<Note, Refusal> {
-        check_base(alloc, replica, from.base)?;
+        let shown = check_base(alloc, replica, from.base)?;
         let text = read_text(alloc, from.draft)?;
-        let made = revise_to(alloc, replica, &text)?;
+        let draft = text.as_slice();
+        if is_same(shown.written(), draft) {
+            return Ok(Note::Made(0));
+        }
+        let made = revise_to(alloc, replica, draft)?;
         Ok(Note::Made(made))
     }
 
@@ -98,35 +101,52 @@ fn shown_text(alloc: Global, replica: &Replica) -> Result<MemSink, NoMemory>
     }
 }
 
-/// Whether a file has what the replica shows, and that can be read back. No more of it is read than that takes.
-fn check_base<G: Disk>(alloc: Global, replica: &Replica, base: &mut G) -> Result<(), Refusal>
+/// What the replica shows, where a file has that. No more of the file is read than that takes.
+fn check_base<G: Disk>(alloc: Global, replica: &Replica, base: &mut G) -> Result<MemSink, Refusal>
+    ensures shown { IfOk result (λ shown. shown.written ≡ arranged_text replica.now.held.history) }
     ensures ok { OnOk result ((bytes : List ℕ) × HasBytes (G.seen base.old) bytes
         × (base_refusal replica.now.held.history bytes ≡ None)) }
     ensures err { IfErr result (λ why. BaseStops why (G.seen base.old) replica.now.held.history) }
     ensures looks { LooksOnly (G.seen base.old) (G.seen base.new) (result ≡ Err Outside) }
 {
-    let shown = shown_text(alloc, replica)?;
-    let shown = shown.written();
+    let text = shown_text(alloc, replica)?;
+    let shown = text.written();
     let bytes = read_start(alloc, base, shown.len() + 1)?;
     if let Some(at) = first_difference(shown, &bytes) {
         return Err(Refusal::BaseDiffers(at as u64));
     }
-    match heading_in_text(alloc, replica)? {
-        Some(section) => Err(Refusal::HeadingInText(section as u64 + 1)),
-        None => Ok(()),
-    }
+    Ok(text)
+}
+
+fn is_same(shown: &[u8], text: &[u8]) -> bool
+    ensures { IsTrue result ↔ (text.now ≡ shown.now) }
+{
+    text == shown
+}
+
+/// Whether the draft has nothing, and sections are shown.
+fn drops_all(replica: &Replica, draft: &Draft<'_>) -> bool
+    ensures drops { result ≡ empties replica.now.held.history draft.now }
+    ensures stands { Stands replica.now }
+{
+    let shown = replica.section_count();
+    draft.parts().is_empty() && shown > 0
 }
 
 /// Revises the replica until it shows the draft that the bytes are. Answers how many operations that took.
 fn revise_to(alloc: Global, replica: &mut Replica, text: &[u8]) -> Result<u32, Refusal>
     requires ready { IsReady replica.old }
+    requires other { text.now ≢ arranged_text replica.old.held.history }
     ensures made { IfOk result (λ n. (ps : List Part) × (parts text.now ≡ Ok ps)
-        × IsRevisedTo replica.old replica.new ps n) }
+        × (empties replica.old.held.history ps ≡ false) × IsRevisedTo replica.old replica.new ps n) }
     ensures err { IfErr result (λ why. TextStops why replica.old text.now) }
 {
     // What is printed then is the draft in its form by this law.
     arranged_reads();
     let draft = Draft::read(alloc, text).map_err(refusal_of_draft)?;
+    if drops_all(replica, &draft) {
+        return Err(Refusal::EmptyDraft);
+    }
     let made = revise(alloc, replica, &draft).map_err(refusal_of_limit)?;
     Ok(made)
 }

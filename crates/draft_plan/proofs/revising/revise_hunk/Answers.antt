@@ -39,7 +39,7 @@ overflow_add-result c =
     let h = c.args.hunk in
     let old = c.args.replica.now in
     let text = typed_whole c.as_str.result.now _ c.as_str.utf8 (c.as_str.ensures.value ∙ c.in_ok-text.ensures) in
-    let made = hunk_made old c.cut.new.self c.put.new.self c.args.section c.in_ok-cut.cut c.in_ok-put.put h c.args.new.now (chars c.as_str.result.now) c.requires.old
+    let made = hunk_made old c.cut.new.self c.put.new.self c.args.section c.in_ok-cut.cut c.in_ok-put.put h c.args.new.now (chars c.as_str.result.now) c.requires.old c.requires.new
     (put_text h.new_at h.new_len c.args.new.now c.as_str.result.now text)
     (cut_and_put c.requires.stands.lawful c.in_ok-cut.ensures.stands.lawful c.in_ok-cut.ensures.refused c.in_ok-cut.ensures.made
     c.in_ok-put.ensures.refused c.in_ok-put.ensures.made) in
@@ -49,7 +49,7 @@ pub returns-clause-made : goal.returns-clause-made
 returns-clause-made c =
     let h = c.args.hunk in
     let text = typed_whole c.as_str.result.now _ c.as_str.utf8 (c.as_str.ensures.value ∙ c.in_ok-text.ensures) in
-    hunk_made c.args.replica.now c.cut.new.self c.put.new.self c.args.section c.in_ok-cut.cut c.in_ok-put.put h c.args.new.now (chars c.as_str.result.now) c.requires.old
+    hunk_made c.args.replica.now c.cut.new.self c.put.new.self c.args.section c.in_ok-cut.cut c.in_ok-put.put h c.args.new.now (chars c.as_str.result.now) c.requires.old c.requires.new
     (put_text h.new_at h.new_len c.args.new.now c.as_str.result.now text)
     (cut_and_put c.requires.stands.lawful c.in_ok-cut.ensures.stands.lawful c.in_ok-cut.ensures.refused c.in_ok-cut.ensures.made
     c.in_ok-put.ensures.refused c.in_ok-put.ensures.made)

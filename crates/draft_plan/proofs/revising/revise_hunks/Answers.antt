@@ -23,7 +23,7 @@ returns-in_err-made-clause-stops c =
 pub overflow_add-made : goal.overflow_add-made
 overflow_add-made c =
     let more = hunks_more c.args.replica.now c.hunks.replica c.args.section c.hunks.left c.hunks.made c.args.hunks.now c.args.new.now c.requires.hunks c.hunks.invariant.made c.hunks-test.true
-    c.hunks.invariant.within c.revise_hunk.new.replica c.in_ok-made.field-0 c.in_ok-made.ensures.made in
+    c.hunks.invariant.within c.revise_hunk.new.replica c.in_ok-made.field-0 c.requires.stands.lawful c.in_ok-made.ensures.made in
     omega (arith, hunks_few c.args.replica.now c.revise_hunk.new.replica c.args.section (c.hunks.made + c.in_ok-made.field-0) (drop (c.hunks.left - 1) c.args.hunks.now) c.args.new.now more c.in_ok-made.ensures.stands)
 
 pub hunks-preserved : goal.hunks-preserved
@@ -32,5 +32,5 @@ hunks-preserved c = record {
   settled = c.in_ok-made.ensures.settled;
   stands = c.in_ok-made.ensures.stands;
   made = hunks_more c.args.replica.now c.hunks.replica c.args.section c.hunks.left c.hunks.made c.args.hunks.now c.args.new.now c.requires.hunks c.hunks.invariant.made c.hunks-test.true
-      c.hunks.invariant.within c.revise_hunk.new.replica c.in_ok-made.field-0 c.in_ok-made.ensures.made;
+      c.hunks.invariant.within c.revise_hunk.new.replica c.in_ok-made.field-0 c.requires.stands.lawful c.in_ok-made.ensures.made;
 }

@@ -1,12 +1,11 @@
 use Rattle.std.proofs.Common.{List, ap, sym, subst, ℕ, ◌∙◌, ◌≡◌}
 use Rattle.std.specs.Prelude.{IfOk, Some}
 use Rattle.std.specs.Str.{chars}
-use Rattle.std.proofs.lemmas.Bool.{false≢true}
 use Rattle.std.proofs.lemmas.Bool.Decides.{Decides-eqb}
 use Rattle.std.proofs.lemmas.Slice.Eq.{slice_eq-Decides}
 use Rattle.origin_model.specs.edits.Effect.{OfSection}
 use Rattle.draft_plan.specs.Texts.{IsRevised}
-use Rattle.draft_plan.proofs.ReviseLemmas.{call_keeps, call_revised, other_scalars, text_found, text_kept, text_same, text_transforms}
+use Rattle.draft_plan.proofs.ReviseLemmas.{call_few, call_keeps, call_revised, text_found, text_kept, text_none_made, text_same, text_transforms}
 use Rattle.draft_plan.proofs.revising.revise_text.Goals as goal
 
 pub returns-then-eq-clause-revised : goal.returns-then-eq-clause-revised
@@ -22,7 +21,7 @@ pub returns-then-eq-clause-keeps : goal.returns-then-eq-clause-keeps
 returns-then-eq-clause-keeps c =
     let s = c.args.replica.now in
     let t = text_found s c.args.section c.as_str.result.now c.as_str.utf8 (ap Some c.as_str.ensures.value ∙ rw c.in-Some.is at c.in_ok-old.ensures.text) in
-    text_kept s c.args.section c.as_str.result.now c.text_of.ensures.stands.lawful t
+    text_kept s c.args.section c.as_str.result.now t
 
 pub revise_hunks-requires-clause-hunks : goal.revise_hunks-requires-clause-hunks
 revise_hunks-requires-clause-hunks c =
@@ -42,6 +41,12 @@ returns-clause-revised c =
     (call_revised s now k c.as_str-2.result.now c.as_slice-2.result.now c.as_slice.result.now c.revise_hunks.result t
     (rw (c.as_slice.ensures.value, scalars) c.in_ok-hunks.ensures.replaced) c.revise_hunks.ensures.made)
 
+pub returns-then-eq-clause-few : goal.returns-then-eq-clause-few
+returns-then-eq-clause-few c =
+    let s = c.args.replica.now in
+    let t = text_found s c.args.section c.as_str.result.now c.as_str.utf8 (ap Some c.as_str.ensures.value ∙ rw c.in-Some.is at c.in_ok-old.ensures.text) in
+    text_none_made s c.args.section c.as_str.result.now (chars c.args.new.now) t
+
 pub returns-clause-keeps : goal.returns-clause-keeps
 returns-clause-keeps c =
     let s = c.args.replica.now in
@@ -49,10 +54,21 @@ returns-clause-keeps c =
     let bytes = c.as_str-2.result.now in
     let t = text_found s k bytes c.as_str-2.utf8 (ap Some c.as_str-2.ensures.value ∙ rw c.in-Some.is at c.in_ok-old.ensures.text) in
     let scalars : c.as_slice-2.result.now ≡ chars c.args.new.now = c.as_slice-2.ensures.value ∙ c.in_ok-scalars.ensures in
-    let again : c.as_str.result.now ≡ bytes = c.as_str.ensures.value ∙ sym c.as_str-2.ensures.value in
-    let decides = slice_eq-Decides Decides-eqb c.as_str.result.now c.args.new.now c.eq.result c.eq.ensures in
-    let other : bytes ≡ c.args.new.now → ⊥ = λ e. false≢true (sym c.if-eq.false ∙ decides.1 (again ∙ e)) in
     call_keeps s c.revise_hunks.new.replica k bytes c.as_slice-2.result.now c.as_slice.result.now c.revise_hunks.result t
-    (rw (c.as_slice.ensures.value, scalars) c.in_ok-hunks.ensures.replaced) c.text_of.ensures.stands.lawful
-    (rw (c.as_slice.ensures.value, scalars) c.in_ok-hunks.ensures.trimmed)
-    (λ e. other_scalars bytes c.args.new.now c.as_str-2.utf8 c.utf8.new other (e ∙ scalars)) c.revise_hunks.ensures.made
+    (rw (c.as_slice.ensures.value, scalars) c.in_ok-hunks.ensures.replaced)
+    (rw (c.as_slice.ensures.value, scalars) c.in_ok-hunks.ensures.transforms)
+    (rw (c.as_slice.ensures.value, scalars) c.in_ok-hunks.ensures.words)
+    (rw (c.as_slice.ensures.value, scalars) c.in_ok-hunks.ensures.unchanged)
+    (rw (c.as_slice.ensures.value, scalars) c.in_ok-hunks.ensures.lines) c.revise_hunks.ensures.made
+
+pub returns-clause-few : goal.returns-clause-few
+returns-clause-few c =
+    let s = c.args.replica.now in
+    let k = c.args.section in
+    let bytes = c.as_str-2.result.now in
+    let t = text_found s k bytes c.as_str-2.utf8 (ap Some c.as_str-2.ensures.value ∙ rw c.in-Some.is at c.in_ok-old.ensures.text) in
+    let scalars : c.as_slice-2.result.now ≡ chars c.args.new.now = c.as_slice-2.ensures.value ∙ c.in_ok-scalars.ensures in
+    rw (sym scalars)
+    (call_few s c.revise_hunks.new.replica k bytes c.as_slice-2.result.now c.as_slice.result.now c.revise_hunks.result t
+    (rw (c.as_slice.ensures.value, scalars) c.in_ok-hunks.ensures.replaced)
+    (rw (c.as_slice.ensures.value, scalars) c.in_ok-hunks.ensures.transforms) c.revise_hunks.ensures.made)

@@ -1,13 +1,13 @@
-use Rattle.std.proofs.Common.{List, ap, arith, length, map, subst, sym, ◌+◌, ◌∙◌}
-use Rattle.std.specs.Prelude.{IfOk}
-use Rattle.std.proofs.lemmas.Bool.{false≢true}
+use Rattle.std.proofs.Common.{List, arith, map, subst, sym, ◌∙◌, ◌+◌, length}
 use Rattle.std.proofs.lemmas.Result.{err_from_is_err_and}
-use Rattle.catalogue_notes.proofs.ArrangedLemmas.{arranged_length}
+use Rattle.origin_model.specs.edits.State.{State}
 use Rattle.draft_plan.specs.Drafts.{Part}
+use Rattle.draft_plan.specs.Keeping.{KeepsSections}
+use Rattle.draft_plan.specs.Matching.{Matches}
 use Rattle.draft_plan.specs.Readings.{seen_part}
 use Rattle.draft_plan.specs.Revision.{IsRevision, MakesNothing}
+use Rattle.draft_plan.proofs.KeepingLemmas.{kept_sections, keeps_same, stands_still}
 use Rattle.draft_plan.proofs.MakingLemmas.{makes_few, stops_behind}
-use Rattle.draft_plan.proofs.OutlineLemmas.{outline_count, same_titles}
 use Rattle.draft_plan.proofs.RevisionLemmas.{revised_shaped}
 use Rattle.draft_plan.proofs.ShapeLemmas.{wants_memory}
 use Rattle.draft_plan.proofs.revision.revise.Goals as goal
@@ -17,30 +17,26 @@ returns-in_err-outline-clause-stops c =
     let p = err_from_is_err_and c.from_residual.result c.from_residual.ensures.1 in
     rw (p.1, p.2) (wants_memory c.args.replica.now)
 
-pub fill-requires-clause-outline : goal.fill-requires-clause-outline
-fill-requires-clause-outline c = rw c.entries-entries.ensures c.in_ok-outline.ensures.outline
+pub returns-in_err-pairs-clause-stops : goal.returns-in_err-pairs-clause-stops
+returns-in_err-pairs-clause-stops c =
+    let p = err_from_is_err_and c.from_residual-in_err-pairs.result c.from_residual-in_err-pairs.ensures.1 in
+    rw (p.1, p.2) (wants_memory c.args.replica.now)
 
-pub fill-requires-clause-count : goal.fill-requires-clause-count
-fill-requires-clause-count c = c.has_titles.ensures.count c.if-has_titles.true
+pub returns-in_default-clause-keeps : goal.returns-in_default-clause-keeps
+returns-in_default-clause-keeps c =
+    let h = c.args.replica.now.held.history in
+    let ps = c.parts-parts.result.now in
+    let same = subst (Matches h ps) c.in_default.is c.in_ok-pairs.ensures in
+    let none = c.in_ok-unchanged.ensures.same same in
+    subst (λ (s : State). KeepsSections h s.held.history) (sym none.1) (keeps_same h)
 
-pub returns-then-has_titles-clause-revised : goal.returns-then-has_titles-clause-revised
-returns-then-has_titles-clause-revised c = subst (λ (ps : List Part). IfOk c.fill.result (λ n. IsRevision c.args.replica.now c.fill.new.replica ps n)) c.parts-parts.ensures c.fill.ensures.revised
+pub returns-in_default-clause-same : goal.returns-in_default-clause-same
+returns-in_default-clause-same c =
+    subst (λ (ps : List Part). MakesNothing c.args.replica.now c.fill.new.replica ps c.in_ok-unchanged.unchanged) c.parts-parts.ensures c.in_ok-unchanged.ensures.same
 
-pub returns-then-has_titles-clause-same : goal.returns-then-has_titles-clause-same
-returns-then-has_titles-clause-same c = subst (λ (ps : List Part). IfOk c.fill.result (λ n. MakesNothing c.args.replica.now c.fill.new.replica ps n)) c.parts-parts.ensures c.fill.ensures.same
-
-pub shape-requires-clause-entries : goal.shape-requires-clause-entries
-shape-requires-clause-entries c =
-    ap length c.entries-entries.ensures
-    ∙ outline_count c.args.replica.now.held.history c.in_ok-outline.outline c.in_ok-outline.ensures.stands.lawful c.in_ok-outline.ensures.outline
-
-pub returns-in_err-shaped-clause-stops : goal.returns-in_err-shaped-clause-stops
-returns-in_err-shaped-clause-stops c =
-    let p = err_from_is_err_and c.from_residual-in_err-shaped.result c.from_residual-in_err-shaped.ensures.1 in
-    rw (p.1, p.2) c.in_err-shaped.ensures.shapes
-
-pub fill_shaped-requires-clause-count : goal.fill_shaped-requires-clause-count
-fill_shaped-requires-clause-count c = arranged_length c.shape.new.replica.held.history c.in_ok-shaped.ensures.stands.lawful ∙ c.in_ok-shaped.ensures.count
+pub returns-in_default-clause-revised : goal.returns-in_default-clause-revised
+returns-in_default-clause-revised c =
+    subst (λ (ps : List Part). IsRevision c.args.replica.now c.fill.new.replica ps c.in_ok-unchanged.unchanged) c.parts-parts.ensures c.in_ok-unchanged.ensures.revised
 
 pub returns-in_err-filled-clause-stops : goal.returns-in_err-filled-clause-stops
 returns-in_err-filled-clause-stops c =
@@ -60,7 +56,16 @@ returns-clause-revised c =
     (revised_shaped c.args.replica.now c.shape.new.replica c.fill_shaped.new.replica (map seen_part c.parts-parts.result.now) c.in_ok-shaped.shaped c.in_ok-filled.filled
     c.in_ok-outline.ensures.stands.lawful c.in_ok-shaped.ensures.shapes c.in_ok-filled.ensures.revised)
 
+pub returns-clause-keeps : goal.returns-clause-keeps
+returns-clause-keeps c =
+    let h = c.args.replica.now.held.history in
+    let ps = c.parts-parts.result.now in
+    let n = c.fill_shaped.new.replica.held.history in
+    let matched = (subst (Matches h ps) c.in-Some.is c.in_ok-pairs.ensures).0 in
+    let stand = stands_still h c.shape.new.replica.held.history n c.in-Some.pairs (length ps) c.in_ok-filled.ensures.arranged c.in_ok-shaped.ensures.stand_as in
+    kept_sections h n ps c.in-Some.pairs matched stand (sym c.in_ok-filled.ensures.revised.reads) c.in_ok-outline.ensures.stands.lawful
+
 pub returns-clause-same : goal.returns-clause-same
 returns-clause-same c = λ e.
-    let titles = same_titles c.args.replica.now.held.history c.entries-entries.result.now c.parts-parts.result.now (rw c.entries-entries.ensures c.in_ok-outline.ensures.outline) (e ∙ sym c.parts-parts.ensures) in
-    absurd (false≢true (sym c.if-has_titles.false ∙ c.has_titles.ensures.other titles))
+    let other = (subst (Matches c.args.replica.now.held.history c.parts-parts.result.now) c.in-Some.is c.in_ok-pairs.ensures).1 in
+    absurd (other (e ∙ sym c.parts-parts.ensures))

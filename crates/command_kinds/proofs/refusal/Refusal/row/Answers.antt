@@ -64,11 +64,11 @@ returns-in-StampsSpent c = rw c.in-StampsSpent.is (record { status = refl; words
 pub returns-in-BaseDiffers : goal.returns-in-BaseDiffers
 returns-in-BaseDiffers c = rw c.in-BaseDiffers.is (record { status = refl; words = refl; detail = refl })
 
-pub returns-in-HeadingInText : goal.returns-in-HeadingInText
-returns-in-HeadingInText c = rw c.in-HeadingInText.is (record { status = refl; words = refl; detail = refl })
-
 pub returns-in-BadDraft : goal.returns-in-BadDraft
 returns-in-BadDraft c = rw c.in-BadDraft.is (record { status = refl; words = refl; detail = refl })
+
+pub returns-in-EmptyDraft : goal.returns-in-EmptyDraft
+returns-in-EmptyDraft c = rw c.in-EmptyDraft.is (record { status = refl; words = refl; detail = refl })
 
 pub returns-in-OutOfRange : goal.returns-in-OutOfRange
 returns-in-OutOfRange c = rw c.in-OutOfRange.is (record { status = refl; words = refl; detail = refl })

@@ -1,0 +1,34 @@
+use Rattle.std.proofs.Common.{ap, ◌∙◌}
+use Rattle.std.proofs.lemmas.Result.{err_from_is_err_and}
+use Rattle.std.specs.Prelude.{slice_get}
+use Rattle.origin_model.specs.declared.operations.Place.TheVariants.{Catalogue as catalogue}
+use Rattle.origin_model.specs.edits.Edits.{id_at}
+use Rattle.origin_model.specs.edits.Refusal.{next_of_own}
+use Rattle.origin_model.specs.order.Printed.{shown}
+use Rattle.draft_plan.proofs.ShapeLemmas.{add_stops, wants_memory}
+use Rattle.draft_plan.proofs.TargetLemmas.{added, put_at}
+use Rattle.draft_plan.proofs.resizing.add_one.Goals as goal
+
+pub returns-in_err-title-clause-stops : goal.returns-in_err-title-clause-stops
+returns-in_err-title-clause-stops c =
+    let p = err_from_is_err_and c.from_residual.result c.from_residual.ensures.1 in
+    rw (p.1, p.2) (wants_memory c.args.replica.now)
+
+pub returns-in_err-add-clause-stops : goal.returns-in_err-add-clause-stops
+returns-in_err-add-clause-stops c =
+    let p = err_from_is_err_and c.from_residual-in_err-add.result c.from_residual-in_err-add.ensures.1 in
+    let e = c.in_err-add.ensures in
+    rw (p.1, p.2) (add_stops c.args.replica.now c.add.new.self c.args.number c.in_ok-title.title c.in_err-add.field-0.0 c.requires.within e.unmade e.refused)
+
+pub returns-in-Some-clause-added : goal.returns-in-Some-clause-added
+returns-in-Some-clause-added c =
+    let e = c.in_ok-add.ensures in
+    added c.args.replica.now c.add.new.self c.args.number c.in_ok-add.field-0 c.in_ok-title.title c.in-Some.section c.requires.stands.lawful c.requires.within e.refused e.made e.lands.splices.here
+    (c.in-Some.ensures.section c.add.new.self.held.history c.places.ensures.places)
+
+pub returns-in-None-clause-stops : goal.returns-in-None-clause-stops
+returns-in-None-clause-stops c =
+    let h = c.args.replica.now.held.history in
+    let none = c.in-None.ensures.section c.add.new.self.held.history c.places.ensures.places in
+    let there = ap (λ l. slice_get l c.args.number) c.in_ok-add.ensures.lands.splices.here ∙ put_at (shown catalogue h) c.args.number (id_at c.args.replica.now.number (next_of_own c.args.replica.now)) c.requires.within in
+    cc (none, there)

@@ -1,0 +1,61 @@
+use Rattle.std.proofs.Common.{arith, inl, ◌+◌}
+use Rattle.std.proofs.lemmas.Result.{err_from_is_err_and}
+use Rattle.std.proofs.lemmas.Grind.{common_steps}
+use Rattle.origin_model.specs.declared.operations.Place.TheVariants.{Catalogue as catalogue}
+use Rattle.origin_model.specs.order.Printed.{shown}
+use Rattle.catalogue_notes.specs.Outlining.{entry_sections}
+use Rattle.draft_plan.proofs.MakingLemmas.{makes_few}
+use Rattle.draft_plan.proofs.ResizingLemmas.{entries_once, entry_section, left_goes, left_start, left_stays}
+use Rattle.draft_plan.proofs.ShapeLemmas.{shaped_join, shaped_none, stops_shaped}
+use Rattle.draft_plan.proofs.resizing.drop_free.Goals as goal
+use Rattle.draft_plan.proofs.resizing.drop_free.Goals.{then-is_none+in_ok-made, else-is_none}
+
+pub entries-init : goal.entries-init
+entries-init c =
+    let s = c.args.replica.now in
+    record {
+      settled = c.requires.settled;
+      stands = c.requires.stands;
+      shaped = shaped_none s;
+      left = left_start s.held.history c.args.entries.now c.args.pairs.now c.requires.stands.lawful c.requires.outline;
+    }
+
+pub drop_one-requires-clause-there : goal.drop_one-requires-clause-there
+drop_one-requires-clause-there c =
+    let at = entry_section c.args.entries.now c.entries.place c.index-entries-place.result (omega arith) c.index-entries-place.is in
+    c.entries.invariant.left.kept c.entries.place c.index-entries-place.result.section at (inl (omega arith))
+
+pub returns-in_err-made-clause-shapes : goal.returns-in_err-made-clause-shapes
+returns-in_err-made-clause-shapes c =
+    let p = err_from_is_err_and c.from_residual.result c.from_residual.ensures.1 in
+    rw (p.1, p.2)
+    (stops_shaped c.args.replica.now c.entries.replica c.drop_one.new.replica c.entries.made c.in_err-made.field-0.0 c.entries.invariant.shaped c.in_err-made.ensures.shapes)
+
+pub overflow_add-made : goal.overflow_add-made
+overflow_add-made c =
+    let more = shaped_join c.args.replica.now c.entries.replica c.drop_one.new.replica c.entries.made c.in_ok-made.field-0 c.entries.invariant.shaped c.in_ok-made.ensures.shapes in
+    omega (arith, makes_few c.args.replica.now c.drop_one.new.replica (c.entries.made + c.in_ok-made.field-0) more.makes c.in_ok-made.ensures.stands)
+
+pub entries-preserved : goal.entries-preserved
+entries-preserved c =
+    let ys = entry_sections c.args.entries.now in
+    let at = entry_section c.args.entries.now c.entries.place c.index-entries-place.result (omega arith) c.index-entries-place.is in
+    let was = c.entries.invariant in
+    elim c.if-is_none.branch [
+      | then-is_none+in_ok-made w ↦
+          let e = w.in_ok-made.ensures in
+          rw (w.replica-is, w.made-is) (record {
+            settled = e.settled;
+            stands = e.stands;
+            shaped = shaped_join c.args.replica.now c.entries.replica w.drop_one.new.replica c.entries.made w.in_ok-made.field-0 was.shaped e.shapes;
+            left = left_goes ys c.args.pairs.now c.entries.place (shown catalogue c.entries.replica.held.history) (shown catalogue w.drop_one.new.replica.held.history) c.index-entries-place.result.section
+                (entries_once c.args.replica.now.held.history c.args.entries.now c.requires.stands.lawful c.requires.outline) was.left at (grind (arith, common_steps)) e.gone;
+          })
+      | else-is_none w ↦
+          rw (w.replica-is, w.made-is) (record {
+            settled = was.settled;
+            stands = was.stands;
+            shaped = was.shaped;
+            left = left_stays ys c.args.pairs.now c.entries.place (shown catalogue c.entries.replica.held.history) was.left (grind (arith, common_steps));
+          })
+    ]

@@ -1,0 +1,63 @@
+-- Sections dropped and added, until there is one for each part of a draft.
+use Rattle.std.specs.Prelude.{◌≡◌, ◌≢◌, ◌⊎◌, ◌↔◌, ℕ, ◌+◌, ◌-◌, ◌≤◌, ◌<◌, false, Option, Some, None, IsSome, List, [], ◌∷◌, ◌++◌, length, slice_get}
+use Rattle.std.specs.List.{Contains}
+use Rattle.fugue_ids.specs.Identifiers.{Identifier}
+use Rattle.origin_model.specs.declared.operations.Place.TheVariants.{Catalogue as catalogue}
+use Rattle.origin_model.specs.edits.State.{State}
+use Rattle.origin_model.specs.operations.History.{holds}
+use Rattle.origin_model.specs.order.Printed.{shown}
+use Rattle.section_plan.specs.Matching.{part_of, section_of}
+use Rattle.section_plan.specs.declared.pairs.Pairs.{Pairs}
+use Rattle.draft_plan.specs.Shaping.{IsShaped}
+
+-- no member stands at two places
+abbrev pub AreDistinct : List Identifier → Type 0
+AreDistinct xs = (j k : ℕ) (s : Identifier) → slice_get xs j ≡ Some s → slice_get xs k ≡ Some s → j ≡ k
+
+-- one list has the members of another one, but for s
+abbrev pub IsWithout : (s : Identifier) → (xs ys : List Identifier) → Type 0
+IsWithout s xs ys = (t : Identifier) → Contains ys t ↔ (Contains xs t × t ≢ s)
+
+-- of the sections in front of a place those that have a part are left, and those from there on
+pub record AreLeft (sections : List Identifier) (pairs : Pairs) (place : ℕ) (left : List Identifier) : Type 0 where
+  pub kept : (i : ℕ) (s : Identifier) → slice_get sections i ≡ Some s → (place ≤ i) ⊎ IsSome (part_of pairs i) → Contains left s
+  pub only : (s : Identifier) → Contains left s → (i : ℕ) × (slice_get sections i ≡ Some s) × ((place ≤ i) ⊎ IsSome (part_of pairs i))
+
+-- a section was added, which nothing had held, and no other one came or went
+pub record IsAdded (old new : State) (section : Identifier) : Type 0 where
+  pub shaped : IsShaped old new 1
+  pub fresh : holds old.held.history section ≡ false
+  pub all : (t : Identifier) → Contains (shown catalogue new.held.history) t ↔ (Contains (shown catalogue old.held.history) t ⊎ (t ≡ section))
+
+-- the number behind that of the last one of these sections, or the first number
+pub record IsBehind (shown_now sections : List Identifier) (number : ℕ) : Type 0 where
+  pub within : number ≤ length shown_now
+  pub first : length sections ≡ 0 → number ≡ 0
+  pub behind : (s : Identifier) → slice_get sections (length sections - 1) ≡ Some s → (n : ℕ) × (slice_get shown_now n ≡ Some s) × (number ≡ n + 1)
+
+-- the sections of the parts in front of one: a part has the section that it is matched with, or one that was not held at
+-- the start. What is shown besides are the sections of later parts
+pub record AreTargetsTo (start now : State) (sections : List Identifier) (pairs : Pairs) (part : ℕ) (targets : List Identifier) : Type 0 where
+  pub long : length targets ≡ part
+  pub kept : (j i : ℕ) (s : Identifier) → j < part → section_of pairs j ≡ Some i → slice_get sections i ≡ Some s → slice_get targets j ≡ Some s
+  pub fresh : (j : ℕ) (s : Identifier) → section_of pairs j ≡ None → slice_get targets j ≡ Some s → holds start.held.history s ≡ false
+  pub there : (s : Identifier) → Contains targets s → Contains (shown catalogue now.held.history) s
+  pub later : (j i : ℕ) (s : Identifier) → section_of pairs j ≡ Some i → slice_get sections i ≡ Some s → Contains (shown catalogue now.held.history) s
+  pub only : (s : Identifier) → Contains (shown catalogue now.held.history) s
+      → Contains targets s ⊎ ((j : ℕ) × (i : ℕ) × (part ≤ j) × (section_of pairs j ≡ Some i) × (slice_get sections i ≡ Some s))
+  pub once : AreDistinct targets
+
+-- these are the shown sections, each once, and each part has the section that it is matched with, or one that was not held
+pub record AreTargets (start now : State) (sections : List Identifier) (pairs : Pairs) (parts : ℕ) (targets : List Identifier) : Type 0 where
+  pub long : length targets ≡ parts
+  pub kept : (j i : ℕ) (s : Identifier) → section_of pairs j ≡ Some i → slice_get sections i ≡ Some s → slice_get targets j ≡ Some s
+  pub fresh : (j : ℕ) (s : Identifier) → section_of pairs j ≡ None → slice_get targets j ≡ Some s → holds start.held.history s ≡ false
+  pub shown_are : (s : Identifier) → Contains (shown catalogue now.held.history) s ↔ Contains targets s
+  pub once : AreDistinct targets
+
+-- the section of one part more came to these: that at a place, or, where there is none, one that was added
+pub record IsPartTaken (old new : State) (sections : List Identifier) (place : Option ℕ) (before targets : List Identifier) : Type 0 where
+  pub section : Identifier
+  pub targets_are : targets ≡ before ++ section ∷ []
+  pub kept : (i : ℕ) → place ≡ Some i → (slice_get sections i ≡ Some section) × (new ≡ old)
+  pub came : place ≡ None → IsAdded old new section

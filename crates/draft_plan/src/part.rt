@@ -1,6 +1,0 @@
-/// A title, and the text under it.
-#[derive(Clone, Copy, Debug)]
-pub struct Part<'a> {
-    pub title: &'a str,
-    pub text: &'a str,
-}

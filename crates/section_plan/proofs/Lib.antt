@@ -1,0 +1,6 @@
+pub mod KeyLemmas
+pub mod PairLemmas
+pub mod RiseLemmas
+pub mod ChosenLemmas
+pub mod OrderLemmas
+pub mod LikenessLemmas

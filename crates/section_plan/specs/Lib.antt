@@ -1,0 +1,5 @@
+pub mod Matching
+pub mod Completing
+pub mod Rises
+pub mod Orders
+pub mod Likeness

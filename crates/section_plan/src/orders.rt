@@ -1,0 +1,85 @@
+//! The order in which the sections of a draft's parts stand, and the steps that lead to the order of the parts.
+
+ghost use Rattle.std.specs.Prelude.{◌≡◌, ◌+◌, ◌<◌, IfOk, OnOk, length, slice_index};
+ghost use Rattle.section_plan.specs.Orders.{ArePlaced, IsOrder, IsStepOf, Places, moved};
+
+use fugue_ids::NoMemory;
+
+/// A section goes from one place to another.
+#[derive(Clone, Copy, Debug, PartialEq, Eq)]
+pub struct Step {
+    pub from: usize,
+    pub to: usize,
+}
+
+/// Where a part stands.
+fn place_of(order: &[usize], part: usize) -> usize
+    requires order { IsOrder order.now }
+    requires within { part < length order.now }
+    ensures within { result < length order.now }
+    ensures stands { slice_index order.now result ≡ part }
+{
+    'places: for (place, other) in order.iter().enumerate() {
+        if *other == part {
+            return place;
+        }
+    }
+    0
+}
+
+/// Where a part stands, and where it would stand behind the part before it, or in front of all.
+fn step_of(order: &[usize], part: usize) -> Step
+    requires order { IsOrder order.now }
+    requires within { part < length order.now }
+    ensures { IsStepOf order.now part result.from result.to }
+{
+    let from = place_of(order, part);
+    if part == 0 {
+        return Step { from, to: 0 };
+    }
+    let before = place_of(order, part - 1);
+    if before < from {
+        Step {
+            from,
+            to: before + 1,
+        }
+    } else {
+        Step { from, to: before }
+    }
+}
+
+/// Takes a member to another place.
+fn reorder(order: &mut Vec<usize>, step: Step, part: usize) -> Result<(), NoMemory>
+    requires { IsStepOf order.old.items part step.from step.to }
+    ensures { OnOk result (order.new.items ≡ moved order.old.items step.from step.to part) }
+{
+    let _part = order.remove(step.from);
+    order.insert(step.to, part)?;
+    Ok(())
+}
+
+/// Places the section of the next part: behind that of the part before it, unless it stays. Answers the step that it takes.
+pub fn place_next(
+    order: &mut Vec<usize>,
+    stays: &[bool],
+    part: usize,
+) -> Result<Option<Step>, NoMemory>
+    requires order { IsOrder order.old.items }
+    requires placed { ArePlaced order.old.items stays.now part }
+    requires within { part < length order.old.items }
+    requires stays { part < length stays.now }
+    ensures places { IfOk result (λ step. Places order.old.items order.new.items stays.now part step) }
+    ensures order { OnOk result (IsOrder order.new.items) }
+    ensures placed { OnOk result (ArePlaced order.new.items stays.now (part + 1)) }
+    ensures length { OnOk result (length order.new.items ≡ length order.old.items) }
+{
+    if stays[part] {
+        return Ok(None);
+    }
+    let step = step_of(order.as_slice(), part);
+    if step.from == step.to {
+        return Ok(None);
+    }
+    reorder(order, step, part)?;
+    Ok(Some(step))
+}
