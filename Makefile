@@ -1,5 +1,5 @@
-# Proves, builds, runs and installs the program. It needs bash, awk and the toolchain's command `rt`; `make desk` needs
-# Python 3 too.
+# Proves, builds, runs, tests and installs the program. It needs bash, awk and the toolchain's command `rt`; `make desk`
+# needs Python 3 too.
 RT ?= rt
 PREFIX ?= $(HOME)/.local
 
@@ -13,14 +13,21 @@ run: bin/manuscript
 	folder=$$(mktemp -d) && cd "$$folder" && \
 		PATH="$(CURDIR)/bin:$$PATH" sh -ev "$(CURDIR)/samples/two_authors.sh" && rm -r "$$folder"
 
-# The program is proved as it is built.
+# The program is proved as it is built. Until it is, a small second program shows the sample, where there is Python 3.
 bin/manuscript: $(SOURCES)
 	RT="$(RT)" .ci/build
 
-# The toolchain's gate: every proof, every mutation that must be refused, every test of the crates and every program.
-# The project's gate is .ci/run, which begins with this and goes on with the scripts of tests/.
+# The scripts of tests/ that try the built program. desk.sh tries the page, and says so where `make desk` has made none
+# or there is no Node or no Chromium.
+SCRIPTS := show rows orders lines files drafts kill relay calls slow large samples pasted promises desk
+
+# All tests: the toolchain's gate, which is every proof, every mutation that must be refused, every test of the crates
+# and every program, and then the scripts. They try the program that the gate builds: an older one is removed first.
 test:
+	rm -f crates/manuscript/out/manuscript
 	$(RT) ci
+	install -D -m 755 crates/manuscript/out/manuscript bin/manuscript
+	set -e; for script in $(SCRIPTS); do tests/$$script.sh; done
 
 # Two authors who write apart, exchange by streams, files and a relay, and lose a machine in the middle of an edit.
 demo: bin/manuscript

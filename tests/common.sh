@@ -118,6 +118,90 @@ try_memory() {
     fi
 }
 
+# The bytes of a column of a table, as escapes: each {NAME} is what stands for it.
+spelled() {
+    local text=$1
+    while [[ $text =~ \{([A-Z_]+)\} ]]; do
+        text=${text//"${BASH_REMATCH[0]}"/"${named[${BASH_REMATCH[1]}]}"}
+    done
+    spelling=$text
+}
+
+# The diagnostics of a column: a line each, of which that of counts leaves out those that are 0.
+diagnostics() {
+    local kind found=()
+    spelled "$1"
+    [ -z "$spelling" ] || spelling+='\n'
+    [[ $spelling =~ ^(accepted|repeated|waiting|conflict|stray|full)' ' ]] || return
+    for kind in accepted repeated waiting conflict stray full; do
+        [[ $spelling =~ $kind' '([0-9]+) ]] && found+=("${BASH_REMATCH[1]}") || found+=(0)
+    done
+    spelling=$(counts "${found[@]}")
+}
+
+# Runs the row of a command in the folder of the tables: its words, its status, its input, its output and its notes.
+run_row() {
+    local title=$1 row=("${@:2}") words=() word
+    for word in ${row[0]}; do
+        [ "$word" != "''" ] || word=
+        printf -v word "$word"
+        words+=("$word")
+    done
+    spelled "${row[2]-}"
+    printf -- "$spelling" >"$work/input"
+    (cd "$work/rows" && exec "$program" "${words[@]}") <"$work/input" >"$work/output" 2>"$work/notes"
+    word=$?
+    spelled "${row[3]-}"
+    local output=$spelling
+    diagnostics "${row[4]-}"
+    compare "$title: ${row[0]}" "$word" "${row[1]}" "$output" "$spelling"
+}
+
+# Runs the rows of a table, one after another. A row has columns between bars, of bytes as printf reads them:
+#
+#     COMMAND ARGUMENT.. | STATUS | INPUT | OUTPUT | DIAGNOSTICS
+#     file NAME | BYTES       from here on the file has these bytes
+#     left NAME | BYTES       here it must have these, or with no bar those that it was given
+#     name NAME | BYTES       below, {NAME} stands for these bytes
+#
+# Arguments have one blank between them, and '' is an empty one. Blanks at the ends of a column do not count. A line that
+# begins with # is a remark.
+run_rows() {
+    local title=$1 line row column words number=0
+    declare -gA given=()
+    while IFS= read -r line; do
+        number=$((number + 1))
+        [[ $line =~ [^\ ] && $line != '#'* ]] || continue
+        row=()
+        while [[ $line == *'|'* ]]; do
+            row+=("${line%%|*}")
+            line=${line#*|}
+        done
+        row+=("$line")
+        for column in "${!row[@]}"; do
+            [[ ${row[column]} =~ ^\ *(.*[^\ ])\ *$ ]] && row[column]=${BASH_REMATCH[1]} || row[column]=
+        done
+        words=${row[0]#* }
+        case ${row[0]} in
+        'name '*)
+            spelled "${row[1]}"
+            named[$words]=$spelling
+            ;;
+        'file '*)
+            spelled "${row[1]}"
+            given[$words]=$spelling
+            printf -- "$spelling" >"$work/rows/$words"
+            ;;
+        'left '*)
+            [ ${#row[@]} = 2 ] && spelled "${row[1]}" || spelling=${given[$words]}
+            printf -- "$spelling" >"$work/wanted_file"
+            check "$title, line $number: what is left of $words" cmp -s "$work/rows/$words" "$work/wanted_file"
+            ;;
+        *) run_row "$title, line $number" "${row[@]}" ;;
+        esac
+    done
+}
+
 # Says that something was seen, or not.
 check() {
     local name=$1
@@ -142,10 +226,14 @@ wait_for() {
 }
 
 # Builds tests/NAME.c, to stand before the C library, as NAME.so, or with a second word as a program of its own. Where
-# there is no C compiler it says so.
+# there is no C compiler, or the tried program does not run by itself on this machine, it says so.
 build_c() {
     command -v "${CC:-cc}" >/dev/null || {
         echo 'not tried, since there is no C compiler'
+        return 1
+    }
+    [ $# -gt 1 ] || head -c 4 "$program" | grep -q ELF || {
+        echo 'not tried, since nothing can stand before the C library of this program'
         return 1
     }
     if [ $# = 1 ]; then

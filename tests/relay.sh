@@ -59,6 +59,25 @@ try 'no session' nothing 1 '' "$usage" relay "$port" 0
 because 'usage: manuscript relay PORT SESSIONS'
 try 'a cursor that is no number' nothing 1 '' "$usage" sync "$work/a" "$port" x
 
+# Two authors write apart, and meet at a relay of three sessions: the second session of the first author begins at the
+# cursor of its first one, so that nothing comes again.
+ann=$work/ann
+ben=$work/ben
+printf 'add 1 T\nput 1 0 AB\ncut 1 1 1\nput 1 1 C\n' >"$work/ann_script"
+printf 'add 1 U\n' >"$work/ben_script"
+try 'the first author begins' nothing 0 '' '' new "$ann" 1 16
+try 'and writes five operations' ann_script 0 '' 'made 5\n' edit "$ann"
+try 'the second one begins' nothing 0 '' '' new "$ben" 2 16
+try 'and writes a section of its own' ben_script 0 '' 'made 1\n' edit "$ben"
+start_relay 3
+try 'the first one brings them to the relay' nothing 0 '' "$(counts 0 5 0 0 0 0)cursor 5\n" sync "$ann" "$port" 0
+try 'the second one brings its own, and hears them' nothing 0 '' "$(counts 5 1 0 0 0 0)cursor 6\n" sync "$ben" "$port" 0
+try 'the first one hears that of the second' nothing 0 '' "$(counts 1 0 0 0 0 0)cursor 6\n" sync "$ann" "$port" 5
+relay_ends 'the relay has all six' 'log 6\n'
+try 'the first one prints both' nothing 0 '# T\nAC\n# U\n\n' '' print "$ann"
+try 'and so does the second one' nothing 0 '# T\nAC\n# U\n\n' '' print "$ben"
+port=$((port + 1))
+
 # Two files by turns, and one exchange after the other.
 begin a 1
 begin b 2

@@ -2,24 +2,18 @@
 //!
 //! A function makes a few objects, lends them and drops them by name, with one way out: such a function is soon proved.
 
-use crate::assertions::{equal_at, holds_at};
-use crate::files::{PICKS, has_bytes};
+use crate::files::has_bytes;
 use crate::memory::{list, sure_disk, sure_sink};
 use manuscript_cli::{Status, run};
 use outer_ports::{
-    Disk, Dock, FileDisk, MemDisk, MemDock, MemSink, MemSource, MemWire, Sink, Source, SureSource,
-    Wire,
+    Disk, Dock, FileDisk, MemDock, MemSink, MemSource, MemWire, Sink, Source, SureSource, Wire,
 };
 use std::hash::{BuildHasherDefault, FoldHasher};
 use std::process::Abort;
 
-mod arranged;
-mod bulks;
-mod certificates;
-mod drafts;
+mod crashes;
 mod edits;
 mod files;
-mod margins;
 mod refusals;
 mod relays;
 mod shown;
@@ -211,37 +205,4 @@ fn see_surely(
     drop(output);
     drop(input);
     (status, is_text)
-}
-
-/// A command that saves: the file, the words, the input and what is noted, and the command that shows the file, with
-/// what it writes before and after.
-#[derive(Clone, Copy)]
-struct Saving {
-    file: &'static [u8],
-    line: &'static str,
-    input: &'static [u8],
-    note: &'static [u8],
-    shown_by: &'static str,
-    before: &'static [u8],
-    after: &'static [u8],
-}
-
-/// Runs the command where this call on the file fails, and looks at what crashes leave: the file with what was saved, as
-/// it must be where no call fails, or without it; then the command goes through.
-fn crash_at(rt: &(impl Abort + AllocGlobal), call: u32, saving: &Saving, is_saved: bool) {
-    let ends = (b"".as_slice(), saving.note, Status::Done);
-    let mut home = MemDisk::new(rt.alloc(), list(rt, saving.file), list(rt, &[call]));
-    let is_done = ends_on(rt, saving.line, saving.input, ends, &mut home);
-    equal_at(rt, &call, is_done, is_saved);
-    for pick in PICKS {
-        let mut left = home.crash(*pick).expect(rt, "memory");
-        let is_whole = gives(rt, saving.shown_by, &mut left, saving.after)
-            || !is_saved
-                && gives(rt, saving.shown_by, &mut left, saving.before)
-                && ends_on(rt, saving.line, saving.input, ends, &mut left)
-                && gives(rt, saving.shown_by, &mut left, saving.after);
-        drop(left);
-        holds_at(rt, &(call, pick), is_whole);
-    }
-    drop(home);
 }

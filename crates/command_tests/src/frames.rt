@@ -24,26 +24,8 @@ pub(crate) const X: &[u8] =
 pub(crate) const Y: &[u8] =
     b"\x02\0\0\0\x02\0\0\0\x01\0\0\0\x09\0\0\0\0\x01\0\0\0\x01\0\0\0\x01\x01\0\0\0\x02\0\0\0\0\0\0Y";
 
-/// The letter P, (1,0).
-pub(crate) const P: &[u8] = b"\x02\0\0\0\x01\0\0\0\0\0\0\0\x09\0\0\0\0\0\0\0\0P";
-
-/// The letter Q, (1,1), behind (1,0).
-pub(crate) const Q: &[u8] =
-    b"\x02\0\0\0\x01\0\0\0\x01\0\0\0\x09\0\0\0\0\x01\0\0\0\x01\0\0\0\0\0\0\0Q";
-
-/// The letter Z, (2,0), behind (1,1), before (1,0).
-pub(crate) const Z: &[u8] =
-    b"\x02\0\0\0\x02\0\0\0\0\0\0\0\x09\0\0\0\0\x01\0\0\0\x01\0\0\0\x01\x01\0\0\0\x01\0\0\0\0\0\0Z";
-
-/// The letter V, (3,0), behind (1,1).
-pub(crate) const V: &[u8] =
-    b"\x02\0\0\0\x03\0\0\0\0\0\0\0\x09\0\0\0\0\x01\0\0\0\x01\0\0\0\x01\0\0\0V";
-
 /// The letter a, (1,0).
 pub(crate) const LOWER_A: &[u8] = b"\x02\0\0\0\x01\0\0\0\0\0\0\0\x09\0\0\0\0\0\0\0\0a";
-
-/// The letter z, (1,0).
-pub(crate) const OTHER_A: &[u8] = b"\x02\0\0\0\x01\0\0\0\0\0\0\0\x09\0\0\0\0\0\0\0\0z";
 
 /// The letter b, (1,1), behind (1,0).
 pub(crate) const LOWER_B: &[u8] =
@@ -52,56 +34,6 @@ pub(crate) const LOWER_B: &[u8] =
 /// The letter c, (2,0), behind (1,0).
 pub(crate) const BEHIND_A: &[u8] =
     b"\x02\0\0\0\x02\0\0\0\0\0\0\0\x09\0\0\0\0\x01\0\0\0\x01\0\0\0\0\0\0\0c";
-
-/// The letter c, (2,0), in (1,0).
-pub(crate) const IN_A: &[u8] = b"\x02\0\0\0\x02\0\0\0\0\0\0\0\x01\0\0\0\0\0\0\0\0c";
-
-/// The note 7, (1,0), which says "hi" and names nothing.
-pub(crate) const NOTE: &[u8] = b"\x05\0\0\0\x01\0\0\0\0\0\x07\0\x02hi";
-
-/// The delete of (1,0).
-pub(crate) const DROP_NOTE: &[u8] = b"\x03\0\0\0\x01\0\0\0\0";
-
-/// The note 7, (2,0), which names the section (9,0).
-pub(crate) const NOTE_ON_S: &[u8] = b"\x05\0\0\0\x02\0\0\0\0\x01\0\0\0\x09\0\0\0\0\x07\0\0";
-
-/// A note with the length of its body above 1,024, and one that names four.
-pub(crate) const LONG_NOTE: &[u8] = b"\x05\0\0\0\x01\0\0\0\0\0\x07\x04\x01";
-
-pub(crate) const NOTE_ON_FOUR: &[u8] = b"\x05\0\0\0\x01\0\0\0\0\x04";
-
-/// The letter x, (0,0).
-pub(crate) const NOWHERE: &[u8] = b"\x02\0\0\0\0\0\0\0\0\0\0\0\x09\0\0\0\0\0\0\0\0x";
-
-/// The letter x, (2,0).
-pub(crate) const SMALL_X: &[u8] = b"\x02\0\0\0\x02\0\0\0\0\0\0\0\x09\0\0\0\0\0\0\0\0x";
-
-/// The letter y, (2,1), behind (2,0).
-pub(crate) const Y_BEHIND_X: &[u8] =
-    b"\x02\0\0\0\x02\0\0\0\x01\0\0\0\x09\0\0\0\0\x01\0\0\0\x02\0\0\0\0\0\0\0y";
-
-/// The letter b, (1,0).
-pub(crate) const SMALL_B: &[u8] = b"\x02\0\0\0\x01\0\0\0\0\0\0\0\x09\0\0\0\0\0\0\0\0b";
-
-/// The letter a, (1,1), before (1,0).
-pub(crate) const A_BEFORE_B: &[u8] =
-    b"\x02\0\0\0\x01\0\0\0\x01\0\0\0\x09\0\0\0\0\0\x01\0\0\0\x01\0\0\0\0\0\0a";
-
-/// The letter y, (2,0).
-pub(crate) const SMALL_Y: &[u8] = b"\x02\0\0\0\x02\0\0\0\0\0\0\0\x09\0\0\0\0\0\0\0\0y";
-
-/// The letter x, (2,1), before (2,0).
-pub(crate) const X_BEFORE_Y: &[u8] =
-    b"\x02\0\0\0\x02\0\0\0\x01\0\0\0\x09\0\0\0\0\0\x01\0\0\0\x02\0\0\0\0\0\0x";
-
-/// The letter (2,0) is dropped.
-pub(crate) const DROP_D: &[u8] = b"\x03\0\0\0\x02\0\0\0\0";
-
-/// The letter (1,0) is dropped.
-pub(crate) const DROP_B: &[u8] = b"\x03\0\0\0\x01\0\0\0\0";
-
-/// The section is dropped.
-pub(crate) const DROP_S: &[u8] = b"\x03\0\0\0\x09\0\0\0\0";
 
 /// A frame that is cut short.
 pub(crate) const CUT: &[u8] = b"\x02\0\0\0\x01\0";

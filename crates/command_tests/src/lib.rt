@@ -1,4 +1,4 @@
-//! Scripts, files, exchanges and the program's commands, on objects in memory whose calls fail where it is listed.
+//! Commands, files and exchanges, on objects in memory whose calls fail where it is listed.
 //!
 //! There are tests here alone. Within its library each would be proved together with all of the library, once more.
 #![tactic(auto)]

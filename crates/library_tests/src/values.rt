@@ -1,9 +1,8 @@
-//! Titles, copies and lists of bytes, and what the faults of the libraries say.
+//! Titles, copies and lists of bytes.
 
-use crate::assertions::{equal, equal_at, holds_at};
+use crate::assertions::{equal_at, holds_at};
 use crate::ids::id;
-use fugue_ids::{ByteList, ElementId, Failed, NoMemory, Op, Title, TitleFault, has_line_end};
-use op_frame::FrameFault;
+use fugue_ids::{ByteList, ElementId, Op, Title, TitleFault, has_line_end};
 use std::test::Fail;
 
 /// A text that is repeated so often, and what is wrong with it as a title.
@@ -46,33 +45,5 @@ fn titles_are_lines_and_copies_are_equal(rt: HostRuntime) -> Result<(), Fail> {
     let same = ByteList::new(b"a\n".to_vec(rt.alloc())?);
     let is_line = !has_line_end(same.as_slice());
     holds_at(&rt, &"list", list == same && !is_line);
-    Ok(())
-}
-
-#[test]
-fn faults_say_what_is_wrong(rt: HostRuntime) -> Result<(), Fail> {
-    for (fault, wanted) in [
-        (TitleFault::Empty, "a title is not empty"),
-        (TitleFault::TooLong, "a title has at most 480 bytes"),
-        (TitleFault::LineEnd, "a title is one line"),
-        (TitleFault::NoMemory, "out of memory"),
-    ] {
-        equal(&rt, format!(in rt.alloc(); "{fault}")?.as_str(), wanted);
-    }
-    for (fault, wanted) in [
-        (FrameFault::BadFrame(172), "bad frame at byte 172"),
-        (FrameFault::CutShort(14), "cut short at byte 14"),
-        (FrameFault::ReadFault, "the source failed"),
-        (FrameFault::TooLong, "the stream is too long"),
-        (FrameFault::NoMemory, "out of memory"),
-    ] {
-        equal(&rt, format!(in rt.alloc(); "{fault}")?.as_str(), wanted);
-    }
-    let text = format!(in rt.alloc(); "{NoMemory}, {Failed}")?;
-    equal(
-        &rt,
-        text.as_str(),
-        "out of memory, a read or a write failed",
-    );
     Ok(())
 }

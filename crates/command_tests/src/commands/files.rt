@@ -1,6 +1,9 @@
+//! Commands on a file, where calls on it and on the output fail.
+
+use super::edits::SCRIPT;
 use super::{Ends, ends_so, run_on, words_of};
 use crate::assertions::{equal_at, holds_at};
-use crate::frames::{NEW, OLD, PRINTED, SAVED};
+use crate::frames::{NEW, PRINTED, S, SAVED};
 use crate::memory::list;
 use manuscript_cli::{Status, files_of, read_words};
 use outer_ports::{MemDisk, MemSink, Opening};
@@ -13,148 +16,61 @@ const FRAMES: &[u8] = b"\
 \x03\0\0\0\x01\0\0\0\x02\
 \x02\0\0\0\x01\0\0\0\x03\0\0\0\x01\0\0\0\0\x01\0\0\0\x01\0\0\0\x01\x01\0\0\0\x01\0\0\0\x02\0\0C";
 
-/// The section (9,0), titled T, and a letter behind one that is not there, which waits.
-const WAITING: &[u8] = b"FGMX\x01\0\0\0\x01\0\0\0\x10\
-\x01\0\0\0\x2c\
-\x02\0\0\0\x02\0\0\0\0\0\0\0\x09\0\0\0\0\x01\0\0\0\x01\0\0\0\0\0\0\0c\
-\x01\0\0\0\x09\0\0\0\0\0\0\0\x01T\
-\0";
+/// The words, the input, the file, the room, the ends, and the file that is left.
+type Row = (
+    &'static str,
+    &'static [u8],
+    &'static [u8],
+    usize,
+    Ends,
+    &'static [u8],
+);
 
-const SECTION_AND_WAITING: &[u8] = b"\
-\x01\0\0\0\x09\0\0\0\0\0\0\0\x01T\
-\x02\0\0\0\x02\0\0\0\0\0\0\0\x09\0\0\0\0\x01\0\0\0\x01\0\0\0\0\0\0\0c";
-
-/// The words, the file, the room, the ends, and the file behind the run.
-type Row = (&'static str, &'static [u8], usize, Ends, &'static [u8]);
+const DONE: Ends = (b"", b"", Status::Done);
 
 const OUTSIDE: Ends = (b"", b"outside fault\n", Status::OutsideFault);
 
-const USAGE: Ends = (b"", b"words not understood\n", Status::Usage);
+const COUNTS: &[u8] = b"accepted 1, repeated 0, waiting 0, conflict 0, stray 0, full 0\n";
 
+/// The file with the section alone.
+const TITLED: &[u8] = b"FGMX\x02\0\0\0\x01\0\0\0\x10\
+\x01\x20\0\0\x0e\
+\x01\0\0\0\x09\0\0\0\0\0\0\0\x01T\
+\0";
+
+/// Sure files with just the room that the command needs, and such as have less.
 const ROWS: &[Row] = &[
-    ("new F 1 16", b"", 14, (b"", b"", Status::Done), NEW),
-    ("new F 1 16", b"", 13, OUTSIDE, b""),
-    (
-        "new F 1 16",
-        SAVED,
-        14,
-        (b"", b"not empty\n", Status::BadFile),
-        SAVED,
-    ),
-    (
-        "print F",
-        SAVED,
-        1,
-        (b"# T\nAC\n", b"", Status::Done),
-        SAVED,
-    ),
-    ("print F", SAVED, 0, OUTSIDE, SAVED),
-    ("print F", OLD, 1, (b"# T\nAC\n", b"", Status::Done), OLD),
-    ("print F", NEW, 1, (b"", b"", Status::Done), NEW),
-    (
-        "print F",
-        WAITING,
-        1,
-        (b"# T\n\n", b"", Status::Done),
-        WAITING,
-    ),
+    ("new F 1 16", b"", b"", 14, DONE, NEW),
+    ("new F 1 16", b"", b"", 13, OUTSIDE, b""),
     (
         "print F",
         b"",
+        SAVED,
         1,
-        (b"", b"not a replica\n", Status::BadFile),
-        b"",
+        (PRINTED, b"", Status::Done),
+        SAVED,
     ),
-    ("send F", SAVED, 1, (FRAMES, b"", Status::Done), SAVED),
-    ("send F", SAVED, 0, OUTSIDE, SAVED),
-    ("send F", OLD, 1, (FRAMES, b"", Status::Done), OLD),
-    ("send F", NEW, 1, (b"", b"", Status::Done), NEW),
+    ("print F", b"", SAVED, 0, OUTSIDE, SAVED),
+    ("send F", b"", SAVED, 1, (FRAMES, b"", Status::Done), SAVED),
+    ("send F", b"", SAVED, 0, OUTSIDE, SAVED),
     (
-        "send F",
-        WAITING,
-        1,
-        (SECTION_AND_WAITING, b"", Status::Done),
-        WAITING,
+        "edit F",
+        SCRIPT,
+        NEW,
+        94,
+        (b"", b"made 5\n", Status::Done),
+        SAVED,
     ),
-    ("new F 0 16", b"", 14, USAGE, b""),
-    ("new F 1 0", b"", 14, USAGE, b""),
-    ("new F 1 1048577", b"", 14, USAGE, b""),
-    ("new F 4294967296 16", b"", 14, USAGE, b""),
-    ("new F 01 16", b"", 14, USAGE, b""),
-    ("new F 1", b"", 14, USAGE, b""),
-    ("print", SAVED, 1, USAGE, SAVED),
-    ("print F G", SAVED, 1, USAGE, SAVED),
-    ("send", SAVED, 1, USAGE, SAVED),
-    ("take", SAVED, 1, USAGE, SAVED),
-    ("edit", SAVED, 1, USAGE, SAVED),
-    ("merge F", SAVED, 1, USAGE, SAVED),
+    ("edit F", b"", NEW, 1, (b"", b"made 0\n", Status::Done), NEW),
+    ("edit F", b"", NEW, 0, OUTSIDE, NEW),
+    ("take F", S, NEW, 20, (b"", COUNTS, Status::Done), TITLED),
 ];
 
-/// Words that are no command of moves, titles, comments and versions.
-const ODD: &[&str] = &[
-    "move F 0 1",
-    "move F 1 0",
-    "move F 1",
-    "move F 1 2 3",
-    "move F 01 1",
-    "move F 1 4294967296",
-    "move  1 1",
-    "retitle F 1 ",
-    "retitle F 0 New",
-    "retitle F 1 a\nb",
-    "retitle F 1 a\rb",
-    "retitle F 1",
-    "retitle  1 New",
-    "arrange",
-    "arrange ",
-    "arrange F G",
-    "comment F 0 0 1 x",
-    "comment F 1 0 0 x",
-    "comment F 1 0 1 ",
-    "comment F 1 0 1 a\nb",
-    "comment F 1 0 1",
-    "comment F 1 0 1 x y",
-    "comment  1 0 1 x",
-    "comments",
-    "comments F G",
-    "version F",
-    "version F ",
-    "version F a\rb",
-    "version  x",
-    "versions F G",
-    "view F",
-    "view F ",
-];
-
-/// A byte of the saved file, what stands in its place, and what printing comes to.
-const CHANGED: &[(usize, u8, Ends)] = &[
-    (13, 7, (b"", b"", Status::Done)),
-    (0, 0, (b"", b"not a replica\n", Status::BadFile)),
-    (14, 0x40, (b"", b"bad batch 0\n", Status::BadFile)),
-    (17, 0x57, (b"", b"bad batch 0\n", Status::BadFile)),
-    (18, 7, (b"", b"bad batch 0\n", Status::BadFile)),
-    (106, 1, (b"", b"bad batch 1\n", Status::BadFile)),
-];
-
-/// A changed byte is found before anything is printed, and odd words touch nothing.
 #[test]
-fn files_are_made_printed_and_sent(rt: HostRuntime) {
-    for (words, bytes, room, ends, left) in ROWS {
-        let is_so = ends_so(&rt, words, b"", (bytes, *room), *ends, left);
-        holds_at(&rt, &(words, ends), is_so);
-    }
-    for (at, byte, ends) in CHANGED {
-        let mut bytes = list(&rt, SAVED);
-        if let Some(place) = bytes.get_mut(*at) {
-            *place = *byte;
-        }
-        let is_so = ends_so(&rt, "print F", b"", (&bytes, 1), *ends, &bytes);
-        drop(bytes);
-        holds_at(&rt, &at, is_so);
-    }
-    for words in ODD {
-        let is_so = ends_so(&rt, words, b"", (SAVED, 1), USAGE, SAVED);
-        holds_at(&rt, words, is_so);
+fn a_sure_file_with_room_does_not_fail(rt: HostRuntime) {
+    for (words, input, bytes, room, ends, left) in ROWS {
+        let is_so = ends_so(&rt, words, input, (bytes, *room), *ends, left);
+        holds_at(&rt, &(words, room), is_so);
     }
 }
 

@@ -93,15 +93,13 @@ const LISTENING_FAILED: Ends = (b"", b"outside fault\n", Status::OutsideFault);
 
 const SERVING_FAILED: Ends = (b"ready\n", b"outside fault\n", Status::OutsideFault);
 
-const USAGE: Ends = (b"", b"words not understood\n", Status::Usage);
-
 const ROWS: &[Row] = &[
     (RELAY, [&[0], &[], &[]], LISTENING_FAILED, false, true),
     (RELAY, [&[1], &[], &[]], SERVING_FAILED, false, true),
     (RELAY, [&[2], &[], &[]], SERVING_FAILED, false, false),
     (RELAY, [&[3], &[], &[]], SERVING_FAILED, false, false),
     (RELAY, [&[4], &[], &[]], SERVING_FAILED, false, false),
-    (RELAY, [&[6], &[], &[]], SERVING_FAILED, false, false),
+    (RELAY, [&[5], &[], &[]], SERVING_FAILED, false, false),
     (RELAY, [&[6], &[], &[]], SERVING_FAILED, false, false),
     (RELAY, [&[7], &[], &[]], SERVING_FAILED, false, false),
     (RELAY, [&[8], &[], &[]], SERVING_FAILED, false, false),
@@ -130,12 +128,6 @@ const ROWS: &[Row] = &[
     ),
     // No step is asked for behind the last session.
     ("relay 47113 1", NONE, DONE, false, false),
-    ("relay 0 1", NONE, USAGE, false, true),
-    ("relay 65536 1", NONE, USAGE, false, true),
-    ("relay 47113 0", NONE, USAGE, false, true),
-    ("relay 47113 65536", NONE, USAGE, false, true),
-    ("relay 47113", NONE, USAGE, false, true),
-    ("relay 47113 1 1", NONE, USAGE, false, true),
 ];
 
 /// One session says what no text begins with; another one brings a frame, and goes before its text ends.

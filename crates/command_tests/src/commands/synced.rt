@@ -78,15 +78,6 @@ const NOTHING_SAVED: Case = Case {
     ..ASKED
 };
 
-const NOT_UNDERSTOOD: Case = Case {
-    said: &[],
-    port: None,
-    line: "words not understood\n",
-    status: Status::Usage,
-    saved: &[],
-    ..ASKED
-};
-
 const CASES: &[Case] = &[
     ASKED,
     Case {
@@ -151,15 +142,6 @@ const CASES: &[Case] = &[
         status: Status::BadFile,
         saved: &[],
         ..ASKED
-    },
-    // The port and the cursor are numbers that are too great.
-    Case {
-        words: "sync F 65536 0",
-        ..NOT_UNDERSTOOD
-    },
-    Case {
-        words: "sync F 1 4294967296",
-        ..NOT_UNDERSTOOD
     },
 ];
 

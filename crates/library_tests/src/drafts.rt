@@ -5,7 +5,7 @@ use crate::assertions::{equal, equal_at, holds_at};
 use crate::edits::Edit::{Add, Put};
 use crate::edits::make;
 use catalogue_notes::outline;
-use draft_plan::{Draft, DraftFault, heading_in_text, revise, revise_text};
+use draft_plan::{Draft, DraftFault, revise, revise_text};
 use replica_core::{EditFault, Replica};
 use std::alloc::Global;
 use std::process::Abort;
@@ -90,8 +90,8 @@ const ROWS: &[Row] = &[
     (
         AB,
         "# A\n1 two\n# B\nthree\n",
-        4,
-        4,
+        6,
+        6,
         "# A\n1 two\n# B\nthree\n",
     ),
     (
@@ -209,8 +209,8 @@ type Revision = (
 
 const REVISIONS: [Revision; 8] = [
     (100, "one two", "one two", Ok(0), "one two"),
-    // A word is cut, and another one put.
-    (100, "one two", "1 two", Ok(4), "1 two"),
+    // A word is cut with the blank behind it, and another one put.
+    (100, "one two", "1 two", Ok(6), "1 two"),
     (100, "", "x", Ok(1), "x"),
     (100, "one two", "", Ok(7), ""),
     // A line typed in.
@@ -233,11 +233,11 @@ const REVISIONS: [Revision; 8] = [
         100,
         "a b\nc d\ne f",
         "a b\nc x\ne f",
-        Ok(2),
+        Ok(4),
         "a b\nc x\ne f",
     ),
     // There is room for the cut alone.
-    (17, "one two", "1 two", Err(EditFault::TooMany(17)), " two"),
+    (18, "one two", "1 two", Err(EditFault::TooMany(18)), "two"),
 ];
 
 /// The first of two sections has the text. The other one stays, and a line of it becomes a heading.
@@ -264,11 +264,6 @@ fn revises_text(
     assert!(rt; replica.is_settled());
     let absent = revise_text(alloc, replica, 2, new).err();
     equal_at(rt, &row, absent, Some(EditFault::NoSection));
-    equal_at(rt, &row, heading_in_text(alloc, replica)?, None);
-    if most == 100 {
-        make(rt, alloc, replica, Put(1, 5, "\n# x"))??;
-        equal_at(rt, &row, heading_in_text(alloc, replica)?, Some(1));
-    }
     Ok(())
 }
 
